@@ -1,0 +1,21 @@
+-- The order of paths. A path is a list of names, a name a list of bytes.
+use Rattle.std.specs.Prelude.{ℕ, List, Bool, nat_eq}
+use Rattle.std.specs.Cmp.Lexicographic.{pointwise, slice_cmp}
+use Rattle.std.specs.declared.cmp.Ordering.{Ordering}
+use Rattle.std.specs.Ordering.{nat_cmp}
+
+-- names by their bytes, a beginning first
+abbrev pub name_cmp : List ℕ → List ℕ → Ordering
+name_cmp = slice_cmp nat_cmp
+
+-- paths name by name, a beginning first
+abbrev pub path_cmp : List (List ℕ) → List (List ℕ) → Ordering
+path_cmp = slice_cmp name_cmp
+
+-- equal names, byte by byte
+abbrev pub name_eq : List ℕ → List ℕ → Bool
+name_eq = pointwise nat_eq
+
+-- equal paths, name by name
+abbrev pub path_eq : List (List ℕ) → List (List ℕ) → Bool
+path_eq = pointwise name_eq

@@ -1,0 +1,86 @@
+//! Paths: the names from the top folder down to a file.
+ghost use Rattle.std.specs.Prelude.{◌≡◌, ◌≢◌, Some, [], MatchOption};
+ghost use Rattle.std.proofs.Common.{refl};
+ghost use Rattle.std.specs.Cmp.{partial_equiv_from_equiv, po};
+ghost use Rattle.std.specs.Cmp.Lexicographic.{lists_equiv, lists_total, lists_ties, nat_list_eq_equiv, nat_list_cmp_total, texts_ties};
+ghost use Rattle.tor_tree.specs.Path.{name_cmp, path_cmp, path_eq};
+
+use crate::names::Name;
+use std::cmp::Ordering;
+use std::marker::Model;
+
+/// The names from the top folder down to a file, at least one. Contracts see the list of the names' bytes.
+///
+/// Paths are ordered name by name, names by their bytes, a beginning first; so `a/c` comes before `a-b`.
+#[derive(Debug, Drop)]
+pub struct FilePath {
+    names: Vec<Name>,
+}
+
+impl Model for FilePath {
+    ghost use Rattle.std.specs.Prelude.{◌≢◌, ℕ, List, []};
+
+    ghost Value = { List (List ℕ) };
+
+    ghost view = { λ path. path.names.items };
+
+    ghost invariant = { λ path. path.names.items ≢ [] };
+}
+
+impl FilePath {
+    /// The path of these names; none where there is no name.
+    pub fn new(names: Vec<Name>) -> Option<FilePath>
+        ensures { MatchOption result (names.items ≡ []) (λ path. (path ≡ names.items) × (path ≢ [])) }
+    {
+        if names.is_empty() {
+            return None;
+        }
+        Some(FilePath { names })
+    }
+
+    /// At least one name, the top folder first.
+    pub fn names(&self) -> &[Name]
+        ensures value { result.now ≡ self.now }
+        ensures some { self.now ≢ [] }
+    {
+        self.names.as_slice()
+    }
+}
+
+impl PartialEq for FilePath {
+    ghost eq = { path_eq };
+
+    ghost laws = { partial_equiv_from_equiv (lists_equiv nat_list_eq_equiv) };
+
+    fn eq(&self, other: &FilePath) -> bool {
+        self.names.as_slice() == other.names.as_slice()
+    }
+}
+
+impl Eq for FilePath {
+    ghost laws = { lists_equiv nat_list_eq_equiv };
+}
+
+impl Ord for FilePath {
+    ghost cmp = { path_cmp };
+
+    ghost total = { lists_total nat_list_cmp_total };
+
+    ghost matches_partial_cmp = { λ x y. refl };
+
+    ghost matches_eq = { lists_ties name_cmp texts_ties };
+
+    fn cmp(&self, other: &FilePath) -> Ordering {
+        self.names.as_slice().cmp(other.names.as_slice())
+    }
+}
+
+impl PartialOrd for FilePath {
+    ghost partial_cmp = { λ x y. Some (path_cmp x y) };
+
+    ghost laws = { po (lists_total nat_list_cmp_total) (lists_ties name_cmp texts_ties) };
+
+    fn partial_cmp(&self, other: &FilePath) -> Option<Ordering> {
+        Some(self.cmp(other))
+    }
+}
