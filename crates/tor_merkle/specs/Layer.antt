@@ -1,15 +1,20 @@
 -- The root and the piece layer of a content (BEP 52, "pieces root" and "piece layers").
-use Rattle.std.specs.Prelude.{ℕ, ◌/◌, List, [], length, map, nat_le, if◌then◌else◌}
+use Rattle.std.specs.Prelude.{ℕ, ◌^◌, ◌/◌, ◌≤◌, IsTrue, List, [], length, map, nat_le, if◌then◌else◌}
+use Rattle.std.specs.Int.{div_ceil, is_power_of_two}
 use Rattle.std.specs.List.{range_with_len}
-use Rattle.tor_merkle.specs.Block.{runs_for, run_at, leaves}
+use Rattle.tor_merkle.specs.Block.{run_at, leaves}
 use Rattle.tor_merkle.specs.Subtree.{zero_leaf, subtree_root, height, padded}
+
+-- a power of two from 16,384 to 2 ^ 30
+abbrev pub IsPieceLength : ℕ → Type 0
+IsPieceLength n = IsTrue (is_power_of_two n) × (16384 ≤ n) × (n ≤ 2 ^ 30)
 
 -- the leaves of a content, followed by hashes of 32 zero bytes up to the next power of two
 abbrev pub tree_leaves : List ℕ → List (List ℕ)
 tree_leaves content = padded (height (length (leaves content))) zero_leaf (leaves content)
 
 -- the Merkle root of a content that is not empty
-abbrev pub pieces_root : List ℕ → List ℕ
+unfoldable pub pieces_root : List ℕ → List ℕ
 pieces_root content = subtree_root (height (length (leaves content))) (tree_leaves content)
 
 -- the level at which one hash covers one piece
@@ -17,11 +22,11 @@ abbrev pub piece_level : ℕ → ℕ
 piece_level piece_length = height (piece_length / 16384)
 
 -- for each piece of a content, the root of the run of leaves that covers it
-abbrev pub piece_roots : List ℕ → ℕ → List (List ℕ)
+unfoldable pub piece_roots : List ℕ → ℕ → List (List ℕ)
 piece_roots content piece_length =
     map (λ i. subtree_root (piece_level piece_length) (run_at (piece_length / 16384) (tree_leaves content) i))
-    (range_with_len 0 (runs_for piece_length (length content)))
+    (range_with_len 0 (div_ceil (length content) piece_length))
 
 -- those of a content longer than one piece; a shorter one has no layer
-abbrev pub piece_layer : List ℕ → ℕ → List (List ℕ)
+unfoldable pub piece_layer : List ℕ → ℕ → List (List ℕ)
 piece_layer content piece_length = if nat_le (length content) piece_length then [] else piece_roots content piece_length

@@ -1,28 +1,14 @@
-//! The Merkle trees of BitTorrent v2 (BEP 52): blocks, roots and piece layers.
+//! The Merkle trees of BitTorrent v2 (BEP 52): a content cut into blocks of 16,384 bytes, its root
+//! ("pieces root") and its piece layer ("piece layers").
+//!
+//! - [`leaf`], [`pair`], [`zero`] (`hash.rt`): the hash of a block, of two hashes, of a subtree past the end.
+//! - [`whole`] (`plain.rt`): root and piece layer of a content that lies in memory.
 #![tactic(auto)]
 
-ghost use Rattle.std.specs.Prelude.{◌≡◌, ◌++◌};
-ghost use Rattle.sha2.specs.Sha256.{sha256};
-ghost use Rattle.tor_merkle.specs.Subtree.{node_of};
+mod hash;
+mod plain;
+#[cfg(test)]
+mod tests;
 
-use sha2::{Digest, Sha256};
-
-/// A SHA-256 hash.
-pub type Hash = [u8; 32];
-
-/// The leaf of a block: its SHA-256.
-pub fn leaf(block: &[u8]) -> Hash
-    ensures { result ≡ sha256 block.now }
-{
-    Sha256::digest(block)
-}
-
-/// The node over two children: the SHA-256 of their 64 bytes.
-pub fn pair(left: &Hash, right: &Hash) -> Hash
-    ensures { result ≡ node_of left.now right.now }
-{
-    let mut hasher = Sha256::new();
-    hasher.update(left.as_slice());
-    hasher.update(right.as_slice());
-    hasher.finalize()
-}
+pub use hash::{Hash, leaf, pair, zero};
+pub use plain::whole;

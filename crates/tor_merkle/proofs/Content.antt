@@ -1,0 +1,72 @@
+-- The root and the piece layer of a content are nodes of the tree over its leaves.
+use Rattle.std.proofs.Common.{◌≡◌, ℕ, ◌+◌, ◌-◌, ◌*◌, ◌/◌, ◌^◌, ◌<◌, ◌≤◌, List, map, length, arith, refl, sym, ap, ◌∙◌, pow_pos, pow-add, mul_comm, mul-le-mul_right, ap₂}
+use Rattle.std.proofs.Math.Nat.{lt_of_mul-lt-mul_right, mul-div_cancel_left}
+use Rattle.std.proofs.lemmas.List.{length-map}
+use Rattle.std.proofs.lemmas.List.FromFn.{length-map-range_with_len}
+use Rattle.std.specs.Int.{div_ceil}
+use Rattle.std.specs.List.{range_with_len}
+use Rattle.sha2.specs.Sha256.{sha256}
+use Rattle.tor_merkle.specs.Block.{run_at, blocks, leaves}
+use Rattle.tor_merkle.specs.Layer.{pieces_root, piece_roots}
+use Rattle.tor_merkle.specs.Subtree.{zero_leaf, zero_subtree, subtree_root, height, padded}
+use Rattle.tor_merkle.proofs.Ceil.{below_from_ceil, ceil_from_below, ceil_ceil}
+use Rattle.tor_merkle.proofs.Height.{height_covers, height_above, height-pow}
+use Rattle.tor_merkle.proofs.Levels.{map-range_same, nodes}
+use Rattle.tor_merkle.proofs.Node.{node, subtree_root-padded, subtree_root-padded_run}
+
+pub length-leaves : (content : List ℕ) → length (leaves content) ≡ div_ceil (length content) 16384
+unfolding leaves blocks
+length-leaves content =
+    length-map (map (run_at 16384 content) (range_with_len 0 (div_ceil (length content) 16384))) sha256
+    ∙ length-map-range_with_len (run_at 16384 content) 0 (div_ceil (length content) 16384)
+
+zero_leaf_is : zero_leaf ≡ zero_subtree 0
+unfolding zero_subtree
+zero_leaf_is = refl
+
+-- the root is the top node
+pub pieces_root-node : (content : List ℕ) → pieces_root content ≡ node 0 (leaves content) (height (length (leaves content))) 0
+unfolding pieces_root
+pieces_root-node content =
+    let top = height (length (leaves content)) in
+    ap (λ x. subtree_root top (padded top x (leaves content))) zero_leaf_is
+    ∙ subtree_root-padded 0 (leaves content) top (height_covers (length (leaves content)))
+
+-- a run of 2 ^ k that begins within 2 ^ top lies within it
+run_fits : (k top i : ℕ) → k ≤ top → i * 2 ^ k < 2 ^ top → (i + 1) * 2 ^ k ≤ 2 ^ top
+run_fits k top i le lt =
+    let split : 2 ^ top ≡ 2 ^ (top - k) * 2 ^ k = ap (λ n. 2 ^ n) (omega arith) ∙ pow-add 2 (top - k) k in
+    let less : i < 2 ^ (top - k) = lt_of_mul-lt-mul_right (2 ^ k) (omega arith) in
+    omega (arith, mul-le-mul_right {m = i + 1} {n = 2 ^ (top - k)} (2 ^ k) (omega arith))
+
+-- there are as many pieces as nodes of their level
+pub count-pieces : (content : List ℕ) (k : ℕ) → div_ceil (length content) (16384 * 2 ^ k) ≡ div_ceil (length (leaves content)) (2 ^ k)
+count-pieces content k =
+    ap (div_ceil (length content)) (mul_comm 16384 (2 ^ k))
+    ∙ sym (ceil_ceil (length content) 16384 (2 ^ k) (omega arith) (pow_pos k))
+    ∙ ap (λ n. div_ceil n (2 ^ k)) (sym (length-leaves content))
+
+-- a content longer than a piece has more leaves than a piece
+pub longer_than_piece : (content : List ℕ) (k : ℕ) → 16384 * 2 ^ k < length content → 2 ^ k < length (leaves content)
+longer_than_piece content k lt =
+    rw length-leaves (ceil_from_below (length content) 16384 (2 ^ k) (omega arith) (omega arith))
+
+-- the roots of the pieces are the nodes of their level, where there is more than one piece
+pub piece_roots-nodes : (content : List ℕ) (k : ℕ) → 16384 * 2 ^ k < length content → piece_roots content (16384 * 2 ^ k) ≡ nodes 0 (leaves content) k
+unfolding piece_roots nodes
+piece_roots-nodes content k lt =
+    let top = height (length (leaves content)) in
+    let size : 16384 * 2 ^ k / 16384 ≡ 2 ^ k = mul-div_cancel_left (2 ^ k) (omega arith) in
+    let level : height (16384 * 2 ^ k / 16384) ≡ k = ap height size ∙ height-pow k in
+    let count = div_ceil (length (leaves content)) (2 ^ k) in
+    let fits = height_covers (length (leaves content)) in
+    let within = height_above (length (leaves content)) k (longer_than_piece content k lt) in
+    let tree = padded top zero_leaf (leaves content) in
+    let root = λ (i : ℕ). subtree_root (height (16384 * 2 ^ k / 16384)) (run_at (16384 * 2 ^ k / 16384) tree i) in
+    ap (λ n. map root (range_with_len 0 n)) (count-pieces content k)
+    ∙ map-range_same root (node 0 (leaves content) k) count zero_leaf
+    (λ i less.
+    ap₂ (λ h n. subtree_root h (run_at n tree i)) level size
+    ∙ ap (λ x. subtree_root k (run_at (2 ^ k) (padded top x (leaves content)) i)) zero_leaf_is
+    ∙ subtree_root-padded_run 0 (leaves content) top k i fits
+    (run_fits k top i (omega arith) (omega (arith, below_from_ceil (length (leaves content)) (2 ^ k) i (pow_pos k) less))))

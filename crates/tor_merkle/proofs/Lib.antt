@@ -1,0 +1,7 @@
+pub mod Ceil
+pub mod Height
+pub mod Node
+pub mod Levels
+pub mod Power
+pub mod Content
+pub mod Climb

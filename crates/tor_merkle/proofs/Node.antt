@@ -1,0 +1,84 @@
+-- The nodes of the tree over a list of hashes: the root of each whole subtree is one of them.
+use Rattle.std.proofs.Common.{◌≡◌, ℕ, zero, suc, ◌+◌, ◌*◌, ◌^◌, ◌-◌, ◌<◌, ◌≤◌, List, length, get_or, take, drop, replicate, arith, refl, sym, ap, ap₂, ◌∙◌, inl, inr, add-suc, add-zero, zero-mul}
+use Rattle.std.proofs.Math.Nat.{two-pow-succ}
+use Rattle.std.proofs.lemmas.Bool.{cases_lt}
+use Rattle.std.proofs.lemmas.List.{get_or_past, get_or_default, get_or_append_left, get_or-append_right, get_or-replicate, get_or-take, get_or-drop, take-take, drop-take, drop-drop, take_all, length-append, length-replicate}
+use Rattle.tor_merkle.specs.Block.{run_at}
+use Rattle.tor_merkle.specs.Subtree.{node_of, zero_leaf, zero_subtree, subtree_root, padded}
+
+-- node i of level k over the hashes, past whose end stand subtrees of level base
+unfoldable pub node : ℕ → List (List ℕ) → ℕ → ℕ → List ℕ
+node base hashes zero i = get_or hashes i (zero_subtree base)
+node base hashes (suc k) i = node_of (node base hashes k (2 * i)) (node base hashes k (2 * i + 1))
+
+-- a node wholly past the end
+pub node_past : (base : ℕ) (hashes : List (List ℕ)) (k i : ℕ) → length hashes ≤ i * 2 ^ k → node base hashes k i ≡ zero_subtree (base + k)
+unfolding node zero_subtree
+node_past base hashes zero i past = rw add-zero (get_or_past hashes i _ (omega arith))
+node_past base hashes (suc k) i past =
+    let wide : i * 2 ^ suc k ≡ i * (2 ^ k + 2 ^ k) = ap (λ x. i * x) (two-pow-succ k) in
+    rw (add-suc base k) (ap₂ node_of
+    (node_past base hashes k (2 * i) (omega arith))
+    (node_past base hashes k (2 * i + 1) (omega arith)))
+
+-- the halves of a run are the runs of half its length
+left_half : {X : Type 0} (xs : List X) (k i : ℕ) → take (2 ^ k) (run_at (2 ^ suc k) xs i) ≡ run_at (2 ^ k) xs (2 * i)
+left_half xs k i =
+    let wide = two-pow-succ k in
+    let start : i * 2 ^ suc k ≡ 2 * i * 2 ^ k = rw wide (omega arith) in
+    take-take (2 ^ k) (2 ^ suc k) (drop (i * 2 ^ suc k) xs) (omega arith) ∙ ap (λ a. take (2 ^ k) (drop a xs)) start
+
+right_half : {X : Type 0} (xs : List X) (k i : ℕ) → drop (2 ^ k) (run_at (2 ^ suc k) xs i) ≡ run_at (2 ^ k) xs (2 * i + 1)
+right_half xs k i =
+    let wide = two-pow-succ k in
+    let start : i * 2 ^ suc k + 2 ^ k ≡ (2 * i + 1) * 2 ^ k = rw wide (omega arith) in
+    ap (λ n. drop (2 ^ k) (take n (drop (i * 2 ^ suc k) xs))) wide
+    ∙ drop-take (2 ^ k) (2 ^ k) (drop (i * 2 ^ suc k) xs)
+    ∙ ap (take (2 ^ k)) (drop-drop (2 ^ k) (i * 2 ^ suc k) xs)
+    ∙ ap (λ a. take (2 ^ k) (drop a xs)) start
+
+-- the root of a whole run of a list that has the hashes, and then padding, is a node
+module _ (base : ℕ) (hashes all : List (List ℕ)) (same : (j : ℕ) → j < length all → get_or all j zero_leaf ≡ get_or hashes j (zero_subtree base)) where
+  pub subtree_root-run : (k i : ℕ) → (i + 1) * 2 ^ k ≤ length all → subtree_root k (run_at (2 ^ k) all i) ≡ node base hashes k i
+  unfolding node subtree_root
+  subtree_root-run zero i le =
+      get_or-take 1 (drop (i * 1) all) 0 zero_leaf (omega arith)
+      ∙ get_or-drop (i * 1) all 0 zero_leaf
+      ∙ ap (λ j. get_or all j zero_leaf) (omega arith)
+      ∙ same i (omega arith)
+  subtree_root-run (suc k) i le =
+      let wide : (i + 1) * 2 ^ suc k ≡ (i + 1) * (2 ^ k + 2 ^ k) = ap (λ x. (i + 1) * x) (two-pow-succ k) in
+      ap₂ node_of
+      (ap (subtree_root k) (left_half all k i) ∙ subtree_root-run k (2 * i) (omega arith))
+      (ap (subtree_root k) (right_half all k i) ∙ subtree_root-run k (2 * i + 1) (omega arith))
+
+pub length-padded : (k : ℕ) (padding : List ℕ) (hashes : List (List ℕ)) → length hashes ≤ 2 ^ k → length (padded k padding hashes) ≡ 2 ^ k
+length-padded k padding hashes le = simp (length-append, length-replicate) (omega arith)
+
+pub get_or-padded : (k base : ℕ) (hashes : List (List ℕ)) (j : ℕ) → length hashes ≤ 2 ^ k → j < 2 ^ k → get_or (padded k (zero_subtree base) hashes) j zero_leaf ≡ get_or hashes j (zero_subtree base)
+get_or-padded k base hashes j le lt =
+    let rest = replicate (2 ^ k - length hashes) (zero_subtree base) in
+    elim (cases_lt j (length hashes)) [
+      | inl less ↦ get_or_append_left hashes rest zero_leaf j less ∙ get_or_default hashes j _ _ less
+      | inr more ↦
+          get_or-append_right hashes rest (length hashes) j zero_leaf refl more
+          ∙ get_or-replicate (2 ^ k - length hashes) (j - length hashes) (zero_subtree base) zero_leaf (omega arith)
+          ∙ sym (get_or_past hashes j (zero_subtree base) more)
+    ]
+
+-- the root of a run of the padded hashes, and of all of them
+pub subtree_root-padded_run : (base : ℕ) (hashes : List (List ℕ)) (top k i : ℕ) → length hashes ≤ 2 ^ top → (i + 1) * 2 ^ k ≤ 2 ^ top
+    → subtree_root k (run_at (2 ^ k) (padded top (zero_subtree base) hashes) i) ≡ node base hashes k i
+subtree_root-padded_run base hashes top k i fits le =
+    let len = length-padded top (zero_subtree base) hashes fits in
+    subtree_root-run base hashes (padded top (zero_subtree base) hashes)
+    (λ j lt. get_or-padded top base hashes j fits (omega (arith, len)))
+    k i (omega (arith, len))
+
+pub subtree_root-padded : (base : ℕ) (hashes : List (List ℕ)) (top : ℕ) → length hashes ≤ 2 ^ top
+    → subtree_root top (padded top (zero_subtree base) hashes) ≡ node base hashes top 0
+subtree_root-padded base hashes top fits =
+    let all = padded top (zero_subtree base) hashes in
+    let len = length-padded top (zero_subtree base) hashes fits in
+    let one_run : run_at (2 ^ top) all 0 ≡ all = ap (λ a. take (2 ^ top) (drop a all)) (zero-mul (2 ^ top)) ∙ take_all (2 ^ top) all (omega (arith, len)) in
+    ap (subtree_root top) (sym one_run) ∙ subtree_root-padded_run base hashes top top 0 fits (omega arith)

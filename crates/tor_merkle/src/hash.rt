@@ -1,0 +1,41 @@
+//! Hashes of blocks, of inner nodes, and of subtrees past the end of a content.
+
+ghost use Rattle.std.specs.Prelude.{◌≡◌, ◌≤◌};
+ghost use Rattle.sha2.specs.Sha256.{sha256};
+ghost use Rattle.tor_merkle.specs.Subtree.{node_of, zero_subtree};
+
+use sha2::{Digest, Sha256};
+
+/// A SHA-256 hash.
+pub type Hash = [u8; 32];
+
+/// The leaf of a block: its SHA-256.
+pub fn leaf(block: &[u8]) -> Hash
+    ensures { result ≡ sha256 block.now }
+{
+    Sha256::digest(block)
+}
+
+/// The node over two children: the SHA-256 of their 64 bytes.
+#[tactic(auto, unfolding(crate::specs::Subtree::node_of))]
+pub fn pair(left: &Hash, right: &Hash) -> Hash
+    ensures { result ≡ node_of left.now right.now }
+{
+    let mut hasher = Sha256::new();
+    hasher.update(left.as_slice());
+    hasher.update(right.as_slice());
+    hasher.finalize()
+}
+
+/// The root of `2^level` leaves past the end of a content, each of which is 32 zero bytes.
+#[tactic(auto, unfolding(crate::specs::Subtree::zero_leaf, crate::specs::Subtree::zero_subtree))]
+pub fn zero(level: u32) -> Hash
+    requires { level ≤ 36 }
+    ensures { result ≡ zero_subtree level }
+{
+    let mut hash = [0; 32];
+    for _below in 0..level {
+        hash = pair(&hash, &hash);
+    }
+    hash
+}

@@ -1,0 +1,148 @@
+//! Worked rows. The hashes in hexadecimal were computed by another program (Python's hashlib), of
+//! contents whose byte i is i % 251.
+
+use crate::hash::{Hash, leaf, pair, zero};
+use crate::plain::whole;
+use std::alloc::{AllocError, Global};
+use std::fmt::Write;
+use std::process::Abort;
+
+const L0: &str = "4348e3b98e8a327b34ced39c1da9e67cdb4cd5e48e4d7960607a3ae403d35f0c";
+
+const L1: &str = "f7c9045c2a79a8a2a587efbf5b310652685b292e6fbb0b08c1df857500da2699";
+
+const L2: &str = "597f81859724f979aece03e95c048d6ee5c6d59351e6a4db048997db6f05c845";
+
+fn hex(alloc: Global, hash: &Hash) -> Result<String, AllocError> {
+    let mut text = String::new(alloc);
+    for byte in hash {
+        write!(text, "{byte:02x}")?;
+    }
+    Ok(text)
+}
+
+fn content(alloc: Global, length: usize) -> Result<Vec<u8>, AllocError> {
+    let mut bytes = Vec::with_capacity(alloc, length)?;
+    for i in 0..length {
+        bytes.push((i % 251) as u8)?;
+    }
+    Ok(bytes)
+}
+
+// The root in hexadecimal, and the layer, of such a content.
+fn whole_of<R: AllocGlobal + Abort>(
+    rt: &R,
+    length: usize,
+    piece_length: u64,
+) -> Result<(String, Vec<Hash>), AllocError> {
+    let bytes = content(rt.alloc(), length)?;
+    assert!(rt; bytes.len() <= 1 << 50);
+    assert!(rt; piece_length.is_power_of_two());
+    assert!(rt; piece_length >= 16_384);
+    assert!(rt; piece_length <= 1 << 30);
+    let Some(sums) = whole(rt.alloc(), &bytes, piece_length)? else {
+        return Ok((String::new(rt.alloc()), Vec::new(rt.alloc())));
+    };
+    let (root, layer) = sums;
+    Ok((hex(rt.alloc(), &root)?, layer))
+}
+
+#[test]
+fn hashes(rt: HostRuntime) -> Result<(), AllocError> {
+    let rows = [
+        (
+            leaf(b"abc"),
+            "ba7816bf8f01cfea414140de5dae2223b00361a396177a9cb410ff61f20015ad",
+        ),
+        (
+            leaf(b"ab"),
+            "fb8e20fc2e4c3f248c60c39bd652f3c1347298bb977b8b4d5903b85055620603",
+        ),
+        (
+            leaf(b"c"),
+            "2e7d2c03a9507ae265ecf5b5356885a53393a2029d241394997265a1a25aefc6",
+        ),
+        (
+            zero(0),
+            "0000000000000000000000000000000000000000000000000000000000000000",
+        ),
+        (
+            zero(1),
+            "f5a5fd42d16a20302798ef6ed309979b43003d2320d9f0e8ea9831a92759fb4b",
+        ),
+        (
+            zero(2),
+            "db56114e00fdd4c1f85c892bf35ac9a89289aaecb1ebd0a96cde606a748b5d71",
+        ),
+        (
+            pair(&leaf(b"ab"), &leaf(b"c")),
+            "115323e562c4a4fdf7ceacedca660dc4bbe1389dab9323aad08440907c7426d0",
+        ),
+    ];
+    for (hash, expected) in &rows {
+        assert_eq!(rt; hex(rt.alloc(), hash)?.as_str(), *expected);
+    }
+    Ok(())
+}
+
+#[test]
+fn whole_contents(rt: HostRuntime) -> Result<(), AllocError> {
+    let alloc = rt.alloc();
+    let (none, layer) = whole_of(&rt, 0, 16_384)?;
+    assert!(rt; none.is_empty() && layer.is_empty());
+
+    let (root, layer) = whole_of(&rt, 3, 16_384)?;
+    assert_eq!(rt;
+        root.as_str(),
+        "ae4b3280e56e2faf83f414a6e3dabe9d5fbe18976544c05fed121accb85b53fc"
+    );
+    assert!(rt; layer.is_empty());
+
+    let (root, layer) = whole_of(&rt, 16_384, 16_384)?;
+    assert_eq!(rt; root.as_str(), L0);
+    assert!(rt; layer.is_empty());
+
+    let (_, layer) = whole_of(&rt, 16_385, 16_384)?;
+    assert_eq!(rt; layer.len(), 2);
+
+    // Three full blocks of one piece each.
+    let (root, layer) = whole_of(&rt, 49_152, 16_384)?;
+    assert_eq!(rt; layer.len(), 3);
+    for (hash, expected) in layer.iter().zip(&[L0, L1, L2]) {
+        assert_eq!(rt; hex(alloc, hash)?.as_str(), *expected);
+    }
+    assert_eq!(rt;
+        root.as_str(),
+        hex(
+            alloc,
+            &pair(&pair(&layer[0], &layer[1]), &pair(&layer[2], &zero(0)))
+        )?
+        .as_str()
+    );
+    assert_eq!(rt;
+        root.as_str(),
+        "c23d35ec942288a7d9b58d1d0446a76104660b7c72e5cf39f38bddb028ff8ca0"
+    );
+    Ok(())
+}
+
+// Five full blocks of half a piece each.
+#[test]
+fn five_blocks(rt: HostRuntime) -> Result<(), AllocError> {
+    let alloc = rt.alloc();
+    let (root, layer) = whole_of(&rt, 81_920, 32_768)?;
+    let expected = [
+        "d9e13d0b676ad681164ef0b7b5910d1328ea83a047cad57e619d76bbe3a08525",
+        "e28097eaaa55956702cf8195d1a551dbabb63e3d679b294cf33d506a6b5ef479",
+        "8f954551952d5d157cc3a8502295e436fdb881a09a5498dfe0edf5aa61702abf",
+    ];
+    assert_eq!(rt; layer.len(), 3);
+    for (hash, expected) in layer.iter().zip(&expected) {
+        assert_eq!(rt; hex(alloc, hash)?.as_str(), *expected);
+    }
+    assert_eq!(rt;
+        root.as_str(),
+        "ecc31c9c67d9c7b8c7f2540df72208ac59a0dc2f7b2477b26638db313a245ca4"
+    );
+    Ok(())
+}
