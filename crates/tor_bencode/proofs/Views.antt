@@ -1,0 +1,17 @@
+-- An item, level by level.
+use Rattle.std.proofs.Common.{◌≡◌, ℕ, ℤ, Vec, Global, rules}
+use Rattle.tor_bencode.specs.Data.{integer, string, list, dictionary}
+use Rattle.tor_bencode.specs.View.{view, items_view, pairs_view}
+use Rattle.tor_bencode.specs.declared.item.Item.{Item, Int, Bytes, List as ListItem, Dict, the_lemmas}
+
+pub view-Int : (n : ℤ) → view (Int n) ≡ integer n
+view-Int n = search (rules, the_lemmas)
+
+pub view-Bytes : (bytes : Vec ℕ Global) → view (Bytes bytes) ≡ string bytes.items
+view-Bytes bytes = search (rules, the_lemmas)
+
+pub view-List : (items : Vec Item Global) → view (ListItem items) ≡ list (items_view items.items)
+view-List items = search (rules, the_lemmas)
+
+pub view-Dict : (pairs : Vec (Vec ℕ Global × Item) Global) → view (Dict pairs) ≡ dictionary (pairs_view pairs.items)
+view-Dict pairs = search (rules, the_lemmas)

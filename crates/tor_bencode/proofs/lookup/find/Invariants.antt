@@ -1,0 +1,9 @@
+use Rattle.std.proofs.Common.{◌≡◌, drop}
+use Rattle.tor_bencode.specs.Find.{value_in}
+use Rattle.tor_bencode.specs.View.{pairs_view}
+use Rattle.tor_bencode.proofs.lookup.find.Given as goal
+
+-- the value is among the pairs that are left, if it is anywhere
+abbrev pub invariant-loop-name : goal.invariant-loop-name
+invariant-loop-name l =
+    value_in l.key (pairs_view (drop l.name-index l.name-items)) ≡ value_in l.key (pairs_view l.name-items)

@@ -1,0 +1,5 @@
+pub mod Data
+pub mod Spelling
+pub mod Lawful
+pub mod Find
+pub mod View

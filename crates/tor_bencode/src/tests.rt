@@ -1,0 +1,106 @@
+use crate::{BenError, Item, Tree, encode, find};
+use std::alloc::{AllocError, Global};
+use std::test::Fail;
+
+fn bytes(alloc: Global, text: &[u8]) -> Result<Item, AllocError> {
+    Ok(Item::Bytes(Vec::from_slice(alloc, text)?))
+}
+
+/// A dictionary with these keys, each with its place as its value.
+fn keyed(alloc: Global, keys: &[&[u8]]) -> Result<Item, AllocError> {
+    let mut pairs = Vec::new(alloc);
+    let mut place = 0i64;
+    for key in keys {
+        pairs.push((Vec::from_slice(alloc, key)?, Item::Int(place)))?;
+        place = place.wrapping_add(1);
+    }
+    Ok(Item::Dict(pairs))
+}
+
+/// So many lists, each in the one before.
+fn nested(alloc: Global, count: usize) -> Result<Item, AllocError> {
+    let mut item = Item::List(Vec::new(alloc));
+    for _ in 1..count {
+        let mut items = Vec::new(alloc);
+        items.push(item)?;
+        item = Item::List(items);
+    }
+    Ok(item)
+}
+
+fn spelled(alloc: Global, item: Item) -> Result<Option<Vec<u8>>, BenError> {
+    match Tree::of(item) {
+        Ok(tree) => Ok(Some(encode(alloc, &tree)?)),
+        Err(_) => Ok(None),
+    }
+}
+
+#[test]
+fn spells(rt: HostRuntime) -> Result<(), Fail> {
+    let alloc = rt.alloc();
+    for (n, text) in [
+        (0, "i0e"),
+        (42, "i42e"),
+        (-3, "i-3e"),
+        (i64::MAX, "i9223372036854775807e"),
+        (i64::MIN, "i-9223372036854775808e"),
+    ] {
+        let found = spelled(alloc, Item::Int(n))?.ok_or("unlawful")?;
+        assert_eq!(rt; found.as_slice(), text.as_bytes(), "{n}");
+    }
+    for (item, text) in [
+        (bytes(alloc, b"")?, "0:"),
+        (bytes(alloc, b"spam")?, "4:spam"),
+        (Item::List(Vec::new(alloc)), "le"),
+        (Item::Dict(Vec::new(alloc)), "de"),
+        (
+            keyed(alloc, &[b"", b"a", b"ab", b"b"])?,
+            "d0:i0e1:ai1e2:abi2e1:bi3ee",
+        ),
+    ] {
+        let found = spelled(alloc, item)?.ok_or("unlawful")?;
+        assert_eq!(rt; found.as_slice(), text.as_bytes());
+    }
+    let mut items = Vec::new(alloc);
+    items.push(bytes(alloc, b"spam")?)?;
+    items.push(keyed(alloc, &[b"a"])?)?;
+    let found = spelled(alloc, Item::List(items))?.ok_or("unlawful")?;
+    assert_eq!(rt; found.as_slice(), b"l4:spamd1:ai0eee".as_slice());
+    Ok(())
+}
+
+#[test]
+fn hands_back_what_is_not_lawful(rt: HostRuntime) -> Result<(), Fail> {
+    let alloc = rt.alloc();
+    assert!(rt; Tree::of(nested(alloc, 100)?).is_ok());
+    assert!(rt; Tree::of(nested(alloc, 101)?).is_err());
+    assert!(rt; Tree::of(keyed(alloc, &[b"a", b"a"])?).is_err());
+    assert!(rt; Tree::of(keyed(alloc, &[b"ab", b"a"])?).is_err());
+    assert!(rt; Tree::of(keyed(alloc, &[b"b", b"aa"])?).is_err());
+    assert!(rt; Tree::of(keyed(alloc, &[b"aa", b"b"])?).is_ok());
+    let Err(Item::Dict(pairs)) = Tree::of(keyed(alloc, &[b"b", b"a"])?) else {
+        return Err(Fail::from("accepted"));
+    };
+    assert_eq!(rt; pairs.len(), 2);
+    Ok(())
+}
+
+#[test]
+fn finds(rt: HostRuntime) -> Result<(), Fail> {
+    let alloc = rt.alloc();
+    let twice = keyed(alloc, &[b"ab", b"a", b"a"])?;
+    assert!(rt; matches!(find(&twice, b"a"), Some(Item::Int(1))));
+    assert!(rt; matches!(find(&twice, b"ab"), Some(Item::Int(0))));
+    assert!(rt; find(&twice, b"b").is_none());
+    assert!(rt; find(&bytes(alloc, b"a")?, b"a").is_none());
+    let tree = Tree::of(Item::Int(7)).map_err(|_| "unlawful")?;
+    assert!(rt; matches!(tree.item(), Item::Int(7)));
+    Ok(())
+}
+
+#[test]
+fn shows_errors(rt: HostRuntime) -> Result<(), Fail> {
+    let text = format!(in rt.alloc(); "{}", BenError::Memory)?;
+    assert_eq!(rt; text.as_str(), "B10 Memory");
+    Ok(())
+}
