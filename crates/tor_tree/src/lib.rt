@@ -4,10 +4,12 @@
 #![tactic(auto)]
 
 mod kinds;
+mod lists;
 mod names;
 mod paths;
 
 pub use kinds::Kind;
+pub use lists::{FileList, ListError, MAX_LENGTH, MAX_TOTAL, ROUNDING};
 pub use names::{Name, NameError};
 pub use paths::FilePath;
 

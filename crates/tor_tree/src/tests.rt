@@ -69,3 +69,59 @@ fn paths_are_ordered_name_by_name(rt: HostRuntime) -> Result<(), Fail> {
     assert!(rt; FilePath::new(Vec::new(rt.alloc())).is_none());
     Ok(())
 }
+
+/// The list of files with these paths and lengths, or the text of the refusal.
+fn listed(alloc: Global, files: &[(&str, u64)]) -> Result<Result<FileList, String>, Fail> {
+    let mut pairs = Vec::new(alloc);
+    for (text, length) in files {
+        let file = path(alloc, text)?.ok_or("a path")?;
+        pairs.push((file, *length))?;
+    }
+    match FileList::build(alloc, pairs) {
+        Ok(list) => Ok(Ok(list)),
+        Err(fault) => Ok(Err(format!(in alloc; "{fault}")?)),
+    }
+}
+
+#[test]
+fn files_are_listed_in_the_order_of_their_paths(rt: HostRuntime) -> Result<(), Fail> {
+    let orders: [[(&str, u64); 3]; 2] = [
+        [("a-b", 1), ("a/c", 2), ("b", 0)],
+        [("b", 0), ("a/c", 2), ("a-b", 1)],
+    ];
+    for files in orders {
+        let list = listed(rt.alloc(), &files)?.ok().ok_or("a list")?;
+        let sorted = list.files();
+        assert_eq!(rt; sorted.len(), 3);
+        for (found, (text, length)) in sorted.iter().zip(&[("a/c", 2), ("a-b", 1), ("b", 0)]) {
+            let want = path(rt.alloc(), text)?.ok_or("a path")?;
+            assert!(rt; found.0 == want);
+            assert_eq!(rt; found.1, *length);
+        }
+    }
+    Ok(())
+}
+
+#[test]
+fn the_first_fault_of_a_list_is_told(rt: HostRuntime) -> Result<(), Fail> {
+    let long = MAX_LENGTH + 1;
+    let cases: [(&[(&str, u64)], &str); 6] = [
+        (&[], "L4 NoFiles"),
+        (&[("a", 1), ("b", 1), ("a", 2)], "L1 Duplicate"),
+        (&[("a/b", 1), ("a", 1), ("a-b", 1)], "L2 FileAndFolder"),
+        (&[("a", long)], "L3 TooLarge"),
+        (
+            &[("a", long), ("a/b", 1), ("c", 1), ("c", 1)],
+            "L1 Duplicate",
+        ),
+        (&[("a/b/c", long), ("a", 1)], "L2 FileAndFolder"),
+    ];
+    for (files, want) in cases {
+        let told = listed(rt.alloc(), files)?.err().ok_or("a refusal")?;
+        assert_eq!(rt; told.as_str(), want);
+    }
+    let memory = ListError::from(AllocError);
+    let told = format!(in rt.alloc(); "{memory}")?;
+    assert_eq!(rt; told.as_str(), "out of memory");
+    Ok(())
+}

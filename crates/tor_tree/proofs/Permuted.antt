@@ -1,0 +1,44 @@
+-- A list of files has the same fault in every order.
+use Rattle.std.proofs.Common.{◌≡◌, ℕ, ◌^◌, Bool, cond, List, [], ◌∷◌, ◌++◌, length, take, drop, subst, count_by, nat_lt, refl, sym, ap, ◌∙◌}
+use Rattle.std.specs.List.{list_any}
+use Rattle.std.specs.List.Sorted.{IsPermutation}
+use Rattle.std.proofs.lemmas.List.Sorted.{IsPermutation-map, list_any-IsPermutation, sum_by-IsPermutation, length_permutation}
+use Rattle.std.proofs.Math.Seq.{take-append_seam}
+use Rattle.tor_tree.specs.FileList.{paths_of, lengths_of, paths_repeat, paths_nest, lengths_too_large, list_fault, is_inside}
+use Rattle.tor_tree.specs.Path.{path_eq}
+use Rattle.tor_tree.proofs.Lengths.{rounded}
+
+-- tests that agree find the same in a list
+list_any-same : {X : Type 0} (p q : X → Bool) → ((x : X) → p x ≡ q x) → (xs : List X) → list_any p xs ≡ list_any q xs
+list_any-same p q same [] = refl
+list_any-same p q same (x ∷ xs) = rw (same x, list_any-same p q same xs) refl
+
+paths_repeat-permutation : (ps qs : List (List (List ℕ))) → IsPermutation ps qs → paths_repeat ps ≡ paths_repeat qs
+paths_repeat-permutation ps qs moved =
+    list_any-IsPermutation (λ path. nat_lt 1 (count_by (path_eq path) ps)) ps qs moved
+    ∙ list_any-same _ _ (λ path. ap (nat_lt 1) (sym (sum_by-IsPermutation (λ p. cond (path_eq path p) 1 0) ps qs moved))) qs
+
+paths_nest-permutation : (ps qs : List (List (List ℕ))) → IsPermutation ps qs → paths_nest ps ≡ paths_nest qs
+paths_nest-permutation ps qs moved =
+    list_any-IsPermutation (λ folder. list_any (is_inside folder) ps) ps qs moved
+    ∙ list_any-same _ _ (λ folder. list_any-IsPermutation (is_inside folder) ps qs moved) qs
+
+lengths_too_large-permutation : (ms ns : List ℕ) → IsPermutation ms ns → lengths_too_large ms ≡ lengths_too_large ns
+lengths_too_large-permutation ms ns moved =
+    rw (list_any-IsPermutation (nat_lt (2 ^ 50)) ms ns moved, sum_by-IsPermutation rounded ms ns moved) refl
+
+pub list_fault-permutation : (xs ys : List (List (List ℕ) × ℕ)) → IsPermutation xs ys → list_fault xs ≡ list_fault ys
+list_fault-permutation xs ys moved =
+    let paths = IsPermutation-map (λ file. file.0) xs ys moved in
+    let lengths = IsPermutation-map (λ file. file.1) xs ys moved in
+    rw (sym (length_permutation xs ys moved), paths_repeat-permutation (paths_of xs) (paths_of ys) paths, paths_nest-permutation (paths_of xs) (paths_of ys) paths, lengths_too_large-permutation (lengths_of xs) (lengths_of ys) lengths)
+    refl
+
+-- a slice of all elements, moved and written back to its vector of n elements
+pub permutation-written_back : {X : Type 0} (n : ℕ) (xs part sorted after : List X) → n ≡ length xs → part ≡ xs → IsPermutation part sorted → after ≡ take n (sorted ++ drop (length sorted) xs) → IsPermutation xs after
+permutation-written_back {X} n xs part sorted after count whole moved is =
+    let from_xs : IsPermutation xs sorted = rw whole at moved in
+    let seam : take n (sorted ++ drop (length sorted) xs) ≡ sorted =
+    rw (count ∙ sym (length_permutation xs sorted from_xs)) (take-append_seam sorted (drop (length sorted) xs)) in
+    let P : List X → Type 0 = IsPermutation xs in
+    subst P (sym (is ∙ seam)) from_xs

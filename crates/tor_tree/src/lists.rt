@@ -1,0 +1,149 @@
+//! Lists of files: each path once, in order, with the file's length.
+ghost use Rattle.std.specs.Prelude.{◌≡◌, ◌⊎◌, ℕ, Some, None, IfOk, IfErr, IfNone, IsTrue, length, not, ◌<◌};
+ghost use Rattle.std.specs.List.Sorted.{IsPermutation, IsSortedByKey};
+ghost use Rattle.tor_tree.specs.FileList.{list_fault, lengths_of, lengths_too_large, paths_of, paths_nest, paths_repeat, IsInPathOrder};
+ghost use Rattle.tor_tree.specs.Path.{path_cmp};
+ghost use Rattle.tor_tree.specs.declared.lists.ListError.TheVariants.{Memory};
+
+use crate::paths::FilePath;
+use std::alloc::{AllocError, Global};
+use std::marker::Model;
+use thiserror::Error;
+
+/// The most bytes that a file may have.
+pub const MAX_LENGTH: u64 = 1 << 50;
+
+/// The most bytes that all files may have, each rounded up to a multiple of `ROUNDING`.
+pub const MAX_TOTAL: u64 = 1 << 62;
+
+/// The largest piece length, to which the lengths of a list are rounded up before they are added.
+pub const ROUNDING: u64 = 1 << 30;
+
+/// Why files are no list for a torrent, in the order in which the causes are looked at.
+#[derive(Debug, Drop, Error)]
+pub enum ListError {
+    #[error("L4 NoFiles")]
+    NoFiles,
+    #[error("L1 Duplicate")]
+    Duplicate,
+    /// One path is the beginning of another.
+    #[error("L2 FileAndFolder")]
+    FileAndFolder,
+    /// A length is over `MAX_LENGTH`, or the rounded sum over `MAX_TOTAL`.
+    #[error("L3 TooLarge")]
+    TooLarge,
+    /// Memory for the sort was refused.
+    #[error("out of memory")]
+    Memory,
+}
+
+impl From<AllocError> for ListError {
+    ghost from_gives = { λ _ e. e ≡ Memory };
+
+    fn from(_error: AllocError) -> ListError {
+        ListError::Memory
+    }
+}
+
+/// Files in the order of their paths. Contracts see the list of the pairs of path and length.
+#[derive(Debug, Drop)]
+pub struct FileList {
+    files: Vec<(FilePath, u64)>,
+}
+
+impl Model for FileList {
+    ghost use Rattle.std.specs.Prelude.{ℕ, List};
+
+    ghost Value = { List (List (List ℕ) × ℕ) };
+
+    ghost use Rattle.tor_tree.specs.FileList.{IsFileList};
+
+    ghost view = { λ list. list.files.items };
+
+    ghost invariant = { λ list. IsFileList list.files.items };
+}
+
+impl FileList {
+    ghost use Rattle.std.specs.Prelude.{◌≡◌, ◌⊎◌, Some, None, IfOk, IfErr, OnOk};
+    ghost use Rattle.std.specs.List.Sorted.{IsPermutation};
+    ghost use Rattle.tor_tree.specs.FileList.{list_fault, IsFileList, IsInPathOrder};
+    ghost use Rattle.tor_tree.specs.declared.lists.ListError.TheVariants.{Memory};
+
+    /// The same files in the order of their paths.
+    pub fn build(alloc: Global, mut files: Vec<(FilePath, u64)>) -> Result<FileList, ListError>
+        ensures same_files { IfOk result (λ list. IsPermutation files.items list) }
+        ensures in_order { IfOk result IsInPathOrder }
+        ensures accepted { OnOk result (list_fault files.items ≡ None) }
+        ensures refused { IfErr result (λ fault. (list_fault files.items ≡ Some fault) ⊎ (fault ≡ Memory)) }
+    {
+        if files.is_empty() {
+            return Err(ListError::NoFiles);
+        }
+        files.as_mut_slice().sort(alloc)?;
+        match fault_in_order(&files) {
+            Some(fault) => Err(fault),
+            None => Ok(FileList { files }),
+        }
+    }
+
+    /// At least one pair of a path and a length, the paths strictly rising.
+    pub fn files(&self) -> &[(FilePath, u64)]
+        ensures value { result.now ≡ self.now }
+        ensures lawful { IsFileList self.now }
+    {
+        self.files.as_slice()
+    }
+}
+
+/// The first cause for which sorted files are no list.
+fn fault_in_order(files: &[(FilePath, u64)]) -> Option<ListError>
+    requires some { 0 < length files.now }
+    requires sorted { IsSortedByKey (λ file. file.0) path_cmp files.now }
+    ensures value { result ≡ list_fault files.now }
+    ensures rising { IfNone result (IsInPathOrder files.now) }
+{
+    if !rises(files) {
+        return Some(ListError::Duplicate);
+    }
+    if nests(files) {
+        return Some(ListError::FileAndFolder);
+    }
+    if is_too_large(files) {
+        return Some(ListError::TooLarge);
+    }
+    None
+}
+
+/// Whether each path of sorted files is below the next, so that none is there twice.
+fn rises(files: &[(FilePath, u64)]) -> bool
+    requires { IsSortedByKey (λ file. file.0) path_cmp files.now }
+    ensures value { result ≡ not (paths_repeat (paths_of files.now)) }
+    ensures rising { IsTrue result → IsInPathOrder files.now }
+{
+    files.is_sorted_by(|file, next| file.0 < next.0)
+}
+
+/// Whether one of the paths, which strictly rise, is the beginning of another. The path after it is then such a one.
+fn nests(files: &[(FilePath, u64)]) -> bool
+    requires { IsInPathOrder files.now }
+    ensures { result ≡ paths_nest (paths_of files.now) }
+{
+    !files.is_sorted_by(|file, next| !next.0.names().starts_with(file.0.names()))
+}
+
+/// Whether a file is too long, or all of them together are.
+fn is_too_large(files: &[(FilePath, u64)]) -> bool
+    ensures { result ≡ lengths_too_large (lengths_of files.now) }
+{
+    let mut total = 0;
+    for (_, length) in files {
+        if *length > MAX_LENGTH {
+            return true;
+        }
+        total += length.next_multiple_of(ROUNDING);
+        if total > MAX_TOTAL {
+            return true;
+        }
+    }
+    false
+}
