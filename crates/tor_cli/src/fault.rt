@@ -1,0 +1,102 @@
+//! What can stop the program: its line on standard error, and its status.
+ghost use Rattle.std.specs.Prelude.{◌≤◌};
+
+use crate::input::InputFault;
+use crate::make::FromFault;
+use std::alloc::{AllocError, AllocFailed, Global};
+use std::fmt;
+use tor_meta::{BytesError, WriteFault};
+
+#[derive(Debug, Drop)]
+pub enum Fault {
+    /// The words ask for nothing that there is: the line.
+    Usage(String),
+    /// No torrent is made of this content.
+    Refused(BytesError),
+    /// Standard input was not read whole.
+    Read,
+    TooLong,
+    /// This many bytes went out.
+    Write(u64),
+    /// Memory was refused.
+    Resources,
+}
+
+impl Fault {
+    /// A fault of usage in one line: the first paragraph of what `clap` says, and where help is.
+    pub fn usage(alloc: Global, text: &str, command: &str) -> Result<Fault, AllocError> {
+        let paragraph = match text.split_once("\n\n") {
+            Some((first, _)) => first,
+            None => text,
+        };
+        let mut line = String::new(alloc);
+        for part in paragraph
+            .strip_prefix("error: ")
+            .unwrap_or(paragraph)
+            .lines()
+        {
+            if !line.is_empty() {
+                line.push(' ')?;
+            }
+            line.push_str(part.trim())?;
+        }
+        let cause = line.strip_suffix(" found").unwrap_or(&line);
+        Ok(Fault::Usage(format!(in alloc; "{cause}; see '{command} --help'")?))
+    }
+
+    /// The status that the program ends with.
+    pub fn status(&self) -> u8
+        ensures { result ≤ 4 }
+    {
+        match self {
+            Fault::Refused(_) => 1,
+            Fault::Usage(_) => 2,
+            Fault::Read | Fault::TooLong | Fault::Write(_) => 3,
+            Fault::Resources => 4,
+        }
+    }
+}
+
+impl fmt::Display for Fault {
+    fn fmt<W: fmt::Write>(&self, f: &mut fmt::Formatter<W>) -> fmt::Result {
+        match self {
+            Fault::Usage(line) => f.write_str(line.as_str()),
+            Fault::Refused(refusal) => write!(f, "{refusal}"),
+            Fault::Read => f.write_str("read fault"),
+            Fault::TooLong => f.write_str("input too long"),
+            Fault::Write(written) => write!(f, "write fault after {written} bytes"),
+            Fault::Resources => f.write_str("out of resources"),
+        }
+    }
+}
+
+impl From<FromFault> for Fault {
+    fn from(fault: FromFault) -> Fault {
+        match fault {
+            FromFault::Input(InputFault::Read) => Fault::Read,
+            FromFault::Input(InputFault::TooLong) => Fault::TooLong,
+            FromFault::Input(InputFault::Memory) => Fault::Resources,
+            FromFault::Make(BytesError::Memory) => Fault::Resources,
+            FromFault::Make(refusal) => Fault::Refused(refusal),
+            FromFault::Write(fault) => Fault::from(fault),
+        }
+    }
+}
+
+impl From<WriteFault> for Fault {
+    fn from(fault: WriteFault) -> Fault {
+        Fault::Write(fault.written)
+    }
+}
+
+impl From<AllocError> for Fault {
+    fn from(_error: AllocError) -> Fault {
+        Fault::Resources
+    }
+}
+
+impl<T: Drop> From<AllocFailed<T>> for Fault {
+    fn from(_failed: AllocFailed<T>) -> Fault {
+        Fault::Resources
+    }
+}

@@ -1,0 +1,63 @@
+//! `tor make`: from a reader to a writer.
+ghost use Rattle.std.specs.Prelude.{◌≡◌, ℕ, List, IfErr, OnOk};
+ghost use Rattle.tor_cli.specs.Make.{MakesWhole, MakesPart};
+ghost use Rattle.tor_cli.specs.declared.make.FromFault.TheVariants.{Input, Make, Write};
+
+use crate::input::{InputFault, read_limited};
+use std::alloc::Global;
+use std::io;
+use tor_meta::{BytesError, WriteFault, make_bytes, write_out};
+
+/// The most bytes that are read of an input.
+const MAX_INPUT_LENGTH: u64 = 1 << 30;
+
+/// Why no whole torrent was written.
+#[derive(Debug, Drop)]
+pub enum FromFault {
+    Input(InputFault),
+    Make(BytesError),
+    Write(WriteFault),
+}
+
+/// Reads all of a content, at most 2^30 bytes, and writes the v2 torrent of it under a name.
+pub fn make_from<R: io::Read, W: io::Write>(
+    alloc: Global,
+    reader: &mut R,
+    writer: &mut W,
+    name: &[u8],
+    piece_length: u64,
+) -> Result<(), FromFault>
+    ensures made { OnOk result ((content : List ℕ) × MakesWhole name.now piece_length
+        (R.remaining reader.old) (R.remaining reader.new) (W.contents writer.old) (W.contents writer.new) content) }
+    ensures part { IfErr result (MakesPart name.now piece_length
+        (R.remaining reader.old) (R.remaining reader.new) (W.contents writer.old) (W.contents writer.new)) }
+{
+    let content = read_limited(alloc, reader, MAX_INPUT_LENGTH)?;
+    let torrent = make_bytes(alloc, name, &content, piece_length)?;
+    write_out(writer, &torrent)?;
+    Ok(())
+}
+
+impl From<InputFault> for FromFault {
+    ghost from_gives = { λ fault e. e ≡ Input fault };
+
+    fn from(fault: InputFault) -> FromFault {
+        FromFault::Input(fault)
+    }
+}
+
+impl From<BytesError> for FromFault {
+    ghost from_gives = { λ refusal e. e ≡ Make refusal };
+
+    fn from(refusal: BytesError) -> FromFault {
+        FromFault::Make(refusal)
+    }
+}
+
+impl From<WriteFault> for FromFault {
+    ghost from_gives = { λ fault e. e ≡ Write fault };
+
+    fn from(fault: WriteFault) -> FromFault {
+        FromFault::Write(fault)
+    }
+}

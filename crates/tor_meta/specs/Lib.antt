@@ -1,0 +1,2 @@
+pub mod BytesRefusal
+pub mod NameRefusal

@@ -1,0 +1,5 @@
+pub mod Dictionary
+pub mod FileTree
+pub mod PieceLayers
+pub mod InfoDictionary
+pub mod Metainfo
