@@ -54,3 +54,7 @@ ceil_at_most n m c pos le = elim (cases_lt c (div_ceil n m)) [
 -- the runs cover n
 pub ceil_covers : (n m : ℕ) → 0 < m → n ≤ div_ceil n m * m
 ceil_covers n m pos = (div_ceil_times n m pos).0
+
+-- more needs no fewer
+pub ceil_mono : (n more m : ℕ) → 0 < m → n ≤ more → div_ceil n m ≤ div_ceil more m
+ceil_mono n more m pos le = ceil_at_most n m (div_ceil more m) pos (omega (arith, ceil_covers more m pos))

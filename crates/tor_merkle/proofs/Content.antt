@@ -11,8 +11,9 @@ use Rattle.tor_merkle.specs.Layer.{pieces_root, piece_roots}
 use Rattle.tor_merkle.specs.Subtree.{zero_leaf, zero_subtree, subtree_root, height, padded}
 use Rattle.tor_merkle.proofs.Ceil.{below_from_ceil, ceil_from_below, ceil_ceil}
 use Rattle.tor_merkle.proofs.Height.{height_covers, height_above, height-pow}
-use Rattle.tor_merkle.proofs.Levels.{map-range_same, nodes}
-use Rattle.tor_merkle.proofs.Node.{node, subtree_root-padded, subtree_root-padded_run}
+use Rattle.tor_merkle.proofs.Levels.{map-range_same}
+use Rattle.tor_merkle.specs.Node.{node, nodes}
+use Rattle.tor_merkle.proofs.Node.{subtree_root-padded, subtree_root-padded_run}
 
 pub length-leaves : (content : List ℕ) → length (leaves content) ≡ div_ceil (length content) 16384
 unfolding leaves blocks

@@ -8,17 +8,14 @@ use Rattle.std.specs.Int.{div_ceil}
 use Rattle.std.specs.List.{range_with_len}
 use Rattle.tor_merkle.specs.Subtree.{node_of, zero_subtree, level_above}
 use Rattle.tor_merkle.proofs.Ceil.{ceil_from_below, ceil_ceil, ceil-one}
-use Rattle.tor_merkle.proofs.Node.{node, node_past}
+use Rattle.tor_merkle.specs.Node.{node, nodes}
+use Rattle.tor_merkle.proofs.Node.{node_past}
 
 -- lists of the values of two functions are equal where the functions are
 pub map-range_same : {X : Type 0} (f g : ℕ → X) (n : ℕ) (d : X) → ((i : ℕ) → i < n → f i ≡ g i) → map f (range_with_len 0 n) ≡ map g (range_with_len 0 n)
 map-range_same f g n d same =
     fill_by_all g (map f (range_with_len 0 n)) n d (length-map-range_with_len f 0 n)
     (λ i lt. get_or-map-range_with_len f 0 n i i d lt (zero-add i) ∙ same i lt)
-
--- the nodes of level k that are not wholly past the end
-unfoldable pub nodes : ℕ → List (List ℕ) → ℕ → List (List ℕ)
-nodes base hashes k = map (node base hashes k) (range_with_len 0 (div_ceil (length hashes) (2 ^ k)))
 
 pub length-nodes : (base : ℕ) (hashes : List (List ℕ)) (k : ℕ) → length (nodes base hashes k) ≡ div_ceil (length hashes) (2 ^ k)
 unfolding nodes

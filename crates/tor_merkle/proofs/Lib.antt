@@ -5,3 +5,11 @@ pub mod Levels
 pub mod Power
 pub mod Content
 pub mod Climb
+pub mod Walks
+pub mod Places
+pub mod Tops
+pub mod Root
+pub mod Filled
+pub mod Keeps
+pub mod Leaves
+pub mod Sums

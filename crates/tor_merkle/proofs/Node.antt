@@ -1,15 +1,11 @@
 -- The nodes of the tree over a list of hashes: the root of each whole subtree is one of them.
-use Rattle.std.proofs.Common.{◌≡◌, ℕ, zero, suc, ◌+◌, ◌*◌, ◌^◌, ◌-◌, ◌<◌, ◌≤◌, List, length, get_or, take, drop, replicate, arith, refl, sym, ap, ap₂, ◌∙◌, inl, inr, add-suc, add-zero, zero-mul}
+use Rattle.std.proofs.Common.{◌≡◌, ℕ, zero, suc, ◌+◌, ◌*◌, ◌^◌, ◌-◌, ◌<◌, ◌≤◌, List, [], ◌∷◌, ◌++◌, length, get_or, take, drop, replicate, arith, refl, sym, ap, ap₂, ◌∙◌, inl, inr, add-suc, add-zero, zero-mul}
 use Rattle.std.proofs.Math.Nat.{two-pow-succ}
 use Rattle.std.proofs.lemmas.Bool.{cases_lt}
 use Rattle.std.proofs.lemmas.List.{get_or_past, get_or_default, get_or_append_left, get_or-append_right, get_or-replicate, get_or-take, get_or-drop, take-take, drop-take, drop-drop, take_all, length-append, length-replicate}
 use Rattle.tor_merkle.specs.Block.{run_at}
+use Rattle.tor_merkle.specs.Node.{node}
 use Rattle.tor_merkle.specs.Subtree.{node_of, zero_leaf, zero_subtree, subtree_root, padded}
-
--- node i of level k over the hashes, past whose end stand subtrees of level base
-unfoldable pub node : ℕ → List (List ℕ) → ℕ → ℕ → List ℕ
-node base hashes zero i = get_or hashes i (zero_subtree base)
-node base hashes (suc k) i = node_of (node base hashes k (2 * i)) (node base hashes k (2 * i + 1))
 
 -- a node wholly past the end
 pub node_past : (base : ℕ) (hashes : List (List ℕ)) (k i : ℕ) → length hashes ≤ i * 2 ^ k → node base hashes k i ≡ zero_subtree (base + k)
@@ -82,3 +78,11 @@ subtree_root-padded base hashes top fits =
     let len = length-padded top (zero_subtree base) hashes fits in
     let one_run : run_at (2 ^ top) all 0 ≡ all = ap (λ a. take (2 ^ top) (drop a all)) (zero-mul (2 ^ top)) ∙ take_all (2 ^ top) all (omega (arith, len)) in
     ap (subtree_root top) (sym one_run) ∙ subtree_root-padded_run base hashes top top 0 fits (omega arith)
+
+-- whole nodes stay where hashes are added at the end
+pub node-append : (base : ℕ) (hashes more : List (List ℕ)) (k i : ℕ) → (i + 1) * 2 ^ k ≤ length hashes → node base (hashes ++ more) k i ≡ node base hashes k i
+unfolding node
+node-append base hashes more zero i le = get_or_append_left hashes more (zero_subtree base) i (omega arith)
+node-append base hashes more (suc k) i le =
+    let wide : (i + 1) * 2 ^ suc k ≡ (i + 1) * (2 ^ k + 2 ^ k) = ap (λ x. (i + 1) * x) (two-pow-succ k) in
+    ap₂ node_of (node-append base hashes more k (2 * i) (omega arith)) (node-append base hashes more k (2 * i + 1) (omega arith))

@@ -1,3 +1,7 @@
 pub mod Block
 pub mod Subtree
+pub mod Node
 pub mod Layer
+pub mod Stack
+pub mod Pieces
+pub mod Feeding

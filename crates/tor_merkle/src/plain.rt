@@ -6,12 +6,9 @@ ghost use Rattle.tor_merkle.specs.Block.{leaves};
 ghost use Rattle.tor_merkle.specs.Layer.{IsPieceLength, pieces_root, piece_layer};
 ghost use Rattle.tor_merkle.specs.Subtree.{level_above};
 
-use crate::hash::{Hash, leaf, pair, zero};
+use crate::hash::{BLOCK_LENGTH, Hash, leaf, pair, zero};
 use std::alloc::{AllocError, Global};
 use std::mem;
-
-/// The length of a block in bytes.
-const BLOCK_LENGTH: usize = 16_384;
 
 /// The Merkle root of `content`, and the 32-byte hashes of the layer where one covers one piece,
 /// in the order of the pieces; no hash where there is at most one piece. `None` where `content` is empty.

@@ -1,8 +1,10 @@
 //! Worked rows. The hashes in hexadecimal were computed by another program (Python's hashlib), of
 //! contents whose byte i is i % 251.
 
+use crate::feed::Feed;
 use crate::hash::{Hash, leaf, pair, zero};
 use crate::plain::whole;
+use crate::stack::{Stack, layer_root};
 use std::alloc::{AllocError, Global};
 use std::fmt::Write;
 use std::process::Abort;
@@ -41,6 +43,33 @@ fn whole_of<R: AllocGlobal + Abort>(
     assert!(rt; piece_length >= 16_384);
     assert!(rt; piece_length <= 1 << 30);
     let Some(sums) = whole(rt.alloc(), &bytes, piece_length)? else {
+        return Ok((String::new(rt.alloc()), Vec::new(rt.alloc())));
+    };
+    let (root, layer) = sums;
+    Ok((hex(rt.alloc(), &root)?, layer))
+}
+
+// The same by a feed, in parts of `part` bytes.
+fn fed_of<R: AllocGlobal + Abort>(
+    rt: &R,
+    length: usize,
+    piece_length: u64,
+    part: usize,
+) -> Result<(String, Vec<Hash>), AllocError> {
+    let bytes = content(rt.alloc(), length)?;
+    assert!(rt; bytes.len() <= 1 << 50);
+    assert!(rt; part > 0 && part <= 1 << 50);
+    assert!(rt; piece_length.is_power_of_two());
+    assert!(rt; piece_length >= 16_384);
+    assert!(rt; piece_length <= 1 << 30);
+    let mut feed = Feed::new(rt.alloc(), piece_length);
+    let mut start = 0;
+    'parts: while start < bytes.len() {
+        let end = bytes.len().min(start + part);
+        feed.feed(&bytes[start..end])?;
+        start = end;
+    }
+    let Some(sums) = feed.finish() else {
         return Ok((String::new(rt.alloc()), Vec::new(rt.alloc())));
     };
     let (root, layer) = sums;
@@ -144,5 +173,83 @@ fn five_blocks(rt: HostRuntime) -> Result<(), AllocError> {
         root.as_str(),
         "ecc31c9c67d9c7b8c7f2540df72208ac59a0dc2f7b2477b26638db313a245ca4"
     );
+    Ok(())
+}
+
+#[test]
+fn feeds(rt: HostRuntime) -> Result<(), AllocError> {
+    // The length of the content, that of a piece, and that of the parts.
+    let rows = [
+        (0, 16_384, 1),
+        (1, 16_384, 1),
+        (16_384, 16_384, 16_384),
+        (16_385, 16_384, 1),
+        (16_385, 16_384, 16_383),
+        (16_385, 16_384, 16_385),
+        (32_768, 32_768, 10_000),
+        (49_152, 16_384, 16_384),
+        (49_152, 16_384, 16_385),
+        (49_152, 16_384, 49_152),
+        (81_920, 32_768, 4_096),
+        (81_920, 32_768, 20_000),
+        (81_920, 32_768, 81_920),
+        (81_920, 1 << 30, 50_000),
+        (100_000, 65_536, 33_333),
+    ];
+    for (length, piece_length, part) in &rows {
+        let (root, layer) = whole_of(&rt, *length, *piece_length)?;
+        let (fed_root, fed_layer) = fed_of(&rt, *length, *piece_length, *part)?;
+        assert_eq!(rt;
+            fed_root.as_str(),
+            root.as_str(),
+            "at {length}, {piece_length}, {part}"
+        );
+        assert!(rt;
+            fed_layer.as_slice() == layer.as_slice(),
+            "at {length}, {piece_length}, {part}"
+        );
+    }
+    Ok(())
+}
+
+#[test]
+fn fed_rows(rt: HostRuntime) -> Result<(), AllocError> {
+    let alloc = rt.alloc();
+    // One piece of two blocks.
+    let (root, layer) = fed_of(&rt, 32_768, 32_768, 5_000)?;
+    assert_eq!(rt;
+        root.as_str(),
+        "d9e13d0b676ad681164ef0b7b5910d1328ea83a047cad57e619d76bbe3a08525"
+    );
+    assert!(rt; layer.is_empty());
+    let (root, layer) = fed_of(&rt, 16_385, 16_384, 16_383)?;
+    assert_eq!(rt;
+        root.as_str(),
+        "9d7887c65d577a0237fb3c0998b87b3a62762d03796889a2caea01db914ccbb8"
+    );
+    assert_eq!(rt; layer.len(), 2);
+    assert_eq!(rt; hex(alloc, &layer[0])?.as_str(), L0);
+    Ok(())
+}
+
+#[test]
+fn stacks(rt: HostRuntime) -> Result<(), AllocError> {
+    let hashes = [leaf(b"ab"), leaf(b"c"), leaf(b"abc")];
+    let root = pair(&pair(&hashes[0], &hashes[1]), &pair(&hashes[2], &zero(1)));
+    assert_eq!(rt;
+        hex(rt.alloc(), &root)?.as_str(),
+        "0069305f195129eb7e8ddb2f05b67f3d6fb865c73b5f880fe082e5b96da344d9"
+    );
+    assert!(rt; layer_root(&hashes, 1) == root);
+
+    let mut stack = Stack::new(1);
+    assert!(rt; stack.is_empty());
+    stack.push(hashes[0]);
+    assert!(rt; stack.root() == hashes[0]);
+    stack.push(hashes[1]);
+    assert!(rt; stack.root() == pair(&hashes[0], &hashes[1]));
+    stack.push(hashes[2]);
+    assert_eq!(rt; stack.len(), 3);
+    assert!(rt; stack.root() == root);
     Ok(())
 }

@@ -1,0 +1,33 @@
+-- Root and layer over the leaves are those of the content.
+use Rattle.std.proofs.Common.{◌≡◌, ℕ, ◌*◌, ◌^◌, ◌<◌, ◌≤◌, List, [], cond, length, leb, arith, ap, ◌∙◌, sym, inl, inr}
+use Rattle.std.proofs.lemmas.Bool.{cases_lt, cond-true, cond-false, lt-leb, le-leb}
+use Rattle.tor_merkle.specs.Block.{leaves}
+use Rattle.tor_merkle.specs.Layer.{pieces_root, piece_layer}
+use Rattle.tor_merkle.specs.Node.{node, nodes}
+use Rattle.tor_merkle.specs.Stack.{padded_root}
+use Rattle.tor_merkle.specs.Subtree.{height}
+use Rattle.tor_merkle.proofs.Climb.{below_top, piece_layer-nodes, piece_layer-none}
+use Rattle.tor_merkle.proofs.Content.{pieces_root-node, longer_than_piece, length-leaves}
+use Rattle.tor_merkle.proofs.Ceil.{below_from_ceil}
+use Rattle.tor_merkle.proofs.Height.{height_covers}
+use Rattle.tor_merkle.proofs.Node.{subtree_root-padded}
+
+pub padded_root-leaves : (content : List ℕ) → padded_root 0 (leaves content) ≡ pieces_root content
+unfolding padded_root
+padded_root-leaves content =
+    let top = height (length (leaves content)) in
+    subtree_root-padded 0 (leaves content) top (height_covers (length (leaves content))) ∙ sym (pieces_root-node content)
+
+pub nodes-piece_layer : (content : List ℕ) (k : ℕ)
+    → cond (leb (length (leaves content)) (2 ^ k)) [] (nodes 0 (leaves content) k) ≡ piece_layer content (16384 * 2 ^ k)
+nodes-piece_layer content k = elim (cases_lt (16384 * 2 ^ k) (length content)) [
+  | inl more ↦
+      cond-false _ [] _ (lt-leb (length (leaves content)) (2 ^ k) (longer_than_piece content k more)) ∙ sym (piece_layer-nodes content k more)
+  | inr less ↦
+      cond-true _ [] _ (le-leb (length (leaves content)) (2 ^ k) (few less)) ∙ sym (piece_layer-none content (16384 * 2 ^ k) less)
+] where
+  few : length content ≤ 16384 * 2 ^ k → length (leaves content) ≤ 2 ^ k
+  few less = elim (cases_lt (2 ^ k) (length (leaves content))) [
+    | inl more ↦ absurd (omega (arith, below_from_ceil (length content) 16384 (2 ^ k) (omega arith) (omega (arith, length-leaves content))))
+    | inr le ↦ le
+  ]

@@ -1,0 +1,13 @@
+-- the bytes fed and the rest are what has to be fed in all
+use Rattle.std.proofs.Common.{◌≡◌, ◌≤◌, ◌++◌, length}
+use Rattle.tor_merkle.proofs.blocks.BlockHasher.feed.Given as goal
+
+abbrev pub invariant-parts : goal.invariant-parts
+invariant-parts l = record {
+  all : l.self.bytes ++ l.rest ≡ l.initial.self.bytes ++ l.initial.rest;
+  height : l.self.height ≡ l.initial.self.height;
+  room : l.initial.self.room ≤ l.self.room;
+}
+
+abbrev pub decreases-parts : goal.decreases-parts
+decreases-parts l = length l.rest

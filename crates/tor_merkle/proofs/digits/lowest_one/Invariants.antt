@@ -1,0 +1,12 @@
+-- the digits below the place are 0
+use Rattle.std.proofs.Common.{◌≡◌, ℕ, ◌*◌, ◌^◌, ◌<◌}
+use Rattle.tor_merkle.proofs.digits.lowest_one.Given as goal
+
+abbrev pub invariant-zeros : goal.invariant-zeros
+invariant-zeros l = record {
+  some : 0 < l.odd;
+  whole : l.count ≡ l.odd * 2 ^ l.place;
+}
+
+abbrev pub decreases-zeros : goal.decreases-zeros
+decreases-zeros l = l.odd

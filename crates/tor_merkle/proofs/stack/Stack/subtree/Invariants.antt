@@ -1,0 +1,7 @@
+-- the top is the last node of the level
+use Rattle.std.proofs.Common.{◌≤◌}
+use Rattle.tor_merkle.proofs.Root.{IsLastNode}
+use Rattle.tor_merkle.proofs.stack.Stack.subtree.Given as goal
+
+abbrev pub invariant-climb : goal.invariant-climb
+invariant-climb l = IsLastNode l.self-inside.level l.self-inside.count l.self-inside.pushed.hashes l.digit l.place l.top

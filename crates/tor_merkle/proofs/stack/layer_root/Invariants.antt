@@ -1,0 +1,9 @@
+-- the stack has the hashes so far
+use Rattle.std.proofs.Common.{◌≡◌, take}
+use Rattle.tor_merkle.proofs.stack.layer_root.Given as goal
+
+abbrev pub invariant-pushes : goal.invariant-pushes
+invariant-pushes l = record {
+  hashes : l.stack.hashes ≡ take l.hash-index l.hashes;
+  level : l.stack.level ≡ l.level;
+}

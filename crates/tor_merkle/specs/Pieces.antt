@@ -1,0 +1,24 @@
+-- The leaves of a content as they come, and the hashes of the pieces that they fill.
+use Rattle.std.specs.Prelude.{◌≡◌, ℕ, ◌-◌, ◌*◌, ◌/◌, ◌^◌, ◌≤◌, List, length, drop}
+use Rattle.tor_merkle.specs.Node.{first_nodes}
+use Rattle.tor_merkle.specs.Stack.{Subtrees}
+
+-- the leaves so far, in pieces of 2 ^ height, and how many hashes of pieces there is room for
+pub record Growing : Type 0 where
+  pub height : ℕ
+  pub leaves : List (List ℕ)
+  pub room : ℕ
+
+-- the pieces before that of the last leaf are filled
+abbrev pub filled : ℕ → List (List ℕ) → ℕ
+filled height leaves = (length leaves - 1) / 2 ^ height
+
+-- the leaves of the last piece are stacked, and so are the hashes of the pieces before it
+pub record KeepsPieces (height : ℕ) (leaves : List (List ℕ)) (blocks pieces : Subtrees) (layer : List (List ℕ)) : Type 0 where
+  pub low : height ≤ 16
+  pub small : length leaves ≤ 2 ^ 36
+  pub block_level : blocks.level ≡ 0
+  pub stacked : blocks.hashes ≡ drop (filled height leaves * 2 ^ height) leaves
+  pub piece_level : pieces.level ≡ height
+  pub closed : pieces.hashes ≡ first_nodes 0 leaves height (filled height leaves)
+  pub listed : layer ≡ pieces.hashes

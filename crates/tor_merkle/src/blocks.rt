@@ -1,0 +1,142 @@
+//! Bytes that come in parts, cut into blocks, whose leaves go into the tree of the pieces.
+
+ghost use Rattle.std.specs.Prelude.{◌≡◌, ◌+◌, ◌*◌, ◌%◌, ◌^◌, ◌<◌, ◌≤◌, ◌↔◌, [], ◌++◌, length, OnOk, IsNone, IfSome};
+ghost use Rattle.std.specs.Int.{div_ceil};
+ghost use Rattle.tor_merkle.specs.Block.{leaves};
+ghost use Rattle.tor_merkle.specs.Layer.{pieces_root, piece_layer};
+
+use crate::hash::{BLOCK_LENGTH, Hash};
+use crate::pieces::PieceTree;
+use crate::trail::{Cut, Fed};
+use sha2::{Digest, Sha256};
+use std::alloc::{AllocError, Global};
+use std::marker::Model;
+
+// The running hash of the present block, and the tree over the blocks before it.
+#[derive(Drop)]
+pub(crate) struct BlockHasher {
+    count: u64,
+    hasher: Sha256,
+    tree: PieceTree,
+    fed: Fed,
+}
+
+impl Model for BlockHasher {
+    ghost use Rattle.tor_merkle.specs.Feeding.{Blocks, KeepsBlocks};
+
+    ghost Value = { Blocks };
+
+    ghost view = { λ b. record { height = b.tree.height; bytes = b.fed.bytes; room = b.tree.room } };
+
+    ghost invariant = { λ b. KeepsBlocks b.count b.hasher b.tree.leaves b.fed.bytes };
+}
+
+impl BlockHasher {
+    // For pieces of 2^height blocks.
+    pub(crate) fn new(alloc: Global, height: u32) -> BlockHasher
+        requires { height ≤ 16 }
+        ensures height { result.height ≡ height }
+        ensures bytes { result.bytes ≡ [] }
+    {
+        BlockHasher {
+            count: 0,
+            hasher: Sha256::new(),
+            tree: PieceTree::new(alloc, height),
+            fed: Fed::new(),
+        }
+    }
+
+    // How many bytes were fed.
+    pub(crate) fn count(&self) -> u64
+        ensures { result ≡ length self.now.bytes }
+    {
+        self.count
+    }
+
+    // Makes room for the hashes of so many pieces.
+    pub(crate) fn reserve(&mut self, pieces: usize) -> Result<(), AllocError>
+        ensures height { self.new.height ≡ self.old.height }
+        ensures bytes { self.new.bytes ≡ self.old.bytes }
+        ensures kept { self.old.room ≤ self.new.room }
+        ensures room { OnOk result (pieces ≤ self.new.room) }
+    {
+        self.tree.reserve(pieces)
+    }
+
+    // Adds bytes of any number, for whose pieces there is room.
+    pub(crate) fn feed(&mut self, bytes: &[u8])
+        requires small { length self.old.bytes + length bytes.now ≤ 2 ^ 50 }
+        requires room { div_ceil (length self.old.bytes + length bytes.now) (16384 * 2 ^ self.old.height) ≤ self.old.room }
+        ensures height { self.new.height ≡ self.old.height }
+        ensures bytes { self.new.bytes ≡ self.old.bytes ++ bytes.now }
+        ensures room { self.old.room ≤ self.new.room }
+    {
+        let mut rest = bytes;
+        'parts: while !rest.is_empty() {
+            let length = rest.len().min(self.room_in_block());
+            let (part, later) = rest.split_at(length);
+            self.add(part);
+            rest = later;
+        }
+    }
+
+    // How many bytes the present block lacks.
+    fn room_in_block(&self) -> usize
+        ensures { result + length self.now.bytes % 16384 ≡ 16384 }
+    {
+        BLOCK_LENGTH - (self.count % BLOCK_LENGTH as u64) as usize
+    }
+
+    // Adds bytes of one block.
+    fn add(&mut self, part: &[u8])
+        requires some { 0 < length part.now }
+        requires within { length self.old.bytes % 16384 + length part.now ≤ 16384 }
+        requires small { length self.old.bytes + length part.now ≤ 2 ^ 50 }
+        requires room { div_ceil (length self.old.bytes + length part.now) (16384 * 2 ^ self.old.height) ≤ self.old.room }
+        ensures height { self.new.height ≡ self.old.height }
+        ensures bytes { self.new.bytes ≡ self.old.bytes ++ part.now }
+        ensures room { self.old.room ≤ self.new.room }
+    {
+        let fed = Fed::with(&self.fed, &Cut { bytes: part });
+        self.hasher.update(part);
+        self.count += part.len() as u64;
+        if self.count % BLOCK_LENGTH as u64 == 0 {
+            let leaf = self.hasher.finalize_reset();
+            self.tree.push(leaf);
+        }
+        self.fed = fed;
+    }
+
+    // The root of the bytes fed, and the hashes of their pieces where there is more than one.
+    pub(crate) fn finish(self) -> Option<(Hash, Vec<Hash>)>
+        requires { div_ceil (length self.bytes) (16384 * 2 ^ self.height) ≤ self.room }
+        ensures empty { IsNone result ↔ (self.bytes ≡ []) }
+        ensures root { IfSome result (λ s. s.0 ≡ pieces_root self.bytes) }
+        ensures layer { IfSome result (λ s. s.1.items ≡ piece_layer self.bytes (16384 * 2 ^ self.height)) }
+    {
+        if self.count == 0 {
+            return None;
+        }
+        Some(self.into_tree().finish())
+    }
+
+    // The tree with the leaf of the last block, whole or short.
+    fn into_tree(self) -> PieceTree
+        requires { div_ceil (length self.bytes) (16384 * 2 ^ self.height) ≤ self.room }
+        ensures height { result.height ≡ self.height }
+        ensures leaves { result.leaves ≡ leaves self.bytes }
+        ensures room { self.room ≤ result.room }
+    {
+        let BlockHasher {
+            count,
+            hasher,
+            mut tree,
+            fed: _fed,
+        } = self;
+        let leaf = hasher.finalize();
+        if count % BLOCK_LENGTH as u64 > 0 {
+            tree.push(leaf);
+        }
+        tree
+    }
+}

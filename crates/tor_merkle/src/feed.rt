@@ -1,0 +1,66 @@
+//! Root and piece layer of a content that is fed in parts.
+
+ghost use Rattle.std.specs.Prelude.{◌≡◌, ◌+◌, ◌^◌, ◌≤◌, ◌↔◌, [], ◌++◌, length, OnOk, OnErr, IsNone, IfSome};
+ghost use Rattle.tor_merkle.specs.Layer.{IsPieceLength, pieces_root, piece_layer};
+
+use crate::blocks::BlockHasher;
+use crate::digits::height_of;
+use crate::hash::{BLOCK_LENGTH, Hash};
+use std::alloc::{AllocError, Global};
+use std::marker::Model;
+
+/// A content that is fed in parts of any lengths. It keeps one hash a piece, and no leaves.
+#[derive(Drop)]
+pub struct Feed {
+    piece_length: u64,
+    blocks: BlockHasher,
+}
+
+impl Model for Feed {
+    ghost use Rattle.tor_merkle.specs.Feeding.{Feeding, KeepsFeeding};
+
+    ghost Value = { Feeding };
+
+    ghost view = { λ f. record { piece_length = f.piece_length; bytes = f.blocks.bytes } };
+
+    ghost invariant = { λ f. KeepsFeeding f.piece_length f.blocks };
+}
+
+impl Feed {
+    /// A feed of no byte, for pieces of `piece_length` bytes.
+    pub fn new(alloc: Global, piece_length: u64) -> Feed
+        requires { IsPieceLength piece_length }
+        ensures piece_length { result.piece_length ≡ piece_length }
+        ensures empty { result.bytes ≡ [] }
+    {
+        let height = height_of(piece_length / BLOCK_LENGTH as u64);
+        Feed {
+            piece_length,
+            blocks: BlockHasher::new(alloc, height),
+        }
+    }
+
+    /// Adds `bytes` at the end of the content, which has at most 2^50 bytes in all.
+    pub fn feed(&mut self, bytes: &[u8]) -> Result<(), AllocError>
+        requires { length self.old.bytes + length bytes.now ≤ 2 ^ 50 }
+        ensures piece_length { self.new.piece_length ≡ self.old.piece_length }
+        ensures ok { OnOk result (self.new.bytes ≡ self.old.bytes ++ bytes.now) }
+        ensures err { OnErr result (self.new ≡ self.old) }
+    {
+        let total = self.blocks.count() + bytes.len() as u64;
+        let pieces = total.div_ceil(self.piece_length) as usize;
+        self.blocks.reserve(pieces)?;
+        self.blocks.feed(bytes);
+        Ok(())
+    }
+
+    /// The Merkle root of the content, and the 32-byte hashes of the layer where one covers one piece,
+    /// in the order of the pieces; no hash where there is at most one piece. `None` where no byte was fed.
+    pub fn finish(self) -> Option<(Hash, Vec<Hash>)>
+        ensures empty { IsNone result ↔ (self.bytes ≡ []) }
+        ensures root { IfSome result (λ sums. sums.0 ≡ pieces_root self.bytes) }
+        ensures layer { IfSome result (λ sums. sums.1.items ≡ piece_layer self.bytes self.piece_length) }
+    {
+        self.blocks.finish()
+    }
+}
