@@ -1,7 +1,7 @@
 //! The v2 torrent of one content that lies in memory.
-ghost use Rattle.std.specs.Prelude.{◌≡◌, ◌⊎◌, ◌≤◌, ◌^◌, length, Some, None, IfOk, IfErr, OnOk, option_copied, option_map};
+ghost use Rattle.std.specs.Prelude.{◌≡◌, ◌⊎◌, ◌↔◌, ◌≤◌, ◌^◌, [], length, Some, None, IsNone, IfSome, IfOk, IfErr, OnOk, option_copied, option_map};
 ghost use Rattle.tor_bencode.specs.View.{view};
-ghost use Rattle.tor_merkle.specs.Layer.{IsPieceLength};
+ghost use Rattle.tor_merkle.specs.Layer.{IsPieceLength, pieces_root, piece_layer};
 ghost use Rattle.tor_meta.specs.BytesRefusal.{bytes_refusal, is_piece_length};
 ghost use Rattle.tor_spec.specs.Metainfo.{metainfo, root_dictionary, plain, single};
 
@@ -9,7 +9,7 @@ use crate::items::{file_properties, info, layers_of_one, root, tree_of_one};
 use crate::refusals::BytesError;
 use std::alloc::{AllocError, Global};
 use tor_bencode::{Item, Tree, encode};
-use tor_merkle::{Hash, whole};
+use tor_merkle::{Feed, Hash};
 use tor_tree::Name;
 
 /// The longest content, in bytes.
@@ -62,7 +62,7 @@ fn torrent(
     ensures { IfOk result (λ tree. view tree
         ≡ root_dictionary (plain name.now piece_length) (single name.now content.now)) }
 {
-    let sums = whole(alloc, content, piece_length)?;
+    let sums = sums_of(alloc, content, piece_length)?;
     let layers = match &sums {
         Some(sums) if content.len() as u64 > piece_length => layers_of_one(
             alloc, &sums.0, &sums.1,
@@ -76,6 +76,23 @@ fn torrent(
         Ok(tree) => Ok(tree),
         Err(_) => unreachable!(),
     }
+}
+
+// The root and the piece layer of a content, none where it is empty.
+fn sums_of(
+    alloc: Global,
+    content: &[u8],
+    piece_length: u64,
+) -> Result<Option<(Hash, Vec<Hash>)>, AllocError>
+    requires piece { IsPieceLength piece_length }
+    requires size { length content.now ≤ 2 ^ 50 }
+    ensures empty { IfOk result (λ sums. IsNone sums ↔ (content.now ≡ [])) }
+    ensures root { IfOk result (λ sums. IfSome sums (λ s. s.0 ≡ pieces_root content.now)) }
+    ensures layer { IfOk result (λ sums. IfSome sums (λ s. s.1.items ≡ piece_layer content.now piece_length)) }
+{
+    let mut feed = Feed::new(alloc, piece_length);
+    feed.feed(content)?;
+    Ok(feed.finish())
 }
 
 fn root_of(sums: &Option<(Hash, Vec<Hash>)>) -> Option<&Hash>
