@@ -11,3 +11,4 @@ pub mod ReadBack
 pub mod Sound
 pub mod Whole
 pub mod Refused
+pub mod Skips

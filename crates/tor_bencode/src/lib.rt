@@ -5,6 +5,7 @@
 //! - [`encode`] (`write.rt`): the spelling of a tree.
 //! - [`decode`] (`read.rt`): the tree of a spelling, or the first fault of the bytes.
 //! - [`find`] (`lookup.rt`): the value of a key.
+//! - [`span`] (`place.rt`): where the value of a key is spelled.
 //! - [`BenError`] (`error.rt`), [`Fault`] (`fault.rt`): what these refuse.
 //! - [`laws`] (`laws.rt`): laws over the definitions of `specs/`.
 #![tactic(auto)]
@@ -15,6 +16,7 @@ mod item;
 pub mod laws;
 mod lookup;
 mod order;
+mod place;
 mod read;
 mod stop;
 #[cfg(test)]
@@ -27,6 +29,7 @@ pub use error::BenError;
 pub use fault::Fault;
 pub use item::Item;
 pub use lookup::find;
+pub use place::span;
 pub use read::decode;
 pub use tree::Tree;
 pub use write::encode;

@@ -1,4 +1,5 @@
-use crate::{BenError, Fault, Item, Tree, decode, encode, find};
+use crate::laws::{no_spelling_begins_another, one_tree_or_one_fault};
+use crate::{BenError, Fault, Item, Tree, decode, encode, find, span};
 use std::alloc::{AllocError, Global};
 use std::test::Fail;
 
@@ -132,7 +133,8 @@ fn reads_what_it_writes(rt: HostRuntime) -> Result<(), Fail> {
     ] {
         assert_eq!(rt; reread(alloc, text)?.as_slice(), text);
     }
-    let Item::Dict(pairs) = decode(alloc, b"d1:al4:spamee")?.into_item() else {
+    let tree = decode(alloc, b"d1:al4:spamee")?;
+    let Item::Dict(pairs) = tree.item() else {
         return Err(Fail::from("no dictionary"));
     };
     assert_eq!(rt; pairs.len(), 1);
@@ -190,4 +192,40 @@ fn refuses_the_first_fault(rt: HostRuntime) -> Result<(), Fail> {
         )
     );
     Ok(())
+}
+
+/// The torrent of one file `a` that holds `abc` (BEP 52).
+const TORRENT: &[u8] = b"d4:infod9:file treed1:ad0:d6:lengthi3e11:pieces root32:\
+\xba\x78\x16\xbf\x8f\x01\xcf\xea\x41\x41\x40\xde\x5d\xae\x22\x23\
+\xb0\x03\x61\xa3\x96\x17\x7a\x9c\xb4\x10\xff\x61\xf2\x00\x15\xad\
+eee12:meta versioni2e4:name1:a12:piece lengthi16384ee12:piece layersdee";
+
+#[test]
+fn spans_values_of_the_root(rt: HostRuntime) -> Result<(), Fail> {
+    let alloc = rt.alloc();
+    assert_eq!(rt; TORRENT.len(), 158);
+    let _tree = decode(alloc, TORRENT)?;
+    assert_eq!(rt; span(TORRENT, b"info"), Some((7, 140)));
+    assert_eq!(rt; span(TORRENT, b"piece layers"), Some((155, 157)));
+    assert_eq!(rt; span(TORRENT, b"announce"), None);
+    assert_eq!(rt; span(TORRENT, b"name"), None);
+    for (text, want) in [
+        (b"d1:a1:x2:abi7ee".as_slice(), Some((11, 14))),
+        (b"d0:le2:ablee", Some((9, 11))),
+        (b"d2:abi7e3:abc0:e", Some((5, 8))),
+        (b"d3:abc0:e", None),
+        (b"l2:ab1:xe", None),
+        (b"2:ab", None),
+        (b"i3e", None),
+    ] {
+        let _tree = decode(alloc, text)?;
+        assert_eq!(rt; span(text, b"ab"), want);
+    }
+    Ok(())
+}
+
+#[test]
+fn laws_can_be_called() {
+    no_spelling_begins_another();
+    one_tree_or_one_fault();
 }

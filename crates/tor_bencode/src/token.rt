@@ -1,4 +1,4 @@
-ghost use Rattle.std.specs.Prelude.{◌≡◌, ◌<◌, ◌^◌, length, IfOk, SomeIff};
+ghost use Rattle.std.specs.Prelude.{◌≡◌, ◌≢◌, ◌<◌, ◌^◌, length, IfOk, IfErr, SomeIff};
 ghost use Rattle.std.specs.Char.{is_ascii_digit};
 ghost use Rattle.std.specs.List.{prefix_len, list_all};
 ghost use Rattle.tor_bencode.specs.Fault.{is_integer_byte as is_integer_byte_code};
@@ -12,6 +12,7 @@ use crate::stop::Stop;
 pub(crate) fn string<'a>(bytes: &'a [u8]) -> Result<(&'a [u8], &'a [u8]), Stop<'a>>
     ensures read { Gives (λ x. (x.0.now, x.1.now)) result (string_at bytes.now) }
     ensures shorter { IfOk result (λ x. length x.1.now < length bytes.now) }
+    ensures no_memory { IfErr result (λ stop. stop ≢ Stop.Memory) }
 {
     let (run, after) = bytes.split_at(digits(bytes));
     match after {
@@ -29,6 +30,7 @@ pub(crate) fn string<'a>(bytes: &'a [u8]) -> Result<(&'a [u8], &'a [u8]), Stop<'
 pub(crate) fn integer<'a>(bytes: &'a [u8], rest: &'a [u8]) -> Result<(i64, &'a [u8]), Stop<'a>>
     ensures read { Gives (λ x. (x.0, x.1.now)) result (integer_at bytes.now rest.now) }
     ensures shorter { IfOk result (λ x. length x.1.now < length rest.now) }
+    ensures no_memory { IfErr result (λ stop. stop ≢ Stop.Memory) }
 {
     let (run, after) = rest.split_at(integer_bytes(rest));
     match after {

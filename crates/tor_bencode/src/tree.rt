@@ -55,14 +55,6 @@ impl Tree {
         Tree { item }
     }
 
-    /// The item that the tree holds, which the caller then owns.
-    pub fn into_item(self) -> Item
-        ensures same { result ≡ self }
-        ensures lawful { IsLawful (view result) }
-    {
-        self.item
-    }
-
     /// The item that the tree holds.
     pub fn item(&self) -> &Item
         ensures same { result.now ≡ self.now }
