@@ -1,3 +1,14 @@
 pub mod Views
 pub mod Lawfulness
 pub mod Rising
+pub mod Numerals
+pub mod Loops
+pub mod Runs
+pub mod Strings
+pub mod Integers
+pub mod Spelled
+pub mod ReadBack
+pub mod Sound
+pub mod Whole
+pub mod Refused
+pub mod Skips

@@ -3,21 +3,33 @@
 //! - [`Item`] (`item.rt`): a bencode value, which owns its bytes.
 //! - [`Tree`] (`tree.rt`): an item that has a place in a torrent: keys rise, nesting has an end.
 //! - [`encode`] (`write.rt`): the spelling of a tree.
+//! - [`decode`] (`read.rt`): the tree of a spelling, or the first fault of the bytes.
 //! - [`find`] (`lookup.rt`): the value of a key.
-//! - [`BenError`] (`error.rt`): what these refuse.
+//! - [`span`] (`place.rt`): where the value of a key is spelled.
+//! - [`BenError`] (`error.rt`), [`Fault`] (`fault.rt`): what these refuse.
+//! - [`laws`] (`laws.rt`): laws over the definitions of `specs/`.
 #![tactic(auto)]
 
 mod error;
+mod fault;
 mod item;
+pub mod laws;
 mod lookup;
 mod order;
+mod place;
+mod read;
+mod stop;
 #[cfg(test)]
 mod tests;
+mod token;
 mod tree;
 mod write;
 
 pub use error::BenError;
+pub use fault::Fault;
 pub use item::Item;
 pub use lookup::find;
+pub use place::span;
+pub use read::decode;
 pub use tree::Tree;
 pub use write::encode;

@@ -1,4 +1,5 @@
-use crate::{BenError, Item, Tree, encode, find};
+use crate::laws::{no_spelling_begins_another, one_tree_or_one_fault};
+use crate::{BenError, Fault, Item, Tree, decode, encode, find, span};
 use std::alloc::{AllocError, Global};
 use std::test::Fail;
 
@@ -103,4 +104,128 @@ fn shows_errors(rt: HostRuntime) -> Result<(), Fail> {
     let text = format!(in rt.alloc(); "{}", BenError::Memory)?;
     assert_eq!(rt; text.as_str(), "B10 Memory");
     Ok(())
+}
+
+/// The spelling of what was read, or what was refused, as text.
+fn reread(alloc: Global, text: &[u8]) -> Result<Vec<u8>, BenError> {
+    encode(alloc, &decode(alloc, text)?)
+}
+
+#[test]
+fn reads_what_it_writes(rt: HostRuntime) -> Result<(), Fail> {
+    let alloc = rt.alloc();
+    let mut nested = Vec::new(alloc);
+    for byte in [b'l', b'e'] {
+        for _ in 0..100 {
+            nested.push(byte)?;
+        }
+    }
+    for text in [
+        b"i9223372036854775807e".as_slice(),
+        b"i-9223372036854775808e",
+        b"i0e",
+        b"0:",
+        b"10:0123456789",
+        b"le",
+        b"de",
+        b"d0:le1:ad1:bi-7ee2:aai0e1:b3:xyze",
+        nested.as_slice(),
+    ] {
+        assert_eq!(rt; reread(alloc, text)?.as_slice(), text);
+    }
+    let tree = decode(alloc, b"d1:al4:spamee")?;
+    let Item::Dict(pairs) = tree.item() else {
+        return Err(Fail::from("no dictionary"));
+    };
+    assert_eq!(rt; pairs.len(), 1);
+    Ok(())
+}
+
+#[test]
+fn refuses_the_first_fault(rt: HostRuntime) -> Result<(), Fail> {
+    let alloc = rt.alloc();
+    let mut deep = Vec::new(alloc);
+    for _ in 0..101 {
+        deep.push(b'l')?;
+    }
+    for (text, want) in [
+        (b"".as_slice(), "B1 Truncated at 0"),
+        (b"i12", "B1 Truncated at 3"),
+        (b"4:abc", "B1 Truncated at 5"),
+        (b"99999999999999999999:a", "B1 Truncated at 22"),
+        (b"12345678901234567890", "B1 Truncated at 20"),
+        (b"l", "B1 Truncated at 1"),
+        (b"d1:a", "B1 Truncated at 4"),
+        (b"d1:ae", "B2 BadByte at 4"),
+        (b"e", "B2 BadByte at 0"),
+        (b"lx", "B2 BadByte at 1"),
+        (b"ie", "B3 BadInteger at 0"),
+        (b"ix", "B3 BadInteger at 0"),
+        (b"i1-2e", "B3 BadInteger at 0"),
+        (b"i-0e", "B3 BadInteger at 0"),
+        (b"i03e", "B3 BadInteger at 0"),
+        (b"li-e", "B3 BadInteger at 1"),
+        (b"i9223372036854775808e", "B4 IntegerRange at 0"),
+        (b"i-9223372036854775809e", "B4 IntegerRange at 0"),
+        (b"01:a", "B5 BadLength at 0"),
+        (b"3abc", "B5 BadLength at 0"),
+        (b"di1e1:ae", "B6 KeyNotBytes at 1"),
+        (b"d1:ai1e1:ai2ee", "B7 KeyOrder at 7"),
+        (b"d1:b0:1:a0:e", "B7 KeyOrder at 6"),
+        (b"d2:ab0:1:a0:e", "B7 KeyOrder at 7"),
+        (deep.as_slice(), "B8 TooDeep at 100"),
+        (b"0:x", "B9 Trailing at 2"),
+    ] {
+        let Err(refusal) = decode(alloc, text) else {
+            return Err(Fail::from("accepted"));
+        };
+        let told = format!(in alloc; "{refusal}")?;
+        assert_eq!(rt; told.as_str(), want);
+    }
+    assert!(rt;
+        matches!(
+            decode(alloc, b"0:x"),
+            Err(BenError::Refused {
+                fault: Fault::Trailing,
+                offset: 2
+            })
+        )
+    );
+    Ok(())
+}
+
+/// The torrent of one file `a` that holds `abc` (BEP 52).
+const TORRENT: &[u8] = b"d4:infod9:file treed1:ad0:d6:lengthi3e11:pieces root32:\
+\xba\x78\x16\xbf\x8f\x01\xcf\xea\x41\x41\x40\xde\x5d\xae\x22\x23\
+\xb0\x03\x61\xa3\x96\x17\x7a\x9c\xb4\x10\xff\x61\xf2\x00\x15\xad\
+eee12:meta versioni2e4:name1:a12:piece lengthi16384ee12:piece layersdee";
+
+#[test]
+fn spans_values_of_the_root(rt: HostRuntime) -> Result<(), Fail> {
+    let alloc = rt.alloc();
+    assert_eq!(rt; TORRENT.len(), 158);
+    let _tree = decode(alloc, TORRENT)?;
+    assert_eq!(rt; span(TORRENT, b"info"), Some((7, 140)));
+    assert_eq!(rt; span(TORRENT, b"piece layers"), Some((155, 157)));
+    assert_eq!(rt; span(TORRENT, b"announce"), None);
+    assert_eq!(rt; span(TORRENT, b"name"), None);
+    for (text, want) in [
+        (b"d1:a1:x2:abi7ee".as_slice(), Some((11, 14))),
+        (b"d0:le2:ablee", Some((9, 11))),
+        (b"d2:abi7e3:abc0:e", Some((5, 8))),
+        (b"d3:abc0:e", None),
+        (b"l2:ab1:xe", None),
+        (b"2:ab", None),
+        (b"i3e", None),
+    ] {
+        let _tree = decode(alloc, text)?;
+        assert_eq!(rt; span(text, b"ab"), want);
+    }
+    Ok(())
+}
+
+#[test]
+fn laws_can_be_called() {
+    no_spelling_begins_another();
+    one_tree_or_one_fault();
 }

@@ -8,7 +8,7 @@ use crate::order::comes_before;
 use std::marker::Model;
 
 /// How many lists and dictionaries may be open at once.
-const MAX_NESTING: usize = 100;
+pub(crate) const MAX_NESTING: usize = 100;
 
 /// An item that has a place in a torrent: the keys of each dictionary strictly rise as raw bytes,
 /// and at most 100 lists and dictionaries are open at once.
@@ -47,6 +47,15 @@ impl Tree {
         }
     }
 
+    /// The tree of an item that is known to be lawful.
+    pub(crate) fn known(item: Item) -> Tree
+        requires { IsLawful (view item) }
+        ensures { result ≡ item }
+    {
+        Tree { item }
+    }
+
+    /// The item that the tree holds.
     pub fn item(&self) -> &Item
         ensures same { result.now ≡ self.now }
         ensures lawful { IsLawful (view self.now) }

@@ -1,6 +1,5 @@
 ghost use Rattle.std.specs.Prelude.{◌≡◌, ◌++◌, codes, IfOk, OnOk, IsOkUnless};
-ghost use Rattle.std.specs.Fmt.{signed_decimal};
-ghost use Rattle.tor_bencode.specs.Spelling.{spelling, string_spelling, items_spelling, pairs_spelling};
+ghost use Rattle.tor_bencode.specs.Spelling.{signed_base_ten, spelling, string_spelling, items_spelling, pairs_spelling};
 ghost use Rattle.tor_bencode.specs.View.{view, items_view, pairs_view};
 
 use crate::error::BenError;
@@ -32,7 +31,7 @@ fn write_item(item: &Item, out: &mut Vec<u8>) -> Result<(), AllocError>
 }
 
 fn write_integer(n: i64, out: &mut Vec<u8>) -> Result<(), AllocError>
-    ensures { OnOk result (out.new.items ≡ out.old.items ++ (codes "i" ++ signed_decimal n ++ codes "e")) }
+    ensures { OnOk result (out.new.items ≡ out.old.items ++ (codes "i" ++ signed_base_ten n ++ codes "e")) }
 {
     out.push(b'i')?;
     out.extend_from_slice(Buffer::new().format(n).as_bytes())?;

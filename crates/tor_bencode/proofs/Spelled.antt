@@ -1,0 +1,56 @@
+-- How spellings begin, and how they are put together.
+use Rattle.std.proofs.Common.{◌≡◌, ◌≢◌, ℕ, zero, suc, ◌+◌, ◌≤◌, ◌<◌, ℤ, pos, negsuc, List, [], ◌∷◌, ◌++◌, length, get_or, Bool, true, false, refl, sym, ap, ◌∙◌, subst, append_assoc, arith}
+use Rattle.std.specs.Char.{is_ascii_digit}
+use Rattle.std.specs.List.{list_all}
+use Rattle.std.proofs.lemmas.Bool.{and_parts, false≢true}
+use Rattle.std.proofs.lemmas.List.{length-append}
+use Rattle.tor_bencode.specs.Data.{Data, integer, string, list, dictionary, Items, Pairs}
+use Rattle.tor_bencode.specs.Reading.{is_shortest}
+use Rattle.tor_bencode.specs.Spelling.{base_ten, signed_base_ten, spelling, string_spelling, items_spelling, pairs_spelling}
+use Rattle.tor_bencode.proofs.Numerals.{digit_range, all_digits-base_ten, is_shortest-base_ten}
+
+-- the bytes begin with a digit
+pub record StartsWithDigit (bytes : List ℕ) : Type 0 where
+  pub some : 0 < length bytes
+  pub digit : is_ascii_digit (get_or bytes 0 0) ≡ true
+
+first_digit : (run rest : List ℕ) → list_all is_ascii_digit run ≡ true → is_shortest run ≡ true → StartsWithDigit (run ++ rest)
+first_digit [] rest digits shortest = absurd (false≢true shortest)
+first_digit (c ∷ cs) rest digits shortest = record { some = omega arith; digit = (and_parts (is_ascii_digit c) (list_all is_ascii_digit cs) digits).0 }
+
+pub base_ten-starts : (n : ℕ) (rest : List ℕ) → StartsWithDigit (base_ten n ++ rest)
+base_ten-starts n rest = first_digit (base_ten n) rest (all_digits-base_ten n) (is_shortest-base_ten n)
+
+pub string-starts : (s rest : List ℕ) → StartsWithDigit (string_spelling s ++ rest)
+string-starts s rest =
+    let same : string_spelling s ++ rest ≡ base_ten (length s) ++ 58 ∷ (s ++ rest) = simp append_assoc in
+    subst StartsWithDigit (sym same) (base_ten-starts (length s) _)
+
+-- the bytes begin with a byte that ends no list
+pub record StartsValue (bytes : List ℕ) : Type 0 where
+  pub some : 0 < length bytes
+  pub no_end : get_or bytes 0 0 ≢ 101
+
+pub starts_value : (bytes : List ℕ) → StartsWithDigit bytes → StartsValue bytes
+starts_value bytes h = let range = digit_range (get_or bytes 0 0) h.digit in record { some = h.some; no_end = λ e. absurd (omega arith) }
+
+pub spelling-starts : (d : Data) (rest : List ℕ) → StartsValue (spelling d ++ rest)
+spelling-starts (integer n) rest = record { some = omega arith; no_end = λ e. absurd (omega arith) }
+spelling-starts (string s) rest = starts_value _ (string-starts s rest)
+spelling-starts (list items) rest = record { some = omega arith; no_end = λ e. absurd (omega arith) }
+spelling-starts (dictionary pairs) rest = record { some = omega arith; no_end = λ e. absurd (omega arith) }
+
+-- something is spelled, so what follows is shorter
+pub shorter-spelling : (d : Data) (bytes rest : List ℕ) → bytes ≡ spelling d ++ rest → length rest < length bytes
+shorter-spelling d bytes rest is =
+    let h = spelling-starts d [] in
+    omega (arith, ap length is, length-append (spelling d) rest, length-append (spelling d) [], h.some)
+
+pub shorter-string : (s bytes rest : List ℕ) → bytes ≡ string_spelling s ++ rest → length rest < length bytes
+shorter-string s bytes rest is =
+    let h = string-starts s [] in
+    omega (arith, ap length is, length-append (string_spelling s) rest, length-append (string_spelling s) [], h.some)
+
+-- one more pair in front
+pub pair_spelled : (key value pairs rest : List ℕ) → (key ++ value ++ pairs) ++ rest ≡ key ++ (value ++ (pairs ++ rest))
+pair_spelled key value pairs rest = simp append_assoc

@@ -1,0 +1,6 @@
+use Rattle.std.proofs.Common.{◌≡◌, ◌<◌, ◌^◌, drop}
+use Rattle.tor_bencode.specs.Reading.{number, number_after}
+use Rattle.tor_bencode.proofs.token.number.Given as goal
+
+abbrev pub invariant-loop-digit : goal.invariant-loop-digit
+invariant-loop-digit l = (number_after l.n (drop l.digit-index l.digits) ≡ number l.digits) × (l.n < 2 ^ 64)

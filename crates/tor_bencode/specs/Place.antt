@@ -1,0 +1,25 @@
+-- Where the value of a key is spelled.
+use Rattle.std.specs.Prelude.{◌≡◌, ℕ, ◌+◌, List, length, Option, None, Some, if◌then◌else◌}
+use Rattle.std.specs.Str.{bytes_eq}
+use Rattle.tor_bencode.specs.Data.{Data, integer, string, list, dictionary, Pairs, no_pairs, pair}
+use Rattle.tor_bencode.specs.Lawful.{IsLawful}
+use Rattle.tor_bencode.specs.Spelling.{spelling, string_spelling}
+
+-- start and end of the spelling of the first value with this key, if the pairs are spelled from `at` on
+abbrev pub place_in : ℕ → List ℕ → Pairs → Option (ℕ × ℕ)
+place_in at key no_pairs = None
+place_in at key (pair k value pairs) =
+    let start = at + length (string_spelling k) in
+    let end = start + length (spelling value) in
+    if bytes_eq k key then Some (start, end) else place_in end key pairs
+
+-- the same of a tree whose spelling begins at 0; the pairs come after a `d`
+abbrev pub place_of : List ℕ → Data → Option (ℕ × ℕ)
+place_of key (integer n) = None
+place_of key (string bytes) = None
+place_of key (list items) = None
+place_of key (dictionary pairs) = place_in 1 key pairs
+
+-- the bytes spell a lawful tree
+abbrev pub IsTree : List ℕ → Type 0
+IsTree bytes = (d : Data) × IsLawful d × (bytes ≡ spelling d)

@@ -1,0 +1,142 @@
+ghost use Rattle.std.specs.Prelude.{◌≡◌, ◌<◌, length, None, IfOk, IfErr, IsOkUnless, option_map};
+ghost use Rattle.tor_bencode.specs.Data.{Data};
+ghost use Rattle.tor_bencode.specs.Fault.{IsRefusalOf};
+ghost use Rattle.tor_bencode.specs.Lawful.{IsLawful};
+ghost use Rattle.tor_bencode.specs.Reading.{Gives, follows as follows_key, items_at, pairs_at, value_at, whole as whole_of};
+ghost use Rattle.tor_bencode.specs.Spelling.{spelling};
+ghost use Rattle.tor_bencode.specs.View.{view, items_view, pairs_view};
+
+use crate::error::BenError;
+use crate::fault::Fault;
+use crate::item::Item;
+use crate::stop::Stop;
+use crate::token::{integer, string};
+use crate::tree::{MAX_NESTING, Tree};
+use std::alloc::Global;
+
+/// The one tree that the bytes spell. What is refused is the first fault in reading order (BEP 3,
+/// "bencoding"), unless memory is.
+pub fn decode(alloc: Global, bytes: &[u8]) -> Result<Tree, BenError>
+    ensures tree { IfOk result (λ tree. IsLawful (view tree) × (bytes.now ≡ spelling (view tree))) }
+    ensures only { (d : Data) → IsLawful d → bytes.now ≡ spelling d → IsOkUnless result BenError.Memory }
+    ensures fault { IfErr result (λ refusal. IsRefusalOf bytes.now refusal) }
+{
+    match whole(alloc, bytes) {
+        Ok(item) => Ok(Tree::known(item)),
+        Err(Stop::Memory) => Err(BenError::Memory),
+        Err(Stop::At(fault, rest)) => Err(BenError::Refused {
+            fault,
+            offset: bytes.len() - rest.len(),
+        }),
+    }
+}
+
+/// The tree that all of the bytes spell.
+#[tactic(auto, unfolding(crate::specs::Reading::whole))]
+fn whole<'a>(alloc: Global, bytes: &'a [u8]) -> Result<Item, Stop<'a>>
+    ensures { Gives (λ item. view item) result (whole_of bytes.now) }
+{
+    let (item, rest) = value(alloc, bytes, MAX_NESTING)?;
+    if !rest.is_empty() {
+        return Err(Stop::At(Fault::Trailing, rest));
+    }
+    Ok(item)
+}
+
+/// A value where `room` lists and dictionaries may still be opened, and the bytes after it.
+#[cycle(read)]
+#[tactic(auto, unfolding(crate::specs::Reading::value_at))]
+fn value<'a>(alloc: Global, bytes: &'a [u8], room: usize) -> Result<(Item, &'a [u8]), Stop<'a>>
+    ensures read { Gives (λ x. (view x.0, x.1.now)) result (value_at room bytes.now) }
+    ensures shorter { IfOk result (λ x. length x.1.now < length bytes.now) }
+{
+    match bytes {
+        [] => Err(Stop::At(Fault::Truncated, bytes)),
+        [b'i', rest @ ..] => {
+            let (n, rest) = integer(bytes, rest)?;
+            Ok((Item::Int(n), rest))
+        }
+        [b'0'..=b'9', ..] => {
+            let (text, rest) = string(bytes)?;
+            Ok((Item::Bytes(Vec::from_slice(alloc, text)?), rest))
+        }
+        [b'l', rest @ ..] => {
+            if room == 0 {
+                return Err(Stop::At(Fault::TooDeep, bytes));
+            }
+            let (items, rest) = list(alloc, rest, room - 1)?;
+            Ok((Item::List(items), rest))
+        }
+        [b'd', rest @ ..] => {
+            if room == 0 {
+                return Err(Stop::At(Fault::TooDeep, bytes));
+            }
+            let (pairs, rest) = dictionary(alloc, rest, room - 1)?;
+            Ok((Item::Dict(pairs), rest))
+        }
+        _ => Err(Stop::At(Fault::BadByte, bytes)),
+    }
+}
+
+/// The items of a list that is open, up to its end.
+#[cycle(read)]
+fn list<'a>(alloc: Global, bytes: &'a [u8], room: usize) -> Result<(Vec<Item>, &'a [u8]), Stop<'a>>
+    ensures read { Gives (λ x. (items_view x.0.items, x.1.now)) result
+        (items_at (value_at room) (length bytes.now) bytes.now) }
+    ensures shorter { IfOk result (λ x. length x.1.now < length bytes.now) }
+{
+    let mut items = Vec::new(alloc);
+    let mut rest = bytes;
+    'items: loop {
+        match rest {
+            [] => return Err(Stop::At(Fault::Truncated, rest)),
+            [b'e', after @ ..] => return Ok((items, after)),
+            _ => {}
+        }
+        let (item, after) = value(alloc, rest, room)?;
+        items.push(item)?;
+        rest = after;
+    }
+}
+
+/// The pairs of a dictionary that is open, up to its end.
+#[cycle(read)]
+fn dictionary<'a>(
+    alloc: Global,
+    bytes: &'a [u8],
+    room: usize,
+) -> Result<(Vec<(Vec<u8>, Item)>, &'a [u8]), Stop<'a>>
+    ensures read { Gives (λ x. (pairs_view x.0.items, x.1.now)) result
+        (pairs_at (value_at room) (length bytes.now) None bytes.now) }
+    ensures shorter { IfOk result (λ x. length x.1.now < length bytes.now) }
+{
+    let mut pairs = Vec::new(alloc);
+    let mut last: Option<&[u8]> = None;
+    let mut rest = bytes;
+    'pairs: loop {
+        match rest {
+            [] => return Err(Stop::At(Fault::Truncated, rest)),
+            [b'e', after @ ..] => return Ok((pairs, after)),
+            [b'0'..=b'9', ..] => {}
+            _ => return Err(Stop::At(Fault::KeyNotBytes, rest)),
+        }
+        let (key, after) = string(rest)?;
+        if !follows(last, key) {
+            return Err(Stop::At(Fault::KeyOrder, rest));
+        }
+        let (item, after) = value(alloc, after, room)?;
+        pairs.push((Vec::from_slice(alloc, key)?, item))?;
+        last = Some(key);
+        rest = after;
+    }
+}
+
+/// Whether a key comes after the one before it.
+fn follows(last: Option<&[u8]>, key: &[u8]) -> bool
+    ensures { result ≡ follows_key (option_map (λ before. before.now) last.entry) key.now }
+{
+    match last {
+        Some(before) => before.cmp(key).is_lt(),
+        None => true,
+    }
+}
