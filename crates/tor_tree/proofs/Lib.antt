@@ -1,7 +1,11 @@
 pub mod Inside
 pub mod Lengths
+pub mod Mixing
 pub mod NameLemmas
 pub mod PathLists
 pub mod Permuted
+pub mod PropertyLemmas
 pub mod Rising
 pub mod SortedFiles
+pub mod TreeFaults
+pub mod WalkSteps
