@@ -41,7 +41,7 @@ entries_fault-tree tree shaped =
     rw (shaped, alike (λ entry. int_lt entry.properties.length (pos 0)) has_negative_length (λ _. refl) files, length-map files (entry_at []), lengths, alike (λ entry. entry.properties.link) (has_letter 108) (λ _. refl) files, alike (λ entry. nat_lt 0 (unsigned_abs entry.properties.length) && is_none entry.properties.root) lacks_root (λ file. ap (λ b. nat_lt 0 (length_of file.1) && b) (hash_missing (pieces_root file.1))) files)
     (rw length-map refl)
 
-clear : {E : Type 0} (test : Bool) (fault : E) (rest : Option E) → cond test (Some fault) rest ≡ None → (test ≡ false) × (rest ≡ None)
+pub clear : {E : Type 0} (test : Bool) (fault : E) (rest : Option E) → cond test (Some fault) rest ≡ None → (test ≡ false) × (rest ≡ None)
 clear true fault rest h = cc
 clear false fault rest h = (refl, h)
 

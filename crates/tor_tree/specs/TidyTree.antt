@@ -35,3 +35,7 @@ pub record IsFileTreeOf (files : List (List (List ℕ) × ℕ)) (roots : List (O
   pub keys : HasRisingKeys tree
   pub tidy : IsTidy tree
   pub described : files_of_tree tree ≡ plain_files files roots
+
+-- a file has a root where it is not empty
+abbrev pub HasItsRoot : List (List ℕ) × ℕ → Option (List ℕ) → Type 0
+HasItsRoot file root = IsSome root ↔ (0 < file.1)

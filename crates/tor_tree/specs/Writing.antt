@@ -1,5 +1,5 @@
 -- How a file tree is put together, for the clauses of private functions: each file goes before those already there.
-use Rattle.std.specs.Prelude.{ℕ, List, [], ◌∷◌, map, drop, Option, if◌then◌else◌}
+use Rattle.std.specs.Prelude.{◌≢◌, Bool, false, All, ℕ, List, [], ◌∷◌, map, drop, Option, if◌then◌else◌}
 use Rattle.std.specs.List.{zip}
 use Rattle.tor_bencode.specs.Data.{Data, integer, string, list, dictionary, Pairs, no_pairs, pair}
 use Rattle.tor_tree.specs.Path.{name_eq}
@@ -12,6 +12,9 @@ below deep file = (drop deep file.0, file.1)
 -- files with their properties
 abbrev pub with_properties : List (List (List ℕ) × ℕ) → List (Option (List ℕ)) → List (List (List ℕ) × Data)
 with_properties files roots = map (λ f. (f.0.0, properties_for f.0.1 f.1)) (zip files roots)
+
+abbrev pub files_below : ℕ → List (List (List ℕ) × ℕ) → List (Option (List ℕ)) → List (List (List ℕ) × Data)
+files_below deep files roots = map (below deep) (with_properties files roots)
 
 abbrev pub put_inside : (Pairs → Pairs) → Data → Data
 put_inside put (dictionary pairs) = dictionary (put pairs)
@@ -34,3 +37,15 @@ put_first (name ∷ names) properties pairs = put_under name (put_first names pr
 abbrev pub pairs_of_files : List (List (List ℕ) × Data) → Pairs
 pairs_of_files [] = no_pairs
 pairs_of_files (file ∷ files) = put_first file.0 file.1 (pairs_of_files files)
+
+-- the name that stands `deep` names down a path
+abbrev pub is_first : List ℕ → List (List ℕ) → Bool
+is_first name [] = false
+is_first name (n ∷ ns) = name_eq n name
+
+abbrev pub has_name_at : ℕ → List ℕ → List (List ℕ) → Bool
+has_name_at deep name path = is_first name (drop deep path)
+
+-- no name is empty
+abbrev pub AreNamed : List (List ℕ) → Type 0
+AreNamed names = All (λ name. name ≢ []) names

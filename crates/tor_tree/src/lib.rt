@@ -17,6 +17,7 @@ mod read_tree;
 #[cfg(test)]
 mod tests;
 mod tree_file;
+mod write_tree;
 
 pub use kinds::Kind;
 pub use lists::{FileList, ListError, MAX_LENGTH, MAX_TOTAL, ROUNDING};
@@ -24,3 +25,4 @@ pub use names::{Name, NameError};
 pub use paths::FilePath;
 pub use read_tree::from_item;
 pub use tree_file::{Hash, TreeFault, TreeFile};
+pub use write_tree::to_item;

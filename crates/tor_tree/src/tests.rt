@@ -1,7 +1,7 @@
 use super::*;
 use std::alloc::{AllocError, Global};
 use std::test::Fail;
-use tor_bencode::Item;
+use tor_bencode::{Item, Tree, encode};
 
 /// The path whose names are the parts of a text between its slashes.
 fn path(alloc: Global, text: &str) -> Result<Option<FilePath>, Fail> {
@@ -214,5 +214,33 @@ fn the_files_of_a_tree_are_told(rt: HostRuntime) -> Result<(), Fail> {
     let path_b = path(alloc, "b")?.ok_or("a path")?;
     assert!(rt; files[0].path == path_b);
     assert!(rt; !files[0].exec);
+    Ok(())
+}
+
+#[test]
+fn a_tree_has_its_files_again(rt: HostRuntime) -> Result<(), Fail> {
+    let alloc = rt.alloc();
+    let list = listed(alloc, &[("a-b", 0), ("a/c", 3)])?
+        .ok()
+        .ok_or("a list")?;
+    let roots = [Some([7; 32]), None];
+    if list.files().len() != 2 || list.files()[0].1 != 3 || list.files()[1].1 != 0 {
+        return Err("another list")?;
+    }
+    let tree = Tree::of(to_item(alloc, &list, &roots)?)
+        .ok()
+        .ok_or("a lawful tree")?;
+    let files = from_item(alloc, tree.item())?;
+    assert_eq!(rt; files.len(), 2);
+    assert!(rt; files[0].path == path(alloc, "a/c")?.ok_or("a path")?);
+    assert_eq!(rt; files[0].length, 3);
+    assert_eq!(rt; files[0].root, Some([7; 32]));
+    assert!(rt; files[1].path == path(alloc, "a-b")?.ok_or("a path")?);
+    assert!(rt; files[1].root.is_none());
+    let mut spelled = Vec::from_slice(alloc, b"d1:ad1:cd0:d6:lengthi3e11:pieces root32:")?;
+    spelled.extend_from_slice(&[7; 32])?;
+    spelled.extend_from_slice(b"eee3:a-bd0:d6:lengthi0eeee")?;
+    let written = encode(alloc, &tree)?;
+    assert_eq!(rt; written.as_slice(), spelled.as_slice());
     Ok(())
 }
