@@ -1,28 +1,36 @@
 -- The lengths of files, added one after another, and compared with the most that they may be.
-use Rattle.std.proofs.Common.{◌≡◌, ℕ, ◌+◌, ◌<◌, ◌^◌, Bool, true, false, ◌||◌, List, length, get_or, take, nat_lt, sum_by, refl, sym, ap, ◌∙◌, arith}
+use Rattle.std.proofs.Common.{◌≡◌, ℕ, ◌+◌, ◌<◌, ◌≤◌, ◌^◌, true, false, List, length, get_or, take, map, ◌⊎◌, inl, inr, false, nat_lt, sum_by, sym, ap, ◌∙◌, arith}
 use Rattle.std.specs.Int.{next_multiple_of}
 use Rattle.std.specs.List.{list_any}
-use Rattle.std.proofs.lemmas.Bool.{lt-ltb}
-use Rattle.std.proofs.lemmas.List.{get_or-map}
-use Rattle.std.proofs.lemmas.List.Folds.{list_any_at}
+use Rattle.std.proofs.lemmas.Bool.{lt-ltb, le-ltb, or_left, or_right, or_from}
+use Rattle.std.proofs.lemmas.List.{get_or-map, length-map}
+use Rattle.std.proofs.lemmas.List.Folds.{list_any_at, list_any_more}
 use Rattle.std.proofs.lemmas.List.Sums.{sum_by_more, sum_by-take-le}
-use Rattle.tor_tree.specs.FileList.{lengths_of, lengths_too_large}
+use Rattle.tor_tree.specs.FileList.{lengths_too_large}
 
 -- a length, rounded up
 abbrev pub rounded : ℕ → ℕ
 rounded n = next_multiple_of n (2 ^ 30)
 
-pub length_at : (files : List (List (List ℕ) × ℕ)) (i : ℕ) (file : List (List ℕ) × ℕ) → i < length files → file ≡ get_or files i file → get_or (lengths_of files) i 0 ≡ file.1
-length_at files i file lt is = get_or-map (λ f. f.1) files i file 0 lt ∙ sym (ap (λ f. f.1) is)
+module _ {X : Type 0} (key : X → ℕ) (xs : List X) (i : ℕ) (x : X) (within : i < length xs) (is : x ≡ get_or xs i x) where
+  length_at : get_or (map key xs) i 0 ≡ key x
+  length_at = get_or-map key xs i x 0 within ∙ sym (ap key is)
 
-pub too_large-one : (lengths : List ℕ) (i : ℕ) → i < length lengths → 2 ^ 50 < get_or lengths i 0 → lengths_too_large lengths ≡ true
-too_large-one lengths i lt over = rw (list_any_at (nat_lt (2 ^ 50)) lengths i 0 lt (lt-ltb _ _ over)) refl
+  in_map : i < length (map key xs)
+  in_map = rw length-map within
 
-pub too_large-sum : (lengths : List ℕ) (i : ℕ) → i < length lengths → 2 ^ 62 < sum_by rounded (take i lengths) + rounded (get_or lengths i 0) → lengths_too_large lengths ≡ true
-too_large-sum lengths i lt over =
-    let whole : 2 ^ 62 < sum_by rounded lengths = omega (arith, sum_by-take-le rounded lengths (i + 1), sum_by_more rounded lengths i 0 lt) in
-    rw (lt-ltb _ _ whole) (or_true (list_any (nat_lt (2 ^ 50)) lengths))
-  where
-    or_true : (b : Bool) → (b || true) ≡ true
-    or_true true = refl
-    or_true false = refl
+  -- where one length, or the sum with it, is too large, all are
+  pub too_large_here : (total : ℕ) → total ≡ sum_by rounded (take i (map key xs)) → (2 ^ 50 < key x) ⊎ (2 ^ 62 < total + rounded (key x)) → true ≡ lengths_too_large (map key xs)
+  too_large_here total e (inl over) =
+      sym (or_left _ _ (list_any_at (nat_lt (2 ^ 50)) (map key xs) i 0 in_map (rw length_at (lt-ltb (2 ^ 50) (key x) over))))
+  too_large_here total e (inr over) =
+      let more = sum_by_more rounded (map key xs) i 0 in_map in
+      let whole : 2 ^ 62 < sum_by rounded (map key xs) = omega (arith, sum_by-take-le rounded (map key xs) (i + 1), more, ap rounded length_at) in
+      sym (or_right (list_any (nat_lt (2 ^ 50)) (map key xs)) _ (lt-ltb _ _ whole))
+
+  pub sum_with : sum_by rounded (take (i + 1) (map key xs)) ≡ sum_by rounded (take i (map key xs)) + rounded (key x)
+  sum_with = sum_by_more rounded (map key xs) i 0 in_map ∙ ap (λ n. sum_by rounded (take i (map key xs)) + rounded n) length_at
+
+  pub none_over_with : key x ≤ 2 ^ 50 → list_any (nat_lt (2 ^ 50)) (take i (map key xs)) ≡ false → list_any (nat_lt (2 ^ 50)) (take (i + 1) (map key xs)) ≡ false
+  none_over_with small before =
+      list_any_more (nat_lt (2 ^ 50)) (map key xs) i 0 in_map ∙ or_from _ _ before (rw length_at (le-ltb (2 ^ 50) (key x) small))

@@ -1,7 +1,17 @@
+pub mod FileTrees
+pub mod FilesBelow
+pub mod Groups
 pub mod Inside
 pub mod Lengths
+pub mod MadeTree
+pub mod Mixing
 pub mod NameLemmas
 pub mod PathLists
 pub mod Permuted
+pub mod PropertyLemmas
 pub mod Rising
+pub mod RisingTree
 pub mod SortedFiles
+pub mod TreeFaults
+pub mod TreeOfFiles
+pub mod WalkSteps

@@ -1,17 +1,28 @@
 //! Names, paths, lists of files and the `file tree` of BitTorrent v2 (BEP 52).
 //!
-//! `names` has the names of files and folders, `paths` the lists of names that lead to a file.
+//! - [`Name`] (`names.rt`): the name of a file or a folder.
+//! - [`FilePath`] (`paths.rt`): the names that lead to a file, in the order of paths.
+//! - [`FileList`] (`lists.rt`): files in order, each once.
+//! - [`TreeFile`] (`tree_file.rt`): a file of a file tree.
 #![tactic(auto)]
 
+mod entries;
 mod kinds;
 mod lists;
+mod mixed;
 mod names;
 mod paths;
+mod properties;
+mod read_tree;
+#[cfg(test)]
+mod tests;
+mod tree_file;
+mod write_tree;
 
 pub use kinds::Kind;
 pub use lists::{FileList, ListError, MAX_LENGTH, MAX_TOTAL, ROUNDING};
 pub use names::{Name, NameError};
 pub use paths::FilePath;
-
-#[cfg(test)]
-mod tests;
+pub use read_tree::from_item;
+pub use tree_file::{Hash, TreeFault, TreeFile};
+pub use write_tree::to_item;

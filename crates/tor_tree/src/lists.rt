@@ -1,5 +1,6 @@
 //! Lists of files: each path once, in order, with the file's length.
-ghost use Rattle.std.specs.Prelude.{◌≡◌, ◌⊎◌, ℕ, Some, None, IfOk, IfErr, IfNone, IsTrue, length, not, ◌<◌};
+ghost use Rattle.std.specs.Prelude.{◌≡◌, ◌⊎◌, ℕ, Some, None, IfOk, IfErr, IfNone, IsTrue, length, not, MatchOption, ◌<◌, ◌≤◌, ◌+◌, ◌^◌};
+ghost use Rattle.std.specs.Int.{next_multiple_of};
 ghost use Rattle.std.specs.List.Sorted.{IsPermutation, IsSortedByKey};
 ghost use Rattle.tor_tree.specs.FileList.{list_fault, lengths_of, lengths_too_large, paths_of, paths_nest, paths_repeat, IsInPathOrder};
 ghost use Rattle.tor_tree.specs.Path.{path_cmp};
@@ -137,13 +138,24 @@ fn is_too_large(files: &[(FilePath, u64)]) -> bool
 {
     let mut total = 0;
     for (_, length) in files {
-        if *length > MAX_LENGTH {
-            return true;
-        }
-        total += length.next_multiple_of(ROUNDING);
-        if total > MAX_TOTAL {
-            return true;
+        match with_length(total, *length) {
+            Some(sum) => total = sum,
+            None => return true,
         }
     }
     false
+}
+
+/// The total with one more length, rounded up; None where that length or the new total is too large.
+pub fn with_length(total: u64, length: u64) -> Option<u64>
+    requires { total ≤ 2 ^ 62 }
+    ensures { MatchOption result
+        ((2 ^ 50 < length) ⊎ (2 ^ 62 < total + next_multiple_of length (2 ^ 30)))
+        (λ sum. (sum ≡ total + next_multiple_of length (2 ^ 30)) × (length ≤ 2 ^ 50) × (sum ≤ 2 ^ 62)) }
+{
+    if length > MAX_LENGTH {
+        return None;
+    }
+    let sum = total + length.next_multiple_of(ROUNDING);
+    (sum <= MAX_TOTAL).then_some(sum)
 }

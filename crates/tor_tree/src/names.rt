@@ -87,6 +87,14 @@ impl Name {
         Ok(Name { bytes })
     }
 
+    /// The same name again.
+    pub fn copy(&self, alloc: Global) -> Result<Name, AllocError>
+        ensures { IfOk result (λ name. name ≡ self.now) }
+    {
+        let bytes = Vec::from_slice(alloc, self.bytes.as_slice())?;
+        Ok(Name { bytes })
+    }
+
     /// The bytes, which are text.
     pub fn as_bytes(&self) -> &[u8]
         ensures value { result.now ≡ self.now }

@@ -1,6 +1,7 @@
 use super::*;
 use std::alloc::{AllocError, Global};
 use std::test::Fail;
+use tor_bencode::{Item, Tree, encode};
 
 /// The path whose names are the parts of a text between its slashes.
 fn path(alloc: Global, text: &str) -> Result<Option<FilePath>, Fail> {
@@ -123,5 +124,123 @@ fn the_first_fault_of_a_list_is_told(rt: HostRuntime) -> Result<(), Fail> {
     let memory = ListError::from(AllocError);
     let told = format!(in rt.alloc(); "{memory}")?;
     assert_eq!(rt; told.as_str(), "out of memory");
+    Ok(())
+}
+
+/// A dictionary of these pairs.
+fn dictionary(alloc: Global, pairs: Vec<(&str, Item)>) -> Result<Item, Fail> {
+    let mut made = Vec::new(alloc);
+    for (key, value) in pairs {
+        made.push((Vec::from_slice(alloc, key.as_bytes())?, value))?;
+    }
+    Ok(Item::Dict(made))
+}
+
+/// A dictionary of one pair.
+fn single(alloc: Global, key: &str, value: Item) -> Result<Item, Fail> {
+    dictionary(alloc, vec![in alloc; (key, value)]?)
+}
+
+/// A file of this length, in a folder `a`.
+fn file_of_length(alloc: Global, length: i64) -> Result<Item, Fail> {
+    single(
+        alloc,
+        "a",
+        single(alloc, "", single(alloc, "length", Item::Int(length))?)?,
+    )
+}
+
+/// An empty file with this `attr`, in a folder `a`.
+fn file_with_attr(alloc: Global, letters: &str) -> Result<Item, Fail> {
+    let attr = Item::Bytes(Vec::from_slice(alloc, letters.as_bytes())?);
+    let properties = dictionary(
+        alloc,
+        vec![in alloc; ("attr", attr), ("length", Item::Int(0))]?,
+    )?;
+    single(alloc, "a", single(alloc, "", properties)?)
+}
+
+#[test]
+fn the_first_fault_of_a_tree_is_told(rt: HostRuntime) -> Result<(), Fail> {
+    let alloc = rt.alloc();
+    let empty = Item::Dict(Vec::new(alloc));
+    let empty_folder = single(alloc, "a", Item::Dict(Vec::new(alloc)))?;
+    let parent = single(
+        alloc,
+        "..",
+        single(alloc, "", single(alloc, "length", Item::Int(0))?)?,
+    )?;
+    let no_folder = single(alloc, "", single(alloc, "length", Item::Int(0))?)?;
+    let trees = vec![in alloc;
+        (empty, "K3 Empty"),
+        (empty_folder, "K3 Empty"),
+        (parent, "K1 Shape"),
+        (Item::Int(1), "K1 Shape"),
+        (file_of_length(alloc, -1)?, "K2 Length"),
+        (file_of_length(alloc, 1125899906842625)?, "K4 TooLarge"),
+        (file_with_attr(alloc, "l")?, "K5 Symlink"),
+        (no_folder, "K6 Mixed"),
+        (file_of_length(alloc, 1)?, "K7 Root"),
+    ]?;
+    for (tree, want) in trees {
+        let fault = from_item(alloc, &tree).err().ok_or("a refusal")?;
+        let told = format!(in alloc; "{fault}")?;
+        assert_eq!(rt; told.as_str(), want);
+    }
+    let memory = TreeFault::from(AllocError);
+    let told = format!(in alloc; "{memory}")?;
+    assert_eq!(rt; told.as_str(), "out of memory");
+    Ok(())
+}
+
+#[test]
+fn the_files_of_a_tree_are_told(rt: HostRuntime) -> Result<(), Fail> {
+    let alloc = rt.alloc();
+    let files = from_item(alloc, &file_with_attr(alloc, "hx")?)?;
+    assert_eq!(rt; files.len(), 1);
+    let a = path(alloc, "a")?.ok_or("a path")?;
+    assert!(rt; files[0].path == a);
+    assert_eq!(rt; files[0].length, 0);
+    assert!(rt; files[0].root.is_none());
+    assert!(rt; files[0].exec);
+    assert!(rt; files[0].hidden);
+    let b = single(alloc, "", single(alloc, "length", Item::Int(0))?)?;
+    let tree = dictionary(
+        alloc,
+        vec![in alloc; ("a", Item::Dict(Vec::new(alloc))), ("b", b)]?,
+    )?;
+    let files = from_item(alloc, &tree)?;
+    assert_eq!(rt; files.len(), 1);
+    let path_b = path(alloc, "b")?.ok_or("a path")?;
+    assert!(rt; files[0].path == path_b);
+    assert!(rt; !files[0].exec);
+    Ok(())
+}
+
+#[test]
+fn a_tree_has_its_files_again(rt: HostRuntime) -> Result<(), Fail> {
+    let alloc = rt.alloc();
+    let list = listed(alloc, &[("a-b", 0), ("a/c", 3)])?
+        .ok()
+        .ok_or("a list")?;
+    let roots = [Some([7; 32]), None];
+    if list.files().len() != 2 || list.files()[0].1 != 3 || list.files()[1].1 != 0 {
+        return Err("another list")?;
+    }
+    let tree = Tree::of(to_item(alloc, &list, &roots)?)
+        .ok()
+        .ok_or("a lawful tree")?;
+    let files = from_item(alloc, tree.item())?;
+    assert_eq!(rt; files.len(), 2);
+    assert!(rt; files[0].path == path(alloc, "a/c")?.ok_or("a path")?);
+    assert_eq!(rt; files[0].length, 3);
+    assert_eq!(rt; files[0].root, Some([7; 32]));
+    assert!(rt; files[1].path == path(alloc, "a-b")?.ok_or("a path")?);
+    assert!(rt; files[1].root.is_none());
+    let mut spelled = Vec::from_slice(alloc, b"d1:ad1:cd0:d6:lengthi3e11:pieces root32:")?;
+    spelled.extend_from_slice(&[7; 32])?;
+    spelled.extend_from_slice(b"eee3:a-bd0:d6:lengthi0eeee")?;
+    let written = encode(alloc, &tree)?;
+    assert_eq!(rt; written.as_slice(), spelled.as_slice());
     Ok(())
 }

@@ -1,0 +1,64 @@
+-- The files of a list, with their roots, are what their tree describes.
+use Rattle.std.proofs.Common.{◌≡◌, ◌==◌, ℕ, suc, ◌<◌, ◌≤◌, ◌^◌, Bool, true, false, cond, List, [], ◌∷◌, length, map, nat_lt, Option, None, Some, refl, ap, arith}
+use Rattle.std.specs.List.{list_any, All, AllByRecursion, AllZip}
+use Rattle.std.proofs.lemmas.Bool.{or_parts, ltb-false, ne_eqb}
+use Rattle.std.proofs.lemmas.List.Elements.{All-from_recursion, recursion_from_All}
+use Rattle.tor_tree.specs.FileList.{lengths_of, lengths_too_large, list_fault, paths_of, paths_nest, paths_repeat}
+use Rattle.tor_tree.specs.FileTree.{file_of}
+use Rattle.tor_tree.specs.Properties.{properties_for}
+use Rattle.tor_tree.specs.TidyTree.{HasItsRoot, plain_files}
+use Rattle.tor_tree.specs.declared.tree_file.TreeFile.{TreeFile}
+use Rattle.tor_tree.specs.Writing.{AreNamed, files_below}
+use Rattle.tor_tree.proofs.MadeTree.{AreReady}
+use Rattle.tor_tree.proofs.TreeFaults.{clear}
+
+none_over : (files : List (List (List ℕ) × ℕ)) → list_any (nat_lt (2 ^ 50)) (lengths_of files) ≡ false → AllByRecursion (λ file. file.1 ≤ 2 ^ 50) files
+none_over [] h = tt
+none_over (file ∷ files) h =
+    let parts = or_parts (nat_lt (2 ^ 50) file.1) (list_any (nat_lt (2 ^ 50)) (lengths_of files)) h in
+    (ltb-false (2 ^ 50) file.1 parts.0, none_over files parts.1)
+
+-- no file of a list is too long
+pub small_files : (files : List (List (List ℕ) × ℕ)) → list_fault files ≡ None → All (λ file. file.1 ≤ 2 ^ 50) files
+small_files files h =
+    let a = clear (length files == 0) _ _ h in
+    let b = clear (paths_repeat (paths_of files)) _ _ a.1 in
+    let c = clear (paths_nest (paths_of files)) _ _ b.1 in
+    let d = clear (lengths_too_large (lengths_of files)) _ _ c.1 in
+    All-from_recursion _ files (none_over files (or_parts (list_any (nat_lt (2 ^ 50)) (lengths_of files)) _ d.0).0)
+
+pub one_root_each : (files : List (List (List ℕ) × ℕ)) (roots : List (Option (List ℕ))) → AllZip HasItsRoot files roots → length roots ≡ length files
+one_root_each [] [] h = refl
+one_root_each [] (root ∷ roots) h = absurd h
+one_root_each (file ∷ files) [] h = absurd h
+one_root_each (file ∷ files) (root ∷ roots) h = ap suc (one_root_each files roots h.1)
+
+pub ready_files : (files : List (List (List ℕ) × ℕ)) (roots : List (Option (List ℕ))) → AllZip HasItsRoot files roots → AllByRecursion (λ file. AreNamed file.0) files → AreReady (files_below 0 files roots)
+ready_files [] roots h named = tt
+ready_files (file ∷ files) [] h named = tt
+ready_files (file ∷ files) (root ∷ roots) h named =
+    ((recursion_from_All _ file.0 named.0, (file.1, root, refl, h.0)), ready_files files roots h.1 named.1)
+
+abbrev plain : List (List ℕ) → ℕ → Option (List ℕ) → TreeFile
+plain path n root = record { path = path; length = n; root = root; exec = false; hidden = false }
+
+plain_file : (path : List (List ℕ)) (n : ℕ) (root : Option (List ℕ)) → HasItsRoot (path, n) root → file_of (path, properties_for n root) ≡ plain path n root
+plain_file path n None h = no_root (n == 0)
+  where
+    no_root : (b : Bool) → plain path n (cond b None None) ≡ plain path n None
+    no_root true = refl
+    no_root false = refl
+plain_file path n (Some root) h =
+    let positive : 0 < n = h.0 refl in
+    let some : (n == 0) ≡ false = ne_eqb n 0 (λ e. absurd (omega arith)) in
+    rw some refl
+
+pub plain_described : (files : List (List (List ℕ) × ℕ)) (roots : List (Option (List ℕ))) → AllZip HasItsRoot files roots → map file_of (files_below 0 files roots) ≡ plain_files files roots
+plain_described [] roots h = refl
+plain_described (file ∷ files) [] h = refl
+plain_described (file ∷ files) (root ∷ roots) h = rw (plain_file file.0 file.1 root h.0, plain_described files roots h.1) refl
+
+pub paths_below : (files : List (List (List ℕ) × ℕ)) (roots : List (Option (List ℕ))) → length roots ≡ length files → map (λ file. file.0) (files_below 0 files roots) ≡ paths_of files
+paths_below [] roots e = refl
+paths_below (file ∷ files) [] e = absurd (omega arith)
+paths_below (file ∷ files) (root ∷ roots) e = ap (λ paths. file.0 ∷ paths) (paths_below files roots (omega arith))

@@ -1,0 +1,9 @@
+use Rattle.std.proofs.Common.{◌≡◌, drop}
+use Rattle.tor_bencode.specs.View.{pairs_view}
+use Rattle.tor_tree.specs.FileTree.{has_empty_key}
+use Rattle.tor_tree.proofs.mixed.has_empty_key.Given as goal
+
+-- the empty key is among the pairs that are left, if it is anywhere
+abbrev pub invariant-loop-key : goal.invariant-loop-key
+invariant-loop-key l =
+    has_empty_key (pairs_view (drop l.key-index l.pairs)) ≡ has_empty_key (pairs_view l.pairs)

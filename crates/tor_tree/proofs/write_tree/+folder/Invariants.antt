@@ -1,0 +1,21 @@
+use Rattle.std.proofs.Common.{◌≡◌, ◌≤◌, ◌+◌, ◌-◌, ◌*◌, ◌^◌, All, length, take, drop}
+use Rattle.tor_bencode.specs.View.{pairs_view}
+use Rattle.tor_tree.specs.Writing.{AreNamed, files_below, pairs_of_files}
+use Rattle.tor_tree.proofs.FilesBelow.{followed_by}
+use Rattle.tor_tree.proofs.write_tree.+folder.Given as goal
+
+abbrev pub decreases-folder : goal.decreases-folder
+decreases-folder l = 2 * (2 ^ 64 - l.depth) + 1
+
+abbrev pub decreases-next_pair : goal.decreases-next_pair
+decreases-next_pair l = 2 * (2 ^ 64 - l.depth)
+
+abbrev pub decreases-folder-loop-start : goal.decreases-folder-loop-start
+decreases-folder-loop-start l = length l.files - l.start
+
+-- the pairs so far, followed by those of the files that are left, are those of all files
+abbrev pub invariant-folder-loop-start : goal.invariant-folder-loop-start
+invariant-folder-loop-start l =
+    (l.start ≤ length l.files)
+    × (followed_by (pairs_view l.pairs.items) (pairs_of_files (drop l.start (files_below l.depth l.files l.roots))) ≡ pairs_of_files (files_below l.depth l.files l.roots))
+    × All (λ file. AreNamed (drop l.depth file.0)) (take l.start l.files)

@@ -1,0 +1,19 @@
+use Rattle.std.proofs.lemmas.List.Elements.{recursion_from_All}
+use Rattle.tor_tree.proofs.FileTrees.{made_file_tree}
+use Rattle.tor_tree.proofs.TreeOfFiles.{small_files, one_root_each}
+use Rattle.tor_tree.proofs.WalkSteps.{view_dictionary}
+use Rattle.tor_tree.proofs.write_tree.to_item.Goals as goal
+
+pub folder-requires-clause-small : goal.folder-requires-clause-small
+folder-requires-clause-small c =
+    rw c.files.ensures.value (small_files c.args.list.now c.files.ensures.lawful.faultless)
+
+pub folder-requires-clause-one_each : goal.folder-requires-clause-one_each
+folder-requires-clause-one_each c =
+    rw c.files.ensures.value (one_root_each c.args.list.now c.args.roots.now c.requires)
+
+pub returns : goal.returns
+returns c =
+    let made = rw c.files.ensures.value at c.in_ok-folder.ensures.made in
+    let named = rw c.files.ensures.value at c.in_ok-folder.ensures.named in
+    rw (view_dictionary c.in_ok-folder.field-0, made) (made_file_tree c.args.list.now c.args.roots.now c.requires c.files.ensures.lawful.in_order (recursion_from_All _ c.args.list.now named))

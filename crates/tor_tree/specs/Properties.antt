@@ -1,0 +1,52 @@
+-- The properties of a file in a file tree (BEP 52, "file tree"), and its attributes (BEP 47, "attr").
+use Rattle.std.specs.Prelude.{ℕ, ℤ, pos, unsigned_abs, int_lt, ◌==◌, Bool, false, ◌&&◌, ◌||◌, List, [], length, Option, None, Some, is_some, is_none, unwrap_or, codes}
+use Rattle.tor_bencode.specs.Data.{Data, integer, string, list, dictionary, no_pairs, pair}
+use Rattle.tor_bencode.specs.Find.{value_of}
+use Rattle.tor_tree.specs.Name.{has_byte}
+
+abbrev pub as_integer : Option Data → Option ℤ
+as_integer None = None
+as_integer (Some (integer n)) = Some n
+as_integer (Some (string bytes)) = None
+as_integer (Some (list items)) = None
+as_integer (Some (dictionary pairs)) = None
+
+abbrev pub as_string : Option Data → Option (List ℕ)
+as_string None = None
+as_string (Some (integer n)) = None
+as_string (Some (string bytes)) = Some bytes
+as_string (Some (list items)) = None
+as_string (Some (dictionary pairs)) = None
+
+-- a dictionary with an integer `length`, whose `attr`, if it is there, is a byte string
+abbrev pub are_properties : Data → Bool
+are_properties file =
+    is_some (as_integer (value_of (codes "length") file))
+    && (is_none (value_of (codes "attr") file) || is_some (as_string (value_of (codes "attr") file)))
+
+abbrev pub signed_length : Data → ℤ
+signed_length file = unwrap_or (as_integer (value_of (codes "length") file)) (pos 0)
+
+abbrev pub has_negative_length : Data → Bool
+has_negative_length file = int_lt (signed_length file) (pos 0)
+
+-- how many bytes the file has
+abbrev pub length_of : Data → ℕ
+length_of file = unsigned_abs (signed_length file)
+
+abbrev pub pieces_root : Data → Option (List ℕ)
+pieces_root file = as_string (value_of (codes "pieces root") file)
+
+abbrev pub is_hash : Option (List ℕ) → Bool
+is_hash None = false
+is_hash (Some bytes) = length bytes == 32
+
+-- the letter is one of `attr`
+abbrev pub has_letter : ℕ → Data → Bool
+has_letter letter file = has_byte letter (unwrap_or (as_string (value_of (codes "attr") file)) [])
+
+-- the properties that say no more than a length, and a pieces root if there is one
+abbrev pub properties_for : ℕ → Option (List ℕ) → Data
+properties_for n None = dictionary (pair (codes "length") (integer (pos n)) no_pairs)
+properties_for n (Some root) =
+    dictionary (pair (codes "length") (integer (pos n)) (pair (codes "pieces root") (string root) no_pairs))

@@ -1,0 +1,41 @@
+-- The one tidy tree of a list of files and their roots (BEP 52, "file tree").
+use Rattle.std.specs.Prelude.{◌≡◌, ◌≢◌, ℕ, ◌<◌, ◌↔◌, false, List, [], ◌∷◌, map, Option, IsSome}
+use Rattle.std.specs.List.{zip}
+use Rattle.tor_bencode.specs.Data.{Data, integer, string, list, dictionary, Pairs, no_pairs, pair}
+use Rattle.tor_bencode.specs.Lawful.{HasRisingKeys}
+use Rattle.tor_tree.specs.FileTree.{files_of_tree}
+use Rattle.tor_tree.specs.Properties.{properties_for}
+use Rattle.tor_tree.specs.declared.tree_file.TreeFile.{TreeFile}
+
+-- no keys but `length` and `pieces root`, the second for a file that is not empty alone
+abbrev pub IsTidyFile : Data → Type 0
+IsTidyFile properties =
+    (n : ℕ) × (root : Option (List ℕ)) × (properties ≡ properties_for n root) × (IsSome root ↔ (0 < n))
+
+-- no folder below is empty
+abbrev mutual
+  pub IsTidy : Data → Type 0
+  IsTidy (integer n) = ⊥
+  IsTidy (string bytes) = ⊥
+  IsTidy (list items) = ⊥
+  IsTidy (dictionary pairs) = AreTidy pairs
+
+  pub AreTidy : Pairs → Type 0
+  AreTidy no_pairs = Unit {0}
+  AreTidy (pair [] properties pairs) = IsTidyFile properties × AreTidy pairs
+  AreTidy (pair (c ∷ cs) folder pairs) = (folder ≢ dictionary no_pairs) × IsTidy folder × AreTidy pairs
+
+-- files with their roots and no letter
+abbrev pub plain_files : List (List (List ℕ) × ℕ) → List (Option (List ℕ)) → List TreeFile
+plain_files files roots =
+    map (λ f. record { path = f.0.0; length = f.0.1; root = f.1; exec = false; hidden = false }) (zip files roots)
+
+-- the tree has rising keys and is tidy, and it describes the files with their roots
+pub record IsFileTreeOf (files : List (List (List ℕ) × ℕ)) (roots : List (Option (List ℕ))) (tree : Data) : Type 0 where
+  pub keys : HasRisingKeys tree
+  pub tidy : IsTidy tree
+  pub described : files_of_tree tree ≡ plain_files files roots
+
+-- a file has a root where it is not empty
+abbrev pub HasItsRoot : List (List ℕ) × ℕ → Option (List ℕ) → Type 0
+HasItsRoot file root = IsSome root ↔ (0 < file.1)

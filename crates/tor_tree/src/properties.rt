@@ -1,0 +1,68 @@
+//! A file's properties in a file tree (BEP 52, "file tree").
+ghost use Rattle.std.specs.Prelude.{◌≡◌, codes, FitsSigned, IfSome};
+ghost use Rattle.std.specs.Int.{w64};
+ghost use Rattle.std.specs.Option.{option_copied};
+ghost use Rattle.tor_bencode.specs.Find.{value_of};
+ghost use Rattle.tor_bencode.specs.View.{view};
+ghost use Rattle.tor_tree.specs.Properties.{as_integer};
+ghost use Rattle.tor_tree.specs.Reading.{facts_of, letters_of, hash_of};
+
+use crate::tree_file::Hash;
+use tor_bencode::{Item, find};
+
+/// What the properties of a file say, before they are judged.
+#[derive(Drop)]
+pub struct Properties {
+    pub length: i64,
+    pub root: Option<Hash>,
+    pub link: bool,
+    pub exec: bool,
+    pub hidden: bool,
+}
+
+/// None where the item is no dictionary with an integer `length`, or has an `attr` that is no byte string.
+pub fn read_properties(item: &Item) -> Option<Properties>
+    ensures { result ≡ facts_of (view item.now) }
+{
+    let length = length_of(item)?;
+    let letters = letters_of(item)?;
+    Some(Properties {
+        length,
+        root: hash_of(item),
+        link: letters.contains(&b'l'),
+        exec: letters.contains(&b'x'),
+        hidden: letters.contains(&b'h'),
+    })
+}
+
+/// The `length`, where it is an integer.
+fn length_of(item: &Item) -> Option<i64>
+    ensures value { result ≡ as_integer (value_of (codes "length") (view item.now)) }
+    ensures fits { IfSome result (FitsSigned w64) }
+{
+    match find(item, b"length")? {
+        Item::Int(length) => Some(*length),
+        _ => None,
+    }
+}
+
+/// The letters of `attr`, none of them where it is absent; None where it is no byte string.
+fn letters_of(item: &Item) -> Option<&[u8]>
+    ensures { option_copied result ≡ letters_of (view item.now) }
+{
+    match find(item, b"attr") {
+        None => Some(b""),
+        Some(Item::Bytes(letters)) => Some(letters.as_slice()),
+        Some(_) => None,
+    }
+}
+
+/// The `pieces root`, where it is a byte string of 32 bytes.
+fn hash_of(item: &Item) -> Option<Hash>
+    ensures { result ≡ hash_of (view item.now) }
+{
+    let Item::Bytes(root) = find(item, b"pieces root")? else {
+        return None;
+    };
+    Hash::try_from(root.as_slice()).ok()
+}

@@ -1,0 +1,127 @@
+//! Writing a file tree (BEP 52, "file tree").
+ghost use Rattle.std.specs.Prelude.{◌≡◌, ◌≤◌, ◌<◌, ◌+◌, ◌^◌, All, IfOk, OnOk, length, take, drop, true, false, List, ℕ, slice_index_or};
+ghost use Rattle.std.specs.List.{AllZip};
+ghost use Rattle.tor_bencode.specs.Data.{pair};
+ghost use Rattle.tor_bencode.specs.View.{view, pairs_view};
+ghost use Rattle.tor_tree.specs.Properties.{properties_for};
+ghost use Rattle.tor_tree.specs.TidyTree.{IsFileTreeOf, HasItsRoot};
+ghost use Rattle.tor_tree.specs.Writing.{AreNamed, files_below, has_name_at, pairs_of_files};
+
+use crate::lists::FileList;
+use crate::names::Name;
+use crate::paths::FilePath;
+use crate::tree_file::Hash;
+use std::alloc::{AllocError, Global};
+use tor_bencode::Item;
+
+/// The tidy file tree of the files: no empty folder, and no keys but those that are needed.
+/// `roots` has the pieces root of each file, and none for an empty one.
+pub fn to_item(alloc: Global, list: &FileList, roots: &[Option<Hash>]) -> Result<Item, AllocError>
+    requires { AllZip HasItsRoot list.now roots.now }
+    ensures { IfOk result (λ tree. IsFileTreeOf list.now roots.now (view tree)) }
+{
+    Ok(Item::Dict(folder(alloc, list.files(), roots, 0)?))
+}
+
+/// The pairs of the folder that is `depth` names down the paths of all the files.
+#[cycle(folder)]
+fn folder(
+    alloc: Global,
+    files: &[(FilePath, u64)],
+    roots: &[Option<Hash>],
+    depth: usize,
+) -> Result<Vec<(Vec<u8>, Item)>, AllocError>
+    requires deep { All (λ file. depth ≤ length file.0) files.now }
+    requires small { All (λ file. file.1 ≤ 2 ^ 50) files.now }
+    requires one_each { length roots.now ≡ length files.now }
+    ensures made { IfOk result (λ pairs. pairs_view pairs.items ≡ pairs_of_files (files_below depth files.now roots.now)) }
+    ensures named { OnOk result (All (λ file. AreNamed (drop depth file.0)) files.now) }
+{
+    let mut pairs = Vec::new(alloc);
+    let mut start = 0;
+    while start < files.len() {
+        let next = next_pair(alloc, &files[start..], &roots[start..], depth)?;
+        start += next.count;
+        pairs.push((next.key, next.value))?;
+    }
+    Ok(pairs)
+}
+
+/// The first pair of a folder, and how many of its files are in it.
+#[derive(Drop)]
+struct NextPair {
+    key: Vec<u8>,
+    value: Item,
+    count: usize,
+}
+
+#[cycle(folder)]
+fn next_pair(
+    alloc: Global,
+    files: &[(FilePath, u64)],
+    roots: &[Option<Hash>],
+    depth: usize,
+) -> Result<NextPair, AllocError>
+    requires some { 0 < length files.now }
+    requires deep { All (λ file. depth ≤ length file.0) files.now }
+    requires small { All (λ file. file.1 ≤ 2 ^ 50) files.now }
+    requires one_each { length roots.now ≡ length files.now }
+    ensures count { IfOk result (λ next. (0 < next.count) × (next.count ≤ length files.now)) }
+    ensures made { IfOk result (λ next. pairs_of_files (files_below depth files.now roots.now)
+        ≡ pair next.key.items (view next.value) (pairs_of_files (drop next.count (files_below depth files.now roots.now)))) }
+    ensures named { IfOk result (λ next. All (λ file. AreNamed (drop depth file.0)) (take next.count files.now)) }
+{
+    let (path, length) = &files[0];
+    if path.names().len() == depth {
+        return Ok(NextPair {
+            key: Vec::new(alloc),
+            value: properties(alloc, *length, &roots[0])?,
+            count: 1,
+        });
+    }
+    let name = &path.names()[depth];
+    let count = run_len(files, depth, name);
+    let inside = folder(alloc, &files[..count], &roots[..count], depth + 1)?;
+    Ok(NextPair {
+        key: Vec::from_slice(alloc, name.as_bytes())?,
+        value: Item::Dict(inside),
+        count,
+    })
+}
+
+/// How many of the first files have this name `depth` names down.
+fn run_len(files: &[(FilePath, u64)], depth: usize, name: &Name) -> usize
+    ensures within { result ≤ length files.now }
+    ensures same { All (λ file. has_name_at depth name.now file.0 ≡ true) (take result files.now) }
+    ensures ends { (d : List (List ℕ) × ℕ) → result < length files.now → has_name_at depth name.now (slice_index_or files.now result d).0 ≡ false }
+{
+    for (i, (path, _)) in files.iter().enumerate() {
+        if !has_name_at(path, depth, name) {
+            return i;
+        }
+    }
+    files.len()
+}
+
+fn has_name_at(path: &FilePath, depth: usize, name: &Name) -> bool
+    ensures { result ≡ has_name_at depth name.now path.now }
+{
+    match path.names().get(depth) {
+        Some(found) => found == name,
+        None => false,
+    }
+}
+
+/// The properties of a file: its length, and its pieces root if it has one.
+fn properties(alloc: Global, length: u64, root: &Option<Hash>) -> Result<Item, AllocError>
+    requires { length ≤ 2 ^ 50 }
+    ensures { IfOk result (λ made. view made ≡ properties_for length root.now) }
+{
+    let mut pairs = Vec::new(alloc);
+    pairs.push((Vec::from_slice(alloc, b"length")?, Item::Int(length as i64)))?;
+    if let Some(root) = root {
+        let root = Vec::from_slice(alloc, root)?;
+        pairs.push((Vec::from_slice(alloc, b"pieces root")?, Item::Bytes(root)))?;
+    }
+    Ok(Item::Dict(pairs))
+}
