@@ -1,0 +1,66 @@
+//! Hashes standard input, for `bench/feed` to time: `feed CUT` by the streamed tree, in pieces of 256 KiB, and
+//! `plain CUT` by one SHA-256 over all, each in reads of CUT bytes.
+#![tactic(auto)]
+
+ghost use Rattle.std.specs.Prelude.{◌≡◌, IfOk, vec_len};
+
+use sha2::{Digest, Sha256};
+use std::alloc::{AllocError, Global};
+use std::env;
+use std::io::{Error, ErrorKind, Read, Result};
+use tor_merkle::Feed;
+
+const PIECE_LENGTH: u64 = 262_144;
+
+const MAX_LENGTH: u64 = 1 << 50;
+
+const MAX_CUT: usize = 1 << 24;
+
+fn main(rt: HostRuntime) -> Result<()> {
+    let alloc = rt.alloc();
+    let words: Vec<String> = env::args(&rt)?.collect(alloc)?;
+    let [_, mode, cut] = words.as_slice() else {
+        return Err(Error::from(ErrorKind::InvalidInput));
+    };
+    let cut = cut.parse::<usize>().unwrap_or(MAX_CUT).min(MAX_CUT);
+    let mut buffer = zeros(alloc, cut)?;
+    if mode.as_str() == "plain" {
+        plain(&mut rt.stdin(), &mut buffer)
+    } else {
+        streamed(alloc, &mut rt.stdin(), &mut buffer)
+    }
+}
+
+fn zeros(alloc: Global, length: usize) -> std::result::Result<Vec<u8>, AllocError>
+    ensures { IfOk result (λ bytes. vec_len bytes ≡ length) }
+{
+    vec![in alloc; 0; length]
+}
+
+fn plain<R: Read>(reader: &mut R, buffer: &mut [u8]) -> Result<()> {
+    let mut hasher = Sha256::new();
+    for _ in 0..u64::MAX {
+        let count = reader.read(buffer)?;
+        if count == 0 {
+            break;
+        }
+        hasher.update(&buffer[..count]);
+    }
+    let _digest: [u8; 32] = hasher.finalize();
+    Ok(())
+}
+
+fn streamed<R: Read>(alloc: Global, reader: &mut R, buffer: &mut [u8]) -> Result<()> {
+    let mut feed = Feed::new(alloc, PIECE_LENGTH);
+    let mut room = MAX_LENGTH;
+    'reads: for _ in 0..u64::MAX {
+        let count = reader.read(buffer)?;
+        if count == 0 || count as u64 > room {
+            break;
+        }
+        feed.feed(&buffer[..count])?;
+        room -= count as u64;
+    }
+    let _sums = feed.finish();
+    Ok(())
+}

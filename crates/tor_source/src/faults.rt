@@ -1,0 +1,62 @@
+ghost use Rattle.std.specs.Prelude.{◌≡◌};
+ghost use Rattle.tor_source.specs.declared.faults.ScanFault.TheVariants.{Memory};
+
+use std::alloc::{AllocError, AllocFailed};
+use std::io;
+use thiserror::Error;
+use tor_tree::NameError;
+
+/// Why the files below a folder are no list: the first fault that was met.
+#[derive(Debug, Drop, Error)]
+pub enum ScanFault {
+    #[error("F1 NotUtf8")]
+    NotUtf8,
+    /// Neither a file nor a folder; a symbolic link is not followed.
+    #[error("F2 NotRegular")]
+    NotRegular,
+    /// A file's path has more than 64 names.
+    #[error("F3 TooDeep")]
+    TooDeep,
+    /// The system refused to tell; or what was to be scanned is no folder.
+    #[error("F4 System")]
+    System,
+    /// Memory was refused.
+    #[error("out of memory")]
+    Memory,
+}
+
+impl From<AllocError> for ScanFault {
+    ghost from_gives = { λ _ e. e ≡ Memory };
+
+    fn from(_error: AllocError) -> ScanFault {
+        ScanFault::Memory
+    }
+}
+
+impl<T: Drop> From<AllocFailed<T>> for ScanFault {
+    ghost from_gives = { λ _ e. e ≡ Memory };
+
+    fn from(_failed: AllocFailed<T>) -> ScanFault {
+        ScanFault::Memory
+    }
+}
+
+impl From<io::Error> for ScanFault {
+    fn from(error: io::Error) -> ScanFault {
+        match error.kind() {
+            io::ErrorKind::OutOfMemory => ScanFault::Memory,
+            _ => ScanFault::System,
+        }
+    }
+}
+
+// A name that the system lists is not empty, and has no `/` and no zero byte.
+impl From<NameError> for ScanFault {
+    fn from(error: NameError) -> ScanFault {
+        match error {
+            NameError::NotUtf8 => ScanFault::NotUtf8,
+            NameError::Memory => ScanFault::Memory,
+            _ => ScanFault::System,
+        }
+    }
+}

@@ -1,0 +1,16 @@
+//! Where the bytes of files come from.
+//!
+//! - [`FolderSource`] (`folder.rt`): the files below a folder, or a file by itself.
+//! - `walk.rt` finds the files below a folder, `listing.rt` the names in one.
+//! - [`ScanFault`] (`faults.rt`): why a folder's files are no list.
+#![tactic(auto)]
+
+mod faults;
+mod folder;
+mod listing;
+#[cfg(test)]
+mod tests;
+mod walk;
+
+pub use faults::ScanFault;
+pub use folder::FolderSource;
