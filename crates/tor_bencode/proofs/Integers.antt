@@ -1,6 +1,6 @@
 -- An integer that is read is the one that is spelled, and what is refused has a fault.
-use Rattle.std.proofs.Common.{◌≡◌, ◌≢◌, ℕ, zero, suc, ◌+◌, ◌-◌, ◌^◌, ◌≤◌, ◌<◌, ℤ, pos, negsuc, neg_ℤ, List, [], ◌∷◌, ◌++◌, length, take, drop, Bool, true, false, not, cond, ◌==◌, ◌&&◌, ◌||◌, Option, Some, None, Result, Ok, Err, refl, sym, ap, ap₂, ◌∙◌, subst, append_assoc, arith, rules, inl, inr, ◌⊎◌}
-use Rattle.std.specs.Prelude.{codes, nat_le, nat_lt, FitsSigned}
+use Rattle.std.proofs.Common.{◌≡◌, ◌≢◌, ℕ, zero, suc, ◌^◌, ◌≤◌, ◌<◌, ℤ, pos, negsuc, List, [], ◌∷◌, ◌++◌, take, drop, Bool, true, false, not, cond, ◌==◌, ◌&&◌, ◌||◌, Option, Some, None, Ok, Err, refl, sym, ap, ap₂, ◌∙◌, subst, append_assoc, arith, rules, inl, inr, ◌⊎◌}
+use Rattle.std.specs.Prelude.{nat_le, nat_lt, FitsSigned}
 use Rattle.std.specs.Char.{is_ascii_digit}
 use Rattle.std.specs.Int.{w64}
 use Rattle.std.specs.List.{list_all, prefix_len}
@@ -14,7 +14,7 @@ use Rattle.tor_bencode.specs.declared.fault.Fault.TheVariants.{Truncated, BadByt
 use Rattle.tor_bencode.specs.Fault.{Runs, is_integer_byte, IsCutInteger, IsBadInteger, IsTooLarge}
 use Rattle.tor_bencode.specs.Reading.{Reading, number, is_shortest, is_positive, is_integer, integer_of, negative_of, positive_of, in_range, integer_after, integer_at}
 use Rattle.tor_bencode.specs.Spelling.{base_ten, signed_base_ten, spelling}
-use Rattle.tor_bencode.proofs.Numerals.{digit_range, not_zero, base_ten-number, number-base_ten, all_digits-base_ten, is_shortest-base_ten}
+use Rattle.tor_bencode.proofs.Numerals.{digit_range, base_ten-number, number-base_ten, all_digits-base_ten, is_shortest-base_ten}
 use Rattle.tor_bencode.proofs.Runs.{by_test, one_of_two, prefix_len-run, prefix_len-all, run_passes, run_stops, run_whole}
 
 or_true : (b : Bool) → (b || true) ≡ true

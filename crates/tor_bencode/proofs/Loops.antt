@@ -1,11 +1,11 @@
 -- Items and pairs read one after the other, as a loop does.
-use Rattle.std.proofs.Common.{◌≡◌, ℕ, zero, suc, ◌+◌, ◌-◌, ◌≤◌, ◌<◌, List, [], ◌∷◌, ◌++◌, length, get_or, Option, Some, None, Result, Ok, Err, Bool, true, false, cond, ◌==◌, refl, sym, ap, ap₂, take, drop, ◌∙◌, append_assoc, arith, inl, inr, ◌⊎◌, subst}
+use Rattle.std.proofs.Common.{◌≡◌, ℕ, zero, suc, ◌-◌, ◌≤◌, ◌<◌, List, [], ◌∷◌, ◌++◌, length, get_or, Option, Some, None, Result, Ok, Err, true, false, cond, ◌==◌, refl, sym, ap, ap₂, take, drop, ◌∙◌, arith, inl, inr, ◌⊎◌, subst}
 use Rattle.std.proofs.lemmas.Bool.Decides.{nat_tests}
 use Rattle.std.proofs.lemmas.List.{take_all}
-use Rattle.std.proofs.Common.{map, Vec, Global}
+use Rattle.std.proofs.Common.{Vec, Global}
 use Rattle.tor_bencode.specs.View.{view, items_view, pairs_view}
 use Rattle.tor_bencode.specs.declared.item.Item.{Item}
-use Rattle.tor_bencode.specs.declared.fault.Fault.TheVariants.{Truncated, KeyNotBytes, KeyOrder, TooDeep, BadByte}
+use Rattle.tor_bencode.specs.declared.fault.Fault.TheVariants.{Truncated, KeyOrder, TooDeep, BadByte}
 use Rattle.tor_bencode.specs.declared.stop.Stop.{Stop}
 use Rattle.tor_bencode.specs.declared.stop.Stop.TheVariants as stops
 use Rattle.tor_bencode.specs.Data.{Data, integer, string, list, dictionary, Items, no_items, item, Pairs, no_pairs, pair}

@@ -1,13 +1,11 @@
 -- What is spelled is read again, whatever follows it.
-use Rattle.std.proofs.Common.{◌≡◌, ◌≢◌, ℕ, zero, suc, ◌+◌, ◌-◌, ◌≤◌, ◌<◌, List, [], ◌∷◌, ◌++◌, length, get_or, take, drop, Bool, true, false, Option, Some, None, Result, Ok, Err, Less, refl, sym, ap, ap₂, ◌∙◌, subst, append_assoc, arith}
-use Rattle.std.specs.Char.{is_ascii_digit}
-use Rattle.std.specs.Cmp.Lexicographic.{slice_cmp}
-use Rattle.std.specs.Ordering.{nat_cmp, is_lt}
+use Rattle.std.proofs.Common.{◌≡◌, ℕ, ◌-◌, ◌≤◌, List, [], ◌∷◌, ◌++◌, length, take, drop, true, Option, Some, None, Ok, refl, sym, ap, ◌∙◌, append_assoc, arith}
+use Rattle.std.specs.Ordering.{is_lt}
 use Rattle.std.proofs.lemmas.List.{take_all, append-nil}
 use Rattle.tor_bencode.specs.Data.{Data, integer, string, list, dictionary, Items, no_items, item, Pairs, no_pairs, pair, keys_of}
 use Rattle.tor_bencode.specs.Lawful.{AreRising, IsLawfulWithin, ItemsAreLawfulWithin, PairsAreLawfulWithin}
-use Rattle.tor_bencode.specs.Reading.{◌>>=◌, Reading, follows, string_at, integer_at, items_at, pairs_at, value_at, whole, last_of}
-use Rattle.tor_bencode.specs.Spelling.{base_ten, signed_base_ten, spelling, string_spelling, items_spelling, pairs_spelling}
+use Rattle.tor_bencode.specs.Reading.{◌>>=◌, Reading, follows, integer_at, items_at, pairs_at, value_at, whole, last_of}
+use Rattle.tor_bencode.specs.Spelling.{signed_base_ten, spelling, string_spelling, items_spelling, pairs_spelling}
 use Rattle.tor_bencode.proofs.Integers.{integer_at-spelling, integer_spelled}
 use Rattle.tor_bencode.proofs.Lawfulness.{lawful-list, lawful-dictionary, lawful-item, lawful-pair}
 use Rattle.tor_bencode.proofs.Loops.{items_before, pairs_before, with_items, with_pairs, items_before-assoc, items_before-no_items, pairs_before-assoc, pairs_before-no_pairs, with_no_items, with_no_pairs, items_go_on, pairs_go_on, items_end, pairs_end, value_integer, value_string, value_list, value_dictionary}

@@ -1,20 +1,17 @@
 -- Bytes with a fault are refused with that fault.
-use Rattle.std.proofs.Common.{◌≡◌, ◌≢◌, ℕ, zero, suc, ◌+◌, ◌-◌, ◌≤◌, ◌<◌, List, [], ◌∷◌, ◌++◌, length, get_or, take, drop, Bool, true, false, cond, ◌==◌, Option, Some, None, Result, Ok, Err, Ordering, Less, Equal, Greater, refl, sym, ap, ap₂, ◌∙◌, subst, append_assoc, arith, inl, inr, ◌⊎◌}
-use Rattle.std.specs.Prelude.{codes, FitsSigned}
+use Rattle.std.proofs.Common.{◌≡◌, ◌≢◌, ℕ, zero, suc, ◌-◌, ◌≤◌, ◌<◌, List, [], ◌∷◌, ◌++◌, length, get_or, take, drop, true, false, ◌==◌, Option, Some, None, Ok, Err, refl, sym, ap, ap₂, ◌∙◌, subst, append_assoc, arith, inl, inr, ◌⊎◌}
 use Rattle.std.specs.Char.{is_ascii_digit}
-use Rattle.std.specs.Ordering.{nat_cmp, is_lt}
-use Rattle.std.proofs.lemmas.Bool.{false≢true, true≢false}
 use Rattle.std.proofs.lemmas.Bool.Decides.{nat_tests}
 use Rattle.std.proofs.lemmas.List.{take_all}
-use Rattle.tor_bencode.specs.Data.{Data, integer, string, list, dictionary, Items, no_items, Pairs, no_pairs, pair, keys_of}
-use Rattle.tor_bencode.specs.Fault.{Begins, BeginsWithDigit, IsCutString, HasBadLength, IsCutInteger, IsBadInteger, IsTooLarge, BeginsNoValue, IsBadValue, IsBadKey, IsOutOfOrder, last_key, IsFaultIn, at_value, in_list, at_key, in_pair, IsTrailing}
-use Rattle.tor_bencode.specs.Lawful.{AreRising, ItemsAreLawfulWithin, PairsAreLawfulWithin}
+use Rattle.tor_bencode.specs.Data.{Data, Items, no_items, Pairs, no_pairs, pair, keys_of}
+use Rattle.tor_bencode.specs.Fault.{Begins, BeginsWithDigit, IsCutString, HasBadLength, IsBadValue, IsBadKey, IsOutOfOrder, IsFaultIn, at_value, in_list, at_key, in_pair, IsTrailing}
+use Rattle.tor_bencode.specs.Lawful.{AreRising, PairsAreLawfulWithin}
 use Rattle.tor_bencode.specs.Reading.{◌>>=◌, Reading, follows, string_at, integer_at, items_at, pairs_at, value_at, whole, last_of}
-use Rattle.tor_bencode.specs.Spelling.{base_ten, signed_base_ten, spelling, string_spelling, items_spelling, pairs_spelling}
+use Rattle.tor_bencode.specs.Spelling.{base_ten, signed_base_ten, string_spelling, items_spelling, pairs_spelling}
 use Rattle.tor_bencode.specs.declared.fault.Fault.{Fault}
 use Rattle.tor_bencode.specs.declared.fault.Fault.TheVariants.{Truncated, BadByte, BadInteger, IntegerRange, BadLength, KeyNotBytes, KeyOrder, TooDeep, Trailing}
 use Rattle.tor_bencode.proofs.Integers.{integer_at-cut, integer_at-bad, integer_at-too_large, integer_spelled}
-use Rattle.tor_bencode.proofs.Loops.{items_before, pairs_before, with_items, with_pairs, with_no_items, with_no_pairs, after_key, key_here, value_integer, value_string, value_list, value_dictionary, value_empty, value_bad, value_too_deep}
+use Rattle.tor_bencode.proofs.Loops.{with_items, with_pairs, with_no_items, with_no_pairs, after_key, key_here, value_integer, value_string, value_list, value_dictionary, value_empty, value_bad, value_too_deep}
 use Rattle.tor_bencode.proofs.Numerals.{digit_range}
 use Rattle.tor_bencode.proofs.ReadBack.{AreRisingAfter, rising_first, last_after, items_at-front, pairs_at-front, value_at-spelling}
 use Rattle.tor_bencode.proofs.Runs.{one_of_two}

@@ -1,22 +1,20 @@
 -- What is read is spelled so, and where reading stops there is a fault.
-use Rattle.std.proofs.Common.{◌≡◌, ◌≢◌, ℕ, zero, suc, ◌+◌, ◌-◌, ◌≤◌, ◌<◌, List, [], ◌∷◌, ◌++◌, length, get_or, Bool, true, false, cond, ◌==◌, Option, Some, None, Result, Ok, Err, Ordering, Less, Equal, Greater, refl, sym, ap, ap₂, ◌∙◌, subst, append_assoc, arith, inl, inr, ◌⊎◌}
+use Rattle.std.proofs.Common.{◌≡◌, ℕ, zero, suc, ◌-◌, ◌≤◌, List, [], ◌∷◌, ◌++◌, length, true, false, cond, ◌==◌, Option, Some, None, Ok, Err, Ordering, Less, Equal, Greater, refl, sym, ap, ◌∙◌, subst, append_assoc, arith, inl, inr, ◌⊎◌}
 use Rattle.std.specs.Char.{is_ascii_digit}
-use Rattle.std.specs.Cmp.Lexicographic.{slice_cmp}
-use Rattle.std.specs.Ordering.{nat_cmp, is_lt}
-use Rattle.std.proofs.lemmas.Bool.{false≢true, true≢false, cases_Bool}
+use Rattle.std.specs.Ordering.{is_lt}
+use Rattle.std.proofs.lemmas.Bool.{false≢true, true≢false}
 use Rattle.std.proofs.lemmas.Bool.Decides.{nat_tests}
-use Rattle.std.proofs.lemmas.List.{append-nil}
 use Rattle.tor_bencode.specs.Data.{Data, integer, string, list, dictionary, Items, no_items, item, Pairs, no_pairs, pair, keys_of}
-use Rattle.tor_bencode.specs.Fault.{Begins, BeginsWithDigit, IsBadValue, IsBadKey, IsOutOfOrder, IsFaultIn, at_value, in_list, at_key, in_pair, IsTrailing, last_key, HasBadLength, IsCutString}
-use Rattle.tor_bencode.specs.Lawful.{AreRising, IsLawfulWithin, ItemsAreLawfulWithin, PairsAreLawfulWithin}
-use Rattle.tor_bencode.specs.Reading.{◌>>=◌, Reading, follows, string_at, integer_at, items_at, pairs_at, opened, value_with, nested_at, value_at, whole, last_of}
+use Rattle.tor_bencode.specs.Fault.{Begins, IsBadValue, IsBadKey, IsOutOfOrder, IsFaultIn, at_value, in_list, at_key, in_pair, last_key}
+use Rattle.tor_bencode.specs.Lawful.{IsLawfulWithin, ItemsAreLawfulWithin, PairsAreLawfulWithin}
+use Rattle.tor_bencode.specs.Reading.{◌>>=◌, Reading, follows, string_at, items_at, pairs_at}
 use Rattle.tor_bencode.specs.Spelling.{spelling, string_spelling, items_spelling, pairs_spelling}
 use Rattle.tor_bencode.specs.declared.fault.Fault.{Fault}
 use Rattle.tor_bencode.specs.declared.fault.Fault.TheVariants.{Truncated, BadByte, BadInteger, IntegerRange, BadLength, KeyNotBytes, KeyOrder, TooDeep, Trailing}
-use Rattle.tor_bencode.proofs.Integers.{IsBadInt, IntegerIs, integer_sound}
+use Rattle.tor_bencode.proofs.Integers.{IsBadInt, IntegerIs}
 use Rattle.tor_bencode.proofs.Lawfulness.{lawful-integer, lawful-string, lawful-list, lawful-dictionary, lawful-item, lawful-pair, lawful-no_items, lawful-no_pairs}
 use Rattle.tor_bencode.proofs.ReadBack.{AreRisingAfter, last_after}
-use Rattle.tor_bencode.proofs.Runs.{by_test, one_of_two}
+use Rattle.tor_bencode.proofs.Runs.{by_test}
 use Rattle.tor_bencode.proofs.Spelled.{shorter-spelling, shorter-string, pair_spelled}
 use Rattle.tor_bencode.proofs.Strings.{IsBadString, StringIs, string_sound}
 

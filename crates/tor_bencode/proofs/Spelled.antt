@@ -1,12 +1,12 @@
 -- How spellings begin, and how they are put together.
-use Rattle.std.proofs.Common.{◌≡◌, ◌≢◌, ℕ, zero, suc, ◌+◌, ◌≤◌, ◌<◌, ℤ, pos, negsuc, List, [], ◌∷◌, ◌++◌, length, get_or, Bool, true, false, refl, sym, ap, ◌∙◌, subst, append_assoc, arith}
+use Rattle.std.proofs.Common.{◌≡◌, ◌≢◌, ℕ, ◌<◌, List, [], ◌∷◌, ◌++◌, length, get_or, true, sym, ap, subst, append_assoc, arith}
 use Rattle.std.specs.Char.{is_ascii_digit}
 use Rattle.std.specs.List.{list_all}
 use Rattle.std.proofs.lemmas.Bool.{and_parts, false≢true}
 use Rattle.std.proofs.lemmas.List.{length-append}
-use Rattle.tor_bencode.specs.Data.{Data, integer, string, list, dictionary, Items, Pairs}
+use Rattle.tor_bencode.specs.Data.{Data, integer, string, list, dictionary}
 use Rattle.tor_bencode.specs.Reading.{is_shortest}
-use Rattle.tor_bencode.specs.Spelling.{base_ten, signed_base_ten, spelling, string_spelling, items_spelling, pairs_spelling}
+use Rattle.tor_bencode.specs.Spelling.{base_ten, spelling, string_spelling}
 use Rattle.tor_bencode.proofs.Numerals.{digit_range, all_digits-base_ten, is_shortest-base_ten}
 
 -- the bytes begin with a digit

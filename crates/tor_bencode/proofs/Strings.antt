@@ -1,11 +1,11 @@
 -- A byte string that is read is the one that is spelled, and what is refused has a fault.
-use Rattle.std.proofs.Common.{◌≡◌, ◌≢◌, ℕ, suc, ◌+◌, ◌-◌, ◌≤◌, ◌<◌, List, [], ◌∷◌, ◌++◌, length, take, drop, Bool, true, false, not, cond, ◌==◌, ◌&&◌, Result, Ok, Err, refl, sym, ap, ap₂, ◌∙◌, subst, append_assoc, arith, inl, inr, ◌⊎◌}
-use Rattle.std.specs.Prelude.{codes, nat_le}
+use Rattle.std.proofs.Common.{◌≡◌, ◌≢◌, ℕ, ◌<◌, List, [], ◌∷◌, ◌++◌, length, take, drop, true, false, cond, ◌==◌, ◌&&◌, Ok, Err, refl, sym, ap, ap₂, ◌∙◌, subst, append_assoc, arith, inl, inr, ◌⊎◌}
+use Rattle.std.specs.Prelude.{nat_le}
 use Rattle.std.specs.Char.{is_ascii_digit}
 use Rattle.std.specs.List.{list_all, prefix_len}
-use Rattle.std.proofs.lemmas.Bool.{and_parts, false≢true, true≢false, cases_Bool, leb-true, leb-false, le-leb}
+use Rattle.std.proofs.lemmas.Bool.{and_parts, true≢false, cases_Bool, le-leb}
 use Rattle.std.proofs.lemmas.Bool.Decides.{nat_tests}
-use Rattle.std.proofs.lemmas.List.{take_at, drop_at, take_all, drop_all, take-append-drop, append-nil, length-append, length-take}
+use Rattle.std.proofs.lemmas.List.{take_at, drop_at, drop_all, take-append-drop, append-nil, length-append, length-take}
 use Rattle.tor_bencode.specs.declared.fault.Fault.{Fault}
 use Rattle.tor_bencode.specs.declared.fault.Fault.TheVariants.{Truncated, BadByte, BadInteger, IntegerRange, BadLength, KeyNotBytes, KeyOrder, TooDeep, Trailing}
 use Rattle.tor_bencode.specs.Fault.{Runs, BeginsWithDigit, IsCutString, HasBadLength}

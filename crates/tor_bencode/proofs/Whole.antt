@@ -1,11 +1,11 @@
 -- All of the bytes: what is read of them is the tree that they spell, or else they have a fault.
-use Rattle.std.proofs.Common.{◌≡◌, ◌≢◌, ℕ, zero, suc, ◌+◌, ◌-◌, ◌≤◌, ◌<◌, List, [], ◌∷◌, ◌++◌, length, Bool, true, false, cond, ◌==◌, Option, Some, None, Result, Ok, Err, refl, sym, ap, ◌∙◌, subst, arith, inl, inr, ◌⊎◌}
+use Rattle.std.proofs.Common.{◌≡◌, ◌≢◌, ℕ, zero, suc, ◌≤◌, List, [], ◌∷◌, ◌++◌, length, true, false, ◌==◌, Option, Some, None, Result, Ok, Err, refl, sym, ap, ◌∙◌, subst, arith, inl, inr, ◌⊎◌}
 use Rattle.std.specs.Prelude.{codes}
 use Rattle.std.specs.Char.{is_ascii_digit}
-use Rattle.std.proofs.lemmas.Bool.{false≢true, true≢false}
+use Rattle.std.proofs.lemmas.Bool.{true≢false}
 use Rattle.std.proofs.lemmas.Bool.Decides.{nat_tests}
 use Rattle.std.proofs.lemmas.List.{append-nil, length-append}
-use Rattle.tor_bencode.specs.Data.{Data, integer, string, list, dictionary}
+use Rattle.tor_bencode.specs.Data.{Data, integer, list, dictionary}
 use Rattle.tor_bencode.specs.Fault.{IsBadValue, IsBadKey, IsFaultIn, at_value, in_list, at_key, in_pair, IsTrailing, last_key}
 use Rattle.tor_bencode.specs.Lawful.{IsLawfulWithin}
 use Rattle.tor_bencode.specs.Reading.{◌>>=◌, Reading, string_at, integer_at, items_at, pairs_at, opened, value_with, nested_at, value_at, whole, last_of}

@@ -1,6 +1,6 @@
 -- What is wrong with bytes that spell no lawful tree: the code and the offset of the first fault in reading order.
 -- What stands before a fault is lawful as far as it goes, and nothing lawful can go on as the bytes do from it on.
-use Rattle.std.specs.Prelude.{◌≡◌, ◌≢◌, ◌≤◌, ◌<◌, ◌+◌, ◌⊎◌, ℕ, zero, suc, ℤ, List, [], ◌∷◌, ◌++◌, length, codes, Bool, ◌==◌, ◌||◌, IsTrue, FitsSigned, Option, None, Some}
+use Rattle.std.specs.Prelude.{◌≡◌, ◌≢◌, ◌<◌, ◌+◌, ◌⊎◌, ℕ, suc, ℤ, List, [], ◌∷◌, ◌++◌, length, codes, Bool, ◌==◌, ◌||◌, IsTrue, FitsSigned, Option, None, Some}
 use Rattle.std.specs.Char.{is_ascii_digit}
 use Rattle.std.specs.Cmp.Lexicographic.{slice_cmp}
 use Rattle.std.specs.Int.{w64}
@@ -15,9 +15,6 @@ use Rattle.tor_bencode.specs.declared.error.BenError.TheVariants as errors
 use Rattle.tor_bencode.specs.declared.fault.Fault.{Fault}
 use Rattle.tor_bencode.specs.declared.fault.Fault.TheVariants.{Truncated, BadByte, BadInteger, IntegerRange, BadLength, KeyNotBytes, KeyOrder, TooDeep, Trailing}
 
-abbrev pub AreDigits : List ℕ → Type 0
-AreDigits run = IsTrue (list_all is_ascii_digit run)
-
 -- digits and minus signs
 abbrev pub is_integer_byte : ℕ → Bool
 is_integer_byte c = (c == 45) || is_ascii_digit c
@@ -26,10 +23,11 @@ is_integer_byte c = (c == 45) || is_ascii_digit c
 abbrev pub Begins : ℕ → List ℕ → Type 0
 Begins c bytes = (rest : List ℕ) × (bytes ≡ c ∷ rest)
 
--- The bytes are a run of bytes that pass, which goes on to the end; or another byte `next` comes after it.
+-- a run of bytes that pass goes on to the end
 abbrev pub RunsToEnd : (ℕ → Bool) → List ℕ → Type 0
 RunsToEnd passes bytes = IsTrue (list_all passes bytes)
 
+-- after a run of bytes that pass comes the byte `next`, which does not
 pub record Runs (passes : ℕ → Bool) (bytes run : List ℕ) (next : ℕ) (more : List ℕ) : Type 0 where
   pub all : IsTrue (list_all passes run)
   pub stops : ¬ IsTrue (passes next)
@@ -49,14 +47,16 @@ abbrev pub HasBadLength : List ℕ → Type 0
 HasBadLength bytes = BeginsWithDigit bytes × (run : List ℕ) × (next : ℕ) × (more : List ℕ)
     × Runs is_ascii_digit bytes run next more × ((next ≢ 58) ⊎ ((n : ℕ) → run ≢ base_ten n))
 
--- the same of an integer
+-- an integer is cut off
 abbrev pub IsCutInteger : List ℕ → Type 0
 IsCutInteger bytes = (rest : List ℕ) × (bytes ≡ codes "i" ++ rest) × RunsToEnd is_integer_byte rest
 
+-- An integer does not end with an `e`, or it is no number's shortest digits: no zero in front, no negative zero.
 abbrev pub IsBadInteger : List ℕ → Type 0
 IsBadInteger bytes = (rest : List ℕ) × (run : List ℕ) × (next : ℕ) × (more : List ℕ) × (bytes ≡ codes "i" ++ rest)
     × Runs is_integer_byte rest run next more × ((next ≢ 101) ⊎ ((n : ℤ) → run ≢ signed_base_ten n))
 
+-- an integer is spelled well, and 64 bits do not hold it
 abbrev pub IsTooLarge : List ℕ → Type 0
 IsTooLarge bytes = (n : ℤ) × (more : List ℕ) × (bytes ≡ spelling (integer n) ++ more) × ¬ FitsSigned w64 n
 

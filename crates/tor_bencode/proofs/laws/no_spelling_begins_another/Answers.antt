@@ -1,6 +1,4 @@
 use Rattle.tor_bencode.proofs.ReadBack.{same_front}
-use Rattle.tor_bencode.proofs.Integers.{integer_sound}
-use Rattle.tor_bencode.proofs.Strings.{string_sound}
 use Rattle.tor_bencode.proofs.laws.no_spelling_begins_another.Goals as goal
 
 pub returns : goal.returns

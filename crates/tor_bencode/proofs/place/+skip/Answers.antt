@@ -1,7 +1,4 @@
-use Rattle.std.proofs.Common.{◌≡◌, ◌≢◌, ◌-◌, ◌<◌, ◌≤◌, ℕ, List, length, get_or, take, drop, ◌∷◌, ◌++◌, sym, ap, ◌∙◌, subst, arith, inl, inr}
-use Rattle.std.specs.Char.{is_ascii_digit}
-use Rattle.std.proofs.lemmas.Bool.Decides.{nat_tests}
-use Rattle.tor_bencode.specs.Data.{Items}
+use Rattle.std.proofs.Common.{◌≡◌, ◌≤◌, length, get_or, ◌∷◌, ap, subst, arith}
 use Rattle.tor_bencode.specs.Lawful.{ItemsAreLawfulWithin}
 use Rattle.tor_bencode.specs.Spelling.{items_spelling}
 use Rattle.std.proofs.lemmas.List.{length-append}

@@ -1,4 +1,4 @@
-use Rattle.std.proofs.Common.{◌≡◌, ◌-◌, ◌≤◌, List, ℕ, [], ◌∷◌, ◌++◌, length}
+use Rattle.std.proofs.Common.{◌≡◌, ◌-◌, ◌≤◌, [], ◌∷◌, ◌++◌, length}
 use Rattle.tor_bencode.specs.Data.{Data, Pairs}
 use Rattle.tor_bencode.specs.Lawful.{IsLawful, PairsAreLawfulWithin}
 use Rattle.tor_bencode.specs.Place.{place_in, place_of}

@@ -1,13 +1,13 @@
-use Rattle.std.proofs.Common.{◌≡◌, ◌<◌, ◌≤◌, ◌-◌, ℕ, List, length, get_or, take, drop, option_map, Ok, Some, None, sym, ap, ap₂, ◌∙◌, subst, arith, inl, inr}
+use Rattle.std.proofs.Common.{◌≡◌, get_or, Ok, Some, sym, ap, ◌∙◌, subst, arith, inl, inr}
 use Rattle.std.proofs.Common.{ℤ, rules}
 use Rattle.std.proofs.lemmas.Int.{ints}
 use mir.Syntax.{w64}
 use mir.Val.{to_z, of_z, SFits}
 use Rattle.std.proofs.lemmas.Result.{err_from_is_err_and}
-use Rattle.tor_bencode.specs.Data.{Data, Items, Pairs, pair, no_pairs, item, no_items, integer, list, dictionary}
-use Rattle.tor_bencode.specs.Reading.{◌>>=◌, Reading, Stops, value_at, items_at, pairs_at, integer_at}
+use Rattle.tor_bencode.specs.Data.{Data, Items, Pairs, pair, no_pairs, integer, list, dictionary}
+use Rattle.tor_bencode.specs.Reading.{◌>>=◌, Reading, Stops, value_at, items_at, pairs_at}
 use Rattle.tor_bencode.specs.View.{view, items_view, pairs_view}
-use Rattle.tor_bencode.proofs.Loops.{with_items, with_pairs, items_before, pairs_before, items_view-push, pairs_view-push, items_end, items_go_on, pairs_end, pairs_go_on, pairs_stop_key, pairs_stop_order, pairs_stop_value, stops_bind, value_integer, value_list, value_dictionary, value_too_deep}
+use Rattle.tor_bencode.proofs.Loops.{with_items, with_pairs, pairs_before, items_view-push, pairs_view-push, items_end, items_go_on, pairs_end, pairs_go_on, pairs_stop_key, pairs_stop_order, pairs_stop_value, stops_bind, value_integer, value_list, value_dictionary, value_too_deep}
 use Rattle.tor_bencode.proofs.Views.{view-Int, view-List, view-Dict}
 use Rattle.tor_bencode.proofs.read.+read.Goals as goal
 

@@ -1,4 +1,4 @@
-use Rattle.std.proofs.Common.{◌≡◌, ◌+◌, ◌*◌, ◌≤◌, ℕ, length, Option, None, Some, option_map}
+use Rattle.std.proofs.Common.{◌≡◌, ◌+◌, ◌*◌, ◌≤◌, ℕ, length, None, option_map}
 use Rattle.tor_bencode.specs.Reading.{value_at, items_at, pairs_at}
 use Rattle.tor_bencode.specs.View.{items_view, pairs_view}
 use Rattle.tor_bencode.proofs.Loops.{with_items, with_pairs}

@@ -1,4 +1,4 @@
-use Rattle.std.proofs.Common.{◌≡◌, ℕ, ◌-◌, List, length, Ok, Err, Result, sym, ap, ◌∙◌, subst, arith}
+use Rattle.std.proofs.Common.{◌≡◌, ℕ, List, Ok, Err, Result, sym, subst, arith}
 use Rattle.tor_bencode.specs.Data.{Data}
 use Rattle.tor_bencode.specs.declared.fault.Fault.{Fault}
 use Rattle.tor_bencode.specs.Lawful.{IsLawful}
