@@ -1,7 +1,7 @@
 -- Pieces filled one after another: the leaves of the last, and the nodes of those before it.
-use Rattle.std.proofs.Common.{◌≡◌, ℕ, zero, suc, ◌+◌, ◌-◌, ◌*◌, ◌/◌, ◌%◌, ◌^◌, ◌<◌, ◌≤◌, List, [], ◌∷◌, ◌++◌, map, length, get_or, drop, arith, refl, ap, ap₂, ◌∙◌, sym, pow_pos, pow-add, pow_mono, le_antisymm, le_trans, mul-le-mul_right, div-mul-le_self, div-lt_iff_lt-mul, suc-add, zero-add, length-drop, inl, inr}
-use Rattle.std.proofs.Math.Nat.{lt-div-mul-add, mul-div_cancel, two-pow-succ}
-use Rattle.std.proofs.lemmas.Bool.{cases_lt, cases_eq}
+use Rattle.std.proofs.Common.{◌≡◌, ℕ, zero, suc, ◌+◌, ◌-◌, ◌*◌, ◌/◌, ◌^◌, ◌<◌, ◌≤◌, List, [], ◌∷◌, ◌++◌, map, length, get_or, drop, arith, ap, ap₂, ◌∙◌, sym, pow_pos, pow-add, le_antisymm, le_trans, mul-le-mul_right, div-mul-le_self, suc-add, zero-add, length-drop, inl, inr}
+use Rattle.std.proofs.Math.Nat.{lt-div-mul-add, two-pow-succ}
+use Rattle.std.proofs.lemmas.Bool.{cases_lt}
 use Rattle.std.proofs.lemmas.List.{get_or-drop, length_push}
 use Rattle.std.proofs.lemmas.List.FromFn.{map-range_with_len_more, length-map-range_with_len}
 use Rattle.std.specs.Int.{div_ceil}

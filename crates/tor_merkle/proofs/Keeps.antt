@@ -1,6 +1,6 @@
 -- What the tree of pieces keeps, through one leaf more and to its end.
-use Rattle.std.proofs.Common.{◌≡◌, ℕ, zero, suc, ◌+◌, ◌-◌, ◌*◌, ◌/◌, ◌^◌, ◌<◌, ◌≤◌, List, [], ◌∷◌, ◌++◌, length, drop, map, arith, refl, ap, ap₂, ◌∙◌, sym, pow_pos, pow-add, le_trans, lt_of_mul-lt-mul_right, inl, inr, zero-mul, div-mul-le_self}
-use Rattle.std.proofs.lemmas.Bool.{cases_eq, cases_lt}
+use Rattle.std.proofs.Common.{◌≡◌, ℕ, ◌+◌, ◌-◌, ◌*◌, ◌/◌, ◌^◌, ◌<◌, ◌≤◌, List, [], ◌∷◌, ◌++◌, length, drop, map, arith, ap, ap₂, ◌∙◌, sym, pow_pos, pow-add, lt_of_mul-lt-mul_right, inl, inr, zero-mul, div-mul-le_self}
+use Rattle.std.proofs.lemmas.Bool.{cases_lt}
 use Rattle.std.proofs.lemmas.List.{length_push, drop-append-le, drop_at, drop_all, nil_from_length}
 use Rattle.std.proofs.Math.Nat.{zero-div}
 use Rattle.std.specs.List.{range_with_len}

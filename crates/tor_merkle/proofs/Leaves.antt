@@ -1,6 +1,6 @@
 -- The leaves of a content that grows by parts of blocks.
-use Rattle.std.proofs.Common.{◌≡◌, ℕ, zero, suc, ◌+◌, ◌-◌, ◌*◌, ◌/◌, ◌%◌, ◌^◌, ◌<◌, ◌≤◌, List, [], ◌∷◌, ◌++◌, map, length, take, drop, arith, refl, ap, ap₂, ◌∙◌, sym, subst, append_assoc, take-append-drop, length-append, length-take, length-drop, pow_pos, le_antisymm, le_trans, mul_assoc, le_of_mul-le-mul_right, zero-add, mul_comm, append-nil}
-use Rattle.std.proofs.lemmas.List.{take-append-le, drop-append-le, drop_at, take_at, take_all, drop_all, map_push}
+use Rattle.std.proofs.Common.{◌≡◌, ℕ, ◌+◌, ◌*◌, ◌/◌, ◌%◌, ◌^◌, ◌<◌, ◌≤◌, List, [], ◌∷◌, ◌++◌, map, length, take, drop, arith, refl, ap, ap₂, ◌∙◌, sym, subst, append_assoc, take-append-drop, length-append, length-take, length-drop, pow_pos, le_antisymm, le_trans, mul_assoc, le_of_mul-le-mul_right, zero-add, mul_comm, append-nil}
+use Rattle.std.proofs.lemmas.List.{take-append-le, drop-append-le, drop_at, take_all, drop_all, map_push}
 use Rattle.std.proofs.lemmas.List.FromFn.{map-range_with_len_more}
 use Rattle.std.specs.Int.{div_ceil}
 use Rattle.std.specs.List.{range_with_len}

@@ -1,5 +1,5 @@
 -- The nodes of the tree over a list of hashes: the root of each whole subtree is one of them.
-use Rattle.std.proofs.Common.{◌≡◌, ℕ, zero, suc, ◌+◌, ◌*◌, ◌^◌, ◌-◌, ◌<◌, ◌≤◌, List, [], ◌∷◌, ◌++◌, length, get_or, take, drop, replicate, arith, refl, sym, ap, ap₂, ◌∙◌, inl, inr, add-suc, add-zero, zero-mul}
+use Rattle.std.proofs.Common.{◌≡◌, ℕ, zero, suc, ◌+◌, ◌*◌, ◌^◌, ◌-◌, ◌<◌, ◌≤◌, List, ◌++◌, length, get_or, take, drop, replicate, arith, refl, sym, ap, ap₂, ◌∙◌, inl, inr, add-suc, add-zero, zero-mul}
 use Rattle.std.proofs.Math.Nat.{two-pow-succ}
 use Rattle.std.proofs.lemmas.Bool.{cases_lt}
 use Rattle.std.proofs.lemmas.List.{get_or_past, get_or_default, get_or_append_left, get_or-append_right, get_or-replicate, get_or-take, get_or-drop, take-take, drop-take, drop-drop, take_all, length-append, length-replicate}

@@ -1,10 +1,10 @@
 -- The climb from the last whole subtree that a stack keeps to a root.
-use Rattle.std.proofs.Common.{◌≡◌, ℕ, zero, suc, ◌+◌, ◌-◌, ◌*◌, ◌/◌, ◌%◌, ◌^◌, ◌<◌, ◌≤◌, List, length, get_or, arith, ap, ap₂, ◌∙◌, sym, pow_pos, mul-le-mul_right, inl, inr}
+use Rattle.std.proofs.Common.{◌≡◌, ℕ, suc, ◌+◌, ◌-◌, ◌*◌, ◌/◌, ◌%◌, ◌^◌, ◌<◌, ◌≤◌, List, length, get_or, arith, ap, ap₂, ◌∙◌, sym, pow_pos, mul-le-mul_right, inl, inr}
 use Rattle.std.proofs.Math.Nat.{mul-div_cancel, two-pow-succ}
 use Rattle.std.proofs.lemmas.Bool.{cases_eq}
 use Rattle.tor_merkle.specs.Node.{node}
-use Rattle.tor_merkle.specs.Stack.{KeepsTops, padded_subtree, padded_root}
-use Rattle.tor_merkle.specs.Subtree.{node_of, zero_leaf, zero_subtree, height}
+use Rattle.tor_merkle.specs.Stack.{KeepsTops, padded_subtree}
+use Rattle.tor_merkle.specs.Subtree.{node_of, zero_leaf, zero_subtree}
 use Rattle.tor_merkle.proofs.Node.{node_past, subtree_root-padded}
 use Rattle.tor_merkle.proofs.Tops.{top_left}
 

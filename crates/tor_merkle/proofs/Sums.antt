@@ -1,12 +1,12 @@
 -- Root and layer over the leaves are those of the content.
-use Rattle.std.proofs.Common.{◌≡◌, ℕ, ◌*◌, ◌^◌, ◌<◌, ◌≤◌, List, [], cond, length, leb, arith, ap, ◌∙◌, sym, inl, inr}
+use Rattle.std.proofs.Common.{◌≡◌, ℕ, ◌*◌, ◌^◌, ◌≤◌, List, [], cond, length, leb, arith, ◌∙◌, sym, inl, inr}
 use Rattle.std.proofs.lemmas.Bool.{cases_lt, cond-true, cond-false, lt-leb, le-leb}
 use Rattle.tor_merkle.specs.Block.{leaves}
 use Rattle.tor_merkle.specs.Layer.{pieces_root, piece_layer}
-use Rattle.tor_merkle.specs.Node.{node, nodes}
+use Rattle.tor_merkle.specs.Node.{nodes}
 use Rattle.tor_merkle.specs.Stack.{padded_root}
 use Rattle.tor_merkle.specs.Subtree.{height}
-use Rattle.tor_merkle.proofs.Climb.{below_top, piece_layer-nodes, piece_layer-none}
+use Rattle.tor_merkle.proofs.Climb.{piece_layer-nodes, piece_layer-none}
 use Rattle.tor_merkle.proofs.Content.{pieces_root-node, longer_than_piece, length-leaves}
 use Rattle.tor_merkle.proofs.Ceil.{below_from_ceil}
 use Rattle.tor_merkle.proofs.Height.{height_covers}

@@ -1,4 +1,4 @@
-//! Worked rows. The hashes in hexadecimal were computed by another program (Python's hashlib), of
+//! Rows whose hashes in hexadecimal were computed by another program (Python's hashlib), of
 //! contents whose byte i is i % 251.
 
 use crate::feed::Feed;

@@ -1,5 +1,5 @@
 -- one digit more that is 0
-use Rattle.std.proofs.Common.{◌≡◌, ℕ, suc, ◌+◌, ◌*◌, ◌/◌, ◌^◌, arith, ap, ◌∙◌, sym, add-one, mul_assoc, mul-le-mul_right}
+use Rattle.std.proofs.Common.{◌≡◌, ◌*◌, ◌/◌, ◌^◌, arith, ap, ◌∙◌, sym, add-one, mul_assoc, mul-le-mul_right}
 use Rattle.std.proofs.Math.Nat.{pow-succ'}
 use Rattle.tor_merkle.proofs.Places.{power_within}
 use Rattle.tor_merkle.proofs.digits.lowest_one.Goals as goal

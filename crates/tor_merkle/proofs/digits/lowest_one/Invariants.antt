@@ -1,5 +1,5 @@
 -- the digits below the place are 0
-use Rattle.std.proofs.Common.{◌≡◌, ℕ, ◌*◌, ◌^◌, ◌<◌}
+use Rattle.std.proofs.Common.{◌≡◌, ◌*◌, ◌^◌, ◌<◌}
 use Rattle.tor_merkle.proofs.digits.lowest_one.Given as goal
 
 abbrev pub invariant-zeros : goal.invariant-zeros

@@ -1,7 +1,5 @@
 -- a part that ends its block, and one that does not
-use Rattle.std.proofs.Common.{◌≡◌, ℕ, ◌+◌, ◌*◌, ◌/◌, ◌%◌, ◌^◌, ◌<◌, ◌≤◌, [], ◌∷◌, ◌++◌, length, arith, ap, ◌∙◌, sym}
-use Rattle.sha2.specs.Sha256.{sha256}
-use Rattle.tor_merkle.specs.Feeding.{KeepsBlocks, in_blocks}
+use Rattle.std.proofs.Common.{◌+◌, ◌%◌, ◌≤◌, [], ◌∷◌, ◌++◌, length, arith, ap, ◌∙◌}
 use Rattle.tor_merkle.proofs.Leaves.{done_small, done_room, adds_open, adds_full}
 use Rattle.tor_merkle.proofs.blocks.BlockHasher.add.Goals as goal
 use Rattle.tor_merkle.proofs.blocks.BlockHasher.add.Goals.{then-self-eq0, else-self-eq0}

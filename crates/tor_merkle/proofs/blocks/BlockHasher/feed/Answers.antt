@@ -1,6 +1,5 @@
 -- each part is within what is fed
-use Rattle.std.proofs.Common.{◌≡◌, ℕ, ◌+◌, ◌*◌, ◌^◌, ◌<◌, ◌≤◌, ◌++◌, length, arith, ap, ◌∙◌, sym, le_trans, length-append, pow_pos}
-use Rattle.std.specs.Int.{div_ceil}
+use Rattle.std.proofs.Common.{◌+◌, ◌*◌, ◌^◌, ◌<◌, length, arith, ap, le_trans, length-append, pow_pos}
 use Rattle.tor_merkle.proofs.Ceil.{ceil_mono}
 use Rattle.tor_merkle.proofs.blocks.BlockHasher.feed.Goals as goal
 

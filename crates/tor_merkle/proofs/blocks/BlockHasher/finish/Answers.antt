@@ -1,5 +1,5 @@
 -- root and layer of the tree over all leaves
-use Rattle.std.proofs.Common.{◌≡◌, ℕ, ◌+◌, ◌*◌, ◌^◌, ◌<◌, ◌≤◌, [], cond, leb, length, arith, ap, ap₂, ◌∙◌, sym, le_trans}
+use Rattle.std.proofs.Common.{◌^◌, [], cond, leb, length, arith, ap, ap₂, ◌∙◌, le_trans}
 use Rattle.tor_merkle.specs.Node.{nodes}
 use Rattle.tor_merkle.specs.Stack.{padded_root}
 use Rattle.tor_merkle.proofs.Ceil.{ceil_from_below}

@@ -1,8 +1,6 @@
 -- the height of a piece of 16,384 * 2 ^ k bytes
-use Rattle.std.proofs.Common.{◌≡◌, ℕ, ◌+◌, ◌*◌, ◌/◌, ◌^◌, ◌≤◌, [], length, arith, ap, ◌∙◌, sym, eqb-true, pow_mono, mul-le-mul_left}
+use Rattle.std.proofs.Common.{◌≡◌, ℕ, ◌*◌, ◌/◌, ◌^◌, length, arith, ap, ◌∙◌, sym, eqb-true}
 use Rattle.std.proofs.Math.Nat.{mul-div_cancel_left}
-use Rattle.std.specs.Int.{div_ceil}
-use Rattle.tor_merkle.specs.Feeding.{KeepsFeeding}
 use Rattle.tor_merkle.specs.Subtree.{height}
 use Rattle.tor_merkle.proofs.Ceil.{ceil_at_most}
 use Rattle.tor_merkle.proofs.Power.{power_split}

@@ -1,10 +1,10 @@
 -- one piece, or the last of more
-use Rattle.std.proofs.Common.{◌≡◌, ℕ, ◌+◌, ◌^◌, ◌<◌, ◌≤◌, [], ◌∷◌, ◌++◌, length, arith, refl, ap, ap₂, ◌∙◌, sym}
+use Rattle.std.proofs.Common.{◌^◌, [], ◌∷◌, ◌++◌, length, arith, refl, ap, ap₂, ◌∙◌, sym}
 use Rattle.std.proofs.lemmas.Bool.{cond-true, cond-false, lt-leb, le-leb, false≢true}
 use Rattle.tor_merkle.specs.Node.{nodes}
 use Rattle.tor_merkle.specs.Stack.{padded_root, padded_subtree}
 use Rattle.tor_merkle.proofs.Filled.{padded_root-nodes}
-use Rattle.tor_merkle.proofs.Keeps.{blocks_fit, blocks_some, pieces_fit, layer_fits, only_piece, pieces_more, pieces_all}
+use Rattle.tor_merkle.proofs.Keeps.{blocks_fit, pieces_fit, layer_fits, only_piece, pieces_more, pieces_all}
 use Rattle.tor_merkle.proofs.pieces.PieceTree.finish.Goals as goal
 
 pub returns-then-is_empty-clause-root : goal.returns-then-is_empty-clause-root

@@ -1,7 +1,6 @@
 -- a leaf that opens a piece, and one that does not
-use Rattle.std.proofs.Common.{◌≡◌, ℕ, ◌+◌, ◌*◌, ◌%◌, ◌^◌, ◌<◌, ◌≤◌, [], ◌∷◌, ◌++◌, length, arith, ap, ◌∙◌, sym, pow_pos}
+use Rattle.std.proofs.Common.{◌≡◌, ◌*◌, ◌%◌, ◌^◌, [], ◌∷◌, ◌++◌, arith, ap, ◌∙◌, sym, pow_pos}
 use Rattle.std.proofs.lemmas.Nat.{one_shl}
-use Rattle.tor_merkle.specs.Pieces.{KeepsPieces}
 use Rattle.tor_merkle.proofs.Keeps.{leaves_some, pieces_fit, layer_fits, keeps_open, keeps_closed}
 use Rattle.tor_merkle.proofs.pieces.PieceTree.push.Goals as goal
 use Rattle.tor_merkle.proofs.pieces.PieceTree.push.Goals.{then-len-self, else-len-self}

@@ -1,9 +1,8 @@
 -- a carry, and the digit at which the carries end
-use Rattle.std.proofs.Common.{◌≡◌, ℕ, suc, ◌+◌, ◌-◌, ◌*◌, ◌/◌, ◌%◌, ◌^◌, ◌<◌, ◌≤◌, List, [], ◌∷◌, ◌++◌, arith, refl, ap, ap₂, ◌∙◌, sym, subst, add-one, pow-suc, mul_assoc, length}
+use Rattle.std.proofs.Common.{◌≡◌, ℕ, ◌+◌, ◌*◌, ◌/◌, ◌^◌, List, [], ◌∷◌, ◌++◌, arith, ap, ap₂, ◌∙◌, sym, add-one, mul_assoc, length}
 use Rattle.std.proofs.Math.Nat.{pow-succ'}
 use Rattle.std.proofs.lemmas.List.{get_or_default, get_or_push}
 use Rattle.tor_merkle.specs.Node.{node}
-use Rattle.tor_merkle.specs.Stack.{KeepsTops}
 use Rattle.tor_merkle.specs.Subtree.{node_of, zero_leaf, zero_subtree}
 use Rattle.tor_merkle.proofs.Tops.{carry, pushed, digit_below}
 use Rattle.tor_merkle.proofs.stack.Stack.push.Goals as goal

@@ -1,5 +1,5 @@
 -- the height of the tree over at most 2 ^ (36 - level) hashes
-use Rattle.std.proofs.Common.{◌≡◌, ℕ, ◌+◌, ◌-◌, ◌^◌, ◌≤◌, length, arith, ap, ◌∙◌, sym, pow_mono, le_trans}
+use Rattle.std.proofs.Common.{◌-◌, length, arith, ap, ◌∙◌, pow_mono, le_trans}
 use Rattle.tor_merkle.specs.Stack.{padded_root, padded_subtree}
 use Rattle.tor_merkle.specs.Subtree.{height}
 use Rattle.tor_merkle.proofs.Height.{height_least, height_covers}

@@ -1,10 +1,10 @@
 -- the climb, from the lowest digit that is 1
-use Rattle.std.proofs.Common.{◌≡◌, ℕ, suc, ◌+◌, ◌-◌, ◌*◌, ◌/◌, ◌%◌, ◌^◌, ◌<◌, ◌≤◌, [], length, get_or, arith, ap, ap₂, ◌∙◌, sym, subst, add-one, mul-le-mul_right}
+use Rattle.std.proofs.Common.{◌≡◌, ℕ, ◌-◌, ◌*◌, ◌%◌, ◌^◌, ◌<◌, ◌≤◌, [], length, get_or, arith, ap, ◌∙◌, add-one, mul-le-mul_right}
 use Rattle.std.proofs.lemmas.List.{get_or_default}
 use Rattle.tor_merkle.specs.Stack.{padded_subtree}
 use Rattle.tor_merkle.specs.Subtree.{node_of, zero_leaf}
 use Rattle.tor_merkle.proofs.Places.{power_within}
-use Rattle.tor_merkle.proofs.Root.{IsLastNode, last_whole, last_left, last_right, last_root}
+use Rattle.tor_merkle.proofs.Root.{last_whole, last_left, last_right, last_root}
 use Rattle.tor_merkle.proofs.stack.Stack.subtree.Goals as goal
 use Rattle.tor_merkle.proofs.stack.Stack.subtree.Goals.{then-place-eq1, else-place-eq1}
 

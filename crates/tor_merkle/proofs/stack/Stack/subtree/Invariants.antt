@@ -1,5 +1,4 @@
 -- the top is the last node of the level
-use Rattle.std.proofs.Common.{◌≤◌}
 use Rattle.tor_merkle.proofs.Root.{IsLastNode}
 use Rattle.tor_merkle.proofs.stack.Stack.subtree.Given as goal
 
