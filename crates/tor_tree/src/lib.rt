@@ -8,6 +8,7 @@
 
 mod entries;
 mod kinds;
+mod laws;
 mod lists;
 mod mixed;
 mod names;
@@ -20,6 +21,7 @@ mod tree_file;
 mod write_tree;
 
 pub use kinds::Kind;
+pub use laws::one_file_tree;
 pub use lists::{FileList, ListError, MAX_LENGTH, MAX_TOTAL, ROUNDING};
 pub use names::{Name, NameError};
 pub use paths::FilePath;
