@@ -38,7 +38,7 @@ other_first name named (([], properties) ∷ rest) apart put =
 other_first name named ((n ∷ ns, properties) ∷ rest) apart put =
     other_under name n put (put_first ns properties) (pairs_of_files rest) (apart (n ∷ ns, properties) rest refl)
 
-pairs_of_group : (name : List ℕ) → name ≢ [] → (file : List (List ℕ) × Data) (group rest : List (List (List ℕ) × Data)) → AllByRecursion (λ f. is_first name f.0 ≡ true) (file ∷ group) → ((f : List (List ℕ) × Data) (fs : List (List (List ℕ) × Data)) → rest ≡ f ∷ fs → is_first name f.0 ≡ false) → pairs_of_files (file ∷ group ++ rest) ≡ pair name (dictionary (pairs_of_files (map (below 1) (file ∷ group)))) (pairs_of_files rest)
+pub pairs_of_group : (name : List ℕ) → name ≢ [] → (file : List (List ℕ) × Data) (group rest : List (List (List ℕ) × Data)) → AllByRecursion (λ f. is_first name f.0 ≡ true) (file ∷ group) → ((f : List (List ℕ) × Data) (fs : List (List (List ℕ) × Data)) → rest ≡ f ∷ fs → is_first name f.0 ≡ false) → pairs_of_files (file ∷ group ++ rest) ≡ pair name (dictionary (pairs_of_files (map (below 1) (file ∷ group)))) (pairs_of_files rest)
 pairs_of_group name named file [] rest all apart =
     rw (first_is name file.0 all.0) (other_first name named rest apart (put_first (drop 1 file.0) file.1))
 pairs_of_group name named file (next ∷ group) rest all apart =

@@ -6,6 +6,7 @@ pub mod Lengths
 pub mod MadeTree
 pub mod Mixing
 pub mod NameLemmas
+pub mod OneTree
 pub mod PathLists
 pub mod Permuted
 pub mod PropertyLemmas

@@ -25,8 +25,8 @@ IsBefore path [] = Unit {0}
 IsBefore path (entry ∷ entries) = path_cmp path entry.0 ≡ Less
 
 -- a tidy folder that is not empty has a first entry
-abbrev mutual
-  first_in : (value : Data) → IsTidy value → value ≢ dictionary no_pairs → (entry : List (List ℕ) × Data) × (entries : List (List (List ℕ) × Data)) × (entries_of value ≡ entry ∷ entries)
+mutual
+  pub first_in : (value : Data) → IsTidy value → value ≢ dictionary no_pairs → (entry : List (List ℕ) × Data) × (entries : List (List (List ℕ) × Data)) × (entries_of value ≡ entry ∷ entries)
   first_in (integer n) tidy some = absurd tidy
   first_in (string bytes) tidy some = absurd tidy
   first_in (list items) tidy some = absurd tidy

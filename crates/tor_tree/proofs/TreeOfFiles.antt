@@ -1,5 +1,5 @@
 -- The files of a list, with their roots, are what their tree describes.
-use Rattle.std.proofs.Common.{◌≡◌, ◌==◌, ℕ, suc, ◌<◌, ◌≤◌, ◌^◌, Bool, true, false, cond, List, [], ◌∷◌, length, map, nat_lt, Option, None, Some, refl, ap, arith}
+use Rattle.std.proofs.Common.{◌≡◌, ◌==◌, ℕ, suc, ◌<◌, ◌≤◌, ◌^◌, Bool, true, false, cond, List, [], ◌∷◌, ◌++◌, length, map, nat_lt, Option, None, Some, refl, ap, arith}
 use Rattle.std.specs.List.{list_any, All, AllByRecursion, AllZip}
 use Rattle.std.proofs.lemmas.Bool.{or_parts, ltb-false, ne_eqb}
 use Rattle.std.proofs.lemmas.List.Elements.{All-from_recursion, recursion_from_All}
@@ -39,10 +39,10 @@ ready_files (file ∷ files) [] h named = tt
 ready_files (file ∷ files) (root ∷ roots) h named =
     ((recursion_from_All _ file.0 named.0, (file.1, root, refl, h.0)), ready_files files roots h.1 named.1)
 
-abbrev plain : List (List ℕ) → ℕ → Option (List ℕ) → TreeFile
+abbrev pub plain : List (List ℕ) → ℕ → Option (List ℕ) → TreeFile
 plain path n root = record { path = path; length = n; root = root; exec = false; hidden = false }
 
-plain_file : (path : List (List ℕ)) (n : ℕ) (root : Option (List ℕ)) → HasItsRoot (path, n) root → file_of (path, properties_for n root) ≡ plain path n root
+pub plain_file : (path : List (List ℕ)) (n : ℕ) (root : Option (List ℕ)) → HasItsRoot (path, n) root → file_of (path, properties_for n root) ≡ plain path n root
 plain_file path n None h = no_root (n == 0)
   where
     no_root : (b : Bool) → plain path n (cond b None None) ≡ plain path n None
@@ -62,3 +62,10 @@ pub paths_below : (files : List (List (List ℕ) × ℕ)) (roots : List (Option 
 paths_below [] roots e = refl
 paths_below (file ∷ files) [] e = absurd (omega arith)
 paths_below (file ∷ files) (root ∷ roots) e = ap (λ paths. file.0 ∷ paths) (paths_below files roots (omega arith))
+
+-- a step of a loop that gives each file its root
+pub rooted_more : (files : List (List (List ℕ) × ℕ)) (roots : List (Option (List ℕ))) (file : List (List ℕ) × ℕ) (root : Option (List ℕ)) → AllZip HasItsRoot files roots → HasItsRoot file root → AllZip HasItsRoot (files ++ file ∷ []) (roots ++ root ∷ [])
+rooted_more [] [] file root h here = (here, tt)
+rooted_more [] (r ∷ roots) file root h here = absurd h
+rooted_more (f ∷ files) [] file root h here = absurd h
+rooted_more (f ∷ files) (r ∷ roots) file root h here = (h.0, rooted_more files roots file root h.1 here)

@@ -1,13 +1,17 @@
-//! Names, paths, lists of files and the `file tree` of BitTorrent v2 (BEP 52).
+//! Names, paths, lists of files and the `file tree` of BitTorrent v2 (BEP 52, "file tree").
 //!
 //! - [`Name`] (`names.rt`): the name of a file or a folder.
 //! - [`FilePath`] (`paths.rt`): the names that lead to a file, in the order of paths.
 //! - [`FileList`] (`lists.rt`): files in order, each once.
-//! - [`TreeFile`] (`tree_file.rt`): a file of a file tree.
+//! - [`from_item`] (`read_tree.rt`): the files that a tree describes, each a [`TreeFile`] (`tree_file.rt`).
+//! - [`to_item`] (`write_tree.rt`): the tidy tree of a list; there is one at most (`laws.rt`).
+//!
+//! `entries.rt`, `properties.rt` and `mixed.rt` read the parts of a tree.
 #![tactic(auto)]
 
 mod entries;
 mod kinds;
+mod laws;
 mod lists;
 mod mixed;
 mod names;
@@ -20,6 +24,7 @@ mod tree_file;
 mod write_tree;
 
 pub use kinds::Kind;
+pub use laws::one_file_tree;
 pub use lists::{FileList, ListError, MAX_LENGTH, MAX_TOTAL, ROUNDING};
 pub use names::{Name, NameError};
 pub use paths::FilePath;

@@ -1,3 +1,7 @@
+ghost use Rattle.std.specs.Prelude.{◌↔◌, ◌<◌, IfOk, IsSome};
+ghost use Rattle.std.specs.List.{AllZip};
+ghost use Rattle.tor_tree.specs.TidyTree.{HasItsRoot};
+
 use super::*;
 use std::alloc::{AllocError, Global};
 use std::test::Fail;
@@ -217,16 +221,31 @@ fn the_files_of_a_tree_are_told(rt: HostRuntime) -> Result<(), Fail> {
     Ok(())
 }
 
+/// A root where there are bytes.
+fn root_for(length: u64) -> Option<Hash>
+    ensures { IsSome result ↔ (0 < length) }
+{
+    if length > 0 { Some([7; 32]) } else { None }
+}
+
+/// A root for each file that is not empty.
+fn roots_for(alloc: Global, files: &[(FilePath, u64)]) -> Result<Vec<Option<Hash>>, AllocError>
+    ensures { IfOk result (λ roots. AllZip HasItsRoot files.now roots.items) }
+{
+    let mut roots = Vec::new(alloc);
+    for (_, length) in files {
+        roots.push(root_for(*length))?;
+    }
+    Ok(roots)
+}
+
 #[test]
 fn a_tree_has_its_files_again(rt: HostRuntime) -> Result<(), Fail> {
     let alloc = rt.alloc();
     let list = listed(alloc, &[("a-b", 0), ("a/c", 3)])?
         .ok()
         .ok_or("a list")?;
-    let roots = [Some([7; 32]), None];
-    if list.files().len() != 2 || list.files()[0].1 != 3 || list.files()[1].1 != 0 {
-        return Err("another list")?;
-    }
+    let roots = roots_for(alloc, list.files())?;
     let tree = Tree::of(to_item(alloc, &list, &roots)?)
         .ok()
         .ok_or("a lawful tree")?;
