@@ -1,5 +1,6 @@
-//! Hashes standard input, for `bench/feed` to time: `feed CUT` by the streamed tree, in pieces of 256 KiB, and
-//! `plain CUT` by one SHA-256 over all, each in reads of CUT bytes.
+//! What the scripts of `bench/` time, over standard input: `feed CUT` hashes it by the streamed tree, in pieces of
+//! 256 KiB, `plain CUT` by one SHA-256 over all, each in reads of CUT bytes; `decode 1` reads it as bencode and prints
+//! how many microseconds that took.
 #![tactic(auto)]
 
 ghost use Rattle.std.specs.Prelude.{◌≡◌, IfOk, vec_len};
@@ -8,6 +9,8 @@ use sha2::{Digest, Sha256};
 use std::alloc::{AllocError, Global};
 use std::env;
 use std::io::{Error, ErrorKind, Read, Result};
+use std::time::Instant;
+use tor_bencode::decode;
 use tor_merkle::Feed;
 
 const PIECE_LENGTH: u64 = 262_144;
@@ -24,11 +27,20 @@ fn main(rt: HostRuntime) -> Result<()> {
     };
     let cut = cut.parse::<usize>().unwrap_or(MAX_CUT).min(MAX_CUT);
     let mut buffer = zeros(alloc, cut)?;
-    if mode.as_str() == "plain" {
-        plain(&mut rt.stdin(), &mut buffer)
-    } else {
-        streamed(alloc, &mut rt.stdin(), &mut buffer)
+    match mode.as_str() {
+        "plain" => plain(&mut rt.stdin(), &mut buffer),
+        "feed" => streamed(alloc, &mut rt.stdin(), &mut buffer),
+        _ => decoded(&rt),
     }
+}
+
+fn decoded(rt: &HostRuntime) -> Result<()> {
+    let mut bytes = Vec::new(rt.alloc());
+    rt.stdin().read_to_end(&mut bytes)?;
+    let start = Instant::now(rt)?;
+    let decodes = decode(rt.alloc(), &bytes).is_ok();
+    let taken = start.elapsed(rt)?.as_micros();
+    println!(rt; "{decodes} {taken}")
 }
 
 fn zeros(alloc: Global, length: usize) -> std::result::Result<Vec<u8>, AllocError>

@@ -1,12 +1,10 @@
 -- What `make_from` reads and writes.
-use Rattle.std.specs.Prelude.{◌≡◌, ◌⊎◌, ◌<◌, ◌≤◌, ◌^◌, ℕ, List, length, take, ⊤, Option, None, Some}
+use Rattle.std.specs.Prelude.{◌≡◌, ◌⊎◌, ◌<◌, ◌≤◌, ◌^◌, ℕ, List, length, take, Option, None, Some}
 use Rattle.std.specs.Io.KnownBytes.{Appends, Keeps}
 use Rattle.tor_meta.specs.BytesRefusal.{bytes_refusal}
 use Rattle.tor_meta.specs.declared.refusals.BytesError.TheVariants.{Memory}
 use Rattle.tor_spec.specs.Metainfo.{metainfo, plain, single}
-use Rattle.tor_cli.specs.Input.{ReadsWhole, ReadsSome}
-use Rattle.tor_cli.specs.declared.input.InputFault.TheVariants as input
-use Rattle.tor_cli.specs.declared.input.InputFault.{InputFault}
+use Rattle.tor_cli.specs.Input.{ReadsWhole, ReadsSome, EndsInput}
 use Rattle.tor_cli.specs.declared.make.FromFault.{FromFault}
 use Rattle.tor_cli.specs.declared.make.FromFault.TheVariants.{Input, Make, Write}
 
@@ -21,19 +19,14 @@ pub record MakesWhole (name : List ℕ) (piece_length : ℕ) (reader reader' wri
   pub accepted : bytes_refusal name content piece_length ≡ None
   pub written : Appends writer writer' (torrent_of name piece_length content)
 
--- which inputs are too long
-abbrev pub EndsInput : InputFault → List ℕ → Type 0
-EndsInput input.TooLong bytes = 2 ^ 30 < length bytes
-EndsInput other bytes = ⊤
-
 -- what was read and written where it ended in this fault
 abbrev pub MakesPart : List ℕ → ℕ → Option (List ℕ) → Option (List ℕ) → Option (List ℕ) → Option (List ℕ) → FromFault → Type 0
 -- some bytes were read, and nothing was written
-MakesPart name piece_length reader reader' writer writer' (Input fault) = ReadsSome reader reader' (EndsInput fault) × Keeps writer writer'
+MakesPart name piece_length reader reader' writer writer' (Input fault) = ReadsSome reader reader' (EndsInput (2 ^ 30) fault) × Keeps writer writer'
 -- all was read, it has this refusal, and nothing was written
 MakesPart name piece_length reader reader' writer writer' (Make refusal) =
-    (content : List ℕ) × ReadsWhole reader reader' content × ((refusal ≡ Memory) ⊎ (bytes_refusal name content piece_length ≡ Some refusal)) × Keeps writer writer'
+    (content : List ℕ) × ReadsWhole reader reader' content × (length content ≤ 2 ^ 30) × ((refusal ≡ Memory) ⊎ (bytes_refusal name content piece_length ≡ Some refusal)) × Keeps writer writer'
 -- all was read, and a front of its torrent was written
 MakesPart name piece_length reader reader' writer writer' (Write fault) =
-    (content : List ℕ) × ReadsWhole reader reader' content × (bytes_refusal name content piece_length ≡ None)
+    (content : List ℕ) × ReadsWhole reader reader' content × (length content ≤ 2 ^ 30) × (bytes_refusal name content piece_length ≡ None)
     × (fault.written < length (torrent_of name piece_length content)) × Appends writer writer' (take fault.written (torrent_of name piece_length content))

@@ -1,5 +1,5 @@
-ghost use Rattle.std.specs.Prelude.{◌≡◌, ◌<◌, ◌≤◌, ⊤, length, vec_len, IfOk, OnErr};
-ghost use Rattle.tor_cli.specs.Input.{ReadsWhole, ReadsSome};
+ghost use Rattle.std.specs.Prelude.{◌≡◌, ◌≤◌, vec_len, IfOk, IfErr};
+ghost use Rattle.tor_cli.specs.Input.{ReadsWhole, ReadsSome, EndsInput};
 ghost use Rattle.tor_cli.specs.declared.input.InputFault.TheVariants.{Memory};
 
 use std::alloc::{AllocError, Global};
@@ -25,9 +25,8 @@ pub fn read_limited<R: Read>(
 ) -> Result<Vec<u8>, InputFault>
     ensures within { IfOk result (λ bytes. vec_len bytes ≤ limit) }
     ensures whole { IfOk result (λ bytes. ReadsWhole (R.remaining reader.old) (R.remaining reader.new) bytes.items) }
-    ensures too_long { result ≡ Err InputFault.TooLong →
-        ReadsSome (R.remaining reader.old) (R.remaining reader.new) (λ read. limit < length read) }
-    ensures err { OnErr result (ReadsSome (R.remaining reader.old) (R.remaining reader.new) (λ _. ⊤)) }
+    ensures err { IfErr result (λ fault.
+        ReadsSome (R.remaining reader.old) (R.remaining reader.new) (EndsInput limit fault)) }
 {
     let mut room = zeros(alloc, BUFFER_LENGTH)?;
     let buffer = room.as_mut_slice();
@@ -42,7 +41,9 @@ pub fn read_limited<R: Read>(
         if count as u64 > limit - bytes.len() as u64 {
             return Err(InputFault::TooLong);
         }
-        bytes.extend_from_slice(read)?;
+        if bytes.extend_from_slice(read).is_err() {
+            return Err(InputFault::Memory);
+        }
     }
 }
 

@@ -1,5 +1,6 @@
 use crate::{BytesError, make_bytes, write_out};
 use std::alloc::{AllocError, Global};
+use std::io::{self, Error, ErrorKind, Write};
 use std::test::Fail;
 use tor_merkle::{leaf, pair, zero};
 
@@ -82,4 +83,44 @@ fn writes_out_all_bytes(rt: HostRuntime) -> Result<(), Fail> {
     assert!(rt; write_out(&mut written, b"abc").is_ok());
     assert_eq!(rt; written.as_slice(), b"abc".as_slice());
     Ok(())
+}
+
+// A writer that takes 12 bytes in all, and then faults, or takes nothing.
+#[derive(Drop)]
+struct Twelve {
+    taken: usize,
+    faults: bool,
+}
+
+impl Write for Twelve {
+    fn write(&mut self, buf: &[u8]) -> io::Result<usize> {
+        let count = buf.len().min(12usize.saturating_sub(self.taken));
+        if count == 0 && self.faults {
+            return Err(Error::from(ErrorKind::Interrupted));
+        }
+        self.taken = self.taken.saturating_add(count);
+        Ok(count)
+    }
+
+    fn flush(&mut self) -> io::Result<()> {
+        Ok(())
+    }
+}
+
+#[test]
+fn tells_what_stopped_a_write(rt: HostRuntime) {
+    for faults in [true, false] {
+        let mut writer = Twelve { taken: 0, faults };
+        match write_out(&mut writer, b"thirteen bytes") {
+            Ok(()) => assert!(rt; false, "all was written"),
+            Err(stopped) => {
+                assert_eq!(rt; stopped.written, 12);
+                assert_eq!(rt; stopped.fault.is_some(), faults);
+                let interrupted = stopped
+                    .fault
+                    .is_some_and(|fault| fault.kind() == ErrorKind::Interrupted);
+                assert_eq!(rt; interrupted, faults);
+            }
+        }
+    }
 }
