@@ -1,5 +1,6 @@
 -- What is wrong with bytes that spell no lawful tree: the code and the offset of the first fault in reading order.
--- What stands before a fault is lawful as far as it goes, and nothing lawful can go on as the bytes do from it on.
+-- What stands before a fault is lawful as far as it goes. A run of digits that meets the end of the bytes is cut off,
+-- whatever the run.
 use Rattle.std.specs.Prelude.{◌≡◌, ◌≢◌, ◌<◌, ◌+◌, ◌⊎◌, ℕ, suc, ℤ, List, [], ◌∷◌, ◌++◌, length, codes, Bool, ◌==◌, ◌||◌, IsTrue, FitsSigned, Option, None, Some}
 use Rattle.std.specs.Char.{is_ascii_digit}
 use Rattle.std.specs.Cmp.Lexicographic.{slice_cmp}

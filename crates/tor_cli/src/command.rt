@@ -32,7 +32,7 @@ pub fn read_words<'a>(alloc: Global, words: &'a [&'a str]) -> Result<Request<'a>
 fn tor<'a>(alloc: Global) -> Result<Command<'a>, AllocError> {
     Command::new(alloc, "tor")
         .version("0.1.0")
-        .about("Makes, checks and rechecks BitTorrent metainfo files")
+        .about("Makes BitTorrent metainfo files")
         .subcommand_required(true)
         .bin_name("tor")?
         .subcommand(make(alloc)?)

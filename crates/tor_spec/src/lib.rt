@@ -1,4 +1,4 @@
-//! The definitions of whole torrents, in `specs/`: what the maker, the validator and the rechecker all cite.
+//! The definitions of whole torrents, in `specs/`, which the crates above cite.
 //!
 //! - `FileTree`, `PieceLayers`, `InfoDictionary`, `Metainfo`: the bytes of a v2 metainfo file (BEP 52).
 //!
