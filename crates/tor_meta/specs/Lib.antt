@@ -1,2 +1,3 @@
 pub mod BytesRefusal
 pub mod NameRefusal
+pub mod OneFile

@@ -3,7 +3,6 @@ ghost use Rattle.std.specs.Prelude.{◌≡◌, ◌<◌, ◌^◌, ℕ, List, [], 
 ghost use Rattle.std.specs.List.{flat_map};
 ghost use Rattle.tor_bencode.specs.Data.{integer, string, dictionary, no_pairs, pair};
 ghost use Rattle.tor_bencode.specs.View.{view};
-ghost use Rattle.tor_spec.specs.FileTree.{properties};
 
 use std::alloc::{AllocError, Global};
 use tor_bencode::Item;
@@ -28,31 +27,6 @@ fn key(alloc: Global, text: &str) -> Result<Vec<u8>, AllocError>
     ensures { IfOk result (λ key. key.items ≡ text.now) }
 {
     Vec::from_slice(alloc, text.as_bytes())
-}
-
-/// What the file tree says of a file of this length.
-pub(crate) fn file_properties(
-    alloc: Global,
-    length: u64,
-    root: Option<&Hash>,
-) -> Result<Item, AllocError>
-    requires { length < 2 ^ 63 }
-    ensures { IfOk result (λ item. view item ≡ properties length (option_copied root.entry)) }
-{
-    let length = (key(alloc, "length")?, number(length));
-    Ok(Item::Dict(match root {
-        Some(root) => vec![in alloc; length, (key(alloc, "pieces root")?, text(alloc, root)?)]?,
-        None => vec![in alloc; length]?,
-    }))
-}
-
-/// The file tree of one file that lies at the top.
-pub(crate) fn tree_of_one(alloc: Global, name: &[u8], properties: Item) -> Result<Item, AllocError>
-    ensures { IfOk result (λ item. view item
-        ≡ dictionary (pair name.now (dictionary (pair [] (view properties) no_pairs)) no_pairs)) }
-{
-    let file = Item::Dict(vec![in alloc; (Vec::new(alloc), properties)]?);
-    Ok(Item::Dict(vec![in alloc; (Vec::from_slice(alloc, name)?, file)]?))
 }
 
 /// The piece layers of one file: its joined hashes under its root.

@@ -1,5 +1,5 @@
 -- The file tree of a list of files (BEP 52, "file tree").
-use Rattle.std.specs.Prelude.{ℕ, pos, List, [], ◌∷◌, length, Option, None, Some, option_map, codes}
+use Rattle.std.specs.Prelude.{◌≢◌, All, ℕ, pos, List, [], ◌∷◌, map, length, Option, None, Some, option_map, codes}
 use Rattle.tor_bencode.specs.Data.{Data, integer, string, dictionary, Pairs, no_pairs}
 use Rattle.tor_bencode.specs.Find.{value_in}
 use Rattle.tor_merkle.specs.Layer.{pieces_root}
@@ -35,3 +35,14 @@ place (name ∷ names) properties tree = put name (dictionary (place names prope
 abbrev pub file_tree : List File → Pairs
 file_tree [] = no_pairs
 file_tree (file ∷ files) = place file.path (file_properties file.content) (file_tree files)
+
+-- the paths of files with their lengths, and their roots
+abbrev pub listed : List File → List (List (List ℕ) × ℕ)
+listed files = map (λ file. (file.path, length file.content)) files
+
+abbrev pub roots_of : List File → List (Option (List ℕ))
+roots_of files = map (λ file. root_of file.content) files
+
+-- no name of a path is empty
+abbrev pub HasNames : List (List ℕ) × ℕ → Type 0
+HasNames file = All (λ name. name ≢ []) file.0

@@ -8,7 +8,7 @@ use Rattle.tor_bencode.specs.Data.{Data, dictionary, Pairs, no_pairs, pair}
 use Rattle.tor_bencode.specs.View.{view, pairs_view}
 use Rattle.tor_bencode.specs.declared.item.Item.{Item}
 use Rattle.tor_tree.specs.Name.{name_fault}
-use Rattle.tor_tree.specs.Writing.{AreNamed, below, pairs_of_files, files_below, has_name_at, is_first}
+use Rattle.tor_tree.specs.Writing.{IsPathFrom, below, pairs_of_files, files_below, has_name_at, is_first}
 use Rattle.tor_tree.proofs.Groups.{first_is, name_own, pair_of_group}
 
 pub take-files_below : (deep n : ℕ) (files : List (List (List ℕ) × ℕ)) (roots : List (Option (List ℕ))) → take n (files_below deep files roots) ≡ files_below deep (take n files) (take n roots)
@@ -109,10 +109,10 @@ all_to P m n xs before here = rw (take-more m n xs) (All-append P (take m xs) (t
 pub first_has : (deep : ℕ) (name : List ℕ) (path : List (List ℕ)) → deep < length path → name ≡ get_or path deep name → has_name_at deep name path ≡ true
 first_has deep name path within is = ap (is_first name) (drop_more path deep name within) ∙ rw (← is) (name_own name)
 
-pub named_from : (deep : ℕ) (name : List ℕ) (path : List (List ℕ)) → name ≢ [] → has_name_at deep name path ≡ true → AreNamed (drop (deep + 1) path) → AreNamed (drop deep path)
-named_from deep name path named has rest =
+pub named_from : (deep : ℕ) (name : List ℕ) (path : List (List ℕ)) → name_fault name ≡ None → has_name_at deep name path ≡ true → IsPathFrom (deep + 1) path → IsPathFrom deep path
+named_from deep name path faultless has rest =
     let shown : drop deep path ≡ name ∷ drop (deep + 1) path = first_is name (drop deep path) has ∙ ap (λ ps. name ∷ ps) (drop-more deep 1 path) in
-    rw shown (All-cons (λ n. n ≢ []) name (drop (deep + 1) path) named rest)
+    (rest.0, rw shown (All-cons (λ n. name_fault n ≡ None) name (drop (deep + 1) path) faultless rest.1))
 
 pub faultless_named : (name : List ℕ) → name_fault name ≡ None → name ≢ []
 faultless_named [] faultless e = cc

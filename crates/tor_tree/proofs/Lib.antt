@@ -10,9 +10,12 @@ pub mod OneTree
 pub mod PathLists
 pub mod Permuted
 pub mod PropertyLemmas
+pub mod Readable
 pub mod Rising
 pub mod RisingTree
+pub mod Shaped
 pub mod SortedFiles
 pub mod TreeFaults
 pub mod TreeOfFiles
+pub mod Unmixed
 pub mod WalkSteps

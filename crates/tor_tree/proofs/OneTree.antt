@@ -22,7 +22,7 @@ under_first key [] = tt
 under_first key (entry ∷ entries) = (name_own key, under_first key entries)
 
 -- a later key is another
-apart_key : (key next : List ℕ) → name_cmp key next ≡ Less → name_eq next key ≡ false
+pub apart_key : (key next : List ℕ) → name_cmp key next ≡ Less → name_eq next key ≡ false
 apart_key key next less = texts_ties next key ∙ ap is_eq (nat_list_cmp_total.antisymm next key) ∙ rw less refl
 
 -- the files of later pairs are not in the folder of the first
@@ -35,7 +35,7 @@ apart_pairs key (pair (c ∷ cs) value pairs) tidy rising f fs e =
     let same : (c ∷ cs) ∷ first.0.0 ≡ f.0 = cc in
     rw (← same) (apart_key key (c ∷ cs) rising.0)
 
-rising_rest : (key : List ℕ) (keys : List (List ℕ)) → AreRising (key ∷ keys) → AreRising keys
+pub rising_rest : (key : List ℕ) (keys : List (List ℕ)) → AreRising (key ∷ keys) → AreRising keys
 rising_rest key [] h = tt
 rising_rest key (next ∷ keys) h = h.1
 
@@ -63,7 +63,7 @@ mutual
       let entries : entries_in inner.0 ≡ first.0 ∷ first.1 = ap entries_of (sym inner.1) ∙ first.2 in
       rw inner.1 (first_pair (c ∷ cs) inner.0 pairs (λ e. cc) tidy.2 rising.0 first.0 first.1 entries inner.2 outer)
 
-abbrev AreTidyFiles : List (List (List ℕ) × Data) → Type 0
+abbrev pub AreTidyFiles : List (List (List ℕ) × Data) → Type 0
 AreTidyFiles files = AllByRecursion (λ file. IsTidyFile file.1) files
 
 tidy_under : (key : List ℕ) (files rest : List (List (List ℕ) × Data)) → AreTidyFiles files → AreTidyFiles rest → AreTidyFiles (under key files ++ rest)
@@ -71,7 +71,7 @@ tidy_under key [] rest tidy others = others
 tidy_under key (file ∷ files) rest tidy others = (tidy.0, tidy_under key files rest tidy.1 others)
 
 mutual
-  tidy_of : (value : Data) → IsTidy value → AreTidyFiles (entries_of value)
+  pub tidy_of : (value : Data) → IsTidy value → AreTidyFiles (entries_of value)
   tidy_of (integer n) tidy = tt
   tidy_of (string bytes) tidy = tt
   tidy_of (list items) tidy = tt

@@ -46,14 +46,14 @@ module _ (name : List ℕ) (names : List (List ℕ)) where
   order_of_first Greater rest apart h = cc
 
   -- another key that comes first comes after the name
-  less_key : (key : List ℕ) (value : Data) (pairs : Pairs) → AreTidy (pair key value pairs) → IsBefore (name ∷ names) (entries_in (pair key value pairs)) → name_eq key name ≡ false → name_cmp name key ≡ Less
+  pub less_key : (key : List ℕ) (value : Data) (pairs : Pairs) → AreTidy (pair key value pairs) → IsBefore (name ∷ names) (entries_in (pair key value pairs)) → name_eq key name ≡ false → name_cmp name key ≡ Less
   less_key [] value pairs tidy before apart = cc
   less_key (c ∷ cs) value pairs tidy before apart =
       let first = first_in value tidy.1 tidy.0 in
       let order : ordering_then (name_cmp name (c ∷ cs)) (path_cmp names first.0.0) ≡ Less = rw first.2 at before in
       order_of_first (name_cmp name (c ∷ cs)) (path_cmp names first.0.0) (λ e. both_ways _ apart (rw (name_is name (c ∷ cs) (texts_ties name (c ∷ cs) ∙ ap is_eq e)) (name_own (c ∷ cs)))) order
 
-  before_inside : (inside rest : List (List (List ℕ) × Data)) → IsBefore (name ∷ names) (under name inside ++ rest) → IsBefore names inside
+  pub before_inside : (inside rest : List (List (List ℕ) × Data)) → IsBefore (name ∷ names) (under name inside ++ rest) → IsBefore names inside
   before_inside [] rest before = tt
   before_inside (entry ∷ inside) rest before = rw (tied_itself nat_list_cmp_total name) at before
 
@@ -91,13 +91,14 @@ put_first-rising [] properties named tidy_file (pair (c ∷ cs) value pairs) tid
 put_first-rising (name ∷ names) properties named tidy_file pairs tidy rising before =
     rising_under names (put_first names properties) (put_first-rising names properties named.1 tidy_file) name pairs named.0 tidy rising before
 
+-- the files after the first of sorted ones come after it
+pub first_after : (path : List (List ℕ)) (files : List (List (List ℕ) × Data)) → AllByRecursion (λ later. path_cmp path later ≡ Less) (map (λ f. f.0) files) → IsBefore path files
+first_after path [] h = tt
+first_after path (file ∷ files) h = h.0
+
 pub made_rising : (files : List (List (List ℕ) × Data)) → AreReady files → IsStrictlySortedBy path_cmp (map (λ file. file.0) files) → AreRisingPairs (pairs_of_files files)
 unfolding IsStrictlySortedBy
 made_rising [] ready sorted = (tt, tt)
 made_rising (file ∷ files) ready sorted =
     put_first-rising file.0 file.1 ready.0.0 ready.0.1 (pairs_of_files files) (made_tidy files ready.1) (made_rising files ready.1 sorted.1)
-    (rw (made_entries files ready.1) (first_after files sorted.0))
-  where
-    first_after : (fs : List (List (List ℕ) × Data)) → AllByRecursion (λ path. path_cmp file.0 path ≡ Less) (map (λ f. f.0) fs) → IsBefore file.0 fs
-    first_after [] h = tt
-    first_after (f ∷ fs) h = h.0
+    (rw (made_entries files ready.1) (first_after file.0 files sorted.0))

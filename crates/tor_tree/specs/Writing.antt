@@ -1,7 +1,8 @@
 -- How a file tree is put together, for the clauses of private functions: each file goes before those already there.
-use Rattle.std.specs.Prelude.{◌≢◌, Bool, false, All, ℕ, List, [], ◌∷◌, map, drop, Option, if◌then◌else◌}
+use Rattle.std.specs.Prelude.{◌≡◌, ◌≢◌, Bool, false, All, ℕ, List, [], ◌∷◌, map, drop, length, Option, None, IfSome, if◌then◌else◌}
 use Rattle.std.specs.List.{zip}
 use Rattle.tor_bencode.specs.Data.{Data, integer, string, list, dictionary, Pairs, no_pairs, pair}
+use Rattle.tor_tree.specs.Name.{name_fault}
 use Rattle.tor_tree.specs.Path.{name_eq}
 use Rattle.tor_tree.specs.Properties.{properties_for}
 
@@ -49,3 +50,11 @@ has_name_at deep name path = is_first name (drop deep path)
 -- no name is empty
 abbrev pub AreNamed : List (List ℕ) → Type 0
 AreNamed names = All (λ name. name ≢ []) names
+
+-- a path that has names, of which those from `deep` on are without fault
+abbrev pub IsPathFrom : ℕ → List (List ℕ) → Type 0
+IsPathFrom deep path = (path ≢ []) × All (λ name. name_fault name ≡ None) (drop deep path)
+
+-- a pieces root, if there is one, has 32 bytes
+abbrev pub IsRoot : Option (List ℕ) → Type 0
+IsRoot root = IfSome root (λ bytes. length bytes ≡ 32)

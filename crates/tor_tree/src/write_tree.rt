@@ -1,11 +1,12 @@
 //! Writing a file tree (BEP 52, "file tree").
-ghost use Rattle.std.specs.Prelude.{◌≡◌, ◌≤◌, ◌<◌, ◌+◌, ◌^◌, All, IfOk, OnOk, length, take, drop, true, false, List, ℕ, slice_index_or};
+ghost use Rattle.std.specs.Prelude.{◌≡◌, ◌≤◌, ◌<◌, ◌+◌, ◌^◌, All, IfOk, OnOk, None, length, take, drop, true, false, List, ℕ, slice_index_or};
 ghost use Rattle.std.specs.List.{AllZip};
 ghost use Rattle.tor_bencode.specs.Data.{pair};
 ghost use Rattle.tor_bencode.specs.View.{view, pairs_view};
+ghost use Rattle.tor_tree.specs.FileTree.{tree_fault};
 ghost use Rattle.tor_tree.specs.Properties.{properties_for};
 ghost use Rattle.tor_tree.specs.TidyTree.{IsFileTreeOf, HasItsRoot};
-ghost use Rattle.tor_tree.specs.Writing.{AreNamed, files_below, has_name_at, pairs_of_files};
+ghost use Rattle.tor_tree.specs.Writing.{IsPathFrom, IsRoot, files_below, has_name_at, pairs_of_files};
 
 use crate::lists::FileList;
 use crate::names::Name;
@@ -18,7 +19,8 @@ use tor_bencode::Item;
 /// `roots` has the pieces root of each file, and none for an empty one.
 pub fn to_item(alloc: Global, list: &FileList, roots: &[Option<Hash>]) -> Result<Item, AllocError>
     requires { AllZip HasItsRoot list.now roots.now }
-    ensures { IfOk result (λ tree. IsFileTreeOf list.now roots.now (view tree)) }
+    ensures made { IfOk result (λ tree. IsFileTreeOf list.now roots.now (view tree)) }
+    ensures readable { IfOk result (λ tree. tree_fault (view tree) ≡ None) }
 {
     Ok(Item::Dict(folder(alloc, list.files(), roots, 0)?))
 }
@@ -35,7 +37,8 @@ fn folder(
     requires small { All (λ file. file.1 ≤ 2 ^ 50) files.now }
     requires one_each { length roots.now ≡ length files.now }
     ensures made { IfOk result (λ pairs. pairs_view pairs.items ≡ pairs_of_files (files_below depth files.now roots.now)) }
-    ensures named { OnOk result (All (λ file. AreNamed (drop depth file.0)) files.now) }
+    ensures named { OnOk result (All (λ file. IsPathFrom depth file.0) files.now) }
+    ensures rooted { OnOk result (All IsRoot roots.now) }
 {
     let mut pairs = Vec::new(alloc);
     let mut start = 0;
@@ -69,7 +72,8 @@ fn next_pair(
     ensures count { IfOk result (λ next. (0 < next.count) × (next.count ≤ length files.now)) }
     ensures made { IfOk result (λ next. pairs_of_files (files_below depth files.now roots.now)
         ≡ pair next.key.items (view next.value) (pairs_of_files (drop next.count (files_below depth files.now roots.now)))) }
-    ensures named { IfOk result (λ next. All (λ file. AreNamed (drop depth file.0)) (take next.count files.now)) }
+    ensures named { IfOk result (λ next. All (λ file. IsPathFrom depth file.0) (take next.count files.now)) }
+    ensures rooted { IfOk result (λ next. All IsRoot (take next.count roots.now)) }
 {
     let (path, length) = &files[0];
     if path.names().len() == depth {
@@ -115,7 +119,8 @@ fn has_name_at(path: &FilePath, depth: usize, name: &Name) -> bool
 /// The properties of a file: its length, and its pieces root if it has one.
 fn properties(alloc: Global, length: u64, root: &Option<Hash>) -> Result<Item, AllocError>
     requires { length ≤ 2 ^ 50 }
-    ensures { IfOk result (λ made. view made ≡ properties_for length root.now) }
+    ensures made { IfOk result (λ made. view made ≡ properties_for length root.now) }
+    ensures rooted { OnOk result (IsRoot root.now) }
 {
     let mut pairs = Vec::new(alloc);
     pairs.push((Vec::from_slice(alloc, b"length")?, Item::Int(length as i64)))?;

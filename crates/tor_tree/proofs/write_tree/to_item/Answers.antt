@@ -1,5 +1,6 @@
 use Rattle.std.proofs.lemmas.List.Elements.{recursion_from_All}
 use Rattle.tor_tree.proofs.FileTrees.{made_file_tree}
+use Rattle.tor_tree.proofs.Readable.{all_named, readable}
 use Rattle.tor_tree.proofs.TreeOfFiles.{small_files, one_root_each}
 use Rattle.tor_tree.proofs.WalkSteps.{view_dictionary}
 use Rattle.tor_tree.proofs.write_tree.to_item.Goals as goal
@@ -12,8 +13,14 @@ pub folder-requires-clause-one_each : goal.folder-requires-clause-one_each
 folder-requires-clause-one_each c =
     rw c.files.ensures.value (one_root_each c.args.list.now c.args.roots.now c.requires)
 
-pub returns : goal.returns
-returns c =
+pub returns-clause-made : goal.returns-clause-made
+returns-clause-made c =
     let made = rw c.files.ensures.value at c.in_ok-folder.ensures.made in
-    let named = rw c.files.ensures.value at c.in_ok-folder.ensures.named in
-    rw (view_dictionary c.in_ok-folder.field-0, made) (made_file_tree c.args.list.now c.args.roots.now c.requires c.files.ensures.lawful.in_order (recursion_from_All _ c.args.list.now named))
+    let paths = rw c.files.ensures.value at c.in_ok-folder.ensures.named in
+    rw (view_dictionary c.in_ok-folder.field-0, made) (made_file_tree c.args.list.now c.args.roots.now c.requires c.files.ensures.lawful.in_order (all_named c.args.list.now (recursion_from_All _ c.args.list.now paths)))
+
+pub returns-clause-readable : goal.returns-clause-readable
+returns-clause-readable c =
+    let paths = rw c.files.ensures.value at c.in_ok-folder.ensures.named in
+    let rooted = recursion_from_All _ c.args.roots.now c.in_ok-folder.ensures.rooted in
+    readable c.args.list.now c.args.roots.now _ (returns-clause-made c) c.files.ensures.lawful c.requires (recursion_from_All _ c.args.list.now paths) rooted
