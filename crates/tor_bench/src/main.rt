@@ -1,10 +1,16 @@
-//! What the scripts of `bench/` time, over standard input: `feed CUT` hashes it by the streamed tree, in pieces of
-//! 256 KiB, `plain CUT` by one SHA-256 over all, each in reads of CUT bytes; `decode 1` reads it as bencode and prints
-//! how many microseconds that took.
+//! What the scripts of `bench/` time.
+//!
+//! Over standard input: `feed CUT` hashes it by the streamed tree, in pieces of 256 KiB, `plain CUT` by one SHA-256
+//! over all, each in reads of CUT bytes; `decode 1` reads it as bencode. `paths COUNT` makes so many paths, `list COUNT`
+//! a list of them too, and `lists COUNT` writes its tree and reads that back; `scan FOLDER` lists a folder.
+//! `decode`, `lists` and `scan` print microseconds.
 #![tactic(auto)]
 
 ghost use Rattle.std.specs.Prelude.{◌≡◌, IfOk, vec_len};
 
+mod lists;
+
+use crate::lists::{list, lists, paths};
 use sha2::{Digest, Sha256};
 use std::alloc::{AllocError, Global};
 use std::env;
@@ -12,6 +18,7 @@ use std::io::{Error, ErrorKind, Read, Result};
 use std::time::Instant;
 use tor_bencode::decode;
 use tor_merkle::Feed;
+use tor_source::FolderSource;
 
 const PIECE_LENGTH: u64 = 262_144;
 
@@ -22,16 +29,33 @@ const MAX_CUT: usize = 1 << 24;
 fn main(rt: HostRuntime) -> Result<()> {
     let alloc = rt.alloc();
     let words: Vec<String> = env::args(&rt)?.collect(alloc)?;
-    let [_, mode, cut] = words.as_slice() else {
+    let [_, mode, word] = words.as_slice() else {
         return Err(Error::from(ErrorKind::InvalidInput));
     };
-    let cut = cut.parse::<usize>().unwrap_or(MAX_CUT).min(MAX_CUT);
-    let mut buffer = zeros(alloc, cut)?;
+    let number = word.parse::<usize>().unwrap_or(MAX_CUT);
     match mode.as_str() {
-        "plain" => plain(&mut rt.stdin(), &mut buffer),
-        "feed" => streamed(alloc, &mut rt.stdin(), &mut buffer),
+        "plain" => plain(&mut rt.stdin(), &mut zeros(alloc, number.min(MAX_CUT))?),
+        "feed" => streamed(
+            alloc,
+            &mut rt.stdin(),
+            &mut zeros(alloc, number.min(MAX_CUT))?,
+        ),
+        "paths" => paths(&rt, number),
+        "list" => list(&rt, number),
+        "lists" => lists(&rt, number),
+        "scan" => scanned(&rt, word),
         _ => decoded(&rt),
     }
+}
+
+fn scanned(rt: &HostRuntime, folder: &str) -> Result<()> {
+    let start = Instant::now(rt)?;
+    let count = match FolderSource::scan(rt, folder) {
+        Ok((_source, paths)) => paths.len(),
+        Err(_fault) => 0,
+    };
+    let taken = start.elapsed(rt)?.as_micros();
+    println!(rt; "{count} {taken}")
 }
 
 fn decoded(rt: &HostRuntime) -> Result<()> {

@@ -2,11 +2,12 @@
 ghost use Rattle.std.specs.Prelude.{◌≡◌, ℕ, List, IfErr, OnOk};
 ghost use Rattle.tor_cli.specs.Make.{MakesWhole, MakesPart};
 ghost use Rattle.tor_cli.specs.declared.make.FromFault.TheVariants.{Input, Make, Write};
+ghost use Rattle.tor_meta.specs.declared.refusals.BytesError.TheVariants.{Memory};
 
-use crate::input::{InputFault, read_limited};
-use std::alloc::Global;
+use crate::input::{InputFault, feed_limited, read_limited};
+use std::alloc::{AllocError, Global};
 use std::io;
-use tor_meta::{BytesError, WriteFault, make_bytes, write_out};
+use tor_meta::{BytesError, WriteFault, check_head, make_fed, write_out};
 
 /// The most bytes that are read of an input.
 const MAX_INPUT_LENGTH: u64 = 1 << 30;
@@ -32,10 +33,27 @@ pub fn make_from<R: io::Read, W: io::Write>(
     ensures part { IfErr result (MakesPart name.now piece_length
         (R.remaining reader.old) (R.remaining reader.new) (W.contents writer.old) (W.contents writer.new)) }
 {
-    let content = read_limited(alloc, reader, MAX_INPUT_LENGTH)?;
-    let torrent = make_bytes(alloc, name, &content, piece_length)?;
-    write_out(writer, &torrent)?;
-    Ok(())
+    match check_head(alloc, name, piece_length) {
+        Ok(name) => {
+            let feed = feed_limited(alloc, reader, piece_length, MAX_INPUT_LENGTH)?;
+            let torrent = make_fed(alloc, &name, feed)?;
+            write_out(writer, &torrent)?;
+            Ok(())
+        }
+        Err(refusal) => {
+            // A fault of the reader is told before what is wrong with the words.
+            read_limited(alloc, reader, MAX_INPUT_LENGTH)?;
+            Err(FromFault::Make(refusal))
+        }
+    }
+}
+
+impl From<AllocError> for FromFault {
+    ghost from_gives = { λ _ e. e ≡ Make Memory };
+
+    fn from(_error: AllocError) -> FromFault {
+        FromFault::Make(BytesError::Memory)
+    }
 }
 
 impl From<InputFault> for FromFault {

@@ -4,6 +4,7 @@ use Rattle.std.specs.Int.{div_ceil}
 use Rattle.sha2.specs.declared.Sha256.{Sha256}
 use Rattle.sha2.specs.Hashers.{Holds256}
 use Rattle.tor_merkle.specs.Block.{leaves}
+use Rattle.tor_merkle.specs.Layer.{IsPieceLength}
 
 -- the length of a piece, and the bytes fed so far
 pub record Feeding : Type 0 where
@@ -29,6 +30,7 @@ pub record KeepsBlocks (count : ℕ) (hasher : Sha256) (done : List (List ℕ)) 
 
 -- the pieces have their length, and each that was begun has room for its hash
 pub record KeepsFeeding (piece_length : ℕ) (blocks : Blocks) : Type 0 where
+  pub allowed : IsPieceLength piece_length
   pub low : blocks.height ≤ 16
   pub piece : piece_length ≡ 16384 * 2 ^ blocks.height
   pub small : length blocks.bytes ≤ 2 ^ 50

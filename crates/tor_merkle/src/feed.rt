@@ -40,6 +40,22 @@ impl Feed {
         }
     }
 
+    /// How many bytes were fed.
+    pub fn count(&self) -> u64
+        ensures value { result ≡ length self.now.bytes }
+        ensures small { length self.now.bytes ≤ 2 ^ 50 }
+    {
+        self.blocks.count()
+    }
+
+    /// How many bytes a piece has.
+    pub fn piece_length(&self) -> u64
+        ensures value { result ≡ self.now.piece_length }
+        ensures allowed { IsPieceLength self.now.piece_length }
+    {
+        self.piece_length
+    }
+
     /// Adds `bytes` at the end of the content, which has at most 2^50 bytes in all.
     pub fn feed(&mut self, bytes: &[u8]) -> Result<(), AllocError>
         requires { length self.old.bytes + length bytes.now ≤ 2 ^ 50 }

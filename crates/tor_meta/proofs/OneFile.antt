@@ -1,5 +1,5 @@
--- A list of one file: when it is refused, and what its tree is.
-use Rattle.std.proofs.Common.{◌≡◌, ◌≢◌, ◌<◌, ℕ, zero, suc, get_or, List, [], ◌∷◌, length, None, refl, ap, arith}
+-- One file that lies at the top: its list, its tree, and what a feed tells of it.
+use Rattle.std.proofs.Common.{◌≡◌, ◌≢◌, ◌<◌, ◌↔◌, ℕ, Vec, Global, zero, suc, get_or, List, [], ◌∷◌, length, Option, None, Some, IsNone, IfSome, option_map, refl, ap, arith}
 use Rattle.std.specs.List.{All, AllZip}
 use Rattle.std.specs.List.Sorted.{IsPermutation, IsStrictlySortedBy}
 use Rattle.std.proofs.lemmas.List.Elements.{All-from_recursion}
@@ -10,6 +10,7 @@ use Rattle.tor_tree.specs.Name.{name_fault}
 use Rattle.tor_tree.specs.TidyTree.{HasItsRoot, IsFileTreeOf}
 use Rattle.tor_tree.proofs.FilesBelow.{faultless_named}
 use Rattle.tor_tree.proofs.OneTree.{one_tree}
+use Rattle.tor_merkle.specs.Layer.{pieces_root}
 use Rattle.tor_spec.specs.FileTree.{file_tree, root_of}
 use Rattle.tor_spec.specs.Metainfo.{single}
 use Rattle.tor_spec.proofs.PlacedFiles.{file_tree_of_list, roots_there}
@@ -40,3 +41,9 @@ pub tree_of_one : (name content : List ℕ) (tree : Data) → name_fault name �
 tree_of_one name content tree faultless made =
     let named = All-from_recursion (λ n. n ≢ []) (name ∷ []) (faultless_named name faultless, tt) in
     one_tree (one_file name (length content)) (root_of content ∷ []) tree _ made (file_tree_of_list (single name content) (in_order (name ∷ []) (length content)) (named, tt))
+
+-- what a feed tells of its root
+pub root_told : (sums : Option (List ℕ × Vec (List ℕ) Global)) (bytes : List ℕ) → (IsNone sums ↔ (bytes ≡ [])) → IfSome sums (λ s. s.0 ≡ pieces_root bytes) → option_map (λ s. s.0) sums ≡ root_of bytes
+root_told None bytes empty root = rw (empty.0 refl) refl
+root_told (Some sums) [] empty root = let none = empty.1 refl in cc
+root_told (Some sums) (byte ∷ bytes) empty root = ap Some root

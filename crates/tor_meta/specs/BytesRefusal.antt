@@ -15,6 +15,10 @@ abbrev pub unless_fault : Option NameError → Option BytesError → Option Byte
 unless_fault (Some fault) refusal = Some (Name fault)
 unless_fault None refusal = refusal
 
+-- the first that holds of what is known before the content: the name has a fault; the piece length is none
+abbrev pub head_refusal : List ℕ → ℕ → Option BytesError
+head_refusal name piece_length = unless_fault (name_fault name) (if is_piece_length piece_length then None else Some PieceLength)
+
 -- the first that holds, in this order: the name has a fault; the piece length is none; the content is longer than 2 ^ 50
 abbrev pub bytes_refusal : List ℕ → List ℕ → ℕ → Option BytesError
 bytes_refusal name content piece_length =

@@ -1,6 +1,7 @@
 //! Making torrents (BEP 3, BEP 52), and writing them out.
 //!
-//! - `single.rt`: `make_bytes`, the v2 torrent of one content in memory; its dictionaries are made in `items.rt`.
+//! - `single.rt`: the v2 torrent of one content, in memory (`make_bytes`) or fed in parts (`make_fed`); its dictionaries
+//!   are made in `items.rt`.
 //! - `refusals.rt`: why no torrent is made.
 //! - `output.rt`: `write_out`, every byte to a writer, or how many went out and what stopped it.
 #![tactic(auto)]
@@ -14,4 +15,4 @@ mod tests;
 
 pub use output::{WriteFault, write_out};
 pub use refusals::BytesError;
-pub use single::make_bytes;
+pub use single::{check_head, make_bytes, make_fed};

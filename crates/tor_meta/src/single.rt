@@ -1,12 +1,9 @@
-//! The v2 torrent of one content that lies in memory.
-ghost use Rattle.std.specs.Prelude.{◌≡◌, ◌⊎◌, ◌<◌, ◌≤◌, ◌^◌, [], length, Some, None, IfSome, IfOk, IfErr, OnOk, option_map};
+//! The v2 torrent of one content.
+ghost use Rattle.std.specs.Prelude.{◌≡◌, ◌⊎◌, ◌<◌, ◌≤◌, ◌^◌, ℕ, List, [], length, Some, None, IfSome, IfOk, IfErr, OnOk, option_map};
 ghost use Rattle.tor_bencode.specs.Data.{dictionary};
 ghost use Rattle.tor_bencode.specs.View.{view};
-ghost use Rattle.tor_merkle.specs.Layer.{IsPieceLength, piece_layer};
-ghost use Rattle.tor_meta.specs.BytesRefusal.{bytes_refusal, is_piece_length};
-ghost use Rattle.tor_meta.specs.OneFile.{one_file};
-ghost use Rattle.tor_meta.specs.declared.refusals.BytesError.TheVariants.{TooLarge};
-ghost use Rattle.tor_spec.specs.FileTree.{root_of};
+ghost use Rattle.tor_meta.specs.BytesRefusal.{bytes_refusal, head_refusal, is_piece_length};
+ghost use Rattle.tor_meta.specs.OneFile.{AreSums, one_file};
 ghost use Rattle.tor_spec.specs.PieceLayers.{piece_layers};
 ghost use Rattle.tor_spec.specs.Metainfo.{metainfo, root_dictionary, plain, single};
 
@@ -15,11 +12,10 @@ use crate::refusals::BytesError;
 use std::alloc::{AllocError, Global};
 use tor_bencode::{Item, Tree, encode};
 use tor_merkle::{Feed, Hash};
-use tor_tree::{FileList, FilePath, ListError, Name, to_item};
+use tor_tree::{FileList, FilePath, MAX_LENGTH, Name, to_item};
 
 /// The bytes of the v2 torrent (BEP 52) of one file: `name` is its name and the torrent's, `content` its bytes.
 /// It names no tracker, and it is not private. `piece_length` is in bytes.
-#[tactic(auto, unfolding(tor_spec::specs::Metainfo::metainfo))]
 pub fn make_bytes(
     alloc: Global,
     name: &[u8],
@@ -32,17 +28,27 @@ pub fn make_bytes(
     ensures refused { IfErr result (λ refusal.
         (refusal ≡ BytesError.Memory) ⊎ (bytes_refusal name.now content.now piece_length ≡ Some refusal)) }
 {
+    let name = check_head(alloc, name, piece_length)?;
+    if content.len() as u64 > MAX_LENGTH {
+        return Err(BytesError::TooLarge);
+    }
+    let mut feed = Feed::new(alloc, piece_length);
+    feed.feed(content)?;
+    Ok(make_fed(alloc, &name, feed)?)
+}
+
+/// The name, where no torrent is refused for it or for the piece length.
+pub fn check_head(alloc: Global, name: &[u8], piece_length: u64) -> Result<Name, BytesError>
+    ensures made { IfOk result (λ made. made ≡ name.now) }
+    ensures accepted { OnOk result (head_refusal name.now piece_length ≡ None) }
+    ensures refused { IfErr result (λ refusal.
+        (refusal ≡ BytesError.Memory) ⊎ (head_refusal name.now piece_length ≡ Some refusal)) }
+{
     let name = Name::new(alloc, name)?;
     if !is_piece_length(piece_length) {
         return Err(BytesError::PieceLength);
     }
-    let list = list_of_one(alloc, &name, content.len() as u64)?;
-    let tree = torrent(alloc, &list, &name, content, piece_length)?;
-    match encode(alloc, &tree) {
-        Ok(bytes) => Ok(bytes),
-        // The one refusal of `encode`.
-        Err(_) => Err(BytesError::Memory),
-    }
+    Ok(name)
 }
 
 fn is_piece_length(n: u64) -> bool
@@ -51,60 +57,49 @@ fn is_piece_length(n: u64) -> bool
     n.is_power_of_two() && 1 << 14 <= n && n <= 1 << 30
 }
 
+/// As `make_bytes`, of the content that was fed, in pieces of the feed's piece length.
+#[tactic(auto, unfolding(tor_spec::specs::Metainfo::metainfo))]
+pub fn make_fed(alloc: Global, name: &Name, feed: Feed) -> Result<Vec<u8>, AllocError>
+    ensures { IfOk result (λ bytes.
+        bytes.items ≡ metainfo (plain name.now feed.piece_length) (single name.now feed.bytes)) }
+{
+    let tree = torrent(alloc, name, feed)?;
+    match encode(alloc, &tree) {
+        Ok(bytes) => Ok(bytes),
+        // The one refusal of `encode`.
+        Err(_) => Err(AllocError),
+    }
+}
+
 /// The list of one file that lies at the top.
-fn list_of_one(alloc: Global, name: &Name, length: u64) -> Result<FileList, BytesError>
-    ensures made { IfOk result (λ list. list ≡ one_file name.now length) }
-    ensures accepted { OnOk result (length ≤ 2 ^ 50) }
-    ensures refused { IfErr result (λ refusal. (refusal ≡ BytesError.Memory) ⊎ ((refusal ≡ TooLarge) × (2 ^ 50 < length))) }
+fn list_of_one(alloc: Global, name: &Name, length: u64) -> Result<FileList, AllocError>
+    requires { length ≤ 2 ^ 50 }
+    ensures { IfOk result (λ list. list ≡ one_file name.now length) }
 {
     let Some(path) = FilePath::new(vec![in alloc; name.copy(alloc)?]?) else {
         unreachable!();
     };
     match FileList::build(alloc, vec![in alloc; (path, length)]?) {
         Ok(list) => Ok(list),
-        Err(ListError::Memory) => Err(BytesError::Memory),
-        // The one other refusal of a list of one file.
-        Err(_) => Err(BytesError::TooLarge),
+        // The one refusal of a list of one file that is not too long.
+        Err(_) => Err(AllocError),
     }
 }
 
-fn torrent(
-    alloc: Global,
-    list: &FileList,
-    name: &Name,
-    content: &[u8],
-    piece_length: u64,
-) -> Result<Tree, AllocError>
-    requires listed { list.now ≡ one_file name.now (length content.now) }
-    requires piece { IsPieceLength piece_length }
-    requires size { length content.now ≤ 2 ^ 50 }
+fn torrent(alloc: Global, name: &Name, feed: Feed) -> Result<Tree, AllocError>
     ensures { IfOk result (λ tree. view tree
-        ≡ root_dictionary (plain name.now piece_length) (single name.now content.now)) }
+        ≡ root_dictionary (plain name.now feed.piece_length) (single name.now feed.bytes)) }
 {
-    let sums = sums_of(alloc, content, piece_length)?;
-    let layers = layers(alloc, content, &sums, piece_length)?;
-    let tree = to_item(alloc, list, &[root_of(&sums)])?;
+    let (length, piece_length) = (feed.count(), feed.piece_length());
+    let list = list_of_one(alloc, name, length)?;
+    let sums = feed.finish();
+    let layers = layers(alloc, &sums, length, piece_length)?;
+    let tree = to_item(alloc, &list, &[root_of(&sums)])?;
     let info = info(alloc, name.as_bytes(), piece_length, tree)?;
     match Tree::of(root(alloc, info, layers)?) {
         Ok(tree) => Ok(tree),
         Err(_) => unreachable!(),
     }
-}
-
-// The root and the piece layer of a content, none where it is empty.
-fn sums_of(
-    alloc: Global,
-    content: &[u8],
-    piece_length: u64,
-) -> Result<Option<(Hash, Vec<Hash>)>, AllocError>
-    requires piece { IsPieceLength piece_length }
-    requires size { length content.now ≤ 2 ^ 50 }
-    ensures root { IfOk result (λ sums. option_map (λ s. s.0) sums ≡ root_of content.now) }
-    ensures layer { IfOk result (λ sums. IfSome sums (λ s. s.1.items ≡ piece_layer content.now piece_length)) }
-{
-    let mut feed = Feed::new(alloc, piece_length);
-    feed.feed(content)?;
-    Ok(feed.finish())
 }
 
 fn root_of(sums: &Option<(Hash, Vec<Hash>)>) -> Option<Hash>
@@ -116,19 +111,18 @@ fn root_of(sums: &Option<(Hash, Vec<Hash>)>) -> Option<Hash>
     }
 }
 
-// The piece layers of the one file, whatever its name.
+// The piece layers of one file of `size` bytes, whatever its name.
 fn layers(
     alloc: Global,
-    content: &[u8],
     sums: &Option<(Hash, Vec<Hash>)>,
+    size: u64,
     piece_length: u64,
 ) -> Result<Item, AllocError>
-    requires root { option_map (λ s. s.0) sums.now ≡ root_of content.now }
-    requires layer { IfSome sums.now (λ s. s.1.items ≡ piece_layer content.now piece_length) }
-    ensures { IfOk result (λ item. view item ≡ dictionary (piece_layers piece_length (single [] content.now))) }
+    ensures { (content : List ℕ) → AreSums content piece_length size sums.now →
+        IfOk result (λ item. view item ≡ dictionary (piece_layers piece_length (single [] content))) }
 {
     match sums {
-        Some(sums) if content.len() as u64 > piece_length => layers_of_one(alloc, &sums.0, &sums.1),
+        Some(sums) if size > piece_length => layers_of_one(alloc, &sums.0, &sums.1),
         _ => Ok(Item::Dict(Vec::new(alloc))),
     }
 }

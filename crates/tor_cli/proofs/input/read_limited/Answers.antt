@@ -1,21 +1,15 @@
--- What came before, and what the last read gave, were read.
 use Rattle.std.proofs.Common.{arith, take, ◌++◌, length-append, length-take}
-use Rattle.std.specs.Io.KnownBytes.{Consumes}
 use Rattle.std.proofs.KnownBytes.{Consumes-trans}
-use Rattle.tor_cli.proofs.input.read_limited.Given.{Over}
+use Rattle.tor_cli.proofs.Inputs.{fault_after}
 use Rattle.tor_cli.proofs.input.read_limited.Goals as goal
-use Rattle.tor_cli.proofs.input.read_limited.Goals.{In-Ok}
 
-so_far : (g : Over) (c : In-Ok g) → Consumes (g.R.Read.remaining c.args.reader.now) (g.R.Read.remaining c.read.new.self) (c.loop-bytes.bytes.items ++ take c.in-Ok.count c.read.new.buf)
-so_far g c =
+pub returns-in-Err-clause-err : goal.returns-in-Err-clause-err
+returns-in-Err-clause-err g c =
     let remaining = g.R.Read.remaining in
-    Consumes-trans (remaining c.args.reader.now) (remaining c.loop-bytes.reader) (remaining c.read.new.self) c.loop-bytes.bytes.items (take c.in-Ok.count c.read.new.buf)
-    c.loop-bytes.invariant.read c.in-Ok.ensures.bytes.0
-
-pub returns-then-count-limit-clause-err : goal.returns-then-count-limit-clause-err
-returns-then-count-limit-clause-err g c =
-    (c.loop-bytes.bytes.items ++ take c.in-Ok.count c.read.new.buf, so_far g ((goal.at.returns-then-count-limit-clause-err g c).In-Ok), simp (length-append, length-take) (omega (arith, c.in-Ok.ensures.bound, c.loop-bytes.bytes.ok.0)))
+    fault_after (remaining c.args.reader.now) (remaining c.loop-bytes.reader) (remaining c.read_part.new.reader) c.args.limit c.in-Err.fault c.loop-bytes.bytes.items (omega (arith, c.loop-bytes.invariant.within, c.loop-bytes.bytes.ok.0)) c.loop-bytes.invariant.read (rw (c.len.ensures, c.loop-bytes.bytes.ok.0) at c.in-Err.ensures.err)
 
 pub returns-then-is_err-clause-err : goal.returns-then-is_err-clause-err
 returns-then-is_err-clause-err g c =
-    (c.loop-bytes.bytes.items ++ take c.in-Ok.count c.read.new.buf, so_far g ((goal.at.returns-then-is_err-clause-err g c).In-Ok), simp (length-append, length-take) (omega (arith, c.in-Ok.ensures.bound, c.loop-bytes.bytes.ok.0)))
+    let remaining = g.R.Read.remaining in
+    let given = Consumes-trans (remaining c.args.reader.now) (remaining c.loop-bytes.reader) (remaining c.read_part.new.reader) c.loop-bytes.bytes.items (take c.in-Ok.count c.read_part.new.buffer) c.loop-bytes.invariant.read c.in-Ok.ensures.given in
+    (c.loop-bytes.bytes.items ++ take c.in-Ok.count c.read_part.new.buffer, given, simp (length-append, length-take) (omega (arith, c.loop-bytes.invariant.within, c.in-Ok.ensures.within, c.loop-bytes.bytes.ok.0)))

@@ -21,6 +21,7 @@ invariant_of-result c =
     let same = c.new.ensures.height ∙ c.height_of-height.ensures ∙ height_is c.args.piece_length piece.0 piece.1 in
     let none = ap length c.new.ensures.bytes in
     record {
+      allowed = c.requires;
       low = omega (arith, c.new.ensures.height, c.height_of-height.ensures, height_least (c.args.piece_length / 16384) 16 (omega (arith, c.requires.2)));
       piece = piece.1 ∙ ap (λ k. 16384 * 2 ^ k) (sym same);
       small = omega (arith, none);

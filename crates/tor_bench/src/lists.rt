@@ -1,0 +1,90 @@
+//! Lists of many files, and their trees.
+ghost use Rattle.std.specs.Prelude.{◌<◌, ◌↔◌, IfOk, IsSome};
+ghost use Rattle.std.specs.List.{AllZip};
+ghost use Rattle.tor_tree.specs.TidyTree.{HasItsRoot};
+
+use std::alloc::{AllocError, Global};
+use std::io::Result;
+use std::time::Instant;
+use tor_tree::{FileList, FilePath, Hash, Name, NameError, from_item, to_item};
+
+/// How many files lie in one folder.
+const FOLDER: usize = 100;
+
+/// A prime, so that its multiples reach each place.
+const STEP: usize = 7_919;
+
+/// Prints how many paths were made.
+pub fn paths(rt: &HostRuntime, count: usize) -> Result<()> {
+    let made = files(rt.alloc(), count).map_or(0, |files| files.len());
+    println!(rt; "{made}")
+}
+
+/// Prints how many files are in a list of them.
+pub fn list(rt: &HostRuntime, count: usize) -> Result<()> {
+    let alloc = rt.alloc();
+    let Ok(files) = files(alloc, count) else {
+        return println!(rt; "0");
+    };
+    let listed = FileList::build(alloc, files).map_or(0, |list| list.files().len());
+    println!(rt; "{listed}")
+}
+
+/// Prints how many files there are, and the microseconds that their list, its tree, and reading that take.
+pub fn lists(rt: &HostRuntime, count: usize) -> Result<()> {
+    let alloc = rt.alloc();
+    let Ok(files) = files(alloc, count) else {
+        return println!(rt; "0 0 0 0");
+    };
+    let start = Instant::now(rt)?;
+    let Ok(list) = FileList::build(alloc, files) else {
+        return println!(rt; "0 0 0 0");
+    };
+    let built = start.elapsed(rt)?.as_micros();
+    let roots = roots_for(alloc, list.files())?;
+    let start = Instant::now(rt)?;
+    let tree = to_item(alloc, &list, &roots)?;
+    let written = start.elapsed(rt)?.as_micros();
+    let start = Instant::now(rt)?;
+    let read = from_item(alloc, &tree).is_ok_and(|files| files.len() == count);
+    let taken = start.elapsed(rt)?.as_micros();
+    println!(rt; "{count} {built} {written} {taken} {read}")
+}
+
+fn roots_for(
+    alloc: Global,
+    files: &[(FilePath, u64)],
+) -> std::result::Result<Vec<Option<Hash>>, AllocError>
+    ensures { IfOk result (λ roots. AllZip HasItsRoot files.now roots.items) }
+{
+    let mut roots = Vec::with_capacity(alloc, files.len())?;
+    for (_, length) in files {
+        roots.push(root_for(*length))?;
+    }
+    Ok(roots)
+}
+
+fn root_for(length: u64) -> Option<Hash>
+    ensures { IsSome result ↔ (0 < length) }
+{
+    if length == 0 { None } else { Some([7; 32]) }
+}
+
+// Files of one byte in folders of a hundred, in an order that is far from that of their paths.
+fn files(alloc: Global, count: usize) -> std::result::Result<Vec<(FilePath, u64)>, NameError> {
+    let mut files = Vec::with_capacity(alloc, count)?;
+    for n in 0..count {
+        let place = n.wrapping_mul(STEP) % count;
+        let mut names = Vec::new(alloc);
+        names.push(named(alloc, "folder", place / FOLDER)?)?;
+        names.push(named(alloc, "file", place)?)?;
+        if let Some(path) = FilePath::new(names) {
+            files.push((path, 1))?;
+        }
+    }
+    Ok(files)
+}
+
+fn named(alloc: Global, word: &str, number: usize) -> std::result::Result<Name, NameError> {
+    Name::new(alloc, format!(in alloc; "{word}{number}")?.as_bytes())
+}
