@@ -1,5 +1,6 @@
 //! What can stop the program: its line on standard error, and its status.
-ghost use Rattle.std.specs.Prelude.{◌≤◌};
+ghost use Rattle.std.specs.Prelude.{◌≡◌};
+ghost use Rattle.tor_cli.specs.Status.{status_of};
 
 use crate::input::InputFault;
 use crate::make::FromFault;
@@ -46,7 +47,7 @@ impl Fault {
 
     /// The status that the program ends with.
     pub fn status(&self) -> u8
-        ensures { result ≤ 4 }
+        ensures { result ≡ status_of self.now }
     {
         match self {
             Fault::Refused(_) => 1,
