@@ -1,6 +1,6 @@
 //! Bytes that come in parts, cut into blocks, whose leaves go into the tree of the pieces.
 
-ghost use Rattle.std.specs.Prelude.{◌≡◌, ◌+◌, ◌*◌, ◌%◌, ◌^◌, ◌<◌, ◌≤◌, ◌↔◌, [], ◌++◌, length, OnOk, IsNone, IfSome};
+ghost use Rattle.std.specs.Prelude.{◌≡◌, ◌+◌, ◌*◌, ◌%◌, ◌^◌, ◌<◌, ◌≤◌, ◌↔◌, [], ◌++◌, length, OnOk, IsOk, IsNone, IfSome};
 ghost use Rattle.std.specs.Int.{div_ceil};
 ghost use Rattle.tor_merkle.specs.Block.{leaves};
 ghost use Rattle.tor_merkle.specs.Layer.{pieces_root, piece_layer};
@@ -59,6 +59,7 @@ impl BlockHasher {
         ensures bytes { self.new.bytes ≡ self.old.bytes }
         ensures kept { self.old.room ≤ self.new.room }
         ensures room { OnOk result (pieces ≤ self.new.room) }
+        ensures there { pieces ≤ self.old.room → IsOk result }
     {
         self.tree.reserve(pieces)
     }

@@ -1,6 +1,7 @@
 //! Root and piece layer of a content that is fed in parts.
 
-ghost use Rattle.std.specs.Prelude.{◌≡◌, ◌+◌, ◌^◌, ◌≤◌, ◌↔◌, [], ◌++◌, length, OnOk, OnErr, IsNone, IfSome};
+ghost use Rattle.std.specs.Prelude.{◌≡◌, ◌+◌, ◌^◌, ◌≤◌, ◌↔◌, [], ◌++◌, length, OnOk, OnErr, IsOk, IsNone, IfSome};
+ghost use Rattle.std.specs.Int.{div_ceil};
 ghost use Rattle.tor_merkle.specs.Layer.{IsPieceLength, pieces_root, piece_layer};
 
 use crate::blocks::BlockHasher;
@@ -56,12 +57,15 @@ impl Feed {
         self.piece_length
     }
 
-    /// Adds `bytes` at the end of the content, which has at most 2^50 bytes in all.
+    /// Adds `bytes` at the end of the content, which has at most 2^50 bytes in all. Memory can only be refused
+    /// where they begin a piece.
     pub fn feed(&mut self, bytes: &[u8]) -> Result<(), AllocError>
         requires { length self.old.bytes + length bytes.now ≤ 2 ^ 50 }
         ensures piece_length { self.new.piece_length ≡ self.old.piece_length }
         ensures ok { OnOk result (self.new.bytes ≡ self.old.bytes ++ bytes.now) }
         ensures err { OnErr result (self.new ≡ self.old) }
+        ensures within { div_ceil (length self.old.bytes + length bytes.now) self.old.piece_length
+            ≤ div_ceil (length self.old.bytes) self.old.piece_length → IsOk result }
     {
         let total = self.blocks.count() + bytes.len() as u64;
         let pieces = total.div_ceil(self.piece_length) as usize;

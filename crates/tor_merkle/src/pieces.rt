@@ -1,6 +1,6 @@
 //! The tree over leaves that come one after another, piece by piece.
 
-ghost use Rattle.std.specs.Prelude.{◌≡◌, ◌+◌, ◌-◌, ◌^◌, ◌<◌, ◌≤◌, [], ◌∷◌, ◌++◌, length, OnOk, nat_le, if◌then◌else◌, vec_len, vec_capacity};
+ghost use Rattle.std.specs.Prelude.{◌≡◌, ◌+◌, ◌-◌, ◌^◌, ◌<◌, ◌≤◌, [], ◌∷◌, ◌++◌, length, OnOk, IsOk, nat_le, if◌then◌else◌, vec_len, vec_capacity};
 ghost use Rattle.std.specs.Int.{div_ceil};
 ghost use Rattle.tor_merkle.specs.Node.{nodes};
 ghost use Rattle.tor_merkle.specs.Stack.{padded_root, padded_subtree};
@@ -55,6 +55,7 @@ impl PieceTree {
         ensures leaves { self.new.leaves ≡ self.old.leaves }
         ensures kept { self.old.room ≤ self.new.room }
         ensures room { OnOk result (pieces ≤ self.new.room) }
+        ensures there { pieces ≤ self.old.room → IsOk result }
     {
         self.layer.reserve(pieces.saturating_sub(self.layer.len()))
     }

@@ -1,7 +1,7 @@
 //! Root and piece layer of a content that lies in memory: the plain program, with which faster ones
 //! are compared. It keeps all leaves, and halves them level by level.
 
-ghost use Rattle.std.specs.Prelude.{◌≡◌, ◌^◌, ◌≤◌, ◌↔◌, [], length, IfOk, IsNone, IfSome};
+ghost use Rattle.std.specs.Prelude.{◌≡◌, ◌^◌, ◌≤◌, ◌↔◌, [], length, IfOk, IsOk, IsNone, IfSome};
 ghost use Rattle.tor_merkle.specs.Block.{leaves};
 ghost use Rattle.tor_merkle.specs.Layer.{IsPieceLength, pieces_root, piece_layer};
 ghost use Rattle.tor_merkle.specs.Subtree.{level_above};
@@ -11,7 +11,8 @@ use std::alloc::{AllocError, Global};
 use std::mem;
 
 /// The Merkle root of `content`, and the 32-byte hashes of the layer where one covers one piece,
-/// in the order of the pieces; no hash where there is at most one piece. `None` where `content` is empty.
+/// in the order of the pieces; no hash where there is at most one piece. `None` where `content` is empty,
+/// which takes no memory.
 pub fn whole(
     alloc: Global,
     content: &[u8],
@@ -22,6 +23,7 @@ pub fn whole(
     ensures empty { IfOk result (λ sums. IsNone sums ↔ (content.now ≡ [])) }
     ensures root { IfOk result (λ sums. IfSome sums (λ s. s.0 ≡ pieces_root content.now)) }
     ensures layer { IfOk result (λ sums. IfSome sums (λ s. s.1.items ≡ piece_layer content.now piece_length)) }
+    ensures nothing { content.now ≡ [] → IsOk result }
 {
     if content.is_empty() {
         return Ok(None);
