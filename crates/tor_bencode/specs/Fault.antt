@@ -1,7 +1,7 @@
 -- What is wrong with bytes that spell no lawful tree: the code and the offset of the first fault in reading order.
 -- What stands before a fault is lawful as far as it goes. A run of digits that meets the end of the bytes is cut off,
 -- whatever the run.
-use Rattle.std.specs.Prelude.{◌≡◌, ◌≢◌, ◌<◌, ◌+◌, ◌⊎◌, ℕ, suc, ℤ, List, [], ◌∷◌, ◌++◌, length, codes, Bool, ◌==◌, ◌||◌, IsTrue, FitsSigned, Option, None, Some}
+use Rattle.std.specs.Prelude.{◌≡◌, ◌≢◌, ◌<◌, ◌+◌, ◌⊎◌, ℕ, suc, ℤ, List, [], ◌∷◌, ◌++◌, length, codes, Bool, false, ◌==◌, ◌||◌, IsTrue, FitsSigned, Option, None, Some}
 use Rattle.std.specs.Char.{is_ascii_digit}
 use Rattle.std.specs.Cmp.Lexicographic.{slice_cmp}
 use Rattle.std.specs.Int.{w64}
@@ -64,6 +64,11 @@ IsTooLarge bytes = (n : ℤ) × (more : List ℕ) × (bytes ≡ spelling (intege
 -- no value begins so
 abbrev pub BeginsNoValue : List ℕ → Type 0
 BeginsNoValue bytes = (c : ℕ) × (rest : List ℕ) × (bytes ≡ c ∷ rest) × ¬ IsTrue (is_ascii_digit c) × (c ≢ 105) × (c ≢ 108) × (c ≢ 100)
+
+-- A byte string, a list or a dictionary begins so. To read anything else takes no memory.
+abbrev pub may_take_memory : List ℕ → Bool
+may_take_memory [] = false
+may_take_memory (c ∷ rest) = is_ascii_digit c || ((c == 108) || (c == 100))
 
 -- What is wrong where a value is expected, and so many lists and dictionaries may still be opened. The last list has
 -- the bytes from the fault on: none where they end too early.

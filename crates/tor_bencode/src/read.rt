@@ -1,6 +1,6 @@
-ghost use Rattle.std.specs.Prelude.{◌≡◌, ◌<◌, length, None, IfOk, IfErr, IsOkUnless, option_map};
+ghost use Rattle.std.specs.Prelude.{◌≡◌, ◌<◌, length, true, None, Err, IfOk, IfErr, IsOkUnless, option_map};
 ghost use Rattle.tor_bencode.specs.Data.{Data};
-ghost use Rattle.tor_bencode.specs.Fault.{IsRefusalOf};
+ghost use Rattle.tor_bencode.specs.Fault.{IsRefusalOf, may_take_memory};
 ghost use Rattle.tor_bencode.specs.Lawful.{IsLawful};
 ghost use Rattle.tor_bencode.specs.Reading.{Gives, follows as follows_key, items_at, pairs_at, value_at, whole as whole_of};
 ghost use Rattle.tor_bencode.specs.Spelling.{spelling};
@@ -20,6 +20,7 @@ pub fn decode(alloc: Global, bytes: &[u8]) -> Result<Tree, BenError>
     ensures tree { IfOk result (λ tree. IsLawful (view tree) × (bytes.now ≡ spelling (view tree))) }
     ensures only { (d : Data) → IsLawful d → bytes.now ≡ spelling d → IsOkUnless result BenError.Memory }
     ensures fault { IfErr result (λ refusal. IsRefusalOf bytes.now refusal) }
+    ensures memory { result ≡ Err BenError.Memory → may_take_memory bytes.now ≡ true }
 {
     match whole(alloc, bytes) {
         Ok(item) => Ok(Tree::known(item)),
@@ -34,7 +35,8 @@ pub fn decode(alloc: Global, bytes: &[u8]) -> Result<Tree, BenError>
 /// The tree that all of the bytes spell.
 #[tactic(auto, unfolding(crate::specs::Reading::whole))]
 fn whole<'a>(alloc: Global, bytes: &'a [u8]) -> Result<Item, Stop<'a>>
-    ensures { Gives (λ item. view item) result (whole_of bytes.now) }
+    ensures read { Gives (λ item. view item) result (whole_of bytes.now) }
+    ensures memory { result ≡ Err Stop.Memory → may_take_memory bytes.now ≡ true }
 {
     let (item, rest) = value(alloc, bytes, MAX_NESTING)?;
     if !rest.is_empty() {
@@ -49,6 +51,7 @@ fn whole<'a>(alloc: Global, bytes: &'a [u8]) -> Result<Item, Stop<'a>>
 fn value<'a>(alloc: Global, bytes: &'a [u8], room: usize) -> Result<(Item, &'a [u8]), Stop<'a>>
     ensures read { Gives (λ x. (view x.0, x.1.now)) result (value_at room bytes.now) }
     ensures shorter { IfOk result (λ x. length x.1.now < length bytes.now) }
+    ensures memory { result ≡ Err Stop.Memory → may_take_memory bytes.now ≡ true }
 {
     match bytes {
         [] => Err(Stop::At(Fault::Truncated, bytes)),

@@ -39,6 +39,12 @@ file_of (path, properties) = record {
 abbrev pub files_of_tree : Data → List TreeFile
 files_of_tree tree = map file_of (entries_of tree)
 
+abbrev pub is_dictionary : Data → Bool
+is_dictionary (integer n) = false
+is_dictionary (string bytes) = false
+is_dictionary (list items) = false
+is_dictionary (dictionary pairs) = true
+
 -- every folder is a dictionary, every other key a name, and every empty key has properties
 abbrev mutual
   pub is_folder : Data → Bool

@@ -1,8 +1,8 @@
 //! The files that a file tree describes (BEP 52, "file tree"), before they are judged.
-ghost use Rattle.std.specs.Prelude.{◌≡◌, ◌⊎◌, ◌++◌, true, false, map, IfOk, IfErr, OnOk, [], ◌∷◌};
+ghost use Rattle.std.specs.Prelude.{◌≡◌, ◌⊎◌, ◌++◌, true, false, map, Err, IfOk, IfErr, OnOk, [], ◌∷◌};
 ghost use Rattle.tor_bencode.specs.Data.{pair, no_pairs};
 ghost use Rattle.tor_bencode.specs.View.{view};
-ghost use Rattle.tor_tree.specs.FileTree.{are_entries, entries_in, entries_of, is_folder};
+ghost use Rattle.tor_tree.specs.FileTree.{are_entries, entries_in, entries_of, is_dictionary, is_folder};
 ghost use Rattle.tor_tree.specs.Properties.{are_properties};
 ghost use Rattle.tor_tree.specs.Reading.{entry_at};
 ghost use Rattle.tor_tree.specs.declared.tree_file.TreeFault.TheVariants.{Memory, Shape};
@@ -35,6 +35,7 @@ pub fn add_folder(
         ≡ entries.old.items ++ map (entry_at folder.old.items) (entries_of (view item.now))) }
     ensures folder_stays { OnOk result (folder.new.items ≡ folder.old.items) }
     ensures refused { IfErr result (λ fault. ((fault ≡ Shape) × (is_folder (view item.now) ≡ false)) ⊎ (fault ≡ Memory)) }
+    ensures no_dictionary { is_dictionary (view item.now) ≡ false → result ≡ Err Shape }
 {
     let Item::Dict(pairs) = item else {
         return Err(TreeFault::Shape);

@@ -65,10 +65,10 @@ impl Model for FileList {
 }
 
 impl FileList {
-    ghost use Rattle.std.specs.Prelude.{◌≡◌, ◌⊎◌, Some, None, IfOk, IfErr, OnOk};
+    ghost use Rattle.std.specs.Prelude.{◌≡◌, ◌⊎◌, Some, None, Err, [], IfOk, IfErr, OnOk};
     ghost use Rattle.std.specs.List.Sorted.{IsPermutation};
     ghost use Rattle.tor_tree.specs.FileList.{list_fault, IsFileList, IsInPathOrder};
-    ghost use Rattle.tor_tree.specs.declared.lists.ListError.TheVariants.{Memory};
+    ghost use Rattle.tor_tree.specs.declared.lists.ListError.TheVariants.{Memory, NoFiles};
 
     /// The same files in the order of their paths.
     pub fn build(alloc: Global, mut files: Vec<(FilePath, u64)>) -> Result<FileList, ListError>
@@ -76,6 +76,7 @@ impl FileList {
         ensures in_order { IfOk result IsInPathOrder }
         ensures accepted { OnOk result (list_fault files.items ≡ None) }
         ensures refused { IfErr result (λ fault. (list_fault files.items ≡ Some fault) ⊎ (fault ≡ Memory)) }
+        ensures no_files { (files.items ≡ []) → result ≡ Err NoFiles }
     {
         if files.is_empty() {
             return Err(ListError::NoFiles);

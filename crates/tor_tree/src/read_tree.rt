@@ -1,11 +1,11 @@
 //! Reading a file tree (BEP 52, "file tree").
-ghost use Rattle.std.specs.Prelude.{◌≡◌, ◌⊎◌, ◌&&◌, Some, None, unsigned_abs, nat_lt, int_lt, pos, is_none, map, IfOk, IfErr, OnOk, All, IsSome, IsOkUnless};
+ghost use Rattle.std.specs.Prelude.{◌≡◌, ◌⊎◌, ◌&&◌, Some, None, unsigned_abs, nat_lt, int_lt, pos, is_none, map, false, Err, IfOk, IfErr, OnOk, All, IsSome, IsOkUnless};
 ghost use Rattle.std.specs.List.{list_any};
 ghost use Rattle.tor_bencode.specs.View.{view};
 ghost use Rattle.tor_tree.specs.FileList.{lengths_too_large};
-ghost use Rattle.tor_tree.specs.FileTree.{files_of_tree, tree_fault};
+ghost use Rattle.tor_tree.specs.FileTree.{files_of_tree, is_dictionary, tree_fault};
 ghost use Rattle.tor_tree.specs.Reading.{entries_fault, file_from};
-ghost use Rattle.tor_tree.specs.declared.tree_file.TreeFault.TheVariants.{Memory};
+ghost use Rattle.tor_tree.specs.declared.tree_file.TreeFault.TheVariants.{Memory, Shape};
 
 use crate::entries::{Entry, add_folder};
 use crate::lists::with_length;
@@ -19,6 +19,7 @@ pub fn from_item(alloc: Global, item: &Item) -> Result<Vec<TreeFile>, TreeFault>
     ensures files { IfOk result (λ files. files.items ≡ files_of_tree (view item.now)) }
     ensures accepted { OnOk result (tree_fault (view item.now) ≡ None) }
     ensures refused { IfErr result (λ fault. (tree_fault (view item.now) ≡ Some fault) ⊎ (fault ≡ Memory)) }
+    ensures no_dictionary { is_dictionary (view item.now) ≡ false → result ≡ Err Shape }
 {
     let mut entries = Vec::new(alloc);
     add_folder(alloc, item, &mut Vec::new(alloc), &mut entries)?;

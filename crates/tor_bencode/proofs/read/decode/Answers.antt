@@ -19,24 +19,24 @@ never_both : (d : Data) (x : Fault × List ℕ) (r : Result Data (Fault × List 
 never_both d x r e f = cc
 
 pub known-requires : goal.known-requires
-known-requires c = (tree_read c.args.bytes.now (view c.in-Ok.item) c.in-Ok.ensures).0
+known-requires c = (tree_read c.args.bytes.now (view c.in-Ok.item) c.in-Ok.ensures.read).0
 
 pub returns-in-Ok-clause-tree : goal.returns-in-Ok-clause-tree
 returns-in-Ok-clause-tree c =
-    subst (λ item. IsLawful (view item) × (c.args.bytes.now ≡ spelling (view item))) (sym c.known.ensures) (tree_read c.args.bytes.now (view c.in-Ok.item) c.in-Ok.ensures)
+    subst (λ item. IsLawful (view item) × (c.args.bytes.now ≡ spelling (view item))) (sym c.known.ensures) (tree_read c.args.bytes.now (view c.in-Ok.item) c.in-Ok.ensures.read)
 
 pub overflow_sub-result : goal.overflow_sub-result
 overflow_sub-result c =
-    let stopped = subst (λ stop. Stops stop (whole c.args.bytes.now)) c.in-Err-At.field-0-is c.in-Err-At.ensures in
+    let stopped = subst (λ stop. Stops stop (whole c.args.bytes.now)) c.in-Err-At.field-0-is c.in-Err-At.ensures.read in
     omega (arith, refused_within c.args.bytes.now c.in-Err-At.fault c.in-Err-At.rest.now (fault_read c.args.bytes.now (c.in-Err-At.fault, c.in-Err-At.rest.now) stopped))
 
 pub returns-in-Err-At-clause-only : goal.returns-in-Err-At-clause-only
 returns-in-Err-At-clause-only c =
-    let stopped = subst (λ stop. Stops stop (whole c.args.bytes.now)) c.in-Err-At.field-0-is c.in-Err-At.ensures in
+    let stopped = subst (λ stop. Stops stop (whole c.args.bytes.now)) c.in-Err-At.field-0-is c.in-Err-At.ensures.read in
     λ d lawful is. absurd (never_both d (c.in-Err-At.fault, c.in-Err-At.rest.now) (whole c.args.bytes.now) (whole-spelling d c.args.bytes.now lawful is) stopped)
 
 pub returns-in-Err-At-clause-fault : goal.returns-in-Err-At-clause-fault
 returns-in-Err-At-clause-fault c =
-    let stopped = subst (λ stop. Stops stop (whole c.args.bytes.now)) c.in-Err-At.field-0-is c.in-Err-At.ensures in
+    let stopped = subst (λ stop. Stops stop (whole c.args.bytes.now)) c.in-Err-At.field-0-is c.in-Err-At.ensures.read in
     let cause = fault_read c.args.bytes.now (c.in-Err-At.fault, c.in-Err-At.rest.now) stopped in
     (c.in-Err-At.rest.now, omega (arith, refused_within c.args.bytes.now c.in-Err-At.fault c.in-Err-At.rest.now cause), cause)
