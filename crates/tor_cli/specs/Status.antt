@@ -1,7 +1,27 @@
--- The status that the program ends with at a fault.
+-- What stops the program: which fault a step's fault is, and the status that the program ends with.
 use Rattle.std.specs.Prelude.{ℕ}
+use Rattle.tor_meta.specs.declared.refusals.BytesError.{BytesError}
+use Rattle.tor_meta.specs.declared.refusals.BytesError.TheVariants as refusals
+use Rattle.tor_cli.specs.declared.input.InputFault.{InputFault}
+use Rattle.tor_cli.specs.declared.input.InputFault.TheVariants as inputs
+use Rattle.tor_cli.specs.declared.make.FromFault.{FromFault}
+use Rattle.tor_cli.specs.declared.make.FromFault.TheVariants as steps
 use Rattle.tor_cli.specs.declared.fault.Fault.{Fault}
 use Rattle.tor_cli.specs.declared.fault.Fault.TheVariants.{Usage, Refused, Read, TooLong, Write, Resources}
+
+abbrev pub of_input_fault : InputFault → Fault
+of_input_fault inputs.Read = Read
+of_input_fault inputs.TooLong = TooLong
+of_input_fault inputs.Memory = Resources
+
+abbrev pub of_refusal : BytesError → Fault
+of_refusal refusals.Memory = Resources
+of_refusal refusal = Refused refusal
+
+abbrev pub of_step_fault : FromFault → Fault
+of_step_fault (steps.Input fault) = of_input_fault fault
+of_step_fault (steps.Make refusal) = of_refusal refusal
+of_step_fault (steps.Write fault) = Write fault.written
 
 abbrev pub status_of : Fault → ℕ
 status_of (Refused refusal) = 1

@@ -1,6 +1,7 @@
 //! What can stop the program: its line on standard error, and its status.
 ghost use Rattle.std.specs.Prelude.{◌≡◌};
-ghost use Rattle.tor_cli.specs.Status.{status_of};
+ghost use Rattle.tor_cli.specs.Status.{of_step_fault, status_of};
+ghost use Rattle.tor_cli.specs.declared.fault.Fault.TheVariants.{Write, Resources};
 
 use crate::input::InputFault;
 use crate::make::FromFault;
@@ -72,6 +73,8 @@ impl fmt::Display for Fault {
 }
 
 impl From<FromFault> for Fault {
+    ghost from_gives = { λ fault e. e ≡ of_step_fault fault };
+
     fn from(fault: FromFault) -> Fault {
         match fault {
             FromFault::Input(InputFault::Read) => Fault::Read,
@@ -85,18 +88,24 @@ impl From<FromFault> for Fault {
 }
 
 impl From<WriteFault> for Fault {
+    ghost from_gives = { λ fault e. e ≡ Write fault.written };
+
     fn from(fault: WriteFault) -> Fault {
         Fault::Write(fault.written)
     }
 }
 
 impl From<AllocError> for Fault {
+    ghost from_gives = { λ _ e. e ≡ Resources };
+
     fn from(_error: AllocError) -> Fault {
         Fault::Resources
     }
 }
 
 impl<T: Drop> From<AllocFailed<T>> for Fault {
+    ghost from_gives = { λ _ e. e ≡ Resources };
+
     fn from(_failed: AllocFailed<T>) -> Fault {
         Fault::Resources
     }

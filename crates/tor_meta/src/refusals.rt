@@ -5,7 +5,6 @@ ghost use Rattle.tor_meta.specs.declared.refusals.BytesError.TheVariants.{Memory
 
 use std::alloc::{AllocError, AllocFailed};
 use thiserror::Error;
-use tor_bencode::BenError;
 use tor_tree::NameError;
 
 /// Why no torrent is made of a content under a name; the first of these that holds.

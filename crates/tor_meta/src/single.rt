@@ -6,6 +6,7 @@ ghost use Rattle.tor_meta.specs.BytesRefusal.{bytes_refusal, head_refusal, is_pi
 ghost use Rattle.tor_meta.specs.OneFile.{AreSums, one_file};
 ghost use Rattle.tor_spec.specs.PieceLayers.{piece_layers};
 ghost use Rattle.tor_spec.specs.Metainfo.{metainfo, root_dictionary, plain, single};
+ghost use Rattle.tor_tree.specs.Name.{name_fault};
 
 use crate::items::{info, layers_of_one, root};
 use crate::refusals::BytesError;
@@ -25,8 +26,8 @@ pub fn make_bytes(
     ensures made { IfOk result (λ bytes.
         bytes.items ≡ metainfo (plain name.now piece_length) (single name.now content.now)) }
     ensures accepted { OnOk result (bytes_refusal name.now content.now piece_length ≡ None) }
-    ensures refused { IfErr result (λ refusal.
-        (refusal ≡ BytesError.Memory) ⊎ (bytes_refusal name.now content.now piece_length ≡ Some refusal)) }
+    ensures refused { IfErr result (λ refusal. ((refusal ≡ BytesError.Memory) × (name_fault name.now ≡ None))
+        ⊎ (bytes_refusal name.now content.now piece_length ≡ Some refusal)) }
 {
     let name = check_head(alloc, name, piece_length)?;
     if content.len() as u64 > MAX_LENGTH {
@@ -41,8 +42,8 @@ pub fn make_bytes(
 pub fn check_head(alloc: Global, name: &[u8], piece_length: u64) -> Result<Name, BytesError>
     ensures made { IfOk result (λ made. made ≡ name.now) }
     ensures accepted { OnOk result (head_refusal name.now piece_length ≡ None) }
-    ensures refused { IfErr result (λ refusal.
-        (refusal ≡ BytesError.Memory) ⊎ (head_refusal name.now piece_length ≡ Some refusal)) }
+    ensures refused { IfErr result (λ refusal. ((refusal ≡ BytesError.Memory) × (name_fault name.now ≡ None))
+        ⊎ (head_refusal name.now piece_length ≡ Some refusal)) }
 {
     let name = Name::new(alloc, name)?;
     if !is_piece_length(piece_length) {

@@ -82,6 +82,10 @@ fn writes_out_all_bytes(rt: HostRuntime) -> Result<(), Fail> {
     let mut written = Vec::new(rt.alloc());
     assert!(rt; write_out(&mut written, b"abc").is_ok());
     assert_eq!(rt; written.as_slice(), b"abc".as_slice());
+    let long = sevens(rt.alloc(), 100_000)?;
+    let mut written = Vec::new(rt.alloc());
+    assert!(rt; write_out(&mut written, &long).is_ok());
+    assert!(rt; written == long);
     Ok(())
 }
 
