@@ -1,13 +1,28 @@
 //! The names in one folder.
+ghost use Rattle.std.specs.Prelude.{IfOk};
+ghost use Rattle.std.specs.List.Sorted.{IsStrictlySortedBy};
+ghost use Rattle.tor_tree.specs.Path.{name_cmp};
+
 use crate::faults::ScanFault;
 use std::io::Read;
 use std::rt::Files;
 
-/// The names in a folder but `.` and `..`, falling by their bytes.
-pub(crate) fn falling_names<R: Files + AllocGlobal>(
+/// The names in a folder but `.` and `..`, each once, rising by their bytes.
+pub(crate) fn rising_names<R: Files + AllocGlobal>(
     rt: &R,
     path: &str,
-) -> Result<Vec<Vec<u8>>, ScanFault> {
+) -> Result<Vec<Vec<u8>>, ScanFault>
+    ensures { IfOk result
+        (λ names. IsStrictlySortedBy (λ name next. name_cmp name.items next.items) names.items) }
+{
+    let mut names = names_in(rt, path)?;
+    names.sort()?;
+    names.dedup();
+    Ok(names)
+}
+
+// The names in a folder but `.` and `..`, as the system lists them.
+fn names_in<R: Files + AllocGlobal>(rt: &R, path: &str) -> Result<Vec<Vec<u8>>, ScanFault> {
     let listed = listed(rt, path)?;
     let mut names = Vec::new(rt.alloc());
     for name in listed.split(|byte| *byte == 0) {
@@ -16,8 +31,6 @@ pub(crate) fn falling_names<R: Files + AllocGlobal>(
             _ => names.push(Vec::from_slice(rt.alloc(), name)?)?,
         }
     }
-    names.sort()?;
-    names.reverse();
     Ok(names)
 }
 

@@ -1,124 +1,144 @@
 //! The files below a folder, in the order of their paths.
+ghost use Rattle.std.specs.Prelude.{◌≡◌, ◌≤◌, ◌∷◌, ◌++◌, [], IfOk, OnOk, length, map};
+ghost use Rattle.std.specs.String.{string_bytes};
+ghost use Rattle.tor_source.specs.Order.{AreBefore, AreUpTo, IsFound};
+ghost use Rattle.tor_source.specs.Places.{place_below, without_slash};
+
 use crate::faults::ScanFault;
-use crate::listing::falling_names;
+use crate::listing::rising_names;
+use crate::places::{joined, without_slash};
 use std::alloc::{AllocError, Global};
 use std::rt::Files;
-use std::str;
 use tor_tree::{FilePath, Name};
 
 /// The most names in a path.
 const MAX_NAMES: usize = 64;
 
-/// Files that were found: their paths below the folder, and where the system has them.
+/// The most folders inside one another; the system has no place so long.
+const MAX_FOLDERS: usize = 4096;
+
+/// Files that were found: the place of the folder, with no slash at its end, and for each file its path below the
+/// folder and where the system has it.
 #[derive(Drop)]
 pub(crate) struct Found {
+    folder: String,
     pub(crate) paths: Vec<FilePath>,
     pub(crate) places: Vec<String>,
 }
 
-// A folder that was entered: its place, with a slash at the end, the names that lead to it, and those in it that are
-// still to be entered, the next one last.
-#[derive(Drop)]
-struct OpenFolder {
-    place: String,
-    above: Vec<Vec<u8>>,
-    names: Vec<Vec<u8>>,
-}
-
-#[derive(Drop)]
-enum Entered {
-    File(FilePath, String),
-    Folder(OpenFolder),
-}
-
 /// All files below a folder. A folder is listed whole, and its names are entered in the order of their bytes, each
 /// folder where it is met.
-pub(crate) fn walk<R: Files + AllocGlobal>(rt: &R, root: &str) -> Result<Found, ScanFault> {
+pub(crate) fn walk<R: Files + AllocGlobal>(rt: &R, root: &str) -> Result<Found, ScanFault>
+    ensures { IfOk result (λ found. IsFound (without_slash root.now) found.paths.items (map string_bytes found.places.items)) }
+{
     let alloc = rt.alloc();
+    let folder = without_slash(root);
     let mut found = Found {
+        folder: String::from_str(alloc, folder)?,
         paths: Vec::new(alloc),
         places: Vec::new(alloc),
     };
-    let mut open = Vec::new(alloc);
-    open.push(open_folder(rt, String::from_str(alloc, root)?, Vec::new(alloc))?)?;
-    for _ in 0..u64::MAX {
-        let Some(mut folder) = open.pop() else {
-            return Ok(found);
-        };
-        let Some(name) = folder.names.pop() else {
-            continue;
-        };
-        let entered = enter(rt, &folder, name)?;
-        open.push(folder)?;
-        match entered {
-            Entered::Folder(inner) => open.push(inner)?,
-            Entered::File(path, place) => {
-                found.paths.push(path)?;
-                found.places.push(place)?;
-            }
-        }
-    }
-    Err(ScanFault::System)
+    let mut above = Vec::new(alloc);
+    let place = String::from_str(alloc, folder)?;
+    add_folder(rt, place, &mut above, MAX_FOLDERS, &mut found)?;
+    Ok(found)
 }
 
-fn open_folder<R: Files + AllocGlobal>(
+/// Adds the files below the folder `place`, which the names `above` lead to; `room` more folders may be entered, one
+/// inside the other.
+#[cycle(walk)]
+fn add_folder<R: Files + AllocGlobal>(
     rt: &R,
     mut place: String,
-    above: Vec<Vec<u8>>,
-) -> Result<OpenFolder, ScanFault> {
-    if !place.ends_with('/') {
-        place.push('/')?;
+    above: &mut Vec<Name>,
+    room: usize,
+    found: &mut Found,
+) -> Result<(), ScanFault>
+    requires placed { string_bytes place ≡ place_below (string_bytes found.old.folder) above.old.items }
+    requires found { IsFound (string_bytes found.old.folder) found.old.paths.items (map string_bytes found.old.places.items) }
+    requires before { AreBefore above.old.items found.old.paths.items }
+    ensures found { OnOk result (IsFound (string_bytes found.new.folder) found.new.paths.items (map string_bytes found.new.places.items)) }
+    ensures up_to { OnOk result (AreUpTo above.old.items found.new.paths.items) }
+    ensures folder_stays { OnOk result (string_bytes found.new.folder ≡ string_bytes found.old.folder) }
+    ensures above_stays { OnOk result (above.new.items ≡ above.old.items) }
+{
+    if room == 0 {
+        return Err(ScanFault::System);
     }
-    let names = falling_names(rt, &place)?;
-    Ok(OpenFolder {
-        place,
-        above,
-        names,
-    })
+    place.push('/')?;
+    let names = rising_names(rt, &place)?;
+    for name in &names {
+        add_entry(rt, &place, name, above, room - 1, found)?;
+    }
+    Ok(())
 }
 
-fn enter<R: Files + AllocGlobal>(
+/// Adds the file of this name in the folder `folder`, whose place ends in a slash, or the files below the folder of
+/// this name.
+#[cycle(walk)]
+fn add_entry<R: Files + AllocGlobal>(
     rt: &R,
-    folder: &OpenFolder,
-    name: Vec<u8>,
-) -> Result<Entered, ScanFault> {
-    let Ok(text) = str::from_utf8(&name) else {
-        return Err(ScanFault::NotUtf8);
-    };
-    let place = joined(rt.alloc(), &folder.place, text)?;
+    folder: &str,
+    name: &[u8],
+    above: &mut Vec<Name>,
+    room: usize,
+    found: &mut Found,
+) -> Result<(), ScanFault>
+    requires placed { folder.now ≡ place_below (string_bytes found.old.folder) above.old.items ++ 47 ∷ [] }
+    requires found { IsFound (string_bytes found.old.folder) found.old.paths.items (map string_bytes found.old.places.items) }
+    requires before { AreBefore (above.old.items ++ name.now ∷ []) found.old.paths.items }
+    ensures found { OnOk result (IsFound (string_bytes found.new.folder) found.new.paths.items (map string_bytes found.new.places.items)) }
+    ensures up_to { OnOk result (AreUpTo (above.old.items ++ name.now ∷ []) found.new.paths.items) }
+    ensures folder_stays { OnOk result (string_bytes found.new.folder ≡ string_bytes found.old.folder) }
+    ensures above_stays { OnOk result (above.new.items ≡ above.old.items) }
+{
+    let name = Name::new(rt.alloc(), name)?;
+    let place = joined(rt.alloc(), folder, &name)?;
     let metadata = rt.symlink_metadata(&place)?;
-    let names = with_name(rt.alloc(), &folder.above, name)?;
+    above.push(name)?;
     if metadata.is_dir() {
-        Ok(Entered::Folder(open_folder(rt, place, names)?))
+        add_folder(rt, place, above, room, found)?;
     } else if metadata.is_file() {
-        Ok(Entered::File(file_path(rt.alloc(), &names)?, place))
+        add_file(rt.alloc(), place, above, found)?;
     } else {
-        Err(ScanFault::NotRegular)
+        return Err(ScanFault::NotRegular);
     }
+    above.pop();
+    Ok(())
 }
 
-fn joined(alloc: Global, folder: &str, name: &str) -> Result<String, AllocError> {
-    let mut place = String::from_str(alloc, folder)?;
-    place.push_str(name)?;
-    Ok(place)
-}
-
-fn with_name(alloc: Global, above: &[Vec<u8>], name: Vec<u8>) -> Result<Vec<Vec<u8>>, AllocError> {
-    let mut names = Vec::new(alloc);
-    for name in above {
-        names.push(Vec::from_slice(alloc, name)?)?;
-    }
-    names.push(name)?;
-    Ok(names)
-}
-
-fn file_path(alloc: Global, names: &[Vec<u8>]) -> Result<FilePath, ScanFault> {
+/// Adds the file `place`, which these names lead to.
+fn add_file(
+    alloc: Global,
+    place: String,
+    names: &[Name],
+    found: &mut Found,
+) -> Result<(), ScanFault>
+    requires placed { string_bytes place ≡ place_below (string_bytes found.old.folder) names.now }
+    requires found { IsFound (string_bytes found.old.folder) found.old.paths.items (map string_bytes found.old.places.items) }
+    requires before { AreBefore names.now found.old.paths.items }
+    ensures found { OnOk result (IsFound (string_bytes found.new.folder) found.new.paths.items (map string_bytes found.new.places.items)) }
+    ensures up_to { OnOk result (AreUpTo names.now found.new.paths.items) }
+    ensures folder_stays { OnOk result (string_bytes found.new.folder ≡ string_bytes found.old.folder) }
+{
     if names.len() > MAX_NAMES {
         return Err(ScanFault::TooDeep);
     }
-    let mut path = Vec::new(alloc);
+    let Some(path) = FilePath::new(copies(alloc, names)?) else {
+        return Err(ScanFault::System);
+    };
+    found.paths.push(path)?;
+    found.places.push(place)?;
+    Ok(())
+}
+
+/// The same names again.
+fn copies(alloc: Global, names: &[Name]) -> Result<Vec<Name>, AllocError>
+    ensures { IfOk result (λ copied. copied.items ≡ names.now) }
+{
+    let mut copied = Vec::with_capacity(alloc, names.len())?;
     for name in names {
-        path.push(Name::new(alloc, name)?)?;
+        copied.push(name.copy(alloc)?)?;
     }
-    FilePath::new(path).ok_or(ScanFault::System)
+    Ok(copied)
 }

@@ -1,0 +1,49 @@
+//! Where the system has files: a folder's place, and each name after a slash.
+ghost use Rattle.std.specs.Prelude.{◌≡◌, ◌++◌, IfOk};
+ghost use Rattle.std.specs.String.{string_bytes};
+ghost use Rattle.tor_source.specs.Places.{place_of, without_slash};
+
+use std::alloc::{AllocError, Global};
+use std::str;
+use tor_tree::{FilePath, Name};
+
+/// The place of the file that the path leads to from a folder.
+pub(crate) fn place_of(alloc: Global, folder: &str, file: &FilePath) -> Result<String, AllocError>
+    ensures { IfOk result (λ place. string_bytes place ≡ place_of folder.now file.now) }
+{
+    let mut place = String::from_str(alloc, without_slash(folder))?;
+    for name in file.names() {
+        place.push('/')?;
+        place.push_str(text_of(name))?;
+    }
+    Ok(place)
+}
+
+/// The place of a folder, less the slash at its end if it has one.
+pub(crate) fn without_slash(folder: &str) -> &str
+    ensures { result.now ≡ without_slash folder.now }
+{
+    match folder.strip_suffix('/') {
+        Some(rest) => rest,
+        None => folder,
+    }
+}
+
+/// A place and a name, one after the other.
+pub(crate) fn joined(alloc: Global, folder: &str, name: &Name) -> Result<String, AllocError>
+    ensures { IfOk result (λ place. string_bytes place ≡ folder.now ++ name.now) }
+{
+    let mut place = String::from_str(alloc, folder)?;
+    place.push_str(text_of(name))?;
+    Ok(place)
+}
+
+// A name's bytes are text.
+fn text_of(name: &Name) -> &str
+    ensures { result.now ≡ name.now }
+{
+    match str::from_utf8(name.as_bytes()) {
+        Ok(text) => text,
+        Err(_) => unreachable!(),
+    }
+}
