@@ -1,2 +1,3 @@
-pub mod Places
+pub mod Faults
 pub mod Order
+pub mod Places

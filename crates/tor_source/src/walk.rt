@@ -1,8 +1,9 @@
 //! The files below a folder, in the order of their paths.
-ghost use Rattle.std.specs.Prelude.{◌≡◌, ◌≤◌, ◌∷◌, ◌++◌, [], IfOk, OnOk, length, map};
+ghost use Rattle.std.specs.Prelude.{◌≡◌, ◌≢◌, ◌≤◌, ◌<◌, ◌∷◌, ◌++◌, ◌⊎◌, [], IfErr, IfOk, OnOk, length, map};
 ghost use Rattle.std.specs.String.{string_bytes};
 ghost use Rattle.tor_source.specs.Order.{AreBefore, AreUpTo, IsFound};
 ghost use Rattle.tor_source.specs.Places.{place_below, without_slash};
+ghost use Rattle.tor_source.specs.declared.faults.ScanFault.TheVariants.{Memory, TooDeep};
 
 use crate::faults::ScanFault;
 use crate::listing::rising_names;
@@ -114,18 +115,21 @@ fn add_file(
     names: &[Name],
     found: &mut Found,
 ) -> Result<(), ScanFault>
+    requires some { names.now ≢ [] }
     requires placed { string_bytes place ≡ place_below (string_bytes found.old.folder) names.now }
     requires found { IsFound (string_bytes found.old.folder) found.old.paths.items (map string_bytes found.old.places.items) }
     requires before { AreBefore names.now found.old.paths.items }
     ensures found { OnOk result (IsFound (string_bytes found.new.folder) found.new.paths.items (map string_bytes found.new.places.items)) }
+    ensures added { OnOk result (found.new.paths.items ≡ found.old.paths.items ++ names.now ∷ []) }
     ensures up_to { OnOk result (AreUpTo names.now found.new.paths.items) }
     ensures folder_stays { OnOk result (string_bytes found.new.folder ≡ string_bytes found.old.folder) }
+    ensures refused { IfErr result (λ fault. ((fault ≡ TooDeep) × (64 < length names.now)) ⊎ (fault ≡ Memory)) }
 {
     if names.len() > MAX_NAMES {
         return Err(ScanFault::TooDeep);
     }
     let Some(path) = FilePath::new(copies(alloc, names)?) else {
-        return Err(ScanFault::System);
+        unreachable!();
     };
     found.paths.push(path)?;
     found.places.push(place)?;
