@@ -1,18 +1,11 @@
 -- The order in which the files below a folder are found.
-use Rattle.std.specs.Prelude.{◌≡◌, ◌≤◌, ◌⊎◌, ℕ, true, List, length, map}
-use Rattle.std.specs.List.{All, starts_with}
+use Rattle.std.specs.Prelude.{◌≡◌, ◌≤◌, ◌++◌, ◌∷◌, [], ℕ, List, length, map}
+use Rattle.std.specs.List.{All, AllPairs}
 use Rattle.std.specs.List.Sorted.{IsStrictlySortedBy}
 use Rattle.std.specs.declared.cmp.Ordering.TheVariants.{Less}
-use Rattle.tor_tree.specs.Path.{name_eq, path_cmp}
+use Rattle.tor_tree.specs.Path.{path_cmp}
 use Rattle.tor_source.specs.Places.{place_below}
-
--- each path comes before this one
-abbrev pub AreBefore : List (List ℕ) → List (List (List ℕ)) → Type 0
-AreBefore path paths = All (λ earlier. path_cmp earlier path ≡ Less) paths
-
--- each path comes before these names, or begins with them
-abbrev pub AreUpTo : List (List ℕ) → List (List (List ℕ)) → Type 0
-AreUpTo names paths = All (λ path. (path_cmp path names ≡ Less) ⊎ (starts_with name_eq path names ≡ true)) paths
+use Rattle.tor_source.specs.declared.walk.Entry.{Entry}
 
 -- files that were found below a place: their paths strictly rise and have at most 64 names, and each is where its
 -- path says
@@ -20,3 +13,20 @@ pub record IsFound (place : List ℕ) (paths : List (List (List ℕ))) (places :
   pub rising : IsStrictlySortedBy path_cmp paths
   pub short : All (λ path. length path ≤ 64) paths
   pub placed : places ≡ map (place_below place) paths
+
+-- the path that is entered next
+abbrev pub path_of : Entry → List (List ℕ)
+path_of entry = entry.above.items ++ entry.name.items ∷ []
+
+-- each path comes before this one
+abbrev pub AreBefore : List (List ℕ) → List (List (List ℕ)) → Type 0
+AreBefore path paths = All (λ earlier. path_cmp earlier path ≡ Less) paths
+
+-- a path, and whatever is inside it, comes before a later one
+abbrev pub IsPast : List (List ℕ) → List (List ℕ) → Type 0
+IsPast path later = (more : List (List ℕ)) → path_cmp (path ++ more) later ≡ Less
+
+-- paths that wait, the next one last, while others were found: each is past those after it, and past all that were found
+pub record IsWaiting (found : List (List (List ℕ))) (waiting : List (List (List ℕ))) : Type 0 where
+  pub apart : AllPairs (λ later sooner. IsPast sooner later) waiting
+  pub before : All (λ path. AreBefore path found) waiting

@@ -1,7 +1,7 @@
 //! Where the system has files: a folder's place, and each name after a slash.
-ghost use Rattle.std.specs.Prelude.{◌≡◌, ◌++◌, IfOk};
+ghost use Rattle.std.specs.Prelude.{◌≡◌, IfOk};
 ghost use Rattle.std.specs.String.{string_bytes};
-ghost use Rattle.tor_source.specs.Places.{place_of, without_slash};
+ghost use Rattle.tor_source.specs.Places.{place_below, place_of, without_slash};
 
 use std::alloc::{AllocError, Global};
 use std::str;
@@ -11,12 +11,19 @@ use tor_tree::{FilePath, Name};
 pub(crate) fn place_of(alloc: Global, folder: &str, file: &FilePath) -> Result<String, AllocError>
     ensures { IfOk result (λ place. string_bytes place ≡ place_of folder.now file.now) }
 {
-    let mut place = String::from_str(alloc, without_slash(folder))?;
-    for name in file.names() {
-        place.push('/')?;
-        place.push_str(text_of(name))?;
+    place_below(alloc, without_slash(folder), file.names())
+}
+
+/// A place, and each name after a slash.
+pub(crate) fn place_below(alloc: Global, place: &str, names: &[Name]) -> Result<String, AllocError>
+    ensures { IfOk result (λ below. string_bytes below ≡ place_below place.now names.now) }
+{
+    let mut below = String::from_str(alloc, place)?;
+    for name in names {
+        below.push('/')?;
+        below.push_str(text_of(name))?;
     }
-    Ok(place)
+    Ok(below)
 }
 
 /// The place of a folder, less the slash at its end if it has one.
@@ -27,15 +34,6 @@ pub(crate) fn without_slash(folder: &str) -> &str
         Some(rest) => rest,
         None => folder,
     }
-}
-
-/// A place and a name, one after the other.
-pub(crate) fn joined(alloc: Global, folder: &str, name: &Name) -> Result<String, AllocError>
-    ensures { IfOk result (λ place. string_bytes place ≡ folder.now ++ name.now) }
-{
-    let mut place = String::from_str(alloc, folder)?;
-    place.push_str(text_of(name))?;
-    Ok(place)
 }
 
 // A name's bytes are text.
