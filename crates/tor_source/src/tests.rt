@@ -1,6 +1,7 @@
 use crate::{FolderSource, ScanFault};
 use std::alloc::{AllocError, Allocator, Global};
 use std::fs::{File, Metadata, OpenOptions};
+use std::io::Cursor;
 use std::rt::Files;
 use std::test::Fail;
 use std::{env, fs, io, process};
@@ -110,7 +111,7 @@ fn lists_a_folder_of_many_names(rt: HostRuntime) -> Result<(), Fail> {
 #[derive(Clone, Drop)]
 struct Listed {
     rt: HostRuntime,
-    names: &'static [u8],
+    names: Vec<u8>,
 }
 
 impl Alloc for Listed {
@@ -124,18 +125,18 @@ impl Alloc for Listed {
 impl Files for Listed {
     type File = File;
 
-    type Dir = &'static [u8];
+    type Dir = Cursor<Vec<u8>>;
 
     fn open_file(&self, how: &OpenOptions, path: &str) -> io::Result<File> {
         self.rt.open_file(how, path)
     }
 
-    fn open_dir(&self, path: &str) -> io::Result<&'static [u8]> {
-        match path {
-            "top/" => Ok(self.names),
-            _ if path.ends_with("locked/") => Err(io::Error::from(io::ErrorKind::PermissionDenied)),
-            _ => Ok(b""),
+    fn open_dir(&self, path: &str) -> io::Result<Cursor<Vec<u8>>> {
+        if path.ends_with("locked/") {
+            return Err(io::Error::from(io::ErrorKind::PermissionDenied));
         }
+        let names: &[u8] = if path == "top/" { &self.names } else { b"" };
+        Ok(Cursor::new(Vec::from_slice(self.alloc(), names)?))
     }
 
     fn metadata(&self, path: &str) -> io::Result<Metadata> {
@@ -177,29 +178,37 @@ impl Files for Listed {
     }
 }
 
+// What a scan of `top` with these names gives: its paths, or why there are none.
+fn told(rt: &HostRuntime, names: &[u8]) -> io::Result<Vec<u8>> {
+    let alloc = rt.alloc();
+    let listed = Listed {
+        rt: rt.clone()?,
+        names: Vec::from_slice(alloc, names)?,
+    };
+    match FolderSource::scan(&listed, "top") {
+        Ok((_source, paths)) => Ok(shown(alloc, &paths)?),
+        Err(fault) => Ok(format!(in alloc; "{fault}")?.into_bytes()),
+    }
+}
+
 #[test]
 fn answers_the_first_fault_in_the_order_of_names(rt: HostRuntime) -> Result<(), Fail> {
-    let alloc = rt.alloc();
-    let cases: [(&[u8], &str); 5] = [
-        (b"\xff\0a file\0", "F1 NotUtf8"),
-        (b"\xff\0fifo\0", "F2 NotRegular"),
-        (b"fifo\0a locked\0", "F4 System"),
-        (
-            b"b file\0..\0a file\0.\0a folder\0b file\0",
-            "/a file /b file ",
-        ),
-        (b"", ""),
-    ];
-    for (names, want) in cases {
-        let listed = Listed {
-            rt: rt.clone()?,
-            names,
-        };
-        let text = match FolderSource::scan(&listed, "top") {
-            Ok((_, paths)) => shown(alloc, &paths)?,
-            Err(fault) => format!(in alloc; "{fault}")?.into_bytes(),
-        };
-        assert_eq!(rt; text.as_slice(), want.as_bytes());
-    }
+    assert_eq!(rt;
+        told(&rt, b"\xff\0a file\0")?.as_slice(),
+        b"F1 NotUtf8".as_slice()
+    );
+    assert_eq!(rt;
+        told(&rt, b"\xff\0fifo\0")?.as_slice(),
+        b"F2 NotRegular".as_slice()
+    );
+    assert_eq!(rt;
+        told(&rt, b"fifo\0a locked\0")?.as_slice(),
+        b"F4 System".as_slice()
+    );
+    assert_eq!(rt;
+        told(&rt, b"b file\0..\0a file\0.\0a folder\0b file\0")?.as_slice(),
+        b"/a file /b file ".as_slice()
+    );
+    assert_eq!(rt; told(&rt, b"")?.as_slice(), b"".as_slice());
     Ok(())
 }
