@@ -28,7 +28,7 @@ pub(crate) fn rising_names<R: Files + AllocGlobal>(
 // room for one whole name at least, which the reader gives: it reads into the whole of its buffer.
 fn names_in<R: Files + AllocGlobal>(rt: &R, path: &str) -> Result<Vec<Vec<u8>>, ScanFault> {
     let alloc = rt.alloc();
-    let folder = BufReader::with_capacity(alloc, ROOM, open(rt, path)?)?;
+    let folder = BufReader::with_capacity(alloc, ROOM, rt.open_dir(path)?)?;
     let mut names = Vec::new(alloc);
     for name in folder.split(alloc, 0) {
         let name = name?;
@@ -38,11 +38,4 @@ fn names_in<R: Files + AllocGlobal>(rt: &R, path: &str) -> Result<Vec<Vec<u8>>, 
         }
     }
     Ok(names)
-}
-
-// A slash at the end makes the system refuse what is no folder, and follow a symbolic link to one.
-fn open<R: Files + AllocGlobal>(rt: &R, path: &str) -> Result<R::Dir, ScanFault> {
-    let mut place = String::from_str(rt.alloc(), path)?;
-    place.push('/')?;
-    Ok(rt.open_dir(&place)?)
 }

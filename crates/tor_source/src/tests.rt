@@ -132,7 +132,7 @@ impl Files for Listed {
     }
 
     fn open_dir(&self, path: &str) -> io::Result<Cursor<Vec<u8>>> {
-        if path.ends_with("locked/") {
+        if path.ends_with("locked") {
             return Err(io::Error::from(io::ErrorKind::PermissionDenied));
         }
         let names: &[u8] = if path == "top/" { &self.names } else { b"" };

@@ -43,7 +43,8 @@ pub(crate) fn walk<R: Files + AllocGlobal>(rt: &R, root: &str) -> Result<Found, 
         places: Vec::new(alloc),
     };
     let mut waiting = Vec::new(alloc);
-    add_names(rt, &found.folder, &[], &mut waiting)?;
+    let top = format!(in alloc; "{root}/")?;
+    add_names(rt, &top, &[], &mut waiting)?;
     for _ in 0..u64::MAX {
         let Some(entry) = waiting.pop() else {
             return Ok(found);
@@ -78,7 +79,8 @@ fn enter<R: Files + AllocGlobal>(
     Err(ScanFault::NotRegular)
 }
 
-/// Adds the names in the folder `place`, which the names `above` lead to; the first of them is entered next.
+/// Adds the names in the folder `place`, which the names `above` lead to; the first of them is entered next. A symbolic
+/// link is followed only at a place that ends in a slash.
 fn add_names<R: Files + AllocGlobal>(
     rt: &R,
     place: &str,
