@@ -1,17 +1,18 @@
 -- Files that are found one after the other, and the paths that wait: what a step of the walk keeps.
-use Rattle.std.proofs.Common.{◌≡◌, ℕ, ◌<◌, ◌≤◌, true, List, [], ◌∷◌, ◌++◌, length, get_or, Ordering, Less, Equal, Greater, refl, sym, ◌∙◌, inl, inr, arith, length-append}
+use Rattle.std.proofs.Common.{◌≡◌, ℕ, ◌+◌, ◌<◌, ◌≤◌, true, List, [], ◌∷◌, ◌++◌, length, get_or, map, take, Ordering, Less, Equal, Greater, refl, sym, ap, ◌∙◌, inl, inr, arith, length-append}
 use Rattle.std.specs.Cmp.Lexicographic.{nat_list_cmp_total, nat_list_eq_equiv, texts_ties}
 use Rattle.std.specs.List.{All, AllByRecursion, starts_with}
 use Rattle.std.specs.List.Sorted.{IsStrictlySortedBy}
 use Rattle.std.specs.Ordering.{is_eq}
 use Rattle.std.proofs.lemmas.Bool.{and_parts, and_from, cases_lt}
 use Rattle.std.proofs.lemmas.Cmp.{tied_back}
-use Rattle.std.proofs.lemmas.List.{map_push, append_assoc, append-nil, get_or_append_left, get_or_push, length_push}
+use Rattle.std.proofs.lemmas.List.{map_push, append_assoc, append-nil, get_or_append_left, get_or_push, length_push, length-take-le, take-append-le, take-take, take_all}
 use Rattle.std.proofs.lemmas.List.Elements.{All-nil, All-push, All-weaker, recursion_from_All}
 use Rattle.tor_tree.specs.Path.{name_cmp, name_eq, path_cmp}
 use Rattle.tor_tree.proofs.Inside.{after_beginning}
 use Rattle.tor_tree.proofs.PathLists.{path_order}
-use Rattle.tor_source.specs.Order.{AreBefore, IsFound, IsPast, IsWaiting}
+use Rattle.tor_source.specs.Order.{AreBefore, AreNested, IsAhead, IsEntered, IsFound, IsPast, IsWaiting, path_in}
+use Rattle.tor_source.specs.declared.walk.Entry.{Entry}
 use Rattle.tor_source.specs.Places.{place_below}
 
 equal_names : (x y : List ℕ) → name_eq x y ≡ true → name_cmp x y ≡ Equal
@@ -113,11 +114,92 @@ waiting_name found waiting folder name later less after here =
     (All-push (λ path. IsPast (folder ++ name ∷ []) path) waiting (folder ++ later ∷ []) (next_past found waiting (folder ++ name ∷ []) here) (past_next folder name later less))
     (next_before found waiting (folder ++ name ∷ []) here)
 
--- nothing is found yet, and the top folder is the next
-pub waiting_first : IsWaiting [] ([] ++ [] ∷ [])
+waiting_first : IsWaiting [] ([] ++ [] ∷ [])
 waiting_first = record {
   apart = λ i j d lt within. absurd (omega arith);
   before = λ k d within. All-nil (λ earlier. path_cmp earlier (get_or ([] ++ [] ∷ []) k d) ≡ Less);
+}
+
+-- entries, and the path that was entered last
+same_path : (last : List (List ℕ)) (name : List ℕ) (deep : ℕ) (entry : Entry) → deep ≤ length last → entry.depth ≤ deep → path_in (take deep last ++ name ∷ []) entry ≡ path_in last entry
+same_path last name deep entry within shallow =
+    let long : length (take deep last) ≡ deep = length-take-le deep last within in
+    let cut : take entry.depth (take deep last ++ name ∷ []) ≡ take entry.depth (take deep last) = take-append-le entry.depth (take deep last) (name ∷ []) (omega arith) in
+    ap (λ names. names ++ entry.name.items ∷ []) (cut ∙ take-take entry.depth deep last shallow)
+
+same_paths : (last : List (List ℕ)) (name : List ℕ) (deep : ℕ) (entries : List Entry) → deep ≤ length last → AllByRecursion (λ entry. entry.depth ≤ deep) entries → map (path_in (take deep last ++ name ∷ [])) entries ≡ map (path_in last) entries
+same_paths last name deep [] within h = refl
+same_paths last name deep (entry ∷ entries) within h = rw (same_path last name deep entry within h.0, same_paths last name deep entries within h.1) refl
+
+module _ (entries : List Entry) (next : Entry) where
+  nested_rest : AreNested (entries ++ next ∷ []) → AreNested entries
+  nested_rest h i j d lt within =
+      let all : j < length (entries ++ next ∷ []) = omega (arith, length_push entries next) in
+      rw (get_or_append_left entries (next ∷ []) d i (omega arith), get_or_append_left entries (next ∷ []) d j within) at (h i j d lt all)
+
+  nested_next : AreNested (entries ++ next ∷ []) → All (λ entry. entry.depth ≤ next.depth) entries
+  nested_next h k d within =
+      let all : length entries < length (entries ++ next ∷ []) = omega (arith, length_push entries next) in
+      rw (get_or_append_left entries (next ∷ []) d k within, get_or_push entries next d (length entries) refl) at (h k (length entries) d within all)
+
+  nested_push : AreNested entries → All (λ entry. entry.depth ≤ next.depth) entries → AreNested (entries ++ next ∷ [])
+  nested_push h below i j d lt within = elim (cases_lt j (length entries)) [
+    | inl inside ↦ rw (get_or_append_left entries (next ∷ []) d i (omega arith), get_or_append_left entries (next ∷ []) d j inside) (h i j d lt inside)
+    | inr past_end ↦ (
+        let last : length entries ≡ j = omega (arith, length_push entries next) in
+        rw (get_or_append_left entries (next ∷ []) d i (omega arith), get_or_push entries next d j last) (below i d (omega arith)))
+  ]
+
+-- nothing is found yet, and the top folder is entered
+pub entered_first : IsEntered [] [] []
+entered_first = record {
+  paths = waiting_first;
+  nested = λ i j d lt within. absurd (omega arith);
+  within = All-nil (λ entry. entry.depth < 0);
+}
+
+-- the next entry is entered
+pub entered_next : (found : List (List (List ℕ))) (last : List (List ℕ)) (entries : List Entry) (next : Entry) → IsAhead found last (entries ++ next ∷ []) → IsEntered found (path_in last next) entries
+entered_next found last entries next h =
+    let shallow = nested_next entries next h.nested in
+    let every : next.depth ≤ length last = All-last (λ entry. entry.depth ≤ length last) entries next h.within in
+    let same = same_paths last next.name.items next.depth entries every (recursion_from_All (λ entry. entry.depth ≤ next.depth) entries shallow) in
+    let long : length (path_in last next) ≡ next.depth + 1 = length_push (take next.depth last) next.name.items ∙ ap (λ n. n + 1) (length-take-le next.depth last every) in
+    record {
+      paths = rw (same, ← map_push (path_in last) entries next) h.paths;
+      nested = nested_rest entries next h.nested;
+      within = λ k d lt. let low : (get_or entries k d).depth ≤ next.depth = shallow k d lt in omega arith;
+    }
+  where
+    All-last : {X : Type 0} (P : X → Type 0) (xs : List X) (y : X) → All P (xs ++ y ∷ []) → P y
+    All-last P xs y all = rw (get_or_push xs y y (length xs) refl) at (all (length xs) y (omega (arith, length_push xs y)))
+
+-- it was a file
+pub ahead_file : (found : List (List (List ℕ))) (path : List (List ℕ)) (entries : List Entry) → IsEntered found path entries → IsAhead (found ++ path ∷ []) path entries
+ahead_file found path entries h = record {
+  paths = waiting_found found (map (path_in path) entries) path h.paths;
+  nested = h.nested;
+  within = λ k d lt. let low : (get_or entries k d).depth < length path = h.within k d lt in omega arith;
+}
+
+-- it was a folder
+pub ahead_folder : (found : List (List (List ℕ))) (path : List (List ℕ)) (entries : List Entry) → IsEntered found path entries → IsAhead found path entries
+ahead_folder found path entries h = record {
+  paths = waiting_rest found (map (path_in path) entries) path h.paths;
+  nested = h.nested;
+  within = λ k d lt. let low : (get_or entries k d).depth < length path = h.within k d lt in omega arith;
+}
+
+-- and one more of its names waits
+pub path_inside : (path : List (List ℕ)) (entries : List Entry) (next : Entry) → next.depth ≡ length path → map (path_in path) (entries ++ next ∷ []) ≡ map (path_in path) entries ++ (path ++ next.name.items ∷ []) ∷ []
+path_inside path entries next deep =
+    map_push (path_in path) entries next ∙ ap (λ names. map (path_in path) entries ++ (names ++ next.name.items ∷ []) ∷ []) (take_all next.depth path (omega arith))
+
+pub ahead_name : (found : List (List (List ℕ))) (path : List (List ℕ)) (entries : List Entry) (next : Entry) → next.depth ≡ length path → IsAhead found path entries → IsWaiting found (map (path_in path) entries ++ (path ++ next.name.items ∷ []) ∷ []) → IsAhead found path (entries ++ next ∷ [])
+ahead_name found path entries next deep h waits = record {
+  paths = rw (path_inside path entries next deep) waits;
+  nested = nested_push entries next h.nested (rw deep h.within);
+  within = All-push (λ entry. entry.depth ≤ length path) entries next h.within (omega arith);
 }
 
 -- a list that rises, without its last element
@@ -142,9 +224,9 @@ unfolding IsStrictlySortedBy
 rising_push R [] y h below = (tt, tt)
 rising_push R (x ∷ xs) y h below = (all_push (λ z. R x z ≡ Less) xs y h.0 below.0, rising_push R xs y h.1 below.1)
 
-pub found_push : (place : List ℕ) (paths : List (List (List ℕ))) (places : List (List ℕ)) (path : List (List ℕ)) (at : List ℕ) (waiting : List (List (List ℕ))) → IsFound place paths places → IsWaiting paths (waiting ++ path ∷ []) → length path ≤ 64 → at ≡ place_below place path → IsFound place (paths ++ path ∷ []) (places ++ at ∷ [])
-found_push place paths places path at waiting found waits short is = record {
-  rising = rising_push path_cmp paths path found.rising (recursion_from_All (λ earlier. path_cmp earlier path ≡ Less) paths (next_before paths waiting path waits));
+pub found_push : (place : List ℕ) (paths : List (List (List ℕ))) (places : List (List ℕ)) (path : List (List ℕ)) (at : List ℕ) (entries : List Entry) → IsFound place paths places → IsEntered paths path entries → length path ≤ 64 → at ≡ place_below place path → IsFound place (paths ++ path ∷ []) (places ++ at ∷ [])
+found_push place paths places path at entries found entered short is = record {
+  rising = rising_push path_cmp paths path found.rising (recursion_from_All (λ earlier. path_cmp earlier path ≡ Less) paths (next_before paths (map (path_in path) entries) path entered.paths));
   short = All-push (λ p. length p ≤ 64) paths path found.short short;
   placed = rw (map_push (place_below place) paths path, ← found.placed, ← is) refl;
 }

@@ -1,7 +1,7 @@
 //! The files below a folder, in the order of their paths.
 ghost use Rattle.std.specs.Prelude.{◌≡◌, ◌<◌, ◌≤◌, ◌∷◌, ◌++◌, ◌⊎◌, ◌≢◌, ℕ, List, [], IfErr, IfOk, OnOk, length, map};
 ghost use Rattle.std.specs.String.{string_bytes};
-ghost use Rattle.tor_source.specs.Order.{IsFound, IsWaiting, path_of};
+ghost use Rattle.tor_source.specs.Order.{IsAhead, IsEntered, IsFound};
 ghost use Rattle.tor_source.specs.Places.{place_below, without_slash};
 ghost use Rattle.tor_source.specs.declared.faults.ScanFault.TheVariants.{Memory, TooDeep};
 
@@ -24,10 +24,11 @@ pub(crate) struct Found {
     pub(crate) places: Vec<String>,
 }
 
-/// A file or a folder that is still to be entered: the names that lead to it, and its own.
+/// A file or a folder that is still to be entered: how many names lead to it, and its own. The names are the first of
+/// the path that was entered last.
 #[derive(Drop)]
 pub(crate) struct Entry {
-    above: Vec<Name>,
+    depth: usize,
     name: Vec<u8>,
 }
 
@@ -42,39 +43,43 @@ pub(crate) fn walk<R: Files + AllocGlobal>(rt: &R, root: &str) -> Result<Found, 
         paths: Vec::new(alloc),
         places: Vec::new(alloc),
     };
+    let mut last = Vec::new(alloc);
     let mut waiting = Vec::new(alloc);
     let top = format!(in alloc; "{root}/")?;
-    add_names(rt, &top, &[], &mut waiting)?;
+    add_names(rt, &top, &last, &mut waiting)?;
     for _ in 0..u64::MAX {
         let Some(entry) = waiting.pop() else {
             return Ok(found);
         };
-        enter(rt, entry, &mut waiting, &mut found)?;
+        enter(rt, entry, &mut last, &mut waiting, &mut found)?;
     }
     Err(ScanFault::System)
 }
 
-/// Adds a file to those that were found, or the names in a folder to those that wait.
+/// Adds a file to those that were found, or the names in a folder to those that wait. Its path takes the place of `last`,
+/// the one that was entered before.
 fn enter<R: Files + AllocGlobal>(
     rt: &R,
     entry: Entry,
+    last: &mut Vec<Name>,
     waiting: &mut Vec<Entry>,
     found: &mut Found,
 ) -> Result<(), ScanFault>
     requires found { IsFound (string_bytes found.old.folder) found.old.paths.items (map string_bytes found.old.places.items) }
-    requires waiting { IsWaiting found.old.paths.items (map path_of waiting.old.items ++ path_of entry ∷ []) }
+    requires ahead { IsAhead found.old.paths.items last.old.items (waiting.old.items ++ entry ∷ []) }
     ensures found { OnOk result (IsFound (string_bytes found.new.folder) found.new.paths.items (map string_bytes found.new.places.items)) }
-    ensures waiting { OnOk result (IsWaiting found.new.paths.items (map path_of waiting.new.items)) }
+    ensures ahead { OnOk result (IsAhead found.new.paths.items last.new.items waiting.new.items) }
     ensures folder_stays { OnOk result (string_bytes found.new.folder ≡ string_bytes found.old.folder) }
 {
-    let names = names_of(rt.alloc(), entry)?;
-    let place = place_below(rt.alloc(), &found.folder, &names)?;
+    last.truncate(entry.depth);
+    last.push(Name::new(rt.alloc(), &entry.name)?)?;
+    let place = place_below(rt.alloc(), &found.folder, last)?;
     let metadata = rt.symlink_metadata(&place)?;
     if metadata.is_dir() {
-        return add_names(rt, &place, &names, waiting);
+        return add_names(rt, &place, last, waiting);
     }
     if metadata.is_file() {
-        return add_file(place, names, found);
+        return add_file(rt.alloc(), place, last, found);
     }
     Err(ScanFault::NotRegular)
 }
@@ -87,30 +92,35 @@ fn add_names<R: Files + AllocGlobal>(
     above: &[Name],
     waiting: &mut Vec<Entry>,
 ) -> Result<(), ScanFault>
-    ensures { OnOk result ((found : List (List (List ℕ))) → IsWaiting found (map path_of waiting.old.items ++ above.now ∷ []) → IsWaiting found (map path_of waiting.new.items)) }
+    ensures { OnOk result ((found : List (List (List ℕ))) → IsEntered found above.now waiting.old.items → IsAhead found above.now waiting.new.items) }
 {
     let mut names = rising_names(rt, place)?;
     while let Some(name) = names.pop() {
-        let above = copies(rt.alloc(), above)?;
-        waiting.push(Entry { above, name })?;
+        let depth = above.len();
+        waiting.push(Entry { depth, name })?;
     }
     Ok(())
 }
 
 /// Adds the file `place`, which these names lead to.
-fn add_file(place: String, names: Vec<Name>, found: &mut Found) -> Result<(), ScanFault>
-    requires { names.items ≢ [] }
+fn add_file(
+    alloc: Global,
+    place: String,
+    names: &[Name],
+    found: &mut Found,
+) -> Result<(), ScanFault>
+    requires { names.now ≢ [] }
     ensures added { OnOk result (
-        (found.new.paths.items ≡ found.old.paths.items ++ names.items ∷ [])
+        (found.new.paths.items ≡ found.old.paths.items ++ names.now ∷ [])
         × (map string_bytes found.new.places.items ≡ map string_bytes found.old.places.items ++ string_bytes place ∷ [])
         × (string_bytes found.new.folder ≡ string_bytes found.old.folder)
-        × (length names.items ≤ 64)) }
-    ensures refused { IfErr result (λ fault. ((fault ≡ TooDeep) × (64 < length names.items)) ⊎ (fault ≡ Memory)) }
+        × (length names.now ≤ 64)) }
+    ensures refused { IfErr result (λ fault. ((fault ≡ TooDeep) × (64 < length names.now)) ⊎ (fault ≡ Memory)) }
 {
     if names.len() > MAX_NAMES {
         return Err(ScanFault::TooDeep);
     }
-    let Some(path) = FilePath::new(names) else {
+    let Some(path) = FilePath::new(copies(alloc, names)?) else {
         unreachable!();
     };
     found.paths.push(path)?;
@@ -118,20 +128,11 @@ fn add_file(place: String, names: Vec<Name>, found: &mut Found) -> Result<(), Sc
     Ok(())
 }
 
-/// The names that lead to an entry, and its own.
-fn names_of(alloc: Global, entry: Entry) -> Result<Vec<Name>, ScanFault>
-    ensures { IfOk result (λ names. names.items ≡ path_of entry) }
-{
-    let mut names = entry.above;
-    names.push(Name::new(alloc, &entry.name)?)?;
-    Ok(names)
-}
-
-/// The same names again, with room for one more.
+/// The same names again.
 fn copies(alloc: Global, names: &[Name]) -> Result<Vec<Name>, AllocError>
     ensures { IfOk result (λ copied. copied.items ≡ names.now) }
 {
-    let mut copied = Vec::with_capacity(alloc, names.len().saturating_add(1))?;
+    let mut copied = Vec::with_capacity(alloc, names.len())?;
     for name in names {
         copied.push(name.copy(alloc)?)?;
     }
