@@ -18,12 +18,24 @@ pub(crate) fn place_of(alloc: Global, folder: &str, file: &FilePath) -> Result<S
 pub(crate) fn place_below(alloc: Global, place: &str, names: &[Name]) -> Result<String, AllocError>
     ensures { IfOk result (λ below. string_bytes below ≡ place_below place.now names.now) }
 {
-    let mut below = String::from_str(alloc, place)?;
+    let mut below = String::with_capacity(alloc, length_below(place, names))?;
+    below.push_str(place)?;
     for name in names {
         below.push('/')?;
         below.push_str(text_of(name))?;
     }
     Ok(below)
+}
+
+// How long that place is.
+fn length_below(place: &str, names: &[Name]) -> usize {
+    let mut length = place.len();
+    for name in names {
+        length = length
+            .saturating_add(name.as_bytes().len())
+            .saturating_add(1);
+    }
+    length
 }
 
 /// The place of a folder, less the slash at its end if it has one.
