@@ -2,10 +2,12 @@
 use Rattle.std.specs.Prelude.{◌≡◌, ◌≤◌, ◌<◌, ◌++◌, ◌∷◌, [], ℕ, List, length, map, take}
 use Rattle.std.specs.List.{All, AllPairs}
 use Rattle.std.specs.List.Sorted.{IsStrictlySortedBy}
+use Rattle.std.specs.String.{string_bytes}
 use Rattle.std.specs.declared.cmp.Ordering.TheVariants.{Less}
 use Rattle.tor_tree.specs.Path.{path_cmp}
 use Rattle.tor_source.specs.Places.{place_below}
 use Rattle.tor_source.specs.declared.walk.Entry.{Entry}
+use Rattle.tor_source.specs.declared.walk.Found.{Found}
 
 -- files that were found below a place: their paths strictly rise and have at most 64 names, and each is where its
 -- path says
@@ -13,6 +15,9 @@ pub record IsFound (place : List ℕ) (paths : List (List (List ℕ))) (places :
   pub rising : IsStrictlySortedBy path_cmp paths
   pub short : All (λ path. length path ≤ 64) paths
   pub placed : places ≡ map (place_below place) paths
+
+abbrev pub HasFound : List ℕ → Found → Type 0
+HasFound place found = IsFound place found.paths.items (map string_bytes found.places.items)
 
 -- each path comes before this one
 abbrev pub AreBefore : List (List ℕ) → List (List (List ℕ)) → Type 0

@@ -1,8 +1,8 @@
 //! The files below a folder, in the order of their paths.
 ghost use Rattle.std.specs.Prelude.{◌≡◌, ◌<◌, ◌≤◌, ◌∷◌, ◌++◌, ◌⊎◌, ◌≢◌, ℕ, List, [], IfErr, IfOk, OnOk, length, map};
 ghost use Rattle.std.specs.String.{string_bytes};
-ghost use Rattle.tor_source.specs.Order.{IsAhead, IsEntered, IsFound};
-ghost use Rattle.tor_source.specs.Places.{place_below, without_slash};
+ghost use Rattle.tor_source.specs.Order.{HasFound, IsAhead, IsEntered};
+ghost use Rattle.tor_source.specs.Places.{without_slash};
 ghost use Rattle.tor_source.specs.declared.faults.ScanFault.TheVariants.{Memory, TooDeep};
 
 use crate::faults::ScanFault;
@@ -35,7 +35,7 @@ pub(crate) struct Entry {
 /// All files below a folder. A folder is listed whole, and its names are entered in the order of their bytes, each
 /// folder where it is met.
 pub(crate) fn walk<R: Files + AllocGlobal>(rt: &R, root: &str) -> Result<Found, ScanFault>
-    ensures { IfOk result (λ found. IsFound (without_slash root.now) found.paths.items (map string_bytes found.places.items)) }
+    ensures { IfOk result (HasFound (without_slash root.now)) }
 {
     let alloc = rt.alloc();
     let mut found = Found {
@@ -65,9 +65,9 @@ fn enter<R: Files + AllocGlobal>(
     waiting: &mut Vec<Entry>,
     found: &mut Found,
 ) -> Result<(), ScanFault>
-    requires found { IsFound (string_bytes found.old.folder) found.old.paths.items (map string_bytes found.old.places.items) }
+    requires found { HasFound (string_bytes found.old.folder) found.old }
     requires ahead { IsAhead found.old.paths.items last.old.items (waiting.old.items ++ entry ∷ []) }
-    ensures found { OnOk result (IsFound (string_bytes found.new.folder) found.new.paths.items (map string_bytes found.new.places.items)) }
+    ensures found { OnOk result (HasFound (string_bytes found.new.folder) found.new) }
     ensures ahead { OnOk result (IsAhead found.new.paths.items last.new.items waiting.new.items) }
     ensures folder_stays { OnOk result (string_bytes found.new.folder ≡ string_bytes found.old.folder) }
 {
@@ -92,7 +92,8 @@ fn add_names<R: Files + AllocGlobal>(
     above: &[Name],
     waiting: &mut Vec<Entry>,
 ) -> Result<(), ScanFault>
-    ensures { OnOk result ((found : List (List (List ℕ))) → IsEntered found above.now waiting.old.items → IsAhead found above.now waiting.new.items) }
+    ensures { OnOk result ((found : List (List (List ℕ))) →
+        IsEntered found above.now waiting.old.items → IsAhead found above.now waiting.new.items) }
 {
     let mut names = rising_names(rt, place)?;
     while let Some(name) = names.pop() {
@@ -115,7 +116,8 @@ fn add_file(
         × (map string_bytes found.new.places.items ≡ map string_bytes found.old.places.items ++ string_bytes place ∷ [])
         × (string_bytes found.new.folder ≡ string_bytes found.old.folder)
         × (length names.now ≤ 64)) }
-    ensures refused { IfErr result (λ fault. ((fault ≡ TooDeep) × (64 < length names.now)) ⊎ (fault ≡ Memory)) }
+    ensures refused { IfErr result
+        (λ fault. ((fault ≡ TooDeep) × (64 < length names.now)) ⊎ (fault ≡ Memory)) }
 {
     if names.len() > MAX_NAMES {
         return Err(ScanFault::TooDeep);
