@@ -1,4 +1,6 @@
 ghost use Rattle.std.specs.Prelude.{◌≡◌};
+ghost use Rattle.std.specs.IoError.{error_kind};
+ghost use Rattle.tor_source.specs.Faults.{fault_of_kind, fault_of_name};
 ghost use Rattle.tor_source.specs.declared.faults.ScanFault.TheVariants.{Memory};
 
 use std::alloc::{AllocError, AllocFailed};
@@ -42,6 +44,8 @@ impl<T: Drop> From<AllocFailed<T>> for ScanFault {
 }
 
 impl From<io::Error> for ScanFault {
+    ghost from_gives = { λ error fault. fault ≡ fault_of_kind (error_kind error) };
+
     fn from(error: io::Error) -> ScanFault {
         match error.kind() {
             io::ErrorKind::OutOfMemory => ScanFault::Memory,
@@ -52,6 +56,8 @@ impl From<io::Error> for ScanFault {
 
 // A name that the system lists is not empty, and has no `/` and no zero byte.
 impl From<NameError> for ScanFault {
+    ghost from_gives = { λ error fault. fault ≡ fault_of_name error };
+
     fn from(error: NameError) -> ScanFault {
         match error {
             NameError::NotUtf8 => ScanFault::NotUtf8,

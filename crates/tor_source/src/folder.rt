@@ -1,11 +1,18 @@
+ghost use Rattle.std.specs.Prelude.{◌≡◌, ◌≤◌, ◌∷◌, [], IfOk, length, map};
+ghost use Rattle.std.specs.List.{All};
+ghost use Rattle.std.specs.List.Sorted.{IsStrictlySortedBy};
+ghost use Rattle.tor_source.specs.Places.{place_of};
+ghost use Rattle.tor_tree.specs.Path.{path_cmp};
+
 use crate::faults::ScanFault;
+use crate::places::place_of;
 use crate::walk::walk;
-use std::alloc::{AllocError, Global};
+use std::alloc::AllocError;
+use std::marker::Model;
 use std::rt::Files;
-use std::str;
 use tor_tree::FilePath;
 
-/// The files below a folder, or a file by itself, as the system has them.
+/// The files below a folder, or a file by itself, as the system has them. Contracts see the list of their places.
 #[derive(Drop)]
 pub struct FolderSource<R: Files> {
     rt: R,
@@ -13,10 +20,23 @@ pub struct FolderSource<R: Files> {
     places: Vec<String>,
 }
 
+impl<R: Files> Model for FolderSource<R> {
+    ghost use Rattle.std.specs.Prelude.{ℕ, List, map};
+    ghost use Rattle.std.specs.String.{string_bytes};
+
+    ghost Value = { List (List ℕ) };
+
+    ghost view = { λ source. map string_bytes source.places.items };
+}
+
 impl<R: Files + AllocGlobal + Clone + Drop> FolderSource<R> {
     /// All files below the folder `path`, in the order of their paths. A folder is listed whole, then its names are
     /// entered in the order of their bytes; the first fault so met is answered. Empty folders give nothing.
-    pub fn scan(rt: &R, path: &str) -> Result<(FolderSource<R>, Vec<FilePath>), ScanFault> {
+    pub fn scan(rt: &R, path: &str) -> Result<(FolderSource<R>, Vec<FilePath>), ScanFault>
+        ensures placed { IfOk result (λ found. found.0 ≡ map (place_of path.now) found.1.items) }
+        ensures rising { IfOk result (λ found. IsStrictlySortedBy path_cmp found.1.items) }
+        ensures short { IfOk result (λ found. All (λ names. length names ≤ 64) found.1.items) }
+    {
         let metadata = rt.metadata(path)?;
         if metadata.is_file() {
             return Err(ScanFault::System);
@@ -33,7 +53,9 @@ impl<R: Files + AllocGlobal + Clone + Drop> FolderSource<R> {
     }
 
     /// These files below the folder `path`, whether they are there or not.
-    pub fn at(rt: &R, path: &str, files: Vec<FilePath>) -> Result<FolderSource<R>, AllocError> {
+    pub fn at(rt: &R, path: &str, files: Vec<FilePath>) -> Result<FolderSource<R>, AllocError>
+        ensures { IfOk result (λ source. source ≡ map (place_of path.now) files.items) }
+    {
         let mut places = Vec::new(rt.alloc());
         for file in &files {
             places.push(place_of(rt.alloc(), path, file)?)?;
@@ -45,7 +67,9 @@ impl<R: Files + AllocGlobal + Clone + Drop> FolderSource<R> {
     }
 
     /// The one file `path`.
-    pub fn single(rt: &R, path: &str) -> Result<FolderSource<R>, AllocError> {
+    pub fn single(rt: &R, path: &str) -> Result<FolderSource<R>, AllocError>
+        ensures { IfOk result (λ source. source ≡ path.now ∷ []) }
+    {
         let mut places = Vec::new(rt.alloc());
         places.push(String::from_str(rt.alloc(), path)?)?;
         Ok(FolderSource {
@@ -55,22 +79,9 @@ impl<R: Files + AllocGlobal + Clone + Drop> FolderSource<R> {
     }
 
     /// How many files there are.
-    pub fn count(&self) -> usize {
+    pub fn count(&self) -> usize
+        ensures { result ≡ length self.now }
+    {
         self.places.len()
     }
-}
-
-// The folder, and each name after a slash.
-fn place_of(alloc: Global, folder: &str, file: &FilePath) -> Result<String, AllocError> {
-    let mut place = String::from_str(alloc, folder)?;
-    for name in file.names() {
-        if !place.ends_with('/') {
-            place.push('/')?;
-        }
-        match str::from_utf8(name.as_bytes()) {
-            Ok(name) => place.push_str(name)?,
-            Err(_) => unreachable!(),
-        }
-    }
-    Ok(place)
 }

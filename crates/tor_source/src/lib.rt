@@ -1,13 +1,14 @@
 //! Where the bytes of files come from.
 //!
 //! - [`FolderSource`] (`folder.rt`): the files below a folder, or a file by itself.
-//! - `walk.rt` finds the files below a folder, `listing.rt` the names in one.
+//! - `walk.rt` finds the files below a folder, `listing.rt` the names in one; `places.rt` joins places and names.
 //! - [`ScanFault`] (`faults.rt`): why a folder's files are no list.
 #![tactic(auto)]
 
 mod faults;
 mod folder;
 mod listing;
+mod places;
 #[cfg(test)]
 mod tests;
 mod walk;

@@ -1,30 +1,41 @@
 //! The names in one folder.
+ghost use Rattle.std.specs.Prelude.{IfOk};
+ghost use Rattle.std.specs.List.Sorted.{IsStrictlySortedBy};
+ghost use Rattle.tor_tree.specs.Path.{name_cmp};
+
 use crate::faults::ScanFault;
-use std::io::Read;
+use std::io::{BufRead, BufReader};
 use std::rt::Files;
 
-/// The names in a folder but `.` and `..`, falling by their bytes.
-pub(crate) fn falling_names<R: Files + AllocGlobal>(
+/// How many bytes of a folder's names are read at once.
+const ROOM: usize = 32768;
+
+/// The names in the folder `path` but `.` and `..`, each once, rising by their bytes.
+pub(crate) fn rising_names<R: Files + AllocGlobal>(
     rt: &R,
     path: &str,
-) -> Result<Vec<Vec<u8>>, ScanFault> {
-    let listed = listed(rt, path)?;
-    let mut names = Vec::new(rt.alloc());
-    for name in listed.split(|byte| *byte == 0) {
-        match name {
-            [] | [b'.'] | [b'.', b'.'] => {}
-            _ => names.push(Vec::from_slice(rt.alloc(), name)?)?,
-        }
-    }
+) -> Result<Vec<Vec<u8>>, ScanFault>
+    ensures { IfOk result
+        (λ names. IsStrictlySortedBy (λ name next. name_cmp name.items next.items) names.items) }
+{
+    let mut names = names_in(rt, path)?;
     names.sort()?;
-    names.reverse();
+    names.dedup();
     Ok(names)
 }
 
-// What the system lists: names, each ended by a zero byte.
-fn listed<R: Files + AllocGlobal>(rt: &R, path: &str) -> Result<Vec<u8>, ScanFault> {
-    let mut folder = rt.open_dir(path)?;
-    let mut names = Vec::new(rt.alloc());
-    folder.read_to_end(&mut names)?;
+// The names in a folder but `.` and `..`, as the system lists them: each ended by a zero byte. A read of a folder needs
+// room for one whole name at least, which the reader gives: it reads into the whole of its buffer.
+fn names_in<R: Files + AllocGlobal>(rt: &R, path: &str) -> Result<Vec<Vec<u8>>, ScanFault> {
+    let alloc = rt.alloc();
+    let folder = BufReader::with_capacity(alloc, ROOM, rt.open_dir(path)?)?;
+    let mut names = Vec::new(alloc);
+    for name in folder.split(alloc, 0) {
+        let name = name?;
+        match name.as_slice() {
+            [] | [b'.'] | [b'.', b'.'] => {}
+            _ => names.push(name)?,
+        }
+    }
     Ok(names)
 }

@@ -1,5 +1,7 @@
 use crate::{FolderSource, ScanFault};
-use std::alloc::{AllocError, Global};
+use std::alloc::{AllocError, Allocator, Global};
+use std::fs::{File, Metadata, OpenOptions};
+use std::io::Cursor;
 use std::rt::Files;
 use std::test::Fail;
 use std::{env, fs, io, process};
@@ -85,5 +87,128 @@ fn refuses_a_file_of_more_than_64_names(rt: HostRuntime) -> Result<(), Fail> {
     fs::write(&rt, below(alloc, &place, "f")?.as_str(), "")?;
     assert!(rt; matches!(fault(&rt, &folder), Some(ScanFault::TooDeep)));
     rt.remove_dir_all(alloc, &folder)?;
+    Ok(())
+}
+
+#[test]
+fn lists_a_folder_of_many_names(rt: HostRuntime) -> Result<(), Fail> {
+    let alloc = rt.alloc();
+    let folder = new_folder(&rt, "many")?;
+    for number in 0..1000u32 {
+        let place = format!(in alloc; "{folder}/{number}")?;
+        fs::write(&rt, place.as_str(), "")?;
+    }
+    let (source, paths) = FolderSource::scan(&rt, &folder)?;
+    assert_eq!(rt; source.count(), 1000);
+    assert_eq!(rt; paths.len(), 1000);
+    rt.remove_dir_all(alloc, &folder)?;
+    Ok(())
+}
+
+// A system that has what no test can make: in its folder `top` are these names, each ended by a zero byte. A name that
+// ends in `file` is a file, in `folder` an empty folder, and in `locked` a folder that may not be read. All others stand
+// for a FIFO.
+#[derive(Clone, Drop)]
+struct Listed {
+    rt: HostRuntime,
+    names: Vec<u8>,
+}
+
+impl Alloc for Listed {
+    type A = Global;
+
+    fn alloc(&self) -> Global {
+        self.rt.alloc()
+    }
+}
+
+impl Files for Listed {
+    type File = File;
+
+    type Dir = Cursor<Vec<u8>>;
+
+    fn open_file(&self, how: &OpenOptions, path: &str) -> io::Result<File> {
+        self.rt.open_file(how, path)
+    }
+
+    fn open_dir(&self, path: &str) -> io::Result<Cursor<Vec<u8>>> {
+        if path.ends_with("locked") {
+            return Err(io::Error::from(io::ErrorKind::PermissionDenied));
+        }
+        let names: &[u8] = if path == "top/" { &self.names } else { b"" };
+        Ok(Cursor::new(Vec::from_slice(self.alloc(), names)?))
+    }
+
+    fn metadata(&self, path: &str) -> io::Result<Metadata> {
+        self.symlink_metadata(path)
+    }
+
+    fn symlink_metadata(&self, path: &str) -> io::Result<Metadata> {
+        let is_file = path.ends_with("file");
+        let is_folder = path == "top" || path.ends_with("folder") || path.ends_with("locked");
+        self.rt.metadata(match (is_file, is_folder) {
+            (true, _) => "/proc/self/exe",
+            (_, true) => "/",
+            _ => "/dev/null",
+        })
+    }
+
+    fn copy(&self, from: &str, to: &str) -> io::Result<u64> {
+        self.rt.copy(from, to)
+    }
+
+    fn rename(&self, from: &str, to: &str) -> io::Result<()> {
+        self.rt.rename(from, to)
+    }
+
+    fn remove_file(&self, path: &str) -> io::Result<()> {
+        self.rt.remove_file(path)
+    }
+
+    fn create_dir(&self, path: &str) -> io::Result<()> {
+        self.rt.create_dir(path)
+    }
+
+    fn remove_dir(&self, path: &str) -> io::Result<()> {
+        self.rt.remove_dir(path)
+    }
+
+    fn remove_dir_all<B: Allocator>(&self, alloc: B, path: &str) -> io::Result<()> {
+        self.rt.remove_dir_all(alloc, path)
+    }
+}
+
+// What a scan of `top` with these names gives: its paths, or why there are none.
+fn told(rt: &HostRuntime, names: &[u8]) -> io::Result<Vec<u8>> {
+    let alloc = rt.alloc();
+    let listed = Listed {
+        rt: rt.clone()?,
+        names: Vec::from_slice(alloc, names)?,
+    };
+    match FolderSource::scan(&listed, "top") {
+        Ok((_source, paths)) => Ok(shown(alloc, &paths)?),
+        Err(fault) => Ok(format!(in alloc; "{fault}")?.into_bytes()),
+    }
+}
+
+#[test]
+fn answers_the_first_fault_in_the_order_of_names(rt: HostRuntime) -> Result<(), Fail> {
+    assert_eq!(rt;
+        told(&rt, b"\xff\0a file\0")?.as_slice(),
+        b"F1 NotUtf8".as_slice()
+    );
+    assert_eq!(rt;
+        told(&rt, b"\xff\0fifo\0")?.as_slice(),
+        b"F2 NotRegular".as_slice()
+    );
+    assert_eq!(rt;
+        told(&rt, b"fifo\0a locked\0")?.as_slice(),
+        b"F4 System".as_slice()
+    );
+    assert_eq!(rt;
+        told(&rt, b"b file\0..\0a file\0.\0a folder\0b file\0")?.as_slice(),
+        b"/a file /b file ".as_slice()
+    );
+    assert_eq!(rt; told(&rt, b"")?.as_slice(), b"".as_slice());
     Ok(())
 }

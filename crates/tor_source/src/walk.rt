@@ -1,124 +1,142 @@
 //! The files below a folder, in the order of their paths.
+ghost use Rattle.std.specs.Prelude.{◌≡◌, ◌<◌, ◌≤◌, ◌∷◌, ◌++◌, ◌⊎◌, ◌≢◌, ℕ, List, [], IfErr, IfOk, OnOk, length, map};
+ghost use Rattle.std.specs.String.{string_bytes};
+ghost use Rattle.tor_source.specs.Order.{HasFound, IsAhead, IsEntered};
+ghost use Rattle.tor_source.specs.Places.{without_slash};
+ghost use Rattle.tor_source.specs.declared.faults.ScanFault.TheVariants.{Memory, TooDeep};
+
 use crate::faults::ScanFault;
-use crate::listing::falling_names;
+use crate::listing::rising_names;
+use crate::places::{place_below, without_slash};
 use std::alloc::{AllocError, Global};
 use std::rt::Files;
-use std::str;
 use tor_tree::{FilePath, Name};
 
 /// The most names in a path.
 const MAX_NAMES: usize = 64;
 
-/// Files that were found: their paths below the folder, and where the system has them.
+/// Files that were found: the place of the folder, with no slash at its end, and for each file its path below the
+/// folder and where the system has it.
 #[derive(Drop)]
 pub(crate) struct Found {
+    folder: String,
     pub(crate) paths: Vec<FilePath>,
     pub(crate) places: Vec<String>,
 }
 
-// A folder that was entered: its place, with a slash at the end, the names that lead to it, and those in it that are
-// still to be entered, the next one last.
+/// A file or a folder that is still to be entered: how many names lead to it, and its own. The names are the first of
+/// the path that was entered last.
 #[derive(Drop)]
-struct OpenFolder {
-    place: String,
-    above: Vec<Vec<u8>>,
-    names: Vec<Vec<u8>>,
-}
-
-#[derive(Drop)]
-enum Entered {
-    File(FilePath, String),
-    Folder(OpenFolder),
+pub(crate) struct Entry {
+    depth: usize,
+    name: Vec<u8>,
 }
 
 /// All files below a folder. A folder is listed whole, and its names are entered in the order of their bytes, each
 /// folder where it is met.
-pub(crate) fn walk<R: Files + AllocGlobal>(rt: &R, root: &str) -> Result<Found, ScanFault> {
+pub(crate) fn walk<R: Files + AllocGlobal>(rt: &R, root: &str) -> Result<Found, ScanFault>
+    ensures { IfOk result (HasFound (without_slash root.now)) }
+{
     let alloc = rt.alloc();
     let mut found = Found {
+        folder: String::from_str(alloc, without_slash(root))?,
         paths: Vec::new(alloc),
         places: Vec::new(alloc),
     };
-    let mut open = Vec::new(alloc);
-    open.push(open_folder(rt, String::from_str(alloc, root)?, Vec::new(alloc))?)?;
+    let mut last = Vec::new(alloc);
+    let mut waiting = Vec::new(alloc);
+    let top = format!(in alloc; "{root}/")?;
+    add_names(rt, &top, &last, &mut waiting)?;
     for _ in 0..u64::MAX {
-        let Some(mut folder) = open.pop() else {
+        let Some(entry) = waiting.pop() else {
             return Ok(found);
         };
-        let Some(name) = folder.names.pop() else {
-            continue;
-        };
-        let entered = enter(rt, &folder, name)?;
-        open.push(folder)?;
-        match entered {
-            Entered::Folder(inner) => open.push(inner)?,
-            Entered::File(path, place) => {
-                found.paths.push(path)?;
-                found.places.push(place)?;
-            }
-        }
+        enter(rt, entry, &mut last, &mut waiting, &mut found)?;
     }
     Err(ScanFault::System)
 }
 
-fn open_folder<R: Files + AllocGlobal>(
-    rt: &R,
-    mut place: String,
-    above: Vec<Vec<u8>>,
-) -> Result<OpenFolder, ScanFault> {
-    if !place.ends_with('/') {
-        place.push('/')?;
-    }
-    let names = falling_names(rt, &place)?;
-    Ok(OpenFolder {
-        place,
-        above,
-        names,
-    })
-}
-
+/// Adds a file to those that were found, or the names in a folder to those that wait. Its path takes the place of `last`,
+/// the one that was entered before.
 fn enter<R: Files + AllocGlobal>(
     rt: &R,
-    folder: &OpenFolder,
-    name: Vec<u8>,
-) -> Result<Entered, ScanFault> {
-    let Ok(text) = str::from_utf8(&name) else {
-        return Err(ScanFault::NotUtf8);
-    };
-    let place = joined(rt.alloc(), &folder.place, text)?;
+    entry: Entry,
+    last: &mut Vec<Name>,
+    waiting: &mut Vec<Entry>,
+    found: &mut Found,
+) -> Result<(), ScanFault>
+    requires found { HasFound (string_bytes found.old.folder) found.old }
+    requires ahead { IsAhead found.old.paths.items last.old.items (waiting.old.items ++ entry ∷ []) }
+    ensures found { OnOk result (HasFound (string_bytes found.new.folder) found.new) }
+    ensures ahead { OnOk result (IsAhead found.new.paths.items last.new.items waiting.new.items) }
+    ensures folder_stays { OnOk result (string_bytes found.new.folder ≡ string_bytes found.old.folder) }
+{
+    last.truncate(entry.depth);
+    last.push(Name::new(rt.alloc(), &entry.name)?)?;
+    let place = place_below(rt.alloc(), &found.folder, last)?;
     let metadata = rt.symlink_metadata(&place)?;
-    let names = with_name(rt.alloc(), &folder.above, name)?;
     if metadata.is_dir() {
-        Ok(Entered::Folder(open_folder(rt, place, names)?))
-    } else if metadata.is_file() {
-        Ok(Entered::File(file_path(rt.alloc(), &names)?, place))
-    } else {
-        Err(ScanFault::NotRegular)
+        return add_names(rt, &place, last, waiting);
     }
-}
-
-fn joined(alloc: Global, folder: &str, name: &str) -> Result<String, AllocError> {
-    let mut place = String::from_str(alloc, folder)?;
-    place.push_str(name)?;
-    Ok(place)
-}
-
-fn with_name(alloc: Global, above: &[Vec<u8>], name: Vec<u8>) -> Result<Vec<Vec<u8>>, AllocError> {
-    let mut names = Vec::new(alloc);
-    for name in above {
-        names.push(Vec::from_slice(alloc, name)?)?;
+    if metadata.is_file() {
+        return add_file(rt.alloc(), place, last, found);
     }
-    names.push(name)?;
-    Ok(names)
+    Err(ScanFault::NotRegular)
 }
 
-fn file_path(alloc: Global, names: &[Vec<u8>]) -> Result<FilePath, ScanFault> {
+/// Adds the names in the folder `place`, which the names `above` lead to; the first of them is entered next. A symbolic
+/// link is followed only at a place that ends in a slash.
+fn add_names<R: Files + AllocGlobal>(
+    rt: &R,
+    place: &str,
+    above: &[Name],
+    waiting: &mut Vec<Entry>,
+) -> Result<(), ScanFault>
+    ensures { OnOk result ((found : List (List (List ℕ))) →
+        IsEntered found above.now waiting.old.items → IsAhead found above.now waiting.new.items) }
+{
+    let mut names = rising_names(rt, place)?;
+    while let Some(name) = names.pop() {
+        let depth = above.len();
+        waiting.push(Entry { depth, name })?;
+    }
+    Ok(())
+}
+
+/// Adds the file `place`, which these names lead to.
+fn add_file(
+    alloc: Global,
+    place: String,
+    names: &[Name],
+    found: &mut Found,
+) -> Result<(), ScanFault>
+    requires { names.now ≢ [] }
+    ensures added { OnOk result (
+        (found.new.paths.items ≡ found.old.paths.items ++ names.now ∷ [])
+        × (map string_bytes found.new.places.items ≡ map string_bytes found.old.places.items ++ string_bytes place ∷ [])
+        × (string_bytes found.new.folder ≡ string_bytes found.old.folder)
+        × (length names.now ≤ 64)) }
+    ensures refused { IfErr result
+        (λ fault. ((fault ≡ TooDeep) × (64 < length names.now)) ⊎ (fault ≡ Memory)) }
+{
     if names.len() > MAX_NAMES {
         return Err(ScanFault::TooDeep);
     }
-    let mut path = Vec::new(alloc);
+    let Some(path) = FilePath::new(copies(alloc, names)?) else {
+        unreachable!();
+    };
+    found.paths.push(path)?;
+    found.places.push(place)?;
+    Ok(())
+}
+
+/// The same names again.
+fn copies(alloc: Global, names: &[Name]) -> Result<Vec<Name>, AllocError>
+    ensures { IfOk result (λ copied. copied.items ≡ names.now) }
+{
+    let mut copied = Vec::with_capacity(alloc, names.len())?;
     for name in names {
-        path.push(Name::new(alloc, name)?)?;
+        copied.push(name.copy(alloc)?)?;
     }
-    FilePath::new(path).ok_or(ScanFault::System)
+    Ok(copied)
 }

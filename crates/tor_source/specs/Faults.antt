@@ -1,0 +1,16 @@
+-- What a scan answers to a name that is none, and to a system that refuses.
+use Rattle.std.specs.declared.io.ErrorKind.{ErrorKind}
+use Rattle.std.specs.declared.io.ErrorKind.TheVariants.{OutOfMemory}
+use Rattle.tor_tree.specs.declared.names.NameError.{NameError}
+use Rattle.tor_tree.specs.declared.names.NameError.TheVariants.{NotUtf8, Memory}
+use Rattle.tor_source.specs.declared.faults.ScanFault.{ScanFault}
+use Rattle.tor_source.specs.declared.faults.ScanFault.TheVariants as faults
+
+abbrev pub fault_of_name : NameError → ScanFault
+fault_of_name NotUtf8 = faults.NotUtf8
+fault_of_name Memory = faults.Memory
+fault_of_name _ = faults.System
+
+abbrev pub fault_of_kind : ErrorKind → ScanFault
+fault_of_kind OutOfMemory = faults.Memory
+fault_of_kind _ = faults.System

@@ -1,0 +1,52 @@
+-- The order in which the files below a folder are found.
+use Rattle.std.specs.Prelude.{◌≡◌, ◌≤◌, ◌<◌, ◌++◌, ◌∷◌, [], ℕ, List, length, map, take}
+use Rattle.std.specs.List.{All, AllPairs}
+use Rattle.std.specs.List.Sorted.{IsStrictlySortedBy}
+use Rattle.std.specs.String.{string_bytes}
+use Rattle.std.specs.declared.cmp.Ordering.TheVariants.{Less}
+use Rattle.tor_tree.specs.Path.{path_cmp}
+use Rattle.tor_source.specs.Places.{place_below}
+use Rattle.tor_source.specs.declared.walk.Entry.{Entry}
+use Rattle.tor_source.specs.declared.walk.Found.{Found}
+
+-- files that were found below a place: their paths strictly rise and have at most 64 names, and each is where its
+-- path says
+pub record IsFound (place : List ℕ) (paths : List (List (List ℕ))) (places : List (List ℕ)) : Type 0 where
+  pub rising : IsStrictlySortedBy path_cmp paths
+  pub short : All (λ path. length path ≤ 64) paths
+  pub placed : places ≡ map (place_below place) paths
+
+abbrev pub HasFound : List ℕ → Found → Type 0
+HasFound place found = IsFound place found.paths.items (map string_bytes found.places.items)
+
+-- each path comes before this one
+abbrev pub AreBefore : List (List ℕ) → List (List (List ℕ)) → Type 0
+AreBefore path paths = All (λ earlier. path_cmp earlier path ≡ Less) paths
+
+-- a path, and whatever is inside it, comes before a later one
+abbrev pub IsPast : List (List ℕ) → List (List ℕ) → Type 0
+IsPast path later = (more : List (List ℕ)) → path_cmp (path ++ more) later ≡ Less
+
+-- paths that wait, the next one last, while others were found: each is past those after it, and past all that were found
+pub record IsWaiting (found : List (List (List ℕ))) (waiting : List (List (List ℕ))) : Type 0 where
+  pub apart : AllPairs (λ later sooner. IsPast sooner later) waiting
+  pub before : All (λ path. AreBefore path found) waiting
+
+-- the path of an entry, whose first names are those of the path that was entered last
+abbrev pub path_in : List (List ℕ) → Entry → List (List ℕ)
+path_in last entry = take entry.depth last ++ entry.name.items ∷ []
+
+abbrev pub AreNested : List Entry → Type 0
+AreNested entries = AllPairs (λ later sooner. later.depth ≤ sooner.depth) entries
+
+-- entries that wait once a path was entered and dealt with
+pub record IsAhead (found : List (List (List ℕ))) (last : List (List ℕ)) (entries : List Entry) : Type 0 where
+  pub paths : IsWaiting found (map (path_in last) entries)
+  pub nested : AreNested entries
+  pub within : All (λ entry. entry.depth ≤ length last) entries
+
+-- entries that wait while a path is entered
+pub record IsEntered (found : List (List (List ℕ))) (path : List (List ℕ)) (entries : List Entry) : Type 0 where
+  pub paths : IsWaiting found (map (path_in path) entries ++ path ∷ [])
+  pub nested : AreNested entries
+  pub within : All (λ entry. entry.depth < length path) entries

@@ -1,0 +1,59 @@
+//! Where the system has files: a folder's place, and each name after a slash.
+ghost use Rattle.std.specs.Prelude.{◌≡◌, IfOk};
+ghost use Rattle.std.specs.String.{string_bytes};
+ghost use Rattle.tor_source.specs.Places.{place_below, place_of, without_slash};
+
+use std::alloc::{AllocError, Global};
+use std::str;
+use tor_tree::{FilePath, Name};
+
+/// The place of the file that the path leads to from a folder.
+pub(crate) fn place_of(alloc: Global, folder: &str, file: &FilePath) -> Result<String, AllocError>
+    ensures { IfOk result (λ place. string_bytes place ≡ place_of folder.now file.now) }
+{
+    place_below(alloc, without_slash(folder), file.names())
+}
+
+/// A place, and each name after a slash.
+pub(crate) fn place_below(alloc: Global, place: &str, names: &[Name]) -> Result<String, AllocError>
+    ensures { IfOk result (λ below. string_bytes below ≡ place_below place.now names.now) }
+{
+    let mut below = String::with_capacity(alloc, length_below(place, names))?;
+    below.push_str(place)?;
+    for name in names {
+        below.push('/')?;
+        below.push_str(text_of(name))?;
+    }
+    Ok(below)
+}
+
+// How long that place is.
+fn length_below(place: &str, names: &[Name]) -> usize {
+    let mut length = place.len();
+    for name in names {
+        length = length
+            .saturating_add(name.as_bytes().len())
+            .saturating_add(1);
+    }
+    length
+}
+
+/// The place of a folder, less the slash at its end if it has one.
+pub(crate) fn without_slash(folder: &str) -> &str
+    ensures { result.now ≡ without_slash folder.now }
+{
+    match folder.strip_suffix('/') {
+        Some(rest) => rest,
+        None => folder,
+    }
+}
+
+// A name's bytes are text.
+fn text_of(name: &Name) -> &str
+    ensures { result.now ≡ name.now }
+{
+    match str::from_utf8(name.as_bytes()) {
+        Ok(text) => text,
+        Err(_) => unreachable!(),
+    }
+}
