@@ -1,7 +1,6 @@
 -- The file tree that is made file by file is the one tidy tree of the list.
-use Rattle.std.proofs.Common.{◌≡◌, ◌≢◌, ◌<◌, ℕ, Bool, true, false, cond, List, [], ◌∷◌, ◌++◌, length, map, Option, None, Some, Less, Equal, refl, sym, ap, subst, ◌∙◌, arith}
-use Rattle.std.specs.Ordering.{nat_cmp, match_ordering}
-use Rattle.std.specs.Cmp.Lexicographic.{nat_list_cmp_total, slice_cmp}
+use Rattle.std.proofs.Common.{◌≡◌, ◌≢◌, ℕ, Bool, true, false, cond, List, [], ◌∷◌, ◌++◌, length, map, None, Less, refl, sym, ap, subst, arith}
+use Rattle.std.specs.Cmp.Lexicographic.{nat_list_cmp_total}
 use Rattle.std.specs.List.{AllByRecursion, AllZip}
 use Rattle.std.specs.List.Sorted.{IsStrictlySortedBy}
 use Rattle.std.proofs.lemmas.Cmp.{tied_itself}
@@ -20,8 +19,7 @@ use Rattle.tor_tree.proofs.MadeTree.{AreReady, made_entries, made_tidy}
 use Rattle.tor_tree.proofs.OneTree.{apart_key}
 use Rattle.tor_tree.proofs.RisingTree.{AreRisingPairs, IsBefore, before_inside, first_after, less_key, made_rising}
 use Rattle.tor_tree.proofs.TreeOfFiles.{one_root_each, paths_below, ready_files}
-use Rattle.tor_spec.specs.Dictionary.{put}
-use Rattle.tor_spec.specs.FileTree.{File, file_properties, file_tree, listed, pairs_below, place, root_of, roots_of}
+use Rattle.tor_spec.specs.FileTree.{File, file_properties, file_tree, listed, place, root_of, roots_of}
 
 after_less : (name key : List ℕ) (keys : List (List ℕ)) → name_cmp name key ≡ Less → AreRising (key ∷ keys) → AreRising (name ∷ keys)
 after_less name key [] less rising = tt
