@@ -12,6 +12,7 @@ pub mod Permuted
 pub mod PropertyLemmas
 pub mod Readable
 pub mod Rising
+pub mod RisingPaths
 pub mod RisingTree
 pub mod Shaped
 pub mod SortedFiles

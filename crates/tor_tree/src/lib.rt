@@ -3,7 +3,8 @@
 //! - [`Name`] (`names.rt`): the name of a file or a folder.
 //! - [`FilePath`] (`paths.rt`): the names that lead to a file, in the order of paths.
 //! - [`FileList`] (`lists.rt`): files in order, each once.
-//! - [`from_item`] (`read_tree.rt`): the files that a tree describes, each a [`TreeFile`] (`tree_file.rt`).
+//! - [`from_item`] (`read_tree.rt`): the files that a tree describes, each a [`TreeFile`] (`tree_file.rt`); they are in
+//!   order (`laws.rt`).
 //! - [`to_item`] (`write_tree.rt`): the tidy tree of a list; there is one at most (`laws.rt`).
 //!
 //! `entries.rt`, `properties.rt` and `mixed.rt` read the parts of a tree.
@@ -24,7 +25,7 @@ mod tree_file;
 mod write_tree;
 
 pub use kinds::Kind;
-pub use laws::one_file_tree;
+pub use laws::{one_file_tree, rising_paths};
 pub use lists::{FileList, ListError, MAX_LENGTH, MAX_TOTAL, ROUNDING};
 pub use names::{Name, NameError};
 pub use paths::FilePath;
