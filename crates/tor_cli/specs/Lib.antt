@@ -1,3 +1,4 @@
 pub mod Input
 pub mod Make
 pub mod Status
+pub mod Taking

@@ -1,12 +1,12 @@
-ghost use Rattle.std.specs.Prelude.{◌≡◌, ◌≤◌, ◌<◌, ◌^◌, length, take, vec_len, IfOk, IfErr};
+//! An input read to its end, part by part, within a limit.
+ghost use Rattle.std.specs.Prelude.{◌≡◌, ◌≤◌, ◌<◌, List, ℕ, length, take, vec_len, OnOk, IfOk, IfErr};
 ghost use Rattle.std.specs.Io.KnownBytes.{Consumes, IsAtEnd};
-ghost use Rattle.tor_merkle.specs.Layer.{IsPieceLength};
 ghost use Rattle.tor_cli.specs.Input.{ReadsWhole, ReadsSome, EndsInput};
 ghost use Rattle.tor_cli.specs.declared.input.InputFault.TheVariants.{Memory};
 
+use crate::intake::Intake;
 use std::alloc::{AllocError, Global};
 use std::io::Read;
-use tor_merkle::Feed;
 
 const BUFFER_LENGTH: usize = 65536;
 
@@ -31,49 +31,37 @@ pub fn read_limited<R: Read>(
     ensures err { IfErr result (λ fault.
         ReadsSome (R.remaining reader.old) (R.remaining reader.new) (EndsInput limit fault)) }
 {
-    let mut room = zeros(alloc, BUFFER_LENGTH)?;
-    let buffer = room.as_mut_slice();
     let mut bytes = Vec::new(alloc);
-    loop {
-        let count = match read_part(reader, buffer, limit - bytes.len() as u64) {
-            Ok(0) => return Ok(bytes),
-            Ok(count) => count,
-            Err(fault) => return Err(fault),
-        };
-        let (part, _) = buffer.split_at(count);
-        if bytes.extend_from_slice(part).is_err() {
-            return Err(InputFault::Memory);
-        }
-    }
+    read_parts(alloc, reader, limit, &mut bytes)?;
+    Ok(bytes)
 }
 
-/// A feed of all the bytes that the reader has, where they are at most `limit`; none of them is kept.
-pub fn feed_limited<R: Read>(
+/// Hands on all the bytes that the reader has, where they are at most `limit`, part by part.
+pub fn read_parts<R: Read, I: Intake>(
     alloc: Global,
     reader: &mut R,
-    piece_length: u64,
     limit: u64,
-) -> Result<Feed, InputFault>
-    requires piece { IsPieceLength piece_length }
-    requires limit { limit ≤ 2 ^ 50 }
-    ensures piece_length { IfOk result (λ feed. feed.piece_length ≡ piece_length) }
-    ensures within { IfOk result (λ feed. length feed.bytes ≤ limit) }
-    ensures whole { IfOk result (λ feed. ReadsWhole (R.remaining reader.old) (R.remaining reader.new) feed.bytes) }
+    intake: &mut I,
+) -> Result<(), InputFault>
+    requires { I.may_take intake.old limit }
+    ensures whole { OnOk result ((bytes : List ℕ) × (length bytes ≤ limit)
+        × ReadsWhole (R.remaining reader.old) (R.remaining reader.new) bytes × I.takes intake.old bytes intake.new) }
     ensures err { IfErr result (λ fault.
         ReadsSome (R.remaining reader.old) (R.remaining reader.new) (EndsInput limit fault)) }
 {
     let mut room = zeros(alloc, BUFFER_LENGTH)?;
     let buffer = room.as_mut_slice();
-    let mut feed = Feed::new(alloc, piece_length);
-    loop {
-        let count = match read_part(reader, buffer, limit - feed.count()) {
-            Ok(0) => return Ok(feed),
+    let mut left = limit;
+    'parts: loop {
+        let count = match read_part(reader, buffer, left) {
+            Ok(0) => return Ok(()),
             Ok(count) => count,
             Err(fault) => return Err(fault),
         };
         let (part, _) = buffer.split_at(count);
-        if feed.feed(part).is_err() {
-            return Err(InputFault::Memory);
+        match intake.take(part) {
+            Ok(()) => left -= count as u64,
+            Err(_) => return Err(InputFault::Memory),
         }
     }
 }
@@ -83,7 +71,8 @@ fn read_part<R: Read>(reader: &mut R, buffer: &mut [u8], room: u64) -> Result<us
     requires { 0 < length buffer.old }
     ensures buffer_stays { length buffer.new ≡ length buffer.old }
     ensures within { IfOk result (λ count. (count ≤ length buffer.old) × (count ≤ room)) }
-    ensures given { IfOk result (λ count. Consumes (R.remaining reader.old) (R.remaining reader.new) (take count buffer.new)) }
+    ensures given { IfOk result (λ count.
+        Consumes (R.remaining reader.old) (R.remaining reader.new) (take count buffer.new)) }
     ensures end { IfOk result (λ count. count ≡ 0 → IsAtEnd (R.remaining reader.new)) }
     ensures err { IfErr result (λ fault.
         ReadsSome (R.remaining reader.old) (R.remaining reader.new) (EndsInput room fault)) }

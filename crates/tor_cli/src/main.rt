@@ -8,6 +8,7 @@
 mod command;
 mod fault;
 mod input;
+mod intake;
 mod make;
 mod run;
 #[cfg(test)]

@@ -4,9 +4,11 @@ ghost use Rattle.tor_cli.specs.Make.{MakesWhole, MakesPart};
 ghost use Rattle.tor_cli.specs.declared.make.FromFault.TheVariants.{Input, Make, Write};
 ghost use Rattle.tor_meta.specs.declared.refusals.BytesError.TheVariants.{Memory};
 
-use crate::input::{InputFault, feed_limited, read_limited};
+use crate::input::{InputFault, read_parts};
+use crate::intake::Dropped;
 use std::alloc::{AllocError, Global};
 use std::io;
+use tor_merkle::Feed;
 use tor_meta::{BytesError, WriteFault, check_head, make_fed, write_out};
 
 /// The most bytes that are read of an input.
@@ -35,14 +37,15 @@ pub fn make_from<R: io::Read, W: io::Write>(
 {
     match check_head(alloc, name, piece_length) {
         Ok(name) => {
-            let feed = feed_limited(alloc, reader, piece_length, MAX_INPUT_LENGTH)?;
+            let mut feed = Feed::new(alloc, piece_length);
+            read_parts(alloc, reader, MAX_INPUT_LENGTH, &mut feed)?;
             let torrent = make_fed(alloc, &name, feed)?;
             write_out(writer, &torrent)?;
             Ok(())
         }
         Err(refusal) => {
             // A fault of the reader is told before what is wrong with the words.
-            read_limited(alloc, reader, MAX_INPUT_LENGTH)?;
+            read_parts(alloc, reader, MAX_INPUT_LENGTH, &mut Dropped)?;
             Err(FromFault::Make(refusal))
         }
     }
