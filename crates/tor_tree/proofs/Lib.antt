@@ -10,6 +10,7 @@ pub mod OneTree
 pub mod PathLists
 pub mod Permuted
 pub mod PropertyLemmas
+pub mod ProvedLaws
 pub mod Readable
 pub mod Rising
 pub mod RisingPaths

@@ -1,4 +1,4 @@
-//! Laws over the definitions, as contracts of functions that do nothing.
+//! Laws over the definitions alone.
 ghost use Rattle.std.specs.Prelude.{map};
 ghost use Rattle.std.specs.List.Sorted.{IsStrictlySortedBy};
 ghost use Rattle.tor_bencode.specs.Data.{Data};
