@@ -8,7 +8,8 @@ use Rattle.tor_bencode.specs.Data.{Data, dictionary, Pairs, no_pairs, pair}
 use Rattle.tor_bencode.specs.View.{view, pairs_view}
 use Rattle.tor_bencode.specs.declared.item.Item.{Item}
 use Rattle.tor_tree.specs.Name.{name_fault}
-use Rattle.tor_tree.specs.Writing.{IsPathFrom, below, pairs_of_files, files_below, has_name_at, is_first}
+use Rattle.tor_tree.specs.Writing.{IsPathFrom, below, files_below, has_name_at, is_first}
+use Rattle.tor_tree.specs.WrittenTree.{pairs_of_files}
 use Rattle.tor_tree.proofs.Groups.{first_is, name_own, pair_of_group}
 
 pub take-files_below : (deep n : ℕ) (files : List (List (List ℕ) × ℕ)) (roots : List (Option (List ℕ))) → take n (files_below deep files roots) ≡ files_below deep (take n files) (take n roots)

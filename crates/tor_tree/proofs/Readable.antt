@@ -9,7 +9,8 @@ use Rattle.tor_tree.specs.FileTree.{entries_of, file_of, lacks_root, properties_
 use Rattle.tor_tree.specs.Name.{name_fault}
 use Rattle.tor_tree.specs.Properties.{length_of, properties_for}
 use Rattle.tor_tree.specs.TidyTree.{HasItsRoot, IsFileTreeOf, plain_files}
-use Rattle.tor_tree.specs.Writing.{AreNamed, IsPathFrom, IsRoot}
+use Rattle.tor_tree.specs.Path.{HasNames}
+use Rattle.tor_tree.specs.Writing.{IsPathFrom, IsRoot}
 use Rattle.tor_tree.specs.declared.tree_file.TreeFile.{TreeFile}
 use Rattle.tor_tree.proofs.FilesBelow.{faultless_named}
 use Rattle.tor_tree.proofs.OneTree.{AreTidyFiles, tidy_of}
@@ -89,7 +90,7 @@ faultless_some : (path : List (List ℕ)) → AllByRecursion (λ name. name_faul
 faultless_some [] faultless = tt
 faultless_some (name ∷ names) faultless = (faultless_named name faultless.0, faultless_some names faultless.1)
 
-pub all_named : (files : List (List (List ℕ) × ℕ)) → AllByRecursion (λ file. IsPathFrom 0 file.0) files → AllByRecursion (λ file. AreNamed file.0) files
+pub all_named : (files : List (List (List ℕ) × ℕ)) → AllByRecursion (λ file. IsPathFrom 0 file.0) files → AllByRecursion (λ file. HasNames file.0) files
 all_named [] are = tt
 all_named (file ∷ files) are = (All-from_recursion _ file.0 (faultless_some file.0 (recursion_from_All _ file.0 are.0.1)), all_named files are.1)
 

@@ -8,7 +8,9 @@ use Rattle.tor_tree.specs.FileTree.{file_of}
 use Rattle.tor_tree.specs.Properties.{properties_for}
 use Rattle.tor_tree.specs.TidyTree.{HasItsRoot, plain_files}
 use Rattle.tor_tree.specs.declared.tree_file.TreeFile.{TreeFile}
-use Rattle.tor_tree.specs.Writing.{AreNamed, files_below}
+use Rattle.tor_tree.specs.Path.{HasNames}
+use Rattle.tor_tree.specs.Writing.{files_below}
+use Rattle.tor_tree.specs.WrittenTree.{with_properties}
 use Rattle.tor_tree.proofs.MadeTree.{AreReady}
 use Rattle.tor_tree.proofs.TreeFaults.{clear}
 
@@ -33,7 +35,7 @@ one_root_each [] (root ∷ roots) h = absurd h
 one_root_each (file ∷ files) [] h = absurd h
 one_root_each (file ∷ files) (root ∷ roots) h = ap suc (one_root_each files roots h.1)
 
-pub ready_files : (files : List (List (List ℕ) × ℕ)) (roots : List (Option (List ℕ))) → AllZip HasItsRoot files roots → AllByRecursion (λ file. AreNamed file.0) files → AreReady (files_below 0 files roots)
+pub ready_files : (files : List (List (List ℕ) × ℕ)) (roots : List (Option (List ℕ))) → AllZip HasItsRoot files roots → AllByRecursion (λ file. HasNames file.0) files → AreReady (with_properties files roots)
 ready_files [] roots h named = tt
 ready_files (file ∷ files) [] h named = tt
 ready_files (file ∷ files) (root ∷ roots) h named =
@@ -53,15 +55,15 @@ plain_file path n (Some root) h =
     let some : (n == 0) ≡ false = ne_eqb n 0 (λ e. absurd (omega arith)) in
     rw some refl
 
-pub plain_described : (files : List (List (List ℕ) × ℕ)) (roots : List (Option (List ℕ))) → AllZip HasItsRoot files roots → map file_of (files_below 0 files roots) ≡ plain_files files roots
+pub plain_described : (files : List (List (List ℕ) × ℕ)) (roots : List (Option (List ℕ))) → AllZip HasItsRoot files roots → map file_of (with_properties files roots) ≡ plain_files files roots
 plain_described [] roots h = refl
 plain_described (file ∷ files) [] h = refl
 plain_described (file ∷ files) (root ∷ roots) h = rw (plain_file file.0 file.1 root h.0, plain_described files roots h.1) refl
 
-pub paths_below : (files : List (List (List ℕ) × ℕ)) (roots : List (Option (List ℕ))) → length roots ≡ length files → map (λ file. file.0) (files_below 0 files roots) ≡ paths_of files
-paths_below [] roots e = refl
-paths_below (file ∷ files) [] e = absurd (omega arith)
-paths_below (file ∷ files) (root ∷ roots) e = ap (λ paths. file.0 ∷ paths) (paths_below files roots (omega arith))
+pub paths_with : (files : List (List (List ℕ) × ℕ)) (roots : List (Option (List ℕ))) → length roots ≡ length files → map (λ file. file.0) (with_properties files roots) ≡ paths_of files
+paths_with [] roots e = refl
+paths_with (file ∷ files) [] e = absurd (omega arith)
+paths_with (file ∷ files) (root ∷ roots) e = ap (λ paths. file.0 ∷ paths) (paths_with files roots (omega arith))
 
 -- a step of a loop that gives each file its root
 pub rooted_more : (files : List (List (List ℕ) × ℕ)) (roots : List (Option (List ℕ))) (file : List (List ℕ) × ℕ) (root : Option (List ℕ)) → AllZip HasItsRoot files roots → HasItsRoot file root → AllZip HasItsRoot (files ++ file ∷ []) (roots ++ root ∷ [])
@@ -69,3 +71,9 @@ rooted_more [] [] file root h here = (here, tt)
 rooted_more [] (r ∷ roots) file root h here = absurd h
 rooted_more (f ∷ files) [] file root h here = absurd h
 rooted_more (f ∷ files) (r ∷ roots) file root h here = (h.0, rooted_more files roots file root h.1 here)
+
+-- seen from no names down, files are as they are
+pub below_none : (files : List (List (List ℕ) × ℕ)) (roots : List (Option (List ℕ))) → files_below 0 files roots ≡ with_properties files roots
+below_none [] roots = refl
+below_none (file ∷ files) [] = refl
+below_none (file ∷ files) (root ∷ roots) = ap (λ rest. (file.0, properties_for file.1 root) ∷ rest) (below_none files roots)

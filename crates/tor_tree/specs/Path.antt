@@ -1,5 +1,5 @@
 -- The order of paths. A path is a list of names, a name a list of bytes.
-use Rattle.std.specs.Prelude.{ℕ, List, Bool, nat_eq}
+use Rattle.std.specs.Prelude.{ℕ, List, [], ◌≢◌, All, Bool, nat_eq}
 use Rattle.std.specs.Cmp.Lexicographic.{pointwise, slice_cmp}
 use Rattle.std.specs.declared.cmp.Ordering.{Ordering}
 use Rattle.std.specs.Ordering.{nat_cmp}
@@ -19,3 +19,7 @@ name_eq = pointwise nat_eq
 -- equal paths, name by name
 abbrev pub path_eq : List (List ℕ) → List (List ℕ) → Bool
 path_eq = pointwise name_eq
+
+-- no name of the path is empty
+abbrev pub HasNames : List (List ℕ) → Type 0
+HasNames path = All (λ name. name ≢ []) path

@@ -6,7 +6,8 @@ ghost use Rattle.tor_bencode.specs.View.{view, pairs_view};
 ghost use Rattle.tor_tree.specs.FileTree.{tree_fault};
 ghost use Rattle.tor_tree.specs.Properties.{properties_for};
 ghost use Rattle.tor_tree.specs.TidyTree.{IsFileTreeOf, HasItsRoot};
-ghost use Rattle.tor_tree.specs.Writing.{IsPathFrom, IsRoot, files_below, has_name_at, pairs_of_files};
+ghost use Rattle.tor_tree.specs.Writing.{IsPathFrom, IsRoot, files_below, has_name_at};
+ghost use Rattle.tor_tree.specs.WrittenTree.{file_tree, pairs_of_files};
 
 use crate::lists::FileList;
 use crate::names::Name;
@@ -19,7 +20,8 @@ use tor_bencode::Item;
 /// `roots` has the pieces root of each file, and none for an empty one.
 pub fn to_item(alloc: Global, list: &FileList, roots: &[Option<Hash>]) -> Result<Item, AllocError>
     requires { AllZip HasItsRoot list.now roots.now }
-    ensures made { IfOk result (λ tree. IsFileTreeOf list.now roots.now (view tree)) }
+    ensures made { IfOk result (λ tree. view tree ≡ file_tree list.now roots.now) }
+    ensures tidy { IfOk result (λ tree. IsFileTreeOf list.now roots.now (view tree)) }
     ensures readable { IfOk result (λ tree. tree_fault (view tree) ≡ None) }
 {
     Ok(Item::Dict(folder(alloc, list.files(), roots, 0)?))

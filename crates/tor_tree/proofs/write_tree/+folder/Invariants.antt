@@ -1,6 +1,7 @@
 use Rattle.std.proofs.Common.{◌≡◌, ◌≤◌, ◌+◌, ◌-◌, ◌*◌, ◌^◌, All, length, take, drop}
 use Rattle.tor_bencode.specs.View.{pairs_view}
-use Rattle.tor_tree.specs.Writing.{IsPathFrom, IsRoot, files_below, pairs_of_files}
+use Rattle.tor_tree.specs.Writing.{IsPathFrom, IsRoot, files_below}
+use Rattle.tor_tree.specs.WrittenTree.{pairs_of_files}
 use Rattle.tor_tree.proofs.FilesBelow.{followed_by}
 use Rattle.tor_tree.proofs.write_tree.+folder.Given as goal
 
