@@ -3,6 +3,7 @@ pub mod FilesBelow
 pub mod Groups
 pub mod Inside
 pub mod Lengths
+pub mod ListFaults
 pub mod MadeTree
 pub mod Mixing
 pub mod NameLemmas

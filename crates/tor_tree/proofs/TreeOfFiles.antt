@@ -1,9 +1,9 @@
 -- The files of a list, with their roots, are what their tree describes.
-use Rattle.std.proofs.Common.{◌≡◌, ◌==◌, ℕ, suc, ◌<◌, ◌≤◌, ◌^◌, Bool, true, false, cond, List, [], ◌∷◌, ◌++◌, length, map, nat_lt, Option, None, Some, refl, ap, arith}
-use Rattle.std.specs.List.{list_any, All, AllByRecursion, AllZip}
-use Rattle.std.proofs.lemmas.Bool.{or_parts, ltb-false, ne_eqb}
-use Rattle.std.proofs.lemmas.List.Elements.{All-from_recursion, recursion_from_All}
-use Rattle.tor_tree.specs.FileList.{lengths_of, lengths_too_large, list_fault, paths_of, paths_nest, paths_repeat}
+use Rattle.std.proofs.Common.{◌≡◌, ◌==◌, ℕ, suc, ◌<◌, Bool, true, false, cond, List, [], ◌∷◌, ◌++◌, length, map, Option, None, Some, refl, ap, arith}
+use Rattle.std.specs.List.{AllByRecursion, AllZip}
+use Rattle.std.proofs.lemmas.Bool.{ne_eqb}
+use Rattle.std.proofs.lemmas.List.Elements.{recursion_from_All}
+use Rattle.tor_tree.specs.FileList.{paths_of}
 use Rattle.tor_tree.specs.FileTree.{file_of}
 use Rattle.tor_tree.specs.Properties.{properties_for}
 use Rattle.tor_tree.specs.TidyTree.{HasItsRoot, plain_files}
@@ -12,22 +12,6 @@ use Rattle.tor_tree.specs.Path.{HasNames}
 use Rattle.tor_tree.specs.Writing.{files_below}
 use Rattle.tor_tree.specs.WrittenTree.{with_properties}
 use Rattle.tor_tree.proofs.MadeTree.{AreReady}
-use Rattle.tor_tree.proofs.TreeFaults.{clear}
-
-none_over : (files : List (List (List ℕ) × ℕ)) → list_any (nat_lt (2 ^ 50)) (lengths_of files) ≡ false → AllByRecursion (λ file. file.1 ≤ 2 ^ 50) files
-none_over [] h = tt
-none_over (file ∷ files) h =
-    let parts = or_parts (nat_lt (2 ^ 50) file.1) (list_any (nat_lt (2 ^ 50)) (lengths_of files)) h in
-    (ltb-false (2 ^ 50) file.1 parts.0, none_over files parts.1)
-
--- no file of a list is too long
-pub small_files : (files : List (List (List ℕ) × ℕ)) → list_fault files ≡ None → All (λ file. file.1 ≤ 2 ^ 50) files
-small_files files h =
-    let a = clear (length files == 0) _ _ h in
-    let b = clear (paths_repeat (paths_of files)) _ _ a.1 in
-    let c = clear (paths_nest (paths_of files)) _ _ b.1 in
-    let d = clear (lengths_too_large (lengths_of files)) _ _ c.1 in
-    All-from_recursion _ files (none_over files (or_parts (list_any (nat_lt (2 ^ 50)) (lengths_of files)) _ d.0).0)
 
 pub one_root_each : (files : List (List (List ℕ) × ℕ)) (roots : List (Option (List ℕ))) → AllZip HasItsRoot files roots → length roots ≡ length files
 one_root_each [] [] h = refl

@@ -1,7 +1,6 @@
 -- What the clauses of private functions say while a file tree is put together.
-use Rattle.std.specs.Prelude.{◌≡◌, ◌≢◌, Bool, false, All, ℕ, List, [], ◌∷◌, map, drop, length, Option, None, IfSome}
+use Rattle.std.specs.Prelude.{◌≡◌, Bool, false, ℕ, List, [], ◌∷◌, map, drop, length, Option, IfSome}
 use Rattle.tor_bencode.specs.Data.{Data}
-use Rattle.tor_tree.specs.Name.{name_fault}
 use Rattle.tor_tree.specs.Path.{name_eq}
 use Rattle.tor_tree.specs.WrittenTree.{with_properties}
 
@@ -19,10 +18,6 @@ is_first name (n ∷ ns) = name_eq n name
 
 abbrev pub has_name_at : ℕ → List ℕ → List (List ℕ) → Bool
 has_name_at deep name path = is_first name (drop deep path)
-
--- a path that has names, of which those from `deep` on are without fault
-abbrev pub IsPathFrom : ℕ → List (List ℕ) → Type 0
-IsPathFrom deep path = (path ≢ []) × All (λ name. name_fault name ≡ None) (drop deep path)
 
 -- a pieces root, if there is one, has 32 bytes
 abbrev pub IsRoot : Option (List ℕ) → Type 0

@@ -17,6 +17,7 @@ pub mod laws;
 mod lists;
 mod mixed;
 mod names;
+mod path_faults;
 mod paths;
 mod properties;
 mod read_tree;
@@ -27,7 +28,7 @@ mod write_tree;
 
 pub use kinds::Kind;
 pub use lists::{FileList, ListError, MAX_LENGTH, MAX_TOTAL, ROUNDING};
-pub use names::{Name, NameError};
+pub use names::{Name, NameError, copies, each_is_name};
 pub use paths::FilePath;
 pub use read_tree::from_item;
 pub use tree_file::{Hash, TreeFault, TreeFile};
