@@ -2,14 +2,15 @@
 use Rattle.std.proofs.Common.{Vec, Global, None, inl, inr, zero-add, suc-add, length-drop, ◌-◌, ◌≡◌, ◌≢◌, ℕ, zero, suc, ◌+◌, ◌<◌, true, false, List, [], ◌∷◌, ◌++◌, length, get_or, take, drop, map, Option, refl, sym, ap, ◌∙◌, arith}
 use Rattle.std.specs.List.{All, AllByRecursion}
 use Rattle.std.proofs.lemmas.List.{drop_more, drop_all, take_all}
-use Rattle.std.proofs.lemmas.List.Elements.{All-append, All-cons, recursion_from_All}
+use Rattle.std.proofs.lemmas.List.Elements.{All-append, recursion_from_All}
 use Rattle.std.proofs.lemmas.Bool.{cases_lt}
 use Rattle.tor_bencode.specs.Data.{Data, dictionary, Pairs, no_pairs, pair}
 use Rattle.tor_bencode.specs.View.{view, pairs_view}
 use Rattle.tor_bencode.specs.declared.item.Item.{Item}
 use Rattle.tor_tree.specs.Name.{name_fault}
-use Rattle.tor_tree.specs.Writing.{IsPathFrom, below, pairs_of_files, files_below, has_name_at, is_first}
-use Rattle.tor_tree.proofs.Groups.{first_is, name_own, pair_of_group}
+use Rattle.tor_tree.specs.Writing.{below, files_below, has_name_at, is_first}
+use Rattle.tor_tree.specs.WrittenTree.{pairs_of_files}
+use Rattle.tor_tree.proofs.Groups.{name_own, pair_of_group}
 
 pub take-files_below : (deep n : ℕ) (files : List (List (List ℕ) × ℕ)) (roots : List (Option (List ℕ))) → take n (files_below deep files roots) ≡ files_below deep (take n files) (take n roots)
 take-files_below deep zero files roots = refl
@@ -108,11 +109,6 @@ all_to P m n xs before here = rw (take-more m n xs) (All-append P (take m xs) (t
 
 pub first_has : (deep : ℕ) (name : List ℕ) (path : List (List ℕ)) → deep < length path → name ≡ get_or path deep name → has_name_at deep name path ≡ true
 first_has deep name path within is = ap (is_first name) (drop_more path deep name within) ∙ rw (← is) (name_own name)
-
-pub named_from : (deep : ℕ) (name : List ℕ) (path : List (List ℕ)) → name_fault name ≡ None → has_name_at deep name path ≡ true → IsPathFrom (deep + 1) path → IsPathFrom deep path
-named_from deep name path faultless has rest =
-    let shown : drop deep path ≡ name ∷ drop (deep + 1) path = first_is name (drop deep path) has ∙ ap (λ ps. name ∷ ps) (drop-more deep 1 path) in
-    (rest.0, rw shown (All-cons (λ n. name_fault n ≡ None) name (drop (deep + 1) path) faultless rest.1))
 
 pub faultless_named : (name : List ℕ) → name_fault name ≡ None → name ≢ []
 faultless_named [] faultless e = cc

@@ -3,6 +3,7 @@ pub mod FilesBelow
 pub mod Groups
 pub mod Inside
 pub mod Lengths
+pub mod ListFaults
 pub mod MadeTree
 pub mod Mixing
 pub mod NameLemmas
@@ -10,6 +11,7 @@ pub mod OneTree
 pub mod PathLists
 pub mod Permuted
 pub mod PropertyLemmas
+pub mod ProvedLaws
 pub mod Readable
 pub mod Rising
 pub mod RisingPaths

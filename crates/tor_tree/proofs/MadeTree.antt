@@ -5,7 +5,7 @@ use Rattle.tor_bencode.specs.Data.{Data, integer, string, list, dictionary, Pair
 use Rattle.tor_tree.specs.FileTree.{entries_in}
 use Rattle.tor_tree.specs.Path.{name_eq}
 use Rattle.tor_tree.specs.TidyTree.{AreTidy, IsTidyFile}
-use Rattle.tor_tree.specs.Writing.{pairs_of_files, put_first, put_under, put_inside}
+use Rattle.tor_tree.specs.WrittenTree.{pairs_of_files, put_first, put_under, put_inside}
 use Rattle.tor_tree.proofs.Groups.{name_is}
 
 pub put_first-some : (path : List (List ℕ)) (properties : Data) (pairs : Pairs) → put_first path properties pairs ≡ no_pairs → ⊥

@@ -4,7 +4,7 @@ use Rattle.std.specs.List.{list_any}
 use Rattle.std.specs.List.Sorted.{IsPermutation}
 use Rattle.std.proofs.lemmas.List.Sorted.{IsPermutation-map, list_any-IsPermutation, sum_by-IsPermutation, length_permutation}
 use Rattle.std.proofs.Math.Seq.{take-append_seam}
-use Rattle.tor_tree.specs.FileList.{paths_of, lengths_of, paths_repeat, paths_nest, lengths_too_large, list_fault, is_inside}
+use Rattle.tor_tree.specs.FileList.{paths_of, lengths_of, paths_repeat, paths_nest, paths_fault, lengths_fault, list_fault, is_inside}
 use Rattle.tor_tree.specs.Path.{path_eq}
 use Rattle.tor_tree.proofs.Lengths.{rounded}
 
@@ -23,15 +23,19 @@ paths_nest-permutation ps qs moved =
     list_any-IsPermutation (λ folder. list_any (is_inside folder) ps) ps qs moved
     ∙ list_any-same _ _ (λ folder. list_any-IsPermutation (is_inside folder) ps qs moved) qs
 
-lengths_too_large-permutation : (ms ns : List ℕ) → IsPermutation ms ns → lengths_too_large ms ≡ lengths_too_large ns
-lengths_too_large-permutation ms ns moved =
+pub paths_fault-permutation : (ps qs : List (List (List ℕ))) → IsPermutation ps qs → paths_fault ps ≡ paths_fault qs
+paths_fault-permutation ps qs moved =
+    rw (sym (length_permutation ps qs moved), paths_repeat-permutation ps qs moved, paths_nest-permutation ps qs moved) refl
+
+pub lengths_fault-permutation : (ms ns : List ℕ) → IsPermutation ms ns → lengths_fault ms ≡ lengths_fault ns
+lengths_fault-permutation ms ns moved =
     rw (list_any-IsPermutation (nat_lt (2 ^ 50)) ms ns moved, sum_by-IsPermutation rounded ms ns moved) refl
 
 pub list_fault-permutation : (xs ys : List (List (List ℕ) × ℕ)) → IsPermutation xs ys → list_fault xs ≡ list_fault ys
 list_fault-permutation xs ys moved =
     let paths = IsPermutation-map (λ file. file.0) xs ys moved in
     let lengths = IsPermutation-map (λ file. file.1) xs ys moved in
-    rw (sym (length_permutation xs ys moved), paths_repeat-permutation (paths_of xs) (paths_of ys) paths, paths_nest-permutation (paths_of xs) (paths_of ys) paths, lengths_too_large-permutation (lengths_of xs) (lengths_of ys) lengths)
+    rw (paths_fault-permutation (paths_of xs) (paths_of ys) paths, lengths_fault-permutation (lengths_of xs) (lengths_of ys) lengths)
     refl
 
 -- a slice of all elements, moved and written back to its vector of n elements

@@ -1,21 +1,22 @@
 -- The file tree of a list has none of the faults for which a tree is refused.
-use Rattle.std.proofs.Common.{◌≡◌, ◌≢◌, ◌==◌, ℕ, suc, zero, ◌+◌, Bool, true, false, ◌&&◌, List, [], ◌∷◌, length, map, Option, None, Some, refl, sym, ap, subst, ◌∙◌, arith}
+use Rattle.std.proofs.Common.{◌≡◌, ◌≢◌, ℕ, suc, zero, ◌+◌, Bool, true, false, ◌&&◌, List, [], ◌∷◌, length, map, Option, None, Some, refl, sym, ap, subst, ◌∙◌, arith}
 use Rattle.std.specs.List.{AllByRecursion, AllZip, list_any}
 use Rattle.std.proofs.lemmas.Bool.{both_ways, false_from_ne_true}
 use Rattle.std.proofs.lemmas.List.{length-map}
 use Rattle.tor_bencode.specs.Data.{Data}
-use Rattle.tor_tree.specs.FileList.{IsFileList, IsInPathOrder, lengths_of, lengths_too_large, paths_nest, paths_of, paths_repeat}
+use Rattle.tor_tree.specs.FileList.{IsFileList, IsInPathOrder, lengths_of, paths_nest, paths_of}
 use Rattle.tor_tree.specs.FileTree.{entries_of, file_of, lacks_root, properties_in, tree_fault}
 use Rattle.tor_tree.specs.Name.{name_fault}
 use Rattle.tor_tree.specs.Properties.{length_of, properties_for}
 use Rattle.tor_tree.specs.TidyTree.{HasItsRoot, IsFileTreeOf, plain_files}
-use Rattle.tor_tree.specs.Writing.{AreNamed, IsPathFrom, IsRoot}
+use Rattle.tor_tree.specs.Path.{HasNames, IsFilePath}
+use Rattle.tor_tree.specs.Writing.{IsRoot}
 use Rattle.tor_tree.specs.declared.tree_file.TreeFile.{TreeFile}
 use Rattle.tor_tree.proofs.FilesBelow.{faultless_named}
+use Rattle.tor_tree.proofs.ListFaults.{none_inside, not_too_large, some_files}
 use Rattle.tor_tree.proofs.OneTree.{AreTidyFiles, tidy_of}
 use Rattle.tor_tree.proofs.PathLists.{nest_found}
 use Rattle.tor_tree.proofs.Shaped.{HaveNames, no_link, no_negative_length, shaped_folder}
-use Rattle.tor_tree.proofs.TreeFaults.{clear}
 use Rattle.tor_tree.proofs.TreeOfFiles.{one_root_each, plain, plain_file}
 use Rattle.tor_tree.proofs.Unmixed.{AreApart, HavePaths, apart_from_places, paths_in, unmixed}
 use Rattle.std.proofs.lemmas.List.Elements.{All-from_recursion, recursion_from_All}
@@ -77,21 +78,25 @@ apart_list files in_order flat =
     let next : suc k ≡ k + 1 = omega arith in
     false_from_ne_true _ (λ starts. both_ways _ flat (nest_found (paths_of files) k in_order (omega (arith, lt)) (rw next at starts))))
 
-named_paths : (files : List (List (List ℕ) × ℕ)) → AllByRecursion (λ file. IsPathFrom 0 file.0) files → AllByRecursion (λ file. AllByRecursion (λ name. name_fault name ≡ None) file.0) files
+named_paths : (files : List (List (List ℕ) × ℕ)) → AllByRecursion (λ file. IsFilePath file.0) files → AllByRecursion (λ file. AllByRecursion (λ name. name_fault name ≡ None) file.0) files
 named_paths [] are = tt
-named_paths (file ∷ files) are = (recursion_from_All _ file.0 are.0.1, named_paths files are.1)
+named_paths (file ∷ files) are = (recursion_from_All _ file.0 are.0.named, named_paths files are.1)
 
-some_paths : (files : List (List (List ℕ) × ℕ)) → AllByRecursion (λ file. IsPathFrom 0 file.0) files → AllByRecursion (λ file. file.0 ≢ []) files
+some_paths : (files : List (List (List ℕ) × ℕ)) → AllByRecursion (λ file. IsFilePath file.0) files → AllByRecursion (λ file. file.0 ≢ []) files
 some_paths [] are = tt
-some_paths (file ∷ files) are = (are.0.0, some_paths files are.1)
+some_paths (file ∷ files) are = (are.0.some, some_paths files are.1)
 
 faultless_some : (path : List (List ℕ)) → AllByRecursion (λ name. name_fault name ≡ None) path → AllByRecursion (λ name. name ≢ []) path
 faultless_some [] faultless = tt
 faultless_some (name ∷ names) faultless = (faultless_named name faultless.0, faultless_some names faultless.1)
 
-pub all_named : (files : List (List (List ℕ) × ℕ)) → AllByRecursion (λ file. IsPathFrom 0 file.0) files → AllByRecursion (λ file. AreNamed file.0) files
+-- a path's names are not empty
+pub path_named : (path : List (List ℕ)) → IsFilePath path → HasNames path
+path_named path is = All-from_recursion _ path (faultless_some path (recursion_from_All _ path is.named))
+
+pub all_named : (files : List (List (List ℕ) × ℕ)) → AllByRecursion (λ file. IsFilePath file.0) files → AllByRecursion (λ file. HasNames file.0) files
 all_named [] are = tt
-all_named (file ∷ files) are = (All-from_recursion _ file.0 (faultless_some file.0 (recursion_from_All _ file.0 are.0.1)), all_named files are.1)
+all_named (file ∷ files) are = (path_named file.0 are.0, all_named files are.1)
 
 module _ (files : List (List (List ℕ) × ℕ)) (roots : List (Option (List ℕ))) (tree : Data) (made : IsFileTreeOf files roots tree) (lawful : IsFileList files) (with_roots : AllZip HasItsRoot files roots) where
   lengths_told : map length_of (properties_in tree) ≡ lengths_of files
@@ -104,19 +109,18 @@ module _ (files : List (List (List ℕ) × ℕ)) (roots : List (Option (List ℕ
       sym (told_paths (entries_of tree)) ∙ ap (map (λ (file : TreeFile). file.path)) made.described
       ∙ plain_paths files roots (one_root_each files roots with_roots)
 
-  same_count : length (properties_in tree) ≡ length files
-  same_count = sym (length-map (properties_in tree) length_of) ∙ ap length lengths_told ∙ length-map files (λ file. file.1)
+  same_count : length (properties_in tree) ≡ length (paths_of files)
+  same_count =
+      sym (length-map (properties_in tree) length_of) ∙ ap length lengths_told ∙ length-map files (λ file. file.1)
+      ∙ sym (length-map files (λ file. file.0))
 
-  pub readable : AllByRecursion (λ file. IsPathFrom 0 file.0) files → AllByRecursion IsRoot roots → tree_fault tree ≡ None
-  readable are rooted =
-      let a = clear (length files == 0) _ _ lawful.faultless in
-      let b = clear (paths_repeat (paths_of files)) _ _ a.1 in
-      let c = clear (paths_nest (paths_of files)) _ _ b.1 in
-      let d = clear (lengths_too_large (lengths_of files)) _ _ c.1 in
+  pub readable : AllByRecursion IsRoot roots → tree_fault tree ≡ None
+  readable rooted =
+      let are = recursion_from_All _ files lawful.named in
       let tidy = tidy_of tree made.tidy in
       let named : HaveNames (entries_of tree) = moved (AllByRecursion (λ name. name_fault name ≡ None)) (entries_of tree) files paths_told (named_paths files are) in
       let some : HavePaths (entries_of tree) = moved (λ path. path ≢ []) (entries_of tree) files paths_told (some_paths files are) in
-      let apart : AreApart (paths_in (entries_of tree)) = rw paths_told (apart_list files lawful.in_order c.0) in
+      let apart : AreApart (paths_in (entries_of tree)) = rw paths_told (apart_list files lawful.in_order (none_inside files lawful.faultless)) in
       let told : AllByRecursion (λ (file : TreeFile). IsRoot file.root) (map file_of (entries_of tree)) = rw made.described (plain_roots files roots rooted) in
-      rw (shaped_folder tree made.tidy named, no_negative_length (entries_of tree) tidy, same_count, a.0, lengths_told, d.0, no_link (entries_of tree) tidy, unmixed tree made.tidy made.keys apart some, no_missing_root (entries_of tree) tidy told)
+      rw (shaped_folder tree made.tidy named, no_negative_length (entries_of tree) tidy, same_count, some_files files lawful.faultless, lengths_told, not_too_large files lawful.faultless, no_link (entries_of tree) tidy, unmixed tree made.tidy made.keys apart some, no_missing_root (entries_of tree) tidy told)
       refl

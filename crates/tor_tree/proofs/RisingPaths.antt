@@ -94,5 +94,5 @@ told : (entries : List (List (List ℕ) × Data)) → map (λ (file : TreeFile).
 told [] = refl
 told ((path, properties) ∷ entries) = ap (λ paths. path ∷ paths) (told entries)
 
-pub rising_paths : (tree : Data) → HasRisingKeys tree → IsStrictlySortedBy path_cmp (map (λ (file : TreeFile). file.path) (files_of_tree tree))
-rising_paths tree rising = rw (told (entries_of tree)) (sorted_of tree rising)
+pub paths_rise : (tree : Data) → HasRisingKeys tree → IsStrictlySortedBy path_cmp (map (λ (file : TreeFile). file.path) (files_of_tree tree))
+paths_rise tree rising = rw (told (entries_of tree)) (sorted_of tree rising)

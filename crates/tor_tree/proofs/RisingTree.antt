@@ -12,7 +12,7 @@ use Rattle.tor_tree.specs.FileTree.{entries_in, entries_of, under}
 use Rattle.tor_tree.specs.Path.{name_cmp, name_eq, path_cmp}
 use Rattle.tor_tree.specs.Properties.{properties_for}
 use Rattle.tor_tree.specs.TidyTree.{AreTidy, IsTidy, IsTidyFile}
-use Rattle.tor_tree.specs.Writing.{pairs_of_files, put_first, put_under, put_inside}
+use Rattle.tor_tree.specs.WrittenTree.{pairs_of_files, put_first, put_under, put_inside}
 use Rattle.tor_tree.proofs.Groups.{name_is, name_own}
 use Rattle.tor_tree.proofs.MadeTree.{AreReady, made_tidy, made_entries}
 

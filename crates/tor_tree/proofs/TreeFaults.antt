@@ -11,6 +11,7 @@ use Rattle.tor_tree.specs.FileTree.{entries_of, entries_in, under, file_of, file
 use Rattle.tor_tree.specs.Properties.{has_negative_length, has_letter, length_of, is_hash, pieces_root}
 use Rattle.tor_tree.specs.Reading.{entries_fault, entry_at, file_from, hash_of, path_if_any}
 use Rattle.tor_tree.specs.declared.entries.Entry.{Entry}
+use Rattle.tor_tree.proofs.ListFaults.{clear}
 
 list_any-map : {X Y : Type 0} (p : Y → Bool) (f : X → Y) (xs : List X) → list_any p (map f xs) ≡ list_any (λ x. p (f x)) xs
 list_any-map p f [] = refl
@@ -40,10 +41,6 @@ entries_fault-tree tree shaped =
     map-map (λ (entry : Entry). unsigned_abs entry.properties.length) (entry_at []) files ∙ sym (map-map length_of (λ (file : List (List ℕ) × Data). file.1) files) in
     rw (shaped, alike (λ entry. int_lt entry.properties.length (pos 0)) has_negative_length (λ _. refl) files, length-map files (entry_at []), lengths, alike (λ entry. entry.properties.link) (has_letter 108) (λ _. refl) files, alike (λ entry. nat_lt 0 (unsigned_abs entry.properties.length) && is_none entry.properties.root) lacks_root (λ file. ap (λ b. nat_lt 0 (length_of file.1) && b) (hash_missing (pieces_root file.1))) files)
     (rw length-map refl)
-
-pub clear : {E : Type 0} (test : Bool) (fault : E) (rest : Option E) → cond test (Some fault) rest ≡ None → (test ≡ false) × (rest ≡ None)
-clear true fault rest h = cc
-clear false fault rest h = (refl, h)
 
 -- a tree without a fault mixes no files and folders, and lacks no root
 pub faultless_tree : (tree : Data) → tree_fault tree ≡ None → (tree_mixes tree ≡ false) × (list_any lacks_root (properties_in tree) ≡ false)

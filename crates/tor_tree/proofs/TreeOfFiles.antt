@@ -1,31 +1,17 @@
 -- The files of a list, with their roots, are what their tree describes.
-use Rattle.std.proofs.Common.{◌≡◌, ◌==◌, ℕ, suc, ◌<◌, ◌≤◌, ◌^◌, Bool, true, false, cond, List, [], ◌∷◌, ◌++◌, length, map, nat_lt, Option, None, Some, refl, ap, arith}
-use Rattle.std.specs.List.{list_any, All, AllByRecursion, AllZip}
-use Rattle.std.proofs.lemmas.Bool.{or_parts, ltb-false, ne_eqb}
-use Rattle.std.proofs.lemmas.List.Elements.{All-from_recursion, recursion_from_All}
-use Rattle.tor_tree.specs.FileList.{lengths_of, lengths_too_large, list_fault, paths_of, paths_nest, paths_repeat}
+use Rattle.std.proofs.Common.{◌≡◌, ◌==◌, ℕ, suc, ◌<◌, Bool, true, false, cond, List, [], ◌∷◌, ◌++◌, length, map, Option, None, Some, refl, ap, arith}
+use Rattle.std.specs.List.{AllByRecursion, AllZip}
+use Rattle.std.proofs.lemmas.Bool.{ne_eqb}
+use Rattle.std.proofs.lemmas.List.Elements.{recursion_from_All}
+use Rattle.tor_tree.specs.FileList.{paths_of}
 use Rattle.tor_tree.specs.FileTree.{file_of}
 use Rattle.tor_tree.specs.Properties.{properties_for}
 use Rattle.tor_tree.specs.TidyTree.{HasItsRoot, plain_files}
 use Rattle.tor_tree.specs.declared.tree_file.TreeFile.{TreeFile}
-use Rattle.tor_tree.specs.Writing.{AreNamed, files_below}
+use Rattle.tor_tree.specs.Path.{HasNames}
+use Rattle.tor_tree.specs.Writing.{files_below}
+use Rattle.tor_tree.specs.WrittenTree.{with_properties}
 use Rattle.tor_tree.proofs.MadeTree.{AreReady}
-use Rattle.tor_tree.proofs.TreeFaults.{clear}
-
-none_over : (files : List (List (List ℕ) × ℕ)) → list_any (nat_lt (2 ^ 50)) (lengths_of files) ≡ false → AllByRecursion (λ file. file.1 ≤ 2 ^ 50) files
-none_over [] h = tt
-none_over (file ∷ files) h =
-    let parts = or_parts (nat_lt (2 ^ 50) file.1) (list_any (nat_lt (2 ^ 50)) (lengths_of files)) h in
-    (ltb-false (2 ^ 50) file.1 parts.0, none_over files parts.1)
-
--- no file of a list is too long
-pub small_files : (files : List (List (List ℕ) × ℕ)) → list_fault files ≡ None → All (λ file. file.1 ≤ 2 ^ 50) files
-small_files files h =
-    let a = clear (length files == 0) _ _ h in
-    let b = clear (paths_repeat (paths_of files)) _ _ a.1 in
-    let c = clear (paths_nest (paths_of files)) _ _ b.1 in
-    let d = clear (lengths_too_large (lengths_of files)) _ _ c.1 in
-    All-from_recursion _ files (none_over files (or_parts (list_any (nat_lt (2 ^ 50)) (lengths_of files)) _ d.0).0)
 
 pub one_root_each : (files : List (List (List ℕ) × ℕ)) (roots : List (Option (List ℕ))) → AllZip HasItsRoot files roots → length roots ≡ length files
 one_root_each [] [] h = refl
@@ -33,7 +19,7 @@ one_root_each [] (root ∷ roots) h = absurd h
 one_root_each (file ∷ files) [] h = absurd h
 one_root_each (file ∷ files) (root ∷ roots) h = ap suc (one_root_each files roots h.1)
 
-pub ready_files : (files : List (List (List ℕ) × ℕ)) (roots : List (Option (List ℕ))) → AllZip HasItsRoot files roots → AllByRecursion (λ file. AreNamed file.0) files → AreReady (files_below 0 files roots)
+pub ready_files : (files : List (List (List ℕ) × ℕ)) (roots : List (Option (List ℕ))) → AllZip HasItsRoot files roots → AllByRecursion (λ file. HasNames file.0) files → AreReady (with_properties files roots)
 ready_files [] roots h named = tt
 ready_files (file ∷ files) [] h named = tt
 ready_files (file ∷ files) (root ∷ roots) h named =
@@ -53,15 +39,15 @@ plain_file path n (Some root) h =
     let some : (n == 0) ≡ false = ne_eqb n 0 (λ e. absurd (omega arith)) in
     rw some refl
 
-pub plain_described : (files : List (List (List ℕ) × ℕ)) (roots : List (Option (List ℕ))) → AllZip HasItsRoot files roots → map file_of (files_below 0 files roots) ≡ plain_files files roots
+pub plain_described : (files : List (List (List ℕ) × ℕ)) (roots : List (Option (List ℕ))) → AllZip HasItsRoot files roots → map file_of (with_properties files roots) ≡ plain_files files roots
 plain_described [] roots h = refl
 plain_described (file ∷ files) [] h = refl
 plain_described (file ∷ files) (root ∷ roots) h = rw (plain_file file.0 file.1 root h.0, plain_described files roots h.1) refl
 
-pub paths_below : (files : List (List (List ℕ) × ℕ)) (roots : List (Option (List ℕ))) → length roots ≡ length files → map (λ file. file.0) (files_below 0 files roots) ≡ paths_of files
-paths_below [] roots e = refl
-paths_below (file ∷ files) [] e = absurd (omega arith)
-paths_below (file ∷ files) (root ∷ roots) e = ap (λ paths. file.0 ∷ paths) (paths_below files roots (omega arith))
+pub paths_with : (files : List (List (List ℕ) × ℕ)) (roots : List (Option (List ℕ))) → length roots ≡ length files → map (λ file. file.0) (with_properties files roots) ≡ paths_of files
+paths_with [] roots e = refl
+paths_with (file ∷ files) [] e = absurd (omega arith)
+paths_with (file ∷ files) (root ∷ roots) e = ap (λ paths. file.0 ∷ paths) (paths_with files roots (omega arith))
 
 -- a step of a loop that gives each file its root
 pub rooted_more : (files : List (List (List ℕ) × ℕ)) (roots : List (Option (List ℕ))) (file : List (List ℕ) × ℕ) (root : Option (List ℕ)) → AllZip HasItsRoot files roots → HasItsRoot file root → AllZip HasItsRoot (files ++ file ∷ []) (roots ++ root ∷ [])
@@ -69,3 +55,9 @@ rooted_more [] [] file root h here = (here, tt)
 rooted_more [] (r ∷ roots) file root h here = absurd h
 rooted_more (f ∷ files) [] file root h here = absurd h
 rooted_more (f ∷ files) (r ∷ roots) file root h here = (h.0, rooted_more files roots file root h.1 here)
+
+-- seen from no names down, files are as they are
+pub below_none : (files : List (List (List ℕ) × ℕ)) (roots : List (Option (List ℕ))) → files_below 0 files roots ≡ with_properties files roots
+below_none [] roots = refl
+below_none (file ∷ files) [] = refl
+below_none (file ∷ files) (root ∷ roots) = ap (λ rest. (file.0, properties_for file.1 root) ∷ rest) (below_none files roots)

@@ -1,13 +1,15 @@
 -- Lists of files: pairs of a path and a length in bytes.
-use Rattle.std.specs.Prelude.{◌≡◌, ℕ, ◌^◌, ◌==◌, Bool, ◌&&◌, ◌||◌, nat_lt, List, length, map, count_by, sum_by, Option, Some, None, if◌then◌else◌}
+use Rattle.std.specs.Prelude.{◌≡◌, ℕ, ◌^◌, ◌==◌, Bool, ◌&&◌, ◌||◌, nat_lt, All, List, length, map, count_by, sum_by, Option, Some, None, if◌then◌else◌}
 use Rattle.std.specs.Int.{next_multiple_of}
 use Rattle.std.specs.List.{list_any, starts_with}
 use Rattle.std.specs.List.Sorted.{IsStrictlySortedBy}
+use Rattle.std.specs.Option.{option_or}
 use Rattle.tor_tree.specs.declared.lists.ListError.{ListError}
 use Rattle.tor_tree.specs.declared.lists.ListError.TheVariants.{NoFiles, Duplicate, FileAndFolder, TooLarge}
-use Rattle.tor_tree.specs.Path.{name_eq, path_eq, path_cmp}
+use Rattle.tor_tree.specs.Path.{IsFilePath, name_eq, path_eq, path_cmp}
 
-abbrev pub paths_of : List (List (List ℕ) × ℕ) → List (List (List ℕ))
+-- the paths of pairs, of a path and of whatever goes with it
+abbrev pub paths_of : {X : Type 0} → List (List (List ℕ) × X) → List (List (List ℕ))
 paths_of files = map (λ file. file.0) files
 
 abbrev pub lengths_of : List (List (List ℕ) × ℕ) → List ℕ
@@ -30,19 +32,27 @@ abbrev pub lengths_too_large : List ℕ → Bool
 lengths_too_large lengths =
     list_any (nat_lt (2 ^ 50)) lengths || nat_lt (2 ^ 62) (sum_by (λ length. next_multiple_of length (2 ^ 30)) lengths)
 
--- why files are no list for a torrent: the first of four causes that holds, or none
+-- why paths are no list: the first of three causes that holds, or none
+abbrev pub paths_fault : List (List (List ℕ)) → Option ListError
+paths_fault paths =
+    if length paths == 0 then Some NoFiles else (
+    if paths_repeat paths then Some Duplicate else (
+    if paths_nest paths then Some FileAndFolder else None))
+
+-- why lengths are not those of a list
+abbrev pub lengths_fault : List ℕ → Option ListError
+lengths_fault lengths = if lengths_too_large lengths then Some TooLarge else None
+
+-- why files are no list for a torrent: the fault of their paths, if there is one, else that of their lengths
 abbrev pub list_fault : List (List (List ℕ) × ℕ) → Option ListError
-list_fault files =
-    if length files == 0 then Some NoFiles else (
-    if paths_repeat (paths_of files) then Some Duplicate else (
-    if paths_nest (paths_of files) then Some FileAndFolder else (
-    if lengths_too_large (lengths_of files) then Some TooLarge else None)))
+list_fault files = option_or (paths_fault (paths_of files)) (lengths_fault (lengths_of files))
 
 -- the paths strictly rise
-abbrev pub IsInPathOrder : List (List (List ℕ) × ℕ) → Type 0
+abbrev pub IsInPathOrder : {X : Type 0} → List (List (List ℕ) × X) → Type 0
 IsInPathOrder files = IsStrictlySortedBy path_cmp (paths_of files)
 
 -- what every list of files keeps
 pub record IsFileList (files : List (List (List ℕ) × ℕ)) : Type 0 where
   pub faultless : list_fault files ≡ None
   pub in_order : IsInPathOrder files
+  pub named : All (λ file. IsFilePath file.0) files

@@ -1,5 +1,5 @@
 //! The files that a file tree describes (BEP 52, "file tree"), before they are judged.
-ghost use Rattle.std.specs.Prelude.{◌≡◌, ◌⊎◌, ◌++◌, true, false, map, Err, IfOk, IfErr, OnOk, [], ◌∷◌};
+ghost use Rattle.std.specs.Prelude.{◌≡◌, ◌⊎◌, ◌++◌, true, false, map, Err, IfErr, OnOk, [], ◌∷◌};
 ghost use Rattle.tor_bencode.specs.Data.{pair, no_pairs};
 ghost use Rattle.tor_bencode.specs.View.{view};
 ghost use Rattle.tor_tree.specs.FileTree.{are_entries, entries_in, entries_of, is_dictionary, is_folder};
@@ -7,11 +7,11 @@ ghost use Rattle.tor_tree.specs.Properties.{are_properties};
 ghost use Rattle.tor_tree.specs.Reading.{entry_at};
 ghost use Rattle.tor_tree.specs.declared.tree_file.TreeFault.TheVariants.{Memory, Shape};
 
-use crate::names::Name;
+use crate::names::{Name, copies};
 use crate::paths::FilePath;
 use crate::properties::{Properties, read_properties};
 use crate::tree_file::TreeFault;
-use std::alloc::{AllocError, Global};
+use std::alloc::Global;
 use tor_bencode::Item;
 
 /// A file as its tree describes it, before it is judged; it has no path where the tree itself has the empty key.
@@ -91,15 +91,4 @@ fn add_file(
     let path = FilePath::new(copies(alloc, folder)?);
     entries.push(Entry { path, properties })?;
     Ok(())
-}
-
-/// The same names again.
-fn copies(alloc: Global, names: &[Name]) -> Result<Vec<Name>, AllocError>
-    ensures { IfOk result (λ copied. copied.items ≡ names.now) }
-{
-    let mut copied = Vec::with_capacity(alloc, names.len())?;
-    for name in names {
-        copied.push(name.copy(alloc)?)?;
-    }
-    Ok(copied)
 }

@@ -4,18 +4,20 @@
 //! - [`FilePath`] (`paths.rt`): the names that lead to a file, in the order of paths.
 //! - [`FileList`] (`lists.rt`): files in order, each once.
 //! - [`from_item`] (`read_tree.rt`): the files that a tree describes, each a [`TreeFile`] (`tree_file.rt`); they are in
-//!   order (`laws.rt`).
-//! - [`to_item`] (`write_tree.rt`): the tidy tree of a list; there is one at most (`laws.rt`).
+//!   order.
+//! - [`to_item`] (`write_tree.rt`): the tidy tree of a list; there is one at most.
+//! - [`laws`] (`laws.rt`): laws over the definitions of `specs/`.
 //!
 //! `entries.rt`, `properties.rt` and `mixed.rt` read the parts of a tree.
 #![tactic(auto)]
 
 mod entries;
 mod kinds;
-mod laws;
+pub mod laws;
 mod lists;
 mod mixed;
 mod names;
+mod path_faults;
 mod paths;
 mod properties;
 mod read_tree;
@@ -25,9 +27,8 @@ mod tree_file;
 mod write_tree;
 
 pub use kinds::Kind;
-pub use laws::{one_file_tree, rising_paths};
 pub use lists::{FileList, ListError, MAX_LENGTH, MAX_TOTAL, ROUNDING};
-pub use names::{Name, NameError};
+pub use names::{Name, NameError, copies, each_is_name};
 pub use paths::FilePath;
 pub use read_tree::from_item;
 pub use tree_file::{Hash, TreeFault, TreeFile};

@@ -1,12 +1,11 @@
 //! Lists of files: each path once, in order, with the file's length.
-ghost use Rattle.std.specs.Prelude.{◌≡◌, ◌⊎◌, ℕ, Some, None, IfOk, IfErr, IfNone, IsTrue, length, not, MatchOption, ◌<◌, ◌≤◌, ◌+◌, ◌^◌};
+ghost use Rattle.std.specs.Prelude.{◌≡◌, ◌⊎◌, MatchOption, ◌<◌, ◌≤◌, ◌+◌, ◌^◌};
 ghost use Rattle.std.specs.Int.{next_multiple_of};
-ghost use Rattle.std.specs.List.Sorted.{IsPermutation, IsSortedByKey};
-ghost use Rattle.tor_tree.specs.FileList.{list_fault, lengths_of, lengths_too_large, paths_of, paths_nest, paths_repeat, IsInPathOrder};
-ghost use Rattle.tor_tree.specs.Path.{path_cmp};
+ghost use Rattle.tor_tree.specs.FileList.{lengths_of, lengths_too_large};
 ghost use Rattle.tor_tree.specs.declared.lists.ListError.TheVariants.{Memory};
 
-use crate::paths::FilePath;
+use crate::path_faults::paths_fault;
+use crate::paths::{FilePath, each_is_path};
 use std::alloc::{AllocError, Global};
 use std::marker::Model;
 use thiserror::Error;
@@ -67,7 +66,7 @@ impl Model for FileList {
 impl FileList {
     ghost use Rattle.std.specs.Prelude.{◌≡◌, ◌⊎◌, Some, None, Err, [], IfOk, IfErr, OnOk};
     ghost use Rattle.std.specs.List.Sorted.{IsPermutation};
-    ghost use Rattle.tor_tree.specs.FileList.{list_fault, IsFileList, IsInPathOrder};
+    ghost use Rattle.tor_tree.specs.FileList.{list_fault, lengths_fault, lengths_of, paths_fault, paths_of, IsFileList, IsInPathOrder};
     ghost use Rattle.tor_tree.specs.declared.lists.ListError.TheVariants.{Memory, NoFiles};
 
     /// The same files in the order of their paths.
@@ -82,10 +81,25 @@ impl FileList {
             return Err(ListError::NoFiles);
         }
         files.as_mut_slice().sort(alloc)?;
-        match fault_in_order(&files) {
-            Some(fault) => Err(fault),
-            None => Ok(FileList { files }),
+        if let Some(fault) = paths_fault(&files) {
+            return Err(fault);
         }
+        FileList::of_sorted(files)
+    }
+
+    /// The list of files whose paths are in order and have no fault.
+    pub(crate) fn of_sorted(files: Vec<(FilePath, u64)>) -> Result<FileList, ListError>
+        requires in_order { IsInPathOrder files.items }
+        requires judged { paths_fault (paths_of files.items) ≡ None }
+        ensures same { IfOk result (λ list. list ≡ files.items) }
+        ensures accepted { OnOk result (lengths_fault (lengths_of files.items) ≡ None) }
+        ensures refused { IfErr result (λ fault. lengths_fault (lengths_of files.items) ≡ Some fault) }
+    {
+        if is_too_large(&files) {
+            return Err(ListError::TooLarge);
+        }
+        each_is_path(&files);
+        Ok(FileList { files })
     }
 
     /// At least one pair of a path and a length, the paths strictly rising.
@@ -95,42 +109,6 @@ impl FileList {
     {
         self.files.as_slice()
     }
-}
-
-/// The first cause for which sorted files are no list.
-fn fault_in_order(files: &[(FilePath, u64)]) -> Option<ListError>
-    requires some { 0 < length files.now }
-    requires sorted { IsSortedByKey (λ file. file.0) path_cmp files.now }
-    ensures value { result ≡ list_fault files.now }
-    ensures rising { IfNone result (IsInPathOrder files.now) }
-{
-    if !rises(files) {
-        return Some(ListError::Duplicate);
-    }
-    if nests(files) {
-        return Some(ListError::FileAndFolder);
-    }
-    if is_too_large(files) {
-        return Some(ListError::TooLarge);
-    }
-    None
-}
-
-/// Whether each path of sorted files is below the next, so that none is there twice.
-fn rises(files: &[(FilePath, u64)]) -> bool
-    requires { IsSortedByKey (λ file. file.0) path_cmp files.now }
-    ensures value { result ≡ not (paths_repeat (paths_of files.now)) }
-    ensures rising { IsTrue result → IsInPathOrder files.now }
-{
-    files.is_sorted_by(|file, next| file.0 < next.0)
-}
-
-/// Whether one of the paths, which strictly rise, is the beginning of another. The path after it is then such a one.
-fn nests(files: &[(FilePath, u64)]) -> bool
-    requires { IsInPathOrder files.now }
-    ensures { result ≡ paths_nest (paths_of files.now) }
-{
-    !files.is_sorted_by(|file, next| !next.0.names().starts_with(file.0.names()))
 }
 
 /// Whether a file is too long, or all of them together are.

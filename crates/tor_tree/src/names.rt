@@ -1,5 +1,5 @@
 //! Names of files and folders: text that is one step of a path.
-ghost use Rattle.std.specs.Prelude.{◌≡◌, ◌⊎◌, Some, None, IfOk, IfErr, OnOk};
+ghost use Rattle.std.specs.Prelude.{◌≡◌, ◌⊎◌, All, Some, None, IfOk, IfErr, OnOk};
 ghost use Rattle.std.specs.Str.{IsUtf8, is_utf8};
 ghost use Rattle.std.proofs.Common.{refl};
 ghost use Rattle.std.specs.Cmp.{partial_equiv_from_equiv};
@@ -103,6 +103,16 @@ impl Name {
     {
         self.bytes.as_slice()
     }
+
+    /// The name as text.
+    pub fn as_str(&self) -> &str
+        ensures { result.now ≡ self.now }
+    {
+        match str::from_utf8(self.as_bytes()) {
+            Ok(text) => text,
+            Err(_) => unreachable!(),
+        }
+    }
 }
 
 impl PartialEq for Name {
@@ -141,6 +151,26 @@ impl PartialOrd for Name {
 
     fn partial_cmp(&self, other: &Name) -> Option<Ordering> {
         Some(self.cmp(other))
+    }
+}
+
+/// The same names again.
+pub fn copies(alloc: Global, names: &[Name]) -> Result<Vec<Name>, AllocError>
+    ensures { IfOk result (λ copied. copied.items ≡ names.now) }
+{
+    let mut copied = Vec::with_capacity(alloc, names.len())?;
+    for name in names {
+        copied.push(name.copy(alloc)?)?;
+    }
+    Ok(copied)
+}
+
+/// Each name is without fault. A slice's contract sees no more than lists of bytes: this says again what the type keeps.
+pub fn each_is_name(names: &[Name])
+    ensures { All (λ name. name_fault name ≡ None) names.now }
+{
+    for name in names {
+        name.as_bytes();
     }
 }
 

@@ -1,11 +1,12 @@
 //! Paths: the names from the top folder down to a file.
-ghost use Rattle.std.specs.Prelude.{◌≡◌, ◌≢◌, Some, [], MatchOption};
+ghost use Rattle.std.specs.Prelude.{◌≡◌, Some, [], All, IfOk, MatchOption};
 ghost use Rattle.std.proofs.Common.{refl};
 ghost use Rattle.std.specs.Cmp.{partial_equiv_from_equiv, po};
 ghost use Rattle.std.specs.Cmp.Lexicographic.{lists_equiv, lists_total, lists_ties, nat_list_eq_equiv, nat_list_cmp_total, texts_ties};
-ghost use Rattle.tor_tree.specs.Path.{name_cmp, path_cmp, path_eq};
+ghost use Rattle.tor_tree.specs.Path.{IsFilePath, name_cmp, path_cmp, path_eq};
 
-use crate::names::Name;
+use crate::names::{Name, copies, each_is_name};
+use std::alloc::{AllocError, Global};
 use std::cmp::Ordering;
 use std::marker::Model;
 
@@ -18,32 +19,53 @@ pub struct FilePath {
 }
 
 impl Model for FilePath {
-    ghost use Rattle.std.specs.Prelude.{◌≢◌, ℕ, List, []};
+    ghost use Rattle.std.specs.Prelude.{ℕ, List};
 
     ghost Value = { List (List ℕ) };
 
+    ghost use Rattle.tor_tree.specs.Path.{IsFilePath};
+
     ghost view = { λ path. path.names.items };
 
-    ghost invariant = { λ path. path.names.items ≢ [] };
+    ghost invariant = { λ path. IsFilePath path.names.items };
 }
 
 impl FilePath {
     /// The path of these names; none where there is no name.
     pub fn new(names: Vec<Name>) -> Option<FilePath>
-        ensures { MatchOption result (names.items ≡ []) (λ path. (path ≡ names.items) × (path ≢ [])) }
+        ensures { MatchOption result (names.items ≡ []) (λ path. (path ≡ names.items) × IsFilePath path) }
     {
         if names.is_empty() {
             return None;
         }
+        each_is_name(&names);
         Some(FilePath { names })
+    }
+
+    /// The same path again.
+    pub fn copy(&self, alloc: Global) -> Result<FilePath, AllocError>
+        ensures { IfOk result (λ path. path ≡ self.now) }
+    {
+        let names = copies(alloc, self.names.as_slice())?;
+        Ok(FilePath { names })
     }
 
     /// At least one name, the top folder first.
     pub fn names(&self) -> &[Name]
         ensures value { result.now ≡ self.now }
-        ensures some { self.now ≢ [] }
+        ensures lawful { IsFilePath self.now }
     {
         self.names.as_slice()
+    }
+}
+
+/// Each path has names, all without fault. A slice's contract sees no more than lists of names: this says again what
+/// the type keeps.
+pub(crate) fn each_is_path<T>(entries: &[(FilePath, T)])
+    ensures { All (λ entry. IsFilePath entry.0) entries.now }
+{
+    for (path, _) in entries {
+        path.names();
     }
 }
 

@@ -6,7 +6,8 @@ ghost use Rattle.tor_bencode.specs.View.{view, pairs_view};
 ghost use Rattle.tor_tree.specs.FileTree.{tree_fault};
 ghost use Rattle.tor_tree.specs.Properties.{properties_for};
 ghost use Rattle.tor_tree.specs.TidyTree.{IsFileTreeOf, HasItsRoot};
-ghost use Rattle.tor_tree.specs.Writing.{IsPathFrom, IsRoot, files_below, has_name_at, pairs_of_files};
+ghost use Rattle.tor_tree.specs.Writing.{IsRoot, files_below, has_name_at};
+ghost use Rattle.tor_tree.specs.WrittenTree.{file_tree, pairs_of_files};
 
 use crate::lists::FileList;
 use crate::names::Name;
@@ -19,7 +20,8 @@ use tor_bencode::Item;
 /// `roots` has the pieces root of each file, and none for an empty one.
 pub fn to_item(alloc: Global, list: &FileList, roots: &[Option<Hash>]) -> Result<Item, AllocError>
     requires { AllZip HasItsRoot list.now roots.now }
-    ensures made { IfOk result (λ tree. IsFileTreeOf list.now roots.now (view tree)) }
+    ensures made { IfOk result (λ tree. view tree ≡ file_tree list.now roots.now) }
+    ensures tidy { IfOk result (λ tree. IsFileTreeOf list.now roots.now (view tree)) }
     ensures readable { IfOk result (λ tree. tree_fault (view tree) ≡ None) }
 {
     Ok(Item::Dict(folder(alloc, list.files(), roots, 0)?))
@@ -37,7 +39,6 @@ fn folder(
     requires small { All (λ file. file.1 ≤ 2 ^ 50) files.now }
     requires one_each { length roots.now ≡ length files.now }
     ensures made { IfOk result (λ pairs. pairs_view pairs.items ≡ pairs_of_files (files_below depth files.now roots.now)) }
-    ensures named { OnOk result (All (λ file. IsPathFrom depth file.0) files.now) }
     ensures rooted { OnOk result (All IsRoot roots.now) }
 {
     let mut pairs = Vec::new(alloc);
@@ -72,7 +73,6 @@ fn next_pair(
     ensures count { IfOk result (λ next. (0 < next.count) × (next.count ≤ length files.now)) }
     ensures made { IfOk result (λ next. pairs_of_files (files_below depth files.now roots.now)
         ≡ pair next.key.items (view next.value) (pairs_of_files (drop next.count (files_below depth files.now roots.now)))) }
-    ensures named { IfOk result (λ next. All (λ file. IsPathFrom depth file.0) (take next.count files.now)) }
     ensures rooted { IfOk result (λ next. All IsRoot (take next.count roots.now)) }
 {
     let (path, length) = &files[0];

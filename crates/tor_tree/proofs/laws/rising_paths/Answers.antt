@@ -1,4 +1,4 @@
-use Rattle.tor_tree.proofs.RisingPaths.{rising_paths}
+use Rattle.tor_tree.proofs.ProvedLaws.{rising_paths}
 use Rattle.tor_tree.proofs.laws.rising_paths.Goals as goal
 
 pub returns : goal.returns

@@ -1,6 +1,7 @@
 use Rattle.std.proofs.Common.{◌≡◌, ◌≤◌, ◌+◌, ◌-◌, ◌*◌, ◌^◌, All, length, take, drop}
 use Rattle.tor_bencode.specs.View.{pairs_view}
-use Rattle.tor_tree.specs.Writing.{IsPathFrom, IsRoot, files_below, pairs_of_files}
+use Rattle.tor_tree.specs.Writing.{IsRoot, files_below}
+use Rattle.tor_tree.specs.WrittenTree.{pairs_of_files}
 use Rattle.tor_tree.proofs.FilesBelow.{followed_by}
 use Rattle.tor_tree.proofs.write_tree.+folder.Given as goal
 
@@ -18,5 +19,4 @@ abbrev pub invariant-folder-loop-start : goal.invariant-folder-loop-start
 invariant-folder-loop-start l =
     (l.start ≤ length l.files)
     × (followed_by (pairs_view l.pairs.items) (pairs_of_files (drop l.start (files_below l.depth l.files l.roots))) ≡ pairs_of_files (files_below l.depth l.files l.roots))
-    × All (λ file. IsPathFrom l.depth file.0) (take l.start l.files)
     × All IsRoot (take l.start l.roots)

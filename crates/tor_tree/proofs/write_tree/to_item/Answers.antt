@@ -1,7 +1,9 @@
+use Rattle.std.proofs.Common.{refl}
 use Rattle.std.proofs.lemmas.List.Elements.{recursion_from_All}
 use Rattle.tor_tree.proofs.FileTrees.{made_file_tree}
+use Rattle.tor_tree.proofs.ListFaults.{small_files}
 use Rattle.tor_tree.proofs.Readable.{all_named, readable}
-use Rattle.tor_tree.proofs.TreeOfFiles.{small_files, one_root_each}
+use Rattle.tor_tree.proofs.TreeOfFiles.{below_none, one_root_each}
 use Rattle.tor_tree.proofs.WalkSteps.{view_dictionary}
 use Rattle.tor_tree.proofs.write_tree.to_item.Goals as goal
 
@@ -16,11 +18,14 @@ folder-requires-clause-one_each c =
 pub returns-clause-made : goal.returns-clause-made
 returns-clause-made c =
     let made = rw c.files.ensures.value at c.in_ok-folder.ensures.made in
-    let paths = rw c.files.ensures.value at c.in_ok-folder.ensures.named in
-    rw (view_dictionary c.in_ok-folder.field-0, made) (made_file_tree c.args.list.now c.args.roots.now c.requires c.files.ensures.lawful.in_order (all_named c.args.list.now (recursion_from_All _ c.args.list.now paths)))
+    rw (view_dictionary c.in_ok-folder.field-0, made, below_none c.args.list.now c.args.roots.now) refl
+
+pub returns-clause-tidy : goal.returns-clause-tidy
+returns-clause-tidy c =
+    let lawful = c.files.ensures.lawful in
+    rw (returns-clause-made c) (made_file_tree c.args.list.now c.args.roots.now c.requires lawful.in_order (all_named c.args.list.now (recursion_from_All _ c.args.list.now lawful.named)))
 
 pub returns-clause-readable : goal.returns-clause-readable
 returns-clause-readable c =
-    let paths = rw c.files.ensures.value at c.in_ok-folder.ensures.named in
     let rooted = recursion_from_All _ c.args.roots.now c.in_ok-folder.ensures.rooted in
-    readable c.args.list.now c.args.roots.now _ (returns-clause-made c) c.files.ensures.lawful c.requires (recursion_from_All _ c.args.list.now paths) rooted
+    readable c.args.list.now c.args.roots.now _ (returns-clause-tidy c) c.files.ensures.lawful c.requires rooted

@@ -3,10 +3,10 @@ use Rattle.std.specs.List.{starts_with}
 use Rattle.std.proofs.lemmas.List.Sorted.{answers_always}
 use Rattle.tor_tree.specs.Path.{name_eq}
 use Rattle.tor_tree.proofs.SortedFiles.{nest_answer}
-use Rattle.tor_tree.proofs.lists.nests.Goals as goal
+use Rattle.tor_tree.proofs.path_faults.nests.Goals as goal
 
 pub returns : goal.returns
-returns c =
-    nest_answer c.args.files.now c.is_sorted_by.result c.requires
+returns g c =
+    nest_answer c.args.entries.now c.is_sorted_by.result c.requires
     (c.is_sorted_by.ensures.cases (λ x y. not (starts_with name_eq y.0 x.0))
     (answers_always _ (λ a r. r ≡ not (starts_with name_eq a.1.0.now.0 a.0.now.0)) _ (λ f a r g called. search rules)))

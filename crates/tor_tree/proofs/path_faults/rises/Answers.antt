@@ -3,16 +3,16 @@ use Rattle.std.specs.Ordering.{is_lt}
 use Rattle.std.proofs.lemmas.List.Sorted.{answers_always}
 use Rattle.tor_tree.specs.Path.{path_cmp}
 use Rattle.tor_tree.proofs.SortedFiles.{repeat_answer, rising_answer}
-use Rattle.tor_tree.proofs.lists.rises.Goals as goal
+use Rattle.tor_tree.proofs.path_faults.rises.Goals as goal
 
 pub returns-clause-value : goal.returns-clause-value
-returns-clause-value c =
-    repeat_answer c.args.files.now c.is_sorted_by.result c.requires
+returns-clause-value g c =
+    repeat_answer c.args.entries.now c.is_sorted_by.result c.requires
     (c.is_sorted_by.ensures.cases (λ x y. is_lt (path_cmp x.0 y.0))
     (answers_always _ (λ a r. r ≡ is_lt (path_cmp a.0.now.0 a.1.0.now.0)) _ (λ f a r g called. search rules)))
 
 pub returns-clause-rising : goal.returns-clause-rising
-returns-clause-rising c =
-    rising_answer c.args.files.now c.is_sorted_by.result
+returns-clause-rising g c =
+    rising_answer c.args.entries.now c.is_sorted_by.result
     (c.is_sorted_by.ensures.cases (λ x y. is_lt (path_cmp x.0 y.0))
     (answers_always _ (λ a r. r ≡ is_lt (path_cmp a.0.now.0 a.1.0.now.0)) _ (λ f a r g called. search rules)))
