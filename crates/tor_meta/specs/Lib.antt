@@ -1,3 +1,3 @@
-pub mod BytesRefusal
-pub mod NameRefusal
-pub mod OneFile
+pub mod Head
+pub mod ListRefusal
+pub mod Refusal

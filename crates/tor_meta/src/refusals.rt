@@ -1,51 +1,58 @@
 //! Why no torrent is made.
 ghost use Rattle.std.specs.Prelude.{◌≡◌};
-ghost use Rattle.tor_meta.specs.NameRefusal.{of_name_error};
-ghost use Rattle.tor_meta.specs.declared.refusals.BytesError.TheVariants.{Memory};
+ghost use Rattle.tor_meta.specs.ListRefusal.{of_list_error};
+ghost use Rattle.tor_meta.specs.declared.refusals.ContentsError.TheVariants.{Memory};
 
 use std::alloc::{AllocError, AllocFailed};
 use thiserror::Error;
-use tor_tree::NameError;
+use tor_tree::ListError;
 
-/// Why no torrent is made of a content under a name; the first of these that holds.
+/// Why no torrent is made of files with their contents; the first of these that holds, but that the faults of paths
+/// come before `ReservedPad`, and that of lengths after it.
 #[derive(Debug, Drop, Error)]
-pub enum BytesError {
-    #[error(transparent)]
-    Name(NameError),
+pub enum ContentsError {
     /// No power of two from 2^14 to 2^30.
     #[error("M1 PieceLength")]
     PieceLength,
-    /// A content of more than 2^50 bytes.
-    #[error("L3 TooLarge")]
-    TooLarge,
+    /// A path of more than 64 names.
+    #[error("M4 Path")]
+    Path,
+    /// A single file is asked for, and there is not exactly one path that is the torrent's name.
+    #[error("M5 SingleShape")]
+    SingleShape,
+    #[error(transparent)]
+    List(ListError),
+    /// In a hybrid of a folder some path begins with `.pad`.
+    #[error("Y1 ReservedPad")]
+    ReservedPad,
     /// Memory was refused.
     #[error("out of memory")]
     Memory,
 }
 
-impl From<NameError> for BytesError {
-    ghost from_gives = { λ fault e. e ≡ of_name_error fault };
+impl From<ListError> for ContentsError {
+    ghost from_gives = { λ fault e. e ≡ of_list_error fault };
 
-    fn from(fault: NameError) -> BytesError {
+    fn from(fault: ListError) -> ContentsError {
         match fault {
-            NameError::Memory => BytesError::Memory,
-            fault => BytesError::Name(fault),
+            ListError::Memory => ContentsError::Memory,
+            fault => ContentsError::List(fault),
         }
     }
 }
 
-impl From<AllocError> for BytesError {
+impl From<AllocError> for ContentsError {
     ghost from_gives = { λ _ e. e ≡ Memory };
 
-    fn from(_error: AllocError) -> BytesError {
-        BytesError::Memory
+    fn from(_error: AllocError) -> ContentsError {
+        ContentsError::Memory
     }
 }
 
-impl<T: Drop> From<AllocFailed<T>> for BytesError {
+impl<T: Drop> From<AllocFailed<T>> for ContentsError {
     ghost from_gives = { λ _ e. e ≡ Memory };
 
-    fn from(_failed: AllocFailed<T>) -> BytesError {
-        BytesError::Memory
+    fn from(_failed: AllocFailed<T>) -> ContentsError {
+        ContentsError::Memory
     }
 }

@@ -1,21 +1,29 @@
--- The info dictionary of a v2 torrent (BEP 52, "info dictionary").
-use Rattle.std.specs.Prelude.{ℕ, pos, List, [], ◌∷◌, Bool, Option, None, Some, codes, if◌then◌else◌}
+-- The info dictionary (BEP 3, "info dictionary"; BEP 52, "info dictionary"; BEP 27, `private`).
+use Rattle.std.specs.Prelude.{ℕ, pos, ◌&&◌, not, List, [], ◌∷◌, Some, codes, sum_by}
 use Rattle.tor_bencode.specs.Data.{Data, integer, string, dictionary}
-use Rattle.tor_spec.specs.Dictionary.{present}
-use Rattle.tor_spec.specs.FileTree.{File, file_tree}
+use Rattle.tor_spec.specs.Dictionary.{present, when}
+use Rattle.tor_spec.specs.Facts.{Facts, listed, roots_in}
+use Rattle.tor_spec.specs.FilesList.{files_list}
+use Rattle.tor_spec.specs.Settings.{Settings, has_v1, has_v2, layout_of}
+use Rattle.tor_tree.specs.WrittenTree.{file_tree}
+use Rattle.tor_v1.specs.Entries.{v1_entries}
 
--- what a torrent is made with, beside its files
-pub record Settings : Type 0 where
-  pub name : List ℕ
-  pub piece_length : ℕ
-  pub announce : Option (List ℕ)
-  pub is_private : Bool
+-- how many bytes all files have; of one file, how many that has
+abbrev pub total_size : List Facts → ℕ
+total_size facts = sum_by (λ file. file.size) facts
 
-abbrev pub info_dictionary : Settings → List File → Data
-info_dictionary settings files =
+-- `pieces` is the joined SHA-1 of each piece
+abbrev pub info_dictionary : Settings → List Facts → List ℕ → Data
+info_dictionary settings facts pieces =
+    let v1 = has_v1 settings.kind in
+    let v2 = has_v2 settings.kind in
     dictionary (present (
-    (codes "file tree", Some (dictionary (file_tree files))) ∷
-    (codes "meta version", Some (integer (pos 2))) ∷
+    (codes "file tree", when v2 (file_tree (listed facts) (roots_in facts))) ∷
+    (codes "files", when (v1 && not settings.single)
+      (files_list (v1_entries (layout_of settings) settings.piece_length (listed facts)))) ∷
+    (codes "length", when (v1 && settings.single) (integer (pos (total_size facts)))) ∷
+    (codes "meta version", when v2 (integer (pos 2))) ∷
     (codes "name", Some (string settings.name)) ∷
     (codes "piece length", Some (integer (pos settings.piece_length))) ∷
-    (codes "private", if settings.is_private then Some (integer (pos 1)) else None) ∷ []))
+    (codes "pieces", when v1 (string pieces)) ∷
+    (codes "private", when settings.is_private (integer (pos 1))) ∷ []))

@@ -1,5 +1,7 @@
+pub mod Settings
+pub mod Facts
 pub mod Dictionary
-pub mod FileTree
 pub mod PieceLayers
+pub mod FilesList
 pub mod InfoDictionary
 pub mod Metainfo

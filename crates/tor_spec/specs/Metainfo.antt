@@ -1,27 +1,38 @@
--- The bytes of a v2 metainfo file (BEP 52, "metainfo files").
-use Rattle.std.specs.Prelude.{ℕ, List, [], ◌∷◌, false, None, Some, option_map, codes}
+-- The bytes of a metainfo file (BEP 3, "metainfo files"; BEP 52, "metainfo files").
+use Rattle.std.specs.Prelude.{ℕ, List, [], ◌∷◌, map, Some, option_map, codes}
 use Rattle.tor_bencode.specs.Data.{Data, string, dictionary}
 use Rattle.tor_bencode.specs.Spelling.{spelling}
-use Rattle.tor_spec.specs.Dictionary.{present}
-use Rattle.tor_spec.specs.FileTree.{File}
+use Rattle.tor_spec.specs.Dictionary.{present, when}
+use Rattle.tor_spec.specs.Facts.{Facts, File, facts_of, listed}
+use Rattle.tor_spec.specs.InfoDictionary.{info_dictionary}
 use Rattle.tor_spec.specs.PieceLayers.{piece_layers}
-use Rattle.tor_spec.specs.InfoDictionary.{Settings, info_dictionary}
+use Rattle.tor_spec.specs.Settings.{Settings, has_v2, layout_of}
+use Rattle.tor_v1.specs.Content.{v1_pieces}
+use Rattle.tor_v1.specs.Entries.{v1_entries}
 
-abbrev pub root_dictionary : Settings → List File → Data
-root_dictionary settings files =
+-- the root dictionary
+abbrev pub root_dictionary : Settings → List Facts → List ℕ → Data
+root_dictionary settings facts pieces =
     dictionary (present (
     (codes "announce", option_map string settings.announce) ∷
-    (codes "info", Some (info_dictionary settings files)) ∷
-    (codes "piece layers", Some (dictionary (piece_layers settings.piece_length files))) ∷ []))
+    (codes "info", Some (info_dictionary settings facts pieces)) ∷
+    (codes "piece layers", when (has_v2 settings.kind) (dictionary (piece_layers settings.piece_length facts))) ∷ []))
 
--- the whole file
+abbrev pub facts_of_files : ℕ → List File → List Facts
+facts_of_files piece_length files = map (facts_of piece_length) files
+
+-- the joined SHA-1 of each piece of files
+abbrev pub pieces_of_files : Settings → List File → List ℕ
+pieces_of_files settings files =
+    let facts = facts_of_files settings.piece_length files in
+    v1_pieces settings.piece_length (v1_entries (layout_of settings) settings.piece_length (listed facts))
+      (map (λ file. file.content) files)
+
+-- the whole file, of files in the order of their paths
 unfoldable pub metainfo : Settings → List File → List ℕ
-metainfo settings files = spelling (root_dictionary settings files)
+metainfo settings files =
+    spelling (root_dictionary settings (facts_of_files settings.piece_length files) (pieces_of_files settings files))
 
--- no tracker, and not private
-abbrev pub plain : List ℕ → ℕ → Settings
-plain name piece_length = record { name = name; piece_length = piece_length; announce = None; is_private = false }
-
--- a torrent of the one file that has its name
-abbrev pub single : List ℕ → List ℕ → List File
-single name content = record { path = name ∷ []; content = content } ∷ []
+-- the one file that has this name
+abbrev pub only : List ℕ → List ℕ → List File
+only name content = record { path = name ∷ []; content = content } ∷ []

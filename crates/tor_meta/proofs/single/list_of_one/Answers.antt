@@ -1,8 +1,0 @@
-use Rattle.std.proofs.Common.{◌∷◌, [], ◌≡◌}
-use Rattle.tor_meta.proofs.OneFile.{only}
-use Rattle.tor_meta.proofs.single.list_of_one.Goals as goal
-
-pub returns-in-Ok : goal.returns-in-Ok
-returns-in-Ok c =
-    let path : c.in-Some.path ≡ c.args.name.now ∷ [] = rw (c.in_ok-vec.ensures.items, c.in_ok-copy.ensures) at c.in-Some.ensures.0 in
-    only (c.args.name.now ∷ [], c.args.length) c.in-Ok.list (rw (c.in_ok-vec-2.ensures.items, path) at c.in-Ok.ensures.same_files)

@@ -1,0 +1,57 @@
+//! What a torrent is made with, beside its files.
+ghost use Rattle.std.specs.Prelude.{◌≡◌};
+ghost use Rattle.tor_spec.specs.Settings.{has_v1, has_v2, is_aligned, layout_of};
+ghost use Rattle.tor_meta.specs.Head.{settings_of};
+
+use tor_tree::{Kind, Name};
+use tor_v1::Layout;
+
+/// How a torrent is to be made.
+#[derive(Debug, Drop)]
+pub struct Head {
+    pub kind: Kind,
+    /// It is of one file, which has the torrent's name (BEP 3, "info dictionary": `length` in place of `files`).
+    pub single: bool,
+    /// The name that it suggests for its content.
+    pub name: Name,
+    /// In bytes.
+    pub piece_length: u64,
+    /// The tracker's URL (BEP 3, "metainfo files": `announce`).
+    pub announce: Option<Vec<u8>>,
+    /// `private` (BEP 27).
+    pub is_private: bool,
+}
+
+impl Head {
+    /// Whether it asks for the keys of BEP 3.
+    pub(crate) fn has_v1(&self) -> bool
+        ensures { result ≡ has_v1 self.now.kind }
+    {
+        matches!(self.kind, Kind::V1 | Kind::Hybrid)
+    }
+
+    /// Whether it asks for the keys of BEP 52.
+    pub(crate) fn has_v2(&self) -> bool
+        ensures { result ≡ has_v2 self.now.kind }
+    {
+        matches!(self.kind, Kind::V2 | Kind::Hybrid)
+    }
+
+    /// Whether padding is to align the files to pieces.
+    pub(crate) fn is_aligned(&self) -> bool
+        ensures { result ≡ is_aligned self.now.kind self.now.single }
+    {
+        self.kind == Kind::Hybrid && !self.single
+    }
+
+    /// How the files stand in the list of BEP 3.
+    pub(crate) fn layout(&self) -> Layout
+        ensures { result ≡ layout_of (settings_of self.now) }
+    {
+        if self.is_aligned() {
+            Layout::Aligned
+        } else {
+            Layout::Joined
+        }
+    }
+}

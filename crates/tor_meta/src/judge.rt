@@ -1,0 +1,88 @@
+//! Judging what is known before any length is asked: the head, and the paths.
+ghost use Rattle.std.specs.Prelude.{◌≡◌, ◌⊎◌, ◌&&◌, not, Some, None, IfOk, IfErr, OnOk, IsOk, MatchOption};
+ghost use Rattle.std.specs.List.{list_any};
+ghost use Rattle.tor_meta.specs.Head.{settings_of};
+ghost use Rattle.tor_meta.specs.Refusal.{is_long, is_only, paths_refusal, shape_refusal};
+ghost use Rattle.tor_spec.specs.Settings.{is_aligned};
+ghost use Rattle.tor_tree.specs.PathList.{ArePlacedPaths, IsPathList};
+ghost use Rattle.tor_v1.specs.Reserved.{is_reserved};
+
+use crate::head::Head;
+use crate::refusals::ContentsError;
+use std::alloc::Global;
+use tor_merkle::is_piece_length;
+use tor_tree::{FilePath, PathList};
+use tor_v1::is_reserved;
+
+/// The most names in the path of a file.
+pub const MAX_NAMES: usize = 64;
+
+/// The paths in order, each with its place, where no torrent is refused for them or for the head.
+pub fn judge_paths(
+    alloc: Global,
+    head: &Head,
+    paths: Vec<FilePath>,
+) -> Result<PathList, ContentsError>
+    ensures placed { IfOk result (ArePlacedPaths paths.items) }
+    ensures lawful { IfOk result IsPathList }
+    ensures accepted { OnOk result (paths_refusal (settings_of head.now) paths.items ≡ None) }
+    ensures refused { IfErr result (λ refusal.
+        (paths_refusal (settings_of head.now) paths.items ≡ Some refusal) ⊎ (refusal ≡ ContentsError.Memory)) }
+{
+    if let Some(refusal) = refusal_of_shape(head, &paths) {
+        return Err(refusal);
+    }
+    let reserved = head.is_aligned() && any_reserved(&paths);
+    let list = PathList::build(alloc, paths)?;
+    if reserved {
+        return Err(ContentsError::ReservedPad);
+    }
+    Ok(list)
+}
+
+/// The first refusal for what needs no order of the paths.
+fn refusal_of_shape(head: &Head, paths: &[FilePath]) -> Option<ContentsError>
+    ensures { result ≡ shape_refusal (settings_of head.now) paths.now }
+{
+    if !is_piece_length(head.piece_length) {
+        return Some(ContentsError::PieceLength);
+    }
+    if any_long(paths) {
+        return Some(ContentsError::Path);
+    }
+    if head.single && !is_only(head, paths) {
+        return Some(ContentsError::SingleShape);
+    }
+    None
+}
+
+fn any_long(paths: &[FilePath]) -> bool
+    ensures { result ≡ list_any is_long paths.now }
+{
+    paths.iter().any(|path| path.names().len() > MAX_NAMES)
+}
+
+fn any_reserved(paths: &[FilePath]) -> bool
+    ensures { result ≡ list_any is_reserved paths.now }
+{
+    paths.iter().any(|path| is_reserved(path))
+}
+
+/// Whether there is one path, which is the torrent's name.
+fn is_only(head: &Head, paths: &[FilePath]) -> bool
+    ensures { result ≡ is_only head.now.name paths.now }
+{
+    match paths {
+        [path] => is_name(path, head),
+        _ => false,
+    }
+}
+
+fn is_name(path: &FilePath, head: &Head) -> bool
+    ensures { result ≡ is_name path.now head.now.name }
+{
+    match path.names() {
+        [name] => *name == head.name,
+        _ => false,
+    }
+}

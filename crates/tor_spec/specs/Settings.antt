@@ -1,0 +1,36 @@
+-- What a torrent is made with, beside its files.
+use Rattle.std.specs.Prelude.{ℕ, Bool, true, false, ◌&&◌, not, List, Option, if◌then◌else◌}
+use Rattle.tor_tree.specs.declared.kinds.Kind.{Kind}
+use Rattle.tor_tree.specs.declared.kinds.Kind.TheVariants.{V1, V2, Hybrid}
+use Rattle.tor_v1.specs.declared.layout.Layout.{Layout}
+use Rattle.tor_v1.specs.declared.layout.Layout.TheVariants.{Joined, Aligned}
+
+-- `single`: it is of one file, which has the torrent's name, and `info` has its `length` in place of `files`
+pub record Settings : Type 0 where
+  pub kind : Kind
+  pub single : Bool
+  pub name : List ℕ
+  pub piece_length : ℕ
+  pub announce : Option (List ℕ)
+  pub is_private : Bool
+
+-- it has the keys of BEP 3
+abbrev pub has_v1 : Kind → Bool
+has_v1 V1 = true
+has_v1 V2 = false
+has_v1 Hybrid = true
+
+-- it has the keys of BEP 52
+abbrev pub has_v2 : Kind → Bool
+has_v2 V1 = false
+has_v2 V2 = true
+has_v2 Hybrid = true
+
+-- its files are aligned to pieces in the list of BEP 3 (BEP 52, "Upgrade Path"); one file by itself is so as it is
+abbrev pub is_aligned : Kind → Bool → Bool
+is_aligned V1 single = false
+is_aligned V2 single = false
+is_aligned Hybrid single = not single
+
+abbrev pub layout_of : Settings → Layout
+layout_of settings = if is_aligned settings.kind settings.single then Aligned else Joined
