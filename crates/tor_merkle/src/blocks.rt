@@ -7,7 +7,7 @@ ghost use Rattle.tor_merkle.specs.Layer.{pieces_root, piece_layer};
 
 use crate::hash::{BLOCK_LENGTH, Hash};
 use crate::pieces::PieceTree;
-use crate::trail::{Cut, Fed};
+use crate::trail::{History, Run};
 use sha2::{Digest, Sha256};
 use std::alloc::{AllocError, Global};
 use std::marker::Model;
@@ -18,7 +18,7 @@ pub(crate) struct BlockHasher {
     count: u64,
     hasher: Sha256,
     tree: PieceTree,
-    fed: Fed,
+    fed: History<u8>,
 }
 
 impl Model for BlockHasher {
@@ -26,9 +26,9 @@ impl Model for BlockHasher {
 
     ghost Value = { Blocks };
 
-    ghost view = { λ b. record { height = b.tree.height; bytes = b.fed.bytes; room = b.tree.room } };
+    ghost view = { λ b. record { height = b.tree.height; bytes = b.fed.items; room = b.tree.room } };
 
-    ghost invariant = { λ b. KeepsBlocks b.count b.hasher b.tree.leaves b.fed.bytes };
+    ghost invariant = { λ b. KeepsBlocks b.count b.hasher b.tree.leaves b.fed.items };
 }
 
 impl BlockHasher {
@@ -42,7 +42,7 @@ impl BlockHasher {
             count: 0,
             hasher: Sha256::new(),
             tree: PieceTree::new(alloc, height),
-            fed: Fed::new(),
+            fed: History::new(),
         }
     }
 
@@ -98,7 +98,7 @@ impl BlockHasher {
         ensures bytes { self.new.bytes ≡ self.old.bytes ++ part.now }
         ensures room { self.old.room ≤ self.new.room }
     {
-        let fed = Fed::with(&self.fed, &Cut { bytes: part });
+        let fed = self.fed.with(&Run { items: part });
         self.hasher.update(part);
         self.count += part.len() as u64;
         if self.count % BLOCK_LENGTH as u64 == 0 {

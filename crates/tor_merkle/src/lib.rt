@@ -7,7 +7,9 @@
 //!   the cut into blocks (`blocks.rt`) and the tree of the pieces (`pieces.rt`).
 //! - [`Stack`], [`layer_root`] (`stack.rt`): the root over hashes that come one after another.
 //!
-//! `trail.rt` has the histories that only proofs read, and `digits.rt` digits in base two.
+//! - [`History`] (`trail.rt`): what came so far, which only proofs read.
+//!
+//! `digits.rt` has digits in base two.
 #![tactic(auto)]
 
 mod blocks;
@@ -25,3 +27,4 @@ pub use feed::Feed;
 pub use hash::{Hash, leaf, pair, zero};
 pub use plain::whole;
 pub use stack::{Stack, layer_root};
+pub use trail::{History, Run};

@@ -7,7 +7,7 @@ ghost use Rattle.tor_merkle.specs.Stack.{padded_root, padded_subtree};
 
 use crate::hash::Hash;
 use crate::stack::Stack;
-use crate::trail::Pushed;
+use crate::trail::{History, Run};
 use std::alloc::{AllocError, Global};
 use std::marker::Model;
 
@@ -20,7 +20,7 @@ pub(crate) struct PieceTree {
     blocks: Stack,
     pieces: Stack,
     layer: Vec<Hash>,
-    leaves: Pushed,
+    leaves: History<Hash>,
 }
 
 impl Model for PieceTree {
@@ -29,9 +29,9 @@ impl Model for PieceTree {
 
     ghost Value = { Growing };
 
-    ghost view = { λ t. record { height = t.height; leaves = t.leaves.hashes; room = vec_capacity t.layer } };
+    ghost view = { λ t. record { height = t.height; leaves = t.leaves.items; room = vec_capacity t.layer } };
 
-    ghost invariant = { λ t. KeepsPieces t.height t.leaves.hashes t.blocks t.pieces t.layer.items };
+    ghost invariant = { λ t. KeepsPieces t.height t.leaves.items t.blocks t.pieces t.layer.items };
 }
 
 impl PieceTree {
@@ -45,7 +45,7 @@ impl PieceTree {
             blocks: Stack::new(0),
             pieces: Stack::new(height),
             layer: Vec::new(alloc),
-            leaves: Pushed::new(),
+            leaves: History::new(),
         }
     }
 
@@ -68,7 +68,7 @@ impl PieceTree {
         ensures leaves { self.new.leaves ≡ self.old.leaves ++ leaf ∷ [] }
         ensures room { self.old.room ≤ self.new.room }
     {
-        let leaves = Pushed::with(&self.leaves, &leaf);
+        let leaves = self.leaves.with(&Run { items: &[leaf] });
         if self.blocks.len() == 1 << self.height {
             close_piece(
                 self.height,

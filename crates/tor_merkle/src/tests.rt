@@ -255,3 +255,12 @@ fn stacks(rt: HostRuntime) -> Result<(), AllocError> {
     assert!(rt; stack.root() == root);
     Ok(())
 }
+
+// Whether a value of the type may go to another thread.
+fn sendable<T: Send>() {}
+
+#[test]
+fn feeds_and_stacks_go_to_other_threads() {
+    sendable::<Feed>();
+    sendable::<Stack>();
+}

@@ -10,16 +10,16 @@ close_piece-requires-clause-stack c =
     let t = c.self.inside in
     let power : 1 * 2 ^ t.height % 2 ^ 64 ≡ 2 ^ t.height = one_shl t.height 64 (omega (arith, c.self.invariant.low)) in
     let full = sym c.len.ensures ∙ c.if-len-self.true ∙ power in
-    let some = leaves_some t.height t.leaves.hashes t.blocks t.pieces t.layer.items c.self.invariant (omega (arith, full, pow_pos t.height)) in
-    pieces_fit t.height t.leaves.hashes t.blocks t.pieces t.layer.items c.self.invariant some
+    let some = leaves_some t.height t.leaves.items t.blocks t.pieces t.layer.items c.self.invariant (omega (arith, full, pow_pos t.height)) in
+    pieces_fit t.height t.leaves.items t.blocks t.pieces t.layer.items c.self.invariant some
 
 pub close_piece-requires-clause-room : goal.close_piece-requires-clause-room
 close_piece-requires-clause-room c =
     let t = c.self.inside in
     let power : 1 * 2 ^ t.height % 2 ^ 64 ≡ 2 ^ t.height = one_shl t.height 64 (omega (arith, c.self.invariant.low)) in
     let full = sym c.len.ensures ∙ c.if-len-self.true ∙ power in
-    let some = leaves_some t.height t.leaves.hashes t.blocks t.pieces t.layer.items c.self.invariant (omega (arith, full, pow_pos t.height)) in
-    omega (arith, t.layer.ok.0, layer_fits t.height t.leaves.hashes t.blocks t.pieces t.layer.items c.self.invariant _ some (rw (← c.self.view_is) at c.requires.room))
+    let some = leaves_some t.height t.leaves.items t.blocks t.pieces t.layer.items c.self.invariant (omega (arith, full, pow_pos t.height)) in
+    omega (arith, t.layer.ok.0, layer_fits t.height t.leaves.items t.blocks t.pieces t.layer.items c.self.invariant _ some (rw (← c.self.view_is) at c.requires.room))
 
 pub invariant_of-self : goal.invariant_of-self
 invariant_of-self c =
@@ -30,14 +30,14 @@ invariant_of-self c =
       | then-len-self w ↦
           let e = w.close_piece.ensures in
           rw (w.self-inside-is, c.with-leaves.ensures)
-          (keeps_closed t.height t.leaves.hashes t.blocks t.pieces t.layer.items c.self.invariant c.args.leaf c.push.new.self w.close_piece.new.pieces w.close_piece.new.layer.items
+          (keeps_closed t.height t.leaves.items t.blocks t.pieces t.layer.items c.self.invariant c.args.leaf c.push.new.self w.close_piece.new.pieces w.close_piece.new.layer.items
           (sym c.len.ensures ∙ w.if-len-self.true ∙ power) small
           (c.push.ensures.level ∙ ap (λ s. s.blocks.level) w.self-inside-is ∙ e.block_level)
           (c.push.ensures.hashes ∙ ap (λ s. s.blocks.hashes ++ c.args.leaf ∷ []) w.self-inside-is ∙ ap (λ xs. xs ++ c.args.leaf ∷ []) e.emptied)
           e.piece_level e.stacked e.layer)
       | else-len-self w ↦
           rw (w.self-inside-is, c.with-leaves.ensures)
-          (keeps_open t.height t.leaves.hashes t.blocks t.pieces t.layer.items c.self.invariant c.args.leaf c.push.new.self
+          (keeps_open t.height t.leaves.items t.blocks t.pieces t.layer.items c.self.invariant c.args.leaf c.push.new.self
           (λ e. w.if-len-self.false (c.len.ensures ∙ e ∙ sym power)) small
           (c.push.ensures.level ∙ ap (λ s. s.blocks.level) w.self-inside-is)
           (c.push.ensures.hashes ∙ ap (λ s. s.blocks.hashes ++ c.args.leaf ∷ []) w.self-inside-is))

@@ -16,7 +16,7 @@ carries-init c = record {
   room = omega (arith, c.self.invariant.counted, rw (← c.self.view_is) at c.requires);
   low = omega arith;
   digits = omega arith;
-  root = rw c.with-pushed.ensures (first c.self.inside.level c.self.inside.pushed.hashes c.args.hash c.self.inside.count (sym c.self.invariant.counted));
+  root = rw c.with-pushed.ensures (first c.self.inside.level c.self.inside.pushed.items c.args.hash c.self.inside.count (sym c.self.invariant.counted));
 }
 
 pub carries-preserved : goal.carries-preserved
@@ -33,7 +33,7 @@ carries-preserved c =
       root =
           c.pair-top.ensures
           ∙ ap (λ x. node_of x c.carries.top) (get_or_default c.self.inside.tops c.carries.digit [] zero_leaf (omega arith))
-          ∙ carry c.self.inside.level c.self.inside.count c.self.inside.tops c.self.inside.pushed.hashes c.self.invariant c.args.hash c.carries.digit c.carries.rest c.carries.top
+          ∙ carry c.self.inside.level c.self.inside.count c.self.inside.tops c.self.inside.pushed.items c.self.invariant c.args.hash c.carries.digit c.carries.rest c.carries.top
           c.carries.invariant.digits odd (c.carries.invariant.root ∙ ap (λ xs. node c.self.inside.level xs c.carries.digit c.carries.rest) c.with-pushed.ensures)
           ∙ ap₂ (λ xs k. node c.self.inside.level xs k (c.carries.rest / 2)) (sym c.with-pushed.ensures) (sym (add-one c.carries.digit));
     }
@@ -41,6 +41,6 @@ carries-preserved c =
 pub invariant_of-self : goal.invariant_of-self
 invariant_of-self c =
     rw c.with-pushed.ensures
-    (pushed c.self.inside.level c.self.inside.count c.self.inside.tops c.self.inside.pushed.hashes c.self.invariant c.args.hash c.carries.digit c.carries.rest c.carries.top
+    (pushed c.self.inside.level c.self.inside.count c.self.inside.tops c.self.inside.pushed.items c.self.invariant c.args.hash c.carries.digit c.carries.rest c.carries.top
     c.carries.invariant.digits (omega arith) (omega arith) c.carries.invariant.room
     (c.carries.invariant.root ∙ ap (λ xs. node c.self.inside.level xs c.carries.digit c.carries.rest) c.with-pushed.ensures))
