@@ -5,9 +5,10 @@ ghost use Rattle.std.specs.Int.{div_ceil};
 ghost use Rattle.tor_merkle.specs.Block.{leaves};
 ghost use Rattle.tor_merkle.specs.Layer.{pieces_root, piece_layer};
 
-use crate::hash::{BLOCK_LENGTH, Hash};
+use crate::hash::Hash;
 use crate::pieces::PieceTree;
 use crate::trail::{History, Run};
+use crate::{BLOCK_LENGTH, MAX_LENGTH};
 use sha2::{Digest, Sha256};
 use std::alloc::{AllocError, Global};
 use std::marker::Model;
@@ -66,8 +67,8 @@ impl BlockHasher {
 
     // Adds bytes of any number, for whose pieces there is room.
     pub(crate) fn feed(&mut self, bytes: &[u8])
-        requires small { length self.old.bytes + length bytes.now ≤ 2 ^ 50 }
-        requires room { div_ceil (length self.old.bytes + length bytes.now) (16384 * 2 ^ self.old.height) ≤ self.old.room }
+        requires small { length self.old.bytes + length bytes.now ≤ MAX_LENGTH }
+        requires room { div_ceil (length self.old.bytes + length bytes.now) (BLOCK_LENGTH * 2 ^ self.old.height) ≤ self.old.room }
         ensures height { self.new.height ≡ self.old.height }
         ensures bytes { self.new.bytes ≡ self.old.bytes ++ bytes.now }
         ensures room { self.old.room ≤ self.new.room }
@@ -83,7 +84,7 @@ impl BlockHasher {
 
     // How many bytes the present block lacks.
     fn room_in_block(&self) -> usize
-        ensures { result + length self.now.bytes % 16384 ≡ 16384 }
+        ensures { result + length self.now.bytes % BLOCK_LENGTH ≡ BLOCK_LENGTH }
     {
         BLOCK_LENGTH - (self.count % BLOCK_LENGTH as u64) as usize
     }
@@ -91,9 +92,9 @@ impl BlockHasher {
     // Adds bytes of one block.
     fn add(&mut self, part: &[u8])
         requires some { 0 < length part.now }
-        requires within { length self.old.bytes % 16384 + length part.now ≤ 16384 }
-        requires small { length self.old.bytes + length part.now ≤ 2 ^ 50 }
-        requires room { div_ceil (length self.old.bytes + length part.now) (16384 * 2 ^ self.old.height) ≤ self.old.room }
+        requires within { length self.old.bytes % BLOCK_LENGTH + length part.now ≤ BLOCK_LENGTH }
+        requires small { length self.old.bytes + length part.now ≤ MAX_LENGTH }
+        requires room { div_ceil (length self.old.bytes + length part.now) (BLOCK_LENGTH * 2 ^ self.old.height) ≤ self.old.room }
         ensures height { self.new.height ≡ self.old.height }
         ensures bytes { self.new.bytes ≡ self.old.bytes ++ part.now }
         ensures room { self.old.room ≤ self.new.room }
@@ -110,10 +111,10 @@ impl BlockHasher {
 
     // The root of the bytes fed, and the hashes of their pieces where there is more than one.
     pub(crate) fn finish(self) -> Option<(Hash, Vec<Hash>)>
-        requires { div_ceil (length self.bytes) (16384 * 2 ^ self.height) ≤ self.room }
+        requires { div_ceil (length self.bytes) (BLOCK_LENGTH * 2 ^ self.height) ≤ self.room }
         ensures empty { IsNone result ↔ (self.bytes ≡ []) }
         ensures root { IfSome result (λ s. s.0 ≡ pieces_root self.bytes) }
-        ensures layer { IfSome result (λ s. s.1.items ≡ piece_layer self.bytes (16384 * 2 ^ self.height)) }
+        ensures layer { IfSome result (λ s. s.1.items ≡ piece_layer self.bytes (BLOCK_LENGTH * 2 ^ self.height)) }
     {
         if self.count == 0 {
             return None;
@@ -123,7 +124,7 @@ impl BlockHasher {
 
     // The tree with the leaf of the last block, whole or short.
     fn into_tree(self) -> PieceTree
-        requires { div_ceil (length self.bytes) (16384 * 2 ^ self.height) ≤ self.room }
+        requires { div_ceil (length self.bytes) (BLOCK_LENGTH * 2 ^ self.height) ≤ self.room }
         ensures height { result.height ≡ self.height }
         ensures leaves { result.leaves ≡ leaves self.bytes }
         ensures room { self.room ≤ result.room }

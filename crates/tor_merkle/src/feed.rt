@@ -6,7 +6,8 @@ ghost use Rattle.tor_merkle.specs.Layer.{IsPieceLength, pieces_root, piece_layer
 
 use crate::blocks::BlockHasher;
 use crate::digits::height_of;
-use crate::hash::{BLOCK_LENGTH, Hash};
+use crate::hash::Hash;
+use crate::{BLOCK_LENGTH, MAX_LENGTH};
 use std::alloc::{AllocError, Global};
 use std::marker::Model;
 
@@ -44,7 +45,7 @@ impl Feed {
     /// How many bytes were fed.
     pub fn count(&self) -> u64
         ensures value { result ≡ length self.now.bytes }
-        ensures small { length self.now.bytes ≤ 2 ^ 50 }
+        ensures small { length self.now.bytes ≤ MAX_LENGTH }
     {
         self.blocks.count()
     }
@@ -60,7 +61,7 @@ impl Feed {
     /// Adds `bytes` at the end of the content, which has at most 2^50 bytes in all. Memory can only be refused
     /// where they begin a piece.
     pub fn feed(&mut self, bytes: &[u8]) -> Result<(), AllocError>
-        requires { length self.old.bytes + length bytes.now ≤ 2 ^ 50 }
+        requires { length self.old.bytes + length bytes.now ≤ MAX_LENGTH }
         ensures piece_length { self.new.piece_length ≡ self.old.piece_length }
         ensures ok { OnOk result (self.new.bytes ≡ self.old.bytes ++ bytes.now) }
         ensures err { OnErr result (self.new ≡ self.old) }

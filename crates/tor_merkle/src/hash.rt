@@ -6,9 +6,6 @@ ghost use Rattle.tor_merkle.specs.Subtree.{node_of, zero_subtree};
 
 use sha2::{Digest, Sha256};
 
-// The length of a block in bytes.
-pub(crate) const BLOCK_LENGTH: usize = 16_384;
-
 /// A SHA-256 hash.
 pub type Hash = [u8; 32];
 

@@ -16,6 +16,8 @@ mod blocks;
 mod digits;
 mod feed;
 mod hash;
+pub mod laws;
+mod piece_length;
 mod pieces;
 mod plain;
 mod stack;
@@ -23,8 +25,21 @@ mod stack;
 mod tests;
 mod trail;
 
+/// How many bytes a block has (BEP 52, "pieces root").
+pub const BLOCK_LENGTH: usize = 16_384;
+
+/// How many bytes a piece has at the least (BEP 52, "piece length").
+pub const MIN_PIECE_LENGTH: u64 = 16_384;
+
+/// How many bytes a piece has at the most: a limit of this profile.
+pub const MAX_PIECE_LENGTH: u64 = 1 << 30;
+
+/// How many bytes a content has at the most: a limit of this profile.
+pub const MAX_LENGTH: u64 = 1 << 50;
+
 pub use feed::Feed;
 pub use hash::{Hash, leaf, pair, zero};
+pub use piece_length::is_piece_length;
 pub use plain::whole;
 pub use stack::{Stack, layer_root};
 pub use trail::{History, Run};

@@ -6,7 +6,8 @@ ghost use Rattle.tor_merkle.specs.Block.{leaves};
 ghost use Rattle.tor_merkle.specs.Layer.{IsPieceLength, pieces_root, piece_layer};
 ghost use Rattle.tor_merkle.specs.Subtree.{level_above};
 
-use crate::hash::{BLOCK_LENGTH, Hash, leaf, pair, zero};
+use crate::hash::{Hash, leaf, pair, zero};
+use crate::{BLOCK_LENGTH, MAX_LENGTH};
 use std::alloc::{AllocError, Global};
 use std::mem;
 
@@ -19,7 +20,7 @@ pub fn whole(
     piece_length: u64,
 ) -> Result<Option<(Hash, Vec<Hash>)>, AllocError>
     requires piece { IsPieceLength piece_length }
-    requires size { length content.now ≤ 2 ^ 50 }
+    requires size { length content.now ≤ MAX_LENGTH }
     ensures empty { IfOk result (λ sums. IsNone sums ↔ (content.now ≡ [])) }
     ensures root { IfOk result (λ sums. IfSome sums (λ s. s.0 ≡ pieces_root content.now)) }
     ensures layer { IfOk result (λ sums. IfSome sums (λ s. s.1.items ≡ piece_layer content.now piece_length)) }
