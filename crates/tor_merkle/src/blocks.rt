@@ -4,6 +4,7 @@ ghost use Rattle.std.specs.Prelude.{◌≡◌, ◌+◌, ◌*◌, ◌%◌, ◌^�
 ghost use Rattle.std.specs.Int.{div_ceil};
 ghost use Rattle.tor_merkle.specs.Block.{leaves};
 ghost use Rattle.tor_merkle.specs.Layer.{pieces_root, piece_layer};
+ghost use Rattle.tor_merkle.specs.steps.Blocks.{FitsBlock};
 
 use crate::hash::Hash;
 use crate::pieces::PieceTree;
@@ -23,7 +24,7 @@ pub(crate) struct BlockHasher {
 }
 
 impl Model for BlockHasher {
-    ghost use Rattle.tor_merkle.specs.Feeding.{Blocks, KeepsBlocks};
+    ghost use Rattle.tor_merkle.specs.steps.Blocks.{Blocks, KeepsBlocks};
 
     ghost Value = { Blocks };
 
@@ -91,10 +92,7 @@ impl BlockHasher {
 
     // Adds bytes of one block.
     fn add(&mut self, part: &[u8])
-        requires some { 0 < length part.now }
-        requires within { length self.old.bytes % BLOCK_LENGTH + length part.now ≤ BLOCK_LENGTH }
-        requires small { length self.old.bytes + length part.now ≤ MAX_LENGTH }
-        requires room { div_ceil (length self.old.bytes + length part.now) (BLOCK_LENGTH * 2 ^ self.old.height) ≤ self.old.room }
+        requires { FitsBlock self.old part.now }
         ensures height { self.new.height ≡ self.old.height }
         ensures bytes { self.new.bytes ≡ self.old.bytes ++ part.now }
         ensures room { self.old.room ≤ self.new.room }

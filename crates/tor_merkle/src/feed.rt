@@ -19,7 +19,8 @@ pub struct Feed {
 }
 
 impl Model for Feed {
-    ghost use Rattle.tor_merkle.specs.Feeding.{Feeding, KeepsFeeding};
+    ghost use Rattle.tor_merkle.specs.Feeding.{Feeding};
+    ghost use Rattle.tor_merkle.specs.steps.Blocks.{KeepsFeeding};
 
     ghost Value = { Feeding };
 

@@ -3,7 +3,8 @@
 ghost use Rattle.std.specs.Prelude.{◌≡◌, ◌+◌, ◌-◌, ◌^◌, ◌<◌, ◌≤◌, [], ◌∷◌, ◌++◌, length, OnOk, IsOk, nat_le, if◌then◌else◌, vec_len, vec_capacity};
 ghost use Rattle.std.specs.Int.{div_ceil};
 ghost use Rattle.tor_merkle.specs.Node.{nodes};
-ghost use Rattle.tor_merkle.specs.Stack.{padded_root, padded_subtree};
+ghost use Rattle.tor_merkle.specs.Stack.{padded_root};
+ghost use Rattle.tor_merkle.specs.steps.Pieces.{EndsPiece, ClosesPiece};
 
 use crate::hash::Hash;
 use crate::stack::Stack;
@@ -25,7 +26,7 @@ pub(crate) struct PieceTree {
 
 impl Model for PieceTree {
     ghost use Rattle.std.specs.Prelude.{vec_capacity};
-    ghost use Rattle.tor_merkle.specs.Pieces.{Growing, KeepsPieces};
+    ghost use Rattle.tor_merkle.specs.steps.Pieces.{Growing, KeepsPieces};
 
     ghost Value = { Growing };
 
@@ -106,18 +107,8 @@ impl PieceTree {
 
 // Ends the present piece, widened by zero subtrees where it is short.
 fn close_piece(height: u32, blocks: &mut Stack, pieces: &mut Stack, layer: &mut Vec<Hash>)
-    requires low { height ≤ 16 }
-    requires blocks { blocks.old.level ≡ 0 }
-    requires some { 0 < length blocks.old.hashes }
-    requires within { length blocks.old.hashes ≤ 2 ^ height }
-    requires pieces { pieces.old.level ≡ height }
-    requires stack { length pieces.old.hashes < 2 ^ (36 - height) }
-    requires room { vec_len layer.old < vec_capacity layer.old }
-    ensures emptied { blocks.new.hashes ≡ [] }
-    ensures block_level { blocks.new.level ≡ 0 }
-    ensures stacked { pieces.new.hashes ≡ pieces.old.hashes ++ padded_subtree height 0 blocks.old.hashes ∷ [] }
-    ensures piece_level { pieces.new.level ≡ height }
-    ensures layer { layer.new.items ≡ layer.old.items ++ padded_subtree height 0 blocks.old.hashes ∷ [] }
+    requires { EndsPiece height blocks.old pieces.old (vec_len layer.old) (vec_capacity layer.old) }
+    ensures closed { ClosesPiece height blocks.old blocks.new pieces.old pieces.new layer.old.items layer.new.items }
     ensures capacity { vec_capacity layer.old ≤ vec_capacity layer.new }
 {
     let hash = blocks.subtree(height);

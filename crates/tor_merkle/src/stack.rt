@@ -22,7 +22,8 @@ pub struct Stack {
 }
 
 impl Model for Stack {
-    ghost use Rattle.tor_merkle.specs.Stack.{Subtrees, KeepsTops};
+    ghost use Rattle.tor_merkle.specs.Stack.{Subtrees};
+    ghost use Rattle.tor_merkle.specs.steps.Tops.{KeepsTops};
 
     ghost Value = { Subtrees };
 

@@ -19,7 +19,8 @@ pub returns-then-count-gt0-clause-leaves : goal.returns-then-count-gt0-clause-le
 returns-then-count-gt0-clause-leaves c =
     let b = c.self.inside in
     c.push.ensures.leaves ∙ ap (λ x. b.tree.leaves ++ x ∷ []) (c.finalize-leaf.ensures _ c.self.invariant.rest)
-    ∙ leaves-short b.count b.hasher b.tree.leaves b.fed.items c.self.invariant c.if-count-gt0.true ∙ ap (λ v. leaves v.bytes) c.self.view_is
+    ∙ leaves-short b.count b.hasher b.tree.leaves b.fed.items c.self.invariant c.if-count-gt0.true
+    ∙ ap (λ v. leaves v.bytes) c.self.view_is
 
 pub returns-else-count-gt0-clause-leaves : goal.returns-else-count-gt0-clause-leaves
 returns-else-count-gt0-clause-leaves c =

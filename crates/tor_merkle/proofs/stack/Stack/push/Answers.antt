@@ -7,7 +7,8 @@ use Rattle.tor_merkle.specs.Subtree.{node_of, zero_leaf, zero_subtree}
 use Rattle.tor_merkle.proofs.Tops.{carry, pushed, digit_below}
 use Rattle.tor_merkle.proofs.stack.Stack.push.Goals as goal
 
-first : (base : ℕ) (hashes : List (List ℕ)) (hash : List ℕ) (count : ℕ) → length hashes ≡ count → hash ≡ node base (hashes ++ hash ∷ []) 0 count
+first : (base : ℕ) (hashes : List (List ℕ)) (hash : List ℕ) (count : ℕ) → length hashes ≡ count
+    → hash ≡ node base (hashes ++ hash ∷ []) 0 count
 unfolding node
 first base hashes hash count e = sym (get_or_push hashes hash (zero_subtree base) count e)
 
@@ -25,7 +26,8 @@ carries-preserved c =
     let half : c.carries.rest + 1 ≡ (c.carries.rest / 2 + 1) * 2 = omega arith in
     let digits : c.self.inside.count + 1 ≡ (c.carries.rest / 2 + 1) * 2 ^ (c.carries.digit + 1) =
     c.carries.invariant.digits ∙ ap (λ n. n * 2 ^ c.carries.digit) half ∙ mul_assoc (c.carries.rest / 2 + 1) 2 (2 ^ c.carries.digit)
-    ∙ ap (λ n. (c.carries.rest / 2 + 1) * n) (sym (pow-succ' 2 c.carries.digit)) ∙ ap (λ n. (c.carries.rest / 2 + 1) * 2 ^ n) (sym (add-one c.carries.digit)) in
+    ∙ ap (λ n. (c.carries.rest / 2 + 1) * n) (sym (pow-succ' 2 c.carries.digit))
+    ∙ ap (λ n. (c.carries.rest / 2 + 1) * 2 ^ n) (sym (add-one c.carries.digit)) in
     record {
       room = c.carries.invariant.room;
       low = omega (arith, digit_below c.self.inside.level c.self.inside.count (c.carries.rest / 2) (c.carries.digit + 1) c.carries.invariant.room digits);
