@@ -17,7 +17,7 @@ IsPieceLength n = IsTrue (is_piece_length n)
 abbrev pub tree_leaves : List ℕ → List (List ℕ)
 tree_leaves content = padded (height (length (leaves content))) zero_leaf (leaves content)
 
--- the Merkle root of a content that is not empty
+-- the Merkle root of a content that is not empty (BEP 52, "pieces root")
 unfoldable pub pieces_root : List ℕ → List ℕ
 pieces_root content = subtree_root (height (length (leaves content))) (tree_leaves content)
 
@@ -25,7 +25,7 @@ pieces_root content = subtree_root (height (length (leaves content))) (tree_leav
 abbrev pub piece_level : ℕ → ℕ
 piece_level piece_length = height (piece_length / BLOCK_LENGTH)
 
--- for each piece of a content, the root of the run of leaves that covers it
+-- for each piece of a content, the root of the run of leaves that covers it (BEP 52, "piece layers")
 unfoldable pub piece_roots : List ℕ → ℕ → List (List ℕ)
 piece_roots content piece_length =
     map (λ i. subtree_root (piece_level piece_length) (run_at (piece_length / BLOCK_LENGTH) (tree_leaves content) i))

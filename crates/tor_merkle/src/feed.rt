@@ -7,7 +7,7 @@ ghost use Rattle.tor_merkle.specs.Layer.{IsPieceLength, pieces_root, piece_layer
 use crate::blocks::BlockHasher;
 use crate::digits::height_of;
 use crate::hash::Hash;
-use crate::{BLOCK_LENGTH, MAX_LENGTH};
+use crate::{BLOCK_LENGTH, MAX_LENGTH, MAX_PIECE_LENGTH};
 use std::alloc::{AllocError, Global};
 use std::marker::Model;
 
@@ -30,7 +30,7 @@ impl Model for Feed {
 }
 
 impl Feed {
-    /// A feed of no byte, for pieces of `piece_length` bytes.
+    /// A feed of no byte, for pieces of `piece_length` bytes (BEP 52, "piece length").
     pub fn new(alloc: Global, piece_length: u64) -> Feed
         requires { IsPieceLength piece_length }
         ensures piece_length { result.piece_length ≡ piece_length }
@@ -55,6 +55,7 @@ impl Feed {
     pub fn piece_length(&self) -> u64
         ensures value { result ≡ self.now.piece_length }
         ensures allowed { IsPieceLength self.now.piece_length }
+        ensures small { self.now.piece_length ≤ MAX_PIECE_LENGTH }
     {
         self.piece_length
     }
@@ -76,8 +77,9 @@ impl Feed {
         Ok(())
     }
 
-    /// The Merkle root of the content, and the 32-byte hashes of the layer where one covers one piece,
-    /// in the order of the pieces; no hash where there is at most one piece. `None` where no byte was fed.
+    /// The Merkle root of the content (BEP 52, "pieces root"), and the 32-byte hashes of the layer where one covers
+    /// one piece, in the order of the pieces ("piece layers"); no hash where there is at most one piece. `None`
+    /// where no byte was fed.
     pub fn finish(self) -> Option<(Hash, Vec<Hash>)>
         ensures empty { IsNone result ↔ (self.bytes ≡ []) }
         ensures root { IfSome result (λ sums. sums.0 ≡ pieces_root self.bytes) }

@@ -1,13 +1,24 @@
 //! The Merkle trees of BitTorrent v2 (BEP 52): a content cut into blocks of 16,384 bytes, its root
 //! ("pieces root") and its piece layer ("piece layers").
 //!
+//! ```rust
+//! use tor_merkle::{Feed, leaf};
+//!
+//! let mut feed = Feed::new(alloc, 16_384);
+//! feed.feed(b"ab")?;
+//! feed.feed(b"c")?;
+//! let sums = feed.finish();
+//! assert!(rt; matches!(&sums, Some((root, layer)) if *root == leaf(b"abc") && layer.is_empty()));
+//! ```
+//!
 //! - [`leaf`], [`pair`], [`zero`] (`hash.rt`): the hash of a block, of two hashes, of a subtree past the end.
 //! - [`whole`] (`plain.rt`): root and piece layer of a content that lies in memory.
 //! - [`Feed`] (`feed.rt`): the same of a content that is fed in parts; it keeps no leaves. Below it stand
 //!   the cut into blocks (`blocks.rt`) and the tree of the pieces (`pieces.rt`).
 //! - [`Stack`], [`layer_root`] (`stack.rt`): the root over hashes that come one after another.
-//!
+//! - [`is_piece_length`] (`piece_length.rt`): which numbers of bytes a piece may have.
 //! - [`History`] (`trail.rt`): what came so far, which only proofs read.
+//! - [`laws`] (`laws.rt`): laws over the definitions of `specs/`.
 //!
 //! `digits.rt` has digits in base two.
 #![tactic(auto)]

@@ -11,9 +11,9 @@ use crate::{BLOCK_LENGTH, MAX_LENGTH};
 use std::alloc::{AllocError, Global};
 use std::mem;
 
-/// The Merkle root of `content`, and the 32-byte hashes of the layer where one covers one piece,
-/// in the order of the pieces; no hash where there is at most one piece. `None` where `content` is empty,
-/// which takes no memory.
+/// The Merkle root of `content` (BEP 52, "pieces root"), and the 32-byte hashes of the layer where one covers one
+/// piece, in the order of the pieces ("piece layers"); no hash where there is at most one piece. `None` where
+/// `content` is empty, which takes no memory.
 pub fn whole(
     alloc: Global,
     content: &[u8],
