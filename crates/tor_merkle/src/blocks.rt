@@ -69,7 +69,8 @@ impl BlockHasher {
     // Adds bytes of any number, for whose pieces there is room.
     pub(crate) fn feed(&mut self, bytes: &[u8])
         requires small { length self.old.bytes + length bytes.now ≤ MAX_LENGTH }
-        requires room { div_ceil (length self.old.bytes + length bytes.now) (BLOCK_LENGTH * 2 ^ self.old.height) ≤ self.old.room }
+        requires room { div_ceil (length self.old.bytes + length bytes.now) (BLOCK_LENGTH * 2 ^ self.old.height)
+            ≤ self.old.room }
         ensures height { self.new.height ≡ self.old.height }
         ensures bytes { self.new.bytes ≡ self.old.bytes ++ bytes.now }
         ensures room { self.old.room ≤ self.new.room }
