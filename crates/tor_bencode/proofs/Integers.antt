@@ -12,7 +12,7 @@ use Rattle.tor_bencode.specs.Data.{integer}
 use Rattle.tor_bencode.specs.declared.fault.Fault.{Fault}
 use Rattle.tor_bencode.specs.declared.fault.Fault.TheVariants.{Truncated, BadByte, BadInteger, IntegerRange, BadLength, KeyNotBytes, KeyOrder, TooDeep, Trailing}
 use Rattle.tor_bencode.specs.Fault.{Runs, is_integer_byte, IsCutInteger, IsBadInteger, IsTooLarge}
-use Rattle.tor_bencode.specs.Reading.{Reading, number, is_shortest, is_positive, is_integer, integer_of, negative_of, positive_of, in_range, integer_after, integer_at}
+use Rattle.tor_bencode.specs.steps.Reading.{Reading, number, is_shortest, is_positive, is_integer, integer_of, negative_of, positive_of, in_range, integer_after, integer_at}
 use Rattle.tor_bencode.specs.Spelling.{base_ten, signed_base_ten, spelling}
 use Rattle.tor_bencode.proofs.Numerals.{digit_range, base_ten-number, number-base_ten, all_digits-base_ten, is_shortest-base_ten}
 use Rattle.tor_bencode.proofs.Runs.{by_test, one_of_two, prefix_len-run, prefix_len-all, run_passes, run_stops, run_whole}

@@ -10,7 +10,7 @@ use Rattle.tor_bencode.specs.declared.stop.Stop.{Stop}
 use Rattle.tor_bencode.specs.declared.stop.Stop.TheVariants as stops
 use Rattle.tor_bencode.specs.Data.{Data, integer, string, list, dictionary, Items, no_items, item, Pairs, no_pairs, pair}
 use Rattle.tor_bencode.specs.declared.fault.Fault.{Fault}
-use Rattle.tor_bencode.specs.Reading.{◌>>=◌, Reading, Stops, value_at, value_with, nested_at, items_at, pairs_at, string_at, integer_at, follows}
+use Rattle.tor_bencode.specs.steps.Reading.{◌>>=◌, Reading, Stops, value_at, value_with, nested_at, items_at, pairs_at, string_at, integer_at, follows}
 use Rattle.std.specs.Char.{is_ascii_digit}
 
 abbrev pub items_before : Items → Items → Items

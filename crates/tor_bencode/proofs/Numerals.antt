@@ -13,7 +13,7 @@ use Rattle.std.proofs.lemmas.Int.{ints}
 use Rattle.std.proofs.lemmas.Int.Digits.{digits_of_step, number_digits_of, all_below_base_digits_of, first_digits_of}
 use Rattle.std.proofs.lemmas.List.{map-append, append-nil, drop_more}
 use Rattle.tor_bencode.specs.Spelling.{base_ten, signed_base_ten}
-use Rattle.tor_bencode.specs.Reading.{number, number_after, is_shortest}
+use Rattle.tor_bencode.specs.steps.Reading.{number, number_after, is_shortest}
 
 abbrev glyphs : List ℕ → List ℕ
 glyphs = map (λ digit. 48 + digit)

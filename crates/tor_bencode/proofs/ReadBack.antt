@@ -4,7 +4,7 @@ use Rattle.std.specs.Ordering.{is_lt}
 use Rattle.std.proofs.lemmas.List.{take_all, append-nil}
 use Rattle.tor_bencode.specs.Data.{Data, integer, string, list, dictionary, Items, no_items, item, Pairs, no_pairs, pair, keys_of}
 use Rattle.tor_bencode.specs.Lawful.{AreRising, IsLawfulWithin, ItemsAreLawfulWithin, PairsAreLawfulWithin}
-use Rattle.tor_bencode.specs.Reading.{◌>>=◌, Reading, follows, integer_at, items_at, pairs_at, value_at, whole, last_of}
+use Rattle.tor_bencode.specs.steps.Reading.{◌>>=◌, Reading, follows, integer_at, items_at, pairs_at, value_at, whole, last_of}
 use Rattle.tor_bencode.specs.Spelling.{signed_base_ten, spelling, string_spelling, items_spelling, pairs_spelling}
 use Rattle.tor_bencode.proofs.Integers.{integer_at-spelling, integer_spelled}
 use Rattle.tor_bencode.proofs.Lawfulness.{lawful-list, lawful-dictionary, lawful-item, lawful-pair}

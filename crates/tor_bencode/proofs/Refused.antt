@@ -6,7 +6,7 @@ use Rattle.std.proofs.lemmas.List.{take_all}
 use Rattle.tor_bencode.specs.Data.{Data, Items, no_items, Pairs, no_pairs, pair, keys_of}
 use Rattle.tor_bencode.specs.Fault.{Begins, BeginsWithDigit, IsCutString, HasBadLength, IsBadValue, IsBadKey, IsOutOfOrder, IsFaultIn, at_value, in_list, at_key, in_pair, IsTrailing}
 use Rattle.tor_bencode.specs.Lawful.{AreRising, PairsAreLawfulWithin}
-use Rattle.tor_bencode.specs.Reading.{◌>>=◌, Reading, follows, string_at, integer_at, items_at, pairs_at, value_at, whole, last_of}
+use Rattle.tor_bencode.specs.steps.Reading.{◌>>=◌, Reading, follows, string_at, integer_at, items_at, pairs_at, value_at, whole, last_of}
 use Rattle.tor_bencode.specs.Spelling.{base_ten, signed_base_ten, string_spelling, items_spelling, pairs_spelling}
 use Rattle.tor_bencode.specs.declared.fault.Fault.{Fault}
 use Rattle.tor_bencode.specs.declared.fault.Fault.TheVariants.{Truncated, BadByte, BadInteger, IntegerRange, BadLength, KeyNotBytes, KeyOrder, TooDeep, Trailing}

@@ -8,7 +8,7 @@ use Rattle.std.proofs.lemmas.List.{take_all, append-nil, length-append}
 use Rattle.tor_bencode.specs.Data.{Data, integer, string, list, dictionary, Items, no_items, item, Pairs, no_pairs, pair}
 use Rattle.tor_bencode.specs.Lawful.{IsLawfulWithin, ItemsAreLawfulWithin, PairsAreLawfulWithin}
 use Rattle.tor_bencode.specs.Place.{place_in, place_of}
-use Rattle.tor_bencode.specs.Reading.{◌>>=◌, Reading, Stops, string_at, integer_at, value_at}
+use Rattle.tor_bencode.specs.steps.Reading.{◌>>=◌, Reading, Stops, string_at, integer_at, value_at}
 use Rattle.tor_bencode.specs.Spelling.{spelling, string_spelling, items_spelling, pairs_spelling}
 use Rattle.tor_bencode.specs.declared.fault.Fault.{Fault}
 use Rattle.tor_bencode.specs.declared.fault.Fault.TheVariants.{BadLength}

@@ -7,7 +7,7 @@ use Rattle.std.proofs.lemmas.Bool.Decides.{nat_tests}
 use Rattle.tor_bencode.specs.Data.{Data, integer, string, list, dictionary, Items, no_items, item, Pairs, no_pairs, pair, keys_of}
 use Rattle.tor_bencode.specs.Fault.{Begins, IsBadValue, IsBadKey, IsOutOfOrder, IsFaultIn, at_value, in_list, at_key, in_pair, last_key}
 use Rattle.tor_bencode.specs.Lawful.{IsLawfulWithin, ItemsAreLawfulWithin, PairsAreLawfulWithin}
-use Rattle.tor_bencode.specs.Reading.{◌>>=◌, Reading, follows, string_at, items_at, pairs_at}
+use Rattle.tor_bencode.specs.steps.Reading.{◌>>=◌, Reading, follows, string_at, items_at, pairs_at}
 use Rattle.tor_bencode.specs.Spelling.{spelling, string_spelling, items_spelling, pairs_spelling}
 use Rattle.tor_bencode.specs.declared.fault.Fault.{Fault}
 use Rattle.tor_bencode.specs.declared.fault.Fault.TheVariants.{Truncated, BadByte, BadInteger, IntegerRange, BadLength, KeyNotBytes, KeyOrder, TooDeep, Trailing}

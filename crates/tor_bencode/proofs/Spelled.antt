@@ -5,7 +5,7 @@ use Rattle.std.specs.List.{list_all}
 use Rattle.std.proofs.lemmas.Bool.{and_parts, false≢true}
 use Rattle.std.proofs.lemmas.List.{length-append}
 use Rattle.tor_bencode.specs.Data.{Data, integer, string, list, dictionary}
-use Rattle.tor_bencode.specs.Reading.{is_shortest}
+use Rattle.tor_bencode.specs.steps.Reading.{is_shortest}
 use Rattle.tor_bencode.specs.Spelling.{base_ten, spelling, string_spelling}
 use Rattle.tor_bencode.proofs.Numerals.{digit_range, all_digits-base_ten, is_shortest-base_ten}
 

@@ -9,7 +9,7 @@ use Rattle.std.proofs.lemmas.List.{take_at, drop_at, drop_all, take-append-drop,
 use Rattle.tor_bencode.specs.declared.fault.Fault.{Fault}
 use Rattle.tor_bencode.specs.declared.fault.Fault.TheVariants.{Truncated, BadByte, BadInteger, IntegerRange, BadLength, KeyNotBytes, KeyOrder, TooDeep, Trailing}
 use Rattle.tor_bencode.specs.Fault.{Runs, BeginsWithDigit, IsCutString, HasBadLength}
-use Rattle.tor_bencode.specs.Reading.{Reading, number, is_shortest, string_after, string_at}
+use Rattle.tor_bencode.specs.steps.Reading.{Reading, number, is_shortest, string_after, string_at}
 use Rattle.tor_bencode.specs.Spelling.{base_ten, string_spelling}
 use Rattle.tor_bencode.proofs.Numerals.{base_ten-number, number-base_ten, all_digits-base_ten, is_shortest-base_ten}
 use Rattle.tor_bencode.proofs.Runs.{by_test, one_of_two, prefix_len-run, prefix_len-all, run_passes, run_stops, run_whole}

@@ -8,7 +8,7 @@ use Rattle.std.proofs.lemmas.List.{append-nil, length-append}
 use Rattle.tor_bencode.specs.Data.{Data, integer, list, dictionary}
 use Rattle.tor_bencode.specs.Fault.{IsBadValue, IsBadKey, IsFaultIn, at_value, in_list, at_key, in_pair, IsTrailing, last_key}
 use Rattle.tor_bencode.specs.Lawful.{IsLawfulWithin}
-use Rattle.tor_bencode.specs.Reading.{◌>>=◌, Reading, string_at, integer_at, items_at, pairs_at, opened, value_with, nested_at, value_at, whole, last_of}
+use Rattle.tor_bencode.specs.steps.Reading.{◌>>=◌, Reading, string_at, integer_at, items_at, pairs_at, opened, value_with, nested_at, value_at, whole, last_of}
 use Rattle.tor_bencode.specs.Spelling.{spelling, string_spelling, items_spelling, pairs_spelling}
 use Rattle.tor_bencode.specs.declared.fault.Fault.{Fault}
 use Rattle.tor_bencode.specs.declared.fault.Fault.TheVariants.{Truncated, BadByte, BadInteger, IntegerRange, BadLength, KeyNotBytes, KeyOrder, TooDeep, Trailing}

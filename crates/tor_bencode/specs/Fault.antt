@@ -15,10 +15,12 @@ use Rattle.tor_bencode.specs.declared.error.BenError.{BenError}
 use Rattle.tor_bencode.specs.declared.error.BenError.TheVariants as errors
 use Rattle.tor_bencode.specs.declared.fault.Fault.{Fault}
 use Rattle.tor_bencode.specs.declared.fault.Fault.TheVariants.{Truncated, BadByte, BadInteger, IntegerRange, BadLength, KeyNotBytes, KeyOrder, TooDeep, Trailing}
+use Rattle.tor_bencode.specs.Marks.{colon, letter_d, letter_e, letter_i, letter_l, minus}
+use Rattle.tor_bencode.specs.declared.TheConstants.{MAX_NESTING}
 
 -- digits and minus signs
 abbrev pub is_integer_byte : ℕ → Bool
-is_integer_byte c = (c == 45) || is_ascii_digit c
+is_integer_byte c = (c == minus) || is_ascii_digit c
 
 -- the bytes begin with this one
 abbrev pub Begins : ℕ → List ℕ → Type 0
@@ -46,7 +48,7 @@ IsCutString bytes = (BeginsWithDigit bytes × RunsToEnd is_ascii_digit bytes)
 -- A length does not end with a colon, or it is no number's shortest digits.
 abbrev pub HasBadLength : List ℕ → Type 0
 HasBadLength bytes = BeginsWithDigit bytes × (run : List ℕ) × (next : ℕ) × (more : List ℕ)
-    × Runs is_ascii_digit bytes run next more × ((next ≢ 58) ⊎ ((n : ℕ) → run ≢ base_ten n))
+    × Runs is_ascii_digit bytes run next more × ((next ≢ colon) ⊎ ((n : ℕ) → run ≢ base_ten n))
 
 -- an integer is cut off
 abbrev pub IsCutInteger : List ℕ → Type 0
@@ -55,7 +57,7 @@ IsCutInteger bytes = (rest : List ℕ) × (bytes ≡ codes "i" ++ rest) × RunsT
 -- An integer does not end with an `e`, or it is no number's shortest digits: no zero in front, no negative zero.
 abbrev pub IsBadInteger : List ℕ → Type 0
 IsBadInteger bytes = (rest : List ℕ) × (run : List ℕ) × (next : ℕ) × (more : List ℕ) × (bytes ≡ codes "i" ++ rest)
-    × Runs is_integer_byte rest run next more × ((next ≢ 101) ⊎ ((n : ℤ) → run ≢ signed_base_ten n))
+    × Runs is_integer_byte rest run next more × ((next ≢ letter_e) ⊎ ((n : ℤ) → run ≢ signed_base_ten n))
 
 -- an integer is spelled well, and 64 bits do not hold it
 abbrev pub IsTooLarge : List ℕ → Type 0
@@ -63,12 +65,12 @@ IsTooLarge bytes = (n : ℤ) × (more : List ℕ) × (bytes ≡ spelling (intege
 
 -- no value begins so
 abbrev pub BeginsNoValue : List ℕ → Type 0
-BeginsNoValue bytes = (c : ℕ) × (rest : List ℕ) × (bytes ≡ c ∷ rest) × ¬ IsTrue (is_ascii_digit c) × (c ≢ 105) × (c ≢ 108) × (c ≢ 100)
+BeginsNoValue bytes = (c : ℕ) × (rest : List ℕ) × (bytes ≡ c ∷ rest) × ¬ IsTrue (is_ascii_digit c) × (c ≢ letter_i) × (c ≢ letter_l) × (c ≢ letter_d)
 
 -- A byte string, a list or a dictionary begins so. To read anything else takes no memory.
 abbrev pub may_take_memory : List ℕ → Bool
 may_take_memory [] = false
-may_take_memory (c ∷ rest) = is_ascii_digit c || ((c == 108) || (c == 100))
+may_take_memory (c ∷ rest) = is_ascii_digit c || ((c == letter_l) || (c == letter_d))
 
 -- What is wrong where a value is expected, and so many lists and dictionaries may still be opened. The last list has
 -- the bytes from the fault on: none where they end too early.
@@ -78,7 +80,7 @@ IsBadValue room bytes BadByte from = BeginsNoValue bytes × (from ≡ bytes)
 IsBadValue room bytes BadInteger from = IsBadInteger bytes × (from ≡ bytes)
 IsBadValue room bytes IntegerRange from = IsTooLarge bytes × (from ≡ bytes)
 IsBadValue room bytes BadLength from = HasBadLength bytes × (from ≡ bytes)
-IsBadValue room bytes TooDeep from = (room ≡ 0) × (Begins 108 bytes ⊎ Begins 100 bytes) × (from ≡ bytes)
+IsBadValue room bytes TooDeep from = (room ≡ 0) × (Begins letter_l bytes ⊎ Begins letter_d bytes) × (from ≡ bytes)
 IsBadValue room bytes KeyNotBytes from = ⊥
 IsBadValue room bytes KeyOrder from = ⊥
 IsBadValue room bytes Trailing from = ⊥
@@ -98,7 +100,7 @@ IsOutOfOrder (Some last) key = slice_cmp nat_cmp last key ≢ Less
 abbrev pub IsBadKey : Option (List ℕ) → List ℕ → Fault → List ℕ → Type 0
 IsBadKey last bytes Truncated from = ((bytes ≡ []) ⊎ IsCutString bytes) × (from ≡ [])
 IsBadKey last bytes BadLength from = HasBadLength bytes × (from ≡ bytes)
-IsBadKey last bytes KeyNotBytes from = (c : ℕ) × (rest : List ℕ) × (bytes ≡ c ∷ rest) × ¬ IsTrue (is_ascii_digit c) × (c ≢ 101) × (from ≡ bytes)
+IsBadKey last bytes KeyNotBytes from = (c : ℕ) × (rest : List ℕ) × (bytes ≡ c ∷ rest) × ¬ IsTrue (is_ascii_digit c) × (c ≢ letter_e) × (from ≡ bytes)
 IsBadKey last bytes KeyOrder from = (key : List ℕ) × (rest : List ℕ) × (bytes ≡ string_spelling key ++ rest) × IsOutOfOrder last key × (from ≡ bytes)
 IsBadKey last bytes BadByte from = ⊥
 IsBadKey last bytes BadInteger from = ⊥
@@ -111,7 +113,7 @@ IsBadKey last bytes Trailing from = ⊥
 pub data IsFaultIn : ℕ → List ℕ → Fault → List ℕ → Type 0 where
   at_value : {room : ℕ} {bytes : List ℕ} {fault : Fault} {from : List ℕ} → IsBadValue room bytes fault from → IsFaultIn room bytes fault from
   in_list : {room : ℕ} {bytes : List ℕ} {fault : Fault} {from : List ℕ} (items : Items) (rest : List ℕ)
-      → bytes ≡ codes "l" ++ items_spelling items ++ rest → ItemsAreLawfulWithin room items → ¬ Begins 101 rest
+      → bytes ≡ codes "l" ++ items_spelling items ++ rest → ItemsAreLawfulWithin room items → ¬ Begins letter_e rest
       → IsFaultIn room rest fault from → IsFaultIn (suc room) bytes fault from
   at_key : {room : ℕ} {bytes : List ℕ} {fault : Fault} {from : List ℕ} (pairs : Pairs) (rest : List ℕ)
       → bytes ≡ codes "d" ++ pairs_spelling pairs ++ rest → AreRising (keys_of pairs) → PairsAreLawfulWithin room pairs
@@ -130,7 +132,7 @@ pub record IsTrailing (bytes : List ℕ) (fault : Fault) (from : List ℕ) : Typ
 
 -- the bytes have this fault at this offset
 abbrev pub IsFaultAt : List ℕ → Fault → ℕ → Type 0
-IsFaultAt bytes fault offset = (from : List ℕ) × (offset + length from ≡ length bytes) × (IsFaultIn 100 bytes fault from ⊎ IsTrailing bytes fault from)
+IsFaultAt bytes fault offset = (from : List ℕ) × (offset + length from ≡ length bytes) × (IsFaultIn MAX_NESTING bytes fault from ⊎ IsTrailing bytes fault from)
 
 -- the same, as an error tells it; want of memory is no fault of the bytes
 abbrev pub IsRefusalOf : List ℕ → BenError → Type 0

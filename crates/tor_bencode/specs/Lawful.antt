@@ -8,6 +8,7 @@ use Rattle.std.specs.declared.cmp.Ordering.TheVariants.{Less}
 use Rattle.std.specs.Prelude.{FitsSigned}
 use Rattle.std.specs.Int.{w64}
 use Rattle.tor_bencode.specs.Data.{Data, integer, string, list, dictionary, Items, no_items, item, Pairs, no_pairs, pair, keys_of}
+use Rattle.tor_bencode.specs.declared.TheConstants.{MAX_NESTING}
 
 -- each key comes before the next one; a key that begins another comes first
 abbrev pub AreRising : List (List ℕ) → Type 0
@@ -80,4 +81,4 @@ pub record PairsAreLawfulWithin (room : ℕ) (pairs : Pairs) : Type 0 where
   pub nesting : pairs_depth pairs ≤ room
 
 abbrev pub IsLawful : Data → Type 0
-IsLawful = IsLawfulWithin 100
+IsLawful = IsLawfulWithin MAX_NESTING

@@ -1,8 +1,9 @@
 pub mod Data
+pub mod Marks
 pub mod Spelling
 pub mod Lawful
 pub mod Find
 pub mod View
-pub mod Reading
 pub mod Fault
 pub mod Place
+pub mod steps

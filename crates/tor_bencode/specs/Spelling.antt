@@ -1,12 +1,13 @@
 -- The one spelling of a tree (BEP 3, "bencoding").
 use Rattle.std.specs.Prelude.{ℕ, zero, suc, ◌+◌, ℤ, pos, negsuc, List, [], ◌++◌, length, map, codes}
 use Rattle.std.specs.Int.Digits.{digits_of}
+use Rattle.tor_bencode.specs.Marks.{digit_zero}
 use Rattle.tor_bencode.specs.Data.{Data, integer, string, list, dictionary, Items, no_items, item, Pairs, no_pairs, pair}
 
 -- the shortest digits of a number in base ten, however large it is, the highest first
 unfoldable pub base_ten : ℕ → List ℕ
 base_ten zero = codes "0"
-base_ten (suc n) = map (λ digit. 48 + digit) (digits_of 10 (suc n))
+base_ten (suc n) = map (λ digit. digit_zero + digit) (digits_of 10 (suc n))
 
 -- the same with a sign, if the number is negative
 abbrev pub signed_base_ten : ℤ → List ℕ

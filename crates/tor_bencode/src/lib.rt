@@ -25,6 +25,9 @@ mod token;
 mod tree;
 mod write;
 
+/// How many lists and dictionaries may be open at once: a limit of this profile.
+pub const MAX_NESTING: usize = 100;
+
 pub use error::BenError;
 pub use fault::Fault;
 pub use item::Item;

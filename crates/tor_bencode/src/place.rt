@@ -1,11 +1,12 @@
 ghost use Rattle.std.specs.Prelude.{◌≡◌, ◌<◌, ◌∷◌, ◌++◌, List, ℕ, length, IfSome, IsSomeAnd};
 ghost use Rattle.tor_bencode.specs.Data.{Data, Items};
 ghost use Rattle.tor_bencode.specs.Lawful.{IsLawful, IsLawfulWithin, ItemsAreLawfulWithin};
+ghost use Rattle.tor_bencode.specs.Marks.{letter_e};
 ghost use Rattle.tor_bencode.specs.Place.{IsTree, place_of};
 ghost use Rattle.tor_bencode.specs.Spelling.{spelling, items_spelling};
 
+use crate::MAX_NESTING;
 use crate::token::{integer, string};
-use crate::tree::MAX_NESTING;
 
 /// Start and end of the raw bytes of a value of the root dictionary; none where the root is no
 /// dictionary or has no such key. The bytes spell a tree, and no memory is taken.
@@ -62,7 +63,7 @@ fn skip<'a>(bytes: &'a [u8], room: usize) -> Option<&'a [u8]>
 #[cycle(skip)]
 fn skip_all<'a>(bytes: &'a [u8], room: usize) -> Option<&'a [u8]>
     ensures skipped { (items : Items) (after : List ℕ) → ItemsAreLawfulWithin room items
-        → bytes.now ≡ items_spelling items ++ 101 ∷ after → IsSomeAnd result (λ rest. rest.now ≡ after) }
+        → bytes.now ≡ items_spelling items ++ letter_e ∷ after → IsSomeAnd result (λ rest. rest.now ≡ after) }
     ensures shorter { IfSome result (λ rest. length rest.now < length bytes.now) }
 {
     let mut rest = bytes;

@@ -2,16 +2,17 @@ ghost use Rattle.std.specs.Prelude.{◌≡◌, ◌<◌, length, true, None, Err,
 ghost use Rattle.tor_bencode.specs.Data.{Data};
 ghost use Rattle.tor_bencode.specs.Fault.{IsRefusalOf, may_take_memory};
 ghost use Rattle.tor_bencode.specs.Lawful.{IsLawful};
-ghost use Rattle.tor_bencode.specs.Reading.{Gives, follows as follows_key, items_at, pairs_at, value_at, whole as whole_of};
+ghost use Rattle.tor_bencode.specs.steps.Reading.{Gives, follows as follows_key, items_at, pairs_at, value_at, whole as whole_of};
 ghost use Rattle.tor_bencode.specs.Spelling.{spelling};
 ghost use Rattle.tor_bencode.specs.View.{view, items_view, pairs_view};
 
+use crate::MAX_NESTING;
 use crate::error::BenError;
 use crate::fault::Fault;
 use crate::item::Item;
 use crate::stop::Stop;
 use crate::token::{integer, string};
-use crate::tree::{MAX_NESTING, Tree};
+use crate::tree::Tree;
 use std::alloc::Global;
 
 /// The one tree that the bytes spell. What is refused is the first fault in reading order (BEP 3,
@@ -33,7 +34,7 @@ pub fn decode(alloc: Global, bytes: &[u8]) -> Result<Tree, BenError>
 }
 
 /// The tree that all of the bytes spell.
-#[tactic(auto, unfolding(crate::specs::Reading::whole))]
+#[tactic(auto, unfolding(crate::specs::steps::Reading::whole))]
 fn whole<'a>(alloc: Global, bytes: &'a [u8]) -> Result<Item, Stop<'a>>
     ensures read { Gives (λ item. view item) result (whole_of bytes.now) }
     ensures memory { result ≡ Err Stop.Memory → may_take_memory bytes.now ≡ true }
@@ -47,7 +48,7 @@ fn whole<'a>(alloc: Global, bytes: &'a [u8]) -> Result<Item, Stop<'a>>
 
 /// A value where `room` lists and dictionaries may still be opened, and the bytes after it.
 #[cycle(read)]
-#[tactic(auto, unfolding(crate::specs::Reading::value_at))]
+#[tactic(auto, unfolding(crate::specs::steps::Reading::value_at))]
 fn value<'a>(alloc: Global, bytes: &'a [u8], room: usize) -> Result<(Item, &'a [u8]), Stop<'a>>
     ensures read { Gives (λ x. (view x.0, x.1.now)) result (value_at room bytes.now) }
     ensures shorter { IfOk result (λ x. length x.1.now < length bytes.now) }

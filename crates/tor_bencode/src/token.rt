@@ -2,13 +2,13 @@ ghost use Rattle.std.specs.Prelude.{◌≡◌, ◌≢◌, ◌<◌, ◌^◌, leng
 ghost use Rattle.std.specs.Char.{is_ascii_digit};
 ghost use Rattle.std.specs.List.{prefix_len, list_all};
 ghost use Rattle.tor_bencode.specs.Fault.{is_integer_byte as is_integer_byte_code};
-ghost use Rattle.tor_bencode.specs.Reading.{Gives, number as number_of_digits, is_shortest as is_shortest_run, is_integer as is_integer_run, is_positive as is_positive_run, integer_of as integer_of_run, string_at, integer_at};
+ghost use Rattle.tor_bencode.specs.steps.Reading.{Gives, number as number_of_digits, is_shortest as is_shortest_run, is_integer as is_integer_run, is_positive as is_positive_run, integer_of as integer_of_run, string_at, integer_at};
 
 use crate::fault::Fault;
 use crate::stop::Stop;
 
 /// A byte string and the bytes after it.
-#[tactic(auto, unfolding(crate::specs::Reading::string_at))]
+#[tactic(auto, unfolding(crate::specs::steps::Reading::string_at))]
 pub(crate) fn string<'a>(bytes: &'a [u8]) -> Result<(&'a [u8], &'a [u8]), Stop<'a>>
     ensures read { Gives (λ x. (x.0.now, x.1.now)) result (string_at bytes.now) }
     ensures shorter { IfOk result (λ x. length x.1.now < length bytes.now) }
@@ -26,7 +26,7 @@ pub(crate) fn string<'a>(bytes: &'a [u8]) -> Result<(&'a [u8], &'a [u8]), Stop<'
 }
 
 /// The integer after an `i`, with which `bytes` begins, and the bytes after it.
-#[tactic(auto, unfolding(crate::specs::Reading::integer_at))]
+#[tactic(auto, unfolding(crate::specs::steps::Reading::integer_at))]
 pub(crate) fn integer<'a>(bytes: &'a [u8], rest: &'a [u8]) -> Result<(i64, &'a [u8]), Stop<'a>>
     ensures read { Gives (λ x. (x.0, x.1.now)) result (integer_at bytes.now rest.now) }
     ensures shorter { IfOk result (λ x. length x.1.now < length rest.now) }
@@ -75,7 +75,7 @@ fn is_shortest(digits: &[u8]) -> bool
 }
 
 /// Whether digits and minus signs are an integer in its one form.
-#[tactic(auto, unfolding(crate::specs::Reading::is_integer))]
+#[tactic(auto, unfolding(crate::specs::steps::Reading::is_integer))]
 fn is_integer(run: &[u8]) -> bool
     ensures { result ≡ is_integer_run run.now }
 {
@@ -103,7 +103,7 @@ fn are_digits(bytes: &[u8]) -> bool
 }
 
 /// The number that digits stand for, where 64 bits hold it.
-#[tactic(auto, unfolding(crate::specs::Reading::number))]
+#[tactic(auto, unfolding(crate::specs::steps::Reading::number))]
 fn number(digits: &[u8]) -> Option<u64>
     ensures { SomeIff result (number_of_digits digits.now < 2 ^ 64) (number_of_digits digits.now) }
 {
@@ -117,7 +117,7 @@ fn number(digits: &[u8]) -> Option<u64>
 }
 
 /// The integer that a sign and digits stand for, where 64 bits hold it.
-#[tactic(auto, unfolding(crate::specs::Reading::integer_of))]
+#[tactic(auto, unfolding(crate::specs::steps::Reading::integer_of))]
 fn integer_of(run: &[u8]) -> Option<i64>
     ensures { result ≡ integer_of_run run.now }
 {

@@ -3,12 +3,10 @@ ghost use Rattle.tor_bencode.specs.Data.{keys_of};
 ghost use Rattle.tor_bencode.specs.Lawful.{AreRising, IsLawful, IsLawfulWithin, ItemsAreLawfulWithin, PairsAreLawfulWithin};
 ghost use Rattle.tor_bencode.specs.View.{view, items_view, pairs_view};
 
+use crate::MAX_NESTING;
 use crate::item::Item;
 use crate::order::comes_before;
 use std::marker::Model;
-
-/// How many lists and dictionaries may be open at once.
-pub(crate) const MAX_NESTING: usize = 100;
 
 /// An item that has a place in a torrent: the keys of each dictionary strictly rise as raw bytes,
 /// and at most 100 lists and dictionaries are open at once.

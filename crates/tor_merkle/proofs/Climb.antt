@@ -30,12 +30,14 @@ pub below_top : (content : List ℕ) (k : ℕ) → 16384 * 2 ^ k < length conten
 below_top content k lt = height_above (length (leaves content)) k (longer_than_piece content k lt)
 
 -- a level of more than one hash is below the top, and the only other one is the top
-pub more_levels : (content : List ℕ) (k : ℕ) (hashes : List (List ℕ)) → hashes ≡ nodes 0 (leaves content) k → 1 < length hashes → k < tree_height content
+pub more_levels : (content : List ℕ) (k : ℕ) (hashes : List (List ℕ)) → hashes ≡ nodes 0 (leaves content) k
+    → 1 < length hashes → k < tree_height content
 more_levels content k hashes is more =
     let two : 1 < div_ceil (length (leaves content)) (2 ^ k) = omega (arith, ap length is, length-nodes 0 (leaves content) k) in
     height_above (length (leaves content)) k (omega (arith, below_from_ceil (length (leaves content)) (2 ^ k) 1 (pow_pos k) two))
 
-pub last_level : (content : List ℕ) (k : ℕ) (hashes : List (List ℕ)) → hashes ≡ nodes 0 (leaves content) k → k ≤ tree_height content → length hashes ≤ 1
+pub last_level : (content : List ℕ) (k : ℕ) (hashes : List (List ℕ)) → hashes ≡ nodes 0 (leaves content) k
+    → k ≤ tree_height content → length hashes ≤ 1
     → k ≡ tree_height content
 last_level content k hashes is within one =
     let few = ceil_covers (length (leaves content)) (2 ^ k) (pow_pos k) in
@@ -55,7 +57,8 @@ some_node content k pos =
     omega (arith, length-nodes 0 (leaves content) k, ceil_from_below (length (leaves content)) (2 ^ k) 0 (pow_pos k) (omega arith))
 
 -- the only hash of the top is the root
-pub top_hash : (content : List ℕ) (k : ℕ) (hashes : List (List ℕ)) (d : List ℕ) → 0 < length content → k ≡ tree_height content
+pub top_hash : (content : List ℕ) (k : ℕ) (hashes : List (List ℕ)) (d : List ℕ) → 0 < length content
+    → k ≡ tree_height content
     → hashes ≡ nodes 0 (leaves content) k → get_or hashes 0 d ≡ pieces_root content
 top_hash content k hashes d pos top is =
     ap (λ xs. get_or xs 0 d) is
@@ -65,11 +68,13 @@ top_hash content k hashes d pos top is =
     ∙ sym (pieces_root-node content)
 
 -- the piece layer, by whether there is more than one piece
-pub piece_layer-nodes : (content : List ℕ) (k : ℕ) → 16384 * 2 ^ k < length content → piece_layer content (16384 * 2 ^ k) ≡ nodes 0 (leaves content) k
+pub piece_layer-nodes : (content : List ℕ) (k : ℕ) → 16384 * 2 ^ k < length content
+    → piece_layer content (16384 * 2 ^ k) ≡ nodes 0 (leaves content) k
 unfolding piece_layer
 piece_layer-nodes content k lt = cond-false _ [] _ (lt-leb _ _ lt) ∙ piece_roots-nodes content k lt
 
-pub piece_layer-none : (content : List ℕ) (piece_length : ℕ) → length content ≤ piece_length → piece_layer content piece_length ≡ []
+pub piece_layer-none : (content : List ℕ) (piece_length : ℕ) → length content ≤ piece_length
+    → piece_layer content piece_length ≡ []
 unfolding piece_layer
 piece_layer-none content piece_length le = cond-true _ [] _ (le-leb _ _ le)
 

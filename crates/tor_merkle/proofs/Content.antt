@@ -26,7 +26,8 @@ unfolding zero_subtree
 zero_leaf_is = refl
 
 -- the root is the top node
-pub pieces_root-node : (content : List ℕ) → pieces_root content ≡ node 0 (leaves content) (height (length (leaves content))) 0
+pub pieces_root-node : (content : List ℕ)
+    → pieces_root content ≡ node 0 (leaves content) (height (length (leaves content))) 0
 unfolding pieces_root
 pieces_root-node content =
     let top = height (length (leaves content)) in
@@ -41,7 +42,8 @@ run_fits k top i le lt =
     omega (arith, mul-le-mul_right {m = i + 1} {n = 2 ^ (top - k)} (2 ^ k) (omega arith))
 
 -- there are as many pieces as nodes of their level
-pub count-pieces : (content : List ℕ) (k : ℕ) → div_ceil (length content) (16384 * 2 ^ k) ≡ div_ceil (length (leaves content)) (2 ^ k)
+pub count-pieces : (content : List ℕ) (k : ℕ)
+    → div_ceil (length content) (16384 * 2 ^ k) ≡ div_ceil (length (leaves content)) (2 ^ k)
 count-pieces content k =
     ap (div_ceil (length content)) (mul_comm 16384 (2 ^ k))
     ∙ sym (ceil_ceil (length content) 16384 (2 ^ k) (omega arith) (pow_pos k))
@@ -53,7 +55,8 @@ longer_than_piece content k lt =
     rw length-leaves (ceil_from_below (length content) 16384 (2 ^ k) (omega arith) (omega arith))
 
 -- the roots of the pieces are the nodes of their level, where there is more than one piece
-pub piece_roots-nodes : (content : List ℕ) (k : ℕ) → 16384 * 2 ^ k < length content → piece_roots content (16384 * 2 ^ k) ≡ nodes 0 (leaves content) k
+pub piece_roots-nodes : (content : List ℕ) (k : ℕ) → 16384 * 2 ^ k < length content
+    → piece_roots content (16384 * 2 ^ k) ≡ nodes 0 (leaves content) k
 unfolding piece_roots nodes
 piece_roots-nodes content k lt =
     let top = height (length (leaves content)) in

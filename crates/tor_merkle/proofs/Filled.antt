@@ -7,7 +7,7 @@ use Rattle.std.proofs.lemmas.List.FromFn.{map-range_with_len_more, length-map-ra
 use Rattle.std.specs.Int.{div_ceil}
 use Rattle.std.specs.List.{range_with_len}
 use Rattle.tor_merkle.specs.Node.{node, nodes, first_nodes}
-use Rattle.tor_merkle.specs.Pieces.{filled}
+use Rattle.tor_merkle.specs.steps.Pieces.{filled}
 use Rattle.tor_merkle.specs.Stack.{padded_subtree, padded_root}
 use Rattle.tor_merkle.specs.Subtree.{node_of, zero_leaf, zero_subtree, height}
 use Rattle.tor_merkle.proofs.Ceil.{ceil_from_below, ceil_at_most, ceil_covers}
@@ -17,7 +17,8 @@ use Rattle.tor_merkle.proofs.Node.{node-append, subtree_root-padded}
 use Rattle.tor_merkle.proofs.Places.{div_between}
 
 -- the nodes over the rest of a list are those of the list, further on
-pub node-drop : (base : ℕ) (hashes : List (List ℕ)) (a k j : ℕ) → node base (drop (a * 2 ^ k) hashes) k j ≡ node base hashes k (a + j)
+pub node-drop : (base : ℕ) (hashes : List (List ℕ)) (a k j : ℕ)
+    → node base (drop (a * 2 ^ k) hashes) k j ≡ node base hashes k (a + j)
 unfolding node
 node-drop base hashes a zero j = get_or-drop (a * 1) hashes j (zero_subtree base) ∙ ap (λ i. get_or hashes i (zero_subtree base)) (omega arith)
 node-drop base hashes a (suc k) j =
@@ -48,7 +49,8 @@ height-ceil n k more =
     le_antisymm low (omega (arith, height_least count (height n - k) few))
 
 -- the root over the hashes of the pieces is that over the leaves
-pub padded_root-nodes : (hashes : List (List ℕ)) (k : ℕ) → 2 ^ k < length hashes → padded_root k (nodes 0 hashes k) ≡ padded_root 0 hashes
+pub padded_root-nodes : (hashes : List (List ℕ)) (k : ℕ) → 2 ^ k < length hashes
+    → padded_root k (nodes 0 hashes k) ≡ padded_root 0 hashes
 unfolding padded_root
 padded_root-nodes hashes k more =
     let count = length (nodes 0 hashes k) in
@@ -82,20 +84,23 @@ module _ (k : ℕ) (leaves : List (List ℕ)) where
       ∙ sym (map-range_with_len_more (node 0 leaves k) 0 q q (zero-add q))
 
   -- the nodes of filled pieces stay
-  pub first_nodes-push : (leaf : List ℕ) (n : ℕ) → n * 2 ^ k ≤ length leaves → first_nodes 0 leaves k n ≡ first_nodes 0 (leaves ++ leaf ∷ []) k n
+  pub first_nodes-push : (leaf : List ℕ) (n : ℕ) → n * 2 ^ k ≤ length leaves
+      → first_nodes 0 leaves k n ≡ first_nodes 0 (leaves ++ leaf ∷ []) k n
   unfolding first_nodes
   first_nodes-push leaf n le =
       map-range_same (node 0 leaves k) (node 0 (leaves ++ leaf ∷ []) k) n zero_leaf
       (λ i lt. sym (node-append 0 leaves (leaf ∷ []) k i (le_trans (mul-le-mul_right {n = n} (2 ^ k) (omega arith)) le)))
 
   -- one leaf more begins a piece exactly where the last is full
-  pub filled_full : (leaf : List ℕ) → length (drop (filled k leaves * 2 ^ k) leaves) ≡ 2 ^ k → filled k (leaves ++ leaf ∷ []) ≡ filled k leaves + 1
+  pub filled_full : (leaf : List ℕ) → length (drop (filled k leaves * 2 ^ k) leaves) ≡ 2 ^ k
+      → filled k (leaves ++ leaf ∷ []) ≡ filled k leaves + 1
   filled_full leaf full =
       let n : length leaves ≡ (filled k leaves + 1) * 2 ^ k = omega (arith, length-last_piece, full, pow_pos k) in
       ap (λ x. x / 2 ^ k) (let same : length (leaves ++ leaf ∷ []) - 1 ≡ length leaves = omega (arith, length_push leaves leaf) in same)
       ∙ div_between (length leaves) k (filled k leaves + 1) (omega (arith, n)) (omega (arith, n, pow_pos k))
 
-  pub filled_open : (leaf : List ℕ) → (length (drop (filled k leaves * 2 ^ k) leaves) ≡ 2 ^ k → ⊥) → filled k (leaves ++ leaf ∷ []) ≡ filled k leaves
+  pub filled_open : (leaf : List ℕ) → (length (drop (filled k leaves * 2 ^ k) leaves) ≡ 2 ^ k → ⊥)
+      → filled k (leaves ++ leaf ∷ []) ≡ filled k leaves
   filled_open leaf open_still =
       let below : filled k leaves * 2 ^ k ≤ length leaves = elim (cases_lt 0 (length leaves)) [
         | inl some ↦ omega (arith, filled_below some)

@@ -6,7 +6,8 @@ use Rattle.std.proofs.lemmas.Bool.{cases_Bool, cases_lt, cond-true, cond-false}
 use Rattle.tor_merkle.specs.Subtree.{height}
 
 -- what one more does to the height
-height_more : (n : ℕ) → ((suc n ≤ 2 ^ height n) × (height (suc n) ≡ height n)) ⊎ ((2 ^ height n < suc n) × (height (suc n) ≡ suc (height n)))
+height_more : (n : ℕ)
+    → ((suc n ≤ 2 ^ height n) × (height (suc n) ≡ height n)) ⊎ ((2 ^ height n < suc n) × (height (suc n) ≡ suc (height n)))
 unfolding height
 height_more n = elim (cases_Bool (leb (suc n) (2 ^ height n))) [
   | inl e ↦ inl (leb-true _ _ e, cond-true _ _ _ e)

@@ -6,7 +6,7 @@ use Rattle.std.proofs.Math.Nat.{zero-div}
 use Rattle.std.specs.List.{range_with_len}
 use Rattle.std.specs.Int.{div_ceil}
 use Rattle.tor_merkle.specs.Node.{node, nodes, first_nodes}
-use Rattle.tor_merkle.specs.Pieces.{KeepsPieces, filled}
+use Rattle.tor_merkle.specs.steps.Pieces.{KeepsPieces, EndsPiece, filled}
 use Rattle.tor_merkle.specs.Stack.{Subtrees, padded_subtree}
 use Rattle.tor_merkle.proofs.Filled.{filled_below, filled_covers, length-last_piece, first_nodes_closed, first_nodes-push, filled_full, filled_open, all_filled, first_nodes_all, length-first_nodes, one_piece, more_pieces}
 
@@ -17,23 +17,37 @@ module _ (k : ℕ) (leaves : List (List ℕ)) (blocks pieces : Subtrees) (layer 
   length-closed : length pieces.hashes ≡ filled k leaves
   length-closed = ap length keeps.closed ∙ length-first_nodes k leaves (filled k leaves)
 
-  pub blocks_fit : length blocks.hashes ≤ 2 ^ k
+  blocks_fit : length blocks.hashes ≤ 2 ^ k
   blocks_fit = omega (arith, length-stacked, filled_covers k leaves)
 
-  pub blocks_some : 0 < length leaves → 0 < length blocks.hashes
+  blocks_some : 0 < length leaves → 0 < length blocks.hashes
   blocks_some some = omega (arith, length-stacked, filled_below k leaves some)
 
   pub leaves_some : 0 < length blocks.hashes → 0 < length leaves
   leaves_some some = omega (arith, length-stacked)
 
-  pub pieces_fit : 0 < length leaves → length pieces.hashes < 2 ^ (36 - k)
+  pieces_fit : 0 < length leaves → length pieces.hashes < 2 ^ (36 - k)
   pieces_fit some =
       let all : 2 ^ 36 ≡ 2 ^ (36 - k) * 2 ^ k = ap (λ n. 2 ^ n) (let whole : 36 ≡ 36 - k + k = omega (arith, keeps.low) in whole) ∙ pow-add 2 (36 - k) k in
       let less : filled k leaves < 2 ^ (36 - k) = lt_of_mul-lt-mul_right (2 ^ k) (omega (arith, filled_below k leaves some, keeps.small, all)) in
       omega (arith, length-closed)
 
-  pub layer_fits : (room : ℕ) → 0 < length leaves → div_ceil (length leaves) (2 ^ k) ≤ room → length layer < room
+  layer_fits : (room : ℕ) → 0 < length leaves → div_ceil (length leaves) (2 ^ k) ≤ room → length layer < room
   layer_fits room some le = omega (arith, ap length keeps.listed, length-closed, all_filled k leaves some)
+
+  -- the last piece may end
+  pub ends_piece : (hashes room : ℕ) → hashes ≡ length layer → 0 < length leaves
+      → div_ceil (length leaves) (2 ^ k) ≤ room
+      → EndsPiece k blocks pieces hashes room
+  ends_piece hashes room is some le = record {
+    low = keeps.low;
+    block_level = keeps.block_level;
+    some = blocks_some some;
+    within = blocks_fit;
+    piece_level = keeps.piece_level;
+    stack = pieces_fit some;
+    fits = omega (arith, layer_fits room some le);
+  }
 
   -- a leaf that the last piece has room for
   pub keeps_open : (leaf : List ℕ) (blocks' : Subtrees) → (length blocks.hashes ≡ 2 ^ k → ⊥) → length leaves < 2 ^ 36
@@ -59,7 +73,8 @@ module _ (k : ℕ) (leaves : List (List ℕ)) (blocks pieces : Subtrees) (layer 
       }
 
   -- a leaf after a full piece
-  pub keeps_closed : (leaf : List ℕ) (blocks' pieces' : Subtrees) (layer' : List (List ℕ)) → length blocks.hashes ≡ 2 ^ k → length leaves < 2 ^ 36
+  pub keeps_closed : (leaf : List ℕ) (blocks' pieces' : Subtrees) (layer' : List (List ℕ))
+      → length blocks.hashes ≡ 2 ^ k → length leaves < 2 ^ 36
       → blocks'.level ≡ 0 → blocks'.hashes ≡ leaf ∷ []
       → pieces'.level ≡ k → pieces'.hashes ≡ pieces.hashes ++ padded_subtree k 0 blocks.hashes ∷ []
       → layer' ≡ layer ++ padded_subtree k 0 blocks.hashes ∷ []
@@ -101,7 +116,8 @@ module _ (k : ℕ) (leaves : List (List ℕ)) (blocks pieces : Subtrees) (layer 
       ap₂ (λ xs ys. xs ++ padded_subtree k 0 ys ∷ []) keeps.closed keeps.stacked ∙ first_nodes_closed k leaves some ∙ first_nodes_all k leaves some
 
 -- before the first leaf
-pub keeps_none : (k : ℕ) (blocks pieces : Subtrees) (layer : List (List ℕ)) → k ≤ 16 → blocks.level ≡ 0 → blocks.hashes ≡ [] → pieces.level ≡ k → pieces.hashes ≡ []
+pub keeps_none : (k : ℕ) (blocks pieces : Subtrees) (layer : List (List ℕ)) → k ≤ 16 → blocks.level ≡ 0
+    → blocks.hashes ≡ [] → pieces.level ≡ k → pieces.hashes ≡ []
     → layer ≡ [] → KeepsPieces k [] blocks pieces layer
 unfolding first_nodes
 keeps_none k blocks pieces layer low block_level no_blocks piece_level no_pieces no_layer = record {

@@ -8,7 +8,7 @@ use Rattle.sha2.specs.Hashers.{Holds256}
 use Rattle.sha2.specs.Sha256.{sha256}
 use Rattle.sha2.specs.declared.Sha256.{Sha256}
 use Rattle.tor_merkle.specs.Block.{run_at, blocks, leaves}
-use Rattle.tor_merkle.specs.Feeding.{KeepsBlocks, in_blocks}
+use Rattle.tor_merkle.specs.steps.Blocks.{KeepsBlocks, in_blocks}
 use Rattle.tor_merkle.proofs.Ceil.{ceil_at_most, ceil_covers, ceil_from_below}
 use Rattle.tor_merkle.proofs.Content.{length-leaves}
 use Rattle.tor_merkle.proofs.Levels.{map-range_same}
@@ -18,13 +18,15 @@ unfolding leaves blocks
 leaves-nil = refl
 
 -- whole runs stay where elements are added at the end
-run_at-append : {X : Type 0} (xs ys : List X) (size i : ℕ) → (i + 1) * size ≤ length xs → run_at size (xs ++ ys) i ≡ run_at size xs i
+run_at-append : {X : Type 0} (xs ys : List X) (size i : ℕ) → (i + 1) * size ≤ length xs
+    → run_at size (xs ++ ys) i ≡ run_at size xs i
 run_at-append xs ys size i le =
     ap (take size) (drop-append-le (i * size) xs ys (omega arith))
     ∙ take-append-le size (drop (i * size) xs) ys (omega (arith, length-drop (i * size) xs))
 
 -- one block more is one leaf more
-pub leaves-push : (xs ys : List ℕ) (b : ℕ) → length xs ≡ b * 16384 → 0 < length ys → length ys ≤ 16384 → leaves (xs ++ ys) ≡ leaves xs ++ sha256 ys ∷ []
+pub leaves-push : (xs ys : List ℕ) (b : ℕ) → length xs ≡ b * 16384 → 0 < length ys → length ys ≤ 16384
+    → leaves (xs ++ ys) ≡ leaves xs ++ sha256 ys ∷ []
 unfolding leaves blocks
 leaves-push xs ys b whole some short =
     let count : div_ceil (length (xs ++ ys)) 16384 ≡ b + 1 = le_antisymm
@@ -57,11 +59,13 @@ module _ (count : ℕ) (hasher : Sha256) (done : List (List ℕ)) (bytes : List 
       (le_of_mul-le-mul_right {m = count / 16384} {n = div_ceil n 16384} {k = 16384} (omega (arith, ceil_covers n 16384 (omega arith), length-front)) (omega arith))
 
   -- one leaf more is within the tree
-  pub done_small : (more : ℕ) → count / 16384 * 16384 < length bytes + more → length bytes + more ≤ 2 ^ 50 → length done < 2 ^ 36
+  pub done_small : (more : ℕ) → count / 16384 * 16384 < length bytes + more → length bytes + more ≤ 2 ^ 50
+      → length done < 2 ^ 36
   done_small more lt le = omega (arith, length-done)
 
   -- and there is room for the pieces begun
-  pub done_room : (more k room : ℕ) → div_ceil (length bytes + more) (16384 * 2 ^ k) ≤ room → div_ceil (length done) (2 ^ k) ≤ room
+  pub done_room : (more k room : ℕ) → div_ceil (length bytes + more) (16384 * 2 ^ k) ≤ room
+      → div_ceil (length done) (2 ^ k) ≤ room
   done_room more k room le =
       let pos : 0 < 16384 * 2 ^ k = omega (arith, pow_pos k) in
       let all = ceil_covers (length bytes + more) (16384 * 2 ^ k) pos in
@@ -71,7 +75,8 @@ module _ (count : ℕ) (hasher : Sha256) (done : List (List ℕ)) (bytes : List 
       le_trans (ceil_at_most (length done) (2 ^ k) (div_ceil (length bytes + more) (16384 * 2 ^ k)) (pow_pos k) few) le
 
   -- a part that does not end its block
-  pub adds_open : (part : List ℕ) (hasher' : Sha256) → count % 16384 + length part ≤ 16384 → length bytes + length part ≤ 2 ^ 50
+  pub adds_open : (part : List ℕ) (hasher' : Sha256) → count % 16384 + length part ≤ 16384
+      → length bytes + length part ≤ 2 ^ 50
       → ((count + length part) % 16384 ≡ 0 → ⊥) → ((m : List ℕ) → Holds256 hasher m → Holds256 hasher' (m ++ part))
       → KeepsBlocks (count + length part) hasher' done (bytes ++ part)
   adds_open part hasher' fits small open_still holds =
@@ -97,8 +102,10 @@ module _ (count : ℕ) (hasher : Sha256) (done : List (List ℕ)) (bytes : List 
       ∙ ap leaves (joined part)
 
   -- a part that ends its block
-  pub adds_full : (part : List ℕ) (hasher' : Sha256) (done' : List (List ℕ)) → 0 < length part → count % 16384 + length part ≤ 16384 → length bytes + length part ≤ 2 ^ 50
-      → (count + length part) % 16384 ≡ 0 → done' ≡ done ++ sha256 (drop (in_blocks count) bytes ++ part) ∷ [] → Holds256 hasher' []
+  pub adds_full : (part : List ℕ) (hasher' : Sha256) (done' : List (List ℕ)) → 0 < length part
+      → count % 16384 + length part ≤ 16384 → length bytes + length part ≤ 2 ^ 50
+      → (count + length part) % 16384 ≡ 0 → done' ≡ done ++ sha256 (drop (in_blocks count) bytes ++ part) ∷ []
+      → Holds256 hasher' []
       → KeepsBlocks (count + length part) hasher' done' (bytes ++ part)
   adds_full part hasher' done' some fits small full is holds =
       let long : length (bytes ++ part) ≡ count + length part = length-append bytes part ∙ omega (arith, keeps.counted) in

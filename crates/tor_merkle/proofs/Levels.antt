@@ -12,16 +12,19 @@ use Rattle.tor_merkle.specs.Node.{node, nodes}
 use Rattle.tor_merkle.proofs.Node.{node_past}
 
 -- lists of the values of two functions are equal where the functions are
-pub map-range_same : {X : Type 0} (f g : ℕ → X) (n : ℕ) (d : X) → ((i : ℕ) → i < n → f i ≡ g i) → map f (range_with_len 0 n) ≡ map g (range_with_len 0 n)
+pub map-range_same : {X : Type 0} (f g : ℕ → X) (n : ℕ) (d : X) → ((i : ℕ) → i < n → f i ≡ g i)
+    → map f (range_with_len 0 n) ≡ map g (range_with_len 0 n)
 map-range_same f g n d same =
     fill_by_all g (map f (range_with_len 0 n)) n d (length-map-range_with_len f 0 n)
     (λ i lt. get_or-map-range_with_len f 0 n i i d lt (zero-add i) ∙ same i lt)
 
-pub length-nodes : (base : ℕ) (hashes : List (List ℕ)) (k : ℕ) → length (nodes base hashes k) ≡ div_ceil (length hashes) (2 ^ k)
+pub length-nodes : (base : ℕ) (hashes : List (List ℕ)) (k : ℕ)
+    → length (nodes base hashes k) ≡ div_ceil (length hashes) (2 ^ k)
 unfolding nodes
 length-nodes base hashes k = length-map-range_with_len (node base hashes k) 0 (div_ceil (length hashes) (2 ^ k))
 
-pub get_or-nodes : (base : ℕ) (hashes : List (List ℕ)) (k i : ℕ) → get_or (nodes base hashes k) i (zero_subtree (base + k)) ≡ node base hashes k i
+pub get_or-nodes : (base : ℕ) (hashes : List (List ℕ)) (k i : ℕ)
+    → get_or (nodes base hashes k) i (zero_subtree (base + k)) ≡ node base hashes k i
 unfolding nodes
 get_or-nodes base hashes k i =
     let count = div_ceil (length hashes) (2 ^ k) in
@@ -45,7 +48,8 @@ nodes-zero base hashes =
     (sym (ceil-one (length hashes))) (λ _ _. refl))
 
 -- each level is the level above the one below it
-pub level_above-nodes : (base : ℕ) (hashes : List (List ℕ)) (k : ℕ) → level_above (zero_subtree (base + k)) (nodes base hashes k) ≡ nodes base hashes (suc k)
+pub level_above-nodes : (base : ℕ) (hashes : List (List ℕ)) (k : ℕ)
+    → level_above (zero_subtree (base + k)) (nodes base hashes k) ≡ nodes base hashes (suc k)
 unfolding level_above nodes node
 level_above-nodes base hashes k =
     let count : div_ceil (length (nodes base hashes k)) 2 ≡ div_ceil (length hashes) (2 ^ suc k) =

@@ -13,3 +13,4 @@ pub mod Filled
 pub mod Keeps
 pub mod Leaves
 pub mod Sums
+pub mod ProvedLaws

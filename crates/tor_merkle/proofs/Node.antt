@@ -8,7 +8,8 @@ use Rattle.tor_merkle.specs.Node.{node}
 use Rattle.tor_merkle.specs.Subtree.{node_of, zero_leaf, zero_subtree, subtree_root, padded}
 
 -- a node wholly past the end
-pub node_past : (base : ℕ) (hashes : List (List ℕ)) (k i : ℕ) → length hashes ≤ i * 2 ^ k → node base hashes k i ≡ zero_subtree (base + k)
+pub node_past : (base : ℕ) (hashes : List (List ℕ)) (k i : ℕ) → length hashes ≤ i * 2 ^ k
+    → node base hashes k i ≡ zero_subtree (base + k)
 unfolding node zero_subtree
 node_past base hashes zero i past = rw add-zero (get_or_past hashes i _ (omega arith))
 node_past base hashes (suc k) i past =
@@ -24,7 +25,8 @@ left_half xs k i =
     let start : i * 2 ^ suc k ≡ 2 * i * 2 ^ k = rw wide (omega arith) in
     take-take (2 ^ k) (2 ^ suc k) (drop (i * 2 ^ suc k) xs) (omega arith) ∙ ap (λ a. take (2 ^ k) (drop a xs)) start
 
-right_half : {X : Type 0} (xs : List X) (k i : ℕ) → drop (2 ^ k) (run_at (2 ^ suc k) xs i) ≡ run_at (2 ^ k) xs (2 * i + 1)
+right_half : {X : Type 0} (xs : List X) (k i : ℕ)
+    → drop (2 ^ k) (run_at (2 ^ suc k) xs i) ≡ run_at (2 ^ k) xs (2 * i + 1)
 right_half xs k i =
     let wide = two-pow-succ k in
     let start : i * 2 ^ suc k + 2 ^ k ≡ (2 * i + 1) * 2 ^ k = rw wide (omega arith) in
@@ -35,7 +37,8 @@ right_half xs k i =
 
 -- the root of a whole run of a list that has the hashes, and then padding, is a node
 module _ (base : ℕ) (hashes all : List (List ℕ)) (same : (j : ℕ) → j < length all → get_or all j zero_leaf ≡ get_or hashes j (zero_subtree base)) where
-  pub subtree_root-run : (k i : ℕ) → (i + 1) * 2 ^ k ≤ length all → subtree_root k (run_at (2 ^ k) all i) ≡ node base hashes k i
+  pub subtree_root-run : (k i : ℕ) → (i + 1) * 2 ^ k ≤ length all
+      → subtree_root k (run_at (2 ^ k) all i) ≡ node base hashes k i
   unfolding node subtree_root
   subtree_root-run zero i le =
       get_or-take 1 (drop (i * 1) all) 0 zero_leaf (omega arith)
@@ -48,10 +51,12 @@ module _ (base : ℕ) (hashes all : List (List ℕ)) (same : (j : ℕ) → j < l
       (ap (subtree_root k) (left_half all k i) ∙ subtree_root-run k (2 * i) (omega arith))
       (ap (subtree_root k) (right_half all k i) ∙ subtree_root-run k (2 * i + 1) (omega arith))
 
-pub length-padded : (k : ℕ) (padding : List ℕ) (hashes : List (List ℕ)) → length hashes ≤ 2 ^ k → length (padded k padding hashes) ≡ 2 ^ k
+pub length-padded : (k : ℕ) (padding : List ℕ) (hashes : List (List ℕ)) → length hashes ≤ 2 ^ k
+    → length (padded k padding hashes) ≡ 2 ^ k
 length-padded k padding hashes le = simp (length-append, length-replicate) (omega arith)
 
-pub get_or-padded : (k base : ℕ) (hashes : List (List ℕ)) (j : ℕ) → length hashes ≤ 2 ^ k → j < 2 ^ k → get_or (padded k (zero_subtree base) hashes) j zero_leaf ≡ get_or hashes j (zero_subtree base)
+pub get_or-padded : (k base : ℕ) (hashes : List (List ℕ)) (j : ℕ) → length hashes ≤ 2 ^ k → j < 2 ^ k
+    → get_or (padded k (zero_subtree base) hashes) j zero_leaf ≡ get_or hashes j (zero_subtree base)
 get_or-padded k base hashes j le lt =
     let rest = replicate (2 ^ k - length hashes) (zero_subtree base) in
     elim (cases_lt j (length hashes)) [
@@ -63,7 +68,8 @@ get_or-padded k base hashes j le lt =
     ]
 
 -- the root of a run of the padded hashes, and of all of them
-pub subtree_root-padded_run : (base : ℕ) (hashes : List (List ℕ)) (top k i : ℕ) → length hashes ≤ 2 ^ top → (i + 1) * 2 ^ k ≤ 2 ^ top
+pub subtree_root-padded_run : (base : ℕ) (hashes : List (List ℕ)) (top k i : ℕ) → length hashes ≤ 2 ^ top
+    → (i + 1) * 2 ^ k ≤ 2 ^ top
     → subtree_root k (run_at (2 ^ k) (padded top (zero_subtree base) hashes) i) ≡ node base hashes k i
 subtree_root-padded_run base hashes top k i fits le =
     let len = length-padded top (zero_subtree base) hashes fits in
@@ -80,7 +86,8 @@ subtree_root-padded base hashes top fits =
     ap (subtree_root top) (sym one_run) ∙ subtree_root-padded_run base hashes top top 0 fits (omega arith)
 
 -- whole nodes stay where hashes are added at the end
-pub node-append : (base : ℕ) (hashes more : List (List ℕ)) (k i : ℕ) → (i + 1) * 2 ^ k ≤ length hashes → node base (hashes ++ more) k i ≡ node base hashes k i
+pub node-append : (base : ℕ) (hashes more : List (List ℕ)) (k i : ℕ) → (i + 1) * 2 ^ k ≤ length hashes
+    → node base (hashes ++ more) k i ≡ node base hashes k i
 unfolding node
 node-append base hashes more zero i le = get_or_append_left hashes more (zero_subtree base) i (omega arith)
 node-append base hashes more (suc k) i le =

@@ -16,7 +16,8 @@ pub div_between : (n j q : ℕ) → q * 2 ^ j ≤ n → n < (q + 1) * 2 ^ j → 
 div_between n j q le lt = div-eq_of_lt-le (2 ^ j) le lt
 
 -- above an even digit j, a number and the next have the same digits
-pub same_above : (n rest j d : ℕ) → n + 1 ≡ (rest + 1) * 2 ^ j → rest % 2 ≡ 0 → (n + 1) / 2 ^ (j + suc d) ≡ n / 2 ^ (j + suc d)
+pub same_above : (n rest j d : ℕ) → n + 1 ≡ (rest + 1) * 2 ^ j → rest % 2 ≡ 0
+    → (n + 1) / 2 ^ (j + suc d) ≡ n / 2 ^ (j + suc d)
 same_above n rest j d e even =
     let up = λ (m : ℕ). ap (λ x. m / x) (pow-add 2 j (suc d)) ∙ sym (div-div-eq-div-mul m (2 ^ j) (2 ^ suc d))
     ∙ ap (λ x. m / 2 ^ j / x) (pow-succ' 2 d) ∙ sym (div-div-eq-div-mul (m / 2 ^ j) 2 (2 ^ d)) in

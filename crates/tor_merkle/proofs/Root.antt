@@ -3,7 +3,8 @@ use Rattle.std.proofs.Common.{◌≡◌, ℕ, suc, ◌+◌, ◌-◌, ◌*◌, �
 use Rattle.std.proofs.Math.Nat.{mul-div_cancel, two-pow-succ}
 use Rattle.std.proofs.lemmas.Bool.{cases_eq}
 use Rattle.tor_merkle.specs.Node.{node}
-use Rattle.tor_merkle.specs.Stack.{KeepsTops, padded_subtree}
+use Rattle.tor_merkle.specs.steps.Tops.{KeepsTops}
+use Rattle.tor_merkle.specs.Stack.{padded_subtree}
 use Rattle.tor_merkle.specs.Subtree.{node_of, zero_leaf, zero_subtree}
 use Rattle.tor_merkle.proofs.Node.{node_past, subtree_root-padded}
 use Rattle.tor_merkle.proofs.Tops.{top_left}
@@ -17,7 +18,8 @@ pub record IsLastNode (level count : ℕ) (hashes : List (List ℕ)) (j place : 
 
 module _ (level count : ℕ) (tops hashes : List (List ℕ)) (keeps : KeepsTops level count tops hashes) where
   -- the lowest digit that is 1 tells the last whole node
-  pub last_whole : (j odd : ℕ) → count ≡ odd * 2 ^ j → odd % 2 ≡ 1 → IsLastNode level count hashes j (odd - 1) (get_or tops j zero_leaf)
+  pub last_whole : (j odd : ℕ) → count ≡ odd * 2 ^ j → odd % 2 ≡ 1
+      → IsLastNode level count hashes j (odd - 1) (get_or tops j zero_leaf)
   last_whole j odd e one =
       let pos = pow_pos j in
       let q : count / 2 ^ j ≡ odd = ap (λ x. x / 2 ^ j) e ∙ mul-div_cancel odd pos in
@@ -46,7 +48,8 @@ module _ (level count : ℕ) (tops hashes : List (List ℕ)) (keeps : KeepsTops 
         ]
 
     -- at an odd place, the kept hash stands on its left
-    pub last_right : place % 2 ≡ 1 → IsLastNode level count hashes (suc j) (place / 2) (node_of (get_or tops j zero_leaf) top)
+    pub last_right : place % 2 ≡ 1
+        → IsLastNode level count hashes (suc j) (place / 2) (node_of (get_or tops j zero_leaf) top)
     unfolding node
     last_right odd = record {
       low = above_low;
@@ -56,7 +59,8 @@ module _ (level count : ℕ) (tops hashes : List (List ℕ)) (keeps : KeepsTops 
     }
 
     -- at an even place, nothing stands on its right
-    pub last_left : place % 2 ≡ 0 → IsLastNode level count hashes (suc j) (place / 2) (node_of top (zero_subtree (level + j)))
+    pub last_left : place % 2 ≡ 0
+        → IsLastNode level count hashes (suc j) (place / 2) (node_of top (zero_subtree (level + j)))
     unfolding node
     last_left even =
         let same : place ≡ 2 * (place / 2) = omega arith in

@@ -3,7 +3,7 @@ use Rattle.std.proofs.Common.{◌≡◌, ℕ, suc, ◌+◌, ◌-◌, ◌*◌, �
 use Rattle.std.proofs.lemmas.Bool.{cases_order}
 use Rattle.std.proofs.lemmas.List.{length_push}
 use Rattle.tor_merkle.specs.Node.{node}
-use Rattle.tor_merkle.specs.Stack.{KeepsTops}
+use Rattle.tor_merkle.specs.steps.Tops.{KeepsTops}
 use Rattle.tor_merkle.specs.Subtree.{node_of, zero_leaf}
 use Rattle.tor_merkle.proofs.Places.{div_between, same_above, none_below, power_within}
 use Rattle.tor_merkle.proofs.Node.{node-append}
@@ -29,7 +29,8 @@ module _ (level count : ℕ) (tops hashes : List (List ℕ)) (keeps : KeepsTops 
       ap₂ node_of left (is ∙ ap (node level (hashes ++ hash ∷ []) j) (omega arith))
 
   -- what is kept after a push that ends at the digit j, the first that is 0
-  kept_after : (hash : List ℕ) (j rest : ℕ) (top : List ℕ) → count + 1 ≡ (rest + 1) * 2 ^ j → rest % 2 ≡ 0 → j < length tops
+  kept_after : (hash : List ℕ) (j rest : ℕ) (top : List ℕ) → count + 1 ≡ (rest + 1) * 2 ^ j → rest % 2 ≡ 0
+      → j < length tops
       → top ≡ node level (hashes ++ hash ∷ []) j rest
       → (i : ℕ) → (count + 1) / 2 ^ i % 2 ≡ 1
       → get_or (set tops j top) i zero_leaf ≡ node level (hashes ++ hash ∷ []) i ((count + 1) / 2 ^ i - 1)
@@ -56,7 +57,8 @@ module _ (level count : ℕ) (tops hashes : List (List ℕ)) (keeps : KeepsTops 
       ]
 
   -- a push ends at the first digit that is 0
-  pub pushed : (hash : List ℕ) (j rest : ℕ) (top : List ℕ) → count + 1 ≡ (rest + 1) * 2 ^ j → rest % 2 ≡ 0 → j < length tops → count < 2 ^ (36 - level)
+  pub pushed : (hash : List ℕ) (j rest : ℕ) (top : List ℕ) → count + 1 ≡ (rest + 1) * 2 ^ j → rest % 2 ≡ 0
+      → j < length tops → count < 2 ^ (36 - level)
       → top ≡ node level (hashes ++ hash ∷ []) j rest
       → KeepsTops level (count + 1) (set tops j top) (hashes ++ hash ∷ [])
   pushed hash j rest top e even within room is = record {

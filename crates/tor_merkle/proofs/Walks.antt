@@ -1,9 +1,9 @@
--- The step by which a walk makes a struct that has ghost fields alone. Assumes `Logic`.
+-- The step by which a walk makes a struct of one field that takes no memory. Assumes `Logic`.
 use Rattle.std.proofs.Common.{List, [], ◌∷◌, refl}
 use seplogic.Ra.Ura.{Ura}
-use mir.Val.{Val, vstruct, vnil}
+use mir.Val.{Val, vstruct, vcons, vnil}
 use types.Logic.{Logic}
-use types.Kit.{Goal, Step, step, Item, ‵, ◌$◌, fjoin, fpack, feq_i}
+use types.Kit.{Goal, Step, step, Item, ‵, ◌$◌, move, fjoin, fpack, feq_i}
 use denote.RattleType.{RattleType, Valss}
 use denote.Steps.{nothing}
 use denote.Struct.Struct.{Struct, within}
@@ -11,10 +11,17 @@ use denote.Struct.Struct.{Struct, within}
 abbrev pub none : Val
 none = vstruct vnil
 
-abbrev pub fieldless : RattleType
-fieldless = Struct (record { name = []; args = []; types = []; fields = [] })
+abbrev pub one : Val → Val
+one v = vstruct (vcons v vnil)
 
-pub none_made : {M : Type 1} {𝓤 : Ura M} {𝓛 : Logic 𝓤} {K : Type 0} {Γ : List (Item 𝓤)} {G : Goal 𝓤 𝓛.H} → K → Step K 𝓛 (‵ (fieldless.own_val tt (none ∷ [])) ∷ Γ) G Γ G
-none_made t = step (λ s.
-    nothing t $ feq_i t (List Val) (none ∷ []) (none ∷ []) refl $ fjoin t $
-    fpack t (Valss []) (within (record { name = []; args = []; types = []; fields = [] }) tt (none ∷ [])) tt $ s)
+-- a struct by its field alone: what it owns does not read its name
+abbrev pub of_one : RattleType → RattleType
+of_one R = Struct (record { name = []; args = []; types = []; fields = R ∷ [] })
+
+pub one_made : {M : Type 1} {𝓤 : Ura M} {𝓛 : Logic 𝓤} {K : Type 0} {Γ : List (Item 𝓤)} {G : Goal 𝓤 𝓛.H}
+    → K → (R : RattleType) (x : R.Denot) (v : Val)
+    → Step K 𝓛 (‵ ((of_one R).own_val (x, tt) (one v ∷ [])) ∷ Γ) G (‵ (R.own_val x (v ∷ [])) ∷ Γ) G
+one_made t R x v = step (λ s.
+    nothing t $ move t (1 ∷ 0 ∷ []) $ fjoin t $ feq_i t (List Val) (one v ∷ []) (one v ∷ []) refl $ fjoin t $
+    fpack t (Valss (R ∷ [])) (within (record { name = []; args = []; types = []; fields = R ∷ [] }) (x, tt) (one v ∷ []))
+    (v ∷ [], tt) $ s)

@@ -3,15 +3,16 @@ use Rattle.std.specs.Prelude.{ℕ, ◌*◌, List, map, length, take, drop}
 use Rattle.std.specs.Int.{div_ceil}
 use Rattle.std.specs.List.{range_with_len}
 use Rattle.sha2.specs.Sha256.{sha256}
+use Rattle.tor_merkle.specs.declared.TheConstants.{BLOCK_LENGTH}
 
 -- the i-th run of size elements, perhaps shorter at the end
 abbrev pub run_at : {X : Type 0} → ℕ → List X → ℕ → List X
 run_at size xs i = take size (drop (i * size) xs)
 
--- a content cut every 16,384 bytes, the last block perhaps shorter
+-- a content cut every 16,384 bytes, the last block perhaps shorter (BEP 52, "pieces root")
 unfoldable pub blocks : List ℕ → List (List ℕ)
-blocks content = map (run_at 16384 content) (range_with_len 0 (div_ceil (length content) 16384))
+blocks content = map (run_at BLOCK_LENGTH content) (range_with_len 0 (div_ceil (length content) BLOCK_LENGTH))
 
--- the SHA-256 of each block
+-- the SHA-256 of each block (FIPS 180-4)
 unfoldable pub leaves : List ℕ → List (List ℕ)
 leaves content = map sha256 (blocks content)

@@ -1,37 +1,7 @@
 -- A content that is fed in parts.
-use Rattle.std.specs.Prelude.{◌≡◌, ℕ, ◌*◌, ◌/◌, ◌^◌, ◌≤◌, List, length, take, drop}
-use Rattle.std.specs.Int.{div_ceil}
-use Rattle.sha2.specs.declared.Sha256.{Sha256}
-use Rattle.sha2.specs.Hashers.{Holds256}
-use Rattle.tor_merkle.specs.Block.{leaves}
-use Rattle.tor_merkle.specs.Layer.{IsPieceLength}
+use Rattle.std.specs.Prelude.{ℕ, List}
 
 -- the length of a piece, and the bytes fed so far
 pub record Feeding : Type 0 where
   pub piece_length : ℕ
   pub bytes : List ℕ
-
--- the bytes fed so far, in pieces of 2 ^ height blocks, and how many hashes of pieces there is room for
-pub record Blocks : Type 0 where
-  pub height : ℕ
-  pub bytes : List ℕ
-  pub room : ℕ
-
--- how many bytes of n fill whole blocks
-abbrev pub in_blocks : ℕ → ℕ
-in_blocks n = n / 16384 * 16384
-
--- the leaves are those of the whole blocks, and the hasher holds the bytes after them
-pub record KeepsBlocks (count : ℕ) (hasher : Sha256) (done : List (List ℕ)) (bytes : List ℕ) : Type 0 where
-  pub counted : count ≡ length bytes
-  pub small : count ≤ 2 ^ 50
-  pub whole : done ≡ leaves (take (in_blocks count) bytes)
-  pub rest : Holds256 hasher (drop (in_blocks count) bytes)
-
--- the pieces have their length, and each that was begun has room for its hash
-pub record KeepsFeeding (piece_length : ℕ) (blocks : Blocks) : Type 0 where
-  pub allowed : IsPieceLength piece_length
-  pub low : blocks.height ≤ 16
-  pub piece : piece_length ≡ 16384 * 2 ^ blocks.height
-  pub small : length blocks.bytes ≤ 2 ^ 50
-  pub reserved : div_ceil (length blocks.bytes) piece_length ≤ blocks.room

@@ -1,30 +1,34 @@
 -- The root and the piece layer of a content (BEP 52, "pieces root" and "piece layers").
-use Rattle.std.specs.Prelude.{ℕ, ◌^◌, ◌/◌, ◌≤◌, IsTrue, List, [], length, map, nat_le, if◌then◌else◌}
+use Rattle.std.specs.Prelude.{ℕ, ◌/◌, Bool, ◌&&◌, IsTrue, List, [], length, map, nat_le, if◌then◌else◌}
 use Rattle.std.specs.Int.{div_ceil, is_power_of_two}
 use Rattle.std.specs.List.{range_with_len}
 use Rattle.tor_merkle.specs.Block.{run_at, leaves}
 use Rattle.tor_merkle.specs.Subtree.{zero_leaf, subtree_root, height, padded}
+use Rattle.tor_merkle.specs.declared.TheConstants.{BLOCK_LENGTH, MAX_PIECE_LENGTH, MIN_PIECE_LENGTH}
 
--- a power of two from 16,384 to 2 ^ 30
+-- a power of two from 16,384 on (BEP 52, "piece length"); the upper end is this profile's
+abbrev pub is_piece_length : ℕ → Bool
+is_piece_length n = is_power_of_two n && (nat_le MIN_PIECE_LENGTH n && nat_le n MAX_PIECE_LENGTH)
+
 abbrev pub IsPieceLength : ℕ → Type 0
-IsPieceLength n = IsTrue (is_power_of_two n) × (16384 ≤ n) × (n ≤ 2 ^ 30)
+IsPieceLength n = IsTrue (is_piece_length n)
 
 -- the leaves of a content, followed by hashes of 32 zero bytes up to the next power of two
 abbrev pub tree_leaves : List ℕ → List (List ℕ)
 tree_leaves content = padded (height (length (leaves content))) zero_leaf (leaves content)
 
--- the Merkle root of a content that is not empty
+-- the Merkle root of a content that is not empty (BEP 52, "pieces root")
 unfoldable pub pieces_root : List ℕ → List ℕ
 pieces_root content = subtree_root (height (length (leaves content))) (tree_leaves content)
 
 -- the level at which one hash covers one piece
 abbrev pub piece_level : ℕ → ℕ
-piece_level piece_length = height (piece_length / 16384)
+piece_level piece_length = height (piece_length / BLOCK_LENGTH)
 
--- for each piece of a content, the root of the run of leaves that covers it
+-- for each piece of a content, the root of the run of leaves that covers it (BEP 52, "piece layers")
 unfoldable pub piece_roots : List ℕ → ℕ → List (List ℕ)
 piece_roots content piece_length =
-    map (λ i. subtree_root (piece_level piece_length) (run_at (piece_length / 16384) (tree_leaves content) i))
+    map (λ i. subtree_root (piece_level piece_length) (run_at (piece_length / BLOCK_LENGTH) (tree_leaves content) i))
     (range_with_len 0 (div_ceil (length content) piece_length))
 
 -- those of a content longer than one piece; a shorter one has no layer

@@ -3,5 +3,5 @@ pub mod Subtree
 pub mod Node
 pub mod Layer
 pub mod Stack
-pub mod Pieces
 pub mod Feeding
+pub mod steps

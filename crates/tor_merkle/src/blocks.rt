@@ -4,10 +4,12 @@ ghost use Rattle.std.specs.Prelude.{◌≡◌, ◌+◌, ◌*◌, ◌%◌, ◌^�
 ghost use Rattle.std.specs.Int.{div_ceil};
 ghost use Rattle.tor_merkle.specs.Block.{leaves};
 ghost use Rattle.tor_merkle.specs.Layer.{pieces_root, piece_layer};
+ghost use Rattle.tor_merkle.specs.steps.Blocks.{FitsBlock};
 
-use crate::hash::{BLOCK_LENGTH, Hash};
+use crate::hash::Hash;
 use crate::pieces::PieceTree;
-use crate::trail::{Cut, Fed};
+use crate::trail::{History, Run};
+use crate::{BLOCK_LENGTH, MAX_LENGTH};
 use sha2::{Digest, Sha256};
 use std::alloc::{AllocError, Global};
 use std::marker::Model;
@@ -18,17 +20,17 @@ pub(crate) struct BlockHasher {
     count: u64,
     hasher: Sha256,
     tree: PieceTree,
-    fed: Fed,
+    fed: History<u8>,
 }
 
 impl Model for BlockHasher {
-    ghost use Rattle.tor_merkle.specs.Feeding.{Blocks, KeepsBlocks};
+    ghost use Rattle.tor_merkle.specs.steps.Blocks.{Blocks, KeepsBlocks};
 
     ghost Value = { Blocks };
 
-    ghost view = { λ b. record { height = b.tree.height; bytes = b.fed.bytes; room = b.tree.room } };
+    ghost view = { λ b. record { height = b.tree.height; bytes = b.fed.items; room = b.tree.room } };
 
-    ghost invariant = { λ b. KeepsBlocks b.count b.hasher b.tree.leaves b.fed.bytes };
+    ghost invariant = { λ b. KeepsBlocks b.count b.hasher b.tree.leaves b.fed.items };
 }
 
 impl BlockHasher {
@@ -42,7 +44,7 @@ impl BlockHasher {
             count: 0,
             hasher: Sha256::new(),
             tree: PieceTree::new(alloc, height),
-            fed: Fed::new(),
+            fed: History::new(),
         }
     }
 
@@ -66,8 +68,9 @@ impl BlockHasher {
 
     // Adds bytes of any number, for whose pieces there is room.
     pub(crate) fn feed(&mut self, bytes: &[u8])
-        requires small { length self.old.bytes + length bytes.now ≤ 2 ^ 50 }
-        requires room { div_ceil (length self.old.bytes + length bytes.now) (16384 * 2 ^ self.old.height) ≤ self.old.room }
+        requires small { length self.old.bytes + length bytes.now ≤ MAX_LENGTH }
+        requires room { div_ceil (length self.old.bytes + length bytes.now) (BLOCK_LENGTH * 2 ^ self.old.height)
+            ≤ self.old.room }
         ensures height { self.new.height ≡ self.old.height }
         ensures bytes { self.new.bytes ≡ self.old.bytes ++ bytes.now }
         ensures room { self.old.room ≤ self.new.room }
@@ -83,22 +86,19 @@ impl BlockHasher {
 
     // How many bytes the present block lacks.
     fn room_in_block(&self) -> usize
-        ensures { result + length self.now.bytes % 16384 ≡ 16384 }
+        ensures { result + length self.now.bytes % BLOCK_LENGTH ≡ BLOCK_LENGTH }
     {
         BLOCK_LENGTH - (self.count % BLOCK_LENGTH as u64) as usize
     }
 
     // Adds bytes of one block.
     fn add(&mut self, part: &[u8])
-        requires some { 0 < length part.now }
-        requires within { length self.old.bytes % 16384 + length part.now ≤ 16384 }
-        requires small { length self.old.bytes + length part.now ≤ 2 ^ 50 }
-        requires room { div_ceil (length self.old.bytes + length part.now) (16384 * 2 ^ self.old.height) ≤ self.old.room }
+        requires { FitsBlock self.old part.now }
         ensures height { self.new.height ≡ self.old.height }
         ensures bytes { self.new.bytes ≡ self.old.bytes ++ part.now }
         ensures room { self.old.room ≤ self.new.room }
     {
-        let fed = Fed::with(&self.fed, &Cut { bytes: part });
+        let fed = self.fed.with(&Run { items: part });
         self.hasher.update(part);
         self.count += part.len() as u64;
         if self.count % BLOCK_LENGTH as u64 == 0 {
@@ -110,10 +110,10 @@ impl BlockHasher {
 
     // The root of the bytes fed, and the hashes of their pieces where there is more than one.
     pub(crate) fn finish(self) -> Option<(Hash, Vec<Hash>)>
-        requires { div_ceil (length self.bytes) (16384 * 2 ^ self.height) ≤ self.room }
+        requires { div_ceil (length self.bytes) (BLOCK_LENGTH * 2 ^ self.height) ≤ self.room }
         ensures empty { IsNone result ↔ (self.bytes ≡ []) }
         ensures root { IfSome result (λ s. s.0 ≡ pieces_root self.bytes) }
-        ensures layer { IfSome result (λ s. s.1.items ≡ piece_layer self.bytes (16384 * 2 ^ self.height)) }
+        ensures layer { IfSome result (λ s. s.1.items ≡ piece_layer self.bytes (BLOCK_LENGTH * 2 ^ self.height)) }
     {
         if self.count == 0 {
             return None;
@@ -123,7 +123,7 @@ impl BlockHasher {
 
     // The tree with the leaf of the last block, whole or short.
     fn into_tree(self) -> PieceTree
-        requires { div_ceil (length self.bytes) (16384 * 2 ^ self.height) ≤ self.room }
+        requires { div_ceil (length self.bytes) (BLOCK_LENGTH * 2 ^ self.height) ≤ self.room }
         ensures height { result.height ≡ self.height }
         ensures leaves { result.leaves ≡ leaves self.bytes }
         ensures room { self.room ≤ result.room }

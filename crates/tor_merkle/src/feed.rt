@@ -6,7 +6,8 @@ ghost use Rattle.tor_merkle.specs.Layer.{IsPieceLength, pieces_root, piece_layer
 
 use crate::blocks::BlockHasher;
 use crate::digits::height_of;
-use crate::hash::{BLOCK_LENGTH, Hash};
+use crate::hash::Hash;
+use crate::{BLOCK_LENGTH, MAX_LENGTH, MAX_PIECE_LENGTH};
 use std::alloc::{AllocError, Global};
 use std::marker::Model;
 
@@ -18,7 +19,8 @@ pub struct Feed {
 }
 
 impl Model for Feed {
-    ghost use Rattle.tor_merkle.specs.Feeding.{Feeding, KeepsFeeding};
+    ghost use Rattle.tor_merkle.specs.Feeding.{Feeding};
+    ghost use Rattle.tor_merkle.specs.steps.Blocks.{KeepsFeeding};
 
     ghost Value = { Feeding };
 
@@ -28,7 +30,7 @@ impl Model for Feed {
 }
 
 impl Feed {
-    /// A feed of no byte, for pieces of `piece_length` bytes.
+    /// A feed of no byte, for pieces of `piece_length` bytes (BEP 52, "piece length").
     pub fn new(alloc: Global, piece_length: u64) -> Feed
         requires { IsPieceLength piece_length }
         ensures piece_length { result.piece_length ≡ piece_length }
@@ -44,7 +46,7 @@ impl Feed {
     /// How many bytes were fed.
     pub fn count(&self) -> u64
         ensures value { result ≡ length self.now.bytes }
-        ensures small { length self.now.bytes ≤ 2 ^ 50 }
+        ensures small { length self.now.bytes ≤ MAX_LENGTH }
     {
         self.blocks.count()
     }
@@ -53,6 +55,7 @@ impl Feed {
     pub fn piece_length(&self) -> u64
         ensures value { result ≡ self.now.piece_length }
         ensures allowed { IsPieceLength self.now.piece_length }
+        ensures small { self.now.piece_length ≤ MAX_PIECE_LENGTH }
     {
         self.piece_length
     }
@@ -60,7 +63,7 @@ impl Feed {
     /// Adds `bytes` at the end of the content, which has at most 2^50 bytes in all. Memory can only be refused
     /// where they begin a piece.
     pub fn feed(&mut self, bytes: &[u8]) -> Result<(), AllocError>
-        requires { length self.old.bytes + length bytes.now ≤ 2 ^ 50 }
+        requires { length self.old.bytes + length bytes.now ≤ MAX_LENGTH }
         ensures piece_length { self.new.piece_length ≡ self.old.piece_length }
         ensures ok { OnOk result (self.new.bytes ≡ self.old.bytes ++ bytes.now) }
         ensures err { OnErr result (self.new ≡ self.old) }
@@ -74,8 +77,9 @@ impl Feed {
         Ok(())
     }
 
-    /// The Merkle root of the content, and the 32-byte hashes of the layer where one covers one piece,
-    /// in the order of the pieces; no hash where there is at most one piece. `None` where no byte was fed.
+    /// The Merkle root of the content (BEP 52, "pieces root"), and the 32-byte hashes of the layer where one covers
+    /// one piece, in the order of the pieces ("piece layers"); no hash where there is at most one piece. `None`
+    /// where no byte was fed.
     pub fn finish(self) -> Option<(Hash, Vec<Hash>)>
         ensures empty { IsNone result ↔ (self.bytes ≡ []) }
         ensures root { IfSome result (λ sums. sums.0 ≡ pieces_root self.bytes) }

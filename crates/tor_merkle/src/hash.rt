@@ -6,13 +6,10 @@ ghost use Rattle.tor_merkle.specs.Subtree.{node_of, zero_subtree};
 
 use sha2::{Digest, Sha256};
 
-// The length of a block in bytes.
-pub(crate) const BLOCK_LENGTH: usize = 16_384;
-
-/// A SHA-256 hash.
+/// A SHA-256 hash: 32 bytes (FIPS 180-4, "SHA-256").
 pub type Hash = [u8; 32];
 
-/// The leaf of a block: its SHA-256.
+/// The leaf of a block: its SHA-256 (BEP 52, "pieces root").
 pub fn leaf(block: &[u8]) -> Hash
     ensures { result ≡ sha256 block.now }
 {
@@ -30,7 +27,7 @@ pub fn pair(left: &Hash, right: &Hash) -> Hash
     hasher.finalize()
 }
 
-/// The root of `2^level` leaves past the end of a content, each of which is 32 zero bytes.
+/// The root of `2^level` leaves past the end of a content, each of which is 32 zero bytes (BEP 52, "pieces root").
 #[tactic(auto, unfolding(crate::specs::Subtree::zero_leaf, crate::specs::Subtree::zero_subtree))]
 pub fn zero(level: u32) -> Hash
     requires { level ≤ 36 }

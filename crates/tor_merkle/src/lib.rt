@@ -1,19 +1,34 @@
 //! The Merkle trees of BitTorrent v2 (BEP 52): a content cut into blocks of 16,384 bytes, its root
 //! ("pieces root") and its piece layer ("piece layers").
 //!
+//! ```rust
+//! use tor_merkle::{Feed, leaf};
+//!
+//! let mut feed = Feed::new(alloc, 16_384);
+//! feed.feed(b"ab")?;
+//! feed.feed(b"c")?;
+//! let sums = feed.finish();
+//! assert!(rt; matches!(&sums, Some((root, layer)) if *root == leaf(b"abc") && layer.is_empty()));
+//! ```
+//!
 //! - [`leaf`], [`pair`], [`zero`] (`hash.rt`): the hash of a block, of two hashes, of a subtree past the end.
 //! - [`whole`] (`plain.rt`): root and piece layer of a content that lies in memory.
 //! - [`Feed`] (`feed.rt`): the same of a content that is fed in parts; it keeps no leaves. Below it stand
 //!   the cut into blocks (`blocks.rt`) and the tree of the pieces (`pieces.rt`).
 //! - [`Stack`], [`layer_root`] (`stack.rt`): the root over hashes that come one after another.
+//! - [`is_piece_length`] (`piece_length.rt`): which numbers of bytes a piece may have.
+//! - [`History`] (`trail.rt`): what came so far, which only proofs read.
+//! - [`laws`] (`laws.rt`): laws over the definitions of `specs/`.
 //!
-//! `trail.rt` has the histories that only proofs read, and `digits.rt` digits in base two.
+//! `digits.rt` has digits in base two.
 #![tactic(auto)]
 
 mod blocks;
 mod digits;
 mod feed;
 mod hash;
+pub mod laws;
+mod piece_length;
 mod pieces;
 mod plain;
 mod stack;
@@ -21,7 +36,21 @@ mod stack;
 mod tests;
 mod trail;
 
+/// How many bytes a block has (BEP 52, "pieces root").
+pub const BLOCK_LENGTH: usize = 16_384;
+
+/// How many bytes a piece has at the least (BEP 52, "piece length").
+pub const MIN_PIECE_LENGTH: u64 = 16_384;
+
+/// How many bytes a piece has at the most: a limit of this profile.
+pub const MAX_PIECE_LENGTH: u64 = 1 << 30;
+
+/// How many bytes a content has at the most: a limit of this profile.
+pub const MAX_LENGTH: u64 = 1 << 50;
+
 pub use feed::Feed;
 pub use hash::{Hash, leaf, pair, zero};
+pub use piece_length::is_piece_length;
 pub use plain::whole;
 pub use stack::{Stack, layer_root};
+pub use trail::{History, Run};

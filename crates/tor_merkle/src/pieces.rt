@@ -3,11 +3,12 @@
 ghost use Rattle.std.specs.Prelude.{◌≡◌, ◌+◌, ◌-◌, ◌^◌, ◌<◌, ◌≤◌, [], ◌∷◌, ◌++◌, length, OnOk, IsOk, nat_le, if◌then◌else◌, vec_len, vec_capacity};
 ghost use Rattle.std.specs.Int.{div_ceil};
 ghost use Rattle.tor_merkle.specs.Node.{nodes};
-ghost use Rattle.tor_merkle.specs.Stack.{padded_root, padded_subtree};
+ghost use Rattle.tor_merkle.specs.Stack.{padded_root};
+ghost use Rattle.tor_merkle.specs.steps.Pieces.{EndsPiece, ClosesPiece};
 
 use crate::hash::Hash;
 use crate::stack::Stack;
-use crate::trail::Pushed;
+use crate::trail::{History, Run};
 use std::alloc::{AllocError, Global};
 use std::marker::Model;
 
@@ -20,18 +21,18 @@ pub(crate) struct PieceTree {
     blocks: Stack,
     pieces: Stack,
     layer: Vec<Hash>,
-    leaves: Pushed,
+    leaves: History<Hash>,
 }
 
 impl Model for PieceTree {
     ghost use Rattle.std.specs.Prelude.{vec_capacity};
-    ghost use Rattle.tor_merkle.specs.Pieces.{Growing, KeepsPieces};
+    ghost use Rattle.tor_merkle.specs.steps.Pieces.{Growing, KeepsPieces};
 
     ghost Value = { Growing };
 
-    ghost view = { λ t. record { height = t.height; leaves = t.leaves.hashes; room = vec_capacity t.layer } };
+    ghost view = { λ t. record { height = t.height; leaves = t.leaves.items; room = vec_capacity t.layer } };
 
-    ghost invariant = { λ t. KeepsPieces t.height t.leaves.hashes t.blocks t.pieces t.layer.items };
+    ghost invariant = { λ t. KeepsPieces t.height t.leaves.items t.blocks t.pieces t.layer.items };
 }
 
 impl PieceTree {
@@ -45,7 +46,7 @@ impl PieceTree {
             blocks: Stack::new(0),
             pieces: Stack::new(height),
             layer: Vec::new(alloc),
-            leaves: Pushed::new(),
+            leaves: History::new(),
         }
     }
 
@@ -68,7 +69,7 @@ impl PieceTree {
         ensures leaves { self.new.leaves ≡ self.old.leaves ++ leaf ∷ [] }
         ensures room { self.old.room ≤ self.new.room }
     {
-        let leaves = Pushed::with(&self.leaves, &leaf);
+        let leaves = self.leaves.with(&Run { items: &[leaf] });
         if self.blocks.len() == 1 << self.height {
             close_piece(
                 self.height,
@@ -106,18 +107,8 @@ impl PieceTree {
 
 // Ends the present piece, widened by zero subtrees where it is short.
 fn close_piece(height: u32, blocks: &mut Stack, pieces: &mut Stack, layer: &mut Vec<Hash>)
-    requires low { height ≤ 16 }
-    requires blocks { blocks.old.level ≡ 0 }
-    requires some { 0 < length blocks.old.hashes }
-    requires within { length blocks.old.hashes ≤ 2 ^ height }
-    requires pieces { pieces.old.level ≡ height }
-    requires stack { length pieces.old.hashes < 2 ^ (36 - height) }
-    requires room { vec_len layer.old < vec_capacity layer.old }
-    ensures emptied { blocks.new.hashes ≡ [] }
-    ensures block_level { blocks.new.level ≡ 0 }
-    ensures stacked { pieces.new.hashes ≡ pieces.old.hashes ++ padded_subtree height 0 blocks.old.hashes ∷ [] }
-    ensures piece_level { pieces.new.level ≡ height }
-    ensures layer { layer.new.items ≡ layer.old.items ++ padded_subtree height 0 blocks.old.hashes ∷ [] }
+    requires { EndsPiece height blocks.old pieces.old (vec_len layer.old) (vec_capacity layer.old) }
+    ensures closed { ClosesPiece height blocks.old blocks.new pieces.old pieces.new layer.old.items layer.new.items }
     ensures capacity { vec_capacity layer.old ≤ vec_capacity layer.new }
 {
     let hash = blocks.subtree(height);

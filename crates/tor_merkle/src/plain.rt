@@ -6,20 +6,21 @@ ghost use Rattle.tor_merkle.specs.Block.{leaves};
 ghost use Rattle.tor_merkle.specs.Layer.{IsPieceLength, pieces_root, piece_layer};
 ghost use Rattle.tor_merkle.specs.Subtree.{level_above};
 
-use crate::hash::{BLOCK_LENGTH, Hash, leaf, pair, zero};
+use crate::hash::{Hash, leaf, pair, zero};
+use crate::{BLOCK_LENGTH, MAX_LENGTH};
 use std::alloc::{AllocError, Global};
 use std::mem;
 
-/// The Merkle root of `content`, and the 32-byte hashes of the layer where one covers one piece,
-/// in the order of the pieces; no hash where there is at most one piece. `None` where `content` is empty,
-/// which takes no memory.
+/// The Merkle root of `content` (BEP 52, "pieces root"), and the 32-byte hashes of the layer where one covers one
+/// piece, in the order of the pieces ("piece layers"); no hash where there is at most one piece. `None` where
+/// `content` is empty, which takes no memory.
 pub fn whole(
     alloc: Global,
     content: &[u8],
     piece_length: u64,
 ) -> Result<Option<(Hash, Vec<Hash>)>, AllocError>
     requires piece { IsPieceLength piece_length }
-    requires size { length content.now ≤ 2 ^ 50 }
+    requires size { length content.now ≤ MAX_LENGTH }
     ensures empty { IfOk result (λ sums. IsNone sums ↔ (content.now ≡ [])) }
     ensures root { IfOk result (λ sums. IfSome sums (λ s. s.0 ≡ pieces_root content.now)) }
     ensures layer { IfOk result (λ sums. IfSome sums (λ s. s.1.items ≡ piece_layer content.now piece_length)) }

@@ -5,7 +5,7 @@ ghost use Rattle.tor_merkle.specs.Stack.{padded_root, padded_subtree};
 
 use crate::digits::{height_of, lowest_one};
 use crate::hash::{Hash, pair, zero};
-use crate::trail::Pushed;
+use crate::trail::{History, Run};
 use std::marker::Model;
 
 /// The levels of a tree of at most 2^36 leaves.
@@ -18,17 +18,18 @@ pub struct Stack {
     level: u32,
     count: u64,
     tops: [Hash; LEVELS],
-    pushed: Pushed,
+    pushed: History<Hash>,
 }
 
 impl Model for Stack {
-    ghost use Rattle.tor_merkle.specs.Stack.{Subtrees, KeepsTops};
+    ghost use Rattle.tor_merkle.specs.Stack.{Subtrees};
+    ghost use Rattle.tor_merkle.specs.steps.Tops.{KeepsTops};
 
     ghost Value = { Subtrees };
 
-    ghost view = { λ s. record { level = s.level; hashes = s.pushed.hashes } };
+    ghost view = { λ s. record { level = s.level; hashes = s.pushed.items } };
 
-    ghost invariant = { λ s. KeepsTops s.level s.count s.tops s.pushed.hashes };
+    ghost invariant = { λ s. KeepsTops s.level s.count s.tops s.pushed.items };
 }
 
 impl Stack {
@@ -42,7 +43,7 @@ impl Stack {
             level,
             count: 0,
             tops: [[0; 32]; LEVELS],
-            pushed: Pushed::new(),
+            pushed: History::new(),
         }
     }
 
@@ -52,7 +53,7 @@ impl Stack {
         ensures hashes { self.new.hashes ≡ self.old.hashes ++ hash ∷ [] }
         ensures level { self.new.level ≡ self.old.level }
     {
-        let pushed = Pushed::with(&self.pushed, &hash);
+        let pushed = self.pushed.with(&Run { items: &[hash] });
         let mut top = hash;
         let mut digit = 0;
         let mut rest = self.count;

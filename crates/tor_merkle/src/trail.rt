@@ -1,61 +1,45 @@
 //! Histories that only proofs read: they take no memory, and their functions do nothing at run time.
+//!
+//! A clause over a history alone says nothing, since any history meets it. It says something beside an
+//! `invariant` that ties the history to what the struct computed, as that of the hashes of a [`crate::Stack`].
 
-ghost use Rattle.std.specs.Prelude.{◌≡◌, ℕ, List, [], ◌∷◌, ◌++◌};
+ghost use Rattle.std.specs.Prelude.{◌≡◌, List, [], ◌++◌};
 ghost use Rattle.std.specs.Borrow.{ftrue};
 
-use crate::hash::Hash;
-use std::marker::Model;
+use std::marker::{Model, PhantomData};
 
-// The hashes that were pushed, first to last.
+/// What came so far, first to last. A clause reads it as `items`.
 #[derive(Drop)]
-pub(crate) struct Pushed {
-    pub(crate) ghost hashes: { List (List ℕ) },
+pub struct History<T> {
+    of: PhantomData<T>,
+    pub ghost items: { List T },
 }
 
-impl Model for Pushed {
+impl<T> Model for History<T> {
     ghost also_owns = { λ _. ftrue };
 }
 
-impl Pushed {
-    pub(crate) fn new() -> Pushed
-        ensures { result.hashes ≡ [] }
-    {
-        Pushed {}
-    }
+// It owns nothing.
+unsafe impl<T: Send> Send for History<T> {}
 
-    pub(crate) fn with(_before: &Pushed, _hash: &Hash) -> Pushed
-        ensures { result.hashes ≡ _before.now.hashes ++ _hash.now ∷ [] }
-    {
-        Pushed {}
-    }
-}
-
-// Some bytes, as one value.
+/// Items that lie in a slice, as one value.
 #[derive(Clone, Copy)]
-pub(crate) struct Cut<'a> {
-    pub(crate) bytes: &'a [u8],
+pub struct Run<'a, T> {
+    pub items: &'a [T],
 }
 
-// The bytes that were fed, first to last.
-#[derive(Drop)]
-pub(crate) struct Fed {
-    pub(crate) ghost bytes: { List ℕ },
-}
-
-impl Model for Fed {
-    ghost also_owns = { λ _. ftrue };
-}
-
-impl Fed {
-    pub(crate) fn new() -> Fed
-        ensures { result.bytes ≡ [] }
+impl<T> History<T> {
+    /// Before anything came.
+    pub fn new() -> History<T>
+        ensures { result.items ≡ [] }
     {
-        Fed {}
+        History { of: PhantomData }
     }
 
-    pub(crate) fn with(_before: &Fed, _cut: &Cut<'_>) -> Fed
-        ensures { result.bytes ≡ _before.now.bytes ++ _cut.now.bytes.now }
+    /// After a run more.
+    pub fn with(&self, _run: &Run<'_, T>) -> History<T>
+        ensures { result.items ≡ self.now.items ++ _run.now.items.now }
     {
-        Fed {}
+        History { of: PhantomData }
     }
 }

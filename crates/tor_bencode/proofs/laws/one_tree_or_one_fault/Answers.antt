@@ -3,7 +3,7 @@ use Rattle.tor_bencode.specs.Data.{Data}
 use Rattle.tor_bencode.specs.declared.fault.Fault.{Fault}
 use Rattle.tor_bencode.specs.Fault.{IsFaultAt}
 use Rattle.tor_bencode.specs.Place.{IsTree}
-use Rattle.tor_bencode.specs.Reading.{whole}
+use Rattle.tor_bencode.specs.steps.Reading.{whole}
 use Rattle.tor_bencode.proofs.ReadBack.{whole-spelling}
 use Rattle.tor_bencode.proofs.Refused.{refused_read}
 use Rattle.tor_bencode.proofs.Whole.{WholeIs, whole_sound, refused_within}

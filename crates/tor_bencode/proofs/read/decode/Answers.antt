@@ -2,7 +2,7 @@ use Rattle.std.proofs.Common.{◌≡◌, ℕ, List, Ok, Err, Result, sym, subst,
 use Rattle.tor_bencode.specs.Data.{Data}
 use Rattle.tor_bencode.specs.declared.fault.Fault.{Fault}
 use Rattle.tor_bencode.specs.Lawful.{IsLawful}
-use Rattle.tor_bencode.specs.Reading.{Stops, whole}
+use Rattle.tor_bencode.specs.steps.Reading.{Stops, whole}
 use Rattle.tor_bencode.specs.Spelling.{spelling}
 use Rattle.tor_bencode.specs.View.{view}
 use Rattle.tor_bencode.proofs.ReadBack.{whole-spelling}

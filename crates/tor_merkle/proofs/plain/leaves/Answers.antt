@@ -15,7 +15,8 @@ leaves_more content size i =
     ∙ map_push sha256 (map (run_at size content) (range_with_len 0 i)) (run_at size content i)
 
 -- a cut of the rest, as the code makes it
-block_is : (content : List ℕ) (size i n : ℕ) → n ≡ min (length (take (length content - i * size) (drop (i * size) content))) size
+block_is : (content : List ℕ) (size i n : ℕ)
+    → n ≡ min (length (take (length content - i * size) (drop (i * size) content))) size
     → take n (take (length content - i * size) (drop (i * size) content)) ≡ run_at size content i
 block_is content size i n e =
     let rest = take_rest content (i * size) in

@@ -8,7 +8,8 @@ use Rattle.tor_merkle.specs.Subtree.{node_of}
 use Rattle.tor_merkle.proofs.Ceil.{below_from_ceil}
 use Rattle.tor_merkle.proofs.plain.level_above.Goals as goal
 
-now-unwrap_or : {X : Type 0} (found : Option (Bor X)) (other : Bor X) → (unwrap_or found other).now ≡ unwrap_or (option_map (λ x. x.now) found) other.now
+now-unwrap_or : {X : Type 0} (found : Option (Bor X)) (other : Bor X)
+    → (unwrap_or found other).now ≡ unwrap_or (option_map (λ x. x.now) found) other.now
 now-unwrap_or None other = refl
 now-unwrap_or (Some x) other = refl
 

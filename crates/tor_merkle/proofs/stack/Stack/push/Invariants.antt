@@ -8,7 +8,7 @@ invariant-carries l = record {
   room : l.self-inside.count < 2 ^ (36 - l.self-inside.level);
   low : l.digit ≤ 36;
   digits : l.self-inside.count + 1 ≡ (l.rest + 1) * 2 ^ l.digit;
-  root : l.top ≡ node l.self-inside.level l.pushed.hashes l.digit l.rest;
+  root : l.top ≡ node l.self-inside.level l.pushed.items l.digit l.rest;
 }
 
 abbrev pub decreases-carries : goal.decreases-carries

@@ -24,7 +24,7 @@ climb-init c =
     let kept : get_or c.self.inside.tops c.lowest_one-lowest.result.0 [] ≡ get_or c.self.inside.tops c.lowest_one-lowest.result.0 zero_leaf =
     get_or_default c.self.inside.tops c.lowest_one-lowest.result.0 [] zero_leaf (omega (arith, c.self.invariant.levels)) in
     rw kept
-    (last_whole c.self.inside.level c.self.inside.count c.self.inside.tops c.self.inside.pushed.hashes c.self.invariant c.lowest_one-lowest.result.0 c.lowest_one-lowest.result.1
+    (last_whole c.self.inside.level c.self.inside.count c.self.inside.tops c.self.inside.pushed.items c.self.invariant c.lowest_one-lowest.result.0 c.lowest_one-lowest.result.1
     c.lowest_one-lowest.ensures.whole c.lowest_one-lowest.ensures.odd)
 
 pub climb-preserved : goal.climb-preserved
@@ -32,7 +32,7 @@ climb-preserved c =
     let level = c.self.inside.level in
     let count = c.self.inside.count in
     let tops = c.self.inside.tops in
-    let hashes = c.self.inside.pushed.hashes in
+    let hashes = c.self.inside.pushed.items in
     let wide = c.self.invariant.counted ∙ ap (λ v. length v.hashes) c.self.view_is in
     let levels = ap (λ v. v.level) c.self.view_is in
     let within : c.climb.digit < length tops = omega (arith, c.requires.low, c.self.invariant.levels) in
@@ -51,7 +51,7 @@ returns c =
     let count = c.self.invariant.counted ∙ ap (λ v. length v.hashes) c.self.view_is in
     let low = lowest_within c.self.inside.count _ _ c.args.height c.lowest_one-lowest.ensures.whole c.lowest_one-lowest.ensures.odd (omega (arith, count, c.requires.wide)) in
     let end : c.climb.digit ≡ c.args.height = omega arith in
-    last_root c.self.inside.level c.self.inside.count c.self.inside.tops c.self.inside.pushed.hashes c.self.invariant c.climb.digit c.climb.place c.climb.top c.climb.invariant
+    last_root c.self.inside.level c.self.inside.count c.self.inside.tops c.self.inside.pushed.items c.self.invariant c.climb.digit c.climb.place c.climb.top c.climb.invariant
     (rw end (omega (arith, count, c.requires.wide)))
-    ∙ ap (λ k. padded_subtree k c.self.inside.level c.self.inside.pushed.hashes) end
+    ∙ ap (λ k. padded_subtree k c.self.inside.level c.self.inside.pushed.items) end
     ∙ ap (λ v. padded_subtree c.args.height v.level v.hashes) c.self.view_is

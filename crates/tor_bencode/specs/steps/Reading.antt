@@ -11,6 +11,8 @@ use Rattle.tor_bencode.specs.declared.fault.Fault.{Fault}
 use Rattle.tor_bencode.specs.declared.fault.Fault.TheVariants.{Truncated, BadByte, BadInteger, IntegerRange, BadLength, KeyNotBytes, KeyOrder, TooDeep, Trailing}
 use Rattle.tor_bencode.specs.declared.stop.Stop.{Stop}
 use Rattle.tor_bencode.specs.declared.stop.Stop.TheVariants as stops
+use Rattle.tor_bencode.specs.Marks.{colon, digit_zero, letter_d, letter_e, letter_i, letter_l, minus}
+use Rattle.tor_bencode.specs.declared.TheConstants.{MAX_NESTING}
 
 abbrev pub Reading : Type 0 → Type 0
 Reading A = Result (A × List ℕ) (Fault × List ℕ)
@@ -32,7 +34,7 @@ Gives seen (Err stop) read = Stops stop read
 -- the number that digits stand for, after the number so far
 abbrev pub number_after : ℕ → List ℕ → ℕ
 number_after n [] = n
-number_after n (c ∷ cs) = number_after (n * 10 + (c - 48)) cs
+number_after n (c ∷ cs) = number_after (n * 10 + (c - digit_zero)) cs
 
 unfoldable pub number : List ℕ → ℕ
 number digits = number_after 0 digits
@@ -41,16 +43,16 @@ number digits = number_after 0 digits
 abbrev pub is_shortest : List ℕ → Bool
 is_shortest [] = false
 is_shortest (c ∷ []) = true
-is_shortest (c ∷ d ∷ cs) = not (c == 48)
+is_shortest (c ∷ d ∷ cs) = not (c == digit_zero)
 
 -- the digits of a negative number
 abbrev pub is_positive : List ℕ → Bool
 is_positive [] = false
-is_positive (c ∷ cs) = not (c == 48) && list_all is_ascii_digit (c ∷ cs)
+is_positive (c ∷ cs) = not (c == digit_zero) && list_all is_ascii_digit (c ∷ cs)
 
 unfoldable pub is_integer : List ℕ → Bool
 is_integer [] = false
-is_integer (c ∷ cs) = if c == 45 then is_positive cs else (list_all is_ascii_digit (c ∷ cs) && is_shortest (c ∷ cs))
+is_integer (c ∷ cs) = if c == minus then is_positive cs else (list_all is_ascii_digit (c ∷ cs) && is_shortest (c ∷ cs))
 
 abbrev pub negative_of : ℕ → Option ℤ
 negative_of n = if nat_le n (2 ^ 63) then Some (neg_ℤ (pos n)) else None
@@ -61,13 +63,13 @@ positive_of n = if nat_lt n (2 ^ 63) then Some (pos n) else None
 -- the integer that the digits stand for, where 64 bits hold it
 unfoldable pub integer_of : List ℕ → Option ℤ
 integer_of [] = None
-integer_of (c ∷ cs) = if c == 45 then negative_of (number cs) else positive_of (number (c ∷ cs))
+integer_of (c ∷ cs) = if c == minus then negative_of (number cs) else positive_of (number (c ∷ cs))
 
 -- `run` is the longest front of digits, and then come the bytes of the string
 abbrev pub string_after : List ℕ → List ℕ → List ℕ → Reading (List ℕ)
 string_after bytes run [] = Err (Truncated, [])
 string_after bytes run (c ∷ more) =
-    if (c == 58) && is_shortest run
+    if (c == colon) && is_shortest run
     then (if nat_le (number run) (length more) then Ok (take (number run) more, drop (number run) more) else Err (Truncated, []))
     else Err (BadLength, bytes)
 
@@ -81,7 +83,7 @@ in_range bytes more (Some n) = Ok (n, more)
 abbrev pub integer_after : List ℕ → List ℕ → List ℕ → Reading ℤ
 integer_after bytes run [] = Err (Truncated, [])
 integer_after bytes run (c ∷ more) =
-    if (c == 101) && is_integer run then in_range bytes more (integer_of run) else Err (BadInteger, bytes)
+    if (c == letter_e) && is_integer run then in_range bytes more (integer_of run) else Err (BadInteger, bytes)
 
 -- `bytes` begins with the `i`, and `rest` is what follows it
 unfoldable pub integer_at : List ℕ → List ℕ → Reading ℤ
@@ -92,7 +94,7 @@ abbrev pub items_at : (List ℕ → Reading Data) → ℕ → List ℕ → Readi
 items_at read zero bytes = Err (Truncated, [])
 items_at read (suc fuel) [] = Err (Truncated, [])
 items_at read (suc fuel) (c ∷ rest) =
-    if c == 101
+    if c == letter_e
     then Ok (no_items, rest)
     else (read (c ∷ rest) >>= λ first. items_at read fuel first.1 >>= λ others. Ok (item first.0 others.0, others.1))
 
@@ -105,7 +107,7 @@ abbrev pub pairs_at : (List ℕ → Reading Data) → ℕ → Option (List ℕ) 
 pairs_at read zero last bytes = Err (Truncated, [])
 pairs_at read (suc fuel) last [] = Err (Truncated, [])
 pairs_at read (suc fuel) last (c ∷ rest) =
-    if c == 101
+    if c == letter_e
     then Ok (no_pairs, rest)
     else (if is_ascii_digit c
     then (string_at (c ∷ rest) >>= λ key.
@@ -122,10 +124,10 @@ opened (Some read) bytes inside = inside read
 abbrev pub value_with : Option (List ℕ → Reading Data) → List ℕ → Reading Data
 value_with nested [] = Err (Truncated, [])
 value_with nested (c ∷ rest) =
-    if c == 105 then (integer_at (c ∷ rest) rest >>= λ n. Ok (integer n.0, n.1))
+    if c == letter_i then (integer_at (c ∷ rest) rest >>= λ n. Ok (integer n.0, n.1))
     else (if is_ascii_digit c then (string_at (c ∷ rest) >>= λ text. Ok (string text.0, text.1))
-    else (if c == 108 then (opened nested (c ∷ rest) (λ read. items_at read (length rest) rest) >>= λ items. Ok (list items.0, items.1))
-    else (if c == 100 then (opened nested (c ∷ rest) (λ read. pairs_at read (length rest) None rest) >>= λ pairs. Ok (dictionary pairs.0, pairs.1))
+    else (if c == letter_l then (opened nested (c ∷ rest) (λ read. items_at read (length rest) rest) >>= λ items. Ok (list items.0, items.1))
+    else (if c == letter_d then (opened nested (c ∷ rest) (λ read. pairs_at read (length rest) None rest) >>= λ pairs. Ok (dictionary pairs.0, pairs.1))
     else Err (BadByte, c ∷ rest))))
 
 -- a value inside, where so many lists and dictionaries may still be opened
@@ -143,4 +145,4 @@ last_of (d, []) = Ok d
 last_of (d, c ∷ rest) = Err (Trailing, c ∷ rest)
 
 unfoldable pub whole : List ℕ → Result Data (Fault × List ℕ)
-whole bytes = value_at 100 bytes >>= last_of
+whole bytes = value_at MAX_NESTING bytes >>= last_of

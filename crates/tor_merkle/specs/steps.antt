@@ -1,0 +1,3 @@
+pub mod Tops
+pub mod Pieces
+pub mod Blocks
