@@ -2,6 +2,7 @@ pub mod FileTrees
 pub mod FilesBelow
 pub mod Groups
 pub mod Inside
+pub mod LawfulTree
 pub mod Lengths
 pub mod ListFaults
 pub mod MadeTree
@@ -12,6 +13,7 @@ pub mod PathLists
 pub mod Permuted
 pub mod PropertyLemmas
 pub mod ProvedLaws
+pub mod ReadFiles
 pub mod Readable
 pub mod Rising
 pub mod RisingPaths

@@ -1,12 +1,12 @@
 //! Laws over the definitions alone.
-ghost use Rattle.std.specs.Prelude.{ℕ, All, List, Option, map};
+ghost use Rattle.std.specs.Prelude.{◌≡◌, ◌+◌, ◌<◌, ◌≤◌, ◌^◌, ℕ, All, List, None, Option, length, map, slice_index_or};
 ghost use Rattle.std.specs.List.{AllZip};
 ghost use Rattle.std.specs.List.Sorted.{IsStrictlySortedBy};
 ghost use Rattle.tor_bencode.specs.Data.{Data};
-ghost use Rattle.tor_bencode.specs.Lawful.{HasRisingKeys};
+ghost use Rattle.tor_bencode.specs.Lawful.{HasRisingKeys, IsLawfulWithin};
 ghost use Rattle.tor_tree.specs.FileList.{IsInPathOrder};
-ghost use Rattle.tor_tree.specs.FileTree.{files_of_tree};
-ghost use Rattle.tor_tree.specs.Path.{HasNames, path_cmp};
+ghost use Rattle.tor_tree.specs.FileTree.{files_of_tree, tree_fault};
+ghost use Rattle.tor_tree.specs.Path.{HasNames, IsFilePath, path_cmp};
 ghost use Rattle.tor_tree.specs.TidyTree.{AtMostOneTree, HasItsRoot, IsFileTreeOf};
 ghost use Rattle.tor_tree.specs.WrittenTree.{file_tree};
 
@@ -22,8 +22,38 @@ pub fn file_tree_of_list()
         IsFileTreeOf files roots (file_tree files roots) }
 {}
 
+/// It is a lawful tree, two dictionaries deeper than the most names of a path.
+pub fn file_tree_is_lawful()
+    ensures { (names : ℕ) (files : List (List (List ℕ) × ℕ)) (roots : List (Option (List ℕ))) → IsInPathOrder files →
+        All (λ file. HasNames file.0) files → AllZip HasItsRoot files roots →
+        All (λ file. file.1 < 2 ^ 63) files → All (λ file. length file.0 ≤ names) files →
+        IsLawfulWithin (names + 2) (file_tree files roots) }
+{}
+
+/// No name of a file's path is empty.
+pub fn paths_have_names()
+    ensures { (path : List (List ℕ)) → IsFilePath path → HasNames path }
+{}
+
+/// Roots that are there just where their files are not empty, place by place, are those of the whole list.
+pub fn roots_by_place()
+    ensures { (files : List (List (List ℕ) × ℕ)) (roots : List (Option (List ℕ))) → length roots ≡ length files →
+        ((k : ℕ) (file : List (List ℕ) × ℕ) (root : Option (List ℕ)) → k < length files →
+        HasItsRoot (slice_index_or files k file) (slice_index_or roots k root)) →
+        AllZip HasItsRoot files roots }
+{}
+
 /// The files of a tree whose keys rise are in the order of their paths, each path once.
 pub fn rising_paths()
     ensures { (tree : Data) → HasRisingKeys tree →
         IsStrictlySortedBy path_cmp (map (λ file. file.path) (files_of_tree tree)) }
+{}
+
+/// The files of a tree without fault have paths, and each has a root just where it is not empty.
+pub fn files_of_tree_are_files()
+    ensures paths { (tree : Data) → tree_fault tree ≡ None →
+        All (λ file. IsFilePath file.path) (files_of_tree tree) }
+    ensures roots { (tree : Data) → tree_fault tree ≡ None →
+        AllZip HasItsRoot (map (λ file. (file.path, file.length)) (files_of_tree tree))
+        (map (λ file. file.root) (files_of_tree tree)) }
 {}
