@@ -1,0 +1,5 @@
+pub mod Ceil
+pub mod Cut
+pub mod Fed
+pub mod Names
+pub mod Aligned

@@ -1,0 +1,37 @@
+-- The `files` list of a version 1 torrent (BEP 3, "info dictionary"), and its padding (BEP 47, "padding files").
+-- A file is a pair of a path and a length in bytes.
+use Rattle.std.specs.Prelude.{ℕ, ◌-◌, ◌%◌, ◌==◌, Bool, true, false, ◌&&◌, not, nat_lt, List, [], ◌∷◌, ◌++◌, map, codes, decimal, if◌then◌else◌}
+use Rattle.std.specs.Int.{next_multiple_of}
+use Rattle.std.specs.List.{list_any}
+use Rattle.tor_v1.specs.declared.entry.Entry.{Entry}
+use Rattle.tor_v1.specs.declared.layout.Layout.{Layout}
+use Rattle.tor_v1.specs.declared.layout.Layout.TheVariants.{Joined, Aligned}
+
+-- the entry of a file
+abbrev pub file_entry : List (List ℕ) × ℕ → Entry
+file_entry file = record { path = file.0; length = file.1; pad = false }
+
+-- padding of n zero bytes; its path is .pad and n in base ten
+abbrev pub pad_entry : ℕ → Entry
+pad_entry n = record { path = codes ".pad" ∷ decimal n ∷ []; length = n; pad = true }
+
+-- some file is not empty
+abbrev pub has_bytes : List (List (List ℕ) × ℕ) → Bool
+has_bytes files = list_any (λ file. nat_lt 0 file.1) files
+
+-- directly after a file of m bytes that later files follow: what m lacks to the next multiple of the piece length,
+-- where it lacks any and some later file is not empty
+abbrev pub padding_after : ℕ → ℕ → List (List (List ℕ) × ℕ) → List Entry
+padding_after piece_length m later =
+    if not (m % piece_length == 0) && has_bytes later then pad_entry (next_multiple_of m piece_length - m) ∷ [] else []
+
+-- each file that is not empty begins a piece
+unfoldable pub aligned_entries : ℕ → List (List (List ℕ) × ℕ) → List Entry
+aligned_entries piece_length [] = []
+aligned_entries piece_length (file ∷ later) =
+    file_entry file ∷ padding_after piece_length file.1 later ++ aligned_entries piece_length later
+
+-- the entries of a list of files, in its order
+abbrev pub v1_entries : Layout → ℕ → List (List (List ℕ) × ℕ) → List Entry
+v1_entries Joined piece_length files = map file_entry files
+v1_entries Aligned piece_length files = aligned_entries piece_length files

@@ -1,0 +1,5 @@
+pub mod Piece
+pub mod Reserved
+pub mod Entries
+pub mod Feeding
+pub mod Room

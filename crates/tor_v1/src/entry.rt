@@ -1,0 +1,25 @@
+//! An entry of the `files` list of a version 1 torrent.
+ghost use Rattle.std.specs.Prelude.{◌≡◌};
+ghost use Rattle.tor_v1.specs.Reserved.{is_reserved};
+
+use tor_tree::FilePath;
+
+/// An entry of the `files` list (BEP 3, "info dictionary"): a file, or padding (BEP 47, "padding files").
+#[derive(Debug, Drop)]
+pub struct Entry {
+    pub path: FilePath,
+    /// In bytes.
+    pub length: u64,
+    /// Whether it stands for zero bytes that are in no file.
+    pub pad: bool,
+}
+
+/// Whether only padding may have this path: its first name is `.pad`.
+pub fn is_reserved(path: &FilePath) -> bool
+    ensures { result ≡ is_reserved path.now }
+{
+    match path.names() {
+        [first, ..] => first.as_bytes() == b".pad".as_slice(),
+        [] => false,
+    }
+}

@@ -1,0 +1,142 @@
+//! The entries of a list of files, in one of two layouts.
+ghost use Rattle.std.specs.Prelude.{◌≡◌, ◌↔◌, Err, IfOk, IsTrue, map, count_by, nat_lt};
+ghost use Rattle.std.specs.List.{list_any};
+ghost use Rattle.tor_v1.specs.Entries.{aligned_entries, file_entry, padding_after, v1_entries};
+ghost use Rattle.tor_v1.specs.Piece.{IsV1PieceLength};
+ghost use Rattle.tor_v1.specs.Reserved.{is_reserved, takes_reserved};
+ghost use Rattle.tor_v1.specs.declared.layout.LayoutError.TheVariants.{ReservedPad, Memory};
+
+use crate::entry::{Entry, is_reserved};
+use crate::padding::padding;
+use std::alloc::{AllocError, Global};
+use thiserror::Error;
+use tor_tree::{FileList, FilePath, Name};
+
+/// How files stand in the content of a version 1 torrent.
+#[derive(Clone, Copy, Debug, PartialEq, Eq)]
+pub enum Layout {
+    /// One directly after the other.
+    Joined,
+    /// Each that is not empty at the beginning of a piece, with padding before it where that is needed.
+    Aligned,
+}
+
+/// Why files have no entries.
+#[derive(Debug, Drop, Error)]
+pub enum LayoutError {
+    /// They are to be aligned, and one has a path that only padding may have.
+    #[error("Y1 ReservedPad")]
+    ReservedPad,
+    /// Memory for the entries was refused.
+    #[error("out of memory")]
+    Memory,
+}
+
+impl From<AllocError> for LayoutError {
+    ghost from_gives = { λ _ e. e ≡ Memory };
+
+    fn from(_error: AllocError) -> LayoutError {
+        LayoutError::Memory
+    }
+}
+
+/// The entries of the files, in the order of the list (BEP 3, "info dictionary"; BEP 47, "padding files").
+pub fn lay_out(
+    alloc: Global,
+    list: &FileList,
+    piece_length: u64,
+    layout: Layout,
+) -> Result<Vec<Entry>, LayoutError>
+    requires { IsV1PieceLength piece_length }
+    ensures made { IfOk result (λ entries. entries.items ≡ v1_entries layout piece_length list.now) }
+    ensures reserved { (result ≡ Err ReservedPad) ↔ IsTrue (takes_reserved layout list.now) }
+{
+    let files = list.files();
+    match layout {
+        Layout::Joined => Ok(joined(alloc, files)?),
+        Layout::Aligned if any_reserved(files) => Err(LayoutError::ReservedPad),
+        Layout::Aligned => Ok(aligned(alloc, files, piece_length)?),
+    }
+}
+
+/// Whether only padding may have one of the paths.
+fn any_reserved(files: &[(FilePath, u64)]) -> bool
+    ensures { result ≡ list_any (λ file. is_reserved file.0) files.now }
+{
+    files.iter().any(|file| is_reserved(&file.0))
+}
+
+/// An entry for each file.
+fn joined(alloc: Global, files: &[(FilePath, u64)]) -> Result<Vec<Entry>, AllocError>
+    ensures { IfOk result (λ entries. entries.items ≡ map file_entry files.now) }
+{
+    let mut entries = Vec::with_capacity(alloc, files.len())?;
+    for (path, length) in files {
+        entries.push(entry_of(alloc, path, *length)?)?;
+    }
+    Ok(entries)
+}
+
+/// An entry for each file, and padding after each that needs it.
+fn aligned(
+    alloc: Global,
+    files: &[(FilePath, u64)],
+    piece_length: u64,
+) -> Result<Vec<Entry>, AllocError>
+    requires { IsV1PieceLength piece_length }
+    ensures { IfOk result (λ entries. entries.items ≡ aligned_entries piece_length files.now) }
+{
+    // How many files with bytes are still to come.
+    let mut later = count_with_bytes(files);
+    let mut entries = Vec::with_capacity(alloc, files.len())?;
+    'files: for (path, length) in files {
+        entries.push(entry_of(alloc, path, *length)?)?;
+        if *length > 0 {
+            later -= 1;
+        }
+        let last_piece = *length % piece_length;
+        if later > 0 && last_piece > 0 {
+            entries.push(padding(alloc, piece_length - last_piece)?)?;
+        }
+    }
+    Ok(entries)
+}
+
+/// How many of the files are not empty.
+fn count_with_bytes(files: &[(FilePath, u64)]) -> usize
+    ensures { result ≡ count_by (λ file. nat_lt 0 file.1) files.now }
+{
+    files.iter().filter(|file| file.1 > 0).count()
+}
+
+/// The entry of a file.
+fn entry_of(alloc: Global, path: &FilePath, length: u64) -> Result<Entry, AllocError>
+    ensures { IfOk result (λ entry. entry ≡ file_entry (path.now, length)) }
+{
+    Ok(Entry {
+        path: copy(alloc, path)?,
+        length,
+        pad: false,
+    })
+}
+
+/// The same path again.
+fn copy(alloc: Global, path: &FilePath) -> Result<FilePath, AllocError>
+    ensures { IfOk result (λ copied. copied ≡ path.now) }
+{
+    let Some(copied) = FilePath::new(copies(alloc, path.names())?) else {
+        unreachable!()
+    };
+    Ok(copied)
+}
+
+/// The same names again.
+fn copies(alloc: Global, names: &[Name]) -> Result<Vec<Name>, AllocError>
+    ensures { IfOk result (λ copied. copied.items ≡ names.now) }
+{
+    let mut copied = Vec::with_capacity(alloc, names.len())?;
+    for name in names {
+        copied.push(name.copy(alloc)?)?;
+    }
+    Ok(copied)
+}

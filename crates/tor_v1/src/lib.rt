@@ -1,0 +1,26 @@
+//! The list of files of a version 1 torrent (BEP 3, "info dictionary"), with padding between the files of a
+//! hybrid one (BEP 47, "padding files"), and the SHA-1 of its pieces.
+//!
+//! - [`Entry`] (`entry.rt`): an entry of the list, a file or padding; [`is_reserved`]: a path only padding may have.
+//! - [`lay_out`] (`layout.rt`): the entries of a list of files, in one of two layouts. `padding.rt` makes the padding.
+//! - [`PieceSums`] (`sums.rt`): the SHA-1 of each piece of a content that is fed in parts.
+//!
+//! ```rust
+//! use tor_v1::PieceSums;
+//!
+//! let mut sums = PieceSums::new(rt.alloc(), 16384);
+//! sums.feed(b"ab")?;
+//! sums.feed_zeros(16382)?;
+//! sums.feed(b"c")?;
+//! assert_eq!(rt; sums.finish().len(), 40);
+//! ```
+#![tactic(auto)]
+
+mod entry;
+mod layout;
+mod padding;
+mod sums;
+
+pub use entry::{Entry, is_reserved};
+pub use layout::{Layout, LayoutError, lay_out};
+pub use sums::PieceSums;

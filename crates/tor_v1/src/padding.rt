@@ -1,0 +1,38 @@
+//! Padding: entries that stand for zero bytes.
+ghost use Rattle.std.specs.Prelude.{◌≡◌, None, IfOk};
+ghost use Rattle.tor_tree.specs.Name.{name_fault};
+ghost use Rattle.tor_v1.specs.Entries.{pad_entry};
+
+use crate::entry::Entry;
+use itoa::Buffer;
+use std::alloc::{AllocError, Global};
+use tor_tree::{FilePath, Name, NameError};
+
+/// The padding of `length` zero bytes.
+pub(crate) fn padding(alloc: Global, length: u64) -> Result<Entry, AllocError>
+    ensures { IfOk result (λ entry. entry ≡ pad_entry length) }
+{
+    let mut names = Vec::with_capacity(alloc, 2)?;
+    names.push(faultless_name(alloc, b".pad")?)?;
+    names.push(faultless_name(alloc, Buffer::new().format(length).as_bytes())?)?;
+    let Some(path) = FilePath::new(names) else {
+        unreachable!()
+    };
+    Ok(Entry {
+        path,
+        length,
+        pad: true,
+    })
+}
+
+/// The name of bytes that have no fault.
+fn faultless_name(alloc: Global, bytes: &[u8]) -> Result<Name, AllocError>
+    requires { name_fault bytes.now ≡ None }
+    ensures { IfOk result (λ name. name ≡ bytes.now) }
+{
+    match Name::new(alloc, bytes) {
+        Ok(name) => Ok(name),
+        Err(NameError::Memory) => Err(AllocError),
+        Err(_) => unreachable!(),
+    }
+}

@@ -1,0 +1,160 @@
+//! The SHA-1 of each piece of a content that is fed in parts.
+ghost use Rattle.std.specs.Prelude.{◌≡◌, ◌+◌, ◌*◌, ◌^◌, ◌<◌, ◌≤◌, ℕ, List, [], ◌++◌, length, replicate, OnOk, OnErr, IsOk, vec_len, vec_capacity};
+ghost use Rattle.std.specs.Int.{div_ceil};
+ghost use Rattle.sha1.specs.Sha1.{Holds, sha1};
+ghost use Rattle.tor_v1.specs.Piece.{IsV1PieceLength, max_piece_length, piece_sums};
+
+use sha1::{DIGEST_LEN, Sha1};
+use std::alloc::{AllocError, Global};
+use std::mem;
+
+/// So many zeros are fed at once.
+const ZEROS_LENGTH: usize = 1024;
+
+static ZEROS: [u8; ZEROS_LENGTH] = [0; ZEROS_LENGTH];
+
+/// The SHA-1 of each piece of a content that is fed in parts of any lengths (BEP 3, "info dictionary"). It keeps
+/// 20 bytes a piece, and nothing of the content. Clauses say by `HasFed` which bytes were fed.
+#[derive(Drop)]
+pub struct PieceSums {
+    piece_length: u64,
+    // How many bytes of the present piece were fed, 0 where none is begun.
+    begun: u64,
+    hasher: Sha1,
+    // The hashes of the whole pieces, with room for that of the present one.
+    sums: Vec<u8>,
+    ghost allowed: { IsV1PieceLength piece_length },
+    ghost within: { begun < piece_length },
+    ghost room: { vec_len sums + 20 * div_ceil begun piece_length ≤ vec_capacity sums },
+}
+
+impl PieceSums {
+    ghost use Rattle.tor_v1.specs.Feeding.{HasFed, Feeds, IsUnchanged};
+    ghost use Rattle.tor_v1.specs.Room.{HasRoom, IsSameBut};
+
+    /// Sums of no byte, for pieces of `piece_length` bytes.
+    pub fn new(alloc: Global, piece_length: u64) -> PieceSums
+        requires { IsV1PieceLength piece_length }
+        ensures { HasFed result piece_length [] }
+    {
+        PieceSums {
+            piece_length,
+            begun: 0,
+            hasher: Sha1::new(),
+            sums: Vec::new(alloc),
+        }
+    }
+
+    /// Adds `part` at the end of the content. Memory can only be refused where it begins a piece.
+    pub fn feed(&mut self, part: &[u8]) -> Result<(), AllocError>
+        ensures ok { OnOk result (Feeds self.old self.new part.now) }
+        ensures err { OnErr result (IsUnchanged self.old self.new) }
+        ensures within { (piece_length : ℕ) (bytes : List ℕ) → HasFed self.old piece_length bytes →
+            div_ceil (length bytes + length part.now) piece_length ≤ div_ceil (length bytes) piece_length →
+            IsOk result }
+    {
+        self.reserve(part.len() as u64)?;
+        self.add(part);
+        Ok(())
+    }
+
+    /// Adds `count` zeros, at most 2^30, at the end of the content. Memory can only be refused where they begin
+    /// a piece.
+    pub fn feed_zeros(&mut self, count: u64) -> Result<(), AllocError>
+        requires { count ≤ max_piece_length }
+        ensures ok { OnOk result (Feeds self.old self.new (replicate count 0)) }
+        ensures err { OnErr result (IsUnchanged self.old self.new) }
+        ensures within { (piece_length : ℕ) (bytes : List ℕ) → HasFed self.old piece_length bytes →
+            div_ceil (length bytes + count) piece_length ≤ div_ceil (length bytes) piece_length → IsOk result }
+    {
+        self.reserve(count)?;
+        let mut left = count;
+        'zeros: while left > 0 {
+            let part = zeros(left.min(ZEROS_LENGTH as u64) as usize);
+            self.add(part);
+            left -= part.len() as u64;
+        }
+        Ok(())
+    }
+
+    /// The joined SHA-1 of each piece of the bytes fed, the last piece perhaps shorter.
+    pub fn finish(self) -> Vec<u8>
+        ensures { (piece_length : ℕ) (bytes : List ℕ) → HasFed self piece_length bytes →
+            result.items ≡ piece_sums piece_length bytes }
+    {
+        let PieceSums {
+            piece_length: _,
+            begun,
+            mut hasher,
+            mut sums,
+        } = self;
+        if begun > 0 {
+            end_piece(&mut hasher, &mut sums);
+        }
+        sums
+    }
+
+    // Makes room for the hashes of the pieces that so many more bytes begin.
+    fn reserve(&mut self, more: u64) -> Result<(), AllocError>
+        requires { more < 2 ^ 63 }
+        ensures same { IsSameBut self.old self.new }
+        ensures room { OnOk result (HasRoom self.new more) }
+        ensures there { HasRoom self.old more → IsOk result }
+    {
+        let pieces = (self.begun + more).div_ceil(self.piece_length);
+        self.sums
+            .reserve(pieces.saturating_mul(DIGEST_LEN as u64) as usize)
+    }
+
+    // Adds bytes of any number, for whose pieces there is room.
+    fn add(&mut self, bytes: &[u8])
+        requires { HasRoom self.old (length bytes.now) }
+        ensures fed { Feeds self.old self.new bytes.now }
+        ensures room { (later : ℕ) → HasRoom self.old (length bytes.now + later) → HasRoom self.new later }
+    {
+        let mut rest = bytes;
+        'parts: while !rest.is_empty() {
+            let length = rest.len().min((self.piece_length - self.begun) as usize);
+            let (part, later) = rest.split_at(length);
+            self.add_to_piece(part);
+            rest = later;
+        }
+    }
+
+    // Adds bytes of one piece.
+    fn add_to_piece(&mut self, part: &[u8])
+        requires within { self.old.begun + length part.now ≤ self.old.piece_length }
+        requires room { HasRoom self.old (length part.now) }
+        ensures fed { Feeds self.old self.new part.now }
+        ensures room { (later : ℕ) → HasRoom self.old (length part.now + later) → HasRoom self.new later }
+    {
+        self.hasher.update(part);
+        self.begun += part.len() as u64;
+        if self.begun == self.piece_length {
+            end_piece(&mut self.hasher, &mut self.sums);
+            self.begun = 0;
+        }
+    }
+}
+
+/// Puts the hash of a piece after those before it, for which there is room, and begins the next piece.
+fn end_piece(hasher: &mut Sha1, sums: &mut Vec<u8>)
+    requires { vec_len sums.old + 20 ≤ vec_capacity sums.old }
+    ensures hashed { (piece : List ℕ) → Holds hasher.old piece →
+        sums.new.items ≡ sums.old.items ++ sha1 piece }
+    ensures len { vec_len sums.new ≡ vec_len sums.old + 20 }
+    ensures capacity { vec_capacity sums.old ≤ vec_capacity sums.new }
+    ensures next { Holds hasher.new [] }
+{
+    let sum = mem::replace(hasher, Sha1::new()).finalize();
+    // There is room.
+    let _ = sums.extend_from_slice(&sum);
+}
+
+/// So many zeros.
+fn zeros(count: usize) -> &'static [u8]
+    requires { count ≤ ZEROS_LENGTH }
+    ensures { result.now ≡ replicate count 0 }
+{
+    &ZEROS[..count]
+}
