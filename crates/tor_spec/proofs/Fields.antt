@@ -66,12 +66,13 @@ later a b h = nat_list_cmp_total.antisymm b a ∙ ap ordering_reverse h
 -- one more pair in its place
 put_above : (below key : List ℕ) (value : Data) (pairs : Pairs) → AreRising (below ∷ keys_of pairs) → name_cmp below key ≡ Less → AreRising (below ∷ keys_of (put key value pairs))
 put_above below key value no_pairs rising less = (less, tt)
-put_above below key value (pair k v pairs) rising less = by_order (name_cmp key k) refl
+put_above below key value (pair k v pairs) rising less =
+    by_order (name_cmp key k) refl (λ above. put_above k key value pairs rising.1 above)
   where
-    by_order : (r : Ordering) → name_cmp key k ≡ r → AreRising (below ∷ keys_of (match_ordering r (pair key value (pair k v pairs)) (pair key value pairs) (pair k v (put key value pairs))))
-    by_order Less e = (less, (e, rising.1))
-    by_order Equal e = (less, equal_keys key k (keys_of pairs) e rising.1)
-    by_order Greater e = (rising.0, put_above k key value pairs rising.1 (later key k e))
+    by_order : (r : Ordering) → name_cmp key k ≡ r → (name_cmp k key ≡ Less → AreRising (k ∷ keys_of (put key value pairs))) → AreRising (below ∷ keys_of (match_ordering r (pair key value (pair k v pairs)) (pair key value pairs) (pair k v (put key value pairs))))
+    by_order Less e after = (less, (e, rising.1))
+    by_order Equal e after = (less, equal_keys key k (keys_of pairs) e rising.1)
+    by_order Greater e after = (rising.0, after (later key k e))
 
 pub put_rising : (key : List ℕ) (value : Data) (pairs : Pairs) → AreRising (keys_of pairs) → AreRising (keys_of (put key value pairs))
 put_rising key value no_pairs rising = tt
@@ -84,15 +85,12 @@ put_rising key value (pair k v pairs) rising = by_order (name_cmp key k) refl
 
 pub put_lawful : (n : ℕ) (key : List ℕ) (value : Data) (pairs : Pairs) → IsLawfulWithin n value → PairsAreLawfulWithin n pairs → PairsAreLawfulWithin n (put key value pairs)
 put_lawful n key value no_pairs h k = pair_lawful n key value no_pairs h k
-put_lawful n key value (pair other v pairs) h k = by_order (name_cmp key other)
+put_lawful n key value (pair other v pairs) h k =
+    let first : IsLawfulWithin n v = record { keys = k.keys.0; integers = k.integers.0; nesting = omega (arith, k.nesting) } in
+    let rest : PairsAreLawfulWithin n pairs = record { keys = k.keys.1; integers = k.integers.1; nesting = omega (arith, k.nesting) } in
+    by_order first rest (put_lawful n key value pairs h rest) (name_cmp key other)
   where
-    rest : PairsAreLawfulWithin n pairs
-    rest = record { keys = k.keys.1; integers = k.integers.1; nesting = omega (arith, k.nesting) }
-
-    first : IsLawfulWithin n v
-    first = record { keys = k.keys.0; integers = k.integers.0; nesting = omega (arith, k.nesting) }
-
-    by_order : (r : Ordering) → PairsAreLawfulWithin n (match_ordering r (pair key value (pair other v pairs)) (pair key value pairs) (pair other v (put key value pairs)))
-    by_order Less = pair_lawful n key value (pair other v pairs) h k
-    by_order Equal = pair_lawful n key value pairs h rest
-    by_order Greater = pair_lawful n other v (put key value pairs) first (put_lawful n key value pairs h rest)
+    by_order : IsLawfulWithin n v → PairsAreLawfulWithin n pairs → PairsAreLawfulWithin n (put key value pairs) → (r : Ordering) → PairsAreLawfulWithin n (match_ordering r (pair key value (pair other v pairs)) (pair key value pairs) (pair other v (put key value pairs)))
+    by_order first rest later Less = pair_lawful n key value (pair other v pairs) h k
+    by_order first rest later Equal = pair_lawful n key value pairs h rest
+    by_order first rest later Greater = pair_lawful n other v (put key value pairs) first later
