@@ -1,5 +1,6 @@
 pub mod Ceil
 pub mod Cut
 pub mod Fed
+pub mod ProvedLaws
 pub mod Names
 pub mod Aligned

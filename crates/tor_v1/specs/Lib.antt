@@ -1,5 +1,6 @@
 pub mod Piece
 pub mod Reserved
 pub mod Entries
+pub mod Content
 pub mod Feeding
 pub mod Room

@@ -4,6 +4,7 @@
 //! - [`Entry`] (`entry.rt`): an entry of the list, a file or padding; [`is_reserved`]: a path only padding may have.
 //! - [`lay_out`] (`layout.rt`): the entries of a list of files, in one of two layouts. `padding.rt` makes the padding.
 //! - [`PieceSums`] (`sums.rt`): the SHA-1 of each piece of a content that is fed in parts.
+//! - [`laws`]: what follows from the definitions alone.
 //!
 //! ```rust
 //! use tor_v1::PieceSums;
@@ -17,9 +18,12 @@
 #![tactic(auto)]
 
 mod entry;
+pub mod laws;
 mod layout;
 mod padding;
 mod sums;
+#[cfg(test)]
+mod tests;
 
 pub use entry::{Entry, is_reserved};
 pub use layout::{Layout, LayoutError, lay_out};
