@@ -5,3 +5,4 @@ pub mod PieceLayers
 pub mod FilesList
 pub mod InfoDictionary
 pub mod Metainfo
+pub mod Makeable
