@@ -6,7 +6,7 @@ ghost use Rattle.tor_tree.specs.declared.lists.ListError.TheVariants.{Memory};
 
 use crate::path_faults::paths_fault;
 use crate::paths::{FilePath, each_is_path};
-use std::alloc::{AllocError, Global};
+use std::alloc::{AllocError, AllocFailed, Global};
 use std::marker::Model;
 use thiserror::Error;
 
@@ -41,6 +41,14 @@ impl From<AllocError> for ListError {
     ghost from_gives = { λ _ e. e ≡ Memory };
 
     fn from(_error: AllocError) -> ListError {
+        ListError::Memory
+    }
+}
+
+impl<T: Drop> From<AllocFailed<T>> for ListError {
+    ghost from_gives = { λ _ e. e ≡ Memory };
+
+    fn from(_failed: AllocFailed<T>) -> ListError {
         ListError::Memory
     }
 }
