@@ -3,7 +3,7 @@ use Rattle.std.proofs.Common.{◌≡◌, ◌==◌, ℕ, Bool, true, false, cond,
 use Rattle.std.specs.Str.{IsUtf8, is_utf8, bytes_eq}
 use Rattle.std.proofs.lemmas.Str.{IsUtf8-from_is_utf8, is_utf8-from_IsUtf8}
 use Rattle.tor_tree.specs.declared.names.NameError.TheVariants.{NotUtf8}
-use Rattle.tor_tree.specs.Name.{name_fault, has_byte}
+use Rattle.tor_tree.specs.Name.{name_fault, has_byte, slash}
 
 -- a test that gives a fault is not passed where there is none
 later : {E : Type 0} (test : Bool) (fault : E) (rest : Option E) → cond test (Some fault) rest ≡ None → rest ≡ None
@@ -17,7 +17,7 @@ passed false fault h = cc
 pub IsUtf8-faultless : (name : List ℕ) → name_fault name ≡ None → IsUtf8 name
 IsUtf8-faultless name h =
     IsUtf8-from_is_utf8 name
-    (passed (is_utf8 name) NotUtf8 (later (has_byte 0 name) _ _ (later (has_byte 47 name) _ _ (later (bytes_eq name (codes "..")) _ _ (later (bytes_eq name (codes ".")) _ _ (later (length name == 0) _ _ h))))))
+    (passed (is_utf8 name) NotUtf8 (later (has_byte 0 name) _ _ (later (has_byte slash name) _ _ (later (bytes_eq name (codes "..")) _ _ (later (bytes_eq name (codes ".")) _ _ (later (length name == 0) _ _ h))))))
 
 -- a call that is Ok of text alone answers as the test does
 pub is_ok-utf8 : {S E : Type 0} (bytes : List ℕ) (r : Result S E) (Found : S → Type 0) (Refused : E → Type 0) → MatchResult r Found Refused → ((s : S) → Found s → IsUtf8 bytes) → ((e : E) → Refused e → IsUtf8 bytes → ⊥) → is_ok r ≡ is_utf8 bytes

@@ -1,5 +1,5 @@
 -- A list of files has the same fault in every order.
-use Rattle.std.proofs.Common.{◌≡◌, ℕ, ◌^◌, Bool, cond, List, [], ◌∷◌, ◌++◌, length, take, drop, subst, count_by, nat_lt, refl, sym, ap, ◌∙◌}
+use Rattle.std.proofs.Common.{◌≡◌, ℕ, Bool, cond, List, [], ◌∷◌, ◌++◌, length, take, drop, subst, count_by, nat_lt, refl, sym, ap, ◌∙◌}
 use Rattle.std.specs.List.{list_any}
 use Rattle.std.specs.List.Sorted.{IsPermutation}
 use Rattle.std.proofs.lemmas.List.Sorted.{IsPermutation-map, list_any-IsPermutation, sum_by-IsPermutation, length_permutation}
@@ -7,6 +7,7 @@ use Rattle.std.proofs.Math.Seq.{take-append_seam}
 use Rattle.tor_tree.specs.FileList.{paths_of, lengths_of, paths_repeat, paths_nest, paths_fault, lengths_fault, list_fault, is_inside}
 use Rattle.tor_tree.specs.Path.{path_eq}
 use Rattle.tor_tree.proofs.Lengths.{rounded}
+use Rattle.tor_tree.specs.declared.lists.TheConstants.{MAX_LENGTH}
 
 -- tests that agree find the same in a list
 list_any-same : {X : Type 0} (p q : X → Bool) → ((x : X) → p x ≡ q x) → (xs : List X) → list_any p xs ≡ list_any q xs
@@ -29,7 +30,7 @@ paths_fault-permutation ps qs moved =
 
 pub lengths_fault-permutation : (ms ns : List ℕ) → IsPermutation ms ns → lengths_fault ms ≡ lengths_fault ns
 lengths_fault-permutation ms ns moved =
-    rw (list_any-IsPermutation (nat_lt (2 ^ 50)) ms ns moved, sum_by-IsPermutation rounded ms ns moved) refl
+    rw (list_any-IsPermutation (nat_lt MAX_LENGTH) ms ns moved, sum_by-IsPermutation rounded ms ns moved) refl
 
 pub list_fault-permutation : (xs ys : List (List (List ℕ) × ℕ)) → IsPermutation xs ys → list_fault xs ≡ list_fault ys
 list_fault-permutation xs ys moved =

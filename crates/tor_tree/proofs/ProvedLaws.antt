@@ -1,19 +1,21 @@
 -- The proofs of the laws of src/laws.rt: what the crates above may cite of these proofs.
 use Rattle.std.proofs.Common.{◌≡◌, ◌+◌, ◌<◌, ◌≤◌, ◌^◌, ℕ, List, None, Option, length, get_or, map}
 use Rattle.std.specs.List.{All, AllZip}
-use Rattle.std.specs.List.Sorted.{IsStrictlySortedBy}
+use Rattle.std.specs.List.Sorted.{IsPermutation, IsStrictlySortedBy}
 use Rattle.std.proofs.lemmas.List.Elements.{recursion_from_All}
 use Rattle.tor_bencode.specs.Data.{Data}
 use Rattle.tor_bencode.specs.Lawful.{HasRisingKeys, IsLawfulWithin}
 use Rattle.tor_tree.specs.FileList.{IsInPathOrder}
 use Rattle.tor_tree.specs.FileTree.{files_of_tree, tree_fault}
 use Rattle.tor_tree.specs.Path.{HasNames, IsFilePath, path_cmp}
+use Rattle.tor_tree.specs.PathList.{ArePlaces}
 use Rattle.tor_tree.specs.TidyTree.{AtMostOneTree, HasItsRoot, IsFileTreeOf}
 use Rattle.tor_tree.specs.WrittenTree.{file_tree}
 use Rattle.tor_tree.specs.declared.tree_file.TreeFile.{TreeFile}
 use Rattle.tor_tree.proofs.FileTrees.{made_file_tree}
 use Rattle.tor_tree.proofs.LawfulTree.{lawful_tree}
 use Rattle.tor_tree.proofs.OneTree.{one_tree}
+use Rattle.tor_tree.proofs.PlacedPaths.{moved_to_places}
 use Rattle.tor_tree.proofs.Readable.{path_named}
 use Rattle.tor_tree.proofs.ReadFiles.{read_paths, read_roots, rooted_by_place}
 use Rattle.tor_tree.proofs.RisingPaths.{paths_rise}
@@ -34,6 +36,9 @@ paths_have_names = path_named
 
 pub roots_by_place : (files : List (List (List ℕ) × ℕ)) (roots : List (Option (List ℕ))) → length roots ≡ length files → ((k : ℕ) (file : List (List ℕ) × ℕ) (root : Option (List ℕ)) → k < length files → HasItsRoot (get_or files k file) (get_or roots k root)) → AllZip HasItsRoot files roots
 roots_by_place = rooted_by_place
+
+pub at_places : {X : Type 0} (xs : List X) (d : X) (places : List ℕ) → ArePlaces places → length places ≡ length xs → IsPermutation xs (map (λ place. get_or xs place d) places)
+at_places = moved_to_places
 
 pub rising_paths : (tree : Data) → HasRisingKeys tree → IsStrictlySortedBy path_cmp (map (λ (file : TreeFile). file.path) (files_of_tree tree))
 rising_paths = paths_rise

@@ -5,7 +5,7 @@ use Rattle.std.proofs.lemmas.Bool.{le-ltb}
 use Rattle.tor_bencode.specs.Data.{Data, integer, string, list, dictionary, Pairs, no_pairs, pair}
 use Rattle.tor_tree.specs.FileTree.{are_entries, entries_in, entries_of, is_folder, under}
 use Rattle.tor_tree.specs.Name.{name_fault}
-use Rattle.tor_tree.specs.Properties.{are_properties, has_letter, has_negative_length, properties_for}
+use Rattle.tor_tree.specs.Properties.{are_properties, has_letter, has_negative_length, properties_for, letter_l}
 use Rattle.tor_tree.specs.TidyTree.{AreTidy, IsTidy}
 use Rattle.tor_tree.proofs.OneTree.{AreTidyFiles}
 use Rattle.tor_tree.proofs.RisingTree.{first_in}
@@ -48,7 +48,7 @@ plain_length : (n : ℕ) (root : Option (List ℕ)) → has_negative_length (pro
 plain_length n None = le-ltb n 0 (omega arith)
 plain_length n (Some root) = le-ltb n 0 (omega arith)
 
-plain_letters : (n : ℕ) (root : Option (List ℕ)) → has_letter 108 (properties_for n root) ≡ false
+plain_letters : (n : ℕ) (root : Option (List ℕ)) → has_letter letter_l (properties_for n root) ≡ false
 plain_letters n None = refl
 plain_letters n (Some root) = refl
 
@@ -57,7 +57,7 @@ no_negative_length [] tidy = refl
 no_negative_length ((path, properties) ∷ entries) ((n, root, is, rooted), tidy) =
     rw (is, plain_length n root, no_negative_length entries tidy) refl
 
-pub no_link : (entries : List (List (List ℕ) × Data)) → AreTidyFiles entries → list_any (has_letter 108) (map (λ entry. entry.1) entries) ≡ false
+pub no_link : (entries : List (List (List ℕ) × Data)) → AreTidyFiles entries → list_any (has_letter letter_l) (map (λ entry. entry.1) entries) ≡ false
 no_link [] tidy = refl
 no_link ((path, properties) ∷ entries) ((n, root, is, rooted), tidy) =
     rw (is, plain_letters n root, no_link entries tidy) refl

@@ -8,7 +8,7 @@ use Rattle.std.proofs.lemmas.Bool.{or_parts, lt-ltb, eqb-false, not-false}
 use Rattle.tor_bencode.specs.Data.{Data, integer, string, list, dictionary, Pairs, no_pairs, pair}
 use Rattle.tor_tree.specs.FileList.{lengths_too_large}
 use Rattle.tor_tree.specs.FileTree.{entries_of, entries_in, under, file_of, files_of_tree, has_empty_key, is_folder, lacks_root, properties_in, tree_fault, tree_mixes}
-use Rattle.tor_tree.specs.Properties.{has_negative_length, has_letter, length_of, is_hash, pieces_root}
+use Rattle.tor_tree.specs.Properties.{has_negative_length, has_letter, length_of, is_hash, pieces_root, letter_l}
 use Rattle.tor_tree.specs.Reading.{entries_fault, entry_at, file_from, hash_of, path_if_any}
 use Rattle.tor_tree.specs.declared.entries.Entry.{Entry}
 use Rattle.tor_tree.proofs.ListFaults.{clear}
@@ -39,7 +39,7 @@ entries_fault-tree tree shaped =
     let files = entries_of tree in
     let lengths : map (λ (entry : Entry). unsigned_abs entry.properties.length) (map (entry_at []) files) ≡ map length_of (properties_in tree) =
     map-map (λ (entry : Entry). unsigned_abs entry.properties.length) (entry_at []) files ∙ sym (map-map length_of (λ (file : List (List ℕ) × Data). file.1) files) in
-    rw (shaped, alike (λ entry. int_lt entry.properties.length (pos 0)) has_negative_length (λ _. refl) files, length-map files (entry_at []), lengths, alike (λ entry. entry.properties.link) (has_letter 108) (λ _. refl) files, alike (λ entry. nat_lt 0 (unsigned_abs entry.properties.length) && is_none entry.properties.root) lacks_root (λ file. ap (λ b. nat_lt 0 (length_of file.1) && b) (hash_missing (pieces_root file.1))) files)
+    rw (shaped, alike (λ entry. int_lt entry.properties.length (pos 0)) has_negative_length (λ _. refl) files, length-map files (entry_at []), lengths, alike (λ entry. entry.properties.link) (has_letter letter_l) (λ _. refl) files, alike (λ entry. nat_lt 0 (unsigned_abs entry.properties.length) && is_none entry.properties.root) lacks_root (λ file. ap (λ b. nat_lt 0 (length_of file.1) && b) (hash_missing (pieces_root file.1))) files)
     (rw length-map refl)
 
 -- a tree without a fault mixes no files and folders, and lacks no root
@@ -49,7 +49,7 @@ faultless_tree tree h =
     let b = clear (list_any has_negative_length (properties_in tree)) _ _ a.1 in
     let c = clear (length (properties_in tree) == 0) _ _ b.1 in
     let d = clear (lengths_too_large (map length_of (properties_in tree))) _ _ c.1 in
-    let e = clear (list_any (has_letter 108) (properties_in tree)) _ _ d.1 in
+    let e = clear (list_any (has_letter letter_l) (properties_in tree)) _ _ d.1 in
     let f = clear (tree_mixes tree) _ _ e.1 in
     (f.0, (clear (list_any lacks_root (properties_in tree)) _ _ f.1).0)
 

@@ -1,5 +1,5 @@
 -- Lists of files: pairs of a path and a length in bytes.
-use Rattle.std.specs.Prelude.{◌≡◌, ℕ, ◌^◌, ◌==◌, Bool, ◌&&◌, ◌||◌, nat_lt, All, List, length, map, count_by, sum_by, Option, Some, None, if◌then◌else◌}
+use Rattle.std.specs.Prelude.{◌≡◌, ℕ, ◌==◌, Bool, ◌&&◌, ◌||◌, nat_lt, All, List, length, map, count_by, sum_by, Option, Some, None, if◌then◌else◌}
 use Rattle.std.specs.Int.{next_multiple_of}
 use Rattle.std.specs.List.{list_any, starts_with}
 use Rattle.std.specs.List.Sorted.{IsStrictlySortedBy}
@@ -7,6 +7,7 @@ use Rattle.std.specs.Option.{option_or}
 use Rattle.tor_tree.specs.declared.lists.ListError.{ListError}
 use Rattle.tor_tree.specs.declared.lists.ListError.TheVariants.{NoFiles, Duplicate, FileAndFolder, TooLarge}
 use Rattle.tor_tree.specs.Path.{IsFilePath, name_eq, path_eq, path_cmp}
+use Rattle.tor_tree.specs.declared.lists.TheConstants.{MAX_LENGTH, MAX_TOTAL, ROUNDING}
 
 -- the paths of pairs, of a path and of whatever goes with it
 abbrev pub paths_of : {X : Type 0} → List (List (List ℕ) × X) → List (List (List ℕ))
@@ -30,7 +31,7 @@ paths_nest paths = list_any (λ folder. list_any (is_inside folder) paths) paths
 -- a length is over 2^50, or the lengths, each rounded up to a multiple of 2^30, sum to over 2^62
 abbrev pub lengths_too_large : List ℕ → Bool
 lengths_too_large lengths =
-    list_any (nat_lt (2 ^ 50)) lengths || nat_lt (2 ^ 62) (sum_by (λ length. next_multiple_of length (2 ^ 30)) lengths)
+    list_any (nat_lt MAX_LENGTH) lengths || nat_lt MAX_TOTAL (sum_by (λ length. next_multiple_of length ROUNDING) lengths)
 
 -- why paths are no list: the first of three causes that holds, or none
 abbrev pub paths_fault : List (List (List ℕ)) → Option ListError

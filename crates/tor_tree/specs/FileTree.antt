@@ -4,7 +4,7 @@ use Rattle.std.specs.List.{list_any}
 use Rattle.tor_bencode.specs.Data.{Data, integer, string, list, dictionary, Pairs, no_pairs, pair, keys_of}
 use Rattle.tor_tree.specs.FileList.{lengths_too_large}
 use Rattle.tor_tree.specs.Name.{name_fault}
-use Rattle.tor_tree.specs.Properties.{are_properties, has_negative_length, length_of, pieces_root, is_hash, has_letter}
+use Rattle.tor_tree.specs.Properties.{are_properties, has_negative_length, length_of, pieces_root, is_hash, has_letter, letter_l, letter_x, letter_h}
 use Rattle.tor_tree.specs.declared.tree_file.TreeFile.{TreeFile}
 use Rattle.tor_tree.specs.declared.tree_file.TreeFault.{TreeFault}
 use Rattle.tor_tree.specs.declared.tree_file.TreeFault.TheVariants as faults
@@ -31,8 +31,8 @@ file_of (path, properties) = record {
   path = path;
   length = length_of properties;
   root = if length_of properties == 0 then None else pieces_root properties;
-  exec = has_letter 120 properties;
-  hidden = has_letter 104 properties;
+  exec = has_letter letter_x properties;
+  hidden = has_letter letter_h properties;
 }
 
 -- the files that a tree describes, in the order of its keys; a folder without files gives none
@@ -95,6 +95,6 @@ tree_fault tree =
     if list_any has_negative_length (properties_in tree) then Some faults.Length else (
     if length (properties_in tree) == 0 then Some faults.Empty else (
     if lengths_too_large (map length_of (properties_in tree)) then Some faults.TooLarge else (
-    if list_any (has_letter 108) (properties_in tree) then Some faults.Symlink else (
+    if list_any (has_letter letter_l) (properties_in tree) then Some faults.Symlink else (
     if tree_mixes tree then Some faults.Mixed else (
     if list_any lacks_root (properties_in tree) then Some faults.Root else None))))))

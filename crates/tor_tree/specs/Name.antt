@@ -9,12 +9,16 @@ use Rattle.tor_tree.specs.declared.names.NameError.TheVariants.{Empty, Dot, DotD
 abbrev pub has_byte : ℕ → List ℕ → Bool
 has_byte b name = list_any (λ x. x == b) name
 
+-- the byte `/`
+abbrev pub slash : ℕ
+slash = 47
+
 -- why a byte string is no name: the first of six causes that holds, or none
 abbrev pub name_fault : List ℕ → Option NameError
 name_fault name =
     if length name == 0 then Some Empty else (
     if bytes_eq name (codes ".") then Some Dot else (
     if bytes_eq name (codes "..") then Some DotDot else (
-    if has_byte 47 name then Some Slash else (
+    if has_byte slash name then Some Slash else (
     if has_byte 0 name then Some Nul else (
     if is_utf8 name then None else Some NotUtf8)))))

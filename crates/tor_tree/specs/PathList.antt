@@ -1,6 +1,6 @@
 -- Lists of paths: each with its place among those that were handed in, counted from 0.
 use Rattle.std.specs.Prelude.{◌≡◌, ℕ, All, List, [], length, map, None, slice_index_or}
-use Rattle.std.specs.List.{range_with_len}
+use Rattle.std.specs.List.{enumerate_from, range_with_len}
 use Rattle.std.specs.List.Sorted.{IsPermutation}
 use Rattle.tor_tree.specs.FileList.{IsInPathOrder, paths_fault, paths_of}
 use Rattle.tor_tree.specs.Path.{IsFilePath}
@@ -24,3 +24,7 @@ pub record ArePlacedPaths (paths : List (List (List ℕ))) (entries : List (List
   pub one_each : length entries ≡ length paths
   pub places : ArePlaces (places_of entries)
   pub found : All (λ entry. slice_index_or paths entry.1 [] ≡ entry.0) entries
+
+-- paths as they were handed in, each with its place
+abbrev pub with_places : List (List (List ℕ)) → List (List (List ℕ) × ℕ)
+with_places paths = map (λ p. (p.1, p.0)) (enumerate_from 0 paths)

@@ -41,6 +41,16 @@ abbrev pub is_hash : Option (List ℕ) → Bool
 is_hash None = false
 is_hash (Some bytes) = length bytes == 32
 
+-- the letters of `attr`: `l` for a symbolic link, `x` for a file that may be run, `h` for a hidden one
+abbrev pub letter_l : ℕ
+letter_l = 108
+
+abbrev pub letter_x : ℕ
+letter_x = 120
+
+abbrev pub letter_h : ℕ
+letter_h = 104
+
 -- the letter is one of `attr`
 abbrev pub has_letter : ℕ → Data → Bool
 has_letter letter file = has_byte letter (unwrap_or (as_string (value_of (codes "attr") file)) [])

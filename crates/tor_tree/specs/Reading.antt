@@ -2,7 +2,7 @@
 use Rattle.std.specs.Prelude.{pos, unsigned_abs, int_lt, ℕ, ◌==◌, ◌&&◌, map, nat_lt, Bool, List, [], ◌∷◌, ◌++◌, length, Option, None, Some, is_none, unwrap_or, if◌then◌else◌}
 use Rattle.tor_bencode.specs.Data.{Data}
 use Rattle.tor_bencode.specs.Find.{value_of}
-use Rattle.tor_tree.specs.Properties.{are_properties, signed_length, as_string, is_hash, pieces_root, has_letter}
+use Rattle.tor_tree.specs.Properties.{are_properties, signed_length, as_string, is_hash, pieces_root, has_letter, letter_l, letter_x, letter_h}
 use Rattle.std.specs.Prelude.{codes}
 use Rattle.std.specs.List.{list_any}
 use Rattle.tor_tree.specs.FileList.{lengths_too_large}
@@ -24,9 +24,9 @@ abbrev pub facts_in : Data → Properties
 facts_in file = record {
   length = signed_length file;
   root = hash_of file;
-  link = has_letter 108 file;
-  exec = has_letter 120 file;
-  hidden = has_letter 104 file;
+  link = has_letter letter_l file;
+  exec = has_letter letter_x file;
+  hidden = has_letter letter_h file;
 }
 
 abbrev pub facts_of : Data → Option Properties

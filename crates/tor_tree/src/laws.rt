@@ -1,12 +1,13 @@
 //! Laws over the definitions alone.
 ghost use Rattle.std.specs.Prelude.{◌≡◌, ◌+◌, ◌<◌, ◌≤◌, ◌^◌, ℕ, All, List, None, Option, length, map, slice_index_or};
 ghost use Rattle.std.specs.List.{AllZip};
-ghost use Rattle.std.specs.List.Sorted.{IsStrictlySortedBy};
+ghost use Rattle.std.specs.List.Sorted.{IsPermutation, IsStrictlySortedBy};
 ghost use Rattle.tor_bencode.specs.Data.{Data};
 ghost use Rattle.tor_bencode.specs.Lawful.{HasRisingKeys, IsLawfulWithin};
 ghost use Rattle.tor_tree.specs.FileList.{IsInPathOrder};
 ghost use Rattle.tor_tree.specs.FileTree.{files_of_tree, tree_fault};
 ghost use Rattle.tor_tree.specs.Path.{HasNames, IsFilePath, path_cmp};
+ghost use Rattle.tor_tree.specs.PathList.{ArePlaces};
 ghost use Rattle.tor_tree.specs.TidyTree.{AtMostOneTree, HasItsRoot, IsFileTreeOf};
 ghost use Rattle.tor_tree.specs.WrittenTree.{file_tree};
 
@@ -41,6 +42,12 @@ pub fn roots_by_place()
         ((k : ℕ) (file : List (List ℕ) × ℕ) (root : Option (List ℕ)) → k < length files →
         HasItsRoot (slice_index_or files k file) (slice_index_or roots k root)) →
         AllZip HasItsRoot files roots }
+{}
+
+/// What stands at the places of a list of paths is all that was handed in, in another order.
+pub fn at_places<T>()
+    ensures { (xs : List T) (d : T) (places : List ℕ) → ArePlaces places → length places ≡ length xs →
+        IsPermutation xs (map (λ place. slice_index_or xs place d) places) }
 {}
 
 /// The files of a tree whose keys rise are in the order of their paths, each path once.

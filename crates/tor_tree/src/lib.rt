@@ -3,6 +3,7 @@
 //! - [`Name`] (`names.rt`): the name of a file or a folder.
 //! - [`FilePath`] (`paths.rt`): the names that lead to a file, in the order of paths.
 //! - [`FileList`] (`lists.rt`): files in order, each once.
+//! - [`PathList`] (`path_lists.rt`): paths in order, each with its place among those handed in, before lengths are known.
 //! - [`from_item`] (`read_tree.rt`): the files that a tree describes, each a [`TreeFile`] (`tree_file.rt`); they are in
 //!   order.
 //! - [`to_item`] (`write_tree.rt`): the tidy tree of a list; there is one at most.
@@ -18,6 +19,7 @@ mod lists;
 mod mixed;
 mod names;
 mod path_faults;
+mod path_lists;
 mod paths;
 mod properties;
 mod read_tree;
@@ -29,6 +31,7 @@ mod write_tree;
 pub use kinds::Kind;
 pub use lists::{FileList, ListError, MAX_LENGTH, MAX_TOTAL, ROUNDING};
 pub use names::{Name, NameError, copies, each_is_name};
+pub use path_lists::PathList;
 pub use paths::FilePath;
 pub use read_tree::from_item;
 pub use tree_file::{Hash, TreeFault, TreeFile};

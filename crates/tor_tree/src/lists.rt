@@ -3,10 +3,11 @@ ghost use Rattle.std.specs.Prelude.{◌≡◌, ◌⊎◌, MatchOption, ◌<◌, 
 ghost use Rattle.std.specs.Int.{next_multiple_of};
 ghost use Rattle.tor_tree.specs.FileList.{lengths_of, lengths_too_large};
 ghost use Rattle.tor_tree.specs.declared.lists.ListError.TheVariants.{Memory};
+ghost use Rattle.tor_tree.specs.declared.lists.TheConstants.{MAX_LENGTH, MAX_TOTAL, ROUNDING};
 
 use crate::path_faults::paths_fault;
 use crate::paths::{FilePath, each_is_path};
-use std::alloc::{AllocError, Global};
+use std::alloc::{AllocError, AllocFailed, Global};
 use std::marker::Model;
 use thiserror::Error;
 
@@ -41,6 +42,14 @@ impl From<AllocError> for ListError {
     ghost from_gives = { λ _ e. e ≡ Memory };
 
     fn from(_error: AllocError) -> ListError {
+        ListError::Memory
+    }
+}
+
+impl<T: Drop> From<AllocFailed<T>> for ListError {
+    ghost from_gives = { λ _ e. e ≡ Memory };
+
+    fn from(_failed: AllocFailed<T>) -> ListError {
         ListError::Memory
     }
 }
@@ -127,10 +136,10 @@ fn is_too_large(files: &[(FilePath, u64)]) -> bool
 
 /// The total with one more length, rounded up; None where that length or the new total is too large.
 pub fn with_length(total: u64, length: u64) -> Option<u64>
-    requires { total ≤ 2 ^ 62 }
+    requires { total ≤ MAX_TOTAL }
     ensures { MatchOption result
-        ((2 ^ 50 < length) ⊎ (2 ^ 62 < total + next_multiple_of length (2 ^ 30)))
-        (λ sum. (sum ≡ total + next_multiple_of length (2 ^ 30)) × (length ≤ 2 ^ 50) × (sum ≤ 2 ^ 62)) }
+        ((MAX_LENGTH < length) ⊎ (MAX_TOTAL < total + next_multiple_of length ROUNDING))
+        (λ sum. (sum ≡ total + next_multiple_of length ROUNDING) × (length ≤ MAX_LENGTH) × (sum ≤ MAX_TOTAL)) }
 {
     if length > MAX_LENGTH {
         return None;

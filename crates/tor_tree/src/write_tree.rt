@@ -8,6 +8,7 @@ ghost use Rattle.tor_tree.specs.Properties.{properties_for};
 ghost use Rattle.tor_tree.specs.TidyTree.{IsFileTreeOf, HasItsRoot};
 ghost use Rattle.tor_tree.specs.Writing.{IsRoot, files_below, has_name_at};
 ghost use Rattle.tor_tree.specs.WrittenTree.{file_tree, pairs_of_files};
+ghost use Rattle.tor_tree.specs.declared.lists.TheConstants.{MAX_LENGTH};
 
 use crate::lists::FileList;
 use crate::names::Name;
@@ -36,7 +37,7 @@ fn folder(
     depth: usize,
 ) -> Result<Vec<(Vec<u8>, Item)>, AllocError>
     requires deep { All (λ file. depth ≤ length file.0) files.now }
-    requires small { All (λ file. file.1 ≤ 2 ^ 50) files.now }
+    requires small { All (λ file. file.1 ≤ MAX_LENGTH) files.now }
     requires one_each { length roots.now ≡ length files.now }
     ensures made { IfOk result (λ pairs. pairs_view pairs.items ≡ pairs_of_files (files_below depth files.now roots.now)) }
     ensures rooted { OnOk result (All IsRoot roots.now) }
@@ -68,7 +69,7 @@ fn next_pair(
 ) -> Result<NextPair, AllocError>
     requires some { 0 < length files.now }
     requires deep { All (λ file. depth ≤ length file.0) files.now }
-    requires small { All (λ file. file.1 ≤ 2 ^ 50) files.now }
+    requires small { All (λ file. file.1 ≤ MAX_LENGTH) files.now }
     requires one_each { length roots.now ≡ length files.now }
     ensures count { IfOk result (λ next. (0 < next.count) × (next.count ≤ length files.now)) }
     ensures made { IfOk result (λ next. pairs_of_files (files_below depth files.now roots.now)
@@ -118,7 +119,7 @@ fn has_name_at(path: &FilePath, depth: usize, name: &Name) -> bool
 
 /// The properties of a file: its length, and its pieces root if it has one.
 fn properties(alloc: Global, length: u64, root: &Option<Hash>) -> Result<Item, AllocError>
-    requires { length ≤ 2 ^ 50 }
+    requires { length ≤ MAX_LENGTH }
     ensures made { IfOk result (λ made. view made ≡ properties_for length root.now) }
     ensures rooted { OnOk result (IsRoot root.now) }
 {
