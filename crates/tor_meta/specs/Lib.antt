@@ -1,3 +1,4 @@
+pub mod Fields
 pub mod Head
 pub mod ListRefusal
 pub mod Refusal

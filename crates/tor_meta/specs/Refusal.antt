@@ -3,7 +3,7 @@ use Rattle.std.specs.Prelude.{ℕ, Bool, true, false, not, ◌&&◌, nat_lt, Lis
 use Rattle.std.specs.List.{list_any}
 use Rattle.std.specs.Option.{option_or}
 use Rattle.tor_merkle.specs.Layer.{is_piece_length}
-use Rattle.tor_meta.specs.declared.TheConstants.{MAX_NAMES}
+use Rattle.tor_meta.specs.declared.judge.TheConstants.{MAX_NAMES}
 use Rattle.tor_meta.specs.declared.refusals.ContentsError.{ContentsError}
 use Rattle.tor_meta.specs.declared.refusals.ContentsError.TheVariants.{PieceLength, Path, SingleShape, List, ReservedPad}
 use Rattle.tor_spec.specs.Facts.{File}

@@ -1,12 +1,17 @@
-//! The dictionaries of a torrent as bencode items.
-ghost use Rattle.std.specs.Prelude.{◌≡◌, ◌<◌, ◌^◌, ℕ, List, [], ◌∷◌, pos, length, codes, None, Some, IfOk, option_map, option_copied};
-ghost use Rattle.std.specs.List.{flat_map};
-ghost use Rattle.tor_bencode.specs.Data.{integer, string, dictionary, no_pairs, pair};
+//! The parts of a torrent's dictionaries as bencode items.
+ghost use Rattle.std.specs.Prelude.{◌≡◌, ◌<◌, ◌≤◌, ◌^◌, ◌∷◌, All, ℕ, List, pos, codes, map, IfOk, option_map};
+ghost use Rattle.tor_bencode.specs.Data.{integer, string, dictionary};
 ghost use Rattle.tor_bencode.specs.View.{view};
+ghost use Rattle.tor_meta.specs.Fields.{fields_of};
+ghost use Rattle.tor_spec.specs.Dictionary.{present, when};
+ghost use Rattle.tor_spec.specs.FilesList.{entry_dictionary, files_list, strings};
+ghost use Rattle.tor_spec.specs.PieceLayers.{joined};
 
 use std::alloc::{AllocError, Global};
 use tor_bencode::Item;
 use tor_merkle::Hash;
+use tor_tree::Name;
+use tor_v1::Entry;
 
 /// A byte string of these bytes.
 pub(crate) fn text(alloc: Global, bytes: &[u8]) -> Result<Item, AllocError>
@@ -23,61 +28,69 @@ pub(crate) fn number(n: u64) -> Item
     Item::Int(n as i64)
 }
 
-fn key(alloc: Global, text: &str) -> Result<Vec<u8>, AllocError>
-    ensures { IfOk result (λ key. key.items ≡ text.now) }
+/// The dictionary of those fields that have a value.
+pub(crate) fn dictionary(
+    alloc: Global,
+    fields: Vec<(&str, Option<Item>)>,
+) -> Result<Item, AllocError>
+    ensures { IfOk result (λ item. view item ≡ dictionary (present (fields_of fields.entry.items))) }
 {
-    Vec::from_slice(alloc, text.as_bytes())
+    let mut pairs = Vec::with_capacity(alloc, fields.len())?;
+    for (key, value) in fields {
+        if let Some(value) = value {
+            pairs.push((Vec::from_slice(alloc, key.as_bytes())?, value))?;
+        }
+    }
+    Ok(Item::Dict(pairs))
 }
 
-/// The piece layers of one file: its joined hashes under its root.
-pub(crate) fn layers_of_one(alloc: Global, root: &Hash, layer: &[Hash]) -> Result<Item, AllocError>
-    ensures { IfOk result (λ item. view item
-        ≡ dictionary (pair root.now (string (flat_map (λ hash. hash) layer.now)) no_pairs)) }
+/// The entries of the `files` of BEP 3.
+pub(crate) fn files(alloc: Global, entries: &[Entry]) -> Result<Item, AllocError>
+    requires { All (λ entry. entry.length < 2 ^ 63) entries.now }
+    ensures { IfOk result (λ item. view item ≡ files_list entries.now) }
 {
-    let joined = Item::Bytes(joined(alloc, layer)?);
-    Ok(Item::Dict(vec![in alloc; (Vec::from_slice(alloc, root)?, joined)]?))
+    let mut items = Vec::with_capacity(alloc, entries.len())?;
+    for entry in entries {
+        items.push(file(alloc, entry)?)?;
+    }
+    Ok(Item::List(items))
 }
 
-fn joined(alloc: Global, hashes: &[Hash]) -> Result<Vec<u8>, AllocError>
-    ensures { IfOk result (λ bytes. bytes.items ≡ flat_map (λ hash. hash) hashes.now) }
+/// One of them.
+fn file(alloc: Global, entry: &Entry) -> Result<Item, AllocError>
+    requires { entry.now.length < 2 ^ 63 }
+    ensures { IfOk result (λ item. view item ≡ entry_dictionary entry.now) }
+{
+    let attr = if entry.pad { Some(text(alloc, b"p")?) } else { None };
+    let path = path(alloc, entry.path.names())?;
+    dictionary(
+        alloc,
+        vec![in alloc;
+            ("attr", attr),
+            ("length", Some(number(entry.length))),
+            ("path", Some(path)),
+        ]?,
+    )
+}
+
+/// The names of a path.
+fn path(alloc: Global, names: &[Name]) -> Result<Item, AllocError>
+    ensures { IfOk result (λ item. view item ≡ strings names.now) }
+{
+    let mut items = Vec::with_capacity(alloc, names.len())?;
+    for name in names {
+        items.push(text(alloc, name.as_bytes())?)?;
+    }
+    Ok(Item::List(items))
+}
+
+/// Hashes, one after another.
+pub(crate) fn joined(alloc: Global, hashes: &[Hash]) -> Result<Vec<u8>, AllocError>
+    ensures { IfOk result (λ bytes. bytes.items ≡ joined hashes.now) }
 {
     let mut bytes = Vec::new(alloc);
     for hash in hashes {
         bytes.extend_from_slice(hash)?;
     }
     Ok(bytes)
-}
-
-/// The info dictionary over a file tree.
-pub(crate) fn info(
-    alloc: Global,
-    name: &[u8],
-    piece_length: u64,
-    tree: Item,
-) -> Result<Item, AllocError>
-    requires { piece_length < 2 ^ 63 }
-    ensures { IfOk result (λ item. view item ≡ dictionary (
-        pair (codes "file tree") (view tree) (
-        pair (codes "meta version") (integer (pos 2)) (
-        pair (codes "name") (string name.now) (
-        pair (codes "piece length") (integer (pos piece_length)) no_pairs))))) }
-{
-    Ok(Item::Dict(vec![in alloc;
-        (key(alloc, "file tree")?, tree),
-        (key(alloc, "meta version")?, number(2)),
-        (key(alloc, "name")?, text(alloc, name)?),
-        (key(alloc, "piece length")?, number(piece_length)),
-    ]?))
-}
-
-/// The root dictionary.
-pub(crate) fn root(alloc: Global, info: Item, layers: Item) -> Result<Item, AllocError>
-    ensures { IfOk result (λ item. view item ≡ dictionary (
-        pair (codes "info") (view info) (
-        pair (codes "piece layers") (view layers) no_pairs))) }
-{
-    Ok(Item::Dict(vec![in alloc;
-        (key(alloc, "info")?, info),
-        (key(alloc, "piece layers")?, layers),
-    ]?))
 }

@@ -2,7 +2,7 @@
 ghost use Rattle.std.specs.Prelude.{◌≡◌, ◌⊎◌, ◌&&◌, not, Some, None, IfOk, IfErr, OnOk, IsOk, MatchOption};
 ghost use Rattle.std.specs.List.{list_any};
 ghost use Rattle.tor_meta.specs.Head.{settings_of};
-ghost use Rattle.tor_meta.specs.Refusal.{is_long, is_only, paths_refusal, shape_refusal};
+ghost use Rattle.tor_meta.specs.Refusal.{is_long, is_name, is_only, paths_refusal, shape_refusal};
 ghost use Rattle.tor_spec.specs.Settings.{is_aligned};
 ghost use Rattle.tor_tree.specs.PathList.{ArePlacedPaths, IsPathList};
 ghost use Rattle.tor_v1.specs.Reserved.{is_reserved};

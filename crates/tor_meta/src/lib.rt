@@ -1,18 +1,13 @@
-//! Making torrents (BEP 3, BEP 52), and writing them out.
-//!
-//! - `single.rt`: the v2 torrent of one content, in memory (`make_bytes`) or fed in parts (`make_fed`); its dictionaries
-//!   are made in `items.rt`.
-//! - `refusals.rt`: why no torrent is made.
-//! - `output.rt`: `write_out`, every byte to a writer, or how many went out and what stopped it.
+//! Making torrents (BEP 3, BEP 52, BEP 47), and writing them out.
 #![tactic(auto)]
 
+mod head;
 mod items;
+mod judge;
 mod output;
 mod refusals;
-mod single;
-#[cfg(test)]
-mod tests;
 
+pub use head::Head;
+pub use judge::{MAX_NAMES, judge_paths};
 pub use output::{WriteFault, write_out};
-pub use refusals::BytesError;
-pub use single::{check_head, make_bytes, make_fed};
+pub use refusals::ContentsError;

@@ -1,0 +1,38 @@
+-- One more field of a dictionary.
+use Rattle.std.proofs.Common.{◌≡◌, ℕ, Bor, Vec, Global, List, [], ◌∷◌, ◌++◌, Option, None, Some, refl, sym, ap, ◌∙◌}
+use Rattle.tor_bencode.specs.Data.{Pairs, no_pairs, pair}
+use Rattle.tor_bencode.specs.View.{pairs_view, view}
+use Rattle.tor_bencode.specs.declared.item.Item.{Item}
+use Rattle.tor_spec.specs.Dictionary.{present}
+use Rattle.tor_meta.specs.Fields.{fields_of}
+
+-- pairs, and more after them
+abbrev followed_by : Pairs → Pairs → Pairs
+followed_by no_pairs more = more
+followed_by (pair key value pairs) more = pair key value (followed_by pairs more)
+
+followed_by-none : (pairs : Pairs) → followed_by pairs no_pairs ≡ pairs
+followed_by-none no_pairs = refl
+followed_by-none (pair key value pairs) = ap (pair key value) (followed_by-none pairs)
+
+pairs_view-push : (pairs : List (Vec ℕ Global × Item)) (p : Vec ℕ Global × Item)
+    → pairs_view (pairs ++ p ∷ []) ≡ followed_by (pairs_view pairs) (pair p.0.items (view p.1) no_pairs)
+pairs_view-push [] p = refl
+pairs_view-push (q ∷ qs) p = ap (pair q.0.items (view q.1)) (pairs_view-push qs p)
+
+present-push : (fields : List (Bor (List ℕ) × Option Item)) (field : Bor (List ℕ) × Option Item)
+    → present (fields_of (fields ++ field ∷ [])) ≡ followed_by (present (fields_of fields)) (present (fields_of (field ∷ [])))
+present-push [] field = refl
+present-push ((key, None) ∷ fields) field = present-push fields field
+present-push ((key, Some value) ∷ fields) field = ap (pair key.now (view value)) (present-push fields field)
+
+pub field_there : (fields : List (Bor (List ℕ) × Option Item)) (key : Bor (List ℕ)) (value : Item)
+    (pairs : List (Vec ℕ Global × Item)) (p : Vec ℕ Global × Item) → pairs_view pairs ≡ present (fields_of fields) → p.0.items ≡ key.now → p.1 ≡ value
+    → pairs_view (pairs ++ p ∷ []) ≡ present (fields_of (fields ++ (key, Some value) ∷ []))
+field_there fields key value pairs p so_far is_key is_value =
+    pairs_view-push pairs p
+    ∙ rw (so_far, is_key, is_value) (sym (present-push fields (key, Some value)))
+
+pub field_absent : (fields : List (Bor (List ℕ) × Option Item)) (key : Bor (List ℕ))
+    → present (fields_of (fields ++ (key, None) ∷ [])) ≡ present (fields_of fields)
+field_absent fields key = present-push fields (key, None) ∙ followed_by-none (present (fields_of fields))
