@@ -1,10 +1,11 @@
 -- One more field of a dictionary.
 use Rattle.std.proofs.Common.{◌≡◌, ℕ, Bor, Vec, Global, List, [], ◌∷◌, ◌++◌, Option, None, Some, refl, sym, ap, ◌∙◌}
-use Rattle.tor_bencode.specs.Data.{Pairs, no_pairs, pair}
+use Rattle.tor_bencode.specs.Data.{string, Pairs, no_pairs, pair}
 use Rattle.tor_bencode.specs.View.{pairs_view, view}
 use Rattle.tor_bencode.specs.declared.item.Item.{Item}
 use Rattle.tor_spec.specs.Dictionary.{present}
 use Rattle.tor_meta.specs.Fields.{fields_of}
+use Rattle.tor_meta.specs.Layers.{pairs_of_map}
 
 -- pairs, and more after them
 abbrev followed_by : Pairs → Pairs → Pairs
@@ -36,3 +37,15 @@ field_there fields key value pairs p so_far is_key is_value =
 pub field_absent : (fields : List (Bor (List ℕ) × Option Item)) (key : Bor (List ℕ))
     → present (fields_of (fields ++ (key, None) ∷ [])) ≡ present (fields_of fields)
 field_absent fields key = present-push fields (key, None) ∙ followed_by-none (present (fields_of fields))
+
+pairs_of_map-push : (entries : List (List ℕ × Vec ℕ Global)) (entry : List ℕ × Vec ℕ Global)
+    → pairs_of_map (entries ++ entry ∷ []) ≡ followed_by (pairs_of_map entries) (pair entry.0 (string entry.1.items) no_pairs)
+pairs_of_map-push [] entry = refl
+pairs_of_map-push (e ∷ es) entry = ap (pair e.0 (string e.1.items)) (pairs_of_map-push es entry)
+
+-- one more entry of a map
+pub map_pushed : (pairs : List (Vec ℕ Global × Item)) (entries : List (List ℕ × Vec ℕ Global)) (p : Vec ℕ Global × Item) (root : List ℕ) (layer : Vec ℕ Global)
+    → pairs_view pairs ≡ pairs_of_map entries → p.0.items ≡ root → view p.1 ≡ string layer.items
+    → pairs_view (pairs ++ p ∷ []) ≡ pairs_of_map (entries ++ (root, layer) ∷ [])
+map_pushed pairs entries p root layer so_far is_key is_value =
+    pairs_view-push pairs p ∙ rw (so_far, is_key, is_value) (sym (pairs_of_map-push entries (root, layer)))

@@ -2,3 +2,4 @@ pub mod Fields
 pub mod Head
 pub mod ListRefusal
 pub mod Refusal
+pub mod Layers

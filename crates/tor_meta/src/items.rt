@@ -13,6 +13,13 @@ use tor_merkle::Hash;
 use tor_tree::Name;
 use tor_v1::Entry;
 
+/// A byte string of these bytes, which it keeps.
+pub(crate) fn string(bytes: Vec<u8>) -> Item
+    ensures { view result ≡ string bytes.items }
+{
+    Item::Bytes(bytes)
+}
+
 /// A byte string of these bytes.
 pub(crate) fn text(alloc: Global, bytes: &[u8]) -> Result<Item, AllocError>
     ensures { IfOk result (λ item. view item ≡ string bytes.now) }

@@ -4,6 +4,7 @@
 mod head;
 mod items;
 mod judge;
+mod layers;
 mod output;
 mod refusals;
 
@@ -11,3 +12,5 @@ pub use head::Head;
 pub use judge::{MAX_NAMES, judge_paths};
 pub use output::{WriteFault, write_out};
 pub use refusals::ContentsError;
+
+pub use layers::piece_layers;
