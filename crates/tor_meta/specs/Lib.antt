@@ -3,3 +3,4 @@ pub mod Head
 pub mod ListRefusal
 pub mod Refusal
 pub mod Layers
+pub mod Contents

@@ -7,6 +7,7 @@ mod judge;
 mod layers;
 mod output;
 mod refusals;
+mod sums;
 
 pub use head::Head;
 pub use judge::{MAX_NAMES, judge_paths};
@@ -14,3 +15,4 @@ pub use output::{WriteFault, write_out};
 pub use refusals::ContentsError;
 
 pub use layers::piece_layers;
+pub use sums::{Sums, sum_trees, sum_pieces, tree_of};

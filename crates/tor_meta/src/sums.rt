@@ -1,0 +1,98 @@
+//! What contents sum up to: their pieces roots, their piece layers, and the SHA-1 of their pieces.
+ghost use Rattle.std.specs.Prelude.{◌≡◌, ◌≤◌, ◌<◌, ◌^◌, All, IfOk, length, map, true};
+ghost use Rattle.tor_merkle.specs.Layer.{IsPieceLength, piece_layer};
+ghost use Rattle.tor_merkle.specs.declared.TheConstants.{MAX_LENGTH};
+ghost use Rattle.tor_meta.specs.Layers.{lists_of};
+ghost use Rattle.tor_meta.specs.Contents.{bytes_of};
+ghost use Rattle.tor_spec.specs.Facts.{root_of};
+ghost use Rattle.tor_v1.specs.Content.{v1_pieces};
+ghost use Rattle.tor_v1.specs.Piece.{IsV1PieceLength, max_piece_length};
+
+use std::alloc::{AllocError, Global};
+use tor_merkle::{Feed, Hash};
+use tor_v1::{Entry, PieceSums};
+
+/// What the contents of files sum up to, file by file in the order of their list.
+#[derive(Debug, Drop)]
+pub struct Sums {
+    /// The pieces root of each file, 32 bytes; an empty file has none (BEP 52, "pieces root").
+    pub roots: Vec<Option<Hash>>,
+    /// For each file, the hashes of the layer where one covers one piece, in the order of the pieces; none of a file
+    /// of at most one piece (BEP 52, "piece layers").
+    pub layers: Vec<Vec<Hash>>,
+    /// The joined SHA-1 of each piece of the whole content, 20 bytes a piece (BEP 3, "info dictionary": `pieces`).
+    pub pieces: Vec<u8>,
+}
+
+/// The pieces root and the layer of each content.
+pub fn sum_trees(
+    alloc: Global,
+    piece_length: u64,
+    contents: &[&[u8]],
+) -> Result<(Vec<Option<Hash>>, Vec<Vec<Hash>>), AllocError>
+    requires piece { IsPieceLength piece_length }
+    requires small { All (λ content. length content.now ≤ MAX_LENGTH) contents.entry.now }
+    ensures roots { IfOk result (λ sums. sums.0.items ≡ map root_of (bytes_of contents.entry.now)) }
+    ensures layers { IfOk result (λ sums.
+        lists_of sums.1.items ≡ map (λ content. piece_layer content piece_length) (bytes_of contents.entry.now)) }
+{
+    let mut roots = Vec::with_capacity(alloc, contents.len())?;
+    let mut layers = Vec::with_capacity(alloc, contents.len())?;
+    for content in contents {
+        let (root, layer) = sum_tree(alloc, piece_length, content)?;
+        roots.push(root)?;
+        layers.push(layer)?;
+    }
+    Ok((roots, layers))
+}
+
+/// Those of one content.
+fn sum_tree(
+    alloc: Global,
+    piece_length: u64,
+    content: &[u8],
+) -> Result<(Option<Hash>, Vec<Hash>), AllocError>
+    requires piece { IsPieceLength piece_length }
+    requires small { length content.now ≤ MAX_LENGTH }
+    ensures root { IfOk result (λ sums. sums.0 ≡ root_of content.now) }
+    ensures layer { IfOk result (λ sums. sums.1.items ≡ piece_layer content.now piece_length) }
+{
+    let mut feed = Feed::new(alloc, piece_length);
+    feed.feed(content)?;
+    Ok(tree_of(alloc, feed))
+}
+
+/// Those of the content that was fed.
+pub fn tree_of(alloc: Global, feed: Feed) -> (Option<Hash>, Vec<Hash>)
+    ensures root { result.0 ≡ root_of feed.bytes }
+    ensures layer { result.1.items ≡ piece_layer feed.bytes feed.piece_length }
+{
+    match feed.finish() {
+        Some((root, layer)) => (Some(root), layer),
+        None => (None, Vec::new(alloc)),
+    }
+}
+
+/// The joined SHA-1 of each piece of the contents of the entries, where padding counts as zeros.
+pub fn sum_pieces(
+    alloc: Global,
+    piece_length: u64,
+    entries: &[Entry],
+    contents: &[&[u8]],
+) -> Result<Vec<u8>, AllocError>
+    requires piece { IsV1PieceLength piece_length }
+    requires small { All (λ entry. entry.pad ≡ true → entry.length ≤ max_piece_length) entries.now }
+    ensures { IfOk result (λ pieces. pieces.items ≡ v1_pieces piece_length entries.now (bytes_of contents.entry.now)) }
+{
+    let mut sums = PieceSums::new(alloc, piece_length);
+    let mut left = contents;
+    for entry in entries {
+        if entry.pad {
+            sums.feed_zeros(entry.length)?;
+        } else if let [content, rest @ ..] = left {
+            sums.feed(content)?;
+            left = rest;
+        }
+    }
+    Ok(sums.finish())
+}
