@@ -7,6 +7,7 @@ use tor_tree::FilePath;
 /// An entry of the `files` list (BEP 3, "info dictionary"): a file, or padding (BEP 47, "padding files").
 #[derive(Debug, Drop)]
 pub struct Entry {
+    /// Of a file its own, of padding `.pad` and the length in base ten.
     pub path: FilePath,
     /// In bytes.
     pub length: u64,

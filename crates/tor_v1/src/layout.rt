@@ -7,7 +7,7 @@ ghost use Rattle.tor_v1.specs.Reserved.{is_reserved, takes_reserved};
 ghost use Rattle.tor_v1.specs.declared.layout.LayoutError.TheVariants.{ReservedPad, Memory};
 
 use crate::entry::{Entry, is_reserved};
-use crate::padding::padding;
+use crate::padding::{padding, padding_length};
 use std::alloc::{AllocError, Global};
 use thiserror::Error;
 use tor_tree::{FileList, FilePath, Name};
@@ -94,9 +94,9 @@ fn aligned(
         if *length > 0 {
             later -= 1;
         }
-        let last_piece = *length % piece_length;
-        if later > 0 && last_piece > 0 {
-            entries.push(padding(alloc, piece_length - last_piece)?)?;
+        let lack = padding_length(*length, piece_length);
+        if later > 0 && lack > 0 {
+            entries.push(padding(alloc, lack)?)?;
         }
     }
     Ok(entries)

@@ -1,8 +1,8 @@
 //! The SHA-1 of each piece of a content that is fed in parts.
-ghost use Rattle.std.specs.Prelude.{◌≡◌, ◌+◌, ◌*◌, ◌^◌, ◌<◌, ◌≤◌, ℕ, List, [], ◌++◌, length, replicate, OnOk, OnErr, IsOk, vec_len, vec_capacity};
+ghost use Rattle.std.specs.Prelude.{◌≡◌, ◌+◌, ◌*◌, ◌^◌, ◌<◌, ◌≤◌, ℕ, List, [], ◌++◌, length, OnOk, OnErr, IsOk, vec_len, vec_capacity};
 ghost use Rattle.std.specs.Int.{div_ceil};
 ghost use Rattle.sha1.specs.Sha1.{Holds, sha1};
-ghost use Rattle.tor_v1.specs.Piece.{IsV1PieceLength, max_piece_length, piece_sums};
+ghost use Rattle.tor_v1.specs.Piece.{IsV1PieceLength, max_piece_length, piece_sums, zeros};
 
 use sha1::{DIGEST_LEN, Sha1};
 use std::alloc::{AllocError, Global};
@@ -62,17 +62,17 @@ impl PieceSums {
     /// a piece.
     pub fn feed_zeros(&mut self, count: u64) -> Result<(), AllocError>
         requires { count ≤ max_piece_length }
-        ensures ok { OnOk result (Feeds self.old self.new (replicate count 0)) }
+        ensures ok { OnOk result (Feeds self.old self.new (zeros count)) }
         ensures err { OnErr result (IsUnchanged self.old self.new) }
         ensures within { (piece_length : ℕ) (bytes : List ℕ) → HasFed self.old piece_length bytes →
             div_ceil (length bytes + count) piece_length ≤ div_ceil (length bytes) piece_length → IsOk result }
     {
         self.reserve(count)?;
         let mut left = count;
-        'zeros: while left > 0 {
-            let part = zeros(left.min(ZEROS_LENGTH as u64) as usize);
-            self.add(part);
-            left -= part.len() as u64;
+        'parts: while left > 0 {
+            let length = left.min(ZEROS_LENGTH as u64);
+            self.add(zeros(length as usize));
+            left -= length;
         }
         Ok(())
     }
@@ -102,8 +102,8 @@ impl PieceSums {
         ensures there { HasRoom self.old more → IsOk result }
     {
         let pieces = (self.begun + more).div_ceil(self.piece_length);
-        self.sums
-            .reserve(pieces.saturating_mul(DIGEST_LEN as u64) as usize)
+        let room = pieces.saturating_mul(DIGEST_LEN as u64);
+        self.sums.reserve(room as usize)
     }
 
     // Adds bytes of any number, for whose pieces there is room.
@@ -154,7 +154,7 @@ fn end_piece(hasher: &mut Sha1, sums: &mut Vec<u8>)
 /// So many zeros.
 fn zeros(count: usize) -> &'static [u8]
     requires { count ≤ ZEROS_LENGTH }
-    ensures { result.now ≡ replicate count 0 }
+    ensures { result.now ≡ zeros count }
 {
     &ZEROS[..count]
 }
