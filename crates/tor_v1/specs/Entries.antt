@@ -29,7 +29,7 @@ abbrev pub padding_after : ℕ → ℕ → List (List (List ℕ) × ℕ) → Lis
 padding_after piece_length m later =
     if nat_lt 0 (padding_length piece_length m) && has_bytes later then pad_entry (padding_length piece_length m) ∷ [] else []
 
--- each file that is not empty begins a piece
+-- each file, and its padding directly after it
 unfoldable pub aligned_entries : ℕ → List (List (List ℕ) × ℕ) → List Entry
 aligned_entries piece_length [] = []
 aligned_entries piece_length (file ∷ later) =

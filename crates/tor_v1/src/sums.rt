@@ -30,7 +30,7 @@ pub struct PieceSums {
 
 impl PieceSums {
     ghost use Rattle.tor_v1.specs.Feeding.{HasFed, Feeds, IsUnchanged};
-    ghost use Rattle.tor_v1.specs.Room.{HasRoom, IsSameBut};
+    ghost use Rattle.tor_v1.specs.Room.{HasRoom, IsSameButRoom};
 
     /// Sums of no byte, for pieces of `piece_length` bytes.
     pub fn new(alloc: Global, piece_length: u64) -> PieceSums
@@ -97,7 +97,7 @@ impl PieceSums {
     // Makes room for the hashes of the pieces that so many more bytes begin.
     fn reserve(&mut self, more: u64) -> Result<(), AllocError>
         requires { more < 2 ^ 63 }
-        ensures same { IsSameBut self.old self.new }
+        ensures same { IsSameButRoom self.old self.new }
         ensures room { OnOk result (HasRoom self.new more) }
         ensures there { HasRoom self.old more → IsOk result }
     {

@@ -16,7 +16,7 @@ files-preserved c =
       | then-length-gt0 w ↦ counted_some file.1 c.files.later _ _ w.if-length-gt0.true old w.later-is
       | else-length-gt0 w ↦ counted_none file.1 c.files.later _ _ w.if-length-gt0.false old w.later-is
     ] in
-    let one = c.in_ok-push.ensures.items ∙ ap (λ x. c.files.entries.items ++ x ∷ []) c.in_ok-entry_of.ensures in
+    let one = c.in_ok-push.ensures.items ∙ ap (λ x. c.files.entries.items ++ x ∷ []) c.in_ok-file_entry.ensures in
     let rest = aligned_entries c.args.piece_length (drop (i + 1) files) in
     record {
       counted = counted;
