@@ -1,12 +1,10 @@
 -- The entries of aligned files, file by file.
-use Rattle.std.proofs.Common.{◌≡◌, ℕ, suc, ◌+◌, ◌-◌, ◌%◌, ◌<◌, ◌≤◌, Bool, true, false, cond, eqb, ltb, not, inl, inr, ◌&&◌, ◌||◌, List, [], ◌∷◌, ◌++◌, length, get_or, drop, count_by, arith, refl, ap, ap₂, ◌∙◌, sym, add-one, drop-cons, zero-add, append_assoc, append-nil}
-use Rattle.std.proofs.Math.Nat.{mod-eq_of_lt}
-use Rattle.std.proofs.lemmas.Bool.{lt-ltb, le-ltb, ne_eqb, eq-eqb, cases_lt}
+use Rattle.std.proofs.Common.{◌≡◌, ℕ, suc, ◌+◌, ◌-◌, ◌<◌, ◌≤◌, Bool, true, false, cond, ltb, inl, inr, ◌&&◌, ◌||◌, List, [], ◌∷◌, ◌++◌, length, get_or, drop, count_by, arith, refl, ap, ap₂, ◌∙◌, sym, add-one, drop-cons, zero-add, append_assoc, append-nil}
+use Rattle.std.proofs.lemmas.Bool.{lt-ltb, le-ltb, cases_lt, and_right}
 use Rattle.std.proofs.lemmas.List.{drop_all}
 use Rattle.std.proofs.lemmas.List.Sums.{sum_by-cons}
-use Rattle.std.specs.Int.{next_multiple_of}
 use Rattle.tor_v1.specs.declared.entry.Entry.{Entry}
-use Rattle.tor_v1.specs.Entries.{file_entry, pad_entry, has_bytes, padding_after, aligned_entries}
+use Rattle.tor_v1.specs.Entries.{file_entry, pad_entry, padding_length, has_bytes, padding_after, aligned_entries}
 
 abbrev pub File : Type 0
 File = List (List ℕ) × ℕ
@@ -36,31 +34,21 @@ pub count-drop : (files : List File) (i : ℕ) (d : File) → i < length files
     → count_by is_some (drop i files) ≡ cond (is_some (get_or files i d)) 1 0 + count_by is_some (drop (i + 1) files)
 count-drop files i d lt = rw (add-one, drop-cons files i d) (sum_by-cons (λ x. cond (is_some x) 1 0) (get_or files i d) (drop (suc i) files))
 
--- what a file lacks to the next multiple
-pub lacks : (p m : ℕ) → 0 < m % p → 0 < p → next_multiple_of m p - m ≡ p - m % p
-lacks p m some pos =
-    let small : (p - m % p) % p ≡ p - m % p = mod-eq_of_lt (omega arith) in
-    omega (arith, small)
-
-padded : (p m : ℕ) (later : List File) → 0 < m % p → 0 < p → 0 < count_by is_some later → padding_after p m later ≡ pad_entry (p - m % p) ∷ []
-padded p m later some pos more =
-    let off : eqb (m % p) 0 ≡ false = ne_eqb (m % p) 0 (λ e. omega arith) in
+padded : (p m : ℕ) (later : List File) → 0 < padding_length p m → 0 < count_by is_some later → padding_after p m later ≡ pad_entry (padding_length p m) ∷ []
+padded p m later some more =
     let there : has_bytes later ≡ true = has_bytes-count later ∙ lt-ltb 0 (count_by is_some later) more in
-    ap₂ (λ a b. cond (not a && b) (pad_entry (next_multiple_of m p - m) ∷ []) []) off there ∙ ap (λ n. pad_entry n ∷ []) (lacks p m some pos)
+    ap₂ (λ a b. cond (a && b) (pad_entry (padding_length p m) ∷ []) []) (lt-ltb 0 (padding_length p m) some) there
 
-unpadded : (p m : ℕ) (later : List File) → (0 < count_by is_some later → 0 < m % p → ⊥) → padding_after p m later ≡ []
+unpadded : (p m : ℕ) (later : List File) → (0 < count_by is_some later → 0 < padding_length p m → ⊥) → padding_after p m later ≡ []
 unpadded p m later none =
     elim (cases_lt 0 (count_by is_some later)) [
       | inl more ↦
-          let on : eqb (m % p) 0 ≡ true = eq-eqb (m % p) 0 (elim (cases_lt 0 (m % p)) [ inl some ↦ absurd (none more some) | inr le ↦ omega arith ]) in
-          ap (λ a. cond (not a && has_bytes later) (pad_entry (next_multiple_of m p - m) ∷ []) []) on
+          let whole : ltb 0 (padding_length p m) ≡ false = le-ltb 0 (padding_length p m) (elim (cases_lt 0 (padding_length p m)) [ inl some ↦ absurd (none more some) | inr le ↦ le ]) in
+          ap (λ a. cond (a && has_bytes later) (pad_entry (padding_length p m) ∷ []) []) whole
       | inr le ↦
           let none_there : has_bytes later ≡ false = has_bytes-count later ∙ le-ltb 0 (count_by is_some later) le in
-          ap (λ b. cond b (pad_entry (next_multiple_of m p - m) ∷ []) []) (ap (λ b. not (eqb (m % p) 0) && b) none_there ∙ and_false (not (eqb (m % p) 0)))
-    ] where
-      and_false : (b : Bool) → (b && false) ≡ false
-      and_false true = refl
-      and_false false = refl
+          ap (λ b. cond b (pad_entry (padding_length p m) ∷ []) []) (and_right (ltb 0 (padding_length p m)) (has_bytes later) none_there)
+    ]
 
 -- a file whose entry was pushed, with its padding or without it
 module _ (p : ℕ) (files : List File) (i : ℕ) (file : File) (before all : List Entry) (lt : i < length files) (is : file ≡ get_or files i file)
@@ -73,14 +61,14 @@ module _ (p : ℕ) (files : List File) (i : ℕ) (file : File) (before all : Lis
   pub count-next : count_by is_some (drop i files) ≡ cond (is_some file) 1 0 + count_by is_some (drop (i + 1) files)
   count-next = count-drop files i file lt ∙ ap (λ x. cond (is_some x) 1 0 + count_by is_some (drop (i + 1) files)) (sym is)
 
-  pub pushed_padded : 0 < file.1 % p → 0 < p → 0 < count_by is_some (drop (i + 1) files)
-      → ((before ++ file_entry file ∷ []) ++ pad_entry (p - file.1 % p) ∷ []) ++ aligned_entries p (drop (i + 1) files) ≡ all
-  pushed_padded some pos more =
+  pub pushed_padded : 0 < padding_length p file.1 → 0 < count_by is_some (drop (i + 1) files)
+      → ((before ++ file_entry file ∷ []) ++ pad_entry (padding_length p file.1) ∷ []) ++ aligned_entries p (drop (i + 1) files) ≡ all
+  pushed_padded some more =
       append_assoc (before ++ file_entry file ∷ []) _ _ ∙ append_assoc before _ _
-      ∙ ap (λ xs. before ++ (file_entry file ∷ xs ++ aligned_entries p (drop (i + 1) files))) (sym (padded p file.1 (drop (i + 1) files) some pos more))
+      ∙ ap (λ xs. before ++ (file_entry file ∷ xs ++ aligned_entries p (drop (i + 1) files))) (sym (padded p file.1 (drop (i + 1) files) some more))
       ∙ ap (λ xs. before ++ xs) (sym from_file) ∙ so_far
 
-  pub pushed_unpadded : (0 < count_by is_some (drop (i + 1) files) → 0 < file.1 % p → ⊥)
+  pub pushed_unpadded : (0 < count_by is_some (drop (i + 1) files) → 0 < padding_length p file.1 → ⊥)
       → (before ++ file_entry file ∷ []) ++ aligned_entries p (drop (i + 1) files) ≡ all
   pushed_unpadded none =
       append_assoc before _ _

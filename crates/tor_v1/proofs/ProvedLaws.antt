@@ -1,6 +1,5 @@
 -- The proofs of the laws.
-use Rattle.std.proofs.Common.{◌≡◌, ℕ, ◌+◌, ◌*◌, Bool, true, false, not, cond, List, [], ◌∷◌, ◌++◌, map, length, sum_by, replicate, slice_index_or, drop, arith, refl, ap, ap₂, ◌∙◌, sym, length-append}
-use Rattle.std.proofs.lemmas.List.{length-replicate}
+use Rattle.std.proofs.Common.{◌≡◌, ℕ, ◌+◌, ◌*◌, Bool, true, false, not, cond, List, [], ◌∷◌, ◌++◌, map, length, sum_by, slice_index_or, drop, arith, refl, ap, ap₂, ◌∙◌, sym, length-append}
 use Rattle.std.proofs.lemmas.List.FromFn.{length-map-range_with_len}
 use Rattle.std.proofs.lemmas.List.Sums.{sum_by-cons}
 use Rattle.std.specs.Fork.{slice_chunk}
@@ -9,7 +8,8 @@ use Rattle.std.specs.List.{flat_map}
 use Rattle.sha1.specs.Sha1.{sha1, digest_bytes}
 use Rattle.tor_v1.specs.Content.{file_entries, AreContentsOf, joined_content}
 use Rattle.tor_v1.specs.Entries.{file_entry, pad_entry, aligned_entries, v1_entries}
-use Rattle.tor_v1.specs.Piece.{pieces_of, piece_sums}
+use Rattle.tor_v1.specs.Piece.{pieces_of, piece_sums, zeros}
+use Rattle.tor_v1.proofs.Zeros.{length-zeros}
 use Rattle.tor_v1.specs.declared.entry.Entry.{Entry}
 use Rattle.tor_v1.specs.declared.layout.Layout.{Layout}
 use Rattle.tor_v1.specs.declared.layout.Layout.TheVariants.{Joined, Aligned}
@@ -64,10 +64,10 @@ entry_length entry = entry.length
 one_more : (pad : Bool) (n : ℕ) (entry : Entry) (entries : List Entry) (contents : List (List ℕ)) → entry.length ≡ n
     → ((contents : List (List ℕ)) → AreContentsOf entries contents → length (joined_content entries contents) ≡ sum_by entry_length entries)
     → map length contents ≡ map entry_length (cond (not pad) (entry ∷ file_entries entries) (file_entries entries))
-    → length (cond pad (replicate n 0 ++ joined_content entries contents) (slice_index_or contents 0 [] ++ joined_content entries (drop 1 contents)))
+    → length (cond pad (zeros n ++ joined_content entries contents) (slice_index_or contents 0 [] ++ joined_content entries (drop 1 contents)))
     ≡ n + sum_by entry_length entries
 one_more true n entry entries contents long others fit =
-    length-append (replicate n 0) (joined_content entries contents) ∙ ap₂ (λ a b. a + b) (length-replicate n 0) (others contents fit)
+    length-append (zeros n) (joined_content entries contents) ∙ ap₂ (λ a b. a + b) (length-zeros n) (others contents fit)
 one_more false n entry entries [] long others fit = cc
 one_more false n entry entries (content ∷ contents) long others fit =
     let first : length content ≡ entry.length = cc in

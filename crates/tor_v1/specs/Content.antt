@@ -1,7 +1,7 @@
 -- The content of a version 1 torrent: its files, and zeros for padding, one after another (BEP 3, "info dictionary").
-use Rattle.std.specs.Prelude.{◌≡◌, ℕ, not, List, [], ◌∷◌, ◌++◌, length, map, filter, drop, replicate, slice_index_or, if◌then◌else◌}
+use Rattle.std.specs.Prelude.{◌≡◌, ℕ, not, List, [], ◌∷◌, ◌++◌, length, map, filter, drop, slice_index_or, if◌then◌else◌}
 use Rattle.tor_v1.specs.declared.entry.Entry.{Entry}
-use Rattle.tor_v1.specs.Piece.{piece_sums}
+use Rattle.tor_v1.specs.Piece.{piece_sums, zeros}
 
 -- the entries that are no padding
 abbrev pub file_entries : List Entry → List Entry
@@ -15,7 +15,7 @@ AreContentsOf entries contents = map length contents ≡ map (λ entry. entry.le
 unfoldable pub joined_content : List Entry → List (List ℕ) → List ℕ
 joined_content [] contents = []
 joined_content (entry ∷ entries) contents =
-    if entry.pad then replicate entry.length 0 ++ joined_content entries contents
+    if entry.pad then zeros entry.length ++ joined_content entries contents
     else slice_index_or contents 0 [] ++ joined_content entries (drop 1 contents)
 
 -- `pieces`: the joined SHA-1 of each piece of that content

@@ -1,6 +1,6 @@
 -- The `files` list of a version 1 torrent (BEP 3, "info dictionary"), and its padding (BEP 47, "padding files").
 -- A file is a pair of a path and a length in bytes.
-use Rattle.std.specs.Prelude.{ℕ, ◌-◌, ◌%◌, ◌==◌, Bool, true, false, ◌&&◌, not, nat_lt, List, [], ◌∷◌, ◌++◌, map, codes, decimal, if◌then◌else◌}
+use Rattle.std.specs.Prelude.{ℕ, ◌-◌, Bool, true, false, ◌&&◌, nat_lt, List, [], ◌∷◌, ◌++◌, map, codes, decimal, if◌then◌else◌}
 use Rattle.std.specs.Int.{next_multiple_of}
 use Rattle.std.specs.List.{list_any}
 use Rattle.tor_v1.specs.declared.entry.Entry.{Entry}
@@ -19,13 +19,17 @@ pad_entry n = record { path = codes ".pad" ∷ decimal n ∷ []; length = n; pad
 abbrev pub has_bytes : List (List (List ℕ) × ℕ) → Bool
 has_bytes files = list_any (λ file. nat_lt 0 file.1) files
 
--- directly after a file of m bytes that later files follow: what m lacks to the next multiple of the piece length,
--- where it lacks any and some later file is not empty
+-- what m bytes lack to the next multiple of the piece length; no byte lacks none
+abbrev pub padding_length : ℕ → ℕ → ℕ
+padding_length piece_length m = next_multiple_of m piece_length - m
+
+-- directly after a file of m bytes that later files follow: what it lacks, where it lacks any and a later file is not
+-- empty
 abbrev pub padding_after : ℕ → ℕ → List (List (List ℕ) × ℕ) → List Entry
 padding_after piece_length m later =
-    if not (m % piece_length == 0) && has_bytes later then pad_entry (next_multiple_of m piece_length - m) ∷ [] else []
+    if nat_lt 0 (padding_length piece_length m) && has_bytes later then pad_entry (padding_length piece_length m) ∷ [] else []
 
--- each file that is not empty begins a piece
+-- each file, and its padding directly after it
 unfoldable pub aligned_entries : ℕ → List (List (List ℕ) × ℕ) → List Entry
 aligned_entries piece_length [] = []
 aligned_entries piece_length (file ∷ later) =

@@ -1,5 +1,5 @@
 -- Contents cut into pieces, and the SHA-1 of each (BEP 3, "info dictionary": `piece length` and `pieces`).
-use Rattle.std.specs.Prelude.{ℕ, ◌^◌, ◌≤◌, List, length, map}
+use Rattle.std.specs.Prelude.{ℕ, ◌^◌, ◌≤◌, List, length, map, replicate}
 use Rattle.std.specs.Fork.{slice_chunk}
 use Rattle.std.specs.Int.{div_ceil}
 use Rattle.std.specs.List.{flat_map, range_with_len}
@@ -12,6 +12,10 @@ max_piece_length = 2 ^ 30
 -- a power of two or not
 abbrev pub IsV1PieceLength : ℕ → Type 0
 IsV1PieceLength n = (1 ≤ n) × (n ≤ max_piece_length)
+
+-- so many zero bytes
+unfoldable pub zeros : ℕ → List ℕ
+zeros count = replicate count 0
 
 -- a content cut every piece_length bytes, the last piece perhaps shorter
 unfoldable pub pieces_of : ℕ → List ℕ → List (List ℕ)

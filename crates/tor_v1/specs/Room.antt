@@ -8,7 +8,7 @@ abbrev pub HasRoom : PieceSums → ℕ → Type 0
 HasRoom sums more = vec_len sums.sums + 20 * div_ceil (sums.begun + more) sums.piece_length ≤ vec_capacity sums.sums
 
 -- the same but for room
-pub record IsSameBut (old new : PieceSums) : Type 0 where
+pub record IsSameButRoom (old new : PieceSums) : Type 0 where
   pub piece_length : new.piece_length ≡ old.piece_length
   pub begun : new.begun ≡ old.begun
   pub hasher : new.hasher ≡ old.hasher

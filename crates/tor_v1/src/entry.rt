@@ -1,12 +1,15 @@
 //! An entry of the `files` list of a version 1 torrent.
-ghost use Rattle.std.specs.Prelude.{◌≡◌};
+ghost use Rattle.std.specs.Prelude.{◌≡◌, IfOk};
+ghost use Rattle.tor_v1.specs.Entries.{file_entry};
 ghost use Rattle.tor_v1.specs.Reserved.{is_reserved};
 
-use tor_tree::FilePath;
+use std::alloc::{AllocError, Global};
+use tor_tree::{FilePath, Name};
 
 /// An entry of the `files` list (BEP 3, "info dictionary"): a file, or padding (BEP 47, "padding files").
 #[derive(Debug, Drop)]
 pub struct Entry {
+    /// Of a file its own, of padding `.pad` and the length in base ten.
     pub path: FilePath,
     /// In bytes.
     pub length: u64,
@@ -22,4 +25,36 @@ pub fn is_reserved(path: &FilePath) -> bool
         [first, ..] => first.as_bytes() == b".pad".as_slice(),
         [] => false,
     }
+}
+
+/// The entry of a file.
+pub(crate) fn file_entry(alloc: Global, path: &FilePath, length: u64) -> Result<Entry, AllocError>
+    ensures { IfOk result (λ entry. entry ≡ file_entry (path.now, length)) }
+{
+    Ok(Entry {
+        path: copy(alloc, path)?,
+        length,
+        pad: false,
+    })
+}
+
+/// The same path again.
+fn copy(alloc: Global, path: &FilePath) -> Result<FilePath, AllocError>
+    ensures { IfOk result (λ copied. copied ≡ path.now) }
+{
+    let Some(copied) = FilePath::new(copies(alloc, path.names())?) else {
+        unreachable!()
+    };
+    Ok(copied)
+}
+
+/// The same names again.
+fn copies(alloc: Global, names: &[Name]) -> Result<Vec<Name>, AllocError>
+    ensures { IfOk result (λ copied. copied.items ≡ names.now) }
+{
+    let mut copied = Vec::with_capacity(alloc, names.len())?;
+    for name in names {
+        copied.push(name.copy(alloc)?)?;
+    }
+    Ok(copied)
 }

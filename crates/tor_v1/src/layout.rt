@@ -1,16 +1,16 @@
 //! The entries of a list of files, in one of two layouts.
 ghost use Rattle.std.specs.Prelude.{◌≡◌, ◌↔◌, Err, IfOk, IsTrue, map, count_by, nat_lt};
 ghost use Rattle.std.specs.List.{list_any};
-ghost use Rattle.tor_v1.specs.Entries.{aligned_entries, file_entry, padding_after, v1_entries};
+ghost use Rattle.tor_v1.specs.Entries.{aligned_entries, file_entry, v1_entries};
 ghost use Rattle.tor_v1.specs.Piece.{IsV1PieceLength};
 ghost use Rattle.tor_v1.specs.Reserved.{is_reserved, takes_reserved};
 ghost use Rattle.tor_v1.specs.declared.layout.LayoutError.TheVariants.{ReservedPad, Memory};
 
-use crate::entry::{Entry, is_reserved};
-use crate::padding::padding;
+use crate::entry::{Entry, file_entry, is_reserved};
+use crate::padding::{padding, padding_length};
 use std::alloc::{AllocError, Global};
 use thiserror::Error;
-use tor_tree::{FileList, FilePath, Name};
+use tor_tree::{FileList, FilePath};
 
 /// How files stand in the content of a version 1 torrent.
 #[derive(Clone, Copy, Debug, PartialEq, Eq)]
@@ -72,7 +72,7 @@ fn joined(alloc: Global, files: &[(FilePath, u64)]) -> Result<Vec<Entry>, AllocE
 {
     let mut entries = Vec::with_capacity(alloc, files.len())?;
     for (path, length) in files {
-        entries.push(entry_of(alloc, path, *length)?)?;
+        entries.push(file_entry(alloc, path, *length)?)?;
     }
     Ok(entries)
 }
@@ -90,13 +90,13 @@ fn aligned(
     let mut later = count_with_bytes(files);
     let mut entries = Vec::with_capacity(alloc, files.len())?;
     'files: for (path, length) in files {
-        entries.push(entry_of(alloc, path, *length)?)?;
+        entries.push(file_entry(alloc, path, *length)?)?;
         if *length > 0 {
             later -= 1;
         }
-        let last_piece = *length % piece_length;
-        if later > 0 && last_piece > 0 {
-            entries.push(padding(alloc, piece_length - last_piece)?)?;
+        let lack = padding_length(*length, piece_length);
+        if later > 0 && lack > 0 {
+            entries.push(padding(alloc, lack)?)?;
         }
     }
     Ok(entries)
@@ -107,36 +107,4 @@ fn count_with_bytes(files: &[(FilePath, u64)]) -> usize
     ensures { result ≡ count_by (λ file. nat_lt 0 file.1) files.now }
 {
     files.iter().filter(|file| file.1 > 0).count()
-}
-
-/// The entry of a file.
-fn entry_of(alloc: Global, path: &FilePath, length: u64) -> Result<Entry, AllocError>
-    ensures { IfOk result (λ entry. entry ≡ file_entry (path.now, length)) }
-{
-    Ok(Entry {
-        path: copy(alloc, path)?,
-        length,
-        pad: false,
-    })
-}
-
-/// The same path again.
-fn copy(alloc: Global, path: &FilePath) -> Result<FilePath, AllocError>
-    ensures { IfOk result (λ copied. copied ≡ path.now) }
-{
-    let Some(copied) = FilePath::new(copies(alloc, path.names())?) else {
-        unreachable!()
-    };
-    Ok(copied)
-}
-
-/// The same names again.
-fn copies(alloc: Global, names: &[Name]) -> Result<Vec<Name>, AllocError>
-    ensures { IfOk result (λ copied. copied.items ≡ names.now) }
-{
-    let mut copied = Vec::with_capacity(alloc, names.len())?;
-    for name in names {
-        copied.push(name.copy(alloc)?)?;
-    }
-    Ok(copied)
 }

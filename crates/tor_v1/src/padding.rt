@@ -1,12 +1,21 @@
 //! Padding: entries that stand for zero bytes.
 ghost use Rattle.std.specs.Prelude.{◌≡◌, None, IfOk};
 ghost use Rattle.tor_tree.specs.Name.{name_fault};
-ghost use Rattle.tor_v1.specs.Entries.{pad_entry};
+ghost use Rattle.tor_v1.specs.Entries.{pad_entry, padding_length};
+ghost use Rattle.tor_v1.specs.Piece.{IsV1PieceLength};
 
 use crate::entry::Entry;
 use itoa::Buffer;
 use std::alloc::{AllocError, Global};
 use tor_tree::{FilePath, Name, NameError};
+
+/// How many bytes a file of `length` bytes lacks to a whole number of pieces.
+pub(crate) fn padding_length(length: u64, piece_length: u64) -> u64
+    requires { IsV1PieceLength piece_length }
+    ensures { result ≡ padding_length piece_length length }
+{
+    (piece_length - length % piece_length) % piece_length
+}
 
 /// The padding of `length` zero bytes.
 pub(crate) fn padding(alloc: Global, length: u64) -> Result<Entry, AllocError>

@@ -1,8 +1,8 @@
 //! The SHA-1 of each piece of a content that is fed in parts.
-ghost use Rattle.std.specs.Prelude.{◌≡◌, ◌+◌, ◌*◌, ◌^◌, ◌<◌, ◌≤◌, ℕ, List, [], ◌++◌, length, replicate, OnOk, OnErr, IsOk, vec_len, vec_capacity};
+ghost use Rattle.std.specs.Prelude.{◌≡◌, ◌+◌, ◌*◌, ◌^◌, ◌<◌, ◌≤◌, ℕ, List, [], ◌++◌, length, OnOk, OnErr, IsOk, vec_len, vec_capacity};
 ghost use Rattle.std.specs.Int.{div_ceil};
 ghost use Rattle.sha1.specs.Sha1.{Holds, sha1};
-ghost use Rattle.tor_v1.specs.Piece.{IsV1PieceLength, max_piece_length, piece_sums};
+ghost use Rattle.tor_v1.specs.Piece.{IsV1PieceLength, max_piece_length, piece_sums, zeros};
 
 use sha1::{DIGEST_LEN, Sha1};
 use std::alloc::{AllocError, Global};
@@ -30,7 +30,7 @@ pub struct PieceSums {
 
 impl PieceSums {
     ghost use Rattle.tor_v1.specs.Feeding.{HasFed, Feeds, IsUnchanged};
-    ghost use Rattle.tor_v1.specs.Room.{HasRoom, IsSameBut};
+    ghost use Rattle.tor_v1.specs.Room.{HasRoom, IsSameButRoom};
 
     /// Sums of no byte, for pieces of `piece_length` bytes.
     pub fn new(alloc: Global, piece_length: u64) -> PieceSums
@@ -62,17 +62,17 @@ impl PieceSums {
     /// a piece.
     pub fn feed_zeros(&mut self, count: u64) -> Result<(), AllocError>
         requires { count ≤ max_piece_length }
-        ensures ok { OnOk result (Feeds self.old self.new (replicate count 0)) }
+        ensures ok { OnOk result (Feeds self.old self.new (zeros count)) }
         ensures err { OnErr result (IsUnchanged self.old self.new) }
         ensures within { (piece_length : ℕ) (bytes : List ℕ) → HasFed self.old piece_length bytes →
             div_ceil (length bytes + count) piece_length ≤ div_ceil (length bytes) piece_length → IsOk result }
     {
         self.reserve(count)?;
         let mut left = count;
-        'zeros: while left > 0 {
-            let part = zeros(left.min(ZEROS_LENGTH as u64) as usize);
-            self.add(part);
-            left -= part.len() as u64;
+        'parts: while left > 0 {
+            let length = left.min(ZEROS_LENGTH as u64);
+            self.add(zeros(length as usize));
+            left -= length;
         }
         Ok(())
     }
@@ -97,13 +97,13 @@ impl PieceSums {
     // Makes room for the hashes of the pieces that so many more bytes begin.
     fn reserve(&mut self, more: u64) -> Result<(), AllocError>
         requires { more < 2 ^ 63 }
-        ensures same { IsSameBut self.old self.new }
+        ensures same { IsSameButRoom self.old self.new }
         ensures room { OnOk result (HasRoom self.new more) }
         ensures there { HasRoom self.old more → IsOk result }
     {
         let pieces = (self.begun + more).div_ceil(self.piece_length);
-        self.sums
-            .reserve(pieces.saturating_mul(DIGEST_LEN as u64) as usize)
+        let room = pieces.saturating_mul(DIGEST_LEN as u64);
+        self.sums.reserve(room as usize)
     }
 
     // Adds bytes of any number, for whose pieces there is room.
@@ -154,7 +154,7 @@ fn end_piece(hasher: &mut Sha1, sums: &mut Vec<u8>)
 /// So many zeros.
 fn zeros(count: usize) -> &'static [u8]
     requires { count ≤ ZEROS_LENGTH }
-    ensures { result.now ≡ replicate count 0 }
+    ensures { result.now ≡ zeros count }
 {
     &ZEROS[..count]
 }

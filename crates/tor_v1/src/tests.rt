@@ -83,26 +83,23 @@ fn lays_out_files(rt: HostRuntime) -> Result<(), Fail> {
 #[test]
 fn refuses_paths_of_padding_in_aligned_lists(rt: HostRuntime) -> Result<(), Fail> {
     let alloc = rt.alloc();
-    let rows: [(&[(&str, u64)], bool); 6] = [
-        (&[(".pad/1", 1), ("b", 1)], true),
-        (&[(".pad/1", 16384)], true),
-        (&[("a", 0), (".pad", 0)], true),
-        (&[("a/.pad", 1), ("b", 1)], false),
-        (&[(".pads", 1), ("b", 1)], false),
-        (&[(".pa", 1), ("pad", 1)], false),
+    let rows: [(&[(&str, u64)], &str); 6] = [
+        (&[(".pad/1", 1), ("b", 1)], "Y1 ReservedPad"),
+        (&[(".pad/1", 16384)], "Y1 ReservedPad"),
+        (&[("a", 0), (".pad", 0)], "Y1 ReservedPad"),
+        (&[("a/.pad", 1)], "a/.pad:1 "),
+        (&[(".pads", 1)], ".pads:1 "),
+        (&[(".pa", 1)], ".pa:1 "),
     ];
-    for (files, refused) in rows {
+    for (files, want) in rows {
         let list = list_of(alloc, files)?;
-        match lay_out(alloc, &list, 16384, Layout::Aligned) {
-            Ok(_) => assert!(rt; !refused),
-            Err(fault) => {
-                let text = format!(in alloc; "{fault}")?;
-                assert_eq!(rt; text.as_str(), "Y1 ReservedPad");
-                assert!(rt; refused);
-            }
-        }
+        let text = match lay_out(alloc, &list, 16384, Layout::Aligned) {
+            Ok(entries) => told(alloc, &entries)?,
+            Err(fault) => format!(in alloc; "{fault}")?,
+        };
+        assert_eq!(rt; text.as_str(), want);
         let reserved = list.files().iter().any(|file| is_reserved(&file.0));
-        assert_eq!(rt; reserved, refused);
+        assert_eq!(rt; reserved, want == "Y1 ReservedPad", "{want}");
     }
     let memory = LayoutError::from(AllocError);
     let text = format!(in alloc; "{memory}")?;
@@ -121,7 +118,7 @@ fn lays_out_a_thousand_files(rt: HostRuntime) -> Result<(), Fail> {
         }
     }
     let list = FileList::build(alloc, files)?;
-    // All but the first, which is empty, are no multiple, and the last is not padded.
+    // Neither the first, which is empty, nor the last has padding.
     let entries = lay_out(alloc, &list, 100_000, Layout::Aligned)?;
     assert_eq!(rt; entries.len(), 1998);
     let entries = lay_out(alloc, &list, 1, Layout::Aligned)?;
