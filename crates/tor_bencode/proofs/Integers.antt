@@ -45,7 +45,8 @@ number-zero : (c : ℕ) → c ≡ 48 → number (c ∷ []) ≡ 0
 unfolding number
 number-zero c e = omega arith
 
-is_positive-digits : (run : List ℕ) → list_all is_ascii_digit run ≡ true → is_shortest run ≡ true → 0 < number run → is_positive run ≡ true
+is_positive-digits : (run : List ℕ) → list_all is_ascii_digit run ≡ true → is_shortest run ≡ true → 0 < number run
+    → is_positive run ≡ true
 is_positive-digits [] digits shortest more = absurd (false≢true shortest)
 is_positive-digits (c ∷ []) digits shortest more =
     let first : not (c == 48) ≡ true = elim (cases_Bool (c == 48)) [ inl e ↦ absurd (let z = number-zero c (grind (arith, nat_tests)) in omega arith) | inr e ↦ rw e refl ] in
@@ -57,7 +58,8 @@ unfolding is_integer
 is_integer-signed (pos n) = is_integer-digits (base_ten n) (all_digits-base_ten n) (is_shortest-base_ten n)
 is_integer-signed (negsuc n) = is_positive-digits (base_ten (suc n)) (all_digits-base_ten (suc n)) (is_shortest-base_ten (suc n)) (omega (arith, number-base_ten (suc n)))
 
-integer_of-digits : (run : List ℕ) → list_all is_ascii_digit run ≡ true → is_shortest run ≡ true → integer_of run ≡ positive_of (number run)
+integer_of-digits : (run : List ℕ) → list_all is_ascii_digit run ≡ true → is_shortest run ≡ true
+    → integer_of run ≡ positive_of (number run)
 unfolding integer_of
 integer_of-digits [] digits shortest = absurd (false≢true shortest)
 integer_of-digits (c ∷ cs) digits shortest =
@@ -87,7 +89,8 @@ held-too_large : (z : ℤ) → ¬ FitsSigned w64 z → held z ≡ None
 held-too_large (pos n) large = let no : nat_lt n (2 ^ 63) ≡ false = one_of_two _ (λ e. large (fits_pos n e)) in rw no refl
 held-too_large (negsuc n) large = let no : nat_le (suc n) (2 ^ 63) ≡ false = one_of_two _ (λ e. large (fits_negsuc n e)) in rw no refl
 
-is_positive-parts : (cs : List ℕ) → is_positive cs ≡ true → (list_all is_ascii_digit cs ≡ true) × (is_shortest cs ≡ true)
+is_positive-parts : (cs : List ℕ) → is_positive cs ≡ true
+    → (list_all is_ascii_digit cs ≡ true) × (is_shortest cs ≡ true)
 is_positive-parts [] h = absurd (false≢true h)
 is_positive-parts (c ∷ []) h = ((and_parts (not (c == 48)) (list_all is_ascii_digit (c ∷ [])) h).1, refl)
 is_positive-parts (c ∷ d ∷ cs) h = let both = and_parts (not (c == 48)) (list_all is_ascii_digit (c ∷ d ∷ cs)) h in (both.1, both.0)
@@ -102,7 +105,8 @@ is_positive-number cs h e =
     let zero_run : base_ten 0 ≡ cs = ap base_ten (sym e) ∙ base_ten-number cs parts.0 parts.1 in
     false≢true (zero_is_not ∙ ap is_positive zero_run ∙ h)
 
-signed-negative : (cs : List ℕ) (n : ℕ) → number cs ≡ n → is_positive cs ≡ true → (z : ℤ) × (45 ∷ cs ≡ signed_base_ten z)
+signed-negative : (cs : List ℕ) (n : ℕ) → number cs ≡ n → is_positive cs ≡ true
+    → (z : ℤ) × (45 ∷ cs ≡ signed_base_ten z)
 signed-negative cs zero e h = absurd (is_positive-number cs h e)
 signed-negative cs (suc n) e h =
     let parts = is_positive-parts cs h in
@@ -124,25 +128,30 @@ signed-run (c ∷ cs) h =
           (pos (number (c ∷ cs)), sym (base_ten-number (c ∷ cs) both.0 both.1))
     ]
 
-integer_at-run : (bytes run : List ℕ) (c : ℕ) (more : List ℕ) → list_all is_integer_byte run ≡ true → is_integer_byte c ≡ false
+integer_at-run : (bytes run : List ℕ) (c : ℕ) (more : List ℕ) → list_all is_integer_byte run ≡ true
+    → is_integer_byte c ≡ false
     → integer_at bytes (run ++ c ∷ more) ≡ integer_after bytes run (c ∷ more)
 unfolding integer_at
 integer_at-run bytes run c more all stop =
     let size = prefix_len-run is_integer_byte run c more all stop in
     ap₂ (integer_after bytes) (take_at run (c ∷ more) _ (sym size)) (drop_at run (c ∷ more) _ (sym size))
 
-integer_at-signed : (bytes : List ℕ) (z : ℤ) (more : List ℕ) → integer_at bytes (signed_base_ten z ++ 101 ∷ more) ≡ in_range bytes more (held z)
+integer_at-signed : (bytes : List ℕ) (z : ℤ) (more : List ℕ)
+    → integer_at bytes (signed_base_ten z ++ 101 ∷ more) ≡ in_range bytes more (held z)
 integer_at-signed bytes z more =
     integer_at-run bytes (signed_base_ten z) 101 more (bytes-signed z) refl
     ∙ rw (is_integer-signed z, integer_of-signed z) refl
 
-pub integer_at-spelling : (bytes : List ℕ) (z : ℤ) (more : List ℕ) → FitsSigned w64 z → integer_at bytes (signed_base_ten z ++ 101 ∷ more) ≡ Ok (z, more)
+pub integer_at-spelling : (bytes : List ℕ) (z : ℤ) (more : List ℕ) → FitsSigned w64 z
+    → integer_at bytes (signed_base_ten z ++ 101 ∷ more) ≡ Ok (z, more)
 integer_at-spelling bytes z more fits = integer_at-signed bytes z more ∙ ap (in_range bytes more) (held-fits z fits)
 
-pub integer_at-too_large : (bytes : List ℕ) (z : ℤ) (more : List ℕ) → ¬ FitsSigned w64 z → integer_at bytes (signed_base_ten z ++ 101 ∷ more) ≡ Err (IntegerRange, bytes)
+pub integer_at-too_large : (bytes : List ℕ) (z : ℤ) (more : List ℕ) → ¬ FitsSigned w64 z
+    → integer_at bytes (signed_base_ten z ++ 101 ∷ more) ≡ Err (IntegerRange, bytes)
 integer_at-too_large bytes z more large = integer_at-signed bytes z more ∙ ap (in_range bytes more) (held-too_large z large)
 
-pub integer_at-cut : (bytes rest : List ℕ) → list_all is_integer_byte rest ≡ true → integer_at bytes rest ≡ Err (Truncated, [])
+pub integer_at-cut : (bytes rest : List ℕ) → list_all is_integer_byte rest ≡ true
+    → integer_at bytes rest ≡ Err (Truncated, [])
 unfolding integer_at
 integer_at-cut bytes rest all =
     let size = prefix_len-all is_integer_byte rest all in
@@ -153,7 +162,8 @@ module _ (bytes rest run : List ℕ) (next : ℕ) (more : List ℕ) (r : Runs is
   refused (inl other) e = other (let h = (and_parts (next == 101) (is_integer run) e).0 in grind (arith, nat_tests))
   refused (inr none) e = let z = signed-run run (and_parts (next == 101) (is_integer run) e).1 in none z.0 z.1
 
-  pub integer_at-bad : ((next ≢ 101) ⊎ ((n : ℤ) → run ≢ signed_base_ten n)) → integer_at bytes rest ≡ Err (BadInteger, bytes)
+  pub integer_at-bad : ((next ≢ 101) ⊎ ((n : ℤ) → run ≢ signed_base_ten n))
+      → integer_at bytes rest ≡ Err (BadInteger, bytes)
   integer_at-bad why =
       let stop = one_of_two (is_integer_byte next) r.stops in
       let test : ((next == 101) && is_integer run) ≡ false = one_of_two _ (refused why) in
@@ -181,7 +191,8 @@ integer_spelled z more = ap (λ bs. 105 ∷ bs) (append_assoc (signed_base_ten z
 not_held : {b : Bool} {z : ℤ} → cond b (Some z) None ≡ Some z → b ≡ false → ⊥
 not_held h e = let none : None ≡ Some _ = rw e at h in absurd cc
 
-held-is : (bytes more : List ℕ) (z : ℤ) → bytes ≡ spelling (integer z) ++ more → IntegerIs bytes (in_range bytes more (held z))
+held-is : (bytes more : List ℕ) (z : ℤ) → bytes ≡ spelling (integer z) ++ more
+    → IntegerIs bytes (in_range bytes more (held z))
 held-is bytes more (pos n) is =
     by_test (nat_lt n (2 ^ 63)) (λ o. IntegerIs bytes (in_range bytes more o)) (Some (pos n)) None (λ e. (fits_pos n e, is)) (λ e. ((pos n, more, is, λ fits. not_held (held-fits (pos n) fits) e), refl))
 held-is bytes more (negsuc n) is =
@@ -191,7 +202,8 @@ module _ (rest : List ℕ) where
   bytes : List ℕ
   bytes = 105 ∷ rest
 
-  bad : (run : List ℕ) (c : ℕ) (more : List ℕ) → Runs is_integer_byte rest run c more → ((c == 101) && is_integer run) ≡ false → IsBadInteger (105 ∷ rest)
+  bad : (run : List ℕ) (c : ℕ) (more : List ℕ) → Runs is_integer_byte rest run c more
+      → ((c == 101) && is_integer run) ≡ false → IsBadInteger (105 ∷ rest)
   bad run c more r test = (
     rest,
     run,
@@ -205,7 +217,8 @@ module _ (rest : List ℕ) where
     ],
   )
 
-  after_is : (after : List ℕ) → drop (prefix_len is_integer_byte rest) rest ≡ after → IntegerIs (105 ∷ rest) (integer_after (105 ∷ rest) (take (prefix_len is_integer_byte rest) rest) after)
+  after_is : (after : List ℕ) → drop (prefix_len is_integer_byte rest) rest ≡ after
+      → IntegerIs (105 ∷ rest) (integer_after (105 ∷ rest) (take (prefix_len is_integer_byte rest) rest) after)
   after_is [] e =
       let all : rest ≡ take (prefix_len is_integer_byte rest) rest = run_whole is_integer_byte rest [] e ∙ append-nil _ in
       ((rest, refl, subst (λ bs. list_all is_integer_byte bs ≡ true) (sym all) (run_passes is_integer_byte rest)), refl)

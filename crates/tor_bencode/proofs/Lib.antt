@@ -12,3 +12,6 @@ pub mod Sound
 pub mod Whole
 pub mod Refused
 pub mod Skips
+pub mod Keys
+pub mod Places
+pub mod ProvedLaws

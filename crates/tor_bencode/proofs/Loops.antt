@@ -41,11 +41,13 @@ pub items_before-no_items : (a : Items) → items_before a no_items ≡ a
 items_before-no_items no_items = refl
 items_before-no_items (item d a) = ap (item d) (items_before-no_items a)
 
-pub items_view-push : (items : List Item) (x : Item) → items_view (items ++ x ∷ []) ≡ items_before (items_view items) (item (view x) no_items)
+pub items_view-push : (items : List Item) (x : Item)
+    → items_view (items ++ x ∷ []) ≡ items_before (items_view items) (item (view x) no_items)
 items_view-push [] x = refl
 items_view-push (y ∷ items) x = ap (item (view y)) (items_view-push items x)
 
-regroup_items : (front : Items) (d : Data) (read : Reading Items) → with_items front (read >>= λ x. Ok (item d x.0, x.1)) ≡ with_items (items_before front (item d no_items)) read
+regroup_items : (front : Items) (d : Data) (read : Reading Items)
+    → with_items front (read >>= λ x. Ok (item d x.0, x.1)) ≡ with_items (items_before front (item d no_items)) read
 regroup_items front d (Ok x) = ap (λ (items : Items). Ok (items, x.1)) (sym (items_before-assoc front (item d no_items) x.0))
 regroup_items front d (Err e) = refl
 
@@ -62,7 +64,8 @@ Read = List ℕ → Reading Data
 
 -- one more item
 pub items_go_on : (read : Read) (front : Items) (fuel : ℕ) (bytes : List ℕ) (d : Data) (after : List ℕ) (total : Reading Items)
-    → 0 < length bytes → (get_or bytes 0 0 ≡ 101 → ⊥) → length bytes ≤ fuel → length after < length bytes → read bytes ≡ Ok (d, after)
+    → 0 < length bytes → (get_or bytes 0 0 ≡ 101 → ⊥) → length bytes ≤ fuel → length after < length bytes
+    → read bytes ≡ Ok (d, after)
     → with_items front (items_at read fuel bytes) ≡ total
     → (less : ℕ) × (length after ≤ less) × (with_items (items_before front (item d no_items)) (items_at read less after) ≡ total)
 items_go_on read front fuel [] d after total some other enough shorter reads so_far = absurd (omega arith)
@@ -96,7 +99,8 @@ items_end read front (suc fuel) (c ∷ rest) total some is enough so_far =
     let one : with_items front (items_at read (suc fuel) (c ∷ rest)) ≡ Ok (items_before front no_items, rest) = rw at_end refl in
     sym so_far ∙ one ∙ ap₂ (λ (items : Items) (after : List ℕ). Ok (items, after)) (items_before-no_items front) (sym (take_rest c rest))
 
-pub stops_bind : {A B : Type 0} (stop : Stop) (r : Result A (Fault × List ℕ)) (f : A → Result B (Fault × List ℕ)) → Stops stop r → Stops stop (r >>= f)
+pub stops_bind : {A B : Type 0} (stop : Stop) (r : Result A (Fault × List ℕ)) (f : A → Result B (Fault × List ℕ))
+    → Stops stop r → Stops stop (r >>= f)
 stops_bind stops.Memory r f h = tt
 stops_bind (stops.At fault at) r f h = ap (λ x. x >>= f) h
 
@@ -108,11 +112,13 @@ pub pairs_before-no_pairs : (a : Pairs) → pairs_before a no_pairs ≡ a
 pairs_before-no_pairs no_pairs = refl
 pairs_before-no_pairs (pair key d a) = ap (pair key d) (pairs_before-no_pairs a)
 
-pub pairs_view-push : (pairs : List (Vec ℕ Global × Item)) (key : Vec ℕ Global) (x : Item) → pairs_view (pairs ++ (key, x) ∷ []) ≡ pairs_before (pairs_view pairs) (pair key.items (view x) no_pairs)
+pub pairs_view-push : (pairs : List (Vec ℕ Global × Item)) (key : Vec ℕ Global) (x : Item)
+    → pairs_view (pairs ++ (key, x) ∷ []) ≡ pairs_before (pairs_view pairs) (pair key.items (view x) no_pairs)
 pairs_view-push [] key x = refl
 pairs_view-push (y ∷ pairs) key x = ap (pair y.0.items (view y.1)) (pairs_view-push pairs key x)
 
-regroup_pairs : (front : Pairs) (key : List ℕ) (d : Data) (read : Reading Pairs) → with_pairs front (read >>= λ x. Ok (pair key d x.0, x.1)) ≡ with_pairs (pairs_before front (pair key d no_pairs)) read
+regroup_pairs : (front : Pairs) (key : List ℕ) (d : Data) (read : Reading Pairs)
+    → with_pairs front (read >>= λ x. Ok (pair key d x.0, x.1)) ≡ with_pairs (pairs_before front (pair key d no_pairs)) read
 regroup_pairs front key d (Ok x) = ap (λ (pairs : Pairs). Ok (pairs, x.1)) (sym (pairs_before-assoc front (pair key d no_pairs) x.0))
 regroup_pairs front key d (Err e) = refl
 
@@ -121,7 +127,8 @@ abbrev pub after_key : Read → ℕ → Option (List ℕ) → List ℕ → List 
 after_key read fuel last bytes key =
     cond (follows last key.0) (read key.1 >>= λ value. pairs_at read fuel (Some key.0) value.1 >>= λ others. Ok (pair key.0 value.0 others.0, others.1)) (Err (KeyOrder, bytes))
 
-pub key_here : (read : Read) (fuel : ℕ) (last : Option (List ℕ)) (bytes : List ℕ) → 0 < length bytes → 48 ≤ get_or bytes 0 0 → get_or bytes 0 0 ≤ 57 → length bytes ≤ fuel
+pub key_here : (read : Read) (fuel : ℕ) (last : Option (List ℕ)) (bytes : List ℕ) → 0 < length bytes
+    → 48 ≤ get_or bytes 0 0 → get_or bytes 0 0 ≤ 57 → length bytes ≤ fuel
     → (less : ℕ) × (suc less ≡ fuel) × (pairs_at read fuel last bytes ≡ (string_at bytes >>= after_key read less last bytes))
 key_here read fuel last [] some low high enough = absurd (omega arith)
 key_here read zero last (c ∷ rest) some low high enough = absurd (omega arith)
@@ -132,7 +139,8 @@ key_here read (suc fuel) last (c ∷ rest) some low high enough =
 
 -- one more pair
 pub pairs_go_on : (read : Read) (front : Pairs) (fuel : ℕ) (last : Option (List ℕ)) (bytes key middle : List ℕ) (d : Data) (after : List ℕ) (total : Reading Pairs)
-    → 0 < length bytes → 48 ≤ get_or bytes 0 0 → get_or bytes 0 0 ≤ 57 → length bytes ≤ fuel → length after < length bytes
+    → 0 < length bytes → 48 ≤ get_or bytes 0 0 → get_or bytes 0 0 ≤ 57 → length bytes ≤ fuel
+    → length after < length bytes
     → string_at bytes ≡ Ok (key, middle) → follows last key ≡ true → read middle ≡ Ok (d, after)
     → with_pairs front (pairs_at read fuel last bytes) ≡ total
     → (less : ℕ) × (length after ≤ less) × (with_pairs (pairs_before front (pair key d no_pairs)) (pairs_at read less (Some key) after) ≡ total)
@@ -142,12 +150,14 @@ pairs_go_on read front fuel last bytes key middle d after total some low high en
     let value_read : after_key read k.0 last bytes (key, middle) ≡ (pairs_at read k.0 (Some key) after >>= λ others. Ok (pair key d others.0, others.1)) = rw (order, reads) refl in
     (k.0, omega (arith, k.1), sym (ap (with_pairs front) (k.2 ∙ key_read ∙ value_read) ∙ regroup_pairs front key d (pairs_at read k.0 (Some key) after)) ∙ so_far)
 
-stops_front : (stop : Stop) (front : Pairs) (read read' total : Reading Pairs) → read ≡ read' → Stops stop read' → with_pairs front read ≡ total → Stops stop total
+stops_front : (stop : Stop) (front : Pairs) (read read' total : Reading Pairs) → read ≡ read' → Stops stop read'
+    → with_pairs front read ≡ total → Stops stop total
 stops_front stops.Memory front read read' total e h so_far = tt
 stops_front (stops.At fault at) front read read' total e h so_far = sym so_far ∙ ap (with_pairs front) (e ∙ h)
 
 pub pairs_stop_key : (read : Read) (front : Pairs) (fuel : ℕ) (last : Option (List ℕ)) (bytes : List ℕ) (stop : Stop) (total : Reading Pairs)
-    → 0 < length bytes → 48 ≤ get_or bytes 0 0 → get_or bytes 0 0 ≤ 57 → length bytes ≤ fuel → Stops stop (string_at bytes)
+    → 0 < length bytes → 48 ≤ get_or bytes 0 0 → get_or bytes 0 0 ≤ 57 → length bytes ≤ fuel
+    → Stops stop (string_at bytes)
     → with_pairs front (pairs_at read fuel last bytes) ≡ total → Stops stop total
 pairs_stop_key read front fuel last bytes stop total some low high enough h so_far =
     let k = key_here read fuel last bytes some low high enough in
@@ -175,7 +185,8 @@ pairs_stop_value read front fuel last bytes key middle stop total some low high 
 
 pub pairs_end : (read : Read) (front : Pairs) (fuel : ℕ) (last : Option (List ℕ)) (bytes : List ℕ) (total : Reading Pairs)
     → 0 < length bytes → get_or bytes 0 0 ≡ 101 → length bytes ≤ fuel
-    → with_pairs front (pairs_at read fuel last bytes) ≡ total → total ≡ Ok (front, take (length bytes - 1) (drop 1 bytes))
+    → with_pairs front (pairs_at read fuel last bytes) ≡ total
+    → total ≡ Ok (front, take (length bytes - 1) (drop 1 bytes))
 pairs_end read front fuel last [] total some is enough so_far = absurd (omega arith)
 pairs_end read front zero last (c ∷ rest) total some is enough so_far = absurd (omega arith)
 pairs_end read front (suc fuel) last (c ∷ rest) total some is enough so_far =
@@ -216,7 +227,8 @@ value_string room (c ∷ rest) some digit =
 pub value_empty : (room : ℕ) → value_at room [] ≡ Err (Truncated, [])
 value_empty room = value_opens room []
 
-pub value_bad : (room : ℕ) (c : ℕ) (rest : List ℕ) → is_ascii_digit c ≡ false → (c == 105) ≡ false → (c == 108) ≡ false → (c == 100) ≡ false
+pub value_bad : (room : ℕ) (c : ℕ) (rest : List ℕ) → is_ascii_digit c ≡ false → (c == 105) ≡ false
+    → (c == 108) ≡ false → (c == 100) ≡ false
     → value_at room (c ∷ rest) ≡ Err (BadByte, c ∷ rest)
 value_bad room c rest digit i l d = value_opens room (c ∷ rest) ∙ rw (i, digit, l, d) refl
 
@@ -224,7 +236,8 @@ nested_at-none : (room : ℕ) → room ≡ 0 → nested_at room ≡ None
 unfolding nested_at
 nested_at-none room e = ap nested_at e
 
-pub value_too_deep : (room : ℕ) (bytes : List ℕ) → room ≡ 0 → 0 < length bytes → (get_or bytes 0 0 ≡ 108) ⊎ (get_or bytes 0 0 ≡ 100)
+pub value_too_deep : (room : ℕ) (bytes : List ℕ) → room ≡ 0 → 0 < length bytes
+    → (get_or bytes 0 0 ≡ 108) ⊎ (get_or bytes 0 0 ≡ 100)
     → value_at room bytes ≡ Err (TooDeep, bytes)
 value_too_deep room [] none some is = absurd (omega arith)
 value_too_deep room (c ∷ rest) none some (inl e) =

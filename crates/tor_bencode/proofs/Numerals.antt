@@ -56,14 +56,16 @@ number_after-ge n [] = omega arith
 number_after-ge n (c ∷ cs) = omega (arith, number_after-ge (n * 10 + (c - 48)) cs)
 
 -- a number that is already too large stays so
-pub too_large : (n m : ℕ) (digits : List ℕ) (i d bound : ℕ) → i < length digits → number_after n (drop i digits) ≡ m → (n * 10 + (get_or digits i d - 48) < bound → ⊥) → m < bound → ⊥
+pub too_large : (n m : ℕ) (digits : List ℕ) (i d bound : ℕ) → i < length digits → number_after n (drop i digits) ≡ m
+    → (n * 10 + (get_or digits i d - 48) < bound → ⊥) → m < bound → ⊥
 too_large n m digits i d bound within so_far large small =
     let rest = drop (i + 1) digits in
     let next = n * 10 + (get_or digits i d - 48) in
     let whole : m ≡ number_after next rest = sym so_far ∙ ap (number_after n) (drop_more digits i d within) in
     large (omega (arith, number_after-ge next rest))
 
-digits_of_after : (n : ℕ) (cs : List ℕ) → 0 < n → list_all is_ascii_digit cs ≡ true → digits_of 10 (number_after n cs) ≡ digits_of 10 n ++ values cs
+digits_of_after : (n : ℕ) (cs : List ℕ) → 0 < n → list_all is_ascii_digit cs ≡ true
+    → digits_of 10 (number_after n cs) ≡ digits_of 10 n ++ values cs
 digits_of_after n [] more digits = sym (append-nil _)
 digits_of_after n (c ∷ cs) more digits =
     let both = and_parts (is_ascii_digit c) (list_all is_ascii_digit cs) digits in
@@ -80,7 +82,8 @@ glyphs-values (c ∷ cs) digits =
     let here : 48 + (c - 48) ≡ c = omega arith in
     ap₂ (λ (x : ℕ) (xs : List ℕ). x ∷ xs) here (glyphs-values cs both.1)
 
-base_ten-first : (c : ℕ) (cs : List ℕ) → 48 < c → list_all is_ascii_digit (c ∷ cs) ≡ true → base_ten (number (c ∷ cs)) ≡ c ∷ cs
+base_ten-first : (c : ℕ) (cs : List ℕ) → 48 < c → list_all is_ascii_digit (c ∷ cs) ≡ true
+    → base_ten (number (c ∷ cs)) ≡ c ∷ cs
 unfolding number
 base_ten-first c cs more digits =
     let both = and_parts (is_ascii_digit c) (list_all is_ascii_digit cs) digits in
@@ -97,7 +100,8 @@ unfolding base_ten number
 base_ten-glyph c e = subst (λ x. base_ten (number (x ∷ [])) ≡ x ∷ []) (sym e) refl
 
 -- shortest digits are those of the number that they stand for
-pub base_ten-number : (run : List ℕ) → list_all is_ascii_digit run ≡ true → is_shortest run ≡ true → base_ten (number run) ≡ run
+pub base_ten-number : (run : List ℕ) → list_all is_ascii_digit run ≡ true → is_shortest run ≡ true
+    → base_ten (number run) ≡ run
 base_ten-number [] digits shortest = absurd (false≢true shortest)
 base_ten-number (c ∷ []) digits shortest =
     let range = digit_range c (and_parts (is_ascii_digit c) true digits).0 in

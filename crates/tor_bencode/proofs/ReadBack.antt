@@ -18,7 +18,8 @@ abbrev pub AreRisingAfter : Option (List ℕ) → List (List ℕ) → Type 0
 AreRisingAfter None keys = AreRising keys
 AreRisingAfter (Some last) keys = AreRising (last ∷ keys)
 
-pub rising_first : (last : Option (List ℕ)) (key : List ℕ) (keys : List (List ℕ)) → AreRisingAfter last (key ∷ keys) → (follows last key ≡ true) × AreRisingAfter (Some key) keys
+pub rising_first : (last : Option (List ℕ)) (key : List ℕ) (keys : List (List ℕ)) → AreRisingAfter last (key ∷ keys)
+    → (follows last key ≡ true) × AreRisingAfter (Some key) keys
 rising_first None key keys h = (refl, h)
 rising_first (Some last) key keys h = (ap is_lt h.0, h.1)
 
@@ -34,7 +35,8 @@ closed : (c : ℕ) (inside rest : List ℕ) → ((c ∷ [] ++ inside) ++ 101 ∷
 closed c inside rest = simp append_assoc
 
 mutual
-  pub value_at-spelling : (d : Data) (room : ℕ) (rest : List ℕ) → IsLawfulWithin room d → value_at room (spelling d ++ rest) ≡ Ok (d, rest)
+  pub value_at-spelling : (d : Data) (room : ℕ) (rest : List ℕ) → IsLawfulWithin room d
+      → value_at room (spelling d ++ rest) ≡ Ok (d, rest)
   value_at-spelling (integer n) room rest lawful =
       ap (value_at room) (integer_spelled n rest)
       ∙ value_integer room (105 ∷ (signed_base_ten n ++ 101 ∷ rest)) (omega arith) refl
@@ -65,7 +67,8 @@ mutual
       ∙ ap (λ (r : Reading Pairs). r >>= λ x. Ok (dictionary x.0, x.1)) whole_dictionary
 
   -- lawful items in front are read
-  pub items_at-front : (items : Items) (room : ℕ) (front : Items) (more : List ℕ) (fuel : ℕ) (total : Reading Items) → ItemsAreLawfulWithin room items → length (items_spelling items ++ more) ≤ fuel
+  pub items_at-front : (items : Items) (room : ℕ) (front : Items) (more : List ℕ) (fuel : ℕ) (total : Reading Items)
+      → ItemsAreLawfulWithin room items → length (items_spelling items ++ more) ≤ fuel
       → with_items front (items_at (value_at room) fuel (items_spelling items ++ more)) ≡ total
       → (less : ℕ) × (length more ≤ less) × (with_items (items_before front items) (items_at (value_at room) less more) ≡ total)
   items_at-front no_items room front more fuel total lawful enough so_far =
@@ -106,7 +109,8 @@ ok_is : (x y : Data × List ℕ) → ok x ≡ ok y → x ≡ y
 ok_is x y e = cc
 
 -- no lawful spelling begins another
-pub same_front : (c d : Data) (rest more : List ℕ) → IsLawfulWithin 100 c → IsLawfulWithin 100 d → spelling c ++ rest ≡ spelling d ++ more → (c ≡ d) × (rest ≡ more)
+pub same_front : (c d : Data) (rest more : List ℕ) → IsLawfulWithin 100 c → IsLawfulWithin 100 d
+    → spelling c ++ rest ≡ spelling d ++ more → (c ≡ d) × (rest ≡ more)
 same_front c d rest more first second same =
     let read = sym (value_at-spelling c 100 rest first) ∙ ap (value_at 100) same ∙ value_at-spelling d 100 more second in
     let pairs = ok_is (c, rest) (d, more) read in

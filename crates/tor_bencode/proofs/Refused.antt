@@ -23,7 +23,8 @@ abbrev failed : {A : Type 0} → Fault → List ℕ → Reading A
 failed fault from = Err (fault, from)
 
 -- what stops the first step stops them all
-stops : {A B : Type 0} (r : Reading A) (f : A × List ℕ → Reading B) (fault : Fault) (from : List ℕ) → r ≡ failed fault from → (r >>= f) ≡ failed fault from
+stops : {A B : Type 0} (r : Reading A) (f : A × List ℕ → Reading B) (fault : Fault) (from : List ℕ)
+    → r ≡ failed fault from → (r >>= f) ≡ failed fault from
 stops r f fault from e = ap (λ x. x >>= f) e
 
 tail_of : (c : ℕ) (rest : List ℕ) → take (length (c ∷ rest) - 1) (drop 1 (c ∷ rest)) ≡ rest
@@ -44,14 +45,16 @@ string_bad : (bytes : List ℕ) → HasBadLength bytes → string_at bytes ≡ f
 string_bad bytes h = string_at-bad bytes h.1 h.2 h.3 h.4 h.5
 
 -- an `i`, and what stops the integer
-integer_stops : (room : ℕ) (bytes rest : List ℕ) (fault : Fault) (from : List ℕ) → bytes ≡ 105 ∷ rest → integer_at bytes rest ≡ failed fault from → value_at room bytes ≡ failed fault from
+integer_stops : (room : ℕ) (bytes rest : List ℕ) (fault : Fault) (from : List ℕ) → bytes ≡ 105 ∷ rest
+    → integer_at bytes rest ≡ failed fault from → value_at room bytes ≡ failed fault from
 integer_stops room bytes rest fault from is h =
     let some : 0 < length bytes = omega (arith, ap length is) in
     let head : get_or bytes 0 0 ≡ 105 = ap (λ bs. get_or bs 0 0) is in
     let tail : take (length bytes - 1) (drop 1 bytes) ≡ rest = ap (λ bs. take (length bs - 1) (drop 1 bs)) is ∙ tail_of 105 rest in
     value_integer room bytes some head ∙ stops _ _ fault from (ap (integer_at bytes) tail ∙ h)
 
-string_stops : (room : ℕ) (bytes : List ℕ) (fault : Fault) (from : List ℕ) → StartsWithDigit bytes → string_at bytes ≡ failed fault from → value_at room bytes ≡ failed fault from
+string_stops : (room : ℕ) (bytes : List ℕ) (fault : Fault) (from : List ℕ) → StartsWithDigit bytes
+    → string_at bytes ≡ failed fault from → value_at room bytes ≡ failed fault from
 string_stops room bytes fault from starts h = value_string room bytes starts.some starts.digit ∙ stops _ _ fault from h
 
 unequal : (c n : ℕ) → c ≢ n → (c == n) ≡ false
@@ -60,7 +63,8 @@ unequal c n h = one_of_two (c == n) (λ e. h (grind (arith, nat_tests)))
 ends_at : {A : Type 0} (fault : Fault) (x y : List ℕ) → y ≡ x → failed {A = A} fault x ≡ failed fault y
 ends_at fault x y e = ap (failed fault) (sym e)
 
-bad_value_read : (room : ℕ) (bytes : List ℕ) (fault : Fault) (from : List ℕ) → IsBadValue room bytes fault from → value_at room bytes ≡ failed fault from
+bad_value_read : (room : ℕ) (bytes : List ℕ) (fault : Fault) (from : List ℕ) → IsBadValue room bytes fault from
+    → value_at room bytes ≡ failed fault from
 bad_value_read room bytes Truncated from (inl e, at) = ap (value_at room) e ∙ value_empty room ∙ ends_at Truncated [] from at
 bad_value_read room bytes Truncated from (inr (inl h), at) = integer_stops room bytes h.0 Truncated [] h.1 (integer_at-cut bytes h.0 h.2) ∙ ends_at Truncated [] from at
 bad_value_read room bytes Truncated from (inr (inr h), at) = string_stops room bytes Truncated [] (cut_starts bytes h) (string_cut bytes h) ∙ ends_at Truncated [] from at
@@ -82,11 +86,13 @@ bad_value_read room bytes Trailing from h = absurd h
 failure_is : (x y : Fault × List ℕ) (r : Reading Data) → r ≡ Err x → r ≡ Err y → x ≡ y
 failure_is x y r e f = cc
 
-one_failure : (r : Reading Data) (fault : Fault) (from : List ℕ) → r ≡ failed Truncated [] → r ≡ failed fault from → failed {A = Items} Truncated [] ≡ failed fault from
+one_failure : (r : Reading Data) (fault : Fault) (from : List ℕ) → r ≡ failed Truncated [] → r ≡ failed fault from
+    → failed {A = Items} Truncated [] ≡ failed fault from
 one_failure r fault from e f = ap (λ x. Err x) (failure_is (Truncated, []) (fault, from) r e f)
 
 -- what stops an item stops the list
-pub items_stopped : (read : List ℕ → Reading Data) (fuel : ℕ) (bytes : List ℕ) (fault : Fault) (from : List ℕ) → read [] ≡ failed Truncated [] → ¬ Begins 101 bytes → length bytes ≤ fuel
+pub items_stopped : (read : List ℕ → Reading Data) (fuel : ℕ) (bytes : List ℕ) (fault : Fault) (from : List ℕ)
+    → read [] ≡ failed Truncated [] → ¬ Begins 101 bytes → length bytes ≤ fuel
     → read bytes ≡ failed fault from → items_at read fuel bytes ≡ failed fault from
 items_stopped read zero [] fault from empty no_end enough h = one_failure (read []) fault from empty h
 items_stopped read zero (c ∷ rest) fault from empty no_end enough h = absurd (omega arith)
@@ -95,11 +101,13 @@ items_stopped read (suc fuel) (c ∷ rest) fault from empty no_end enough h =
     let other : (c == 101) ≡ false = unequal c 101 (λ e. no_end (rest, ap (λ x. x ∷ rest) e)) in
     rw (other, h) refl
 
-pairs_empty : (read : List ℕ → Reading Data) (fuel : ℕ) (last : Option (List ℕ)) → pairs_at read fuel last [] ≡ failed Truncated []
+pairs_empty : (read : List ℕ → Reading Data) (fuel : ℕ) (last : Option (List ℕ))
+    → pairs_at read fuel last [] ≡ failed Truncated []
 pairs_empty read zero last = refl
 pairs_empty read (suc fuel) last = refl
 
-not_bytes : (read : List ℕ → Reading Data) (fuel : ℕ) (last : Option (List ℕ)) (c : ℕ) (rest : List ℕ) → length (c ∷ rest) ≤ fuel → (c == 101) ≡ false → is_ascii_digit c ≡ false
+not_bytes : (read : List ℕ → Reading Data) (fuel : ℕ) (last : Option (List ℕ)) (c : ℕ) (rest : List ℕ)
+    → length (c ∷ rest) ≤ fuel → (c == 101) ≡ false → is_ascii_digit c ≡ false
     → pairs_at read fuel last (c ∷ rest) ≡ failed KeyNotBytes (c ∷ rest)
 not_bytes read zero last c rest enough other none = absurd (omega arith)
 not_bytes read (suc fuel) last c rest enough other none = rw (other, none) refl
@@ -115,7 +123,8 @@ not_following : (last : Option (List ℕ)) (key : List ℕ) → IsOutOfOrder las
 not_following None key h = absurd h
 not_following (Some last) key h = one_of_two _ (λ e. h (is_lt_is _ e))
 
-order_stopped : (read : List ℕ → Reading Data) (fuel : ℕ) (last : Option (List ℕ)) (bytes key rest : List ℕ) → bytes ≡ string_spelling key ++ rest → length bytes ≤ fuel → IsOutOfOrder last key
+order_stopped : (read : List ℕ → Reading Data) (fuel : ℕ) (last : Option (List ℕ)) (bytes key rest : List ℕ)
+    → bytes ≡ string_spelling key ++ rest → length bytes ≤ fuel → IsOutOfOrder last key
     → pairs_at read fuel last bytes ≡ failed KeyOrder bytes
 order_stopped read fuel last bytes key rest is enough out =
     let starts = subst StartsWithDigit (sym is) (string-starts key rest) in
@@ -150,27 +159,34 @@ pair_stopped read fuel last bytes key rest fault from is enough order h =
     let refused : after_key read k.0 last bytes (key, rest) ≡ failed fault from = rw (order, h) refl in
     k.2 ∙ ap (λ (r : Reading (List ℕ)). r >>= after_key read k.0 last bytes) named ∙ refused
 
-rising_last : (last : Option (List ℕ)) (pairs : Pairs) (key : List ℕ) → AreRisingAfter last (keys_of pairs ++ key ∷ []) → AreRisingAfter last (keys_of pairs) × (follows (last_after last pairs) key ≡ true)
+rising_last : (last : Option (List ℕ)) (pairs : Pairs) (key : List ℕ)
+    → AreRisingAfter last (keys_of pairs ++ key ∷ [])
+    → AreRisingAfter last (keys_of pairs) × (follows (last_after last pairs) key ≡ true)
 rising_last last no_pairs key h = (rising_none last, (rising_first last key [] h).0)
 rising_last last (pair k d pairs) key h =
     let first = rising_first last k (keys_of pairs ++ key ∷ []) h in
     let later = rising_last (Some k) pairs key first.1 in
     (rising_push last k (keys_of pairs) first.0 later.0, later.1)
 
-list_stopped : (room : ℕ) (bytes inside : List ℕ) (fault : Fault) (from : List ℕ) → bytes ≡ 108 ∷ inside → items_at (value_at room) (length inside) inside ≡ failed fault from → value_at (suc room) bytes ≡ failed fault from
+list_stopped : (room : ℕ) (bytes inside : List ℕ) (fault : Fault) (from : List ℕ) → bytes ≡ 108 ∷ inside
+    → items_at (value_at room) (length inside) inside ≡ failed fault from
+    → value_at (suc room) bytes ≡ failed fault from
 list_stopped room bytes inside fault from is h =
     let same : suc room - 1 ≡ room = omega arith in
     ap (value_at (suc room)) is ∙ value_list (suc room) (108 ∷ inside) (omega arith) (omega arith) refl
     ∙ stops _ _ fault from (ap₂ (λ n bs. items_at (value_at n) (length bs) bs) same (tail_of 108 inside) ∙ h)
 
-dictionary_stopped : (room : ℕ) (bytes inside : List ℕ) (fault : Fault) (from : List ℕ) → bytes ≡ 100 ∷ inside → pairs_at (value_at room) (length inside) None inside ≡ failed fault from → value_at (suc room) bytes ≡ failed fault from
+dictionary_stopped : (room : ℕ) (bytes inside : List ℕ) (fault : Fault) (from : List ℕ) → bytes ≡ 100 ∷ inside
+    → pairs_at (value_at room) (length inside) None inside ≡ failed fault from
+    → value_at (suc room) bytes ≡ failed fault from
 dictionary_stopped room bytes inside fault from is h =
     let same : suc room - 1 ≡ room = omega arith in
     ap (value_at (suc room)) is ∙ value_dictionary (suc room) (100 ∷ inside) (omega arith) (omega arith) refl
     ∙ stops _ _ fault from (ap₂ (λ n bs. pairs_at (value_at n) (length bs) None bs) same (tail_of 100 inside) ∙ h)
 
 -- after lawful pairs
-pairs_stopped : (room : ℕ) (pairs : Pairs) (rest : List ℕ) (fault : Fault) (from : List ℕ) → PairsAreLawfulWithin room pairs → AreRising (keys_of pairs)
+pairs_stopped : (room : ℕ) (pairs : Pairs) (rest : List ℕ) (fault : Fault) (from : List ℕ)
+    → PairsAreLawfulWithin room pairs → AreRising (keys_of pairs)
     → ((less : ℕ) → length rest ≤ less → pairs_at (value_at room) less (last_after None pairs) rest ≡ failed fault from)
     → pairs_at (value_at room) (length (pairs_spelling pairs ++ rest)) None (pairs_spelling pairs ++ rest) ≡ failed fault from
 pairs_stopped room pairs rest fault from lawful rising stopped =
@@ -178,7 +194,8 @@ pairs_stopped room pairs rest fault from lawful rising stopped =
     let read = pairs_at-front pairs room no_pairs None rest (length inside) (with_pairs no_pairs (pairs_at (value_at room) (length inside) None inside)) lawful rising (omega arith) refl in
     sym (sym (ap (with_pairs pairs) (stopped read.0 read.1)) ∙ read.2 ∙ with_no_pairs _)
 
-fault_read : (room : ℕ) (bytes : List ℕ) (fault : Fault) (from : List ℕ) → IsFaultIn room bytes fault from → value_at room bytes ≡ failed fault from
+fault_read : (room : ℕ) (bytes : List ℕ) (fault : Fault) (from : List ℕ) → IsFaultIn room bytes fault from
+    → value_at room bytes ≡ failed fault from
 fault_read room bytes fault from (at_value h) = bad_value_read room bytes fault from h
 fault_read (suc room) bytes fault from (in_list items rest is lawful no_end inner) =
     let inside = items_spelling items ++ rest in
@@ -198,7 +215,8 @@ last_more d [] more = absurd (omega arith)
 last_more d (c ∷ rest) more = refl
 
 -- bytes with a fault are refused with it
-pub refused_read : (bytes : List ℕ) (fault : Fault) (from : List ℕ) → (IsFaultIn 100 bytes fault from ⊎ IsTrailing bytes fault from) → whole bytes ≡ Err (fault, from)
+pub refused_read : (bytes : List ℕ) (fault : Fault) (from : List ℕ)
+    → (IsFaultIn 100 bytes fault from ⊎ IsTrailing bytes fault from) → whole bytes ≡ Err (fault, from)
 unfolding whole
 refused_read bytes fault from (inl h) = ap (λ (r : Reading Data). r >>= last_of) (fault_read 100 bytes fault from h)
 refused_read bytes fault from (inr h) =

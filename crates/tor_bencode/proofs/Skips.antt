@@ -31,11 +31,13 @@ not_both : {A : Type 0} (x : A × List ℕ) (y : Fault × List ℕ) (r : Reading
 not_both x y r e f = cc
 
 -- a reader that stops at a fault did not read
-no_stop : {A : Type 0} (stop : Stop) (r : Reading A) (x : A × List ℕ) → stop ≢ stops.Memory → Stops stop r → r ≡ Ok x → ⊥
+no_stop : {A : Type 0} (stop : Stop) (r : Reading A) (x : A × List ℕ) → stop ≢ stops.Memory → Stops stop r → r ≡ Ok x
+    → ⊥
 no_stop stops.Memory r x other h e = other refl
 no_stop (stops.At fault at) r x other h e = not_both x (fault, at.now) r e h
 
-bound : {A B : Type 0} (r : Reading A) (f : A × List ℕ → Reading B) (x : B × List ℕ) → (r >>= f) ≡ Ok x → (y : A × List ℕ) × (r ≡ Ok y)
+bound : {A B : Type 0} (r : Reading A) (f : A × List ℕ → Reading B) (x : B × List ℕ) → (r >>= f) ≡ Ok x
+    → (y : A × List ℕ) × (r ≡ Ok y)
 bound (Ok y) f x e = (y, refl)
 bound (Err y) f x e = absurd cc
 
@@ -43,19 +45,23 @@ module _ (d : Data) (room : ℕ) (bytes after : List ℕ) (lawful : IsLawfulWith
   read : value_at room bytes ≡ Ok (d, after)
   read = ap (value_at room) is ∙ value_at-spelling d room after lawful
 
-  pub skip_integer : (some : 0 < length bytes) (head : get_or bytes 0 0 ≡ 105) (x : _ × List ℕ) → integer_at bytes (take (length bytes - 1) (drop 1 bytes)) ≡ Ok x → x.1 ≡ after
+  pub skip_integer : (some : 0 < length bytes) (head : get_or bytes 0 0 ≡ 105) (x : _ × List ℕ)
+      → integer_at bytes (take (length bytes - 1) (drop 1 bytes)) ≡ Ok x → x.1 ≡ after
   skip_integer some head x e =
       ap (λ p. p.1) (read_is (integer x.0, x.1) (d, after) (value_at room bytes) (value_integer room bytes some head ∙ ap (λ r. r >>= λ n. Ok (integer n.0, n.1)) e) read)
 
-  pub skip_no_integer : (some : 0 < length bytes) (head : get_or bytes 0 0 ≡ 105) (stop : Stop) → stop ≢ stops.Memory → Stops stop (integer_at bytes (take (length bytes - 1) (drop 1 bytes))) → ⊥
+  pub skip_no_integer : (some : 0 < length bytes) (head : get_or bytes 0 0 ≡ 105) (stop : Stop) → stop ≢ stops.Memory
+      → Stops stop (integer_at bytes (take (length bytes - 1) (drop 1 bytes))) → ⊥
   skip_no_integer some head stop other h =
       let y = bound (integer_at bytes (take (length bytes - 1) (drop 1 bytes))) _ (d, after) (sym (value_integer room bytes some head) ∙ read) in no_stop stop _ y.0 other h y.1
 
-  pub skip_string : (some : 0 < length bytes) (digit : is_ascii_digit (get_or bytes 0 0) ≡ true) (x : List ℕ × List ℕ) → string_at bytes ≡ Ok x → x.1 ≡ after
+  pub skip_string : (some : 0 < length bytes) (digit : is_ascii_digit (get_or bytes 0 0) ≡ true) (x : List ℕ × List ℕ)
+      → string_at bytes ≡ Ok x → x.1 ≡ after
   skip_string some digit x e =
       ap (λ p. p.1) (read_is (string x.0, x.1) (d, after) (value_at room bytes) (value_string room bytes some digit ∙ ap (λ r. r >>= λ n. Ok (string n.0, n.1)) e) read)
 
-  pub skip_no_string : (some : 0 < length bytes) (digit : is_ascii_digit (get_or bytes 0 0) ≡ true) (stop : Stop) → stop ≢ stops.Memory → Stops stop (string_at bytes) → ⊥
+  pub skip_no_string : (some : 0 < length bytes) (digit : is_ascii_digit (get_or bytes 0 0) ≡ true) (stop : Stop)
+      → stop ≢ stops.Memory → Stops stop (string_at bytes) → ⊥
   skip_no_string some digit stop other h =
       let y = bound (string_at bytes) _ (d, after) (sym (value_string room bytes some digit) ∙ read) in no_stop stop _ y.0 other h y.1
 
@@ -71,7 +77,8 @@ as_items-spelling : (pairs : Pairs) → pairs_spelling pairs ≡ items_spelling 
 as_items-spelling no_pairs = refl
 as_items-spelling (pair key d pairs) = append_assoc (string_spelling key) (spelling d) (pairs_spelling pairs) ∙ ap (λ bs. string_spelling key ++ (spelling d ++ bs)) (as_items-spelling pairs)
 
-as_items-lawful : (room : ℕ) (pairs : Pairs) → PairsAreLawfulWithin room pairs → ItemsAreLawfulWithin room (as_items pairs)
+as_items-lawful : (room : ℕ) (pairs : Pairs) → PairsAreLawfulWithin room pairs
+    → ItemsAreLawfulWithin room (as_items pairs)
 as_items-lawful room no_pairs lawful = lawful-no_items room
 as_items-lawful room (pair key d pairs) lawful =
     let parts = (lawful-pair room key d pairs).0 lawful in
@@ -92,7 +99,8 @@ string_head s bytes after n is above head =
     let range = digit_range (get_or bytes 0 0) starts.digit in absurd (omega arith)
 
 -- what is open holds values up to its end
-pub opened_values : (d : Data) (room : ℕ) (bytes after : List ℕ) → IsLawfulWithin room d → bytes ≡ spelling d ++ after → ((get_or bytes 0 0 ≡ 108) ⊎ (get_or bytes 0 0 ≡ 100))
+pub opened_values : (d : Data) (room : ℕ) (bytes after : List ℕ) → IsLawfulWithin room d → bytes ≡ spelling d ++ after
+    → ((get_or bytes 0 0 ≡ 108) ⊎ (get_or bytes 0 0 ≡ 100))
     → (items : Items) × ItemsAreLawfulWithin (room - 1) items × (take (length bytes - 1) (drop 1 bytes) ≡ items_spelling items ++ 101 ∷ after)
 opened_values (integer n) room bytes after lawful is (inl head) = let h = head-is bytes 105 _ is in absurd (omega arith)
 opened_values (integer n) room bytes after lawful is (inr head) = let h = head-is bytes 105 _ is in absurd (omega arith)
@@ -113,14 +121,16 @@ next_item no_items rest after is other = absurd (other (head-is rest 101 after i
 next_item (item d others) rest after is other = (d, others, refl, is ∙ append_assoc (spelling d) (items_spelling others) (101 ∷ after))
 
 -- none are left where the end stands
-pub end_after : (left : Items) (rest after : List ℕ) → rest ≡ items_spelling left ++ 101 ∷ after → get_or rest 0 0 ≡ 101 → take (length rest - 1) (drop 1 rest) ≡ after
+pub end_after : (left : Items) (rest after : List ℕ) → rest ≡ items_spelling left ++ 101 ∷ after
+    → get_or rest 0 0 ≡ 101 → take (length rest - 1) (drop 1 rest) ≡ after
 end_after no_items rest after is end = tail-is rest 101 after is
 end_after (item d others) rest after is end =
     let same : rest ≡ spelling d ++ (items_spelling others ++ 101 ∷ after) = is ∙ append_assoc (spelling d) (items_spelling others) (101 ∷ after) in
     absurd ((spelling-starts d (items_spelling others ++ 101 ∷ after)).no_end (ap (λ bs. get_or bs 0 0) (sym same) ∙ end))
 
 -- each value begins with one of these
-pub no_head : (d : Data) (bytes after : List ℕ) → bytes ≡ spelling d ++ after → (get_or bytes 0 0 ≢ 105) → (get_or bytes 0 0 ≢ 108) → (get_or bytes 0 0 ≢ 100) → (48 ≤ get_or bytes 0 0 → get_or bytes 0 0 ≤ 57 → ⊥) → ⊥
+pub no_head : (d : Data) (bytes after : List ℕ) → bytes ≡ spelling d ++ after → (get_or bytes 0 0 ≢ 105)
+    → (get_or bytes 0 0 ≢ 108) → (get_or bytes 0 0 ≢ 100) → (48 ≤ get_or bytes 0 0 → get_or bytes 0 0 ≤ 57 → ⊥) → ⊥
 no_head (integer n) bytes after is i l d digit = i (head-is bytes 105 _ is)
 no_head (string s) bytes after is i l d digit =
     let starts = subst StartsWithDigit (sym is) (string-starts s after) in
@@ -156,7 +166,8 @@ no_string_here : string_at (101 ∷ []) ≡ Err (BadLength, 101 ∷ [])
 unfolding string_at
 no_string_here = refl
 
-pub next_pair : (left : Pairs) (rest key after : List ℕ) → PairsAreLawfulWithin 99 left → rest ≡ pairs_spelling left ++ 101 ∷ [] → string_at rest ≡ Ok (key, after) → IsNextPair left rest key after
+pub next_pair : (left : Pairs) (rest key after : List ℕ) → PairsAreLawfulWithin 99 left
+    → rest ≡ pairs_spelling left ++ 101 ∷ [] → string_at rest ≡ Ok (key, after) → IsNextPair left rest key after
 next_pair no_pairs rest key after lawful is read = absurd (not_both (key, after) (BadLength, 101 ∷ []) (string_at rest) read (ap string_at is ∙ no_string_here))
 next_pair (pair k d others) rest key after lawful is read =
     let middle = spelling d ++ (pairs_spelling others ++ 101 ∷ []) in
@@ -174,7 +185,8 @@ next_pair (pair k d others) rest key after lawful is read =
     }
 
 -- nothing is left where no key stands
-pub none_left : (left : Pairs) (rest key : List ℕ) (at : ℕ) (stop : Stop) → rest ≡ pairs_spelling left ++ 101 ∷ [] → stop ≢ stops.Memory → Stops stop (string_at rest) → None ≡ place_in at key left
+pub none_left : (left : Pairs) (rest key : List ℕ) (at : ℕ) (stop : Stop) → rest ≡ pairs_spelling left ++ 101 ∷ []
+    → stop ≢ stops.Memory → Stops stop (string_at rest) → None ≡ place_in at key left
 none_left no_pairs rest key at stop is other h = refl
 none_left (pair k d others) rest key at stop is other h =
     let middle = spelling d ++ (pairs_spelling others ++ 101 ∷ []) in
@@ -188,11 +200,13 @@ module _ (left : Pairs) (bytes rest name after next key : List ℕ) (h : IsNextP
   end_is : length bytes - length rest + length (string_spelling name) + length (spelling h.value) ≡ length bytes - length next
   end_is = omega (arith, ap length h.spelled, length-append (string_spelling name) after, ap length h.follows, length-append (spelling h.value) (pairs_spelling h.others ++ 101 ∷ []), ap length then)
 
-  pub place_found : bytes_eq name key ≡ true → Some (length bytes - length after, length bytes - length next) ≡ place_in (length bytes - length rest) key left
+  pub place_found : bytes_eq name key ≡ true
+      → Some (length bytes - length after, length bytes - length next) ≡ place_in (length bytes - length rest) key left
   place_found e =
       ap₂ (λ start end. Some (start, end)) (sym start_is) (sym end_is)
       ∙ sym (ap (place_in (length bytes - length rest) key) h.pairs ∙ rw e refl)
 
-  pub place_later : bytes_eq name key ≡ false → place_in (length bytes - length rest) key left ≡ place_in (length bytes - length next) key h.others
+  pub place_later : bytes_eq name key ≡ false
+      → place_in (length bytes - length rest) key left ≡ place_in (length bytes - length next) key h.others
   place_later e =
       ap (place_in (length bytes - length rest) key) h.pairs ∙ rw e (ap (λ end. place_in end key h.others) end_is)

@@ -14,7 +14,8 @@ pub record StartsWithDigit (bytes : List ℕ) : Type 0 where
   pub some : 0 < length bytes
   pub digit : is_ascii_digit (get_or bytes 0 0) ≡ true
 
-first_digit : (run rest : List ℕ) → list_all is_ascii_digit run ≡ true → is_shortest run ≡ true → StartsWithDigit (run ++ rest)
+first_digit : (run rest : List ℕ) → list_all is_ascii_digit run ≡ true → is_shortest run ≡ true
+    → StartsWithDigit (run ++ rest)
 first_digit [] rest digits shortest = absurd (false≢true shortest)
 first_digit (c ∷ cs) rest digits shortest = record { some = omega arith; digit = (and_parts (is_ascii_digit c) (list_all is_ascii_digit cs) digits).0 }
 

@@ -111,7 +111,8 @@ IsBadKey last bytes Trailing from = ⊥
 -- Where a value is expected and `room` lists and dictionaries may still be opened, the bytes have this fault: at once,
 -- or in a list after lawful items, or in a dictionary after lawful pairs, at a key or in its value.
 pub data IsFaultIn : ℕ → List ℕ → Fault → List ℕ → Type 0 where
-  at_value : {room : ℕ} {bytes : List ℕ} {fault : Fault} {from : List ℕ} → IsBadValue room bytes fault from → IsFaultIn room bytes fault from
+  at_value : {room : ℕ} {bytes : List ℕ} {fault : Fault} {from : List ℕ} → IsBadValue room bytes fault from
+      → IsFaultIn room bytes fault from
   in_list : {room : ℕ} {bytes : List ℕ} {fault : Fault} {from : List ℕ} (items : Items) (rest : List ℕ)
       → bytes ≡ codes "l" ++ items_spelling items ++ rest → ItemsAreLawfulWithin room items → ¬ Begins letter_e rest
       → IsFaultIn room rest fault from → IsFaultIn (suc room) bytes fault from
@@ -119,7 +120,8 @@ pub data IsFaultIn : ℕ → List ℕ → Fault → List ℕ → Type 0 where
       → bytes ≡ codes "d" ++ pairs_spelling pairs ++ rest → AreRising (keys_of pairs) → PairsAreLawfulWithin room pairs
       → IsBadKey (last_key pairs) rest fault from → IsFaultIn (suc room) bytes fault from
   in_pair : {room : ℕ} {bytes : List ℕ} {fault : Fault} {from : List ℕ} (pairs : Pairs) (key rest : List ℕ)
-      → bytes ≡ codes "d" ++ pairs_spelling pairs ++ string_spelling key ++ rest → AreRising (keys_of pairs ++ key ∷ []) → PairsAreLawfulWithin room pairs
+      → bytes ≡ codes "d" ++ pairs_spelling pairs ++ string_spelling key ++ rest
+      → AreRising (keys_of pairs ++ key ∷ []) → PairsAreLawfulWithin room pairs
       → IsFaultIn room rest fault from → IsFaultIn (suc room) bytes fault from
 
 -- a byte follows a lawful tree

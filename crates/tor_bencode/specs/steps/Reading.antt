@@ -18,7 +18,8 @@ abbrev pub Reading : Type 0 → Type 0
 Reading A = Result (A × List ℕ) (Fault × List ℕ)
 
 infixl 10 ◌>>=◌
-abbrev pub ◌>>=◌ : {A B : Type 0} → Result A (Fault × List ℕ) → (A → Result B (Fault × List ℕ)) → Result B (Fault × List ℕ)
+abbrev pub ◌>>=◌ : {A B : Type 0} → Result A (Fault × List ℕ) → (A → Result B (Fault × List ℕ))
+    → Result B (Fault × List ℕ)
 (Ok x) >>= f = f x
 (Err e) >>= f = Err e
 
@@ -117,7 +118,8 @@ pairs_at read (suc fuel) last (c ∷ rest) =
     else Err (KeyNotBytes, c ∷ rest))
 
 -- what is read inside, if a list or dictionary may still be opened
-abbrev pub opened : {A : Type 0} → Option (List ℕ → Reading Data) → List ℕ → ((List ℕ → Reading Data) → Reading A) → Reading A
+abbrev pub opened : {A : Type 0} → Option (List ℕ → Reading Data) → List ℕ → ((List ℕ → Reading Data) → Reading A)
+    → Reading A
 opened None bytes inside = Err (TooDeep, bytes)
 opened (Some read) bytes inside = inside read
 
