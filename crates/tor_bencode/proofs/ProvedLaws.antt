@@ -14,7 +14,7 @@ use Rattle.tor_bencode.proofs.Keys.{none_before, same_pairs}
 use Rattle.tor_bencode.proofs.Lawfulness.{lawful-integer, lawful-string, lawful-item, lawful-pair, lawful-no_items, lawful-no_pairs}
 use Rattle.tor_bencode.proofs.Places.{found_at, none_found}
 use Rattle.tor_bencode.proofs.ReadBack.{same_front, whole-spelling}
-use Rattle.tor_bencode.proofs.Refused.{refused_read}
+use Rattle.tor_bencode.proofs.RefusedWhole.{refused_read}
 use Rattle.tor_bencode.proofs.Whole.{WholeIs, whole_sound, refused_within}
 
 -- no lawful spelling begins another

@@ -6,9 +6,11 @@ use Rattle.tor_bencode.specs.Data.{Data, integer, string, list, dictionary, Item
 use Rattle.tor_bencode.specs.Lawful.{AreRising, IsLawfulWithin, ItemsAreLawfulWithin, PairsAreLawfulWithin}
 use Rattle.tor_bencode.specs.steps.Reading.{◌>>=◌, Reading, follows, integer_at, items_at, pairs_at, value_at, whole, last_of}
 use Rattle.tor_bencode.specs.Spelling.{signed_base_ten, spelling, string_spelling, items_spelling, pairs_spelling}
-use Rattle.tor_bencode.proofs.Integers.{integer_at-spelling, integer_spelled}
+use Rattle.tor_bencode.proofs.Integers.{integer_at-spelling}
+use Rattle.tor_bencode.proofs.IntegersRead.{integer_spelled}
 use Rattle.tor_bencode.proofs.Lawfulness.{lawful-list, lawful-dictionary, lawful-item, lawful-pair}
-use Rattle.tor_bencode.proofs.Loops.{items_before, pairs_before, with_items, with_pairs, items_before-assoc, items_before-no_items, pairs_before-assoc, pairs_before-no_pairs, with_no_items, with_no_pairs, items_go_on, pairs_go_on, items_end, pairs_end, value_integer, value_string, value_list, value_dictionary}
+use Rattle.tor_bencode.proofs.Loops.{items_before, pairs_before, with_items, with_pairs, items_before-assoc, items_before-no_items, pairs_before-assoc, pairs_before-no_pairs, with_no_items, with_no_pairs, items_go_on, pairs_go_on, items_end, pairs_end}
+use Rattle.tor_bencode.proofs.Values.{value_integer, value_string, value_list, value_dictionary}
 use Rattle.tor_bencode.proofs.Numerals.{digit_range}
 use Rattle.tor_bencode.proofs.Spelled.{string-starts, spelling-starts, shorter-spelling, shorter-string, pair_spelled}
 use Rattle.tor_bencode.proofs.Strings.{string_at-spelling}

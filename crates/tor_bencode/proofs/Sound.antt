@@ -1,18 +1,17 @@
 -- What is read is spelled so, and where reading stops there is a fault.
-use Rattle.std.proofs.Common.{◌≡◌, ℕ, zero, suc, ◌-◌, ◌≤◌, List, [], ◌∷◌, ◌++◌, length, true, false, cond, ◌==◌, Option, Some, None, Ok, Err, Ordering, Less, Equal, Greater, refl, sym, ap, ◌∙◌, subst, append_assoc, arith, inl, inr, ◌⊎◌}
+use Rattle.std.proofs.Common.{◌≡◌, ℕ, zero, suc, ◌≤◌, List, [], ◌∷◌, ◌++◌, length, true, false, cond, ◌==◌, Option, Some, None, Ok, Err, Ordering, Less, Equal, Greater, refl, sym, ap, ◌∙◌, append_assoc, arith, inl, inr, ◌⊎◌}
 use Rattle.std.specs.Char.{is_ascii_digit}
 use Rattle.std.specs.Ordering.{is_lt}
 use Rattle.std.proofs.lemmas.Bool.{false≢true, true≢false}
 use Rattle.std.proofs.lemmas.Bool.Decides.{nat_tests}
-use Rattle.tor_bencode.specs.Data.{Data, integer, string, list, dictionary, Items, no_items, item, Pairs, no_pairs, pair, keys_of}
-use Rattle.tor_bencode.specs.Fault.{Begins, IsBadValue, IsBadKey, IsOutOfOrder, IsFaultIn, at_value, in_list, at_key, in_pair, last_key}
+use Rattle.tor_bencode.specs.Data.{Data, Items, no_items, item, Pairs, no_pairs, pair, keys_of}
+use Rattle.tor_bencode.specs.Fault.{Begins, IsBadKey, IsOutOfOrder, IsFaultIn, at_value}
 use Rattle.tor_bencode.specs.Lawful.{IsLawfulWithin, ItemsAreLawfulWithin, PairsAreLawfulWithin}
 use Rattle.tor_bencode.specs.steps.Reading.{◌>>=◌, Reading, follows, string_at, items_at, pairs_at}
 use Rattle.tor_bencode.specs.Spelling.{spelling, string_spelling, items_spelling, pairs_spelling}
 use Rattle.tor_bencode.specs.declared.fault.Fault.{Fault}
 use Rattle.tor_bencode.specs.declared.fault.Fault.TheVariants.{Truncated, BadByte, BadInteger, IntegerRange, BadLength, KeyNotBytes, KeyOrder, TooDeep, Trailing}
-use Rattle.tor_bencode.proofs.Integers.{IsBadInt, IntegerIs}
-use Rattle.tor_bencode.proofs.Lawfulness.{lawful-integer, lawful-string, lawful-list, lawful-dictionary, lawful-item, lawful-pair, lawful-no_items, lawful-no_pairs}
+use Rattle.tor_bencode.proofs.Lawfulness.{lawful-item, lawful-pair, lawful-no_items, lawful-no_pairs}
 use Rattle.tor_bencode.proofs.ReadBack.{AreRisingAfter, last_after}
 use Rattle.tor_bencode.proofs.Runs.{by_test}
 use Rattle.tor_bencode.proofs.Spelled.{shorter-spelling, shorter-string, pair_spelled}
@@ -168,61 +167,3 @@ module _ (room : ℕ) (read : List ℕ → Reading Data) (sound : (bytes : List 
       (λ other. by_test (is_ascii_digit c) (PairsAre room last (c ∷ rest)) _ _
       (λ digit. pairs_after_key fuel last (c ∷ rest) (string_at (c ∷ rest)) (λ key after h. pairs_sound fuel (Some key) after h) enough (string_sound (c ∷ rest) (c, rest, refl, digit)))
       (λ none. stop_at_key room last (c ∷ rest) KeyNotBytes (c ∷ rest) (c, rest, refl, λ t. true≢false (sym t ∙ none), λ e. true≢false (let t : (c == 101) ≡ true = grind (arith, nat_tests) in sym t ∙ other), refl)))
-
-last_key-after : (key : List ℕ) (d : Data) (pairs : Pairs) → last_key (pair key d pairs) ≡ last_after (Some key) pairs
-last_key-after key d no_pairs = refl
-last_key-after key d (pair next e pairs) = last_key-after next e pairs
-
-pub last_key-is : (pairs : Pairs) → last_after None pairs ≡ last_key pairs
-last_key-is no_pairs = refl
-last_key-is (pair key d pairs) = sym (last_key-after key d pairs)
-
-bad_integer : (room : ℕ) (bytes : List ℕ) (fault : Fault) (from : List ℕ) → IsBadInt bytes fault from
-    → IsBadValue room bytes fault from
-bad_integer room bytes Truncated from h = (inr (inl h.0), h.1)
-bad_integer room bytes BadInteger from h = h
-bad_integer room bytes IntegerRange from h = h
-bad_integer room bytes BadByte from h = absurd h
-bad_integer room bytes BadLength from h = absurd h
-bad_integer room bytes KeyNotBytes from h = h
-bad_integer room bytes KeyOrder from h = h
-bad_integer room bytes TooDeep from h = absurd h
-bad_integer room bytes Trailing from h = h
-
-bad_string : (room : ℕ) (bytes : List ℕ) (fault : Fault) (from : List ℕ) → IsBadString bytes fault from
-    → IsBadValue room bytes fault from
-bad_string room bytes Truncated from h = (inr (inr h.0), h.1)
-bad_string room bytes BadLength from h = h
-bad_string room bytes BadByte from h = absurd h
-bad_string room bytes BadInteger from h = absurd h
-bad_string room bytes IntegerRange from h = absurd h
-bad_string room bytes KeyNotBytes from h = h
-bad_string room bytes KeyOrder from h = h
-bad_string room bytes TooDeep from h = absurd h
-bad_string room bytes Trailing from h = h
-
-pub integer_is : (room : ℕ) (bytes : List ℕ) (r : Reading _) → IntegerIs bytes r
-    → ValueIs room bytes (r >>= λ n. Ok (integer n.0, n.1))
-integer_is room bytes (Ok x) h = (lawful-integer room x.0 h.0, h.1)
-integer_is room bytes (Err f) h = at_value (bad_integer room bytes f.0 f.1 h)
-
-pub string_is : (room : ℕ) (bytes : List ℕ) (r : Reading (List ℕ)) → StringIs bytes r
-    → ValueIs room bytes (r >>= λ text. Ok (string text.0, text.1))
-string_is room bytes (Ok x) h = (lawful-string room x.0, h)
-string_is room bytes (Err f) h = at_value (bad_string room bytes f.0 f.1 h)
-
-pub list_is : (room : ℕ) (rest : List ℕ) (r : Reading Items) → ItemsAre room rest r
-    → ValueIs (suc room) (108 ∷ rest) (r >>= λ items. Ok (list items.0, items.1))
-list_is room rest (Ok x) h =
-    let same : suc room - 1 ≡ room = omega arith in
-    ((lawful-list (suc room) x.0).1 (omega arith, subst (λ n. ItemsAreLawfulWithin n x.0) (sym same) h.0), ap (λ bs. 108 ∷ bs) (h.1 ∙ sym (append_assoc (items_spelling x.0) (101 ∷ []) x.1)))
-list_is room rest (Err f) h = in_list h.0 h.1 (ap (λ bs. 108 ∷ bs) h.2) h.3 h.4 h.5
-
-pub dictionary_is : (room : ℕ) (rest : List ℕ) (r : Reading Pairs) → PairsAre room None rest r
-    → ValueIs (suc room) (100 ∷ rest) (r >>= λ pairs. Ok (dictionary pairs.0, pairs.1))
-dictionary_is room rest (Ok x) h =
-    let same : suc room - 1 ≡ room = omega arith in
-    ((lawful-dictionary (suc room) x.0).1 (omega arith, h.1, subst (λ n. PairsAreLawfulWithin n x.0) (sym same) h.0), ap (λ bs. 100 ∷ bs) (h.2 ∙ sym (append_assoc (pairs_spelling x.0) (101 ∷ []) x.1)))
-dictionary_is room rest (Err f) (inl h) = at_key h.0 h.1 (ap (λ bs. 100 ∷ bs) h.2) h.4 h.3 (subst (λ o. IsBadKey o h.1 f.0 f.1) (last_key-is h.0) h.5)
-dictionary_is room rest (Err f) (inr h) =
-    in_pair h.0 h.1 h.2 (ap (λ bs. 100 ∷ bs) (h.3 ∙ sym (append_assoc (pairs_spelling h.0) (string_spelling h.1) h.2))) h.5 h.4 h.6

@@ -12,9 +12,10 @@ use Rattle.tor_bencode.specs.steps.Reading.{◌>>=◌, Reading, string_at, integ
 use Rattle.tor_bencode.specs.Spelling.{spelling, string_spelling, items_spelling, pairs_spelling}
 use Rattle.tor_bencode.specs.declared.fault.Fault.{Fault}
 use Rattle.tor_bencode.specs.declared.fault.Fault.TheVariants.{Truncated, BadByte, BadInteger, IntegerRange, BadLength, KeyNotBytes, KeyOrder, TooDeep, Trailing}
-use Rattle.tor_bencode.proofs.Integers.{integer_sound}
+use Rattle.tor_bencode.proofs.IntegersRead.{integer_sound}
 use Rattle.tor_bencode.proofs.Runs.{by_test}
-use Rattle.tor_bencode.proofs.Sound.{ValueIs, items_sound, pairs_sound, integer_is, string_is, list_is, dictionary_is}
+use Rattle.tor_bencode.proofs.Sound.{ValueIs, items_sound, pairs_sound}
+use Rattle.tor_bencode.proofs.SoundValues.{integer_is, string_is, list_is, dictionary_is}
 use Rattle.tor_bencode.proofs.Strings.{string_sound}
 
 -- what is read inside is sound too

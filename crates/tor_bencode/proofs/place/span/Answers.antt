@@ -1,7 +1,7 @@
 use Rattle.std.proofs.Common.{◌≡◌, ◌-◌, length, take, drop, sym, ap, ◌∙◌, arith}
 use Rattle.std.proofs.lemmas.List.{length-take, length-drop}
 use Rattle.tor_bencode.specs.Place.{place_in}
-use Rattle.tor_bencode.proofs.Skips.{open_pairs, next_pair, none_left, place_found, place_later}
+use Rattle.tor_bencode.proofs.SkippedPairs.{open_pairs, next_pair, none_left, place_found, place_later}
 use Rattle.tor_bencode.proofs.place.span.Goals as goal
 
 pub pairs-init : goal.pairs-init
