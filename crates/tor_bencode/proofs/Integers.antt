@@ -47,14 +47,17 @@ is_positive-digits : (run : List ℕ) → list_all is_ascii_digit run ≡ true �
     → is_positive run ≡ true
 is_positive-digits [] digits shortest more = absurd (false≢true shortest)
 is_positive-digits (c ∷ []) digits shortest more =
-    let first : not (c == 48) ≡ true = elim (cases_Bool (c == 48)) [ inl e ↦ absurd (let z = number-zero c (grind (arith, nat_tests)) in omega arith) | inr e ↦ rw e refl ] in
+    let first : not (c == 48) ≡ true =
+    elim (cases_Bool (c == 48)) [ inl e ↦ absurd (let z = number-zero c (grind (arith, nat_tests)) in omega arith) | inr e ↦ rw e refl ] in
     rw (first, digits) refl
 is_positive-digits (c ∷ d ∷ cs) digits shortest more = rw (shortest, digits) refl
 
 pub is_integer-signed : (z : ℤ) → is_integer (signed_base_ten z) ≡ true
 unfolding is_integer
 is_integer-signed (pos n) = is_integer-digits (base_ten n) (all_digits-base_ten n) (is_shortest-base_ten n)
-is_integer-signed (negsuc n) = is_positive-digits (base_ten (suc n)) (all_digits-base_ten (suc n)) (is_shortest-base_ten (suc n)) (omega (arith, number-base_ten (suc n)))
+is_integer-signed (negsuc n) =
+    is_positive-digits (base_ten (suc n)) (all_digits-base_ten (suc n)) (is_shortest-base_ten (suc n))
+    (omega (arith, number-base_ten (suc n)))
 
 integer_of-digits : (run : List ℕ) → list_all is_ascii_digit run ≡ true → is_shortest run ≡ true
     → integer_of run ≡ positive_of (number run)
@@ -70,12 +73,14 @@ held (negsuc n) = negative_of (suc n)
 
 pub integer_of-signed : (z : ℤ) → integer_of (signed_base_ten z) ≡ held z
 unfolding integer_of
-integer_of-signed (pos n) = integer_of-digits (base_ten n) (all_digits-base_ten n) (is_shortest-base_ten n) ∙ ap positive_of (number-base_ten n)
+integer_of-signed (pos n) =
+    integer_of-digits (base_ten n) (all_digits-base_ten n) (is_shortest-base_ten n) ∙ ap positive_of (number-base_ten n)
 integer_of-signed (negsuc n) = ap negative_of (number-base_ten (suc n))
 
 pub held-fits : (z : ℤ) → FitsSigned w64 z → held z ≡ Some z
 held-fits (pos n) fits = let small : nat_lt n (2 ^ 63) ≡ true = le-leb _ _ (omega (arith, ints, fits)) in rw small refl
-held-fits (negsuc n) fits = let small : nat_le (suc n) (2 ^ 63) ≡ true = le-leb _ _ (omega (arith, ints, fits)) in rw small refl
+held-fits (negsuc n) fits =
+    let small : nat_le (suc n) (2 ^ 63) ≡ true = le-leb _ _ (omega (arith, ints, fits)) in rw small refl
 
 pub fits_pos : (n : ℕ) → nat_lt n (2 ^ 63) ≡ true → FitsSigned w64 (pos n)
 fits_pos n e = let small : n < 2 ^ 63 = leb-true _ _ e in search (rules, ints)
@@ -84,14 +89,17 @@ pub fits_negsuc : (n : ℕ) → nat_le (suc n) (2 ^ 63) ≡ true → FitsSigned 
 fits_negsuc n e = let small : suc n ≤ 2 ^ 63 = leb-true _ _ e in search (rules, ints)
 
 held-too_large : (z : ℤ) → ¬ FitsSigned w64 z → held z ≡ None
-held-too_large (pos n) large = let no : nat_lt n (2 ^ 63) ≡ false = one_of_two _ (λ e. large (fits_pos n e)) in rw no refl
-held-too_large (negsuc n) large = let no : nat_le (suc n) (2 ^ 63) ≡ false = one_of_two _ (λ e. large (fits_negsuc n e)) in rw no refl
+held-too_large (pos n) large =
+    let no : nat_lt n (2 ^ 63) ≡ false = one_of_two _ (λ e. large (fits_pos n e)) in rw no refl
+held-too_large (negsuc n) large =
+    let no : nat_le (suc n) (2 ^ 63) ≡ false = one_of_two _ (λ e. large (fits_negsuc n e)) in rw no refl
 
 is_positive-parts : (cs : List ℕ) → is_positive cs ≡ true
     → (list_all is_ascii_digit cs ≡ true) × (is_shortest cs ≡ true)
 is_positive-parts [] h = absurd (false≢true h)
 is_positive-parts (c ∷ []) h = ((and_parts (not (c == 48)) (list_all is_ascii_digit (c ∷ [])) h).1, refl)
-is_positive-parts (c ∷ d ∷ cs) h = let both = and_parts (not (c == 48)) (list_all is_ascii_digit (c ∷ d ∷ cs)) h in (both.1, both.0)
+is_positive-parts (c ∷ d ∷ cs) h =
+    let both = and_parts (not (c == 48)) (list_all is_ascii_digit (c ∷ d ∷ cs)) h in (both.1, both.0)
 
 zero_is_not : false ≡ is_positive (base_ten 0)
 unfolding base_ten
@@ -146,7 +154,8 @@ integer_at-spelling bytes z more fits = integer_at-signed bytes z more ∙ ap (i
 
 pub integer_at-too_large : (bytes : List ℕ) (z : ℤ) (more : List ℕ) → ¬ FitsSigned w64 z
     → integer_at bytes (signed_base_ten z ++ 101 ∷ more) ≡ Err (IntegerRange, bytes)
-integer_at-too_large bytes z more large = integer_at-signed bytes z more ∙ ap (in_range bytes more) (held-too_large z large)
+integer_at-too_large bytes z more large =
+    integer_at-signed bytes z more ∙ ap (in_range bytes more) (held-too_large z large)
 
 pub integer_at-cut : (bytes rest : List ℕ) → list_all is_integer_byte rest ≡ true
     → integer_at bytes rest ≡ Err (Truncated, [])

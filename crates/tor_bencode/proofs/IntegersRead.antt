@@ -40,9 +40,11 @@ not_held h e = let none : None ≡ Some _ = rw e at h in absurd cc
 held-is : (bytes more : List ℕ) (z : ℤ) → bytes ≡ spelling (integer z) ++ more
     → IntegerIs bytes (in_range bytes more (held z))
 held-is bytes more (pos n) is =
-    by_test (nat_lt n (2 ^ 63)) (λ o. IntegerIs bytes (in_range bytes more o)) (Some (pos n)) None (λ e. (fits_pos n e, is)) (λ e. ((pos n, more, is, λ fits. not_held (held-fits (pos n) fits) e), refl))
+    by_test (nat_lt n (2 ^ 63)) (λ o. IntegerIs bytes (in_range bytes more o)) (Some (pos n)) None
+    (λ e. (fits_pos n e, is)) (λ e. ((pos n, more, is, λ fits. not_held (held-fits (pos n) fits) e), refl))
 held-is bytes more (negsuc n) is =
-    by_test (nat_le (suc n) (2 ^ 63)) (λ o. IntegerIs bytes (in_range bytes more o)) (Some (negsuc n)) None (λ e. (fits_negsuc n e, is)) (λ e. ((negsuc n, more, is, λ fits. not_held (held-fits (negsuc n) fits) e), refl))
+    by_test (nat_le (suc n) (2 ^ 63)) (λ o. IntegerIs bytes (in_range bytes more o)) (Some (negsuc n)) None
+    (λ e. (fits_negsuc n e, is)) (λ e. ((negsuc n, more, is, λ fits. not_held (held-fits (negsuc n) fits) e), refl))
 
 module _ (rest : List ℕ) where
   bytes : List ℕ
@@ -66,18 +68,23 @@ module _ (rest : List ℕ) where
   after_is : (after : List ℕ) → drop (prefix_len is_integer_byte rest) rest ≡ after
       → IntegerIs (105 ∷ rest) (integer_after (105 ∷ rest) (take (prefix_len is_integer_byte rest) rest) after)
   after_is [] e =
-      let all : rest ≡ take (prefix_len is_integer_byte rest) rest = run_whole is_integer_byte rest [] e ∙ append-nil _ in
+      let all : rest ≡ take (prefix_len is_integer_byte rest) rest =
+      run_whole is_integer_byte rest [] e ∙ append-nil _ in
       ((rest, refl, subst (λ bs. list_all is_integer_byte bs ≡ true) (sym all) (run_passes is_integer_byte rest)), refl)
   after_is (c ∷ more) e =
       let run = take (prefix_len is_integer_byte rest) rest in
-      let whole : rest ≡ take (prefix_len is_integer_byte rest) rest ++ c ∷ more = run_whole is_integer_byte rest (c ∷ more) e in
+      let whole : rest ≡ take (prefix_len is_integer_byte rest) rest ++ c ∷ more =
+      run_whole is_integer_byte rest (c ∷ more) e in
       by_test ((c == 101) && is_integer run) (IntegerIs (105 ∷ rest)) _ _
       (λ good.
       let parts = and_parts (c == 101) (is_integer run) good in
       let end : c ≡ 101 = grind (arith, nat_tests) in
       let z = signed-run run parts.1 in
-      let is : 105 ∷ rest ≡ spelling (integer z.0) ++ more = ap (λ bs. 105 ∷ bs) (whole ∙ ap₂ (λ (r : List ℕ) (x : ℕ). r ++ x ∷ more) z.1 end) ∙ sym (integer_spelled z.0 more) in
-      subst (λ o. IntegerIs (105 ∷ rest) (in_range (105 ∷ rest) more o)) (sym (ap integer_of z.1 ∙ integer_of-signed z.0)) (held-is (105 ∷ rest) more z.0 is))
+      let is : 105 ∷ rest ≡ spelling (integer z.0) ++ more =
+      ap (λ bs. 105 ∷ bs) (whole ∙ ap₂ (λ (r : List ℕ) (x : ℕ). r ++ x ∷ more) z.1 end)
+      ∙ sym (integer_spelled z.0 more) in
+      subst (λ o. IntegerIs (105 ∷ rest) (in_range (105 ∷ rest) more o))
+      (sym (ap integer_of z.1 ∙ integer_of-signed z.0)) (held-is (105 ∷ rest) more z.0 is))
       (λ test. (bad run c more (record { all = run_passes is_integer_byte rest; stops = λ t. true≢false (sym t ∙ run_stops is_integer_byte rest c more e); whole = whole }) test, refl))
 
 pub integer_sound : (rest : List ℕ) → IntegerIs (105 ∷ rest) (integer_at (105 ∷ rest) rest)

@@ -83,7 +83,8 @@ same_first k l v w p q rising_p rising_q same others = by_order (slice_cmp nat_c
       let rising_l : AreRising (l ∷ keys_of p) = subst (λ key. AreRising (key ∷ keys_of p)) is rising_p in
       let same_l : SameValues (pair l v p) (pair l w q) =
       subst (λ (first : List ℕ). SameValues (pair first v p) (pair l w q)) is same in
-      let value : v ≡ w = some_is_one v w (value_in l (pair l v p)) (first_value l v p) (same_l l ∙ first_value l w q) in
+      let value : v ≡ w =
+      some_is_one v w (value_in l (pair l v p)) (first_value l v p) (same_l l ∙ first_value l w q) in
       let rest : p ≡ q =
       others (rising_rest l (keys_of p) rising_l) (rising_rest l (keys_of q) rising_q)
       (same_rest l v w p q rising_l rising_q same_l) in

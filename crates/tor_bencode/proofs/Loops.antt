@@ -31,7 +31,8 @@ with_pairs front read = read >>= λ x. Ok (pairs_before front x.0, x.1)
 pub nested_at-positive : (room : ℕ) → 0 < room → nested_at room ≡ Some (value_at (room - 1))
 unfolding nested_at value_at
 nested_at-positive zero h = absurd (omega arith)
-nested_at-positive (suc room) h = let here : suc room - 1 ≡ room = omega arith in ap (λ n. Some (value_with (nested_at n))) (sym here)
+nested_at-positive (suc room) h =
+    let here : suc room - 1 ≡ room = omega arith in ap (λ n. Some (value_with (nested_at n))) (sym here)
 
 pub items_before-assoc : (a b c : Items) → items_before (items_before a b) c ≡ items_before a (items_before b c)
 items_before-assoc no_items b c = refl
@@ -48,7 +49,8 @@ items_view-push (y ∷ items) x = ap (item (view y)) (items_view-push items x)
 
 regroup_items : (front : Items) (d : Data) (read : Reading Items)
     → with_items front (read >>= λ x. Ok (item d x.0, x.1)) ≡ with_items (items_before front (item d no_items)) read
-regroup_items front d (Ok x) = ap (λ (items : Items). Ok (items, x.1)) (sym (items_before-assoc front (item d no_items) x.0))
+regroup_items front d (Ok x) =
+    ap (λ (items : Items). Ok (items, x.1)) (sym (items_before-assoc front (item d no_items) x.0))
 regroup_items front d (Err e) = refl
 
 pub with_no_items : (read : Reading Items) → with_items no_items read ≡ read
@@ -96,8 +98,10 @@ items_end read front fuel [] total some is enough so_far = absurd (omega arith)
 items_end read front zero (c ∷ rest) total some is enough so_far = absurd (omega arith)
 items_end read front (suc fuel) (c ∷ rest) total some is enough so_far =
     let at_end : (c == 101) ≡ true = grind (arith, nat_tests) in
-    let one : with_items front (items_at read (suc fuel) (c ∷ rest)) ≡ Ok (items_before front no_items, rest) = rw at_end refl in
-    sym so_far ∙ one ∙ ap₂ (λ (items : Items) (after : List ℕ). Ok (items, after)) (items_before-no_items front) (sym (take_rest c rest))
+    let one : with_items front (items_at read (suc fuel) (c ∷ rest)) ≡ Ok (items_before front no_items, rest) =
+    rw at_end refl in
+    sym so_far ∙ one
+    ∙ ap₂ (λ (items : Items) (after : List ℕ). Ok (items, after)) (items_before-no_items front) (sym (take_rest c rest))
 
 pub stops_bind : {A B : Type 0} (stop : Stop) (r : Result A (Fault × List ℕ)) (f : A → Result B (Fault × List ℕ))
     → Stops stop r → Stops stop (r >>= f)
@@ -119,13 +123,15 @@ pairs_view-push (y ∷ pairs) key x = ap (pair y.0.items (view y.1)) (pairs_view
 
 regroup_pairs : (front : Pairs) (key : List ℕ) (d : Data) (read : Reading Pairs)
     → with_pairs front (read >>= λ x. Ok (pair key d x.0, x.1)) ≡ with_pairs (pairs_before front (pair key d no_pairs)) read
-regroup_pairs front key d (Ok x) = ap (λ (pairs : Pairs). Ok (pairs, x.1)) (sym (pairs_before-assoc front (pair key d no_pairs) x.0))
+regroup_pairs front key d (Ok x) =
+    ap (λ (pairs : Pairs). Ok (pairs, x.1)) (sym (pairs_before-assoc front (pair key d no_pairs) x.0))
 regroup_pairs front key d (Err e) = refl
 
 -- where a key begins, it is read, and then its value
 abbrev pub after_key : Read → ℕ → Option (List ℕ) → List ℕ → List ℕ × List ℕ → Reading Pairs
 after_key read fuel last bytes key =
-    cond (follows last key.0) (read key.1 >>= λ value. pairs_at read fuel (Some key.0) value.1 >>= λ others. Ok (pair key.0 value.0 others.0, others.1)) (Err (KeyOrder, bytes))
+    cond (follows last key.0)
+    (read key.1 >>= λ value. pairs_at read fuel (Some key.0) value.1 >>= λ others. Ok (pair key.0 value.0 others.0, others.1)) (Err (KeyOrder, bytes))
 
 pub key_here : (read : Read) (fuel : ℕ) (last : Option (List ℕ)) (bytes : List ℕ) → 0 < length bytes
     → 48 ≤ get_or bytes 0 0 → get_or bytes 0 0 ≤ 57 → length bytes ≤ fuel
@@ -146,7 +152,8 @@ pub pairs_go_on : (read : Read) (front : Pairs) (fuel : ℕ) (last : Option (Lis
     → (less : ℕ) × (length after ≤ less) × (with_pairs (pairs_before front (pair key d no_pairs)) (pairs_at read less (Some key) after) ≡ total)
 pairs_go_on read front fuel last bytes key middle d after total some low high enough shorter named order reads so_far =
     let k = key_here read fuel last bytes some low high enough in
-    let key_read : (string_at bytes >>= after_key read k.0 last bytes) ≡ after_key read k.0 last bytes (key, middle) = rw named refl in
+    let key_read : (string_at bytes >>= after_key read k.0 last bytes) ≡ after_key read k.0 last bytes (key, middle) =
+    rw named refl in
     let value_read : after_key read k.0 last bytes (key, middle) ≡ (pairs_at read k.0 (Some key) after >>= λ others. Ok (pair key d others.0, others.1)) = rw (order, reads) refl in
     (k.0, omega (arith, k.1), sym (ap (with_pairs front) (k.2 ∙ key_read ∙ value_read) ∙ regroup_pairs front key d (pairs_at read k.0 (Some key) after)) ∙ so_far)
 
@@ -169,7 +176,8 @@ pub pairs_stop_order : (read : Read) (front : Pairs) (fuel : ℕ) (last : Option
     → with_pairs front (pairs_at read fuel last bytes) ≡ total → total ≡ Err (KeyOrder, bytes)
 pairs_stop_order read front fuel last bytes key middle total some low high enough named order so_far =
     let k = key_here read fuel last bytes some low high enough in
-    let key_read : (string_at bytes >>= after_key read k.0 last bytes) ≡ after_key read k.0 last bytes (key, middle) = rw named refl in
+    let key_read : (string_at bytes >>= after_key read k.0 last bytes) ≡ after_key read k.0 last bytes (key, middle) =
+    rw named refl in
     let refused : after_key read k.0 last bytes (key, middle) ≡ Err (KeyOrder, bytes) = rw order refl in
     sym so_far ∙ ap (with_pairs front) (k.2 ∙ key_read ∙ refused)
 
@@ -179,7 +187,8 @@ pub pairs_stop_value : (read : Read) (front : Pairs) (fuel : ℕ) (last : Option
     → with_pairs front (pairs_at read fuel last bytes) ≡ total → Stops stop total
 pairs_stop_value read front fuel last bytes key middle stop total some low high enough named order h so_far =
     let k = key_here read fuel last bytes some low high enough in
-    let key_read : (string_at bytes >>= after_key read k.0 last bytes) ≡ after_key read k.0 last bytes (key, middle) = rw named refl in
+    let key_read : (string_at bytes >>= after_key read k.0 last bytes) ≡ after_key read k.0 last bytes (key, middle) =
+    rw named refl in
     let value_read : after_key read k.0 last bytes (key, middle) ≡ (read middle >>= λ value. pairs_at read k.0 (Some key) value.1 >>= λ others. Ok (pair key value.0 others.0, others.1)) = rw order refl in
     stops_front stop front _ _ total (k.2 ∙ key_read ∙ value_read) (stops_bind stop (read middle) _ h) so_far
 
@@ -191,5 +200,7 @@ pairs_end read front fuel last [] total some is enough so_far = absurd (omega ar
 pairs_end read front zero last (c ∷ rest) total some is enough so_far = absurd (omega arith)
 pairs_end read front (suc fuel) last (c ∷ rest) total some is enough so_far =
     let at_end : (c == 101) ≡ true = grind (arith, nat_tests) in
-    let one : with_pairs front (pairs_at read (suc fuel) last (c ∷ rest)) ≡ Ok (pairs_before front no_pairs, rest) = rw at_end refl in
-    sym so_far ∙ one ∙ ap₂ (λ (pairs : Pairs) (after : List ℕ). Ok (pairs, after)) (pairs_before-no_pairs front) (sym (take_rest c rest))
+    let one : with_pairs front (pairs_at read (suc fuel) last (c ∷ rest)) ≡ Ok (pairs_before front no_pairs, rest) =
+    rw at_end refl in
+    sym so_far ∙ one
+    ∙ ap₂ (λ (pairs : Pairs) (after : List ℕ). Ok (pairs, after)) (pairs_before-no_pairs front) (sym (take_rest c rest))

@@ -44,7 +44,8 @@ remainder n d h = omega arith
 -- one digit more
 digits_of_more : (n d : ℕ) → d < 10 → 0 < n * 10 + d → digits_of 10 (n * 10 + d) ≡ digits_of 10 n ++ d ∷ []
 digits_of_more n d small more =
-    digits_of_step 10 (n * 10 + d) (omega arith) more ∙ ap₂ (λ q r. digits_of 10 q ++ r ∷ []) (quotient n d small) (remainder n d small)
+    digits_of_step 10 (n * 10 + d) (omega arith) more
+    ∙ ap₂ (λ q r. digits_of 10 q ++ r ∷ []) (quotient n d small) (remainder n d small)
 
 digits_of_one : (d : ℕ) → 0 < d → d < 10 → digits_of 10 d ≡ d ∷ []
 digits_of_one d more small =
@@ -89,7 +90,8 @@ base_ten-first c cs more digits =
     let both = and_parts (is_ascii_digit c) (list_all is_ascii_digit cs) digits in
     let range = digit_range c both.0 in
     let here : 0 * 10 + (c - 48) ≡ c - 48 = omega arith in
-    let after : digits_of 10 (number_after (c - 48) cs) ≡ digits_of 10 (c - 48) ++ values cs = digits_of_after (c - 48) cs (omega arith) both.1 in
+    let after : digits_of 10 (number_after (c - 48) cs) ≡ digits_of 10 (c - 48) ++ values cs =
+    digits_of_after (c - 48) cs (omega arith) both.1 in
     ap (λ n. base_ten (number_after n cs)) here
     ∙ base_ten-positive (number_after (c - 48) cs) (omega (arith, number_after-ge (c - 48) cs))
     ∙ ap glyphs (after ∙ ap (λ ds. ds ++ values cs) (digits_of_one (c - 48) (omega arith) (omega arith)))
@@ -146,7 +148,8 @@ is_shortest-glyphs (d ∷ e ∷ ds) h = grind (arith, nat_tests)
 pub is_shortest-base_ten : (n : ℕ) → is_shortest (base_ten n) ≡ true
 unfolding base_ten
 is_shortest-base_ten zero = refl
-is_shortest-base_ten (suc n) = is_shortest-glyphs (digits_of 10 (suc n)) (first_digits_of 10 (suc n) (omega arith) (omega arith))
+is_shortest-base_ten (suc n) =
+    is_shortest-glyphs (digits_of 10 (suc n)) (first_digits_of 10 (suc n) (omega arith) (omega arith))
 
 base_ten-digit : (n : ℕ) → n < 10 → base_ten n ≡ (48 + n) ∷ []
 unfolding base_ten

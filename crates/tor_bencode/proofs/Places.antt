@@ -62,7 +62,8 @@ module _ (key k : List ℕ) (value : Data) (pairs : Pairs) (front back : List �
   at_later t e others =
       let long : at + length name + length (spelling value) ≡ length ((front ++ name) ++ spelling value) =
       omega (arith, is, length-append (front ++ name) (spelling value), length-append front name) in
-      let later = others ((front ++ name) ++ spelling value) (at + length name + length (spelling value)) long (rw t at e) in
+      let later =
+      others ((front ++ name) ++ spelling value) (at + length name + length (spelling value)) long (rw t at e) in
       let same : all ≡ ((front ++ name) ++ spelling value) ++ (pairs_spelling pairs ++ back) = simp append_assoc in
       let found : value_in key (pair k value pairs) ≡ Some later.0 = rw t later.1 in
       (later.0, found, subst (λ bs. IsSpelledAt later.0 bs start end) (sym same) later.2)

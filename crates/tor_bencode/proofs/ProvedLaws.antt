@@ -25,7 +25,8 @@ no_spelling_begins_another = same_front
 tree_or_fault : (bytes : List ℕ) (r : Result Data (Fault × List ℕ)) → WholeIs bytes r
     → IsTree bytes ⊎ ((fault : Fault) × (offset : ℕ) × IsFaultAt bytes fault offset)
 tree_or_fault bytes (Ok d) h = inl (d, h.0, h.1)
-tree_or_fault bytes (Err f) h = inr (f.0, length bytes - length f.1, (f.1, omega (arith, refused_within bytes f.0 f.1 h), h))
+tree_or_fault bytes (Err f) h =
+    inr (f.0, length bytes - length f.1, (f.1, omega (arith, refused_within bytes f.0 f.1 h), h))
 
 failures_agree : (x y : Fault × List ℕ) (r : Result Data (Fault × List ℕ)) → r ≡ Err x → r ≡ Err y → x ≡ y
 failures_agree x y r e f = cc
@@ -41,14 +42,16 @@ tree_or_one_fault bytes = tree_or_fault bytes (whole bytes) (whole_sound bytes)
 -- and never both
 pub tree_has_no_fault : (bytes : List ℕ) (fault : Fault) (offset : ℕ) → IsTree bytes → ¬ IsFaultAt bytes fault offset
 tree_has_no_fault bytes fault offset tree h =
-    never_both tree.0 (fault, h.0) (whole bytes) (whole-spelling tree.0 bytes tree.1 tree.2) (refused_read bytes fault h.0 h.2)
+    never_both tree.0 (fault, h.0) (whole bytes) (whole-spelling tree.0 bytes tree.1 tree.2)
+    (refused_read bytes fault h.0 h.2)
 
 -- they have one fault at most
 pub one_fault : (bytes : List ℕ) (first second : Fault) (m n : ℕ)
     → IsFaultAt bytes first m → IsFaultAt bytes second n → (first ≡ second) × (m ≡ n)
 one_fault bytes first second m n h k =
     let same =
-    failures_agree (first, h.0) (second, k.0) (whole bytes) (refused_read bytes first h.0 h.2) (refused_read bytes second k.0 k.2) in
+    failures_agree (first, h.0) (second, k.0) (whole bytes) (refused_read bytes first h.0 h.2)
+    (refused_read bytes second k.0 k.2) in
     (ap (λ f. f.0) same, omega (arith, h.1, k.1, ap (λ f. length f.1) same))
 
 -- rising pairs with the same value for each key are the same pairs

@@ -35,7 +35,8 @@ digit_starts bytes h = subst StartsWithDigit (sym h.2) (record { some = omega ar
 
 cut_starts : (bytes : List ℕ) → IsCutString bytes → StartsWithDigit bytes
 cut_starts bytes (inl h) = digit_starts bytes h.0
-cut_starts bytes (inr h) = subst StartsWithDigit (sym (h.2 ∙ append_assoc (base_ten h.0) (58 ∷ []) h.1)) (base_ten-starts h.0 (58 ∷ h.1))
+cut_starts bytes (inr h) =
+    subst StartsWithDigit (sym (h.2 ∙ append_assoc (base_ten h.0) (58 ∷ []) h.1)) (base_ten-starts h.0 (58 ∷ h.1))
 
 string_cut : (bytes : List ℕ) → IsCutString bytes → string_at bytes ≡ failed Truncated []
 string_cut bytes (inl h) = string_at-digits bytes h.1
@@ -50,7 +51,8 @@ integer_stops : (room : ℕ) (bytes rest : List ℕ) (fault : Fault) (from : Lis
 integer_stops room bytes rest fault from is h =
     let some : 0 < length bytes = omega (arith, ap length is) in
     let head : get_or bytes 0 0 ≡ 105 = ap (λ bs. get_or bs 0 0) is in
-    let tail : take (length bytes - 1) (drop 1 bytes) ≡ rest = ap (λ bs. take (length bs - 1) (drop 1 bs)) is ∙ tail_of 105 rest in
+    let tail : take (length bytes - 1) (drop 1 bytes) ≡ rest =
+    ap (λ bs. take (length bs - 1) (drop 1 bs)) is ∙ tail_of 105 rest in
     value_integer room bytes some head ∙ stops _ _ fault from (ap (integer_at bytes) tail ∙ h)
 
 string_stops : (room : ℕ) (bytes : List ℕ) (fault : Fault) (from : List ℕ) → StartsWithDigit bytes
@@ -65,20 +67,31 @@ ends_at fault x y e = ap (failed fault) (sym e)
 
 pub bad_value_read : (room : ℕ) (bytes : List ℕ) (fault : Fault) (from : List ℕ) → IsBadValue room bytes fault from
     → value_at room bytes ≡ failed fault from
-bad_value_read room bytes Truncated from (inl e, at) = ap (value_at room) e ∙ value_empty room ∙ ends_at Truncated [] from at
-bad_value_read room bytes Truncated from (inr (inl h), at) = integer_stops room bytes h.0 Truncated [] h.1 (integer_at-cut bytes h.0 h.2) ∙ ends_at Truncated [] from at
-bad_value_read room bytes Truncated from (inr (inr h), at) = string_stops room bytes Truncated [] (cut_starts bytes h) (string_cut bytes h) ∙ ends_at Truncated [] from at
+bad_value_read room bytes Truncated from (inl e, at) =
+    ap (value_at room) e ∙ value_empty room ∙ ends_at Truncated [] from at
+bad_value_read room bytes Truncated from (inr (inl h), at) =
+    integer_stops room bytes h.0 Truncated [] h.1 (integer_at-cut bytes h.0 h.2) ∙ ends_at Truncated [] from at
+bad_value_read room bytes Truncated from (inr (inr h), at) =
+    string_stops room bytes Truncated [] (cut_starts bytes h) (string_cut bytes h) ∙ ends_at Truncated [] from at
 bad_value_read room bytes BadByte from (h, at) =
-    ap (value_at room) h.2 ∙ value_bad room h.0 h.1 (one_of_two _ h.3) (unequal h.0 105 h.4) (unequal h.0 108 h.5) (unequal h.0 100 h.6)
+    ap (value_at room) h.2
+    ∙ value_bad room h.0 h.1 (one_of_two _ h.3) (unequal h.0 105 h.4) (unequal h.0 108 h.5) (unequal h.0 100 h.6)
     ∙ ends_at BadByte (h.0 ∷ h.1) from (at ∙ h.2)
-bad_value_read room bytes BadInteger from (h, at) = integer_stops room bytes h.0 BadInteger bytes h.4 (integer_at-bad bytes h.0 h.1 h.2 h.3 h.5 h.6) ∙ ends_at BadInteger bytes from at
+bad_value_read room bytes BadInteger from (h, at) =
+    integer_stops room bytes h.0 BadInteger bytes h.4 (integer_at-bad bytes h.0 h.1 h.2 h.3 h.5 h.6)
+    ∙ ends_at BadInteger bytes from at
 bad_value_read room bytes IntegerRange from (h, at) =
-    integer_stops room bytes (signed_base_ten h.0 ++ 101 ∷ h.1) IntegerRange bytes (h.2 ∙ integer_spelled h.0 h.1) (integer_at-too_large bytes h.0 h.1 h.3) ∙ ends_at IntegerRange bytes from at
-bad_value_read room bytes BadLength from (h, at) = string_stops room bytes BadLength bytes (digit_starts bytes h.0) (string_bad bytes h) ∙ ends_at BadLength bytes from at
+    integer_stops room bytes (signed_base_ten h.0 ++ 101 ∷ h.1) IntegerRange bytes (h.2 ∙ integer_spelled h.0 h.1)
+    (integer_at-too_large bytes h.0 h.1 h.3) ∙ ends_at IntegerRange bytes from at
+bad_value_read room bytes BadLength from (h, at) =
+    string_stops room bytes BadLength bytes (digit_starts bytes h.0) (string_bad bytes h)
+    ∙ ends_at BadLength bytes from at
 bad_value_read room bytes TooDeep from (none, inl b, at) =
-    value_too_deep room bytes none (omega (arith, ap length b.1)) (inl (ap (λ bs. get_or bs 0 0) b.1)) ∙ ends_at TooDeep bytes from at
+    value_too_deep room bytes none (omega (arith, ap length b.1)) (inl (ap (λ bs. get_or bs 0 0) b.1))
+    ∙ ends_at TooDeep bytes from at
 bad_value_read room bytes TooDeep from (none, inr b, at) =
-    value_too_deep room bytes none (omega (arith, ap length b.1)) (inr (ap (λ bs. get_or bs 0 0) b.1)) ∙ ends_at TooDeep bytes from at
+    value_too_deep room bytes none (omega (arith, ap length b.1)) (inr (ap (λ bs. get_or bs 0 0) b.1))
+    ∙ ends_at TooDeep bytes from at
 bad_value_read room bytes KeyNotBytes from h = absurd h
 bad_value_read room bytes KeyOrder from h = absurd h
 bad_value_read room bytes Trailing from h = absurd h
@@ -131,17 +144,26 @@ order_stopped read fuel last bytes key rest is enough out =
     let range = digit_range (get_or bytes 0 0) starts.digit in
     let k = key_here read fuel last bytes starts.some range.0 range.1 enough in
     let named : string_at bytes ≡ Ok (key, rest) = ap string_at is ∙ string_at-spelling key rest in
-    let refused : after_key read k.0 last bytes (key, rest) ≡ failed KeyOrder bytes = rw (not_following last key out) refl in
+    let refused : after_key read k.0 last bytes (key, rest) ≡ failed KeyOrder bytes =
+    rw (not_following last key out) refl in
     k.2 ∙ ap (λ (r : Reading (List ℕ)). r >>= after_key read k.0 last bytes) named ∙ refused
 
 pub bad_key_read : (read : List ℕ → Reading Data) (fuel : ℕ) (last : Option (List ℕ)) (bytes : List ℕ) (fault : Fault) (from : List ℕ) → length bytes ≤ fuel → IsBadKey last bytes fault from
     → pairs_at read fuel last bytes ≡ failed fault from
-bad_key_read read fuel last bytes Truncated from enough (inl e, at) = ap (pairs_at read fuel last) e ∙ pairs_empty read fuel last ∙ ends_at Truncated [] from at
-bad_key_read read fuel last bytes Truncated from enough (inr h, at) = key_stopped read fuel last bytes Truncated [] (cut_starts bytes h) enough (string_cut bytes h) ∙ ends_at Truncated [] from at
-bad_key_read read fuel last bytes BadLength from enough (h, at) = key_stopped read fuel last bytes BadLength bytes (digit_starts bytes h.0) enough (string_bad bytes h) ∙ ends_at BadLength bytes from at
+bad_key_read read fuel last bytes Truncated from enough (inl e, at) =
+    ap (pairs_at read fuel last) e ∙ pairs_empty read fuel last ∙ ends_at Truncated [] from at
+bad_key_read read fuel last bytes Truncated from enough (inr h, at) =
+    key_stopped read fuel last bytes Truncated [] (cut_starts bytes h) enough (string_cut bytes h)
+    ∙ ends_at Truncated [] from at
+bad_key_read read fuel last bytes BadLength from enough (h, at) =
+    key_stopped read fuel last bytes BadLength bytes (digit_starts bytes h.0) enough (string_bad bytes h)
+    ∙ ends_at BadLength bytes from at
 bad_key_read read fuel last bytes KeyNotBytes from enough h =
-    ap (pairs_at read fuel last) h.2 ∙ not_bytes read fuel last h.0 h.1 (omega (arith, ap length h.2)) (unequal h.0 101 h.4) (one_of_two _ h.3) ∙ ends_at KeyNotBytes (h.0 ∷ h.1) from (h.5 ∙ h.2)
-bad_key_read read fuel last bytes KeyOrder from enough h = order_stopped read fuel last bytes h.0 h.1 h.2 enough h.3 ∙ ends_at KeyOrder bytes from h.4
+    ap (pairs_at read fuel last) h.2
+    ∙ not_bytes read fuel last h.0 h.1 (omega (arith, ap length h.2)) (unequal h.0 101 h.4) (one_of_two _ h.3)
+    ∙ ends_at KeyNotBytes (h.0 ∷ h.1) from (h.5 ∙ h.2)
+bad_key_read read fuel last bytes KeyOrder from enough h =
+    order_stopped read fuel last bytes h.0 h.1 h.2 enough h.3 ∙ ends_at KeyOrder bytes from h.4
 bad_key_read read fuel last bytes BadByte from enough h = absurd h
 bad_key_read read fuel last bytes BadInteger from enough h = absurd h
 bad_key_read read fuel last bytes IntegerRange from enough h = absurd h

@@ -60,7 +60,9 @@ pairs_stopped : (room : ℕ) (pairs : Pairs) (rest : List ℕ) (fault : Fault) (
     → pairs_at (value_at room) (length (pairs_spelling pairs ++ rest)) None (pairs_spelling pairs ++ rest) ≡ failed fault from
 pairs_stopped room pairs rest fault from lawful rising stopped =
     let inside = pairs_spelling pairs ++ rest in
-    let read = pairs_at-front pairs room no_pairs None rest (length inside) (with_pairs no_pairs (pairs_at (value_at room) (length inside) None inside)) lawful rising (omega arith) refl in
+    let read =
+    pairs_at-front pairs room no_pairs None rest (length inside)
+    (with_pairs no_pairs (pairs_at (value_at room) (length inside) None inside)) lawful rising (omega arith) refl in
     sym (sym (ap (with_pairs pairs) (stopped read.0 read.1)) ∙ read.2 ∙ with_no_pairs _)
 
 fault_read : (room : ℕ) (bytes : List ℕ) (fault : Fault) (from : List ℕ) → IsFaultIn room bytes fault from
@@ -68,15 +70,20 @@ fault_read : (room : ℕ) (bytes : List ℕ) (fault : Fault) (from : List ℕ) �
 fault_read room bytes fault from (at_value h) = bad_value_read room bytes fault from h
 fault_read (suc room) bytes fault from (in_list items rest is lawful no_end inner) =
     let inside = items_spelling items ++ rest in
-    let read = items_at-front items room no_items rest (length inside) (with_items no_items (items_at (value_at room) (length inside) inside)) lawful (omega arith) refl in
-    let stopped = items_stopped (value_at room) read.0 rest fault from (value_empty room) no_end read.1 (fault_read room rest fault from inner) in
+    let read =
+    items_at-front items room no_items rest (length inside)
+    (with_items no_items (items_at (value_at room) (length inside) inside)) lawful (omega arith) refl in
+    let stopped =
+    items_stopped (value_at room) read.0 rest fault from (value_empty room) no_end read.1
+    (fault_read room rest fault from inner) in
     list_stopped room bytes inside fault from is (sym (sym (ap (with_items items) stopped) ∙ read.2 ∙ with_no_items _))
 fault_read (suc room) bytes fault from (at_key pairs rest is rising lawful bad) =
     dictionary_stopped room bytes (pairs_spelling pairs ++ rest) fault from is
     (pairs_stopped room pairs rest fault from lawful rising (λ less enough. bad_key_read (value_at room) less (last_after None pairs) rest fault from enough (subst (λ o. IsBadKey o rest fault from) (sym (last_key-is pairs)) bad)))
 fault_read (suc room) bytes fault from (in_pair pairs key rest is rising lawful inner) =
     let order = rising_last None pairs key rising in
-    dictionary_stopped room bytes (pairs_spelling pairs ++ (string_spelling key ++ rest)) fault from (is ∙ ap (λ bs. 100 ∷ bs) (append_assoc (pairs_spelling pairs) (string_spelling key) rest))
+    dictionary_stopped room bytes (pairs_spelling pairs ++ (string_spelling key ++ rest)) fault from
+    (is ∙ ap (λ bs. 100 ∷ bs) (append_assoc (pairs_spelling pairs) (string_spelling key) rest))
     (pairs_stopped room pairs (string_spelling key ++ rest) fault from lawful order.0 (λ less enough. pair_stopped (value_at room) less (last_after None pairs) (string_spelling key ++ rest) key rest fault from refl enough order.1 (fault_read room rest fault from inner)))
 
 last_more : (d : Data) (from : List ℕ) → 0 < length from → last_of (d, from) ≡ Err (Trailing, from)

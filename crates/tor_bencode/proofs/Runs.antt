@@ -44,7 +44,8 @@ stops_at : (p : ℕ → Bool) (x : ℕ) (xs : List ℕ) (c : ℕ) (more : List �
     → drop (prefix_len p (x ∷ xs)) (x ∷ xs) ≡ c ∷ more
     → (drop (prefix_len p xs) xs ≡ c ∷ more → p c ≡ false) → p c ≡ false
 stops_at p x xs c more true f e later = later (rw (f, one-add) at e)
-stops_at p x xs c more false f e later = let same : x ∷ xs ≡ c ∷ more = rw f at e in let head : x ≡ c = cc in ap p (sym head) ∙ f
+stops_at p x xs c more false f e later =
+    let same : x ∷ xs ≡ c ∷ more = rw f at e in let head : x ≡ c = cc in ap p (sym head) ∙ f
 
 pub run_stops : (p : ℕ → Bool) (xs : List ℕ) (c : ℕ) (more : List ℕ) → drop (prefix_len p xs) xs ≡ c ∷ more
     → p c ≡ false

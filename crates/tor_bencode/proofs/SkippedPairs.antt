@@ -19,9 +19,11 @@ use Rattle.tor_bencode.proofs.Skips.{read_is, not_both, no_stop, read, tail-is, 
 pub open_pairs : (d : Data) (bytes : List ℕ) → IsLawfulWithin 100 d → bytes ≡ spelling d → get_or bytes 0 0 ≡ 100
     → (pairs : Pairs) × PairsAreLawfulWithin 99 pairs × (take (length bytes - 1) (drop 1 bytes) ≡ pairs_spelling pairs ++ 101 ∷ []) × ((key : List ℕ) → place_of key d ≡ place_in 1 key pairs)
 open_pairs (integer n) bytes lawful is head = let h = head-is bytes 105 _ is in absurd (omega arith)
-open_pairs (string s) bytes lawful is head = absurd (string_head s bytes [] 100 (is ∙ sym (append-nil (string_spelling s))) (omega arith) head)
+open_pairs (string s) bytes lawful is head =
+    absurd (string_head s bytes [] 100 (is ∙ sym (append-nil (string_spelling s))) (omega arith) head)
 open_pairs (list items) bytes lawful is head = let h = head-is bytes 108 _ is in absurd (omega arith)
-open_pairs (dictionary pairs) bytes lawful is head = (pairs, ((lawful-dictionary 100 pairs).0 lawful).2, tail-is bytes 100 _ is, λ key. refl)
+open_pairs (dictionary pairs) bytes lawful is head =
+    (pairs, ((lawful-dictionary 100 pairs).0 lawful).2, tail-is bytes 100 _ is, λ key. refl)
 
 -- the pair that was read first
 pub record IsNextPair (left : Pairs) (rest key after : List ℕ) : Type 0 where
@@ -39,11 +41,14 @@ no_string_here = refl
 
 pub next_pair : (left : Pairs) (rest key after : List ℕ) → PairsAreLawfulWithin 99 left
     → rest ≡ pairs_spelling left ++ 101 ∷ [] → string_at rest ≡ Ok (key, after) → IsNextPair left rest key after
-next_pair no_pairs rest key after lawful is read = absurd (not_both (key, after) (BadLength, 101 ∷ []) (string_at rest) read (ap string_at is ∙ no_string_here))
+next_pair no_pairs rest key after lawful is read =
+    absurd (not_both (key, after) (BadLength, 101 ∷ []) (string_at rest) read (ap string_at is ∙ no_string_here))
 next_pair (pair k d others) rest key after lawful is read =
     let middle = spelling d ++ (pairs_spelling others ++ 101 ∷ []) in
-    let same : rest ≡ string_spelling k ++ (spelling d ++ (pairs_spelling others ++ 101 ∷ [])) = is ∙ pair_spelled (string_spelling k) (spelling d) (pairs_spelling others) (101 ∷ []) in
-    let found = read_is (k, middle) (key, after) (string_at rest) (ap string_at same ∙ string_at-spelling k middle) read in
+    let same : rest ≡ string_spelling k ++ (spelling d ++ (pairs_spelling others ++ 101 ∷ [])) =
+    is ∙ pair_spelled (string_spelling k) (spelling d) (pairs_spelling others) (101 ∷ []) in
+    let found =
+    read_is (k, middle) (key, after) (string_at rest) (ap string_at same ∙ string_at-spelling k middle) read in
     let parts = (lawful-pair 99 k d others).0 lawful in
     record {
       value = d;
@@ -61,7 +66,8 @@ pub none_left : (left : Pairs) (rest key : List ℕ) (at : ℕ) (stop : Stop) �
 none_left no_pairs rest key at stop is other h = refl
 none_left (pair k d others) rest key at stop is other h =
     let middle = spelling d ++ (pairs_spelling others ++ 101 ∷ []) in
-    let same : rest ≡ string_spelling k ++ (spelling d ++ (pairs_spelling others ++ 101 ∷ [])) = is ∙ pair_spelled (string_spelling k) (spelling d) (pairs_spelling others) (101 ∷ []) in
+    let same : rest ≡ string_spelling k ++ (spelling d ++ (pairs_spelling others ++ 101 ∷ [])) =
+    is ∙ pair_spelled (string_spelling k) (spelling d) (pairs_spelling others) (101 ∷ []) in
     absurd (no_stop stop (string_at rest) (k, middle) other h (ap string_at same ∙ string_at-spelling k middle))
 
 module _ (left : Pairs) (bytes rest name after next key : List ℕ) (h : IsNextPair left rest name after) (within : length rest ≤ length bytes) (then : next ≡ pairs_spelling h.others ++ 101 ∷ []) where
@@ -69,7 +75,8 @@ module _ (left : Pairs) (bytes rest name after next key : List ℕ) (h : IsNextP
   start_is = omega (arith, ap length h.spelled, length-append (string_spelling name) after)
 
   end_is : length bytes - length rest + length (string_spelling name) + length (spelling h.value) ≡ length bytes - length next
-  end_is = omega (arith, ap length h.spelled, length-append (string_spelling name) after, ap length h.follows, length-append (spelling h.value) (pairs_spelling h.others ++ 101 ∷ []), ap length then)
+  end_is =
+      omega (arith, ap length h.spelled, length-append (string_spelling name) after, ap length h.follows, length-append (spelling h.value) (pairs_spelling h.others ++ 101 ∷ []), ap length then)
 
   pub place_found : bytes_eq name key ≡ true
       → Some (length bytes - length after, length bytes - length next) ≡ place_in (length bytes - length rest) key left

@@ -27,7 +27,8 @@ pub not_both : {A : Type 0} (x : A × List ℕ) (y : Fault × List ℕ) (r : Rea
 not_both x y r e f = cc
 
 -- a reader that stops at a fault did not read
-pub no_stop : {A : Type 0} (stop : Stop) (r : Reading A) (x : A × List ℕ) → stop ≢ stops.Memory → Stops stop r → r ≡ Ok x
+pub no_stop : {A : Type 0} (stop : Stop) (r : Reading A) (x : A × List ℕ) → stop ≢ stops.Memory → Stops stop r
+    → r ≡ Ok x
     → ⊥
 no_stop stops.Memory r x other h e = other refl
 no_stop (stops.At fault at) r x other h e = not_both x (fault, at.now) r e h
@@ -44,25 +45,32 @@ module _ (d : Data) (room : ℕ) (bytes after : List ℕ) (lawful : IsLawfulWith
   pub skip_integer : (some : 0 < length bytes) (head : get_or bytes 0 0 ≡ 105) (x : _ × List ℕ)
       → integer_at bytes (take (length bytes - 1) (drop 1 bytes)) ≡ Ok x → x.1 ≡ after
   skip_integer some head x e =
-      ap (λ p. p.1) (read_is (integer x.0, x.1) (d, after) (value_at room bytes) (value_integer room bytes some head ∙ ap (λ r. r >>= λ n. Ok (integer n.0, n.1)) e) read)
+      ap (λ p. p.1)
+      (read_is (integer x.0, x.1) (d, after) (value_at room bytes) (value_integer room bytes some head ∙ ap (λ r. r >>= λ n. Ok (integer n.0, n.1)) e) read)
 
   pub skip_no_integer : (some : 0 < length bytes) (head : get_or bytes 0 0 ≡ 105) (stop : Stop) → stop ≢ stops.Memory
       → Stops stop (integer_at bytes (take (length bytes - 1) (drop 1 bytes))) → ⊥
   skip_no_integer some head stop other h =
-      let y = bound (integer_at bytes (take (length bytes - 1) (drop 1 bytes))) _ (d, after) (sym (value_integer room bytes some head) ∙ read) in no_stop stop _ y.0 other h y.1
+      let y =
+      bound (integer_at bytes (take (length bytes - 1) (drop 1 bytes))) _ (d, after)
+      (sym (value_integer room bytes some head) ∙ read) in no_stop stop _ y.0 other h y.1
 
   pub skip_string : (some : 0 < length bytes) (digit : is_ascii_digit (get_or bytes 0 0) ≡ true) (x : List ℕ × List ℕ)
       → string_at bytes ≡ Ok x → x.1 ≡ after
   skip_string some digit x e =
-      ap (λ p. p.1) (read_is (string x.0, x.1) (d, after) (value_at room bytes) (value_string room bytes some digit ∙ ap (λ r. r >>= λ n. Ok (string n.0, n.1)) e) read)
+      ap (λ p. p.1)
+      (read_is (string x.0, x.1) (d, after) (value_at room bytes) (value_string room bytes some digit ∙ ap (λ r. r >>= λ n. Ok (string n.0, n.1)) e) read)
 
   pub skip_no_string : (some : 0 < length bytes) (digit : is_ascii_digit (get_or bytes 0 0) ≡ true) (stop : Stop)
       → stop ≢ stops.Memory → Stops stop (string_at bytes) → ⊥
   skip_no_string some digit stop other h =
-      let y = bound (string_at bytes) _ (d, after) (sym (value_string room bytes some digit) ∙ read) in no_stop stop _ y.0 other h y.1
+      let y =
+      bound (string_at bytes) _ (d, after)
+      (sym (value_string room bytes some digit) ∙ read) in no_stop stop _ y.0 other h y.1
 
   pub skip_too_deep : room ≡ 0 → (some : 0 < length bytes) → ((get_or bytes 0 0 ≡ 108) ⊎ (get_or bytes 0 0 ≡ 100)) → ⊥
-  skip_too_deep none some head = not_both (d, after) _ (value_at room bytes) read (value_too_deep room bytes none some head)
+  skip_too_deep none some head =
+      not_both (d, after) _ (value_at room bytes) read (value_too_deep room bytes none some head)
 
 -- the keys of pairs are values too
 abbrev pub as_items : Pairs → Items
@@ -71,25 +79,30 @@ as_items (pair key d pairs) = item (string key) (item d (as_items pairs))
 
 as_items-spelling : (pairs : Pairs) → pairs_spelling pairs ≡ items_spelling (as_items pairs)
 as_items-spelling no_pairs = refl
-as_items-spelling (pair key d pairs) = append_assoc (string_spelling key) (spelling d) (pairs_spelling pairs) ∙ ap (λ bs. string_spelling key ++ (spelling d ++ bs)) (as_items-spelling pairs)
+as_items-spelling (pair key d pairs) =
+    append_assoc (string_spelling key) (spelling d) (pairs_spelling pairs)
+    ∙ ap (λ bs. string_spelling key ++ (spelling d ++ bs)) (as_items-spelling pairs)
 
 as_items-lawful : (room : ℕ) (pairs : Pairs) → PairsAreLawfulWithin room pairs
     → ItemsAreLawfulWithin room (as_items pairs)
 as_items-lawful room no_pairs lawful = lawful-no_items room
 as_items-lawful room (pair key d pairs) lawful =
     let parts = (lawful-pair room key d pairs).0 lawful in
-    (lawful-item room (string key) (item d (as_items pairs))).1 (lawful-string room key, (lawful-item room d (as_items pairs)).1 (parts.0, as_items-lawful room pairs parts.1))
+    (lawful-item room (string key) (item d (as_items pairs))).1
+    (lawful-string room key, (lawful-item room d (as_items pairs)).1 (parts.0, as_items-lawful room pairs parts.1))
 
 tail : List ℕ → List ℕ
 tail bytes = take (length bytes - 1) (drop 1 bytes)
 
-pub tail-is : (bytes : List ℕ) (c : ℕ) (rest : List ℕ) → bytes ≡ c ∷ rest → take (length bytes - 1) (drop 1 bytes) ≡ rest
+pub tail-is : (bytes : List ℕ) (c : ℕ) (rest : List ℕ) → bytes ≡ c ∷ rest
+    → take (length bytes - 1) (drop 1 bytes) ≡ rest
 tail-is bytes c rest is = ap (λ bs. take (length bs - 1) (drop 1 bs)) is ∙ take_all _ rest (omega arith)
 
 pub head-is : (bytes : List ℕ) (c : ℕ) (rest : List ℕ) → bytes ≡ c ∷ rest → get_or bytes 0 0 ≡ c
 head-is bytes c rest is = ap (λ bs. get_or bs 0 0) is
 
-pub string_head : (s bytes after : List ℕ) (n : ℕ) → bytes ≡ string_spelling s ++ after → 57 < n → get_or bytes 0 0 ≡ n → ⊥
+pub string_head : (s bytes after : List ℕ) (n : ℕ) → bytes ≡ string_spelling s ++ after → 57 < n
+    → get_or bytes 0 0 ≡ n → ⊥
 string_head s bytes after n is above head =
     let starts = subst StartsWithDigit (sym is) (string-starts s after) in
     let range = digit_range (get_or bytes 0 0) starts.digit in absurd (omega arith)
@@ -100,8 +113,10 @@ pub opened_values : (d : Data) (room : ℕ) (bytes after : List ℕ) → IsLawfu
     → (items : Items) × ItemsAreLawfulWithin (room - 1) items × (take (length bytes - 1) (drop 1 bytes) ≡ items_spelling items ++ 101 ∷ after)
 opened_values (integer n) room bytes after lawful is (inl head) = let h = head-is bytes 105 _ is in absurd (omega arith)
 opened_values (integer n) room bytes after lawful is (inr head) = let h = head-is bytes 105 _ is in absurd (omega arith)
-opened_values (string s) room bytes after lawful is (inl head) = absurd (string_head s bytes after 108 is (omega arith) head)
-opened_values (string s) room bytes after lawful is (inr head) = absurd (string_head s bytes after 100 is (omega arith) head)
+opened_values (string s) room bytes after lawful is (inl head) =
+    absurd (string_head s bytes after 108 is (omega arith) head)
+opened_values (string s) room bytes after lawful is (inr head) =
+    absurd (string_head s bytes after 100 is (omega arith) head)
 opened_values (list items) room bytes after lawful is head =
     (items, ((lawful-list room items).0 lawful).1, tail-is bytes 108 _ is ∙ append_assoc (items_spelling items) (101 ∷ []) after)
 opened_values (dictionary pairs) room bytes after lawful is head = (
@@ -114,14 +129,16 @@ opened_values (dictionary pairs) room bytes after lawful is head = (
 pub next_item : (left : Items) (rest after : List ℕ) → rest ≡ items_spelling left ++ 101 ∷ after → get_or rest 0 0 ≢ 101
     → (d : Data) × (others : Items) × (left ≡ item d others) × (rest ≡ spelling d ++ (items_spelling others ++ 101 ∷ after))
 next_item no_items rest after is other = absurd (other (head-is rest 101 after is))
-next_item (item d others) rest after is other = (d, others, refl, is ∙ append_assoc (spelling d) (items_spelling others) (101 ∷ after))
+next_item (item d others) rest after is other =
+    (d, others, refl, is ∙ append_assoc (spelling d) (items_spelling others) (101 ∷ after))
 
 -- none are left where the end stands
 pub end_after : (left : Items) (rest after : List ℕ) → rest ≡ items_spelling left ++ 101 ∷ after
     → get_or rest 0 0 ≡ 101 → take (length rest - 1) (drop 1 rest) ≡ after
 end_after no_items rest after is end = tail-is rest 101 after is
 end_after (item d others) rest after is end =
-    let same : rest ≡ spelling d ++ (items_spelling others ++ 101 ∷ after) = is ∙ append_assoc (spelling d) (items_spelling others) (101 ∷ after) in
+    let same : rest ≡ spelling d ++ (items_spelling others ++ 101 ∷ after) =
+    is ∙ append_assoc (spelling d) (items_spelling others) (101 ∷ after) in
     absurd ((spelling-starts d (items_spelling others ++ 101 ∷ after)).no_end (ap (λ bs. get_or bs 0 0) (sym same) ∙ end))
 
 -- each value begins with one of these
@@ -138,4 +155,5 @@ pub not_empty : (d : Data) (bytes after : List ℕ) → bytes ≡ spelling d ++ 
 not_empty d bytes after is none = let some = (spelling-starts d after).some in absurd (omega (arith, ap length is))
 
 pub two_heads : (h : ℕ) → (h ≢ 108 → h ≡ 100) → (h ≡ 108) ⊎ (h ≡ 100)
-two_heads h other = elim (cases_Bool (h == 108)) [ inl e ↦ inl (grind (arith, nat_tests)) | inr e ↦ inr (other (λ is. true≢false (let t : (h == 108) ≡ true = grind (arith, nat_tests) in sym t ∙ e))) ]
+two_heads h other =
+    elim (cases_Bool (h == 108)) [ inl e ↦ inl (grind (arith, nat_tests)) | inr e ↦ inr (other (λ is. true≢false (let t : (h == 108) ≡ true = grind (arith, nat_tests) in sym t ∙ e))) ]

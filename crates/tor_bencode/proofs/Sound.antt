@@ -23,7 +23,8 @@ ValueIs room bytes (Err f) = IsFaultIn room bytes f.0 f.1
 
 -- lawful items, and then a fault
 abbrev pub ItemsStop : ℕ → List ℕ → Fault → List ℕ → Type 0
-ItemsStop room bytes fault from = (items : Items) × (rest : List ℕ) × (bytes ≡ items_spelling items ++ rest) × ItemsAreLawfulWithin room items × (¬ Begins 101 rest) × IsFaultIn room rest fault from
+ItemsStop room bytes fault from =
+    (items : Items) × (rest : List ℕ) × (bytes ≡ items_spelling items ++ rest) × ItemsAreLawfulWithin room items × (¬ Begins 101 rest) × IsFaultIn room rest fault from
 
 abbrev pub ItemsAre : ℕ → List ℕ → Reading Items → Type 0
 ItemsAre room bytes (Ok x) = ItemsAreLawfulWithin room x.0 × (bytes ≡ items_spelling x.0 ++ 101 ∷ x.1)
@@ -36,7 +37,8 @@ PairsStop room last bytes fault from =
     ⊎ ((pairs : Pairs) × (key : List ℕ) × (rest : List ℕ) × (bytes ≡ pairs_spelling pairs ++ (string_spelling key ++ rest)) × PairsAreLawfulWithin room pairs × AreRisingAfter last (keys_of pairs ++ key ∷ []) × IsFaultIn room rest fault from)
 
 abbrev pub PairsAre : ℕ → Option (List ℕ) → List ℕ → Reading Pairs → Type 0
-PairsAre room last bytes (Ok x) = PairsAreLawfulWithin room x.0 × AreRisingAfter last (keys_of x.0) × (bytes ≡ pairs_spelling x.0 ++ 101 ∷ x.1)
+PairsAre room last bytes (Ok x) =
+    PairsAreLawfulWithin room x.0 × AreRisingAfter last (keys_of x.0) × (bytes ≡ pairs_spelling x.0 ++ 101 ∷ x.1)
 PairsAre room last bytes (Err f) = PairsStop room last bytes f.0 f.1
 
 cut_value : (room : ℕ) → IsFaultIn room [] Truncated []
@@ -57,13 +59,16 @@ module _ (room : ℕ) (read : List ℕ → Reading Data) (sound : (bytes : List 
       → length bytes ≤ suc fuel → ValueIs room bytes r
       → ItemsAre room bytes (r >>= λ first. items_at read fuel first.1 >>= λ others. Ok (item first.0 others.0, others.1))
   items_after fuel bytes (Ok x) no_end later enough h =
-      items_next room bytes x.0 x.1 (items_at read fuel x.1) h.0 h.1 (later x.1 (omega (arith, shorter-spelling x.0 bytes x.1 h.1)))
+      items_next room bytes x.0 x.1 (items_at read fuel x.1) h.0 h.1
+      (later x.1 (omega (arith, shorter-spelling x.0 bytes x.1 h.1)))
   items_after fuel bytes (Err f) no_end later enough h = (no_items, bytes, refl, lawful-no_items room, no_end, h)
 
   pub items_sound : (fuel : ℕ) (bytes : List ℕ) → length bytes ≤ fuel → ItemsAre room bytes (items_at read fuel bytes)
-  items_sound zero [] enough = (no_items, [], refl, lawful-no_items room, λ b. absurd (let e = b.1 in cc), cut_value room)
+  items_sound zero [] enough =
+      (no_items, [], refl, lawful-no_items room, λ b. absurd (let e = b.1 in cc), cut_value room)
   items_sound zero (c ∷ rest) enough = absurd (omega arith)
-  items_sound (suc fuel) [] enough = (no_items, [], refl, lawful-no_items room, λ b. absurd (let e = b.1 in cc), cut_value room)
+  items_sound (suc fuel) [] enough =
+      (no_items, [], refl, lawful-no_items room, λ b. absurd (let e = b.1 in cc), cut_value room)
   items_sound (suc fuel) (c ∷ rest) enough =
       by_test (c == 101) (ItemsAre room (c ∷ rest)) _ _
       (λ end. (lawful-no_items room, ap (λ x. x ∷ rest) (let is : c ≡ 101 = grind (arith, nat_tests) in is)))
@@ -117,7 +122,8 @@ pairs_next room last bytes key middle d after (Err f) named order lawful is (inl
     inl (
       pair key d h.0,
       h.1,
-      named ∙ ap (λ bs. string_spelling key ++ bs) (is ∙ ap (λ bs. spelling d ++ bs) h.2) ∙ sym (pair_spelled (string_spelling key) (spelling d) (pairs_spelling h.0) h.1),
+      named ∙ ap (λ bs. string_spelling key ++ bs) (is ∙ ap (λ bs. spelling d ++ bs) h.2)
+          ∙ sym (pair_spelled (string_spelling key) (spelling d) (pairs_spelling h.0) h.1),
       (lawful-pair room key d h.0).1 (lawful, h.3),
       rising_push last key (keys_of h.0) order h.4,
       h.5,
@@ -127,7 +133,8 @@ pairs_next room last bytes key middle d after (Err f) named order lawful is (inr
       pair key d h.0,
       h.1,
       h.2,
-      named ∙ ap (λ bs. string_spelling key ++ bs) (is ∙ ap (λ bs. spelling d ++ bs) h.3) ∙ sym (pair_spelled (string_spelling key) (spelling d) (pairs_spelling h.0) (string_spelling h.1 ++ h.2)),
+      named ∙ ap (λ bs. string_spelling key ++ bs) (is ∙ ap (λ bs. spelling d ++ bs) h.3)
+          ∙ sym (pair_spelled (string_spelling key) (spelling d) (pairs_spelling h.0) (string_spelling h.1 ++ h.2)),
       (lawful-pair room key d h.0).1 (lawful, h.4),
       rising_push last key (keys_of h.0 ++ h.1 ∷ []) order h.5,
       h.6,
@@ -149,12 +156,14 @@ module _ (room : ℕ) (read : List ℕ → Reading Data) (sound : (bytes : List 
       → ((key after : List ℕ) → length after ≤ fuel → PairsAre room (Some key) after (pairs_at read fuel (Some key) after))
       → length bytes ≤ suc fuel → StringIs bytes r
       → PairsAre room last bytes (r >>= λ key.
-      cond (follows last key.0) (read key.1 >>= λ value. pairs_at read fuel (Some key.0) value.1 >>= λ others. Ok (pair key.0 value.0 others.0, others.1)) (Err (KeyOrder, bytes)))
+      cond (follows last key.0)
+      (read key.1 >>= λ value. pairs_at read fuel (Some key.0) value.1 >>= λ others. Ok (pair key.0 value.0 others.0, others.1)) (Err (KeyOrder, bytes)))
   pairs_after_key fuel last bytes (Ok x) later enough named =
       by_test (follows last x.0) (PairsAre room last bytes) _ _
       (λ order. pairs_after_value fuel last bytes x.0 x.1 (read x.1) (later x.0) enough named order (sound x.1))
       (λ order. stop_at_key room last bytes KeyOrder bytes (x.0, x.1, named, out_of_order last x.0 order, refl))
-  pairs_after_key fuel last bytes (Err f) later enough h = stop_at_key room last bytes f.0 f.1 (bad_key last bytes f.0 f.1 h)
+  pairs_after_key fuel last bytes (Err f) later enough h =
+      stop_at_key room last bytes f.0 f.1 (bad_key last bytes f.0 f.1 h)
 
   pub pairs_sound : (fuel : ℕ) (last : Option (List ℕ)) (bytes : List ℕ) → length bytes ≤ fuel
       → PairsAre room last bytes (pairs_at read fuel last bytes)

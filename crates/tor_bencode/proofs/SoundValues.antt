@@ -67,6 +67,8 @@ pub dictionary_is : (room : ℕ) (rest : List ℕ) (r : Reading Pairs) → Pairs
 dictionary_is room rest (Ok x) h =
     let same : suc room - 1 ≡ room = omega arith in
     ((lawful-dictionary (suc room) x.0).1 (omega arith, h.1, subst (λ n. PairsAreLawfulWithin n x.0) (sym same) h.0), ap (λ bs. 100 ∷ bs) (h.2 ∙ sym (append_assoc (pairs_spelling x.0) (101 ∷ []) x.1)))
-dictionary_is room rest (Err f) (inl h) = at_key h.0 h.1 (ap (λ bs. 100 ∷ bs) h.2) h.4 h.3 (subst (λ o. IsBadKey o h.1 f.0 f.1) (last_key-is h.0) h.5)
+dictionary_is room rest (Err f) (inl h) =
+    at_key h.0 h.1 (ap (λ bs. 100 ∷ bs) h.2) h.4 h.3 (subst (λ o. IsBadKey o h.1 f.0 f.1) (last_key-is h.0) h.5)
 dictionary_is room rest (Err f) (inr h) =
-    in_pair h.0 h.1 h.2 (ap (λ bs. 100 ∷ bs) (h.3 ∙ sym (append_assoc (pairs_spelling h.0) (string_spelling h.1) h.2))) h.5 h.4 h.6
+    in_pair h.0 h.1 h.2
+    (ap (λ bs. 100 ∷ bs) (h.3 ∙ sym (append_assoc (pairs_spelling h.0) (string_spelling h.1) h.2))) h.5 h.4 h.6

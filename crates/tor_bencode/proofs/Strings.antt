@@ -58,11 +58,13 @@ pub string_at-bad : (bytes run : List ℕ) (next : ℕ) (more : List ℕ) → Ru
 string_at-bad bytes run next more r why =
     let stop = one_of_two (is_ascii_digit next) r.stops in
     let test : ((next == 58) && is_shortest run) ≡ false = one_of_two _ (refused why) in
-    ap string_at r.whole ∙ string_at-run run next more r.all stop ∙ rw test (ap (λ bs. Err (BadLength, bs)) (sym r.whole))
+    ap string_at r.whole ∙ string_at-run run next more r.all stop
+    ∙ rw test (ap (λ bs. Err (BadLength, bs)) (sym r.whole))
   where
     refused : ((next ≢ 58) ⊎ ((n : ℕ) → run ≢ base_ten n)) → ((next == 58) && is_shortest run) ≡ true → ⊥
     refused (inl other) e = other (let h = (and_parts (next == 58) (is_shortest run) e).0 in grind (arith, nat_tests))
-    refused (inr none) e = none (number run) (sym (base_ten-number run r.all (and_parts (next == 58) (is_shortest run) e).1))
+    refused (inr none) e =
+        none (number run) (sym (base_ten-number run r.all (and_parts (next == 58) (is_shortest run) e).1))
 
 -- what is wrong with a byte string
 abbrev pub IsBadString : List ℕ → Fault → List ℕ → Type 0
@@ -86,7 +88,8 @@ module _ (bytes : List ℕ) (begins : BeginsWithDigit bytes) where
 
   cut_run : (drop (prefix_len is_ascii_digit bytes) bytes) ≡ [] → IsCutString bytes
   cut_run e =
-      let all : bytes ≡ take (prefix_len is_ascii_digit bytes) bytes = run_whole is_ascii_digit bytes [] e ∙ append-nil _ in
+      let all : bytes ≡ take (prefix_len is_ascii_digit bytes) bytes =
+      run_whole is_ascii_digit bytes [] e ∙ append-nil _ in
       inl (begins, subst (λ bs. list_all is_ascii_digit bs ≡ true) (sym all) (run_passes is_ascii_digit bytes))
 
   bad_length : (run : List ℕ) (c : ℕ) (more : List ℕ) → Runs is_ascii_digit bytes run c more
@@ -109,7 +112,8 @@ module _ (bytes : List ℕ) (begins : BeginsWithDigit bytes) where
   after_is (c ∷ more) e =
       let run = take (prefix_len is_ascii_digit bytes) bytes in
       let digits = run_passes is_ascii_digit bytes in
-      let whole : bytes ≡ take (prefix_len is_ascii_digit bytes) bytes ++ c ∷ more = run_whole is_ascii_digit bytes (c ∷ more) e in
+      let whole : bytes ≡ take (prefix_len is_ascii_digit bytes) bytes ++ c ∷ more =
+      run_whole is_ascii_digit bytes (c ∷ more) e in
       let stop = run_stops is_ascii_digit bytes c more e in
       by_test ((c == 58) && is_shortest run) (StringIs bytes) _ _
       (λ good.

@@ -23,19 +23,26 @@ pub value_list : (room : ℕ) (bytes : List ℕ) → 0 < room → 0 < length byt
     → value_at room bytes ≡ (items_at (value_at (room - 1)) (length (take (length bytes - 1) (drop 1 bytes))) (take (length bytes - 1) (drop 1 bytes)) >>= λ items. Ok (list items.0, items.1))
 value_list room [] more some is = absurd (omega arith)
 value_list room (c ∷ rest) more some is =
-    let e : c ≡ 108 = is in value_opens room (c ∷ rest) ∙ rw (take_rest c rest) (subst (λ x. value_with (nested_at room) (x ∷ rest) ≡ (items_at (value_at (room - 1)) (length rest) rest >>= λ items. Ok (list items.0, items.1))) (sym e) (rw (nested_at-positive room more) refl))
+    let e : c ≡ 108 =
+    is in value_opens room (c ∷ rest)
+    ∙ rw (take_rest c rest)
+    (subst (λ x. value_with (nested_at room) (x ∷ rest) ≡ (items_at (value_at (room - 1)) (length rest) rest >>= λ items. Ok (list items.0, items.1))) (sym e) (rw (nested_at-positive room more) refl))
 
 pub value_dictionary : (room : ℕ) (bytes : List ℕ) → 0 < room → 0 < length bytes → get_or bytes 0 0 ≡ 100
     → value_at room bytes ≡ (pairs_at (value_at (room - 1)) (length (take (length bytes - 1) (drop 1 bytes))) None (take (length bytes - 1) (drop 1 bytes)) >>= λ pairs. Ok (dictionary pairs.0, pairs.1))
 value_dictionary room [] more some is = absurd (omega arith)
 value_dictionary room (c ∷ rest) more some is =
-    let e : c ≡ 100 = is in value_opens room (c ∷ rest) ∙ rw (take_rest c rest) (subst (λ x. value_with (nested_at room) (x ∷ rest) ≡ (pairs_at (value_at (room - 1)) (length rest) None rest >>= λ pairs. Ok (dictionary pairs.0, pairs.1))) (sym e) (rw (nested_at-positive room more) refl))
+    let e : c ≡ 100 =
+    is in value_opens room (c ∷ rest)
+    ∙ rw (take_rest c rest)
+    (subst (λ x. value_with (nested_at room) (x ∷ rest) ≡ (pairs_at (value_at (room - 1)) (length rest) None rest >>= λ pairs. Ok (dictionary pairs.0, pairs.1))) (sym e) (rw (nested_at-positive room more) refl))
 
 pub value_string : (room : ℕ) (bytes : List ℕ) → 0 < length bytes → is_ascii_digit (get_or bytes 0 0) ≡ true
     → value_at room bytes ≡ (string_at bytes >>= λ text. Ok (string text.0, text.1))
 value_string room [] some digit = absurd (omega arith)
 value_string room (c ∷ rest) some digit =
-    let no_integer : (c == 105) ≡ false = grind (arith, nat_tests) in value_opens room (c ∷ rest) ∙ rw (no_integer, digit) refl
+    let no_integer : (c == 105) ≡ false =
+    grind (arith, nat_tests) in value_opens room (c ∷ rest) ∙ rw (no_integer, digit) refl
 
 pub value_empty : (room : ℕ) → value_at room [] ≡ Err (Truncated, [])
 value_empty room = value_opens room []
@@ -54,6 +61,12 @@ pub value_too_deep : (room : ℕ) (bytes : List ℕ) → room ≡ 0 → 0 < leng
     → value_at room bytes ≡ Err (TooDeep, bytes)
 value_too_deep room [] none some is = absurd (omega arith)
 value_too_deep room (c ∷ rest) none some (inl e) =
-    let is : c ≡ 108 = e in value_opens room (c ∷ rest) ∙ subst (λ x. value_with (nested_at room) (x ∷ rest) ≡ Err (TooDeep, x ∷ rest)) (sym is) (rw (nested_at-none room none) refl)
+    let is : c ≡ 108 =
+    e in value_opens room (c ∷ rest)
+    ∙ subst (λ x. value_with (nested_at room) (x ∷ rest) ≡ Err (TooDeep, x ∷ rest)) (sym is)
+    (rw (nested_at-none room none) refl)
 value_too_deep room (c ∷ rest) none some (inr e) =
-    let is : c ≡ 100 = e in value_opens room (c ∷ rest) ∙ subst (λ x. value_with (nested_at room) (x ∷ rest) ≡ Err (TooDeep, x ∷ rest)) (sym is) (rw (nested_at-none room none) refl)
+    let is : c ≡ 100 =
+    e in value_opens room (c ∷ rest)
+    ∙ subst (λ x. value_with (nested_at room) (x ∷ rest) ≡ Err (TooDeep, x ∷ rest)) (sym is)
+    (rw (nested_at-none room none) refl)

@@ -65,7 +65,8 @@ IsTooLarge bytes = (n : ℤ) × (more : List ℕ) × (bytes ≡ spelling (intege
 
 -- no value begins so
 abbrev pub BeginsNoValue : List ℕ → Type 0
-BeginsNoValue bytes = (c : ℕ) × (rest : List ℕ) × (bytes ≡ c ∷ rest) × ¬ IsTrue (is_ascii_digit c) × (c ≢ letter_i) × (c ≢ letter_l) × (c ≢ letter_d)
+BeginsNoValue bytes = (c : ℕ) × (rest : List ℕ) × (bytes ≡ c ∷ rest) × ¬ IsTrue (is_ascii_digit c)
+    × (c ≢ letter_i) × (c ≢ letter_l) × (c ≢ letter_d)
 
 -- A byte string, a list or a dictionary begins so. To read anything else takes no memory.
 abbrev pub may_take_memory : List ℕ → Bool
@@ -100,8 +101,10 @@ IsOutOfOrder (Some last) key = slice_cmp nat_cmp last key ≢ Less
 abbrev pub IsBadKey : Option (List ℕ) → List ℕ → Fault → List ℕ → Type 0
 IsBadKey last bytes Truncated from = ((bytes ≡ []) ⊎ IsCutString bytes) × (from ≡ [])
 IsBadKey last bytes BadLength from = HasBadLength bytes × (from ≡ bytes)
-IsBadKey last bytes KeyNotBytes from = (c : ℕ) × (rest : List ℕ) × (bytes ≡ c ∷ rest) × ¬ IsTrue (is_ascii_digit c) × (c ≢ letter_e) × (from ≡ bytes)
-IsBadKey last bytes KeyOrder from = (key : List ℕ) × (rest : List ℕ) × (bytes ≡ string_spelling key ++ rest) × IsOutOfOrder last key × (from ≡ bytes)
+IsBadKey last bytes KeyNotBytes from = (c : ℕ) × (rest : List ℕ) × (bytes ≡ c ∷ rest)
+    × ¬ IsTrue (is_ascii_digit c) × (c ≢ letter_e) × (from ≡ bytes)
+IsBadKey last bytes KeyOrder from = (key : List ℕ) × (rest : List ℕ) × (bytes ≡ string_spelling key ++ rest)
+    × IsOutOfOrder last key × (from ≡ bytes)
 IsBadKey last bytes BadByte from = ⊥
 IsBadKey last bytes BadInteger from = ⊥
 IsBadKey last bytes IntegerRange from = ⊥
@@ -134,7 +137,8 @@ pub record IsTrailing (bytes : List ℕ) (fault : Fault) (from : List ℕ) : Typ
 
 -- the bytes have this fault at this offset
 abbrev pub IsFaultAt : List ℕ → Fault → ℕ → Type 0
-IsFaultAt bytes fault offset = (from : List ℕ) × (offset + length from ≡ length bytes) × (IsFaultIn MAX_NESTING bytes fault from ⊎ IsTrailing bytes fault from)
+IsFaultAt bytes fault offset = (from : List ℕ) × (offset + length from ≡ length bytes)
+    × (IsFaultIn MAX_NESTING bytes fault from ⊎ IsTrailing bytes fault from)
 
 -- the same, as an error tells it; want of memory is no fault of the bytes
 abbrev pub IsRefusalOf : List ℕ → BenError → Type 0
