@@ -3,6 +3,7 @@ pub mod Lawfulness
 pub mod Rising
 pub mod Numerals
 pub mod Loops
+pub mod PairLoops
 pub mod Values
 pub mod Runs
 pub mod Strings

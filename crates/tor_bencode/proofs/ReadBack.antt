@@ -9,7 +9,8 @@ use Rattle.tor_bencode.specs.Spelling.{signed_base_ten, spelling, string_spellin
 use Rattle.tor_bencode.proofs.Integers.{integer_at-spelling}
 use Rattle.tor_bencode.proofs.IntegersRead.{integer_spelled}
 use Rattle.tor_bencode.proofs.Lawfulness.{lawful-list, lawful-dictionary, lawful-item, lawful-pair}
-use Rattle.tor_bencode.proofs.Loops.{items_before, pairs_before, with_items, with_pairs, items_before-assoc, items_before-no_items, pairs_before-assoc, pairs_before-no_pairs, with_no_items, with_no_pairs, items_go_on, pairs_go_on, items_end, pairs_end}
+use Rattle.tor_bencode.proofs.Loops.{items_before, pairs_before, with_items, with_pairs, items_before-assoc, items_before-no_items, with_no_items, with_no_pairs, items_go_on, items_end}
+use Rattle.tor_bencode.proofs.PairLoops.{pairs_before-assoc, pairs_before-no_pairs, pairs_go_on, pairs_end}
 use Rattle.tor_bencode.proofs.Values.{value_integer, value_string, value_list, value_dictionary}
 use Rattle.tor_bencode.proofs.Numerals.{digit_range}
 use Rattle.tor_bencode.proofs.Spelled.{string-starts, spelling-starts, shorter-spelling, shorter-string, pair_spelled}

@@ -11,7 +11,7 @@ use Rattle.tor_bencode.specs.declared.fault.Fault.{Fault}
 use Rattle.tor_bencode.specs.declared.fault.Fault.TheVariants.{Truncated, BadByte, BadInteger, IntegerRange, BadLength, KeyNotBytes, KeyOrder, TooDeep, Trailing}
 use Rattle.tor_bencode.proofs.Integers.{integer_at-cut, integer_at-bad, integer_at-too_large}
 use Rattle.tor_bencode.proofs.IntegersRead.{integer_spelled}
-use Rattle.tor_bencode.proofs.Loops.{after_key, key_here}
+use Rattle.tor_bencode.proofs.PairLoops.{after_key, key_here}
 use Rattle.tor_bencode.proofs.Values.{value_integer, value_string, value_empty, value_bad, value_too_deep}
 use Rattle.tor_bencode.proofs.Numerals.{digit_range}
 use Rattle.tor_bencode.proofs.Runs.{one_of_two}

@@ -7,7 +7,8 @@ use Rattle.tor_bencode.specs.steps.Reading.{◌>>=◌, Reading, follows, string_
 use Rattle.tor_bencode.specs.Spelling.{string_spelling, items_spelling, pairs_spelling}
 use Rattle.tor_bencode.specs.declared.fault.Fault.{Fault}
 use Rattle.tor_bencode.specs.declared.fault.Fault.TheVariants.{Trailing}
-use Rattle.tor_bencode.proofs.Loops.{with_items, with_pairs, with_no_items, with_no_pairs, after_key, key_here}
+use Rattle.tor_bencode.proofs.Loops.{with_items, with_pairs, with_no_items, with_no_pairs}
+use Rattle.tor_bencode.proofs.PairLoops.{after_key, key_here}
 use Rattle.tor_bencode.proofs.Values.{value_list, value_dictionary, value_empty}
 use Rattle.tor_bencode.proofs.Numerals.{digit_range}
 use Rattle.tor_bencode.proofs.ReadBack.{AreRisingAfter, rising_first, last_after, items_at-front, pairs_at-front, value_at-spelling}

@@ -7,7 +7,8 @@ use Rattle.std.proofs.lemmas.Result.{err_from_is_err_and}
 use Rattle.tor_bencode.specs.Data.{Data, Items, Pairs, pair, no_pairs, integer, list, dictionary}
 use Rattle.tor_bencode.specs.steps.Reading.{◌>>=◌, Reading, Stops, value_at, items_at, pairs_at}
 use Rattle.tor_bencode.specs.View.{view, items_view, pairs_view}
-use Rattle.tor_bencode.proofs.Loops.{with_items, with_pairs, pairs_before, items_view-push, pairs_view-push, items_end, items_go_on, pairs_end, pairs_go_on, pairs_stop_key, pairs_stop_order, pairs_stop_value, stops_bind}
+use Rattle.tor_bencode.proofs.Loops.{with_items, with_pairs, pairs_before, items_view-push, items_end, items_go_on, stops_bind}
+use Rattle.tor_bencode.proofs.PairLoops.{pairs_view-push, pairs_end, pairs_go_on, pairs_stop_key, pairs_stop_order, pairs_stop_value}
 use Rattle.tor_bencode.proofs.Values.{value_integer, value_list, value_dictionary, value_too_deep}
 use Rattle.tor_bencode.proofs.Views.{view-Int, view-List, view-Dict}
 use Rattle.tor_bencode.proofs.read.+read.Goals as goal

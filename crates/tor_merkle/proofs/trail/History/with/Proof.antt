@@ -80,7 +80,8 @@ module _ (T : RattleType) where
           enter ! C Λ function (u ∷ v ∷ []) Post $ alloc_all ! (λ l. pass_all ! refl ((tt, tt), ((tt, tt), tt)) $
           sets ! (agg ! (no_more !)) refl (tt, tt) $
           sets ! (agg ! (and_then ! (get ! refl) (no_more !))) refl (tt, (tt, tt)) $
-          nothing ! $ owned ! (Mark.the_row (param 0 T)) (Is (Mark.the_row (param 0 T))) (makes (Mark.the_type (param 0 T)) tt 𝓛)
+          nothing ! $ owned ! (Mark.the_row (param 0 T)) (Is (Mark.the_row (param 0 T)))
+          (makes (Mark.the_type (param 0 T)) tt 𝓛)
           (record {}) (none ∷ []) (tt, (refl, tt)) $
           one_made ! (Mark.the_row (param 0 T)) (record {}) none $ fjoin ! $
           returns ! (look_at ! 0 refl) $ free_all ! refl $
@@ -90,7 +91,8 @@ module _ (T : RattleType) where
     meets : (𝓣 : Tables 𝓤 H) → Meets 𝓛 ended.signature (WpFn 𝓤 H 𝓣.C 𝓣.Λ function) (closing 𝓛 ended held)
     meets 𝓣 =
         walk_Meets 𝓛 ended stayed (
-          Goes-dropped 𝓛 4 (RefOf (0 ∷ []) tt (plain (λ _. History.the_row (F.T-row T))) (λ _. tt)) yes (λ κs x f. refl),
+          Goes-dropped 𝓛 4 (RefOf (0 ∷ []) tt (plain (λ _. History.the_row (F.T-row T))) (λ _. tt)) yes
+              (λ κs x f. refl),
           (Goes-dropped 𝓛 4 (RefOf (1 ∷ []) tt (plain (λ κs. Run.the_row (named_lft 4 2 tt κs) (F.T-row T))) (λ _. tt)) yes (λ κs x f. refl), tt),
         ) held
         (WpFn 𝓤 H 𝓣.C 𝓣.Λ function) (WpFn-mono 𝓤 H 𝓛.laws 𝓣 function) (walks 𝓣.C 𝓣.Λ)
