@@ -1,17 +1,14 @@
--- Items and pairs read one after the other, as a loop does.
-use Rattle.std.proofs.Common.{◌≡◌, ℕ, zero, suc, ◌-◌, ◌≤◌, ◌<◌, List, [], ◌∷◌, ◌++◌, length, get_or, Option, Some, None, Result, Ok, Err, true, false, cond, ◌==◌, refl, sym, ap, ap₂, take, drop, ◌∙◌, arith, inl, inr, ◌⊎◌, subst}
+-- Items read one after the other, as a loop does.
+use Rattle.std.proofs.Common.{◌≡◌, ℕ, zero, suc, ◌-◌, ◌≤◌, ◌<◌, List, [], ◌∷◌, ◌++◌, length, get_or, Some, Result, Ok, Err, true, false, ◌==◌, refl, sym, ap, ap₂, take, drop, ◌∙◌, arith}
 use Rattle.std.proofs.lemmas.Bool.Decides.{nat_tests}
 use Rattle.std.proofs.lemmas.List.{take_all}
-use Rattle.std.proofs.Common.{Vec, Global}
-use Rattle.tor_bencode.specs.View.{view, items_view, pairs_view}
+use Rattle.tor_bencode.specs.View.{view, items_view}
 use Rattle.tor_bencode.specs.declared.item.Item.{Item}
-use Rattle.tor_bencode.specs.declared.fault.Fault.TheVariants.{Truncated, KeyOrder, TooDeep, BadByte}
 use Rattle.tor_bencode.specs.declared.stop.Stop.{Stop}
 use Rattle.tor_bencode.specs.declared.stop.Stop.TheVariants as stops
-use Rattle.tor_bencode.specs.Data.{Data, integer, string, list, dictionary, Items, no_items, item, Pairs, no_pairs, pair}
+use Rattle.tor_bencode.specs.Data.{Data, Items, no_items, item, Pairs, no_pairs, pair}
 use Rattle.tor_bencode.specs.declared.fault.Fault.{Fault}
-use Rattle.tor_bencode.specs.steps.Reading.{◌>>=◌, Reading, Stops, value_at, value_with, nested_at, items_at, pairs_at, string_at, integer_at, follows}
-use Rattle.std.specs.Char.{is_ascii_digit}
+use Rattle.tor_bencode.specs.steps.Reading.{◌>>=◌, Reading, Stops, value_at, value_with, nested_at, items_at}
 
 abbrev pub items_before : Items → Items → Items
 items_before no_items others = others
@@ -31,7 +28,8 @@ with_pairs front read = read >>= λ x. Ok (pairs_before front x.0, x.1)
 pub nested_at-positive : (room : ℕ) → 0 < room → nested_at room ≡ Some (value_at (room - 1))
 unfolding nested_at value_at
 nested_at-positive zero h = absurd (omega arith)
-nested_at-positive (suc room) h = let here : suc room - 1 ≡ room = omega arith in ap (λ n. Some (value_with (nested_at n))) (sym here)
+nested_at-positive (suc room) h =
+    let here : suc room - 1 ≡ room = omega arith in ap (λ n. Some (value_with (nested_at n))) (sym here)
 
 pub items_before-assoc : (a b c : Items) → items_before (items_before a b) c ≡ items_before a (items_before b c)
 items_before-assoc no_items b c = refl
@@ -41,12 +39,15 @@ pub items_before-no_items : (a : Items) → items_before a no_items ≡ a
 items_before-no_items no_items = refl
 items_before-no_items (item d a) = ap (item d) (items_before-no_items a)
 
-pub items_view-push : (items : List Item) (x : Item) → items_view (items ++ x ∷ []) ≡ items_before (items_view items) (item (view x) no_items)
+pub items_view-push : (items : List Item) (x : Item)
+    → items_view (items ++ x ∷ []) ≡ items_before (items_view items) (item (view x) no_items)
 items_view-push [] x = refl
 items_view-push (y ∷ items) x = ap (item (view y)) (items_view-push items x)
 
-regroup_items : (front : Items) (d : Data) (read : Reading Items) → with_items front (read >>= λ x. Ok (item d x.0, x.1)) ≡ with_items (items_before front (item d no_items)) read
-regroup_items front d (Ok x) = ap (λ (items : Items). Ok (items, x.1)) (sym (items_before-assoc front (item d no_items) x.0))
+regroup_items : (front : Items) (d : Data) (read : Reading Items)
+    → with_items front (read >>= λ x. Ok (item d x.0, x.1)) ≡ with_items (items_before front (item d no_items)) read
+regroup_items front d (Ok x) =
+    ap (λ (items : Items). Ok (items, x.1)) (sym (items_before-assoc front (item d no_items) x.0))
 regroup_items front d (Err e) = refl
 
 pub with_no_items : (read : Reading Items) → with_items no_items read ≡ read
@@ -57,12 +58,13 @@ pub with_no_pairs : (read : Reading Pairs) → with_pairs no_pairs read ≡ read
 with_no_pairs (Ok x) = refl
 with_no_pairs (Err f) = refl
 
-abbrev Read : Type 0
+abbrev pub Read : Type 0
 Read = List ℕ → Reading Data
 
 -- one more item
 pub items_go_on : (read : Read) (front : Items) (fuel : ℕ) (bytes : List ℕ) (d : Data) (after : List ℕ) (total : Reading Items)
-    → 0 < length bytes → (get_or bytes 0 0 ≡ 101 → ⊥) → length bytes ≤ fuel → length after < length bytes → read bytes ≡ Ok (d, after)
+    → 0 < length bytes → (get_or bytes 0 0 ≡ 101 → ⊥) → length bytes ≤ fuel → length after < length bytes
+    → read bytes ≡ Ok (d, after)
     → with_items front (items_at read fuel bytes) ≡ total
     → (less : ℕ) × (length after ≤ less) × (with_items (items_before front (item d no_items)) (items_at read less after) ≡ total)
 items_go_on read front fuel [] d after total some other enough shorter reads so_far = absurd (omega arith)
@@ -83,7 +85,7 @@ items_stop read front (suc fuel) (c ∷ rest) (stops.At fault at) total some oth
     let one : with_items front (items_at read (suc fuel) (c ∷ rest)) ≡ Err (fault, at.now) = rw (no_end, stops) refl in
     sym so_far ∙ one
 
-take_rest : (c : ℕ) (rest : List ℕ) → take (length (c ∷ rest) - 1) (drop 1 (c ∷ rest)) ≡ rest
+pub take_rest : (c : ℕ) (rest : List ℕ) → take (length (c ∷ rest) - 1) (drop 1 (c ∷ rest)) ≡ rest
 take_rest c rest = take_all _ rest (omega arith)
 
 pub items_end : (read : Read) (front : Items) (fuel : ℕ) (bytes : List ℕ) (total : Reading Items)
@@ -93,141 +95,12 @@ items_end read front fuel [] total some is enough so_far = absurd (omega arith)
 items_end read front zero (c ∷ rest) total some is enough so_far = absurd (omega arith)
 items_end read front (suc fuel) (c ∷ rest) total some is enough so_far =
     let at_end : (c == 101) ≡ true = grind (arith, nat_tests) in
-    let one : with_items front (items_at read (suc fuel) (c ∷ rest)) ≡ Ok (items_before front no_items, rest) = rw at_end refl in
-    sym so_far ∙ one ∙ ap₂ (λ (items : Items) (after : List ℕ). Ok (items, after)) (items_before-no_items front) (sym (take_rest c rest))
+    let one : with_items front (items_at read (suc fuel) (c ∷ rest)) ≡ Ok (items_before front no_items, rest) =
+    rw at_end refl in
+    sym so_far ∙ one
+    ∙ ap₂ (λ (items : Items) (after : List ℕ). Ok (items, after)) (items_before-no_items front) (sym (take_rest c rest))
 
-pub stops_bind : {A B : Type 0} (stop : Stop) (r : Result A (Fault × List ℕ)) (f : A → Result B (Fault × List ℕ)) → Stops stop r → Stops stop (r >>= f)
+pub stops_bind : {A B : Type 0} (stop : Stop) (r : Result A (Fault × List ℕ)) (f : A → Result B (Fault × List ℕ))
+    → Stops stop r → Stops stop (r >>= f)
 stops_bind stops.Memory r f h = tt
 stops_bind (stops.At fault at) r f h = ap (λ x. x >>= f) h
-
-pub pairs_before-assoc : (a b c : Pairs) → pairs_before (pairs_before a b) c ≡ pairs_before a (pairs_before b c)
-pairs_before-assoc no_pairs b c = refl
-pairs_before-assoc (pair key d a) b c = ap (pair key d) (pairs_before-assoc a b c)
-
-pub pairs_before-no_pairs : (a : Pairs) → pairs_before a no_pairs ≡ a
-pairs_before-no_pairs no_pairs = refl
-pairs_before-no_pairs (pair key d a) = ap (pair key d) (pairs_before-no_pairs a)
-
-pub pairs_view-push : (pairs : List (Vec ℕ Global × Item)) (key : Vec ℕ Global) (x : Item) → pairs_view (pairs ++ (key, x) ∷ []) ≡ pairs_before (pairs_view pairs) (pair key.items (view x) no_pairs)
-pairs_view-push [] key x = refl
-pairs_view-push (y ∷ pairs) key x = ap (pair y.0.items (view y.1)) (pairs_view-push pairs key x)
-
-regroup_pairs : (front : Pairs) (key : List ℕ) (d : Data) (read : Reading Pairs) → with_pairs front (read >>= λ x. Ok (pair key d x.0, x.1)) ≡ with_pairs (pairs_before front (pair key d no_pairs)) read
-regroup_pairs front key d (Ok x) = ap (λ (pairs : Pairs). Ok (pairs, x.1)) (sym (pairs_before-assoc front (pair key d no_pairs) x.0))
-regroup_pairs front key d (Err e) = refl
-
--- where a key begins, it is read, and then its value
-abbrev pub after_key : Read → ℕ → Option (List ℕ) → List ℕ → List ℕ × List ℕ → Reading Pairs
-after_key read fuel last bytes key =
-    cond (follows last key.0) (read key.1 >>= λ value. pairs_at read fuel (Some key.0) value.1 >>= λ others. Ok (pair key.0 value.0 others.0, others.1)) (Err (KeyOrder, bytes))
-
-pub key_here : (read : Read) (fuel : ℕ) (last : Option (List ℕ)) (bytes : List ℕ) → 0 < length bytes → 48 ≤ get_or bytes 0 0 → get_or bytes 0 0 ≤ 57 → length bytes ≤ fuel
-    → (less : ℕ) × (suc less ≡ fuel) × (pairs_at read fuel last bytes ≡ (string_at bytes >>= after_key read less last bytes))
-key_here read fuel last [] some low high enough = absurd (omega arith)
-key_here read zero last (c ∷ rest) some low high enough = absurd (omega arith)
-key_here read (suc fuel) last (c ∷ rest) some low high enough =
-    let no_end : (c == 101) ≡ false = grind (arith, nat_tests) in
-    let digit : is_ascii_digit c ≡ true = grind (arith, nat_tests) in
-    (fuel, refl, rw (no_end, digit) refl)
-
--- one more pair
-pub pairs_go_on : (read : Read) (front : Pairs) (fuel : ℕ) (last : Option (List ℕ)) (bytes key middle : List ℕ) (d : Data) (after : List ℕ) (total : Reading Pairs)
-    → 0 < length bytes → 48 ≤ get_or bytes 0 0 → get_or bytes 0 0 ≤ 57 → length bytes ≤ fuel → length after < length bytes
-    → string_at bytes ≡ Ok (key, middle) → follows last key ≡ true → read middle ≡ Ok (d, after)
-    → with_pairs front (pairs_at read fuel last bytes) ≡ total
-    → (less : ℕ) × (length after ≤ less) × (with_pairs (pairs_before front (pair key d no_pairs)) (pairs_at read less (Some key) after) ≡ total)
-pairs_go_on read front fuel last bytes key middle d after total some low high enough shorter named order reads so_far =
-    let k = key_here read fuel last bytes some low high enough in
-    let key_read : (string_at bytes >>= after_key read k.0 last bytes) ≡ after_key read k.0 last bytes (key, middle) = rw named refl in
-    let value_read : after_key read k.0 last bytes (key, middle) ≡ (pairs_at read k.0 (Some key) after >>= λ others. Ok (pair key d others.0, others.1)) = rw (order, reads) refl in
-    (k.0, omega (arith, k.1), sym (ap (with_pairs front) (k.2 ∙ key_read ∙ value_read) ∙ regroup_pairs front key d (pairs_at read k.0 (Some key) after)) ∙ so_far)
-
-stops_front : (stop : Stop) (front : Pairs) (read read' total : Reading Pairs) → read ≡ read' → Stops stop read' → with_pairs front read ≡ total → Stops stop total
-stops_front stops.Memory front read read' total e h so_far = tt
-stops_front (stops.At fault at) front read read' total e h so_far = sym so_far ∙ ap (with_pairs front) (e ∙ h)
-
-pub pairs_stop_key : (read : Read) (front : Pairs) (fuel : ℕ) (last : Option (List ℕ)) (bytes : List ℕ) (stop : Stop) (total : Reading Pairs)
-    → 0 < length bytes → 48 ≤ get_or bytes 0 0 → get_or bytes 0 0 ≤ 57 → length bytes ≤ fuel → Stops stop (string_at bytes)
-    → with_pairs front (pairs_at read fuel last bytes) ≡ total → Stops stop total
-pairs_stop_key read front fuel last bytes stop total some low high enough h so_far =
-    let k = key_here read fuel last bytes some low high enough in
-    stops_front stop front _ _ total k.2 (stops_bind stop (string_at bytes) (after_key read k.0 last bytes) h) so_far
-
-pub pairs_stop_order : (read : Read) (front : Pairs) (fuel : ℕ) (last : Option (List ℕ)) (bytes key middle : List ℕ) (total : Reading Pairs)
-    → 0 < length bytes → 48 ≤ get_or bytes 0 0 → get_or bytes 0 0 ≤ 57 → length bytes ≤ fuel
-    → string_at bytes ≡ Ok (key, middle) → follows last key ≡ false
-    → with_pairs front (pairs_at read fuel last bytes) ≡ total → total ≡ Err (KeyOrder, bytes)
-pairs_stop_order read front fuel last bytes key middle total some low high enough named order so_far =
-    let k = key_here read fuel last bytes some low high enough in
-    let key_read : (string_at bytes >>= after_key read k.0 last bytes) ≡ after_key read k.0 last bytes (key, middle) = rw named refl in
-    let refused : after_key read k.0 last bytes (key, middle) ≡ Err (KeyOrder, bytes) = rw order refl in
-    sym so_far ∙ ap (with_pairs front) (k.2 ∙ key_read ∙ refused)
-
-pub pairs_stop_value : (read : Read) (front : Pairs) (fuel : ℕ) (last : Option (List ℕ)) (bytes key middle : List ℕ) (stop : Stop) (total : Reading Pairs)
-    → 0 < length bytes → 48 ≤ get_or bytes 0 0 → get_or bytes 0 0 ≤ 57 → length bytes ≤ fuel
-    → string_at bytes ≡ Ok (key, middle) → follows last key ≡ true → Stops stop (read middle)
-    → with_pairs front (pairs_at read fuel last bytes) ≡ total → Stops stop total
-pairs_stop_value read front fuel last bytes key middle stop total some low high enough named order h so_far =
-    let k = key_here read fuel last bytes some low high enough in
-    let key_read : (string_at bytes >>= after_key read k.0 last bytes) ≡ after_key read k.0 last bytes (key, middle) = rw named refl in
-    let value_read : after_key read k.0 last bytes (key, middle) ≡ (read middle >>= λ value. pairs_at read k.0 (Some key) value.1 >>= λ others. Ok (pair key value.0 others.0, others.1)) = rw order refl in
-    stops_front stop front _ _ total (k.2 ∙ key_read ∙ value_read) (stops_bind stop (read middle) _ h) so_far
-
-pub pairs_end : (read : Read) (front : Pairs) (fuel : ℕ) (last : Option (List ℕ)) (bytes : List ℕ) (total : Reading Pairs)
-    → 0 < length bytes → get_or bytes 0 0 ≡ 101 → length bytes ≤ fuel
-    → with_pairs front (pairs_at read fuel last bytes) ≡ total → total ≡ Ok (front, take (length bytes - 1) (drop 1 bytes))
-pairs_end read front fuel last [] total some is enough so_far = absurd (omega arith)
-pairs_end read front zero last (c ∷ rest) total some is enough so_far = absurd (omega arith)
-pairs_end read front (suc fuel) last (c ∷ rest) total some is enough so_far =
-    let at_end : (c == 101) ≡ true = grind (arith, nat_tests) in
-    let one : with_pairs front (pairs_at read (suc fuel) last (c ∷ rest)) ≡ Ok (pairs_before front no_pairs, rest) = rw at_end refl in
-    sym so_far ∙ one ∙ ap₂ (λ (pairs : Pairs) (after : List ℕ). Ok (pairs, after)) (pairs_before-no_pairs front) (sym (take_rest c rest))
-
--- a value, by the byte that it begins with
-pub value_integer : (room : ℕ) (bytes : List ℕ) → 0 < length bytes → get_or bytes 0 0 ≡ 105
-    → value_at room bytes ≡ (integer_at bytes (take (length bytes - 1) (drop 1 bytes)) >>= λ n. Ok (integer n.0, n.1))
-unfolding value_at
-value_integer room [] some is = absurd (omega arith)
-value_integer room (c ∷ rest) some is =
-    let here : (c == 105) ≡ true = grind (arith, nat_tests) in rw (here, take_rest c rest) refl
-
-value_opens : (room : ℕ) (bytes : List ℕ) → value_at room bytes ≡ value_with (nested_at room) bytes
-unfolding value_at
-value_opens room bytes = refl
-
-pub value_list : (room : ℕ) (bytes : List ℕ) → 0 < room → 0 < length bytes → get_or bytes 0 0 ≡ 108
-    → value_at room bytes ≡ (items_at (value_at (room - 1)) (length (take (length bytes - 1) (drop 1 bytes))) (take (length bytes - 1) (drop 1 bytes)) >>= λ items. Ok (list items.0, items.1))
-value_list room [] more some is = absurd (omega arith)
-value_list room (c ∷ rest) more some is =
-    let e : c ≡ 108 = is in value_opens room (c ∷ rest) ∙ rw (take_rest c rest) (subst (λ x. value_with (nested_at room) (x ∷ rest) ≡ (items_at (value_at (room - 1)) (length rest) rest >>= λ items. Ok (list items.0, items.1))) (sym e) (rw (nested_at-positive room more) refl))
-
-pub value_dictionary : (room : ℕ) (bytes : List ℕ) → 0 < room → 0 < length bytes → get_or bytes 0 0 ≡ 100
-    → value_at room bytes ≡ (pairs_at (value_at (room - 1)) (length (take (length bytes - 1) (drop 1 bytes))) None (take (length bytes - 1) (drop 1 bytes)) >>= λ pairs. Ok (dictionary pairs.0, pairs.1))
-value_dictionary room [] more some is = absurd (omega arith)
-value_dictionary room (c ∷ rest) more some is =
-    let e : c ≡ 100 = is in value_opens room (c ∷ rest) ∙ rw (take_rest c rest) (subst (λ x. value_with (nested_at room) (x ∷ rest) ≡ (pairs_at (value_at (room - 1)) (length rest) None rest >>= λ pairs. Ok (dictionary pairs.0, pairs.1))) (sym e) (rw (nested_at-positive room more) refl))
-
-pub value_string : (room : ℕ) (bytes : List ℕ) → 0 < length bytes → is_ascii_digit (get_or bytes 0 0) ≡ true
-    → value_at room bytes ≡ (string_at bytes >>= λ text. Ok (string text.0, text.1))
-value_string room [] some digit = absurd (omega arith)
-value_string room (c ∷ rest) some digit =
-    let no_integer : (c == 105) ≡ false = grind (arith, nat_tests) in value_opens room (c ∷ rest) ∙ rw (no_integer, digit) refl
-
-pub value_empty : (room : ℕ) → value_at room [] ≡ Err (Truncated, [])
-value_empty room = value_opens room []
-
-pub value_bad : (room : ℕ) (c : ℕ) (rest : List ℕ) → is_ascii_digit c ≡ false → (c == 105) ≡ false → (c == 108) ≡ false → (c == 100) ≡ false
-    → value_at room (c ∷ rest) ≡ Err (BadByte, c ∷ rest)
-value_bad room c rest digit i l d = value_opens room (c ∷ rest) ∙ rw (i, digit, l, d) refl
-
-nested_at-none : (room : ℕ) → room ≡ 0 → nested_at room ≡ None
-unfolding nested_at
-nested_at-none room e = ap nested_at e
-
-pub value_too_deep : (room : ℕ) (bytes : List ℕ) → room ≡ 0 → 0 < length bytes → (get_or bytes 0 0 ≡ 108) ⊎ (get_or bytes 0 0 ≡ 100)
-    → value_at room bytes ≡ Err (TooDeep, bytes)
-value_too_deep room [] none some is = absurd (omega arith)
-value_too_deep room (c ∷ rest) none some (inl e) =
-    let is : c ≡ 108 = e in value_opens room (c ∷ rest) ∙ subst (λ x. value_with (nested_at room) (x ∷ rest) ≡ Err (TooDeep, x ∷ rest)) (sym is) (rw (nested_at-none room none) refl)
-value_too_deep room (c ∷ rest) none some (inr e) =
-    let is : c ≡ 100 = e in value_opens room (c ∷ rest) ∙ subst (λ x. value_with (nested_at room) (x ∷ rest) ≡ Err (TooDeep, x ∷ rest)) (sym is) (rw (nested_at-none room none) refl)

@@ -44,7 +44,8 @@ remainder n d h = omega arith
 -- one digit more
 digits_of_more : (n d : ℕ) → d < 10 → 0 < n * 10 + d → digits_of 10 (n * 10 + d) ≡ digits_of 10 n ++ d ∷ []
 digits_of_more n d small more =
-    digits_of_step 10 (n * 10 + d) (omega arith) more ∙ ap₂ (λ q r. digits_of 10 q ++ r ∷ []) (quotient n d small) (remainder n d small)
+    digits_of_step 10 (n * 10 + d) (omega arith) more
+    ∙ ap₂ (λ q r. digits_of 10 q ++ r ∷ []) (quotient n d small) (remainder n d small)
 
 digits_of_one : (d : ℕ) → 0 < d → d < 10 → digits_of 10 d ≡ d ∷ []
 digits_of_one d more small =
@@ -56,14 +57,16 @@ number_after-ge n [] = omega arith
 number_after-ge n (c ∷ cs) = omega (arith, number_after-ge (n * 10 + (c - 48)) cs)
 
 -- a number that is already too large stays so
-pub too_large : (n m : ℕ) (digits : List ℕ) (i d bound : ℕ) → i < length digits → number_after n (drop i digits) ≡ m → (n * 10 + (get_or digits i d - 48) < bound → ⊥) → m < bound → ⊥
+pub too_large : (n m : ℕ) (digits : List ℕ) (i d bound : ℕ) → i < length digits → number_after n (drop i digits) ≡ m
+    → (n * 10 + (get_or digits i d - 48) < bound → ⊥) → m < bound → ⊥
 too_large n m digits i d bound within so_far large small =
     let rest = drop (i + 1) digits in
     let next = n * 10 + (get_or digits i d - 48) in
     let whole : m ≡ number_after next rest = sym so_far ∙ ap (number_after n) (drop_more digits i d within) in
     large (omega (arith, number_after-ge next rest))
 
-digits_of_after : (n : ℕ) (cs : List ℕ) → 0 < n → list_all is_ascii_digit cs ≡ true → digits_of 10 (number_after n cs) ≡ digits_of 10 n ++ values cs
+digits_of_after : (n : ℕ) (cs : List ℕ) → 0 < n → list_all is_ascii_digit cs ≡ true
+    → digits_of 10 (number_after n cs) ≡ digits_of 10 n ++ values cs
 digits_of_after n [] more digits = sym (append-nil _)
 digits_of_after n (c ∷ cs) more digits =
     let both = and_parts (is_ascii_digit c) (list_all is_ascii_digit cs) digits in
@@ -80,13 +83,15 @@ glyphs-values (c ∷ cs) digits =
     let here : 48 + (c - 48) ≡ c = omega arith in
     ap₂ (λ (x : ℕ) (xs : List ℕ). x ∷ xs) here (glyphs-values cs both.1)
 
-base_ten-first : (c : ℕ) (cs : List ℕ) → 48 < c → list_all is_ascii_digit (c ∷ cs) ≡ true → base_ten (number (c ∷ cs)) ≡ c ∷ cs
+base_ten-first : (c : ℕ) (cs : List ℕ) → 48 < c → list_all is_ascii_digit (c ∷ cs) ≡ true
+    → base_ten (number (c ∷ cs)) ≡ c ∷ cs
 unfolding number
 base_ten-first c cs more digits =
     let both = and_parts (is_ascii_digit c) (list_all is_ascii_digit cs) digits in
     let range = digit_range c both.0 in
     let here : 0 * 10 + (c - 48) ≡ c - 48 = omega arith in
-    let after : digits_of 10 (number_after (c - 48) cs) ≡ digits_of 10 (c - 48) ++ values cs = digits_of_after (c - 48) cs (omega arith) both.1 in
+    let after : digits_of 10 (number_after (c - 48) cs) ≡ digits_of 10 (c - 48) ++ values cs =
+    digits_of_after (c - 48) cs (omega arith) both.1 in
     ap (λ n. base_ten (number_after n cs)) here
     ∙ base_ten-positive (number_after (c - 48) cs) (omega (arith, number_after-ge (c - 48) cs))
     ∙ ap glyphs (after ∙ ap (λ ds. ds ++ values cs) (digits_of_one (c - 48) (omega arith) (omega arith)))
@@ -97,7 +102,8 @@ unfolding base_ten number
 base_ten-glyph c e = subst (λ x. base_ten (number (x ∷ [])) ≡ x ∷ []) (sym e) refl
 
 -- shortest digits are those of the number that they stand for
-pub base_ten-number : (run : List ℕ) → list_all is_ascii_digit run ≡ true → is_shortest run ≡ true → base_ten (number run) ≡ run
+pub base_ten-number : (run : List ℕ) → list_all is_ascii_digit run ≡ true → is_shortest run ≡ true
+    → base_ten (number run) ≡ run
 base_ten-number [] digits shortest = absurd (false≢true shortest)
 base_ten-number (c ∷ []) digits shortest =
     let range = digit_range c (and_parts (is_ascii_digit c) true digits).0 in
@@ -142,7 +148,8 @@ is_shortest-glyphs (d ∷ e ∷ ds) h = grind (arith, nat_tests)
 pub is_shortest-base_ten : (n : ℕ) → is_shortest (base_ten n) ≡ true
 unfolding base_ten
 is_shortest-base_ten zero = refl
-is_shortest-base_ten (suc n) = is_shortest-glyphs (digits_of 10 (suc n)) (first_digits_of 10 (suc n) (omega arith) (omega arith))
+is_shortest-base_ten (suc n) =
+    is_shortest-glyphs (digits_of 10 (suc n)) (first_digits_of 10 (suc n) (omega arith) (omega arith))
 
 base_ten-digit : (n : ℕ) → n < 10 → base_ten n ≡ (48 + n) ∷ []
 unfolding base_ten

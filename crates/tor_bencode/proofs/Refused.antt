@@ -1,32 +1,33 @@
 -- Bytes with a fault are refused with that fault.
-use Rattle.std.proofs.Common.{◌≡◌, ◌≢◌, ℕ, zero, suc, ◌-◌, ◌≤◌, ◌<◌, List, [], ◌∷◌, ◌++◌, length, get_or, take, drop, true, false, ◌==◌, Option, Some, None, Ok, Err, refl, sym, ap, ap₂, ◌∙◌, subst, append_assoc, arith, inl, inr, ◌⊎◌}
+use Rattle.std.proofs.Common.{◌≡◌, ◌≢◌, ℕ, zero, suc, ◌-◌, ◌≤◌, ◌<◌, List, [], ◌∷◌, ◌++◌, length, get_or, take, drop, false, ◌==◌, Option, Some, None, Ok, Err, refl, sym, ap, ◌∙◌, subst, append_assoc, arith, inl, inr}
 use Rattle.std.specs.Char.{is_ascii_digit}
 use Rattle.std.proofs.lemmas.Bool.Decides.{nat_tests}
 use Rattle.std.proofs.lemmas.List.{take_all}
-use Rattle.tor_bencode.specs.Data.{Data, Items, no_items, Pairs, no_pairs, pair, keys_of}
-use Rattle.tor_bencode.specs.Fault.{Begins, BeginsWithDigit, IsCutString, HasBadLength, IsBadValue, IsBadKey, IsOutOfOrder, IsFaultIn, at_value, in_list, at_key, in_pair, IsTrailing}
-use Rattle.tor_bencode.specs.Lawful.{AreRising, PairsAreLawfulWithin}
-use Rattle.tor_bencode.specs.steps.Reading.{◌>>=◌, Reading, follows, string_at, integer_at, items_at, pairs_at, value_at, whole, last_of}
-use Rattle.tor_bencode.specs.Spelling.{base_ten, signed_base_ten, string_spelling, items_spelling, pairs_spelling}
+use Rattle.tor_bencode.specs.Data.{Data, Items}
+use Rattle.tor_bencode.specs.Fault.{Begins, BeginsWithDigit, IsCutString, HasBadLength, IsBadValue, IsBadKey, IsOutOfOrder}
+use Rattle.tor_bencode.specs.steps.Reading.{◌>>=◌, Reading, follows, string_at, integer_at, items_at, pairs_at, value_at}
+use Rattle.tor_bencode.specs.Spelling.{base_ten, signed_base_ten, string_spelling}
 use Rattle.tor_bencode.specs.declared.fault.Fault.{Fault}
 use Rattle.tor_bencode.specs.declared.fault.Fault.TheVariants.{Truncated, BadByte, BadInteger, IntegerRange, BadLength, KeyNotBytes, KeyOrder, TooDeep, Trailing}
-use Rattle.tor_bencode.proofs.Integers.{integer_at-cut, integer_at-bad, integer_at-too_large, integer_spelled}
-use Rattle.tor_bencode.proofs.Loops.{with_items, with_pairs, with_no_items, with_no_pairs, after_key, key_here, value_integer, value_string, value_list, value_dictionary, value_empty, value_bad, value_too_deep}
+use Rattle.tor_bencode.proofs.Integers.{integer_at-cut, integer_at-bad, integer_at-too_large}
+use Rattle.tor_bencode.proofs.IntegersRead.{integer_spelled}
+use Rattle.tor_bencode.proofs.PairLoops.{after_key, key_here}
+use Rattle.tor_bencode.proofs.Values.{value_integer, value_string, value_empty, value_bad, value_too_deep}
 use Rattle.tor_bencode.proofs.Numerals.{digit_range}
-use Rattle.tor_bencode.proofs.ReadBack.{AreRisingAfter, rising_first, last_after, items_at-front, pairs_at-front, value_at-spelling}
 use Rattle.tor_bencode.proofs.Runs.{one_of_two}
-use Rattle.tor_bencode.proofs.Sound.{last_key-is, is_lt_is, rising_push, rising_none}
+use Rattle.tor_bencode.proofs.Sound.{is_lt_is}
 use Rattle.tor_bencode.proofs.Spelled.{base_ten-starts, StartsWithDigit, string-starts}
 use Rattle.tor_bencode.proofs.Strings.{string_at-spelling, string_at-cut, string_at-digits, string_at-bad}
 
-abbrev failed : {A : Type 0} → Fault → List ℕ → Reading A
+abbrev pub failed : {A : Type 0} → Fault → List ℕ → Reading A
 failed fault from = Err (fault, from)
 
 -- what stops the first step stops them all
-stops : {A B : Type 0} (r : Reading A) (f : A × List ℕ → Reading B) (fault : Fault) (from : List ℕ) → r ≡ failed fault from → (r >>= f) ≡ failed fault from
+pub stops : {A B : Type 0} (r : Reading A) (f : A × List ℕ → Reading B) (fault : Fault) (from : List ℕ)
+    → r ≡ failed fault from → (r >>= f) ≡ failed fault from
 stops r f fault from e = ap (λ x. x >>= f) e
 
-tail_of : (c : ℕ) (rest : List ℕ) → take (length (c ∷ rest) - 1) (drop 1 (c ∷ rest)) ≡ rest
+pub tail_of : (c : ℕ) (rest : List ℕ) → take (length (c ∷ rest) - 1) (drop 1 (c ∷ rest)) ≡ rest
 tail_of c rest = take_all _ rest (omega arith)
 
 digit_starts : (bytes : List ℕ) → BeginsWithDigit bytes → StartsWithDigit bytes
@@ -34,7 +35,8 @@ digit_starts bytes h = subst StartsWithDigit (sym h.2) (record { some = omega ar
 
 cut_starts : (bytes : List ℕ) → IsCutString bytes → StartsWithDigit bytes
 cut_starts bytes (inl h) = digit_starts bytes h.0
-cut_starts bytes (inr h) = subst StartsWithDigit (sym (h.2 ∙ append_assoc (base_ten h.0) (58 ∷ []) h.1)) (base_ten-starts h.0 (58 ∷ h.1))
+cut_starts bytes (inr h) =
+    subst StartsWithDigit (sym (h.2 ∙ append_assoc (base_ten h.0) (58 ∷ []) h.1)) (base_ten-starts h.0 (58 ∷ h.1))
 
 string_cut : (bytes : List ℕ) → IsCutString bytes → string_at bytes ≡ failed Truncated []
 string_cut bytes (inl h) = string_at-digits bytes h.1
@@ -44,14 +46,17 @@ string_bad : (bytes : List ℕ) → HasBadLength bytes → string_at bytes ≡ f
 string_bad bytes h = string_at-bad bytes h.1 h.2 h.3 h.4 h.5
 
 -- an `i`, and what stops the integer
-integer_stops : (room : ℕ) (bytes rest : List ℕ) (fault : Fault) (from : List ℕ) → bytes ≡ 105 ∷ rest → integer_at bytes rest ≡ failed fault from → value_at room bytes ≡ failed fault from
+integer_stops : (room : ℕ) (bytes rest : List ℕ) (fault : Fault) (from : List ℕ) → bytes ≡ 105 ∷ rest
+    → integer_at bytes rest ≡ failed fault from → value_at room bytes ≡ failed fault from
 integer_stops room bytes rest fault from is h =
     let some : 0 < length bytes = omega (arith, ap length is) in
     let head : get_or bytes 0 0 ≡ 105 = ap (λ bs. get_or bs 0 0) is in
-    let tail : take (length bytes - 1) (drop 1 bytes) ≡ rest = ap (λ bs. take (length bs - 1) (drop 1 bs)) is ∙ tail_of 105 rest in
+    let tail : take (length bytes - 1) (drop 1 bytes) ≡ rest =
+    ap (λ bs. take (length bs - 1) (drop 1 bs)) is ∙ tail_of 105 rest in
     value_integer room bytes some head ∙ stops _ _ fault from (ap (integer_at bytes) tail ∙ h)
 
-string_stops : (room : ℕ) (bytes : List ℕ) (fault : Fault) (from : List ℕ) → StartsWithDigit bytes → string_at bytes ≡ failed fault from → value_at room bytes ≡ failed fault from
+string_stops : (room : ℕ) (bytes : List ℕ) (fault : Fault) (from : List ℕ) → StartsWithDigit bytes
+    → string_at bytes ≡ failed fault from → value_at room bytes ≡ failed fault from
 string_stops room bytes fault from starts h = value_string room bytes starts.some starts.digit ∙ stops _ _ fault from h
 
 unequal : (c n : ℕ) → c ≢ n → (c == n) ≡ false
@@ -60,21 +65,33 @@ unequal c n h = one_of_two (c == n) (λ e. h (grind (arith, nat_tests)))
 ends_at : {A : Type 0} (fault : Fault) (x y : List ℕ) → y ≡ x → failed {A = A} fault x ≡ failed fault y
 ends_at fault x y e = ap (failed fault) (sym e)
 
-bad_value_read : (room : ℕ) (bytes : List ℕ) (fault : Fault) (from : List ℕ) → IsBadValue room bytes fault from → value_at room bytes ≡ failed fault from
-bad_value_read room bytes Truncated from (inl e, at) = ap (value_at room) e ∙ value_empty room ∙ ends_at Truncated [] from at
-bad_value_read room bytes Truncated from (inr (inl h), at) = integer_stops room bytes h.0 Truncated [] h.1 (integer_at-cut bytes h.0 h.2) ∙ ends_at Truncated [] from at
-bad_value_read room bytes Truncated from (inr (inr h), at) = string_stops room bytes Truncated [] (cut_starts bytes h) (string_cut bytes h) ∙ ends_at Truncated [] from at
+pub bad_value_read : (room : ℕ) (bytes : List ℕ) (fault : Fault) (from : List ℕ) → IsBadValue room bytes fault from
+    → value_at room bytes ≡ failed fault from
+bad_value_read room bytes Truncated from (inl e, at) =
+    ap (value_at room) e ∙ value_empty room ∙ ends_at Truncated [] from at
+bad_value_read room bytes Truncated from (inr (inl h), at) =
+    integer_stops room bytes h.0 Truncated [] h.1 (integer_at-cut bytes h.0 h.2) ∙ ends_at Truncated [] from at
+bad_value_read room bytes Truncated from (inr (inr h), at) =
+    string_stops room bytes Truncated [] (cut_starts bytes h) (string_cut bytes h) ∙ ends_at Truncated [] from at
 bad_value_read room bytes BadByte from (h, at) =
-    ap (value_at room) h.2 ∙ value_bad room h.0 h.1 (one_of_two _ h.3) (unequal h.0 105 h.4) (unequal h.0 108 h.5) (unequal h.0 100 h.6)
+    ap (value_at room) h.2
+    ∙ value_bad room h.0 h.1 (one_of_two _ h.3) (unequal h.0 105 h.4) (unequal h.0 108 h.5) (unequal h.0 100 h.6)
     ∙ ends_at BadByte (h.0 ∷ h.1) from (at ∙ h.2)
-bad_value_read room bytes BadInteger from (h, at) = integer_stops room bytes h.0 BadInteger bytes h.4 (integer_at-bad bytes h.0 h.1 h.2 h.3 h.5 h.6) ∙ ends_at BadInteger bytes from at
+bad_value_read room bytes BadInteger from (h, at) =
+    integer_stops room bytes h.0 BadInteger bytes h.4 (integer_at-bad bytes h.0 h.1 h.2 h.3 h.5 h.6)
+    ∙ ends_at BadInteger bytes from at
 bad_value_read room bytes IntegerRange from (h, at) =
-    integer_stops room bytes (signed_base_ten h.0 ++ 101 ∷ h.1) IntegerRange bytes (h.2 ∙ integer_spelled h.0 h.1) (integer_at-too_large bytes h.0 h.1 h.3) ∙ ends_at IntegerRange bytes from at
-bad_value_read room bytes BadLength from (h, at) = string_stops room bytes BadLength bytes (digit_starts bytes h.0) (string_bad bytes h) ∙ ends_at BadLength bytes from at
+    integer_stops room bytes (signed_base_ten h.0 ++ 101 ∷ h.1) IntegerRange bytes (h.2 ∙ integer_spelled h.0 h.1)
+    (integer_at-too_large bytes h.0 h.1 h.3) ∙ ends_at IntegerRange bytes from at
+bad_value_read room bytes BadLength from (h, at) =
+    string_stops room bytes BadLength bytes (digit_starts bytes h.0) (string_bad bytes h)
+    ∙ ends_at BadLength bytes from at
 bad_value_read room bytes TooDeep from (none, inl b, at) =
-    value_too_deep room bytes none (omega (arith, ap length b.1)) (inl (ap (λ bs. get_or bs 0 0) b.1)) ∙ ends_at TooDeep bytes from at
+    value_too_deep room bytes none (omega (arith, ap length b.1)) (inl (ap (λ bs. get_or bs 0 0) b.1))
+    ∙ ends_at TooDeep bytes from at
 bad_value_read room bytes TooDeep from (none, inr b, at) =
-    value_too_deep room bytes none (omega (arith, ap length b.1)) (inr (ap (λ bs. get_or bs 0 0) b.1)) ∙ ends_at TooDeep bytes from at
+    value_too_deep room bytes none (omega (arith, ap length b.1)) (inr (ap (λ bs. get_or bs 0 0) b.1))
+    ∙ ends_at TooDeep bytes from at
 bad_value_read room bytes KeyNotBytes from h = absurd h
 bad_value_read room bytes KeyOrder from h = absurd h
 bad_value_read room bytes Trailing from h = absurd h
@@ -82,11 +99,13 @@ bad_value_read room bytes Trailing from h = absurd h
 failure_is : (x y : Fault × List ℕ) (r : Reading Data) → r ≡ Err x → r ≡ Err y → x ≡ y
 failure_is x y r e f = cc
 
-one_failure : (r : Reading Data) (fault : Fault) (from : List ℕ) → r ≡ failed Truncated [] → r ≡ failed fault from → failed {A = Items} Truncated [] ≡ failed fault from
+one_failure : (r : Reading Data) (fault : Fault) (from : List ℕ) → r ≡ failed Truncated [] → r ≡ failed fault from
+    → failed {A = Items} Truncated [] ≡ failed fault from
 one_failure r fault from e f = ap (λ x. Err x) (failure_is (Truncated, []) (fault, from) r e f)
 
 -- what stops an item stops the list
-pub items_stopped : (read : List ℕ → Reading Data) (fuel : ℕ) (bytes : List ℕ) (fault : Fault) (from : List ℕ) → read [] ≡ failed Truncated [] → ¬ Begins 101 bytes → length bytes ≤ fuel
+pub items_stopped : (read : List ℕ → Reading Data) (fuel : ℕ) (bytes : List ℕ) (fault : Fault) (from : List ℕ)
+    → read [] ≡ failed Truncated [] → ¬ Begins 101 bytes → length bytes ≤ fuel
     → read bytes ≡ failed fault from → items_at read fuel bytes ≡ failed fault from
 items_stopped read zero [] fault from empty no_end enough h = one_failure (read []) fault from empty h
 items_stopped read zero (c ∷ rest) fault from empty no_end enough h = absurd (omega arith)
@@ -95,11 +114,13 @@ items_stopped read (suc fuel) (c ∷ rest) fault from empty no_end enough h =
     let other : (c == 101) ≡ false = unequal c 101 (λ e. no_end (rest, ap (λ x. x ∷ rest) e)) in
     rw (other, h) refl
 
-pairs_empty : (read : List ℕ → Reading Data) (fuel : ℕ) (last : Option (List ℕ)) → pairs_at read fuel last [] ≡ failed Truncated []
+pairs_empty : (read : List ℕ → Reading Data) (fuel : ℕ) (last : Option (List ℕ))
+    → pairs_at read fuel last [] ≡ failed Truncated []
 pairs_empty read zero last = refl
 pairs_empty read (suc fuel) last = refl
 
-not_bytes : (read : List ℕ → Reading Data) (fuel : ℕ) (last : Option (List ℕ)) (c : ℕ) (rest : List ℕ) → length (c ∷ rest) ≤ fuel → (c == 101) ≡ false → is_ascii_digit c ≡ false
+not_bytes : (read : List ℕ → Reading Data) (fuel : ℕ) (last : Option (List ℕ)) (c : ℕ) (rest : List ℕ)
+    → length (c ∷ rest) ≤ fuel → (c == 101) ≡ false → is_ascii_digit c ≡ false
     → pairs_at read fuel last (c ∷ rest) ≡ failed KeyNotBytes (c ∷ rest)
 not_bytes read zero last c rest enough other none = absurd (omega arith)
 not_bytes read (suc fuel) last c rest enough other none = rw (other, none) refl
@@ -115,92 +136,36 @@ not_following : (last : Option (List ℕ)) (key : List ℕ) → IsOutOfOrder las
 not_following None key h = absurd h
 not_following (Some last) key h = one_of_two _ (λ e. h (is_lt_is _ e))
 
-order_stopped : (read : List ℕ → Reading Data) (fuel : ℕ) (last : Option (List ℕ)) (bytes key rest : List ℕ) → bytes ≡ string_spelling key ++ rest → length bytes ≤ fuel → IsOutOfOrder last key
+order_stopped : (read : List ℕ → Reading Data) (fuel : ℕ) (last : Option (List ℕ)) (bytes key rest : List ℕ)
+    → bytes ≡ string_spelling key ++ rest → length bytes ≤ fuel → IsOutOfOrder last key
     → pairs_at read fuel last bytes ≡ failed KeyOrder bytes
 order_stopped read fuel last bytes key rest is enough out =
     let starts = subst StartsWithDigit (sym is) (string-starts key rest) in
     let range = digit_range (get_or bytes 0 0) starts.digit in
     let k = key_here read fuel last bytes starts.some range.0 range.1 enough in
     let named : string_at bytes ≡ Ok (key, rest) = ap string_at is ∙ string_at-spelling key rest in
-    let refused : after_key read k.0 last bytes (key, rest) ≡ failed KeyOrder bytes = rw (not_following last key out) refl in
+    let refused : after_key read k.0 last bytes (key, rest) ≡ failed KeyOrder bytes =
+    rw (not_following last key out) refl in
     k.2 ∙ ap (λ (r : Reading (List ℕ)). r >>= after_key read k.0 last bytes) named ∙ refused
 
-bad_key_read : (read : List ℕ → Reading Data) (fuel : ℕ) (last : Option (List ℕ)) (bytes : List ℕ) (fault : Fault) (from : List ℕ) → length bytes ≤ fuel → IsBadKey last bytes fault from
+pub bad_key_read : (read : List ℕ → Reading Data) (fuel : ℕ) (last : Option (List ℕ)) (bytes : List ℕ) (fault : Fault) (from : List ℕ) → length bytes ≤ fuel → IsBadKey last bytes fault from
     → pairs_at read fuel last bytes ≡ failed fault from
-bad_key_read read fuel last bytes Truncated from enough (inl e, at) = ap (pairs_at read fuel last) e ∙ pairs_empty read fuel last ∙ ends_at Truncated [] from at
-bad_key_read read fuel last bytes Truncated from enough (inr h, at) = key_stopped read fuel last bytes Truncated [] (cut_starts bytes h) enough (string_cut bytes h) ∙ ends_at Truncated [] from at
-bad_key_read read fuel last bytes BadLength from enough (h, at) = key_stopped read fuel last bytes BadLength bytes (digit_starts bytes h.0) enough (string_bad bytes h) ∙ ends_at BadLength bytes from at
+bad_key_read read fuel last bytes Truncated from enough (inl e, at) =
+    ap (pairs_at read fuel last) e ∙ pairs_empty read fuel last ∙ ends_at Truncated [] from at
+bad_key_read read fuel last bytes Truncated from enough (inr h, at) =
+    key_stopped read fuel last bytes Truncated [] (cut_starts bytes h) enough (string_cut bytes h)
+    ∙ ends_at Truncated [] from at
+bad_key_read read fuel last bytes BadLength from enough (h, at) =
+    key_stopped read fuel last bytes BadLength bytes (digit_starts bytes h.0) enough (string_bad bytes h)
+    ∙ ends_at BadLength bytes from at
 bad_key_read read fuel last bytes KeyNotBytes from enough h =
-    ap (pairs_at read fuel last) h.2 ∙ not_bytes read fuel last h.0 h.1 (omega (arith, ap length h.2)) (unequal h.0 101 h.4) (one_of_two _ h.3) ∙ ends_at KeyNotBytes (h.0 ∷ h.1) from (h.5 ∙ h.2)
-bad_key_read read fuel last bytes KeyOrder from enough h = order_stopped read fuel last bytes h.0 h.1 h.2 enough h.3 ∙ ends_at KeyOrder bytes from h.4
+    ap (pairs_at read fuel last) h.2
+    ∙ not_bytes read fuel last h.0 h.1 (omega (arith, ap length h.2)) (unequal h.0 101 h.4) (one_of_two _ h.3)
+    ∙ ends_at KeyNotBytes (h.0 ∷ h.1) from (h.5 ∙ h.2)
+bad_key_read read fuel last bytes KeyOrder from enough h =
+    order_stopped read fuel last bytes h.0 h.1 h.2 enough h.3 ∙ ends_at KeyOrder bytes from h.4
 bad_key_read read fuel last bytes BadByte from enough h = absurd h
 bad_key_read read fuel last bytes BadInteger from enough h = absurd h
 bad_key_read read fuel last bytes IntegerRange from enough h = absurd h
 bad_key_read read fuel last bytes TooDeep from enough h = absurd h
 bad_key_read read fuel last bytes Trailing from enough h = absurd h
-
--- what stops the value of a key stops the pairs
-pair_stopped : (read : List ℕ → Reading Data) (fuel : ℕ) (last : Option (List ℕ)) (bytes key rest : List ℕ) (fault : Fault) (from : List ℕ) → bytes ≡ string_spelling key ++ rest → length bytes ≤ fuel
-    → follows last key ≡ true → read rest ≡ failed fault from → pairs_at read fuel last bytes ≡ failed fault from
-pair_stopped read fuel last bytes key rest fault from is enough order h =
-    let starts = subst StartsWithDigit (sym is) (string-starts key rest) in
-    let range = digit_range (get_or bytes 0 0) starts.digit in
-    let k = key_here read fuel last bytes starts.some range.0 range.1 enough in
-    let named : string_at bytes ≡ Ok (key, rest) = ap string_at is ∙ string_at-spelling key rest in
-    let refused : after_key read k.0 last bytes (key, rest) ≡ failed fault from = rw (order, h) refl in
-    k.2 ∙ ap (λ (r : Reading (List ℕ)). r >>= after_key read k.0 last bytes) named ∙ refused
-
-rising_last : (last : Option (List ℕ)) (pairs : Pairs) (key : List ℕ) → AreRisingAfter last (keys_of pairs ++ key ∷ []) → AreRisingAfter last (keys_of pairs) × (follows (last_after last pairs) key ≡ true)
-rising_last last no_pairs key h = (rising_none last, (rising_first last key [] h).0)
-rising_last last (pair k d pairs) key h =
-    let first = rising_first last k (keys_of pairs ++ key ∷ []) h in
-    let later = rising_last (Some k) pairs key first.1 in
-    (rising_push last k (keys_of pairs) first.0 later.0, later.1)
-
-list_stopped : (room : ℕ) (bytes inside : List ℕ) (fault : Fault) (from : List ℕ) → bytes ≡ 108 ∷ inside → items_at (value_at room) (length inside) inside ≡ failed fault from → value_at (suc room) bytes ≡ failed fault from
-list_stopped room bytes inside fault from is h =
-    let same : suc room - 1 ≡ room = omega arith in
-    ap (value_at (suc room)) is ∙ value_list (suc room) (108 ∷ inside) (omega arith) (omega arith) refl
-    ∙ stops _ _ fault from (ap₂ (λ n bs. items_at (value_at n) (length bs) bs) same (tail_of 108 inside) ∙ h)
-
-dictionary_stopped : (room : ℕ) (bytes inside : List ℕ) (fault : Fault) (from : List ℕ) → bytes ≡ 100 ∷ inside → pairs_at (value_at room) (length inside) None inside ≡ failed fault from → value_at (suc room) bytes ≡ failed fault from
-dictionary_stopped room bytes inside fault from is h =
-    let same : suc room - 1 ≡ room = omega arith in
-    ap (value_at (suc room)) is ∙ value_dictionary (suc room) (100 ∷ inside) (omega arith) (omega arith) refl
-    ∙ stops _ _ fault from (ap₂ (λ n bs. pairs_at (value_at n) (length bs) None bs) same (tail_of 100 inside) ∙ h)
-
--- after lawful pairs
-pairs_stopped : (room : ℕ) (pairs : Pairs) (rest : List ℕ) (fault : Fault) (from : List ℕ) → PairsAreLawfulWithin room pairs → AreRising (keys_of pairs)
-    → ((less : ℕ) → length rest ≤ less → pairs_at (value_at room) less (last_after None pairs) rest ≡ failed fault from)
-    → pairs_at (value_at room) (length (pairs_spelling pairs ++ rest)) None (pairs_spelling pairs ++ rest) ≡ failed fault from
-pairs_stopped room pairs rest fault from lawful rising stopped =
-    let inside = pairs_spelling pairs ++ rest in
-    let read = pairs_at-front pairs room no_pairs None rest (length inside) (with_pairs no_pairs (pairs_at (value_at room) (length inside) None inside)) lawful rising (omega arith) refl in
-    sym (sym (ap (with_pairs pairs) (stopped read.0 read.1)) ∙ read.2 ∙ with_no_pairs _)
-
-fault_read : (room : ℕ) (bytes : List ℕ) (fault : Fault) (from : List ℕ) → IsFaultIn room bytes fault from → value_at room bytes ≡ failed fault from
-fault_read room bytes fault from (at_value h) = bad_value_read room bytes fault from h
-fault_read (suc room) bytes fault from (in_list items rest is lawful no_end inner) =
-    let inside = items_spelling items ++ rest in
-    let read = items_at-front items room no_items rest (length inside) (with_items no_items (items_at (value_at room) (length inside) inside)) lawful (omega arith) refl in
-    let stopped = items_stopped (value_at room) read.0 rest fault from (value_empty room) no_end read.1 (fault_read room rest fault from inner) in
-    list_stopped room bytes inside fault from is (sym (sym (ap (with_items items) stopped) ∙ read.2 ∙ with_no_items _))
-fault_read (suc room) bytes fault from (at_key pairs rest is rising lawful bad) =
-    dictionary_stopped room bytes (pairs_spelling pairs ++ rest) fault from is
-    (pairs_stopped room pairs rest fault from lawful rising (λ less enough. bad_key_read (value_at room) less (last_after None pairs) rest fault from enough (subst (λ o. IsBadKey o rest fault from) (sym (last_key-is pairs)) bad)))
-fault_read (suc room) bytes fault from (in_pair pairs key rest is rising lawful inner) =
-    let order = rising_last None pairs key rising in
-    dictionary_stopped room bytes (pairs_spelling pairs ++ (string_spelling key ++ rest)) fault from (is ∙ ap (λ bs. 100 ∷ bs) (append_assoc (pairs_spelling pairs) (string_spelling key) rest))
-    (pairs_stopped room pairs (string_spelling key ++ rest) fault from lawful order.0 (λ less enough. pair_stopped (value_at room) less (last_after None pairs) (string_spelling key ++ rest) key rest fault from refl enough order.1 (fault_read room rest fault from inner)))
-
-last_more : (d : Data) (from : List ℕ) → 0 < length from → last_of (d, from) ≡ Err (Trailing, from)
-last_more d [] more = absurd (omega arith)
-last_more d (c ∷ rest) more = refl
-
--- bytes with a fault are refused with it
-pub refused_read : (bytes : List ℕ) (fault : Fault) (from : List ℕ) → (IsFaultIn 100 bytes fault from ⊎ IsTrailing bytes fault from) → whole bytes ≡ Err (fault, from)
-unfolding whole
-refused_read bytes fault from (inl h) = ap (λ (r : Reading Data). r >>= last_of) (fault_read 100 bytes fault from h)
-refused_read bytes fault from (inr h) =
-    ap (λ (r : Reading Data). r >>= last_of) (ap (value_at 100) h.whole ∙ value_at-spelling h.tree 100 from h.lawful)
-    ∙ last_more h.tree from h.more ∙ ap (λ f. Err (f, from)) (sym h.code)

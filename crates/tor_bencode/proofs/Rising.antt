@@ -21,7 +21,8 @@ pub KeysRise-from : (pairs : List Pair) (j i : ℕ) (d e : Pair) (first second :
 KeysRise-from pairs j i d e first second is within first_is second_is =
     let next : drop i pairs ≡ get_or pairs i e ∷ drop (i + 1) pairs = drop_more pairs i e within in
     let here : drop j pairs ≡ get_or pairs j d ∷ get_or pairs i e ∷ drop (i + 1) pairs =
-    drop_more pairs j d (omega arith) ∙ ap (λ n. get_or pairs j d ∷ drop n pairs) (sym is) ∙ ap (λ rest. get_or pairs j d ∷ rest) next in (
+    drop_more pairs j d (omega arith) ∙ ap (λ n. get_or pairs j d ∷ drop n pairs) (sym is)
+    ∙ ap (λ rest. get_or pairs j d ∷ rest) next in (
       λ h. let rising = subst KeysRise here h in (rw (first_is, second_is) rising.0, subst KeysRise (sym next) rising.1),
       λ h. let order = rw (first_is, second_is) at h.0 in subst KeysRise (sym here) (order, subst KeysRise next h.1),
     )

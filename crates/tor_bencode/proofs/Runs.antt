@@ -18,7 +18,8 @@ pub both_true : (a b : Bool) → a ≡ true → b ≡ true → cond a b false �
 both_true a b e f = rw (e, f) refl
 
 -- a run, and the byte after it that does not pass
-pub prefix_len-run : (p : ℕ → Bool) (run : List ℕ) (c : ℕ) (more : List ℕ) → list_all p run ≡ true → p c ≡ false → prefix_len p (run ++ c ∷ more) ≡ length run
+pub prefix_len-run : (p : ℕ → Bool) (run : List ℕ) (c : ℕ) (more : List ℕ) → list_all p run ≡ true → p c ≡ false
+    → prefix_len p (run ++ c ∷ more) ≡ length run
 prefix_len-run p [] c more all stop = rw stop refl
 prefix_len-run p (x ∷ run) c more all stop =
     let both = and_parts (p x) (list_all p run) all in
@@ -30,7 +31,8 @@ prefix_len-all p (x ∷ run) all =
     let both = and_parts (p x) (list_all p run) all in
     rw both.0 (omega (arith, prefix_len-all p run both.1))
 
-passes_at : (p : ℕ → Bool) (x : ℕ) (xs : List ℕ) (b : Bool) → p x ≡ b → list_all p (take (prefix_len p xs) xs) ≡ true → list_all p (take (prefix_len p (x ∷ xs)) (x ∷ xs)) ≡ true
+passes_at : (p : ℕ → Bool) (x : ℕ) (xs : List ℕ) (b : Bool) → p x ≡ b → list_all p (take (prefix_len p xs) xs) ≡ true
+    → list_all p (take (prefix_len p (x ∷ xs)) (x ∷ xs)) ≡ true
 passes_at p x xs true e later = rw (e, one-add) (rw e later)
 passes_at p x xs false e later = rw e refl
 
@@ -38,15 +40,19 @@ pub run_passes : (p : ℕ → Bool) (xs : List ℕ) → list_all p (take (prefix
 run_passes p [] = refl
 run_passes p (x ∷ xs) = passes_at p x xs (p x) refl (run_passes p xs)
 
-stops_at : (p : ℕ → Bool) (x : ℕ) (xs : List ℕ) (c : ℕ) (more : List ℕ) (b : Bool) → p x ≡ b → drop (prefix_len p (x ∷ xs)) (x ∷ xs) ≡ c ∷ more
+stops_at : (p : ℕ → Bool) (x : ℕ) (xs : List ℕ) (c : ℕ) (more : List ℕ) (b : Bool) → p x ≡ b
+    → drop (prefix_len p (x ∷ xs)) (x ∷ xs) ≡ c ∷ more
     → (drop (prefix_len p xs) xs ≡ c ∷ more → p c ≡ false) → p c ≡ false
 stops_at p x xs c more true f e later = later (rw (f, one-add) at e)
-stops_at p x xs c more false f e later = let same : x ∷ xs ≡ c ∷ more = rw f at e in let head : x ≡ c = cc in ap p (sym head) ∙ f
+stops_at p x xs c more false f e later =
+    let same : x ∷ xs ≡ c ∷ more = rw f at e in let head : x ≡ c = cc in ap p (sym head) ∙ f
 
-pub run_stops : (p : ℕ → Bool) (xs : List ℕ) (c : ℕ) (more : List ℕ) → drop (prefix_len p xs) xs ≡ c ∷ more → p c ≡ false
+pub run_stops : (p : ℕ → Bool) (xs : List ℕ) (c : ℕ) (more : List ℕ) → drop (prefix_len p xs) xs ≡ c ∷ more
+    → p c ≡ false
 run_stops p [] c more e = absurd cc
 run_stops p (x ∷ xs) c more e = stops_at p x xs c more (p x) refl e (run_stops p xs c more)
 
 -- the run and what comes after it are all of the bytes
-pub run_whole : (p : ℕ → Bool) (xs after : List ℕ) → drop (prefix_len p xs) xs ≡ after → xs ≡ take (prefix_len p xs) xs ++ after
+pub run_whole : (p : ℕ → Bool) (xs after : List ℕ) → drop (prefix_len p xs) xs ≡ after
+    → xs ≡ take (prefix_len p xs) xs ++ after
 run_whole p xs after e = sym (take-append-drop (prefix_len p xs) xs) ∙ ap (λ ys. take (prefix_len p xs) xs ++ ys) e

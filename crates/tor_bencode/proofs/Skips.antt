@@ -1,66 +1,76 @@
 -- What follows a value, and what follows values up to their end.
-use Rattle.std.proofs.Common.{◌≡◌, ◌≢◌, ℕ, ◌+◌, ◌-◌, ◌≤◌, ◌<◌, List, [], ◌∷◌, ◌++◌, length, get_or, take, drop, true, false, ◌==◌, Some, None, Ok, Err, refl, sym, ap, ap₂, ◌∙◌, subst, append_assoc, arith, inl, inr, ◌⊎◌}
+use Rattle.std.proofs.Common.{◌≡◌, ◌≢◌, ℕ, ◌-◌, ◌≤◌, ◌<◌, List, [], ◌∷◌, ◌++◌, length, get_or, take, drop, true, ◌==◌, Ok, Err, refl, sym, ap, ◌∙◌, subst, append_assoc, arith, inl, inr, ◌⊎◌}
 use Rattle.std.specs.Char.{is_ascii_digit}
-use Rattle.std.specs.Str.{bytes_eq}
 use Rattle.std.proofs.lemmas.Bool.{true≢false, cases_Bool}
 use Rattle.std.proofs.lemmas.Bool.Decides.{nat_tests}
-use Rattle.std.proofs.lemmas.List.{take_all, append-nil, length-append}
+use Rattle.std.proofs.lemmas.List.{take_all}
 use Rattle.tor_bencode.specs.Data.{Data, integer, string, list, dictionary, Items, no_items, item, Pairs, no_pairs, pair}
 use Rattle.tor_bencode.specs.Lawful.{IsLawfulWithin, ItemsAreLawfulWithin, PairsAreLawfulWithin}
-use Rattle.tor_bencode.specs.Place.{place_in, place_of}
 use Rattle.tor_bencode.specs.steps.Reading.{◌>>=◌, Reading, Stops, string_at, integer_at, value_at}
 use Rattle.tor_bencode.specs.Spelling.{spelling, string_spelling, items_spelling, pairs_spelling}
 use Rattle.tor_bencode.specs.declared.fault.Fault.{Fault}
-use Rattle.tor_bencode.specs.declared.fault.Fault.TheVariants.{BadLength}
 use Rattle.tor_bencode.specs.declared.stop.Stop.{Stop}
 use Rattle.tor_bencode.specs.declared.stop.Stop.TheVariants as stops
 use Rattle.tor_bencode.proofs.Lawfulness.{lawful-string, lawful-list, lawful-dictionary, lawful-item, lawful-pair, lawful-no_items}
-use Rattle.tor_bencode.proofs.Loops.{value_integer, value_string, value_too_deep}
+use Rattle.tor_bencode.proofs.Values.{value_integer, value_string, value_too_deep}
 use Rattle.tor_bencode.proofs.Numerals.{digit_range}
 use Rattle.tor_bencode.proofs.ReadBack.{value_at-spelling}
-use Rattle.tor_bencode.proofs.Spelled.{StartsWithDigit, string-starts, spelling-starts, pair_spelled}
-use Rattle.tor_bencode.proofs.Strings.{string_at-spelling}
+use Rattle.tor_bencode.proofs.Spelled.{StartsWithDigit, string-starts, spelling-starts}
 
 abbrev ok : {A : Type 0} → A × List ℕ → Reading A
 ok x = Ok x
 
-read_is : {A : Type 0} (x y : A × List ℕ) (r : Reading A) → r ≡ Ok x → r ≡ Ok y → x ≡ y
+pub read_is : {A : Type 0} (x y : A × List ℕ) (r : Reading A) → r ≡ Ok x → r ≡ Ok y → x ≡ y
 read_is x y r e f = cc
 
-not_both : {A : Type 0} (x : A × List ℕ) (y : Fault × List ℕ) (r : Reading A) → r ≡ Ok x → r ≡ Err y → ⊥
+pub not_both : {A : Type 0} (x : A × List ℕ) (y : Fault × List ℕ) (r : Reading A) → r ≡ Ok x → r ≡ Err y → ⊥
 not_both x y r e f = cc
 
 -- a reader that stops at a fault did not read
-no_stop : {A : Type 0} (stop : Stop) (r : Reading A) (x : A × List ℕ) → stop ≢ stops.Memory → Stops stop r → r ≡ Ok x → ⊥
+pub no_stop : {A : Type 0} (stop : Stop) (r : Reading A) (x : A × List ℕ) → stop ≢ stops.Memory → Stops stop r
+    → r ≡ Ok x
+    → ⊥
 no_stop stops.Memory r x other h e = other refl
 no_stop (stops.At fault at) r x other h e = not_both x (fault, at.now) r e h
 
-bound : {A B : Type 0} (r : Reading A) (f : A × List ℕ → Reading B) (x : B × List ℕ) → (r >>= f) ≡ Ok x → (y : A × List ℕ) × (r ≡ Ok y)
+bound : {A B : Type 0} (r : Reading A) (f : A × List ℕ → Reading B) (x : B × List ℕ) → (r >>= f) ≡ Ok x
+    → (y : A × List ℕ) × (r ≡ Ok y)
 bound (Ok y) f x e = (y, refl)
 bound (Err y) f x e = absurd cc
 
 module _ (d : Data) (room : ℕ) (bytes after : List ℕ) (lawful : IsLawfulWithin room d) (is : bytes ≡ spelling d ++ after) where
-  read : value_at room bytes ≡ Ok (d, after)
+  pub read : value_at room bytes ≡ Ok (d, after)
   read = ap (value_at room) is ∙ value_at-spelling d room after lawful
 
-  pub skip_integer : (some : 0 < length bytes) (head : get_or bytes 0 0 ≡ 105) (x : _ × List ℕ) → integer_at bytes (take (length bytes - 1) (drop 1 bytes)) ≡ Ok x → x.1 ≡ after
+  pub skip_integer : (some : 0 < length bytes) (head : get_or bytes 0 0 ≡ 105) (x : _ × List ℕ)
+      → integer_at bytes (take (length bytes - 1) (drop 1 bytes)) ≡ Ok x → x.1 ≡ after
   skip_integer some head x e =
-      ap (λ p. p.1) (read_is (integer x.0, x.1) (d, after) (value_at room bytes) (value_integer room bytes some head ∙ ap (λ r. r >>= λ n. Ok (integer n.0, n.1)) e) read)
+      ap (λ p. p.1)
+      (read_is (integer x.0, x.1) (d, after) (value_at room bytes) (value_integer room bytes some head ∙ ap (λ r. r >>= λ n. Ok (integer n.0, n.1)) e) read)
 
-  pub skip_no_integer : (some : 0 < length bytes) (head : get_or bytes 0 0 ≡ 105) (stop : Stop) → stop ≢ stops.Memory → Stops stop (integer_at bytes (take (length bytes - 1) (drop 1 bytes))) → ⊥
+  pub skip_no_integer : (some : 0 < length bytes) (head : get_or bytes 0 0 ≡ 105) (stop : Stop) → stop ≢ stops.Memory
+      → Stops stop (integer_at bytes (take (length bytes - 1) (drop 1 bytes))) → ⊥
   skip_no_integer some head stop other h =
-      let y = bound (integer_at bytes (take (length bytes - 1) (drop 1 bytes))) _ (d, after) (sym (value_integer room bytes some head) ∙ read) in no_stop stop _ y.0 other h y.1
+      let y =
+      bound (integer_at bytes (take (length bytes - 1) (drop 1 bytes))) _ (d, after)
+      (sym (value_integer room bytes some head) ∙ read) in no_stop stop _ y.0 other h y.1
 
-  pub skip_string : (some : 0 < length bytes) (digit : is_ascii_digit (get_or bytes 0 0) ≡ true) (x : List ℕ × List ℕ) → string_at bytes ≡ Ok x → x.1 ≡ after
+  pub skip_string : (some : 0 < length bytes) (digit : is_ascii_digit (get_or bytes 0 0) ≡ true) (x : List ℕ × List ℕ)
+      → string_at bytes ≡ Ok x → x.1 ≡ after
   skip_string some digit x e =
-      ap (λ p. p.1) (read_is (string x.0, x.1) (d, after) (value_at room bytes) (value_string room bytes some digit ∙ ap (λ r. r >>= λ n. Ok (string n.0, n.1)) e) read)
+      ap (λ p. p.1)
+      (read_is (string x.0, x.1) (d, after) (value_at room bytes) (value_string room bytes some digit ∙ ap (λ r. r >>= λ n. Ok (string n.0, n.1)) e) read)
 
-  pub skip_no_string : (some : 0 < length bytes) (digit : is_ascii_digit (get_or bytes 0 0) ≡ true) (stop : Stop) → stop ≢ stops.Memory → Stops stop (string_at bytes) → ⊥
+  pub skip_no_string : (some : 0 < length bytes) (digit : is_ascii_digit (get_or bytes 0 0) ≡ true) (stop : Stop)
+      → stop ≢ stops.Memory → Stops stop (string_at bytes) → ⊥
   skip_no_string some digit stop other h =
-      let y = bound (string_at bytes) _ (d, after) (sym (value_string room bytes some digit) ∙ read) in no_stop stop _ y.0 other h y.1
+      let y =
+      bound (string_at bytes) _ (d, after)
+      (sym (value_string room bytes some digit) ∙ read) in no_stop stop _ y.0 other h y.1
 
   pub skip_too_deep : room ≡ 0 → (some : 0 < length bytes) → ((get_or bytes 0 0 ≡ 108) ⊎ (get_or bytes 0 0 ≡ 100)) → ⊥
-  skip_too_deep none some head = not_both (d, after) _ (value_at room bytes) read (value_too_deep room bytes none some head)
+  skip_too_deep none some head =
+      not_both (d, after) _ (value_at room bytes) read (value_too_deep room bytes none some head)
 
 -- the keys of pairs are values too
 abbrev pub as_items : Pairs → Items
@@ -69,35 +79,44 @@ as_items (pair key d pairs) = item (string key) (item d (as_items pairs))
 
 as_items-spelling : (pairs : Pairs) → pairs_spelling pairs ≡ items_spelling (as_items pairs)
 as_items-spelling no_pairs = refl
-as_items-spelling (pair key d pairs) = append_assoc (string_spelling key) (spelling d) (pairs_spelling pairs) ∙ ap (λ bs. string_spelling key ++ (spelling d ++ bs)) (as_items-spelling pairs)
+as_items-spelling (pair key d pairs) =
+    append_assoc (string_spelling key) (spelling d) (pairs_spelling pairs)
+    ∙ ap (λ bs. string_spelling key ++ (spelling d ++ bs)) (as_items-spelling pairs)
 
-as_items-lawful : (room : ℕ) (pairs : Pairs) → PairsAreLawfulWithin room pairs → ItemsAreLawfulWithin room (as_items pairs)
+as_items-lawful : (room : ℕ) (pairs : Pairs) → PairsAreLawfulWithin room pairs
+    → ItemsAreLawfulWithin room (as_items pairs)
 as_items-lawful room no_pairs lawful = lawful-no_items room
 as_items-lawful room (pair key d pairs) lawful =
     let parts = (lawful-pair room key d pairs).0 lawful in
-    (lawful-item room (string key) (item d (as_items pairs))).1 (lawful-string room key, (lawful-item room d (as_items pairs)).1 (parts.0, as_items-lawful room pairs parts.1))
+    (lawful-item room (string key) (item d (as_items pairs))).1
+    (lawful-string room key, (lawful-item room d (as_items pairs)).1 (parts.0, as_items-lawful room pairs parts.1))
 
 tail : List ℕ → List ℕ
 tail bytes = take (length bytes - 1) (drop 1 bytes)
 
-tail-is : (bytes : List ℕ) (c : ℕ) (rest : List ℕ) → bytes ≡ c ∷ rest → take (length bytes - 1) (drop 1 bytes) ≡ rest
+pub tail-is : (bytes : List ℕ) (c : ℕ) (rest : List ℕ) → bytes ≡ c ∷ rest
+    → take (length bytes - 1) (drop 1 bytes) ≡ rest
 tail-is bytes c rest is = ap (λ bs. take (length bs - 1) (drop 1 bs)) is ∙ take_all _ rest (omega arith)
 
-head-is : (bytes : List ℕ) (c : ℕ) (rest : List ℕ) → bytes ≡ c ∷ rest → get_or bytes 0 0 ≡ c
+pub head-is : (bytes : List ℕ) (c : ℕ) (rest : List ℕ) → bytes ≡ c ∷ rest → get_or bytes 0 0 ≡ c
 head-is bytes c rest is = ap (λ bs. get_or bs 0 0) is
 
-string_head : (s bytes after : List ℕ) (n : ℕ) → bytes ≡ string_spelling s ++ after → 57 < n → get_or bytes 0 0 ≡ n → ⊥
+pub string_head : (s bytes after : List ℕ) (n : ℕ) → bytes ≡ string_spelling s ++ after → 57 < n
+    → get_or bytes 0 0 ≡ n → ⊥
 string_head s bytes after n is above head =
     let starts = subst StartsWithDigit (sym is) (string-starts s after) in
     let range = digit_range (get_or bytes 0 0) starts.digit in absurd (omega arith)
 
 -- what is open holds values up to its end
-pub opened_values : (d : Data) (room : ℕ) (bytes after : List ℕ) → IsLawfulWithin room d → bytes ≡ spelling d ++ after → ((get_or bytes 0 0 ≡ 108) ⊎ (get_or bytes 0 0 ≡ 100))
+pub opened_values : (d : Data) (room : ℕ) (bytes after : List ℕ) → IsLawfulWithin room d → bytes ≡ spelling d ++ after
+    → ((get_or bytes 0 0 ≡ 108) ⊎ (get_or bytes 0 0 ≡ 100))
     → (items : Items) × ItemsAreLawfulWithin (room - 1) items × (take (length bytes - 1) (drop 1 bytes) ≡ items_spelling items ++ 101 ∷ after)
 opened_values (integer n) room bytes after lawful is (inl head) = let h = head-is bytes 105 _ is in absurd (omega arith)
 opened_values (integer n) room bytes after lawful is (inr head) = let h = head-is bytes 105 _ is in absurd (omega arith)
-opened_values (string s) room bytes after lawful is (inl head) = absurd (string_head s bytes after 108 is (omega arith) head)
-opened_values (string s) room bytes after lawful is (inr head) = absurd (string_head s bytes after 100 is (omega arith) head)
+opened_values (string s) room bytes after lawful is (inl head) =
+    absurd (string_head s bytes after 108 is (omega arith) head)
+opened_values (string s) room bytes after lawful is (inr head) =
+    absurd (string_head s bytes after 100 is (omega arith) head)
 opened_values (list items) room bytes after lawful is head =
     (items, ((lawful-list room items).0 lawful).1, tail-is bytes 108 _ is ∙ append_assoc (items_spelling items) (101 ∷ []) after)
 opened_values (dictionary pairs) room bytes after lawful is head = (
@@ -110,17 +129,21 @@ opened_values (dictionary pairs) room bytes after lawful is head = (
 pub next_item : (left : Items) (rest after : List ℕ) → rest ≡ items_spelling left ++ 101 ∷ after → get_or rest 0 0 ≢ 101
     → (d : Data) × (others : Items) × (left ≡ item d others) × (rest ≡ spelling d ++ (items_spelling others ++ 101 ∷ after))
 next_item no_items rest after is other = absurd (other (head-is rest 101 after is))
-next_item (item d others) rest after is other = (d, others, refl, is ∙ append_assoc (spelling d) (items_spelling others) (101 ∷ after))
+next_item (item d others) rest after is other =
+    (d, others, refl, is ∙ append_assoc (spelling d) (items_spelling others) (101 ∷ after))
 
 -- none are left where the end stands
-pub end_after : (left : Items) (rest after : List ℕ) → rest ≡ items_spelling left ++ 101 ∷ after → get_or rest 0 0 ≡ 101 → take (length rest - 1) (drop 1 rest) ≡ after
+pub end_after : (left : Items) (rest after : List ℕ) → rest ≡ items_spelling left ++ 101 ∷ after
+    → get_or rest 0 0 ≡ 101 → take (length rest - 1) (drop 1 rest) ≡ after
 end_after no_items rest after is end = tail-is rest 101 after is
 end_after (item d others) rest after is end =
-    let same : rest ≡ spelling d ++ (items_spelling others ++ 101 ∷ after) = is ∙ append_assoc (spelling d) (items_spelling others) (101 ∷ after) in
+    let same : rest ≡ spelling d ++ (items_spelling others ++ 101 ∷ after) =
+    is ∙ append_assoc (spelling d) (items_spelling others) (101 ∷ after) in
     absurd ((spelling-starts d (items_spelling others ++ 101 ∷ after)).no_end (ap (λ bs. get_or bs 0 0) (sym same) ∙ end))
 
 -- each value begins with one of these
-pub no_head : (d : Data) (bytes after : List ℕ) → bytes ≡ spelling d ++ after → (get_or bytes 0 0 ≢ 105) → (get_or bytes 0 0 ≢ 108) → (get_or bytes 0 0 ≢ 100) → (48 ≤ get_or bytes 0 0 → get_or bytes 0 0 ≤ 57 → ⊥) → ⊥
+pub no_head : (d : Data) (bytes after : List ℕ) → bytes ≡ spelling d ++ after → (get_or bytes 0 0 ≢ 105)
+    → (get_or bytes 0 0 ≢ 108) → (get_or bytes 0 0 ≢ 100) → (48 ≤ get_or bytes 0 0 → get_or bytes 0 0 ≤ 57 → ⊥) → ⊥
 no_head (integer n) bytes after is i l d digit = i (head-is bytes 105 _ is)
 no_head (string s) bytes after is i l d digit =
     let starts = subst StartsWithDigit (sym is) (string-starts s after) in
@@ -132,67 +155,5 @@ pub not_empty : (d : Data) (bytes after : List ℕ) → bytes ≡ spelling d ++ 
 not_empty d bytes after is none = let some = (spelling-starts d after).some in absurd (omega (arith, ap length is))
 
 pub two_heads : (h : ℕ) → (h ≢ 108 → h ≡ 100) → (h ≡ 108) ⊎ (h ≡ 100)
-two_heads h other = elim (cases_Bool (h == 108)) [ inl e ↦ inl (grind (arith, nat_tests)) | inr e ↦ inr (other (λ is. true≢false (let t : (h == 108) ≡ true = grind (arith, nat_tests) in sym t ∙ e))) ]
-
--- a dictionary that is open holds its pairs
-pub open_pairs : (d : Data) (bytes : List ℕ) → IsLawfulWithin 100 d → bytes ≡ spelling d → get_or bytes 0 0 ≡ 100
-    → (pairs : Pairs) × PairsAreLawfulWithin 99 pairs × (take (length bytes - 1) (drop 1 bytes) ≡ pairs_spelling pairs ++ 101 ∷ []) × ((key : List ℕ) → place_of key d ≡ place_in 1 key pairs)
-open_pairs (integer n) bytes lawful is head = let h = head-is bytes 105 _ is in absurd (omega arith)
-open_pairs (string s) bytes lawful is head = absurd (string_head s bytes [] 100 (is ∙ sym (append-nil (string_spelling s))) (omega arith) head)
-open_pairs (list items) bytes lawful is head = let h = head-is bytes 108 _ is in absurd (omega arith)
-open_pairs (dictionary pairs) bytes lawful is head = (pairs, ((lawful-dictionary 100 pairs).0 lawful).2, tail-is bytes 100 _ is, λ key. refl)
-
--- the pair that was read first
-pub record IsNextPair (left : Pairs) (rest key after : List ℕ) : Type 0 where
-  pub value : Data
-  pub others : Pairs
-  pub pairs : left ≡ pair key value others
-  pub spelled : rest ≡ string_spelling key ++ after
-  pub follows : after ≡ spelling value ++ (pairs_spelling others ++ 101 ∷ [])
-  pub lawful : IsLawfulWithin 99 value
-  pub lawful_others : PairsAreLawfulWithin 99 others
-
-no_string_here : string_at (101 ∷ []) ≡ Err (BadLength, 101 ∷ [])
-unfolding string_at
-no_string_here = refl
-
-pub next_pair : (left : Pairs) (rest key after : List ℕ) → PairsAreLawfulWithin 99 left → rest ≡ pairs_spelling left ++ 101 ∷ [] → string_at rest ≡ Ok (key, after) → IsNextPair left rest key after
-next_pair no_pairs rest key after lawful is read = absurd (not_both (key, after) (BadLength, 101 ∷ []) (string_at rest) read (ap string_at is ∙ no_string_here))
-next_pair (pair k d others) rest key after lawful is read =
-    let middle = spelling d ++ (pairs_spelling others ++ 101 ∷ []) in
-    let same : rest ≡ string_spelling k ++ (spelling d ++ (pairs_spelling others ++ 101 ∷ [])) = is ∙ pair_spelled (string_spelling k) (spelling d) (pairs_spelling others) (101 ∷ []) in
-    let found = read_is (k, middle) (key, after) (string_at rest) (ap string_at same ∙ string_at-spelling k middle) read in
-    let parts = (lawful-pair 99 k d others).0 lawful in
-    record {
-      value = d;
-      others = others;
-      pairs = ap (λ p. pair p.0 d others) found;
-      spelled = same ∙ ap (λ p. string_spelling p.0 ++ p.1) found;
-      follows = ap (λ p. p.1) (sym found);
-      lawful = parts.0;
-      lawful_others = parts.1;
-    }
-
--- nothing is left where no key stands
-pub none_left : (left : Pairs) (rest key : List ℕ) (at : ℕ) (stop : Stop) → rest ≡ pairs_spelling left ++ 101 ∷ [] → stop ≢ stops.Memory → Stops stop (string_at rest) → None ≡ place_in at key left
-none_left no_pairs rest key at stop is other h = refl
-none_left (pair k d others) rest key at stop is other h =
-    let middle = spelling d ++ (pairs_spelling others ++ 101 ∷ []) in
-    let same : rest ≡ string_spelling k ++ (spelling d ++ (pairs_spelling others ++ 101 ∷ [])) = is ∙ pair_spelled (string_spelling k) (spelling d) (pairs_spelling others) (101 ∷ []) in
-    absurd (no_stop stop (string_at rest) (k, middle) other h (ap string_at same ∙ string_at-spelling k middle))
-
-module _ (left : Pairs) (bytes rest name after next key : List ℕ) (h : IsNextPair left rest name after) (within : length rest ≤ length bytes) (then : next ≡ pairs_spelling h.others ++ 101 ∷ []) where
-  start_is : length bytes - length rest + length (string_spelling name) ≡ length bytes - length after
-  start_is = omega (arith, ap length h.spelled, length-append (string_spelling name) after)
-
-  end_is : length bytes - length rest + length (string_spelling name) + length (spelling h.value) ≡ length bytes - length next
-  end_is = omega (arith, ap length h.spelled, length-append (string_spelling name) after, ap length h.follows, length-append (spelling h.value) (pairs_spelling h.others ++ 101 ∷ []), ap length then)
-
-  pub place_found : bytes_eq name key ≡ true → Some (length bytes - length after, length bytes - length next) ≡ place_in (length bytes - length rest) key left
-  place_found e =
-      ap₂ (λ start end. Some (start, end)) (sym start_is) (sym end_is)
-      ∙ sym (ap (place_in (length bytes - length rest) key) h.pairs ∙ rw e refl)
-
-  pub place_later : bytes_eq name key ≡ false → place_in (length bytes - length rest) key left ≡ place_in (length bytes - length next) key h.others
-  place_later e =
-      ap (place_in (length bytes - length rest) key) h.pairs ∙ rw e (ap (λ end. place_in end key h.others) end_is)
+two_heads h other =
+    elim (cases_Bool (h == 108)) [ inl e ↦ inl (grind (arith, nat_tests)) | inr e ↦ inr (other (λ is. true≢false (let t : (h == 108) ≡ true = grind (arith, nat_tests) in sym t ∙ e))) ]

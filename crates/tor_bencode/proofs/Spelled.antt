@@ -14,9 +14,11 @@ pub record StartsWithDigit (bytes : List ℕ) : Type 0 where
   pub some : 0 < length bytes
   pub digit : is_ascii_digit (get_or bytes 0 0) ≡ true
 
-first_digit : (run rest : List ℕ) → list_all is_ascii_digit run ≡ true → is_shortest run ≡ true → StartsWithDigit (run ++ rest)
+first_digit : (run rest : List ℕ) → list_all is_ascii_digit run ≡ true → is_shortest run ≡ true
+    → StartsWithDigit (run ++ rest)
 first_digit [] rest digits shortest = absurd (false≢true shortest)
-first_digit (c ∷ cs) rest digits shortest = record { some = omega arith; digit = (and_parts (is_ascii_digit c) (list_all is_ascii_digit cs) digits).0 }
+first_digit (c ∷ cs) rest digits shortest =
+    record { some = omega arith; digit = (and_parts (is_ascii_digit c) (list_all is_ascii_digit cs) digits).0 }
 
 pub base_ten-starts : (n : ℕ) (rest : List ℕ) → StartsWithDigit (base_ten n ++ rest)
 base_ten-starts n rest = first_digit (base_ten n) rest (all_digits-base_ten n) (is_shortest-base_ten n)
@@ -32,7 +34,8 @@ pub record StartsValue (bytes : List ℕ) : Type 0 where
   pub no_end : get_or bytes 0 0 ≢ 101
 
 pub starts_value : (bytes : List ℕ) → StartsWithDigit bytes → StartsValue bytes
-starts_value bytes h = let range = digit_range (get_or bytes 0 0) h.digit in record { some = h.some; no_end = λ e. absurd (omega arith) }
+starts_value bytes h =
+    let range = digit_range (get_or bytes 0 0) h.digit in record { some = h.some; no_end = λ e. absurd (omega arith) }
 
 pub spelling-starts : (d : Data) (rest : List ℕ) → StartsValue (spelling d ++ rest)
 spelling-starts (integer n) rest = record { some = omega arith; no_end = λ e. absurd (omega arith) }

@@ -28,7 +28,8 @@ string_spelled : (s rest : List ℕ) → string_spelling s ++ rest ≡ base_ten 
 string_spelled s rest = simp append_assoc
 
 -- a length and a colon, and then the bytes
-string_at-length : (n : ℕ) (more : List ℕ) → string_at (base_ten n ++ 58 ∷ more) ≡ cond (nat_le n (length more)) (Ok (take n more, drop n more)) (Err (Truncated, []))
+string_at-length : (n : ℕ) (more : List ℕ)
+    → string_at (base_ten n ++ 58 ∷ more) ≡ cond (nat_le n (length more)) (Ok (take n more, drop n more)) (Err (Truncated, []))
 string_at-length n more =
     string_at-run (base_ten n) 58 more (all_digits-base_ten n) colon_is_no_digit
     ∙ rw (is_shortest-base_ten n, number-base_ten n) refl
@@ -39,7 +40,8 @@ string_at-spelling s rest =
     ap string_at (string_spelled s rest) ∙ string_at-length (length s) (s ++ rest)
     ∙ rw (fits, take_at s rest (length s) refl, drop_at s rest (length s) refl) refl
 
-pub string_at-cut : (n : ℕ) (more : List ℕ) → length more < n → string_at (base_ten n ++ 58 ∷ more) ≡ Err (Truncated, [])
+pub string_at-cut : (n : ℕ) (more : List ℕ) → length more < n
+    → string_at (base_ten n ++ 58 ∷ more) ≡ Err (Truncated, [])
 string_at-cut n more short =
     let no : nat_le n (length more) ≡ false = grind (arith, nat_tests) in
     string_at-length n more ∙ rw no refl
@@ -51,15 +53,18 @@ string_at-digits run digits =
     ap (string_after run (take (prefix_len is_ascii_digit run) run)) (drop_all _ run (omega arith))
 
 -- whatever follows, a byte string is read only where it is spelled so
-pub string_at-bad : (bytes run : List ℕ) (next : ℕ) (more : List ℕ) → Runs is_ascii_digit bytes run next more → ((next ≢ 58) ⊎ ((n : ℕ) → run ≢ base_ten n)) → string_at bytes ≡ Err (BadLength, bytes)
+pub string_at-bad : (bytes run : List ℕ) (next : ℕ) (more : List ℕ) → Runs is_ascii_digit bytes run next more
+    → ((next ≢ 58) ⊎ ((n : ℕ) → run ≢ base_ten n)) → string_at bytes ≡ Err (BadLength, bytes)
 string_at-bad bytes run next more r why =
     let stop = one_of_two (is_ascii_digit next) r.stops in
     let test : ((next == 58) && is_shortest run) ≡ false = one_of_two _ (refused why) in
-    ap string_at r.whole ∙ string_at-run run next more r.all stop ∙ rw test (ap (λ bs. Err (BadLength, bs)) (sym r.whole))
+    ap string_at r.whole ∙ string_at-run run next more r.all stop
+    ∙ rw test (ap (λ bs. Err (BadLength, bs)) (sym r.whole))
   where
     refused : ((next ≢ 58) ⊎ ((n : ℕ) → run ≢ base_ten n)) → ((next == 58) && is_shortest run) ≡ true → ⊥
     refused (inl other) e = other (let h = (and_parts (next == 58) (is_shortest run) e).0 in grind (arith, nat_tests))
-    refused (inr none) e = none (number run) (sym (base_ten-number run r.all (and_parts (next == 58) (is_shortest run) e).1))
+    refused (inr none) e =
+        none (number run) (sym (base_ten-number run r.all (and_parts (next == 58) (is_shortest run) e).1))
 
 -- what is wrong with a byte string
 abbrev pub IsBadString : List ℕ → Fault → List ℕ → Type 0
@@ -83,10 +88,12 @@ module _ (bytes : List ℕ) (begins : BeginsWithDigit bytes) where
 
   cut_run : (drop (prefix_len is_ascii_digit bytes) bytes) ≡ [] → IsCutString bytes
   cut_run e =
-      let all : bytes ≡ take (prefix_len is_ascii_digit bytes) bytes = run_whole is_ascii_digit bytes [] e ∙ append-nil _ in
+      let all : bytes ≡ take (prefix_len is_ascii_digit bytes) bytes =
+      run_whole is_ascii_digit bytes [] e ∙ append-nil _ in
       inl (begins, subst (λ bs. list_all is_ascii_digit bs ≡ true) (sym all) (run_passes is_ascii_digit bytes))
 
-  bad_length : (run : List ℕ) (c : ℕ) (more : List ℕ) → Runs is_ascii_digit bytes run c more → ((c == 58) && is_shortest run) ≡ false → HasBadLength bytes
+  bad_length : (run : List ℕ) (c : ℕ) (more : List ℕ) → Runs is_ascii_digit bytes run c more
+      → ((c == 58) && is_shortest run) ≡ false → HasBadLength bytes
   bad_length run c more r test = (
     begins,
     run,
@@ -99,12 +106,14 @@ module _ (bytes : List ℕ) (begins : BeginsWithDigit bytes) where
     ],
   )
 
-  after_is : (after : List ℕ) → drop (prefix_len is_ascii_digit bytes) bytes ≡ after → StringIs bytes (string_after bytes (take (prefix_len is_ascii_digit bytes) bytes) after)
+  after_is : (after : List ℕ) → drop (prefix_len is_ascii_digit bytes) bytes ≡ after
+      → StringIs bytes (string_after bytes (take (prefix_len is_ascii_digit bytes) bytes) after)
   after_is [] e = (cut_run e, refl)
   after_is (c ∷ more) e =
       let run = take (prefix_len is_ascii_digit bytes) bytes in
       let digits = run_passes is_ascii_digit bytes in
-      let whole : bytes ≡ take (prefix_len is_ascii_digit bytes) bytes ++ c ∷ more = run_whole is_ascii_digit bytes (c ∷ more) e in
+      let whole : bytes ≡ take (prefix_len is_ascii_digit bytes) bytes ++ c ∷ more =
+      run_whole is_ascii_digit bytes (c ∷ more) e in
       let stop = run_stops is_ascii_digit bytes c more e in
       by_test ((c == 58) && is_shortest run) (StringIs bytes) _ _
       (λ good.

@@ -12,9 +12,10 @@ use Rattle.tor_bencode.specs.steps.Reading.{◌>>=◌, Reading, string_at, integ
 use Rattle.tor_bencode.specs.Spelling.{spelling, string_spelling, items_spelling, pairs_spelling}
 use Rattle.tor_bencode.specs.declared.fault.Fault.{Fault}
 use Rattle.tor_bencode.specs.declared.fault.Fault.TheVariants.{Truncated, BadByte, BadInteger, IntegerRange, BadLength, KeyNotBytes, KeyOrder, TooDeep, Trailing}
-use Rattle.tor_bencode.proofs.Integers.{integer_sound}
+use Rattle.tor_bencode.proofs.IntegersRead.{integer_sound}
 use Rattle.tor_bencode.proofs.Runs.{by_test}
-use Rattle.tor_bencode.proofs.Sound.{ValueIs, items_sound, pairs_sound, integer_is, string_is, list_is, dictionary_is}
+use Rattle.tor_bencode.proofs.Sound.{ValueIs, items_sound, pairs_sound}
+use Rattle.tor_bencode.proofs.SoundValues.{integer_is, string_is, list_is, dictionary_is}
 use Rattle.tor_bencode.proofs.Strings.{string_sound}
 
 -- what is read inside is sound too
@@ -29,14 +30,17 @@ list_opened : (room : ℕ) (nested : Option (List ℕ → Reading Data)) → Nes
 list_opened zero None sound rest = at_value (refl, inl (rest, refl), refl)
 list_opened zero (Some read) sound rest = absurd sound
 list_opened (suc room) None sound rest = absurd sound
-list_opened (suc room) (Some read) sound rest = list_is room rest (items_at read (length rest) rest) (items_sound room read sound (length rest) rest (omega arith))
+list_opened (suc room) (Some read) sound rest =
+    list_is room rest (items_at read (length rest) rest) (items_sound room read sound (length rest) rest (omega arith))
 
 dictionary_opened : (room : ℕ) (nested : Option (List ℕ → Reading Data)) → NestedIs room nested → (rest : List ℕ)
     → ValueIs room (100 ∷ rest) (opened nested (100 ∷ rest) (λ read. pairs_at read (length rest) None rest) >>= λ pairs. Ok (dictionary pairs.0, pairs.1))
 dictionary_opened zero None sound rest = at_value (refl, inr (rest, refl), refl)
 dictionary_opened zero (Some read) sound rest = absurd sound
 dictionary_opened (suc room) None sound rest = absurd sound
-dictionary_opened (suc room) (Some read) sound rest = dictionary_is room rest (pairs_at read (length rest) None rest) (pairs_sound room read sound (length rest) None rest (omega arith))
+dictionary_opened (suc room) (Some read) sound rest =
+    dictionary_is room rest (pairs_at read (length rest) None rest)
+    (pairs_sound room read sound (length rest) None rest (omega arith))
 
 apart : (c n : ℕ) → (c == n) ≡ false → c ≢ n
 apart c n h e = true≢false (let t : (c == n) ≡ true = grind (arith, nat_tests) in sym t ∙ h)
@@ -44,7 +48,8 @@ apart c n h e = true≢false (let t : (c == n) ≡ true = grind (arith, nat_test
 same : (c n : ℕ) → (c == n) ≡ true → c ≡ n
 same c n h = grind (arith, nat_tests)
 
-value_with_sound : (room : ℕ) (nested : Option (List ℕ → Reading Data)) → NestedIs room nested → (bytes : List ℕ) → ValueIs room bytes (value_with nested bytes)
+value_with_sound : (room : ℕ) (nested : Option (List ℕ → Reading Data)) → NestedIs room nested → (bytes : List ℕ)
+    → ValueIs room bytes (value_with nested bytes)
 value_with_sound room nested sound [] = at_value (inl refl, refl)
 value_with_sound room nested sound (c ∷ rest) =
     by_test (c == 105) (ValueIs room (c ∷ rest)) _ _
@@ -70,9 +75,11 @@ abbrev pub WholeIs : List ℕ → Result Data (Fault × List ℕ) → Type 0
 WholeIs bytes (Ok d) = IsLawfulWithin 100 d × (bytes ≡ spelling d)
 WholeIs bytes (Err f) = IsFaultIn 100 bytes f.0 f.1 ⊎ IsTrailing bytes f.0 f.1
 
-last_is : (bytes : List ℕ) (d : Data) (rest : List ℕ) → IsLawfulWithin 100 d → bytes ≡ spelling d ++ rest → WholeIs bytes (last_of (d, rest))
+last_is : (bytes : List ℕ) (d : Data) (rest : List ℕ) → IsLawfulWithin 100 d → bytes ≡ spelling d ++ rest
+    → WholeIs bytes (last_of (d, rest))
 last_is bytes d [] lawful is = (lawful, is ∙ append-nil (spelling d))
-last_is bytes d (c ∷ rest) lawful is = inr (record { code = refl; tree = d; lawful = lawful; whole = is; more = omega arith })
+last_is bytes d (c ∷ rest) lawful is =
+    inr (record { code = refl; tree = d; lawful = lawful; whole = is; more = omega arith })
 
 whole_is : (bytes : List ℕ) (r : Reading Data) → ValueIs 100 bytes r → WholeIs bytes (r >>= last_of)
 whole_is bytes (Ok x) h = last_is bytes x.0 x.1 h.0 h.1
@@ -84,7 +91,8 @@ whole_sound bytes = whole_is bytes (value_at 100 bytes) (value_sound 100 bytes)
 
 -- ---- where a fault lies
 
-bad_value_within : (room : ℕ) (bytes : List ℕ) (fault : Fault) (from : List ℕ) → IsBadValue room bytes fault from → length from ≤ length bytes
+bad_value_within : (room : ℕ) (bytes : List ℕ) (fault : Fault) (from : List ℕ) → IsBadValue room bytes fault from
+    → length from ≤ length bytes
 bad_value_within room bytes Truncated from h = omega (arith, ap length h.1)
 bad_value_within room bytes BadByte from h = omega (arith, ap length h.1)
 bad_value_within room bytes BadInteger from h = omega (arith, ap length h.1)
@@ -95,7 +103,8 @@ bad_value_within room bytes KeyNotBytes from h = absurd h
 bad_value_within room bytes KeyOrder from h = absurd h
 bad_value_within room bytes Trailing from h = absurd h
 
-bad_key_within : (last : Option (List ℕ)) (bytes : List ℕ) (fault : Fault) (from : List ℕ) → IsBadKey last bytes fault from → length from ≤ length bytes
+bad_key_within : (last : Option (List ℕ)) (bytes : List ℕ) (fault : Fault) (from : List ℕ)
+    → IsBadKey last bytes fault from → length from ≤ length bytes
 bad_key_within last bytes Truncated from h = omega (arith, ap length h.1)
 bad_key_within last bytes BadLength from h = omega (arith, ap length h.1)
 bad_key_within last bytes KeyNotBytes from h = omega (arith, ap length h.5)
@@ -109,12 +118,17 @@ bad_key_within last bytes Trailing from h = absurd h
 rest_within : (front rest bytes : List ℕ) → bytes ≡ front ++ rest → length rest ≤ length bytes
 rest_within front rest bytes is = omega (arith, ap length is, length-append front rest)
 
-fault_within : (room : ℕ) (bytes : List ℕ) (fault : Fault) (from : List ℕ) → IsFaultIn room bytes fault from → length from ≤ length bytes
+fault_within : (room : ℕ) (bytes : List ℕ) (fault : Fault) (from : List ℕ) → IsFaultIn room bytes fault from
+    → length from ≤ length bytes
 fault_within room bytes fault from (at_value h) = bad_value_within room bytes fault from h
-fault_within (suc room) bytes fault from (in_list items rest is lawful no_end inner) = omega (arith, rest_within (codes "l" ++ items_spelling items) rest bytes is, fault_within room rest fault from inner)
-fault_within (suc room) bytes fault from (at_key pairs rest is rising lawful bad) = omega (arith, rest_within (codes "d" ++ pairs_spelling pairs) rest bytes is, bad_key_within (last_key pairs) rest fault from bad)
-fault_within (suc room) bytes fault from (in_pair pairs key rest is rising lawful inner) = omega (arith, rest_within (codes "d" ++ pairs_spelling pairs ++ string_spelling key) rest bytes is, fault_within room rest fault from inner)
+fault_within (suc room) bytes fault from (in_list items rest is lawful no_end inner) =
+    omega (arith, rest_within (codes "l" ++ items_spelling items) rest bytes is, fault_within room rest fault from inner)
+fault_within (suc room) bytes fault from (at_key pairs rest is rising lawful bad) =
+    omega (arith, rest_within (codes "d" ++ pairs_spelling pairs) rest bytes is, bad_key_within (last_key pairs) rest fault from bad)
+fault_within (suc room) bytes fault from (in_pair pairs key rest is rising lawful inner) =
+    omega (arith, rest_within (codes "d" ++ pairs_spelling pairs ++ string_spelling key) rest bytes is, fault_within room rest fault from inner)
 
-pub refused_within : (bytes : List ℕ) (fault : Fault) (from : List ℕ) → (IsFaultIn 100 bytes fault from ⊎ IsTrailing bytes fault from) → length from ≤ length bytes
+pub refused_within : (bytes : List ℕ) (fault : Fault) (from : List ℕ)
+    → (IsFaultIn 100 bytes fault from ⊎ IsTrailing bytes fault from) → length from ≤ length bytes
 refused_within bytes fault from (inl h) = fault_within 100 bytes fault from h
 refused_within bytes fault from (inr h) = rest_within (spelling h.tree) from bytes h.whole

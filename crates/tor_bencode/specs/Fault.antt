@@ -65,7 +65,8 @@ IsTooLarge bytes = (n : ℤ) × (more : List ℕ) × (bytes ≡ spelling (intege
 
 -- no value begins so
 abbrev pub BeginsNoValue : List ℕ → Type 0
-BeginsNoValue bytes = (c : ℕ) × (rest : List ℕ) × (bytes ≡ c ∷ rest) × ¬ IsTrue (is_ascii_digit c) × (c ≢ letter_i) × (c ≢ letter_l) × (c ≢ letter_d)
+BeginsNoValue bytes = (c : ℕ) × (rest : List ℕ) × (bytes ≡ c ∷ rest) × ¬ IsTrue (is_ascii_digit c)
+    × (c ≢ letter_i) × (c ≢ letter_l) × (c ≢ letter_d)
 
 -- A byte string, a list or a dictionary begins so. To read anything else takes no memory.
 abbrev pub may_take_memory : List ℕ → Bool
@@ -100,8 +101,10 @@ IsOutOfOrder (Some last) key = slice_cmp nat_cmp last key ≢ Less
 abbrev pub IsBadKey : Option (List ℕ) → List ℕ → Fault → List ℕ → Type 0
 IsBadKey last bytes Truncated from = ((bytes ≡ []) ⊎ IsCutString bytes) × (from ≡ [])
 IsBadKey last bytes BadLength from = HasBadLength bytes × (from ≡ bytes)
-IsBadKey last bytes KeyNotBytes from = (c : ℕ) × (rest : List ℕ) × (bytes ≡ c ∷ rest) × ¬ IsTrue (is_ascii_digit c) × (c ≢ letter_e) × (from ≡ bytes)
-IsBadKey last bytes KeyOrder from = (key : List ℕ) × (rest : List ℕ) × (bytes ≡ string_spelling key ++ rest) × IsOutOfOrder last key × (from ≡ bytes)
+IsBadKey last bytes KeyNotBytes from = (c : ℕ) × (rest : List ℕ) × (bytes ≡ c ∷ rest)
+    × ¬ IsTrue (is_ascii_digit c) × (c ≢ letter_e) × (from ≡ bytes)
+IsBadKey last bytes KeyOrder from = (key : List ℕ) × (rest : List ℕ) × (bytes ≡ string_spelling key ++ rest)
+    × IsOutOfOrder last key × (from ≡ bytes)
 IsBadKey last bytes BadByte from = ⊥
 IsBadKey last bytes BadInteger from = ⊥
 IsBadKey last bytes IntegerRange from = ⊥
@@ -111,7 +114,8 @@ IsBadKey last bytes Trailing from = ⊥
 -- Where a value is expected and `room` lists and dictionaries may still be opened, the bytes have this fault: at once,
 -- or in a list after lawful items, or in a dictionary after lawful pairs, at a key or in its value.
 pub data IsFaultIn : ℕ → List ℕ → Fault → List ℕ → Type 0 where
-  at_value : {room : ℕ} {bytes : List ℕ} {fault : Fault} {from : List ℕ} → IsBadValue room bytes fault from → IsFaultIn room bytes fault from
+  at_value : {room : ℕ} {bytes : List ℕ} {fault : Fault} {from : List ℕ} → IsBadValue room bytes fault from
+      → IsFaultIn room bytes fault from
   in_list : {room : ℕ} {bytes : List ℕ} {fault : Fault} {from : List ℕ} (items : Items) (rest : List ℕ)
       → bytes ≡ codes "l" ++ items_spelling items ++ rest → ItemsAreLawfulWithin room items → ¬ Begins letter_e rest
       → IsFaultIn room rest fault from → IsFaultIn (suc room) bytes fault from
@@ -119,7 +123,8 @@ pub data IsFaultIn : ℕ → List ℕ → Fault → List ℕ → Type 0 where
       → bytes ≡ codes "d" ++ pairs_spelling pairs ++ rest → AreRising (keys_of pairs) → PairsAreLawfulWithin room pairs
       → IsBadKey (last_key pairs) rest fault from → IsFaultIn (suc room) bytes fault from
   in_pair : {room : ℕ} {bytes : List ℕ} {fault : Fault} {from : List ℕ} (pairs : Pairs) (key rest : List ℕ)
-      → bytes ≡ codes "d" ++ pairs_spelling pairs ++ string_spelling key ++ rest → AreRising (keys_of pairs ++ key ∷ []) → PairsAreLawfulWithin room pairs
+      → bytes ≡ codes "d" ++ pairs_spelling pairs ++ string_spelling key ++ rest
+      → AreRising (keys_of pairs ++ key ∷ []) → PairsAreLawfulWithin room pairs
       → IsFaultIn room rest fault from → IsFaultIn (suc room) bytes fault from
 
 -- a byte follows a lawful tree
@@ -132,7 +137,8 @@ pub record IsTrailing (bytes : List ℕ) (fault : Fault) (from : List ℕ) : Typ
 
 -- the bytes have this fault at this offset
 abbrev pub IsFaultAt : List ℕ → Fault → ℕ → Type 0
-IsFaultAt bytes fault offset = (from : List ℕ) × (offset + length from ≡ length bytes) × (IsFaultIn MAX_NESTING bytes fault from ⊎ IsTrailing bytes fault from)
+IsFaultAt bytes fault offset = (from : List ℕ) × (offset + length from ≡ length bytes)
+    × (IsFaultIn MAX_NESTING bytes fault from ⊎ IsTrailing bytes fault from)
 
 -- the same, as an error tells it; want of memory is no fault of the bytes
 abbrev pub IsRefusalOf : List ℕ → BenError → Type 0

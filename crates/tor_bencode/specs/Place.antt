@@ -1,5 +1,5 @@
 -- Where the value of a key is spelled.
-use Rattle.std.specs.Prelude.{◌≡◌, ℕ, ◌+◌, List, length, Option, None, Some, if◌then◌else◌}
+use Rattle.std.specs.Prelude.{◌≡◌, ℕ, ◌+◌, ◌-◌, ◌≤◌, List, length, take, drop, Option, None, Some, if◌then◌else◌}
 use Rattle.std.specs.Str.{bytes_eq}
 use Rattle.tor_bencode.specs.Data.{Data, integer, string, list, dictionary, Pairs, no_pairs, pair}
 use Rattle.tor_bencode.specs.Lawful.{IsLawful}
@@ -19,6 +19,12 @@ place_of key (integer n) = None
 place_of key (string bytes) = None
 place_of key (list items) = None
 place_of key (dictionary pairs) = place_in 1 key pairs
+
+-- the bytes from start to end spell the value
+pub record IsSpelledAt (value : Data) (bytes : List ℕ) (start end : ℕ) : Type 0 where
+  pub ordered : start ≤ end
+  pub within : end ≤ length bytes
+  pub spelled : take (end - start) (drop start bytes) ≡ spelling value
 
 -- the bytes spell a lawful tree
 abbrev pub IsTree : List ℕ → Type 0

@@ -1,3 +1,5 @@
+//! What reading and writing refuse.
+
 ghost use Rattle.std.specs.Prelude.{◌≡◌};
 ghost use Rattle.tor_bencode.specs.declared.error.BenError.TheVariants.{Memory};
 

@@ -1,3 +1,5 @@
+//! What is wrong with bytes that spell no tree.
+
 use thiserror::Error;
 
 /// What is wrong with bytes that spell no tree: the first fault in reading order.

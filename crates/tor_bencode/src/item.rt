@@ -1,3 +1,5 @@
+//! Bencode values in memory (BEP 3, "bencoding").
+
 /// A bencode value, which owns its bytes. Pairs stand in the order in which they are spelled.
 #[derive(Debug, Drop)]
 pub enum Item {

@@ -1,5 +1,14 @@
 //! Bencode (BEP 3, "bencoding"): trees, and the one spelling that each lawful tree has.
 //!
+//! ```rust
+//! use tor_bencode::{Item, decode, encode, find, span};
+//!
+//! let tree = decode(alloc, b"d1:ai7e1:blee")?;
+//! assert!(rt; matches!(find(tree.item(), b"a"), Some(Item::Int(7))));
+//! assert_eq!(rt; span(b"d1:ai7e1:blee", b"b"), Some((10, 12)));
+//! assert_eq!(rt; encode(alloc, &tree)?.as_slice(), b"d1:ai7e1:blee".as_slice());
+//! ```
+//!
 //! - [`Item`] (`item.rt`): a bencode value, which owns its bytes.
 //! - [`Tree`] (`tree.rt`): an item that has a place in a torrent: keys rise, nesting has an end.
 //! - [`encode`] (`write.rt`): the spelling of a tree.

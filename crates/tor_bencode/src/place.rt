@@ -1,3 +1,5 @@
+//! Where the value of a key of the root is spelled, told without memory: the values before it are skipped.
+
 ghost use Rattle.std.specs.Prelude.{◌≡◌, ◌<◌, ◌∷◌, ◌++◌, List, ℕ, length, IfSome, IsSomeAnd};
 ghost use Rattle.tor_bencode.specs.Data.{Data, Items};
 ghost use Rattle.tor_bencode.specs.Lawful.{IsLawful, IsLawfulWithin, ItemsAreLawfulWithin};

@@ -1,3 +1,5 @@
+//! The tree that bytes spell, or their first fault in reading order.
+
 ghost use Rattle.std.specs.Prelude.{◌≡◌, ◌<◌, length, true, None, Err, IfOk, IfErr, IsOkUnless, option_map};
 ghost use Rattle.tor_bencode.specs.Data.{Data};
 ghost use Rattle.tor_bencode.specs.Fault.{IsRefusalOf, may_take_memory};

@@ -1,3 +1,5 @@
+//! Why reading stops, inside the reader: a fault is told with the bytes from it on.
+
 ghost use Rattle.std.specs.Prelude.{◌≡◌};
 
 use crate::fault::Fault;

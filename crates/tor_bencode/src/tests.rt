@@ -1,4 +1,9 @@
-use crate::laws::{no_spelling_begins_another, one_tree_or_one_fault};
+//! Rows after BEP 3, "bencoding", each written out by hand.
+
+use crate::laws::{
+    lawful_one_by_one, lawful_values, lawful_within_more, no_spelling_begins_another,
+    no_value_before_the_first_key, one_tree_or_one_fault, pairs_by_their_values, place_of_a_value,
+};
 use crate::{BenError, Fault, Item, Tree, decode, encode, find, span};
 use std::alloc::{AllocError, Global};
 use std::test::Fail;
@@ -37,7 +42,7 @@ fn spelled(alloc: Global, item: Item) -> Result<Option<Vec<u8>>, BenError> {
 }
 
 #[test]
-fn spells(rt: HostRuntime) -> Result<(), Fail> {
+fn spells_each_kind_of_tree(rt: HostRuntime) -> Result<(), Fail> {
     let alloc = rt.alloc();
     for (n, text) in [
         (0, "i0e"),
@@ -60,7 +65,7 @@ fn spells(rt: HostRuntime) -> Result<(), Fail> {
         ),
     ] {
         let found = spelled(alloc, item)?.ok_or("unlawful")?;
-        assert_eq!(rt; found.as_slice(), text.as_bytes());
+        assert_eq!(rt; found.as_slice(), text.as_bytes(), "{text}");
     }
     let mut items = Vec::new(alloc);
     items.push(bytes(alloc, b"spam")?)?;
@@ -87,7 +92,7 @@ fn hands_back_what_is_not_lawful(rt: HostRuntime) -> Result<(), Fail> {
 }
 
 #[test]
-fn finds(rt: HostRuntime) -> Result<(), Fail> {
+fn finds_the_value_of_the_first_pair(rt: HostRuntime) -> Result<(), Fail> {
     let alloc = rt.alloc();
     let twice = keyed(alloc, &[b"ab", b"a", b"a"])?;
     assert!(rt; matches!(find(&twice, b"a"), Some(Item::Int(1))));
@@ -100,7 +105,7 @@ fn finds(rt: HostRuntime) -> Result<(), Fail> {
 }
 
 #[test]
-fn shows_errors(rt: HostRuntime) -> Result<(), Fail> {
+fn shows_want_of_memory(rt: HostRuntime) -> Result<(), Fail> {
     let text = format!(in rt.alloc(); "{}", BenError::Memory)?;
     assert_eq!(rt; text.as_str(), "B10 Memory");
     Ok(())
@@ -131,13 +136,38 @@ fn reads_what_it_writes(rt: HostRuntime) -> Result<(), Fail> {
         b"d0:le1:ad1:bi-7ee2:aai0e1:b3:xyze",
         nested.as_slice(),
     ] {
-        assert_eq!(rt; reread(alloc, text)?.as_slice(), text);
+        assert_eq!(rt; reread(alloc, text)?.as_slice(), text, "{text:?}");
     }
     let tree = decode(alloc, b"d1:al4:spamee")?;
     let Item::Dict(pairs) = tree.item() else {
         return Err(Fail::from("no dictionary"));
     };
     assert_eq!(rt; pairs.len(), 1);
+    Ok(())
+}
+
+/// A dictionary of so many pairs, whose keys are numbers of the same length.
+fn numbered(alloc: Global, count: usize) -> Result<Item, AllocError> {
+    let mut pairs = Vec::new(alloc);
+    for i in 0..count {
+        let key = format!(in alloc; "{i:06}")?;
+        pairs.push((Vec::from_slice(alloc, key.as_bytes())?, Item::Int(7)))?;
+    }
+    Ok(Item::Dict(pairs))
+}
+
+#[test]
+fn writes_and_reads_ten_thousand_keys(rt: HostRuntime) -> Result<(), Fail> {
+    let alloc = rt.alloc();
+    let text = spelled(alloc, numbered(alloc, 10_000)?)?.ok_or("unlawful")?;
+    // A pair is 6:000000i7e.
+    assert_eq!(rt; text.len(), 110_002);
+    let tree = decode(alloc, &text)?;
+    assert!(rt; matches!(find(tree.item(), b"000000"), Some(Item::Int(7))));
+    assert!(rt; matches!(find(tree.item(), b"009999"), Some(Item::Int(7))));
+    assert!(rt; find(tree.item(), b"010000").is_none());
+    assert_eq!(rt; span(&text, b"009999"), Some((109_998, 110_001)));
+    assert!(rt; encode(alloc, &tree)?.as_slice() == text.as_slice());
     Ok(())
 }
 
@@ -164,10 +194,14 @@ fn refuses_the_first_fault(rt: HostRuntime) -> Result<(), Fail> {
         (b"i1-2e", "B3 BadInteger at 0"),
         (b"i-0e", "B3 BadInteger at 0"),
         (b"i03e", "B3 BadInteger at 0"),
+        (b"i-03e", "B3 BadInteger at 0"),
+        (b"i00e", "B3 BadInteger at 0"),
         (b"li-e", "B3 BadInteger at 1"),
         (b"i9223372036854775808e", "B4 IntegerRange at 0"),
         (b"i-9223372036854775809e", "B4 IntegerRange at 0"),
         (b"01:a", "B5 BadLength at 0"),
+        (b"03:abc", "B5 BadLength at 0"),
+        (b"d1:b0:1:ax", "B7 KeyOrder at 6"),
         (b"3abc", "B5 BadLength at 0"),
         (b"di1e1:ae", "B6 KeyNotBytes at 1"),
         (b"d1:ai1e1:ai2ee", "B7 KeyOrder at 7"),
@@ -177,10 +211,10 @@ fn refuses_the_first_fault(rt: HostRuntime) -> Result<(), Fail> {
         (b"0:x", "B9 Trailing at 2"),
     ] {
         let Err(refusal) = decode(alloc, text) else {
-            return Err(Fail::from("accepted"));
+            return Err(Fail::from(want));
         };
         let told = format!(in alloc; "{refusal}")?;
-        assert_eq!(rt; told.as_str(), want);
+        assert_eq!(rt; told.as_str(), want, "{text:?}");
     }
     assert!(rt;
         matches!(
@@ -219,13 +253,19 @@ fn spans_values_of_the_root(rt: HostRuntime) -> Result<(), Fail> {
         (b"i3e", None),
     ] {
         let _tree = decode(alloc, text)?;
-        assert_eq!(rt; span(text, b"ab"), want);
+        assert_eq!(rt; span(text, b"ab"), want, "{text:?}");
     }
     Ok(())
 }
 
 #[test]
-fn laws_can_be_called() {
+fn calls_the_laws() {
     no_spelling_begins_another();
     one_tree_or_one_fault();
+    pairs_by_their_values();
+    no_value_before_the_first_key();
+    place_of_a_value();
+    lawful_within_more();
+    lawful_values();
+    lawful_one_by_one();
 }

@@ -1,3 +1,5 @@
+//! Items that have a place in a torrent.
+
 ghost use Rattle.std.specs.Prelude.{◌≡◌, ◌↔◌, IsTrue, IsOk, IfOk, IfErr};
 ghost use Rattle.tor_bencode.specs.Data.{keys_of};
 ghost use Rattle.tor_bencode.specs.Lawful.{AreRising, IsLawful, IsLawfulWithin, ItemsAreLawfulWithin, PairsAreLawfulWithin};

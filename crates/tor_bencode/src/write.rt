@@ -1,3 +1,5 @@
+//! The spelling of a tree, written into one vector.
+
 ghost use Rattle.std.specs.Prelude.{◌≡◌, ◌++◌, codes, IfOk, OnOk, IsOkUnless};
 ghost use Rattle.tor_bencode.specs.Spelling.{signed_base_ten, spelling, string_spelling, items_spelling, pairs_spelling};
 ghost use Rattle.tor_bencode.specs.View.{view, items_view, pairs_view};

@@ -33,8 +33,10 @@ below_top content k lt = height_above (length (leaves content)) k (longer_than_p
 pub more_levels : (content : List ℕ) (k : ℕ) (hashes : List (List ℕ)) → hashes ≡ nodes 0 (leaves content) k
     → 1 < length hashes → k < tree_height content
 more_levels content k hashes is more =
-    let two : 1 < div_ceil (length (leaves content)) (2 ^ k) = omega (arith, ap length is, length-nodes 0 (leaves content) k) in
-    height_above (length (leaves content)) k (omega (arith, below_from_ceil (length (leaves content)) (2 ^ k) 1 (pow_pos k) two))
+    let two : 1 < div_ceil (length (leaves content)) (2 ^ k) =
+    omega (arith, ap length is, length-nodes 0 (leaves content) k) in
+    height_above (length (leaves content)) k
+    (omega (arith, below_from_ceil (length (leaves content)) (2 ^ k) 1 (pow_pos k) two))
 
 pub last_level : (content : List ℕ) (k : ℕ) (hashes : List (List ℕ)) → hashes ≡ nodes 0 (leaves content) k
     → k ≤ tree_height content → length hashes ≤ 1
@@ -53,7 +55,8 @@ height_small content small =
 
 pub some_node : (content : List ℕ) (k : ℕ) → 0 < length content → 0 < length (nodes 0 (leaves content) k)
 some_node content k pos =
-    let leaf : 0 < length (leaves content) = omega (arith, length-leaves content, ceil_from_below (length content) 16384 0 (omega arith) (omega arith)) in
+    let leaf : 0 < length (leaves content) =
+    omega (arith, length-leaves content, ceil_from_below (length content) 16384 0 (omega arith) (omega arith)) in
     omega (arith, length-nodes 0 (leaves content) k, ceil_from_below (length (leaves content)) (2 ^ k) 0 (pow_pos k) (omega arith))
 
 -- the only hash of the top is the root

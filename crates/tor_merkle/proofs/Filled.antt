@@ -20,7 +20,8 @@ use Rattle.tor_merkle.proofs.Places.{div_between}
 pub node-drop : (base : ℕ) (hashes : List (List ℕ)) (a k j : ℕ)
     → node base (drop (a * 2 ^ k) hashes) k j ≡ node base hashes k (a + j)
 unfolding node
-node-drop base hashes a zero j = get_or-drop (a * 1) hashes j (zero_subtree base) ∙ ap (λ i. get_or hashes i (zero_subtree base)) (omega arith)
+node-drop base hashes a zero j =
+    get_or-drop (a * 1) hashes j (zero_subtree base) ∙ ap (λ i. get_or hashes i (zero_subtree base)) (omega arith)
 node-drop base hashes a (suc k) j =
     let wide : a * 2 ^ suc k ≡ 2 * a * 2 ^ k = ap (λ x. a * x) (two-pow-succ k) ∙ omega arith in
     ap (λ x. node_of (node base (drop x hashes) k (2 * j)) (node base (drop x hashes) k (2 * j + 1))) wide
@@ -32,17 +33,21 @@ node-drop base hashes a (suc k) j =
 pub node-nodes : (hashes : List (List ℕ)) (k j i : ℕ) → node k (nodes 0 hashes k) j i ≡ node 0 hashes (j + k) i
 unfolding node
 node-nodes hashes k zero i =
-    ap (λ b. get_or (nodes 0 hashes k) i (zero_subtree b)) (sym (zero-add k)) ∙ get_or-nodes 0 hashes k i ∙ ap (λ h. node 0 hashes h i) (sym (zero-add k))
+    ap (λ b. get_or (nodes 0 hashes k) i (zero_subtree b)) (sym (zero-add k)) ∙ get_or-nodes 0 hashes k i
+    ∙ ap (λ h. node 0 hashes h i) (sym (zero-add k))
 node-nodes hashes k (suc j) i =
-    ap₂ node_of (node-nodes hashes k j (2 * i)) (node-nodes hashes k j (2 * i + 1)) ∙ ap (λ h. node 0 hashes h i) (sym (suc-add j k))
+    ap₂ node_of (node-nodes hashes k j (2 * i)) (node-nodes hashes k j (2 * i + 1))
+    ∙ ap (λ h. node 0 hashes h i) (sym (suc-add j k))
 
 -- the height of a tree above one of its levels
 pub height-ceil : (n k : ℕ) → 2 ^ k < n → height n ≡ height (div_ceil n (2 ^ k)) + k
 height-ceil n k more =
     let count = div_ceil n (2 ^ k) in
     let top : k ≤ height n = omega (arith, height_above n k more) in
-    let split : 2 ^ height n ≡ 2 ^ (height n - k) * 2 ^ k = ap (λ h. 2 ^ h) (omega arith) ∙ pow-add 2 (height n - k) k in
-    let few : count ≤ 2 ^ (height n - k) = ceil_at_most n (2 ^ k) (2 ^ (height n - k)) (pow_pos k) (omega (arith, height_covers n, split)) in
+    let split : 2 ^ height n ≡ 2 ^ (height n - k) * 2 ^ k =
+    ap (λ h. 2 ^ h) (omega arith) ∙ pow-add 2 (height n - k) k in
+    let few : count ≤ 2 ^ (height n - k) =
+    ceil_at_most n (2 ^ k) (2 ^ (height n - k)) (pow_pos k) (omega (arith, height_covers n, split)) in
     let low : height n ≤ height count + k = height_least n (height count + k)
     (le_trans (ceil_covers n (2 ^ k) (pow_pos k))
     (le_trans (mul-le-mul_right {n = 2 ^ height count} (2 ^ k) (height_covers count)) (omega (arith, pow-add 2 (height count) k)))) in
@@ -96,7 +101,8 @@ module _ (k : ℕ) (leaves : List (List ℕ)) where
       → filled k (leaves ++ leaf ∷ []) ≡ filled k leaves + 1
   filled_full leaf full =
       let n : length leaves ≡ (filled k leaves + 1) * 2 ^ k = omega (arith, length-last_piece, full, pow_pos k) in
-      ap (λ x. x / 2 ^ k) (let same : length (leaves ++ leaf ∷ []) - 1 ≡ length leaves = omega (arith, length_push leaves leaf) in same)
+      ap (λ x. x / 2 ^ k)
+      (let same : length (leaves ++ leaf ∷ []) - 1 ≡ length leaves = omega (arith, length_push leaves leaf) in same)
       ∙ div_between (length leaves) k (filled k leaves + 1) (omega (arith, n)) (omega (arith, n, pow_pos k))
 
   pub filled_open : (leaf : List ℕ) → (length (drop (filled k leaves * 2 ^ k) leaves) ≡ 2 ^ k → ⊥)
@@ -106,13 +112,16 @@ module _ (k : ℕ) (leaves : List (List ℕ)) where
         | inl some ↦ omega (arith, filled_below some)
         | inr none ↦ omega (arith, div-mul-le_self (length leaves - 1) (2 ^ k))
       ] in
-      ap (λ x. x / 2 ^ k) (let same : length (leaves ++ leaf ∷ []) - 1 ≡ length leaves = omega (arith, length_push leaves leaf) in same)
-      ∙ div_between (length leaves) k (filled k leaves) below (omega (arith, length-last_piece, filled_covers, open_still))
+      ap (λ x. x / 2 ^ k)
+      (let same : length (leaves ++ leaf ∷ []) - 1 ≡ length leaves = omega (arith, length_push leaves leaf) in same)
+      ∙ div_between (length leaves) k (filled k leaves) below
+      (omega (arith, length-last_piece, filled_covers, open_still))
 
   -- all pieces
   pub all_filled : 0 < length leaves → filled k leaves + 1 ≡ div_ceil (length leaves) (2 ^ k)
   all_filled some =
-      le_antisymm (omega (arith, ceil_from_below (length leaves) (2 ^ k) (filled k leaves) (pow_pos k) (filled_below some)))
+      le_antisymm
+      (omega (arith, ceil_from_below (length leaves) (2 ^ k) (filled k leaves) (pow_pos k) (filled_below some)))
       (ceil_at_most (length leaves) (2 ^ k) (filled k leaves + 1) (pow_pos k) filled_covers)
 
   pub first_nodes_all : 0 < length leaves → first_nodes 0 leaves k (filled k leaves + 1) ≡ nodes 0 leaves k

@@ -28,8 +28,10 @@ module _ (k : ℕ) (leaves : List (List ℕ)) (blocks pieces : Subtrees) (layer 
 
   pieces_fit : 0 < length leaves → length pieces.hashes < 2 ^ (36 - k)
   pieces_fit some =
-      let all : 2 ^ 36 ≡ 2 ^ (36 - k) * 2 ^ k = ap (λ n. 2 ^ n) (let whole : 36 ≡ 36 - k + k = omega (arith, keeps.low) in whole) ∙ pow-add 2 (36 - k) k in
-      let less : filled k leaves < 2 ^ (36 - k) = lt_of_mul-lt-mul_right (2 ^ k) (omega (arith, filled_below k leaves some, keeps.small, all)) in
+      let all : 2 ^ 36 ≡ 2 ^ (36 - k) * 2 ^ k =
+      ap (λ n. 2 ^ n) (let whole : 36 ≡ 36 - k + k = omega (arith, keeps.low) in whole) ∙ pow-add 2 (36 - k) k in
+      let less : filled k leaves < 2 ^ (36 - k) =
+      lt_of_mul-lt-mul_right (2 ^ k) (omega (arith, filled_below k leaves some, keeps.small, all)) in
       omega (arith, length-closed)
 
   layer_fits : (room : ℕ) → 0 < length leaves → div_ceil (length leaves) (2 ^ k) ≤ room → length layer < room
@@ -54,7 +56,8 @@ module _ (k : ℕ) (leaves : List (List ℕ)) (blocks pieces : Subtrees) (layer 
       → blocks'.level ≡ blocks.level → blocks'.hashes ≡ blocks.hashes ++ leaf ∷ []
       → KeepsPieces k (leaves ++ leaf ∷ []) blocks' pieces layer
   keeps_open leaf blocks' open_still room level added =
-      let short = λ (e : length (drop (filled k leaves * 2 ^ k) leaves) ≡ 2 ^ k). open_still (ap length keeps.stacked ∙ e) in
+      let short =
+      λ (e : length (drop (filled k leaves * 2 ^ k) leaves) ≡ 2 ^ k). open_still (ap length keeps.stacked ∙ e) in
       let same = filled_open k leaves leaf short in
       let below : filled k leaves * 2 ^ k ≤ length leaves = elim (cases_lt 0 (length leaves)) [
         | inl some ↦ omega (arith, filled_below k leaves some)
@@ -65,10 +68,13 @@ module _ (k : ℕ) (leaves : List (List ℕ)) (blocks pieces : Subtrees) (layer 
         small = omega (arith, length_push leaves leaf);
         block_level = level ∙ keeps.block_level;
         stacked =
-            added ∙ ap (λ xs. xs ++ leaf ∷ []) keeps.stacked ∙ sym (drop-append-le (filled k leaves * 2 ^ k) leaves (leaf ∷ []) below)
+            added ∙ ap (λ xs. xs ++ leaf ∷ []) keeps.stacked
+            ∙ sym (drop-append-le (filled k leaves * 2 ^ k) leaves (leaf ∷ []) below)
             ∙ ap (λ q. drop (q * 2 ^ k) (leaves ++ leaf ∷ [])) (sym same);
         piece_level = keeps.piece_level;
-        closed = keeps.closed ∙ first_nodes-push k leaves leaf (filled k leaves) below ∙ ap (first_nodes 0 (leaves ++ leaf ∷ []) k) (sym same);
+        closed =
+            keeps.closed ∙ first_nodes-push k leaves leaf (filled k leaves) below
+            ∙ ap (first_nodes 0 (leaves ++ leaf ∷ []) k) (sym same);
         listed = keeps.listed;
       }
 
@@ -83,7 +89,8 @@ module _ (k : ℕ) (leaves : List (List ℕ)) (blocks pieces : Subtrees) (layer 
       let some : 0 < length leaves = leaves_some (omega (arith, full, pow_pos k)) in
       let more = filled_full k leaves leaf (sym (ap length keeps.stacked) ∙ full) in
       let end : length leaves ≡ (filled k leaves + 1) * 2 ^ k = omega (arith, length-stacked, full, pow_pos k) in
-      let joined = ap₂ (λ xs ys. xs ++ padded_subtree k 0 ys ∷ []) keeps.closed keeps.stacked ∙ first_nodes_closed k leaves some in
+      let joined =
+      ap₂ (λ xs ys. xs ++ padded_subtree k 0 ys ∷ []) keeps.closed keeps.stacked ∙ first_nodes_closed k leaves some in
       record {
         low = keeps.low;
         small = omega (arith, length_push leaves leaf);
@@ -113,7 +120,8 @@ module _ (k : ℕ) (leaves : List (List ℕ)) (blocks pieces : Subtrees) (layer 
 
   pub pieces_all : 0 < length leaves → pieces.hashes ++ padded_subtree k 0 blocks.hashes ∷ [] ≡ nodes 0 leaves k
   pieces_all some =
-      ap₂ (λ xs ys. xs ++ padded_subtree k 0 ys ∷ []) keeps.closed keeps.stacked ∙ first_nodes_closed k leaves some ∙ first_nodes_all k leaves some
+      ap₂ (λ xs ys. xs ++ padded_subtree k 0 ys ∷ []) keeps.closed keeps.stacked ∙ first_nodes_closed k leaves some
+      ∙ first_nodes_all k leaves some
 
 -- before the first leaf
 pub keeps_none : (k : ℕ) (blocks pieces : Subtrees) (layer : List (List ℕ)) → k ≤ 16 → blocks.level ≡ 0

@@ -70,8 +70,10 @@ module _ (count : ℕ) (hasher : Sha256) (done : List (List ℕ)) (bytes : List 
       let pos : 0 < 16384 * 2 ^ k = omega (arith, pow_pos k) in
       let all = ceil_covers (length bytes + more) (16384 * 2 ^ k) pos in
       let wide : div_ceil (length bytes + more) (16384 * 2 ^ k) * (16384 * 2 ^ k) ≡ div_ceil (length bytes + more) (16384 * 2 ^ k) * 2 ^ k * 16384 =
-      ap (λ x. div_ceil (length bytes + more) (16384 * 2 ^ k) * x) (mul_comm 16384 (2 ^ k)) ∙ sym (mul_assoc _ (2 ^ k) 16384) in
-      let few : length done ≤ div_ceil (length bytes + more) (16384 * 2 ^ k) * 2 ^ k = omega (arith, length-done, keeps.counted) in
+      ap (λ x. div_ceil (length bytes + more) (16384 * 2 ^ k) * x) (mul_comm 16384 (2 ^ k))
+      ∙ sym (mul_assoc _ (2 ^ k) 16384) in
+      let few : length done ≤ div_ceil (length bytes + more) (16384 * 2 ^ k) * 2 ^ k =
+      omega (arith, length-done, keeps.counted) in
       le_trans (ceil_at_most (length done) (2 ^ k) (div_ceil (length bytes + more) (16384 * 2 ^ k)) (pow_pos k) few) le
 
   -- a part that does not end its block
@@ -80,23 +82,34 @@ module _ (count : ℕ) (hasher : Sha256) (done : List (List ℕ)) (bytes : List 
       → ((count + length part) % 16384 ≡ 0 → ⊥) → ((m : List ℕ) → Holds256 hasher m → Holds256 hasher' (m ++ part))
       → KeepsBlocks (count + length part) hasher' done (bytes ++ part)
   adds_open part hasher' fits small open_still holds =
-      let same : in_blocks (count + length part) ≡ in_blocks count = ap (λ q. q * 16384) (let q : (count + length part) / 16384 ≡ count / 16384 = omega (arith, open_still) in q) in
+      let same : in_blocks (count + length part) ≡ in_blocks count =
+      ap (λ q. q * 16384) (let q : (count + length part) / 16384 ≡ count / 16384 = omega (arith, open_still) in q) in
       record {
         counted = omega (arith, keeps.counted, length-append bytes part);
         small = omega (arith, keeps.counted);
-        whole = keeps.whole ∙ ap leaves (sym (ap (λ n. take n (bytes ++ part)) same ∙ take-append-le (in_blocks count) bytes part within));
-        rest = subst (Holds256 hasher') (sym (ap (λ n. drop n (bytes ++ part)) same ∙ drop-append-le (in_blocks count) bytes part within)) (holds _ keeps.rest);
+        whole =
+            keeps.whole
+            ∙ ap leaves
+            (sym (ap (λ n. take n (bytes ++ part)) same ∙ take-append-le (in_blocks count) bytes part within));
+        rest =
+            subst (Holds256 hasher')
+            (sym (ap (λ n. drop n (bytes ++ part)) same ∙ drop-append-le (in_blocks count) bytes part within))
+            (holds _ keeps.rest);
       }
 
   joined : (part : List ℕ) → take (in_blocks count) bytes ++ (drop (in_blocks count) bytes ++ part) ≡ bytes ++ part
-  joined part = sym (append_assoc (take (in_blocks count) bytes) (drop (in_blocks count) bytes) part) ∙ ap (λ xs. xs ++ part) (take-append-drop (in_blocks count) bytes)
+  joined part =
+      sym (append_assoc (take (in_blocks count) bytes) (drop (in_blocks count) bytes) part)
+      ∙ ap (λ xs. xs ++ part) (take-append-drop (in_blocks count) bytes)
 
   -- the leaves with a last block, whole or not
   pub leaves-last : (part : List ℕ) → 0 < count % 16384 + length part → count % 16384 + length part ≤ 16384
       → done ++ sha256 (drop (in_blocks count) bytes ++ part) ∷ [] ≡ leaves (bytes ++ part)
   leaves-last part some fits =
       let last = drop (in_blocks count) bytes ++ part in
-      let long : length last ≡ count % 16384 + length part = length-append (drop (in_blocks count) bytes) part ∙ omega (arith, length-drop (in_blocks count) bytes, keeps.counted) in
+      let long : length last ≡ count % 16384 + length part =
+      length-append (drop (in_blocks count) bytes) part
+      ∙ omega (arith, length-drop (in_blocks count) bytes, keeps.counted) in
       ap (λ xs. xs ++ sha256 last ∷ []) keeps.whole
       ∙ sym (leaves-push (take (in_blocks count) bytes) last (count / 16384) length-front (omega (arith, long)) (omega (arith, long)))
       ∙ ap leaves (joined part)
@@ -108,13 +121,18 @@ module _ (count : ℕ) (hasher : Sha256) (done : List (List ℕ)) (bytes : List 
       → Holds256 hasher' []
       → KeepsBlocks (count + length part) hasher' done' (bytes ++ part)
   adds_full part hasher' done' some fits small full is holds =
-      let long : length (bytes ++ part) ≡ count + length part = length-append bytes part ∙ omega (arith, keeps.counted) in
+      let long : length (bytes ++ part) ≡ count + length part =
+      length-append bytes part ∙ omega (arith, keeps.counted) in
       let all : in_blocks (count + length part) ≡ count + length part = omega (arith, full) in
       record {
         counted = sym long;
         small = omega (arith, keeps.counted);
-        whole = is ∙ leaves-last part (omega arith) fits ∙ ap leaves (sym (take_all (in_blocks (count + length part)) (bytes ++ part) (omega (arith, long, all))));
-        rest = subst (Holds256 hasher') (sym (drop_all (in_blocks (count + length part)) (bytes ++ part) (omega (arith, long, all)))) holds;
+        whole =
+            is ∙ leaves-last part (omega arith) fits
+            ∙ ap leaves (sym (take_all (in_blocks (count + length part)) (bytes ++ part) (omega (arith, long, all))));
+        rest =
+            subst (Holds256 hasher')
+            (sym (drop_all (in_blocks (count + length part)) (bytes ++ part) (omega (arith, long, all)))) holds;
       }
 
   -- at the end: the last block is whole

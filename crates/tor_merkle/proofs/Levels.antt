@@ -56,7 +56,8 @@ level_above-nodes base hashes k =
     ap (λ n. div_ceil n 2) (length-nodes base hashes k) ∙ ceil_ceil (length hashes) (2 ^ k) 2 (pow_pos k) (omega arith)
     ∙ ap (div_ceil (length hashes)) (sym (pow-succ' 2 k)) in
     let pad = zero_subtree (base + k) in
-    let children = λ (i : ℕ). node_of (get_or (nodes base hashes k) (2 * i) pad) (get_or (nodes base hashes k) (2 * i + 1) pad) in
+    let children =
+    λ (i : ℕ). node_of (get_or (nodes base hashes k) (2 * i) pad) (get_or (nodes base hashes k) (2 * i + 1) pad) in
     ap (λ n. map children (range_with_len 0 n)) count
     ∙ map-range_same children (node base hashes (suc k)) (div_ceil (length hashes) (2 ^ suc k)) pad
     (λ i _. simp get_or-nodes)

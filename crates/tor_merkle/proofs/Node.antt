@@ -82,7 +82,8 @@ pub subtree_root-padded : (base : ℕ) (hashes : List (List ℕ)) (top : ℕ) �
 subtree_root-padded base hashes top fits =
     let all = padded top (zero_subtree base) hashes in
     let len = length-padded top (zero_subtree base) hashes fits in
-    let one_run : run_at (2 ^ top) all 0 ≡ all = ap (λ a. take (2 ^ top) (drop a all)) (zero-mul (2 ^ top)) ∙ take_all (2 ^ top) all (omega (arith, len)) in
+    let one_run : run_at (2 ^ top) all 0 ≡ all =
+    ap (λ a. take (2 ^ top) (drop a all)) (zero-mul (2 ^ top)) ∙ take_all (2 ^ top) all (omega (arith, len)) in
     ap (subtree_root top) (sym one_run) ∙ subtree_root-padded_run base hashes top top 0 fits (omega arith)
 
 -- whole nodes stay where hashes are added at the end
@@ -92,4 +93,5 @@ unfolding node
 node-append base hashes more zero i le = get_or_append_left hashes more (zero_subtree base) i (omega arith)
 node-append base hashes more (suc k) i le =
     let wide : (i + 1) * 2 ^ suc k ≡ (i + 1) * (2 ^ k + 2 ^ k) = ap (λ x. (i + 1) * x) (two-pow-succ k) in
-    ap₂ node_of (node-append base hashes more k (2 * i) (omega arith)) (node-append base hashes more k (2 * i + 1) (omega arith))
+    ap₂ node_of (node-append base hashes more k (2 * i) (omega arith))
+    (node-append base hashes more k (2 * i + 1) (omega arith))

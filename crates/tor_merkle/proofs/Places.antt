@@ -29,7 +29,8 @@ same_above n rest j d e even =
 -- below digit j, a multiple of 2 ^ j has only zeros
 pub none_below : (n m i d : ℕ) → n ≡ m * 2 ^ (i + suc d) → n / 2 ^ i % 2 ≡ 0
 none_below n m i d e =
-    let split : n ≡ (m * 2 ^ suc d) * 2 ^ i = e ∙ ap (λ x. m * x) (ap (λ k. 2 ^ k) (omega arith) ∙ pow-add 2 (suc d) i) ∙ sym (mul_assoc m (2 ^ suc d) (2 ^ i)) in
+    let split : n ≡ (m * 2 ^ suc d) * 2 ^ i =
+    e ∙ ap (λ x. m * x) (ap (λ k. 2 ^ k) (omega arith) ∙ pow-add 2 (suc d) i) ∙ sym (mul_assoc m (2 ^ suc d) (2 ^ i)) in
     let q : n / 2 ^ i ≡ m * 2 ^ suc d = ap (λ x. x / 2 ^ i) split ∙ mul-div_cancel (m * 2 ^ suc d) (pow_pos i) in
     let twice : m * 2 ^ suc d ≡ (m * 2 ^ d) * 2 = ap (λ x. m * x) (pow-suc 2 d) ∙ sym (mul_assoc m (2 ^ d) 2) in
     omega (arith, q, twice)

@@ -23,7 +23,8 @@ module _ (level count : ℕ) (tops hashes : List (List ℕ)) (keeps : KeepsTops 
   last_whole j odd e one =
       let pos = pow_pos j in
       let q : count / 2 ^ j ≡ odd = ap (λ x. x / 2 ^ j) e ∙ mul-div_cancel odd pos in
-      let up : (odd - 1 + 1) * 2 ^ j ≡ odd * 2 ^ j = ap (λ x. x * 2 ^ j) (let same : odd - 1 + 1 ≡ odd = omega arith in same) in
+      let up : (odd - 1 + 1) * 2 ^ j ≡ odd * 2 ^ j =
+      ap (λ x. x * 2 ^ j) (let same : odd - 1 + 1 ≡ odd = omega arith in same) in
       record {
         low = omega (arith, e, up);
         high = omega (arith, e, up);
@@ -40,7 +41,8 @@ module _ (level count : ℕ) (tops hashes : List (List ℕ)) (keeps : KeepsTops 
 
     pub above_high : count < (place / 2 + 1) * 2 ^ suc j
     above_high =
-        let wide : (place / 2 + 1) * 2 ^ suc j ≡ (place / 2 + 1) * (2 ^ j + 2 ^ j) = ap (λ x. (place / 2 + 1) * x) (two-pow-succ j) in
+        let wide : (place / 2 + 1) * 2 ^ suc j ≡ (place / 2 + 1) * (2 ^ j + 2 ^ j) =
+        ap (λ x. (place / 2 + 1) * x) (two-pow-succ j) in
         let pos = pow_pos j in
         elim (cases_eq (place % 2) 1) [
           | inl odd ↦ let same : place ≡ 2 * (place / 2) + 1 = omega arith in omega (arith, last.strict odd, ap (λ x. x * 2 ^ j) same)
@@ -55,7 +57,9 @@ module _ (level count : ℕ) (tops hashes : List (List ℕ)) (keeps : KeepsTops 
       low = above_low;
       high = omega (arith, above_high);
       strict = λ _. above_high;
-      is = ap₂ node_of (top_left level count tops hashes keeps j place (omega (arith, last.low)) (last.strict odd) odd) (last.is ∙ ap (node level hashes j) (omega arith));
+      is =
+          ap₂ node_of (top_left level count tops hashes keeps j place (omega (arith, last.low)) (last.strict odd) odd)
+          (last.is ∙ ap (node level hashes j) (omega arith));
     }
 
     -- at an even place, nothing stands on its right
@@ -64,12 +68,15 @@ module _ (level count : ℕ) (tops hashes : List (List ℕ)) (keeps : KeepsTops 
     unfolding node
     last_left even =
         let same : place ≡ 2 * (place / 2) = omega arith in
-        let past : length hashes ≤ (2 * (place / 2) + 1) * 2 ^ j = omega (arith, last.high, keeps.counted, ap (λ x. x * 2 ^ j) same) in
+        let past : length hashes ≤ (2 * (place / 2) + 1) * 2 ^ j =
+        omega (arith, last.high, keeps.counted, ap (λ x. x * 2 ^ j) same) in
         record {
           low = above_low;
           high = omega (arith, above_high);
           strict = λ _. above_high;
-          is = ap₂ node_of (last.is ∙ ap (node level hashes j) same) (sym (node_past level hashes j (2 * (place / 2) + 1) past));
+          is =
+              ap₂ node_of (last.is ∙ ap (node level hashes j) same)
+              (sym (node_past level hashes j (2 * (place / 2) + 1) past));
         }
 
     -- where one node covers all, it is the root
@@ -79,4 +86,5 @@ module _ (level count : ℕ) (tops hashes : List (List ℕ)) (keeps : KeepsTops 
           | inl is ↦ is
           | inr more ↦ absurd (omega (arith, last.low, mul-le-mul_right {m = 1} {n = place} (2 ^ j) (omega arith)))
         ] in
-        last.is ∙ ap (node level hashes j) first ∙ sym (subtree_root-padded level hashes j (omega (arith, keeps.counted)))
+        last.is ∙ ap (node level hashes j) first
+        ∙ sym (subtree_root-padded level hashes j (omega (arith, keeps.counted)))

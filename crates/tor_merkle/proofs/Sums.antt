@@ -16,15 +16,18 @@ pub padded_root-leaves : (content : List ℕ) → padded_root 0 (leaves content)
 unfolding padded_root
 padded_root-leaves content =
     let top = height (length (leaves content)) in
-    subtree_root-padded 0 (leaves content) top (height_covers (length (leaves content))) ∙ sym (pieces_root-node content)
+    subtree_root-padded 0 (leaves content) top (height_covers (length (leaves content)))
+    ∙ sym (pieces_root-node content)
 
 pub nodes-piece_layer : (content : List ℕ) (k : ℕ)
     → cond (leb (length (leaves content)) (2 ^ k)) [] (nodes 0 (leaves content) k) ≡ piece_layer content (16384 * 2 ^ k)
 nodes-piece_layer content k = elim (cases_lt (16384 * 2 ^ k) (length content)) [
   | inl more ↦
-      cond-false _ [] _ (lt-leb (length (leaves content)) (2 ^ k) (longer_than_piece content k more)) ∙ sym (piece_layer-nodes content k more)
+      cond-false _ [] _ (lt-leb (length (leaves content)) (2 ^ k) (longer_than_piece content k more))
+      ∙ sym (piece_layer-nodes content k more)
   | inr less ↦
-      cond-true _ [] _ (le-leb (length (leaves content)) (2 ^ k) (few less)) ∙ sym (piece_layer-none content (16384 * 2 ^ k) less)
+      cond-true _ [] _ (le-leb (length (leaves content)) (2 ^ k) (few less))
+      ∙ sym (piece_layer-none content (16384 * 2 ^ k) less)
 ] where
   few : length content ≤ 16384 * 2 ^ k → length (leaves content) ≤ 2 ^ k
   few less = elim (cases_lt (2 ^ k) (length (leaves content))) [

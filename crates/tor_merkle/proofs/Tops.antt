@@ -25,7 +25,9 @@ module _ (level count : ℕ) (tops hashes : List (List ℕ)) (keeps : KeepsTops 
       let pos = pow_pos j in
       let within : (2 * (rest / 2) + 1) * 2 ^ j ≤ length hashes =
       omega (arith, keeps.counted, ap (λ x. x * 2 ^ j) (let same : 2 * (rest / 2) + 1 ≡ rest = omega arith in same)) in
-      let left = top_left j rest (omega arith) (omega arith) odd ∙ sym (node-append level hashes (hash ∷ []) j (2 * (rest / 2)) within) in
+      let left =
+      top_left j rest (omega arith) (omega arith) odd
+      ∙ sym (node-append level hashes (hash ∷ []) j (2 * (rest / 2)) within) in
       ap₂ node_of left (is ∙ ap (node level (hashes ++ hash ∷ []) j) (omega arith))
 
   -- what is kept after a push that ends at the digit j, the first that is 0
@@ -38,18 +40,23 @@ module _ (level count : ℕ) (tops hashes : List (List ℕ)) (keeps : KeepsTops 
       let all = hashes ++ hash ∷ [] in
       elim (cases_order i j) [
         | inl same ↦
-            let q : (count + 1) / 2 ^ j ≡ rest + 1 = div_between (count + 1) j (rest + 1) (omega (arith, e)) (omega (arith, e, pow_pos j)) in
+            let q : (count + 1) / 2 ^ j ≡ rest + 1 =
+            div_between (count + 1) j (rest + 1) (omega (arith, e)) (omega (arith, e, pow_pos j)) in
             let place : rest ≡ (count + 1) / 2 ^ i - 1 = omega (arith, q, ap (λ x. (count + 1) / 2 ^ x) same) in
-            ap (λ x. get_or (set tops j top) x zero_leaf) same ∙ get_or-set_same tops j top zero_leaf within ∙ is ∙ ap₂ (node level all) (sym same) place
+            ap (λ x. get_or (set tops j top) x zero_leaf) same ∙ get_or-set_same tops j top zero_leaf within ∙ is
+            ∙ ap₂ (node level all) (sym same) place
         | inr (inl less) ↦
-            let upper : count + 1 ≡ (rest + 1) * 2 ^ (i + suc (j - i - 1)) = e ∙ ap (λ x. (rest + 1) * 2 ^ x) (omega arith) in
+            let upper : count + 1 ≡ (rest + 1) * 2 ^ (i + suc (j - i - 1)) =
+            e ∙ ap (λ x. (rest + 1) * 2 ^ x) (omega arith) in
             absurd (omega (arith, none_below (count + 1) (rest + 1) i (j - i - 1) upper))
         | inr (inr more) ↦
             let up : j + suc (i - j - 1) ≡ i = omega arith in
             let same : (count + 1) / 2 ^ i ≡ count / 2 ^ i =
-            ap (λ x. (count + 1) / 2 ^ x) (sym up) ∙ same_above count rest j (i - j - 1) e even ∙ ap (λ x. count / 2 ^ x) up in
+            ap (λ x. (count + 1) / 2 ^ x) (sym up) ∙ same_above count rest j (i - j - 1) e even
+            ∙ ap (λ x. count / 2 ^ x) up in
             let whole : (count / 2 ^ i - 1 + 1) * 2 ^ i ≤ length hashes =
-            le_trans (mul-le-mul_right {n = count / 2 ^ i} (2 ^ i) (omega (arith, same))) (omega (arith, div-mul-le_self count (2 ^ i), keeps.counted)) in
+            le_trans (mul-le-mul_right {n = count / 2 ^ i} (2 ^ i) (omega (arith, same)))
+            (omega (arith, div-mul-le_self count (2 ^ i), keeps.counted)) in
             get_or-set_other tops j i top zero_leaf (omega arith)
             ∙ keeps.top i (ap (λ x. x % 2) (sym same) ∙ one)
             ∙ sym (node-append level hashes (hash ∷ []) i (count / 2 ^ i - 1) whole)

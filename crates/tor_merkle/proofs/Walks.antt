@@ -23,5 +23,6 @@ pub one_made : {M : Type 1} {𝓤 : Ura M} {𝓛 : Logic 𝓤} {K : Type 0} {Γ 
     → Step K 𝓛 (‵ ((of_one R).own_val (x, tt) (one v ∷ [])) ∷ Γ) G (‵ (R.own_val x (v ∷ [])) ∷ Γ) G
 one_made t R x v = step (λ s.
     nothing t $ move t (1 ∷ 0 ∷ []) $ fjoin t $ feq_i t (List Val) (one v ∷ []) (one v ∷ []) refl $ fjoin t $
-    fpack t (Valss (R ∷ [])) (within (record { name = []; args = []; types = []; fields = R ∷ [] }) (x, tt) (one v ∷ []))
+    fpack t (Valss (R ∷ []))
+    (within (record { name = []; args = []; types = []; fields = R ∷ [] }) (x, tt) (one v ∷ []))
     (v ∷ [], tt) $ s)

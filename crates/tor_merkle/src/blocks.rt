@@ -8,7 +8,7 @@ ghost use Rattle.tor_merkle.specs.steps.Blocks.{FitsBlock};
 
 use crate::hash::Hash;
 use crate::pieces::PieceTree;
-use crate::trail::{History, Run};
+use crate::trail::History;
 use crate::{BLOCK_LENGTH, MAX_LENGTH};
 use sha2::{Digest, Sha256};
 use std::alloc::{AllocError, Global};
@@ -98,7 +98,7 @@ impl BlockHasher {
         ensures bytes { self.new.bytes ≡ self.old.bytes ++ part.now }
         ensures room { self.old.room ≤ self.new.room }
     {
-        let fed = self.fed.with(&Run { items: part });
+        let fed = self.fed.with(part);
         self.hasher.update(part);
         self.count += part.len() as u64;
         if self.count % BLOCK_LENGTH as u64 == 0 {

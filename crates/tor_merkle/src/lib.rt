@@ -53,4 +53,4 @@ pub use hash::{Hash, leaf, pair, zero};
 pub use piece_length::is_piece_length;
 pub use plain::whole;
 pub use stack::{Stack, layer_root};
-pub use trail::{History, Run};
+pub use trail::History;

@@ -8,7 +8,7 @@ ghost use Rattle.tor_merkle.specs.steps.Pieces.{EndsPiece, ClosesPiece};
 
 use crate::hash::Hash;
 use crate::stack::Stack;
-use crate::trail::{History, Run};
+use crate::trail::History;
 use std::alloc::{AllocError, Global};
 use std::marker::Model;
 
@@ -69,7 +69,7 @@ impl PieceTree {
         ensures leaves { self.new.leaves ≡ self.old.leaves ++ leaf ∷ [] }
         ensures room { self.old.room ≤ self.new.room }
     {
-        let leaves = self.leaves.with(&Run { items: &[leaf] });
+        let leaves = self.leaves.with(&[leaf]);
         if self.blocks.len() == 1 << self.height {
             close_piece(
                 self.height,

@@ -5,7 +5,7 @@ ghost use Rattle.tor_merkle.specs.Stack.{padded_root, padded_subtree};
 
 use crate::digits::{height_of, lowest_one};
 use crate::hash::{Hash, pair, zero};
-use crate::trail::{History, Run};
+use crate::trail::History;
 use std::marker::Model;
 
 /// The levels of a tree of at most 2^36 leaves.
@@ -53,7 +53,7 @@ impl Stack {
         ensures hashes { self.new.hashes ≡ self.old.hashes ++ hash ∷ [] }
         ensures level { self.new.level ≡ self.old.level }
     {
-        let pushed = self.pushed.with(&Run { items: &[hash] });
+        let pushed = self.pushed.with(&[hash]);
         let mut top = hash;
         let mut digit = 0;
         let mut rest = self.count;
@@ -81,7 +81,8 @@ impl Stack {
         self.count == 0
     }
 
-    /// The root of the tree over the hashes pushed, followed by zero subtrees up to a power of two.
+    /// The root of the tree over the hashes pushed, followed by zero subtrees up to a power of two (BEP 52,
+    /// "pieces root").
     pub fn root(&self) -> Hash
         requires { 0 < length self.now.hashes }
         ensures { result ≡ padded_root self.now.level self.now.hashes }
@@ -112,7 +113,7 @@ impl Stack {
 }
 
 /// The root of the tree over `hashes`, roots of subtrees of `2^level` leaves, followed by zero
-/// subtrees up to a power of two.
+/// subtrees up to a power of two (BEP 52, "piece layers").
 pub fn layer_root(hashes: &[Hash], level: u32) -> Hash
     requires level { level ≤ 36 }
     requires some { 0 < length hashes.now }

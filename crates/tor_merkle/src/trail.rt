@@ -22,10 +22,10 @@ impl<T> Model for History<T> {
 // It owns nothing.
 unsafe impl<T: Send> Send for History<T> {}
 
-/// Items that lie in a slice, as one value.
+// Items that lie in a slice, as one value.
 #[derive(Clone, Copy)]
-pub struct Run<'a, T> {
-    pub items: &'a [T],
+struct Run<'a, T> {
+    items: &'a [T],
 }
 
 impl<T> History<T> {
@@ -36,8 +36,14 @@ impl<T> History<T> {
         History { of: PhantomData }
     }
 
-    /// After a run more.
-    pub fn with(&self, _run: &Run<'_, T>) -> History<T>
+    /// After these items more.
+    pub fn with(&self, items: &[T]) -> History<T>
+        ensures { result.items ≡ self.now.items ++ items.now }
+    {
+        self.joined(&Run { items })
+    }
+
+    fn joined(&self, _run: &Run<'_, T>) -> History<T>
         ensures { result.items ≡ self.now.items ++ _run.now.items.now }
     {
         History { of: PhantomData }

@@ -18,7 +18,8 @@ abbrev pub Reading : Type 0 → Type 0
 Reading A = Result (A × List ℕ) (Fault × List ℕ)
 
 infixl 10 ◌>>=◌
-abbrev pub ◌>>=◌ : {A B : Type 0} → Result A (Fault × List ℕ) → (A → Result B (Fault × List ℕ)) → Result B (Fault × List ℕ)
+abbrev pub ◌>>=◌ : {A B : Type 0} → Result A (Fault × List ℕ) → (A → Result B (Fault × List ℕ))
+    → Result B (Fault × List ℕ)
 (Ok x) >>= f = f x
 (Err e) >>= f = Err e
 
@@ -70,11 +71,14 @@ abbrev pub string_after : List ℕ → List ℕ → List ℕ → Reading (List �
 string_after bytes run [] = Err (Truncated, [])
 string_after bytes run (c ∷ more) =
     if (c == colon) && is_shortest run
-    then (if nat_le (number run) (length more) then Ok (take (number run) more, drop (number run) more) else Err (Truncated, []))
+    then (if nat_le (number run) (length more)
+    then Ok (take (number run) more, drop (number run) more)
+    else Err (Truncated, []))
     else Err (BadLength, bytes)
 
 unfoldable pub string_at : List ℕ → Reading (List ℕ)
-string_at bytes = string_after bytes (take (prefix_len is_ascii_digit bytes) bytes) (drop (prefix_len is_ascii_digit bytes) bytes)
+string_at bytes =
+    string_after bytes (take (prefix_len is_ascii_digit bytes) bytes) (drop (prefix_len is_ascii_digit bytes) bytes)
 
 abbrev pub in_range : List ℕ → List ℕ → Option ℤ → Reading ℤ
 in_range bytes more None = Err (IntegerRange, bytes)
@@ -87,7 +91,8 @@ integer_after bytes run (c ∷ more) =
 
 -- `bytes` begins with the `i`, and `rest` is what follows it
 unfoldable pub integer_at : List ℕ → List ℕ → Reading ℤ
-integer_at bytes rest = integer_after bytes (take (prefix_len is_integer_byte rest) rest) (drop (prefix_len is_integer_byte rest) rest)
+integer_at bytes rest =
+    integer_after bytes (take (prefix_len is_integer_byte rest) rest) (drop (prefix_len is_integer_byte rest) rest)
 
 -- the items up to the `e`; a length of the bytes is fuel enough
 abbrev pub items_at : (List ℕ → Reading Data) → ℕ → List ℕ → Reading Items
@@ -112,12 +117,14 @@ pairs_at read (suc fuel) last (c ∷ rest) =
     else (if is_ascii_digit c
     then (string_at (c ∷ rest) >>= λ key.
     if follows last key.0
-    then (read key.1 >>= λ value. pairs_at read fuel (Some key.0) value.1 >>= λ others. Ok (pair key.0 value.0 others.0, others.1))
+    then (read key.1 >>= λ value. pairs_at read fuel (Some key.0) value.1 >>= λ others.
+    Ok (pair key.0 value.0 others.0, others.1))
     else Err (KeyOrder, c ∷ rest))
     else Err (KeyNotBytes, c ∷ rest))
 
 -- what is read inside, if a list or dictionary may still be opened
-abbrev pub opened : {A : Type 0} → Option (List ℕ → Reading Data) → List ℕ → ((List ℕ → Reading Data) → Reading A) → Reading A
+abbrev pub opened : {A : Type 0} → Option (List ℕ → Reading Data) → List ℕ → ((List ℕ → Reading Data) → Reading A)
+    → Reading A
 opened None bytes inside = Err (TooDeep, bytes)
 opened (Some read) bytes inside = inside read
 
@@ -126,8 +133,10 @@ value_with nested [] = Err (Truncated, [])
 value_with nested (c ∷ rest) =
     if c == letter_i then (integer_at (c ∷ rest) rest >>= λ n. Ok (integer n.0, n.1))
     else (if is_ascii_digit c then (string_at (c ∷ rest) >>= λ text. Ok (string text.0, text.1))
-    else (if c == letter_l then (opened nested (c ∷ rest) (λ read. items_at read (length rest) rest) >>= λ items. Ok (list items.0, items.1))
-    else (if c == letter_d then (opened nested (c ∷ rest) (λ read. pairs_at read (length rest) None rest) >>= λ pairs. Ok (dictionary pairs.0, pairs.1))
+    else (if c == letter_l then (opened nested (c ∷ rest) (λ read. items_at read (length rest) rest) >>= λ items.
+    Ok (list items.0, items.1))
+    else (if c == letter_d then (opened nested (c ∷ rest) (λ read. pairs_at read (length rest) None rest) >>= λ pairs.
+    Ok (dictionary pairs.0, pairs.1))
     else Err (BadByte, c ∷ rest))))
 
 -- a value inside, where so many lists and dictionaries may still be opened

@@ -23,7 +23,9 @@ skip-returns-in-Err-clause-skipped t c =
 pub skip-returns-else-room-eq0-clause-skipped : goal.skip-returns-else-room-eq0-clause-skipped
 skip-returns-else-room-eq0-clause-skipped t c =
     λ d after lawful is.
-    let inside = opened_values d c.args.room c.args.bytes.now after lawful is (two_heads (get_or c.args.bytes.now 0 0) (λ other. omega arith)) in
+    let inside =
+    opened_values d c.args.room c.args.bytes.now after lawful is
+    (two_heads (get_or c.args.bytes.now 0 0) (λ other. omega arith)) in
     c.skip_all.ensures.skipped inside.0 after inside.1 inside.2
 
 pub skip-returns-in-Ok-string-clause-skipped : goal.skip-returns-in-Ok-string-clause-skipped
@@ -78,6 +80,7 @@ skip_all-values-preserved t c =
       λ items after lawful is.
           let left = c.values.invariant.1 items after lawful is in
           let next = next_item left.0 c.values.rest.now after left.2 other in
-          let parts = (lawful-item c.args.room next.0 next.1).0 (subst (ItemsAreLawfulWithin c.args.room) next.2 left.1) in
+          let parts =
+          (lawful-item c.args.room next.0 next.1).0 (subst (ItemsAreLawfulWithin c.args.room) next.2 left.1) in
           (next.1, parts.1, c.in_ok-rest.ensures.skipped next.0 _ parts.0 next.3),
     )

@@ -1,16 +1,18 @@
 use Rattle.std.proofs.Common.{◌≡◌, ◌-◌, length, take, drop, sym, ap, ◌∙◌, arith}
 use Rattle.std.proofs.lemmas.List.{length-take, length-drop}
 use Rattle.tor_bencode.specs.Place.{place_in}
-use Rattle.tor_bencode.proofs.Skips.{open_pairs, next_pair, none_left, place_found, place_later}
+use Rattle.tor_bencode.proofs.SkippedPairs.{open_pairs, next_pair, none_left, place_found, place_later}
 use Rattle.tor_bencode.proofs.place.span.Goals as goal
 
 pub pairs-init : goal.pairs-init
 pairs-init c =
-    let size : length (take (length c.args.bytes.now - 1) (drop 1 c.args.bytes.now)) ≡ length c.args.bytes.now - 1 = simp (length-take, length-drop) (omega arith) in (
+    let size : length (take (length c.args.bytes.now - 1) (drop 1 c.args.bytes.now)) ≡ length c.args.bytes.now - 1 =
+    simp (length-take, length-drop) (omega arith) in (
       omega arith,
       λ d lawful is.
           let inside = open_pairs d c.args.bytes.now lawful is (omega arith) in
-          let at : 1 ≡ length c.args.bytes.now - length (take (length c.args.bytes.now - 1) (drop 1 c.args.bytes.now)) = omega arith in
+          let at : 1 ≡ length c.args.bytes.now - length (take (length c.args.bytes.now - 1) (drop 1 c.args.bytes.now)) =
+          omega arith in
           (inside.0, inside.1, inside.2, inside.3 c.args.key.now ∙ ap (λ n. place_in n c.args.key.now inside.0) at),
     )
 
@@ -24,14 +26,16 @@ pub returns-in_default-skip : goal.returns-in_default-skip
 returns-in_default-skip c =
     λ d lawful is.
     let left = c.pairs.invariant.1 d lawful is in
-    let next = next_pair left.0 c.pairs.rest.now c.in-Ok.name.now c.in-Ok.after.now left.1 left.2 c.in-Ok.ensures.read in
+    let next =
+    next_pair left.0 c.pairs.rest.now c.in-Ok.name.now c.in-Ok.after.now left.1 left.2 c.in-Ok.ensures.read in
     absurd (c.in_default-skip.ensures.skipped next.value _ next.lawful next.follows)
 
 pub returns-then-eq : goal.returns-then-eq
 returns-then-eq c =
     λ d lawful is.
     let left = c.pairs.invariant.1 d lawful is in
-    let next = next_pair left.0 c.pairs.rest.now c.in-Ok.name.now c.in-Ok.after.now left.1 left.2 c.in-Ok.ensures.read in
+    let next =
+    next_pair left.0 c.pairs.rest.now c.in-Ok.name.now c.in-Ok.after.now left.1 left.2 c.in-Ok.ensures.read in
     let then = c.in-Some.ensures.skipped next.value _ next.lawful next.follows in
     place_found left.0 c.args.bytes.now c.pairs.rest.now c.in-Ok.name.now c.in-Ok.after.now c.in-Some.next.now c.args.key.now next c.pairs.invariant.0 then (sym c.eq.ensures ∙ c.if-eq.true) ∙ sym left.3
 
@@ -40,7 +44,8 @@ pairs-preserved c = (
   omega (arith, c.pairs.invariant.0, c.in-Ok.ensures.shorter, c.in-Some.ensures.shorter),
   λ d lawful is.
       let left = c.pairs.invariant.1 d lawful is in
-      let next = next_pair left.0 c.pairs.rest.now c.in-Ok.name.now c.in-Ok.after.now left.1 left.2 c.in-Ok.ensures.read in
+      let next =
+      next_pair left.0 c.pairs.rest.now c.in-Ok.name.now c.in-Ok.after.now left.1 left.2 c.in-Ok.ensures.read in
       let then = c.in-Some.ensures.skipped next.value _ next.lawful next.follows in (
         next.others,
         next.lawful_others,

@@ -7,70 +7,96 @@ use Rattle.std.proofs.lemmas.Result.{err_from_is_err_and}
 use Rattle.tor_bencode.specs.Data.{Data, Items, Pairs, pair, no_pairs, integer, list, dictionary}
 use Rattle.tor_bencode.specs.steps.Reading.{◌>>=◌, Reading, Stops, value_at, items_at, pairs_at}
 use Rattle.tor_bencode.specs.View.{view, items_view, pairs_view}
-use Rattle.tor_bencode.proofs.Loops.{with_items, with_pairs, pairs_before, items_view-push, pairs_view-push, items_end, items_go_on, pairs_end, pairs_go_on, pairs_stop_key, pairs_stop_order, pairs_stop_value, stops_bind, value_integer, value_list, value_dictionary, value_too_deep}
+use Rattle.tor_bencode.proofs.Loops.{with_items, with_pairs, pairs_before, items_view-push, items_end, items_go_on, stops_bind}
+use Rattle.tor_bencode.proofs.PairLoops.{pairs_view-push, pairs_end, pairs_go_on, pairs_stop_key, pairs_stop_order, pairs_stop_value}
+use Rattle.tor_bencode.proofs.Values.{value_integer, value_list, value_dictionary, value_too_deep}
 use Rattle.tor_bencode.proofs.Views.{view-Int, view-List, view-Dict}
 use Rattle.tor_bencode.proofs.read.+read.Goals as goal
 
 pub list-returns-in-101-clause-read : goal.list-returns-in-101-clause-read
 list-returns-in-101-clause-read t c =
     let l = c.items in
-    items_end (value_at c.args.room) (items_view l.items.items) l.invariant.0 l.rest.now _ (omega arith) (omega arith) l.invariant.1 l.invariant.3
+    items_end (value_at c.args.room) (items_view l.items.items) l.invariant.0 l.rest.now _ (omega arith)
+    (omega arith) l.invariant.1 l.invariant.3
 
 pub list-items-preserved : goal.list-items-preserved
 list-items-preserved t c =
     let l = c.items in
     let other : get_or l.rest.now 0 0 ≡ 101 → ⊥ = omega arith in
-    let step = items_go_on (value_at c.args.room) (items_view l.items.items) l.invariant.0 l.rest.now (view c.in_ok-item.item) c.in_ok-item.after.now _ (omega arith) other l.invariant.1 c.in_ok-item.ensures.shorter c.in_ok-item.ensures.read l.invariant.3 in
+    let step =
+    items_go_on (value_at c.args.room) (items_view l.items.items) l.invariant.0 l.rest.now
+    (view c.in_ok-item.item) c.in_ok-item.after.now _
+    (omega arith) other l.invariant.1 c.in_ok-item.ensures.shorter c.in_ok-item.ensures.read l.invariant.3 in
     let front = ap items_view c.in_ok-push.ensures.items ∙ items_view-push l.items.items c.in_ok-item.item in
     (step.0, step.1, omega (arith, c.in_ok-item.ensures.shorter), ap (λ items. with_items items (items_at (value_at c.args.room) step.0 c.in_ok-item.after.now)) front ∙ step.2)
 
 pub dictionary-returns-in-101-clause-read : goal.dictionary-returns-in-101-clause-read
 dictionary-returns-in-101-clause-read t c =
     let l = c.pairs in
-    pairs_end (value_at c.args.room) (pairs_view l.pairs.items) l.invariant.0 _ l.rest.now _ (omega arith) (omega arith) l.invariant.1 l.invariant.3
+    pairs_end (value_at c.args.room) (pairs_view l.pairs.items) l.invariant.0 _ l.rest.now _ (omega arith)
+    (omega arith) l.invariant.1 l.invariant.3
 
 pub dictionary-returns-in_err-key-clause-read : goal.dictionary-returns-in_err-key-clause-read
 dictionary-returns-in_err-key-clause-read t c =
     let l = c.pairs in
     let p = err_from_is_err_and c.from_residual.result c.from_residual.ensures.1 in
-    rw (p.1, p.2) (pairs_stop_key (value_at c.args.room) (pairs_view l.pairs.items) l.invariant.0 _ l.rest.now c.in_err-key.field-0.0 _ (omega arith) (omega arith) (omega arith) l.invariant.1 c.in_err-key.ensures.read l.invariant.3)
+    rw (p.1, p.2)
+    (pairs_stop_key (value_at c.args.room) (pairs_view l.pairs.items) l.invariant.0 _ l.rest.now c.in_err-key.field-0.0 _ (omega arith) (omega arith) (omega arith) l.invariant.1 c.in_err-key.ensures.read l.invariant.3)
 
 pub dictionary-returns-then-not-follows-clause-read : goal.dictionary-returns-then-not-follows-clause-read
 dictionary-returns-then-not-follows-clause-read t c =
     let l = c.pairs in
-    pairs_stop_order (value_at c.args.room) (pairs_view l.pairs.items) l.invariant.0 _ l.rest.now c.in_ok-key.key.now c.in_ok-key.after.now _ (omega arith) (omega arith) (omega arith) l.invariant.1 c.in_ok-key.ensures.read (sym c.follows.ensures ∙ c.if-not-follows.true) l.invariant.3
+    pairs_stop_order (value_at c.args.room)
+    (pairs_view l.pairs.items) l.invariant.0 _ l.rest.now c.in_ok-key.key.now c.in_ok-key.after.now _ (omega arith)
+    (omega arith) (omega arith) l.invariant.1 c.in_ok-key.ensures.read
+    (sym c.follows.ensures ∙ c.if-not-follows.true) l.invariant.3
 
 pub dictionary-returns-in_err-item-clause-read : goal.dictionary-returns-in_err-item-clause-read
 dictionary-returns-in_err-item-clause-read t c =
     let l = c.pairs in
     let p = err_from_is_err_and c.from_residual-in_err-item.result c.from_residual-in_err-item.ensures.1 in
-    rw (p.1, p.2) (pairs_stop_value (value_at c.args.room) (pairs_view l.pairs.items) l.invariant.0 _ l.rest.now c.in_ok-key.key.now c.in_ok-key.after.now c.in_err-item.field-0.0 _ (omega arith) (omega arith) (omega arith) l.invariant.1 c.in_ok-key.ensures.read (sym c.follows.ensures ∙ c.if-not-follows.false) c.in_err-item.ensures.read l.invariant.3)
+    rw (p.1, p.2)
+    (pairs_stop_value (value_at c.args.room) (pairs_view l.pairs.items) l.invariant.0 _ l.rest.now c.in_ok-key.key.now c.in_ok-key.after.now c.in_err-item.field-0.0 _ (omega arith) (omega arith) (omega arith) l.invariant.1 c.in_ok-key.ensures.read (sym c.follows.ensures ∙ c.if-not-follows.false) c.in_err-item.ensures.read l.invariant.3)
 
 pub dictionary-pairs-preserved : goal.dictionary-pairs-preserved
 dictionary-pairs-preserved t c =
     let l = c.pairs in
-    let step = pairs_go_on (value_at c.args.room) (pairs_view l.pairs.items) l.invariant.0 _ l.rest.now c.in_ok-key.key.now c.in_ok-key.after.now (view c.in_ok-item.item) c.in_ok-item.after.now _ (omega arith) (omega arith) (omega arith) l.invariant.1 (omega (arith, c.in_ok-key.ensures.shorter, c.in_ok-item.ensures.shorter)) c.in_ok-key.ensures.read (sym c.follows.ensures ∙ c.if-not-follows.false) c.in_ok-item.ensures.read l.invariant.3 in
-    let named = ap (λ key. pairs_before (pairs_view l.pairs.items) (pair key (view c.in_ok-item.item) no_pairs)) c.in_ok-from_slice.ensures.items in
-    let front = ap pairs_view c.in_ok-push.ensures.items ∙ pairs_view-push l.pairs.items c.in_ok-from_slice.field-0 c.in_ok-item.item ∙ named in
+    let step =
+    pairs_go_on (value_at c.args.room)
+    (pairs_view l.pairs.items) l.invariant.0 _ l.rest.now c.in_ok-key.key.now c.in_ok-key.after.now
+    (view c.in_ok-item.item) c.in_ok-item.after.now _ (omega arith) (omega arith) (omega arith) l.invariant.1
+    (omega (arith, c.in_ok-key.ensures.shorter, c.in_ok-item.ensures.shorter)) c.in_ok-key.ensures.read
+    (sym c.follows.ensures ∙ c.if-not-follows.false) c.in_ok-item.ensures.read l.invariant.3 in
+    let named =
+    ap (λ key. pairs_before (pairs_view l.pairs.items) (pair key (view c.in_ok-item.item) no_pairs)) c.in_ok-from_slice.ensures.items in
+    let front =
+    ap pairs_view c.in_ok-push.ensures.items
+    ∙ pairs_view-push l.pairs.items c.in_ok-from_slice.field-0 c.in_ok-item.item ∙ named in
     (step.0, step.1, omega (arith, c.in_ok-key.ensures.shorter, c.in_ok-item.ensures.shorter), ap (λ pairs. with_pairs pairs (pairs_at (value_at c.args.room) step.0 (Some c.in_ok-key.key.now) c.in_ok-item.after.now)) front ∙ step.2)
 
 pub value-returns-then-room-eq0-clause-read : goal.value-returns-then-room-eq0-clause-read
-value-returns-then-room-eq0-clause-read t c = value_too_deep c.args.room c.args.bytes.now c.if-room-eq0.true (omega arith) (inl (omega arith))
+value-returns-then-room-eq0-clause-read t c =
+    value_too_deep c.args.room c.args.bytes.now c.if-room-eq0.true (omega arith) (inl (omega arith))
 
 pub value-returns-then-room-eq0-2-clause-read : goal.value-returns-then-room-eq0-2-clause-read
-value-returns-then-room-eq0-2-clause-read t c = value_too_deep c.args.room c.args.bytes.now c.if-room-eq0-2.true (omega arith) (inr (omega arith))
+value-returns-then-room-eq0-2-clause-read t c =
+    value_too_deep c.args.room c.args.bytes.now c.if-room-eq0-2.true (omega arith) (inr (omega arith))
 
 pub value-returns-in_err-items-in-108-clause-read : goal.value-returns-in_err-items-in-108-clause-read
 value-returns-in_err-items-in-108-clause-read t c =
-    let p = err_from_is_err_and c.from_residual-in_err-items-in-108.result c.from_residual-in_err-items-in-108.ensures.1 in
+    let p =
+    err_from_is_err_and c.from_residual-in_err-items-in-108.result c.from_residual-in_err-items-in-108.ensures.1 in
     let stop = c.in_err-items-in-108.field-0.0 in
-    rw (p.1, p.2) (subst (Stops stop) (sym (value_list c.args.room c.args.bytes.now (omega arith) (omega arith) (omega arith))) (stops_bind stop _ _ c.in_err-items-in-108.ensures.read))
+    rw (p.1, p.2)
+    (subst (Stops stop) (sym (value_list c.args.room c.args.bytes.now (omega arith) (omega arith) (omega arith))) (stops_bind stop _ _ c.in_err-items-in-108.ensures.read))
 
 pub value-returns-in_err-pairs-in-100-clause-read : goal.value-returns-in_err-pairs-in-100-clause-read
 value-returns-in_err-pairs-in-100-clause-read t c =
-    let p = err_from_is_err_and c.from_residual-in_err-pairs-in-100.result c.from_residual-in_err-pairs-in-100.ensures.1 in
+    let p =
+    err_from_is_err_and c.from_residual-in_err-pairs-in-100.result c.from_residual-in_err-pairs-in-100.ensures.1 in
     let stop = c.in_err-pairs-in-100.field-0.0 in
-    rw (p.1, p.2) (subst (Stops stop) (sym (value_dictionary c.args.room c.args.bytes.now (omega arith) (omega arith) (omega arith))) (stops_bind stop _ _ c.in_err-pairs-in-100.ensures.read))
+    rw (p.1, p.2)
+    (subst (Stops stop) (sym (value_dictionary c.args.room c.args.bytes.now (omega arith) (omega arith) (omega arith))) (stops_bind stop _ _ c.in_err-pairs-in-100.ensures.read))
 
 pub value-returns-in_ok-items-in-108-clause-read : goal.value-returns-in_ok-items-in-108-clause-read
 value-returns-in_ok-items-in-108-clause-read t c =
@@ -91,4 +117,5 @@ value-returns-in_ok-n-in-105-clause-read t c =
     let same : to_z w64 (of_z w64 c.in_ok-n-in-105.n) ≡ c.in_ok-n-in-105.n = omega (arith, ints) in
     value_integer c.args.room c.args.bytes.now (omega arith) (omega arith)
     ∙ ap (λ (r : Reading ℤ). r >>= λ x. Ok (integer x.0, x.1)) c.in_ok-n-in-105.ensures.read
-    ∙ ap (λ (d : Data). Ok (d, c.in_ok-n-in-105.rest.now)) (ap integer (sym same) ∙ sym (view-Int (to_z w64 (of_z w64 c.in_ok-n-in-105.n))))
+    ∙ ap (λ (d : Data). Ok (d, c.in_ok-n-in-105.rest.now))
+    (ap integer (sym same) ∙ sym (view-Int (to_z w64 (of_z w64 c.in_ok-n-in-105.n))))

@@ -23,7 +23,8 @@ known-requires c = (tree_read c.args.bytes.now (view c.in-Ok.item) c.in-Ok.ensur
 
 pub returns-in-Ok-clause-tree : goal.returns-in-Ok-clause-tree
 returns-in-Ok-clause-tree c =
-    subst (λ item. IsLawful (view item) × (c.args.bytes.now ≡ spelling (view item))) (sym c.known.ensures) (tree_read c.args.bytes.now (view c.in-Ok.item) c.in-Ok.ensures.read)
+    subst (λ item. IsLawful (view item) × (c.args.bytes.now ≡ spelling (view item))) (sym c.known.ensures)
+    (tree_read c.args.bytes.now (view c.in-Ok.item) c.in-Ok.ensures.read)
 
 pub overflow_sub-result : goal.overflow_sub-result
 overflow_sub-result c =

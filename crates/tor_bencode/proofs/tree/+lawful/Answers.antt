@@ -10,8 +10,10 @@ use Rattle.tor_bencode.proofs.tree.+lawful.Goals.{is_lawful-then-room-gt0-2, is_
 
 pub is_lawful-returns-else-keys_rise : goal.is_lawful-returns-else-keys_rise
 is_lawful-returns-else-keys_rise t c =
-    let seen : view c.args.item.now ≡ dictionary (pairs_view c.in-Dict.pairs.items) = ap view c.in-Dict.is ∙ view-Dict c.in-Dict.pairs in
-    let parts = λ (h : IsLawfulWithin c.args.room (view c.args.item.now)). (lawful-dictionary c.args.room (pairs_view c.in-Dict.pairs.items)).0 (subst (IsLawfulWithin c.args.room) seen h) in
+    let seen : view c.args.item.now ≡ dictionary (pairs_view c.in-Dict.pairs.items) =
+    ap view c.in-Dict.is ∙ view-Dict c.in-Dict.pairs in
+    let parts =
+    λ (h : IsLawfulWithin c.args.room (view c.args.item.now)). (lawful-dictionary c.args.room (pairs_view c.in-Dict.pairs.items)).0 (subst (IsLawfulWithin c.args.room) seen h) in
     elim c.if-room-gt0-2.branch [
       | is_lawful-then-room-gt0-2 w ↦ (
         λ e. absurd (false≢true (sym c.if-keys_rise.false ∙ e)),

@@ -5,4 +5,5 @@ use Rattle.tor_bencode.proofs.write.write_string.Goals as goal
 
 pub returns : goal.returns
 returns c =
-    let size = c.type_inv.bytes in rw (base_ten-decimal (length c.args.bytes.now) (omega arith)) (grind (arith, common_steps))
+    let size =
+    c.type_inv.bytes in rw (base_ten-decimal (length c.args.bytes.now) (omega arith)) (grind (arith, common_steps))

@@ -12,17 +12,20 @@ overflow_add-k c = omega (arith, height_least c.args.count 36 c.requires)
 
 pub higher-smaller : goal.higher-smaller
 higher-smaller c =
-    let power : (1 * 2 ^ c.higher.k) % 2 ^ 64 ≡ 2 ^ c.higher.k = one_shl c.higher.k 64 (omega (arith, height_least c.args.count 36 c.requires)) in
+    let power : (1 * 2 ^ c.higher.k) % 2 ^ 64 ≡ 2 ^ c.higher.k =
+    one_shl c.higher.k 64 (omega (arith, height_least c.args.count 36 c.requires)) in
     let above = height_above c.args.count c.higher.k (omega (arith, power)) in
     omega arith
 
 pub higher-preserved : goal.higher-preserved
 higher-preserved c =
-    let power : (1 * 2 ^ c.higher.k) % 2 ^ 64 ≡ 2 ^ c.higher.k = one_shl c.higher.k 64 (omega (arith, height_least c.args.count 36 c.requires)) in
+    let power : (1 * 2 ^ c.higher.k) % 2 ^ 64 ≡ 2 ^ c.higher.k =
+    one_shl c.higher.k 64 (omega (arith, height_least c.args.count 36 c.requires)) in
     let above = height_above c.args.count c.higher.k (omega (arith, power)) in
     omega arith
 
 pub returns : goal.returns
 returns c =
-    let power : (1 * 2 ^ c.higher.k) % 2 ^ 64 ≡ 2 ^ c.higher.k = one_shl c.higher.k 64 (omega (arith, height_least c.args.count 36 c.requires)) in
+    let power : (1 * 2 ^ c.higher.k) % 2 ^ 64 ≡ 2 ^ c.higher.k =
+    one_shl c.higher.k 64 (omega (arith, height_least c.args.count 36 c.requires)) in
     le_antisymm c.higher.invariant (height_least c.args.count c.higher.k (omega (arith, power)))

@@ -15,7 +15,8 @@ zeros-preserved c =
     record {
       some = omega arith;
       whole =
-          c.zeros.invariant.whole ∙ ap (λ n. n * 2 ^ c.zeros.place) half ∙ mul_assoc (c.zeros.odd / 2) 2 (2 ^ c.zeros.place)
+          c.zeros.invariant.whole ∙ ap (λ n. n * 2 ^ c.zeros.place) half
+          ∙ mul_assoc (c.zeros.odd / 2) 2 (2 ^ c.zeros.place)
           ∙ ap (λ n. c.zeros.odd / 2 * n) (sym (pow-succ' 2 c.zeros.place))
           ∙ ap (λ n. c.zeros.odd / 2 * 2 ^ n) (sym (add-one c.zeros.place));
     }

@@ -25,5 +25,6 @@ block_is content size i n e =
 pub loop-i-preserved : goal.loop-i-preserved
 loop-i-preserved c =
     c.in_ok-push.ensures.items
-    ∙ ap₂ (λ xs x. xs ++ x ∷ []) c.loop-i.invariant (c.leaf.ensures ∙ ap sha256 (block_is c.args.content.now 16384 c.loop-i.i _ c.min.ensures))
+    ∙ ap₂ (λ xs x. xs ++ x ∷ []) c.loop-i.invariant
+    (c.leaf.ensures ∙ ap sha256 (block_is c.args.content.now 16384 c.loop-i.i _ c.min.ensures))
     ∙ sym (leaves_more c.args.content.now 16384 c.loop-i.i)

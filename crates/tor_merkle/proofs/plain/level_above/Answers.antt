@@ -20,14 +20,17 @@ above_more : (padding : List ℕ) (hashes : List (List ℕ)) (i : ℕ) (left rig
 above_more padding hashes i left right lt l r =
     let node = λ (i : ℕ). node_of (get_or hashes (2 * i) padding) (get_or hashes (2 * i + 1) padding) in
     let within : 2 * i < length hashes = omega (arith, below_from_ceil (length hashes) 2 i (omega arith) lt) in
-    ap (λ x. map node (range_with_len 0 i) ++ x ∷ []) (ap₂ node_of (l ∙ get_or_default hashes (2 * i) [] padding within) r)
+    ap (λ x. map node (range_with_len 0 i) ++ x ∷ [])
+    (ap₂ node_of (l ∙ get_or_default hashes (2 * i) [] padding within) r)
     ∙ sym (map-range_with_len_more node 0 i i (zero-add i))
 
 pub loop-i-preserved : goal.loop-i-preserved
 loop-i-preserved c =
     let padding = c.args.padding in
     let right : c.unwrap_or-right.result.now ≡ get_or c.args.hashes.now (2 * c.loop-i.i + 1) padding.now =
-    ap (λ x. x.now) c.unwrap_or-right.ensures ∙ now-unwrap_or c.get.result padding ∙ c.get.ensures.lookup.4 (le_refl _) padding.now in
+    ap (λ x. x.now) c.unwrap_or-right.ensures ∙ now-unwrap_or c.get.result padding
+    ∙ c.get.ensures.lookup.4 (le_refl _) padding.now in
     c.in_ok-push.ensures.items
     ∙ ap₂ (λ xs x. xs ++ x ∷ []) c.loop-i.invariant c.pair.ensures
-    ∙ above_more padding.now c.args.hashes.now c.loop-i.i _ _ (omega (arith, c.loop-i-test.true, c.div_ceil-count.ensures)) refl right
+    ∙ above_more padding.now c.args.hashes.now c.loop-i.i _ _
+    (omega (arith, c.loop-i-test.true, c.div_ceil-count.ensures)) refl right

@@ -29,35 +29,42 @@ overflow_add-level c = omega (arith, c.levels.invariant.within, height_small c.a
 
 pub overflow_mul-width : goal.overflow_mul-width
 overflow_mul-width c =
-    let more = more_levels c.args.content.now c.levels.level _ c.levels.invariant.hashes (omega (arith, c.levels.hashes.ok.0)) in
+    let more =
+    more_levels c.args.content.now c.levels.level _ c.levels.invariant.hashes (omega (arith, c.levels.hashes.ok.0)) in
     omega (arith, c.levels.invariant.width, covers_less c.args.content.now c.levels.level more, c.requires.size)
 
 pub levels-smaller : goal.levels-smaller
 levels-smaller c =
-    let more = more_levels c.args.content.now c.levels.level _ c.levels.invariant.hashes (omega (arith, c.levels.hashes.ok.0)) in
+    let more =
+    more_levels c.args.content.now c.levels.level _ c.levels.invariant.hashes (omega (arith, c.levels.hashes.ok.0)) in
     omega arith
 
 pub levels-preserved : goal.levels-preserved
 levels-preserved c =
-    let more = more_levels c.args.content.now c.levels.level _ c.levels.invariant.hashes (omega (arith, c.levels.hashes.ok.0)) in
+    let more =
+    more_levels c.args.content.now c.levels.level _ c.levels.invariant.hashes (omega (arith, c.levels.hashes.ok.0)) in
     let level = c.levels.level in
     let content = c.args.content.now in
     let above =
     c.in_ok-above.ensures
-    ∙ ap₂ S.level_above (c.zero.ensures ∙ ap S.zero_subtree (sym (zero-add level))) (c.deref.ensures.value ∙ c.levels.invariant.hashes)
+    ∙ ap₂ S.level_above (c.zero.ensures ∙ ap S.zero_subtree (sym (zero-add level)))
+    (c.deref.ensures.value ∙ c.levels.invariant.hashes)
     ∙ level_above-nodes 0 (leaves content) level
     ∙ ap (nodes 0 (leaves content)) (sym (add-one level)) in
     let wide = c.levels.invariant.width in
     let wider : c.levels.width * 2 ≡ 16384 * 2 ^ (level + 1) =
-    ap (λ n. n * 2) wide ∙ mul_assoc 16384 (2 ^ level) 2 ∙ ap (λ n. 16384 * n) (sym (pow-suc 2 level)) ∙ ap (λ n. 16384 * 2 ^ n) (sym (add-one level)) in
+    ap (λ n. n * 2) wide ∙ mul_assoc 16384 (2 ^ level) 2 ∙ ap (λ n. 16384 * n) (sym (pow-suc 2 level))
+    ∙ ap (λ n. 16384 * 2 ^ n) (sym (add-one level)) in
     elim c.if-width-piece_length.branch [
       | then-width-piece_length w ↦
-          let same = λ (k : ℕ) (is : c.args.piece_length ≡ 16384 * 2 ^ k). same_power 16384 level k (omega arith) (sym wide ∙ w.if-width-piece_length.true ∙ is) in
+          let same =
+          λ (k : ℕ) (is : c.args.piece_length ≡ 16384 * 2 ^ k). same_power 16384 level k (omega arith) (sym wide ∙ w.if-width-piece_length.true ∙ is) in
           record {
             hashes = ap (λ v. v.items) (w.hashes-is ∙ w.replace-layer.ensures.after) ∙ above;
             within = omega arith;
             width = wider;
-            passed = λ k is _. ap (λ v. v.items) (w.layer-is ∙ w.replace-layer.ensures.value) ∙ c.levels.invariant.hashes ∙ ap (nodes 0 (leaves content)) (same k is);
+            passed =
+                λ k is _. ap (λ v. v.items) (w.layer-is ∙ w.replace-layer.ensures.value) ∙ c.levels.invariant.hashes ∙ ap (nodes 0 (leaves content)) (same k is);
             ahead = λ k is le. absurd (omega (arith, same k is));
           }
       | else-width-piece_length w ↦
@@ -80,14 +87,19 @@ index-requires c =
 
 pub returns-clause-root : goal.returns-clause-root
 returns-clause-root c =
-    let top = last_level c.args.content.now c.levels.level _ c.levels.invariant.hashes c.levels.invariant.within (omega (arith, c.levels.hashes.ok.0)) in
+    let top =
+    last_level c.args.content.now c.levels.level _ c.levels.invariant.hashes c.levels.invariant.within
+    (omega (arith, c.levels.hashes.ok.0)) in
     let some = eqb-false (length c.args.content.now) 0 (sym c.if-is_empty.ensures) in
     c.index.ensures ∙ top_hash c.args.content.now c.levels.level _ _ (omega arith) top c.levels.invariant.hashes
 
 pub returns-clause-layer : goal.returns-clause-layer
 returns-clause-layer c =
-    let top = last_level c.args.content.now c.levels.level _ c.levels.invariant.hashes c.levels.invariant.within (omega (arith, c.levels.hashes.ok.0)) in
+    let top =
+    last_level c.args.content.now c.levels.level _ c.levels.invariant.hashes c.levels.invariant.within
+    (omega (arith, c.levels.hashes.ok.0)) in
     let bounds = (piece_length_bounds c.args.piece_length).0 c.requires.piece in
     let piece = power_split c.args.piece_length 14 (eqb-true _ _ bounds.0) bounds.1 in
-    layer_met c.args.content.now piece.0 c.levels.level _ top (c.levels.invariant.passed piece.0 piece.1) (c.levels.invariant.ahead piece.0 piece.1)
+    layer_met c.args.content.now piece.0 c.levels.level _ top (c.levels.invariant.passed piece.0 piece.1)
+    (c.levels.invariant.ahead piece.0 piece.1)
     ∙ ap (piece_layer c.args.content.now) (sym piece.1)

@@ -7,13 +7,15 @@ use Rattle.tor_merkle.proofs.blocks.BlockHasher.add.Goals.{then-self-eq0, else-s
 pub push-requires-clause-small : goal.push-requires-clause-small
 push-requires-clause-small c =
     let b = c.self.inside in
-    done_small b.count b.hasher b.tree.leaves b.fed.items c.self.invariant (length c.args.part.now) (omega (arith, c.self.invariant.counted, c.requires.some))
+    done_small b.count b.hasher b.tree.leaves b.fed.items c.self.invariant (length c.args.part.now)
+    (omega (arith, c.self.invariant.counted, c.requires.some))
     (rw (← c.self.view_is) at c.requires.small)
 
 pub push-requires-clause-room : goal.push-requires-clause-room
 push-requires-clause-room c =
     let b = c.self.inside in
-    done_room b.count b.hasher b.tree.leaves b.fed.items c.self.invariant (length c.args.part.now) b.tree.height b.tree.room (rw (← c.self.view_is) at c.requires.room)
+    done_room b.count b.hasher b.tree.leaves b.fed.items c.self.invariant
+    (length c.args.part.now) b.tree.height b.tree.room (rw (← c.self.view_is) at c.requires.room)
 
 pub invariant_of-self : goal.invariant_of-self
 invariant_of-self c =

@@ -10,7 +10,8 @@ add-requires c =
     let now = c.args.self.now in
     let pos : 0 < 16384 * 2 ^ now.height = omega (arith, pow_pos now.height) in
     record {
-      some = omega (arith, eqb-false (length c.parts.rest.now) 0 (sym c.parts-test.ensures), c.split_at.ensures.front_len);
+      some =
+          omega (arith, eqb-false (length c.parts.rest.now) 0 (sym c.parts-test.ensures), c.split_at.ensures.front_len);
       within = omega (arith, c.split_at.ensures.front_len);
       small = omega (arith, all, c.split_at.ensures.front_len, c.split_at.ensures.back_len, c.requires.small);
       room =

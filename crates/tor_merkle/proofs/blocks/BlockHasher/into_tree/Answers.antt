@@ -7,7 +7,8 @@ use Rattle.tor_merkle.proofs.blocks.BlockHasher.into_tree.Goals as goal
 pub push-requires-clause-small : goal.push-requires-clause-small
 push-requires-clause-small c =
     let b = c.self.inside in
-    done_small b.count b.hasher b.tree.leaves b.fed.items c.self.invariant 0 (omega (arith, c.self.invariant.counted)) (omega (arith, c.self.invariant.counted, c.self.invariant.small))
+    done_small b.count b.hasher b.tree.leaves b.fed.items c.self.invariant 0 (omega (arith, c.self.invariant.counted))
+    (omega (arith, c.self.invariant.counted, c.self.invariant.small))
 
 pub push-requires-clause-room : goal.push-requires-clause-room
 push-requires-clause-room c =
@@ -25,4 +26,5 @@ returns-then-count-gt0-clause-leaves c =
 pub returns-else-count-gt0-clause-leaves : goal.returns-else-count-gt0-clause-leaves
 returns-else-count-gt0-clause-leaves c =
     let b = c.self.inside in
-    leaves-whole b.count b.hasher b.tree.leaves b.fed.items c.self.invariant (omega (arith, c.if-count-gt0.false)) ∙ ap (λ v. leaves v.bytes) c.self.view_is
+    leaves-whole b.count b.hasher b.tree.leaves b.fed.items c.self.invariant (omega (arith, c.if-count-gt0.false))
+    ∙ ap (λ v. leaves v.bytes) c.self.view_is

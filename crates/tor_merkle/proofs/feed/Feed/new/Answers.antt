@@ -25,8 +25,11 @@ invariant_of-result c =
     let none = ap length c.new.ensures.bytes in
     record {
       allowed = c.requires;
-      low = omega (arith, c.new.ensures.height, c.height_of-height.ensures, height_least (c.args.piece_length / 16384) 16 (omega (arith, bounds.2)));
+      low =
+          omega (arith, c.new.ensures.height, c.height_of-height.ensures, height_least (c.args.piece_length / 16384) 16 (omega (arith, bounds.2)));
       piece = piece.1 ∙ ap (λ k. 16384 * 2 ^ k) (sym same);
       small = omega (arith, none);
-      reserved = ceil_at_most (length c.new.result.bytes) c.args.piece_length c.new.result.room (omega (arith, bounds.1)) (omega (arith, none));
+      reserved =
+          ceil_at_most (length c.new.result.bytes) c.args.piece_length c.new.result.room (omega (arith, bounds.1))
+          (omega (arith, none));
     }

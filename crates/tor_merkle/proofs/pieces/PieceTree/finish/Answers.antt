@@ -10,8 +10,11 @@ use Rattle.tor_merkle.proofs.pieces.PieceTree.finish.Goals as goal
 pub returns-then-is_empty-clause-root : goal.returns-then-is_empty-clause-root
 returns-then-is_empty-clause-root c =
     let t = c.self.inside in
-    let one = only_piece t.height t.leaves.items t.blocks t.pieces t.layer.items c.self.invariant (c.if-is_empty.ensures.0 refl) in
-    c.root.ensures ∙ ap₂ padded_root c.self.invariant.block_level one.0 ∙ ap (λ v. padded_root 0 v.leaves) c.self.view_is
+    let one =
+    only_piece t.height t.leaves.items t.blocks t.pieces t.layer.items c.self.invariant
+    (c.if-is_empty.ensures.0 refl) in
+    c.root.ensures ∙ ap₂ padded_root c.self.invariant.block_level one.0
+    ∙ ap (λ v. padded_root 0 v.leaves) c.self.view_is
 
 pub returns-then-is_empty-clause-layer : goal.returns-then-is_empty-clause-layer
 returns-then-is_empty-clause-layer c =
@@ -24,14 +27,17 @@ returns-then-is_empty-clause-layer c =
 pub close_piece-requires : goal.close_piece-requires
 close_piece-requires c =
     let t = c.self.inside in
-    ends_piece t.height t.leaves.items t.blocks t.pieces t.layer.items c.self.invariant _ _ (omega (arith, t.layer.ok.0))
+    ends_piece t.height t.leaves.items t.blocks t.pieces t.layer.items c.self.invariant _ _
+    (omega (arith, t.layer.ok.0))
     (rw (← c.self.view_is) at c.requires.some) (rw (← c.self.view_is) at c.requires.room)
 
 pub returns-clause-root : goal.returns-clause-root
 returns-clause-root c =
     let t = c.self.inside in
     let some = rw (← c.self.view_is) at c.requires.some in
-    let more = pieces_more t.height t.leaves.items t.blocks t.pieces t.layer.items c.self.invariant (λ e. false≢true (c.if-is_empty.ensures.1 e)) in
+    let more =
+    pieces_more t.height t.leaves.items t.blocks t.pieces t.layer.items c.self.invariant
+    (λ e. false≢true (c.if-is_empty.ensures.1 e)) in
     c.root-2.ensures
     ∙ ap₂ padded_root c.close_piece.ensures.closed.piece_level
     (c.close_piece.ensures.closed.stacked ∙ pieces_all t.height t.leaves.items t.blocks t.pieces t.layer.items c.self.invariant some)
@@ -42,7 +48,9 @@ pub returns-clause-layer : goal.returns-clause-layer
 returns-clause-layer c =
     let t = c.self.inside in
     let some = rw (← c.self.view_is) at c.requires.some in
-    let more = pieces_more t.height t.leaves.items t.blocks t.pieces t.layer.items c.self.invariant (λ e. false≢true (c.if-is_empty.ensures.1 e)) in
+    let more =
+    pieces_more t.height t.leaves.items t.blocks t.pieces t.layer.items c.self.invariant
+    (λ e. false≢true (c.if-is_empty.ensures.1 e)) in
     c.close_piece.ensures.closed.listed
     ∙ ap (λ xs. xs ++ padded_subtree t.height 0 t.blocks.hashes ∷ []) c.self.invariant.listed
     ∙ pieces_all t.height t.leaves.items t.blocks t.pieces t.layer.items c.self.invariant some

@@ -10,8 +10,11 @@ close_piece-requires c =
     let t = c.self.inside in
     let power : 1 * 2 ^ t.height % 2 ^ 64 ≡ 2 ^ t.height = one_shl t.height 64 (omega (arith, c.self.invariant.low)) in
     let full = sym c.len.ensures ∙ c.if-len-self.true ∙ power in
-    let some = leaves_some t.height t.leaves.items t.blocks t.pieces t.layer.items c.self.invariant (omega (arith, full, pow_pos t.height)) in
-    ends_piece t.height t.leaves.items t.blocks t.pieces t.layer.items c.self.invariant _ _ (omega (arith, t.layer.ok.0)) some
+    let some =
+    leaves_some t.height t.leaves.items t.blocks t.pieces t.layer.items c.self.invariant
+    (omega (arith, full, pow_pos t.height)) in
+    ends_piece t.height t.leaves.items t.blocks t.pieces t.layer.items c.self.invariant _ _
+    (omega (arith, t.layer.ok.0)) some
     (rw (← c.self.view_is) at c.requires.room)
 
 pub invariant_of-self : goal.invariant_of-self

@@ -17,7 +17,9 @@ carries-init c = record {
   room = omega (arith, c.self.invariant.counted, rw (← c.self.view_is) at c.requires);
   low = omega arith;
   digits = omega arith;
-  root = rw c.with-pushed.ensures (first c.self.inside.level c.self.inside.pushed.items c.args.hash c.self.inside.count (sym c.self.invariant.counted));
+  root =
+      rw c.with-pushed.ensures
+      (first c.self.inside.level c.self.inside.pushed.items c.args.hash c.self.inside.count (sym c.self.invariant.counted));
 }
 
 pub carries-preserved : goal.carries-preserved
@@ -25,19 +27,24 @@ carries-preserved c =
     let odd = c.carries-test.true in
     let half : c.carries.rest + 1 ≡ (c.carries.rest / 2 + 1) * 2 = omega arith in
     let digits : c.self.inside.count + 1 ≡ (c.carries.rest / 2 + 1) * 2 ^ (c.carries.digit + 1) =
-    c.carries.invariant.digits ∙ ap (λ n. n * 2 ^ c.carries.digit) half ∙ mul_assoc (c.carries.rest / 2 + 1) 2 (2 ^ c.carries.digit)
+    c.carries.invariant.digits ∙ ap (λ n. n * 2 ^ c.carries.digit) half
+    ∙ mul_assoc (c.carries.rest / 2 + 1) 2 (2 ^ c.carries.digit)
     ∙ ap (λ n. (c.carries.rest / 2 + 1) * n) (sym (pow-succ' 2 c.carries.digit))
     ∙ ap (λ n. (c.carries.rest / 2 + 1) * 2 ^ n) (sym (add-one c.carries.digit)) in
     record {
       room = c.carries.invariant.room;
-      low = omega (arith, digit_below c.self.inside.level c.self.inside.count (c.carries.rest / 2) (c.carries.digit + 1) c.carries.invariant.room digits);
+      low =
+          omega (arith, digit_below c.self.inside.level c.self.inside.count (c.carries.rest / 2) (c.carries.digit + 1) c.carries.invariant.room digits);
       digits = digits;
       root =
           c.pair-top.ensures
-          ∙ ap (λ x. node_of x c.carries.top) (get_or_default c.self.inside.tops c.carries.digit [] zero_leaf (omega arith))
+          ∙ ap (λ x. node_of x c.carries.top)
+          (get_or_default c.self.inside.tops c.carries.digit [] zero_leaf (omega arith))
           ∙ carry c.self.inside.level c.self.inside.count c.self.inside.tops c.self.inside.pushed.items c.self.invariant c.args.hash c.carries.digit c.carries.rest c.carries.top
-          c.carries.invariant.digits odd (c.carries.invariant.root ∙ ap (λ xs. node c.self.inside.level xs c.carries.digit c.carries.rest) c.with-pushed.ensures)
-          ∙ ap₂ (λ xs k. node c.self.inside.level xs k (c.carries.rest / 2)) (sym c.with-pushed.ensures) (sym (add-one c.carries.digit));
+          c.carries.invariant.digits odd
+          (c.carries.invariant.root ∙ ap (λ xs. node c.self.inside.level xs c.carries.digit c.carries.rest) c.with-pushed.ensures)
+          ∙ ap₂ (λ xs k. node c.self.inside.level xs k (c.carries.rest / 2)) (sym c.with-pushed.ensures)
+          (sym (add-one c.carries.digit));
     }
 
 pub invariant_of-self : goal.invariant_of-self

@@ -21,4 +21,5 @@ pub returns : goal.returns
 unfolding padded_root
 returns c =
     let count = c.self.invariant.counted ∙ ap (λ v. length v.hashes) c.self.view_is in
-    c.subtree.ensures ∙ ap (λ k. padded_subtree k c.args.self.now.level c.args.self.now.hashes) (c.height_of.ensures ∙ ap height count)
+    c.subtree.ensures
+    ∙ ap (λ k. padded_subtree k c.args.self.now.level c.args.self.now.hashes) (c.height_of.ensures ∙ ap height count)

@@ -15,14 +15,19 @@ lowest_within count odd place most e one le =
 
 pub bounds-self-inside-lowest : goal.bounds-self-inside-lowest
 bounds-self-inside-lowest c =
-    let low = lowest_within c.self.inside.count _ _ (36 - c.self.inside.level) c.lowest_one-lowest.ensures.whole c.lowest_one-lowest.ensures.odd c.self.invariant.small in
+    let low =
+    lowest_within c.self.inside.count _ _
+    (36 - c.self.inside.level) c.lowest_one-lowest.ensures.whole c.lowest_one-lowest.ensures.odd c.self.invariant.small in
     omega arith
 
 pub climb-init : goal.climb-init
 climb-init c =
-    let low = lowest_within c.self.inside.count _ _ (36 - c.self.inside.level) c.lowest_one-lowest.ensures.whole c.lowest_one-lowest.ensures.odd c.self.invariant.small in
+    let low =
+    lowest_within c.self.inside.count _ _
+    (36 - c.self.inside.level) c.lowest_one-lowest.ensures.whole c.lowest_one-lowest.ensures.odd c.self.invariant.small in
     let kept : get_or c.self.inside.tops c.lowest_one-lowest.result.0 [] ≡ get_or c.self.inside.tops c.lowest_one-lowest.result.0 zero_leaf =
-    get_or_default c.self.inside.tops c.lowest_one-lowest.result.0 [] zero_leaf (omega (arith, c.self.invariant.levels)) in
+    get_or_default c.self.inside.tops c.lowest_one-lowest.result.0 [] zero_leaf
+    (omega (arith, c.self.invariant.levels)) in
     rw kept
     (last_whole c.self.inside.level c.self.inside.count c.self.inside.tops c.self.inside.pushed.items c.self.invariant c.lowest_one-lowest.result.0 c.lowest_one-lowest.result.1
     c.lowest_one-lowest.ensures.whole c.lowest_one-lowest.ensures.odd)
@@ -49,7 +54,8 @@ climb-preserved c =
 pub returns : goal.returns
 returns c =
     let count = c.self.invariant.counted ∙ ap (λ v. length v.hashes) c.self.view_is in
-    let low = lowest_within c.self.inside.count _ _ c.args.height c.lowest_one-lowest.ensures.whole c.lowest_one-lowest.ensures.odd (omega (arith, count, c.requires.wide)) in
+    let low =
+    lowest_within c.self.inside.count _ _ c.args.height c.lowest_one-lowest.ensures.whole c.lowest_one-lowest.ensures.odd (omega (arith, count, c.requires.wide)) in
     let end : c.climb.digit ≡ c.args.height = omega arith in
     last_root c.self.inside.level c.self.inside.count c.self.inside.tops c.self.inside.pushed.items c.self.invariant c.climb.digit c.climb.place c.climb.top c.climb.invariant
     (rw end (omega (arith, count, c.requires.wide)))

@@ -1,4 +1,4 @@
--- `with` makes the empty struct, with the items that its clause names. Assumes `Logic`.
+-- `joined` makes the empty struct, with the items that its clause names. Assumes `Logic`.
 use Rattle.std.proofs.Common.{List, [], ◌∷◌, ◌++◌, refl}
 use seplogic.Ra.Ura.{Ura}
 use mir.Syntax.{Fn, Args, a_type}
@@ -33,10 +33,10 @@ use Rattle.std.specs.contracts.marker.PhantomData as Mark
 use Rattle.tor_merkle.proofs.Walks.{none, one, one_made}
 use Rattle.tor_merkle.specs.contracts.trail.History as History
 use Rattle.tor_merkle.specs.contracts.trail.Run as Run
-use Rattle.tor_merkle.specs.contracts.trail.History.with as F
-use Rattle.tor_merkle.specs.contracts.trail.History.with.Key.{name as #self}
-use Rattle.tor_merkle.proofs.trail.History.with.Statement as stated
-use Rattle.tor_merkle.proofs.trail.History.with.Code as code
+use Rattle.tor_merkle.specs.contracts.trail.History.joined as F
+use Rattle.tor_merkle.specs.contracts.trail.History.joined.Key.{name as #self}
+use Rattle.tor_merkle.proofs.trail.History.joined.Statement as stated
+use Rattle.tor_merkle.proofs.trail.History.joined.Code as code
 
 module _ (T : RattleType) where
   abbrev args : Args
@@ -80,7 +80,8 @@ module _ (T : RattleType) where
           enter ! C Λ function (u ∷ v ∷ []) Post $ alloc_all ! (λ l. pass_all ! refl ((tt, tt), ((tt, tt), tt)) $
           sets ! (agg ! (no_more !)) refl (tt, tt) $
           sets ! (agg ! (and_then ! (get ! refl) (no_more !))) refl (tt, (tt, tt)) $
-          nothing ! $ owned ! (Mark.the_row (param 0 T)) (Is (Mark.the_row (param 0 T))) (makes (Mark.the_type (param 0 T)) tt 𝓛)
+          nothing ! $ owned ! (Mark.the_row (param 0 T)) (Is (Mark.the_row (param 0 T)))
+          (makes (Mark.the_type (param 0 T)) tt 𝓛)
           (record {}) (none ∷ []) (tt, (refl, tt)) $
           one_made ! (Mark.the_row (param 0 T)) (record {}) none $ fjoin ! $
           returns ! (look_at ! 0 refl) $ free_all ! refl $
@@ -90,14 +91,15 @@ module _ (T : RattleType) where
     meets : (𝓣 : Tables 𝓤 H) → Meets 𝓛 ended.signature (WpFn 𝓤 H 𝓣.C 𝓣.Λ function) (closing 𝓛 ended held)
     meets 𝓣 =
         walk_Meets 𝓛 ended stayed (
-          Goes-dropped 𝓛 4 (RefOf (0 ∷ []) tt (plain (λ _. History.the_row (F.T-row T))) (λ _. tt)) yes (λ κs x f. refl),
+          Goes-dropped 𝓛 4 (RefOf (0 ∷ []) tt (plain (λ _. History.the_row (F.T-row T))) (λ _. tt)) yes
+              (λ κs x f. refl),
           (Goes-dropped 𝓛 4 (RefOf (1 ∷ []) tt (plain (λ κs. Run.the_row (named_lft 4 2 tt κs) (F.T-row T))) (λ _. tt)) yes (λ κs x f. refl), tt),
         ) held
         (WpFn 𝓤 H 𝓣.C 𝓣.Λ function) (WpFn-mono 𝓤 H 𝓛.laws 𝓣 function) (walks 𝓣.C 𝓣.Λ)
 
-pub with_spec : {M : Type 1} → stated.statement M
+pub joined_spec : {M : Type 1} → stated.statement M
 unfolding tables_of
-with_spec 𝓤 𝓛 𝓜 𝓡 wired T L =
+joined_spec 𝓤 𝓛 𝓜 𝓡 wired T L =
     let 𝓣 : Tables 𝓤 𝓛.H = tables_of 𝓤 𝓛.H 𝓜 (tables 𝓤 𝓛.H 𝓜 𝓡 𝓡.env) in
     entered 𝓤 𝓛.H (triple_of 𝓛 (ended T).signature (closing 𝓛 (ended T) (held T 𝓛 𝓜.mem 𝓡.returns))) 𝓣.C 𝓣.Λ
     (#self (args T)) (function T) (code.unfolded 𝓤 𝓛.H 𝓜 𝓡 wired (T, tt)) (meets T 𝓛 𝓜.mem 𝓡.returns 𝓣)
