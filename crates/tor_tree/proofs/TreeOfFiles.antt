@@ -49,13 +49,6 @@ paths_with [] roots e = refl
 paths_with (file ∷ files) [] e = absurd (omega arith)
 paths_with (file ∷ files) (root ∷ roots) e = ap (λ paths. file.0 ∷ paths) (paths_with files roots (omega arith))
 
--- a step of a loop that gives each file its root
-pub rooted_more : (files : List (List (List ℕ) × ℕ)) (roots : List (Option (List ℕ))) (file : List (List ℕ) × ℕ) (root : Option (List ℕ)) → AllZip HasItsRoot files roots → HasItsRoot file root → AllZip HasItsRoot (files ++ file ∷ []) (roots ++ root ∷ [])
-rooted_more [] [] file root h here = (here, tt)
-rooted_more [] (r ∷ roots) file root h here = absurd h
-rooted_more (f ∷ files) [] file root h here = absurd h
-rooted_more (f ∷ files) (r ∷ roots) file root h here = (h.0, rooted_more files roots file root h.1 here)
-
 -- seen from no names down, files are as they are
 pub below_none : (files : List (List (List ℕ) × ℕ)) (roots : List (Option (List ℕ))) → files_below 0 files roots ≡ with_properties files roots
 below_none [] roots = refl

@@ -31,7 +31,8 @@ paths_nest paths = list_any (λ folder. list_any (is_inside folder) paths) paths
 -- a length is over 2^50, or the lengths, each rounded up to a multiple of 2^30, sum to over 2^62
 abbrev pub lengths_too_large : List ℕ → Bool
 lengths_too_large lengths =
-    list_any (nat_lt MAX_LENGTH) lengths || nat_lt MAX_TOTAL (sum_by (λ length. next_multiple_of length ROUNDING) lengths)
+    list_any (nat_lt MAX_LENGTH) lengths
+    || nat_lt MAX_TOTAL (sum_by (λ length. next_multiple_of length ROUNDING) lengths)
 
 -- why paths are no list: the first of three causes that holds, or none
 abbrev pub paths_fault : List (List (List ℕ)) → Option ListError

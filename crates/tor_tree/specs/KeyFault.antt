@@ -1,4 +1,4 @@
--- What a key that is no name is for its tree.
+-- What a key that is no name is for its tree, for the clause of one conversion.
 use Rattle.std.specs.Prelude.{◌≡◌}
 use Rattle.tor_tree.specs.declared.names.NameError.{NameError}
 use Rattle.tor_tree.specs.declared.names.NameError.TheVariants as names

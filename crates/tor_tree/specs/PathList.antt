@@ -25,6 +25,6 @@ pub record ArePlacedPaths (paths : List (List (List ℕ))) (entries : List (List
   pub places : ArePlaces (places_of entries)
   pub found : All (λ entry. slice_index_or paths entry.1 [] ≡ entry.0) entries
 
--- paths as they were handed in, each with its place
+-- paths as they were handed in, each with its place, for the clauses of private functions
 abbrev pub with_places : List (List (List ℕ)) → List (List (List ℕ) × ℕ)
 with_places paths = map (λ p. (p.1, p.0)) (enumerate_from 0 paths)

@@ -40,6 +40,10 @@ path_if_any (name ∷ names) = Some (name ∷ names)
 abbrev pub entry_at : List (List ℕ) → List (List ℕ) × Data → Entry
 entry_at folder file = record { path = path_if_any (folder ++ file.0); properties = facts_in file.1 }
 
+-- a file that is not empty has no root
+abbrev pub misses_root : Entry → Bool
+misses_root entry = nat_lt 0 (unsigned_abs entry.properties.length) && is_none entry.properties.root
+
 -- the first fault, past that of the shape, of a tree with these entries
 abbrev pub entries_fault : List Entry → Bool → Option TreeFault
 entries_fault entries mixes =
@@ -48,7 +52,7 @@ entries_fault entries mixes =
     if lengths_too_large (map (λ entry. unsigned_abs entry.properties.length) entries) then Some faults.TooLarge else (
     if list_any (λ entry. entry.properties.link) entries then Some faults.Symlink else (
     if mixes then Some faults.Mixed else (
-    if list_any (λ entry. nat_lt 0 (unsigned_abs entry.properties.length) && is_none entry.properties.root) entries then Some faults.Root else None)))))
+    if list_any misses_root entries then Some faults.Root else None)))))
 
 -- the file of an entry that has a path
 abbrev pub file_from : Entry → TreeFile

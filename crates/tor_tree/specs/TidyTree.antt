@@ -38,7 +38,9 @@ pub record IsFileTreeOf (files : List (List (List ℕ) × ℕ)) (roots : List (O
 
 -- at most one tree is that of a list of files and their roots
 abbrev pub AtMostOneTree : Type 0
-AtMostOneTree = (files : List (List (List ℕ) × ℕ)) (roots : List (Option (List ℕ))) (one other : Data) → IsFileTreeOf files roots one → IsFileTreeOf files roots other → one ≡ other
+AtMostOneTree =
+    (files : List (List (List ℕ) × ℕ)) (roots : List (Option (List ℕ))) (one other : Data)
+    → IsFileTreeOf files roots one → IsFileTreeOf files roots other → one ≡ other
 
 -- a file has a root where it is not empty
 abbrev pub HasItsRoot : List (List ℕ) × ℕ → Option (List ℕ) → Type 0

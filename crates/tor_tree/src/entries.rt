@@ -34,7 +34,8 @@ pub fn add_folder(
     ensures added { OnOk result (entries.new.items
         ≡ entries.old.items ++ map (entry_at folder.old.items) (entries_of (view item.now))) }
     ensures folder_stays { OnOk result (folder.new.items ≡ folder.old.items) }
-    ensures refused { IfErr result (λ fault. ((fault ≡ Shape) × (is_folder (view item.now) ≡ false)) ⊎ (fault ≡ Memory)) }
+    ensures refused { IfErr result
+        (λ fault. ((fault ≡ Shape) × (is_folder (view item.now) ≡ false)) ⊎ (fault ≡ Memory)) }
     ensures no_dictionary { is_dictionary (view item.now) ≡ false → result ≡ Err Shape }
 {
     let Item::Dict(pairs) = item else {
@@ -61,7 +62,8 @@ fn add_pair(
         ≡ entries.old.items ++ map (entry_at folder.old.items) (entries_in (pair key.now (view value.now) no_pairs))) }
     ensures folder_stays { OnOk result (folder.new.items ≡ folder.old.items) }
     ensures refused { IfErr result
-        (λ fault. ((fault ≡ Shape) × (are_entries (pair key.now (view value.now) no_pairs) ≡ false)) ⊎ (fault ≡ Memory)) }
+        (λ fault. ((fault ≡ Shape) × (are_entries (pair key.now (view value.now) no_pairs) ≡ false))
+        ⊎ (fault ≡ Memory)) }
 {
     if key.is_empty() {
         return add_file(alloc, value, folder, entries);

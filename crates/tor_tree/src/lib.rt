@@ -1,9 +1,20 @@
 //! Names, paths, lists of files and the `file tree` of BitTorrent v2 (BEP 52, "file tree").
 //!
+//! ```rust
+//! use tor_tree::{FileList, FilePath, Name, from_item, to_item};
+//!
+//! let names = vec![in alloc; Name::new(alloc, b"a")?]?;
+//! let files = vec![in alloc; (FilePath::new(names).ok_or("a path")?, 0)]?;
+//! let list = FileList::build(alloc, files)?;
+//! let tree = to_item(alloc, &list, &[None])?;
+//! assert_eq!(rt; from_item(alloc, &tree)?.len(), 1);
+//! ```
+//!
 //! - [`Name`] (`names.rt`): the name of a file or a folder.
 //! - [`FilePath`] (`paths.rt`): the names that lead to a file, in the order of paths.
 //! - [`FileList`] (`lists.rt`): files in order, each once.
-//! - [`PathList`] (`path_lists.rt`): paths in order, each with its place among those handed in, before lengths are known.
+//! - [`PathList`] (`path_lists.rt`): paths in order, each with its place among those
+//!   that were handed in, where lengths are still to be asked.
 //! - [`from_item`] (`read_tree.rt`): the files that a tree describes, each a [`TreeFile`] (`tree_file.rt`); they are in
 //!   order.
 //! - [`to_item`] (`write_tree.rt`): the tidy tree of a list; there is one at most.

@@ -165,7 +165,7 @@ pub fn copies(alloc: Global, names: &[Name]) -> Result<Vec<Name>, AllocError>
     Ok(copied)
 }
 
-/// Each name is without fault. A slice's contract sees no more than lists of bytes: this says again what the type keeps.
+/// Each name is without fault. Of a slice contracts see lists of bytes alone: this says again what the type keeps.
 pub fn each_is_name(names: &[Name])
     ensures { All (λ name. name_fault name ≡ None) names.now }
 {

@@ -10,8 +10,8 @@ use crate::paths::{FilePath, each_is_path};
 use std::alloc::{AllocError, Global};
 use std::marker::Model;
 
-/// Paths in order, each with its place among those that were handed in, from 0 on. Contracts see the list of the pairs of
-/// path and place.
+/// Paths in order, each with its place among those that were handed in, from 0 on. Contracts see the list of the pairs
+/// of path and place.
 #[derive(Debug, Drop)]
 pub struct PathList {
     entries: Vec<(FilePath, usize)>,

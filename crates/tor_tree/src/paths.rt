@@ -59,8 +59,8 @@ impl FilePath {
     }
 }
 
-/// Each path has names, all without fault. A slice's contract sees no more than lists of names: this says again what
-/// the type keeps.
+/// Each path has names, all without fault. Of a slice contracts see lists of names alone: this says again what the type
+/// keeps.
 pub(crate) fn each_is_path<T>(entries: &[(FilePath, T)])
     ensures { All (λ entry. IsFilePath entry.0) entries.now }
 {

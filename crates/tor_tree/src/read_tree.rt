@@ -1,10 +1,10 @@
 //! Reading a file tree (BEP 52, "file tree").
-ghost use Rattle.std.specs.Prelude.{◌≡◌, ◌⊎◌, ◌&&◌, Some, None, unsigned_abs, nat_lt, int_lt, pos, is_none, map, false, Err, IfOk, IfErr, OnOk, All, IsSome, IsOkUnless};
+ghost use Rattle.std.specs.Prelude.{◌≡◌, ◌⊎◌, Some, None, unsigned_abs, int_lt, pos, map, false, Err, IfOk, IfErr, OnOk, All, IsSome, IsOkUnless};
 ghost use Rattle.std.specs.List.{list_any};
 ghost use Rattle.tor_bencode.specs.View.{view};
 ghost use Rattle.tor_tree.specs.FileList.{lengths_too_large};
 ghost use Rattle.tor_tree.specs.FileTree.{files_of_tree, is_dictionary, tree_fault};
-ghost use Rattle.tor_tree.specs.Reading.{entries_fault, file_from};
+ghost use Rattle.tor_tree.specs.Reading.{entries_fault, file_from, misses_root};
 ghost use Rattle.tor_tree.specs.declared.tree_file.TreeFault.TheVariants.{Memory, Shape};
 
 use crate::entries::{Entry, add_folder};
@@ -68,7 +68,7 @@ fn has_link(entries: &[Entry]) -> bool
 
 /// Whether a file that is not empty has no root.
 fn lacks_root(entries: &[Entry]) -> bool
-    ensures { result ≡ list_any (λ entry. nat_lt 0 (unsigned_abs entry.properties.length) && is_none entry.properties.root) entries.now }
+    ensures { result ≡ list_any misses_root entries.now }
 {
     entries.iter().any(|entry| entry.properties.length.unsigned_abs() > 0
         && entry.properties.root.is_none())

@@ -17,7 +17,7 @@ fn path(alloc: Global, text: &str) -> Result<Option<FilePath>, Fail> {
 }
 
 #[test]
-fn the_least_number_that_holds_is_told(rt: HostRuntime) -> Result<(), Fail> {
+fn the_first_fault_of_a_name_is_told(rt: HostRuntime) -> Result<(), Fail> {
     let cases: [(&[u8], &str); 16] = [
         (b"", "N1 Empty"),
         (b".", "N2 Dot"),
@@ -40,17 +40,34 @@ fn the_least_number_that_holds_is_told(rt: HostRuntime) -> Result<(), Fail> {
         match Name::new(rt.alloc(), bytes) {
             Ok(name) => {
                 assert_eq!(rt; name.as_bytes(), bytes);
-                assert_eq!(rt; "a name", want);
+                assert_eq!(rt; "a name", want, "at {bytes:?}");
             }
             Err(fault) => {
                 let told = format!(in rt.alloc(); "{fault}")?;
-                assert_eq!(rt; told.as_str(), want);
+                assert_eq!(rt; told.as_str(), want, "at {bytes:?}");
             }
         }
     }
     let memory = NameError::from(AllocError);
     let told = format!(in rt.alloc(); "{memory}")?;
     assert_eq!(rt; told.as_str(), "out of memory");
+    Ok(())
+}
+
+#[test]
+fn a_name_is_text_of_any_length(rt: HostRuntime) -> Result<(), Fail> {
+    let alloc = rt.alloc();
+    for length in [1, 2, 255, 4096] {
+        let bytes = vec![in alloc; b'n'; length]?;
+        let name = Name::new(alloc, &bytes)?;
+        assert_eq!(rt; name.as_str().len(), length);
+        assert_eq!(rt;
+            name.copy(alloc)?.as_bytes(),
+            bytes.as_slice(),
+            "at {length}"
+        );
+    }
+    assert_eq!(rt; Name::new(alloc, b"\xc3\xa9")?.as_str(), "é");
     Ok(())
 }
 
@@ -63,14 +80,15 @@ fn paths_are_ordered_name_by_name(rt: HostRuntime) -> Result<(), Fail> {
         ("a/z", "b"),
         ("A", "a"),
     ];
-    for (first, second) in cases {
-        let first = path(rt.alloc(), first)?.ok_or("a path")?;
-        let second = path(rt.alloc(), second)?.ok_or("a path")?;
-        assert!(rt; first < second);
-        assert!(rt; second != first);
+    for (low, high) in cases {
+        let first = path(rt.alloc(), low)?.ok_or("a path")?;
+        let second = path(rt.alloc(), high)?.ok_or("a path")?;
+        assert!(rt; first < second, "at {low} and {high}");
+        assert!(rt; second != first, "at {low} and {high}");
+        assert!(rt; first.copy(rt.alloc())? == first, "at {low}");
     }
     let names = path(rt.alloc(), "a/c")?.ok_or("a path")?;
-    assert_eq!(rt; names.names().len(), 2);
+    assert_eq!(rt; copies(rt.alloc(), names.names())?.len(), 2);
     assert!(rt; FilePath::new(Vec::new(rt.alloc())).is_none());
     Ok(())
 }
@@ -121,13 +139,71 @@ fn the_first_fault_of_a_list_is_told(rt: HostRuntime) -> Result<(), Fail> {
         ),
         (&[("a/b/c", long), ("a", 1)], "L2 FileAndFolder"),
     ];
-    for (files, want) in cases {
+    for (row, (files, want)) in cases.iter().enumerate() {
         let told = listed(rt.alloc(), files)?.err().ok_or("a refusal")?;
-        assert_eq!(rt; told.as_str(), want);
+        assert_eq!(rt; told.as_str(), *want, "at row {row}");
     }
     let memory = ListError::from(AllocError);
     let told = format!(in rt.alloc(); "{memory}")?;
     assert_eq!(rt; told.as_str(), "out of memory");
+    Ok(())
+}
+
+/// The list of these paths, or the text of the refusal.
+fn placed(alloc: Global, texts: &[&str]) -> Result<Result<PathList, String>, Fail> {
+    let mut paths = Vec::new(alloc);
+    for text in texts {
+        paths.push(path(alloc, text)?.ok_or("a path")?)?;
+    }
+    match PathList::build(alloc, paths) {
+        Ok(list) => Ok(Ok(list)),
+        Err(fault) => Ok(Err(format!(in alloc; "{fault}")?)),
+    }
+}
+
+#[test]
+fn a_list_of_paths_tells_where_each_was_handed_in(rt: HostRuntime) -> Result<(), Fail> {
+    let alloc = rt.alloc();
+    let list = placed(alloc, &["b", "a-b", "a/c"])?.ok().ok_or("a list")?;
+    let lengths = [7, 0, 5];
+    assert_eq!(rt; lengths.len(), list.entries().len());
+    for (entry, (text, place)) in list
+        .entries()
+        .iter()
+        .zip(&[("a/c", 2), ("a-b", 1), ("b", 0)])
+    {
+        assert!(rt; entry.0 == path(alloc, text)?.ok_or("a path")?, "at {text}");
+        assert_eq!(rt; entry.1, *place, "at {text}");
+    }
+    let (files, places) = list.with_lengths(alloc, &lengths)?;
+    assert_eq!(rt; places.as_slice(), [2, 1, 0].as_slice());
+    for (file, length) in files.files().iter().zip(&[5, 0, 7]) {
+        assert_eq!(rt; file.1, *length);
+    }
+    Ok(())
+}
+
+#[test]
+fn the_first_fault_of_paths_is_told(rt: HostRuntime) -> Result<(), Fail> {
+    let cases: [(&[&str], &str); 4] = [
+        (&[], "L4 NoFiles"),
+        (&["a", "b", "a"], "L1 Duplicate"),
+        (&["a/b", "a", "a-b"], "L2 FileAndFolder"),
+        (&["a/b", "a", "c", "c"], "L1 Duplicate"),
+    ];
+    for (row, (texts, want)) in cases.iter().enumerate() {
+        let told = placed(rt.alloc(), texts)?.err().ok_or("a refusal")?;
+        assert_eq!(rt; told.as_str(), *want, "at row {row}");
+    }
+    let list = placed(rt.alloc(), &["a"])?.ok().ok_or("a list")?;
+    let lengths = [MAX_LENGTH + 1];
+    assert_eq!(rt; lengths.len(), list.entries().len());
+    let fault = list
+        .with_lengths(rt.alloc(), &lengths)
+        .err()
+        .ok_or("a refusal")?;
+    let told = format!(in rt.alloc(); "{fault}")?;
+    assert_eq!(rt; told.as_str(), "L3 TooLarge");
     Ok(())
 }
 
@@ -186,10 +262,10 @@ fn the_first_fault_of_a_tree_is_told(rt: HostRuntime) -> Result<(), Fail> {
         (no_folder, "K6 Mixed"),
         (file_of_length(alloc, 1)?, "K7 Root"),
     ]?;
-    for (tree, want) in trees {
+    for (row, (tree, want)) in trees.into_iter().enumerate() {
         let fault = from_item(alloc, &tree).err().ok_or("a refusal")?;
         let told = format!(in alloc; "{fault}")?;
-        assert_eq!(rt; told.as_str(), want);
+        assert_eq!(rt; told.as_str(), want, "at row {row}");
     }
     let memory = TreeFault::from(AllocError);
     let told = format!(in alloc; "{memory}")?;
@@ -261,5 +337,28 @@ fn a_tree_has_its_files_again(rt: HostRuntime) -> Result<(), Fail> {
     spelled.extend_from_slice(b"eee3:a-bd0:d6:lengthi0eeee")?;
     let written = encode(alloc, &tree)?;
     assert_eq!(rt; written.as_slice(), spelled.as_slice());
+    Ok(())
+}
+
+#[test]
+fn a_tree_of_many_files_has_them_again(rt: HostRuntime) -> Result<(), Fail> {
+    let alloc = rt.alloc();
+    for count in [1, 10, 1000] {
+        let mut files = Vec::new(alloc);
+        for i in 0..count {
+            let number = count - i;
+            let text = format!(in alloc; "{}/{number:04}", number % 7)?;
+            files.push((path(alloc, &text)?.ok_or("a path")?, number))?;
+        }
+        let list = FileList::build(alloc, files)?;
+        let roots = roots_for(alloc, list.files())?;
+        let tree = to_item(alloc, &list, &roots)?;
+        let read = from_item(alloc, &tree)?;
+        assert_eq!(rt; read.len(), list.files().len(), "of {count}");
+        for (found, file) in read.iter().zip(list.files()) {
+            assert!(rt; found.path == file.0, "of {count}");
+            assert_eq!(rt; found.length, file.1, "of {count}");
+        }
+    }
     Ok(())
 }

@@ -1,3 +1,4 @@
+//! A file of a file tree, and why an item is no file tree (BEP 52, "file tree").
 ghost use Rattle.std.specs.Prelude.{◌≡◌};
 ghost use Rattle.tor_tree.specs.KeyFault.{fault_of_key};
 ghost use Rattle.tor_tree.specs.declared.tree_file.TreeFault.TheVariants.{Memory};

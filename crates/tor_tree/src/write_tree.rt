@@ -39,7 +39,8 @@ fn folder(
     requires deep { All (λ file. depth ≤ length file.0) files.now }
     requires small { All (λ file. file.1 ≤ MAX_LENGTH) files.now }
     requires one_each { length roots.now ≡ length files.now }
-    ensures made { IfOk result (λ pairs. pairs_view pairs.items ≡ pairs_of_files (files_below depth files.now roots.now)) }
+    ensures made { IfOk result
+        (λ pairs. pairs_view pairs.items ≡ pairs_of_files (files_below depth files.now roots.now)) }
     ensures rooted { OnOk result (All IsRoot roots.now) }
 {
     let mut pairs = Vec::new(alloc);
@@ -73,7 +74,8 @@ fn next_pair(
     requires one_each { length roots.now ≡ length files.now }
     ensures count { IfOk result (λ next. (0 < next.count) × (next.count ≤ length files.now)) }
     ensures made { IfOk result (λ next. pairs_of_files (files_below depth files.now roots.now)
-        ≡ pair next.key.items (view next.value) (pairs_of_files (drop next.count (files_below depth files.now roots.now)))) }
+        ≡ pair next.key.items (view next.value)
+        (pairs_of_files (drop next.count (files_below depth files.now roots.now)))) }
     ensures rooted { IfOk result (λ next. All IsRoot (take next.count roots.now)) }
 {
     let (path, length) = &files[0];
@@ -98,7 +100,8 @@ fn next_pair(
 fn run_len(files: &[(FilePath, u64)], depth: usize, name: &Name) -> usize
     ensures within { result ≤ length files.now }
     ensures same { All (λ file. has_name_at depth name.now file.0 ≡ true) (take result files.now) }
-    ensures ends { (d : List (List ℕ) × ℕ) → result < length files.now → has_name_at depth name.now (slice_index_or files.now result d).0 ≡ false }
+    ensures ends { (d : List (List ℕ) × ℕ) → result < length files.now →
+        has_name_at depth name.now (slice_index_or files.now result d).0 ≡ false }
 {
     for (i, (path, _)) in files.iter().enumerate() {
         if !has_name_at(path, depth, name) {
