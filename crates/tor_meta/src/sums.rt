@@ -31,7 +31,7 @@ pub fn sum_trees(
     contents: &[&[u8]],
 ) -> Result<(Vec<Option<Hash>>, Vec<Vec<Hash>>), AllocError>
     requires piece { IsPieceLength piece_length }
-    requires small { All (λ content. length content.now ≤ MAX_LENGTH) contents.entry.now }
+    requires small { All (λ content. length content.now ≤ MAX_LENGTH) contents.now }
     ensures roots { IfOk result (λ sums. sums.0.items ≡ map root_of (bytes_of contents.entry.now)) }
     ensures layers { IfOk result (λ sums.
         lists_of sums.1.items ≡ map (λ content. piece_layer content piece_length) (bytes_of contents.entry.now)) }
@@ -68,7 +68,10 @@ pub fn tree_of(alloc: Global, feed: Feed) -> (Option<Hash>, Vec<Hash>)
     ensures layer { result.1.items ≡ piece_layer feed.bytes feed.piece_length }
 {
     match feed.finish() {
-        Some((root, layer)) => (Some(root), layer),
+        Some(sums) => {
+            let root = sums.0;
+            (Some(root), sums.1)
+        }
         None => (None, Vec::new(alloc)),
     }
 }
@@ -85,14 +88,16 @@ pub fn sum_pieces(
     ensures { IfOk result (λ pieces. pieces.items ≡ v1_pieces piece_length entries.now (bytes_of contents.entry.now)) }
 {
     let mut sums = PieceSums::new(alloc, piece_length);
-    let mut left = contents;
+    let mut left = contents.iter();
     for entry in entries {
         if entry.pad {
             sums.feed_zeros(entry.length)?;
-        } else if let [content, rest @ ..] = left {
-            sums.feed(content)?;
-            left = rest;
+            continue;
         }
+        let Some(content) = left.next() else {
+            continue;
+        };
+        sums.feed(content)?;
     }
     Ok(sums.finish())
 }

@@ -1,7 +1,6 @@
 -- The proofs of the laws of src/laws.rt: the dictionaries of a torrent are lawful trees.
 use Rattle.std.proofs.Common.{◌≡◌, ℕ, ◌+◌, ◌-◌, ◌<◌, ◌≤◌, ◌^◌, List, [], ◌∷◌, ◌++◌, length, map, Option, None, Some, Bool, true, false, sum_by, arith, rules, refl}
-use Rattle.std.specs.Prelude.{pos, codes, nat_le, not, ◌&&◌, ◌%◌, ◌==◌, option_map, unwrap_or, if◌then◌else◌}
-use Rattle.std.specs.Int.{next_multiple_of}
+use Rattle.std.specs.Prelude.{pos, codes, nat_le, not, ◌&&◌, nat_lt, option_map, unwrap_or, if◌then◌else◌}
 use Rattle.std.specs.List.{All, AllByRecursion}
 use Rattle.std.proofs.lemmas.List.Sums.{sum_by-cons}
 use Rattle.std.proofs.lemmas.List.Elements.{All-from_recursion, recursion_from_All}
@@ -20,7 +19,7 @@ use Rattle.tor_spec.proofs.Fields.{IfThere, dictionary_lawful, present_lawful, p
 use Rattle.tor_merkle.proofs.ProvedLaws.{piece_length_bounds}
 use Rattle.tor_tree.proofs.ProvedLaws.{file_tree_is_lawful}
 use Rattle.tor_tree.specs.WrittenTree.{file_tree}
-use Rattle.tor_v1.specs.Entries.{aligned_entries, file_entry, has_bytes, pad_entry, padding_after, v1_entries}
+use Rattle.tor_v1.specs.Entries.{aligned_entries, file_entry, has_bytes, pad_entry, padding_after, padding_length, v1_entries}
 use Rattle.tor_v1.specs.declared.entry.Entry.{Entry}
 use Rattle.tor_v1.specs.declared.layout.Layout.{Layout}
 use Rattle.tor_v1.specs.declared.layout.Layout.TheVariants.{Joined, Aligned}
@@ -88,14 +87,14 @@ layers_lawful piece_length facts = dictionary_lawful 0 (piece_layers piece_lengt
         by_size false h = put_lawful 0 _ _ (piece_layers piece_length fs) (string_lawful 0 _) h
 
 -- what a file lacks to the next piece is less than a piece
-lack_small : (m p : ℕ) → 0 < p → next_multiple_of m p - m < p
-lack_small m p some = omega arith
+lack_small : (p m : ℕ) → 0 < p → padding_length p m < p
+lack_small p m some = omega arith
 
 small_padding : (p m : ℕ) (later : List (List (List ℕ) × ℕ)) → 0 < p → p < 2 ^ 63 → AllByRecursion (λ entry. entry.length < 2 ^ 63) (padding_after p m later)
-small_padding p m later some small = by_test (not (m % p == 0) && has_bytes later)
+small_padding p m later some small = by_test (nat_lt 0 (padding_length p m) && has_bytes later)
   where
-    by_test : (b : Bool) → AllByRecursion (λ (entry : Entry). entry.length < 2 ^ 63) (if b then pad_entry (next_multiple_of m p - m) ∷ [] else [])
-    by_test true = (omega (arith, lack_small m p some), tt)
+    by_test : (b : Bool) → AllByRecursion (λ (entry : Entry). entry.length < 2 ^ 63) (if b then pad_entry (padding_length p m) ∷ [] else [])
+    by_test true = (omega (arith, lack_small p m some), tt)
     by_test false = tt
 
 all_append : {X : Type 0} (P : X → Type 0) (xs ys : List X) → AllByRecursion P xs → AllByRecursion P ys → AllByRecursion P (xs ++ ys)
