@@ -14,5 +14,3 @@ pub use judge::{MAX_NAMES, judge_paths};
 pub use output::{WriteFault, write_out};
 pub use refusals::ContentsError;
 
-pub use layers::piece_layers;
-pub use sums::{Sums, sum_trees, sum_pieces, tree_of};

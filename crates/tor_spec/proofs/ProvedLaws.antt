@@ -17,6 +17,7 @@ use Rattle.tor_spec.specs.PieceLayers.{joined, piece_layers}
 use Rattle.tor_spec.specs.Settings.{Settings, has_v1, has_v2, layout_of}
 use Rattle.tor_spec.proofs.Fields.{IfThere, dictionary_lawful, present_lawful, put_lawful, put_rising, when_there, wider}
 use Rattle.tor_merkle.proofs.ProvedLaws.{piece_length_bounds}
+use Rattle.tor_merkle.specs.Layer.{IsPieceLength}
 use Rattle.tor_tree.proofs.ProvedLaws.{file_tree_is_lawful}
 use Rattle.tor_tree.specs.WrittenTree.{file_tree}
 use Rattle.tor_v1.specs.Entries.{aligned_entries, file_entry, has_bytes, pad_entry, padding_after, padding_length, v1_entries}
@@ -161,3 +162,40 @@ torrents_are_lawful settings facts pieces made =
     wider 68 100 (dictionary (present fields)) (omega arith) (present_lawful 67 fields (refl, (refl, tt)) (
       announced settings.announce, (info_lawful settings facts pieces made, (
       when_there 67 v2 layers (λ e. wider 1 67 layers (omega arith) (layers_lawful settings.piece_length facts)), tt))))
+
+pub small_lengths : (layout : Layout) (p : ℕ) (files : List (List (List ℕ) × ℕ)) → IsPieceLength p → All (λ file. file.1 < 2 ^ 63) files
+    → All (λ (entry : Entry). entry.length < 2 ^ 63) (v1_entries layout p files)
+small_lengths layout p files allowed small =
+    let bounds = (piece_length_bounds p).0 allowed in
+    All-from_recursion _ (v1_entries layout p files) (small_entries layout p files (omega (arith, bounds)) (omega (arith, bounds)) (recursion_from_All _ files small))
+
+-- padding is less than a piece
+abbrev PadsWithin : ℕ → List Entry → Type 0
+PadsWithin p entries = AllByRecursion (λ entry. entry.pad ≡ true → entry.length < p) entries
+
+within_padding : (p m : ℕ) (later : List (List (List ℕ) × ℕ)) → 0 < p → PadsWithin p (padding_after p m later)
+within_padding p m later some = by_test (nat_lt 0 (padding_length p m) && has_bytes later)
+  where
+    by_test : (b : Bool) → PadsWithin p (if b then pad_entry (padding_length p m) ∷ [] else [])
+    by_test true = ((λ e. lack_small p m some), tt)
+    by_test false = tt
+
+within_aligned : (p : ℕ) (files : List (List (List ℕ) × ℕ)) → 0 < p → PadsWithin p (aligned_entries p files)
+unfolding aligned_entries
+within_aligned p [] some = tt
+within_aligned p (file ∷ files) some =
+    ((λ e. cc), all_append _ (padding_after p file.1 files) (aligned_entries p files) (within_padding p file.1 files some) (within_aligned p files some))
+
+within_entries : (layout : Layout) (p : ℕ) (files : List (List (List ℕ) × ℕ)) → 0 < p → PadsWithin p (v1_entries layout p files)
+within_entries Joined p files some = each files
+  where
+    each : (fs : List (List (List ℕ) × ℕ)) → PadsWithin p (map file_entry fs)
+    each [] = tt
+    each (f ∷ fs) = ((λ e. cc), each fs)
+within_entries Aligned p files some = within_aligned p files some
+
+pub padding_lengths : (layout : Layout) (p : ℕ) (files : List (List (List ℕ) × ℕ)) → IsPieceLength p
+    → All (λ (entry : Entry). entry.pad ≡ true → entry.length < p) (v1_entries layout p files)
+padding_lengths layout p files allowed =
+    let bounds = (piece_length_bounds p).0 allowed in
+    All-from_recursion _ (v1_entries layout p files) (within_entries layout p files (omega (arith, bounds)))

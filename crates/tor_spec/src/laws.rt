@@ -1,13 +1,26 @@
 //! Laws over the definitions alone.
-ghost use Rattle.std.specs.Prelude.{ℕ, List};
+ghost use Rattle.std.specs.Prelude.{◌≡◌, ◌<◌, ◌^◌, true, All, ℕ, List};
 ghost use Rattle.tor_bencode.specs.Lawful.{IsLawful};
 ghost use Rattle.tor_spec.specs.Facts.{Facts};
 ghost use Rattle.tor_spec.specs.Makeable.{AreMakeable};
 ghost use Rattle.tor_spec.specs.Metainfo.{root_dictionary};
 ghost use Rattle.tor_spec.specs.Settings.{Settings};
+ghost use Rattle.tor_merkle.specs.Layer.{IsPieceLength};
+ghost use Rattle.tor_v1.specs.Entries.{v1_entries};
+ghost use Rattle.tor_v1.specs.declared.layout.Layout.{Layout};
 
 /// The root dictionary of a torrent is a lawful tree, so its bytes are the spelling of that tree alone.
 pub fn torrents_are_lawful()
     ensures { (settings : Settings) (facts : List Facts) (pieces : List ℕ) → AreMakeable settings facts →
         IsLawful (root_dictionary settings facts pieces) }
+{}
+
+/// The entries of files have lengths of 63 bits where the files do, and padding is less than a piece.
+pub fn entries_fit()
+    ensures small { (layout : Layout) (piece_length : ℕ) (files : List (List (List ℕ) × ℕ)) →
+        IsPieceLength piece_length → All (λ file. file.1 < 2 ^ 63) files →
+        All (λ entry. entry.length < 2 ^ 63) (v1_entries layout piece_length files) }
+    ensures padding { (layout : Layout) (piece_length : ℕ) (files : List (List (List ℕ) × ℕ)) →
+        IsPieceLength piece_length →
+        All (λ entry. entry.pad ≡ true → entry.length < piece_length) (v1_entries layout piece_length files) }
 {}
