@@ -1,3 +1,4 @@
 pub mod Pushed
 pub mod LayerSteps
 pub mod SumSteps
+pub mod Listed

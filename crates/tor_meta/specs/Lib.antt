@@ -4,3 +4,4 @@ pub mod ListRefusal
 pub mod Refusal
 pub mod Layers
 pub mod Contents
+pub mod Sums

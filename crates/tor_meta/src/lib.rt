@@ -2,15 +2,19 @@
 #![tactic(auto)]
 
 mod head;
+mod info;
 mod items;
 mod judge;
 mod layers;
 mod output;
 mod refusals;
 mod sums;
+mod torrent;
 
 pub use head::Head;
 pub use judge::{MAX_NAMES, judge_paths};
 pub use output::{WriteFault, write_out};
 pub use refusals::ContentsError;
 
+pub use sums::Sums;
+pub use torrent::torrent_bytes;

@@ -1,0 +1,143 @@
+//! The info dictionary (BEP 3, BEP 52, "info dictionary").
+ghost use Rattle.std.specs.Prelude.{◌≡◌, ◌<◌, ◌≤◌, ◌^◌, ◌&&◌, not, true, false, All, List, ℕ, IfOk, option_map, pos, length};
+ghost use Rattle.tor_bencode.specs.Data.{string, integer};
+ghost use Rattle.tor_bencode.specs.View.{view};
+ghost use Rattle.tor_merkle.specs.Layer.{IsPieceLength};
+ghost use Rattle.tor_meta.specs.Head.{settings_of};
+ghost use Rattle.tor_meta.specs.Sums.{AreFactsOf, HaveTrees, IsJudged};
+ghost use Rattle.tor_spec.specs.Dictionary.{when};
+ghost use Rattle.tor_spec.specs.Facts.{Facts, listed};
+ghost use Rattle.tor_spec.specs.FilesList.{files_list};
+ghost use Rattle.tor_spec.specs.InfoDictionary.{info_dictionary, total_size};
+ghost use Rattle.tor_spec.specs.Settings.{has_v1, has_v2, layout_of};
+ghost use Rattle.tor_tree.specs.WrittenTree.{file_tree};
+ghost use Rattle.tor_v1.specs.Entries.{v1_entries};
+ghost use Rattle.tor_v1.specs.Piece.{max_piece_length};
+ghost use Rattle.tor_v1.specs.Reserved.{takes_reserved};
+
+use crate::head::Head;
+use crate::items::{dictionary, files, number, text};
+use crate::sums::Sums;
+use std::alloc::{AllocError, Global};
+use tor_bencode::Item;
+use tor_merkle::laws::piece_length_bounds;
+use tor_spec::laws::entries_fit;
+use tor_tree::{FileList, FilePath, to_item};
+use tor_v1::{Entry, LayoutError, lay_out};
+
+/// The info dictionary of these files.
+pub(crate) fn info(
+    alloc: Global,
+    head: &Head,
+    list: &FileList,
+    sums: &Sums,
+) -> Result<Item, AllocError>
+    requires judged { IsJudged head.now list.now }
+    requires trees { HaveTrees head.now list.now sums.now }
+    ensures { (facts : List Facts) → AreFactsOf head.now list.now sums.now facts → IfOk result (λ item.
+        view item ≡ info_dictionary (settings_of head.now) facts sums.now.pieces.items) }
+{
+    piece_length_bounds();
+    let tree = tree(alloc, head, list, sums)?;
+    let entries = entry_list(alloc, head, list)?;
+    let length = only_length(head, list.files());
+    let name = text(alloc, head.name.as_bytes())?;
+    let pieces = pieces(alloc, head, &sums.pieces)?;
+    let fields = vec![in alloc;
+        ("file tree", tree),
+        ("files", entries),
+        ("length", length),
+        ("meta version", number_if(head.has_v2(), 2)),
+        ("name", Some(name)),
+        ("piece length", Some(number(head.piece_length))),
+        ("pieces", pieces),
+        ("private", number_if(head.is_private, 1)),
+    ]?;
+    dictionary(alloc, fields)
+}
+
+/// The file tree of BEP 52.
+fn tree(
+    alloc: Global,
+    head: &Head,
+    list: &FileList,
+    sums: &Sums,
+) -> Result<Option<Item>, AllocError>
+    requires { HaveTrees head.now list.now sums.now }
+    ensures { IfOk result (λ item.
+        option_map view item ≡ when (has_v2 head.now.kind) (file_tree list.now sums.now.roots.items)) }
+{
+    if !head.has_v2() {
+        return Ok(None);
+    }
+    Ok(Some(to_item(alloc, list, &sums.roots)?))
+}
+
+/// The `files` of BEP 3, where there may be more than one.
+fn entry_list(alloc: Global, head: &Head, list: &FileList) -> Result<Option<Item>, AllocError>
+    requires { IsJudged head.now list.now }
+    ensures { IfOk result (λ item. option_map view item ≡ when (has_v1 head.now.kind && not head.now.single)
+        (files_list (v1_entries (layout_of (settings_of head.now)) head.now.piece_length list.now))) }
+{
+    if !head.has_v1() || head.single {
+        return Ok(None);
+    }
+    let entries = entries(alloc, head, list)?;
+    Ok(Some(files(alloc, &entries)?))
+}
+
+/// The entries of the files in the layout that the head asks for.
+pub(crate) fn entries(
+    alloc: Global,
+    head: &Head,
+    list: &FileList,
+) -> Result<Vec<Entry>, AllocError>
+    requires { IsJudged head.now list.now }
+    ensures made { IfOk result (λ entries. entries.items
+        ≡ v1_entries (layout_of (settings_of head.now)) head.now.piece_length list.now) }
+    ensures small { IfOk result (λ entries. All (λ entry. entry.length < 2 ^ 63) entries.items) }
+    ensures padding { IfOk result (λ entries.
+        All (λ entry. entry.pad ≡ true → entry.length ≤ max_piece_length) entries.items) }
+{
+    piece_length_bounds();
+    entries_fit();
+    match lay_out(alloc, list, head.piece_length, head.layout()) {
+        Ok(entries) => Ok(entries),
+        Err(LayoutError::Memory) => Err(AllocError),
+        Err(LayoutError::ReservedPad) => unreachable!(),
+    }
+}
+
+/// The `length` of BEP 3, of a single file.
+fn only_length(head: &Head, files: &[(FilePath, u64)]) -> Option<Item>
+    requires one { head.now.single ≡ true → length files.now ≡ 1 }
+    requires small { All (λ file. file.1 < 2 ^ 63) files.now }
+    ensures { (facts : List Facts) → listed facts ≡ files.now →
+        option_map view result ≡ when (has_v1 head.now.kind && head.now.single) (integer (pos (total_size facts))) }
+{
+    if !head.has_v1() || !head.single {
+        return None;
+    }
+    let [(_, length)] = files else {
+        unreachable!();
+    };
+    Some(number(*length))
+}
+
+/// The joined SHA-1 of BEP 3.
+fn pieces(alloc: Global, head: &Head, pieces: &[u8]) -> Result<Option<Item>, AllocError>
+    ensures { IfOk result (λ item. option_map view item ≡ when (has_v1 head.now.kind) (string pieces.now)) }
+{
+    if !head.has_v1() {
+        return Ok(None);
+    }
+    Ok(Some(text(alloc, pieces)?))
+}
+
+/// A number where the key is to be there.
+fn number_if(there: bool, n: u64) -> Option<Item>
+    requires { n < 2 ^ 63 }
+    ensures { option_map view result ≡ when there (integer (pos n)) }
+{
+    there.then_some(number(n))
+}
