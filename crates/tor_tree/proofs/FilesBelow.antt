@@ -1,7 +1,7 @@
 -- Files with their properties, seen from some names down, a part at a time.
 use Rattle.std.proofs.Common.{Vec, Global, None, inl, inr, zero-add, suc-add, length-drop, ◌-◌, ◌≡◌, ◌≢◌, ℕ, zero, suc, ◌+◌, ◌<◌, true, false, List, [], ◌∷◌, ◌++◌, length, get_or, take, drop, map, Option, refl, sym, ap, ◌∙◌, arith}
 use Rattle.std.specs.List.{All, AllByRecursion}
-use Rattle.std.proofs.lemmas.List.{drop_more, drop_all, take_all}
+use Rattle.std.proofs.lemmas.List.{drop-drop, drop_more, drop_all, take_all}
 use Rattle.std.proofs.lemmas.List.Elements.{All-append, recursion_from_All}
 use Rattle.std.proofs.lemmas.Bool.{cases_lt}
 use Rattle.tor_bencode.specs.Data.{Data, dictionary, Pairs, no_pairs, pair}
@@ -28,15 +28,10 @@ drop-files_below deep (suc n) (file ∷ files) [] = zip_none (drop n files)
     zip_none (f ∷ fs) = refl
 drop-files_below deep (suc n) (file ∷ files) (root ∷ roots) = drop-files_below deep n files roots
 
-drop-more : {X : Type 0} (m n : ℕ) (xs : List X) → drop n (drop m xs) ≡ drop (m + n) xs
-drop-more zero n xs = rw zero-add refl
-drop-more (suc m) n [] = drop_all n [] (omega arith) ∙ sym (drop_all (suc m + n) [] (omega arith))
-drop-more (suc m) n (x ∷ xs) = rw suc-add (drop-more m n xs)
-
 pub below-files_below : (deep : ℕ) (files : List (List (List ℕ) × ℕ)) (roots : List (Option (List ℕ))) → map (below 1) (files_below deep files roots) ≡ files_below (deep + 1) files roots
 below-files_below deep [] roots = refl
 below-files_below deep (file ∷ files) [] = refl
-below-files_below deep (file ∷ files) (root ∷ roots) = rw (drop-more deep 1 file.0, below-files_below deep files roots) refl
+below-files_below deep (file ∷ files) (root ∷ roots) = rw (drop-drop 1 deep file.0, below-files_below deep files roots) refl
 
 pub length-files_below : (deep : ℕ) (files : List (List (List ℕ) × ℕ)) (roots : List (Option (List ℕ))) → length roots ≡ length files → length (files_below deep files roots) ≡ length files
 length-files_below deep [] roots e = refl
@@ -83,7 +78,7 @@ group_made deep name named files roots count some more one_each same ends inside
 pub next_made : (deep start count : ℕ) (files : List (List (List ℕ) × ℕ)) (roots : List (Option (List ℕ))) (key : List ℕ) (value : Data) → pairs_of_files (files_below deep (drop start files) (drop start roots)) ≡ pair key value (pairs_of_files (drop count (files_below deep (drop start files) (drop start roots)))) → pairs_of_files (drop start (files_below deep files roots)) ≡ pair key value (pairs_of_files (drop (start + count) (files_below deep files roots)))
 next_made deep start count files roots key value made =
     ap pairs_of_files (drop-files_below deep start files roots) ∙ made
-    ∙ ap (λ fs. pair key value (pairs_of_files fs)) (ap (drop count) (sym (drop-files_below deep start files roots)) ∙ drop-more start count (files_below deep files roots))
+    ∙ ap (λ fs. pair key value (pairs_of_files fs)) (ap (drop count) (sym (drop-files_below deep start files roots)) ∙ drop-drop count start (files_below deep files roots))
 
 -- pairs, and more pairs after them
 abbrev pub followed_by : Pairs → Pairs → Pairs

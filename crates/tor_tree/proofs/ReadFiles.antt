@@ -15,9 +15,9 @@ use Rattle.tor_tree.proofs.Shaped.{HaveNames}
 use Rattle.tor_tree.proofs.TreeFaults.{faultless_tree}
 use Rattle.tor_tree.proofs.Unmixed.{HavePaths}
 
-is_some : {X : Type 0} (o : Option X) → is_none o ≡ true → o ≡ None
-is_some None h = refl
-is_some (Some x) h = cc
+nothing_there : {X : Type 0} (o : Option X) → is_none o ≡ true → o ≡ None
+nothing_there None h = refl
+nothing_there (Some x) h = cc
 
 names_under : (key : List ℕ) (inside rest : List (List (List ℕ) × Data)) → name_fault key ≡ None → HaveNames inside → HaveNames rest → HaveNames (under key inside ++ rest)
 names_under key [] rest faultless here later = later
@@ -38,7 +38,7 @@ mutual
   names_in (pair (c ∷ cs) folder pairs) shaped =
       let here = and_parts (is_none (name_fault (c ∷ cs))) (is_folder folder && are_entries pairs) shaped in
       let later = and_parts (is_folder folder) (are_entries pairs) here.1 in
-      names_under (c ∷ cs) (entries_of folder) (entries_in pairs) (is_some _ here.0) (names_of folder later.0) (names_in pairs later.1)
+      names_under (c ∷ cs) (entries_of folder) (entries_in pairs) (nothing_there _ here.0) (names_of folder later.0) (names_in pairs later.1)
 
 some_under : (key : List ℕ) (inside rest : List (List (List ℕ) × Data)) → HavePaths rest → HavePaths (under key inside ++ rest)
 some_under key [] rest later = later

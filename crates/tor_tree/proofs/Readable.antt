@@ -18,12 +18,8 @@ use Rattle.tor_tree.proofs.OneTree.{AreTidyFiles, tidy_of}
 use Rattle.tor_tree.proofs.PathLists.{nest_found}
 use Rattle.tor_tree.proofs.Shaped.{HaveNames, no_link, no_negative_length, shaped_folder}
 use Rattle.tor_tree.proofs.TreeOfFiles.{one_root_each, plain, plain_file}
-use Rattle.tor_tree.proofs.Unmixed.{AreApart, HavePaths, apart_from_places, paths_in, unmixed}
+use Rattle.tor_tree.proofs.Unmixed.{AreApart, HavePaths, apart_from_places, paths_in, told_paths, unmixed}
 use Rattle.std.proofs.lemmas.List.Elements.{All-from_recursion, recursion_from_All}
-
-told_paths : (entries : List (List (List ℕ) × Data)) → map (λ (file : TreeFile). file.path) (map file_of entries) ≡ paths_in entries
-told_paths [] = refl
-told_paths ((path, properties) ∷ entries) = ap (λ paths. path ∷ paths) (told_paths entries)
 
 told_lengths : (entries : List (List (List ℕ) × Data)) → map (λ (file : TreeFile). file.length) (map file_of entries) ≡ map length_of (map (λ entry. entry.1) entries)
 told_lengths [] = refl

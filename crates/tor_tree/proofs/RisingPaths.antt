@@ -1,17 +1,17 @@
 -- The files of a tree whose keys rise are in the order of their paths.
-use Rattle.std.proofs.Common.{◌≡◌, ℕ, List, [], ◌∷◌, ◌++◌, map, Less, refl, ap}
+use Rattle.std.proofs.Common.{◌≡◌, ℕ, List, [], ◌∷◌, ◌++◌, map, Less, refl}
 use Rattle.std.specs.Cmp.Lexicographic.{nat_list_cmp_total}
 use Rattle.std.specs.List.{AllByRecursion}
 use Rattle.std.specs.List.Sorted.{IsStrictlySortedBy}
 use Rattle.std.proofs.lemmas.Cmp.{tied_itself}
 use Rattle.tor_bencode.specs.Data.{Data, integer, string, list, dictionary, Pairs, no_pairs, pair, keys_of}
 use Rattle.tor_bencode.specs.Lawful.{AreRising, HasRisingKeys}
-use Rattle.tor_tree.specs.FileTree.{entries_in, entries_of, file_of, files_of_tree, under}
+use Rattle.tor_tree.specs.FileTree.{entries_in, entries_of, files_of_tree, under}
 use Rattle.tor_tree.specs.Path.{name_cmp, path_cmp}
 use Rattle.tor_tree.specs.declared.tree_file.TreeFile.{TreeFile}
 use Rattle.tor_tree.proofs.OneTree.{rising_rest}
 use Rattle.tor_tree.proofs.RisingTree.{AreRisingPairs}
-use Rattle.tor_tree.proofs.Unmixed.{paths_in}
+use Rattle.tor_tree.proofs.Unmixed.{paths_in, told_paths}
 
 -- the path comes before those of all entries
 abbrev IsBeforeAll : List (List ℕ) → List (List (List ℕ) × Data) → Type 0
@@ -90,9 +90,5 @@ mutual
       sorted_both (c ∷ cs) (entries_of folder) (entries_in pairs) (sorted_of folder rising.1.0) (sorted_in pairs (rising_rest (c ∷ cs) (keys_of pairs) rising.0, rising.1.1))
       (λ names. before_pairs (c ∷ cs) names pairs rising.0)
 
-told : (entries : List (List (List ℕ) × Data)) → map (λ (file : TreeFile). file.path) (map file_of entries) ≡ paths_in entries
-told [] = refl
-told ((path, properties) ∷ entries) = ap (λ paths. path ∷ paths) (told entries)
-
 pub paths_rise : (tree : Data) → HasRisingKeys tree → IsStrictlySortedBy path_cmp (map (λ (file : TreeFile). file.path) (files_of_tree tree))
-paths_rise tree rising = rw (told (entries_of tree)) (sorted_of tree rising)
+paths_rise tree rising = rw (told_paths (entries_of tree)) (sorted_of tree rising)

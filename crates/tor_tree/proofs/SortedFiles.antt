@@ -1,8 +1,8 @@
 -- What comparing each file of a sorted list with the next tells of the whole list.
 use Rattle.std.proofs.Common.{◌≡◌, ℕ, ◌+◌, ◌<◌, Bool, true, false, not, List, [], ◌∷◌, length, get_or, Ordering, Less, Equal, Greater, refl, sym, ap, ◌∙◌, arith, IsTrue}
-use Rattle.std.specs.Ordering.{is_lt, nat_cmp, ordering_then, ordering_reverse}
+use Rattle.std.specs.Ordering.{is_lt, ordering_reverse}
 use Rattle.std.specs.List.{IsAllAdjacentAnswer, starts_with}
-use Rattle.std.specs.List.Sorted.{IsSortedByKey, IsSorted}
+use Rattle.std.specs.List.Sorted.{IsSortedByKey}
 use Rattle.std.proofs.lemmas.Bool.{not-true, not-false}
 use Rattle.std.proofs.lemmas.List.{get_or-map, length-map}
 use Rattle.tor_tree.specs.FileList.{paths_of, paths_repeat, paths_nest, IsInPathOrder}
@@ -25,18 +25,6 @@ tied Greater p q = cc
 element : {Y : Type 0} (ys : List Y) (k : ℕ) → k < length ys → Y
 element [] k lt = absurd (omega arith)
 element (y ∷ ys) k lt = y
-
--- a sort by path and length is one by path
-pub by_path : (files : List (List (List ℕ) × ℕ)) → IsSorted (λ x y. ordering_then (path_cmp x.0 y.0) (nat_cmp x.1 y.1)) files → IsSortedByKey (λ file. file.0) path_cmp files
-by_path files sorted k d low high =
-    let file = get_or files k d in
-    let next = get_or files (k + 1) d in
-    first (path_cmp next.0 file.0) (nat_cmp next.1 file.1) (sorted k d low high)
-  where
-    first : (o rest : Ordering) → is_lt (ordering_then o rest) ≡ false → is_lt o ≡ false
-    first Less rest h = h
-    first Equal rest h = refl
-    first Greater rest h = refl
 
 module _ {X : Type 0} where
   path_at : (files : List (List (List ℕ) × X)) (k : ℕ) (d : List (List ℕ) × X) → k < length files → get_or (paths_of files) k [] ≡ (get_or files k d).0

@@ -1,8 +1,9 @@
 -- The faults of a tree are those of the entries that were read of it.
-use Rattle.std.proofs.Common.{◌≡◌, ◌==◌, ℕ, pos, Bool, true, false, not, cond, ◌&&◌, ◌||◌, List, [], ◌∷◌, ◌++◌, length, map, nat_lt, Option, None, Some, is_none, unwrap_or, unsigned_abs, refl, sym, ap, ◌∙◌, arith}
+use Rattle.std.proofs.Common.{◌≡◌, ◌==◌, ℕ, pos, Bool, true, false, not, cond, ◌&&◌, List, [], ◌∷◌, ◌++◌, length, map, nat_lt, Option, None, Some, is_none, unwrap_or, unsigned_abs, refl, sym, ap, ◌∙◌, arith}
 use Rattle.std.specs.List.{list_any, All, AllByRecursion}
 use Rattle.std.specs.Prelude.{int_lt, IsSome}
 use Rattle.std.proofs.lemmas.List.{length-map}
+use Rattle.std.proofs.lemmas.Simd.{map-map}
 use Rattle.std.proofs.lemmas.List.Elements.{All-from_recursion}
 use Rattle.std.proofs.lemmas.Bool.{or_parts, lt-ltb, eqb-false, not-false}
 use Rattle.tor_bencode.specs.Data.{Data, integer, string, list, dictionary, Pairs, no_pairs, pair}
@@ -12,14 +13,6 @@ use Rattle.tor_tree.specs.Properties.{has_negative_length, has_letter, length_of
 use Rattle.tor_tree.specs.Reading.{entries_fault, entry_at, file_from, hash_of, path_if_any}
 use Rattle.tor_tree.specs.declared.entries.Entry.{Entry}
 use Rattle.tor_tree.proofs.ListFaults.{clear}
-
-list_any-map : {X Y : Type 0} (p : Y → Bool) (f : X → Y) (xs : List X) → list_any p (map f xs) ≡ list_any (λ x. p (f x)) xs
-list_any-map p f [] = refl
-list_any-map p f (x ∷ xs) = ap (λ b. p (f x) || b) (list_any-map p f xs)
-
-map-map : {X Y Z : Type 0} (g : Y → Z) (f : X → Y) (xs : List X) → map g (map f xs) ≡ map (λ x. g (f x)) xs
-map-map g f [] = refl
-map-map g f (x ∷ xs) = ap (λ zs. g (f x) ∷ zs) (map-map g f xs)
 
 -- a test of entries agrees with one of properties
 alike : (p : Entry → Bool) (q : Data → Bool) → ((file : List (List ℕ) × Data) → p (entry_at [] file) ≡ q file.1) → (files : List (List (List ℕ) × Data)) → list_any p (map (entry_at []) files) ≡ list_any q (map (λ file. file.1) files)

@@ -1,10 +1,11 @@
 -- A tidy tree with rising keys, none of whose paths begins the next, has no folder that is a file too.
-use Rattle.std.proofs.Common.{◌≡◌, ◌≢◌, ◌==◌, ◌&&◌, ℕ, suc, ◌<◌, false, List, [], ◌∷◌, ◌++◌, length, map, nat_lt, get_or, refl, arith}
+use Rattle.std.proofs.Common.{◌≡◌, ◌≢◌, ◌==◌, ◌&&◌, ℕ, suc, ◌<◌, false, List, [], ◌∷◌, ◌++◌, length, map, nat_lt, get_or, refl, ap, arith}
 use Rattle.std.specs.List.{AllByRecursion, starts_with}
 use Rattle.std.proofs.lemmas.Bool.{ne_eqb}
 use Rattle.tor_bencode.specs.Data.{Data, integer, string, list, dictionary, Pairs, no_pairs, pair, keys_of}
 use Rattle.tor_bencode.specs.Lawful.{AreRising, HasRisingKeys}
-use Rattle.tor_tree.specs.FileTree.{entries_in, entries_of, entries_mix, folder_mixes, has_empty_key, tree_mixes, under}
+use Rattle.tor_tree.specs.declared.tree_file.TreeFile.{TreeFile}
+use Rattle.tor_tree.specs.FileTree.{entries_in, entries_of, file_of, entries_mix, folder_mixes, has_empty_key, tree_mixes, under}
 use Rattle.tor_tree.specs.Path.{name_eq}
 use Rattle.tor_tree.specs.TidyTree.{AreTidy, IsTidy}
 use Rattle.tor_tree.proofs.Groups.{name_own}
@@ -19,6 +20,11 @@ AreApart (path ∷ next ∷ paths) = (starts_with name_eq next path ≡ false) �
 
 abbrev pub paths_in : List (List (List ℕ) × Data) → List (List (List ℕ))
 paths_in entries = map (λ entry. entry.0) entries
+
+-- the files of entries have their paths
+pub told_paths : (entries : List (List (List ℕ) × Data)) → map (λ (file : TreeFile). file.path) (map file_of entries) ≡ paths_in entries
+told_paths [] = refl
+told_paths ((path, properties) ∷ entries) = ap (λ paths. path ∷ paths) (told_paths entries)
 
 pub apart_from_places : (paths : List (List (List ℕ))) → ((k : ℕ) → suc k < length paths → starts_with name_eq (get_or paths (suc k) []) (get_or paths k []) ≡ false) → AreApart paths
 apart_from_places [] each = tt
