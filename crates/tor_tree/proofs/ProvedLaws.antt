@@ -23,28 +23,39 @@ use Rattle.tor_tree.proofs.RisingPaths.{paths_rise}
 pub one_file_tree : AtMostOneTree
 one_file_tree = one_tree
 
-pub file_tree_of_list : (files : List (List (List ℕ) × ℕ)) (roots : List (Option (List ℕ))) → IsInPathOrder files → All (λ file. HasNames file.0) files → AllZip HasItsRoot files roots → IsFileTreeOf files roots (file_tree files roots)
+pub file_tree_of_list : (files : List (List (List ℕ) × ℕ)) (roots : List (Option (List ℕ))) → IsInPathOrder files
+    → All (λ file. HasNames file.0) files → AllZip HasItsRoot files roots
+    → IsFileTreeOf files roots (file_tree files roots)
 file_tree_of_list files roots in_order named with_roots =
     made_file_tree files roots with_roots in_order (recursion_from_All _ files named)
 
-pub file_tree_is_lawful : (names : ℕ) (files : List (List (List ℕ) × ℕ)) (roots : List (Option (List ℕ))) → IsInPathOrder files → All (λ file. HasNames file.0) files → AllZip HasItsRoot files roots → All (λ file. file.1 < 2 ^ 63) files → All (λ file. length file.0 ≤ names) files → IsLawfulWithin (names + 2) (file_tree files roots)
+pub file_tree_is_lawful : (names : ℕ) (files : List (List (List ℕ) × ℕ)) (roots : List (Option (List ℕ)))
+    → IsInPathOrder files → All (λ file. HasNames file.0) files → AllZip HasItsRoot files roots
+    → All (λ file. file.1 < 2 ^ 63) files → All (λ file. length file.0 ≤ names) files
+    → IsLawfulWithin (names + 2) (file_tree files roots)
 file_tree_is_lawful names files roots in_order named with_roots small few =
     lawful_tree names files roots (file_tree_of_list files roots in_order named with_roots).keys (recursion_from_All _ files small) (recursion_from_All _ files few)
 
 pub paths_have_names : (path : List (List ℕ)) → IsFilePath path → HasNames path
 paths_have_names = path_named
 
-pub roots_by_place : (files : List (List (List ℕ) × ℕ)) (roots : List (Option (List ℕ))) → length roots ≡ length files → ((k : ℕ) (file : List (List ℕ) × ℕ) (root : Option (List ℕ)) → k < length files → HasItsRoot (get_or files k file) (get_or roots k root)) → AllZip HasItsRoot files roots
+pub roots_by_place : (files : List (List (List ℕ) × ℕ)) (roots : List (Option (List ℕ))) → length roots ≡ length files
+    → ((k : ℕ) (file : List (List ℕ) × ℕ) (root : Option (List ℕ)) → k < length files → HasItsRoot (get_or files k file) (get_or roots k root))
+    → AllZip HasItsRoot files roots
 roots_by_place = rooted_by_place
 
-pub at_places : {X : Type 0} (xs : List X) (d : X) (places : List ℕ) → ArePlaces places → length places ≡ length xs → IsPermutation xs (map (λ place. get_or xs place d) places)
+pub at_places : {X : Type 0} (xs : List X) (d : X) (places : List ℕ) → ArePlaces places → length places ≡ length xs
+    → IsPermutation xs (map (λ place. get_or xs place d) places)
 at_places = moved_to_places
 
-pub rising_paths : (tree : Data) → HasRisingKeys tree → IsStrictlySortedBy path_cmp (map (λ (file : TreeFile). file.path) (files_of_tree tree))
+pub rising_paths : (tree : Data) → HasRisingKeys tree
+    → IsStrictlySortedBy path_cmp (map (λ (file : TreeFile). file.path) (files_of_tree tree))
 rising_paths = paths_rise
 
-pub paths_of_read_files : (tree : Data) → tree_fault tree ≡ None → All (λ (file : TreeFile). IsFilePath file.path) (files_of_tree tree)
+pub paths_of_read_files : (tree : Data) → tree_fault tree ≡ None
+    → All (λ (file : TreeFile). IsFilePath file.path) (files_of_tree tree)
 paths_of_read_files = read_paths
 
-pub roots_of_read_files : (tree : Data) → tree_fault tree ≡ None → AllZip HasItsRoot (map (λ (file : TreeFile). (file.path, file.length)) (files_of_tree tree)) (map (λ (file : TreeFile). file.root) (files_of_tree tree))
+pub roots_of_read_files : (tree : Data) → tree_fault tree ≡ None
+    → AllZip HasItsRoot (map (λ (file : TreeFile). (file.path, file.length)) (files_of_tree tree)) (map (λ (file : TreeFile). file.root) (files_of_tree tree))
 roots_of_read_files = read_roots

@@ -27,15 +27,19 @@ element [] k lt = absurd (omega arith)
 element (y ∷ ys) k lt = y
 
 module _ {X : Type 0} where
-  path_at : (files : List (List (List ℕ) × X)) (k : ℕ) (d : List (List ℕ) × X) → k < length files → get_or (paths_of files) k [] ≡ (get_or files k d).0
+  path_at : (files : List (List (List ℕ) × X)) (k : ℕ) (d : List (List ℕ) × X) → k < length files
+      → get_or (paths_of files) k [] ≡ (get_or files k d).0
   path_at files k d lt = get_or-map (λ file. file.0) files k d [] lt
 
-  pub rising_answer : (files : List (List (List ℕ) × X)) (answer : Bool) → IsAllAdjacentAnswer (λ x y b. b ≡ is_lt (path_cmp x.0 y.0)) files answer → IsTrue answer → IsInPathOrder files
+  pub rising_answer : (files : List (List (List ℕ) × X)) (answer : Bool)
+      → IsAllAdjacentAnswer (λ x y b. b ≡ is_lt (path_cmp x.0 y.0)) files answer → IsTrue answer → IsInPathOrder files
   rising_answer files true each t =
       rising_from_neighbours path_order (λ file. file.0) files (λ k d lt. below_is _ (each k d lt))
   rising_answer files false each t = cc
 
-  pub repeat_answer : (files : List (List (List ℕ) × X)) (answer : Bool) → IsSortedByKey (λ file. file.0) path_cmp files → IsAllAdjacentAnswer (λ x y b. b ≡ is_lt (path_cmp x.0 y.0)) files answer → answer ≡ not (paths_repeat (paths_of files))
+  pub repeat_answer : (files : List (List (List ℕ) × X)) (answer : Bool) → IsSortedByKey (λ file. file.0) path_cmp files
+      → IsAllAdjacentAnswer (λ x y b. b ≡ is_lt (path_cmp x.0 y.0)) files answer
+      → answer ≡ not (paths_repeat (paths_of files))
   repeat_answer files true sorted each =
       sym (ap not (repeat_none (paths_of files) (rising_answer files true each refl)))
   repeat_answer files false sorted some =
@@ -50,7 +54,9 @@ module _ {X : Type 0} where
       rw (path_at files k d (omega arith), path_at files (k + 1) d some.1) same in
       sym (ap not (repeat_found (paths_of files) k (rw length-map some.1) at_paths))
 
-  pub nest_answer : (files : List (List (List ℕ) × X)) (answer : Bool) → IsInPathOrder files → IsAllAdjacentAnswer (λ x y b. b ≡ not (starts_with name_eq y.0 x.0)) files answer → not answer ≡ paths_nest (paths_of files)
+  pub nest_answer : (files : List (List (List ℕ) × X)) (answer : Bool) → IsInPathOrder files
+      → IsAllAdjacentAnswer (λ x y b. b ≡ not (starts_with name_eq y.0 x.0)) files answer
+      → not answer ≡ paths_nest (paths_of files)
   nest_answer files true rising each =
       sym (nest_none (paths_of files) rising
       (λ k d lt.
