@@ -36,7 +36,7 @@ repeat_found paths k lt same =
     list_any_at (λ p. nat_lt 1 (count_by (path_eq p) paths)) paths k [] (omega arith) (lt-ltb 1 _ (count_of_neighbours (path_eq path) paths k [] lt here next))
 
 -- a path inside another comes after it
-inside_after : (folder path : List (List ℕ)) → is_inside folder path ≡ true → path_cmp folder path ≡ Less
+pub inside_after : (folder path : List (List ℕ)) → is_inside folder path ≡ true → path_cmp folder path ≡ Less
 inside_after folder path inside =
     let parts = and_parts (starts_with name_eq path folder) (nat_lt (length folder) (length path)) inside in
     after_beginning nat_list_cmp_total texts_ties folder path parts.0 (ltb-true _ _ parts.1)
