@@ -10,7 +10,9 @@ use Rattle.tor_tree.proofs.MadeTree.{made_tidy, made_entries}
 use Rattle.tor_tree.proofs.RisingTree.{made_rising}
 use Rattle.tor_tree.proofs.TreeOfFiles.{one_root_each, paths_with, plain_described, ready_files}
 
-pub made_file_tree : (files : List (List (List ℕ) × ℕ)) (roots : List (Option (List ℕ))) → AllZip HasItsRoot files roots → IsInPathOrder files → AllByRecursion (λ file. HasNames file.0) files → IsFileTreeOf files roots (file_tree files roots)
+pub made_file_tree : (files : List (List (List ℕ) × ℕ)) (roots : List (Option (List ℕ))) → AllZip HasItsRoot files roots
+    → IsInPathOrder files → AllByRecursion (λ file. HasNames file.0) files
+    → IsFileTreeOf files roots (file_tree files roots)
 made_file_tree files roots with_roots in_order named =
     let ready = ready_files files roots with_roots named in
     let paths = paths_with files roots (one_root_each files roots with_roots) in

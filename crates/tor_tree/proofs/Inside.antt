@@ -36,7 +36,8 @@ module _ {K : Type 0} {R : K → K → Ordering} (o : IsTotalOrder R) {E : K →
       omega arith
 
   -- what lies between a list and one that begins with it begins with it too
-  pub beginning_between : (x y z : List K) → slice_cmp R x y ≡ Less → slice_cmp R y z ≡ Less → starts_with E z x ≡ true → starts_with E y x ≡ true
+  pub beginning_between : (x y z : List K) → slice_cmp R x y ≡ Less → slice_cmp R y z ≡ Less → starts_with E z x ≡ true
+      → starts_with E y x ≡ true
   beginning_between [] y z p q s = refl
   beginning_between (a ∷ x) [] z p q s = cc
   beginning_between (a ∷ x) (b ∷ y) [] p q s = cc
@@ -44,7 +45,10 @@ module _ {K : Type 0} {R : K → K → Ordering} (o : IsTotalOrder R) {E : K →
       let parts = and_parts (E a c) (starts_with E z x) s in
       by_heads (R a b) (R b c) refl refl p q (tied a c parts.0) (λ less rest. beginning_between x y z less rest parts.1)
     where
-      by_heads : (r t : Ordering) → R a b ≡ r → R b c ≡ t → ordering_then r (slice_cmp R x y) ≡ Less → ordering_then t (slice_cmp R y z) ≡ Less → R a c ≡ Equal → (slice_cmp R x y ≡ Less → slice_cmp R y z ≡ Less → starts_with E y x ≡ true) → (E a b && starts_with E y x) ≡ true
+      by_heads : (r t : Ordering) → R a b ≡ r → R b c ≡ t → ordering_then r (slice_cmp R x y) ≡ Less
+          → ordering_then t (slice_cmp R y z) ≡ Less → R a c ≡ Equal
+          → (slice_cmp R x y ≡ Less → slice_cmp R y z ≡ Less → starts_with E y x ≡ true)
+          → (E a b && starts_with E y x) ≡ true
       by_heads Less Less e f p q ac inner = let less = o.trans a b c e f in cc
       by_heads Less Equal e f p q ac inner = let same = alike_right o b c a f in cc
       by_heads Less Greater e f p q ac inner = cc

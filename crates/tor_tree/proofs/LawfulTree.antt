@@ -11,7 +11,8 @@ module _ (n : ℕ) (put : Pairs → Pairs) (deep : (room : ℕ) (pairs : Pairs) 
   deep_new : (room : ℕ) → suc (suc n) ≤ room → suc (pairs_depth (put no_pairs)) ≤ room
   deep_new room few = omega (arith, deep (suc n) no_pairs (omega arith) (omega arith), few)
 
-  deep_inside : (room : ℕ) (folder : Data) → suc (suc n) ≤ room → depth folder ≤ room → depth (put_inside put folder) ≤ room
+  deep_inside : (room : ℕ) (folder : Data) → suc (suc n) ≤ room → depth folder ≤ room
+      → depth (put_inside put folder) ≤ room
   deep_inside room (integer k) few within = within
   deep_inside room (string bytes) few within = within
   deep_inside room (list items) few within = within
@@ -19,15 +20,18 @@ module _ (n : ℕ) (put : Pairs → Pairs) (deep : (room : ℕ) (pairs : Pairs) 
   deep_inside (suc room) (dictionary inside) few within =
       omega (arith, deep room inside (omega (arith, few)) (omega (arith, within)))
 
-  deep_under : (name : List ℕ) (room : ℕ) (pairs : Pairs) → suc (suc n) ≤ room → pairs_depth pairs ≤ room → pairs_depth (put_under name put pairs) ≤ room
+  deep_under : (name : List ℕ) (room : ℕ) (pairs : Pairs) → suc (suc n) ≤ room → pairs_depth pairs ≤ room
+      → pairs_depth (put_under name put pairs) ≤ room
   deep_under name room no_pairs few within = omega (arith, deep_new room few)
   deep_under name room (pair key folder pairs) few within = by_key (name_eq key name)
     where
-      by_key : (b : Bool) → pairs_depth (cond b (pair key (put_inside put folder) pairs) (pair name (dictionary (put no_pairs)) (pair key folder pairs))) ≤ room
+      by_key : (b : Bool)
+          → pairs_depth (cond b (pair key (put_inside put folder) pairs) (pair name (dictionary (put no_pairs)) (pair key folder pairs))) ≤ room
       by_key true = omega (arith, deep_inside room folder few (omega (arith, within)), within)
       by_key false = omega (arith, deep_new room few, within)
 
-put_deep : (path : List (List ℕ)) (properties : Data) → depth properties ≤ 1 → (room : ℕ) (pairs : Pairs) → suc (length path) ≤ room → pairs_depth pairs ≤ room → pairs_depth (put_first path properties pairs) ≤ room
+put_deep : (path : List (List ℕ)) (properties : Data) → depth properties ≤ 1 → (room : ℕ) (pairs : Pairs)
+    → suc (length path) ≤ room → pairs_depth pairs ≤ room → pairs_depth (put_first path properties pairs) ≤ room
 put_deep [] properties plain room pairs few within = omega (arith, plain, few, within)
 put_deep (name ∷ names) properties plain room pairs few within =
     deep_under (length names) (put_first names properties) (put_deep names properties plain) name room pairs few within
@@ -39,15 +43,18 @@ module _ (put : Pairs → Pairs) (small : (pairs : Pairs) → PairsHaveSmallInte
   small_inside (list items) h = h
   small_inside (dictionary inside) h = small inside h
 
-  small_under : (name : List ℕ) (pairs : Pairs) → PairsHaveSmallIntegers pairs → PairsHaveSmallIntegers (put_under name put pairs)
+  small_under : (name : List ℕ) (pairs : Pairs) → PairsHaveSmallIntegers pairs
+      → PairsHaveSmallIntegers (put_under name put pairs)
   small_under name no_pairs h = (small no_pairs tt, tt)
   small_under name (pair key folder pairs) h = by_key (name_eq key name)
     where
-      by_key : (b : Bool) → PairsHaveSmallIntegers (cond b (pair key (put_inside put folder) pairs) (pair name (dictionary (put no_pairs)) (pair key folder pairs)))
+      by_key : (b : Bool)
+          → PairsHaveSmallIntegers (cond b (pair key (put_inside put folder) pairs) (pair name (dictionary (put no_pairs)) (pair key folder pairs)))
       by_key true = (small_inside folder h.0, h.1)
       by_key false = (small no_pairs tt, h)
 
-put_small : (path : List (List ℕ)) (properties : Data) → HasSmallIntegers properties → (pairs : Pairs) → PairsHaveSmallIntegers pairs → PairsHaveSmallIntegers (put_first path properties pairs)
+put_small : (path : List (List ℕ)) (properties : Data) → HasSmallIntegers properties → (pairs : Pairs)
+    → PairsHaveSmallIntegers pairs → PairsHaveSmallIntegers (put_first path properties pairs)
 put_small [] properties fits pairs small = (fits, small)
 put_small (name ∷ names) properties fits pairs small =
     small_under (put_first names properties) (put_small names properties fits) name pairs small
@@ -60,19 +67,25 @@ properties_fit : (n : ℕ) (root : Option (List ℕ)) → n < 2 ^ 63 → HasSmal
 properties_fit n None small = search rules
 properties_fit n (Some root) small = search rules
 
-made_deep : (names : ℕ) (files : List (List (List ℕ) × ℕ)) (roots : List (Option (List ℕ))) → AllByRecursion (λ file. length file.0 ≤ names) files → pairs_depth (pairs_of_files (with_properties files roots)) ≤ suc names
+made_deep : (names : ℕ) (files : List (List (List ℕ) × ℕ)) (roots : List (Option (List ℕ)))
+    → AllByRecursion (λ file. length file.0 ≤ names) files
+    → pairs_depth (pairs_of_files (with_properties files roots)) ≤ suc names
 made_deep names [] roots few = omega arith
 made_deep names (file ∷ files) [] few = omega arith
 made_deep names (file ∷ files) (root ∷ roots) few =
     put_deep file.0 (properties_for file.1 root) (properties_depth file.1 root) (suc names) (pairs_of_files (with_properties files roots)) (omega (arith, few.0)) (made_deep names files roots few.1)
 
-made_small : (files : List (List (List ℕ) × ℕ)) (roots : List (Option (List ℕ))) → AllByRecursion (λ file. file.1 < 2 ^ 63) files → PairsHaveSmallIntegers (pairs_of_files (with_properties files roots))
+made_small : (files : List (List (List ℕ) × ℕ)) (roots : List (Option (List ℕ)))
+    → AllByRecursion (λ file. file.1 < 2 ^ 63) files
+    → PairsHaveSmallIntegers (pairs_of_files (with_properties files roots))
 made_small [] roots small = tt
 made_small (file ∷ files) [] small = tt
 made_small (file ∷ files) (root ∷ roots) small =
     put_small file.0 (properties_for file.1 root) (properties_fit file.1 root small.0) (pairs_of_files (with_properties files roots)) (made_small files roots small.1)
 
-pub lawful_tree : (names : ℕ) (files : List (List (List ℕ) × ℕ)) (roots : List (Option (List ℕ))) → HasRisingKeys (file_tree files roots) → AllByRecursion (λ file. file.1 < 2 ^ 63) files → AllByRecursion (λ file. length file.0 ≤ names) files → IsLawfulWithin (names + 2) (file_tree files roots)
+pub lawful_tree : (names : ℕ) (files : List (List (List ℕ) × ℕ)) (roots : List (Option (List ℕ)))
+    → HasRisingKeys (file_tree files roots) → AllByRecursion (λ file. file.1 < 2 ^ 63) files
+    → AllByRecursion (λ file. length file.0 ≤ names) files → IsLawfulWithin (names + 2) (file_tree files roots)
 lawful_tree names files roots rising small few = record {
   keys = rising;
   integers = made_small files roots small;

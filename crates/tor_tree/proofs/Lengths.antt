@@ -21,7 +21,8 @@ module _ {X : Type 0} (key : X → ℕ) (xs : List X) (i : ℕ) (x : X) (within 
   in_map = rw length-map within
 
   -- where one length, or the sum with it, is too large, all are
-  pub too_large_here : (total : ℕ) → total ≡ sum_by rounded (take i (map key xs)) → (MAX_LENGTH < key x) ⊎ (MAX_TOTAL < total + rounded (key x)) → true ≡ lengths_too_large (map key xs)
+  pub too_large_here : (total : ℕ) → total ≡ sum_by rounded (take i (map key xs))
+      → (MAX_LENGTH < key x) ⊎ (MAX_TOTAL < total + rounded (key x)) → true ≡ lengths_too_large (map key xs)
   too_large_here total e (inl over) =
       sym (or_left _ _ (list_any_at (nat_lt MAX_LENGTH) (map key xs) i 0 in_map (rw length_at (lt-ltb MAX_LENGTH (key x) over))))
   too_large_here total e (inr over) =
@@ -32,6 +33,7 @@ module _ {X : Type 0} (key : X → ℕ) (xs : List X) (i : ℕ) (x : X) (within 
   pub sum_with : sum_by rounded (take (i + 1) (map key xs)) ≡ sum_by rounded (take i (map key xs)) + rounded (key x)
   sum_with = sum_by_more rounded (map key xs) i 0 in_map ∙ ap (λ n. sum_by rounded (take i (map key xs)) + rounded n) length_at
 
-  pub none_over_with : key x ≤ MAX_LENGTH → list_any (nat_lt MAX_LENGTH) (take i (map key xs)) ≡ false → list_any (nat_lt MAX_LENGTH) (take (i + 1) (map key xs)) ≡ false
+  pub none_over_with : key x ≤ MAX_LENGTH → list_any (nat_lt MAX_LENGTH) (take i (map key xs)) ≡ false
+      → list_any (nat_lt MAX_LENGTH) (take (i + 1) (map key xs)) ≡ false
   none_over_with small before =
       list_any_more (nat_lt MAX_LENGTH) (map key xs) i 0 in_map ∙ or_from _ _ before (rw length_at (le-ltb MAX_LENGTH (key x) small))

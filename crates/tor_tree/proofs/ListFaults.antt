@@ -9,7 +9,8 @@ use Rattle.tor_tree.specs.FileList.{lengths_fault, lengths_of, lengths_too_large
 use Rattle.tor_tree.specs.declared.lists.TheConstants.{MAX_LENGTH}
 
 -- a test that gives a fault is not passed where there is none
-pub clear : {E : Type 0} (test : Bool) (fault : E) (rest : Option E) → cond test (Some fault) rest ≡ None → (test ≡ false) × (rest ≡ None)
+pub clear : {E : Type 0} (test : Bool) (fault : E) (rest : Option E) → cond test (Some fault) rest ≡ None
+    → (test ≡ false) × (rest ≡ None)
 clear true fault rest h = cc
 clear false fault rest h = (refl, h)
 
@@ -41,7 +42,8 @@ module _ (files : List (List (List ℕ) × ℕ)) (faultless : list_fault files �
   not_too_large =
       (clear (lengths_too_large (lengths_of files)) _ _ (neither (paths_fault (paths_of files)) (lengths_fault (lengths_of files)) faultless).1).0
 
-none_over : (files : List (List (List ℕ) × ℕ)) → list_any (nat_lt MAX_LENGTH) (lengths_of files) ≡ false → AllByRecursion (λ file. file.1 ≤ MAX_LENGTH) files
+none_over : (files : List (List (List ℕ) × ℕ)) → list_any (nat_lt MAX_LENGTH) (lengths_of files) ≡ false
+    → AllByRecursion (λ file. file.1 ≤ MAX_LENGTH) files
 none_over [] h = tt
 none_over (file ∷ files) h =
     let parts = or_parts (nat_lt MAX_LENGTH file.1) (list_any (nat_lt MAX_LENGTH) (lengths_of files)) h in

@@ -7,11 +7,13 @@ use Rattle.tor_bencode.specs.declared.item.Item.{Item}
 use Rattle.tor_tree.specs.FileTree.{entries_mix, folder_mixes}
 use Rattle.tor_tree.proofs.WalkSteps.{view_dictionary}
 
-pub mix_empty : (key : List ℕ) (value : Data) (pairs : Pairs) → (length key == 0) ≡ true → entries_mix (pair key value pairs) ≡ entries_mix pairs
+pub mix_empty : (key : List ℕ) (value : Data) (pairs : Pairs) → (length key == 0) ≡ true
+    → entries_mix (pair key value pairs) ≡ entries_mix pairs
 mix_empty [] value pairs e = refl
 mix_empty (c ∷ cs) value pairs e = absurd (omega (arith, eqb-true (length (c ∷ cs)) 0 e))
 
-pub mix_named : (key : List ℕ) (value : Data) (pairs : Pairs) → (length key == 0) ≡ false → entries_mix (pair key value pairs) ≡ (folder_mixes value || entries_mix pairs)
+pub mix_named : (key : List ℕ) (value : Data) (pairs : Pairs) → (length key == 0) ≡ false
+    → entries_mix (pair key value pairs) ≡ (folder_mixes value || entries_mix pairs)
 mix_named [] value pairs e = cc
 mix_named (c ∷ cs) value pairs e = refl
 

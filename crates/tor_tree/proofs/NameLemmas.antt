@@ -20,7 +20,9 @@ IsUtf8-faultless name h =
     (passed (is_utf8 name) NotUtf8 (later (has_byte 0 name) _ _ (later (has_byte slash name) _ _ (later (bytes_eq name (codes "..")) _ _ (later (bytes_eq name (codes ".")) _ _ (later (length name == 0) _ _ h))))))
 
 -- a call that is Ok of text alone answers as the test does
-pub is_ok-utf8 : {S E : Type 0} (bytes : List ℕ) (r : Result S E) (Found : S → Type 0) (Refused : E → Type 0) → MatchResult r Found Refused → ((s : S) → Found s → IsUtf8 bytes) → ((e : E) → Refused e → IsUtf8 bytes → ⊥) → is_ok r ≡ is_utf8 bytes
+pub is_ok-utf8 : {S E : Type 0} (bytes : List ℕ) (r : Result S E) (Found : S → Type 0) (Refused : E → Type 0)
+    → MatchResult r Found Refused → ((s : S) → Found s → IsUtf8 bytes) → ((e : E) → Refused e → IsUtf8 bytes → ⊥)
+    → is_ok r ≡ is_utf8 bytes
 is_ok-utf8 bytes (Ok s) Found Refused h found refused = sym (is_utf8-from_IsUtf8 bytes (found s h))
 is_ok-utf8 bytes (Err e) Found Refused h found refused =
     sym (unset (is_utf8 bytes) (λ t. refused e h (IsUtf8-from_is_utf8 bytes t)))

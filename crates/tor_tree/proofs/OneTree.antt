@@ -18,7 +18,8 @@ below_under : (key : List ℕ) (entries : List (List (List ℕ) × Data)) → ma
 below_under key [] = refl
 below_under key (entry ∷ entries) = ap (λ es. entry ∷ es) (below_under key entries)
 
-under_first : (key : List ℕ) (entries : List (List (List ℕ) × Data)) → AllByRecursion (λ f. is_first key f.0 ≡ true) (under key entries)
+under_first : (key : List ℕ) (entries : List (List (List ℕ) × Data))
+    → AllByRecursion (λ f. is_first key f.0 ≡ true) (under key entries)
 under_first key [] = tt
 under_first key (entry ∷ entries) = (name_own key, under_first key entries)
 
@@ -27,7 +28,9 @@ pub apart_key : (key next : List ℕ) → name_cmp key next ≡ Less → name_eq
 apart_key key next less = texts_ties next key ∙ ap is_eq (nat_list_cmp_total.antisymm next key) ∙ rw less refl
 
 -- the files of later pairs are not in the folder of the first
-apart_pairs : (key : List ℕ) (pairs : Pairs) → AreTidy pairs → AreRising (key ∷ keys_of pairs) → (f : List (List ℕ) × Data) (fs : List (List (List ℕ) × Data)) → entries_in pairs ≡ f ∷ fs → is_first key f.0 ≡ false
+apart_pairs : (key : List ℕ) (pairs : Pairs) → AreTidy pairs → AreRising (key ∷ keys_of pairs)
+    → (f : List (List ℕ) × Data) (fs : List (List (List ℕ) × Data)) → entries_in pairs ≡ f ∷ fs
+    → is_first key f.0 ≡ false
 apart_pairs key no_pairs tidy rising f fs e = cc
 apart_pairs key (pair [] value pairs) tidy rising f fs e = let same : [] ≡ f.0 = cc in rw (← same) refl
 apart_pairs key (pair (c ∷ cs) value pairs) tidy rising f fs e =
@@ -40,14 +43,18 @@ pub rising_rest : (key : List ℕ) (keys : List (List ℕ)) → AreRising (key �
 rising_rest key [] h = tt
 rising_rest key (next ∷ keys) h = h.1
 
-first_pair : (key : List ℕ) (inside pairs : Pairs) → key ≢ [] → AreTidy pairs → AreRising (key ∷ keys_of pairs) → (first : List (List ℕ) × Data) (others : List (List (List ℕ) × Data)) → entries_in inside ≡ first ∷ others → pairs_of_files (entries_in inside) ≡ inside → pairs_of_files (entries_in pairs) ≡ pairs → pairs_of_files (under key (entries_in inside) ++ entries_in pairs) ≡ pair key (dictionary inside) pairs
+first_pair : (key : List ℕ) (inside pairs : Pairs) → key ≢ [] → AreTidy pairs → AreRising (key ∷ keys_of pairs)
+    → (first : List (List ℕ) × Data) (others : List (List (List ℕ) × Data)) → entries_in inside ≡ first ∷ others
+    → pairs_of_files (entries_in inside) ≡ inside → pairs_of_files (entries_in pairs) ≡ pairs
+    → pairs_of_files (under key (entries_in inside) ++ entries_in pairs) ≡ pair key (dictionary inside) pairs
 first_pair key inside pairs named tidy rising first others is inner outer =
     let whole = pairs_of_group key named (key ∷ first.0, first.1) (under key others) (entries_in pairs) (under_first key (first ∷ others)) (apart_pairs key pairs tidy rising) in
     let here : pairs_of_files (map (below 1) (under key (first ∷ others))) ≡ inside = ap pairs_of_files (below_under key (first ∷ others) ∙ sym is) ∙ inner in
     ap (λ es. pairs_of_files (under key es ++ entries_in pairs)) is ∙ whole ∙ rw (here, outer) refl
 
 mutual
-  remade_in : (value : Data) → IsTidy value → HasRisingKeys value → value ≢ dictionary no_pairs → (inside : Pairs) × (value ≡ dictionary inside) × (pairs_of_files (entries_in inside) ≡ inside)
+  remade_in : (value : Data) → IsTidy value → HasRisingKeys value → value ≢ dictionary no_pairs
+      → (inside : Pairs) × (value ≡ dictionary inside) × (pairs_of_files (entries_in inside) ≡ inside)
   remade_in (integer n) tidy rising some = absurd tidy
   remade_in (string bytes) tidy rising some = absurd tidy
   remade_in (list items) tidy rising some = absurd tidy
@@ -67,7 +74,8 @@ mutual
 abbrev pub AreTidyFiles : List (List (List ℕ) × Data) → Type 0
 AreTidyFiles files = AllByRecursion (λ file. IsTidyFile file.1) files
 
-tidy_under : (key : List ℕ) (files rest : List (List (List ℕ) × Data)) → AreTidyFiles files → AreTidyFiles rest → AreTidyFiles (under key files ++ rest)
+tidy_under : (key : List ℕ) (files rest : List (List (List ℕ) × Data)) → AreTidyFiles files → AreTidyFiles rest
+    → AreTidyFiles (under key files ++ rest)
 tidy_under key [] rest tidy others = others
 tidy_under key (file ∷ files) rest tidy others = (tidy.0, tidy_under key files rest tidy.1 others)
 
@@ -84,7 +92,8 @@ mutual
   tidy_entries (pair (c ∷ cs) folder pairs) tidy = tidy_under (c ∷ cs) (entries_of folder) (entries_in pairs) (tidy_of folder tidy.1) (tidy_entries pairs tidy.2)
 
 -- two tidy files that say the same are the same
-same_file : (one other : List (List ℕ) × Data) → IsTidyFile one.1 → IsTidyFile other.1 → file_of one ≡ file_of other → one ≡ other
+same_file : (one other : List (List ℕ) × Data) → IsTidyFile one.1 → IsTidyFile other.1 → file_of one ≡ file_of other
+    → one ≡ other
 same_file (path, one) (other_path, other) (n, root, is, rooted) (m, other_root, other_is, other_rooted) same =
     let plain_same : plain path n root ≡ plain other_path m other_root = sym (plain_file path n root rooted) ∙ rw (is, other_is) at same ∙ plain_file other_path m other_root other_rooted in
     let paths = ap (λ file. file.path) plain_same in
@@ -92,7 +101,8 @@ same_file (path, one) (other_path, other) (n, root, is, rooted) (m, other_root, 
     let roots = ap (λ file. file.root) plain_same in
     rw (is, other_is, paths, lengths, roots) refl
 
-same_entries : (ones others : List (List (List ℕ) × Data)) → AreTidyFiles ones → AreTidyFiles others → map file_of ones ≡ map file_of others → ones ≡ others
+same_entries : (ones others : List (List (List ℕ) × Data)) → AreTidyFiles ones → AreTidyFiles others
+    → map file_of ones ≡ map file_of others → ones ≡ others
 same_entries [] [] tidy other_tidy same = refl
 same_entries [] (other ∷ others) tidy other_tidy same = cc
 same_entries (one ∷ ones) [] tidy other_tidy same = cc
@@ -101,13 +111,15 @@ same_entries (one ∷ ones) (other ∷ others) tidy other_tidy same =
     let tail : map file_of ones ≡ map file_of others = cc in
     rw (same_file one other tidy.0 other_tidy.0 head, same_entries ones others tidy.1 other_tidy.1 tail) refl
 
-as_pairs : (tree : Data) → IsTidy tree → HasRisingKeys tree → (pairs : Pairs) × (tree ≡ dictionary pairs) × (pairs_of_files (entries_of tree) ≡ pairs)
+as_pairs : (tree : Data) → IsTidy tree → HasRisingKeys tree
+    → (pairs : Pairs) × (tree ≡ dictionary pairs) × (pairs_of_files (entries_of tree) ≡ pairs)
 as_pairs (integer n) tidy rising = absurd tidy
 as_pairs (string bytes) tidy rising = absurd tidy
 as_pairs (list items) tidy rising = absurd tidy
 as_pairs (dictionary pairs) tidy rising = (pairs, refl, remade pairs tidy rising)
 
-pub one_tree : (files : List (List (List ℕ) × ℕ)) (roots : List (Option (List ℕ))) (one other : Data) → IsFileTreeOf files roots one → IsFileTreeOf files roots other → one ≡ other
+pub one_tree : (files : List (List (List ℕ) × ℕ)) (roots : List (Option (List ℕ))) (one other : Data)
+    → IsFileTreeOf files roots one → IsFileTreeOf files roots other → one ≡ other
 one_tree files roots one other h k =
     let entries = same_entries (entries_of one) (entries_of other) (tidy_of one h.tidy) (tidy_of other k.tidy) (h.described ∙ sym k.described) in
     let first = as_pairs one h.tidy h.keys in

@@ -27,7 +27,8 @@ repeat_none paths rising =
     list_any_none (λ path. nat_lt 1 (count_by (path_eq path) paths)) paths
     (λ k d _. le-ltb 1 _ (count_at_most_one path_order path_ties (get_or paths k d) paths rising))
 
-pub repeat_found : (paths : List (List (List ℕ))) (k : ℕ) → k + 1 < length paths → path_cmp (get_or paths k []) (get_or paths (k + 1) []) ≡ Equal → paths_repeat paths ≡ true
+pub repeat_found : (paths : List (List (List ℕ))) (k : ℕ) → k + 1 < length paths
+    → path_cmp (get_or paths k []) (get_or paths (k + 1) []) ≡ Equal → paths_repeat paths ≡ true
 repeat_found paths k lt same =
     let path = get_or paths k [] in
     let here = path_ties path path ∙ ap is_eq (tied_itself path_order path) in
@@ -35,7 +36,7 @@ repeat_found paths k lt same =
     list_any_at (λ p. nat_lt 1 (count_by (path_eq p) paths)) paths k [] (omega arith) (lt-ltb 1 _ (count_of_neighbours (path_eq path) paths k [] lt here next))
 
 -- a path inside another comes after it
-inside_after : (folder path : List (List ℕ)) → is_inside folder path ≡ true → path_cmp folder path ≡ Less
+pub inside_after : (folder path : List (List ℕ)) → is_inside folder path ≡ true → path_cmp folder path ≡ Less
 inside_after folder path inside =
     let parts = and_parts (starts_with name_eq path folder) (nat_lt (length folder) (length path)) inside in
     after_beginning nat_list_cmp_total texts_ties folder path parts.0 (ltb-true _ _ parts.1)
@@ -44,7 +45,9 @@ never_below_itself : (path : List (List ℕ)) → path_cmp path path ≡ Less �
 never_below_itself path below = let tied = tied_itself path_order path in cc
 
 -- where no path of a rising list begins the next, a later one is not inside it
-not_inside_later : (paths : List (List (List ℕ))) → IsStrictlySortedBy path_cmp paths → AllAdjacentBelow (λ x y. starts_with name_eq y x ≡ false) paths (length paths) → (i j : ℕ) → i < j → j < length paths → starts_with name_eq (get_or paths j []) (get_or paths i []) ≡ true → ⊥
+not_inside_later : (paths : List (List (List ℕ))) → IsStrictlySortedBy path_cmp paths
+    → AllAdjacentBelow (λ x y. starts_with name_eq y x ≡ false) paths (length paths) → (i j : ℕ) → i < j
+    → j < length paths → starts_with name_eq (get_or paths j []) (get_or paths i []) ≡ true → ⊥
 not_inside_later paths rising apart i j lt within starts = by_places (cases_order (i + 1) j)
   where
     by_places : (i + 1 ≡ j) ⊎ ((i + 1 < j) ⊎ (j < i + 1)) → ⊥
@@ -55,7 +58,9 @@ not_inside_later paths rising apart i j lt within starts = by_places (cases_orde
         both_ways _ (apart i [] (omega arith)) (beginning_between nat_list_cmp_total texts_ties (get_or paths i []) (get_or paths (i + 1) []) (get_or paths j []) first second starts)
     by_places (inr (inr before)) = absurd (omega arith)
 
-not_inside : (paths : List (List (List ℕ))) → IsStrictlySortedBy path_cmp paths → AllAdjacentBelow (λ x y. starts_with name_eq y x ≡ false) paths (length paths) → (i j : ℕ) → i < length paths → j < length paths → is_inside (get_or paths i []) (get_or paths j []) ≡ true → ⊥
+not_inside : (paths : List (List (List ℕ))) → IsStrictlySortedBy path_cmp paths
+    → AllAdjacentBelow (λ x y. starts_with name_eq y x ≡ false) paths (length paths) → (i j : ℕ) → i < length paths
+    → j < length paths → is_inside (get_or paths i []) (get_or paths j []) ≡ true → ⊥
 not_inside paths rising apart i j in_i in_j inside = by_places (cases_order i j)
   where
     by_places : (i ≡ j) ⊎ ((i < j) ⊎ (j < i)) → ⊥
@@ -68,7 +73,8 @@ not_inside paths rising apart i j in_i in_j inside = by_places (cases_order i j)
         let above = inside_after (get_or paths i []) (get_or paths j []) inside in
         never_below_itself (get_or paths j []) (path_order.trans _ (get_or paths i []) _ below above)
 
-pub nest_none : (paths : List (List (List ℕ))) → IsStrictlySortedBy path_cmp paths → AllAdjacentBelow (λ x y. starts_with name_eq y x ≡ false) paths (length paths) → paths_nest paths ≡ false
+pub nest_none : (paths : List (List (List ℕ))) → IsStrictlySortedBy path_cmp paths
+    → AllAdjacentBelow (λ x y. starts_with name_eq y x ≡ false) paths (length paths) → paths_nest paths ≡ false
 nest_none paths rising apart =
     list_any_none (λ folder. list_any (is_inside folder) paths) paths
     (λ i d in_i. list_any_none (is_inside (get_or paths i d)) paths
@@ -76,7 +82,8 @@ nest_none paths rising apart =
     (λ inside. not_inside paths rising apart i j in_i in_j
     (rw (get_or_default paths i d [] in_i, get_or_default paths j e [] in_j) at inside))))
 
-pub nest_found : (paths : List (List (List ℕ))) (k : ℕ) → IsStrictlySortedBy path_cmp paths → k + 1 < length paths → starts_with name_eq (get_or paths (k + 1) []) (get_or paths k []) ≡ true → paths_nest paths ≡ true
+pub nest_found : (paths : List (List (List ℕ))) (k : ℕ) → IsStrictlySortedBy path_cmp paths → k + 1 < length paths
+    → starts_with name_eq (get_or paths (k + 1) []) (get_or paths k []) ≡ true → paths_nest paths ≡ true
 nest_found paths k rising lt starts =
     let folder = get_or paths k [] in
     let path = get_or paths (k + 1) [] in

@@ -40,7 +40,8 @@ list_fault-permutation xs ys moved =
     refl
 
 -- a slice of all elements, moved and written back to its vector of n elements
-pub permutation-written_back : {X : Type 0} (n : ℕ) (xs part sorted after : List X) → n ≡ length xs → part ≡ xs → IsPermutation part sorted → after ≡ take n (sorted ++ drop (length sorted) xs) → IsPermutation xs after
+pub permutation-written_back : {X : Type 0} (n : ℕ) (xs part sorted after : List X) → n ≡ length xs → part ≡ xs
+    → IsPermutation part sorted → after ≡ take n (sorted ++ drop (length sorted) xs) → IsPermutation xs after
 permutation-written_back {X} n xs part sorted after count whole moved is =
     let from_xs : IsPermutation xs sorted = rw whole at moved in
     let seam : take n (sorted ++ drop (length sorted) xs) ≡ sorted =

@@ -10,7 +10,8 @@ use Rattle.tor_tree.specs.PathList.{ArePlacedPaths, ArePlaces, places_of, with_p
 use Rattle.tor_tree.proofs.Permuted.{lengths_fault-permutation, paths_fault-permutation}
 
 -- what stands at the places, which are all places of a list, is the list in another order
-pub moved_to_places : {X : Type 0} (xs : List X) (d : X) (places : List ℕ) → ArePlaces places → length places ≡ length xs → IsPermutation xs (map (λ place. get_or xs place d) places)
+pub moved_to_places : {X : Type 0} (xs : List X) (d : X) (places : List ℕ) → ArePlaces places
+    → length places ≡ length xs → IsPermutation xs (map (λ place. get_or xs place d) places)
 moved_to_places {X} xs d places are count =
     let whole : xs ≡ map (λ place. get_or xs place d) (range_with_len 0 (length places)) =
     fill_by_all (λ place. get_or xs place d) xs (length places) d (sym count) (λ k lt. refl) in
@@ -20,7 +21,8 @@ paths_from : (n : ℕ) (paths : List (List (List ℕ))) → paths_of (map (λ p.
 paths_from n [] = refl
 paths_from n (path ∷ paths) = ap (λ ps. path ∷ ps) (paths_from (n + 1) paths)
 
-places_from : (n : ℕ) (paths : List (List (List ℕ))) → places_of (map (λ p. (p.1, p.0)) (enumerate_from n paths)) ≡ range_with_len n (length paths)
+places_from : (n : ℕ) (paths : List (List (List ℕ)))
+    → places_of (map (λ p. (p.1, p.0)) (enumerate_from n paths)) ≡ range_with_len n (length paths)
 places_from n [] = refl
 places_from n (path ∷ paths) = ap (λ ns. n ∷ ns) (places_from (n + 1) paths)
 
@@ -63,7 +65,8 @@ module _ (lengths : List ℕ) where
   same_paths [] = refl
   same_paths (entry ∷ entries) = ap (λ ps. entry.0 ∷ ps) (same_paths entries)
 
-  lengths_at : (entries : List (List (List ℕ) × ℕ)) → lengths_of (with_lengths entries) ≡ map (λ place. get_or lengths place 0) (places_of entries)
+  lengths_at : (entries : List (List (List ℕ) × ℕ))
+      → lengths_of (with_lengths entries) ≡ map (λ place. get_or lengths place 0) (places_of entries)
   lengths_at [] = refl
   lengths_at (entry ∷ entries) = ap (λ ns. get_or lengths entry.1 0 ∷ ns) (lengths_at entries)
 

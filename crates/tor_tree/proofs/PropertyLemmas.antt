@@ -6,11 +6,14 @@ use Rattle.tor_tree.specs.Name.{has_byte}
 use Rattle.tor_tree.specs.Properties.{are_properties, as_integer, as_string, letter_l, letter_x, letter_h}
 use Rattle.tor_tree.specs.Reading.{letters_of, hash_of, facts_of, facts_in}
 
-with_attr : (attr : Option Data) (letters : List ℕ) → cond (is_none attr) (Some []) (as_string attr) ≡ Some letters → ((is_none attr || is_some (as_string attr)) ≡ true) × (unwrap_or (as_string attr) [] ≡ letters)
+with_attr : (attr : Option Data) (letters : List ℕ) → cond (is_none attr) (Some []) (as_string attr) ≡ Some letters
+    → ((is_none attr || is_some (as_string attr)) ≡ true) × (unwrap_or (as_string attr) [] ≡ letters)
 with_attr None letters e = (refl, cc)
 with_attr (Some d) letters e = (rw e refl, rw e refl)
 
-pub facts_from : (file : Data) (n : ℤ) (letters : List ℕ) → as_integer (value_of (codes "length") file) ≡ Some n → letters_of file ≡ Some letters → facts_of file ≡ Some (record { length = n; root = hash_of file; link = has_byte letter_l letters; exec = has_byte letter_x letters; hidden = has_byte letter_h letters })
+pub facts_from : (file : Data) (n : ℤ) (letters : List ℕ) → as_integer (value_of (codes "length") file) ≡ Some n
+    → letters_of file ≡ Some letters
+    → facts_of file ≡ Some (record { length = n; root = hash_of file; link = has_byte letter_l letters; exec = has_byte letter_x letters; hidden = has_byte letter_h letters })
 facts_from file n letters is_length is_attr =
     let attr = with_attr (value_of (codes "attr") file) letters is_attr in
     let shaped : are_properties file ≡ true = rw (is_length, attr.0) refl in

@@ -1,50 +1,90 @@
 -- The proofs of the laws of src/laws.rt: what the crates above may cite of these proofs.
-use Rattle.std.proofs.Common.{◌≡◌, ◌+◌, ◌<◌, ◌≤◌, ◌^◌, ℕ, List, None, Option, length, get_or, map}
+use Rattle.std.proofs.Common.{◌≡◌, ◌+◌, ◌<◌, ◌≤◌, ◌≢◌, ◌^◌, ℕ, List, [], Less, None, Option, length, get_or, map, true, arith}
+use Rattle.std.specs.Cmp.{IsTotalOrder}
 use Rattle.std.specs.List.{All, AllZip}
 use Rattle.std.specs.List.Sorted.{IsPermutation, IsStrictlySortedBy}
-use Rattle.std.proofs.lemmas.List.Elements.{recursion_from_All}
+use Rattle.std.proofs.lemmas.List.Elements.{All-from_recursion, recursion_from_All}
 use Rattle.tor_bencode.specs.Data.{Data}
 use Rattle.tor_bencode.specs.Lawful.{HasRisingKeys, IsLawfulWithin}
-use Rattle.tor_tree.specs.FileList.{IsInPathOrder}
+use Rattle.tor_tree.specs.FileList.{IsFileList, IsInPathOrder, is_inside}
 use Rattle.tor_tree.specs.FileTree.{files_of_tree, tree_fault}
+use Rattle.tor_tree.specs.Name.{name_fault}
 use Rattle.tor_tree.specs.Path.{HasNames, IsFilePath, path_cmp}
 use Rattle.tor_tree.specs.PathList.{ArePlaces}
 use Rattle.tor_tree.specs.TidyTree.{AtMostOneTree, HasItsRoot, IsFileTreeOf}
 use Rattle.tor_tree.specs.WrittenTree.{file_tree}
 use Rattle.tor_tree.specs.declared.tree_file.TreeFile.{TreeFile}
+use Rattle.tor_tree.specs.declared.lists.TheConstants.{MAX_LENGTH}
+use Rattle.tor_tree.proofs.FilesBelow.{faultless_named}
 use Rattle.tor_tree.proofs.FileTrees.{made_file_tree}
 use Rattle.tor_tree.proofs.LawfulTree.{lawful_tree}
+use Rattle.tor_tree.proofs.ListFaults.{small_files}
+use Rattle.tor_tree.proofs.PathLists.{inside_after, path_order}
 use Rattle.tor_tree.proofs.OneTree.{one_tree}
 use Rattle.tor_tree.proofs.PlacedPaths.{moved_to_places}
-use Rattle.tor_tree.proofs.Readable.{path_named}
+use Rattle.tor_tree.proofs.Readable.{all_named, path_named}
 use Rattle.tor_tree.proofs.ReadFiles.{read_paths, read_roots, rooted_by_place}
 use Rattle.tor_tree.proofs.RisingPaths.{paths_rise}
 
 pub one_file_tree : AtMostOneTree
 one_file_tree = one_tree
 
-pub file_tree_of_list : (files : List (List (List ℕ) × ℕ)) (roots : List (Option (List ℕ))) → IsInPathOrder files → All (λ file. HasNames file.0) files → AllZip HasItsRoot files roots → IsFileTreeOf files roots (file_tree files roots)
+pub file_tree_of_list : (files : List (List (List ℕ) × ℕ)) (roots : List (Option (List ℕ))) → IsInPathOrder files
+    → All (λ file. HasNames file.0) files → AllZip HasItsRoot files roots
+    → IsFileTreeOf files roots (file_tree files roots)
 file_tree_of_list files roots in_order named with_roots =
     made_file_tree files roots with_roots in_order (recursion_from_All _ files named)
 
-pub file_tree_is_lawful : (names : ℕ) (files : List (List (List ℕ) × ℕ)) (roots : List (Option (List ℕ))) → IsInPathOrder files → All (λ file. HasNames file.0) files → AllZip HasItsRoot files roots → All (λ file. file.1 < 2 ^ 63) files → All (λ file. length file.0 ≤ names) files → IsLawfulWithin (names + 2) (file_tree files roots)
+pub file_tree_is_lawful : (names : ℕ) (files : List (List (List ℕ) × ℕ)) (roots : List (Option (List ℕ)))
+    → IsInPathOrder files → All (λ file. HasNames file.0) files → AllZip HasItsRoot files roots
+    → All (λ file. file.1 < 2 ^ 63) files → All (λ file. length file.0 ≤ names) files
+    → IsLawfulWithin (names + 2) (file_tree files roots)
 file_tree_is_lawful names files roots in_order named with_roots small few =
     lawful_tree names files roots (file_tree_of_list files roots in_order named with_roots).keys (recursion_from_All _ files small) (recursion_from_All _ files few)
+
+pub names_not_empty : (name : List ℕ) → name_fault name ≡ None → name ≢ []
+names_not_empty = faultless_named
 
 pub paths_have_names : (path : List (List ℕ)) → IsFilePath path → HasNames path
 paths_have_names = path_named
 
-pub roots_by_place : (files : List (List (List ℕ) × ℕ)) (roots : List (Option (List ℕ))) → length roots ≡ length files → ((k : ℕ) (file : List (List ℕ) × ℕ) (root : Option (List ℕ)) → k < length files → HasItsRoot (get_or files k file) (get_or roots k root)) → AllZip HasItsRoot files roots
+pub lists_have_names : (files : List (List (List ℕ) × ℕ)) → IsFileList files → All (λ file. HasNames file.0) files
+lists_have_names files lawful =
+    All-from_recursion _ files (all_named files (recursion_from_All _ files lawful.named))
+
+pub files_are_small : (files : List (List (List ℕ) × ℕ)) → IsFileList files → All (λ file. file.1 ≤ MAX_LENGTH) files
+files_are_small files lawful = small_files files lawful.faultless
+
+pub tree_of_list_is_lawful : (names : ℕ) (files : List (List (List ℕ) × ℕ)) (roots : List (Option (List ℕ)))
+    → IsFileList files → AllZip HasItsRoot files roots → All (λ file. length file.0 ≤ names) files
+    → IsLawfulWithin (names + 2) (file_tree files roots)
+tree_of_list_is_lawful names files roots lawful with_roots few =
+    file_tree_is_lawful names files roots lawful.in_order (lists_have_names files lawful) with_roots
+    (λ k d lt. omega (arith, files_are_small files lawful k d lt)) few
+
+pub paths_in_order : IsTotalOrder path_cmp
+paths_in_order = path_order
+
+pub folder_before_inside : (folder path : List (List ℕ)) → is_inside folder path ≡ true → path_cmp folder path ≡ Less
+folder_before_inside = inside_after
+
+pub roots_by_place : (files : List (List (List ℕ) × ℕ)) (roots : List (Option (List ℕ))) → length roots ≡ length files
+    → ((k : ℕ) (file : List (List ℕ) × ℕ) (root : Option (List ℕ)) → k < length files → HasItsRoot (get_or files k file) (get_or roots k root))
+    → AllZip HasItsRoot files roots
 roots_by_place = rooted_by_place
 
-pub at_places : {X : Type 0} (xs : List X) (d : X) (places : List ℕ) → ArePlaces places → length places ≡ length xs → IsPermutation xs (map (λ place. get_or xs place d) places)
+pub at_places : {X : Type 0} (xs : List X) (d : X) (places : List ℕ) → ArePlaces places → length places ≡ length xs
+    → IsPermutation xs (map (λ place. get_or xs place d) places)
 at_places = moved_to_places
 
-pub rising_paths : (tree : Data) → HasRisingKeys tree → IsStrictlySortedBy path_cmp (map (λ (file : TreeFile). file.path) (files_of_tree tree))
+pub rising_paths : (tree : Data) → HasRisingKeys tree
+    → IsStrictlySortedBy path_cmp (map (λ (file : TreeFile). file.path) (files_of_tree tree))
 rising_paths = paths_rise
 
-pub paths_of_read_files : (tree : Data) → tree_fault tree ≡ None → All (λ (file : TreeFile). IsFilePath file.path) (files_of_tree tree)
+pub paths_of_read_files : (tree : Data) → tree_fault tree ≡ None
+    → All (λ (file : TreeFile). IsFilePath file.path) (files_of_tree tree)
 paths_of_read_files = read_paths
 
-pub roots_of_read_files : (tree : Data) → tree_fault tree ≡ None → AllZip HasItsRoot (map (λ (file : TreeFile). (file.path, file.length)) (files_of_tree tree)) (map (λ (file : TreeFile). file.root) (files_of_tree tree))
+pub roots_of_read_files : (tree : Data) → tree_fault tree ≡ None
+    → AllZip HasItsRoot (map (λ (file : TreeFile). (file.path, file.length)) (files_of_tree tree)) (map (λ (file : TreeFile). file.root) (files_of_tree tree))
 roots_of_read_files = read_roots

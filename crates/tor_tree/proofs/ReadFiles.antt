@@ -15,11 +15,12 @@ use Rattle.tor_tree.proofs.Shaped.{HaveNames}
 use Rattle.tor_tree.proofs.TreeFaults.{faultless_tree}
 use Rattle.tor_tree.proofs.Unmixed.{HavePaths}
 
-is_some : {X : Type 0} (o : Option X) → is_none o ≡ true → o ≡ None
-is_some None h = refl
-is_some (Some x) h = cc
+nothing_there : {X : Type 0} (o : Option X) → is_none o ≡ true → o ≡ None
+nothing_there None h = refl
+nothing_there (Some x) h = cc
 
-names_under : (key : List ℕ) (inside rest : List (List (List ℕ) × Data)) → name_fault key ≡ None → HaveNames inside → HaveNames rest → HaveNames (under key inside ++ rest)
+names_under : (key : List ℕ) (inside rest : List (List (List ℕ) × Data)) → name_fault key ≡ None → HaveNames inside
+    → HaveNames rest → HaveNames (under key inside ++ rest)
 names_under key [] rest faultless here later = later
 names_under key (entry ∷ inside) rest faultless here later =
     ((faultless, here.0), names_under key inside rest faultless here.1 later)
@@ -38,9 +39,10 @@ mutual
   names_in (pair (c ∷ cs) folder pairs) shaped =
       let here = and_parts (is_none (name_fault (c ∷ cs))) (is_folder folder && are_entries pairs) shaped in
       let later = and_parts (is_folder folder) (are_entries pairs) here.1 in
-      names_under (c ∷ cs) (entries_of folder) (entries_in pairs) (is_some _ here.0) (names_of folder later.0) (names_in pairs later.1)
+      names_under (c ∷ cs) (entries_of folder) (entries_in pairs) (nothing_there _ here.0) (names_of folder later.0) (names_in pairs later.1)
 
-some_under : (key : List ℕ) (inside rest : List (List (List ℕ) × Data)) → HavePaths rest → HavePaths (under key inside ++ rest)
+some_under : (key : List ℕ) (inside rest : List (List (List ℕ) × Data)) → HavePaths rest
+    → HavePaths (under key inside ++ rest)
 some_under key [] rest later = later
 some_under key (entry ∷ inside) rest later = ((λ e. cc), some_under key inside rest later)
 
@@ -56,12 +58,14 @@ some_of (string bytes) named = tt
 some_of (list items) named = tt
 some_of (dictionary pairs) named = some_in pairs (or_parts (has_empty_key pairs) _ named).0
 
-are_paths : (entries : List (List (List ℕ) × Data)) → HaveNames entries → HavePaths entries → AllByRecursion (λ (file : TreeFile). IsFilePath file.path) (map file_of entries)
+are_paths : (entries : List (List (List ℕ) × Data)) → HaveNames entries → HavePaths entries
+    → AllByRecursion (λ (file : TreeFile). IsFilePath file.path) (map file_of entries)
 are_paths [] named some = tt
 are_paths ((path, properties) ∷ entries) named some =
     (record { some = some.0; named = All-from_recursion _ path named.0 }, are_paths entries named.1 some.1)
 
-pub read_paths : (tree : Data) → tree_fault tree ≡ None → All (λ (file : TreeFile). IsFilePath file.path) (files_of_tree tree)
+pub read_paths : (tree : Data) → tree_fault tree ≡ None
+    → All (λ (file : TreeFile). IsFilePath file.path) (files_of_tree tree)
 read_paths tree faultless =
     let shaped = not-false _ (clear (not (is_folder tree)) _ _ faultless).0 in
     All-from_recursion _ (files_of_tree tree) (are_paths (entries_of tree) (names_of tree shaped) (some_of tree (faultless_tree tree faultless).0))
@@ -70,10 +74,12 @@ hash_there : (root : Option (List ℕ)) → is_hash root ≡ true → (bytes : L
 hash_there None h = cc
 hash_there (Some bytes) h = (bytes, refl)
 
-root_there : (path : List (List ℕ)) (properties : Data) → lacks_root properties ≡ false → HasItsRoot (path, length_of properties) (file_of (path, properties)).root
+root_there : (path : List (List ℕ)) (properties : Data) → lacks_root properties ≡ false
+    → HasItsRoot (path, length_of properties) (file_of (path, properties)).root
 root_there path properties has = by_length (length_of properties == 0) refl
   where
-    by_length : (b : Bool) → (length_of properties == 0) ≡ b → HasItsRoot (path, length_of properties) (file_of (path, properties)).root
+    by_length : (b : Bool) → (length_of properties == 0) ≡ b
+        → HasItsRoot (path, length_of properties) (file_of (path, properties)).root
     by_length true e = rw e ((λ some. cc), (λ lt. absurd (omega (arith, eqb-true (length_of properties) 0 e))))
     by_length false e =
         let lt : 0 < length_of properties = omega (arith, eqb-false (length_of properties) 0 e) in
@@ -81,17 +87,21 @@ root_there path properties has = by_length (length_of properties == 0) refl
         let there = hash_there (pieces_root properties) (not-false _ hashed) in
         rw (e, there.1) ((λ some. lt), (λ positive. refl))
 
-roots_there : (entries : List (List (List ℕ) × Data)) → list_any lacks_root (map (λ entry. entry.1) entries) ≡ false → AllZip HasItsRoot (map (λ (file : TreeFile). (file.path, file.length)) (map file_of entries)) (map (λ (file : TreeFile). file.root) (map file_of entries))
+roots_there : (entries : List (List (List ℕ) × Data)) → list_any lacks_root (map (λ entry. entry.1) entries) ≡ false
+    → AllZip HasItsRoot (map (λ (file : TreeFile). (file.path, file.length)) (map file_of entries)) (map (λ (file : TreeFile). file.root) (map file_of entries))
 roots_there [] has = tt
 roots_there ((path, properties) ∷ entries) has =
     let parts = or_parts (lacks_root properties) (list_any lacks_root (map (λ entry. entry.1) entries)) has in
     (root_there path properties parts.0, roots_there entries parts.1)
 
-pub read_roots : (tree : Data) → tree_fault tree ≡ None → AllZip HasItsRoot (map (λ (file : TreeFile). (file.path, file.length)) (files_of_tree tree)) (map (λ (file : TreeFile). file.root) (files_of_tree tree))
+pub read_roots : (tree : Data) → tree_fault tree ≡ None
+    → AllZip HasItsRoot (map (λ (file : TreeFile). (file.path, file.length)) (files_of_tree tree)) (map (λ (file : TreeFile). file.root) (files_of_tree tree))
 read_roots tree faultless = roots_there (entries_of tree) (faultless_tree tree faultless).1
 
 -- roots that are each at their files' places are those of the list
-pub rooted_by_place : (files : List (List (List ℕ) × ℕ)) (roots : List (Option (List ℕ))) → length roots ≡ length files → ((k : ℕ) (file : List (List ℕ) × ℕ) (root : Option (List ℕ)) → k < length files → HasItsRoot (get_or files k file) (get_or roots k root)) → AllZip HasItsRoot files roots
+pub rooted_by_place : (files : List (List (List ℕ) × ℕ)) (roots : List (Option (List ℕ))) → length roots ≡ length files
+    → ((k : ℕ) (file : List (List ℕ) × ℕ) (root : Option (List ℕ)) → k < length files → HasItsRoot (get_or files k file) (get_or roots k root))
+    → AllZip HasItsRoot files roots
 rooted_by_place [] [] e each = tt
 rooted_by_place [] (root ∷ roots) e each = absurd (omega (arith, e))
 rooted_by_place (file ∷ files) [] e each = absurd (omega (arith, e))

@@ -18,28 +18,28 @@ use Rattle.tor_tree.proofs.OneTree.{AreTidyFiles, tidy_of}
 use Rattle.tor_tree.proofs.PathLists.{nest_found}
 use Rattle.tor_tree.proofs.Shaped.{HaveNames, no_link, no_negative_length, shaped_folder}
 use Rattle.tor_tree.proofs.TreeOfFiles.{one_root_each, plain, plain_file}
-use Rattle.tor_tree.proofs.Unmixed.{AreApart, HavePaths, apart_from_places, paths_in, unmixed}
+use Rattle.tor_tree.proofs.Unmixed.{AreApart, HavePaths, apart_from_places, paths_in, told_paths, unmixed}
 use Rattle.std.proofs.lemmas.List.Elements.{All-from_recursion, recursion_from_All}
 
-told_paths : (entries : List (List (List ℕ) × Data)) → map (λ (file : TreeFile). file.path) (map file_of entries) ≡ paths_in entries
-told_paths [] = refl
-told_paths ((path, properties) ∷ entries) = ap (λ paths. path ∷ paths) (told_paths entries)
-
-told_lengths : (entries : List (List (List ℕ) × Data)) → map (λ (file : TreeFile). file.length) (map file_of entries) ≡ map length_of (map (λ entry. entry.1) entries)
+told_lengths : (entries : List (List (List ℕ) × Data))
+    → map (λ (file : TreeFile). file.length) (map file_of entries) ≡ map length_of (map (λ entry. entry.1) entries)
 told_lengths [] = refl
 told_lengths ((path, properties) ∷ entries) = ap (λ lengths. length_of properties ∷ lengths) (told_lengths entries)
 
-plain_paths : (files : List (List (List ℕ) × ℕ)) (roots : List (Option (List ℕ))) → length roots ≡ length files → map (λ (file : TreeFile). file.path) (plain_files files roots) ≡ paths_of files
+plain_paths : (files : List (List (List ℕ) × ℕ)) (roots : List (Option (List ℕ))) → length roots ≡ length files
+    → map (λ (file : TreeFile). file.path) (plain_files files roots) ≡ paths_of files
 plain_paths [] roots e = refl
 plain_paths (file ∷ files) [] e = absurd (omega arith)
 plain_paths (file ∷ files) (root ∷ roots) e = ap (λ paths. file.0 ∷ paths) (plain_paths files roots (omega arith))
 
-plain_lengths : (files : List (List (List ℕ) × ℕ)) (roots : List (Option (List ℕ))) → length roots ≡ length files → map (λ (file : TreeFile). file.length) (plain_files files roots) ≡ lengths_of files
+plain_lengths : (files : List (List (List ℕ) × ℕ)) (roots : List (Option (List ℕ))) → length roots ≡ length files
+    → map (λ (file : TreeFile). file.length) (plain_files files roots) ≡ lengths_of files
 plain_lengths [] roots e = refl
 plain_lengths (file ∷ files) [] e = absurd (omega arith)
 plain_lengths (file ∷ files) (root ∷ roots) e = ap (λ lengths. file.1 ∷ lengths) (plain_lengths files roots (omega arith))
 
-plain_roots : (files : List (List (List ℕ) × ℕ)) (roots : List (Option (List ℕ))) → AllByRecursion IsRoot roots → AllByRecursion (λ (file : TreeFile). IsRoot file.root) (plain_files files roots)
+plain_roots : (files : List (List (List ℕ) × ℕ)) (roots : List (Option (List ℕ))) → AllByRecursion IsRoot roots
+    → AllByRecursion (λ (file : TreeFile). IsRoot file.root) (plain_files files roots)
 plain_roots [] roots are = tt
 plain_roots (file ∷ files) [] are = tt
 plain_roots (file ∷ files) (root ∷ roots) are = (are.0, plain_roots files roots are.1)
@@ -48,7 +48,9 @@ and_no : (b : Bool) → (b && false) ≡ false
 and_no true = refl
 and_no false = refl
 
-has_root : (path : List (List ℕ)) (n : ℕ) (root : Option (List ℕ)) (properties : Data) → properties ≡ properties_for n root → HasItsRoot (path, n) root → IsRoot (file_of (path, properties)).root → lacks_root properties ≡ false
+has_root : (path : List (List ℕ)) (n : ℕ) (root : Option (List ℕ)) (properties : Data)
+    → properties ≡ properties_for n root → HasItsRoot (path, n) root → IsRoot (file_of (path, properties)).root
+    → lacks_root properties ≡ false
 has_root path zero None properties is rooted told = rw is refl
 has_root path (suc n) None properties is rooted told = let missing = rooted.1 (omega arith) in cc
 has_root path zero (Some bytes) properties is rooted told = rw is refl
@@ -57,13 +59,17 @@ has_root path (suc n) (Some bytes) properties is rooted told =
     let hashed : length bytes ≡ 32 = subst (λ (file : TreeFile). IsRoot file.root) same told in
     rw (is, hashed) (and_no _)
 
-no_missing_root : (entries : List (List (List ℕ) × Data)) → AreTidyFiles entries → AllByRecursion (λ (file : TreeFile). IsRoot file.root) (map file_of entries) → list_any lacks_root (map (λ entry. entry.1) entries) ≡ false
+no_missing_root : (entries : List (List (List ℕ) × Data)) → AreTidyFiles entries
+    → AllByRecursion (λ (file : TreeFile). IsRoot file.root) (map file_of entries)
+    → list_any lacks_root (map (λ entry. entry.1) entries) ≡ false
 no_missing_root [] tidy told = refl
 no_missing_root ((path, properties) ∷ entries) ((n, root, is, rooted), tidy) told =
     rw (has_root path n root properties is rooted told.0, no_missing_root entries tidy told.1) refl
 
 -- what holds of the paths of files holds of those of entries
-moved : (P : List (List ℕ) → Type 0) (entries : List (List (List ℕ) × Data)) (files : List (List (List ℕ) × ℕ)) → paths_in entries ≡ paths_of files → AllByRecursion (λ file. P file.0) files → AllByRecursion (λ entry. P entry.0) entries
+moved : (P : List (List ℕ) → Type 0) (entries : List (List (List ℕ) × Data)) (files : List (List (List ℕ) × ℕ))
+    → paths_in entries ≡ paths_of files → AllByRecursion (λ file. P file.0) files
+    → AllByRecursion (λ entry. P entry.0) entries
 moved P [] files same each = tt
 moved P (entry ∷ entries) [] same each = cc
 moved P (entry ∷ entries) (file ∷ files) same each =
@@ -71,22 +77,26 @@ moved P (entry ∷ entries) (file ∷ files) same each =
     let tail : paths_in entries ≡ paths_of files = cc in
     (rw head each.0, moved P entries files tail each.1)
 
-apart_list : (files : List (List (List ℕ) × ℕ)) → IsInPathOrder files → paths_nest (paths_of files) ≡ false → AreApart (paths_of files)
+apart_list : (files : List (List (List ℕ) × ℕ)) → IsInPathOrder files → paths_nest (paths_of files) ≡ false
+    → AreApart (paths_of files)
 apart_list files in_order flat =
     apart_from_places (paths_of files)
     (λ k lt.
     let next : suc k ≡ k + 1 = omega arith in
     false_from_ne_true _ (λ starts. both_ways _ flat (nest_found (paths_of files) k in_order (omega (arith, lt)) (rw next at starts))))
 
-named_paths : (files : List (List (List ℕ) × ℕ)) → AllByRecursion (λ file. IsFilePath file.0) files → AllByRecursion (λ file. AllByRecursion (λ name. name_fault name ≡ None) file.0) files
+named_paths : (files : List (List (List ℕ) × ℕ)) → AllByRecursion (λ file. IsFilePath file.0) files
+    → AllByRecursion (λ file. AllByRecursion (λ name. name_fault name ≡ None) file.0) files
 named_paths [] are = tt
 named_paths (file ∷ files) are = (recursion_from_All _ file.0 are.0.named, named_paths files are.1)
 
-some_paths : (files : List (List (List ℕ) × ℕ)) → AllByRecursion (λ file. IsFilePath file.0) files → AllByRecursion (λ file. file.0 ≢ []) files
+some_paths : (files : List (List (List ℕ) × ℕ)) → AllByRecursion (λ file. IsFilePath file.0) files
+    → AllByRecursion (λ file. file.0 ≢ []) files
 some_paths [] are = tt
 some_paths (file ∷ files) are = (are.0.some, some_paths files are.1)
 
-faultless_some : (path : List (List ℕ)) → AllByRecursion (λ name. name_fault name ≡ None) path → AllByRecursion (λ name. name ≢ []) path
+faultless_some : (path : List (List ℕ)) → AllByRecursion (λ name. name_fault name ≡ None) path
+    → AllByRecursion (λ name. name ≢ []) path
 faultless_some [] faultless = tt
 faultless_some (name ∷ names) faultless = (faultless_named name faultless.0, faultless_some names faultless.1)
 
@@ -94,7 +104,8 @@ faultless_some (name ∷ names) faultless = (faultless_named name faultless.0, f
 pub path_named : (path : List (List ℕ)) → IsFilePath path → HasNames path
 path_named path is = All-from_recursion _ path (faultless_some path (recursion_from_All _ path is.named))
 
-pub all_named : (files : List (List (List ℕ) × ℕ)) → AllByRecursion (λ file. IsFilePath file.0) files → AllByRecursion (λ file. HasNames file.0) files
+pub all_named : (files : List (List (List ℕ) × ℕ)) → AllByRecursion (λ file. IsFilePath file.0) files
+    → AllByRecursion (λ file. HasNames file.0) files
 all_named [] are = tt
 all_named (file ∷ files) are = (path_named file.0 are.0, all_named files are.1)
 

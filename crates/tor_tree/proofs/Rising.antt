@@ -6,18 +6,21 @@ use Rattle.std.specs.List.{AllAdjacentBelow, AllByRecursion}
 use Rattle.std.specs.List.Sorted.{IsStrictlySortedBy}
 use Rattle.std.proofs.lemmas.List.Sums.{sum_by-cons, sum_by-take-drop, sum_by-drop_more}
 
-neighbours_tail : {X : Type 0} (R : X → X → Type 0) (x : X) (xs : List X) → AllAdjacentBelow R (x ∷ xs) (length (x ∷ xs)) → AllAdjacentBelow R xs (length xs)
+neighbours_tail : {X : Type 0} (R : X → X → Type 0) (x : X) (xs : List X)
+    → AllAdjacentBelow R (x ∷ xs) (length (x ∷ xs)) → AllAdjacentBelow R xs (length xs)
 neighbours_tail {X} R x xs h k d lt =
     let e : suc k + 1 ≡ suc (k + 1) = omega arith in
     let P : ℕ → Type 0 = λ n. R (get_or xs k d) (get_or (x ∷ xs) n d) in
     subst P e (h (suc k) d (omega arith))
 
-all_weaker : {X : Type 0} (P Q : X → Type 0) → ((x : X) → P x → Q x) → (xs : List X) → AllByRecursion P xs → AllByRecursion Q xs
+all_weaker : {X : Type 0} (P Q : X → Type 0) → ((x : X) → P x → Q x) → (xs : List X) → AllByRecursion P xs
+    → AllByRecursion Q xs
 all_weaker P Q w [] h = tt
 all_weaker P Q w (x ∷ xs) h = (w x h.0, all_weaker P Q w xs h.1)
 
 -- where each is below the next, each is below all later ones
-pub rising_from_neighbours : {X K : Type 0} {R : K → K → Ordering} (o : IsTotalOrder R) (key : X → K) (xs : List X) → AllAdjacentBelow (λ x y. R (key x) (key y) ≡ Less) xs (length xs) → IsStrictlySortedBy R (map key xs)
+pub rising_from_neighbours : {X K : Type 0} {R : K → K → Ordering} (o : IsTotalOrder R) (key : X → K) (xs : List X)
+    → AllAdjacentBelow (λ x y. R (key x) (key y) ≡ Less) xs (length xs) → IsStrictlySortedBy R (map key xs)
 unfolding IsStrictlySortedBy
 rising_from_neighbours o key [] h = tt
 rising_from_neighbours o key (x ∷ []) h = (tt, tt)
@@ -50,7 +53,8 @@ module _ {K : Type 0} {R : K → K → Ordering} (o : IsTotalOrder R) {E : K →
       by_order Greater e rest = rw (ties p x, e, zero-add) rest
 
 -- an element that stands at two neighbouring places is there more than once
-pub count_of_neighbours : {X : Type 0} (p : X → Bool) (xs : List X) (k : ℕ) (d : X) → k + 1 < length xs → p (get_or xs k d) ≡ true → p (get_or xs (k + 1) d) ≡ true → 1 < count_by p xs
+pub count_of_neighbours : {X : Type 0} (p : X → Bool) (xs : List X) (k : ℕ) (d : X) → k + 1 < length xs
+    → p (get_or xs k d) ≡ true → p (get_or xs (k + 1) d) ≡ true → 1 < count_by p xs
 count_of_neighbours {X} p xs k d lt here next =
     let one : X → ℕ = λ x. cond (p x) 1 0 in
     let at_here : one (get_or xs k d) ≡ 1 = ap (λ b. cond b 1 0) here in

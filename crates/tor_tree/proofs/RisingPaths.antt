@@ -1,17 +1,17 @@
 -- The files of a tree whose keys rise are in the order of their paths.
-use Rattle.std.proofs.Common.{◌≡◌, ℕ, List, [], ◌∷◌, ◌++◌, map, Less, refl, ap}
+use Rattle.std.proofs.Common.{◌≡◌, ℕ, List, [], ◌∷◌, ◌++◌, map, Less, refl}
 use Rattle.std.specs.Cmp.Lexicographic.{nat_list_cmp_total}
 use Rattle.std.specs.List.{AllByRecursion}
 use Rattle.std.specs.List.Sorted.{IsStrictlySortedBy}
 use Rattle.std.proofs.lemmas.Cmp.{tied_itself}
 use Rattle.tor_bencode.specs.Data.{Data, integer, string, list, dictionary, Pairs, no_pairs, pair, keys_of}
 use Rattle.tor_bencode.specs.Lawful.{AreRising, HasRisingKeys}
-use Rattle.tor_tree.specs.FileTree.{entries_in, entries_of, file_of, files_of_tree, under}
+use Rattle.tor_tree.specs.FileTree.{entries_in, entries_of, files_of_tree, under}
 use Rattle.tor_tree.specs.Path.{name_cmp, path_cmp}
 use Rattle.tor_tree.specs.declared.tree_file.TreeFile.{TreeFile}
 use Rattle.tor_tree.proofs.OneTree.{rising_rest}
 use Rattle.tor_tree.proofs.RisingTree.{AreRisingPairs}
-use Rattle.tor_tree.proofs.Unmixed.{paths_in}
+use Rattle.tor_tree.proofs.Unmixed.{paths_in, told_paths}
 
 -- the path comes before those of all entries
 abbrev IsBeforeAll : List (List ℕ) → List (List (List ℕ) × Data) → Type 0
@@ -20,21 +20,25 @@ IsBeforeAll path entries = AllByRecursion (λ later. path_cmp path later ≡ Les
 abbrev AreSorted : List (List (List ℕ) × Data) → Type 0
 AreSorted entries = IsStrictlySortedBy path_cmp (paths_in entries)
 
-before_both : (path : List (List ℕ)) (inside rest : List (List (List ℕ) × Data)) → IsBeforeAll path inside → IsBeforeAll path rest → IsBeforeAll path (inside ++ rest)
+before_both : (path : List (List ℕ)) (inside rest : List (List (List ℕ) × Data)) → IsBeforeAll path inside
+    → IsBeforeAll path rest → IsBeforeAll path (inside ++ rest)
 before_both path [] rest here later = later
 before_both path (entry ∷ inside) rest here later = (here.0, before_both path inside rest here.1 later)
 
-before_under : (key : List ℕ) (path : List (List ℕ)) (inside : List (List (List ℕ) × Data)) → IsBeforeAll path inside → IsBeforeAll (key ∷ path) (under key inside)
+before_under : (key : List ℕ) (path : List (List ℕ)) (inside : List (List (List ℕ) × Data)) → IsBeforeAll path inside
+    → IsBeforeAll (key ∷ path) (under key inside)
 before_under key path [] before = tt
 before_under key path (entry ∷ inside) before =
     (rw (tied_itself nat_list_cmp_total key) before.0, before_under key path inside before.1)
 
 -- what begins with a name comes before all that begin with a later one
-before_later : (name key : List ℕ) (names : List (List ℕ)) (inside : List (List (List ℕ) × Data)) → name_cmp name key ≡ Less → IsBeforeAll (name ∷ names) (under key inside)
+before_later : (name key : List ℕ) (names : List (List ℕ)) (inside : List (List (List ℕ) × Data))
+    → name_cmp name key ≡ Less → IsBeforeAll (name ∷ names) (under key inside)
 before_later name key names [] less = tt
 before_later name key names (entry ∷ inside) less = (rw less refl, before_later name key names inside less)
 
-rising_after : (name key : List ℕ) (keys : List (List ℕ)) → name_cmp name key ≡ Less → AreRising (key ∷ keys) → AreRising (name ∷ keys)
+rising_after : (name key : List ℕ) (keys : List (List ℕ)) → name_cmp name key ≡ Less → AreRising (key ∷ keys)
+    → AreRising (name ∷ keys)
 rising_after name key [] less rising = tt
 rising_after name key (next ∷ keys) less rising = (nat_list_cmp_total.trans name key next less rising.0, rising.1)
 
@@ -42,7 +46,8 @@ none_before_empty : (name : List ℕ) → name_cmp name [] ≡ Less → ⊥
 none_before_empty [] e = cc
 none_before_empty (c ∷ cs) e = cc
 
-before_pairs : (name : List ℕ) (names : List (List ℕ)) (pairs : Pairs) → AreRising (name ∷ keys_of pairs) → IsBeforeAll (name ∷ names) (entries_in pairs)
+before_pairs : (name : List ℕ) (names : List (List ℕ)) (pairs : Pairs) → AreRising (name ∷ keys_of pairs)
+    → IsBeforeAll (name ∷ names) (entries_in pairs)
 before_pairs name names no_pairs rising = tt
 before_pairs name names (pair [] properties pairs) rising = absurd (none_before_empty name rising.0)
 before_pairs name names (pair (c ∷ cs) folder pairs) rising =
@@ -50,7 +55,8 @@ before_pairs name names (pair (c ∷ cs) folder pairs) rising =
     (before_later name (c ∷ cs) names (entries_of folder) rising.0)
     (before_pairs name names pairs (rising_after name (c ∷ cs) (keys_of pairs) rising.0 rising.1))
 
-sorted_both : (name : List ℕ) (inside rest : List (List (List ℕ) × Data)) → AreSorted inside → AreSorted rest → ((names : List (List ℕ)) → IsBeforeAll (name ∷ names) rest) → AreSorted (under name inside ++ rest)
+sorted_both : (name : List ℕ) (inside rest : List (List (List ℕ) × Data)) → AreSorted inside → AreSorted rest
+    → ((names : List (List ℕ)) → IsBeforeAll (name ∷ names) rest) → AreSorted (under name inside ++ rest)
 unfolding IsStrictlySortedBy
 sorted_both name [] rest here later before = later
 sorted_both name (entry ∷ inside) rest here later before =
@@ -71,7 +77,8 @@ none_sorted : AreSorted []
 unfolding IsStrictlySortedBy
 none_sorted = tt
 
-with_first : (properties : Data) (entries : List (List (List ℕ) × Data)) → IsBeforeAll [] entries → AreSorted entries → AreSorted (([], properties) ∷ entries)
+with_first : (properties : Data) (entries : List (List (List ℕ) × Data)) → IsBeforeAll [] entries → AreSorted entries
+    → AreSorted (([], properties) ∷ entries)
 unfolding IsStrictlySortedBy
 with_first properties entries before sorted = (before, sorted)
 
@@ -90,9 +97,6 @@ mutual
       sorted_both (c ∷ cs) (entries_of folder) (entries_in pairs) (sorted_of folder rising.1.0) (sorted_in pairs (rising_rest (c ∷ cs) (keys_of pairs) rising.0, rising.1.1))
       (λ names. before_pairs (c ∷ cs) names pairs rising.0)
 
-told : (entries : List (List (List ℕ) × Data)) → map (λ (file : TreeFile). file.path) (map file_of entries) ≡ paths_in entries
-told [] = refl
-told ((path, properties) ∷ entries) = ap (λ paths. path ∷ paths) (told entries)
-
-pub paths_rise : (tree : Data) → HasRisingKeys tree → IsStrictlySortedBy path_cmp (map (λ (file : TreeFile). file.path) (files_of_tree tree))
-paths_rise tree rising = rw (told (entries_of tree)) (sorted_of tree rising)
+pub paths_rise : (tree : Data) → HasRisingKeys tree
+    → IsStrictlySortedBy path_cmp (map (λ (file : TreeFile). file.path) (files_of_tree tree))
+paths_rise tree rising = rw (told_paths (entries_of tree)) (sorted_of tree rising)

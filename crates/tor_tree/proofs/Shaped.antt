@@ -13,7 +13,8 @@ use Rattle.tor_tree.proofs.RisingTree.{first_in}
 abbrev pub HaveNames : List (List (List ℕ) × Data) → Type 0
 HaveNames entries = AllByRecursion (λ entry. AllByRecursion (λ name. name_fault name ≡ None) entry.0) entries
 
-names_inside : (key : List ℕ) (inside rest : List (List (List ℕ) × Data)) → HaveNames (under key inside ++ rest) → HaveNames inside
+names_inside : (key : List ℕ) (inside rest : List (List (List ℕ) × Data)) → HaveNames (under key inside ++ rest)
+    → HaveNames inside
 names_inside key [] rest named = tt
 names_inside key (entry ∷ inside) rest named = (named.0.1, names_inside key inside rest named.1)
 
@@ -21,7 +22,8 @@ names_after : (inside rest : List (List (List ℕ) × Data)) → HaveNames (insi
 names_after [] rest named = named
 names_after (entry ∷ inside) rest named = names_after inside rest named.1
 
-first_name : (key : List ℕ) (inside rest : List (List (List ℕ) × Data)) (first : List (List ℕ) × Data) (others : List (List (List ℕ) × Data)) → inside ≡ first ∷ others → HaveNames (under key inside ++ rest) → name_fault key ≡ None
+first_name : (key : List ℕ) (inside rest : List (List (List ℕ) × Data)) (first : List (List ℕ) × Data) (others : List (List (List ℕ) × Data))
+    → inside ≡ first ∷ others → HaveNames (under key inside ++ rest) → name_fault key ≡ None
 first_name key inside rest first others is named = let shown = rw is at named in shown.0.0
 
 plain_properties : (n : ℕ) (root : Option (List ℕ)) → are_properties (properties_for n root) ≡ true
@@ -52,12 +54,14 @@ plain_letters : (n : ℕ) (root : Option (List ℕ)) → has_letter letter_l (pr
 plain_letters n None = refl
 plain_letters n (Some root) = refl
 
-pub no_negative_length : (entries : List (List (List ℕ) × Data)) → AreTidyFiles entries → list_any has_negative_length (map (λ entry. entry.1) entries) ≡ false
+pub no_negative_length : (entries : List (List (List ℕ) × Data)) → AreTidyFiles entries
+    → list_any has_negative_length (map (λ entry. entry.1) entries) ≡ false
 no_negative_length [] tidy = refl
 no_negative_length ((path, properties) ∷ entries) ((n, root, is, rooted), tidy) =
     rw (is, plain_length n root, no_negative_length entries tidy) refl
 
-pub no_link : (entries : List (List (List ℕ) × Data)) → AreTidyFiles entries → list_any (has_letter letter_l) (map (λ entry. entry.1) entries) ≡ false
+pub no_link : (entries : List (List (List ℕ) × Data)) → AreTidyFiles entries
+    → list_any (has_letter letter_l) (map (λ entry. entry.1) entries) ≡ false
 no_link [] tidy = refl
 no_link ((path, properties) ∷ entries) ((n, root, is, rooted), tidy) =
     rw (is, plain_letters n root, no_link entries tidy) refl

@@ -1,8 +1,8 @@
 -- What comparing each file of a sorted list with the next tells of the whole list.
 use Rattle.std.proofs.Common.{◌≡◌, ℕ, ◌+◌, ◌<◌, Bool, true, false, not, List, [], ◌∷◌, length, get_or, Ordering, Less, Equal, Greater, refl, sym, ap, ◌∙◌, arith, IsTrue}
-use Rattle.std.specs.Ordering.{is_lt, nat_cmp, ordering_then, ordering_reverse}
+use Rattle.std.specs.Ordering.{is_lt, ordering_reverse}
 use Rattle.std.specs.List.{IsAllAdjacentAnswer, starts_with}
-use Rattle.std.specs.List.Sorted.{IsSortedByKey, IsSorted}
+use Rattle.std.specs.List.Sorted.{IsSortedByKey}
 use Rattle.std.proofs.lemmas.Bool.{not-true, not-false}
 use Rattle.std.proofs.lemmas.List.{get_or-map, length-map}
 use Rattle.tor_tree.specs.FileList.{paths_of, paths_repeat, paths_nest, IsInPathOrder}
@@ -26,28 +26,20 @@ element : {Y : Type 0} (ys : List Y) (k : ℕ) → k < length ys → Y
 element [] k lt = absurd (omega arith)
 element (y ∷ ys) k lt = y
 
--- a sort by path and length is one by path
-pub by_path : (files : List (List (List ℕ) × ℕ)) → IsSorted (λ x y. ordering_then (path_cmp x.0 y.0) (nat_cmp x.1 y.1)) files → IsSortedByKey (λ file. file.0) path_cmp files
-by_path files sorted k d low high =
-    let file = get_or files k d in
-    let next = get_or files (k + 1) d in
-    first (path_cmp next.0 file.0) (nat_cmp next.1 file.1) (sorted k d low high)
-  where
-    first : (o rest : Ordering) → is_lt (ordering_then o rest) ≡ false → is_lt o ≡ false
-    first Less rest h = h
-    first Equal rest h = refl
-    first Greater rest h = refl
-
 module _ {X : Type 0} where
-  path_at : (files : List (List (List ℕ) × X)) (k : ℕ) (d : List (List ℕ) × X) → k < length files → get_or (paths_of files) k [] ≡ (get_or files k d).0
+  path_at : (files : List (List (List ℕ) × X)) (k : ℕ) (d : List (List ℕ) × X) → k < length files
+      → get_or (paths_of files) k [] ≡ (get_or files k d).0
   path_at files k d lt = get_or-map (λ file. file.0) files k d [] lt
 
-  pub rising_answer : (files : List (List (List ℕ) × X)) (answer : Bool) → IsAllAdjacentAnswer (λ x y b. b ≡ is_lt (path_cmp x.0 y.0)) files answer → IsTrue answer → IsInPathOrder files
+  pub rising_answer : (files : List (List (List ℕ) × X)) (answer : Bool)
+      → IsAllAdjacentAnswer (λ x y b. b ≡ is_lt (path_cmp x.0 y.0)) files answer → IsTrue answer → IsInPathOrder files
   rising_answer files true each t =
       rising_from_neighbours path_order (λ file. file.0) files (λ k d lt. below_is _ (each k d lt))
   rising_answer files false each t = cc
 
-  pub repeat_answer : (files : List (List (List ℕ) × X)) (answer : Bool) → IsSortedByKey (λ file. file.0) path_cmp files → IsAllAdjacentAnswer (λ x y b. b ≡ is_lt (path_cmp x.0 y.0)) files answer → answer ≡ not (paths_repeat (paths_of files))
+  pub repeat_answer : (files : List (List (List ℕ) × X)) (answer : Bool) → IsSortedByKey (λ file. file.0) path_cmp files
+      → IsAllAdjacentAnswer (λ x y b. b ≡ is_lt (path_cmp x.0 y.0)) files answer
+      → answer ≡ not (paths_repeat (paths_of files))
   repeat_answer files true sorted each =
       sym (ap not (repeat_none (paths_of files) (rising_answer files true each refl)))
   repeat_answer files false sorted some =
@@ -62,7 +54,9 @@ module _ {X : Type 0} where
       rw (path_at files k d (omega arith), path_at files (k + 1) d some.1) same in
       sym (ap not (repeat_found (paths_of files) k (rw length-map some.1) at_paths))
 
-  pub nest_answer : (files : List (List (List ℕ) × X)) (answer : Bool) → IsInPathOrder files → IsAllAdjacentAnswer (λ x y b. b ≡ not (starts_with name_eq y.0 x.0)) files answer → not answer ≡ paths_nest (paths_of files)
+  pub nest_answer : (files : List (List (List ℕ) × X)) (answer : Bool) → IsInPathOrder files
+      → IsAllAdjacentAnswer (λ x y b. b ≡ not (starts_with name_eq y.0 x.0)) files answer
+      → not answer ≡ paths_nest (paths_of files)
   nest_answer files true rising each =
       sym (nest_none (paths_of files) rising
       (λ k d lt.

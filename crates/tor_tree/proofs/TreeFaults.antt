@@ -1,8 +1,9 @@
 -- The faults of a tree are those of the entries that were read of it.
-use Rattle.std.proofs.Common.{◌≡◌, ◌==◌, ℕ, pos, Bool, true, false, not, cond, ◌&&◌, ◌||◌, List, [], ◌∷◌, ◌++◌, length, map, nat_lt, Option, None, Some, is_none, unwrap_or, unsigned_abs, refl, sym, ap, ◌∙◌, arith}
+use Rattle.std.proofs.Common.{◌≡◌, ◌==◌, ℕ, pos, Bool, true, false, not, cond, ◌&&◌, List, [], ◌∷◌, ◌++◌, length, map, nat_lt, Option, None, Some, is_none, unwrap_or, unsigned_abs, refl, sym, ap, ◌∙◌, arith}
 use Rattle.std.specs.List.{list_any, All, AllByRecursion}
 use Rattle.std.specs.Prelude.{int_lt, IsSome}
 use Rattle.std.proofs.lemmas.List.{length-map}
+use Rattle.std.proofs.lemmas.Simd.{map-map}
 use Rattle.std.proofs.lemmas.List.Elements.{All-from_recursion}
 use Rattle.std.proofs.lemmas.Bool.{or_parts, lt-ltb, eqb-false, not-false}
 use Rattle.tor_bencode.specs.Data.{Data, integer, string, list, dictionary, Pairs, no_pairs, pair}
@@ -13,16 +14,10 @@ use Rattle.tor_tree.specs.Reading.{entries_fault, entry_at, file_from, hash_of, 
 use Rattle.tor_tree.specs.declared.entries.Entry.{Entry}
 use Rattle.tor_tree.proofs.ListFaults.{clear}
 
-list_any-map : {X Y : Type 0} (p : Y → Bool) (f : X → Y) (xs : List X) → list_any p (map f xs) ≡ list_any (λ x. p (f x)) xs
-list_any-map p f [] = refl
-list_any-map p f (x ∷ xs) = ap (λ b. p (f x) || b) (list_any-map p f xs)
-
-map-map : {X Y Z : Type 0} (g : Y → Z) (f : X → Y) (xs : List X) → map g (map f xs) ≡ map (λ x. g (f x)) xs
-map-map g f [] = refl
-map-map g f (x ∷ xs) = ap (λ zs. g (f x) ∷ zs) (map-map g f xs)
-
 -- a test of entries agrees with one of properties
-alike : (p : Entry → Bool) (q : Data → Bool) → ((file : List (List ℕ) × Data) → p (entry_at [] file) ≡ q file.1) → (files : List (List (List ℕ) × Data)) → list_any p (map (entry_at []) files) ≡ list_any q (map (λ file. file.1) files)
+alike : (p : Entry → Bool) (q : Data → Bool) → ((file : List (List ℕ) × Data) → p (entry_at [] file) ≡ q file.1)
+    → (files : List (List (List ℕ) × Data))
+    → list_any p (map (entry_at []) files) ≡ list_any q (map (λ file. file.1) files)
 alike p q same [] = refl
 alike p q same (file ∷ files) = rw (same file, alike p q same files) refl
 
@@ -34,7 +29,8 @@ hash_missing (Some bytes) = by_length (length bytes == 32)
     by_length true = refl
     by_length false = refl
 
-pub entries_fault-tree : (tree : Data) → is_folder tree ≡ true → entries_fault (map (entry_at []) (entries_of tree)) (tree_mixes tree) ≡ tree_fault tree
+pub entries_fault-tree : (tree : Data) → is_folder tree ≡ true
+    → entries_fault (map (entry_at []) (entries_of tree)) (tree_mixes tree) ≡ tree_fault tree
 entries_fault-tree tree shaped =
     let files = entries_of tree in
     let lengths : map (λ (entry : Entry). unsigned_abs entry.properties.length) (map (entry_at []) files) ≡ map length_of (properties_in tree) =
@@ -43,7 +39,8 @@ entries_fault-tree tree shaped =
     (rw length-map refl)
 
 -- a tree without a fault mixes no files and folders, and lacks no root
-pub faultless_tree : (tree : Data) → tree_fault tree ≡ None → (tree_mixes tree ≡ false) × (list_any lacks_root (properties_in tree) ≡ false)
+pub faultless_tree : (tree : Data) → tree_fault tree ≡ None
+    → (tree_mixes tree ≡ false) × (list_any lacks_root (properties_in tree) ≡ false)
 faultless_tree tree h =
     let a = clear (not (is_folder tree)) _ _ h in
     let b = clear (list_any has_negative_length (properties_in tree)) _ _ a.1 in
@@ -61,30 +58,36 @@ same_file (path, properties) has = rw (same_path path, same_root (length_of prop
     same_path [] = refl
     same_path (name ∷ names) = refl
 
-    same_root : (b : Bool) → (length_of properties == 0) ≡ b → cond b None (hash_of properties) ≡ cond b None (pieces_root properties)
+    same_root : (b : Bool) → (length_of properties == 0) ≡ b
+        → cond b None (hash_of properties) ≡ cond b None (pieces_root properties)
     same_root true e = refl
     same_root false e =
         let positive : nat_lt 0 (length_of properties) ≡ true = lt-ltb 0 (length_of properties) (omega (arith, eqb-false (length_of properties) 0 e)) in
         let hashed : not (is_hash (pieces_root properties)) ≡ false = rw positive at has in
         rw (not-false _ hashed) refl
 
-pub same_files : (files : List (List (List ℕ) × Data)) → list_any lacks_root (map (λ file. file.1) files) ≡ false → map file_from (map (entry_at []) files) ≡ map file_of files
+pub same_files : (files : List (List (List ℕ) × Data)) → list_any lacks_root (map (λ file. file.1) files) ≡ false
+    → map file_from (map (entry_at []) files) ≡ map file_of files
 same_files [] has = refl
 same_files (file ∷ files) has =
     let parts = or_parts (lacks_root file.1) (list_any lacks_root (map (λ f. f.1) files)) has in
     rw (same_file file parts.0, same_files files parts.1) refl
 
-under_paths : (name : List ℕ) (files : List (List (List ℕ) × Data)) (rest : List (List (List ℕ) × Data)) → AllByRecursion (λ (entry : Entry). IsSome entry.path) (map (entry_at []) rest) → AllByRecursion (λ (entry : Entry). IsSome entry.path) (map (entry_at []) (under name files ++ rest))
+under_paths : (name : List ℕ) (files : List (List (List ℕ) × Data)) (rest : List (List (List ℕ) × Data))
+    → AllByRecursion (λ (entry : Entry). IsSome entry.path) (map (entry_at []) rest)
+    → AllByRecursion (λ (entry : Entry). IsSome entry.path) (map (entry_at []) (under name files ++ rest))
 under_paths name [] rest h = h
 under_paths name (file ∷ files) rest h = (refl, under_paths name files rest h)
 
-have_paths : (pairs : Pairs) → has_empty_key pairs ≡ false → AllByRecursion (λ (entry : Entry). IsSome entry.path) (map (entry_at []) (entries_in pairs))
+have_paths : (pairs : Pairs) → has_empty_key pairs ≡ false
+    → AllByRecursion (λ (entry : Entry). IsSome entry.path) (map (entry_at []) (entries_in pairs))
 have_paths no_pairs named = tt
 have_paths (pair [] properties pairs) named = cc
 have_paths (pair (c ∷ cs) folder pairs) named = under_paths (c ∷ cs) (entries_of folder) (entries_in pairs) (have_paths pairs (or_parts (length (c ∷ cs) == 0) _ named).1)
 
 -- where the tree has not the empty key itself, every entry has a path
-pub all_have_paths : (tree : Data) → tree_mixes tree ≡ false → All (λ (entry : Entry). IsSome entry.path) (map (entry_at []) (entries_of tree))
+pub all_have_paths : (tree : Data) → tree_mixes tree ≡ false
+    → All (λ (entry : Entry). IsSome entry.path) (map (entry_at []) (entries_of tree))
 all_have_paths (integer n) h = λ k d lt. absurd (omega arith)
 all_have_paths (string bytes) h = λ k d lt. absurd (omega arith)
 all_have_paths (list items) h = λ k d lt. absurd (omega arith)

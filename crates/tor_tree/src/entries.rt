@@ -7,7 +7,7 @@ ghost use Rattle.tor_tree.specs.Properties.{are_properties};
 ghost use Rattle.tor_tree.specs.Reading.{entry_at};
 ghost use Rattle.tor_tree.specs.declared.tree_file.TreeFault.TheVariants.{Memory, Shape};
 
-use crate::names::{Name, copies};
+use crate::names::{Name, copy_names};
 use crate::paths::FilePath;
 use crate::properties::{Properties, read_properties};
 use crate::tree_file::TreeFault;
@@ -90,7 +90,7 @@ fn add_file(
     let Some(properties) = read_properties(properties) else {
         return Err(TreeFault::Shape);
     };
-    let path = FilePath::new(copies(alloc, folder)?);
+    let path = FilePath::new(copy_names(alloc, folder)?);
     entries.push(Entry { path, properties })?;
     Ok(())
 }

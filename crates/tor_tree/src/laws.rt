@@ -1,15 +1,19 @@
 //! Laws over the definitions alone.
-ghost use Rattle.std.specs.Prelude.{◌≡◌, ◌+◌, ◌<◌, ◌≤◌, ◌^◌, ℕ, All, List, None, Option, length, map, slice_index_or};
+ghost use Rattle.std.specs.Prelude.{◌≡◌, ◌+◌, ◌<◌, ◌≤◌, ◌≢◌, ◌^◌, ℕ, All, List, [], None, true, Option, length, map, slice_index_or};
+ghost use Rattle.std.specs.Cmp.{IsTotalOrder};
 ghost use Rattle.std.specs.List.{AllZip};
 ghost use Rattle.std.specs.List.Sorted.{IsPermutation, IsStrictlySortedBy};
+ghost use Rattle.std.specs.declared.cmp.Ordering.TheVariants.{Less};
 ghost use Rattle.tor_bencode.specs.Data.{Data};
 ghost use Rattle.tor_bencode.specs.Lawful.{HasRisingKeys, IsLawfulWithin};
-ghost use Rattle.tor_tree.specs.FileList.{IsInPathOrder};
+ghost use Rattle.tor_tree.specs.FileList.{IsFileList, IsInPathOrder, is_inside};
 ghost use Rattle.tor_tree.specs.FileTree.{files_of_tree, tree_fault};
+ghost use Rattle.tor_tree.specs.Name.{name_fault};
 ghost use Rattle.tor_tree.specs.Path.{HasNames, IsFilePath, path_cmp};
 ghost use Rattle.tor_tree.specs.PathList.{ArePlaces};
 ghost use Rattle.tor_tree.specs.TidyTree.{AtMostOneTree, HasItsRoot, IsFileTreeOf};
 ghost use Rattle.tor_tree.specs.WrittenTree.{file_tree};
+ghost use Rattle.tor_tree.specs.declared.lists.TheConstants.{MAX_LENGTH};
 
 /// A list of files with their roots has at most one tidy file tree.
 pub fn one_file_tree()
@@ -31,9 +35,29 @@ pub fn file_tree_is_lawful()
         IsLawfulWithin (names + 2) (file_tree files roots) }
 {}
 
-/// No name of a file's path is empty.
+/// The same of a list of files, whose lengths are small.
+pub fn tree_of_list_is_lawful()
+    ensures { (names : ℕ) (files : List (List (List ℕ) × ℕ)) (roots : List (Option (List ℕ))) → IsFileList files →
+        AllZip HasItsRoot files roots → All (λ file. length file.0 ≤ names) files →
+        IsLawfulWithin (names + 2) (file_tree files roots) }
+{}
+
+/// A name without fault is not empty, and so no name of a file's path is, or of a list's files.
 pub fn paths_have_names()
-    ensures { (path : List (List ℕ)) → IsFilePath path → HasNames path }
+    ensures name { (name : List ℕ) → name_fault name ≡ None → name ≢ [] }
+    ensures path { (path : List (List ℕ)) → IsFilePath path → HasNames path }
+    ensures list { (files : List (List (List ℕ) × ℕ)) → IsFileList files → All (λ file. HasNames file.0) files }
+{}
+
+/// No file of a list is too long.
+pub fn files_are_small()
+    ensures { (files : List (List (List ℕ) × ℕ)) → IsFileList files → All (λ file. file.1 ≤ MAX_LENGTH) files }
+{}
+
+/// Paths are in a total order, in which a folder comes before all that is inside it.
+pub fn paths_are_ordered()
+    ensures total { IsTotalOrder path_cmp }
+    ensures inside { (folder path : List (List ℕ)) → is_inside folder path ≡ true → path_cmp folder path ≡ Less }
 {}
 
 /// Roots that are there just where their files are not empty, place by place, are those of the whole list.

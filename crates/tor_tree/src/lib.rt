@@ -41,7 +41,7 @@ mod write_tree;
 
 pub use kinds::Kind;
 pub use lists::{FileList, ListError, MAX_LENGTH, MAX_TOTAL, ROUNDING};
-pub use names::{Name, NameError, copies, each_is_name};
+pub use names::{Name, NameError, copy_names, each_is_name};
 pub use path_lists::PathList;
 pub use paths::FilePath;
 pub use read_tree::from_item;

@@ -155,7 +155,7 @@ impl PartialOrd for Name {
 }
 
 /// The same names again.
-pub fn copies(alloc: Global, names: &[Name]) -> Result<Vec<Name>, AllocError>
+pub fn copy_names(alloc: Global, names: &[Name]) -> Result<Vec<Name>, AllocError>
     ensures { IfOk result (λ copied. copied.items ≡ names.now) }
 {
     let mut copied = Vec::with_capacity(alloc, names.len())?;

@@ -5,7 +5,7 @@ ghost use Rattle.std.specs.Cmp.{partial_equiv_from_equiv, po};
 ghost use Rattle.std.specs.Cmp.Lexicographic.{lists_equiv, lists_total, lists_ties, nat_list_eq_equiv, nat_list_cmp_total, texts_ties};
 ghost use Rattle.tor_tree.specs.Path.{IsFilePath, name_cmp, path_cmp, path_eq};
 
-use crate::names::{Name, copies, each_is_name};
+use crate::names::{Name, copy_names, each_is_name};
 use std::alloc::{AllocError, Global};
 use std::cmp::Ordering;
 use std::marker::Model;
@@ -46,7 +46,7 @@ impl FilePath {
     pub fn copy(&self, alloc: Global) -> Result<FilePath, AllocError>
         ensures { IfOk result (λ path. path ≡ self.now) }
     {
-        let names = copies(alloc, self.names.as_slice())?;
+        let names = copy_names(alloc, self.names.as_slice())?;
         Ok(FilePath { names })
     }
 

@@ -88,7 +88,7 @@ fn paths_are_ordered_name_by_name(rt: HostRuntime) -> Result<(), Fail> {
         assert!(rt; first.copy(rt.alloc())? == first, "at {low}");
     }
     let names = path(rt.alloc(), "a/c")?.ok_or("a path")?;
-    assert_eq!(rt; copies(rt.alloc(), names.names())?.len(), 2);
+    assert_eq!(rt; copy_names(rt.alloc(), names.names())?.len(), 2);
     assert!(rt; FilePath::new(Vec::new(rt.alloc())).is_none());
     Ok(())
 }
