@@ -1,6 +1,30 @@
--- Contents that lie in memory. Only private clauses cite these.
+-- Files whose contents lie in memory.
 use Rattle.std.specs.Borrow.{Bor}
-use Rattle.std.specs.Prelude.{ℕ, List, map}
+use Rattle.std.specs.Prelude.{◌≡◌, ℕ, List, [], map, Vec, slice_index_or}
+use Rattle.std.specs.declared.alloc.Global.{Global}
+use Rattle.std.specs.List.{zip}
+use Rattle.std.specs.List.Sorted.{IsPermutation, IsStrictlySortedBy}
+use Rattle.tor_spec.specs.Facts.{File}
+use Rattle.tor_spec.specs.Metainfo.{metainfo}
+use Rattle.tor_spec.specs.Settings.{Settings}
+use Rattle.tor_tree.specs.Path.{path_cmp}
 
+-- the files that were handed in
+abbrev pub files_in : List (List (List ℕ) × Vec ℕ Global) → List File
+files_in files = map (λ file. record { path = file.0; content = file.1.items }) files
+
+-- the bytes are the torrent of the files, in the order of their paths
+abbrev pub IsMadeOf : Settings → List File → List ℕ → Type 0
+IsMadeOf settings files bytes =
+    (sorted : List File) × IsPermutation files sorted × IsStrictlySortedBy path_cmp (map (λ file. file.path) sorted)
+    × (bytes ≡ metainfo settings sorted)
+
+-- for private clauses: contents that are borrowed, those at places, and files of a list with their contents
 abbrev pub bytes_of : List (Bor (List ℕ)) → List (List ℕ)
 bytes_of contents = map (λ content. content.now) contents
+
+abbrev pub contents_at : List (Vec ℕ Global) → List ℕ → List (List ℕ)
+contents_at contents places = map (λ place. slice_index_or (map (λ content. content.items) contents) place []) places
+
+abbrev pub files_of : List (List (List ℕ) × ℕ) → List (List ℕ) → List File
+files_of files contents = map (λ file. record { path = file.0.0; content = file.1 }) (zip files contents)

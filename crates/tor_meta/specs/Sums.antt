@@ -1,16 +1,18 @@
 -- Sums that a torrent can be made of, and the facts that they tell.
-use Rattle.std.specs.Prelude.{◌≡◌, ◌≤◌, ℕ, true, false, All, List, length}
+use Rattle.std.specs.Prelude.{◌≡◌, ◌≤◌, ℕ, true, false, All, List, length, map}
 use Rattle.std.specs.List.{AllZip}
-use Rattle.tor_merkle.specs.Layer.{IsPieceLength}
+use Rattle.tor_merkle.specs.Layer.{IsPieceLength, piece_layer}
 use Rattle.tor_meta.specs.Head.{settings_of}
 use Rattle.tor_meta.specs.Layers.{lists_of}
 use Rattle.tor_meta.specs.declared.head.Head.{Head}
 use Rattle.tor_meta.specs.declared.judge.TheConstants.{MAX_NAMES}
 use Rattle.tor_meta.specs.declared.sums.Sums.{Sums}
-use Rattle.tor_spec.specs.Facts.{Facts, listed, layers_in, roots_in}
-use Rattle.tor_spec.specs.Settings.{has_v2, layout_of}
+use Rattle.tor_spec.specs.Facts.{Facts, listed, layers_in, root_of, roots_in}
+use Rattle.tor_spec.specs.Settings.{has_v1, has_v2, layout_of}
 use Rattle.tor_tree.specs.FileList.{IsFileList}
 use Rattle.tor_tree.specs.TidyTree.{HasItsRoot}
+use Rattle.tor_v1.specs.Content.{v1_pieces}
+use Rattle.tor_v1.specs.Entries.{v1_entries}
 use Rattle.tor_v1.specs.Reserved.{takes_reserved}
 
 -- a list of files, of which no torrent is refused for the head or the paths
@@ -31,3 +33,9 @@ pub record AreFactsOf (head : Head) (files : List (List (List ℕ) × ℕ)) (sum
   pub is_listed : listed facts ≡ files
   pub is_rooted : has_v2 head.kind ≡ true → roots_in facts ≡ sums.roots.items
   pub is_layered : has_v2 head.kind ≡ true → layers_in facts ≡ lists_of sums.layers.items
+
+-- the sums are those of the contents, as far as the head asks for them
+pub record SumUp (head : Head) (files : List (List (List ℕ) × ℕ)) (contents : List (List ℕ)) (sums : Sums) : Type 0 where
+  pub roots : has_v2 head.kind ≡ true → sums.roots.items ≡ map root_of contents
+  pub layers : has_v2 head.kind ≡ true → lists_of sums.layers.items ≡ map (λ content. piece_layer content head.piece_length) contents
+  pub pieces : has_v1 head.kind ≡ true → sums.pieces.items ≡ v1_pieces head.piece_length (v1_entries (layout_of (settings_of head)) head.piece_length files) contents

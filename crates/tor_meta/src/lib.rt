@@ -1,6 +1,7 @@
 //! Making torrents (BEP 3, BEP 52, BEP 47), and writing them out.
 #![tactic(auto)]
 
+mod contents;
 mod head;
 mod info;
 mod items;
@@ -11,6 +12,7 @@ mod refusals;
 mod sums;
 mod torrent;
 
+pub use contents::make_contents;
 pub use head::Head;
 pub use judge::{MAX_NAMES, judge_paths};
 pub use output::{WriteFault, write_out};

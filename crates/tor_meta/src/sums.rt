@@ -24,8 +24,19 @@ pub struct Sums {
     pub pieces: Vec<u8>,
 }
 
+impl Sums {
+    /// Of no file.
+    pub(crate) fn none(alloc: Global) -> Sums {
+        Sums {
+            roots: Vec::new(alloc),
+            layers: Vec::new(alloc),
+            pieces: Vec::new(alloc),
+        }
+    }
+}
+
 /// The pieces root and the layer of each content.
-pub fn sum_trees(
+pub(crate) fn sum_trees(
     alloc: Global,
     piece_length: u64,
     contents: &[&[u8]],
@@ -63,7 +74,7 @@ fn sum_tree(
 }
 
 /// Those of the content that was fed.
-pub fn tree_of(alloc: Global, feed: Feed) -> (Option<Hash>, Vec<Hash>)
+pub(crate) fn tree_of(alloc: Global, feed: Feed) -> (Option<Hash>, Vec<Hash>)
     ensures root { result.0 ≡ root_of feed.bytes }
     ensures layer { result.1.items ≡ piece_layer feed.bytes feed.piece_length }
 {
@@ -77,7 +88,7 @@ pub fn tree_of(alloc: Global, feed: Feed) -> (Option<Hash>, Vec<Hash>)
 }
 
 /// The joined SHA-1 of each piece of the contents of the entries, where padding counts as zeros.
-pub fn sum_pieces(
+pub(crate) fn sum_pieces(
     alloc: Global,
     piece_length: u64,
     entries: &[Entry],
