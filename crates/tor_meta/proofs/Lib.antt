@@ -2,3 +2,8 @@ pub mod Pushed
 pub mod LayerSteps
 pub mod SumSteps
 pub mod Listed
+pub mod ContentSteps
+pub mod Placed
+pub mod OneFile
+pub mod Judged
+pub mod Made

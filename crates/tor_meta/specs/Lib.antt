@@ -5,3 +5,4 @@ pub mod Refusal
 pub mod Layers
 pub mod Contents
 pub mod Sums
+pub mod Fed

@@ -15,6 +15,7 @@ use crate::refusals::ContentsError;
 use crate::sums::{Sums, sum_pieces, sum_trees};
 use crate::torrent::torrent_bytes;
 use std::alloc::{AllocError, Global};
+use tor_tree::laws::files_are_small;
 use tor_tree::{FileList, FilePath};
 
 /// The bytes of the torrent of these files, which are put into the order of their paths. It starts no thread.
@@ -30,11 +31,18 @@ pub fn make_contents(
         ⊎ (refusal ≡ ContentsError.Memory)) }
 {
     let (paths, contents) = split(alloc, files)?;
-    let paths = judge_paths(alloc, head, paths)?;
+    let paths = match judge_paths(alloc, head, paths) {
+        Ok(paths) => paths,
+        Err(refusal) => return Err(refusal),
+    };
     let lengths = lengths(alloc, &contents)?;
-    let (list, places) = paths.with_lengths(alloc, &lengths)?;
-    let contents = in_order(alloc, &contents, &places)?;
-    Ok(torrent_of(alloc, head, &list, &contents)?)
+    let (list, places) = match paths.with_lengths(alloc, &lengths) {
+        Ok(both) => both,
+        Err(fault) => return Err(ContentsError::from(fault)),
+    };
+    let ordered = in_order(alloc, &contents, &places)?;
+    let bytes = torrent_of(alloc, head, &list, &ordered)?;
+    Ok(bytes)
 }
 
 /// The paths, and the contents.
@@ -94,7 +102,8 @@ fn torrent_of(
         bytes.items ≡ metainfo (settings_of head.now) (files_of list.now (bytes_of contents.entry.now))) }
 {
     let sums = sums_of(alloc, head, list, contents)?;
-    torrent_bytes(alloc, head, list, &sums)
+    let bytes = torrent_bytes(alloc, head, list, &sums)?;
+    Ok(bytes)
 }
 
 /// What the contents sum up to, as far as the head asks for it.
@@ -108,6 +117,7 @@ fn sums_of(
     requires contents { map length (bytes_of contents.now) ≡ lengths_of list.now }
     ensures { IfOk result (SumUp head.now list.now (bytes_of contents.entry.now)) }
 {
+    files_are_small();
     let mut sums = Sums::none(alloc);
     if head.has_v2() {
         let trees = sum_trees(alloc, head.piece_length, contents)?;

@@ -1,5 +1,5 @@
 //! What contents sum up to: their pieces roots, their piece layers, and the SHA-1 of their pieces.
-ghost use Rattle.std.specs.Prelude.{◌≡◌, ◌≤◌, ◌<◌, ◌^◌, All, IfOk, length, map, true};
+ghost use Rattle.std.specs.Prelude.{◌≡◌, ◌≤◌, ◌<◌, ◌^◌, All, IfOk, [], length, map, true};
 ghost use Rattle.tor_merkle.specs.Layer.{IsPieceLength, piece_layer};
 ghost use Rattle.tor_merkle.specs.declared.TheConstants.{MAX_LENGTH};
 ghost use Rattle.tor_meta.specs.Layers.{lists_of};
@@ -26,7 +26,11 @@ pub struct Sums {
 
 impl Sums {
     /// Of no file.
-    pub(crate) fn none(alloc: Global) -> Sums {
+    pub(crate) fn none(alloc: Global) -> Sums
+        ensures roots { result.roots.items ≡ [] }
+        ensures layers { result.layers.items ≡ [] }
+        ensures pieces { result.pieces.items ≡ [] }
+    {
         Sums {
             roots: Vec::new(alloc),
             layers: Vec::new(alloc),

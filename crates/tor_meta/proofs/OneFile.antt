@@ -1,0 +1,59 @@
+-- One file that lies at the top, and its content.
+use Rattle.std.proofs.Common.{◌≡◌, ℕ, zero, suc, ◌<◌, Bool, true, false, ◌&&◌, cond, List, [], ◌∷◌, ◌++◌, length, get_or, map, nat_lt, refl, sym, ap, ◌∙◌, arith}
+use Rattle.std.specs.List.{All}
+use Rattle.std.specs.List.Sorted.{IsPermutation}
+use Rattle.std.proofs.lemmas.List.{append-nil}
+use Rattle.std.proofs.lemmas.List.Sorted.{All-permutation, length_permutation}
+use Rattle.tor_meta.specs.Fed.{HasFed, SumsOfOne}
+use Rattle.tor_meta.specs.Head.{settings_of}
+use Rattle.tor_meta.specs.Sums.{SumUp}
+use Rattle.tor_meta.specs.declared.head.Head.{Head}
+use Rattle.tor_meta.specs.declared.sums.Sums.{Sums}
+use Rattle.tor_spec.specs.Settings.{layout_of}
+use Rattle.tor_v1.specs.Content.{joined_content, v1_pieces}
+use Rattle.tor_v1.specs.Entries.{aligned_entries, file_entry, has_bytes, pad_entry, padding_after, padding_length, v1_entries}
+use Rattle.tor_v1.specs.Piece.{piece_sums}
+use Rattle.tor_v1.specs.declared.entry.Entry.{Entry}
+use Rattle.tor_v1.specs.declared.layout.Layout.{Layout}
+use Rattle.tor_v1.specs.declared.layout.Layout.TheVariants.{Joined, Aligned}
+
+-- a list that has the elements of one with one element
+pub only_one : {X : Type 0} (x : X) (xs : List X) → IsPermutation (x ∷ []) xs → xs ≡ x ∷ []
+only_one {X = X} x xs moved = from_length xs (length_permutation (x ∷ []) xs moved) (All-permutation (λ y. y ≡ x) (x ∷ []) xs moved (λ k d lt. first k d lt))
+  where
+    first : (k : ℕ) (d : X) → k < 1 → get_or (x ∷ []) k d ≡ x
+    first zero d lt = refl
+    first (suc k) d lt = absurd (omega arith)
+
+    from_length : (ys : List X) → length ys ≡ 1 → All (λ y. y ≡ x) ys → ys ≡ x ∷ []
+    from_length [] e all = absurd (omega arith)
+    from_length (y ∷ []) e all = ap (λ z. z ∷ []) (all 0 y (omega arith))
+    from_length (y ∷ z ∷ ys) e all = absurd (omega arith)
+
+no_padding : (p m : ℕ) → padding_after p m [] ≡ []
+no_padding p m = by_test (nat_lt 0 (padding_length p m))
+  where
+    by_test : (b : Bool) → cond (b && has_bytes []) (pad_entry (padding_length p m) ∷ []) [] ≡ []
+    by_test true = refl
+    by_test false = refl
+
+one_entry : (layout : Layout) (p : ℕ) (file : List (List ℕ) × ℕ) → v1_entries layout p (file ∷ []) ≡ file_entry file ∷ []
+unfolding aligned_entries
+one_entry Joined p file = refl
+one_entry Aligned p file = rw (no_padding p file.1) refl
+
+one_content : (file : List (List ℕ) × ℕ) (bytes : List ℕ) → joined_content (file_entry file ∷ []) (bytes ∷ []) ≡ bytes
+unfolding joined_content
+one_content file bytes = append-nil bytes
+
+-- the sums of one file are those of its content
+pub pieces_of_one : (layout : Layout) (p : ℕ) (file : List (List ℕ) × ℕ) (bytes : List ℕ) → v1_pieces p (v1_entries layout p (file ∷ [])) (bytes ∷ []) ≡ piece_sums p bytes
+unfolding v1_pieces
+pieces_of_one layout p file bytes = ap (piece_sums p) (ap (λ es. joined_content es (bytes ∷ [])) (one_entry layout p file) ∙ one_content file bytes)
+
+pub sum_up_one : (head : Head) (file : List (List ℕ) × ℕ) (bytes : List ℕ) (sums : Sums) → SumsOfOne head.kind head.piece_length bytes sums → SumUp head (file ∷ []) (bytes ∷ []) sums
+sum_up_one head file bytes sums one = record {
+  roots = one.roots;
+  layers = one.layers;
+  pieces = λ e. one.pieces e ∙ sym (pieces_of_one (layout_of (settings_of head)) head.piece_length file bytes);
+}

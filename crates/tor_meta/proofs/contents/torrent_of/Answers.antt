@@ -1,0 +1,17 @@
+use Rattle.std.proofs.Common.{◌∙◌, ap}
+use Rattle.tor_bencode.specs.Spelling.{spelling}
+use Rattle.tor_meta.specs.Contents.{bytes_of, files_of}
+use Rattle.tor_spec.specs.Metainfo.{facts_of_files, metainfo}
+use Rattle.tor_meta.proofs.ContentSteps.{have_trees, same_pieces, told_facts}
+use Rattle.tor_meta.proofs.contents.torrent_of.Goals as goal
+
+pub torrent_bytes-requires-clause-trees : goal.torrent_bytes-requires-clause-trees
+torrent_bytes-requires-clause-trees c = have_trees c.args.head.now c.args.list.now (bytes_of c.args.contents.now) c.in_ok-sums.sums c.requires.contents c.in_ok-sums.ensures
+
+pub returns : goal.returns
+unfolding metainfo
+returns c =
+    let contents = bytes_of c.args.contents.now in
+    let told = told_facts c.args.head.now c.args.list.now contents c.in_ok-sums.sums c.requires.contents c.in_ok-sums.ensures in
+    c.in_ok-bytes.ensures (facts_of_files c.args.head.now.piece_length (files_of c.args.list.now contents)) told
+    ∙ ap spelling (same_pieces c.args.head.now c.args.list.now contents c.in_ok-sums.sums c.requires.contents c.in_ok-sums.ensures)

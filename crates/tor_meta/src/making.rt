@@ -1,0 +1,47 @@
+//! The torrent of one content that was fed.
+ghost use Rattle.std.specs.Prelude.{◌≡◌, ◌≤◌, ◌∷◌, [], ℕ, List, None, IfOk};
+ghost use Rattle.tor_merkle.specs.declared.TheConstants.{MAX_LENGTH};
+ghost use Rattle.tor_meta.specs.Fed.{HasFed};
+ghost use Rattle.tor_meta.specs.Head.{settings_of};
+ghost use Rattle.tor_meta.specs.Refusal.{paths_refusal};
+ghost use Rattle.tor_spec.specs.Metainfo.{metainfo, only};
+ghost use Rattle.tor_tree.specs.FileList.{IsFileList};
+
+use crate::fed::FedSums;
+use crate::head::Head;
+use crate::torrent::torrent_bytes;
+use std::alloc::{AllocError, Global};
+use tor_merkle::laws::piece_length_bounds;
+use tor_tree::{FileList, FilePath, ListError, Name};
+
+/// The bytes of the torrent of the one file that has the torrent's name, and the content that was fed.
+pub fn make_fed(alloc: Global, head: &Head, fed: FedSums) -> Result<Vec<u8>, AllocError>
+    requires accepted { paths_refusal (settings_of head.now) ((head.now.name ∷ []) ∷ []) ≡ None }
+    requires fed { (bytes : List ℕ) × HasFed fed head.now.kind head.now.piece_length bytes }
+    ensures { (bytes : List ℕ) → HasFed fed head.now.kind head.now.piece_length bytes →
+        IfOk result (λ torrent. torrent.items ≡ metainfo (settings_of head.now) (only head.now.name bytes)) }
+{
+    let list = list_of_one(alloc, &head.name, fed.count())?;
+    let sums = fed.finish(alloc)?;
+    let bytes = torrent_bytes(alloc, head, &list, &sums)?;
+    Ok(bytes)
+}
+
+/// The list of one file that lies at the top.
+fn list_of_one(alloc: Global, name: &Name, length: u64) -> Result<FileList, AllocError>
+    requires { length ≤ MAX_LENGTH }
+    ensures list { IfOk result (λ list. list ≡ (name.now ∷ [], length) ∷ []) }
+    ensures lawful { IfOk result IsFileList }
+{
+    let Some(path) = FilePath::new(vec![in alloc; name.copy(alloc)?]?) else {
+        unreachable!();
+    };
+    match FileList::build(alloc, vec![in alloc; (path, length)]?) {
+        Ok(list) => {
+            let _files = list.files();
+            Ok(list)
+        }
+        Err(ListError::Memory) => Err(AllocError),
+        Err(_) => unreachable!(),
+    }
+}
