@@ -1,2 +1,5 @@
 pub mod Ends
+pub mod Entries
 pub mod FoundFiles
+pub mod PathOrder
+pub mod Waiting

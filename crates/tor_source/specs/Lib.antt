@@ -1,3 +1,3 @@
 pub mod Faults
-pub mod Order
 pub mod Places
+pub mod steps

@@ -1,16 +1,16 @@
 //! The files below a folder, in the order of their paths.
 ghost use Rattle.std.specs.Prelude.{◌≡◌, ◌<◌, ◌≤◌, ◌∷◌, ◌++◌, ◌⊎◌, ◌≢◌, ℕ, List, [], IfErr, IfOk, OnOk, length, map};
 ghost use Rattle.std.specs.String.{string_bytes};
-ghost use Rattle.tor_source.specs.Order.{HasFound, IsAhead, IsEntered};
+ghost use Rattle.tor_source.specs.steps.Order.{HasFound, IsAhead, IsEntered};
 ghost use Rattle.tor_source.specs.Places.{without_slash};
 ghost use Rattle.tor_source.specs.declared.faults.ScanFault.TheVariants.{Memory, TooDeep};
 
 use crate::faults::ScanFault;
 use crate::listing::rising_names;
 use crate::places::{place_below, without_slash};
-use std::alloc::{AllocError, Global};
+use std::alloc::Global;
 use std::rt::Files;
-use tor_tree::{FilePath, Name};
+use tor_tree::{FilePath, Name, copies};
 
 /// The most names in a path.
 const MAX_NAMES: usize = 64;
@@ -128,15 +128,4 @@ fn add_file(
     found.paths.push(path)?;
     found.places.push(place)?;
     Ok(())
-}
-
-/// The same names again.
-fn copies(alloc: Global, names: &[Name]) -> Result<Vec<Name>, AllocError>
-    ensures { IfOk result (λ copied. copied.items ≡ names.now) }
-{
-    let mut copied = Vec::with_capacity(alloc, names.len())?;
-    for name in names {
-        copied.push(name.copy(alloc)?)?;
-    }
-    Ok(copied)
 }

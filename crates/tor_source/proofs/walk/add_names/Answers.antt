@@ -1,9 +1,11 @@
 use Rattle.std.proofs.Common.{◌≡◌, ◌++◌, ◌∷◌, [], Some, Less, get_or, length, map, refl}
 use Rattle.std.proofs.lemmas.List.Elements.{All-pop, All-from_recursion}
 use Rattle.tor_tree.specs.Path.{name_cmp}
-use Rattle.tor_source.specs.Order.{IsWaiting, path_in}
+use Rattle.tor_source.specs.steps.Order.{IsWaiting, path_in}
 use Rattle.tor_source.specs.declared.walk.Entry.{Entry}
-use Rattle.tor_source.proofs.FoundFiles.{ahead_folder, ahead_name, path_inside, rising_front, waiting_inside, waiting_name}
+use Rattle.tor_source.proofs.Entries.{ahead_folder, ahead_name, path_inside}
+use Rattle.tor_source.proofs.FoundFiles.{rising_front}
+use Rattle.tor_source.proofs.Waiting.{waiting_inside, waiting_name}
 use Rattle.tor_source.proofs.walk.add_names.Goals as goal
 
 pub loop-name-init : goal.loop-name-init

@@ -2,7 +2,7 @@ use Rattle.std.proofs.Common.{◌++◌, ◌∷◌, [], ℕ, List, map, vec_len}
 use Rattle.std.specs.List.{All}
 use Rattle.std.specs.List.Sorted.{IsStrictlySortedBy}
 use Rattle.tor_tree.specs.Path.{name_cmp}
-use Rattle.tor_source.specs.Order.{IsAhead, IsEntered, IsWaiting, path_in}
+use Rattle.tor_source.specs.steps.Order.{IsAhead, IsEntered, IsWaiting, path_in}
 use Rattle.tor_source.proofs.walk.add_names.Given as goal
 
 abbrev pub decreases-loop-name : goal.decreases-loop-name

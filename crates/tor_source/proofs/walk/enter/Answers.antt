@@ -1,9 +1,10 @@
 use Rattle.std.proofs.Common.{◌≡◌, map}
 use Rattle.std.specs.String.{string_bytes}
 use Rattle.std.proofs.lemmas.Result.{on_ok_weaker}
-use Rattle.tor_source.specs.Order.{IsEntered, path_in}
+use Rattle.tor_source.specs.steps.Order.{IsEntered, path_in}
 use Rattle.tor_source.specs.Places.{place_below}
-use Rattle.tor_source.proofs.FoundFiles.{ahead_file, entered_next, found_push}
+use Rattle.tor_source.proofs.Entries.{ahead_file, entered_next}
+use Rattle.tor_source.proofs.FoundFiles.{found_push}
 use Rattle.tor_source.proofs.walk.enter.Goals as goal
 
 pub returns-then-is_dir-clause-ahead : goal.returns-then-is_dir-clause-ahead

@@ -1,6 +1,7 @@
 use Rattle.std.proofs.Common.{[], ◌∙◌}
-use Rattle.tor_source.specs.Order.{IsEntered}
-use Rattle.tor_source.proofs.FoundFiles.{found_none, entered_first}
+use Rattle.tor_source.specs.steps.Order.{IsEntered}
+use Rattle.tor_source.proofs.Entries.{entered_first}
+use Rattle.tor_source.proofs.FoundFiles.{found_none}
 use Rattle.tor_source.proofs.walk.walk.Goals as goal
 
 pub loop-init : goal.loop-init

@@ -1,4 +1,4 @@
--- The order in which the files below a folder are found.
+-- For the invariant of `walk` alone: the order in which the files below a folder are found.
 use Rattle.std.specs.Prelude.{◌≡◌, ◌≤◌, ◌<◌, ◌++◌, ◌∷◌, [], ℕ, List, length, map, take}
 use Rattle.std.specs.List.{All, AllPairs}
 use Rattle.std.specs.List.Sorted.{IsStrictlySortedBy}
