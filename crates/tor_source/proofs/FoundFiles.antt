@@ -9,6 +9,7 @@ use Rattle.tor_source.proofs.Waiting.{next_before}
 use Rattle.tor_source.specs.Places.{place_below}
 use Rattle.tor_source.specs.steps.Order.{IsEntered, IsFound, path_in}
 use Rattle.tor_source.specs.declared.walk.Entry.{Entry}
+use Rattle.tor_source.specs.declared.walk.TheConstants.{MAX_NAMES}
 
 -- a list that rises, without its last element
 pub rising_front : {K : Type 0} (R : K → K → Ordering) (xs : List K) (y : K) → IsStrictlySortedBy R (xs ++ y ∷ []) → IsStrictlySortedBy R xs × AllByRecursion (λ x. R x y ≡ Less) xs
@@ -32,10 +33,10 @@ unfolding IsStrictlySortedBy
 rising_push R [] y h below = (tt, tt)
 rising_push R (x ∷ xs) y h below = (all_push (λ z. R x z ≡ Less) xs y h.0 below.0, rising_push R xs y h.1 below.1)
 
-pub found_push : (place : List ℕ) (paths : List (List (List ℕ))) (places : List (List ℕ)) (path : List (List ℕ)) (at : List ℕ) (entries : List Entry) → IsFound place paths places → IsEntered paths path entries → length path ≤ 64 → at ≡ place_below place path → IsFound place (paths ++ path ∷ []) (places ++ at ∷ [])
+pub found_push : (place : List ℕ) (paths : List (List (List ℕ))) (places : List (List ℕ)) (path : List (List ℕ)) (at : List ℕ) (entries : List Entry) → IsFound place paths places → IsEntered paths path entries → length path ≤ MAX_NAMES → at ≡ place_below place path → IsFound place (paths ++ path ∷ []) (places ++ at ∷ [])
 found_push place paths places path at entries found entered short is = record {
   rising = rising_push path_cmp paths path found.rising (recursion_from_All (λ earlier. path_cmp earlier path ≡ Less) paths (next_before paths (map (path_in path) entries) path entered.paths));
-  short = All-push (λ p. length p ≤ 64) paths path found.short short;
+  short = All-push (λ p. length p ≤ MAX_NAMES) paths path found.short short;
   placed = rw (map_push (place_below place) paths path, ← found.placed, ← is) refl;
 }
 
@@ -43,6 +44,6 @@ pub found_none : (place : List ℕ) → IsFound place [] []
 unfolding IsStrictlySortedBy
 found_none place = record {
   rising = tt;
-  short = All-nil (λ path. length path ≤ 64);
+  short = All-nil (λ path. length path ≤ MAX_NAMES);
   placed = refl;
 }

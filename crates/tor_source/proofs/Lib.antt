@@ -2,4 +2,6 @@ pub mod Ends
 pub mod Entries
 pub mod FoundFiles
 pub mod PathOrder
+pub mod Pieces
+pub mod SameNames
 pub mod Waiting

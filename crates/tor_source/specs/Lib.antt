@@ -1,3 +1,4 @@
 pub mod Faults
+pub mod Listing
 pub mod Places
 pub mod steps

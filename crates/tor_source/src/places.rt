@@ -6,10 +6,14 @@ ghost use Rattle.tor_source.specs.Places.{place_below, place_of, without_slash};
 use std::alloc::{AllocError, Global};
 use tor_tree::{FilePath, Name};
 
-/// The place of the file that the path leads to from a folder.
+/// The place of the file that the path leads to from a folder. The empty place is no folder: below it each file is at
+/// the empty place, where the system has nothing.
 pub(crate) fn place_of(alloc: Global, folder: &str, file: &FilePath) -> Result<String, AllocError>
     ensures { IfOk result (λ place. string_bytes place ≡ place_of folder.now file.now) }
 {
+    if folder.is_empty() {
+        return Ok(String::new(alloc));
+    }
     place_below(alloc, without_slash(folder), file.names())
 }
 

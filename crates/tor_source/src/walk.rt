@@ -4,6 +4,7 @@ ghost use Rattle.std.specs.String.{string_bytes};
 ghost use Rattle.tor_source.specs.steps.Order.{HasFound, IsAhead, IsEntered};
 ghost use Rattle.tor_source.specs.Places.{without_slash};
 ghost use Rattle.tor_source.specs.declared.faults.ScanFault.TheVariants.{Memory, TooDeep};
+ghost use Rattle.tor_source.specs.declared.walk.TheConstants.{MAX_NAMES};
 
 use crate::faults::ScanFault;
 use crate::listing::rising_names;
@@ -95,7 +96,7 @@ fn add_names<R: Files + AllocGlobal>(
     ensures { OnOk result ((found : List (List (List ℕ))) →
         IsEntered found above.now waiting.old.items → IsAhead found above.now waiting.new.items) }
 {
-    let mut names = rising_names(rt, place)?;
+    let mut names = rising_names(rt.alloc(), rt.open_dir(place)?)?;
     while let Some(name) = names.pop() {
         let depth = above.len();
         waiting.push(Entry { depth, name })?;
@@ -115,9 +116,9 @@ fn add_file(
         (found.new.paths.items ≡ found.old.paths.items ++ names.now ∷ [])
         × (map string_bytes found.new.places.items ≡ map string_bytes found.old.places.items ++ string_bytes place ∷ [])
         × (string_bytes found.new.folder ≡ string_bytes found.old.folder)
-        × (length names.now ≤ 64)) }
+        × (length names.now ≤ MAX_NAMES)) }
     ensures refused { IfErr result
-        (λ fault. ((fault ≡ TooDeep) × (64 < length names.now)) ⊎ (fault ≡ Memory)) }
+        (λ fault. ((fault ≡ TooDeep) × (MAX_NAMES < length names.now)) ⊎ (fault ≡ Memory)) }
 {
     if names.len() > MAX_NAMES {
         return Err(ScanFault::TooDeep);

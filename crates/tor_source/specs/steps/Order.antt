@@ -8,12 +8,13 @@ use Rattle.tor_tree.specs.Path.{path_cmp}
 use Rattle.tor_source.specs.Places.{place_below}
 use Rattle.tor_source.specs.declared.walk.Entry.{Entry}
 use Rattle.tor_source.specs.declared.walk.Found.{Found}
+use Rattle.tor_source.specs.declared.walk.TheConstants.{MAX_NAMES}
 
 -- files that were found below a place: their paths strictly rise and have at most 64 names, and each is where its
 -- path says
 pub record IsFound (place : List ℕ) (paths : List (List (List ℕ))) (places : List (List ℕ)) : Type 0 where
   pub rising : IsStrictlySortedBy path_cmp paths
-  pub short : All (λ path. length path ≤ 64) paths
+  pub short : All (λ path. length path ≤ MAX_NAMES) paths
   pub placed : places ≡ map (place_below place) paths
 
 abbrev pub HasFound : List ℕ → Found → Type 0

@@ -10,7 +10,7 @@ use Rattle.tor_source.proofs.walk.add_names.Goals as goal
 
 pub loop-name-init : goal.loop-name-init
 loop-name-init g c =
-    (c.in_ok-names.ensures, λ found start. (ahead_folder found c.args.above.now c.args.waiting.now.items start, λ k d lt. waiting_inside found (map (path_in c.args.above.now) c.args.waiting.now.items) c.args.above.now (get_or c.in_ok-names.names.items k d).items start.paths))
+    (c.in_ok-names.ensures.rising, λ found start. (ahead_folder found c.args.above.now c.args.waiting.now.items start, λ k d lt. waiting_inside found (map (path_in c.args.above.now) c.args.waiting.now.items) c.args.above.now (get_or c.in_ok-names.names.items k d).items start.paths))
 
 pub loop-name-preserved : goal.loop-name-preserved
 loop-name-preserved g c =
