@@ -1,3 +1,4 @@
+pub mod Added
 pub mod Ends
 pub mod Entries
 pub mod FoundFiles

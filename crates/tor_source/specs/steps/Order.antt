@@ -1,10 +1,11 @@
 -- For the invariant of `walk` alone: the order in which the files below a folder are found.
-use Rattle.std.specs.Prelude.{◌≡◌, ◌≤◌, ◌<◌, ◌++◌, ◌∷◌, [], ℕ, List, length, map, take}
+use Rattle.std.specs.Prelude.{◌≡◌, ◌≤◌, ◌<◌, ◌++◌, ◌∷◌, [], ℕ, List, length, map, take, drop}
 use Rattle.std.specs.List.{All, AllPairs}
 use Rattle.std.specs.List.Sorted.{IsStrictlySortedBy}
 use Rattle.std.specs.String.{string_bytes}
 use Rattle.std.specs.declared.cmp.Ordering.TheVariants.{Less}
 use Rattle.tor_tree.specs.Path.{path_cmp}
+use Rattle.tor_source.specs.Listing.{HasSameNames, names_in}
 use Rattle.tor_source.specs.Places.{place_below}
 use Rattle.tor_source.specs.declared.walk.Entry.{Entry}
 use Rattle.tor_source.specs.declared.walk.Found.{Found}
@@ -51,3 +52,11 @@ pub record IsEntered (found : List (List (List ℕ))) (path : List (List ℕ)) (
   pub paths : IsWaiting found (map (path_in path) entries ++ path ∷ [])
   pub nested : AreNested entries
   pub within : All (λ entry. entry.depth < length path) entries
+
+abbrev pub name_of : Entry → List ℕ
+name_of entry = entry.name.items
+
+-- entries that waited before, and after them the names in a folder with this listing
+pub record HasAdded (listing : List ℕ) (before after : List Entry) : Type 0 where
+  pub stay : take (length before) after ≡ before
+  pub named : HasSameNames (names_in listing) (map name_of (drop (length before) after))

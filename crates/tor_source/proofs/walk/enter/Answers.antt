@@ -12,7 +12,7 @@ returns-then-is_dir-clause-ahead g c =
     let path = c.push.new.self.items in
     let is : path ≡ path_in c.args.last.now.items c.args.entry = rw (c.in_ok-push.ensures.items, c.truncate.ensures.items, c.in_ok-new.ensures.made, c.deref.ensures.value) in
     let entered : IsEntered c.args.found.now.paths.items path c.args.waiting.now.items = rw is (entered_next c.args.found.now.paths.items c.args.last.now.items c.args.waiting.now.items c.args.entry c.requires.ahead) in
-    on_ok_weaker c.add_names.result (λ kept. rw c.deref-then-is_dir-2.ensures.value at (kept c.args.found.now.paths.items (rw c.deref-then-is_dir-2.ensures.value entered))) c.add_names.ensures
+    on_ok_weaker c.add_names.result (λ kept. rw c.deref-then-is_dir-2.ensures.value at (kept c.args.found.now.paths.items (rw c.deref-then-is_dir-2.ensures.value entered))) c.add_names.ensures.ahead
 
 pub returns-then-is_file-clause-found : goal.returns-then-is_file-clause-found
 returns-then-is_file-clause-found g c =
