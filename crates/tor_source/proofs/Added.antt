@@ -24,7 +24,8 @@ moved_none all before = record {
     drop_all [] = refl
     drop_all (x ∷ xs) = drop_all xs
 
-pub moved_more : (all left : List (Vec ℕ Global)) (before after : List Entry) (next : Entry) → IsMoved all (left ++ next.name ∷ []) before after → IsMoved all left before (after ++ next ∷ [])
+pub moved_more : (all left : List (Vec ℕ Global)) (before after : List Entry) (next : Entry)
+    → IsMoved all (left ++ next.name ∷ []) before after → IsMoved all left before (after ++ next ∷ [])
 moved_more all left before after next h =
     let within : length before ≤ length after = h.within in
     let gone : List (List ℕ) = map name_of (drop (length before) after) in
@@ -35,7 +36,9 @@ moved_more all left before after next h =
           (h.moved ∙ ap (λ names. names ++ reverse gone) (map_push vec_items left next.name) ∙ append_assoc (map vec_items left) (name_of next ∷ []) (reverse gone));
     }
 
-pub moved_all : (known : Option (List ℕ)) (all : List (Vec ℕ Global)) (before after : List Entry) → IfSome known (λ listing. HasSameNames (names_in listing) (map vec_items all)) → IsMoved all [] before after → IfSome known (λ listing. HasAdded listing before after)
+pub moved_all : (known : Option (List ℕ)) (all : List (Vec ℕ Global)) (before after : List Entry)
+    → IfSome known (λ listing. HasSameNames (names_in listing) (map vec_items all)) → IsMoved all [] before after
+    → IfSome known (λ listing. HasAdded listing before after)
 moved_all None all before after same h = tt
 moved_all (Some listing) all before after same h =
     let gone : List (List ℕ) = map name_of (drop (length before) after) in

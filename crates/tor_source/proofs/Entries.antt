@@ -9,13 +9,16 @@ use Rattle.tor_source.specs.steps.Order.{AreNested, IsAhead, IsEntered, IsWaitin
 use Rattle.tor_source.specs.declared.walk.Entry.{Entry}
 
 -- entries, and the path that was entered last
-same_path : (last : List (List ℕ)) (name : List ℕ) (deep : ℕ) (entry : Entry) → deep ≤ length last → entry.depth ≤ deep → path_in (take deep last ++ name ∷ []) entry ≡ path_in last entry
+same_path : (last : List (List ℕ)) (name : List ℕ) (deep : ℕ) (entry : Entry) → deep ≤ length last
+    → entry.depth ≤ deep → path_in (take deep last ++ name ∷ []) entry ≡ path_in last entry
 same_path last name deep entry within shallow =
     let long : length (take deep last) ≡ deep = length-take-le deep last within in
     let cut : take entry.depth (take deep last ++ name ∷ []) ≡ take entry.depth (take deep last) = take-append-le entry.depth (take deep last) (name ∷ []) (omega arith) in
     ap (λ names. names ++ entry.name.items ∷ []) (cut ∙ take-take entry.depth deep last shallow)
 
-same_paths : (last : List (List ℕ)) (name : List ℕ) (deep : ℕ) (entries : List Entry) → deep ≤ length last → AllByRecursion (λ entry. entry.depth ≤ deep) entries → map (path_in (take deep last ++ name ∷ [])) entries ≡ map (path_in last) entries
+same_paths : (last : List (List ℕ)) (name : List ℕ) (deep : ℕ) (entries : List Entry) → deep ≤ length last
+    → AllByRecursion (λ entry. entry.depth ≤ deep) entries
+    → map (path_in (take deep last ++ name ∷ [])) entries ≡ map (path_in last) entries
 same_paths last name deep [] within h = refl
 same_paths last name deep (entry ∷ entries) within h = rw (same_path last name deep entry within h.0, same_paths last name deep entries within h.1) refl
 
@@ -47,7 +50,8 @@ entered_first = record {
 }
 
 -- the next entry is entered
-pub entered_next : (found : List (List (List ℕ))) (last : List (List ℕ)) (entries : List Entry) (next : Entry) → IsAhead found last (entries ++ next ∷ []) → IsEntered found (path_in last next) entries
+pub entered_next : (found : List (List (List ℕ))) (last : List (List ℕ)) (entries : List Entry) (next : Entry)
+    → IsAhead found last (entries ++ next ∷ []) → IsEntered found (path_in last next) entries
 entered_next found last entries next h =
     let shallow = nested_next entries next h.nested in
     let every : next.depth ≤ length last = All-last (λ entry. entry.depth ≤ length last) entries next h.within in
@@ -63,7 +67,8 @@ entered_next found last entries next h =
     All-last P xs y all = rw (get_or_push xs y y (length xs) refl) at (all (length xs) y (omega (arith, length_push xs y)))
 
 -- it was a file
-pub ahead_file : (found : List (List (List ℕ))) (path : List (List ℕ)) (entries : List Entry) → IsEntered found path entries → IsAhead (found ++ path ∷ []) path entries
+pub ahead_file : (found : List (List (List ℕ))) (path : List (List ℕ)) (entries : List Entry)
+    → IsEntered found path entries → IsAhead (found ++ path ∷ []) path entries
 ahead_file found path entries h = record {
   paths = waiting_found found (map (path_in path) entries) path h.paths;
   nested = h.nested;
@@ -71,7 +76,8 @@ ahead_file found path entries h = record {
 }
 
 -- it was a folder
-pub ahead_folder : (found : List (List (List ℕ))) (path : List (List ℕ)) (entries : List Entry) → IsEntered found path entries → IsAhead found path entries
+pub ahead_folder : (found : List (List (List ℕ))) (path : List (List ℕ)) (entries : List Entry)
+    → IsEntered found path entries → IsAhead found path entries
 ahead_folder found path entries h = record {
   paths = waiting_rest found (map (path_in path) entries) path h.paths;
   nested = h.nested;
@@ -79,11 +85,15 @@ ahead_folder found path entries h = record {
 }
 
 -- and one more of its names waits
-pub path_inside : (path : List (List ℕ)) (entries : List Entry) (next : Entry) → next.depth ≡ length path → map (path_in path) (entries ++ next ∷ []) ≡ map (path_in path) entries ++ (path ++ next.name.items ∷ []) ∷ []
+pub path_inside : (path : List (List ℕ)) (entries : List Entry) (next : Entry) → next.depth ≡ length path
+    → map (path_in path) (entries ++ next ∷ []) ≡ map (path_in path) entries ++ (path ++ next.name.items ∷ []) ∷ []
 path_inside path entries next deep =
     map_push (path_in path) entries next ∙ ap (λ names. map (path_in path) entries ++ (names ++ next.name.items ∷ []) ∷ []) (take_all next.depth path (omega arith))
 
-pub ahead_name : (found : List (List (List ℕ))) (path : List (List ℕ)) (entries : List Entry) (next : Entry) → next.depth ≡ length path → IsAhead found path entries → IsWaiting found (map (path_in path) entries ++ (path ++ next.name.items ∷ []) ∷ []) → IsAhead found path (entries ++ next ∷ [])
+pub ahead_name : (found : List (List (List ℕ))) (path : List (List ℕ)) (entries : List Entry) (next : Entry)
+    → next.depth ≡ length path → IsAhead found path entries
+    → IsWaiting found (map (path_in path) entries ++ (path ++ next.name.items ∷ []) ∷ [])
+    → IsAhead found path (entries ++ next ∷ [])
 ahead_name found path entries next deep h waits = record {
   paths = rw (path_inside path entries next deep) waits;
   nested = nested_push entries next h.nested (rw deep h.within);

@@ -12,7 +12,8 @@ use Rattle.tor_source.specs.declared.walk.Entry.{Entry}
 use Rattle.tor_source.specs.declared.walk.TheConstants.{MAX_NAMES}
 
 -- a list that rises, without its last element
-pub rising_front : {K : Type 0} (R : K → K → Ordering) (xs : List K) (y : K) → IsStrictlySortedBy R (xs ++ y ∷ []) → IsStrictlySortedBy R xs × AllByRecursion (λ x. R x y ≡ Less) xs
+pub rising_front : {K : Type 0} (R : K → K → Ordering) (xs : List K) (y : K) → IsStrictlySortedBy R (xs ++ y ∷ [])
+    → IsStrictlySortedBy R xs × AllByRecursion (λ x. R x y ≡ Less) xs
 unfolding IsStrictlySortedBy
 rising_front R [] y h = (tt, tt)
 rising_front {K} R (x ∷ xs) y h =
@@ -24,16 +25,21 @@ rising_front {K} R (x ∷ xs) y h =
     split P [] g = (tt, g.0)
     split P (z ∷ zs) g = let later = split P zs g.1 in ((g.0, later.0), later.1)
 
-all_push : {X : Type 0} (P : X → Type 0) (xs : List X) (y : X) → AllByRecursion P xs → P y → AllByRecursion P (xs ++ y ∷ [])
+all_push : {X : Type 0} (P : X → Type 0) (xs : List X) (y : X) → AllByRecursion P xs → P y
+    → AllByRecursion P (xs ++ y ∷ [])
 all_push P [] y h p = (p, tt)
 all_push P (x ∷ xs) y h p = (h.0, all_push P xs y h.1 p)
 
-rising_push : {K : Type 0} (R : K → K → Ordering) (xs : List K) (y : K) → IsStrictlySortedBy R xs → AllByRecursion (λ x. R x y ≡ Less) xs → IsStrictlySortedBy R (xs ++ y ∷ [])
+rising_push : {K : Type 0} (R : K → K → Ordering) (xs : List K) (y : K) → IsStrictlySortedBy R xs
+    → AllByRecursion (λ x. R x y ≡ Less) xs → IsStrictlySortedBy R (xs ++ y ∷ [])
 unfolding IsStrictlySortedBy
 rising_push R [] y h below = (tt, tt)
 rising_push R (x ∷ xs) y h below = (all_push (λ z. R x z ≡ Less) xs y h.0 below.0, rising_push R xs y h.1 below.1)
 
-pub found_push : (place : List ℕ) (paths : List (List (List ℕ))) (places : List (List ℕ)) (path : List (List ℕ)) (at : List ℕ) (entries : List Entry) → IsFound place paths places → IsEntered paths path entries → length path ≤ MAX_NAMES → at ≡ place_below place path → IsFound place (paths ++ path ∷ []) (places ++ at ∷ [])
+pub found_push : (place : List ℕ) (paths : List (List (List ℕ))) (places : List (List ℕ)) (path : List (List ℕ))
+    → (at : List ℕ) (entries : List Entry)
+    → IsFound place paths places → IsEntered paths path entries → length path ≤ MAX_NAMES
+    → at ≡ place_below place path → IsFound place (paths ++ path ∷ []) (places ++ at ∷ [])
 found_push place paths places path at entries found entered short is = record {
   rising = rising_push path_cmp paths path found.rising (recursion_from_All (λ earlier. path_cmp earlier path ≡ Less) paths (next_before paths (map (path_in path) entries) path entered.paths));
   short = All-push (λ p. length p ≤ MAX_NAMES) paths path found.short short;

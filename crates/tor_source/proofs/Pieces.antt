@@ -43,7 +43,8 @@ names_first xs = elim (parts xs) [
   | inr last ↦ rw (last.0, last.1) (sym (append-nil (filter is_listed (first_piece 0 xs ∷ []))))
 ]
   where
-    filter_cons : (p : List ℕ → Bool) (x : List ℕ) (xs : List (List ℕ)) → filter p (x ∷ xs) ≡ filter p (x ∷ []) ++ filter p xs
+    filter_cons : (p : List ℕ → Bool) (x : List ℕ) (xs : List (List ℕ))
+        → filter p (x ∷ xs) ≡ filter p (x ∷ []) ++ filter p xs
     filter_cons p x xs = by_test (p x)
       where
         by_test : (b : Bool) → cond b (x ∷ filter p xs) (filter p xs) ≡ cond b (x ∷ []) [] ++ filter p xs
@@ -64,13 +65,16 @@ read_none known left same = rw same (itself known)
     itself (Some listing) = refl
 
 -- one more piece
-pub read_more : (known old new : Option (List ℕ)) (names : List (List ℕ)) (piece : List ℕ) (byte : ℕ) → byte ≡ 0 → HasRead known old names → IfSome old (λ xs. (0 < length xs) × (piece ≡ first_piece byte xs)) → DropsThrough old new byte → HasRead known new (names ++ filter is_listed (piece ∷ []))
+pub read_more : (known old new : Option (List ℕ)) (names : List (List ℕ)) (piece : List ℕ) (byte : ℕ) → byte ≡ 0
+    → HasRead known old names → IfSome old (λ xs. (0 < length xs) × (piece ≡ first_piece byte xs))
+    → DropsThrough old new byte → HasRead known new (names ++ filter is_listed (piece ∷ []))
 read_more None old new names piece byte zero read is rest = tt
 read_more (Some listing) None new names piece byte zero read is rest = absurd read
 read_more (Some listing) (Some xs) new names piece byte zero read is rest =
     rw (rest, zero, is.1, zero) (read ∙ ap (λ more. names ++ more) (names_first xs) ∙ sym (append_assoc names (filter is_listed (first_piece 0 xs ∷ [])) (names_in (drop_through 0 xs))))
 
-pub read_all : (known left : Option (List ℕ)) (names : List (List ℕ)) → HasRead known left names → IsAtEnd left → IfSome known (λ listing. names ≡ names_in listing)
+pub read_all : (known left : Option (List ℕ)) (names : List (List ℕ)) → HasRead known left names → IsAtEnd left
+    → IfSome known (λ listing. names ≡ names_in listing)
 read_all None left names read end = tt
 read_all (Some listing) None names read end = absurd read
 read_all (Some listing) (Some xs) names read end = sym (read ∙ ap (λ rest. names ++ names_in rest) end ∙ append-nil names)

@@ -22,7 +22,8 @@ same_bytes (x ∷ xs) (y ∷ ys) e =
     let parts = and_parts (nat_eq x y) (pointwise nat_eq xs ys) e in
     rw (eqb-true x y parts.0, same_bytes xs ys parts.1) refl
 
-in_map : {X : Type 0} (f : X → List ℕ) (xs : List X) (name : List ℕ) → Contains (map f xs) name → (x : X) × Contains xs x × (f x ≡ name)
+in_map : {X : Type 0} (f : X → List ℕ) (xs : List X) (name : List ℕ) → Contains (map f xs) name
+    → (x : X) × Contains xs x × (f x ≡ name)
 in_map f [] name (k, within, is) = absurd (omega arith)
 in_map f (x ∷ xs) name (zero, within, is) = (x, (0, omega arith, refl), is)
 in_map f (x ∷ xs) name (suc k, within, is) =
@@ -53,7 +54,10 @@ module _ (found sorted : List Name) (moved : IsPermutation found sorted) where
       let before = Contains-from_dedup (on vec_items (pointwise nat_eq)) sorted one here in
       rw is at (to_map vec_items found one (Contains-permutation sorted found one (IsPermutation-sym found sorted moved) before))
 
-pub all_names : (known read : Option (List ℕ)) (found sorted left : List Name) → read ≡ known → IfSome read (λ listing. map vec_items found ≡ names_in listing) → IsPermutation found sorted → left ≡ dedup (on vec_items (pointwise nat_eq)) sorted → IfSome known (λ listing. HasSameNames (names_in listing) (map vec_items left))
+pub all_names : (known read : Option (List ℕ)) (found sorted left : List Name) → read ≡ known
+    → IfSome read (λ listing. map vec_items found ≡ names_in listing) → IsPermutation found sorted
+    → left ≡ dedup (on vec_items (pointwise nat_eq)) sorted
+    → IfSome known (λ listing. HasSameNames (names_in listing) (map vec_items left))
 all_names None read found sorted left same are moved is = tt
 all_names (Some listing) read found sorted left same are moved is =
     let listed = rw same at are in

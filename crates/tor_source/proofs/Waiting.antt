@@ -34,7 +34,8 @@ module _ (found waiting : List (List (List ℕ))) (next : List (List ℕ)) where
       let at_end : get_or (waiting ++ next ∷ []) (length waiting) d ≡ next = get_or_push waiting next d (length waiting) refl in
       rw (at_k, at_end) at (h.apart k (length waiting) d within all)
 
-  waiting_push : IsWaiting found waiting → All (λ later. IsPast next later) waiting → AreBefore next found → IsWaiting found (waiting ++ next ∷ [])
+  waiting_push : IsWaiting found waiting → All (λ later. IsPast next later) waiting → AreBefore next found
+      → IsWaiting found (waiting ++ next ∷ [])
   waiting_push h past before = record {
     apart = λ i j d lt within. elim (cases_lt j (length waiting)) [
       | inl inside ↦ rw (get_or_append_left waiting (next ∷ []) d i (omega arith), get_or_append_left waiting (next ∷ []) d j inside) (h.apart i j d lt inside)
@@ -48,7 +49,8 @@ module _ (found waiting : List (List (List ℕ))) (next : List (List ℕ)) where
   }
 
 -- a file is found
-pub waiting_found : (found waiting : List (List (List ℕ))) (path : List (List ℕ)) → IsWaiting found (waiting ++ path ∷ []) → IsWaiting (found ++ path ∷ []) waiting
+pub waiting_found : (found waiting : List (List (List ℕ))) (path : List (List ℕ))
+    → IsWaiting found (waiting ++ path ∷ []) → IsWaiting (found ++ path ∷ []) waiting
 waiting_found found waiting path h =
     let rest = waiting_rest found waiting path h in
     let past = next_past found waiting path h in
@@ -58,7 +60,8 @@ waiting_found found waiting path h =
     }
 
 -- a folder is entered: each of its names may be the next
-pub waiting_inside : (found waiting : List (List (List ℕ))) (folder : List (List ℕ)) (name : List ℕ) → IsWaiting found (waiting ++ folder ∷ []) → IsWaiting found (waiting ++ (folder ++ name ∷ []) ∷ [])
+pub waiting_inside : (found waiting : List (List (List ℕ))) (folder : List (List ℕ)) (name : List ℕ)
+    → IsWaiting found (waiting ++ folder ∷ []) → IsWaiting found (waiting ++ (folder ++ name ∷ []) ∷ [])
 waiting_inside found waiting folder name h =
     let deeper : (later : List (List ℕ)) → IsPast folder later → IsPast (folder ++ name ∷ []) later = λ later past more. rw append_assoc (past (name ∷ more)) in
     waiting_push found waiting (folder ++ name ∷ []) (waiting_rest found waiting folder h)
@@ -66,7 +69,10 @@ waiting_inside found waiting folder name h =
     (before_longer folder name found (next_before found waiting folder h))
 
 -- a name waits, and one before it may be the next
-pub waiting_name : (found waiting : List (List (List ℕ))) (folder : List (List ℕ)) (name later : List ℕ) → name_cmp name later ≡ Less → IsWaiting found (waiting ++ (folder ++ later ∷ []) ∷ []) → IsWaiting found (waiting ++ (folder ++ name ∷ []) ∷ []) → IsWaiting found ((waiting ++ (folder ++ later ∷ []) ∷ []) ++ (folder ++ name ∷ []) ∷ [])
+pub waiting_name : (found waiting : List (List (List ℕ))) (folder : List (List ℕ)) (name later : List ℕ)
+    → name_cmp name later ≡ Less → IsWaiting found (waiting ++ (folder ++ later ∷ []) ∷ [])
+    → IsWaiting found (waiting ++ (folder ++ name ∷ []) ∷ [])
+    → IsWaiting found ((waiting ++ (folder ++ later ∷ []) ∷ []) ++ (folder ++ name ∷ []) ∷ [])
 waiting_name found waiting folder name later less after here =
     waiting_push found (waiting ++ (folder ++ later ∷ []) ∷ []) (folder ++ name ∷ []) after
     (All-push (λ path. IsPast (folder ++ name ∷ []) path) waiting (folder ++ later ∷ []) (next_past found waiting (folder ++ name ∷ []) here) (past_next folder name later less))

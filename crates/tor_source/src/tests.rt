@@ -129,8 +129,8 @@ fn lists_a_folder_of_many_names(rt: HostRuntime) -> Result<(), Fail> {
 }
 
 // A system that has what no test can make: in its folder `top` are these names, each ended by a zero byte. A name that
-// ends in `file` is a file, in `folder` an empty folder, and in `locked` a folder that may not be read. All others stand
-// for a FIFO. Where the listing breaks, a read after its last name fails.
+// ends in `file` is a file, in `folder` an empty folder, and in `locked` a folder that may not be read. All others
+// stand for a FIFO. Where the listing breaks, a read after its last name fails.
 #[derive(Clone, Drop)]
 struct Listed {
     rt: HostRuntime,

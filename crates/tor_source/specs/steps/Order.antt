@@ -29,7 +29,8 @@ AreBefore path paths = All (λ earlier. path_cmp earlier path ≡ Less) paths
 abbrev pub IsPast : List (List ℕ) → List (List ℕ) → Type 0
 IsPast path later = (more : List (List ℕ)) → path_cmp (path ++ more) later ≡ Less
 
--- paths that wait, the next one last, while others were found: each is past those after it, and past all that were found
+-- paths that wait, the next one last, while others were found: each is past those after it, and past all that were
+-- found
 pub record IsWaiting (found : List (List (List ℕ))) (waiting : List (List (List ℕ))) : Type 0 where
   pub apart : AllPairs (λ later sooner. IsPast sooner later) waiting
   pub before : All (λ path. AreBefore path found) waiting
