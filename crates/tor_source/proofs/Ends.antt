@@ -6,7 +6,8 @@ use Rattle.tor_source.specs.Places.{without_slash}
 use borrow.Author.Tests.{eqb-true}
 
 -- the last byte of a list that has one
-last_of : (place : List ℕ) → 0 < length place → place ≡ take (length place - 1) place ++ get_or place (length place - 1) 0 ∷ []
+last_of : (place : List ℕ) → 0 < length place
+    → place ≡ take (length place - 1) place ++ get_or place (length place - 1) 0 ∷ []
 last_of place some =
     let whole : take (length place - 1 + 1) place ≡ place = take_all (length place - 1 + 1) place (omega arith) in
     sym whole ∙ take_more place (length place - 1) 0 (omega arith)
@@ -14,7 +15,8 @@ last_of place some =
 pub no_slash : (place : List ℕ) → ((front : List ℕ) → place ≢ front ++ 47 ∷ []) → place ≡ without_slash place
 no_slash place none = by_test (get_or place (length place - 1) 0 == 47) refl
   where
-    by_test : (b : Bool) → (get_or place (length place - 1) 0 == 47) ≡ b → place ≡ cond b (take (length place - 1) place) place
+    by_test : (b : Bool) → (get_or place (length place - 1) 0 == 47) ≡ b
+        → place ≡ cond b (take (length place - 1) place) place
     by_test false e = refl
     by_test true e =
         let last : get_or place (length place - 1) 0 ≡ 47 = eqb-true _ _ e in

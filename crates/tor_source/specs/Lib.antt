@@ -1,3 +1,4 @@
 pub mod Faults
-pub mod Order
+pub mod Listing
 pub mod Places
+pub mod steps

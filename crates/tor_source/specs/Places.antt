@@ -1,15 +1,17 @@
 -- Where the system has the files below a folder: places and names are lists of bytes.
-use Rattle.std.specs.Prelude.{ℕ, ◌==◌, ◌-◌, ◌++◌, ◌∷◌, List, length, take, slice_index, if◌then◌else◌}
+use Rattle.std.specs.Prelude.{ℕ, ◌==◌, ◌-◌, ◌++◌, ◌∷◌, [], List, length, take, slice_index, if◌then◌else◌}
 use Rattle.std.specs.List.{flat_map}
+use Rattle.tor_tree.specs.Name.{slash}
 
 -- a place, less the slash at its end if it has one
 abbrev pub without_slash : List ℕ → List ℕ
-without_slash place = if slice_index place (length place - 1) == 47 then take (length place - 1) place else place
+without_slash place = if slice_index place (length place - 1) == slash then take (length place - 1) place else place
 
 -- a place, and each name after a slash
 abbrev pub place_below : List ℕ → List (List ℕ) → List ℕ
-place_below place names = place ++ flat_map (λ name. 47 ∷ name) names
+place_below place names = place ++ flat_map (λ name. slash ∷ name) names
 
--- where a folder has the file that these names lead to
+-- where a folder has the file that these names lead to; the empty place is no folder, and has them at the empty place,
+-- where nothing ever is
 abbrev pub place_of : List ℕ → List (List ℕ) → List ℕ
-place_of folder names = place_below (without_slash folder) names
+place_of folder names = if length folder == 0 then [] else place_below (without_slash folder) names

@@ -1,3 +1,4 @@
+//! Why the files below a folder are no list.
 ghost use Rattle.std.specs.Prelude.{◌≡◌};
 ghost use Rattle.std.specs.IoError.{error_kind};
 ghost use Rattle.tor_source.specs.Faults.{fault_of_kind, fault_of_name};

@@ -1,7 +1,10 @@
-ghost use Rattle.std.specs.Prelude.{◌≡◌, ◌≤◌, ◌∷◌, [], IfOk, length, map};
+//! Where the system has the files below a folder, or a file by itself.
+ghost use Rattle.std.specs.Prelude.{◌≡◌, ◌≤◌, ◌∷◌, [], Err, IfOk, length, map};
 ghost use Rattle.std.specs.List.{All};
 ghost use Rattle.std.specs.List.Sorted.{IsStrictlySortedBy};
 ghost use Rattle.tor_source.specs.Places.{place_of};
+ghost use Rattle.tor_source.specs.declared.faults.ScanFault.TheVariants.{System};
+ghost use Rattle.tor_source.specs.declared.walk.TheConstants.{MAX_NAMES};
 ghost use Rattle.tor_tree.specs.Path.{path_cmp};
 
 use crate::faults::ScanFault;
@@ -31,12 +34,17 @@ impl<R: Files> Model for FolderSource<R> {
 
 impl<R: Files + AllocGlobal + Clone + Drop> FolderSource<R> {
     /// All files below the folder `path`, in the order of their paths. A folder is listed whole, then its names are
-    /// entered in the order of their bytes; the first fault so met is answered. Empty folders give nothing.
+    /// entered in the order of their bytes; the first fault so met is answered. Empty folders give nothing. The empty
+    /// path is no folder.
     pub fn scan(rt: &R, path: &str) -> Result<(FolderSource<R>, Vec<FilePath>), ScanFault>
         ensures placed { IfOk result (λ found. found.0 ≡ map (place_of path.now) found.1.items) }
         ensures rising { IfOk result (λ found. IsStrictlySortedBy path_cmp found.1.items) }
-        ensures short { IfOk result (λ found. All (λ names. length names ≤ 64) found.1.items) }
+        ensures short { IfOk result (λ found. All (λ names. length names ≤ MAX_NAMES) found.1.items) }
+        ensures nowhere { path.now ≡ [] → result ≡ Err System }
     {
+        if path.is_empty() {
+            return Err(ScanFault::System);
+        }
         let metadata = rt.metadata(path)?;
         if metadata.is_file() {
             return Err(ScanFault::System);
@@ -52,7 +60,7 @@ impl<R: Files + AllocGlobal + Clone + Drop> FolderSource<R> {
         Ok((source, found.paths))
     }
 
-    /// These files below the folder `path`, whether they are there or not.
+    /// These files below the folder `path`, whether they are there or not. Below the empty path none is.
     pub fn at(rt: &R, path: &str, files: Vec<FilePath>) -> Result<FolderSource<R>, AllocError>
         ensures { IfOk result (λ source. source ≡ map (place_of path.now) files.items) }
     {

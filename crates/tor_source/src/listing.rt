@@ -1,41 +1,50 @@
 //! The names in one folder.
-ghost use Rattle.std.specs.Prelude.{IfOk};
+ghost use Rattle.std.specs.Prelude.{◌≡◌, IfOk, IfSome, map, vec_items};
 ghost use Rattle.std.specs.List.Sorted.{IsStrictlySortedBy};
+ghost use Rattle.tor_source.specs.Listing.{HasSameNames, is_listed, names_in};
 ghost use Rattle.tor_tree.specs.Path.{name_cmp};
 
 use crate::faults::ScanFault;
-use std::io::{BufRead, BufReader};
-use std::rt::Files;
+use std::alloc::Global;
+use std::io::{BufRead, BufReader, Read};
 
-/// How many bytes of a folder's names are read at once.
+/// How many bytes of a folder's names are read at once. A read of a folder needs room for one whole name at least.
 const ROOM: usize = 32768;
 
-/// The names in the folder `path` but `.` and `..`, each once, rising by their bytes.
-pub(crate) fn rising_names<R: Files + AllocGlobal>(
-    rt: &R,
-    path: &str,
+/// The names in a folder but `.` and `..`, each once, rising by their bytes.
+pub(crate) fn rising_names<D: Read + Drop>(
+    alloc: Global,
+    folder: D,
 ) -> Result<Vec<Vec<u8>>, ScanFault>
-    ensures { IfOk result
+    ensures rising { IfOk result
         (λ names. IsStrictlySortedBy (λ name next. name_cmp name.items next.items) names.items) }
+    ensures all { IfSome (D.remaining folder)
+        (λ listing. IfOk result (λ names. HasSameNames (names_in listing) (map vec_items names.items))) }
 {
-    let mut names = names_in(rt, path)?;
+    let mut names = names_of(alloc, BufReader::with_capacity(alloc, ROOM, folder)?)?;
     names.sort()?;
     names.dedup();
     Ok(names)
 }
 
-// The names in a folder but `.` and `..`, as the system lists them: each ended by a zero byte. A read of a folder needs
-// room for one whole name at least, which the reader gives: it reads into the whole of its buffer.
-fn names_in<R: Files + AllocGlobal>(rt: &R, path: &str) -> Result<Vec<Vec<u8>>, ScanFault> {
-    let alloc = rt.alloc();
-    let folder = BufReader::with_capacity(alloc, ROOM, rt.open_dir(path)?)?;
+/// The names in a folder but `.` and `..`, as the system lists them.
+fn names_of<B: BufRead + Drop>(alloc: Global, folder: B) -> Result<Vec<Vec<u8>>, ScanFault>
+    ensures { IfSome (B.remaining folder)
+        (λ listing. IfOk result (λ names. map vec_items names.items ≡ names_in listing)) }
+{
     let mut names = Vec::new(alloc);
     for name in folder.split(alloc, 0) {
         let name = name?;
-        match name.as_slice() {
-            [] | [b'.'] | [b'.', b'.'] => {}
-            _ => names.push(name)?,
+        if is_listed(&name) {
+            names.push(name)?;
         }
     }
     Ok(names)
+}
+
+/// Whether this names a file or a folder in the one that is listed.
+fn is_listed(piece: &[u8]) -> bool
+    ensures { result ≡ is_listed piece.now }
+{
+    !matches!(piece, [] | [b'.'] | [b'.', b'.'])
 }

@@ -4,13 +4,16 @@ ghost use Rattle.std.specs.String.{string_bytes};
 ghost use Rattle.tor_source.specs.Places.{place_below, place_of, without_slash};
 
 use std::alloc::{AllocError, Global};
-use std::str;
 use tor_tree::{FilePath, Name};
 
-/// The place of the file that the path leads to from a folder.
+/// The place of the file that the path leads to from a folder. The empty place is no folder: below it each file is at
+/// the empty place, where the system has nothing.
 pub(crate) fn place_of(alloc: Global, folder: &str, file: &FilePath) -> Result<String, AllocError>
     ensures { IfOk result (λ place. string_bytes place ≡ place_of folder.now file.now) }
 {
+    if folder.is_empty() {
+        return Ok(String::new(alloc));
+    }
     place_below(alloc, without_slash(folder), file.names())
 }
 
@@ -22,7 +25,7 @@ pub(crate) fn place_below(alloc: Global, place: &str, names: &[Name]) -> Result<
     below.push_str(place)?;
     for name in names {
         below.push('/')?;
-        below.push_str(text_of(name))?;
+        below.push_str(name.as_str())?;
     }
     Ok(below)
 }
@@ -45,15 +48,5 @@ pub(crate) fn without_slash(folder: &str) -> &str
     match folder.strip_suffix('/') {
         Some(rest) => rest,
         None => folder,
-    }
-}
-
-// A name's bytes are text.
-fn text_of(name: &Name) -> &str
-    ensures { result.now ≡ name.now }
-{
-    match str::from_utf8(name.as_bytes()) {
-        Ok(text) => text,
-        Err(_) => unreachable!(),
     }
 }

@@ -1,11 +1,12 @@
+//! Scans of real folders, and of a system that has what no test can make.
 use crate::{FolderSource, ScanFault};
 use std::alloc::{AllocError, Allocator, Global};
 use std::fs::{File, Metadata, OpenOptions};
-use std::io::Cursor;
+use std::io::{Cursor, Read};
 use std::rt::Files;
 use std::test::Fail;
 use std::{env, fs, io, process};
-use tor_tree::FilePath;
+use tor_tree::{FilePath, Name};
 
 // A new folder below the system's folder for temporary files.
 fn new_folder(rt: &HostRuntime, name: &str) -> io::Result<String> {
@@ -40,16 +41,16 @@ fn lists_files_in_the_order_of_their_paths(rt: HostRuntime) -> Result<(), Fail> 
     let folder = new_folder(&rt, "order")?;
     rt.create_dir(&below(alloc, &folder, "a")?)?;
     rt.create_dir(&below(alloc, &folder, "d")?)?;
-    for name in ["b", "a-b", "a/c"] {
+    for name in ["b", "a-b", "a/c", ".e"] {
         fs::write(&rt, below(alloc, &folder, name)?.as_str(), "")?;
     }
     let (source, paths) = FolderSource::scan(&rt, &folder)?;
-    assert_eq!(rt; source.count(), 3);
+    assert_eq!(rt; source.count(), 4);
     assert_eq!(rt;
         shown(alloc, &paths)?.as_slice(),
-        b"/a/c /a-b /b ".as_slice()
+        b"/.e /a/c /a-b /b ".as_slice()
     );
-    assert_eq!(rt; FolderSource::at(&rt, &folder, paths)?.count(), 3);
+    assert_eq!(rt; FolderSource::at(&rt, &folder, paths)?.count(), 4);
     assert_eq!(rt; FolderSource::single(&rt, &folder)?.count(), 1);
     rt.remove_dir_all(alloc, &folder)?;
     Ok(())
@@ -79,11 +80,14 @@ fn refuses_a_file_of_more_than_64_names(rt: HostRuntime) -> Result<(), Fail> {
     let alloc = rt.alloc();
     let folder = new_folder(&rt, "deep")?;
     let mut place = String::from_str(alloc, &folder)?;
-    for _ in 0..64 {
+    for _ in 0..63 {
         place.push_str("/n")?;
         rt.create_dir(&place)?;
     }
+    fs::write(&rt, below(alloc, &place, "f")?.as_str(), "")?;
     assert!(rt; fault(&rt, &folder).is_none());
+    place.push_str("/n")?;
+    rt.create_dir(&place)?;
     fs::write(&rt, below(alloc, &place, "f")?.as_str(), "")?;
     assert!(rt; matches!(fault(&rt, &folder), Some(ScanFault::TooDeep)));
     rt.remove_dir_all(alloc, &folder)?;
@@ -91,27 +95,62 @@ fn refuses_a_file_of_more_than_64_names(rt: HostRuntime) -> Result<(), Fail> {
 }
 
 #[test]
+fn finds_nothing_in_65_empty_folders_inside_one_another(rt: HostRuntime) -> Result<(), Fail> {
+    let alloc = rt.alloc();
+    let folder = new_folder(&rt, "nested")?;
+    let mut place = String::from_str(alloc, &folder)?;
+    for _ in 0..65 {
+        place.push_str("/n")?;
+        rt.create_dir(&place)?;
+    }
+    let (source, paths) = FolderSource::scan(&rt, &folder)?;
+    assert_eq!(rt; source.count(), 0);
+    assert_eq!(rt; paths.len(), 0);
+    rt.remove_dir_all(alloc, &folder)?;
+    Ok(())
+}
+
+// More names than are read at once.
+#[test]
 fn lists_a_folder_of_many_names(rt: HostRuntime) -> Result<(), Fail> {
     let alloc = rt.alloc();
     let folder = new_folder(&rt, "many")?;
-    for number in 0..1000u32 {
-        let place = format!(in alloc; "{folder}/{number}")?;
-        fs::write(&rt, place.as_str(), "")?;
+    let mut wanted = Vec::new(alloc);
+    for number in 10000..15001u32 {
+        let name = format!(in alloc; "file {number}")?;
+        fs::write(&rt, below(alloc, &folder, &name)?.as_str(), "")?;
+        wanted.extend_from_slice(format!(in alloc; "/{name} ")?.as_bytes())?;
     }
     let (source, paths) = FolderSource::scan(&rt, &folder)?;
-    assert_eq!(rt; source.count(), 1000);
-    assert_eq!(rt; paths.len(), 1000);
+    assert_eq!(rt; source.count(), 5001);
+    assert!(rt; shown(alloc, &paths)?.as_slice() == wanted.as_slice());
     rt.remove_dir_all(alloc, &folder)?;
     Ok(())
 }
 
 // A system that has what no test can make: in its folder `top` are these names, each ended by a zero byte. A name that
-// ends in `file` is a file, in `folder` an empty folder, and in `locked` a folder that may not be read. All others stand
-// for a FIFO.
+// ends in `file` is a file, in `folder` an empty folder, and in `locked` a folder that may not be read. All others
+// stand for a FIFO. Where the listing breaks, a read after its last name fails.
 #[derive(Clone, Drop)]
 struct Listed {
     rt: HostRuntime,
     names: Vec<u8>,
+    breaks: bool,
+}
+
+#[derive(Drop)]
+struct Listing {
+    names: Cursor<Vec<u8>>,
+    breaks: bool,
+}
+
+impl Read for Listing {
+    fn read(&mut self, buffer: &mut [u8]) -> io::Result<usize> {
+        match self.names.read(buffer)? {
+            0 if self.breaks => Err(io::Error::from(io::ErrorKind::TimedOut)),
+            count => Ok(count),
+        }
+    }
 }
 
 impl Alloc for Listed {
@@ -125,18 +164,21 @@ impl Alloc for Listed {
 impl Files for Listed {
     type File = File;
 
-    type Dir = Cursor<Vec<u8>>;
+    type Dir = Listing;
 
     fn open_file(&self, how: &OpenOptions, path: &str) -> io::Result<File> {
         self.rt.open_file(how, path)
     }
 
-    fn open_dir(&self, path: &str) -> io::Result<Cursor<Vec<u8>>> {
+    fn open_dir(&self, path: &str) -> io::Result<Listing> {
         if path.ends_with("locked") {
             return Err(io::Error::from(io::ErrorKind::PermissionDenied));
         }
         let names: &[u8] = if path == "top/" { &self.names } else { b"" };
-        Ok(Cursor::new(Vec::from_slice(self.alloc(), names)?))
+        Ok(Listing {
+            names: Cursor::new(Vec::from_slice(self.alloc(), names)?),
+            breaks: self.breaks,
+        })
     }
 
     fn metadata(&self, path: &str) -> io::Result<Metadata> {
@@ -178,14 +220,15 @@ impl Files for Listed {
     }
 }
 
-// What a scan of `top` with these names gives: its paths, or why there are none.
-fn told(rt: &HostRuntime, names: &[u8]) -> io::Result<Vec<u8>> {
+// What a scan of this path gives where `top` has these names: its paths, or why there are none.
+fn told(rt: &HostRuntime, path: &str, names: &[u8], breaks: bool) -> io::Result<Vec<u8>> {
     let alloc = rt.alloc();
     let listed = Listed {
         rt: rt.clone()?,
         names: Vec::from_slice(alloc, names)?,
+        breaks,
     };
-    match FolderSource::scan(&listed, "top") {
+    match FolderSource::scan(&listed, path) {
         Ok((_source, paths)) => Ok(shown(alloc, &paths)?),
         Err(fault) => Ok(format!(in alloc; "{fault}")?.into_bytes()),
     }
@@ -193,22 +236,45 @@ fn told(rt: &HostRuntime, names: &[u8]) -> io::Result<Vec<u8>> {
 
 #[test]
 fn answers_the_first_fault_in_the_order_of_names(rt: HostRuntime) -> Result<(), Fail> {
+    let cases: [(&[u8], &str); 7] = [
+        (b"\xff\0a file\0", "F1 NotUtf8"),
+        (b"\xff\0fifo\0", "F2 NotRegular"),
+        (b"fifo\0a locked\0", "F4 System"),
+        (
+            b"b file\0..\0a file\0.\0a folder\0b file\0",
+            "/a file /b file ",
+        ),
+        (b".file\0...file\0\0..file\0", "/...file /..file /.file "),
+        (b"a file\0b file", "/a file /b file "),
+        (b"", ""),
+    ];
+    for (names, want) in cases {
+        let told = told(&rt, "top", names, false)?;
+        assert_eq!(rt; told.as_slice(), want.as_bytes(), "at {names:?}");
+    }
+    Ok(())
+}
+
+#[test]
+fn tells_a_listing_that_breaks_off(rt: HostRuntime) -> Result<(), Fail> {
+    for names in [b"".as_slice(), b"a file\0", b"a file\0b fi"] {
+        let told = told(&rt, "top", names, true)?;
+        assert_eq!(rt; told.as_slice(), b"F4 System".as_slice(), "at {names:?}");
+    }
+    Ok(())
+}
+
+// The system of these tests would tell of a FIFO, were it asked.
+#[test]
+fn has_no_file_below_the_empty_place(rt: HostRuntime) -> Result<(), Fail> {
     assert_eq!(rt;
-        told(&rt, b"\xff\0a file\0")?.as_slice(),
-        b"F1 NotUtf8".as_slice()
-    );
-    assert_eq!(rt;
-        told(&rt, b"\xff\0fifo\0")?.as_slice(),
-        b"F2 NotRegular".as_slice()
-    );
-    assert_eq!(rt;
-        told(&rt, b"fifo\0a locked\0")?.as_slice(),
+        told(&rt, "", b"a file\0", false)?.as_slice(),
         b"F4 System".as_slice()
     );
-    assert_eq!(rt;
-        told(&rt, b"b file\0..\0a file\0.\0a folder\0b file\0")?.as_slice(),
-        b"/a file /b file ".as_slice()
-    );
-    assert_eq!(rt; told(&rt, b"")?.as_slice(), b"".as_slice());
+    assert!(rt; matches!(fault(&rt, ""), Some(ScanFault::System)));
+    assert!(rt; rt.metadata("").is_err());
+    let names = vec![in rt.alloc(); Name::new(rt.alloc(), b"proc")?]?;
+    let files = vec![in rt.alloc(); FilePath::new(names).ok_or("a path")?]?;
+    assert_eq!(rt; FolderSource::at(&rt, "", files)?.count(), 1);
     Ok(())
 }

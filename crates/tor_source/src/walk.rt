@@ -1,16 +1,18 @@
 //! The files below a folder, in the order of their paths.
-ghost use Rattle.std.specs.Prelude.{◌≡◌, ◌<◌, ◌≤◌, ◌∷◌, ◌++◌, ◌⊎◌, ◌≢◌, ℕ, List, [], IfErr, IfOk, OnOk, length, map};
+ghost use Rattle.std.specs.Prelude.{◌≡◌, ◌<◌, ◌≤◌, ◌∷◌, ◌++◌, ◌⊎◌, ◌≢◌, ℕ, List, [], IfErr, IfOk, IfSome, OnOk, length, map};
 ghost use Rattle.std.specs.String.{string_bytes};
-ghost use Rattle.tor_source.specs.Order.{HasFound, IsAhead, IsEntered};
+ghost use Rattle.tor_source.specs.steps.Order.{HasAdded, HasFound, IsAhead, IsEntered};
 ghost use Rattle.tor_source.specs.Places.{without_slash};
 ghost use Rattle.tor_source.specs.declared.faults.ScanFault.TheVariants.{Memory, TooDeep};
+ghost use Rattle.tor_source.specs.declared.walk.TheConstants.{MAX_NAMES};
 
 use crate::faults::ScanFault;
 use crate::listing::rising_names;
 use crate::places::{place_below, without_slash};
-use std::alloc::{AllocError, Global};
+use std::alloc::Global;
+use std::io::Read;
 use std::rt::Files;
-use tor_tree::{FilePath, Name};
+use tor_tree::{FilePath, Name, copies};
 
 /// The most names in a path.
 const MAX_NAMES: usize = 64;
@@ -45,8 +47,9 @@ pub(crate) fn walk<R: Files + AllocGlobal>(rt: &R, root: &str) -> Result<Found, 
     };
     let mut last = Vec::new(alloc);
     let mut waiting = Vec::new(alloc);
+    // A symbolic link is followed only at a place that ends in a slash.
     let top = format!(in alloc; "{root}/")?;
-    add_names(rt, &top, &last, &mut waiting)?;
+    add_names(alloc, rt.open_dir(&top)?, &last, &mut waiting)?;
     for _ in 0..u64::MAX {
         let Some(entry) = waiting.pop() else {
             return Ok(found);
@@ -56,8 +59,8 @@ pub(crate) fn walk<R: Files + AllocGlobal>(rt: &R, root: &str) -> Result<Found, 
     Err(ScanFault::System)
 }
 
-/// Adds a file to those that were found, or the names in a folder to those that wait. Its path takes the place of `last`,
-/// the one that was entered before.
+/// Adds a file to those that were found, or the names in a folder to those that wait. Its path takes the place of
+/// `last`, the one that was entered before.
 fn enter<R: Files + AllocGlobal>(
     rt: &R,
     entry: Entry,
@@ -76,7 +79,7 @@ fn enter<R: Files + AllocGlobal>(
     let place = place_below(rt.alloc(), &found.folder, last)?;
     let metadata = rt.symlink_metadata(&place)?;
     if metadata.is_dir() {
-        return add_names(rt, &place, last, waiting);
+        return add_names(rt.alloc(), rt.open_dir(&place)?, last, waiting);
     }
     if metadata.is_file() {
         return add_file(rt.alloc(), place, last, found);
@@ -84,18 +87,19 @@ fn enter<R: Files + AllocGlobal>(
     Err(ScanFault::NotRegular)
 }
 
-/// Adds the names in the folder `place`, which the names `above` lead to; the first of them is entered next. A symbolic
-/// link is followed only at a place that ends in a slash.
-fn add_names<R: Files + AllocGlobal>(
-    rt: &R,
-    place: &str,
+/// Adds the names in a folder, which the names `above` lead to; the first of them is entered next.
+fn add_names<D: Read + Drop>(
+    alloc: Global,
+    folder: D,
     above: &[Name],
     waiting: &mut Vec<Entry>,
 ) -> Result<(), ScanFault>
-    ensures { OnOk result ((found : List (List (List ℕ))) →
+    ensures ahead { OnOk result ((found : List (List (List ℕ))) →
         IsEntered found above.now waiting.old.items → IsAhead found above.now waiting.new.items) }
+    ensures all { IfSome (D.remaining folder)
+        (λ listing. OnOk result (HasAdded listing waiting.old.items waiting.new.items)) }
 {
-    let mut names = rising_names(rt, place)?;
+    let mut names = rising_names(alloc, folder)?;
     while let Some(name) = names.pop() {
         let depth = above.len();
         waiting.push(Entry { depth, name })?;
@@ -115,9 +119,9 @@ fn add_file(
         (found.new.paths.items ≡ found.old.paths.items ++ names.now ∷ [])
         × (map string_bytes found.new.places.items ≡ map string_bytes found.old.places.items ++ string_bytes place ∷ [])
         × (string_bytes found.new.folder ≡ string_bytes found.old.folder)
-        × (length names.now ≤ 64)) }
+        × (length names.now ≤ MAX_NAMES)) }
     ensures refused { IfErr result
-        (λ fault. ((fault ≡ TooDeep) × (64 < length names.now)) ⊎ (fault ≡ Memory)) }
+        (λ fault. ((fault ≡ TooDeep) × (MAX_NAMES < length names.now)) ⊎ (fault ≡ Memory)) }
 {
     if names.len() > MAX_NAMES {
         return Err(ScanFault::TooDeep);
@@ -128,15 +132,4 @@ fn add_file(
     found.paths.push(path)?;
     found.places.push(place)?;
     Ok(())
-}
-
-/// The same names again.
-fn copies(alloc: Global, names: &[Name]) -> Result<Vec<Name>, AllocError>
-    ensures { IfOk result (λ copied. copied.items ≡ names.now) }
-{
-    let mut copied = Vec::with_capacity(alloc, names.len())?;
-    for name in names {
-        copied.push(name.copy(alloc)?)?;
-    }
-    Ok(copied)
 }

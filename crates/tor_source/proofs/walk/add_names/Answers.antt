@@ -1,14 +1,17 @@
-use Rattle.std.proofs.Common.{◌≡◌, ◌++◌, ◌∷◌, [], Some, Less, get_or, length, map, refl}
+use Rattle.std.proofs.Common.{◌≡◌, ◌++◌, ◌∷◌, [], Some, Less, get_or, length, map, refl, arith}
 use Rattle.std.proofs.lemmas.List.Elements.{All-pop, All-from_recursion}
 use Rattle.tor_tree.specs.Path.{name_cmp}
-use Rattle.tor_source.specs.Order.{IsWaiting, path_in}
+use Rattle.tor_source.specs.steps.Order.{IsWaiting, path_in}
 use Rattle.tor_source.specs.declared.walk.Entry.{Entry}
-use Rattle.tor_source.proofs.FoundFiles.{ahead_folder, ahead_name, path_inside, rising_front, waiting_inside, waiting_name}
+use Rattle.tor_source.proofs.Entries.{ahead_folder, ahead_name, path_inside}
+use Rattle.tor_source.proofs.FoundFiles.{rising_front}
+use Rattle.tor_source.proofs.Waiting.{waiting_inside, waiting_name}
+use Rattle.tor_source.proofs.Added.{moved_all, moved_more, moved_none, none_left}
 use Rattle.tor_source.proofs.walk.add_names.Goals as goal
 
 pub loop-name-init : goal.loop-name-init
 loop-name-init g c =
-    (c.in_ok-names.ensures, λ found start. (ahead_folder found c.args.above.now c.args.waiting.now.items start, λ k d lt. waiting_inside found (map (path_in c.args.above.now) c.args.waiting.now.items) c.args.above.now (get_or c.in_ok-names.names.items k d).items start.paths))
+    (c.in_ok-names.ensures.rising, λ found start. (ahead_folder found c.args.above.now c.args.waiting.now.items start, λ k d lt. waiting_inside found (map (path_in c.args.above.now) c.args.waiting.now.items) c.args.above.now (get_or c.in_ok-names.names.items k d).items start.paths), moved_none c.in_ok-names.names.items c.args.waiting.now.items)
 
 pub loop-name-preserved : goal.loop-name-preserved
 loop-name-preserved g c =
@@ -30,7 +33,13 @@ loop-name-preserved g c =
                 let less : name_cmp (get_or left k d).items name.items ≡ Less = All-from_recursion (λ one. name_cmp one.items name.items ≡ Less) left front.1 k d lt in
                 rw (c.in_ok-push.ensures.items, pushed) (waiting_name found waiting above (get_or left k d).items name.items less each.1 (each.0 k d lt)),
           ),
+      rw c.in_ok-push.ensures.items (moved_more c.in_ok-names.names.items left c.args.waiting.now.items entries next (rw items at c.loop-name.invariant.2)),
     )
 
-pub returns : goal.returns
-returns g c = λ found start. (c.loop-name.invariant.1 found start).0
+pub returns-clause-ahead : goal.returns-clause-ahead
+returns-clause-ahead g c = λ found start. (c.loop-name.invariant.1 found start).0
+
+pub returns-clause-all : goal.returns-clause-all
+returns-clause-all g c =
+    let none : c.loop-name.names.items ≡ [] = none_left c.loop-name.names.items (omega (arith, c.loop-name.names.ok.0, c.in_default.ensures.cases.0)) in
+    moved_all (g.D.Read.remaining c.args.folder) c.in_ok-names.names.items c.args.waiting.now.items c.loop-name.waiting.items c.in_ok-names.ensures.all (rw none at c.loop-name.invariant.2)

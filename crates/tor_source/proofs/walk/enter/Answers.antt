@@ -1,9 +1,10 @@
 use Rattle.std.proofs.Common.{◌≡◌, map}
 use Rattle.std.specs.String.{string_bytes}
 use Rattle.std.proofs.lemmas.Result.{on_ok_weaker}
-use Rattle.tor_source.specs.Order.{IsEntered, path_in}
+use Rattle.tor_source.specs.steps.Order.{IsEntered, path_in}
 use Rattle.tor_source.specs.Places.{place_below}
-use Rattle.tor_source.proofs.FoundFiles.{ahead_file, entered_next, found_push}
+use Rattle.tor_source.proofs.Entries.{ahead_file, entered_next}
+use Rattle.tor_source.proofs.FoundFiles.{found_push}
 use Rattle.tor_source.proofs.walk.enter.Goals as goal
 
 pub returns-then-is_dir-clause-ahead : goal.returns-then-is_dir-clause-ahead
@@ -11,7 +12,7 @@ returns-then-is_dir-clause-ahead g c =
     let path = c.push.new.self.items in
     let is : path ≡ path_in c.args.last.now.items c.args.entry = rw (c.in_ok-push.ensures.items, c.truncate.ensures.items, c.in_ok-new.ensures.made, c.deref.ensures.value) in
     let entered : IsEntered c.args.found.now.paths.items path c.args.waiting.now.items = rw is (entered_next c.args.found.now.paths.items c.args.last.now.items c.args.waiting.now.items c.args.entry c.requires.ahead) in
-    on_ok_weaker c.add_names.result (λ kept. rw c.deref-then-is_dir-2.ensures.value at (kept c.args.found.now.paths.items (rw c.deref-then-is_dir-2.ensures.value entered))) c.add_names.ensures
+    on_ok_weaker c.add_names.result (λ kept. rw c.deref-then-is_dir-2.ensures.value at (kept c.args.found.now.paths.items (rw c.deref-then-is_dir-2.ensures.value entered))) c.add_names.ensures.ahead
 
 pub returns-then-is_file-clause-found : goal.returns-then-is_file-clause-found
 returns-then-is_file-clause-found g c =

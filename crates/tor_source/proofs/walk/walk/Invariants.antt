@@ -1,6 +1,6 @@
 use Rattle.std.proofs.Common.{◌≡◌, map}
 use Rattle.std.specs.String.{string_bytes}
-use Rattle.tor_source.specs.Order.{IsAhead, IsFound}
+use Rattle.tor_source.specs.steps.Order.{IsAhead, IsFound}
 use Rattle.tor_source.specs.Places.{without_slash}
 use Rattle.tor_source.proofs.walk.walk.Given as goal
 

@@ -1,19 +1,21 @@
--- The order in which the files below a folder are found.
-use Rattle.std.specs.Prelude.{◌≡◌, ◌≤◌, ◌<◌, ◌++◌, ◌∷◌, [], ℕ, List, length, map, take}
+-- For the invariant of `walk` alone: the order in which the files below a folder are found.
+use Rattle.std.specs.Prelude.{◌≡◌, ◌≤◌, ◌<◌, ◌++◌, ◌∷◌, [], ℕ, List, length, map, take, drop}
 use Rattle.std.specs.List.{All, AllPairs}
 use Rattle.std.specs.List.Sorted.{IsStrictlySortedBy}
 use Rattle.std.specs.String.{string_bytes}
 use Rattle.std.specs.declared.cmp.Ordering.TheVariants.{Less}
 use Rattle.tor_tree.specs.Path.{path_cmp}
+use Rattle.tor_source.specs.Listing.{HasSameNames, names_in}
 use Rattle.tor_source.specs.Places.{place_below}
 use Rattle.tor_source.specs.declared.walk.Entry.{Entry}
 use Rattle.tor_source.specs.declared.walk.Found.{Found}
+use Rattle.tor_source.specs.declared.walk.TheConstants.{MAX_NAMES}
 
 -- files that were found below a place: their paths strictly rise and have at most 64 names, and each is where its
 -- path says
 pub record IsFound (place : List ℕ) (paths : List (List (List ℕ))) (places : List (List ℕ)) : Type 0 where
   pub rising : IsStrictlySortedBy path_cmp paths
-  pub short : All (λ path. length path ≤ 64) paths
+  pub short : All (λ path. length path ≤ MAX_NAMES) paths
   pub placed : places ≡ map (place_below place) paths
 
 abbrev pub HasFound : List ℕ → Found → Type 0
@@ -27,7 +29,8 @@ AreBefore path paths = All (λ earlier. path_cmp earlier path ≡ Less) paths
 abbrev pub IsPast : List (List ℕ) → List (List ℕ) → Type 0
 IsPast path later = (more : List (List ℕ)) → path_cmp (path ++ more) later ≡ Less
 
--- paths that wait, the next one last, while others were found: each is past those after it, and past all that were found
+-- paths that wait, the next one last, while others were found: each is past those after it, and past all that were
+-- found
 pub record IsWaiting (found : List (List (List ℕ))) (waiting : List (List (List ℕ))) : Type 0 where
   pub apart : AllPairs (λ later sooner. IsPast sooner later) waiting
   pub before : All (λ path. AreBefore path found) waiting
@@ -50,3 +53,11 @@ pub record IsEntered (found : List (List (List ℕ))) (path : List (List ℕ)) (
   pub paths : IsWaiting found (map (path_in path) entries ++ path ∷ [])
   pub nested : AreNested entries
   pub within : All (λ entry. entry.depth < length path) entries
+
+abbrev pub name_of : Entry → List ℕ
+name_of entry = entry.name.items
+
+-- entries that waited before, and after them the names in a folder with this listing
+pub record HasAdded (listing : List ℕ) (before after : List Entry) : Type 0 where
+  pub stay : take (length before) after ≡ before
+  pub named : HasSameNames (names_in listing) (map name_of (drop (length before) after))

@@ -1,0 +1,56 @@
+-- The names of a folder that were added to the entries, and those that are left.
+use Rattle.std.proofs.Common.{◌≡◌, ℕ, ◌≤◌, Option, Some, None, IfSome, Vec, Global, List, [], ◌∷◌, ◌++◌, length, map, take, drop, refl, sym, ap, ◌∙◌, arith, append-nil, append_assoc}
+use Rattle.std.specs.Prelude.{reverse, vec_items}
+use Rattle.std.proofs.lemmas.List.{drop-append-le, length_push, map_push, reverse-append, take-append-le, take_all}
+use Rattle.std.proofs.lemmas.List.Sorted.{Contains-permutation, IsPermutation-reverse, IsPermutation-sym}
+use Rattle.tor_source.specs.Listing.{HasSameNames, names_in}
+use Rattle.tor_source.specs.declared.walk.Entry.{Entry}
+use Rattle.tor_source.specs.steps.Order.{HasAdded, name_of}
+
+-- of all names the last ones were added, the last one first
+pub record IsMoved (all left : List (Vec ℕ Global)) (before after : List Entry) : Type 0 where
+  pub within : length before ≤ length after
+  pub stay : take (length before) after ≡ before
+  pub moved : map vec_items all ≡ map vec_items left ++ reverse (map name_of (drop (length before) after))
+
+pub moved_none : (all : List (Vec ℕ Global)) (before : List Entry) → IsMoved all all before before
+moved_none all before = record {
+  within = omega arith;
+  stay = take_all (length before) before (omega arith);
+  moved = rw (drop_all before) (sym (append-nil (map vec_items all)));
+}
+  where
+    drop_all : (xs : List Entry) → drop (length xs) xs ≡ []
+    drop_all [] = refl
+    drop_all (x ∷ xs) = drop_all xs
+
+pub moved_more : (all left : List (Vec ℕ Global)) (before after : List Entry) (next : Entry)
+    → IsMoved all (left ++ next.name ∷ []) before after → IsMoved all left before (after ++ next ∷ [])
+moved_more all left before after next h =
+    let within : length before ≤ length after = h.within in
+    let gone : List (List ℕ) = map name_of (drop (length before) after) in
+    record {
+      within = omega (arith, length_push after next);
+      stay = take-append-le (length before) after (next ∷ []) within ∙ h.stay;
+      moved = rw (drop-append-le (length before) after (next ∷ []) within, map_push name_of (drop (length before) after) next, reverse-append gone (name_of next ∷ []))
+          (h.moved ∙ ap (λ names. names ++ reverse gone) (map_push vec_items left next.name) ∙ append_assoc (map vec_items left) (name_of next ∷ []) (reverse gone));
+    }
+
+pub moved_all : (known : Option (List ℕ)) (all : List (Vec ℕ Global)) (before after : List Entry)
+    → IfSome known (λ listing. HasSameNames (names_in listing) (map vec_items all)) → IsMoved all [] before after
+    → IfSome known (λ listing. HasAdded listing before after)
+moved_all None all before after same h = tt
+moved_all (Some listing) all before after same h =
+    let gone : List (List ℕ) = map name_of (drop (length before) after) in
+    let turned = IsPermutation-reverse gone in
+    record {
+      stay = h.stay;
+      named = record {
+        keeps = λ name there. Contains-permutation (reverse gone) gone name (IsPermutation-sym gone (reverse gone) turned) (rw h.moved at (same.keeps name there));
+        adds_none = λ name there. same.adds_none name (rw h.moved (Contains-permutation gone (reverse gone) name turned there));
+      };
+    }
+
+pub none_left : (names : List (Vec ℕ Global)) → length names ≡ 0 → names ≡ []
+none_left [] none = refl
+none_left (name ∷ names) none = absurd (omega arith)
