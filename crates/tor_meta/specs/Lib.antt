@@ -6,3 +6,4 @@ pub mod Layers
 pub mod Contents
 pub mod Sums
 pub mod Fed
+pub mod Hashes

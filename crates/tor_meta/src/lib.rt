@@ -3,6 +3,7 @@
 
 mod contents;
 mod fed;
+mod hashes;
 mod head;
 mod info;
 mod items;
@@ -16,6 +17,7 @@ mod torrent;
 
 pub use contents::make_contents;
 pub use fed::{FedSums, refusal_of_one};
+pub use hashes::{Hashes, info_hashes, magnet};
 pub use head::Head;
 pub use judge::{MAX_NAMES, judge_paths};
 pub use making::make_fed;

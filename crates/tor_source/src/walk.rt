@@ -12,7 +12,7 @@ use crate::places::{place_below, without_slash};
 use std::alloc::Global;
 use std::io::Read;
 use std::rt::Files;
-use tor_tree::{FilePath, Name, copies};
+use tor_tree::{FilePath, Name, copy_names};
 
 /// The most names in a path.
 const MAX_NAMES: usize = 64;
@@ -126,7 +126,7 @@ fn add_file(
     if names.len() > MAX_NAMES {
         return Err(ScanFault::TooDeep);
     }
-    let Some(path) = FilePath::new(copies(alloc, names)?) else {
+    let Some(path) = FilePath::new(copy_names(alloc, names)?) else {
         unreachable!();
     };
     found.paths.push(path)?;
