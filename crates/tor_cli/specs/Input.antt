@@ -1,6 +1,7 @@
 -- What a reader gave.
 use Rattle.std.specs.Prelude.{ℕ, ◌<◌, ◌≤◌, List, length, Option}
 use Rattle.std.specs.Io.KnownBytes.{Consumes, IsAtEnd}
+use Rattle.tor_cli.specs.declared.input.TheConstants.{MAX_INPUT_LENGTH}
 use Rattle.tor_cli.specs.declared.input.InputFault.{InputFault}
 use Rattle.tor_cli.specs.declared.input.InputFault.TheVariants.{TooLong, Read, Memory}
 
@@ -8,6 +9,10 @@ use Rattle.tor_cli.specs.declared.input.InputFault.TheVariants.{TooLong, Read, M
 pub record ReadsWhole (old new : Option (List ℕ)) (bytes : List ℕ) : Type 0 where
   pub given : Consumes old new bytes
   pub end : IsAtEnd new
+
+-- the reader gave these bytes, no more than the program reads of an input, and has no more
+abbrev pub ReadsAll : Option (List ℕ) → Option (List ℕ) → List ℕ → Type 0
+ReadsAll old new bytes = ReadsWhole old new bytes × (length bytes ≤ MAX_INPUT_LENGTH)
 
 -- the reader gave some bytes, of which the fact holds
 abbrev pub ReadsSome : Option (List ℕ) → Option (List ℕ) → (List ℕ → Type 0) → Type 0

@@ -1,4 +1,6 @@
+pub mod Escape
 pub mod Input
 pub mod Make
+pub mod Request
 pub mod Status
 pub mod Taking

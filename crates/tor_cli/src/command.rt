@@ -1,7 +1,9 @@
-//! The command line: what the words ask for.
+//! The command line: what the words ask for. Here stand help and the version; each command has a file of its own.
+use crate::escape::escaped;
 use crate::fault::Fault;
+use crate::make_command::{MakeOptions, make_command, make_options};
 use clap::error::ErrorKind;
-use clap::{Arg, ArgMatches, Command, value_parser};
+use clap::{ArgMatches, Command};
 use std::alloc::{AllocError, Global};
 
 /// What the words ask for.
@@ -12,74 +14,63 @@ pub enum Request<'a> {
     Make(MakeOptions<'a>),
 }
 
-/// How `tor make` is to make a torrent.
-#[derive(Clone, Copy)]
-pub struct MakeOptions<'a> {
-    pub name: &'a str,
-    pub piece_length: u64,
-}
-
-const DEFAULT_PIECE_LENGTH: &str = "262144";
-
 /// Reads the words, of which the first is the program's name.
 pub fn read_words<'a>(alloc: Global, words: &'a [&'a str]) -> Result<Request<'a>, Fault> {
-    match tor(alloc)?.try_get_matches_from(words) {
-        Ok(matches) => make_request(alloc, &matches),
-        Err(error) => refused(alloc, words, &error),
+    match tor_command(alloc)?.try_get_matches_from(words) {
+        Ok(matches) => request_of(alloc, &matches),
+        Err(error) if error.kind() == ErrorKind::OutOfMemory => Err(Fault::Resources),
+        Err(error) if error.use_stderr() => Err(usage_fault(alloc, words)?),
+        Err(error) => Ok(Request::Show(format!(in alloc; "{error}")?)),
     }
 }
 
-fn tor<'a>(alloc: Global) -> Result<Command<'a>, AllocError> {
+fn tor_command<'a>(alloc: Global) -> Result<Command<'a>, AllocError> {
     Command::new(alloc, "tor")
         .version("0.1.0")
         .about("Makes BitTorrent metainfo files")
         .subcommand_required(true)
         .bin_name("tor")?
-        .subcommand(make(alloc)?)
+        .subcommand(make_command(alloc)?)
 }
 
-fn make<'a>(alloc: Global) -> Result<Command<'a>, AllocError> {
-    let name = Arg::new(alloc, "name")
-        .long("name")
-        .value_name("NAME")
-        .required(true)
-        .help("The name that the torrent suggests for its content");
-    let piece_length = Arg::new(alloc, "piece-length")
-        .long("piece-length")
-        .value_name("N")
-        .value_parser(value_parser!(u64))
-        .default_value(DEFAULT_PIECE_LENGTH)
-        .help("Bytes in a piece: a power of two from 16384 to 1073741824");
-    Command::new(alloc, "make")
-        .about("Makes a v2 torrent of standard input and writes it to standard output")
-        .arg(name)?
-        .arg(piece_length)
-}
-
-fn make_request<'a>(alloc: Global, matches: &ArgMatches<'a>) -> Result<Request<'a>, Fault> {
-    let options = matches.subcommand_matches("make").and_then(|make| {
-        Some(MakeOptions {
-            name: make.get_str("name")?,
-            piece_length: make.get_one::<u64>("piece-length")?,
-        })
-    });
+fn request_of<'a>(alloc: Global, matches: &ArgMatches<'a>) -> Result<Request<'a>, Fault> {
+    let options = match matches.subcommand_matches("make") {
+        Some(make) => make_options(make),
+        None => None,
+    };
     match options {
         Some(options) => Ok(Request::Make(options)),
         None => Err(Fault::usage(alloc, "no command", "tor")?),
     }
 }
 
-fn refused<'a>(alloc: Global, words: &[&str], error: &clap::Error) -> Result<Request<'a>, Fault> {
-    if error.kind() == ErrorKind::OutOfMemory {
-        return Err(Fault::Resources);
+/// What is wrong with the words, told of them as they are printed. No word that `clap` knows has a byte that is
+/// written out, so the same is wrong with the printed ones.
+fn usage_fault(alloc: Global, words: &[&str]) -> Result<Fault, Fault> {
+    let printed = printed_words(alloc, words)?;
+    let error = tor_command(alloc)?.try_get_matches_from(&printed).err();
+    match error {
+        Some(error) if error.kind() == ErrorKind::OutOfMemory => Err(Fault::Resources),
+        Some(error) => {
+            let text = format!(in alloc; "{error}")?;
+            Ok(Fault::usage(alloc, &text, command_of(words))?)
+        }
+        None => Ok(Fault::usage(alloc, "no command", "tor")?),
     }
-    let text = format!(in alloc; "{error}")?;
-    if !error.use_stderr() {
-        return Ok(Request::Show(text));
+}
+
+fn printed_words(alloc: Global, words: &[&str]) -> Result<Vec<String>, AllocError> {
+    let mut printed = Vec::with_capacity(alloc, words.len())?;
+    for word in words {
+        printed.push(escaped(alloc, word)?)?;
     }
-    let command = match words {
+    Ok(printed)
+}
+
+/// The command whose help is named.
+fn command_of(words: &[&str]) -> &'static str {
+    match words {
         [_, "make", ..] => "tor make",
         _ => "tor",
-    };
-    Err(Fault::usage(alloc, &text, command)?)
+    }
 }

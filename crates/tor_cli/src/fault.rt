@@ -1,20 +1,21 @@
 //! What can stop the program: its line on standard error, and its status.
 ghost use Rattle.std.specs.Prelude.{◌≡◌};
-ghost use Rattle.tor_cli.specs.Status.{of_step_fault, status_of};
+ghost use Rattle.tor_cli.specs.Status.{of_input_fault, of_name_error, of_step_fault, status_of};
 ghost use Rattle.tor_cli.specs.declared.fault.Fault.TheVariants.{Write, Resources};
 
 use crate::input::InputFault;
 use crate::make::FromFault;
 use std::alloc::{AllocError, AllocFailed, Global};
 use std::fmt;
-use tor_meta::{BytesError, WriteFault};
+use tor_meta::{ContentsError, WriteFault};
+use tor_tree::NameError;
 
 #[derive(Debug, Drop)]
 pub enum Fault {
     /// The words ask for nothing that there is: the line.
     Usage(String),
-    /// No torrent is made of this content.
-    Refused(BytesError),
+    /// No torrent is made of this input under these words.
+    Refused(Refusal),
     /// Standard input was not read whole.
     Read,
     TooLong,
@@ -22,6 +23,14 @@ pub enum Fault {
     Write(u64),
     /// Memory was refused.
     Resources,
+}
+
+/// Why no torrent is made. Neither is want of memory.
+#[derive(Debug, Drop)]
+pub enum Refusal {
+    /// The word for the name is none.
+    Name(NameError),
+    Make(ContentsError),
 }
 
 impl Fault {
@@ -63,11 +72,35 @@ impl fmt::Display for Fault {
     fn fmt<W: fmt::Write>(&self, f: &mut fmt::Formatter<W>) -> fmt::Result {
         match self {
             Fault::Usage(line) => f.write_str(line.as_str()),
-            Fault::Refused(refusal) => write!(f, "{refusal}"),
+            Fault::Refused(Refusal::Name(fault)) => write!(f, "{fault}"),
+            Fault::Refused(Refusal::Make(refusal)) => write!(f, "{refusal}"),
             Fault::Read => f.write_str("read fault"),
             Fault::TooLong => f.write_str("input too long"),
             Fault::Write(written) => write!(f, "write fault after {written} bytes"),
             Fault::Resources => f.write_str("out of resources"),
+        }
+    }
+}
+
+impl From<InputFault> for Fault {
+    ghost from_gives = { λ fault e. e ≡ of_input_fault fault };
+
+    fn from(fault: InputFault) -> Fault {
+        match fault {
+            InputFault::Read => Fault::Read,
+            InputFault::TooLong => Fault::TooLong,
+            InputFault::Memory => Fault::Resources,
+        }
+    }
+}
+
+impl From<NameError> for Fault {
+    ghost from_gives = { λ fault e. e ≡ of_name_error fault };
+
+    fn from(fault: NameError) -> Fault {
+        match fault {
+            NameError::Memory => Fault::Resources,
+            fault => Fault::Refused(Refusal::Name(fault)),
         }
     }
 }
@@ -77,11 +110,9 @@ impl From<FromFault> for Fault {
 
     fn from(fault: FromFault) -> Fault {
         match fault {
-            FromFault::Input(InputFault::Read) => Fault::Read,
-            FromFault::Input(InputFault::TooLong) => Fault::TooLong,
-            FromFault::Input(InputFault::Memory) => Fault::Resources,
-            FromFault::Make(BytesError::Memory) => Fault::Resources,
-            FromFault::Make(refusal) => Fault::Refused(refusal),
+            FromFault::Input(fault) => Fault::from(fault),
+            FromFault::Make(ContentsError::Memory) => Fault::Resources,
+            FromFault::Make(refusal) => Fault::Refused(Refusal::Make(refusal)),
             FromFault::Write(fault) => Fault::from(fault),
         }
     }

@@ -1,12 +1,15 @@
 //! An input read to its end, part by part, within a limit.
 ghost use Rattle.std.specs.Prelude.{◌≡◌, ◌≤◌, ◌<◌, List, ℕ, length, take, vec_len, OnOk, IfOk, IfErr};
 ghost use Rattle.std.specs.Io.KnownBytes.{Consumes, IsAtEnd};
-ghost use Rattle.tor_cli.specs.Input.{ReadsWhole, ReadsSome, EndsInput};
+ghost use Rattle.tor_cli.specs.Input.{ReadsWhole, ReadsAll, ReadsSome, EndsInput};
 ghost use Rattle.tor_cli.specs.declared.input.InputFault.TheVariants.{Memory};
 
-use crate::intake::Intake;
+use crate::intake::{Dropped, Intake};
 use std::alloc::{AllocError, Global};
 use std::io::Read;
+
+/// The most bytes that the program reads of an input.
+pub const MAX_INPUT_LENGTH: u64 = 1 << 30;
 
 const BUFFER_LENGTH: usize = 65536;
 
@@ -34,6 +37,15 @@ pub fn read_limited<R: Read>(
     let mut bytes = Vec::new(alloc);
     read_parts(alloc, reader, limit, &mut bytes)?;
     Ok(bytes)
+}
+
+/// Reads all the bytes that the reader has, at most `MAX_INPUT_LENGTH`, and keeps none.
+pub fn drop_input<R: Read>(alloc: Global, reader: &mut R) -> Result<(), InputFault>
+    ensures whole { OnOk result ((bytes : List ℕ) × ReadsAll (R.remaining reader.old) (R.remaining reader.new) bytes) }
+    ensures err { IfErr result (λ fault.
+        ReadsSome (R.remaining reader.old) (R.remaining reader.new) (EndsInput MAX_INPUT_LENGTH fault)) }
+{
+    read_parts(alloc, reader, MAX_INPUT_LENGTH, &mut Dropped)
 }
 
 /// Hands on all the bytes that the reader has, where they are at most `limit`, part by part.

@@ -1,11 +1,13 @@
 //! What takes an input part by part, as it is read.
-ghost use Rattle.std.specs.Prelude.{◌≡◌, ◌+◌, ◌-◌, ◌≤◌, ◌^◌, ◌++◌, [], ℕ, List, length, OnOk, refl, Vec};
+ghost use Rattle.std.specs.Prelude.{◌≡◌, ◌+◌, ◌-◌, ◌≤◌, ◌++◌, [], ℕ, List, length, OnOk, Vec};
 ghost use Rattle.std.specs.declared.alloc.Global.{Global};
-ghost use Rattle.tor_merkle.specs.Feeding.{Feeding};
-ghost use Rattle.tor_cli.specs.Taking.{feed_none, feed_both, kept_none, kept_both};
+ghost use Rattle.tor_merkle.specs.declared.TheConstants.{MAX_LENGTH};
+ghost use Rattle.tor_meta.specs.Fed.{count_of};
+ghost use Rattle.tor_meta.specs.declared.fed.FedSums.{FedSums};
+ghost use Rattle.tor_cli.specs.Taking.{takes_fed, fed_none, fed_both, kept_none, kept_both};
 
 use std::alloc::AllocError;
-use tor_merkle::Feed;
+use tor_meta::FedSums;
 
 /// What takes the parts of an input, in order.
 pub trait Intake {
@@ -60,15 +62,15 @@ impl Intake for Dropped {
     }
 }
 
-/// Hashes the bytes, and keeps none of them.
-impl Intake for Feed {
-    ghost takes = { λ s bytes t. t ≡ record { piece_length = s.piece_length; bytes = s.bytes ++ bytes } };
+/// Sums the bytes up, and keeps none of them.
+impl Intake for FedSums {
+    ghost takes = { takes_fed };
 
-    ghost may_take = { λ s n. length s.bytes + n ≤ 2 ^ 50 };
+    ghost may_take = { λ s n. count_of s + n ≤ MAX_LENGTH };
 
-    ghost takes_none = { feed_none };
+    ghost takes_none = { fed_none };
 
-    ghost takes_both = { feed_both };
+    ghost takes_both = { fed_both };
 
     fn take(&mut self, part: &[u8]) -> Result<(), AllocError> {
         self.feed(part)

@@ -1,15 +1,19 @@
 //! The program `tor`: a maker of BitTorrent metainfo files.
 //!
 //! - `run.rt`: the whole program, over any reader and writers; `main` hands it the real ones.
-//! - `command.rt`: what the words ask for. `fault.rt`: what stops the program, its line and its status.
-//! - `make.rt`: `tor make`. `input.rt`: an input read whole, within a limit.
+//! - `command.rt`: what the words ask for. `make_command.rt`: the command `make`.
+//! - `make.rt`: the torrent of what a reader has. `input.rt`: an input read whole, within a limit. `intake.rt`: what
+//!   takes its parts.
+//! - `fault.rt`: what stops the program, its line and its status. `escape.rt`: the user's text in such a line.
 #![tactic(auto)]
 
 mod command;
+mod escape;
 mod fault;
 mod input;
 mod intake;
 mod make;
+mod make_command;
 mod run;
 #[cfg(test)]
 mod tests;

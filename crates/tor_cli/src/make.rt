@@ -1,61 +1,53 @@
-//! `tor make`: from a reader to a writer.
-ghost use Rattle.std.specs.Prelude.{◌≡◌, ℕ, List, IfErr, OnOk};
+//! From a reader to the torrent of what it has, in a writer.
+ghost use Rattle.std.specs.Prelude.{◌≡◌, List, ℕ, IfErr, OnOk};
+ghost use Rattle.tor_meta.specs.Head.{settings_of};
+ghost use Rattle.tor_meta.specs.declared.refusals.ContentsError.TheVariants.{Memory};
 ghost use Rattle.tor_cli.specs.Make.{MakesWhole, MakesPart};
 ghost use Rattle.tor_cli.specs.declared.make.FromFault.TheVariants.{Input, Make, Write};
-ghost use Rattle.tor_meta.specs.declared.refusals.BytesError.TheVariants.{Memory};
 
-use crate::input::{InputFault, read_parts};
-use crate::intake::Dropped;
+use crate::input::{InputFault, MAX_INPUT_LENGTH, drop_input, read_parts};
 use std::alloc::{AllocError, Global};
 use std::io;
-use tor_merkle::Feed;
-use tor_meta::{BytesError, WriteFault, check_head, make_fed, write_out};
-
-/// The most bytes that are read of an input.
-const MAX_INPUT_LENGTH: u64 = 1 << 30;
+use tor_meta::{ContentsError, FedSums, Head, WriteFault, make_fed, refusal_of_one, write_out};
 
 /// Why no whole torrent was written.
 #[derive(Debug, Drop)]
 pub enum FromFault {
     Input(InputFault),
-    Make(BytesError),
+    Make(ContentsError),
     Write(WriteFault),
 }
 
-/// Reads all of a content, at most 2^30 bytes, and writes the v2 torrent of it under a name.
+/// Reads all of a content, at most `MAX_INPUT_LENGTH` bytes, and writes the torrent of it under the head's name.
+/// Nothing of the content is kept.
 pub fn make_from<R: io::Read, W: io::Write>(
     alloc: Global,
     reader: &mut R,
     writer: &mut W,
-    name: &[u8],
-    piece_length: u64,
+    head: &Head,
 ) -> Result<(), FromFault>
-    ensures made { OnOk result ((content : List ℕ) × MakesWhole name.now piece_length
+    ensures made { OnOk result ((content : List ℕ) × MakesWhole (settings_of head.now)
         (R.remaining reader.old) (R.remaining reader.new) (W.contents writer.old) (W.contents writer.new) content) }
-    ensures part { IfErr result (MakesPart name.now piece_length
+    ensures part { IfErr result (MakesPart (settings_of head.now)
         (R.remaining reader.old) (R.remaining reader.new) (W.contents writer.old) (W.contents writer.new)) }
 {
-    match check_head(alloc, name, piece_length) {
-        Ok(name) => {
-            let mut feed = Feed::new(alloc, piece_length);
-            read_parts(alloc, reader, MAX_INPUT_LENGTH, &mut feed)?;
-            let torrent = make_fed(alloc, &name, feed)?;
-            write_out(writer, &torrent)?;
-            Ok(())
-        }
-        Err(refusal) => {
-            // A fault of the reader is told before what is wrong with the words.
-            read_parts(alloc, reader, MAX_INPUT_LENGTH, &mut Dropped)?;
-            Err(FromFault::Make(refusal))
-        }
+    if let Some(refusal) = refusal_of_one(head) {
+        // A fault of the reader is told before what is wrong with the head.
+        drop_input(alloc, reader)?;
+        return Err(FromFault::Make(refusal));
     }
+    let mut fed = FedSums::new(alloc, head);
+    read_parts(alloc, reader, MAX_INPUT_LENGTH, &mut fed)?;
+    let torrent = make_fed(alloc, head, fed)?;
+    write_out(writer, &torrent)?;
+    Ok(())
 }
 
 impl From<AllocError> for FromFault {
     ghost from_gives = { λ _ e. e ≡ Make Memory };
 
     fn from(_error: AllocError) -> FromFault {
-        FromFault::Make(BytesError::Memory)
+        FromFault::Make(ContentsError::Memory)
     }
 }
 
@@ -64,14 +56,6 @@ impl From<InputFault> for FromFault {
 
     fn from(fault: InputFault) -> FromFault {
         FromFault::Input(fault)
-    }
-}
-
-impl From<BytesError> for FromFault {
-    ghost from_gives = { λ refusal e. e ≡ Make refusal };
-
-    fn from(refusal: BytesError) -> FromFault {
-        FromFault::Make(refusal)
     }
 }
 

@@ -1,9 +1,11 @@
 //! The whole program, over any reader and writers.
-ghost use Rattle.std.specs.Prelude.{◌≤◌};
+ghost use Rattle.std.specs.Prelude.{◌≡◌, ◌≤◌, IfErr, OnOk};
+ghost use Rattle.tor_cli.specs.Request.{Does, Stops};
+ghost use Rattle.tor_cli.specs.Status.{status_after};
 
 use crate::command::{Request, read_words};
 use crate::fault::Fault;
-use crate::make::make_from;
+use crate::make_command::make;
 use std::alloc::Global;
 use std::io::{Read, Write};
 use tor_meta::write_out;
@@ -19,7 +21,44 @@ pub fn run<R: Read, W: Write, E: Write>(
 ) -> u8
     ensures { result ≤ 4 }
 {
-    match answer(alloc, words, reader, out) {
+    let outcome = match read_words(alloc, words) {
+        Ok(request) => perform(alloc, &request, reader, out),
+        Err(fault) => Err(fault),
+    };
+    tell(&outcome, err)
+}
+
+/// Does what was asked for.
+fn perform<R: Read, W: Write>(
+    alloc: Global,
+    request: &Request<'_>,
+    reader: &mut R,
+    out: &mut W,
+) -> Result<(), Fault>
+    ensures done { OnOk result (Does request.now (record {
+      reader = R.remaining reader.old;
+      reader' = R.remaining reader.new;
+      writer = W.contents out.old;
+      writer' = W.contents out.new;
+    })) }
+    ensures stopped { IfErr result (Stops request.now (record {
+      reader = R.remaining reader.old;
+      reader' = R.remaining reader.new;
+      writer = W.contents out.old;
+      writer' = W.contents out.new;
+    })) }
+{
+    match request {
+        Request::Show(text) => Ok(write_out(out, text.as_bytes())?),
+        Request::Make(options) => make(alloc, options, reader, out),
+    }
+}
+
+/// Tells what came of it: a fault in one line, and the status.
+fn tell<E: Write>(outcome: &Result<(), Fault>, err: &mut E) -> u8
+    ensures { result ≡ status_after outcome.now }
+{
+    match outcome {
         Ok(()) => 0,
         Err(fault) => {
             // Where nobody reads the line, the status still tells.
@@ -27,20 +66,4 @@ pub fn run<R: Read, W: Write, E: Write>(
             fault.status()
         }
     }
-}
-
-fn answer<R: Read, W: Write>(
-    alloc: Global,
-    words: &[&str],
-    reader: &mut R,
-    out: &mut W,
-) -> Result<(), Fault> {
-    match read_words(alloc, words)? {
-        Request::Show(text) => write_out(out, text.as_bytes())?,
-        Request::Make(options) => {
-            let name = options.name.as_bytes();
-            make_from(alloc, reader, out, name, options.piece_length)?
-        }
-    }
-    Ok(())
 }

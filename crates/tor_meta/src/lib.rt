@@ -1,4 +1,25 @@
-//! Making torrents (BEP 3, BEP 52, BEP 47), and writing them out.
+//! Making torrents (BEP 3, BEP 52, BEP 47), and their info hashes.
+//!
+//! - [`Head`] (`head.rt`): what a torrent is made with, beside its files. `judge.rt` refuses heads and paths.
+//! - [`make_contents`] (`contents.rt`): the torrent of files whose contents lie in memory.
+//! - [`FedSums`] (`fed.rt`) and [`make_fed`] (`making.rt`): the torrent of one content that is fed in parts.
+//! - `sums.rt`: the Merkle trees and the SHA-1 of the pieces, as far as a kind asks for them.
+//! - `torrent.rt`: from files and sums to bytes, by `info.rt`, `layers.rt` and `items.rt`.
+//! - [`Hashes`], [`info_hashes`] (`hashes.rt`); [`write_out`] (`output.rt`): all bytes into a writer.
+//!
+//! ```rust
+//! use tor_meta::{FedSums, Head, make_fed, refusal_of_one};
+//! use tor_tree::{Kind, Name};
+//!
+//! let alloc = rt.alloc();
+//! let name = Name::new(alloc, b"a")?;
+//! let head = Head { kind: Kind::V2, single: true, name, piece_length: 16384, announce: None, is_private: false };
+//! if refusal_of_one(&head).is_none() {
+//!     let mut fed = FedSums::new(alloc, &head);
+//!     fed.feed(b"abc")?;
+//!     assert_eq!(rt; make_fed(alloc, &head, fed)?.len(), 158);
+//! }
+//! ```
 #![tactic(auto)]
 
 mod contents;
@@ -13,16 +34,17 @@ mod making;
 mod output;
 mod refusals;
 mod sums;
+#[cfg(test)]
+mod tests;
 mod torrent;
 
 pub use contents::make_contents;
 pub use fed::{FedSums, refusal_of_one};
-pub use hashes::{Hashes, info_hashes, magnet};
+pub use hashes::{Hashes, info_hashes};
 pub use head::Head;
 pub use judge::{MAX_NAMES, judge_paths};
 pub use making::make_fed;
 pub use output::{WriteFault, write_out};
 pub use refusals::ContentsError;
-
 pub use sums::Sums;
 pub use torrent::torrent_bytes;
