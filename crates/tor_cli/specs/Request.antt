@@ -1,5 +1,5 @@
 -- What the program does for a request: what it reads and writes, and where a fault stops it.
-use Rattle.std.specs.Prelude.{◌≡◌, ◌<◌, ℕ, List, length, take, true, option_map, Option, None, Some, string_bytes}
+use Rattle.std.specs.Prelude.{◌≡◌, ◌⊎◌, ◌<◌, ℕ, List, length, take, true, option_map, Option, None, Some, string_bytes}
 use Rattle.std.specs.Io.KnownBytes.{Appends, Keeps}
 use Rattle.tor_spec.specs.Settings.{Settings}
 use Rattle.tor_tree.specs.Name.{name_fault}
@@ -55,7 +55,8 @@ StopsMake options s (Refused (refusals.Make refusal)) =
 StopsMake options s Read = FailsInput inputs.Read s
 StopsMake options s TooLong = FailsInput inputs.TooLong s
 StopsMake options s (Write written) = (name_fault options.name.now ≡ None)
-    × ((content : List ℕ) × MakesFront (settings_of_options options) s.reader s.reader' s.writer s.writer' written content)
+    × ((content : List ℕ)
+    × MakesFront (settings_of_options options) s.reader s.reader' s.writer s.writer' written content)
 StopsMake options s Resources = FailsInput inputs.Memory s
 
 -- what was asked for was done
@@ -66,6 +67,19 @@ Does (Make options) s = DoesMake options s
 -- where this fault stopped it
 abbrev pub Stops : Request → Streams → Fault → Type 0
 Stops (Show text) s (Write written) =
-    (s.reader' ≡ s.reader) × (written < length (string_bytes text)) × Appends s.writer s.writer' (take written (string_bytes text))
+    (s.reader' ≡ s.reader) × (written < length (string_bytes text))
+    × Appends s.writer s.writer' (take written (string_bytes text))
 Stops (Show text) s other = ⊥
 Stops (Make options) s fault = StopsMake options s fault
+
+-- nothing was read, and nothing was written
+abbrev pub IsUntouched : Streams → Type 0
+IsUntouched s = (s.reader' ≡ s.reader) × (s.writer' ≡ s.writer)
+
+-- some request was done
+abbrev pub DoesSome : Streams → Type 0
+DoesSome s = (request : Request) × Does request s
+
+-- this fault is of the words, or some request was stopped at it
+abbrev pub StopsSome : Streams → Fault → Type 0
+StopsSome s fault = IsUntouched s ⊎ ((request : Request) × Stops request s fault)

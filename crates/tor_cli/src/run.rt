@@ -1,7 +1,8 @@
 //! The whole program, over any reader and writers.
-ghost use Rattle.std.specs.Prelude.{◌≡◌, ◌≤◌, IfErr, OnOk};
-ghost use Rattle.tor_cli.specs.Request.{Does, Stops};
-ghost use Rattle.tor_cli.specs.Status.{status_after};
+ghost use Rattle.std.specs.Prelude.{◌≡◌, ◌≢◌, ◌≤◌, IfErr, OnOk};
+ghost use Rattle.tor_cli.specs.Request.{Does, DoesSome, Stops, StopsSome};
+ghost use Rattle.tor_cli.specs.Status.{status_after, status_of};
+ghost use Rattle.tor_cli.specs.declared.fault.Fault.{Fault};
 
 use crate::command::{Request, read_words};
 use crate::fault::Fault;
@@ -19,13 +20,46 @@ pub fn run<R: Read, W: Write, E: Write>(
     out: &mut W,
     err: &mut E,
 ) -> u8
-    ensures { result ≤ 4 }
+    ensures within { result ≤ 4 }
+    ensures done { result ≡ 0 → DoesSome (record {
+      reader = R.remaining reader.old;
+      reader' = R.remaining reader.new;
+      writer = W.contents out.old;
+      writer' = W.contents out.new;
+    }) }
+    ensures stopped { result ≢ 0 → (fault : Fault) × (result ≡ status_of fault) × StopsSome (record {
+      reader = R.remaining reader.old;
+      reader' = R.remaining reader.new;
+      writer = W.contents out.old;
+      writer' = W.contents out.new;
+    }) fault }
 {
-    let outcome = match read_words(alloc, words) {
-        Ok(request) => perform(alloc, &request, reader, out),
-        Err(fault) => Err(fault),
-    };
+    let outcome = answer(alloc, words, reader, out);
     tell(&outcome, err)
+}
+
+/// Does what the words ask for.
+fn answer<R: Read, W: Write>(
+    alloc: Global,
+    words: &[&str],
+    reader: &mut R,
+    out: &mut W,
+) -> Result<(), Fault>
+    ensures done { OnOk result (DoesSome (record {
+      reader = R.remaining reader.old;
+      reader' = R.remaining reader.new;
+      writer = W.contents out.old;
+      writer' = W.contents out.new;
+    })) }
+    ensures stopped { IfErr result (StopsSome (record {
+      reader = R.remaining reader.old;
+      reader' = R.remaining reader.new;
+      writer = W.contents out.old;
+      writer' = W.contents out.new;
+    })) }
+{
+    let request = read_words(alloc, words)?;
+    perform(alloc, &request, reader, out)
 }
 
 /// Does what was asked for.

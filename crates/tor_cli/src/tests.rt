@@ -9,6 +9,12 @@ const ABC: &[u8; 158] = b"d4:infod9:file treed1:ad0:d6:lengthi3e11:pieces root32
 \xba\x78\x16\xbf\x8f\x01\xcf\xea\x41\x41\x40\xde\x5d\xae\x22\x23\xb0\x03\x61\xa3\x96\x17\x7a\x9c\xb4\x10\xff\x61\xf2\x00\x15\xad\
 eee12:meta versioni2e4:name1:a12:piece lengthi16384ee12:piece layersdee";
 
+// The same with the tracker `http://t/`, and private.
+const ABC_TRACKED: &[u8; 191] =
+    b"d8:announce9:http://t/4:infod9:file treed1:ad0:d6:lengthi3e11:pieces root32:\
+\xba\x78\x16\xbf\x8f\x01\xcf\xea\x41\x41\x40\xde\x5d\xae\x22\x23\xb0\x03\x61\xa3\x96\x17\x7a\x9c\xb4\x10\xff\x61\xf2\x00\x15\xad\
+eee12:meta versioni2e4:name1:a12:piece lengthi16384e7:privatei1ee12:piece layersdee";
+
 const WORDS: [&str; 6] = ["tor", "make", "--name", "a", "--piece-length", "16384"];
 
 // A reader that faults after its bytes.
@@ -21,6 +27,16 @@ impl Read for Faulting<'_> {
             return Err(Error::from(ErrorKind::Interrupted));
         }
         self.0.read(buf)
+    }
+}
+
+// A reader that never ends.
+#[derive(Drop)]
+struct Endless;
+
+impl Read for Endless {
+    fn read(&mut self, buf: &mut [u8]) -> Result<usize> {
+        Ok(buf.len())
     }
 }
 
@@ -80,7 +96,101 @@ fn reads_up_to_the_limit(rt: HostRuntime) -> std::result::Result<(), Fail> {
 }
 
 #[test]
-fn makes_a_torrent_of_its_input(rt: HostRuntime) -> std::result::Result<(), Fail> {
+fn makes_a_torrent_of_each_kind(rt: HostRuntime) -> std::result::Result<(), Fail> {
+    let alloc = rt.alloc();
+    let table: [(&[&str], &[u8], &[u8]); 7] = [
+        (&WORDS, b"abc", ABC),
+        (
+            &[
+                "tor",
+                "make",
+                "--private",
+                "--announce",
+                "http://t/",
+                "--piece-length=16384",
+                "--name=a",
+            ],
+            b"abc",
+            ABC_TRACKED,
+        ),
+        (
+            &[
+                "tor",
+                "make",
+                "--kind=v1",
+                "--name",
+                "a",
+                "--piece-length",
+                "16384",
+            ],
+            b"",
+            b"d4:infod6:lengthi0e4:name1:a12:piece lengthi16384e6:pieces0:ee",
+        ),
+        (
+            &[
+                "tor",
+                "make",
+                "--kind=hybrid",
+                "--name",
+                "a",
+                "--piece-length",
+                "16384",
+            ],
+            b"",
+            b"d4:infod9:file treed1:ad0:d6:lengthi0eeee6:lengthi0e12:meta versioni2e4:name1:a\
+12:piece lengthi16384e6:pieces0:e12:piece layersdee",
+        ),
+        (
+            &[
+                "tor",
+                "make",
+                "--kind=hybrid",
+                "--name",
+                ".pad",
+                "--piece-length",
+                "16384",
+            ],
+            b"",
+            b"d4:infod9:file treed4:.padd0:d6:lengthi0eeee6:lengthi0e12:meta versioni2e4:name4:.pad\
+12:piece lengthi16384e6:pieces0:e12:piece layersdee",
+        ),
+        (
+            &[
+                "tor",
+                "make",
+                "--kind",
+                "v1",
+                "--name",
+                " a ",
+                "--announce=",
+            ],
+            b"",
+            b"d8:announce0:4:infod6:lengthi0e4:name3: a 12:piece lengthi262144e6:pieces0:ee",
+        ),
+        (
+            &["tor", "make", "--name", "a"],
+            b"",
+            b"d4:infod9:file treed1:ad0:d6:lengthi0eee12:meta versioni2e4:name1:a\
+12:piece lengthi262144ee12:piece layersdee",
+        ),
+    ];
+    for (words, input, torrent) in table {
+        let mut reader = input;
+        let mut out = Vec::new(alloc);
+        let mut err = Vec::new(alloc);
+        assert_eq!(rt;
+            run(alloc, words, &mut reader, &mut out, &mut err),
+            0,
+            "at {words:?}"
+        );
+        assert_eq!(rt; out.as_slice(), torrent, "at {words:?}");
+        assert!(rt; err.is_empty());
+    }
+    Ok(())
+}
+
+#[test]
+fn writes_a_torrent_byte_by_byte(rt: HostRuntime) -> std::result::Result<(), Fail> {
     let alloc = rt.alloc();
     let mut input: &[u8] = b"abc";
     let mut out = narrow_writer(alloc, 1, 1000, true);
@@ -92,86 +202,151 @@ fn makes_a_torrent_of_its_input(rt: HostRuntime) -> std::result::Result<(), Fail
 }
 
 #[test]
-fn tells_faults_of_its_streams(rt: HostRuntime) -> std::result::Result<(), Fail> {
+fn tells_a_fault_of_its_reader_before_one_of_its_words(
+    rt: HostRuntime,
+) -> std::result::Result<(), Fail> {
     let alloc = rt.alloc();
-    let mut err = Vec::new(alloc);
-    let mut out = narrow_writer(alloc, 1000, 1000, true);
-    assert_eq!(rt;
-        run(alloc, &WORDS, &mut Faulting(b"ab"), &mut out, &mut err),
-        3
-    );
-    assert!(rt; out.written.is_empty());
-    for faults in [true, false] {
-        let mut input: &[u8] = b"abc";
-        let mut out = narrow_writer(alloc, 1000, 12, faults);
-        assert_eq!(rt; run(alloc, &WORDS, &mut input, &mut out, &mut err), 3);
-        assert_eq!(rt; out.written.as_slice(), b"d4:infod9:fi".as_slice());
+    let table: [&[&str]; 3] = [
+        &WORDS,
+        &["tor", "make", "--name", ".."],
+        &["tor", "make", "--name", "a", "--piece-length", "5"],
+    ];
+    for words in table {
+        let mut out = Vec::new(alloc);
+        let mut err = Vec::new(alloc);
+        let status = run(alloc, words, &mut Faulting(b"ab"), &mut out, &mut err);
+        assert_eq!(rt; status, 3, "at {words:?}");
+        assert!(rt; out.is_empty());
+        assert_eq!(rt;
+            err.as_slice(),
+            b"tor: read fault\n".as_slice(),
+            "at {words:?}"
+        );
     }
-    assert_eq!(rt;
-        err.as_slice(),
-        b"tor: read fault\n\
-tor: write fault after 12 bytes\n\
-tor: write fault after 12 bytes\n"
-            .as_slice()
-    );
     Ok(())
 }
 
 #[test]
-fn tells_refusals_and_usage(rt: HostRuntime) -> std::result::Result<(), Fail> {
+fn tells_that_its_input_is_too_long(rt: HostRuntime) -> std::result::Result<(), Fail> {
     let alloc = rt.alloc();
-    let table: [(&[&str], u8, &str); 9] = [
-        (
-            &["tor", "make", "--name", "..", "--piece-length", "5"],
-            1,
-            "tor: N3 DotDot\n",
-        ),
-        (
-            &["tor", "make", "--name", "a", "--piece-length", "16383"],
-            1,
-            "tor: M1 PieceLength\n",
-        ),
-        (&["tor", "make", "--name="], 1, "tor: N1 Empty\n"),
+    let mut out = Vec::new(alloc);
+    let mut err = Vec::new(alloc);
+    let words = ["tor", "make", "--name", ".."];
+    let status = run(alloc, &words, &mut Endless, &mut out, &mut err);
+    assert_eq!(rt; status, 3);
+    assert!(rt; out.is_empty());
+    assert_eq!(rt; err.as_slice(), b"tor: input too long\n".as_slice());
+    Ok(())
+}
+
+#[test]
+fn tells_how_many_bytes_were_written(rt: HostRuntime) -> std::result::Result<(), Fail> {
+    let alloc = rt.alloc();
+    for faults in [true, false] {
+        let mut input: &[u8] = b"abc";
+        let mut out = narrow_writer(alloc, 1000, 12, faults);
+        let mut err = Vec::new(alloc);
+        assert_eq!(rt; run(alloc, &WORDS, &mut input, &mut out, &mut err), 3);
+        assert_eq!(rt; out.written.as_slice(), b"d4:infod9:fi".as_slice());
+        assert_eq!(rt;
+            err.as_slice(),
+            b"tor: write fault after 12 bytes\n".as_slice()
+        );
+    }
+    Ok(())
+}
+
+#[test]
+fn reads_its_input_before_it_refuses_its_words(rt: HostRuntime) -> std::result::Result<(), Fail> {
+    let alloc = rt.alloc();
+    let table: [(&str, &str, &str); 9] = [
+        ("", "16384", "tor: N1 Empty\n"),
+        (".", "16384", "tor: N2 Dot\n"),
+        ("..", "5", "tor: N3 DotDot\n"),
+        ("a/b", "16384", "tor: N4 Slash\n"),
+        ("a\0b", "16384", "tor: N5 Nul\n"),
+        ("a", "0", "tor: M1 PieceLength\n"),
+        ("a", "16383", "tor: M1 PieceLength\n"),
+        ("a", "49152", "tor: M1 PieceLength\n"),
+        ("a", "2147483648", "tor: M1 PieceLength\n"),
+    ];
+    for (name, piece_length, line) in table {
+        let words = [
+            "tor",
+            "make",
+            "--name",
+            name,
+            "--piece-length",
+            piece_length,
+        ];
+        let mut input: &[u8] = b"abc";
+        let mut out = Vec::new(alloc);
+        let mut err = Vec::new(alloc);
+        let status = run(alloc, &words, &mut input, &mut out, &mut err);
+        assert_eq!(rt; status, 1, "at {line}");
+        assert!(rt; input.is_empty(), "at {line}");
+        assert!(rt; out.is_empty());
+        assert_eq!(rt; err.as_slice(), line.as_bytes(), "at {line}");
+    }
+    Ok(())
+}
+
+#[test]
+fn tells_a_fault_of_usage_in_one_line(rt: HostRuntime) -> std::result::Result<(), Fail> {
+    let alloc = rt.alloc();
+    let table: [(&[&str], &str); 10] = [
         (
             &["tor", "make", "--foo"],
-            2,
             "tor: unexpected argument '--foo'; see 'tor make --help'\n",
         ),
         (
             &["tor", "make"],
-            2,
             "tor: the following required arguments were not provided: --name <NAME>; see 'tor make --help'\n",
         ),
         (
             &["tor", "make", "--name"],
-            2,
             "tor: a value is required for '--name <NAME>' but none was supplied; see 'tor make --help'\n",
         ),
         (
             &["tor", "make", "--name", "a", "--piece-length", "x"],
-            2,
             "tor: invalid value 'x' for '--piece-length <N>': invalid digit found in string; see 'tor make --help'\n",
         ),
         (
+            &["tor", "make", "--name", "a", "--kind", "v3"],
+            "tor: invalid value 'v3' for '--kind <KIND>' [possible values: v1, v2, hybrid]; see 'tor make --help'\n",
+        ),
+        (
             &["tor", "mak"],
-            2,
             "tor: unrecognized subcommand 'mak'; see 'tor --help'\n",
         ),
         (
             &["tor"],
-            2,
             "tor: 'tor' requires a subcommand but one was not provided [subcommands: make, help]; see 'tor --help'\n",
         ),
+        (
+            &["tor", "make", "--f\n\noo\x1b[0m\\\x7f"],
+            "tor: unexpected argument '--f\\x0a\\x0aoo\\x1b[0m\\x5c\\x7f'; see 'tor make --help'\n",
+        ),
+        (
+            &["tor", "\té\r\n\r\n"],
+            "tor: unrecognized subcommand '\\x09é\\x0d\\x0a\\x0d\\x0a'; see 'tor --help'\n",
+        ),
+        (
+            &["tor", "make", "--name", "a\\", "--piece-length", "1\n\n2"],
+            "tor: invalid value '1\\x0a\\x0a2' for '--piece-length <N>': invalid digit found in string; \
+see 'tor make --help'\n",
+        ),
     ];
-    for (words, status, line) in table {
+    for (words, line) in table {
         let mut input: &[u8] = b"abc";
         let mut out = Vec::new(alloc);
         let mut err = Vec::new(alloc);
         assert_eq!(rt;
             run(alloc, words, &mut input, &mut out, &mut err),
-            status,
+            2,
             "at {line}"
         );
+        assert_eq!(rt; input.len(), 3, "at {line}");
         assert!(rt; out.is_empty());
         assert_eq!(rt; err.as_slice(), line.as_bytes(), "at {line}");
     }
@@ -185,7 +360,7 @@ fn shows_help_and_version(rt: HostRuntime) -> std::result::Result<(), Fail> {
         (&["tor", "--version"], "tor 0.1.0\n"),
         (
             &["tor", "make", "--help"],
-            "Makes a v2 torrent of standard input and writes it to standard output\n",
+            "Makes a torrent of standard input and writes it to standard output\n",
         ),
     ];
     for (words, beginning) in table {

@@ -80,5 +80,5 @@ judged head paths lengths entries placed accepted is_list =
       short = λ k d lt. ltb-false MAX_NAMES (length (get_or files k d).0) (All-from_recursion (λ (file : List (List ℕ) × ℕ). is_long file.0 ≡ false) files (of_files is_long refl paths lengths entries found second.0) k d lt);
       one = λ e. simp length-map (placed.one_each ∙ one_path head.name paths (allowed (is_only head.name paths) (second_of head.single (not (is_only head.name paths)) third.0 e)));
       free = not_reserved (is_aligned head.kind head.single) files (λ e. none_of (λ (file : List (List ℕ) × ℕ). is_reserved file.0) files
-        (of_files is_reserved refl paths lengths entries found (second_of (is_aligned head.kind head.single) (list_any is_reserved paths) reserved.0 e)));
+          (of_files is_reserved refl paths lengths entries found (second_of (is_aligned head.kind head.single) (list_any is_reserved paths) reserved.0 e)));
     }

@@ -38,7 +38,9 @@ impl FedSums {
         FedSums {
             count: 0,
             feed: head.has_v2().then(|| Feed::new(alloc, head.piece_length)),
-            pieces: head.has_v1().then(|| PieceSums::new(alloc, head.piece_length)),
+            pieces: head
+                .has_v1()
+                .then(|| PieceSums::new(alloc, head.piece_length)),
         }
     }
 

@@ -87,11 +87,7 @@ fn entry_list(alloc: Global, head: &Head, list: &FileList) -> Result<Option<Item
 }
 
 /// The entries of the files in the layout that the head asks for.
-pub(crate) fn entries(
-    alloc: Global,
-    head: &Head,
-    list: &FileList,
-) -> Result<Vec<Entry>, AllocError>
+pub(crate) fn entries(alloc: Global, head: &Head, list: &FileList) -> Result<Vec<Entry>, AllocError>
     requires { IsJudged head.now list.now }
     ensures made { IfOk result (λ entries. entries.items
         ≡ v1_entries (layout_of (settings_of head.now)) head.now.piece_length list.now) }

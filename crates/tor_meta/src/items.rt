@@ -68,7 +68,11 @@ fn file(alloc: Global, entry: &Entry) -> Result<Item, AllocError>
     requires { entry.now.length < 2 ^ 63 }
     ensures { IfOk result (λ item. view item ≡ entry_dictionary entry.now) }
 {
-    let attr = if entry.pad { Some(text(alloc, b"p")?) } else { None };
+    let attr = if entry.pad {
+        Some(text(alloc, b"p")?)
+    } else {
+        None
+    };
     let path = path(alloc, entry.path.names())?;
     dictionary(
         alloc,

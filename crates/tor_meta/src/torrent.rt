@@ -42,12 +42,7 @@ pub fn torrent_bytes(
 }
 
 /// Its root dictionary.
-fn tree(
-    alloc: Global,
-    head: &Head,
-    list: &FileList,
-    sums: &Sums,
-) -> Result<Tree, AllocError>
+fn tree(alloc: Global, head: &Head, list: &FileList, sums: &Sums) -> Result<Tree, AllocError>
     requires judged { IsJudged head.now list.now }
     requires trees { HaveTrees head.now list.now sums.now }
     ensures { (facts : List Facts) → AreFactsOf head.now list.now sums.now facts → IfOk result (λ tree.
@@ -62,12 +57,7 @@ fn tree(
 }
 
 /// The same as an item.
-fn root(
-    alloc: Global,
-    head: &Head,
-    list: &FileList,
-    sums: &Sums,
-) -> Result<Item, AllocError>
+fn root(alloc: Global, head: &Head, list: &FileList, sums: &Sums) -> Result<Item, AllocError>
     requires judged { IsJudged head.now list.now }
     requires trees { HaveTrees head.now list.now sums.now }
     ensures { (facts : List Facts) → AreFactsOf head.now list.now sums.now facts → IfOk result (λ item.

@@ -16,5 +16,5 @@ pub returns : goal.returns
 returns c = λ facts is_listed.
     let d = c.index-files-0.result in
     let size : total_size facts ≡ (get_or c.args.files.now 0 d).1 =
-      one_size facts (get_or c.args.files.now 0 d) (is_listed ∙ only_file c.args.files.now d c.in-len1.len_at_least c.in-len1.len_below) in
+    one_size facts (get_or c.args.files.now 0 d) (is_listed ∙ only_file c.args.files.now d c.in-len1.len_at_least c.in-len1.len_below) in
     rw (sym c.if-not-has_v1.ensures, c.if-not-head.false, size) (ap Some c.number.ensures)

@@ -25,27 +25,27 @@ pub files-preserved-in_ok-insert : goal.files-preserved-in_ok-insert
 files-preserved-in_ok-insert c = record {
   within = omega (arith, c.files.invariant.within);
   passed = λ facts is_listed is_roots is_layers.
-    layer_put c.args.piece_length c.args.files.now c.args.roots.now c.args.layers.now c.files.left c.files-test.true c.files.invariant.within c.index-files-left.result
-    None c.index-layers-left.result c.in-Some.root c.in_ok-joined.field-0 c.files.by_root.entries c.insert.new.self.entries
-    c.if-files-left.true c.in-Some.is (c.in_ok-joined.ensures ∙ ap joined (c.deref.ensures.value ∙ ap (λ layer. layer.items) c.index-layers-left.is)) c.in_ok-insert.ensures.entries
-    facts is_listed is_roots is_layers (c.files.invariant.passed facts is_listed is_roots is_layers);
+      layer_put c.args.piece_length c.args.files.now c.args.roots.now c.args.layers.now c.files.left c.files-test.true c.files.invariant.within c.index-files-left.result
+      None c.index-layers-left.result c.in-Some.root c.in_ok-joined.field-0 c.files.by_root.entries c.insert.new.self.entries
+      c.if-files-left.true c.in-Some.is (c.in_ok-joined.ensures ∙ ap joined (c.deref.ensures.value ∙ ap (λ layer. layer.items) c.index-layers-left.is)) c.in_ok-insert.ensures.entries
+      facts is_listed is_roots is_layers (c.files.invariant.passed facts is_listed is_roots is_layers);
 }
 
 pub files-preserved-in_ok-insert-2 : goal.files-preserved-in_ok-insert-2
 files-preserved-in_ok-insert-2 c = record {
   within = omega (arith, c.files.invariant.within);
   passed = λ facts is_listed is_roots is_layers.
-    layer_put c.args.piece_length c.args.files.now c.args.roots.now c.args.layers.now c.files.left c.files-test.true c.files.invariant.within c.index-files-left.result
-    None c.index-layers-left.result c.in-Some.root c.in_ok-joined.field-0 c.files.by_root.entries c.insert.new.self.entries
-    c.if-files-left.true c.in-Some.is (c.in_ok-joined.ensures ∙ ap joined (c.deref.ensures.value ∙ ap (λ layer. layer.items) c.index-layers-left.is)) c.in_ok-insert.ensures.entries
-    facts is_listed is_roots is_layers (c.files.invariant.passed facts is_listed is_roots is_layers);
+      layer_put c.args.piece_length c.args.files.now c.args.roots.now c.args.layers.now c.files.left c.files-test.true c.files.invariant.within c.index-files-left.result
+      None c.index-layers-left.result c.in-Some.root c.in_ok-joined.field-0 c.files.by_root.entries c.insert.new.self.entries
+      c.if-files-left.true c.in-Some.is (c.in_ok-joined.ensures ∙ ap joined (c.deref.ensures.value ∙ ap (λ layer. layer.items) c.index-layers-left.is)) c.in_ok-insert.ensures.entries
+      facts is_listed is_roots is_layers (c.files.invariant.passed facts is_listed is_roots is_layers);
 }
 
 pub files-preserved : goal.files-preserved
 files-preserved c = record {
   within = omega (arith, c.files.invariant.within);
   passed = λ facts is_listed is_roots is_layers.
-    layer_left_out c.args.piece_length c.args.files.now c.args.roots.now c.args.layers.now c.files.left c.files-test.true c.files.invariant.within c.index-files-left.result
-    c.files.by_root.entries c.if-files-left.false
-    facts is_listed is_roots is_layers (c.files.invariant.passed facts is_listed is_roots is_layers);
+      layer_left_out c.args.piece_length c.args.files.now c.args.roots.now c.args.layers.now c.files.left c.files-test.true c.files.invariant.within c.index-files-left.result
+      c.files.by_root.entries c.if-files-left.false
+      facts is_listed is_roots is_layers (c.files.invariant.passed facts is_listed is_roots is_layers);
 }

@@ -14,7 +14,7 @@ loop-entry-preserved-then-entry c =
       before.0 ++ zeros entry.length,
       c.in_ok-feed_zeros.ensures.ok c.args.piece_length before.0 before.1,
       left_padding before.0 c.args.entries.now c.loop-entry.entry-index (bytes_of (iter_rest c.loop-entry.left)) (joined_content c.args.entries.now (bytes_of c.args.contents.now)) entry
-      c.loop-entry-test.true c.entry-item.is c.if-entry.true before.2,
+          c.loop-entry-test.true c.entry-item.is c.if-entry.true before.2,
     )
 
 pub loop-entry-preserved-in_default : goal.loop-entry-preserved-in_default
@@ -25,7 +25,7 @@ loop-entry-preserved-in_default c =
       before.0,
       before.1,
       rw end.1 (left_none before.0 c.args.entries.now c.loop-entry.entry-index (bytes_of (iter_rest c.loop-entry.left)) (joined_content c.args.entries.now (bytes_of c.args.contents.now)) c.entry-item.result
-      none c.loop-entry-test.true c.entry-item.is c.if-entry.false before.2),
+          none c.loop-entry-test.true c.entry-item.is c.if-entry.false before.2),
     )
 
 pub loop-entry-preserved : goal.loop-entry-preserved
@@ -35,8 +35,8 @@ loop-entry-preserved c =
       before.0 ++ c.in-Some.content.now.now,
       c.in_ok-feed.ensures.ok c.args.piece_length before.0 before.1,
       left_next before.0 c.args.entries.now c.loop-entry.entry-index (bytes_of (iter_rest c.loop-entry.left)) (joined_content c.args.entries.now (bytes_of c.args.contents.now)) entry
-      c.in-Some.content.now.now (bytes_of (iter_rest c.next.new.self)) (ap bytes_of c.in-Some.ensures.steps)
-      c.loop-entry-test.true c.entry-item.is c.if-entry.false before.2,
+          c.in-Some.content.now.now (bytes_of (iter_rest c.next.new.self)) (ap bytes_of c.in-Some.ensures.steps)
+          c.loop-entry-test.true c.entry-item.is c.if-entry.false before.2,
     )
 
 pub returns : goal.returns
