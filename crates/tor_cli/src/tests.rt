@@ -170,7 +170,7 @@ fn makes_a_torrent_of_each_kind(rt: HostRuntime) -> std::result::Result<(), Fail
         (
             &["tor", "make", "--name", "a"],
             b"",
-            b"d4:infod9:file treed1:ad0:d6:lengthi0eee12:meta versioni2e4:name1:a\
+            b"d4:infod9:file treed1:ad0:d6:lengthi0eeee12:meta versioni2e4:name1:a\
 12:piece lengthi262144ee12:piece layersdee",
         ),
     ];

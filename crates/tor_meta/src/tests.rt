@@ -211,30 +211,35 @@ fn takes_reserved_names_where_there_is_no_padding(rt: HostRuntime) -> Result<(),
     Ok(())
 }
 
-/// The line of the refusal.
-fn refusal(alloc: Global, kind: Kind, single: bool, piece_length: u64, told: &[(&str, &[u8])]) -> Result<String, Fail> {
+/// The line of the refusal of empty files, whose paths stand in a text with spaces between, in the folder or file `f`.
+fn refusal(alloc: Global, kind: Kind, single: bool, piece_length: u64, paths: &str) -> Result<String, Fail> {
+    let mut files = Vec::new(alloc);
+    for text in paths.split(' ') {
+        if !text.is_empty() {
+            files.push((path(alloc, text)?, Vec::new(alloc)))?;
+        }
+    }
     let head = head(alloc, kind, b"f", single, piece_length)?;
-    let made = make_contents(alloc, files(alloc, told)?, &head);
-    let refusal = made.err().ok_or("made")?;
+    let refusal = make_contents(alloc, files, &head).err().ok_or("made")?;
     Ok(format!(in alloc; "{refusal}")?)
 }
 
 #[test]
 fn refuses_in_order(rt: HostRuntime) -> Result<(), Fail> {
     let alloc = rt.alloc();
-    let table: [(Kind, bool, u64, &[(&str, &[u8])], &str); 9] = [
-        (Kind::V2, true, 16383, &[], "M1 PieceLength"),
-        (Kind::V1, false, 2147483648, &[("b", b"")], "M1 PieceLength"),
-        (Kind::V2, true, 16384, &[], "M5 SingleShape"),
-        (Kind::V1, true, 16384, &[("b", b"")], "M5 SingleShape"),
-        (Kind::V2, true, 16384, &[("f", b""), ("f", b"")], "M5 SingleShape"),
-        (Kind::V2, false, 16384, &[], "L4 NoFiles"),
-        (Kind::V1, false, 16384, &[("b", b""), ("b", b"")], "L1 Duplicate"),
-        (Kind::Hybrid, false, 16384, &[(".pad", b""), (".pad/1", b"")], "L2 FileAndFolder"),
-        (Kind::Hybrid, false, 16384, &[("a", b""), (".pad/1", b"")], "Y1 ReservedPad"),
+    let table: [(Kind, bool, u64, &str, &str); 9] = [
+        (Kind::V2, true, 16383, "", "M1 PieceLength"),
+        (Kind::V1, false, 2147483648, "b", "M1 PieceLength"),
+        (Kind::V2, true, 16384, "", "M5 SingleShape"),
+        (Kind::V1, true, 16384, "b", "M5 SingleShape"),
+        (Kind::V2, true, 16384, "f f", "M5 SingleShape"),
+        (Kind::V2, false, 16384, "", "L4 NoFiles"),
+        (Kind::V1, false, 16384, "b b", "L1 Duplicate"),
+        (Kind::Hybrid, false, 16384, ".pad .pad/1", "L2 FileAndFolder"),
+        (Kind::Hybrid, false, 16384, "a .pad/1", "Y1 ReservedPad"),
     ];
-    for (kind, single, piece_length, told, line) in table {
-        let refusal = refusal(alloc, kind, single, piece_length, told)?;
+    for (kind, single, piece_length, paths, line) in table {
+        let refusal = refusal(alloc, kind, single, piece_length, paths)?;
         assert_eq!(rt; refusal.as_str(), line);
     }
     Ok(())
