@@ -142,11 +142,23 @@ fn pads_hybrids_before_contents_alone(rt: HostRuntime) -> Result<(), Fail> {
     let alloc = rt.alloc();
     let listed = b"5:filesld6:lengthi2e4:pathl1:aeed6:lengthi0e4:pathl2:aaeee";
     let torrent = folder(alloc, Kind::Hybrid, &[("a", b"ab"), ("aa", b"")])?;
-    assert!(rt; torrent.windows(listed.len()).any(|part| part == listed.as_slice()));
+    assert!(rt;
+        torrent
+            .windows(listed.len())
+            .any(|part| part == listed.as_slice())
+    );
     let listed = b"5:filesld6:lengthi2e4:pathl1:aeed4:attr1:p6:lengthi16382e4:pathl4:.pad5:16382ee\
 d6:lengthi0e4:pathl2:aaeed6:lengthi1e4:pathl1:beee";
-    let torrent = folder(alloc, Kind::Hybrid, &[("a", b"ab"), ("aa", b""), ("b", b"c")])?;
-    assert!(rt; torrent.windows(listed.len()).any(|part| part == listed.as_slice()));
+    let torrent = folder(
+        alloc,
+        Kind::Hybrid,
+        &[("a", b"ab"), ("aa", b""), ("b", b"c")],
+    )?;
+    assert!(rt;
+        torrent
+            .windows(listed.len())
+            .any(|part| part == listed.as_slice())
+    );
     Ok(())
 }
 
@@ -212,7 +224,13 @@ fn takes_reserved_names_where_there_is_no_padding(rt: HostRuntime) -> Result<(),
 }
 
 /// The line of the refusal of empty files, whose paths stand in a text with spaces between, in the folder or file `f`.
-fn refusal(alloc: Global, kind: Kind, single: bool, piece_length: u64, paths: &str) -> Result<String, Fail> {
+fn refusal(
+    alloc: Global,
+    kind: Kind,
+    single: bool,
+    piece_length: u64,
+    paths: &str,
+) -> Result<String, Fail> {
     let mut files = Vec::new(alloc);
     for text in paths.split(' ') {
         if !text.is_empty() {
@@ -235,7 +253,13 @@ fn refuses_in_order(rt: HostRuntime) -> Result<(), Fail> {
         (Kind::V2, true, 16384, "f f", "M5 SingleShape"),
         (Kind::V2, false, 16384, "", "L4 NoFiles"),
         (Kind::V1, false, 16384, "b b", "L1 Duplicate"),
-        (Kind::Hybrid, false, 16384, ".pad .pad/1", "L2 FileAndFolder"),
+        (
+            Kind::Hybrid,
+            false,
+            16384,
+            ".pad .pad/1",
+            "L2 FileAndFolder",
+        ),
         (Kind::Hybrid, false, 16384, "a .pad/1", "Y1 ReservedPad"),
     ];
     for (kind, single, piece_length, paths, line) in table {

@@ -55,11 +55,12 @@ strings_lawful texts = list_lawful 0 (map string texts) (each texts)
 entry_lawful : (entry : Entry) → entry.length < 2 ^ 63 → IsLawfulWithin 2 (entry_dictionary entry)
 entry_lawful entry small =
     let fields : List (List ℕ × Option Data) =
-      (codes "attr", when entry.pad (string (codes "p"))) ∷ (codes "length", Some (integer (pos entry.length)))
-      ∷ (codes "path", Some (strings entry.path)) ∷ [] in
+    (codes "attr", when entry.pad (string (codes "p"))) ∷ (codes "length", Some (integer (pos entry.length)))
+    ∷ (codes "path", Some (strings entry.path)) ∷ [] in
     present_lawful 1 fields (refl, (refl, tt)) (
       when_there 1 entry.pad (string (codes "p")) (λ e. string_lawful 1 (codes "p")),
-      (number_lawful 1 entry.length small, (strings_lawful entry.path, tt)))
+      (number_lawful 1 entry.length small, (strings_lawful entry.path, tt)),
+    )
 
 files_list_lawful : (entries : List Entry) → AllByRecursion (λ entry. entry.length < 2 ^ 63) entries → IsLawfulWithin 3 (files_list entries)
 files_list_lawful entries small = list_lawful 2 (map entry_dictionary entries) (each entries small)
@@ -134,19 +135,35 @@ info_lawful settings facts pieces made =
     let tree = file_tree (listed facts) (roots_in facts) in
     let entries = v1_entries (layout_of settings) settings.piece_length (listed facts) in
     let fields : List (List ℕ × Option Data) =
-      (codes "file tree", when v2 tree) ∷ (codes "files", when (v1 && not settings.single) (files_list entries))
-      ∷ (codes "length", when (v1 && settings.single) (integer (pos (total_size facts)))) ∷ (codes "meta version", when v2 (integer (pos 2)))
-      ∷ (codes "name", Some (string settings.name)) ∷ (codes "piece length", Some (integer (pos settings.piece_length)))
-      ∷ (codes "pieces", when v1 (string pieces)) ∷ (codes "private", when settings.is_private (integer (pos 1))) ∷ [] in
+    (codes "file tree", when v2 tree) ∷ (codes "files", when (v1 && not settings.single) (files_list entries))
+    ∷ (codes "length", when (v1 && settings.single) (integer (pos (total_size facts)))) ∷ (codes "meta version", when v2 (integer (pos 2)))
+    ∷ (codes "name", Some (string settings.name)) ∷ (codes "piece length", Some (integer (pos settings.piece_length)))
+    ∷ (codes "pieces", when v1 (string pieces)) ∷ (codes "private", when settings.is_private (integer (pos 1))) ∷ [] in
     present_lawful 66 fields (refl, (refl, (refl, (refl, (refl, (refl, (refl, tt))))))) (
-      when_there 66 v2 tree (λ e. file_tree_is_lawful 64 (listed facts) (roots_in facts) made.in_order made.named (made.rooted e) (All-from_recursion _ (listed facts) small) made.short), (
-      when_there 66 (v1 && not settings.single) (files_list entries) (λ e. wider 3 66 (files_list entries) (omega arith) (files_list_lawful entries (small_entries (layout_of settings) settings.piece_length (listed facts) (omega (arith, bounds)) (omega (arith, bounds)) small))), (
-      when_there 66 (v1 && settings.single) (integer (pos (total_size facts))) (λ e. number_lawful 66 (total_size facts) made.small), (
-      when_there 66 v2 (integer (pos 2)) (λ e. number_lawful 66 2 (omega arith)), (
-      string_lawful 66 settings.name, (
-      number_lawful 66 settings.piece_length (omega (arith, bounds)), (
-      when_there 66 v1 (string pieces) (λ e. string_lawful 66 pieces), (
-      when_there 66 settings.is_private (integer (pos 1)) (λ e. number_lawful 66 1 (omega arith)), tt))))))))
+      when_there 66 v2 tree (λ e. file_tree_is_lawful 64 (listed facts) (roots_in facts) made.in_order made.named (made.rooted e) (All-from_recursion _ (listed facts) small) made.short),
+      (
+        when_there 66 (v1 && not settings.single) (files_list entries) (λ e. wider 3 66 (files_list entries) (omega arith) (files_list_lawful entries (small_entries (layout_of settings) settings.piece_length (listed facts) (omega (arith, bounds)) (omega (arith, bounds)) small))),
+        (
+          when_there 66 (v1 && settings.single) (integer (pos (total_size facts))) (λ e. number_lawful 66 (total_size facts) made.small),
+          (
+            when_there 66 v2 (integer (pos 2)) (λ e. number_lawful 66 2 (omega arith)),
+            (
+              string_lawful 66 settings.name,
+              (
+                number_lawful 66 settings.piece_length (omega (arith, bounds)),
+                (
+                  when_there 66 v1 (string pieces) (λ e. string_lawful 66 pieces),
+                  (
+                    when_there 66 settings.is_private (integer (pos 1)) (λ e. number_lawful 66 1 (omega arith)),
+                    tt,
+                  ),
+                ),
+              ),
+            ),
+          ),
+        ),
+      ),
+    )
 
 announced : (url : Option (List ℕ)) → IfThere 67 (option_map string url)
 announced None = tt
@@ -158,10 +175,17 @@ torrents_are_lawful settings facts pieces made =
     let info = info_dictionary settings facts pieces in
     let layers = dictionary (piece_layers settings.piece_length facts) in
     let fields : List (List ℕ × Option Data) =
-      (codes "announce", option_map string settings.announce) ∷ (codes "info", Some info) ∷ (codes "piece layers", when v2 layers) ∷ [] in
+    (codes "announce", option_map string settings.announce) ∷ (codes "info", Some info) ∷ (codes "piece layers", when v2 layers) ∷ [] in
     wider 68 100 (dictionary (present fields)) (omega arith) (present_lawful 67 fields (refl, (refl, tt)) (
-      announced settings.announce, (info_lawful settings facts pieces made, (
-      when_there 67 v2 layers (λ e. wider 1 67 layers (omega arith) (layers_lawful settings.piece_length facts)), tt))))
+      announced settings.announce,
+      (
+        info_lawful settings facts pieces made,
+        (
+          when_there 67 v2 layers (λ e. wider 1 67 layers (omega arith) (layers_lawful settings.piece_length facts)),
+          tt,
+        ),
+      ),
+    ))
 
 pub small_lengths : (layout : Layout) (p : ℕ) (files : List (List (List ℕ) × ℕ)) → IsPieceLength p → All (λ file. file.1 < 2 ^ 63) files
     → All (λ (entry : Entry). entry.length < 2 ^ 63) (v1_entries layout p files)

@@ -18,9 +18,11 @@ info_dictionary settings facts pieces =
     let v1 = has_v1 settings.kind in
     let v2 = has_v2 settings.kind in
     dictionary (present (
-    (codes "file tree", when v2 (file_tree (listed facts) (roots_in facts))) ∷
-    (codes "files", when (v1 && not settings.single)
-      (files_list (v1_entries (layout_of settings) settings.piece_length (listed facts)))) ∷
+    (codes "file tree", when v2 (file_tree (listed facts) (roots_in facts))) ∷ (
+      codes "files",
+      when (v1 && not settings.single)
+          (files_list (v1_entries (layout_of settings) settings.piece_length (listed facts))),
+    ) ∷
     (codes "length", when (v1 && settings.single) (integer (pos (total_size facts)))) ∷
     (codes "meta version", when v2 (integer (pos 2))) ∷
     (codes "name", Some (string settings.name)) ∷

@@ -26,7 +26,7 @@ abbrev pub pieces_of_files : Settings → List File → List ℕ
 pieces_of_files settings files =
     let facts = facts_of_files settings.piece_length files in
     v1_pieces settings.piece_length (v1_entries (layout_of settings) settings.piece_length (listed facts))
-      (map (λ file. file.content) files)
+    (map (λ file. file.content) files)
 
 -- the whole file, of files in the order of their paths
 unfoldable pub metainfo : Settings → List File → List ℕ
