@@ -1,0 +1,4 @@
+pub mod Units
+pub mod Forest
+pub mod PlanFacts
+pub mod steps

@@ -1,0 +1,12 @@
+//! How files are cut into units of work for hashing workers.
+#![tactic(auto)]
+
+mod forests;
+mod joined;
+mod plans;
+mod separate;
+mod units;
+
+pub use forests::{Forest, Run};
+pub use plans::Plan;
+pub use units::{Part, Parts, PlanUnit};
