@@ -4,3 +4,8 @@ pub mod Cut
 pub mod Trees
 pub mod Files
 pub mod Sizes
+pub mod Joins
+pub mod Contents
+pub mod Entries
+pub mod JoinedContent
+pub mod ProvedLaws

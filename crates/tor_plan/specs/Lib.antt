@@ -1,4 +1,5 @@
 pub mod Units
 pub mod Forest
 pub mod PlanFacts
+pub mod Content
 pub mod steps

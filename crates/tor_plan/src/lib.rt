@@ -3,8 +3,11 @@
 
 mod forests;
 mod joined;
+pub mod laws;
 mod plans;
 mod separate;
+#[cfg(test)]
+mod tests;
 mod units;
 
 pub use forests::{Forest, Run};
