@@ -8,4 +8,5 @@ pub mod Joins
 pub mod Contents
 pub mod Entries
 pub mod JoinedContent
+pub mod WithinFiles
 pub mod ProvedLaws

@@ -2,4 +2,5 @@ pub mod Units
 pub mod Forest
 pub mod PlanFacts
 pub mod Content
+pub mod WithinFiles
 pub mod steps

@@ -1,9 +1,13 @@
 //! Laws over the definitions, as contracts of functions that do nothing.
-ghost use Rattle.std.specs.Prelude.{◌≡◌, ℕ, ◌*◌, ◌<◌, List};
+ghost use Rattle.std.specs.Prelude.{◌≡◌, ◌≢◌, ℕ, ◌+◌, ◌*◌, ◌<◌, All, List, length, slice_index_or};
 ghost use Rattle.std.specs.List.{flat_map};
 ghost use Rattle.tor_plan.specs.Content.{AreContentsOfFiles, layout_of, unit_content};
 ghost use Rattle.tor_plan.specs.Units.{hash_units};
+ghost use Rattle.tor_plan.specs.WithinFiles.{bytes_of, IsFileUnit, IsUnitOf};
+ghost use Rattle.tor_plan.specs.declared.units.PlanUnit.{PlanUnit};
+ghost use Rattle.tor_tree.specs.FileList.{lengths_of};
 ghost use Rattle.tor_tree.specs.declared.kinds.Kind.{Kind};
+ghost use Rattle.tor_tree.specs.declared.kinds.Kind.TheVariants.{V1};
 ghost use Rattle.tor_v1.specs.Content.{joined_content};
 ghost use Rattle.tor_v1.specs.Entries.{v1_entries};
 
@@ -14,4 +18,24 @@ pub fn units_are_the_content()
         0 < span * piece_length → AreContentsOfFiles files contents →
         flat_map (unit_content contents) (hash_units kind piece_length span files)
         ≡ joined_content (v1_entries (layout_of kind) piece_length files) contents }
+{}
+
+/// The parts of units are in their files, and no unit has more bytes of files than `span` pieces.
+pub fn units_are_within_files()
+    ensures { (kind : Kind) (piece_length span : ℕ) (files : List (List (List ℕ) × ℕ)) → 0 < span → 0 < piece_length →
+        All (IsUnitOf (lengths_of files) piece_length (span * piece_length)) (hash_units kind piece_length span files) }
+{}
+
+/// In version 1 each unit but the last has `span` pieces.
+pub fn joined_units_are_whole()
+    ensures { (piece_length span : ℕ) (files : List (List (List ℕ) × ℕ)) (k : ℕ) (unit : PlanUnit) →
+        0 < span * piece_length → k + 1 < length (hash_units V1 piece_length span files) →
+        bytes_of (slice_index_or (hash_units V1 piece_length span files) k unit) ≡ span * piece_length }
+{}
+
+/// In the other kinds each unit but the last of a file has `span` pieces of that file, and nothing else.
+pub fn separate_units_are_whole()
+    ensures { (kind : Kind) (piece_length span : ℕ) (files : List (List (List ℕ) × ℕ)) → kind ≢ V1 →
+        0 < span * piece_length →
+        All (IsFileUnit (lengths_of files) (span * piece_length)) (hash_units kind piece_length span files) }
 {}

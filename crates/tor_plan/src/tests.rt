@@ -34,6 +34,18 @@ fn plan_of<R: AllocGlobal + Abort>(
     Ok(Plan::new(rt.alloc(), list, kind, piece_length, span)?)
 }
 
+/// A plan of joined files, whose pieces may have any length.
+fn joined_plan_of<R: AllocGlobal + Abort>(
+    rt: &R,
+    list: &FileList,
+    piece_length: u64,
+    span: u32,
+) -> Result<Plan, Fail> {
+    assert!(rt; piece_length >= 1 && piece_length <= 1 << 30);
+    assert!(rt; span.is_power_of_two() && span >= 1 && span <= 1024);
+    Ok(Plan::new(rt.alloc(), list, Kind::V1, piece_length, span)?)
+}
+
 /// Each unit in brackets: its parts as file, start and length, and zeros with an equals sign.
 fn units_told(alloc: Global, units: &[PlanUnit]) -> Result<String, Fail> {
     let mut text = String::new(alloc);
@@ -158,7 +170,7 @@ fn cuts_files_by_kind_and_span(rt: HostRuntime) -> Result<(), Fail> {
 fn joins_files_at_any_piece_length(rt: HostRuntime) -> Result<(), Fail> {
     let alloc = rt.alloc();
     let list = list_of(alloc, &[("a", 4), ("b", 0), ("c", 5)])?;
-    let plan = Plan::new(alloc, &list, Kind::V1, 3, 1)?;
+    let plan = joined_plan_of(&rt, &list, 3, 1)?;
     let told = units_told(alloc, plan.units())?;
     assert_eq!(rt; told.as_str(), "[ 0:0+3 ][ 0:3+1 2:0+2 ][ 2:2+3 ]");
     assert_eq!(rt; plan.lengths(), [4, 0, 5].as_slice());
