@@ -58,7 +58,7 @@ module _ (contents : List (List ℕ)) (size place tail : ℕ) (content : List �
   cond_zeros true = refl
   cond_zeros false = zeros-nil
 
-  each_unit : (k : ℕ) → k * size < length content → unit_content contents (file_unit size place (length content) tail k) ≡ run_of size content (zeros tail) k
+  pub each_unit : (k : ℕ) → k * size < length content → unit_content contents (file_unit size place (length content) tail k) ≡ run_of size content (zeros tail) k
   each_unit k less =
       let left = length content - k * size in
       let rest = drop (k * size) content in

@@ -19,17 +19,17 @@ no_padding p =
     let whole : (p - 0 % p) % p ≡ 0 = ap (λ r. (p - r) % p) (zero-mod p) ∙ ap (λ n. n % p) (let e : p - 0 ≡ p = omega arith in e) ∙ mod_self p in
     omega (arith, whole)
 
-abbrev padding : Bool → ℕ → List Entry
+abbrev pub padding : Bool → ℕ → List Entry
 padding b n = cond b (pad_entry n ∷ []) []
 
-abbrev entry_length : Entry → ℕ
+abbrev pub entry_length : Entry → ℕ
 entry_length entry = entry.length
 
-no_zeros_after : (p m : ℕ) (later : List File) → m ≡ 0 → zeros_after Hybrid p m later ≡ 0
+pub no_zeros_after : (p m : ℕ) (later : List File) → m ≡ 0 → zeros_after Hybrid p m later ≡ 0
 no_zeros_after p m later none =
     ap (λ n. sum_by entry_length (padding (ltb 0 n && has_bytes later) n)) (ap (padding_length p) none ∙ no_padding p)
 
-padded_rest : (b : Bool) (n : ℕ) (entries : List Entry) (contents : List (List ℕ))
+pub padded_rest : (b : Bool) (n : ℕ) (entries : List Entry) (contents : List (List ℕ))
     → zeros (sum_by entry_length (padding b n)) ++ joined_content entries contents ≡ joined_content (padding b n ++ entries) contents
 unfolding joined_content
 padded_rest true n entries contents = ap (λ k. zeros k ++ joined_content entries contents) (zero-add n)

@@ -31,14 +31,17 @@ padding : Bool → ℕ → ℕ
 padding b n = sum_by (λ (entry : Entry). entry.length) (cond b (pad_entry n ∷ []) [])
 
 -- before files with bytes, and before none
-pub zeros_padded : (p m : ℕ) (later : List File) → 0 < count_by is_some later → zeros_after Hybrid p m later ≡ padding_length p m
+pub zeros_before : (p m : ℕ) (later : List File) → has_bytes later ≡ true → zeros_after Hybrid p m later ≡ padding_length p m
 unfolding padding
-zeros_padded p m later more =
+zeros_before p m later more =
     let n = padding_length p m in
     elim (cases_lt 0 n) [
-      | inl some ↦ ap (λ b. padding b n) (and_from (ltb 0 n) (has_bytes later) (lt-ltb 0 n some) (has_bytes-count later ∙ lt-ltb 0 (count_by is_some later) more)) ∙ zero-add n
+      | inl some ↦ ap (λ b. padding b n) (and_from (ltb 0 n) (has_bytes later) (lt-ltb 0 n some) more) ∙ zero-add n
       | inr none ↦ ap (λ b. padding b n) (and_left (ltb 0 n) (has_bytes later) (le-ltb 0 n none)) ∙ (let e : 0 ≡ n = omega arith in e)
     ]
+
+pub zeros_padded : (p m : ℕ) (later : List File) → 0 < count_by is_some later → zeros_after Hybrid p m later ≡ padding_length p m
+zeros_padded p m later more = zeros_before p m later (has_bytes-count later ∙ lt-ltb 0 (count_by is_some later) more)
 
 pub zeros_last : (kind : Kind) (p m : ℕ) (later : List File) → count_by is_some later ≤ 0 → zeros_after kind p m later ≡ 0
 unfolding padding

@@ -15,7 +15,7 @@ use Rattle.tor_plan.specs.Units.{part_within, parts_within, joined_unit, joined_
 use Rattle.tor_plan.proofs.Contents.{File, zeros-nil, from_place, here, after, after_lengths}
 use Rattle.tor_plan.proofs.Joins.{run_of, runs_are, no_runs, drop-append, take-append}
 
-abbrev joined : List (List ℕ) → List ℕ
+abbrev pub joined : List (List ℕ) → List ℕ
 joined contents = flat_map (λ content. content) contents
 
 -- what a range meets of one file
@@ -64,7 +64,7 @@ parts_bytes contents a b place at (m ∷ lengths) fit =
     (let e : a - (at + m) ≡ s - length from.first = omega (arith, from.long) in e))
     ∙ sym (ap (λ xs. take n (drop s (joined xs))) from.split ∙ ap (take n) (drop-append s from.first others) ∙ take-append n rest (drop (s - length from.first) others))
 
-joined_entries : (files : List File) (contents : List (List ℕ)) → map length contents ≡ lengths_of files → joined contents ≡ joined_content (map file_entry files) contents
+pub joined_entries : (files : List File) (contents : List (List ℕ)) → map length contents ≡ lengths_of files → joined contents ≡ joined_content (map file_entry files) contents
 unfolding joined_content
 joined_entries [] [] fit = refl
 joined_entries [] (content ∷ contents) fit = cc
@@ -78,14 +78,14 @@ module _ (contents : List (List ℕ)) (size : ℕ) (lengths : List ℕ) (pos : 0
   no_tail true xs = sym (append-nil xs)
   no_tail false xs = sym (append-nil xs)
 
-  each_unit : (k : ℕ) → k * size < length (joined contents) → unit_content contents (joined_unit size lengths k) ≡ run_of size (joined contents) [] k
+  pub each_unit : (k : ℕ) → k * size < length (joined contents) → unit_content contents (joined_unit size lengths k) ≡ run_of size (joined contents) [] k
   each_unit k less =
       ap (λ xs. xs ++ flat_map (part_content contents) (parts_within (k * size) ((k + 1) * size) 0 0 lengths)) zeros-nil
       ∙ parts_bytes contents (k * size) ((k + 1) * size) 0 0 lengths fit
       ∙ ap₂ (λ n j. take n (drop j (joined contents))) (let e : (k + 1) * size - max (k * size) 0 ≡ size = omega arith in e) (let e : k * size - 0 ≡ k * size = omega arith in e)
       ∙ no_tail (leb (length (joined contents) - k * size) size) (take size (drop (k * size) (joined contents)))
 
-  total : sum lengths ≡ length (joined contents)
+  pub total : sum lengths ≡ length (joined contents)
   total = ap sum (sym fit) ∙ sum-map length contents ∙ sym (length-flat_map (λ content. content) contents)
 
   pub joined_bytes : flat_map (unit_content contents) (joined_units size lengths) ≡ joined contents

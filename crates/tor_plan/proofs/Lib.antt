@@ -8,5 +8,8 @@ pub mod Joins
 pub mod Contents
 pub mod Entries
 pub mod JoinedContent
+pub mod PieceSums
+pub mod UnitSums
+pub mod SumsByUnit
 pub mod WithinFiles
 pub mod ProvedLaws

@@ -6,6 +6,8 @@ use Rattle.tor_plan.specs.Units.{hash_units}
 use Rattle.tor_tree.specs.declared.kinds.Kind.{Kind}
 use Rattle.tor_v1.specs.Content.{joined_content}
 use Rattle.tor_v1.specs.Entries.{v1_entries}
+use Rattle.tor_v1.specs.Piece.{piece_sums}
+use Rattle.tor_plan.proofs.SumsByUnit.{joined_sums, aligned_sums}
 use Rattle.tor_tree.specs.declared.kinds.Kind.TheVariants.{V1, V2, Hybrid}
 use Rattle.tor_plan.specs.WithinFiles.{bytes_of, IsFileUnit, IsUnitOf}
 use Rattle.tor_plan.specs.declared.units.PlanUnit.{PlanUnit}
@@ -40,3 +42,11 @@ pub separate_units_are_whole : (kind : Kind) (piece_length span : ℕ) (files : 
 separate_units_are_whole V1 piece_length span files not_v1 pos = absurd (not_v1 refl)
 separate_units_are_whole V2 piece_length span files not_v1 pos = separate_whole (lengths_of files) piece_length (span * piece_length) pos V2 0 files refl
 separate_units_are_whole Hybrid piece_length span files not_v1 pos = separate_whole (lengths_of files) piece_length (span * piece_length) pos Hybrid 0 files refl
+
+pub pieces_are_in_units : (kind : Kind) (piece_length span : ℕ) (files : List (List (List ℕ) × ℕ)) (contents : List (List ℕ)) → kind ≢ V2 → 0 < piece_length
+    → 0 < span * piece_length → AreContentsOfFiles files contents
+    → flat_map (λ unit. piece_sums piece_length (unit_content contents unit)) (hash_units kind piece_length span files)
+    ≡ piece_sums piece_length (joined_content (v1_entries (layout_of kind) piece_length files) contents)
+pieces_are_in_units V1 piece_length span files contents not_v2 some pos fit = joined_sums contents piece_length span some pos files fit
+pieces_are_in_units V2 piece_length span files contents not_v2 some pos fit = absurd (not_v2 refl)
+pieces_are_in_units Hybrid piece_length span files contents not_v2 some pos fit = aligned_sums contents piece_length span some pos 0 files fit
