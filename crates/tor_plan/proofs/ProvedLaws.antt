@@ -1,11 +1,9 @@
 -- The proofs of the laws of src/laws.rt.
 use Rattle.std.proofs.Common.{◌≡◌, ◌≢◌, ℕ, ◌+◌, ◌*◌, ◌<◌, List, length, get_or, refl, arith, mul-le-mul_right}
 use Rattle.std.specs.List.{All, flat_map}
-use Rattle.tor_plan.specs.Content.{AreContentsOfFiles, layout_of, unit_content}
+use Rattle.tor_plan.specs.Content.{AreContentsOfFiles, cut_content, unit_content}
 use Rattle.tor_plan.specs.Units.{hash_units}
 use Rattle.tor_tree.specs.declared.kinds.Kind.{Kind}
-use Rattle.tor_v1.specs.Content.{joined_content}
-use Rattle.tor_v1.specs.Entries.{v1_entries}
 use Rattle.tor_v1.specs.Piece.{piece_sums}
 use Rattle.tor_plan.proofs.SumsByUnit.{joined_sums, aligned_sums}
 use Rattle.tor_tree.specs.declared.kinds.Kind.TheVariants.{V1, V2, Hybrid}
@@ -17,7 +15,7 @@ use Rattle.tor_plan.proofs.Entries.{separate_content, aligned_content}
 use Rattle.tor_plan.proofs.JoinedContent.{joined_files}
 
 pub units_are_the_content : (kind : Kind) (piece_length span : ℕ) (files : List (List (List ℕ) × ℕ)) (contents : List (List ℕ)) → 0 < span * piece_length → AreContentsOfFiles files contents
-    → flat_map (unit_content contents) (hash_units kind piece_length span files) ≡ joined_content (v1_entries (layout_of kind) piece_length files) contents
+    → flat_map (unit_content contents) (hash_units kind piece_length span files) ≡ cut_content kind piece_length files contents
 units_are_the_content V1 piece_length span files contents pos fit = joined_files contents (span * piece_length) files pos fit
 units_are_the_content V2 piece_length span files contents pos fit = separate_content contents piece_length (span * piece_length) pos 0 files fit
 units_are_the_content Hybrid piece_length span files contents pos fit = aligned_content contents piece_length (span * piece_length) pos 0 files fit
@@ -46,7 +44,7 @@ separate_units_are_whole Hybrid piece_length span files not_v1 pos = separate_wh
 pub pieces_are_in_units : (kind : Kind) (piece_length span : ℕ) (files : List (List (List ℕ) × ℕ)) (contents : List (List ℕ)) → kind ≢ V2 → 0 < piece_length
     → 0 < span * piece_length → AreContentsOfFiles files contents
     → flat_map (λ unit. piece_sums piece_length (unit_content contents unit)) (hash_units kind piece_length span files)
-    ≡ piece_sums piece_length (joined_content (v1_entries (layout_of kind) piece_length files) contents)
+    ≡ piece_sums piece_length (cut_content kind piece_length files contents)
 pieces_are_in_units V1 piece_length span files contents not_v2 some pos fit = joined_sums contents piece_length span some pos files fit
 pieces_are_in_units V2 piece_length span files contents not_v2 some pos fit = absurd (not_v2 refl)
 pieces_are_in_units Hybrid piece_length span files contents not_v2 some pos fit = aligned_sums contents piece_length span some pos 0 files fit

@@ -15,11 +15,15 @@ log2 (suc n) = if nat_le (2 ^ suc (log2 n)) (suc n) then suc (log2 n) else log2 
 abbrev pub unit_level : ℕ → ℕ
 unit_level size = log2 (size / BLOCK_LENGTH)
 
+-- the tree of a file of m bytes whose first unit has this number
+abbrev pub tree_at : ℕ → ℕ → ℕ → Run
+tree_at size first m = record { first = first; count = div_ceil m size; level = unit_level size }
+
 -- the files of more than one unit, each cut every size bytes; the first file's first unit has this number
 unfoldable pub trees_from : ℕ → ℕ → List ℕ → List Run
 trees_from size first [] = []
 trees_from size first (m ∷ lengths) =
-    (if nat_lt 1 (div_ceil m size) then record { first = first; count = div_ceil m size; level = unit_level size } ∷ [] else [])
+    (if nat_lt 1 (div_ceil m size) then tree_at size first m ∷ [] else [])
     ++ trees_from size (first + div_ceil m size) lengths
 
 -- version 1 has no trees
