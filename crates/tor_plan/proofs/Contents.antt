@@ -1,23 +1,12 @@
 -- The bytes of units, file by file.
-use Rattle.std.proofs.Common.{◌≡◌, ℕ, ◌+◌, ◌-◌, ◌*◌, ◌<◌, ◌≤◌, Bool, true, false, cond, ltb, leb, min, max, ◌&&◌, List, [], ◌∷◌, ◌++◌, length, map, get_or, take, drop, sum, sum_by, arith, refl, ap, ap₂, ◌∙◌, sym, append_assoc, append-nil, inl, inr, length-drop, length-append, zero-add, subst}
-use Rattle.std.proofs.Math.Nat.{zero-mod, mod_self}
-use Rattle.std.proofs.lemmas.Bool.{lt-ltb, le-ltb, cond-true, cond-false, cases_lt}
+use Rattle.std.proofs.Common.{◌≡◌, ℕ, ◌+◌, ◌-◌, ◌*◌, ◌<◌, Bool, true, false, cond, leb, min, List, [], ◌∷◌, ◌++◌, length, map, get_or, take, drop, arith, refl, ap, ap₂, ◌∙◌, sym, append-nil, inl, inr, length-drop}
+use Rattle.std.proofs.lemmas.Bool.{cases_lt}
 use Rattle.std.proofs.lemmas.List.{take_min, get_or-drop, drop-drop}
-use Rattle.std.proofs.lemmas.List.Concat.{flat_map-append}
-use Rattle.std.proofs.lemmas.List.Sums.{sum_by-cons}
-use Rattle.std.specs.Int.{div_ceil}
-use Rattle.std.specs.List.{flat_map, range_with_len}
-use Rattle.tor_tree.specs.FileList.{lengths_of}
-use Rattle.tor_tree.specs.declared.kinds.Kind.{Kind}
-use Rattle.tor_tree.specs.declared.kinds.Kind.TheVariants.{V1, V2, Hybrid}
-use Rattle.tor_v1.specs.Content.{joined_content}
-use Rattle.tor_v1.specs.Entries.{file_entry, pad_entry, padding_length, padding_after, has_bytes, aligned_entries, v1_entries}
+use Rattle.std.specs.List.{flat_map}
 use Rattle.tor_v1.specs.Piece.{zeros}
-use Rattle.tor_v1.specs.declared.entry.Entry.{Entry}
-use Rattle.tor_v1.specs.declared.layout.Layout.TheVariants.{Joined, Aligned}
-use Rattle.tor_plan.specs.Content.{AreContentsOfFiles, part_content, unit_content, layout_of}
-use Rattle.tor_plan.specs.Units.{file_unit, units_of_file, zeros_after, separate_units, part_within, parts_within, joined_unit, joined_units, hash_units}
-use Rattle.tor_plan.proofs.Joins.{run_of, runs_are, no_runs, drop-append, take-append}
+use Rattle.tor_plan.specs.Content.{unit_content}
+use Rattle.tor_plan.specs.Units.{file_unit, units_of_file}
+use Rattle.tor_plan.proofs.Joins.{run_of, runs_are, no_runs}
 
 abbrev pub File : Type 0
 File = List (List ℕ) × ℕ

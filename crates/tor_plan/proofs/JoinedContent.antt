@@ -1,5 +1,5 @@
 -- The content of joined files that are cut.
-use Rattle.std.proofs.Common.{◌≡◌, ℕ, ◌+◌, ◌-◌, ◌*◌, ◌<◌, ◌≤◌, Bool, true, false, cond, ltb, leb, min, max, List, [], ◌∷◌, ◌++◌, length, map, get_or, take, drop, sum, sum_by, arith, refl, ap, ap₂, ◌∙◌, sym, append-nil, inl, inr, length-drop}
+use Rattle.std.proofs.Common.{◌≡◌, ℕ, ◌+◌, ◌-◌, ◌*◌, ◌<◌, Bool, true, false, cond, leb, min, max, List, [], ◌∷◌, ◌++◌, length, map, get_or, take, drop, sum, arith, refl, ap, ap₂, ◌∙◌, sym, append-nil, inl, inr, length-drop}
 use Rattle.std.proofs.lemmas.Bool.{lt-ltb, le-ltb, cond-true, cond-false, cases_lt}
 use Rattle.std.proofs.lemmas.List.{take_min, take_all, drop_all}
 use Rattle.std.proofs.lemmas.List.Concat.{flat_map-append, length-flat_map}

@@ -1,5 +1,5 @@
 -- How many units the files of a list have.
-use Rattle.std.proofs.Common.{◌≡◌, ℕ, ◌+◌, ◌*◌, ◌^◌, ◌<◌, ◌≤◌, Bool, true, false, List, Option, Some, None, cond, ltb, min, sum_by, arith, refl, ◌⊎◌, inl, inr, ◌||◌, mul-le-mul_right, lt_of_mul-lt-mul_right}
+use Rattle.std.proofs.Common.{◌≡◌, ℕ, ◌+◌, ◌*◌, ◌^◌, ◌<◌, ◌≤◌, Bool, true, false, List, Option, Some, None, cond, ltb, sum_by, arith, refl, ◌⊎◌, inl, inr, mul-le-mul_right, lt_of_mul-lt-mul_right}
 use Rattle.std.proofs.lemmas.Bool.{ltb-false, or_parts}
 use Rattle.std.proofs.lemmas.Grind.{div_ceil_times}
 use Rattle.std.proofs.lemmas.List.Sums.{sum_by-le-sum_by}
@@ -7,7 +7,7 @@ use Rattle.std.proofs.Math.Nat.{le-mul_of_pos_right}
 use Rattle.std.specs.Int.{div_ceil, next_multiple_of}
 use Rattle.std.specs.List.{list_any}
 use Rattle.std.specs.Option.{option_or}
-use Rattle.tor_tree.specs.FileList.{lengths_of, lengths_fault, lengths_too_large, list_fault, paths_fault, paths_of, IsFileList}
+use Rattle.tor_tree.specs.FileList.{lengths_of, lengths_fault, lengths_too_large, paths_fault, paths_of, IsFileList}
 use Rattle.tor_plan.specs.PlanFacts.{IsPlanPieceLength}
 use Rattle.tor_tree.specs.declared.kinds.Kind.{Kind}
 use Rattle.tor_tree.specs.declared.kinds.Kind.TheVariants.{V1, V2, Hybrid}

@@ -1,5 +1,5 @@
 -- The sums of the pieces of a whole content are those of its units.
-use Rattle.std.proofs.Common.{◌≡◌, ℕ, ◌+◌, ◌-◌, ◌*◌, ◌/◌, ◌%◌, ◌<◌, ◌≤◌, true, false, ltb, ◌&&◌, List, [], ◌∷◌, ◌++◌, length, map, get_or, drop, sum, arith, refl, ap, ap₂, ◌∙◌, sym, append_assoc, append-nil, inl, inr, length-append}
+use Rattle.std.proofs.Common.{◌≡◌, ℕ, ◌+◌, ◌-◌, ◌*◌, ◌/◌, ◌%◌, ◌<◌, false, ltb, ◌&&◌, List, [], ◌∷◌, ◌++◌, length, map, get_or, drop, arith, refl, ap, ap₂, ◌∙◌, sym, append_assoc, append-nil, inl, inr, length-append}
 use Rattle.std.proofs.Math.Nat.{mod_self, mod-eq_of_lt, mod-lt}
 use Rattle.std.proofs.lemmas.Nat.{div-add-mod'}
 use Rattle.std.proofs.lemmas.Bool.{ltb-false, cases_lt, cases_eq, cases_Bool, or_parts}

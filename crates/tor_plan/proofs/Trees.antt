@@ -1,5 +1,5 @@
 -- The trees of files, one file after another.
-use Rattle.std.proofs.Common.{◌≡◌, ℕ, zero, suc, ◌+◌, ◌*◌, ◌^◌, ◌<◌, ◌≤◌, cond, ltb, leb, List, [], ◌∷◌, ◌++◌, length, get_or, drop, arith, refl, ap, ap₂, ◌∙◌, sym, append_assoc, append-nil, inl, inr, pow-suc}
+use Rattle.std.proofs.Common.{◌≡◌, ℕ, zero, suc, ◌+◌, ◌*◌, ◌^◌, ◌<◌, ◌≤◌, cond, ltb, leb, List, [], ◌∷◌, ◌++◌, length, get_or, drop, arith, ap, ◌∙◌, sym, append_assoc, append-nil, inl, inr, pow-suc}
 use Rattle.std.proofs.Math.Pow.{pow-lt}
 use Rattle.std.proofs.lemmas.Bool.{lt-ltb, le-ltb, le-leb, lt-leb, cases_lt, cases_order, cond-true, cond-false}
 use Rattle.std.proofs.lemmas.List.{drop_all, drop_more}

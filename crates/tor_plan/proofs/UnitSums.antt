@@ -1,5 +1,5 @@
 -- The sums of pieces, unit by unit.
-use Rattle.std.proofs.Common.{◌≡◌, ℕ, zero, suc, ◌+◌, ◌-◌, ◌*◌, ◌<◌, ◌≤◌, cond, leb, List, [], ◌∷◌, ◌++◌, length, map, take, drop, arith, refl, ap, ap₂, ◌∙◌, sym, append_assoc, append-nil, inl, inr, length-drop}
+use Rattle.std.proofs.Common.{◌≡◌, ℕ, zero, suc, ◌+◌, ◌-◌, ◌*◌, ◌<◌, ◌≤◌, List, [], ◌∷◌, ◌++◌, length, map, take, drop, arith, ap, ap₂, ◌∙◌, sym, append_assoc, append-nil, length-drop}
 use Rattle.std.proofs.Math.Seq.{take-add}
 use Rattle.std.proofs.lemmas.Bool.{le-leb, lt-leb, cond-true, cond-false}
 use Rattle.std.proofs.lemmas.Grind.{div_ceil_times}

@@ -1,6 +1,6 @@
 -- The parts of units are in their files.
-use Rattle.std.proofs.Common.{◌≡◌, ◌≢◌, ℕ, ◌+◌, ◌-◌, ◌*◌, ◌<◌, ◌≤◌, Bool, true, false, cond, ltb, leb, min, max, ◌&&◌, List, [], ◌∷◌, ◌++◌, length, map, get_or, drop, sum, sum_by, arith, refl, ap, ap₂, ◌∙◌, sym, subst, inl, inr, zero-add, length-drop, mul-le-mul_right}
-use Rattle.std.proofs.lemmas.Bool.{lt-ltb, le-ltb, le-leb, lt-leb, cond-true, cond-false, cases_lt, cases_Bool}
+use Rattle.std.proofs.Common.{◌≡◌, ℕ, ◌+◌, ◌-◌, ◌*◌, ◌<◌, ◌≤◌, Bool, true, false, cond, ltb, leb, min, max, ◌&&◌, List, [], ◌∷◌, length, map, get_or, drop, sum, sum_by, arith, refl, ap, ap₂, ◌∙◌, sym, subst, inl, inr, zero-add, length-drop, mul-le-mul_right}
+use Rattle.std.proofs.lemmas.Bool.{lt-ltb, le-ltb, lt-leb, cond-true, cond-false, cases_lt}
 use Rattle.std.proofs.lemmas.Grind.{div_ceil_times}
 use Rattle.std.proofs.lemmas.List.{get_or-drop, drop-drop}
 use Rattle.std.proofs.lemmas.List.Elements.{All-nil, All-cons, All-append}

@@ -3,7 +3,7 @@ use Rattle.std.specs.Prelude.{◌≡◌, ℕ, List, [], ◌++◌, length, map, t
 use Rattle.std.specs.List.{flat_map}
 use Rattle.tor_tree.specs.FileList.{lengths_of}
 use Rattle.tor_tree.specs.declared.kinds.Kind.{Kind}
-use Rattle.tor_tree.specs.declared.kinds.Kind.TheVariants.{V1, V2, Hybrid}
+use Rattle.tor_tree.specs.declared.kinds.Kind.TheVariants.{Hybrid}
 use Rattle.tor_v1.specs.Content.{joined_content}
 use Rattle.tor_v1.specs.Entries.{v1_entries}
 use Rattle.tor_v1.specs.Piece.{zeros}

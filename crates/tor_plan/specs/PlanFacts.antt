@@ -1,9 +1,9 @@
 -- What a plan tells.
-use Rattle.std.specs.Prelude.{◌≡◌, ℕ, ◌*◌, ◌^◌, ◌≤◌, IsTrue, List}
+use Rattle.std.specs.Prelude.{ℕ, ◌*◌, ◌≤◌, IsTrue, List}
 use Rattle.std.specs.Int.{is_power_of_two}
 use Rattle.tor_tree.specs.FileList.{lengths_of}
 use Rattle.tor_tree.specs.declared.kinds.Kind.{Kind}
-use Rattle.tor_tree.specs.declared.kinds.Kind.TheVariants.{V1, V2, Hybrid}
+use Rattle.tor_tree.specs.declared.kinds.Kind.TheVariants.{V1}
 use Rattle.tor_v1.specs.Piece.{IsV1PieceLength, max_piece_length}
 use Rattle.tor_plan.specs.declared.forests.Run.{Run}
 use Rattle.tor_plan.specs.declared.units.PlanUnit.{PlanUnit}

@@ -1,5 +1,5 @@
 -- Joined files while they are cut. Only private clauses cite this.
-use Rattle.std.specs.Prelude.{◌≡◌, ◌⊎◌, ℕ, ◌+◌, ◌*◌, ◌<◌, ◌≤◌, List, ◌∷◌, ◌++◌, length, map}
+use Rattle.std.specs.Prelude.{◌≡◌, ◌⊎◌, ℕ, ◌+◌, ◌*◌, ◌≤◌, List, ◌∷◌, ◌++◌, length, map}
 use Rattle.std.specs.List.{sum, range_with_len}
 use Rattle.tor_plan.specs.Units.{joined_unit, parts_within}
 use Rattle.tor_plan.specs.declared.joined.JoinedCut.{JoinedCut}

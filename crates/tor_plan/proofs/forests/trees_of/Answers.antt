@@ -1,5 +1,5 @@
 -- each file: a tree where it has several units
-use Rattle.std.proofs.Common.{◌≡◌, ◌+◌, ◌/◌, ◌<◌, ◌++◌, ◌∷◌, [], drop, get_or, arith, ap, ap₂, ◌∙◌}
+use Rattle.std.proofs.Common.{◌+◌, ◌/◌, ◌++◌, drop, get_or, arith, ap, ap₂, ◌∙◌}
 use Rattle.std.proofs.lemmas.List.Sums.{sum_by_more}
 use Rattle.std.specs.Int.{div_ceil}
 use Rattle.tor_plan.specs.Forest.{trees_from}

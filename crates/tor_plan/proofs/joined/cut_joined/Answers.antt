@@ -1,9 +1,7 @@
 -- no file, one more, and all
-use Rattle.std.proofs.Common.{◌≡◌, refl, ap, ◌∙◌, ◌+◌, sum, take, get_or, subst, sym, IfOk, ◌≤◌, arith, length}
-use Rattle.std.proofs.lemmas.List.{take_all}
+use Rattle.std.proofs.Common.{refl, ◌∙◌, sum, take, subst, sym}
 use Rattle.std.proofs.lemmas.List.Sums.{sum_by_more}
 use Rattle.tor_plan.specs.steps.Joined.{HasCut}
-use Rattle.tor_plan.specs.Units.{joined_units}
 use Rattle.tor_plan.proofs.Cut.{cut_none, file_at}
 use Rattle.tor_plan.proofs.joined.cut_joined.Goals as goal
 

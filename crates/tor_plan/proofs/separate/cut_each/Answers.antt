@@ -1,5 +1,5 @@
 -- one file more, and all
-use Rattle.std.proofs.Common.{◌≡◌, ◌+◌, ◌++◌, count_by, drop, arith, ap, ◌∙◌}
+use Rattle.std.proofs.Common.{◌≡◌, ◌+◌, ◌++◌, count_by, drop, ap, ◌∙◌}
 use Rattle.tor_plan.specs.Units.{separate_units}
 use Rattle.tor_plan.proofs.Files.{is_some, count-next, counted_some, counted_none, cut_next, separate-end}
 use Rattle.tor_plan.proofs.separate.cut_each.Goals as goal

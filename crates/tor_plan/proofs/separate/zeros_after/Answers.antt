@@ -1,5 +1,5 @@
 -- in a hybrid torrent, before no file with bytes and before some
-use Rattle.std.proofs.Common.{◌≡◌, sym, arith, ap, ◌∙◌}
+use Rattle.std.proofs.Common.{sym, arith, ap, ◌∙◌}
 use Rattle.tor_plan.specs.Units.{zeros_after}
 use Rattle.tor_plan.proofs.Files.{zeros_padded, zeros_last}
 use Rattle.tor_plan.proofs.separate.zeros_after.Goals as goal

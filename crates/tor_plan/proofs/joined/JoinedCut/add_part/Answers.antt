@@ -1,5 +1,5 @@
 -- a part that leaves room in its unit, and one that fills it
-use Rattle.std.proofs.Common.{◌≡◌, refl, ◌∷◌, [], ◌++◌, arith, ap, ◌∙◌}
+use Rattle.std.proofs.Common.{◌≡◌, refl, arith, ap, ◌∙◌}
 use Rattle.tor_plan.proofs.Cut.{adds_open, adds_full}
 use Rattle.tor_plan.proofs.joined.JoinedCut.add_part.Goals as goal
 

@@ -1,5 +1,5 @@
 -- with a last unit that is shorter, and without
-use Rattle.std.proofs.Common.{◌≡◌, ◌∷◌, [], ◌++◌, arith, ap, ◌∙◌}
+use Rattle.std.proofs.Common.{arith, ap, ◌∙◌}
 use Rattle.tor_plan.proofs.Cut.{ends_full, ends_short}
 use Rattle.tor_plan.proofs.joined.JoinedCut.finish.Goals as goal
 use Rattle.tor_plan.proofs.joined.JoinedCut.finish.Goals.{then-room-size+in_ok-push, else-room-size}
