@@ -1,0 +1,15 @@
+pub mod Ranges
+pub mod Within
+pub mod Cut
+pub mod Trees
+pub mod Files
+pub mod Sizes
+pub mod Joins
+pub mod Contents
+pub mod Entries
+pub mod JoinedContent
+pub mod PieceSums
+pub mod UnitSums
+pub mod SumsByUnit
+pub mod WithinFiles
+pub mod ProvedLaws

@@ -1,0 +1,39 @@
+-- What a plan tells.
+use Rattle.std.specs.Prelude.{ℕ, ◌*◌, ◌≤◌, IsTrue, List}
+use Rattle.std.specs.Int.{is_power_of_two}
+use Rattle.tor_tree.specs.FileList.{lengths_of}
+use Rattle.tor_tree.specs.declared.kinds.Kind.{Kind}
+use Rattle.tor_tree.specs.declared.kinds.Kind.TheVariants.{V1}
+use Rattle.tor_v1.specs.Piece.{IsV1PieceLength, max_piece_length}
+use Rattle.tor_plan.specs.declared.forests.Run.{Run}
+use Rattle.tor_plan.specs.declared.units.PlanUnit.{PlanUnit}
+use Rattle.tor_plan.specs.Forest.{forest_trees}
+use Rattle.tor_plan.specs.Units.{hash_units}
+use Rattle.tor_plan.specs.declared.forests.TheConstants.{BLOCK_LENGTH}
+
+-- pieces that torrents of a kind can have: with trees a power of two, from one block on
+abbrev pub IsPlanPieceLength : Kind → ℕ → Type 0
+IsPlanPieceLength V1 piece_length = IsV1PieceLength piece_length
+IsPlanPieceLength kind piece_length =
+    IsTrue (is_power_of_two piece_length) × (BLOCK_LENGTH ≤ piece_length) × (piece_length ≤ max_piece_length)
+
+-- how many pieces a unit may have: a power of two from 1 to 1,024
+abbrev pub IsSpan : ℕ → Type 0
+IsSpan span = IsTrue (is_power_of_two span) × (1 ≤ span) × (span ≤ 1024)
+
+pub record PlanFacts : Type 0 where
+  pub kind : Kind
+  pub piece_length : ℕ
+  pub units : List PlanUnit
+  pub lengths : List ℕ
+  pub trees : List Run
+
+-- the plan of a list of files
+abbrev pub plan_of : Kind → ℕ → ℕ → List (List (List ℕ) × ℕ) → PlanFacts
+plan_of kind piece_length span files = record {
+  kind = kind;
+  piece_length = piece_length;
+  units = hash_units kind piece_length span files;
+  lengths = lengths_of files;
+  trees = forest_trees kind (span * piece_length) (lengths_of files);
+}

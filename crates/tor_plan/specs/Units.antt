@@ -1,0 +1,64 @@
+-- How a list of files is cut into units of work. A file is a pair of a path and a length in bytes; it is named by its
+-- place in the list.
+use Rattle.std.specs.Prelude.{ℕ, ◌+◌, ◌-◌, ◌*◌, min, max, nat_lt, nat_le, List, [], ◌∷◌, ◌++◌, map, sum_by, if◌then◌else◌}
+use Rattle.std.specs.Int.{div_ceil}
+use Rattle.std.specs.List.{sum, range_with_len}
+use Rattle.tor_tree.specs.FileList.{lengths_of}
+use Rattle.tor_tree.specs.declared.kinds.Kind.{Kind}
+use Rattle.tor_tree.specs.declared.kinds.Kind.TheVariants.{V1, Hybrid}
+use Rattle.tor_v1.specs.Entries.{padding_after}
+use Rattle.tor_plan.specs.declared.units.Part.{Part}
+use Rattle.tor_plan.specs.declared.units.PlanUnit.{PlanUnit}
+
+-- the k-th unit of a file of m bytes that is cut every size bytes; the one with the file's end has the zeros after it
+abbrev pub file_unit : ℕ → ℕ → ℕ → ℕ → ℕ → PlanUnit
+file_unit size file m zeros k = record {
+  zeros = 0;
+  parts = record {
+    file = file;
+    start = k * size;
+    length = min (m - k * size) size;
+    zeros = if nat_le (m - k * size) size then zeros else 0;
+  } ∷ [];
+}
+
+-- a file cut every size bytes; no unit of an empty one
+abbrev pub units_of_file : ℕ → ℕ → ℕ → ℕ → List PlanUnit
+units_of_file size file m zeros = map (file_unit size file m zeros) (range_with_len 0 (div_ceil m size))
+
+-- the zeros after a file of m bytes that later files follow: in a hybrid torrent the padding that its entry has
+abbrev pub zeros_after : Kind → ℕ → ℕ → List (List (List ℕ) × ℕ) → ℕ
+zeros_after Hybrid piece_length m later = sum_by (λ entry. entry.length) (padding_after piece_length m later)
+zeros_after _ piece_length m later = 0
+
+-- each file cut by itself; the first has this place
+unfoldable pub separate_units : Kind → ℕ → ℕ → ℕ → List (List (List ℕ) × ℕ) → List PlanUnit
+separate_units kind piece_length size place [] = []
+separate_units kind piece_length size place (file ∷ later) =
+    units_of_file size place file.1 (zeros_after kind piece_length file.1 later)
+    ++ separate_units kind piece_length size (place + 1) later
+
+-- what the bytes from a to b of the joined files have of a file that begins at byte at and has m bytes
+abbrev pub part_within : ℕ → ℕ → ℕ → ℕ → ℕ → List Part
+part_within a b file at m =
+    if nat_lt (max a at) (min b (at + m)) then
+    record { file = file; start = max a at - at; length = min b (at + m) - max a at; zeros = 0 } ∷ []
+    else []
+
+-- the parts of files that the bytes from a to b meet; the first file has this place and begins at byte at
+unfoldable pub parts_within : ℕ → ℕ → ℕ → ℕ → List ℕ → List Part
+parts_within a b place at [] = []
+parts_within a b place at (m ∷ lengths) = part_within a b place at m ++ parts_within a b (place + 1) (at + m) lengths
+
+-- the k-th unit of the joined files, which are cut every size bytes
+abbrev pub joined_unit : ℕ → List ℕ → ℕ → PlanUnit
+joined_unit size lengths k = record { zeros = 0; parts = parts_within (k * size) ((k + 1) * size) 0 0 lengths }
+
+-- the joined files cut every size bytes, the last unit perhaps shorter
+unfoldable pub joined_units : ℕ → List ℕ → List PlanUnit
+joined_units size lengths = map (joined_unit size lengths) (range_with_len 0 (div_ceil (sum lengths) size))
+
+-- the units of span pieces: of the joined files in version 1, else of each file by itself
+abbrev pub hash_units : Kind → ℕ → ℕ → List (List (List ℕ) × ℕ) → List PlanUnit
+hash_units V1 piece_length span files = joined_units (span * piece_length) (lengths_of files)
+hash_units kind piece_length span files = separate_units kind piece_length (span * piece_length) 0 files

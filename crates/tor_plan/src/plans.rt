@@ -1,0 +1,112 @@
+//! The plan of a list of files.
+ghost use Rattle.std.specs.Prelude.{◌≡◌, IfOk, map};
+ghost use Rattle.tor_tree.specs.FileList.{lengths_of};
+
+use crate::forests::{Forest, trees_of};
+use crate::joined::cut_joined;
+use crate::separate::cut_each;
+use crate::units::PlanUnit;
+use std::alloc::{AllocError, Global};
+use std::marker::Model;
+use tor_tree::{FileList, FilePath, Kind};
+
+/// How a list of files is cut into units of work for hashing workers. Contracts see what it tells.
+#[derive(Debug, Drop)]
+pub struct Plan {
+    kind: Kind,
+    piece_length: u64,
+    units: Vec<PlanUnit>,
+    lengths: Vec<u64>,
+    forest: Forest,
+}
+
+impl Model for Plan {
+    ghost use Rattle.tor_plan.specs.PlanFacts.{PlanFacts};
+
+    ghost Value = { PlanFacts };
+
+    ghost view = { λ plan. record {
+      kind = plan.kind;
+      piece_length = plan.piece_length;
+      units = plan.units.items;
+      lengths = plan.lengths.items;
+      trees = plan.forest.trees.items;
+    } };
+}
+
+impl Plan {
+    ghost use Rattle.tor_plan.specs.PlanFacts.{plan_of, IsPlanPieceLength, IsSpan};
+
+    /// The plan whose units have `span` pieces, fewer at an end: of one file each, or of the joined files in V1.
+    pub fn new(
+        alloc: Global,
+        list: &FileList,
+        kind: Kind,
+        piece_length: u64,
+        span: u32,
+    ) -> Result<Plan, AllocError>
+        requires pieces { IsPlanPieceLength kind piece_length }
+        requires span { IsSpan span }
+        ensures { IfOk result (λ plan. plan ≡ plan_of kind piece_length span list.now) }
+    {
+        let files = list.files();
+        let size = u64::from(span) * piece_length;
+        let lengths = lengths_of(alloc, files)?;
+        let (units, trees) = match kind {
+            Kind::V1 => (cut_joined(alloc, &lengths, size)?, Vec::new(alloc)),
+            Kind::V2 | Kind::Hybrid => (
+                cut_each(alloc, files, kind, piece_length, size)?,
+                trees_of(alloc, &lengths, size)?,
+            ),
+        };
+        Ok(Plan {
+            kind,
+            piece_length,
+            units,
+            lengths,
+            forest: Forest { trees },
+        })
+    }
+
+    /// Which sides the torrent has.
+    pub fn kind(&self) -> Kind
+        ensures { result ≡ self.now.kind }
+    {
+        self.kind
+    }
+
+    /// The bytes of a piece, at most.
+    pub fn piece_length(&self) -> u64
+        ensures { result ≡ self.now.piece_length }
+    {
+        self.piece_length
+    }
+
+    /// In the order of the list; a unit is named by its place here.
+    pub fn units(&self) -> &[PlanUnit]
+        ensures { result.now ≡ self.now.units }
+    {
+        self.units.as_slice()
+    }
+
+    /// The length of each file, in the order of the list.
+    pub fn lengths(&self) -> &[u64]
+        ensures { result.now ≡ self.now.lengths }
+    {
+        self.lengths.as_slice()
+    }
+
+    /// The files of more than one unit; none in V1.
+    pub fn forest(&self) -> &Forest
+        ensures { result.now.trees.items ≡ self.now.trees }
+    {
+        &self.forest
+    }
+}
+
+/// The length of each file.
+fn lengths_of(alloc: Global, files: &[(FilePath, u64)]) -> Result<Vec<u64>, AllocError>
+    ensures { IfOk result (λ lengths. lengths.items ≡ lengths_of files.now) }
+{
+    files.iter().map(|file| file.1).collect(alloc)
+}

@@ -1,0 +1,100 @@
+//! Files that are cut each by itself, as trees need it.
+ghost use Rattle.std.specs.Prelude.{◌≡◌, ◌<◌, [], ◌∷◌, ◌++◌, ℕ, List, IfOk, OnOk, count_by, nat_lt};
+ghost use Rattle.tor_v1.specs.Entries.{padding_length};
+ghost use Rattle.tor_v1.specs.Piece.{IsV1PieceLength};
+ghost use Rattle.tor_plan.specs.Units.{units_of_file, separate_units, zeros_after};
+
+use crate::units::{Part, Parts, PlanUnit};
+use std::alloc::{AllocError, Global};
+use tor_tree::{FilePath, Kind};
+
+/// The units of files that are cut every `size` bytes, each by itself.
+pub(crate) fn cut_each(
+    alloc: Global,
+    files: &[(FilePath, u64)],
+    kind: Kind,
+    piece_length: u64,
+    size: u64,
+) -> Result<Vec<PlanUnit>, AllocError>
+    requires piece { IsV1PieceLength piece_length }
+    requires sized { 0 < size }
+    ensures { IfOk result (λ units. units.items ≡ separate_units kind piece_length size 0 files.now) }
+{
+    // How many files with bytes are still to come.
+    let mut later = count_with_bytes(files);
+    let mut units = Vec::new(alloc);
+    'files: for (place, (_, length)) in files.iter().enumerate() {
+        if *length > 0 {
+            later -= 1;
+        }
+        let zeros = zeros_after(kind, piece_length, *length, later);
+        cut_file(alloc, &mut units, size, place as u64, *length, zeros)?;
+    }
+    Ok(units)
+}
+
+/// How many of the files are not empty.
+fn count_with_bytes(files: &[(FilePath, u64)]) -> usize
+    ensures { result ≡ count_by (λ file. nat_lt 0 file.1) files.now }
+{
+    files.iter().filter(|file| file.1 > 0).count()
+}
+
+/// The zeros after a file of `length` bytes, before so many files that are not empty.
+fn zeros_after(kind: Kind, piece_length: u64, length: u64, later: usize) -> u64
+    requires { IsV1PieceLength piece_length }
+    ensures { (files : List (List (List ℕ) × ℕ)) → later ≡ count_by (λ file. nat_lt 0 file.1) files →
+        result ≡ zeros_after kind piece_length length files }
+{
+    match kind {
+        Kind::V1 | Kind::V2 => 0,
+        Kind::Hybrid if later == 0 => 0,
+        Kind::Hybrid => padding_length(length, piece_length),
+    }
+}
+
+/// How many bytes a file of `length` bytes lacks to a whole number of pieces.
+fn padding_length(length: u64, piece_length: u64) -> u64
+    requires { IsV1PieceLength piece_length }
+    ensures { result ≡ padding_length piece_length length }
+{
+    (piece_length - length % piece_length) % piece_length
+}
+
+/// Adds the units of one file, after whose last byte there are zeros.
+fn cut_file(
+    alloc: Global,
+    units: &mut Vec<PlanUnit>,
+    size: u64,
+    file: u64,
+    length: u64,
+    zeros: u64,
+) -> Result<(), AllocError>
+    requires { 0 < size }
+    ensures { OnOk result (units.new.items ≡ units.old.items ++ units_of_file size file length zeros) }
+{
+    'units: for number in 0..length.div_ceil(size) {
+        let start = number * size;
+        let left = length - start;
+        let part = Part {
+            file,
+            start,
+            length: left.min(size),
+            zeros: if left <= size { zeros } else { 0 },
+        };
+        units.push(unit_of(alloc, part)?)?;
+    }
+    Ok(())
+}
+
+/// The unit of one part.
+fn unit_of(alloc: Global, part: Part) -> Result<PlanUnit, AllocError>
+    ensures { IfOk result (λ unit. unit ≡ record { zeros = 0; parts = part ∷ [] }) }
+{
+    let mut parts = Vec::with_capacity(alloc, 1)?;
+    parts.push(part)?;
+    Ok(PlanUnit {
+        zeros: 0,
+        parts: Parts::new(parts),
+    })
+}

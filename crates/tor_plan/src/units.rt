@@ -1,0 +1,57 @@
+//! Units of work, and their parts.
+ghost use Rattle.std.specs.Prelude.{◌≡◌};
+
+use std::marker::Model;
+
+/// Bytes of one file that stand directly after one another, and zeros after them.
+#[derive(Clone, Copy, Debug, PartialEq, Eq)]
+pub struct Part {
+    /// The place of the file in the list.
+    pub file: u64,
+    /// The first byte's place in the file.
+    pub start: u64,
+    /// In bytes, never 0.
+    pub length: u64,
+    /// How many zero bytes come after.
+    pub zeros: u64,
+}
+
+/// The parts of a unit. Contracts see their list.
+#[derive(Debug, Drop)]
+pub struct Parts {
+    parts: Vec<Part>,
+}
+
+impl Model for Parts {
+    ghost use Rattle.std.specs.Prelude.{List};
+    ghost use Rattle.tor_plan.specs.declared.units.Part.{Part};
+
+    ghost Value = { List Part };
+
+    ghost view = { λ parts. parts.parts.items };
+}
+
+impl Parts {
+    /// These parts.
+    pub fn new(parts: Vec<Part>) -> Parts
+        ensures { result ≡ parts.items }
+    {
+        Parts { parts }
+    }
+
+    /// In the order of their bytes.
+    pub fn as_slice(&self) -> &[Part]
+        ensures { result.now ≡ self.now }
+    {
+        self.parts.as_slice()
+    }
+}
+
+/// What one worker hashes at a time: zeros, then parts of files.
+#[derive(Debug, Drop)]
+pub struct PlanUnit {
+    /// How many zero bytes come first.
+    pub zeros: u64,
+    /// Perhaps none.
+    pub parts: Parts,
+}
