@@ -1,3 +1,4 @@
+//! All of some bytes into a writer, or how many of them came to it.
 ghost use Rattle.std.specs.Prelude.{◌≡◌, ◌<◌, length, take, OnOk, IfErr};
 ghost use Rattle.std.specs.Io.KnownBytes.{Appends};
 
