@@ -1,13 +1,17 @@
-//! The info hashes of a torrent (BEP 3, BEP 52).
-ghost use Rattle.std.specs.Prelude.{◌≡◌, Some, codes};
+//! The info hashes of a torrent (BEP 3, BEP 52), and its magnet link (BEP 9, "magnet URI format").
+ghost use Rattle.hex.specs.Hex.{encode_lower};
+ghost use Rattle.std.specs.Prelude.{◌≡◌, ◌++◌, List, Some, IfOk, IsSome, codes};
+ghost use Rattle.std.specs.String.{string_bytes};
 ghost use Rattle.tor_bencode.specs.Data.{Data};
 ghost use Rattle.tor_bencode.specs.Find.{value_of};
 ghost use Rattle.tor_bencode.specs.Lawful.{IsLawful};
 ghost use Rattle.tor_bencode.specs.Spelling.{spelling};
-ghost use Rattle.tor_meta.specs.Hashes.{AreInfoHashes, HasInfo};
+ghost use Rattle.tor_meta.specs.Hashes.{AreInfoHashes, HasHash, HasInfo, magnet_link, topics};
 
+use hex::encode;
 use sha1::Sha1;
 use sha2::{Digest, Sha256};
+use std::alloc::{AllocError, Global};
 use tor_bencode::laws::place_of_a_value;
 use tor_bencode::span;
 use tor_merkle::Hash;
@@ -58,4 +62,45 @@ fn raw_info(bytes: &[u8]) -> &[u8]
         unreachable!();
     };
     &bytes[start..end]
+}
+
+/// The magnet link of a torrent with these info hashes, of which there is one at least.
+pub fn magnet(alloc: Global, hashes: &Hashes) -> Result<String, AllocError>
+    requires { HasHash hashes.now }
+    ensures { IfOk result (λ link. string_bytes link ≡ magnet_link hashes.now) }
+{
+    let mut link = String::from_str(alloc, "magnet:?")?;
+    push_topics(alloc, &mut link, hashes)?;
+    Ok(link)
+}
+
+/// Writes a topic for each hash.
+fn push_topics(alloc: Global, link: &mut String, hashes: &Hashes) -> Result<(), AllocError>
+    ensures { IfOk result (λ _. string_bytes link.new ≡ string_bytes link.old ++ topics hashes.now.v1 hashes.now.v2) }
+{
+    match (&hashes.v1, &hashes.v2) {
+        (Some(v1), Some(v2)) => {
+            push_topic(alloc, link, "xt=urn:btih:", v1.as_slice())?;
+            push_topic(alloc, link, "&xt=urn:btmh:1220", v2.as_slice())?;
+            Ok(())
+        }
+        (Some(v1), None) => {
+            push_topic(alloc, link, "xt=urn:btih:", v1.as_slice())?;
+            Ok(())
+        }
+        (None, Some(v2)) => {
+            push_topic(alloc, link, "xt=urn:btmh:1220", v2.as_slice())?;
+            Ok(())
+        }
+        (None, None) => Ok(()),
+    }
+}
+
+/// Writes what stands before a hash, and the hash in lower-case hex digits.
+fn push_topic(alloc: Global, link: &mut String, before: &str, hash: &[u8]) -> Result<(), AllocError>
+    ensures { IfOk result (λ _. string_bytes link.new ≡ string_bytes link.old ++ (before.now ++ encode_lower hash.now)) }
+{
+    link.push_str(before)?;
+    let digits = encode(alloc, hash)?;
+    link.push_str(digits.as_str())
 }

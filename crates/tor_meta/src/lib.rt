@@ -1,11 +1,12 @@
-//! Making torrents (BEP 3, BEP 52, BEP 47), and their info hashes.
+//! Making torrents (BEP 3, BEP 52, BEP 47), and what one shows of them: info hashes and the magnet
+//! link (BEP 9).
 //!
 //! - [`Head`] (`head.rt`): what a torrent is made with, beside its files. `judge.rt` refuses heads and paths.
 //! - [`make_contents`] (`contents.rt`): the torrent of files whose contents lie in memory.
 //! - [`FedSums`] (`fed.rt`) and [`make_fed`] (`making.rt`): the torrent of one content that is fed in parts.
 //! - `sums.rt`: the Merkle trees and the SHA-1 of the pieces, as far as a kind asks for them.
 //! - `torrent.rt`: from files and sums to bytes, by `info.rt`, `layers.rt` and `items.rt`.
-//! - [`Hashes`], [`info_hashes`] (`hashes.rt`); [`write_out`] (`output.rt`): all bytes into a writer.
+//! - [`Hashes`], [`info_hashes`], [`magnet`] (`hashes.rt`); [`write_out`] (`output.rt`): all bytes into a writer.
 //!
 //! ```rust
 //! use tor_meta::{Head, make_contents};
@@ -38,7 +39,7 @@ mod torrent;
 
 pub use contents::make_contents;
 pub use fed::{FedSums, refusal_of_one};
-pub use hashes::{Hashes, info_hashes};
+pub use hashes::{Hashes, info_hashes, magnet};
 pub use head::Head;
 pub use judge::{MAX_NAMES, judge_paths};
 pub use making::make_fed;

@@ -1,7 +1,7 @@
 //! Torrents whose bytes were worked out by hand from BEP 3, BEP 47 and BEP 52; each hash in hexadecimal is of Python's
 //! hashlib.
 
-use crate::{Head, make_contents, write_out};
+use crate::{Hashes, Head, magnet, make_contents, write_out};
 use std::alloc::{AllocError, Global};
 use std::io::{self, Error, ErrorKind, Write};
 use std::process::Abort;
@@ -283,6 +283,26 @@ fn refuses_long_paths_before_their_shape(rt: HostRuntime) -> Result<(), Fail> {
     let refusal = made.err().ok_or("made")?;
     let text = format!(in alloc; "{refusal}")?;
     assert_eq!(rt; text.as_str(), "M4 Path");
+    Ok(())
+}
+
+#[test]
+fn links_to_a_torrent(rt: HostRuntime) -> Result<(), Fail> {
+    let alloc = rt.alloc();
+    let v1 = Some([0xab; 20]);
+    let v2 = Some([0x0f; 32]);
+    assert_eq!(rt;
+        magnet(alloc, &Hashes { v1, v2: None })?.as_str(),
+        "magnet:?xt=urn:btih:abababababababababababababababababababab"
+    );
+    assert_eq!(rt;
+        magnet(alloc, &Hashes { v1: None, v2 })?.as_str(),
+        "magnet:?xt=urn:btmh:12200f0f0f0f0f0f0f0f0f0f0f0f0f0f0f0f0f0f0f0f0f0f0f0f0f0f0f0f0f0f0f0f"
+    );
+    assert_eq!(rt;
+        magnet(alloc, &Hashes { v1, v2 })?.as_str(),
+        "magnet:?xt=urn:btih:abababababababababababababababababababab&xt=urn:btmh:12200f0f0f0f0f0f0f0f0f0f0f0f0f0f0f0f0f0f0f0f0f0f0f0f0f0f0f0f0f0f0f0f"
+    );
     Ok(())
 }
 
