@@ -1,4 +1,6 @@
 pub mod Faults
 pub mod Listing
 pub mod Places
+pub mod Source
+pub mod Sources
 pub mod steps
