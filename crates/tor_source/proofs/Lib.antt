@@ -1,6 +1,7 @@
 pub mod Added
 pub mod Ends
 pub mod Entries
+pub mod FirstFault
 pub mod FoundFiles
 pub mod PathOrder
 pub mod Pieces

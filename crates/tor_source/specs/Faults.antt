@@ -1,6 +1,8 @@
--- What a scan answers to a name that is none, and to a system that refuses.
+-- What a scan answers to a name that is none, and to a system that refuses; and which refusals tell that nothing is
+-- there.
+use Rattle.std.specs.Prelude.{Bool, true, false}
 use Rattle.std.specs.declared.io.ErrorKind.{ErrorKind}
-use Rattle.std.specs.declared.io.ErrorKind.TheVariants.{OutOfMemory}
+use Rattle.std.specs.declared.io.ErrorKind.TheVariants.{NotADirectory, NotFound, OutOfMemory}
 use Rattle.tor_tree.specs.declared.names.NameError.{NameError}
 use Rattle.tor_tree.specs.declared.names.NameError.TheVariants.{NotUtf8, Memory}
 use Rattle.tor_source.specs.declared.faults.ScanFault.{ScanFault}
@@ -14,3 +16,9 @@ fault_of_name _ = faults.System
 abbrev pub fault_of_kind : ErrorKind → ScanFault
 fault_of_kind OutOfMemory = faults.Memory
 fault_of_kind _ = faults.System
+
+-- nothing is at the place, or its path leads through a file
+abbrev pub is_absence : ErrorKind → Bool
+is_absence NotFound = true
+is_absence NotADirectory = true
+is_absence _ = false

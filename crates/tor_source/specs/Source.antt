@@ -35,3 +35,8 @@ pub record AreRead {F : Type 0} (facts : SourceFacts F) (file start : ℕ) (old 
 abbrev pub IsReadAt : {F : Type 0} → SourceFacts F → ℕ → ℕ → List ℕ → List ℕ → Result ℕ F → Type 0
 IsReadAt facts file start old new result =
     MatchResult result (AreRead facts file start old new) (λ fault. facts.byte_fault file start ≡ Some fault)
+
+-- the fault of a place of a file: of its length, where the place is none, or of a byte
+abbrev pub fault_at : {F : Type 0} → SourceFacts F → ℕ → Option ℕ → Option F
+fault_at facts file None = facts.length_fault file
+fault_at facts file (Some place) = facts.byte_fault file place

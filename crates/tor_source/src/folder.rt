@@ -1,7 +1,9 @@
 //! Where the system has the files below a folder, or a file by itself.
-ghost use Rattle.std.specs.Prelude.{◌≡◌, ◌≤◌, ◌∷◌, [], Err, IfOk, length, map};
+ghost use Rattle.std.specs.Prelude.{◌≡◌, ◌<◌, ◌≤◌, ◌∷◌, [], Err, None, IfOk, false, length, map};
 ghost use Rattle.std.specs.List.{All};
 ghost use Rattle.std.specs.List.Sorted.{IsStrictlySortedBy};
+ghost use Rattle.std.specs.IoError.{error_kind};
+ghost use Rattle.tor_source.specs.Faults.{is_absence};
 ghost use Rattle.tor_source.specs.Places.{place_of};
 ghost use Rattle.tor_source.specs.declared.faults.ScanFault.TheVariants.{System};
 ghost use Rattle.tor_source.specs.declared.walk.TheConstants.{MAX_NAMES};
@@ -9,9 +11,13 @@ ghost use Rattle.tor_tree.specs.Path.{path_cmp};
 
 use crate::faults::ScanFault;
 use crate::places::place_of;
+use crate::regular;
+use crate::source::Source;
 use crate::walk::walk;
 use std::alloc::AllocError;
+use std::io;
 use std::marker::Model;
+use std::os::unix::fs::FileExt;
 use std::rt::Files;
 use tor_tree::FilePath;
 
@@ -91,5 +97,38 @@ impl<R: Files + AllocGlobal + Clone + Drop> FolderSource<R> {
         ensures { result ≡ length self.now }
     {
         self.places.len()
+    }
+}
+
+/// No contract can say what a file of the system holds, nor that it stays as it is: so this source is steady for no
+/// facts, and contracts tell of it that a read gives at most what the buffer has room for, that only a file of the
+/// list has faults, and that no fault of a length says that nothing is there, since such a file is missing.
+///
+/// Each call asks the system anew. What stands at a file's place and is no regular file is missing, as is what a path
+/// through a regular file would lead to; a symbolic link at a file's place is followed. Each read opens the file, reads
+/// once, and closes it.
+impl<R: Files + Sync> Source for FolderSource<R>
+where
+    R::File: FileExt,
+{
+    type Fault = io::Error;
+
+    ghost is_steady = { λ _ _. ⊥ };
+
+    ghost gave = { λ source file place fault.
+        (file < length source) × (place ≡ None → is_absence (error_kind fault) ≡ false) };
+
+    fn length(&self, file: u64) -> io::Result<Option<u64>> {
+        match self.places.get(file as usize) {
+            Some(place) => regular::length_at(&self.rt, place),
+            None => Ok(None),
+        }
+    }
+
+    fn read_at(&self, file: u64, start: u64, buffer: &mut [u8]) -> io::Result<usize> {
+        match self.places.get(file as usize) {
+            Some(place) => regular::read_at(&self.rt, place, start, buffer),
+            None => Ok(0),
+        }
     }
 }

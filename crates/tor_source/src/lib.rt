@@ -9,24 +9,34 @@
 //! assert_eq!(rt; known.count(), source.count());
 //! ```
 //!
-//! - [`Source`] (`source.rt`): files by their numbers, and what a source answers.
-//! - [`MemSource`] (`memory.rt`): files in memory.
-//! - [`FolderSource`] (`folder.rt`): the files below a folder, or a file by itself.
-//! - `walk.rt` finds the files below a folder, `listing.rt` the names in one; `places.rt` joins places and names.
+//! - [`Source`] (`source.rt`): files by their numbers; what a steady source answers.
+//! - [`FolderSource`] (`folder.rt`): the files below a folder, or a file by itself, as the system has them.
+//! - [`MemSource`] (`memory.rt`), [`FailSource`] (`failing.rt`), [`ShortSource`] (`short.rt`): files in memory, with
+//!   faults at chosen places, or read in small steps.
 //! - [`ScanFault`] (`faults.rt`): why a folder's files are no list.
+//! - [`laws`] (`laws.rt`): laws over the sources in memory.
+//!
+//! `walk.rt` finds the files below a folder, `listing.rt` the names in one; `places.rt` joins places and names, and
+//! `regular.rt` reads what stands at a place.
 #![tactic(auto)]
 
+mod failing;
 mod faults;
 mod folder;
+pub mod laws;
 mod listing;
 mod memory;
 mod places;
+mod regular;
+mod short;
 mod source;
 #[cfg(test)]
 mod tests;
 mod walk;
 
+pub use failing::FailSource;
 pub use faults::ScanFault;
 pub use folder::FolderSource;
 pub use memory::MemSource;
+pub use short::ShortSource;
 pub use source::Source;

@@ -1,6 +1,7 @@
 //! Files in memory.
-ghost use Rattle.std.specs.Prelude.{◌≡◌, ◌-◌, None, Some, IfOk, MatchOption, drop, length, map, min, option_map, slice_index_or, take, vec_items};
-ghost use Rattle.tor_source.specs.Sources.{mem_facts};
+ghost use Rattle.std.specs.Prelude.{◌≡◌, None, Some, MatchOption, length, map, min, option_map, take, vec_items};
+ghost use Rattle.tor_source.specs.Source.{bytes_from};
+ghost use Rattle.tor_source.specs.Sources.{content_of, mem_facts};
 
 use crate::source::Source;
 use std::marker::Model;
@@ -27,15 +28,30 @@ impl MemSource {
         MemSource { files }
     }
 
-    // The bytes of a file that is there.
-    fn content(&self, file: u64) -> Option<&[u8]>
-        ensures { MatchOption result (slice_index_or self.now file None ≡ None)
-            (λ bytes. slice_index_or self.now file None ≡ Some bytes.now) }
+    /// The bytes of a file that is there.
+    pub(crate) fn content(&self, file: u64) -> Option<&[u8]>
+        ensures { MatchOption result (content_of self.now file ≡ None)
+            (λ bytes. content_of self.now file ≡ Some bytes.now) }
     {
         match self.files.get(file as usize) {
             Some(Some(bytes)) => Some(bytes),
             _ => None,
         }
+    }
+
+    /// Reads as many bytes of a file from a place on as there are, as the buffer has room for, and at most `most`.
+    pub(crate) fn read_most(&self, file: u64, start: u64, most: usize, buffer: &mut [u8]) -> usize
+        ensures count { result
+            ≡ min most (min (length buffer.old) (length (bytes_from (mem_facts self.now) file start))) }
+        ensures bytes { take result buffer.new ≡ take result (bytes_from (mem_facts self.now) file start) }
+    {
+        let Some(bytes) = self.content(file) else {
+            return 0;
+        };
+        let (_, rest) = bytes.split_at(bytes.len().min(start as usize));
+        let count = most.min(buffer.len()).min(rest.len());
+        buffer[..count].copy_from_slice(&rest[..count]);
+        count
     }
 }
 
@@ -54,20 +70,6 @@ impl Source for MemSource {
     }
 
     fn read_at(&self, file: u64, start: u64, buffer: &mut [u8]) -> Result<usize, u64> {
-        match self.content(file) {
-            Some(bytes) => Ok(copy_from(bytes, start, buffer)),
-            None => Ok(0),
-        }
+        Ok(self.read_most(file, start, buffer.len(), buffer))
     }
-}
-
-// Copies as many bytes as there are from a place on, and as the buffer has room for.
-fn copy_from(bytes: &[u8], start: u64, buffer: &mut [u8]) -> usize
-    ensures count { result ≡ min (length buffer.old) (length bytes.now - start) }
-    ensures copied { take result buffer.new ≡ take result (drop start bytes.now) }
-{
-    let (_, rest) = bytes.split_at(bytes.len().min(start as usize));
-    let count = rest.len().min(buffer.len());
-    buffer[..count].copy_from_slice(&rest[..count]);
-    count
 }

@@ -1,0 +1,58 @@
+//! Regular files of the system: where something else stands, or nothing, there is none.
+ghost use Rattle.std.specs.Fs.{file_type, IsFile};
+ghost use Rattle.std.specs.IoError.{error_kind};
+ghost use Rattle.std.specs.Prelude.{◌≡◌, ◌≤◌, false, IfErr, IfOk, IfSome, length};
+ghost use Rattle.tor_source.specs.Faults.{is_absence};
+
+use std::fs::{self, Metadata};
+use std::io;
+use std::os::unix::fs::FileExt;
+use std::rt::Files;
+
+/// How many bytes the regular file at a place has; None where there is none.
+pub(crate) fn length_at<R: Files>(rt: &R, place: &str) -> io::Result<Option<u64>>
+    ensures { IfErr result (λ fault. is_absence (error_kind fault) ≡ false) }
+{
+    match file_at(rt, place)? {
+        Some(metadata) => Ok(Some(metadata.len())),
+        None => Ok(None),
+    }
+}
+
+/// One read of the regular file at a place; it gives nothing where there is none, and from its end on, where the system
+/// may refuse a read. What is no regular file is not opened: to open a FIFO would wait.
+pub(crate) fn read_at<R: Files>(
+    rt: &R,
+    place: &str,
+    start: u64,
+    buffer: &mut [u8],
+) -> io::Result<usize>
+where
+    R::File: FileExt,
+    ensures { IfOk result (λ count. count ≤ length buffer.old) }
+{
+    match file_at(rt, place)? {
+        Some(metadata) if start < metadata.len() => fs::open(rt, place)?.read_at(buffer, start),
+        _ => Ok(0),
+    }
+}
+
+// What the system tells of the regular file at a place. A path through a file leads to nothing.
+fn file_at<R: Files>(rt: &R, place: &str) -> io::Result<Option<Metadata>>
+    ensures found { IfOk result (λ found. IfSome found (λ metadata. IsFile (file_type metadata))) }
+    ensures refused { IfErr result (λ fault. is_absence (error_kind fault) ≡ false) }
+{
+    match rt.metadata(place) {
+        Ok(metadata) if metadata.is_file() => Ok(Some(metadata)),
+        Ok(_) => Ok(None),
+        Err(fault) if is_absence(fault.kind()) => Ok(None),
+        Err(fault) => Err(fault),
+    }
+}
+
+// Whether a fault of this kind says that nothing is there.
+fn is_absence(kind: io::ErrorKind) -> bool
+    ensures { result ≡ is_absence kind }
+{
+    matches!(kind, io::ErrorKind::NotFound | io::ErrorKind::NotADirectory)
+}

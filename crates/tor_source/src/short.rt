@@ -1,0 +1,59 @@
+//! Files in memory that are read in small steps.
+ghost use Rattle.std.specs.Prelude.{◌≡◌, ◌≤◌, ℕ, IfErr, IfOk, length};
+ghost use Rattle.tor_source.specs.Source.{IsReadAt, SourceFacts};
+ghost use Rattle.tor_source.specs.Sources.{mem_facts};
+
+use crate::memory::MemSource;
+use crate::source::Source;
+use std::marker::Model;
+
+/// Files in memory of which a read gives at most so many bytes, and at least one where there is one. Contracts see
+/// the files and that number.
+#[derive(Drop)]
+pub struct ShortSource {
+    files: MemSource,
+    step: usize,
+}
+
+impl Model for ShortSource {
+    ghost use Rattle.std.specs.Prelude.{◌≤◌};
+    ghost use Rattle.tor_source.specs.Sources.{ShortFiles};
+
+    ghost Value = { ShortFiles };
+
+    ghost view = { λ source. record { files = source.files; step = source.step } };
+
+    ghost invariant = { λ source. 1 ≤ source.step };
+}
+
+impl ShortSource {
+    pub fn new(files: MemSource, step: usize) -> ShortSource
+        requires { 1 ≤ step }
+        ensures files { result.files ≡ files }
+        ensures step { result.step ≡ step }
+    {
+        ShortSource { files, step }
+    }
+}
+
+impl Source for ShortSource {
+    type Fault = u64;
+
+    ghost is_steady = { λ source facts. facts ≡ mem_facts source.files };
+
+    ghost gave = { λ _ _ _ _. ⊥ };
+
+    fn length(&self, file: u64) -> Result<Option<u64>, u64> {
+        self.files.length(file)
+    }
+
+    fn read_at(&self, file: u64, start: u64, buffer: &mut [u8]) -> Result<usize, u64>
+        ensures steady { (facts : SourceFacts ℕ) → facts ≡ mem_facts self.now.files →
+            IsReadAt facts file start buffer.old buffer.new result }
+        ensures within { IfOk result (λ count. count ≤ length buffer.old) }
+        ensures gave { IfErr result (λ _. ⊥) }
+        ensures short { IfOk result (λ count. count ≤ self.now.step) }
+    {
+        Ok(self.files.read_most(file, start, self.step, buffer))
+    }
+}
