@@ -1,5 +1,5 @@
 //! Where the system has the files below a folder, or a file by itself.
-ghost use Rattle.std.specs.Prelude.{◌≡◌, ◌<◌, ◌≤◌, ◌∷◌, [], Err, None, IfOk, false, length, map};
+ghost use Rattle.std.specs.Prelude.{◌≡◌, ◌<◌, ◌≤◌, ◌∷◌, [], Err, None, Ok, IfErr, IfOk, false, length, map};
 ghost use Rattle.std.specs.List.{All};
 ghost use Rattle.std.specs.List.Sorted.{IsStrictlySortedBy};
 ghost use Rattle.std.specs.IoError.{error_kind};
@@ -118,14 +118,22 @@ where
     ghost gave = { λ source file place fault.
         (file < length source) × (place ≡ None → is_absence (error_kind fault) ≡ false) };
 
-    fn length(&self, file: u64) -> io::Result<Option<u64>> {
+    fn length(&self, file: u64) -> io::Result<Option<u64>>
+        ensures gave { IfErr result
+            (λ fault. (file < length self.now) × (is_absence (error_kind fault) ≡ false)) }
+        ensures past { length self.now ≤ file → result ≡ Ok None }
+    {
         match self.places.get(file as usize) {
             Some(place) => regular::length_at(&self.rt, place),
             None => Ok(None),
         }
     }
 
-    fn read_at(&self, file: u64, start: u64, buffer: &mut [u8]) -> io::Result<usize> {
+    fn read_at(&self, file: u64, start: u64, buffer: &mut [u8]) -> io::Result<usize>
+        ensures within { IfOk result (λ count. count ≤ length buffer.old) }
+        ensures gave { IfErr result (λ _. file < length self.now) }
+        ensures past { length self.now ≤ file → result ≡ Ok 0 }
+    {
         match self.places.get(file as usize) {
             Some(place) => regular::read_at(&self.rt, place, start, buffer),
             None => Ok(0),

@@ -26,6 +26,8 @@ mod folder;
 pub mod laws;
 mod listing;
 mod memory;
+#[cfg(test)]
+mod memory_tests;
 mod places;
 mod regular;
 mod short;

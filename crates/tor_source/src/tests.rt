@@ -1,5 +1,5 @@
-//! Scans of real folders, and of a system that has what no test can make.
-use crate::{FolderSource, ScanFault};
+//! Scans and reads of real folders, and of a system that has what no test can make.
+use crate::{FolderSource, ScanFault, Source};
 use std::alloc::{AllocError, Allocator, Global};
 use std::fs::{File, Metadata, OpenOptions};
 use std::io::{Cursor, Read};
@@ -129,8 +129,9 @@ fn lists_a_folder_of_many_names(rt: HostRuntime) -> Result<(), Fail> {
 }
 
 // A system that has what no test can make: in its folder `top` are these names, each ended by a zero byte. A name that
-// ends in `file` is a file, in `folder` an empty folder, and in `locked` a folder that may not be read. All others
-// stand for a FIFO. Where the listing breaks, a read after its last name fails.
+// ends in `file` is a file that may not be opened, in `folder` an empty folder, in `locked` a folder that may not be
+// read, and of one that ends in `hidden` the system tells nothing. All others stand for a FIFO. Where the listing
+// breaks, a read after its last name fails.
 #[derive(Clone, Drop)]
 struct Listed {
     rt: HostRuntime,
@@ -166,8 +167,8 @@ impl Files for Listed {
 
     type Dir = Listing;
 
-    fn open_file(&self, how: &OpenOptions, path: &str) -> io::Result<File> {
-        self.rt.open_file(how, path)
+    fn open_file(&self, _how: &OpenOptions, _path: &str) -> io::Result<File> {
+        Err(io::Error::from(io::ErrorKind::PermissionDenied))
     }
 
     fn open_dir(&self, path: &str) -> io::Result<Listing> {
@@ -186,6 +187,9 @@ impl Files for Listed {
     }
 
     fn symlink_metadata(&self, path: &str) -> io::Result<Metadata> {
+        if path.ends_with("hidden") {
+            return Err(io::Error::from(io::ErrorKind::PermissionDenied));
+        }
         let is_file = path.ends_with("file");
         let is_folder = path == "top" || path.ends_with("folder") || path.ends_with("locked");
         self.rt.metadata(match (is_file, is_folder) {
@@ -276,5 +280,95 @@ fn has_no_file_below_the_empty_place(rt: HostRuntime) -> Result<(), Fail> {
     let names = vec![in rt.alloc(); Name::new(rt.alloc(), b"proc")?]?;
     let files = vec![in rt.alloc(); FilePath::new(names).ok_or("a path")?]?;
     assert_eq!(rt; FolderSource::at(&rt, "", files)?.count(), 1);
+    Ok(())
+}
+
+// The paths of these texts, of which each holds names with slashes between them.
+fn paths(alloc: Global, texts: &[&str]) -> Result<Vec<FilePath>, Fail> {
+    let mut paths = Vec::new(alloc);
+    for text in texts {
+        let mut names = Vec::new(alloc);
+        for name in text.split('/') {
+            names.push(Name::new(alloc, name.as_bytes())?)?;
+        }
+        paths.push(FilePath::new(names).ok_or("a path")?)?;
+    }
+    Ok(paths)
+}
+
+fn read<'a, S: Source>(
+    source: &S,
+    file: u64,
+    start: u64,
+    buffer: &'a mut [u8],
+) -> Result<&'a [u8], S::Fault> {
+    let count = source.read_at(file, start, buffer)?;
+    Ok(&buffer[..count])
+}
+
+#[test]
+fn reads_regular_files_alone(rt: HostRuntime) -> Result<(), Fail> {
+    let alloc = rt.alloc();
+    let folder = new_folder(&rt, "reads")?;
+    rt.create_dir(&below(alloc, &folder, "d")?)?;
+    let file = below(alloc, &folder, "a")?;
+    fs::write(&rt, file.as_str(), "abcdef")?;
+    rt.symlink(&file, &below(alloc, &folder, "l")?)?;
+    let files = paths(alloc, &["a", "missing", "d", "a/c", "l"])?;
+    let source = FolderSource::at(&rt, &folder, files)?;
+    let lengths = [Some(6), None, None, None, Some(6), None];
+    for (file, want) in (0..6).zip(lengths) {
+        assert_eq!(rt; source.length(file)?, want, "at {file}");
+    }
+    let rows: [(u64, u64, usize, &[u8]); 9] = [
+        (0, 0, 9, b"abcdef"),
+        (0, 1, 3, b"bcd"),
+        (0, 6, 3, b""),
+        (0, u64::MAX, 3, b""),
+        (1, 0, 3, b""),
+        (2, 0, 3, b""),
+        (3, 0, 3, b""),
+        (4, 4, 3, b"ef"),
+        (5, 0, 3, b""),
+    ];
+    for (file, start, room, want) in rows {
+        let mut buffer = [0; 9];
+        let bytes = read(&source, file, start, &mut buffer[..room])?;
+        assert_eq!(rt; bytes, want, "at {file}, {start}");
+    }
+    rt.remove_dir_all(alloc, &folder)?;
+    assert_eq!(rt; source.length(0)?, None);
+    assert_eq!(rt; read(&source, 0, 0, &mut [0; 3])?, b"".as_slice());
+    Ok(())
+}
+
+// A FIFO is missing, and not opened.
+#[test]
+fn tells_faults_of_the_system(rt: HostRuntime) -> Result<(), Fail> {
+    let alloc = rt.alloc();
+    let listed = Listed {
+        rt: rt.clone()?,
+        names: Vec::new(alloc),
+        breaks: false,
+    };
+    let files = paths(alloc, &["fifo", "a file", "hidden"])?;
+    let source = FolderSource::at(&listed, "top", files)?;
+    assert_eq!(rt; source.length(0)?, None);
+    assert_eq!(rt; read(&source, 0, 0, &mut [0; 3])?, b"".as_slice());
+    assert!(rt; matches!(source.length(1)?, Some(1..)));
+    let refused = Some(io::ErrorKind::PermissionDenied);
+    assert_eq!(rt;
+        read(&source, 1, 0, &mut [0; 3])
+            .err()
+            .map(|fault| fault.kind()),
+        refused
+    );
+    assert_eq!(rt; source.length(2).err().map(|fault| fault.kind()), refused);
+    assert_eq!(rt;
+        read(&source, 2, 0, &mut [0; 3])
+            .err()
+            .map(|fault| fault.kind()),
+        refused
+    );
     Ok(())
 }
