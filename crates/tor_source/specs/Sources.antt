@@ -1,5 +1,5 @@
 -- What the sources in memory have: files by their numbers, and where they fail.
-use Rattle.std.specs.Prelude.{◌<◌, ◌==◌, ◌&&◌, ℕ, Bool, List, [], Option, Some, None, find, length, nat_eq}
+use Rattle.std.specs.Prelude.{◌==◌, ◌&&◌, ℕ, Bool, List, [], Option, Some, None, find, length, nat_eq}
 use Rattle.std.specs.Prelude.{nat_lt, option_map, slice_index_or, unwrap_or, if◌then◌else◌}
 use Rattle.std.specs.Option.{option_eq}
 use Rattle.tor_source.specs.Source.{SourceFacts}

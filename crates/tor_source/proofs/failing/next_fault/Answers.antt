@@ -1,4 +1,4 @@
-use Rattle.std.proofs.Common.{◌≡◌, ◌<◌, ℕ, None, Some, arith, add-one}
+use Rattle.std.proofs.Common.{◌<◌, arith, add-one}
 use Rattle.tor_source.proofs.FirstFault.{first_fault-suc}
 use Rattle.tor_source.proofs.failing.next_fault.Goals as goal
 

@@ -1,5 +1,5 @@
-use Rattle.std.proofs.Common.{◌≡◌, None, Some, sym, refl, ◌∙◌}
-use Rattle.tor_source.specs.Sources.{fail_facts, first_fault, mem_facts}
+use Rattle.std.proofs.Common.{◌≡◌, None, sym, refl}
+use Rattle.tor_source.specs.Sources.{first_fault, mem_facts}
 use Rattle.tor_source.proofs.failing.FailSourceSource.length.Goals as goal
 
 pub returns-in-None-clause-steady : goal.returns-in-None-clause-steady
