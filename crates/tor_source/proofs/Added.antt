@@ -1,5 +1,6 @@
 -- The names of a folder that were added to the entries, and those that are left.
-use Rattle.std.proofs.Common.{◌≡◌, ℕ, ◌≤◌, Option, Some, None, IfSome, Vec, Global, List, [], ◌∷◌, ◌++◌, length, map, take, drop, refl, sym, ap, ◌∙◌, arith, append-nil, append_assoc}
+use Rattle.std.proofs.Common.{◌≡◌, ℕ, ◌≤◌, Option, Some, None, IfSome, Vec, Global, List, [], ◌∷◌, ◌++◌, length, map}
+use Rattle.std.proofs.Common.{take, drop, refl, sym, ap, ◌∙◌, arith, append-nil, append_assoc}
 use Rattle.std.specs.Prelude.{reverse, vec_items}
 use Rattle.std.proofs.lemmas.List.{drop-append-le, length_push, map_push, reverse-append, take-append-le, take_all}
 use Rattle.std.proofs.lemmas.List.Sorted.{Contains-permutation, IsPermutation-reverse, IsPermutation-sym}
@@ -32,8 +33,14 @@ moved_more all left before after next h =
     record {
       within = omega (arith, length_push after next);
       stay = take-append-le (length before) after (next ∷ []) within ∙ h.stay;
-      moved = rw (drop-append-le (length before) after (next ∷ []) within, map_push name_of (drop (length before) after) next, reverse-append gone (name_of next ∷ []))
-          (h.moved ∙ ap (λ names. names ++ reverse gone) (map_push vec_items left next.name) ∙ append_assoc (map vec_items left) (name_of next ∷ []) (reverse gone));
+      moved = rw (
+        drop-append-le (length before) after (next ∷ []) within,
+        map_push name_of
+            (drop (length before) after) next,
+        reverse-append gone (name_of next ∷ []),
+      )
+          (h.moved ∙ ap (λ names. names ++ reverse gone) (map_push vec_items left next.name) ∙ append_assoc
+          (map vec_items left) (name_of next ∷ []) (reverse gone));
     }
 
 pub moved_all : (known : Option (List ℕ)) (all : List (Vec ℕ Global)) (before after : List Entry)
@@ -46,8 +53,10 @@ moved_all (Some listing) all before after same h =
     record {
       stay = h.stay;
       named = record {
-        keeps = λ name there. Contains-permutation (reverse gone) gone name (IsPermutation-sym gone (reverse gone) turned) (rw h.moved at (same.keeps name there));
-        adds_none = λ name there. same.adds_none name (rw h.moved (Contains-permutation gone (reverse gone) name turned there));
+        keeps = λ name there. Contains-permutation (reverse gone) gone name
+            (IsPermutation-sym gone (reverse gone) turned) (rw h.moved at (same.keeps name there));
+        adds_none = λ name there. same.adds_none name
+            (rw h.moved (Contains-permutation gone (reverse gone) name turned there));
       };
     }
 

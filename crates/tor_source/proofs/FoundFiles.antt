@@ -41,7 +41,9 @@ pub found_push : (place : List ℕ) (paths : List (List (List ℕ))) (places : L
     → IsFound place paths places → IsEntered paths path entries → length path ≤ MAX_NAMES
     → at ≡ place_below place path → IsFound place (paths ++ path ∷ []) (places ++ at ∷ [])
 found_push place paths places path at entries found entered short is = record {
-  rising = rising_push path_cmp paths path found.rising (recursion_from_All (λ earlier. path_cmp earlier path ≡ Less) paths (next_before paths (map (path_in path) entries) path entered.paths));
+  rising = rising_push path_cmp paths path found.rising
+      (recursion_from_All (λ earlier. path_cmp earlier path ≡ Less) paths
+      (next_before paths (map (path_in path) entries) path entered.paths));
   short = All-push (λ p. length p ≤ MAX_NAMES) paths path found.short short;
   placed = rw (map_push (place_below place) paths path, ← found.placed, ← is) refl;
 }

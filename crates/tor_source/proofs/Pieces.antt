@@ -1,5 +1,7 @@
 -- A listing's first piece, and the pieces of the rest.
-use Rattle.std.proofs.Common.{◌≡◌, ℕ, suc, ◌-◌, ◌<◌, ◌==◌, ◌⊎◌, inl, inr, nat_lt, Bool, true, false, cond, Option, Some, None, IfSome, List, [], ◌∷◌, ◌++◌, length, take, refl, sym, ap, ◌∙◌, arith, append-nil, append_assoc}
+use Rattle.std.proofs.Common.{◌≡◌, ℕ, suc, ◌-◌, ◌<◌, ◌==◌, ◌⊎◌, inl, inr, nat_lt, Bool, true, false, cond, Option, Some}
+use Rattle.std.proofs.Common.{None, IfSome, List, [], ◌∷◌, ◌++◌, length, take, refl, sym, ap, ◌∙◌, arith, append-nil}
+use Rattle.std.proofs.Common.{append_assoc}
 use Rattle.std.specs.Prelude.{slice_index, ⊤}
 use Rattle.std.proofs.lemmas.Bool.{lt-ltb}
 use Rattle.std.specs.Io.KnownBytes.{IsAtEnd}
@@ -18,11 +20,13 @@ strip_cons x (y ∷ xs) e =
     let long : length (y ∷ xs) - 1 ≡ length xs = omega arith in
     let some : nat_lt 0 (length (x ∷ y ∷ xs)) ≡ true = lt-ltb 0 (length (x ∷ y ∷ xs)) (omega arith) in
     let also : nat_lt 0 (length (y ∷ xs)) ≡ true = lt-ltb 0 (length (y ∷ xs)) (omega arith) in
-    rw (longer, long, some, also) (cond_cons (slice_index (y ∷ xs) (length xs) == 0) x (take (length xs) (y ∷ xs)) (y ∷ xs))
+    rw (longer, long, some, also)
+    (cond_cons (slice_index (y ∷ xs) (length xs) == 0) x (take (length xs) (y ∷ xs)) (y ∷ xs))
 
 -- the first piece, and those of what follows its zero byte; or it is the only one
 abbrev Parts : List ℕ → Type 0
-Parts xs = (pieces xs ≡ first_piece 0 xs ∷ pieces (drop_through 0 xs)) ⊎ ((pieces xs ≡ first_piece 0 xs ∷ []) × (drop_through 0 xs ≡ []))
+Parts xs = (pieces xs ≡ first_piece 0 xs ∷ pieces (drop_through 0 xs)) ⊎
+    ((pieces xs ≡ first_piece 0 xs ∷ []) × (drop_through 0 xs ≡ []))
 
 parts : (xs : List ℕ) → Parts xs
 parts [] = inr (refl, refl)
@@ -71,10 +75,13 @@ pub read_more : (known old new : Option (List ℕ)) (names : List (List ℕ)) (p
 read_more None old new names piece byte zero read is rest = tt
 read_more (Some listing) None new names piece byte zero read is rest = absurd read
 read_more (Some listing) (Some xs) new names piece byte zero read is rest =
-    rw (rest, zero, is.1, zero) (read ∙ ap (λ more. names ++ more) (names_first xs) ∙ sym (append_assoc names (filter is_listed (first_piece 0 xs ∷ [])) (names_in (drop_through 0 xs))))
+    rw (rest, zero, is.1, zero)
+    (read ∙ ap (λ more. names ++ more) (names_first xs) ∙ sym
+    (append_assoc names (filter is_listed (first_piece 0 xs ∷ [])) (names_in (drop_through 0 xs))))
 
 pub read_all : (known left : Option (List ℕ)) (names : List (List ℕ)) → HasRead known left names → IsAtEnd left
     → IfSome known (λ listing. names ≡ names_in listing)
 read_all None left names read end = tt
 read_all (Some listing) None names read end = absurd read
-read_all (Some listing) (Some xs) names read end = sym (read ∙ ap (λ rest. names ++ names_in rest) end ∙ append-nil names)
+read_all (Some listing) (Some xs) names read end =
+    sym (read ∙ ap (λ rest. names ++ names_in rest) end ∙ append-nil names)

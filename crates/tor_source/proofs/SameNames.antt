@@ -1,5 +1,6 @@
 -- The names of a listing, sorted and each kept once, are the same names.
-use Rattle.std.proofs.Common.{◌≡◌, ℕ, zero, suc, true, Option, Some, None, IfSome, Vec, Global, List, [], ◌∷◌, map, nat_eq, refl, sym, ap, ◌∙◌, arith}
+use Rattle.std.proofs.Common.{◌≡◌, ℕ, zero, suc, true, Option, Some, None, IfSome, Vec, Global, List, [], ◌∷◌, map}
+use Rattle.std.proofs.Common.{nat_eq, refl, sym, ap, ◌∙◌, arith}
 use Rattle.std.specs.Prelude.{vec_items}
 use Rattle.std.specs.Cmp.Lexicographic.{on_texts_equal, pointwise}
 use Rattle.std.specs.Io.KnownBytes.{prepend_known}
@@ -44,7 +45,8 @@ module _ (found sorted : List Name) (moved : IsPermutation found sorted) where
   none_lost : (name : List ℕ) → Contains (map vec_items found) name → Contains (map vec_items kept) name
   none_lost name listed =
       let (one, here, is) = in_map vec_items found name listed in
-      let (k, other, within, at, alike) = Any-dedup (on_texts_equal vec_items) sorted one (Contains-permutation found sorted one moved here) in
+      let (k, other, within, at, alike) =
+      Any-dedup (on_texts_equal vec_items) sorted one (Contains-permutation found sorted one moved here) in
       let same = same_bytes one.items other.items alike in
       rw (sym same ∙ is) at (to_map vec_items kept other (k, within, at))
 
@@ -52,7 +54,8 @@ module _ (found sorted : List Name) (moved : IsPermutation found sorted) where
   none_added name there =
       let (one, here, is) = in_map vec_items kept name there in
       let before = Contains-from_dedup (on vec_items (pointwise nat_eq)) sorted one here in
-      rw is at (to_map vec_items found one (Contains-permutation sorted found one (IsPermutation-sym found sorted moved) before))
+      rw is at (to_map vec_items found one
+      (Contains-permutation sorted found one (IsPermutation-sym found sorted moved) before))
 
 pub all_names : (known read : Option (List ℕ)) (found sorted left : List Name) → read ≡ known
     → IfSome read (λ listing. map vec_items found ≡ names_in listing) → IsPermutation found sorted

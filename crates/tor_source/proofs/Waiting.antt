@@ -14,8 +14,10 @@ module _ (found waiting : List (List (List ℕ))) (next : List (List ℕ)) where
   waiting_rest h = record {
     apart = λ i j d lt within.
         let all : j < length (waiting ++ next ∷ []) = omega (arith, length_push waiting next) in
-        let at_i : get_or (waiting ++ next ∷ []) i d ≡ get_or waiting i d = get_or_append_left waiting (next ∷ []) d i (omega arith) in
-        let at_j : get_or (waiting ++ next ∷ []) j d ≡ get_or waiting j d = get_or_append_left waiting (next ∷ []) d j within in
+        let at_i : get_or (waiting ++ next ∷ []) i d ≡ get_or waiting i d =
+        get_or_append_left waiting (next ∷ []) d i (omega arith) in
+        let at_j : get_or (waiting ++ next ∷ []) j d ≡ get_or waiting j d =
+        get_or_append_left waiting (next ∷ []) d j within in
         rw (at_i, at_j) at (h.apart i j d lt all);
     before = λ k d within.
         let all : k < length (waiting ++ next ∷ []) = omega (arith, length_push waiting next) in
@@ -30,18 +32,25 @@ module _ (found waiting : List (List (List ℕ))) (next : List (List ℕ)) where
   next_past : IsWaiting found (waiting ++ next ∷ []) → All (λ later. IsPast next later) waiting
   next_past h k d within =
       let all : length waiting < length (waiting ++ next ∷ []) = omega (arith, length_push waiting next) in
-      let at_k : get_or (waiting ++ next ∷ []) k d ≡ get_or waiting k d = get_or_append_left waiting (next ∷ []) d k within in
-      let at_end : get_or (waiting ++ next ∷ []) (length waiting) d ≡ next = get_or_push waiting next d (length waiting) refl in
+      let at_k : get_or (waiting ++ next ∷ []) k d ≡ get_or waiting k d =
+      get_or_append_left waiting (next ∷ []) d k within in
+      let at_end : get_or (waiting ++ next ∷ []) (length waiting) d ≡ next =
+      get_or_push waiting next d (length waiting) refl in
       rw (at_k, at_end) at (h.apart k (length waiting) d within all)
 
   waiting_push : IsWaiting found waiting → All (λ later. IsPast next later) waiting → AreBefore next found
       → IsWaiting found (waiting ++ next ∷ [])
   waiting_push h past before = record {
     apart = λ i j d lt within. elim (cases_lt j (length waiting)) [
-      | inl inside ↦ rw (get_or_append_left waiting (next ∷ []) d i (omega arith), get_or_append_left waiting (next ∷ []) d j inside) (h.apart i j d lt inside)
+      | inl inside ↦ rw (
+        get_or_append_left waiting (next ∷ []) d i (omega arith),
+        get_or_append_left waiting
+            (next ∷ []) d j inside,
+      ) (h.apart i j d lt inside)
       | inr past_end ↦ (
           let last : length waiting ≡ j = omega (arith, length_push waiting next) in
-          let at_i : get_or (waiting ++ next ∷ []) i d ≡ get_or waiting i d = get_or_append_left waiting (next ∷ []) d i (omega arith) in
+          let at_i : get_or (waiting ++ next ∷ []) i d ≡ get_or waiting i d =
+          get_or_append_left waiting (next ∷ []) d i (omega arith) in
           let at_j : get_or (waiting ++ next ∷ []) j d ≡ next = get_or_push waiting next d j last in
           rw (at_i, at_j) (past i d (omega arith)))
     ];
@@ -56,16 +65,19 @@ waiting_found found waiting path h =
     let past = next_past found waiting path h in
     record {
       apart = rest.apart;
-      before = λ k d within. All-push (λ earlier. path_cmp earlier (get_or waiting k d) ≡ Less) found path (rest.before k d within) (rw append-nil at (past k d within []));
+      before = λ k d within. All-push (λ earlier. path_cmp earlier (get_or waiting k d) ≡ Less) found path
+          (rest.before k d within) (rw append-nil at (past k d within []));
     }
 
 -- a folder is entered: each of its names may be the next
 pub waiting_inside : (found waiting : List (List (List ℕ))) (folder : List (List ℕ)) (name : List ℕ)
     → IsWaiting found (waiting ++ folder ∷ []) → IsWaiting found (waiting ++ (folder ++ name ∷ []) ∷ [])
 waiting_inside found waiting folder name h =
-    let deeper : (later : List (List ℕ)) → IsPast folder later → IsPast (folder ++ name ∷ []) later = λ later past more. rw append_assoc (past (name ∷ more)) in
+    let deeper : (later : List (List ℕ)) → IsPast folder later → IsPast (folder ++ name ∷ []) later =
+    λ later past more. rw append_assoc (past (name ∷ more)) in
     waiting_push found waiting (folder ++ name ∷ []) (waiting_rest found waiting folder h)
-    (All-weaker (λ later. IsPast folder later) (λ later. IsPast (folder ++ name ∷ []) later) deeper waiting (next_past found waiting folder h))
+    (All-weaker (λ later. IsPast folder later) (λ later. IsPast (folder ++ name ∷ []) later) deeper waiting
+    (next_past found waiting folder h))
     (before_longer folder name found (next_before found waiting folder h))
 
 -- a name waits, and one before it may be the next
@@ -75,7 +87,8 @@ pub waiting_name : (found waiting : List (List (List ℕ))) (folder : List (List
     → IsWaiting found ((waiting ++ (folder ++ later ∷ []) ∷ []) ++ (folder ++ name ∷ []) ∷ [])
 waiting_name found waiting folder name later less after here =
     waiting_push found (waiting ++ (folder ++ later ∷ []) ∷ []) (folder ++ name ∷ []) after
-    (All-push (λ path. IsPast (folder ++ name ∷ []) path) waiting (folder ++ later ∷ []) (next_past found waiting (folder ++ name ∷ []) here) (past_next folder name later less))
+    (All-push (λ path. IsPast (folder ++ name ∷ []) path) waiting (folder ++ later ∷ [])
+    (next_past found waiting (folder ++ name ∷ []) here) (past_next folder name later less))
     (next_before found waiting (folder ++ name ∷ []) here)
 
 pub waiting_first : IsWaiting [] ([] ++ [] ∷ [])

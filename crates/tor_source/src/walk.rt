@@ -1,5 +1,6 @@
 //! The files below a folder, in the order of their paths.
-ghost use Rattle.std.specs.Prelude.{◌≡◌, ◌<◌, ◌≤◌, ◌∷◌, ◌++◌, ◌⊎◌, ◌≢◌, ℕ, List, [], IfErr, IfOk, IfSome, OnOk, length, map};
+ghost use Rattle.std.specs.Prelude.{◌≡◌, ◌<◌, ◌≤◌, ◌∷◌, ◌++◌, ◌⊎◌, ◌≢◌, ℕ};
+ghost use Rattle.std.specs.Prelude.{List, [], IfErr, IfOk, IfSome, OnOk, length, map};
 ghost use Rattle.std.specs.String.{string_bytes};
 ghost use Rattle.tor_source.specs.steps.Order.{HasAdded, HasFound, IsAhead, IsEntered};
 ghost use Rattle.tor_source.specs.Places.{without_slash};

@@ -7,4 +7,5 @@ use Rattle.tor_source.proofs.listing.names_of.Given as goal
 abbrev pub invariant-loop-name : goal.invariant-loop-name
 invariant-loop-name g l =
     (split_byte l.name-iterator ≡ 0)
-    × HasRead (g.B.Read.remaining l.fn.folder) (split_known_bytes g.B.Read.remaining l.name-iterator) (map vec_items l.names.items)
+    × HasRead (g.B.Read.remaining l.fn.folder) (split_known_bytes g.B.Read.remaining l.name-iterator)
+    (map vec_items l.names.items)

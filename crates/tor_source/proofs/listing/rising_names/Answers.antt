@@ -8,11 +8,20 @@ use Rattle.tor_source.proofs.listing.rising_names.Goals as goal
 
 pub returns-clause-rising : goal.returns-clause-rising
 returns-clause-rising g c =
-    rw (dedup_is _ _ _ c.dedup.ensures.filtered) (IsStrictlySortedBy-dedup (on_texts (λ x. x.items)) (λ x y. texts_ties x.items y.items) _ c.in_ok-sort.ensures.sorted)
+    rw (dedup_is _ _ _ c.dedup.ensures.filtered)
+    (IsStrictlySortedBy-dedup (on_texts (λ x. x.items)) (λ x y. texts_ties x.items y.items) _
+    c.in_ok-sort.ensures.sorted)
 
 pub returns-clause-all : goal.returns-clause-all
 returns-clause-all g c =
     let known = g.D.Read.remaining in
     let reader = c.in_ok-with_capacity.field-0 in
-    let read : reader_remaining known reader ≡ known c.args.folder = rw (c.in_ok-with_capacity.ensures.capacity, c.in_ok-with_capacity.ensures.empty, c.in_ok-with_capacity.ensures.inner) (prepended_none (known c.args.folder)) in
-    all_names (known c.args.folder) (reader_remaining known reader) c.in_ok-names.names.items c.sort.new.self.items c.dedup.new.self.items read c.in_ok-names.ensures c.in_ok-sort.ensures.permutation (dedup_is _ _ _ c.dedup.ensures.filtered)
+    let read : reader_remaining known reader ≡ known c.args.folder =
+    rw (
+      c.in_ok-with_capacity.ensures.capacity,
+      c.in_ok-with_capacity.ensures.empty,
+      c.in_ok-with_capacity.ensures.inner,
+    ) (prepended_none (known c.args.folder)) in
+    all_names (known c.args.folder) (reader_remaining known reader) c.in_ok-names.names.items c.sort.new.self.items
+    c.dedup.new.self.items read c.in_ok-names.ensures c.in_ok-sort.ensures.permutation
+    (dedup_is _ _ _ c.dedup.ensures.filtered)

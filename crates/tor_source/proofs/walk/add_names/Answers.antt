@@ -10,8 +10,17 @@ use Rattle.tor_source.proofs.Added.{moved_all, moved_more, moved_none, none_left
 use Rattle.tor_source.proofs.walk.add_names.Goals as goal
 
 pub loop-name-init : goal.loop-name-init
-loop-name-init g c =
-    (c.in_ok-names.ensures.rising, λ found start. (ahead_folder found c.args.above.now c.args.waiting.now.items start, λ k d lt. waiting_inside found (map (path_in c.args.above.now) c.args.waiting.now.items) c.args.above.now (get_or c.in_ok-names.names.items k d).items start.paths), moved_none c.in_ok-names.names.items c.args.waiting.now.items)
+loop-name-init g c = (
+  c.in_ok-names.ensures.rising,
+  λ found start. (
+    ahead_folder found c.args.above.now c.args.waiting.now.items start,
+    λ k d lt. waiting_inside found
+        (map (path_in c.args.above.now) c.args.waiting.now.items) c.args.above.now
+        (get_or c.in_ok-names.names.items k d).items start.paths,
+  ),
+  moved_none c.in_ok-names.names.items
+      c.args.waiting.now.items,
+)
 
 pub loop-name-preserved : goal.loop-name-preserved
 loop-name-preserved g c =
@@ -22,18 +31,25 @@ loop-name-preserved g c =
     let waiting = map (path_in above) entries in
     let next : Entry = record { depth = length above; name = name } in
     let items : c.loop-name.names.items ≡ left ++ name ∷ [] = c.in-Some.ensures.items in
-    let front = rising_front (λ one next. name_cmp one.items next.items) left name (rw items at c.loop-name.invariant.0) in
-    let pushed : map (path_in above) (entries ++ next ∷ []) ≡ waiting ++ (above ++ name.items ∷ []) ∷ [] = path_inside above entries next refl in (
+    let front = rising_front (λ one next. name_cmp one.items next.items) left name
+    (rw items at c.loop-name.invariant.0) in
+    let pushed : map (path_in above) (entries ++ next ∷ []) ≡ waiting ++ (above ++ name.items ∷ []) ∷ [] =
+    path_inside above entries next refl in (
       front.0,
       λ found start.
           let before = c.loop-name.invariant.1 found start in
-          let each = All-pop (λ one. IsWaiting found (waiting ++ (above ++ one.items ∷ []) ∷ [])) c.loop-name.names.items left (Some name) items before.1 in (
+          let each = All-pop (λ one. IsWaiting found (waiting ++ (above ++ one.items ∷ []) ∷ []))
+          c.loop-name.names.items left (Some name) items before.1 in (
             rw c.in_ok-push.ensures.items (ahead_name found above entries next refl before.0 each.1),
             λ k d lt.
-                let less : name_cmp (get_or left k d).items name.items ≡ Less = All-from_recursion (λ one. name_cmp one.items name.items ≡ Less) left front.1 k d lt in
-                rw (c.in_ok-push.ensures.items, pushed) (waiting_name found waiting above (get_or left k d).items name.items less each.1 (each.0 k d lt)),
+                let less : name_cmp (get_or left k d).items name.items ≡ Less =
+                All-from_recursion (λ one. name_cmp one.items name.items ≡ Less) left front.1 k d lt in
+                rw (c.in_ok-push.ensures.items, pushed)
+                (waiting_name found waiting above (get_or left k d).items name.items less each.1 (each.0 k d lt)),
           ),
-      rw c.in_ok-push.ensures.items (moved_more c.in_ok-names.names.items left c.args.waiting.now.items entries next (rw items at c.loop-name.invariant.2)),
+      rw c.in_ok-push.ensures.items
+          (moved_more c.in_ok-names.names.items left c.args.waiting.now.items entries next
+          (rw items at c.loop-name.invariant.2)),
     )
 
 pub returns-clause-ahead : goal.returns-clause-ahead
@@ -41,5 +57,7 @@ returns-clause-ahead g c = λ found start. (c.loop-name.invariant.1 found start)
 
 pub returns-clause-all : goal.returns-clause-all
 returns-clause-all g c =
-    let none : c.loop-name.names.items ≡ [] = none_left c.loop-name.names.items (omega (arith, c.loop-name.names.ok.0, c.in_default.ensures.cases.0)) in
-    moved_all (g.D.Read.remaining c.args.folder) c.in_ok-names.names.items c.args.waiting.now.items c.loop-name.waiting.items c.in_ok-names.ensures.all (rw none at c.loop-name.invariant.2)
+    let none : c.loop-name.names.items ≡ [] =
+    none_left c.loop-name.names.items (omega (arith, c.loop-name.names.ok.0, c.in_default.ensures.cases.0)) in
+    moved_all (g.D.Read.remaining c.args.folder) c.in_ok-names.names.items c.args.waiting.now.items
+    c.loop-name.waiting.items c.in_ok-names.ensures.all (rw none at c.loop-name.invariant.2)

@@ -13,5 +13,8 @@ decreases-loop-name g l = vec_len l.names
 abbrev pub invariant-loop-name : goal.invariant-loop-name
 invariant-loop-name g l =
     IsStrictlySortedBy (λ name next. name_cmp name.items next.items) l.names.items
-    × ((found : List (List (List ℕ))) → IsEntered found l.above l.initial.waiting.items → IsAhead found l.above l.waiting.items × All (λ name. IsWaiting found (map (path_in l.above) l.waiting.items ++ (l.above ++ name.items ∷ []) ∷ [])) l.names.items)
+    × ((found : List (List (List ℕ))) → IsEntered found l.above l.initial.waiting.items
+    → IsAhead found l.above l.waiting.items
+    × All (λ name. IsWaiting found (map (path_in l.above) l.waiting.items ++ (l.above ++ name.items ∷ []) ∷ []))
+    l.names.items)
     × IsMoved l.initial.names.items l.names.items l.initial.waiting.items l.waiting.items

@@ -10,24 +10,41 @@ use Rattle.tor_source.proofs.walk.enter.Goals as goal
 pub returns-then-is_dir-clause-ahead : goal.returns-then-is_dir-clause-ahead
 returns-then-is_dir-clause-ahead g c =
     let path = c.push.new.self.items in
-    let is : path ≡ path_in c.args.last.now.items c.args.entry = rw (c.in_ok-push.ensures.items, c.truncate.ensures.items, c.in_ok-new.ensures.made, c.deref.ensures.value) in
-    let entered : IsEntered c.args.found.now.paths.items path c.args.waiting.now.items = rw is (entered_next c.args.found.now.paths.items c.args.last.now.items c.args.waiting.now.items c.args.entry c.requires.ahead) in
-    on_ok_weaker c.add_names.result (λ kept. rw c.deref-then-is_dir-2.ensures.value at (kept c.args.found.now.paths.items (rw c.deref-then-is_dir-2.ensures.value entered))) c.add_names.ensures.ahead
+    let is : path ≡ path_in c.args.last.now.items c.args.entry =
+    rw (c.in_ok-push.ensures.items, c.truncate.ensures.items, c.in_ok-new.ensures.made, c.deref.ensures.value) in
+    let entered : IsEntered c.args.found.now.paths.items path c.args.waiting.now.items =
+    rw is (entered_next c.args.found.now.paths.items c.args.last.now.items c.args.waiting.now.items c.args.entry
+    c.requires.ahead) in
+    on_ok_weaker c.add_names.result
+    (λ kept. rw c.deref-then-is_dir-2.ensures.value at
+    (kept c.args.found.now.paths.items (rw c.deref-then-is_dir-2.ensures.value entered))) c.add_names.ensures.ahead
 
 pub returns-then-is_file-clause-found : goal.returns-then-is_file-clause-found
 returns-then-is_file-clause-found g c =
     let folder = string_bytes c.args.found.now.folder in
     let path = c.push.new.self.items in
-    let is : path ≡ path_in c.args.last.now.items c.args.entry = rw (c.in_ok-push.ensures.items, c.truncate.ensures.items, c.in_ok-new.ensures.made, c.deref.ensures.value) in
-    let entered : IsEntered c.args.found.now.paths.items path c.args.waiting.now.items = rw is (entered_next c.args.found.now.paths.items c.args.last.now.items c.args.waiting.now.items c.args.entry c.requires.ahead) in
-    let place : string_bytes c.in_ok-place.place ≡ place_below folder path = rw (← c.deref-2.ensures, ← c.deref-3.ensures.value) c.in_ok-place.ensures in
+    let is : path ≡ path_in c.args.last.now.items c.args.entry =
+    rw (c.in_ok-push.ensures.items, c.truncate.ensures.items, c.in_ok-new.ensures.made, c.deref.ensures.value) in
+    let entered : IsEntered c.args.found.now.paths.items path c.args.waiting.now.items =
+    rw is (entered_next c.args.found.now.paths.items c.args.last.now.items c.args.waiting.now.items c.args.entry
+    c.requires.ahead) in
+    let place : string_bytes c.in_ok-place.place ≡ place_below folder path =
+    rw (← c.deref-2.ensures, ← c.deref-3.ensures.value) c.in_ok-place.ensures in
     on_ok_weaker c.add_file.result (λ added.
     let told = rw c.deref-then-is_file.ensures.value at added in
-    rw (told.0, told.1, told.2) (found_push folder c.args.found.now.paths.items (map string_bytes c.args.found.now.places.items) path (string_bytes c.in_ok-place.place) c.args.waiting.now.items c.requires.found entered told.3 place)) c.add_file.ensures.added
+    rw (told.0, told.1, told.2)
+    (found_push folder c.args.found.now.paths.items (map string_bytes c.args.found.now.places.items) path
+    (string_bytes c.in_ok-place.place) c.args.waiting.now.items c.requires.found entered told.3 place))
+    c.add_file.ensures.added
 
 pub returns-then-is_file-clause-ahead : goal.returns-then-is_file-clause-ahead
 returns-then-is_file-clause-ahead g c =
     let path = c.push.new.self.items in
-    let is : path ≡ path_in c.args.last.now.items c.args.entry = rw (c.in_ok-push.ensures.items, c.truncate.ensures.items, c.in_ok-new.ensures.made, c.deref.ensures.value) in
-    let entered : IsEntered c.args.found.now.paths.items path c.args.waiting.now.items = rw is (entered_next c.args.found.now.paths.items c.args.last.now.items c.args.waiting.now.items c.args.entry c.requires.ahead) in
-    on_ok_weaker c.add_file.result (λ added. rw (added.0, c.deref-then-is_file.ensures.value) (ahead_file c.args.found.now.paths.items path c.args.waiting.now.items entered)) c.add_file.ensures.added
+    let is : path ≡ path_in c.args.last.now.items c.args.entry =
+    rw (c.in_ok-push.ensures.items, c.truncate.ensures.items, c.in_ok-new.ensures.made, c.deref.ensures.value) in
+    let entered : IsEntered c.args.found.now.paths.items path c.args.waiting.now.items =
+    rw is (entered_next c.args.found.now.paths.items c.args.last.now.items c.args.waiting.now.items c.args.entry
+    c.requires.ahead) in
+    on_ok_weaker c.add_file.result
+    (λ added. rw (added.0, c.deref-then-is_file.ensures.value)
+    (ahead_file c.args.found.now.paths.items path c.args.waiting.now.items entered)) c.add_file.ensures.added
