@@ -5,5 +5,6 @@ pub mod FirstFault
 pub mod FoundFiles
 pub mod PathOrder
 pub mod Pieces
+pub mod ProvedLaws
 pub mod SameNames
 pub mod Waiting

@@ -1,6 +1,6 @@
-//! Laws over the sources in memory: each is steady, and has the facts that its definition says.
-ghost use Rattle.std.specs.Prelude.{ℕ, List, Option};
-ghost use Rattle.tor_source.specs.Sources.{FailingFiles, ShortFiles, fail_facts, mem_facts};
+//! Laws over the sources in memory: each is steady, and the first fault at a place counts.
+ghost use Rattle.std.specs.Prelude.{◌≡◌, ◌∷◌, ◌++◌, ℕ, List, Option, None, Some, Contains};
+ghost use Rattle.tor_source.specs.Sources.{FailingFiles, ShortFiles, fail_facts, first_fault, mem_facts};
 
 use crate::failing::FailSource;
 use crate::memory::MemSource;
@@ -20,4 +20,17 @@ pub fn failing_is_steady()
 /// Files that are read in small steps answer as the files themselves, each time.
 pub fn short_is_steady()
     ensures { (source : ShortFiles) → ⟦<ShortSource as Source>⟧.is_steady source (mem_facts source.files) }
+{}
+
+/// Of the faults at one place the first counts.
+pub fn first_fault_counts()
+    ensures { (before after : List (ℕ × Option ℕ × ℕ)) (file : ℕ) (place : Option ℕ) (number : ℕ) →
+        first_fault before file place ≡ None →
+        first_fault (before ++ (file, place, number) ∷ after) file place ≡ Some number }
+{}
+
+/// No place has a fault but one that is listed for it.
+pub fn faults_are_listed()
+    ensures { (faults : List (ℕ × Option ℕ × ℕ)) (file : ℕ) (place : Option ℕ) (number : ℕ) →
+        first_fault faults file place ≡ Some number → Contains faults (file, place, number) }
 {}

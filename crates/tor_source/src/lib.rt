@@ -1,12 +1,16 @@
 //! Where the bytes of files come from.
 //!
 //! ```rust
-//! use tor_source::FolderSource;
+//! use tor_source::{FolderSource, Source};
 //!
 //! let (source, paths) = FolderSource::scan(&rt, "folder")?;
-//! assert_eq!(rt; source.count(), paths.len());
 //! let known = FolderSource::at(&rt, "folder", paths)?;
 //! assert_eq!(rt; known.count(), source.count());
+//! let mut buffer = [0; 512];
+//! if let Some(length) = source.length(0)? {
+//!     let count = source.read_at(0, 0, &mut buffer)?;
+//!     println!(rt; "{count} of {length} bytes")?;
+//! }
 //! ```
 //!
 //! - [`Source`] (`source.rt`): files by their numbers; what a steady source answers.
