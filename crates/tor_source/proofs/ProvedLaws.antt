@@ -1,6 +1,6 @@
 -- The laws of `src/laws.rt` that no tactic finds.
-use Rattle.std.proofs.Common.{◌≡◌, ◌≢◌, ◌<◌, ◌++◌, ◌∷◌, ◌==◌, [], ℕ, suc, Bool, true, false, cond, List, Option, None, Some}
-use Rattle.std.proofs.Common.{nat_eq, length, refl, sym, arith, add-one, eq-eqb, eqb-true, ap}
+use Rattle.std.proofs.Common.{◌≡◌, ◌++◌, ◌∷◌, ◌==◌, [], ℕ, suc, Bool, true, false, cond, List, Option, None, Some}
+use Rattle.std.proofs.Common.{nat_eq, refl, arith, eq-eqb, eqb-true, ap}
 use Rattle.std.proofs.lemmas.Bool.{and_parts}
 use Rattle.std.proofs.lemmas.List.Folds.{find-append}
 use Rattle.std.specs.List.{Contains, find}
