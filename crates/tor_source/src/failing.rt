@@ -25,6 +25,7 @@ impl Model for FailSource {
 }
 
 impl FailSource {
+    /// These files, with these faults.
     pub fn new(files: MemSource, faults: Vec<(u64, Option<u64>, u64)>) -> FailSource
         ensures files { result.files ≡ files }
         ensures faults { result.faults ≡ faults.items }

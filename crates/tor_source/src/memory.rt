@@ -6,8 +6,8 @@ ghost use Rattle.tor_source.specs.Sources.{content_of, mem_facts};
 use crate::source::Source;
 use std::marker::Model;
 
-/// Files in memory, in the order of their numbers; None stands for a missing one. No call fails. Contracts see the
-/// list of their contents.
+/// Files in memory, in the order of their numbers; some may be missing, as are all past the last. No call fails.
+/// Contracts see the list of their contents.
 #[derive(Drop)]
 pub struct MemSource {
     files: Vec<Option<Vec<u8>>>,
@@ -22,6 +22,7 @@ impl Model for MemSource {
 }
 
 impl MemSource {
+    /// Files with these contents; None stands for a missing one.
     pub fn new(files: Vec<Option<Vec<u8>>>) -> MemSource
         ensures { result ≡ map (option_map vec_items) files.items }
     {

@@ -7,8 +7,8 @@ use crate::memory::MemSource;
 use crate::source::Source;
 use std::marker::Model;
 
-/// Files in memory of which a read gives at most so many bytes, and at least one where there is one. Contracts see
-/// the files and that number.
+/// Files in memory of which no read gives more than so many bytes, so that a reader has to go on. Contracts see the
+/// files and that number.
 #[derive(Drop)]
 pub struct ShortSource {
     files: MemSource,
@@ -27,6 +27,7 @@ impl Model for ShortSource {
 }
 
 impl ShortSource {
+    /// These files, at most `step` bytes a read.
     pub fn new(files: MemSource, step: usize) -> ShortSource
         requires { 1 ≤ step }
         ensures files { result.files ≡ files }
