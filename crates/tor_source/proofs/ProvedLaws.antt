@@ -23,7 +23,8 @@ pub first_fault_counts : (before after : List (ℕ × Option ℕ × ℕ)) (file 
     → first_fault before file place ≡ None
     → first_fault (before ++ (file, place, number) ∷ after) file place ≡ Some number
 first_fault_counts before after file place number none =
-    let passed : find (is_at file place) before ≡ None = unfound (λ fault. fault.2) (find (is_at file place) before) none in
+    let passed : find (is_at file place) before ≡ None =
+    unfound (λ fault. fault.2) (find (is_at file place) before) none in
     rw (find-append (is_at file place) before ((file, place, number) ∷ after), passed, at_itself file place number) refl
 
 same_from : (place other : Option ℕ) → option_eq nat_eq place other ≡ true → place ≡ other
