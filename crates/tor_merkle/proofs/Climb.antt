@@ -74,7 +74,7 @@ top_hash content k hashes d pos top is =
 pub piece_layer-nodes : (content : List ℕ) (k : ℕ) → 16384 * 2 ^ k < length content
     → piece_layer content (16384 * 2 ^ k) ≡ nodes 0 (leaves content) k
 unfolding piece_layer
-piece_layer-nodes content k lt = cond-false _ [] _ (lt-leb _ _ lt) ∙ piece_roots-nodes content k lt
+piece_layer-nodes content k lt = cond-false _ [] _ (lt-leb _ _ lt) ∙ piece_roots-nodes content k
 
 pub piece_layer-none : (content : List ℕ) (piece_length : ℕ) → length content ≤ piece_length
     → piece_layer content piece_length ≡ []

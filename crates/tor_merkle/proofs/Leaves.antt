@@ -18,7 +18,7 @@ unfolding leaves blocks
 leaves-nil = refl
 
 -- whole runs stay where elements are added at the end
-run_at-append : {X : Type 0} (xs ys : List X) (size i : ℕ) → (i + 1) * size ≤ length xs
+pub run_at-append : {X : Type 0} (xs ys : List X) (size i : ℕ) → (i + 1) * size ≤ length xs
     → run_at size (xs ++ ys) i ≡ run_at size xs i
 run_at-append xs ys size i le =
     ap (take size) (drop-append-le (i * size) xs ys (omega arith))

@@ -103,6 +103,24 @@ impl PieceTree {
         close_piece(height, &mut blocks, &mut pieces, &mut layer);
         (pieces.root(), layer)
     }
+
+    // The hash of each piece, the last widened where it is short.
+    pub(crate) fn piece_roots(self) -> Vec<Hash>
+        requires { div_ceil (length self.leaves) (2 ^ self.height) ≤ self.room }
+        ensures { result.items ≡ nodes 0 self.leaves self.height }
+    {
+        let PieceTree {
+            height,
+            mut blocks,
+            mut pieces,
+            mut layer,
+            leaves: _leaves,
+        } = self;
+        if !blocks.is_empty() {
+            close_piece(height, &mut blocks, &mut pieces, &mut layer);
+        }
+        layer
+    }
 }
 
 // Ends the present piece, widened by zero subtrees where it is short.

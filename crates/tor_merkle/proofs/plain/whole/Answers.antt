@@ -1,5 +1,5 @@
 -- one level more, and the last
-use Rattle.std.proofs.Common.{◌≡◌, ℕ, ◌+◌, ◌*◌, ◌^◌, length, arith, refl, ap, ap₂, ◌∙◌, sym, le_antisymm, eqb-true, inl, inr, zero-add, add-one, mul_assoc, pow-suc}
+use Rattle.std.proofs.Common.{◌≡◌, ℕ, ◌+◌, ◌*◌, ◌^◌, length, arith, refl, ap, ap₂, ◌∙◌, sym, le_antisymm, inl, inr, zero-add, add-one, mul_assoc, pow-suc}
 use Rattle.tor_merkle.specs.Layer.{piece_layer}
 use Rattle.tor_merkle.specs.Block.{leaves}
 use Rattle.tor_merkle.specs.Subtree as S
@@ -7,8 +7,8 @@ use Rattle.std.proofs.lemmas.Bool.{eqb-false, cases_lt}
 use Rattle.tor_merkle.proofs.Climb.{covers_less, more_levels, last_level, height_small, some_node, top_hash, layer_met}
 use Rattle.tor_merkle.specs.Node.{nodes}
 use Rattle.tor_merkle.proofs.Levels.{nodes-zero, level_above-nodes}
-use Rattle.tor_merkle.proofs.Power.{power_split, same_power}
-use Rattle.tor_merkle.proofs.ProvedLaws.{piece_length_bounds}
+use Rattle.tor_merkle.proofs.Lengths.{length_split}
+use Rattle.tor_merkle.proofs.Power.{same_power}
 use Rattle.tor_merkle.proofs.plain.whole.Goals as goal
 use Rattle.tor_merkle.proofs.plain.whole.Goals.{then-width-piece_length, else-width-piece_length}
 
@@ -98,8 +98,7 @@ returns-clause-layer c =
     let top =
     last_level c.args.content.now c.levels.level _ c.levels.invariant.hashes c.levels.invariant.within
     (omega (arith, c.levels.hashes.ok.0)) in
-    let bounds = (piece_length_bounds c.args.piece_length).0 c.requires.piece in
-    let piece = power_split c.args.piece_length 14 (eqb-true _ _ bounds.0) bounds.1 in
+    let piece = length_split c.args.piece_length c.requires.piece in
     layer_met c.args.content.now piece.0 c.levels.level _ top (c.levels.invariant.passed piece.0 piece.1)
     (c.levels.invariant.ahead piece.0 piece.1)
     ∙ ap (piece_layer c.args.content.now) (sym piece.1)
