@@ -1,6 +1,6 @@
 -- The root and the piece layer of a content are nodes of the tree over its leaves.
-use Rattle.std.proofs.Common.{◌≡◌, ℕ, ◌+◌, ◌-◌, ◌*◌, ◌/◌, ◌^◌, ◌<◌, ◌≤◌, List, map, length, arith, refl, sym, ap, ◌∙◌, pow_pos, pow-add, mul_comm, mul-le-mul_right, ap₂}
-use Rattle.std.proofs.Math.Nat.{lt_of_mul-lt-mul_right, mul-div_cancel_left}
+use Rattle.std.proofs.Common.{◌≡◌, ℕ, ◌*◌, ◌/◌, ◌^◌, ◌<◌, ◌≤◌, List, [], ◌∷◌, map, length, arith, le_antisymm, refl, sym, ap, ◌∙◌, pow_pos, mul_comm, ap₂}
+use Rattle.std.proofs.Math.Nat.{mul-div_cancel_left}
 use Rattle.std.proofs.lemmas.List.{length-map}
 use Rattle.std.proofs.lemmas.List.FromFn.{length-map-range_with_len}
 use Rattle.std.specs.Int.{div_ceil}
@@ -9,10 +9,11 @@ use Rattle.sha2.specs.Sha256.{sha256}
 use Rattle.tor_merkle.specs.Block.{run_at, blocks, leaves}
 use Rattle.tor_merkle.specs.Layer.{pieces_root, piece_roots}
 use Rattle.tor_merkle.specs.Subtree.{zero_leaf, zero_subtree, subtree_root, height, padded}
-use Rattle.tor_merkle.proofs.Ceil.{below_from_ceil, ceil_from_below, ceil_ceil}
-use Rattle.tor_merkle.proofs.Height.{height_covers, height_above, height-pow}
+use Rattle.tor_merkle.proofs.Ceil.{ceil_at_most, ceil_from_below, ceil_ceil}
+use Rattle.tor_merkle.proofs.Height.{height_covers, height-pow}
 use Rattle.tor_merkle.proofs.Levels.{map-range_same}
 use Rattle.tor_merkle.specs.Node.{node, nodes}
+use Rattle.tor_merkle.specs.Stack.{padded_subtree}
 use Rattle.tor_merkle.proofs.Node.{subtree_root-padded, subtree_root-leaf_run}
 
 pub length-leaves : (content : List ℕ) → length (leaves content) ≡ div_ceil (length content) 16384
@@ -63,3 +64,17 @@ piece_roots-nodes content k =
     (λ i _.
     ap₂ (λ h n. subtree_root h (run_at n tree i)) level size
     ∙ subtree_root-leaf_run (leaves content) top k i)
+
+-- the only piece of a content, widened by zero leaves
+pub only_piece_root : (content : List ℕ) (k : ℕ) → 0 < length content → length content ≤ 16384 * 2 ^ k
+    → piece_roots content (16384 * 2 ^ k) ≡ padded_subtree k 0 (leaves content) ∷ []
+unfolding nodes
+only_piece_root content k some short =
+    let n = length (leaves content) in
+    let fits : n ≤ 2 ^ k = rw length-leaves (ceil_at_most (length content) 16384 (2 ^ k) (omega arith) (omega arith)) in
+    let leaf : 0 < n = rw length-leaves (ceil_from_below (length content) 16384 0 (omega arith) (omega arith)) in
+    let one : div_ceil n (2 ^ k) ≡ 1 = le_antisymm
+    (ceil_at_most n (2 ^ k) 1 (pow_pos k) (omega arith)) (ceil_from_below n (2 ^ k) 0 (pow_pos k) (omega arith)) in
+    piece_roots-nodes content k
+    ∙ ap (λ c. map (node 0 (leaves content) k) (range_with_len 0 c)) one
+    ∙ ap (λ x. x ∷ []) (sym (subtree_root-padded 0 (leaves content) k fits))

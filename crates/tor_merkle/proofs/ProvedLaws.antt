@@ -1,15 +1,15 @@
 -- The laws of `src/laws.rt`, for proofs that cite them.
-use Rattle.std.proofs.Common.{◌≡◌, ◌+◌, ◌-◌, ◌*◌, ◌/◌, ◌^◌, ◌<◌, ◌≤◌, ◌↔◌, ℕ, IsTrue, List, [], ◌++◌, length, arith, sym, ap, ap₂, ◌∙◌, pow_pos, pow-add, mul_assoc, mul_comm}
+use Rattle.std.proofs.Common.{◌≡◌, ◌+◌, ◌-◌, ◌*◌, ◌/◌, ◌^◌, ◌<◌, ◌≤◌, ◌↔◌, ℕ, IsTrue, List, [], ◌∷◌, ◌++◌, length, arith, sym, ap, ap₂, ◌∙◌, pow-add, mul_assoc, mul_comm}
 use Rattle.std.proofs.lemmas.Bool.{cond-false, lt-leb}
 use Rattle.std.proofs.lemmas.List.FromFn.{length-map-range_with_len}
 use Rattle.std.specs.Int.{div_ceil, is_power_of_two}
 use Rattle.tor_merkle.specs.Block.{run_at, leaves}
 use Rattle.tor_merkle.specs.Layer.{IsPieceLength, pieces_root, piece_level, piece_roots, piece_layer, tree_leaves}
-use Rattle.tor_merkle.specs.Stack.{padded_root}
+use Rattle.tor_merkle.specs.Stack.{padded_root, padded_subtree}
 use Rattle.tor_merkle.specs.Subtree.{subtree_root}
 use Rattle.tor_merkle.specs.declared.TheConstants.{BLOCK_LENGTH, MAX_LENGTH, MAX_PIECE_LENGTH, MIN_PIECE_LENGTH}
 use Rattle.tor_merkle.proofs.Ceil.{ceil_at_most, ceil_from_below}
-use Rattle.tor_merkle.proofs.Content.{longer_than_piece, piece_roots-nodes}
+use Rattle.tor_merkle.proofs.Content.{longer_than_piece, piece_roots-nodes, only_piece_root}
 use Rattle.tor_merkle.proofs.Filled.{padded_root-nodes}
 use Rattle.tor_merkle.proofs.Joined.{piece_roots-joined}
 use Rattle.tor_merkle.proofs.Lengths.{length_bounds, length_split, level_is, level_low}
@@ -37,6 +37,15 @@ pub piece_roots_of_joined : (a b : List ℕ) (piece_length k : ℕ) → IsPieceL
 piece_roots_of_joined a b n k allowed long =
     let split = length_split n allowed in
     rw split.1 (piece_roots-joined a b split.0 k (long ∙ ap (λ x. k * x) split.1))
+
+-- a content of at most one piece
+pub root_of_short_content : (content : List ℕ) (piece_length : ℕ) → IsPieceLength piece_length → 0 < length content
+    → length content ≤ piece_length
+    → piece_roots content piece_length ≡ padded_subtree (piece_level piece_length) 0 (leaves content) ∷ []
+root_of_short_content content n allowed some short =
+    let split = length_split n allowed in
+    ap (piece_roots content) split.1 ∙ only_piece_root content split.0 some (omega (arith, split.1, short))
+    ∙ ap (λ k. padded_subtree k 0 (leaves content) ∷ []) (sym (level_is n split.0 split.1))
 
 -- the root of a content longer than a piece is that of its layer
 pub root_of_long_content : (content : List ℕ) (piece_length : ℕ) → IsPieceLength piece_length

@@ -88,7 +88,7 @@ impl Feed {
     }
 
     /// The root of each piece that was fed, widened by zero leaves to a whole piece, in order: of a run of pieces of
-    /// a longer file, its layer's hashes (BEP 52, "piece layers"). No memory.
+    /// a longer file, its layer's hashes (BEP 52, "piece layers"). It takes no memory.
     pub fn piece_roots(self) -> Vec<Hash>
         ensures { result.items ≡ piece_roots self.bytes self.piece_length }
     {

@@ -1,9 +1,10 @@
 //! Laws over the definitions alone.
 
-ghost use Rattle.std.specs.Prelude.{◌≡◌, ℕ, ◌*◌, ◌-◌, ◌^◌, ◌<◌, ◌≤◌, ◌↔◌, IsTrue, List, ◌++◌, length};
+ghost use Rattle.std.specs.Prelude.{◌≡◌, ℕ, ◌*◌, ◌-◌, ◌^◌, ◌<◌, ◌≤◌, ◌↔◌, IsTrue, List, [], ◌∷◌, ◌++◌, length};
 ghost use Rattle.std.specs.Int.{div_ceil, is_power_of_two};
+ghost use Rattle.tor_merkle.specs.Block.{leaves};
 ghost use Rattle.tor_merkle.specs.Layer.{IsPieceLength, pieces_root, piece_level, piece_roots, piece_layer};
-ghost use Rattle.tor_merkle.specs.Stack.{padded_root};
+ghost use Rattle.tor_merkle.specs.Stack.{padded_root, padded_subtree};
 
 use crate::{MAX_LENGTH, MAX_PIECE_LENGTH, MIN_PIECE_LENGTH};
 
@@ -23,6 +24,13 @@ pub fn count_of_piece_roots()
 pub fn piece_roots_of_joined()
     ensures { (a b : List ℕ) (piece_length k : ℕ) → IsPieceLength piece_length → length a ≡ k * piece_length →
         piece_roots (a ++ b) piece_length ≡ piece_roots a piece_length ++ piece_roots b piece_length }
+{}
+
+/// A content of at most one piece has one root, which covers a whole piece: zero leaves stand past its own.
+pub fn root_of_short_content()
+    ensures { (content : List ℕ) (piece_length : ℕ) → IsPieceLength piece_length →
+        0 < length content → length content ≤ piece_length →
+        piece_roots content piece_length ≡ padded_subtree (piece_level piece_length) 0 (leaves content) ∷ [] }
 {}
 
 /// The root of a content longer than a piece is that of its layer, which has the roots of all its pieces.
