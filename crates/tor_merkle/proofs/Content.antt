@@ -1,5 +1,6 @@
 -- The root and the piece layer of a content are nodes of the tree over its leaves.
-use Rattle.std.proofs.Common.{◌≡◌, ℕ, ◌*◌, ◌/◌, ◌^◌, ◌<◌, ◌≤◌, List, [], ◌∷◌, map, length, arith, le_antisymm, refl, sym, ap, ◌∙◌, pow_pos, mul_comm, ap₂}
+use Rattle.std.proofs.Common.{◌≡◌, ℕ, ◌*◌, ◌/◌, ◌^◌, ◌<◌, ◌≤◌, List, [], ◌∷◌, map, length}
+use Rattle.std.proofs.Common.{arith, le_antisymm, refl, sym, ap, ◌∙◌, pow_pos, mul_comm, ap₂}
 use Rattle.std.proofs.Math.Nat.{mul-div_cancel_left}
 use Rattle.std.proofs.lemmas.List.{length-map}
 use Rattle.std.proofs.lemmas.List.FromFn.{length-map-range_with_len}

@@ -1,5 +1,7 @@
 -- Contents that are joined, the first of which ends with a whole piece: the pieces are those of both.
-use Rattle.std.proofs.Common.{◌≡◌, ℕ, ◌+◌, ◌-◌, ◌*◌, ◌^◌, ◌<◌, ◌≤◌, List, [], ◌++◌, map, length, take, drop, arith, inl, inr, sym, ap, ap₂, ◌∙◌, zero-add, length-append, pow_pos, mul-le-mul_right, le_trans, mul_assoc, mul_comm}
+use Rattle.std.proofs.Common.{◌≡◌, ℕ, ◌+◌, ◌-◌, ◌*◌, ◌^◌, ◌<◌, ◌≤◌, List, [], ◌++◌, map, length}
+use Rattle.std.proofs.Common.{take, drop, arith, inl, inr, sym, ap, ap₂, ◌∙◌, zero-add, length-append}
+use Rattle.std.proofs.Common.{pow_pos, mul-le-mul_right, le_trans, mul_assoc, mul_comm}
 use Rattle.std.proofs.lemmas.Bool.{cases_lt}
 use Rattle.std.proofs.lemmas.List.{get_or_append_left, get_or-append_right, drop_at, drop-drop, map-append}
 use Rattle.std.proofs.lemmas.List.FromFn.{length-map-range_with_len, get_or-map-range_with_len, fill_by_all}

@@ -1,5 +1,7 @@
 -- What the tree of pieces keeps, through one leaf more and to its end.
-use Rattle.std.proofs.Common.{◌≡◌, ℕ, ◌+◌, ◌-◌, ◌*◌, ◌/◌, ◌^◌, ◌<◌, ◌≤◌, List, [], ◌∷◌, ◌++◌, length, drop, map, arith, ap, ap₂, ◌∙◌, sym, pow_pos, pow-add, lt_of_mul-lt-mul_right, inl, inr, zero-mul, div-mul-le_self}
+use Rattle.std.proofs.Common.{◌≡◌, ℕ, ◌+◌, ◌-◌, ◌*◌, ◌/◌, ◌^◌, ◌<◌, ◌≤◌, List, [], ◌∷◌, ◌++◌}
+use Rattle.std.proofs.Common.{length, drop, map, arith, ap, ap₂, ◌∙◌, sym, pow_pos, pow-add}
+use Rattle.std.proofs.Common.{lt_of_mul-lt-mul_right, inl, inr, zero-mul, div-mul-le_self}
 use Rattle.std.proofs.lemmas.Bool.{cases_lt}
 use Rattle.std.proofs.lemmas.List.{length_push, drop-append-le, drop_at, drop_all, nil_from_length}
 use Rattle.std.proofs.Math.Nat.{zero-div}
@@ -10,9 +12,12 @@ use Rattle.tor_merkle.specs.steps.Pieces.{KeepsPieces, EndsPiece, filled}
 use Rattle.tor_merkle.specs.Stack.{Subtrees, padded_subtree}
 use Rattle.tor_merkle.proofs.Ceil.{ceil_at_most}
 use Rattle.tor_merkle.proofs.Levels.{length-nodes}
-use Rattle.tor_merkle.proofs.Filled.{filled_below, filled_covers, length-last_piece, first_nodes_closed, first_nodes-push, filled_full, filled_open, all_filled, first_nodes_all, length-first_nodes, one_piece, more_pieces}
+use Rattle.tor_merkle.proofs.Filled.{filled_below, filled_covers, length-last_piece, first_nodes_closed}
+use Rattle.tor_merkle.proofs.Filled.{first_nodes-push, filled_full, filled_open, all_filled}
+use Rattle.tor_merkle.proofs.Filled.{first_nodes_all, length-first_nodes, one_piece, more_pieces}
 
-module _ (k : ℕ) (leaves : List (List ℕ)) (blocks pieces : Subtrees) (layer : List (List ℕ)) (keeps : KeepsPieces k leaves blocks pieces layer) where
+module _ (k : ℕ) (leaves : List (List ℕ)) (blocks pieces : Subtrees) (layer : List (List ℕ))
+    (keeps : KeepsPieces k leaves blocks pieces layer) where
   length-stacked : length blocks.hashes ≡ length leaves - filled k leaves * 2 ^ k
   length-stacked = ap length keeps.stacked ∙ length-last_piece k leaves
 
@@ -111,7 +116,9 @@ module _ (k : ℕ) (leaves : List (List ℕ)) (blocks pieces : Subtrees) (layer 
   pub only_piece : pieces.hashes ≡ [] → (blocks.hashes ≡ leaves) × (length leaves ≤ 2 ^ k)
   only_piece none =
       let first : filled k leaves ≡ 0 = sym length-closed ∙ ap length none in
-      (keeps.stacked ∙ ap (λ q. drop (q * 2 ^ k) leaves) first ∙ ap (λ n. drop n leaves) (zero-mul (2 ^ k)), one_piece k leaves first)
+      let all : blocks.hashes ≡ leaves =
+      keeps.stacked ∙ ap (λ q. drop (q * 2 ^ k) leaves) first ∙ ap (λ n. drop n leaves) (zero-mul (2 ^ k)) in
+      (all, one_piece k leaves first)
 
   -- at the end: more pieces
   pub pieces_more : (pieces.hashes ≡ [] → ⊥) → 2 ^ k < length leaves

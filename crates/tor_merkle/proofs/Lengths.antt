@@ -1,5 +1,6 @@
 -- A piece has 16,384 * 2 ^ k bytes, and one hash covers it at level k.
-use Rattle.std.proofs.Common.{◌≡◌, ◌*◌, ◌/◌, ◌^◌, ◌≤◌, ◌↔◌, ℕ, Bool, true, ◌&&◌, leb, IsTrue, arith, refl, ap, ◌∙◌, eqb-true, leb-true}
+use Rattle.std.proofs.Common.{◌≡◌, ◌*◌, ◌/◌, ◌^◌, ◌≤◌, ◌↔◌, ℕ, Bool, true, ◌&&◌, leb}
+use Rattle.std.proofs.Common.{IsTrue, arith, refl, ap, ◌∙◌, eqb-true, leb-true}
 use Rattle.std.proofs.Math.Nat.{mul-div_cancel_left}
 use Rattle.std.proofs.lemmas.Bool.{and_parts, le-leb}
 use Rattle.std.specs.Int.{is_power_of_two}

@@ -1,8 +1,11 @@
 -- The nodes of the tree over a list of hashes: the root of each whole subtree is one of them.
-use Rattle.std.proofs.Common.{◌≡◌, ℕ, zero, suc, ◌+◌, ◌*◌, ◌^◌, ◌-◌, ◌<◌, ◌≤◌, List, ◌++◌, length, get_or, take, drop, replicate, arith, refl, sym, ap, ap₂, ◌∙◌, inl, inr, add-suc, add-zero, zero-mul}
+use Rattle.std.proofs.Common.{◌≡◌, ℕ, zero, suc, ◌+◌, ◌*◌, ◌^◌, ◌-◌, ◌<◌, ◌≤◌, List, ◌++◌, length, get_or, take, drop}
+use Rattle.std.proofs.Common.{replicate, arith, refl, sym, ap, ap₂, ◌∙◌, inl, inr, add-suc, add-zero, zero-mul}
 use Rattle.std.proofs.Math.Nat.{two-pow-succ}
 use Rattle.std.proofs.lemmas.Bool.{cases_lt}
-use Rattle.std.proofs.lemmas.List.{get_or_past, get_or_default, get_or_append_left, get_or-append_right, get_or-replicate, get_or-take, get_or-drop, take-take, drop-take, drop-drop, take_all, length-append, length-replicate}
+use Rattle.std.proofs.lemmas.List.{get_or_past, get_or_default, get_or_append_left, get_or-append_right}
+use Rattle.std.proofs.lemmas.List.{get_or-replicate, get_or-take, get_or-drop, take-take, drop-take}
+use Rattle.std.proofs.lemmas.List.{drop-drop, take_all, length-append, length-replicate}
 use Rattle.tor_merkle.specs.Block.{run_at}
 use Rattle.tor_merkle.specs.Node.{node}
 use Rattle.tor_merkle.specs.Subtree.{node_of, zero_leaf, zero_subtree, subtree_root, padded}
@@ -36,7 +39,8 @@ right_half xs k i =
     ∙ ap (λ a. take (2 ^ k) (drop a xs)) start
 
 -- the root of a run of a list that has the hashes, and then padding, up to where the run ends, is a node
-module _ (base : ℕ) (hashes all : List (List ℕ)) (end : ℕ) (same : (j : ℕ) → j < end → get_or all j zero_leaf ≡ get_or hashes j (zero_subtree base)) where
+module _ (base : ℕ) (hashes all : List (List ℕ)) (end : ℕ)
+    (same : (j : ℕ) → j < end → get_or all j zero_leaf ≡ get_or hashes j (zero_subtree base)) where
   pub subtree_root-run : (k i : ℕ) → (i + 1) * 2 ^ k ≤ end
       → subtree_root k (run_at (2 ^ k) all i) ≡ node base hashes k i
   unfolding node subtree_root

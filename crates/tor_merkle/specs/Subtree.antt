@@ -1,5 +1,6 @@
 -- Trees of SHA-256 hashes in which each node has two children (BEP 52, "pieces root"). A hash is a list of 32 bytes.
-use Rattle.std.specs.Prelude.{ℕ, zero, suc, ◌+◌, ◌*◌, ◌^◌, ◌-◌, List, ◌++◌, length, map, take, drop, replicate, slice_index_or, nat_le, if◌then◌else◌}
+use Rattle.std.specs.Prelude.{ℕ, zero, suc, ◌+◌, ◌*◌, ◌^◌, ◌-◌, List, ◌++◌, length, map}
+use Rattle.std.specs.Prelude.{take, drop, replicate, slice_index_or, nat_le, if◌then◌else◌}
 use Rattle.std.specs.Int.{div_ceil}
 use Rattle.std.specs.List.{range_with_len}
 use Rattle.sha2.specs.Sha256.{sha256}

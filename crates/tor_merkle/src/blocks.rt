@@ -1,6 +1,7 @@
 //! Bytes that come in parts, cut into blocks, whose leaves go into the tree of the pieces.
 
-ghost use Rattle.std.specs.Prelude.{◌≡◌, ◌+◌, ◌*◌, ◌%◌, ◌^◌, ◌<◌, ◌≤◌, ◌↔◌, [], ◌++◌, length, OnOk, IsOk, IsNone, IfSome};
+ghost use Rattle.std.specs.Prelude.{◌≡◌, ◌+◌, ◌*◌, ◌%◌, ◌^◌, ◌<◌, ◌≤◌, ◌↔◌, []};
+ghost use Rattle.std.specs.Prelude.{◌++◌, length, OnOk, IsOk, IsNone, IfSome};
 ghost use Rattle.std.specs.Int.{div_ceil};
 ghost use Rattle.tor_merkle.specs.Block.{leaves};
 ghost use Rattle.tor_merkle.specs.Layer.{pieces_root, piece_roots, piece_layer};

@@ -1,5 +1,6 @@
 -- one level more, and the last
-use Rattle.std.proofs.Common.{◌≡◌, ℕ, ◌+◌, ◌*◌, ◌^◌, length, arith, refl, ap, ap₂, ◌∙◌, sym, le_antisymm, inl, inr, zero-add, add-one, mul_assoc, pow-suc}
+use Rattle.std.proofs.Common.{◌≡◌, ℕ, ◌+◌, ◌*◌, ◌^◌, length, arith, refl, ap, ap₂, ◌∙◌, sym}
+use Rattle.std.proofs.Common.{le_antisymm, inl, inr, zero-add, add-one, mul_assoc, pow-suc}
 use Rattle.tor_merkle.specs.Layer.{piece_layer}
 use Rattle.tor_merkle.specs.Block.{leaves}
 use Rattle.tor_merkle.specs.Subtree as S
@@ -58,13 +59,15 @@ levels-preserved c =
     elim c.if-width-piece_length.branch [
       | then-width-piece_length w ↦
           let same =
-          λ (k : ℕ) (is : c.args.piece_length ≡ 16384 * 2 ^ k). same_power 16384 level k (omega arith) (sym wide ∙ w.if-width-piece_length.true ∙ is) in
+          λ (k : ℕ) (is : c.args.piece_length ≡ 16384 * 2 ^ k).
+          same_power 16384 level k (omega arith) (sym wide ∙ w.if-width-piece_length.true ∙ is) in
           record {
             hashes = ap (λ v. v.items) (w.hashes-is ∙ w.replace-layer.ensures.after) ∙ above;
             within = omega arith;
             width = wider;
             passed =
-                λ k is _. ap (λ v. v.items) (w.layer-is ∙ w.replace-layer.ensures.value) ∙ c.levels.invariant.hashes ∙ ap (nodes 0 (leaves content)) (same k is);
+                λ k is _. ap (λ v. v.items) (w.layer-is ∙ w.replace-layer.ensures.value) ∙ c.levels.invariant.hashes
+                ∙ ap (nodes 0 (leaves content)) (same k is);
             ahead = λ k is le. absurd (omega (arith, same k is));
           }
       | else-width-piece_length w ↦
@@ -74,7 +77,9 @@ levels-preserved c =
             width = wider;
             passed = λ k is lt. ap (λ v. v.items) w.layer-is ∙ elim (cases_lt k level) [
               | inl less ↦ c.levels.invariant.passed k is less
-              | inr more ↦ absurd (w.if-width-piece_length.false (wide ∙ ap (λ n. 16384 * 2 ^ n) (le_antisymm more (omega arith)) ∙ sym is))
+              | inr more ↦
+                  absurd (w.if-width-piece_length.false
+                  (wide ∙ ap (λ n. 16384 * 2 ^ n) (le_antisymm more (omega arith)) ∙ sym is))
             ];
             ahead = λ k is le. ap (λ v. v.items) w.layer-is ∙ c.levels.invariant.ahead k is (omega arith);
           }
@@ -83,7 +88,8 @@ levels-preserved c =
 pub index-requires : goal.index-requires
 index-requires c =
     let some = eqb-false (length c.args.content.now) 0 (sym c.if-is_empty.ensures) in
-    omega (arith, c.levels.hashes.ok.0, ap length c.levels.invariant.hashes, some_node c.args.content.now c.levels.level (omega arith))
+    let node = some_node c.args.content.now c.levels.level (omega arith) in
+    omega (arith, c.levels.hashes.ok.0, ap length c.levels.invariant.hashes, node)
 
 pub returns-clause-root : goal.returns-clause-root
 returns-clause-root c =
