@@ -8,7 +8,7 @@ use Rattle.std.specs.Int.{div_ceil}
 use Rattle.std.specs.List.{range_with_len}
 use Rattle.sha2.specs.Sha256.{sha256}
 use Rattle.tor_merkle.specs.Block.{run_at, blocks, leaves}
-use Rattle.tor_merkle.specs.Layer.{pieces_root, piece_roots}
+use Rattle.tor_merkle.specs.Layer.{pieces_root, piece_level, piece_roots, tree_leaves}
 use Rattle.tor_merkle.specs.Subtree.{zero_leaf, zero_subtree, subtree_root, height, padded}
 use Rattle.tor_merkle.proofs.Ceil.{ceil_at_most, ceil_from_below, ceil_ceil}
 use Rattle.tor_merkle.proofs.Height.{height_covers, height-pow}
@@ -22,6 +22,13 @@ unfolding leaves blocks
 length-leaves content =
     length-map (map (run_at 16384 content) (range_with_len 0 (div_ceil (length content) 16384))) sha256
     ∙ length-map-range_with_len (run_at 16384 content) 0 (div_ceil (length content) 16384)
+
+pub length-piece_roots : (content : List ℕ) (piece_length : ℕ)
+    → length (piece_roots content piece_length) ≡ div_ceil (length content) piece_length
+unfolding piece_roots
+length-piece_roots content n =
+    length-map-range_with_len (λ i. subtree_root (piece_level n) (run_at (n / 16384) (tree_leaves content) i))
+    0 (div_ceil (length content) n)
 
 zero_leaf_is : zero_leaf ≡ zero_subtree 0
 unfolding zero_subtree

@@ -14,5 +14,6 @@ pub mod Keeps
 pub mod Leaves
 pub mod Sums
 pub mod Joined
+pub mod Units
 pub mod Lengths
 pub mod ProvedLaws

@@ -1,19 +1,19 @@
 -- The laws of `src/laws.rt`, for proofs that cite them.
-use Rattle.std.proofs.Common.{◌≡◌, ◌+◌, ◌-◌, ◌*◌, ◌/◌, ◌^◌, ◌<◌, ◌≤◌, ◌↔◌, ℕ, IsTrue, List, [], ◌∷◌}
-use Rattle.std.proofs.Common.{◌++◌, length, arith, sym, ap, ap₂, ◌∙◌, pow-add, mul_assoc, mul_comm}
+use Rattle.std.proofs.Common.{◌≡◌, ◌+◌, ◌-◌, ◌*◌, ◌^◌, ◌<◌, ◌≤◌, ◌↔◌, ℕ, IsTrue, List, [], ◌∷◌}
+use Rattle.std.proofs.Common.{◌++◌, length, map, arith, sym, ap, ap₂, ◌∙◌, pow-add, mul_assoc, mul_comm}
 use Rattle.std.proofs.lemmas.Bool.{cond-false, lt-leb}
-use Rattle.std.proofs.lemmas.List.FromFn.{length-map-range_with_len}
 use Rattle.std.specs.Int.{div_ceil, is_power_of_two}
+use Rattle.std.specs.List.{flat_map, range_with_len}
 use Rattle.tor_merkle.specs.Block.{run_at, leaves}
-use Rattle.tor_merkle.specs.Layer.{IsPieceLength, pieces_root, piece_level, piece_roots, piece_layer, tree_leaves}
+use Rattle.tor_merkle.specs.Layer.{IsPieceLength, pieces_root, piece_level, piece_roots, piece_layer}
 use Rattle.tor_merkle.specs.Stack.{padded_root, padded_subtree}
-use Rattle.tor_merkle.specs.Subtree.{subtree_root}
-use Rattle.tor_merkle.specs.declared.TheConstants.{BLOCK_LENGTH, MAX_LENGTH, MAX_PIECE_LENGTH, MIN_PIECE_LENGTH}
+use Rattle.tor_merkle.specs.declared.TheConstants.{MAX_LENGTH, MAX_PIECE_LENGTH, MIN_PIECE_LENGTH}
 use Rattle.tor_merkle.proofs.Ceil.{ceil_at_most, ceil_from_below}
-use Rattle.tor_merkle.proofs.Content.{longer_than_piece, piece_roots-nodes, only_piece_root}
+use Rattle.tor_merkle.proofs.Content.{length-piece_roots, longer_than_piece, piece_roots-nodes, only_piece_root}
 use Rattle.tor_merkle.proofs.Filled.{padded_root-nodes}
 use Rattle.tor_merkle.proofs.Joined.{piece_roots-joined}
 use Rattle.tor_merkle.proofs.Lengths.{length_bounds, length_split, level_is, level_low}
+use Rattle.tor_merkle.proofs.Units.{roots-units}
 use Rattle.tor_merkle.proofs.Sums.{padded_root-leaves}
 
 -- a piece length is a power of two from 16,384 to 2 ^ 30
@@ -26,10 +26,7 @@ piece_levels_are_low = level_low
 
 pub count_of_piece_roots : (content : List ℕ) (piece_length : ℕ)
     → length (piece_roots content piece_length) ≡ div_ceil (length content) piece_length
-unfolding piece_roots
-count_of_piece_roots content n =
-    length-map-range_with_len (λ i. subtree_root (piece_level n) (run_at (n / BLOCK_LENGTH) (tree_leaves content) i))
-    0 (div_ceil (length content) n)
+count_of_piece_roots = length-piece_roots
 
 -- where the first content ends with a whole piece
 pub piece_roots_of_joined : (a b : List ℕ) (piece_length k : ℕ) → IsPieceLength piece_length
@@ -38,6 +35,15 @@ pub piece_roots_of_joined : (a b : List ℕ) (piece_length k : ℕ) → IsPieceL
 piece_roots_of_joined a b n k allowed long =
     let split = length_split n allowed in
     rw split.1 (piece_roots-joined a b split.0 k (long ∙ ap (λ x. k * x) split.1))
+
+-- in units of whole pieces
+pub piece_roots_of_units : (content : List ℕ) (piece_length span : ℕ) → IsPieceLength piece_length → 0 < span
+    → flat_map (λ unit. piece_roots unit piece_length) (map (run_at (span * piece_length) content)
+    (range_with_len 0 (div_ceil (length content) (span * piece_length))))
+    ≡ piece_roots content piece_length
+piece_roots_of_units content n span allowed some =
+    let split = length_split n allowed in
+    rw split.1 (roots-units content split.0 span some)
 
 -- a content of at most one piece
 pub root_of_short_content : (content : List ℕ) (piece_length : ℕ) → IsPieceLength piece_length → 0 < length content

@@ -1,8 +1,9 @@
 //! Laws over the definitions alone.
 
-ghost use Rattle.std.specs.Prelude.{◌≡◌, ℕ, ◌*◌, ◌-◌, ◌^◌, ◌<◌, ◌≤◌, ◌↔◌, IsTrue, List, [], ◌∷◌, ◌++◌, length};
+ghost use Rattle.std.specs.Prelude.{◌≡◌, ℕ, ◌*◌, ◌-◌, ◌^◌, ◌<◌, ◌≤◌, ◌↔◌, IsTrue, List, [], ◌∷◌, ◌++◌, length, map};
 ghost use Rattle.std.specs.Int.{div_ceil, is_power_of_two};
-ghost use Rattle.tor_merkle.specs.Block.{leaves};
+ghost use Rattle.std.specs.List.{flat_map, range_with_len};
+ghost use Rattle.tor_merkle.specs.Block.{run_at, leaves};
 ghost use Rattle.tor_merkle.specs.Layer.{IsPieceLength, pieces_root, piece_level, piece_roots, piece_layer};
 ghost use Rattle.tor_merkle.specs.Stack.{padded_root, padded_subtree};
 
@@ -24,6 +25,14 @@ pub fn count_of_piece_roots()
 pub fn piece_roots_of_joined()
     ensures { (a b : List ℕ) (piece_length k : ℕ) → IsPieceLength piece_length → length a ≡ k * piece_length →
         piece_roots (a ++ b) piece_length ≡ piece_roots a piece_length ++ piece_roots b piece_length }
+{}
+
+/// Where a content is cut into units of so many whole pieces, the last perhaps shorter, the roots of its pieces are
+/// those of the units, one unit after another.
+pub fn piece_roots_of_units()
+    ensures { (content : List ℕ) (piece_length span : ℕ) → IsPieceLength piece_length → 0 < span →
+        flat_map (λ unit. piece_roots unit piece_length) (map (run_at (span * piece_length) content)
+        (range_with_len 0 (div_ceil (length content) (span * piece_length)))) ≡ piece_roots content piece_length }
 {}
 
 /// A content of at most one piece has one root, which covers a whole piece: zero leaves stand past its own.
