@@ -1,5 +1,6 @@
 -- How many runs of m there are in n, the last perhaps shorter: run k is one of them exactly where it begins below n.
-use Rattle.std.proofs.Common.{◌≡◌, ℕ, ◌+◌, ◌*◌, ◌<◌, ◌≤◌, arith, inl, inr, le_antisymm, lt_of_mul-lt-mul_right, mul-le-mul_right, mul-pos, mul_assoc}
+use Rattle.std.proofs.Common.{◌≡◌, ℕ, ◌+◌, ◌*◌, ◌<◌, ◌≤◌, arith, inl, inr, le_antisymm}
+use Rattle.std.proofs.Common.{lt_of_mul-lt-mul_right, mul-le-mul_right, mul-pos, mul_assoc}
 use Rattle.std.proofs.lemmas.Bool.{cases_lt}
 use Rattle.std.proofs.lemmas.Grind.{div_ceil_times}
 use Rattle.std.specs.Int.{div_ceil}
@@ -58,3 +59,19 @@ ceil_covers n m pos = (div_ceil_times n m pos).0
 -- more needs no fewer
 pub ceil_mono : (n more m : ℕ) → 0 < m → n ≤ more → div_ceil n m ≤ div_ceil more m
 ceil_mono n more m pos le = ceil_at_most n m (div_ceil more m) pos (omega (arith, ceil_covers more m pos))
+
+-- whole runs, and what comes after them
+pub ceil_joined : (c n m : ℕ) → 0 < m → div_ceil (c * m + n) m ≡ c + div_ceil n m
+ceil_joined c n m pos =
+    let rest = div_ceil_times n m pos in
+    let all = div_ceil_times (c * m + n) m pos in
+    let low : div_ceil (c * m + n) m < c + div_ceil n m + 1 = lt_of_mul-lt-mul_right m (omega (arith, rest.0, all.1)) in
+    let high : c + div_ceil n m < div_ceil (c * m + n) m + 1 =
+    lt_of_mul-lt-mul_right m (omega (arith, rest.1, all.0)) in
+    omega arith
+
+pub ceil_whole : (c m : ℕ) → 0 < m → div_ceil (c * m) m ≡ c
+ceil_whole c m pos =
+    le_antisymm (ceil_at_most (c * m) m c pos (omega arith))
+    (no_less c (div_ceil (c * m) m) (λ k lt. ceil_from_below (c * m) m k pos
+    (let more : (k + 1) * m ≤ c * m = mul-le-mul_right {n = c} m (omega arith) in omega arith)))

@@ -1,5 +1,6 @@
 -- Climbing the tree over the leaves of a content, level by level, until one hash is left.
-use Rattle.std.proofs.Common.{◌≡◌, ℕ, ◌+◌, ◌*◌, ◌^◌, ◌<◌, ◌≤◌, List, [], length, get_or, arith, inl, inr, ap, ◌∙◌, sym, pow_pos, mul-le-mul_right, le_antisymm}
+use Rattle.std.proofs.Common.{◌≡◌, ℕ, ◌+◌, ◌*◌, ◌^◌, ◌<◌, ◌≤◌, List, [], length, get_or, arith}
+use Rattle.std.proofs.Common.{inl, inr, ap, ◌∙◌, sym, pow_pos, mul-le-mul_right, le_antisymm}
 use Rattle.std.proofs.lemmas.Bool.{cases_lt, cond-true, cond-false, lt-leb, le-leb}
 use Rattle.std.proofs.lemmas.List.{get_or_default}
 use Rattle.std.specs.Int.{div_ceil}
@@ -57,7 +58,8 @@ pub some_node : (content : List ℕ) (k : ℕ) → 0 < length content → 0 < le
 some_node content k pos =
     let leaf : 0 < length (leaves content) =
     omega (arith, length-leaves content, ceil_from_below (length content) 16384 0 (omega arith) (omega arith)) in
-    omega (arith, length-nodes 0 (leaves content) k, ceil_from_below (length (leaves content)) (2 ^ k) 0 (pow_pos k) (omega arith))
+    let node = ceil_from_below (length (leaves content)) (2 ^ k) 0 (pow_pos k) (omega arith) in
+    omega (arith, length-nodes 0 (leaves content) k, node)
 
 -- the only hash of the top is the root
 pub top_hash : (content : List ℕ) (k : ℕ) (hashes : List (List ℕ)) (d : List ℕ) → 0 < length content
@@ -74,7 +76,7 @@ top_hash content k hashes d pos top is =
 pub piece_layer-nodes : (content : List ℕ) (k : ℕ) → 16384 * 2 ^ k < length content
     → piece_layer content (16384 * 2 ^ k) ≡ nodes 0 (leaves content) k
 unfolding piece_layer
-piece_layer-nodes content k lt = cond-false _ [] _ (lt-leb _ _ lt) ∙ piece_roots-nodes content k lt
+piece_layer-nodes content k lt = cond-false _ [] _ (lt-leb _ _ lt) ∙ piece_roots-nodes content k
 
 pub piece_layer-none : (content : List ℕ) (piece_length : ℕ) → length content ≤ piece_length
     → piece_layer content piece_length ≡ []

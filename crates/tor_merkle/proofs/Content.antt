@@ -1,25 +1,34 @@
 -- The root and the piece layer of a content are nodes of the tree over its leaves.
-use Rattle.std.proofs.Common.{◌≡◌, ℕ, ◌+◌, ◌-◌, ◌*◌, ◌/◌, ◌^◌, ◌<◌, ◌≤◌, List, map, length, arith, refl, sym, ap, ◌∙◌, pow_pos, pow-add, mul_comm, mul-le-mul_right, ap₂}
-use Rattle.std.proofs.Math.Nat.{lt_of_mul-lt-mul_right, mul-div_cancel_left}
+use Rattle.std.proofs.Common.{◌≡◌, ℕ, ◌*◌, ◌/◌, ◌^◌, ◌<◌, ◌≤◌, List, [], ◌∷◌, map, length}
+use Rattle.std.proofs.Common.{arith, le_antisymm, refl, sym, ap, ◌∙◌, pow_pos, mul_comm, ap₂}
+use Rattle.std.proofs.Math.Nat.{mul-div_cancel_left}
 use Rattle.std.proofs.lemmas.List.{length-map}
 use Rattle.std.proofs.lemmas.List.FromFn.{length-map-range_with_len}
 use Rattle.std.specs.Int.{div_ceil}
 use Rattle.std.specs.List.{range_with_len}
 use Rattle.sha2.specs.Sha256.{sha256}
 use Rattle.tor_merkle.specs.Block.{run_at, blocks, leaves}
-use Rattle.tor_merkle.specs.Layer.{pieces_root, piece_roots}
+use Rattle.tor_merkle.specs.Layer.{pieces_root, piece_level, piece_roots, tree_leaves}
 use Rattle.tor_merkle.specs.Subtree.{zero_leaf, zero_subtree, subtree_root, height, padded}
-use Rattle.tor_merkle.proofs.Ceil.{below_from_ceil, ceil_from_below, ceil_ceil}
-use Rattle.tor_merkle.proofs.Height.{height_covers, height_above, height-pow}
+use Rattle.tor_merkle.proofs.Ceil.{ceil_at_most, ceil_from_below, ceil_ceil}
+use Rattle.tor_merkle.proofs.Height.{height_covers, height-pow}
 use Rattle.tor_merkle.proofs.Levels.{map-range_same}
 use Rattle.tor_merkle.specs.Node.{node, nodes}
-use Rattle.tor_merkle.proofs.Node.{subtree_root-padded, subtree_root-padded_run}
+use Rattle.tor_merkle.specs.Stack.{padded_subtree}
+use Rattle.tor_merkle.proofs.Node.{subtree_root-padded, subtree_root-leaf_run}
 
 pub length-leaves : (content : List ℕ) → length (leaves content) ≡ div_ceil (length content) 16384
 unfolding leaves blocks
 length-leaves content =
     length-map (map (run_at 16384 content) (range_with_len 0 (div_ceil (length content) 16384))) sha256
     ∙ length-map-range_with_len (run_at 16384 content) 0 (div_ceil (length content) 16384)
+
+pub length-piece_roots : (content : List ℕ) (piece_length : ℕ)
+    → length (piece_roots content piece_length) ≡ div_ceil (length content) piece_length
+unfolding piece_roots
+length-piece_roots content n =
+    length-map-range_with_len (λ i. subtree_root (piece_level n) (run_at (n / 16384) (tree_leaves content) i))
+    0 (div_ceil (length content) n)
 
 zero_leaf_is : zero_leaf ≡ zero_subtree 0
 unfolding zero_subtree
@@ -34,13 +43,6 @@ pieces_root-node content =
     ap (λ x. subtree_root top (padded top x (leaves content))) zero_leaf_is
     ∙ subtree_root-padded 0 (leaves content) top (height_covers (length (leaves content)))
 
--- a run of 2 ^ k that begins within 2 ^ top lies within it
-run_fits : (k top i : ℕ) → k ≤ top → i * 2 ^ k < 2 ^ top → (i + 1) * 2 ^ k ≤ 2 ^ top
-run_fits k top i le lt =
-    let split : 2 ^ top ≡ 2 ^ (top - k) * 2 ^ k = ap (λ n. 2 ^ n) (omega arith) ∙ pow-add 2 (top - k) k in
-    let less : i < 2 ^ (top - k) = lt_of_mul-lt-mul_right (2 ^ k) (omega arith) in
-    omega (arith, mul-le-mul_right {m = i + 1} {n = 2 ^ (top - k)} (2 ^ k) (omega arith))
-
 -- there are as many pieces as nodes of their level
 pub count-pieces : (content : List ℕ) (k : ℕ)
     → div_ceil (length content) (16384 * 2 ^ k) ≡ div_ceil (length (leaves content)) (2 ^ k)
@@ -54,23 +56,33 @@ pub longer_than_piece : (content : List ℕ) (k : ℕ) → 16384 * 2 ^ k < lengt
 longer_than_piece content k lt =
     rw length-leaves (ceil_from_below (length content) 16384 (2 ^ k) (omega arith) (omega arith))
 
--- the roots of the pieces are the nodes of their level, where there is more than one piece
-pub piece_roots-nodes : (content : List ℕ) (k : ℕ) → 16384 * 2 ^ k < length content
+-- the roots of the pieces are the nodes of their level
+pub piece_roots-nodes : (content : List ℕ) (k : ℕ)
     → piece_roots content (16384 * 2 ^ k) ≡ nodes 0 (leaves content) k
 unfolding piece_roots nodes
-piece_roots-nodes content k lt =
+piece_roots-nodes content k =
     let top = height (length (leaves content)) in
     let size : 16384 * 2 ^ k / 16384 ≡ 2 ^ k = mul-div_cancel_left (2 ^ k) (omega arith) in
     let level : height (16384 * 2 ^ k / 16384) ≡ k = ap height size ∙ height-pow k in
     let count = div_ceil (length (leaves content)) (2 ^ k) in
-    let fits = height_covers (length (leaves content)) in
-    let within = height_above (length (leaves content)) k (longer_than_piece content k lt) in
     let tree = padded top zero_leaf (leaves content) in
     let root = λ (i : ℕ). subtree_root (height (16384 * 2 ^ k / 16384)) (run_at (16384 * 2 ^ k / 16384) tree i) in
     ap (λ n. map root (range_with_len 0 n)) (count-pieces content k)
     ∙ map-range_same root (node 0 (leaves content) k) count zero_leaf
-    (λ i less.
+    (λ i _.
     ap₂ (λ h n. subtree_root h (run_at n tree i)) level size
-    ∙ ap (λ x. subtree_root k (run_at (2 ^ k) (padded top x (leaves content)) i)) zero_leaf_is
-    ∙ subtree_root-padded_run 0 (leaves content) top k i fits
-    (run_fits k top i (omega arith) (omega (arith, below_from_ceil (length (leaves content)) (2 ^ k) i (pow_pos k) less))))
+    ∙ subtree_root-leaf_run (leaves content) top k i)
+
+-- the only piece of a content, widened by zero leaves
+pub only_piece_root : (content : List ℕ) (k : ℕ) → 0 < length content → length content ≤ 16384 * 2 ^ k
+    → piece_roots content (16384 * 2 ^ k) ≡ padded_subtree k 0 (leaves content) ∷ []
+unfolding nodes
+only_piece_root content k some short =
+    let n = length (leaves content) in
+    let fits : n ≤ 2 ^ k = rw length-leaves (ceil_at_most (length content) 16384 (2 ^ k) (omega arith) (omega arith)) in
+    let leaf : 0 < n = rw length-leaves (ceil_from_below (length content) 16384 0 (omega arith) (omega arith)) in
+    let one : div_ceil n (2 ^ k) ≡ 1 = le_antisymm
+    (ceil_at_most n (2 ^ k) 1 (pow_pos k) (omega arith)) (ceil_from_below n (2 ^ k) 0 (pow_pos k) (omega arith)) in
+    piece_roots-nodes content k
+    ∙ ap (λ c. map (node 0 (leaves content) k) (range_with_len 0 c)) one
+    ∙ ap (λ x. x ∷ []) (sym (subtree_root-padded 0 (leaves content) k fits))

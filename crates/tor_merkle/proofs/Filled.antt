@@ -1,5 +1,7 @@
 -- Pieces filled one after another: the leaves of the last, and the nodes of those before it.
-use Rattle.std.proofs.Common.{◌≡◌, ℕ, zero, suc, ◌+◌, ◌-◌, ◌*◌, ◌/◌, ◌^◌, ◌<◌, ◌≤◌, List, [], ◌∷◌, ◌++◌, map, length, get_or, drop, arith, ap, ap₂, ◌∙◌, sym, pow_pos, pow-add, le_antisymm, le_trans, mul-le-mul_right, div-mul-le_self, suc-add, zero-add, length-drop, inl, inr}
+use Rattle.std.proofs.Common.{◌≡◌, ℕ, zero, suc, ◌+◌, ◌-◌, ◌*◌, ◌/◌, ◌^◌, ◌<◌, ◌≤◌, List, [], ◌∷◌, ◌++◌, map}
+use Rattle.std.proofs.Common.{length, get_or, drop, arith, ap, ap₂, ◌∙◌, sym, pow_pos, pow-add, le_antisymm}
+use Rattle.std.proofs.Common.{le_trans, mul-le-mul_right, div-mul-le_self, suc-add, zero-add, length-drop, inl, inr}
 use Rattle.std.proofs.Math.Nat.{lt-div-mul-add, two-pow-succ}
 use Rattle.std.proofs.lemmas.Bool.{cases_lt}
 use Rattle.std.proofs.lemmas.List.{get_or-drop, length_push}
@@ -50,7 +52,8 @@ height-ceil n k more =
     ceil_at_most n (2 ^ k) (2 ^ (height n - k)) (pow_pos k) (omega (arith, height_covers n, split)) in
     let low : height n ≤ height count + k = height_least n (height count + k)
     (le_trans (ceil_covers n (2 ^ k) (pow_pos k))
-    (le_trans (mul-le-mul_right {n = 2 ^ height count} (2 ^ k) (height_covers count)) (omega (arith, pow-add 2 (height count) k)))) in
+    (le_trans (mul-le-mul_right {n = 2 ^ height count} (2 ^ k) (height_covers count))
+    (omega (arith, pow-add 2 (height count) k)))) in
     le_antisymm low (omega (arith, height_least count (height n - k) few))
 
 -- the root over the hashes of the pieces is that over the leaves
@@ -79,13 +82,15 @@ module _ (k : ℕ) (leaves : List (List ℕ)) where
 
   -- the hash of the last piece is the next node
   pub first_nodes_closed : 0 < length leaves
-      → first_nodes 0 leaves k (filled k leaves) ++ padded_subtree k 0 (drop (filled k leaves * 2 ^ k) leaves) ∷ [] ≡ first_nodes 0 leaves k (filled k leaves + 1)
+      → first_nodes 0 leaves k (filled k leaves) ++ padded_subtree k 0 (drop (filled k leaves * 2 ^ k) leaves) ∷ []
+      ≡ first_nodes 0 leaves k (filled k leaves + 1)
   unfolding first_nodes
   first_nodes_closed some =
       let q = filled k leaves in
       let fits : length (drop (q * 2 ^ k) leaves) ≤ 2 ^ k = omega (arith, length-last_piece, filled_covers) in
       ap (λ x. map (node 0 leaves k) (range_with_len 0 q) ++ x ∷ [])
-      (subtree_root-padded 0 (drop (q * 2 ^ k) leaves) k fits ∙ node-drop 0 leaves q k 0 ∙ ap (node 0 leaves k) (omega arith))
+      (subtree_root-padded 0 (drop (q * 2 ^ k) leaves) k fits ∙ node-drop 0 leaves q k 0
+      ∙ ap (node 0 leaves k) (omega arith))
       ∙ sym (map-range_with_len_more (node 0 leaves k) 0 q q (zero-add q))
 
   -- the nodes of filled pieces stay
@@ -94,7 +99,8 @@ module _ (k : ℕ) (leaves : List (List ℕ)) where
   unfolding first_nodes
   first_nodes-push leaf n le =
       map-range_same (node 0 leaves k) (node 0 (leaves ++ leaf ∷ []) k) n zero_leaf
-      (λ i lt. sym (node-append 0 leaves (leaf ∷ []) k i (le_trans (mul-le-mul_right {n = n} (2 ^ k) (omega arith)) le)))
+      (λ i lt. sym (node-append 0 leaves (leaf ∷ []) k i
+      (le_trans (mul-le-mul_right {n = n} (2 ^ k) (omega arith)) le)))
 
   -- one leaf more begins a piece exactly where the last is full
   pub filled_full : (leaf : List ℕ) → length (drop (filled k leaves * 2 ^ k) leaves) ≡ 2 ^ k

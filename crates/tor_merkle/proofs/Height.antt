@@ -1,5 +1,6 @@
 -- The height of a tree: the least k with n at most 2 ^ k.
-use Rattle.std.proofs.Common.{◌≡◌, ◌⊎◌, ℕ, zero, suc, ◌^◌, ◌<◌, ◌≤◌, leb, arith, inl, inr, leb-true, leb-false, le_antisymm, pow_pos, pow_mono}
+use Rattle.std.proofs.Common.{◌≡◌, ◌⊎◌, ℕ, zero, suc, ◌^◌, ◌<◌, ◌≤◌, leb, arith, inl}
+use Rattle.std.proofs.Common.{inr, leb-true, leb-false, le_antisymm, pow_pos, pow_mono}
 use Rattle.std.proofs.Math.Nat.{two-pow-succ}
 use Rattle.std.proofs.Math.Pow.{pow-lt}
 use Rattle.std.proofs.lemmas.Bool.{cases_Bool, cases_lt, cond-true, cond-false}
@@ -7,7 +8,8 @@ use Rattle.tor_merkle.specs.Subtree.{height}
 
 -- what one more does to the height
 height_more : (n : ℕ)
-    → ((suc n ≤ 2 ^ height n) × (height (suc n) ≡ height n)) ⊎ ((2 ^ height n < suc n) × (height (suc n) ≡ suc (height n)))
+    → ((suc n ≤ 2 ^ height n) × (height (suc n) ≡ height n))
+    ⊎ ((2 ^ height n < suc n) × (height (suc n) ≡ suc (height n)))
 unfolding height
 height_more n = elim (cases_Bool (leb (suc n) (2 ^ height n))) [
   | inl e ↦ inl (leb-true _ _ e, cond-true _ _ _ e)

@@ -1,5 +1,7 @@
 -- What the tree of pieces keeps, through one leaf more and to its end.
-use Rattle.std.proofs.Common.{◌≡◌, ℕ, ◌+◌, ◌-◌, ◌*◌, ◌/◌, ◌^◌, ◌<◌, ◌≤◌, List, [], ◌∷◌, ◌++◌, length, drop, map, arith, ap, ap₂, ◌∙◌, sym, pow_pos, pow-add, lt_of_mul-lt-mul_right, inl, inr, zero-mul, div-mul-le_self}
+use Rattle.std.proofs.Common.{◌≡◌, ℕ, ◌+◌, ◌-◌, ◌*◌, ◌/◌, ◌^◌, ◌<◌, ◌≤◌, List, [], ◌∷◌, ◌++◌}
+use Rattle.std.proofs.Common.{length, drop, map, arith, ap, ap₂, ◌∙◌, sym, pow_pos, pow-add}
+use Rattle.std.proofs.Common.{lt_of_mul-lt-mul_right, inl, inr, zero-mul, div-mul-le_self}
 use Rattle.std.proofs.lemmas.Bool.{cases_lt}
 use Rattle.std.proofs.lemmas.List.{length_push, drop-append-le, drop_at, drop_all, nil_from_length}
 use Rattle.std.proofs.Math.Nat.{zero-div}
@@ -8,9 +10,14 @@ use Rattle.std.specs.Int.{div_ceil}
 use Rattle.tor_merkle.specs.Node.{node, nodes, first_nodes}
 use Rattle.tor_merkle.specs.steps.Pieces.{KeepsPieces, EndsPiece, filled}
 use Rattle.tor_merkle.specs.Stack.{Subtrees, padded_subtree}
-use Rattle.tor_merkle.proofs.Filled.{filled_below, filled_covers, length-last_piece, first_nodes_closed, first_nodes-push, filled_full, filled_open, all_filled, first_nodes_all, length-first_nodes, one_piece, more_pieces}
+use Rattle.tor_merkle.proofs.Ceil.{ceil_at_most}
+use Rattle.tor_merkle.proofs.Levels.{length-nodes}
+use Rattle.tor_merkle.proofs.Filled.{filled_below, filled_covers, length-last_piece, first_nodes_closed}
+use Rattle.tor_merkle.proofs.Filled.{first_nodes-push, filled_full, filled_open, all_filled}
+use Rattle.tor_merkle.proofs.Filled.{first_nodes_all, length-first_nodes, one_piece, more_pieces}
 
-module _ (k : ℕ) (leaves : List (List ℕ)) (blocks pieces : Subtrees) (layer : List (List ℕ)) (keeps : KeepsPieces k leaves blocks pieces layer) where
+module _ (k : ℕ) (leaves : List (List ℕ)) (blocks pieces : Subtrees) (layer : List (List ℕ))
+    (keeps : KeepsPieces k leaves blocks pieces layer) where
   length-stacked : length blocks.hashes ≡ length leaves - filled k leaves * 2 ^ k
   length-stacked = ap length keeps.stacked ∙ length-last_piece k leaves
 
@@ -109,7 +116,9 @@ module _ (k : ℕ) (leaves : List (List ℕ)) (blocks pieces : Subtrees) (layer 
   pub only_piece : pieces.hashes ≡ [] → (blocks.hashes ≡ leaves) × (length leaves ≤ 2 ^ k)
   only_piece none =
       let first : filled k leaves ≡ 0 = sym length-closed ∙ ap length none in
-      (keeps.stacked ∙ ap (λ q. drop (q * 2 ^ k) leaves) first ∙ ap (λ n. drop n leaves) (zero-mul (2 ^ k)), one_piece k leaves first)
+      let all : blocks.hashes ≡ leaves =
+      keeps.stacked ∙ ap (λ q. drop (q * 2 ^ k) leaves) first ∙ ap (λ n. drop n leaves) (zero-mul (2 ^ k)) in
+      (all, one_piece k leaves first)
 
   -- at the end: more pieces
   pub pieces_more : (pieces.hashes ≡ [] → ⊥) → 2 ^ k < length leaves
@@ -118,6 +127,25 @@ module _ (k : ℕ) (leaves : List (List ℕ)) (blocks pieces : Subtrees) (layer 
     | inr none ↦ absurd (some (nil_from_length pieces.hashes (omega (arith, length-closed))))
   ])
 
+  pub some_leaf : (blocks.hashes ≡ [] → ⊥) → 0 < length leaves
+  some_leaf some = elim (cases_lt 0 (length leaves)) [
+    | inl more ↦ more
+    | inr none ↦ absurd (some (nil_from_length blocks.hashes (omega (arith, length-stacked))))
+  ]
+
+  -- at the end: no leaf
+  pub no_piece : blocks.hashes ≡ [] → layer ≡ nodes 0 leaves k
+  no_piece none =
+      let no_leaf : length leaves ≡ 0 = elim (cases_lt 0 (length leaves)) [
+        | inl some ↦ absurd (omega (arith, blocks_some some, ap length none))
+        | inr all ↦ omega arith
+      ] in
+      let first : filled k leaves ≡ 0 = ap (λ n. (n - 1) / 2 ^ k) no_leaf ∙ zero-div (2 ^ k) in
+      let no_node = ceil_at_most (length leaves) (2 ^ k) 0 (pow_pos k) (omega (arith, no_leaf)) in
+      keeps.listed ∙ nil_from_length pieces.hashes (length-closed ∙ first)
+      ∙ sym (nil_from_length (nodes 0 leaves k) (omega (arith, length-nodes 0 leaves k, no_node)))
+
+  -- at the end: all pieces
   pub pieces_all : 0 < length leaves → pieces.hashes ++ padded_subtree k 0 blocks.hashes ∷ [] ≡ nodes 0 leaves k
   pieces_all some =
       ap₂ (λ xs ys. xs ++ padded_subtree k 0 ys ∷ []) keeps.closed keeps.stacked ∙ first_nodes_closed k leaves some

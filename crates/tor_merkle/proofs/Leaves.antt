@@ -1,5 +1,8 @@
 -- The leaves of a content that grows by parts of blocks.
-use Rattle.std.proofs.Common.{◌≡◌, ℕ, ◌+◌, ◌*◌, ◌/◌, ◌%◌, ◌^◌, ◌<◌, ◌≤◌, List, [], ◌∷◌, ◌++◌, map, length, take, drop, arith, refl, ap, ap₂, ◌∙◌, sym, subst, append_assoc, take-append-drop, length-append, length-take, length-drop, pow_pos, le_antisymm, le_trans, mul_assoc, le_of_mul-le-mul_right, zero-add, mul_comm, append-nil}
+use Rattle.std.proofs.Common.{◌≡◌, ℕ, ◌+◌, ◌*◌, ◌/◌, ◌%◌, ◌^◌, ◌<◌, ◌≤◌, List, [], ◌∷◌, ◌++◌, map, length}
+use Rattle.std.proofs.Common.{take, drop, arith, refl, ap, ap₂, ◌∙◌, sym, subst, append_assoc, take-append-drop}
+use Rattle.std.proofs.Common.{length-append, length-take, length-drop, pow_pos, le_antisymm, le_trans}
+use Rattle.std.proofs.Common.{mul_assoc, le_of_mul-le-mul_right, zero-add, mul_comm, append-nil}
 use Rattle.std.proofs.lemmas.List.{take-append-le, drop-append-le, drop_at, take_all, drop_all, map_push}
 use Rattle.std.proofs.lemmas.List.FromFn.{map-range_with_len_more}
 use Rattle.std.specs.Int.{div_ceil}
@@ -18,7 +21,7 @@ unfolding leaves blocks
 leaves-nil = refl
 
 -- whole runs stay where elements are added at the end
-run_at-append : {X : Type 0} (xs ys : List X) (size i : ℕ) → (i + 1) * size ≤ length xs
+pub run_at-append : {X : Type 0} (xs ys : List X) (size i : ℕ) → (i + 1) * size ≤ length xs
     → run_at size (xs ++ ys) i ≡ run_at size xs i
 run_at-append xs ys size i le =
     ap (take size) (drop-append-le (i * size) xs ys (omega arith))
@@ -34,7 +37,8 @@ leaves-push xs ys b whole some short =
     (omega (arith, ceil_from_below (length (xs ++ ys)) 16384 b (omega arith) (omega (arith, length-append xs ys)))) in
     let before : div_ceil (length xs) 16384 ≡ b = le_antisymm
     (ceil_at_most (length xs) 16384 b (omega arith) (omega arith))
-    (le_of_mul-le-mul_right {m = b} {n = div_ceil (length xs) 16384} {k = 16384} (omega (arith, ceil_covers (length xs) 16384 (omega arith))) (omega arith)) in
+    (le_of_mul-le-mul_right {m = b} {n = div_ceil (length xs) 16384} {k = 16384}
+    (omega (arith, ceil_covers (length xs) 16384 (omega arith))) (omega arith)) in
     let cut = run_at 16384 (xs ++ ys) in
     let same : map cut (range_with_len 0 b) ≡ map (run_at 16384 xs) (range_with_len 0 (div_ceil (length xs) 16384)) =
     map-range_same cut (run_at 16384 xs) b [] (λ i lt. run_at-append xs ys 16384 i (omega arith))
@@ -44,7 +48,8 @@ leaves-push xs ys b whole some short =
     ∙ ap (map sha256) (map-range_with_len_more cut 0 b b (zero-add b) ∙ ap₂ (λ xs x. xs ++ x ∷ []) same last)
     ∙ map_push sha256 (map (run_at 16384 xs) (range_with_len 0 (div_ceil (length xs) 16384))) ys
 
-module _ (count : ℕ) (hasher : Sha256) (done : List (List ℕ)) (bytes : List ℕ) (keeps : KeepsBlocks count hasher done bytes) where
+module _ (count : ℕ) (hasher : Sha256) (done : List (List ℕ)) (bytes : List ℕ)
+    (keeps : KeepsBlocks count hasher done bytes) where
   within : in_blocks count ≤ length bytes
   within = omega (arith, keeps.counted)
 
@@ -56,7 +61,8 @@ module _ (count : ℕ) (hasher : Sha256) (done : List (List ℕ)) (bytes : List 
       let n = length (take (in_blocks count) bytes) in
       ap length keeps.whole ∙ length-leaves (take (in_blocks count) bytes)
       ∙ le_antisymm (ceil_at_most n 16384 (count / 16384) (omega arith) (omega (arith, length-front)))
-      (le_of_mul-le-mul_right {m = count / 16384} {n = div_ceil n 16384} {k = 16384} (omega (arith, ceil_covers n 16384 (omega arith), length-front)) (omega arith))
+      (le_of_mul-le-mul_right {m = count / 16384} {n = div_ceil n 16384} {k = 16384}
+      (omega (arith, ceil_covers n 16384 (omega arith), length-front)) (omega arith))
 
   -- one leaf more is within the tree
   pub done_small : (more : ℕ) → count / 16384 * 16384 < length bytes + more → length bytes + more ≤ 2 ^ 50
@@ -68,13 +74,12 @@ module _ (count : ℕ) (hasher : Sha256) (done : List (List ℕ)) (bytes : List 
       → div_ceil (length done) (2 ^ k) ≤ room
   done_room more k room le =
       let pos : 0 < 16384 * 2 ^ k = omega (arith, pow_pos k) in
+      let pieces = div_ceil (length bytes + more) (16384 * 2 ^ k) in
       let all = ceil_covers (length bytes + more) (16384 * 2 ^ k) pos in
-      let wide : div_ceil (length bytes + more) (16384 * 2 ^ k) * (16384 * 2 ^ k) ≡ div_ceil (length bytes + more) (16384 * 2 ^ k) * 2 ^ k * 16384 =
-      ap (λ x. div_ceil (length bytes + more) (16384 * 2 ^ k) * x) (mul_comm 16384 (2 ^ k))
-      ∙ sym (mul_assoc _ (2 ^ k) 16384) in
-      let few : length done ≤ div_ceil (length bytes + more) (16384 * 2 ^ k) * 2 ^ k =
-      omega (arith, length-done, keeps.counted) in
-      le_trans (ceil_at_most (length done) (2 ^ k) (div_ceil (length bytes + more) (16384 * 2 ^ k)) (pow_pos k) few) le
+      let wide : pieces * (16384 * 2 ^ k) ≡ pieces * 2 ^ k * 16384 =
+      ap (λ x. pieces * x) (mul_comm 16384 (2 ^ k)) ∙ sym (mul_assoc pieces (2 ^ k) 16384) in
+      let few : length done ≤ pieces * 2 ^ k = omega (arith, length-done, keeps.counted) in
+      le_trans (ceil_at_most (length done) (2 ^ k) pieces (pow_pos k) few) le
 
   -- a part that does not end its block
   pub adds_open : (part : List ℕ) (hasher' : Sha256) → count % 16384 + length part ≤ 16384
@@ -111,7 +116,8 @@ module _ (count : ℕ) (hasher : Sha256) (done : List (List ℕ)) (bytes : List 
       length-append (drop (in_blocks count) bytes) part
       ∙ omega (arith, length-drop (in_blocks count) bytes, keeps.counted) in
       ap (λ xs. xs ++ sha256 last ∷ []) keeps.whole
-      ∙ sym (leaves-push (take (in_blocks count) bytes) last (count / 16384) length-front (omega (arith, long)) (omega (arith, long)))
+      ∙ sym (leaves-push (take (in_blocks count) bytes) last (count / 16384) length-front
+      (omega (arith, long)) (omega (arith, long)))
       ∙ ap leaves (joined part)
 
   -- a part that ends its block

@@ -13,4 +13,7 @@ pub mod Filled
 pub mod Keeps
 pub mod Leaves
 pub mod Sums
+pub mod Joined
+pub mod Units
+pub mod Lengths
 pub mod ProvedLaws

@@ -1,8 +1,11 @@
 -- The nodes of the tree over a list of hashes: the root of each whole subtree is one of them.
-use Rattle.std.proofs.Common.{◌≡◌, ℕ, zero, suc, ◌+◌, ◌*◌, ◌^◌, ◌-◌, ◌<◌, ◌≤◌, List, ◌++◌, length, get_or, take, drop, replicate, arith, refl, sym, ap, ap₂, ◌∙◌, inl, inr, add-suc, add-zero, zero-mul}
+use Rattle.std.proofs.Common.{◌≡◌, ℕ, zero, suc, ◌+◌, ◌*◌, ◌^◌, ◌-◌, ◌<◌, ◌≤◌, List, ◌++◌, length, get_or, take, drop}
+use Rattle.std.proofs.Common.{replicate, arith, refl, sym, ap, ap₂, ◌∙◌, inl, inr, add-suc, add-zero, zero-mul}
 use Rattle.std.proofs.Math.Nat.{two-pow-succ}
 use Rattle.std.proofs.lemmas.Bool.{cases_lt}
-use Rattle.std.proofs.lemmas.List.{get_or_past, get_or_default, get_or_append_left, get_or-append_right, get_or-replicate, get_or-take, get_or-drop, take-take, drop-take, drop-drop, take_all, length-append, length-replicate}
+use Rattle.std.proofs.lemmas.List.{get_or_past, get_or_default, get_or_append_left, get_or-append_right}
+use Rattle.std.proofs.lemmas.List.{get_or-replicate, get_or-take, get_or-drop, take-take, drop-take}
+use Rattle.std.proofs.lemmas.List.{drop-drop, take_all, length-append, length-replicate}
 use Rattle.tor_merkle.specs.Block.{run_at}
 use Rattle.tor_merkle.specs.Node.{node}
 use Rattle.tor_merkle.specs.Subtree.{node_of, zero_leaf, zero_subtree, subtree_root, padded}
@@ -35,9 +38,10 @@ right_half xs k i =
     ∙ ap (take (2 ^ k)) (drop-drop (2 ^ k) (i * 2 ^ suc k) xs)
     ∙ ap (λ a. take (2 ^ k) (drop a xs)) start
 
--- the root of a whole run of a list that has the hashes, and then padding, is a node
-module _ (base : ℕ) (hashes all : List (List ℕ)) (same : (j : ℕ) → j < length all → get_or all j zero_leaf ≡ get_or hashes j (zero_subtree base)) where
-  pub subtree_root-run : (k i : ℕ) → (i + 1) * 2 ^ k ≤ length all
+-- the root of a run of a list that has the hashes, and then padding, up to where the run ends, is a node
+module _ (base : ℕ) (hashes all : List (List ℕ)) (end : ℕ)
+    (same : (j : ℕ) → j < end → get_or all j zero_leaf ≡ get_or hashes j (zero_subtree base)) where
+  pub subtree_root-run : (k i : ℕ) → (i + 1) * 2 ^ k ≤ end
       → subtree_root k (run_at (2 ^ k) all i) ≡ node base hashes k i
   unfolding node subtree_root
   subtree_root-run zero i le =
@@ -72,10 +76,8 @@ pub subtree_root-padded_run : (base : ℕ) (hashes : List (List ℕ)) (top k i :
     → (i + 1) * 2 ^ k ≤ 2 ^ top
     → subtree_root k (run_at (2 ^ k) (padded top (zero_subtree base) hashes) i) ≡ node base hashes k i
 subtree_root-padded_run base hashes top k i fits le =
-    let len = length-padded top (zero_subtree base) hashes fits in
-    subtree_root-run base hashes (padded top (zero_subtree base) hashes)
-    (λ j lt. get_or-padded top base hashes j fits (omega (arith, len)))
-    k i (omega (arith, len))
+    subtree_root-run base hashes (padded top (zero_subtree base) hashes) (2 ^ top)
+    (λ j lt. get_or-padded top base hashes j fits lt) k i le
 
 pub subtree_root-padded : (base : ℕ) (hashes : List (List ℕ)) (top : ℕ) → length hashes ≤ 2 ^ top
     → subtree_root top (padded top (zero_subtree base) hashes) ≡ node base hashes top 0
@@ -85,6 +87,31 @@ subtree_root-padded base hashes top fits =
     let one_run : run_at (2 ^ top) all 0 ≡ all =
     ap (λ a. take (2 ^ top) (drop a all)) (zero-mul (2 ^ top)) ∙ take_all (2 ^ top) all (omega (arith, len)) in
     ap (subtree_root top) (sym one_run) ∙ subtree_root-padded_run base hashes top top 0 fits (omega arith)
+
+-- zero leaves also stand for what a list lacks, so that a run of padded leaves may reach past the end of all of them
+get_or-padded_leaf : (top : ℕ) (hashes : List (List ℕ)) (j : ℕ)
+    → get_or (padded top zero_leaf hashes) j zero_leaf ≡ get_or hashes j (zero_subtree 0)
+unfolding zero_subtree
+get_or-padded_leaf top hashes j =
+    let n = 2 ^ top - length hashes in
+    elim (cases_lt j (length hashes)) [
+      | inl less ↦ get_or_append_left hashes (replicate n zero_leaf) zero_leaf j less
+      | inr more ↦
+          get_or-append_right hashes (replicate n zero_leaf) (length hashes) j zero_leaf refl more
+          ∙ zeros n (j - length hashes)
+          ∙ sym (get_or_past hashes j zero_leaf more)
+    ] where
+      zeros : (n i : ℕ) → get_or (replicate n zero_leaf) i zero_leaf ≡ zero_leaf
+      zeros n i = elim (cases_lt i n) [
+        | inl less ↦ get_or-replicate n i zero_leaf zero_leaf less
+        | inr more ↦ get_or_past (replicate n zero_leaf) i zero_leaf (omega (arith, length-replicate n zero_leaf))
+      ]
+
+pub subtree_root-leaf_run : (hashes : List (List ℕ)) (top k i : ℕ)
+    → subtree_root k (run_at (2 ^ k) (padded top zero_leaf hashes) i) ≡ node 0 hashes k i
+subtree_root-leaf_run hashes top k i =
+    subtree_root-run 0 hashes (padded top zero_leaf hashes) ((i + 1) * 2 ^ k)
+    (λ j _. get_or-padded_leaf top hashes j) k i (omega arith)
 
 -- whole nodes stay where hashes are added at the end
 pub node-append : (base : ℕ) (hashes more : List (List ℕ)) (k i : ℕ) → (i + 1) * 2 ^ k ≤ length hashes

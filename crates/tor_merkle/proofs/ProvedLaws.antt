@@ -1,22 +1,95 @@
 -- The laws of `src/laws.rt`, for proofs that cite them.
-use Rattle.std.proofs.Common.{◌≡◌, ◌≤◌, ◌↔◌, ℕ, Bool, true, ◌&&◌, leb, IsTrue, refl, leb-true}
-use Rattle.std.proofs.lemmas.Bool.{and_parts, le-leb}
-use Rattle.std.specs.Int.{is_power_of_two}
-use Rattle.tor_merkle.specs.Layer.{IsPieceLength}
-use Rattle.tor_merkle.specs.declared.TheConstants.{MAX_PIECE_LENGTH, MIN_PIECE_LENGTH}
-
--- a test of three parts, the last two of which are orders
-three_parts : (a : Bool) (low n high : ℕ)
-    → ((a && (leb low n && leb n high)) ≡ true) ↔ ((a ≡ true) × (low ≤ n) × (n ≤ high))
-three_parts a low n high = (
-  λ h.
-      let outer = and_parts a (leb low n && leb n high) h in
-      let inner = and_parts (leb low n) (leb n high) outer.1 in
-      (outer.0, leb-true _ _ inner.0, leb-true _ _ inner.1),
-  λ h. let from = le-leb low n h.1 in let to = le-leb n high h.2 in rw (h.0, from, to) refl,
-)
+use Rattle.std.proofs.Common.{◌≡◌, ◌+◌, ◌-◌, ◌*◌, ◌^◌, ◌<◌, ◌≤◌, ◌↔◌, ℕ, IsTrue, List, [], ◌∷◌}
+use Rattle.std.proofs.Common.{◌++◌, length, map, arith, sym, ap, ap₂, ◌∙◌, pow-add, mul_assoc, mul_comm}
+use Rattle.std.proofs.lemmas.Bool.{cond-false, lt-leb}
+use Rattle.std.specs.Int.{div_ceil, is_power_of_two}
+use Rattle.std.specs.List.{flat_map, range_with_len}
+use Rattle.tor_merkle.specs.Block.{run_at, leaves}
+use Rattle.tor_merkle.specs.Layer.{IsPieceLength, pieces_root, piece_level, piece_roots, piece_layer}
+use Rattle.tor_merkle.specs.Stack.{padded_root, padded_subtree}
+use Rattle.tor_merkle.specs.declared.TheConstants.{MAX_LENGTH, MAX_PIECE_LENGTH, MIN_PIECE_LENGTH}
+use Rattle.tor_merkle.proofs.Ceil.{ceil_at_most, ceil_from_below}
+use Rattle.tor_merkle.proofs.Content.{length-piece_roots, longer_than_piece, piece_roots-nodes, only_piece_root}
+use Rattle.tor_merkle.proofs.Filled.{padded_root-nodes}
+use Rattle.tor_merkle.proofs.Joined.{piece_roots-joined}
+use Rattle.tor_merkle.proofs.Lengths.{length_bounds, length_split, level_is, level_low}
+use Rattle.tor_merkle.proofs.Units.{roots-units}
+use Rattle.tor_merkle.proofs.Sums.{padded_root-leaves}
 
 -- a piece length is a power of two from 16,384 to 2 ^ 30
 pub piece_length_bounds : (n : ℕ)
     → IsPieceLength n ↔ (IsTrue (is_power_of_two n) × (MIN_PIECE_LENGTH ≤ n) × (n ≤ MAX_PIECE_LENGTH))
-piece_length_bounds n = three_parts (is_power_of_two n) MIN_PIECE_LENGTH n MAX_PIECE_LENGTH
+piece_length_bounds = length_bounds
+
+pub piece_levels_are_low : (n : ℕ) → IsPieceLength n → piece_level n ≤ 16
+piece_levels_are_low = level_low
+
+pub count_of_piece_roots : (content : List ℕ) (piece_length : ℕ)
+    → length (piece_roots content piece_length) ≡ div_ceil (length content) piece_length
+count_of_piece_roots = length-piece_roots
+
+-- where the first content ends with a whole piece
+pub piece_roots_of_joined : (a b : List ℕ) (piece_length k : ℕ) → IsPieceLength piece_length
+    → length a ≡ k * piece_length
+    → piece_roots (a ++ b) piece_length ≡ piece_roots a piece_length ++ piece_roots b piece_length
+piece_roots_of_joined a b n k allowed long =
+    let split = length_split n allowed in
+    rw split.1 (piece_roots-joined a b split.0 k (long ∙ ap (λ x. k * x) split.1))
+
+-- in units of whole pieces
+pub piece_roots_of_units : (content : List ℕ) (piece_length span : ℕ) → IsPieceLength piece_length → 0 < span
+    → flat_map (λ unit. piece_roots unit piece_length) (map (run_at (span * piece_length) content)
+    (range_with_len 0 (div_ceil (length content) (span * piece_length))))
+    ≡ piece_roots content piece_length
+piece_roots_of_units content n span allowed some =
+    let split = length_split n allowed in
+    rw split.1 (roots-units content split.0 span some)
+
+-- a content of at most one piece
+pub root_of_short_content : (content : List ℕ) (piece_length : ℕ) → IsPieceLength piece_length → 0 < length content
+    → length content ≤ piece_length
+    → piece_roots content piece_length ≡ padded_subtree (piece_level piece_length) 0 (leaves content) ∷ []
+root_of_short_content content n allowed some short =
+    let split = length_split n allowed in
+    ap (piece_roots content) split.1 ∙ only_piece_root content split.0 some (omega (arith, split.1, short))
+    ∙ ap (λ k. padded_subtree k 0 (leaves content) ∷ []) (sym (level_is n split.0 split.1))
+
+-- the root of a content longer than a piece is that of its layer
+pub root_of_long_content : (content : List ℕ) (piece_length : ℕ) → IsPieceLength piece_length
+    → piece_length < length content
+    → pieces_root content ≡ padded_root (piece_level piece_length) (piece_roots content piece_length)
+root_of_long_content content n allowed long =
+    let split = length_split n allowed in
+    let k = split.0 in
+    sym (padded_root-leaves content)
+    ∙ sym (padded_root-nodes (leaves content) k (longer_than_piece content k (omega (arith, split.1, long))))
+    ∙ ap₂ padded_root (sym (level_is n k split.1))
+    (sym (piece_roots-nodes content k) ∙ ap (piece_roots content) (sym split.1))
+
+pub layer_of_long_content : (content : List ℕ) (piece_length : ℕ) → piece_length < length content
+    → piece_layer content piece_length ≡ piece_roots content piece_length
+unfolding piece_layer
+layer_of_long_content content n long = cond-false _ [] _ (lt-leb _ _ long)
+
+-- as many as a layer may have
+pub some_piece_root : (content : List ℕ) (piece_length : ℕ) → IsPieceLength piece_length → 0 < length content
+    → 0 < length (piece_roots content piece_length)
+some_piece_root content n allowed some =
+    let pos : 0 < n = omega (arith, ((length_bounds n).0 allowed).1) in
+    rw count_of_piece_roots (ceil_from_below (length content) n 0 pos (omega (arith, some)))
+
+pub few_piece_roots : (content : List ℕ) (piece_length : ℕ) → IsPieceLength piece_length
+    → length content ≤ MAX_LENGTH
+    → length (piece_roots content piece_length) ≤ 2 ^ (36 - piece_level piece_length)
+few_piece_roots content n allowed small =
+    let split = length_split n allowed in
+    let k = split.0 in
+    let level : piece_level n ≡ k = level_is n k split.1 in
+    let all : 2 ^ 36 ≡ 2 ^ (36 - k) * 2 ^ k =
+    ap (λ x. 2 ^ x) (let whole : 36 ≡ 36 - k + k = omega (arith, level, level_low n allowed) in whole)
+    ∙ pow-add 2 (36 - k) k in
+    let wide : 2 ^ (36 - k) * n ≡ 2 ^ (36 - k) * 2 ^ k * 16384 =
+    ap (λ x. 2 ^ (36 - k) * x) (split.1 ∙ mul_comm 16384 (2 ^ k)) ∙ sym (mul_assoc (2 ^ (36 - k)) (2 ^ k) 16384) in
+    let pos : 0 < n = omega (arith, ((length_bounds n).0 allowed).1) in
+    rw (count_of_piece_roots content n, level)
+    (ceil_at_most (length content) n (2 ^ (36 - k)) pos (omega (arith, small, all, wide)))

@@ -1,5 +1,6 @@
 -- The climb from the last whole subtree that a stack keeps to a root.
-use Rattle.std.proofs.Common.{◌≡◌, ℕ, suc, ◌+◌, ◌-◌, ◌*◌, ◌/◌, ◌%◌, ◌^◌, ◌<◌, ◌≤◌, List, length, get_or, arith, ap, ap₂, ◌∙◌, sym, pow_pos, mul-le-mul_right, inl, inr}
+use Rattle.std.proofs.Common.{◌≡◌, ℕ, suc, ◌+◌, ◌-◌, ◌*◌, ◌/◌, ◌%◌, ◌^◌, ◌<◌, ◌≤◌, List, length}
+use Rattle.std.proofs.Common.{get_or, arith, ap, ap₂, ◌∙◌, sym, pow_pos, mul-le-mul_right, inl, inr}
 use Rattle.std.proofs.Math.Nat.{mul-div_cancel, two-pow-succ}
 use Rattle.std.proofs.lemmas.Bool.{cases_eq}
 use Rattle.tor_merkle.specs.Node.{node}
@@ -45,8 +46,12 @@ module _ (level count : ℕ) (tops hashes : List (List ℕ)) (keeps : KeepsTops 
         ap (λ x. (place / 2 + 1) * x) (two-pow-succ j) in
         let pos = pow_pos j in
         elim (cases_eq (place % 2) 1) [
-          | inl odd ↦ let same : place ≡ 2 * (place / 2) + 1 = omega arith in omega (arith, last.strict odd, ap (λ x. x * 2 ^ j) same)
-          | inr even ↦ let same : place ≡ 2 * (place / 2) = omega arith in omega (arith, last.high, ap (λ x. x * 2 ^ j) same)
+          | inl odd ↦
+              let same : place ≡ 2 * (place / 2) + 1 = omega arith in
+              omega (arith, last.strict odd, ap (λ x. x * 2 ^ j) same)
+          | inr even ↦
+              let same : place ≡ 2 * (place / 2) = omega arith in
+              omega (arith, last.high, ap (λ x. x * 2 ^ j) same)
         ]
 
     -- at an odd place, the kept hash stands on its left

@@ -1,6 +1,7 @@
 -- Root and layer over the leaves are those of the content.
-use Rattle.std.proofs.Common.{◌≡◌, ℕ, ◌*◌, ◌^◌, ◌≤◌, List, [], cond, length, leb, arith, ◌∙◌, sym, inl, inr}
+use Rattle.std.proofs.Common.{◌≡◌, ℕ, ◌*◌, ◌^◌, ◌<◌, ◌≤◌, List, [], cond, length, leb, arith, ◌∙◌, sym, inl, inr}
 use Rattle.std.proofs.lemmas.Bool.{cases_lt, cond-true, cond-false, lt-leb, le-leb}
+use Rattle.std.specs.Int.{div_ceil}
 use Rattle.tor_merkle.specs.Block.{leaves}
 use Rattle.tor_merkle.specs.Layer.{pieces_root, piece_layer}
 use Rattle.tor_merkle.specs.Node.{nodes}
@@ -31,6 +32,8 @@ nodes-piece_layer content k = elim (cases_lt (16384 * 2 ^ k) (length content)) [
 ] where
   few : length content ≤ 16384 * 2 ^ k → length (leaves content) ≤ 2 ^ k
   few less = elim (cases_lt (2 ^ k) (length (leaves content))) [
-    | inl more ↦ absurd (omega (arith, below_from_ceil (length content) 16384 (2 ^ k) (omega arith) (omega (arith, length-leaves content))))
+    | inl more ↦
+        let begun : 2 ^ k < div_ceil (length content) 16384 = rw (← length-leaves content) more in
+        absurd (omega (arith, below_from_ceil (length content) 16384 (2 ^ k) (omega arith) begun))
     | inr le ↦ le
   ]

@@ -1,5 +1,7 @@
 -- What a stack keeps, through a push and a climb to the root.
-use Rattle.std.proofs.Common.{◌≡◌, ℕ, suc, ◌+◌, ◌-◌, ◌*◌, ◌/◌, ◌%◌, ◌^◌, ◌<◌, ◌≤◌, List, [], ◌∷◌, ◌++◌, length, get_or, set, arith, ap, ap₂, ◌∙◌, sym, pow_pos, inl, inr, div-mul-le_self, get_or-set_same, length-set, get_or-set_other, mul-le-mul_right, le_trans}
+use Rattle.std.proofs.Common.{◌≡◌, ℕ, suc, ◌+◌, ◌-◌, ◌*◌, ◌/◌, ◌%◌, ◌^◌, ◌<◌, ◌≤◌, List, [], ◌∷◌, ◌++◌, length}
+use Rattle.std.proofs.Common.{get_or, set, arith, ap, ap₂, ◌∙◌, sym, pow_pos, inl, inr, div-mul-le_self}
+use Rattle.std.proofs.Common.{get_or-set_same, length-set, get_or-set_other, mul-le-mul_right, le_trans}
 use Rattle.std.proofs.lemmas.Bool.{cases_order}
 use Rattle.std.proofs.lemmas.List.{length_push}
 use Rattle.tor_merkle.specs.Node.{node}

@@ -25,7 +25,8 @@ pieces_root content = subtree_root (height (length (leaves content))) (tree_leav
 abbrev pub piece_level : ℕ → ℕ
 piece_level piece_length = height (piece_length / BLOCK_LENGTH)
 
--- for each piece of a content, the root of the run of leaves that covers it (BEP 52, "piece layers")
+-- for each piece of a content, the root of the run of leaves that covers it (BEP 52, "piece layers"), also where the
+-- content is shorter than one piece: 32 zero bytes stand for each leaf that a piece lacks
 unfoldable pub piece_roots : List ℕ → ℕ → List (List ℕ)
 piece_roots content piece_length =
     map (λ i. subtree_root (piece_level piece_length) (run_at (piece_length / BLOCK_LENGTH) (tree_leaves content) i))

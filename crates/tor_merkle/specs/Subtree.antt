@@ -1,5 +1,6 @@
 -- Trees of SHA-256 hashes in which each node has two children (BEP 52, "pieces root"). A hash is a list of 32 bytes.
-use Rattle.std.specs.Prelude.{ℕ, zero, suc, ◌+◌, ◌*◌, ◌^◌, ◌-◌, List, ◌++◌, length, map, take, drop, replicate, slice_index_or, nat_le, if◌then◌else◌}
+use Rattle.std.specs.Prelude.{ℕ, zero, suc, ◌+◌, ◌*◌, ◌^◌, ◌-◌, List, ◌++◌, length, map}
+use Rattle.std.specs.Prelude.{take, drop, replicate, slice_index_or, nat_le, if◌then◌else◌}
 use Rattle.std.specs.Int.{div_ceil}
 use Rattle.std.specs.List.{range_with_len}
 use Rattle.sha2.specs.Sha256.{sha256}
@@ -17,7 +18,8 @@ unfoldable pub zero_subtree : ℕ → List ℕ
 zero_subtree zero = zero_leaf
 zero_subtree (suc k) = node_of (zero_subtree k) (zero_subtree k)
 
--- the root of 2 ^ k hashes: the only one, or that of the roots of the two halves
+-- the root of 2 ^ k hashes: the only one, or that of the roots of the two halves; 32 zero bytes stand for each that is
+-- missing
 unfoldable pub subtree_root : ℕ → List (List ℕ) → List ℕ
 subtree_root zero hashes = slice_index_or hashes 0 zero_leaf
 subtree_root (suc k) hashes = node_of (subtree_root k (take (2 ^ k) hashes)) (subtree_root k (drop (2 ^ k) hashes))

@@ -1,9 +1,10 @@
 //! Bytes that come in parts, cut into blocks, whose leaves go into the tree of the pieces.
 
-ghost use Rattle.std.specs.Prelude.{◌≡◌, ◌+◌, ◌*◌, ◌%◌, ◌^◌, ◌<◌, ◌≤◌, ◌↔◌, [], ◌++◌, length, OnOk, IsOk, IsNone, IfSome};
+ghost use Rattle.std.specs.Prelude.{◌≡◌, ◌+◌, ◌*◌, ◌%◌, ◌^◌, ◌<◌, ◌≤◌, ◌↔◌, []};
+ghost use Rattle.std.specs.Prelude.{◌++◌, length, OnOk, IsOk, IsNone, IfSome};
 ghost use Rattle.std.specs.Int.{div_ceil};
 ghost use Rattle.tor_merkle.specs.Block.{leaves};
-ghost use Rattle.tor_merkle.specs.Layer.{pieces_root, piece_layer};
+ghost use Rattle.tor_merkle.specs.Layer.{pieces_root, piece_roots, piece_layer};
 ghost use Rattle.tor_merkle.specs.steps.Blocks.{FitsBlock};
 
 use crate::hash::Hash;
@@ -119,6 +120,14 @@ impl BlockHasher {
             return None;
         }
         Some(self.into_tree().finish())
+    }
+
+    // The root of each piece of the bytes fed.
+    pub(crate) fn piece_roots(self) -> Vec<Hash>
+        requires { div_ceil (length self.bytes) (BLOCK_LENGTH * 2 ^ self.height) ≤ self.room }
+        ensures { result.items ≡ piece_roots self.bytes (BLOCK_LENGTH * 2 ^ self.height) }
+    {
+        self.into_tree().piece_roots()
     }
 
     // The tree with the leaf of the last block, whole or short.

@@ -1,13 +1,13 @@
-//! Root and piece layer of a content that is fed in parts.
+//! Root and piece layer of a content that is fed in parts, and the roots of the pieces of a part of a longer file.
 
 ghost use Rattle.std.specs.Prelude.{◌≡◌, ◌+◌, ◌^◌, ◌≤◌, ◌↔◌, [], ◌++◌, length, OnOk, OnErr, IsOk, IsNone, IfSome};
 ghost use Rattle.std.specs.Int.{div_ceil};
-ghost use Rattle.tor_merkle.specs.Layer.{IsPieceLength, pieces_root, piece_layer};
+ghost use Rattle.tor_merkle.specs.Layer.{IsPieceLength, pieces_root, piece_roots, piece_layer};
 
 use crate::blocks::BlockHasher;
-use crate::digits::height_of;
 use crate::hash::Hash;
-use crate::{BLOCK_LENGTH, MAX_LENGTH, MAX_PIECE_LENGTH};
+use crate::piece_length::piece_level;
+use crate::{MAX_LENGTH, MAX_PIECE_LENGTH};
 use std::alloc::{AllocError, Global};
 use std::marker::Model;
 
@@ -36,10 +36,9 @@ impl Feed {
         ensures piece_length { result.piece_length ≡ piece_length }
         ensures empty { result.bytes ≡ [] }
     {
-        let height = height_of(piece_length / BLOCK_LENGTH as u64);
         Feed {
             piece_length,
-            blocks: BlockHasher::new(alloc, height),
+            blocks: BlockHasher::new(alloc, piece_level(piece_length)),
         }
     }
 
@@ -86,5 +85,13 @@ impl Feed {
         ensures layer { IfSome result (λ sums. sums.1.items ≡ piece_layer self.bytes self.piece_length) }
     {
         self.blocks.finish()
+    }
+
+    /// The root of each piece that was fed, widened by zero leaves to a whole piece, in order: of a run of pieces of
+    /// a longer file, its layer's hashes (BEP 52, "piece layers"). It takes no memory.
+    pub fn piece_roots(self) -> Vec<Hash>
+        ensures { result.items ≡ piece_roots self.bytes self.piece_length }
+    {
+        self.blocks.piece_roots()
     }
 }

@@ -1,13 +1,60 @@
 //! Laws over the definitions alone.
 
-ghost use Rattle.std.specs.Prelude.{ℕ, ◌≤◌, ◌↔◌, IsTrue};
-ghost use Rattle.std.specs.Int.{is_power_of_two};
-ghost use Rattle.tor_merkle.specs.Layer.{IsPieceLength};
+ghost use Rattle.std.specs.Prelude.{◌≡◌, ℕ, ◌*◌, ◌-◌, ◌^◌, ◌<◌, ◌≤◌, ◌↔◌, IsTrue, List, [], ◌∷◌, ◌++◌, length, map};
+ghost use Rattle.std.specs.Int.{div_ceil, is_power_of_two};
+ghost use Rattle.std.specs.List.{flat_map, range_with_len};
+ghost use Rattle.tor_merkle.specs.Block.{run_at, leaves};
+ghost use Rattle.tor_merkle.specs.Layer.{IsPieceLength, pieces_root, piece_level, piece_roots, piece_layer};
+ghost use Rattle.tor_merkle.specs.Stack.{padded_root, padded_subtree};
 
-use crate::{MAX_PIECE_LENGTH, MIN_PIECE_LENGTH};
+use crate::{MAX_LENGTH, MAX_PIECE_LENGTH, MIN_PIECE_LENGTH};
 
 /// A piece length is a power of two from 16,384 to 2^30.
 pub fn piece_length_bounds()
     ensures { (n : ℕ) → IsPieceLength n
         ↔ (IsTrue (is_power_of_two n) × (MIN_PIECE_LENGTH ≤ n) × (n ≤ MAX_PIECE_LENGTH)) }
+{}
+
+/// Each piece of a content has one root.
+pub fn count_of_piece_roots()
+    ensures { (content : List ℕ) (piece_length : ℕ) →
+        length (piece_roots content piece_length) ≡ div_ceil (length content) piece_length }
+{}
+
+/// Where a content is cut after a whole piece, the roots of its pieces are those of both parts.
+pub fn piece_roots_of_joined()
+    ensures { (a b : List ℕ) (piece_length k : ℕ) → IsPieceLength piece_length → length a ≡ k * piece_length →
+        piece_roots (a ++ b) piece_length ≡ piece_roots a piece_length ++ piece_roots b piece_length }
+{}
+
+/// Where a content is cut into units of so many whole pieces, the last perhaps shorter, the roots of its pieces are
+/// those of the units, one unit after another.
+pub fn piece_roots_of_units()
+    ensures { (content : List ℕ) (piece_length span : ℕ) → IsPieceLength piece_length → 0 < span →
+        flat_map (λ unit. piece_roots unit piece_length) (map (run_at (span * piece_length) content)
+        (range_with_len 0 (div_ceil (length content) (span * piece_length)))) ≡ piece_roots content piece_length }
+{}
+
+/// A content of at most one piece has one root, which covers a whole piece: zero leaves stand past its own.
+pub fn root_of_short_content()
+    ensures { (content : List ℕ) (piece_length : ℕ) → IsPieceLength piece_length →
+        0 < length content → length content ≤ piece_length →
+        piece_roots content piece_length ≡ padded_subtree (piece_level piece_length) 0 (leaves content) ∷ [] }
+{}
+
+/// The root of a content longer than a piece is that of its layer, which has the roots of all its pieces.
+pub fn root_of_long_content()
+    ensures root { (content : List ℕ) (piece_length : ℕ) → IsPieceLength piece_length → piece_length < length content →
+        pieces_root content ≡ padded_root (piece_level piece_length) (piece_roots content piece_length) }
+    ensures layer { (content : List ℕ) (piece_length : ℕ) → piece_length < length content →
+        piece_layer content piece_length ≡ piece_roots content piece_length }
+{}
+
+/// [`crate::layer_root`] takes the roots of the pieces of any content of 1 to 2^50 bytes, at the level of a piece.
+pub fn piece_roots_fit_a_layer()
+    ensures level { (piece_length : ℕ) → IsPieceLength piece_length → piece_level piece_length ≤ 16 }
+    ensures some { (content : List ℕ) (piece_length : ℕ) → IsPieceLength piece_length → 0 < length content →
+        0 < length (piece_roots content piece_length) }
+    ensures small { (content : List ℕ) (piece_length : ℕ) → IsPieceLength piece_length → length content ≤ MAX_LENGTH →
+        length (piece_roots content piece_length) ≤ 2 ^ (36 - piece_level piece_length) }
 {}

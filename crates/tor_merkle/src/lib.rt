@@ -13,10 +13,12 @@
 //!
 //! - [`leaf`], [`pair`], [`zero`] (`hash.rt`): the hash of a block, of two hashes, of a subtree past the end.
 //! - [`whole`] (`plain.rt`): root and piece layer of a content that lies in memory.
-//! - [`Feed`] (`feed.rt`): the same of a content that is fed in parts; it keeps no leaves. Below it stand
-//!   the cut into blocks (`blocks.rt`) and the tree of the pieces (`pieces.rt`).
+//! - [`Feed`] (`feed.rt`): the same of a content that is fed in parts, or the hashes of a run of pieces of a
+//!   longer one; it keeps no leaves. Below it stand the cut into blocks (`blocks.rt`) and the tree of the
+//!   pieces (`pieces.rt`).
 //! - [`Stack`], [`layer_root`] (`stack.rt`): the root over hashes that come one after another.
-//! - [`is_piece_length`] (`piece_length.rt`): which numbers of bytes a piece may have.
+//! - [`is_piece_length`], [`piece_level`] (`piece_length.rt`): which numbers of bytes a piece may have, and the level
+//!   of its hash.
 //! - [`History`] (`trail.rt`): what came so far, which only proofs read.
 //! - [`laws`] (`laws.rt`): laws over the definitions of `specs/`.
 //!
@@ -50,7 +52,7 @@ pub const MAX_LENGTH: u64 = 1 << 50;
 
 pub use feed::Feed;
 pub use hash::{Hash, leaf, pair, zero};
-pub use piece_length::is_piece_length;
+pub use piece_length::{is_piece_length, piece_level};
 pub use plain::whole;
 pub use stack::{Stack, layer_root};
 pub use trail::History;

@@ -1,6 +1,7 @@
 //! The tree over leaves that come one after another, piece by piece.
 
-ghost use Rattle.std.specs.Prelude.{◌≡◌, ◌+◌, ◌-◌, ◌^◌, ◌<◌, ◌≤◌, [], ◌∷◌, ◌++◌, length, OnOk, IsOk, nat_le, if◌then◌else◌, vec_len, vec_capacity};
+ghost use Rattle.std.specs.Prelude.{◌≡◌, ◌+◌, ◌-◌, ◌^◌, ◌<◌, ◌≤◌, [], ◌∷◌, ◌++◌, length, OnOk};
+ghost use Rattle.std.specs.Prelude.{IsOk, nat_le, if◌then◌else◌, vec_len, vec_capacity};
 ghost use Rattle.std.specs.Int.{div_ceil};
 ghost use Rattle.tor_merkle.specs.Node.{nodes};
 ghost use Rattle.tor_merkle.specs.Stack.{padded_root};
@@ -102,6 +103,24 @@ impl PieceTree {
         }
         close_piece(height, &mut blocks, &mut pieces, &mut layer);
         (pieces.root(), layer)
+    }
+
+    // The hash of each piece, the last widened where it is short.
+    pub(crate) fn piece_roots(self) -> Vec<Hash>
+        requires { div_ceil (length self.leaves) (2 ^ self.height) ≤ self.room }
+        ensures { result.items ≡ nodes 0 self.leaves self.height }
+    {
+        let PieceTree {
+            height,
+            mut blocks,
+            mut pieces,
+            mut layer,
+            leaves: _leaves,
+        } = self;
+        if !blocks.is_empty() {
+            close_piece(height, &mut blocks, &mut pieces, &mut layer);
+        }
+        layer
     }
 }
 

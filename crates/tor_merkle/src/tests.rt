@@ -4,7 +4,7 @@
 use crate::feed::Feed;
 use crate::hash::{Hash, leaf, pair, zero};
 use crate::laws::piece_length_bounds;
-use crate::piece_length::is_piece_length;
+use crate::piece_length::{is_piece_length, piece_level};
 use crate::plain::whole;
 use crate::stack::{Stack, layer_root};
 use std::alloc::{AllocError, Global};
@@ -73,6 +73,20 @@ fn fed_of<R: AllocGlobal + Abort>(
     };
     let (root, layer) = sums;
     Ok((hex(rt.alloc(), &root)?, layer))
+}
+
+// The roots of the pieces of such a content, by a feed.
+fn piece_roots_of<R: AllocGlobal + Abort>(
+    rt: &R,
+    length: usize,
+    piece_length: u64,
+) -> Result<Vec<Hash>, AllocError> {
+    let bytes = content(rt.alloc(), length)?;
+    assert!(rt; bytes.len() <= 1 << 50);
+    assert!(rt; is_piece_length(piece_length));
+    let mut feed = Feed::new(rt.alloc(), piece_length);
+    feed.feed(&bytes)?;
+    Ok(feed.piece_roots())
 }
 
 // Five blocks in pieces of two (BEP 52, "pieces root", "piece layers"). The layer has the hash of each piece. Past
@@ -154,6 +168,38 @@ fn tells_the_layer_of_five_blocks(rt: HostRuntime) -> Result<(), AllocError> {
     }
     assert!(rt; layer[0] == pair(&blocks[0], &blocks[1]));
     assert!(rt; layer[2] == pair(&blocks[4], &zero(0)));
+    Ok(())
+}
+
+#[test]
+fn widens_the_pieces_of_a_part(rt: HostRuntime) -> Result<(), AllocError> {
+    let bytes = content(rt.alloc(), 49_152)?;
+    assert_eq!(rt; bytes.len(), 49_152);
+    let (first, rest) = bytes.split_at(16_384);
+    let (second, third) = rest.split_at(16_384);
+    let (l0, l1, l2) = (leaf(first), leaf(second), leaf(third));
+
+    assert!(rt; piece_roots_of(&rt, 0, 32_768)?.is_empty());
+    let short = piece_roots_of(&rt, 16_384, 32_768)?;
+    assert!(rt; short.as_slice() == [pair(&l0, &zero(0))].as_slice());
+    let shorter = piece_roots_of(&rt, 16_384, 65_536)?;
+    assert!(rt; shorter.as_slice() == [pair(&pair(&l0, &zero(0)), &zero(1))].as_slice());
+    let one = piece_roots_of(&rt, 32_768, 32_768)?;
+    assert!(rt; one.as_slice() == [pair(&l0, &l1)].as_slice());
+    let two = piece_roots_of(&rt, 49_152, 32_768)?;
+    assert!(rt; two.as_slice() == [pair(&l0, &l1), pair(&l2, &zero(0))].as_slice());
+    let three = piece_roots_of(&rt, 49_152, 16_384)?;
+    assert!(rt; three.as_slice() == [l0, l1, l2].as_slice());
+
+    // The root of all is that over its pieces.
+    assert!(rt; is_piece_length(32_768));
+    let level = piece_level(32_768);
+    assert!(rt; level == 1 && two.len() == 2);
+    let (root, _) = whole_of(&rt, 49_152, 32_768)?;
+    assert_eq!(rt;
+        hex(rt.alloc(), &layer_root(&two, level))?.as_str(),
+        root.as_str()
+    );
     Ok(())
 }
 

@@ -1,5 +1,6 @@
 -- one more leaf is that of the next block
-use Rattle.std.proofs.Common.{◌≡◌, ℕ, ◌+◌, ◌-◌, ◌*◌, min, List, [], ◌∷◌, ◌++◌, map, length, take, drop, ap, ap₂, ◌∙◌, sym, zero-add}
+use Rattle.std.proofs.Common.{◌≡◌, ℕ, ◌+◌, ◌-◌, ◌*◌, min, List, [], ◌∷◌, ◌++◌, map}
+use Rattle.std.proofs.Common.{length, take, drop, ap, ap₂, ◌∙◌, sym, zero-add}
 use Rattle.std.proofs.Math.Nat.{min_comm}
 use Rattle.std.proofs.lemmas.List.{map_push, take_rest, take_min}
 use Rattle.std.proofs.lemmas.List.FromFn.{map-range_with_len_more}

@@ -1,5 +1,6 @@
 -- one more node is that of the next two hashes
-use Rattle.std.proofs.Common.{◌≡◌, ℕ, ◌+◌, ◌*◌, ◌<◌, Option, Some, None, option_map, unwrap_or, Bor, List, [], ◌∷◌, ◌++◌, map, length, get_or, arith, refl, ap, ap₂, ◌∙◌, sym, zero-add, le_refl}
+use Rattle.std.proofs.Common.{◌≡◌, ℕ, ◌+◌, ◌*◌, ◌<◌, Option, Some, None, option_map, unwrap_or, Bor, List, []}
+use Rattle.std.proofs.Common.{◌∷◌, ◌++◌, map, length, get_or, arith, refl, ap, ap₂, ◌∙◌, sym, zero-add, le_refl}
 use Rattle.std.proofs.lemmas.List.{get_or_default}
 use Rattle.std.proofs.lemmas.List.FromFn.{map-range_with_len_more}
 use Rattle.std.specs.Int.{div_ceil}
@@ -15,7 +16,8 @@ now-unwrap_or (Some x) other = refl
 
 above_more : (padding : List ℕ) (hashes : List (List ℕ)) (i : ℕ) (left right : List ℕ) → i < div_ceil (length hashes) 2
     → left ≡ get_or hashes (2 * i) [] → right ≡ get_or hashes (2 * i + 1) padding
-    → map (λ i. node_of (get_or hashes (2 * i) padding) (get_or hashes (2 * i + 1) padding)) (range_with_len 0 i) ++ node_of left right ∷ []
+    → map (λ i. node_of (get_or hashes (2 * i) padding) (get_or hashes (2 * i + 1) padding)) (range_with_len 0 i)
+    ++ node_of left right ∷ []
     ≡ map (λ i. node_of (get_or hashes (2 * i) padding) (get_or hashes (2 * i + 1) padding)) (range_with_len 0 (i + 1))
 above_more padding hashes i left right lt l r =
     let node = λ (i : ℕ). node_of (get_or hashes (2 * i) padding) (get_or hashes (2 * i + 1) padding) in

@@ -1,5 +1,6 @@
 -- one level more, and the last
-use Rattle.std.proofs.Common.{◌≡◌, ℕ, ◌+◌, ◌*◌, ◌^◌, length, arith, refl, ap, ap₂, ◌∙◌, sym, le_antisymm, eqb-true, inl, inr, zero-add, add-one, mul_assoc, pow-suc}
+use Rattle.std.proofs.Common.{◌≡◌, ℕ, ◌+◌, ◌*◌, ◌^◌, length, arith, refl, ap, ap₂, ◌∙◌, sym}
+use Rattle.std.proofs.Common.{le_antisymm, inl, inr, zero-add, add-one, mul_assoc, pow-suc}
 use Rattle.tor_merkle.specs.Layer.{piece_layer}
 use Rattle.tor_merkle.specs.Block.{leaves}
 use Rattle.tor_merkle.specs.Subtree as S
@@ -7,8 +8,8 @@ use Rattle.std.proofs.lemmas.Bool.{eqb-false, cases_lt}
 use Rattle.tor_merkle.proofs.Climb.{covers_less, more_levels, last_level, height_small, some_node, top_hash, layer_met}
 use Rattle.tor_merkle.specs.Node.{nodes}
 use Rattle.tor_merkle.proofs.Levels.{nodes-zero, level_above-nodes}
-use Rattle.tor_merkle.proofs.Power.{power_split, same_power}
-use Rattle.tor_merkle.proofs.ProvedLaws.{piece_length_bounds}
+use Rattle.tor_merkle.proofs.Lengths.{length_split}
+use Rattle.tor_merkle.proofs.Power.{same_power}
 use Rattle.tor_merkle.proofs.plain.whole.Goals as goal
 use Rattle.tor_merkle.proofs.plain.whole.Goals.{then-width-piece_length, else-width-piece_length}
 
@@ -58,13 +59,15 @@ levels-preserved c =
     elim c.if-width-piece_length.branch [
       | then-width-piece_length w ↦
           let same =
-          λ (k : ℕ) (is : c.args.piece_length ≡ 16384 * 2 ^ k). same_power 16384 level k (omega arith) (sym wide ∙ w.if-width-piece_length.true ∙ is) in
+          λ (k : ℕ) (is : c.args.piece_length ≡ 16384 * 2 ^ k).
+          same_power 16384 level k (omega arith) (sym wide ∙ w.if-width-piece_length.true ∙ is) in
           record {
             hashes = ap (λ v. v.items) (w.hashes-is ∙ w.replace-layer.ensures.after) ∙ above;
             within = omega arith;
             width = wider;
             passed =
-                λ k is _. ap (λ v. v.items) (w.layer-is ∙ w.replace-layer.ensures.value) ∙ c.levels.invariant.hashes ∙ ap (nodes 0 (leaves content)) (same k is);
+                λ k is _. ap (λ v. v.items) (w.layer-is ∙ w.replace-layer.ensures.value) ∙ c.levels.invariant.hashes
+                ∙ ap (nodes 0 (leaves content)) (same k is);
             ahead = λ k is le. absurd (omega (arith, same k is));
           }
       | else-width-piece_length w ↦
@@ -74,7 +77,9 @@ levels-preserved c =
             width = wider;
             passed = λ k is lt. ap (λ v. v.items) w.layer-is ∙ elim (cases_lt k level) [
               | inl less ↦ c.levels.invariant.passed k is less
-              | inr more ↦ absurd (w.if-width-piece_length.false (wide ∙ ap (λ n. 16384 * 2 ^ n) (le_antisymm more (omega arith)) ∙ sym is))
+              | inr more ↦
+                  absurd (w.if-width-piece_length.false
+                  (wide ∙ ap (λ n. 16384 * 2 ^ n) (le_antisymm more (omega arith)) ∙ sym is))
             ];
             ahead = λ k is le. ap (λ v. v.items) w.layer-is ∙ c.levels.invariant.ahead k is (omega arith);
           }
@@ -83,7 +88,8 @@ levels-preserved c =
 pub index-requires : goal.index-requires
 index-requires c =
     let some = eqb-false (length c.args.content.now) 0 (sym c.if-is_empty.ensures) in
-    omega (arith, c.levels.hashes.ok.0, ap length c.levels.invariant.hashes, some_node c.args.content.now c.levels.level (omega arith))
+    let node = some_node c.args.content.now c.levels.level (omega arith) in
+    omega (arith, c.levels.hashes.ok.0, ap length c.levels.invariant.hashes, node)
 
 pub returns-clause-root : goal.returns-clause-root
 returns-clause-root c =
@@ -98,8 +104,7 @@ returns-clause-layer c =
     let top =
     last_level c.args.content.now c.levels.level _ c.levels.invariant.hashes c.levels.invariant.within
     (omega (arith, c.levels.hashes.ok.0)) in
-    let bounds = (piece_length_bounds c.args.piece_length).0 c.requires.piece in
-    let piece = power_split c.args.piece_length 14 (eqb-true _ _ bounds.0) bounds.1 in
+    let piece = length_split c.args.piece_length c.requires.piece in
     layer_met c.args.content.now piece.0 c.levels.level _ top (c.levels.invariant.passed piece.0 piece.1)
     (c.levels.invariant.ahead piece.0 piece.1)
     ∙ ap (piece_layer c.args.content.now) (sym piece.1)

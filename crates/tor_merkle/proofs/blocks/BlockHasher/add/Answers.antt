@@ -26,11 +26,13 @@ invariant_of-self c =
     elim c.if-self-eq0.branch [
       | then-self-eq0 w ↦
           rw (w.self-inside-is, c.with-fed.ensures)
-          (adds_full b.count b.hasher b.tree.leaves b.fed.items c.self.invariant c.args.part.now w.finalize_reset-leaf.new.self w.push.new.self.leaves c.requires.some fits small
-          w.if-self-eq0.true
-          (w.push.ensures.leaves ∙ ap (λ x. b.tree.leaves ++ x ∷ []) (w.finalize_reset-leaf.ensures.digest _ (c.update.ensures _ c.self.invariant.rest)))
+          (adds_full b.count b.hasher b.tree.leaves b.fed.items c.self.invariant c.args.part.now
+          w.finalize_reset-leaf.new.self w.push.new.self.leaves c.requires.some fits small w.if-self-eq0.true
+          (w.push.ensures.leaves ∙ ap (λ x. b.tree.leaves ++ x ∷ [])
+          (w.finalize_reset-leaf.ensures.digest _ (c.update.ensures _ c.self.invariant.rest)))
           w.finalize_reset-leaf.ensures.empty)
       | else-self-eq0 w ↦
           rw (w.self-inside-is, c.with-fed.ensures)
-          (adds_open b.count b.hasher b.tree.leaves b.fed.items c.self.invariant c.args.part.now c.update.new.self fits small w.if-self-eq0.false c.update.ensures)
+          (adds_open b.count b.hasher b.tree.leaves b.fed.items c.self.invariant c.args.part.now
+          c.update.new.self fits small w.if-self-eq0.false c.update.ensures)
     ]

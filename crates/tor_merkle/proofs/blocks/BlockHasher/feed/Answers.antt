@@ -17,7 +17,8 @@ add-requires c =
       room =
           rw c.parts.invariant.height
           (le_trans
-          (ceil_mono (length c.parts.self.bytes + length c.split_at.result.0.now) (length now.bytes + length c.args.bytes.now) (16384 * 2 ^ now.height) pos
+          (ceil_mono (length c.parts.self.bytes + length c.split_at.result.0.now)
+          (length now.bytes + length c.args.bytes.now) (16384 * 2 ^ now.height) pos
           (omega (arith, all, c.split_at.ensures.front_len, c.split_at.ensures.back_len)))
           (le_trans c.requires.room c.parts.invariant.room));
     }

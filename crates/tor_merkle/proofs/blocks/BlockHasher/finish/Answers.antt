@@ -27,5 +27,6 @@ returns-clause-root c =
 pub returns-clause-layer : goal.returns-clause-layer
 returns-clause-layer c =
     c.finish.ensures.layer
-    ∙ ap₂ (λ xs k. cond (leb (length xs) (2 ^ k)) [] (nodes 0 xs k)) c.into_tree.ensures.leaves c.into_tree.ensures.height
+    ∙ ap₂ (λ xs k. cond (leb (length xs) (2 ^ k)) [] (nodes 0 xs k))
+    c.into_tree.ensures.leaves c.into_tree.ensures.height
     ∙ nodes-piece_layer c.args.self.bytes c.args.self.height

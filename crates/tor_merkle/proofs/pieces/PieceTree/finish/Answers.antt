@@ -40,7 +40,8 @@ returns-clause-root c =
     (λ e. false≢true (c.if-is_empty.ensures.1 e)) in
     c.root-2.ensures
     ∙ ap₂ padded_root c.close_piece.ensures.closed.piece_level
-    (c.close_piece.ensures.closed.stacked ∙ pieces_all t.height t.leaves.items t.blocks t.pieces t.layer.items c.self.invariant some)
+    (c.close_piece.ensures.closed.stacked
+    ∙ pieces_all t.height t.leaves.items t.blocks t.pieces t.layer.items c.self.invariant some)
     ∙ padded_root-nodes t.leaves.items t.height more
     ∙ ap (λ v. padded_root 0 v.leaves) c.self.view_is
 

@@ -26,14 +26,17 @@ invariant_of-self c =
       | then-len-self w ↦
           let e = w.close_piece.ensures.closed in
           rw (w.self-inside-is, c.with-leaves.ensures)
-          (keeps_closed t.height t.leaves.items t.blocks t.pieces t.layer.items c.self.invariant c.args.leaf c.push.new.self w.close_piece.new.pieces w.close_piece.new.layer.items
+          (keeps_closed t.height t.leaves.items t.blocks t.pieces t.layer.items c.self.invariant c.args.leaf
+          c.push.new.self w.close_piece.new.pieces w.close_piece.new.layer.items
           (sym c.len.ensures ∙ w.if-len-self.true ∙ power) small
           (c.push.ensures.level ∙ ap (λ s. s.blocks.level) w.self-inside-is ∙ e.block_level)
-          (c.push.ensures.hashes ∙ ap (λ s. s.blocks.hashes ++ c.args.leaf ∷ []) w.self-inside-is ∙ ap (λ xs. xs ++ c.args.leaf ∷ []) e.emptied)
+          (c.push.ensures.hashes ∙ ap (λ s. s.blocks.hashes ++ c.args.leaf ∷ []) w.self-inside-is
+          ∙ ap (λ xs. xs ++ c.args.leaf ∷ []) e.emptied)
           e.piece_level e.stacked e.listed)
       | else-len-self w ↦
           rw (w.self-inside-is, c.with-leaves.ensures)
-          (keeps_open t.height t.leaves.items t.blocks t.pieces t.layer.items c.self.invariant c.args.leaf c.push.new.self
+          (keeps_open t.height t.leaves.items t.blocks t.pieces t.layer.items c.self.invariant c.args.leaf
+          c.push.new.self
           (λ e. w.if-len-self.false (c.len.ensures ∙ e ∙ sym power)) small
           (c.push.ensures.level ∙ ap (λ s. s.blocks.level) w.self-inside-is)
           (c.push.ensures.hashes ∙ ap (λ s. s.blocks.hashes ++ c.args.leaf ∷ []) w.self-inside-is))

@@ -1,5 +1,6 @@
 -- a carry, and the digit at which the carries end
-use Rattle.std.proofs.Common.{◌≡◌, ℕ, ◌+◌, ◌*◌, ◌/◌, ◌^◌, List, [], ◌∷◌, ◌++◌, arith, ap, ap₂, ◌∙◌, sym, add-one, mul_assoc, length}
+use Rattle.std.proofs.Common.{◌≡◌, ℕ, ◌+◌, ◌*◌, ◌/◌, ◌^◌, List, [], ◌∷◌, ◌++◌, arith}
+use Rattle.std.proofs.Common.{ap, ap₂, ◌∙◌, sym, add-one, mul_assoc, length}
 use Rattle.std.proofs.Math.Nat.{pow-succ'}
 use Rattle.std.proofs.lemmas.List.{get_or_default, get_or_push}
 use Rattle.tor_merkle.specs.Node.{node}
@@ -13,17 +14,20 @@ unfolding node
 first base hashes hash count e = sym (get_or_push hashes hash (zero_subtree base) count e)
 
 pub carries-init : goal.carries-init
-carries-init c = record {
-  room = omega (arith, c.self.invariant.counted, rw (← c.self.view_is) at c.requires);
-  low = omega arith;
-  digits = omega arith;
-  root =
-      rw c.with-pushed.ensures
-      (first c.self.inside.level c.self.inside.pushed.items c.args.hash c.self.inside.count (sym c.self.invariant.counted));
-}
+carries-init c =
+    let s = c.self.inside in
+    record {
+      room = omega (arith, c.self.invariant.counted, rw (← c.self.view_is) at c.requires);
+      low = omega arith;
+      digits = omega arith;
+      root =
+          rw c.with-pushed.ensures
+          (first s.level s.pushed.items c.args.hash s.count (sym c.self.invariant.counted));
+    }
 
 pub carries-preserved : goal.carries-preserved
 carries-preserved c =
+    let s = c.self.inside in
     let odd = c.carries-test.true in
     let half : c.carries.rest + 1 ≡ (c.carries.rest / 2 + 1) * 2 = omega arith in
     let digits : c.self.inside.count + 1 ≡ (c.carries.rest / 2 + 1) * 2 ^ (c.carries.digit + 1) =
@@ -34,22 +38,26 @@ carries-preserved c =
     record {
       room = c.carries.invariant.room;
       low =
-          omega (arith, digit_below c.self.inside.level c.self.inside.count (c.carries.rest / 2) (c.carries.digit + 1) c.carries.invariant.room digits);
+          let most =
+          digit_below s.level s.count (c.carries.rest / 2) (c.carries.digit + 1) c.carries.invariant.room digits in
+          omega (arith, most);
       digits = digits;
       root =
           c.pair-top.ensures
           ∙ ap (λ x. node_of x c.carries.top)
-          (get_or_default c.self.inside.tops c.carries.digit [] zero_leaf (omega arith))
-          ∙ carry c.self.inside.level c.self.inside.count c.self.inside.tops c.self.inside.pushed.items c.self.invariant c.args.hash c.carries.digit c.carries.rest c.carries.top
-          c.carries.invariant.digits odd
-          (c.carries.invariant.root ∙ ap (λ xs. node c.self.inside.level xs c.carries.digit c.carries.rest) c.with-pushed.ensures)
-          ∙ ap₂ (λ xs k. node c.self.inside.level xs k (c.carries.rest / 2)) (sym c.with-pushed.ensures)
+          (get_or_default s.tops c.carries.digit [] zero_leaf (omega arith))
+          ∙ carry s.level s.count s.tops s.pushed.items c.self.invariant c.args.hash
+          c.carries.digit c.carries.rest c.carries.top c.carries.invariant.digits odd
+          (c.carries.invariant.root ∙ ap (λ xs. node s.level xs c.carries.digit c.carries.rest) c.with-pushed.ensures)
+          ∙ ap₂ (λ xs k. node s.level xs k (c.carries.rest / 2)) (sym c.with-pushed.ensures)
           (sym (add-one c.carries.digit));
     }
 
 pub invariant_of-self : goal.invariant_of-self
 invariant_of-self c =
+    let s = c.self.inside in
     rw c.with-pushed.ensures
-    (pushed c.self.inside.level c.self.inside.count c.self.inside.tops c.self.inside.pushed.items c.self.invariant c.args.hash c.carries.digit c.carries.rest c.carries.top
+    (pushed s.level s.count s.tops s.pushed.items c.self.invariant c.args.hash
+    c.carries.digit c.carries.rest c.carries.top
     c.carries.invariant.digits (omega arith) (omega arith) c.carries.invariant.room
-    (c.carries.invariant.root ∙ ap (λ xs. node c.self.inside.level xs c.carries.digit c.carries.rest) c.with-pushed.ensures))
+    (c.carries.invariant.root ∙ ap (λ xs. node s.level xs c.carries.digit c.carries.rest) c.with-pushed.ensures))

@@ -15,7 +15,8 @@ subtree-requires-clause-wide c =
 
 pub subtree-requires-clause-low : goal.subtree-requires-clause-low
 subtree-requires-clause-low c =
-    omega (arith, c.self.invariant.low, ap (λ v. v.level) c.self.view_is, c.height_of.ensures, height_least c.self.inside.count (36 - c.self.inside.level) c.self.invariant.small)
+    let least = height_least c.self.inside.count (36 - c.self.inside.level) c.self.invariant.small in
+    omega (arith, c.self.invariant.low, ap (λ v. v.level) c.self.view_is, c.height_of.ensures, least)
 
 pub returns : goal.returns
 unfolding padded_root

@@ -1,5 +1,6 @@
 -- the climb, from the lowest digit that is 1
-use Rattle.std.proofs.Common.{◌≡◌, ℕ, ◌-◌, ◌*◌, ◌%◌, ◌^◌, ◌<◌, ◌≤◌, [], length, get_or, arith, ap, ◌∙◌, add-one, mul-le-mul_right}
+use Rattle.std.proofs.Common.{◌≡◌, ℕ, ◌-◌, ◌*◌, ◌%◌, ◌^◌, ◌<◌, ◌≤◌, [], length}
+use Rattle.std.proofs.Common.{get_or, arith, ap, ◌∙◌, add-one, mul-le-mul_right}
 use Rattle.std.proofs.lemmas.List.{get_or_default}
 use Rattle.tor_merkle.specs.Stack.{padded_subtree}
 use Rattle.tor_merkle.specs.Subtree.{node_of, zero_leaf}
@@ -15,22 +16,22 @@ lowest_within count odd place most e one le =
 
 pub bounds-self-inside-lowest : goal.bounds-self-inside-lowest
 bounds-self-inside-lowest c =
+    let lowest = c.lowest_one-lowest.ensures in
     let low =
-    lowest_within c.self.inside.count _ _
-    (36 - c.self.inside.level) c.lowest_one-lowest.ensures.whole c.lowest_one-lowest.ensures.odd c.self.invariant.small in
+    lowest_within c.self.inside.count _ _ (36 - c.self.inside.level) lowest.whole lowest.odd c.self.invariant.small in
     omega arith
 
 pub climb-init : goal.climb-init
 climb-init c =
-    let low =
-    lowest_within c.self.inside.count _ _
-    (36 - c.self.inside.level) c.lowest_one-lowest.ensures.whole c.lowest_one-lowest.ensures.odd c.self.invariant.small in
-    let kept : get_or c.self.inside.tops c.lowest_one-lowest.result.0 [] ≡ get_or c.self.inside.tops c.lowest_one-lowest.result.0 zero_leaf =
-    get_or_default c.self.inside.tops c.lowest_one-lowest.result.0 [] zero_leaf
-    (omega (arith, c.self.invariant.levels)) in
+    let s = c.self.inside in
+    let place = c.lowest_one-lowest.result.0 in
+    let lowest = c.lowest_one-lowest.ensures in
+    let low = lowest_within s.count _ _ (36 - s.level) lowest.whole lowest.odd c.self.invariant.small in
+    let kept : get_or s.tops place [] ≡ get_or s.tops place zero_leaf =
+    get_or_default s.tops place [] zero_leaf (omega (arith, c.self.invariant.levels)) in
     rw kept
-    (last_whole c.self.inside.level c.self.inside.count c.self.inside.tops c.self.inside.pushed.items c.self.invariant c.lowest_one-lowest.result.0 c.lowest_one-lowest.result.1
-    c.lowest_one-lowest.ensures.whole c.lowest_one-lowest.ensures.odd)
+    (last_whole s.level s.count s.tops s.pushed.items c.self.invariant
+    place c.lowest_one-lowest.result.1 lowest.whole lowest.odd)
 
 pub climb-preserved : goal.climb-preserved
 climb-preserved c =
@@ -43,21 +44,27 @@ climb-preserved c =
     let within : c.climb.digit < length tops = omega (arith, c.requires.low, c.self.invariant.levels) in
     elim c.if-place-eq1.branch [
       | then-place-eq1 w ↦
-          rw (w.top-is ∙ w.pair-top.ensures ∙ ap (λ x. node_of x c.climb.top) (get_or_default tops c.climb.digit [] zero_leaf within), add-one)
-          (last_right level count tops hashes c.self.invariant c.climb.digit c.climb.place c.climb.top c.climb.invariant w.if-place-eq1.true)
+          let kept = get_or_default tops c.climb.digit [] zero_leaf within in
+          rw (w.top-is ∙ w.pair-top.ensures ∙ ap (λ x. node_of x c.climb.top) kept, add-one)
+          (last_right level count tops hashes c.self.invariant
+          c.climb.digit c.climb.place c.climb.top c.climb.invariant w.if-place-eq1.true)
       | else-place-eq1 w ↦
           rw (w.top-is ∙ w.pair-top-else-place-eq1.ensures ∙ ap (node_of c.climb.top) w.zero.ensures, add-one)
-          (last_left level count tops hashes c.self.invariant c.climb.digit c.climb.place c.climb.top c.climb.invariant
+          (last_left level count tops hashes c.self.invariant
+          c.climb.digit c.climb.place c.climb.top c.climb.invariant
           (let even : c.climb.place % 2 ≡ 0 = omega (arith, w.if-place-eq1.false) in even))
     ]
 
 pub returns : goal.returns
 returns c =
     let count = c.self.invariant.counted ∙ ap (λ v. length v.hashes) c.self.view_is in
+    let s = c.self.inside in
+    let lowest = c.lowest_one-lowest.ensures in
     let low =
-    lowest_within c.self.inside.count _ _ c.args.height c.lowest_one-lowest.ensures.whole c.lowest_one-lowest.ensures.odd (omega (arith, count, c.requires.wide)) in
+    lowest_within s.count _ _ c.args.height lowest.whole lowest.odd (omega (arith, count, c.requires.wide)) in
     let end : c.climb.digit ≡ c.args.height = omega arith in
-    last_root c.self.inside.level c.self.inside.count c.self.inside.tops c.self.inside.pushed.items c.self.invariant c.climb.digit c.climb.place c.climb.top c.climb.invariant
+    last_root s.level s.count s.tops s.pushed.items c.self.invariant
+    c.climb.digit c.climb.place c.climb.top c.climb.invariant
     (rw end (omega (arith, count, c.requires.wide)))
-    ∙ ap (λ k. padded_subtree k c.self.inside.level c.self.inside.pushed.items) end
+    ∙ ap (λ k. padded_subtree k s.level s.pushed.items) end
     ∙ ap (λ v. padded_subtree c.args.height v.level v.hashes) c.self.view_is

@@ -12,7 +12,8 @@ use contract.Monad.{Fun}
 use contract.Running.{tables, tables_of}
 use sound.WpLaws.{WpFn-mono}
 use types.Logic.{Logic}
-use types.Kit.{‵, raw, ◌⊛◌, prop, ◌$◌, ◌∵◌, !, qed, move, keep, drop, split, fsplit, fjoin, feq_l, regoal, suffices, done}
+use types.Kit.{‵, raw, ◌⊛◌, prop, ◌$◌, ◌∵◌, !, qed, move, keep, drop}
+use types.Kit.{split, fsplit, fjoin, feq_l, regoal, suffices, done}
 use types.Part.{agg}
 use types.Run.{enter, returns, and_then, no_more}
 use types.ByLocal.{alloc_all, pass_all, free_all, look_at, get, sets}
@@ -64,7 +65,8 @@ module _ (T : RattleType) where
       abbrev toks : SProp 𝓤
       toks = alive 𝓛 ended.signature z.0.0 z.0.1
 
-      walks : ent 𝓤 ((walk_of 𝓛 ended stayed held).pre z) (WpFn 𝓤 H C Λ function ((walk_of 𝓛 ended stayed held).args z) Post)
+      walks : ent 𝓤 ((walk_of 𝓛 ended stayed held).pre z)
+          (WpFn 𝓤 H C Λ function ((walk_of 𝓛 ended stayed held).args z) Post)
       walks =
           let a = z.0.3 in
           let vss = z.0.4 in
@@ -72,7 +74,8 @@ module _ (T : RattleType) where
           let v : Val = vptr a.1.0.ref_ptr.0 a.1.0.ref_ptr.1 in
           let made : (History.the_row (param 0 T)).Denot =
           record { of = record {}; items = a.0.now.items ++ a.1.0.now.items.now } in
-          qed 𝓛 ((raw toks ⊛ ‵ (owns (types_at ended.signature.params z.0.0) a vss)) ∷ raw ((held z.0.0 a).requires z.1) ∷ []) ∵
+          qed 𝓛 ((raw toks ⊛ ‵ (owns (types_at ended.signature.params z.0.0) a vss))
+          ∷ raw ((held z.0.0 a).requires z.1) ∷ []) ∵
           keep ! (0 ∷ []) $ split ! $ move ! (1 ∷ []) $
           fsplit ! $ fsplit ! $ feq_l ! (λ is₀. drop ! $ fsplit ! $ fsplit ! $ feq_l ! (λ is₁. drop ! $ drop ! $
           regoal ! (λ (us : List Val). prop (WpFn 𝓤 H C Λ function (us ++ (vss.1.0 ++ [])) Post)) is₀ refl $
@@ -93,7 +96,12 @@ module _ (T : RattleType) where
         walk_Meets 𝓛 ended stayed (
           Goes-dropped 𝓛 4 (RefOf (0 ∷ []) tt (plain (λ _. History.the_row (F.T-row T))) (λ _. tt)) yes
               (λ κs x f. refl),
-          (Goes-dropped 𝓛 4 (RefOf (1 ∷ []) tt (plain (λ κs. Run.the_row (named_lft 4 2 tt κs) (F.T-row T))) (λ _. tt)) yes (λ κs x f. refl), tt),
+          (
+            Goes-dropped 𝓛 4
+                (RefOf (1 ∷ []) tt (plain (λ κs. Run.the_row (named_lft 4 2 tt κs) (F.T-row T))) (λ _. tt))
+                yes (λ κs x f. refl),
+            tt,
+          ),
         ) held
         (WpFn 𝓤 H 𝓣.C 𝓣.Λ function) (WpFn-mono 𝓤 H 𝓛.laws 𝓣 function) (walks 𝓣.C 𝓣.Λ)
 

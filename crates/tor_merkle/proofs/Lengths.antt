@@ -1,0 +1,37 @@
+-- A piece has 16,384 * 2 ^ k bytes, and one hash covers it at level k.
+use Rattle.std.proofs.Common.{◌≡◌, ◌*◌, ◌/◌, ◌^◌, ◌≤◌, ◌↔◌, ℕ, Bool, true, ◌&&◌, leb}
+use Rattle.std.proofs.Common.{IsTrue, arith, refl, ap, ◌∙◌, eqb-true, leb-true}
+use Rattle.std.proofs.Math.Nat.{mul-div_cancel_left}
+use Rattle.std.proofs.lemmas.Bool.{and_parts, le-leb}
+use Rattle.std.specs.Int.{is_power_of_two}
+use Rattle.tor_merkle.specs.Layer.{IsPieceLength, piece_level}
+use Rattle.tor_merkle.specs.Subtree.{height}
+use Rattle.tor_merkle.specs.declared.TheConstants.{MAX_PIECE_LENGTH, MIN_PIECE_LENGTH}
+use Rattle.tor_merkle.proofs.Height.{height-pow, height_least}
+use Rattle.tor_merkle.proofs.Power.{power_split}
+
+-- a test of three parts, the last two of which are orders
+three_parts : (a : Bool) (low n high : ℕ)
+    → ((a && (leb low n && leb n high)) ≡ true) ↔ ((a ≡ true) × (low ≤ n) × (n ≤ high))
+three_parts a low n high = (
+  λ h.
+      let outer = and_parts a (leb low n && leb n high) h in
+      let inner = and_parts (leb low n) (leb n high) outer.1 in
+      (outer.0, leb-true _ _ inner.0, leb-true _ _ inner.1),
+  λ h. let from = le-leb low n h.1 in let to = le-leb n high h.2 in rw (h.0, from, to) refl,
+)
+
+pub length_bounds : (n : ℕ)
+    → IsPieceLength n ↔ (IsTrue (is_power_of_two n) × (MIN_PIECE_LENGTH ≤ n) × (n ≤ MAX_PIECE_LENGTH))
+length_bounds n = three_parts (is_power_of_two n) MIN_PIECE_LENGTH n MAX_PIECE_LENGTH
+
+pub length_split : (n : ℕ) → IsPieceLength n → (k : ℕ) × (n ≡ 16384 * 2 ^ k)
+length_split n allowed =
+    let bounds = (length_bounds n).0 allowed in
+    power_split n 14 (eqb-true _ _ bounds.0) bounds.1
+
+pub level_is : (n k : ℕ) → n ≡ 16384 * 2 ^ k → piece_level n ≡ k
+level_is n k e = ap (λ x. height (x / 16384)) e ∙ ap height (mul-div_cancel_left (2 ^ k) (omega arith)) ∙ height-pow k
+
+pub level_low : (n : ℕ) → IsPieceLength n → piece_level n ≤ 16
+level_low n allowed = height_least (n / 16384) 16 (omega (arith, ((length_bounds n).0 allowed).2))
