@@ -1,20 +1,18 @@
 -- The files of a list, with contents of their lengths, and the facts that those tell.
-use Rattle.std.proofs.Common.{◌≡◌, ℕ, zero, suc, ◌<◌, ◌≤◌, Bor, Vec, Global, true, false, Bool, List, [], ◌∷◌, length}
-use Rattle.std.proofs.Common.{get_or, map, Option, None, Some, refl, sym, ap, ◌∙◌, arith}
-use Rattle.std.specs.List.{All, AllByRecursion, AllZip, zip}
-use Rattle.std.proofs.lemmas.List.{get_or-map, length-map}
+use Rattle.std.proofs.Common.{◌≡◌, ℕ, ◌≤◌, Bor, true, false, Bool, List, [], ◌∷◌, length}
+use Rattle.std.proofs.Common.{map, refl, sym, ap, ◌∙◌, arith}
+use Rattle.std.specs.List.{All, AllByRecursion, AllZip}
+use Rattle.std.proofs.lemmas.List.{length-map}
 use Rattle.std.proofs.lemmas.List.Elements.{All-from_recursion, recursion_from_All}
-use Rattle.tor_bencode.specs.Data.{Data}
 use Rattle.tor_merkle.specs.Layer.{piece_layer}
 use Rattle.tor_meta.specs.Contents.{bytes_of, files_of}
 use Rattle.tor_meta.specs.Head.{settings_of}
-use Rattle.tor_meta.specs.Layers.{lists_of}
 use Rattle.tor_meta.specs.Sums.{AreFactsOf, HaveTrees, SumUp}
 use Rattle.tor_meta.specs.declared.head.Head.{Head}
 use Rattle.tor_meta.specs.declared.sums.Sums.{Sums}
-use Rattle.tor_spec.specs.Facts.{Facts, File, facts_of, listed, layers_in, root_of, roots_in}
+use Rattle.tor_spec.specs.Facts.{Facts, File, listed, layers_in, root_of, roots_in}
 use Rattle.tor_spec.specs.Metainfo.{facts_of_files, pieces_of_files, root_dictionary}
-use Rattle.tor_spec.specs.Settings.{Settings, has_v1, has_v2}
+use Rattle.tor_spec.specs.Settings.{Settings, has_v1}
 use Rattle.tor_tree.specs.FileList.{lengths_of}
 use Rattle.tor_tree.specs.TidyTree.{HasItsRoot}
 

@@ -1,7 +1,7 @@
 -- What is known of files where no torrent is refused for the head or the paths.
-use Rattle.std.proofs.Common.{◌≡◌, ℕ, zero, suc, ◌≤◌, Bool, true, false, ◌&&◌, ◌||◌, not, cond, List, [], ◌∷◌, length}
-use Rattle.std.proofs.Common.{get_or, map, nat_lt, Option, None, Some, refl, sym, ap, ◌∙◌, arith}
-use Rattle.std.specs.List.{All, AllByRecursion, list_any}
+use Rattle.std.proofs.Common.{◌≡◌, ℕ, zero, suc, Bool, true, false, ◌&&◌, not, cond, List, [], ◌∷◌, length}
+use Rattle.std.proofs.Common.{get_or, map, Option, None, Some, refl, ◌∙◌}
+use Rattle.std.specs.List.{AllByRecursion, list_any}
 use Rattle.std.specs.Option.{option_or}
 use Rattle.std.proofs.lemmas.Bool.{ltb-false, or_parts}
 use Rattle.std.proofs.lemmas.List.{length-map}
@@ -12,8 +12,7 @@ use Rattle.tor_meta.specs.Refusal.{is_long, is_only, paths_refusal, shape_refusa
 use Rattle.tor_meta.specs.Sums.{IsJudged}
 use Rattle.tor_meta.specs.declared.head.Head.{Head}
 use Rattle.tor_meta.specs.declared.judge.TheConstants.{MAX_NAMES}
-use Rattle.tor_meta.specs.declared.refusals.ContentsError.{ContentsError}
-use Rattle.tor_spec.specs.Settings.{is_aligned, layout_of}
+use Rattle.tor_spec.specs.Settings.{is_aligned}
 use Rattle.tor_tree.specs.FileList.{IsFileList}
 use Rattle.tor_tree.specs.PathList.{ArePlacedPaths}
 use Rattle.tor_v1.specs.Reserved.{is_reserved, takes_reserved}

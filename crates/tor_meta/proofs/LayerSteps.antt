@@ -1,8 +1,8 @@
 -- One more layer of a torrent's piece layers.
-use Rattle.std.proofs.Common.{◌≡◌, ℕ, zero, suc, ◌+◌, ◌-◌, ◌<◌, ◌≤◌, Bool, true, false, Vec, Global, List, [], ◌∷◌}
-use Rattle.std.proofs.Common.{length, get_or, drop, map, Option, None, Some, Ordering, Less, Equal, Greater, refl, sym}
+use Rattle.std.proofs.Common.{◌≡◌, ℕ, zero, suc, ◌+◌, ◌-◌, ◌<◌, ◌≤◌, true, false, Vec, Global, List, [], ◌∷◌}
+use Rattle.std.proofs.Common.{length, get_or, drop, Option, None, Some, Ordering, Less, Equal, Greater, refl, sym}
 use Rattle.std.proofs.Common.{ap, ◌∙◌, arith}
-use Rattle.std.specs.Prelude.{nat_le, unwrap_or, if◌then◌else◌}
+use Rattle.std.specs.Prelude.{nat_le}
 use Rattle.std.specs.BTreeMap.{insert_entry}
 use Rattle.std.specs.List.{AllZip}
 use Rattle.std.specs.Ordering.{match_ordering, nat_cmp}
@@ -10,12 +10,11 @@ use Rattle.std.specs.Cmp.Lexicographic.{slice_cmp}
 use Rattle.std.proofs.lemmas.Bool.{le-leb, lt-leb}
 use Rattle.std.proofs.lemmas.List.{drop_more, get_or-map, length-map}
 use Rattle.std.proofs.lemmas.Map.Lookups.{exact_bytes}
-use Rattle.tor_bencode.specs.Data.{Data, string, Pairs, pair}
+use Rattle.tor_bencode.specs.Data.{string, pair}
 use Rattle.tor_meta.specs.Layers.{lists_of, pairs_of_map}
 use Rattle.tor_spec.specs.Dictionary.{put}
 use Rattle.tor_spec.specs.Facts.{Facts, listed, layers_in, roots_in}
 use Rattle.tor_spec.specs.PieceLayers.{joined, piece_layers}
-use Rattle.tor_tree.specs.TidyTree.{HasItsRoot}
 
 -- what a map becomes by one more entry is what its pairs become
 pub insert_put : (entries : List (List ℕ × Vec ℕ Global)) (key : List ℕ) (value : Vec ℕ Global)

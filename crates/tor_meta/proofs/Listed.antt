@@ -1,12 +1,12 @@
 -- What is known of the files of a list, and the facts that sums tell of them.
-use Rattle.std.proofs.Common.{◌≡◌, ℕ, zero, suc, ◌+◌, ◌<◌, ◌≤◌, ◌^◌, Bool, true, false, cond, Vec, Global, List, []}
-use Rattle.std.proofs.Common.{◌∷◌, length, map, nat_lt, Option, None, Some, sum_by, refl, sym, ap, subst, ◌∙◌, arith}
+use Rattle.std.proofs.Common.{◌≡◌, ℕ, ◌+◌, ◌<◌, ◌≤◌, ◌^◌, Bool, true, false, cond, List, []}
+use Rattle.std.proofs.Common.{◌∷◌, length, map, nat_lt, Option, None, Some, sum_by, refl, sym, ap, ◌∙◌, arith}
 use Rattle.std.specs.Int.{next_multiple_of}
-use Rattle.std.specs.List.{All, AllByRecursion, AllZip, list_any}
+use Rattle.std.specs.List.{All, AllByRecursion, list_any}
 use Rattle.std.specs.Option.{option_or}
 use Rattle.std.proofs.lemmas.Bool.{ltb-false, or_parts}
 use Rattle.std.proofs.lemmas.List.{length-map}
-use Rattle.std.proofs.lemmas.List.Elements.{All-from_recursion, recursion_from_All}
+use Rattle.std.proofs.lemmas.List.Elements.{All-from_recursion}
 use Rattle.std.proofs.lemmas.List.Sums.{sum_by-cons}
 use Rattle.std.proofs.lemmas.Slice.Zip.{AllZip-long}
 use Rattle.tor_meta.specs.Head.{settings_of}
@@ -18,7 +18,7 @@ use Rattle.tor_spec.specs.Facts.{Facts, facts_from, listed, layers_in, roots_in}
 use Rattle.tor_spec.specs.InfoDictionary.{total_size}
 use Rattle.tor_spec.specs.Makeable.{AreMakeable}
 use Rattle.tor_spec.specs.Settings.{has_v2}
-use Rattle.tor_tree.specs.FileList.{IsFileList, lengths_fault, lengths_of, lengths_too_large, list_fault, paths_fault}
+use Rattle.tor_tree.specs.FileList.{IsFileList, lengths_fault, lengths_of, lengths_too_large, paths_fault}
 use Rattle.tor_tree.specs.FileList.{paths_of}
 use Rattle.tor_tree.specs.Path.{HasNames}
 use Rattle.tor_tree.specs.TidyTree.{HasItsRoot}

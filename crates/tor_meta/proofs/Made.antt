@@ -1,7 +1,6 @@
 -- What a maker answers, of the files that were handed in.
 use Rattle.std.proofs.Common.{◌≡◌, ◌∙◌, ◌⊎◌, inl, inr, ℕ, Vec, Global, Bool, true, false, All, cond, List as ListOf, []}
-use Rattle.std.proofs.Common.{◌∷◌, length, get_or, map, option_map, Option, None, Some, refl, sym, ap, ◌<◌, arith}
-use Rattle.std.specs.List.Sorted.{IsStrictlySortedBy}
+use Rattle.std.proofs.Common.{length, get_or, map, option_map, None, Some, refl, sym, ap, ◌<◌}
 use Rattle.std.proofs.lemmas.List.{length-map}
 use Rattle.std.specs.Option.{option_or}
 use Rattle.tor_meta.specs.Contents.{contents_at, files_in, files_of, IsMadeOf}
@@ -15,7 +14,6 @@ use Rattle.tor_meta.specs.declared.refusals.ContentsError.TheVariants.{List, Mem
 use Rattle.tor_spec.specs.Metainfo.{metainfo}
 use Rattle.tor_spec.specs.Settings.{Settings}
 use Rattle.tor_tree.specs.FileList.{IsFileList, lengths_fault, lengths_of, lengths_too_large}
-use Rattle.tor_tree.specs.Path.{path_cmp}
 use Rattle.tor_tree.specs.PathList.{ArePlacedPaths, IsPathList, places_of}
 use Rattle.tor_tree.specs.declared.lists.ListError.{ListError}
 use Rattle.tor_tree.specs.declared.lists.ListError.TheVariants as faults

@@ -1,11 +1,11 @@
 -- One file that lies at the top, and its content.
-use Rattle.std.proofs.Common.{◌≡◌, ℕ, zero, suc, ◌<◌, Bool, true, false, ◌&&◌, cond, List, [], ◌∷◌, ◌++◌, length}
-use Rattle.std.proofs.Common.{get_or, map, nat_lt, refl, sym, ap, ◌∙◌, arith}
+use Rattle.std.proofs.Common.{◌≡◌, ℕ, zero, suc, ◌<◌, Bool, true, false, ◌&&◌, cond, List, [], ◌∷◌, length}
+use Rattle.std.proofs.Common.{get_or, nat_lt, refl, sym, ap, ◌∙◌, arith}
 use Rattle.std.specs.List.{All}
 use Rattle.std.specs.List.Sorted.{IsPermutation}
 use Rattle.std.proofs.lemmas.List.{append-nil}
 use Rattle.std.proofs.lemmas.List.Sorted.{All-permutation, length_permutation}
-use Rattle.tor_meta.specs.Fed.{HasFed, SumsOfOne}
+use Rattle.tor_meta.specs.Fed.{SumsOfOne}
 use Rattle.tor_meta.specs.Head.{settings_of}
 use Rattle.tor_meta.specs.Sums.{SumUp}
 use Rattle.tor_meta.specs.declared.head.Head.{Head}
@@ -15,7 +15,6 @@ use Rattle.tor_v1.specs.Content.{joined_content, v1_pieces}
 use Rattle.tor_v1.specs.Entries.{aligned_entries, file_entry, has_bytes, pad_entry, padding_after, padding_length}
 use Rattle.tor_v1.specs.Entries.{v1_entries}
 use Rattle.tor_v1.specs.Piece.{piece_sums}
-use Rattle.tor_v1.specs.declared.entry.Entry.{Entry}
 use Rattle.tor_v1.specs.declared.layout.Layout.{Layout}
 use Rattle.tor_v1.specs.declared.layout.Layout.TheVariants.{Joined, Aligned}
 

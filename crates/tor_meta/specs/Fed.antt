@@ -1,7 +1,6 @@
 -- A content that is fed in parts.
-use Rattle.std.specs.Prelude.{◌≡◌, ℕ, true, List, [], ◌∷◌, ◌++◌, length, Option, Some, IsSomeAnd}
+use Rattle.std.specs.Prelude.{◌≡◌, ℕ, true, List, [], ◌∷◌, ◌++◌, length, Some, IsSomeAnd}
 use Rattle.tor_meta.specs.declared.fed.FedSums.{FedSums}
-use Rattle.tor_merkle.specs.Feeding.{Feeding}
 use Rattle.tor_merkle.specs.Layer.{piece_layer}
 use Rattle.tor_meta.specs.Layers.{lists_of}
 use Rattle.tor_meta.specs.declared.sums.Sums.{Sums}

@@ -1,5 +1,5 @@
 -- The program's own settings, and the command `make`.
-use Rattle.std.proofs.Common.{rules, refl, ap, ap₂, codes, not, Bool, true, false, ◌≡◌, ◌∙◌}
+use Rattle.std.proofs.Common.{refl, ap, ap₂, codes, not, Bool, true, false, ◌≡◌, ◌∙◌}
 use Rattle.std.proofs.lemmas.Bool.{and_parts}
 use Rattle.std.proofs.lemmas.Result.{IfOk-weaker}
 use Rattle.clap.specs.Simple.{app_of_fields, on_top}

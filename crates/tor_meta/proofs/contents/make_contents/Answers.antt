@@ -1,8 +1,7 @@
 -- The files in the order of their paths, with their contents, are those that were handed in.
-use Rattle.std.proofs.Common.{◌∙◌, ◌≡◌, ap, refl, length, map}
+use Rattle.std.proofs.Common.{◌∙◌, ap, refl}
 use Rattle.tor_meta.specs.Contents.{bytes_of}
 use Rattle.tor_meta.specs.Head.{settings_of}
-use Rattle.tor_meta.proofs.Judged.{judged}
 use Rattle.tor_meta.proofs.Made.{accepted_all, contents_listed, judged_list, lengths_in, made_of, refused_lengths}
 use Rattle.tor_meta.proofs.Made.{refused_paths, within}
 use Rattle.tor_meta.proofs.contents.make_contents.Goals as goal

@@ -1,8 +1,8 @@
-use Rattle.std.proofs.Common.{rules, ◌≡◌, refl, List, Some, IfOk, IsSome, codes, ℕ, length, [], ◌∷◌, ◌++◌}
+use Rattle.std.proofs.Common.{refl, codes, ◌++◌}
 use Rattle.std.proofs.lemmas.List.{append_assoc}
 use Rattle.hex.specs.Hex.{encode_lower}
 use Rattle.std.specs.String.{string_bytes}
-use Rattle.tor_meta.specs.Hashes.{btih, topics}
+use Rattle.tor_meta.specs.Hashes.{btih}
 use Rattle.tor_meta.proofs.hashes.push_topics.Goals as goal
 
 pub returns-in_ok-push_topic-in-Some-Some-2 : goal.returns-in_ok-push_topic-in-Some-Some-2

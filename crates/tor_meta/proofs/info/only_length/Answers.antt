@@ -1,7 +1,5 @@
 use Rattle.std.proofs.Common.{◌≡◌, ℕ, List, [], ◌∷◌, length, get_or, ◌∙◌, ◌<◌, ◌≤◌, ap, sym, refl, arith}
-use Rattle.std.specs.Prelude.{pos, Some}
-use Rattle.tor_bencode.specs.Data.{integer}
-use Rattle.tor_spec.specs.Facts.{Facts, listed}
+use Rattle.std.specs.Prelude.{Some}
 use Rattle.tor_spec.specs.InfoDictionary.{total_size}
 use Rattle.tor_meta.proofs.Listed.{one_size}
 use Rattle.tor_meta.proofs.info.only_length.Goals as goal

@@ -1,5 +1,5 @@
 -- One more entry of the content.
-use Rattle.std.proofs.Common.{◌∙◌, ◌++◌, ap, sym, refl, arith, drop, get_or}
+use Rattle.std.proofs.Common.{◌∙◌, ◌++◌, ap}
 use Rattle.std.specs.Slice.Iter.{iter_rest}
 use Rattle.tor_meta.specs.Contents.{bytes_of}
 use Rattle.tor_v1.specs.Content.{joined_content, v1_pieces}

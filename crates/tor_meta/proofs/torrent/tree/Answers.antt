@@ -1,6 +1,4 @@
 -- The root dictionary is a lawful tree, which has `info`.
-use Rattle.std.proofs.Common.{◌≡◌, ◌∙◌, sym, ap}
-use Rattle.tor_spec.specs.Makeable.{AreMakeable}
 use Rattle.tor_meta.specs.Head.{settings_of}
 use Rattle.tor_meta.proofs.InfoThere.{info_there}
 use Rattle.tor_meta.proofs.Listed.{facts_there, makeable}
