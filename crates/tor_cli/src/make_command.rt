@@ -4,6 +4,7 @@ ghost use Rattle.clap.specs.declared.builder.value_parser.ValueParser.{ValuePars
 ghost use Rattle.std.specs.Prelude.{◌≡◌, ◌⊎◌, IfErr, IfOk, IfSome, OnOk, None, Some, false};
 ghost use Rattle.tor_meta.specs.Head.{settings_of};
 ghost use Rattle.tor_tree.specs.Name.{name_fault};
+ghost use Rattle.tor_tree.specs.declared.kinds.Kind.{Kind};
 ghost use Rattle.tor_tree.specs.declared.names.NameError.TheVariants.{Memory};
 ghost use Rattle.tor_cli.specs.Request.{DoesMake, StopsMake, settings_of_options};
 ghost use Rattle.tor_cli.specs.Words.{AreOptionsIn, word_of};
@@ -119,7 +120,8 @@ pub fn make_options<'a>(matches: &ArgMatches<'a>) -> Option<MakeOptions<'a>>
 }
 
 fn kind_of(word: &str) -> Option<Kind>
-    ensures { IfSome result (λ kind. word_of kind ≡ word.now) }
+    ensures value { IfSome result (λ kind. word_of kind ≡ word.now) }
+    ensures each { (kind : Kind) → word.now ≡ word_of kind → result ≡ Some kind }
 {
     match word {
         "v1" => Some(Kind::V1),

@@ -1,14 +1,13 @@
 -- Each option adds its rule.
-use Rattle.std.proofs.Common.{ap, ap₂, codes, ◌≡◌, ◌∙◌}
+use Rattle.std.proofs.Common.{ap, ap₂, ◌∙◌}
 use Rattle.std.proofs.lemmas.Result.{IfOk-weaker}
 use Rattle.clap.specs.Simple.{app_of_fields}
-use Rattle.clap.specs.Words.{app_of, new_app, with_rule}
+use Rattle.clap.specs.Words.{with_rule}
 use Rattle.tor_cli.proofs.make_command.make_command.Goals as goal
 
 pub returns : goal.returns
 returns c =
-    let begun : app_of c.about.result ≡ new_app (codes "make") =
-    ap app_of_fields c.about.ensures ∙ c.new.ensures.app in
+    let begun = ap app_of_fields c.about.ensures ∙ c.new.ensures.app in
     let named = c.in_ok-arg.ensures.shape c.name_option.ensures.local ∙ ap₂ with_rule begun c.name_option.ensures.rule in
     let cut =
     c.in_ok-arg-2.ensures.shape c.piece_length_option.ensures.local

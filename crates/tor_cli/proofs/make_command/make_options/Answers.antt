@@ -17,7 +17,7 @@ returns c =
     record {
       kind =
           found_text found (codes "kind") c.get_str.result c.in_ok-get_str.field-0 c.get_str.ensures (search rules)
-          ∙ ap Some (sym c.in_ok-kind_of.ensures);
+          ∙ ap Some (sym c.in_ok-kind_of.ensures.value);
       name =
           found_text found (codes "name") c.get_str-2.result c.in_ok-get_str-2.field-0 c.get_str-2.ensures
           (search rules);
