@@ -1,16 +1,22 @@
 //! What the scripts of `bench/` time.
 //!
-//! Over standard input: `feed CUT` hashes it by the streamed tree, in pieces of 256 KiB, `plain CUT` by one SHA-256
-//! over all, each in reads of CUT bytes; `decode 1` reads it as bencode. `paths COUNT` makes so many paths, `list COUNT`
-//! a list of them too, and `lists COUNT` writes its tree and reads that back; `scan FOLDER` lists a folder.
-//! `decode`, `lists` and `scan` print microseconds.
+//! Over standard input: `feed CUT` hashes it by the streamed tree, in pieces of 256 KiB, and `sha1 CUT`, `sha256 CUT`
+//! and `both CUT` by those hashes over all, each in reads of CUT bytes; `decode 1` reads it as bencode. `paths COUNT`
+//! makes so many paths, `list COUNT` a list of them too, and `lists COUNT` writes its tree and reads that back;
+//! `padded COUNT` makes a hybrid of so many small files; `scan FOLDER` lists a folder.
+//! `decode`, `lists`, `padded` and `scan` print microseconds.
 #![tactic(auto)]
 
 ghost use Rattle.std.specs.Prelude.{◌≡◌, IfOk, vec_len};
 
 mod lists;
+mod padded;
+mod plain;
 
 use crate::lists::{list, lists, paths};
+use crate::padded::padded;
+use crate::plain::{Hashers, plain};
+use sha1::Sha1;
 use sha2::{Digest, Sha256};
 use std::alloc::{AllocError, Global};
 use std::env;
@@ -34,7 +40,11 @@ fn main(rt: HostRuntime) -> Result<()> {
     };
     let number = word.parse::<usize>().unwrap_or(MAX_CUT);
     match mode.as_str() {
-        "plain" => plain(&mut rt.stdin(), &mut zeros(alloc, number.min(MAX_CUT))?),
+        "sha1" | "sha256" | "both" => plain(
+            &mut rt.stdin(),
+            &mut zeros(alloc, number.min(MAX_CUT))?,
+            hashers(mode),
+        ),
         "feed" => streamed(
             alloc,
             &mut rt.stdin(),
@@ -43,8 +53,16 @@ fn main(rt: HostRuntime) -> Result<()> {
         "paths" => paths(&rt, number),
         "list" => list(&rt, number),
         "lists" => lists(&rt, number),
+        "padded" => padded(&rt, number),
         "scan" => scanned(&rt, word),
         _ => decoded(&rt),
+    }
+}
+
+fn hashers(mode: &str) -> Hashers {
+    Hashers {
+        sha1: (mode != "sha256").then(|| Sha1::new()),
+        sha256: (mode != "sha1").then(|| Sha256::new()),
     }
 }
 
@@ -71,19 +89,6 @@ fn zeros(alloc: Global, length: usize) -> std::result::Result<Vec<u8>, AllocErro
     ensures { IfOk result (λ bytes. vec_len bytes ≡ length) }
 {
     vec![in alloc; 0; length]
-}
-
-fn plain<R: Read>(reader: &mut R, buffer: &mut [u8]) -> Result<()> {
-    let mut hasher = Sha256::new();
-    for _ in 0..u64::MAX {
-        let count = reader.read(buffer)?;
-        if count == 0 {
-            break;
-        }
-        hasher.update(&buffer[..count]);
-    }
-    let _digest: [u8; 32] = hasher.finalize();
-    Ok(())
 }
 
 fn streamed<R: Read>(alloc: Global, reader: &mut R, buffer: &mut [u8]) -> Result<()> {

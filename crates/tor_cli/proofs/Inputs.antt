@@ -16,5 +16,9 @@ ends_after limit left Memory before bytes within h = simp length-append (omega (
 pub fault_after : (old mid new : Option (List ℕ)) (limit left : ℕ) (fault : InputFault) (before : List ℕ)
     → length before + left ≡ limit → Consumes old mid before → ReadsSome mid new (EndsInput left fault)
     → ReadsSome old new (EndsInput limit fault)
-fault_after old mid new limit left fault before within given (bytes, more, ends) =
-    (before ++ bytes, Consumes-trans old mid new before bytes given more, ends_after limit left fault before bytes within ends)
+fault_after old mid new limit left fault before within given (bytes, more, ends) = (
+  before ++ bytes,
+  Consumes-trans old mid new before bytes given more,
+  ends_after limit left fault before bytes
+      within ends,
+)

@@ -5,6 +5,7 @@ use Rattle.tor_spec.specs.Settings.{Settings}
 use Rattle.tor_tree.specs.Name.{name_fault}
 use Rattle.tor_cli.specs.Input.{ReadsAll, ReadsSome, EndsInput}
 use Rattle.tor_cli.specs.Make.{MakesFront, MakesWhole, refusal_of}
+use Rattle.tor_cli.specs.Words.{Asks, IsOfWords}
 use Rattle.tor_cli.specs.declared.input.TheConstants.{MAX_INPUT_LENGTH}
 use Rattle.tor_cli.specs.declared.input.InputFault.{InputFault}
 use Rattle.tor_cli.specs.declared.input.InputFault.TheVariants as inputs
@@ -76,10 +77,11 @@ Stops (Make options) s fault = StopsMake options s fault
 abbrev pub IsUntouched : Streams → Type 0
 IsUntouched s = (s.reader' ≡ s.reader) × (s.writer' ≡ s.writer)
 
--- some request was done
-abbrev pub DoesSome : Streams → Type 0
-DoesSome s = (request : Request) × Does request s
+-- what the words ask for was done
+abbrev pub DoesAsked : List (List ℕ) → Streams → Type 0
+DoesAsked words s = (request : Request) × Asks words request × Does request s
 
--- this fault is of the words, or some request was stopped at it
-abbrev pub StopsSome : Streams → Fault → Type 0
-StopsSome s fault = IsUntouched s ⊎ ((request : Request) × Stops request s fault)
+-- this fault is of the words, or what they ask for was stopped at it
+abbrev pub StopsAsked : List (List ℕ) → Streams → Fault → Type 0
+StopsAsked words s fault =
+    (IsOfWords fault × IsUntouched s) ⊎ ((request : Request) × Asks words request × Stops request s fault)

@@ -3,7 +3,6 @@ use Rattle.std.proofs.Common.{◌≡◌, ℕ, List, [], ◌++◌, sym, ap, subst
 use Rattle.std.proofs.lemmas.List.{append-nil}
 use Rattle.tor_meta.specs.Fed.{Feeds, HasFed}
 use Rattle.tor_meta.specs.declared.fed.FedSums.{FedSums}
-use Rattle.tor_tree.specs.declared.kinds.Kind.{Kind}
 
 joined : (s t u front rest : List ℕ) → t ≡ s ++ front → u ≡ t ++ rest → u ≡ s ++ (front ++ rest)
 joined s t u front rest first second = second ∙ ap (λ bytes. bytes ++ rest) first ∙ append_assoc s front rest

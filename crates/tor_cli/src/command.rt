@@ -1,4 +1,11 @@
 //! The command line: what the words ask for. Here stand help and the version; each command has a file of its own.
+ghost use Rattle.clap.specs.Walk.{texts};
+ghost use Rattle.clap.specs.Words.{app_of};
+ghost use Rattle.clap.specs.declared.builder.value_parser.ValueParser.{ValueParser};
+ghost use Rattle.std.specs.Prelude.{◌≡◌, IfErr, IfOk};
+ghost use Rattle.tor_cli.specs.CommandLine.{AreKinds, tor_app};
+ghost use Rattle.tor_cli.specs.Words.{Asks, IsFoundIn, IsOfWords};
+
 use crate::escape::escaped;
 use crate::fault::Fault;
 use crate::make_command::{MakeOptions, make_command, make_options};
@@ -15,7 +22,10 @@ pub enum Request<'a> {
 }
 
 /// Reads the words, of which the first is the program's name.
-pub fn read_words<'a>(alloc: Global, words: &'a [&'a str]) -> Result<Request<'a>, Fault> {
+pub fn read_words<'a>(alloc: Global, words: &'a [&'a str]) -> Result<Request<'a>, Fault>
+    ensures asked { IfOk result (Asks (texts words.entry.now)) }
+    ensures refused { IfErr result IsOfWords }
+{
     match tor_command(alloc)?.try_get_matches_from(words) {
         Ok(matches) => request_of(alloc, &matches),
         Err(error) if error.kind() == ErrorKind::OutOfMemory => Err(Fault::Resources),
@@ -24,7 +34,9 @@ pub fn read_words<'a>(alloc: Global, words: &'a [&'a str]) -> Result<Request<'a>
     }
 }
 
-fn tor_command<'a>(alloc: Global) -> Result<Command<'a>, AllocError> {
+fn tor_command<'a>(alloc: Global) -> Result<Command<'a>, AllocError>
+    ensures { IfOk result (λ command. (kinds : ValueParser) × AreKinds kinds × (app_of command ≡ tor_app kinds)) }
+{
     Command::new(alloc, "tor")
         .version("0.1.0")
         .about("Makes BitTorrent metainfo files")
@@ -33,7 +45,10 @@ fn tor_command<'a>(alloc: Global) -> Result<Command<'a>, AllocError> {
         .subcommand(make_command(alloc)?)
 }
 
-fn request_of<'a>(alloc: Global, matches: &ArgMatches<'a>) -> Result<Request<'a>, Fault> {
+fn request_of<'a>(alloc: Global, matches: &ArgMatches<'a>) -> Result<Request<'a>, Fault>
+    ensures asked { IfOk result (IsFoundIn matches.now) }
+    ensures refused { IfErr result IsOfWords }
+{
     let options = match matches.subcommand_matches("make") {
         Some(make) => make_options(make),
         None => None,
@@ -46,7 +61,10 @@ fn request_of<'a>(alloc: Global, matches: &ArgMatches<'a>) -> Result<Request<'a>
 
 /// What is wrong with the words, told of them as they are printed. No word that `clap` knows has a byte that is
 /// written out, so the same is wrong with the printed ones.
-fn usage_fault(alloc: Global, words: &[&str]) -> Result<Fault, Fault> {
+fn usage_fault(alloc: Global, words: &[&str]) -> Result<Fault, Fault>
+    ensures told { IfOk result IsOfWords }
+    ensures untold { IfErr result IsOfWords }
+{
     let printed = printed_words(alloc, words)?;
     let error = tor_command(alloc)?.try_get_matches_from(&printed).err();
     match error {

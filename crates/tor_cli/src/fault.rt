@@ -1,6 +1,7 @@
 //! What can stop the program: its line on standard error, and its status.
-ghost use Rattle.std.specs.Prelude.{◌≡◌};
+ghost use Rattle.std.specs.Prelude.{◌≡◌, IfOk};
 ghost use Rattle.tor_cli.specs.Status.{of_input_fault, of_name_error, of_step_fault, status_of};
+ghost use Rattle.tor_cli.specs.Words.{IsUsage};
 ghost use Rattle.tor_cli.specs.declared.fault.Fault.TheVariants.{Write, Resources};
 
 use crate::input::InputFault;
@@ -35,7 +36,9 @@ pub enum Refusal {
 
 impl Fault {
     /// A fault of usage in one line: the first paragraph of what `clap` says, and where help is.
-    pub fn usage(alloc: Global, text: &str, command: &str) -> Result<Fault, AllocError> {
+    pub fn usage(alloc: Global, text: &str, command: &str) -> Result<Fault, AllocError>
+        ensures { IfOk result (IsUsage command.now) }
+    {
         let paragraph = match text.split_once("\n\n") {
             Some((first, _)) => first,
             None => text,

@@ -1,9 +1,15 @@
 //! `tor make`: its words, its options, and its doing.
-ghost use Rattle.std.specs.Prelude.{◌≡◌, ◌⊎◌, IfErr, IfOk, OnOk, None, Some};
+ghost use Rattle.clap.specs.Words.{app_of, found_of, rows_of, rule_of};
+ghost use Rattle.clap.specs.declared.builder.value_parser.ValueParser.{ValueParser};
+ghost use Rattle.std.specs.Prelude.{◌≡◌, ◌⊎◌, IfErr, IfOk, IfSome, OnOk, None, Some, false};
 ghost use Rattle.tor_meta.specs.Head.{settings_of};
 ghost use Rattle.tor_tree.specs.Name.{name_fault};
+ghost use Rattle.tor_tree.specs.declared.kinds.Kind.{Kind};
 ghost use Rattle.tor_tree.specs.declared.names.NameError.TheVariants.{Memory};
 ghost use Rattle.tor_cli.specs.Request.{DoesMake, StopsMake, settings_of_options};
+ghost use Rattle.tor_cli.specs.Words.{AreOptionsIn, word_of};
+ghost use Rattle.tor_cli.specs.CommandLine.{AreKinds, announce_option, kind_option, make_app, name_option};
+ghost use Rattle.tor_cli.specs.CommandLine.{piece_length_option, private_option};
 
 use crate::fault::Fault;
 use crate::input::drop_input;
@@ -33,7 +39,9 @@ const DEFAULT_KIND: &str = "v2";
 const DEFAULT_PIECE_LENGTH: &str = "262144";
 
 /// The command `make`.
-pub fn make_command<'a>(alloc: Global) -> Result<Command<'a>, AllocError> {
+pub fn make_command<'a>(alloc: Global) -> Result<Command<'a>, AllocError>
+    ensures { IfOk result (λ command. (kinds : ValueParser) × AreKinds kinds × (app_of command ≡ make_app kinds)) }
+{
     Command::new(alloc, "make")
         .about("Makes a torrent of standard input and writes it to standard output")
         .arg(name_option(alloc))?
@@ -43,7 +51,10 @@ pub fn make_command<'a>(alloc: Global) -> Result<Command<'a>, AllocError> {
         .arg(private_option(alloc))
 }
 
-fn name_option<'a>(alloc: Global) -> Arg<'a> {
+fn name_option<'a>(alloc: Global) -> Arg<'a>
+    ensures rule { rule_of result ≡ name_option }
+    ensures local { result.global ≡ false }
+{
     Arg::new(alloc, "name")
         .long("name")
         .value_name("NAME")
@@ -51,7 +62,10 @@ fn name_option<'a>(alloc: Global) -> Arg<'a> {
         .help("The name that the torrent suggests for its content")
 }
 
-fn piece_length_option<'a>(alloc: Global) -> Arg<'a> {
+fn piece_length_option<'a>(alloc: Global) -> Arg<'a>
+    ensures rule { rule_of result ≡ piece_length_option }
+    ensures local { result.global ≡ false }
+{
     Arg::new(alloc, "piece-length")
         .long("piece-length")
         .value_name("N")
@@ -60,7 +74,10 @@ fn piece_length_option<'a>(alloc: Global) -> Arg<'a> {
         .help("Bytes in a piece: a power of two from 16384 to 1073741824")
 }
 
-fn kind_option<'a>(alloc: Global) -> Arg<'a> {
+fn kind_option<'a>(alloc: Global) -> Arg<'a>
+    ensures rule { (kinds : ValueParser) × AreKinds kinds × (rule_of result ≡ kind_option kinds) }
+    ensures local { result.global ≡ false }
+{
     Arg::new(alloc, "kind")
         .long("kind")
         .value_name("KIND")
@@ -69,14 +86,20 @@ fn kind_option<'a>(alloc: Global) -> Arg<'a> {
         .help("Which clients can use the torrent: of version 1, of version 2, or both")
 }
 
-fn announce_option<'a>(alloc: Global) -> Arg<'a> {
+fn announce_option<'a>(alloc: Global) -> Arg<'a>
+    ensures rule { rule_of result ≡ announce_option }
+    ensures local { result.global ≡ false }
+{
     Arg::new(alloc, "announce")
         .long("announce")
         .value_name("URL")
         .help("The URL of the tracker")
 }
 
-fn private_option<'a>(alloc: Global) -> Arg<'a> {
+fn private_option<'a>(alloc: Global) -> Arg<'a>
+    ensures rule { rule_of result ≡ private_option }
+    ensures local { result.global ≡ false }
+{
     Arg::new(alloc, "private")
         .long("private")
         .action(ArgAction::SetTrue)
@@ -84,7 +107,9 @@ fn private_option<'a>(alloc: Global) -> Arg<'a> {
 }
 
 /// The options that stand in the words; none where `clap` let through words that give no option its value.
-pub fn make_options<'a>(matches: &ArgMatches<'a>) -> Option<MakeOptions<'a>> {
+pub fn make_options<'a>(matches: &ArgMatches<'a>) -> Option<MakeOptions<'a>>
+    ensures { IfSome result (AreOptionsIn (rows_of (found_of matches.now))) }
+{
     Some(MakeOptions {
         kind: kind_of(matches.get_str("kind")?)?,
         name: matches.get_str("name")?,
@@ -94,7 +119,10 @@ pub fn make_options<'a>(matches: &ArgMatches<'a>) -> Option<MakeOptions<'a>> {
     })
 }
 
-fn kind_of(word: &str) -> Option<Kind> {
+fn kind_of(word: &str) -> Option<Kind>
+    ensures value { IfSome result (λ kind. word_of kind ≡ word.now) }
+    ensures each { (kind : Kind) → word.now ≡ word_of kind → result ≡ Some kind }
+{
     match word {
         "v1" => Some(Kind::V1),
         "v2" => Some(Kind::V2),

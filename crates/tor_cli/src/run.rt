@@ -1,6 +1,7 @@
 //! The whole program, over any reader and writers.
+ghost use Rattle.clap.specs.Walk.{texts};
 ghost use Rattle.std.specs.Prelude.{◌≡◌, ◌≢◌, ◌≤◌, IfErr, OnOk};
-ghost use Rattle.tor_cli.specs.Request.{Does, DoesSome, Stops, StopsSome};
+ghost use Rattle.tor_cli.specs.Request.{Does, DoesAsked, Stops, StopsAsked};
 ghost use Rattle.tor_cli.specs.Status.{status_after, status_of};
 ghost use Rattle.tor_cli.specs.declared.fault.Fault.{Fault};
 
@@ -21,18 +22,19 @@ pub fn run<R: Read, W: Write, E: Write>(
     err: &mut E,
 ) -> u8
     ensures within { result ≤ 4 }
-    ensures done { result ≡ 0 → DoesSome (record {
+    ensures done { result ≡ 0 → DoesAsked (texts words.entry.now) (record {
       reader = R.remaining reader.old;
       reader' = R.remaining reader.new;
       writer = W.contents out.old;
       writer' = W.contents out.new;
     }) }
-    ensures stopped { result ≢ 0 → (fault : Fault) × (result ≡ status_of fault) × StopsSome (record {
-      reader = R.remaining reader.old;
-      reader' = R.remaining reader.new;
-      writer = W.contents out.old;
-      writer' = W.contents out.new;
-    }) fault }
+    ensures stopped { result ≢ 0 → (fault : Fault) × (result ≡ status_of fault)
+        × StopsAsked (texts words.entry.now) (record {
+          reader = R.remaining reader.old;
+          reader' = R.remaining reader.new;
+          writer = W.contents out.old;
+          writer' = W.contents out.new;
+        }) fault }
 {
     let outcome = answer(alloc, words, reader, out);
     tell(&outcome, err)
@@ -45,13 +47,13 @@ fn answer<R: Read, W: Write>(
     reader: &mut R,
     out: &mut W,
 ) -> Result<(), Fault>
-    ensures done { OnOk result (DoesSome (record {
+    ensures done { OnOk result (DoesAsked (texts words.entry.now) (record {
       reader = R.remaining reader.old;
       reader' = R.remaining reader.new;
       writer = W.contents out.old;
       writer' = W.contents out.new;
     })) }
-    ensures stopped { IfErr result (StopsSome (record {
+    ensures stopped { IfErr result (StopsAsked (texts words.entry.now) (record {
       reader = R.remaining reader.old;
       reader' = R.remaining reader.new;
       writer = W.contents out.old;

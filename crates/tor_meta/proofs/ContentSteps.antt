@@ -1,27 +1,28 @@
 -- The files of a list, with contents of their lengths, and the facts that those tell.
-use Rattle.std.proofs.Common.{◌≡◌, ℕ, zero, suc, ◌<◌, ◌≤◌, Bor, Vec, Global, true, false, Bool, List, [], ◌∷◌, length, get_or, map, Option, None, Some, refl, sym, ap, ◌∙◌, arith}
-use Rattle.std.specs.List.{All, AllByRecursion, AllZip, zip}
-use Rattle.std.proofs.lemmas.List.{get_or-map, length-map}
+use Rattle.std.proofs.Common.{◌≡◌, ℕ, ◌≤◌, Bor, true, false, Bool, List, [], ◌∷◌, length}
+use Rattle.std.proofs.Common.{map, refl, sym, ap, ◌∙◌, arith}
+use Rattle.std.specs.List.{All, AllByRecursion, AllZip}
+use Rattle.std.proofs.lemmas.List.{length-map}
 use Rattle.std.proofs.lemmas.List.Elements.{All-from_recursion, recursion_from_All}
-use Rattle.tor_bencode.specs.Data.{Data}
 use Rattle.tor_merkle.specs.Layer.{piece_layer}
 use Rattle.tor_meta.specs.Contents.{bytes_of, files_of}
 use Rattle.tor_meta.specs.Head.{settings_of}
-use Rattle.tor_meta.specs.Layers.{lists_of}
 use Rattle.tor_meta.specs.Sums.{AreFactsOf, HaveTrees, SumUp}
 use Rattle.tor_meta.specs.declared.head.Head.{Head}
 use Rattle.tor_meta.specs.declared.sums.Sums.{Sums}
-use Rattle.tor_spec.specs.Facts.{Facts, File, facts_of, listed, layers_in, root_of, roots_in}
+use Rattle.tor_spec.specs.Facts.{Facts, File, listed, layers_in, root_of, roots_in}
 use Rattle.tor_spec.specs.Metainfo.{facts_of_files, pieces_of_files, root_dictionary}
-use Rattle.tor_spec.specs.Settings.{Settings, has_v1, has_v2}
+use Rattle.tor_spec.specs.Settings.{Settings, has_v1}
 use Rattle.tor_tree.specs.FileList.{lengths_of}
 use Rattle.tor_tree.specs.TidyTree.{HasItsRoot}
 
-root_there : (path : List (List ℕ)) (content : List ℕ) (n : ℕ) → length content ≡ n → HasItsRoot (path, n) (root_of content)
+root_there : (path : List (List ℕ)) (content : List ℕ) (n : ℕ) → length content ≡ n
+    → HasItsRoot (path, n) (root_of content)
 root_there path [] n e = ((λ h. cc), (λ lt. absurd (omega arith)))
 root_there path (byte ∷ bytes) n e = ((λ h. omega arith), (λ lt. refl))
 
-pub roots_there : (files : List (List (List ℕ) × ℕ)) (contents : List (List ℕ)) → map length contents ≡ lengths_of files → AllZip HasItsRoot files (map root_of contents)
+pub roots_there : (files : List (List (List ℕ) × ℕ)) (contents : List (List ℕ)) → map length contents ≡ lengths_of files
+    → AllZip HasItsRoot files (map root_of contents)
 roots_there [] [] e = tt
 roots_there [] (content ∷ contents) e = cc
 roots_there (file ∷ files) [] e = cc
@@ -30,9 +31,12 @@ roots_there (file ∷ files) (content ∷ contents) e =
     let rest : map length contents ≡ lengths_of files = cc in
     (root_there file.0 content file.1 first, roots_there files contents rest)
 
-pub contents_listed : (p : ℕ) (files : List (List (List ℕ) × ℕ)) (contents : List (List ℕ)) → map length contents ≡ lengths_of files
-    → (listed (facts_of_files p (files_of files contents)) ≡ files) × (roots_in (facts_of_files p (files_of files contents)) ≡ map root_of contents)
-    × (layers_in (facts_of_files p (files_of files contents)) ≡ map (λ content. piece_layer content p) contents) × (map (λ (file : File). file.content) (files_of files contents) ≡ contents)
+pub contents_listed : (p : ℕ) (files : List (List (List ℕ) × ℕ)) (contents : List (List ℕ))
+    → map length contents ≡ lengths_of files
+    → (listed (facts_of_files p (files_of files contents)) ≡ files)
+    × (roots_in (facts_of_files p (files_of files contents)) ≡ map root_of contents)
+    × (layers_in (facts_of_files p (files_of files contents)) ≡ map (λ content. piece_layer content p) contents)
+    × (map (λ (file : File). file.content) (files_of files contents) ≡ contents)
 contents_listed p [] [] e = (refl, refl, refl, refl)
 contents_listed p [] (content ∷ contents) e = cc
 contents_listed p (file ∷ files) [] e = cc
@@ -45,38 +49,59 @@ contents_listed p (file ∷ files) (content ∷ contents) e =
       ap (λ cs. content ∷ cs) rest.3,
     )
 
-pub have_trees : (head : Head) (files : List (List (List ℕ) × ℕ)) (contents : List (List ℕ)) (sums : Sums) → map length contents ≡ lengths_of files → SumUp head files contents sums → HaveTrees head files sums
+pub have_trees : (head : Head) (files : List (List (List ℕ) × ℕ)) (contents : List (List ℕ)) (sums : Sums)
+    → map length contents ≡ lengths_of files → SumUp head files contents sums → HaveTrees head files sums
 have_trees head files contents sums same up = record {
   rooted = λ e. rw (up.roots e) (roots_there files contents same);
   layered = λ e. simp length-map at (ap length (up.layers e)) ∙ simp length-map at (ap length same);
 }
 
-pub told_facts : (head : Head) (files : List (List (List ℕ) × ℕ)) (contents : List (List ℕ)) (sums : Sums) → map length contents ≡ lengths_of files → SumUp head files contents sums
+pub told_facts : (head : Head) (files : List (List (List ℕ) × ℕ)) (contents : List (List ℕ)) (sums : Sums)
+    → map length contents ≡ lengths_of files → SumUp head files contents sums
     → AreFactsOf head files sums (facts_of_files head.piece_length (files_of files contents))
 told_facts head files contents sums same up =
     let told = contents_listed head.piece_length files contents same in
-    record { is_listed = told.0; is_rooted = λ e. told.1 ∙ sym (up.roots e); is_layered = λ e. told.2 ∙ sym (up.layers e) }
+    record {
+      is_listed = told.0;
+      is_rooted = λ e. told.1 ∙ sym (up.roots e);
+      is_layered = λ e. told.2 ∙ sym (up.layers e);
+    }
 
-pieces_matter_not : (settings : Settings) (facts : List Facts) (p q : List ℕ) → has_v1 settings.kind ≡ false → root_dictionary settings facts p ≡ root_dictionary settings facts q
+pieces_matter_not : (settings : Settings) (facts : List Facts) (p q : List ℕ) → has_v1 settings.kind ≡ false
+    → root_dictionary settings facts p ≡ root_dictionary settings facts q
 pieces_matter_not settings facts p q e = rw e refl
 
 -- the pieces of the torrent, where it has any
-pub same_pieces : (head : Head) (files : List (List (List ℕ) × ℕ)) (contents : List (List ℕ)) (sums : Sums) → map length contents ≡ lengths_of files → SumUp head files contents sums
+pub same_pieces : (head : Head) (files : List (List (List ℕ) × ℕ)) (contents : List (List ℕ)) (sums : Sums)
+    → map length contents ≡ lengths_of files → SumUp head files contents sums
     → root_dictionary (settings_of head) (facts_of_files head.piece_length (files_of files contents)) sums.pieces.items
-    ≡ root_dictionary (settings_of head) (facts_of_files head.piece_length (files_of files contents)) (pieces_of_files (settings_of head) (files_of files contents))
+    ≡ root_dictionary (settings_of head) (facts_of_files head.piece_length (files_of files contents))
+    (pieces_of_files (settings_of head) (files_of files contents))
 same_pieces head files contents sums same up = by_kind (has_v1 head.kind) refl
   where
-    by_kind : (b : Bool) → has_v1 head.kind ≡ b → root_dictionary (settings_of head) (facts_of_files head.piece_length (files_of files contents)) sums.pieces.items
-        ≡ root_dictionary (settings_of head) (facts_of_files head.piece_length (files_of files contents)) (pieces_of_files (settings_of head) (files_of files contents))
+    by_kind : (b : Bool) → has_v1 head.kind ≡ b
+        → root_dictionary (settings_of head)
+        (facts_of_files head.piece_length (files_of files contents)) sums.pieces.items
+        ≡ root_dictionary (settings_of head) (facts_of_files head.piece_length (files_of files contents))
+        (pieces_of_files (settings_of head) (files_of files contents))
     by_kind true e =
         let told = contents_listed head.piece_length files contents same in
-        ap (root_dictionary (settings_of head) (facts_of_files head.piece_length (files_of files contents))) (up.pieces e ∙ rw (told.0, told.3) refl)
-    by_kind false e = pieces_matter_not (settings_of head) (facts_of_files head.piece_length (files_of files contents)) sums.pieces.items (pieces_of_files (settings_of head) (files_of files contents)) e
+        ap (root_dictionary (settings_of head) (facts_of_files head.piece_length (files_of files contents)))
+        (up.pieces e ∙ rw (told.0, told.3) refl)
+    by_kind false e =
+        pieces_matter_not (settings_of head)
+        (facts_of_files head.piece_length (files_of files contents)) sums.pieces.items
+        (pieces_of_files (settings_of head) (files_of files contents)) e
 
-pub contents_small : (m : ℕ) (contents : List (Bor (List ℕ))) (files : List (List (List ℕ) × ℕ)) → map length (bytes_of contents) ≡ lengths_of files → All (λ file. file.1 ≤ m) files → All (λ (content : Bor (List ℕ)). length content.now ≤ m) contents
-contents_small m contents files same small = All-from_recursion _ contents (each contents files same (recursion_from_All _ files small))
+pub contents_small : (m : ℕ) (contents : List (Bor (List ℕ))) (files : List (List (List ℕ) × ℕ))
+    → map length (bytes_of contents) ≡ lengths_of files → All (λ file. file.1 ≤ m) files
+    → All (λ (content : Bor (List ℕ)). length content.now ≤ m) contents
+contents_small m contents files same small =
+    All-from_recursion _ contents (each contents files same (recursion_from_All _ files small))
   where
-    each : (cs : List (Bor (List ℕ))) (fs : List (List (List ℕ) × ℕ)) → map length (bytes_of cs) ≡ lengths_of fs → AllByRecursion (λ file. file.1 ≤ m) fs → AllByRecursion (λ (content : Bor (List ℕ)). length content.now ≤ m) cs
+    each : (cs : List (Bor (List ℕ))) (fs : List (List (List ℕ) × ℕ)) → map length (bytes_of cs) ≡ lengths_of fs
+        → AllByRecursion (λ file. file.1 ≤ m) fs
+        → AllByRecursion (λ (content : Bor (List ℕ)). length content.now ≤ m) cs
     each [] fs e h = tt
     each (c ∷ cs) [] e h = cc
     each (c ∷ cs) (f ∷ fs) e h =

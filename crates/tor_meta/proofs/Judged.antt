@@ -1,6 +1,7 @@
 -- What is known of files where no torrent is refused for the head or the paths.
-use Rattle.std.proofs.Common.{◌≡◌, ℕ, zero, suc, ◌≤◌, Bool, true, false, ◌&&◌, ◌||◌, not, cond, List, [], ◌∷◌, length, get_or, map, nat_lt, Option, None, Some, refl, sym, ap, ◌∙◌, arith}
-use Rattle.std.specs.List.{All, AllByRecursion, list_any}
+use Rattle.std.proofs.Common.{◌≡◌, ℕ, zero, suc, Bool, true, false, ◌&&◌, not, cond, List, [], ◌∷◌, length}
+use Rattle.std.proofs.Common.{get_or, map, Option, None, Some, refl, ◌∙◌}
+use Rattle.std.specs.List.{AllByRecursion, list_any}
 use Rattle.std.specs.Option.{option_or}
 use Rattle.std.proofs.lemmas.Bool.{ltb-false, or_parts}
 use Rattle.std.proofs.lemmas.List.{length-map}
@@ -11,8 +12,7 @@ use Rattle.tor_meta.specs.Refusal.{is_long, is_only, paths_refusal, shape_refusa
 use Rattle.tor_meta.specs.Sums.{IsJudged}
 use Rattle.tor_meta.specs.declared.head.Head.{Head}
 use Rattle.tor_meta.specs.declared.judge.TheConstants.{MAX_NAMES}
-use Rattle.tor_meta.specs.declared.refusals.ContentsError.{ContentsError}
-use Rattle.tor_spec.specs.Settings.{is_aligned, layout_of}
+use Rattle.tor_spec.specs.Settings.{is_aligned}
 use Rattle.tor_tree.specs.FileList.{IsFileList}
 use Rattle.tor_tree.specs.PathList.{ArePlacedPaths}
 use Rattle.tor_v1.specs.Reserved.{is_reserved, takes_reserved}
@@ -22,7 +22,8 @@ pub both_none : {X : Type 0} (a b : Option X) → option_or a b ≡ None → (a 
 both_none None b h = (refl, h)
 both_none (Some x) b h = cc
 
-cleared : {X : Type 0} (test : Bool) (fault : X) (rest : Option X) → cond test (Some fault) rest ≡ None → (test ≡ false) × (rest ≡ None)
+cleared : {X : Type 0} (test : Bool) (fault : X) (rest : Option X) → cond test (Some fault) rest ≡ None
+    → (test ≡ false) × (rest ≡ None)
 cleared true fault rest h = cc
 cleared false fault rest h = (refl, h)
 
@@ -34,7 +35,8 @@ second_of : (a b : Bool) → (a && b) ≡ false → a ≡ true → b ≡ false
 second_of true b h e = h
 second_of false b h e = cc
 
-any_at : {X : Type 0} (q : X → Bool) (xs : List X) (k : ℕ) (d : X) → q d ≡ false → list_any q xs ≡ false → q (get_or xs k d) ≡ false
+any_at : {X : Type 0} (q : X → Bool) (xs : List X) (k : ℕ) (d : X) → q d ≡ false → list_any q xs ≡ false
+    → q (get_or xs k d) ≡ false
 any_at q [] k d none h = none
 any_at q (x ∷ xs) zero d none h = (or_parts (q x) (list_any q xs) h).0
 any_at q (x ∷ xs) (suc k) d none h = any_at q xs k d none (or_parts (q x) (list_any q xs) h).1
@@ -47,8 +49,11 @@ none_of q (x ∷ xs) h = rw h.0 (none_of q xs h.1)
 abbrev AreFound : List (List (List ℕ)) → List (List (List ℕ) × ℕ) → Type 0
 AreFound paths entries = AllByRecursion (λ entry. get_or paths entry.1 [] ≡ entry.0) entries
 
-of_files : (q : List (List ℕ) → Bool) → q [] ≡ false → (paths : List (List (List ℕ))) (lengths : ℕ → ℕ) (entries : List (List (List ℕ) × ℕ))
-    → AreFound paths entries → list_any q paths ≡ false → AllByRecursion (λ (file : List (List ℕ) × ℕ). q file.0 ≡ false) (map (λ entry. (entry.0, lengths entry.1)) entries)
+of_files : (q : List (List ℕ) → Bool) → q [] ≡ false
+    → (paths : List (List (List ℕ))) (lengths : ℕ → ℕ) (entries : List (List (List ℕ) × ℕ))
+    → AreFound paths entries → list_any q paths ≡ false
+    → AllByRecursion (λ (file : List (List ℕ) × ℕ). q file.0
+    ≡ false) (map (λ entry. (entry.0, lengths entry.1)) entries)
 of_files q none paths lengths [] found h = tt
 of_files q none paths lengths (entry ∷ entries) found h =
     let here : q entry.0 ≡ false = rw (← found.0) (any_at q paths entry.1 [] none h) in
@@ -59,12 +64,16 @@ one_path name [] h = cc
 one_path name (path ∷ []) h = refl
 one_path name (path ∷ other ∷ paths) h = cc
 
-not_reserved : (aligned : Bool) (files : List (List (List ℕ) × ℕ)) → (aligned ≡ true → list_any (λ file. is_reserved file.0) files ≡ false) → takes_reserved (cond aligned Aligned Joined) files ≡ false
+not_reserved : (aligned : Bool) (files : List (List (List ℕ) × ℕ))
+    → (aligned ≡ true → list_any (λ file. is_reserved file.0) files ≡ false)
+    → takes_reserved (cond aligned Aligned Joined) files ≡ false
 not_reserved true files h = h refl
 not_reserved false files h = refl
 
-pub judged : (head : Head) (paths : List (List (List ℕ))) (lengths : ℕ → ℕ) (entries : List (List (List ℕ) × ℕ)) → ArePlacedPaths paths entries → paths_refusal (settings_of head) paths ≡ None
-    → IsFileList (map (λ entry. (entry.0, lengths entry.1)) entries) → IsJudged head (map (λ entry. (entry.0, lengths entry.1)) entries)
+pub judged : (head : Head) (paths : List (List (List ℕ))) (lengths : ℕ → ℕ) (entries : List (List (List ℕ) × ℕ))
+    → ArePlacedPaths paths entries → paths_refusal (settings_of head) paths ≡ None
+    → IsFileList (map (λ entry. (entry.0, lengths entry.1)) entries)
+    → IsJudged head (map (λ entry. (entry.0, lengths entry.1)) entries)
 judged head paths lengths entries placed accepted is_list =
     let parts = both_none (shape_refusal (settings_of head) paths) _ accepted in
     let later = both_none _ _ parts.1 in
@@ -77,8 +86,17 @@ judged head paths lengths entries placed accepted is_list =
     record {
       is_list = is_list;
       piece_length = allowed (is_piece_length head.piece_length) first.0;
-      short = λ k d lt. ltb-false MAX_NAMES (length (get_or files k d).0) (All-from_recursion (λ (file : List (List ℕ) × ℕ). is_long file.0 ≡ false) files (of_files is_long refl paths lengths entries found second.0) k d lt);
-      one = λ e. simp length-map (placed.one_each ∙ one_path head.name paths (allowed (is_only head.name paths) (second_of head.single (not (is_only head.name paths)) third.0 e)));
-      free = not_reserved (is_aligned head.kind head.single) files (λ e. none_of (λ (file : List (List ℕ) × ℕ). is_reserved file.0) files
-          (of_files is_reserved refl paths lengths entries found (second_of (is_aligned head.kind head.single) (list_any is_reserved paths) reserved.0 e)));
+      short =
+          λ k d lt. ltb-false MAX_NAMES (length (get_or files k d).0)
+          (All-from_recursion (λ (file : List (List ℕ) × ℕ). is_long file.0
+          ≡ false) files (of_files is_long refl paths lengths entries found second.0) k d lt);
+      one =
+          λ e. simp length-map (placed.one_each
+          ∙ one_path head.name paths
+          (allowed (is_only head.name paths) (second_of head.single (not (is_only head.name paths)) third.0 e)));
+      free =
+          not_reserved (is_aligned head.kind head.single) files
+          (λ e. none_of (λ (file : List (List ℕ) × ℕ). is_reserved file.0) files
+          (of_files is_reserved refl paths lengths entries found
+          (second_of (is_aligned head.kind head.single) (list_any is_reserved paths) reserved.0 e)));
     }

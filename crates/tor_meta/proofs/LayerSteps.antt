@@ -1,6 +1,8 @@
 -- One more layer of a torrent's piece layers.
-use Rattle.std.proofs.Common.{◌≡◌, ℕ, zero, suc, ◌+◌, ◌-◌, ◌<◌, ◌≤◌, Bool, true, false, Vec, Global, List, [], ◌∷◌, length, get_or, drop, map, Option, None, Some, Ordering, Less, Equal, Greater, refl, sym, ap, ◌∙◌, arith}
-use Rattle.std.specs.Prelude.{nat_le, unwrap_or, if◌then◌else◌}
+use Rattle.std.proofs.Common.{◌≡◌, ℕ, zero, suc, ◌+◌, ◌-◌, ◌<◌, ◌≤◌, true, false, Vec, Global, List, [], ◌∷◌}
+use Rattle.std.proofs.Common.{length, get_or, drop, Option, None, Some, Ordering, Less, Equal, Greater, refl, sym}
+use Rattle.std.proofs.Common.{ap, ◌∙◌, arith}
+use Rattle.std.specs.Prelude.{nat_le}
 use Rattle.std.specs.BTreeMap.{insert_entry}
 use Rattle.std.specs.List.{AllZip}
 use Rattle.std.specs.Ordering.{match_ordering, nat_cmp}
@@ -8,36 +10,44 @@ use Rattle.std.specs.Cmp.Lexicographic.{slice_cmp}
 use Rattle.std.proofs.lemmas.Bool.{le-leb, lt-leb}
 use Rattle.std.proofs.lemmas.List.{drop_more, get_or-map, length-map}
 use Rattle.std.proofs.lemmas.Map.Lookups.{exact_bytes}
-use Rattle.tor_bencode.specs.Data.{Data, string, Pairs, pair}
+use Rattle.tor_bencode.specs.Data.{string, pair}
 use Rattle.tor_meta.specs.Layers.{lists_of, pairs_of_map}
 use Rattle.tor_spec.specs.Dictionary.{put}
 use Rattle.tor_spec.specs.Facts.{Facts, listed, layers_in, roots_in}
 use Rattle.tor_spec.specs.PieceLayers.{joined, piece_layers}
-use Rattle.tor_tree.specs.TidyTree.{HasItsRoot}
 
 -- what a map becomes by one more entry is what its pairs become
 pub insert_put : (entries : List (List ℕ × Vec ℕ Global)) (key : List ℕ) (value : Vec ℕ Global)
-    → pairs_of_map (insert_entry (slice_cmp nat_cmp) entries key value) ≡ put key (string value.items) (pairs_of_map entries)
+    → pairs_of_map (insert_entry (slice_cmp nat_cmp) entries key value)
+    ≡ put key (string value.items) (pairs_of_map entries)
 insert_put [] key value = refl
 insert_put (entry ∷ entries) key value =
     by_order (slice_cmp nat_cmp key entry.0) refl (insert_put entries key value)
   where
     by_order : (r : Ordering) → slice_cmp nat_cmp key entry.0 ≡ r
-        → pairs_of_map (insert_entry (slice_cmp nat_cmp) entries key value) ≡ put key (string value.items) (pairs_of_map entries)
-        → pairs_of_map (match_ordering r ((key, value) ∷ entry ∷ entries) ((entry.0, value) ∷ entries) (entry ∷ insert_entry (slice_cmp nat_cmp) entries key value))
-        ≡ match_ordering r (pair key (string value.items) (pair entry.0 (string entry.1.items) (pairs_of_map entries))) (pair key (string value.items) (pairs_of_map entries)) (pair entry.0 (string entry.1.items) (put key (string value.items) (pairs_of_map entries)))
+        → pairs_of_map (insert_entry (slice_cmp nat_cmp) entries key value)
+        ≡ put key (string value.items) (pairs_of_map entries)
+        → pairs_of_map
+        (match_ordering r ((key, value) ∷ entry ∷ entries) ((entry.0, value) ∷ entries)
+        (entry ∷ insert_entry (slice_cmp nat_cmp) entries key value))
+        ≡ match_ordering r (pair key (string value.items) (pair entry.0 (string entry.1.items) (pairs_of_map entries)))
+        (pair key (string value.items) (pairs_of_map entries))
+        (pair entry.0 (string entry.1.items) (put key (string value.items) (pairs_of_map entries)))
     by_order Less e later = refl
-    by_order Equal e later = ap (λ k. pair k (string value.items) (pairs_of_map entries)) (sym (exact_bytes key entry.0 e))
+    by_order Equal e later =
+        ap (λ k. pair k (string value.items) (pairs_of_map entries)) (sym (exact_bytes key entry.0 e))
     by_order Greater e later = ap (pair entry.0 (string entry.1.items)) later
 
 -- the facts at a place, as the lists have them
-pub record IsAt (files : List (List (List ℕ) × ℕ)) (roots : List (Option (List ℕ))) (layers : List (Vec (List ℕ) Global)) (k : ℕ) (facts : List Facts) (fact : Facts) : Type 0 where
+pub record IsAt (files : List (List (List ℕ) × ℕ)) (roots : List (Option (List ℕ)))
+    (layers : List (Vec (List ℕ) Global)) (k : ℕ) (facts : List Facts) (fact : Facts) : Type 0 where
   pub first : drop k facts ≡ fact ∷ drop (k + 1) facts
   pub size : (d : List (List ℕ) × ℕ) → (get_or files k d).1 ≡ fact.size
   pub root : (d : Option (List ℕ)) → get_or roots k d ≡ fact.root
   pub layer : (d : Vec (List ℕ) Global) → (get_or layers k d).items ≡ fact.layer
 
-pub facts_at : (files : List (List (List ℕ) × ℕ)) (roots : List (Option (List ℕ))) (layers : List (Vec (List ℕ) Global)) (k : ℕ) (facts : List Facts)
+pub facts_at : (files : List (List (List ℕ) × ℕ)) (roots : List (Option (List ℕ))) (layers : List (Vec (List ℕ) Global))
+    (k : ℕ) (facts : List Facts)
     → k < length files → listed facts ≡ files → roots_in facts ≡ roots → layers_in facts ≡ lists_of layers
     → (fact : Facts) × IsAt files roots layers k facts fact
 facts_at files roots layers k facts within is_listed is_roots is_layers =
@@ -49,25 +59,34 @@ facts_at files roots layers k facts within is_listed is_roots is_layers =
       fact,
       record {
         first = drop_more facts k none inside;
-        size = λ d. ap (λ (f : List (List ℕ) × ℕ). f.1) (ap (λ fs. get_or fs k d) (sym is_listed) ∙ get_or-map (λ (f : Facts). (f.path, f.size)) facts k none d inside);
+        size =
+            λ d. ap (λ (f : List (List ℕ) × ℕ). f.1) (ap (λ fs. get_or fs k d) (sym is_listed)
+            ∙ get_or-map (λ (f : Facts). (f.path, f.size)) facts k none d inside);
         root = λ d. ap (λ rs. get_or rs k d) (sym is_roots) ∙ get_or-map (λ (f : Facts). f.root) facts k none d inside;
-        layer = λ d. sym (get_or-map (λ (v : Vec (List ℕ) Global). v.items) layers k d [] (omega arith)) ∙ ap (λ ls. get_or ls k []) (sym is_layers) ∙ get_or-map (λ (f : Facts). f.layer) facts k none [] inside;
+        layer = λ d. sym (get_or-map (λ (v : Vec (List ℕ) Global). v.items) layers k d [] (omega arith))
+            ∙ ap (λ ls. get_or ls k []) (sym is_layers) ∙ get_or-map (λ (f : Facts). f.layer) facts k none [] inside;
       },
     )
 
-pub zip_at : {A B : Type 0} (R : A → B → Type 0) (xs : List A) (ys : List B) (k : ℕ) (d : A) (e : B) → AllZip R xs ys → k < length xs → R (get_or xs k d) (get_or ys k e)
+pub zip_at : {A B : Type 0} (R : A → B → Type 0) (xs : List A) (ys : List B) (k : ℕ) (d : A) (e : B) → AllZip R xs ys
+    → k < length xs → R (get_or xs k d) (get_or ys k e)
 zip_at R [] ys k d e h lt = absurd (omega arith)
 zip_at R (x ∷ xs) [] k d e h lt = absurd h
 zip_at R (x ∷ xs) (y ∷ ys) zero d e h lt = h.0
 zip_at R (x ∷ xs) (y ∷ ys) (suc k) d e h lt = zip_at R xs ys k d e h.1 (omega arith)
 
-module _ (p : ℕ) (files : List (List (List ℕ) × ℕ)) (roots : List (Option (List ℕ))) (layers : List (Vec (List ℕ) Global)) (left : ℕ) (some : 0 < left) (within : left ≤ length files) (d : List (List ℕ) × ℕ) where
+module _ (p : ℕ) (files : List (List (List ℕ) × ℕ)) (roots : List (Option (List ℕ)))
+    (layers : List (Vec (List ℕ) Global)) (left : ℕ) (some : 0 < left) (within : left ≤ length files) (d : List (List ℕ)
+    × ℕ) where
   back : left - 1 + 1 ≡ left
   back = omega arith
 
-  put_here : (e : Option (List ℕ)) (g : Vec (List ℕ) Global) (root : List ℕ) (value : Vec ℕ Global) (old new : List (List ℕ × Vec ℕ Global))
-      → p < (get_or files (left - 1) d).1 → get_or roots (left - 1) e ≡ Some root → value.items ≡ joined (get_or layers (left - 1) g).items
-      → new ≡ insert_entry (slice_cmp nat_cmp) old root value → (facts : List Facts) (fact : Facts) → IsAt files roots layers (left - 1) facts fact
+  put_here : (e : Option (List ℕ)) (g : Vec (List ℕ) Global) (root : List ℕ) (value : Vec ℕ Global)
+      (old new : List (List ℕ × Vec ℕ Global))
+      → p < (get_or files (left - 1) d).1 → get_or roots (left - 1) e ≡ Some root
+      → value.items ≡ joined (get_or layers (left - 1) g).items
+      → new ≡ insert_entry (slice_cmp nat_cmp) old root value → (facts : List Facts) (fact : Facts)
+      → IsAt files roots layers (left - 1) facts fact
       → pairs_of_map old ≡ piece_layers p (drop left facts) → pairs_of_map new ≡ piece_layers p (drop (left - 1) facts)
   put_here e g root value old new long is_root is_value is_new facts fact here before =
       let test : nat_le fact.size p ≡ false = lt-leb fact.size p (rw (here.size d) at long) in
@@ -78,14 +97,17 @@ module _ (p : ℕ) (files : List (List (List ℕ) × ℕ)) (roots : List (Option
 
   left_out_here : (entries : List (List ℕ × Vec ℕ Global)) → (get_or files (left - 1) d).1 ≤ p
       → (facts : List Facts) (fact : Facts) → IsAt files roots layers (left - 1) facts fact
-      → pairs_of_map entries ≡ piece_layers p (drop left facts) → pairs_of_map entries ≡ piece_layers p (drop (left - 1) facts)
+      → pairs_of_map entries ≡ piece_layers p (drop left facts)
+      → pairs_of_map entries ≡ piece_layers p (drop (left - 1) facts)
   left_out_here entries short facts fact here before =
       let test : nat_le fact.size p ≡ true = le-leb fact.size p (rw (here.size d) at short) in
       rw (here.first, back, test) before
 
   -- one more layer goes into the map
-  pub layer_put : (e : Option (List ℕ)) (g : Vec (List ℕ) Global) (root : List ℕ) (value : Vec ℕ Global) (old new : List (List ℕ × Vec ℕ Global))
-      → p < (get_or files (left - 1) d).1 → get_or roots (left - 1) e ≡ Some root → value.items ≡ joined (get_or layers (left - 1) g).items
+  pub layer_put : (e : Option (List ℕ)) (g : Vec (List ℕ) Global) (root : List ℕ) (value : Vec ℕ Global)
+      (old new : List (List ℕ × Vec ℕ Global))
+      → p < (get_or files (left - 1) d).1 → get_or roots (left - 1) e ≡ Some root
+      → value.items ≡ joined (get_or layers (left - 1) g).items
       → new ≡ insert_entry (slice_cmp nat_cmp) old root value
       → (facts : List Facts) → listed facts ≡ files → roots_in facts ≡ roots → layers_in facts ≡ lists_of layers
       → pairs_of_map old ≡ piece_layers p (drop left facts) → pairs_of_map new ≡ piece_layers p (drop (left - 1) facts)
@@ -96,7 +118,8 @@ module _ (p : ℕ) (files : List (List (List ℕ) × ℕ)) (roots : List (Option
   -- a file of one piece has no layer there
   pub layer_left_out : (entries : List (List ℕ × Vec ℕ Global)) → (get_or files (left - 1) d).1 ≤ p
       → (facts : List Facts) → listed facts ≡ files → roots_in facts ≡ roots → layers_in facts ≡ lists_of layers
-      → pairs_of_map entries ≡ piece_layers p (drop left facts) → pairs_of_map entries ≡ piece_layers p (drop (left - 1) facts)
+      → pairs_of_map entries ≡ piece_layers p (drop left facts)
+      → pairs_of_map entries ≡ piece_layers p (drop (left - 1) facts)
   layer_left_out entries short facts is_listed is_roots is_layers =
       let at_place = facts_at files roots layers (left - 1) facts (omega arith) is_listed is_roots is_layers in
       left_out_here entries short facts at_place.0 at_place.1

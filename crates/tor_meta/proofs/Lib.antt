@@ -7,3 +7,4 @@ pub mod Placed
 pub mod OneFile
 pub mod Judged
 pub mod Made
+pub mod InfoThere

@@ -1,6 +1,6 @@
 -- What a maker answers, of the files that were handed in.
-use Rattle.std.proofs.Common.{◌≡◌, ◌∙◌, ◌⊎◌, inl, inr, ℕ, Vec, Global, Bool, true, false, All, cond, List as ListOf, [], ◌∷◌, length, get_or, map, option_map, Option, None, Some, refl, sym, ap, ◌<◌, arith}
-use Rattle.std.specs.List.Sorted.{IsStrictlySortedBy}
+use Rattle.std.proofs.Common.{◌≡◌, ◌∙◌, ◌⊎◌, inl, inr, ℕ, Vec, Global, Bool, true, false, All, cond, List as ListOf, []}
+use Rattle.std.proofs.Common.{length, get_or, map, option_map, None, Some, refl, sym, ap, ◌<◌}
 use Rattle.std.proofs.lemmas.List.{length-map}
 use Rattle.std.specs.Option.{option_or}
 use Rattle.tor_meta.specs.Contents.{contents_at, files_in, files_of, IsMadeOf}
@@ -14,12 +14,12 @@ use Rattle.tor_meta.specs.declared.refusals.ContentsError.TheVariants.{List, Mem
 use Rattle.tor_spec.specs.Metainfo.{metainfo}
 use Rattle.tor_spec.specs.Settings.{Settings}
 use Rattle.tor_tree.specs.FileList.{IsFileList, lengths_fault, lengths_of, lengths_too_large}
-use Rattle.tor_tree.specs.Path.{path_cmp}
 use Rattle.tor_tree.specs.PathList.{ArePlacedPaths, IsPathList, places_of}
 use Rattle.tor_tree.specs.declared.lists.ListError.{ListError}
 use Rattle.tor_tree.specs.declared.lists.ListError.TheVariants as faults
 use Rattle.tor_meta.proofs.Judged.{judged}
-use Rattle.tor_meta.proofs.Placed.{files_moved, handed_lengths, handed_paths, lengths_at, or_first, or_second, paths_moved, places_within}
+use Rattle.tor_meta.proofs.Placed.{files_moved, handed_lengths, handed_paths, lengths_at, or_first, or_second}
+use Rattle.tor_meta.proofs.Placed.{paths_moved, places_within}
 
 abbrev pub Handed : Type 0
 Handed = ListOf (ListOf (ListOf ℕ) × Vec ℕ Global)
@@ -28,52 +28,74 @@ Handed = ListOf (ListOf (ListOf ℕ) × Vec ℕ Global)
 abbrev pub lengths_in : ListOf (Vec ℕ Global) → ListOf ℕ
 lengths_in contents = map (λ content. length content.items) contents
 
-module _ (settings : Settings) (files : Handed) (paths : ListOf (ListOf (ListOf ℕ))) (contents : ListOf (Vec ℕ Global)) (lengths : ListOf ℕ) (are_paths : paths ≡ map (λ file. file.0) files) (are_contents : contents ≡ map (λ file. file.1) files) (are_lengths : lengths ≡ lengths_in contents) where
+module _ (settings : Settings) (files : Handed) (paths : ListOf (ListOf (ListOf ℕ))) (contents : ListOf (Vec ℕ Global))
+    (lengths : ListOf ℕ) (are_paths : paths ≡ map (λ file. file.0) files)
+    (are_contents : contents ≡ map (λ file. file.1) files) (are_lengths : lengths ≡ lengths_in contents) where
   lengths_are : map (λ file. length file.content) (files_in files) ≡ lengths
   lengths_are = handed_lengths files ∙ sym (are_lengths ∙ ap lengths_in are_contents)
 
   paths_are : map (λ file. file.path) (files_in files) ≡ paths
   paths_are = handed_paths files ∙ sym are_paths
 
-  same_refusal : contents_refusal settings (files_in files) ≡ option_or (paths_refusal settings paths) (option_map List (lengths_fault lengths))
+  same_refusal : contents_refusal settings (files_in files)
+      ≡ option_or (paths_refusal settings paths) (option_map List (lengths_fault lengths))
   same_refusal = rw (paths_are, lengths_are) refl
 
-  pub accepted_all : paths_refusal settings paths ≡ None → lengths_fault lengths ≡ None → contents_refusal settings (files_in files) ≡ None
+  pub accepted_all : paths_refusal settings paths ≡ None → lengths_fault lengths ≡ None
+      → contents_refusal settings (files_in files) ≡ None
   accepted_all a b = same_refusal ∙ or_second _ _ None a (ap (option_map List) b)
 
-  pub refused_paths : (refusal : ContentsError) → (paths_refusal settings paths ≡ Some refusal) ⊎ (refusal ≡ Memory) → (contents_refusal settings (files_in files) ≡ Some refusal) ⊎ (refusal ≡ Memory)
+  pub refused_paths : (refusal : ContentsError) → (paths_refusal settings paths ≡ Some refusal) ⊎ (refusal ≡ Memory)
+      → (contents_refusal settings (files_in files) ≡ Some refusal) ⊎ (refusal ≡ Memory)
   refused_paths refusal (inl e) = inl (same_refusal ∙ or_first _ _ refusal e)
   refused_paths refusal (inr e) = inr e
 
-  only_too_large : (b : Bool) (fault : ListError) → cond b (Some faults.TooLarge) None ≡ Some fault → of_list_error fault ≡ List fault
+  only_too_large : (b : Bool) (fault : ListError) → cond b (Some faults.TooLarge) None ≡ Some fault
+      → of_list_error fault ≡ List fault
   only_too_large true fault e = let is : faults.TooLarge ≡ fault = cc in rw (← is) refl
   only_too_large false fault e = cc
 
-  pub refused_lengths : (fault : ListError) (refusal : ContentsError) → refusal ≡ of_list_error fault → paths_refusal settings paths ≡ None → (lengths_fault lengths ≡ Some fault) ⊎ (fault ≡ faults.Memory) → (contents_refusal settings (files_in files) ≡ Some refusal) ⊎ (refusal ≡ Memory)
+  pub refused_lengths : (fault : ListError) (refusal : ContentsError) → refusal ≡ of_list_error fault
+      → paths_refusal settings paths ≡ None → (lengths_fault lengths ≡ Some fault) ⊎ (fault ≡ faults.Memory)
+      → (contents_refusal settings (files_in files) ≡ Some refusal) ⊎ (refusal ≡ Memory)
   refused_lengths fault refusal is none (inl e) =
-      inl (same_refusal ∙ or_second _ _ (Some refusal) none (ap (option_map List) e ∙ ap Some (sym (is ∙ only_too_large (lengths_too_large lengths) fault e))))
+      inl (same_refusal
+      ∙ or_second _ _ (Some refusal) none (ap (option_map List) e
+      ∙ ap Some (sym (is ∙ only_too_large (lengths_too_large lengths) fault e))))
   refused_lengths fault refusal is none (inr e) = inr (is ∙ rw e refl)
 
-  module _ (entries : ListOf (ListOf (ListOf ℕ) × ℕ)) (list : ListOf (ListOf (ListOf ℕ) × ℕ)) (places : ListOf ℕ) (placed : ArePlacedPaths paths entries) (is_list : list ≡ map (λ entry. (entry.0, get_or lengths entry.1 0)) entries) (are_places : places ≡ places_of entries) where
+  module _ (entries : ListOf (ListOf (ListOf ℕ) × ℕ)) (list : ListOf (ListOf (ListOf ℕ) × ℕ)) (places : ListOf ℕ)
+      (placed : ArePlacedPaths paths entries)
+      (is_list : list ≡ map (λ entry. (entry.0, get_or lengths entry.1 0)) entries)
+      (are_places : places ≡ places_of entries) where
     pub within : All (λ place. place < length contents) places
     within =
         let handed : length paths ≡ length files = ap length are_paths ∙ simp length-map in
         let held : length contents ≡ length files = ap length are_contents ∙ simp length-map in
-        let count : length (places_of entries) ≡ length contents = simp length-map (placed.one_each ∙ handed ∙ sym held) in
+        let count : length (places_of entries) ≡ length contents =
+        simp length-map (placed.one_each ∙ handed ∙ sym held) in
         rw are_places (places_within (length contents) (places_of entries) placed.places count)
 
-    pub contents_listed : (ordered : ListOf (ListOf ℕ)) → ordered ≡ contents_at contents places → map length ordered ≡ lengths_of list
+    pub contents_listed : (ordered : ListOf (ListOf ℕ)) → ordered ≡ contents_at contents places
+        → map length ordered ≡ lengths_of list
     contents_listed ordered is = rw (is, is_list, are_places, are_lengths) (lengths_at contents entries)
 
-    pub made_of : IsPathList entries → (ordered : ListOf (ListOf ℕ)) (bytes : ListOf ℕ) → ordered ≡ contents_at contents places → bytes ≡ metainfo settings (files_of list ordered) → IsMadeOf settings (files_in files) bytes
+    pub made_of : IsPathList entries → (ordered : ListOf (ListOf ℕ)) (bytes : ListOf ℕ)
+        → ordered ≡ contents_at contents places → bytes ≡ metainfo settings (files_of list ordered)
+        → IsMadeOf settings (files_in files) bytes
     made_of lawful ordered bytes is made = (
       files_of list ordered,
       rw (is, is_list, are_places, are_lengths, are_contents) (files_moved files entries (rw are_paths at placed)),
-      rw (is, is_list, are_places) (rw (paths_moved (λ k. get_or lengths k 0) (λ k. get_or (map (λ content. content.items) contents) k []) entries) lawful.in_order),
+      rw (is, is_list, are_places)
+          (rw
+          (paths_moved (λ k. get_or lengths k 0) (λ k. get_or (map (λ content. content.items) contents) k []) entries)
+          lawful.in_order),
       made,
     )
 
-pub judged_list : (head : Head) (paths : ListOf (ListOf (ListOf ℕ))) (lengths : ListOf ℕ) (entries list : ListOf (ListOf (ListOf ℕ) × ℕ)) → ArePlacedPaths paths entries → paths_refusal (settings_of head) paths ≡ None
+pub judged_list : (head : Head) (paths : ListOf (ListOf (ListOf ℕ))) (lengths : ListOf ℕ)
+    (entries list : ListOf (ListOf (ListOf ℕ) × ℕ)) → ArePlacedPaths paths entries
+    → paths_refusal (settings_of head) paths ≡ None
     → list ≡ map (λ entry. (entry.0, get_or lengths entry.1 0)) entries → IsFileList list → IsJudged head list
 judged_list head paths lengths entries list placed accepted is lawful =
     rw is (judged head paths (λ k. get_or lengths k 0) entries placed accepted (rw is at lawful))

@@ -1,25 +1,28 @@
 -- One file that lies at the top, and its content.
-use Rattle.std.proofs.Common.{◌≡◌, ℕ, zero, suc, ◌<◌, Bool, true, false, ◌&&◌, cond, List, [], ◌∷◌, ◌++◌, length, get_or, map, nat_lt, refl, sym, ap, ◌∙◌, arith}
+use Rattle.std.proofs.Common.{◌≡◌, ℕ, zero, suc, ◌<◌, Bool, true, false, ◌&&◌, cond, List, [], ◌∷◌, length}
+use Rattle.std.proofs.Common.{get_or, nat_lt, refl, sym, ap, ◌∙◌, arith}
 use Rattle.std.specs.List.{All}
 use Rattle.std.specs.List.Sorted.{IsPermutation}
 use Rattle.std.proofs.lemmas.List.{append-nil}
 use Rattle.std.proofs.lemmas.List.Sorted.{All-permutation, length_permutation}
-use Rattle.tor_meta.specs.Fed.{HasFed, SumsOfOne}
+use Rattle.tor_meta.specs.Fed.{SumsOfOne}
 use Rattle.tor_meta.specs.Head.{settings_of}
 use Rattle.tor_meta.specs.Sums.{SumUp}
 use Rattle.tor_meta.specs.declared.head.Head.{Head}
 use Rattle.tor_meta.specs.declared.sums.Sums.{Sums}
 use Rattle.tor_spec.specs.Settings.{layout_of}
 use Rattle.tor_v1.specs.Content.{joined_content, v1_pieces}
-use Rattle.tor_v1.specs.Entries.{aligned_entries, file_entry, has_bytes, pad_entry, padding_after, padding_length, v1_entries}
+use Rattle.tor_v1.specs.Entries.{aligned_entries, file_entry, has_bytes, pad_entry, padding_after, padding_length}
+use Rattle.tor_v1.specs.Entries.{v1_entries}
 use Rattle.tor_v1.specs.Piece.{piece_sums}
-use Rattle.tor_v1.specs.declared.entry.Entry.{Entry}
 use Rattle.tor_v1.specs.declared.layout.Layout.{Layout}
 use Rattle.tor_v1.specs.declared.layout.Layout.TheVariants.{Joined, Aligned}
 
 -- a list that has the elements of one with one element
 pub only_one : {X : Type 0} (x : X) (xs : List X) → IsPermutation (x ∷ []) xs → xs ≡ x ∷ []
-only_one {X = X} x xs moved = from_length xs (length_permutation (x ∷ []) xs moved) (All-permutation (λ y. y ≡ x) (x ∷ []) xs moved (λ k d lt. first k d lt))
+only_one {X = X} x xs moved =
+    from_length xs (length_permutation (x ∷ []) xs moved)
+    (All-permutation (λ y. y ≡ x) (x ∷ []) xs moved (λ k d lt. first k d lt))
   where
     first : (k : ℕ) (d : X) → k < 1 → get_or (x ∷ []) k d ≡ x
     first zero d lt = refl
@@ -37,7 +40,8 @@ no_padding p m = by_test (nat_lt 0 (padding_length p m))
     by_test true = refl
     by_test false = refl
 
-one_entry : (layout : Layout) (p : ℕ) (file : List (List ℕ) × ℕ) → v1_entries layout p (file ∷ []) ≡ file_entry file ∷ []
+one_entry : (layout : Layout) (p : ℕ) (file : List (List ℕ) × ℕ)
+    → v1_entries layout p (file ∷ []) ≡ file_entry file ∷ []
 unfolding aligned_entries
 one_entry Joined p file = refl
 one_entry Aligned p file = rw (no_padding p file.1) refl
@@ -47,11 +51,14 @@ unfolding joined_content
 one_content file bytes = append-nil bytes
 
 -- the sums of one file are those of its content
-pub pieces_of_one : (layout : Layout) (p : ℕ) (file : List (List ℕ) × ℕ) (bytes : List ℕ) → v1_pieces p (v1_entries layout p (file ∷ [])) (bytes ∷ []) ≡ piece_sums p bytes
+pub pieces_of_one : (layout : Layout) (p : ℕ) (file : List (List ℕ) × ℕ) (bytes : List ℕ)
+    → v1_pieces p (v1_entries layout p (file ∷ [])) (bytes ∷ []) ≡ piece_sums p bytes
 unfolding v1_pieces
-pieces_of_one layout p file bytes = ap (piece_sums p) (ap (λ es. joined_content es (bytes ∷ [])) (one_entry layout p file) ∙ one_content file bytes)
+pieces_of_one layout p file bytes =
+    ap (piece_sums p) (ap (λ es. joined_content es (bytes ∷ [])) (one_entry layout p file) ∙ one_content file bytes)
 
-pub sum_up_one : (head : Head) (file : List (List ℕ) × ℕ) (bytes : List ℕ) (sums : Sums) → SumsOfOne head.kind head.piece_length bytes sums → SumUp head (file ∷ []) (bytes ∷ []) sums
+pub sum_up_one : (head : Head) (file : List (List ℕ) × ℕ) (bytes : List ℕ) (sums : Sums)
+    → SumsOfOne head.kind head.piece_length bytes sums → SumUp head (file ∷ []) (bytes ∷ []) sums
 sum_up_one head file bytes sums one = record {
   roots = one.roots;
   layers = one.layers;

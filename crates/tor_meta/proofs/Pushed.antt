@@ -22,13 +22,15 @@ pairs_view-push [] p = refl
 pairs_view-push (q ∷ qs) p = ap (pair q.0.items (view q.1)) (pairs_view-push qs p)
 
 present-push : (fields : List (Bor (List ℕ) × Option Item)) (field : Bor (List ℕ) × Option Item)
-    → present (fields_of (fields ++ field ∷ [])) ≡ followed_by (present (fields_of fields)) (present (fields_of (field ∷ [])))
+    → present (fields_of (fields ++ field ∷ []))
+    ≡ followed_by (present (fields_of fields)) (present (fields_of (field ∷ [])))
 present-push [] field = refl
 present-push ((key, None) ∷ fields) field = present-push fields field
 present-push ((key, Some value) ∷ fields) field = ap (pair key.now (view value)) (present-push fields field)
 
 pub field_there : (fields : List (Bor (List ℕ) × Option Item)) (key : Bor (List ℕ)) (value : Item)
-    (pairs : List (Vec ℕ Global × Item)) (p : Vec ℕ Global × Item) → pairs_view pairs ≡ present (fields_of fields) → p.0.items ≡ key.now → p.1 ≡ value
+    (pairs : List (Vec ℕ Global × Item)) (p : Vec ℕ Global × Item) → pairs_view pairs ≡ present (fields_of fields)
+    → p.0.items ≡ key.now → p.1 ≡ value
     → pairs_view (pairs ++ p ∷ []) ≡ present (fields_of (fields ++ (key, Some value) ∷ []))
 field_there fields key value pairs p so_far is_key is_value =
     pairs_view-push pairs p
@@ -39,12 +41,14 @@ pub field_absent : (fields : List (Bor (List ℕ) × Option Item)) (key : Bor (L
 field_absent fields key = present-push fields (key, None) ∙ followed_by-none (present (fields_of fields))
 
 pairs_of_map-push : (entries : List (List ℕ × Vec ℕ Global)) (entry : List ℕ × Vec ℕ Global)
-    → pairs_of_map (entries ++ entry ∷ []) ≡ followed_by (pairs_of_map entries) (pair entry.0 (string entry.1.items) no_pairs)
+    → pairs_of_map (entries ++ entry ∷ [])
+    ≡ followed_by (pairs_of_map entries) (pair entry.0 (string entry.1.items) no_pairs)
 pairs_of_map-push [] entry = refl
 pairs_of_map-push (e ∷ es) entry = ap (pair e.0 (string e.1.items)) (pairs_of_map-push es entry)
 
 -- one more entry of a map
-pub map_pushed : (pairs : List (Vec ℕ Global × Item)) (entries : List (List ℕ × Vec ℕ Global)) (p : Vec ℕ Global × Item) (root : List ℕ) (layer : Vec ℕ Global)
+pub map_pushed : (pairs : List (Vec ℕ Global × Item)) (entries : List (List ℕ × Vec ℕ Global)) (p : Vec ℕ Global × Item)
+    (root : List ℕ) (layer : Vec ℕ Global)
     → pairs_view pairs ≡ pairs_of_map entries → p.0.items ≡ root → view p.1 ≡ string layer.items
     → pairs_view (pairs ++ p ∷ []) ≡ pairs_of_map (entries ++ (root, layer) ∷ [])
 map_pushed pairs entries p root layer so_far is_key is_value =

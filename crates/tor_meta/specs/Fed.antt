@@ -1,7 +1,6 @@
 -- A content that is fed in parts.
-use Rattle.std.specs.Prelude.{◌≡◌, ℕ, true, List, [], ◌∷◌, ◌++◌, length, Option, Some, IsSomeAnd}
+use Rattle.std.specs.Prelude.{◌≡◌, ℕ, true, List, [], ◌∷◌, ◌++◌, length, Some, IsSomeAnd}
 use Rattle.tor_meta.specs.declared.fed.FedSums.{FedSums}
-use Rattle.tor_merkle.specs.Feeding.{Feeding}
 use Rattle.tor_merkle.specs.Layer.{piece_layer}
 use Rattle.tor_meta.specs.Layers.{lists_of}
 use Rattle.tor_meta.specs.declared.sums.Sums.{Sums}
@@ -24,7 +23,8 @@ pub record HasFed (sums : FedSums) (kind : Kind) (piece_length : ℕ) (bytes : L
 -- whatever the old sums were fed, the new ones were fed that and then the part
 abbrev pub Feeds : FedSums → FedSums → List ℕ → Type 0
 Feeds old new part =
-    (kind : Kind) (piece_length : ℕ) (bytes : List ℕ) → HasFed old kind piece_length bytes → HasFed new kind piece_length (bytes ++ part)
+    (kind : Kind) (piece_length : ℕ) (bytes : List ℕ) → HasFed old kind piece_length bytes
+    → HasFed new kind piece_length (bytes ++ part)
 
 -- the sums of one file of these bytes
 pub record SumsOfOne (kind : Kind) (piece_length : ℕ) (bytes : List ℕ) (sums : Sums) : Type 0 where

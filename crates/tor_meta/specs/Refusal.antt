@@ -1,11 +1,13 @@
 -- When no torrent is made: the first refusal that holds.
-use Rattle.std.specs.Prelude.{ℕ, Bool, true, false, not, ◌&&◌, nat_lt, List as ListOf, [], ◌∷◌, length, map, option_map, Option, None, Some, if◌then◌else◌}
+use Rattle.std.specs.Prelude.{ℕ, Bool, false, not, ◌&&◌, nat_lt, List as ListOf, [], ◌∷◌, length, map, option_map}
+use Rattle.std.specs.Prelude.{Option, None, Some, if◌then◌else◌}
 use Rattle.std.specs.List.{list_any}
 use Rattle.std.specs.Option.{option_or}
 use Rattle.tor_merkle.specs.Layer.{is_piece_length}
 use Rattle.tor_meta.specs.declared.judge.TheConstants.{MAX_NAMES}
 use Rattle.tor_meta.specs.declared.refusals.ContentsError.{ContentsError}
-use Rattle.tor_meta.specs.declared.refusals.ContentsError.TheVariants.{PieceLength, Path, SingleShape, List, ReservedPad}
+use Rattle.tor_meta.specs.declared.refusals.ContentsError.TheVariants.{PieceLength, Path, SingleShape, List}
+use Rattle.tor_meta.specs.declared.refusals.ContentsError.TheVariants.{ReservedPad}
 use Rattle.tor_spec.specs.Facts.{File}
 use Rattle.tor_spec.specs.Settings.{Settings, is_aligned}
 use Rattle.tor_tree.specs.FileList.{paths_fault, lengths_fault}

@@ -35,7 +35,11 @@ pub record AreFactsOf (head : Head) (files : List (List (List ℕ) × ℕ)) (sum
   pub is_layered : has_v2 head.kind ≡ true → layers_in facts ≡ lists_of sums.layers.items
 
 -- the sums are those of the contents, as far as the head asks for them
-pub record SumUp (head : Head) (files : List (List (List ℕ) × ℕ)) (contents : List (List ℕ)) (sums : Sums) : Type 0 where
+pub record SumUp (head : Head) (files : List (List (List ℕ) × ℕ)) (contents : List (List ℕ))
+    (sums : Sums) : Type 0 where
   pub roots : has_v2 head.kind ≡ true → sums.roots.items ≡ map root_of contents
-  pub layers : has_v2 head.kind ≡ true → lists_of sums.layers.items ≡ map (λ content. piece_layer content head.piece_length) contents
-  pub pieces : has_v1 head.kind ≡ true → sums.pieces.items ≡ v1_pieces head.piece_length (v1_entries (layout_of (settings_of head)) head.piece_length files) contents
+  pub layers : has_v2 head.kind ≡ true
+      → lists_of sums.layers.items ≡ map (λ content. piece_layer content head.piece_length) contents
+  pub pieces : has_v1 head.kind ≡ true
+      → sums.pieces.items
+      ≡ v1_pieces head.piece_length (v1_entries (layout_of (settings_of head)) head.piece_length files) contents

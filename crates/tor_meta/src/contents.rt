@@ -1,6 +1,7 @@
 //! The torrent of files whose contents lie in memory.
 ghost use Rattle.std.specs.Prelude.{◌≡◌, ◌⊎◌, ◌<◌, All, List, Some, None, IfOk, IfErr, OnOk, length, map, true};
 ghost use Rattle.tor_meta.specs.Contents.{bytes_of, contents_at, files_in, files_of, IsMadeOf};
+ghost use Rattle.tor_meta.specs.Hashes.{HasInfo};
 ghost use Rattle.tor_meta.specs.Head.{settings_of};
 ghost use Rattle.tor_meta.specs.Layers.{lists_of};
 ghost use Rattle.tor_meta.specs.Refusal.{contents_refusal};
@@ -25,6 +26,7 @@ pub fn make_contents(
     head: &Head,
 ) -> Result<Vec<u8>, ContentsError>
     ensures made { IfOk result (λ bytes. IsMadeOf (settings_of head.now) (files_in files.items) bytes.items) }
+    ensures info { IfOk result (λ bytes. HasInfo bytes.items) }
     ensures accepted { OnOk result (contents_refusal (settings_of head.now) (files_in files.items) ≡ None) }
     ensures refused { IfErr result (λ refusal.
         (contents_refusal (settings_of head.now) (files_in files.items) ≡ Some refusal)
@@ -98,8 +100,9 @@ fn torrent_of(
 ) -> Result<Vec<u8>, AllocError>
     requires judged { IsJudged head.now list.now }
     requires contents { map length (bytes_of contents.now) ≡ lengths_of list.now }
-    ensures { IfOk result (λ bytes.
+    ensures made { IfOk result (λ bytes.
         bytes.items ≡ metainfo (settings_of head.now) (files_of list.now (bytes_of contents.entry.now))) }
+    ensures info { IfOk result (λ bytes. HasInfo bytes.items) }
 {
     let sums = sums_of(alloc, head, list, contents)?;
     let bytes = torrent_bytes(alloc, head, list, &sums)?;

@@ -29,8 +29,8 @@ pub struct Hashes {
 /// The info hashes of the bytes of a torrent of this kind, whose root has `info`. It takes no memory.
 pub fn info_hashes(bytes: &[u8], kind: Kind) -> Hashes
     requires { HasInfo bytes.now }
-    ensures { (root info : Data) → IsLawful root → bytes.now ≡ spelling root → value_of (codes "info") root ≡ Some info →
-        AreInfoHashes kind (spelling info) result }
+    ensures { (root info : Data) → IsLawful root → bytes.now ≡ spelling root →
+        value_of (codes "info") root ≡ Some info → AreInfoHashes kind (spelling info) result }
 {
     let info = raw_info(bytes);
     let v1: [u8; 20] = Sha1::digest(info);
@@ -54,8 +54,8 @@ pub fn info_hashes(bytes: &[u8], kind: Kind) -> Hashes
 /// The bytes of the value of `info`.
 fn raw_info(bytes: &[u8]) -> &[u8]
     requires { HasInfo bytes.now }
-    ensures { (root info : Data) → IsLawful root → bytes.now ≡ spelling root → value_of (codes "info") root ≡ Some info →
-        result.now ≡ spelling info }
+    ensures { (root info : Data) → IsLawful root → bytes.now ≡ spelling root →
+        value_of (codes "info") root ≡ Some info → result.now ≡ spelling info }
 {
     place_of_a_value();
     let Some((start, end)) = span(bytes, b"info") else {
@@ -98,7 +98,8 @@ fn push_topics(alloc: Global, link: &mut String, hashes: &Hashes) -> Result<(), 
 
 /// Writes what stands before a hash, and the hash in lower-case hex digits.
 fn push_topic(alloc: Global, link: &mut String, before: &str, hash: &[u8]) -> Result<(), AllocError>
-    ensures { IfOk result (λ _. string_bytes link.new ≡ string_bytes link.old ++ (before.now ++ encode_lower hash.now)) }
+    ensures { IfOk result (λ _.
+        string_bytes link.new ≡ string_bytes link.old ++ (before.now ++ encode_lower hash.now)) }
 {
     link.push_str(before)?;
     let digits = encode(alloc, hash)?;

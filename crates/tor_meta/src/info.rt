@@ -1,5 +1,5 @@
 //! The info dictionary (BEP 3, BEP 52, "info dictionary").
-ghost use Rattle.std.specs.Prelude.{◌≡◌, ◌<◌, ◌≤◌, ◌^◌, ◌&&◌, not, true, false, All, List, ℕ, IfOk, option_map, pos, length};
+ghost use Rattle.std.specs.Prelude.{◌≡◌, ◌<◌, ◌≤◌, ◌^◌, ◌&&◌, not, true, All, List, ℕ, IfOk, option_map, pos, length};
 ghost use Rattle.tor_bencode.specs.Data.{string, integer};
 ghost use Rattle.tor_bencode.specs.View.{view};
 ghost use Rattle.tor_merkle.specs.Layer.{IsPieceLength};

@@ -1,6 +1,7 @@
 //! Judging what is known before any length is asked: the head, and the paths.
-ghost use Rattle.std.specs.Prelude.{◌≡◌, ◌⊎◌, ◌&&◌, not, Some, None, IfOk, IfErr, OnOk, IsOk, MatchOption};
+ghost use Rattle.std.specs.Prelude.{◌≡◌, ◌⊎◌, ◌&&◌, not, Some, None, Err, IfOk, IfErr, OnOk, IsOk, MatchOption};
 ghost use Rattle.std.specs.List.{list_any};
+ghost use Rattle.tor_meta.specs.declared.refusals.ContentsError.{ContentsError};
 ghost use Rattle.tor_meta.specs.Head.{settings_of};
 ghost use Rattle.tor_meta.specs.Refusal.{is_long, is_name, is_only, paths_refusal, shape_refusal};
 ghost use Rattle.tor_spec.specs.Settings.{is_aligned};
@@ -26,6 +27,9 @@ pub fn judge_paths(
     ensures placed { IfOk result (ArePlacedPaths paths.items) }
     ensures lawful { IfOk result IsPathList }
     ensures accepted { OnOk result (paths_refusal (settings_of head.now) paths.items ≡ None) }
+    // What needs no order of the paths is told without any memory.
+    ensures shape { (refusal : ContentsError) → shape_refusal (settings_of head.now) paths.items ≡ Some refusal →
+        result ≡ Err refusal }
     ensures refused { IfErr result (λ refusal.
         (paths_refusal (settings_of head.now) paths.items ≡ Some refusal) ⊎ (refusal ≡ ContentsError.Memory)) }
 {

@@ -35,6 +35,8 @@ mod refusals;
 mod sums;
 #[cfg(test)]
 mod tests;
+#[cfg(test)]
+mod tests_larger;
 mod torrent;
 
 pub use contents::make_contents;

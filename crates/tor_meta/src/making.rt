@@ -2,6 +2,7 @@
 ghost use Rattle.std.specs.Prelude.{◌≡◌, ◌≤◌, ◌∷◌, [], ℕ, List, None, IfOk};
 ghost use Rattle.tor_merkle.specs.declared.TheConstants.{MAX_LENGTH};
 ghost use Rattle.tor_meta.specs.Fed.{HasFed};
+ghost use Rattle.tor_meta.specs.Hashes.{HasInfo};
 ghost use Rattle.tor_meta.specs.Head.{settings_of};
 ghost use Rattle.tor_meta.specs.Refusal.{paths_refusal};
 ghost use Rattle.tor_spec.specs.Metainfo.{metainfo, only};
@@ -18,8 +19,9 @@ use tor_tree::{FileList, FilePath, ListError, Name};
 pub fn make_fed(alloc: Global, head: &Head, fed: FedSums) -> Result<Vec<u8>, AllocError>
     requires accepted { paths_refusal (settings_of head.now) ((head.now.name ∷ []) ∷ []) ≡ None }
     requires fed { (bytes : List ℕ) × HasFed fed head.now.kind head.now.piece_length bytes }
-    ensures { (bytes : List ℕ) → HasFed fed head.now.kind head.now.piece_length bytes →
+    ensures made { (bytes : List ℕ) → HasFed fed head.now.kind head.now.piece_length bytes →
         IfOk result (λ torrent. torrent.items ≡ metainfo (settings_of head.now) (only head.now.name bytes)) }
+    ensures info { IfOk result (λ torrent. HasInfo torrent.items) }
 {
     let list = list_of_one(alloc, &head.name, fed.count())?;
     let sums = fed.finish(alloc)?;

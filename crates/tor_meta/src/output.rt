@@ -18,7 +18,8 @@ pub struct WriteFault {
 pub fn write_out<W: Write>(writer: &mut W, bytes: &[u8]) -> Result<(), WriteFault>
     ensures ok { OnOk result (Appends (W.contents writer.old) (W.contents writer.new) bytes.now) }
     ensures part { IfErr result (λ e. e.written < length bytes.now) }
-    ensures err { IfErr result (λ e. Appends (W.contents writer.old) (W.contents writer.new) (take e.written bytes.now)) }
+    ensures err { IfErr result (λ e.
+        Appends (W.contents writer.old) (W.contents writer.new) (take e.written bytes.now)) }
 {
     let mut written = 0;
     while written < bytes.len() {

@@ -11,13 +11,15 @@ use tor_tree::{FilePath, Kind, Name};
 
 /// The torrent of the content `abc` under the name `a`, piece length 16,384. The hash is the SHA-256 of `abc`.
 const ABC: &[u8] = b"d4:infod9:file treed1:ad0:d6:lengthi3e11:pieces root32:\
-\xba\x78\x16\xbf\x8f\x01\xcf\xea\x41\x41\x40\xde\x5d\xae\x22\x23\xb0\x03\x61\xa3\x96\x17\x7a\x9c\xb4\x10\xff\x61\xf2\x00\x15\xad\
+\xba\x78\x16\xbf\x8f\x01\xcf\xea\x41\x41\x40\xde\x5d\xae\x22\x23\
+\xb0\x03\x61\xa3\x96\x17\x7a\x9c\xb4\x10\xff\x61\xf2\x00\x15\xad\
 eee12:meta versioni2e4:name1:a12:piece lengthi16384ee12:piece layersdee";
 
 /// The same with a tracker, and private.
 const TRACKED: &[u8] =
     b"d8:announce9:http://t/4:infod9:file treed1:ad0:d6:lengthi3e11:pieces root32:\
-\xba\x78\x16\xbf\x8f\x01\xcf\xea\x41\x41\x40\xde\x5d\xae\x22\x23\xb0\x03\x61\xa3\x96\x17\x7a\x9c\xb4\x10\xff\x61\xf2\x00\x15\xad\
+\xba\x78\x16\xbf\x8f\x01\xcf\xea\x41\x41\x40\xde\x5d\xae\x22\x23\
+\xb0\x03\x61\xa3\x96\x17\x7a\x9c\xb4\x10\xff\x61\xf2\x00\x15\xad\
 eee12:meta versioni2e4:name1:a12:piece lengthi16384e7:privatei1ee12:piece layersdee";
 
 /// The torrents of no content under the name `a`.
@@ -29,23 +31,26 @@ const EMPTY_V2: &[u8] = b"d4:infod9:file treed1:ad0:d6:lengthi0eeee\
 const EMPTY_HYBRID: &[u8] = b"d4:infod9:file treed1:ad0:d6:lengthi0eeee6:lengthi0e\
 12:meta versioni2e4:name1:a12:piece lengthi16384e6:pieces0:e12:piece layersdee";
 
-/// The torrent of version 1 of the files `a`, that has `ab`, and `b`, that has `c`, in the folder `f`: the SHA-1 of `abc`.
+/// The torrent of version 1 of the files `a`, that has `ab`, and `b`, that has `c`, in the folder `f`, with the SHA-1
+/// of `abc`.
 const FOLDER_V1: &[u8] = b"d4:infod5:filesld6:lengthi2e4:pathl1:aeed6:lengthi1e4:pathl1:beee\
 4:name1:f12:piece lengthi16384e6:pieces20:\
 \xa9\x99\x3e\x36\x47\x06\x81\x6a\xba\x3e\x25\x71\x78\x50\xc2\x6c\x9c\xd0\xd8\x9dee";
 
 /// The hybrid of the same files: the SHA-256 of `ab` and of `c`, the SHA-1 of `ab` and 16,382 zeros and that of `c`.
 const FOLDER_HYBRID: &[u8] = b"d4:infod9:file treed1:ad0:d6:lengthi2e11:pieces root32:\
-\xfb\x8e\x20\xfc\x2e\x4c\x3f\x24\x8c\x60\xc3\x9b\xd6\x52\xf3\xc1\x34\x72\x98\xbb\x97\x7b\x8b\x4d\x59\x03\xb8\x50\x55\x62\x06\x03\
+\xfb\x8e\x20\xfc\x2e\x4c\x3f\x24\x8c\x60\xc3\x9b\xd6\x52\xf3\xc1\
+\x34\x72\x98\xbb\x97\x7b\x8b\x4d\x59\x03\xb8\x50\x55\x62\x06\x03\
 ee1:bd0:d6:lengthi1e11:pieces root32:\
-\x2e\x7d\x2c\x03\xa9\x50\x7a\xe2\x65\xec\xf5\xb5\x35\x68\x85\xa5\x33\x93\xa2\x02\x9d\x24\x13\x94\x99\x72\x65\xa1\xa2\x5a\xef\xc6\
+\x2e\x7d\x2c\x03\xa9\x50\x7a\xe2\x65\xec\xf5\xb5\x35\x68\x85\xa5\
+\x33\x93\xa2\x02\x9d\x24\x13\x94\x99\x72\x65\xa1\xa2\x5a\xef\xc6\
 eee5:filesld6:lengthi2e4:pathl1:aeed4:attr1:p6:lengthi16382e4:pathl4:.pad5:16382ee\
 d6:lengthi1e4:pathl1:beee12:meta versioni2e4:name1:f12:piece lengthi16384e6:pieces40:\
 \xcb\x25\xce\xe0\xc9\xee\x3f\xc5\x74\x13\xe4\x72\xac\xdb\x19\x13\x86\xed\xb6\x12\
 \x84\xa5\x16\x84\x1b\xa7\x7a\x5b\x46\x48\xde\x2c\xd0\xdf\xcb\x30\xea\x46\xdb\xb4\
 e12:piece layersdee";
 
-fn head(
+pub(crate) fn head(
     alloc: Global,
     kind: Kind,
     name: &[u8],
@@ -71,7 +76,10 @@ fn path(alloc: Global, text: &str) -> Result<FilePath, Fail> {
     Ok(FilePath::new(names).ok_or("no name")?)
 }
 
-fn files(alloc: Global, told: &[(&str, &[u8])]) -> Result<Vec<(FilePath, Vec<u8>)>, Fail> {
+pub(crate) fn files(
+    alloc: Global,
+    told: &[(&str, &[u8])],
+) -> Result<Vec<(FilePath, Vec<u8>)>, Fail> {
     let mut files = Vec::new(alloc);
     for (text, content) in told {
         files.push((path(alloc, text)?, Vec::from_slice(alloc, content)?))?;
@@ -301,7 +309,8 @@ fn links_to_a_torrent(rt: HostRuntime) -> Result<(), Fail> {
     );
     assert_eq!(rt;
         magnet(alloc, &Hashes { v1, v2 })?.as_str(),
-        "magnet:?xt=urn:btih:abababababababababababababababababababab&xt=urn:btmh:12200f0f0f0f0f0f0f0f0f0f0f0f0f0f0f0f0f0f0f0f0f0f0f0f0f0f0f0f0f0f0f0f"
+        "magnet:?xt=urn:btih:abababababababababababababababababababab\
+&xt=urn:btmh:12200f0f0f0f0f0f0f0f0f0f0f0f0f0f0f0f0f0f0f0f0f0f0f0f0f0f0f0f0f0f0f0f"
     );
     Ok(())
 }

@@ -1,8 +1,10 @@
 //! The one way from a head, a list of files and their sums to the bytes of a torrent.
-ghost use Rattle.std.specs.Prelude.{◌≡◌, List, IfOk, option_map};
+ghost use Rattle.std.specs.Prelude.{◌≡◌, List, IfOk, IsSome, codes, option_map};
 ghost use Rattle.tor_bencode.specs.Data.{string, dictionary};
+ghost use Rattle.tor_bencode.specs.Find.{value_of};
 ghost use Rattle.tor_bencode.specs.Spelling.{spelling};
 ghost use Rattle.tor_bencode.specs.View.{view};
+ghost use Rattle.tor_meta.specs.Hashes.{HasInfo};
 ghost use Rattle.tor_meta.specs.Head.{settings_of};
 ghost use Rattle.tor_meta.specs.Sums.{AreFactsOf, HaveTrees, IsJudged};
 ghost use Rattle.tor_spec.specs.Dictionary.{when};
@@ -30,8 +32,9 @@ pub fn torrent_bytes(
 ) -> Result<Vec<u8>, AllocError>
     requires judged { IsJudged head.now list.now }
     requires trees { HaveTrees head.now list.now sums.now }
-    ensures { (facts : List Facts) → AreFactsOf head.now list.now sums.now facts → IfOk result (λ bytes.
+    ensures made { (facts : List Facts) → AreFactsOf head.now list.now sums.now facts → IfOk result (λ bytes.
         bytes.items ≡ spelling (root_dictionary (settings_of head.now) facts sums.now.pieces.items)) }
+    ensures info { IfOk result (λ bytes. HasInfo bytes.items) }
 {
     let tree = tree(alloc, head, list, sums)?;
     match encode(alloc, &tree) {
@@ -45,8 +48,9 @@ pub fn torrent_bytes(
 fn tree(alloc: Global, head: &Head, list: &FileList, sums: &Sums) -> Result<Tree, AllocError>
     requires judged { IsJudged head.now list.now }
     requires trees { HaveTrees head.now list.now sums.now }
-    ensures { (facts : List Facts) → AreFactsOf head.now list.now sums.now facts → IfOk result (λ tree.
+    ensures made { (facts : List Facts) → AreFactsOf head.now list.now sums.now facts → IfOk result (λ tree.
         view tree ≡ root_dictionary (settings_of head.now) facts sums.now.pieces.items) }
+    ensures info { IfOk result (λ tree. IsSome (value_of (codes "info") (view tree))) }
 {
     torrents_are_lawful();
     let root = root(alloc, head, list, sums)?;

@@ -1,5 +1,5 @@
 -- One more character, and the text's end.
-use Rattle.std.proofs.Common.{◌≡◌, ℕ, List, [], ◌∷◌, ◌++◌, sym, ap, ◌∙◌, rules}
+use Rattle.std.proofs.Common.{◌≡◌, ℕ, List, [], ◌∷◌, ◌++◌, sym, ap, ◌∙◌}
 use Rattle.std.proofs.lemmas.Grind.{flat_map-append}
 use Rattle.std.proofs.lemmas.Iterator.{YieldsList-from_chars}
 use Rattle.std.proofs.lemmas.Iterator.Consumers.{YieldsList-end}
@@ -10,9 +10,11 @@ use Rattle.std.specs.Str.{encode_utf8_all}
 use Rattle.tor_cli.specs.Escape.{escape, escaped}
 use Rattle.tor_cli.proofs.escape.escaped.Goals as goal
 
-one_more : (cs : List ℕ) (c : ℕ) → escaped (encode_utf8_all (cs ++ c ∷ [])) ≡ escaped (encode_utf8_all cs) ++ escaped (encode c)
+one_more : (cs : List ℕ) (c : ℕ)
+    → escaped (encode_utf8_all (cs ++ c ∷ [])) ≡ escaped (encode_utf8_all cs) ++ escaped (encode c)
 one_more cs c =
-    ap (λ (bytes : List ℕ). escaped bytes) (encodes-append cs (c ∷ []) ∙ ap (λ (bytes : List ℕ). encode_utf8_all cs ++ bytes) (append-nil (encode c)))
+    ap (λ (bytes : List ℕ). escaped bytes) (encodes-append cs (c ∷ [])
+    ∙ ap (λ (bytes : List ℕ). encode_utf8_all cs ++ bytes) (append-nil (encode c)))
     ∙ flat_map-append escape (encode_utf8_all cs) (encode c)
 
 pub loop-c-preserved : goal.loop-c-preserved
@@ -24,7 +26,10 @@ loop-c-preserved c =
 pub returns : goal.returns
 returns c =
     let text = c.args.text.now in
-    let ended = YieldsList-end (YieldsList-from_chars text c.utf8.text cc) c.loop-c.yielded _ c.loop-c.yielded_by _ _ c.in-None.is c.next.ensures.steps in
+    let ended =
+    YieldsList-end (YieldsList-from_chars text c.utf8.text cc) c.loop-c.yielded _ c.loop-c.yielded_by _ _
+    c.in-None.is c.next.ensures.steps in
     let all : encode_utf8_all c.loop-c.yielded ≡ text =
-    ap (λ (cs : List ℕ). encode_utf8_all cs) (sym (map-id c.loop-c.yielded) ∙ ended.0) ∙ encodes-chars text c.utf8.text in
+    ap (λ (cs : List ℕ). encode_utf8_all cs) (sym (map-id c.loop-c.yielded) ∙ ended.0)
+    ∙ encodes-chars text c.utf8.text in
     c.loop-c.invariant ∙ ap (λ (bytes : List ℕ). escaped bytes) all

@@ -7,5 +7,6 @@ use Rattle.tor_cli.proofs.escape.push_escaped.Goals as goal
 
 pub returns-else-is_escaped : goal.returns-else-is_escaped
 returns-else-is_escaped c =
-    let stays : escaped (encode_utf8 c.args.c) ≡ encode_utf8 c.args.c = plain_char c.args.c (sym c.is_escaped.ensures ∙ c.if-is_escaped.false) in
+    let stays : escaped (encode_utf8 c.args.c) ≡ encode_utf8 c.args.c =
+    plain_char c.args.c (sym c.is_escaped.ensures ∙ c.if-is_escaped.false) in
     rw stays (search rules)

@@ -1,5 +1,5 @@
 -- What came of the parts so far, and of one more.
-use Rattle.std.proofs.Common.{◌≡◌, ◌-◌, arith, take, length, ◌++◌, length-append, length-take}
+use Rattle.std.proofs.Common.{◌≡◌, arith, take, length, ◌++◌, length-append, length-take}
 use Rattle.std.proofs.KnownBytes.{Consumes-trans}
 use Rattle.tor_cli.proofs.Inputs.{fault_after}
 use Rattle.tor_cli.proofs.input.read_parts.Goals as goal
@@ -16,7 +16,9 @@ returns-in-Err-take-clause-err g c =
     let remaining = g.R.Read.remaining in
     let before = c.parts.invariant.taken in
     let part = take c.in-Ok.count c.read_part.new.buffer in
-    let given = Consumes-trans (remaining c.args.reader.now) (remaining c.parts.reader) (remaining c.read_part.new.reader) before.0 part before.2 c.in-Ok.ensures.given in
+    let given =
+    Consumes-trans (remaining c.args.reader.now) (remaining c.parts.reader)
+    (remaining c.read_part.new.reader) before.0 part before.2 c.in-Ok.ensures.given in
     (before.0 ++ part, given, simp (length-append, length-take) (omega (arith, before.1, c.in-Ok.ensures.within)))
 
 pub parts-preserved : goal.parts-preserved
@@ -24,12 +26,19 @@ parts-preserved g c =
     let remaining = g.R.Read.remaining in
     let before = c.parts.invariant.taken in
     let part = take c.in-Ok.count c.read_part.new.buffer in
-    let given = Consumes-trans (remaining c.args.reader.now) (remaining c.parts.reader) (remaining c.read_part.new.reader) before.0 part before.2 c.in-Ok.ensures.given in
-    let taken = g.met.I.Intake.takes_both c.args.intake.now c.parts.intake c.take.new.self before.0 part before.3 (rw c.split_at.ensures.front at c.in-Ok-take.ensures.taken) in
-    let counted : length part ≡ c.in-Ok.count = rw length-take (omega (arith, c.in-Ok.ensures.within, c.read_part.ensures.buffer_stays)) in
-    let rest = rw (c.split_at.ensures.front, counted) at (c.in-Ok-take.ensures.rest c.parts.left c.parts.invariant.allowed) in
+    let given =
+    Consumes-trans (remaining c.args.reader.now) (remaining c.parts.reader)
+    (remaining c.read_part.new.reader) before.0 part before.2 c.in-Ok.ensures.given in
+    let taken =
+    g.met.I.Intake.takes_both c.args.intake.now c.parts.intake c.take.new.self before.0 part before.3
+    (rw c.split_at.ensures.front at c.in-Ok-take.ensures.taken) in
+    let counted : length part ≡ c.in-Ok.count =
+    rw length-take (omega (arith, c.in-Ok.ensures.within, c.read_part.ensures.buffer_stays)) in
+    let rest =
+    rw (c.split_at.ensures.front, counted) at (c.in-Ok-take.ensures.rest c.parts.left c.parts.invariant.allowed) in
     record {
       room = omega (arith, c.parts.invariant.room, c.read_part.ensures.buffer_stays);
       allowed = rest;
-      taken = (before.0 ++ part, rw length-append (omega (arith, before.1, counted, c.in-Ok.ensures.within)), given, taken);
+      taken =
+          (before.0 ++ part, rw length-append (omega (arith, before.1, counted, c.in-Ok.ensures.within)), given, taken);
     }

@@ -8,7 +8,8 @@ invariant-parts g l = record {
   room : length l.buffer ≡ 65536;
   allowed : g.I.Intake.may_take l.intake l.left;
   taken : (bytes : List ℕ) × (length bytes + l.left ≡ l.limit)
-      × Consumes (g.R.Read.remaining l.fn.reader) (g.R.Read.remaining l.reader) bytes × g.I.Intake.takes l.fn.intake bytes l.intake;
+      × Consumes (g.R.Read.remaining l.fn.reader) (g.R.Read.remaining l.reader) bytes
+      × g.I.Intake.takes l.fn.intake bytes l.intake;
 }
 
 abbrev pub decreases-parts : goal.decreases-parts

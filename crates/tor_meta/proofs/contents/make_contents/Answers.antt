@@ -1,49 +1,68 @@
 -- The files in the order of their paths, with their contents, are those that were handed in.
-use Rattle.std.proofs.Common.{◌∙◌, ◌≡◌, ap, refl, length, map}
+use Rattle.std.proofs.Common.{◌∙◌, ap, refl}
 use Rattle.tor_meta.specs.Contents.{bytes_of}
 use Rattle.tor_meta.specs.Head.{settings_of}
-use Rattle.tor_meta.proofs.Judged.{judged}
-use Rattle.tor_meta.proofs.Made.{accepted_all, contents_listed, judged_list, lengths_in, made_of, refused_lengths, refused_paths, within}
+use Rattle.tor_meta.proofs.Made.{accepted_all, contents_listed, judged_list, lengths_in, made_of, refused_lengths}
+use Rattle.tor_meta.proofs.Made.{refused_paths, within}
 use Rattle.tor_meta.proofs.contents.make_contents.Goals as goal
 
 pub returns-in-Err-clause-refused : goal.returns-in-Err-clause-refused
 returns-in-Err-clause-refused c =
-    refused_paths (settings_of c.args.head.now) c.args.files.items c.in_ok-paths.paths.items c.in_ok-paths.contents.items (lengths_in c.in_ok-paths.contents.items)
+    refused_paths (settings_of c.args.head.now) c.args.files.items c.in_ok-paths.paths.items
+    c.in_ok-paths.contents.items (lengths_in c.in_ok-paths.contents.items)
     c.in_ok-paths.ensures.paths c.in_ok-paths.ensures.contents refl c.in-Err.refusal c.in-Err.ensures.refused
 
 pub returns-in-Err-with_lengths-clause-refused : goal.returns-in-Err-with_lengths-clause-refused
 returns-in-Err-with_lengths-clause-refused c =
-    refused_lengths (settings_of c.args.head.now) c.args.files.items c.in_ok-paths.paths.items c.in_ok-paths.contents.items c.deref-2.result.now
-    c.in_ok-paths.ensures.paths c.in_ok-paths.ensures.contents (c.deref-2.ensures.value ∙ c.in_ok-lengths.ensures ∙ ap lengths_in c.deref.ensures.value)
-    c.in-Err-with_lengths.fault c.from.result c.from.ensures c.in-Ok.ensures.accepted c.in-Err-with_lengths.ensures.refused
+    refused_lengths (settings_of c.args.head.now) c.args.files.items c.in_ok-paths.paths.items
+    c.in_ok-paths.contents.items c.deref-2.result.now
+    c.in_ok-paths.ensures.paths c.in_ok-paths.ensures.contents (c.deref-2.ensures.value ∙ c.in_ok-lengths.ensures
+    ∙ ap lengths_in c.deref.ensures.value)
+    c.in-Err-with_lengths.fault c.from.result c.from.ensures c.in-Ok.ensures.accepted
+    c.in-Err-with_lengths.ensures.refused
 
 pub returns-clause-accepted : goal.returns-clause-accepted
 returns-clause-accepted c =
-    accepted_all (settings_of c.args.head.now) c.args.files.items c.in_ok-paths.paths.items c.in_ok-paths.contents.items c.deref-2.result.now
-    c.in_ok-paths.ensures.paths c.in_ok-paths.ensures.contents (c.deref-2.ensures.value ∙ c.in_ok-lengths.ensures ∙ ap lengths_in c.deref.ensures.value)
+    accepted_all (settings_of c.args.head.now) c.args.files.items c.in_ok-paths.paths.items c.in_ok-paths.contents.items
+    c.deref-2.result.now
+    c.in_ok-paths.ensures.paths c.in_ok-paths.ensures.contents (c.deref-2.ensures.value ∙ c.in_ok-lengths.ensures
+    ∙ ap lengths_in c.deref.ensures.value)
     c.in-Ok.ensures.accepted c.in-Ok-with_lengths.ensures.accepted
 
 pub in_order-requires : goal.in_order-requires
 in_order-requires c =
     rw (c.deref-3.ensures.value, c.deref-4.ensures.value)
-    (within (settings_of c.args.head.now) c.args.files.items c.in_ok-paths.paths.items c.in_ok-paths.contents.items c.deref-2.result.now
-    c.in_ok-paths.ensures.paths c.in_ok-paths.ensures.contents (c.deref-2.ensures.value ∙ c.in_ok-lengths.ensures ∙ ap lengths_in c.deref.ensures.value)
-    c.in-Ok.paths c.in-Ok-with_lengths.both.0 c.in-Ok-with_lengths.both.1.items c.in-Ok.ensures.placed c.in-Ok-with_lengths.ensures.files c.in-Ok-with_lengths.ensures.places)
+    (within (settings_of c.args.head.now) c.args.files.items c.in_ok-paths.paths.items c.in_ok-paths.contents.items
+    c.deref-2.result.now
+    c.in_ok-paths.ensures.paths c.in_ok-paths.ensures.contents (c.deref-2.ensures.value ∙ c.in_ok-lengths.ensures
+    ∙ ap lengths_in c.deref.ensures.value)
+    c.in-Ok.paths c.in-Ok-with_lengths.both.0 c.in-Ok-with_lengths.both.1.items c.in-Ok.ensures.placed
+    c.in-Ok-with_lengths.ensures.files c.in-Ok-with_lengths.ensures.places)
 
 pub torrent_of-requires-clause-judged : goal.torrent_of-requires-clause-judged
 torrent_of-requires-clause-judged c =
-    judged_list c.args.head.now c.in_ok-paths.paths.items c.deref-2.result.now c.in-Ok.paths c.in-Ok-with_lengths.both.0 c.in-Ok.ensures.placed c.in-Ok.ensures.accepted c.in-Ok-with_lengths.ensures.files (rw (← c.list.view_is) c.list.invariant)
+    judged_list c.args.head.now c.in_ok-paths.paths.items c.deref-2.result.now c.in-Ok.paths c.in-Ok-with_lengths.both.0
+    c.in-Ok.ensures.placed c.in-Ok.ensures.accepted c.in-Ok-with_lengths.ensures.files
+    (rw (← c.list.view_is) c.list.invariant)
 
 pub torrent_of-requires-clause-contents : goal.torrent_of-requires-clause-contents
 torrent_of-requires-clause-contents c =
-    contents_listed (settings_of c.args.head.now) c.args.files.items c.in_ok-paths.paths.items c.in_ok-paths.contents.items c.deref-2.result.now
-    c.in_ok-paths.ensures.paths c.in_ok-paths.ensures.contents (c.deref-2.ensures.value ∙ c.in_ok-lengths.ensures ∙ ap lengths_in c.deref.ensures.value)
-    c.in-Ok.paths c.in-Ok-with_lengths.both.0 c.in-Ok-with_lengths.both.1.items c.in-Ok.ensures.placed c.in-Ok-with_lengths.ensures.files c.in-Ok-with_lengths.ensures.places
-    _ (ap bytes_of c.deref-5.ensures.value ∙ c.in_ok-ordered.ensures ∙ rw (c.deref-3.ensures.value, c.deref-4.ensures.value) refl)
+    contents_listed (settings_of c.args.head.now) c.args.files.items c.in_ok-paths.paths.items
+    c.in_ok-paths.contents.items c.deref-2.result.now
+    c.in_ok-paths.ensures.paths c.in_ok-paths.ensures.contents (c.deref-2.ensures.value ∙ c.in_ok-lengths.ensures
+    ∙ ap lengths_in c.deref.ensures.value)
+    c.in-Ok.paths c.in-Ok-with_lengths.both.0 c.in-Ok-with_lengths.both.1.items c.in-Ok.ensures.placed
+    c.in-Ok-with_lengths.ensures.files c.in-Ok-with_lengths.ensures.places
+    _ (ap bytes_of c.deref-5.ensures.value ∙ c.in_ok-ordered.ensures
+    ∙ rw (c.deref-3.ensures.value, c.deref-4.ensures.value) refl)
 
 pub returns-clause-made : goal.returns-clause-made
 returns-clause-made c =
-    made_of (settings_of c.args.head.now) c.args.files.items c.in_ok-paths.paths.items c.in_ok-paths.contents.items c.deref-2.result.now
-    c.in_ok-paths.ensures.paths c.in_ok-paths.ensures.contents (c.deref-2.ensures.value ∙ c.in_ok-lengths.ensures ∙ ap lengths_in c.deref.ensures.value)
-    c.in-Ok.paths c.in-Ok-with_lengths.both.0 c.in-Ok-with_lengths.both.1.items c.in-Ok.ensures.placed c.in-Ok-with_lengths.ensures.files c.in-Ok-with_lengths.ensures.places
-    c.in-Ok.ensures.lawful _ c.in_ok-bytes.bytes.items (ap bytes_of c.deref-5.ensures.value ∙ c.in_ok-ordered.ensures ∙ rw (c.deref-3.ensures.value, c.deref-4.ensures.value) refl) c.in_ok-bytes.ensures
+    made_of (settings_of c.args.head.now) c.args.files.items c.in_ok-paths.paths.items c.in_ok-paths.contents.items
+    c.deref-2.result.now
+    c.in_ok-paths.ensures.paths c.in_ok-paths.ensures.contents (c.deref-2.ensures.value ∙ c.in_ok-lengths.ensures
+    ∙ ap lengths_in c.deref.ensures.value)
+    c.in-Ok.paths c.in-Ok-with_lengths.both.0 c.in-Ok-with_lengths.both.1.items c.in-Ok.ensures.placed
+    c.in-Ok-with_lengths.ensures.files c.in-Ok-with_lengths.ensures.places
+    c.in-Ok.ensures.lawful _ c.in_ok-bytes.bytes.items (ap bytes_of c.deref-5.ensures.value ∙ c.in_ok-ordered.ensures
+    ∙ rw (c.deref-3.ensures.value, c.deref-4.ensures.value) refl) c.in_ok-bytes.ensures.made

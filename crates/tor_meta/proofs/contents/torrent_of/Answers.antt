@@ -6,12 +6,18 @@ use Rattle.tor_meta.proofs.ContentSteps.{have_trees, same_pieces, told_facts}
 use Rattle.tor_meta.proofs.contents.torrent_of.Goals as goal
 
 pub torrent_bytes-requires-clause-trees : goal.torrent_bytes-requires-clause-trees
-torrent_bytes-requires-clause-trees c = have_trees c.args.head.now c.args.list.now (bytes_of c.args.contents.now) c.in_ok-sums.sums c.requires.contents c.in_ok-sums.ensures
+torrent_bytes-requires-clause-trees c =
+    have_trees c.args.head.now c.args.list.now (bytes_of c.args.contents.now) c.in_ok-sums.sums c.requires.contents
+    c.in_ok-sums.ensures
 
-pub returns : goal.returns
+pub returns-clause-made : goal.returns-clause-made
 unfolding metainfo
-returns c =
+returns-clause-made c =
     let contents = bytes_of c.args.contents.now in
-    let told = told_facts c.args.head.now c.args.list.now contents c.in_ok-sums.sums c.requires.contents c.in_ok-sums.ensures in
-    c.in_ok-bytes.ensures (facts_of_files c.args.head.now.piece_length (files_of c.args.list.now contents)) told
-    ∙ ap spelling (same_pieces c.args.head.now c.args.list.now contents c.in_ok-sums.sums c.requires.contents c.in_ok-sums.ensures)
+    let told =
+    told_facts c.args.head.now c.args.list.now contents c.in_ok-sums.sums c.requires.contents
+    c.in_ok-sums.ensures in
+    c.in_ok-bytes.ensures.made (facts_of_files c.args.head.now.piece_length (files_of c.args.list.now contents)) told
+    ∙ ap spelling
+    (same_pieces c.args.head.now c.args.list.now contents c.in_ok-sums.sums c.requires.contents
+    c.in_ok-sums.ensures)

@@ -5,7 +5,8 @@ use Rattle.tor_meta.proofs.items.dictionary.Goals as goal
 pub loop-key-preserved-in_ok-push : goal.loop-key-preserved-in_ok-push
 loop-key-preserved-in_ok-push c =
     rw (c.in_ok-push.ensures.items, c.in-Some-value.is)
-    (field_there c.loop-key.yielded c.in-Some.key c.in-Some-value.value c.loop-key.pairs.items (c.in_ok-from_slice.field-0, c.in-Some-value.value)
+    (field_there c.loop-key.yielded c.in-Some.key c.in-Some-value.value c.loop-key.pairs.items
+    (c.in_ok-from_slice.field-0, c.in-Some-value.value)
     c.loop-key.invariant (c.in_ok-from_slice.ensures.items ∙ c.as_bytes.ensures.value) refl)
 
 pub loop-key-preserved : goal.loop-key-preserved

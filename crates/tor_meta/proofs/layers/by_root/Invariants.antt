@@ -8,7 +8,8 @@ use Rattle.tor_meta.proofs.layers.by_root.Given as goal
 abbrev pub invariant-files : goal.invariant-files
 invariant-files l = record {
   within : l.left ≤ length l.files;
-  passed : (facts : List Facts) → listed facts ≡ l.files → roots_in facts ≡ l.roots → layers_in facts ≡ lists_of l.layers
+  passed : (facts : List Facts) → listed facts ≡ l.files → roots_in facts ≡ l.roots
+      → layers_in facts ≡ lists_of l.layers
       → pairs_of_map l.by_root.entries ≡ piece_layers l.piece_length (drop l.left facts);
 }
 

@@ -12,16 +12,22 @@ torrent_bytes-requires-clause-trees c =
     let bytes = c.requires.fed.0 in
     let fed = c.requires.fed.1 in
     let file : List (List ℕ) × ℕ = (head.name ∷ [], c.count.result) in
-    let same : map length (bytes ∷ []) ≡ lengths_of (file ∷ []) = ap (λ n. n ∷ []) (sym (c.count.ensures.value ∙ fed.counted)) in
-    rw c.in_ok-list.ensures.list (have_trees head (file ∷ []) (bytes ∷ []) c.in_ok-sums.sums same (sum_up_one head file bytes c.in_ok-sums.sums (c.in_ok-sums.ensures head.kind head.piece_length bytes fed)))
+    let same : map length (bytes ∷ []) ≡ lengths_of (file ∷ []) =
+    ap (λ n. n ∷ []) (sym (c.count.ensures.value ∙ fed.counted)) in
+    rw c.in_ok-list.ensures.list
+    (have_trees head (file ∷ []) (bytes ∷ []) c.in_ok-sums.sums same
+    (sum_up_one head file bytes c.in_ok-sums.sums (c.in_ok-sums.ensures head.kind head.piece_length bytes fed)))
 
-pub returns : goal.returns
+pub returns-clause-made : goal.returns-clause-made
 unfolding metainfo
-returns c = λ bytes fed.
+returns-clause-made c = λ bytes fed.
     let head = c.args.head.now in
     let file : List (List ℕ) × ℕ = (head.name ∷ [], c.count.result) in
-    let same : map length (bytes ∷ []) ≡ lengths_of (file ∷ []) = ap (λ n. n ∷ []) (sym (c.count.ensures.value ∙ fed.counted)) in
-    let up = sum_up_one head file bytes c.in_ok-sums.sums (c.in_ok-sums.ensures head.kind head.piece_length bytes fed) in
+    let same : map length (bytes ∷ []) ≡ lengths_of (file ∷ []) =
+    ap (λ n. n ∷ []) (sym (c.count.ensures.value ∙ fed.counted)) in
+    let up =
+    sum_up_one head file bytes c.in_ok-sums.sums (c.in_ok-sums.ensures head.kind head.piece_length bytes fed) in
     let told = told_facts head (file ∷ []) (bytes ∷ []) c.in_ok-sums.sums same up in
-    c.in_ok-bytes.ensures (facts_of_files head.piece_length (only head.name bytes)) (rw c.in_ok-list.ensures.list told)
+    c.in_ok-bytes.ensures.made (facts_of_files head.piece_length (only head.name bytes))
+    (rw c.in_ok-list.ensures.list told)
     ∙ ap spelling (same_pieces head (file ∷ []) (bytes ∷ []) c.in_ok-sums.sums same up)

@@ -13,6 +13,7 @@ loop-written-preserved g c =
       inside = omega (arith, c.in-Ok.ensures.bound);
       sent =
           rw take-add
-          (Appends-trans (contents c.args.writer.now) (contents c.loop-written.writer) (contents c.write.new.self) (take front bytes) (take c.in-Ok.count (drop front bytes))
+          (Appends-trans (contents c.args.writer.now) (contents c.loop-written.writer) (contents c.write.new.self)
+          (take front bytes) (take c.in-Ok.count (drop front bytes))
           c.loop-written.invariant.sent (rw c.split_at.ensures.back at c.in-Ok.ensures.bytes));
     }

@@ -9,4 +9,5 @@ use Rattle.tor_meta.proofs.sums.sum_pieces.Given as goal
 abbrev pub invariant-loop-entry : goal.invariant-loop-entry
 invariant-loop-entry l =
     (fed : List ℕ) × HasFed l.sums l.piece_length fed
-    × (fed ++ joined_content (drop l.entry-index l.entries) (bytes_of (iter_rest l.left)) ≡ joined_content l.entries (bytes_of l.contents))
+    × (fed ++ joined_content (drop l.entry-index l.entries) (bytes_of (iter_rest l.left))
+    ≡ joined_content l.entries (bytes_of l.contents))

@@ -9,5 +9,6 @@ use Rattle.tor_meta.proofs.sums.sum_trees.Given as goal
 abbrev pub invariant-loop-content : goal.invariant-loop-content
 invariant-loop-content l = record {
   rooted : l.roots.items ≡ map root_of (bytes_of (take l.content-index l.contents));
-  layered : lists_of l.layers.items ≡ map (λ content. piece_layer content l.piece_length) (bytes_of (take l.content-index l.contents));
+  layered : lists_of l.layers.items
+      ≡ map (λ content. piece_layer content l.piece_length) (bytes_of (take l.content-index l.contents));
 }

@@ -1,0 +1,56 @@
+-- What the words of the command line ask for.
+use Rattle.std.specs.Prelude.{◌≡◌, ℕ, true, false, List, ◌++◌, Some, option_map, codes, string_bytes}
+use Rattle.std.specs.Str.Parse.{IsNumeral, digits_value, without_leading_plus}
+use Rattle.clap.specs.Words.{Row, first_of, one_of, subcommand_of, subcommand_rows_of}
+use Rattle.clap.specs.declared.builder.value_parser.ValueParser.{ValueParser}
+use Rattle.clap.specs.declared.parser.matches.ArgMatches.{ArgMatches}
+use Rattle.tor_tree.specs.declared.kinds.Kind.{Kind}
+use Rattle.tor_tree.specs.declared.kinds.Kind.TheVariants.{V1, V2, Hybrid}
+use Rattle.tor_cli.specs.CommandLine.{AreKinds, tor_app}
+use Rattle.tor_cli.specs.declared.command.Request.{Request}
+use Rattle.tor_cli.specs.declared.command.Request.TheVariants.{Show, Make}
+use Rattle.tor_cli.specs.declared.fault.Fault.{Fault}
+use Rattle.tor_cli.specs.declared.fault.Fault.TheVariants.{Usage, Resources}
+use Rattle.tor_cli.specs.declared.make_command.MakeOptions.{MakeOptions}
+
+-- the word for a kind
+abbrev pub word_of : Kind → List ℕ
+word_of V1 = codes "v1"
+word_of V2 = codes "v2"
+word_of Hybrid = codes "hybrid"
+
+-- the values of the options, by their names
+pub record AreOptionsIn (rows : List Row) (options : MakeOptions) : Type 0 where
+  pub kind : first_of (codes "kind") rows ≡ Some (word_of options.kind)
+  pub name : first_of (codes "name") rows ≡ Some options.name.now
+  -- in decimal digits
+  pub piece_length : (text : List ℕ) → one_of (codes "piece-length") rows ≡ Some text
+      → IsNumeral 10 (without_leading_plus text)
+      × (options.piece_length ≡ digits_value 10 (without_leading_plus text))
+  pub announce : first_of (codes "announce") rows ≡ option_map (λ url. url.now) options.announce
+  pub is_private : one_of (codes "private") rows ≡ Some (codes "true") → options.is_private ≡ true
+  pub is_public : one_of (codes "private") rows ≡ Some (codes "false") → options.is_private ≡ false
+
+-- the request is what a parse found
+abbrev pub IsFoundIn : ArgMatches → Request → Type 0
+IsFoundIn matches (Show text) = Unit {0}
+IsFoundIn matches (Make options) =
+    (rows : List Row) × (subcommand_rows_of matches ≡ Some (codes "make", rows)) × AreOptionsIn rows options
+
+-- the words ask for this; of a text to be shown nothing is said
+abbrev pub Asks : List (List ℕ) → Request → Type 0
+Asks words (Show text) = Unit {0}
+Asks words (Make options) = (kinds : ValueParser) × AreKinds kinds × (rows : List Row)
+    × (subcommand_of (tor_app kinds) words ≡ Some (codes "make", rows)) × AreOptionsIn rows options
+
+-- a fault of usage, whose line ends in where the help of this command is
+abbrev pub IsUsage : List ℕ → Fault → Type 0
+IsUsage command (Usage line) =
+    (cause : List ℕ) × (string_bytes line ≡ cause ++ (codes "; see '" ++ (command ++ codes " --help'")))
+IsUsage command other = ⊥
+
+-- a fault of the words, or want of memory
+abbrev pub IsOfWords : Fault → Type 0
+IsOfWords (Usage line) = Unit {0}
+IsOfWords Resources = Unit {0}
+IsOfWords other = ⊥
