@@ -1,5 +1,5 @@
 -- The root and the piece layer of a content (BEP 52, "pieces root" and "piece layers").
-use Rattle.std.specs.Prelude.{ℕ, ◌/◌, Bool, ◌&&◌, IsTrue, List, [], length, map, nat_le, if◌then◌else◌}
+use Rattle.std.specs.Prelude.{ℕ, ◌/◌, Bool, ◌&&◌, IsTrue, List, [], ◌∷◌, length, map, nat_le, Option, None, Some, if◌then◌else◌}
 use Rattle.std.specs.Int.{div_ceil, is_power_of_two}
 use Rattle.std.specs.List.{range_with_len}
 use Rattle.tor_merkle.specs.Block.{run_at, leaves}
@@ -20,6 +20,11 @@ tree_leaves content = padded (height (length (leaves content))) zero_leaf (leave
 -- the Merkle root of a content that is not empty (BEP 52, "pieces root")
 unfoldable pub pieces_root : List ℕ → List ℕ
 pieces_root content = subtree_root (height (length (leaves content))) (tree_leaves content)
+
+-- the root of a content; an empty one has none
+abbrev pub root_of : List ℕ → Option (List ℕ)
+root_of [] = None
+root_of (byte ∷ bytes) = Some (pieces_root (byte ∷ bytes))
 
 -- the level at which one hash covers one piece
 abbrev pub piece_level : ℕ → ℕ

@@ -10,9 +10,11 @@ use Rattle.tor_meta.specs.Head.{settings_of}
 use Rattle.tor_meta.specs.Sums.{AreFactsOf, HaveTrees, SumUp}
 use Rattle.tor_meta.specs.declared.head.Head.{Head}
 use Rattle.tor_meta.specs.declared.sums.Sums.{Sums}
-use Rattle.tor_spec.specs.Facts.{Facts, File, listed, layers_in, root_of, roots_in}
+use Rattle.tor_spec.specs.Facts.{Facts, File, listed, layers_in, roots_in}
+use Rattle.tor_merkle.specs.Layer.{root_of}
 use Rattle.tor_spec.specs.Metainfo.{facts_of_files, pieces_of_files, root_dictionary}
-use Rattle.tor_spec.specs.Settings.{Settings, has_v1}
+use Rattle.tor_spec.specs.Settings.{Settings}
+use Rattle.tor_tree.specs.Kinds.{has_v1}
 use Rattle.tor_tree.specs.FileList.{lengths_of}
 use Rattle.tor_tree.specs.TidyTree.{HasItsRoot}
 

@@ -17,7 +17,7 @@ use Rattle.tor_meta.specs.declared.sums.Sums.{Sums}
 use Rattle.tor_spec.specs.Facts.{Facts, facts_from, listed, layers_in, roots_in}
 use Rattle.tor_spec.specs.InfoDictionary.{total_size}
 use Rattle.tor_spec.specs.Makeable.{AreMakeable}
-use Rattle.tor_spec.specs.Settings.{has_v2}
+use Rattle.tor_tree.specs.Kinds.{has_v2}
 use Rattle.tor_tree.specs.FileList.{IsFileList, lengths_fault, lengths_of, lengths_too_large, paths_fault}
 use Rattle.tor_tree.specs.FileList.{paths_of}
 use Rattle.tor_tree.specs.Path.{HasNames}

@@ -4,8 +4,8 @@ use Rattle.tor_meta.specs.declared.fed.FedSums.{FedSums}
 use Rattle.tor_merkle.specs.Layer.{piece_layer}
 use Rattle.tor_meta.specs.Layers.{lists_of}
 use Rattle.tor_meta.specs.declared.sums.Sums.{Sums}
-use Rattle.tor_spec.specs.Facts.{root_of}
-use Rattle.tor_spec.specs.Settings.{has_v1, has_v2}
+use Rattle.tor_merkle.specs.Layer.{root_of}
+use Rattle.tor_tree.specs.Kinds.{has_v1, has_v2}
 use Rattle.tor_tree.specs.declared.kinds.Kind.{Kind}
 use Rattle.tor_v1.specs.Piece.{piece_sums}
 use Rattle.tor_v1.specs.Feeding.{HasFed as HaveFed}

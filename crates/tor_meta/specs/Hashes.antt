@@ -9,7 +9,7 @@ use Rattle.tor_bencode.specs.Find.{value_of}
 use Rattle.tor_bencode.specs.Lawful.{IsLawful}
 use Rattle.tor_bencode.specs.Spelling.{spelling}
 use Rattle.tor_meta.specs.declared.hashes.Hashes.{Hashes}
-use Rattle.tor_spec.specs.Settings.{has_v1, has_v2}
+use Rattle.tor_tree.specs.Kinds.{has_v1, has_v2}
 use Rattle.tor_tree.specs.declared.kinds.Kind.{Kind}
 
 -- the bytes spell a lawful tree that has `info`

@@ -7,8 +7,10 @@ use Rattle.tor_meta.specs.Layers.{lists_of}
 use Rattle.tor_meta.specs.declared.head.Head.{Head}
 use Rattle.tor_meta.specs.declared.judge.TheConstants.{MAX_NAMES}
 use Rattle.tor_meta.specs.declared.sums.Sums.{Sums}
-use Rattle.tor_spec.specs.Facts.{Facts, listed, layers_in, root_of, roots_in}
-use Rattle.tor_spec.specs.Settings.{has_v1, has_v2, layout_of}
+use Rattle.tor_spec.specs.Facts.{Facts, listed, layers_in, roots_in}
+use Rattle.tor_merkle.specs.Layer.{root_of}
+use Rattle.tor_spec.specs.Settings.{layout_of}
+use Rattle.tor_tree.specs.Kinds.{has_v1, has_v2}
 use Rattle.tor_tree.specs.FileList.{IsFileList}
 use Rattle.tor_tree.specs.TidyTree.{HasItsRoot}
 use Rattle.tor_v1.specs.Content.{v1_pieces}

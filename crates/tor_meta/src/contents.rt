@@ -122,12 +122,12 @@ fn sums_of(
 {
     files_are_small();
     let mut sums = Sums::none(alloc);
-    if head.has_v2() {
+    if head.kind.has_v2() {
         let trees = sum_trees(alloc, head.piece_length, contents)?;
         sums.roots = trees.0;
         sums.layers = trees.1;
     }
-    if head.has_v1() {
+    if head.kind.has_v1() {
         let entries = entries(alloc, head, list)?;
         sums.pieces = sum_pieces(alloc, head.piece_length, &entries, contents)?;
     }

@@ -37,8 +37,9 @@ impl FedSums {
     {
         FedSums {
             count: 0,
-            feed: head.has_v2().then(|| Feed::new(alloc, head.piece_length)),
+            feed: head.kind.has_v2().then(|| Feed::new(alloc, head.piece_length)),
             pieces: head
+                .kind
                 .has_v1()
                 .then(|| PieceSums::new(alloc, head.piece_length)),
         }

@@ -1,6 +1,6 @@
 //! What a torrent is made with, beside its files.
 ghost use Rattle.std.specs.Prelude.{◌≡◌};
-ghost use Rattle.tor_spec.specs.Settings.{has_v1, has_v2, is_aligned, layout_of};
+ghost use Rattle.tor_spec.specs.Settings.{is_aligned, layout_of};
 ghost use Rattle.tor_meta.specs.Head.{settings_of};
 
 use tor_tree::{Kind, Name};
@@ -23,20 +23,6 @@ pub struct Head {
 }
 
 impl Head {
-    /// Whether it asks for the keys of BEP 3.
-    pub(crate) fn has_v1(&self) -> bool
-        ensures { result ≡ has_v1 self.now.kind }
-    {
-        matches!(self.kind, Kind::V1 | Kind::Hybrid)
-    }
-
-    /// Whether it asks for the keys of BEP 52.
-    pub(crate) fn has_v2(&self) -> bool
-        ensures { result ≡ has_v2 self.now.kind }
-    {
-        matches!(self.kind, Kind::V2 | Kind::Hybrid)
-    }
-
     /// Whether padding is to align the files to pieces.
     pub(crate) fn is_aligned(&self) -> bool
         ensures { result ≡ is_aligned self.now.kind self.now.single }

@@ -9,7 +9,8 @@ ghost use Rattle.tor_spec.specs.Dictionary.{when};
 ghost use Rattle.tor_spec.specs.Facts.{Facts, listed};
 ghost use Rattle.tor_spec.specs.FilesList.{files_list};
 ghost use Rattle.tor_spec.specs.InfoDictionary.{info_dictionary, total_size};
-ghost use Rattle.tor_spec.specs.Settings.{has_v1, has_v2, layout_of};
+ghost use Rattle.tor_spec.specs.Settings.{layout_of};
+ghost use Rattle.tor_tree.specs.Kinds.{has_v1, has_v2};
 ghost use Rattle.tor_tree.specs.WrittenTree.{file_tree};
 ghost use Rattle.tor_v1.specs.Entries.{v1_entries};
 ghost use Rattle.tor_v1.specs.Piece.{max_piece_length};
@@ -47,7 +48,7 @@ pub(crate) fn info(
         ("file tree", tree),
         ("files", entries),
         ("length", length),
-        ("meta version", number_if(head.has_v2(), 2)),
+        ("meta version", number_if(head.kind.has_v2(), 2)),
         ("name", Some(name)),
         ("piece length", Some(number(head.piece_length))),
         ("pieces", pieces),
@@ -67,7 +68,7 @@ fn tree(
     ensures { IfOk result (λ item.
         option_map view item ≡ when (has_v2 head.now.kind) (file_tree list.now sums.now.roots.items)) }
 {
-    if !head.has_v2() {
+    if !head.kind.has_v2() {
         return Ok(None);
     }
     Ok(Some(to_item(alloc, list, &sums.roots)?))
@@ -79,7 +80,7 @@ fn entry_list(alloc: Global, head: &Head, list: &FileList) -> Result<Option<Item
     ensures { IfOk result (λ item. option_map view item ≡ when (has_v1 head.now.kind && not head.now.single)
         (files_list (v1_entries (layout_of (settings_of head.now)) head.now.piece_length list.now))) }
 {
-    if !head.has_v1() || head.single {
+    if !head.kind.has_v1() || head.single {
         return Ok(None);
     }
     let entries = entries(alloc, head, list)?;
@@ -111,7 +112,7 @@ fn only_length(head: &Head, files: &[(FilePath, u64)]) -> Option<Item>
     ensures { (facts : List Facts) → listed facts ≡ files.now →
         option_map view result ≡ when (has_v1 head.now.kind && head.now.single) (integer (pos (total_size facts))) }
 {
-    if !head.has_v1() || !head.single {
+    if !head.kind.has_v1() || !head.single {
         return None;
     }
     let [(_, length)] = files else {
@@ -124,7 +125,7 @@ fn only_length(head: &Head, files: &[(FilePath, u64)]) -> Option<Item>
 fn pieces(alloc: Global, head: &Head, pieces: &[u8]) -> Result<Option<Item>, AllocError>
     ensures { IfOk result (λ item. option_map view item ≡ when (has_v1 head.now.kind) (string pieces.now)) }
 {
-    if !head.has_v1() {
+    if !head.kind.has_v1() {
         return Ok(None);
     }
     Ok(Some(text(alloc, pieces)?))

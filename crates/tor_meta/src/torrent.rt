@@ -11,7 +11,7 @@ ghost use Rattle.tor_spec.specs.Dictionary.{when};
 ghost use Rattle.tor_spec.specs.Facts.{Facts};
 ghost use Rattle.tor_spec.specs.Metainfo.{root_dictionary};
 ghost use Rattle.tor_spec.specs.PieceLayers.{piece_layers};
-ghost use Rattle.tor_spec.specs.Settings.{has_v2};
+ghost use Rattle.tor_tree.specs.Kinds.{has_v2};
 
 use crate::head::Head;
 use crate::info::info;
@@ -102,7 +102,7 @@ fn layers(
     ensures { (facts : List Facts) → AreFactsOf head.now list.now sums.now facts → IfOk result (λ item.
         option_map view item ≡ when (has_v2 head.now.kind) (dictionary (piece_layers head.now.piece_length facts))) }
 {
-    if !head.has_v2() {
+    if !head.kind.has_v2() {
         return Ok(None);
     }
     let files = list.files();

@@ -1,7 +1,7 @@
 -- What a plan tells.
-use Rattle.std.specs.Prelude.{ℕ, ◌*◌, ◌≤◌, IsTrue, List}
+use Rattle.std.specs.Prelude.{◌≡◌, ℕ, ◌*◌, ◌≤◌, IsTrue, List}
 use Rattle.std.specs.Int.{is_power_of_two}
-use Rattle.tor_tree.specs.FileList.{lengths_of}
+use Rattle.tor_tree.specs.FileList.{IsFileList, lengths_of}
 use Rattle.tor_tree.specs.declared.kinds.Kind.{Kind}
 use Rattle.tor_tree.specs.declared.kinds.Kind.TheVariants.{V1}
 use Rattle.tor_v1.specs.Piece.{IsV1PieceLength, max_piece_length}
@@ -37,3 +37,12 @@ plan_of kind piece_length span files = record {
   lengths = lengths_of files;
   trees = forest_trees kind (span * piece_length) (lengths_of files);
 }
+
+-- the plan is that of some list of files
+pub record IsPlan (plan : PlanFacts) : Type 0 where
+  pub span : ℕ
+  pub files : List (List (List ℕ) × ℕ)
+  pub is_span : IsSpan span
+  pub is_list : IsFileList files
+  pub pieces : IsPlanPieceLength plan.kind plan.piece_length
+  pub made : plan ≡ plan_of plan.kind plan.piece_length span files

@@ -21,7 +21,7 @@ pub struct Plan {
 }
 
 impl Model for Plan {
-    ghost use Rattle.tor_plan.specs.PlanFacts.{PlanFacts};
+    ghost use Rattle.tor_plan.specs.PlanFacts.{IsPlan, PlanFacts};
 
     ghost Value = { PlanFacts };
 
@@ -32,10 +32,18 @@ impl Model for Plan {
       lengths = plan.lengths.items;
       trees = plan.forest.trees.items;
     } };
+
+    ghost invariant = { λ plan. IsPlan (record {
+      kind = plan.kind;
+      piece_length = plan.piece_length;
+      units = plan.units.items;
+      lengths = plan.lengths.items;
+      trees = plan.forest.trees.items;
+    }) };
 }
 
 impl Plan {
-    ghost use Rattle.tor_plan.specs.PlanFacts.{plan_of, IsPlanPieceLength, IsSpan};
+    ghost use Rattle.tor_plan.specs.PlanFacts.{plan_of, IsPlan, IsPlanPieceLength, IsSpan};
 
     /// The plan whose units have `span` pieces, fewer at an end: of one file each, or of the joined files in V1.
     pub fn new(
@@ -84,7 +92,8 @@ impl Plan {
 
     /// In the order of the list; a unit is named by its place here.
     pub fn units(&self) -> &[PlanUnit]
-        ensures { result.now ≡ self.now.units }
+        ensures value { result.now ≡ self.now.units }
+        ensures planned { IsPlan self.now }
     {
         self.units.as_slice()
     }

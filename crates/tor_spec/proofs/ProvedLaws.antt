@@ -14,7 +14,8 @@ use Rattle.tor_spec.specs.InfoDictionary.{info_dictionary, total_size}
 use Rattle.tor_spec.specs.Makeable.{AreMakeable}
 use Rattle.tor_spec.specs.Metainfo.{root_dictionary}
 use Rattle.tor_spec.specs.PieceLayers.{joined, piece_layers}
-use Rattle.tor_spec.specs.Settings.{Settings, has_v1, has_v2, layout_of}
+use Rattle.tor_spec.specs.Settings.{Settings, layout_of}
+use Rattle.tor_tree.specs.Kinds.{has_v1, has_v2}
 use Rattle.tor_spec.proofs.Fields.{IfThere, dictionary_lawful, present_lawful, put_lawful, put_rising, when_there, wider}
 use Rattle.tor_merkle.proofs.ProvedLaws.{piece_length_bounds}
 use Rattle.tor_merkle.specs.Layer.{IsPieceLength}

@@ -1,6 +1,6 @@
 -- What a torrent says of its files.
-use Rattle.std.specs.Prelude.{ℕ, List, [], ◌∷◌, map, length, Option, None, Some}
-use Rattle.tor_merkle.specs.Layer.{pieces_root, piece_layer}
+use Rattle.std.specs.Prelude.{ℕ, List, [], ◌∷◌, map, length, Option}
+use Rattle.tor_merkle.specs.Layer.{root_of, piece_layer}
 
 -- a file: the names that lead to it, and its bytes
 pub record File : Type 0 where
@@ -14,11 +14,6 @@ pub record Facts : Type 0 where
   pub size : ℕ
   pub root : Option (List ℕ)
   pub layer : List (List ℕ)
-
--- the root of a content; an empty one has none
-abbrev pub root_of : List ℕ → Option (List ℕ)
-root_of [] = None
-root_of (byte ∷ bytes) = Some (pieces_root (byte ∷ bytes))
 
 -- the facts of a file in pieces of this length
 abbrev pub facts_of : ℕ → File → Facts

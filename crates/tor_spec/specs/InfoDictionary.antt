@@ -4,7 +4,8 @@ use Rattle.tor_bencode.specs.Data.{Data, integer, string, dictionary}
 use Rattle.tor_spec.specs.Dictionary.{present, when}
 use Rattle.tor_spec.specs.Facts.{Facts, listed, roots_in}
 use Rattle.tor_spec.specs.FilesList.{files_list}
-use Rattle.tor_spec.specs.Settings.{Settings, has_v1, has_v2, layout_of}
+use Rattle.tor_spec.specs.Settings.{Settings, layout_of}
+use Rattle.tor_tree.specs.Kinds.{has_v1, has_v2}
 use Rattle.tor_tree.specs.WrittenTree.{file_tree}
 use Rattle.tor_v1.specs.Entries.{v1_entries}
 

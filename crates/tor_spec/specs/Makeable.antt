@@ -4,7 +4,8 @@ use Rattle.std.specs.List.{AllZip}
 use Rattle.tor_merkle.specs.Layer.{IsPieceLength}
 use Rattle.tor_spec.specs.Facts.{Facts, listed, roots_in}
 use Rattle.tor_spec.specs.InfoDictionary.{total_size}
-use Rattle.tor_spec.specs.Settings.{Settings, has_v2}
+use Rattle.tor_spec.specs.Settings.{Settings}
+use Rattle.tor_tree.specs.Kinds.{has_v2}
 use Rattle.tor_tree.specs.FileList.{IsInPathOrder}
 use Rattle.tor_tree.specs.Path.{HasNames}
 use Rattle.tor_tree.specs.TidyTree.{HasItsRoot}

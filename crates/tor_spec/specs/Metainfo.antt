@@ -6,7 +6,8 @@ use Rattle.tor_spec.specs.Dictionary.{present, when}
 use Rattle.tor_spec.specs.Facts.{Facts, File, facts_of, listed}
 use Rattle.tor_spec.specs.InfoDictionary.{info_dictionary}
 use Rattle.tor_spec.specs.PieceLayers.{piece_layers}
-use Rattle.tor_spec.specs.Settings.{Settings, has_v2, layout_of}
+use Rattle.tor_spec.specs.Settings.{Settings, layout_of}
+use Rattle.tor_tree.specs.Kinds.{has_v2}
 use Rattle.tor_v1.specs.Content.{v1_pieces}
 use Rattle.tor_v1.specs.Entries.{v1_entries}
 

@@ -14,18 +14,6 @@ pub record Settings : Type 0 where
   pub announce : Option (List ℕ)
   pub is_private : Bool
 
--- it has the keys of BEP 3
-abbrev pub has_v1 : Kind → Bool
-has_v1 V1 = true
-has_v1 V2 = false
-has_v1 Hybrid = true
-
--- it has the keys of BEP 52
-abbrev pub has_v2 : Kind → Bool
-has_v2 V1 = false
-has_v2 V2 = true
-has_v2 Hybrid = true
-
 -- its files are aligned to pieces in the list of BEP 3 (BEP 52, "Upgrade Path"); one file by itself is so as it is
 abbrev pub is_aligned : Kind → Bool → Bool
 is_aligned V1 single = false
