@@ -1,0 +1,13 @@
+pub mod ByFile
+pub mod Change
+pub mod FileHashes
+pub mod FirstOf
+pub mod Halved
+pub mod HashesByUnit
+pub mod PartBytes
+pub mod Parts
+pub mod Runs
+pub mod Taken
+pub mod Told
+pub mod Trees
+pub mod Whole

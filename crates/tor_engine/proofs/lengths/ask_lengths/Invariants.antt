@@ -1,0 +1,8 @@
+-- the lengths of the files so far were told
+use Rattle.tor_source.specs.Source.{SourceFacts}
+use Rattle.tor_engine.specs.Fault.{ToldLengths}
+use Rattle.tor_engine.proofs.lengths.ask_lengths.Given as goal
+
+abbrev pub invariant-files : goal.invariant-files
+invariant-files g l = (facts : SourceFacts g.row.S-Fault.Denot) → g.S.Source.is_steady l.source facts →
+    ToldLengths facts l.file l.lengths.items

@@ -1,0 +1,24 @@
+-- What the contents of files sum up to.
+use Rattle.std.specs.Prelude.{◌≡◌, ℕ, List, [], map, length, None, Vec, if◌then◌else◌}
+use Rattle.std.specs.declared.alloc.Global.{Global}
+use Rattle.std.specs.List.{flat_map}
+use Rattle.tor_merkle.specs.Layer.{root_of, piece_layer}
+use Rattle.tor_plan.specs.Content.{unit_content}
+use Rattle.tor_plan.specs.PlanFacts.{PlanFacts}
+use Rattle.tor_tree.specs.Kinds.{has_v1, has_v2}
+use Rattle.tor_v1.specs.Piece.{piece_sums}
+use Rattle.tor_engine.specs.declared.sums.Sums.{Sums}
+
+abbrev pub lists_of : List (Vec (List ℕ) Global) → List (List (List ℕ))
+lists_of layers = map (λ layer. layer.items) layers
+
+-- the bytes and zeros of the units of a plan, in order
+abbrev pub plan_content : PlanFacts → List (List ℕ) → List ℕ
+plan_content plan contents = flat_map (unit_content contents) plan.units
+
+-- root and layer of each content, where the kind has trees; the SHA-1 of each piece, where it has pieces
+pub record AreSumsOf (plan : PlanFacts) (contents : List (List ℕ)) (sums : Sums) : Type 0 where
+  pub lengths : sums.lengths.items ≡ map length contents
+  pub roots : sums.roots.items ≡ map (λ content. if has_v2 plan.kind then root_of content else None) contents
+  pub layers : lists_of sums.layers.items ≡ map (λ content. if has_v2 plan.kind then piece_layer content plan.piece_length else []) contents
+  pub pieces : sums.pieces.items ≡ (if has_v1 plan.kind then piece_sums plan.piece_length (plan_content plan contents) else [])

@@ -1,0 +1,74 @@
+//! All files of a plan hashed.
+ghost use Rattle.std.specs.Prelude.{◌≡◌, None, IfErr, MatchResult, length};
+ghost use Rattle.tor_plan.specs.PlanFacts.{IsPlan};
+ghost use Rattle.tor_source.specs.Source.{SourceFacts};
+ghost use Rattle.tor_engine.specs.Contents.{contents_in};
+ghost use Rattle.tor_engine.specs.Fault.{IsFault, IsGiven, first_fault};
+ghost use Rattle.tor_engine.specs.How.{IsHow};
+ghost use Rattle.tor_engine.specs.Sums.{AreSumsOf};
+ghost use Rattle.tor_engine.specs.steps.Run.{AnswersUnits};
+
+use crate::errors::EngineError;
+use crate::halves::hash_by_halves;
+use crate::how::How;
+use crate::lengths::expect_lengths;
+use crate::run::RunSums;
+use crate::sums::{Sums, sums_of_run};
+use crate::turn::hash_in_turn;
+use std::alloc::Global;
+use std::thread::Threads;
+use tor_plan::Plan;
+use tor_plan::laws::units_are_within_files;
+use tor_source::Source;
+
+/// What the files of the source sum up to that the plan has: file i of the plan is file i of the source. First every
+/// length is asked, in the order of the files; a file that is not as long as the plan says is told when all were
+/// asked. Then the units are read, each byte once; the first fault in their order is told, whatever the `How`. Then
+/// every length is asked again.
+pub fn hash_all<S: Source, R: Threads + Sync>(
+    rt: &R,
+    alloc: Global,
+    source: &S,
+    plan: &Plan,
+    how: How,
+) -> Result<Sums, EngineError<S::Fault>>
+    requires { IsHow how }
+    ensures summed { (facts : SourceFacts S.Fault) → S.is_steady source.now facts →
+        MatchResult result
+        (λ sums. AreSumsOf plan.now (contents_in facts (length plan.now.lengths)) sums × (first_fault facts plan.now ≡ None))
+        (IsFault (first_fault facts plan.now)) }
+    ensures gave { IfErr result (IsGiven (S.gave source.now)) }
+{
+    expect_lengths(alloc, source, plan.lengths())?;
+    let run = match hash_units(rt, alloc, source, plan, how) {
+        Ok(run) => run,
+        Err(error) => return Err(error),
+    };
+    match expect_lengths(alloc, source, plan.lengths()) {
+        Ok(()) => {}
+        // It was there before.
+        Err(EngineError::Missing { file }) => return Err(EngineError::Changed { file }),
+        Err(error) => return Err(error),
+    }
+    let sums = sums_of_run(alloc, plan, run)?;
+    Ok(sums)
+}
+
+/// What all units sum up to.
+fn hash_units<S: Source, R: Threads + Sync>(
+    rt: &R,
+    alloc: Global,
+    source: &S,
+    plan: &Plan,
+    how: How,
+) -> Result<RunSums, EngineError<S::Fault>>
+    ensures answered { AnswersUnits S.is_steady S.gave source.now plan.now plan.now.units result }
+    ensures planned { IsPlan plan.now }
+{
+    units_are_within_files();
+    let units = plan.units();
+    match how {
+        How::One => hash_in_turn(alloc, source, plan, units),
+        How::Halves(workers) => hash_by_halves(rt, alloc, source, plan, units, workers),
+    }
+}

@@ -1,0 +1,130 @@
+//! Units hashed one after the other by one worker.
+ghost use Rattle.std.specs.Prelude.{◌≡◌, ◌<◌, None, IfErr, IfOk, MatchResult, OnOk, [], ◌∷◌, ◌++◌, ◌^◌, ◌≤◌, ℕ, List, length, vec_len, if◌then◌else◌};
+ghost use Rattle.tor_plan.specs.PlanFacts.{IsPlan};
+ghost use Rattle.tor_plan.specs.WithinFiles.{IsPartOf};
+ghost use Rattle.tor_source.specs.Source.{SourceFacts};
+ghost use Rattle.tor_engine.specs.Fault.{IsFault, IsGiven, part_fault, unit_fault};
+ghost use Rattle.tor_engine.specs.Contents.{contents_in};
+ghost use Rattle.tor_engine.specs.steps.Unit.{HasTaken, begun_of};
+ghost use Rattle.tor_engine.specs.steps.Hashes.{hashes_of_part};
+ghost use Rattle.tor_plan.specs.Content.{part_content};
+ghost use Rattle.tor_tree.specs.Kinds.{has_v2};
+ghost use Rattle.tor_engine.specs.steps.Run.{AddsUnits, AnswersUnits, AreUnitsOf, HasLengths, IsUnitOf};
+
+use crate::errors::EngineError;
+use crate::reading::feed_part;
+use crate::run::RunSums;
+use crate::unit::UnitSums;
+use std::alloc::{AllocError, Global};
+use tor_merkle::Hash;
+use tor_plan::{Part, Plan, PlanUnit};
+use tor_source::Source;
+
+/// The bytes that a worker reads at once, at most.
+const BUFFER_LENGTH: usize = 1 << 20;
+
+/// What the units sum up to.
+pub(crate) fn hash_in_turn<S: Source>(
+    alloc: Global,
+    source: &S,
+    plan: &Plan,
+    units: &[PlanUnit],
+) -> Result<RunSums, EngineError<S::Fault>>
+    requires planned { IsPlan plan.now }
+    requires units { AreUnitsOf plan.now units.now }
+    ensures { AnswersUnits S.is_steady S.gave source.now plan.now units.now result }
+{
+    let mut room = zeros(alloc, BUFFER_LENGTH)?;
+    let buffer = room.as_mut_slice();
+    let mut run = RunSums::none(alloc);
+    'units: for unit in units {
+        match hash_unit(alloc, source, plan, unit, buffer, &mut run) {
+            Ok(()) => {}
+            Err(error) => return Err(error),
+        }
+    }
+    Ok(run)
+}
+
+/// Adds what one unit sums up to.
+fn hash_unit<S: Source>(
+    alloc: Global,
+    source: &S,
+    plan: &Plan,
+    unit: &PlanUnit,
+    buffer: &mut [u8],
+    run: &mut RunSums,
+) -> Result<(), EngineError<S::Fault>>
+    requires planned { IsPlan plan.now }
+    requires unit { IsUnitOf plan.now unit.now }
+    requires buffer { 0 < length buffer.old }
+    ensures buffer { length buffer.new ≡ length buffer.old }
+    ensures added { (facts : SourceFacts S.Fault) → S.is_steady source.now facts → HasLengths plan.now facts →
+        OnOk result (AddsUnits plan.now (contents_in facts (length plan.now.lengths)) (unit.now ∷ []) run.old run.new) }
+    ensures fault { (facts : SourceFacts S.Fault) → S.is_steady source.now facts → HasLengths plan.now facts →
+        MatchResult result (λ _. unit_fault facts unit.now ≡ None) (IsFault (unit_fault facts unit.now)) }
+    ensures gave { IfErr result (IsGiven (S.gave source.now)) }
+{
+    let mut sums = UnitSums::new(alloc, plan.kind(), plan.piece_length());
+    sums.feed_zeros(unit.zeros)?;
+    let parts = unit.parts.as_slice();
+    'each: for part in parts {
+        match hash_part(
+            alloc,
+            source,
+            plan,
+            part,
+            buffer,
+            &mut sums,
+            &mut run.hashes,
+        ) {
+            Ok(()) => {}
+            Err(error) => return Err(error),
+        }
+    }
+    sums.finish(&mut run.pieces)?;
+    Ok(())
+}
+
+/// Feeds one part of a unit with the zeros after it, and puts the hashes of its pieces after `hashes`.
+fn hash_part<S: Source>(
+    alloc: Global,
+    source: &S,
+    plan: &Plan,
+    part: &Part,
+    buffer: &mut [u8],
+    sums: &mut UnitSums,
+    hashes: &mut Vec<Hash>,
+) -> Result<(), EngineError<S::Fault>>
+    requires planned { IsPlan plan.now }
+    requires part { IsPartOf plan.now.lengths plan.now.piece_length part.now }
+    requires buffer { 0 < length buffer.old }
+    requires fresh { begun_of sums.old ≡ 0 }
+    ensures buffer { length buffer.new ≡ length buffer.old }
+    ensures fresh { OnOk result (begun_of sums.new ≡ 0) }
+    ensures taken { (facts : SourceFacts S.Fault) (unit : List ℕ) → S.is_steady source.now facts →
+        HasLengths plan.now facts → HasTaken plan.now.kind plan.now.piece_length [] unit sums.old →
+        OnOk result (HasTaken plan.now.kind plan.now.piece_length []
+        (unit ++ part_content (contents_in facts (length plan.now.lengths)) part.now) sums.new) }
+    ensures hashed { (facts : SourceFacts S.Fault) (unit : List ℕ) → S.is_steady source.now facts →
+        HasLengths plan.now facts → HasTaken plan.now.kind plan.now.piece_length [] unit sums.old →
+        OnOk result (hashes.new.items ≡ hashes.old.items ++ (if has_v2 plan.now.kind
+        then hashes_of_part plan.now.piece_length (contents_in facts (length plan.now.lengths)) part.now else [])) }
+    ensures fault { (facts : SourceFacts S.Fault) → S.is_steady source.now facts → HasLengths plan.now facts →
+        MatchResult result (λ _. part_fault facts part.now ≡ None) (IsFault (part_fault facts part.now)) }
+    ensures gave { IfErr result (IsGiven (S.gave source.now)) }
+{
+    match feed_part(source, part, buffer, sums) {
+        Ok(()) => {}
+        Err(error) => return Err(error),
+    }
+    sums.end_part(alloc, plan.lengths()[part.file as usize], hashes)?;
+    sums.feed_zeros(part.zeros)?;
+    Ok(())
+}
+
+fn zeros(alloc: Global, length: usize) -> Result<Vec<u8>, AllocError>
+    ensures { IfOk result (λ bytes. vec_len bytes ≡ length) }
+{
+    vec![in alloc; 0; length]
+}
