@@ -33,7 +33,8 @@ pub record ToldLengths {F : Type 0} (facts : SourceFacts F) (count : ℕ) (lengt
 unfoldable pub change_from : ℕ → List ℕ → List ℕ → Option ℕ
 change_from file [] planned = None
 change_from file (one ∷ told) [] = None
-change_from file (one ∷ told) (other ∷ planned) = if one == other then change_from (file + 1) told planned else Some file
+change_from file (one ∷ told) (other ∷ planned) =
+    if one == other then change_from (file + 1) told planned else Some file
 
 -- all lengths are asked, and then compared with those that were planned
 abbrev pub lengths_fault : {F : Type 0} → SourceFacts F → List ℕ → Option (EngineError F)

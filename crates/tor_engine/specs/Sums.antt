@@ -20,5 +20,7 @@ plan_content plan contents = flat_map (unit_content contents) plan.units
 pub record AreSumsOf (plan : PlanFacts) (contents : List (List ℕ)) (sums : Sums) : Type 0 where
   pub lengths : sums.lengths.items ≡ map length contents
   pub roots : sums.roots.items ≡ map (λ content. if has_v2 plan.kind then root_of content else None) contents
-  pub layers : lists_of sums.layers.items ≡ map (λ content. if has_v2 plan.kind then piece_layer content plan.piece_length else []) contents
-  pub pieces : sums.pieces.items ≡ (if has_v1 plan.kind then piece_sums plan.piece_length (plan_content plan contents) else [])
+  pub layers : lists_of sums.layers.items
+      ≡ map (λ content. if has_v2 plan.kind then piece_layer content plan.piece_length else []) contents
+  pub pieces : sums.pieces.items
+      ≡ (if has_v1 plan.kind then piece_sums plan.piece_length (plan_content plan contents) else [])

@@ -35,7 +35,8 @@ pub fn hash_all<S: Source, R: Threads + Sync>(
     requires { IsHow how }
     ensures summed { (facts : SourceFacts S.Fault) → S.is_steady source.now facts →
         MatchResult result
-        (λ sums. AreSumsOf plan.now (contents_in facts (length plan.now.lengths)) sums × (first_fault facts plan.now ≡ None))
+        (λ sums. AreSumsOf plan.now (contents_in facts (length plan.now.lengths)) sums
+        × (first_fault facts plan.now ≡ None))
         (IsFault (first_fault facts plan.now)) }
     ensures gave { IfErr result (IsGiven (S.gave source.now)) }
 {

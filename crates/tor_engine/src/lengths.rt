@@ -1,5 +1,5 @@
 //! The lengths of files, asked of their source.
-ghost use Rattle.std.specs.Prelude.{◌≡◌, None, Ok, Some, IfErr, MatchResult, length};
+ghost use Rattle.std.specs.Prelude.{◌≡◌, None, Ok, Some, IfErr, IfOk, MatchResult, length};
 ghost use Rattle.std.specs.List.{range_with_len};
 ghost use Rattle.tor_source.specs.Source.{SourceFacts, told_length};
 ghost use Rattle.tor_engine.specs.Fault.{IsFault, IsGiven, ToldLengths, change_from, first_of, length_fault, lengths_fault};
@@ -35,6 +35,7 @@ pub fn ask_lengths<S: Source>(
     ensures steady { (facts : SourceFacts S.Fault) → S.is_steady source.now facts →
         MatchResult result (λ lengths. ToldLengths facts count lengths.items)
         (IsFault (first_of (length_fault facts) (range_with_len 0 count))) }
+    ensures counted { IfOk result (λ lengths. length lengths.items ≡ count) }
     ensures gave { IfErr result (IsGiven (S.gave source.now)) }
 {
     let mut lengths = Vec::with_capacity(alloc, count)?;

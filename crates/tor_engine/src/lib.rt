@@ -2,8 +2,17 @@
 //!
 //! - [`hash_all`] (`engine.rt`): the lengths, roots, layers and pieces of all files, or the first fault.
 //! - [`How`] (`how.rt`): by how many workers; [`Sums`] (`sums.rt`): what comes of it; [`EngineError`] (`errors.rt`).
-//! - `lengths.rt` asks for the lengths; `halves.rt` shares the units among workers; `turn.rt` hashes units one after the
-//!   other, `unit.rt` one unit, `reading.rt` reads one part; `run.rt` holds what a run of units sums up to.
+//! - [`ask_lengths`] (`lengths.rt`): the lengths of files. `halves.rt` shares the units among workers; `turn.rt` hashes
+//!   units one after the other, `unit.rt` one unit, `reading.rt` reads one part; `run.rt` holds what a run of units
+//!   sums up to.
+//!
+//! ```rust
+//! use tor_engine::{How, hash_all};
+//!
+//! let plan = Plan::new(rt.alloc(), &list, Kind::V2, 16384, 16)?;
+//! let sums = hash_all(&rt, rt.alloc(), &source, &plan, How::Halves(4))?;
+//! assert_eq!(rt; sums.roots.len(), list.files().len());
+//! ```
 #![tactic(auto)]
 
 mod engine;
@@ -22,4 +31,5 @@ mod unit;
 pub use engine::hash_all;
 pub use errors::EngineError;
 pub use how::How;
+pub use lengths::ask_lengths;
 pub use sums::Sums;

@@ -22,12 +22,12 @@ pub both_none : {X : Type 0} (a b : Option X) → option_or a b ≡ None → (a 
 both_none None b h = (refl, h)
 both_none (Some x) b h = cc
 
-cleared : {X : Type 0} (test : Bool) (fault : X) (rest : Option X) → cond test (Some fault) rest ≡ None
+pub cleared : {X : Type 0} (test : Bool) (fault : X) (rest : Option X) → cond test (Some fault) rest ≡ None
     → (test ≡ false) × (rest ≡ None)
 cleared true fault rest h = cc
 cleared false fault rest h = (refl, h)
 
-allowed : (b : Bool) → not b ≡ false → b ≡ true
+pub allowed : (b : Bool) → not b ≡ false → b ≡ true
 allowed true h = refl
 allowed false h = cc
 

@@ -4,7 +4,12 @@ pub mod SumSteps
 pub mod Listed
 pub mod ContentSteps
 pub mod Placed
+pub mod SourceFiles
+pub mod SourceSums
 pub mod OneFile
 pub mod Judged
+pub mod Refused
+pub mod FromSource
+pub mod SourceFaults
 pub mod Made
 pub mod InfoThere

@@ -1,5 +1,10 @@
 pub mod Fields
 pub mod Head
+pub mod Order
+pub mod MakeError
+pub mod PlacedFiles
+pub mod Make
+pub mod Trees
 pub mod ListRefusal
 pub mod Refusal
 pub mod Layers

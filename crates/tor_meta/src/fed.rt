@@ -37,7 +37,10 @@ impl FedSums {
     {
         FedSums {
             count: 0,
-            feed: head.kind.has_v2().then(|| Feed::new(alloc, head.piece_length)),
+            feed: head
+                .kind
+                .has_v2()
+                .then(|| Feed::new(alloc, head.piece_length)),
             pieces: head
                 .kind
                 .has_v1()

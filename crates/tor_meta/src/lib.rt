@@ -4,6 +4,9 @@
 //! - [`Head`] (`head.rt`): what a torrent is made with, beside its files. `judge.rt` refuses heads and paths.
 //! - [`make_contents`] (`contents.rt`): the torrent of files whose contents lie in memory.
 //! - [`FedSums`] (`fed.rt`) and [`make_fed`] (`making.rt`): the torrent of one content that is fed in parts.
+//! - [`make`] (`from_source.rt`): the torrent of the files of a source, as an [`Order`] (`order.rt`) says, or the first
+//!   [`MakeError`] (`make_error.rt`). `placed_files.rt` puts a source's files into another order; `listed_files.rt`
+//!   makes the torrent of a list of files whose bytes a source gives.
 //! - `sums.rt`: the Merkle trees and the SHA-1 of the pieces, as far as a kind asks for them.
 //! - `torrent.rt`: from files and sums to bytes, by `info.rt`, `layers.rt` and `items.rt`.
 //! - [`Hashes`], [`info_hashes`], [`magnet`] (`hashes.rt`); [`write_out`] (`output.rt`): all bytes into a writer.
@@ -23,14 +26,19 @@
 
 mod contents;
 mod fed;
+mod from_source;
 mod hashes;
 mod head;
 mod info;
 mod items;
 mod judge;
 mod layers;
+mod listed_files;
+mod make_error;
 mod making;
+mod order;
 mod output;
+mod placed_files;
 mod refusals;
 mod sums;
 #[cfg(test)]
@@ -41,10 +49,13 @@ mod torrent;
 
 pub use contents::make_contents;
 pub use fed::{FedSums, refusal_of_one};
+pub use from_source::make;
 pub use hashes::{Hashes, info_hashes, magnet};
 pub use head::Head;
 pub use judge::{MAX_NAMES, judge_paths};
+pub use make_error::MakeError;
 pub use making::make_fed;
+pub use order::{MAX_SPAN, MAX_WORKERS, Order};
 pub use output::{WriteFault, write_out};
 pub use refusals::ContentsError;
 pub use sums::Sums;

@@ -27,7 +27,8 @@ padding_length piece_length m = next_multiple_of m piece_length - m
 -- empty
 abbrev pub padding_after : ℕ → ℕ → List (List (List ℕ) × ℕ) → List Entry
 padding_after piece_length m later =
-    if nat_lt 0 (padding_length piece_length m) && has_bytes later then pad_entry (padding_length piece_length m) ∷ [] else []
+    if nat_lt 0 (padding_length piece_length m) && has_bytes later
+    then pad_entry (padding_length piece_length m) ∷ [] else []
 
 -- each file, and its padding directly after it
 unfoldable pub aligned_entries : ℕ → List (List (List ℕ) × ℕ) → List Entry

@@ -22,4 +22,5 @@ Feeds old new part =
 
 -- whatever the old sums were fed, the new ones were fed that
 abbrev pub IsUnchanged : PieceSums → PieceSums → Type 0
-IsUnchanged old new = (piece_length : ℕ) (bytes : List ℕ) → HasFed old piece_length bytes → HasFed new piece_length bytes
+IsUnchanged old new =
+    (piece_length : ℕ) (bytes : List ℕ) → HasFed old piece_length bytes → HasFed new piece_length bytes

@@ -26,14 +26,18 @@ sums_of_units kind piece_length contents units =
     if has_v1 kind then flat_map (λ unit. piece_sums piece_length (unit_content contents unit)) units else []
 
 -- the sums of the units of files with these contents stand after those that were there
-pub record AddsUnits (plan : PlanFacts) (contents : List (List ℕ)) (units : List PlanUnit) (old new : RunSums) : Type 0 where
+pub record AddsUnits (plan : PlanFacts) (contents : List (List ℕ)) (units : List PlanUnit)
+    (old new : RunSums) : Type 0 where
   pub hashes : new.hashes.items ≡ old.hashes.items ++ hashes_of_units plan.kind plan.piece_length contents units
   pub pieces : new.pieces.items ≡ old.pieces.items ++ sums_of_units plan.kind plan.piece_length contents units
 
 -- the sums are those of the units, of which no byte fails
-pub record HashesUnits {F : Type 0} (plan : PlanFacts) (facts : SourceFacts F) (units : List PlanUnit) (run : RunSums) : Type 0 where
-  pub hashes : run.hashes.items ≡ hashes_of_units plan.kind plan.piece_length (contents_in facts (length plan.lengths)) units
-  pub pieces : run.pieces.items ≡ sums_of_units plan.kind plan.piece_length (contents_in facts (length plan.lengths)) units
+pub record HashesUnits {F : Type 0} (plan : PlanFacts) (facts : SourceFacts F) (units : List PlanUnit)
+    (run : RunSums) : Type 0 where
+  pub hashes : run.hashes.items
+      ≡ hashes_of_units plan.kind plan.piece_length (contents_in facts (length plan.lengths)) units
+  pub pieces : run.pieces.items
+      ≡ sums_of_units plan.kind plan.piece_length (contents_in facts (length plan.lengths)) units
   pub faultless : units_fault facts units ≡ None
 
 -- the files have the lengths of the plan

@@ -1,8 +1,10 @@
 -- the lengths of the files so far were told
+use Rattle.std.proofs.Common.{◌≡◌, length}
 use Rattle.tor_source.specs.Source.{SourceFacts}
 use Rattle.tor_engine.specs.Fault.{ToldLengths}
 use Rattle.tor_engine.proofs.lengths.ask_lengths.Given as goal
 
 abbrev pub invariant-files : goal.invariant-files
-invariant-files g l = (facts : SourceFacts g.row.S-Fault.Denot) → g.S.Source.is_steady l.source facts →
-    ToldLengths facts l.file l.lengths.items
+invariant-files g l = (length l.lengths.items ≡ l.file)
+    × ((facts : SourceFacts g.row.S-Fault.Denot) → g.S.Source.is_steady l.source facts →
+    ToldLengths facts l.file l.lengths.items)

@@ -1,0 +1,91 @@
+-- A maker's answer over a source, of the files that were handed in.
+use Rattle.std.proofs.Common.{◌≡◌, ℕ, zero, suc, ◌+◌, ◌<◌, List as ListOf, [], ◌∷◌, length}
+use Rattle.std.proofs.Common.{get_or, map, None, unwrap_or, refl, sym, ap, subst, ◌∙◌}
+use Rattle.std.proofs.Common.{arith, zero-add}
+use Rattle.std.specs.List.{AllByRecursion, enumerate_from, range_with_len}
+use Rattle.std.proofs.lemmas.List.{get_or-map, length-map}
+use Rattle.std.proofs.lemmas.List.Elements.{recursion_from_All}
+use Rattle.std.proofs.lemmas.List.FromFn.{get_or-enumerate_from, length-enumerate_from}
+use Rattle.tor_engine.specs.Contents.{contents_in}
+use Rattle.tor_meta.specs.Contents.{files_of, IsMadeOf}
+use Rattle.tor_meta.specs.Make.{content_at, files_of_source, listed_files}
+use Rattle.tor_meta.specs.PlacedFiles.{facts_at}
+use Rattle.tor_source.specs.Source.{SourceFacts}
+use Rattle.tor_spec.specs.Facts.{File}
+use Rattle.tor_spec.specs.Metainfo.{metainfo}
+use Rattle.tor_spec.specs.Settings.{Settings}
+use Rattle.tor_tree.specs.PathList.{ArePlacedPaths, IsPathList, places_of}
+use Rattle.tor_tree.proofs.ProvedLaws.{at_places}
+use Rattle.tor_meta.proofs.Placed.{paths_moved}
+use Rattle.tor_meta.proofs.SourceFiles.{AreWithin, Entries, entries_within}
+
+-- a function of the numbers that is one of what stands there
+by_place : {A B : Type 0} (f : A → B) (h : ℕ → B) (places : ListOf A) (a : ℕ) → ((k : ℕ) (d : A) →
+    k < length places → h (a + k) ≡ f (get_or places k d)) →
+    map h (range_with_len a (length places)) ≡ map f places
+by_place f h [] a at = refl
+by_place f h (place ∷ places) a at =
+    let here : a + 0 ≡ a = omega arith in
+    let first : h a ≡ f place = subst (λ n. h n ≡ f place) here (at zero place (omega arith)) in
+    let later = by_place f h places (a + 1) (λ k d less.
+    let next : a + suc k ≡ a + 1 + k = omega arith in
+    subst (λ n. h n ≡ f (get_or places k d)) next (at (suc k) d (omega arith))) in
+    rw (first, later) refl
+
+module _ {F : Type 0} (facts : SourceFacts F) where
+  pub contents_moved : (places : ListOf ℕ) →
+      contents_in (facts_at places facts) (length places) ≡ map (content_at facts) places
+  contents_moved places =
+      by_place (content_at facts) (λ k. unwrap_or (get_or (map facts.contents places) k None) []) places 0
+      (λ k d less. rw (zero-add k) (ap (λ content. unwrap_or content [])
+      (get_or-map facts.contents places k d None less)))
+
+  sorted : Entries → ListOf File
+  sorted entries = map (λ entry. record { path = entry.0; content = content_at facts entry.1 }) entries
+
+  in_order : (entries : Entries) → files_of (listed_files facts entries) (map (content_at facts) (places_of entries))
+      ≡ sorted entries
+  unfolding sorted
+  in_order [] = refl
+  in_order (entry ∷ entries) = ap (λ files. record { path = entry.0; content = content_at facts entry.1 } ∷ files)
+      (in_order entries)
+
+  file_there : (paths : ListOf (ListOf (ListOf ℕ))) (k : ℕ) (d : File) → k < length paths →
+      get_or (files_of_source facts paths) k d ≡ record { path = get_or paths k []; content = content_at facts k }
+  file_there paths k d less =
+      let inside : k < length (enumerate_from 0 paths) = omega (arith, less, length-enumerate_from 0 paths) in
+      get_or-map (λ (file : ℕ × ListOf (ListOf ℕ)). record { path = file.1; content = content_at facts file.0 })
+      (enumerate_from 0 paths) k (0, []) d inside
+      ∙ rw (get_or-enumerate_from 0 paths k (0, []) less, zero-add k) refl
+
+  files_there : (paths : ListOf (ListOf (ListOf ℕ))) (d : File) (entries : Entries) →
+      AllByRecursion (λ entry. get_or paths entry.1 [] ≡ entry.0) entries →
+      AreWithin (length paths) entries →
+      map (λ place. get_or (files_of_source facts paths) place d) (places_of entries) ≡ sorted entries
+  unfolding sorted
+  files_there paths d [] found within = refl
+  files_there paths d (entry ∷ entries) found within =
+      rw (file_there paths entry.1 d within.0, found.0, files_there paths d entries found.1 within.1) refl
+
+  pub made_of : (settings : Settings) (paths : ListOf (ListOf (ListOf ℕ))) (entries list : Entries)
+      (places : ListOf ℕ) (bytes : ListOf ℕ) → ArePlacedPaths paths entries →
+      IsPathList entries → list ≡ listed_files facts entries → places ≡ places_of entries →
+      bytes ≡ metainfo settings (files_of list (contents_in (facts_at places facts) (length list))) →
+      IsMadeOf settings (files_of_source facts paths) bytes
+  made_of settings paths entries list places bytes placed lawful are_files are_places made =
+      let none : File = record { path = []; content = [] } in
+      let count : length list ≡ length (places_of entries) = rw are_files (simp length-map refl) in
+      let files : files_of list (contents_in (facts_at places facts) (length list)) ≡ sorted entries =
+      rw (count, are_places, are_files) (ap (files_of (listed_files facts entries))
+      (contents_moved (places_of entries)) ∙ in_order entries) in
+      let within = entries_within (length paths) entries placed.places placed.one_each in
+      let there = files_there paths none entries (recursion_from_All _ entries placed.found) within in
+      let long : length (places_of entries)
+      ≡ length (files_of_source facts paths) = simp length-map (placed.one_each
+      ∙ sym (length-enumerate_from 0 paths)) in (
+        sorted entries,
+        rw (← there) (at_places (files_of_source facts paths) none (places_of entries) placed.places long),
+        rw (← in_order entries) (rw (paths_moved (λ k. length (content_at facts k)) (content_at facts) entries)
+            lawful.in_order),
+        made ∙ ap (metainfo settings) files,
+      )

@@ -1,0 +1,143 @@
+-- The first fault of a source's files, in the order of the list and under the numbers that were handed in.
+use Rattle.std.proofs.Common.{◌≡◌, ◌⊎◌, inl, inr, ℕ, zero, suc, ◌+◌, ◌<◌, ◌≤◌, List as ListOf, [], ◌∷◌, length}
+use Rattle.std.proofs.Common.{get_or, map, option_map, Option, None, Some, refl, sym, ap, subst, ◌∙◌}
+use Rattle.std.proofs.Common.{arith, zero-add, Bool, true, false, nat_lt, Result, Ok, Err}
+use Rattle.std.specs.List.{All, AllByRecursion, range_with_len}
+use Rattle.std.specs.Option.{option_or}
+use Rattle.std.proofs.lemmas.Bool.{eq-eqb, ltb-false, ltb-true}
+use Rattle.std.proofs.lemmas.List.{get_or-map, length-map}
+use Rattle.std.proofs.lemmas.List.Elements.{recursion_from_All}
+use Rattle.std.proofs.lemmas.List.FromFn.{get_or-range_with_len}
+use Rattle.std.proofs.lemmas.List.FromFn.{length-range_with_len}
+use Rattle.tor_engine.specs.Fault.{change_from, first_fault, first_of, length_fault, lengths_fault, unless_told}
+use Rattle.tor_engine.specs.declared.errors.EngineError.{EngineError}
+use Rattle.tor_engine.specs.declared.errors.EngineError.TheVariants.{Resources as NoResources}
+use Rattle.tor_meta.specs.Head.{settings_of}
+use Rattle.tor_meta.specs.Make.{IsMakeFault, asked_fault, bytes_fault, content_at, listed_files}
+use Rattle.tor_meta.specs.Make.{make_refusal}
+use Rattle.tor_meta.specs.MakeError.{of_engine_error}
+use Rattle.tor_meta.specs.Order.{settings_of_order}
+use Rattle.tor_meta.specs.PlacedFiles.{facts_at, renumbered}
+use Rattle.tor_meta.specs.declared.head.Head.{Head}
+use Rattle.tor_meta.specs.declared.make_error.MakeError.{MakeError}
+use Rattle.tor_meta.specs.declared.make_error.MakeError.TheVariants.{Resources}
+use Rattle.tor_meta.specs.declared.order.Order.{Order}
+use Rattle.tor_plan.specs.PlanFacts.{plan_of}
+use Rattle.tor_source.specs.Source.{SourceFacts, told_length}
+use Rattle.tor_spec.specs.Settings.{Settings}
+use Rattle.tor_tree.specs.FileList.{lengths_of}
+use Rattle.tor_tree.specs.PathList.{ArePlacedPaths, IsPathList, places_of}
+use Rattle.tor_meta.proofs.Judged.{both_none}
+use Rattle.tor_meta.proofs.Placed.{or_second, places_within}
+use Rattle.tor_meta.proofs.SourceFiles.{Entries}
+use Rattle.tor_meta.proofs.SourceSums.{mapped_none}
+use Rattle.tor_meta.proofs.FromSource.{contents_moved}
+
+-- no fault of the files in one order is one of them in another
+none_of : {B : Type 0} (found : ℕ → Option B) (ks : ListOf ℕ) → AllByRecursion (λ k. found k ≡ None) ks →
+    first_of found ks ≡ None
+unfolding first_of
+none_of found [] h = refl
+none_of found (k ∷ ks) h = rw h.0 (none_of found ks h.1)
+
+each_none : {B : Type 0} (found : ℕ → Option B) (a n k : ℕ) → a ≤ k → k < a + n →
+    first_of found (range_with_len a n) ≡ None → found k ≡ None
+unfolding first_of
+each_none found a zero k low high h = absurd (omega (arith, low, high))
+each_none found a (suc n) k low high h =
+    let both = both_none (found a) (first_of found (range_with_len (a + 1) n)) h in
+    either (nat_lt a k) refl both.0 (λ less. each_none found (a + 1) n k less (omega (arith, high)) both.1)
+  where
+    either : (b : Bool) → nat_lt a k ≡ b → found a ≡ None → (a + 1 ≤ k → found k ≡ None) → found k ≡ None
+    either true less here later = later (omega (arith, ltb-true a k less))
+    either false past here later =
+        let same : a ≡ k = omega (arith, low, ltb-false a k past) in
+        subst (λ j. found j ≡ None) same here
+
+same_change : (k : ℕ) (lengths : ListOf ℕ) → change_from k lengths lengths ≡ None
+unfolding change_from
+same_change k [] = refl
+same_change k (one ∷ lengths) = rw (eq-eqb one one refl) (same_change (k + 1) lengths)
+
+told_none : {F : Type 0} (file other : ℕ) (told : Result (Option ℕ) F) → unless_told other told ≡ None →
+    unless_told file told ≡ None
+told_none file other (Err fault) h = cc
+told_none file other (Ok None) h = cc
+told_none file other (Ok (Some n)) h = refl
+
+second_some : {X : Type 0} (a b : Option X) (x : X) → a ≡ None → option_or a b ≡ Some x → b ≡ Some x
+second_some None b x none h = h
+second_some (Some y) b x none h = cc
+
+module _ {F : Type 0} (facts : SourceFacts F) where
+  lengths_listed : (entries : Entries) →
+      map length (map (content_at facts) (places_of entries)) ≡ lengths_of (listed_files facts entries)
+  lengths_listed [] = refl
+  lengths_listed (entry ∷ entries) = ap (λ ns. length (content_at facts entry.1) ∷ ns) (lengths_listed entries)
+
+  told_there : (n : ℕ) (places : ListOf ℕ) → All (λ place. place < n) places →
+      first_of (length_fault facts) (range_with_len 0 n) ≡ None →
+      (k : ℕ) → k < length places → length_fault (facts_at places facts) k ≡ None
+  told_there n places within none k less =
+      rw (get_or-map facts.length_fault places k 0 None less, get_or-map facts.contents places k 0 None less)
+      (told_none k (get_or places k 0) (told_length facts (get_or places k 0))
+      (each_none (length_fault facts) 0 n (get_or places k 0) (omega arith) (omega (arith, within k 0 less)) none))
+
+  all_told : (n : ℕ) (places : ListOf ℕ) → All (λ place. place < n) places →
+      first_of (length_fault facts) (range_with_len 0 n) ≡ None →
+      first_of (length_fault (facts_at places facts)) (range_with_len 0 (length places)) ≡ None
+  all_told n places within none =
+      none_of (length_fault (facts_at places facts)) (range_with_len 0 (length places))
+      (recursion_from_All _ (range_with_len 0 (length places)) (λ k d less.
+      let inside : k < length places = omega (arith, less, length-range_with_len 0 (length places)) in
+      rw (get_or-range_with_len 0 (length places) k d inside, zero-add k) (told_there n places within none k inside)))
+
+  lengths_moved : (n : ℕ) (entries : Entries) → All (λ place. place < n) (places_of entries) →
+      first_of (length_fault facts) (range_with_len 0 n) ≡ None →
+      lengths_fault (facts_at (places_of entries) facts) (lengths_of (listed_files facts entries)) ≡ None
+  lengths_moved n entries within none =
+      let long : length (lengths_of (listed_files facts entries)) ≡ length (places_of entries) = simp length-map refl in
+      let contents = ap (map length) (contents_moved facts (places_of entries)) ∙ lengths_listed entries in
+      rw (
+        long,
+        all_told n (places_of entries) within none,
+        contents,
+        same_change 0
+            (lengths_of (listed_files facts entries)),
+      ) refl
+
+  pub fault_told : (order : Order) (head : Head) (paths : ListOf (ListOf (ListOf ℕ))) (entries list : Entries)
+      (places : ListOf ℕ) (error : EngineError F) (e : MakeError F) →
+      ArePlacedPaths paths entries → IsPathList entries → make_refusal {F = F} order paths ≡ None →
+      asked_fault facts (length entries) ≡ None →
+      settings_of head ≡ settings_of_order order → list ≡ listed_files facts entries → places ≡ places_of entries →
+      e ≡ of_engine_error (renumbered places error) →
+      (error ≡ NoResources) ⊎ (first_fault (facts_at places facts)
+      (plan_of head.kind head.piece_length order.span list) ≡ Some error) →
+      (e ≡ Resources) ⊎ IsMakeFault facts order paths (Some e)
+  fault_told order head paths entries list places error e placed lawful accepted asked same are_files are_places is
+      (inl none) = inl (is ∙ rw none refl)
+  fault_told order head paths entries list places error e placed lawful accepted asked same are_files are_places is
+      (inr h) =
+      let moved = subst (λ ps. first_fault (facts_at ps facts) (plan_of head.kind head.piece_length order.span list)
+      ≡ Some error) are_places h in
+      let listed = subst (λ files. first_fault (facts_at (places_of entries) facts)
+      (plan_of head.kind head.piece_length order.span files) ≡ Some error) are_files moved in
+      let ordered = subst (λ (settings : Settings). first_fault (facts_at (places_of entries) facts)
+      (plan_of settings.kind settings.piece_length order.span (listed_files facts entries))
+      ≡ Some error) same listed in
+      let none = both_none _ _ asked in
+      let count : length (places_of entries) ≡ length entries = simp length-map refl in
+      let within = places_within (length entries) (places_of entries) placed.places count in
+      let stay = lengths_moved (length entries) entries within (mapped_none of_engine_error _ none.0) in
+      let units = second_some _ _ error stay ordered in
+      let told : bytes_fault facts order entries ≡ Some e =
+      ap (option_map (λ fault. of_engine_error (renumbered (places_of entries) fault))) units
+      ∙ ap Some (sym (is ∙ ap (λ ps. of_engine_error (renumbered ps error)) are_places)) in
+      inr (record {
+        entries = entries;
+        placed = λ _. (placed, lawful.in_order);
+        is_first = or_second (make_refusal {F = F} order paths) _ (Some e) accepted
+            (or_second (asked_fault facts (length paths)) _ (Some e) (subst (λ n. asked_fault facts n
+            ≡ None) placed.one_each asked) told);
+      })

@@ -1,0 +1,41 @@
+-- The files of a source at the places of a list of paths.
+use Rattle.std.proofs.Common.{◌≡◌, ℕ, ◌<◌, List, [], ◌∷◌, length, get_or, map, refl, ap, ◌∙◌, arith, zero-add}
+use Rattle.std.specs.List.{AllByRecursion}
+use Rattle.std.proofs.lemmas.List.{get_or-map, length-map}
+use Rattle.std.proofs.lemmas.List.Elements.{recursion_from_All}
+use Rattle.std.proofs.lemmas.List.FromFn.{get_or-map-range_with_len, length-map-range_with_len}
+use Rattle.tor_engine.specs.Contents.{contents_in}
+use Rattle.tor_meta.specs.Make.{content_at, listed_files}
+use Rattle.tor_meta.proofs.Placed.{places_within}
+use Rattle.tor_source.specs.Source.{SourceFacts}
+use Rattle.tor_tree.specs.PathList.{ArePlaces, places_of}
+
+abbrev pub Entries : Type 0
+Entries = List (List (List ℕ) × ℕ)
+
+abbrev pub AreWithin : ℕ → Entries → Type 0
+AreWithin n entries = AllByRecursion (λ entry. entry.1 < n) entries
+
+-- the places of paths are those of the files
+pub entries_within : (n : ℕ) (entries : Entries) → ArePlaces (places_of entries) → length entries ≡ n →
+    AreWithin n entries
+entries_within n entries places count =
+    each entries (recursion_from_All _ (places_of entries)
+    (places_within n (places_of entries) places (simp length-map count)))
+  where
+    each : (es : Entries) → AllByRecursion (λ place. place < n) (places_of es) → AreWithin n es
+    each [] h = tt
+    each (e ∷ es) h = (h.0, each es h.1)
+
+module _ {F : Type 0} (facts : SourceFacts F) where
+  length_there : (n k : ℕ) → k < n → get_or (map length (contents_in facts n)) k 0 ≡ length (content_at facts k)
+  length_there n k less =
+      let inside : k < length (contents_in facts n) = omega (arith, length-map-range_with_len (content_at facts) 0 n) in
+      get_or-map length (contents_in facts n) k [] 0 inside
+      ∙ ap length (get_or-map-range_with_len (content_at facts) 0 n k k [] less (zero-add k))
+
+  -- lengths that were told in the order of the numbers, in that of the list
+  pub listed_at : (n : ℕ) (entries : Entries) → AreWithin n entries →
+      map (λ entry. (entry.0, get_or (map length (contents_in facts n)) entry.1 0)) entries ≡ listed_files facts entries
+  listed_at n [] h = refl
+  listed_at n (entry ∷ entries) h = rw (length_there n entry.1 h.0, listed_at n entries h.1) refl

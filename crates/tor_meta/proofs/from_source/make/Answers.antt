@@ -1,0 +1,51 @@
+-- the files in the order of their paths are those that were handed in
+use Rattle.std.proofs.Common.{◌∙◌, sym, ap, refl, length}
+use Rattle.tor_engine.specs.Contents.{contents_in}
+use Rattle.tor_meta.specs.Contents.{files_of}
+use Rattle.tor_meta.specs.MakeError.{of_engine_error}
+use Rattle.tor_meta.specs.Order.{settings_of_order}
+use Rattle.tor_meta.specs.PlacedFiles.{facts_at, renumbered}
+use Rattle.tor_spec.specs.Metainfo.{metainfo}
+use Rattle.tor_meta.proofs.FromSource.{made_of}
+use Rattle.tor_meta.proofs.SourceFaults.{fault_told}
+use Rattle.tor_meta.proofs.Made.{judged_list}
+use Rattle.tor_meta.proofs.Refused.{given_or_not, paths_of, span_of}
+use Rattle.tor_meta.proofs.from_source.make.Goals as goal
+
+pub returns-in-Err-clause-gave : goal.returns-in-Err-clause-gave
+returns-in-Err-clause-gave g c =
+    given_or_not (g.S.Source.gave c.args.source.now) c.args.order.now c.args.paths.now c.in-Err.error
+    c.in-Err.ensures.refused
+
+pub torrent_of_listed-requires-clause-span : goal.torrent_of_listed-requires-clause-span
+torrent_of_listed-requires-clause-span g c κs within = span_of c.args.order.now c.args.paths.now
+    c.in-Ok.ensures.accepted
+
+pub torrent_of_listed-requires-clause-judged : goal.torrent_of_listed-requires-clause-judged
+torrent_of_listed-requires-clause-judged g c κs within =
+    let told = c.in-Ok-ask_list.ensures.list in
+    judged_list c.in_ok-head.head c.args.paths.now told.0 c.in-Ok.paths c.in-Ok-ask_list.both.0 c.in-Ok.ensures.placed
+    (paths_of c.args.order.now c.in_ok-head.head c.args.paths.now c.in-Ok.ensures.accepted c.in_ok-head.ensures)
+    told.1 (rw (← c.list.view_is) c.list.invariant)
+
+pub returns-in-Ok-torrent_of_listed-clause-made : goal.returns-in-Ok-torrent_of_listed-clause-made
+returns-in-Ok-torrent_of_listed-clause-made g c = λ facts steady.
+    made_of facts (settings_of_order c.args.order.now) c.args.paths.now c.in-Ok.paths c.in-Ok-ask_list.both.0
+    c.deref.result.now c.in-Ok-torrent_of_listed.bytes.items
+    c.in-Ok.ensures.placed c.in-Ok.ensures.lawful (c.in-Ok-ask_list.ensures.files facts steady)
+    (c.deref.ensures.value ∙ c.in-Ok-ask_list.ensures.places)
+    (c.in-Ok-torrent_of_listed.ensures.made (facts_at c.deref.result.now facts) (facts, steady, refl)
+    ∙ ap (λ settings. metainfo settings (files_of c.in-Ok-ask_list.both.0
+    (contents_in (facts_at c.deref.result.now facts) (length c.in-Ok-ask_list.both.0)))) c.in_ok-head.ensures)
+
+pub returns-clause-fault : goal.returns-clause-fault
+returns-clause-fault g c = λ facts steady.
+    fault_told facts c.args.order.now c.in_ok-head.head c.args.paths.now c.in-Ok.paths c.in-Ok-ask_list.both.0
+    c.deref.result.now c.in-Err-torrent_of_listed.error c.from.result
+    c.in-Ok.ensures.placed c.in-Ok.ensures.lawful c.in-Ok.ensures.accepted
+    (c.in-Ok-ask_list.ensures.fault facts steady) c.in_ok-head.ensures
+    (c.in-Ok-ask_list.ensures.files facts steady) (c.deref.ensures.value ∙ c.in-Ok-ask_list.ensures.places)
+    (c.from.ensures ∙ ap of_engine_error (c.renumbered.ensures
+    ∙ ap (λ places. renumbered places c.in-Err-torrent_of_listed.error)
+    (c.deref-in-Err-torrent_of_listed.ensures.value ∙ sym c.deref.ensures.value)))
+    (c.in-Err-torrent_of_listed.ensures.fault (facts_at c.deref.result.now facts) (facts, steady, refl))

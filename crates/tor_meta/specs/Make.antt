@@ -1,0 +1,79 @@
+-- The torrent of the files of a source: what it is of, and why it is not made.
+use Rattle.std.specs.Prelude.{◌≡◌, ℕ, not, List as ListOf, [], length, map, option_map, Option, None, Some, unwrap_or}
+use Rattle.std.specs.Prelude.{if◌then◌else◌}
+use Rattle.std.specs.List.{enumerate_from, range_with_len}
+use Rattle.std.specs.Option.{option_or}
+use Rattle.tor_engine.specs.Contents.{contents_in}
+use Rattle.tor_engine.specs.Fault.{first_of, length_fault, units_fault}
+use Rattle.tor_merkle.specs.Layer.{is_piece_length}
+use Rattle.tor_meta.specs.MakeError.{of_contents_error, of_engine_error}
+use Rattle.tor_meta.specs.Order.{is_how, is_span, settings_of_order}
+use Rattle.tor_meta.specs.PlacedFiles.{facts_at, renumbered}
+use Rattle.tor_meta.specs.Refusal.{paths_refusal}
+use Rattle.tor_meta.specs.declared.make_error.MakeError.{MakeError}
+use Rattle.tor_meta.specs.declared.make_error.MakeError.TheVariants.{PieceLength, Workers, Span, List, Read}
+use Rattle.tor_meta.specs.declared.make_error.MakeError.TheVariants.{StreamTooLong}
+use Rattle.tor_meta.specs.declared.order.Order.{Order}
+use Rattle.tor_plan.specs.Units.{hash_units}
+use Rattle.tor_source.specs.Source.{SourceFacts}
+use Rattle.tor_spec.specs.Facts.{File}
+use Rattle.tor_tree.specs.FileList.{IsInPathOrder, lengths_fault}
+use Rattle.tor_tree.specs.PathList.{ArePlacedPaths, places_of}
+
+-- the bytes of a file; a missing one has none
+abbrev pub content_at : {F : Type 0} → SourceFacts F → ℕ → ListOf ℕ
+content_at facts file = unwrap_or (facts.contents file) []
+
+-- the files of a source: file i has the i-th path
+abbrev pub files_of_source : {F : Type 0} → SourceFacts F → ListOf (ListOf (ListOf ℕ)) → ListOf File
+files_of_source facts paths =
+    map (λ file. record { path = file.1; content = content_at facts file.0 }) (enumerate_from 0 paths)
+
+-- paths with their places, and the lengths of the files there
+abbrev pub listed_files : {F : Type 0} → SourceFacts F → ListOf (ListOf (ListOf ℕ) × ℕ) → ListOf (ListOf (ListOf ℕ) × ℕ)
+listed_files facts entries = map (λ entry. (entry.0, length (content_at facts entry.1))) entries
+
+-- what needs no path: M1, M2, M3
+abbrev pub numbers_refusal : {F : Type 0} → Order → Option (MakeError F)
+numbers_refusal order =
+    if not (is_piece_length order.piece_length) then Some PieceLength else (
+    if not (is_how order.how) then Some Workers else (
+    if not (is_span order.span) then Some Span else None))
+
+-- what is known before the source is asked: those, then the refusals of paths, to Y1
+abbrev pub make_refusal : {F : Type 0} → Order → ListOf (ListOf (ListOf ℕ)) → Option (MakeError F)
+make_refusal order paths =
+    option_or (numbers_refusal order) (option_map of_contents_error (paths_refusal (settings_of_order order) paths))
+
+-- where the lengths of so many files are asked, in the order of their numbers; and then that of all lengths together
+abbrev pub asked_fault : {F : Type 0} → SourceFacts F → ℕ → Option (MakeError F)
+asked_fault facts count =
+    option_or (option_map of_engine_error (first_of (length_fault facts) (range_with_len 0 count)))
+    (option_map List (lengths_fault (map length (contents_in facts count))))
+
+-- where the bytes are read, in the order of the list, unit by unit
+abbrev pub bytes_fault : {F : Type 0} → SourceFacts F → Order → ListOf (ListOf (ListOf ℕ) × ℕ) → Option (MakeError F)
+bytes_fault facts order entries =
+    option_map (λ error. of_engine_error (renumbered (places_of entries) error))
+    (units_fault (facts_at (places_of entries) facts)
+    (hash_units order.kind order.piece_length order.span (listed_files facts entries)))
+
+-- the first that there is: the refusals, then the lengths, then the bytes
+abbrev pub fault_of : {F : Type 0} → SourceFacts F → Order → ListOf (ListOf (ListOf ℕ)) →
+    ListOf (ListOf (ListOf ℕ) × ℕ) → Option (MakeError F)
+fault_of facts order paths entries =
+    option_or (make_refusal order paths) (
+    option_or (asked_fault facts (length paths)) (bytes_fault facts order entries))
+
+-- it is this one, where the entries are the paths in order, each with its place
+pub record IsMakeFault {F : Type 0} (facts : SourceFacts F) (order : Order) (paths : ListOf (ListOf (ListOf ℕ)))
+    (fault : Option (MakeError F)) : Type 0 where
+  pub entries : ListOf (ListOf (ListOf ℕ) × ℕ)
+  pub placed : make_refusal {F = F} order paths ≡ None → ArePlacedPaths paths entries × IsInPathOrder entries
+  pub is_first : fault_of facts order paths entries ≡ fault
+
+-- a fault of the source is one that it gave, for this file and place; no stream is read
+abbrev pub IsGivenTo : {F : Type 0} → (ℕ → Option ℕ → F → Type 0) → MakeError F → Type 0
+IsGivenTo gave (Read file start fault) = gave file start fault
+IsGivenTo gave (StreamTooLong file) = ⊥
+IsGivenTo gave _ = Unit {0}

@@ -1,0 +1,142 @@
+//! The torrent of the files of a source.
+ghost use Rattle.std.specs.Prelude.{◌≡◌, ◌⊎◌, Some, None, IfErr, IfOk, OnOk, List, ℕ, MatchResult, length, map};
+ghost use Rattle.std.specs.Prelude.{slice_index};
+ghost use Rattle.tor_meta.specs.Contents.{IsMadeOf};
+ghost use Rattle.tor_meta.specs.Head.{settings_of};
+ghost use Rattle.tor_meta.specs.Make.{IsGivenTo, IsMakeFault, asked_fault, files_of_source, listed_files};
+ghost use Rattle.tor_meta.specs.Make.{make_refusal, numbers_refusal};
+ghost use Rattle.tor_meta.specs.Order.{settings_of_order};
+ghost use Rattle.tor_meta.specs.declared.make_error.MakeError.{MakeError};
+ghost use Rattle.tor_meta.specs.declared.make_error.MakeError.TheVariants.{Resources};
+ghost use Rattle.tor_source.specs.Source.{SourceFacts};
+ghost use Rattle.tor_tree.specs.PathList.{ArePlacedPaths, IsPathList, places_of};
+
+use crate::head::Head;
+use crate::judge::judge_paths;
+use crate::listed_files::torrent_of_listed;
+use crate::make_error::MakeError;
+use crate::order::{Order, is_how, is_span};
+use crate::placed_files::{Placed, renumbered};
+use crate::refusals::ContentsError;
+use std::alloc::{AllocError, Global};
+use std::thread::Threads;
+use tor_engine::ask_lengths;
+use tor_merkle::is_piece_length;
+use tor_source::Source;
+use tor_tree::{FileList, FilePath, PathList};
+
+/// The bytes of the torrent of the files of a source: file i of the source has path i. The files are put into the order
+/// of their paths. Nothing is asked of the source where the order or the paths are refused; then every length is asked,
+/// in the order of the source's numbers, and then the bytes are read in the order of the list.
+pub fn make<S: Source, R: Threads + Sync>(
+    rt: &R,
+    alloc: Global,
+    source: &S,
+    paths: &[FilePath],
+    order: &Order,
+) -> Result<Vec<u8>, MakeError<S::Fault>>
+    ensures made { (facts : SourceFacts S.Fault) → S.is_steady source.now facts → IfOk result
+        (λ bytes. IsMadeOf (settings_of_order order.now) (files_of_source facts paths.now) bytes.items) }
+    ensures fault { (facts : SourceFacts S.Fault) → S.is_steady source.now facts → MatchResult result
+        (λ _. IsMakeFault facts order.now paths.now None)
+        (λ error. (error ≡ Resources) ⊎ IsMakeFault facts order.now paths.now (Some error)) }
+    ensures accepted { OnOk result (make_refusal {F = S.Fault} order.now paths.now ≡ None) }
+    ensures refused { (refusal : MakeError S.Fault) → make_refusal order.now paths.now ≡ Some refusal →
+        IfErr result (λ error. (error ≡ Resources) ⊎ (error ≡ refusal)) }
+    ensures gave { IfErr result (IsGivenTo (S.gave source.now)) }
+{
+    let head = order.head(alloc)?;
+    let paths = match judge(alloc, order, &head, paths) {
+        Ok(paths) => paths,
+        Err(error) => return Err(error),
+    };
+    let (list, places) = match ask_list(alloc, source, paths) {
+        Ok(both) => both,
+        Err(error) => return Err(error),
+    };
+    let placed = Placed {
+        source,
+        places: &places,
+    };
+    match torrent_of_listed(rt, alloc, &placed, &list, &head, order.span, order.how) {
+        Ok(bytes) => Ok(bytes),
+        Err(error) => Err(MakeError::from(renumbered(&places, error))),
+    }
+}
+
+/// The paths in order, where no torrent is refused for them or for the order.
+fn judge<F>(
+    alloc: Global,
+    order: &Order,
+    head: &Head,
+    paths: &[FilePath],
+) -> Result<PathList, MakeError<F>>
+    requires { settings_of head.now ≡ settings_of_order order.now }
+    ensures placed { IfOk result (ArePlacedPaths paths.now) }
+    ensures lawful { IfOk result IsPathList }
+    ensures accepted { OnOk result (make_refusal {F = F} order.now paths.now ≡ None) }
+    ensures refused { IfErr result
+        (λ error. (error ≡ Resources) ⊎ (make_refusal order.now paths.now ≡ Some error)) }
+{
+    if let Some(refusal) = refusal_of_numbers(order) {
+        return Err(refusal);
+    }
+    let copies = copies(alloc, paths)?;
+    match judge_paths(alloc, head, copies) {
+        Ok(paths) => Ok(paths),
+        Err(refusal) => Err(MakeError::from(refusal)),
+    }
+}
+
+/// The first refusal for what needs no path.
+fn refusal_of_numbers<F>(order: &Order) -> Option<MakeError<F>>
+    ensures { result ≡ numbers_refusal order.now }
+{
+    if !is_piece_length(order.piece_length) {
+        return Some(MakeError::PieceLength);
+    }
+    if !is_how(order.how) {
+        return Some(MakeError::Workers);
+    }
+    if !is_span(order.span) {
+        return Some(MakeError::Span);
+    }
+    None
+}
+
+/// The same paths again.
+fn copies(alloc: Global, paths: &[FilePath]) -> Result<Vec<FilePath>, AllocError>
+    ensures { IfOk result (λ copies. copies.items ≡ paths.now) }
+{
+    let mut copies = Vec::with_capacity(alloc, paths.len())?;
+    for path in paths {
+        copies.push(path.copy(alloc)?)?;
+    }
+    Ok(copies)
+}
+
+/// The list of the files of the source that have these paths, and the place of each.
+fn ask_list<S: Source>(
+    alloc: Global,
+    source: &S,
+    paths: PathList,
+) -> Result<(FileList, Vec<usize>), MakeError<S::Fault>>
+    ensures list { IfOk result (λ both. (lengths : List ℕ) ×
+        (both.0 ≡ map (λ entry. (entry.0, slice_index lengths entry.1)) paths)) }
+    ensures places { IfOk result (λ both. both.1.items ≡ places_of paths) }
+    ensures files { (facts : SourceFacts S.Fault) → S.is_steady source.now facts →
+        IfOk result (λ both. both.0 ≡ listed_files facts paths) }
+    ensures fault { (facts : SourceFacts S.Fault) → S.is_steady source.now facts → MatchResult result
+        (λ _. asked_fault facts (length paths) ≡ None)
+        (λ error. (error ≡ Resources) ⊎ (asked_fault facts (length paths) ≡ Some error)) }
+    ensures gave { IfErr result (IsGivenTo (S.gave source.now)) }
+{
+    let lengths = match ask_lengths(alloc, source, paths.entries().len()) {
+        Ok(lengths) => lengths,
+        Err(error) => return Err(MakeError::from(error)),
+    };
+    match paths.with_lengths(alloc, &lengths) {
+        Ok(both) => Ok(both),
+        Err(fault) => Err(MakeError::from(ContentsError::from(fault))),
+    }
+}

@@ -1,0 +1,107 @@
+//! Why no torrent is made of the files of a source.
+ghost use Rattle.std.specs.Prelude.{◌≡◌};
+ghost use Rattle.tor_meta.specs.MakeError.{of_contents_error, of_engine_error};
+ghost use Rattle.tor_meta.specs.declared.make_error.MakeError.TheVariants.{Resources};
+
+use crate::refusals::ContentsError;
+use std::alloc::{AllocError, AllocFailed};
+use thiserror::Error;
+use tor_engine::EngineError;
+use tor_tree::ListError;
+
+/// Why no torrent is made of the files of a source. A file is named by its place among the paths that were handed in.
+///
+/// Those before `Read` are told before the source is asked, but for a list's `TooLarge`, which is told when all lengths
+/// were; the first that holds, where the faults of paths come before `ReservedPad`.
+#[derive(Debug, Drop, Error)]
+pub enum MakeError<F> {
+    /// No power of two from 2^14 to 2^30.
+    #[error("M1 PieceLength")]
+    PieceLength,
+    /// No worker, or more than 64.
+    #[error("M2 Workers")]
+    Workers,
+    /// No power of two from 1 to 1,024.
+    #[error("M3 Span")]
+    Span,
+    /// A path of more than 64 names.
+    #[error("M4 Path")]
+    Path,
+    /// A single file is asked for, and there is not exactly one path that is the torrent's name.
+    #[error("M5 SingleShape")]
+    SingleShape,
+    #[error(transparent)]
+    List(ListError),
+    /// In a hybrid of a folder some path begins with `.pad`.
+    #[error("Y1 ReservedPad")]
+    ReservedPad,
+    /// The source had a fault: for the length of the file, or at its byte `start`.
+    #[error("E1 Read")]
+    Read {
+        file: u64,
+        start: Option<u64>,
+        fault: F,
+    },
+    /// The file did not stay as long as was told.
+    #[error("E2 Changed")]
+    Changed {
+        file: u64,
+    },
+    #[error("E3 Missing")]
+    Missing {
+        file: u64,
+    },
+    /// Memory or a thread was refused.
+    #[error("E4 Resources")]
+    Resources,
+    /// A stream had more than 2^50 bytes.
+    #[error("E5 StreamTooLong")]
+    StreamTooLong {
+        file: u64,
+    },
+}
+
+impl<F> From<ContentsError> for MakeError<F> {
+    ghost from_gives = { λ refusal e. e ≡ of_contents_error refusal };
+
+    fn from(refusal: ContentsError) -> MakeError<F> {
+        match refusal {
+            ContentsError::PieceLength => MakeError::PieceLength,
+            ContentsError::Path => MakeError::Path,
+            ContentsError::SingleShape => MakeError::SingleShape,
+            ContentsError::List(fault) => MakeError::List(fault),
+            ContentsError::ReservedPad => MakeError::ReservedPad,
+            ContentsError::Memory => MakeError::Resources,
+        }
+    }
+}
+
+impl<F> From<EngineError<F>> for MakeError<F> {
+    ghost from_gives = { λ error e. e ≡ of_engine_error error };
+
+    fn from(error: EngineError<F>) -> MakeError<F> {
+        match error {
+            EngineError::Read { file, start, fault } => MakeError::Read { file, start, fault },
+            EngineError::Changed { file } => MakeError::Changed { file },
+            EngineError::Missing { file } => MakeError::Missing { file },
+            EngineError::Resources => MakeError::Resources,
+            EngineError::StreamTooLong { file } => MakeError::StreamTooLong { file },
+        }
+    }
+}
+
+impl<F> From<AllocError> for MakeError<F> {
+    ghost from_gives = { λ _ e. e ≡ Resources };
+
+    fn from(_error: AllocError) -> MakeError<F> {
+        MakeError::Resources
+    }
+}
+
+impl<F, T: Drop> From<AllocFailed<T>> for MakeError<F> {
+    ghost from_gives = { λ _ e. e ≡ Resources };
+
+    fn from(_failed: AllocFailed<T>) -> MakeError<F> {
+        MakeError::Resources
+    }
+}

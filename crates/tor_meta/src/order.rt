@@ -1,0 +1,80 @@
+//! How the torrent of a source's files is to be made.
+ghost use Rattle.std.specs.Prelude.{◌≡◌, IfOk, option_map, vec_items};
+ghost use Rattle.tor_meta.specs.Head.{settings_of};
+ghost use Rattle.tor_meta.specs.Order.{is_how, is_span, settings_of_order};
+
+use crate::head::Head;
+use std::alloc::{AllocError, Global};
+use tor_engine::How;
+use tor_tree::{Kind, Name};
+
+/// The most workers that may share the hashing.
+pub const MAX_WORKERS: u32 = 64;
+
+/// The most pieces that one unit of work may have.
+pub const MAX_SPAN: u32 = 1024;
+
+/// How a torrent is to be made: what a [`Head`] says, and how its files are hashed, of which the torrent says nothing.
+#[derive(Debug, Drop)]
+pub struct Order {
+    pub kind: Kind,
+    /// It is of one file, which has the torrent's name (BEP 3, "info dictionary": `length` in place of `files`).
+    pub single: bool,
+    /// The name that it suggests for its content.
+    pub name: Name,
+    /// In bytes.
+    pub piece_length: u64,
+    /// The tracker's URL (BEP 3, "metainfo files": `announce`).
+    pub announce: Option<Vec<u8>>,
+    /// `private` (BEP 27).
+    pub is_private: bool,
+    /// The pieces that a worker hashes as one unit of work.
+    pub span: u32,
+    /// The workers that share the units.
+    pub how: How,
+}
+
+impl Order {
+    /// What the torrent is made with, beside its files.
+    pub(crate) fn head(&self, alloc: Global) -> Result<Head, AllocError>
+        ensures { IfOk result (λ head. settings_of head ≡ settings_of_order self.now) }
+    {
+        let name = self.name.copy(alloc)?;
+        let announce = copy_of_url(alloc, &self.announce)?;
+        Ok(Head {
+            kind: self.kind,
+            single: self.single,
+            name,
+            piece_length: self.piece_length,
+            announce,
+            is_private: self.is_private,
+        })
+    }
+}
+
+/// The same URL, where there is one.
+fn copy_of_url(alloc: Global, url: &Option<Vec<u8>>) -> Result<Option<Vec<u8>>, AllocError>
+    ensures { IfOk result (λ copy. option_map vec_items copy ≡ option_map vec_items url.now) }
+{
+    match url {
+        Some(url) => Ok(Some(Vec::from_slice(alloc, url)?)),
+        None => Ok(None),
+    }
+}
+
+/// Whether so many workers may share the hashing.
+pub(crate) fn is_how(how: How) -> bool
+    ensures { result ≡ is_how how }
+{
+    match how {
+        How::One => true,
+        How::Halves(workers) => 1 <= workers && workers <= MAX_WORKERS,
+    }
+}
+
+/// Whether a unit may have so many pieces: a power of two from 1 to 1,024.
+pub(crate) fn is_span(span: u32) -> bool
+    ensures { result ≡ is_span span }
+{
+    span.is_power_of_two() && 1 <= span && span <= MAX_SPAN
+}
