@@ -45,6 +45,8 @@ mod sums;
 mod tests;
 #[cfg(test)]
 mod tests_larger;
+#[cfg(test)]
+mod tests_source;
 mod torrent;
 
 pub use contents::make_contents;

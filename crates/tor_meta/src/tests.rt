@@ -10,7 +10,7 @@ use tor_merkle::{leaf, pair, zero};
 use tor_tree::{FilePath, Kind, Name};
 
 /// The torrent of the content `abc` under the name `a`, piece length 16,384. The hash is the SHA-256 of `abc`.
-const ABC: &[u8] = b"d4:infod9:file treed1:ad0:d6:lengthi3e11:pieces root32:\
+pub(crate) const ABC: &[u8] = b"d4:infod9:file treed1:ad0:d6:lengthi3e11:pieces root32:\
 \xba\x78\x16\xbf\x8f\x01\xcf\xea\x41\x41\x40\xde\x5d\xae\x22\x23\
 \xb0\x03\x61\xa3\x96\x17\x7a\x9c\xb4\x10\xff\x61\xf2\x00\x15\xad\
 eee12:meta versioni2e4:name1:a12:piece lengthi16384ee12:piece layersdee";
@@ -23,22 +23,24 @@ const TRACKED: &[u8] =
 eee12:meta versioni2e4:name1:a12:piece lengthi16384e7:privatei1ee12:piece layersdee";
 
 /// The torrents of no content under the name `a`.
-const EMPTY_V1: &[u8] = b"d4:infod6:lengthi0e4:name1:a12:piece lengthi16384e6:pieces0:ee";
+pub(crate) const EMPTY_V1: &[u8] =
+    b"d4:infod6:lengthi0e4:name1:a12:piece lengthi16384e6:pieces0:ee";
 
-const EMPTY_V2: &[u8] = b"d4:infod9:file treed1:ad0:d6:lengthi0eeee\
+pub(crate) const EMPTY_V2: &[u8] = b"d4:infod9:file treed1:ad0:d6:lengthi0eeee\
 12:meta versioni2e4:name1:a12:piece lengthi16384ee12:piece layersdee";
 
-const EMPTY_HYBRID: &[u8] = b"d4:infod9:file treed1:ad0:d6:lengthi0eeee6:lengthi0e\
+pub(crate) const EMPTY_HYBRID: &[u8] = b"d4:infod9:file treed1:ad0:d6:lengthi0eeee6:lengthi0e\
 12:meta versioni2e4:name1:a12:piece lengthi16384e6:pieces0:e12:piece layersdee";
 
 /// The torrent of version 1 of the files `a`, that has `ab`, and `b`, that has `c`, in the folder `f`, with the SHA-1
 /// of `abc`.
-const FOLDER_V1: &[u8] = b"d4:infod5:filesld6:lengthi2e4:pathl1:aeed6:lengthi1e4:pathl1:beee\
+pub(crate) const FOLDER_V1: &[u8] =
+    b"d4:infod5:filesld6:lengthi2e4:pathl1:aeed6:lengthi1e4:pathl1:beee\
 4:name1:f12:piece lengthi16384e6:pieces20:\
 \xa9\x99\x3e\x36\x47\x06\x81\x6a\xba\x3e\x25\x71\x78\x50\xc2\x6c\x9c\xd0\xd8\x9dee";
 
 /// The hybrid of the same files: the SHA-256 of `ab` and of `c`, the SHA-1 of `ab` and 16,382 zeros and that of `c`.
-const FOLDER_HYBRID: &[u8] = b"d4:infod9:file treed1:ad0:d6:lengthi2e11:pieces root32:\
+pub(crate) const FOLDER_HYBRID: &[u8] = b"d4:infod9:file treed1:ad0:d6:lengthi2e11:pieces root32:\
 \xfb\x8e\x20\xfc\x2e\x4c\x3f\x24\x8c\x60\xc3\x9b\xd6\x52\xf3\xc1\
 \x34\x72\x98\xbb\x97\x7b\x8b\x4d\x59\x03\xb8\x50\x55\x62\x06\x03\
 ee1:bd0:d6:lengthi1e11:pieces root32:\
@@ -68,7 +70,7 @@ pub(crate) fn head(
 }
 
 /// The path whose names are the parts of a text between its slashes.
-fn path(alloc: Global, text: &str) -> Result<FilePath, Fail> {
+pub(crate) fn path(alloc: Global, text: &str) -> Result<FilePath, Fail> {
     let mut names = Vec::new(alloc);
     for part in text.split('/') {
         names.push(Name::new(alloc, part.as_bytes())?)?;
