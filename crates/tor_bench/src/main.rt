@@ -4,7 +4,8 @@
 //! and `both CUT` by those hashes over all, each in reads of CUT bytes; `decode 1` reads it as bencode. `paths COUNT`
 //! makes so many paths, `list COUNT` a list of them too, and `lists COUNT` writes its tree and reads that back;
 //! `padded COUNT` makes a hybrid of so many small files; `scan FOLDER` lists a folder.
-//! `decode`, `lists`, `padded` and `scan` print microseconds.
+//! `decode`, `lists`, `padded` and `scan` print microseconds. Lists are in `lists.rt`, the hybrid in `padded.rt`, the
+//! hashes over all in `plain.rt`.
 #![tactic(auto)]
 
 ghost use Rattle.std.specs.Prelude.{◌≡◌, IfOk, vec_len};

@@ -17,6 +17,8 @@
 //! - [`span`] (`place.rt`): where the value of a key is spelled.
 //! - [`BenError`] (`error.rt`), [`Fault`] (`fault.rt`): what these refuse.
 //! - [`laws`] (`laws.rt`): laws over the definitions of `specs/`.
+//!
+//! `token.rt` reads integers and strings; `order.rt` compares keys; `stop.rt` says where reading stops.
 #![tactic(auto)]
 
 mod error;

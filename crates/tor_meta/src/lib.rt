@@ -7,6 +7,7 @@
 //! - [`make`] (`from_source.rt`): the torrent of the files of a source, as an [`Order`] (`order.rt`) says, or the first
 //!   [`MakeError`] (`make_error.rt`). `placed_files.rt` puts a source's files into another order; `listed_files.rt`
 //!   makes the torrent of a list of files whose bytes a source gives.
+//! - [`ContentsError`] (`refusals.rt`): why there is no torrent of files in memory.
 //! - `sums.rt`: the Merkle trees and the SHA-1 of the pieces, as far as a kind asks for them.
 //! - `torrent.rt`: from files and sums to bytes, by `info.rt`, `layers.rt` and `items.rt`.
 //! - [`Hashes`], [`info_hashes`], [`magnet`] (`hashes.rt`); [`write_out`] (`output.rt`): all bytes into a writer.

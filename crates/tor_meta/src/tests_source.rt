@@ -4,6 +4,8 @@ use crate::tests::{ABC, EMPTY_HYBRID, EMPTY_V1, EMPTY_V2, FOLDER_HYBRID, FOLDER_
 use crate::{Order, make};
 use std::alloc::Global;
 use std::process::Abort;
+use std::sync::atomic::AtomicU64;
+use std::sync::atomic::Ordering::SeqCst;
 use std::test::Fail;
 use std::thread::Threads;
 use tor_engine::How;
@@ -103,12 +105,37 @@ fn makes_torrents_of_a_source_however_it_is_read(rt: HostRuntime) -> Result<(), 
     Ok(())
 }
 
+/// Tells of each file that it has so many bytes, and has none; counts what it is asked.
+#[derive(Drop)]
+struct Tells {
+    length: u64,
+    asked: AtomicU64,
+}
+
+impl Source for Tells {
+    type Fault = u64;
+
+    ghost is_steady = { λ _ _. ⊥ };
+
+    ghost gave = { λ _ _ _ _. Unit {0} };
+
+    fn length(&self, _file: u64) -> Result<Option<u64>, u64> {
+        self.asked.fetch_add(1, SeqCst);
+        Ok(Some(self.length))
+    }
+
+    fn read_at(&self, _file: u64, _start: u64, _buffer: &mut [u8]) -> Result<usize, u64> {
+        self.asked.fetch_add(1, SeqCst);
+        Ok(0)
+    }
+}
+
 #[test]
 fn refuses_orders_and_paths_before_the_source_is_asked(rt: HostRuntime) -> Result<(), Fail> {
     let alloc = rt.alloc();
-    let rows: [(&str, Kind, &str, bool, u64, u32, How, &str); 13] = [
+    let rows: [(&str, Kind, &str, bool, u64, u32, How, &str); 10] = [
         (
-            "a=x",
+            "a!",
             Kind::V2,
             "f",
             false,
@@ -118,7 +145,7 @@ fn refuses_orders_and_paths_before_the_source_is_asked(rt: HostRuntime) -> Resul
             "PieceLength",
         ),
         (
-            "a=x",
+            "a!",
             Kind::V2,
             "f",
             false,
@@ -128,7 +155,7 @@ fn refuses_orders_and_paths_before_the_source_is_asked(rt: HostRuntime) -> Resul
             "Workers",
         ),
         (
-            "a=x",
+            "a!",
             Kind::V2,
             "f",
             false,
@@ -138,7 +165,7 @@ fn refuses_orders_and_paths_before_the_source_is_asked(rt: HostRuntime) -> Resul
             "Workers",
         ),
         (
-            "a=x",
+            "a!",
             Kind::V2,
             "f",
             false,
@@ -147,17 +174,8 @@ fn refuses_orders_and_paths_before_the_source_is_asked(rt: HostRuntime) -> Resul
             How::Halves(64),
             "Span",
         ),
-        ("a=x", Kind::V2, "f", false, 16384, 2048, How::One, "Span"),
-        (
-            "b=x",
-            Kind::V2,
-            "a",
-            true,
-            16384,
-            1,
-            How::One,
-            "SingleShape",
-        ),
+        ("a!", Kind::V2, "f", false, 16384, 2048, How::One, "Span"),
+        ("b!", Kind::V2, "a", true, 16384, 1, How::One, "SingleShape"),
         (
             "",
             Kind::V2,
@@ -169,7 +187,7 @@ fn refuses_orders_and_paths_before_the_source_is_asked(rt: HostRuntime) -> Resul
             "List(NoFiles)",
         ),
         (
-            "a=x a=y",
+            "a! a!",
             Kind::V1,
             "f",
             false,
@@ -179,7 +197,7 @@ fn refuses_orders_and_paths_before_the_source_is_asked(rt: HostRuntime) -> Resul
             "List(Duplicate)",
         ),
         (
-            "a=x a/b=y",
+            "a! a/b!",
             Kind::V1,
             "f",
             false,
@@ -189,7 +207,7 @@ fn refuses_orders_and_paths_before_the_source_is_asked(rt: HostRuntime) -> Resul
             "List(FileAndFolder)",
         ),
         (
-            ".pad/1=x",
+            ".pad/1!",
             Kind::Hybrid,
             "f",
             false,
@@ -198,46 +216,36 @@ fn refuses_orders_and_paths_before_the_source_is_asked(rt: HostRuntime) -> Resul
             How::One,
             "ReservedPad",
         ),
-        (
-            ".pad/1=x",
-            Kind::V2,
-            "f",
-            false,
-            16384,
-            1,
-            How::One,
-            "Read { file: 0, start: None, fault: 9 }",
-        ),
-        (
-            ".pad=x",
-            Kind::Hybrid,
-            ".pad",
-            true,
-            16384,
-            1,
-            How::One,
-            "Read { file: 0, start: None, fault: 9 }",
-        ),
-        (
-            "a=x",
-            Kind::V2,
-            "f",
-            false,
-            16384,
-            1,
-            How::One,
-            "Read { file: 0, start: None, fault: 9 }",
-        ),
     ];
     for (told, kind, name, single, piece_length, span, how, wanted) in rows {
-        let (paths, contents) = files_told(alloc, told)?;
-        let faults = vec![in alloc; (0u64, None, 9u64)]?;
-        let source = FailSource::new(MemSource::new(contents), faults);
+        let (paths, _) = files_told(alloc, told)?;
+        let source = Tells {
+            length: 5,
+            asked: AtomicU64::new(0),
+        };
         let mut order = order(alloc, kind, name, single, how)?;
         order.piece_length = piece_length;
         order.span = span;
         let found = answer(&rt, &source, &paths, &order)?;
         assert_eq!(rt; found.as_str(), wanted, "{told}, {kind:?}");
+        assert_eq!(rt; source.asked.load(SeqCst), 0, "{told}, {kind:?}");
+    }
+    Ok(())
+}
+
+#[test]
+fn takes_reserved_names_where_nothing_is_aligned(rt: HostRuntime) -> Result<(), Fail> {
+    let alloc = rt.alloc();
+    let rows: [(&str, Kind, &str, bool); 3] = [
+        (".pad/1=x", Kind::V2, "f", false),
+        (".pad/1=x", Kind::V1, "f", false),
+        (".pad=x", Kind::Hybrid, ".pad", true),
+    ];
+    for (told, kind, name, single) in rows {
+        let (paths, contents) = files_told(alloc, told)?;
+        let order = order(alloc, kind, name, single, How::One)?;
+        let found = answer(&rt, &MemSource::new(contents), &paths, &order)?;
+        assert_eq!(rt; found.as_str(), "made", "{told}, {kind:?}");
     }
     Ok(())
 }
@@ -283,30 +291,8 @@ fn tells_faults_under_the_numbers_handed_in(rt: HostRuntime) -> Result<(), Fail>
     Ok(())
 }
 
-/// Tells of each file that it has so many bytes, and has none.
-#[derive(Drop)]
-struct Tells {
-    length: u64,
-}
-
-impl Source for Tells {
-    type Fault = u64;
-
-    ghost is_steady = { λ _ _. ⊥ };
-
-    ghost gave = { λ _ _ _ _. Unit {0} };
-
-    fn length(&self, _file: u64) -> Result<Option<u64>, u64> {
-        Ok(Some(self.length))
-    }
-
-    fn read_at(&self, _file: u64, _start: u64, _buffer: &mut [u8]) -> Result<usize, u64> {
-        Ok(0)
-    }
-}
-
 #[test]
-fn refuses_lengths_that_are_too_large_or_do_not_stay(rt: HostRuntime) -> Result<(), Fail> {
+fn refuses_lengths_that_are_too_large(rt: HostRuntime) -> Result<(), Fail> {
     let alloc = rt.alloc();
     let rows = [
         ((1u64 << 50) + 1, "List(TooLarge)"),
@@ -316,8 +302,63 @@ fn refuses_lengths_that_are_too_large_or_do_not_stay(rt: HostRuntime) -> Result<
     for (length, wanted) in rows {
         let (paths, _) = files_told(alloc, "a!")?;
         let order = order(alloc, Kind::Hybrid, "a", true, How::Halves(2))?;
-        let found = answer(&rt, &Tells { length }, &paths, &order)?;
+        let source = Tells {
+            length,
+            asked: AtomicU64::new(0),
+        };
+        let found = answer(&rt, &source, &paths, &order)?;
         assert_eq!(rt; found.as_str(), wanted);
+    }
+    Ok(())
+}
+
+/// Files of one byte, of which one is told to have two when it is asked for the third time, or has none to read.
+#[derive(Drop)]
+struct Changing {
+    file: u64,
+    asked: AtomicU64,
+    has_bytes: bool,
+}
+
+impl Source for Changing {
+    type Fault = u64;
+
+    ghost is_steady = { λ _ _. ⊥ };
+
+    ghost gave = { λ _ _ _ _. Unit {0} };
+
+    fn length(&self, file: u64) -> Result<Option<u64>, u64> {
+        if file == self.file && self.asked.fetch_add(1, SeqCst) == 2 {
+            return Ok(Some(2));
+        }
+        Ok(Some(1))
+    }
+
+    fn read_at(&self, file: u64, start: u64, buffer: &mut [u8]) -> Result<usize, u64> {
+        if buffer.is_empty() || start > 0 || (file == self.file && !self.has_bytes) {
+            return Ok(0);
+        }
+        Ok(1)
+    }
+}
+
+#[test]
+fn tells_which_file_was_changed(rt: HostRuntime) -> Result<(), Fail> {
+    let alloc = rt.alloc();
+    for (file, wanted) in [(0u64, "Changed { file: 0 }"), (1, "Changed { file: 1 }")] {
+        for has_bytes in [false, true] {
+            for how in EACH_HOW {
+                let (paths, _) = files_told(alloc, "b! a!")?;
+                let order = order(alloc, Kind::Hybrid, "f", false, how)?;
+                let source = Changing {
+                    file,
+                    asked: AtomicU64::new(0),
+                    has_bytes,
+                };
+                let found = answer(&rt, &source, &paths, &order)?;
+                assert_eq!(rt; found.as_str(), wanted, "{has_bytes}, {how:?}");
+            }
+        }
     }
     Ok(())
 }

@@ -18,9 +18,10 @@
 //! - [`from_item`] (`read_tree.rt`): the files that a tree describes, each a [`TreeFile`] (`tree_file.rt`); they are in
 //!   order.
 //! - [`to_item`] (`write_tree.rt`): the tidy tree of a list; there is one at most.
+//! - [`Kind`] (`kinds.rt`): which sides a torrent has.
 //! - [`laws`] (`laws.rt`): laws over the definitions of `specs/`.
 //!
-//! `entries.rt`, `properties.rt` and `mixed.rt` read the parts of a tree.
+//! `path_faults.rt` judges sorted paths. `entries.rt`, `properties.rt` and `mixed.rt` read the parts of a tree.
 #![tactic(auto)]
 
 mod entries;
