@@ -17,8 +17,8 @@ use tor_tree::{FileList, FilePath};
 pub enum Layout {
     /// One directly after the other.
     Joined,
-    /// Each that is not empty at the beginning of a piece, with padding directly after each that ends inside one and has
-    /// a later file with bytes.
+    /// Each that is not empty at the beginning of a piece, with padding directly after each that ends inside one and
+    /// has a later file with bytes.
     Aligned,
 }
 
