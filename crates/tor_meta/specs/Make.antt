@@ -12,12 +12,13 @@ use Rattle.tor_meta.specs.PlacedFiles.{facts_at, renumbered}
 use Rattle.tor_meta.specs.Refusal.{paths_refusal}
 use Rattle.tor_meta.specs.declared.make_error.MakeError.{MakeError}
 use Rattle.tor_meta.specs.declared.make_error.MakeError.TheVariants.{PieceLength, Workers, Span, List, Read}
-use Rattle.tor_meta.specs.declared.make_error.MakeError.TheVariants.{StreamTooLong}
+use Rattle.tor_meta.specs.declared.make_error.MakeError.TheVariants.{StreamTooLong, Changed, Missing, Resources}
 use Rattle.tor_meta.specs.declared.order.Order.{Order}
 use Rattle.tor_plan.specs.Units.{hash_units}
 use Rattle.tor_source.specs.Source.{SourceFacts}
 use Rattle.tor_spec.specs.Facts.{File}
 use Rattle.tor_tree.specs.FileList.{IsInPathOrder, lengths_fault}
+use Rattle.tor_tree.specs.declared.lists.ListError.TheVariants.{TooLarge}
 use Rattle.tor_tree.specs.PathList.{ArePlacedPaths, places_of}
 
 -- the bytes of a file; a missing one has none
@@ -77,3 +78,14 @@ abbrev pub IsGivenTo : {F : Type 0} → (ℕ → Option ℕ → F → Type 0) �
 IsGivenTo gave (Read file start fault) = gave file start fault
 IsGivenTo gave (StreamTooLong file) = ⊥
 IsGivenTo gave _ = Unit {0}
+
+-- of a refusal of the order or the paths: it is the first that there is. Other answers are of the source or its lengths,
+-- or want of memory
+abbrev pub IsOwn : {F : Type 0} → Option (MakeError F) → MakeError F → Type 0
+IsOwn first (Read file start fault) = Unit {0}
+IsOwn first (Changed file) = Unit {0}
+IsOwn first (Missing file) = Unit {0}
+IsOwn first Resources = Unit {0}
+IsOwn first (StreamTooLong file) = Unit {0}
+IsOwn first (List TooLarge) = Unit {0}
+IsOwn first error = first ≡ Some error

@@ -1,9 +1,9 @@
 //! The torrent of the files of a source.
 ghost use Rattle.std.specs.Prelude.{◌≡◌, ◌⊎◌, Some, None, IfErr, IfOk, OnOk, List, ℕ, MatchResult, length, map};
-ghost use Rattle.std.specs.Prelude.{slice_index};
+ghost use Rattle.std.specs.Prelude.{Option, slice_index};
 ghost use Rattle.tor_meta.specs.Contents.{IsMadeOf};
 ghost use Rattle.tor_meta.specs.Head.{settings_of};
-ghost use Rattle.tor_meta.specs.Make.{IsGivenTo, IsMakeFault, asked_fault, files_of_source, listed_files};
+ghost use Rattle.tor_meta.specs.Make.{IsGivenTo, IsMakeFault, IsOwn, asked_fault, files_of_source, listed_files};
 ghost use Rattle.tor_meta.specs.Make.{make_refusal, numbers_refusal};
 ghost use Rattle.tor_meta.specs.Order.{settings_of_order};
 ghost use Rattle.tor_meta.specs.declared.make_error.MakeError.{MakeError};
@@ -43,6 +43,7 @@ pub fn make<S: Source, R: Threads + Sync>(
     ensures accepted { OnOk result (make_refusal {F = S.Fault} order.now paths.now ≡ None) }
     ensures refused { (refusal : MakeError S.Fault) → make_refusal order.now paths.now ≡ Some refusal →
         IfErr result (λ error. (error ≡ Resources) ⊎ (error ≡ refusal)) }
+    ensures only { IfErr result (IsOwn (make_refusal order.now paths.now)) }
     ensures gave { IfErr result (IsGivenTo (S.gave source.now)) }
 {
     let head = order.head(alloc)?;
@@ -129,6 +130,7 @@ fn ask_list<S: Source>(
     ensures fault { (facts : SourceFacts S.Fault) → S.is_steady source.now facts → MatchResult result
         (λ _. asked_fault facts (length paths) ≡ None)
         (λ error. (error ≡ Resources) ⊎ (asked_fault facts (length paths) ≡ Some error)) }
+    ensures only { (first : Option (MakeError S.Fault)) → IfErr result (IsOwn first) }
     ensures gave { IfErr result (IsGivenTo (S.gave source.now)) }
 {
     let lengths = match ask_lengths(alloc, source, paths.entries().len()) {

@@ -49,3 +49,6 @@ returns-clause-fault g c = λ facts steady.
     ∙ ap (λ places. renumbered places c.in-Err-torrent_of_listed.error)
     (c.deref-in-Err-torrent_of_listed.ensures.value ∙ sym c.deref.ensures.value)))
     (c.in-Err-torrent_of_listed.ensures.fault (facts_at c.deref.result.now facts) (facts, steady, refl))
+
+pub returns-in-Err-ask_list-clause-only : goal.returns-in-Err-ask_list-clause-only
+returns-in-Err-ask_list-clause-only g c = c.in-Err-ask_list.ensures.only _
