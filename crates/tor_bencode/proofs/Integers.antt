@@ -1,5 +1,7 @@
 -- An integer that is read is the one that is spelled, and what is refused has a fault.
-use Rattle.std.proofs.Common.{◌≡◌, ◌≢◌, ℕ, zero, suc, ◌^◌, ◌≤◌, ◌<◌, ℤ, pos, negsuc, List, [], ◌∷◌, ◌++◌, take, Bool, true, false, not, ◌==◌, ◌&&◌, ◌||◌, Option, Some, None, Ok, Err, refl, sym, ap, ap₂, ◌∙◌, arith, rules, inl, inr, ◌⊎◌}
+use Rattle.std.proofs.Common.{◌≡◌, ◌≢◌, ℕ, zero, suc, ◌^◌, ◌≤◌, ◌<◌, ℤ, pos, negsuc, List, [], ◌∷◌, ◌++◌, take, Bool}
+use Rattle.std.proofs.Common.{true, false, not, ◌==◌, ◌&&◌, ◌||◌, Option, Some, None, Ok, Err, refl, sym, ap, ap₂, ◌∙◌}
+use Rattle.std.proofs.Common.{arith, rules, inl, inr, ◌⊎◌}
 use Rattle.std.specs.Prelude.{nat_le, nat_lt, FitsSigned}
 use Rattle.std.specs.Char.{is_ascii_digit}
 use Rattle.std.specs.Int.{w64}
@@ -10,9 +12,11 @@ use Rattle.std.proofs.lemmas.Int.{ints}
 use Rattle.std.proofs.lemmas.List.{take_at, drop_at, drop_all}
 use Rattle.tor_bencode.specs.declared.fault.Fault.TheVariants.{Truncated, BadInteger, IntegerRange}
 use Rattle.tor_bencode.specs.Fault.{Runs, is_integer_byte}
-use Rattle.tor_bencode.specs.steps.Reading.{number, is_shortest, is_positive, is_integer, integer_of, negative_of, positive_of, in_range, integer_after, integer_at}
+use Rattle.tor_bencode.specs.steps.Reading.{number, is_shortest, is_positive, is_integer, integer_of, negative_of}
+use Rattle.tor_bencode.specs.steps.Reading.{positive_of, in_range, integer_after, integer_at}
 use Rattle.tor_bencode.specs.Spelling.{base_ten, signed_base_ten}
-use Rattle.tor_bencode.proofs.Numerals.{digit_range, base_ten-number, number-base_ten, all_digits-base_ten, is_shortest-base_ten}
+use Rattle.tor_bencode.proofs.Numerals.{digit_range, base_ten-number, number-base_ten, all_digits-base_ten}
+use Rattle.tor_bencode.proofs.Numerals.{is_shortest-base_ten}
 use Rattle.tor_bencode.proofs.Runs.{one_of_two, prefix_len-run, prefix_len-all}
 
 or_true : (b : Bool) → (b || true) ≡ true
@@ -48,7 +52,8 @@ is_positive-digits : (run : List ℕ) → list_all is_ascii_digit run ≡ true �
 is_positive-digits [] digits shortest more = absurd (false≢true shortest)
 is_positive-digits (c ∷ []) digits shortest more =
     let first : not (c == 48) ≡ true =
-    elim (cases_Bool (c == 48)) [ inl e ↦ absurd (let z = number-zero c (grind (arith, nat_tests)) in omega arith) | inr e ↦ rw e refl ] in
+    elim (cases_Bool (c == 48))
+    [ inl e ↦ absurd (let z = number-zero c (grind (arith, nat_tests)) in omega arith) | inr e ↦ rw e refl ] in
     rw (first, digits) refl
 is_positive-digits (c ∷ d ∷ cs) digits shortest more = rw (shortest, digits) refl
 

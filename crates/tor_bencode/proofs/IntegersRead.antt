@@ -1,5 +1,7 @@
 -- What is read as an integer is one that is spelled, or has a fault.
-use Rattle.std.proofs.Common.{◌≡◌, ℕ, suc, ◌^◌, ℤ, pos, negsuc, List, [], ◌∷◌, ◌++◌, take, drop, Bool, true, false, cond, ◌==◌, ◌&&◌, Some, None, Ok, Err, refl, sym, ap, ap₂, ◌∙◌, subst, append_assoc, arith, inl, inr}
+use Rattle.std.proofs.Common.{◌≡◌, ℕ, suc, ◌^◌, ℤ, pos, negsuc, List, [], ◌∷◌, ◌++◌, take, drop, Bool, true, false}
+use Rattle.std.proofs.Common.{cond, ◌==◌, ◌&&◌, Some, None, Ok, Err, refl, sym, ap, ap₂, ◌∙◌, subst, append_assoc}
+use Rattle.std.proofs.Common.{arith, inl, inr}
 use Rattle.std.specs.Prelude.{nat_le, nat_lt, FitsSigned}
 use Rattle.std.specs.Int.{w64}
 use Rattle.std.specs.List.{list_all, prefix_len}
@@ -8,12 +10,14 @@ use Rattle.std.proofs.lemmas.Bool.Decides.{nat_tests}
 use Rattle.std.proofs.lemmas.List.{append-nil}
 use Rattle.tor_bencode.specs.Data.{integer}
 use Rattle.tor_bencode.specs.declared.fault.Fault.{Fault}
-use Rattle.tor_bencode.specs.declared.fault.Fault.TheVariants.{Truncated, BadByte, BadInteger, IntegerRange, BadLength, KeyNotBytes, KeyOrder, TooDeep, Trailing}
+use Rattle.tor_bencode.specs.declared.fault.Fault.TheVariants.{Truncated, BadByte, BadInteger, IntegerRange, BadLength}
+use Rattle.tor_bencode.specs.declared.fault.Fault.TheVariants.{KeyNotBytes, KeyOrder, TooDeep, Trailing}
 use Rattle.tor_bencode.specs.Fault.{Runs, is_integer_byte, IsCutInteger, IsBadInteger, IsTooLarge}
 use Rattle.tor_bencode.specs.steps.Reading.{Reading, is_integer, integer_of, in_range, integer_after, integer_at}
 use Rattle.tor_bencode.specs.Spelling.{signed_base_ten, spelling}
 use Rattle.tor_bencode.proofs.Runs.{by_test, run_passes, run_stops, run_whole}
-use Rattle.tor_bencode.proofs.Integers.{is_integer-signed, held, integer_of-signed, held-fits, fits_pos, fits_negsuc, signed-run}
+use Rattle.tor_bencode.proofs.Integers.{is_integer-signed, held, integer_of-signed, held-fits, fits_pos, fits_negsuc}
+use Rattle.tor_bencode.proofs.Integers.{signed-run}
 
 -- what is wrong with an integer
 abbrev pub IsBadInt : List ℕ → Fault → List ℕ → Type 0
@@ -60,7 +64,8 @@ module _ (rest : List ℕ) where
     refl,
     r,
     elim (cases_Bool (c == 101)) [
-      | inl end ↦ inr (λ z e. true≢false (sym (is_integer-signed z) ∙ ap is_integer (sym e) ∙ sym (ap (λ b. b && is_integer run) end) ∙ test))
+      | inl end ↦ inr (λ z e. true≢false
+          (sym (is_integer-signed z) ∙ ap is_integer (sym e) ∙ sym (ap (λ b. b && is_integer run) end) ∙ test))
       | inr other ↦ inl (λ e. grind (arith, nat_tests))
     ],
   )
@@ -85,7 +90,14 @@ module _ (rest : List ℕ) where
       ∙ sym (integer_spelled z.0 more) in
       subst (λ o. IntegerIs (105 ∷ rest) (in_range (105 ∷ rest) more o))
       (sym (ap integer_of z.1 ∙ integer_of-signed z.0)) (held-is (105 ∷ rest) more z.0 is))
-      (λ test. (bad run c more (record { all = run_passes is_integer_byte rest; stops = λ t. true≢false (sym t ∙ run_stops is_integer_byte rest c more e); whole = whole }) test, refl))
+      (λ test. (
+        bad run c more (record {
+          all = run_passes is_integer_byte rest;
+          stops = λ t. true≢false (sym t ∙ run_stops is_integer_byte rest c more e);
+          whole = whole;
+        }) test,
+        refl,
+      ))
 
 pub integer_sound : (rest : List ℕ) → IntegerIs (105 ∷ rest) (integer_at (105 ∷ rest) rest)
 unfolding integer_at

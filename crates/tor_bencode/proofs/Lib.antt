@@ -12,6 +12,7 @@ pub mod IntegersRead
 pub mod Spelled
 pub mod ReadBack
 pub mod Sound
+pub mod SoundPairs
 pub mod SoundValues
 pub mod Whole
 pub mod Refused

@@ -1,5 +1,6 @@
 -- Items read one after the other, as a loop does.
-use Rattle.std.proofs.Common.{◌≡◌, ℕ, zero, suc, ◌-◌, ◌≤◌, ◌<◌, List, [], ◌∷◌, ◌++◌, length, get_or, Some, Result, Ok, Err, true, false, ◌==◌, refl, sym, ap, ap₂, take, drop, ◌∙◌, arith}
+use Rattle.std.proofs.Common.{◌≡◌, ℕ, zero, suc, ◌-◌, ◌≤◌, ◌<◌, List, [], ◌∷◌, ◌++◌, length, get_or, Some, Result, Ok}
+use Rattle.std.proofs.Common.{Err, true, false, ◌==◌, refl, sym, ap, ap₂, take, drop, ◌∙◌, arith}
 use Rattle.std.proofs.lemmas.Bool.Decides.{nat_tests}
 use Rattle.std.proofs.lemmas.List.{take_all}
 use Rattle.tor_bencode.specs.View.{view, items_view}
@@ -62,16 +63,19 @@ abbrev pub Read : Type 0
 Read = List ℕ → Reading Data
 
 -- one more item
-pub items_go_on : (read : Read) (front : Items) (fuel : ℕ) (bytes : List ℕ) (d : Data) (after : List ℕ) (total : Reading Items)
+pub items_go_on : (read : Read) (front : Items) (fuel : ℕ) (bytes : List ℕ) (d : Data) (after : List ℕ)
+    (total : Reading Items)
     → 0 < length bytes → (get_or bytes 0 0 ≡ 101 → ⊥) → length bytes ≤ fuel → length after < length bytes
     → read bytes ≡ Ok (d, after)
     → with_items front (items_at read fuel bytes) ≡ total
-    → (less : ℕ) × (length after ≤ less) × (with_items (items_before front (item d no_items)) (items_at read less after) ≡ total)
+    → (less : ℕ) × (length after ≤ less)
+    × (with_items (items_before front (item d no_items)) (items_at read less after) ≡ total)
 items_go_on read front fuel [] d after total some other enough shorter reads so_far = absurd (omega arith)
 items_go_on read front zero (c ∷ rest) d after total some other enough shorter reads so_far = absurd (omega arith)
 items_go_on read front (suc fuel) (c ∷ rest) d after total some other enough shorter reads so_far =
     let no_end : (c == 101) ≡ false = grind (arith, nat_tests) in
-    let one : with_items front (items_at read (suc fuel) (c ∷ rest)) ≡ with_items (items_before front (item d no_items)) (items_at read fuel after) = rw (no_end, reads) (regroup_items front d (items_at read fuel after)) in
+    let one : with_items front (items_at read (suc fuel) (c ∷ rest)) ≡ with_items (items_before front (item d no_items))
+    (items_at read fuel after) = rw (no_end, reads) (regroup_items front d (items_at read fuel after)) in
     (fuel, omega arith, sym one ∙ so_far)
 
 pub items_stop : (read : Read) (front : Items) (fuel : ℕ) (bytes : List ℕ) (stop : Stop) (total : Reading Items)

@@ -1,5 +1,6 @@
 -- At the place of a key its value is spelled.
-use Rattle.std.proofs.Common.{◌≡◌, ℕ, ◌+◌, ◌-◌, List, ◌++◌, length, take, true, false, ◌↔◌, Option, Some, None, inl, inr, refl, sym, ap, ◌∙◌, subst, arith, append_assoc}
+use Rattle.std.proofs.Common.{◌≡◌, ℕ, ◌+◌, ◌-◌, List, ◌++◌, length, take, true, false, ◌↔◌, Option, Some, None, inl}
+use Rattle.std.proofs.Common.{inr, refl, sym, ap, ◌∙◌, subst, arith, append_assoc}
 use Rattle.std.proofs.lemmas.Bool.{cases_Bool}
 use Rattle.std.proofs.lemmas.List.{length-append, drop_at, take_at}
 use Rattle.std.specs.Prelude.{codes}
@@ -34,7 +35,8 @@ nowhere : (x : ℕ × ℕ) → None ≡ Some x → ⊥
 nowhere x e = cc
 
 -- at the first pair, or among the others
-module _ (key k : List ℕ) (value : Data) (pairs : Pairs) (front back : List ℕ) (at start end : ℕ) (is : at ≡ length front) where
+module _ (key k : List ℕ) (value : Data) (pairs : Pairs) (front back : List ℕ) (at start end : ℕ)
+    (is : at ≡ length front) where
   abbrev name : List ℕ
   name = string_spelling k
 
@@ -99,7 +101,10 @@ none_in key (pair k value pairs) at =
     let end = at + length (string_spelling k) + length (spelling value) in
     let others = none_in key pairs end in
     elim (cases_Bool (bytes_eq k key)) [
-      | inl t ↦ (λ e. absurd (some_place (at + length (string_spelling k), end) (rw t at e)), λ e. absurd (some_value value (rw t at e)))
+      | inl t ↦ (
+        λ e. absurd (some_place (at + length (string_spelling k), end) (rw t at e)),
+        λ e. absurd (some_value value (rw t at e)),
+      )
       | inr t ↦ (λ e. rw t (others.0 (rw t at e)), λ e. rw t (others.1 (rw t at e)))
     ]
 

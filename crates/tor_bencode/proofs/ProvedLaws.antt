@@ -1,8 +1,10 @@
 -- The laws of `src/laws.rt`, for proofs that cite them.
-use Rattle.std.proofs.Common.{◌≡◌, ◌⊎◌, ◌≤◌, ◌↔◌, ℕ, ℤ, suc, ◌-◌, List, ◌∷◌, ◌++◌, length, None, Some, Result, Ok, Err, ap, arith, inl, inr}
+use Rattle.std.proofs.Common.{◌≡◌, ◌⊎◌, ◌≤◌, ◌↔◌, ℕ, ℤ, suc, ◌-◌, List, ◌∷◌, ◌++◌, length, None, Some, Result, Ok, Err}
+use Rattle.std.proofs.Common.{ap, arith, inl, inr}
 use Rattle.std.specs.Prelude.{FitsSigned}
 use Rattle.std.specs.Int.{w64}
-use Rattle.tor_bencode.specs.Data.{Data, integer, string, list, dictionary, Items, no_items, item, Pairs, no_pairs, pair, keys_of}
+use Rattle.tor_bencode.specs.Data.{Data, integer, string, list, dictionary, Items, no_items, item, Pairs, no_pairs}
+use Rattle.tor_bencode.specs.Data.{pair, keys_of}
 use Rattle.tor_bencode.specs.declared.fault.Fault.{Fault}
 use Rattle.tor_bencode.specs.Fault.{IsFaultAt}
 use Rattle.tor_bencode.specs.Find.{value_in, value_of}
@@ -11,7 +13,8 @@ use Rattle.tor_bencode.specs.Place.{IsSpelledAt, IsTree, place_of}
 use Rattle.tor_bencode.specs.Spelling.{spelling}
 use Rattle.tor_bencode.specs.steps.Reading.{whole}
 use Rattle.tor_bencode.proofs.Keys.{none_before, same_pairs}
-use Rattle.tor_bencode.proofs.Lawfulness.{lawful-integer, lawful-string, lawful-item, lawful-pair, lawful-no_items, lawful-no_pairs}
+use Rattle.tor_bencode.proofs.Lawfulness.{lawful-integer, lawful-string, lawful-item, lawful-pair, lawful-no_items}
+use Rattle.tor_bencode.proofs.Lawfulness.{lawful-no_pairs}
 use Rattle.tor_bencode.proofs.Places.{found_at, none_found}
 use Rattle.tor_bencode.proofs.ReadBack.{same_front, whole-spelling}
 use Rattle.tor_bencode.proofs.RefusedWhole.{refused_read}

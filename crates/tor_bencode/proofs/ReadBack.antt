@@ -1,15 +1,19 @@
 -- What is spelled is read again, whatever follows it.
-use Rattle.std.proofs.Common.{◌≡◌, ℕ, ◌-◌, ◌≤◌, List, [], ◌∷◌, ◌++◌, length, take, drop, true, Option, Some, None, Ok, refl, sym, ap, ◌∙◌, append_assoc, arith}
+use Rattle.std.proofs.Common.{◌≡◌, ℕ, ◌-◌, ◌≤◌, List, [], ◌∷◌, ◌++◌, length, take, drop, true, Option, Some, None, Ok}
+use Rattle.std.proofs.Common.{refl, sym, ap, ◌∙◌, append_assoc, arith}
 use Rattle.std.specs.Ordering.{is_lt}
 use Rattle.std.proofs.lemmas.List.{take_all, append-nil}
-use Rattle.tor_bencode.specs.Data.{Data, integer, string, list, dictionary, Items, no_items, item, Pairs, no_pairs, pair, keys_of}
+use Rattle.tor_bencode.specs.Data.{Data, integer, string, list, dictionary, Items, no_items, item, Pairs, no_pairs}
+use Rattle.tor_bencode.specs.Data.{pair, keys_of}
 use Rattle.tor_bencode.specs.Lawful.{AreRising, IsLawfulWithin, ItemsAreLawfulWithin, PairsAreLawfulWithin}
-use Rattle.tor_bencode.specs.steps.Reading.{◌>>=◌, Reading, follows, integer_at, items_at, pairs_at, value_at, whole, last_of}
+use Rattle.tor_bencode.specs.steps.Reading.{◌>>=◌, Reading, follows, integer_at, items_at, pairs_at, value_at, whole}
+use Rattle.tor_bencode.specs.steps.Reading.{last_of}
 use Rattle.tor_bencode.specs.Spelling.{signed_base_ten, spelling, string_spelling, items_spelling, pairs_spelling}
 use Rattle.tor_bencode.proofs.Integers.{integer_at-spelling}
 use Rattle.tor_bencode.proofs.IntegersRead.{integer_spelled}
 use Rattle.tor_bencode.proofs.Lawfulness.{lawful-list, lawful-dictionary, lawful-item, lawful-pair}
-use Rattle.tor_bencode.proofs.Loops.{items_before, pairs_before, with_items, with_pairs, items_before-assoc, items_before-no_items, with_no_items, with_no_pairs, items_go_on, items_end}
+use Rattle.tor_bencode.proofs.Loops.{items_before, pairs_before, with_items, with_pairs, items_before-assoc}
+use Rattle.tor_bencode.proofs.Loops.{items_before-no_items, with_no_items, with_no_pairs, items_go_on, items_end}
 use Rattle.tor_bencode.proofs.PairLoops.{pairs_before-assoc, pairs_before-no_pairs, pairs_go_on, pairs_end}
 use Rattle.tor_bencode.proofs.Values.{value_integer, value_string, value_list, value_dictionary}
 use Rattle.tor_bencode.proofs.Numerals.{digit_range}
@@ -89,9 +93,13 @@ mutual
   pub items_at-front : (items : Items) (room : ℕ) (front : Items) (more : List ℕ) (fuel : ℕ) (total : Reading Items)
       → ItemsAreLawfulWithin room items → length (items_spelling items ++ more) ≤ fuel
       → with_items front (items_at (value_at room) fuel (items_spelling items ++ more)) ≡ total
-      → (less : ℕ) × (length more ≤ less) × (with_items (items_before front items) (items_at (value_at room) less more) ≡ total)
-  items_at-front no_items room front more fuel total lawful enough so_far =
-      (fuel, enough, ap (λ items. with_items items (items_at (value_at room) fuel more)) (items_before-no_items front) ∙ so_far)
+      → (less : ℕ) × (length more ≤ less)
+      × (with_items (items_before front items) (items_at (value_at room) less more) ≡ total)
+  items_at-front no_items room front more fuel total lawful enough so_far = (
+    fuel,
+    enough,
+    ap (λ items. with_items items (items_at (value_at room) fuel more)) (items_before-no_items front) ∙ so_far,
+  )
   items_at-front (item d items) room front more fuel total lawful enough so_far =
       let parts = (lawful-item room d items).0 lawful in
       let rest = items_spelling items ++ more in
@@ -104,22 +112,33 @@ mutual
       (omega (arith, ap length same)) (shorter-spelling d bytes rest refl) (value_at-spelling d room rest parts.0)
       (ap (λ bs. with_items front (items_at (value_at room) fuel bs)) (sym same) ∙ so_far) in
       let later =
-      items_at-front items room (items_before front (item d no_items)) more step.0 total parts.1 step.1 step.2 in
-      (later.0, later.1, ap (λ items. with_items items (items_at (value_at room) later.0 more)) (sym (items_before-assoc front (item d no_items) items)) ∙ later.2)
+      items_at-front items room (items_before front (item d no_items)) more step.0 total parts.1 step.1 step.2 in (
+        later.0,
+        later.1,
+        ap (λ items. with_items items (items_at (value_at room) later.0 more))
+            (sym (items_before-assoc front (item d no_items) items)) ∙ later.2,
+      )
 
-  pub pairs_at-front : (pairs : Pairs) (room : ℕ) (front : Pairs) (last : Option (List ℕ)) (more : List ℕ) (fuel : ℕ) (total : Reading Pairs) → PairsAreLawfulWithin room pairs → AreRisingAfter last (keys_of pairs)
+  pub pairs_at-front : (pairs : Pairs) (room : ℕ) (front : Pairs) (last : Option (List ℕ)) (more : List ℕ) (fuel : ℕ)
+      (total : Reading Pairs) → PairsAreLawfulWithin room pairs → AreRisingAfter last (keys_of pairs)
       → length (pairs_spelling pairs ++ more) ≤ fuel
       → with_pairs front (pairs_at (value_at room) fuel last (pairs_spelling pairs ++ more)) ≡ total
-      → (less : ℕ) × (length more ≤ less) × (with_pairs (pairs_before front pairs) (pairs_at (value_at room) less (last_after last pairs) more) ≡ total)
-  pairs_at-front no_pairs room front last more fuel total lawful rising enough so_far =
-      (fuel, enough, ap (λ pairs. with_pairs pairs (pairs_at (value_at room) fuel last more)) (pairs_before-no_pairs front) ∙ so_far)
+      → (less : ℕ) × (length more ≤ less)
+      × (with_pairs (pairs_before front pairs) (pairs_at (value_at room) less (last_after last pairs) more) ≡ total)
+  pairs_at-front no_pairs room front last more fuel total lawful rising enough so_far = (
+    fuel,
+    enough,
+    ap (λ pairs. with_pairs pairs (pairs_at (value_at room) fuel last more)) (pairs_before-no_pairs front) ∙ so_far,
+  )
   pairs_at-front (pair key d pairs) room front last more fuel total lawful rising enough so_far =
       let parts = (lawful-pair room key d pairs).0 lawful in
       let order = rising_first last key (keys_of pairs) rising in
       let rest = pairs_spelling pairs ++ more in
       let middle = spelling d ++ rest in
       let bytes = string_spelling key ++ middle in
-      let same : pairs_spelling (pair key d pairs) ++ more ≡ string_spelling key ++ (spelling d ++ (pairs_spelling pairs ++ more)) = pair_spelled (string_spelling key) (spelling d) (pairs_spelling pairs) more in
+      let same : pairs_spelling (pair key d pairs) ++ more
+      ≡ string_spelling key ++ (spelling d ++ (pairs_spelling pairs ++ more)) =
+      pair_spelled (string_spelling key) (spelling d) (pairs_spelling pairs) more in
       let starts = string-starts key middle in
       let range = digit_range _ starts.digit in
       let step =
@@ -130,8 +149,12 @@ mutual
       (ap (λ bs. with_pairs front (pairs_at (value_at room) fuel last bs)) (sym same) ∙ so_far) in
       let later =
       pairs_at-front pairs room (pairs_before front (pair key d no_pairs))
-      (Some key) more step.0 total parts.1 order.1 step.1 step.2 in
-      (later.0, later.1, ap (λ (before : Pairs). with_pairs before (pairs_at (value_at room) later.0 (last_after (Some key) pairs) more)) (sym (pairs_before-assoc front (pair key d no_pairs) pairs)) ∙ later.2)
+      (Some key) more step.0 total parts.1 order.1 step.1 step.2 in (
+        later.0,
+        later.1,
+        ap (λ (before : Pairs). with_pairs before (pairs_at (value_at room) later.0 (last_after (Some key) pairs) more))
+            (sym (pairs_before-assoc front (pair key d no_pairs) pairs)) ∙ later.2,
+      )
 
 abbrev ok : Data × List ℕ → Reading Data
 ok x = Ok x

@@ -1,21 +1,26 @@
 -- Bytes with a fault are refused with that fault.
-use Rattle.std.proofs.Common.{◌≡◌, ◌≢◌, ℕ, zero, suc, ◌-◌, ◌≤◌, ◌<◌, List, [], ◌∷◌, ◌++◌, length, get_or, take, drop, false, ◌==◌, Option, Some, None, Ok, Err, refl, sym, ap, ◌∙◌, subst, append_assoc, arith, inl, inr}
+use Rattle.std.proofs.Common.{◌≡◌, ◌≢◌, ℕ, zero, suc, ◌-◌, ◌≤◌, ◌<◌, List, [], ◌∷◌, ◌++◌, length, get_or, take, drop}
+use Rattle.std.proofs.Common.{false, ◌==◌, Option, Some, None, Ok, Err, refl, sym, ap, ◌∙◌, subst, append_assoc, arith}
+use Rattle.std.proofs.Common.{inl, inr}
 use Rattle.std.specs.Char.{is_ascii_digit}
 use Rattle.std.proofs.lemmas.Bool.Decides.{nat_tests}
 use Rattle.std.proofs.lemmas.List.{take_all}
 use Rattle.tor_bencode.specs.Data.{Data, Items}
-use Rattle.tor_bencode.specs.Fault.{Begins, BeginsWithDigit, IsCutString, HasBadLength, IsBadValue, IsBadKey, IsOutOfOrder}
-use Rattle.tor_bencode.specs.steps.Reading.{◌>>=◌, Reading, follows, string_at, integer_at, items_at, pairs_at, value_at}
+use Rattle.tor_bencode.specs.Fault.{Begins, BeginsWithDigit, IsCutString, HasBadLength, IsBadValue, IsBadKey}
+use Rattle.tor_bencode.specs.Fault.{IsOutOfOrder}
+use Rattle.tor_bencode.specs.steps.Reading.{◌>>=◌, Reading, follows, string_at, integer_at, items_at, pairs_at}
+use Rattle.tor_bencode.specs.steps.Reading.{value_at}
 use Rattle.tor_bencode.specs.Spelling.{base_ten, signed_base_ten, string_spelling}
 use Rattle.tor_bencode.specs.declared.fault.Fault.{Fault}
-use Rattle.tor_bencode.specs.declared.fault.Fault.TheVariants.{Truncated, BadByte, BadInteger, IntegerRange, BadLength, KeyNotBytes, KeyOrder, TooDeep, Trailing}
+use Rattle.tor_bencode.specs.declared.fault.Fault.TheVariants.{Truncated, BadByte, BadInteger, IntegerRange, BadLength}
+use Rattle.tor_bencode.specs.declared.fault.Fault.TheVariants.{KeyNotBytes, KeyOrder, TooDeep, Trailing}
 use Rattle.tor_bencode.proofs.Integers.{integer_at-cut, integer_at-bad, integer_at-too_large}
 use Rattle.tor_bencode.proofs.IntegersRead.{integer_spelled}
 use Rattle.tor_bencode.proofs.PairLoops.{after_key, key_here}
 use Rattle.tor_bencode.proofs.Values.{value_integer, value_string, value_empty, value_bad, value_too_deep}
 use Rattle.tor_bencode.proofs.Numerals.{digit_range}
 use Rattle.tor_bencode.proofs.Runs.{one_of_two}
-use Rattle.tor_bencode.proofs.Sound.{is_lt_is}
+use Rattle.tor_bencode.proofs.SoundPairs.{is_lt_is}
 use Rattle.tor_bencode.proofs.Spelled.{base_ten-starts, StartsWithDigit, string-starts}
 use Rattle.tor_bencode.proofs.Strings.{string_at-spelling, string_at-cut, string_at-digits, string_at-bad}
 
@@ -125,7 +130,8 @@ not_bytes : (read : List ℕ → Reading Data) (fuel : ℕ) (last : Option (List
 not_bytes read zero last c rest enough other none = absurd (omega arith)
 not_bytes read (suc fuel) last c rest enough other none = rw (other, none) refl
 
-key_stopped : (read : List ℕ → Reading Data) (fuel : ℕ) (last : Option (List ℕ)) (bytes : List ℕ) (fault : Fault) (from : List ℕ) → StartsWithDigit bytes → length bytes ≤ fuel
+key_stopped : (read : List ℕ → Reading Data) (fuel : ℕ) (last : Option (List ℕ)) (bytes : List ℕ) (fault : Fault)
+    (from : List ℕ) → StartsWithDigit bytes → length bytes ≤ fuel
     → string_at bytes ≡ failed fault from → pairs_at read fuel last bytes ≡ failed fault from
 key_stopped read fuel last bytes fault from starts enough h =
     let range = digit_range (get_or bytes 0 0) starts.digit in
@@ -148,7 +154,8 @@ order_stopped read fuel last bytes key rest is enough out =
     rw (not_following last key out) refl in
     k.2 ∙ ap (λ (r : Reading (List ℕ)). r >>= after_key read k.0 last bytes) named ∙ refused
 
-pub bad_key_read : (read : List ℕ → Reading Data) (fuel : ℕ) (last : Option (List ℕ)) (bytes : List ℕ) (fault : Fault) (from : List ℕ) → length bytes ≤ fuel → IsBadKey last bytes fault from
+pub bad_key_read : (read : List ℕ → Reading Data) (fuel : ℕ) (last : Option (List ℕ)) (bytes : List ℕ) (fault : Fault)
+    (from : List ℕ) → length bytes ≤ fuel → IsBadKey last bytes fault from
     → pairs_at read fuel last bytes ≡ failed fault from
 bad_key_read read fuel last bytes Truncated from enough (inl e, at) =
     ap (pairs_at read fuel last) e ∙ pairs_empty read fuel last ∙ ends_at Truncated [] from at

@@ -1,9 +1,11 @@
 -- Bytes with a fault inside are refused with that fault.
-use Rattle.std.proofs.Common.{◌≡◌, ℕ, suc, ◌-◌, ◌≤◌, ◌<◌, List, [], ◌∷◌, ◌++◌, length, get_or, true, Option, Some, None, Ok, Err, refl, sym, ap, ap₂, ◌∙◌, subst, append_assoc, arith, inl, inr, ◌⊎◌}
+use Rattle.std.proofs.Common.{◌≡◌, ℕ, suc, ◌-◌, ◌≤◌, ◌<◌, List, [], ◌∷◌, ◌++◌, length, get_or, true, Option, Some, None}
+use Rattle.std.proofs.Common.{Ok, Err, refl, sym, ap, ap₂, ◌∙◌, subst, append_assoc, arith, inl, inr, ◌⊎◌}
 use Rattle.tor_bencode.specs.Data.{Data, no_items, Pairs, no_pairs, pair, keys_of}
 use Rattle.tor_bencode.specs.Fault.{IsBadKey, IsFaultIn, at_value, in_list, at_key, in_pair, IsTrailing}
 use Rattle.tor_bencode.specs.Lawful.{AreRising, PairsAreLawfulWithin}
-use Rattle.tor_bencode.specs.steps.Reading.{◌>>=◌, Reading, follows, string_at, items_at, pairs_at, value_at, whole, last_of}
+use Rattle.tor_bencode.specs.steps.Reading.{◌>>=◌, Reading, follows, string_at, items_at, pairs_at, value_at, whole}
+use Rattle.tor_bencode.specs.steps.Reading.{last_of}
 use Rattle.tor_bencode.specs.Spelling.{string_spelling, items_spelling, pairs_spelling}
 use Rattle.tor_bencode.specs.declared.fault.Fault.{Fault}
 use Rattle.tor_bencode.specs.declared.fault.Fault.TheVariants.{Trailing}
@@ -11,15 +13,17 @@ use Rattle.tor_bencode.proofs.Loops.{with_items, with_pairs, with_no_items, with
 use Rattle.tor_bencode.proofs.PairLoops.{after_key, key_here}
 use Rattle.tor_bencode.proofs.Values.{value_list, value_dictionary, value_empty}
 use Rattle.tor_bencode.proofs.Numerals.{digit_range}
-use Rattle.tor_bencode.proofs.ReadBack.{AreRisingAfter, rising_first, last_after, items_at-front, pairs_at-front, value_at-spelling}
-use Rattle.tor_bencode.proofs.Sound.{rising_push, rising_none}
+use Rattle.tor_bencode.proofs.ReadBack.{AreRisingAfter, rising_first, last_after, items_at-front, pairs_at-front}
+use Rattle.tor_bencode.proofs.ReadBack.{value_at-spelling}
+use Rattle.tor_bencode.proofs.SoundPairs.{rising_push, rising_none}
 use Rattle.tor_bencode.proofs.SoundValues.{last_key-is}
 use Rattle.tor_bencode.proofs.Spelled.{StartsWithDigit, string-starts}
 use Rattle.tor_bencode.proofs.Strings.{string_at-spelling}
 use Rattle.tor_bencode.proofs.Refused.{failed, stops, tail_of, bad_value_read, items_stopped, bad_key_read}
 
 -- what stops the value of a key stops the pairs
-pair_stopped : (read : List ℕ → Reading Data) (fuel : ℕ) (last : Option (List ℕ)) (bytes key rest : List ℕ) (fault : Fault) (from : List ℕ) → bytes ≡ string_spelling key ++ rest → length bytes ≤ fuel
+pair_stopped : (read : List ℕ → Reading Data) (fuel : ℕ) (last : Option (List ℕ)) (bytes key rest : List ℕ)
+    (fault : Fault) (from : List ℕ) → bytes ≡ string_spelling key ++ rest → length bytes ≤ fuel
     → follows last key ≡ true → read rest ≡ failed fault from → pairs_at read fuel last bytes ≡ failed fault from
 pair_stopped read fuel last bytes key rest fault from is enough order h =
     let starts = subst StartsWithDigit (sym is) (string-starts key rest) in
@@ -58,7 +62,8 @@ dictionary_stopped room bytes inside fault from is h =
 pairs_stopped : (room : ℕ) (pairs : Pairs) (rest : List ℕ) (fault : Fault) (from : List ℕ)
     → PairsAreLawfulWithin room pairs → AreRising (keys_of pairs)
     → ((less : ℕ) → length rest ≤ less → pairs_at (value_at room) less (last_after None pairs) rest ≡ failed fault from)
-    → pairs_at (value_at room) (length (pairs_spelling pairs ++ rest)) None (pairs_spelling pairs ++ rest) ≡ failed fault from
+    → pairs_at (value_at room) (length (pairs_spelling pairs ++ rest)) None (pairs_spelling pairs ++ rest)
+    ≡ failed fault from
 pairs_stopped room pairs rest fault from lawful rising stopped =
     let inside = pairs_spelling pairs ++ rest in
     let read =
@@ -80,12 +85,16 @@ fault_read (suc room) bytes fault from (in_list items rest is lawful no_end inne
     list_stopped room bytes inside fault from is (sym (sym (ap (with_items items) stopped) ∙ read.2 ∙ with_no_items _))
 fault_read (suc room) bytes fault from (at_key pairs rest is rising lawful bad) =
     dictionary_stopped room bytes (pairs_spelling pairs ++ rest) fault from is
-    (pairs_stopped room pairs rest fault from lawful rising (λ less enough. bad_key_read (value_at room) less (last_after None pairs) rest fault from enough (subst (λ o. IsBadKey o rest fault from) (sym (last_key-is pairs)) bad)))
+    (pairs_stopped room pairs rest fault from lawful rising
+    (λ less enough. bad_key_read (value_at room) less (last_after None pairs) rest fault from enough
+    (subst (λ o. IsBadKey o rest fault from) (sym (last_key-is pairs)) bad)))
 fault_read (suc room) bytes fault from (in_pair pairs key rest is rising lawful inner) =
     let order = rising_last None pairs key rising in
     dictionary_stopped room bytes (pairs_spelling pairs ++ (string_spelling key ++ rest)) fault from
     (is ∙ ap (λ bs. 100 ∷ bs) (append_assoc (pairs_spelling pairs) (string_spelling key) rest))
-    (pairs_stopped room pairs (string_spelling key ++ rest) fault from lawful order.0 (λ less enough. pair_stopped (value_at room) less (last_after None pairs) (string_spelling key ++ rest) key rest fault from refl enough order.1 (fault_read room rest fault from inner)))
+    (pairs_stopped room pairs (string_spelling key ++ rest) fault from lawful order.0
+    (λ less enough. pair_stopped (value_at room) less (last_after None pairs)
+    (string_spelling key ++ rest) key rest fault from refl enough order.1 (fault_read room rest fault from inner)))
 
 last_more : (d : Data) (from : List ℕ) → 0 < length from → last_of (d, from) ≡ Err (Trailing, from)
 last_more d [] more = absurd (omega arith)

@@ -1,5 +1,6 @@
 -- Keys that rise, one key at a time.
-use Rattle.std.proofs.Common.{◌≡◌, ◌+◌, ◌<◌, ◌↔◌, ℕ, zero, suc, List, [], ◌∷◌, length, get_or, drop, Vec, Global, Less, sym, ap, subst, ◌∙◌, arith}
+use Rattle.std.proofs.Common.{◌≡◌, ◌+◌, ◌<◌, ◌↔◌, ℕ, zero, suc, List, [], ◌∷◌, length, get_or, drop, Vec, Global, Less}
+use Rattle.std.proofs.Common.{sym, ap, subst, ◌∙◌, arith}
 use Rattle.std.proofs.lemmas.List.{drop_more, drop_all}
 use Rattle.std.specs.Ordering.{nat_cmp}
 use Rattle.std.specs.Cmp.Lexicographic.{slice_cmp}
@@ -23,7 +24,8 @@ KeysRise-from pairs j i d e first second is within first_is second_is =
     let here : drop j pairs ≡ get_or pairs j d ∷ get_or pairs i e ∷ drop (i + 1) pairs =
     drop_more pairs j d (omega arith) ∙ ap (λ n. get_or pairs j d ∷ drop n pairs) (sym is)
     ∙ ap (λ rest. get_or pairs j d ∷ rest) next in (
-      λ h. let rising = subst KeysRise here h in (rw (first_is, second_is) rising.0, subst KeysRise (sym next) rising.1),
+      λ h. let rising = subst KeysRise here h in
+          (rw (first_is, second_is) rising.0, subst KeysRise (sym next) rising.1),
       λ h. let order = rw (first_is, second_is) at h.0 in subst KeysRise (sym here) (order, subst KeysRise next h.1),
     )
 

@@ -1,5 +1,6 @@
 -- The pairs of the root, one after another, as their values are skipped.
-use Rattle.std.proofs.Common.{◌≡◌, ◌≢◌, ℕ, ◌+◌, ◌-◌, ◌≤◌, List, [], ◌∷◌, ◌++◌, length, get_or, take, drop, true, false, Some, None, Ok, Err, refl, sym, ap, ap₂, ◌∙◌, arith}
+use Rattle.std.proofs.Common.{◌≡◌, ◌≢◌, ℕ, ◌+◌, ◌-◌, ◌≤◌, List, [], ◌∷◌, ◌++◌, length, get_or, take, drop, true, false}
+use Rattle.std.proofs.Common.{Some, None, Ok, Err, refl, sym, ap, ap₂, ◌∙◌, arith}
 use Rattle.std.specs.Str.{bytes_eq}
 use Rattle.std.proofs.lemmas.List.{append-nil, length-append}
 use Rattle.tor_bencode.specs.Data.{Data, integer, string, list, dictionary, Pairs, no_pairs, pair}
@@ -17,7 +18,9 @@ use Rattle.tor_bencode.proofs.Skips.{read_is, not_both, no_stop, read, tail-is, 
 
 -- a dictionary that is open holds its pairs
 pub open_pairs : (d : Data) (bytes : List ℕ) → IsLawfulWithin 100 d → bytes ≡ spelling d → get_or bytes 0 0 ≡ 100
-    → (pairs : Pairs) × PairsAreLawfulWithin 99 pairs × (take (length bytes - 1) (drop 1 bytes) ≡ pairs_spelling pairs ++ 101 ∷ []) × ((key : List ℕ) → place_of key d ≡ place_in 1 key pairs)
+    → (pairs : Pairs) × PairsAreLawfulWithin 99 pairs
+    × (take (length bytes - 1) (drop 1 bytes) ≡ pairs_spelling pairs ++ 101 ∷ [])
+    × ((key : List ℕ) → place_of key d ≡ place_in 1 key pairs)
 open_pairs (integer n) bytes lawful is head = let h = head-is bytes 105 _ is in absurd (omega arith)
 open_pairs (string s) bytes lawful is head =
     absurd (string_head s bytes [] 100 (is ∙ sym (append-nil (string_spelling s))) (omega arith) head)
@@ -70,13 +73,22 @@ none_left (pair k d others) rest key at stop is other h =
     is ∙ pair_spelled (string_spelling k) (spelling d) (pairs_spelling others) (101 ∷ []) in
     absurd (no_stop stop (string_at rest) (k, middle) other h (ap string_at same ∙ string_at-spelling k middle))
 
-module _ (left : Pairs) (bytes rest name after next key : List ℕ) (h : IsNextPair left rest name after) (within : length rest ≤ length bytes) (then : next ≡ pairs_spelling h.others ++ 101 ∷ []) where
+module _ (left : Pairs) (bytes rest name after next key : List ℕ) (h : IsNextPair left rest name after)
+    (within : length rest ≤ length bytes) (then : next ≡ pairs_spelling h.others ++ 101 ∷ []) where
   start_is : length bytes - length rest + length (string_spelling name) ≡ length bytes - length after
   start_is = omega (arith, ap length h.spelled, length-append (string_spelling name) after)
 
-  end_is : length bytes - length rest + length (string_spelling name) + length (spelling h.value) ≡ length bytes - length next
+  end_is : length bytes - length rest + length (string_spelling name) + length (spelling h.value)
+      ≡ length bytes - length next
   end_is =
-      omega (arith, ap length h.spelled, length-append (string_spelling name) after, ap length h.follows, length-append (spelling h.value) (pairs_spelling h.others ++ 101 ∷ []), ap length then)
+      omega (
+        arith,
+        ap length h.spelled,
+        length-append (string_spelling name) after,
+        ap length h.follows,
+        length-append (spelling h.value) (pairs_spelling h.others ++ 101 ∷ []),
+        ap length then,
+      )
 
   pub place_found : bytes_eq name key ≡ true
       → Some (length bytes - length after, length bytes - length next) ≡ place_in (length bytes - length rest) key left

@@ -1,17 +1,20 @@
 -- What follows a value, and what follows values up to their end.
-use Rattle.std.proofs.Common.{◌≡◌, ◌≢◌, ℕ, ◌-◌, ◌≤◌, ◌<◌, List, [], ◌∷◌, ◌++◌, length, get_or, take, drop, true, ◌==◌, Ok, Err, refl, sym, ap, ◌∙◌, subst, append_assoc, arith, inl, inr, ◌⊎◌}
+use Rattle.std.proofs.Common.{◌≡◌, ◌≢◌, ℕ, ◌-◌, ◌≤◌, ◌<◌, List, [], ◌∷◌, ◌++◌, length, get_or, take, drop, true, ◌==◌}
+use Rattle.std.proofs.Common.{Ok, Err, refl, sym, ap, ◌∙◌, subst, append_assoc, arith, inl, inr, ◌⊎◌}
 use Rattle.std.specs.Char.{is_ascii_digit}
 use Rattle.std.proofs.lemmas.Bool.{true≢false, cases_Bool}
 use Rattle.std.proofs.lemmas.Bool.Decides.{nat_tests}
 use Rattle.std.proofs.lemmas.List.{take_all}
-use Rattle.tor_bencode.specs.Data.{Data, integer, string, list, dictionary, Items, no_items, item, Pairs, no_pairs, pair}
+use Rattle.tor_bencode.specs.Data.{Data, integer, string, list, dictionary, Items, no_items, item, Pairs, no_pairs}
+use Rattle.tor_bencode.specs.Data.{pair}
 use Rattle.tor_bencode.specs.Lawful.{IsLawfulWithin, ItemsAreLawfulWithin, PairsAreLawfulWithin}
 use Rattle.tor_bencode.specs.steps.Reading.{◌>>=◌, Reading, Stops, string_at, integer_at, value_at}
 use Rattle.tor_bencode.specs.Spelling.{spelling, string_spelling, items_spelling, pairs_spelling}
 use Rattle.tor_bencode.specs.declared.fault.Fault.{Fault}
 use Rattle.tor_bencode.specs.declared.stop.Stop.{Stop}
 use Rattle.tor_bencode.specs.declared.stop.Stop.TheVariants as stops
-use Rattle.tor_bencode.proofs.Lawfulness.{lawful-string, lawful-list, lawful-dictionary, lawful-item, lawful-pair, lawful-no_items}
+use Rattle.tor_bencode.proofs.Lawfulness.{lawful-string, lawful-list, lawful-dictionary, lawful-item, lawful-pair}
+use Rattle.tor_bencode.proofs.Lawfulness.{lawful-no_items}
 use Rattle.tor_bencode.proofs.Values.{value_integer, value_string, value_too_deep}
 use Rattle.tor_bencode.proofs.Numerals.{digit_range}
 use Rattle.tor_bencode.proofs.ReadBack.{value_at-spelling}
@@ -38,7 +41,8 @@ bound : {A B : Type 0} (r : Reading A) (f : A × List ℕ → Reading B) (x : B 
 bound (Ok y) f x e = (y, refl)
 bound (Err y) f x e = absurd cc
 
-module _ (d : Data) (room : ℕ) (bytes after : List ℕ) (lawful : IsLawfulWithin room d) (is : bytes ≡ spelling d ++ after) where
+module _ (d : Data) (room : ℕ) (bytes after : List ℕ) (lawful : IsLawfulWithin room d)
+    (is : bytes ≡ spelling d ++ after) where
   pub read : value_at room bytes ≡ Ok (d, after)
   read = ap (value_at room) is ∙ value_at-spelling d room after lawful
 
@@ -46,7 +50,8 @@ module _ (d : Data) (room : ℕ) (bytes after : List ℕ) (lawful : IsLawfulWith
       → integer_at bytes (take (length bytes - 1) (drop 1 bytes)) ≡ Ok x → x.1 ≡ after
   skip_integer some head x e =
       ap (λ p. p.1)
-      (read_is (integer x.0, x.1) (d, after) (value_at room bytes) (value_integer room bytes some head ∙ ap (λ r. r >>= λ n. Ok (integer n.0, n.1)) e) read)
+      (read_is (integer x.0, x.1) (d, after) (value_at room bytes)
+      (value_integer room bytes some head ∙ ap (λ r. r >>= λ n. Ok (integer n.0, n.1)) e) read)
 
   pub skip_no_integer : (some : 0 < length bytes) (head : get_or bytes 0 0 ≡ 105) (stop : Stop) → stop ≢ stops.Memory
       → Stops stop (integer_at bytes (take (length bytes - 1) (drop 1 bytes))) → ⊥
@@ -59,7 +64,8 @@ module _ (d : Data) (room : ℕ) (bytes after : List ℕ) (lawful : IsLawfulWith
       → string_at bytes ≡ Ok x → x.1 ≡ after
   skip_string some digit x e =
       ap (λ p. p.1)
-      (read_is (string x.0, x.1) (d, after) (value_at room bytes) (value_string room bytes some digit ∙ ap (λ r. r >>= λ n. Ok (string n.0, n.1)) e) read)
+      (read_is (string x.0, x.1) (d, after) (value_at room bytes)
+      (value_string room bytes some digit ∙ ap (λ r. r >>= λ n. Ok (string n.0, n.1)) e) read)
 
   pub skip_no_string : (some : 0 < length bytes) (digit : is_ascii_digit (get_or bytes 0 0) ≡ true) (stop : Stop)
       → stop ≢ stops.Memory → Stops stop (string_at bytes) → ⊥
@@ -110,24 +116,30 @@ string_head s bytes after n is above head =
 -- what is open holds values up to its end
 pub opened_values : (d : Data) (room : ℕ) (bytes after : List ℕ) → IsLawfulWithin room d → bytes ≡ spelling d ++ after
     → ((get_or bytes 0 0 ≡ 108) ⊎ (get_or bytes 0 0 ≡ 100))
-    → (items : Items) × ItemsAreLawfulWithin (room - 1) items × (take (length bytes - 1) (drop 1 bytes) ≡ items_spelling items ++ 101 ∷ after)
+    → (items : Items) × ItemsAreLawfulWithin (room - 1) items
+    × (take (length bytes - 1) (drop 1 bytes) ≡ items_spelling items ++ 101 ∷ after)
 opened_values (integer n) room bytes after lawful is (inl head) = let h = head-is bytes 105 _ is in absurd (omega arith)
 opened_values (integer n) room bytes after lawful is (inr head) = let h = head-is bytes 105 _ is in absurd (omega arith)
 opened_values (string s) room bytes after lawful is (inl head) =
     absurd (string_head s bytes after 108 is (omega arith) head)
 opened_values (string s) room bytes after lawful is (inr head) =
     absurd (string_head s bytes after 100 is (omega arith) head)
-opened_values (list items) room bytes after lawful is head =
-    (items, ((lawful-list room items).0 lawful).1, tail-is bytes 108 _ is ∙ append_assoc (items_spelling items) (101 ∷ []) after)
+opened_values (list items) room bytes after lawful is head = (
+  items,
+  ((lawful-list room items).0 lawful).1,
+  tail-is bytes 108 _ is ∙ append_assoc (items_spelling items) (101 ∷ []) after,
+)
 opened_values (dictionary pairs) room bytes after lawful is head = (
   as_items pairs,
   as_items-lawful (room - 1) pairs ((lawful-dictionary room pairs).0 lawful).2,
-  tail-is bytes 100 _ is ∙ append_assoc (pairs_spelling pairs) (101 ∷ []) after ∙ ap (λ bs. bs ++ 101 ∷ after) (as_items-spelling pairs),
+  tail-is bytes 100 _ is ∙ append_assoc (pairs_spelling pairs) (101 ∷ []) after
+      ∙ ap (λ bs. bs ++ 101 ∷ after) (as_items-spelling pairs),
 )
 
 -- the values that are left where something other than the end stands
 pub next_item : (left : Items) (rest after : List ℕ) → rest ≡ items_spelling left ++ 101 ∷ after → get_or rest 0 0 ≢ 101
-    → (d : Data) × (others : Items) × (left ≡ item d others) × (rest ≡ spelling d ++ (items_spelling others ++ 101 ∷ after))
+    → (d : Data) × (others : Items) × (left ≡ item d others)
+    × (rest ≡ spelling d ++ (items_spelling others ++ 101 ∷ after))
 next_item no_items rest after is other = absurd (other (head-is rest 101 after is))
 next_item (item d others) rest after is other =
     (d, others, refl, is ∙ append_assoc (spelling d) (items_spelling others) (101 ∷ after))
@@ -139,7 +151,8 @@ end_after no_items rest after is end = tail-is rest 101 after is
 end_after (item d others) rest after is end =
     let same : rest ≡ spelling d ++ (items_spelling others ++ 101 ∷ after) =
     is ∙ append_assoc (spelling d) (items_spelling others) (101 ∷ after) in
-    absurd ((spelling-starts d (items_spelling others ++ 101 ∷ after)).no_end (ap (λ bs. get_or bs 0 0) (sym same) ∙ end))
+    absurd ((spelling-starts d (items_spelling others ++ 101 ∷ after)).no_end
+    (ap (λ bs. get_or bs 0 0) (sym same) ∙ end))
 
 -- each value begins with one of these
 pub no_head : (d : Data) (bytes after : List ℕ) → bytes ≡ spelling d ++ after → (get_or bytes 0 0 ≢ 105)
@@ -156,4 +169,8 @@ not_empty d bytes after is none = let some = (spelling-starts d after).some in a
 
 pub two_heads : (h : ℕ) → (h ≢ 108 → h ≡ 100) → (h ≡ 108) ⊎ (h ≡ 100)
 two_heads h other =
-    elim (cases_Bool (h == 108)) [ inl e ↦ inl (grind (arith, nat_tests)) | inr e ↦ inr (other (λ is. true≢false (let t : (h == 108) ≡ true = grind (arith, nat_tests) in sym t ∙ e))) ]
+    elim (cases_Bool (h == 108)) [
+      | inl e ↦ inl (grind (arith, nat_tests))
+      | inr e ↦
+          inr (other (λ is. true≢false (let t : (h == 108) ≡ true = grind (arith, nat_tests) in sym t ∙ e)))
+    ]

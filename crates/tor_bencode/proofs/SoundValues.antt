@@ -1,17 +1,20 @@
 -- What is read as a value is spelled so, or has a fault.
-use Rattle.std.proofs.Common.{◌≡◌, ℕ, suc, ◌-◌, List, [], ◌∷◌, Some, None, Ok, Err, refl, sym, ap, ◌∙◌, subst, append_assoc, arith, inl, inr}
+use Rattle.std.proofs.Common.{◌≡◌, ℕ, suc, ◌-◌, List, [], ◌∷◌, Some, None, Ok, Err, refl, sym, ap, ◌∙◌, subst}
+use Rattle.std.proofs.Common.{append_assoc, arith, inl, inr}
 use Rattle.tor_bencode.specs.Data.{Data, integer, string, list, dictionary, Items, Pairs, no_pairs, pair}
 use Rattle.tor_bencode.specs.Fault.{IsBadValue, IsBadKey, at_value, in_list, at_key, in_pair, last_key}
 use Rattle.tor_bencode.specs.Lawful.{ItemsAreLawfulWithin, PairsAreLawfulWithin}
 use Rattle.tor_bencode.specs.steps.Reading.{◌>>=◌, Reading}
 use Rattle.tor_bencode.specs.Spelling.{string_spelling, items_spelling, pairs_spelling}
 use Rattle.tor_bencode.specs.declared.fault.Fault.{Fault}
-use Rattle.tor_bencode.specs.declared.fault.Fault.TheVariants.{Truncated, BadByte, BadInteger, IntegerRange, BadLength, KeyNotBytes, KeyOrder, TooDeep, Trailing}
+use Rattle.tor_bencode.specs.declared.fault.Fault.TheVariants.{Truncated, BadByte, BadInteger, IntegerRange, BadLength}
+use Rattle.tor_bencode.specs.declared.fault.Fault.TheVariants.{KeyNotBytes, KeyOrder, TooDeep, Trailing}
 use Rattle.tor_bencode.proofs.IntegersRead.{IsBadInt, IntegerIs}
 use Rattle.tor_bencode.proofs.Lawfulness.{lawful-integer, lawful-string, lawful-list, lawful-dictionary}
 use Rattle.tor_bencode.proofs.ReadBack.{last_after}
 use Rattle.tor_bencode.proofs.Strings.{IsBadString, StringIs}
-use Rattle.tor_bencode.proofs.Sound.{ValueIs, ItemsAre, PairsAre}
+use Rattle.tor_bencode.proofs.Sound.{ValueIs, ItemsAre}
+use Rattle.tor_bencode.proofs.SoundPairs.{PairsAre}
 
 last_key-after : (key : List ℕ) (d : Data) (pairs : Pairs) → last_key (pair key d pairs) ≡ last_after (Some key) pairs
 last_key-after key d no_pairs = refl
@@ -58,15 +61,19 @@ string_is room bytes (Err f) h = at_value (bad_string room bytes f.0 f.1 h)
 pub list_is : (room : ℕ) (rest : List ℕ) (r : Reading Items) → ItemsAre room rest r
     → ValueIs (suc room) (108 ∷ rest) (r >>= λ items. Ok (list items.0, items.1))
 list_is room rest (Ok x) h =
-    let same : suc room - 1 ≡ room = omega arith in
-    ((lawful-list (suc room) x.0).1 (omega arith, subst (λ n. ItemsAreLawfulWithin n x.0) (sym same) h.0), ap (λ bs. 108 ∷ bs) (h.1 ∙ sym (append_assoc (items_spelling x.0) (101 ∷ []) x.1)))
+    let same : suc room - 1 ≡ room = omega arith in (
+      (lawful-list (suc room) x.0).1 (omega arith, subst (λ n. ItemsAreLawfulWithin n x.0) (sym same) h.0),
+      ap (λ bs. 108 ∷ bs) (h.1 ∙ sym (append_assoc (items_spelling x.0) (101 ∷ []) x.1)),
+    )
 list_is room rest (Err f) h = in_list h.0 h.1 (ap (λ bs. 108 ∷ bs) h.2) h.3 h.4 h.5
 
 pub dictionary_is : (room : ℕ) (rest : List ℕ) (r : Reading Pairs) → PairsAre room None rest r
     → ValueIs (suc room) (100 ∷ rest) (r >>= λ pairs. Ok (dictionary pairs.0, pairs.1))
 dictionary_is room rest (Ok x) h =
-    let same : suc room - 1 ≡ room = omega arith in
-    ((lawful-dictionary (suc room) x.0).1 (omega arith, h.1, subst (λ n. PairsAreLawfulWithin n x.0) (sym same) h.0), ap (λ bs. 100 ∷ bs) (h.2 ∙ sym (append_assoc (pairs_spelling x.0) (101 ∷ []) x.1)))
+    let same : suc room - 1 ≡ room = omega arith in (
+      (lawful-dictionary (suc room) x.0).1 (omega arith, h.1, subst (λ n. PairsAreLawfulWithin n x.0) (sym same) h.0),
+      ap (λ bs. 100 ∷ bs) (h.2 ∙ sym (append_assoc (pairs_spelling x.0) (101 ∷ []) x.1)),
+    )
 dictionary_is room rest (Err f) (inl h) =
     at_key h.0 h.1 (ap (λ bs. 100 ∷ bs) h.2) h.4 h.3 (subst (λ o. IsBadKey o h.1 f.0 f.1) (last_key-is h.0) h.5)
 dictionary_is room rest (Err f) (inr h) =

@@ -1,5 +1,6 @@
 -- A byte string that is read is the one that is spelled, and what is refused has a fault.
-use Rattle.std.proofs.Common.{◌≡◌, ◌≢◌, ℕ, ◌<◌, List, [], ◌∷◌, ◌++◌, length, take, drop, true, false, cond, ◌==◌, ◌&&◌, Ok, Err, refl, sym, ap, ap₂, ◌∙◌, subst, append_assoc, arith, inl, inr, ◌⊎◌}
+use Rattle.std.proofs.Common.{◌≡◌, ◌≢◌, ℕ, ◌<◌, List, [], ◌∷◌, ◌++◌, length, take, drop, true, false, cond, ◌==◌, ◌&&◌}
+use Rattle.std.proofs.Common.{Ok, Err, refl, sym, ap, ap₂, ◌∙◌, subst, append_assoc, arith, inl, inr, ◌⊎◌}
 use Rattle.std.specs.Prelude.{nat_le}
 use Rattle.std.specs.Char.{is_ascii_digit}
 use Rattle.std.specs.List.{list_all, prefix_len}
@@ -7,12 +8,14 @@ use Rattle.std.proofs.lemmas.Bool.{and_parts, true≢false, cases_Bool, le-leb}
 use Rattle.std.proofs.lemmas.Bool.Decides.{nat_tests}
 use Rattle.std.proofs.lemmas.List.{take_at, drop_at, drop_all, take-append-drop, append-nil, length-append, length-take}
 use Rattle.tor_bencode.specs.declared.fault.Fault.{Fault}
-use Rattle.tor_bencode.specs.declared.fault.Fault.TheVariants.{Truncated, BadByte, BadInteger, IntegerRange, BadLength, KeyNotBytes, KeyOrder, TooDeep, Trailing}
+use Rattle.tor_bencode.specs.declared.fault.Fault.TheVariants.{Truncated, BadByte, BadInteger, IntegerRange, BadLength}
+use Rattle.tor_bencode.specs.declared.fault.Fault.TheVariants.{KeyNotBytes, KeyOrder, TooDeep, Trailing}
 use Rattle.tor_bencode.specs.Fault.{Runs, BeginsWithDigit, IsCutString, HasBadLength}
 use Rattle.tor_bencode.specs.steps.Reading.{Reading, number, is_shortest, string_after, string_at}
 use Rattle.tor_bencode.specs.Spelling.{base_ten, string_spelling}
 use Rattle.tor_bencode.proofs.Numerals.{base_ten-number, number-base_ten, all_digits-base_ten, is_shortest-base_ten}
-use Rattle.tor_bencode.proofs.Runs.{by_test, one_of_two, prefix_len-run, prefix_len-all, run_passes, run_stops, run_whole}
+use Rattle.tor_bencode.proofs.Runs.{by_test, one_of_two, prefix_len-run, prefix_len-all, run_passes, run_stops}
+use Rattle.tor_bencode.proofs.Runs.{run_whole}
 
 string_at-run : (run : List ℕ) (c : ℕ) (more : List ℕ) → list_all is_ascii_digit run ≡ true → is_ascii_digit c ≡ false
     → string_at (run ++ c ∷ more) ≡ string_after (run ++ c ∷ more) run (c ∷ more)
@@ -29,7 +32,8 @@ string_spelled s rest = simp append_assoc
 
 -- a length and a colon, and then the bytes
 string_at-length : (n : ℕ) (more : List ℕ)
-    → string_at (base_ten n ++ 58 ∷ more) ≡ cond (nat_le n (length more)) (Ok (take n more, drop n more)) (Err (Truncated, []))
+    → string_at (base_ten n ++ 58 ∷ more)
+    ≡ cond (nat_le n (length more)) (Ok (take n more, drop n more)) (Err (Truncated, []))
 string_at-length n more =
     string_at-run (base_ten n) 58 more (all_digits-base_ten n) colon_is_no_digit
     ∙ rw (is_shortest-base_ten n, number-base_ten n) refl
@@ -101,7 +105,8 @@ module _ (bytes : List ℕ) (begins : BeginsWithDigit bytes) where
     more,
     r,
     elim (cases_Bool (c == 58)) [
-      | inl colon ↦ inr (λ n e. true≢false (sym (is_shortest-base_ten n) ∙ ap is_shortest (sym e) ∙ sym (ap (λ b. b && is_shortest run) colon) ∙ test))
+      | inl colon ↦ inr (λ n e. true≢false
+          (sym (is_shortest-base_ten n) ∙ ap is_shortest (sym e) ∙ sym (ap (λ b. b && is_shortest run) colon) ∙ test))
       | inr other ↦ inl (λ e. grind (arith, nat_tests))
     ],
   )
@@ -124,9 +129,22 @@ module _ (bytes : List ℕ) (begins : BeginsWithDigit bytes) where
       (λ fits.
       let size : length (take (number run) more) ≡ number run = simp length-take (grind (arith, nat_tests)) in
       whole ∙ ap₂ (λ (r : List ℕ) (x : ℕ). r ++ x ∷ more) (sym shortest) colon
-      ∙ sym (string_spelled (take (number run) more) (drop (number run) more) ∙ ap₂ (λ (n : ℕ) (bs : List ℕ). base_ten n ++ 58 ∷ bs) size (take-append-drop (number run) more)))
-      (λ short. (inr (number run, more, whole ∙ ap₂ (λ (r : List ℕ) (x : ℕ). r ++ x ∷ more) (sym shortest) colon ∙ sym (append_assoc (base_ten (number run)) (58 ∷ []) more), grind (arith, nat_tests)), refl)))
-      (λ bad. (bad_length run c more (record { all = digits; stops = λ t. true≢false (sym t ∙ stop); whole = whole }) bad, refl))
+      ∙ sym (string_spelled (take (number run) more) (drop (number run) more)
+      ∙ ap₂ (λ (n : ℕ) (bs : List ℕ). base_ten n ++ 58 ∷ bs) size (take-append-drop (number run) more)))
+      (λ short. (
+        inr (
+          number run,
+          more,
+          whole ∙ ap₂ (λ (r : List ℕ) (x : ℕ). r ++ x ∷ more) (sym shortest) colon
+              ∙ sym (append_assoc (base_ten (number run)) (58 ∷ []) more),
+          grind (arith, nat_tests),
+        ),
+        refl,
+      )))
+      (λ bad. (
+        bad_length run c more (record { all = digits; stops = λ t. true≢false (sym t ∙ stop); whole = whole }) bad,
+        refl,
+      ))
 
 pub string_sound : (bytes : List ℕ) → BeginsWithDigit bytes → StringIs bytes (string_at bytes)
 unfolding string_at

@@ -1,9 +1,11 @@
 -- A value is read by the byte that it begins with.
-use Rattle.std.proofs.Common.{◌≡◌, ℕ, ◌-◌, ◌<◌, List, [], ◌∷◌, length, get_or, None, Ok, Err, true, false, ◌==◌, refl, sym, ap, take, drop, ◌∙◌, arith, inl, inr, ◌⊎◌, subst}
+use Rattle.std.proofs.Common.{◌≡◌, ℕ, ◌-◌, ◌<◌, List, [], ◌∷◌, length, get_or, None, Ok, Err, true, false, ◌==◌, refl}
+use Rattle.std.proofs.Common.{sym, ap, take, drop, ◌∙◌, arith, inl, inr, ◌⊎◌, subst}
 use Rattle.std.proofs.lemmas.Bool.Decides.{nat_tests}
 use Rattle.tor_bencode.specs.declared.fault.Fault.TheVariants.{Truncated, TooDeep, BadByte}
 use Rattle.tor_bencode.specs.Data.{integer, string, list, dictionary}
-use Rattle.tor_bencode.specs.steps.Reading.{◌>>=◌, value_at, value_with, nested_at, items_at, pairs_at, string_at, integer_at}
+use Rattle.tor_bencode.specs.steps.Reading.{◌>>=◌, value_at, value_with, nested_at, items_at, pairs_at, string_at}
+use Rattle.tor_bencode.specs.steps.Reading.{integer_at}
 use Rattle.std.specs.Char.{is_ascii_digit}
 use Rattle.tor_bencode.proofs.Loops.{nested_at-positive, take_rest}
 
@@ -20,22 +22,26 @@ unfolding value_at
 value_opens room bytes = refl
 
 pub value_list : (room : ℕ) (bytes : List ℕ) → 0 < room → 0 < length bytes → get_or bytes 0 0 ≡ 108
-    → value_at room bytes ≡ (items_at (value_at (room - 1)) (length (take (length bytes - 1) (drop 1 bytes))) (take (length bytes - 1) (drop 1 bytes)) >>= λ items. Ok (list items.0, items.1))
+    → value_at room bytes ≡ (items_at (value_at (room - 1)) (length (take (length bytes - 1) (drop 1 bytes)))
+    (take (length bytes - 1) (drop 1 bytes)) >>= λ items. Ok (list items.0, items.1))
 value_list room [] more some is = absurd (omega arith)
 value_list room (c ∷ rest) more some is =
     let e : c ≡ 108 =
     is in value_opens room (c ∷ rest)
     ∙ rw (take_rest c rest)
-    (subst (λ x. value_with (nested_at room) (x ∷ rest) ≡ (items_at (value_at (room - 1)) (length rest) rest >>= λ items. Ok (list items.0, items.1))) (sym e) (rw (nested_at-positive room more) refl))
+    (subst (λ x. value_with (nested_at room) (x ∷ rest) ≡ (items_at (value_at (room - 1)) (length rest) rest
+    >>= λ items. Ok (list items.0, items.1))) (sym e) (rw (nested_at-positive room more) refl))
 
 pub value_dictionary : (room : ℕ) (bytes : List ℕ) → 0 < room → 0 < length bytes → get_or bytes 0 0 ≡ 100
-    → value_at room bytes ≡ (pairs_at (value_at (room - 1)) (length (take (length bytes - 1) (drop 1 bytes))) None (take (length bytes - 1) (drop 1 bytes)) >>= λ pairs. Ok (dictionary pairs.0, pairs.1))
+    → value_at room bytes ≡ (pairs_at (value_at (room - 1)) (length (take (length bytes - 1) (drop 1 bytes))) None
+    (take (length bytes - 1) (drop 1 bytes)) >>= λ pairs. Ok (dictionary pairs.0, pairs.1))
 value_dictionary room [] more some is = absurd (omega arith)
 value_dictionary room (c ∷ rest) more some is =
     let e : c ≡ 100 =
     is in value_opens room (c ∷ rest)
     ∙ rw (take_rest c rest)
-    (subst (λ x. value_with (nested_at room) (x ∷ rest) ≡ (pairs_at (value_at (room - 1)) (length rest) None rest >>= λ pairs. Ok (dictionary pairs.0, pairs.1))) (sym e) (rw (nested_at-positive room more) refl))
+    (subst (λ x. value_with (nested_at room) (x ∷ rest) ≡ (pairs_at (value_at (room - 1)) (length rest) None rest
+    >>= λ pairs. Ok (dictionary pairs.0, pairs.1))) (sym e) (rw (nested_at-positive room more) refl))
 
 pub value_string : (room : ℕ) (bytes : List ℕ) → 0 < length bytes → is_ascii_digit (get_or bytes 0 0) ≡ true
     → value_at room bytes ≡ (string_at bytes >>= λ text. Ok (string text.0, text.1))

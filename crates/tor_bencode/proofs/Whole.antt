@@ -1,20 +1,25 @@
 -- All of the bytes: what is read of them is the tree that they spell, or else they have a fault.
-use Rattle.std.proofs.Common.{◌≡◌, ◌≢◌, ℕ, zero, suc, ◌≤◌, List, [], ◌∷◌, ◌++◌, length, true, false, ◌==◌, Option, Some, None, Result, Ok, Err, refl, sym, ap, ◌∙◌, subst, arith, inl, inr, ◌⊎◌}
+use Rattle.std.proofs.Common.{◌≡◌, ◌≢◌, ℕ, zero, suc, ◌≤◌, List, [], ◌∷◌, ◌++◌, length, true, false, ◌==◌, Option, Some}
+use Rattle.std.proofs.Common.{None, Result, Ok, Err, refl, sym, ap, ◌∙◌, subst, arith, inl, inr, ◌⊎◌}
 use Rattle.std.specs.Prelude.{codes}
 use Rattle.std.specs.Char.{is_ascii_digit}
 use Rattle.std.proofs.lemmas.Bool.{true≢false}
 use Rattle.std.proofs.lemmas.Bool.Decides.{nat_tests}
 use Rattle.std.proofs.lemmas.List.{append-nil, length-append}
 use Rattle.tor_bencode.specs.Data.{Data, integer, list, dictionary}
-use Rattle.tor_bencode.specs.Fault.{IsBadValue, IsBadKey, IsFaultIn, at_value, in_list, at_key, in_pair, IsTrailing, last_key}
+use Rattle.tor_bencode.specs.Fault.{IsBadValue, IsBadKey, IsFaultIn, at_value, in_list, at_key, in_pair, IsTrailing}
+use Rattle.tor_bencode.specs.Fault.{last_key}
 use Rattle.tor_bencode.specs.Lawful.{IsLawfulWithin}
-use Rattle.tor_bencode.specs.steps.Reading.{◌>>=◌, Reading, string_at, integer_at, items_at, pairs_at, opened, value_with, nested_at, value_at, whole, last_of}
+use Rattle.tor_bencode.specs.steps.Reading.{◌>>=◌, Reading, string_at, integer_at, items_at, pairs_at, opened}
+use Rattle.tor_bencode.specs.steps.Reading.{value_with, nested_at, value_at, whole, last_of}
 use Rattle.tor_bencode.specs.Spelling.{spelling, string_spelling, items_spelling, pairs_spelling}
 use Rattle.tor_bencode.specs.declared.fault.Fault.{Fault}
-use Rattle.tor_bencode.specs.declared.fault.Fault.TheVariants.{Truncated, BadByte, BadInteger, IntegerRange, BadLength, KeyNotBytes, KeyOrder, TooDeep, Trailing}
+use Rattle.tor_bencode.specs.declared.fault.Fault.TheVariants.{Truncated, BadByte, BadInteger, IntegerRange, BadLength}
+use Rattle.tor_bencode.specs.declared.fault.Fault.TheVariants.{KeyNotBytes, KeyOrder, TooDeep, Trailing}
 use Rattle.tor_bencode.proofs.IntegersRead.{integer_sound}
 use Rattle.tor_bencode.proofs.Runs.{by_test}
-use Rattle.tor_bencode.proofs.Sound.{ValueIs, items_sound, pairs_sound}
+use Rattle.tor_bencode.proofs.Sound.{ValueIs, items_sound}
+use Rattle.tor_bencode.proofs.SoundPairs.{pairs_sound}
 use Rattle.tor_bencode.proofs.SoundValues.{integer_is, string_is, list_is, dictionary_is}
 use Rattle.tor_bencode.proofs.Strings.{string_sound}
 
@@ -26,7 +31,8 @@ NestedIs (suc room) None = ⊥
 NestedIs (suc room) (Some read) = (bytes : List ℕ) → ValueIs room bytes (read bytes)
 
 list_opened : (room : ℕ) (nested : Option (List ℕ → Reading Data)) → NestedIs room nested → (rest : List ℕ)
-    → ValueIs room (108 ∷ rest) (opened nested (108 ∷ rest) (λ read. items_at read (length rest) rest) >>= λ items. Ok (list items.0, items.1))
+    → ValueIs room (108 ∷ rest)
+    (opened nested (108 ∷ rest) (λ read. items_at read (length rest) rest) >>= λ items. Ok (list items.0, items.1))
 list_opened zero None sound rest = at_value (refl, inl (rest, refl), refl)
 list_opened zero (Some read) sound rest = absurd sound
 list_opened (suc room) None sound rest = absurd sound
@@ -34,7 +40,8 @@ list_opened (suc room) (Some read) sound rest =
     list_is room rest (items_at read (length rest) rest) (items_sound room read sound (length rest) rest (omega arith))
 
 dictionary_opened : (room : ℕ) (nested : Option (List ℕ → Reading Data)) → NestedIs room nested → (rest : List ℕ)
-    → ValueIs room (100 ∷ rest) (opened nested (100 ∷ rest) (λ read. pairs_at read (length rest) None rest) >>= λ pairs. Ok (dictionary pairs.0, pairs.1))
+    → ValueIs room (100 ∷ rest) (opened nested (100 ∷ rest) (λ read. pairs_at read (length rest) None rest)
+    >>= λ pairs. Ok (dictionary pairs.0, pairs.1))
 dictionary_opened zero None sound rest = at_value (refl, inr (rest, refl), refl)
 dictionary_opened zero (Some read) sound rest = absurd sound
 dictionary_opened (suc room) None sound rest = absurd sound
@@ -53,14 +60,20 @@ value_with_sound : (room : ℕ) (nested : Option (List ℕ → Reading Data)) �
 value_with_sound room nested sound [] = at_value (inl refl, refl)
 value_with_sound room nested sound (c ∷ rest) =
     by_test (c == 105) (ValueIs room (c ∷ rest)) _ _
-    (λ e. subst (λ x. ValueIs room (x ∷ rest) (integer_at (x ∷ rest) rest >>= λ n. Ok (integer n.0, n.1))) (sym (same c 105 e)) (integer_is room (105 ∷ rest) (integer_at (105 ∷ rest) rest) (integer_sound rest)))
+    (λ e. subst (λ x. ValueIs room (x ∷ rest) (integer_at (x ∷ rest) rest >>= λ n. Ok (integer n.0, n.1)))
+    (sym (same c 105 e)) (integer_is room (105 ∷ rest) (integer_at (105 ∷ rest) rest) (integer_sound rest)))
     (λ i. by_test (is_ascii_digit c) (ValueIs room (c ∷ rest)) _ _
     (λ digit. string_is room (c ∷ rest) (string_at (c ∷ rest)) (string_sound (c ∷ rest) (c, rest, refl, digit)))
     (λ none. by_test (c == 108) (ValueIs room (c ∷ rest)) _ _
-    (λ e. subst (λ x. ValueIs room (x ∷ rest) (opened nested (x ∷ rest) (λ read. items_at read (length rest) rest) >>= λ items. Ok (list items.0, items.1))) (sym (same c 108 e)) (list_opened room nested sound rest))
+    (λ e. subst (λ x. ValueIs room (x ∷ rest) (opened nested (x ∷ rest) (λ read. items_at read (length rest) rest)
+    >>= λ items. Ok (list items.0, items.1))) (sym (same c 108 e)) (list_opened room nested sound rest))
     (λ l. by_test (c == 100) (ValueIs room (c ∷ rest)) _ _
-    (λ e. subst (λ x. ValueIs room (x ∷ rest) (opened nested (x ∷ rest) (λ read. pairs_at read (length rest) None rest) >>= λ pairs. Ok (dictionary pairs.0, pairs.1))) (sym (same c 100 e)) (dictionary_opened room nested sound rest))
-    (λ d. at_value ((c, rest, refl, λ t. true≢false (sym t ∙ none), apart c 105 i, apart c 108 l, apart c 100 d), refl)))))
+    (λ e. subst (λ x. ValueIs room (x ∷ rest) (opened nested (x ∷ rest) (λ read. pairs_at read (length rest) None rest)
+    >>= λ pairs. Ok (dictionary pairs.0, pairs.1))) (sym (same c 100 e)) (dictionary_opened room nested sound rest))
+    (λ d. at_value (
+      (c, rest, refl, λ t. true≢false (sym t ∙ none), apart c 105 i, apart c 108 l, apart c 100 d),
+      refl,
+    )))))
 
 nested_sound : (room : ℕ) → NestedIs room (nested_at room)
 unfolding nested_at
@@ -122,11 +135,23 @@ fault_within : (room : ℕ) (bytes : List ℕ) (fault : Fault) (from : List ℕ)
     → length from ≤ length bytes
 fault_within room bytes fault from (at_value h) = bad_value_within room bytes fault from h
 fault_within (suc room) bytes fault from (in_list items rest is lawful no_end inner) =
-    omega (arith, rest_within (codes "l" ++ items_spelling items) rest bytes is, fault_within room rest fault from inner)
+    omega (
+      arith,
+      rest_within (codes "l" ++ items_spelling items) rest bytes is,
+      fault_within room rest fault from inner,
+    )
 fault_within (suc room) bytes fault from (at_key pairs rest is rising lawful bad) =
-    omega (arith, rest_within (codes "d" ++ pairs_spelling pairs) rest bytes is, bad_key_within (last_key pairs) rest fault from bad)
+    omega (
+      arith,
+      rest_within (codes "d" ++ pairs_spelling pairs) rest bytes is,
+      bad_key_within (last_key pairs) rest fault from bad,
+    )
 fault_within (suc room) bytes fault from (in_pair pairs key rest is rising lawful inner) =
-    omega (arith, rest_within (codes "d" ++ pairs_spelling pairs ++ string_spelling key) rest bytes is, fault_within room rest fault from inner)
+    omega (
+      arith,
+      rest_within (codes "d" ++ pairs_spelling pairs ++ string_spelling key) rest bytes is,
+      fault_within room rest fault from inner,
+    )
 
 pub refused_within : (bytes : List ℕ) (fault : Fault) (from : List ℕ)
     → (IsFaultIn 100 bytes fault from ⊎ IsTrailing bytes fault from) → length from ≤ length bytes

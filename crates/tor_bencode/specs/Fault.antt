@@ -1,7 +1,8 @@
 -- What is wrong with bytes that spell no lawful tree: the code and the offset of the first fault in reading order.
 -- What stands before a fault is lawful as far as it goes. A run of digits that meets the end of the bytes is cut off,
 -- whatever the run.
-use Rattle.std.specs.Prelude.{◌≡◌, ◌≢◌, ◌<◌, ◌+◌, ◌⊎◌, ℕ, suc, ℤ, List, [], ◌∷◌, ◌++◌, length, codes, Bool, false, ◌==◌, ◌||◌, IsTrue, FitsSigned, Option, None, Some}
+use Rattle.std.specs.Prelude.{◌≡◌, ◌≢◌, ◌<◌, ◌+◌, ◌⊎◌, ℕ, suc, ℤ, List, [], ◌∷◌, ◌++◌, length, codes, Bool, false, ◌==◌}
+use Rattle.std.specs.Prelude.{◌||◌, IsTrue, FitsSigned, Option, None, Some}
 use Rattle.std.specs.Char.{is_ascii_digit}
 use Rattle.std.specs.Cmp.Lexicographic.{slice_cmp}
 use Rattle.std.specs.Int.{w64}
@@ -10,11 +11,13 @@ use Rattle.std.specs.Ordering.{nat_cmp}
 use Rattle.std.specs.declared.cmp.Ordering.TheVariants.{Less}
 use Rattle.tor_bencode.specs.Data.{Data, integer, Items, Pairs, no_pairs, pair, keys_of}
 use Rattle.tor_bencode.specs.Lawful.{AreRising, IsLawful, ItemsAreLawfulWithin, PairsAreLawfulWithin}
-use Rattle.tor_bencode.specs.Spelling.{base_ten, signed_base_ten, spelling, string_spelling, items_spelling, pairs_spelling}
+use Rattle.tor_bencode.specs.Spelling.{base_ten, signed_base_ten, spelling, string_spelling, items_spelling}
+use Rattle.tor_bencode.specs.Spelling.{pairs_spelling}
 use Rattle.tor_bencode.specs.declared.error.BenError.{BenError}
 use Rattle.tor_bencode.specs.declared.error.BenError.TheVariants as errors
 use Rattle.tor_bencode.specs.declared.fault.Fault.{Fault}
-use Rattle.tor_bencode.specs.declared.fault.Fault.TheVariants.{Truncated, BadByte, BadInteger, IntegerRange, BadLength, KeyNotBytes, KeyOrder, TooDeep, Trailing}
+use Rattle.tor_bencode.specs.declared.fault.Fault.TheVariants.{Truncated, BadByte, BadInteger, IntegerRange, BadLength}
+use Rattle.tor_bencode.specs.declared.fault.Fault.TheVariants.{KeyNotBytes, KeyOrder, TooDeep, Trailing}
 use Rattle.tor_bencode.specs.Marks.{colon, letter_d, letter_e, letter_i, letter_l, minus}
 use Rattle.tor_bencode.specs.declared.TheConstants.{MAX_NESTING}
 

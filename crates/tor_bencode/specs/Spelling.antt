@@ -2,7 +2,8 @@
 use Rattle.std.specs.Prelude.{ℕ, zero, suc, ◌+◌, ℤ, pos, negsuc, List, [], ◌++◌, length, map, codes}
 use Rattle.std.specs.Int.Digits.{digits_of}
 use Rattle.tor_bencode.specs.Marks.{digit_zero}
-use Rattle.tor_bencode.specs.Data.{Data, integer, string, list, dictionary, Items, no_items, item, Pairs, no_pairs, pair}
+use Rattle.tor_bencode.specs.Data.{Data, integer, string, list, dictionary, Items, no_items, item, Pairs, no_pairs}
+use Rattle.tor_bencode.specs.Data.{pair}
 
 -- the shortest digits of a number in base ten, however large it is, the highest first
 unfoldable pub base_ten : ℕ → List ℕ

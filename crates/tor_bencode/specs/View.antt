@@ -1,7 +1,8 @@
 -- The tree that an `Item` stands for.
 use Rattle.std.specs.Prelude.{ℕ, List, [], ◌∷◌, Vec, map}
 use Rattle.std.specs.declared.alloc.Global.{Global}
-use Rattle.tor_bencode.specs.Data.{Data, integer, string, list, dictionary, Items, no_items, item, Pairs, no_pairs, pair}
+use Rattle.tor_bencode.specs.Data.{Data, integer, string, list, dictionary, Items, no_items, item, Pairs, no_pairs}
+use Rattle.tor_bencode.specs.Data.{pair}
 use Rattle.tor_bencode.specs.declared.item.Item.{Item, fold-Item}
 use Rattle.tor_bencode.specs.declared.item.Item.TheOpen.{Item-F}
 

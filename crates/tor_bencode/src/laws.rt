@@ -1,11 +1,13 @@
 //! Laws over the definitions alone.
 ghost use Rattle.std.specs.Prelude.{◌≡◌, ◌≤◌, ◌⊎◌, ◌↔◌, ◌∷◌, ◌++◌, ℕ, ℤ, suc, FitsSigned, List, None, Some};
 ghost use Rattle.std.specs.Int.{w64};
-ghost use Rattle.tor_bencode.specs.Data.{Data, integer, string, list, dictionary, Items, no_items, item, Pairs, no_pairs, pair, keys_of};
+ghost use Rattle.tor_bencode.specs.Data.{Data, integer, string, list, dictionary, Items, no_items, item, Pairs};
+ghost use Rattle.tor_bencode.specs.Data.{no_pairs, pair, keys_of};
 ghost use Rattle.tor_bencode.specs.declared.fault.Fault.{Fault};
 ghost use Rattle.tor_bencode.specs.Fault.{IsFaultAt};
 ghost use Rattle.tor_bencode.specs.Find.{value_in, value_of};
-ghost use Rattle.tor_bencode.specs.Lawful.{AreRising, IsLawful, IsLawfulWithin, ItemsAreLawfulWithin, PairsAreLawfulWithin};
+ghost use Rattle.tor_bencode.specs.Lawful.{AreRising, IsLawful, IsLawfulWithin, ItemsAreLawfulWithin};
+ghost use Rattle.tor_bencode.specs.Lawful.{PairsAreLawfulWithin};
 ghost use Rattle.tor_bencode.specs.Place.{IsSpelledAt, IsTree, place_of};
 ghost use Rattle.tor_bencode.specs.Spelling.{spelling};
 

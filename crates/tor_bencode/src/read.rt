@@ -4,7 +4,8 @@ ghost use Rattle.std.specs.Prelude.{◌≡◌, ◌<◌, length, true, None, Err,
 ghost use Rattle.tor_bencode.specs.Data.{Data};
 ghost use Rattle.tor_bencode.specs.Fault.{IsRefusalOf, may_take_memory};
 ghost use Rattle.tor_bencode.specs.Lawful.{IsLawful};
-ghost use Rattle.tor_bencode.specs.steps.Reading.{Gives, follows as follows_key, items_at, pairs_at, value_at, whole as whole_of};
+ghost use Rattle.tor_bencode.specs.steps.Reading.{Gives, follows as follows_key, items_at, pairs_at, value_at};
+ghost use Rattle.tor_bencode.specs.steps.Reading.{whole as whole_of};
 ghost use Rattle.tor_bencode.specs.Spelling.{spelling};
 ghost use Rattle.tor_bencode.specs.View.{view, items_view, pairs_view};
 

@@ -4,7 +4,9 @@ ghost use Rattle.std.specs.Prelude.{◌≡◌, ◌≢◌, ◌<◌, ◌^◌, leng
 ghost use Rattle.std.specs.Char.{is_ascii_digit};
 ghost use Rattle.std.specs.List.{prefix_len, list_all};
 ghost use Rattle.tor_bencode.specs.Fault.{is_integer_byte as is_integer_byte_code};
-ghost use Rattle.tor_bencode.specs.steps.Reading.{Gives, number as number_of_digits, is_shortest as is_shortest_run, is_integer as is_integer_run, is_positive as is_positive_run, integer_of as integer_of_run, string_at, integer_at};
+ghost use Rattle.tor_bencode.specs.steps.Reading.{Gives, number as number_of_digits, is_shortest as is_shortest_run};
+ghost use Rattle.tor_bencode.specs.steps.Reading.{is_integer as is_integer_run, is_positive as is_positive_run};
+ghost use Rattle.tor_bencode.specs.steps.Reading.{integer_of as integer_of_run, string_at, integer_at};
 
 use crate::fault::Fault;
 use crate::stop::Stop;

@@ -2,7 +2,8 @@
 
 ghost use Rattle.std.specs.Prelude.{◌≡◌, ◌↔◌, IsTrue, IsOk, IfOk, IfErr};
 ghost use Rattle.tor_bencode.specs.Data.{keys_of};
-ghost use Rattle.tor_bencode.specs.Lawful.{AreRising, IsLawful, IsLawfulWithin, ItemsAreLawfulWithin, PairsAreLawfulWithin};
+ghost use Rattle.tor_bencode.specs.Lawful.{AreRising, IsLawful, IsLawfulWithin, ItemsAreLawfulWithin};
+ghost use Rattle.tor_bencode.specs.Lawful.{PairsAreLawfulWithin};
 ghost use Rattle.tor_bencode.specs.View.{view, items_view, pairs_view};
 
 use crate::MAX_NESTING;

@@ -1,7 +1,8 @@
 //! The spelling of a tree, written into one vector.
 
 ghost use Rattle.std.specs.Prelude.{◌≡◌, ◌++◌, codes, IfOk, OnOk, IsOkUnless};
-ghost use Rattle.tor_bencode.specs.Spelling.{signed_base_ten, spelling, string_spelling, items_spelling, pairs_spelling};
+ghost use Rattle.tor_bencode.specs.Spelling.{signed_base_ten, spelling, string_spelling, items_spelling};
+ghost use Rattle.tor_bencode.specs.Spelling.{pairs_spelling};
 ghost use Rattle.tor_bencode.specs.View.{view, items_view, pairs_view};
 
 use crate::error::BenError;

@@ -14,7 +14,8 @@ decreases-skip_all l = 2 * l.room + 1
 abbrev pub invariant-skip_all-values : goal.invariant-skip_all-values
 invariant-skip_all-values l =
     (length l.rest ≤ length l.bytes)
-    × ((items : Items) (after : List ℕ) → ItemsAreLawfulWithin l.room items → l.bytes ≡ items_spelling items ++ 101 ∷ after
+    × ((items : Items) (after : List ℕ) → ItemsAreLawfulWithin l.room items
+    → l.bytes ≡ items_spelling items ++ 101 ∷ after
     → (left : Items) × ItemsAreLawfulWithin l.room left × (l.rest ≡ items_spelling left ++ 101 ∷ after))
 
 abbrev pub decreases-skip_all-values : goal.decreases-skip_all-values

@@ -20,7 +20,8 @@ pub returns-in_default-string : goal.returns-in_default-string
 returns-in_default-string c =
     λ d lawful is.
     let left = c.pairs.invariant.1 d lawful is in
-    none_left left.0 c.pairs.rest.now c.args.key.now _ c.in_default-string.field-0 left.2 c.in_default-string.ensures.no_memory c.in_default-string.ensures.read ∙ sym left.3
+    none_left left.0 c.pairs.rest.now c.args.key.now _ c.in_default-string.field-0 left.2
+    c.in_default-string.ensures.no_memory c.in_default-string.ensures.read ∙ sym left.3
 
 pub returns-in_default-skip : goal.returns-in_default-skip
 returns-in_default-skip c =
@@ -37,7 +38,8 @@ returns-then-eq c =
     let next =
     next_pair left.0 c.pairs.rest.now c.in-Ok.name.now c.in-Ok.after.now left.1 left.2 c.in-Ok.ensures.read in
     let then = c.in-Some.ensures.skipped next.value _ next.lawful next.follows in
-    place_found left.0 c.args.bytes.now c.pairs.rest.now c.in-Ok.name.now c.in-Ok.after.now c.in-Some.next.now c.args.key.now next c.pairs.invariant.0 then (sym c.eq.ensures ∙ c.if-eq.true) ∙ sym left.3
+    place_found left.0 c.args.bytes.now c.pairs.rest.now c.in-Ok.name.now c.in-Ok.after.now c.in-Some.next.now
+    c.args.key.now next c.pairs.invariant.0 then (sym c.eq.ensures ∙ c.if-eq.true) ∙ sym left.3
 
 pub pairs-preserved : goal.pairs-preserved
 pairs-preserved c = (
@@ -50,6 +52,7 @@ pairs-preserved c = (
         next.others,
         next.lawful_others,
         then,
-        left.3 ∙ place_later left.0 c.args.bytes.now c.pairs.rest.now c.in-Ok.name.now c.in-Ok.after.now c.in-Some.next.now c.args.key.now next c.pairs.invariant.0 then (sym c.eq.ensures ∙ c.if-eq.false),
+        left.3 ∙ place_later left.0 c.args.bytes.now c.pairs.rest.now c.in-Ok.name.now c.in-Ok.after.now
+            c.in-Some.next.now c.args.key.now next c.pairs.invariant.0 then (sym c.eq.ensures ∙ c.if-eq.false),
       ),
 )

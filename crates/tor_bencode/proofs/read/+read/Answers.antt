@@ -7,8 +7,10 @@ use Rattle.std.proofs.lemmas.Result.{err_from_is_err_and}
 use Rattle.tor_bencode.specs.Data.{Data, Items, Pairs, pair, no_pairs, integer, list, dictionary}
 use Rattle.tor_bencode.specs.steps.Reading.{◌>>=◌, Reading, Stops, value_at, items_at, pairs_at}
 use Rattle.tor_bencode.specs.View.{view, items_view, pairs_view}
-use Rattle.tor_bencode.proofs.Loops.{with_items, with_pairs, pairs_before, items_view-push, items_end, items_go_on, stops_bind}
-use Rattle.tor_bencode.proofs.PairLoops.{pairs_view-push, pairs_end, pairs_go_on, pairs_stop_key, pairs_stop_order, pairs_stop_value}
+use Rattle.tor_bencode.proofs.Loops.{with_items, with_pairs, pairs_before, items_view-push, items_end, items_go_on}
+use Rattle.tor_bencode.proofs.Loops.{stops_bind}
+use Rattle.tor_bencode.proofs.PairLoops.{pairs_view-push, pairs_end, pairs_go_on, pairs_stop_key, pairs_stop_order}
+use Rattle.tor_bencode.proofs.PairLoops.{pairs_stop_value}
 use Rattle.tor_bencode.proofs.Values.{value_integer, value_list, value_dictionary, value_too_deep}
 use Rattle.tor_bencode.proofs.Views.{view-Int, view-List, view-Dict}
 use Rattle.tor_bencode.proofs.read.+read.Goals as goal
@@ -27,8 +29,12 @@ list-items-preserved t c =
     items_go_on (value_at c.args.room) (items_view l.items.items) l.invariant.0 l.rest.now
     (view c.in_ok-item.item) c.in_ok-item.after.now _
     (omega arith) other l.invariant.1 c.in_ok-item.ensures.shorter c.in_ok-item.ensures.read l.invariant.3 in
-    let front = ap items_view c.in_ok-push.ensures.items ∙ items_view-push l.items.items c.in_ok-item.item in
-    (step.0, step.1, omega (arith, c.in_ok-item.ensures.shorter), ap (λ items. with_items items (items_at (value_at c.args.room) step.0 c.in_ok-item.after.now)) front ∙ step.2)
+    let front = ap items_view c.in_ok-push.ensures.items ∙ items_view-push l.items.items c.in_ok-item.item in (
+      step.0,
+      step.1,
+      omega (arith, c.in_ok-item.ensures.shorter),
+      ap (λ items. with_items items (items_at (value_at c.args.room) step.0 c.in_ok-item.after.now)) front ∙ step.2,
+    )
 
 pub dictionary-returns-in-101-clause-read : goal.dictionary-returns-in-101-clause-read
 dictionary-returns-in-101-clause-read t c =
@@ -41,7 +47,8 @@ dictionary-returns-in_err-key-clause-read t c =
     let l = c.pairs in
     let p = err_from_is_err_and c.from_residual.result c.from_residual.ensures.1 in
     rw (p.1, p.2)
-    (pairs_stop_key (value_at c.args.room) (pairs_view l.pairs.items) l.invariant.0 _ l.rest.now c.in_err-key.field-0.0 _ (omega arith) (omega arith) (omega arith) l.invariant.1 c.in_err-key.ensures.read l.invariant.3)
+    (pairs_stop_key (value_at c.args.room) (pairs_view l.pairs.items) l.invariant.0 _ l.rest.now c.in_err-key.field-0.0
+    _ (omega arith) (omega arith) (omega arith) l.invariant.1 c.in_err-key.ensures.read l.invariant.3)
 
 pub dictionary-returns-then-not-follows-clause-read : goal.dictionary-returns-then-not-follows-clause-read
 dictionary-returns-then-not-follows-clause-read t c =
@@ -56,7 +63,10 @@ dictionary-returns-in_err-item-clause-read t c =
     let l = c.pairs in
     let p = err_from_is_err_and c.from_residual-in_err-item.result c.from_residual-in_err-item.ensures.1 in
     rw (p.1, p.2)
-    (pairs_stop_value (value_at c.args.room) (pairs_view l.pairs.items) l.invariant.0 _ l.rest.now c.in_ok-key.key.now c.in_ok-key.after.now c.in_err-item.field-0.0 _ (omega arith) (omega arith) (omega arith) l.invariant.1 c.in_ok-key.ensures.read (sym c.follows.ensures ∙ c.if-not-follows.false) c.in_err-item.ensures.read l.invariant.3)
+    (pairs_stop_value (value_at c.args.room) (pairs_view l.pairs.items) l.invariant.0 _ l.rest.now c.in_ok-key.key.now
+    c.in_ok-key.after.now c.in_err-item.field-0.0 _
+    (omega arith) (omega arith) (omega arith) l.invariant.1 c.in_ok-key.ensures.read
+    (sym c.follows.ensures ∙ c.if-not-follows.false) c.in_err-item.ensures.read l.invariant.3)
 
 pub dictionary-pairs-preserved : goal.dictionary-pairs-preserved
 dictionary-pairs-preserved t c =
@@ -68,11 +78,19 @@ dictionary-pairs-preserved t c =
     (omega (arith, c.in_ok-key.ensures.shorter, c.in_ok-item.ensures.shorter)) c.in_ok-key.ensures.read
     (sym c.follows.ensures ∙ c.if-not-follows.false) c.in_ok-item.ensures.read l.invariant.3 in
     let named =
-    ap (λ key. pairs_before (pairs_view l.pairs.items) (pair key (view c.in_ok-item.item) no_pairs)) c.in_ok-from_slice.ensures.items in
+    ap (λ key. pairs_before (pairs_view l.pairs.items) (pair key (view c.in_ok-item.item) no_pairs))
+    c.in_ok-from_slice.ensures.items in
     let front =
     ap pairs_view c.in_ok-push.ensures.items
-    ∙ pairs_view-push l.pairs.items c.in_ok-from_slice.field-0 c.in_ok-item.item ∙ named in
-    (step.0, step.1, omega (arith, c.in_ok-key.ensures.shorter, c.in_ok-item.ensures.shorter), ap (λ pairs. with_pairs pairs (pairs_at (value_at c.args.room) step.0 (Some c.in_ok-key.key.now) c.in_ok-item.after.now)) front ∙ step.2)
+    ∙ pairs_view-push l.pairs.items c.in_ok-from_slice.field-0 c.in_ok-item.item ∙ named in (
+      step.0,
+      step.1,
+      omega (arith, c.in_ok-key.ensures.shorter, c.in_ok-item.ensures.shorter),
+      ap (λ pairs.
+          with_pairs pairs (pairs_at (value_at c.args.room) step.0 (Some c.in_ok-key.key.now) c.in_ok-item.after.now))
+          front
+          ∙ step.2,
+    )
 
 pub value-returns-then-room-eq0-clause-read : goal.value-returns-then-room-eq0-clause-read
 value-returns-then-room-eq0-clause-read t c =
@@ -88,7 +106,8 @@ value-returns-in_err-items-in-108-clause-read t c =
     err_from_is_err_and c.from_residual-in_err-items-in-108.result c.from_residual-in_err-items-in-108.ensures.1 in
     let stop = c.in_err-items-in-108.field-0.0 in
     rw (p.1, p.2)
-    (subst (Stops stop) (sym (value_list c.args.room c.args.bytes.now (omega arith) (omega arith) (omega arith))) (stops_bind stop _ _ c.in_err-items-in-108.ensures.read))
+    (subst (Stops stop) (sym (value_list c.args.room c.args.bytes.now (omega arith) (omega arith) (omega arith)))
+    (stops_bind stop _ _ c.in_err-items-in-108.ensures.read))
 
 pub value-returns-in_err-pairs-in-100-clause-read : goal.value-returns-in_err-pairs-in-100-clause-read
 value-returns-in_err-pairs-in-100-clause-read t c =
@@ -96,7 +115,8 @@ value-returns-in_err-pairs-in-100-clause-read t c =
     err_from_is_err_and c.from_residual-in_err-pairs-in-100.result c.from_residual-in_err-pairs-in-100.ensures.1 in
     let stop = c.in_err-pairs-in-100.field-0.0 in
     rw (p.1, p.2)
-    (subst (Stops stop) (sym (value_dictionary c.args.room c.args.bytes.now (omega arith) (omega arith) (omega arith))) (stops_bind stop _ _ c.in_err-pairs-in-100.ensures.read))
+    (subst (Stops stop) (sym (value_dictionary c.args.room c.args.bytes.now (omega arith) (omega arith) (omega arith)))
+    (stops_bind stop _ _ c.in_err-pairs-in-100.ensures.read))
 
 pub value-returns-in_ok-items-in-108-clause-read : goal.value-returns-in_ok-items-in-108-clause-read
 value-returns-in_ok-items-in-108-clause-read t c =

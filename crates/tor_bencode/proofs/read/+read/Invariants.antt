@@ -17,7 +17,8 @@ decreases-dictionary l = 2 * l.room + 1
 abbrev pub invariant-list-items : goal.invariant-list-items
 invariant-list-items l =
     (fuel : ℕ) × (length l.rest ≤ fuel) × (length l.rest ≤ length l.bytes)
-    × (with_items (items_view l.items.items) (items_at (value_at l.room) fuel l.rest) ≡ items_at (value_at l.room) (length l.bytes) l.bytes)
+    × (with_items (items_view l.items.items) (items_at (value_at l.room) fuel l.rest)
+    ≡ items_at (value_at l.room) (length l.bytes) l.bytes)
 
 abbrev pub decreases-list-items : goal.decreases-list-items
 decreases-list-items l = length l.rest
@@ -25,7 +26,8 @@ decreases-list-items l = length l.rest
 abbrev pub invariant-dictionary-pairs : goal.invariant-dictionary-pairs
 invariant-dictionary-pairs l =
     (fuel : ℕ) × (length l.rest ≤ fuel) × (length l.rest ≤ length l.bytes)
-    × (with_pairs (pairs_view l.pairs.items) (pairs_at (value_at l.room) fuel (option_map (λ key. key.now) l.last) l.rest) ≡ pairs_at (value_at l.room) (length l.bytes) None l.bytes)
+    × (with_pairs (pairs_view l.pairs.items) (pairs_at (value_at l.room) fuel
+    (option_map (λ key. key.now) l.last) l.rest) ≡ pairs_at (value_at l.room) (length l.bytes) None l.bytes)
 
 abbrev pub decreases-dictionary-pairs : goal.decreases-dictionary-pairs
 decreases-dictionary-pairs l = length l.rest

@@ -29,15 +29,23 @@ returns-in-Ok-clause-tree c =
 pub overflow_sub-result : goal.overflow_sub-result
 overflow_sub-result c =
     let stopped = subst (λ stop. Stops stop (whole c.args.bytes.now)) c.in-Err-At.field-0-is c.in-Err-At.ensures.read in
-    omega (arith, refused_within c.args.bytes.now c.in-Err-At.fault c.in-Err-At.rest.now (fault_read c.args.bytes.now (c.in-Err-At.fault, c.in-Err-At.rest.now) stopped))
+    omega (
+      arith,
+      refused_within c.args.bytes.now c.in-Err-At.fault c.in-Err-At.rest.now
+          (fault_read c.args.bytes.now (c.in-Err-At.fault, c.in-Err-At.rest.now) stopped),
+    )
 
 pub returns-in-Err-At-clause-only : goal.returns-in-Err-At-clause-only
 returns-in-Err-At-clause-only c =
     let stopped = subst (λ stop. Stops stop (whole c.args.bytes.now)) c.in-Err-At.field-0-is c.in-Err-At.ensures.read in
-    λ d lawful is. absurd (never_both d (c.in-Err-At.fault, c.in-Err-At.rest.now) (whole c.args.bytes.now) (whole-spelling d c.args.bytes.now lawful is) stopped)
+    λ d lawful is. absurd (never_both d (c.in-Err-At.fault, c.in-Err-At.rest.now) (whole c.args.bytes.now)
+    (whole-spelling d c.args.bytes.now lawful is) stopped)
 
 pub returns-in-Err-At-clause-fault : goal.returns-in-Err-At-clause-fault
 returns-in-Err-At-clause-fault c =
     let stopped = subst (λ stop. Stops stop (whole c.args.bytes.now)) c.in-Err-At.field-0-is c.in-Err-At.ensures.read in
-    let cause = fault_read c.args.bytes.now (c.in-Err-At.fault, c.in-Err-At.rest.now) stopped in
-    (c.in-Err-At.rest.now, omega (arith, refused_within c.args.bytes.now c.in-Err-At.fault c.in-Err-At.rest.now cause), cause)
+    let cause = fault_read c.args.bytes.now (c.in-Err-At.fault, c.in-Err-At.rest.now) stopped in (
+      c.in-Err-At.rest.now,
+      omega (arith, refused_within c.args.bytes.now c.in-Err-At.fault c.in-Err-At.rest.now cause),
+      cause,
+    )

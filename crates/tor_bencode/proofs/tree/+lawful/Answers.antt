@@ -13,11 +13,13 @@ is_lawful-returns-else-keys_rise t c =
     let seen : view c.args.item.now ≡ dictionary (pairs_view c.in-Dict.pairs.items) =
     ap view c.in-Dict.is ∙ view-Dict c.in-Dict.pairs in
     let parts =
-    λ (h : IsLawfulWithin c.args.room (view c.args.item.now)). (lawful-dictionary c.args.room (pairs_view c.in-Dict.pairs.items)).0 (subst (IsLawfulWithin c.args.room) seen h) in
+    λ (h : IsLawfulWithin c.args.room (view c.args.item.now)). (lawful-dictionary c.args.room
+    (pairs_view c.in-Dict.pairs.items)).0 (subst (IsLawfulWithin c.args.room) seen h) in
     elim c.if-room-gt0-2.branch [
       | is_lawful-then-room-gt0-2 w ↦ (
         λ e. absurd (false≢true (sym c.if-keys_rise.false ∙ e)),
-        λ h. w.value-is ∙ w.keys_rise.ensures.1 (subst (λ ps. AreRising (keys_of (pairs_view ps))) (sym w.deref.ensures.value) (parts h).1),
+        λ h. w.value-is ∙ w.keys_rise.ensures.1
+            (subst (λ ps. AreRising (keys_of (pairs_view ps))) (sym w.deref.ensures.value) (parts h).1),
       )
       | is_lawful-else-room-gt0-2 w ↦ (
         λ e. absurd (false≢true (sym c.if-keys_rise.false ∙ e)),

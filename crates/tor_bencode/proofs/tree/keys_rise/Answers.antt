@@ -9,8 +9,10 @@ returns-then-not-comes_before c =
     KeysRise-from c.args.pairs.now
     (c.loop-i.i - 1) c.loop-i.i c.index-pairs-i.result c.index-pairs-i-in-loop-i.result _ _ (omega arith) (omega arith)
     (c.deref.ensures.value ∙ ap (λ p. p.0.items) c.index-pairs-i.is)
-    (c.deref-in-loop-i.ensures.value ∙ ap (λ p. p.0.items) c.index-pairs-i-in-loop-i.is) in
-    (λ e. absurd (false≢true e), λ h. sym c.if-not-comes_before.true ∙ c.comes_before.ensures.1 (step.0 (c.loop-i.invariant.1 h)).0)
+    (c.deref-in-loop-i.ensures.value ∙ ap (λ p. p.0.items) c.index-pairs-i-in-loop-i.is) in (
+      λ e. absurd (false≢true e),
+      λ h. sym c.if-not-comes_before.true ∙ c.comes_before.ensures.1 (step.0 (c.loop-i.invariant.1 h)).0,
+    )
 
 pub loop-i-preserved : goal.loop-i-preserved
 loop-i-preserved c =

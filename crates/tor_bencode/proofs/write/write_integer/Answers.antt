@@ -14,5 +14,6 @@ returns c =
     let fits = c.ranges.n in
     let same : to_z w64 (of_z w64 c.args.n) ≡ c.args.n = omega (arith, ints) in
     rw (signed_base_ten-decimal c.args.n c.ranges.n)
-    (c.in_ok-push-2.ensures.items ∙ ap (λ bytes. bytes ++ 101 ∷ []) (c.in_ok-extend_from_slice.ensures.items ∙ ap₂ ◌++◌ c.in_ok-push.ensures.items (c.as_bytes.ensures.value ∙ c.format.ensures.text ∙ ap signed_decimal same))
+    (c.in_ok-push-2.ensures.items ∙ ap (λ bytes. bytes ++ 101 ∷ []) (c.in_ok-extend_from_slice.ensures.items
+    ∙ ap₂ ◌++◌ c.in_ok-push.ensures.items (c.as_bytes.ensures.value ∙ c.format.ensures.text ∙ ap signed_decimal same))
     ∙ regroup _ _)
