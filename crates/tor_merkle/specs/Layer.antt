@@ -1,5 +1,6 @@
 -- The root and the piece layer of a content (BEP 52, "pieces root" and "piece layers").
-use Rattle.std.specs.Prelude.{ℕ, ◌/◌, Bool, ◌&&◌, IsTrue, List, [], ◌∷◌, length, map, nat_le, Option, None, Some, if◌then◌else◌}
+use Rattle.std.specs.Prelude.{ℕ, ◌/◌, Bool, ◌&&◌, IsTrue, List, [], ◌∷◌, length, map, nat_le, Option, None, Some}
+use Rattle.std.specs.Prelude.{if◌then◌else◌}
 use Rattle.std.specs.Int.{div_ceil, is_power_of_two}
 use Rattle.std.specs.List.{range_with_len}
 use Rattle.tor_merkle.specs.Block.{run_at, leaves}
