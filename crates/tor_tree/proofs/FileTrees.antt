@@ -19,5 +19,6 @@ made_file_tree files roots with_roots in_order named =
     record {
       keys = made_rising (with_properties files roots) ready (rw paths in_order);
       tidy = made_tidy (with_properties files roots) ready;
-      described = ap (map file_of) (made_entries (with_properties files roots) ready) ∙ plain_described files roots with_roots;
+      described =
+          ap (map file_of) (made_entries (with_properties files roots) ready) ∙ plain_described files roots with_roots;
     }

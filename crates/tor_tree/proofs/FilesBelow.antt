@@ -1,5 +1,7 @@
 -- Files with their properties, seen from some names down, a part at a time.
-use Rattle.std.proofs.Common.{Vec, Global, None, inl, inr, zero-add, suc-add, length-drop, ◌-◌, ◌≡◌, ◌≢◌, ℕ, zero, suc, ◌+◌, ◌<◌, true, false, List, [], ◌∷◌, ◌++◌, length, get_or, take, drop, map, Option, refl, sym, ap, ◌∙◌, arith}
+use Rattle.std.proofs.Common.{Vec, Global, None, inl, inr, zero-add, suc-add, length-drop, ◌-◌, ◌≡◌, ◌≢◌, ℕ, zero, suc}
+use Rattle.std.proofs.Common.{◌+◌, ◌<◌, true, false, List, [], ◌∷◌, ◌++◌, length, get_or, take, drop, map, Option, refl}
+use Rattle.std.proofs.Common.{sym, ap, ◌∙◌, arith}
 use Rattle.std.specs.List.{All, AllByRecursion}
 use Rattle.std.proofs.lemmas.List.{drop-drop, drop_more, drop_all, take_all}
 use Rattle.std.proofs.lemmas.List.Elements.{All-append, recursion_from_All}
@@ -34,7 +36,8 @@ pub below-files_below : (deep : ℕ) (files : List (List (List ℕ) × ℕ)) (ro
     → map (below 1) (files_below deep files roots) ≡ files_below (deep + 1) files roots
 below-files_below deep [] roots = refl
 below-files_below deep (file ∷ files) [] = refl
-below-files_below deep (file ∷ files) (root ∷ roots) = rw (drop-drop 1 deep file.0, below-files_below deep files roots) refl
+below-files_below deep (file ∷ files) (root ∷ roots) =
+    rw (drop-drop 1 deep file.0, below-files_below deep files roots) refl
 
 pub length-files_below : (deep : ℕ) (files : List (List (List ℕ) × ℕ)) (roots : List (Option (List ℕ)))
     → length roots ≡ length files → length (files_below deep files roots) ≡ length files
@@ -50,7 +53,8 @@ all_first deep name (file ∷ files) [] h = tt
 all_first deep name (file ∷ files) (root ∷ roots) h = (h.0, all_first deep name files roots h.1)
 
 first_apart : (deep : ℕ) (name : List ℕ) (files : List (List (List ℕ) × ℕ)) (roots : List (Option (List ℕ)))
-    → ((file : List (List ℕ) × ℕ) (others : List (List (List ℕ) × ℕ)) → files ≡ file ∷ others → has_name_at deep name file.0 ≡ false)
+    → ((file : List (List ℕ) × ℕ) (others : List (List (List ℕ) × ℕ)) → files ≡ file ∷ others
+    → has_name_at deep name file.0 ≡ false)
     → (f : List (List ℕ) × Data) (fs : List (List (List ℕ) × Data)) → files_below deep files roots ≡ f ∷ fs
     → is_first name f.0 ≡ false
 first_apart deep name [] roots apart f fs e = cc
@@ -60,12 +64,14 @@ first_apart deep name (file ∷ files) (root ∷ roots) apart f fs e =
     let same : drop deep file.0 ≡ f.0 = cc in
     rw (← same) here
 
-pub apart_after : (deep : ℕ) (name : List ℕ) (files : List (List (List ℕ) × ℕ)) (roots : List (Option (List ℕ))) (count : ℕ)
+pub apart_after : (deep : ℕ) (name : List ℕ) (files : List (List (List ℕ) × ℕ)) (roots : List (Option (List ℕ)))
+    (count : ℕ)
     → ((d : List (List ℕ) × ℕ) → count < length files → has_name_at deep name (get_or files count d).0 ≡ false)
     → (f : List (List ℕ) × Data) (fs : List (List (List ℕ) × Data)) → drop count (files_below deep files roots) ≡ f ∷ fs
     → is_first name f.0 ≡ false
 apart_after deep name files roots count ends f fs e =
-    first_apart deep name (drop count files) (drop count roots) at_place f fs (sym (drop-files_below deep count files roots) ∙ e)
+    first_apart deep name (drop count files) (drop count roots) at_place f fs
+    (sym (drop-files_below deep count files roots) ∙ e)
   where
     first_of : count < length files → (file : List (List ℕ) × ℕ) (others : List (List (List ℕ) × ℕ))
         → drop count files ≡ file ∷ others → get_or files count file ≡ file
@@ -84,22 +90,32 @@ pub group_made : (deep : ℕ) (name : List ℕ) → name ≢ []
     → length roots ≡ length files → All (λ f. has_name_at deep name f.0 ≡ true) (take count files)
     → ((d : List (List ℕ) × ℕ) → count < length files → has_name_at deep name (get_or files count d).0 ≡ false)
     → (inside : Pairs) → inside ≡ pairs_of_files (files_below (deep + 1) (take count files) (take count roots))
-    → pairs_of_files (files_below deep files roots) ≡ pair name (dictionary inside) (pairs_of_files (drop count (files_below deep files roots)))
+    → pairs_of_files (files_below deep files roots)
+    ≡ pair name (dictionary inside) (pairs_of_files (drop count (files_below deep files roots)))
 group_made deep name named files roots count some more one_each same ends inside made =
     let group : AllByRecursion (λ f. is_first name f.0 ≡ true) (take count (files_below deep files roots)) =
-    rw take-files_below (all_first deep name (take count files) (take count roots) (recursion_from_All _ (take count files) same)) in
-    let lower : map (below 1) (take count (files_below deep files roots)) ≡ files_below (deep + 1) (take count files) (take count roots) =
-    ap (map (below 1)) (take-files_below deep count files roots) ∙ below-files_below deep (take count files) (take count roots) in
-    pair_of_group name named (files_below deep files roots) count some (rw (length-files_below deep files roots one_each) more) group (apart_after deep name files roots count ends)
-    ∙ ap (λ ps. pair name (dictionary ps) (pairs_of_files (drop count (files_below deep files roots)))) (ap pairs_of_files lower ∙ sym made)
+    rw take-files_below
+    (all_first deep name (take count files) (take count roots) (recursion_from_All _ (take count files) same)) in
+    let lower : map (below 1) (take count (files_below deep files roots))
+    ≡ files_below (deep + 1) (take count files) (take count roots) =
+    ap (map (below 1)) (take-files_below deep count files roots)
+    ∙ below-files_below deep (take count files) (take count roots) in
+    pair_of_group name named (files_below deep files roots) count some
+    (rw (length-files_below deep files roots one_each) more) group (apart_after deep name files roots count ends)
+    ∙ ap (λ ps. pair name (dictionary ps) (pairs_of_files (drop count (files_below deep files roots))))
+    (ap pairs_of_files lower ∙ sym made)
 
 -- the pairs of the files that are left, from what is made of the first of them
-pub next_made : (deep start count : ℕ) (files : List (List (List ℕ) × ℕ)) (roots : List (Option (List ℕ))) (key : List ℕ) (value : Data)
-    → pairs_of_files (files_below deep (drop start files) (drop start roots)) ≡ pair key value (pairs_of_files (drop count (files_below deep (drop start files) (drop start roots))))
-    → pairs_of_files (drop start (files_below deep files roots)) ≡ pair key value (pairs_of_files (drop (start + count) (files_below deep files roots)))
+pub next_made : (deep start count : ℕ) (files : List (List (List ℕ) × ℕ)) (roots : List (Option (List ℕ)))
+    (key : List ℕ) (value : Data)
+    → pairs_of_files (files_below deep (drop start files) (drop start roots))
+    ≡ pair key value (pairs_of_files (drop count (files_below deep (drop start files) (drop start roots))))
+    → pairs_of_files (drop start (files_below deep files roots))
+    ≡ pair key value (pairs_of_files (drop (start + count) (files_below deep files roots)))
 next_made deep start count files roots key value made =
     ap pairs_of_files (drop-files_below deep start files roots) ∙ made
-    ∙ ap (λ fs. pair key value (pairs_of_files fs)) (ap (drop count) (sym (drop-files_below deep start files roots)) ∙ drop-drop count start (files_below deep files roots))
+    ∙ ap (λ fs. pair key value (pairs_of_files fs)) (ap (drop count) (sym (drop-files_below deep start files roots))
+    ∙ drop-drop count start (files_below deep files roots))
 
 -- pairs, and more pairs after them
 abbrev pub followed_by : Pairs → Pairs → Pairs

@@ -1,5 +1,6 @@
 -- Lists that begin with other lists, where lists are ordered element by element, a beginning first.
-use Rattle.std.proofs.Common.{◌≡◌, ◌<◌, Bool, true, ◌&&◌, List, [], ◌∷◌, length, Ordering, Less, Equal, Greater, refl, sym, ap, ◌∙◌, subst, arith}
+use Rattle.std.proofs.Common.{◌≡◌, ◌<◌, Bool, true, ◌&&◌, List, [], ◌∷◌, length, Ordering, Less, Equal, Greater, refl}
+use Rattle.std.proofs.Common.{sym, ap, ◌∙◌, subst, arith}
 use Rattle.std.specs.Cmp.{IsTotalOrder}
 use Rattle.std.specs.Cmp.Lexicographic.{slice_cmp}
 use Rattle.std.specs.Ordering.{eq_by_cmp, is_eq, ordering_then}
@@ -7,7 +8,8 @@ use Rattle.std.specs.List.{starts_with}
 use Rattle.std.proofs.lemmas.Bool.{and_parts, and_from}
 use Rattle.std.proofs.lemmas.Cmp.{alike_right}
 
-module _ {K : Type 0} {R : K → K → Ordering} (o : IsTotalOrder R) {E : K → K → Bool} (ties : (x y : K) → E x y ≡ eq_by_cmp R x y) where
+module _ {K : Type 0} {R : K → K → Ordering} (o : IsTotalOrder R) {E : K → K → Bool}
+    (ties : (x y : K) → E x y ≡ eq_by_cmp R x y) where
   tied : (x y : K) → E x y ≡ true → R x y ≡ Equal
   tied x y e = from (R x y) (sym (ties x y) ∙ e)
     where
@@ -54,6 +56,7 @@ module _ {K : Type 0} {R : K → K → Ordering} (o : IsTotalOrder R) {E : K →
       by_heads Less Greater e f p q ac inner = cc
       by_heads Equal t e f p q ac inner =
           let bc : R b c ≡ Equal = sym (o.congr a b c e) ∙ ac in
-          let rest : slice_cmp R y z ≡ Less = subst (λ (v : Ordering). ordering_then v (slice_cmp R y z) ≡ Less) (sym f ∙ bc) q in
+          let rest : slice_cmp R y z ≡ Less =
+          subst (λ (v : Ordering). ordering_then v (slice_cmp R y z) ≡ Less) (sym f ∙ bc) q in
           and_from (E a b) (starts_with E y x) (ties a b ∙ ap is_eq e) (inner p rest)
       by_heads Greater t e f p q ac inner = cc

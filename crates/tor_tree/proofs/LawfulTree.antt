@@ -1,13 +1,16 @@
 -- The file tree of files is a lawful tree, two dictionaries deeper than its longest path.
-use Rattle.std.proofs.Common.{ℕ, zero, suc, ◌+◌, ◌<◌, ◌≤◌, ◌^◌, Bool, true, false, cond, List, [], ◌∷◌, length, Option, None, Some, arith, rules}
+use Rattle.std.proofs.Common.{ℕ, zero, suc, ◌+◌, ◌<◌, ◌≤◌, ◌^◌, Bool, true, false, cond, List, [], ◌∷◌, length, Option}
+use Rattle.std.proofs.Common.{None, Some, arith, rules}
 use Rattle.std.specs.List.{AllByRecursion}
 use Rattle.tor_bencode.specs.Data.{Data, integer, string, list, dictionary, Pairs, no_pairs, pair}
-use Rattle.tor_bencode.specs.Lawful.{HasSmallIntegers, IsLawfulWithin, PairsHaveSmallIntegers, HasRisingKeys, depth, pairs_depth}
+use Rattle.tor_bencode.specs.Lawful.{HasSmallIntegers, IsLawfulWithin, PairsHaveSmallIntegers, HasRisingKeys, depth}
+use Rattle.tor_bencode.specs.Lawful.{pairs_depth}
 use Rattle.tor_tree.specs.Path.{name_eq}
 use Rattle.tor_tree.specs.Properties.{properties_for}
 use Rattle.tor_tree.specs.WrittenTree.{file_tree, pairs_of_files, put_first, put_inside, put_under, with_properties}
 
-module _ (n : ℕ) (put : Pairs → Pairs) (deep : (room : ℕ) (pairs : Pairs) → suc n ≤ room → pairs_depth pairs ≤ room → pairs_depth (put pairs) ≤ room) where
+module _ (n : ℕ) (put : Pairs → Pairs)
+    (deep : (room : ℕ) (pairs : Pairs) → suc n ≤ room → pairs_depth pairs ≤ room → pairs_depth (put pairs) ≤ room) where
   deep_new : (room : ℕ) → suc (suc n) ≤ room → suc (pairs_depth (put no_pairs)) ≤ room
   deep_new room few = omega (arith, deep (suc n) no_pairs (omega arith) (omega arith), few)
 
@@ -26,7 +29,8 @@ module _ (n : ℕ) (put : Pairs → Pairs) (deep : (room : ℕ) (pairs : Pairs) 
   deep_under name room (pair key folder pairs) few within = by_key (name_eq key name)
     where
       by_key : (b : Bool)
-          → pairs_depth (cond b (pair key (put_inside put folder) pairs) (pair name (dictionary (put no_pairs)) (pair key folder pairs))) ≤ room
+          → pairs_depth (cond b (pair key (put_inside put folder) pairs)
+          (pair name (dictionary (put no_pairs)) (pair key folder pairs))) ≤ room
       by_key true = omega (arith, deep_inside room folder few (omega (arith, within)), within)
       by_key false = omega (arith, deep_new room few, within)
 
@@ -36,7 +40,8 @@ put_deep [] properties plain room pairs few within = omega (arith, plain, few, w
 put_deep (name ∷ names) properties plain room pairs few within =
     deep_under (length names) (put_first names properties) (put_deep names properties plain) name room pairs few within
 
-module _ (put : Pairs → Pairs) (small : (pairs : Pairs) → PairsHaveSmallIntegers pairs → PairsHaveSmallIntegers (put pairs)) where
+module _ (put : Pairs → Pairs)
+    (small : (pairs : Pairs) → PairsHaveSmallIntegers pairs → PairsHaveSmallIntegers (put pairs)) where
   small_inside : (folder : Data) → HasSmallIntegers folder → HasSmallIntegers (put_inside put folder)
   small_inside (integer k) h = h
   small_inside (string bytes) h = h
@@ -49,7 +54,8 @@ module _ (put : Pairs → Pairs) (small : (pairs : Pairs) → PairsHaveSmallInte
   small_under name (pair key folder pairs) h = by_key (name_eq key name)
     where
       by_key : (b : Bool)
-          → PairsHaveSmallIntegers (cond b (pair key (put_inside put folder) pairs) (pair name (dictionary (put no_pairs)) (pair key folder pairs)))
+          → PairsHaveSmallIntegers (cond b (pair key (put_inside put folder) pairs)
+          (pair name (dictionary (put no_pairs)) (pair key folder pairs)))
       by_key true = (small_inside folder h.0, h.1)
       by_key false = (small no_pairs tt, h)
 
@@ -73,7 +79,8 @@ made_deep : (names : ℕ) (files : List (List (List ℕ) × ℕ)) (roots : List 
 made_deep names [] roots few = omega arith
 made_deep names (file ∷ files) [] few = omega arith
 made_deep names (file ∷ files) (root ∷ roots) few =
-    put_deep file.0 (properties_for file.1 root) (properties_depth file.1 root) (suc names) (pairs_of_files (with_properties files roots)) (omega (arith, few.0)) (made_deep names files roots few.1)
+    put_deep file.0 (properties_for file.1 root) (properties_depth file.1 root) (suc names)
+    (pairs_of_files (with_properties files roots)) (omega (arith, few.0)) (made_deep names files roots few.1)
 
 made_small : (files : List (List (List ℕ) × ℕ)) (roots : List (Option (List ℕ)))
     → AllByRecursion (λ file. file.1 < 2 ^ 63) files
@@ -81,7 +88,8 @@ made_small : (files : List (List (List ℕ) × ℕ)) (roots : List (Option (List
 made_small [] roots small = tt
 made_small (file ∷ files) [] small = tt
 made_small (file ∷ files) (root ∷ roots) small =
-    put_small file.0 (properties_for file.1 root) (properties_fit file.1 root small.0) (pairs_of_files (with_properties files roots)) (made_small files roots small.1)
+    put_small file.0 (properties_for file.1 root) (properties_fit file.1 root small.0)
+    (pairs_of_files (with_properties files roots)) (made_small files roots small.1)
 
 pub lawful_tree : (names : ℕ) (files : List (List (List ℕ) × ℕ)) (roots : List (Option (List ℕ)))
     → HasRisingKeys (file_tree files roots) → AllByRecursion (λ file. file.1 < 2 ^ 63) files

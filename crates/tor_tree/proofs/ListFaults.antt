@@ -1,11 +1,13 @@
 -- What a list of files has that has no fault.
-use Rattle.std.proofs.Common.{◌≡◌, ◌==◌, ℕ, ◌≤◌, false, cond, Bool, true, List, [], ◌∷◌, length, nat_lt, Option, None, Some, refl}
+use Rattle.std.proofs.Common.{◌≡◌, ◌==◌, ℕ, ◌≤◌, false, cond, Bool, true, List, [], ◌∷◌, length, nat_lt, Option, None}
+use Rattle.std.proofs.Common.{Some, refl}
 use Rattle.std.specs.List.{list_any, All, AllByRecursion}
 use Rattle.std.specs.Option.{option_or}
 use Rattle.std.proofs.lemmas.Bool.{or_parts, ltb-false}
 use Rattle.std.proofs.lemmas.List.Elements.{All-from_recursion}
 use Rattle.tor_tree.specs.declared.lists.ListError.{ListError}
-use Rattle.tor_tree.specs.FileList.{lengths_fault, lengths_of, lengths_too_large, list_fault, paths_fault, paths_nest, paths_of, paths_repeat}
+use Rattle.tor_tree.specs.FileList.{lengths_fault, lengths_of, lengths_too_large, list_fault, paths_fault, paths_nest}
+use Rattle.tor_tree.specs.FileList.{paths_of, paths_repeat}
 use Rattle.tor_tree.specs.declared.lists.TheConstants.{MAX_LENGTH}
 
 -- a test that gives a fault is not passed where there is none
@@ -40,7 +42,8 @@ module _ (files : List (List (List ℕ) × ℕ)) (faultless : list_fault files �
 
   pub not_too_large : lengths_too_large (lengths_of files) ≡ false
   not_too_large =
-      (clear (lengths_too_large (lengths_of files)) _ _ (neither (paths_fault (paths_of files)) (lengths_fault (lengths_of files)) faultless).1).0
+      (clear (lengths_too_large (lengths_of files)) _ _
+      (neither (paths_fault (paths_of files)) (lengths_fault (lengths_of files)) faultless).1).0
 
 none_over : (files : List (List (List ℕ) × ℕ)) → list_any (nat_lt MAX_LENGTH) (lengths_of files) ≡ false
     → AllByRecursion (λ file. file.1 ≤ MAX_LENGTH) files
@@ -52,4 +55,5 @@ none_over (file ∷ files) h =
 -- no file of a list is too long
 pub small_files : (files : List (List (List ℕ) × ℕ)) → list_fault files ≡ None → All (λ file. file.1 ≤ MAX_LENGTH) files
 small_files files h =
-    All-from_recursion _ files (none_over files (or_parts (list_any (nat_lt MAX_LENGTH) (lengths_of files)) _ (not_too_large files h)).0)
+    All-from_recursion _ files
+    (none_over files (or_parts (list_any (nat_lt MAX_LENGTH) (lengths_of files)) _ (not_too_large files h)).0)

@@ -15,12 +15,15 @@ put_first-some (name ∷ names) properties no_pairs e = cc
 put_first-some (name ∷ names) properties (pair key value pairs) e = by_key (name_eq key name) e
   where
     by_key : (b : Bool)
-        → cond b (pair key (put_inside (put_first names properties) value) pairs) (pair name (dictionary (put_first names properties no_pairs)) (pair key value pairs)) ≡ no_pairs
+        → cond b (pair key (put_inside (put_first names properties) value) pairs)
+        (pair name (dictionary (put_first names properties no_pairs)) (pair key value pairs)) ≡ no_pairs
         → ⊥
     by_key true e = cc
     by_key false e = cc
 
-module _ (names : List (List ℕ)) (properties : Data) (put : Pairs → Pairs) (tidy_put : (pairs : Pairs) → AreTidy pairs → AreTidy (put pairs)) (some : (pairs : Pairs) → put pairs ≡ no_pairs → ⊥) where
+module _ (names : List (List ℕ)) (properties : Data) (put : Pairs → Pairs)
+    (tidy_put : (pairs : Pairs) → AreTidy pairs → AreTidy (put pairs))
+    (some : (pairs : Pairs) → put pairs ≡ no_pairs → ⊥) where
   tidy_new : (name : List ℕ) (pairs : Pairs) → name ≢ [] → AreTidy pairs
       → AreTidy (pair name (dictionary (put no_pairs)) pairs)
   tidy_new [] pairs named tidy = absurd (named refl)
@@ -29,7 +32,8 @@ module _ (names : List (List ℕ)) (properties : Data) (put : Pairs → Pairs) (
   tidy_joined : (name key : List ℕ) (value : Data) (pairs : Pairs) → name ≢ [] → key ≡ name
       → AreTidy (pair key value pairs) → AreTidy (pair key (put_inside put value) pairs)
   tidy_joined name [] value pairs named same tidy = absurd (named (sym same))
-  tidy_joined name (c ∷ cs) (dictionary inside) pairs named same tidy = ((λ e. some inside cc), tidy_put inside tidy.1, tidy.2)
+  tidy_joined name (c ∷ cs) (dictionary inside) pairs named same tidy =
+      ((λ e. some inside cc), tidy_put inside tidy.1, tidy.2)
   tidy_joined name (c ∷ cs) (integer n) pairs named same tidy = absurd tidy.1
   tidy_joined name (c ∷ cs) (string bytes) pairs named same tidy = absurd tidy.1
   tidy_joined name (c ∷ cs) (list items) pairs named same tidy = absurd tidy.1
@@ -39,11 +43,13 @@ module _ (names : List (List ℕ)) (properties : Data) (put : Pairs → Pairs) (
   tidy_under name (pair key value pairs) named tidy = by_key (name_eq key name) refl
     where
       by_key : (b : Bool) → name_eq key name ≡ b
-          → AreTidy (cond b (pair key (put_inside put value) pairs) (pair name (dictionary (put no_pairs)) (pair key value pairs)))
+          → AreTidy (cond b (pair key (put_inside put value) pairs)
+          (pair name (dictionary (put no_pairs)) (pair key value pairs)))
       by_key true e = tidy_joined name key value pairs named (name_is key name e) tidy
       by_key false e = tidy_new name (pair key value pairs) named tidy
 
-  module _ (told : (pairs : Pairs) → AreTidy pairs → entries_in (put pairs) ≡ (names, properties) ∷ entries_in pairs) where
+  module _ (told : (pairs : Pairs) → AreTidy pairs
+      → entries_in (put pairs) ≡ (names, properties) ∷ entries_in pairs) where
     entries_new : (name : List ℕ) (pairs : Pairs) → name ≢ []
         → entries_in (pair name (dictionary (put no_pairs)) pairs) ≡ (name ∷ names, properties) ∷ entries_in pairs
     entries_new [] pairs named = absurd (named refl)
@@ -51,7 +57,8 @@ module _ (names : List (List ℕ)) (properties : Data) (put : Pairs → Pairs) (
 
     entries_joined : (name key : List ℕ) (value : Data) (pairs : Pairs) → name ≢ [] → key ≡ name
         → AreTidy (pair key value pairs)
-        → entries_in (pair key (put_inside put value) pairs) ≡ (name ∷ names, properties) ∷ entries_in (pair key value pairs)
+        → entries_in (pair key (put_inside put value) pairs)
+        ≡ (name ∷ names, properties) ∷ entries_in (pair key value pairs)
     entries_joined name [] value pairs named same tidy = absurd (named (sym same))
     entries_joined name (c ∷ cs) (dictionary inside) pairs named same tidy = rw (told inside tidy.1, ← same) refl
     entries_joined name (c ∷ cs) (integer n) pairs named same tidy = absurd tidy.1
@@ -64,7 +71,8 @@ module _ (names : List (List ℕ)) (properties : Data) (put : Pairs → Pairs) (
     entries_under name (pair key value pairs) named tidy = by_key (name_eq key name) refl
       where
         by_key : (b : Bool) → name_eq key name ≡ b
-            → entries_in (cond b (pair key (put_inside put value) pairs) (pair name (dictionary (put no_pairs)) (pair key value pairs))) ≡ (name ∷ names, properties) ∷ entries_in (pair key value pairs)
+            → entries_in (cond b (pair key (put_inside put value) pairs) (pair name (dictionary (put no_pairs))
+            (pair key value pairs))) ≡ (name ∷ names, properties) ∷ entries_in (pair key value pairs)
         by_key true e = entries_joined name key value pairs named (name_is key name e) tidy
         by_key false e = entries_new name (pair key value pairs) named
 
@@ -72,14 +80,16 @@ pub put_first-tidy : (path : List (List ℕ)) (properties : Data) → AllByRecur
     → IsTidyFile properties → (pairs : Pairs) → AreTidy pairs → AreTidy (put_first path properties pairs)
 put_first-tidy [] properties named tidy_file pairs tidy = (tidy_file, tidy)
 put_first-tidy (name ∷ names) properties named tidy_file pairs tidy =
-    tidy_under names properties (put_first names properties) (put_first-tidy names properties named.1 tidy_file) (put_first-some names properties) name pairs named.0 tidy
+    tidy_under names properties (put_first names properties) (put_first-tidy names properties named.1 tidy_file)
+    (put_first-some names properties) name pairs named.0 tidy
 
 pub put_first-entries : (path : List (List ℕ)) (properties : Data) → AllByRecursion (λ name. name ≢ []) path
     → IsTidyFile properties → (pairs : Pairs) → AreTidy pairs
     → entries_in (put_first path properties pairs) ≡ (path, properties) ∷ entries_in pairs
 put_first-entries [] properties named tidy_file pairs tidy = refl
 put_first-entries (name ∷ names) properties named tidy_file pairs tidy =
-    entries_under names properties (put_first names properties) (put_first-tidy names properties named.1 tidy_file) (put_first-some names properties) (put_first-entries names properties named.1 tidy_file) name pairs named.0 tidy
+    entries_under names properties (put_first names properties) (put_first-tidy names properties named.1 tidy_file)
+    (put_first-some names properties) (put_first-entries names properties named.1 tidy_file) name pairs named.0 tidy
 
 -- files that have names and tidy properties
 abbrev pub AreReady : List (List (List ℕ) × Data) → Type 0
@@ -87,9 +97,11 @@ AreReady files = AllByRecursion (λ file. AllByRecursion (λ name. name ≢ []) 
 
 pub made_tidy : (files : List (List (List ℕ) × Data)) → AreReady files → AreTidy (pairs_of_files files)
 made_tidy [] ready = tt
-made_tidy (file ∷ files) ready = put_first-tidy file.0 file.1 ready.0.0 ready.0.1 (pairs_of_files files) (made_tidy files ready.1)
+made_tidy (file ∷ files) ready =
+    put_first-tidy file.0 file.1 ready.0.0 ready.0.1 (pairs_of_files files) (made_tidy files ready.1)
 
 pub made_entries : (files : List (List (List ℕ) × Data)) → AreReady files → entries_in (pairs_of_files files) ≡ files
 made_entries [] ready = refl
 made_entries (file ∷ files) ready =
-    put_first-entries file.0 file.1 ready.0.0 ready.0.1 (pairs_of_files files) (made_tidy files ready.1) ∙ ap (λ fs. file ∷ fs) (made_entries files ready.1)
+    put_first-entries file.0 file.1 ready.0.0 ready.0.1 (pairs_of_files files) (made_tidy files ready.1)
+    ∙ ap (λ fs. file ∷ fs) (made_entries files ready.1)

@@ -1,5 +1,6 @@
 -- What is known of a name that has no fault.
-use Rattle.std.proofs.Common.{◌≡◌, ◌==◌, ℕ, Bool, true, false, cond, List, length, Option, Some, None, codes, refl, sym, Result, Ok, Err, is_ok, MatchResult}
+use Rattle.std.proofs.Common.{◌≡◌, ◌==◌, ℕ, Bool, true, false, cond, List, length, Option, Some, None, codes, refl, sym}
+use Rattle.std.proofs.Common.{Result, Ok, Err, is_ok, MatchResult}
 use Rattle.std.specs.Str.{IsUtf8, is_utf8, bytes_eq}
 use Rattle.std.proofs.lemmas.Str.{IsUtf8-from_is_utf8, is_utf8-from_IsUtf8}
 use Rattle.tor_tree.specs.declared.names.NameError.TheVariants.{NotUtf8}
@@ -17,7 +18,9 @@ passed false fault h = cc
 pub IsUtf8-faultless : (name : List ℕ) → name_fault name ≡ None → IsUtf8 name
 IsUtf8-faultless name h =
     IsUtf8-from_is_utf8 name
-    (passed (is_utf8 name) NotUtf8 (later (has_byte 0 name) _ _ (later (has_byte slash name) _ _ (later (bytes_eq name (codes "..")) _ _ (later (bytes_eq name (codes ".")) _ _ (later (length name == 0) _ _ h))))))
+    (passed (is_utf8 name) NotUtf8
+    (later (has_byte 0 name) _ _ (later (has_byte slash name) _ _
+    (later (bytes_eq name (codes "..")) _ _ (later (bytes_eq name (codes ".")) _ _ (later (length name == 0) _ _ h))))))
 
 -- a call that is Ok of text alone answers as the test does
 pub is_ok-utf8 : {S E : Type 0} (bytes : List ℕ) (r : Result S E) (Found : S → Type 0) (Refused : E → Type 0)

@@ -48,8 +48,10 @@ first_pair : (key : List ℕ) (inside pairs : Pairs) → key ≢ [] → AreTidy 
     → pairs_of_files (entries_in inside) ≡ inside → pairs_of_files (entries_in pairs) ≡ pairs
     → pairs_of_files (under key (entries_in inside) ++ entries_in pairs) ≡ pair key (dictionary inside) pairs
 first_pair key inside pairs named tidy rising first others is inner outer =
-    let whole = pairs_of_group key named (key ∷ first.0, first.1) (under key others) (entries_in pairs) (under_first key (first ∷ others)) (apart_pairs key pairs tidy rising) in
-    let here : pairs_of_files (map (below 1) (under key (first ∷ others))) ≡ inside = ap pairs_of_files (below_under key (first ∷ others) ∙ sym is) ∙ inner in
+    let whole = pairs_of_group key named (key ∷ first.0, first.1) (under key others) (entries_in pairs)
+    (under_first key (first ∷ others)) (apart_pairs key pairs tidy rising) in
+    let here : pairs_of_files (map (below 1) (under key (first ∷ others))) ≡ inside =
+    ap pairs_of_files (below_under key (first ∷ others) ∙ sym is) ∙ inner in
     ap (λ es. pairs_of_files (under key es ++ entries_in pairs)) is ∙ whole ∙ rw (here, outer) refl
 
 mutual
@@ -89,13 +91,15 @@ mutual
   tidy_entries : (pairs : Pairs) → AreTidy pairs → AreTidyFiles (entries_in pairs)
   tidy_entries no_pairs tidy = tt
   tidy_entries (pair [] properties pairs) tidy = (tidy.0, tidy_entries pairs tidy.1)
-  tidy_entries (pair (c ∷ cs) folder pairs) tidy = tidy_under (c ∷ cs) (entries_of folder) (entries_in pairs) (tidy_of folder tidy.1) (tidy_entries pairs tidy.2)
+  tidy_entries (pair (c ∷ cs) folder pairs) tidy =
+      tidy_under (c ∷ cs) (entries_of folder) (entries_in pairs) (tidy_of folder tidy.1) (tidy_entries pairs tidy.2)
 
 -- two tidy files that say the same are the same
 same_file : (one other : List (List ℕ) × Data) → IsTidyFile one.1 → IsTidyFile other.1 → file_of one ≡ file_of other
     → one ≡ other
 same_file (path, one) (other_path, other) (n, root, is, rooted) (m, other_root, other_is, other_rooted) same =
-    let plain_same : plain path n root ≡ plain other_path m other_root = sym (plain_file path n root rooted) ∙ rw (is, other_is) at same ∙ plain_file other_path m other_root other_rooted in
+    let plain_same : plain path n root ≡ plain other_path m other_root = sym (plain_file path n root rooted)
+    ∙ rw (is, other_is) at same ∙ plain_file other_path m other_root other_rooted in
     let paths = ap (λ file. file.path) plain_same in
     let lengths = ap (λ file. file.length) plain_same in
     let roots = ap (λ file. file.root) plain_same in
@@ -121,7 +125,8 @@ as_pairs (dictionary pairs) tidy rising = (pairs, refl, remade pairs tidy rising
 pub one_tree : (files : List (List (List ℕ) × ℕ)) (roots : List (Option (List ℕ))) (one other : Data)
     → IsFileTreeOf files roots one → IsFileTreeOf files roots other → one ≡ other
 one_tree files roots one other h k =
-    let entries = same_entries (entries_of one) (entries_of other) (tidy_of one h.tidy) (tidy_of other k.tidy) (h.described ∙ sym k.described) in
+    let entries = same_entries (entries_of one) (entries_of other) (tidy_of one h.tidy) (tidy_of other k.tidy)
+    (h.described ∙ sym k.described) in
     let first = as_pairs one h.tidy h.keys in
     let second = as_pairs other k.tidy k.keys in
     first.1 ∙ ap dictionary (sym first.2 ∙ ap pairs_of_files entries ∙ second.2) ∙ sym second.1

@@ -1,11 +1,13 @@
 -- Lists of paths in order: a path that is there twice, or is inside another, is beside it.
-use Rattle.std.proofs.Common.{◌≡◌, ℕ, ◌+◌, ◌<◌, true, false, ◌⊎◌, inl, inr, List, [], length, get_or, count_by, nat_lt, Less, Equal, ap, ◌∙◌, arith}
+use Rattle.std.proofs.Common.{◌≡◌, ℕ, ◌+◌, ◌<◌, true, false, ◌⊎◌, inl, inr, List, [], length, get_or, count_by, nat_lt}
+use Rattle.std.proofs.Common.{Less, Equal, ap, ◌∙◌, arith}
 use Rattle.std.specs.Cmp.{IsTotalOrder}
 use Rattle.std.specs.Cmp.Lexicographic.{lists_total, lists_ties, nat_list_cmp_total, texts_ties}
 use Rattle.std.specs.Ordering.{eq_by_cmp, is_eq}
 use Rattle.std.specs.List.{AllAdjacentBelow, starts_with, list_any}
 use Rattle.std.specs.List.Sorted.{IsStrictlySortedBy}
-use Rattle.std.proofs.lemmas.Bool.{le-ltb, lt-ltb, ltb-true, and_parts, and_from, both_ways, false_from_ne_true, cases_order}
+use Rattle.std.proofs.lemmas.Bool.{le-ltb, lt-ltb, ltb-true, and_parts, and_from, both_ways, false_from_ne_true}
+use Rattle.std.proofs.lemmas.Bool.{cases_order}
 use Rattle.std.proofs.lemmas.Cmp.{tied_itself}
 use Rattle.std.proofs.lemmas.List.Folds.{list_any_none, list_any_at}
 use Rattle.std.proofs.lemmas.List.{get_or_default}
@@ -33,7 +35,8 @@ repeat_found paths k lt same =
     let path = get_or paths k [] in
     let here = path_ties path path ∙ ap is_eq (tied_itself path_order path) in
     let next = path_ties path (get_or paths (k + 1) []) ∙ ap is_eq same in
-    list_any_at (λ p. nat_lt 1 (count_by (path_eq p) paths)) paths k [] (omega arith) (lt-ltb 1 _ (count_of_neighbours (path_eq path) paths k [] lt here next))
+    list_any_at (λ p. nat_lt 1 (count_by (path_eq p) paths)) paths k [] (omega arith)
+    (lt-ltb 1 _ (count_of_neighbours (path_eq path) paths k [] lt here next))
 
 -- a path inside another comes after it
 pub inside_after : (folder path : List (List ℕ)) → is_inside folder path ≡ true → path_cmp folder path ≡ Less
@@ -55,7 +58,8 @@ not_inside_later paths rising apart i j lt within starts = by_places (cases_orde
     by_places (inr (inl further)) =
         let first = Less-from_sorted path_cmp paths i (i + 1) [] rising (omega arith) (omega arith) in
         let second = Less-from_sorted path_cmp paths (i + 1) j [] rising further within in
-        both_ways _ (apart i [] (omega arith)) (beginning_between nat_list_cmp_total texts_ties (get_or paths i []) (get_or paths (i + 1) []) (get_or paths j []) first second starts)
+        both_ways _ (apart i [] (omega arith)) (beginning_between nat_list_cmp_total texts_ties (get_or paths i [])
+        (get_or paths (i + 1) []) (get_or paths j []) first second starts)
     by_places (inr (inr before)) = absurd (omega arith)
 
 not_inside : (paths : List (List (List ℕ))) → IsStrictlySortedBy path_cmp paths
@@ -67,7 +71,8 @@ not_inside paths rising apart i j in_i in_j inside = by_places (cases_order i j)
     by_places (inl e) =
         never_below_itself (get_or paths j []) (rw e at (inside_after (get_or paths i []) (get_or paths j []) inside))
     by_places (inr (inl before)) =
-        not_inside_later paths rising apart i j before in_j (and_parts _ (nat_lt (length (get_or paths i [])) (length (get_or paths j []))) inside).0
+        not_inside_later paths rising apart i j before in_j
+        (and_parts _ (nat_lt (length (get_or paths i [])) (length (get_or paths j []))) inside).0
     by_places (inr (inr after)) =
         let below = Less-from_sorted path_cmp paths j i [] rising after in_i in
         let above = inside_after (get_or paths i []) (get_or paths j []) inside in

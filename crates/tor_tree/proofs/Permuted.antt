@@ -1,10 +1,13 @@
 -- A list of files has the same fault in every order.
-use Rattle.std.proofs.Common.{◌≡◌, ℕ, Bool, cond, List, [], ◌∷◌, ◌++◌, length, take, drop, subst, count_by, nat_lt, refl, sym, ap, ◌∙◌}
+use Rattle.std.proofs.Common.{◌≡◌, ℕ, Bool, cond, List, [], ◌∷◌, ◌++◌, length, take, drop, subst, count_by, nat_lt}
+use Rattle.std.proofs.Common.{refl, sym, ap, ◌∙◌}
 use Rattle.std.specs.List.{list_any}
 use Rattle.std.specs.List.Sorted.{IsPermutation}
-use Rattle.std.proofs.lemmas.List.Sorted.{IsPermutation-map, list_any-IsPermutation, sum_by-IsPermutation, length_permutation}
+use Rattle.std.proofs.lemmas.List.Sorted.{IsPermutation-map, list_any-IsPermutation, sum_by-IsPermutation}
+use Rattle.std.proofs.lemmas.List.Sorted.{length_permutation}
 use Rattle.std.proofs.Math.Seq.{take-append_seam}
-use Rattle.tor_tree.specs.FileList.{paths_of, lengths_of, paths_repeat, paths_nest, paths_fault, lengths_fault, list_fault, is_inside}
+use Rattle.tor_tree.specs.FileList.{paths_of, lengths_of, paths_repeat, paths_nest, paths_fault, lengths_fault}
+use Rattle.tor_tree.specs.FileList.{list_fault, is_inside}
 use Rattle.tor_tree.specs.Path.{path_eq}
 use Rattle.tor_tree.proofs.Lengths.{rounded}
 use Rattle.tor_tree.specs.declared.lists.TheConstants.{MAX_LENGTH}
@@ -17,7 +20,8 @@ list_any-same p q same (x ∷ xs) = rw (same x, list_any-same p q same xs) refl
 paths_repeat-permutation : (ps qs : List (List (List ℕ))) → IsPermutation ps qs → paths_repeat ps ≡ paths_repeat qs
 paths_repeat-permutation ps qs moved =
     list_any-IsPermutation (λ path. nat_lt 1 (count_by (path_eq path) ps)) ps qs moved
-    ∙ list_any-same _ _ (λ path. ap (nat_lt 1) (sym (sum_by-IsPermutation (λ p. cond (path_eq path p) 1 0) ps qs moved))) qs
+    ∙ list_any-same _ _
+    (λ path. ap (nat_lt 1) (sym (sum_by-IsPermutation (λ p. cond (path_eq path p) 1 0) ps qs moved))) qs
 
 paths_nest-permutation : (ps qs : List (List (List ℕ))) → IsPermutation ps qs → paths_nest ps ≡ paths_nest qs
 paths_nest-permutation ps qs moved =
@@ -26,7 +30,8 @@ paths_nest-permutation ps qs moved =
 
 pub paths_fault-permutation : (ps qs : List (List (List ℕ))) → IsPermutation ps qs → paths_fault ps ≡ paths_fault qs
 paths_fault-permutation ps qs moved =
-    rw (sym (length_permutation ps qs moved), paths_repeat-permutation ps qs moved, paths_nest-permutation ps qs moved) refl
+    rw (sym (length_permutation ps qs moved), paths_repeat-permutation ps qs moved, paths_nest-permutation ps qs moved)
+    refl
 
 pub lengths_fault-permutation : (ms ns : List ℕ) → IsPermutation ms ns → lengths_fault ms ≡ lengths_fault ns
 lengths_fault-permutation ms ns moved =
@@ -36,7 +41,10 @@ pub list_fault-permutation : (xs ys : List (List (List ℕ) × ℕ)) → IsPermu
 list_fault-permutation xs ys moved =
     let paths = IsPermutation-map (λ file. file.0) xs ys moved in
     let lengths = IsPermutation-map (λ file. file.1) xs ys moved in
-    rw (paths_fault-permutation (paths_of xs) (paths_of ys) paths, lengths_fault-permutation (lengths_of xs) (lengths_of ys) lengths)
+    rw (
+      paths_fault-permutation (paths_of xs) (paths_of ys) paths,
+      lengths_fault-permutation (lengths_of xs) (lengths_of ys) lengths,
+    )
     refl
 
 -- a slice of all elements, moved and written back to its vector of n elements

@@ -1,5 +1,6 @@
 -- What is read of a file's properties, from their parts.
-use Rattle.std.proofs.Common.{◌≡◌, ℕ, ℤ, true, ◌||◌, cond, List, [], Option, None, Some, is_some, is_none, unwrap_or, codes, refl, ap}
+use Rattle.std.proofs.Common.{◌≡◌, ℕ, ℤ, true, ◌||◌, cond, List, [], Option, None, Some, is_some, is_none, unwrap_or}
+use Rattle.std.proofs.Common.{codes, refl, ap}
 use Rattle.tor_bencode.specs.Data.{Data}
 use Rattle.tor_bencode.specs.Find.{value_of}
 use Rattle.tor_tree.specs.Name.{has_byte}
@@ -13,9 +14,21 @@ with_attr (Some d) letters e = (rw e refl, rw e refl)
 
 pub facts_from : (file : Data) (n : ℤ) (letters : List ℕ) → as_integer (value_of (codes "length") file) ≡ Some n
     → letters_of file ≡ Some letters
-    → facts_of file ≡ Some (record { length = n; root = hash_of file; link = has_byte letter_l letters; exec = has_byte letter_x letters; hidden = has_byte letter_h letters })
+    → facts_of file ≡ Some (record {
+      length = n;
+      root = hash_of file;
+      link = has_byte letter_l letters;
+      exec = has_byte letter_x letters;
+      hidden = has_byte letter_h letters;
+    })
 facts_from file n letters is_length is_attr =
     let attr = with_attr (value_of (codes "attr") file) letters is_attr in
     let shaped : are_properties file ≡ true = rw (is_length, attr.0) refl in
-    let facts : facts_in file ≡ record { length = n; root = hash_of file; link = has_byte letter_l letters; exec = has_byte letter_x letters; hidden = has_byte letter_h letters } = rw (is_length, attr.1) refl in
+    let facts : facts_in file ≡ record {
+      length = n;
+      root = hash_of file;
+      link = has_byte letter_l letters;
+      exec = has_byte letter_x letters;
+      hidden = has_byte letter_h letters;
+    } = rw (is_length, attr.1) refl in
     rw shaped (ap Some facts)

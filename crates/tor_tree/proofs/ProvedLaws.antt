@@ -1,5 +1,6 @@
 -- The proofs of the laws of src/laws.rt: what the crates above may cite of these proofs.
-use Rattle.std.proofs.Common.{◌≡◌, ◌+◌, ◌<◌, ◌≤◌, ◌≢◌, ◌^◌, ℕ, List, [], Less, None, Option, length, get_or, map, true, arith}
+use Rattle.std.proofs.Common.{◌≡◌, ◌+◌, ◌<◌, ◌≤◌, ◌≢◌, ◌^◌, ℕ, List, [], Less, None, Option, length, get_or, map, true}
+use Rattle.std.proofs.Common.{arith}
 use Rattle.std.specs.Cmp.{IsTotalOrder}
 use Rattle.std.specs.List.{All, AllZip}
 use Rattle.std.specs.List.Sorted.{IsPermutation, IsStrictlySortedBy}
@@ -40,7 +41,8 @@ pub file_tree_is_lawful : (names : ℕ) (files : List (List (List ℕ) × ℕ)) 
     → All (λ file. file.1 < 2 ^ 63) files → All (λ file. length file.0 ≤ names) files
     → IsLawfulWithin (names + 2) (file_tree files roots)
 file_tree_is_lawful names files roots in_order named with_roots small few =
-    lawful_tree names files roots (file_tree_of_list files roots in_order named with_roots).keys (recursion_from_All _ files small) (recursion_from_All _ files few)
+    lawful_tree names files roots (file_tree_of_list files roots in_order named with_roots).keys
+    (recursion_from_All _ files small) (recursion_from_All _ files few)
 
 pub names_not_empty : (name : List ℕ) → name_fault name ≡ None → name ≢ []
 names_not_empty = faultless_named
@@ -69,7 +71,8 @@ pub folder_before_inside : (folder path : List (List ℕ)) → is_inside folder 
 folder_before_inside = inside_after
 
 pub roots_by_place : (files : List (List (List ℕ) × ℕ)) (roots : List (Option (List ℕ))) → length roots ≡ length files
-    → ((k : ℕ) (file : List (List ℕ) × ℕ) (root : Option (List ℕ)) → k < length files → HasItsRoot (get_or files k file) (get_or roots k root))
+    → ((k : ℕ) (file : List (List ℕ) × ℕ) (root : Option (List ℕ)) → k < length files
+    → HasItsRoot (get_or files k file) (get_or roots k root))
     → AllZip HasItsRoot files roots
 roots_by_place = rooted_by_place
 
@@ -86,5 +89,6 @@ pub paths_of_read_files : (tree : Data) → tree_fault tree ≡ None
 paths_of_read_files = read_paths
 
 pub roots_of_read_files : (tree : Data) → tree_fault tree ≡ None
-    → AllZip HasItsRoot (map (λ (file : TreeFile). (file.path, file.length)) (files_of_tree tree)) (map (λ (file : TreeFile). file.root) (files_of_tree tree))
+    → AllZip HasItsRoot (map (λ (file : TreeFile). (file.path, file.length)) (files_of_tree tree))
+    (map (λ (file : TreeFile). file.root) (files_of_tree tree))
 roots_of_read_files = read_roots

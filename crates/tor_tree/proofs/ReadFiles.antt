@@ -1,10 +1,12 @@
 -- The files of a tree without fault: their paths are those of files, and each has a root just where it is not empty.
-use Rattle.std.proofs.Common.{◌≡◌, ◌==◌, ◌&&◌, ◌<◌, ℕ, Bool, true, false, not, List, [], ◌∷◌, ◌++◌, map, length, Option, None, Some, is_none, refl, arith, suc, get_or}
+use Rattle.std.proofs.Common.{◌≡◌, ◌==◌, ◌&&◌, ◌<◌, ℕ, Bool, true, false, not, List, [], ◌∷◌, ◌++◌, map, length, Option}
+use Rattle.std.proofs.Common.{None, Some, is_none, refl, arith, suc, get_or}
 use Rattle.std.specs.List.{AllByRecursion, AllZip, All, list_any}
 use Rattle.std.proofs.lemmas.Bool.{and_parts, eqb-true, eqb-false, lt-ltb, not-false, or_parts}
 use Rattle.std.proofs.lemmas.List.Elements.{All-from_recursion}
 use Rattle.tor_bencode.specs.Data.{Data, integer, string, list, dictionary, Pairs, no_pairs, pair}
-use Rattle.tor_tree.specs.FileTree.{are_entries, entries_in, entries_of, file_of, files_of_tree, has_empty_key, is_folder, lacks_root, tree_fault, tree_mixes, under}
+use Rattle.tor_tree.specs.FileTree.{are_entries, entries_in, entries_of, file_of, files_of_tree, has_empty_key}
+use Rattle.tor_tree.specs.FileTree.{is_folder, lacks_root, tree_fault, tree_mixes, under}
 use Rattle.tor_tree.specs.Name.{name_fault}
 use Rattle.tor_tree.specs.Path.{IsFilePath}
 use Rattle.tor_tree.specs.Properties.{are_properties, is_hash, length_of, pieces_root}
@@ -39,7 +41,8 @@ mutual
   names_in (pair (c ∷ cs) folder pairs) shaped =
       let here = and_parts (is_none (name_fault (c ∷ cs))) (is_folder folder && are_entries pairs) shaped in
       let later = and_parts (is_folder folder) (are_entries pairs) here.1 in
-      names_under (c ∷ cs) (entries_of folder) (entries_in pairs) (nothing_there _ here.0) (names_of folder later.0) (names_in pairs later.1)
+      names_under (c ∷ cs) (entries_of folder) (entries_in pairs) (nothing_there _ here.0) (names_of folder later.0)
+      (names_in pairs later.1)
 
 some_under : (key : List ℕ) (inside rest : List (List (List ℕ) × Data)) → HavePaths rest
     → HavePaths (under key inside ++ rest)
@@ -50,7 +53,8 @@ some_in : (pairs : Pairs) → has_empty_key pairs ≡ false → HavePaths (entri
 some_in no_pairs named = tt
 some_in (pair [] properties pairs) named = cc
 some_in (pair (c ∷ cs) folder pairs) named =
-    some_under (c ∷ cs) (entries_of folder) (entries_in pairs) (some_in pairs (or_parts (length (c ∷ cs) == 0) _ named).1)
+    some_under (c ∷ cs) (entries_of folder) (entries_in pairs)
+    (some_in pairs (or_parts (length (c ∷ cs) == 0) _ named).1)
 
 some_of : (tree : Data) → tree_mixes tree ≡ false → HavePaths (entries_of tree)
 some_of (integer n) named = tt
@@ -68,7 +72,8 @@ pub read_paths : (tree : Data) → tree_fault tree ≡ None
     → All (λ (file : TreeFile). IsFilePath file.path) (files_of_tree tree)
 read_paths tree faultless =
     let shaped = not-false _ (clear (not (is_folder tree)) _ _ faultless).0 in
-    All-from_recursion _ (files_of_tree tree) (are_paths (entries_of tree) (names_of tree shaped) (some_of tree (faultless_tree tree faultless).0))
+    All-from_recursion _ (files_of_tree tree)
+    (are_paths (entries_of tree) (names_of tree shaped) (some_of tree (faultless_tree tree faultless).0))
 
 hash_there : (root : Option (List ℕ)) → is_hash root ≡ true → (bytes : List ℕ) × (root ≡ Some bytes)
 hash_there None h = cc
@@ -88,22 +93,27 @@ root_there path properties has = by_length (length_of properties == 0) refl
         rw (e, there.1) ((λ some. lt), (λ positive. refl))
 
 roots_there : (entries : List (List (List ℕ) × Data)) → list_any lacks_root (map (λ entry. entry.1) entries) ≡ false
-    → AllZip HasItsRoot (map (λ (file : TreeFile). (file.path, file.length)) (map file_of entries)) (map (λ (file : TreeFile). file.root) (map file_of entries))
+    → AllZip HasItsRoot (map (λ (file : TreeFile). (file.path, file.length)) (map file_of entries))
+    (map (λ (file : TreeFile). file.root) (map file_of entries))
 roots_there [] has = tt
 roots_there ((path, properties) ∷ entries) has =
     let parts = or_parts (lacks_root properties) (list_any lacks_root (map (λ entry. entry.1) entries)) has in
     (root_there path properties parts.0, roots_there entries parts.1)
 
 pub read_roots : (tree : Data) → tree_fault tree ≡ None
-    → AllZip HasItsRoot (map (λ (file : TreeFile). (file.path, file.length)) (files_of_tree tree)) (map (λ (file : TreeFile). file.root) (files_of_tree tree))
+    → AllZip HasItsRoot (map (λ (file : TreeFile). (file.path, file.length)) (files_of_tree tree))
+    (map (λ (file : TreeFile). file.root) (files_of_tree tree))
 read_roots tree faultless = roots_there (entries_of tree) (faultless_tree tree faultless).1
 
 -- roots that are each at their files' places are those of the list
 pub rooted_by_place : (files : List (List (List ℕ) × ℕ)) (roots : List (Option (List ℕ))) → length roots ≡ length files
-    → ((k : ℕ) (file : List (List ℕ) × ℕ) (root : Option (List ℕ)) → k < length files → HasItsRoot (get_or files k file) (get_or roots k root))
+    → ((k : ℕ) (file : List (List ℕ) × ℕ) (root : Option (List ℕ)) → k < length files
+    → HasItsRoot (get_or files k file) (get_or roots k root))
     → AllZip HasItsRoot files roots
 rooted_by_place [] [] e each = tt
 rooted_by_place [] (root ∷ roots) e each = absurd (omega (arith, e))
 rooted_by_place (file ∷ files) [] e each = absurd (omega (arith, e))
-rooted_by_place (file ∷ files) (root ∷ roots) e each =
-    (each 0 file root (omega arith), rooted_by_place files roots (omega (arith, e)) (λ k f r lt. each (suc k) f r (omega (arith, lt))))
+rooted_by_place (file ∷ files) (root ∷ roots) e each = (
+  each 0 file root (omega arith),
+  rooted_by_place files roots (omega (arith, e)) (λ k f r lt. each (suc k) f r (omega (arith, lt))),
+)

@@ -1,5 +1,6 @@
 -- The file tree of a list has none of the faults for which a tree is refused.
-use Rattle.std.proofs.Common.{◌≡◌, ◌≢◌, ℕ, suc, zero, ◌+◌, Bool, true, false, ◌&&◌, List, [], ◌∷◌, length, map, Option, None, Some, refl, sym, ap, subst, ◌∙◌, arith}
+use Rattle.std.proofs.Common.{◌≡◌, ◌≢◌, ℕ, suc, zero, ◌+◌, Bool, true, false, ◌&&◌, List, [], ◌∷◌, length, map, Option}
+use Rattle.std.proofs.Common.{None, Some, refl, sym, ap, subst, ◌∙◌, arith}
 use Rattle.std.specs.List.{AllByRecursion, AllZip, list_any}
 use Rattle.std.proofs.lemmas.Bool.{both_ways, false_from_ne_true}
 use Rattle.std.proofs.lemmas.List.{length-map}
@@ -36,7 +37,8 @@ plain_lengths : (files : List (List (List ℕ) × ℕ)) (roots : List (Option (L
     → map (λ (file : TreeFile). file.length) (plain_files files roots) ≡ lengths_of files
 plain_lengths [] roots e = refl
 plain_lengths (file ∷ files) [] e = absurd (omega arith)
-plain_lengths (file ∷ files) (root ∷ roots) e = ap (λ lengths. file.1 ∷ lengths) (plain_lengths files roots (omega arith))
+plain_lengths (file ∷ files) (root ∷ roots) e =
+    ap (λ lengths. file.1 ∷ lengths) (plain_lengths files roots (omega arith))
 
 plain_roots : (files : List (List (List ℕ) × ℕ)) (roots : List (Option (List ℕ))) → AllByRecursion IsRoot roots
     → AllByRecursion (λ (file : TreeFile). IsRoot file.root) (plain_files files roots)
@@ -55,7 +57,8 @@ has_root path zero None properties is rooted told = rw is refl
 has_root path (suc n) None properties is rooted told = let missing = rooted.1 (omega arith) in cc
 has_root path zero (Some bytes) properties is rooted told = rw is refl
 has_root path (suc n) (Some bytes) properties is rooted told =
-    let same : file_of (path, properties) ≡ plain path (suc n) (Some bytes) = ap (λ p. file_of (path, p)) is ∙ plain_file path (suc n) (Some bytes) rooted in
+    let same : file_of (path, properties) ≡ plain path (suc n) (Some bytes) =
+    ap (λ p. file_of (path, p)) is ∙ plain_file path (suc n) (Some bytes) rooted in
     let hashed : length bytes ≡ 32 = subst (λ (file : TreeFile). IsRoot file.root) same told in
     rw (is, hashed) (and_no _)
 
@@ -83,7 +86,8 @@ apart_list files in_order flat =
     apart_from_places (paths_of files)
     (λ k lt.
     let next : suc k ≡ k + 1 = omega arith in
-    false_from_ne_true _ (λ starts. both_ways _ flat (nest_found (paths_of files) k in_order (omega (arith, lt)) (rw next at starts))))
+    false_from_ne_true _
+    (λ starts. both_ways _ flat (nest_found (paths_of files) k in_order (omega (arith, lt)) (rw next at starts))))
 
 named_paths : (files : List (List (List ℕ) × ℕ)) → AllByRecursion (λ file. IsFilePath file.0) files
     → AllByRecursion (λ file. AllByRecursion (λ name. name_fault name ≡ None) file.0) files
@@ -109,7 +113,9 @@ pub all_named : (files : List (List (List ℕ) × ℕ)) → AllByRecursion (λ f
 all_named [] are = tt
 all_named (file ∷ files) are = (path_named file.0 are.0, all_named files are.1)
 
-module _ (files : List (List (List ℕ) × ℕ)) (roots : List (Option (List ℕ))) (tree : Data) (made : IsFileTreeOf files roots tree) (lawful : IsFileList files) (with_roots : AllZip HasItsRoot files roots) where
+module _ (files : List (List (List ℕ) × ℕ)) (roots : List (Option (List ℕ))) (tree : Data)
+    (made : IsFileTreeOf files roots tree) (lawful : IsFileList files)
+    (with_roots : AllZip HasItsRoot files roots) where
   lengths_told : map length_of (properties_in tree) ≡ lengths_of files
   lengths_told =
       sym (told_lengths (entries_of tree)) ∙ ap (map (λ (file : TreeFile). file.length)) made.described
@@ -129,9 +135,24 @@ module _ (files : List (List (List ℕ) × ℕ)) (roots : List (Option (List ℕ
   readable rooted =
       let are = recursion_from_All _ files lawful.named in
       let tidy = tidy_of tree made.tidy in
-      let named : HaveNames (entries_of tree) = moved (AllByRecursion (λ name. name_fault name ≡ None)) (entries_of tree) files paths_told (named_paths files are) in
-      let some : HavePaths (entries_of tree) = moved (λ path. path ≢ []) (entries_of tree) files paths_told (some_paths files are) in
-      let apart : AreApart (paths_in (entries_of tree)) = rw paths_told (apart_list files lawful.in_order (none_inside files lawful.faultless)) in
-      let told : AllByRecursion (λ (file : TreeFile). IsRoot file.root) (map file_of (entries_of tree)) = rw made.described (plain_roots files roots rooted) in
-      rw (shaped_folder tree made.tidy named, no_negative_length (entries_of tree) tidy, same_count, some_files files lawful.faultless, lengths_told, not_too_large files lawful.faultless, no_link (entries_of tree) tidy, unmixed tree made.tidy made.keys apart some, no_missing_root (entries_of tree) tidy told)
+      let named : HaveNames (entries_of tree) = moved (AllByRecursion (λ name. name_fault name ≡ None))
+      (entries_of tree) files paths_told (named_paths files are) in
+      let some : HavePaths (entries_of tree) =
+      moved (λ path. path ≢ []) (entries_of tree) files paths_told (some_paths files are) in
+      let apart : AreApart (paths_in (entries_of tree)) =
+      rw paths_told (apart_list files lawful.in_order (none_inside files lawful.faultless)) in
+      let told : AllByRecursion (λ (file : TreeFile). IsRoot file.root) (map file_of (entries_of tree)) =
+      rw made.described (plain_roots files roots rooted) in
+      rw (
+        shaped_folder tree made.tidy named,
+        no_negative_length (entries_of tree) tidy,
+        same_count,
+        some_files files
+            lawful.faultless,
+        lengths_told,
+        not_too_large files lawful.faultless,
+        no_link (entries_of tree) tidy,
+        unmixed tree made.tidy made.keys apart some,
+        no_missing_root (entries_of tree) tidy told,
+      )
       refl

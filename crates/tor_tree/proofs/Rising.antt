@@ -1,5 +1,6 @@
 -- Lists whose elements strictly rise: from neighbours to the whole list, and how often one element is there.
-use Rattle.std.proofs.Common.{◌≡◌, ℕ, suc, ◌+◌, ◌<◌, ◌≤◌, Bool, true, false, cond, List, [], ◌∷◌, length, get_or, map, count_by, Ordering, Less, Equal, Greater, refl, ap, ◌∙◌, subst, zero-add, arith}
+use Rattle.std.proofs.Common.{◌≡◌, ℕ, suc, ◌+◌, ◌<◌, ◌≤◌, Bool, true, false, cond, List, [], ◌∷◌, length, get_or, map}
+use Rattle.std.proofs.Common.{count_by, Ordering, Less, Equal, Greater, refl, ap, ◌∙◌, subst, zero-add, arith}
 use Rattle.std.specs.Cmp.{IsTotalOrder}
 use Rattle.std.specs.Ordering.{eq_by_cmp, is_eq}
 use Rattle.std.specs.List.{AllAdjacentBelow, AllByRecursion}
@@ -25,12 +26,20 @@ unfolding IsStrictlySortedBy
 rising_from_neighbours o key [] h = tt
 rising_from_neighbours o key (x ∷ []) h = (tt, tt)
 rising_from_neighbours {X} {K} {R} o key (x ∷ y ∷ zs) h =
-    let later : IsStrictlySortedBy R (map key (y ∷ zs)) = rising_from_neighbours o key (y ∷ zs) (neighbours_tail (λ a b. R (key a) (key b) ≡ Less) x (y ∷ zs) h) in
-    let first : R (key x) (key y) ≡ Less = h 0 x (omega arith) in
-    ((first, all_weaker (λ z. R (key y) z ≡ Less) (λ z. R (key x) z ≡ Less) (λ z below. o.trans (key x) (key y) z first below) (map key zs) later.0), later)
+    let later : IsStrictlySortedBy R (map key (y ∷ zs)) =
+    rising_from_neighbours o key (y ∷ zs) (neighbours_tail (λ a b. R (key a) (key b) ≡ Less) x (y ∷ zs) h) in
+    let first : R (key x) (key y) ≡ Less = h 0 x (omega arith) in (
+      (
+        first,
+        all_weaker (λ z. R (key y) z ≡ Less) (λ z. R (key x) z ≡ Less)
+            (λ z below. o.trans (key x) (key y) z first below) (map key zs) later.0,
+      ),
+      later,
+    )
 
 -- an element that is below all others is there once, and so is each of a rising list
-module _ {K : Type 0} {R : K → K → Ordering} (o : IsTotalOrder R) {E : K → K → Bool} (ties : (x y : K) → E x y ≡ eq_by_cmp R x y) where
+module _ {K : Type 0} {R : K → K → Ordering} (o : IsTotalOrder R) {E : K → K → Bool}
+    (ties : (x y : K) → E x y ≡ eq_by_cmp R x y) where
   count_none : (p x : K) → R p x ≡ Equal → (xs : List K) → AllByRecursion (λ y. R x y ≡ Less) xs → count_by (E p) xs ≡ 0
   count_none p x e [] h = refl
   count_none p x e (y ∷ ys) h =
@@ -59,4 +68,11 @@ count_of_neighbours {X} p xs k d lt here next =
     let one : X → ℕ = λ x. cond (p x) 1 0 in
     let at_here : one (get_or xs k d) ≡ 1 = ap (λ b. cond b 1 0) here in
     let at_next : one (get_or xs (k + 1) d) ≡ 1 = ap (λ b. cond b 1 0) next in
-    omega (arith, sum_by-take-drop one xs k, sum_by-drop_more one xs k d (omega arith), sum_by-drop_more one xs (k + 1) d lt, at_here, at_next)
+    omega (
+      arith,
+      sum_by-take-drop one xs k,
+      sum_by-drop_more one xs k d (omega arith),
+      sum_by-drop_more one xs (k + 1) d lt,
+      at_here,
+      at_next,
+    )

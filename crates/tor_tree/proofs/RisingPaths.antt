@@ -59,15 +59,18 @@ sorted_both : (name : List ℕ) (inside rest : List (List (List ℕ) × Data)) �
     → ((names : List (List ℕ)) → IsBeforeAll (name ∷ names) rest) → AreSorted (under name inside ++ rest)
 unfolding IsStrictlySortedBy
 sorted_both name [] rest here later before = later
-sorted_both name (entry ∷ inside) rest here later before =
-    (before_both (name ∷ entry.0) (under name inside) rest (before_under name entry.0 inside here.0) (before entry.0), sorted_both name inside rest here.1 later before)
+sorted_both name (entry ∷ inside) rest here later before = (
+  before_both (name ∷ entry.0) (under name inside) rest (before_under name entry.0 inside here.0) (before entry.0),
+  sorted_both name inside rest here.1 later before,
+)
 
 -- the empty path comes before those of later keys
 empty_before : (pairs : Pairs) → AreRising ([] ∷ keys_of pairs) → IsBeforeAll [] (entries_in pairs)
 empty_before no_pairs rising = tt
 empty_before (pair [] properties pairs) rising = absurd (none_before_empty [] rising.0)
 empty_before (pair (c ∷ cs) folder pairs) rising =
-    before_both [] (under (c ∷ cs) (entries_of folder)) (entries_in pairs) (under_some (entries_of folder)) (empty_before pairs (rising_after [] (c ∷ cs) (keys_of pairs) rising.0 rising.1))
+    before_both [] (under (c ∷ cs) (entries_of folder)) (entries_in pairs) (under_some (entries_of folder))
+    (empty_before pairs (rising_after [] (c ∷ cs) (keys_of pairs) rising.0 rising.1))
   where
     under_some : (inside : List (List (List ℕ) × Data)) → IsBeforeAll [] (under (c ∷ cs) inside)
     under_some [] = tt
@@ -92,9 +95,11 @@ mutual
   sorted_in : (pairs : Pairs) → AreRisingPairs pairs → AreSorted (entries_in pairs)
   sorted_in no_pairs rising = none_sorted
   sorted_in (pair [] properties pairs) rising =
-      with_first properties (entries_in pairs) (empty_before pairs rising.0) (sorted_in pairs (rising_rest [] (keys_of pairs) rising.0, rising.1.1))
+      with_first properties (entries_in pairs) (empty_before pairs rising.0)
+      (sorted_in pairs (rising_rest [] (keys_of pairs) rising.0, rising.1.1))
   sorted_in (pair (c ∷ cs) folder pairs) rising =
-      sorted_both (c ∷ cs) (entries_of folder) (entries_in pairs) (sorted_of folder rising.1.0) (sorted_in pairs (rising_rest (c ∷ cs) (keys_of pairs) rising.0, rising.1.1))
+      sorted_both (c ∷ cs) (entries_of folder) (entries_in pairs) (sorted_of folder rising.1.0)
+      (sorted_in pairs (rising_rest (c ∷ cs) (keys_of pairs) rising.0, rising.1.1))
       (λ names. before_pairs (c ∷ cs) names pairs rising.0)
 
 pub paths_rise : (tree : Data) → HasRisingKeys tree

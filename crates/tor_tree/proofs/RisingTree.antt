@@ -1,5 +1,6 @@
 -- The tree of files whose paths rise has rising keys.
-use Rattle.std.proofs.Common.{◌≡◌, ◌≢◌, ℕ, Bool, true, false, cond, List, [], ◌∷◌, ◌++◌, map, Option, None, Some, Ordering, Less, Equal, Greater, refl, sym, ap, ◌∙◌, subst}
+use Rattle.std.proofs.Common.{◌≡◌, ◌≢◌, ℕ, Bool, true, false, cond, List, [], ◌∷◌, ◌++◌, map, Option, None, Some}
+use Rattle.std.proofs.Common.{Ordering, Less, Equal, Greater, refl, sym, ap, ◌∙◌, subst}
 use Rattle.std.specs.Ordering.{ordering_then, is_eq}
 use Rattle.std.specs.Cmp.Lexicographic.{texts_ties, nat_list_cmp_total}
 use Rattle.std.proofs.lemmas.Bool.{both_ways}
@@ -38,8 +39,12 @@ mutual
   first_of no_pairs tidy some = absurd (some refl)
   first_of (pair [] properties pairs) tidy some = (([], properties), entries_in pairs, refl)
   first_of (pair (c ∷ cs) folder pairs) tidy some =
-      let inner = first_in folder tidy.1 tidy.0 in
-      (((c ∷ cs) ∷ inner.0.0, inner.0.1), under (c ∷ cs) inner.1 ++ entries_in pairs, ap (λ es. under (c ∷ cs) es ++ entries_in pairs) inner.2)
+      let inner = first_in folder tidy.1 tidy.0 in (
+        ((c ∷ cs) ∷ inner.0.0, inner.0.1),
+        under (c ∷ cs) inner.1
+            ++ entries_in pairs,
+        ap (λ es. under (c ∷ cs) es ++ entries_in pairs) inner.2,
+      )
 
 module _ (name : List ℕ) (names : List (List ℕ)) where
   order_of_first : (order rest : Ordering) → (order ≡ Equal → ⊥) → ordering_then order rest ≡ Less → order ≡ Less
@@ -55,14 +60,16 @@ module _ (name : List ℕ) (names : List (List ℕ)) where
   less_key (c ∷ cs) value pairs tidy before apart =
       let first = first_in value tidy.1 tidy.0 in
       let order : ordering_then (name_cmp name (c ∷ cs)) (path_cmp names first.0.0) ≡ Less = rw first.2 at before in
-      order_of_first (name_cmp name (c ∷ cs)) (path_cmp names first.0.0) (λ e. both_ways _ apart (rw (name_is name (c ∷ cs) (texts_ties name (c ∷ cs) ∙ ap is_eq e)) (name_own (c ∷ cs)))) order
+      order_of_first (name_cmp name (c ∷ cs)) (path_cmp names first.0.0) (λ e. both_ways _ apart
+      (rw (name_is name (c ∷ cs) (texts_ties name (c ∷ cs) ∙ ap is_eq e)) (name_own (c ∷ cs)))) order
 
   pub before_inside : (inside rest : List (List (List ℕ) × Data)) → IsBefore (name ∷ names) (under name inside ++ rest)
       → IsBefore names inside
   before_inside [] rest before = tt
   before_inside (entry ∷ inside) rest before = rw (tied_itself nat_list_cmp_total name) at before
 
-module _ (names : List (List ℕ)) (put : Pairs → Pairs) (rises : (pairs : Pairs) → AreTidy pairs → AreRisingPairs pairs → IsBefore names (entries_in pairs) → AreRisingPairs (put pairs)) where
+module _ (names : List (List ℕ)) (put : Pairs → Pairs) (rises : (pairs : Pairs) → AreTidy pairs → AreRisingPairs pairs
+    → IsBefore names (entries_in pairs) → AreRisingPairs (put pairs)) where
   rising_new : (name key : List ℕ) (value : Data) (pairs : Pairs) → AreRisingPairs (pair key value pairs)
       → name_cmp name key ≡ Less → AreRisingPairs (pair name (dictionary (put no_pairs)) (pair key value pairs))
   rising_new name key value pairs rising less = ((less, rising.0), (rises no_pairs tt (tt, tt) tt, rising.1))
@@ -73,8 +80,14 @@ module _ (names : List (List ℕ)) (put : Pairs → Pairs) (rises : (pairs : Pai
       → AreRisingPairs (pair key (put_inside put value) pairs)
   rising_joined name [] value pairs named same tidy rising before = absurd (named (sym same))
   rising_joined name (c ∷ cs) (dictionary inside) pairs named same tidy rising before =
-      let here : IsBefore (name ∷ names) (under name (entries_in inside) ++ entries_in pairs) = subst (λ n. IsBefore (name ∷ names) (under n (entries_in inside) ++ entries_in pairs)) same before in
-      (rising.0, (rises inside tidy.1 rising.1.0 (before_inside name names (entries_in inside) (entries_in pairs) here), rising.1.1))
+      let here : IsBefore (name ∷ names) (under name (entries_in inside) ++ entries_in pairs) =
+      subst (λ n. IsBefore (name ∷ names) (under n (entries_in inside) ++ entries_in pairs)) same before in (
+        rising.0,
+        (
+          rises inside tidy.1 rising.1.0 (before_inside name names (entries_in inside) (entries_in pairs) here),
+          rising.1.1,
+        ),
+      )
   rising_joined name (c ∷ cs) (integer n) pairs named same tidy rising before = absurd tidy.1
   rising_joined name (c ∷ cs) (string bytes) pairs named same tidy rising before = absurd tidy.1
   rising_joined name (c ∷ cs) (list items) pairs named same tidy rising before = absurd tidy.1
@@ -85,7 +98,8 @@ module _ (names : List (List ℕ)) (put : Pairs → Pairs) (rises : (pairs : Pai
   rising_under name (pair key value pairs) named tidy rising before = by_key (name_eq key name) refl
     where
       by_key : (b : Bool) → name_eq key name ≡ b
-          → AreRisingPairs (cond b (pair key (put_inside put value) pairs) (pair name (dictionary (put no_pairs)) (pair key value pairs)))
+          → AreRisingPairs (cond b (pair key (put_inside put value) pairs)
+          (pair name (dictionary (put no_pairs)) (pair key value pairs)))
       by_key true e = rising_joined name key value pairs named (name_is key name e) tidy rising before
       by_key false e = rising_new name key value pairs rising (less_key name names key value pairs tidy before e)
 
@@ -102,7 +116,8 @@ put_first-rising [] properties named tidy_file (pair [] value pairs) tidy rising
 put_first-rising [] properties named tidy_file (pair (c ∷ cs) value pairs) tidy rising before =
     ((refl, rising.0), (rw tidy_file.2 (rising_properties tidy_file.0 tidy_file.1), rising.1))
 put_first-rising (name ∷ names) properties named tidy_file pairs tidy rising before =
-    rising_under names (put_first names properties) (put_first-rising names properties named.1 tidy_file) name pairs named.0 tidy rising before
+    rising_under names (put_first names properties)
+    (put_first-rising names properties named.1 tidy_file) name pairs named.0 tidy rising before
 
 -- the files after the first of sorted ones come after it
 pub first_after : (path : List (List ℕ)) (files : List (List (List ℕ) × Data))
@@ -115,5 +130,6 @@ pub made_rising : (files : List (List (List ℕ) × Data)) → AreReady files
 unfolding IsStrictlySortedBy
 made_rising [] ready sorted = (tt, tt)
 made_rising (file ∷ files) ready sorted =
-    put_first-rising file.0 file.1 ready.0.0 ready.0.1 (pairs_of_files files) (made_tidy files ready.1) (made_rising files ready.1 sorted.1)
+    put_first-rising file.0 file.1 ready.0.0 ready.0.1 (pairs_of_files files) (made_tidy files ready.1)
+    (made_rising files ready.1 sorted.1)
     (rw (made_entries files ready.1) (first_after file.0 files sorted.0))

@@ -22,7 +22,8 @@ names_after : (inside rest : List (List (List ℕ) × Data)) → HaveNames (insi
 names_after [] rest named = named
 names_after (entry ∷ inside) rest named = names_after inside rest named.1
 
-first_name : (key : List ℕ) (inside rest : List (List (List ℕ) × Data)) (first : List (List ℕ) × Data) (others : List (List (List ℕ) × Data))
+first_name : (key : List ℕ) (inside rest : List (List (List ℕ) × Data)) (first : List (List ℕ) × Data)
+    (others : List (List (List ℕ) × Data))
     → inside ≡ first ∷ others → HaveNames (under key inside ++ rest) → name_fault key ≡ None
 first_name key inside rest first others is named = let shown = rw is at named in shown.0.0
 
@@ -43,7 +44,12 @@ mutual
       rw (is, plain_properties n root, shaped_entries pairs tidy named.1) refl
   shaped_entries (pair (c ∷ cs) folder pairs) (some, tidy, rest_tidy) named =
       let first = first_in folder tidy some in
-      rw (first_name (c ∷ cs) (entries_of folder) (entries_in pairs) first.0 first.1 first.2 named, shaped_folder folder tidy (names_inside (c ∷ cs) (entries_of folder) (entries_in pairs) named), shaped_entries pairs rest_tidy (names_after (under (c ∷ cs) (entries_of folder)) (entries_in pairs) named))
+      rw (
+        first_name (c ∷ cs) (entries_of folder) (entries_in pairs) first.0 first.1 first.2 named,
+        shaped_folder folder
+            tidy (names_inside (c ∷ cs) (entries_of folder) (entries_in pairs) named),
+        shaped_entries pairs rest_tidy (names_after (under (c ∷ cs) (entries_of folder)) (entries_in pairs) named),
+      )
       refl
 
 plain_length : (n : ℕ) (root : Option (List ℕ)) → has_negative_length (properties_for n root) ≡ false

@@ -1,5 +1,6 @@
 -- The faults of a tree are those of the entries that were read of it.
-use Rattle.std.proofs.Common.{◌≡◌, ◌==◌, ℕ, pos, Bool, true, false, not, cond, ◌&&◌, List, [], ◌∷◌, ◌++◌, length, map, nat_lt, Option, None, Some, is_none, unwrap_or, unsigned_abs, refl, sym, ap, ◌∙◌, arith}
+use Rattle.std.proofs.Common.{◌≡◌, ◌==◌, ℕ, pos, Bool, true, false, not, cond, ◌&&◌, List, [], ◌∷◌, ◌++◌, length, map}
+use Rattle.std.proofs.Common.{nat_lt, Option, None, Some, is_none, unwrap_or, unsigned_abs, refl, sym, ap, ◌∙◌, arith}
 use Rattle.std.specs.List.{list_any, All, AllByRecursion}
 use Rattle.std.specs.Prelude.{int_lt, IsSome}
 use Rattle.std.proofs.lemmas.List.{length-map}
@@ -8,7 +9,8 @@ use Rattle.std.proofs.lemmas.List.Elements.{All-from_recursion}
 use Rattle.std.proofs.lemmas.Bool.{or_parts, lt-ltb, eqb-false, not-false}
 use Rattle.tor_bencode.specs.Data.{Data, integer, string, list, dictionary, Pairs, no_pairs, pair}
 use Rattle.tor_tree.specs.FileList.{lengths_too_large}
-use Rattle.tor_tree.specs.FileTree.{entries_of, entries_in, under, file_of, files_of_tree, has_empty_key, is_folder, lacks_root, properties_in, tree_fault, tree_mixes}
+use Rattle.tor_tree.specs.FileTree.{entries_of, entries_in, under, file_of, files_of_tree, has_empty_key, is_folder}
+use Rattle.tor_tree.specs.FileTree.{lacks_root, properties_in, tree_fault, tree_mixes}
 use Rattle.tor_tree.specs.Properties.{has_negative_length, has_letter, length_of, is_hash, pieces_root, letter_l}
 use Rattle.tor_tree.specs.Reading.{entries_fault, entry_at, file_from, hash_of, path_if_any}
 use Rattle.tor_tree.specs.declared.entries.Entry.{Entry}
@@ -33,9 +35,20 @@ pub entries_fault-tree : (tree : Data) → is_folder tree ≡ true
     → entries_fault (map (entry_at []) (entries_of tree)) (tree_mixes tree) ≡ tree_fault tree
 entries_fault-tree tree shaped =
     let files = entries_of tree in
-    let lengths : map (λ (entry : Entry). unsigned_abs entry.properties.length) (map (entry_at []) files) ≡ map length_of (properties_in tree) =
-    map-map (λ (entry : Entry). unsigned_abs entry.properties.length) (entry_at []) files ∙ sym (map-map length_of (λ (file : List (List ℕ) × Data). file.1) files) in
-    rw (shaped, alike (λ entry. int_lt entry.properties.length (pos 0)) has_negative_length (λ _. refl) files, length-map files (entry_at []), lengths, alike (λ entry. entry.properties.link) (has_letter letter_l) (λ _. refl) files, alike (λ entry. nat_lt 0 (unsigned_abs entry.properties.length) && is_none entry.properties.root) lacks_root (λ file. ap (λ b. nat_lt 0 (length_of file.1) && b) (hash_missing (pieces_root file.1))) files)
+    let lengths : map (λ (entry : Entry). unsigned_abs entry.properties.length) (map (entry_at []) files)
+    ≡ map length_of (properties_in tree) =
+    map-map (λ (entry : Entry). unsigned_abs entry.properties.length) (entry_at []) files
+    ∙ sym (map-map length_of (λ (file : List (List ℕ) × Data). file.1) files) in
+    rw (
+      shaped,
+      alike (λ entry. int_lt entry.properties.length (pos 0)) has_negative_length (λ _. refl) files,
+      length-map files (entry_at []),
+      lengths,
+      alike (λ entry. entry.properties.link) (has_letter letter_l) (λ _. refl) files,
+      alike
+          (λ entry. nat_lt 0 (unsigned_abs entry.properties.length) && is_none entry.properties.root) lacks_root
+          (λ file. ap (λ b. nat_lt 0 (length_of file.1) && b) (hash_missing (pieces_root file.1))) files,
+    )
     (rw length-map refl)
 
 -- a tree without a fault mixes no files and folders, and lacks no root
@@ -62,7 +75,8 @@ same_file (path, properties) has = rw (same_path path, same_root (length_of prop
         → cond b None (hash_of properties) ≡ cond b None (pieces_root properties)
     same_root true e = refl
     same_root false e =
-        let positive : nat_lt 0 (length_of properties) ≡ true = lt-ltb 0 (length_of properties) (omega (arith, eqb-false (length_of properties) 0 e)) in
+        let positive : nat_lt 0 (length_of properties) ≡ true =
+        lt-ltb 0 (length_of properties) (omega (arith, eqb-false (length_of properties) 0 e)) in
         let hashed : not (is_hash (pieces_root properties)) ≡ false = rw positive at has in
         rw (not-false _ hashed) refl
 
@@ -83,7 +97,8 @@ have_paths : (pairs : Pairs) → has_empty_key pairs ≡ false
     → AllByRecursion (λ (entry : Entry). IsSome entry.path) (map (entry_at []) (entries_in pairs))
 have_paths no_pairs named = tt
 have_paths (pair [] properties pairs) named = cc
-have_paths (pair (c ∷ cs) folder pairs) named = under_paths (c ∷ cs) (entries_of folder) (entries_in pairs) (have_paths pairs (or_parts (length (c ∷ cs) == 0) _ named).1)
+have_paths (pair (c ∷ cs) folder pairs) named = under_paths (c ∷ cs) (entries_of folder) (entries_in pairs)
+    (have_paths pairs (or_parts (length (c ∷ cs) == 0) _ named).1)
 
 -- where the tree has not the empty key itself, every entry has a path
 pub all_have_paths : (tree : Data) → tree_mixes tree ≡ false
@@ -95,7 +110,8 @@ all_have_paths (dictionary pairs) h =
     All-from_recursion _ _ (have_paths pairs (or_parts (has_empty_key pairs) _ h).0)
 
 -- what the entries read of a tree tell of it
-module _ (tree : Data) (shaped : is_folder tree ≡ true) (entries : List Entry) (read : entries ≡ map (entry_at []) (entries_of tree)) (mixed : Bool) (mixes : mixed ≡ tree_mixes tree) where
+module _ (tree : Data) (shaped : is_folder tree ≡ true) (entries : List Entry)
+    (read : entries ≡ map (entry_at []) (entries_of tree)) (mixed : Bool) (mixes : mixed ≡ tree_mixes tree) where
   pub fault_told : entries_fault entries mixed ≡ tree_fault tree
   fault_told = rw (read, mixes) (entries_fault-tree tree shaped)
 

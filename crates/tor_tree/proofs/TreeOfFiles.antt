@@ -1,5 +1,6 @@
 -- The files of a list, with their roots, are what their tree describes.
-use Rattle.std.proofs.Common.{◌≡◌, ◌==◌, ℕ, suc, ◌<◌, Bool, true, false, cond, List, [], ◌∷◌, length, map, Option, None, Some, refl, ap, arith}
+use Rattle.std.proofs.Common.{◌≡◌, ◌==◌, ℕ, suc, ◌<◌, Bool, true, false, cond, List, [], ◌∷◌, length, map, Option, None}
+use Rattle.std.proofs.Common.{Some, refl, ap, arith}
 use Rattle.std.specs.List.{AllByRecursion, AllZip}
 use Rattle.std.proofs.lemmas.Bool.{ne_eqb}
 use Rattle.std.proofs.lemmas.List.Elements.{recursion_from_All}
@@ -46,7 +47,8 @@ pub plain_described : (files : List (List (List ℕ) × ℕ)) (roots : List (Opt
     → AllZip HasItsRoot files roots → map file_of (with_properties files roots) ≡ plain_files files roots
 plain_described [] roots h = refl
 plain_described (file ∷ files) [] h = refl
-plain_described (file ∷ files) (root ∷ roots) h = rw (plain_file file.0 file.1 root h.0, plain_described files roots h.1) refl
+plain_described (file ∷ files) (root ∷ roots) h =
+    rw (plain_file file.0 file.1 root h.0, plain_described files roots h.1) refl
 
 pub paths_with : (files : List (List (List ℕ) × ℕ)) (roots : List (Option (List ℕ))) → length roots ≡ length files
     → map (λ file. file.0) (with_properties files roots) ≡ paths_of files
@@ -59,4 +61,5 @@ pub below_none : (files : List (List (List ℕ) × ℕ)) (roots : List (Option (
     → files_below 0 files roots ≡ with_properties files roots
 below_none [] roots = refl
 below_none (file ∷ files) [] = refl
-below_none (file ∷ files) (root ∷ roots) = ap (λ rest. (file.0, properties_for file.1 root) ∷ rest) (below_none files roots)
+below_none (file ∷ files) (root ∷ roots) =
+    ap (λ rest. (file.0, properties_for file.1 root) ∷ rest) (below_none files roots)

@@ -1,11 +1,13 @@
 -- A tidy tree with rising keys, none of whose paths begins the next, has no folder that is a file too.
-use Rattle.std.proofs.Common.{◌≡◌, ◌≢◌, ◌==◌, ◌&&◌, ℕ, suc, ◌<◌, false, List, [], ◌∷◌, ◌++◌, length, map, nat_lt, get_or, refl, ap, arith}
+use Rattle.std.proofs.Common.{◌≡◌, ◌≢◌, ◌==◌, ◌&&◌, ℕ, suc, ◌<◌, false, List, [], ◌∷◌, ◌++◌, length, map, nat_lt}
+use Rattle.std.proofs.Common.{get_or, refl, ap, arith}
 use Rattle.std.specs.List.{AllByRecursion, starts_with}
 use Rattle.std.proofs.lemmas.Bool.{ne_eqb}
 use Rattle.tor_bencode.specs.Data.{Data, integer, string, list, dictionary, Pairs, no_pairs, pair, keys_of}
 use Rattle.tor_bencode.specs.Lawful.{AreRising, HasRisingKeys}
 use Rattle.tor_tree.specs.declared.tree_file.TreeFile.{TreeFile}
-use Rattle.tor_tree.specs.FileTree.{entries_in, entries_of, file_of, entries_mix, folder_mixes, has_empty_key, tree_mixes, under}
+use Rattle.tor_tree.specs.FileTree.{entries_in, entries_of, file_of, entries_mix, folder_mixes, has_empty_key}
+use Rattle.tor_tree.specs.FileTree.{tree_mixes, under}
 use Rattle.tor_tree.specs.Path.{name_eq}
 use Rattle.tor_tree.specs.TidyTree.{AreTidy, IsTidy}
 use Rattle.tor_tree.proofs.Groups.{name_own}
@@ -82,9 +84,14 @@ mutual
       → entries_mix pairs ≡ false
   entries_unmixed no_pairs tidy rising apart = refl
   entries_unmixed (pair [] properties pairs) tidy rising apart =
-      entries_unmixed pairs tidy.1 (rising_rest [] (keys_of pairs) rising.0, rising.1.1) (apart_after (([], properties) ∷ []) (entries_in pairs) apart)
+      entries_unmixed pairs tidy.1 (rising_rest [] (keys_of pairs) rising.0, rising.1.1)
+      (apart_after (([], properties) ∷ []) (entries_in pairs) apart)
   entries_unmixed (pair (c ∷ cs) folder pairs) tidy rising apart =
-      rw (folder_unmixed folder tidy.1 rising.1.0 (apart_under (c ∷ cs) (entries_of folder) (entries_in pairs) apart), entries_unmixed pairs tidy.2 (rising_rest (c ∷ cs) (keys_of pairs) rising.0, rising.1.1) (apart_after (under (c ∷ cs) (entries_of folder)) (entries_in pairs) apart))
+      rw (
+        folder_unmixed folder tidy.1 rising.1.0 (apart_under (c ∷ cs) (entries_of folder) (entries_in pairs) apart),
+        entries_unmixed pairs tidy.2 (rising_rest (c ∷ cs) (keys_of pairs) rising.0, rising.1.1)
+            (apart_after (under (c ∷ cs) (entries_of folder)) (entries_in pairs) apart),
+      )
       refl
 
 -- no entry is the tree itself

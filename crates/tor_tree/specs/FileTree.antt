@@ -1,10 +1,12 @@
 -- File trees (BEP 52, "file tree"): dictionaries keyed by names, in which the empty key has a file's properties.
-use Rattle.std.specs.Prelude.{ℕ, ◌==◌, Bool, true, false, not, ◌&&◌, ◌||◌, List, [], ◌∷◌, ◌++◌, length, map, nat_lt, Option, None, Some, is_none, if◌then◌else◌}
+use Rattle.std.specs.Prelude.{ℕ, ◌==◌, Bool, true, false, not, ◌&&◌, ◌||◌, List, [], ◌∷◌, ◌++◌, length, map, nat_lt}
+use Rattle.std.specs.Prelude.{Option, None, Some, is_none, if◌then◌else◌}
 use Rattle.std.specs.List.{list_any}
 use Rattle.tor_bencode.specs.Data.{Data, integer, string, list, dictionary, Pairs, no_pairs, pair, keys_of}
 use Rattle.tor_tree.specs.FileList.{lengths_too_large}
 use Rattle.tor_tree.specs.Name.{name_fault}
-use Rattle.tor_tree.specs.Properties.{are_properties, has_negative_length, length_of, pieces_root, is_hash, has_letter, letter_l, letter_x, letter_h}
+use Rattle.tor_tree.specs.Properties.{are_properties, has_negative_length, length_of, pieces_root, is_hash, has_letter}
+use Rattle.tor_tree.specs.Properties.{letter_l, letter_x, letter_h}
 use Rattle.tor_tree.specs.declared.tree_file.TreeFile.{TreeFile}
 use Rattle.tor_tree.specs.declared.tree_file.TreeFault.{TreeFault}
 use Rattle.tor_tree.specs.declared.tree_file.TreeFault.TheVariants as faults

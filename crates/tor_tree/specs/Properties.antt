@@ -1,5 +1,6 @@
 -- The properties of a file in a file tree (BEP 52, "file tree"), and its attributes (BEP 47, "attr").
-use Rattle.std.specs.Prelude.{ℕ, ℤ, pos, unsigned_abs, int_lt, ◌==◌, Bool, false, ◌&&◌, ◌||◌, List, [], length, Option, None, Some, is_some, is_none, unwrap_or, codes}
+use Rattle.std.specs.Prelude.{ℕ, ℤ, pos, unsigned_abs, int_lt, ◌==◌, Bool, false, ◌&&◌, ◌||◌, List, [], length, Option}
+use Rattle.std.specs.Prelude.{None, Some, is_some, is_none, unwrap_or, codes}
 use Rattle.tor_bencode.specs.Data.{Data, integer, string, list, dictionary, no_pairs, pair}
 use Rattle.tor_bencode.specs.Find.{value_of}
 use Rattle.tor_tree.specs.Name.{has_byte}

@@ -1,8 +1,10 @@
 -- What is read of a file tree before it is judged, for the clauses of private functions.
-use Rattle.std.specs.Prelude.{pos, unsigned_abs, int_lt, ℕ, ◌==◌, ◌&&◌, map, nat_lt, Bool, List, [], ◌∷◌, ◌++◌, length, Option, None, Some, is_none, unwrap_or, if◌then◌else◌}
+use Rattle.std.specs.Prelude.{pos, unsigned_abs, int_lt, ℕ, ◌==◌, ◌&&◌, map, nat_lt, Bool, List, [], ◌∷◌, ◌++◌, length}
+use Rattle.std.specs.Prelude.{Option, None, Some, is_none, unwrap_or, if◌then◌else◌}
 use Rattle.tor_bencode.specs.Data.{Data}
 use Rattle.tor_bencode.specs.Find.{value_of}
-use Rattle.tor_tree.specs.Properties.{are_properties, signed_length, as_string, is_hash, pieces_root, has_letter, letter_l, letter_x, letter_h}
+use Rattle.tor_tree.specs.Properties.{are_properties, signed_length, as_string, is_hash, pieces_root, has_letter}
+use Rattle.tor_tree.specs.Properties.{letter_l, letter_x, letter_h}
 use Rattle.std.specs.Prelude.{codes}
 use Rattle.std.specs.List.{list_any}
 use Rattle.tor_tree.specs.FileList.{lengths_too_large}

@@ -75,7 +75,8 @@ impl Model for FileList {
 impl FileList {
     ghost use Rattle.std.specs.Prelude.{◌≡◌, ◌⊎◌, Some, None, Err, [], IfOk, IfErr, OnOk};
     ghost use Rattle.std.specs.List.Sorted.{IsPermutation};
-    ghost use Rattle.tor_tree.specs.FileList.{list_fault, lengths_fault, lengths_of, paths_fault, paths_of, IsFileList, IsInPathOrder};
+    ghost use Rattle.tor_tree.specs.FileList.{list_fault, lengths_fault, lengths_of, paths_fault, paths_of, IsFileList};
+    ghost use Rattle.tor_tree.specs.FileList.{IsInPathOrder};
     ghost use Rattle.tor_tree.specs.declared.lists.ListError.TheVariants.{Memory, NoFiles};
 
     /// The same files in the order of their paths.

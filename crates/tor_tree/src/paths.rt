@@ -2,7 +2,8 @@
 ghost use Rattle.std.specs.Prelude.{◌≡◌, Some, [], All, IfOk, MatchOption};
 ghost use Rattle.std.proofs.Common.{refl};
 ghost use Rattle.std.specs.Cmp.{partial_equiv_from_equiv, po};
-ghost use Rattle.std.specs.Cmp.Lexicographic.{lists_equiv, lists_total, lists_ties, nat_list_eq_equiv, nat_list_cmp_total, texts_ties};
+ghost use Rattle.std.specs.Cmp.Lexicographic.{lists_equiv, lists_total, lists_ties, nat_list_eq_equiv};
+ghost use Rattle.std.specs.Cmp.Lexicographic.{nat_list_cmp_total, texts_ties};
 ghost use Rattle.tor_tree.specs.Path.{IsFilePath, name_cmp, path_cmp, path_eq};
 
 use crate::names::{Name, copy_names, each_is_name};

@@ -1,5 +1,6 @@
 //! Reading a file tree (BEP 52, "file tree").
-ghost use Rattle.std.specs.Prelude.{◌≡◌, ◌⊎◌, Some, None, unsigned_abs, int_lt, pos, map, false, Err, IfOk, IfErr, OnOk, All, IsSome, IsOkUnless};
+ghost use Rattle.std.specs.Prelude.{◌≡◌, ◌⊎◌, Some, None, unsigned_abs, int_lt, pos, map, false, Err, IfOk, IfErr};
+ghost use Rattle.std.specs.Prelude.{OnOk, All, IsSome, IsOkUnless};
 ghost use Rattle.std.specs.List.{list_any};
 ghost use Rattle.tor_bencode.specs.View.{view};
 ghost use Rattle.tor_tree.specs.FileList.{lengths_too_large};

@@ -1,5 +1,6 @@
 //! Writing a file tree (BEP 52, "file tree").
-ghost use Rattle.std.specs.Prelude.{◌≡◌, ◌≤◌, ◌<◌, ◌+◌, ◌^◌, All, IfOk, OnOk, None, length, take, drop, true, false, List, ℕ, slice_index_or};
+ghost use Rattle.std.specs.Prelude.{◌≡◌, ◌≤◌, ◌<◌, ◌+◌, ◌^◌, All, IfOk, OnOk, None, length, take, drop, true, false};
+ghost use Rattle.std.specs.Prelude.{List, ℕ, slice_index_or};
 ghost use Rattle.std.specs.List.{AllZip};
 ghost use Rattle.tor_bencode.specs.Data.{pair};
 ghost use Rattle.tor_bencode.specs.View.{view, pairs_view};

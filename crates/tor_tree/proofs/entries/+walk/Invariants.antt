@@ -8,5 +8,6 @@ use Rattle.tor_tree.proofs.entries.+walk.Given as goal
 abbrev pub invariant-add_folder-loop-key : goal.invariant-add_folder-loop-key
 invariant-add_folder-loop-key l =
     (l.folder.items ≡ l.initial.folder.items)
-    × (l.entries.items ++ map (entry_at l.initial.folder.items) (entries_in (pairs_view (drop l.key-index l.key-items))) ≡ l.initial.entries.items ++ map (entry_at l.initial.folder.items) (entries_in (pairs_view l.key-items)))
+    × (l.entries.items ++ map (entry_at l.initial.folder.items) (entries_in (pairs_view (drop l.key-index l.key-items)))
+    ≡ l.initial.entries.items ++ map (entry_at l.initial.folder.items) (entries_in (pairs_view l.key-items)))
     × (are_entries (pairs_view (drop l.key-index l.key-items)) ≡ are_entries (pairs_view l.key-items))

@@ -6,5 +6,7 @@ use Rattle.tor_tree.specs.declared.lists.TheConstants.{MAX_LENGTH, MAX_TOTAL, RO
 
 abbrev pub invariant-loop-entry : goal.invariant-loop-entry
 invariant-loop-entry l =
-    (l.total ≡ sum_by (λ length. next_multiple_of length ROUNDING) (take l.entry-index (map (λ entry. unsigned_abs entry.properties.length) l.entries)))
-    × (l.total ≤ MAX_TOTAL) × (list_any (nat_lt MAX_LENGTH) (take l.entry-index (map (λ entry. unsigned_abs entry.properties.length) l.entries)) ≡ false)
+    (l.total ≡ sum_by (λ length. next_multiple_of length ROUNDING)
+    (take l.entry-index (map (λ entry. unsigned_abs entry.properties.length) l.entries)))
+    × (l.total ≤ MAX_TOTAL) × (list_any (nat_lt MAX_LENGTH)
+    (take l.entry-index (map (λ entry. unsigned_abs entry.properties.length) l.entries)) ≡ false)

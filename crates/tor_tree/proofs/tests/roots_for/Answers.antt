@@ -9,5 +9,7 @@ loop-length-preserved c =
     let file = c.loop-length-item.result in
     let files = c.args.files.now in
     let i = c.loop-length.length-index in
-    let more : take (i + 1) files ≡ take i files ++ file ∷ [] = take_more files i file (omega arith) ∙ ap (λ f. take i files ++ f ∷ []) (sym c.loop-length-item.is) in
-    rw (more, c.in_ok-push.ensures.items) (all_zipped_more HasItsRoot (take i files) c.loop-length.roots.items file c.root_for.result c.loop-length.invariant c.root_for.ensures)
+    let more : take (i + 1) files ≡ take i files ++ file ∷ [] =
+    take_more files i file (omega arith) ∙ ap (λ f. take i files ++ f ∷ []) (sym c.loop-length-item.is) in
+    rw (more, c.in_ok-push.ensures.items) (all_zipped_more HasItsRoot
+    (take i files) c.loop-length.roots.items file c.root_for.result c.loop-length.invariant c.root_for.ensures)

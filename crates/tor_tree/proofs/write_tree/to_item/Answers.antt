@@ -23,7 +23,8 @@ returns-clause-made c =
 pub returns-clause-tidy : goal.returns-clause-tidy
 returns-clause-tidy c =
     let lawful = c.files.ensures.lawful in
-    rw (returns-clause-made c) (made_file_tree c.args.list.now c.args.roots.now c.requires lawful.in_order (all_named c.args.list.now (recursion_from_All _ c.args.list.now lawful.named)))
+    rw (returns-clause-made c) (made_file_tree c.args.list.now c.args.roots.now c.requires lawful.in_order
+    (all_named c.args.list.now (recursion_from_All _ c.args.list.now lawful.named)))
 
 pub returns-clause-readable : goal.returns-clause-readable
 returns-clause-readable c =

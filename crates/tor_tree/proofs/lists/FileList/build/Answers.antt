@@ -8,21 +8,27 @@ use Rattle.tor_tree.proofs.lists.FileList.build.Goals as goal
 pub returns-in-Some-clause-refused : goal.returns-in-Some-clause-refused
 returns-in-Some-clause-refused c =
     let moved : IsPermutation c.args.files.items c.deref.result.now =
-    permutation-written_back c.args.files.len _ _ _ _ (omega arith) c.as_mut_slice.ensures.value c.sort.ensures.permutation c.deref.ensures.value in
-    inl (list_fault-permutation _ _ moved ∙ fault_of_paths c.deref.result.now c.in-Some.fault (sym c.in-Some.ensures.value))
+    permutation-written_back c.args.files.len _ _ _ _
+    (omega arith) c.as_mut_slice.ensures.value c.sort.ensures.permutation c.deref.ensures.value in
+    inl (list_fault-permutation _ _ moved
+    ∙ fault_of_paths c.deref.result.now c.in-Some.fault (sym c.in-Some.ensures.value))
 
 pub returns-clause-accepted : goal.returns-clause-accepted
 returns-clause-accepted c =
     let moved : IsPermutation c.args.files.items c.deref.result.now =
-    permutation-written_back c.args.files.len _ _ _ _ (omega arith) c.as_mut_slice.ensures.value c.sort.ensures.permutation c.deref.ensures.value in
+    permutation-written_back c.args.files.len _ _ _ _
+    (omega arith) c.as_mut_slice.ensures.value c.sort.ensures.permutation c.deref.ensures.value in
     IfOk-weaker c.of_sorted.result _ _
-    (λ list accepted. list_fault-permutation _ _ moved ∙ fault_of_lengths c.deref.result.now (sym c.in_default.ensures.value) ∙ rw c.deref.ensures.value accepted)
+    (λ list accepted. list_fault-permutation _ _ moved
+    ∙ fault_of_lengths c.deref.result.now (sym c.in_default.ensures.value) ∙ rw c.deref.ensures.value accepted)
     c.of_sorted.ensures.accepted
 
 pub returns-clause-refused : goal.returns-clause-refused
 returns-clause-refused c =
     let moved : IsPermutation c.args.files.items c.deref.result.now =
-    permutation-written_back c.args.files.len _ _ _ _ (omega arith) c.as_mut_slice.ensures.value c.sort.ensures.permutation c.deref.ensures.value in
+    permutation-written_back c.args.files.len _ _ _ _
+    (omega arith) c.as_mut_slice.ensures.value c.sort.ensures.permutation c.deref.ensures.value in
     IfErr-weaker c.of_sorted.result _ _
-    (λ fault refused. inl (list_fault-permutation _ _ moved ∙ fault_of_lengths c.deref.result.now (sym c.in_default.ensures.value) ∙ rw c.deref.ensures.value refused))
+    (λ fault refused. inl (list_fault-permutation _ _ moved
+    ∙ fault_of_lengths c.deref.result.now (sym c.in_default.ensures.value) ∙ rw c.deref.ensures.value refused))
     c.of_sorted.ensures.refused

@@ -5,7 +5,8 @@ use Rattle.tor_tree.proofs.lists.FileList.of_sorted.Goals as goal
 
 pub invariant_of-result : goal.invariant_of-result
 invariant_of-result c =
-    let small : lengths_too_large (lengths_of c.args.files.items) ≡ false = rw (← c.deref.ensures.value) (sym c.is_too_large.ensures ∙ c.if-is_too_large.false) in
+    let small : lengths_too_large (lengths_of c.args.files.items) ≡ false =
+    rw (← c.deref.ensures.value) (sym c.is_too_large.ensures ∙ c.if-is_too_large.false) in
     record {
       faultless = fault_of_lengths c.args.files.items c.requires.judged ∙ rw small refl;
       in_order = c.requires.in_order;

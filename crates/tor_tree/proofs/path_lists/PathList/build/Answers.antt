@@ -5,11 +5,17 @@ use Rattle.tor_tree.proofs.path_lists.PathList.build.Goals as goal
 
 pub paths_fault-requires-clause-some : goal.paths_fault-requires-clause-some
 paths_fault-requires-clause-some c =
-    rw c.deref.ensures.value (omega (arith, placed_count c.args.paths.items c.in_ok-entries.entries.items c.in_ok-entries.ensures.same, eqb-false _ _ (sym c.is_empty.ensures ∙ c.if-is_empty.false)))
+    rw c.deref.ensures.value (omega (
+      arith,
+      placed_count c.args.paths.items c.in_ok-entries.entries.items
+          c.in_ok-entries.ensures.same,
+      eqb-false _ _ (sym c.is_empty.ensures ∙ c.if-is_empty.false),
+    ))
 
 pub returns-in-Some-clause-refused : goal.returns-in-Some-clause-refused
 returns-in-Some-clause-refused c =
-    inl (placed_fault c.args.paths.items c.in_ok-entries.entries.items c.in_ok-entries.ensures.same ∙ sym (rw c.deref.ensures.value at c.in-Some.ensures.value))
+    inl (placed_fault c.args.paths.items c.in_ok-entries.entries.items c.in_ok-entries.ensures.same
+    ∙ sym (rw c.deref.ensures.value at c.in-Some.ensures.value))
 
 pub invariant_of-result : goal.invariant_of-result
 invariant_of-result c = record {
@@ -25,7 +31,8 @@ returns-clause-placed c =
 
 pub returns-clause-accepted : goal.returns-clause-accepted
 returns-clause-accepted c =
-    placed_fault c.args.paths.items c.in_ok-entries.entries.items c.in_ok-entries.ensures.same ∙ sym (rw c.deref.ensures.value at c.in_default.ensures.value)
+    placed_fault c.args.paths.items c.in_ok-entries.entries.items c.in_ok-entries.ensures.same
+    ∙ sym (rw c.deref.ensures.value at c.in_default.ensures.value)
 
 pub returns-clause-lawful : goal.returns-clause-lawful
 returns-clause-lawful c = invariant_of-result c
