@@ -24,8 +24,9 @@ ceil_add k p n pos = add (div_ceil n p) (div_ceil_times n p pos) where
 
 -- more needs no fewer runs
 pub ceil_mono : (n more p : ℕ) → 0 < p → n ≤ more → div_ceil n p ≤ div_ceil more p
-ceil_mono n more p pos le = mono (div_ceil n p) (div_ceil more p) (div_ceil_times n p pos) (div_ceil_times more p pos) where
-  mono : (q r : ℕ) → (n ≤ q * p) × (q * p < n + p) → (more ≤ r * p) × (r * p < more + p) → q ≤ r
-  mono q r of_n of_more =
-      let less : q < r + 1 = lt_of_mul-lt-mul_right p (omega arith) in
-      omega arith
+ceil_mono n more p pos le =
+    mono (div_ceil n p) (div_ceil more p) (div_ceil_times n p pos) (div_ceil_times more p pos) where
+      mono : (q r : ℕ) → (n ≤ q * p) × (q * p < n + p) → (more ≤ r * p) × (r * p < more + p) → q ≤ r
+      mono q r of_n of_more =
+          let less : q < r + 1 = lt_of_mul-lt-mul_right p (omega arith) in
+          omega arith

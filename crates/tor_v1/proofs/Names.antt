@@ -1,5 +1,6 @@
 -- Digits are a name without fault.
-use Rattle.std.proofs.Common.{◌≡◌, ℕ, ◌+◌, ◌%◌, ◌^◌, ◌<◌, ◌≤◌, true, false, eqb, ◌||◌, ◌&&◌, List, [], ◌∷◌, ◌++◌, length, None, codes, decimal, arith, refl, ap, ap₂, length-append}
+use Rattle.std.proofs.Common.{◌≡◌, ℕ, ◌+◌, ◌%◌, ◌^◌, ◌<◌, ◌≤◌, true, false, eqb, ◌||◌, ◌&&◌, List, [], ◌∷◌, ◌++◌}
+use Rattle.std.proofs.Common.{length, None, codes, decimal, arith, refl, ap, ap₂, length-append}
 use Rattle.std.proofs.lemmas.Bool.{ne_eqb}
 use Rattle.std.proofs.lemmas.Bool.Decides.{nat_tests}
 use Rattle.std.proofs.lemmas.Fmt.{decimal_by_steps, IsAscii-decimal}
@@ -8,7 +9,8 @@ use Rattle.std.proofs.lemmas.Str.Ascii.{IsAscii-cons, IsAscii-nil}
 use Rattle.std.specs.Str.{IsAscii, bytes_eq, is_utf8}
 use Rattle.tor_tree.specs.Name.{name_fault, has_byte}
 
-faultless : (name : List ℕ) → eqb (length name) 0 ≡ false → bytes_eq name (codes ".") ≡ false → bytes_eq name (codes "..") ≡ false
+faultless : (name : List ℕ) → eqb (length name) 0 ≡ false → bytes_eq name (codes ".") ≡ false
+    → bytes_eq name (codes "..") ≡ false
     → has_byte 47 name ≡ false → has_byte 0 name ≡ false → is_utf8 name ≡ true → name_fault name ≡ None
 faultless name some one two slash zero text = rw (some, one, two, slash, zero, text)
 
@@ -36,7 +38,10 @@ decimal-digits : (n : ℕ) → n < 2 ^ 64 → IsNumber n (decimal n)
 unfolding AreDigits
 decimal-digits = decimal_by_steps IsNumber
     (λ n lt. record { some = omega arith; digits = (omega arith, omega arith, tt) })
-    (λ n ds le is. record { some = omega (arith, length-append ds ((48 + n % 10) ∷ [])); digits = AreDigits-append ds _ is.digits (omega arith, omega arith, tt) })
+    (λ n ds le is. record {
+      some = omega (arith, length-append ds ((48 + n % 10) ∷ []));
+      digits = AreDigits-append ds _ is.digits (omega arith, omega arith, tt);
+    })
 
 number_faultless : (n : ℕ) (ds : List ℕ) → IsNumber n ds → is_utf8 ds ≡ true → name_fault ds ≡ None
 unfolding AreDigits
@@ -58,4 +63,5 @@ pad_ascii =
     (IsAscii-cons 97 (100 ∷ []) (omega arith) (IsAscii-cons 100 [] (omega arith) IsAscii-nil)))
 
 pub pad_faultless : name_fault (codes ".pad") ≡ None
-pad_faultless = faultless (codes ".pad") refl refl refl refl refl (is_utf8-from_IsUtf8 (codes ".pad") (IsUtf8-from_ascii (codes ".pad") pad_ascii))
+pad_faultless = faultless (codes ".pad") refl refl refl refl refl
+    (is_utf8-from_IsUtf8 (codes ".pad") (IsUtf8-from_ascii (codes ".pad") pad_ascii))

@@ -1,5 +1,6 @@
 -- The proofs of the laws.
-use Rattle.std.proofs.Common.{◌≡◌, ℕ, ◌+◌, ◌*◌, Bool, true, false, not, cond, List, [], ◌∷◌, ◌++◌, map, length, sum_by, slice_index_or, drop, arith, refl, ap, ap₂, ◌∙◌, sym, length-append}
+use Rattle.std.proofs.Common.{◌≡◌, ℕ, ◌+◌, ◌*◌, Bool, true, false, not, cond, List, [], ◌∷◌, ◌++◌, map, length, sum_by}
+use Rattle.std.proofs.Common.{slice_index_or, drop, arith, refl, ap, ap₂, ◌∙◌, sym, length-append}
 use Rattle.std.proofs.lemmas.List.FromFn.{length-map-range_with_len}
 use Rattle.std.proofs.lemmas.List.Sums.{sum_by-cons}
 use Rattle.std.specs.Fork.{slice_chunk}
@@ -25,18 +26,21 @@ length-sums [] = omega arith
 length-sums (piece ∷ pieces) =
     length-append (sha1 piece) (flat_map sha1 pieces) ∙ omega (arith, length-sha1 piece, length-sums pieces)
 
-pub length-piece_sums : (piece_length : ℕ) (content : List ℕ) → length (piece_sums piece_length content) ≡ 20 * div_ceil (length content) piece_length
+pub length-piece_sums : (piece_length : ℕ) (content : List ℕ)
+    → length (piece_sums piece_length content) ≡ 20 * div_ceil (length content) piece_length
 unfolding piece_sums pieces_of
 length-piece_sums piece_length content =
     length-sums (pieces_of piece_length content)
-    ∙ ap (λ n. 20 * n) (length-map-range_with_len (slice_chunk content piece_length) 0 (div_ceil (length content) piece_length))
+    ∙ ap (λ n. 20 * n)
+    (length-map-range_with_len (slice_chunk content piece_length) 0 (div_ceil (length content) piece_length))
 
 -- ---- the entries of files
 
 abbrev facts : Entry → List (List ℕ) × ℕ
 facts entry = (entry.path, entry.length)
 
-no_padding : (b : Bool) (n : ℕ) (entries : List Entry) → file_entries (cond b (pad_entry n ∷ []) [] ++ entries) ≡ file_entries entries
+no_padding : (b : Bool) (n : ℕ) (entries : List Entry)
+    → file_entries (cond b (pad_entry n ∷ []) [] ++ entries) ≡ file_entries entries
 no_padding true n entries = refl
 no_padding false n entries = refl
 
@@ -44,14 +48,16 @@ joined_files : (files : List (List (List ℕ) × ℕ)) → map facts (file_entri
 joined_files [] = refl
 joined_files (file ∷ files) = ap (λ xs. file ∷ xs) (joined_files files)
 
-aligned_files : (piece_length : ℕ) (files : List (List (List ℕ) × ℕ)) → map facts (file_entries (aligned_entries piece_length files)) ≡ files
+aligned_files : (piece_length : ℕ) (files : List (List (List ℕ) × ℕ))
+    → map facts (file_entries (aligned_entries piece_length files)) ≡ files
 unfolding aligned_entries
 aligned_files piece_length [] = refl
 aligned_files piece_length (file ∷ files) =
     ap (λ xs. file ∷ map facts xs) (no_padding _ _ (aligned_entries piece_length files))
     ∙ ap (λ xs. file ∷ xs) (aligned_files piece_length files)
 
-pub facts-v1_entries : (layout : Layout) (piece_length : ℕ) (files : List (List (List ℕ) × ℕ)) → map facts (file_entries (v1_entries layout piece_length files)) ≡ files
+pub facts-v1_entries : (layout : Layout) (piece_length : ℕ) (files : List (List (List ℕ) × ℕ))
+    → map facts (file_entries (v1_entries layout piece_length files)) ≡ files
 facts-v1_entries Joined piece_length files = joined_files files
 facts-v1_entries Aligned piece_length files = aligned_files piece_length files
 
@@ -62,12 +68,15 @@ entry_length entry = entry.length
 
 -- the first entry is of n bytes: its zeros, or the first content
 one_more : (pad : Bool) (n : ℕ) (entry : Entry) (entries : List Entry) (contents : List (List ℕ)) → entry.length ≡ n
-    → ((contents : List (List ℕ)) → AreContentsOf entries contents → length (joined_content entries contents) ≡ sum_by entry_length entries)
+    → ((contents : List (List ℕ)) → AreContentsOf entries contents
+    → length (joined_content entries contents) ≡ sum_by entry_length entries)
     → map length contents ≡ map entry_length (cond (not pad) (entry ∷ file_entries entries) (file_entries entries))
-    → length (cond pad (zeros n ++ joined_content entries contents) (slice_index_or contents 0 [] ++ joined_content entries (drop 1 contents)))
+    → length (cond pad (zeros n ++ joined_content entries contents)
+    (slice_index_or contents 0 [] ++ joined_content entries (drop 1 contents)))
     ≡ n + sum_by entry_length entries
 one_more true n entry entries contents long others fit =
-    length-append (zeros n) (joined_content entries contents) ∙ ap₂ (λ a b. a + b) (length-zeros n) (others contents fit)
+    length-append (zeros n) (joined_content entries contents)
+    ∙ ap₂ (λ a b. a + b) (length-zeros n) (others contents fit)
 one_more false n entry entries [] long others fit = cc
 one_more false n entry entries (content ∷ contents) long others fit =
     let first : length content ≡ entry.length = cc in

@@ -1,5 +1,6 @@
 -- The content of a version 1 torrent: its files, and zeros for padding, one after another (BEP 3, "info dictionary").
-use Rattle.std.specs.Prelude.{◌≡◌, ℕ, not, List, [], ◌∷◌, ◌++◌, length, map, filter, drop, slice_index_or, if◌then◌else◌}
+use Rattle.std.specs.Prelude.{◌≡◌, ℕ, not, List, [], ◌∷◌, ◌++◌, length, map, filter, drop, slice_index_or}
+use Rattle.std.specs.Prelude.{if◌then◌else◌}
 use Rattle.tor_v1.specs.declared.entry.Entry.{Entry}
 use Rattle.tor_v1.specs.Piece.{piece_sums, zeros}
 

@@ -8,4 +8,5 @@ pub faultless_name-requires : goal.faultless_name-requires
 faultless_name-requires c = pad_faultless
 
 pub faultless_name-requires-2 : goal.faultless_name-requires-2
-faultless_name-requires-2 c = ap name_fault (c.as_bytes.ensures.value ∙ c.format.ensures.text) ∙ decimal_faultless c.args.length (omega arith)
+faultless_name-requires-2 c =
+    ap name_fault (c.as_bytes.ensures.value ∙ c.format.ensures.text) ∙ decimal_faultless c.args.length (omega arith)

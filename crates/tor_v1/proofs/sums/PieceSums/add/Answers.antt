@@ -1,5 +1,6 @@
 -- each part is within what is left
-use Rattle.std.proofs.Common.{◌≡◌, ◌+◌, ◌++◌, length, arith, sym, ap, ap₂, ◌∙◌, subst, add-zero, append_assoc, take-append-drop}
+use Rattle.std.proofs.Common.{◌≡◌, ◌+◌, ◌++◌, length, arith, sym, ap, ap₂, ◌∙◌, subst, add-zero, append_assoc}
+use Rattle.std.proofs.Common.{take-append-drop}
 use Rattle.tor_v1.specs.Feeding.{HasFed}
 use Rattle.tor_v1.specs.Room.{HasRoom}
 use Rattle.tor_v1.proofs.Fed.{room_less}
@@ -17,13 +18,17 @@ parts-preserved c =
     let later = c.split_at.result.1.now in
     let taken = c.parts.invariant.fed.0 in
     let cut : part ++ later ≡ c.parts.rest.now =
-    ap₂ (λ xs ys. xs ++ ys) c.split_at.ensures.front c.split_at.ensures.back ∙ take-append-drop c.min-length.result c.parts.rest.now in
+    ap₂ (λ xs ys. xs ++ ys) c.split_at.ensures.front c.split_at.ensures.back
+    ∙ take-append-drop c.min-length.result c.parts.rest.now in
     record {
       fed = (
         taken ++ part,
         append_assoc taken part later ∙ ap (λ xs. taken ++ xs) cut ∙ c.parts.invariant.fed.1,
-        λ p before fed. subst (HasFed c.add_to_piece.new.self p) (append_assoc before taken part) (c.add_to_piece.ensures.fed p (before ++ taken) (c.parts.invariant.fed.2 p before fed)),
+        λ p before fed. subst (HasFed c.add_to_piece.new.self p) (append_assoc before taken part)
+            (c.add_to_piece.ensures.fed p (before ++ taken) (c.parts.invariant.fed.2 p before fed)),
       );
       room = λ more room. c.add_to_piece.ensures.room (length later + more)
-          (subst (HasRoom c.parts.self) (let e : length c.parts.rest.now + more ≡ length part + (length later + more) = omega (arith, c.split_at.ensures.front_len, c.split_at.ensures.back_len) in e) (c.parts.invariant.room more room));
+          (subst (HasRoom c.parts.self) (let e : length c.parts.rest.now + more ≡ length part + (length later + more) =
+          omega (arith, c.split_at.ensures.front_len, c.split_at.ensures.back_len) in e)
+          (c.parts.invariant.room more room));
     }

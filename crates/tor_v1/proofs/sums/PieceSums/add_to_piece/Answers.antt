@@ -14,4 +14,5 @@ returns-then-self-clause-room c = λ later room.
 
 pub returns-else-self-clause-fed : goal.returns-else-self-clause-fed
 returns-else-self-clause-fed c = λ p before fed.
-    adds_open c.args.self.now p before fed _ c.args.part.now refl (omega (arith, c.if-self.false, c.requires.within)) refl refl c.update.ensures
+    adds_open c.args.self.now p before fed _ c.args.part.now refl
+    (omega (arith, c.if-self.false, c.requires.within)) refl refl c.update.ensures

@@ -6,4 +6,5 @@ use Rattle.tor_v1.proofs.sums.PieceSums.feed.Goals as goal
 
 pub returns-in_err-reserve-clause-within : goal.returns-in_err-reserve-clause-within
 returns-in_err-reserve-clause-within c = λ p bytes fed le.
-    absurd (false≢true (c.in_err-reserve.ensures.there (room_within c.args.self.now p bytes fed (length c.args.part.now) le)))
+    absurd (false≢true
+    (c.in_err-reserve.ensures.there (room_within c.args.self.now p bytes fed (length c.args.part.now) le)))

@@ -16,7 +16,8 @@ pub parts-init : goal.parts-init
 parts-init c = record {
   within = omega arith;
   fed = λ p before fed.
-      let none : zeros (c.args.count - c.args.count) ≡ [] = ap zeros (let e : c.args.count - c.args.count ≡ 0 = omega arith in e) ∙ zeros-nil in
+      let none : zeros (c.args.count - c.args.count) ≡ [] =
+      ap zeros (let e : c.args.count - c.args.count ≡ 0 = omega arith in e) ∙ zeros-nil in
       subst (HasFed c.reserve.new.self p) (sym (ap (λ xs. before ++ xs) none ∙ append-nil before)) fed;
   room = c.in_ok-reserve.ensures.room;
 }
@@ -32,12 +33,17 @@ parts-preserved c =
     let fed = c.args.count - c.parts.left in
     let later = c.args.count - (c.parts.left - n) in
     let sum : fed + n ≡ later = omega (arith, c.min-length.ensures, c.parts.invariant.within) in
-    let all : zeros fed ++ c.zeros.result.now ≡ zeros later = ap (λ xs. zeros fed ++ xs) c.zeros.ensures ∙ zeros-append fed n ∙ ap zeros sum in
+    let all : zeros fed ++ c.zeros.result.now ≡ zeros later =
+    ap (λ xs. zeros fed ++ xs) c.zeros.ensures ∙ zeros-append fed n ∙ ap zeros sum in
     let long = ap length c.zeros.ensures ∙ length-zeros n in
     record {
       within = omega (arith, c.parts.invariant.within);
       fed = λ p before held.
-          let same : (before ++ zeros fed) ++ c.zeros.result.now ≡ before ++ zeros later = rw (append_assoc before (zeros fed) c.zeros.result.now, all) in
-          subst (HasFed c.add.new.self p) same (c.add.ensures.fed p (before ++ zeros fed) (c.parts.invariant.fed p before held));
-      room = c.add.ensures.room _ (subst (HasRoom c.parts.self) (let e : c.parts.left ≡ length c.zeros.result.now + (c.parts.left - n) = omega (arith, long, c.min-length.ensures) in e) c.parts.invariant.room);
+          let same : (before ++ zeros fed) ++ c.zeros.result.now ≡ before ++ zeros later =
+          rw (append_assoc before (zeros fed) c.zeros.result.now, all) in
+          subst (HasFed c.add.new.self p) same
+          (c.add.ensures.fed p (before ++ zeros fed) (c.parts.invariant.fed p before held));
+      room = c.add.ensures.room _ (subst (HasRoom c.parts.self)
+          (let e : c.parts.left ≡ length c.zeros.result.now + (c.parts.left - n) =
+          omega (arith, long, c.min-length.ensures) in e) c.parts.invariant.room);
     }
