@@ -1,5 +1,7 @@
 -- The bytes of units, file by file.
-use Rattle.std.proofs.Common.{◌≡◌, ℕ, ◌+◌, ◌-◌, ◌*◌, ◌<◌, Bool, true, false, cond, leb, min, List, [], ◌∷◌, ◌++◌, length, map, get_or, take, drop, arith, refl, ap, ap₂, ◌∙◌, sym, append-nil, inl, inr, length-drop}
+use Rattle.std.proofs.Common.{◌≡◌, ℕ, ◌+◌, ◌-◌, ◌*◌, ◌<◌, Bool, true, false, cond, leb, min, List, [], ◌∷◌, ◌++◌}
+use Rattle.std.proofs.Common.{length, map, get_or, take, drop, arith, refl, ap, ap₂, ◌∙◌, sym, append-nil, inl, inr}
+use Rattle.std.proofs.Common.{length-drop}
 use Rattle.std.proofs.lemmas.Bool.{cases_lt}
 use Rattle.std.proofs.lemmas.List.{take_min, get_or-drop, drop-drop}
 use Rattle.std.specs.List.{flat_map}
@@ -23,16 +25,20 @@ pub record AreFrom (contents : List (List ℕ)) (place : ℕ) (m : ℕ) (lengths
   pub long : length first ≡ m
   pub others : map length later ≡ lengths
 
-from_split : (contents xs : List (List ℕ)) (place m : ℕ) (lengths : List ℕ) → drop place contents ≡ xs → map length xs ≡ m ∷ lengths → AreFrom contents place m lengths
+from_split : (contents xs : List (List ℕ)) (place m : ℕ) (lengths : List ℕ) → drop place contents ≡ xs
+    → map length xs ≡ m ∷ lengths → AreFrom contents place m lengths
 from_split contents [] place m lengths split e = cc
-from_split contents (x ∷ xs) place m lengths split e = record { first = x; later = xs; split = split; long = cc; others = cc }
+from_split contents (x ∷ xs) place m lengths split e =
+    record { first = x; later = xs; split = split; long = cc; others = cc }
 
-pub from_place : (contents : List (List ℕ)) (place m : ℕ) (lengths : List ℕ) → map length (drop place contents) ≡ m ∷ lengths → AreFrom contents place m lengths
+pub from_place : (contents : List (List ℕ)) (place m : ℕ) (lengths : List ℕ)
+    → map length (drop place contents) ≡ m ∷ lengths → AreFrom contents place m lengths
 from_place contents place m lengths e = from_split contents (drop place contents) place m lengths refl e
 
 module _ (contents : List (List ℕ)) (place m : ℕ) (lengths : List ℕ) (from : AreFrom contents place m lengths) where
   pub here : get_or contents place [] ≡ from.first
-  here = ap (λ n. get_or contents n []) (let e : place ≡ place + 0 = omega arith in e) ∙ sym (get_or-drop place contents 0 []) ∙ ap (λ xs. get_or xs 0 []) from.split
+  here = ap (λ n. get_or contents n []) (let e : place ≡ place + 0 = omega arith in e)
+      ∙ sym (get_or-drop place contents 0 []) ∙ ap (λ xs. get_or xs 0 []) from.split
 
   pub after : drop (place + 1) contents ≡ from.later
   after = sym (drop-drop 1 place contents) ∙ ap (drop 1) from.split
@@ -42,32 +48,42 @@ module _ (contents : List (List ℕ)) (place m : ℕ) (lengths : List ℕ) (from
 
 -- ---- a file that is cut by itself
 
-module _ (contents : List (List ℕ)) (size place tail : ℕ) (content : List ℕ) (pos : 0 < size) (is : get_or contents place [] ≡ content) where
+module _ (contents : List (List ℕ)) (size place tail : ℕ) (content : List ℕ) (pos : 0 < size)
+    (is : get_or contents place [] ≡ content) where
   cond_zeros : (b : Bool) → zeros (cond b tail 0) ≡ cond b (zeros tail) []
   cond_zeros true = refl
   cond_zeros false = zeros-nil
 
-  pub each_unit : (k : ℕ) → k * size < length content → unit_content contents (file_unit size place (length content) tail k) ≡ run_of size content (zeros tail) k
+  pub each_unit : (k : ℕ) → k * size < length content
+      → unit_content contents (file_unit size place (length content) tail k) ≡ run_of size content (zeros tail) k
   each_unit k less =
       let left = length content - k * size in
       let rest = drop (k * size) content in
       let taken : take (min left size) (drop (k * size) (get_or contents place [])) ≡ take size rest =
       ap (λ xs. take (min left size) (drop (k * size) xs)) is
-      ∙ ap (λ n. take n rest) (let e : min left size ≡ min size (length rest) = omega (arith, length-drop (k * size) content) in e) ∙ take_min size rest in
-      ap (λ xs. xs ++ ((take (min left size) (drop (k * size) (get_or contents place [])) ++ zeros (cond (leb left size) tail 0)) ++ [])) zeros-nil
-      ∙ append-nil (take (min left size) (drop (k * size) (get_or contents place [])) ++ zeros (cond (leb left size) tail 0))
+      ∙ ap (λ n. take n rest) (let e : min left size ≡ min size (length rest) =
+      omega (arith, length-drop (k * size) content) in e) ∙ take_min size rest in
+      ap (λ xs. xs ++ ((take (min left size) (drop (k * size) (get_or contents place []))
+      ++ zeros (cond (leb left size) tail 0)) ++ [])) zeros-nil
+      ∙ append-nil (take (min left size) (drop (k * size) (get_or contents place []))
+      ++ zeros (cond (leb left size) tail 0))
       ∙ ap₂ (λ xs ys. xs ++ ys) taken (cond_zeros (leb left size))
 
-  pub file_content : (length content ≡ 0 → tail ≡ 0) → flat_map (unit_content contents) (units_of_file size place (length content) tail) ≡ content ++ zeros tail
+  pub file_content : (length content ≡ 0 → tail ≡ 0)
+      → flat_map (unit_content contents) (units_of_file size place (length content) tail) ≡ content ++ zeros tail
   file_content empty = elim (cases_lt 0 (length content)) [
-    | inl some ↦ runs_are (unit_content contents) (file_unit size place (length content) tail) size content (zeros tail) pos each_unit some
-    | inr none ↦ no_runs (unit_content contents) (file_unit size place (length content) tail) size content (zeros tail) pos each_unit (omega arith)
+    | inl some ↦ runs_are (unit_content contents) (file_unit size place (length content) tail) size content
+        (zeros tail) pos each_unit some
+    | inr none ↦ no_runs (unit_content contents) (file_unit size place (length content) tail) size content
+        (zeros tail) pos each_unit (omega arith)
         ∙ sym (ap₂ (λ xs n. xs ++ zeros n) (no_bytes content (omega arith)) (empty (omega arith)) ∙ zeros-nil)
   ] where
     no_bytes : (xs : List ℕ) → length xs ≡ 0 → xs ≡ []
     no_bytes [] e = refl
     no_bytes (x ∷ xs) e = absurd (omega (arith, e))
 
-  pub file_content_of : (m : ℕ) → length content ≡ m → (m ≡ 0 → tail ≡ 0) → flat_map (unit_content contents) (units_of_file size place m tail) ≡ content ++ zeros tail
+  pub file_content_of : (m : ℕ) → length content ≡ m → (m ≡ 0 → tail ≡ 0)
+      → flat_map (unit_content contents) (units_of_file size place m tail) ≡ content ++ zeros tail
   file_content_of m long empty =
-      ap (λ n. flat_map (unit_content contents) (units_of_file size place n tail)) (sym long) ∙ file_content (λ none. empty (sym long ∙ none))
+      ap (λ n. flat_map (unit_content contents) (units_of_file size place n tail)) (sym long)
+      ∙ file_content (λ none. empty (sym long ∙ none))

@@ -1,5 +1,7 @@
 -- Files cut each by itself, one after another.
-use Rattle.std.proofs.Common.{◌≡◌, ℕ, ◌+◌, ◌-◌, ◌<◌, ◌≤◌, Bool, true, false, cond, ltb, inl, inr, ◌||◌, List, [], ◌∷◌, ◌++◌, length, get_or, drop, count_by, sum_by, arith, refl, ap, ◌∙◌, sym, zero-add, append_assoc, append-nil}
+use Rattle.std.proofs.Common.{◌≡◌, ℕ, ◌+◌, ◌-◌, ◌<◌, ◌≤◌, Bool, true, false, cond, ltb, inl, inr, ◌||◌, List, [], ◌∷◌}
+use Rattle.std.proofs.Common.{◌++◌, length, get_or, drop, count_by, sum_by, arith, refl, ap, ◌∙◌, sym, zero-add}
+use Rattle.std.proofs.Common.{append_assoc, append-nil}
 use Rattle.std.proofs.lemmas.Bool.{lt-ltb, le-ltb, cases_lt, and_from, and_left, and_right}
 use Rattle.std.proofs.lemmas.List.{drop_all, drop_more}
 use Rattle.std.proofs.lemmas.List.Sums.{sum_by-cons}
@@ -31,25 +33,30 @@ padding : Bool → ℕ → ℕ
 padding b n = sum_by (λ (entry : Entry). entry.length) (cond b (pad_entry n ∷ []) [])
 
 -- before files with bytes, and before none
-pub zeros_before : (p m : ℕ) (later : List File) → has_bytes later ≡ true → zeros_after Hybrid p m later ≡ padding_length p m
+pub zeros_before : (p m : ℕ) (later : List File) → has_bytes later ≡ true
+    → zeros_after Hybrid p m later ≡ padding_length p m
 unfolding padding
 zeros_before p m later more =
     let n = padding_length p m in
     elim (cases_lt 0 n) [
       | inl some ↦ ap (λ b. padding b n) (and_from (ltb 0 n) (has_bytes later) (lt-ltb 0 n some) more) ∙ zero-add n
-      | inr none ↦ ap (λ b. padding b n) (and_left (ltb 0 n) (has_bytes later) (le-ltb 0 n none)) ∙ (let e : 0 ≡ n = omega arith in e)
+      | inr none ↦ ap (λ b. padding b n) (and_left (ltb 0 n) (has_bytes later) (le-ltb 0 n none))
+          ∙ (let e : 0 ≡ n = omega arith in e)
     ]
 
-pub zeros_padded : (p m : ℕ) (later : List File) → 0 < count_by is_some later → zeros_after Hybrid p m later ≡ padding_length p m
+pub zeros_padded : (p m : ℕ) (later : List File) → 0 < count_by is_some later
+    → zeros_after Hybrid p m later ≡ padding_length p m
 zeros_padded p m later more = zeros_before p m later (has_bytes-count later ∙ lt-ltb 0 (count_by is_some later) more)
 
-pub zeros_last : (kind : Kind) (p m : ℕ) (later : List File) → count_by is_some later ≤ 0 → zeros_after kind p m later ≡ 0
+pub zeros_last : (kind : Kind) (p m : ℕ) (later : List File) → count_by is_some later ≤ 0
+    → zeros_after kind p m later ≡ 0
 unfolding padding
 zeros_last V1 p m later none = refl
 zeros_last V2 p m later none = refl
 zeros_last Hybrid p m later none =
     let n = padding_length p m in
-    ap (λ b. padding b n) (and_right (ltb 0 n) (has_bytes later) (has_bytes-count later ∙ le-ltb 0 (count_by is_some later) none))
+    ap (λ b. padding b n)
+    (and_right (ltb 0 n) (has_bytes later) (has_bytes-count later ∙ le-ltb 0 (count_by is_some later) none))
 
 -- the count after a file with bytes, and after an empty one
 pub counted_some : (m old later n : ℕ) → 0 < m → old ≡ cond (ltb 0 m) 1 0 + n → later ≡ old - 1 → later ≡ n
@@ -59,7 +66,8 @@ pub counted_none : (m old later n : ℕ) → m ≤ 0 → old ≡ cond (ltb 0 m) 
 counted_none m old later n none count is = omega (arith, count ∙ ap (λ b. cond b 1 0 + n) (le-ltb 0 m none), is)
 
 -- a file whose units were added
-module _ (kind : Kind) (p size : ℕ) (files : List File) (i : ℕ) (file : File) (before all : List PlanUnit) (lt : i < length files)
+module _ (kind : Kind) (p size : ℕ) (files : List File) (i : ℕ) (file : File) (before all : List PlanUnit)
+    (lt : i < length files)
     (is : file ≡ get_or files i file) (so_far : before ++ separate_units kind p size i (drop i files) ≡ all) where
   at_file : drop i files ≡ file ∷ drop (i + 1) files
   at_file = drop_more files i file lt ∙ ap (λ x. x ∷ drop (i + 1) files) (sym is)
@@ -72,11 +80,13 @@ module _ (kind : Kind) (p size : ℕ) (files : List File) (i : ℕ) (file : File
   unfolding separate_units
   cut_next zeros same =
       append_assoc before (units_of_file size i file.1 zeros) _
-      ∙ ap (λ n. before ++ (units_of_file size i file.1 n ++ separate_units kind p size (i + 1) (drop (i + 1) files))) same
+      ∙ ap (λ n. before ++ (units_of_file size i file.1 n ++ separate_units kind p size (i + 1) (drop (i + 1) files)))
+      same
       ∙ ap (λ xs. before ++ separate_units kind p size i xs) (sym at_file) ∙ so_far
 
 -- after the last file
-pub separate-end : (kind : Kind) (p size : ℕ) (files : List File) (i : ℕ) (before all : List PlanUnit) → length files ≤ i
+pub separate-end : (kind : Kind) (p size : ℕ) (files : List File) (i : ℕ) (before all : List PlanUnit)
+    → length files ≤ i
     → before ++ separate_units kind p size i (drop i files) ≡ all → before ≡ all
 unfolding separate_units
 separate-end kind p size files i before all le so_far =

@@ -1,5 +1,6 @@
 -- The sums of pieces of joined contents.
-use Rattle.std.proofs.Common.{◌≡◌, ℕ, zero, suc, ◌+◌, ◌*◌, ◌<◌, ◌≤◌, List, [], ◌∷◌, ◌++◌, length, map, take, drop, arith, refl, ap, ap₂, ◌∙◌, sym, append_assoc, length-append, length-drop}
+use Rattle.std.proofs.Common.{◌≡◌, ℕ, zero, suc, ◌+◌, ◌*◌, ◌<◌, ◌≤◌, List, [], ◌∷◌, ◌++◌, length, map, take, drop}
+use Rattle.std.proofs.Common.{arith, refl, ap, ap₂, ◌∙◌, sym, append_assoc, length-append, length-drop}
 use Rattle.std.proofs.Math.Seq.{drop-append-add}
 use Rattle.std.proofs.lemmas.Grind.{div_ceil_times}
 use Rattle.std.proofs.lemmas.List.Concat.{flat_map-append}
@@ -11,7 +12,8 @@ use Rattle.tor_v1.specs.Piece.{pieces_of, piece_sums}
 use Rattle.tor_plan.proofs.Ranges.{ceil_is}
 
 -- numbers from the next one on
-map-next : {X : Type 0} (f g : ℕ → X) (a n : ℕ) → ((i : ℕ) → f (i + 1) ≡ g i) → map f (range_with_len (a + 1) n) ≡ map g (range_with_len a n)
+map-next : {X : Type 0} (f g : ℕ → X) (a n : ℕ) → ((i : ℕ) → f (i + 1) ≡ g i)
+    → map f (range_with_len (a + 1) n) ≡ map g (range_with_len a n)
 map-next f g a zero same = refl
 map-next f g a (suc n) same = ap₂ (λ x xs. x ∷ xs) (same a) (map-next f g (a + 1) n same)
 
@@ -22,18 +24,21 @@ module _ (p : ℕ) (pos : 0 < p) where
     more q bounds =
         let long = length-append x ys in
         let next : suc q * p ≡ q * p + p = omega arith in
-        ceil_is (length (x ++ ys)) p (suc q) (omega (arith, long, whole, next, bounds.0)) (omega (arith, long, whole, next, bounds.1))
+        ceil_is (length (x ++ ys)) p (suc q) (omega (arith, long, whole, next, bounds.0))
+        (omega (arith, long, whole, next, bounds.1))
 
   -- one whole piece, and what comes after it
   pieces_first : (x ys : List ℕ) → length x ≡ p → pieces_of p (x ++ ys) ≡ x ∷ pieces_of p ys
   unfolding pieces_of
   pieces_first x ys whole =
       let cut = slice_chunk (x ++ ys) p in
-      let first : cut 0 ≡ x = ap (λ n. take p (drop n (x ++ ys))) (let e : 0 * p ≡ 0 = omega arith in e) ∙ take_at x ys p whole in
+      let first : cut 0 ≡ x =
+      ap (λ n. take p (drop n (x ++ ys))) (let e : 0 * p ≡ 0 = omega arith in e) ∙ take_at x ys p whole in
       ap (λ n. map cut (range_with_len 0 n)) (more_pieces x ys whole)
       ∙ ap₂ (λ a b. a ∷ b) first
       (map-next cut (slice_chunk ys p) 0 (div_ceil (length ys) p)
-      (λ i. ap (take p) (ap (λ n. drop n (x ++ ys)) (let e : (i + 1) * p ≡ length x + i * p = omega (arith, whole) in e) ∙ drop-append-add x ys (i * p))))
+      (λ i. ap (take p) (ap (λ n. drop n (x ++ ys)) (let e : (i + 1) * p ≡ length x + i * p = omega (arith, whole) in e)
+      ∙ drop-append-add x ys (i * p))))
 
   pieces_nil : pieces_of p [] ≡ []
   unfolding pieces_of
@@ -48,10 +53,12 @@ module _ (p : ℕ) (pos : 0 < p) where
   no_bytes (x ∷ xs) e = absurd (omega (arith, e))
 
   -- so many whole pieces, and what comes after them
-  pieces-append : (k : ℕ) (xs ys : List ℕ) → length xs ≡ k * p → pieces_of p (xs ++ ys) ≡ pieces_of p xs ++ pieces_of p ys
+  pieces-append : (k : ℕ) (xs ys : List ℕ) → length xs ≡ k * p
+      → pieces_of p (xs ++ ys) ≡ pieces_of p xs ++ pieces_of p ys
   pieces-append zero xs ys whole =
       let none = no_bytes xs (omega (arith, whole)) in
-      ap (λ zs. pieces_of p (zs ++ ys)) none ∙ sym (ap (λ zs. pieces_of p zs ++ pieces_of p ys) none ∙ ap (λ zs. zs ++ pieces_of p ys) pieces_nil)
+      ap (λ zs. pieces_of p (zs ++ ys)) none
+      ∙ sym (ap (λ zs. pieces_of p zs ++ pieces_of p ys) none ∙ ap (λ zs. zs ++ pieces_of p ys) pieces_nil)
   pieces-append (suc k) xs ys whole =
       let x = take p xs in
       let rest = drop p xs in
@@ -63,6 +70,8 @@ module _ (p : ℕ) (pos : 0 < p) where
       ∙ pieces_first x (rest ++ ys) first ∙ ap (λ zs. x ∷ zs) (pieces-append k rest ys others)
       ∙ ap (λ zs. zs ++ pieces_of p ys) (sym (pieces_first x rest first) ∙ ap (pieces_of p) split)
 
-  pub sums-append : (k : ℕ) (xs ys : List ℕ) → length xs ≡ k * p → piece_sums p (xs ++ ys) ≡ piece_sums p xs ++ piece_sums p ys
+  pub sums-append : (k : ℕ) (xs ys : List ℕ) → length xs ≡ k * p
+      → piece_sums p (xs ++ ys) ≡ piece_sums p xs ++ piece_sums p ys
   unfolding piece_sums
-  sums-append k xs ys whole = ap (flat_map _) (pieces-append k xs ys whole) ∙ flat_map-append _ (pieces_of p xs) (pieces_of p ys)
+  sums-append k xs ys whole =
+      ap (flat_map _) (pieces-append k xs ys whole) ∙ flat_map-append _ (pieces_of p xs) (pieces_of p ys)

@@ -1,5 +1,6 @@
 -- The trees of files, one file after another.
-use Rattle.std.proofs.Common.{◌≡◌, ℕ, zero, suc, ◌+◌, ◌*◌, ◌^◌, ◌<◌, ◌≤◌, cond, ltb, leb, List, [], ◌∷◌, ◌++◌, length, get_or, drop, arith, ap, ◌∙◌, sym, append_assoc, append-nil, inl, inr, pow-suc}
+use Rattle.std.proofs.Common.{◌≡◌, ℕ, zero, suc, ◌+◌, ◌*◌, ◌^◌, ◌<◌, ◌≤◌, cond, ltb, leb, List, [], ◌∷◌, ◌++◌, length}
+use Rattle.std.proofs.Common.{get_or, drop, arith, ap, ◌∙◌, sym, append_assoc, append-nil, inl, inr, pow-suc}
 use Rattle.std.proofs.Math.Pow.{pow-lt}
 use Rattle.std.proofs.lemmas.Bool.{lt-ltb, le-ltb, le-leb, lt-leb, cases_lt, cases_order, cond-true, cond-false}
 use Rattle.std.proofs.lemmas.List.{drop_all, drop_more}
@@ -9,9 +10,12 @@ use Rattle.tor_plan.specs.Forest.{log2, unit_level, trees_from}
 
 -- ---- the binary logarithm
 
-log2_next : (n k : ℕ) → (2 ^ k ≤ suc n) × (suc n < 2 ^ suc k) → (2 ^ cond (leb (2 ^ suc k) (suc (suc n))) (suc k) k ≤ suc (suc n)) × (suc (suc n) < 2 ^ suc (cond (leb (2 ^ suc k) (suc (suc n))) (suc k) k))
+log2_next : (n k : ℕ) → (2 ^ k ≤ suc n) × (suc n < 2 ^ suc k)
+    → (2 ^ cond (leb (2 ^ suc k) (suc (suc n))) (suc k) k ≤ suc (suc n))
+    × (suc (suc n) < 2 ^ suc (cond (leb (2 ^ suc k) (suc (suc n))) (suc k) k))
 log2_next n k bounds = elim (cases_lt (suc (suc n)) (2 ^ suc k)) [
-  | inl less ↦ rw (lt-leb (2 ^ suc k) (suc (suc n)) less) (let low : 2 ^ k ≤ suc (suc n) = omega (arith, bounds) in (low, less))
+  | inl less ↦
+      rw (lt-leb (2 ^ suc k) (suc (suc n)) less) (let low : 2 ^ k ≤ suc (suc n) = omega (arith, bounds) in (low, less))
   | inr le ↦ rw (le-leb (2 ^ suc k) (suc (suc n)) le) (le, omega (arith, bounds, pow-suc 2 (suc k)))
 ]
 
@@ -32,7 +36,11 @@ log2_is (suc n) k some low high =
       | inr (inr more) ↦ absurd (omega (arith, bounds.1, low, pow-lt-le (suc (log2 (suc n))) k (omega arith)))
     ] where
       pow-lt-le : (i j : ℕ) → i ≤ j → 2 ^ i ≤ 2 ^ j
-      pow-lt-le i j le = elim (cases_lt i j) [ inl less ↦ omega (arith, pow-lt less) | inr ge ↦ let same : i ≡ j = omega arith in omega (arith, ap (λ x. 2 ^ x) same) ]
+      pow-lt-le i j le = elim (cases_lt i j) [
+        | inl less ↦ omega (arith, pow-lt less)
+        | inr ge ↦
+            let same : i ≡ j = omega arith in omega (arith, ap (λ x. 2 ^ x) same)
+      ]
 
 -- ---- the trees from a file on
 
@@ -44,11 +52,13 @@ module _ (size first : ℕ) (lengths : List ℕ) (i : ℕ) (before all : List Ru
   abbrev rest : List Run
   rest = trees_from size (first + div_ceil m size) (drop (i + 1) lengths)
 
-  from_file : trees_from size first (drop i lengths) ≡ cond (ltb 1 (div_ceil m size)) (record { first = first; count = div_ceil m size; level = unit_level size } ∷ []) [] ++ rest
+  from_file : trees_from size first (drop i lengths) ≡ cond (ltb 1 (div_ceil m size))
+      (record { first = first; count = div_ceil m size; level = unit_level size } ∷ []) [] ++ rest
   unfolding trees_from
   from_file = ap (trees_from size first) (drop_more lengths i 0 lt)
 
-  pub one_tree : (run : Run) → 1 < div_ceil m size → run ≡ record { first = first; count = div_ceil m size; level = unit_level size }
+  pub one_tree : (run : Run) → 1 < div_ceil m size
+      → run ≡ record { first = first; count = div_ceil m size; level = unit_level size }
       → (before ++ run ∷ []) ++ rest ≡ all
   one_tree run several is =
       append_assoc before (run ∷ []) rest ∙ ap (λ x. before ++ (x ∷ rest)) is

@@ -1,5 +1,6 @@
 -- The sums of pieces, unit by unit.
-use Rattle.std.proofs.Common.{◌≡◌, ℕ, zero, suc, ◌+◌, ◌-◌, ◌*◌, ◌<◌, ◌≤◌, List, [], ◌∷◌, ◌++◌, length, map, take, drop, arith, ap, ap₂, ◌∙◌, sym, append_assoc, append-nil, length-drop}
+use Rattle.std.proofs.Common.{◌≡◌, ℕ, zero, suc, ◌+◌, ◌-◌, ◌*◌, ◌<◌, ◌≤◌, List, [], ◌∷◌, ◌++◌, length, map, take, drop}
+use Rattle.std.proofs.Common.{arith, ap, ap₂, ◌∙◌, sym, append_assoc, append-nil, length-drop}
 use Rattle.std.proofs.Math.Seq.{take-add}
 use Rattle.std.proofs.lemmas.Bool.{le-leb, lt-leb, cond-true, cond-false}
 use Rattle.std.proofs.lemmas.Grind.{div_ceil_times}
@@ -21,29 +22,37 @@ module _ {X : Type 0} (f : X → List ℕ) (g : ℕ → X) (p span : ℕ) (xs ta
   abbrev sums : X → List ℕ
   sums x = piece_sums p (f x)
 
-  one_more : (k : ℕ) → flat_map sums (map g (range_with_len 0 (k + 1))) ≡ flat_map sums (map g (range_with_len 0 k)) ++ sums (g k)
+  one_more : (k : ℕ) → flat_map sums (map g (range_with_len 0 (k + 1)))
+      ≡ flat_map sums (map g (range_with_len 0 k)) ++ sums (g k)
   one_more k =
       ap (flat_map sums) (map-range_with_len_more g 0 k k (omega arith))
-      ∙ flat_map-append sums (map g (range_with_len 0 k)) (g k ∷ []) ∙ ap (λ ys. flat_map sums (map g (range_with_len 0 k)) ++ ys) (append-nil (sums (g k)))
+      ∙ flat_map-append sums (map g (range_with_len 0 k)) (g k ∷ [])
+      ∙ ap (λ ys. flat_map sums (map g (range_with_len 0 k)) ++ ys) (append-nil (sums (g k)))
 
   -- the runs before one of them have whole pieces
-  front : (k : ℕ) (ys : List ℕ) → k * size < length xs → piece_sums p (take (k * size) xs ++ ys) ≡ piece_sums p (take (k * size) xs) ++ piece_sums p ys
+  front : (k : ℕ) (ys : List ℕ) → k * size < length xs
+      → piece_sums p (take (k * size) xs ++ ys) ≡ piece_sums p (take (k * size) xs) ++ piece_sums p ys
   front k ys less =
-      sums-append p some (k * span) (take (k * size) xs) ys (length-take-le (k * size) xs (omega arith) ∙ (let e : k * size ≡ k * span * p = omega arith in e))
+      sums-append p some (k * span) (take (k * size) xs) ys
+      (length-take-le (k * size) xs (omega arith) ∙ (let e : k * size ≡ k * span * p = omega arith in e))
 
-  whole_sums : (k : ℕ) → k * size < length xs → flat_map sums (map g (range_with_len 0 k)) ≡ piece_sums p (take (k * size) xs)
-  whole_sums zero less = sym (ap (λ n. piece_sums p (take n xs)) (let e : 0 * size ≡ 0 = omega arith in e) ∙ sums_nil p some)
+  whole_sums : (k : ℕ) → k * size < length xs
+      → flat_map sums (map g (range_with_len 0 k)) ≡ piece_sums p (take (k * size) xs)
+  whole_sums zero less =
+      sym (ap (λ n. piece_sums p (take n xs)) (let e : 0 * size ≡ 0 = omega arith in e) ∙ sums_nil p some)
   whole_sums (suc k) less =
       let more : k * size + size ≡ suc k * size = omega arith in
       let here : k * size < length xs = omega (arith, more) in
       let chunk = take size (drop (k * size) xs) in
       let no_tail : f (g k) ≡ chunk =
-      each k here ∙ ap (λ ys. chunk ++ ys) (cond-false _ _ _ (lt-leb (length xs - k * size) size (omega (arith, more)))) ∙ append-nil chunk in
+      each k here ∙ ap (λ ys. chunk ++ ys) (cond-false _ _ _ (lt-leb (length xs - k * size) size (omega (arith, more))))
+      ∙ append-nil chunk in
       ap (λ n. flat_map sums (map g (range_with_len 0 n))) (let e : suc k ≡ k + 1 = omega arith in e)
       ∙ one_more k ∙ ap₂ (λ ys zs. ys ++ zs) (whole_sums k here) (ap (piece_sums p) no_tail)
       ∙ sym (front k chunk here) ∙ ap (piece_sums p) (sym (take-add (k * size) size xs) ∙ ap (λ n. take n xs) more)
 
-  with_last : (k : ℕ) → k * size < length xs → length xs ≤ (k + 1) * size → flat_map sums (map g (range_with_len 0 (k + 1))) ≡ piece_sums p (xs ++ tail)
+  with_last : (k : ℕ) → k * size < length xs → length xs ≤ (k + 1) * size
+      → flat_map sums (map g (range_with_len 0 (k + 1))) ≡ piece_sums p (xs ++ tail)
   with_last k less le =
       let rest = drop (k * size) xs in
       let last : f (g k) ≡ rest ++ tail =
@@ -51,11 +60,14 @@ module _ {X : Type 0} (f : X → List ℕ) (g : ℕ → X) (p span : ℕ) (xs ta
       (cond-true _ _ _ (le-leb (length xs - k * size) size (omega arith))) in
       one_more k ∙ ap₂ (λ ys zs. ys ++ zs) (whole_sums k less) (ap (piece_sums p) last)
       ∙ sym (front k (rest ++ tail) less)
-      ∙ ap (piece_sums p) (sym (append_assoc (take (k * size) xs) rest tail) ∙ ap (λ ys. ys ++ tail) (take-append-drop (k * size) xs))
+      ∙ ap (piece_sums p)
+      (sym (append_assoc (take (k * size) xs) rest tail) ∙ ap (λ ys. ys ++ tail) (take-append-drop (k * size) xs))
 
-  pub sums_of_runs : 0 < length xs → flat_map sums (map g (range_with_len 0 (div_ceil (length xs) size))) ≡ piece_sums p (xs ++ tail)
+  pub sums_of_runs : 0 < length xs
+      → flat_map sums (map g (range_with_len 0 (div_ceil (length xs) size))) ≡ piece_sums p (xs ++ tail)
   sums_of_runs there = at_count (div_ceil (length xs) size) (div_ceil_times (length xs) size pos) where
-    at_count : (n : ℕ) → (length xs ≤ n * size) × (n * size < length xs + size) → flat_map sums (map g (range_with_len 0 n)) ≡ piece_sums p (xs ++ tail)
+    at_count : (n : ℕ) → (length xs ≤ n * size) × (n * size < length xs + size)
+        → flat_map sums (map g (range_with_len 0 n)) ≡ piece_sums p (xs ++ tail)
     at_count zero bounds = absurd (omega (arith, bounds.0))
     at_count (suc k) bounds =
         let more : k * size + size ≡ suc k * size = omega arith in

@@ -1,6 +1,7 @@
 -- How a list of files is cut into units of work. A file is a pair of a path and a length in bytes; it is named by its
 -- place in the list.
-use Rattle.std.specs.Prelude.{ℕ, ◌+◌, ◌-◌, ◌*◌, min, max, nat_lt, nat_le, List, [], ◌∷◌, ◌++◌, map, sum_by, if◌then◌else◌}
+use Rattle.std.specs.Prelude.{ℕ, ◌+◌, ◌-◌, ◌*◌, min, max, nat_lt, nat_le, List, [], ◌∷◌, ◌++◌, map, sum_by}
+use Rattle.std.specs.Prelude.{if◌then◌else◌}
 use Rattle.std.specs.Int.{div_ceil}
 use Rattle.std.specs.List.{sum, range_with_len}
 use Rattle.tor_tree.specs.FileList.{lengths_of}

@@ -18,5 +18,6 @@ files-preserved c =
     record {
       size = c.in_ok-add_file.ensures.size ∙ c.files.invariant.size;
       cut = subst (HasCut c.add_file.new.self lengths) (sym (sum_by_more (λ x. x) lengths i 0 c.files-test.true))
-          (c.in_ok-add_file.ensures.cut lengths (sum (take i lengths)) c.files.invariant.cut (file_at lengths i c.files-test.true));
+          (c.in_ok-add_file.ensures.cut lengths (sum (take i lengths)) c.files.invariant.cut
+          (file_at lengths i c.files-test.true));
     }

@@ -18,7 +18,10 @@ units-preserved c =
       | else-left-size w ↦ w.part-is ∙ sym (cond-false _ _ _ (lt-leb left size w.if-left-size.false))
     ] in
     let unit : c.in_ok-unit_of.field-0 ≡ all n = c.in_ok-unit_of.ensures ∙
-    ap₂ (λ m z. record { zeros = 0; parts = record { file = c.args.file; start = n * size; length = m; zeros = z } ∷ [] }) c.min.ensures after in
+    ap₂ (λ m z. record {
+      zeros = 0;
+      parts = record { file = c.args.file; start = n * size; length = m; zeros = z } ∷ [];
+    }) c.min.ensures after in
     c.in_ok-push.ensures.items ∙ ap₂ (λ xs x. xs ++ x ∷ []) c.units.invariant unit
     ∙ append_assoc c.args.units.now.items (map all (range_with_len 0 n)) (all n ∷ [])
     ∙ ap (λ xs. c.args.units.now.items ++ xs) (sym (map-range_with_len_more all 0 n n (omega arith)))

@@ -11,4 +11,5 @@ returns-in-Hybrid c = λ files counted.
 pub returns-in-Hybrid-2 : goal.returns-in-Hybrid-2
 returns-in-Hybrid-2 c = λ files counted.
     c.padding_length.ensures
-    ∙ sym (ap (λ kind. zeros_after kind c.args.piece_length c.args.length files) c.in-Hybrid-2.is ∙ zeros_padded c.args.piece_length c.args.length files (omega (arith, counted, c.if-later-eq0.false)))
+    ∙ sym (ap (λ kind. zeros_after kind c.args.piece_length c.args.length files) c.in-Hybrid-2.is
+    ∙ zeros_padded c.args.piece_length c.args.length files (omega (arith, counted, c.if-later-eq0.false)))

@@ -8,7 +8,8 @@ invariant-parts l = record {
   within : l.start ≤ l.length;
   size : l.self.size ≡ l.initial.self.size;
   begins : (l.start ≡ 0) ⊎ ((l.start ≡ l.length) ⊎ (l.self.room ≡ l.self.size));
-  cut : (lengths : List ℕ) (at : ℕ) → HasCut l.initial.self lengths at → IsFileAt lengths l.place at l.length → HasCut l.self lengths (at + l.start);
+  cut : (lengths : List ℕ) (at : ℕ) → HasCut l.initial.self lengths at → IsFileAt lengths l.place at l.length
+      → HasCut l.self lengths (at + l.start);
 }
 
 abbrev pub decreases-parts : goal.decreases-parts

@@ -14,5 +14,6 @@ returns-clause-cut c = λ lengths at m cut is.
     let old = c.args.self.now in
     let full : c.args.part.length ≡ old.room = omega (arith, c.requires.within, c.if-part-self.false) in
     adds_full old lengths at m c.args.part cut is c.requires.some c.requires.bare old.some old.within
-    _ _ refl (ap (λ ps. record { zeros = 0; parts = ps }) (c.new-2.ensures ∙ ap (λ v. v.items) c.replace-parts.ensures.value ∙ c.in_ok-push.ensures.items))
+    _ _ refl (ap (λ ps. record { zeros = 0; parts = ps })
+    (c.new-2.ensures ∙ ap (λ v. v.items) c.replace-parts.ensures.value ∙ c.in_ok-push.ensures.items))
     c.in_ok-push-2.ensures.items (ap (λ v. v.items) c.replace-parts.ensures.after ∙ c.new.ensures.items) full refl

@@ -10,6 +10,8 @@ returns c = λ lengths cut.
     elim c.if-room-size.branch [
       | then-room-size+in_ok-push w ↦
           ap (λ v. v.items) w.units-is ∙ w.in_ok-push.ensures.items
-          ∙ ends_short old lengths cut old.some old.within _ w.if-room-size.true (ap (λ ps. record { zeros = 0; parts = ps }) w.new.ensures)
-      | else-room-size w ↦ ap (λ v. v.items) w.units-is ∙ ends_full old lengths cut old.some old.within (omega (arith, old.within, w.if-room-size.false))
+          ∙ ends_short old lengths cut old.some old.within _ w.if-room-size.true
+          (ap (λ ps. record { zeros = 0; parts = ps }) w.new.ensures)
+      | else-room-size w ↦ ap (λ v. v.items) w.units-is
+          ∙ ends_full old lengths cut old.some old.within (omega (arith, old.within, w.if-room-size.false))
     ]

@@ -13,9 +13,12 @@ trees_of-requires c =
       | inl is ↦ piece_of_trees c.args.kind c.args.piece_length (inl is) c.requires.pieces
       | inr is ↦ piece_of_trees c.args.kind c.args.piece_length (inr is) c.requires.pieces
     ] in
-    let whole : 16384 ≤ size = whole_blocks c.from.result c.args.piece_length (omega (arith, c.from.ensures, c.requires.span)) least in
-    let lengths : c.deref-in-V2.result.now ≡ lengths_of files = c.deref-in-V2.ensures.value ∙ c.in_ok-lengths.ensures ∙ ap lengths_of c.files-files.ensures.value in
+    let whole : 16384 ≤ size =
+    whole_blocks c.from.result c.args.piece_length (omega (arith, c.from.ensures, c.requires.span)) least in
+    let lengths : c.deref-in-V2.result.now ≡ lengths_of files =
+    c.deref-in-V2.ensures.value ∙ c.in_ok-lengths.ensures ∙ ap lengths_of c.files-files.ensures.value in
     record {
       whole = whole;
-      few = subst (λ (xs : List ℕ). sum_by (λ m. div_ceil m size) xs < 2 ^ 64) (sym lengths) (few_units files size c.files-files.ensures.lawful (omega (arith, whole)));
+      few = subst (λ (xs : List ℕ). sum_by (λ m. div_ceil m size) xs < 2 ^ 64) (sym lengths)
+          (few_units files size c.files-files.ensures.lawful (omega (arith, whole)));
     }
