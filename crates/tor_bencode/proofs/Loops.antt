@@ -2,7 +2,7 @@
 use Rattle.std.proofs.Common.{◌≡◌, ℕ, zero, suc, ◌-◌, ◌≤◌, ◌<◌, List, [], ◌∷◌, ◌++◌, length, get_or, Some, Result, Ok}
 use Rattle.std.proofs.Common.{Err, true, false, ◌==◌, refl, sym, ap, ap₂, take, drop, ◌∙◌, arith}
 use Rattle.std.proofs.lemmas.Bool.Decides.{nat_tests}
-use Rattle.std.proofs.lemmas.List.{take_all}
+use Rattle.tor_bencode.proofs.Runs.{take_rest}
 use Rattle.tor_bencode.specs.View.{view, items_view}
 use Rattle.tor_bencode.specs.declared.item.Item.{Item}
 use Rattle.tor_bencode.specs.declared.stop.Stop.{Stop}
@@ -77,20 +77,6 @@ items_go_on read front (suc fuel) (c ∷ rest) d after total some other enough s
     let one : with_items front (items_at read (suc fuel) (c ∷ rest)) ≡ with_items (items_before front (item d no_items))
     (items_at read fuel after) = rw (no_end, reads) (regroup_items front d (items_at read fuel after)) in
     (fuel, omega arith, sym one ∙ so_far)
-
-pub items_stop : (read : Read) (front : Items) (fuel : ℕ) (bytes : List ℕ) (stop : Stop) (total : Reading Items)
-    → 0 < length bytes → (get_or bytes 0 0 ≡ 101 → ⊥) → length bytes ≤ fuel → Stops stop (read bytes)
-    → with_items front (items_at read fuel bytes) ≡ total → Stops stop total
-items_stop read front fuel [] stop total some other enough stops so_far = absurd (omega arith)
-items_stop read front zero (c ∷ rest) stop total some other enough stops so_far = absurd (omega arith)
-items_stop read front (suc fuel) (c ∷ rest) stops.Memory total some other enough stops so_far = tt
-items_stop read front (suc fuel) (c ∷ rest) (stops.At fault at) total some other enough stops so_far =
-    let no_end : (c == 101) ≡ false = grind (arith, nat_tests) in
-    let one : with_items front (items_at read (suc fuel) (c ∷ rest)) ≡ Err (fault, at.now) = rw (no_end, stops) refl in
-    sym so_far ∙ one
-
-pub take_rest : (c : ℕ) (rest : List ℕ) → take (length (c ∷ rest) - 1) (drop 1 (c ∷ rest)) ≡ rest
-take_rest c rest = take_all _ rest (omega arith)
 
 pub items_end : (read : Read) (front : Items) (fuel : ℕ) (bytes : List ℕ) (total : Reading Items)
     → 0 < length bytes → get_or bytes 0 0 ≡ 101 → length bytes ≤ fuel

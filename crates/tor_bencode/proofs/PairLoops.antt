@@ -11,7 +11,8 @@ use Rattle.tor_bencode.specs.declared.stop.Stop.TheVariants as stops
 use Rattle.tor_bencode.specs.Data.{Data, Pairs, no_pairs, pair}
 use Rattle.tor_bencode.specs.steps.Reading.{◌>>=◌, Reading, Stops, pairs_at, string_at, follows}
 use Rattle.std.specs.Char.{is_ascii_digit}
-use Rattle.tor_bencode.proofs.Loops.{pairs_before, with_pairs, Read, take_rest, stops_bind}
+use Rattle.tor_bencode.proofs.Loops.{pairs_before, with_pairs, Read, stops_bind}
+use Rattle.tor_bencode.proofs.Runs.{take_rest}
 
 pub pairs_before-assoc : (a b c : Pairs) → pairs_before (pairs_before a b) c ≡ pairs_before a (pairs_before b c)
 pairs_before-assoc no_pairs b c = refl

@@ -2,7 +2,7 @@
 use Rattle.std.proofs.Common.{◌≡◌, ℕ, ◌-◌, ◌≤◌, List, [], ◌∷◌, ◌++◌, length, take, drop, true, Option, Some, None, Ok}
 use Rattle.std.proofs.Common.{refl, sym, ap, ◌∙◌, append_assoc, arith}
 use Rattle.std.specs.Ordering.{is_lt}
-use Rattle.std.proofs.lemmas.List.{take_all, append-nil}
+use Rattle.std.proofs.lemmas.List.{append-nil}
 use Rattle.tor_bencode.specs.Data.{Data, integer, string, list, dictionary, Items, no_items, item, Pairs, no_pairs}
 use Rattle.tor_bencode.specs.Data.{pair, keys_of}
 use Rattle.tor_bencode.specs.Lawful.{AreRising, IsLawfulWithin, ItemsAreLawfulWithin, PairsAreLawfulWithin}
@@ -12,6 +12,7 @@ use Rattle.tor_bencode.specs.Spelling.{signed_base_ten, spelling, string_spellin
 use Rattle.tor_bencode.proofs.Integers.{integer_at-spelling}
 use Rattle.tor_bencode.proofs.IntegersRead.{integer_spelled}
 use Rattle.tor_bencode.proofs.Lawfulness.{lawful-list, lawful-dictionary, lawful-item, lawful-pair}
+use Rattle.tor_bencode.proofs.Runs.{take_rest}
 use Rattle.tor_bencode.proofs.Loops.{items_before, pairs_before, with_items, with_pairs, items_before-assoc}
 use Rattle.tor_bencode.proofs.Loops.{items_before-no_items, with_no_items, with_no_pairs, items_go_on, items_end}
 use Rattle.tor_bencode.proofs.PairLoops.{pairs_before-assoc, pairs_before-no_pairs, pairs_go_on, pairs_end}
@@ -35,9 +36,6 @@ abbrev pub last_after : Option (List ℕ) → Pairs → Option (List ℕ)
 last_after last no_pairs = last
 last_after last (pair key d pairs) = last_after (Some key) pairs
 
-tail_of : (c : ℕ) (rest : List ℕ) → take (length (c ∷ rest) - 1) (drop 1 (c ∷ rest)) ≡ rest
-tail_of c rest = take_all _ rest (omega arith)
-
 closed : (c : ℕ) (inside rest : List ℕ) → ((c ∷ [] ++ inside) ++ 101 ∷ []) ++ rest ≡ c ∷ (inside ++ 101 ∷ rest)
 closed c inside rest = simp append_assoc
 
@@ -48,7 +46,7 @@ mutual
       ap (value_at room) (integer_spelled n rest)
       ∙ value_integer room (105 ∷ (signed_base_ten n ++ 101 ∷ rest)) (omega arith) refl
       ∙ ap (λ bs. integer_at (105 ∷ (signed_base_ten n ++ 101 ∷ rest)) bs >>= λ x. Ok (integer x.0, x.1))
-      (tail_of 105 (signed_base_ten n ++ 101 ∷ rest))
+      (take_rest 105 (signed_base_ten n ++ 101 ∷ rest))
       ∙ ap (λ r. r >>= λ x. Ok (integer x.0, x.1)) (integer_at-spelling _ n rest lawful.integers)
   value_at-spelling (string s) room rest lawful =
       let h = string-starts s rest in
@@ -66,9 +64,9 @@ mutual
       items_end (value_at (room - 1)) (items_before no_items items) read.0 (101 ∷ rest) _
       (omega arith) refl read.1 read.2 in
       let whole_list : items_at (value_at (room - 1)) (length inside) inside ≡ Ok (items, rest) =
-      sym (with_no_items _) ∙ end ∙ ap (λ bs. Ok (items, bs)) (tail_of 101 rest) in
+      sym (with_no_items _) ∙ end ∙ ap (λ bs. Ok (items, bs)) (take_rest 101 rest) in
       ap (value_at room) same ∙ value_list room (108 ∷ inside) parts.0 (omega arith) refl
-      ∙ ap (λ bs. items_at (value_at (room - 1)) (length bs) bs >>= λ x. Ok (list x.0, x.1)) (tail_of 108 inside)
+      ∙ ap (λ bs. items_at (value_at (room - 1)) (length bs) bs >>= λ x. Ok (list x.0, x.1)) (take_rest 108 inside)
       ∙ ap (λ (r : Reading Items). r >>= λ x. Ok (list x.0, x.1)) whole_list
   value_at-spelling (dictionary pairs) room rest lawful =
       let parts = (lawful-dictionary room pairs).0 lawful in
@@ -83,10 +81,10 @@ mutual
       pairs_end (value_at (room - 1)) (pairs_before no_pairs pairs) read.0 (last_after None pairs) (101 ∷ rest) _
       (omega arith) refl read.1 read.2 in
       let whole_dictionary : pairs_at (value_at (room - 1)) (length inside) None inside ≡ Ok (pairs, rest) =
-      sym (with_no_pairs _) ∙ end ∙ ap (λ bs. Ok (pairs, bs)) (tail_of 101 rest) in
+      sym (with_no_pairs _) ∙ end ∙ ap (λ bs. Ok (pairs, bs)) (take_rest 101 rest) in
       ap (value_at room) same ∙ value_dictionary room (100 ∷ inside) parts.0 (omega arith) refl
       ∙ ap (λ bs. pairs_at (value_at (room - 1)) (length bs) None bs >>= λ x. Ok (dictionary x.0, x.1))
-      (tail_of 100 inside)
+      (take_rest 100 inside)
       ∙ ap (λ (r : Reading Pairs). r >>= λ x. Ok (dictionary x.0, x.1)) whole_dictionary
 
   -- lawful items in front are read

@@ -4,7 +4,6 @@ use Rattle.std.proofs.Common.{false, ◌==◌, Option, Some, None, Ok, Err, refl
 use Rattle.std.proofs.Common.{inl, inr}
 use Rattle.std.specs.Char.{is_ascii_digit}
 use Rattle.std.proofs.lemmas.Bool.Decides.{nat_tests}
-use Rattle.std.proofs.lemmas.List.{take_all}
 use Rattle.tor_bencode.specs.Data.{Data, Items}
 use Rattle.tor_bencode.specs.Fault.{Begins, BeginsWithDigit, IsCutString, HasBadLength, IsBadValue, IsBadKey}
 use Rattle.tor_bencode.specs.Fault.{IsOutOfOrder}
@@ -19,7 +18,7 @@ use Rattle.tor_bencode.proofs.IntegersRead.{integer_spelled}
 use Rattle.tor_bencode.proofs.PairLoops.{after_key, key_here}
 use Rattle.tor_bencode.proofs.Values.{value_integer, value_string, value_empty, value_bad, value_too_deep}
 use Rattle.tor_bencode.proofs.Numerals.{digit_range}
-use Rattle.tor_bencode.proofs.Runs.{one_of_two}
+use Rattle.tor_bencode.proofs.Runs.{one_of_two, take_rest}
 use Rattle.tor_bencode.proofs.SoundPairs.{is_lt_is}
 use Rattle.tor_bencode.proofs.Spelled.{base_ten-starts, StartsWithDigit, string-starts}
 use Rattle.tor_bencode.proofs.Strings.{string_at-spelling, string_at-cut, string_at-digits, string_at-bad}
@@ -31,9 +30,6 @@ failed fault from = Err (fault, from)
 pub stops : {A B : Type 0} (r : Reading A) (f : A × List ℕ → Reading B) (fault : Fault) (from : List ℕ)
     → r ≡ failed fault from → (r >>= f) ≡ failed fault from
 stops r f fault from e = ap (λ x. x >>= f) e
-
-pub tail_of : (c : ℕ) (rest : List ℕ) → take (length (c ∷ rest) - 1) (drop 1 (c ∷ rest)) ≡ rest
-tail_of c rest = take_all _ rest (omega arith)
 
 digit_starts : (bytes : List ℕ) → BeginsWithDigit bytes → StartsWithDigit bytes
 digit_starts bytes h = subst StartsWithDigit (sym h.2) (record { some = omega arith; digit = h.3 })
@@ -57,7 +53,7 @@ integer_stops room bytes rest fault from is h =
     let some : 0 < length bytes = omega (arith, ap length is) in
     let head : get_or bytes 0 0 ≡ 105 = ap (λ bs. get_or bs 0 0) is in
     let tail : take (length bytes - 1) (drop 1 bytes) ≡ rest =
-    ap (λ bs. take (length bs - 1) (drop 1 bs)) is ∙ tail_of 105 rest in
+    ap (λ bs. take (length bs - 1) (drop 1 bs)) is ∙ take_rest 105 rest in
     value_integer room bytes some head ∙ stops _ _ fault from (ap (integer_at bytes) tail ∙ h)
 
 string_stops : (room : ℕ) (bytes : List ℕ) (fault : Fault) (from : List ℕ) → StartsWithDigit bytes

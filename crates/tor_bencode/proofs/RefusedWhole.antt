@@ -19,7 +19,8 @@ use Rattle.tor_bencode.proofs.SoundPairs.{rising_push, rising_none}
 use Rattle.tor_bencode.proofs.SoundValues.{last_key-is}
 use Rattle.tor_bencode.proofs.Spelled.{StartsWithDigit, string-starts}
 use Rattle.tor_bencode.proofs.Strings.{string_at-spelling}
-use Rattle.tor_bencode.proofs.Refused.{failed, stops, tail_of, bad_value_read, items_stopped, bad_key_read}
+use Rattle.tor_bencode.proofs.Runs.{take_rest}
+use Rattle.tor_bencode.proofs.Refused.{failed, stops, bad_value_read, items_stopped, bad_key_read}
 
 -- what stops the value of a key stops the pairs
 pair_stopped : (read : List ℕ → Reading Data) (fuel : ℕ) (last : Option (List ℕ)) (bytes key rest : List ℕ)
@@ -48,7 +49,7 @@ list_stopped : (room : ℕ) (bytes inside : List ℕ) (fault : Fault) (from : Li
 list_stopped room bytes inside fault from is h =
     let same : suc room - 1 ≡ room = omega arith in
     ap (value_at (suc room)) is ∙ value_list (suc room) (108 ∷ inside) (omega arith) (omega arith) refl
-    ∙ stops _ _ fault from (ap₂ (λ n bs. items_at (value_at n) (length bs) bs) same (tail_of 108 inside) ∙ h)
+    ∙ stops _ _ fault from (ap₂ (λ n bs. items_at (value_at n) (length bs) bs) same (take_rest 108 inside) ∙ h)
 
 dictionary_stopped : (room : ℕ) (bytes inside : List ℕ) (fault : Fault) (from : List ℕ) → bytes ≡ 100 ∷ inside
     → pairs_at (value_at room) (length inside) None inside ≡ failed fault from
@@ -56,7 +57,7 @@ dictionary_stopped : (room : ℕ) (bytes inside : List ℕ) (fault : Fault) (fro
 dictionary_stopped room bytes inside fault from is h =
     let same : suc room - 1 ≡ room = omega arith in
     ap (value_at (suc room)) is ∙ value_dictionary (suc room) (100 ∷ inside) (omega arith) (omega arith) refl
-    ∙ stops _ _ fault from (ap₂ (λ n bs. pairs_at (value_at n) (length bs) None bs) same (tail_of 100 inside) ∙ h)
+    ∙ stops _ _ fault from (ap₂ (λ n bs. pairs_at (value_at n) (length bs) None bs) same (take_rest 100 inside) ∙ h)
 
 -- after lawful pairs
 pairs_stopped : (room : ℕ) (pairs : Pairs) (rest : List ℕ) (fault : Fault) (from : List ℕ)

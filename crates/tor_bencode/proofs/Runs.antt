@@ -1,8 +1,8 @@
 -- The longest run of bytes that pass a test.
 use Rattle.std.proofs.Common.{◌≡◌, ℕ, List, [], ◌∷◌, ◌++◌, length, take, drop, Bool, true, false, cond, refl, sym, ap}
-use Rattle.std.proofs.Common.{◌∙◌, arith}
+use Rattle.std.proofs.Common.{◌∙◌, ◌-◌, arith}
 use Rattle.std.proofs.Math.Numerals.{one-add}
-use Rattle.std.proofs.lemmas.List.{take-append-drop}
+use Rattle.std.proofs.lemmas.List.{take-append-drop, take_all}
 use Rattle.std.specs.List.{list_all, prefix_len}
 use Rattle.std.proofs.lemmas.Bool.{and_parts}
 
@@ -15,8 +15,9 @@ pub one_of_two : (b : Bool) → (b ≡ true → ⊥) → b ≡ false
 one_of_two true h = absurd (h refl)
 one_of_two false h = refl
 
-pub both_true : (a b : Bool) → a ≡ true → b ≡ true → cond a b false ≡ true
-both_true a b e f = rw (e, f) refl
+-- all but the first byte
+pub take_rest : (c : ℕ) (rest : List ℕ) → take (length (c ∷ rest) - 1) (drop 1 (c ∷ rest)) ≡ rest
+take_rest c rest = take_all _ rest (omega arith)
 
 -- a run, and the byte after it that does not pass
 pub prefix_len-run : (p : ℕ → Bool) (run : List ℕ) (c : ℕ) (more : List ℕ) → list_all p run ≡ true → p c ≡ false

@@ -7,7 +7,8 @@ use Rattle.tor_bencode.specs.Data.{integer, string, list, dictionary}
 use Rattle.tor_bencode.specs.steps.Reading.{◌>>=◌, value_at, value_with, nested_at, items_at, pairs_at, string_at}
 use Rattle.tor_bencode.specs.steps.Reading.{integer_at}
 use Rattle.std.specs.Char.{is_ascii_digit}
-use Rattle.tor_bencode.proofs.Loops.{nested_at-positive, take_rest}
+use Rattle.tor_bencode.proofs.Loops.{nested_at-positive}
+use Rattle.tor_bencode.proofs.Runs.{take_rest}
 
 -- a value, by the byte that it begins with
 pub value_integer : (room : ℕ) (bytes : List ℕ) → 0 < length bytes → get_or bytes 0 0 ≡ 105

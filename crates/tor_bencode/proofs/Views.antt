@@ -7,9 +7,6 @@ use Rattle.tor_bencode.specs.declared.item.Item.{Item, Int, Bytes, List as ListI
 pub view-Int : (n : ℤ) → view (Int n) ≡ integer n
 view-Int n = search (rules, the_lemmas)
 
-pub view-Bytes : (bytes : Vec ℕ Global) → view (Bytes bytes) ≡ string bytes.items
-view-Bytes bytes = search (rules, the_lemmas)
-
 pub view-List : (items : Vec Item Global) → view (ListItem items) ≡ list (items_view items.items)
 view-List items = search (rules, the_lemmas)
 
