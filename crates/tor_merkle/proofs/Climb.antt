@@ -11,7 +11,7 @@ use Rattle.tor_merkle.proofs.Ceil.{below_from_ceil, ceil_from_below, ceil_at_mos
 use Rattle.tor_merkle.proofs.Content.{length-leaves, pieces_root-node, piece_roots-nodes, longer_than_piece}
 use Rattle.tor_merkle.proofs.Height.{height_least, height_above}
 use Rattle.tor_merkle.proofs.Levels.{length-nodes, get_or-nodes}
-use Rattle.tor_merkle.specs.Node.{node, nodes}
+use Rattle.tor_merkle.specs.steps.Node.{node, nodes}
 
 -- the height of the tree over a content
 abbrev pub tree_height : List ℕ → ℕ

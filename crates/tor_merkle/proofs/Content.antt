@@ -13,7 +13,7 @@ use Rattle.tor_merkle.specs.Subtree.{zero_leaf, zero_subtree, subtree_root, heig
 use Rattle.tor_merkle.proofs.Ceil.{ceil_at_most, ceil_from_below, ceil_ceil}
 use Rattle.tor_merkle.proofs.Height.{height_covers, height-pow}
 use Rattle.tor_merkle.proofs.Levels.{map-range_same}
-use Rattle.tor_merkle.specs.Node.{node, nodes}
+use Rattle.tor_merkle.specs.steps.Node.{node, nodes}
 use Rattle.tor_merkle.specs.Stack.{padded_subtree}
 use Rattle.tor_merkle.proofs.Node.{subtree_root-padded, subtree_root-leaf_run}
 

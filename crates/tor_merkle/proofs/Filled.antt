@@ -8,7 +8,7 @@ use Rattle.std.proofs.lemmas.List.{get_or-drop, length_push}
 use Rattle.std.proofs.lemmas.List.FromFn.{map-range_with_len_more, length-map-range_with_len}
 use Rattle.std.specs.Int.{div_ceil}
 use Rattle.std.specs.List.{range_with_len}
-use Rattle.tor_merkle.specs.Node.{node, nodes, first_nodes}
+use Rattle.tor_merkle.specs.steps.Node.{node, nodes, first_nodes}
 use Rattle.tor_merkle.specs.steps.Pieces.{filled}
 use Rattle.tor_merkle.specs.Stack.{padded_subtree, padded_root}
 use Rattle.tor_merkle.specs.Subtree.{node_of, zero_leaf, zero_subtree, height}

@@ -10,7 +10,7 @@ use Rattle.std.specs.List.{range_with_len}
 use Rattle.sha2.specs.Sha256.{sha256}
 use Rattle.tor_merkle.specs.Block.{run_at, blocks, leaves}
 use Rattle.tor_merkle.specs.Layer.{piece_roots}
-use Rattle.tor_merkle.specs.Node.{node, nodes}
+use Rattle.tor_merkle.specs.steps.Node.{node, nodes}
 use Rattle.tor_merkle.specs.Subtree.{zero_leaf}
 use Rattle.tor_merkle.proofs.Ceil.{ceil_joined, ceil_whole}
 use Rattle.tor_merkle.proofs.Content.{length-leaves, piece_roots-nodes}

@@ -7,7 +7,7 @@ use Rattle.std.proofs.lemmas.List.{length_push, drop-append-le, drop_at, drop_al
 use Rattle.std.proofs.Math.Nat.{zero-div}
 use Rattle.std.specs.List.{range_with_len}
 use Rattle.std.specs.Int.{div_ceil}
-use Rattle.tor_merkle.specs.Node.{node, nodes, first_nodes}
+use Rattle.tor_merkle.specs.steps.Node.{node, nodes, first_nodes}
 use Rattle.tor_merkle.specs.steps.Pieces.{KeepsPieces, EndsPiece, filled}
 use Rattle.tor_merkle.specs.Stack.{Subtrees, padded_subtree}
 use Rattle.tor_merkle.proofs.Ceil.{ceil_at_most}

@@ -9,7 +9,7 @@ use Rattle.std.specs.Int.{div_ceil}
 use Rattle.std.specs.List.{range_with_len}
 use Rattle.tor_merkle.specs.Subtree.{node_of, zero_subtree, level_above}
 use Rattle.tor_merkle.proofs.Ceil.{ceil_from_below, ceil_ceil, ceil-one}
-use Rattle.tor_merkle.specs.Node.{node, nodes}
+use Rattle.tor_merkle.specs.steps.Node.{node, nodes}
 use Rattle.tor_merkle.proofs.Node.{node_past}
 
 -- lists of the values of two functions are equal where the functions are

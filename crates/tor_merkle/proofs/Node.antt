@@ -7,7 +7,7 @@ use Rattle.std.proofs.lemmas.List.{get_or_past, get_or_default, get_or_append_le
 use Rattle.std.proofs.lemmas.List.{get_or-replicate, get_or-take, get_or-drop, take-take, drop-take}
 use Rattle.std.proofs.lemmas.List.{drop-drop, take_all, length-append, length-replicate}
 use Rattle.tor_merkle.specs.Block.{run_at}
-use Rattle.tor_merkle.specs.Node.{node}
+use Rattle.tor_merkle.specs.steps.Node.{node}
 use Rattle.tor_merkle.specs.Subtree.{node_of, zero_leaf, zero_subtree, subtree_root, padded}
 
 -- a node wholly past the end

@@ -3,7 +3,7 @@ use Rattle.std.proofs.Common.{◌≡◌, ℕ, suc, ◌+◌, ◌-◌, ◌*◌, �
 use Rattle.std.proofs.Common.{get_or, arith, ap, ap₂, ◌∙◌, sym, pow_pos, mul-le-mul_right, inl, inr}
 use Rattle.std.proofs.Math.Nat.{mul-div_cancel, two-pow-succ}
 use Rattle.std.proofs.lemmas.Bool.{cases_eq}
-use Rattle.tor_merkle.specs.Node.{node}
+use Rattle.tor_merkle.specs.steps.Node.{node}
 use Rattle.tor_merkle.specs.steps.Tops.{KeepsTops}
 use Rattle.tor_merkle.specs.Stack.{padded_subtree}
 use Rattle.tor_merkle.specs.Subtree.{node_of, zero_leaf, zero_subtree}

@@ -4,7 +4,7 @@ use Rattle.std.proofs.lemmas.Bool.{cases_lt, cond-true, cond-false, lt-leb, le-l
 use Rattle.std.specs.Int.{div_ceil}
 use Rattle.tor_merkle.specs.Block.{leaves}
 use Rattle.tor_merkle.specs.Layer.{pieces_root, piece_layer}
-use Rattle.tor_merkle.specs.Node.{nodes}
+use Rattle.tor_merkle.specs.steps.Node.{nodes}
 use Rattle.tor_merkle.specs.Stack.{padded_root}
 use Rattle.tor_merkle.specs.Subtree.{height}
 use Rattle.tor_merkle.proofs.Climb.{piece_layer-nodes, piece_layer-none}

@@ -4,7 +4,7 @@ use Rattle.std.proofs.Common.{get_or, set, arith, ap, ap₂, ◌∙◌, sym, pow
 use Rattle.std.proofs.Common.{get_or-set_same, length-set, get_or-set_other, mul-le-mul_right, le_trans}
 use Rattle.std.proofs.lemmas.Bool.{cases_order}
 use Rattle.std.proofs.lemmas.List.{length_push}
-use Rattle.tor_merkle.specs.Node.{node}
+use Rattle.tor_merkle.specs.steps.Node.{node}
 use Rattle.tor_merkle.specs.steps.Tops.{KeepsTops}
 use Rattle.tor_merkle.specs.Subtree.{node_of, zero_leaf}
 use Rattle.tor_merkle.proofs.Places.{div_between, same_above, none_below, power_within}

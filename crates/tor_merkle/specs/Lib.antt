@@ -1,6 +1,5 @@
 pub mod Block
 pub mod Subtree
-pub mod Node
 pub mod Layer
 pub mod Stack
 pub mod Feeding

@@ -1,3 +1,4 @@
 pub mod Tops
 pub mod Pieces
 pub mod Blocks
+pub mod Node

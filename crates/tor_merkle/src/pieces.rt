@@ -3,7 +3,7 @@
 ghost use Rattle.std.specs.Prelude.{◌≡◌, ◌+◌, ◌-◌, ◌^◌, ◌<◌, ◌≤◌, [], ◌∷◌, ◌++◌, length, OnOk};
 ghost use Rattle.std.specs.Prelude.{IsOk, nat_le, if◌then◌else◌, vec_len, vec_capacity};
 ghost use Rattle.std.specs.Int.{div_ceil};
-ghost use Rattle.tor_merkle.specs.Node.{nodes};
+ghost use Rattle.tor_merkle.specs.steps.Node.{nodes};
 ghost use Rattle.tor_merkle.specs.Stack.{padded_root};
 ghost use Rattle.tor_merkle.specs.steps.Pieces.{EndsPiece, ClosesPiece};
 

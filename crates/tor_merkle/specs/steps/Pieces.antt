@@ -1,7 +1,7 @@
 -- For the clauses of private functions alone: the leaves of a content as they come, and the hashes of the pieces that
 -- they fill.
 use Rattle.std.specs.Prelude.{◌≡◌, ℕ, ◌-◌, ◌*◌, ◌/◌, ◌^◌, ◌<◌, ◌≤◌, List, [], ◌∷◌, ◌++◌, length, drop}
-use Rattle.tor_merkle.specs.Node.{first_nodes}
+use Rattle.tor_merkle.specs.steps.Node.{first_nodes}
 use Rattle.tor_merkle.specs.Stack.{Subtrees, padded_subtree}
 
 -- the leaves so far, in pieces of 2 ^ height, and how many hashes of pieces there is room for

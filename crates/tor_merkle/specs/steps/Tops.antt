@@ -1,6 +1,6 @@
 -- For the invariant of `Stack` alone: which roots it keeps.
 use Rattle.std.specs.Prelude.{◌≡◌, ℕ, ◌-◌, ◌/◌, ◌%◌, ◌^◌, ◌≤◌, List, length, slice_index_or}
-use Rattle.tor_merkle.specs.Node.{node}
+use Rattle.tor_merkle.specs.steps.Node.{node}
 use Rattle.tor_merkle.specs.Subtree.{zero_leaf}
 
 -- what a stack keeps: where digit j of the number of hashes is 1, the root of the last 2 ^ j of those hashes

@@ -6,7 +6,7 @@ use Rattle.tor_merkle.specs.Block.{leaves}
 use Rattle.tor_merkle.specs.Subtree as S
 use Rattle.std.proofs.lemmas.Bool.{eqb-false, cases_lt}
 use Rattle.tor_merkle.proofs.Climb.{covers_less, more_levels, last_level, height_small, some_node, top_hash, layer_met}
-use Rattle.tor_merkle.specs.Node.{nodes}
+use Rattle.tor_merkle.specs.steps.Node.{nodes}
 use Rattle.tor_merkle.proofs.Levels.{nodes-zero, level_above-nodes}
 use Rattle.tor_merkle.proofs.Lengths.{length_split}
 use Rattle.tor_merkle.proofs.Power.{same_power}

@@ -2,7 +2,7 @@
 use Rattle.std.proofs.Common.{◌≡◌, ℕ, ◌-◌, ◌*◌, ◌^◌, ◌<◌, ◌≤◌, [], length}
 use Rattle.tor_merkle.specs.Block.{leaves}
 use Rattle.tor_merkle.specs.Subtree.{height}
-use Rattle.tor_merkle.specs.Node.{nodes}
+use Rattle.tor_merkle.specs.steps.Node.{nodes}
 use Rattle.tor_merkle.proofs.plain.whole.Given as goal
 
 abbrev pub invariant-levels : goal.invariant-levels

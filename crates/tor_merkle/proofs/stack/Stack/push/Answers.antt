@@ -3,7 +3,7 @@ use Rattle.std.proofs.Common.{◌≡◌, ℕ, ◌+◌, ◌*◌, ◌/◌, ◌^◌
 use Rattle.std.proofs.Common.{ap, ap₂, ◌∙◌, sym, add-one, mul_assoc, length}
 use Rattle.std.proofs.Math.Nat.{pow-succ'}
 use Rattle.std.proofs.lemmas.List.{get_or_default, get_or_push}
-use Rattle.tor_merkle.specs.Node.{node}
+use Rattle.tor_merkle.specs.steps.Node.{node}
 use Rattle.tor_merkle.specs.Subtree.{node_of, zero_leaf, zero_subtree}
 use Rattle.tor_merkle.proofs.Tops.{carry, pushed, digit_below}
 use Rattle.tor_merkle.proofs.stack.Stack.push.Goals as goal
