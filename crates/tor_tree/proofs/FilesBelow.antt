@@ -10,7 +10,7 @@ use Rattle.tor_bencode.specs.Data.{Data, dictionary, Pairs, no_pairs, pair}
 use Rattle.tor_bencode.specs.View.{view, pairs_view}
 use Rattle.tor_bencode.specs.declared.item.Item.{Item}
 use Rattle.tor_tree.specs.Name.{name_fault}
-use Rattle.tor_tree.specs.Writing.{below, files_below, has_name_at, is_first}
+use Rattle.tor_tree.specs.steps.Writing.{below, files_below, has_name_at, is_first}
 use Rattle.tor_tree.specs.WrittenTree.{pairs_of_files}
 use Rattle.tor_tree.proofs.Groups.{name_own, pair_of_group}
 

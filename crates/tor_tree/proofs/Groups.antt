@@ -7,7 +7,7 @@ use Rattle.std.proofs.lemmas.Slice.Eq.{bytes_eq-Decides}
 use Rattle.std.specs.List.{AllByRecursion}
 use Rattle.tor_bencode.specs.Data.{Data, dictionary, Pairs, no_pairs, pair}
 use Rattle.tor_tree.specs.Path.{name_eq}
-use Rattle.tor_tree.specs.Writing.{below, is_first}
+use Rattle.tor_tree.specs.steps.Writing.{below, is_first}
 use Rattle.tor_tree.specs.WrittenTree.{pairs_of_files, put_first, put_under, put_inside}
 
 pub name_is : (m n : List ℕ) → name_eq m n ≡ true → m ≡ n

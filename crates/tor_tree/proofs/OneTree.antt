@@ -8,7 +8,7 @@ use Rattle.tor_bencode.specs.Lawful.{AreRising, HasRisingKeys}
 use Rattle.tor_tree.specs.FileTree.{entries_in, entries_of, file_of, under}
 use Rattle.tor_tree.specs.Path.{name_cmp, name_eq}
 use Rattle.tor_tree.specs.TidyTree.{AreTidy, IsTidy, IsTidyFile, IsFileTreeOf}
-use Rattle.tor_tree.specs.Writing.{below, is_first}
+use Rattle.tor_tree.specs.steps.Writing.{below, is_first}
 use Rattle.tor_tree.specs.WrittenTree.{pairs_of_files}
 use Rattle.tor_tree.proofs.Groups.{name_own, pairs_of_group}
 use Rattle.tor_tree.proofs.RisingTree.{AreRisingPairs, first_in}

@@ -11,7 +11,7 @@ use Rattle.tor_tree.specs.Name.{name_fault}
 use Rattle.tor_tree.specs.Properties.{length_of, properties_for}
 use Rattle.tor_tree.specs.TidyTree.{HasItsRoot, IsFileTreeOf, plain_files}
 use Rattle.tor_tree.specs.Path.{HasNames, IsFilePath}
-use Rattle.tor_tree.specs.Writing.{IsRoot}
+use Rattle.tor_tree.specs.steps.Writing.{IsRoot}
 use Rattle.tor_tree.specs.declared.tree_file.TreeFile.{TreeFile}
 use Rattle.tor_tree.proofs.FilesBelow.{faultless_named}
 use Rattle.tor_tree.proofs.ListFaults.{none_inside, not_too_large, some_files}

@@ -10,7 +10,7 @@ use Rattle.tor_tree.specs.Properties.{properties_for}
 use Rattle.tor_tree.specs.TidyTree.{HasItsRoot, plain_files}
 use Rattle.tor_tree.specs.declared.tree_file.TreeFile.{TreeFile}
 use Rattle.tor_tree.specs.Path.{HasNames}
-use Rattle.tor_tree.specs.Writing.{files_below}
+use Rattle.tor_tree.specs.steps.Writing.{files_below}
 use Rattle.tor_tree.specs.WrittenTree.{with_properties}
 use Rattle.tor_tree.proofs.MadeTree.{AreReady}
 

@@ -44,7 +44,7 @@ pub use kinds::Kind;
 pub use lists::{FileList, ListError, MAX_LENGTH, MAX_TOTAL, ROUNDING};
 pub use names::{Name, NameError, copy_names, each_is_name};
 pub use path_lists::PathList;
-pub use paths::FilePath;
+pub use paths::{FilePath, MAX_NAMES};
 pub use read_tree::from_item;
 pub use tree_file::{Hash, TreeFault, TreeFile};
 pub use write_tree::to_item;

@@ -11,6 +11,9 @@ use std::alloc::{AllocError, Global};
 use std::cmp::Ordering;
 use std::marker::Model;
 
+/// How many names a path has at the most where a torrent is made: a limit of this profile. A `FilePath` may have more.
+pub const MAX_NAMES: usize = 64;
+
 /// The names from the top folder down to a file, at least one. Contracts see the list of the names' bytes.
 ///
 /// Paths are ordered name by name, names by their bytes, a beginning first; so `a/c` comes before `a-b`.

@@ -7,7 +7,7 @@ ghost use Rattle.tor_bencode.specs.View.{view, pairs_view};
 ghost use Rattle.tor_tree.specs.FileTree.{tree_fault};
 ghost use Rattle.tor_tree.specs.Properties.{properties_for};
 ghost use Rattle.tor_tree.specs.TidyTree.{IsFileTreeOf, HasItsRoot};
-ghost use Rattle.tor_tree.specs.Writing.{IsRoot, files_below, has_name_at};
+ghost use Rattle.tor_tree.specs.steps.Writing.{IsRoot, files_below, has_name_at};
 ghost use Rattle.tor_tree.specs.WrittenTree.{file_tree, pairs_of_files};
 ghost use Rattle.tor_tree.specs.declared.lists.TheConstants.{MAX_LENGTH};
 

@@ -1,4 +1,4 @@
--- What the clauses of private functions say while a file tree is put together.
+-- A file tree while it is put together. Only private clauses cite this.
 use Rattle.std.specs.Prelude.{◌≡◌, Bool, false, ℕ, List, [], ◌∷◌, map, drop, length, Option, IfSome}
 use Rattle.tor_bencode.specs.Data.{Data}
 use Rattle.tor_tree.specs.Path.{name_eq}
