@@ -2,13 +2,13 @@
 use Rattle.std.proofs.Common.{◌≡◌, ℕ, ◌+◌, ◌*◌, ◌/◌, ◌%◌, ◌<◌, ◌≤◌, List, [], ◌++◌, length, take, drop, arith, ap, ◌∙◌}
 use Rattle.std.proofs.Common.{sym, subst, append_assoc, take-append-drop, length-append, length-take, length-drop}
 use Rattle.std.proofs.Common.{append-nil, zero-add, vec_len, vec_capacity}
-use Rattle.std.proofs.lemmas.List.{drop_at, take_at, take_all}
+use Rattle.std.proofs.lemmas.List.{drop_at, take_at}
 use Rattle.std.proofs.lemmas.Nat.{div-mul-add, mod-mul-add}
 use Rattle.std.specs.Int.{div_ceil}
 use Rattle.sha1.specs.Sha1.{Holds, sha1}
 use Rattle.tor_v1.specs.Feeding.{HasFed, in_pieces}
 use Rattle.tor_v1.specs.Piece.{piece_sums}
-use Rattle.tor_v1.specs.Room.{HasRoom}
+use Rattle.tor_v1.specs.steps.Room.{HasRoom}
 use Rattle.tor_v1.specs.declared.sums.PieceSums.{PieceSums}
 use Rattle.tor_v1.proofs.Ceil.{ceil_add, ceil_mono}
 use Rattle.tor_v1.proofs.Cut.{piece_sums-nil, piece_sums-append}
@@ -101,11 +101,6 @@ module _ (sums : PieceSums) (p : ℕ) (bytes : List ℕ) (fed : HasFed sums p by
       (HasFed-append sums' p (length bytes / p + 1) (whole ++ (rest ++ part)) []
       (cut ∙ fed.cut_every) all positive begun
       (items rest fed.rest ∙ sums-last part (omega (arith, full, fed.cut_every)) (omega (arith, full))) holds)
-
-  -- at the end: no piece is begun
-  pub sums-whole : sums.begun ≡ 0 → sums.sums.items ≡ piece_sums p bytes
-  sums-whole none = fed.whole ∙ ap (piece_sums p)
-      (take_all (in_pieces p (length bytes)) bytes (let parts = split in omega (arith, none, fed.begun)))
 
   -- at the end: the last piece is short
   pub sums-short : (items : List ℕ) → 0 < sums.begun

@@ -1,6 +1,6 @@
 -- The proofs of the laws.
 use Rattle.std.proofs.Common.{◌≡◌, ℕ, ◌+◌, ◌*◌, Bool, true, false, not, cond, List, [], ◌∷◌, ◌++◌, map, length, sum_by}
-use Rattle.std.proofs.Common.{slice_index_or, drop, arith, refl, ap, ap₂, ◌∙◌, sym, length-append}
+use Rattle.std.proofs.Common.{slice_index_or, drop, arith, refl, ap, ap₂, ◌∙◌, sym, length-append, ◌<◌, ltb, count_by}
 use Rattle.std.proofs.lemmas.List.FromFn.{length-map-range_with_len}
 use Rattle.std.proofs.lemmas.List.Sums.{sum_by-cons}
 use Rattle.std.specs.Fork.{slice_chunk}
@@ -8,14 +8,21 @@ use Rattle.std.specs.Int.{div_ceil}
 use Rattle.std.specs.List.{flat_map}
 use Rattle.sha1.specs.Sha1.{sha1, digest_bytes}
 use Rattle.tor_v1.specs.Content.{file_entries, AreContentsOf, joined_content}
-use Rattle.tor_v1.specs.Entries.{file_entry, pad_entry, aligned_entries, v1_entries}
+use Rattle.tor_v1.specs.Entries.{file_entry, pad_entry, has_bytes, aligned_entries, v1_entries}
 use Rattle.tor_v1.specs.Piece.{pieces_of, piece_sums, zeros}
+use Rattle.tor_v1.proofs.Aligned.{has_bytes-count}
+use Rattle.tor_v1.proofs.Cut.{sums-append}
 use Rattle.tor_v1.proofs.Zeros.{length-zeros}
 use Rattle.tor_v1.specs.declared.entry.Entry.{Entry}
 use Rattle.tor_v1.specs.declared.layout.Layout.{Layout}
 use Rattle.tor_v1.specs.declared.layout.Layout.TheVariants.{Joined, Aligned}
 
 -- ---- the sums of pieces
+
+pub sums_of_joined : (piece_length count : ℕ) (whole rest : List ℕ) → 0 < piece_length
+    → length whole ≡ count * piece_length
+    → piece_sums piece_length (whole ++ rest) ≡ piece_sums piece_length whole ++ piece_sums piece_length rest
+sums_of_joined piece_length count whole rest pos long = sums-append piece_length pos count whole rest long
 
 length-sha1 : (m : List ℕ) → length (sha1 m) ≡ 20
 unfolding sha1 digest_bytes
@@ -35,6 +42,13 @@ length-piece_sums piece_length content =
     (length-map-range_with_len (slice_chunk content piece_length) 0 (div_ceil (length content) piece_length))
 
 -- ---- the entries of files
+
+pub length_of_zeros : (count : ℕ) → length (zeros count) ≡ count
+length_of_zeros count = length-zeros count
+
+pub files_with_bytes : (files : List (List (List ℕ) × ℕ))
+    → has_bytes files ≡ ltb 0 (count_by (λ file. ltb 0 file.1) files)
+files_with_bytes files = has_bytes-count files
 
 abbrev facts : Entry → List (List ℕ) × ℕ
 facts entry = (entry.path, entry.length)

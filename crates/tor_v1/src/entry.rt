@@ -4,7 +4,7 @@ ghost use Rattle.tor_v1.specs.Entries.{file_entry};
 ghost use Rattle.tor_v1.specs.Reserved.{is_reserved};
 
 use std::alloc::{AllocError, Global};
-use tor_tree::{FilePath, Name};
+use tor_tree::FilePath;
 
 /// An entry of the `files` list (BEP 3, "info dictionary"): a file, or padding (BEP 47, "padding files").
 #[derive(Debug, Drop)]
@@ -32,29 +32,8 @@ pub(crate) fn file_entry(alloc: Global, path: &FilePath, length: u64) -> Result<
     ensures { IfOk result (λ entry. entry ≡ file_entry (path.now, length)) }
 {
     Ok(Entry {
-        path: copy(alloc, path)?,
+        path: path.copy(alloc)?,
         length,
         pad: false,
     })
-}
-
-/// The same path again.
-fn copy(alloc: Global, path: &FilePath) -> Result<FilePath, AllocError>
-    ensures { IfOk result (λ copied. copied ≡ path.now) }
-{
-    let Some(copied) = FilePath::new(copies(alloc, path.names())?) else {
-        unreachable!()
-    };
-    Ok(copied)
-}
-
-/// The same names again.
-fn copies(alloc: Global, names: &[Name]) -> Result<Vec<Name>, AllocError>
-    ensures { IfOk result (λ copied. copied.items ≡ names.now) }
-{
-    let mut copied = Vec::with_capacity(alloc, names.len())?;
-    for name in names {
-        copied.push(name.copy(alloc)?)?;
-    }
-    Ok(copied)
 }

@@ -104,7 +104,7 @@ fn aligned(
 }
 
 /// How many of the files are not empty.
-fn count_with_bytes(files: &[(FilePath, u64)]) -> usize
+pub fn count_with_bytes(files: &[(FilePath, u64)]) -> usize
     ensures { result ≡ count_by (λ file. nat_lt 0 file.1) files.now }
 {
     files.iter().filter(|file| file.1 > 0).count()

@@ -2,7 +2,8 @@
 //! hybrid one (BEP 47, "padding files"), and the SHA-1 of its pieces.
 //!
 //! - [`Entry`] (`entry.rt`): an entry of the list, a file or padding; [`is_reserved`]: a path only padding may have.
-//! - [`lay_out`] (`layout.rt`): the entries of a list of files, in one of two layouts. `padding.rt` makes the padding.
+//! - [`lay_out`] (`layout.rt`): the entries of a list of files, in one of two layouts. `padding.rt` makes the padding;
+//!   [`padding_length`] and [`count_with_bytes`] tell what a file needs of it.
 //! - [`PieceSums`] (`sums.rt`): the SHA-1 of each piece of a content that is fed in parts.
 //! - [`laws`]: what follows from the definitions alone.
 //!
@@ -26,5 +27,6 @@ mod sums;
 mod tests;
 
 pub use entry::{Entry, is_reserved};
-pub use layout::{Layout, LayoutError, lay_out};
+pub use layout::{Layout, LayoutError, count_with_bytes, lay_out};
+pub use padding::padding_length;
 pub use sums::PieceSums;

@@ -31,7 +31,7 @@ pub struct PieceSums {
 
 impl PieceSums {
     ghost use Rattle.tor_v1.specs.Feeding.{HasFed, Feeds, IsUnchanged};
-    ghost use Rattle.tor_v1.specs.Room.{HasRoom, IsSameButRoom};
+    ghost use Rattle.tor_v1.specs.steps.Room.{HasRoom, IsSameButRoom};
 
     /// Sums of no byte, for pieces of `piece_length` bytes.
     pub fn new(alloc: Global, piece_length: u64) -> PieceSums

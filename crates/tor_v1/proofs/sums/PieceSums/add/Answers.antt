@@ -2,7 +2,7 @@
 use Rattle.std.proofs.Common.{◌≡◌, ◌+◌, ◌++◌, length, arith, sym, ap, ap₂, ◌∙◌, subst, add-zero, append_assoc}
 use Rattle.std.proofs.Common.{take-append-drop}
 use Rattle.tor_v1.specs.Feeding.{HasFed}
-use Rattle.tor_v1.specs.Room.{HasRoom}
+use Rattle.tor_v1.specs.steps.Room.{HasRoom}
 use Rattle.tor_v1.proofs.Fed.{room_less}
 use Rattle.tor_v1.proofs.sums.PieceSums.add.Goals as goal
 

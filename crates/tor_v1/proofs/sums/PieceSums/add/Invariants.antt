@@ -1,7 +1,7 @@
 -- what was taken of the bytes was fed, and there is room for the rest
 use Rattle.std.proofs.Common.{◌≡◌, ℕ, ◌+◌, List, ◌++◌, length}
 use Rattle.tor_v1.specs.Feeding.{Feeds}
-use Rattle.tor_v1.specs.Room.{HasRoom}
+use Rattle.tor_v1.specs.steps.Room.{HasRoom}
 use Rattle.tor_v1.proofs.sums.PieceSums.add.Given as goal
 
 abbrev pub invariant-parts : goal.invariant-parts

@@ -2,7 +2,7 @@
 use Rattle.std.proofs.Common.{◌≡◌, [], sym, append-nil, ◌+◌, ◌-◌, ◌++◌, length, arith, ap, ◌∙◌, subst, append_assoc}
 use Rattle.tor_v1.specs.Feeding.{HasFed}
 use Rattle.tor_v1.specs.Piece.{zeros}
-use Rattle.tor_v1.specs.Room.{HasRoom}
+use Rattle.tor_v1.specs.steps.Room.{HasRoom}
 use Rattle.std.proofs.lemmas.Bool.{false≢true}
 use Rattle.tor_v1.proofs.Fed.{room_less, room_within}
 use Rattle.tor_v1.proofs.Zeros.{zeros-nil, length-zeros, zeros-append}

@@ -2,7 +2,7 @@
 use Rattle.std.proofs.Common.{◌-◌, ◌≤◌}
 use Rattle.tor_v1.specs.Feeding.{Feeds}
 use Rattle.tor_v1.specs.Piece.{zeros}
-use Rattle.tor_v1.specs.Room.{HasRoom}
+use Rattle.tor_v1.specs.steps.Room.{HasRoom}
 use Rattle.tor_v1.proofs.sums.PieceSums.feed_zeros.Given as goal
 
 abbrev pub invariant-parts : goal.invariant-parts
