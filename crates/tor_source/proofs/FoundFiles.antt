@@ -9,7 +9,7 @@ use Rattle.tor_source.proofs.Waiting.{next_before}
 use Rattle.tor_source.specs.Places.{place_below}
 use Rattle.tor_source.specs.steps.Order.{IsEntered, IsFound, path_in}
 use Rattle.tor_source.specs.declared.walk.Entry.{Entry}
-use Rattle.tor_source.specs.declared.walk.TheConstants.{MAX_NAMES}
+use Rattle.tor_tree.specs.declared.paths.TheConstants.{MAX_NAMES}
 
 -- a list that rises, without its last element
 pub rising_front : {K : Type 0} (R : K → K → Ordering) (xs : List K) (y : K) → IsStrictlySortedBy R (xs ++ y ∷ [])

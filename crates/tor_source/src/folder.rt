@@ -6,7 +6,7 @@ ghost use Rattle.std.specs.IoError.{error_kind};
 ghost use Rattle.tor_source.specs.Faults.{is_absence};
 ghost use Rattle.tor_source.specs.Places.{place_of};
 ghost use Rattle.tor_source.specs.declared.faults.ScanFault.TheVariants.{System};
-ghost use Rattle.tor_source.specs.declared.walk.TheConstants.{MAX_NAMES};
+ghost use Rattle.tor_tree.specs.declared.paths.TheConstants.{MAX_NAMES};
 ghost use Rattle.tor_tree.specs.Path.{path_cmp};
 
 use crate::faults::ScanFault;

@@ -5,7 +5,7 @@ ghost use Rattle.std.specs.String.{string_bytes};
 ghost use Rattle.tor_source.specs.steps.Order.{HasAdded, HasFound, IsAhead, IsEntered};
 ghost use Rattle.tor_source.specs.Places.{without_slash};
 ghost use Rattle.tor_source.specs.declared.faults.ScanFault.TheVariants.{Memory, TooDeep};
-ghost use Rattle.tor_source.specs.declared.walk.TheConstants.{MAX_NAMES};
+ghost use Rattle.tor_tree.specs.declared.paths.TheConstants.{MAX_NAMES};
 
 use crate::faults::ScanFault;
 use crate::listing::rising_names;
@@ -13,10 +13,7 @@ use crate::places::{place_below, without_slash};
 use std::alloc::Global;
 use std::io::Read;
 use std::rt::Files;
-use tor_tree::{FilePath, Name, copy_names};
-
-/// The most names in a path.
-const MAX_NAMES: usize = 64;
+use tor_tree::{FilePath, MAX_NAMES, Name, copy_names};
 
 /// Files that were found: the place of the folder, with no slash at its end, and for each file its path below the
 /// folder and where the system has it.

@@ -9,7 +9,7 @@ use Rattle.tor_source.specs.Listing.{HasSameNames, names_in}
 use Rattle.tor_source.specs.Places.{place_below}
 use Rattle.tor_source.specs.declared.walk.Entry.{Entry}
 use Rattle.tor_source.specs.declared.walk.Found.{Found}
-use Rattle.tor_source.specs.declared.walk.TheConstants.{MAX_NAMES}
+use Rattle.tor_tree.specs.declared.paths.TheConstants.{MAX_NAMES}
 
 -- files that were found below a place: their paths strictly rise and have at most 64 names, and each is where its
 -- path says
