@@ -8,14 +8,11 @@ use Rattle.std.specs.List.{flat_map}
 use Rattle.tor_v1.specs.Piece.{zeros}
 use Rattle.tor_plan.specs.Content.{unit_content}
 use Rattle.tor_plan.specs.Units.{file_unit, units_of_file}
+use Rattle.tor_plan.proofs.Empty.{no_bytes, zeros-nil}
 use Rattle.tor_plan.proofs.Joins.{run_of, runs_are, no_runs}
 
 abbrev pub File : Type 0
 File = List (List ℕ) × ℕ
-
-pub zeros-nil : zeros 0 ≡ []
-unfolding zeros
-zeros-nil = refl
 
 -- the contents from a file on
 pub record AreFrom (contents : List (List ℕ)) (place : ℕ) (m : ℕ) (lengths : List ℕ) : Type 0 where
@@ -77,10 +74,7 @@ module _ (contents : List (List ℕ)) (size place tail : ℕ) (content : List �
     | inr none ↦ no_runs (unit_content contents) (file_unit size place (length content) tail) size content
         (zeros tail) pos each_unit (omega arith)
         ∙ sym (ap₂ (λ xs n. xs ++ zeros n) (no_bytes content (omega arith)) (empty (omega arith)) ∙ zeros-nil)
-  ] where
-    no_bytes : (xs : List ℕ) → length xs ≡ 0 → xs ≡ []
-    no_bytes [] e = refl
-    no_bytes (x ∷ xs) e = absurd (omega (arith, e))
+  ]
 
   pub file_content_of : (m : ℕ) → length content ≡ m → (m ≡ 0 → tail ≡ 0)
       → flat_map (unit_content contents) (units_of_file size place m tail) ≡ content ++ zeros tail

@@ -13,7 +13,8 @@ use Rattle.tor_v1.specs.Piece.{zeros}
 use Rattle.tor_v1.specs.declared.entry.Entry.{Entry}
 use Rattle.tor_plan.specs.Content.{unit_content}
 use Rattle.tor_plan.specs.Units.{units_of_file, zeros_after, separate_units}
-use Rattle.tor_plan.proofs.Contents.{File, zeros-nil, from_place, here, after, after_lengths, file_content_of}
+use Rattle.tor_plan.proofs.Empty.{zeros-nil}
+use Rattle.tor_plan.proofs.Contents.{File, from_place, here, after, after_lengths, file_content_of}
 
 -- no byte lacks none
 no_padding : (p : ℕ) → padding_length p 0 ≡ 0

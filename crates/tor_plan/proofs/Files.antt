@@ -1,5 +1,5 @@
 -- Files cut each by itself, one after another.
-use Rattle.std.proofs.Common.{◌≡◌, ℕ, ◌+◌, ◌-◌, ◌<◌, ◌≤◌, Bool, true, false, cond, ltb, inl, inr, ◌||◌, List, [], ◌∷◌}
+use Rattle.std.proofs.Common.{◌≡◌, ℕ, ◌+◌, ◌-◌, ◌<◌, ◌≤◌, Bool, true, cond, ltb, inl, inr, List, [], ◌∷◌}
 use Rattle.std.proofs.Common.{◌++◌, length, get_or, drop, count_by, sum_by, arith, refl, ap, ◌∙◌, sym, zero-add}
 use Rattle.std.proofs.Common.{append_assoc, append-nil}
 use Rattle.std.proofs.lemmas.Bool.{lt-ltb, le-ltb, cases_lt, and_from, and_left, and_right}
@@ -9,6 +9,7 @@ use Rattle.tor_tree.specs.declared.kinds.Kind.{Kind}
 use Rattle.tor_tree.specs.declared.kinds.Kind.TheVariants.{V1, V2, Hybrid}
 use Rattle.tor_v1.specs.declared.entry.Entry.{Entry}
 use Rattle.tor_v1.specs.Entries.{pad_entry, padding_length, has_bytes}
+use Rattle.tor_v1.proofs.ProvedLaws.{files_with_bytes}
 use Rattle.tor_plan.specs.declared.units.PlanUnit.{PlanUnit}
 use Rattle.tor_plan.specs.Units.{units_of_file, zeros_after, separate_units}
 
@@ -17,17 +18,6 @@ File = List (List ℕ) × ℕ
 
 abbrev pub is_some : File → Bool
 is_some file = ltb 0 file.1
-
-one_more : (b : Bool) (n : ℕ) → (b || ltb 0 n) ≡ ltb 0 (cond b 1 0 + n)
-one_more true n = sym (lt-ltb 0 (1 + n) (omega arith))
-one_more false n = ap (ltb 0) (sym (zero-add n))
-
--- files have bytes where one of them is not empty
-has_bytes-count : (files : List File) → has_bytes files ≡ ltb 0 (count_by is_some files)
-has_bytes-count [] = refl
-has_bytes-count (file ∷ files) =
-    ap (λ b. is_some file || b) (has_bytes-count files) ∙ one_more (is_some file) (count_by is_some files)
-    ∙ ap (ltb 0) (sym (sum_by-cons (λ x. cond (is_some x) 1 0) file files))
 
 padding : Bool → ℕ → ℕ
 padding b n = sum_by (λ (entry : Entry). entry.length) (cond b (pad_entry n ∷ []) [])
@@ -46,7 +36,7 @@ zeros_before p m later more =
 
 pub zeros_padded : (p m : ℕ) (later : List File) → 0 < count_by is_some later
     → zeros_after Hybrid p m later ≡ padding_length p m
-zeros_padded p m later more = zeros_before p m later (has_bytes-count later ∙ lt-ltb 0 (count_by is_some later) more)
+zeros_padded p m later more = zeros_before p m later (files_with_bytes later ∙ lt-ltb 0 (count_by is_some later) more)
 
 pub zeros_last : (kind : Kind) (p m : ℕ) (later : List File) → count_by is_some later ≤ 0
     → zeros_after kind p m later ≡ 0
@@ -56,7 +46,7 @@ zeros_last V2 p m later none = refl
 zeros_last Hybrid p m later none =
     let n = padding_length p m in
     ap (λ b. padding b n)
-    (and_right (ltb 0 n) (has_bytes later) (has_bytes-count later ∙ le-ltb 0 (count_by is_some later) none))
+    (and_right (ltb 0 n) (has_bytes later) (files_with_bytes later ∙ le-ltb 0 (count_by is_some later) none))
 
 -- the count after a file with bytes, and after an empty one
 pub counted_some : (m old later n : ℕ) → 0 < m → old ≡ cond (ltb 0 m) 1 0 + n → later ≡ old - 1 → later ≡ n

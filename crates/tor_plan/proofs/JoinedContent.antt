@@ -14,7 +14,8 @@ use Rattle.tor_v1.specs.Entries.{file_entry}
 use Rattle.tor_v1.specs.Piece.{zeros}
 use Rattle.tor_plan.specs.Content.{part_content, unit_content}
 use Rattle.tor_plan.specs.Units.{part_within, parts_within, joined_unit, joined_units}
-use Rattle.tor_plan.proofs.Contents.{File, zeros-nil, from_place, here, after, after_lengths}
+use Rattle.tor_plan.proofs.Empty.{no_bytes, zeros-nil}
+use Rattle.tor_plan.proofs.Contents.{File, from_place, here, after, after_lengths}
 use Rattle.tor_plan.proofs.Joins.{run_of, runs_are, no_runs, drop-append, take-append}
 
 abbrev pub joined : List (List ℕ) → List ℕ
@@ -111,11 +112,8 @@ module _ (contents : List (List ℕ)) (size : ℕ) (lengths : List ℕ) (pos : 0
         | inl some ↦ runs_are (unit_content contents) (joined_unit size lengths) size
             (joined contents) [] pos each_unit some ∙ append-nil (joined contents)
         | inr none ↦ no_runs (unit_content contents) (joined_unit size lengths) size (joined contents) [] pos each_unit
-            (omega arith) ∙ no_bytes (joined contents) (omega arith)
-      ] where
-        no_bytes : (xs : List ℕ) → length xs ≡ 0 → [] ≡ xs
-        no_bytes [] e = refl
-        no_bytes (x ∷ xs) e = absurd (omega (arith, e))
+            (omega arith) ∙ sym (no_bytes (joined contents) (omega arith))
+      ]
 
 pub joined_files : (contents : List (List ℕ)) (size : ℕ) (files : List File) → 0 < size
     → map length contents ≡ lengths_of files

@@ -1,4 +1,5 @@
 pub mod Ranges
+pub mod Empty
 pub mod Within
 pub mod Cut
 pub mod Trees
@@ -8,7 +9,6 @@ pub mod Joins
 pub mod Contents
 pub mod Entries
 pub mod JoinedContent
-pub mod PieceSums
 pub mod UnitSums
 pub mod SumsByUnit
 pub mod WithinFiles

@@ -5,7 +5,6 @@ use Rattle.std.proofs.Common.{length-append}
 use Rattle.std.proofs.Math.Nat.{mod_self, mod-eq_of_lt, mod-lt}
 use Rattle.std.proofs.lemmas.Nat.{div-add-mod'}
 use Rattle.std.proofs.lemmas.Bool.{ltb-false, cases_lt, cases_eq, cases_Bool, or_parts}
-use Rattle.std.proofs.lemmas.List.{length-replicate}
 use Rattle.std.proofs.lemmas.List.Concat.{flat_map-append}
 use Rattle.std.specs.Int.{div_ceil}
 use Rattle.std.specs.List.{flat_map, range_with_len}
@@ -17,22 +16,15 @@ use Rattle.tor_v1.specs.Piece.{piece_sums, zeros}
 use Rattle.tor_plan.specs.Content.{unit_content}
 use Rattle.tor_plan.specs.declared.units.PlanUnit.{PlanUnit}
 use Rattle.tor_plan.specs.Units.{file_unit, units_of_file, zeros_after, separate_units, joined_unit, joined_units}
-use Rattle.tor_plan.proofs.Contents.{File, zeros-nil, from_place, here, after, after_lengths}
+use Rattle.tor_v1.proofs.ProvedLaws.{length_of_zeros, sums_of_joined}
+use Rattle.tor_plan.proofs.Contents.{File, from_place, here, after, after_lengths}
 use Rattle.tor_plan.proofs.Contents.{each_unit as each_of_file}
 use Rattle.tor_plan.proofs.Entries.{no_zeros_after, padded_rest, aligned_content}
 use Rattle.tor_plan.proofs.Files.{zeros_before}
 use Rattle.tor_plan.proofs.JoinedContent.{joined, each_unit, total, joined_entries}
-use Rattle.tor_plan.proofs.PieceSums.{sums-append, sums_nil}
+use Rattle.tor_plan.proofs.Empty.{no_bytes, zeros-nil, sums_nil}
 use Rattle.tor_plan.proofs.Ranges.{ceil_is}
 use Rattle.tor_plan.proofs.UnitSums.{sums_of_runs}
-
-no_bytes : (xs : List ℕ) → length xs ≡ 0 → xs ≡ []
-no_bytes [] e = refl
-no_bytes (x ∷ xs) e = absurd (omega (arith, e))
-
-length-zeros : (n : ℕ) → length (zeros n) ≡ n
-unfolding zeros
-length-zeros n = length-replicate n 0
 
 -- a length and what it lacks are whole pieces
 whole_with_padding : (p m : ℕ) → 0 < p → (k : ℕ) × (m + padding_length p m ≡ k * p)
@@ -128,9 +120,9 @@ module _ (contents : List (List ℕ)) (p span : ℕ) (some : 0 < p) (pos : 0 < s
       elim (cases_Bool (has_bytes files)) [
         | inl more ↦
             let whole = whole_with_padding p m some in
-            sym (sums-append p some whole.0 bytes rest
+            sym (sums_of_joined p whole.0 bytes rest some
             (length-append from.first (zeros tail)
-            ∙ ap₂ (λ a b. a + b) from.long (length-zeros tail ∙ zeros_before p m files more) ∙ whole.1))
+            ∙ ap₂ (λ a b. a + b) from.long (length_of_zeros tail ∙ zeros_before p m files more) ∙ whole.1))
         | inr none ↦
             let empty : rest ≡ [] =
             sym (ap (flat_map (unit_content contents)) (sym (no_units (place + 1) files none))

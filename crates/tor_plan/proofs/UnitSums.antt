@@ -11,7 +11,8 @@ use Rattle.std.specs.Int.{div_ceil}
 use Rattle.std.specs.List.{flat_map, range_with_len}
 use Rattle.tor_v1.specs.Piece.{piece_sums}
 use Rattle.tor_plan.proofs.Joins.{run_of}
-use Rattle.tor_plan.proofs.PieceSums.{sums-append, sums_nil}
+use Rattle.tor_v1.proofs.ProvedLaws.{sums_of_joined}
+use Rattle.tor_plan.proofs.Empty.{sums_nil}
 
 -- a content that is cut every span pieces
 module _ {X : Type 0} (f : X → List ℕ) (g : ℕ → X) (p span : ℕ) (xs tail : List ℕ) (some : 0 < p) (pos : 0 < span * p)
@@ -33,7 +34,7 @@ module _ {X : Type 0} (f : X → List ℕ) (g : ℕ → X) (p span : ℕ) (xs ta
   front : (k : ℕ) (ys : List ℕ) → k * size < length xs
       → piece_sums p (take (k * size) xs ++ ys) ≡ piece_sums p (take (k * size) xs) ++ piece_sums p ys
   front k ys less =
-      sums-append p some (k * span) (take (k * size) xs) ys
+      sums_of_joined p (k * span) (take (k * size) xs) ys some
       (length-take-le (k * size) xs (omega arith) ∙ (let e : k * size ≡ k * span * p = omega arith in e))
 
   whole_sums : (k : ℕ) → k * size < length xs

@@ -4,7 +4,7 @@ use Rattle.std.specs.Int.{div_ceil}
 use Rattle.tor_tree.specs.declared.kinds.Kind.{Kind}
 use Rattle.tor_tree.specs.declared.kinds.Kind.TheVariants.{V1}
 use Rattle.tor_plan.specs.declared.forests.Run.{Run}
-use Rattle.tor_plan.specs.declared.forests.TheConstants.{BLOCK_LENGTH}
+use Rattle.tor_merkle.specs.declared.TheConstants.{BLOCK_LENGTH}
 
 -- the binary logarithm, rounded down: the greatest k with 2 ^ k at most n
 unfoldable pub log2 : ℕ → ℕ

@@ -9,7 +9,7 @@ use Rattle.tor_plan.specs.declared.forests.Run.{Run}
 use Rattle.tor_plan.specs.declared.units.PlanUnit.{PlanUnit}
 use Rattle.tor_plan.specs.Forest.{forest_trees}
 use Rattle.tor_plan.specs.Units.{hash_units}
-use Rattle.tor_plan.specs.declared.forests.TheConstants.{BLOCK_LENGTH}
+use Rattle.tor_merkle.specs.declared.TheConstants.{BLOCK_LENGTH}
 
 -- pieces that torrents of a kind can have: with trees a power of two, from one block on
 abbrev pub IsPlanPieceLength : Kind → ℕ → Type 0

@@ -1,12 +1,11 @@
 //! Which units are the leaves of one file's tree.
 ghost use Rattle.std.specs.Prelude.{◌≡◌, ◌+◌, ◌*◌, ◌^◌, ◌<◌, ◌≤◌, IfOk, length, sum_by};
 ghost use Rattle.std.specs.Int.{div_ceil};
+ghost use Rattle.tor_merkle.specs.declared.TheConstants.{BLOCK_LENGTH};
 ghost use Rattle.tor_plan.specs.Forest.{trees_from};
 
 use std::alloc::{AllocError, Global};
-
-/// The bytes of one leaf of a file's tree (BEP 52, "pieces root").
-pub const BLOCK_LENGTH: u64 = 16384;
+use tor_merkle::BLOCK_LENGTH;
 
 /// The units of one file that has more than one.
 #[derive(Clone, Copy, Debug, PartialEq, Eq)]
@@ -32,7 +31,7 @@ pub(crate) fn trees_of(alloc: Global, lengths: &[u64], size: u64) -> Result<Vec<
     requires few { sum_by (λ m. div_ceil m size) lengths.now < 2 ^ 64 }
     ensures { IfOk result (λ trees. trees.items ≡ trees_from size 0 lengths.now) }
 {
-    let level = (size / BLOCK_LENGTH).ilog2();
+    let level = (size / BLOCK_LENGTH as u64).ilog2();
     let mut first = 0;
     let mut trees = Vec::new(alloc);
     'files: for length in lengths {

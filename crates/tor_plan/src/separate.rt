@@ -1,12 +1,12 @@
 //! Files that are cut each by itself, as trees need it.
 ghost use Rattle.std.specs.Prelude.{◌≡◌, ◌<◌, [], ◌∷◌, ◌++◌, ℕ, List, IfOk, OnOk, count_by, nat_lt};
-ghost use Rattle.tor_v1.specs.Entries.{padding_length};
 ghost use Rattle.tor_v1.specs.Piece.{IsV1PieceLength};
 ghost use Rattle.tor_plan.specs.Units.{units_of_file, separate_units, zeros_after};
 
 use crate::units::{Part, Parts, PlanUnit};
 use std::alloc::{AllocError, Global};
 use tor_tree::{FilePath, Kind};
+use tor_v1::{count_with_bytes, padding_length};
 
 /// The units of files that are cut every `size` bytes, each by itself.
 pub(crate) fn cut_each(
@@ -33,13 +33,6 @@ pub(crate) fn cut_each(
     Ok(units)
 }
 
-/// How many of the files are not empty.
-fn count_with_bytes(files: &[(FilePath, u64)]) -> usize
-    ensures { result ≡ count_by (λ file. nat_lt 0 file.1) files.now }
-{
-    files.iter().filter(|file| file.1 > 0).count()
-}
-
 /// The zeros after a file of `length` bytes, before so many files that are not empty.
 fn zeros_after(kind: Kind, piece_length: u64, length: u64, later: usize) -> u64
     requires { IsV1PieceLength piece_length }
@@ -51,14 +44,6 @@ fn zeros_after(kind: Kind, piece_length: u64, length: u64, later: usize) -> u64
         Kind::Hybrid if later == 0 => 0,
         Kind::Hybrid => padding_length(length, piece_length),
     }
-}
-
-/// How many bytes a file of `length` bytes lacks to a whole number of pieces.
-fn padding_length(length: u64, piece_length: u64) -> u64
-    requires { IsV1PieceLength piece_length }
-    ensures { result ≡ padding_length piece_length length }
-{
-    (piece_length - length % piece_length) % piece_length
 }
 
 /// Adds the units of one file, after whose last byte there are zeros.
