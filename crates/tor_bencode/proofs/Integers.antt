@@ -6,7 +6,7 @@ use Rattle.std.specs.Prelude.{nat_le, nat_lt, FitsSigned}
 use Rattle.std.specs.Char.{is_ascii_digit}
 use Rattle.std.specs.Int.{w64}
 use Rattle.std.specs.List.{list_all, prefix_len}
-use Rattle.std.proofs.lemmas.Bool.{and_parts, false≢true, cases_Bool, le-leb, leb-true}
+use Rattle.std.proofs.lemmas.Bool.{and_parts, false≢true, cases_Bool, le-leb, leb-true, false_from_ne_true}
 use Rattle.std.proofs.lemmas.Bool.Decides.{nat_tests}
 use Rattle.std.proofs.lemmas.Int.{ints}
 use Rattle.std.proofs.lemmas.List.{take_at, drop_at, drop_all}
@@ -17,7 +17,7 @@ use Rattle.tor_bencode.specs.steps.Reading.{positive_of, in_range, integer_after
 use Rattle.tor_bencode.specs.Spelling.{base_ten, signed_base_ten}
 use Rattle.tor_bencode.proofs.Numerals.{digit_range, base_ten-number, number-base_ten, all_digits-base_ten}
 use Rattle.tor_bencode.proofs.Numerals.{is_shortest-base_ten}
-use Rattle.tor_bencode.proofs.Runs.{one_of_two, prefix_len-run, prefix_len-all}
+use Rattle.tor_bencode.proofs.Runs.{prefix_len-run, prefix_len-all}
 
 or_true : (b : Bool) → (b || true) ≡ true
 or_true true = refl
@@ -95,9 +95,9 @@ fits_negsuc n e = let small : suc n ≤ 2 ^ 63 = leb-true _ _ e in search (rules
 
 held-too_large : (z : ℤ) → ¬ FitsSigned w64 z → held z ≡ None
 held-too_large (pos n) large =
-    let no : nat_lt n (2 ^ 63) ≡ false = one_of_two _ (λ e. large (fits_pos n e)) in rw no refl
+    let no : nat_lt n (2 ^ 63) ≡ false = false_from_ne_true _ (λ e. large (fits_pos n e)) in rw no refl
 held-too_large (negsuc n) large =
-    let no : nat_le (suc n) (2 ^ 63) ≡ false = one_of_two _ (λ e. large (fits_negsuc n e)) in rw no refl
+    let no : nat_le (suc n) (2 ^ 63) ≡ false = false_from_ne_true _ (λ e. large (fits_negsuc n e)) in rw no refl
 
 is_positive-parts : (cs : List ℕ) → is_positive cs ≡ true
     → (list_all is_ascii_digit cs ≡ true) × (is_shortest cs ≡ true)
@@ -177,6 +177,6 @@ module _ (bytes rest run : List ℕ) (next : ℕ) (more : List ℕ) (r : Runs is
   pub integer_at-bad : ((next ≢ 101) ⊎ ((n : ℤ) → run ≢ signed_base_ten n))
       → integer_at bytes rest ≡ Err (BadInteger, bytes)
   integer_at-bad why =
-      let stop = one_of_two (is_integer_byte next) r.stops in
-      let test : ((next == 101) && is_integer run) ≡ false = one_of_two _ (refused why) in
+      let stop = false_from_ne_true (is_integer_byte next) r.stops in
+      let test : ((next == 101) && is_integer run) ≡ false = false_from_ne_true _ (refused why) in
       ap (integer_at bytes) r.whole ∙ integer_at-run bytes run next more r.all stop ∙ rw test refl

@@ -4,6 +4,7 @@ use Rattle.std.proofs.Common.{false, ◌==◌, Option, Some, None, Ok, Err, refl
 use Rattle.std.proofs.Common.{inl, inr}
 use Rattle.std.specs.Char.{is_ascii_digit}
 use Rattle.std.proofs.lemmas.Bool.Decides.{nat_tests}
+use Rattle.std.proofs.lemmas.Bool.{false_from_ne_true}
 use Rattle.tor_bencode.specs.Data.{Data, Items}
 use Rattle.tor_bencode.specs.Fault.{Begins, BeginsWithDigit, IsCutString, HasBadLength, IsBadValue, IsBadKey}
 use Rattle.tor_bencode.specs.Fault.{IsOutOfOrder}
@@ -18,7 +19,7 @@ use Rattle.tor_bencode.proofs.IntegersRead.{integer_spelled}
 use Rattle.tor_bencode.proofs.PairLoops.{after_key, key_here}
 use Rattle.tor_bencode.proofs.Values.{value_integer, value_string, value_empty, value_bad, value_too_deep}
 use Rattle.tor_bencode.proofs.Numerals.{digit_range}
-use Rattle.tor_bencode.proofs.Runs.{one_of_two, take_rest}
+use Rattle.tor_bencode.proofs.Runs.{take_rest}
 use Rattle.tor_bencode.proofs.SoundPairs.{is_lt_is}
 use Rattle.tor_bencode.proofs.Spelled.{base_ten-starts, StartsWithDigit, string-starts}
 use Rattle.tor_bencode.proofs.Strings.{string_at-spelling, string_at-cut, string_at-digits, string_at-bad}
@@ -61,7 +62,7 @@ string_stops : (room : ℕ) (bytes : List ℕ) (fault : Fault) (from : List ℕ)
 string_stops room bytes fault from starts h = value_string room bytes starts.some starts.digit ∙ stops _ _ fault from h
 
 unequal : (c n : ℕ) → c ≢ n → (c == n) ≡ false
-unequal c n h = one_of_two (c == n) (λ e. h (grind (arith, nat_tests)))
+unequal c n h = false_from_ne_true (c == n) (λ e. h (grind (arith, nat_tests)))
 
 ends_at : {A : Type 0} (fault : Fault) (x y : List ℕ) → y ≡ x → failed {A = A} fault x ≡ failed fault y
 ends_at fault x y e = ap (failed fault) (sym e)
@@ -76,7 +77,8 @@ bad_value_read room bytes Truncated from (inr (inr h), at) =
     string_stops room bytes Truncated [] (cut_starts bytes h) (string_cut bytes h) ∙ ends_at Truncated [] from at
 bad_value_read room bytes BadByte from (h, at) =
     ap (value_at room) h.2
-    ∙ value_bad room h.0 h.1 (one_of_two _ h.3) (unequal h.0 105 h.4) (unequal h.0 108 h.5) (unequal h.0 100 h.6)
+    ∙ value_bad room h.0 h.1 (false_from_ne_true _ h.3) (unequal h.0 105 h.4) (unequal h.0 108 h.5)
+    (unequal h.0 100 h.6)
     ∙ ends_at BadByte (h.0 ∷ h.1) from (at ∙ h.2)
 bad_value_read room bytes BadInteger from (h, at) =
     integer_stops room bytes h.0 BadInteger bytes h.4 (integer_at-bad bytes h.0 h.1 h.2 h.3 h.5 h.6)
@@ -136,7 +138,7 @@ key_stopped read fuel last bytes fault from starts enough h =
 
 not_following : (last : Option (List ℕ)) (key : List ℕ) → IsOutOfOrder last key → follows last key ≡ false
 not_following None key h = absurd h
-not_following (Some last) key h = one_of_two _ (λ e. h (is_lt_is _ e))
+not_following (Some last) key h = false_from_ne_true _ (λ e. h (is_lt_is _ e))
 
 order_stopped : (read : List ℕ → Reading Data) (fuel : ℕ) (last : Option (List ℕ)) (bytes key rest : List ℕ)
     → bytes ≡ string_spelling key ++ rest → length bytes ≤ fuel → IsOutOfOrder last key
@@ -163,7 +165,7 @@ bad_key_read read fuel last bytes BadLength from enough (h, at) =
     ∙ ends_at BadLength bytes from at
 bad_key_read read fuel last bytes KeyNotBytes from enough h =
     ap (pairs_at read fuel last) h.2
-    ∙ not_bytes read fuel last h.0 h.1 (omega (arith, ap length h.2)) (unequal h.0 101 h.4) (one_of_two _ h.3)
+    ∙ not_bytes read fuel last h.0 h.1 (omega (arith, ap length h.2)) (unequal h.0 101 h.4) (false_from_ne_true _ h.3)
     ∙ ends_at KeyNotBytes (h.0 ∷ h.1) from (h.5 ∙ h.2)
 bad_key_read read fuel last bytes KeyOrder from enough h =
     order_stopped read fuel last bytes h.0 h.1 h.2 enough h.3 ∙ ends_at KeyOrder bytes from h.4

@@ -11,10 +11,6 @@ pub by_test : {A : Type 0} (b : Bool) (P : A → Type 0) (x y : A) → (b ≡ tr
 by_test true P x y f g = f refl
 by_test false P x y f g = g refl
 
-pub one_of_two : (b : Bool) → (b ≡ true → ⊥) → b ≡ false
-one_of_two true h = absurd (h refl)
-one_of_two false h = refl
-
 -- all but the first byte
 pub take_rest : (c : ℕ) (rest : List ℕ) → take (length (c ∷ rest) - 1) (drop 1 (c ∷ rest)) ≡ rest
 take_rest c rest = take_all _ rest (omega arith)

@@ -4,7 +4,7 @@ use Rattle.std.proofs.Common.{Ok, Err, refl, sym, ap, ap₂, ◌∙◌, subst, a
 use Rattle.std.specs.Prelude.{nat_le}
 use Rattle.std.specs.Char.{is_ascii_digit}
 use Rattle.std.specs.List.{list_all, prefix_len}
-use Rattle.std.proofs.lemmas.Bool.{and_parts, true≢false, cases_Bool, le-leb}
+use Rattle.std.proofs.lemmas.Bool.{and_parts, true≢false, cases_Bool, le-leb, false_from_ne_true}
 use Rattle.std.proofs.lemmas.Bool.Decides.{nat_tests}
 use Rattle.std.proofs.lemmas.List.{take_at, drop_at, drop_all, take-append-drop, append-nil, length-append, length-take}
 use Rattle.tor_bencode.specs.declared.fault.Fault.{Fault}
@@ -14,7 +14,7 @@ use Rattle.tor_bencode.specs.Fault.{Runs, BeginsWithDigit, IsCutString, HasBadLe
 use Rattle.tor_bencode.specs.steps.Reading.{Reading, number, is_shortest, string_after, string_at}
 use Rattle.tor_bencode.specs.Spelling.{base_ten, string_spelling}
 use Rattle.tor_bencode.proofs.Numerals.{base_ten-number, number-base_ten, all_digits-base_ten, is_shortest-base_ten}
-use Rattle.tor_bencode.proofs.Runs.{by_test, one_of_two, prefix_len-run, prefix_len-all, run_passes, run_stops}
+use Rattle.tor_bencode.proofs.Runs.{by_test, prefix_len-run, prefix_len-all, run_passes, run_stops}
 use Rattle.tor_bencode.proofs.Runs.{run_whole}
 
 string_at-run : (run : List ℕ) (c : ℕ) (more : List ℕ) → list_all is_ascii_digit run ≡ true → is_ascii_digit c ≡ false
@@ -60,8 +60,8 @@ string_at-digits run digits =
 pub string_at-bad : (bytes run : List ℕ) (next : ℕ) (more : List ℕ) → Runs is_ascii_digit bytes run next more
     → ((next ≢ 58) ⊎ ((n : ℕ) → run ≢ base_ten n)) → string_at bytes ≡ Err (BadLength, bytes)
 string_at-bad bytes run next more r why =
-    let stop = one_of_two (is_ascii_digit next) r.stops in
-    let test : ((next == 58) && is_shortest run) ≡ false = one_of_two _ (refused why) in
+    let stop = false_from_ne_true (is_ascii_digit next) r.stops in
+    let test : ((next == 58) && is_shortest run) ≡ false = false_from_ne_true _ (refused why) in
     ap string_at r.whole ∙ string_at-run run next more r.all stop
     ∙ rw test (ap (λ bs. Err (BadLength, bs)) (sym r.whole))
   where

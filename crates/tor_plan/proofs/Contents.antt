@@ -3,12 +3,12 @@ use Rattle.std.proofs.Common.{◌≡◌, ℕ, ◌+◌, ◌-◌, ◌*◌, ◌<◌
 use Rattle.std.proofs.Common.{length, map, get_or, take, drop, arith, refl, ap, ap₂, ◌∙◌, sym, append-nil, inl, inr}
 use Rattle.std.proofs.Common.{length-drop}
 use Rattle.std.proofs.lemmas.Bool.{cases_lt}
-use Rattle.std.proofs.lemmas.List.{take_min, get_or-drop, drop-drop}
+use Rattle.std.proofs.lemmas.List.{take_min, get_or-drop, drop-drop, nil_from_length}
 use Rattle.std.specs.List.{flat_map}
 use Rattle.tor_v1.specs.Piece.{zeros}
 use Rattle.tor_plan.specs.Content.{unit_content}
 use Rattle.tor_plan.specs.Units.{file_unit, units_of_file}
-use Rattle.tor_plan.proofs.Empty.{no_bytes, zeros-nil}
+use Rattle.tor_plan.proofs.Empty.{zeros-nil}
 use Rattle.tor_plan.proofs.Joins.{run_of, runs_are, no_runs}
 
 abbrev pub File : Type 0
@@ -73,7 +73,7 @@ module _ (contents : List (List ℕ)) (size place tail : ℕ) (content : List �
         (zeros tail) pos each_unit some
     | inr none ↦ no_runs (unit_content contents) (file_unit size place (length content) tail) size content
         (zeros tail) pos each_unit (omega arith)
-        ∙ sym (ap₂ (λ xs n. xs ++ zeros n) (no_bytes content (omega arith)) (empty (omega arith)) ∙ zeros-nil)
+        ∙ sym (ap₂ (λ xs n. xs ++ zeros n) (nil_from_length content (omega arith)) (empty (omega arith)) ∙ zeros-nil)
   ]
 
   pub file_content_of : (m : ℕ) → length content ≡ m → (m ≡ 0 → tail ≡ 0)

@@ -1,17 +1,14 @@
 -- Contents of no byte.
-use Rattle.std.proofs.Common.{◌≡◌, ℕ, ◌*◌, ◌<◌, List, [], ◌∷◌, length, arith, refl, ap, ◌∙◌}
+use Rattle.std.proofs.Common.{◌≡◌, ℕ, ◌*◌, ◌<◌, [], arith, ap, ◌∙◌}
+use Rattle.std.proofs.lemmas.List.{nil_from_length}
 use Rattle.tor_v1.specs.Piece.{piece_sums, zeros}
 use Rattle.tor_v1.proofs.ProvedLaws.{length-piece_sums, length_of_zeros}
 use Rattle.tor_plan.proofs.Ranges.{ceil_is}
 
-pub no_bytes : (xs : List ℕ) → length xs ≡ 0 → xs ≡ []
-no_bytes [] e = refl
-no_bytes (x ∷ xs) e = absurd (omega (arith, e))
-
 pub zeros-nil : zeros 0 ≡ []
-zeros-nil = no_bytes (zeros 0) (length_of_zeros 0)
+zeros-nil = nil_from_length (zeros 0) (length_of_zeros 0)
 
 pub sums_nil : (p : ℕ) → 0 < p → piece_sums p [] ≡ []
 sums_nil p pos =
-    no_bytes (piece_sums p [])
+    nil_from_length (piece_sums p [])
     (length-piece_sums p [] ∙ ap (λ n. 20 * n) (ceil_is 0 p 0 (omega arith) (omega arith)))

@@ -3,7 +3,7 @@ use Rattle.std.proofs.Common.{◌≡◌, ℕ, ◌+◌, ◌-◌, ◌*◌, ◌<◌
 use Rattle.std.proofs.Common.{length, map, get_or, take, drop, sum, arith, refl, ap, ap₂, ◌∙◌, sym, append-nil, inl}
 use Rattle.std.proofs.Common.{inr, length-drop}
 use Rattle.std.proofs.lemmas.Bool.{lt-ltb, le-ltb, cond-true, cond-false, cases_lt}
-use Rattle.std.proofs.lemmas.List.{take_min, take_all, drop_all}
+use Rattle.std.proofs.lemmas.List.{take_min, take_all, drop_all, nil_from_length}
 use Rattle.std.proofs.lemmas.List.Concat.{flat_map-append, length-flat_map}
 use Rattle.std.proofs.lemmas.List.Sums.{sum-map}
 use Rattle.std.specs.Int.{div_ceil}
@@ -14,7 +14,7 @@ use Rattle.tor_v1.specs.Entries.{file_entry}
 use Rattle.tor_v1.specs.Piece.{zeros}
 use Rattle.tor_plan.specs.Content.{part_content, unit_content}
 use Rattle.tor_plan.specs.Units.{part_within, parts_within, joined_unit, joined_units}
-use Rattle.tor_plan.proofs.Empty.{no_bytes, zeros-nil}
+use Rattle.tor_plan.proofs.Empty.{zeros-nil}
 use Rattle.tor_plan.proofs.Contents.{File, from_place, here, after, after_lengths}
 use Rattle.tor_plan.proofs.Joins.{run_of, runs_are, no_runs, drop-append, take-append}
 
@@ -112,7 +112,7 @@ module _ (contents : List (List ℕ)) (size : ℕ) (lengths : List ℕ) (pos : 0
         | inl some ↦ runs_are (unit_content contents) (joined_unit size lengths) size
             (joined contents) [] pos each_unit some ∙ append-nil (joined contents)
         | inr none ↦ no_runs (unit_content contents) (joined_unit size lengths) size (joined contents) [] pos each_unit
-            (omega arith) ∙ sym (no_bytes (joined contents) (omega arith))
+            (omega arith) ∙ sym (nil_from_length (joined contents) (omega arith))
       ]
 
 pub joined_files : (contents : List (List ℕ)) (size : ℕ) (files : List File) → 0 < size

@@ -8,6 +8,7 @@ use Rattle.std.proofs.lemmas.Bool.{ltb-false, cases_lt, cases_eq, cases_Bool, or
 use Rattle.std.proofs.lemmas.List.Concat.{flat_map-append}
 use Rattle.std.specs.Int.{div_ceil}
 use Rattle.std.specs.List.{flat_map, range_with_len}
+use Rattle.std.proofs.lemmas.List.{nil_from_length}
 use Rattle.tor_tree.specs.FileList.{lengths_of}
 use Rattle.tor_tree.specs.declared.kinds.Kind.TheVariants.{Hybrid}
 use Rattle.tor_v1.specs.Content.{joined_content}
@@ -22,7 +23,7 @@ use Rattle.tor_plan.proofs.Contents.{each_unit as each_of_file}
 use Rattle.tor_plan.proofs.Entries.{no_zeros_after, padded_rest, aligned_content}
 use Rattle.tor_plan.proofs.Files.{zeros_before}
 use Rattle.tor_plan.proofs.JoinedContent.{joined, each_unit, total, joined_entries}
-use Rattle.tor_plan.proofs.Empty.{no_bytes, zeros-nil, sums_nil}
+use Rattle.tor_plan.proofs.Empty.{zeros-nil, sums_nil}
 use Rattle.tor_plan.proofs.Ranges.{ceil_is}
 use Rattle.tor_plan.proofs.UnitSums.{sums_of_runs}
 
@@ -67,7 +68,8 @@ module _ (contents : List (List ℕ)) (p span : ℕ) (some : 0 < p) (pos : 0 < s
             (each_unit contents size (lengths_of files) pos fit) there ∙ ap (piece_sums p) (append-nil all)
         | inr none ↦
             let empty : length all ≡ 0 = omega arith in
-            none_of_range unit sums (length all) empty ∙ sym (ap (piece_sums p) (no_bytes all empty) ∙ sums_nil p some)
+            none_of_range unit sums (length all) empty
+            ∙ sym (ap (piece_sums p) (nil_from_length all empty) ∙ sums_nil p some)
       ] ∙ ap (piece_sums p) (joined_entries files contents fit)
 
   -- one file of a hybrid torrent
@@ -79,7 +81,7 @@ module _ (contents : List (List ℕ)) (p span : ℕ) (some : 0 < p) (pos : 0 < s
     | inr none ↦
         let none_there : length content ≡ 0 = omega arith in
         none_of_range (file_unit size place (length content) tail) sums (length content) none_there
-        ∙ sym (ap (piece_sums p) (ap₂ (λ xs n. xs ++ zeros n) (no_bytes content none_there) (empty none_there)
+        ∙ sym (ap (piece_sums p) (ap₂ (λ xs n. xs ++ zeros n) (nil_from_length content none_there) (empty none_there)
         ∙ zeros-nil) ∙ sums_nil p some)
   ]
 

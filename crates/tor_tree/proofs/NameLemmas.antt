@@ -3,6 +3,7 @@ use Rattle.std.proofs.Common.{◌≡◌, ◌==◌, ℕ, Bool, true, false, cond,
 use Rattle.std.proofs.Common.{Result, Ok, Err, is_ok, MatchResult}
 use Rattle.std.specs.Str.{IsUtf8, is_utf8, bytes_eq}
 use Rattle.std.proofs.lemmas.Str.{IsUtf8-from_is_utf8, is_utf8-from_IsUtf8}
+use Rattle.std.proofs.lemmas.Bool.{false_from_ne_true}
 use Rattle.tor_tree.specs.declared.names.NameError.TheVariants.{NotUtf8}
 use Rattle.tor_tree.specs.Name.{name_fault, has_byte, slash}
 
@@ -28,8 +29,4 @@ pub is_ok-utf8 : {S E : Type 0} (bytes : List ℕ) (r : Result S E) (Found : S �
     → is_ok r ≡ is_utf8 bytes
 is_ok-utf8 bytes (Ok s) Found Refused h found refused = sym (is_utf8-from_IsUtf8 bytes (found s h))
 is_ok-utf8 bytes (Err e) Found Refused h found refused =
-    sym (unset (is_utf8 bytes) (λ t. refused e h (IsUtf8-from_is_utf8 bytes t)))
-  where
-    unset : (b : Bool) → (b ≡ true → ⊥) → b ≡ false
-    unset true h = absurd (h refl)
-    unset false h = refl
+    sym (false_from_ne_true (is_utf8 bytes) (λ t. refused e h (IsUtf8-from_is_utf8 bytes t)))

@@ -4,7 +4,7 @@ use Rattle.std.proofs.Common.{arith, refl, ap, ap₂, ◌∙◌, sym, append_ass
 use Rattle.std.proofs.Math.Seq.{drop-append-add}
 use Rattle.std.proofs.lemmas.Grind.{div_ceil_times}
 use Rattle.std.proofs.lemmas.List.Concat.{flat_map-append}
-use Rattle.std.proofs.lemmas.List.{take-append-drop, take_at, take_all, length-take-le}
+use Rattle.std.proofs.lemmas.List.{take-append-drop, take_at, take_all, length-take-le, nil_from_length}
 use Rattle.std.specs.Fork.{slice_chunk}
 use Rattle.std.specs.Int.{div_ceil}
 use Rattle.std.specs.List.{flat_map, range_with_len}
@@ -45,15 +45,11 @@ module _ (p : ℕ) (pos : 0 < p) where
   unfolding pieces_of
   pieces_nil = ap (λ n. map (slice_chunk [] p) (range_with_len 0 n)) (ceil_is 0 p 0 (omega arith) (omega arith))
 
-  no_bytes : (xs : List ℕ) → length xs ≡ 0 → xs ≡ []
-  no_bytes [] e = refl
-  no_bytes (x ∷ xs) e = absurd (omega (arith, e))
-
   -- so many whole pieces, and what comes after them
   pieces-append : (k : ℕ) (xs ys : List ℕ) → length xs ≡ k * p
       → pieces_of p (xs ++ ys) ≡ pieces_of p xs ++ pieces_of p ys
   pieces-append zero xs ys whole =
-      let none = no_bytes xs (omega (arith, whole)) in
+      let none = nil_from_length xs (omega (arith, whole)) in
       ap (λ zs. pieces_of p (zs ++ ys)) none
       ∙ sym (ap (λ zs. pieces_of p zs ++ pieces_of p ys) none ∙ ap (λ zs. zs ++ pieces_of p ys) pieces_nil)
   pieces-append (suc k) xs ys whole =
