@@ -14,7 +14,8 @@ fn told<S: Source>(source: &S, file: u64) -> Result<Option<u64>, S::Fault> {
     source.length(file)
 }
 
-fn read<'a, S: Source>(
+/// The bytes that one read gives.
+pub(crate) fn read<'a, S: Source>(
     source: &S,
     file: u64,
     start: u64,

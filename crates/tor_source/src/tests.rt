@@ -1,4 +1,5 @@
 //! Scans and reads of real folders, and of a system that has what no test can make.
+use crate::memory_tests::read;
 use crate::{FolderSource, ScanFault, Source};
 use std::alloc::{AllocError, Allocator, Global};
 use std::fs::{File, Metadata, OpenOptions};
@@ -294,16 +295,6 @@ fn paths(alloc: Global, texts: &[&str]) -> Result<Vec<FilePath>, Fail> {
         paths.push(FilePath::new(names).ok_or("a path")?)?;
     }
     Ok(paths)
-}
-
-fn read<'a, S: Source>(
-    source: &S,
-    file: u64,
-    start: u64,
-    buffer: &'a mut [u8],
-) -> Result<&'a [u8], S::Fault> {
-    let count = source.read_at(file, start, buffer)?;
-    Ok(&buffer[..count])
 }
 
 #[test]
