@@ -5,9 +5,17 @@ pub mod FirstOf
 pub mod Halved
 pub mod HashesByUnit
 pub mod PartBytes
+pub mod PartReads
 pub mod Parts
+pub mod PlaceFaults
+pub mod Places
+pub mod PlanFaults
+pub mod ProvedLaws
+pub mod ReadContents
 pub mod Runs
 pub mod Taken
 pub mod Told
 pub mod Trees
+pub mod UnitParts
+pub mod UnitRuns
 pub mod Whole

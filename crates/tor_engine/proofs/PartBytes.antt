@@ -43,13 +43,6 @@ module _ {F : Type 0} (facts : SourceFacts F) (file start : ℕ) where
       let left = ap length (later_bytes done) ∙ length-drop done (bytes_from facts file start) in
       omega (arith, left)
 
-  -- the bytes that were read are those that come next
-  pub next_bytes : (done count : ℕ) (old new : List ℕ) → AreRead facts file (start + done) old new count
-      → take done (bytes_from facts file start) ++ take count new ≡ take (done + count) (bytes_from facts file start)
-  next_bytes done count old new read =
-      let all = bytes_from facts file start in
-      ap (λ bytes. take done all ++ bytes) (read.bytes ∙ ap (take count) (later_bytes done)) ∙ sym (take-add done count all)
-
   -- the first of them that fails
   pub read_fault : (done size : ℕ) (error : EngineError F) → done < size
       → first_of (byte_fault facts file) (range_with_len start done) ≡ None

@@ -11,9 +11,10 @@ use Rattle.tor_source.specs.Source.{SourceFacts}
 use Rattle.tor_tree.specs.FileList.{lengths_of}
 use Rattle.tor_tree.specs.declared.kinds.Kind.{Kind}
 use Rattle.tor_engine.specs.Contents.{contents_in}
-use Rattle.tor_engine.specs.Fault.{change_from, first_of, length_fault, lengths_fault}
+use Rattle.tor_engine.specs.Fault.{change_from, first_length_fault, first_of, length_fault}
 use Rattle.tor_engine.specs.declared.errors.EngineError.TheVariants.{Changed}
-use Rattle.tor_engine.specs.steps.Run.{AreUnitsOf, HasLengths}
+use Rattle.tor_engine.specs.steps.Reads.{HasLengths}
+use Rattle.tor_engine.specs.steps.Run.{AreUnitsOf}
 use Rattle.tor_engine.proofs.FileHashes.{some_piece}
 use Rattle.tor_engine.proofs.FirstOf.{neither}
 
@@ -52,7 +53,7 @@ no_change f None none = refl
 no_change f (Some file) none = cc
 
 -- the files have the lengths of the plan where none of them is told otherwise
-pub lengths_hold : {F : Type 0} (facts : SourceFacts F) (plan : PlanFacts) → lengths_fault facts plan.lengths ≡ None
+pub lengths_hold : {F : Type 0} (facts : SourceFacts F) (plan : PlanFacts) → first_length_fault facts plan.lengths ≡ None
     → HasLengths plan facts
 lengths_hold facts plan none =
     let told = map length (contents_in facts (length plan.lengths)) in
