@@ -37,6 +37,7 @@ module _ {F : Type 0} (facts : SourceFacts F) (first second all : List PlanUnit)
 pub answers_as : {S F : Type 0} {is_steady : S → SourceFacts F → Type 0} {gave : S → ℕ → Option ℕ → F → Type 0}
     {source : S} {plan : PlanFacts} {units : List PlanUnit} (one other : Result RunSums (EngineError F)) → one ≡ other
     → AnswersUnits is_steady gave source plan units one → AnswersUnits is_steady gave source plan units other
-answers_as {S = S} {F = F} {is_steady = is_steady} {gave = gave} {source = source} {plan = plan} {units = units} one other
+answers_as {S = S} {F = F} {is_steady = is_steady} {gave = gave} {source = source} {plan = plan} {units = units} one
+    other
     is given =
     subst (λ (r : Result RunSums (EngineError F)). AnswersUnits is_steady gave source plan units r) is given

@@ -12,7 +12,8 @@ use Rattle.tor_engine.specs.steps.Hashes.{bytes_of_part}
 use Rattle.tor_engine.specs.steps.Reads.{HasLengths}
 
 -- the plan tells the length of a file's content
-pub size_of : (lengths : List ℕ) (contents : List (List ℕ)) (file : ℕ) → map length contents ≡ lengths → file < length lengths
+pub size_of : (lengths : List ℕ) (contents : List (List ℕ)) (file : ℕ) → map length contents ≡ lengths
+    → file < length lengths
     → get_or lengths file 0 ≡ length (get_or contents file [])
 size_of lengths contents file fit named =
     let there : file < length contents = omega (arith, named, ap length fit, length-map contents length) in
@@ -27,7 +28,8 @@ module _ {F : Type 0} (facts : SourceFacts F) (plan : PlanFacts) (part : Part) (
     (is : IsPartOf plan.lengths plan.piece_length part) where
   content_at : get_or (contents_in facts (length plan.lengths)) part.file [] ≡ unwrap_or (facts.contents part.file) []
   content_at =
-      get_or-map-range_with_len (λ file. unwrap_or (facts.contents file) []) 0 (length plan.lengths) part.file part.file []
+      get_or-map-range_with_len (λ file. unwrap_or (facts.contents file) []) 0 (length plan.lengths) part.file
+      part.file []
       is.named (zero-add part.file)
 
   -- the file has its bytes

@@ -1,12 +1,11 @@
 -- The first place that fails, in the order of the units and in that of the files.
-use Rattle.std.proofs.Common.{◌≡◌, ℕ, ◌+◌, ◌*◌, ◌<◌, List, [], ◌∷◌, ◌++◌, map, Option, refl, ap, ap₂, sym, ◌∙◌}
+use Rattle.std.proofs.Common.{◌≡◌, ℕ, ◌+◌, ◌*◌, ◌<◌, List, [], ◌∷◌, map, Option, refl, ap, ap₂, sym, ◌∙◌}
 use Rattle.std.specs.List.{enumerate_from, flat_map, range_with_len}
 use Rattle.std.specs.Option.{option_or}
 use Rattle.tor_engine.specs.Fault.{byte_fault, file_fault, first_byte_fault, first_of, part_fault, unit_fault}
 use Rattle.tor_engine.specs.Fault.{units_fault}
 use Rattle.tor_engine.specs.declared.errors.EngineError.{EngineError}
 use Rattle.tor_plan.specs.Units.{hash_units}
-use Rattle.tor_plan.specs.declared.units.Part.{Part}
 use Rattle.tor_plan.specs.declared.units.PlanUnit.{PlanUnit}
 use Rattle.tor_source.specs.Source.{SourceFacts}
 use Rattle.tor_tree.specs.FileList.{lengths_of}

@@ -68,7 +68,8 @@ take-joined n xs ys = elim (cases_lt (length xs) n) [
 drop_range : {X : Type 0} (f : ℕ → X) (a n k : ℕ) → k ≤ n
     → drop k (map f (range_with_len a n)) ≡ map f (range_with_len (a + k) (n - k))
 drop_range f a n zero less =
-    ap₂ (λ b m. map f (range_with_len b m)) (let e : a ≡ a + 0 = omega arith in e) (let e : n ≡ n - 0 = omega arith in e)
+    ap₂ (λ b m. map f (range_with_len b m)) (let e : a ≡ a + 0 = omega arith in e)
+    (let e : n ≡ n - 0 = omega arith in e)
 drop_range f a zero (suc k) less = absurd (omega (arith, less))
 drop_range f a (suc n) (suc k) less =
     drop_range f (a + 1) n k (omega (arith, less))
@@ -83,7 +84,8 @@ run_of_places file m start n within =
     let long = length_places file (0 + start) (m - start) in
     ap (take n) (drop_range {X = ℕ × ℕ} (λ place. (file, place)) 0 m start within)
     ∙ sym (take_min n rest)
-    ∙ take-map-range_with_len {X = ℕ × ℕ} (λ place. (file, place)) (0 + start) (m - start) (min n (length rest)) (omega (arith, long))
+    ∙ take-map-range_with_len {X = ℕ × ℕ} (λ place. (file, place)) (0 + start) (m - start) (min n (length rest))
+    (omega (arith, long))
     ∙ ap₂ (λ b k. places file b k) (let e : 0 + start ≡ start = omega arith in e)
     (let e : min n (length rest) ≡ min n (m - start) = omega (arith, long) in e)
 
@@ -98,7 +100,8 @@ module _ {X Y : Type 0} (f : X → List Y) (g : ℕ → X) (size : ℕ) (xs : Li
       ∙ flat_map-append f (map g (range_with_len 0 n)) (g n ∷ [])
       ∙ ap₂ (λ ys zs. ys ++ zs) (runs_before n (λ k less. each k (omega (arith, less))))
       (append-nil (f (g n)) ∙ each n (omega arith))
-      ∙ sym (take-add (n * size) size xs) ∙ ap (λ k. take k xs) (let e : n * size + size ≡ suc n * size = omega arith in e)
+      ∙ sym (take-add (n * size) size xs) ∙ ap (λ k. take k xs)
+      (let e : n * size + size ≡ suc n * size = omega arith in e)
 
   all_runs : (m : ℕ) → 0 < size → length xs ≡ m
       → ((k : ℕ) → k * size < m → f (g k) ≡ take size (drop (k * size) xs))
@@ -121,7 +124,8 @@ module _ (kind : Kind) (p size : ℕ) (pos : 0 < size) where
       (length_places file 0 m)
       (λ k less.
       append-nil (places file (k * size) (min (m - k * size) size))
-      ∙ ap (λ n. places file (k * size) n) (let e : min (m - k * size) size ≡ min size (m - k * size) = omega arith in e)
+      ∙ ap (λ n. places file (k * size) n)
+      (let e : min (m - k * size) size ≡ min size (m - k * size) = omega arith in e)
       ∙ sym (run_of_places file m (k * size) size (omega (arith, less))))
 
   separate_places : (file : ℕ) (files : List (List (List ℕ) × ℕ))
@@ -130,7 +134,8 @@ module _ (kind : Kind) (p size : ℕ) (pos : 0 < size) where
   separate_places file [] = refl
   separate_places file (entry ∷ files) =
       let tail = zeros_after kind p entry.1 files in
-      flat_map-append places_of_unit (units_of_file size file entry.1 tail) (separate_units kind p size (file + 1) files)
+      flat_map-append places_of_unit (units_of_file size file entry.1 tail)
+      (separate_units kind p size (file + 1) files)
       ∙ ap₂ (λ xs ys. xs ++ ys) (places_of_file file entry.1 tail) (separate_places (file + 1) files)
 
 -- ---- joined files

@@ -1,5 +1,6 @@
 -- Contents of the files of a plan, from what was read of all its units.
-use Rattle.std.proofs.Common.{◌≡◌, ◌≤◌, ◌<◌, ◌*◌, ℕ, zero, suc, ◌+◌, List, [], ◌∷◌, ◌++◌, length, map, take, drop, get_or}
+use Rattle.std.proofs.Common.{◌≡◌, ◌≤◌, ◌<◌, ◌*◌, ℕ, zero, suc, ◌+◌, List, [], ◌∷◌, ◌++◌, length, map, take, drop}
+use Rattle.std.proofs.Common.{get_or}
 use Rattle.std.proofs.Common.{sum, refl, ap, ap₂, subst, sym, ◌∙◌, arith, mul-pos}
 use Rattle.std.specs.List.{AllByRecursion, flat_map, range_with_len}
 use Rattle.std.proofs.Math.Seq.{drop-append_seam, take-append_seam}
@@ -15,9 +16,8 @@ use Rattle.tor_plan.specs.WithinFiles.{IsPartOf}
 use Rattle.tor_plan.specs.declared.units.Part.{Part}
 use Rattle.tor_plan.specs.declared.units.PlanUnit.{PlanUnit}
 use Rattle.tor_source.specs.Source.{SourceFacts}
-use Rattle.tor_engine.specs.steps.Hashes.{bytes_of_part}
 use Rattle.tor_engine.specs.steps.Reads.{AreReads, HaveRead, PartRead}
-use Rattle.tor_engine.specs.steps.Run.{AreUnitsOf, IsUnitOf, parts_of}
+use Rattle.tor_engine.specs.steps.Run.{IsUnitOf, parts_of}
 use Rattle.tor_engine.proofs.FileHashes.{some_piece}
 use Rattle.tor_engine.proofs.PartReads.{all_append}
 use Rattle.tor_engine.proofs.Parts.{size_of}
@@ -79,7 +79,8 @@ cut_bytes contents file (n ∷ lengths) bytes long split =
     let size = ap length here ∙ first_long n lengths bytes long in
     map-append (byte_at contents) (places file 0 n) (places_of_files (file + 1) lengths)
     ∙ ap₂ (λ xs ys. xs ++ ys)
-    (bytes_there contents file 0 n (omega (arith, size)) ∙ take_all n (get_or contents file []) (omega (arith, size)) ∙ here)
+    (bytes_there contents file 0 n (omega (arith, size)) ∙ take_all n (get_or contents file [])
+    (omega (arith, size)) ∙ here)
     (cut_bytes contents (file + 1) lengths (drop n bytes) (rest_long n lengths bytes long)
     (sym (drop-drop 1 file contents) ∙ ap (drop 1) split))
     ∙ take-append-drop n bytes
@@ -116,7 +117,8 @@ module _ (contents : List (List ℕ)) where
 
   -- lists that are the same when they are joined are the same where their lengths are
   each_alike : (reads : List PartRead) → AllByRecursion (λ read. length read.1 ≡ read.0.length) reads
-      → flat_map bytes_in reads ≡ flat_map (λ read. read.1) reads → AllByRecursion (λ read. bytes_in read ≡ read.1) reads
+      → flat_map bytes_in reads ≡ flat_map (λ read. read.1) reads
+      → AllByRecursion (λ read. bytes_in read ≡ read.1) reads
   each_alike [] whole same = tt
   each_alike (read ∷ reads) whole same =
       let rest = flat_map bytes_in reads in

@@ -1,5 +1,5 @@
 -- Units that are read one after the other, and in two halves.
-use Rattle.std.proofs.Common.{◌≡◌, ◌<◌, ◌+◌, ℕ, Bool, true, false, cond, List, [], ◌∷◌, ◌++◌, length, map, take, get_or}
+use Rattle.std.proofs.Common.{◌≡◌, ◌<◌, ◌+◌, ℕ, Bool, true, false, cond, List, [], ◌∷◌, ◌++◌, length, take, get_or}
 use Rattle.std.proofs.Common.{append-nil, ap, ap₂, sym, ◌∙◌}
 use Rattle.std.specs.List.{flat_map}
 use Rattle.std.proofs.lemmas.Grind.{flat_map-append}
@@ -12,7 +12,6 @@ use Rattle.tor_tree.specs.Kinds.{has_v1, has_v2}
 use Rattle.tor_v1.specs.Piece.{piece_sums}
 use Rattle.tor_engine.specs.declared.run.RunSums.{RunSums}
 use Rattle.tor_engine.specs.steps.Hashes.{hashes_of_unit}
-use Rattle.tor_engine.specs.steps.Reads.{AreReads}
 use Rattle.tor_engine.specs.steps.Run.{AddsUnit, HashesUnits, parts_of}
 use Rattle.tor_engine.proofs.PartReads.{have_both, reads_as, reads_both, reads_none}
 use Rattle.tor_engine.proofs.Runs.{none_yet, one_more_if}
@@ -46,18 +45,21 @@ module _ {F : Type 0} (is_steady : SourceFacts F → Type 0) (plan : PlanFacts) 
       ∙ ap parts_of (sym (take_more units i d there)) in
       record {
         reads = old.reads ++ added.reads;
-        are = reads_as is_steady plan (front ++ unit.parts) (parts_of (take (i + 1) units)) (old.reads ++ added.reads) all
+        are = reads_as is_steady plan (front ++ unit.parts) (parts_of (take (i + 1) units))
+            (old.reads ++ added.reads) all
             (reads_both is_steady plan front unit.parts old.reads added.reads old.are added.are);
         sums = λ contents fit have.
             let both = have_both contents old.reads added.reads have in
             let before = old.sums contents fit both.0 in
             let own = added.sums contents fit both.1 in
             record {
-              hashes = one_more_if (hashes_in contents) (has_v2 plan.kind) [] run.hashes.items new.hashes.items units i d
+              hashes = one_more_if (hashes_in contents) (has_v2 plan.kind) [] run.hashes.items new.hashes.items units
+                  i d
                   there before.hashes (own.hashes
                   ∙ ap (λ xs. run.hashes.items ++ cond (has_v2 plan.kind) xs [])
                   (append-nil (hashes_in contents unit) ∙ ap (hashes_in contents) (sym here)));
-              pieces = one_more_if (pieces_in contents) (has_v1 plan.kind) [] run.pieces.items new.pieces.items units i d
+              pieces = one_more_if (pieces_in contents) (has_v1 plan.kind) [] run.pieces.items new.pieces.items units
+                  i d
                   there before.pieces (own.pieces
                   ∙ ap (λ xs. run.pieces.items ++ cond (has_v1 plan.kind) xs [])
                   (append-nil (pieces_in contents unit) ∙ ap (pieces_in contents) (sym here)));

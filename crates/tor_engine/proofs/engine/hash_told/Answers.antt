@@ -1,5 +1,5 @@
 -- the units, and then the lengths again
-use Rattle.std.proofs.Common.{◌≡◌, length, None, inl, inr, ap, sym, ◌∙◌}
+use Rattle.std.proofs.Common.{length, inl, inr, sym, ◌∙◌}
 use Rattle.tor_engine.specs.Contents.{contents_in}
 use Rattle.tor_engine.proofs.PlanFaults.{fault_of_plan}
 use Rattle.tor_engine.proofs.ReadContents.{contents_there}

@@ -1,5 +1,5 @@
 -- the bytes that come next
-use Rattle.std.proofs.Common.{◌≡◌, ℕ, refl, inr, ap, subst, sym, ◌∙◌, ◌++◌, length, arith}
+use Rattle.std.proofs.Common.{◌≡◌, ℕ, refl, inr, subst, ◌∙◌, arith}
 use Rattle.std.proofs.lemmas.List.{length-append}
 use Rattle.tor_engine.specs.Fault.{byte_fault}
 use Rattle.tor_engine.specs.steps.Reads.{FeedsPart}
@@ -36,7 +36,8 @@ reads-preserved g c =
           );
       within = omega (arith, some.1);
       begun = omega (arith, c.in_ok-feed.ensures.begun, old.begun, c.split_at.ensures.front_len);
-      fed = feeds_more (g.S.Source.is_steady c.args.source.now) part c.args.sums.now done count c.reads.sums c.feed.new.self _
+      fed = feeds_more (g.S.Source.is_steady c.args.source.now) part c.args.sums.now done count c.reads.sums
+          c.feed.new.self _
           old.fed c.split_at.ensures.front_len
           (λ facts steady long. c.split_at.ensures.front ∙ (c.in-Ok.ensures.read facts steady
           (some_left facts part.file part.start done part.length c.reads-test.true long)).bytes)

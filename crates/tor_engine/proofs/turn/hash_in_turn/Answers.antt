@@ -1,5 +1,5 @@
 -- one unit after the other
-use Rattle.std.proofs.Common.{◌<◌, ℕ, length, inl, inr, ap, sym, subst, ◌∙◌, arith}
+use Rattle.std.proofs.Common.{◌<◌, ℕ, inl, inr, ap, sym, subst, ◌∙◌, arith}
 use Rattle.tor_engine.specs.Fault.{unit_fault}
 use Rattle.tor_engine.proofs.FirstOf.{first_at, first_next, first_of_none}
 use Rattle.tor_engine.proofs.UnitRuns.{units_more, units_none}
@@ -21,7 +21,8 @@ units-preserved g c =
     let here = sym c.unit-item.is in
     record {
       buffer = subst (λ (n : ℕ). 0 < n) (sym c.in-Ok.ensures.buffer) old.buffer;
-      hashed = units_more (g.S.Source.is_steady c.args.source.now) c.args.plan.now units i _ c.unit-item.result c.units.run
+      hashed = units_more (g.S.Source.is_steady c.args.source.now) c.args.plan.now units i _ c.unit-item.result
+          c.units.run
           c.hash_unit.new.run c.units-test.true here old.hashed c.in-Ok.ensures.added;
       faultless = λ facts steady fit.
           first_next (unit_fault facts) units i _ c.units-test.true (old.faultless facts steady fit)

@@ -35,7 +35,8 @@ returns-clause-added g c =
           let ended = c.in_ok-end_part.ensures.taken plan.kind p bytes (unit ++ bytes)
           (fed.taken plan.kind p [] unit given) in
           let zeroed = c.in_ok-feed_zeros.ensures.taken plan.kind p [] (unit ++ bytes) ended in
-          let all = append_assoc unit bytes (zeros part.zeros) ∙ ap (λ xs. unit ++ (xs ++ zeros part.zeros)) (sym own) in (
+          let all = append_assoc unit bytes (zeros part.zeros)
+          ∙ ap (λ xs. unit ++ (xs ++ zeros part.zeros)) (sym own) in (
             subst (λ (xs : List ℕ). HasTaken plan.kind p [] xs c.feed_zeros.new.self) all zeroed,
             c.in_ok-end_part.ensures.hashed plan.kind p bytes (unit ++ bytes) (fed.taken plan.kind p [] unit given)
                 (some_bytes plan.lengths p part bytes c.requires.part fed.counted)
@@ -43,6 +44,7 @@ returns-clause-added g c =
                 c.lengths.ensures
                 ∙ ap (λ n. hashes ++ cond b (hashes_of_bytes p n bytes) [])
                 (size_of plan.lengths contents part.file fit c.requires.part.named)
-                ∙ ap (λ xs. hashes ++ cond b (hashes_of_bytes p (length (get_or contents part.file [])) xs) []) (sym own),
+                ∙ ap (λ xs. hashes ++ cond b (hashes_of_bytes p (length (get_or contents part.file [])) xs) [])
+                (sym own),
           );
     }

@@ -46,7 +46,8 @@ each-preserved g c =
       buffer = c.in-Ok.ensures.buffer ∙ old.buffer;
       begun = c.in-Ok.ensures.added.begun;
       pieces = old.pieces;
-      read = parts_more (g.S.Source.is_steady c.args.source.now) c.args.plan.now parts i _ c.args.unit.now.zeros c.each.sums
+      read = parts_more (g.S.Source.is_steady c.args.source.now) c.args.plan.now parts i _ c.args.unit.now.zeros
+          c.each.sums
           c.hash_part.new.sums c.args.run.now.hashes.items c.each.run.hashes.items c.hash_part.new.hashes.items
           c.each-test.true old.read c.in-Ok.ensures.added;
       faultless = λ facts steady fit.
