@@ -14,6 +14,7 @@ pub mod ProvedLaws
 pub mod ReadContents
 pub mod Runs
 pub mod Taken
+pub mod Tiles
 pub mod Told
 pub mod Trees
 pub mod UnitParts
