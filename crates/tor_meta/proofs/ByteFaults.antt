@@ -66,7 +66,8 @@ module _ {F : Type 0} (facts : SourceFacts F) (entries : Entries) where
       (get_or-map (λ j. facts.byte_fault j place) (places_of entries) k 0 None inside
       ∙ ap (λ j. facts.byte_fault j place) (there k d 0 less))
 
-  lengths_listed : (es : Entries) → lengths_of (listed_files facts es) ≡ map (λ entry. length (content_at facts entry.1)) es
+  lengths_listed : (es : Entries) → lengths_of (listed_files facts es)
+      ≡ map (λ entry. length (content_at facts entry.1)) es
   lengths_listed [] = refl
   lengths_listed (entry ∷ es) = ap (λ ns. length (content_at facts entry.1) ∷ ns) (lengths_listed es)
 

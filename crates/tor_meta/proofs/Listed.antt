@@ -131,7 +131,8 @@ facts_there head files sums trees = by_kind (has_v2 head.kind) refl
     by_kind false e = (bare files, record { is_listed = bare_listed files; is_rooted = λ f. cc; is_layered = λ f. cc })
 
 -- a torrent may tell the facts
-pub makeable : (head : Head) (files : List (List (List ℕ) × ℕ)) (sums : TorrentSums) (facts : List Facts) → IsJudged head files
+pub makeable : (head : Head) (files : List (List (List ℕ) × ℕ)) (sums : TorrentSums) (facts : List Facts)
+    → IsJudged head files
     → HaveTrees head files sums → AreFactsOf head files sums facts → AreMakeable (settings_of head) facts
 makeable head files sums facts judged trees told = record {
   piece_length = judged.piece_length;

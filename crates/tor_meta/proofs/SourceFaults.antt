@@ -134,7 +134,8 @@ module _ {F : Type 0} (facts : SourceFacts F) where
       })
 
   pub fault_none : (order : Order) (paths : ListOf (ListOf (ListOf ℕ))) (entries list : Entries)
-      (places : ListOf ℕ) → ArePlacedPaths paths entries → IsPathList entries → make_refusal {F = F} order paths ≡ None →
+      (places : ListOf ℕ) → ArePlacedPaths paths entries → IsPathList entries
+      → make_refusal {F = F} order paths ≡ None →
       asked_fault facts (length entries) ≡ None → list ≡ listed_files facts entries → places ≡ places_of entries →
       first_byte_fault (facts_at places facts) (lengths_of list) ≡ None → IsMakeFault facts order paths None
   fault_none order paths entries list places placed lawful accepted asked are_files are_places none =

@@ -56,7 +56,8 @@ byte_told facts file place = option_map (λ fault. Read file (Some place) fault)
 
 abbrev pub bytes_fault : {F : Type 0} → SourceFacts F → ListOf (ListOf (ListOf ℕ) × ℕ) → Option (MakeError F)
 bytes_fault facts entries =
-    first_of (λ entry. first_of (byte_told facts entry.1) (range_with_len 0 (length (content_at facts entry.1)))) entries
+    first_of (λ entry. first_of (byte_told facts entry.1) (range_with_len 0 (length (content_at facts entry.1))))
+    entries
 
 -- the first that there is: the refusals, then the lengths, then the bytes
 abbrev pub fault_of : {F : Type 0} → SourceFacts F → Order → ListOf (ListOf (ListOf ℕ)) →
@@ -78,8 +79,8 @@ IsGivenTo gave (Read file start fault) = gave file start fault
 IsGivenTo gave (StreamTooLong file) = ⊥
 IsGivenTo gave _ = Unit {0}
 
--- of a refusal of the order or the paths: it is the first that there is. Other answers are of the source or its lengths,
--- or want of memory
+-- of a refusal of the order or the paths: it is the first that there is. Other answers are of the source or its
+-- lengths, or want of memory
 abbrev pub IsOwn : {F : Type 0} → Option (MakeError F) → MakeError F → Type 0
 IsOwn first (Read file start fault) = Unit {0}
 IsOwn first (Changed file) = Unit {0}

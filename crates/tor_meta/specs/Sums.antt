@@ -31,7 +31,8 @@ pub record HaveTrees (head : Head) (files : List (List (List ℕ) × ℕ)) (sums
   pub layered : has_v2 head.kind ≡ true → length sums.layers.items ≡ length files
 
 -- the facts of the files, with these roots and layers where the head asks for them
-pub record AreFactsOf (head : Head) (files : List (List (List ℕ) × ℕ)) (sums : TorrentSums) (facts : List Facts) : Type 0 where
+pub record AreFactsOf (head : Head) (files : List (List (List ℕ) × ℕ)) (sums : TorrentSums)
+    (facts : List Facts) : Type 0 where
   pub is_listed : listed facts ≡ files
   pub is_rooted : has_v2 head.kind ≡ true → roots_in facts ≡ sums.roots.items
   pub is_layered : has_v2 head.kind ≡ true → layers_in facts ≡ lists_of sums.layers.items

@@ -56,7 +56,8 @@ pub returns-in-Ok-torrent_of_listed-clause-whole : goal.returns-in-Ok-torrent_of
 returns-in-Ok-torrent_of_listed-clause-whole g c =
     let list = c.in-Ok-ask_list.ensures.list in
     let whole = c.in-Ok-torrent_of_listed.ensures.whole in
-    made_of_some (settings_of_order c.args.order.now) c.args.paths.now list.0 c.in-Ok.paths c.in-Ok-ask_list.both.0 whole.0
+    made_of_some (settings_of_order c.args.order.now) c.args.paths.now list.0 c.in-Ok.paths c.in-Ok-ask_list.both.0
+    whole.0
     c.in-Ok-torrent_of_listed.bytes.items c.in-Ok.ensures.placed c.in-Ok.ensures.lawful list.1 whole.1
     (whole.2 ∙ ap (λ settings. metainfo settings (files_of c.in-Ok-ask_list.both.0 whole.0)) c.in_ok-head.ensures)
 

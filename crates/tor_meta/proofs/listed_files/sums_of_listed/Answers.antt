@@ -37,7 +37,8 @@ returns-clause-steady g c = λ facts steady none.
     let both = from_plan head c.args.span list c.in-Ok.sums plan (contents_in facts (length plan.lengths)) is
     c.requires.judged c.requires.span.1 c.piece_length_bounds.ensures
     (λ kind p contents. c.units_are_the_content.ensures kind p c.args.span list contents) fit told.0 in
-    let count : length plan.lengths ≡ length list = ap (λ plan. length plan.lengths) is ∙ length-map list (λ file. file.1) in
+    let count : length plan.lengths ≡ length list = ap (λ plan. length plan.lengths) is
+    ∙ length-map list (λ file. file.1) in
     let there = subst (λ (n : ℕ). (map length (contents_in facts n) ≡ lengths_of list)
     × SumUp head list (contents_in facts n)
     (record { roots = c.in-Ok.sums.roots; layers = c.in-Ok.sums.layers; pieces = c.in-Ok.sums.pieces })) count both in
