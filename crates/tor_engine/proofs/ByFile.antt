@@ -1,5 +1,6 @@
 -- The hashes of all files, cut file by file. Laws of tor_merkle come in as their statements.
-use Rattle.std.proofs.Common.{◌≡◌, ◌<◌, ◌≤◌, ℕ, ◌+◌, ◌*◌, List, [], ◌∷◌, ◌++◌, length, take, drop, get_or, inl, inr, ap, sym, ◌∙◌, arith, lt_of_mul-lt-mul_right}
+use Rattle.std.proofs.Common.{◌≡◌, ◌<◌, ◌≤◌, ℕ, ◌+◌, ◌*◌, List, [], ◌∷◌, ◌++◌, length, take, drop, get_or, inl, inr, ap}
+use Rattle.std.proofs.Common.{sym, ◌∙◌, arith, lt_of_mul-lt-mul_right}
 use Rattle.std.proofs.Math.Seq.{drop-append_seam, take-append_seam}
 use Rattle.std.proofs.lemmas.Bool.{cases_lt, le-leb, lt-leb}
 use Rattle.std.proofs.lemmas.Grind.{div_ceil_times}
@@ -69,6 +70,7 @@ module _ (count : CountOfPieceRoots) (one : RootOfShortContent) (p : ℕ) (allow
   enough_hashes size rest long is =
       let own = hashes_of_file p (get_or contents i []) in
       let later = flat_map (hashes_of_file p) (drop (i + 1) contents) in
-      let many = ap (λ m. div_ceil m p) (sym long) ∙ sym (count_of_file count one p (get_or contents i []) allowed some) in
+      let many = ap (λ m. div_ceil m p) (sym long) ∙ sym (count_of_file count one p (get_or contents i []) allowed
+      some) in
       let total : length rest ≡ length own + length later = ap length (is ∙ own_first) ∙ length-append own later in
       omega (arith, many, total)

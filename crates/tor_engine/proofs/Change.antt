@@ -10,7 +10,8 @@ module _ (told planned : List ℕ) (file : ℕ) where
       change_from file (drop file told) (drop file planned) ≡ Some file
   unfolding change_from
   change_differs one other differ =
-      rw (drop_more told file 0 one) (rw (drop_more planned file 0 other) (rw (ne_eqb (get_or told file 0) (get_or planned file 0) differ) refl))
+      rw (drop_more told file 0 one) (rw (drop_more planned file 0 other)
+      (rw (ne_eqb (get_or told file 0) (get_or planned file 0) differ) refl))
 
   pub change_next : file < length told → file < length planned →
       get_or told file 0 ≡ get_or planned file 0 →
@@ -18,7 +19,8 @@ module _ (told planned : List ℕ) (file : ℕ) where
       ≡ change_from (file + 1) (drop (file + 1) told) (drop (file + 1) planned)
   unfolding change_from
   change_next one other same =
-      rw (drop_more told file 0 one) (rw (drop_more planned file 0 other) (rw (eq-eqb (get_or told file 0) (get_or planned file 0) same) refl))
+      rw (drop_more told file 0 one) (rw (drop_more planned file 0 other)
+      (rw (eq-eqb (get_or told file 0) (get_or planned file 0) same) refl))
 
   pub change_short : file < length told → length planned ≤ file →
       change_from file (drop file told) (drop file planned) ≡ None

@@ -1,7 +1,7 @@
 -- The bytes of a part, read one after the other.
-use Rattle.std.proofs.Common.{◌≡◌, ◌<◌, ◌≤◌, ℕ, ◌+◌, ◌-◌, List, [], ◌++◌, length, take, drop, None, Some, unwrap_or, append_assoc, append-nil, refl, ap, sym, subst, ◌∙◌, arith}
+use Rattle.std.proofs.Common.{◌≡◌, ◌<◌, ◌≤◌, ℕ, ◌+◌, ◌-◌, List, [], ◌++◌, length, drop, None, Some, unwrap_or}
+use Rattle.std.proofs.Common.{append_assoc, append-nil, refl, ap, sym, subst, ◌∙◌, arith}
 use Rattle.std.proofs.lemmas.List.{drop-drop, length-drop}
-use Rattle.std.proofs.Math.Seq.{take-add}
 use Rattle.std.specs.List.{range_with_len}
 use Rattle.tor_source.specs.Source.{AreRead, SourceFacts, bytes_from}
 use Rattle.tor_tree.specs.declared.kinds.Kind.{Kind}
@@ -42,13 +42,6 @@ module _ {F : Type 0} (facts : SourceFacts F) (file start : ℕ) where
   some_left done size less there =
       let left = ap length (later_bytes done) ∙ length-drop done (bytes_from facts file start) in
       omega (arith, left)
-
-  -- the bytes that were read are those that come next
-  pub next_bytes : (done count : ℕ) (old new : List ℕ) → AreRead facts file (start + done) old new count
-      → take done (bytes_from facts file start) ++ take count new ≡ take (done + count) (bytes_from facts file start)
-  next_bytes done count old new read =
-      let all = bytes_from facts file start in
-      ap (λ bytes. take done all ++ bytes) (read.bytes ∙ ap (take count) (later_bytes done)) ∙ sym (take-add done count all)
 
   -- the first of them that fails
   pub read_fault : (done size : ℕ) (error : EngineError F) → done < size

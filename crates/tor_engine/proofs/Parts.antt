@@ -1,33 +1,43 @@
 -- A part of a plan's file, where the files have the plan's lengths.
-use Rattle.std.proofs.Common.{◌≡◌, ◌≢◌, ◌<◌, ◌≤◌, [], length, take, drop, get_or, unwrap_or, zero-add, ap, sym, ◌∙◌, arith}
-use Rattle.std.proofs.lemmas.List.{get_or-map, length-drop, length-take-le}
-use Rattle.std.proofs.lemmas.List.FromFn.{get_or-map-range_with_len, length-map-range_with_len}
+use Rattle.std.proofs.Common.{◌≡◌, ◌≢◌, ◌<◌, ◌≤◌, ℕ, List, [], length, map, take, drop, get_or, unwrap_or}
+use Rattle.std.proofs.Common.{zero-add, ap, sym, ◌∙◌, arith}
+use Rattle.std.proofs.lemmas.List.{get_or-map, length-drop, length-map}
+use Rattle.std.proofs.lemmas.List.FromFn.{get_or-map-range_with_len}
 use Rattle.tor_plan.specs.PlanFacts.{PlanFacts}
 use Rattle.tor_plan.specs.WithinFiles.{IsPartOf}
 use Rattle.tor_plan.specs.declared.units.Part.{Part}
 use Rattle.tor_source.specs.Source.{SourceFacts, bytes_from}
 use Rattle.tor_engine.specs.Contents.{contents_in}
 use Rattle.tor_engine.specs.steps.Hashes.{bytes_of_part}
-use Rattle.tor_engine.specs.steps.Run.{HasLengths}
+use Rattle.tor_engine.specs.steps.Reads.{HasLengths}
+
+-- the plan tells the length of a file's content
+pub size_of : (lengths : List ℕ) (contents : List (List ℕ)) (file : ℕ) → map length contents ≡ lengths
+    → file < length lengths
+    → get_or lengths file 0 ≡ length (get_or contents file [])
+size_of lengths contents file fit named =
+    let there : file < length contents = omega (arith, named, ap length fit, length-map contents length) in
+    ap (λ xs. get_or xs file 0) (sym fit) ∙ get_or-map length contents file [] 0 there
+
+-- a part has bytes
+pub some_bytes : (lengths : List ℕ) (p : ℕ) (part : Part) (bytes : List ℕ) → IsPartOf lengths p part
+    → length bytes ≡ part.length → bytes ≢ []
+some_bytes lengths p part bytes is counted none = omega (arith, counted, is.some, ap length none)
 
 module _ {F : Type 0} (facts : SourceFacts F) (plan : PlanFacts) (part : Part) (fit : HasLengths plan facts)
     (is : IsPartOf plan.lengths plan.piece_length part) where
   content_at : get_or (contents_in facts (length plan.lengths)) part.file [] ≡ unwrap_or (facts.contents part.file) []
   content_at =
-      get_or-map-range_with_len (λ file. unwrap_or (facts.contents file) []) 0 (length plan.lengths) part.file part.file []
+      get_or-map-range_with_len (λ file. unwrap_or (facts.contents file) []) 0 (length plan.lengths) part.file
+      part.file []
       is.named (zero-add part.file)
-
-  -- the plan tells the length of its content
-  pub size_at : get_or plan.lengths part.file 0 ≡ length (get_or (contents_in facts (length plan.lengths)) part.file [])
-  size_at =
-      let there : part.file < length (contents_in facts (length plan.lengths)) =
-      omega (arith, is.named, length-map-range_with_len (λ file. unwrap_or (facts.contents file) []) 0 (length plan.lengths)) in
-      ap (λ xs. get_or xs part.file 0) (sym fit) ∙ get_or-map length (contents_in facts (length plan.lengths)) part.file [] 0 there
 
   -- the file has its bytes
   pub part_there : part.length ≤ length (bytes_from facts part.file part.start)
   part_there =
-      let long : get_or plan.lengths part.file 0 ≡ length (unwrap_or (facts.contents part.file) []) = size_at ∙ ap length content_at in
+      let size = size_of plan.lengths (contents_in facts (length plan.lengths)) part.file fit is.named in
+      let long : get_or plan.lengths part.file 0 ≡ length (unwrap_or (facts.contents part.file) []) =
+      size ∙ ap length content_at in
       let rest = length-drop part.start (unwrap_or (facts.contents part.file) []) in
       omega (arith, is.within, long, rest)
 
@@ -35,8 +45,3 @@ module _ {F : Type 0} (facts : SourceFacts F) (plan : PlanFacts) (part : Part) (
   pub part_bytes : take part.length (bytes_from facts part.file part.start)
       ≡ bytes_of_part (contents_in facts (length plan.lengths)) part
   part_bytes = ap (λ bytes. take part.length (drop part.start bytes)) (sym content_at)
-
-  pub some_bytes : take part.length (bytes_from facts part.file part.start) ≢ []
-  some_bytes none =
-      let all = length-take-le part.length (bytes_from facts part.file part.start) part_there in
-      omega (arith, all, is.some, ap length none)

@@ -4,7 +4,8 @@ use Rattle.tor_tree.specs.declared.kinds.Kind.{Kind}
 use Rattle.tor_engine.specs.declared.unit.UnitSums.{UnitSums}
 use Rattle.tor_engine.specs.steps.Unit.{HasTaken}
 
-pub taken_as : (kind kind' : Kind) (p p' : ℕ) (unit unit' : List ℕ) (sums : UnitSums) → kind ≡ kind' → p ≡ p' → unit ≡ unit'
+pub taken_as : (kind kind' : Kind) (p p' : ℕ) (unit unit' : List ℕ) (sums : UnitSums) → kind ≡ kind' → p ≡ p'
+    → unit ≡ unit'
     → HasTaken kind p [] unit sums → HasTaken kind' p' [] unit' sums
 taken_as kind kind' p p' unit unit' sums same same' same'' given =
     subst (λ (u : List ℕ). HasTaken kind' p' [] u sums) same''

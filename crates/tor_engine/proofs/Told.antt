@@ -1,5 +1,6 @@
 -- Lengths that were told, file by file.
-use Rattle.std.proofs.Common.{◌≡◌, ◌<◌, ℕ, ◌+◌, List, [], ◌∷◌, ◌++◌, Option, None, Some, Ok, length, map, refl, ap, sym, ◌∙◌, arith, option_map, unwrap_or, zero-add}
+use Rattle.std.proofs.Common.{◌≡◌, ◌<◌, ℕ, ◌+◌, List, [], ◌∷◌, ◌++◌, Option, None, Some, Ok, length, map, refl, ap, sym}
+use Rattle.std.proofs.Common.{◌∙◌, arith, option_map, unwrap_or, zero-add}
 use Rattle.std.specs.List.{range_with_len}
 use Rattle.std.proofs.lemmas.List.{map-append}
 use Rattle.std.proofs.lemmas.List.FromFn.{map-range_with_len_more}
@@ -31,7 +32,8 @@ module _ {F : Type 0} (facts : SourceFacts F) where
     told =
         let next = length_of (facts.length_fault file) (facts.contents file) n is in
         let more = map-range_with_len_more (λ k. unwrap_or (facts.contents k) []) 0 file file (zero-add file) in
-        let all = ap (map length) more ∙ map-append length (contents_in facts file) (unwrap_or (facts.contents file) [] ∷ []) in
+        let all = ap (map length) more ∙ map-append length (contents_in facts file)
+        (unwrap_or (facts.contents file) [] ∷ []) in
         rw before.told (rw (sym next) (sym all));
     faultless = first_none (length_fault facts) 0 file (file + 1) (omega arith) before.faultless
         (λ j low high. let here : j ≡ file = omega arith in rw here (no_fault file n is));

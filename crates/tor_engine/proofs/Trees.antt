@@ -1,5 +1,6 @@
 -- The trees of files, from the hashes of their pieces. Laws of tor_merkle come in as their statements.
-use Rattle.std.proofs.Common.{◌≡◌, ◌<◌, ◌≤◌, ◌^◌, ◌-◌, ℕ, List, [], ◌∷◌, length, replicate, inl, inr, refl, ap, sym, subst, ◌∙◌, arith}
+use Rattle.std.proofs.Common.{◌≡◌, ◌<◌, ◌≤◌, ◌^◌, ◌-◌, ℕ, List, [], ◌∷◌, length, replicate, inl, inr, refl, ap, sym}
+use Rattle.std.proofs.Common.{subst, ◌∙◌, arith}
 use Rattle.std.proofs.lemmas.Bool.{cases_lt, le-leb, lt-leb}
 use Rattle.std.proofs.lemmas.List.{length-replicate}
 use Rattle.std.specs.Int.{div_ceil}
@@ -32,7 +33,9 @@ few_hashes count few n size p level allowed small within is =
 -- a content of at most a piece has no layer
 pub no_layer : (content : List ℕ) (size p : ℕ) → length content ≡ size → size ≤ p → [] ≡ piece_layer content p
 unfolding piece_layer
-no_layer content size p is short = let fits : length content ≤ p = omega (arith, is, short) in rw (le-leb (length content) p fits) refl
+no_layer content size p is short =
+    let fits : length content ≤ p = omega (arith, is, short) in
+    rw (le-leb (length content) p fits) refl
 
 -- a file without hashes is empty
 some_hash : SomePieceRoots → (p : ℕ) (byte : ℕ) (bytes : List ℕ) → IsPieceLength p

@@ -1,5 +1,6 @@
 -- All units of a plan, of files that have its lengths.
-use Rattle.std.proofs.Common.{◌≡◌, ◌<◌, ◌*◌, ◌+◌, ℕ, List, [], ◌∷◌, length, map, All, Option, None, Some, option_map, unwrap_or, cond, inl, inr, refl, ap, ap₂, sym, subst, ◌∙◌, arith}
+use Rattle.std.proofs.Common.{◌≡◌, ◌<◌, ◌*◌, ◌+◌, ℕ, List, [], ◌∷◌, length, map, All, Option, None, Some, option_map}
+use Rattle.std.proofs.Common.{unwrap_or, cond, inl, inr, refl, ap, ap₂, sym, subst, ◌∙◌, arith}
 use Rattle.std.proofs.lemmas.Bool.{cases_eq, eq-eqb, ne_eqb}
 use Rattle.std.proofs.lemmas.List.{length-map}
 use Rattle.std.proofs.lemmas.List.FromFn.{length-map-range_with_len}
@@ -11,22 +12,25 @@ use Rattle.tor_source.specs.Source.{SourceFacts}
 use Rattle.tor_tree.specs.FileList.{lengths_of}
 use Rattle.tor_tree.specs.declared.kinds.Kind.{Kind}
 use Rattle.tor_engine.specs.Contents.{contents_in}
-use Rattle.tor_engine.specs.Fault.{change_from, first_of, length_fault, lengths_fault}
+use Rattle.tor_engine.specs.Fault.{change_from, first_length_fault, first_of, length_fault}
 use Rattle.tor_engine.specs.declared.errors.EngineError.TheVariants.{Changed}
-use Rattle.tor_engine.specs.steps.Run.{AreUnitsOf, HasLengths}
+use Rattle.tor_engine.specs.steps.Reads.{HasLengths}
+use Rattle.tor_engine.specs.steps.Run.{AreUnitsOf}
 use Rattle.tor_engine.proofs.FileHashes.{some_piece}
 use Rattle.tor_engine.proofs.FirstOf.{neither}
 
 -- the law units_are_within_files
 abbrev pub UnitsAreWithinFiles : Type 0
-UnitsAreWithinFiles = (kind : Kind) (piece_length span : ℕ) (files : List (List (List ℕ) × ℕ)) → 0 < span → 0 < piece_length →
+UnitsAreWithinFiles = (kind : Kind) (piece_length span : ℕ) (files : List (List (List ℕ) × ℕ)) → 0 < span
+    → 0 < piece_length →
     All (IsUnitWithin (lengths_of files) piece_length (span * piece_length)) (hash_units kind piece_length span files)
 
 pub units_of_plan : UnitsAreWithinFiles → (plan : PlanFacts) → IsPlan plan → AreUnitsOf plan plan.units
 units_of_plan within plan is =
     subst (λ (p : PlanFacts). AreUnitsOf p p.units) (sym is.made)
     (λ k d there.
-    let unit = within plan.kind plan.piece_length is.span is.files (omega (arith, is.is_span.1)) (some_piece plan.kind plan.piece_length is.pieces) k d there in
+    let unit = within plan.kind plan.piece_length is.span is.files (omega (arith, is.is_span.1))
+    (some_piece plan.kind plan.piece_length is.pieces) k d there in
     record { zeros = omega (arith, unit.bare); parts = unit.parts })
 
 -- lists of one length, of which no place differs
@@ -52,7 +56,8 @@ no_change f None none = refl
 no_change f (Some file) none = cc
 
 -- the files have the lengths of the plan where none of them is told otherwise
-pub lengths_hold : {F : Type 0} (facts : SourceFacts F) (plan : PlanFacts) → lengths_fault facts plan.lengths ≡ None
+pub lengths_hold : {F : Type 0} (facts : SourceFacts F) (plan : PlanFacts)
+    → first_length_fault facts plan.lengths ≡ None
     → HasLengths plan facts
 lengths_hold facts plan none =
     let told = map length (contents_in facts (length plan.lengths)) in

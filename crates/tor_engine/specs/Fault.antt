@@ -1,8 +1,8 @@
 -- The first fault of a steady source, in the order in which it is asked.
-use Rattle.std.specs.Prelude.{◌≡◌, ◌⊎◌, ℕ, ◌==◌, List, [], ◌∷◌, length, map, ◌+◌, Option, None, Some, Result, Ok, Err, option_map, if◌then◌else◌}
-use Rattle.std.specs.List.{range_with_len}
+use Rattle.std.specs.Prelude.{◌≡◌, ◌⊎◌, ℕ, ◌==◌, List, [], ◌∷◌, length, map, ◌+◌, Option, None, Some, Result, Ok, Err}
+use Rattle.std.specs.Prelude.{option_map, if◌then◌else◌}
+use Rattle.std.specs.List.{enumerate_from, range_with_len}
 use Rattle.std.specs.Option.{option_or}
-use Rattle.tor_plan.specs.PlanFacts.{PlanFacts}
 use Rattle.tor_plan.specs.declared.units.Part.{Part}
 use Rattle.tor_plan.specs.declared.units.PlanUnit.{PlanUnit}
 use Rattle.tor_source.specs.Source.{SourceFacts, told_length}
@@ -37,14 +37,25 @@ change_from file (one ∷ told) (other ∷ planned) =
     if one == other then change_from (file + 1) told planned else Some file
 
 -- all lengths are asked, and then compared with those that were planned
-abbrev pub lengths_fault : {F : Type 0} → SourceFacts F → List ℕ → Option (EngineError F)
-lengths_fault facts planned =
+abbrev pub first_length_fault : {F : Type 0} → SourceFacts F → List ℕ → Option (EngineError F)
+first_length_fault facts planned =
     option_or (first_of (length_fault facts) (range_with_len 0 (length planned)))
     (option_map (λ file. Changed file) (change_from 0 (map length (contents_in facts (length planned))) planned))
 
 -- where a byte is read
 abbrev pub byte_fault : {F : Type 0} → SourceFacts F → ℕ → ℕ → Option (EngineError F)
 byte_fault facts file place = option_map (λ fault. Read file (Some place) fault) (facts.byte_fault file place)
+
+-- where the bytes of files of these lengths are read, file by file, each from its first byte to its last
+abbrev pub file_fault : {F : Type 0} → SourceFacts F → ℕ → ℕ → Option (EngineError F)
+file_fault facts file count = first_of (byte_fault facts file) (range_with_len 0 count)
+
+abbrev pub first_byte_fault : {F : Type 0} → SourceFacts F → List ℕ → Option (EngineError F)
+first_byte_fault facts lengths = first_of (λ file. file_fault facts file.0 file.1) (enumerate_from 0 lengths)
+
+-- the lengths come first, then the bytes
+abbrev pub first_fault : {F : Type 0} → SourceFacts F → List ℕ → Option (EngineError F)
+first_fault facts lengths = option_or (first_length_fault facts lengths) (first_byte_fault facts lengths)
 
 -- where the bytes of a part, of a unit, of units are read
 abbrev pub part_fault : {F : Type 0} → SourceFacts F → Part → Option (EngineError F)
@@ -55,10 +66,6 @@ unit_fault facts unit = first_of (part_fault facts) unit.parts
 
 abbrev pub units_fault : {F : Type 0} → SourceFacts F → List PlanUnit → Option (EngineError F)
 units_fault facts units = first_of (unit_fault facts) units
-
--- the lengths come first, then the units
-abbrev pub first_fault : {F : Type 0} → SourceFacts F → PlanFacts → Option (EngineError F)
-first_fault facts plan = option_or (lengths_fault facts plan.lengths) (units_fault facts plan.units)
 
 -- memory was refused, or this is the fault
 abbrev pub IsFault : {F : Type 0} → Option (EngineError F) → EngineError F → Type 0

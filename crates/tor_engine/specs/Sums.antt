@@ -24,3 +24,8 @@ pub record AreSumsOf (plan : PlanFacts) (contents : List (List ℕ)) (sums : Sum
       ≡ map (λ content. if has_v2 plan.kind then piece_layer content plan.piece_length else []) contents
   pub pieces : sums.pieces.items
       ≡ (if has_v1 plan.kind then piece_sums plan.piece_length (plan_content plan contents) else [])
+
+-- the sums are those of some contents, which have the lengths of the plan
+abbrev pub AreSumsOfSome : PlanFacts → Sums → Type 0
+AreSumsOfSome plan sums =
+    (contents : List (List ℕ)) × (map length contents ≡ plan.lengths) × AreSumsOf plan contents sums

@@ -1,3 +1,4 @@
 pub mod Hashes
+pub mod Reads
 pub mod Run
 pub mod Unit

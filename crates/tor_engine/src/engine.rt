@@ -1,11 +1,11 @@
 //! All files of a plan hashed.
-ghost use Rattle.std.specs.Prelude.{◌≡◌, None, IfErr, MatchResult, length};
+ghost use Rattle.std.specs.Prelude.{◌≡◌, None, IfErr, IfOk, MatchResult, length};
 ghost use Rattle.tor_plan.specs.PlanFacts.{IsPlan};
 ghost use Rattle.tor_source.specs.Source.{SourceFacts};
 ghost use Rattle.tor_engine.specs.Contents.{contents_in};
-ghost use Rattle.tor_engine.specs.Fault.{IsFault, IsGiven, first_fault};
+ghost use Rattle.tor_engine.specs.Fault.{IsFault, IsGiven, first_byte_fault, first_fault, first_length_fault};
 ghost use Rattle.tor_engine.specs.How.{IsHow};
-ghost use Rattle.tor_engine.specs.Sums.{AreSumsOf};
+ghost use Rattle.tor_engine.specs.Sums.{AreSumsOf, AreSumsOfSome};
 ghost use Rattle.tor_engine.specs.steps.Run.{AnswersUnits};
 
 use crate::errors::EngineError;
@@ -23,8 +23,8 @@ use tor_source::Source;
 
 /// What the files of the source sum up to that the plan has: file i of the plan is file i of the source. First every
 /// length is asked, in the order of the files; a file that is not as long as the plan says is told when all were
-/// asked. Then the units are read, each byte once; the first fault in their order is told, whatever the `How`. Then
-/// every length is asked again.
+/// asked. Then the units are read, each byte once; the first fault in the order of the files is told, whatever the
+/// `How`. Then every length is asked again.
 pub fn hash_all<S: Source, R: Threads + Sync>(
     rt: &R,
     alloc: Global,
@@ -36,11 +36,35 @@ pub fn hash_all<S: Source, R: Threads + Sync>(
     ensures summed { (facts : SourceFacts S.Fault) → S.is_steady source.now facts →
         MatchResult result
         (λ sums. AreSumsOf plan.now (contents_in facts (length plan.now.lengths)) sums
-        × (first_fault facts plan.now ≡ None))
-        (IsFault (first_fault facts plan.now)) }
+        × (first_fault facts plan.now.lengths ≡ None))
+        (IsFault (first_fault facts plan.now.lengths)) }
+    ensures whole { IfOk result (AreSumsOfSome plan.now) }
     ensures gave { IfErr result (IsGiven (S.gave source.now)) }
 {
     expect_lengths(alloc, source, plan.lengths())?;
+    hash_told(rt, alloc, source, plan, how)
+}
+
+/// The same of files whose lengths were asked before, and are those of the plan: the units are read, and then every
+/// length is asked again. A file that is missing then was changed.
+pub fn hash_told<S: Source, R: Threads + Sync>(
+    rt: &R,
+    alloc: Global,
+    source: &S,
+    plan: &Plan,
+    how: How,
+) -> Result<Sums, EngineError<S::Fault>>
+    requires { IsHow how }
+    ensures summed { (facts : SourceFacts S.Fault) → S.is_steady source.now facts →
+        first_length_fault facts plan.now.lengths ≡ None →
+        MatchResult result
+        (λ sums. AreSumsOf plan.now (contents_in facts (length plan.now.lengths)) sums
+        × (first_byte_fault facts plan.now.lengths ≡ None))
+        (IsFault (first_byte_fault facts plan.now.lengths)) }
+    ensures whole { IfOk result (AreSumsOfSome plan.now) }
+    ensures gave { IfErr result (IsGiven (S.gave source.now)) }
+{
+    units_are_within_files();
     let run = match hash_units(rt, alloc, source, plan, how) {
         Ok(run) => run,
         Err(error) => return Err(error),

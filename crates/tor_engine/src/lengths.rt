@@ -2,7 +2,8 @@
 ghost use Rattle.std.specs.Prelude.{◌≡◌, None, Ok, Some, IfErr, IfOk, MatchResult, length};
 ghost use Rattle.std.specs.List.{range_with_len};
 ghost use Rattle.tor_source.specs.Source.{SourceFacts, told_length};
-ghost use Rattle.tor_engine.specs.Fault.{IsFault, IsGiven, ToldLengths, change_from, first_of, length_fault, lengths_fault};
+ghost use Rattle.tor_engine.specs.Fault.{IsFault, IsGiven, ToldLengths, change_from, first_length_fault, first_of};
+ghost use Rattle.tor_engine.specs.Fault.{length_fault};
 
 use crate::errors::EngineError;
 use std::alloc::Global;
@@ -15,7 +16,8 @@ pub(crate) fn expect_lengths<S: Source>(
     planned: &[u64],
 ) -> Result<(), EngineError<S::Fault>>
     ensures steady { (facts : SourceFacts S.Fault) → S.is_steady source.now facts →
-        MatchResult result (λ _. lengths_fault facts planned.now ≡ None) (IsFault (lengths_fault facts planned.now)) }
+        MatchResult result (λ _. first_length_fault facts planned.now ≡ None)
+        (IsFault (first_length_fault facts planned.now)) }
     ensures gave { IfErr result (IsGiven (S.gave source.now)) }
 {
     let told = ask_lengths(alloc, source, planned.len())?;

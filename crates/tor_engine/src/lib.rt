@@ -1,10 +1,12 @@
 //! The files of a source hashed as a plan says, by one worker or by several at once.
 //!
-//! - [`hash_all`] (`engine.rt`): the lengths, roots, layers and pieces of all files, or the first fault.
+//! - [`hash_all`] (`engine.rt`): the lengths, roots, layers and pieces of all files, or the first fault; [`hash_told`]
+//!   where the lengths were asked before.
 //! - [`How`] (`how.rt`): by how many workers; [`Sums`] (`sums.rt`): what comes of it; [`EngineError`] (`errors.rt`).
 //! - [`ask_lengths`] (`lengths.rt`): the lengths of files. `halves.rt` shares the units among workers; `turn.rt` hashes
 //!   units one after the other, `unit.rt` one unit, `reading.rt` reads one part; `run.rt` holds what a run of units
 //!   sums up to.
+//! - [`laws`] (`laws.rt`): a law over the definition of the first fault.
 //!
 //! ```rust
 //! use tor_engine::{How, hash_all};
@@ -19,16 +21,19 @@ mod engine;
 mod errors;
 mod halves;
 mod how;
+pub mod laws;
 mod lengths;
 mod reading;
 mod run;
 mod sums;
 #[cfg(test)]
 mod tests;
+#[cfg(test)]
+mod tests_reads;
 mod turn;
 mod unit;
 
-pub use engine::hash_all;
+pub use engine::{hash_all, hash_told};
 pub use errors::EngineError;
 pub use how::How;
 pub use lengths::ask_lengths;

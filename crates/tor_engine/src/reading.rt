@@ -1,10 +1,10 @@
 //! One part of a file, read and fed.
-ghost use Rattle.std.specs.Prelude.{◌≡◌, ◌+◌, ◌<◌, ◌≤◌, ◌++◌, ℕ, List, None, Some, IfErr, IfOk, MatchResult, OnOk, length, take};
+ghost use Rattle.std.specs.Prelude.{◌≡◌, ◌+◌, ◌<◌, ◌≤◌, None, Some, IfErr, IfOk, MatchResult, length};
 ghost use Rattle.tor_merkle.specs.declared.TheConstants.{MAX_LENGTH};
 ghost use Rattle.tor_source.specs.Source.{AreRead, SourceFacts, bytes_from};
-ghost use Rattle.tor_tree.specs.declared.kinds.Kind.{Kind};
 ghost use Rattle.tor_engine.specs.Fault.{IsFault, IsGiven, byte_fault, part_fault};
-ghost use Rattle.tor_engine.specs.steps.Unit.{HasTaken, begun_of};
+ghost use Rattle.tor_engine.specs.steps.Reads.{FeedsPart};
+ghost use Rattle.tor_engine.specs.steps.Unit.{begun_of};
 
 use crate::errors::EngineError;
 use crate::unit::UnitSums;
@@ -22,12 +22,7 @@ pub(crate) fn feed_part<S: Source>(
     requires small { begun_of sums.old + part.now.length ≤ MAX_LENGTH }
     requires placed { part.now.start + part.now.length ≤ MAX_LENGTH }
     ensures buffer { length buffer.new ≡ length buffer.old }
-    ensures taken { (facts : SourceFacts S.Fault) (kind : Kind) (piece_length : ℕ) (before unit : List ℕ) →
-        S.is_steady source.now facts → HasTaken kind piece_length before unit sums.old →
-        part.now.length ≤ length (bytes_from facts part.now.file part.now.start) →
-        OnOk result (HasTaken kind piece_length
-        (before ++ take part.now.length (bytes_from facts part.now.file part.now.start))
-        (unit ++ take part.now.length (bytes_from facts part.now.file part.now.start)) sums.new) }
+    ensures fed { IfOk result (λ _. FeedsPart (S.is_steady source.now) part.now part.now.length sums.old sums.new) }
     ensures fault { (facts : SourceFacts S.Fault) → S.is_steady source.now facts →
         part.now.length ≤ length (bytes_from facts part.now.file part.now.start) →
         MatchResult result (λ _. part_fault facts part.now ≡ None) (IsFault (part_fault facts part.now)) }

@@ -16,7 +16,7 @@ use tor_tree::{FileList, FilePath, Kind, Name};
 const EACH_HOW: [How; 4] = [How::One, How::Halves(1), How::Halves(2), How::Halves(64)];
 
 /// A plan of files with these lengths, whose piece length and span are tested first.
-fn plan_of<R: AllocGlobal + Abort>(
+pub(crate) fn plan_of<R: AllocGlobal + Abort>(
     rt: &R,
     lengths: &[u64],
     kind: Kind,
@@ -48,7 +48,7 @@ fn content(alloc: Global, length: u64) -> Result<Vec<u8>, AllocError> {
 }
 
 /// Files of such contents, with these lengths.
-fn files_of(alloc: Global, lengths: &[u64]) -> Result<MemSource, AllocError> {
+pub(crate) fn files_of(alloc: Global, lengths: &[u64]) -> Result<MemSource, AllocError> {
     let mut files = Vec::new(alloc);
     for length in lengths {
         files.push(Some(content(alloc, *length)?))?;
@@ -73,7 +73,7 @@ fn hash_by<S: Source, R: AllocGlobal + Abort + Threads + Sync>(
 }
 
 /// The fault of the files as text; `none` where they have sums.
-fn fault_by<S: Source, R: AllocGlobal + Abort + Threads + Sync>(
+pub(crate) fn fault_by<S: Source, R: AllocGlobal + Abort + Threads + Sync>(
     rt: &R,
     source: &S,
     plan: &Plan,
@@ -261,7 +261,7 @@ fn builds_the_tree_of_one_file(rt: HostRuntime) -> Result<(), Fail> {
 }
 
 /// Compares the fault of the files with the one wanted, each way to share the units.
-fn expect_fault<S: Source, R: AllocGlobal + Abort + Threads + Sync>(
+pub(crate) fn expect_fault<S: Source, R: AllocGlobal + Abort + Threads + Sync>(
     rt: &R,
     source: &S,
     plan: &Plan,

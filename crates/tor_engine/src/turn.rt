@@ -1,15 +1,12 @@
 //! Units hashed one after the other by one worker.
-ghost use Rattle.std.specs.Prelude.{◌≡◌, ◌<◌, None, IfErr, IfOk, MatchResult, OnOk, [], ◌∷◌, ◌++◌, ◌^◌, ◌≤◌, ℕ, List, length, vec_len, if◌then◌else◌};
+ghost use Rattle.std.specs.Prelude.{◌≡◌, ◌<◌, None, IfErr, IfOk, MatchResult, length, vec_len};
 ghost use Rattle.tor_plan.specs.PlanFacts.{IsPlan};
 ghost use Rattle.tor_plan.specs.WithinFiles.{IsPartOf};
 ghost use Rattle.tor_source.specs.Source.{SourceFacts};
 ghost use Rattle.tor_engine.specs.Fault.{IsFault, IsGiven, part_fault, unit_fault};
-ghost use Rattle.tor_engine.specs.Contents.{contents_in};
-ghost use Rattle.tor_engine.specs.steps.Unit.{HasTaken, begun_of};
-ghost use Rattle.tor_engine.specs.steps.Hashes.{hashes_of_part};
-ghost use Rattle.tor_plan.specs.Content.{part_content};
-ghost use Rattle.tor_tree.specs.Kinds.{has_v2};
-ghost use Rattle.tor_engine.specs.steps.Run.{AddsUnits, AnswersUnits, AreUnitsOf, HasLengths, IsUnitOf};
+ghost use Rattle.tor_engine.specs.steps.Reads.{AddsPart, HasLengths};
+ghost use Rattle.tor_engine.specs.steps.Run.{AddsUnit, AnswersUnits, AreUnitsOf, IsUnitOf};
+ghost use Rattle.tor_engine.specs.steps.Unit.{begun_of};
 
 use crate::errors::EngineError;
 use crate::reading::feed_part;
@@ -59,8 +56,7 @@ fn hash_unit<S: Source>(
     requires unit { IsUnitOf plan.now unit.now }
     requires buffer { 0 < length buffer.old }
     ensures buffer { length buffer.new ≡ length buffer.old }
-    ensures added { (facts : SourceFacts S.Fault) → S.is_steady source.now facts → HasLengths plan.now facts →
-        OnOk result (AddsUnits plan.now (contents_in facts (length plan.now.lengths)) (unit.now ∷ []) run.old run.new) }
+    ensures added { IfOk result (λ _. AddsUnit (S.is_steady source.now) plan.now unit.now run.old run.new) }
     ensures fault { (facts : SourceFacts S.Fault) → S.is_steady source.now facts → HasLengths plan.now facts →
         MatchResult result (λ _. unit_fault facts unit.now ≡ None) (IsFault (unit_fault facts unit.now)) }
     ensures gave { IfErr result (IsGiven (S.gave source.now)) }
@@ -101,15 +97,8 @@ fn hash_part<S: Source>(
     requires buffer { 0 < length buffer.old }
     requires fresh { begun_of sums.old ≡ 0 }
     ensures buffer { length buffer.new ≡ length buffer.old }
-    ensures fresh { OnOk result (begun_of sums.new ≡ 0) }
-    ensures taken { (facts : SourceFacts S.Fault) (unit : List ℕ) → S.is_steady source.now facts →
-        HasLengths plan.now facts → HasTaken plan.now.kind plan.now.piece_length [] unit sums.old →
-        OnOk result (HasTaken plan.now.kind plan.now.piece_length []
-        (unit ++ part_content (contents_in facts (length plan.now.lengths)) part.now) sums.new) }
-    ensures hashed { (facts : SourceFacts S.Fault) (unit : List ℕ) → S.is_steady source.now facts →
-        HasLengths plan.now facts → HasTaken plan.now.kind plan.now.piece_length [] unit sums.old →
-        OnOk result (hashes.new.items ≡ hashes.old.items ++ (if has_v2 plan.now.kind
-        then hashes_of_part plan.now.piece_length (contents_in facts (length plan.now.lengths)) part.now else [])) }
+    ensures added { IfOk result
+        (λ _. AddsPart (S.is_steady source.now) plan.now part.now sums.old sums.new hashes.old.items hashes.new.items) }
     ensures fault { (facts : SourceFacts S.Fault) → S.is_steady source.now facts → HasLengths plan.now facts →
         MatchResult result (λ _. part_fault facts part.now ≡ None) (IsFault (part_fault facts part.now)) }
     ensures gave { IfErr result (IsGiven (S.gave source.now)) }

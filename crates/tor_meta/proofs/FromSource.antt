@@ -1,19 +1,23 @@
 -- A maker's answer over a source, of the files that were handed in.
 use Rattle.std.proofs.Common.{◌≡◌, ℕ, zero, suc, ◌+◌, ◌<◌, List as ListOf, [], ◌∷◌, length}
-use Rattle.std.proofs.Common.{get_or, map, None, unwrap_or, refl, sym, ap, subst, ◌∙◌}
+use Rattle.std.proofs.Common.{get_or, map, None, unwrap_or, refl, sym, ap, ap₂, subst, ◌∙◌}
 use Rattle.std.proofs.Common.{arith, zero-add}
 use Rattle.std.specs.List.{AllByRecursion, enumerate_from, range_with_len}
+use Rattle.std.specs.List.Sorted.{IsPermutation, IsStrictlySortedBy}
+use Rattle.std.proofs.lemmas.Simd.{map-map}
 use Rattle.std.proofs.lemmas.List.{get_or-map, length-map}
 use Rattle.std.proofs.lemmas.List.Elements.{recursion_from_All}
 use Rattle.std.proofs.lemmas.List.FromFn.{get_or-enumerate_from, length-enumerate_from}
 use Rattle.tor_engine.specs.Contents.{contents_in}
-use Rattle.tor_meta.specs.Contents.{files_of, IsMadeOf}
+use Rattle.tor_meta.specs.Contents.{files_of, IsMadeOf, IsMadeOfSome}
 use Rattle.tor_meta.specs.Make.{content_at, files_of_source, listed_files}
 use Rattle.tor_meta.specs.PlacedFiles.{facts_at}
 use Rattle.tor_source.specs.Source.{SourceFacts}
 use Rattle.tor_spec.specs.Facts.{File}
 use Rattle.tor_spec.specs.Metainfo.{metainfo}
 use Rattle.tor_spec.specs.Settings.{Settings}
+use Rattle.tor_tree.specs.FileList.{lengths_of, paths_of}
+use Rattle.tor_tree.specs.Path.{path_cmp}
 use Rattle.tor_tree.specs.PathList.{ArePlacedPaths, IsPathList, places_of}
 use Rattle.tor_tree.proofs.ProvedLaws.{at_places}
 use Rattle.tor_meta.proofs.Placed.{paths_moved}
@@ -89,3 +93,36 @@ module _ {F : Type 0} (facts : SourceFacts F) where
             lawful.in_order),
         made ∙ ap (metainfo settings) files,
       )
+
+-- the files of a list that have some contents are at the paths that were handed in
+paths_of_files : (files : Entries) (contents : ListOf (ListOf ℕ)) → map length contents ≡ lengths_of files
+    → map (λ (file : File). file.path) (files_of files contents) ≡ paths_of files
+paths_of_files [] [] fit = refl
+paths_of_files [] (content ∷ contents) fit = cc
+paths_of_files (file ∷ files) [] fit = cc
+paths_of_files (file ∷ files) (content ∷ contents) fit =
+    let rest : map length contents ≡ lengths_of files = cc in
+    ap (λ ps. file.0 ∷ ps) (paths_of_files files contents rest)
+
+paths_found : (paths : ListOf (ListOf (ListOf ℕ))) (entries : Entries)
+    → AllByRecursion (λ entry. get_or paths entry.1 [] ≡ entry.0) entries
+    → map (λ place. get_or paths place []) (places_of entries) ≡ paths_of entries
+paths_found paths [] found = refl
+paths_found paths (entry ∷ entries) found = ap₂ (λ p ps. p ∷ ps) found.0 (paths_found paths entries found.1)
+
+pub made_of_some : (settings : Settings) (paths : ListOf (ListOf (ListOf ℕ))) (lengths : ListOf ℕ)
+    (entries list : Entries) (contents : ListOf (ListOf ℕ)) (bytes : ListOf ℕ) → ArePlacedPaths paths entries
+    → IsPathList entries → list ≡ map (λ entry. (entry.0, get_or lengths entry.1 0)) entries
+    → map length contents ≡ lengths_of list → bytes ≡ metainfo settings (files_of list contents)
+    → IsMadeOfSome settings paths bytes
+made_of_some settings paths lengths entries list contents bytes placed lawful is fit made =
+    let same : map (λ (file : File). file.path) (files_of list contents) ≡ paths_of entries =
+    paths_of_files list contents fit ∙ ap paths_of is
+    ∙ map-map (λ (file : ListOf (ListOf ℕ) × ℕ). file.0) (λ entry. (entry.0, get_or lengths entry.1 0)) entries in
+    let found = paths_found paths entries (recursion_from_All _ entries placed.found) in
+    let long : length (places_of entries) ≡ length paths = length-map entries (λ entry. entry.1) ∙ placed.one_each in (
+      files_of list contents,
+      subst (IsPermutation paths) (found ∙ sym same) (at_places paths [] (places_of entries) placed.places long),
+      subst (IsStrictlySortedBy path_cmp) (sym same) lawful.in_order,
+      made,
+    )

@@ -1,6 +1,6 @@
 -- The first fault of a source's files, in the order of the list and under the numbers that were handed in.
 use Rattle.std.proofs.Common.{◌≡◌, ◌⊎◌, inl, inr, ℕ, zero, suc, ◌+◌, ◌<◌, ◌≤◌, List as ListOf, [], ◌∷◌, length}
-use Rattle.std.proofs.Common.{get_or, map, option_map, Option, None, Some, refl, sym, ap, subst, ◌∙◌}
+use Rattle.std.proofs.Common.{get_or, map, option_map, Option, None, Some, refl, sym, ap, ap₂, subst, ◌∙◌}
 use Rattle.std.proofs.Common.{arith, zero-add, Bool, true, false, nat_lt, Result, Ok, Err}
 use Rattle.std.specs.List.{All, AllByRecursion, range_with_len}
 use Rattle.std.specs.Option.{option_or}
@@ -9,24 +9,21 @@ use Rattle.std.proofs.lemmas.List.{get_or-map, length-map}
 use Rattle.std.proofs.lemmas.List.Elements.{recursion_from_All}
 use Rattle.std.proofs.lemmas.List.FromFn.{get_or-range_with_len}
 use Rattle.std.proofs.lemmas.List.FromFn.{length-range_with_len}
-use Rattle.tor_engine.specs.Fault.{change_from, first_fault, first_of, length_fault, lengths_fault, unless_told}
+use Rattle.tor_engine.specs.Fault.{change_from, first_byte_fault, first_length_fault, first_of, length_fault}
+use Rattle.tor_engine.specs.Fault.{unless_told}
 use Rattle.tor_engine.specs.declared.errors.EngineError.{EngineError}
 use Rattle.tor_engine.specs.declared.errors.EngineError.TheVariants.{Resources as NoResources}
-use Rattle.tor_meta.specs.Head.{settings_of}
 use Rattle.tor_meta.specs.Make.{IsMakeFault, asked_fault, bytes_fault, content_at, listed_files}
 use Rattle.tor_meta.specs.Make.{make_refusal}
 use Rattle.tor_meta.specs.MakeError.{of_engine_error}
-use Rattle.tor_meta.specs.Order.{settings_of_order}
 use Rattle.tor_meta.specs.PlacedFiles.{facts_at, renumbered}
-use Rattle.tor_meta.specs.declared.head.Head.{Head}
 use Rattle.tor_meta.specs.declared.make_error.MakeError.{MakeError}
 use Rattle.tor_meta.specs.declared.make_error.MakeError.TheVariants.{Resources}
 use Rattle.tor_meta.specs.declared.order.Order.{Order}
-use Rattle.tor_plan.specs.PlanFacts.{plan_of}
 use Rattle.tor_source.specs.Source.{SourceFacts, told_length}
-use Rattle.tor_spec.specs.Settings.{Settings}
 use Rattle.tor_tree.specs.FileList.{lengths_of}
 use Rattle.tor_tree.specs.PathList.{ArePlacedPaths, IsPathList, places_of}
+use Rattle.tor_meta.proofs.ByteFaults.{byte_fault_told}
 use Rattle.tor_meta.proofs.Judged.{both_none}
 use Rattle.tor_meta.proofs.Placed.{or_second, places_within}
 use Rattle.tor_meta.proofs.SourceFiles.{Entries}
@@ -65,10 +62,6 @@ told_none file other (Err fault) h = cc
 told_none file other (Ok None) h = cc
 told_none file other (Ok (Some n)) h = refl
 
-second_some : {X : Type 0} (a b : Option X) (x : X) → a ≡ None → option_or a b ≡ Some x → b ≡ Some x
-second_some None b x none h = h
-second_some (Some y) b x none h = cc
-
 module _ {F : Type 0} (facts : SourceFacts F) where
   lengths_listed : (entries : Entries) →
       map length (map (content_at facts) (places_of entries)) ≡ lengths_of (listed_files facts entries)
@@ -94,7 +87,7 @@ module _ {F : Type 0} (facts : SourceFacts F) where
 
   lengths_moved : (n : ℕ) (entries : Entries) → All (λ place. place < n) (places_of entries) →
       first_of (length_fault facts) (range_with_len 0 n) ≡ None →
-      lengths_fault (facts_at (places_of entries) facts) (lengths_of (listed_files facts entries)) ≡ None
+      first_length_fault (facts_at (places_of entries) facts) (lengths_of (listed_files facts entries)) ≡ None
   lengths_moved n entries within none =
       let long : length (lengths_of (listed_files facts entries)) ≡ length (places_of entries) = simp length-map refl in
       let contents = ap (map length) (contents_moved facts (places_of entries)) ∙ lengths_listed entries in
@@ -106,38 +99,54 @@ module _ {F : Type 0} (facts : SourceFacts F) where
             (lengths_of (listed_files facts entries)),
       ) refl
 
-  pub fault_told : (order : Order) (head : Head) (paths : ListOf (ListOf (ListOf ℕ))) (entries list : Entries)
-      (places : ListOf ℕ) (error : EngineError F) (e : MakeError F) →
-      ArePlacedPaths paths entries → IsPathList entries → make_refusal {F = F} order paths ≡ None →
-      asked_fault facts (length entries) ≡ None →
-      settings_of head ≡ settings_of_order order → list ≡ listed_files facts entries → places ≡ places_of entries →
-      e ≡ of_engine_error (renumbered places error) →
-      (error ≡ NoResources) ⊎ (first_fault (facts_at places facts)
-      (plan_of head.kind head.piece_length order.span list) ≡ Some error) →
-      (e ≡ Resources) ⊎ IsMakeFault facts order paths (Some e)
-  fault_told order head paths entries list places error e placed lawful accepted asked same are_files are_places is
-      (inl none) = inl (is ∙ rw none refl)
-  fault_told order head paths entries list places error e placed lawful accepted asked same are_files are_places is
-      (inr h) =
-      let moved = subst (λ ps. first_fault (facts_at ps facts) (plan_of head.kind head.piece_length order.span list)
-      ≡ Some error) are_places h in
-      let listed = subst (λ files. first_fault (facts_at (places_of entries) facts)
-      (plan_of head.kind head.piece_length order.span files) ≡ Some error) are_files moved in
-      let ordered = subst (λ (settings : Settings). first_fault (facts_at (places_of entries) facts)
-      (plan_of settings.kind settings.piece_length order.span (listed_files facts entries))
-      ≡ Some error) same listed in
-      let none = both_none _ _ asked in
+  -- the lengths that were told are those of the list, in its order
+  pub lengths_told : (paths : ListOf (ListOf (ListOf ℕ))) (entries list : Entries) (places : ListOf ℕ) →
+      ArePlacedPaths paths entries → asked_fault facts (length entries) ≡ None → list ≡ listed_files facts entries →
+      places ≡ places_of entries → first_length_fault (facts_at places facts) (lengths_of list) ≡ None
+  lengths_told paths entries list places placed asked are_files are_places =
       let count : length (places_of entries) ≡ length entries = simp length-map refl in
       let within = places_within (length entries) (places_of entries) placed.places count in
-      let stay = lengths_moved (length entries) entries within (mapped_none of_engine_error _ none.0) in
-      let units = second_some _ _ error stay ordered in
-      let told : bytes_fault facts order entries ≡ Some e =
-      ap (option_map (λ fault. of_engine_error (renumbered (places_of entries) fault))) units
+      ap₂ (λ ps files. first_length_fault (facts_at ps facts) (lengths_of files)) are_places are_files
+      ∙ lengths_moved (length entries) entries within (mapped_none of_engine_error _ (both_none _ _ asked).0)
+
+  pub fault_told : (order : Order) (paths : ListOf (ListOf (ListOf ℕ))) (entries list : Entries)
+      (places : ListOf ℕ) (error : EngineError F) (e : MakeError F) →
+      ArePlacedPaths paths entries → IsPathList entries → make_refusal {F = F} order paths ≡ None →
+      asked_fault facts (length entries) ≡ None → list ≡ listed_files facts entries → places ≡ places_of entries →
+      e ≡ of_engine_error (renumbered places error) →
+      (error ≡ NoResources) ⊎ (first_byte_fault (facts_at places facts) (lengths_of list) ≡ Some error) →
+      (e ≡ Resources) ⊎ IsMakeFault facts order paths (Some e)
+  fault_told order paths entries list places error e placed lawful accepted asked are_files are_places is (inl none) =
+      inl (is ∙ rw none refl)
+  fault_told order paths entries list places error e placed lawful accepted asked are_files are_places is (inr h) =
+      let listed = sym (ap₂ (λ ps files. first_byte_fault (facts_at ps facts) (lengths_of files)) are_places are_files)
+      ∙ h in
+      let told : bytes_fault facts entries ≡ Some e =
+      sym (byte_fault_told facts entries)
+      ∙ ap (option_map (λ fault. of_engine_error (renumbered (places_of entries) fault))) listed
       ∙ ap Some (sym (is ∙ ap (λ ps. of_engine_error (renumbered ps error)) are_places)) in
       inr (record {
         entries = entries;
         placed = λ _. (placed, lawful.in_order);
         is_first = or_second (make_refusal {F = F} order paths) _ (Some e) accepted
-            (or_second (asked_fault facts (length paths)) _ (Some e) (subst (λ n. asked_fault facts n
-            ≡ None) placed.one_each asked) told);
+            (or_second (asked_fault facts (length paths)) _ (Some e)
+            (subst (λ n. asked_fault facts n ≡ None) placed.one_each asked) told);
       })
+
+  pub fault_none : (order : Order) (paths : ListOf (ListOf (ListOf ℕ))) (entries list : Entries)
+      (places : ListOf ℕ) → ArePlacedPaths paths entries → IsPathList entries
+      → make_refusal {F = F} order paths ≡ None →
+      asked_fault facts (length entries) ≡ None → list ≡ listed_files facts entries → places ≡ places_of entries →
+      first_byte_fault (facts_at places facts) (lengths_of list) ≡ None → IsMakeFault facts order paths None
+  fault_none order paths entries list places placed lawful accepted asked are_files are_places none =
+      let told : bytes_fault facts entries ≡ None =
+      sym (byte_fault_told facts entries)
+      ∙ ap (option_map (λ fault. of_engine_error (renumbered (places_of entries) fault)))
+      (sym (ap₂ (λ ps files. first_byte_fault (facts_at ps facts) (lengths_of files)) are_places are_files) ∙ none) in
+      record {
+        entries = entries;
+        placed = λ _. (placed, lawful.in_order);
+        is_first = or_second (make_refusal {F = F} order paths) _ None accepted
+            (or_second (asked_fault facts (length paths)) _ None
+            (subst (λ n. asked_fault facts n ≡ None) placed.one_each asked) told);
+      }

@@ -19,6 +19,12 @@ IsMadeOf settings files bytes =
     (sorted : List File) × IsPermutation files sorted × IsStrictlySortedBy path_cmp (map (λ file. file.path) sorted)
     × (bytes ≡ metainfo settings sorted)
 
+-- the bytes are the torrent of some files that have these paths, in the order of their paths
+abbrev pub IsMadeOfSome : Settings → List (List (List ℕ)) → List ℕ → Type 0
+IsMadeOfSome settings paths bytes =
+    (sorted : List File) × IsPermutation paths (map (λ file. file.path) sorted)
+    × IsStrictlySortedBy path_cmp (map (λ file. file.path) sorted) × (bytes ≡ metainfo settings sorted)
+
 -- for private clauses: contents that are borrowed, those at places, and files of a list with their contents
 abbrev pub bytes_of : List (Bor (List ℕ)) → List (List ℕ)
 bytes_of contents = map (λ content. content.now) contents

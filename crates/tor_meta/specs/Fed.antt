@@ -3,7 +3,7 @@ use Rattle.std.specs.Prelude.{◌≡◌, ℕ, true, List, [], ◌∷◌, ◌++�
 use Rattle.tor_meta.specs.declared.fed.FedSums.{FedSums}
 use Rattle.tor_merkle.specs.Layer.{piece_layer}
 use Rattle.tor_meta.specs.Layers.{lists_of}
-use Rattle.tor_meta.specs.declared.sums.Sums.{Sums}
+use Rattle.tor_meta.specs.declared.sums.TorrentSums.{TorrentSums}
 use Rattle.tor_merkle.specs.Layer.{root_of}
 use Rattle.tor_tree.specs.Kinds.{has_v1, has_v2}
 use Rattle.tor_tree.specs.declared.kinds.Kind.{Kind}
@@ -27,7 +27,7 @@ Feeds old new part =
     → HasFed new kind piece_length (bytes ++ part)
 
 -- the sums of one file of these bytes
-pub record SumsOfOne (kind : Kind) (piece_length : ℕ) (bytes : List ℕ) (sums : Sums) : Type 0 where
+pub record SumsOfOne (kind : Kind) (piece_length : ℕ) (bytes : List ℕ) (sums : TorrentSums) : Type 0 where
   pub roots : has_v2 kind ≡ true → sums.roots.items ≡ root_of bytes ∷ []
   pub layers : has_v2 kind ≡ true → lists_of sums.layers.items ≡ piece_layer bytes piece_length ∷ []
   pub pieces : has_v1 kind ≡ true → sums.pieces.items ≡ piece_sums piece_length bytes

@@ -4,7 +4,6 @@ pub mod Order
 pub mod MakeError
 pub mod PlacedFiles
 pub mod Make
-pub mod Trees
 pub mod ListRefusal
 pub mod Refusal
 pub mod Layers

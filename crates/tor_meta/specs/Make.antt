@@ -4,22 +4,20 @@ use Rattle.std.specs.Prelude.{if◌then◌else◌}
 use Rattle.std.specs.List.{enumerate_from, range_with_len}
 use Rattle.std.specs.Option.{option_or}
 use Rattle.tor_engine.specs.Contents.{contents_in}
-use Rattle.tor_engine.specs.Fault.{first_of, length_fault, units_fault}
+use Rattle.tor_engine.specs.Fault.{first_of, length_fault}
 use Rattle.tor_merkle.specs.Layer.{is_piece_length}
 use Rattle.tor_meta.specs.MakeError.{of_contents_error, of_engine_error}
 use Rattle.tor_meta.specs.Order.{is_how, is_span, settings_of_order}
-use Rattle.tor_meta.specs.PlacedFiles.{facts_at, renumbered}
 use Rattle.tor_meta.specs.Refusal.{paths_refusal}
 use Rattle.tor_meta.specs.declared.make_error.MakeError.{MakeError}
 use Rattle.tor_meta.specs.declared.make_error.MakeError.TheVariants.{PieceLength, Workers, Span, List, Read}
 use Rattle.tor_meta.specs.declared.make_error.MakeError.TheVariants.{StreamTooLong, Changed, Missing, Resources}
 use Rattle.tor_meta.specs.declared.order.Order.{Order}
-use Rattle.tor_plan.specs.Units.{hash_units}
 use Rattle.tor_source.specs.Source.{SourceFacts}
 use Rattle.tor_spec.specs.Facts.{File}
 use Rattle.tor_tree.specs.FileList.{IsInPathOrder, lengths_fault}
 use Rattle.tor_tree.specs.declared.lists.ListError.TheVariants.{TooLarge}
-use Rattle.tor_tree.specs.PathList.{ArePlacedPaths, places_of}
+use Rattle.tor_tree.specs.PathList.{ArePlacedPaths}
 
 -- the bytes of a file; a missing one has none
 abbrev pub content_at : {F : Type 0} → SourceFacts F → ℕ → ListOf ℕ
@@ -52,19 +50,21 @@ asked_fault facts count =
     option_or (option_map of_engine_error (first_of (length_fault facts) (range_with_len 0 count)))
     (option_map List (lengths_fault (map length (contents_in facts count))))
 
--- where the bytes are read, in the order of the list, unit by unit
-abbrev pub bytes_fault : {F : Type 0} → SourceFacts F → Order → ListOf (ListOf (ListOf ℕ) × ℕ) → Option (MakeError F)
-bytes_fault facts order entries =
-    option_map (λ error. of_engine_error (renumbered (places_of entries) error))
-    (units_fault (facts_at (places_of entries) facts)
-    (hash_units order.kind order.piece_length order.span (listed_files facts entries)))
+-- where the bytes are read: file by file in the order of the list, each from its first byte to its last
+abbrev pub byte_told : {F : Type 0} → SourceFacts F → ℕ → ℕ → Option (MakeError F)
+byte_told facts file place = option_map (λ fault. Read file (Some place) fault) (facts.byte_fault file place)
+
+abbrev pub bytes_fault : {F : Type 0} → SourceFacts F → ListOf (ListOf (ListOf ℕ) × ℕ) → Option (MakeError F)
+bytes_fault facts entries =
+    first_of (λ entry. first_of (byte_told facts entry.1) (range_with_len 0 (length (content_at facts entry.1))))
+    entries
 
 -- the first that there is: the refusals, then the lengths, then the bytes
 abbrev pub fault_of : {F : Type 0} → SourceFacts F → Order → ListOf (ListOf (ListOf ℕ)) →
     ListOf (ListOf (ListOf ℕ) × ℕ) → Option (MakeError F)
 fault_of facts order paths entries =
     option_or (make_refusal order paths) (
-    option_or (asked_fault facts (length paths)) (bytes_fault facts order entries))
+    option_or (asked_fault facts (length paths)) (bytes_fault facts entries))
 
 -- it is this one, where the entries are the paths in order, each with its place
 pub record IsMakeFault {F : Type 0} (facts : SourceFacts F) (order : Order) (paths : ListOf (ListOf (ListOf ℕ)))
@@ -79,8 +79,8 @@ IsGivenTo gave (Read file start fault) = gave file start fault
 IsGivenTo gave (StreamTooLong file) = ⊥
 IsGivenTo gave _ = Unit {0}
 
--- of a refusal of the order or the paths: it is the first that there is. Other answers are of the source or its lengths,
--- or want of memory
+-- of a refusal of the order or the paths: it is the first that there is. Other answers are of the source or its
+-- lengths, or want of memory
 abbrev pub IsOwn : {F : Type 0} → Option (MakeError F) → MakeError F → Type 0
 IsOwn first (Read file start fault) = Unit {0}
 IsOwn first (Changed file) = Unit {0}

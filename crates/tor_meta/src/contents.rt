@@ -13,7 +13,7 @@ use crate::head::Head;
 use crate::info::entries;
 use crate::judge::judge_paths;
 use crate::refusals::ContentsError;
-use crate::sums::{Sums, sum_pieces, sum_trees};
+use crate::sums::{TorrentSums, sum_pieces, sum_trees};
 use crate::torrent::torrent_bytes;
 use std::alloc::{AllocError, Global};
 use tor_tree::laws::files_are_small;
@@ -115,13 +115,13 @@ fn sums_of(
     head: &Head,
     list: &FileList,
     contents: &[&[u8]],
-) -> Result<Sums, AllocError>
+) -> Result<TorrentSums, AllocError>
     requires judged { IsJudged head.now list.now }
     requires contents { map length (bytes_of contents.now) ≡ lengths_of list.now }
     ensures { IfOk result (SumUp head.now list.now (bytes_of contents.entry.now)) }
 {
     files_are_small();
-    let mut sums = Sums::none(alloc);
+    let mut sums = TorrentSums::none(alloc);
     if head.kind.has_v2() {
         let trees = sum_trees(alloc, head.piece_length, contents)?;
         sums.roots = trees.0;

@@ -9,7 +9,7 @@ ghost use Rattle.tor_spec.specs.Metainfo.{metainfo, only};
 
 use crate::head::Head;
 use crate::refusals::ContentsError;
-use crate::sums::{Sums, tree_of};
+use crate::sums::{TorrentSums, tree_of};
 use std::alloc::{AllocError, Global};
 use tor_merkle::{Feed, is_piece_length};
 use tor_v1::PieceSums;
@@ -73,7 +73,7 @@ impl FedSums {
     }
 
     /// What they sum up to, as a list of one file.
-    pub(crate) fn finish(self, alloc: Global) -> Result<Sums, AllocError>
+    pub(crate) fn finish(self, alloc: Global) -> Result<TorrentSums, AllocError>
         ensures { (kind : Kind) (piece_length : ℕ) (bytes : List ℕ) → HasFed self kind piece_length bytes →
             IfOk result (SumsOfOne kind piece_length bytes) }
     {
@@ -82,7 +82,7 @@ impl FedSums {
             feed,
             pieces,
         } = self;
-        let mut sums = Sums::none(alloc);
+        let mut sums = TorrentSums::none(alloc);
         if let Some(pieces) = pieces {
             sums.pieces = pieces.finish();
         }

@@ -1,7 +1,8 @@
 //! The torrent of the files of a source.
 ghost use Rattle.std.specs.Prelude.{◌≡◌, ◌⊎◌, Some, None, IfErr, IfOk, OnOk, List, ℕ, MatchResult, length, map};
 ghost use Rattle.std.specs.Prelude.{Option, slice_index};
-ghost use Rattle.tor_meta.specs.Contents.{IsMadeOf};
+ghost use Rattle.tor_meta.specs.Contents.{IsMadeOf, IsMadeOfSome};
+ghost use Rattle.tor_meta.specs.Hashes.{HasInfo};
 ghost use Rattle.tor_meta.specs.Head.{settings_of};
 ghost use Rattle.tor_meta.specs.Make.{IsGivenTo, IsMakeFault, IsOwn, asked_fault, files_of_source, listed_files};
 ghost use Rattle.tor_meta.specs.Make.{make_refusal, numbers_refusal};
@@ -27,7 +28,8 @@ use tor_tree::{FileList, FilePath, PathList};
 
 /// The bytes of the torrent of the files of a source: file i of the source has path i. The files are put into the order
 /// of their paths. Nothing is asked of the source where the order or the paths are refused; then every length is asked,
-/// in the order of the source's numbers, and then the bytes are read in the order of the list.
+/// in the order of the source's numbers, then the bytes are read in the order of the list, and then every length is
+/// asked again. Of a source that is not steady the bytes are the torrent of some files that have the paths.
 pub fn make<S: Source, R: Threads + Sync>(
     rt: &R,
     alloc: Global,
@@ -37,6 +39,8 @@ pub fn make<S: Source, R: Threads + Sync>(
 ) -> Result<Vec<u8>, MakeError<S::Fault>>
     ensures made { (facts : SourceFacts S.Fault) → S.is_steady source.now facts → IfOk result
         (λ bytes. IsMadeOf (settings_of_order order.now) (files_of_source facts paths.now) bytes.items) }
+    ensures whole { IfOk result (λ bytes. IsMadeOfSome (settings_of_order order.now) paths.now bytes.items) }
+    ensures info { IfOk result (λ bytes. HasInfo bytes.items) }
     ensures fault { (facts : SourceFacts S.Fault) → S.is_steady source.now facts → MatchResult result
         (λ _. IsMakeFault facts order.now paths.now None)
         (λ error. (error ≡ Resources) ⊎ IsMakeFault facts order.now paths.now (Some error)) }

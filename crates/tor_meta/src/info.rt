@@ -18,7 +18,7 @@ ghost use Rattle.tor_v1.specs.Reserved.{takes_reserved};
 
 use crate::head::Head;
 use crate::items::{dictionary, files, number, text};
-use crate::sums::Sums;
+use crate::sums::TorrentSums;
 use std::alloc::{AllocError, Global};
 use tor_bencode::Item;
 use tor_merkle::laws::piece_length_bounds;
@@ -31,7 +31,7 @@ pub(crate) fn info(
     alloc: Global,
     head: &Head,
     list: &FileList,
-    sums: &Sums,
+    sums: &TorrentSums,
 ) -> Result<Item, AllocError>
     requires judged { IsJudged head.now list.now }
     requires trees { HaveTrees head.now list.now sums.now }
@@ -62,7 +62,7 @@ fn tree(
     alloc: Global,
     head: &Head,
     list: &FileList,
-    sums: &Sums,
+    sums: &TorrentSums,
 ) -> Result<Option<Item>, AllocError>
     requires { HaveTrees head.now list.now sums.now }
     ensures { IfOk result (λ item.

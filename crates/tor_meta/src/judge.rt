@@ -16,10 +16,10 @@ use tor_tree::{FilePath, PathList};
 use tor_v1::is_reserved;
 
 /// The most names in the path of a file.
-pub const MAX_NAMES: usize = 64;
+pub(crate) const MAX_NAMES: usize = 64;
 
 /// The paths in order, each with its place, where no torrent is refused for them or for the head.
-pub fn judge_paths(
+pub(crate) fn judge_paths(
     alloc: Global,
     head: &Head,
     paths: Vec<FilePath>,

@@ -47,6 +47,8 @@ mod tests;
 #[cfg(test)]
 mod tests_larger;
 #[cfg(test)]
+mod tests_rows;
+#[cfg(test)]
 mod tests_source;
 mod torrent;
 
@@ -55,11 +57,8 @@ pub use fed::{FedSums, refusal_of_one};
 pub use from_source::make;
 pub use hashes::{Hashes, info_hashes, magnet};
 pub use head::Head;
-pub use judge::{MAX_NAMES, judge_paths};
 pub use make_error::MakeError;
 pub use making::make_fed;
 pub use order::{MAX_SPAN, MAX_WORKERS, Order};
 pub use output::{WriteFault, write_out};
 pub use refusals::ContentsError;
-pub use sums::Sums;
-pub use torrent::torrent_bytes;

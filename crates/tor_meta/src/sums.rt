@@ -14,24 +14,24 @@ use tor_v1::{Entry, PieceSums};
 
 /// What the contents of files sum up to, file by file in the order of their list.
 #[derive(Debug, Drop)]
-pub struct Sums {
+pub(crate) struct TorrentSums {
     /// The pieces root of each file, 32 bytes; an empty file has none (BEP 52, "pieces root").
-    pub roots: Vec<Option<Hash>>,
+    pub(crate) roots: Vec<Option<Hash>>,
     /// For each file, the hashes of the layer where one covers one piece, in the order of the pieces; none of a file
     /// of at most one piece (BEP 52, "piece layers").
-    pub layers: Vec<Vec<Hash>>,
+    pub(crate) layers: Vec<Vec<Hash>>,
     /// The joined SHA-1 of each piece of the whole content, 20 bytes a piece (BEP 3, "info dictionary": `pieces`).
-    pub pieces: Vec<u8>,
+    pub(crate) pieces: Vec<u8>,
 }
 
-impl Sums {
+impl TorrentSums {
     /// Of no file.
-    pub(crate) fn none(alloc: Global) -> Sums
+    pub(crate) fn none(alloc: Global) -> TorrentSums
         ensures roots { result.roots.items ≡ [] }
         ensures layers { result.layers.items ≡ [] }
         ensures pieces { result.pieces.items ≡ [] }
     {
-        Sums {
+        TorrentSums {
             roots: Vec::new(alloc),
             layers: Vec::new(alloc),
             pieces: Vec::new(alloc),

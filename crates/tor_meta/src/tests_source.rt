@@ -35,7 +35,13 @@ fn files_told(alloc: Global, told: &str) -> Result<(Vec<FilePath>, Vec<Option<Ve
 }
 
 /// An order for pieces of 16,384 bytes, one a unit.
-fn order(alloc: Global, kind: Kind, name: &str, single: bool, how: How) -> Result<Order, Fail> {
+pub(crate) fn order(
+    alloc: Global,
+    kind: Kind,
+    name: &str,
+    single: bool,
+    how: How,
+) -> Result<Order, Fail> {
     Ok(Order {
         kind,
         single,
@@ -63,7 +69,7 @@ fn answer<S: Source, R: AllocGlobal + Threads + Sync>(
 }
 
 /// That the torrent of the source's files is these bytes, each way to share the units.
-fn expect<S: Source, R: AllocGlobal + Abort + Threads + Sync>(
+pub(crate) fn expect<S: Source, R: AllocGlobal + Abort + Threads + Sync>(
     rt: &R,
     source: &S,
     paths: &[FilePath],
@@ -312,10 +318,11 @@ fn refuses_lengths_that_are_too_large(rt: HostRuntime) -> Result<(), Fail> {
     Ok(())
 }
 
-/// Files of one byte, of which one is told to have two when it is asked for the third time, or has none to read.
+/// Files of one byte, of which one is told another length when it is asked again, or has no byte to read.
 #[derive(Drop)]
 struct Changing {
     file: u64,
+    again: Option<u64>,
     asked: AtomicU64,
     has_bytes: bool,
 }
@@ -328,8 +335,8 @@ impl Source for Changing {
     ghost gave = { λ _ _ _ _. Unit {0} };
 
     fn length(&self, file: u64) -> Result<Option<u64>, u64> {
-        if file == self.file && self.asked.fetch_add(1, SeqCst) == 2 {
-            return Ok(Some(2));
+        if file == self.file && self.asked.fetch_add(1, SeqCst) > 0 {
+            return Ok(self.again);
         }
         Ok(Some(1))
     }
@@ -345,19 +352,34 @@ impl Source for Changing {
 #[test]
 fn tells_which_file_was_changed(rt: HostRuntime) -> Result<(), Fail> {
     let alloc = rt.alloc();
-    for (file, wanted) in [(0u64, "Changed { file: 0 }"), (1, "Changed { file: 1 }")] {
-        for has_bytes in [false, true] {
-            for how in EACH_HOW {
-                let (paths, _) = files_told(alloc, "b! a!")?;
-                let order = order(alloc, Kind::Hybrid, "f", false, how)?;
-                let source = Changing {
-                    file,
-                    asked: AtomicU64::new(0),
-                    has_bytes,
-                };
-                let found = answer(&rt, &source, &paths, &order)?;
-                assert_eq!(rt; found.as_str(), wanted, "{has_bytes}, {how:?}");
-            }
+    // The file, what it is told to have when it is asked again, and whether its byte is there to read.
+    let rows = [
+        (0u64, Some(2), true),
+        (1, Some(2), true),
+        (1, Some(1), false),
+        (0, Some(0), true),
+        // It vanished: that it is missing is told of the first asking alone.
+        (0, None, true),
+        (1, None, true),
+        (1, None, false),
+    ];
+    for (file, again, has_bytes) in rows {
+        for how in EACH_HOW {
+            let (paths, _) = files_told(alloc, "b! a!")?;
+            let order = order(alloc, Kind::Hybrid, "f", false, how)?;
+            let source = Changing {
+                file,
+                again,
+                asked: AtomicU64::new(0),
+                has_bytes,
+            };
+            let found = answer(&rt, &source, &paths, &order)?;
+            let wanted = format!(in alloc; "Changed {{ file: {file} }}")?;
+            assert_eq!(rt;
+                found.as_str(),
+                wanted.as_str(),
+                "{again:?}, {has_bytes}, {how:?}"
+            );
         }
     }
     Ok(())

@@ -17,18 +17,18 @@ use crate::head::Head;
 use crate::info::info;
 use crate::items::{dictionary, text};
 use crate::layers::piece_layers;
-use crate::sums::Sums;
+use crate::sums::TorrentSums;
 use std::alloc::{AllocError, Global};
 use tor_bencode::{BenError, Item, Tree, encode};
 use tor_spec::laws::torrents_are_lawful;
 use tor_tree::FileList;
 
 /// The bytes of the torrent of these files.
-pub fn torrent_bytes(
+pub(crate) fn torrent_bytes(
     alloc: Global,
     head: &Head,
     list: &FileList,
-    sums: &Sums,
+    sums: &TorrentSums,
 ) -> Result<Vec<u8>, AllocError>
     requires judged { IsJudged head.now list.now }
     requires trees { HaveTrees head.now list.now sums.now }
@@ -45,7 +45,7 @@ pub fn torrent_bytes(
 }
 
 /// Its root dictionary.
-fn tree(alloc: Global, head: &Head, list: &FileList, sums: &Sums) -> Result<Tree, AllocError>
+fn tree(alloc: Global, head: &Head, list: &FileList, sums: &TorrentSums) -> Result<Tree, AllocError>
     requires judged { IsJudged head.now list.now }
     requires trees { HaveTrees head.now list.now sums.now }
     ensures made { (facts : List Facts) → AreFactsOf head.now list.now sums.now facts → IfOk result (λ tree.
@@ -61,7 +61,7 @@ fn tree(alloc: Global, head: &Head, list: &FileList, sums: &Sums) -> Result<Tree
 }
 
 /// The same as an item.
-fn root(alloc: Global, head: &Head, list: &FileList, sums: &Sums) -> Result<Item, AllocError>
+fn root(alloc: Global, head: &Head, list: &FileList, sums: &TorrentSums) -> Result<Item, AllocError>
     requires judged { IsJudged head.now list.now }
     requires trees { HaveTrees head.now list.now sums.now }
     ensures { (facts : List Facts) → AreFactsOf head.now list.now sums.now facts → IfOk result (λ item.
@@ -95,7 +95,7 @@ fn layers(
     alloc: Global,
     head: &Head,
     list: &FileList,
-    sums: &Sums,
+    sums: &TorrentSums,
 ) -> Result<Option<Item>, AllocError>
     requires judged { IsJudged head.now list.now }
     requires trees { HaveTrees head.now list.now sums.now }

@@ -1,10 +1,11 @@
 -- the bytes that come next
-use Rattle.std.proofs.Common.{◌≡◌, refl, inr, ap, sym, ◌∙◌, ◌++◌, take, arith}
+use Rattle.std.proofs.Common.{◌≡◌, ℕ, refl, inr, subst, ◌∙◌, arith}
 use Rattle.std.proofs.lemmas.List.{length-append}
-use Rattle.tor_source.specs.Source.{bytes_from}
 use Rattle.tor_engine.specs.Fault.{byte_fault}
+use Rattle.tor_engine.specs.steps.Reads.{FeedsPart}
 use Rattle.tor_engine.proofs.FirstOf.{first_of_none}
-use Rattle.tor_engine.proofs.PartBytes.{fed_more, fed_none, next_bytes, no_fault, read_fault, some_left}
+use Rattle.tor_engine.proofs.PartBytes.{no_fault, read_fault, some_left}
+use Rattle.tor_engine.proofs.PartReads.{feeds_more, feeds_none}
 use Rattle.tor_engine.proofs.reading.feed_part.Goals as goal
 
 pub reads-init : goal.reads-init
@@ -12,7 +13,7 @@ reads-init g c = record {
   buffer = refl;
   within = omega arith;
   begun = omega arith;
-  taken = λ facts kind p before unit steady given long. fed_none kind p c.args.sums.now before unit given;
+  fed = feeds_none (g.S.Source.is_steady c.args.source.now) c.args.part.now c.args.sums.now;
   fault = λ facts steady long. first_of_none (byte_fault facts c.args.part.now.file);
 }
 
@@ -25,17 +26,25 @@ reads-preserved g c =
     let some = c.in-Ok.ensures.some in
     record {
       buffer = length-append c.read_once.new.room c.split_at_mut-room.result.1.now
-          ∙ omega (arith, c.in-Ok.ensures.room, c.split_at_mut-room.ensures.front_len, c.split_at_mut-room.ensures.back_len, old.buffer, c.min-most.ensures);
+          ∙ omega (
+            arith,
+            c.in-Ok.ensures.room,
+            c.split_at_mut-room.ensures.front_len,
+            c.split_at_mut-room.ensures.back_len,
+            old.buffer,
+            c.min-most.ensures,
+          );
       within = omega (arith, some.1);
       begun = omega (arith, c.in_ok-feed.ensures.begun, old.begun, c.split_at.ensures.front_len);
-      taken = λ facts kind p before unit steady given long.
-          let read = c.in-Ok.ensures.read facts steady (some_left facts part.file part.start done part.length c.reads-test.true long) in
-          let next = next_bytes facts part.file part.start done count _ _ read in
-          fed_more kind p c.feed.new.self before unit _ _ _
-          (ap (λ bytes. take done (bytes_from facts part.file part.start) ++ bytes) c.split_at.ensures.front ∙ next)
-          (c.in_ok-feed.ensures.taken kind p _ _ (old.taken facts kind p before unit steady given long));
+      fed = feeds_more (g.S.Source.is_steady c.args.source.now) part c.args.sums.now done count c.reads.sums
+          c.feed.new.self _
+          old.fed c.split_at.ensures.front_len
+          (λ facts steady long. c.split_at.ensures.front ∙ (c.in-Ok.ensures.read facts steady
+          (some_left facts part.file part.start done part.length c.reads-test.true long)).bytes)
+          c.in_ok-feed.ensures.taken;
       fault = λ facts steady long.
-          let read = c.in-Ok.ensures.read facts steady (some_left facts part.file part.start done part.length c.reads-test.true long) in
+          let read = c.in-Ok.ensures.read facts steady
+          (some_left facts part.file part.start done part.length c.reads-test.true long) in
           no_fault facts part.file part.start done count _ _ read (old.fault facts steady long);
     }
 
@@ -44,10 +53,11 @@ returns-in-Err-clause-fault g c = λ facts steady long.
     let part = c.args.part.now in
     inr (read_fault facts part.file part.start c.reads.done part.length c.in-Err.error c.reads-test.true
     (c.reads.invariant.fault facts steady long)
-    (c.in-Err.ensures.read facts steady (some_left facts part.file part.start c.reads.done part.length c.reads-test.true long)))
+    (c.in-Err.ensures.read facts steady
+    (some_left facts part.file part.start c.reads.done part.length c.reads-test.true long)))
 
-pub returns-clause-taken : goal.returns-clause-taken
-returns-clause-taken g c = λ facts kind p before unit steady given long.
+pub returns-clause-fed : goal.returns-clause-fed
+returns-clause-fed g c =
     let all : c.reads.done ≡ c.args.part.now.length = omega (arith, c.reads.invariant.within, c.reads-test.false) in
-    let taken = c.reads.invariant.taken facts kind p before unit steady given long in
-    rw (sym all) taken
+    subst (λ (n : ℕ). FeedsPart (g.S.Source.is_steady c.args.source.now) c.args.part.now n c.args.sums.now c.reads.sums)
+    all c.reads.invariant.fed

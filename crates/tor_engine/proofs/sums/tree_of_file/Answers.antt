@@ -10,7 +10,8 @@ returns-in_default-clause-layer c = λ content long is.
 
 pub returns-then-size-piece_length-clause-layer : goal.returns-then-size-piece_length-clause-layer
 returns-then-size-piece_length-clause-layer c = λ content long is.
-    c.new-then-size-piece_length.ensures.items ∙ no_layer content c.args.size c.args.piece_length long c.if-size-piece_length.true
+    c.new-then-size-piece_length.ensures.items ∙ no_layer content c.args.size c.args.piece_length long
+    c.if-size-piece_length.true
 
 pub layer_root-root-requires-clause-small : goal.layer_root-root-requires-clause-small
 layer_root-root-requires-clause-small c =

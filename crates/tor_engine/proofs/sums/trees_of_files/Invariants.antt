@@ -11,5 +11,6 @@ invariant-files l = (contents : List (List ℕ)) → map length contents ≡ l.l
     l.hashes ≡ flat_map (hashes_of_file l.piece_length) contents → record {
       rest : l.rest ≡ flat_map (hashes_of_file l.piece_length) (drop l.size-index contents);
       roots : l.roots.items ≡ map root_of (take l.size-index contents);
-      layers : lists_of l.layers.items ≡ map (λ content. piece_layer content l.piece_length) (take l.size-index contents);
+      layers : lists_of l.layers.items ≡ map (λ content. piece_layer content l.piece_length)
+          (take l.size-index contents);
     }

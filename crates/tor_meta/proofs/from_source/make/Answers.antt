@@ -6,8 +6,8 @@ use Rattle.tor_meta.specs.MakeError.{of_engine_error}
 use Rattle.tor_meta.specs.Order.{settings_of_order}
 use Rattle.tor_meta.specs.PlacedFiles.{facts_at, renumbered}
 use Rattle.tor_spec.specs.Metainfo.{metainfo}
-use Rattle.tor_meta.proofs.FromSource.{made_of}
-use Rattle.tor_meta.proofs.SourceFaults.{fault_told}
+use Rattle.tor_meta.proofs.FromSource.{made_of, made_of_some}
+use Rattle.tor_meta.proofs.SourceFaults.{fault_none, fault_told, lengths_told}
 use Rattle.tor_meta.proofs.Made.{judged_list}
 use Rattle.tor_meta.proofs.Refused.{given_or_not, paths_of, span_of}
 use Rattle.tor_meta.proofs.from_source.make.Goals as goal
@@ -30,25 +30,51 @@ torrent_of_listed-requires-clause-judged g c κs within =
 
 pub returns-in-Ok-torrent_of_listed-clause-made : goal.returns-in-Ok-torrent_of_listed-clause-made
 returns-in-Ok-torrent_of_listed-clause-made g c = λ facts steady.
+    let told = c.in-Ok-ask_list.ensures in
+    let are_places = c.deref.ensures.value ∙ told.places in
+    let none = lengths_told facts c.args.paths.now c.in-Ok.paths c.in-Ok-ask_list.both.0 c.deref.result.now
+    c.in-Ok.ensures.placed (told.fault facts steady) (told.files facts steady) are_places in
     made_of facts (settings_of_order c.args.order.now) c.args.paths.now c.in-Ok.paths c.in-Ok-ask_list.both.0
     c.deref.result.now c.in-Ok-torrent_of_listed.bytes.items
-    c.in-Ok.ensures.placed c.in-Ok.ensures.lawful (c.in-Ok-ask_list.ensures.files facts steady)
-    (c.deref.ensures.value ∙ c.in-Ok-ask_list.ensures.places)
-    (c.in-Ok-torrent_of_listed.ensures.made (facts_at c.deref.result.now facts) (facts, steady, refl)
+    c.in-Ok.ensures.placed c.in-Ok.ensures.lawful (told.files facts steady) are_places
+    (c.in-Ok-torrent_of_listed.ensures.made (facts_at c.deref.result.now facts) (facts, steady, refl) none
     ∙ ap (λ settings. metainfo settings (files_of c.in-Ok-ask_list.both.0
     (contents_in (facts_at c.deref.result.now facts) (length c.in-Ok-ask_list.both.0)))) c.in_ok-head.ensures)
 
+pub returns-in-Ok-torrent_of_listed-clause-fault : goal.returns-in-Ok-torrent_of_listed-clause-fault
+returns-in-Ok-torrent_of_listed-clause-fault g c = λ facts steady.
+    let told = c.in-Ok-ask_list.ensures in
+    let are_places = c.deref.ensures.value ∙ told.places in
+    let none = lengths_told facts c.args.paths.now c.in-Ok.paths c.in-Ok-ask_list.both.0 c.deref.result.now
+    c.in-Ok.ensures.placed (told.fault facts steady) (told.files facts steady) are_places in
+    fault_none facts c.args.order.now c.args.paths.now c.in-Ok.paths c.in-Ok-ask_list.both.0 c.deref.result.now
+    c.in-Ok.ensures.placed c.in-Ok.ensures.lawful c.in-Ok.ensures.accepted (told.fault facts steady)
+    (told.files facts steady) are_places
+    (c.in-Ok-torrent_of_listed.ensures.fault (facts_at c.deref.result.now facts) (facts, steady, refl) none)
+
+pub returns-in-Ok-torrent_of_listed-clause-whole : goal.returns-in-Ok-torrent_of_listed-clause-whole
+returns-in-Ok-torrent_of_listed-clause-whole g c =
+    let list = c.in-Ok-ask_list.ensures.list in
+    let whole = c.in-Ok-torrent_of_listed.ensures.whole in
+    made_of_some (settings_of_order c.args.order.now) c.args.paths.now list.0 c.in-Ok.paths c.in-Ok-ask_list.both.0
+    whole.0
+    c.in-Ok-torrent_of_listed.bytes.items c.in-Ok.ensures.placed c.in-Ok.ensures.lawful list.1 whole.1
+    (whole.2 ∙ ap (λ settings. metainfo settings (files_of c.in-Ok-ask_list.both.0 whole.0)) c.in_ok-head.ensures)
+
 pub returns-clause-fault : goal.returns-clause-fault
 returns-clause-fault g c = λ facts steady.
-    fault_told facts c.args.order.now c.in_ok-head.head c.args.paths.now c.in-Ok.paths c.in-Ok-ask_list.both.0
+    let told = c.in-Ok-ask_list.ensures in
+    let are_places = c.deref.ensures.value ∙ told.places in
+    let none = lengths_told facts c.args.paths.now c.in-Ok.paths c.in-Ok-ask_list.both.0 c.deref.result.now
+    c.in-Ok.ensures.placed (told.fault facts steady) (told.files facts steady) are_places in
+    fault_told facts c.args.order.now c.args.paths.now c.in-Ok.paths c.in-Ok-ask_list.both.0
     c.deref.result.now c.in-Err-torrent_of_listed.error c.from.result
-    c.in-Ok.ensures.placed c.in-Ok.ensures.lawful c.in-Ok.ensures.accepted
-    (c.in-Ok-ask_list.ensures.fault facts steady) c.in_ok-head.ensures
-    (c.in-Ok-ask_list.ensures.files facts steady) (c.deref.ensures.value ∙ c.in-Ok-ask_list.ensures.places)
+    c.in-Ok.ensures.placed c.in-Ok.ensures.lawful c.in-Ok.ensures.accepted (told.fault facts steady)
+    (told.files facts steady) are_places
     (c.from.ensures ∙ ap of_engine_error (c.renumbered.ensures
     ∙ ap (λ places. renumbered places c.in-Err-torrent_of_listed.error)
     (c.deref-in-Err-torrent_of_listed.ensures.value ∙ sym c.deref.ensures.value)))
-    (c.in-Err-torrent_of_listed.ensures.fault (facts_at c.deref.result.now facts) (facts, steady, refl))
+    (c.in-Err-torrent_of_listed.ensures.fault (facts_at c.deref.result.now facts) (facts, steady, refl) none)
 
 pub returns-in-Err-ask_list-clause-only : goal.returns-in-Err-ask_list-clause-only
 returns-in-Err-ask_list-clause-only g c = c.in-Err-ask_list.ensures.only _

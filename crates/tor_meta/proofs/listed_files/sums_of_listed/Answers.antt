@@ -1,34 +1,45 @@
 -- the plan's sums are those that the head asks for
-use Rattle.std.proofs.Common.{sym}
-use Rattle.tor_meta.proofs.ContentSteps.{have_trees}
+use Rattle.std.proofs.Common.{◌≡◌, ℕ, inl, inr, length, map, ap, subst, sym, ◌∙◌}
+use Rattle.std.proofs.lemmas.List.{length-map}
+use Rattle.tor_engine.specs.Contents.{contents_in}
+use Rattle.tor_engine.specs.Fault.{first_byte_fault, first_length_fault}
+use Rattle.tor_meta.specs.Sums.{SumUp}
 use Rattle.tor_meta.proofs.SourceSums.{from_plan}
+use Rattle.tor_tree.specs.FileList.{lengths_of}
 use Rattle.tor_meta.proofs.listed_files.sums_of_listed.Goals as goal
 
-pub returns-2-clause-lengths : goal.returns-2-clause-lengths
-returns-2-clause-lengths g c = λ facts steady.
-    let hashed = c.in-Ok.ensures.summed facts steady in
-    (from_plan facts c.args.head.now c.args.span c.args.list.now c.in-Ok.sums c.in_ok-plan.plan c.in_ok-plan.ensures
-    c.requires.judged c.requires.span.1
-    c.piece_length_bounds.ensures (λ kind p contents. c.units_are_the_content.ensures kind p c.args.span
-    c.args.list.now contents) hashed.0 hashed.1).0
+pub returns-in-Err-clause-steady : goal.returns-in-Err-clause-steady
+returns-in-Err-clause-steady g c = λ facts steady none.
+    let plan = c.in_ok-plan.ensures in
+    elim (c.in-Err.ensures.summed facts steady (ap (λ plan. first_length_fault facts plan.lengths) plan ∙ none)) [
+      | inl memory ↦ inl memory
+      | inr fault ↦ inr (sym (ap (λ plan. first_byte_fault facts plan.lengths) plan) ∙ fault)
+    ]
 
-pub returns-2-clause-sums : goal.returns-2-clause-sums
-returns-2-clause-sums g c = λ facts steady.
-    let hashed = c.in-Ok.ensures.summed facts steady in
-    (from_plan facts c.args.head.now c.args.span c.args.list.now c.in-Ok.sums c.in_ok-plan.plan c.in_ok-plan.ensures
-    c.requires.judged c.requires.span.1
-    c.piece_length_bounds.ensures (λ kind p contents. c.units_are_the_content.ensures kind p c.args.span
-    c.args.list.now contents) hashed.0 hashed.1).1
+pub returns-clause-whole : goal.returns-clause-whole
+returns-clause-whole g c =
+    let list = c.args.list.now in
+    let whole = c.in-Ok.ensures.whole in
+    let both = from_plan c.args.head.now c.args.span list c.in-Ok.sums c.in_ok-plan.plan whole.0 c.in_ok-plan.ensures
+    c.requires.judged c.requires.span.1 c.piece_length_bounds.ensures
+    (λ kind p contents. c.units_are_the_content.ensures kind p c.args.span list contents) whole.1 whole.2 in
+    (whole.0, both.0, both.1)
 
-pub returns-clause-fault : goal.returns-clause-fault
-returns-clause-fault g c = λ facts steady.
-    let hashed = c.in-Ok.ensures.summed facts steady in
-    let both = from_plan facts c.args.head.now c.args.span c.args.list.now c.in-Ok.sums c.in_ok-plan.plan
-    c.in_ok-plan.ensures c.requires.judged c.requires.span.1
-    c.piece_length_bounds.ensures (λ kind p contents. c.units_are_the_content.ensures kind p c.args.span
-    c.args.list.now contents) hashed.0 hashed.1 in
-    let trees = have_trees c.args.head.now c.args.list.now _ _ both.0 both.1 in
-    absurd (c.in-Some.ensures (record {
-      rooted = rw c.files.ensures.value (trees.rooted (sym c.if-has_v2.ensures));
-      layered = rw c.files.ensures.value (trees.layered (sym c.if-has_v2.ensures));
-    }))
+pub returns-clause-steady : goal.returns-clause-steady
+returns-clause-steady g c = λ facts steady none.
+    let head = c.args.head.now in
+    let list = c.args.list.now in
+    let plan = c.in_ok-plan.plan in
+    let is = c.in_ok-plan.ensures in
+    let whole = c.in-Ok.ensures.whole in
+    let told = c.in-Ok.ensures.summed facts steady (ap (λ plan. first_length_fault facts plan.lengths) is ∙ none) in
+    let fit = sym told.0.lengths ∙ whole.2.lengths ∙ whole.1 in
+    let both = from_plan head c.args.span list c.in-Ok.sums plan (contents_in facts (length plan.lengths)) is
+    c.requires.judged c.requires.span.1 c.piece_length_bounds.ensures
+    (λ kind p contents. c.units_are_the_content.ensures kind p c.args.span list contents) fit told.0 in
+    let count : length plan.lengths ≡ length list = ap (λ plan. length plan.lengths) is
+    ∙ length-map list (λ file. file.1) in
+    let there = subst (λ (n : ℕ). (map length (contents_in facts n) ≡ lengths_of list)
+    × SumUp head list (contents_in facts n)
+    (record { roots = c.in-Ok.sums.roots; layers = c.in-Ok.sums.layers; pieces = c.in-Ok.sums.pieces })) count both in
+    (there.0, there.1, sym (ap (λ plan. first_byte_fault facts plan.lengths) is) ∙ told.1)

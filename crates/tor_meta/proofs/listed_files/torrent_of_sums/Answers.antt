@@ -5,9 +5,9 @@ use Rattle.tor_spec.specs.Metainfo.{facts_of_files, metainfo}
 use Rattle.tor_meta.proofs.ContentSteps.{same_pieces, told_facts}
 use Rattle.tor_meta.proofs.listed_files.torrent_of_sums.Goals as goal
 
-pub returns : goal.returns
+pub returns-clause-made : goal.returns-clause-made
 unfolding metainfo
-returns c = λ contents same up.
+returns-clause-made c = λ contents same up.
     let told = told_facts c.args.head.now c.args.list.now contents c.args.sums.now same up in
     c.in_ok-bytes.ensures.made (facts_of_files c.args.head.now.piece_length (files_of c.args.list.now contents)) told
     ∙ ap spelling (same_pieces c.args.head.now c.args.list.now contents c.args.sums.now same up)

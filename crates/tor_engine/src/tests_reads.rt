@@ -1,0 +1,125 @@
+//! What is asked of a source: where each read begins and ends, and which of its faults is told.
+
+use super::*;
+use crate::tests::{expect_fault, fault_by, files_of, plan_of};
+use std::sync::atomic::AtomicU64;
+use std::sync::atomic::Ordering::SeqCst;
+use std::test::Fail;
+use tor_source::{FailSource, Source};
+use tor_tree::Kind;
+
+/// A file of zeros, which counts the reads that go past the end of a part, that ask for more than a buffer holds, or
+/// for nothing.
+#[derive(Drop)]
+struct Watched {
+    length: u64,
+    /// A part of the file begins at each multiple of this.
+    part: u64,
+    wrong: AtomicU64,
+}
+
+impl Source for Watched {
+    type Fault = u64;
+
+    ghost is_steady = { λ _ _. ⊥ };
+
+    ghost gave = { λ _ _ _ _. Unit {0} };
+
+    fn length(&self, _file: u64) -> Result<Option<u64>, u64> {
+        Ok(Some(self.length))
+    }
+
+    fn read_at(&self, _file: u64, start: u64, buffer: &mut [u8]) -> Result<usize, u64> {
+        let most = buffer.len() as u64;
+        let left = self.length.saturating_sub(start);
+        let begun = start.checked_rem(self.part).unwrap_or(0);
+        if most == 0 || most > left.min(1 << 20) || most > self.part.saturating_sub(begun) {
+            self.wrong.fetch_add(1, SeqCst);
+        }
+        Ok(buffer.len())
+    }
+}
+
+#[test]
+fn reads_within_parts_and_buffers(rt: HostRuntime) -> Result<(), Fail> {
+    // The length of the file and of a piece, and the span.
+    let rows = [
+        (40000, 16384, 1, Kind::V1),
+        (40000, 16384, 2, Kind::V2),
+        (40000, 16384, 1, Kind::Hybrid),
+        (1_200_000, 1 << 21, 1, Kind::V2),
+        (1_200_000, 1 << 19, 2, Kind::V1),
+    ];
+    for (length, piece_length, span, kind) in rows {
+        let plan = plan_of(&rt, &[length], kind, piece_length, span)?;
+        for how in [How::One, How::Halves(2)] {
+            let source = Watched {
+                length,
+                part: piece_length.saturating_mul(u64::from(span)),
+                wrong: AtomicU64::new(0),
+            };
+            let fault = fault_by(&rt, &source, &plan, how)?;
+            assert_eq!(rt; fault.as_str(), "none", "{length}, {kind:?}, {how:?}");
+            assert_eq!(rt; source.wrong.load(SeqCst), 0, "{length}, {kind:?}, {how:?}");
+        }
+    }
+    Ok(())
+}
+
+#[test]
+fn tells_each_byte_that_fails_in_turn(rt: HostRuntime) -> Result<(), Fail> {
+    let alloc = rt.alloc();
+    let plan = plan_of(&rt, &[163840], Kind::V2, 16384, 1)?;
+    for turn in 0..40u64 {
+        let place = turn.saturating_mul(4096);
+        let faults = vec![in alloc; (0, Some(place), 5)]?;
+        let source = FailSource::new(files_of(alloc, &[163840])?, faults);
+        let wanted = format!(in alloc; "Read {{ file: 0, start: Some({place}), fault: 5 }}")?;
+        expect_fault(&rt, &source, &plan, &wanted, &wanted)?;
+    }
+    Ok(())
+}
+
+/// A file of zeros that is there, and then vanishes.
+#[derive(Drop)]
+struct Vanishing {
+    length: u64,
+}
+
+impl Source for Vanishing {
+    type Fault = u64;
+
+    ghost is_steady = { λ _ _. ⊥ };
+
+    ghost gave = { λ _ _ _ _. Unit {0} };
+
+    fn length(&self, _file: u64) -> Result<Option<u64>, u64> {
+        Ok(None)
+    }
+
+    fn read_at(&self, _file: u64, start: u64, buffer: &mut [u8]) -> Result<usize, u64> {
+        let left = self.length.saturating_sub(start) as usize;
+        Ok(left.min(buffer.len()))
+    }
+}
+
+#[test]
+fn asks_lengths_again_where_they_were_told(rt: HostRuntime) -> Result<(), Fail> {
+    let alloc = rt.alloc();
+    let plan = plan_of(&rt, &[40000], Kind::V2, 16384, 1)?;
+    let told = hash_told(
+        &rt,
+        alloc,
+        &files_of(alloc, &[40000])?,
+        &plan,
+        How::Halves(2),
+    )?;
+    assert_eq!(rt; told.lengths.as_slice(), [40000u64].as_slice());
+    let gone = hash_told(&rt, alloc, &Vanishing { length: 40000 }, &plan, How::One);
+    let text = match gone {
+        Ok(_) => String::from_str(alloc, "none")?,
+        Err(error) => format!(in alloc; "{error:?}")?,
+    };
+    assert_eq!(rt; text.as_str(), "Changed { file: 0 }");
+    Ok(())
+}
