@@ -1,2 +1,4 @@
 pub mod Fields
+pub mod EntryLengths
 pub mod ProvedLaws
+pub mod ValidRows

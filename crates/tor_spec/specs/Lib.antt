@@ -6,3 +6,4 @@ pub mod FilesList
 pub mod InfoDictionary
 pub mod Metainfo
 pub mod Makeable
+pub mod valid

@@ -1,0 +1,97 @@
+-- The entries of files have small lengths, and their padding is less than a piece.
+use Rattle.std.proofs.Common.{◌≡◌, ℕ, ◌<◌, ◌^◌, List, [], ◌∷◌, ◌++◌, map}
+use Rattle.std.proofs.Common.{Bool, true, false, arith}
+use Rattle.std.specs.Prelude.{◌&&◌, nat_lt, if◌then◌else◌}
+use Rattle.std.specs.List.{All, AllByRecursion}
+use Rattle.std.proofs.lemmas.List.Elements.{All-from_recursion, recursion_from_All}
+use Rattle.tor_merkle.proofs.ProvedLaws.{piece_length_bounds}
+use Rattle.tor_merkle.specs.Layer.{IsPieceLength}
+use Rattle.tor_v1.specs.Entries.{aligned_entries, file_entry, has_bytes, pad_entry, padding_after, padding_length}
+use Rattle.tor_v1.specs.Entries.{v1_entries}
+use Rattle.tor_v1.specs.declared.entry.Entry.{Entry}
+use Rattle.tor_v1.specs.declared.layout.Layout.{Layout}
+use Rattle.tor_v1.specs.declared.layout.Layout.TheVariants.{Joined, Aligned}
+
+-- what a file lacks to the next piece is less than a piece
+lack_small : (p m : ℕ) → 0 < p → padding_length p m < p
+lack_small p m some = omega arith
+
+small_padding : (p m : ℕ) (later : List (List (List ℕ) × ℕ)) → 0 < p → p < 2 ^ 63
+    → AllByRecursion (λ entry. entry.length < 2 ^ 63) (padding_after p m later)
+small_padding p m later some small = by_test (nat_lt 0 (padding_length p m) && has_bytes later)
+  where
+    by_test : (b : Bool) → AllByRecursion (λ (entry : Entry). entry.length < 2 ^ 63)
+        (if b then pad_entry (padding_length p m) ∷ [] else [])
+    by_test true = (omega (arith, lack_small p m some), tt)
+    by_test false = tt
+
+all_append : {X : Type 0} (P : X → Type 0) (xs ys : List X) → AllByRecursion P xs → AllByRecursion P ys
+    → AllByRecursion P (xs ++ ys)
+all_append P [] ys h k = k
+all_append P (x ∷ xs) ys h k = (h.0, all_append P xs ys h.1 k)
+
+abbrev pub AreSmall : List (List (List ℕ) × ℕ) → Type 0
+AreSmall files = AllByRecursion (λ file. file.1 < 2 ^ 63) files
+
+small_aligned : (p : ℕ) (files : List (List (List ℕ) × ℕ)) → 0 < p → p < 2 ^ 63 → AreSmall files
+    → AllByRecursion (λ entry. entry.length < 2 ^ 63) (aligned_entries p files)
+unfolding aligned_entries
+small_aligned p [] some small h = tt
+small_aligned p (file ∷ files) some small h = (
+  h.0,
+  all_append _ (padding_after p file.1 files) (aligned_entries p files)
+      (small_padding p file.1 files some small) (small_aligned p files some small h.1),
+)
+
+pub small_entries : (layout : Layout) (p : ℕ) (files : List (List (List ℕ) × ℕ)) → 0 < p → p < 2 ^ 63 → AreSmall files
+    → AllByRecursion (λ entry. entry.length < 2 ^ 63) (v1_entries layout p files)
+small_entries Joined p files some small h = each files h
+  where
+    each : (fs : List (List (List ℕ) × ℕ)) → AreSmall fs
+        → AllByRecursion (λ (entry : Entry). entry.length < 2 ^ 63) (map file_entry fs)
+    each [] h = tt
+    each (f ∷ fs) h = (h.0, each fs h.1)
+small_entries Aligned p files some small h = small_aligned p files some small h
+
+pub small_lengths : (layout : Layout) (p : ℕ) (files : List (List (List ℕ) × ℕ)) → IsPieceLength p
+    → All (λ file. file.1 < 2 ^ 63) files
+    → All (λ (entry : Entry). entry.length < 2 ^ 63) (v1_entries layout p files)
+small_lengths layout p files allowed small =
+    let bounds = (piece_length_bounds p).0 allowed in
+    All-from_recursion _ (v1_entries layout p files) (small_entries layout p files (omega (arith, bounds))
+    (omega (arith, bounds)) (recursion_from_All _ files small))
+
+-- padding is less than a piece
+abbrev PadsWithin : ℕ → List Entry → Type 0
+PadsWithin p entries = AllByRecursion (λ entry. entry.pad ≡ true → entry.length < p) entries
+
+within_padding : (p m : ℕ) (later : List (List (List ℕ) × ℕ)) → 0 < p → PadsWithin p (padding_after p m later)
+within_padding p m later some = by_test (nat_lt 0 (padding_length p m) && has_bytes later)
+  where
+    by_test : (b : Bool) → PadsWithin p (if b then pad_entry (padding_length p m) ∷ [] else [])
+    by_test true = ((λ e. lack_small p m some), tt)
+    by_test false = tt
+
+within_aligned : (p : ℕ) (files : List (List (List ℕ) × ℕ)) → 0 < p → PadsWithin p (aligned_entries p files)
+unfolding aligned_entries
+within_aligned p [] some = tt
+within_aligned p (file ∷ files) some = (
+  (λ e. cc),
+  all_append _ (padding_after p file.1 files) (aligned_entries p files)
+      (within_padding p file.1 files some) (within_aligned p files some),
+)
+
+within_entries : (layout : Layout) (p : ℕ) (files : List (List (List ℕ) × ℕ)) → 0 < p
+    → PadsWithin p (v1_entries layout p files)
+within_entries Joined p files some = each files
+  where
+    each : (fs : List (List (List ℕ) × ℕ)) → PadsWithin p (map file_entry fs)
+    each [] = tt
+    each (f ∷ fs) = ((λ e. cc), each fs)
+within_entries Aligned p files some = within_aligned p files some
+
+pub padding_lengths : (layout : Layout) (p : ℕ) (files : List (List (List ℕ) × ℕ)) → IsPieceLength p
+    → All (λ (entry : Entry). entry.pad ≡ true → entry.length < p) (v1_entries layout p files)
+padding_lengths layout p files allowed =
+    let bounds = (piece_length_bounds p).0 allowed in
+    All-from_recursion _ (v1_entries layout p files) (within_entries layout p files (omega (arith, bounds)))
