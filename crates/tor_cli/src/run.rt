@@ -8,14 +8,15 @@ ghost use Rattle.tor_cli.specs.declared.fault.Fault.{Fault};
 use crate::command::{Request, read_words};
 use crate::fault::Fault;
 use crate::make_command::make;
-use std::alloc::Global;
 use std::io::{Read, Write};
+use std::thread::Threads;
 use tor_meta::write_out;
 
 /// Does what the words ask for; the first word is the program's name. Answers the status: 0 done, 1 refused, 2 usage,
 /// 3 a read or write fault, 4 memory refused. A fault is one line on `err`.
-pub fn run<R: Read, W: Write, E: Write>(
-    alloc: Global,
+pub fn run<T: Threads + Sync, R: Read, W: Write, E: Write>(
+    rt: &T,
+    system: &HostRuntime,
     words: &[&str],
     reader: &mut R,
     out: &mut W,
@@ -36,13 +37,14 @@ pub fn run<R: Read, W: Write, E: Write>(
           writer' = W.contents out.new;
         }) fault }
 {
-    let outcome = answer(alloc, words, reader, out);
+    let outcome = answer(rt, system, words, reader, out);
     tell(&outcome, err)
 }
 
 /// Does what the words ask for.
-fn answer<R: Read, W: Write>(
-    alloc: Global,
+fn answer<T: Threads + Sync, R: Read, W: Write>(
+    rt: &T,
+    system: &HostRuntime,
     words: &[&str],
     reader: &mut R,
     out: &mut W,
@@ -60,13 +62,14 @@ fn answer<R: Read, W: Write>(
       writer' = W.contents out.new;
     })) }
 {
-    let request = read_words(alloc, words)?;
-    perform(alloc, &request, reader, out)
+    let request = read_words(system.alloc(), words)?;
+    perform(rt, system, &request, reader, out)
 }
 
 /// Does what was asked for.
-fn perform<R: Read, W: Write>(
-    alloc: Global,
+fn perform<T: Threads + Sync, R: Read, W: Write>(
+    rt: &T,
+    system: &HostRuntime,
     request: &Request<'_>,
     reader: &mut R,
     out: &mut W,
@@ -86,7 +89,7 @@ fn perform<R: Read, W: Write>(
 {
     match request {
         Request::Show(text) => Ok(write_out(out, text.as_bytes())?),
-        Request::Make(options) => make(alloc, options, reader, out),
+        Request::Make(options) => make(rt, system, options, reader, out),
     }
 }
 
