@@ -4,6 +4,7 @@ ghost use Rattle.std.specs.declared.io.Error.{Error};
 ghost use Rattle.tor_meta.specs.Make.{IsGivenTo, IsOwn, make_refusal};
 ghost use Rattle.tor_cli.specs.Path.{AreFound, IsFileFault};
 
+use crate::progress::{Counting, Progress};
 use std::alloc::{AllocError, Global};
 use std::io;
 use std::rt::Files;
@@ -62,17 +63,26 @@ fn path_of(alloc: Global, name: &Name) -> Result<FilePath, AllocError>
     }
 }
 
-/// The torrent of the files that were found.
+/// The torrent of the files that were found. The progress that is shown meanwhile is erased at the end.
 pub fn torrent_of<T: Threads + Sync>(
     rt: &T,
     alloc: Global,
     found: &Found,
     order: &Order,
+    progress: Option<Progress>,
 ) -> Result<Vec<u8>, MakeError<io::Error>>
     requires { length found.now.source ≡ length found.now.paths.items }
     ensures accepted { OnOk result (make_refusal {F = Error} order.now found.now.paths.items ≡ None) }
     ensures only { IfErr result (IsOwn (make_refusal order.now found.now.paths.items)) }
     ensures gave { IfErr result (IsGivenTo (IsFileFault (length found.now.paths.items))) }
 {
-    make(rt, alloc, &found.source, &found.paths, order)
+    let counting = Counting {
+        source: &found.source,
+        progress,
+    };
+    let answer = make(rt, alloc, &counting, &found.paths, order);
+    if let Some(progress) = &counting.progress {
+        progress.erase();
+    }
+    answer
 }

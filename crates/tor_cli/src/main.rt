@@ -5,11 +5,13 @@
 //! - `make_command.rt`: the command `make`; `make_words.rt`: its words and options.
 //! - `make.rt`: the torrent of what a reader has, as `judge.rt` judges its order. `input.rt`: an input read whole, within
 //!   a limit. `intake.rt`: what takes its parts.
-//! - `from_path.rt`: the torrent of a file or a folder. `out_file.rt`: the file that a torrent goes to.
+//! - `from_path.rt`: the torrent of a file or a folder. `out_file.rt`: the file that a torrent goes to. `progress.rt`: the
+//!   line that shows how far the reading is; `amount.rt`: bytes and seconds in it.
 //! - `fault.rt`: what stops the program, its line and its status; `fault_of.rt`: which step's fault it is. `escape.rt`:
 //!   the user's text in such a line.
 #![tactic(auto)]
 
+mod amount;
 mod command;
 mod escape;
 mod fault;
@@ -22,6 +24,7 @@ mod make;
 mod make_command;
 mod make_words;
 mod out_file;
+mod progress;
 mod run;
 #[cfg(test)]
 mod tests;
@@ -29,7 +32,7 @@ mod tests;
 use fault::Fault;
 use std::alloc::{AllocError, Global};
 use std::env;
-use std::io::ErrorKind;
+use std::io::{ErrorKind, IsTerminal};
 use std::process::ExitCode;
 
 fn main(rt: HostRuntime) -> ExitCode {
@@ -48,6 +51,7 @@ fn main(rt: HostRuntime) -> ExitCode {
         &mut rt.stdin(),
         &mut rt.stdout(),
         &mut rt.stderr(),
+        rt.stderr().is_terminal(),
     ))
 }
 

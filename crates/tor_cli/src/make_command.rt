@@ -11,6 +11,7 @@ use crate::input::drop_input;
 use crate::make::{make_from, torrent_from};
 use crate::make_words::MakeOptions;
 use crate::out_file::{send, write_file};
+use crate::progress::Progress;
 use std::alloc::{AllocError, Global};
 use std::io::{Read, Write};
 use std::thread::Threads;
@@ -25,6 +26,7 @@ pub fn make<T: Threads + Sync, R: Read, W: Write>(
     options: &MakeOptions<'_>,
     reader: &mut R,
     out: &mut W,
+    shows_progress: bool,
 ) -> Result<(), Fault>
     ensures made { OnOk result (DoesMake options.now (record {
       reader = R.remaining reader.old;
@@ -40,7 +42,7 @@ pub fn make<T: Threads + Sync, R: Read, W: Write>(
     })) }
 {
     match options.path {
-        Some(path) => make_of_path(rt, system, options, path, out),
+        Some(path) => make_of_path(rt, system, options, path, out, shows_progress),
         None => make_of_input(system, options, reader, out),
     }
 }
@@ -89,6 +91,7 @@ fn make_of_path<T: Threads + Sync, W: Write>(
     options: &MakeOptions<'_>,
     path: &str,
     out: &mut W,
+    shows_progress: bool,
 ) -> Result<(), Fault>
     ensures made { (reader : Option (List ℕ)) → OnOk result (DoesPath options.now (record {
       reader = reader;
@@ -103,7 +106,7 @@ fn make_of_path<T: Threads + Sync, W: Write>(
       writer' = W.contents out.new;
     })) }
 {
-    let torrent = torrent_at(rt, system, options, path)?;
+    let torrent = torrent_at(rt, system, options, path, shows_progress)?;
     Ok(send(system, out, options.out, &torrent)?)
 }
 
@@ -113,15 +116,20 @@ fn torrent_at<T: Threads + Sync>(
     system: &HostRuntime,
     options: &MakeOptions<'_>,
     path: &str,
+    shows_progress: bool,
 ) -> Result<Vec<u8>, Fault>
     ensures made { OnOk result (IsAccepted options.now) }
     ensures stopped { IfErr result (StopsFinding options.now) }
 {
     let alloc = system.alloc();
-    let name = Name::new(alloc, options.name.as_bytes())?;
+    let name = name_of(alloc, options)?;
     let found = files_at(system, path, &name)?;
     let order = order_of(alloc, options, name, found.single)?;
-    Ok(torrent_of(rt, alloc, &found, &order)?)
+    let progress = match shows_progress {
+        true => Progress::start(system, found.paths.len()),
+        false => None,
+    };
+    Ok(torrent_of(rt, alloc, &found, &order, progress)?)
 }
 
 /// The order that the options ask for, of one file.
@@ -130,8 +138,16 @@ fn order_of_one(alloc: Global, options: &MakeOptions<'_>) -> Result<Order, NameE
     ensures accepted { OnOk result (name_fault options.now.name.now ≡ None) }
     ensures refused { IfErr result (λ fault. (name_fault options.now.name.now ≡ Some fault) ⊎ (fault ≡ Memory)) }
 {
-    let name = Name::new(alloc, options.name.as_bytes())?;
+    let name = name_of(alloc, options)?;
     Ok(order_of(alloc, options, name, true)?)
+}
+
+fn name_of(alloc: Global, options: &MakeOptions<'_>) -> Result<Name, NameError>
+    ensures name { IfOk result (λ name. name ≡ options.now.name.now) }
+    ensures accepted { OnOk result (name_fault options.now.name.now ≡ None) }
+    ensures refused { IfErr result (λ fault. (name_fault options.now.name.now ≡ Some fault) ⊎ (fault ≡ Memory)) }
+{
+    Name::new(alloc, options.name.as_bytes())
 }
 
 /// The order that the options ask for, under the name that is their word for it.

@@ -13,7 +13,8 @@ use std::thread::Threads;
 use tor_meta::write_out;
 
 /// Does what the words ask for; the first word is the program's name. Answers the status: 0 done, 1 refused, 2 usage,
-/// 3 a read or write fault, 4 memory refused. A fault is one line on `err`.
+/// 3 a read or write fault, 4 memory refused. A fault is one line on `err`. How far the reading of PATH is, the system's
+/// own standard error shows, where it is to be shown.
 pub fn run<T: Threads + Sync, R: Read, W: Write, E: Write>(
     rt: &T,
     system: &HostRuntime,
@@ -21,6 +22,7 @@ pub fn run<T: Threads + Sync, R: Read, W: Write, E: Write>(
     reader: &mut R,
     out: &mut W,
     err: &mut E,
+    shows_progress: bool,
 ) -> u8
     ensures within { result ≤ 4 }
     ensures done { result ≡ 0 → DoesAsked (texts words.entry.now) (record {
@@ -37,7 +39,7 @@ pub fn run<T: Threads + Sync, R: Read, W: Write, E: Write>(
           writer' = W.contents out.new;
         }) fault }
 {
-    let outcome = answer(rt, system, words, reader, out);
+    let outcome = answer(rt, system, words, reader, out, shows_progress);
     tell(&outcome, err)
 }
 
@@ -48,6 +50,7 @@ fn answer<T: Threads + Sync, R: Read, W: Write>(
     words: &[&str],
     reader: &mut R,
     out: &mut W,
+    shows_progress: bool,
 ) -> Result<(), Fault>
     ensures done { OnOk result (DoesAsked (texts words.entry.now) (record {
       reader = R.remaining reader.old;
@@ -63,7 +66,7 @@ fn answer<T: Threads + Sync, R: Read, W: Write>(
     })) }
 {
     let request = read_words(system.alloc(), words)?;
-    perform(rt, system, &request, reader, out)
+    perform(rt, system, &request, reader, out, shows_progress)
 }
 
 /// Does what was asked for.
@@ -73,6 +76,7 @@ fn perform<T: Threads + Sync, R: Read, W: Write>(
     request: &Request<'_>,
     reader: &mut R,
     out: &mut W,
+    shows_progress: bool,
 ) -> Result<(), Fault>
     ensures done { OnOk result (Does request.now (record {
       reader = R.remaining reader.old;
@@ -89,7 +93,7 @@ fn perform<T: Threads + Sync, R: Read, W: Write>(
 {
     match request {
         Request::Show(text) => Ok(write_out(out, text.as_bytes())?),
-        Request::Make(options) => make(rt, system, options, reader, out),
+        Request::Make(options) => make(rt, system, options, reader, out, shows_progress),
     }
 }
 
