@@ -20,7 +20,7 @@ use Rattle.tor_cli.specs.declared.input.InputFault.{InputFault}
 use Rattle.tor_cli.specs.declared.input.InputFault.TheVariants as inputs
 use Rattle.tor_cli.specs.declared.make.FromFault.{FromFault}
 use Rattle.tor_cli.specs.declared.make.FromFault.TheVariants.{Input, Make, Write}
-use Rattle.tor_cli.specs.declared.make_words.MakeOptions.{MakeOptions}
+use Rattle.tor_cli.specs.declared.options.MakeOptions.{MakeOptions}
 use Rattle.tor_cli.specs.declared.fault.Fault.{Fault}
 use Rattle.tor_cli.specs.declared.fault.Fault.TheVariants as faults
 

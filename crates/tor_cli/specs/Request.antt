@@ -16,7 +16,7 @@ use Rattle.tor_cli.specs.Words.{Asks, IsOfWords}
 use Rattle.tor_cli.specs.declared.input.TheConstants.{MAX_INPUT_LENGTH}
 use Rattle.tor_cli.specs.declared.input.InputFault.{InputFault}
 use Rattle.tor_cli.specs.declared.input.InputFault.TheVariants as inputs
-use Rattle.tor_cli.specs.declared.make_words.MakeOptions.{MakeOptions}
+use Rattle.tor_cli.specs.declared.options.MakeOptions.{MakeOptions}
 use Rattle.tor_cli.specs.declared.command.Request.{Request}
 use Rattle.tor_cli.specs.declared.command.Request.TheVariants.{Show, Make as ToMake}
 use Rattle.tor_cli.specs.declared.fault.Fault.{Fault}

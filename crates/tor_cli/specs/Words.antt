@@ -13,7 +13,7 @@ use Rattle.tor_cli.specs.declared.command.Request.{Request}
 use Rattle.tor_cli.specs.declared.command.Request.TheVariants.{Show, Make}
 use Rattle.tor_cli.specs.declared.fault.Fault.{Fault}
 use Rattle.tor_cli.specs.declared.fault.Fault.TheVariants.{Usage, Resources}
-use Rattle.tor_cli.specs.declared.make_words.MakeOptions.{MakeOptions}
+use Rattle.tor_cli.specs.declared.options.MakeOptions.{MakeOptions}
 
 -- the word for a kind
 abbrev pub word_of : Kind → List ℕ

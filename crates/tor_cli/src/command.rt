@@ -8,7 +8,8 @@ ghost use Rattle.tor_cli.specs.Words.{Asks, IsFoundIn, IsOfWords};
 
 use crate::escape::escaped;
 use crate::fault::Fault;
-use crate::make_words::{MakeOptions, make_command, make_options};
+use crate::make_words::make_command;
+use crate::options::{MakeOptions, make_options};
 use clap::error::ErrorKind;
 use clap::{ArgMatches, Command};
 use std::alloc::{AllocError, Global};

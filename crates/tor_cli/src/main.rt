@@ -2,7 +2,8 @@
 //!
 //! - `run.rt`: the whole program, over any reader and writers; `main` hands it the real ones.
 //! - `command.rt`: what the words ask for.
-//! - `make_command.rt`: the command `make`; `make_words.rt`: its words and options.
+//! - `make_command.rt`: the command `make`; `make_words.rt`: its words; `options.rt`: what they
+//!   ask for.
 //! - `make.rt`: the torrent of what a reader has, as `judge.rt` judges its order. `input.rt`: an input read whole, within
 //!   a limit. `intake.rt`: what takes its parts.
 //! - `from_path.rt`: the torrent of a file or a folder. `out_file.rt`: the file that a torrent goes to. `progress.rt`: the
@@ -23,6 +24,7 @@ mod judge;
 mod make;
 mod make_command;
 mod make_words;
+mod options;
 mod out_file;
 mod progress;
 mod run;

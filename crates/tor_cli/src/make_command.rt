@@ -9,7 +9,7 @@ use crate::fault::Fault;
 use crate::from_path::{files_at, torrent_of};
 use crate::input::drop_input;
 use crate::make::{make_from, torrent_from};
-use crate::make_words::MakeOptions;
+use crate::options::MakeOptions;
 use crate::out_file::{send, write_file};
 use crate::progress::Progress;
 use std::alloc::{AllocError, Global};

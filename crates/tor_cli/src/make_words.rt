@@ -1,38 +1,13 @@
-//! The words of `tor make`: its options, and their values.
-ghost use Rattle.clap.specs.Words.{app_of, found_of, rows_of, rule_of};
+//! The words of `tor make`: its options, and what they may have for a value.
+ghost use Rattle.clap.specs.Words.{app_of, rule_of};
 ghost use Rattle.clap.specs.declared.builder.value_parser.ValueParser.{ValueParser};
-ghost use Rattle.std.specs.Prelude.{◌≡◌, ℕ, List, IfOk, IfSome, None, Some, codes, false};
-ghost use Rattle.tor_engine.specs.declared.how.How.{How};
-ghost use Rattle.tor_tree.specs.declared.kinds.Kind.{Kind};
-ghost use Rattle.tor_cli.specs.Words.{AreOptionsIn, HasWorkers, how_word, word_of};
+ghost use Rattle.std.specs.Prelude.{◌≡◌, IfOk, false};
 ghost use Rattle.tor_cli.specs.CommandLine.{AreHows, AreKinds, announce_option, how_option, kind_option, make_app};
 ghost use Rattle.tor_cli.specs.CommandLine.{name_option, out_option, path_argument, piece_length_option};
 ghost use Rattle.tor_cli.specs.CommandLine.{private_option, span_option, workers_option};
 
-use clap::{Arg, ArgAction, ArgMatches, Command, value_parser};
+use clap::{Arg, ArgAction, Command, value_parser};
 use std::alloc::{AllocError, Global};
-use tor_engine::How;
-use tor_tree::Kind;
-
-/// How `tor make` is to make a torrent.
-#[derive(Clone, Copy)]
-pub struct MakeOptions<'a> {
-    pub kind: Kind,
-    pub name: &'a str,
-    /// In bytes.
-    pub piece_length: u64,
-    /// The tracker's URL.
-    pub announce: Option<&'a str>,
-    pub is_private: bool,
-    /// The workers that share the hashing of files.
-    pub how: How,
-    /// The pieces that a worker hashes as one unit of work.
-    pub span: u32,
-    /// The file that the torrent goes to; standard output where there is none.
-    pub out: Option<&'a str>,
-    /// The file or folder that it is made of; standard input where there is none.
-    pub path: Option<&'a str>,
-}
 
 const KINDS: [&str; 3] = ["v1", "v2", "hybrid"];
 
@@ -176,45 +151,4 @@ fn path_argument<'a>(alloc: Global) -> Arg<'a>
     Arg::new(alloc, "path").index(1).value_name("PATH").help(
         "The file or folder that the torrent is of, in place of standard input",
     )
-}
-
-/// The options that stand in the words; none where `clap` let through words that give no option its value.
-pub fn make_options<'a>(matches: &ArgMatches<'a>) -> Option<MakeOptions<'a>>
-    ensures { IfSome result (AreOptionsIn (rows_of (found_of matches.now))) }
-{
-    Some(MakeOptions {
-        kind: kind_of(matches.get_str("kind")?)?,
-        name: matches.get_str("name")?,
-        piece_length: matches.get_one::<u64>("piece-length")?,
-        announce: matches.get_str("announce"),
-        is_private: matches.get_flag("private"),
-        how: how_of(matches.get_str("how")?, matches.get_one::<u32>("workers")?)?,
-        span: matches.get_one::<u32>("span")?,
-        out: matches.get_str("out"),
-        path: matches.get_str("path"),
-    })
-}
-
-fn kind_of(word: &str) -> Option<Kind>
-    ensures value { IfSome result (λ kind. word_of kind ≡ word.now) }
-    ensures each { (kind : Kind) → word.now ≡ word_of kind → result ≡ Some kind }
-{
-    match word {
-        "v1" => Some(Kind::V1),
-        "v2" => Some(Kind::V2),
-        "hybrid" => Some(Kind::Hybrid),
-        _ => None,
-    }
-}
-
-/// One worker takes no notice of the number of workers.
-fn how_of(word: &str, workers: u32) -> Option<How>
-    ensures value { IfSome result (λ how. (how_word how ≡ word.now) × HasWorkers how workers) }
-    ensures each { (how : How) → word.now ≡ how_word how → HasWorkers how workers → result ≡ Some how }
-{
-    match word {
-        "one" => Some(How::One),
-        "halves" => Some(How::Halves(workers)),
-        _ => None,
-    }
 }

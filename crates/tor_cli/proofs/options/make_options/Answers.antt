@@ -3,7 +3,7 @@ use Rattle.std.proofs.Common.{rules, ◌≡◌, ◌∙◌, ap, sym, ℕ, List, O
 use Rattle.clap.specs.Words.{first_of, first_value, found_of, rows_of}
 use Rattle.clap.specs.declared.parser.matches.Found.{Found}
 use Rattle.clap.proofs.WalkLemmas.{first_value-rows, one_text-rows}
-use Rattle.tor_cli.proofs.make_words.make_options.Goals as goal
+use Rattle.tor_cli.proofs.options.make_options.Goals as goal
 
 found_text : (found : Found) (id : List ℕ) (got : Option (Bor (List ℕ))) (text : Bor (List ℕ))
     → option_map (λ s. s.now) got ≡ first_value found id → got ≡ Some text
