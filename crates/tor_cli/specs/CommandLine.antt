@@ -1,10 +1,10 @@
 -- The command line, as the kit's `clap` has one: options that are told apart by their names.
-use Rattle.std.specs.Prelude.{◌≡◌, ℕ, true, List, [], ◌∷◌, map, Some, codes}
+use Rattle.std.specs.Prelude.{◌≡◌, ℕ, pos, true, List, [], ◌∷◌, map, Some, codes}
 use Rattle.clap.specs.Words.{App, Rule, new_app, new_rule, with_rule, with_subcommand}
 use Rattle.clap.specs.Simple.{on_top}
 use Rattle.clap.specs.declared.builder.action.ArgAction.TheVariants.{SetTrue}
 use Rattle.clap.specs.declared.builder.value_parser.ValueParser.{ValueParser}
-use Rattle.clap.specs.declared.builder.value_parser.ValueParser.TheVariants.{Names, Unsigned}
+use Rattle.clap.specs.declared.builder.value_parser.ValueParser.TheVariants.{Names, Signed, Unsigned}
 
 -- an option with one value
 abbrev pub option_of : List ℕ → Rule
@@ -20,13 +20,17 @@ piece_length_option = record (option_of (codes "piece-length")) {
   defaults = codes "262144" ∷ [];
 }
 
+-- a word among some
+abbrev pub AreWords : List (List ℕ) → ValueParser → Type 0
+AreWords words (Names names) = map (λ name. name.now) names.now ≡ words
+AreWords words other = ⊥
+
 abbrev pub kind_option : ValueParser → Rule
 kind_option kinds = record (option_of (codes "kind")) { parser = Some kinds; defaults = codes "v2" ∷ [] }
 
 -- one of the three words for a kind
 abbrev pub AreKinds : ValueParser → Type 0
-AreKinds (Names names) = map (λ name. name.now) names.now ≡ codes "v1" ∷ codes "v2" ∷ codes "hybrid" ∷ []
-AreKinds other = ⊥
+AreKinds = AreWords (codes "v1" ∷ codes "v2" ∷ codes "hybrid" ∷ [])
 
 abbrev pub announce_option : Rule
 announce_option = option_of (codes "announce")
@@ -34,14 +38,45 @@ announce_option = option_of (codes "announce")
 abbrev pub private_option : Rule
 private_option = record (new_rule (codes "private")) { long = Some (codes "private"); action = Some SetTrue }
 
-abbrev pub make_app : ValueParser → App
-make_app kinds =
-    with_rule (with_rule (with_rule (with_rule (with_rule (new_app (codes "make")) name_option) piece_length_option)
-    (kind_option kinds)) announce_option) private_option
+abbrev pub how_option : ValueParser → Rule
+how_option hows = record (option_of (codes "how")) { parser = Some hows; defaults = codes "one" ∷ [] }
+
+-- one of the words for a way to share the hashing
+abbrev pub AreHows : ValueParser → Type 0
+AreHows = AreWords (codes "one" ∷ codes "halves" ∷ [])
+
+-- numbers of 32 bits
+abbrev pub workers_option : Rule
+workers_option = record (option_of (codes "workers")) {
+  parser = Some (Signed (pos 0) (pos 4294967295));
+  defaults = codes "1" ∷ [];
+}
+
+abbrev pub span_option : Rule
+span_option = record (option_of (codes "span")) {
+  parser = Some (Signed (pos 0) (pos 4294967295));
+  defaults = codes "16" ∷ [];
+}
+
+abbrev pub out_option : Rule
+out_option = option_of (codes "out")
+
+-- the one word that belongs to no option
+abbrev pub path_argument : Rule
+path_argument = record (new_rule (codes "path")) { index = Some 1; value_names = 1 }
+
+abbrev pub with_rules : App → List Rule → App
+with_rules app [] = app
+with_rules app (rule ∷ rules) = with_rules (with_rule app rule) rules
+
+abbrev pub make_app : ValueParser → ValueParser → App
+make_app kinds hows = with_rules (new_app (codes "make"))
+    (name_option ∷ piece_length_option ∷ kind_option kinds ∷ announce_option ∷ private_option ∷ how_option hows
+    ∷ workers_option ∷ span_option ∷ out_option ∷ path_argument ∷ [])
 
 -- the program has a version, and wants a command
-abbrev pub tor_app : ValueParser → App
-tor_app kinds =
+abbrev pub tor_app : ValueParser → ValueParser → App
+tor_app kinds hows =
     with_subcommand
     (on_top (λ shape. record shape { has_version = true; subcommand_required = true }) (new_app (codes "tor")))
-    (make_app kinds).top
+    (make_app kinds hows).top

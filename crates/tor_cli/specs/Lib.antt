@@ -2,6 +2,7 @@ pub mod CommandLine
 pub mod Escape
 pub mod Input
 pub mod Make
+pub mod Path
 pub mod Request
 pub mod Status
 pub mod Words

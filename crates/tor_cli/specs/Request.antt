@@ -1,31 +1,43 @@
 -- What the program does for a request: what it reads and writes, and where a fault stops it.
-use Rattle.std.specs.Prelude.{◌≡◌, ◌⊎◌, ◌<◌, ℕ, List, length, take, true, option_map, Option, None, Some, string_bytes}
+use Rattle.std.specs.Prelude.{◌≡◌, ◌≢◌, ◌⊎◌, ◌≤◌, ℕ, Bool, List, length, true, option_map, Option, None, Some}
+use Rattle.std.specs.Prelude.{string_bytes}
 use Rattle.std.specs.Io.KnownBytes.{Appends, Keeps}
+use Rattle.std.specs.declared.io.Error.{Error}
+use Rattle.tor_meta.specs.Make.{IsGivenTo, IsOwn, make_refusal}
+use Rattle.tor_meta.specs.Order.{settings_of_order}
+use Rattle.tor_meta.specs.declared.order.Order.{Order}
+use Rattle.tor_source.specs.declared.faults.ScanFault.TheVariants as scans
 use Rattle.tor_spec.specs.Settings.{Settings}
 use Rattle.tor_tree.specs.Name.{name_fault}
 use Rattle.tor_cli.specs.Input.{ReadsAll, ReadsSome, EndsInput}
-use Rattle.tor_cli.specs.Make.{MakesFront, MakesWhole, refusal_of}
+use Rattle.tor_cli.specs.Make.{IsFront, MakesOf, refusal_of}
+use Rattle.tor_cli.specs.Path.{AreFound, IsFileFault}
 use Rattle.tor_cli.specs.Words.{Asks, IsOfWords}
 use Rattle.tor_cli.specs.declared.input.TheConstants.{MAX_INPUT_LENGTH}
 use Rattle.tor_cli.specs.declared.input.InputFault.{InputFault}
 use Rattle.tor_cli.specs.declared.input.InputFault.TheVariants as inputs
-use Rattle.tor_cli.specs.declared.make_command.MakeOptions.{MakeOptions}
+use Rattle.tor_cli.specs.declared.options.MakeOptions.{MakeOptions}
 use Rattle.tor_cli.specs.declared.command.Request.{Request}
-use Rattle.tor_cli.specs.declared.command.Request.TheVariants.{Show, Make}
+use Rattle.tor_cli.specs.declared.command.Request.TheVariants.{Show, Make as ToMake}
 use Rattle.tor_cli.specs.declared.fault.Fault.{Fault}
-use Rattle.tor_cli.specs.declared.fault.Fault.TheVariants.{Usage, Refused, Read, TooLong, Write, Resources}
-use Rattle.tor_cli.specs.declared.fault.Refusal.TheVariants as refusals
+use Rattle.tor_cli.specs.declared.fault.Fault.TheVariants.{Usage, Name, Scan, Make, Read, TooLong, Write, Resources}
 
--- the settings of the torrent of one file that the options ask for
-abbrev pub settings_of_options : MakeOptions → Settings
-settings_of_options options = record {
+-- the settings of the torrent that the options ask for, of one file or of a folder
+abbrev pub settings_of_options : MakeOptions → Bool → Settings
+settings_of_options options single = record {
   kind = options.kind;
-  single = true;
+  single = single;
   name = options.name.now;
   piece_length = options.piece_length;
   announce = option_map (λ url. url.now) options.announce;
   is_private = options.is_private;
 }
+
+-- the order that the options ask for
+pub record IsOrder (options : MakeOptions) (single : Bool) (order : Order) : Type 0 where
+  pub settings : settings_of_order order ≡ settings_of_options options single
+  pub how : order.how ≡ options.how
+  pub span : order.span ≡ options.span
 
 -- what the reader had, and has, and what stands in the writer, before and after
 pub record Streams : Type 0 where
@@ -34,10 +46,24 @@ pub record Streams : Type 0 where
   pub writer : Option (List ℕ)
   pub writer' : Option (List ℕ)
 
+-- the file that the torrent goes to, if it is not the writer
+abbrev pub file_of : MakeOptions → Option (List ℕ)
+file_of options = option_map (λ place. place.now) options.out
+
+-- these bytes, and nothing else, went to the writer, or to a file, of which no contract says what it holds
+abbrev pub Sends : Option (List ℕ) → Option (List ℕ) → Option (List ℕ) → List ℕ → Type 0
+Sends None writer writer' bytes = Appends writer writer' bytes
+Sends (Some place) writer writer' bytes = writer' ≡ writer
+
+-- so many of these bytes, and nothing else, did
+abbrev pub SendsFront : Option (List ℕ) → Option (List ℕ) → Option (List ℕ) → ℕ → List ℕ → Type 0
+SendsFront None writer writer' written bytes = IsFront writer writer' written bytes
+SendsFront (Some place) writer writer' written bytes = (written ≤ length bytes) × (writer' ≡ writer)
+
 -- the torrent that the options ask for was made of all that the reader had
-abbrev pub DoesMake : MakeOptions → Streams → Type 0
-DoesMake options s = (name_fault options.name.now ≡ None)
-    × ((content : List ℕ) × MakesWhole (settings_of_options options) s.reader s.reader' s.writer s.writer' content)
+abbrev pub DoesInput : MakeOptions → Streams → Type 0
+DoesInput options s = (name_fault options.name.now ≡ None) × ((order : Order) × IsOrder options true order
+    × ((content : List ℕ) × MakesOf order s.reader s.reader' (Sends (file_of options) s.writer s.writer') content))
 
 -- all that the reader had was read, and nothing was written
 abbrev pub OnlyReads : Streams → Type 0
@@ -48,34 +74,80 @@ abbrev pub FailsInput : InputFault → Streams → Type 0
 FailsInput fault s = ReadsSome s.reader s.reader' (EndsInput MAX_INPUT_LENGTH fault) × Keeps s.writer s.writer'
 
 -- where this fault stopped it
-abbrev pub StopsMake : MakeOptions → Streams → Fault → Type 0
-StopsMake options s (Usage line) = ⊥
-StopsMake options s (Refused (refusals.Name fault)) = (name_fault options.name.now ≡ Some fault) × OnlyReads s
-StopsMake options s (Refused (refusals.Make refusal)) =
-    (name_fault options.name.now ≡ None) × (refusal_of (settings_of_options options) ≡ Some refusal) × OnlyReads s
-StopsMake options s Read = FailsInput inputs.Read s
-StopsMake options s TooLong = FailsInput inputs.TooLong s
-StopsMake options s (Write written) = (name_fault options.name.now ≡ None)
-    × ((content : List ℕ)
-    × MakesFront (settings_of_options options) s.reader s.reader' s.writer s.writer' written content)
-StopsMake options s Resources = FailsInput inputs.Memory s
-
--- what was asked for was done
-abbrev pub Does : Request → Streams → Type 0
-Does (Show text) s = (s.reader' ≡ s.reader) × Appends s.writer s.writer' (string_bytes text)
-Does (Make options) s = DoesMake options s
-
--- where this fault stopped it
-abbrev pub Stops : Request → Streams → Fault → Type 0
-Stops (Show text) s (Write written) =
-    (s.reader' ≡ s.reader) × (written < length (string_bytes text))
-    × Appends s.writer s.writer' (take written (string_bytes text))
-Stops (Show text) s other = ⊥
-Stops (Make options) s fault = StopsMake options s fault
+abbrev pub StopsInput : MakeOptions → Streams → Fault → Type 0
+StopsInput options s (Usage line) = ⊥
+StopsInput options s (Name fault) = (name_fault options.name.now ≡ Some fault) × OnlyReads s
+StopsInput options s (Scan fault) = ⊥
+StopsInput options s (Make error) = (name_fault options.name.now ≡ None)
+    × ((order : Order) × IsOrder options true order × (refusal_of order ≡ Some error)) × OnlyReads s
+StopsInput options s Read = FailsInput inputs.Read s
+StopsInput options s TooLong = FailsInput inputs.TooLong s
+StopsInput options s (Write written) = (name_fault options.name.now ≡ None)
+    × ((order : Order) × IsOrder options true order
+    × ((content : List ℕ) × MakesOf order s.reader s.reader' (SendsFront (file_of options) s.writer s.writer' written) content))
+StopsInput options s Resources = FailsInput inputs.Memory s
 
 -- nothing was read, and nothing was written
 abbrev pub IsUntouched : Streams → Type 0
 IsUntouched s = (s.reader' ≡ s.reader) × (s.writer' ≡ s.writer)
+
+-- the order that the options ask for, and the paths of the files at their place
+pub record IsOrderOf (options : MakeOptions) (order : Order) (paths : List (List (List ℕ))) : Type 0 where
+  pub name : name_fault options.name.now ≡ None
+  pub ordered : IsOrder options order.single order
+  pub found : AreFound options.name.now order.single paths
+
+-- that order is not refused for those paths
+abbrev pub IsAccepted : MakeOptions → Type 0
+IsAccepted options = (order : Order) × (paths : List (List (List ℕ))) × IsOrderOf options order paths
+    × (make_refusal {F = Error} order paths ≡ None)
+
+-- why there is no torrent of the files at a place
+abbrev pub StopsFinding : MakeOptions → Fault → Type 0
+StopsFinding options (Name fault) = name_fault options.name.now ≡ Some fault
+StopsFinding options (Scan fault) = (name_fault options.name.now ≡ None) × (fault ≢ scans.Memory)
+StopsFinding options (Make error) = (order : Order) × (paths : List (List (List ℕ))) × IsOrderOf options order paths
+    × IsOwn (make_refusal order paths) error × IsGivenTo (IsFileFault (length paths)) error
+StopsFinding options Resources = Unit {0}
+StopsFinding options other = ⊥
+
+-- a torrent was made of the files at a place, of which no contract says what they hold
+abbrev pub DoesPath : MakeOptions → Streams → Type 0
+DoesPath options s = (s.reader' ≡ s.reader) × IsAccepted options
+    × ((torrent : List ℕ) × Sends (file_of options) s.writer s.writer' torrent)
+
+-- where this fault stopped it
+abbrev pub StopsPath : MakeOptions → Streams → Fault → Type 0
+StopsPath options s (Write written) = (s.reader' ≡ s.reader) × IsAccepted options
+    × ((torrent : List ℕ) × SendsFront (file_of options) s.writer s.writer' written torrent)
+StopsPath options s fault = StopsFinding options fault × IsUntouched s
+
+-- of the reader, or of the files at a place
+abbrev pub DoesFrom : Option (List ℕ) → MakeOptions → Streams → Type 0
+DoesFrom None options s = DoesInput options s
+DoesFrom (Some path) options s = DoesPath options s
+
+abbrev pub StopsFrom : Option (List ℕ) → MakeOptions → Streams → Fault → Type 0
+StopsFrom None options s fault = StopsInput options s fault
+StopsFrom (Some path) options s fault = StopsPath options s fault
+
+abbrev pub DoesMake : MakeOptions → Streams → Type 0
+DoesMake options s = DoesFrom (option_map (λ path. path.now) options.path) options s
+
+abbrev pub StopsMake : MakeOptions → Streams → Fault → Type 0
+StopsMake options s fault = StopsFrom (option_map (λ path. path.now) options.path) options s fault
+
+-- what was asked for was done
+abbrev pub Does : Request → Streams → Type 0
+Does (Show text) s = (s.reader' ≡ s.reader) × Appends s.writer s.writer' (string_bytes text)
+Does (ToMake options) s = DoesMake options s
+
+-- where this fault stopped it
+abbrev pub Stops : Request → Streams → Fault → Type 0
+Stops (Show text) s (Write written) =
+    (s.reader' ≡ s.reader) × IsFront s.writer s.writer' written (string_bytes text)
+Stops (Show text) s other = ⊥
+Stops (ToMake options) s fault = StopsMake options s fault
 
 -- what the words ask for was done
 abbrev pub DoesAsked : List (List ℕ) → Streams → Type 0

@@ -1,7 +1,10 @@
 -- What stops the program: which fault a step's fault is, and the status that the program ends with.
 use Rattle.std.specs.Prelude.{ℕ, Result, Ok, Err}
-use Rattle.tor_meta.specs.declared.refusals.ContentsError.{ContentsError}
-use Rattle.tor_meta.specs.declared.refusals.ContentsError.TheVariants as refusals
+use Rattle.std.specs.declared.io.Error.{Error}
+use Rattle.tor_meta.specs.declared.make_error.MakeError.{MakeError}
+use Rattle.tor_meta.specs.declared.make_error.MakeError.TheVariants as makes
+use Rattle.tor_source.specs.declared.faults.ScanFault.{ScanFault}
+use Rattle.tor_source.specs.declared.faults.ScanFault.TheVariants as scans
 use Rattle.tor_tree.specs.declared.names.NameError.{NameError}
 use Rattle.tor_tree.specs.declared.names.NameError.TheVariants as names
 use Rattle.tor_cli.specs.declared.input.InputFault.{InputFault}
@@ -9,8 +12,7 @@ use Rattle.tor_cli.specs.declared.input.InputFault.TheVariants as inputs
 use Rattle.tor_cli.specs.declared.make.FromFault.{FromFault}
 use Rattle.tor_cli.specs.declared.make.FromFault.TheVariants as steps
 use Rattle.tor_cli.specs.declared.fault.Fault.{Fault}
-use Rattle.tor_cli.specs.declared.fault.Fault.TheVariants.{Usage, Refused, Read, TooLong, Write, Resources}
-use Rattle.tor_cli.specs.declared.fault.Refusal.TheVariants.{Name, Make}
+use Rattle.tor_cli.specs.declared.fault.Fault.TheVariants.{Usage, Name, Scan, Make, Read, TooLong, Write, Resources}
 
 abbrev pub of_input_fault : InputFault → Fault
 of_input_fault inputs.Read = Read
@@ -19,20 +21,43 @@ of_input_fault inputs.Memory = Resources
 
 abbrev pub of_name_error : NameError → Fault
 of_name_error names.Memory = Resources
-of_name_error fault = Refused (Name fault)
+of_name_error fault = Name fault
 
-abbrev pub of_refusal : ContentsError → Fault
-of_refusal refusals.Memory = Resources
-of_refusal refusal = Refused (Make refusal)
+abbrev pub of_scan_fault : ScanFault → Fault
+of_scan_fault scans.Memory = Resources
+of_scan_fault fault = Scan fault
+
+abbrev pub of_make_error : MakeError Error → Fault
+of_make_error makes.Resources = Resources
+of_make_error error = Make error
 
 abbrev pub of_step_fault : FromFault → Fault
 of_step_fault (steps.Input fault) = of_input_fault fault
-of_step_fault (steps.Make refusal) = of_refusal refusal
+of_step_fault (steps.Make error) = of_make_error error
 of_step_fault (steps.Write fault) = Write fault.written
 
+-- the names below a folder are refused, or the system did not tell them
+abbrev pub status_of_scan : ScanFault → ℕ
+status_of_scan scans.NotUtf8 = 1
+status_of_scan scans.NotRegular = 1
+status_of_scan scans.TooDeep = 1
+status_of_scan scans.System = 3
+status_of_scan scans.Memory = 4
+
+-- the order or the paths are refused, or a file was not read as it was told to be
+abbrev pub status_of_make : {F : Type 0} → MakeError F → ℕ
+status_of_make (makes.Read file start fault) = 3
+status_of_make (makes.Changed file) = 3
+status_of_make (makes.Missing file) = 3
+status_of_make (makes.StreamTooLong file) = 3
+status_of_make makes.Resources = 4
+status_of_make refusal = 1
+
 abbrev pub status_of : Fault → ℕ
-status_of (Refused refusal) = 1
 status_of (Usage line) = 2
+status_of (Name fault) = 1
+status_of (Scan fault) = status_of_scan fault
+status_of (Make error) = status_of_make error
 status_of Read = 3
 status_of TooLong = 3
 status_of (Write written) = 3

@@ -6,12 +6,14 @@ use Rattle.clap.specs.declared.builder.value_parser.ValueParser.{ValueParser}
 use Rattle.clap.specs.declared.parser.matches.ArgMatches.{ArgMatches}
 use Rattle.tor_tree.specs.declared.kinds.Kind.{Kind}
 use Rattle.tor_tree.specs.declared.kinds.Kind.TheVariants.{V1, V2, Hybrid}
-use Rattle.tor_cli.specs.CommandLine.{AreKinds, tor_app}
+use Rattle.tor_engine.specs.declared.how.How.{How}
+use Rattle.tor_engine.specs.declared.how.How.TheVariants.{One, Halves}
+use Rattle.tor_cli.specs.CommandLine.{AreHows, AreKinds, tor_app}
 use Rattle.tor_cli.specs.declared.command.Request.{Request}
 use Rattle.tor_cli.specs.declared.command.Request.TheVariants.{Show, Make}
 use Rattle.tor_cli.specs.declared.fault.Fault.{Fault}
 use Rattle.tor_cli.specs.declared.fault.Fault.TheVariants.{Usage, Resources}
-use Rattle.tor_cli.specs.declared.make_command.MakeOptions.{MakeOptions}
+use Rattle.tor_cli.specs.declared.options.MakeOptions.{MakeOptions}
 
 -- the word for a kind
 abbrev pub word_of : Kind → List ℕ
@@ -19,17 +21,34 @@ word_of V1 = codes "v1"
 word_of V2 = codes "v2"
 word_of Hybrid = codes "hybrid"
 
+-- the word for a way to share the hashing
+abbrev pub how_word : How → List ℕ
+how_word One = codes "one"
+how_word (Halves workers) = codes "halves"
+
+-- it has this number of workers; one worker takes no notice of a number
+abbrev pub HasWorkers : How → ℕ → Type 0
+HasWorkers One number = Unit {0}
+HasWorkers (Halves workers) number = workers ≡ number
+
+-- the text is a number in decimal digits, of which this holds
+abbrev pub IsNumber : List ℕ → (ℕ → Type 0) → Type 0
+IsNumber text Holds = IsNumeral 10 (without_leading_plus text) × Holds (digits_value 10 (without_leading_plus text))
+
 -- the values of the options, by their names
 pub record AreOptionsIn (rows : List Row) (options : MakeOptions) : Type 0 where
   pub kind : first_of (codes "kind") rows ≡ Some (word_of options.kind)
   pub name : first_of (codes "name") rows ≡ Some options.name.now
-  -- in decimal digits
   pub piece_length : (text : List ℕ) → one_of (codes "piece-length") rows ≡ Some text
-      → IsNumeral 10 (without_leading_plus text)
-      × (options.piece_length ≡ digits_value 10 (without_leading_plus text))
+      → IsNumber text (λ number. options.piece_length ≡ number)
   pub announce : first_of (codes "announce") rows ≡ option_map (λ url. url.now) options.announce
   pub is_private : one_of (codes "private") rows ≡ Some (codes "true") → options.is_private ≡ true
   pub is_public : one_of (codes "private") rows ≡ Some (codes "false") → options.is_private ≡ false
+  pub how : first_of (codes "how") rows ≡ Some (how_word options.how)
+  pub workers : (text : List ℕ) → one_of (codes "workers") rows ≡ Some text → IsNumber text (HasWorkers options.how)
+  pub span : (text : List ℕ) → one_of (codes "span") rows ≡ Some text → IsNumber text (λ number. options.span ≡ number)
+  pub out : first_of (codes "out") rows ≡ option_map (λ place. place.now) options.out
+  pub path : first_of (codes "path") rows ≡ option_map (λ place. place.now) options.path
 
 -- the request is what a parse found
 abbrev pub IsFoundIn : ArgMatches → Request → Type 0
@@ -40,8 +59,8 @@ IsFoundIn matches (Make options) =
 -- the words ask for this; of a text to be shown nothing is said
 abbrev pub Asks : List (List ℕ) → Request → Type 0
 Asks words (Show text) = Unit {0}
-Asks words (Make options) = (kinds : ValueParser) × AreKinds kinds × (rows : List Row)
-    × (subcommand_of (tor_app kinds) words ≡ Some (codes "make", rows)) × AreOptionsIn rows options
+Asks words (Make options) = (kinds hows : ValueParser) × AreKinds kinds × AreHows hows × (rows : List Row)
+    × (subcommand_of (tor_app kinds hows) words ≡ Some (codes "make", rows)) × AreOptionsIn rows options
 
 -- a fault of usage, whose line ends in where the help of this command is
 abbrev pub IsUsage : List ℕ → Fault → Type 0

@@ -3,12 +3,13 @@ ghost use Rattle.clap.specs.Walk.{texts};
 ghost use Rattle.clap.specs.Words.{app_of};
 ghost use Rattle.clap.specs.declared.builder.value_parser.ValueParser.{ValueParser};
 ghost use Rattle.std.specs.Prelude.{◌≡◌, IfErr, IfOk};
-ghost use Rattle.tor_cli.specs.CommandLine.{AreKinds, tor_app};
+ghost use Rattle.tor_cli.specs.CommandLine.{AreHows, AreKinds, tor_app};
 ghost use Rattle.tor_cli.specs.Words.{Asks, IsFoundIn, IsOfWords};
 
 use crate::escape::escaped;
 use crate::fault::Fault;
-use crate::make_command::{MakeOptions, make_command, make_options};
+use crate::make_words::make_command;
+use crate::options::{MakeOptions, make_options};
 use clap::error::ErrorKind;
 use clap::{ArgMatches, Command};
 use std::alloc::{AllocError, Global};
@@ -35,7 +36,8 @@ pub fn read_words<'a>(alloc: Global, words: &'a [&'a str]) -> Result<Request<'a>
 }
 
 fn tor_command<'a>(alloc: Global) -> Result<Command<'a>, AllocError>
-    ensures { IfOk result (λ command. (kinds : ValueParser) × AreKinds kinds × (app_of command ≡ tor_app kinds)) }
+    ensures { IfOk result (λ command. (kinds hows : ValueParser) × AreKinds kinds × AreHows hows
+        × (app_of command ≡ tor_app kinds hows)) }
 {
     Command::new(alloc, "tor")
         .version("0.1.0")

@@ -1,22 +1,25 @@
 //! What can stop the program: its line on standard error, and its status.
 ghost use Rattle.std.specs.Prelude.{◌≡◌, IfOk};
-ghost use Rattle.tor_cli.specs.Status.{of_input_fault, of_name_error, of_step_fault, status_of};
+ghost use Rattle.tor_cli.specs.Status.{status_of, status_of_make, status_of_scan};
 ghost use Rattle.tor_cli.specs.Words.{IsUsage};
-ghost use Rattle.tor_cli.specs.declared.fault.Fault.TheVariants.{Write, Resources};
 
-use crate::input::InputFault;
-use crate::make::FromFault;
-use std::alloc::{AllocError, AllocFailed, Global};
-use std::fmt;
-use tor_meta::{ContentsError, WriteFault};
+use std::alloc::{AllocError, Global};
+use std::{fmt, io};
+use tor_meta::MakeError;
+use tor_source::ScanFault;
 use tor_tree::NameError;
 
+/// What can stop the program. Want of memory is `Resources`, and no other.
 #[derive(Debug, Drop)]
 pub enum Fault {
     /// The words ask for nothing that there is: the line.
     Usage(String),
-    /// No torrent is made of this input under these words.
-    Refused(Refusal),
+    /// The word for the name is none.
+    Name(NameError),
+    /// What the words name is no file, and no folder whose files make a list.
+    Scan(ScanFault),
+    /// The order or the paths are refused, or a file was not read as it was told to be.
+    Make(MakeError<io::Error>),
     /// Standard input was not read whole.
     Read,
     TooLong,
@@ -24,14 +27,6 @@ pub enum Fault {
     Write(u64),
     /// Memory was refused.
     Resources,
-}
-
-/// Why no torrent is made. Neither is want of memory.
-#[derive(Debug, Drop)]
-pub enum Refusal {
-    /// The word for the name is none.
-    Name(NameError),
-    Make(ContentsError),
 }
 
 impl Fault {
@@ -63,11 +58,36 @@ impl Fault {
         ensures { result ≡ status_of self.now }
     {
         match self {
-            Fault::Refused(_) => 1,
             Fault::Usage(_) => 2,
+            Fault::Name(_) => 1,
+            Fault::Scan(fault) => status_of_scan(fault),
+            Fault::Make(error) => status_of_make(error),
             Fault::Read | Fault::TooLong | Fault::Write(_) => 3,
             Fault::Resources => 4,
         }
+    }
+}
+
+fn status_of_scan(fault: &ScanFault) -> u8
+    ensures { result ≡ status_of_scan fault.now }
+{
+    match fault {
+        ScanFault::NotUtf8 | ScanFault::NotRegular | ScanFault::TooDeep => 1,
+        ScanFault::System => 3,
+        ScanFault::Memory => 4,
+    }
+}
+
+fn status_of_make(error: &MakeError<io::Error>) -> u8
+    ensures { result ≡ status_of_make error.now }
+{
+    match error {
+        MakeError::Read { .. }
+        | MakeError::Changed { .. }
+        | MakeError::Missing { .. }
+        | MakeError::StreamTooLong { .. } => 3,
+        MakeError::Resources => 4,
+        _ => 1,
     }
 }
 
@@ -75,8 +95,9 @@ impl fmt::Display for Fault {
     fn fmt<W: fmt::Write>(&self, f: &mut fmt::Formatter<W>) -> fmt::Result {
         match self {
             Fault::Usage(line) => f.write_str(line.as_str()),
-            Fault::Refused(Refusal::Name(fault)) => write!(f, "{fault}"),
-            Fault::Refused(Refusal::Make(refusal)) => write!(f, "{refusal}"),
+            Fault::Name(fault) => write!(f, "{fault}"),
+            Fault::Scan(fault) => write!(f, "{fault}"),
+            Fault::Make(error) => write_error(error, f),
             Fault::Read => f.write_str("read fault"),
             Fault::TooLong => f.write_str("input too long"),
             Fault::Write(written) => write!(f, "write fault after {written} bytes"),
@@ -85,62 +106,21 @@ impl fmt::Display for Fault {
     }
 }
 
-impl From<InputFault> for Fault {
-    ghost from_gives = { λ fault e. e ≡ of_input_fault fault };
-
-    fn from(fault: InputFault) -> Fault {
-        match fault {
-            InputFault::Read => Fault::Read,
-            InputFault::TooLong => Fault::TooLong,
-            InputFault::Memory => Fault::Resources,
-        }
-    }
-}
-
-impl From<NameError> for Fault {
-    ghost from_gives = { λ fault e. e ≡ of_name_error fault };
-
-    fn from(fault: NameError) -> Fault {
-        match fault {
-            NameError::Memory => Fault::Resources,
-            fault => Fault::Refused(Refusal::Name(fault)),
-        }
-    }
-}
-
-impl From<FromFault> for Fault {
-    ghost from_gives = { λ fault e. e ≡ of_step_fault fault };
-
-    fn from(fault: FromFault) -> Fault {
-        match fault {
-            FromFault::Input(fault) => Fault::from(fault),
-            FromFault::Make(ContentsError::Memory) => Fault::Resources,
-            FromFault::Make(refusal) => Fault::Refused(Refusal::Make(refusal)),
-            FromFault::Write(fault) => Fault::from(fault),
-        }
-    }
-}
-
-impl From<WriteFault> for Fault {
-    ghost from_gives = { λ fault e. e ≡ Write fault.written };
-
-    fn from(fault: WriteFault) -> Fault {
-        Fault::Write(fault.written)
-    }
-}
-
-impl From<AllocError> for Fault {
-    ghost from_gives = { λ _ e. e ≡ Resources };
-
-    fn from(_error: AllocError) -> Fault {
-        Fault::Resources
-    }
-}
-
-impl<T: Drop> From<AllocFailed<T>> for Fault {
-    ghost from_gives = { λ _ e. e ≡ Resources };
-
-    fn from(_failed: AllocFailed<T>) -> Fault {
-        Fault::Resources
+/// The code and the name, and for a fault of a file its number, from 0 in the order of the paths, and the place.
+fn write_error<W: fmt::Write>(
+    error: &MakeError<io::Error>,
+    f: &mut fmt::Formatter<W>,
+) -> fmt::Result {
+    match error {
+        MakeError::Read {
+            file,
+            start: Some(start),
+            ..
+        } => write!(f, "{error} file {file} at {start}"),
+        MakeError::Read { file, .. } => write!(f, "{error} file {file} at length"),
+        MakeError::Changed { file }
+        | MakeError::Missing { file }
+        | MakeError::StreamTooLong { file } => write!(f, "{error} file {file}"),
+        refusal => write!(f, "{refusal}"),
     }
 }

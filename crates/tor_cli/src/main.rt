@@ -1,27 +1,40 @@
 //! The program `tor`: a maker of BitTorrent metainfo files.
 //!
 //! - `run.rt`: the whole program, over any reader and writers; `main` hands it the real ones.
-//! - `command.rt`: what the words ask for. `make_command.rt`: the command `make`.
-//! - `make.rt`: the torrent of what a reader has. `input.rt`: an input read whole, within a limit. `intake.rt`: what
-//!   takes its parts.
-//! - `fault.rt`: what stops the program, its line and its status. `escape.rt`: the user's text in such a line.
+//! - `command.rt`: what the words ask for.
+//! - `make_command.rt`: the command `make`; `make_words.rt`: its words; `options.rt`: what they
+//!   ask for.
+//! - `make.rt`: the torrent of what a reader has, as `judge.rt` judges its order. `input.rt`: an input read whole, within
+//!   a limit. `intake.rt`: what takes its parts.
+//! - `from_path.rt`: the torrent of a file or a folder. `out_file.rt`: the file that a torrent goes to. `progress.rt`: the
+//!   line that shows how far the reading is; `amount.rt`: bytes and seconds in it.
+//! - `fault.rt`: what stops the program, its line and its status; `fault_of.rt`: which step's fault it is. `escape.rt`:
+//!   the user's text in such a line.
 #![tactic(auto)]
 
+mod amount;
 mod command;
 mod escape;
 mod fault;
+mod fault_of;
+mod from_path;
 mod input;
 mod intake;
+mod judge;
 mod make;
 mod make_command;
+mod make_words;
+mod options;
+mod out_file;
+mod progress;
 mod run;
 #[cfg(test)]
 mod tests;
 
 use fault::Fault;
-use std::alloc::Global;
+use std::alloc::{AllocError, Global};
 use std::env;
-use std::io::ErrorKind;
+use std::io::{ErrorKind, IsTerminal};
 use std::process::ExitCode;
 
 fn main(rt: HostRuntime) -> ExitCode {
@@ -29,10 +42,19 @@ fn main(rt: HostRuntime) -> ExitCode {
         Ok(words) => words,
         Err(fault) => return stop(&rt, &fault),
     };
-    match with_words(&rt, &words) {
-        Ok(status) => ExitCode::from(status),
-        Err(fault) => stop(&rt, &fault),
-    }
+    let texts = match texts(rt.alloc(), &words) {
+        Ok(texts) => texts,
+        Err(error) => return stop(&rt, &Fault::from(error)),
+    };
+    ExitCode::from(run::run(
+        &rt,
+        &rt,
+        &texts,
+        &mut rt.stdin(),
+        &mut rt.stdout(),
+        &mut rt.stderr(),
+        rt.stderr().is_terminal(),
+    ))
 }
 
 // The words of the command line, from the program's name on.
@@ -45,19 +67,12 @@ fn program_words(rt: &HostRuntime) -> Result<Vec<String>, Fault> {
     }
 }
 
-fn with_words(rt: &HostRuntime, words: &[String]) -> Result<u8, Fault> {
-    let alloc = rt.alloc();
+fn texts<'a>(alloc: Global, words: &'a [String]) -> Result<Vec<&'a str>, AllocError> {
     let mut texts = Vec::new(alloc);
     for word in words {
         texts.push(word.as_str())?;
     }
-    Ok(run::run(
-        alloc,
-        &texts,
-        &mut rt.stdin(),
-        &mut rt.stdout(),
-        &mut rt.stderr(),
-    ))
+    Ok(texts)
 }
 
 fn stop(rt: &HostRuntime, fault: &Fault) -> ExitCode {

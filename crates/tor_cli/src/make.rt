@@ -1,53 +1,72 @@
 //! From a reader to the torrent of what it has, in a writer.
-ghost use Rattle.std.specs.Prelude.{◌≡◌, List, ℕ, IfErr, OnOk};
-ghost use Rattle.tor_meta.specs.Head.{settings_of};
-ghost use Rattle.tor_meta.specs.declared.refusals.ContentsError.TheVariants.{Memory};
-ghost use Rattle.tor_cli.specs.Make.{MakesWhole, MakesPart};
+ghost use Rattle.std.specs.Prelude.{◌≡◌, List, ℕ, IfErr, IfOk, OnOk};
+ghost use Rattle.tor_meta.specs.declared.make_error.MakeError.TheVariants.{Resources};
+ghost use Rattle.tor_cli.specs.Make.{MakesOf, MakesPart, MakesWhole, StopsReading};
 ghost use Rattle.tor_cli.specs.declared.make.FromFault.TheVariants.{Input, Make, Write};
 
 use crate::input::{InputFault, MAX_INPUT_LENGTH, drop_input, read_parts};
+use crate::judge::head_of;
 use std::alloc::{AllocError, Global};
 use std::io;
-use tor_meta::{ContentsError, FedSums, Head, WriteFault, make_fed, refusal_of_one, write_out};
+use tor_meta::{FedSums, MakeError, Order, WriteFault, make_fed, write_out};
 
 /// Why no whole torrent was written.
 #[derive(Debug, Drop)]
 pub enum FromFault {
     Input(InputFault),
-    Make(ContentsError),
+    /// A refusal, or want of memory; no file is read.
+    Make(MakeError<io::Error>),
     Write(WriteFault),
 }
 
-/// Reads all of a content, at most `MAX_INPUT_LENGTH` bytes, and writes the torrent of it under the head's name.
+/// Reads all of a content, at most `MAX_INPUT_LENGTH` bytes, and writes the torrent of it under the order's name.
 /// Nothing of the content is kept.
 pub fn make_from<R: io::Read, W: io::Write>(
     alloc: Global,
     reader: &mut R,
     writer: &mut W,
-    head: &Head,
+    order: &Order,
 ) -> Result<(), FromFault>
-    ensures made { OnOk result ((content : List ℕ) × MakesWhole (settings_of head.now)
+    ensures made { OnOk result ((content : List ℕ) × MakesWhole order.now
         (R.remaining reader.old) (R.remaining reader.new) (W.contents writer.old) (W.contents writer.new) content) }
-    ensures part { IfErr result (MakesPart (settings_of head.now)
+    ensures part { IfErr result (MakesPart order.now
         (R.remaining reader.old) (R.remaining reader.new) (W.contents writer.old) (W.contents writer.new)) }
 {
-    if let Some(refusal) = refusal_of_one(head) {
-        // A fault of the reader is told before what is wrong with the head.
-        drop_input(alloc, reader)?;
-        return Err(FromFault::Make(refusal));
-    }
-    let mut fed = FedSums::new(alloc, head);
-    read_parts(alloc, reader, MAX_INPUT_LENGTH, &mut fed)?;
-    let torrent = make_fed(alloc, head, fed)?;
+    let torrent = torrent_from(alloc, reader, order)?;
     write_out(writer, &torrent)?;
     Ok(())
 }
 
+/// Reads all of a content, at most `MAX_INPUT_LENGTH` bytes, and gives the torrent of it under the order's name. The
+/// caller's thread reads and hashes, whoever is to hash files.
+pub fn torrent_from<R: io::Read>(
+    alloc: Global,
+    reader: &mut R,
+    order: &Order,
+) -> Result<Vec<u8>, FromFault>
+    ensures made { IfOk result (λ torrent. (content : List ℕ) × MakesOf order.now
+        (R.remaining reader.old) (R.remaining reader.new) (λ bytes. torrent.items ≡ bytes) content) }
+    ensures stopped { IfErr result (StopsReading order.now (R.remaining reader.old) (R.remaining reader.new)) }
+{
+    match head_of(alloc, order) {
+        Ok(head) => {
+            let mut fed = FedSums::new(alloc, &head);
+            read_parts(alloc, reader, MAX_INPUT_LENGTH, &mut fed)?;
+            Ok(make_fed(alloc, &head, fed)?)
+        }
+        Err(refusal) => {
+            // A fault of the reader is told before what is wrong with the order.
+            drop_input(alloc, reader)?;
+            Err(FromFault::Make(refusal))
+        }
+    }
+}
+
 impl From<AllocError> for FromFault {
-    ghost from_gives = { λ _ e. e ≡ Make Memory };
+    ghost from_gives = { λ _ e. e ≡ Make Resources };
 
     fn from(_error: AllocError) -> FromFault {
-        FromFault::Make(ContentsError::Memory)
+        FromFault::Make(MakeError::Resources)
     }
 }
 

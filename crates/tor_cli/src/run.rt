@@ -8,18 +8,21 @@ ghost use Rattle.tor_cli.specs.declared.fault.Fault.{Fault};
 use crate::command::{Request, read_words};
 use crate::fault::Fault;
 use crate::make_command::make;
-use std::alloc::Global;
 use std::io::{Read, Write};
+use std::thread::Threads;
 use tor_meta::write_out;
 
 /// Does what the words ask for; the first word is the program's name. Answers the status: 0 done, 1 refused, 2 usage,
-/// 3 a read or write fault, 4 memory refused. A fault is one line on `err`.
-pub fn run<R: Read, W: Write, E: Write>(
-    alloc: Global,
+/// 3 a read or write fault, 4 memory refused. A fault is one line on `err`. How far the reading of PATH is, the system's
+/// own standard error shows, where it is to be shown.
+pub fn run<T: Threads + Sync, R: Read, W: Write, E: Write>(
+    rt: &T,
+    system: &HostRuntime,
     words: &[&str],
     reader: &mut R,
     out: &mut W,
     err: &mut E,
+    shows_progress: bool,
 ) -> u8
     ensures within { result ≤ 4 }
     ensures done { result ≡ 0 → DoesAsked (texts words.entry.now) (record {
@@ -36,16 +39,18 @@ pub fn run<R: Read, W: Write, E: Write>(
           writer' = W.contents out.new;
         }) fault }
 {
-    let outcome = answer(alloc, words, reader, out);
+    let outcome = answer(rt, system, words, reader, out, shows_progress);
     tell(&outcome, err)
 }
 
 /// Does what the words ask for.
-fn answer<R: Read, W: Write>(
-    alloc: Global,
+fn answer<T: Threads + Sync, R: Read, W: Write>(
+    rt: &T,
+    system: &HostRuntime,
     words: &[&str],
     reader: &mut R,
     out: &mut W,
+    shows_progress: bool,
 ) -> Result<(), Fault>
     ensures done { OnOk result (DoesAsked (texts words.entry.now) (record {
       reader = R.remaining reader.old;
@@ -60,16 +65,18 @@ fn answer<R: Read, W: Write>(
       writer' = W.contents out.new;
     })) }
 {
-    let request = read_words(alloc, words)?;
-    perform(alloc, &request, reader, out)
+    let request = read_words(system.alloc(), words)?;
+    perform(rt, system, &request, reader, out, shows_progress)
 }
 
 /// Does what was asked for.
-fn perform<R: Read, W: Write>(
-    alloc: Global,
+fn perform<T: Threads + Sync, R: Read, W: Write>(
+    rt: &T,
+    system: &HostRuntime,
     request: &Request<'_>,
     reader: &mut R,
     out: &mut W,
+    shows_progress: bool,
 ) -> Result<(), Fault>
     ensures done { OnOk result (Does request.now (record {
       reader = R.remaining reader.old;
@@ -86,7 +93,7 @@ fn perform<R: Read, W: Write>(
 {
     match request {
         Request::Show(text) => Ok(write_out(out, text.as_bytes())?),
-        Request::Make(options) => make(alloc, options, reader, out),
+        Request::Make(options) => make(rt, system, options, reader, out, shows_progress),
     }
 }
 

@@ -5,7 +5,7 @@ use std::io::{Error, ErrorKind, Read, Result, Write};
 use std::test::Fail;
 
 // The torrent of the content `abc` under the name `a`, piece length 16,384. The hash is the SHA-256 of `abc`.
-const ABC: &[u8; 158] = b"d4:infod9:file treed1:ad0:d6:lengthi3e11:pieces root32:\
+pub const ABC: &[u8; 158] = b"d4:infod9:file treed1:ad0:d6:lengthi3e11:pieces root32:\
 \xba\x78\x16\xbf\x8f\x01\xcf\xea\x41\x41\x40\xde\x5d\xae\x22\x23\
 \xb0\x03\x61\xa3\x96\x17\x7a\x9c\xb4\x10\xff\x61\xf2\x00\x15\xad\
 eee12:meta versioni2e4:name1:a12:piece lengthi16384ee12:piece layersdee";
@@ -181,7 +181,7 @@ fn makes_a_torrent_of_each_kind(rt: HostRuntime) -> std::result::Result<(), Fail
         let mut out = Vec::new(alloc);
         let mut err = Vec::new(alloc);
         assert_eq!(rt;
-            run(alloc, words, &mut reader, &mut out, &mut err),
+            run(&rt, &rt, words, &mut reader, &mut out, &mut err, false),
             0,
             "at {words:?}"
         );
@@ -197,7 +197,10 @@ fn writes_a_torrent_byte_by_byte(rt: HostRuntime) -> std::result::Result<(), Fai
     let mut input: &[u8] = b"abc";
     let mut out = narrow_writer(alloc, 1, 1000, true);
     let mut err = Vec::new(alloc);
-    assert_eq!(rt; run(alloc, &WORDS, &mut input, &mut out, &mut err), 0);
+    assert_eq!(rt;
+        run(&rt, &rt, &WORDS, &mut input, &mut out, &mut err, false),
+        0
+    );
     assert_eq!(rt; out.written.as_slice(), ABC.as_slice());
     assert!(rt; err.is_empty());
     Ok(())
@@ -216,7 +219,15 @@ fn tells_a_fault_of_its_reader_before_one_of_its_words(
     for words in table {
         let mut out = Vec::new(alloc);
         let mut err = Vec::new(alloc);
-        let status = run(alloc, words, &mut Faulting(b"ab"), &mut out, &mut err);
+        let status = run(
+            &rt,
+            &rt,
+            words,
+            &mut Faulting(b"ab"),
+            &mut out,
+            &mut err,
+            false,
+        );
         assert_eq!(rt; status, 3, "at {words:?}");
         assert!(rt; out.is_empty());
         assert_eq!(rt;
@@ -234,7 +245,7 @@ fn tells_that_its_input_is_too_long(rt: HostRuntime) -> std::result::Result<(), 
     let mut out = Vec::new(alloc);
     let mut err = Vec::new(alloc);
     let words = ["tor", "make", "--name", ".."];
-    let status = run(alloc, &words, &mut Endless, &mut out, &mut err);
+    let status = run(&rt, &rt, &words, &mut Endless, &mut out, &mut err, false);
     assert_eq!(rt; status, 3);
     assert!(rt; out.is_empty());
     assert_eq!(rt; err.as_slice(), b"tor: input too long\n".as_slice());
@@ -248,7 +259,10 @@ fn tells_how_many_bytes_were_written(rt: HostRuntime) -> std::result::Result<(),
         let mut input: &[u8] = b"abc";
         let mut out = narrow_writer(alloc, 1000, 12, faults);
         let mut err = Vec::new(alloc);
-        assert_eq!(rt; run(alloc, &WORDS, &mut input, &mut out, &mut err), 3);
+        assert_eq!(rt;
+            run(&rt, &rt, &WORDS, &mut input, &mut out, &mut err, false),
+            3
+        );
         assert_eq!(rt; out.written.as_slice(), b"d4:infod9:fi".as_slice());
         assert_eq!(rt;
             err.as_slice(),
@@ -284,7 +298,7 @@ fn reads_its_input_before_it_refuses_its_words(rt: HostRuntime) -> std::result::
         let mut input: &[u8] = b"abc";
         let mut out = Vec::new(alloc);
         let mut err = Vec::new(alloc);
-        let status = run(alloc, &words, &mut input, &mut out, &mut err);
+        let status = run(&rt, &rt, &words, &mut input, &mut out, &mut err, false);
         assert_eq!(rt; status, 1, "at {line}");
         assert!(rt; input.is_empty(), "at {line}");
         assert!(rt; out.is_empty());
@@ -344,7 +358,7 @@ see 'tor make --help'\n",
         let mut out = Vec::new(alloc);
         let mut err = Vec::new(alloc);
         assert_eq!(rt;
-            run(alloc, words, &mut input, &mut out, &mut err),
+            run(&rt, &rt, words, &mut input, &mut out, &mut err, false),
             2,
             "at {line}"
         );
@@ -362,14 +376,17 @@ fn shows_help_and_version(rt: HostRuntime) -> std::result::Result<(), Fail> {
         (&["tor", "--version"], "tor 0.1.0\n"),
         (
             &["tor", "make", "--help"],
-            "Makes a torrent of standard input and writes it to standard output\n",
+            "Makes a torrent of standard input, or of a file or folder, and writes it to standard output\n",
         ),
     ];
     for (words, beginning) in table {
         let mut input: &[u8] = b"";
         let mut out = Vec::new(alloc);
         let mut err = Vec::new(alloc);
-        assert_eq!(rt; run(alloc, words, &mut input, &mut out, &mut err), 0);
+        assert_eq!(rt;
+            run(&rt, &rt, words, &mut input, &mut out, &mut err, false),
+            0
+        );
         assert!(rt; out.starts_with(beginning.as_bytes()));
         assert!(rt; err.is_empty());
     }

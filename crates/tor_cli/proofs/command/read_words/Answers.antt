@@ -5,23 +5,24 @@ use Rattle.clap.specs.Walk.{texts}
 use Rattle.clap.specs.Words.{App, is_simple, subcommand_of, subcommand_rows_of}
 use Rattle.clap.specs.declared.builder.value_parser.ValueParser.{ValueParser}
 use Rattle.clap.specs.declared.parser.matches.ArgMatches.{ArgMatches}
-use Rattle.tor_cli.specs.CommandLine.{AreKinds, tor_app}
+use Rattle.tor_cli.specs.CommandLine.{AreHows, AreKinds, tor_app}
 use Rattle.tor_cli.specs.Words.{Asks, IsFoundIn}
 use Rattle.tor_cli.specs.declared.command.Request.{Request}
 use Rattle.tor_cli.specs.declared.command.Request.TheVariants.{Show, Make}
 use Rattle.tor_cli.proofs.command.read_words.Goals as goal
 
-asked : (matches : ArgMatches) (words : List (List ℕ)) (kinds : ValueParser) → AreKinds kinds
-    → subcommand_rows_of matches ≡ subcommand_of (tor_app kinds) words
+asked : (matches : ArgMatches) (words : List (List ℕ)) (kinds hows : ValueParser) → AreKinds kinds → AreHows hows
+    → subcommand_rows_of matches ≡ subcommand_of (tor_app kinds hows) words
     → (request : Request) → IsFoundIn matches request → Asks words request
-asked matches words kinds are same (Show text) found = tt
-asked matches words kinds are same (Make options) (rows, there, values) = (kinds, are, rows, sym same ∙ there, values)
+asked matches words kinds hows are ways same (Show text) found = tt
+asked matches words kinds hows are ways same (Make options) (rows, there, values) =
+    (kinds, hows, are, ways, rows, sym same ∙ there, values)
 
 pub returns-in-Ok-clause-asked : goal.returns-in-Ok-clause-asked
 returns-in-Ok-clause-asked c =
     let words = texts c.args.words.now in
-    let (kinds, are, is) = c.in_ok-tor_command.ensures in
+    let (kinds, hows, are, ways, is) = c.in_ok-tor_command.ensures in
     let (rows, sub) = c.in-Ok.ensures.matches (ap is_simple is) in
     IfOk-weaker c.request_of.result _ _
-    (asked c.in-Ok.matches words kinds are (sub ∙ ap (λ (app : App). subcommand_of app words) is))
+    (asked c.in-Ok.matches words kinds hows are ways (sub ∙ ap (λ (app : App). subcommand_of app words) is))
     c.request_of.ensures.asked

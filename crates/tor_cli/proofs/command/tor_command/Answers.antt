@@ -22,9 +22,15 @@ returns c =
     ap app_of_fields c.subcommand_required.ensures
     ∙ ap (on_top (λ shape. record shape { subcommand_required = true })) told in
     let top = ap app_of_fields c.in_ok-bin_name.ensures.0 ∙ wanting in
-    let (kinds, are, is) = c.in_ok-make_command.ensures in
+    let (kinds, hows, are, ways, is) = c.in_ok-make_command.ensures in
     let plain = and_parts _ _ (and_parts _ _ (ap (λ (app : App). app.top.is_plain) is)).1 in
     let local = off _ (and_parts _ _ plain.1).0 in
     IfOk-weaker c.subcommand.result _ _
-    (λ command added. (kinds, are, added.shape local ∙ ap₂ with_subcommand top (ap (λ (app : App). app.top) is)))
+    (λ command added. (
+      kinds,
+      hows,
+      are,
+      ways,
+      added.shape local ∙ ap₂ with_subcommand top (ap (λ (app : App). app.top) is),
+    ))
     c.subcommand.ensures

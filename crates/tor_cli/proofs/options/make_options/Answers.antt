@@ -3,7 +3,7 @@ use Rattle.std.proofs.Common.{rules, ◌≡◌, ◌∙◌, ap, sym, ℕ, List, O
 use Rattle.clap.specs.Words.{first_of, first_value, found_of, rows_of}
 use Rattle.clap.specs.declared.parser.matches.Found.{Found}
 use Rattle.clap.proofs.WalkLemmas.{first_value-rows, one_text-rows}
-use Rattle.tor_cli.proofs.make_command.make_options.Goals as goal
+use Rattle.tor_cli.proofs.options.make_options.Goals as goal
 
 found_text : (found : Found) (id : List ℕ) (got : Option (Bor (List ℕ))) (text : Bor (List ℕ))
     → option_map (λ s. s.now) got ≡ first_value found id → got ≡ Some text
@@ -27,4 +27,16 @@ returns c =
       announce = sym (first_value-rows found (codes "announce")) ∙ sym c.get_str-3.ensures;
       is_private = λ is. c.get_flag.ensures.value (one_text-rows found (codes "private") ∙ is);
       is_public = λ is. c.get_flag.ensures.other (one_text-rows found (codes "private") ∙ is);
+      how =
+          found_text found (codes "how") c.get_str-4.result c.in_ok-get_str-3.field-0 c.get_str-4.ensures
+          (search rules)
+          ∙ ap Some (sym c.in_ok-how_of.ensures.value.0);
+      workers = λ text is.
+          let read = c.in_ok-get_one-2.ensures.value text (one_text-rows found (codes "workers") ∙ is) in
+          (read.0.0.0, rw (← read.0.1) c.in_ok-how_of.ensures.value.1);
+      span = λ text is.
+          let read = c.in_ok-get_one-3.ensures.value text (one_text-rows found (codes "span") ∙ is) in
+          (read.0.0.0, read.0.1);
+      out = sym (first_value-rows found (codes "out")) ∙ sym c.get_str-5.ensures;
+      path = sym (first_value-rows found (codes "path")) ∙ sym c.get_str-6.ensures;
     }

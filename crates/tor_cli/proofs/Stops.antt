@@ -1,0 +1,110 @@
+-- Which fault of the program a step's fault is, and where it stopped.
+use Rattle.std.proofs.Common.{◌≡◌, ◌⊎◌, ◌∙◌, inl, inr, refl, sym, ap, Bool, true, false, ℕ, List, length, None, Some}
+use Rattle.std.specs.Io.KnownBytes.{Keeps}
+use Rattle.std.specs.declared.io.Error.{Error}
+use Rattle.tor_meta.specs.declared.make_error.MakeError.{MakeError}
+use Rattle.tor_meta.specs.declared.make_error.MakeError.TheVariants as makes
+use Rattle.tor_meta.specs.declared.order.Order.{Order}
+use Rattle.tor_meta.specs.Make.{IsGivenTo, IsOwn, make_refusal}
+use Rattle.tor_source.specs.declared.faults.ScanFault.{ScanFault}
+use Rattle.tor_source.specs.declared.faults.ScanFault.TheVariants as scans
+use Rattle.tor_tree.specs.Name.{name_fault}
+use Rattle.tor_cli.specs.Input.{EndsInput, ReadsSome}
+use Rattle.tor_cli.specs.Make.{MakesPart, StopsReading, refusal_of}
+use Rattle.tor_cli.specs.Path.{IsFileFault}
+use Rattle.tor_cli.specs.Request.{IsOrder, IsOrderOf, IsUntouched, StopsFinding, StopsInput, StopsPath, Streams}
+use Rattle.tor_cli.specs.Request.{file_of}
+use Rattle.tor_cli.specs.Status.{of_input_fault, of_make_error, of_scan_fault, of_step_fault}
+use Rattle.tor_cli.specs.declared.input.TheConstants.{MAX_INPUT_LENGTH}
+use Rattle.tor_cli.specs.declared.input.InputFault.{InputFault}
+use Rattle.tor_cli.specs.declared.input.InputFault.TheVariants as inputs
+use Rattle.tor_cli.specs.declared.make.FromFault.{FromFault}
+use Rattle.tor_cli.specs.declared.make.FromFault.TheVariants.{Input, Make, Write}
+use Rattle.tor_cli.specs.declared.options.MakeOptions.{MakeOptions}
+use Rattle.tor_cli.specs.declared.fault.Fault.{Fault}
+use Rattle.tor_cli.specs.declared.fault.Fault.TheVariants as faults
+
+is_memory : MakeError Error → Bool
+is_memory makes.Resources = true
+is_memory error = false
+
+-- want of memory is the program's own, and every other error of making stays what it is
+told_or_memory : (error : MakeError Error)
+    → ((is_memory error ≡ false) × (of_make_error error ≡ faults.Make error)) ⊎ (error ≡ makes.Resources)
+unfolding is_memory
+told_or_memory makes.PieceLength = inl (refl, refl)
+told_or_memory makes.Workers = inl (refl, refl)
+told_or_memory makes.Span = inl (refl, refl)
+told_or_memory makes.Path = inl (refl, refl)
+told_or_memory makes.SingleShape = inl (refl, refl)
+told_or_memory (makes.List fault) = inl (refl, refl)
+told_or_memory makes.ReservedPad = inl (refl, refl)
+told_or_memory (makes.Read file start fault) = inl (refl, refl)
+told_or_memory (makes.Changed file) = inl (refl, refl)
+told_or_memory (makes.Missing file) = inl (refl, refl)
+told_or_memory makes.Resources = inr refl
+told_or_memory (makes.StreamTooLong file) = inl (refl, refl)
+
+is_refused : (order : Order) (error : MakeError Error) → is_memory error ≡ false
+    → (refusal_of order ≡ Some error) ⊎ (error ≡ makes.Resources) → refusal_of order ≡ Some error
+unfolding is_memory
+is_refused order error other (inl refused) = refused
+is_refused order error other (inr memory) = let bad : true ≡ false = sym (ap is_memory memory) ∙ other in cc
+
+module _ (options : MakeOptions) (s : Streams) where
+  stops_input : (fault : InputFault) → ReadsSome s.reader s.reader' (EndsInput MAX_INPUT_LENGTH fault)
+      → Keeps s.writer s.writer' → StopsInput options s (of_input_fault fault)
+  stops_input inputs.Read given keeps = (given, keeps)
+  stops_input inputs.TooLong given keeps = (given, keeps)
+  stops_input inputs.Memory given keeps = (given, keeps)
+
+  stops_make : (order : Order) → name_fault options.name.now ≡ None → IsOrder options true order
+      → (error : MakeError Error) → StopsReading order s.reader s.reader' (Make error)
+      → Keeps s.writer s.writer' → StopsInput options s (of_make_error error)
+  stops_make order named is error (content, reads, either) keeps = elim (told_or_memory error) [
+    | inl told ↦ rw told.1 (named, (order, is, is_refused order error told.0 either), ((content, reads), keeps))
+    | inr memory ↦ rw memory ((content, reads.0.given, reads.1), keeps)
+  ]
+
+  pub stops_reading : (order : Order) → name_fault options.name.now ≡ None → IsOrder options true order
+      → (fault : FromFault) → StopsReading order s.reader s.reader' fault → Keeps s.writer s.writer'
+      → StopsInput options s (of_step_fault fault)
+  stops_reading order named is (Input fault) given keeps = stops_input fault given keeps
+  stops_reading order named is (Make error) given keeps = stops_make order named is error given keeps
+  stops_reading order named is (Write fault) given keeps = absurd given
+
+  pub stops_part : (order : Order) → name_fault options.name.now ≡ None → IsOrder options true order
+      → (fault : FromFault) → file_of options ≡ None
+      → MakesPart order s.reader s.reader' s.writer s.writer' fault → StopsInput options s (of_step_fault fault)
+  stops_part order named is (Input fault) none (given, keeps) = stops_input fault given keeps
+  stops_part order named is (Make error) none (given, keeps) = stops_make order named is error given keeps
+  stops_part order named is (Write fault) none (content, front) = (named, (order, is, (content, rw none front)))
+
+  -- a fault that comes before anything was written
+  pub stops_finding : (fault : Fault) → StopsFinding options fault → IsUntouched s → StopsPath options s fault
+  stops_finding (faults.Usage line) why untouched = absurd why
+  stops_finding (faults.Name fault) why untouched = (why, untouched)
+  stops_finding (faults.Scan fault) why untouched = (why, untouched)
+  stops_finding (faults.Make error) why untouched = (why, untouched)
+  stops_finding faults.Read why untouched = absurd why
+  stops_finding faults.TooLong why untouched = absurd why
+  stops_finding (faults.Write written) why untouched = absurd why
+  stops_finding faults.Resources why untouched = (why, untouched)
+
+-- an error of making is told of the order and the paths
+pub finding_make : (options : MakeOptions) (order : Order) (paths : List (List (List ℕ))) (error : MakeError Error)
+    → IsOrderOf options order paths → IsOwn (make_refusal order paths) error
+    → IsGivenTo (IsFileFault (length paths)) error → StopsFinding options (of_make_error error)
+finding_make options order paths error is own gave = elim (told_or_memory error) [
+  | inl told ↦ rw told.1 (order, paths, is, own, gave)
+  | inr memory ↦ rw memory tt
+]
+
+-- a fault of a scan that is no want of memory
+pub finding_scan : (options : MakeOptions) (fault : ScanFault) → name_fault options.name.now ≡ None
+    → StopsFinding options (of_scan_fault fault)
+finding_scan options scans.NotUtf8 named = (named, λ same. cc)
+finding_scan options scans.NotRegular named = (named, λ same. cc)
+finding_scan options scans.TooDeep named = (named, λ same. cc)
+finding_scan options scans.System named = (named, λ same. cc)
+finding_scan options scans.Memory named = tt

@@ -1,0 +1,18 @@
+-- The options have a PATH.
+use Rattle.std.proofs.Common.{rules, ◌≡◌, ℕ, List, Option, Some, subst, sym, option_map}
+use Rattle.std.specs.Prelude.{IfErr}
+use Rattle.tor_cli.specs.Request.{StopsFrom, Streams}
+use Rattle.tor_cli.proofs.make_command.make.Goals as goal
+
+pub returns-in-Some-clause-stopped : goal.returns-in-Some-clause-stopped
+returns-in-Some-clause-stopped g c =
+    let reader = g.R.Read.remaining c.args.reader.now in
+    let s : Streams = record {
+      reader = reader;
+      reader' = reader;
+      writer = g.W.Write.contents c.args.out.now;
+      writer' = g.W.Write.contents c.make_of_path.new.out;
+    } in
+    let asked : option_map (λ path. path.now) c.args.options.now.path ≡ Some c.in-Some.path.now = search rules in
+    subst (λ (path : Option (List ℕ)). IfErr c.make_of_path.result (StopsFrom path c.args.options.now s)) (sym asked)
+    (c.make_of_path.ensures.stopped reader)

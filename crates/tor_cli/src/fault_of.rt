@@ -1,0 +1,94 @@
+//! Which fault of the program a step's fault is.
+ghost use Rattle.std.specs.Prelude.{◌≡◌};
+ghost use Rattle.tor_cli.specs.Status.{of_input_fault, of_make_error, of_name_error, of_scan_fault, of_step_fault};
+ghost use Rattle.tor_cli.specs.declared.fault.Fault.TheVariants.{Write, Resources};
+
+use crate::fault::Fault;
+use crate::input::InputFault;
+use crate::make::FromFault;
+use std::alloc::{AllocError, AllocFailed};
+use std::io;
+use tor_meta::{MakeError, WriteFault};
+use tor_source::ScanFault;
+use tor_tree::NameError;
+
+impl From<InputFault> for Fault {
+    ghost from_gives = { λ fault e. e ≡ of_input_fault fault };
+
+    fn from(fault: InputFault) -> Fault {
+        match fault {
+            InputFault::Read => Fault::Read,
+            InputFault::TooLong => Fault::TooLong,
+            InputFault::Memory => Fault::Resources,
+        }
+    }
+}
+
+impl From<NameError> for Fault {
+    ghost from_gives = { λ fault e. e ≡ of_name_error fault };
+
+    fn from(fault: NameError) -> Fault {
+        match fault {
+            NameError::Memory => Fault::Resources,
+            fault => Fault::Name(fault),
+        }
+    }
+}
+
+impl From<ScanFault> for Fault {
+    ghost from_gives = { λ fault e. e ≡ of_scan_fault fault };
+
+    fn from(fault: ScanFault) -> Fault {
+        match fault {
+            ScanFault::Memory => Fault::Resources,
+            fault => Fault::Scan(fault),
+        }
+    }
+}
+
+impl From<MakeError<io::Error>> for Fault {
+    ghost from_gives = { λ error e. e ≡ of_make_error error };
+
+    fn from(error: MakeError<io::Error>) -> Fault {
+        match error {
+            MakeError::Resources => Fault::Resources,
+            error => Fault::Make(error),
+        }
+    }
+}
+
+impl From<FromFault> for Fault {
+    ghost from_gives = { λ fault e. e ≡ of_step_fault fault };
+
+    fn from(fault: FromFault) -> Fault {
+        match fault {
+            FromFault::Input(fault) => Fault::from(fault),
+            FromFault::Make(error) => Fault::from(error),
+            FromFault::Write(fault) => Fault::from(fault),
+        }
+    }
+}
+
+impl From<WriteFault> for Fault {
+    ghost from_gives = { λ fault e. e ≡ Write fault.written };
+
+    fn from(fault: WriteFault) -> Fault {
+        Fault::Write(fault.written)
+    }
+}
+
+impl From<AllocError> for Fault {
+    ghost from_gives = { λ _ e. e ≡ Resources };
+
+    fn from(_error: AllocError) -> Fault {
+        Fault::Resources
+    }
+}
+
+impl<T: Drop> From<AllocFailed<T>> for Fault {
+    ghost from_gives = { λ _ e. e ≡ Resources };
+
+    fn from(_failed: AllocFailed<T>) -> Fault {
+        Fault::Resources
+    }
+}

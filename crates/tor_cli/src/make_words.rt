@@ -1,0 +1,154 @@
+//! The words of `tor make`: its options, and what they may have for a value.
+ghost use Rattle.clap.specs.Words.{app_of, rule_of};
+ghost use Rattle.clap.specs.declared.builder.value_parser.ValueParser.{ValueParser};
+ghost use Rattle.std.specs.Prelude.{◌≡◌, IfOk, false};
+ghost use Rattle.tor_cli.specs.CommandLine.{AreHows, AreKinds, announce_option, how_option, kind_option, make_app};
+ghost use Rattle.tor_cli.specs.CommandLine.{name_option, out_option, path_argument, piece_length_option};
+ghost use Rattle.tor_cli.specs.CommandLine.{private_option, span_option, workers_option};
+
+use clap::{Arg, ArgAction, Command, value_parser};
+use std::alloc::{AllocError, Global};
+
+const KINDS: [&str; 3] = ["v1", "v2", "hybrid"];
+
+const DEFAULT_KIND: &str = "v2";
+
+const HOWS: [&str; 2] = ["one", "halves"];
+
+const DEFAULT_HOW: &str = "one";
+
+const DEFAULT_PIECE_LENGTH: &str = "262144";
+
+const DEFAULT_WORKERS: &str = "1";
+
+const DEFAULT_SPAN: &str = "16";
+
+/// The command `make`.
+pub fn make_command<'a>(alloc: Global) -> Result<Command<'a>, AllocError>
+    ensures { IfOk result (λ command. (kinds hows : ValueParser) × AreKinds kinds × AreHows hows
+        × (app_of command ≡ make_app kinds hows)) }
+{
+    Command::new(alloc, "make")
+        .about(
+            "Makes a torrent of standard input, or of a file or folder, and writes it to standard output",
+        )
+        .arg(name_option(alloc))?
+        .arg(piece_length_option(alloc))?
+        .arg(kind_option(alloc))?
+        .arg(announce_option(alloc))?
+        .arg(private_option(alloc))?
+        .arg(how_option(alloc))?
+        .arg(workers_option(alloc))?
+        .arg(span_option(alloc))?
+        .arg(out_option(alloc))?
+        .arg(path_argument(alloc))
+}
+
+fn name_option<'a>(alloc: Global) -> Arg<'a>
+    ensures rule { rule_of result ≡ name_option }
+    ensures local { result.global ≡ false }
+{
+    Arg::new(alloc, "name")
+        .long("name")
+        .value_name("NAME")
+        .required(true)
+        .help("The name that the torrent suggests for its content")
+}
+
+fn piece_length_option<'a>(alloc: Global) -> Arg<'a>
+    ensures rule { rule_of result ≡ piece_length_option }
+    ensures local { result.global ≡ false }
+{
+    Arg::new(alloc, "piece-length")
+        .long("piece-length")
+        .value_name("N")
+        .value_parser(value_parser!(u64))
+        .default_value(DEFAULT_PIECE_LENGTH)
+        .help("Bytes in a piece: a power of two from 16384 to 1073741824")
+}
+
+fn kind_option<'a>(alloc: Global) -> Arg<'a>
+    ensures rule { (kinds : ValueParser) × AreKinds kinds × (rule_of result ≡ kind_option kinds) }
+    ensures local { result.global ≡ false }
+{
+    Arg::new(alloc, "kind")
+        .long("kind")
+        .value_name("KIND")
+        .value_parser(KINDS.as_slice())
+        .default_value(DEFAULT_KIND)
+        .help("Which clients can use the torrent: of version 1, of version 2, or both")
+}
+
+fn announce_option<'a>(alloc: Global) -> Arg<'a>
+    ensures rule { rule_of result ≡ announce_option }
+    ensures local { result.global ≡ false }
+{
+    Arg::new(alloc, "announce")
+        .long("announce")
+        .value_name("URL")
+        .help("The URL of the tracker")
+}
+
+fn private_option<'a>(alloc: Global) -> Arg<'a>
+    ensures rule { rule_of result ≡ private_option }
+    ensures local { result.global ≡ false }
+{
+    Arg::new(alloc, "private")
+        .long("private")
+        .action(ArgAction::SetTrue)
+        .help("Peers are to come from the tracker alone")
+}
+
+fn how_option<'a>(alloc: Global) -> Arg<'a>
+    ensures rule { (hows : ValueParser) × AreHows hows × (rule_of result ≡ how_option hows) }
+    ensures local { result.global ≡ false }
+{
+    Arg::new(alloc, "how")
+        .long("how")
+        .value_name("HOW")
+        .value_parser(HOWS.as_slice())
+        .default_value(DEFAULT_HOW)
+        .help("Who hashes the files of PATH: one worker, or several by halves")
+}
+
+fn workers_option<'a>(alloc: Global) -> Arg<'a>
+    ensures rule { rule_of result ≡ workers_option }
+    ensures local { result.global ≡ false }
+{
+    Arg::new(alloc, "workers")
+        .long("workers")
+        .value_name("N")
+        .value_parser(value_parser!(u32))
+        .default_value(DEFAULT_WORKERS)
+        .help("How many workers share the hashing by halves: from 1 to 64")
+}
+
+fn span_option<'a>(alloc: Global) -> Arg<'a>
+    ensures rule { rule_of result ≡ span_option }
+    ensures local { result.global ≡ false }
+{
+    Arg::new(alloc, "span")
+        .long("span")
+        .value_name("N")
+        .value_parser(value_parser!(u32))
+        .default_value(DEFAULT_SPAN)
+        .help("Pieces that a worker takes at a time: a power of two from 1 to 1024")
+}
+
+fn out_option<'a>(alloc: Global) -> Arg<'a>
+    ensures rule { rule_of result ≡ out_option }
+    ensures local { result.global ≡ false }
+{
+    Arg::new(alloc, "out").long("out").value_name("FILE").help(
+        "The file that the torrent goes to, in place of standard output",
+    )
+}
+
+fn path_argument<'a>(alloc: Global) -> Arg<'a>
+    ensures rule { rule_of result ≡ path_argument }
+    ensures local { result.global ≡ false }
+{
+    Arg::new(alloc, "path").index(1).value_name("PATH").help(
+        "The file or folder that the torrent is of, in place of standard input",
+    )
+}

@@ -1,0 +1,71 @@
+//! What the words of `tor make` ask for.
+ghost use Rattle.clap.specs.Words.{found_of, rows_of};
+ghost use Rattle.std.specs.Prelude.{◌≡◌, IfSome, Some};
+ghost use Rattle.tor_engine.specs.declared.how.How.{How};
+ghost use Rattle.tor_tree.specs.declared.kinds.Kind.{Kind};
+ghost use Rattle.tor_cli.specs.Words.{AreOptionsIn, HasWorkers, how_word, word_of};
+
+use clap::ArgMatches;
+use tor_engine::How;
+use tor_tree::Kind;
+
+/// How `tor make` is to make a torrent.
+#[derive(Clone, Copy)]
+pub struct MakeOptions<'a> {
+    pub kind: Kind,
+    pub name: &'a str,
+    /// In bytes.
+    pub piece_length: u64,
+    /// The tracker's URL.
+    pub announce: Option<&'a str>,
+    pub is_private: bool,
+    /// The workers that share the hashing of files.
+    pub how: How,
+    /// The pieces that a worker hashes as one unit of work.
+    pub span: u32,
+    /// The file that the torrent goes to; standard output where there is none.
+    pub out: Option<&'a str>,
+    /// The file or folder that it is made of; standard input where there is none.
+    pub path: Option<&'a str>,
+}
+
+/// The options that stand in the words; none where `clap` let through words that give no option its value.
+pub fn make_options<'a>(matches: &ArgMatches<'a>) -> Option<MakeOptions<'a>>
+    ensures { IfSome result (AreOptionsIn (rows_of (found_of matches.now))) }
+{
+    Some(MakeOptions {
+        kind: kind_of(matches.get_str("kind")?)?,
+        name: matches.get_str("name")?,
+        piece_length: matches.get_one::<u64>("piece-length")?,
+        announce: matches.get_str("announce"),
+        is_private: matches.get_flag("private"),
+        how: how_of(matches.get_str("how")?, matches.get_one::<u32>("workers")?)?,
+        span: matches.get_one::<u32>("span")?,
+        out: matches.get_str("out"),
+        path: matches.get_str("path"),
+    })
+}
+
+fn kind_of(word: &str) -> Option<Kind>
+    ensures value { IfSome result (λ kind. word_of kind ≡ word.now) }
+    ensures each { (kind : Kind) → word.now ≡ word_of kind → result ≡ Some kind }
+{
+    match word {
+        "v1" => Some(Kind::V1),
+        "v2" => Some(Kind::V2),
+        "hybrid" => Some(Kind::Hybrid),
+        _ => None,
+    }
+}
+
+/// One worker takes no notice of the number of workers.
+fn how_of(word: &str, workers: u32) -> Option<How>
+    ensures value { IfSome result (λ how. (how_word how ≡ word.now) × HasWorkers how workers) }
+    ensures each { (how : How) → word.now ≡ how_word how → HasWorkers how workers → result ≡ Some how }
+{
+    match word {
+        "one" => Some(How::One),
+        "halves" => Some(How::Halves(workers)),
+        _ => None,
+    }
+}

@@ -1,0 +1,42 @@
+//! A torrent on its way out: to standard output, or into the file that the words name.
+ghost use Rattle.std.specs.Prelude.{◌≤◌, IfErr, OnOk, length, option_map};
+ghost use Rattle.tor_cli.specs.Request.{Sends, SendsFront};
+
+use std::fs;
+use std::io::Write;
+use std::rt::Files;
+use tor_meta::{WriteFault, write_out};
+
+/// Makes or empties the file `place`, and writes the bytes into it. Where it stops, what went into it stays there.
+pub fn write_file<H: Files>(system: &H, place: &str, bytes: &[u8]) -> Result<(), WriteFault>
+    ensures { IfErr result (λ fault. fault.written ≤ length bytes.now) }
+{
+    let mut file = match fs::create(system, place) {
+        Ok(file) => file,
+        Err(fault) => {
+            return Err(WriteFault {
+                written: 0,
+                fault: Some(fault),
+            });
+        }
+    };
+    write_out(&mut file, bytes)
+}
+
+/// Writes a torrent into the file `place`, or to `out` where there is none.
+pub fn send<H: Files, W: Write>(
+    system: &H,
+    out: &mut W,
+    place: Option<&str>,
+    torrent: &[u8],
+) -> Result<(), WriteFault>
+    ensures whole { OnOk result (Sends (option_map (λ name. name.now) place.entry)
+        (W.contents out.old) (W.contents out.new) torrent.now) }
+    ensures part { IfErr result (λ fault. SendsFront (option_map (λ name. name.now) place.entry)
+        (W.contents out.old) (W.contents out.new) fault.written torrent.now) }
+{
+    match place {
+        None => write_out(out, torrent),
+        Some(place) => write_file(system, place, torrent),
+    }
+}

@@ -1,0 +1,125 @@
+//! The line on a terminal that shows how far the reading of files is.
+ghost use Rattle.std.specs.Prelude.{◌≡◌};
+
+use crate::amount::{Bytes, Seconds};
+use std::sync::atomic::AtomicU64;
+use std::sync::atomic::Ordering::SeqCst;
+use std::time::Instant;
+use tor_source::Source;
+
+/// Milliseconds from one print of the line to the next.
+const INTERVAL: u64 = 250;
+
+/// How far the reading is, as the line on standard error shows it. Several workers may count at once.
+#[derive(Drop)]
+pub struct Progress {
+    system: HostRuntime,
+    start: Instant,
+    /// So many files tell their lengths before a byte is read; they tell them again later.
+    files: u64,
+    asked: AtomicU64,
+    /// The bytes that there are, and those that were read.
+    total: AtomicU64,
+    read: AtomicU64,
+    /// When the line was last printed, in milliseconds from the start; 0 before the first time.
+    last: AtomicU64,
+}
+
+impl Progress {
+    /// Of so many files, from now on; none where the clock does not tell the time.
+    pub fn start(system: &HostRuntime, files: usize) -> Option<Progress> {
+        Some(Progress {
+            system: *system,
+            start: Instant::now(system).ok()?,
+            files: files as u64,
+            asked: AtomicU64::new(0),
+            total: AtomicU64::new(0),
+            read: AtomicU64::new(0),
+            last: AtomicU64::new(0),
+        })
+    }
+
+    fn count_length(&self, length: u64) {
+        if self.asked.fetch_add(1, SeqCst) < self.files {
+            self.total.fetch_add(length, SeqCst);
+        }
+    }
+
+    /// Counts bytes that were read. Of the workers that find it time for a print, the one that sets its moment prints.
+    fn count_read(&self, count: u64) {
+        let read = self.read.fetch_add(count, SeqCst).saturating_add(count);
+        let Ok(elapsed) = self.start.elapsed(&self.system) else {
+            return;
+        };
+        let now = elapsed
+            .as_secs()
+            .saturating_mul(1000)
+            .saturating_add(u64::from(elapsed.subsec_millis()));
+        let last = self.last.load(SeqCst);
+        if now < last.saturating_add(INTERVAL) {
+            return;
+        }
+        if self
+            .last
+            .compare_exchange(last, now, SeqCst, SeqCst)
+            .is_ok()
+        {
+            self.print(read, now);
+        }
+    }
+
+    /// Prints the line over the one before it. Where it cannot be printed, the work goes on.
+    fn print(&self, read: u64, now: u64) {
+        let total = self.total.load(SeqCst);
+        let speed = read.saturating_mul(1000) / now.max(1);
+        let left = total.saturating_sub(read) / speed.max(1);
+        let line = format!(in self.system.alloc();
+            "\r{} of {}, {}/s, {} left\x1b[K",
+            Bytes(read),
+            Bytes(total),
+            Bytes(speed),
+            Seconds(left)
+        );
+        if let Ok(line) = line {
+            let _ = self.system.eprint(line.as_str());
+        }
+    }
+
+    /// Erases the line, where one was printed.
+    pub fn erase(&self) {
+        if self.last.load(SeqCst) > 0 {
+            let _ = self.system.eprint("\r\x1b[K");
+        }
+    }
+}
+
+/// The files of a source; what is read of them is counted, where that is to be shown.
+#[derive(Drop)]
+pub struct Counting<'a, S: Source> {
+    pub source: &'a S,
+    pub progress: Option<Progress>,
+}
+
+impl<'a, S: Source> Source for Counting<'a, S> {
+    type Fault = S::Fault;
+
+    ghost is_steady = { λ counting facts. S.is_steady counting.source.now facts };
+
+    ghost gave = { λ counting file place fault. S.gave counting.source.now file place fault };
+
+    fn length(&self, file: u64) -> Result<Option<u64>, S::Fault> {
+        let answer = self.source.length(file);
+        if let (Some(progress), Ok(Some(length))) = (&self.progress, &answer) {
+            progress.count_length(*length);
+        }
+        answer
+    }
+
+    fn read_at(&self, file: u64, start: u64, buffer: &mut [u8]) -> Result<usize, S::Fault> {
+        let answer = self.source.read_at(file, start, buffer);
+        if let (Some(progress), Ok(count)) = (&self.progress, &answer) {
+            progress.count_read(*count as u64);
+        }
+        answer
+    }
+}
