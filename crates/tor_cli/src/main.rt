@@ -30,6 +30,8 @@ mod progress;
 mod run;
 #[cfg(test)]
 mod tests;
+#[cfg(test)]
+mod tests_path;
 
 use fault::Fault;
 use std::alloc::{AllocError, Global};

@@ -50,6 +50,8 @@ mod tests_larger;
 mod tests_rows;
 #[cfg(test)]
 mod tests_source;
+#[cfg(test)]
+mod tests_workers;
 mod torrent;
 
 pub use contents::make_contents;

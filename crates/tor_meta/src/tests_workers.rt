@@ -1,0 +1,70 @@
+//! That as many workers hash as an order asks for.
+
+use crate::make;
+use crate::tests::path;
+use crate::tests_source::order;
+use std::sync::atomic::AtomicU64;
+use std::sync::atomic::Ordering::SeqCst;
+use std::test::Fail;
+use std::thread::yield_now;
+use tor_engine::How;
+use tor_source::Source;
+use tor_tree::Kind;
+
+/// No other read came.
+#[derive(Debug, Drop)]
+struct Alone;
+
+/// A file of 64 KiB, whose first read waits until a second one has begun: one of another worker.
+#[derive(Drop)]
+struct Meeting {
+    /// How often the first read looks for another.
+    turns: u64,
+    begun: AtomicU64,
+}
+
+impl Source for Meeting {
+    type Fault = Alone;
+
+    ghost is_steady = { λ _ _. ⊥ };
+
+    ghost gave = { λ _ _ _ _. Unit {0} };
+
+    fn length(&self, _file: u64) -> Result<Option<u64>, Alone> {
+        Ok(Some(65536))
+    }
+
+    fn read_at(&self, _file: u64, _start: u64, buffer: &mut [u8]) -> Result<usize, Alone> {
+        if self.begun.fetch_add(1, SeqCst) > 0 {
+            return Ok(buffer.len());
+        }
+        for _ in 0..self.turns {
+            if self.begun.load(SeqCst) > 1 {
+                return Ok(buffer.len());
+            }
+            yield_now();
+        }
+        Err(Alone)
+    }
+}
+
+#[test]
+fn workers_of_an_order_meet(rt: HostRuntime) -> Result<(), Fail> {
+    let alloc = rt.alloc();
+    let rows = [
+        (How::One, 1000, false),
+        (How::Halves(1), 1000, false),
+        (How::Halves(2), 10_000_000, true),
+    ];
+    for (how, turns, meet) in rows {
+        let order = order(alloc, Kind::V2, "a", true, how)?;
+        let paths = vec![in alloc; path(alloc, "a")?]?;
+        let source = Meeting {
+            turns,
+            begun: AtomicU64::new(0),
+        };
+        let made = make(&rt, alloc, &source, &paths, &order);
+        assert_eq!(rt; made.is_ok(), meet, "{how:?}");
+    }
+    Ok(())
+}
