@@ -7,7 +7,7 @@ ghost use Rattle.tor_v1.specs.Reserved.{is_reserved, takes_reserved};
 ghost use Rattle.tor_v1.specs.declared.layout.LayoutError.TheVariants.{ReservedPad, Memory};
 
 use crate::entry::{Entry, file_entry, is_reserved};
-use crate::padding::{padding, padding_length};
+use crate::padding::{pad_entry, padding_length};
 use std::alloc::{AllocError, Global};
 use thiserror::Error;
 use tor_tree::{FileList, FilePath};
@@ -97,7 +97,7 @@ fn aligned(
         }
         let lack = padding_length(*length, piece_length);
         if later > 0 && lack > 0 {
-            entries.push(padding(alloc, lack)?)?;
+            entries.push(pad_entry(alloc, lack)?)?;
         }
     }
     Ok(entries)

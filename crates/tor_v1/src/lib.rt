@@ -28,5 +28,5 @@ mod tests;
 
 pub use entry::{Entry, is_reserved};
 pub use layout::{Layout, LayoutError, count_with_bytes, lay_out};
-pub use padding::padding_length;
+pub use padding::{pad_entry, padding_length};
 pub use sums::PieceSums;

@@ -18,7 +18,7 @@ pub fn padding_length(length: u64, piece_length: u64) -> u64
 }
 
 /// The padding of `length` zero bytes.
-pub(crate) fn padding(alloc: Global, length: u64) -> Result<Entry, AllocError>
+pub fn pad_entry(alloc: Global, length: u64) -> Result<Entry, AllocError>
     ensures { IfOk result (λ entry. entry ≡ pad_entry length) }
 {
     let mut names = Vec::with_capacity(alloc, 2)?;

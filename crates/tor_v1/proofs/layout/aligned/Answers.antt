@@ -5,7 +5,7 @@ use Rattle.tor_v1.proofs.Aligned.{is_some, count-next, pushed_padded, pushed_unp
 use Rattle.tor_v1.proofs.Aligned.{aligned_entries-end}
 use Rattle.tor_v1.proofs.layout.aligned.Goals as goal
 use Rattle.tor_v1.proofs.layout.aligned.Goals.{then-length-gt0, else-length-gt0}
-use Rattle.tor_v1.proofs.layout.aligned.Goals.{then-later-gt0+then-lack-gt0+in_ok-padding+in_ok-push-2, else-later-gt0}
+use Rattle.tor_v1.proofs.layout.aligned.Goals.{then-later-gt0+then-lack-gt0+in_ok-pad_entry+in_ok-push-2, else-later-gt0}
 use Rattle.tor_v1.proofs.layout.aligned.Goals.{else-later-gt0-via-then-later-gt0+else-lack-gt0}
 use Rattle.tor_v1.proofs.layout.aligned.Goals.{else-later-gt0-via-else-later-gt0}
 
@@ -26,10 +26,10 @@ files-preserved c =
     record {
       counted = counted;
       all = elim c.if-later-gt0.branch [
-        | then-later-gt0+then-lack-gt0+in_ok-padding+in_ok-push-2 w ↦
+        | then-later-gt0+then-lack-gt0+in_ok-pad_entry+in_ok-push-2 w ↦
             ap (λ v. v.items ++ rest) w.entries-is
             ∙ ap (λ xs. xs ++ rest) (w.in_ok-push-2.ensures.items
-            ∙ ap₂ (λ xs x. xs ++ x ∷ []) one (w.in_ok-padding.ensures ∙ ap pad_entry c.padding_length-lack.ensures))
+            ∙ ap₂ (λ xs x. xs ++ x ∷ []) one (w.in_ok-pad_entry.ensures ∙ ap pad_entry c.padding_length-lack.ensures))
             ∙ pushed_padded c.args.piece_length files i file c.files.entries.items _ c.files-test.true c.files-item.is
             c.files.invariant.all
             (rw (← c.padding_length-lack.ensures) w.if-lack-gt0.true) (omega (arith, counted, w.if-later-gt0.true))

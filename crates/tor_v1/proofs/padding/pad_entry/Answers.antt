@@ -2,7 +2,7 @@
 use Rattle.std.proofs.Common.{arith, ◌∙◌, ap}
 use Rattle.tor_tree.specs.Name.{name_fault}
 use Rattle.tor_v1.proofs.Names.{pad_faultless, decimal_faultless}
-use Rattle.tor_v1.proofs.padding.padding.Goals as goal
+use Rattle.tor_v1.proofs.padding.pad_entry.Goals as goal
 
 pub faultless_name-requires : goal.faultless_name-requires
 faultless_name-requires c = pad_faultless

@@ -1,0 +1,69 @@
+-- The first fault of two sides is the one of the lesser number.
+use Rattle.std.proofs.Common.{◌≡◌, Bool, true, false, Option, None, Some, cond}
+use Rattle.std.proofs.Common.{refl, ap, sym, inl, inr, nat_eq}
+use Rattle.std.specs.Prelude.{option_map, nat_le}
+use Rattle.tor_check.specs.Judged.{IsFirst, refusal_for}
+use Rattle.tor_check.specs.Sides.{earlier, earlier_refusal, earliest, number_of}
+use Rattle.tor_check.specs.declared.refusal.Refusal.{Refusal}
+use Rattle.tor_check.specs.declared.refusal.Refusal.TheVariants as refusals
+use Rattle.tor_spec.specs.valid.Conditions.{Condition}
+use Rattle.tor_spec.specs.valid.Conditions as conditions
+
+-- no condition is want of memory
+pub is_no_memory : (condition : Condition) → nat_eq (number_of (refusal_for condition)) 24 ≡ false
+is_no_memory conditions.RootShape = refl
+is_no_memory conditions.InfoShape = refl
+is_no_memory conditions.MetaVersion = refl
+is_no_memory conditions.PieceLength = refl
+is_no_memory conditions.Name = refl
+is_no_memory conditions.LengthAndFiles = refl
+is_no_memory conditions.FileShape = refl
+is_no_memory conditions.FileLength = refl
+is_no_memory conditions.Duplicate = refl
+is_no_memory conditions.FileAndFolder = refl
+is_no_memory conditions.NoFiles = refl
+is_no_memory conditions.TooLarge = refl
+is_no_memory conditions.Symlink = refl
+is_no_memory conditions.PiecesLength = refl
+is_no_memory conditions.MixedNode = refl
+is_no_memory conditions.RootHash = refl
+is_no_memory conditions.LayersAbsent = refl
+is_no_memory conditions.LayerAbsent = refl
+is_no_memory conditions.LayerLength = refl
+is_no_memory conditions.LayerRoot = refl
+is_no_memory conditions.FilesDiffer = refl
+is_no_memory conditions.Alignment = refl
+
+second_memory : (b : Bool) → cond b refusals.Memory refusals.Memory ≡ refusals.Memory
+second_memory true = refl
+second_memory false = refl
+
+earlier_of_conditions : (one other : Condition)
+    → earlier_refusal (refusal_for one) (refusal_for other) ≡ refusal_for (earlier one other)
+earlier_of_conditions one other =
+    rw (is_no_memory one, is_no_memory other)
+    (by_order (nat_le (number_of (refusal_for one)) (number_of (refusal_for other))))
+  where
+    by_order : (b : Bool) → cond b (refusal_for one) (refusal_for other) ≡ refusal_for (cond b one other)
+    by_order true = refl
+    by_order false = refl
+
+of_two : (a b : Option Condition) (one other : Refusal) → option_map refusal_for a ≡ Some one
+    → option_map refusal_for b ≡ Some other → option_map refusal_for (earliest a b) ≡ Some (earlier_refusal one other)
+of_two None b one other e f = absurd cc
+of_two (Some c) None one other e f = absurd cc
+of_two (Some c) (Some d) one other e f =
+    let first : refusal_for c ≡ one = cc in
+    let second : refusal_for d ≡ other = cc in
+    rw (sym first, sym second) (ap Some (sym (earlier_of_conditions c d)))
+
+pub merged : (a b : Option Condition) (one other : Refusal) → IsFirst a one → IsFirst b other
+    → IsFirst (earliest a b) (earlier_refusal one other)
+merged a b one other (inl memory) right = inl (rw memory refl)
+merged a b one other (inr e) (inl memory) = inl (rw memory (second_memory (nat_eq (number_of one) 24)))
+merged a b one other (inr e) (inr f) = inr (of_two a b one other e f)
+
+pub first_alone : (a b : Option Condition) (one : Refusal) → b ≡ None → IsFirst a one → IsFirst (earliest a b) one
+first_alone a (Some d) one none h = absurd cc
+first_alone None None one none h = h
+first_alone (Some c) None one none h = h

@@ -1,0 +1,50 @@
+-- What a head without fault tells of the piece length.
+use Rattle.std.proofs.Common.{◌≡◌, ℕ, ℤ, pos, negsuc, ◌≤◌, true, false, true≢false, Bool, not, ◌&&◌, Option, None, Some}
+use Rattle.std.proofs.Common.{codes, refl, sym, unwrap_or, unsigned_abs}
+use Rattle.std.specs.Prelude.{nat_le}
+use Rattle.std.proofs.lemmas.Bool.{leb-true}
+use Rattle.tor_bencode.specs.Data.{Data}
+use Rattle.tor_bencode.specs.Find.{value_of}
+use Rattle.tor_check.proofs.Bounds.{found_none, first_or}
+use Rattle.tor_check.specs.Judged.{first_in, head_conditions}
+use Rattle.tor_merkle.specs.Layer.{IsPieceLength, is_piece_length}
+use Rattle.tor_spec.specs.valid.Conditions.{holds}
+use Rattle.tor_spec.specs.valid.Heads.{is_no_piece_length}
+use Rattle.tor_spec.specs.valid.Parts.{info_of, kind_of, piece_length_of}
+use Rattle.tor_tree.specs.Kinds.{has_v2}
+use Rattle.tor_tree.specs.Properties.{as_integer}
+use Rattle.tor_tree.specs.declared.kinds.Kind.{Kind}
+use Rattle.tor_v1.specs.Piece.{max_piece_length}
+
+-- a piece length that a torrent of the kind can have
+pub record IsAllowed (kind : Kind) (n : ℕ) : Type 0 where
+  pub some : 1 ≤ n
+  pub few : n ≤ max_piece_length
+  pub tree : has_v2 kind ≡ true → IsPieceLength n
+
+not_false : (b : Bool) → not b ≡ false → b ≡ true
+not_false true e = refl
+not_false false e = absurd (true≢false e)
+
+both_true : (a b : Bool) → (a && b) ≡ true → (a ≡ true) × (b ≡ true)
+both_true true b e = (refl, e)
+both_true false b e = absurd (true≢false (sym e))
+
+allowed_by : (kind : Kind) (found : Option ℤ) → is_no_piece_length kind found ≡ false
+    → IsAllowed kind (unsigned_abs (unwrap_or found (pos 0)))
+allowed_by kind None e = absurd (true≢false e)
+allowed_by kind (Some (negsuc n)) e = absurd (true≢false e)
+allowed_by kind (Some (pos n)) e =
+    let parts = first_or (not (nat_le 1 n && nat_le n max_piece_length)) (has_v2 kind && not (is_piece_length n)) e in
+    let bounds = both_true (nat_le 1 n) (nat_le n max_piece_length) (not_false _ parts.0) in
+    record {
+      some = leb-true 1 n bounds.0;
+      few = leb-true n max_piece_length bounds.1;
+      tree = λ v2. not_false (is_piece_length n) (rw v2 at parts.1);
+    }
+
+pub allowed : (root : Data) (n : ℕ) → first_in head_conditions root ≡ None → n ≡ piece_length_of (info_of root)
+    → IsAllowed (kind_of (info_of root)) n
+allowed root n none is =
+    let fifth = (found_none (holds root) head_conditions none).1.1.1.0 in
+    rw is (allowed_by (kind_of (info_of root)) (as_integer (value_of (codes "piece length") (info_of root))) fifth)

@@ -1,0 +1,75 @@
+-- What the code tells of a hybrid is what the conditions ask.
+use Rattle.std.proofs.Common.{◌≡◌, ℕ, true, false, true≢false, Bool, map, not, ◌||◌, List, [], None, Some, ap, refl}
+use Rattle.std.proofs.Common.{sym}
+use Rattle.std.specs.Prelude.{option_map, if◌then◌else◌}
+use Rattle.tor_bencode.specs.Data.{Data}
+use Rattle.tor_check.proofs.SideLemmas.{listed_is_side, sized_in_side}
+use Rattle.tor_check.specs.Listed.{all_listed, files_from, sized_files, tree_pairs}
+use Rattle.tor_check.specs.Judged.{first_of_places, refusal_for}
+use Rattle.tor_check.specs.Sides.{files_if, listed_if}
+use Rattle.tor_check.specs.declared.listed.Listed.{Listed}
+use Rattle.tor_check.specs.declared.refusal.Refusal.TheVariants as refusals
+use Rattle.tor_spec.specs.valid.ListSide.{side_files, without_padding}
+use Rattle.tor_spec.specs.valid.Parts.{info_of, kind_of, piece_length_of}
+use Rattle.tor_spec.specs.valid.SidesAgree.{alignment, files_differ, has_wrong_tail, is_misaligned_after, same_files}
+use Rattle.tor_spec.specs.valid.TreeSide.{tree_files}
+use Rattle.tor_spec.specs.valid.View.{entry_of_file, file_of_list, files_of}
+use Rattle.tor_tree.specs.Kinds.{has_v1, has_v2}
+use Rattle.tor_tree.specs.declared.kinds.Kind.{Kind}
+use Rattle.tor_tree.specs.declared.kinds.Kind.TheVariants.{V1, V2, Hybrid}
+use Rattle.tor_tree.specs.declared.tree_file.TreeFile.{TreeFile}
+
+pub tells_differ : (info : Data) (listed : List Listed) (files : List TreeFile) (answer : Bool)
+    → has_v1 (kind_of info) ≡ true → has_v2 (kind_of info) ≡ true → listed ≡ listed_if info → files ≡ files_if info
+    → answer ≡ not (same_files (sized_files listed) (tree_pairs files)) → files_differ info ≡ answer
+tells_differ info listed files answer v1 v2 read tree e =
+    let listed' : listed ≡ all_listed info = rw v1 at read in
+    let files' : files ≡ tree_files info = rw v2 at tree in
+    sym (rw (files', sized_in_side listed, listed', listed_is_side info) at e)
+
+pub tells_places : (info : Data) (listed : List Listed) (piece_length : ℕ) (answer : Bool)
+    → has_v1 (kind_of info) ≡ true → listed ≡ listed_if info → piece_length ≡ piece_length_of info
+    → answer ≡ (is_misaligned_after piece_length [] (files_from listed)
+    || has_wrong_tail piece_length (files_from listed))
+    → alignment info ≡ answer
+tells_places info listed piece_length answer v1 read is e =
+    let listed' : listed ≡ all_listed info = rw v1 at read in
+    sym (rw (listed', listed_is_side info, is) at e)
+
+pub at_differ : (info : Data) → has_v1 (kind_of info) ≡ true → has_v2 (kind_of info) ≡ true → files_differ info ≡ true
+    → option_map refusal_for (first_of_places info) ≡ Some refusals.FilesDiffer
+at_differ info v1 v2 differ = rw (v1, v2, differ) refl
+
+pub at_places : (info : Data) → has_v1 (kind_of info) ≡ true → has_v2 (kind_of info) ≡ true
+    → files_differ info ≡ false → alignment info ≡ true
+    → option_map refusal_for (first_of_places info) ≡ Some refusals.Alignment
+at_places info v1 v2 same places = rw (v1, v2, same, places) refl
+
+pub at_end : (info : Data) → has_v1 (kind_of info) ≡ true → has_v2 (kind_of info) ≡ true
+    → files_differ info ≡ false → alignment info ≡ false → first_of_places info ≡ None
+at_end info v1 v2 same places = rw (v1, v2, same, places) refl
+
+-- without a v2 side there is a v1 side
+list_if_no_tree : (kind : Kind) → has_v2 kind ≡ false → has_v1 kind ≡ true
+list_if_no_tree V1 e = refl
+list_if_no_tree V2 e = absurd (true≢false e)
+list_if_no_tree Hybrid e = absurd (true≢false e)
+
+pub files_of_list_alone : (root : Data) (listed : List Listed) → has_v2 (kind_of (info_of root)) ≡ false
+    → listed ≡ listed_if (info_of root)
+    → map file_of_list (without_padding (files_from listed)) ≡ files_of root
+files_of_list_alone root listed alone read =
+    let v1 = list_if_no_tree (kind_of (info_of root)) alone in
+    let listed' : listed ≡ all_listed (info_of root) = rw v1 at read in
+    rw (alone, listed', listed_is_side (info_of root)) refl
+
+pub entries_if : (info : Data) (listed : List Listed) → listed ≡ listed_if info
+    → map entry_of_file (files_from listed)
+    ≡ (if has_v1 (kind_of info) then map entry_of_file (side_files info) else [])
+entries_if info listed read =
+    rw read (by_side (has_v1 (kind_of info)))
+  where
+    by_side : (b : Bool) → map entry_of_file (files_from (if b then all_listed info else []))
+        ≡ (if b then map entry_of_file (side_files info) else [])
+    by_side true = ap (map entry_of_file) (listed_is_side info)
+    by_side false = refl

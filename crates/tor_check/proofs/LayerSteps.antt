@@ -1,0 +1,45 @@
+-- What the root of a foreign layer asks: that its hashes are those of the pieces of a file that is not too long.
+use Rattle.std.proofs.Common.{◌≡◌, ℕ, ◌*◌, ◌-◌, ◌^◌, ◌<◌, ◌≤◌, ◌/◌, ◌==◌, true, false, true≢false, Bool, not, ◌&&◌}
+use Rattle.std.proofs.Common.{List, length, refl}
+use Rattle.std.proofs.Common.{nat_lt, replicate, arith, ap, sym, subst, ◌∙◌}
+use Rattle.std.specs.Int.{div_ceil}
+use Rattle.std.proofs.lemmas.Bool.{eqb-true, lt-ltb}
+use Rattle.std.proofs.lemmas.List.{length-replicate}
+use Rattle.tor_merkle.proofs.ProvedLaws.{count_of_piece_roots}
+use Rattle.tor_merkle.specs.Layer.{IsPieceLength, piece_level, piece_roots}
+use Rattle.tor_merkle.specs.declared.TheConstants.{MAX_LENGTH}
+
+-- the law piece_roots_fit_a_layer
+abbrev pub FewPieceRoots : Type 0
+FewPieceRoots = (content : List ℕ) (p : ℕ) → IsPieceLength p → length content ≤ MAX_LENGTH
+    → length (piece_roots content p) ≤ 2 ^ (36 - piece_level p)
+
+-- a file of n bytes has few pieces
+few_pieces : FewPieceRoots → (p n : ℕ) → IsPieceLength p → n ≤ MAX_LENGTH → div_ceil n p ≤ 2 ^ (36 - piece_level p)
+few_pieces few p n allowed small =
+    let zeros = replicate n 0 in
+    let long : length zeros ≡ n = length-replicate n 0 in
+    let many : length (piece_roots zeros p) ≡ div_ceil n p =
+    count_of_piece_roots zeros p ∙ ap (λ m. div_ceil m p) long in
+    let fit = few zeros p allowed (subst (λ (m : ℕ). m ≤ MAX_LENGTH) (sym long) small) in
+    omega (arith, fit, many)
+
+-- a long file whose layer has its shape has 32 bytes for each piece
+pub shaped_length : (p n bytes : ℕ) → p < n → (nat_lt p n && not (bytes == 32 * div_ceil n p)) ≡ false
+    → bytes ≡ 32 * div_ceil n p
+shaped_length p n bytes long shaped =
+    let shaped' : not (bytes == 32 * div_ceil n p) ≡ false = rw (lt-ltb p n long) at shaped in
+    eqb-true bytes (32 * div_ceil n p) (by_test (bytes == 32 * div_ceil n p) shaped')
+  where
+    by_test : (b : Bool) → not b ≡ false → b ≡ true
+    by_test true e = refl
+    by_test false e = absurd (true≢false e)
+
+pub few_hashes : FewPieceRoots → (p n bytes hashes level : ℕ) → IsPieceLength p → n ≤ MAX_LENGTH → p < n
+    → (nat_lt p n && not (bytes == 32 * div_ceil n p)) ≡ false → hashes ≡ bytes / 32 → level ≡ piece_level p
+    → hashes ≤ 2 ^ (36 - level)
+few_hashes few p n bytes hashes level allowed small long shaped cut is =
+    let count = few_pieces few p n allowed small in
+    let whole = shaped_length p n bytes long shaped in
+    let all : hashes ≤ 2 ^ (36 - piece_level p) = omega (arith, count, whole, cut) in
+    subst (λ (k : ℕ). hashes ≤ 2 ^ (36 - k)) (sym is) all

@@ -1,0 +1,13 @@
+pub mod MarkLemmas
+pub mod ListSteps
+pub mod PathSteps
+pub mod SideLemmas
+pub mod ListDecides
+pub mod BothSides
+pub mod LayerSteps
+pub mod TailSteps
+pub mod Bounds
+pub mod Hybrids
+pub mod Stages
+pub mod HeadFacts
+pub mod Refused

@@ -1,0 +1,34 @@
+-- The path of an entry, from its texts.
+use Rattle.std.proofs.Common.{◌≡◌, ◌≢◌, ◌&&◌, true, false, List, [], ◌∷◌, Some, map, refl, ap, ◌∙◌}
+use Rattle.std.specs.List.{list_all}
+use Rattle.tor_bencode.specs.Data.{Data, list}
+use Rattle.tor_bencode.specs.View.{items_of, items_view, view}
+use Rattle.tor_bencode.specs.declared.item.Item.{Item}
+use Rattle.tor_spec.specs.valid.ListSide.{is_name, is_path, names_of}
+use Rattle.tor_spec.specs.valid.Parts.{items_in, text_of}
+
+pub same_items : (values : List Data) → items_in (items_of values) ≡ values
+same_items [] = refl
+same_items (value ∷ values) = ap (λ more. value ∷ more) (same_items values)
+
+pub names_from : (texts : List Item) → names_of (list (items_view texts)) ≡ map text_of (map view texts)
+names_from texts = ap (map text_of) (same_items (map view texts))
+
+path_of_some : (text : Item) (texts : List Item)
+    → is_path (Some (list (items_view (text ∷ texts)))) ≡ list_all is_name (map view (text ∷ texts))
+path_of_some text texts = ap (λ values. is_name (view text) && list_all is_name values) (same_items (map view texts))
+
+pub is_path_of_names : (texts : List Item) → list_all is_name (map view texts) ≡ true
+    → map text_of (map view texts) ≢ [] → is_path (Some (list (items_view texts))) ≡ true
+is_path_of_names [] named some = absurd (some refl)
+is_path_of_names (text ∷ texts) named some = path_of_some text texts ∙ named
+
+pub no_path_of_none : (texts : List Item) → map text_of (map view texts) ≡ []
+    → is_path (Some (list (items_view texts))) ≡ false
+no_path_of_none [] none = refl
+no_path_of_none (text ∷ texts) none = absurd cc
+
+pub no_path_of_others : (texts : List Item) → list_all is_name (map view texts) ≡ false
+    → is_path (Some (list (items_view texts))) ≡ false
+no_path_of_others [] other = refl
+no_path_of_others (text ∷ texts) other = path_of_some text texts ∙ other

@@ -1,0 +1,46 @@
+-- What is refused of a tree is refused of its bytes.
+use Rattle.std.proofs.Common.{◌≡◌, ℕ, List, inl, inr, refl, subst, sym}
+use Rattle.tor_bencode.specs.Data.{Data}
+use Rattle.tor_bencode.specs.Lawful.{IsLawful}
+use Rattle.tor_bencode.specs.Spelling.{spelling}
+use Rattle.tor_check.proofs.Stages.{found}
+use Rattle.tor_check.specs.Judged.{IsFirst, refusal_for}
+use Rattle.tor_check.specs.Valid.{IsRefused, IsRefusedFor}
+use Rattle.tor_check.specs.declared.refusal.Refusal.{Refusal}
+use Rattle.tor_spec.specs.valid.Conditions.{Condition, refusal_of}
+use Rattle.tor_spec.specs.valid.Conditions as conditions
+
+-- the refusal of a condition is told as such
+of_condition : (bytes : List ℕ) (condition : Condition) → IsRefused bytes (refusal_for condition)
+    → IsRefusedFor bytes (refusal_for condition)
+of_condition bytes conditions.RootShape refused = refused
+of_condition bytes conditions.InfoShape refused = refused
+of_condition bytes conditions.MetaVersion refused = refused
+of_condition bytes conditions.PieceLength refused = refused
+of_condition bytes conditions.Name refused = refused
+of_condition bytes conditions.LengthAndFiles refused = refused
+of_condition bytes conditions.FileShape refused = refused
+of_condition bytes conditions.FileLength refused = refused
+of_condition bytes conditions.Duplicate refused = refused
+of_condition bytes conditions.FileAndFolder refused = refused
+of_condition bytes conditions.NoFiles refused = refused
+of_condition bytes conditions.TooLarge refused = refused
+of_condition bytes conditions.Symlink refused = refused
+of_condition bytes conditions.PiecesLength refused = refused
+of_condition bytes conditions.MixedNode refused = refused
+of_condition bytes conditions.RootHash refused = refused
+of_condition bytes conditions.LayersAbsent refused = refused
+of_condition bytes conditions.LayerAbsent refused = refused
+of_condition bytes conditions.LayerLength refused = refused
+of_condition bytes conditions.LayerRoot refused = refused
+of_condition bytes conditions.FilesDiffer refused = refused
+of_condition bytes conditions.Alignment refused = refused
+
+pub refused_for : (bytes : List ℕ) (root : Data) (refusal : Refusal) → IsLawful root → bytes ≡ spelling root
+    → IsFirst (refusal_of root) refusal → IsRefusedFor bytes refusal
+refused_for bytes root refusal lawful spelled (inl memory) = subst (λ r. IsRefusedFor bytes r) (sym memory) tt
+refused_for bytes root refusal lawful spelled (inr e) =
+    let told = found (refusal_of root) refusal e in
+    let refused : IsRefused bytes (refusal_for told.0) =
+    record { root = root; lawful = lawful; spelled = spelled; condition = told.0; first = told.1; named = refl } in
+    subst (λ r. IsRefusedFor bytes r) told.2 (of_condition bytes told.0 refused)

@@ -1,0 +1,9 @@
+use Rattle.std.proofs.Common.{◌≡◌, false, take}
+use Rattle.std.specs.List.{list_any}
+use Rattle.tor_check.specs.Layers.{seen}
+use Rattle.tor_spec.specs.valid.Layers.{is_misshaped}
+use Rattle.tor_check.proofs.layers.has_misshaped.Given as goal
+
+-- none of the files so far
+abbrev pub invariant-files : goal.invariant-files
+invariant-files l = list_any (is_misshaped l.layers.piece_length (seen l.layers)) (take l.file-index l.files) ≡ false

@@ -1,0 +1,9 @@
+use Rattle.std.proofs.Common.{◌≡◌, false, take}
+use Rattle.std.specs.List.{list_any}
+use Rattle.tor_check.specs.Layers.{seen}
+use Rattle.tor_spec.specs.valid.Layers.{lacks_layer}
+use Rattle.tor_check.proofs.layers.lacks_a_layer.Given as goal
+
+-- none of the files so far
+abbrev pub invariant-files : goal.invariant-files
+invariant-files l = list_any (lacks_layer l.layers.piece_length (seen l.layers)) (take l.file-index l.files) ≡ false

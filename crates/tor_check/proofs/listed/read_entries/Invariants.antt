@@ -1,0 +1,12 @@
+use Rattle.std.proofs.Common.{◌≡◌, false, map, take}
+use Rattle.std.specs.List.{list_any}
+use Rattle.tor_bencode.specs.View.{view}
+use Rattle.tor_check.specs.Listed.{listed_entry}
+use Rattle.tor_spec.specs.valid.ListSide.{is_no_entry}
+use Rattle.tor_check.proofs.listed.read_entries.Given as goal
+
+-- the entries so far have their shape
+abbrev pub invariant-entries : goal.invariant-entries
+invariant-entries l =
+    (l.listed.items ≡ map listed_entry (map view (take l.entry-index l.entries)))
+    × (list_any is_no_entry (map view (take l.entry-index l.entries)) ≡ false)

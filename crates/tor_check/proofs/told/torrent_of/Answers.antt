@@ -1,0 +1,24 @@
+use Rattle.std.proofs.Common.{refl, ◌∙◌}
+use Rattle.tor_bencode.specs.View.{view}
+use Rattle.tor_check.proofs.Hybrids.{entries_if}
+use Rattle.tor_spec.specs.valid.Parts.{info_of}
+use Rattle.tor_check.proofs.told.torrent_of.Goals as goal
+
+pub returns : goal.returns
+returns c =
+    let head = c.requires.head in
+    let listed = c.deref.ensures.value ∙ c.requires.sides.listed in
+    let entries = c.in_ok-entries.ensures ∙ entries_if (info_of (view c.args.root.now)) c.deref.result.now listed in
+    rw (
+      head.kind,
+      c.in_ok-copy.ensures,
+      head.name,
+      head.piece_length,
+      head.is_private,
+      c.in_ok-files.ensures,
+      entries,
+      c.in_ok-pieces.ensures,
+      head.info,
+      c.requires.span,
+      c.piece_count-piece_count.ensures,
+    ) refl

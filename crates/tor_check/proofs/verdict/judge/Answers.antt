@@ -1,0 +1,52 @@
+use Rattle.std.proofs.Common.{◌≡◌, None, subst}
+use Rattle.tor_bencode.specs.View.{view}
+use Rattle.tor_check.proofs.HeadFacts.{allowed}
+use Rattle.tor_check.proofs.Stages.{at_end, at_head, at_layers, at_places, at_sides}
+use Rattle.tor_check.specs.Judged.{IsFirst, first_of_places}
+use Rattle.tor_check.specs.Sides.{first_of_both}
+use Rattle.tor_check.proofs.verdict.judge.Goals as goal
+
+pub returns-in-Err-clause-refused : goal.returns-in-Err-clause-refused
+returns-in-Err-clause-refused c = at_head (view c.args.root.now) c.in-Err.refusal c.in-Err.ensures.refused
+
+pub judge_layers-requires-clause-allowed : goal.judge_layers-requires-clause-allowed
+judge_layers-requires-clause-allowed c =
+    (allowed (view c.args.root.now) c.in-Ok.head.piece_length c.in-Ok.ensures.accepted
+    c.in-Ok.ensures.read.piece_length).tree
+
+pub judge_places-requires-clause-some : goal.judge_places-requires-clause-some
+judge_places-requires-clause-some c =
+    let length =
+    allowed (view c.args.root.now) c.in-Ok.head.piece_length c.in-Ok.ensures.accepted
+    c.in-Ok.ensures.read.piece_length in
+    (length.some, length.few)
+
+pub returns-in-Err-read_sides-clause-refused : goal.returns-in-Err-read_sides-clause-refused
+returns-in-Err-read_sides-clause-refused c =
+    let refusal = c.in-Err-read_sides.refusal in
+    at_sides (view c.args.root.now) refusal c.in-Ok.ensures.accepted
+    (subst (λ info. IsFirst (first_of_both info) refusal) c.in-Ok.ensures.read.info c.in-Err-read_sides.ensures.refused)
+
+pub returns-in-Err-judge_layers-clause-refused : goal.returns-in-Err-judge_layers-clause-refused
+returns-in-Err-judge_layers-clause-refused c =
+    let sides =
+    subst (λ info. first_of_both info ≡ None) c.in-Ok.ensures.read.info c.in-Ok-read_sides.ensures.accepted in
+    at_layers (view c.args.root.now) c.in-Err-judge_layers.refusal c.in-Ok.ensures.accepted sides
+    c.in-Err-judge_layers.ensures.refused
+
+pub returns-in-Err-judge_places-clause-refused : goal.returns-in-Err-judge_places-clause-refused
+returns-in-Err-judge_places-clause-refused c =
+    let refusal = c.in-Err-judge_places.refusal in
+    let sides =
+    subst (λ info. first_of_both info ≡ None) c.in-Ok.ensures.read.info c.in-Ok-read_sides.ensures.accepted in
+    let places =
+    subst (λ info. IsFirst (first_of_places info) refusal) c.in-Ok.ensures.read.info
+    c.in-Err-judge_places.ensures.refused in
+    at_places (view c.args.root.now) refusal c.in-Ok.ensures.accepted sides c.in_default.ensures.accepted places
+
+pub returns-clause-accepted : goal.returns-clause-accepted
+returns-clause-accepted c =
+    let read = c.in-Ok.ensures.read.info in
+    let sides = subst (λ info. first_of_both info ≡ None) read c.in-Ok-read_sides.ensures.accepted in
+    let places = subst (λ info. first_of_places info ≡ None) read (c.in_default-judge_places).ensures.accepted in
+    at_end (view c.args.root.now) c.in-Ok.ensures.accepted sides c.in_default.ensures.accepted places

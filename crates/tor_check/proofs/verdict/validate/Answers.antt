@@ -1,0 +1,13 @@
+use Rattle.std.proofs.Common.{subst}
+use Rattle.tor_bencode.specs.View.{view}
+use Rattle.tor_check.proofs.Refused.{refused_for}
+use Rattle.tor_check.specs.Judged.{IsFirst}
+use Rattle.tor_spec.specs.valid.Conditions.{refusal_of}
+use Rattle.tor_check.proofs.verdict.validate.Goals as goal
+
+pub returns-clause-refused : goal.returns-clause-refused
+returns-clause-refused c =
+    let refusal = c.in-Err-judge.refusal in
+    let first =
+    subst (λ root. IsFirst (refusal_of (view root)) refusal) c.item.ensures.same c.in-Err-judge.ensures.refused in
+    refused_for c.args.bytes.now (view c.in-Ok.tree) refusal c.in-Ok.ensures.tree.0 c.in-Ok.ensures.tree.1 first

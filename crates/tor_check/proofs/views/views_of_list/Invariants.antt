@@ -1,0 +1,9 @@
+use Rattle.std.proofs.Common.{◌≡◌, map, take}
+use Rattle.tor_check.specs.Listed.{files_from}
+use Rattle.tor_spec.specs.valid.ListSide.{without_padding}
+use Rattle.tor_spec.specs.valid.View.{file_of_list}
+use Rattle.tor_check.proofs.views.views_of_list.Given as goal
+
+-- the files so far
+abbrev pub invariant-listed : goal.invariant-listed
+invariant-listed l = l.views.items ≡ map file_of_list (without_padding (files_from (take l.file-index l.listed)))

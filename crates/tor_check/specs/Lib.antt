@@ -1,0 +1,6 @@
+pub mod Judged
+pub mod Listed
+pub mod Sides
+pub mod Layers
+pub mod Views
+pub mod Valid

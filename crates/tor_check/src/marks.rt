@@ -1,0 +1,44 @@
+//! The length and the letters of what describes a file (BEP 3, "info dictionary"; BEP 47, "attr").
+ghost use Rattle.std.specs.Prelude.{◌≡◌};
+ghost use Rattle.std.specs.Option.{option_copied};
+ghost use Rattle.tor_bencode.specs.View.{view};
+ghost use Rattle.tor_check.specs.Listed.{letters_of, marks_in};
+
+use crate::parts::integer;
+use tor_bencode::{Item, find};
+
+/// What a dictionary says of its file, beside the path.
+#[derive(Clone, Copy)]
+pub struct Marks {
+    pub length: i64,
+    pub pad: bool,
+    pub link: bool,
+    pub exec: bool,
+    pub hidden: bool,
+}
+
+/// None where the item is no dictionary with an integer `length`, or has an `attr` that is no byte string.
+pub fn read_marks(item: &Item) -> Option<Marks>
+    ensures { result ≡ marks_in (view item.now) }
+{
+    let length = integer(item, b"length")?;
+    let letters = letters_of(item)?;
+    Some(Marks {
+        length,
+        pad: letters.contains(&b'p'),
+        link: letters.contains(&b'l'),
+        exec: letters.contains(&b'x'),
+        hidden: letters.contains(&b'h'),
+    })
+}
+
+/// The letters of `attr`, none of them where it is absent; None where it is no byte string.
+fn letters_of(item: &Item) -> Option<&[u8]>
+    ensures { option_copied result ≡ letters_of (view item.now) }
+{
+    match find(item, b"attr") {
+        None => Some(b""),
+        Some(Item::Bytes(letters)) => Some(letters.as_slice()),
+        Some(_) => None,
+    }
+}

@@ -1,0 +1,26 @@
+//! The v2 side of a torrent (BEP 52, "file tree"), judged.
+ghost use Rattle.std.specs.Prelude.{◌≡◌, None, IfErr, IfOk, OnOk};
+ghost use Rattle.tor_bencode.specs.View.{view};
+ghost use Rattle.tor_check.specs.Judged.{IsFirst};
+ghost use Rattle.tor_check.specs.Sides.{first_of_tree};
+ghost use Rattle.tor_spec.specs.valid.TreeSide.{tree_files};
+
+use crate::refusal::Refusal;
+use std::alloc::Global;
+use tor_bencode::{Item, find};
+use tor_tree::{TreeFile, from_item};
+
+/// The files of the v2 side, or its first fault.
+pub fn read_tree(alloc: Global, info: &Item) -> Result<Vec<TreeFile>, Refusal>
+    ensures files { IfOk result (λ files. files.items ≡ tree_files (view info.now)) }
+    ensures accepted { OnOk result (first_of_tree (view info.now) ≡ None) }
+    ensures refused { IfErr result (IsFirst (first_of_tree (view info.now))) }
+{
+    let Some(tree) = find(info, b"file tree") else {
+        return Err(Refusal::FileShape);
+    };
+    match from_item(alloc, tree) {
+        Ok(files) => Ok(files),
+        Err(fault) => Err(Refusal::from(fault)),
+    }
+}

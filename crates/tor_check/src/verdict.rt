@@ -1,0 +1,58 @@
+//! Whether bytes are a torrent, and what it describes.
+ghost use Rattle.std.specs.Prelude.{◌≡◌, None, IfErr, IfOk, OnOk, codes, unwrap_or};
+ghost use Rattle.tor_bencode.specs.Place.{place_of};
+ghost use Rattle.tor_bencode.specs.View.{view};
+ghost use Rattle.tor_check.specs.Judged.{IsFirst};
+ghost use Rattle.tor_check.specs.Valid.{IsRefusedFor, IsTold};
+ghost use Rattle.tor_spec.specs.valid.Conditions.{refusal_of};
+ghost use Rattle.tor_spec.specs.valid.View.{view_of};
+
+use crate::head::read_head;
+use crate::places::{judge_layers, judge_places};
+use crate::refusal::Refusal;
+use crate::sides::read_sides;
+use crate::told::torrent_of;
+use crate::torrent::Torrent;
+use std::alloc::Global;
+use tor_bencode::{Item, decode, span};
+
+/// What the torrent describes that the bytes are; or why they are none, the least number whose condition holds.
+pub fn validate(alloc: Global, bytes: &[u8]) -> Result<Torrent, Refusal>
+    ensures accepted { IfOk result (IsTold bytes.now) }
+    ensures refused { IfErr result (IsRefusedFor bytes.now) }
+{
+    let tree = match decode(alloc, bytes) {
+        Ok(tree) => tree,
+        Err(fault) => return Err(Refusal::from(fault)),
+    };
+    let info_span = span(bytes, b"info").unwrap_or((0, 0));
+    match judge(alloc, tree.item(), info_span) {
+        Ok(torrent) => Ok(torrent),
+        Err(refusal) => Err(refusal),
+    }
+}
+
+/// The same of a tree, in whose spelling `info` begins and ends here.
+fn judge(alloc: Global, root: &Item, info_span: (usize, usize)) -> Result<Torrent, Refusal>
+    requires { info_span ≡ unwrap_or (place_of (codes "info") (view root.now)) (0, 0) }
+    ensures told { IfOk result (λ torrent. torrent ≡ view_of (view root.now)) }
+    ensures accepted { OnOk result (refusal_of (view root.now) ≡ None) }
+    ensures refused { IfErr result (IsFirst (refusal_of (view root.now))) }
+{
+    let head = match read_head(alloc, root) {
+        Ok(head) => head,
+        Err(refusal) => return Err(refusal),
+    };
+    let sides = match read_sides(alloc, &head) {
+        Ok(sides) => sides,
+        Err(refusal) => return Err(refusal),
+    };
+    if let Err(refusal) = judge_layers(root, &head, &sides) {
+        return Err(refusal);
+    }
+    if let Err(refusal) = judge_places(&head, &sides) {
+        return Err(refusal);
+    }
+    let torrent = torrent_of(alloc, root, &head, sides, info_span)?;
+    Ok(torrent)
+}

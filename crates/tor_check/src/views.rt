@@ -1,0 +1,112 @@
+//! What the sides of a torrent tell of its files.
+ghost use Rattle.std.specs.Prelude.{◌≡◌, ◌<◌, ◌^◌, IfOk, IfNone, map, sum_by};
+ghost use Rattle.tor_check.specs.Layers.{seen};
+ghost use Rattle.tor_check.specs.Listed.{files_from};
+ghost use Rattle.tor_check.specs.Views.{layer_for, viewed};
+ghost use Rattle.tor_check.specs.declared.listed.Listed.{Listed as ListedFacts};
+ghost use Rattle.tor_spec.specs.valid.Layers.{pieces_in};
+ghost use Rattle.tor_spec.specs.valid.ListSide.{without_padding};
+ghost use Rattle.tor_spec.specs.valid.View.{entry_of_file, file_of_list};
+ghost use Rattle.tor_check.specs.Listed.{file_of_listed};
+
+use crate::layers::{Layers, text_of_layer};
+use crate::listed::Listed;
+use crate::torrent::ViewFile;
+use std::alloc::{AllocError, Global};
+use tor_tree::{FilePath, Hash, TreeFile};
+use tor_v1::{Entry, pad_entry};
+
+/// The files of a tree, each with its layer.
+pub fn views_of_tree(
+    alloc: Global,
+    layers: &Layers<'_>,
+    files: Vec<TreeFile>,
+) -> Result<Vec<ViewFile>, AllocError>
+    ensures { IfOk result (λ views. views.items ≡ map (viewed layers.now.piece_length (seen layers.now)) files.items) }
+{
+    let mut views = Vec::with_capacity(alloc, files.len())?;
+    'files: for file in files {
+        let layer = layer_of(alloc, layers, &file)?;
+        views.push(ViewFile { file, layer })?;
+    }
+    Ok(views)
+}
+
+/// The layer of a file; a file of at most one piece has none.
+fn layer_of(alloc: Global, layers: &Layers<'_>, file: &TreeFile) -> Result<Vec<Hash>, AllocError>
+    ensures { IfOk result (λ layer. layer.items ≡ layer_for layers.now.piece_length (seen layers.now) file.now) }
+{
+    if file.length <= layers.piece_length {
+        return Ok(Vec::new(alloc));
+    }
+    let (hashes, _) = text_of_layer(layers, file).as_chunks::<32>();
+    Vec::from_slice(alloc, hashes)
+}
+
+/// The files of the v1 side, without padding.
+pub fn views_of_list(alloc: Global, listed: &[Listed]) -> Result<Vec<ViewFile>, AllocError>
+    ensures { IfOk result (λ views. views.items ≡ map file_of_list (without_padding (files_from listed.now))) }
+{
+    let mut views = Vec::with_capacity(alloc, listed.len())?;
+    'listed: for file in listed {
+        if let Some(path) = &file.path {
+            views.push(view_of(alloc, path, file)?)?;
+        }
+    }
+    Ok(views)
+}
+
+/// A file of the v1 side.
+fn view_of(alloc: Global, path: &FilePath, file: &Listed) -> Result<ViewFile, AllocError>
+    requires { file.now.path ≡ Some path.now }
+    ensures { IfOk result (λ view. view ≡ file_of_list (file_of_listed file.now)) }
+{
+    Ok(ViewFile {
+        file: TreeFile {
+            path: path.copy(alloc)?,
+            length: file.marks.length.unsigned_abs(),
+            root: None,
+            exec: file.marks.exec,
+            hidden: file.marks.hidden,
+        },
+        layer: Vec::new(alloc),
+    })
+}
+
+/// The entries of the v1 side, padding among them.
+pub fn entries_of(alloc: Global, listed: &[Listed]) -> Result<Vec<Entry>, AllocError>
+    ensures { IfOk result (λ entries. entries.items ≡ map entry_of_file (files_from listed.now)) }
+{
+    let mut entries = Vec::with_capacity(alloc, listed.len())?;
+    'listed: for file in listed {
+        entries.push(entry_of(alloc, file)?)?;
+    }
+    Ok(entries)
+}
+
+fn entry_of(alloc: Global, file: &Listed) -> Result<Entry, AllocError>
+    ensures { IfOk result (λ entry. entry ≡ entry_of_file (file_of_listed file.now)) }
+{
+    let length = file.marks.length.unsigned_abs();
+    match &file.path {
+        Some(path) => Ok(Entry {
+            path: path.copy(alloc)?,
+            length,
+            pad: false,
+        }),
+        None => pad_entry(alloc, length),
+    }
+}
+
+/// How many pieces the files of a tree have, each counted by itself.
+pub fn pieces_of_tree(piece_length: u64, files: &[TreeFile]) -> u64
+    requires some { 0 < piece_length }
+    requires few { sum_by (λ file. pieces_in piece_length file.length) files.now < 2 ^ 64 }
+    ensures { result ≡ sum_by (λ file. pieces_in piece_length file.length) files.now }
+{
+    let mut count: u64 = 0;
+    'files: for file in files {
+        count = count.saturating_add(file.length.div_ceil(piece_length));
+    }
+    count
+}
