@@ -1,8 +1,20 @@
 //! Foreign torrents (BEP 3, BEP 47, BEP 52) judged, and what they describe.
 //!
-//! - [`Refusal`] (`refusal.rt`): why bytes are no torrent.
+//! ```rust
+//! use tor_check::validate;
 //!
-//! `parts.rt` reads the keys that conditions speak of; `head.rt` judges the root and the keys that all kinds have.
+//! let torrent = validate(alloc, &bytes)?;
+//! for view in torrent.files() {
+//!     println!(rt; "{}", view.file().length)?;
+//! }
+//! ```
+//!
+//! - [`validate`] (`verdict.rt`): what the torrent describes that bytes are, or why they are none.
+//! - [`Torrent`], [`ViewFile`] (`torrent.rt`): what it describes. [`Refusal`] (`refusal.rt`): V1 to V24.
+//!
+//! The root and the keys that all kinds have: `head.rt`. The v1 side: `marks.rt` and `listed.rt` read it, `list_side.rt`
+//! judges it; the v2 side: `tree_side.rt`; both: `sides.rt`. Piece layers: `layers.rt`; where the sides agree: `agree.rt`;
+//! both of these judged: `places.rt`. What is told: `views.rt`, `told.rt`. `parts.rt` reads single keys.
 #![tactic(auto)]
 
 mod agree;

@@ -1,12 +1,12 @@
 //! Which bytes are torrents, and what they describe. The bytes are worked out from the standards; no condition of these
-//! rows but the last compares a hash.
+//! rows compares a hash.
 use crate::validate;
 use std::alloc::{AllocError, Global};
 use std::test::Fail;
 use tor_tree::Kind;
 
-// The files a = `ab` and b = `c` in the folder `f`, piece length 16,384: a torrent of version 1. The hash is the SHA-1 of
-// `abc`.
+// The files a = `ab` and b = `c` in the folder `f`, piece length 16,384: a torrent of version 1. The hash is the SHA-1
+// of `abc`.
 const FOLDER_V1: &[u8] =
     b"d4:infod5:filesld6:lengthi2e4:pathl1:aeed6:lengthi1e4:pathl1:beee4:name1:f\
 12:piece lengthi16384e6:pieces20:\xa9\x99\x3e\x36\x47\x06\x81\x6a\xba\x3e\x25\x71\x78\x50\xc2\x6c\x9c\xd0\xd8\x9dee";

@@ -2,12 +2,11 @@
 //!
 //! - `run.rt`: the whole program, over any reader and writers; `main` hands it the real ones.
 //! - `command.rt`: what the words ask for.
-//! - `make_command.rt`: the command `make`; `make_words.rt`: its words; `options.rt`: what they
-//!   ask for.
-//! - `make.rt`: the torrent of what a reader has, as `judge.rt` judges its order. `input.rt`: an input read whole, within
-//!   a limit. `intake.rt`: what takes its parts.
-//! - `from_path.rt`: the torrent of a file or a folder. `out_file.rt`: the file that a torrent goes to. `progress.rt`: the
-//!   line that shows how far the reading is; `amount.rt`: bytes and seconds in it.
+//! - `make_command.rt`: the command `make`; `make_words.rt`: its words; `options.rt`: what they ask for.
+//! - `make.rt`: the torrent of what a reader has, as `judge.rt` judges its order. `input.rt`: an input read whole,
+//!   within a limit. `intake.rt`: what takes its parts.
+//! - `from_path.rt`: the torrent of a file or a folder. `out_file.rt`: the file that a torrent goes to.
+//!   `progress.rt`: the line that shows how far the reading is; `amount.rt`: bytes and seconds in it.
 //! - `fault.rt`: what stops the program, its line and its status; `fault_of.rt`: which step's fault it is. `escape.rt`:
 //!   the user's text in such a line.
 #![tactic(auto)]

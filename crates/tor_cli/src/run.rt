@@ -13,8 +13,8 @@ use std::thread::Threads;
 use tor_meta::write_out;
 
 /// Does what the words ask for; the first word is the program's name. Answers the status: 0 done, 1 refused, 2 usage,
-/// 3 a read or write fault, 4 memory refused. A fault is one line on `err`. How far the reading of PATH is, the system's
-/// own standard error shows, where it is to be shown.
+/// 3 a read or write fault, 4 memory refused. A fault is one line on `err`. How far the reading of PATH is, the
+/// system's own standard error shows, where it is to be shown.
 pub fn run<T: Threads + Sync, R: Read, W: Write, E: Write>(
     rt: &T,
     system: &HostRuntime,

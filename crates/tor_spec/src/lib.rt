@@ -3,6 +3,7 @@
 //! - `Settings`: what a torrent is made with, beside its files. `Facts`: what it says of each file.
 //! - `FilesList`, `PieceLayers`, `InfoDictionary`, `Metainfo`: the bytes of a metainfo file (BEP 3, BEP 52).
 //!   `Dictionary`: dictionaries made key by key. `Makeable`: what a torrent can be made of.
+//! - `valid/`: which bytes are a torrent, condition by condition (`Conditions`), and what it describes (`View`).
 //!
 //! There is no code but that of [`laws`] (`laws.rt`): functions without a body, each of which carries a law.
 #![tactic(auto)]

@@ -3,7 +3,7 @@
 //!
 //! - [`Entry`] (`entry.rt`): an entry of the list, a file or padding; [`is_reserved`]: a path only padding may have.
 //! - [`lay_out`] (`layout.rt`): the entries of a list of files, in one of two layouts. `padding.rt` makes the padding;
-//!   [`padding_length`] and [`count_with_bytes`] tell what a file needs of it.
+//!   [`padding_length`] and [`count_with_bytes`] tell what a file needs of it, [`pad_entry`] is one.
 //! - [`PieceSums`] (`sums.rt`): the SHA-1 of each piece of a content that is fed in parts.
 //! - [`laws`]: what follows from the definitions alone.
 //!
