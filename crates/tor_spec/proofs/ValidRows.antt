@@ -51,8 +51,11 @@ two = file 2 (codes "a") ∷ file 1 (codes "b") ∷ []
 -- a torrent of BEP 3 alone, with `files`
 abbrev listed : List ℕ → Data → ℕ → Data → Data
 listed name files piece_length sums =
-    dict ((codes "info", dict ((codes "files", files) ∷ (codes "name", string name) ∷
-    (codes "piece length", number piece_length) ∷ (codes "pieces", sums) ∷ [])) ∷ [])
+    dict ((
+      codes "info",
+      dict ((codes "files", files) ∷ (codes "name", string name) ∷
+          (codes "piece length", number piece_length) ∷ (codes "pieces", sums) ∷ []),
+    ) ∷ [])
 
 -- its list may be wrong
 abbrev of_list : List Data → Data
@@ -61,8 +64,11 @@ of_list files = listed (codes "f") (items files) 16384 (bytes 20)
 -- a torrent of BEP 3 alone, with `length`
 abbrev alone : List (List ℕ × Data) → Data
 alone more =
-    dict ((codes "info", dict (more ++ (codes "name", string (codes "a")) ∷
-    (codes "piece length", number 16384) ∷ (codes "pieces", bytes 20) ∷ [])) ∷ [])
+    dict ((
+      codes "info",
+      dict (more ++ (codes "name", string (codes "a")) ∷
+          (codes "piece length", number 16384) ∷ (codes "pieces", bytes 20) ∷ []),
+    ) ∷ [])
 
 abbrev rows_of_list : List (Data × Option Condition)
 rows_of_list =
@@ -113,8 +119,11 @@ properties n = dict ((codes "", dict (size n ∷ (codes "pieces root", bytes 32)
 -- a torrent of BEP 52 alone
 abbrev treed : Data → ℕ → List (List ℕ × Data) → Data
 treed tree piece_length layers =
-    dict ((codes "info", dict ((codes "file tree", tree) ∷ (codes "meta version", number 2) ∷
-    (codes "name", string (codes "a")) ∷ (codes "piece length", number piece_length) ∷ [])) ∷ layers)
+    dict ((
+      codes "info",
+      dict ((codes "file tree", tree) ∷ (codes "meta version", number 2) ∷
+          (codes "name", string (codes "a")) ∷ (codes "piece length", number piece_length) ∷ []),
+    ) ∷ layers)
 
 -- with the file a
 abbrev of_tree : Data → Data
@@ -161,18 +170,24 @@ tree_rows = refl
 -- a hybrid of the files a of two bytes and b of one in the tree, and these entries
 abbrev hybrid : List Data → Data → Data
 hybrid files sums =
-    dict ((codes "info", dict (
-    (codes "file tree", dict ((codes "a", properties 2) ∷ (codes "b", properties 1) ∷ [])) ∷
-    (codes "files", items files) ∷ (codes "meta version", number 2) ∷ (codes "name", string (codes "f")) ∷
-    (codes "piece length", number 16384) ∷ (codes "pieces", sums) ∷ [])) ∷ (codes "piece layers", dict []) ∷ [])
+    dict ((
+      codes "info",
+      dict (
+          (codes "file tree", dict ((codes "a", properties 2) ∷ (codes "b", properties 1) ∷ [])) ∷
+          (codes "files", items files) ∷ (codes "meta version", number 2) ∷ (codes "name", string (codes "f")) ∷
+          (codes "piece length", number 16384) ∷ (codes "pieces", sums) ∷ []),
+    ) ∷ (codes "piece layers", dict []) ∷ [])
 
 -- of the file a alone
 abbrev hybrid_alone : List ℕ → Data
 hybrid_alone name =
-    dict ((codes "info", dict (
-    (codes "file tree", dict ((codes "a", properties 2) ∷ [])) ∷
-    size 2 ∷ (codes "meta version", number 2) ∷ (codes "name", string name) ∷
-    (codes "piece length", number 16384) ∷ (codes "pieces", bytes 20) ∷ [])) ∷ [])
+    dict ((
+      codes "info",
+      dict (
+          (codes "file tree", dict ((codes "a", properties 2) ∷ [])) ∷
+          size 2 ∷ (codes "meta version", number 2) ∷ (codes "name", string name) ∷
+          (codes "piece length", number 16384) ∷ (codes "pieces", bytes 20) ∷ []),
+    ) ∷ [])
 
 abbrev rows_of_hybrids : List (Data × Option Condition)
 rows_of_hybrids =
