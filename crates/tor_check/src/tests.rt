@@ -3,6 +3,7 @@
 use crate::validate;
 use std::alloc::{AllocError, Global};
 use std::test::Fail;
+use tor_merkle::{Hash, pair};
 use tor_tree::Kind;
 
 // The files a = `ab` and b = `c` in the folder `f`, piece length 16,384: a torrent of version 1. The hash is the SHA-1
@@ -127,5 +128,90 @@ fn tells_what_a_torrent_of_version_2_describes(rt: HostRuntime) -> Result<(), Fa
         assert!(rt; view.file().root.is_some());
         assert!(rt; view.layer().is_empty());
     }
+    Ok(())
+}
+
+// The files a = `ab` and b = `c` in the folder `f`, piece length 16,384: a hybrid. Roots and hashes are any bytes.
+const FOLDER_HYBRID: &[u8] = b"d4:infod9:file treed1:ad0:d6:lengthi2e\
+11:pieces root32:0123456789abcdef0123456789abcdefee\
+1:bd0:d6:lengthi1e11:pieces root32:0123456789abcdef0123456789abcdefeee5:filesld6:lengthi2e4:pathl1:aeed4:attr1:p\
+6:lengthi16382e4:pathl4:.pad5:16382eed6:lengthi1e4:pathl1:beee12:meta versioni2e4:name1:f12:piece lengthi16384e\
+6:pieces40:0123456789abcdef01230123456789abcdef0123e12:piece layersdee";
+
+// The same without the padding, and with b of two bytes.
+const UNALIGNED_HYBRID: &[u8] = b"d4:infod9:file treed1:ad0:d6:lengthi2e\
+11:pieces root32:0123456789abcdef0123456789abcdefee\
+1:bd0:d6:lengthi1e11:pieces root32:0123456789abcdef0123456789abcdefeee5:filesld6:lengthi2e4:pathl1:aee\
+d6:lengthi1e4:pathl1:beee12:meta versioni2e4:name1:f12:piece lengthi16384e6:pieces20:0123456789abcdef0123e\
+12:piece layersdee";
+
+const DIFFERING_HYBRID: &[u8] = b"d4:infod9:file treed1:ad0:d6:lengthi2e\
+11:pieces root32:0123456789abcdef0123456789abcdefee\
+1:bd0:d6:lengthi1e11:pieces root32:0123456789abcdef0123456789abcdefeee5:filesld6:lengthi2e4:pathl1:aee\
+d6:lengthi2e4:pathl1:beee12:meta versioni2e4:name1:f12:piece lengthi16384e6:pieces20:0123456789abcdef0123e\
+12:piece layersdee";
+
+#[test]
+fn compares_the_sides_of_a_hybrid(rt: HostRuntime) -> Result<(), Fail> {
+    let alloc = rt.alloc();
+    let torrent = validate(alloc, FOLDER_HYBRID).ok().ok_or("refused")?;
+    assert_eq!(rt; torrent.kind(), Kind::Hybrid);
+    assert_eq!(rt; torrent.piece_count(), 2);
+    assert_eq!(rt; torrent.files().len(), 2);
+    assert_eq!(rt; torrent.entries().len(), 3);
+    assert_eq!(rt; told(alloc, UNALIGNED_HYBRID)?.as_str(), "V23 Alignment");
+    assert_eq!(rt; told(alloc, DIFFERING_HYBRID)?.as_str(), "V22 FilesDiffer");
+    Ok(())
+}
+
+// A torrent of version 2 of a file of two pieces with this root; its layers have one key, and `value` spells what it
+// has.
+fn of_two_pieces(
+    alloc: Global,
+    root: &Hash,
+    key: &Hash,
+    value: &[u8],
+) -> Result<Vec<u8>, AllocError> {
+    let mut bytes = Vec::new(alloc);
+    bytes.extend_from_slice(b"d4:infod9:file treed1:ad0:d6:lengthi16385e11:pieces root32:")?;
+    bytes.extend_from_slice(root)?;
+    bytes.extend_from_slice(
+        b"eee12:meta versioni2e4:name1:a12:piece lengthi16384ee12:piece layersd32:",
+    )?;
+    bytes.extend_from_slice(key)?;
+    bytes.extend_from_slice(value)?;
+    bytes.extend_from_slice(b"ee")?;
+    Ok(bytes)
+}
+
+// The spelling of two hashes, one after the other.
+fn both(alloc: Global, first: &Hash, second: &Hash) -> Result<Vec<u8>, AllocError> {
+    let mut bytes = Vec::new(alloc);
+    bytes.extend_from_slice(b"64:")?;
+    bytes.extend_from_slice(first)?;
+    bytes.extend_from_slice(second)?;
+    Ok(bytes)
+}
+
+#[test]
+fn compares_a_layer_with_its_root(rt: HostRuntime) -> Result<(), Fail> {
+    let alloc = rt.alloc();
+    let first: Hash = [1; 32];
+    let second: Hash = [2; 32];
+    let root = pair(&first, &second);
+    let layer = both(alloc, &first, &second)?;
+    let bytes = of_two_pieces(alloc, &root, &root, &layer)?;
+    let torrent = validate(alloc, &bytes).ok().ok_or("refused")?;
+    assert_eq!(rt; torrent.piece_count(), 2);
+    for view in torrent.files() {
+        assert_eq!(rt; view.layer(), [first, second].as_slice());
+    }
+    let swapped = both(alloc, &second, &first)?;
+    let bytes = of_two_pieces(alloc, &root, &root, &swapped)?;
+    assert_eq!(rt; told(alloc, &bytes)?.as_str(), "V21 LayerRoot");
+    let bytes = of_two_pieces(alloc, &root, &root, b"0:")?;
+    assert_eq!(rt; told(alloc, &bytes)?.as_str(), "V20 LayerLength");
+    let bytes = of_two_pieces(alloc, &root, &first, &layer)?;
+    assert_eq!(rt; told(alloc, &bytes)?.as_str(), "V19 LayerAbsent");
     Ok(())
 }
