@@ -30,7 +30,7 @@ eq_later key other less = elim (cases_Bool (bytes_eq other key)) [
 ]
 
 -- without the second of rising keys the others rise
-rising_skip : (key next : List ℕ) (keys : List (List ℕ)) → AreRising (key ∷ next ∷ keys) → AreRising (key ∷ keys)
+pub rising_skip : (key next : List ℕ) (keys : List (List ℕ)) → AreRising (key ∷ next ∷ keys) → AreRising (key ∷ keys)
 rising_skip key next [] h = tt
 rising_skip key next (third ∷ keys) h = (nat_list_cmp_total.trans key next third h.0 h.1.0, h.1.1)
 
@@ -44,18 +44,18 @@ none_before key no_pairs h = refl
 none_before key (pair next value pairs) h =
     let other = eq_later key next h.0 in rw other (none_before key pairs (rising_skip key next (keys_of pairs) h))
 
-first_value : (key : List ℕ) (value : Data) (pairs : Pairs) → value_in key (pair key value pairs) ≡ Some value
+pub first_value : (key : List ℕ) (value : Data) (pairs : Pairs) → value_in key (pair key value pairs) ≡ Some value
 first_value key value pairs = let same = eq_self key in rw same refl
 
 -- a later key has its value among the other pairs
-later_value : (key first : List ℕ) (value : Data) (pairs : Pairs) → bytes_eq first key ≡ false
+pub later_value : (key first : List ℕ) (value : Data) (pairs : Pairs) → bytes_eq first key ≡ false
     → value_in key (pair first value pairs) ≡ value_in key pairs
 later_value key first value pairs other = rw other refl
 
 some_is_not_none : {A : Type 0} (x : A) (found : Option A) → found ≡ Some x → found ≡ None → ⊥
 some_is_not_none x found e f = cc
 
-some_is_one : {A : Type 0} (x y : A) (found : Option A) → found ≡ Some x → found ≡ Some y → x ≡ y
+pub some_is_one : {A : Type 0} (x y : A) (found : Option A) → found ≡ Some x → found ≡ Some y → x ≡ y
 some_is_one x y found e f = cc
 
 -- Rising pairs with the same first key and the same values have the same values after it.

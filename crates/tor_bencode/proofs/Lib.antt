@@ -22,3 +22,4 @@ pub mod SkippedPairs
 pub mod Keys
 pub mod Places
 pub mod ProvedLaws
+pub mod InOrder

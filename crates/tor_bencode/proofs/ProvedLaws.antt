@@ -1,6 +1,6 @@
 -- The laws of `src/laws.rt`, for proofs that cite them.
 use Rattle.std.proofs.Common.{◌≡◌, ◌⊎◌, ◌≤◌, ◌↔◌, ℕ, ℤ, suc, ◌-◌, List, ◌∷◌, ◌++◌, length, None, Some, Result, Ok, Err}
-use Rattle.std.proofs.Common.{ap, arith, inl, inr}
+use Rattle.std.proofs.Common.{ap, arith, inl, inr, refl, subst}
 use Rattle.std.specs.Prelude.{FitsSigned}
 use Rattle.std.specs.Int.{w64}
 use Rattle.tor_bencode.specs.Data.{Data, integer, string, list, dictionary, Items, no_items, item, Pairs, no_pairs}
@@ -8,11 +8,15 @@ use Rattle.tor_bencode.specs.Data.{pair, keys_of}
 use Rattle.tor_bencode.specs.declared.fault.Fault.{Fault}
 use Rattle.tor_bencode.specs.Fault.{IsFaultAt}
 use Rattle.tor_bencode.specs.Find.{value_in, value_of}
-use Rattle.tor_bencode.specs.Lawful.{AreRising, IsLawful, IsLawfulWithin, ItemsAreLawfulWithin, PairsAreLawfulWithin}
+use Rattle.std.proofs.lemmas.Bool.{cases_Bool}
+use Rattle.std.proofs.lemmas.Option.{none-some}
+use Rattle.std.specs.Str.{bytes_eq}
+use Rattle.tor_bencode.specs.Lawful.{AreRising, HasRisingKeys, IsLawful, IsLawfulWithin, ItemsAreLawfulWithin}
+use Rattle.tor_bencode.specs.Lawful.{PairsAreLawfulWithin, PairsHaveRisingKeys}
 use Rattle.tor_bencode.specs.Place.{IsSpelledAt, IsTree, place_of}
 use Rattle.tor_bencode.specs.Spelling.{spelling}
 use Rattle.tor_bencode.specs.steps.Reading.{whole}
-use Rattle.tor_bencode.proofs.Keys.{none_before, same_pairs}
+use Rattle.tor_bencode.proofs.Keys.{none_before, same_pairs, some_is_one}
 use Rattle.tor_bencode.proofs.Lawfulness.{lawful-integer, lawful-string, lawful-item, lawful-pair, lawful-no_items}
 use Rattle.tor_bencode.proofs.Lawfulness.{lawful-no_pairs}
 use Rattle.tor_bencode.proofs.Places.{found_at, none_found}
@@ -124,3 +128,19 @@ pub pairs_are_lawful : (room : ℕ) (key : List ℕ) (d : Data) (pairs : Pairs)
     → PairsAreLawfulWithin room (pair key d pairs)
     ↔ (IsLawfulWithin room d × PairsAreLawfulWithin room pairs)
 pairs_are_lawful = lawful-pair
+
+-- the keys inside a value rise where those of its dictionary do
+value_rises : (key : List ℕ) (pairs : Pairs) (value : Data) → PairsHaveRisingKeys pairs
+    → value_in key pairs ≡ Some value → HasRisingKeys value
+value_rises key no_pairs value h is = absurd (none-some value is)
+value_rises key (pair k first pairs) value h is = elim (cases_Bool (bytes_eq k key)) [
+  | inl same ↦ subst HasRisingKeys (some_is_one first value (Some first) refl (rw same at is)) h.0
+  | inr other ↦ value_rises key pairs value h.1 (rw other at is)
+]
+
+pub value_has_rising_keys : (key : List ℕ) (d value : Data) → HasRisingKeys d → value_of key d ≡ Some value
+    → HasRisingKeys value
+value_has_rising_keys key (integer n) value h is = absurd (none-some value is)
+value_has_rising_keys key (string bytes) value h is = absurd (none-some value is)
+value_has_rising_keys key (list items) value h is = absurd (none-some value is)
+value_has_rising_keys key (dictionary pairs) value h is = value_rises key pairs value h.1 is

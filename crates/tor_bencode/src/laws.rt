@@ -6,10 +6,11 @@ ghost use Rattle.tor_bencode.specs.Data.{no_pairs, pair, keys_of};
 ghost use Rattle.tor_bencode.specs.declared.fault.Fault.{Fault};
 ghost use Rattle.tor_bencode.specs.Fault.{IsFaultAt};
 ghost use Rattle.tor_bencode.specs.Find.{value_in, value_of};
-ghost use Rattle.tor_bencode.specs.Lawful.{AreRising, IsLawful, IsLawfulWithin, ItemsAreLawfulWithin};
-ghost use Rattle.tor_bencode.specs.Lawful.{PairsAreLawfulWithin};
+ghost use Rattle.tor_bencode.specs.Lawful.{AreRising, HasRisingKeys, IsLawful, IsLawfulWithin};
+ghost use Rattle.tor_bencode.specs.Lawful.{ItemsAreLawfulWithin, PairsAreLawfulWithin};
 ghost use Rattle.tor_bencode.specs.Place.{IsSpelledAt, IsTree, place_of};
 ghost use Rattle.tor_bencode.specs.Spelling.{spelling};
+ghost use Rattle.tor_bencode.specs.declared.TheConstants.{MAX_NESTING};
 
 /// No lawful spelling begins another, so bytes have at most one lawful tree.
 pub fn no_spelling_begins_another()
@@ -72,4 +73,14 @@ pub fn lawful_one_by_one()
     ensures no_pairs { (room : ℕ) → PairsAreLawfulWithin room no_pairs }
     ensures pair { (room : ℕ) (key : List ℕ) (d : Data) (pairs : Pairs) → PairsAreLawfulWithin room (pair key d pairs)
         ↔ (IsLawfulWithin room d × PairsAreLawfulWithin room pairs) }
+{}
+
+/// The keys inside a value rise where those of its dictionary do.
+pub fn values_have_rising_keys()
+    ensures { (key : List ℕ) (d value : Data) → HasRisingKeys d → value_of key d ≡ Some value → HasRisingKeys value }
+{}
+
+/// So many lists and dictionaries may be open.
+pub fn limit_of_nesting()
+    ensures { MAX_NESTING ≡ 100 }
 {}

@@ -13,7 +13,7 @@
 //! - [`Tree`] (`tree.rt`): an item that has a place in a torrent: keys rise, nesting has an end.
 //! - [`encode`] (`write.rt`): the spelling of a tree.
 //! - [`decode`] (`read.rt`): the tree of a spelling, or the first fault of the bytes.
-//! - [`find`] (`lookup.rt`): the value of a key.
+//! - [`find`] and [`find_in_order`] (`lookup.rt`): the value of a key.
 //! - [`span`] (`place.rt`): where the value of a key is spelled.
 //! - [`BenError`] (`error.rt`), [`Fault`] (`fault.rt`): what these refuse.
 //! - [`laws`] (`laws.rt`): laws over the definitions of `specs/`.
@@ -42,7 +42,7 @@ pub const MAX_NESTING: usize = 100;
 pub use error::BenError;
 pub use fault::Fault;
 pub use item::Item;
-pub use lookup::find;
+pub use lookup::{find, find_in_order};
 pub use place::span;
 pub use read::decode;
 pub use tree::Tree;

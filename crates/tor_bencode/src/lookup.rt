@@ -1,10 +1,17 @@
 //! The value of a key.
 
-ghost use Rattle.std.specs.Prelude.{◌≡◌, option_map};
-ghost use Rattle.tor_bencode.specs.Find.{value_of};
-ghost use Rattle.tor_bencode.specs.View.{view};
+ghost use Rattle.std.specs.Prelude.{◌≡◌, ◌<◌, ℕ, IfErr, IfOk, None, Some, Vec, length, option_map, slice_index_or};
+ghost use Rattle.std.specs.Cmp.Lexicographic.{slice_cmp};
+ghost use Rattle.std.specs.Ordering.{nat_cmp};
+ghost use Rattle.std.specs.declared.alloc.Global.{Global};
+ghost use Rattle.tor_bencode.specs.Data.{keys_of};
+ghost use Rattle.tor_bencode.specs.Find.{value_in, value_of};
+ghost use Rattle.tor_bencode.specs.Lawful.{AreRising, HasRisingKeys};
+ghost use Rattle.tor_bencode.specs.View.{pairs_view, view};
+ghost use Rattle.tor_bencode.specs.declared.item.Item.{Item};
 
 use crate::item::Item;
+use std::cmp::Ordering;
 
 /// The value of the first pair with the key; none also of an item that is no dictionary.
 pub fn find<'a>(item: &'a Item, key: &[u8]) -> Option<&'a Item>
@@ -19,4 +26,36 @@ pub fn find<'a>(item: &'a Item, key: &[u8]) -> Option<&'a Item>
         }
     }
     None
+}
+
+/// The same of an item whose keys rise, looked for by halving.
+pub fn find_in_order<'a>(item: &'a Item, key: &[u8]) -> Option<&'a Item>
+    requires { HasRisingKeys (view item.now) }
+    ensures { option_map (λ found. view found.now) result ≡ value_of key.now (view item.now) }
+{
+    let Item::Dict(pairs) = item else {
+        return None;
+    };
+    match place_of_key(pairs, key) {
+        Ok(place) => Some(&pairs[place].1),
+        Err(_) => None,
+    }
+}
+
+/// Where a key stands among rising ones; or else where it would.
+fn place_of_key(pairs: &[(Vec<u8>, Item)], key: &[u8]) -> Result<usize, usize>
+    requires { AreRising (keys_of (pairs_view pairs.now)) }
+    ensures within { IfOk result (λ place. place < length pairs.now) }
+    ensures found { IfOk result (λ place. (d : Vec ℕ Global × Item) →
+        value_in key.now (pairs_view pairs.now) ≡ Some (view (slice_index_or pairs.now place d).1)) }
+    ensures absent { IfErr result (λ _. value_in key.now (pairs_view pairs.now) ≡ None) }
+{
+    pairs.binary_search_by(|pair| order_of_name(pair, key))
+}
+
+/// How the name of a pair compares with a key, byte by byte.
+fn order_of_name(pair: &(Vec<u8>, Item), key: &[u8]) -> Ordering
+    ensures { result ≡ slice_cmp nat_cmp pair.now.0.items key.now }
+{
+    pair.0.as_slice().cmp(key)
 }
