@@ -7,7 +7,7 @@ ghost use Rattle.tor_merkle.specs.Block.{run_at, leaves};
 ghost use Rattle.tor_merkle.specs.Layer.{IsPieceLength, pieces_root, piece_level, piece_roots, piece_layer};
 ghost use Rattle.tor_merkle.specs.Stack.{padded_root, padded_subtree};
 
-use crate::{MAX_LENGTH, MAX_PIECE_LENGTH, MIN_PIECE_LENGTH};
+use crate::{BLOCK_LENGTH, MAX_LENGTH, MAX_PIECE_LENGTH, MIN_PIECE_LENGTH};
 
 /// A piece length is a power of two from 16,384 to 2^30.
 pub fn piece_length_bounds()
@@ -57,4 +57,12 @@ pub fn piece_roots_fit_a_layer()
         0 < length (piece_roots content piece_length) }
     ensures small { (content : List ℕ) (piece_length : ℕ) → IsPieceLength piece_length → length content ≤ MAX_LENGTH →
         length (piece_roots content piece_length) ≤ 2 ^ (36 - piece_level piece_length) }
+{}
+
+/// A block, and the limits of a piece and of a file, in bytes.
+pub fn lengths_of_blocks_and_pieces()
+    ensures block { BLOCK_LENGTH ≡ 16384 }
+    ensures shortest { MIN_PIECE_LENGTH ≡ 16384 }
+    ensures longest { MAX_PIECE_LENGTH ≡ 2 ^ 30 }
+    ensures file { MAX_LENGTH ≡ 2 ^ 50 }
 {}
