@@ -1,5 +1,5 @@
 //! All files of a plan hashed.
-ghost use Rattle.std.specs.Prelude.{◌≡◌, None, IfErr, IfOk, MatchResult, length};
+ghost use Rattle.std.specs.Prelude.{◌≡◌, None, IfErr, IfOk, MatchResult, OnOk, length};
 ghost use Rattle.tor_plan.specs.PlanFacts.{IsPlan};
 ghost use Rattle.tor_source.specs.Source.{SourceFacts};
 ghost use Rattle.tor_engine.specs.Contents.{contents_in};
@@ -46,7 +46,7 @@ pub fn hash_all<S: Source, R: Threads + Sync>(
 }
 
 /// The same of files whose lengths were asked before, and are those of the plan: the units are read, and then every
-/// length is asked again. A file that is missing then was changed.
+/// length is asked again, so that no file of another length is answered for. A file that is missing then was changed.
 pub fn hash_told<S: Source, R: Threads + Sync>(
     rt: &R,
     alloc: Global,
@@ -61,6 +61,8 @@ pub fn hash_told<S: Source, R: Threads + Sync>(
         (λ sums. AreSumsOf plan.now (contents_in facts (length plan.now.lengths)) sums
         × (first_byte_fault facts plan.now.lengths ≡ None))
         (IsFault (first_byte_fault facts plan.now.lengths)) }
+    ensures unchanged { (facts : SourceFacts S.Fault) → S.is_steady source.now facts →
+        OnOk result (first_length_fault facts plan.now.lengths ≡ None) }
     ensures whole { IfOk result (AreSumsOfSome plan.now) }
     ensures gave { IfErr result (IsGiven (S.gave source.now)) }
 {

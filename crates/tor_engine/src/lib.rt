@@ -30,6 +30,8 @@ mod sums;
 mod tests;
 #[cfg(test)]
 mod tests_reads;
+#[cfg(test)]
+mod tests_workers;
 mod turn;
 mod unit;
 
