@@ -11,7 +11,7 @@ use Rattle.tor_meta.specs.Head.{settings_of}
 use Rattle.tor_meta.specs.Refusal.{is_long, is_only, paths_refusal, shape_refusal}
 use Rattle.tor_meta.specs.Sums.{IsJudged}
 use Rattle.tor_meta.specs.declared.head.Head.{Head}
-use Rattle.tor_meta.specs.declared.judge.TheConstants.{MAX_NAMES}
+use Rattle.tor_tree.specs.declared.paths.TheConstants.{MAX_NAMES}
 use Rattle.tor_spec.specs.Settings.{is_aligned}
 use Rattle.tor_tree.specs.FileList.{IsFileList}
 use Rattle.tor_tree.specs.PathList.{ArePlacedPaths}

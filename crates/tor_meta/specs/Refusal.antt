@@ -4,7 +4,7 @@ use Rattle.std.specs.Prelude.{Option, None, Some, if◌then◌else◌}
 use Rattle.std.specs.List.{list_any}
 use Rattle.std.specs.Option.{option_or}
 use Rattle.tor_merkle.specs.Layer.{is_piece_length}
-use Rattle.tor_meta.specs.declared.judge.TheConstants.{MAX_NAMES}
+use Rattle.tor_tree.specs.declared.paths.TheConstants.{MAX_NAMES}
 use Rattle.tor_meta.specs.declared.refusals.ContentsError.{ContentsError}
 use Rattle.tor_meta.specs.declared.refusals.ContentsError.TheVariants.{PieceLength, Path, SingleShape, List}
 use Rattle.tor_meta.specs.declared.refusals.ContentsError.TheVariants.{ReservedPad}

@@ -5,7 +5,7 @@ use Rattle.tor_merkle.specs.Layer.{IsPieceLength, piece_layer}
 use Rattle.tor_meta.specs.Head.{settings_of}
 use Rattle.tor_meta.specs.Layers.{lists_of}
 use Rattle.tor_meta.specs.declared.head.Head.{Head}
-use Rattle.tor_meta.specs.declared.judge.TheConstants.{MAX_NAMES}
+use Rattle.tor_tree.specs.declared.paths.TheConstants.{MAX_NAMES}
 use Rattle.tor_meta.specs.declared.sums.TorrentSums.{TorrentSums}
 use Rattle.tor_spec.specs.Facts.{Facts, listed, layers_in, roots_in}
 use Rattle.tor_merkle.specs.Layer.{root_of}

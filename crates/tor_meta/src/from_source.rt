@@ -5,7 +5,7 @@ ghost use Rattle.tor_meta.specs.Contents.{IsMadeOf, IsMadeOfSome};
 ghost use Rattle.tor_meta.specs.Hashes.{HasInfo};
 ghost use Rattle.tor_meta.specs.Head.{settings_of};
 ghost use Rattle.tor_meta.specs.Make.{IsGivenTo, IsMakeFault, IsOwn, asked_fault, files_of_source, listed_files};
-ghost use Rattle.tor_meta.specs.Make.{make_refusal, numbers_refusal};
+ghost use Rattle.tor_meta.specs.Make.{make_refusal};
 ghost use Rattle.tor_meta.specs.Order.{settings_of_order};
 ghost use Rattle.tor_meta.specs.declared.make_error.MakeError.{MakeError};
 ghost use Rattle.tor_meta.specs.declared.make_error.MakeError.TheVariants.{Resources};
@@ -16,13 +16,12 @@ use crate::head::Head;
 use crate::judge::judge_paths;
 use crate::listed_files::torrent_of_listed;
 use crate::make_error::MakeError;
-use crate::order::{Order, is_how, is_span};
+use crate::order::{Order, refusal_of_numbers};
 use crate::placed_files::{Placed, renumbered};
 use crate::refusals::ContentsError;
 use std::alloc::{AllocError, Global};
 use std::thread::Threads;
 use tor_engine::ask_lengths;
-use tor_merkle::is_piece_length;
 use tor_source::Source;
 use tor_tree::{FileList, FilePath, PathList};
 
@@ -91,22 +90,6 @@ fn judge<F>(
         Ok(paths) => Ok(paths),
         Err(refusal) => Err(MakeError::from(refusal)),
     }
-}
-
-/// The first refusal for what needs no path.
-fn refusal_of_numbers<F>(order: &Order) -> Option<MakeError<F>>
-    ensures { result ≡ numbers_refusal order.now }
-{
-    if !is_piece_length(order.piece_length) {
-        return Some(MakeError::PieceLength);
-    }
-    if !is_how(order.how) {
-        return Some(MakeError::Workers);
-    }
-    if !is_span(order.span) {
-        return Some(MakeError::Span);
-    }
-    None
 }
 
 /// The same paths again.

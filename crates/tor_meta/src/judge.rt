@@ -12,11 +12,8 @@ use crate::head::Head;
 use crate::refusals::ContentsError;
 use std::alloc::Global;
 use tor_merkle::is_piece_length;
-use tor_tree::{FilePath, PathList};
+use tor_tree::{FilePath, MAX_NAMES, PathList};
 use tor_v1::is_reserved;
-
-/// The most names in the path of a file.
-pub(crate) const MAX_NAMES: usize = 64;
 
 /// The paths in order, each with its place, where no torrent is refused for them or for the head.
 pub(crate) fn judge_paths(

@@ -1,11 +1,17 @@
 //! How the torrent of a source's files is to be made.
-ghost use Rattle.std.specs.Prelude.{◌≡◌, IfOk, option_map, vec_items};
+ghost use Rattle.std.specs.Prelude.{◌≡◌, ◌⊎◌, ◌∷◌, [], IfErr, IfOk, None, OnOk, Some, option_map, vec_items};
 ghost use Rattle.tor_meta.specs.Head.{settings_of};
+ghost use Rattle.tor_meta.specs.Make.{make_refusal, numbers_refusal};
 ghost use Rattle.tor_meta.specs.Order.{is_how, is_span, settings_of_order};
+ghost use Rattle.tor_meta.specs.Refusal.{paths_refusal};
+ghost use Rattle.tor_meta.specs.declared.make_error.MakeError.TheVariants.{Resources};
 
+use crate::fed::refusal_of_one;
 use crate::head::Head;
+use crate::make_error::MakeError;
 use std::alloc::{AllocError, Global};
 use tor_engine::How;
+use tor_merkle::is_piece_length;
 use tor_tree::{Kind, Name};
 
 /// The most workers that may share the hashing.
@@ -50,6 +56,40 @@ impl Order {
             is_private: self.is_private,
         })
     }
+
+    /// The same for a torrent of one content under the order's name, or the first refusal.
+    pub fn head_of_one<F>(&self, alloc: Global) -> Result<Head, MakeError<F>>
+        ensures settings { IfOk result (λ head. settings_of head ≡ settings_of_order self.now) }
+        ensures lawful { IfOk result (λ head. paths_refusal (settings_of head) ((head.name ∷ []) ∷ []) ≡ None) }
+        ensures accepted { OnOk result (make_refusal {F = F} self.now ((self.now.name ∷ []) ∷ []) ≡ None) }
+        ensures refused { IfErr result (λ refusal.
+            (make_refusal self.now ((self.now.name ∷ []) ∷ []) ≡ Some refusal) ⊎ (refusal ≡ Resources)) }
+    {
+        if let Some(refusal) = refusal_of_numbers(self) {
+            return Err(refusal);
+        }
+        let head = self.head(alloc)?;
+        match refusal_of_one(&head) {
+            Some(refusal) => Err(MakeError::from(refusal)),
+            None => Ok(head),
+        }
+    }
+}
+
+/// The first refusal for what needs no path.
+pub(crate) fn refusal_of_numbers<F>(order: &Order) -> Option<MakeError<F>>
+    ensures { result ≡ numbers_refusal order.now }
+{
+    if !is_piece_length(order.piece_length) {
+        return Some(MakeError::PieceLength);
+    }
+    if !is_how(order.how) {
+        return Some(MakeError::Workers);
+    }
+    if !is_span(order.span) {
+        return Some(MakeError::Span);
+    }
+    None
 }
 
 /// The same URL, where there is one.
@@ -63,7 +103,7 @@ fn copy_of_url(alloc: Global, url: &Option<Vec<u8>>) -> Result<Option<Vec<u8>>, 
 }
 
 /// Whether so many workers may share the hashing.
-pub(crate) fn is_how(how: How) -> bool
+fn is_how(how: How) -> bool
     ensures { result ≡ is_how how }
 {
     match how {
@@ -73,7 +113,7 @@ pub(crate) fn is_how(how: How) -> bool
 }
 
 /// Whether a unit may have so many pieces: a power of two from 1 to 1,024.
-pub(crate) fn is_span(span: u32) -> bool
+fn is_span(span: u32) -> bool
     ensures { result ≡ is_span span }
 {
     span.is_power_of_two() && 1 <= span && span <= MAX_SPAN
