@@ -1,7 +1,9 @@
 //! The piece layers of a torrent (BEP 52, "piece layers"), judged.
-ghost use Rattle.std.specs.Prelude.{◌≡◌, ◌≤◌, ◌<◌, [], false, All, option_map, unwrap_or};
+ghost use Rattle.std.specs.Prelude.{◌≡◌, ◌≤◌, ◌<◌, [], false, All, codes, option_map, unwrap_or};
 ghost use Rattle.std.specs.List.{list_any};
-ghost use Rattle.std.specs.Option.{option_copied};
+ghost use Rattle.std.specs.Option.{ForSome, option_copied};
+ghost use Rattle.tor_bencode.specs.Find.{value_of};
+ghost use Rattle.tor_bencode.specs.Lawful.{HasRisingKeys};
 ghost use Rattle.tor_bencode.specs.View.{view};
 ghost use Rattle.tor_check.specs.Layers.{seen};
 ghost use Rattle.tor_merkle.specs.Layer.{IsPieceLength};
@@ -9,8 +11,8 @@ ghost use Rattle.tor_spec.specs.valid.Layers.{has_other_root, is_long, is_missha
 ghost use Rattle.tor_spec.specs.valid.Layers.{layer_text, root_of_file};
 ghost use Rattle.tor_merkle.specs.declared.TheConstants.{MAX_LENGTH};
 
-use crate::parts::text;
-use tor_bencode::Item;
+use tor_bencode::laws::values_have_rising_keys;
+use tor_bencode::{Item, find, find_in_order};
 use tor_merkle::laws::piece_roots_fit_a_layer;
 use tor_merkle::{layer_root, piece_level};
 use tor_tree::TreeFile;
@@ -21,6 +23,20 @@ pub struct Layers<'a> {
     pub item: Option<&'a Item>,
     /// In bytes.
     pub piece_length: u64,
+    ghost rising: { ForSome item (λ item. HasRisingKeys (view item.now)) },
+}
+
+/// The layers that a root has, in pieces of this length.
+pub fn layers_of<'a>(root: &'a Item, piece_length: u64) -> Layers<'a>
+    requires { HasRisingKeys (view root.now) }
+    ensures item { option_map (λ item. view item.now) result.item ≡ value_of (codes "piece layers") (view root.now) }
+    ensures piece_length { result.piece_length ≡ piece_length }
+{
+    values_have_rising_keys();
+    Layers {
+        item: find(root, b"piece layers"),
+        piece_length,
+    }
 }
 
 /// Whether layers are needed and absent, or no dictionary.
@@ -88,7 +104,10 @@ fn is_misshaped(layers: &Layers<'_>, file: &TreeFile) -> bool
 fn layer_text<'a>(layers: &Layers<'a>, file: &TreeFile) -> Option<&'a [u8]>
     ensures { option_copied result ≡ layer_text (seen layers.now) file.now }
 {
-    text(layers.item?, root_of(file))
+    match find_in_order(layers.item?, root_of(file))? {
+        Item::Bytes(text) => Some(text.as_slice()),
+        _ => None,
+    }
 }
 
 /// The same; no byte, where there are none.

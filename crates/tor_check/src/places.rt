@@ -1,5 +1,6 @@
 //! Piece layers, and the places of files in a hybrid, judged.
 ghost use Rattle.std.specs.Prelude.{◌≡◌, ◌≤◌, ◌||◌, [], true, All, None, IfErr, OnOk, sum_by};
+ghost use Rattle.tor_bencode.specs.Lawful.{HasRisingKeys};
 ghost use Rattle.tor_bencode.specs.View.{view};
 ghost use Rattle.tor_check.specs.Judged.{IsFirst, IsHeadOf, first_in, first_of_places, layer_conditions};
 ghost use Rattle.tor_check.specs.Listed.{files_from, size_of_listed};
@@ -13,14 +14,15 @@ ghost use Rattle.tor_v1.specs.Piece.{max_piece_length};
 
 use crate::agree::{files_differ, has_wrong_tail, is_misaligned};
 use crate::head::Head;
-use crate::layers::{Layers, has_misshaped, has_other, lacks_a_layer, lacks_layers};
+use crate::layers::{has_misshaped, has_other, lacks_a_layer, lacks_layers, layers_of};
 use crate::listed::Listed;
 use crate::refusal::Refusal;
 use crate::sides::Sides;
-use tor_bencode::{Item, find};
+use tor_bencode::Item;
 
 /// The piece layers of a v2 side: V18 to V21.
 pub fn judge_layers(root: &Item, head: &Head<'_>, sides: &Sides) -> Result<(), Refusal>
+    requires keys { HasRisingKeys (view root.now) }
     requires head { IsHeadOf (view root.now) head.now }
     requires sides { AreSidesOf (info_of (view root.now)) sides.now }
     requires judged { first_of_both (info_of (view root.now)) ≡ None }
@@ -31,10 +33,7 @@ pub fn judge_layers(root: &Item, head: &Head<'_>, sides: &Sides) -> Result<(), R
     if !head.kind.has_v2() {
         return Ok(());
     }
-    let layers = Layers {
-        item: find(root, b"piece layers"),
-        piece_length: head.piece_length,
-    };
+    let layers = layers_of(root, head.piece_length);
     if lacks_layers(&layers, &sides.files) {
         return Err(Refusal::LayersAbsent);
     }

@@ -1,5 +1,6 @@
 //! What a torrent describes whose sides have no fault.
 ghost use Rattle.std.specs.Prelude.{◌≡◌, [], None, IfOk, codes, unwrap_or, if◌then◌else◌};
+ghost use Rattle.tor_bencode.specs.Lawful.{HasRisingKeys};
 ghost use Rattle.tor_bencode.specs.Place.{place_of};
 ghost use Rattle.tor_bencode.specs.View.{view};
 ghost use Rattle.tor_check.specs.Judged.{IsHeadOf};
@@ -10,13 +11,13 @@ ghost use Rattle.tor_spec.specs.valid.View.{files_of, tree_piece_count, view_of}
 ghost use Rattle.tor_tree.specs.Kinds.{has_v1, has_v2};
 
 use crate::head::Head;
-use crate::layers::Layers;
+use crate::layers::layers_of;
 use crate::parts::text;
 use crate::sides::Sides;
 use crate::torrent::{Torrent, ViewFile};
 use crate::views::{entries_of, pieces_of_tree, views_of_list, views_of_tree};
 use std::alloc::{AllocError, Global};
-use tor_bencode::{Item, find};
+use tor_bencode::Item;
 
 /// What the torrent describes.
 pub fn torrent_of(
@@ -26,6 +27,7 @@ pub fn torrent_of(
     sides: Sides,
     info_span: (usize, usize),
 ) -> Result<Torrent, AllocError>
+    requires keys { HasRisingKeys (view root.now) }
     requires head { IsHeadOf (view root.now) head.now }
     requires sides { AreSidesOf (info_of (view root.now)) sides }
     requires judged { first_of_both (info_of (view root.now)) ≡ None }
@@ -88,6 +90,7 @@ fn files_of(
     head: &Head<'_>,
     sides: Sides,
 ) -> Result<Vec<ViewFile>, AllocError>
+    requires keys { HasRisingKeys (view root.now) }
     requires head { IsHeadOf (view root.now) head.now }
     requires sides { AreSidesOf (info_of (view root.now)) sides }
     ensures { IfOk result (λ files. files.items ≡ files_of (view root.now)) }
@@ -95,9 +98,6 @@ fn files_of(
     if !head.kind.has_v2() {
         return views_of_list(alloc, &sides.list.files);
     }
-    let layers = Layers {
-        item: find(root, b"piece layers"),
-        piece_length: head.piece_length,
-    };
+    let layers = layers_of(root, head.piece_length);
     views_of_tree(alloc, &layers, sides.files)
 }

@@ -1,5 +1,6 @@
 //! Whether bytes are a torrent, and what it describes.
 ghost use Rattle.std.specs.Prelude.{◌≡◌, None, IfErr, IfOk, OnOk, codes, unwrap_or};
+ghost use Rattle.tor_bencode.specs.Lawful.{HasRisingKeys};
 ghost use Rattle.tor_bencode.specs.Place.{place_of};
 ghost use Rattle.tor_bencode.specs.View.{view};
 ghost use Rattle.tor_check.specs.Judged.{IsFirst};
@@ -34,7 +35,8 @@ pub fn validate(alloc: Global, bytes: &[u8]) -> Result<Torrent, Refusal>
 
 /// The same of a tree, in whose spelling `info` begins and ends here.
 fn judge(alloc: Global, root: &Item, info_span: (usize, usize)) -> Result<Torrent, Refusal>
-    requires { info_span ≡ unwrap_or (place_of (codes "info") (view root.now)) (0, 0) }
+    requires keys { HasRisingKeys (view root.now) }
+    requires span { info_span ≡ unwrap_or (place_of (codes "info") (view root.now)) (0, 0) }
     ensures told { IfOk result (λ torrent. torrent ≡ view_of (view root.now)) }
     ensures accepted { OnOk result (refusal_of (view root.now) ≡ None) }
     ensures refused { IfErr result (IsFirst (refusal_of (view root.now))) }
