@@ -1,22 +1,26 @@
 //! What the scripts of `bench/` time.
 //!
 //! Over standard input: `feed CUT` hashes it by the streamed tree, in pieces of 256 KiB, and `sha1 CUT`, `sha256 CUT`
-//! and `both CUT` by those hashes over all, each in reads of CUT bytes; `decode 1` reads it as bencode. `paths COUNT`
+//! and `both CUT` by those hashes over all, each in reads of CUT bytes; `files-sha1 CUT`, `files-sha256 CUT` and
+//! `files-both CUT` hash the files whose places it has, one a line; `decode 1` reads it as bencode. `paths COUNT`
 //! makes so many paths, `list COUNT` a list of them too, and `lists COUNT` writes its tree and reads that back;
-//! `padded COUNT` makes a hybrid of so many small files; `scan FOLDER` lists a folder.
-//! `decode`, `lists`, `padded` and `scan` print microseconds. Lists are in `lists.rt`, the hybrid in `padded.rt`, the
-//! hashes over all in `plain.rt`.
+//! `padded COUNT` makes a hybrid of so many small files; `scan FOLDER` lists a folder. `check 1` judges standard input,
+//! and `pairs COUNT` joins so many hashes.
+//! All but the hashes over all and the lists of paths print microseconds. Lists are in `lists.rt`, the hybrid in
+//! `padded.rt`, the hashes over all in `plain.rt`, the judging in `foreign.rt`.
 #![tactic(auto)]
 
 ghost use Rattle.std.specs.Prelude.{◌≡◌, IfOk, vec_len};
 
+mod foreign;
 mod lists;
 mod padded;
 mod plain;
 
+use crate::foreign::{judged, paired};
 use crate::lists::{list, lists, paths};
 use crate::padded::padded;
-use crate::plain::{Hashers, plain};
+use crate::plain::{Hashers, plain, plain_files};
 use sha1::Sha1;
 use sha2::{Digest, Sha256};
 use std::alloc::{AllocError, Global};
@@ -46,6 +50,11 @@ fn main(rt: HostRuntime) -> Result<()> {
             &mut zeros(alloc, number.min(MAX_CUT))?,
             hashers(mode),
         ),
+        "files-sha1" | "files-sha256" | "files-both" => plain_files(
+            &rt,
+            &mut zeros(alloc, number.min(MAX_CUT))?,
+            hashers(mode),
+        ),
         "feed" => streamed(
             alloc,
             &mut rt.stdin(),
@@ -56,14 +65,16 @@ fn main(rt: HostRuntime) -> Result<()> {
         "lists" => lists(&rt, number),
         "padded" => padded(&rt, number),
         "scan" => scanned(&rt, word),
+        "check" => judged(&rt),
+        "pairs" => paired(&rt, number),
         _ => decoded(&rt),
     }
 }
 
 fn hashers(mode: &str) -> Hashers {
     Hashers {
-        sha1: (mode != "sha256").then(|| Sha1::new()),
-        sha256: (mode != "sha1").then(|| Sha256::new()),
+        sha1: (!mode.ends_with("sha256")).then(|| Sha1::new()),
+        sha256: (!mode.ends_with("sha1")).then(|| Sha256::new()),
     }
 }
 
