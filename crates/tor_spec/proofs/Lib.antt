@@ -1,4 +1,16 @@
 pub mod Fields
 pub mod EntryLengths
+pub mod MadeHeads
 pub mod ProvedLaws
 pub mod ValidRows
+pub mod MadeListEntries
+pub mod MadeListSide
+pub mod MadeListClear
+pub mod MadeListRounding
+pub mod MadeListSizes
+pub mod MadeListPieces
+pub mod MadeListShape
+pub mod MadeList
+pub mod MadeListView
+pub mod MadeSidesPlaces
+pub mod MadeSides
