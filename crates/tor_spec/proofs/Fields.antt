@@ -44,8 +44,8 @@ pub when_there : (n : ℕ) (there : Bool) (value : Data) → (there ≡ true →
 when_there n true value h = h refl
 when_there n false value h = tt
 
-pub keys_above : (below : List ℕ) (fields : List (List ℕ × Option Data)) → AreRising (below ∷ map (λ field. field.0) fields)
-    → AreRising (below ∷ keys_of (present fields))
+pub keys_above : (below : List ℕ) (fields : List (List ℕ × Option Data))
+    → AreRising (below ∷ map (λ field. field.0) fields) → AreRising (below ∷ keys_of (present fields))
 keys_above below [] rising = tt
 keys_above below ((key, None) ∷ fields) rising =
     keys_above below fields (rising_after below key (map (λ field. field.0) fields) rising.0 rising.1)

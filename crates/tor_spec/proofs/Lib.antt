@@ -1,8 +1,12 @@
 pub mod Fields
 pub mod EntryLengths
+pub mod LawfulTorrents
+pub mod PutPairs
 pub mod MadeHeads
-pub mod ProvedLaws
-pub mod ValidRows
+pub mod MadeFacts
+pub mod MadeTree
+pub mod MadeFound
+pub mod MadeLayers
 pub mod MadeListEntries
 pub mod MadeListSide
 pub mod MadeListClear
@@ -14,3 +18,9 @@ pub mod MadeList
 pub mod MadeListView
 pub mod MadeSidesPlaces
 pub mod MadeSides
+pub mod MadeConditions
+pub mod MadeView
+pub mod MadeTorrents
+pub mod ProvedLaws
+pub mod ValidRows
+pub mod MadeRows

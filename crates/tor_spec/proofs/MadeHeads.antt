@@ -1,5 +1,5 @@
 -- What the keys of a torrent's dictionaries have as their values, and what a reader is told of them.
-use Rattle.std.proofs.Common.{◌≡◌, ◌==◌, ℕ, pos, codes, Bool, true, false, cond, not, ◌&&◌, List, [], ◌∷◌, length, map}
+use Rattle.std.proofs.Common.{◌≡◌, ℕ, pos, codes, Bool, true, false, cond, not, ◌&&◌, List, [], ◌∷◌, length, map}
 use Rattle.std.proofs.Common.{Option, None, Some, is_none, option_map, refl, ap, subst}
 use Rattle.std.specs.Str.{bytes_eq}
 use Rattle.std.proofs.lemmas.Slice.Eq.{bytes_eq-Decides}
