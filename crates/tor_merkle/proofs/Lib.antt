@@ -16,4 +16,5 @@ pub mod Sums
 pub mod Joined
 pub mod Units
 pub mod Lengths
+pub mod HashLengths
 pub mod ProvedLaws

@@ -1,6 +1,7 @@
 //! Laws over the definitions alone.
 
-ghost use Rattle.std.specs.Prelude.{◌≡◌, ℕ, ◌*◌, ◌-◌, ◌^◌, ◌<◌, ◌≤◌, ◌↔◌, IsTrue, List, [], ◌∷◌, ◌++◌, length, map};
+ghost use Rattle.std.specs.Prelude.{◌≡◌, ℕ, ◌*◌, ◌-◌, ◌^◌, ◌<◌, ◌≤◌, ◌↔◌, IsTrue, All, List, [], ◌∷◌, ◌++◌, length};
+ghost use Rattle.std.specs.Prelude.{map};
 ghost use Rattle.std.specs.Int.{div_ceil, is_power_of_two};
 ghost use Rattle.std.specs.List.{flat_map, range_with_len};
 ghost use Rattle.tor_merkle.specs.Block.{run_at, leaves};
@@ -48,6 +49,13 @@ pub fn root_of_long_content()
         pieces_root content ≡ padded_root (piece_level piece_length) (piece_roots content piece_length) }
     ensures layer { (content : List ℕ) (piece_length : ℕ) → piece_length < length content →
         piece_layer content piece_length ≡ piece_roots content piece_length }
+{}
+
+/// The root of a content has 32 bytes, and so has the root of each of its pieces.
+pub fn roots_have_32_bytes()
+    ensures content { (content : List ℕ) → length (pieces_root content) ≡ 32 }
+    ensures pieces { (content : List ℕ) (piece_length : ℕ) →
+        All (λ root. length root ≡ 32) (piece_roots content piece_length) }
 {}
 
 /// [`crate::layer_root`] takes the roots of the pieces of any content of 1 to 2^50 bytes, at the level of a piece.

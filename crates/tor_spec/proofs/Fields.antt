@@ -44,14 +44,14 @@ pub when_there : (n : ℕ) (there : Bool) (value : Data) → (there ≡ true →
 when_there n true value h = h refl
 when_there n false value h = tt
 
-keys_above : (below : List ℕ) (fields : List (List ℕ × Option Data)) → AreRising (below ∷ map (λ field. field.0) fields)
-    → AreRising (below ∷ keys_of (present fields))
+pub keys_above : (below : List ℕ) (fields : List (List ℕ × Option Data))
+    → AreRising (below ∷ map (λ field. field.0) fields) → AreRising (below ∷ keys_of (present fields))
 keys_above below [] rising = tt
 keys_above below ((key, None) ∷ fields) rising =
     keys_above below fields (rising_after below key (map (λ field. field.0) fields) rising.0 rising.1)
 keys_above below ((key, Some value) ∷ fields) rising = (rising.0, keys_above key fields rising.1)
 
-rising_rest : (key : List ℕ) (keys : List (List ℕ)) → AreRising (key ∷ keys) → AreRising keys
+pub rising_rest : (key : List ℕ) (keys : List (List ℕ)) → AreRising (key ∷ keys) → AreRising keys
 rising_rest key [] h = tt
 rising_rest key (next ∷ keys) h = h.1
 

@@ -5,5 +5,6 @@ pub mod PieceLayers
 pub mod FilesList
 pub mod InfoDictionary
 pub mod Metainfo
+pub mod Made
 pub mod Makeable
 pub mod valid

@@ -1,10 +1,13 @@
 //! Laws over the definitions alone.
 ghost use Rattle.std.specs.Prelude.{◌≡◌, ◌<◌, ◌^◌, true, All, ℕ, List};
 ghost use Rattle.tor_bencode.specs.Lawful.{IsLawful};
-ghost use Rattle.tor_spec.specs.Facts.{Facts};
+ghost use Rattle.tor_spec.specs.Facts.{Facts, File};
+ghost use Rattle.tor_spec.specs.Made.{AreMade, IsViewOfMade};
 ghost use Rattle.tor_spec.specs.Makeable.{AreMakeable};
-ghost use Rattle.tor_spec.specs.Metainfo.{root_dictionary};
+ghost use Rattle.tor_spec.specs.Metainfo.{facts_of_files, metainfo, pieces_of_files, root_dictionary};
 ghost use Rattle.tor_spec.specs.Settings.{Settings};
+ghost use Rattle.tor_spec.specs.valid.Conditions.{IsTorrentOf};
+ghost use Rattle.tor_spec.specs.valid.View.{view_of};
 ghost use Rattle.tor_merkle.specs.Layer.{IsPieceLength};
 ghost use Rattle.tor_v1.specs.Entries.{v1_entries};
 ghost use Rattle.tor_v1.specs.declared.layout.Layout.{Layout};
@@ -23,4 +26,15 @@ pub fn entries_fit()
     ensures padding { (layout : Layout) (piece_length : ℕ) (files : List (List (List ℕ) × ℕ)) →
         IsPieceLength piece_length →
         All (λ entry. entry.pad ≡ true → entry.length < piece_length) (v1_entries layout piece_length files) }
+{}
+
+/// What the definition of a made torrent gives of files that the maker accepts is a torrent by the definition of those.
+/// It describes those files: their paths and lengths, and their roots and layers where there is a v2 side.
+pub fn made_torrents_are_valid()
+    ensures valid { (settings : Settings) (files : List File) → AreMade settings files → IsTorrentOf
+        (root_dictionary settings (facts_of_files settings.piece_length files) (pieces_of_files settings files))
+        (metainfo settings files) }
+    ensures view { (settings : Settings) (files : List File) → AreMade settings files →
+        IsViewOfMade settings files (view_of
+        (root_dictionary settings (facts_of_files settings.piece_length files) (pieces_of_files settings files))) }
 {}

@@ -1,6 +1,6 @@
 -- The proofs of the laws of src/laws.rt: what the crates above may cite of these proofs.
 use Rattle.std.proofs.Common.{◌≡◌, ◌+◌, ◌<◌, ◌≤◌, ◌≢◌, ◌^◌, ℕ, List, [], Less, None, Option, length, get_or, map, true}
-use Rattle.std.proofs.Common.{arith}
+use Rattle.std.proofs.Common.{arith, IfSome}
 use Rattle.std.specs.Cmp.{IsTotalOrder}
 use Rattle.std.specs.List.{All, AllZip}
 use Rattle.std.specs.List.Sorted.{IsPermutation, IsStrictlySortedBy}
@@ -23,7 +23,7 @@ use Rattle.tor_tree.proofs.ListFaults.{small_files}
 use Rattle.tor_tree.proofs.PathLists.{inside_after, path_order}
 use Rattle.tor_tree.proofs.OneTree.{one_tree}
 use Rattle.tor_tree.proofs.PlacedPaths.{moved_to_places}
-use Rattle.tor_tree.proofs.Readable.{all_named, path_named}
+use Rattle.tor_tree.proofs.Readable.{all_named, path_named, readable}
 use Rattle.tor_tree.proofs.ReadFiles.{read_paths, read_roots, rooted_by_place}
 use Rattle.tor_tree.proofs.RisingPaths.{paths_rise}
 
@@ -63,6 +63,14 @@ pub tree_of_list_is_lawful : (names : ℕ) (files : List (List (List ℕ) × ℕ
 tree_of_list_is_lawful names files roots lawful with_roots few =
     file_tree_is_lawful names files roots lawful.in_order (lists_have_names files lawful) with_roots
     (λ k d lt. omega (arith, files_are_small files lawful k d lt)) few
+
+pub tree_of_list_is_readable : (files : List (List (List ℕ) × ℕ)) (roots : List (Option (List ℕ)))
+    → IsFileList files → AllZip HasItsRoot files roots → All (λ root. IfSome root (λ bytes. length bytes ≡ 32)) roots
+    → tree_fault (file_tree files roots) ≡ None
+tree_of_list_is_readable files roots lawful with_roots hashed =
+    readable files roots (file_tree files roots)
+    (file_tree_of_list files roots lawful.in_order (lists_have_names files lawful) with_roots) lawful with_roots
+    (recursion_from_All _ roots hashed)
 
 pub paths_in_order : IsTotalOrder path_cmp
 paths_in_order = path_order

@@ -1,6 +1,6 @@
 //! Laws over the definitions alone.
 ghost use Rattle.std.specs.Prelude.{◌≡◌, ◌+◌, ◌<◌, ◌≤◌, ◌≢◌, ◌^◌, ℕ, All, List, [], None, true, Option, length, map};
-ghost use Rattle.std.specs.Prelude.{slice_index_or};
+ghost use Rattle.std.specs.Prelude.{IfSome, slice_index_or};
 ghost use Rattle.std.specs.Cmp.{IsTotalOrder};
 ghost use Rattle.std.specs.List.{AllZip};
 ghost use Rattle.std.specs.List.Sorted.{IsPermutation, IsStrictlySortedBy};
@@ -42,6 +42,13 @@ pub fn tree_of_list_is_lawful()
     ensures { (names : ℕ) (files : List (List (List ℕ) × ℕ)) (roots : List (Option (List ℕ))) → IsFileList files →
         AllZip HasItsRoot files roots → All (λ file. length file.0 ≤ names) files →
         IsLawfulWithin (names + 2) (file_tree files roots) }
+{}
+
+/// And it is a file tree without fault, where the roots have 32 bytes.
+pub fn tree_of_list_is_readable()
+    ensures { (files : List (List (List ℕ) × ℕ)) (roots : List (Option (List ℕ))) → IsFileList files →
+        AllZip HasItsRoot files roots → All (λ root. IfSome root (λ bytes. length bytes ≡ 32)) roots →
+        tree_fault (file_tree files roots) ≡ None }
 {}
 
 /// A name without fault is not empty, and so no name of a file's path is, or of a list's files.

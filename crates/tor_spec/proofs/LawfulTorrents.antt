@@ -1,0 +1,180 @@
+-- The dictionaries of a torrent are lawful trees.
+use Rattle.std.proofs.Common.{ℕ, ◌+◌, ◌<◌, ◌^◌, List, [], ◌∷◌, map, Option, None, Some}
+use Rattle.std.proofs.Common.{Bool, true, false, arith, rules, refl}
+use Rattle.std.specs.Prelude.{pos, codes, nat_le, not, ◌&&◌, option_map, unwrap_or, if◌then◌else◌}
+use Rattle.std.specs.List.{AllByRecursion}
+use Rattle.std.proofs.lemmas.List.Sums.{sum_by-cons}
+use Rattle.std.proofs.lemmas.List.Elements.{All-from_recursion}
+use Rattle.tor_bencode.specs.Data.{Data, integer, string, list, dictionary, Items, item}
+use Rattle.tor_bencode.specs.Data.{keys_of}
+use Rattle.tor_bencode.specs.Lawful.{IsLawful, IsLawfulWithin, ItemsAreLawfulWithin, PairsAreLawfulWithin, AreRising}
+use Rattle.tor_bencode.specs.View.{items_of}
+use Rattle.tor_spec.specs.Dictionary.{present, put, when}
+use Rattle.tor_spec.specs.Facts.{Facts, listed, roots_in}
+use Rattle.tor_spec.specs.FilesList.{entry_dictionary, files_list, strings}
+use Rattle.tor_spec.specs.InfoDictionary.{info_dictionary, total_size}
+use Rattle.tor_spec.specs.Makeable.{AreMakeable}
+use Rattle.tor_spec.specs.Metainfo.{root_dictionary}
+use Rattle.tor_spec.specs.PieceLayers.{joined, piece_layers}
+use Rattle.tor_spec.specs.Settings.{Settings, layout_of}
+use Rattle.tor_tree.specs.Kinds.{has_v1, has_v2}
+use Rattle.tor_spec.proofs.EntryLengths.{AreSmall, small_entries}
+use Rattle.tor_spec.proofs.Fields.{IfThere, dictionary_lawful, present_lawful, put_lawful, put_rising, when_there}
+use Rattle.tor_spec.proofs.Fields.{wider}
+use Rattle.tor_merkle.proofs.ProvedLaws.{piece_length_bounds}
+use Rattle.tor_tree.proofs.ProvedLaws.{file_tree_is_lawful}
+use Rattle.tor_tree.specs.WrittenTree.{file_tree}
+use Rattle.tor_v1.specs.Entries.{v1_entries}
+use Rattle.tor_v1.specs.declared.entry.Entry.{Entry}
+
+string_lawful : (n : ℕ) (bytes : List ℕ) → IsLawfulWithin n (string bytes)
+string_lawful n bytes = record { keys = tt; integers = tt; nesting = omega arith }
+
+number_lawful : (n k : ℕ) → k < 2 ^ 63 → IsLawfulWithin n (integer (pos k))
+number_lawful n k small = record { keys = tt; integers = search rules; nesting = omega arith }
+
+item_lawful : (n : ℕ) (d : Data) (items : Items) → IsLawfulWithin n d → ItemsAreLawfulWithin n items
+    → ItemsAreLawfulWithin n (item d items)
+item_lawful n d items h k = record {
+  keys = (h.keys, k.keys);
+  integers = (h.integers, k.integers);
+  nesting = omega (arith, h.nesting, k.nesting);
+}
+
+-- a list of lawful items
+abbrev AreLawful : ℕ → List Data → Type 0
+AreLawful n ds = AllByRecursion (IsLawfulWithin n) ds
+
+items_lawful : (n : ℕ) (ds : List Data) → AreLawful n ds → ItemsAreLawfulWithin n (items_of ds)
+items_lawful n [] h = record { keys = tt; integers = tt; nesting = omega arith }
+items_lawful n (d ∷ ds) h = item_lawful n d (items_of ds) h.0 (items_lawful n ds h.1)
+
+list_lawful : (n : ℕ) (ds : List Data) → AreLawful n ds → IsLawfulWithin (n + 1) (list (items_of ds))
+list_lawful n ds h =
+    let k = items_lawful n ds h in
+    record { keys = k.keys; integers = k.integers; nesting = omega (arith, k.nesting) }
+
+strings_lawful : (texts : List (List ℕ)) → IsLawfulWithin 1 (strings texts)
+strings_lawful texts = list_lawful 0 (map string texts) (each texts)
+  where
+    each : (ts : List (List ℕ)) → AreLawful 0 (map string ts)
+    each [] = tt
+    each (t ∷ ts) = (string_lawful 0 t, each ts)
+
+entry_lawful : (entry : Entry) → entry.length < 2 ^ 63 → IsLawfulWithin 2 (entry_dictionary entry)
+entry_lawful entry small =
+    let fields : List (List ℕ × Option Data) =
+    (codes "attr", when entry.pad (string (codes "p"))) ∷ (codes "length", Some (integer (pos entry.length)))
+    ∷ (codes "path", Some (strings entry.path)) ∷ [] in
+    present_lawful 1 fields (refl, (refl, tt)) (
+      when_there 1 entry.pad (string (codes "p")) (λ e. string_lawful 1 (codes "p")),
+      (number_lawful 1 entry.length small, (strings_lawful entry.path, tt)),
+    )
+
+files_list_lawful : (entries : List Entry) → AllByRecursion (λ entry. entry.length < 2 ^ 63) entries
+    → IsLawfulWithin 3 (files_list entries)
+files_list_lawful entries small = list_lawful 2 (map entry_dictionary entries) (each entries small)
+  where
+    each : (es : List Entry) → AllByRecursion (λ entry. entry.length < 2 ^ 63) es
+        → AreLawful 2 (map entry_dictionary es)
+    each [] h = tt
+    each (e ∷ es) h = (entry_lawful e h.0, each es h.1)
+
+layers_lawful : (piece_length : ℕ) (facts : List Facts)
+    → IsLawfulWithin 1 (dictionary (piece_layers piece_length facts))
+layers_lawful piece_length facts = dictionary_lawful 0 (piece_layers piece_length facts) (rising facts) (values facts)
+  where
+    rising : (fs : List Facts) → AreRising (keys_of (piece_layers piece_length fs))
+    rising [] = tt
+    rising (f ∷ fs) = by_size (nat_le f.size piece_length) (rising fs)
+      where
+        by_size : (b : Bool) → AreRising (keys_of (piece_layers piece_length fs))
+            → AreRising (keys_of (if b then piece_layers piece_length fs else put (unwrap_or f.root [])
+            (string (joined f.layer)) (piece_layers piece_length fs)))
+        by_size true h = h
+        by_size false h = put_rising _ _ (piece_layers piece_length fs) h
+
+    values : (fs : List Facts) → PairsAreLawfulWithin 0 (piece_layers piece_length fs)
+    values [] = record { keys = tt; integers = tt; nesting = omega arith }
+    values (f ∷ fs) = by_size (nat_le f.size piece_length) (values fs)
+      where
+        by_size : (b : Bool) → PairsAreLawfulWithin 0 (piece_layers piece_length fs)
+            → PairsAreLawfulWithin 0 (if b then piece_layers piece_length fs else put (unwrap_or f.root [])
+            (string (joined f.layer)) (piece_layers piece_length fs))
+        by_size true h = h
+        by_size false h = put_lawful 0 _ _ (piece_layers piece_length fs) (string_lawful 0 _) h
+
+small_files : (facts : List Facts) → total_size facts < 2 ^ 63 → AreSmall (listed facts)
+small_files [] small = tt
+small_files (f ∷ fs) small =
+    let both : f.size + total_size fs < 2 ^ 63 = rw (sum_by-cons (λ (file : Facts). file.size) f fs) at small in
+    (omega (arith, both), small_files fs (omega (arith, both)))
+
+info_lawful : (settings : Settings) (facts : List Facts) (pieces : List ℕ) → AreMakeable settings facts
+    → IsLawfulWithin 67 (info_dictionary settings facts pieces)
+info_lawful settings facts pieces made =
+    let bounds = (piece_length_bounds settings.piece_length).0 made.piece_length in
+    let small = small_files facts made.small in
+    let v1 = has_v1 settings.kind in
+    let v2 = has_v2 settings.kind in
+    let tree = file_tree (listed facts) (roots_in facts) in
+    let entries = v1_entries (layout_of settings) settings.piece_length (listed facts) in
+    let fields : List (List ℕ × Option Data) =
+    (codes "file tree", when v2 tree) ∷ (codes "files", when (v1 && not settings.single) (files_list entries))
+    ∷ (codes "length", when (v1 && settings.single) (integer (pos (total_size facts))))
+    ∷ (codes "meta version", when v2 (integer (pos 2)))
+    ∷ (codes "name", Some (string settings.name)) ∷ (codes "piece length", Some (integer (pos settings.piece_length)))
+    ∷ (codes "pieces", when v1 (string pieces)) ∷ (codes "private", when settings.is_private (integer (pos 1))) ∷ [] in
+    present_lawful 66 fields (refl, (refl, (refl, (refl, (refl, (refl, (refl, tt))))))) (
+      when_there 66 v2 tree (λ e. file_tree_is_lawful 64 (listed facts) (roots_in facts) made.in_order made.named
+          (made.rooted e) (All-from_recursion _ (listed facts) small) made.short),
+      (
+        when_there 66 (v1 && not settings.single) (files_list entries) (λ e. wider 3 66 (files_list entries)
+            (omega arith) (files_list_lawful entries (small_entries (layout_of settings) settings.piece_length
+            (listed facts) (omega (arith, bounds)) (omega (arith, bounds)) small))),
+        (
+          when_there 66 (v1 && settings.single) (integer (pos (total_size facts)))
+              (λ e. number_lawful 66 (total_size facts) made.small),
+          (
+            when_there 66 v2 (integer (pos 2)) (λ e. number_lawful 66 2 (omega arith)),
+            (
+              string_lawful 66 settings.name,
+              (
+                number_lawful 66 settings.piece_length (omega (arith, bounds)),
+                (
+                  when_there 66 v1 (string pieces) (λ e. string_lawful 66 pieces),
+                  (
+                    when_there 66 settings.is_private (integer (pos 1)) (λ e. number_lawful 66 1 (omega arith)),
+                    tt,
+                  ),
+                ),
+              ),
+            ),
+          ),
+        ),
+      ),
+    )
+
+announced : (url : Option (List ℕ)) → IfThere 67 (option_map string url)
+announced None = tt
+announced (Some url) = string_lawful 67 url
+
+pub torrents_are_lawful : (settings : Settings) (facts : List Facts) (pieces : List ℕ) → AreMakeable settings facts
+    → IsLawful (root_dictionary settings facts pieces)
+torrents_are_lawful settings facts pieces made =
+    let v2 = has_v2 settings.kind in
+    let info = info_dictionary settings facts pieces in
+    let layers = dictionary (piece_layers settings.piece_length facts) in
+    let fields : List (List ℕ × Option Data) =
+    (codes "announce", option_map string settings.announce) ∷ (codes "info", Some info)
+    ∷ (codes "piece layers", when v2 layers) ∷ [] in
+    wider 68 100 (dictionary (present fields)) (omega arith) (present_lawful 67 fields (refl, (refl, tt)) (
+      announced settings.announce,
+      (
+        info_lawful settings facts pieces made,
+        (
+          when_there 67 v2 layers (λ e. wider 1 67 layers (omega arith) (layers_lawful settings.piece_length facts)),
+          tt,
+        ),
+      ),
+    ))

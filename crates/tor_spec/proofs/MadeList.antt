@@ -1,0 +1,132 @@
+-- No condition of the v1 side holds of a made torrent.
+use Rattle.std.proofs.Common.{◌≡◌, ℕ, pos, ◌==◌, Bool, true, false, true≢false, not, List, [], ◌∷◌, map, length, refl}
+use Rattle.std.proofs.Common.{ap, ap₂, ◌∙◌, codes, None, Some}
+use Rattle.std.proofs.lemmas.Bool.{eq-eqb, or_from}
+use Rattle.std.proofs.lemmas.List.Elements.{recursion_from_All}
+use Rattle.std.specs.Int.{div_ceil}
+use Rattle.std.specs.List.{AllByRecursion, list_any}
+use Rattle.tor_bencode.specs.Data.{Data, integer, string}
+use Rattle.tor_bencode.specs.Find.{value_of}
+use Rattle.tor_spec.specs.Dictionary.{when}
+use Rattle.tor_spec.specs.Facts.{File}
+use Rattle.tor_spec.specs.FilesList.{entry_dictionary, files_list}
+use Rattle.tor_spec.specs.Made.{AreMade, sizes_of}
+use Rattle.tor_spec.specs.Metainfo.{facts_of_files, pieces_of_files}
+use Rattle.tor_spec.specs.Settings.{Settings, layout_of}
+use Rattle.tor_spec.specs.valid.ListSide as lists
+use Rattle.tor_spec.specs.valid.ListSide.{ListedFile, described, is_no_entry, is_no_sums, joined_size, listed_paths}
+use Rattle.tor_spec.specs.valid.ListSide.{side_piece_count}
+use Rattle.tor_spec.specs.valid.Parts.{piece_length_of}
+use Rattle.tor_spec.proofs.MadeHeads.{IsInfo, piece_length_told}
+use Rattle.tor_spec.proofs.MadeListClear.{is_clear, plain_paths, same_count}
+use Rattle.tor_spec.proofs.MadeListEntries.{each_entry, items_back}
+use Rattle.tor_spec.proofs.MadeListPieces.{made_pieces}
+use Rattle.tor_spec.proofs.MadeListShape.{HasPath, are_entries, no_link, no_negative, positive_entries}
+use Rattle.tor_spec.proofs.MadeListSide.{files_value, made_listed, made_side, no_files, size_value}
+use Rattle.tor_spec.proofs.MadeListSizes.{joined_entries, size_of_entries, small_side}
+use Rattle.tor_tree.specs.FileList.{IsFileList, paths_nest, paths_of, paths_repeat}
+use Rattle.tor_tree.specs.Kinds.{has_v1}
+use Rattle.tor_tree.specs.Path.{IsFilePath}
+use Rattle.tor_tree.specs.Properties.{as_string, has_letter, has_negative_length, letter_l}
+use Rattle.tor_v1.specs.Entries.{file_entry, v1_entries}
+use Rattle.tor_v1.specs.declared.entry.Entry.{Entry}
+use Rattle.tor_v1.specs.declared.layout.Layout.{Layout}
+
+abbrev Files : Type 0
+Files = List (List (List ℕ) × ℕ)
+
+named_files : (files : Files) → AllByRecursion (λ file. IsFilePath file.0) files
+    → AllByRecursion (λ file. HasPath (file_entry file)) files
+named_files [] h = tt
+named_files (file ∷ files) h = ((λ e. h.0), named_files files h.1)
+
+named_entries : (layout : Layout) (p : ℕ) (files : Files) → IsFileList files
+    → AllByRecursion HasPath (v1_entries layout p files)
+named_entries layout p files lawful =
+    each_entry HasPath p (λ m e. absurd (true≢false e)) layout files
+    (named_files files (recursion_from_All (λ (file : List (List ℕ) × ℕ). IsFilePath file.0) files lawful.named))
+
+-- no condition of the v1 side holds
+pub record ListIsValid (info : Data) : Type 0 where
+  pub shape : lists.list_shape info ≡ false
+  pub lengths : lists.list_length info ≡ false
+  pub once : lists.list_duplicate info ≡ false
+  pub flat : lists.list_file_and_folder info ≡ false
+  pub some : lists.list_no_files info ≡ false
+  pub small : lists.list_too_large info ≡ false
+  pub link : lists.list_symlink info ≡ false
+  pub sums : lists.list_pieces info ≡ false
+
+-- those of the dictionaries that have a `length`
+record AreDescribed (info : Data) : Type 0 where
+  shape : lists.list_shape info ≡ false
+  lengths : lists.list_length info ≡ false
+  link : lists.list_symlink info ≡ false
+
+entries_described : (info : Data) (entries : List Entry) → value_of (codes "files") info ≡ Some (files_list entries)
+    → AllByRecursion HasPath entries → AreDescribed info
+entries_described info entries is named =
+    let items = items_back (map entry_dictionary entries) in
+    let all : described info ≡ map entry_dictionary entries = rw is items in
+    record {
+      shape = rw is (ap (list_any is_no_entry) items ∙ are_entries entries named);
+      lengths = ap (list_any has_negative_length) all ∙ positive_entries entries;
+      link = ap (list_any (has_letter letter_l)) all ∙ no_link entries;
+    }
+
+file_described : (info : Data) (n : ℕ) → value_of (codes "files") info ≡ None
+    → value_of (codes "length") info ≡ Some (integer (pos n)) → value_of (codes "attr") info ≡ None
+    → AreDescribed info
+file_described info n none size attr =
+    let all : described info ≡ info ∷ [] = rw none refl in
+    let positive : has_negative_length info ≡ false = rw size (no_negative n) in
+    let no_letter : has_letter letter_l info ≡ false = rw attr refl in
+    record {
+      shape = rw (none, size, attr) refl;
+      lengths = ap (list_any has_negative_length) all ∙ or_from _ _ positive refl;
+      link = ap (list_any (has_letter letter_l)) all ∙ or_from _ _ no_letter refl;
+    }
+
+module _ (settings : Settings) (files : List File) (info : Data)
+    (is : IsInfo settings (facts_of_files settings.piece_length files) (pieces_of_files settings files) info)
+    (made : AreMade settings files) (v1 : has_v1 settings.kind ≡ true) where
+  abbrev entries : List Entry
+  entries = v1_entries (layout_of settings) settings.piece_length (sizes_of files)
+
+  made_described : (single : Bool) → settings.single ≡ single → AreDescribed info
+  made_described true e =
+      file_described info _ (no_files settings files _ info is made v1 e)
+      (size_value settings files _ info is made v1 e) is.attr
+  made_described false e =
+      entries_described info entries (files_value settings files _ info is made v1 e)
+      (named_entries (layout_of settings) settings.piece_length (sizes_of files) made.list)
+
+  made_sums : lists.list_pieces info ≡ false
+  made_sums =
+      let side = made_side settings files (pieces_of_files settings files) info is made v1 in
+      let long : piece_length_of info ≡ settings.piece_length = piece_length_told settings _ _ info is in
+      let count : side_piece_count info ≡ div_ceil (size_of_entries entries) settings.piece_length =
+      ap₂ div_ceil (ap joined_size side ∙ joined_entries entries) long in
+      let sums : value_of (codes "pieces") info ≡ Some (string (pieces_of_files settings files)) =
+      is.sums ∙ ap (λ there. when there (string (pieces_of_files settings files))) v1 in
+      ap₂ (λ n value. is_no_sums n (as_string value)) count sums ∙ ap not (eq-eqb _ _ (made_pieces settings files))
+
+  pub made_list : ListIsValid info
+  made_list =
+      let clear = is_clear (sizes_of files) made.list.faultless in
+      let described = made_described settings.single refl in
+      let listed = made_listed settings files (pieces_of_files settings files) info is made v1 in
+      let paths : listed_paths info ≡ paths_of (sizes_of files) =
+      ap (map (λ (file : ListedFile). file.path)) listed ∙ plain_paths (sizes_of files) in
+      record {
+        shape = described.shape;
+        lengths = described.lengths;
+        once = ap paths_repeat paths ∙ clear.once;
+        flat = ap paths_nest paths ∙ clear.flat;
+        some = ap (λ (side : List ListedFile). length side == 0) listed
+            ∙ ap (λ (n : ℕ). n == 0) (same_count (sizes_of files)) ∙ clear.some;
+        small = ap lists.sizes_too_large (made_side settings files (pieces_of_files settings files) info is made v1)
+            ∙ small_side (layout_of settings) settings.piece_length (sizes_of files) made.piece_length made.list clear;
+        link = described.link;
+        sums = made_sums;
+      }

@@ -1,0 +1,116 @@
+-- Entries read back from the dictionaries that the maker makes of them.
+use Rattle.std.proofs.Common.{◌≡◌, ℕ, Bool, true, false, List, [], ◌∷◌, ◌++◌, map, refl, ap, ap₂, ◌∙◌, codes}
+use Rattle.std.proofs.Common.{Option, None, Some, is_some, unwrap_or}
+use Rattle.std.specs.Prelude.{◌&&◌, nat_lt, if◌then◌else◌}
+use Rattle.std.specs.List.{AllByRecursion}
+use Rattle.tor_bencode.specs.Data.{Data, dictionary, no_pairs}
+use Rattle.tor_bencode.specs.Find.{value_of}
+use Rattle.tor_bencode.specs.View.{items_of}
+use Rattle.tor_spec.specs.FilesList.{entry_dictionary, files_list, strings}
+use Rattle.tor_spec.specs.valid.ListSide.{ListedFile, entry_file, names_of, side_files, single_file, without_padding}
+use Rattle.tor_spec.specs.valid.Parts.{items_in, items_of_list}
+use Rattle.tor_v1.specs.Entries.{aligned_entries, file_entry, has_bytes, pad_entry, padding_length}
+use Rattle.tor_v1.specs.Entries.{v1_entries}
+use Rattle.tor_v1.specs.declared.entry.Entry.{Entry}
+use Rattle.tor_v1.specs.declared.layout.Layout.{Layout}
+use Rattle.tor_v1.specs.declared.layout.Layout.TheVariants.{Joined, Aligned}
+
+-- a file without letters
+abbrev pub plain : List (List ℕ) × ℕ → ListedFile
+plain file = record { path = file.0; size = file.1; pad = false; exec = false; hidden = false }
+
+-- what the v1 side says of an entry
+abbrev pub listed_of : Entry → ListedFile
+listed_of entry = record {
+  path = if entry.pad then [] else entry.path;
+  size = entry.length;
+  pad = entry.pad;
+  exec = false;
+  hidden = false;
+}
+
+pub items_back : (ds : List Data) → items_in (items_of ds) ≡ ds
+items_back [] = refl
+items_back (d ∷ ds) = ap (λ xs. d ∷ xs) (items_back ds)
+
+names_back : (names : List (List ℕ)) → names_of (strings names) ≡ names
+names_back [] = refl
+names_back (name ∷ names) = ap (λ xs. name ∷ xs) (names_back names)
+
+read_entry : (pad : Bool) (path : List (List ℕ)) (n : ℕ)
+    → entry_file (entry_dictionary (record { path = path; length = n; pad = pad }))
+    ≡ listed_of (record { path = path; length = n; pad = pad })
+read_entry true path n = refl
+read_entry false path n = ap (λ names. plain (names, n)) (names_back path)
+
+read_entries : (entries : List Entry) → map entry_file (map entry_dictionary entries) ≡ map listed_of entries
+read_entries [] = refl
+read_entries (entry ∷ entries) =
+    ap₂ (λ x xs. x ∷ xs) (read_entry entry.pad entry.path entry.length) (read_entries entries)
+
+abbrev side_at : Data → Option Data → List ListedFile
+side_at info files =
+    if is_some files then map entry_file (items_of_list (unwrap_or files (dictionary no_pairs)))
+    else single_file info ∷ []
+
+-- all files of a side with `files`
+pub side_of_list : (info : Data) (entries : List Entry) → value_of (codes "files") info ≡ Some (files_list entries)
+    → side_files info ≡ map listed_of entries
+side_of_list info entries is =
+    ap (side_at info) is ∙ ap (map entry_file) (items_back (map entry_dictionary entries)) ∙ read_entries entries
+
+-- a side without `files` has one file
+pub side_of_one : (info : Data) → value_of (codes "files") info ≡ None → side_files info ≡ single_file info ∷ []
+side_of_one info is = ap (side_at info) is
+
+-- the files in order, where padding is left out
+files_joined : (files : List (List (List ℕ) × ℕ))
+    → without_padding (map listed_of (map file_entry files)) ≡ map plain files
+files_joined [] = refl
+files_joined (file ∷ files) = ap (λ xs. plain file ∷ xs) (files_joined files)
+
+no_padding : (b : Bool) (n : ℕ) (entries : List Entry)
+    → without_padding (map listed_of ((if b then pad_entry n ∷ [] else []) ++ entries))
+    ≡ without_padding (map listed_of entries)
+no_padding true n entries = refl
+no_padding false n entries = refl
+
+files_aligned : (p : ℕ) (files : List (List (List ℕ) × ℕ))
+    → without_padding (map listed_of (aligned_entries p files)) ≡ map plain files
+unfolding aligned_entries
+files_aligned p [] = refl
+files_aligned p (file ∷ files) =
+    ap (λ xs. plain file ∷ xs) (no_padding (nat_lt 0 (padding_length p file.1) && has_bytes files)
+    (padding_length p file.1) (aligned_entries p files) ∙ files_aligned p files)
+
+pub files_of_entries : (layout : Layout) (p : ℕ) (files : List (List (List ℕ) × ℕ))
+    → without_padding (map listed_of (v1_entries layout p files)) ≡ map plain files
+files_of_entries Joined p files = files_joined files
+files_of_entries Aligned p files = files_aligned p files
+
+-- what holds of the entry of each file, and of all padding, holds of each entry
+module _ (P : Entry → Type 0) (p : ℕ) (pads : (m : ℕ) → P (pad_entry (padding_length p m))) where
+  all_joined : (files : List (List (List ℕ) × ℕ)) → AllByRecursion (λ file. P (file_entry file)) files
+      → AllByRecursion P (map file_entry files)
+  all_joined [] h = tt
+  all_joined (file ∷ files) h = (h.0, all_joined files h.1)
+
+  all_after : (b : Bool) (m : ℕ) (entries : List Entry) → AllByRecursion P entries
+      → AllByRecursion P ((if b then pad_entry (padding_length p m) ∷ [] else []) ++ entries)
+  all_after true m entries h = (pads m, h)
+  all_after false m entries h = h
+
+  all_aligned : (files : List (List (List ℕ) × ℕ)) → AllByRecursion (λ file. P (file_entry file)) files
+      → AllByRecursion P (aligned_entries p files)
+  unfolding aligned_entries
+  all_aligned [] h = tt
+  all_aligned (file ∷ files) h = (
+    h.0,
+    all_after (nat_lt 0 (padding_length p file.1) && has_bytes files) file.1 (aligned_entries p files)
+        (all_aligned files h.1),
+  )
+
+  pub each_entry : (layout : Layout) (files : List (List (List ℕ) × ℕ))
+      → AllByRecursion (λ file. P (file_entry file)) files → AllByRecursion P (v1_entries layout p files)
+  each_entry Joined files h = all_joined files h
+  each_entry Aligned files h = all_aligned files h

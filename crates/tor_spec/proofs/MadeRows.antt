@@ -1,0 +1,80 @@
+-- The premise of the law on made torrents holds of worked settings and files.
+use Rattle.std.proofs.Common.{◌≡◌, ℕ, ◌<◌, ◌≤◌, Bool, true, false, List, [], ◌∷◌, length, None, refl}
+use Rattle.std.proofs.Common.{codes, arith}
+use Rattle.std.specs.List.{AllByRecursion, Contains}
+use Rattle.std.specs.List.Sorted.{IsStrictlySortedBy}
+use Rattle.std.specs.Str.{is_utf8, chars}
+use Rattle.std.proofs.lemmas.List.Elements.{All-contains, All-from_recursion}
+use lib.Utf8.{encode}
+use lib.Count.{ones}
+use Rattle.tor_spec.specs.Facts.{File}
+use Rattle.tor_spec.specs.Made.{AreMade, sizes_of}
+use Rattle.tor_spec.specs.Settings.{Settings}
+use Rattle.tor_tree.specs.Name.{name_fault}
+use Rattle.tor_tree.specs.Path.{IsFilePath}
+use Rattle.tor_tree.specs.declared.kinds.Kind.{Kind}
+
+-- the torrent named a, of pieces of 16,384 bytes
+abbrev settings_of : Kind → Bool → Settings
+settings_of kind single = record {
+  kind = kind;
+  single = single;
+  name = codes "a";
+  piece_length = 16384;
+  announce = None;
+  is_private = false;
+}
+
+-- the one file a; a file in a folder, and a file after it
+abbrev one_file : List File
+one_file = record { path = codes "a" ∷ []; content = codes "abc" } ∷ []
+
+abbrev two_files : List File
+two_files =
+    record { path = codes "b" ∷ codes "c" ∷ []; content = codes "abc" } ∷
+    record { path = codes "d" ∷ []; content = [] } ∷ []
+
+some_names : (names : List (List ℕ)) (name : List ℕ) → AllByRecursion (λ n. name_fault n ≡ None) (name ∷ names)
+    → IsFilePath (name ∷ names)
+some_names names name faultless = record { some = λ e. cc; named = All-from_recursion _ (name ∷ names) faultless }
+
+-- no file is longer than a piece
+all_short : (files : List File) → AllByRecursion (λ file. length file.content ≤ 16384) files → (file : File)
+    → Contains files file → 16384 < length file.content → ⊥
+all_short files short file in_files long =
+    let small : length file.content ≤ 16384 =
+    All-contains (λ (f : File). length f.content ≤ 16384) files file (All-from_recursion _ files short) in_files in
+    omega (arith, small, long)
+
+one_made : (kind : Kind) → AreMade (settings_of kind true) one_file
+unfolding is_utf8 chars encode ones IsStrictlySortedBy
+one_made kind = record {
+  piece_length = refl;
+  name = refl;
+  list = record {
+    faultless = refl;
+    in_order = (tt, tt);
+    named = All-from_recursion (λ (file : List (List ℕ) × ℕ). IsFilePath file.0) (sizes_of one_file)
+        (some_names [] (codes "a") (refl, tt), tt);
+  };
+  short = All-from_recursion (λ (file : File). length file.path ≤ 64) one_file (omega arith, tt);
+  single = λ e. refl;
+  layers = λ one other in_one in_other long more same. absurd (all_short one_file (omega arith, tt) one in_one long);
+}
+
+two_made : (kind : Kind) → AreMade (settings_of kind false) two_files
+unfolding is_utf8 chars encode ones IsStrictlySortedBy
+two_made kind = record {
+  piece_length = refl;
+  name = refl;
+  list = record {
+    faultless = refl;
+    in_order = ((refl, tt), (tt, tt));
+    named = All-from_recursion (λ (file : List (List ℕ) × ℕ). IsFilePath file.0) (sizes_of two_files)
+        (some_names (codes "c" ∷ []) (codes "b") (refl, (refl, tt)), (some_names [] (codes "d") (refl, tt), tt));
+  };
+  short = All-from_recursion (λ (file : File). length file.path ≤ 64) two_files (omega arith, (omega arith, tt));
+  single = λ e. cc;
+  layers = λ one other in_one in_other long more same.
+      absurd (all_short two_files (omega arith, (omega arith, tt)) one in_one long);
+}

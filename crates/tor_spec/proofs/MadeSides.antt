@@ -1,0 +1,113 @@
+-- The sides of a made hybrid agree.
+use Rattle.std.proofs.Common.{◌≡◌, ℕ, ◌==◌, Bool, true, false, not, ◌&&◌, ◌||◌, List, [], ◌∷◌, map, length, arith, refl}
+use Rattle.std.proofs.Common.{ap, ap₂, ◌∙◌, Option}
+use Rattle.std.proofs.lemmas.Bool.{and_from, and_right, eq-eqb, or_from}
+use Rattle.std.proofs.lemmas.Cmp.{lists_equiv, nat_list_eq_equiv}
+use Rattle.std.specs.Prelude.{nat_lt, if◌then◌else◌}
+use Rattle.tor_bencode.specs.Data.{Data}
+use Rattle.tor_spec.specs.Facts.{File}
+use Rattle.tor_spec.specs.Made.{AreMade, sizes_of}
+use Rattle.tor_spec.specs.Metainfo.{facts_of_files}
+use Rattle.tor_spec.specs.Settings.{Settings, is_aligned, layout_of}
+use Rattle.tor_spec.specs.valid.ListSide.{ListedFile}
+use Rattle.tor_spec.specs.valid.SidesAgree.{SidesAgree, alignment, files_differ, has_wrong_tail, is_misaligned_after}
+use Rattle.tor_spec.specs.valid.SidesAgree.{last_size, listed_by_list, listed_by_tree, same_files}
+use Rattle.tor_spec.specs.valid.TreeSide.{tree_files}
+use Rattle.tor_spec.proofs.MadeHeads.{IsInfo, piece_length_told, plain_file}
+use Rattle.tor_spec.proofs.MadeListEntries.{listed_of, plain}
+use Rattle.tor_spec.proofs.MadeListSide.{layout_of_one, made_listed, made_side}
+use Rattle.tor_spec.proofs.MadeSidesPlaces.{all_aligned, right_tail, size_of_last}
+use Rattle.tor_tree.specs.Kinds.{has_v1}
+use Rattle.tor_tree.specs.Path.{path_eq}
+use Rattle.tor_tree.specs.TidyTree.{plain_files}
+use Rattle.tor_tree.specs.declared.kinds.Kind.TheVariants.{Hybrid}
+use Rattle.tor_tree.specs.declared.tree_file.TreeFile.{TreeFile}
+use Rattle.tor_v1.specs.Entries.{padding_length, v1_entries}
+use Rattle.tor_v1.specs.declared.layout.Layout.TheVariants.{Joined, Aligned}
+
+abbrev Files : Type 0
+Files = List (List (List ℕ) × ℕ)
+
+plain_back : (files : Files) → map (λ (file : ListedFile). (file.path, file.size)) (map plain files) ≡ files
+plain_back [] = refl
+plain_back (file ∷ files) = ap (λ more. file ∷ more) (plain_back files)
+
+tree_back : (files : Files) (roots : List (Option (List ℕ))) → length roots ≡ length files
+    → map (λ (file : TreeFile). (file.path, file.length)) (plain_files files roots) ≡ files
+tree_back [] roots e = refl
+tree_back (file ∷ files) [] e = absurd (omega (arith, e))
+tree_back (file ∷ files) (root ∷ roots) e = ap (λ more. file ∷ more) (tree_back files roots (omega (arith, e)))
+
+tree_sizes : (files : List File)
+    → map (λ (file : TreeFile). (file.path, file.length)) (map plain_file files) ≡ sizes_of files
+tree_sizes [] = refl
+tree_sizes (file ∷ files) = ap (λ more. (file.path, length file.content) ∷ more) (tree_sizes files)
+
+same_as_itself : (files : Files) → same_files files files ≡ true
+same_as_itself [] = refl
+same_as_itself (file ∷ files) =
+    and_from _ _
+    (and_from (path_eq file.0 file.0) _ ((lists_equiv nat_list_eq_equiv).refl file.0) (eq-eqb file.1 file.1 refl))
+    (same_as_itself files)
+
+-- the files of a list of the v1 side begin where they are to, and its padding ends so
+abbrev ArePlaced : ℕ → List ListedFile → Type 0
+ArePlaced p side = (is_misaligned_after p [] side || has_wrong_tail p side) ≡ false
+
+one_placed : (p : ℕ) (files : List File) (name : List ℕ) → map (λ (file : File). file.path) files ≡ (name ∷ []) ∷ []
+    → ArePlaced p (map listed_of (v1_entries Joined p (sizes_of files)))
+one_placed p [] name paths = cc
+one_placed p (file ∷ []) name paths =
+    let n = length file.content in
+    or_from _ _ (or_from (nat_lt 0 n && false) false (and_right (nat_lt 0 n) false refl) refl)
+    (ap (λ tail. not (tail == 0 || tail == padding_length p (last_size (plain (file.path, n) ∷ []))))
+    (size_of_last n 0 refl))
+one_placed p (file ∷ more ∷ files) name paths = cc
+
+module _ (settings : Settings) (files : List File) (pieces : List ℕ) (info : Data)
+    (is : IsInfo settings (facts_of_files settings.piece_length files) pieces info) (made : AreMade settings files)
+    (hybrid : settings.kind ≡ Hybrid) where
+  placed : (single : Bool) → settings.single ≡ single
+      → ArePlaced settings.piece_length
+      (map listed_of (v1_entries (layout_of settings) settings.piece_length (sizes_of files)))
+  placed true e =
+      ap (λ layout. is_misaligned_after settings.piece_length []
+      (map listed_of (v1_entries layout settings.piece_length (sizes_of files)))
+      || has_wrong_tail settings.piece_length
+      (map listed_of (v1_entries layout settings.piece_length (sizes_of files)))) (layout_of_one settings e)
+      ∙ one_placed settings.piece_length files settings.name (made.single e)
+  placed false e =
+      let aligned : layout_of settings ≡ Aligned =
+      ap₂ (λ kind single. if is_aligned kind single then Aligned else Joined) hybrid e in
+      ap (λ layout. is_misaligned_after settings.piece_length []
+      (map listed_of (v1_entries layout settings.piece_length (sizes_of files)))
+      || has_wrong_tail settings.piece_length
+      (map listed_of (v1_entries layout settings.piece_length (sizes_of files)))) aligned
+      ∙ or_from _ _ (all_aligned settings.piece_length (sizes_of files) [] (λ some. refl))
+      (right_tail settings.piece_length (sizes_of files))
+
+  made_places : alignment info ≡ false
+  made_places =
+      ap₂ (λ p side. is_misaligned_after p [] side || has_wrong_tail p side)
+      (piece_length_told settings _ pieces info is) (made_side settings files pieces info is made (ap has_v1 hybrid))
+      ∙ placed settings.single refl
+
+  made_files : listed_by_tree info ≡ sizes_of files → files_differ info ≡ false
+  made_files tree =
+      let list : listed_by_list info ≡ sizes_of files =
+      ap (map (λ (file : ListedFile). (file.path, file.size)))
+      (made_listed settings files pieces info is made (ap has_v1 hybrid)) ∙ plain_back (sizes_of files) in
+      ap₂ (λ one other. not (same_files one other)) list tree ∙ ap not (same_as_itself (sizes_of files))
+
+  -- where the tree has the files
+  pub made_sides : listed_by_tree info ≡ sizes_of files → SidesAgree info
+  made_sides tree = record { files = made_files tree; places = made_places }
+
+  pub made_sides_of_roots : (roots : List (Option (List ℕ))) → length roots ≡ length (sizes_of files)
+      → tree_files info ≡ plain_files (sizes_of files) roots → SidesAgree info
+  made_sides_of_roots roots long tree =
+      made_sides (ap (map (λ (file : TreeFile). (file.path, file.length))) tree ∙ tree_back (sizes_of files) roots long)
+
+  pub made_sides_of_tree : tree_files info ≡ map plain_file files → SidesAgree info
+  made_sides_of_tree tree =
+      made_sides (ap (map (λ (file : TreeFile). (file.path, file.length))) tree ∙ tree_sizes files)
