@@ -7,7 +7,7 @@ use Rattle.std.specs.List.Sorted.{IsPermutation, IsStrictlySortedBy}
 use Rattle.std.proofs.lemmas.List.Elements.{All-from_recursion, recursion_from_All}
 use Rattle.tor_bencode.specs.Data.{Data}
 use Rattle.tor_bencode.specs.Lawful.{HasRisingKeys, IsLawfulWithin}
-use Rattle.tor_tree.specs.FileList.{IsFileList, IsInPathOrder, is_inside}
+use Rattle.tor_tree.specs.FileList.{IsFileList, IsInPathOrder, is_inside, lengths_fault, paths_fault}
 use Rattle.tor_tree.specs.FileTree.{files_of_tree, tree_fault}
 use Rattle.tor_tree.specs.Name.{name_fault}
 use Rattle.tor_tree.specs.Path.{HasNames, IsFilePath, path_cmp}
@@ -22,6 +22,7 @@ use Rattle.tor_tree.proofs.LawfulTree.{lawful_tree}
 use Rattle.tor_tree.proofs.ListFaults.{small_files}
 use Rattle.tor_tree.proofs.PathLists.{inside_after, path_order}
 use Rattle.tor_tree.proofs.OneTree.{one_tree}
+use Rattle.tor_tree.proofs.Permuted.{lengths_fault-permutation, paths_fault-permutation}
 use Rattle.tor_tree.proofs.PlacedPaths.{moved_to_places}
 use Rattle.tor_tree.proofs.Readable.{all_named, path_named, readable}
 use Rattle.tor_tree.proofs.ReadFiles.{read_paths, read_roots, rooted_by_place}
@@ -56,6 +57,14 @@ lists_have_names files lawful =
 
 pub files_are_small : (files : List (List (List ℕ) × ℕ)) → IsFileList files → All (λ file. file.1 ≤ MAX_LENGTH) files
 files_are_small files lawful = small_files files lawful.faultless
+
+pub paths_in_any_order : (paths others : List (List (List ℕ))) → IsPermutation paths others
+    → paths_fault paths ≡ paths_fault others
+paths_in_any_order = paths_fault-permutation
+
+pub lengths_in_any_order : (lengths others : List ℕ) → IsPermutation lengths others
+    → lengths_fault lengths ≡ lengths_fault others
+lengths_in_any_order = lengths_fault-permutation
 
 pub tree_of_list_is_lawful : (names : ℕ) (files : List (List (List ℕ) × ℕ)) (roots : List (Option (List ℕ)))
     → IsFileList files → AllZip HasItsRoot files roots → All (λ file. length file.0 ≤ names) files

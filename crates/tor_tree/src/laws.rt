@@ -7,7 +7,7 @@ ghost use Rattle.std.specs.List.Sorted.{IsPermutation, IsStrictlySortedBy};
 ghost use Rattle.std.specs.declared.cmp.Ordering.TheVariants.{Less};
 ghost use Rattle.tor_bencode.specs.Data.{Data};
 ghost use Rattle.tor_bencode.specs.Lawful.{HasRisingKeys, IsLawfulWithin};
-ghost use Rattle.tor_tree.specs.FileList.{IsFileList, IsInPathOrder, is_inside};
+ghost use Rattle.tor_tree.specs.FileList.{IsFileList, IsInPathOrder, is_inside, lengths_fault, paths_fault};
 ghost use Rattle.tor_tree.specs.FileTree.{files_of_tree, tree_fault};
 ghost use Rattle.tor_tree.specs.Name.{name_fault};
 ghost use Rattle.tor_tree.specs.Path.{HasNames, IsFilePath, path_cmp};
@@ -61,6 +61,14 @@ pub fn paths_have_names()
 /// No file of a list is too long.
 pub fn files_are_small()
     ensures { (files : List (List (List ℕ) × ℕ)) → IsFileList files → All (λ file. file.1 ≤ MAX_LENGTH) files }
+{}
+
+/// Paths have the same fault in every order, and so have lengths.
+pub fn faults_in_any_order()
+    ensures paths { (paths others : List (List (List ℕ))) → IsPermutation paths others →
+        paths_fault paths ≡ paths_fault others }
+    ensures lengths { (lengths others : List ℕ) → IsPermutation lengths others →
+        lengths_fault lengths ≡ lengths_fault others }
 {}
 
 /// Paths are in a total order, in which a folder comes before all that is inside it.
