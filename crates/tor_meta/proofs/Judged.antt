@@ -31,7 +31,7 @@ pub allowed : (b : Bool) → not b ≡ false → b ≡ true
 allowed true h = refl
 allowed false h = cc
 
-second_of : (a b : Bool) → (a && b) ≡ false → a ≡ true → b ≡ false
+pub second_of : (a b : Bool) → (a && b) ≡ false → a ≡ true → b ≡ false
 second_of true b h e = h
 second_of false b h e = cc
 

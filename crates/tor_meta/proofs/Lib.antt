@@ -14,3 +14,5 @@ pub mod ByteFaults
 pub mod SourceFaults
 pub mod Made
 pub mod InfoThere
+pub mod MadeIsValid
+pub mod ProvedLaws

@@ -11,6 +11,7 @@
 //! - `sums.rt`: the Merkle trees and the SHA-1 of the pieces, as far as a kind asks for them.
 //! - `torrent.rt`: from files and sums to bytes, by `info.rt`, `layers.rt` and `items.rt`.
 //! - [`Hashes`], [`info_hashes`], [`magnet`] (`hashes.rt`); [`write_out`] (`output.rt`): all bytes into a writer.
+//! - [`laws`] (`laws.rt`): what is made is valid, and the limits of an order.
 //!
 //! ```rust
 //! use tor_meta::{Head, make_contents};
@@ -33,6 +34,7 @@ mod head;
 mod info;
 mod items;
 mod judge;
+pub mod laws;
 mod layers;
 mod listed_files;
 mod make_error;
