@@ -7,3 +7,4 @@ pub mod View
 pub mod Fault
 pub mod Place
 pub mod steps
+pub mod RisingProp

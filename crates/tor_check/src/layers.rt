@@ -1,9 +1,7 @@
 //! The piece layers of a torrent (BEP 52, "piece layers"), judged.
-ghost use Rattle.std.specs.Prelude.{◌≡◌, ◌≤◌, ◌<◌, [], false, All, codes, option_map, unwrap_or};
+ghost use Rattle.std.specs.Prelude.{◌≡◌, ◌≤◌, ◌<◌, [], false, All, option_map, unwrap_or};
 ghost use Rattle.std.specs.List.{list_any};
-ghost use Rattle.std.specs.Option.{ForSome, option_copied};
-ghost use Rattle.tor_bencode.specs.Find.{value_of};
-ghost use Rattle.tor_bencode.specs.Lawful.{HasRisingKeys};
+ghost use Rattle.std.specs.Option.{option_copied};
 ghost use Rattle.tor_bencode.specs.View.{view};
 ghost use Rattle.tor_check.specs.Layers.{seen};
 ghost use Rattle.tor_merkle.specs.Layer.{IsPieceLength};
@@ -11,33 +9,11 @@ ghost use Rattle.tor_spec.specs.valid.Layers.{has_other_root, is_long, is_missha
 ghost use Rattle.tor_spec.specs.valid.Layers.{layer_text, root_of_file};
 ghost use Rattle.tor_merkle.specs.declared.TheConstants.{MAX_LENGTH};
 
-use tor_bencode::laws::values_have_rising_keys;
-use tor_bencode::{Item, find, find_in_order};
+use crate::layer_keys::Layers;
+use tor_bencode::{Item, find_in_order};
 use tor_merkle::laws::piece_roots_fit_a_layer;
 use tor_merkle::{layer_root, piece_level};
 use tor_tree::TreeFile;
-
-/// The dictionary of the layers, and the piece length. Layers that are absent have no key.
-#[derive(Clone, Copy)]
-pub struct Layers<'a> {
-    pub item: Option<&'a Item>,
-    /// In bytes.
-    pub piece_length: u64,
-    ghost rising: { ForSome item (λ item. HasRisingKeys (view item.now)) },
-}
-
-/// The layers that a root has, in pieces of this length.
-pub fn layers_of<'a>(root: &'a Item, piece_length: u64) -> Layers<'a>
-    requires { HasRisingKeys (view root.now) }
-    ensures item { option_map (λ item. view item.now) result.item ≡ value_of (codes "piece layers") (view root.now) }
-    ensures piece_length { result.piece_length ≡ piece_length }
-{
-    values_have_rising_keys();
-    Layers {
-        item: find(root, b"piece layers"),
-        piece_length,
-    }
-}
 
 /// Whether layers are needed and absent, or no dictionary.
 pub fn lacks_layers(layers: &Layers<'_>, files: &[TreeFile]) -> bool

@@ -14,7 +14,8 @@ ghost use Rattle.tor_v1.specs.Piece.{max_piece_length};
 
 use crate::agree::{files_differ, has_wrong_tail, is_misaligned};
 use crate::head::Head;
-use crate::layers::{has_misshaped, has_other, lacks_a_layer, lacks_layers, layers_of};
+use crate::layer_keys::layers_of;
+use crate::layers::{has_misshaped, has_other, lacks_a_layer, lacks_layers};
 use crate::listed::Listed;
 use crate::refusal::Refusal;
 use crate::sides::Sides;

@@ -11,7 +11,7 @@ ghost use Rattle.tor_spec.specs.valid.View.{files_of, tree_piece_count, view_of}
 ghost use Rattle.tor_tree.specs.Kinds.{has_v1, has_v2};
 
 use crate::head::Head;
-use crate::layers::layers_of;
+use crate::layer_keys::layers_of;
 use crate::parts::text;
 use crate::sides::Sides;
 use crate::torrent::{Torrent, ViewFile};

@@ -9,7 +9,8 @@ ghost use Rattle.tor_spec.specs.valid.ListSide.{without_padding};
 ghost use Rattle.tor_spec.specs.valid.View.{entry_of_file, file_of_list};
 ghost use Rattle.tor_check.specs.Listed.{file_of_listed};
 
-use crate::layers::{Layers, text_of_layer};
+use crate::layer_keys::Layers;
+use crate::layers::text_of_layer;
 use crate::listed::Listed;
 use crate::torrent::ViewFile;
 use std::alloc::{AllocError, Global};
