@@ -31,6 +31,14 @@ mod refusal;
 mod sides;
 #[cfg(test)]
 mod tests;
+#[cfg(test)]
+mod tests_hybrids;
+#[cfg(test)]
+mod tests_lenient;
+#[cfg(test)]
+mod tests_rows;
+#[cfg(test)]
+mod tests_worked;
 mod told;
 mod torrent;
 mod tree_side;
