@@ -1,7 +1,8 @@
 -- That keys rise is a fact, which has one proof at most: a struct may keep it.
 use Rattle.std.specs.Prelude.{ℕ, List, [], ◌∷◌}
 use Rattle.std.specs.Ordering.{Ordering-set}
-use Rattle.tor_bencode.specs.Data.{Data, integer, string, list, dictionary, Items, no_items, item, Pairs, no_pairs, pair}
+use Rattle.tor_bencode.specs.Data.{Data, integer, string, list, dictionary, Items, no_items, item, Pairs, no_pairs}
+use Rattle.tor_bencode.specs.Data.{pair}
 use Rattle.tor_bencode.specs.Data.{keys_of}
 use Rattle.tor_bencode.specs.Lawful.{AreRising, HasRisingKeys, ItemsHaveRisingKeys, PairsHaveRisingKeys}
 use mathlib.Core.HLevel.{×_prop, Unit-prop}

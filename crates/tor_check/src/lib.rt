@@ -13,9 +13,9 @@
 //! - [`Torrent`], [`ViewFile`] (`torrent.rt`): what it describes. [`Refusal`] (`refusal.rt`): V1 to V24.
 //!
 //! The root and the keys that all kinds have: `head.rt`. The v1 side: `marks.rt` and `listed.rt` read it,
-//! `list_side.rt` judges it; the v2 side: `tree_side.rt`; both: `sides.rt`. Piece layers: `layer_keys.rt`, `layers.rt`; where
-//! the sides agree: `agree.rt`; both of these judged: `places.rt`. What is told: `views.rt`, `told.rt`. `parts.rt` reads
-//! single keys.
+//! `list_side.rt` judges it; the v2 side: `tree_side.rt`; both: `sides.rt`. Piece layers: `layer_keys.rt`, `layers.rt`.
+//! Where the sides agree: `agree.rt`; both of these judged: `places.rt`. What is told: `views.rt`, `told.rt`.
+//! `parts.rt` reads single keys.
 #![tactic(auto)]
 
 mod agree;

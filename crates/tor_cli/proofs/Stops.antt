@@ -12,8 +12,8 @@ use Rattle.tor_tree.specs.Name.{name_fault}
 use Rattle.tor_cli.specs.Input.{EndsInput, ReadsSome}
 use Rattle.tor_cli.specs.Make.{MakesPart, StopsReading, refusal_of}
 use Rattle.tor_cli.specs.Path.{IsFileFault}
-use Rattle.tor_cli.specs.Request.{IsOrder, IsOrderOf, IsUntouched, StopsFinding, StopsInput, StopsPath, Streams}
-use Rattle.tor_cli.specs.Request.{file_of}
+use Rattle.tor_cli.specs.Request.{IsOrder, IsOrderOf, StopsFinding, StopsInput, StopsPath, file_of}
+use Rattle.tor_cli.specs.Streams.{IsUntouched, Streams}
 use Rattle.tor_cli.specs.Status.{of_input_fault, of_make_error, of_scan_fault, of_step_fault}
 use Rattle.tor_cli.specs.declared.input.TheConstants.{MAX_INPUT_LENGTH}
 use Rattle.tor_cli.specs.declared.input.InputFault.{InputFault}
@@ -86,6 +86,7 @@ module _ (options : MakeOptions) (s : Streams) where
   stops_finding (faults.Name fault) why untouched = (why, untouched)
   stops_finding (faults.Scan fault) why untouched = (why, untouched)
   stops_finding (faults.Make error) why untouched = (why, untouched)
+  stops_finding (faults.Refused refusal) why untouched = absurd why
   stops_finding faults.Read why untouched = absurd why
   stops_finding faults.TooLong why untouched = absurd why
   stops_finding (faults.Write written) why untouched = absurd why

@@ -74,9 +74,21 @@ make_app kinds hows = with_rules (new_app (codes "make"))
     (name_option ∷ piece_length_option ∷ kind_option kinds ∷ announce_option ∷ private_option ∷ how_option hows
     ∷ workers_option ∷ span_option ∷ out_option ∷ path_argument ∷ [])
 
+-- the one word of a command over one torrent: its file
+abbrev pub file_argument : Rule
+file_argument = record (new_rule (codes "file")) { index = Some 1; value_names = 1; required = true }
+
+-- the command of this name over one torrent
+abbrev pub file_app : List ℕ → App
+file_app name = with_rule (new_app name) file_argument
+
+abbrev pub with_commands : App → List App → App
+with_commands app [] = app
+with_commands app (command ∷ commands) = with_commands (with_subcommand app command.top) commands
+
 -- the program has a version, and wants a command
 abbrev pub tor_app : ValueParser → ValueParser → App
 tor_app kinds hows =
-    with_subcommand
+    with_commands
     (on_top (λ shape. record shape { has_version = true; subcommand_required = true }) (new_app (codes "tor")))
-    (make_app kinds hows).top
+    (make_app kinds hows ∷ file_app (codes "check") ∷ file_app (codes "magnet") ∷ [])

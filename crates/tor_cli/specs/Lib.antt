@@ -1,9 +1,12 @@
 pub mod CommandLine
 pub mod Escape
+pub mod Foreign
 pub mod Input
 pub mod Make
 pub mod Path
 pub mod Request
+pub mod Shown
 pub mod Status
+pub mod Streams
 pub mod Words
 pub mod Taking

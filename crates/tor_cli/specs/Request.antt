@@ -9,18 +9,22 @@ use Rattle.tor_meta.specs.declared.order.Order.{Order}
 use Rattle.tor_source.specs.declared.faults.ScanFault.TheVariants as scans
 use Rattle.tor_spec.specs.Settings.{Settings}
 use Rattle.tor_tree.specs.Name.{name_fault}
+use Rattle.tor_cli.specs.Foreign.{DoesTell, StopsTelling}
 use Rattle.tor_cli.specs.Input.{ReadsAll, ReadsSome, EndsInput}
 use Rattle.tor_cli.specs.Make.{IsFront, MakesOf, refusal_of}
 use Rattle.tor_cli.specs.Path.{AreFound, IsFileFault}
+use Rattle.tor_cli.specs.Shown.{check_block, magnet_line}
+use Rattle.tor_cli.specs.Streams.{IsUntouched, Streams}
 use Rattle.tor_cli.specs.Words.{Asks, IsOfWords}
 use Rattle.tor_cli.specs.declared.input.TheConstants.{MAX_INPUT_LENGTH}
 use Rattle.tor_cli.specs.declared.input.InputFault.{InputFault}
 use Rattle.tor_cli.specs.declared.input.InputFault.TheVariants as inputs
 use Rattle.tor_cli.specs.declared.options.MakeOptions.{MakeOptions}
 use Rattle.tor_cli.specs.declared.command.Request.{Request}
-use Rattle.tor_cli.specs.declared.command.Request.TheVariants.{Show, Make as ToMake}
+use Rattle.tor_cli.specs.declared.command.Request.TheVariants.{Show, Make as ToMake, Check, Magnet}
 use Rattle.tor_cli.specs.declared.fault.Fault.{Fault}
-use Rattle.tor_cli.specs.declared.fault.Fault.TheVariants.{Usage, Name, Scan, Make, Read, TooLong, Write, Resources}
+use Rattle.tor_cli.specs.declared.fault.Fault.TheVariants.{Usage, Name, Scan, Make, Refused, Read, TooLong}
+use Rattle.tor_cli.specs.declared.fault.Fault.TheVariants.{Write, Resources}
 
 -- the settings of the torrent that the options ask for, of one file or of a folder
 abbrev pub settings_of_options : MakeOptions → Bool → Settings
@@ -38,13 +42,6 @@ pub record IsOrder (options : MakeOptions) (single : Bool) (order : Order) : Typ
   pub settings : settings_of_order order ≡ settings_of_options options single
   pub how : order.how ≡ options.how
   pub span : order.span ≡ options.span
-
--- what the reader had, and has, and what stands in the writer, before and after
-pub record Streams : Type 0 where
-  pub reader : Option (List ℕ)
-  pub reader' : Option (List ℕ)
-  pub writer : Option (List ℕ)
-  pub writer' : Option (List ℕ)
 
 -- the file that the torrent goes to, if it is not the writer
 abbrev pub file_of : MakeOptions → Option (List ℕ)
@@ -78,18 +75,16 @@ abbrev pub StopsInput : MakeOptions → Streams → Fault → Type 0
 StopsInput options s (Usage line) = ⊥
 StopsInput options s (Name fault) = (name_fault options.name.now ≡ Some fault) × OnlyReads s
 StopsInput options s (Scan fault) = ⊥
+StopsInput options s (Refused refusal) = ⊥
 StopsInput options s (Make error) = (name_fault options.name.now ≡ None)
     × ((order : Order) × IsOrder options true order × (refusal_of order ≡ Some error)) × OnlyReads s
 StopsInput options s Read = FailsInput inputs.Read s
 StopsInput options s TooLong = FailsInput inputs.TooLong s
 StopsInput options s (Write written) = (name_fault options.name.now ≡ None)
     × ((order : Order) × IsOrder options true order
-    × ((content : List ℕ) × MakesOf order s.reader s.reader' (SendsFront (file_of options) s.writer s.writer' written) content))
+    × ((content : List ℕ)
+    × MakesOf order s.reader s.reader' (SendsFront (file_of options) s.writer s.writer' written) content))
 StopsInput options s Resources = FailsInput inputs.Memory s
-
--- nothing was read, and nothing was written
-abbrev pub IsUntouched : Streams → Type 0
-IsUntouched s = (s.reader' ≡ s.reader) × (s.writer' ≡ s.writer)
 
 -- the order that the options ask for, and the paths of the files at their place
 pub record IsOrderOf (options : MakeOptions) (order : Order) (paths : List (List (List ℕ))) : Type 0 where
@@ -141,6 +136,8 @@ StopsMake options s fault = StopsFrom (option_map (λ path. path.now) options.pa
 abbrev pub Does : Request → Streams → Type 0
 Does (Show text) s = (s.reader' ≡ s.reader) × Appends s.writer s.writer' (string_bytes text)
 Does (ToMake options) s = DoesMake options s
+Does (Check place) s = DoesTell check_block s
+Does (Magnet place) s = DoesTell magnet_line s
 
 -- where this fault stopped it
 abbrev pub Stops : Request → Streams → Fault → Type 0
@@ -148,6 +145,8 @@ Stops (Show text) s (Write written) =
     (s.reader' ≡ s.reader) × IsFront s.writer s.writer' written (string_bytes text)
 Stops (Show text) s other = ⊥
 Stops (ToMake options) s fault = StopsMake options s fault
+Stops (Check place) s fault = StopsTelling check_block s fault
+Stops (Magnet place) s fault = StopsTelling magnet_line s fault
 
 -- what the words ask for was done
 abbrev pub DoesAsked : List (List ℕ) → Streams → Type 0

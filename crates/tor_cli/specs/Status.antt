@@ -1,6 +1,8 @@
 -- What stops the program: which fault a step's fault is, and the status that the program ends with.
 use Rattle.std.specs.Prelude.{ℕ, Result, Ok, Err}
 use Rattle.std.specs.declared.io.Error.{Error}
+use Rattle.tor_check.specs.declared.refusal.Refusal.{Refusal}
+use Rattle.tor_check.specs.declared.refusal.Refusal.TheVariants as refusals
 use Rattle.tor_meta.specs.declared.make_error.MakeError.{MakeError}
 use Rattle.tor_meta.specs.declared.make_error.MakeError.TheVariants as makes
 use Rattle.tor_source.specs.declared.faults.ScanFault.{ScanFault}
@@ -12,7 +14,8 @@ use Rattle.tor_cli.specs.declared.input.InputFault.TheVariants as inputs
 use Rattle.tor_cli.specs.declared.make.FromFault.{FromFault}
 use Rattle.tor_cli.specs.declared.make.FromFault.TheVariants as steps
 use Rattle.tor_cli.specs.declared.fault.Fault.{Fault}
-use Rattle.tor_cli.specs.declared.fault.Fault.TheVariants.{Usage, Name, Scan, Make, Read, TooLong, Write, Resources}
+use Rattle.tor_cli.specs.declared.fault.Fault.TheVariants.{Usage, Name, Scan, Make, Refused, Read, TooLong}
+use Rattle.tor_cli.specs.declared.fault.Fault.TheVariants.{Write, Resources}
 
 abbrev pub of_input_fault : InputFault → Fault
 of_input_fault inputs.Read = Read
@@ -30,6 +33,10 @@ of_scan_fault fault = Scan fault
 abbrev pub of_make_error : MakeError Error → Fault
 of_make_error makes.Resources = Resources
 of_make_error error = Make error
+
+abbrev pub of_refusal : Refusal → Fault
+of_refusal refusals.Memory = Resources
+of_refusal refusal = Refused refusal
 
 abbrev pub of_step_fault : FromFault → Fault
 of_step_fault (steps.Input fault) = of_input_fault fault
@@ -53,11 +60,17 @@ status_of_make (makes.StreamTooLong file) = 3
 status_of_make makes.Resources = 4
 status_of_make refusal = 1
 
+-- the bytes are no torrent
+abbrev pub status_of_refusal : Refusal → ℕ
+status_of_refusal refusals.Memory = 4
+status_of_refusal refusal = 1
+
 abbrev pub status_of : Fault → ℕ
 status_of (Usage line) = 2
 status_of (Name fault) = 1
 status_of (Scan fault) = status_of_scan fault
 status_of (Make error) = status_of_make error
+status_of (Refused refusal) = status_of_refusal refusal
 status_of Read = 3
 status_of TooLong = 3
 status_of (Write written) = 3

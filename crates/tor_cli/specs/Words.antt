@@ -1,5 +1,6 @@
 -- What the words of the command line ask for.
-use Rattle.std.specs.Prelude.{◌≡◌, ℕ, true, false, List, ◌++◌, Some, option_map, codes, string_bytes}
+use Rattle.std.specs.Prelude.{◌≡◌, ℕ, true, false, List, ◌++◌, Option, Some, option_map, codes, string_bytes}
+use Rattle.std.specs.Borrow.{Bor}
 use Rattle.std.specs.Str.Parse.{IsNumeral, digits_value, without_leading_plus}
 use Rattle.clap.specs.Words.{Row, first_of, one_of, subcommand_of, subcommand_rows_of}
 use Rattle.clap.specs.declared.builder.value_parser.ValueParser.{ValueParser}
@@ -10,7 +11,7 @@ use Rattle.tor_engine.specs.declared.how.How.{How}
 use Rattle.tor_engine.specs.declared.how.How.TheVariants.{One, Halves}
 use Rattle.tor_cli.specs.CommandLine.{AreHows, AreKinds, tor_app}
 use Rattle.tor_cli.specs.declared.command.Request.{Request}
-use Rattle.tor_cli.specs.declared.command.Request.TheVariants.{Show, Make}
+use Rattle.tor_cli.specs.declared.command.Request.TheVariants.{Show, Make, Check, Magnet}
 use Rattle.tor_cli.specs.declared.fault.Fault.{Fault}
 use Rattle.tor_cli.specs.declared.fault.Fault.TheVariants.{Usage, Resources}
 use Rattle.tor_cli.specs.declared.options.MakeOptions.{MakeOptions}
@@ -50,17 +51,33 @@ pub record AreOptionsIn (rows : List Row) (options : MakeOptions) : Type 0 where
   pub out : first_of (codes "out") rows ≡ option_map (λ place. place.now) options.out
   pub path : first_of (codes "path") rows ≡ option_map (λ place. place.now) options.path
 
+-- the file of a command over one torrent
+abbrev pub IsFileIn : Bor (List ℕ) → List Row → Type 0
+IsFileIn place rows = first_of (codes "file") rows ≡ Some place.now
+
+-- this command was found, with rows of which this holds
+abbrev pub HasRows : Option (List ℕ × List Row) → List ℕ → (List Row → Type 0) → Type 0
+HasRows found command Holds = (rows : List Row) × (found ≡ Some (command, rows)) × Holds rows
+
 -- the request is what a parse found
 abbrev pub IsFoundIn : ArgMatches → Request → Type 0
 IsFoundIn matches (Show text) = Unit {0}
 IsFoundIn matches (Make options) =
-    (rows : List Row) × (subcommand_rows_of matches ≡ Some (codes "make", rows)) × AreOptionsIn rows options
+    HasRows (subcommand_rows_of matches) (codes "make") (λ rows. AreOptionsIn rows options)
+IsFoundIn matches (Check place) = HasRows (subcommand_rows_of matches) (codes "check") (IsFileIn place)
+IsFoundIn matches (Magnet place) = HasRows (subcommand_rows_of matches) (codes "magnet") (IsFileIn place)
+
+-- the words have this command, with rows of which this holds
+abbrev pub HasCommand : List (List ℕ) → List ℕ → (List Row → Type 0) → Type 0
+HasCommand words command Holds = (kinds hows : ValueParser) × AreKinds kinds × AreHows hows
+    × HasRows (subcommand_of (tor_app kinds hows) words) command Holds
 
 -- the words ask for this; of a text to be shown nothing is said
 abbrev pub Asks : List (List ℕ) → Request → Type 0
 Asks words (Show text) = Unit {0}
-Asks words (Make options) = (kinds hows : ValueParser) × AreKinds kinds × AreHows hows × (rows : List Row)
-    × (subcommand_of (tor_app kinds hows) words ≡ Some (codes "make", rows)) × AreOptionsIn rows options
+Asks words (Make options) = HasCommand words (codes "make") (λ rows. AreOptionsIn rows options)
+Asks words (Check place) = HasCommand words (codes "check") (IsFileIn place)
+Asks words (Magnet place) = HasCommand words (codes "magnet") (IsFileIn place)
 
 -- a fault of usage, whose line ends in where the help of this command is
 abbrev pub IsUsage : List ℕ → Fault → Type 0

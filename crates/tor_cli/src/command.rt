@@ -2,7 +2,7 @@
 ghost use Rattle.clap.specs.Walk.{texts};
 ghost use Rattle.clap.specs.Words.{app_of};
 ghost use Rattle.clap.specs.declared.builder.value_parser.ValueParser.{ValueParser};
-ghost use Rattle.std.specs.Prelude.{◌≡◌, IfErr, IfOk};
+ghost use Rattle.std.specs.Prelude.{◌≡◌, IfErr, IfOk, IfSome};
 ghost use Rattle.tor_cli.specs.CommandLine.{AreHows, AreKinds, tor_app};
 ghost use Rattle.tor_cli.specs.Words.{Asks, IsFoundIn, IsOfWords};
 
@@ -10,6 +10,7 @@ use crate::escape::escaped;
 use crate::fault::Fault;
 use crate::make_words::make_command;
 use crate::options::{MakeOptions, make_options};
+use crate::torrent_words::{check_command, file_of, magnet_command};
 use clap::error::ErrorKind;
 use clap::{ArgMatches, Command};
 use std::alloc::{AllocError, Global};
@@ -20,6 +21,10 @@ pub enum Request<'a> {
     /// To print a text: help, or the version.
     Show(String),
     Make(MakeOptions<'a>),
+    /// To tell what the torrent in this file describes.
+    Check(&'a str),
+    /// To print the magnet link of the torrent in this file.
+    Magnet(&'a str),
 }
 
 /// Reads the words, of which the first is the program's name.
@@ -41,24 +46,38 @@ fn tor_command<'a>(alloc: Global) -> Result<Command<'a>, AllocError>
 {
     Command::new(alloc, "tor")
         .version("0.1.0")
-        .about("Makes BitTorrent metainfo files")
+        .about("Makes and validates BitTorrent metainfo files")
         .subcommand_required(true)
         .bin_name("tor")?
-        .subcommand(make_command(alloc)?)
+        .subcommand(make_command(alloc)?)?
+        .subcommand(check_command(alloc)?)?
+        .subcommand(magnet_command(alloc)?)
 }
 
 fn request_of<'a>(alloc: Global, matches: &ArgMatches<'a>) -> Result<Request<'a>, Fault>
     ensures asked { IfOk result (IsFoundIn matches.now) }
     ensures refused { IfErr result IsOfWords }
 {
-    let options = match matches.subcommand_matches("make") {
-        Some(make) => make_options(make),
-        None => None,
-    };
-    match options {
-        Some(options) => Ok(Request::Make(options)),
+    match request_in(matches) {
+        Some(request) => Ok(request),
         None => Err(Fault::usage(alloc, "no command", "tor")?),
     }
+}
+
+/// The request of the command that was found; none where `clap` let through words that are none.
+fn request_in<'a>(matches: &ArgMatches<'a>) -> Option<Request<'a>>
+    ensures { IfSome result (IsFoundIn matches.now) }
+{
+    if let Some(make) = matches.subcommand_matches("make") {
+        return Some(Request::Make(make_options(make)?));
+    }
+    if let Some(check) = matches.subcommand_matches("check") {
+        return Some(Request::Check(file_of(check)?));
+    }
+    if let Some(magnet) = matches.subcommand_matches("magnet") {
+        return Some(Request::Magnet(file_of(magnet)?));
+    }
+    None
 }
 
 /// What is wrong with the words, told of them as they are printed. No word that `clap` knows has a byte that is
@@ -91,6 +110,8 @@ fn printed_words(alloc: Global, words: &[&str]) -> Result<Vec<String>, AllocErro
 fn command_of(words: &[&str]) -> &'static str {
     match words {
         [_, "make", ..] => "tor make",
+        [_, "check", ..] => "tor check",
+        [_, "magnet", ..] => "tor magnet",
         _ => "tor",
     }
 }

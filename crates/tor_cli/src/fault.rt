@@ -1,10 +1,11 @@
 //! What can stop the program: its line on standard error, and its status.
 ghost use Rattle.std.specs.Prelude.{◌≡◌, IfOk};
-ghost use Rattle.tor_cli.specs.Status.{status_of, status_of_make, status_of_scan};
+ghost use Rattle.tor_cli.specs.Status.{status_of, status_of_make, status_of_refusal, status_of_scan};
 ghost use Rattle.tor_cli.specs.Words.{IsUsage};
 
 use std::alloc::{AllocError, Global};
 use std::{fmt, io};
+use tor_check::Refusal;
 use tor_meta::MakeError;
 use tor_source::ScanFault;
 use tor_tree::NameError;
@@ -20,7 +21,9 @@ pub enum Fault {
     Scan(ScanFault),
     /// The order or the paths are refused, or a file was not read as it was told to be.
     Make(MakeError<io::Error>),
-    /// Standard input was not read whole.
+    /// What FILE has is no torrent.
+    Refused(Refusal),
+    /// Standard input, or FILE, was not read whole.
     Read,
     TooLong,
     /// This many bytes went out.
@@ -62,6 +65,7 @@ impl Fault {
             Fault::Name(_) => 1,
             Fault::Scan(fault) => status_of_scan(fault),
             Fault::Make(error) => status_of_make(error),
+            Fault::Refused(refusal) => status_of_refusal(refusal),
             Fault::Read | Fault::TooLong | Fault::Write(_) => 3,
             Fault::Resources => 4,
         }
@@ -91,6 +95,15 @@ fn status_of_make(error: &MakeError<io::Error>) -> u8
     }
 }
 
+fn status_of_refusal(refusal: &Refusal) -> u8
+    ensures { result ≡ status_of_refusal refusal.now }
+{
+    match refusal {
+        Refusal::Memory => 4,
+        _ => 1,
+    }
+}
+
 impl fmt::Display for Fault {
     fn fmt<W: fmt::Write>(&self, f: &mut fmt::Formatter<W>) -> fmt::Result {
         match self {
@@ -98,6 +111,7 @@ impl fmt::Display for Fault {
             Fault::Name(fault) => write!(f, "{fault}"),
             Fault::Scan(fault) => write!(f, "{fault}"),
             Fault::Make(error) => write_error(error, f),
+            Fault::Refused(refusal) => write!(f, "{refusal}"),
             Fault::Read => f.write_str("read fault"),
             Fault::TooLong => f.write_str("input too long"),
             Fault::Write(written) => write!(f, "write fault after {written} bytes"),

@@ -1,6 +1,7 @@
 //! Which fault of the program a step's fault is.
 ghost use Rattle.std.specs.Prelude.{◌≡◌};
-ghost use Rattle.tor_cli.specs.Status.{of_input_fault, of_make_error, of_name_error, of_scan_fault, of_step_fault};
+ghost use Rattle.tor_cli.specs.Status.{of_input_fault, of_make_error, of_name_error, of_refusal, of_scan_fault};
+ghost use Rattle.tor_cli.specs.Status.{of_step_fault};
 ghost use Rattle.tor_cli.specs.declared.fault.Fault.TheVariants.{Write, Resources};
 
 use crate::fault::Fault;
@@ -8,6 +9,7 @@ use crate::input::InputFault;
 use crate::make::FromFault;
 use std::alloc::{AllocError, AllocFailed};
 use std::io;
+use tor_check::Refusal;
 use tor_meta::{MakeError, WriteFault};
 use tor_source::ScanFault;
 use tor_tree::NameError;
@@ -53,6 +55,17 @@ impl From<MakeError<io::Error>> for Fault {
         match error {
             MakeError::Resources => Fault::Resources,
             error => Fault::Make(error),
+        }
+    }
+}
+
+impl From<Refusal> for Fault {
+    ghost from_gives = { λ refusal e. e ≡ of_refusal refusal };
+
+    fn from(refusal: Refusal) -> Fault {
+        match refusal {
+            Refusal::Memory => Fault::Resources,
+            refusal => Fault::Refused(refusal),
         }
     }
 }

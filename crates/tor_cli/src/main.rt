@@ -1,4 +1,4 @@
-//! The program `tor`: a maker of BitTorrent metainfo files.
+//! The program `tor`: it makes BitTorrent metainfo files, and tells what foreign ones describe.
 //!
 //! - `run.rt`: the whole program, over any reader and writers; `main` hands it the real ones.
 //! - `command.rt`: what the words ask for.
@@ -7,19 +7,24 @@
 //!   within a limit. `intake.rt`: what takes its parts.
 //! - `from_path.rt`: the torrent of a file or a folder. `out_file.rt`: the file that a torrent goes to.
 //!   `progress.rt`: the line that shows how far the reading is; `amount.rt`: bytes and seconds in it.
+//! - `check_command.rt`: the command `check`; `magnet_command.rt`: the command `magnet`; `torrent_words.rt`: the words
+//!   of both. `foreign.rt`: the torrent in a file, judged; `shown.rt`: the lines that tell of it.
 //! - `fault.rt`: what stops the program, its line and its status; `fault_of.rt`: which step's fault it is. `escape.rt`:
 //!   the user's text in such a line.
 #![tactic(auto)]
 
 mod amount;
+mod check_command;
 mod command;
 mod escape;
 mod fault;
 mod fault_of;
+mod foreign;
 mod from_path;
 mod input;
 mod intake;
 mod judge;
+mod magnet_command;
 mod make;
 mod make_command;
 mod make_words;
@@ -27,10 +32,14 @@ mod options;
 mod out_file;
 mod progress;
 mod run;
+mod shown;
 #[cfg(test)]
 mod tests;
 #[cfg(test)]
+mod tests_foreign;
+#[cfg(test)]
 mod tests_path;
+mod torrent_words;
 
 use fault::Fault;
 use std::alloc::{AllocError, Global};

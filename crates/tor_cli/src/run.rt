@@ -5,8 +5,10 @@ ghost use Rattle.tor_cli.specs.Request.{Does, DoesAsked, Stops, StopsAsked};
 ghost use Rattle.tor_cli.specs.Status.{status_after, status_of};
 ghost use Rattle.tor_cli.specs.declared.fault.Fault.{Fault};
 
+use crate::check_command::check;
 use crate::command::{Request, read_words};
 use crate::fault::Fault;
+use crate::magnet_command::magnet;
 use crate::make_command::make;
 use std::io::{Read, Write};
 use std::thread::Threads;
@@ -94,6 +96,8 @@ fn perform<T: Threads + Sync, R: Read, W: Write>(
     match request {
         Request::Show(text) => Ok(write_out(out, text.as_bytes())?),
         Request::Make(options) => make(rt, system, options, reader, out, shows_progress),
+        Request::Check(place) => check(system, place, out),
+        Request::Magnet(place) => magnet(system, place, out),
     }
 }
 

@@ -310,7 +310,7 @@ fn reads_its_input_before_it_refuses_its_words(rt: HostRuntime) -> std::result::
 #[test]
 fn tells_a_fault_of_usage_in_one_line(rt: HostRuntime) -> std::result::Result<(), Fail> {
     let alloc = rt.alloc();
-    let table: [(&[&str], &str); 10] = [
+    let table: [(&[&str], &str); 12] = [
         (
             &["tor", "make", "--foo"],
             "tor: unexpected argument '--foo'; see 'tor make --help'\n",
@@ -332,12 +332,21 @@ fn tells_a_fault_of_usage_in_one_line(rt: HostRuntime) -> std::result::Result<()
             "tor: invalid value 'v3' for '--kind <KIND>' [possible values: v1, v2, hybrid]; see 'tor make --help'\n",
         ),
         (
+            &["tor", "check"],
+            "tor: the following required arguments were not provided: <FILE>; see 'tor check --help'\n",
+        ),
+        (
+            &["tor", "magnet", "a", "b"],
+            "tor: unexpected argument 'b'; see 'tor magnet --help'\n",
+        ),
+        (
             &["tor", "mak"],
             "tor: unrecognized subcommand 'mak'; see 'tor --help'\n",
         ),
         (
             &["tor"],
-            "tor: 'tor' requires a subcommand but one was not provided [subcommands: make, help]; see 'tor --help'\n",
+            "tor: 'tor' requires a subcommand but one was not provided [subcommands: make, check, magnet, help]; \
+see 'tor --help'\n",
         ),
         (
             &["tor", "make", "--f\n\noo\x1b[0m\\\x7f"],
@@ -372,8 +381,20 @@ see 'tor make --help'\n",
 #[test]
 fn shows_help_and_version(rt: HostRuntime) -> std::result::Result<(), Fail> {
     let alloc = rt.alloc();
-    let table: [(&[&str], &str); 2] = [
+    let table: [(&[&str], &str); 5] = [
         (&["tor", "--version"], "tor 0.1.0\n"),
+        (
+            &["tor", "--help"],
+            "Makes and validates BitTorrent metainfo files\n",
+        ),
+        (
+            &["tor", "check", "--help"],
+            "Tells what a torrent describes, or why a file is none\n",
+        ),
+        (
+            &["tor", "magnet", "--help"],
+            "Prints the magnet link of a torrent\n",
+        ),
         (
             &["tor", "make", "--help"],
             "Makes a torrent of standard input, or of a file or folder, and writes it to standard output\n",

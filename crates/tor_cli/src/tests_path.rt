@@ -12,7 +12,7 @@ use tor_meta::MakeError;
 use tor_source::ScanFault;
 
 // A folder `f` with the files a = `ab` and b = `c`, piece length 16,384, of version 1. The hash is the SHA-1 of `abc`.
-const FOLDER_V1: &[u8; 129] =
+pub const FOLDER_V1: &[u8; 129] =
     b"d4:infod5:filesld6:lengthi2e4:pathl1:aeed6:lengthi1e4:pathl1:beee4:name1:f\
 12:piece lengthi16384e6:pieces20:\xa9\x99\x3e\x36\x47\x06\x81\x6a\xba\x3e\x25\x71\x78\x50\xc2\x6c\x9c\xd0\xd8\x9dee";
 
@@ -22,7 +22,7 @@ const NESTED_V1: &[u8] =
 12:piece lengthi16384e6:pieces0:ee";
 
 // A new folder below the system's folder for temporary files.
-fn new_folder(rt: &HostRuntime, name: &str) -> io::Result<String> {
+pub fn new_folder(rt: &HostRuntime, name: &str) -> io::Result<String> {
     let id = process::id(rt.process());
     let temporary = env::temp_dir(rt)?;
     let place = format!(in rt.alloc(); "{}/tor_cli-{name}-{id}", temporary.display())?;
@@ -31,7 +31,7 @@ fn new_folder(rt: &HostRuntime, name: &str) -> io::Result<String> {
     Ok(place)
 }
 
-fn below(alloc: Global, folder: &str, name: &str) -> Result<String, AllocError> {
+pub fn below(alloc: Global, folder: &str, name: &str) -> Result<String, AllocError> {
     format!(in alloc; "{folder}/{name}")
 }
 

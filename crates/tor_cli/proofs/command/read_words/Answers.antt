@@ -2,21 +2,26 @@
 use Rattle.std.proofs.Common.{◌≡◌, ◌∙◌, sym, ap, ℕ, List}
 use Rattle.std.proofs.lemmas.Result.{IfOk-weaker}
 use Rattle.clap.specs.Walk.{texts}
-use Rattle.clap.specs.Words.{App, is_simple, subcommand_of, subcommand_rows_of}
+use Rattle.clap.specs.Words.{App, Row, is_simple, subcommand_of, subcommand_rows_of}
 use Rattle.clap.specs.declared.builder.value_parser.ValueParser.{ValueParser}
 use Rattle.clap.specs.declared.parser.matches.ArgMatches.{ArgMatches}
 use Rattle.tor_cli.specs.CommandLine.{AreHows, AreKinds, tor_app}
-use Rattle.tor_cli.specs.Words.{Asks, IsFoundIn}
+use Rattle.tor_cli.specs.Words.{Asks, HasCommand, HasRows, IsFoundIn}
 use Rattle.tor_cli.specs.declared.command.Request.{Request}
-use Rattle.tor_cli.specs.declared.command.Request.TheVariants.{Show, Make}
+use Rattle.tor_cli.specs.declared.command.Request.TheVariants.{Show, Make, Check, Magnet}
 use Rattle.tor_cli.proofs.command.read_words.Goals as goal
 
-asked : (matches : ArgMatches) (words : List (List ℕ)) (kinds hows : ValueParser) → AreKinds kinds → AreHows hows
-    → subcommand_rows_of matches ≡ subcommand_of (tor_app kinds hows) words
-    → (request : Request) → IsFoundIn matches request → Asks words request
-asked matches words kinds hows are ways same (Show text) found = tt
-asked matches words kinds hows are ways same (Make options) (rows, there, values) =
-    (kinds, hows, are, ways, rows, sym same ∙ there, values)
+module _ (matches : ArgMatches) (words : List (List ℕ)) (kinds hows : ValueParser) (are : AreKinds kinds)
+    (ways : AreHows hows) (same : subcommand_rows_of matches ≡ subcommand_of (tor_app kinds hows) words) where
+  has : (command : List ℕ) (Holds : List Row → Type 0) → HasRows (subcommand_rows_of matches) command Holds
+      → HasCommand words command Holds
+  has command Holds (rows, there, holds) = (kinds, hows, are, ways, (rows, sym same ∙ there, holds))
+
+  asked : (request : Request) → IsFoundIn matches request → Asks words request
+  asked (Show text) found = tt
+  asked (Make options) found = has _ _ found
+  asked (Check place) found = has _ _ found
+  asked (Magnet place) found = has _ _ found
 
 pub returns-in-Ok-clause-asked : goal.returns-in-Ok-clause-asked
 returns-in-Ok-clause-asked c =

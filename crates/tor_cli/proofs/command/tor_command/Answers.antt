@@ -1,5 +1,5 @@
--- The program's own settings, and the command `make`.
-use Rattle.std.proofs.Common.{refl, ap, ap₂, codes, not, Bool, true, false, ◌≡◌, ◌∙◌}
+-- The program's own settings, and each command.
+use Rattle.std.proofs.Common.{refl, ap, ap₂, codes, not, ◌&&◌, Bool, true, false, ◌≡◌, ◌∙◌}
 use Rattle.std.proofs.lemmas.Bool.{and_parts}
 use Rattle.std.proofs.lemmas.Result.{IfOk-weaker}
 use Rattle.clap.specs.Simple.{app_of_fields, on_top}
@@ -9,6 +9,10 @@ use Rattle.tor_cli.proofs.command.tor_command.Goals as goal
 off : (b : Bool) → not b ≡ true → b ≡ false
 off true e = cc
 off false e = refl
+
+-- a plain command has no global argument: its third fact
+third : (a b c d : Bool) → (a && (b && (not c && d))) ≡ true → c ≡ false
+third a b c d e = off c (and_parts (not c) d (and_parts b (not c && d) (and_parts a (b && (not c && d)) e).1).1).0
 
 pub returns : goal.returns
 returns c =
@@ -23,14 +27,21 @@ returns c =
     ∙ ap (on_top (λ shape. record shape { subcommand_required = true })) told in
     let top = ap app_of_fields c.in_ok-bin_name.ensures.0 ∙ wanting in
     let (kinds, hows, are, ways, is) = c.in_ok-make_command.ensures in
-    let plain = and_parts _ _ (and_parts _ _ (ap (λ (app : App). app.top.is_plain) is)).1 in
-    let local = off _ (and_parts _ _ plain.1).0 in
-    IfOk-weaker c.subcommand.result _ _
+    let is_check = c.in_ok-check_command.ensures in
+    let is_magnet = c.in_ok-magnet_command.ensures in
+    let making =
+    c.in_ok-subcommand.ensures.shape (third _ _ _ _ (ap (λ (app : App). app.top.is_plain) is))
+    ∙ ap₂ with_subcommand top (ap (λ (app : App). app.top) is) in
+    let checking =
+    c.in_ok-subcommand-2.ensures.shape (third _ _ _ _ (ap (λ (app : App). app.top.is_plain) is_check))
+    ∙ ap₂ with_subcommand making (ap (λ (app : App). app.top) is_check) in
+    let plain = third _ _ _ _ (ap (λ (app : App). app.top.is_plain) is_magnet) in
+    IfOk-weaker c.subcommand-3.result _ _
     (λ command added. (
       kinds,
       hows,
       are,
       ways,
-      added.shape local ∙ ap₂ with_subcommand top (ap (λ (app : App). app.top) is),
+      added.shape plain ∙ ap₂ with_subcommand checking (ap (λ (app : App). app.top) is_magnet),
     ))
-    c.subcommand.ensures
+    c.subcommand-3.ensures

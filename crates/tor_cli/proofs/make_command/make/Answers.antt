@@ -1,7 +1,8 @@
 -- The options have a PATH.
 use Rattle.std.proofs.Common.{rules, ◌≡◌, ℕ, List, Option, Some, subst, sym, option_map}
 use Rattle.std.specs.Prelude.{IfErr}
-use Rattle.tor_cli.specs.Request.{StopsFrom, Streams}
+use Rattle.tor_cli.specs.Request.{StopsFrom}
+use Rattle.tor_cli.specs.Streams.{Streams}
 use Rattle.tor_cli.proofs.make_command.make.Goals as goal
 
 pub returns-in-Some-clause-stopped : goal.returns-in-Some-clause-stopped

@@ -5,7 +5,8 @@ use Rattle.tor_v1.proofs.Aligned.{is_some, count-next, pushed_padded, pushed_unp
 use Rattle.tor_v1.proofs.Aligned.{aligned_entries-end}
 use Rattle.tor_v1.proofs.layout.aligned.Goals as goal
 use Rattle.tor_v1.proofs.layout.aligned.Goals.{then-length-gt0, else-length-gt0}
-use Rattle.tor_v1.proofs.layout.aligned.Goals.{then-later-gt0+then-lack-gt0+in_ok-pad_entry+in_ok-push-2, else-later-gt0}
+use Rattle.tor_v1.proofs.layout.aligned.Goals.{then-later-gt0+then-lack-gt0+in_ok-pad_entry+in_ok-push-2}
+use Rattle.tor_v1.proofs.layout.aligned.Goals.{else-later-gt0}
 use Rattle.tor_v1.proofs.layout.aligned.Goals.{else-later-gt0-via-then-later-gt0+else-lack-gt0}
 use Rattle.tor_v1.proofs.layout.aligned.Goals.{else-later-gt0-via-else-later-gt0}
 

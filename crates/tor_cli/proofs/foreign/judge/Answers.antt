@@ -1,0 +1,27 @@
+-- A torrent has `info`, of which the hashes are.
+use Rattle.std.proofs.Common.{◌∙◌, ap, subst}
+use Rattle.tor_bencode.specs.Spelling.{spelling}
+use Rattle.tor_meta.specs.Hashes.{AreInfoHashes}
+use Rattle.tor_spec.specs.valid.Parts.{info_of}
+use Rattle.tor_spec.specs.valid.View.{View}
+use Rattle.tor_cli.proofs.Judging.{has_info, info_found}
+use Rattle.tor_cli.proofs.foreign.judge.Goals as goal
+
+pub info_hashes-hashes-requires : goal.info_hashes-hashes-requires
+info_hashes-hashes-requires c =
+    let (root, torrent, described) = c.in-Ok.ensures.accepted in
+    has_info root c.args.bytes.now torrent
+
+pub returns-in-Ok-clause-told : goal.returns-in-Ok-clause-told
+returns-in-Ok-clause-told c =
+    let (root, torrent, described) = c.in-Ok.ensures.accepted in
+    let found = info_found root torrent.accepted in
+    record {
+      root = root;
+      torrent = torrent;
+      described = described;
+      hashed =
+          subst (λ kind. AreInfoHashes kind (spelling (info_of root)) c.info_hashes-hashes.result)
+          (c.kind.ensures ∙ ap (λ (view : View). view.kind) described)
+          (c.info_hashes-hashes.ensures root (info_of root) torrent.lawful torrent.spelled found);
+    }

@@ -1,0 +1,58 @@
+-- What the program tells of a torrent in a file of the system. No contract says which bytes a file has, so a clause
+-- speaks of some bytes: those that the program took for the file's.
+use Rattle.std.specs.Prelude.{◌≡◌, ◌≢◌, ◌≤◌, ℕ, List, length}
+use Rattle.std.specs.Io.KnownBytes.{Appends}
+use Rattle.tor_bencode.specs.Data.{Data}
+use Rattle.tor_bencode.specs.Spelling.{spelling}
+use Rattle.tor_check.specs.Valid.{IsRefusedFor}
+use Rattle.tor_check.specs.declared.refusal.Refusal.TheVariants.{Memory}
+use Rattle.tor_meta.specs.Hashes.{AreInfoHashes}
+use Rattle.tor_meta.specs.declared.hashes.Hashes.{Hashes}
+use Rattle.tor_spec.specs.valid.Conditions.{IsTorrentOf}
+use Rattle.tor_spec.specs.valid.Parts.{info_of, kind_of}
+use Rattle.tor_spec.specs.valid.View.{View, view_of}
+use Rattle.tor_cli.specs.Make.{IsFront}
+use Rattle.tor_cli.specs.Streams.{IsUntouched, Streams}
+use Rattle.tor_cli.specs.declared.input.TheConstants.{MAX_INPUT_LENGTH}
+use Rattle.tor_cli.specs.declared.fault.Fault.{Fault}
+use Rattle.tor_cli.specs.declared.fault.Fault.TheVariants.{Refused, Read, TooLong, Write, Resources}
+
+-- the bytes are a torrent, which describes this, and has these info hashes
+pub record IsTorrentWith (bytes : List ℕ) (view : View) (hashes : Hashes) : Type 0 where
+  pub root : Data
+  pub torrent : IsTorrentOf root bytes
+  pub described : view ≡ view_of root
+  pub hashed : AreInfoHashes (kind_of (info_of root)) (spelling (info_of root)) hashes
+
+-- the bytes are a torrent, and the text is its lines
+abbrev pub IsToldOf : (View → Hashes → List ℕ) → List ℕ → List ℕ → Type 0
+IsToldOf lines bytes text =
+    (view : View) × (hashes : Hashes) × IsTorrentWith bytes view hashes × (text ≡ lines view hashes)
+
+-- why the bytes are no torrent; want of memory is no refusal
+abbrev pub IsNotTold : List ℕ → Fault → Type 0
+IsNotTold bytes (Refused refusal) = IsRefusedFor bytes refusal × (refusal ≢ Memory)
+IsNotTold bytes Resources = Unit {0}
+IsNotTold bytes other = ⊥
+
+-- bytes that the program read whole, of which this holds
+abbrev pub OfSome : (List ℕ → Type 0) → Type 0
+OfSome Holds = (bytes : List ℕ) × (length bytes ≤ MAX_INPUT_LENGTH) × Holds bytes
+
+-- the lines of a torrent, of which this holds
+abbrev pub TellsOfSome : (View → Hashes → List ℕ) → (List ℕ → Type 0) → Type 0
+TellsOfSome lines Holds = OfSome (λ bytes. (text : List ℕ) × IsToldOf lines bytes text × Holds text)
+
+-- the lines of a torrent, and nothing else, were written
+abbrev pub DoesTell : (View → Hashes → List ℕ) → Streams → Type 0
+DoesTell lines s = (s.reader' ≡ s.reader) × TellsOfSome lines (Appends s.writer s.writer')
+
+-- where this fault stopped it
+abbrev pub StopsTelling : (View → Hashes → List ℕ) → Streams → Fault → Type 0
+StopsTelling lines s (Refused refusal) = OfSome (λ bytes. IsNotTold bytes (Refused refusal)) × IsUntouched s
+StopsTelling lines s Read = IsUntouched s
+StopsTelling lines s TooLong = IsUntouched s
+StopsTelling lines s (Write written) =
+    (s.reader' ≡ s.reader) × TellsOfSome lines (IsFront s.writer s.writer' written)
+StopsTelling lines s Resources = IsUntouched s
+StopsTelling lines s other = ⊥

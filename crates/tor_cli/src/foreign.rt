@@ -1,0 +1,43 @@
+//! A torrent in a file of the system: its bytes, and what they are judged to be.
+ghost use Rattle.std.specs.Prelude.{◌≤◌, IfErr, IfOk, vec_len};
+ghost use Rattle.tor_check.specs.Valid.{IsRefusedFor};
+ghost use Rattle.tor_cli.specs.Foreign.{IsTorrentWith};
+ghost use Rattle.tor_cli.specs.declared.input.TheConstants.{MAX_INPUT_LENGTH};
+
+use crate::input::{InputFault, MAX_INPUT_LENGTH, read_limited};
+use std::alloc::Global;
+use std::fs;
+use std::rt::Files;
+use tor_check::{Refusal, Torrent, validate};
+use tor_meta::{Hashes, info_hashes};
+
+/// What is told of a torrent.
+#[derive(Drop)]
+pub struct Judged {
+    pub torrent: Torrent,
+    pub hashes: Hashes,
+}
+
+/// The bytes of the file `place`, at most `MAX_INPUT_LENGTH`. What cannot be opened or read is a fault of reading.
+pub fn read_file<H: Files>(alloc: Global, system: &H, place: &str) -> Result<Vec<u8>, InputFault>
+    ensures { IfOk result (λ bytes. vec_len bytes ≤ MAX_INPUT_LENGTH) }
+{
+    match fs::open(system, place) {
+        Ok(mut file) => read_limited(alloc, &mut file, MAX_INPUT_LENGTH),
+        Err(_) => Err(InputFault::Read),
+    }
+}
+
+/// What the torrent describes that the bytes are, and its info hashes; or why they are none.
+pub fn judge(alloc: Global, bytes: &[u8]) -> Result<Judged, Refusal>
+    ensures told { IfOk result (λ judged. IsTorrentWith bytes.now judged.torrent judged.hashes) }
+    ensures refused { IfErr result (IsRefusedFor bytes.now) }
+{
+    match validate(alloc, bytes) {
+        Ok(torrent) => {
+            let hashes = info_hashes(bytes, torrent.kind());
+            Ok(Judged { torrent, hashes })
+        }
+        Err(refusal) => Err(refusal),
+    }
+}

@@ -1,0 +1,89 @@
+//! The lines that tell of a torrent.
+ghost use Rattle.hex.specs.Hex.{encode_lower};
+ghost use Rattle.std.specs.Prelude.{◌≡◌, ◌++◌, IfOk, OnOk, codes, string_bytes};
+ghost use Rattle.tor_cli.specs.Shown.{check_block, file_line, hash_lines, head_lines, path_text};
+ghost use Rattle.tor_cli.specs.Words.{word_of};
+
+use crate::escape::escaped;
+use hex::encode;
+use std::alloc::{AllocError, Global};
+use std::fmt::Write;
+use tor_check::Torrent;
+use tor_meta::Hashes;
+use tor_tree::{FilePath, Kind, TreeFile};
+
+/// The torrent as a whole, then its files in its order, then its info hashes. The user's text is escaped.
+pub fn check_block(alloc: Global, torrent: &Torrent, hashes: &Hashes) -> Result<String, AllocError>
+    ensures { IfOk result (λ block. string_bytes block ≡ check_block torrent.now hashes.now) }
+{
+    let mut block = head_lines(alloc, torrent)?;
+    for shown in torrent.files() {
+        push_file(alloc, &mut block, shown.file())?;
+    }
+    push_hashes(alloc, &mut block, hashes)?;
+    Ok(block)
+}
+
+fn head_lines(alloc: Global, torrent: &Torrent) -> Result<String, AllocError>
+    ensures { IfOk result (λ lines. string_bytes lines ≡ head_lines torrent.now) }
+{
+    let kind = word_of(torrent.kind());
+    let name = escaped(alloc, torrent.name().as_str())?;
+    let piece_length = torrent.piece_length();
+    let pieces = torrent.piece_count();
+    let files = torrent.files().len();
+    format!(in alloc;
+        "kind {kind}\nname {name}\npiece length {piece_length}\npieces {pieces}\nfiles {files}\n"
+    )
+}
+
+/// The word for a kind.
+fn word_of(kind: Kind) -> &'static str
+    ensures { result.now ≡ word_of kind }
+{
+    match kind {
+        Kind::V1 => "v1",
+        Kind::V2 => "v2",
+        Kind::Hybrid => "hybrid",
+    }
+}
+
+fn push_file(alloc: Global, block: &mut String, file: &TreeFile) -> Result<(), AllocError>
+    ensures { OnOk result (string_bytes block.new ≡ string_bytes block.old ++ file_line file.now) }
+{
+    let length = file.length;
+    let path = escaped(alloc, path_text(alloc, &file.path)?.as_str())?;
+    writeln!(block, "{length} {path}")
+}
+
+/// The names of a path, a slash between each two.
+fn path_text(alloc: Global, path: &FilePath) -> Result<String, AllocError>
+    ensures { IfOk result (λ text. string_bytes text ≡ path_text path.now) }
+{
+    let mut names = Vec::with_capacity(alloc, path.names().len())?;
+    for name in path.names() {
+        names.push(name.as_str())?;
+    }
+    names.join(alloc, "/")
+}
+
+/// A line for each hash. That of version 2 is a multihash: 12 says SHA-256, 20 its 32 bytes.
+fn push_hashes(alloc: Global, block: &mut String, hashes: &Hashes) -> Result<(), AllocError>
+    ensures { OnOk result (string_bytes block.new ≡ string_bytes block.old ++ hash_lines hashes.now) }
+{
+    if let Some(hash) = &hashes.v1 {
+        push_hash(alloc, block, "btih ", hash.as_slice())?;
+    }
+    if let Some(hash) = &hashes.v2 {
+        push_hash(alloc, block, "btmh 1220", hash.as_slice())?;
+    }
+    Ok(())
+}
+
+fn push_hash(alloc: Global, block: &mut String, before: &str, hash: &[u8]) -> Result<(), AllocError>
+    ensures { OnOk result (string_bytes block.new
+        ≡ string_bytes block.old ++ (before.now ++ (encode_lower hash.now ++ codes "\n"))) }
+{
+    let digits = encode(alloc, hash)?;
+    writeln!(block, "{before}{digits}")
+}

@@ -1,0 +1,135 @@
+//! Torrents in files, as the program tells of them. Their bytes are spelled by hand from the standards, and their
+//! hashes were computed apart.
+use crate::run::run;
+use crate::tests::ABC;
+use crate::tests_path::{FOLDER_V1, below, new_folder};
+use std::alloc::{AllocError, Global};
+use std::fs;
+use std::rt::Files;
+use std::test::Fail;
+use std::thread::Threads;
+
+// The files a = `ab` and b = `c` in the folder `f`, piece length 16,384, for both versions. The roots are the SHA-256
+// of `ab` and of `c`, the pieces the SHA-1 of `ab` with 16,382 zero bytes and that of `c`.
+const FOLDER_HYBRID: &[u8; 382] = b"d4:infod9:file treed1:ad0:d6:lengthi2e11:pieces root32:\
+\xfb\x8e\x20\xfc\x2e\x4c\x3f\x24\x8c\x60\xc3\x9b\xd6\x52\xf3\xc1\x34\x72\x98\xbb\x97\x7b\x8b\x4d\x59\x03\xb8\x50\
+\x55\x62\x06\x03ee1:bd0:d6:lengthi1e11:pieces root32:\
+\x2e\x7d\x2c\x03\xa9\x50\x7a\xe2\x65\xec\xf5\xb5\x35\x68\x85\xa5\x33\x93\xa2\x02\x9d\x24\x13\x94\x99\x72\x65\xa1\
+\xa2\x5a\xef\xc6eee5:filesld6:lengthi2e4:pathl1:aeed4:attr1:p6:lengthi16382e4:pathl4:.pad5:16382ee\
+d6:lengthi1e4:pathl1:beee12:meta versioni2e4:name1:f12:piece lengthi16384e6:pieces40:\
+\xcb\x25\xce\xe0\xc9\xee\x3f\xc5\x74\x13\xe4\x72\xac\xdb\x19\x13\x86\xed\xb6\x12\
+\x84\xa5\x16\x84\x1b\xa7\x7a\x5b\x46\x48\xde\x2c\xd0\xdf\xcb\x30\xea\x46\xdb\xb4e12:piece layersdee";
+
+// One empty file, whose path and whose torrent's name have control bytes and backslashes.
+const ODD_NAMES: &[u8] =
+    b"d4:infod5:filesld6:lengthi0e4:pathl3:a\n\\3:\x7f\xc3\xa9eee4:name4:f\x1fg\\\
+12:piece lengthi16384e6:pieces0:ee";
+
+const CHECK_HYBRID: &str = "kind hybrid\nname f\npiece length 16384\npieces 2\nfiles 2\n2 a\n1 b\n\
+btih 3c4f16ed920ea3829dc2692ec10b6c277d67d436\n\
+btmh 1220a795bdf1b9f938867a77db5c67d1453148b0ee10df97be900ca825fb9c2f5d8b\n";
+
+const CHECK_V1: &str = "kind v1\nname f\npiece length 16384\npieces 1\nfiles 2\n2 a\n1 b\n\
+btih 5b31f52b05c3619aa3057861a8c2a9afc2ccad7f\n";
+
+const CHECK_V2: &str = "kind v2\nname a\npiece length 16384\npieces 1\nfiles 1\n3 a\n\
+btmh 122097cfdba4cd02b8bfb50f3b765f573f20d73f934cdd1591a3c1333aafda95c436\n";
+
+const CHECK_ODD: &str = "kind v1\nname f\\x1fg\\x5c\npiece length 16384\npieces 0\nfiles 1\n\
+0 a\\x0a\\x5c/\\x7fé\nbtih 2c7e12bceb174f3c79350c64c4a323b8fd278a0a\n";
+
+const MAGNET_HYBRID: &str = "magnet:?xt=urn:btih:3c4f16ed920ea3829dc2692ec10b6c277d67d436\
+&xt=urn:btmh:1220a795bdf1b9f938867a77db5c67d1453148b0ee10df97be900ca825fb9c2f5d8b\n";
+
+const MAGNET_V1: &str = "magnet:?xt=urn:btih:5b31f52b05c3619aa3057861a8c2a9afc2ccad7f\n";
+
+const MAGNET_V2: &str =
+    "magnet:?xt=urn:btmh:122097cfdba4cd02b8bfb50f3b765f573f20d73f934cdd1591a3c1333aafda95c436\n";
+
+// What came of a run whose input is `abc`.
+#[derive(Drop)]
+struct Outcome {
+    status: u8,
+    out: Vec<u8>,
+    err: Vec<u8>,
+    // How many bytes of the input were not read.
+    unread: usize,
+}
+
+fn run_command<T: Threads + Sync>(
+    rt: &T,
+    system: &HostRuntime,
+    command: &str,
+    place: &str,
+) -> Result<Outcome, AllocError> {
+    let alloc: Global = system.alloc();
+    let mut reader: &[u8] = b"abc";
+    let mut out = Vec::new(alloc);
+    let mut err = Vec::new(alloc);
+    let words = ["tor", command, place];
+    let status = run(rt, system, &words, &mut reader, &mut out, &mut err, true);
+    Ok(Outcome {
+        status,
+        out,
+        err,
+        unread: reader.len(),
+    })
+}
+
+#[test]
+fn tells_of_a_torrent_in_a_file(rt: HostRuntime) -> Result<(), Fail> {
+    let alloc = rt.alloc();
+    let folder = new_folder(&rt, "tells")?;
+    let place = below(alloc, &folder, "t")?;
+    let table: [(&str, &[u8], &str); 7] = [
+        ("check", FOLDER_HYBRID, CHECK_HYBRID),
+        ("check", FOLDER_V1, CHECK_V1),
+        ("check", ABC, CHECK_V2),
+        ("check", ODD_NAMES, CHECK_ODD),
+        ("magnet", FOLDER_HYBRID, MAGNET_HYBRID),
+        ("magnet", FOLDER_V1, MAGNET_V1),
+        ("magnet", ABC, MAGNET_V2),
+    ];
+    for (command, torrent, text) in table {
+        fs::write(&rt, place.as_str(), torrent)?;
+        let told = run_command(&rt, &rt, command, &place)?;
+        assert_eq!(rt; told.err.as_slice(), b"".as_slice(), "at {text}");
+        assert_eq!(rt; told.out.as_slice(), text.as_bytes(), "at {text}");
+        assert_eq!(rt; told.status, 0, "at {text}");
+        assert_eq!(rt; told.unread, 3, "at {text}");
+    }
+    rt.remove_dir_all(alloc, &folder)?;
+    Ok(())
+}
+
+#[test]
+fn tells_why_a_file_is_no_torrent(rt: HostRuntime) -> Result<(), Fail> {
+    let alloc = rt.alloc();
+    let folder = new_folder(&rt, "no-torrent")?;
+    let place = below(alloc, &folder, "t")?;
+    let absent = below(alloc, &folder, "absent")?;
+    let table: [(&str, &[u8], u8, &str); 5] = [
+        (
+            &place,
+            b"d1:b0:1:a0:e",
+            1,
+            "tor: V1 Bencode B7 KeyOrder at 6\n",
+        ),
+        (&place, b"", 1, "tor: V1 Bencode B1 Truncated at 0\n"),
+        (&place, b"de", 1, "tor: V3 InfoShape\n"),
+        (&folder, b"", 3, "tor: read fault\n"),
+        (&absent, b"", 3, "tor: read fault\n"),
+    ];
+    for (place_of_row, bytes, status, line) in table {
+        fs::write(&rt, place.as_str(), bytes)?;
+        for command in ["check", "magnet"] {
+            let told = run_command(&rt, &rt, command, place_of_row)?;
+            assert_eq!(rt; told.err.as_slice(), line.as_bytes(), "at {line}");
+            assert_eq!(rt; told.status, status, "at {line}");
+            assert!(rt; told.out.is_empty(), "at {line}");
+            assert_eq!(rt; told.unread, 3, "at {line}");
+        }
+    }
+    rt.remove_dir_all(alloc, &folder)?;
+    Ok(())
+}
