@@ -8,6 +8,7 @@ pub mod LayerSteps
 pub mod TailSteps
 pub mod Bounds
 pub mod Hybrids
+pub mod FirstOfBoth
 pub mod Stages
 pub mod HeadFacts
 pub mod Refused

@@ -22,5 +22,6 @@ pub mod MadeConditions
 pub mod MadeView
 pub mod MadeTorrents
 pub mod ProvedLaws
+pub mod WorkedTrees
 pub mod ValidRows
 pub mod MadeRows

@@ -1,52 +1,16 @@
 -- The conditions of `specs/valid` computed for worked torrents, written as trees. Hashes that no condition looks at are
 -- any bytes.
-use Rattle.std.proofs.Common.{◌≡◌, ℕ, pos, negsuc, List, [], ◌∷◌, ◌++◌, map, Option, None, Some, refl, codes, replicate}
+use Rattle.std.proofs.Common.{◌≡◌, ℕ, negsuc, List, [], ◌∷◌, ◌++◌, map, Option, None, Some, refl, codes, replicate}
 use Rattle.std.specs.Str.{is_utf8, chars}
 use lib.Utf8.{encode}
 use lib.Count.{ones}
-use Rattle.tor_bencode.specs.Data.{Data, integer, string, list, dictionary, Pairs, no_pairs, pair}
-use Rattle.tor_bencode.specs.View.{items_of}
+use Rattle.tor_bencode.specs.Data.{Data, integer, string, list}
 use Rattle.tor_spec.specs.valid.Conditions.{refusal_of, Condition}
 use Rattle.tor_spec.specs.valid.Conditions.{RootShape, InfoShape, MetaVersion, PieceLength, Name, LengthAndFiles}
 use Rattle.tor_spec.specs.valid.Conditions.{FileShape, FileLength, Duplicate, FileAndFolder, NoFiles, TooLarge, Symlink}
 use Rattle.tor_spec.specs.valid.Conditions.{PiecesLength, MixedNode, RootHash, LayersAbsent, LayerAbsent, LayerLength}
 use Rattle.tor_spec.specs.valid.Conditions.{FilesDiffer, Alignment}
-
-abbrev pairs_from : List (List ℕ × Data) → Pairs
-pairs_from [] = no_pairs
-pairs_from (p ∷ ps) = pair p.0 p.1 (pairs_from ps)
-
-abbrev dict : List (List ℕ × Data) → Data
-dict pairs = dictionary (pairs_from pairs)
-
-abbrev number : ℕ → Data
-number n = integer (pos n)
-
-abbrev items : List Data → Data
-items values = list (items_of values)
-
--- n bytes
-abbrev bytes : ℕ → Data
-bytes n = string (replicate n 7)
-
-abbrev path : List (List ℕ) → List ℕ × Data
-path names = (codes "path", items (map string names))
-
-abbrev size : ℕ → List ℕ × Data
-size n = (codes "length", number n)
-
-abbrev attr : List ℕ → List ℕ × Data
-attr letters = (codes "attr", string letters)
-
-abbrev file : ℕ → List ℕ → Data
-file n name = dict (size n ∷ path (name ∷ []) ∷ [])
-
-abbrev padding : ℕ → Data
-padding n = dict (attr (codes "p") ∷ size n ∷ [])
-
--- the files a of two bytes and b of one
-abbrev two : List Data
-two = file 2 (codes "a") ∷ file 1 (codes "b") ∷ []
+use Rattle.tor_spec.proofs.WorkedTrees.{dict, number, items, bytes, path, size, attr, file, padding, two}
 
 -- a torrent of BEP 3 alone, with `files`
 abbrev listed : List ℕ → Data → ℕ → Data → Data
