@@ -1,6 +1,6 @@
 -- The height of a tree: the least k with n at most 2 ^ k.
 use Rattle.std.proofs.Common.{◌≡◌, ◌⊎◌, ℕ, zero, suc, ◌^◌, ◌<◌, ◌≤◌, leb, arith, inl}
-use Rattle.std.proofs.Common.{inr, leb-true, leb-false, le_antisymm, pow_pos, pow_mono}
+use Rattle.std.proofs.Common.{inr, leb-true, leb-false, le_antisymm, le_trans, pow_pos, pow_mono}
 use Rattle.std.proofs.Math.Nat.{two-pow-succ}
 use Rattle.std.proofs.Math.Pow.{pow-lt}
 use Rattle.std.proofs.lemmas.Bool.{cases_Bool, cases_lt, cond-true, cond-false}
@@ -33,6 +33,10 @@ height_least (suc n) k le = elim (height_more n) [
     | inr more ↦ absurd (omega (arith, pow_mono more))
   ])
 ]
+
+-- a number whose height is at most k
+pub low_height : (n k : ℕ) → height n ≤ k → n ≤ 2 ^ k
+low_height n k low = le_trans (height_covers n) (pow_mono low)
 
 -- the height is above k exactly where 2 ^ k hashes are too few
 pub height_above : (n k : ℕ) → 2 ^ k < n → k < height n

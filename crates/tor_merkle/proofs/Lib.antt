@@ -17,4 +17,7 @@ pub mod Joined
 pub mod Units
 pub mod Lengths
 pub mod HashLengths
+pub mod ProofRoots
+pub mod Collisions
+pub mod Siblings
 pub mod ProvedLaws

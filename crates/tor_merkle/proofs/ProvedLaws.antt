@@ -1,26 +1,46 @@
 -- The laws of `src/laws.rt`, for proofs that cite them.
 use Rattle.std.proofs.Common.{◌≡◌, ◌+◌, ◌-◌, ◌*◌, ◌^◌, ◌<◌, ◌≤◌, ◌↔◌, ℕ, IsTrue, List, [], ◌∷◌}
-use Rattle.std.proofs.Common.{◌++◌, length, map, arith, sym, ap, ap₂, ◌∙◌, pow-add, mul_assoc, mul_comm}
-use Rattle.std.proofs.lemmas.Bool.{cond-false, lt-leb}
+use Rattle.std.proofs.Common.{◌++◌, length, map, arith, sym, ap, ap₂, ◌∙◌, pow-add, mul_assoc, mul_comm, inl, inr}
+use Rattle.std.proofs.Math.Pow.{pow-lt}
+use Rattle.std.proofs.lemmas.Bool.{cases_lt, cond-true, cond-false, eqb-true, lt-ltb, le-ltb, lt-leb}
 use Rattle.std.specs.Int.{div_ceil, is_power_of_two}
 use Rattle.std.specs.List.{flat_map, range_with_len}
 use Rattle.tor_merkle.specs.Block.{run_at, leaves}
 use Rattle.tor_merkle.specs.Layer.{IsPieceLength, pieces_root, piece_level, piece_roots, piece_layer}
+use Rattle.tor_merkle.specs.Proof.{proof_count, proof_level}
 use Rattle.tor_merkle.specs.Stack.{padded_root, padded_subtree}
+use Rattle.tor_merkle.specs.Subtree.{height}
 use Rattle.tor_merkle.specs.declared.TheConstants.{MAX_LENGTH, MAX_PIECE_LENGTH, MIN_PIECE_LENGTH}
 use Rattle.tor_merkle.proofs.Ceil.{ceil_at_most, ceil_from_below}
 use Rattle.tor_merkle.proofs.Content.{length-piece_roots, longer_than_piece, piece_roots-nodes, only_piece_root}
 use Rattle.tor_merkle.proofs.Filled.{padded_root-nodes}
 pub use Rattle.tor_merkle.proofs.HashLengths.{piece_roots_have_32_bytes, root_has_32_bytes}
+use Rattle.tor_merkle.proofs.Height.{height_least}
 use Rattle.tor_merkle.proofs.Joined.{piece_roots-joined}
 use Rattle.tor_merkle.proofs.Lengths.{length_bounds, length_split, level_is, level_low}
 use Rattle.tor_merkle.proofs.Units.{roots-units}
+use Rattle.tor_merkle.proofs.Power.{power_from_ones}
 use Rattle.tor_merkle.proofs.Sums.{padded_root-leaves}
 
 -- a piece length is a power of two from 16,384 to 2 ^ 30
 pub piece_length_bounds : (n : ℕ)
     → IsPieceLength n ↔ (IsTrue (is_power_of_two n) × (MIN_PIECE_LENGTH ≤ n) × (n ≤ MAX_PIECE_LENGTH))
 piece_length_bounds = length_bounds
+
+-- a piece length is 2 ^ k with k at most 30
+pub piece_lengths_divide_the_greatest : (n : ℕ) → IsPieceLength n → (count : ℕ) × (MAX_PIECE_LENGTH ≡ count * n)
+piece_lengths_divide_the_greatest n allowed =
+    let bounds = (piece_length_bounds n).0 allowed in
+    let power = power_from_ones n (eqb-true _ _ bounds.0) in
+    let below : power.0 ≤ 30 = elim (cases_lt 30 power.0) [
+      | inl more ↦
+          let grown : 2 ^ 30 < 2 ^ power.0 = pow-lt more in
+          absurd (omega (arith, grown, power.1, bounds.2))
+      | inr le ↦ le
+    ] in
+    let split : 2 ^ 30 ≡ 2 ^ (30 - power.0) * 2 ^ power.0 =
+    ap (λ k. 2 ^ k) (let e : 30 ≡ 30 - power.0 + power.0 = omega arith in e) ∙ pow-add 2 (30 - power.0) power.0 in
+    (2 ^ (30 - power.0), split ∙ ap (λ m. 2 ^ (30 - power.0) * m) (sym power.1))
 
 pub piece_levels_are_low : (n : ℕ) → IsPieceLength n → piece_level n ≤ 16
 piece_levels_are_low = level_low
@@ -79,10 +99,8 @@ some_piece_root content n allowed some =
     let pos : 0 < n = omega (arith, ((length_bounds n).0 allowed).1) in
     rw count_of_piece_roots (ceil_from_below (length content) n 0 pos (omega (arith, some)))
 
-pub few_piece_roots : (content : List ℕ) (piece_length : ℕ) → IsPieceLength piece_length
-    → length content ≤ MAX_LENGTH
-    → length (piece_roots content piece_length) ≤ 2 ^ (36 - piece_level piece_length)
-few_piece_roots content n allowed small =
+few_pieces : (size n : ℕ) → IsPieceLength n → size ≤ MAX_LENGTH → div_ceil size n ≤ 2 ^ (36 - piece_level n)
+few_pieces size n allowed small =
     let split = length_split n allowed in
     let k = split.0 in
     let level : piece_level n ≡ k = level_is n k split.1 in
@@ -92,5 +110,26 @@ few_piece_roots content n allowed small =
     let wide : 2 ^ (36 - k) * n ≡ 2 ^ (36 - k) * 2 ^ k * 16384 =
     ap (λ x. 2 ^ (36 - k) * x) (split.1 ∙ mul_comm 16384 (2 ^ k)) ∙ sym (mul_assoc (2 ^ (36 - k)) (2 ^ k) 16384) in
     let pos : 0 < n = omega (arith, ((length_bounds n).0 allowed).1) in
-    rw (count_of_piece_roots content n, level)
-    (ceil_at_most (length content) n (2 ^ (36 - k)) pos (omega (arith, small, all, wide)))
+    rw level (ceil_at_most size n (2 ^ (36 - k)) pos (omega (arith, small, all, wide)))
+
+pub few_piece_roots : (content : List ℕ) (piece_length : ℕ) → IsPieceLength piece_length
+    → length content ≤ MAX_LENGTH
+    → length (piece_roots content piece_length) ≤ 2 ^ (36 - piece_level piece_length)
+few_piece_roots content n allowed small =
+    rw (count_of_piece_roots content n) (few_pieces (length content) n allowed small)
+
+-- the trees of proofs have at most 37 levels in all
+pub proofs_are_low : (size piece_length : ℕ) → IsPieceLength piece_length → size ≤ MAX_LENGTH
+    → proof_level size piece_length + height (proof_count size piece_length) ≤ 36
+proofs_are_low size n allowed small = elim (cases_lt n size) [
+  | inl long ↦
+      let level : proof_level size n ≡ piece_level n = cond-true _ _ _ (lt-ltb n size long) in
+      let count : proof_count size n ≡ div_ceil size n = cond-true _ _ _ (lt-ltb n size long) in
+      let few = height_least (div_ceil size n) (36 - piece_level n) (few_pieces size n allowed small) in
+      rw (level, count) (omega (arith, level_low n allowed, few))
+  | inr short ↦
+      let level : proof_level size n ≡ height (div_ceil size 16384) = cond-false _ _ _ (le-ltb n size short) in
+      let count : proof_count size n ≡ 1 = cond-false _ _ _ (le-ltb n size short) in
+      let few = ceil_at_most size 16384 (2 ^ 36) (omega arith) (omega arith) in
+      rw (level, count) (omega (arith, height_least (div_ceil size 16384) 36 few, height_least 1 0 (omega arith)))
+]

@@ -3,4 +3,5 @@ pub mod Subtree
 pub mod Layer
 pub mod Stack
 pub mod Feeding
+pub mod Proof
 pub mod steps

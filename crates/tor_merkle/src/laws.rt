@@ -1,12 +1,14 @@
 //! Laws over the definitions alone.
 
-ghost use Rattle.std.specs.Prelude.{◌≡◌, ℕ, ◌*◌, ◌-◌, ◌^◌, ◌<◌, ◌≤◌, ◌↔◌, IsTrue, All, List, [], ◌∷◌, ◌++◌, length};
-ghost use Rattle.std.specs.Prelude.{map};
+ghost use Rattle.std.specs.Prelude.{◌≡◌, ℕ, ◌+◌, ◌*◌, ◌-◌, ◌^◌, ◌<◌, ◌≤◌, ◌↔◌, IsTrue, All, List, [], ◌∷◌, ◌++◌};
+ghost use Rattle.std.specs.Prelude.{length, map};
 ghost use Rattle.std.specs.Int.{div_ceil, is_power_of_two};
 ghost use Rattle.std.specs.List.{flat_map, range_with_len};
 ghost use Rattle.tor_merkle.specs.Block.{run_at, leaves};
 ghost use Rattle.tor_merkle.specs.Layer.{IsPieceLength, pieces_root, piece_level, piece_roots, piece_layer};
+ghost use Rattle.tor_merkle.specs.Proof.{proof_count, proof_level};
 ghost use Rattle.tor_merkle.specs.Stack.{padded_root, padded_subtree};
+ghost use Rattle.tor_merkle.specs.Subtree.{height};
 
 use crate::{BLOCK_LENGTH, MAX_LENGTH, MAX_PIECE_LENGTH, MIN_PIECE_LENGTH};
 
@@ -14,6 +16,11 @@ use crate::{BLOCK_LENGTH, MAX_LENGTH, MAX_PIECE_LENGTH, MIN_PIECE_LENGTH};
 pub fn piece_length_bounds()
     ensures { (n : ℕ) → IsPieceLength n
         ↔ (IsTrue (is_power_of_two n) × (MIN_PIECE_LENGTH ≤ n) × (n ≤ MAX_PIECE_LENGTH)) }
+{}
+
+/// Each piece length divides the greatest.
+pub fn piece_lengths_divide_the_greatest()
+    ensures { (n : ℕ) → IsPieceLength n → (count : ℕ) × (MAX_PIECE_LENGTH ≡ count * n) }
 {}
 
 /// Each piece of a content has one root.
@@ -65,6 +72,12 @@ pub fn piece_roots_fit_a_layer()
         0 < length (piece_roots content piece_length) }
     ensures small { (content : List ℕ) (piece_length : ℕ) → IsPieceLength piece_length → length content ≤ MAX_LENGTH →
         length (piece_roots content piece_length) ≤ 2 ^ (36 - piece_level piece_length) }
+{}
+
+/// [`crate::verify`] takes the count and the level of the proofs of any file of at most 2^50 bytes.
+pub fn proofs_are_low()
+    ensures { (size piece_length : ℕ) → IsPieceLength piece_length → size ≤ MAX_LENGTH →
+        proof_level size piece_length + height (proof_count size piece_length) ≤ 36 }
 {}
 
 /// A block, and the limits of a piece and of a file, in bytes.

@@ -19,6 +19,9 @@
 //! - [`Stack`], [`layer_root`] (`stack.rt`): the root over hashes that come one after another.
 //! - [`is_piece_length`], [`piece_level`] (`piece_length.rt`): which numbers of bytes a piece may have, and the level
 //!   of its hash.
+//! - [`Proof`] (`proof.rt`): that a hash stands at a place of a tree: [`prove`] makes, [`verify`] (`judge.rt`) judges
+//!   one, and [`collide`] (`collision.rt`) shows what two different ones for one place are worth. [`proof_count`] and
+//!   [`proof_level`] tell over how many hashes those of a file are, and of which level.
 //! - [`History`] (`trail.rt`): what came so far, which only proofs read.
 //! - [`laws`] (`laws.rt`): laws over the definitions of `specs/`.
 //!
@@ -26,16 +29,21 @@
 #![tactic(auto)]
 
 mod blocks;
+mod collision;
 mod digits;
 mod feed;
 mod hash;
+mod judge;
 pub mod laws;
 mod piece_length;
 mod pieces;
 mod plain;
+mod proof;
 mod stack;
 #[cfg(test)]
 mod tests;
+#[cfg(test)]
+mod tests_proof;
 mod trail;
 
 /// How many bytes a block has (BEP 52, "pieces root").
@@ -50,9 +58,12 @@ pub const MAX_PIECE_LENGTH: u64 = 1 << 30;
 /// How many bytes a content has at the most: a limit of this profile.
 pub const MAX_LENGTH: u64 = 1 << 50;
 
+pub use collision::collide;
 pub use feed::Feed;
 pub use hash::{Hash, leaf, pair, zero};
+pub use judge::verify;
 pub use piece_length::{is_piece_length, piece_level};
 pub use plain::whole;
+pub use proof::{Proof, ProveError, proof_count, proof_level, prove};
 pub use stack::{Stack, layer_root};
 pub use trail::History;

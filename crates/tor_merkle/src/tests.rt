@@ -18,7 +18,7 @@ const L1: &str = "f7c9045c2a79a8a2a587efbf5b310652685b292e6fbb0b08c1df857500da26
 
 const L2: &str = "597f81859724f979aece03e95c048d6ee5c6d59351e6a4db048997db6f05c845";
 
-fn hex(alloc: Global, hash: &Hash) -> Result<String, AllocError> {
+pub(crate) fn hex(alloc: Global, hash: &Hash) -> Result<String, AllocError> {
     let mut text = String::new(alloc);
     for byte in hash {
         write!(text, "{byte:02x}")?;
@@ -35,7 +35,7 @@ fn content(alloc: Global, length: usize) -> Result<Vec<u8>, AllocError> {
 }
 
 // The root in hexadecimal, and the layer, of such a content.
-fn whole_of<R: AllocGlobal + Abort>(
+pub(crate) fn whole_of<R: AllocGlobal + Abort>(
     rt: &R,
     length: usize,
     piece_length: u64,

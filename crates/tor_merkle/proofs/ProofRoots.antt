@@ -1,0 +1,39 @@
+-- The root that a hash and its siblings name, one level after another, and the tests of the siblings past the end.
+use Rattle.std.proofs.Common.{◌≡◌, ℕ, ◌/◌, ◌%◌, ◌<◌, Bool, true, false, List, [], ◌∷◌, arith, refl, ap, ◌∙◌, zero-add}
+use Rattle.std.proofs.lemmas.Bool.{cond-true, cond-false, eq-eqb, ne_eqb}
+use Rattle.std.proofs.lemmas.List.Folds.{list_all_at}
+use Rattle.std.proofs.lemmas.List.FromFn.{get_or-range_with_len, length-range_with_len}
+use Rattle.std.proofs.lemmas.List.Sums.{list_all-from_AllPass}
+use Rattle.std.specs.List.{list_all, range_with_len}
+use Rattle.tor_merkle.specs.Proof.{proof_root}
+use Rattle.tor_merkle.specs.Subtree.{node_of}
+
+pub proof_root-none : (hash : List ℕ) (place : ℕ) → proof_root hash place [] ≡ hash
+unfolding proof_root
+proof_root-none hash place = refl
+
+-- at an even place the hash is the left one
+pub proof_root-left : (hash : List ℕ) (place : ℕ) (sibling : List ℕ) (siblings : List (List ℕ)) → place % 2 ≡ 0
+    → proof_root hash place (sibling ∷ siblings) ≡ proof_root (node_of hash sibling) (place / 2) siblings
+unfolding proof_root
+proof_root-left hash place sibling siblings even =
+    ap (λ x. proof_root x (place / 2) siblings) (cond-true _ _ _ (eq-eqb (place % 2) 0 even))
+
+pub proof_root-right : (hash : List ℕ) (place : ℕ) (sibling : List ℕ) (siblings : List (List ℕ))
+    → (place % 2 ≡ 0 → ⊥)
+    → proof_root hash place (sibling ∷ siblings) ≡ proof_root (node_of sibling hash) (place / 2) siblings
+unfolding proof_root
+proof_root-right hash place sibling siblings odd =
+    ap (λ x. proof_root x (place / 2) siblings) (cond-false _ _ _ (ne_eqb (place % 2) 0 odd))
+
+-- a test of all numbers below n
+pub all_below : (test : ℕ → Bool) (n : ℕ) → ((k : ℕ) → k < n → test k ≡ true)
+    → list_all test (range_with_len 0 n) ≡ true
+all_below test n all = list_all-from_AllPass test (range_with_len 0 n) (λ k d lt.
+    let below : k < n = omega (arith, length-range_with_len 0 n) in
+    ap test (get_or-range_with_len 0 n k d below ∙ zero-add k) ∙ all k below)
+
+pub one_below : (test : ℕ → Bool) (n k : ℕ) → k < n → test k ≡ false → list_all test (range_with_len 0 n) ≡ false
+one_below test n k lt fails =
+    list_all_at test (range_with_len 0 n) k 0 (omega (arith, length-range_with_len 0 n))
+    (ap test (get_or-range_with_len 0 n k 0 lt ∙ zero-add k) ∙ fails)

@@ -1,0 +1,155 @@
+-- The siblings on the way from a hash to the root are nodes, and each two nodes of one parent give it.
+use Rattle.std.proofs.Common.{◌≡◌, ℕ, zero, suc, ◌+◌, ◌-◌, ◌*◌, ◌/◌, ◌%◌, ◌^◌, ◌<◌, ◌≤◌, List, map, length}
+use Rattle.std.proofs.Common.{IsTrue, true, get_or, take, drop, arith, ap, ap₂, ◌∙◌, sym, inl, inr, add-zero}
+use Rattle.std.proofs.Common.{add-one, zero-add, pow-suc, mul-le-mul_right, div-mul-le_self, eqb}
+use Rattle.std.proofs.Math.Nat.{div-div-eq-div-mul}
+use Rattle.std.proofs.lemmas.Bool.{cases_eq, cases_lt, cases_Bool, cond-true, cond-false, cond_both, eq-eqb, ne_eqb}
+use Rattle.std.proofs.lemmas.Bool.{lt-ltb, and_from, or_left, or_right, not_from_false, leb-true}
+use Rattle.std.proofs.lemmas.List.{take_all, take-append-drop, length-take, length-take-le, get_or_default}
+use Rattle.std.proofs.lemmas.List.FromFn.{length-map-range_with_len, get_or-map-range_with_len}
+use Rattle.std.proofs.lemmas.Slice.Eq.{bytes_eq-Decides}
+use Rattle.std.specs.List.{range_with_len}
+use Rattle.tor_merkle.specs.Block.{run_at}
+use Rattle.tor_merkle.specs.Proof.{proof_root, sibling_place, is_past_end, is_zero_past_end, is_proof, siblings_of}
+use Rattle.tor_merkle.specs.Stack.{padded_subtree, padded_root}
+use Rattle.tor_merkle.specs.Subtree.{node_of, zero_leaf, zero_subtree, height}
+use Rattle.tor_merkle.specs.steps.Node.{node}
+use Rattle.tor_merkle.proofs.Filled.{node-drop}
+use Rattle.tor_merkle.proofs.Height.{height_covers}
+use Rattle.tor_merkle.proofs.Node.{node-append, node_past, subtree_root-padded}
+use Rattle.tor_merkle.proofs.Places.{div_between}
+use Rattle.tor_merkle.proofs.ProofRoots.{proof_root-none, proof_root-left, proof_root-right, all_below}
+
+-- the first node needs the first hashes only
+node-take : (base : ℕ) (hashes : List (List ℕ)) (k : ℕ)
+    → node base (take (2 ^ k) hashes) k 0 ≡ node base hashes k 0
+node-take base hashes k = elim (cases_lt (2 ^ k) (length hashes)) [
+  | inl more ↦
+      sym (node-append base (take (2 ^ k) hashes) (drop (2 ^ k) hashes) k 0
+      (omega (arith, length-take-le (2 ^ k) hashes (omega arith))))
+      ∙ ap (λ xs. node base xs k 0) (take-append-drop (2 ^ k) hashes)
+  | inr few ↦ ap (λ xs. node base xs k 0) (take_all (2 ^ k) hashes few)
+]
+
+-- the root of a run, widened by zero subtrees, is a node
+pub run-node : (base : ℕ) (hashes : List (List ℕ)) (k i : ℕ)
+    → padded_subtree k base (run_at (2 ^ k) hashes i) ≡ node base hashes k i
+run-node base hashes k i =
+    subtree_root-padded base (run_at (2 ^ k) hashes i) k
+    (omega (arith, length-take (2 ^ k) (drop (i * 2 ^ k) hashes)))
+    ∙ node-take base (drop (i * 2 ^ k) hashes) k
+    ∙ node-drop base hashes i k 0
+    ∙ ap (node base hashes k) (add-zero i)
+
+-- that of no hash is a zero subtree
+pub run-past : (base : ℕ) (hashes : List (List ℕ)) (k i : ℕ) → length hashes ≤ i * 2 ^ k
+    → padded_subtree k base (run_at (2 ^ k) hashes i) ≡ zero_subtree (base + k)
+run-past base hashes k i past = run-node base hashes k i ∙ node_past base hashes k i past
+
+-- the sibling at a level ends no further than one subtree of that level after the index
+pub sibling_near : (index level : ℕ) → sibling_place index level * 2 ^ level ≤ index + 2 ^ level
+sibling_near index level =
+    let place = index / 2 ^ level in
+    let near : sibling_place index level ≤ place + 1 =
+    cond_both (eqb (place % 2) 0) (place + 1) (place - 1) (λ x. x ≤ place + 1) (λ _. omega arith) (λ _. omega arith) in
+    let wide : sibling_place index level * 2 ^ level ≤ (place + 1) * 2 ^ level =
+    mul-le-mul_right {n = place + 1} (2 ^ level) near in
+    omega (arith, wide, div-mul-le_self index (2 ^ level))
+
+module _ (base : ℕ) (hashes : List (List ℕ)) (index : ℕ) where
+  abbrev sibling : ℕ → List ℕ
+  sibling level = padded_subtree level base (run_at (2 ^ level) hashes (sibling_place index level))
+
+  -- those of all levels
+  pub siblings_all : (n : ℕ) → n ≡ height (length hashes)
+      → map sibling (range_with_len 0 n) ≡ siblings_of base hashes index
+  unfolding siblings_of
+  siblings_all n all = ap (λ m. map sibling (range_with_len 0 m)) all
+
+  half : (k : ℕ) → index / 2 ^ suc k ≡ index / 2 ^ k / 2
+  half k = ap (λ x. index / x) (pow-suc 2 k) ∙ sym (div-div-eq-div-mul index (2 ^ k) 2)
+
+  -- a node and its sibling give the node above
+  node-left : (k : ℕ) → index / 2 ^ k % 2 ≡ 0
+      → node_of (node base hashes k (index / 2 ^ k)) (sibling k) ≡ node base hashes (suc k) (index / 2 ^ suc k)
+  unfolding node
+  node-left k even =
+      let place = index / 2 ^ k in
+      ap₂ node_of
+      (ap (node base hashes k) (let same : place ≡ 2 * (index / 2 ^ suc k) = omega (arith, half k) in same))
+      (run-node base hashes k (sibling_place index k)
+      ∙ ap (node base hashes k) (cond-true _ (place + 1) (place - 1) (eq-eqb (place % 2) 0 even)
+      ∙ (let same : place + 1 ≡ 2 * (index / 2 ^ suc k) + 1 = omega (arith, half k) in same)))
+
+  node-right : (k : ℕ) → (index / 2 ^ k % 2 ≡ 0 → ⊥)
+      → node_of (sibling k) (node base hashes k (index / 2 ^ k)) ≡ node base hashes (suc k) (index / 2 ^ suc k)
+  unfolding node
+  node-right k odd =
+      let place = index / 2 ^ k in
+      ap₂ node_of
+      (run-node base hashes k (sibling_place index k)
+      ∙ ap (node base hashes k) (cond-false _ (place + 1) (place - 1) (ne_eqb (place % 2) 0 odd)
+      ∙ (let same : place - 1 ≡ 2 * (index / 2 ^ suc k) = omega (arith, half k) in same)))
+      (ap (node base hashes k) (let same : place ≡ 2 * (index / 2 ^ suc k) + 1 = omega (arith, half k) in same))
+
+  -- the way from level k through n levels
+  climb : (n k : ℕ) → proof_root (node base hashes k (index / 2 ^ k)) (index / 2 ^ k) (map sibling (range_with_len k n))
+      ≡ node base hashes (k + n) (index / 2 ^ (k + n))
+  climb zero k = proof_root-none _ _ ∙ ap (λ h. node base hashes h (index / 2 ^ h)) (sym (add-zero k))
+  climb (suc n) k =
+      let place = index / 2 ^ k in
+      let rest = map sibling (range_with_len (k + 1) n) in
+      let up : proof_root (node base hashes (suc k) (index / 2 ^ suc k)) (place / 2) rest
+      ≡ node base hashes (k + suc n) (index / 2 ^ (k + suc n)) =
+      ap₂ (λ h p. proof_root (node base hashes h (index / 2 ^ h)) p rest) (sym (add-one k))
+      (sym (half k) ∙ ap (λ h. index / 2 ^ h) (sym (add-one k)))
+      ∙ climb n (k + 1)
+      ∙ ap (λ h. node base hashes h (index / 2 ^ h)) (omega arith) in
+      elim (cases_eq (place % 2) 0) [
+        | inl even ↦
+            proof_root-left _ place (sibling k) rest even
+            ∙ ap (λ x. proof_root x (place / 2) rest) (node-left k even) ∙ up
+        | inr odd ↦
+            proof_root-right _ place (sibling k) rest odd
+            ∙ ap (λ x. proof_root x (place / 2) rest) (node-right k odd) ∙ up
+      ]
+
+  -- the proof over all levels, of a hash that is there
+  module _ (inside : index < length hashes) where
+    leads_to_root : proof_root (get_or hashes index zero_leaf) index (siblings_of base hashes index)
+        ≡ padded_root base hashes
+    unfolding siblings_of padded_root node
+    leads_to_root =
+        let top = height (length hashes) in
+        let whole : index / 2 ^ 0 ≡ index = omega arith in
+        let hash : get_or hashes index zero_leaf ≡ node base hashes 0 (index / 2 ^ 0) =
+        get_or_default hashes index zero_leaf (zero_subtree base) inside ∙ ap (node base hashes 0) (sym whole) in
+        ap₂ (λ x p. proof_root x p (map sibling (range_with_len 0 top))) hash (sym whole)
+        ∙ climb top 0
+        ∙ ap (λ h. node base hashes h (index / 2 ^ h)) (zero-add top)
+        ∙ ap (node base hashes top)
+        (div_between index top 0 (omega arith) (omega (arith, height_covers (length hashes))))
+        ∙ sym (subtree_root-padded base hashes top (height_covers (length hashes)))
+
+    zeros_past_end : (level : ℕ) → level < height (length hashes)
+        → is_zero_past_end base (length hashes) index (siblings_of base hashes index) level ≡ true
+    unfolding siblings_of
+    zeros_past_end level lt = elim (cases_Bool (is_past_end (length hashes) index level)) [
+      | inl past ↦
+          or_right _ _ ((bytes_eq-Decides _ _).1
+          (get_or-map-range_with_len sibling 0 (height (length hashes)) level level zero_leaf lt (zero-add level)
+          ∙ run-past base hashes level (sibling_place index level) (leb-true _ _ past)))
+      | inr before ↦ or_left _ _ (not_from_false _ before)
+    ]
+
+    length-siblings : length (siblings_of base hashes index) ≡ height (length hashes)
+    unfolding siblings_of
+    length-siblings = length-map-range_with_len sibling 0 (height (length hashes))
+
+    pub siblings_accepted : IsTrue (is_proof (padded_root base hashes) (length hashes) base index
+        (get_or hashes index zero_leaf) (siblings_of base hashes index))
+    siblings_accepted =
+        and_from _ _
+        (and_from _ _ (and_from _ _ (lt-ltb _ _ inside) (eq-eqb _ _ length-siblings))
+        (all_below _ _ (λ level lt. zeros_past_end level (omega (arith, length-siblings)))))
+        ((bytes_eq-Decides _ _).1 leads_to_root)

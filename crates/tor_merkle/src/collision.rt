@@ -1,0 +1,61 @@
+//! Two different hashes for one place of a tree: what their proofs are worth.
+
+ghost use Rattle.std.specs.Prelude.{◌≡◌, ◌≢◌, ℕ, ◌%◌, ◌==◌, List, ◌++◌, IsTrue, length, if◌then◌else◌};
+ghost use Rattle.sha2.specs.Sha256.{sha256};
+ghost use Rattle.tor_merkle.specs.Proof.{is_proof};
+
+use crate::hash::{Hash, leaf};
+use crate::proof::Proof;
+
+/// Two different texts of 64 bytes with one SHA-256, where two different hashes have accepted proofs for one place
+/// under one root. Of other hashes or proofs the texts say nothing.
+pub fn collide(
+    index: u64,
+    hash: &Hash,
+    proof: &Proof,
+    other: &Hash,
+    other_proof: &Proof,
+) -> ([u8; 64], [u8; 64])
+    ensures { (root : List ℕ) → (count level : ℕ)
+        → IsTrue (is_proof root count level index hash.now proof.now.siblings.items)
+        → IsTrue (is_proof root count level index other.now other_proof.now.siblings.items)
+        → hash.now ≢ other.now
+        → (result.0 ≢ result.1) × (sha256 result.0 ≡ sha256 result.1) }
+{
+    let mut node = *hash;
+    let mut other_node = *other;
+    let mut place = index;
+    'levels: for (sibling, other_sibling) in proof.siblings.iter().zip(&other_proof.siblings) {
+        let text = children(place, &node, sibling);
+        let other_text = children(place, &other_node, other_sibling);
+        node = leaf(&text);
+        other_node = leaf(&other_text);
+        if node == other_node {
+            return (text, other_text);
+        }
+        place /= 2;
+    }
+    ([0; 64], [0; 64])
+}
+
+// The 64 bytes of a hash and its sibling, at an even place the hash first.
+fn children(place: u64, hash: &Hash, sibling: &Hash) -> [u8; 64]
+    ensures text { result ≡ (if place % 2 == 0 then hash.now ++ sibling.now else sibling.now ++ hash.now) }
+    ensures lengths { (length hash.now ≡ 32) × (length sibling.now ≡ 32) }
+{
+    if place % 2 == 0 {
+        joined(hash, sibling)
+    } else {
+        joined(sibling, hash)
+    }
+}
+
+// The bytes of both hashes.
+fn joined(left: &Hash, right: &Hash) -> [u8; 64]
+    ensures { result ≡ left.now ++ right.now }
+{
+    let mut text = [0; 64];
+    text[..32].copy_from_slice(left.as_slice());
+    text[32..].copy_from_slice(right.as_slice());
+    text
+}
