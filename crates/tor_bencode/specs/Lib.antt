@@ -7,4 +7,3 @@ pub mod View
 pub mod Fault
 pub mod Place
 pub mod steps
-pub mod RisingProp

@@ -21,7 +21,15 @@ pub mod MadeSides
 pub mod MadeConditions
 pub mod MadeView
 pub mod MadeTorrents
+pub mod OwnBytes
+pub mod OwnSums
+pub mod OwnRoots
+pub mod OwnMerkle
+pub mod OwnSha1
+pub mod OwnCount
+pub mod OwnContents
 pub mod ProvedLaws
 pub mod WorkedTrees
 pub mod ValidRows
 pub mod MadeRows
+pub mod VerifiedRows

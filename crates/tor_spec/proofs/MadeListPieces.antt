@@ -13,7 +13,7 @@ use Rattle.tor_v1.specs.Entries.{v1_entries}
 use Rattle.tor_v1.specs.declared.entry.Entry.{Entry}
 use Rattle.tor_v1.specs.declared.layout.Layout.{Layout}
 
-abbrev contents_of : List File → List (List ℕ)
+abbrev pub contents_of : List File → List (List ℕ)
 contents_of files = map (λ file. file.content) files
 
 lengths_of_contents : (files : List File)
@@ -27,7 +27,7 @@ lengths_of_entries : (entries : List Entry)
 lengths_of_entries [] = refl
 lengths_of_entries (entry ∷ entries) = ap (λ sizes. entry.length ∷ sizes) (lengths_of_entries entries)
 
-contents_fit : (layout : Layout) (p : ℕ) (files : List File)
+pub contents_fit : (layout : Layout) (p : ℕ) (files : List File)
     → AreContentsOf (v1_entries layout p (sizes_of files)) (contents_of files)
 contents_fit layout p files =
     lengths_of_contents files

@@ -1,49 +1,16 @@
 -- A length rounded up to whole pieces is at most what it is rounded up to the greatest pieces.
-use Rattle.std.proofs.Common.{◌≡◌, ℕ, suc, ◌+◌, ◌-◌, ◌*◌, ◌/◌, ◌%◌, ◌^◌, ◌<◌, ◌≤◌, arith, ap, ◌∙◌, sym, inl, inr}
-use Rattle.std.proofs.Common.{count_ones, lt_of_mul-lt-mul_right, mod-lt, mul-le-mul_right, mul_assoc, pow-add, pow-suc}
-use Rattle.std.proofs.Math.Arith.{bin_ind}
+use Rattle.std.proofs.Common.{◌≡◌, ℕ, ◌+◌, ◌-◌, ◌*◌, ◌/◌, ◌%◌, ◌<◌, ◌≤◌, arith, ap, ◌∙◌, sym, inl, inr}
+use Rattle.std.proofs.Common.{lt_of_mul-lt-mul_right, mod-lt, mul-le-mul_right, mul_assoc}
 use Rattle.std.proofs.Math.Nat.{mod-add-div', mod-eq_of_lt, mod_self}
-use Rattle.std.proofs.Math.Pow.{pow-lt}
-use Rattle.std.proofs.lemmas.Bool.{cases_eq, cases_lt, eqb-true}
-use Rattle.std.proofs.lemmas.Nat.{zero_from_ones}
+use Rattle.std.proofs.lemmas.Bool.{cases_eq}
 use Rattle.std.specs.Int.{next_multiple_of}
-use Rattle.std.specs.Int.Count.{ones, ones_step}
-use Rattle.tor_merkle.proofs.ProvedLaws.{piece_length_bounds}
+use Rattle.tor_merkle.proofs.ProvedLaws.{piece_length_bounds, piece_lengths_divide_the_greatest}
 use Rattle.tor_merkle.specs.Layer.{IsPieceLength}
 use Rattle.tor_tree.specs.declared.lists.TheConstants.{ROUNDING}
-
--- ---- a piece length divides the greatest
-
-one_bit_zero : ones 0 ≡ 1 → (k : ℕ) × (0 ≡ 2 ^ k)
-unfolding ones
-one_bit_zero e = absurd (omega (arith, e))
-
-one_bit_more : (n : ℕ) → (ones (n / 2) ≡ 1 → (k : ℕ) × (n / 2 ≡ 2 ^ k)) → ones n ≡ 1 → (k : ℕ) × (n ≡ 2 ^ k)
-one_bit_more n half e = elim (cases_eq (n % 2) 0) [
-  | inl even ↦ let h = half (omega (arith, ones_step n)) in (suc h.0, rw pow-suc (omega (arith, h.1)))
-  | inr odd ↦ (0, omega (arith, zero_from_ones (n / 2) (omega (arith, ones_step n))))
-]
-
-power_from_ones : (n : ℕ) → count_ones n ≡ 1 → (k : ℕ) × (n ≡ 2 ^ k)
-power_from_ones = bin_ind (λ n. ones n ≡ 1 → (k : ℕ) × (n ≡ 2 ^ k)) one_bit_zero one_bit_more
 
 -- so many pieces
 abbrev Whole : ℕ → ℕ → Type 0
 Whole n p = (q : ℕ) × (n ≡ q * p)
-
-divides : (p : ℕ) → IsPieceLength p → Whole ROUNDING p
-divides p allowed =
-    let bounds = (piece_length_bounds p).0 allowed in
-    let power = power_from_ones p (eqb-true _ _ bounds.0) in
-    let below : power.0 ≤ 30 = elim (cases_lt 30 power.0) [
-      | inl more ↦
-          let grown : 2 ^ 30 < 2 ^ power.0 = pow-lt more in
-          absurd (omega (arith, grown, power.1, bounds.2))
-      | inr le ↦ le
-    ] in
-    let split : 2 ^ 30 ≡ 2 ^ (30 - power.0) * 2 ^ power.0 =
-    ap (λ k. 2 ^ k) (let e : 30 ≡ 30 - power.0 + power.0 = omega arith in e) ∙ pow-add 2 (30 - power.0) power.0 in
-    (2 ^ (30 - power.0), split ∙ ap (λ n. 2 ^ (30 - power.0) * n) (sym power.1))
 
 -- ---- the next multiple
 
@@ -74,7 +41,7 @@ pub rounded_within : (p : ℕ) → IsPieceLength p → (n : ℕ) → next_multip
 rounded_within p allowed n =
     let bounds = (piece_length_bounds p).0 allowed in
     let some : 0 < p = omega (arith, bounds.1) in
-    let by = divides p allowed in
+    let by : Whole ROUNDING p = piece_lengths_divide_the_greatest p allowed in
     let upper = next_is n ROUNDING (omega arith) in
     let whole : next_multiple_of n ROUNDING ≡ upper.0.0 * by.0 * p =
     upper.0.1 ∙ ap (λ m. upper.0.0 * m) by.1 ∙ sym (mul_assoc upper.0.0 by.0 p) in

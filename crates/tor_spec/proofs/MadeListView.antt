@@ -34,7 +34,7 @@ told_files [] = tt
 told_files (file ∷ files) = (refl, told_files files)
 
 -- a file, with its root and layer where there is a v2 side
-abbrev viewed : Bool → ℕ → File → FileView
+abbrev pub viewed : Bool → ℕ → File → FileView
 viewed v2 p file = record {
   file = record {
     path = file.path;

@@ -2,3 +2,4 @@
 pub use Rattle.tor_spec.proofs.EntryLengths.{padding_lengths, small_lengths}
 pub use Rattle.tor_spec.proofs.LawfulTorrents.{torrents_are_lawful}
 pub use Rattle.tor_spec.proofs.MadeTorrents.{made_torrents_are_valid, made_torrents_are_told}
+pub use Rattle.tor_spec.proofs.OwnContents.{own_contents_verify_every_piece}

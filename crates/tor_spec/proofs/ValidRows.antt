@@ -13,7 +13,7 @@ use Rattle.tor_spec.specs.valid.Conditions.{FilesDiffer, Alignment}
 use Rattle.tor_spec.proofs.WorkedTrees.{dict, number, items, bytes, path, size, attr, file, padding, two}
 
 -- a torrent of BEP 3 alone, with `files`
-abbrev listed : List ℕ → Data → ℕ → Data → Data
+abbrev pub listed : List ℕ → Data → ℕ → Data → Data
 listed name files piece_length sums =
     dict ((
       codes "info",
@@ -22,7 +22,7 @@ listed name files piece_length sums =
     ) ∷ [])
 
 -- its list may be wrong
-abbrev of_list : List Data → Data
+abbrev pub of_list : List Data → Data
 of_list files = listed (codes "f") (items files) 16384 (bytes 20)
 
 -- a torrent of BEP 3 alone, with `length`
@@ -77,11 +77,11 @@ unfolding is_utf8 chars encode
 list_rows = refl
 
 -- the properties of a file of so many bytes
-abbrev properties : ℕ → Data
+abbrev pub properties : ℕ → Data
 properties n = dict ((codes "", dict (size n ∷ (codes "pieces root", bytes 32) ∷ [])) ∷ [])
 
 -- a torrent of BEP 52 alone
-abbrev treed : Data → ℕ → List (List ℕ × Data) → Data
+abbrev pub treed : Data → ℕ → List (List ℕ × Data) → Data
 treed tree piece_length layers =
     dict ((
       codes "info",
@@ -132,7 +132,7 @@ unfolding is_utf8 chars encode ones
 tree_rows = refl
 
 -- a hybrid of the files a of two bytes and b of one in the tree, and these entries
-abbrev hybrid : List Data → Data → Data
+abbrev pub hybrid : List Data → Data → Data
 hybrid files sums =
     dict ((
       codes "info",

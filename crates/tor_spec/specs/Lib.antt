@@ -8,3 +8,5 @@ pub mod Metainfo
 pub mod Made
 pub mod Makeable
 pub mod valid
+pub mod Present
+pub mod Verified

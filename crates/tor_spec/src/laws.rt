@@ -1,11 +1,12 @@
 //! Laws over the definitions alone.
-ghost use Rattle.std.specs.Prelude.{◌≡◌, ◌<◌, ◌^◌, true, All, ℕ, List};
+ghost use Rattle.std.specs.Prelude.{◌≡◌, ◌<◌, ◌^◌, true, All, ℕ, List, map, replicate};
 ghost use Rattle.tor_bencode.specs.Lawful.{IsLawful};
 ghost use Rattle.tor_spec.specs.Facts.{Facts, File};
 ghost use Rattle.tor_spec.specs.Made.{AreMade, IsViewOfMade};
 ghost use Rattle.tor_spec.specs.Makeable.{AreMakeable};
 ghost use Rattle.tor_spec.specs.Metainfo.{facts_of_files, metainfo, pieces_of_files, root_dictionary};
 ghost use Rattle.tor_spec.specs.Settings.{Settings};
+ghost use Rattle.tor_spec.specs.Verified.{verified_pieces};
 ghost use Rattle.tor_spec.specs.valid.Conditions.{IsTorrentOf};
 ghost use Rattle.tor_spec.specs.valid.View.{view_of};
 ghost use Rattle.tor_merkle.specs.Layer.{IsPieceLength};
@@ -28,8 +29,8 @@ pub fn entries_fit()
         All (λ entry. entry.pad ≡ true → entry.length < piece_length) (v1_entries layout piece_length files) }
 {}
 
-/// What the definition of a made torrent gives of files that the maker accepts is a torrent by the definition of those.
-/// It describes those files: their paths and lengths, and their roots and layers where there is a v2 side.
+/// The torrent that the maker is to write, of files that it accepts, is one that a validator accepts. It describes
+/// those files: their paths and lengths, and their roots and layers where there is a v2 side.
 pub fn made_torrents_are_valid()
     ensures valid { (settings : Settings) (files : List File) → AreMade settings files → IsTorrentOf
         (root_dictionary settings (facts_of_files settings.piece_length files) (pieces_of_files settings files))
@@ -37,4 +38,12 @@ pub fn made_torrents_are_valid()
     ensures view { (settings : Settings) (files : List File) → AreMade settings files →
         IsViewOfMade settings files (view_of
         (root_dictionary settings (facts_of_files settings.piece_length files) (pieces_of_files settings files))) }
+{}
+
+/// The contents of which a torrent was made verify every piece of it.
+pub fn own_contents_verify_every_piece()
+    ensures { (settings : Settings) (files : List File) → AreMade settings files →
+        let view = view_of
+        (root_dictionary settings (facts_of_files settings.piece_length files) (pieces_of_files settings files)) in
+        verified_pieces view (map (λ file. file.content) files) ≡ replicate view.piece_count true }
 {}

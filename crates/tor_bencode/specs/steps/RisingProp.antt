@@ -2,8 +2,7 @@
 use Rattle.std.specs.Prelude.{ℕ, List, [], ◌∷◌}
 use Rattle.std.specs.Ordering.{Ordering-set}
 use Rattle.tor_bencode.specs.Data.{Data, integer, string, list, dictionary, Items, no_items, item, Pairs, no_pairs}
-use Rattle.tor_bencode.specs.Data.{pair}
-use Rattle.tor_bencode.specs.Data.{keys_of}
+use Rattle.tor_bencode.specs.Data.{pair, keys_of}
 use Rattle.tor_bencode.specs.Lawful.{AreRising, HasRisingKeys, ItemsHaveRisingKeys, PairsHaveRisingKeys}
 use mathlib.Core.HLevel.{×_prop, Unit-prop}
 

@@ -1,0 +1,71 @@
+-- The i-th 20 bytes of the joined SHA-1 of a content's pieces are the SHA-1 of piece i.
+use Rattle.std.proofs.Common.{◌≡◌, ℕ, ◌+◌, ◌*◌, ◌<◌, ◌≤◌, List, [], length, take, drop}
+use Rattle.std.proofs.Common.{arith, ap, ◌∙◌, sym, inl, inr, take_all, take_at, drop_at}
+use Rattle.std.proofs.Common.{take-append-drop, length-take-le, lt_of_mul-lt-mul_right}
+use Rattle.std.proofs.lemmas.Bool.{cases_lt}
+use Rattle.std.proofs.lemmas.Grind.{div_ceil_times}
+use Rattle.std.proofs.lemmas.List.{drop_all, nil_from_length}
+use Rattle.std.specs.Int.{div_ceil}
+use Rattle.tor_merkle.specs.Block.{run_at}
+use Rattle.tor_v1.proofs.ProvedLaws.{length-piece_sums, sums_of_joined}
+use Rattle.tor_v1.specs.Piece.{piece_sums}
+
+-- a ceiling is at most any number of pieces that covers
+pub ceil_within : (n p k : ℕ) → 0 < p → n ≤ k * p → div_ceil n p ≤ k
+ceil_within n p k some le = by (div_ceil n p) (div_ceil_times n p some) where
+  by : (q : ℕ) → (n ≤ q * p) × (q * p < n + p) → q ≤ k
+  by q bounds =
+      let next : (k + 1) * p ≡ k * p + p = omega arith in
+      let less : q < k + 1 = lt_of_mul-lt-mul_right p (omega (arith, next, bounds.1, le)) in
+      omega (arith, less)
+
+pub ceil_exact : (p k : ℕ) → 0 < p → div_ceil (k * p) p ≡ k
+ceil_exact p k some = by (div_ceil (k * p) p) (div_ceil_times (k * p) p some) where
+  by : (q : ℕ) → (k * p ≤ q * p) × (q * p < k * p + p) → q ≡ k
+  by q bounds =
+      let next : (k + 1) * p ≡ k * p + p = omega arith in
+      let after : (q + 1) * p ≡ q * p + p = omega arith in
+      let less : q < k + 1 = lt_of_mul-lt-mul_right p (omega (arith, next, bounds.1)) in
+      let more : k < q + 1 = lt_of_mul-lt-mul_right p (omega (arith, after, bounds.0, some)) in
+      omega (arith, less, more)
+
+module _ (p : ℕ) (some : 0 < p) where
+  few_sums : (xs : List ℕ) (k : ℕ) → length xs ≤ k * p → length (piece_sums p xs) ≤ 20 * k
+  few_sums xs k le = omega (arith, length-piece_sums p xs, ceil_within (length xs) p k some le)
+
+  whole_sums : (xs : List ℕ) (k : ℕ) → length xs ≡ k * p → length (piece_sums p xs) ≡ 20 * k
+  whole_sums xs k long =
+      length-piece_sums p xs ∙ ap (λ n. 20 * div_ceil n p) long ∙ ap (λ n. 20 * n) (ceil_exact p k some)
+
+  first_sum : (xs : List ℕ) → take 20 (piece_sums p xs) ≡ piece_sums p (take p xs)
+  first_sum xs = elim (cases_lt p (length xs)) [
+    | inl more ↦
+        let x = take p xs in
+        let rest = drop p xs in
+        let long : length x ≡ 1 * p = length-take-le p xs (omega (arith, more)) ∙ omega arith in
+        ap (λ zs. take 20 (piece_sums p zs)) (sym (take-append-drop p xs))
+        ∙ ap (take 20) (sums_of_joined p 1 x rest some long)
+        ∙ take_at (piece_sums p x) (piece_sums p rest) 20 (whole_sums x 1 long)
+    | inr le ↦
+        take_all 20 (piece_sums p xs) (few_sums xs 1 (omega (arith, le)))
+        ∙ ap (piece_sums p) (sym (take_all p xs le))
+  ]
+
+  later_sums : (xs : List ℕ) (i : ℕ) → drop (i * 20) (piece_sums p xs) ≡ piece_sums p (drop (i * p) xs)
+  later_sums xs i = elim (cases_lt (i * p) (length xs)) [
+    | inl more ↦
+        let x = take (i * p) xs in
+        let rest = drop (i * p) xs in
+        let long : length x ≡ i * p = length-take-le (i * p) xs (omega (arith, more)) in
+        ap (λ zs. drop (i * 20) (piece_sums p zs)) (sym (take-append-drop (i * p) xs))
+        ∙ ap (drop (i * 20)) (sums_of_joined p i x rest some long)
+        ∙ drop_at (piece_sums p x) (piece_sums p rest) (i * 20) (omega (arith, whole_sums x i long))
+    | inr le ↦
+        let none : piece_sums p [] ≡ [] =
+        nil_from_length (piece_sums p []) (omega (arith, few_sums [] 0 (omega arith))) in
+        drop_all (i * 20) (piece_sums p xs) (omega (arith, few_sums xs i le))
+        ∙ sym (ap (piece_sums p) (drop_all (i * p) xs le) ∙ none)
+  ]
+
+  pub sum_of_piece : (xs : List ℕ) (i : ℕ) → piece_sums p (run_at p xs i) ≡ run_at 20 (piece_sums p xs) i
+  sum_of_piece xs i = sym (ap (take 20) (later_sums xs i) ∙ first_sum (drop (i * p) xs))
