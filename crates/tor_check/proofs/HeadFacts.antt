@@ -22,7 +22,7 @@ pub record IsAllowed (kind : Kind) (n : ℕ) : Type 0 where
   pub few : n ≤ max_piece_length
   pub tree : has_v2 kind ≡ true → IsPieceLength n
 
-not_false : (b : Bool) → not b ≡ false → b ≡ true
+pub not_false : (b : Bool) → not b ≡ false → b ≡ true
 not_false true e = refl
 not_false false e = absurd (true≢false e)
 
@@ -30,7 +30,7 @@ both_true : (a b : Bool) → (a && b) ≡ true → (a ≡ true) × (b ≡ true)
 both_true true b e = (refl, e)
 both_true false b e = absurd (true≢false (sym e))
 
-allowed_by : (kind : Kind) (found : Option ℤ) → is_no_piece_length kind found ≡ false
+pub allowed_by : (kind : Kind) (found : Option ℤ) → is_no_piece_length kind found ≡ false
     → IsAllowed kind (unsigned_abs (unwrap_or found (pos 0)))
 allowed_by kind None e = absurd (true≢false e)
 allowed_by kind (Some (negsuc n)) e = absurd (true≢false e)

@@ -15,7 +15,7 @@ FewPieceRoots = (content : List ℕ) (p : ℕ) → IsPieceLength p → length co
     → length (piece_roots content p) ≤ 2 ^ (36 - piece_level p)
 
 -- a file of n bytes has few pieces
-few_pieces : FewPieceRoots → (p n : ℕ) → IsPieceLength p → n ≤ MAX_LENGTH → div_ceil n p ≤ 2 ^ (36 - piece_level p)
+pub few_pieces : FewPieceRoots → (p n : ℕ) → IsPieceLength p → n ≤ MAX_LENGTH → div_ceil n p ≤ 2 ^ (36 - piece_level p)
 few_pieces few p n allowed small =
     let zeros = replicate n 0 in
     let long : length zeros ≡ n = length-replicate n 0 in

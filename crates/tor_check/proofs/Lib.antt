@@ -12,3 +12,7 @@ pub mod FirstOfBoth
 pub mod Stages
 pub mod HeadFacts
 pub mod Refused
+pub mod Heights
+pub mod NoneHolds
+pub mod ValidTrees
+pub mod PieceSteps

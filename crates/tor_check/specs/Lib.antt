@@ -4,3 +4,5 @@ pub mod Sides
 pub mod Layers
 pub mod Views
 pub mod Valid
+pub mod ValidViews
+pub mod PieceProofs

@@ -3,7 +3,7 @@ ghost use Rattle.std.specs.Prelude.{◌≡◌, codes, option_map};
 ghost use Rattle.std.specs.Option.{ForSome};
 ghost use Rattle.tor_bencode.specs.Find.{value_of};
 ghost use Rattle.tor_bencode.specs.Lawful.{HasRisingKeys};
-ghost use Rattle.tor_bencode.specs.RisingProp.{rising_props};
+ghost use Rattle.tor_bencode.specs.steps.RisingProp.{rising_props};
 ghost use Rattle.tor_bencode.specs.View.{view};
 
 use tor_bencode::laws::values_have_rising_keys;

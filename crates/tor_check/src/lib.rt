@@ -11,6 +11,8 @@
 //!
 //! - [`validate`] (`verdict.rt`): what the torrent describes that bytes are, or why they are none.
 //! - [`Torrent`], [`ViewFile`] (`torrent.rt`): what it describes. [`Refusal`] (`refusal.rt`): V1 to V24.
+//! - [`prove_piece`] (`piece_proofs.rt`): that the hash of a piece stands in the tree of its file, or why not
+//!   ([`PieceError`]).
 //!
 //! The root and the keys that all kinds have: `head.rt`. The v1 side: `marks.rt` and `listed.rt` read it,
 //! `list_side.rt` judges it; the v2 side: `tree_side.rt`; both: `sides.rt`. Piece layers: `layer_keys.rt`, `layers.rt`.
@@ -26,6 +28,7 @@ mod list_side;
 mod listed;
 mod marks;
 mod parts;
+mod piece_proofs;
 mod places;
 mod refusal;
 mod sides;
@@ -36,6 +39,8 @@ mod tests_hybrids;
 #[cfg(test)]
 mod tests_lenient;
 #[cfg(test)]
+mod tests_pieces;
+#[cfg(test)]
 mod tests_rows;
 #[cfg(test)]
 mod tests_worked;
@@ -45,6 +50,7 @@ mod tree_side;
 mod verdict;
 mod views;
 
+pub use piece_proofs::{PieceError, prove_piece};
 pub use refusal::Refusal;
 pub use torrent::{Torrent, ViewFile};
 pub use verdict::validate;

@@ -8,12 +8,12 @@ use tor_tree::Kind;
 
 // The files a = `ab` and b = `c` in the folder `f`, piece length 16,384: a torrent of version 1. The hash is the SHA-1
 // of `abc`.
-const FOLDER_V1: &[u8] =
+pub(crate) const FOLDER_V1: &[u8] =
     b"d4:infod5:filesld6:lengthi2e4:pathl1:aeed6:lengthi1e4:pathl1:beee4:name1:f\
 12:piece lengthi16384e6:pieces20:\xa9\x99\x3e\x36\x47\x06\x81\x6a\xba\x3e\x25\x71\x78\x50\xc2\x6c\x9c\xd0\xd8\x9dee";
 
 // The file a = `abc`, piece length 16,384: a torrent of version 2. The root is the SHA-256 of `abc`.
-const ABC_V2: &[u8] = b"d4:infod9:file treed1:ad0:d6:lengthi3e11:pieces root32:\
+pub(crate) const ABC_V2: &[u8] = b"d4:infod9:file treed1:ad0:d6:lengthi3e11:pieces root32:\
 \xba\x78\x16\xbf\x8f\x01\xcf\xea\x41\x41\x40\xde\x5d\xae\x22\x23\xb0\x03\x61\xa3\x96\x17\x7a\x9c\xb4\x10\xff\x61\
 \xf2\x00\x15\xadeee12:meta versioni2e4:name1:a12:piece lengthi16384ee12:piece layersdee";
 
@@ -132,7 +132,7 @@ fn tells_what_a_torrent_of_version_2_describes(rt: HostRuntime) -> Result<(), Fa
 }
 
 // The files a = `ab` and b = `c` in the folder `f`, piece length 16,384: a hybrid. Roots and hashes are any bytes.
-const FOLDER_HYBRID: &[u8] = b"d4:infod9:file treed1:ad0:d6:lengthi2e\
+pub(crate) const FOLDER_HYBRID: &[u8] = b"d4:infod9:file treed1:ad0:d6:lengthi2e\
 11:pieces root32:0123456789abcdef0123456789abcdefee\
 1:bd0:d6:lengthi1e11:pieces root32:0123456789abcdef0123456789abcdefeee5:filesld6:lengthi2e4:pathl1:aeed4:attr1:p\
 6:lengthi16382e4:pathl4:.pad5:16382eed6:lengthi1e4:pathl1:beee12:meta versioni2e4:name1:f12:piece lengthi16384e\

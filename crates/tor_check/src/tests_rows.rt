@@ -7,11 +7,11 @@ use std::process::Abort;
 use std::test::Fail;
 use tor_merkle::{Hash, pair, zero};
 
-const L0: Hash = [1; 32];
+pub(crate) const L0: Hash = [1; 32];
 
-const L1: Hash = [2; 32];
+pub(crate) const L1: Hash = [2; 32];
 
-const L2: Hash = [3; 32];
+pub(crate) const L2: Hash = [3; 32];
 
 // A file of a tree: its name, its length and its root.
 fn push_file(
@@ -48,7 +48,7 @@ fn push_layer(
 
 // The torrent of version 2 of the files a, of this length, and perhaps b, of one root; its layers have one key, or none
 // where the layer is empty.
-fn of_root(
+pub(crate) fn of_root(
     alloc: Global,
     piece_length: u64,
     lengths: (u64, Option<u64>),

@@ -5,6 +5,7 @@ ghost use Rattle.tor_bencode.specs.Place.{place_of};
 ghost use Rattle.tor_bencode.specs.View.{view};
 ghost use Rattle.tor_check.specs.Judged.{IsHeadOf};
 ghost use Rattle.tor_check.specs.Sides.{AreSidesOf, first_of_both};
+ghost use Rattle.tor_spec.specs.valid.Conditions.{refusal_of};
 ghost use Rattle.tor_spec.specs.valid.Parts.{info_of, kind_of, part, text_of};
 ghost use Rattle.tor_spec.specs.valid.ListSide.{side_piece_count};
 ghost use Rattle.tor_spec.specs.valid.View.{files_of, tree_piece_count, view_of};
@@ -31,6 +32,7 @@ pub fn torrent_of(
     requires head { IsHeadOf (view root.now) head.now }
     requires sides { AreSidesOf (info_of (view root.now)) sides }
     requires judged { first_of_both (info_of (view root.now)) ≡ None }
+    requires accepted { refusal_of (view root.now) ≡ None }
     requires span { info_span ≡ unwrap_or (place_of (codes "info") (view root.now)) (0, 0) }
     ensures { IfOk result (λ torrent. torrent ≡ view_of (view root.now)) }
 {

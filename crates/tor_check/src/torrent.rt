@@ -52,6 +52,7 @@ pub struct Torrent {
 }
 
 impl Model for Torrent {
+    ghost use Rattle.tor_check.specs.ValidViews.{IsViewOfValid};
     ghost use Rattle.tor_spec.specs.valid.View.{View};
 
     ghost Value = { View };
@@ -67,10 +68,23 @@ impl Model for Torrent {
       info_span = torrent.info_span;
       piece_count = torrent.piece_count;
     } };
+
+    ghost invariant = { λ torrent. IsViewOfValid (record {
+      kind = torrent.kind;
+      name = torrent.name;
+      piece_length = torrent.piece_length;
+      is_private = torrent.is_private;
+      files = torrent.files.items;
+      entries = torrent.entries.items;
+      pieces = torrent.pieces.items;
+      info_span = torrent.info_span;
+      piece_count = torrent.piece_count;
+    }) };
 }
 
 impl Torrent {
     ghost use Rattle.std.specs.Prelude.{◌≡◌};
+    ghost use Rattle.tor_check.specs.ValidViews.{IsViewOfValid};
 
     /// Which sides it has.
     pub fn kind(&self) -> Kind
@@ -102,7 +116,8 @@ impl Torrent {
 
     /// The files in the torrent's order, without padding.
     pub fn files(&self) -> &[ViewFile]
-        ensures { result.now ≡ self.now.files }
+        ensures value { result.now ≡ self.now.files }
+        ensures valid { IsViewOfValid self.now }
     {
         self.files.as_slice()
     }

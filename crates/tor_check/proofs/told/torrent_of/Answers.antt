@@ -22,3 +22,7 @@ returns c =
       c.requires.span,
       c.piece_count-piece_count.ensures,
     ) refl
+
+pub invariant_of-result : goal.invariant_of-result
+invariant_of-result c =
+    record { tree = view c.args.root.now; accepted = c.requires.accepted; described = returns c }

@@ -4,7 +4,9 @@ use Rattle.tor_check.proofs.HeadFacts.{allowed}
 use Rattle.tor_check.proofs.Stages.{at_end, at_head, at_layers, at_places, at_sides}
 use Rattle.tor_check.specs.Judged.{IsFirst, first_of_places}
 use Rattle.tor_check.specs.Sides.{first_of_both}
+use Rattle.tor_spec.specs.valid.Conditions.{refusal_of}
 use Rattle.tor_check.proofs.verdict.judge.Goals as goal
+use Rattle.tor_check.proofs.verdict.judge.Goals.{In_default-judge_places}
 
 pub returns-in-Err-clause-refused : goal.returns-in-Err-clause-refused
 returns-in-Err-clause-refused c = at_head (view c.args.root.now) c.in-Err.refusal c.in-Err.ensures.refused
@@ -44,9 +46,17 @@ returns-in-Err-judge_places-clause-refused c =
     c.in-Err-judge_places.ensures.refused in
     at_places (view c.args.root.now) refusal c.in-Ok.ensures.accepted sides c.in_default.ensures.accepted places
 
-pub returns-clause-accepted : goal.returns-clause-accepted
-returns-clause-accepted c =
+-- no condition holds where all judges passed
+none_holds : (c : In_default-judge_places) → refusal_of (view c.args.root.now) ≡ None
+none_holds c =
     let read = c.in-Ok.ensures.read.info in
     let sides = subst (λ info. first_of_both info ≡ None) read c.in-Ok-read_sides.ensures.accepted in
     let places = subst (λ info. first_of_places info ≡ None) read (c.in_default-judge_places).ensures.accepted in
     at_end (view c.args.root.now) c.in-Ok.ensures.accepted sides c.in_default.ensures.accepted places
+
+pub torrent_of-requires-clause-accepted : goal.torrent_of-requires-clause-accepted
+torrent_of-requires-clause-accepted c =
+    none_holds (goal.at.torrent_of-requires-clause-accepted c).In_default-judge_places
+
+pub returns-clause-accepted : goal.returns-clause-accepted
+returns-clause-accepted c = none_holds (goal.at.returns-clause-accepted c).In_default-judge_places

@@ -1,0 +1,47 @@
+-- Proofs that the hash of a piece stands in the tree of its file (BEP 52, "piece layers").
+use Rattle.std.specs.Prelude.{◌≡◌, ◌<◌, ◌≤◌, ◌==◌, ℕ, not, ◌||◌, List, length, nat_le, slice_get, slice_index_or}
+use Rattle.std.specs.Prelude.{IsTrue, Option, None, Some, IsSome, if◌then◌else◌}
+use Rattle.std.specs.Int.{div_ceil}
+use Rattle.tor_merkle.specs.Layer.{piece_level}
+use Rattle.tor_merkle.specs.Proof.{is_proof, proof_count, proof_level}
+use Rattle.tor_merkle.specs.Stack.{padded_root}
+use Rattle.tor_merkle.specs.Subtree.{zero_leaf}
+use Rattle.tor_merkle.specs.declared.TheConstants.{MAX_LENGTH}
+use Rattle.tor_check.specs.declared.piece_proofs.PieceError.{PieceError}
+use Rattle.tor_check.specs.declared.piece_proofs.PieceError.TheVariants as errors
+use Rattle.tor_spec.specs.valid.Layers.{is_long, root_of_file}
+use Rattle.tor_spec.specs.valid.View.{FileView, View}
+use Rattle.tor_tree.specs.Kinds.{has_v2}
+use Rattle.tor_tree.specs.declared.kinds.Kind.{Kind}
+
+-- why a piece of a file has no proof, the first that holds: there is no such file; there is no v2 side, or the file is
+-- empty; the file has no such piece
+abbrev pub refusal_at : Kind → ℕ → Option FileView → ℕ → Option PieceError
+refusal_at kind piece_length None index = Some errors.Index
+refusal_at kind piece_length (Some told) index =
+    if not (has_v2 kind) || told.file.length == 0 then Some errors.NoTree else (
+    if nat_le (proof_count told.file.length piece_length) index then Some errors.Index else None)
+
+-- the same of the file at a place of a torrent
+abbrev pub piece_refusal : View → ℕ → ℕ → Option PieceError
+piece_refusal view file index = refusal_at view.kind view.piece_length (slice_get view.files file) index
+
+-- the hash of a piece: the one of its layer, or the root of a file that has no layer
+abbrev pub piece_hash : ℕ → FileView → ℕ → List ℕ
+piece_hash piece_length told index =
+    if is_long piece_length told.file then slice_index_or told.layer index zero_leaf else root_of_file told.file
+
+-- it is that hash, and the siblings lead from it to the root of the file
+pub record IsPieceProof (piece_length : ℕ) (told : FileView) (index : ℕ) (hash : List ℕ)
+    (siblings : List (List ℕ)) : Type 0 where
+  pub of_piece : hash ≡ piece_hash piece_length told index
+  pub proof : IsTrue (is_proof (root_of_file told.file) (proof_count told.file.length piece_length)
+      (proof_level told.file.length piece_length) index hash siblings)
+
+-- a file of a v2 side that is not empty: it has a root, which is that of its layer, if it is longer than a piece
+pub record HasTree (piece_length : ℕ) (told : FileView) : Type 0 where
+  pub small : told.file.length ≤ MAX_LENGTH
+  pub root : IsSome told.file.root
+  pub pieces : piece_length < told.file.length → length told.layer ≡ div_ceil told.file.length piece_length
+  pub joined : piece_length < told.file.length
+      → padded_root (piece_level piece_length) told.layer ≡ root_of_file told.file
