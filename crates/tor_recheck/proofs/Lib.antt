@@ -1,0 +1,5 @@
+pub mod Packed
+pub mod Grown
+pub mod ReadBack
+pub mod Bytes
+pub mod Counted

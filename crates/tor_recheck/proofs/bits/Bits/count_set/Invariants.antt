@@ -1,0 +1,6 @@
+use Rattle.std.proofs.Common.{◌≡◌, take}
+use Rattle.tor_recheck.specs.Bitfield.{set_count}
+use Rattle.tor_recheck.proofs.bits.Bits.count_set.Given as goal
+
+abbrev pub invariant-pieces : goal.invariant-pieces
+invariant-pieces l = l.set ≡ set_count (take l.index l.self)

@@ -1,0 +1,2 @@
+pub mod Bitfield
+pub mod steps

@@ -1,0 +1,20 @@
+//! Which pieces of a torrent are there and right.
+//!
+//! ```rust
+//! use tor_recheck::Bits;
+//!
+//! let mut bits = Bits::with_capacity(alloc, 2)?;
+//! bits.push(true)?;
+//! bits.push(false)?;
+//! assert!(rt; bits.len() == 2 && bits.count_set() == 1);
+//! assert!(rt; bits.to_bytes(alloc)?.as_slice() == &[0x80]);
+//! ```
+//!
+//! - [`Bits`] (`bits.rt`): one bit a piece, piece 0 first, and as the bitfield of BEP 3 ("peer messages").
+#![tactic(auto)]
+
+mod bits;
+#[cfg(test)]
+mod tests;
+
+pub use bits::Bits;
