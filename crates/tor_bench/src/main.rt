@@ -6,7 +6,7 @@
 //! makes so many paths, `list COUNT` a list of them too, and `lists COUNT` writes its tree and reads that back;
 //! `padded COUNT` makes a hybrid of so many small files; `scan FOLDER` lists a folder. `check 1` judges standard input,
 //! and `pairs COUNT` joins so many hashes.
-//! All but the hashes over all and the lists of paths print microseconds. Lists are in `lists.rt`, the hybrid in
+//! `decode`, `lists`, `padded`, `scan`, `check` and `pairs` print microseconds. Lists are in `lists.rt`, the hybrid in
 //! `padded.rt`, the hashes over all in `plain.rt`, the judging in `foreign.rt`.
 #![tactic(auto)]
 

@@ -148,7 +148,7 @@ pub what_is_made_is_valid : (settings : Settings) (files : List File) (bytes : L
     → All (λ file. IsFilePath file.path) files → contents_refusal settings files ≡ None
     → HaveOneLayer settings.piece_length files → IsMadeOf settings files bytes
     → (root : Data) × (sorted : List File) × IsTorrentOf root bytes × IsPermutation files sorted
-    × IsViewOfMade settings sorted (view_of root)
+    × IsStrictlySortedBy path_cmp (paths_in sorted) × IsViewOfMade settings sorted (view_of root)
 what_is_made_is_valid settings files bytes name named accepted layers (sorted, moved, rising, is) =
     let made = are_made settings files sorted moved accepted name named layers rising in
     let facts = facts_of_files settings.piece_length sorted in
@@ -157,5 +157,6 @@ what_is_made_is_valid settings files bytes name named accepted layers (sorted, m
       sorted,
       subst (IsTorrentOf root) (sym is) (made_torrents_are_valid settings sorted made),
       moved,
+      rising,
       made_torrents_are_told settings sorted made,
     )
