@@ -1,5 +1,12 @@
+pub mod Doing
 pub mod Escapes
+pub mod FoundTexts
+pub mod HashDigits
 pub mod Inputs
 pub mod Judging
+pub mod Lines
+pub mod Numerals
 pub mod PathTexts
+pub mod Proofs
+pub mod Siblings
 pub mod Stops

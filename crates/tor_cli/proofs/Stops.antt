@@ -87,6 +87,8 @@ module _ (options : MakeOptions) (s : Streams) where
   stops_finding (faults.Scan fault) why untouched = (why, untouched)
   stops_finding (faults.Make error) why untouched = (why, untouched)
   stops_finding (faults.Refused refusal) why untouched = absurd why
+  stops_finding (faults.Piece error) why untouched = absurd why
+  stops_finding (faults.Argument fault) why untouched = absurd why
   stops_finding faults.Read why untouched = absurd why
   stops_finding faults.TooLong why untouched = absurd why
   stops_finding (faults.Write written) why untouched = absurd why

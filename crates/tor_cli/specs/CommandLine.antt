@@ -74,13 +74,26 @@ make_app kinds hows = with_rules (new_app (codes "make"))
     (name_option ∷ piece_length_option ∷ kind_option kinds ∷ announce_option ∷ private_option ∷ how_option hows
     ∷ workers_option ∷ span_option ∷ out_option ∷ path_argument ∷ [])
 
--- the one word of a command over one torrent: its file
-abbrev pub file_argument : Rule
-file_argument = record (new_rule (codes "file")) { index = Some 1; value_names = 1; required = true }
+-- the word at this place, which has to be there
+abbrev pub argument_of : List ℕ → ℕ → Rule
+argument_of name place = record (new_rule name) { index = Some place; value_names = 1; required = true }
+
+-- the word at this place, a number of 64 bits
+abbrev pub number_of : List ℕ → ℕ → Rule
+number_of name place = record (argument_of name place) { parser = Some (Unsigned 0 18446744073709551615) }
 
 -- the command of this name over one torrent
 abbrev pub file_app : List ℕ → App
-file_app name = with_rule (new_app name) file_argument
+file_app name = with_rules (new_app name) (argument_of (codes "file") 1 ∷ [])
+
+abbrev pub prove_app : App
+prove_app = with_rules (new_app (codes "prove"))
+    (argument_of (codes "file") 1 ∷ number_of (codes "file-number") 2 ∷ number_of (codes "index") 3 ∷ [])
+
+abbrev pub verify_app : App
+verify_app = with_rules (new_app (codes "verify"))
+    (argument_of (codes "root") 1 ∷ argument_of (codes "length") 2 ∷ argument_of (codes "piece-length") 3
+    ∷ argument_of (codes "proof") 4 ∷ [])
 
 abbrev pub with_commands : App → List App → App
 with_commands app [] = app
@@ -91,4 +104,4 @@ abbrev pub tor_app : ValueParser → ValueParser → App
 tor_app kinds hows =
     with_commands
     (on_top (λ shape. record shape { has_version = true; subcommand_required = true }) (new_app (codes "tor")))
-    (make_app kinds hows ∷ file_app (codes "check") ∷ file_app (codes "magnet") ∷ [])
+    (make_app kinds hows ∷ file_app (codes "check") ∷ file_app (codes "magnet") ∷ prove_app ∷ verify_app ∷ [])

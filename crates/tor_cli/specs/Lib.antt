@@ -4,9 +4,12 @@ pub mod Foreign
 pub mod Input
 pub mod Make
 pub mod Path
+pub mod ProofText
+pub mod Proving
 pub mod Request
 pub mod Shown
 pub mod Status
 pub mod Streams
 pub mod Words
 pub mod Taking
+pub mod Telling

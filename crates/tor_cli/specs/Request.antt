@@ -13,18 +13,23 @@ use Rattle.tor_cli.specs.Foreign.{DoesTell, StopsTelling}
 use Rattle.tor_cli.specs.Input.{ReadsAll, ReadsSome, EndsInput}
 use Rattle.tor_cli.specs.Make.{IsFront, MakesOf, refusal_of}
 use Rattle.tor_cli.specs.Path.{AreFound, IsFileFault}
-use Rattle.tor_cli.specs.Shown.{check_block, magnet_line}
+use Rattle.tor_cli.specs.Proving.{DoesProve, DoesVerify, StopsProving, StopsVerifying}
+use Rattle.tor_cli.specs.Status.{status_of}
 use Rattle.tor_cli.specs.Streams.{IsUntouched, Streams}
+use Rattle.tor_cli.specs.Telling.{lines_of}
 use Rattle.tor_cli.specs.Words.{Asks, IsOfWords}
 use Rattle.tor_cli.specs.declared.input.TheConstants.{MAX_INPUT_LENGTH}
 use Rattle.tor_cli.specs.declared.input.InputFault.{InputFault}
 use Rattle.tor_cli.specs.declared.input.InputFault.TheVariants as inputs
 use Rattle.tor_cli.specs.declared.options.MakeOptions.{MakeOptions}
 use Rattle.tor_cli.specs.declared.command.Request.{Request}
-use Rattle.tor_cli.specs.declared.command.Request.TheVariants.{Show, Make as ToMake, Check, Magnet}
+use Rattle.tor_cli.specs.declared.answer.Answer.{Answer}
+use Rattle.tor_cli.specs.declared.answer.Answer.TheVariants.{Yes, No}
+use Rattle.tor_cli.specs.declared.command.Request.TheVariants.{Show, Make as ToMake, Check, Magnet, Prove, Verify}
+use Rattle.tor_cli.specs.declared.telling.Telling.TheVariants.{Block, Link}
 use Rattle.tor_cli.specs.declared.fault.Fault.{Fault}
-use Rattle.tor_cli.specs.declared.fault.Fault.TheVariants.{Usage, Name, Scan, Make, Refused, Read, TooLong}
-use Rattle.tor_cli.specs.declared.fault.Fault.TheVariants.{Write, Resources}
+use Rattle.tor_cli.specs.declared.fault.Fault.TheVariants.{Usage, Name, Scan, Make, Refused, Piece, Argument}
+use Rattle.tor_cli.specs.declared.fault.Fault.TheVariants.{Read, TooLong, Write, Resources}
 
 -- the settings of the torrent that the options ask for, of one file or of a folder
 abbrev pub settings_of_options : MakeOptions → Bool → Settings
@@ -76,6 +81,8 @@ StopsInput options s (Usage line) = ⊥
 StopsInput options s (Name fault) = (name_fault options.name.now ≡ Some fault) × OnlyReads s
 StopsInput options s (Scan fault) = ⊥
 StopsInput options s (Refused refusal) = ⊥
+StopsInput options s (Piece error) = ⊥
+StopsInput options s (Argument fault) = ⊥
 StopsInput options s (Make error) = (name_fault options.name.now ≡ None)
     × ((order : Order) × IsOrder options true order × (refusal_of order ≡ Some error)) × OnlyReads s
 StopsInput options s Read = FailsInput inputs.Read s
@@ -133,11 +140,19 @@ abbrev pub StopsMake : MakeOptions → Streams → Fault → Type 0
 StopsMake options s fault = StopsFrom (option_map (λ path. path.now) options.path) options s fault
 
 -- what was asked for was done
-abbrev pub Does : Request → Streams → Type 0
-Does (Show text) s = (s.reader' ≡ s.reader) × Appends s.writer s.writer' (string_bytes text)
-Does (ToMake options) s = DoesMake options s
-Does (Check place) s = DoesTell check_block s
-Does (Magnet place) s = DoesTell magnet_line s
+abbrev pub IsDone : Request → Streams → Type 0
+IsDone (Show text) s = (s.reader' ≡ s.reader) × Appends s.writer s.writer' (string_bytes text)
+IsDone (ToMake options) s = DoesMake options s
+IsDone (Check place) s = DoesTell (lines_of Block) s
+IsDone (Magnet place) s = DoesTell (lines_of Link) s
+IsDone (Prove options) s = DoesProve options s
+IsDone (Verify options) s = DoesVerify options Yes s
+
+-- it was done with this answer; only a question is ever answered by no
+abbrev pub Does : Request → Answer → Streams → Type 0
+Does request Yes s = IsDone request s
+Does (Verify options) No s = DoesVerify options No s
+Does request No s = ⊥
 
 -- where this fault stopped it
 abbrev pub Stops : Request → Streams → Fault → Type 0
@@ -145,14 +160,21 @@ Stops (Show text) s (Write written) =
     (s.reader' ≡ s.reader) × IsFront s.writer s.writer' written (string_bytes text)
 Stops (Show text) s other = ⊥
 Stops (ToMake options) s fault = StopsMake options s fault
-Stops (Check place) s fault = StopsTelling check_block s fault
-Stops (Magnet place) s fault = StopsTelling magnet_line s fault
+Stops (Check place) s fault = StopsTelling (lines_of Block) s fault
+Stops (Magnet place) s fault = StopsTelling (lines_of Link) s fault
+Stops (Prove options) s fault = StopsProving options s fault
+Stops (Verify options) s fault = StopsVerifying options s fault
 
--- what the words ask for was done
-abbrev pub DoesAsked : List (List ℕ) → Streams → Type 0
-DoesAsked words s = (request : Request) × Asks words request × Does request s
+-- what the words ask for was done with this answer
+abbrev pub DoesAsked : List (List ℕ) → Streams → Answer → Type 0
+DoesAsked words s answer = (request : Request) × Asks words request × Does request answer s
 
 -- this fault is of the words, or what they ask for was stopped at it
 abbrev pub StopsAsked : List (List ℕ) → Streams → Fault → Type 0
 StopsAsked words s fault =
     (IsOfWords fault × IsUntouched s) ⊎ ((request : Request) × Asks words request × Stops request s fault)
+
+-- why the status is not 0: the answer is no, or a fault stopped it
+abbrev pub EndsAsked : List (List ℕ) → Streams → ℕ → Type 0
+EndsAsked words s status = ((status ≡ 1) × DoesAsked words s No)
+    ⊎ ((fault : Fault) × (status ≡ status_of fault) × StopsAsked words s fault)

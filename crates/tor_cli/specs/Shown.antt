@@ -41,5 +41,5 @@ check_block view hashes =
     head_lines view ++ (flat_map (λ shown. file_line shown.file) view.files ++ hash_lines hashes)
 
 -- the line of `tor magnet`
-abbrev pub magnet_line : View → Hashes → List ℕ
-magnet_line view hashes = magnet_link hashes ++ codes "\n"
+abbrev pub magnet_line : Hashes → List ℕ
+magnet_line hashes = magnet_link hashes ++ codes "\n"

@@ -1,5 +1,7 @@
 -- What stops the program: which fault a step's fault is, and the status that the program ends with.
 use Rattle.std.specs.Prelude.{ℕ, Result, Ok, Err}
+use Rattle.tor_check.specs.declared.piece_proofs.PieceError.{PieceError}
+use Rattle.tor_check.specs.declared.piece_proofs.PieceError.TheVariants as pieces
 use Rattle.std.specs.declared.io.Error.{Error}
 use Rattle.tor_check.specs.declared.refusal.Refusal.{Refusal}
 use Rattle.tor_check.specs.declared.refusal.Refusal.TheVariants as refusals
@@ -9,13 +11,15 @@ use Rattle.tor_source.specs.declared.faults.ScanFault.{ScanFault}
 use Rattle.tor_source.specs.declared.faults.ScanFault.TheVariants as scans
 use Rattle.tor_tree.specs.declared.names.NameError.{NameError}
 use Rattle.tor_tree.specs.declared.names.NameError.TheVariants as names
+use Rattle.tor_cli.specs.declared.answer.Answer.{Answer}
+use Rattle.tor_cli.specs.declared.answer.Answer.TheVariants.{Yes, No}
 use Rattle.tor_cli.specs.declared.input.InputFault.{InputFault}
 use Rattle.tor_cli.specs.declared.input.InputFault.TheVariants as inputs
 use Rattle.tor_cli.specs.declared.make.FromFault.{FromFault}
 use Rattle.tor_cli.specs.declared.make.FromFault.TheVariants as steps
 use Rattle.tor_cli.specs.declared.fault.Fault.{Fault}
-use Rattle.tor_cli.specs.declared.fault.Fault.TheVariants.{Usage, Name, Scan, Make, Refused, Read, TooLong}
-use Rattle.tor_cli.specs.declared.fault.Fault.TheVariants.{Write, Resources}
+use Rattle.tor_cli.specs.declared.fault.Fault.TheVariants.{Usage, Name, Scan, Make, Refused, Piece, Argument}
+use Rattle.tor_cli.specs.declared.fault.Fault.TheVariants.{Read, TooLong, Write, Resources}
 
 abbrev pub of_input_fault : InputFault → Fault
 of_input_fault inputs.Read = Read
@@ -37,6 +41,10 @@ of_make_error error = Make error
 abbrev pub of_refusal : Refusal → Fault
 of_refusal refusals.Memory = Resources
 of_refusal refusal = Refused refusal
+
+abbrev pub of_piece_error : PieceError → Fault
+of_piece_error pieces.Memory = Resources
+of_piece_error error = Piece error
 
 abbrev pub of_step_fault : FromFault → Fault
 of_step_fault (steps.Input fault) = of_input_fault fault
@@ -65,18 +73,35 @@ abbrev pub status_of_refusal : Refusal → ℕ
 status_of_refusal refusals.Memory = 4
 status_of_refusal refusal = 1
 
+-- there is no such piece, or no tree that it is of
+abbrev pub status_of_piece : PieceError → ℕ
+status_of_piece pieces.Memory = 4
+status_of_piece error = 1
+
 abbrev pub status_of : Fault → ℕ
 status_of (Usage line) = 2
 status_of (Name fault) = 1
 status_of (Scan fault) = status_of_scan fault
 status_of (Make error) = status_of_make error
 status_of (Refused refusal) = status_of_refusal refusal
+status_of (Piece error) = status_of_piece error
+status_of (Argument fault) = 1
 status_of Read = 3
 status_of TooLong = 3
 status_of (Write written) = 3
 status_of Resources = 4
 
--- the status after everything was done, or a fault stopped it
-abbrev pub status_after : {A : Type 0} → Result A Fault → ℕ
-status_after (Ok done) = 0
+-- 1 where something was asked, and the answer is no
+abbrev pub status_of_answer : Answer → ℕ
+status_of_answer Yes = 0
+status_of_answer No = 1
+
+-- what asks nothing is answered by yes
+abbrev pub done_of : {A : Type 0} → Result A Fault → Result Answer Fault
+done_of (Ok done) = Ok Yes
+done_of (Err fault) = Err fault
+
+-- the status after an answer, or after a fault
+abbrev pub status_after : Result Answer Fault → ℕ
+status_after (Ok answer) = status_of_answer answer
 status_after (Err fault) = status_of fault

@@ -11,10 +11,12 @@ use Rattle.tor_engine.specs.declared.how.How.{How}
 use Rattle.tor_engine.specs.declared.how.How.TheVariants.{One, Halves}
 use Rattle.tor_cli.specs.CommandLine.{AreHows, AreKinds, tor_app}
 use Rattle.tor_cli.specs.declared.command.Request.{Request}
-use Rattle.tor_cli.specs.declared.command.Request.TheVariants.{Show, Make, Check, Magnet}
+use Rattle.tor_cli.specs.declared.command.Request.TheVariants.{Show, Make, Check, Magnet, Prove, Verify}
 use Rattle.tor_cli.specs.declared.fault.Fault.{Fault}
 use Rattle.tor_cli.specs.declared.fault.Fault.TheVariants.{Usage, Resources}
 use Rattle.tor_cli.specs.declared.options.MakeOptions.{MakeOptions}
+use Rattle.tor_cli.specs.declared.proof_words.ProveOptions.{ProveOptions}
+use Rattle.tor_cli.specs.declared.proof_words.VerifyOptions.{VerifyOptions}
 
 -- the word for a kind
 abbrev pub word_of : Kind → List ℕ
@@ -55,6 +57,21 @@ pub record AreOptionsIn (rows : List Row) (options : MakeOptions) : Type 0 where
 abbrev pub IsFileIn : Bor (List ℕ) → List Row → Type 0
 IsFileIn place rows = first_of (codes "file") rows ≡ Some place.now
 
+-- the piece that a proof is wanted of
+pub record IsPieceIn (options : ProveOptions) (rows : List Row) : Type 0 where
+  pub place : first_of (codes "file") rows ≡ Some options.place.now
+  pub file : (text : List ℕ) → one_of (codes "file-number") rows ≡ Some text
+      → IsNumber text (λ number. options.file ≡ number)
+  pub index : (text : List ℕ) → one_of (codes "index") rows ≡ Some text
+      → IsNumber text (λ number. options.index ≡ number)
+
+-- the words that a proof is judged by
+pub record IsProofIn (options : VerifyOptions) (rows : List Row) : Type 0 where
+  pub root : first_of (codes "root") rows ≡ Some options.root.now
+  pub length : first_of (codes "length") rows ≡ Some options.length.now
+  pub piece_length : first_of (codes "piece-length") rows ≡ Some options.piece_length.now
+  pub proof : first_of (codes "proof") rows ≡ Some options.proof.now
+
 -- this command was found, with rows of which this holds
 abbrev pub HasRows : Option (List ℕ × List Row) → List ℕ → (List Row → Type 0) → Type 0
 HasRows found command Holds = (rows : List Row) × (found ≡ Some (command, rows)) × Holds rows
@@ -66,6 +83,8 @@ IsFoundIn matches (Make options) =
     HasRows (subcommand_rows_of matches) (codes "make") (λ rows. AreOptionsIn rows options)
 IsFoundIn matches (Check place) = HasRows (subcommand_rows_of matches) (codes "check") (IsFileIn place)
 IsFoundIn matches (Magnet place) = HasRows (subcommand_rows_of matches) (codes "magnet") (IsFileIn place)
+IsFoundIn matches (Prove options) = HasRows (subcommand_rows_of matches) (codes "prove") (IsPieceIn options)
+IsFoundIn matches (Verify options) = HasRows (subcommand_rows_of matches) (codes "verify") (IsProofIn options)
 
 -- the words have this command, with rows of which this holds
 abbrev pub HasCommand : List (List ℕ) → List ℕ → (List Row → Type 0) → Type 0
@@ -78,6 +97,8 @@ Asks words (Show text) = Unit {0}
 Asks words (Make options) = HasCommand words (codes "make") (λ rows. AreOptionsIn rows options)
 Asks words (Check place) = HasCommand words (codes "check") (IsFileIn place)
 Asks words (Magnet place) = HasCommand words (codes "magnet") (IsFileIn place)
+Asks words (Prove options) = HasCommand words (codes "prove") (IsPieceIn options)
+Asks words (Verify options) = HasCommand words (codes "verify") (IsProofIn options)
 
 -- a fault of usage, whose line ends in where the help of this command is
 abbrev pub IsUsage : List ℕ → Fault → Type 0

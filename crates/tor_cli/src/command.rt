@@ -10,10 +10,18 @@ use crate::escape::escaped;
 use crate::fault::Fault;
 use crate::make_words::make_command;
 use crate::options::{MakeOptions, make_options};
-use crate::torrent_words::{check_command, file_of, magnet_command};
+use crate::proof_words::{
+    ProveOptions, VerifyOptions, prove_command, prove_options, verify_command, verify_options,
+};
+use crate::torrent_words::{file_command, file_of};
 use clap::error::ErrorKind;
 use clap::{ArgMatches, Command};
 use std::alloc::{AllocError, Global};
+
+// What the help tells of these commands.
+const CHECK: &str = "Tells what a torrent describes, or why a file is none";
+
+const MAGNET: &str = "Prints the magnet link of a torrent";
 
 /// What the words ask for.
 #[derive(Drop)]
@@ -25,6 +33,10 @@ pub enum Request<'a> {
     Check(&'a str),
     /// To print the magnet link of the torrent in this file.
     Magnet(&'a str),
+    /// To print the proof of a piece.
+    Prove(ProveOptions<'a>),
+    /// To tell whether a proof of a piece holds.
+    Verify(VerifyOptions<'a>),
 }
 
 /// Reads the words, of which the first is the program's name.
@@ -50,8 +62,10 @@ fn tor_command<'a>(alloc: Global) -> Result<Command<'a>, AllocError>
         .subcommand_required(true)
         .bin_name("tor")?
         .subcommand(make_command(alloc)?)?
-        .subcommand(check_command(alloc)?)?
-        .subcommand(magnet_command(alloc)?)
+        .subcommand(file_command(alloc, "check", CHECK)?)?
+        .subcommand(file_command(alloc, "magnet", MAGNET)?)?
+        .subcommand(prove_command(alloc)?)?
+        .subcommand(verify_command(alloc)?)
 }
 
 fn request_of<'a>(alloc: Global, matches: &ArgMatches<'a>) -> Result<Request<'a>, Fault>
@@ -76,6 +90,12 @@ fn request_in<'a>(matches: &ArgMatches<'a>) -> Option<Request<'a>>
     }
     if let Some(magnet) = matches.subcommand_matches("magnet") {
         return Some(Request::Magnet(file_of(magnet)?));
+    }
+    if let Some(prove) = matches.subcommand_matches("prove") {
+        return Some(Request::Prove(prove_options(prove)?));
+    }
+    if let Some(verify) = matches.subcommand_matches("verify") {
+        return Some(Request::Verify(verify_options(verify)?));
     }
     None
 }
@@ -112,6 +132,8 @@ fn command_of(words: &[&str]) -> &'static str {
         [_, "make", ..] => "tor make",
         [_, "check", ..] => "tor check",
         [_, "magnet", ..] => "tor magnet",
+        [_, "prove", ..] => "tor prove",
+        [_, "verify", ..] => "tor verify",
         _ => "tor",
     }
 }

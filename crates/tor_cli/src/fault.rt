@@ -1,11 +1,12 @@
 //! What can stop the program: its line on standard error, and its status.
-ghost use Rattle.std.specs.Prelude.{◌≡◌, IfOk};
-ghost use Rattle.tor_cli.specs.Status.{status_of, status_of_make, status_of_refusal, status_of_scan};
+ghost use Rattle.std.specs.Prelude.{◌≡◌, ◌<◌, IfOk};
+ghost use Rattle.tor_cli.specs.Status.{status_of, status_of_make, status_of_piece, status_of_refusal, status_of_scan};
 ghost use Rattle.tor_cli.specs.Words.{IsUsage};
 
+use crate::claim::ArgumentFault;
 use std::alloc::{AllocError, Global};
 use std::{fmt, io};
-use tor_check::Refusal;
+use tor_check::{PieceError, Refusal};
 use tor_meta::MakeError;
 use tor_source::ScanFault;
 use tor_tree::NameError;
@@ -23,6 +24,10 @@ pub enum Fault {
     Make(MakeError<io::Error>),
     /// What FILE has is no torrent.
     Refused(Refusal),
+    /// The torrent has no such piece, or no tree that it is of.
+    Piece(PieceError),
+    /// An argument of `verify` is none of its kind.
+    Argument(ArgumentFault),
     /// Standard input, or FILE, was not read whole.
     Read,
     TooLong,
@@ -58,7 +63,8 @@ impl Fault {
 
     /// The status that the program ends with.
     pub fn status(&self) -> u8
-        ensures { result ≡ status_of self.now }
+        ensures value { result ≡ status_of self.now }
+        ensures positive { 0 < result }
     {
         match self {
             Fault::Usage(_) => 2,
@@ -66,6 +72,8 @@ impl Fault {
             Fault::Scan(fault) => status_of_scan(fault),
             Fault::Make(error) => status_of_make(error),
             Fault::Refused(refusal) => status_of_refusal(refusal),
+            Fault::Piece(error) => status_of_piece(error),
+            Fault::Argument(_) => 1,
             Fault::Read | Fault::TooLong | Fault::Write(_) => 3,
             Fault::Resources => 4,
         }
@@ -73,7 +81,8 @@ impl Fault {
 }
 
 fn status_of_scan(fault: &ScanFault) -> u8
-    ensures { result ≡ status_of_scan fault.now }
+    ensures value { result ≡ status_of_scan fault.now }
+    ensures positive { 0 < result }
 {
     match fault {
         ScanFault::NotUtf8 | ScanFault::NotRegular | ScanFault::TooDeep => 1,
@@ -83,7 +92,8 @@ fn status_of_scan(fault: &ScanFault) -> u8
 }
 
 fn status_of_make(error: &MakeError<io::Error>) -> u8
-    ensures { result ≡ status_of_make error.now }
+    ensures value { result ≡ status_of_make error.now }
+    ensures positive { 0 < result }
 {
     match error {
         MakeError::Read { .. }
@@ -96,10 +106,21 @@ fn status_of_make(error: &MakeError<io::Error>) -> u8
 }
 
 fn status_of_refusal(refusal: &Refusal) -> u8
-    ensures { result ≡ status_of_refusal refusal.now }
+    ensures value { result ≡ status_of_refusal refusal.now }
+    ensures positive { 0 < result }
 {
     match refusal {
         Refusal::Memory => 4,
+        _ => 1,
+    }
+}
+
+fn status_of_piece(error: &PieceError) -> u8
+    ensures value { result ≡ status_of_piece error.now }
+    ensures positive { 0 < result }
+{
+    match error {
+        PieceError::Memory => 4,
         _ => 1,
     }
 }
@@ -112,6 +133,8 @@ impl fmt::Display for Fault {
             Fault::Scan(fault) => write!(f, "{fault}"),
             Fault::Make(error) => write_error(error, f),
             Fault::Refused(refusal) => write!(f, "{refusal}"),
+            Fault::Piece(error) => write!(f, "{error}"),
+            Fault::Argument(fault) => write!(f, "{fault}"),
             Fault::Read => f.write_str("read fault"),
             Fault::TooLong => f.write_str("input too long"),
             Fault::Write(written) => write!(f, "write fault after {written} bytes"),

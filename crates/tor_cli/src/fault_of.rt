@@ -1,15 +1,16 @@
 //! Which fault of the program a step's fault is.
 ghost use Rattle.std.specs.Prelude.{◌≡◌};
-ghost use Rattle.tor_cli.specs.Status.{of_input_fault, of_make_error, of_name_error, of_refusal, of_scan_fault};
-ghost use Rattle.tor_cli.specs.Status.{of_step_fault};
-ghost use Rattle.tor_cli.specs.declared.fault.Fault.TheVariants.{Write, Resources};
+ghost use Rattle.tor_cli.specs.Status.{of_input_fault, of_make_error, of_name_error, of_piece_error, of_refusal};
+ghost use Rattle.tor_cli.specs.Status.{of_scan_fault, of_step_fault};
+ghost use Rattle.tor_cli.specs.declared.fault.Fault.TheVariants.{Argument, Write, Resources};
 
+use crate::claim::ArgumentFault;
 use crate::fault::Fault;
 use crate::input::InputFault;
 use crate::make::FromFault;
 use std::alloc::{AllocError, AllocFailed};
 use std::io;
-use tor_check::Refusal;
+use tor_check::{PieceError, Refusal};
 use tor_meta::{MakeError, WriteFault};
 use tor_source::ScanFault;
 use tor_tree::NameError;
@@ -67,6 +68,25 @@ impl From<Refusal> for Fault {
             Refusal::Memory => Fault::Resources,
             refusal => Fault::Refused(refusal),
         }
+    }
+}
+
+impl From<PieceError> for Fault {
+    ghost from_gives = { λ error e. e ≡ of_piece_error error };
+
+    fn from(error: PieceError) -> Fault {
+        match error {
+            PieceError::Memory => Fault::Resources,
+            error => Fault::Piece(error),
+        }
+    }
+}
+
+impl From<ArgumentFault> for Fault {
+    ghost from_gives = { λ fault e. e ≡ Argument fault };
+
+    fn from(fault: ArgumentFault) -> Fault {
+        Fault::Argument(fault)
     }
 }
 

@@ -3,19 +3,24 @@
 //! - `run.rt`: the whole program, over any reader and writers; `main` hands it the real ones.
 //! - `command.rt`: what the words ask for.
 //! - `make_command.rt`: the command `make`; `make_words.rt`: its words; `options.rt`: what they ask for.
-//! - `make.rt`: the torrent of what a reader has, as `judge.rt` judges its order. `input.rt`: an input read whole,
-//!   within a limit. `intake.rt`: what takes its parts.
+//! - `make.rt`: the torrent of what a reader has. `input.rt`: an input read whole, within a limit. `intake.rt`: what
+//!   takes its parts.
 //! - `from_path.rt`: the torrent of a file or a folder. `out_file.rt`: the file that a torrent goes to.
 //!   `progress.rt`: the line that shows how far the reading is; `amount.rt`: bytes and seconds in it.
-//! - `check_command.rt`: the command `check`; `magnet_command.rt`: the command `magnet`; `torrent_words.rt`: the words
-//!   of both. `foreign.rt`: the torrent in a file, judged; `shown.rt`: the lines that tell of it.
+//! - `telling.rt`: the commands `check` and `magnet`; `torrent_words.rt`: the words of both. `foreign.rt`: the torrent
+//!   in a file, judged; `shown.rt`: the lines that tell of it.
+//! - `prove_command.rt`: the command `prove`; `verify_command.rt`: the command `verify`; `proof_words.rt`: their words;
+//!   `claim.rt`: what those of `verify` claim; `proof_text.rt`: a proof as a text, both ways; `numbers.rt` and
+//!   `digits.rt`: numbers and hashes in texts. `answer.rt`: yes and no.
 //! - `fault.rt`: what stops the program, its line and its status; `fault_of.rt`: which step's fault it is. `escape.rt`:
 //!   the user's text in such a line.
 #![tactic(auto)]
 
 mod amount;
-mod check_command;
+mod answer;
+mod claim;
 mod command;
+mod digits;
 mod escape;
 mod fault;
 mod fault_of;
@@ -23,23 +28,31 @@ mod foreign;
 mod from_path;
 mod input;
 mod intake;
-mod judge;
-mod magnet_command;
 mod make;
 mod make_command;
 mod make_words;
+mod numbers;
 mod options;
 mod out_file;
 mod progress;
+mod proof_text;
+mod proof_words;
+mod prove_command;
 mod run;
 mod shown;
+mod telling;
 #[cfg(test)]
 mod tests;
 #[cfg(test)]
 mod tests_foreign;
 #[cfg(test)]
 mod tests_path;
+#[cfg(test)]
+mod tests_proof_text;
+#[cfg(test)]
+mod tests_proofs;
 mod torrent_words;
+mod verify_command;
 
 use fault::Fault;
 use std::alloc::{AllocError, Global};

@@ -5,7 +5,6 @@ ghost use Rattle.tor_cli.specs.Make.{MakesOf, MakesPart, MakesWhole, StopsReadin
 ghost use Rattle.tor_cli.specs.declared.make.FromFault.TheVariants.{Input, Make, Write};
 
 use crate::input::{InputFault, MAX_INPUT_LENGTH, drop_input, read_parts};
-use crate::judge::head_of;
 use std::alloc::{AllocError, Global};
 use std::io;
 use tor_meta::{FedSums, MakeError, Order, WriteFault, make_fed, write_out};
@@ -48,7 +47,7 @@ pub fn torrent_from<R: io::Read>(
         (R.remaining reader.old) (R.remaining reader.new) (λ bytes. torrent.items ≡ bytes) content) }
     ensures stopped { IfErr result (StopsReading order.now (R.remaining reader.old) (R.remaining reader.new)) }
 {
-    match head_of(alloc, order) {
+    match order.head_of_one(alloc) {
         Ok(head) => {
             let mut fed = FedSums::new(alloc, &head);
             read_parts(alloc, reader, MAX_INPUT_LENGTH, &mut fed)?;

@@ -1,7 +1,8 @@
 //! The lines that tell of a torrent.
 ghost use Rattle.hex.specs.Hex.{encode_lower};
 ghost use Rattle.std.specs.Prelude.{◌≡◌, ◌++◌, IfOk, OnOk, codes, string_bytes};
-ghost use Rattle.tor_cli.specs.Shown.{check_block, file_line, hash_lines, head_lines, path_text};
+ghost use Rattle.tor_cli.specs.Shown.{check_block, file_line, hash_lines, head_lines, magnet_line, path_text};
+ghost use Rattle.tor_meta.specs.Hashes.{HasHash};
 ghost use Rattle.tor_cli.specs.Words.{word_of};
 
 use crate::escape::escaped;
@@ -9,7 +10,7 @@ use hex::encode;
 use std::alloc::{AllocError, Global};
 use std::fmt::Write;
 use tor_check::Torrent;
-use tor_meta::Hashes;
+use tor_meta::{Hashes, magnet};
 use tor_tree::{FilePath, Kind, TreeFile};
 
 /// The torrent as a whole, then its files in its order, then its info hashes. The user's text is escaped.
@@ -22,6 +23,16 @@ pub fn check_block(alloc: Global, torrent: &Torrent, hashes: &Hashes) -> Result<
     }
     push_hashes(alloc, &mut block, hashes)?;
     Ok(block)
+}
+
+/// The magnet link.
+pub fn magnet_line(alloc: Global, hashes: &Hashes) -> Result<String, AllocError>
+    requires { HasHash hashes.now }
+    ensures { IfOk result (λ line. string_bytes line ≡ magnet_line hashes.now) }
+{
+    let mut line = magnet(alloc, hashes)?;
+    line.push('\n')?;
+    Ok(line)
 }
 
 fn head_lines(alloc: Global, torrent: &Torrent) -> Result<String, AllocError>

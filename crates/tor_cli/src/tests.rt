@@ -310,7 +310,7 @@ fn reads_its_input_before_it_refuses_its_words(rt: HostRuntime) -> std::result::
 #[test]
 fn tells_a_fault_of_usage_in_one_line(rt: HostRuntime) -> std::result::Result<(), Fail> {
     let alloc = rt.alloc();
-    let table: [(&[&str], &str); 12] = [
+    let table: [(&[&str], &str); 13] = [
         (
             &["tor", "make", "--foo"],
             "tor: unexpected argument '--foo'; see 'tor make --help'\n",
@@ -336,6 +336,10 @@ fn tells_a_fault_of_usage_in_one_line(rt: HostRuntime) -> std::result::Result<()
             "tor: the following required arguments were not provided: <FILE>; see 'tor check --help'\n",
         ),
         (
+            &["tor", "verify", "a", "-1", "16384", "b"],
+            "tor: unexpected argument '-1'; see 'tor verify --help'\n",
+        ),
+        (
             &["tor", "magnet", "a", "b"],
             "tor: unexpected argument 'b'; see 'tor magnet --help'\n",
         ),
@@ -345,7 +349,8 @@ fn tells_a_fault_of_usage_in_one_line(rt: HostRuntime) -> std::result::Result<()
         ),
         (
             &["tor"],
-            "tor: 'tor' requires a subcommand but one was not provided [subcommands: make, check, magnet, help]; \
+            "tor: 'tor' requires a subcommand but one was not provided \
+[subcommands: make, check, magnet, prove, verify, help]; \
 see 'tor --help'\n",
         ),
         (

@@ -1,8 +1,7 @@
 //! Torrents in files, as the program tells of them. Their bytes are spelled by hand from the standards, and their
 //! hashes were computed apart.
-use crate::run::run;
 use crate::tests::ABC;
-use crate::tests_path::{FOLDER_V1, below, new_folder};
+use crate::tests_path::{FOLDER_V1, Outcome, below, new_folder, run_texts};
 use std::alloc::{AllocError, Global};
 use std::fs;
 use std::rt::Files;
@@ -46,34 +45,8 @@ const MAGNET_V1: &str = "magnet:?xt=urn:btih:5b31f52b05c3619aa3057861a8c2a9afc2c
 const MAGNET_V2: &str =
     "magnet:?xt=urn:btmh:122097cfdba4cd02b8bfb50f3b765f573f20d73f934cdd1591a3c1333aafda95c436\n";
 
-// What came of a run whose input is `abc`.
-#[derive(Drop)]
-struct Outcome {
-    status: u8,
-    out: Vec<u8>,
-    err: Vec<u8>,
-    // How many bytes of the input were not read.
-    unread: usize,
-}
-
-fn run_command<T: Threads + Sync>(
-    rt: &T,
-    system: &HostRuntime,
-    command: &str,
-    place: &str,
-) -> Result<Outcome, AllocError> {
-    let alloc: Global = system.alloc();
-    let mut reader: &[u8] = b"abc";
-    let mut out = Vec::new(alloc);
-    let mut err = Vec::new(alloc);
-    let words = ["tor", command, place];
-    let status = run(rt, system, &words, &mut reader, &mut out, &mut err, true);
-    Ok(Outcome {
-        status,
-        out,
-        err,
-        unread: reader.len(),
-    })
+fn told_of<T: Threads + Sync>(rt: &T, system: &HostRuntime, command: &str, place: &str) -> Outcome {
+    run_texts(rt, system, &["tor", command, place], true)
 }
 
 #[test]
@@ -92,7 +65,7 @@ fn tells_of_a_torrent_in_a_file(rt: HostRuntime) -> Result<(), Fail> {
     ];
     for (command, torrent, text) in table {
         fs::write(&rt, place.as_str(), torrent)?;
-        let told = run_command(&rt, &rt, command, &place)?;
+        let told = told_of(&rt, &rt, command, &place);
         assert_eq!(rt; told.err.as_slice(), b"".as_slice(), "at {text}");
         assert_eq!(rt; told.out.as_slice(), text.as_bytes(), "at {text}");
         assert_eq!(rt; told.status, 0, "at {text}");
@@ -123,7 +96,7 @@ fn tells_why_a_file_is_no_torrent(rt: HostRuntime) -> Result<(), Fail> {
     for (place_of_row, bytes, status, line) in table {
         fs::write(&rt, place.as_str(), bytes)?;
         for command in ["check", "magnet"] {
-            let told = run_command(&rt, &rt, command, place_of_row)?;
+            let told = told_of(&rt, &rt, command, place_of_row);
             assert_eq!(rt; told.err.as_slice(), line.as_bytes(), "at {line}");
             assert_eq!(rt; told.status, status, "at {line}");
             assert!(rt; told.out.is_empty(), "at {line}");

@@ -37,12 +37,39 @@ pub fn below(alloc: Global, folder: &str, name: &str) -> Result<String, AllocErr
 
 // What came of a run whose input is `abc`.
 #[derive(Drop)]
-struct Outcome {
-    status: u8,
-    out: Vec<u8>,
-    err: Vec<u8>,
+pub struct Outcome {
+    pub status: u8,
+    pub out: Vec<u8>,
+    pub err: Vec<u8>,
     // How many bytes of the input were not read.
-    unread: usize,
+    pub unread: usize,
+}
+
+// Runs `tor` with these words.
+pub fn run_texts<T: Threads + Sync>(
+    rt: &T,
+    system: &HostRuntime,
+    words: &[&str],
+    shows_progress: bool,
+) -> Outcome {
+    let mut reader: &[u8] = b"abc";
+    let mut out = Vec::new(system.alloc());
+    let mut err = Vec::new(system.alloc());
+    let status = run(
+        rt,
+        system,
+        words,
+        &mut reader,
+        &mut out,
+        &mut err,
+        shows_progress,
+    );
+    Outcome {
+        status,
+        out,
+        err,
+        unread: reader.len(),
+    }
 }
 
 // Runs `tor make` with these words, which spaces separate; `%` at the head of one stands for the folder.
@@ -64,16 +91,7 @@ fn run_words<T: Threads + Sync>(
         }
     }
     let texts = texts(alloc, &words)?;
-    let mut reader: &[u8] = b"abc";
-    let mut out = Vec::new(alloc);
-    let mut err = Vec::new(alloc);
-    let status = run(rt, system, &texts, &mut reader, &mut out, &mut err, false);
-    Ok(Outcome {
-        status,
-        out,
-        err,
-        unread: reader.len(),
-    })
+    Ok(run_texts(rt, system, &texts, false))
 }
 
 #[test]

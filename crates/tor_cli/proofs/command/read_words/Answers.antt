@@ -8,7 +8,7 @@ use Rattle.clap.specs.declared.parser.matches.ArgMatches.{ArgMatches}
 use Rattle.tor_cli.specs.CommandLine.{AreHows, AreKinds, tor_app}
 use Rattle.tor_cli.specs.Words.{Asks, HasCommand, HasRows, IsFoundIn}
 use Rattle.tor_cli.specs.declared.command.Request.{Request}
-use Rattle.tor_cli.specs.declared.command.Request.TheVariants.{Show, Make, Check, Magnet}
+use Rattle.tor_cli.specs.declared.command.Request.TheVariants.{Show, Make, Check, Magnet, Prove, Verify}
 use Rattle.tor_cli.proofs.command.read_words.Goals as goal
 
 module _ (matches : ArgMatches) (words : List (List ℕ)) (kinds hows : ValueParser) (are : AreKinds kinds)
@@ -22,6 +22,8 @@ module _ (matches : ArgMatches) (words : List (List ℕ)) (kinds hows : ValuePar
   asked (Make options) found = has _ _ found
   asked (Check place) found = has _ _ found
   asked (Magnet place) found = has _ _ found
+  asked (Prove options) found = has _ _ found
+  asked (Verify options) found = has _ _ found
 
 pub returns-in-Ok-clause-asked : goal.returns-in-Ok-clause-asked
 returns-in-Ok-clause-asked c =

@@ -27,21 +27,29 @@ returns c =
     ∙ ap (on_top (λ shape. record shape { subcommand_required = true })) told in
     let top = ap app_of_fields c.in_ok-bin_name.ensures.0 ∙ wanting in
     let (kinds, hows, are, ways, is) = c.in_ok-make_command.ensures in
-    let is_check = c.in_ok-check_command.ensures in
-    let is_magnet = c.in_ok-magnet_command.ensures in
+    let is_check = c.in_ok-file_command.ensures in
+    let is_magnet = c.in_ok-file_command-2.ensures in
     let making =
     c.in_ok-subcommand.ensures.shape (third _ _ _ _ (ap (λ (app : App). app.top.is_plain) is))
     ∙ ap₂ with_subcommand top (ap (λ (app : App). app.top) is) in
     let checking =
     c.in_ok-subcommand-2.ensures.shape (third _ _ _ _ (ap (λ (app : App). app.top.is_plain) is_check))
     ∙ ap₂ with_subcommand making (ap (λ (app : App). app.top) is_check) in
-    let plain = third _ _ _ _ (ap (λ (app : App). app.top.is_plain) is_magnet) in
-    IfOk-weaker c.subcommand-3.result _ _
+    let linking =
+    c.in_ok-subcommand-3.ensures.shape (third _ _ _ _ (ap (λ (app : App). app.top.is_plain) is_magnet))
+    ∙ ap₂ with_subcommand checking (ap (λ (app : App). app.top) is_magnet) in
+    let is_prove = c.in_ok-prove_command.ensures in
+    let is_verify = c.in_ok-verify_command.ensures in
+    let proving =
+    c.in_ok-subcommand-4.ensures.shape (third _ _ _ _ (ap (λ (app : App). app.top.is_plain) is_prove))
+    ∙ ap₂ with_subcommand linking (ap (λ (app : App). app.top) is_prove) in
+    let plain = third _ _ _ _ (ap (λ (app : App). app.top.is_plain) is_verify) in
+    IfOk-weaker c.subcommand-5.result _ _
     (λ command added. (
       kinds,
       hows,
       are,
       ways,
-      added.shape plain ∙ ap₂ with_subcommand checking (ap (λ (app : App). app.top) is_magnet),
+      added.shape plain ∙ ap₂ with_subcommand proving (ap (λ (app : App). app.top) is_verify),
     ))
-    c.subcommand-3.ensures
+    c.subcommand-5.ensures

@@ -8,7 +8,8 @@ use Rattle.tor_cli.proofs.make_words.make_command.Goals as goal
 pub returns : goal.returns
 returns c =
     let begun = ap app_of_fields c.about.ensures ∙ c.new.ensures.app in
-    let named = c.in_ok-arg.ensures.shape c.name_option.ensures.local ∙ ap₂ with_rule begun c.name_option.ensures.rule in
+    let named =
+    c.in_ok-arg.ensures.shape c.name_option.ensures.local ∙ ap₂ with_rule begun c.name_option.ensures.rule in
     let cut =
     c.in_ok-arg-2.ensures.shape c.piece_length_option.ensures.local
     ∙ ap₂ with_rule named c.piece_length_option.ensures.rule in

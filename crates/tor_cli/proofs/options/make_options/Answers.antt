@@ -1,15 +1,9 @@
 -- What the getters give are the values in the rows.
-use Rattle.std.proofs.Common.{rules, ◌≡◌, ◌∙◌, ap, sym, ℕ, List, Option, Some, Bor, codes, option_map}
-use Rattle.clap.specs.Words.{first_of, first_value, found_of, rows_of}
-use Rattle.clap.specs.declared.parser.matches.Found.{Found}
+use Rattle.std.proofs.Common.{rules, ◌∙◌, ap, sym, Some, codes}
+use Rattle.clap.specs.Words.{found_of}
 use Rattle.clap.proofs.WalkLemmas.{first_value-rows, one_text-rows}
+use Rattle.tor_cli.proofs.FoundTexts.{found_text}
 use Rattle.tor_cli.proofs.options.make_options.Goals as goal
-
-found_text : (found : Found) (id : List ℕ) (got : Option (Bor (List ℕ))) (text : Bor (List ℕ))
-    → option_map (λ s. s.now) got ≡ first_value found id → got ≡ Some text
-    → first_of id (rows_of found) ≡ Some text.now
-found_text found id got text gives is =
-    sym (first_value-rows found id) ∙ sym gives ∙ ap (option_map (λ (s : Bor (List ℕ)). s.now)) is
 
 pub returns : goal.returns
 returns c =

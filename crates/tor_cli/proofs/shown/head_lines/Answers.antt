@@ -25,5 +25,5 @@ returns c =
     (c.word_of-kind.ensures ∙ ap word_of c.kind.ensures)
     (c.in_ok-name.ensures ∙ ap escaped (c.as_str.ensures ∙ c.name.ensures))
     c.piece_length-piece_length.ensures c.piece_count-pieces.ensures
-    (ap (λ (files : List FileView). length files) c.files.ensures) told)
+    (ap (λ (files : List FileView). length files) c.files.ensures.value) told)
     c.format.ensures.ok

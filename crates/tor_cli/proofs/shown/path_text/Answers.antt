@@ -14,5 +14,6 @@ returns c =
     let texts = ap (join_by (λ (text : Bor (List ℕ)). text.now) (codes "/")) c.deref.ensures.value in
     IfOk-weaker c.join.result _ _
     (λ text told.
-    told ∙ texts ∙ joined (codes "/") c.loop-name.names.items ∙ ap (join_by (λ (name : List ℕ). name) (codes "/")) names)
+    told ∙ texts ∙ joined (codes "/") c.loop-name.names.items
+    ∙ ap (join_by (λ (name : List ℕ). name) (codes "/")) names)
     c.join.ensures.ok

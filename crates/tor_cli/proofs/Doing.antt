@@ -1,0 +1,37 @@
+-- What came of a request, and the status that tells it.
+use Rattle.std.proofs.Common.{◌≡◌, ◌≢◌, ◌⊎◌, inl, inr, sym, subst, ℕ}
+use Rattle.std.specs.Prelude.{IfErr, IfOk, OnOk, Result, Ok, Err}
+use Rattle.tor_cli.specs.Status.{done_of, status_after, status_of}
+use Rattle.tor_cli.specs.declared.answer.Answer.{Answer}
+use Rattle.tor_cli.specs.declared.answer.Answer.TheVariants.{Yes, No}
+use Rattle.tor_cli.specs.declared.fault.Fault.{Fault}
+
+-- what asks nothing is answered by yes
+pub is_done : {A : Type 0} (Holds : Answer → Type 0) (outcome : Result A Fault) (result : Result Answer Fault)
+    → result ≡ done_of outcome → OnOk outcome (Holds Yes) → IfOk result Holds
+is_done Holds (Ok done) result is holds = subst (λ r. IfOk r Holds) (sym is) holds
+is_done Holds (Err fault) result is holds = subst (λ r. IfOk r Holds) (sym is) tt
+
+pub is_stopped : {A : Type 0} (Why : Fault → Type 0) (outcome : Result A Fault) (result : Result Answer Fault)
+    → result ≡ done_of outcome → IfErr outcome Why → IfErr result Why
+is_stopped Why (Ok done) result is holds = subst (λ r. IfErr r Why) (sym is) tt
+is_stopped Why (Err fault) result is holds = subst (λ r. IfErr r Why) (sym is) holds
+
+pub is_answered : (Told Holds : Answer → Type 0) (result : Result Answer Fault) → (Told Yes → Holds Yes)
+    → (Told No → Holds No) → IfOk result Told → IfOk result Holds
+is_answered Told Holds (Ok Yes) of_yes of_no told = of_yes told
+is_answered Told Holds (Ok No) of_yes of_no told = of_no told
+is_answered Told Holds (Err fault) of_yes of_no told = tt
+
+-- a status that is not 0 is that of a no, or of a fault
+pub ends : (Holds : Answer → Type 0) (Why : Fault → Type 0) (outcome : Result Answer Fault) (status : ℕ)
+    → status ≡ status_after outcome → IfOk outcome Holds → IfErr outcome Why → status ≢ 0
+    → ((status ≡ 1) × Holds No) ⊎ ((fault : Fault) × (status ≡ status_of fault) × Why fault)
+ends Holds Why (Ok Yes) status told done why other = absurd (other told)
+ends Holds Why (Ok No) status told done why other = inl (told, done)
+ends Holds Why (Err fault) status told done why other = inr (fault, told, why)
+
+-- the outcome that is a yes
+pub ends_well : (Holds : Answer → Type 0) (outcome : Result Answer Fault) → outcome ≡ Ok Yes → IfOk outcome Holds
+    → Holds Yes
+ends_well Holds outcome is done = subst (λ r. IfOk r Holds) is done

@@ -1,9 +1,0 @@
--- A refusal is told as it is.
-use Rattle.std.proofs.lemmas.Result.{err_from_is_err_and}
-use Rattle.tor_cli.proofs.Judging.{not_told}
-use Rattle.tor_cli.proofs.check_command.block_of.Goals as goal
-
-pub returns-in_err-judged-clause-stopped : goal.returns-in_err-judged-clause-stopped
-returns-in_err-judged-clause-stopped c =
-    let p = err_from_is_err_and c.from_residual.result c.from_residual.ensures.1 in
-    rw (p.1, p.2) (not_told c.args.bytes.now c.in_err-judged.field-0.0 c.in_err-judged.ensures.refused)

@@ -1,0 +1,24 @@
+//! What the program answers where no fault stops it.
+ghost use Rattle.std.specs.Prelude.{◌≡◌};
+ghost use Rattle.tor_cli.specs.Status.{status_of_answer};
+
+/// What came of a request.
+#[derive(Clone, Copy, Debug, PartialEq, Eq)]
+pub enum Answer {
+    /// It was done, and where it asks something the answer is yes.
+    Yes,
+    /// It asks something, and the answer is no.
+    No,
+}
+
+impl Answer {
+    /// The status that the program ends with.
+    pub fn status(self) -> u8
+        ensures { result ≡ status_of_answer self }
+    {
+        match self {
+            Answer::Yes => 0,
+            Answer::No => 1,
+        }
+    }
+}

@@ -1,0 +1,100 @@
+//! The words of the commands over proofs of pieces: `tor prove FILE FILENUMBER INDEX` and
+//! `tor verify ROOT LENGTH PIECELENGTH PROOF`.
+ghost use Rattle.clap.specs.Words.{app_of, found_of, rows_of, rule_of};
+ghost use Rattle.std.specs.Prelude.{◌≡◌, IfOk, IfSome, false};
+ghost use Rattle.tor_cli.specs.CommandLine.{number_of, prove_app, verify_app};
+ghost use Rattle.tor_cli.specs.Words.{IsPieceIn, IsProofIn};
+
+use crate::torrent_words::argument_of;
+use clap::{Arg, ArgMatches, Command, value_parser};
+use std::alloc::{AllocError, Global};
+
+/// Of which piece a proof is wanted.
+#[derive(Clone, Copy)]
+pub struct ProveOptions<'a> {
+    /// The file with the torrent.
+    pub place: &'a str,
+    /// The number of the file in the torrent, from 0.
+    pub file: u64,
+    /// The number of the piece in the file, from 0.
+    pub index: u64,
+}
+
+/// What a proof is judged by, as it stands in the words.
+#[derive(Clone, Copy)]
+pub struct VerifyOptions<'a> {
+    pub root: &'a str,
+    pub length: &'a str,
+    pub piece_length: &'a str,
+    /// The file with the proof.
+    pub proof: &'a str,
+}
+
+/// The command `prove`.
+pub fn prove_command<'a>(alloc: Global) -> Result<Command<'a>, AllocError>
+    ensures { IfOk result (λ command. app_of command ≡ prove_app) }
+{
+    Command::new(alloc, "prove")
+        .about("Proves that a piece is of a file of a torrent")
+        .arg(argument_of(alloc, "file", 1, "FILE", "The file with the torrent"))?
+        .arg(number_of(alloc, "file-number", 2, "FILENUMBER", FILE_NUMBER))?
+        .arg(number_of(alloc, "index", 3, "INDEX", INDEX))
+}
+
+const FILE_NUMBER: &str = "The number of the file in the torrent, from 0";
+
+const INDEX: &str = "The number of the piece in the file, from 0";
+
+/// The command `verify`.
+pub fn verify_command<'a>(alloc: Global) -> Result<Command<'a>, AllocError>
+    ensures { IfOk result (λ command. app_of command ≡ verify_app) }
+{
+    Command::new(alloc, "verify")
+        .about("Tells whether a proof of a piece holds")
+        .arg(argument_of(alloc, "root", 1, "ROOT", ROOT))?
+        .arg(argument_of(alloc, "length", 2, "LENGTH", LENGTH))?
+        .arg(argument_of(alloc, "piece-length", 3, "PIECELENGTH", PIECE_LENGTH))?
+        .arg(argument_of(alloc, "proof", 4, "PROOF", "The file with the proof"))
+}
+
+const ROOT: &str = "The root of the file: 64 hexadecimal digits";
+
+const LENGTH: &str = "Bytes in the file, at most 1125899906842624";
+
+const PIECE_LENGTH: &str = "Bytes in a piece: a power of two from 16384 to 1073741824";
+
+/// The piece that stands in the words; none where `clap` let through words that have none.
+pub fn prove_options<'a>(matches: &ArgMatches<'a>) -> Option<ProveOptions<'a>>
+    ensures { IfSome result (λ options. IsPieceIn options (rows_of (found_of matches.now))) }
+{
+    Some(ProveOptions {
+        place: matches.get_str("file")?,
+        file: matches.get_one::<u64>("file-number")?,
+        index: matches.get_one::<u64>("index")?,
+    })
+}
+
+/// What a proof is judged by, of the words; none where `clap` let through words that have none.
+pub fn verify_options<'a>(matches: &ArgMatches<'a>) -> Option<VerifyOptions<'a>>
+    ensures { IfSome result (λ options. IsProofIn options (rows_of (found_of matches.now))) }
+{
+    Some(VerifyOptions {
+        root: matches.get_str("root")?,
+        length: matches.get_str("length")?,
+        piece_length: matches.get_str("piece-length")?,
+        proof: matches.get_str("proof")?,
+    })
+}
+
+fn number_of<'a>(
+    alloc: Global,
+    name: &'a str,
+    place: usize,
+    shown: &'a str,
+    help: &'a str,
+) -> Arg<'a>
+    ensures rule { rule_of result ≡ number_of name.now place }
+    ensures local { result.global ≡ false }
+{
+    argument_of(alloc, name, place, shown, help).value_parser(value_parser!(u64))
+}
