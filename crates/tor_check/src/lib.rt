@@ -39,6 +39,8 @@ mod tests_hybrids;
 #[cfg(test)]
 mod tests_lenient;
 #[cfg(test)]
+mod tests_order;
+#[cfg(test)]
 mod tests_pieces;
 #[cfg(test)]
 mod tests_rows;

@@ -15,10 +15,21 @@ fn sums_of(alloc: Global, pieces: u64) -> Result<String, AllocError> {
 
 // The hybrid of the folder `f` with this tree and these entries, so many pieces in its list.
 fn of_both(alloc: Global, tree: &str, entries: &str, pieces: u64) -> Result<String, AllocError> {
+    after_keys(alloc, "", tree, entries, pieces)
+}
+
+// The same with other keys before `info`.
+fn after_keys(
+    alloc: Global,
+    keys: &str,
+    tree: &str,
+    entries: &str,
+    pieces: u64,
+) -> Result<String, AllocError> {
     let sums = sums_of(alloc, pieces)?;
     let length = sums.len();
     format!(in alloc;
-        "d4:infod9:file treed{tree}e5:filesl{entries}e12:meta versioni2e4:name1:f12:piece lengthi16384e\
+        "d{keys}4:infod9:file treed{tree}e5:filesl{entries}e12:meta versioni2e4:name1:f12:piece lengthi16384e\
 6:pieces{length}:{sums}e12:piece layersdee"
     )
 }
@@ -206,6 +217,29 @@ d6:lengthi1e4:pathl1:bee",
     for (tree, entries, files) in rows {
         let bytes = of_both(alloc, tree, entries, 2)?;
         let wanted = format!(in alloc; "Hybrid f 16384 2: {files}")?;
+        assert_eq!(rt; told(alloc, bytes.as_bytes())?, wanted, "{bytes}");
+    }
+    Ok(())
+}
+
+#[test]
+fn takes_other_keys_of_a_hybrid(rt: HostRuntime) -> Result<(), Fail> {
+    let alloc = rt.alloc();
+    let dated = "10:created by3:any13:creation datei1700000000e";
+    let padded = "d6:lengthi2e4:pathl1:aeed4:attr1:p6:lengthi16382e4:pathl4:.pad5:16382ee\
+d6:lengthi1e4:pathl1:bee";
+    let without_path = "d6:lengthi2e4:pathl1:aeed4:attr1:p6:lengthi16382eed6:lengthi1e4:pathl1:bee";
+    let tail = "d6:lengthi2e4:pathl1:aeed4:attr1:p6:lengthi16382e4:pathl4:.pad5:16382ee\
+d6:lengthi1e4:pathl1:beed4:attr1:p6:lengthi16383e4:pathl4:.pad5:16383ee";
+    let two = "a 2 b 1 | a 2 .pad/16382 16382p b 1";
+    let rows: [(&str, &str, &str, &str); 3] = [
+        (dated, padded, two, ""),
+        (dated, without_path, two, ""),
+        (dated, tail, two, " .pad/16383 16383p"),
+    ];
+    for (keys, entries, files, rest) in rows {
+        let bytes = after_keys(alloc, keys, TWO, entries, 2)?;
+        let wanted = format!(in alloc; "Hybrid f 16384 2: {files}{rest}")?;
         assert_eq!(rt; told(alloc, bytes.as_bytes())?, wanted, "{bytes}");
     }
     Ok(())
