@@ -1,5 +1,5 @@
 //! Proofs that the hash of a piece stands in the tree of its file (BEP 52, "piece layers").
-ghost use Rattle.std.specs.Prelude.{◌≡◌, ◌<◌, ◌≤◌, None, Err, IfErr, IfOk, IsSomeAnd, slice_get};
+ghost use Rattle.std.specs.Prelude.{◌≡◌, ◌<◌, ◌≤◌, None, Err, IfErr, IfOk, IsSomeAnd, length, slice_get};
 ghost use Rattle.std.specs.Option.{ForSome};
 ghost use Rattle.tor_check.specs.PieceProofs.{HasTree, IsPieceProof, piece_refusal};
 ghost use Rattle.tor_check.specs.declared.piece_proofs.PieceError.TheVariants.{Index, Memory};
@@ -38,6 +38,7 @@ pub fn prove_piece(
     ensures answered { piece_refusal torrent.now file index ≡ None → IfErr result (λ fault. fault ≡ Memory) }
     ensures proved { IfOk result (λ answer. IsSomeAnd (slice_get torrent.now.files file)
         (λ told. IsPieceProof torrent.now.piece_length told index answer.0 answer.1.siblings.items)) }
+    ensures few { IfOk result (λ answer. length answer.1.siblings.items ≤ 36) }
 {
     let Some(told) = torrent.files().get(file as usize) else {
         return Err(PieceError::Index);
@@ -61,6 +62,7 @@ fn prove_in_file(
     ensures answered { index < proof_count told.now.file.length piece_length → IfErr result (λ fault. fault ≡ Memory) }
     ensures proved { IfOk result (λ answer.
         IsPieceProof piece_length told.now index answer.0 answer.1.siblings.items) }
+    ensures few { IfOk result (λ answer. length answer.1.siblings.items ≤ 36) }
 {
     if told.file().length <= piece_length {
         return match told.file().root {

@@ -1,8 +1,12 @@
-use Rattle.std.proofs.Common.{◌≡◌, ◌<◌, ◌≤◌, ◌∙◌, ap, length, rules, subst, sym}
+use Rattle.std.proofs.Common.{◌≡◌, ◌+◌, ◌<◌, ◌≤◌, ◌∙◌, ap, arith, length, rules, subst, sym}
+use Rattle.std.proofs.lemmas.List.FromFn.{length-map-range_with_len}
 use Rattle.tor_check.proofs.Heights.{low_root}
 use Rattle.tor_check.proofs.PieceSteps.{proof_of_root}
+use Rattle.tor_merkle.specs.Proof.{siblings_of}
+use Rattle.tor_merkle.specs.Subtree.{height}
 use Rattle.tor_tree.specs.declared.tree_file.TreeFile.{TreeFile}
 use Rattle.tor_check.proofs.piece_proofs.prove_in_file.Goals as goal
+use Rattle.tor_check.proofs.piece_proofs.prove_in_file.Goals.{After-piece_level}
 
 pub returns-in-Some-clause-proved : goal.returns-in-Some-clause-proved
 returns-in-Some-clause-proved c =
@@ -13,13 +17,23 @@ returns-in-Some-clause-proved c =
     proof_of_root p c.args.told.now c.args.index c.in-Some.root c.new-siblings.result.items short root first
     c.new-siblings.ensures.items
 
-pub prove-requires : goal.prove-requires
-prove-requires c =
+-- the layer of a file has a low root
+low_layer : (c : After-piece_level) → c.piece_level.result + height (length c.layer-layer.result.now) ≤ 36
+low_layer c =
     let p = c.args.piece_length in
     let tree = c.requires.tree in
     let long = subst (λ (file : TreeFile). p < file.length) c.file.ensures c.if-file-piece_length.false in
-    record {
-      low = low_root p c.args.told.now.file.length (length c.layer-layer.result.now) c.piece_level.result
-          c.requires.allowed tree.small long (ap length c.layer-layer.ensures ∙ tree.pieces long)
-          c.piece_level.ensures.value;
-    }
+    low_root p c.args.told.now.file.length (length c.layer-layer.result.now) c.piece_level.result c.requires.allowed
+    tree.small long (ap length c.layer-layer.ensures ∙ tree.pieces long) c.piece_level.ensures.value
+
+pub prove-requires : goal.prove-requires
+prove-requires c = record { low = low_layer c }
+
+pub returns-in-Ok-clause-few : goal.returns-in-Ok-clause-few
+unfolding siblings_of
+returns-in-Ok-clause-few c =
+    let layer = c.layer-layer.result.now in
+    let levels : length c.in-Ok.proof.siblings.items ≡ height (length layer) =
+    ap length c.in-Ok.ensures.siblings ∙ length-map-range_with_len _ 0 (height (length layer)) in
+    let low = low_layer (goal.at.returns-in-Ok-clause-few c).After-piece_level in
+    omega (arith, levels, low)
