@@ -1,11 +1,16 @@
 -- Hashes in hexadecimal digits.
-use Rattle.std.proofs.Common.{◌≡◌, ℕ, List, length, map, Ok, inl, inr}
+use Rattle.std.proofs.Common.{◌≡◌, ◌<◌, ℕ, List, length, map, Result, Ok, Err, inl, inr}
 use Rattle.std.proofs.Common.{refl, sym, ◌∙◌, ap, subst, arith}
 use Rattle.std.specs.Char.{to_ascii_lowercase}
+use Rattle.std.specs.List.{All}
+use Rattle.std.specs.Option.{IfSome}
+use Rattle.std.specs.Result.{result_ok}
 use Rattle.std.proofs.lemmas.Bool.{cases_lt}
-use Rattle.std.proofs.lemmas.List.{get_or_past, length-map}
+use Rattle.std.proofs.lemmas.List.{get_or_default, get_or_past, length-map}
 use Rattle.hex.specs.Hex.{IsBytes, decode_of, decode_sized, encode_lower, lower_digits}
-use Rattle.hex.proofs.HexLemmas.{decode_of-encode_lower, length-encode_with}
+use Rattle.hex.proofs.HexLemmas.{decode_of-encode_lower, decode_of-ok, decode_sized-ok, decode_sized-twice}
+use Rattle.hex.proofs.HexLemmas.{length-encode_with}
+use Rattle.hex.specs.declared.error.FromHexError.{FromHexError}
 use Rattle.tor_cli.specs.ProofText.{IsHash}
 
 IsBytes-hash : (hash : List ℕ) → IsHash hash → IsBytes hash
@@ -35,3 +40,18 @@ digits_decoded hash text h same =
     subst (λ (xs : List ℕ). decode_sized xs 32 ≡ Ok hash) same
     (decode_sized-even (encode_lower hash) (length-digits hash h.size)
     ∙ decode_of-encode_lower hash (IsBytes-hash hash h))
+
+pub All-bytes : (hash : List ℕ) → IsBytes hash → All (λ byte. byte < 256) hash
+All-bytes hash bytes i d within = rw (get_or_default hash i d 0 within) (bytes i)
+
+-- what is decoded is a hash
+hash_decoded : (text hash : List ℕ) → decode_sized text 32 ≡ Ok hash → IsHash hash
+hash_decoded text hash decoded =
+    let long = decode_sized-ok text 32 hash decoded in
+    let ok = decode_of-ok text hash (sym (decode_sized-twice text 32 long) ∙ decoded) in
+    record { size = omega (arith, long, ok.2); bytes = All-bytes hash ok.3 }
+
+pub if_decoded : (text : List ℕ) (result : Result (List ℕ) FromHexError) → result ≡ decode_sized text 32
+    → IfSome (result_ok result) IsHash
+if_decoded text (Ok hash) is = hash_decoded text hash (sym is)
+if_decoded text (Err error) is = tt

@@ -34,4 +34,4 @@ pub record IsProof (index : ℕ) (hash : List ℕ) (siblings : List (List ℕ)) 
 
 -- 64 hexadecimal digits of either case, of this hash
 abbrev pub IsRootText : List ℕ → List ℕ → Type 0
-IsRootText text hash = (encode_lower hash ≡ map to_ascii_lowercase text) × (length hash ≡ 32)
+IsRootText text hash = IsHash hash × (encode_lower hash ≡ map to_ascii_lowercase text)

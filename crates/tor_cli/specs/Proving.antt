@@ -1,7 +1,7 @@
 -- What the program tells of single pieces: the proof of one of a torrent in a file, and whether a proof in a file
 -- holds. No contract says which bytes a file has, so a clause speaks of some bytes: those that the program took for the
 -- file's.
-use Rattle.std.specs.Prelude.{◌≡◌, ◌≤◌, ◌<◌, ℕ, Bool, true, false, List, length, codes, Some, None}
+use Rattle.std.specs.Prelude.{◌≡◌, ◌≤◌, ◌<◌, ℕ, Bool, true, false, List, codes, Some, None}
 use Rattle.std.specs.Prelude.{IsSomeAnd, slice_get}
 use Rattle.std.specs.Io.KnownBytes.{Appends}
 use Rattle.tor_bencode.specs.Data.{Data}
@@ -14,7 +14,7 @@ use Rattle.tor_spec.specs.valid.Conditions.{IsTorrentOf}
 use Rattle.tor_spec.specs.valid.View.{FileView, View, view_of}
 use Rattle.tor_cli.specs.Foreign.{IsNotTold, OfSome}
 use Rattle.tor_cli.specs.Make.{IsFront}
-use Rattle.tor_cli.specs.ProofText.{IsHash, IsProof, IsRootText, proof_text}
+use Rattle.tor_cli.specs.ProofText.{IsProof, IsRootText, proof_text}
 use Rattle.tor_cli.specs.Streams.{IsUntouched, Streams}
 use Rattle.tor_cli.specs.declared.answer.Answer.{Answer}
 use Rattle.tor_cli.specs.declared.answer.Answer.TheVariants.{Yes, No}
@@ -29,7 +29,8 @@ use Rattle.tor_cli.specs.declared.proof_words.VerifyOptions.{VerifyOptions}
 -- the text is that of a proof of this piece
 abbrev pub IsTextOfPiece : ℕ → ℕ → List ℕ → FileView → Type 0
 IsTextOfPiece piece_length index text told = (hash : List ℕ) × (siblings : List (List ℕ))
-    × IsPieceProof piece_length told index hash siblings × (text ≡ proof_text index hash siblings)
+    × IsPieceProof piece_length told index hash siblings × IsProof index hash siblings
+    × (text ≡ proof_text index hash siblings)
 
 -- the bytes are a torrent, of which this piece has a proof, and the text is that
 pub record IsProofOf (file index : ℕ) (bytes text : List ℕ) : Type 0 where
@@ -88,7 +89,7 @@ OfNone {X = X} Holds = (x : X) → Holds x → ⊥
 
 -- which word makes no claim, the first
 abbrev pub IsBadClaim : VerifyOptions → ArgumentFault → Type 0
-IsBadClaim options arguments.Root = (hash : List ℕ) → IsHash hash → IsRootText options.root.now hash → ⊥
+IsBadClaim options arguments.Root = OfNone (IsRootText options.root.now)
 IsBadClaim options arguments.Length =
     ((root : List ℕ) × IsRootText options.root.now root) × OfNone (IsLengthText options.length.now)
 IsBadClaim options arguments.PieceLength =
@@ -109,7 +110,7 @@ answer_of false = No
 -- the bytes are the text of a proof, to which this is the answer
 abbrev pub IsAnswered : Claim → List ℕ → Answer → Type 0
 IsAnswered claim bytes answer = (index : ℕ) × (hash : List ℕ) × (siblings : List (List ℕ))
-    × (proof_text index hash siblings ≡ bytes) × (length siblings ≤ 36)
+    × IsProof index hash siblings × (proof_text index hash siblings ≡ bytes)
     × (answer ≡ answer_of (holds_in claim index hash siblings))
 
 -- they are the text of none

@@ -1,16 +1,15 @@
 //! Hashes in hexadecimal digits.
 
-ghost use Rattle.std.specs.Prelude.{◌≡◌, ◌↔◌, ℕ, List, length, map, IsTrue, IfSome, Some};
-ghost use Rattle.std.specs.Char.{to_ascii_lowercase};
+ghost use Rattle.std.specs.Prelude.{◌≡◌, ◌↔◌, ℕ, List, IsTrue, IfSome, Some};
 ghost use Rattle.hex.specs.Hex.{encode_lower};
-ghost use Rattle.tor_cli.specs.ProofText.{IsHash};
+ghost use Rattle.tor_cli.specs.ProofText.{IsHash, IsRootText};
 
 use hex::{FromHex, encode_to_slice};
 use tor_merkle::Hash;
 
 /// The hash of which these are the lower-case digits.
 pub fn read_hash(text: &[u8]) -> Option<Hash>
-    ensures written { IfSome result (λ hash. (encode_lower hash ≡ text.now) × (length hash ≡ 32)) }
+    ensures written { IfSome result (λ hash. IsHash hash × (encode_lower hash ≡ text.now)) }
     ensures read { (hash : List ℕ) → IsHash hash → encode_lower hash ≡ text.now → result ≡ Some hash }
 {
     match of_either_case(text) {
@@ -21,9 +20,8 @@ pub fn read_hash(text: &[u8]) -> Option<Hash>
 
 /// The hash of which these are the digits, of either case.
 pub fn read_root(text: &str) -> Option<Hash>
-    ensures written { IfSome result (λ hash. (encode_lower hash ≡ map to_ascii_lowercase text.now) × (length hash ≡ 32)) }
-    ensures read { (hash : List ℕ) → IsHash hash → encode_lower hash ≡ map to_ascii_lowercase text.now
-        → result ≡ Some hash }
+    ensures written { IfSome result (IsRootText text.now) }
+    ensures read { (hash : List ℕ) → IsRootText text.now hash → result ≡ Some hash }
 {
     let mut digits = <[u8; 64]>::try_from(text.as_bytes()).ok()?;
     digits.make_ascii_lowercase();
@@ -32,7 +30,8 @@ pub fn read_root(text: &str) -> Option<Hash>
 
 /// The hash of lower-case digits, and of others too.
 fn of_either_case(text: &[u8]) -> Option<Hash>
-    ensures { (hash : List ℕ) → IsHash hash → encode_lower hash ≡ text.now → result ≡ Some hash }
+    ensures hash { IfSome result IsHash }
+    ensures read { (hash : List ℕ) → IsHash hash → encode_lower hash ≡ text.now → result ≡ Some hash }
 {
     <[u8; 32] as FromHex>::from_hex(text).ok()
 }

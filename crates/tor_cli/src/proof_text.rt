@@ -5,7 +5,7 @@ ghost use Rattle.std.specs.Prelude.{IfOk, OnOk, IfSome};
 ghost use Rattle.std.specs.Char.{is_ascii_digit};
 ghost use Rattle.std.specs.List.{All, prefix_len};
 ghost use Rattle.std.specs.Option.{IsSomeAnd};
-ghost use Rattle.tor_cli.specs.ProofText.{IsHash, index_line, hash_line, sibling_line, proof_text};
+ghost use Rattle.tor_cli.specs.ProofText.{IsHash, IsProof, index_line, hash_line, sibling_line, proof_text};
 
 use crate::digits::read_hash;
 use crate::numbers::read_number;
@@ -25,7 +25,8 @@ pub fn proof_text(
     hash: &Hash,
     proof: &Proof,
 ) -> Result<String, AllocError>
-    ensures { IfOk result (λ text. string_bytes text ≡ proof_text index hash.now proof.now.siblings.items) }
+    ensures text { IfOk result (λ text. string_bytes text ≡ proof_text index hash.now proof.now.siblings.items) }
+    ensures hashes { IfOk result (λ _. IsHash hash.now × All IsHash proof.now.siblings.items) }
 {
     let mut text = index_line(alloc, index)?;
     push_hash(alloc, &mut text, "hash ", hash)?;
@@ -43,7 +44,8 @@ fn index_line(alloc: Global, index: u64) -> Result<String, AllocError>
 }
 
 fn push_hash(alloc: Global, text: &mut String, word: &str, hash: &Hash) -> Result<(), AllocError>
-    ensures { OnOk result (string_bytes text.new ≡ string_bytes text.old ++ hash_line word.now hash.now) }
+    ensures text { OnOk result (string_bytes text.new ≡ string_bytes text.old ++ hash_line word.now hash.now) }
+    ensures hash { OnOk result (IsHash hash.now) }
 {
     let digits = encode(alloc, hash.as_slice())?;
     writeln!(text, "{word}{digits}")
@@ -52,10 +54,9 @@ fn push_hash(alloc: Global, text: &mut String, word: &str, hash: &Hash) -> Resul
 /// The index, the hash and the siblings of which this is the text.
 pub fn read_proof(alloc: Global, text: &[u8]) -> Result<Option<(u64, Hash, Proof)>, AllocError>
     ensures written { IfOk result (λ read. IfSome read (λ r.
-        (proof_text r.0 r.1 r.2.siblings.items ≡ text.now) × (length r.2.siblings.items ≤ 36))) }
-    ensures read { (index : ℕ) (hash : List ℕ) (siblings : List (List ℕ)) → index < 2 ^ 64 → IsHash hash
-        → All IsHash siblings → length siblings ≤ 36 → proof_text index hash siblings ≡ text.now
-        → IfOk result (λ read. IsSomeAnd read (λ r.
+        IsProof r.0 r.1 r.2.siblings.items × (proof_text r.0 r.1 r.2.siblings.items ≡ text.now))) }
+    ensures read { (index : ℕ) (hash : List ℕ) (siblings : List (List ℕ)) → IsProof index hash siblings
+        → proof_text index hash siblings ≡ text.now → IfOk result (λ read. IsSomeAnd read (λ r.
         (r.0 ≡ index) × (r.1 ≡ hash) × (r.2.siblings.items ≡ siblings))) }
 {
     let Some(head) = read_head(text) else {
@@ -70,7 +71,8 @@ pub fn read_proof(alloc: Global, text: &[u8]) -> Result<Option<(u64, Hash, Proof
 
 /// The index and the hash, and the lines after them.
 fn read_head(text: &[u8]) -> Option<(u64, Hash, &[u8])>
-    ensures written { IfSome result (λ r. text.now ≡ index_line r.0 ++ (hash_line (codes "hash ") r.1 ++ r.2.now)) }
+    ensures written { IfSome result (λ r. (r.0 < 2 ^ 64) × IsHash r.1
+        × (text.now ≡ index_line r.0 ++ (hash_line (codes "hash ") r.1 ++ r.2.now))) }
     ensures read { (index : ℕ) (hash rest : List ℕ) → index < 2 ^ 64 → IsHash hash
         → text.now ≡ index_line index ++ (hash_line (codes "hash ") hash ++ rest)
         → IsSomeAnd result (λ r. (r.0 ≡ index) × (r.1 ≡ hash) × (r.2.now ≡ rest)) }
@@ -81,7 +83,7 @@ fn read_head(text: &[u8]) -> Option<(u64, Hash, &[u8])>
 }
 
 fn read_index(text: &[u8]) -> Option<(u64, &[u8])>
-    ensures written { IfSome result (λ r. text.now ≡ index_line r.0 ++ r.1.now) }
+    ensures written { IfSome result (λ r. (r.0 < 2 ^ 64) × (text.now ≡ index_line r.0 ++ r.1.now)) }
     ensures read { (index : ℕ) (rest : List ℕ) → index < 2 ^ 64 → text.now ≡ index_line index ++ rest
         → IsSomeAnd result (λ r. (r.0 ≡ index) × (r.1.now ≡ rest)) }
 {
@@ -103,7 +105,8 @@ fn count_digits(bytes: &[u8]) -> usize
 /// The siblings, a line for each.
 fn read_siblings(alloc: Global, text: &[u8]) -> Result<Option<Vec<Hash>>, AllocError>
     ensures written { IfOk result (λ read. IfSome read (λ siblings.
-        (text.now ≡ flat_map sibling_line siblings.items) × (length siblings.items ≤ 36))) }
+        All IsHash siblings.items × (text.now ≡ flat_map sibling_line siblings.items)
+        × (length siblings.items ≤ 36))) }
     ensures read { (siblings : List (List ℕ)) → All IsHash siblings → length siblings ≤ 36
         → text.now ≡ flat_map sibling_line siblings
         → IfOk result (λ read. IsSomeAnd read (λ r. r.items ≡ siblings)) }
@@ -126,7 +129,7 @@ fn read_siblings(alloc: Global, text: &[u8]) -> Result<Option<Vec<Hash>>, AllocE
 
 /// The hash of a line that begins with a word, and the lines after it.
 fn read_line<'a>(word: &[u8], text: &'a [u8]) -> Option<(Hash, &'a [u8])>
-    ensures written { IfSome result (λ r. text.now ≡ hash_line word.now r.0 ++ r.1.now) }
+    ensures written { IfSome result (λ r. IsHash r.0 × (text.now ≡ hash_line word.now r.0 ++ r.1.now)) }
     ensures read { (hash rest : List ℕ) → IsHash hash → text.now ≡ hash_line word.now hash ++ rest
         → IsSomeAnd result (λ r. (r.0 ≡ hash) × (r.1.now ≡ rest)) }
 {

@@ -1,8 +1,9 @@
 -- A line for each sibling.
-use Rattle.std.proofs.Common.{◌≡◌, length, ◌<◌, arith, length-append}
+use Rattle.std.proofs.Common.{◌≡◌, length, ◌<◌, [], ◌∷◌, arith, length-append}
 use Rattle.std.specs.Prelude.{flat_map}
 use Rattle.std.proofs.lemmas.Bool.Decides.{nat_tests}
-use Rattle.tor_cli.specs.ProofText.{sibling_line}
+use Rattle.std.proofs.lemmas.List.Elements.{All-append, All-cons, All-nil}
+use Rattle.tor_cli.specs.ProofText.{IsHash, sibling_line}
 use Rattle.tor_cli.proofs.Siblings.{none_left, one_left, one_more, step}
 use Rattle.tor_cli.proofs.proof_text.read_siblings.Goals as goal
 
@@ -18,9 +19,12 @@ lines-preserved c =
     let some : 0 < length c.lines.lines.now = grind (arith, nat_tests) in
     rw c.in_ok-push.ensures.items
     record {
+      hashes =
+          All-append IsHash c.lines.siblings.items (c.in-Some.line.0 ∷ []) c.lines.invariant.hashes
+          (All-cons IsHash c.in-Some.line.0 [] c.in-Some.ensures.written.0 (All-nil IsHash));
       written =
           one_more c.args.text.now c.lines.lines.now c.in-Some.line.1.now c.in-Some.line.0 c.lines.siblings.items
-          c.lines.invariant.written c.in-Some.ensures.written;
+          c.lines.invariant.written c.in-Some.ensures.written.1;
       count = simp length-append (omega arith);
       left =
           λ all hashes same.

@@ -9,6 +9,7 @@ use Rattle.tor_cli.proofs.proof_text.read_siblings.Given as goal
 abbrev pub invariant-lines : goal.invariant-lines
 invariant-lines l =
     record {
+      hashes : All IsHash l.siblings.items;
       written : l.text ≡ flat_map sibling_line l.siblings.items ++ l.lines;
       count : length l.siblings.items ≤ 36;
       left : (all : List (List ℕ)) → All IsHash all → l.text ≡ flat_map sibling_line all

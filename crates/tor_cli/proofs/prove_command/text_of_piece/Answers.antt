@@ -28,7 +28,13 @@ returns-clause-proved c =
       c.in-Ok-prove_piece.proved.0,
       c.in-Ok-prove_piece.proved.1.siblings.items,
       is,
-      c.in_ok-proof_text.ensures,
+      record {
+        below = c.type_inv.index;
+        is_hash = c.in_ok-proof_text.ensures.hash;
+        are_hashes = c.in_ok-proof_text.ensures.siblings;
+        few = c.in-Ok-prove_piece.ensures.few;
+      },
+      c.in_ok-proof_text.ensures.text,
     )) c.in-Ok-prove_piece.ensures.proved in
     record {
       root = root;
