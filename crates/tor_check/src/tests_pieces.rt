@@ -102,6 +102,16 @@ fn proves_each_piece_of_three(rt: HostRuntime) -> Result<(), Fail> {
     expect_proof(&rt, &bytes, (0, 2), &L2, &[zero(1), two])
 }
 
+#[test]
+fn proves_a_file_and_the_file_of_its_hashes(rt: HostRuntime) -> Result<(), Fail> {
+    // the second file is the hashes of both pieces of the first
+    let two = pair(&L0, &L1);
+    let bytes = of_root(rt.alloc(), 16384, (32768, Some(64)), &two, &[L0, L1])?;
+    expect_proof(&rt, &bytes, (0, 0), &L0, &[L1])?;
+    expect_proof(&rt, &bytes, (0, 1), &L1, &[L0])?;
+    expect_proof(&rt, &bytes, (1, 0), &two, &[])
+}
+
 // The hybrid of the file a of two pieces.
 fn hybrid_of_two(alloc: Global) -> Result<Vec<u8>, AllocError> {
     let root = pair(&L0, &L1);

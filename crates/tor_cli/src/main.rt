@@ -44,6 +44,8 @@ mod telling;
 #[cfg(test)]
 mod tests;
 #[cfg(test)]
+mod tests_answers;
+#[cfg(test)]
 mod tests_foreign;
 #[cfg(test)]
 mod tests_path;
@@ -51,6 +53,8 @@ mod tests_path;
 mod tests_proof_text;
 #[cfg(test)]
 mod tests_proofs;
+#[cfg(test)]
+mod tests_told;
 mod torrent_words;
 mod verify_command;
 

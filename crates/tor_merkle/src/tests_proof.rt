@@ -21,6 +21,11 @@ const OF_FOUR: &str = "4be4cf030e4a5aadb5045abee9adbc1486d339a1d34fb4ee0632e6c76
 
 const OF_THREE: &str = "ab671631a9fa97a1fdac651fff6c68773b9acf0735b9c7f6ecdd54cbf1bf5dc2";
 
+// Any five hashes, and their root.
+const FIVE: [Hash; 5] = [[1; 32], [2; 32], [3; 32], [4; 32], [5; 32]];
+
+const OF_FIVE: &str = "6c1cfb22738edf2a397893ab3bd49b601f5dfc69439772b613f6fad2889ebbd6";
+
 // The hashes of the pieces of a content, of 16,384 bytes each.
 fn pieces_of<R: AllocGlobal + Abort>(rt: &R, length: usize) -> Result<Vec<Hash>, AllocError> {
     let (_, layer) = whole_of(rt, length, 16_384)?;
@@ -77,6 +82,39 @@ fn gives_the_siblings_of_a_piece(rt: HostRuntime) -> Result<(), ProveError> {
     let root = layer_root(&hashes, 0);
     assert_eq!(rt; hex(rt.alloc(), &root)?.as_str(), OF_FOUR);
     assert!(rt; accepts(&rt, &root, 4, 0, 2, &hashes[2], &proof));
+    Ok(())
+}
+
+#[test]
+fn gives_the_siblings_of_the_third_of_five(rt: HostRuntime) -> Result<(), ProveError> {
+    let [l0, l1, l2, l3, l4] = FIVE;
+    let z0: Hash = [0; 32];
+    let l01 = pair(&l0, &l1);
+    let last = pair(&pair(&l4, &z0), &pair(&z0, &z0));
+    let root = pair(&pair(&l01, &pair(&l2, &l3)), &last);
+    assert_eq!(rt; hex(rt.alloc(), &root)?.as_str(), OF_FIVE);
+    let proof = proof_of(&rt, &FIVE, 0, 2)?;
+    assert!(rt; proof.siblings.as_slice() == [l3, l01, last].as_slice());
+    assert!(rt; accepts(&rt, &root, 5, 0, 2, &l2, &proof));
+    assert!(rt; !accepts(&rt, &root, 5, 0, 3, &l2, &proof));
+    assert!(rt; !accepts_third(&rt, &root, 5, &l2, &[l3, l01])?);
+    let none = proof_of(&rt, &FIVE, 0, 5);
+    assert!(rt; matches!(none, Err(ProveError::Index)));
+    Ok(())
+}
+
+#[test]
+fn tells_a_file_from_the_file_of_its_hashes(rt: HostRuntime) -> Result<(), AllocError> {
+    let [l0, l1, _, _, _] = FIVE;
+    let root = pair(&l0, &l1);
+    // The 64 bytes of both hashes are a block, of which that root is the leaf.
+    let mut text = l0.as_slice().to_vec(rt.alloc())?;
+    text.extend_from_slice(&l1)?;
+    assert!(rt; leaf(&text) == root);
+    let siblings = [l1].as_slice().to_vec(rt.alloc())?;
+    let proof = Proof { siblings };
+    assert!(rt; accepts(&rt, &root, 2, 0, 0, &l0, &proof));
+    assert!(rt; !accepts(&rt, &root, 1, 0, 0, &l0, &proof));
     Ok(())
 }
 
