@@ -29,9 +29,9 @@ returns-clause-proved c =
       c.in-Ok-prove_piece.proved.1.siblings.items,
       is,
       record {
-        below = c.type_inv.index;
-        is_hash = c.in_ok-proof_text.ensures.hash;
-        are_hashes = c.in_ok-proof_text.ensures.siblings;
+        below = c.ranges.index.fits;
+        is_hash = c.in_ok-proof_text.ensures.hashes.0;
+        are_hashes = c.in_ok-proof_text.ensures.hashes.1;
         few = c.in-Ok-prove_piece.ensures.few;
       },
       c.in_ok-proof_text.ensures.text,
