@@ -11,7 +11,7 @@ use Rattle.tor_merkle.specs.Layer.{IsPieceLength}
 use Rattle.tor_merkle.specs.Proof.{is_proof, proof_count, proof_level}
 use Rattle.tor_merkle.specs.declared.TheConstants.{MAX_LENGTH}
 use Rattle.tor_spec.specs.valid.Conditions.{IsTorrentOf}
-use Rattle.tor_spec.specs.valid.View.{FileView, View, view_of}
+use Rattle.tor_spec.specs.valid.View.{FileView, view_of}
 use Rattle.tor_cli.specs.Foreign.{IsNotTold, OfSome}
 use Rattle.tor_cli.specs.Make.{IsFront}
 use Rattle.tor_cli.specs.ProofText.{IsProof, IsRootText, proof_text}

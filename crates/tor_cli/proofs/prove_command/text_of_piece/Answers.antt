@@ -1,7 +1,7 @@
 -- The refusal is that of the piece, and the text that of its proof.
-use Rattle.std.proofs.Common.{◌≡◌, sym, subst}
+use Rattle.std.proofs.Common.{◌≡◌, subst}
 use Rattle.std.specs.Prelude.{None, IsSomeAnd, slice_get, string_bytes}
-use Rattle.tor_check.specs.PieceProofs.{IsPieceProof, piece_refusal}
+use Rattle.tor_check.specs.PieceProofs.{piece_refusal}
 use Rattle.tor_spec.specs.valid.View.{View}
 use Rattle.tor_cli.specs.Proving.{IsTextOfPiece}
 use Rattle.tor_cli.proofs.Proofs.{none_refused, not_proved, weaker}
