@@ -12,4 +12,6 @@ pub mod JoinedContent
 pub mod UnitSums
 pub mod SumsByUnit
 pub mod WithinFiles
+pub mod EntryRows
+pub mod EntrySteps
 pub mod ProvedLaws

@@ -13,6 +13,8 @@ use Rattle.tor_tree.specs.FileList.{lengths_of}
 use Rattle.tor_plan.proofs.WithinFiles.{separate_within, separate_whole, joined_within, joined_whole}
 use Rattle.tor_plan.proofs.Entries.{separate_content, aligned_content}
 use Rattle.tor_plan.proofs.JoinedContent.{joined_files}
+use Rattle.tor_plan.proofs.EntryRows as rows
+use Rattle.tor_plan.proofs.EntrySteps as steps
 
 pub units_are_the_content : (kind : Kind) (piece_length span : ℕ) (files : List (List (List ℕ) × ℕ))
     (contents : List (List ℕ)) → 0 < span * piece_length → AreContentsOfFiles files contents

@@ -3,4 +3,7 @@ pub mod Forest
 pub mod PlanFacts
 pub mod Content
 pub mod WithinFiles
+pub mod Entries
+pub mod EntryList
+pub mod WithinEntries
 pub mod steps

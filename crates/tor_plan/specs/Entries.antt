@@ -1,0 +1,83 @@
+-- How the entries of a torrent, files and padding (BEP 47, "padding files"), are cut into units of work. A file is named
+-- by its place among the entries that are no padding.
+use Rattle.std.specs.Prelude.{ℕ, ◌+◌, ◌-◌, ◌*◌, min, max, nat_lt, List, [], ◌∷◌, ◌++◌, map, sum_by}
+use Rattle.std.specs.Prelude.{if◌then◌else◌}
+use Rattle.std.specs.Int.{div_ceil}
+use Rattle.std.specs.List.{range_with_len}
+use Rattle.tor_tree.specs.declared.kinds.Kind.{Kind}
+use Rattle.tor_tree.specs.declared.kinds.Kind.TheVariants.{V1}
+use Rattle.tor_v1.specs.Content.{file_entries}
+use Rattle.tor_v1.specs.declared.entry.Entry.{Entry}
+use Rattle.tor_plan.specs.declared.units.PlanUnit.{PlanUnit}
+use Rattle.tor_plan.specs.Units.{units_of_file}
+
+-- the bytes of all entries
+abbrev pub entries_length : List Entry → ℕ
+entries_length entries = sum_by (λ entry. entry.length) entries
+
+-- the length of each file
+abbrev pub lengths_of_entries : List Entry → List ℕ
+lengths_of_entries entries = map (λ entry. entry.length) (file_entries entries)
+
+-- ---- joined entries
+
+-- no byte
+abbrev pub empty_unit : PlanUnit
+empty_unit = record { zeros = 0; parts = [] }
+
+-- zeros, and then the unit
+abbrev pub after_zeros : ℕ → PlanUnit → PlanUnit
+after_zeros n unit = record { zeros = n + unit.zeros; parts = unit.parts }
+
+-- a part of a file, and then the unit: the zeros that it begins with come after the part
+abbrev pub after_part : ℕ → ℕ → ℕ → PlanUnit → PlanUnit
+after_part file start n unit = record {
+  zeros = 0;
+  parts = record { file = file; start = start; length = n; zeros = unit.zeros } ∷ unit.parts;
+}
+
+-- how many bytes from a to b are among the m bytes from at on
+abbrev pub shared : ℕ → ℕ → ℕ → ℕ → ℕ
+shared a b at m = min b (at + m) - max a at
+
+-- the bytes from a to b of the joined entries, of which the first begins at byte at; the first file has this place
+unfoldable pub unit_within : ℕ → ℕ → ℕ → ℕ → List Entry → PlanUnit
+unit_within a b place at [] = empty_unit
+unit_within a b place at (entry ∷ entries) =
+    if entry.pad then after_zeros (shared a b at entry.length) (unit_within a b place (at + entry.length) entries) else (
+    if nat_lt 0 (shared a b at entry.length) then
+    after_part place (max a at - at) (shared a b at entry.length)
+    (unit_within a b (place + 1) (at + entry.length) entries)
+    else unit_within a b (place + 1) (at + entry.length) entries)
+
+-- the k-th unit of the joined entries, which are cut every size bytes
+abbrev pub joined_entry_unit : ℕ → List Entry → ℕ → PlanUnit
+joined_entry_unit size entries k = unit_within (k * size) ((k + 1) * size) 0 0 entries
+
+-- the joined entries cut every size bytes, the last unit perhaps shorter
+unfoldable pub joined_entry_units : ℕ → List Entry → List PlanUnit
+joined_entry_units size entries =
+    map (joined_entry_unit size entries) (range_with_len 0 (div_ceil (entries_length entries) size))
+
+-- ---- files cut each by itself
+
+-- the padding before the next file that is not empty, or before the end
+unfoldable pub padding_before_next : List Entry → ℕ
+padding_before_next [] = 0
+padding_before_next (entry ∷ entries) =
+    if entry.pad then entry.length + padding_before_next entries else (
+    if nat_lt 0 entry.length then 0 else padding_before_next entries)
+
+-- each file cut by itself, and the padding up to the next one that is not empty in its last unit; the first has this
+-- place
+unfoldable pub separate_entry_units : ℕ → ℕ → List Entry → List PlanUnit
+separate_entry_units size place [] = []
+separate_entry_units size place (entry ∷ entries) =
+    if entry.pad then separate_entry_units size place entries else
+    units_of_file size place entry.length (padding_before_next entries)
+    ++ separate_entry_units size (place + 1) entries
+
+-- the units of span pieces: of the joined entries in version 1, else of each file by itself
+abbrev pub entry_units : Kind → ℕ → ℕ → List Entry → List PlanUnit
+entry_units V1 piece_length span entries = joined_entry_units (span * piece_length) entries
+entry_units kind piece_length span entries = separate_entry_units (span * piece_length) 0 entries
