@@ -1,12 +1,16 @@
--- Contents of no byte.
-use Rattle.std.proofs.Common.{◌≡◌, ℕ, ◌*◌, ◌<◌, [], arith, ap, ◌∙◌}
-use Rattle.std.proofs.lemmas.List.{nil_from_length}
+-- Zeros, and contents of no byte.
+use Rattle.std.proofs.Common.{◌≡◌, ℕ, ◌+◌, ◌*◌, ◌<◌, [], ◌++◌, arith, ap, sym, ◌∙◌}
+use Rattle.std.proofs.lemmas.List.{nil_from_length, replicate-append-replicate}
 use Rattle.tor_v1.specs.Piece.{piece_sums, zeros}
 use Rattle.tor_v1.proofs.ProvedLaws.{length-piece_sums, length_of_zeros}
 use Rattle.tor_plan.proofs.Ranges.{ceil_is}
 
 pub zeros-nil : zeros 0 ≡ []
 zeros-nil = nil_from_length (zeros 0) (length_of_zeros 0)
+
+pub zeros-add : (n m : ℕ) → zeros (n + m) ≡ zeros n ++ zeros m
+unfolding zeros
+zeros-add n m = sym (replicate-append-replicate n m 0)
 
 pub sums_nil : (p : ℕ) → 0 < p → piece_sums p [] ≡ []
 sums_nil p pos =

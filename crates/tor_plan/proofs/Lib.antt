@@ -14,4 +14,5 @@ pub mod SumsByUnit
 pub mod WithinFiles
 pub mod EntryRows
 pub mod EntrySteps
+pub mod EntryContent
 pub mod ProvedLaws

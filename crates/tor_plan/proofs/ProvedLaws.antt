@@ -15,6 +15,7 @@ use Rattle.tor_plan.proofs.Entries.{separate_content, aligned_content}
 use Rattle.tor_plan.proofs.JoinedContent.{joined_files}
 use Rattle.tor_plan.proofs.EntryRows as rows
 use Rattle.tor_plan.proofs.EntrySteps as steps
+use Rattle.tor_plan.proofs.EntryContent as content
 
 pub units_are_the_content : (kind : Kind) (piece_length span : ℕ) (files : List (List (List ℕ) × ℕ))
     (contents : List (List ℕ)) → 0 < span * piece_length → AreContentsOfFiles files contents
