@@ -1,15 +1,14 @@
 -- The bytes of units, file by file.
 use Rattle.std.proofs.Common.{◌≡◌, ℕ, ◌+◌, ◌-◌, ◌*◌, ◌<◌, Bool, true, false, cond, leb, min, List, [], ◌∷◌, ◌++◌}
-use Rattle.std.proofs.Common.{length, map, get_or, take, drop, arith, refl, ap, ap₂, ◌∙◌, sym, append-nil, inl, inr}
-use Rattle.std.proofs.Common.{length-drop}
-use Rattle.std.proofs.lemmas.Bool.{cases_lt}
-use Rattle.std.proofs.lemmas.List.{take_min, get_or-drop, drop-drop, nil_from_length}
-use Rattle.std.specs.List.{flat_map}
+use Rattle.std.proofs.Common.{length, map, get_or, take, drop, arith, refl, ap, ap₂, ◌∙◌, sym, append-nil, length-drop}
+use Rattle.std.proofs.lemmas.List.{take_min, get_or-drop, drop-drop}
+use Rattle.std.specs.List.{flat_map, range_with_len}
 use Rattle.tor_v1.specs.Piece.{zeros}
 use Rattle.tor_plan.specs.Content.{unit_content}
 use Rattle.tor_plan.specs.Units.{file_unit, units_of_file}
 use Rattle.tor_plan.proofs.Empty.{zeros-nil}
-use Rattle.tor_plan.proofs.Joins.{run_of, runs_are, no_runs}
+use Rattle.tor_plan.proofs.Joins.{run_of, runs_are}
+use Rattle.tor_plan.proofs.Ranges.{ceil_is}
 
 abbrev pub File : Type 0
 File = List (List ℕ) × ℕ
@@ -66,18 +65,14 @@ module _ (contents : List (List ℕ)) (size place tail : ℕ) (content : List �
       ++ zeros (cond (leb left size) tail 0))
       ∙ ap₂ (λ xs ys. xs ++ ys) taken (cond_zeros (leb left size))
 
-  pub file_content : (length content ≡ 0 → tail ≡ 0)
+  pub file_content : 0 < length content
       → flat_map (unit_content contents) (units_of_file size place (length content) tail) ≡ content ++ zeros tail
-  file_content empty = elim (cases_lt 0 (length content)) [
-    | inl some ↦ runs_are (unit_content contents) (file_unit size place (length content) tail) size content
-        (zeros tail) pos each_unit some
-    | inr none ↦ no_runs (unit_content contents) (file_unit size place (length content) tail) size content
-        (zeros tail) pos each_unit (omega arith)
-        ∙ sym (ap₂ (λ xs n. xs ++ zeros n) (nil_from_length content (omega arith)) (empty (omega arith)) ∙ zeros-nil)
-  ]
+  file_content some =
+      runs_are (unit_content contents) (file_unit size place (length content) tail) size content (zeros tail) pos
+      each_unit some
 
-  pub file_content_of : (m : ℕ) → length content ≡ m → (m ≡ 0 → tail ≡ 0)
-      → flat_map (unit_content contents) (units_of_file size place m tail) ≡ content ++ zeros tail
-  file_content_of m long empty =
-      ap (λ n. flat_map (unit_content contents) (units_of_file size place n tail)) (sym long)
-      ∙ file_content (λ none. empty (sym long ∙ none))
+-- an empty file has no unit
+pub no_unit_of_file : (size place m tail : ℕ) → 0 < size → m ≡ 0 → units_of_file size place m tail ≡ []
+no_unit_of_file size place m tail pos none =
+    ap (λ n. map (file_unit size place m tail) (range_with_len 0 n))
+    (ceil_is m size 0 (omega (arith, none)) (omega (arith, none)))

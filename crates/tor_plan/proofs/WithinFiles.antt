@@ -24,7 +24,7 @@ use Rattle.tor_plan.proofs.Contents.{File}
 
 -- ---- lists by places
 
-all_range : {X : Type 0} (P : X → Type 0) (f : ℕ → X) (n : ℕ) → ((k : ℕ) → k < n → P (f k))
+pub all_range : {X : Type 0} (P : X → Type 0) (f : ℕ → X) (n : ℕ) → ((k : ℕ) → k < n → P (f k))
     → All P (map f (range_with_len 0 n))
 all_range P f n each = λ k d lt.
     let within : k < n = omega (arith, lt, length-map-range_with_len f 0 n) in
@@ -42,7 +42,7 @@ pub record AreLengthsFrom (lengths : List ℕ) (place m : ℕ) (later : List ℕ
   pub here : get_or lengths place 0 ≡ m
   pub after : drop (place + 1) lengths ≡ later
 
-lengths_from : (lengths : List ℕ) (place m : ℕ) (later : List ℕ) → drop place lengths ≡ m ∷ later
+pub lengths_from : (lengths : List ℕ) (place m : ℕ) (later : List ℕ) → drop place lengths ≡ m ∷ later
     → AreLengthsFrom lengths place m later
 lengths_from lengths place m later e = record {
   named = omega (arith, length-drop place lengths, ap length e);
@@ -99,7 +99,7 @@ module _ (lengths : List ℕ) (p size : ℕ) (pos : 0 < size) where
       (run_begins file.1 size k pos lt)))
       (separate_within kind (place + 1) files some from.after)
 
-  whole_of_file : (place m zeros k : ℕ) (later : List ℕ) → AreLengthsFrom lengths place m later → k * size < m
+  pub whole_of_file : (place m zeros k : ℕ) (later : List ℕ) → AreLengthsFrom lengths place m later → k * size < m
       → IsFileUnit lengths size (file_unit size place m zeros k)
   whole_of_file place m zeros k later from begins = record {
     part = record {
@@ -113,19 +113,6 @@ module _ (lengths : List ℕ) (p size : ℕ) (pos : 0 < size) where
         let more : size < m - k * size = omega (arith, less, from.here) in
         (omega (arith, more), cond-false _ _ _ (lt-leb (m - k * size) size more));
   }
-
-  pub separate_whole : (kind : Kind) (place : ℕ) (files : List File) → drop place lengths ≡ lengths_of files
-      → All (IsFileUnit lengths size) (separate_units kind p size place files)
-  unfolding separate_units
-  separate_whole kind place [] e = All-nil (IsFileUnit lengths size)
-  separate_whole kind place (file ∷ files) e =
-      let from = lengths_from lengths place file.1 (lengths_of files) e in
-      let zeros = zeros_after kind p file.1 files in
-      All-append (IsFileUnit lengths size) (units_of_file size place file.1 zeros)
-      (separate_units kind p size (place + 1) files)
-      (all_range (IsFileUnit lengths size) (file_unit size place file.1 zeros) (div_ceil file.1 size)
-      (λ k lt. whole_of_file place file.1 zeros k (lengths_of files) from (run_begins file.1 size k pos lt)))
-      (separate_whole kind (place + 1) files from.after)
 
 -- ---- joined files
 

@@ -1,14 +1,20 @@
 //! Laws over the definitions, as contracts of functions that do nothing.
 ghost use Rattle.std.specs.Prelude.{◌≡◌, ◌≢◌, ℕ, ◌+◌, ◌*◌, ◌<◌, All, List, length, slice_index_or};
 ghost use Rattle.std.specs.List.{flat_map};
-ghost use Rattle.tor_plan.specs.Content.{AreContentsOfFiles, cut_content, unit_content};
+ghost use Rattle.tor_plan.specs.Content.{AreContentsOfFiles, cut_content, layout_of, unit_content};
+ghost use Rattle.tor_plan.specs.Entries.{entry_units, lengths_of_entries};
+ghost use Rattle.tor_plan.specs.EntryList.{IsLaidOut};
 ghost use Rattle.tor_plan.specs.Units.{hash_units};
+ghost use Rattle.tor_plan.specs.WithinEntries.{IsUnitWithin, unit_length};
 ghost use Rattle.tor_plan.specs.WithinFiles.{bytes_of, IsFileUnit, IsUnitOf};
 ghost use Rattle.tor_plan.specs.declared.units.PlanUnit.{PlanUnit};
 ghost use Rattle.tor_tree.specs.FileList.{lengths_of};
 ghost use Rattle.tor_tree.specs.declared.kinds.Kind.{Kind};
 ghost use Rattle.tor_tree.specs.declared.kinds.Kind.TheVariants.{V1, V2};
+ghost use Rattle.tor_v1.specs.Content.{AreContentsOf, joined_content};
+ghost use Rattle.tor_v1.specs.Entries.{v1_entries};
 ghost use Rattle.tor_v1.specs.Piece.{piece_sums};
+ghost use Rattle.tor_v1.specs.declared.entry.Entry.{Entry};
 
 /// The units have each byte of each file once, in order, and in a hybrid torrent the padding: together they are the
 /// content of the files' entries.
@@ -47,4 +53,56 @@ pub fn pieces_are_in_units()
         flat_map (λ unit. piece_sums piece_length (unit_content contents unit))
         (hash_units kind piece_length span files)
         ≡ piece_sums piece_length (cut_content kind piece_length files contents) }
+{}
+
+/// The files of a list are cut as their entries are.
+pub fn files_are_cut_as_entries()
+    ensures units { (kind : Kind) (piece_length span : ℕ) (files : List (List (List ℕ) × ℕ)) →
+        hash_units kind piece_length span files
+        ≡ entry_units kind piece_length span (v1_entries (layout_of kind) piece_length files) }
+    ensures lengths { (kind : Kind) (piece_length : ℕ) (files : List (List (List ℕ) × ℕ)) →
+        lengths_of_entries (v1_entries (layout_of kind) piece_length files) ≡ lengths_of files }
+    ensures laid_out { (kind : Kind) (piece_length : ℕ) (files : List (List (List ℕ) × ℕ)) →
+        IsLaidOut kind piece_length (v1_entries (layout_of kind) piece_length files) }
+{}
+
+/// The units have each byte of each entry once, in order: together they are the content of the entries.
+pub fn entry_units_are_the_content()
+    ensures { (kind : Kind) (piece_length span : ℕ) (entries : List Entry) (contents : List (List ℕ)) →
+        0 < span * piece_length → IsLaidOut kind piece_length entries → AreContentsOf entries contents →
+        flat_map (unit_content contents) (entry_units kind piece_length span entries)
+        ≡ joined_content entries contents }
+{}
+
+/// The parts of units are in their files, and no unit has more bytes than `span` pieces, zeros among them.
+pub fn entry_units_are_within_files()
+    ensures { (kind : Kind) (piece_length span : ℕ) (entries : List Entry) → 0 < span → 0 < piece_length →
+        IsLaidOut kind piece_length entries →
+        All (IsUnitWithin (lengths_of_entries entries) (span * piece_length))
+        (entry_units kind piece_length span entries) }
+{}
+
+/// In version 1 each unit but the last has `span` pieces, of files and zeros.
+pub fn joined_entry_units_are_whole()
+    ensures { (piece_length span : ℕ) (entries : List Entry) (k : ℕ) (unit : PlanUnit) →
+        0 < span * piece_length → k + 1 < length (entry_units V1 piece_length span entries) →
+        unit_length (slice_index_or (entry_units V1 piece_length span entries) k unit) ≡ span * piece_length }
+{}
+
+/// In the other kinds each unit but the last of a file has `span` pieces of that file, and nothing else.
+pub fn separate_entry_units_are_whole()
+    ensures { (kind : Kind) (piece_length span : ℕ) (entries : List Entry) → kind ≢ V1 → 0 < span * piece_length →
+        All (IsFileUnit (lengths_of_entries entries) (span * piece_length))
+        (entry_units kind piece_length span entries) }
+{}
+
+/// In version 1 and in a hybrid torrent no piece is in two units: the SHA-1 of the pieces of the whole content are
+/// those of the pieces of each unit, joined.
+pub fn pieces_are_in_entry_units()
+    ensures { (kind : Kind) (piece_length span : ℕ) (entries : List Entry) (contents : List (List ℕ)) →
+        kind ≢ V2 → 0 < piece_length → 0 < span * piece_length → IsLaidOut kind piece_length entries →
+        AreContentsOf entries contents →
+        flat_map (λ unit. piece_sums piece_length (unit_content contents unit))
+        (entry_units kind piece_length span entries)
+        ≡ piece_sums piece_length (joined_content entries contents) }
 {}

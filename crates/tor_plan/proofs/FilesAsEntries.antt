@@ -1,0 +1,158 @@
+-- Files of a list, cut as the entries that they are in a torrent.
+use Rattle.std.proofs.Common.{◌≡◌, ℕ, ◌+◌, ◌-◌, ◌*◌, ◌%◌, ◌<◌, ◌≤◌, Bool, true, false, cond, ltb, ◌&&◌, min, max, List, []}
+use Rattle.std.proofs.Common.{◌∷◌, ◌++◌, map, sum, sum_by, arith, refl, ap, ap₂, ◌∙◌, sym, inl, inr, zero-add}
+use Rattle.std.proofs.Math.Nat.{zero-mod, mod_self}
+use Rattle.std.proofs.lemmas.Bool.{lt-ltb, le-ltb, cond-true, cond-false, cases_lt, cases_Bool, and_right, or_parts}
+use Rattle.std.proofs.lemmas.Bool.{or_from}
+use Rattle.std.proofs.lemmas.List.Sums.{sum-map}
+use Rattle.std.proofs.lemmas.Simd.{map-map}
+use Rattle.std.specs.Int.{div_ceil}
+use Rattle.std.specs.List.{list_any, range_with_len}
+use Rattle.tor_tree.specs.FileList.{lengths_of}
+use Rattle.tor_tree.specs.declared.kinds.Kind.{Kind}
+use Rattle.tor_tree.specs.declared.kinds.Kind.TheVariants.{V1, V2, Hybrid}
+use Rattle.tor_v1.specs.Content.{file_entries}
+use Rattle.tor_v1.specs.Entries.{file_entry, pad_entry, padding_after, padding_length, has_bytes, aligned_entries, v1_entries}
+use Rattle.tor_v1.specs.declared.entry.Entry.{Entry}
+use Rattle.tor_v1.specs.declared.layout.Layout.{Layout}
+use Rattle.tor_v1.proofs.ProvedLaws.{facts-v1_entries}
+use Rattle.tor_plan.specs.Content.{layout_of}
+use Rattle.tor_plan.specs.Entries.{after_part, entries_length, entry_units, joined_entry_units, lengths_of_entries}
+use Rattle.tor_plan.specs.Entries.{padding_before_next, separate_entry_units, shared, unit_within}
+use Rattle.tor_plan.specs.EntryList.{has_padding, is_filled, ArePadded, IsLaidOut, IsPaddedTo}
+use Rattle.tor_plan.specs.Units.{hash_units, joined_unit, joined_units, parts_within, part_within, separate_units}
+use Rattle.tor_plan.specs.Units.{units_of_file, zeros_after}
+use Rattle.tor_plan.proofs.Contents.{File}
+use Rattle.tor_plan.proofs.EntrySteps.{met, not_met}
+use Rattle.tor_plan.proofs.Files.{zeros_before}
+use Rattle.tor_plan.proofs.Ranges.{map_same}
+use Rattle.tor_plan.proofs.SeparateContent.{before_some, before_empty}
+
+abbrev pub entry_length : Entry → ℕ
+entry_length entry = entry.length
+
+abbrev pub padded : Bool → ℕ → List Entry
+padded b n = cond b (pad_entry n ∷ []) []
+
+-- the lengths of the files
+pub lengths_of_files : (layout : Layout) (p : ℕ) (files : List File)
+    → lengths_of_entries (v1_entries layout p files) ≡ lengths_of files
+lengths_of_files layout p files =
+    sym (map-map (λ file. file.1) (λ (entry : Entry). (entry.path, entry.length))
+    (file_entries (v1_entries layout p files)))
+    ∙ ap lengths_of (facts-v1_entries layout p files)
+
+-- ---- joined files
+
+files_within : (a b place at : ℕ) (files : List File) → unit_within a b place at (map file_entry files)
+    ≡ record { zeros = 0; parts = parts_within a b place at (lengths_of files) }
+unfolding unit_within parts_within
+files_within a b place at [] = refl
+files_within a b place at (file ∷ files) =
+    let m = file.1 in
+    let low = max a at in
+    let high = min b (at + m) in
+    let rest = files_within a b (place + 1) (at + m) files in
+    let others = parts_within a b (place + 1) (at + m) (lengths_of files) in
+    elim (cases_lt low high) [
+      | inl some ↦ met a b place at file.0 m (map file_entry files) (omega (arith, some))
+          ∙ ap (after_part place (low - at) (high - low)) rest
+          ∙ ap (λ ps. record { zeros = 0; parts = ps ++ others })
+          (sym (cond-true _ _ _ (lt-ltb low high some)))
+      | inr none ↦ not_met a b place at file.0 m (map file_entry files) (omega (arith, none)) ∙ rest
+          ∙ ap (λ ps. record { zeros = 0; parts = ps ++ others }) (sym (cond-false _ _ _ (le-ltb low high none)))
+    ]
+
+pub length_of_files : (files : List File) → sum (lengths_of files) ≡ entries_length (map file_entry files)
+length_of_files files =
+    ap sum (sym (map-map entry_length file_entry files)) ∙ sum-map entry_length (map file_entry files)
+
+pub joined_files : (size : ℕ) (files : List File)
+    → joined_units size (lengths_of files) ≡ joined_entry_units size (map file_entry files)
+unfolding joined_units joined_entry_units
+joined_files size files =
+    let unit = joined_unit size (lengths_of files) in
+    ap (λ n. map unit (range_with_len 0 (div_ceil n size))) (length_of_files files)
+    ∙ map_same unit _ (λ k. sym (files_within (k * size) ((k + 1) * size) 0 0 files))
+    (range_with_len 0 (div_ceil (entries_length (map file_entry files)) size))
+
+-- ---- files cut each by itself
+
+before_files : (files : List File) → padding_before_next (map file_entry files) ≡ 0
+unfolding padding_before_next
+before_files [] = refl
+before_files (file ∷ files) = elim (cases_lt 0 file.1) [
+  | inl some ↦ before_some file.0 file.1 (map file_entry files) some
+  | inr few ↦ before_empty file.0 file.1 (map file_entry files) (omega (arith, few)) ∙ before_files files
+]
+
+before_padded : (b : Bool) (n : ℕ) (entries : List Entry) → padding_before_next (padded b n ++ entries)
+    ≡ sum_by entry_length (padded b n) + padding_before_next entries
+unfolding padding_before_next
+before_padded true n entries = ap (λ k. k + padding_before_next entries) (sym (zero-add n))
+before_padded false n entries = sym (zero-add (padding_before_next entries))
+
+-- no byte lacks none
+no_padding : (p : ℕ) → padding_length p 0 ≡ 0
+no_padding p =
+    let whole : (p - 0 % p) % p ≡ 0 =
+    ap (λ r. (p - r) % p) (zero-mod p) ∙ ap (λ n. n % p) (let e : p - 0 ≡ p = omega arith in e) ∙ mod_self p in
+    omega (arith, whole)
+
+no_zeros_after : (p m : ℕ) (later : List File) → m ≡ 0 → zeros_after Hybrid p m later ≡ 0
+no_zeros_after p m later none =
+    ap (λ n. sum_by entry_length (padded (ltb 0 n && has_bytes later) n)) (ap (padding_length p) none ∙ no_padding p)
+
+pub before_aligned : (p : ℕ) (files : List File) → padding_before_next (aligned_entries p files) ≡ 0
+unfolding aligned_entries padding_before_next
+before_aligned p [] = refl
+before_aligned p (file ∷ files) =
+    let n = padding_length p file.1 in
+    let others = aligned_entries p files in
+    let b = ltb 0 n && has_bytes files in
+    elim (cases_lt 0 file.1) [
+      | inl some ↦ before_some file.0 file.1 (padded b n ++ others) some
+      | inr few ↦
+          let none : file.1 ≡ 0 = omega (arith, few) in
+          before_empty file.0 file.1 (padded b n ++ others) none ∙ before_padded b n others
+          ∙ ap₂ (λ x y. x + y) (no_zeros_after p file.1 files none) (before_aligned p files)
+    ]
+
+-- the zeros after a file of a hybrid torrent
+pub zeros_are : (p m : ℕ) (files : List File) → zeros_after Hybrid p m files
+    ≡ padding_before_next (padding_after p m files ++ aligned_entries p files)
+zeros_are p m files =
+    let n = padding_length p m in
+    let b = ltb 0 n && has_bytes files in
+    sym (before_padded b n (aligned_entries p files)
+    ∙ omega (arith, before_aligned p files))
+
+skips_padded : (size place : ℕ) (b : Bool) (n : ℕ) (entries : List Entry)
+    → separate_entry_units size place entries ≡ separate_entry_units size place (padded b n ++ entries)
+unfolding separate_entry_units
+skips_padded size place true n entries = refl
+skips_padded size place false n entries = refl
+
+files_alone : (p size place : ℕ) (files : List File)
+    → separate_units V2 p size place files ≡ separate_entry_units size place (map file_entry files)
+unfolding separate_units separate_entry_units
+files_alone p size place [] = refl
+files_alone p size place (file ∷ files) =
+    ap₂ (λ n units. units_of_file size place file.1 n ++ units) (sym (before_files files))
+    (files_alone p size (place + 1) files)
+
+aligned_files : (p size place : ℕ) (files : List File)
+    → separate_units Hybrid p size place files ≡ separate_entry_units size place (aligned_entries p files)
+unfolding separate_units separate_entry_units aligned_entries
+aligned_files p size place [] = refl
+aligned_files p size place (file ∷ files) =
+    let n = padding_length p file.1 in
+    ap₂ (λ tail units. units_of_file size place file.1 tail ++ units) (zeros_are p file.1 files)
+    (aligned_files p size (place + 1) files
+    ∙ skips_padded size (place + 1) (ltb 0 n && has_bytes files) n (aligned_entries p files))
+
+pub entry_units_of_files : (kind : Kind) (p span : ℕ) (files : List File)
+    → hash_units kind p span files ≡ entry_units kind p span (v1_entries (layout_of kind) p files)
+entry_units_of_files V1 p span files = joined_files (span * p) files
+entry_units_of_files V2 p span files = files_alone p (span * p) 0 files
+entry_units_of_files Hybrid p span files = aligned_files p (span * p) 0 files
