@@ -1,7 +1,5 @@
 pub mod Ranges
 pub mod Empty
-pub mod Within
-pub mod Cut
 pub mod Trees
 pub mod Files
 pub mod Sizes
@@ -10,6 +8,10 @@ pub mod Contents
 pub mod EntryRows
 pub mod EntrySteps
 pub mod EntryContent
+pub mod UnitJoins
+pub mod Within
+pub mod Cut
+pub mod EntryPlaces
 pub mod UnitSums
 pub mod JoinedContent
 pub mod SeparateContent

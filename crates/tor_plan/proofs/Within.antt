@@ -1,81 +1,111 @@
--- Which parts of joined files a range of their bytes meets.
-use Rattle.std.proofs.Common.{◌≡◌, ℕ, ◌+◌, ◌-◌, ◌<◌, ◌≤◌, min, max, ltb, List, [], ◌∷◌, ◌++◌, length, sum, arith, refl}
-use Rattle.std.proofs.Common.{ap, ap₂, ◌∙◌, sym, append_assoc, append-nil, cond}
-use Rattle.std.proofs.lemmas.Bool.{lt-ltb, le-ltb, cond-true, cond-false}
+-- What a range of joined entries meets when its end is moved.
+use Rattle.std.proofs.Common.{◌≡◌, ℕ, ◌+◌, ◌-◌, ◌<◌, ◌≤◌, false, true, cond, ltb, min, max, List, [], ◌∷◌, ◌++◌, length}
+use Rattle.std.proofs.Common.{arith, refl, ap, ap₂, ◌∙◌, sym, subst, append-nil}
 use Rattle.std.proofs.lemmas.List.Sums.{sum_by-cons}
+use Rattle.tor_v1.specs.Content.{file_entries}
+use Rattle.tor_v1.specs.declared.entry.Entry.{Entry}
+use Rattle.tor_plan.specs.Entries.{after_part, after_zeros, empty_unit, entries_length, shared, unit_within}
 use Rattle.tor_plan.specs.declared.units.Part.{Part}
-use Rattle.tor_plan.specs.steps.Joined.{IsFileAt}
-use Rattle.tor_plan.specs.Units.{part_within, parts_within}
+use Rattle.tor_plan.specs.declared.units.PlanUnit.{PlanUnit}
+use Rattle.tor_plan.specs.steps.Joined.{IsEntryAt, IsFileAt, IsPaddingAt}
+use Rattle.tor_plan.proofs.EntrySteps.{Path, padding, file, entry_cases, by_entries, met}
+use Rattle.tor_plan.proofs.UnitJoins.{joined, zeros_then, file_then, then_nothing, zeros_alone, part_alone}
 
-abbrev plain : ℕ → ℕ → ℕ → Part
-plain file start n = record { file = file; start = start; length = n; zeros = 0 }
+abbrev entry_length : Entry → ℕ
+entry_length entry = entry.length
 
--- what a range meets of a file depends on where it ends within the file
-abbrev part_to : ℕ → ℕ → ℕ → ℕ → List Part
-part_to a file at end = cond (ltb (max a at) end) (plain file (max a at - at) (end - max a at) ∷ []) []
+-- a range that has no byte, or ends before the entries
+pub within_none : (a b place at : ℕ) (entries : List Entry) → b ≤ max a at → unit_within a b place at entries ≡ empty_unit
+within_none a b = by_entries a b (λ place at entries unit. b ≤ max a at → unit ≡ empty_unit) (λ place at le. refl)
+    (λ place at path m entries unit rest le.
+    ap (after_zeros (shared a b at m)) (rest (omega (arith, le)))
+    ∙ ap zeros_alone (let e : shared a b at m + 0 ≡ 0 = omega (arith, le) in e))
+    (λ place at path m entries unit some rest le. absurd (omega (arith, some, le)))
+    (λ place at path m entries unit few rest le. rest (omega (arith, le)))
 
-part_none : (a b file at m : ℕ) → min b (at + m) ≤ max a at → part_within a b file at m ≡ []
-part_none a b file at m le = cond-false _ _ _ (le-ltb (max a at) (min b (at + m)) le)
+-- entries before the end of a range, where it is known what those after them have more
+module _ (a x y : ℕ) (rest : List Entry) (v : PlanUnit) (le : x ≤ y) where
+  pub extended : (place at p q : ℕ) (before : List Entry) → p ≡ place + length (file_entries before)
+      → q ≡ at + entries_length before
+      → q ≤ x → unit_within a y p q rest ≡ joined (unit_within a x p q rest) v
+      → unit_within a y place at (before ++ rest) ≡ joined (unit_within a x place at (before ++ rest)) v
+  unfolding unit_within
+  extended place at p q [] is_p is_q past more =
+      subst (λ (i : ℕ). unit_within a y i at rest ≡ joined (unit_within a x i at rest) v)
+      (let e : p ≡ place = omega (arith, is_p) in e)
+      (subst (λ (i : ℕ). unit_within a y p i rest ≡ joined (unit_within a x p i rest) v)
+      (let e : q ≡ at = omega (arith, is_q) in e) more)
+  extended place at p q (entry ∷ before) is_p is_q past more = entry_cases
+      (λ e. p ≡ place + length (file_entries (e ∷ before)) → q ≡ at + entries_length (e ∷ before)
+      → unit_within a y place at (e ∷ before ++ rest) ≡ joined (unit_within a x place at (e ∷ before ++ rest)) v)
+      (λ path m is_place is_at.
+      let long = sum_by-cons entry_length (padding path m) before in
+      ap₂ (λ n u. after_zeros n u) (let e : shared a y at m ≡ shared a x at m = omega (arith, is_at, long, past) in e)
+      (extended place (at + m) p q before is_place (omega (arith, is_at, long)) past more)
+      ∙ sym (zeros_then (shared a x at m) (unit_within a x place (at + m) (before ++ rest)) v))
+      (λ path m is_place is_at.
+      let long = sum_by-cons entry_length (file path m) before in
+      let others = unit_within a x (place + 1) (at + m) (before ++ rest) in
+      ap₂ (λ n u. cond (ltb 0 n) (after_part place (max a at - at) n u) u)
+      (let e : shared a y at m ≡ shared a x at m = omega (arith, is_at, long, past) in e)
+      (extended (place + 1) (at + m) p q before (omega (arith, is_place)) (omega (arith, is_at, long)) past more)
+      ∙ sym (file_then (ltb 0 (shared a x at m)) place (max a at - at) (shared a x at m) others v))
+      entry is_p is_q
 
--- a range that has no byte, or ends before the files
-pub within_none : (a b place at : ℕ) (lengths : List ℕ) → b ≤ max a at → parts_within a b place at lengths ≡ []
-unfolding parts_within
-within_none a b place at [] le = refl
-within_none a b place at (m ∷ lengths) le =
-    ap₂ (λ xs ys. xs ++ ys) (part_none a b place at m (omega arith))
-    (within_none a b (place + 1) (at + m) lengths (omega arith))
+-- ranges that end after the entries meet the same
+pub within_all : (a x y : ℕ) (entries : List Entry) → entries_length entries ≤ x → x ≤ y
+    → unit_within a y 0 0 entries ≡ unit_within a x 0 0 entries
+unfolding unit_within
+within_all a x y entries past le =
+    ap (unit_within a y 0 0) (sym (append-nil entries))
+    ∙ extended a x y [] empty_unit le 0 0 (length (file_entries entries)) (entries_length entries) entries (omega arith)
+    (omega arith) past refl
+    ∙ then_nothing (unit_within a x 0 0 (entries ++ [])) ∙ ap (unit_within a x 0 0) (append-nil entries)
 
--- ranges that end after the files meet the same
-pub within_all : (a b c place at : ℕ) (lengths : List ℕ) → at + sum lengths ≤ b → at + sum lengths ≤ c
-    → parts_within a b place at lengths ≡ parts_within a c place at lengths
-unfolding parts_within
-within_all a b c place at [] le_b le_c = refl
-within_all a b c place at (m ∷ lengths) le_b le_c =
-    let whole = sum_by-cons (λ x. x) m lengths in
-    ap₂ (λ xs ys. xs ++ ys) (ap (part_to a place at) (let e : min b (at + m) ≡ min c (at + m) = omega arith in e))
-    (within_all a b c (place + 1) (at + m) lengths (omega arith) (omega arith))
+-- n bytes more than of the entries before this one and what the range has of it
+module _ (a x n : ℕ) (entries : List Entry) (entry : Entry) (place at : ℕ) (is : IsEntryAt entries entry place at)
+    (from : at ≤ x) (v : PlanUnit)
+    (more : unit_within a (x + n) place at (entry ∷ is.later) ≡ joined (unit_within a x place at (entry ∷ is.later)) v) where
+  extended_at : unit_within a (x + n) 0 0 entries ≡ joined (unit_within a x 0 0 entries) v
+  extended_at =
+      ap (unit_within a (x + n) 0 0) is.split
+      ∙ extended a x (x + n) (entry ∷ is.later) v (omega arith) 0 0 place at is.before (omega (arith, is.after))
+      (omega (arith, is.begins)) from more
+      ∙ ap (λ es. joined (unit_within a x 0 0 es) v) (sym is.split)
 
-pub within-append : (a b place at : ℕ) (xs ys : List ℕ)
-    → parts_within a b place at (xs ++ ys)
-    ≡ parts_within a b place at xs ++ parts_within a b (place + length xs) (at + sum xs) ys
-unfolding parts_within
-within-append a b place at [] ys = ap₂ (λ p q. parts_within a b p q ys) (omega arith) (omega arith)
-within-append a b place at (m ∷ xs) ys =
-    let whole = sum_by-cons (λ x. x) m xs in
-    ap (λ zs. part_within a b place at m ++ zs) (within-append a b (place + 1) (at + m) xs ys)
-    ∙ sym (append_assoc (part_within a b place at m) (parts_within a b (place + 1) (at + m) xs) _)
-    ∙ ap₂ (λ p q. parts_within a b place at (m ∷ xs) ++ parts_within a b p q ys) (omega arith) (omega arith)
+pub more_zeros : (a x n : ℕ) (entries : List Entry) (place at m : ℕ) → IsPaddingAt entries place at m → a ≤ x → at ≤ x
+    → x + n ≤ at + m → unit_within a (x + n) 0 0 entries ≡ joined (unit_within a x 0 0 entries) (zeros_alone n)
+unfolding unit_within
+more_zeros a x n entries place at m pad begun from within =
+    let later = pad.is.later in
+    let long = pad.long in
+    let same : pad.entry ≡ padding pad.entry.path m =
+    ap₂ (λ k b. record { path = pad.entry.path; length = k; pad = b }) long pad.pad in
+    extended_at a x n entries pad.entry place at pad.is from (zeros_alone n)
+    (subst (λ (e : Entry). unit_within a (x + n) place at (e ∷ later)
+    ≡ joined (unit_within a x place at (e ∷ later)) (zeros_alone n)) (sym same)
+    (ap (after_zeros (shared a (x + n) at m)) (within_none a (x + n) place (at + m) later (omega (arith, within)))
+    ∙ ap zeros_alone (let e : shared a (x + n) at m + 0 ≡ shared a x at m + 0 + n =
+    omega (arith, begun, from, within) in e)
+    ∙ sym (ap (λ u. joined (after_zeros (shared a x at m) u) (zeros_alone n))
+    (within_none a x place (at + m) later (omega (arith, within))))))
 
--- a range that ends in a file, or where it ends
-within_at : (a b : ℕ) (lengths : List ℕ) (place at m : ℕ) (file : IsFileAt lengths place at m) → b ≤ at + m
-    → parts_within a b 0 0 lengths ≡ parts_within a b 0 0 file.before ++ part_within a b place at m
-unfolding parts_within
-within_at a b lengths place at m file le =
-    let before = file.before in
-    ap (parts_within a b 0 0) file.split
-    ∙ within-append a b 0 0 before (m ∷ file.later)
-    ∙ ap₂ (λ p q. parts_within a b 0 0 before ++ parts_within a b p q (m ∷ file.later)) (omega (arith, file.after))
-    (omega (arith, file.begins))
-    ∙ ap (λ xs. parts_within a b 0 0 before ++ (part_within a b place at m ++ xs))
-    (within_none a b (place + 1) (at + m) file.later (omega arith))
-    ∙ ap (λ xs. parts_within a b 0 0 before ++ xs) (append-nil (part_within a b place at m))
-
--- n bytes more, of a file that the range has nothing of
-pub within_more : (a x n start : ℕ) (lengths : List ℕ) (place at m : ℕ) → IsFileAt lengths place at m → x ≡ at + start
-    → start + n ≤ m
-    → 0 < n → max a at ≡ x → parts_within a (x + n) 0 0 lengths
-    ≡ parts_within a x 0 0 lengths ++ plain place start n ∷ []
-within_more a x n start lengths place at m file is within some begins =
-    let before = file.before in
-    let end : min (x + n) (at + m) ≡ x + n = omega arith in
-    let new : part_within a (x + n) place at m ≡ plain place start n ∷ [] =
-    cond-true _ _ _ (lt-ltb (max a at) (min (x + n) (at + m)) (omega arith))
-    ∙ ap₂ (λ s k. plain place s k ∷ []) (let e : max a at - at ≡ start = omega arith in e)
-    (let e : min (x + n) (at + m) - max a at ≡ n = omega arith in e) in
-    let old : parts_within a x 0 0 lengths ≡ parts_within a x 0 0 before =
-    within_at a x lengths place at m file (omega arith)
-    ∙ ap (λ xs. parts_within a x 0 0 before ++ xs) (part_none a x place at m (omega arith))
-    ∙ append-nil (parts_within a x 0 0 before) in
-    within_at a (x + n) lengths place at m file (omega arith)
-    ∙ ap₂ (λ xs ys. xs ++ ys)
-    (within_all a (x + n) x 0 0 before (omega (arith, file.begins)) (omega (arith, file.begins)) ∙ sym old) new
+pub more_bytes : (a x n start : ℕ) (entries : List Entry) (place at m : ℕ) → IsFileAt entries place at m → x ≡ at + start
+    → start + n ≤ m → 0 < n → max a at ≡ x → unit_within a (x + n) 0 0 entries
+    ≡ joined (unit_within a x 0 0 entries)
+    (part_alone (record { file = place; start = start; length = n; zeros = 0 }))
+more_bytes a x n start entries place at m is_file is within some begins =
+    let later = is_file.is.later in
+    let path = is_file.entry.path in
+    let v = part_alone (record { file = place; start = start; length = n; zeros = 0 }) in
+    let same : is_file.entry ≡ file path m =
+    ap₂ (λ k b. record { path = path; length = k; pad = b }) is_file.long is_file.pad in
+    let bytes : shared a (x + n) at m ≡ n = omega (arith, is, within, begins) in
+    extended_at a x n entries is_file.entry place at is_file.is (omega (arith, is)) v
+    (subst (λ (e : Entry). unit_within a (x + n) place at (e ∷ later) ≡ joined (unit_within a x place at (e ∷ later)) v)
+    (sym same)
+    (met a (x + n) place at path m later (omega (arith, bytes, some))
+    ∙ ap₂ (λ s k. after_part place s k (unit_within a (x + n) (place + 1) (at + m) later))
+    (let e : max a at - at ≡ start = omega (arith, is, begins) in e) bytes
+    ∙ ap (after_part place start n) (within_none a (x + n) (place + 1) (at + m) later (omega (arith, is, within)))
+    ∙ sym (ap (λ u. joined u v) (within_none a x place at (file path m ∷ later) (omega (arith, begins))))))

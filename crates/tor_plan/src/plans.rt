@@ -61,7 +61,7 @@ impl Plan {
         let size = u64::from(span) * piece_length;
         let lengths = lengths_of(alloc, files)?;
         let (units, trees) = match kind {
-            Kind::V1 => (cut_joined(alloc, &lengths, size)?, Vec::new(alloc)),
+            Kind::V1 => (cut_joined(alloc, files, size)?, Vec::new(alloc)),
             Kind::V2 | Kind::Hybrid => (
                 cut_each(alloc, files, kind, piece_length, size)?,
                 trees_of(alloc, &lengths, size)?,

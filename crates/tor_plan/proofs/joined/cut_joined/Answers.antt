@@ -1,23 +1,34 @@
--- no file, one more, and all
-use Rattle.std.proofs.Common.{refl, ◌∙◌, sum, take, subst, sym}
-use Rattle.std.proofs.lemmas.List.Sums.{sum_by_more}
+-- one file more, and all
+use Rattle.std.proofs.Common.{◌≡◌, List, IfOk, map, ap, ◌∙◌, subst, sym, take}
+use Rattle.tor_v1.specs.Entries.{file_entry}
+use Rattle.tor_plan.specs.Entries.{entries_length, joined_entry_units}
+use Rattle.tor_plan.specs.declared.units.PlanUnit.{PlanUnit}
 use Rattle.tor_plan.specs.steps.Joined.{HasCut}
-use Rattle.tor_plan.proofs.Cut.{cut_none, file_at}
+use Rattle.tor_plan.proofs.EntryPlaces.{file_of_list, longer_list, all_files}
+use Rattle.tor_plan.proofs.FilesAsEntries.{joined_files}
 use Rattle.tor_plan.proofs.joined.cut_joined.Goals as goal
-
-pub files-init : goal.files-init
-files-init c = record {
-  size = refl;
-  cut = cut_none _ c.args.lengths.now c.new.ensures.items c.new-2.ensures.items refl;
-}
 
 pub files-preserved : goal.files-preserved
 files-preserved c =
-    let lengths = c.args.lengths.now in
+    let files = c.args.files.now in
+    let entries = map file_entry files in
     let i = c.files.place in
+    let file = c.index-files-place.result in
+    let lt = c.files-test.true in
+    let is = c.index-files-place.is in
     record {
       size = c.in_ok-add_file.ensures.size ∙ c.files.invariant.size;
-      cut = subst (HasCut c.add_file.new.self lengths) (sym (sum_by_more (λ x. x) lengths i 0 c.files-test.true))
-          (c.in_ok-add_file.ensures.cut lengths (sum (take i lengths)) c.files.invariant.cut
-          (file_at lengths i c.files-test.true));
+      cut = subst (HasCut c.add_file.new.self entries) (sym (longer_list files i file lt is))
+          (c.in_ok-add_file.ensures.cut entries (entries_length (take i entries)) c.files.invariant.cut
+          (file_of_list files i file lt is));
     }
+
+pub returns : goal.returns
+returns c =
+    let files = c.args.files.now in
+    let entries = map file_entry files in
+    let cut = c.files.cut in
+    subst (λ (all : List PlanUnit). IfOk c.finish.result (λ units. units.items ≡ all))
+    (ap (λ size. joined_entry_units size entries) c.files.invariant.size ∙ sym (joined_files c.args.size files))
+    (c.finish.ensures entries (subst (HasCut cut entries)
+    (ap entries_length (all_files files c.files.place c.files-test.false)) c.files.invariant.cut))

@@ -1,17 +1,17 @@
--- with a last unit that is shorter, and without
+-- with a last unit that is begun, and without
 use Rattle.std.proofs.Common.{arith, ap, ◌∙◌}
 use Rattle.tor_plan.proofs.Cut.{ends_full, ends_short}
 use Rattle.tor_plan.proofs.joined.JoinedCut.finish.Goals as goal
 use Rattle.tor_plan.proofs.joined.JoinedCut.finish.Goals.{then-room-size+in_ok-push, else-room-size}
 
 pub returns : goal.returns
-returns c = λ lengths cut.
+returns c = λ entries cut.
     let old = c.args.self in
     elim c.if-room-size.branch [
       | then-room-size+in_ok-push w ↦
           ap (λ v. v.items) w.units-is ∙ w.in_ok-push.ensures.items
-          ∙ ends_short old lengths cut old.some old.within _ w.if-room-size.true
-          (ap (λ ps. record { zeros = 0; parts = ps }) w.new.ensures)
+          ∙ ends_short old entries cut _ w.if-room-size.true
+          (ap (λ ps. record { zeros = old.zeros; parts = ps }) w.new.ensures)
       | else-room-size w ↦ ap (λ v. v.items) w.units-is
-          ∙ ends_full old lengths cut old.some old.within (omega (arith, old.within, w.if-room-size.false))
+          ∙ ends_full old entries cut (omega (arith, old.filled, w.if-room-size.false))
     ]
