@@ -12,6 +12,7 @@ pub mod UnitJoins
 pub mod Within
 pub mod Cut
 pub mod EntryPlaces
+pub mod EntryCut
 pub mod UnitSums
 pub mod JoinedContent
 pub mod SeparateContent

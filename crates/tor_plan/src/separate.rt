@@ -1,12 +1,14 @@
 //! Files that are cut each by itself, as trees need it.
-ghost use Rattle.std.specs.Prelude.{◌≡◌, ◌<◌, [], ◌∷◌, ◌++◌, ℕ, List, IfOk, OnOk, count_by, nat_lt};
+ghost use Rattle.std.specs.Prelude.{◌≡◌, ◌<◌, ◌≤◌, [], ◌∷◌, ◌++◌, ℕ, List, IfOk, OnOk, count_by, nat_lt};
+ghost use Rattle.tor_tree.specs.declared.lists.TheConstants.{MAX_TOTAL};
 ghost use Rattle.tor_v1.specs.Piece.{IsV1PieceLength};
+ghost use Rattle.tor_plan.specs.Entries.{entries_length, separate_entry_units};
 ghost use Rattle.tor_plan.specs.Units.{units_of_file, separate_units, zeros_after};
 
 use crate::units::{Part, Parts, PlanUnit};
 use std::alloc::{AllocError, Global};
 use tor_tree::{FilePath, Kind};
-use tor_v1::{count_with_bytes, padding_length};
+use tor_v1::{Entry, count_with_bytes, padding_length};
 
 /// The units of files that are cut every `size` bytes, each by itself.
 pub(crate) fn cut_each(
@@ -30,6 +32,45 @@ pub(crate) fn cut_each(
         let zeros = zeros_after(kind, piece_length, *length, later);
         cut_file(alloc, &mut units, size, place as u64, *length, zeros)?;
     }
+    Ok(units)
+}
+
+/// The units of files that are cut every `size` bytes, each by itself, with the padding that comes after it.
+pub(crate) fn cut_each_entry(
+    alloc: Global,
+    entries: &[Entry],
+    size: u64,
+) -> Result<Vec<PlanUnit>, AllocError>
+    requires sized { 0 < size }
+    requires small { entries_length entries.now ≤ MAX_TOTAL }
+    ensures { IfOk result (λ units. units.items ≡ separate_entry_units size 0 entries.now) }
+{
+    let mut units = Vec::new(alloc);
+    // The last file with bytes and the padding after it so far; at first a file without bytes, which has no unit.
+    let mut last = Part {
+        file: 0,
+        start: 0,
+        length: 0,
+        zeros: 0,
+    };
+    let mut place = 0;
+    'entries: for entry in entries {
+        if entry.pad {
+            last.zeros += entry.length;
+        } else {
+            if entry.length > 0 {
+                cut_file(alloc, &mut units, size, last.file, last.length, last.zeros)?;
+                last = Part {
+                    file: place,
+                    start: 0,
+                    length: entry.length,
+                    zeros: 0,
+                };
+            }
+            place += 1;
+        }
+    }
+    cut_file(alloc, &mut units, size, last.file, last.length, last.zeros)?;
     Ok(units)
 }
 
