@@ -1,6 +1,6 @@
 -- Joined entries while they are cut.
 use Rattle.std.proofs.Common.{◌≡◌, inl, inr, ℕ, ◌+◌, ◌-◌, ◌*◌, ◌<◌, ◌≤◌, max, List, [], ◌∷◌, ◌++◌, map, length, get_or, set}
-use Rattle.std.proofs.Common.{take, drop, arith, refl, ap, ap₂, ◌∙◌, sym}
+use Rattle.std.proofs.Common.{take, arith, refl, ap, ap₂, ◌∙◌, sym}
 use Rattle.std.proofs.lemmas.List.{take-append-drop, set_at, drop_more, drop_all, length-take-le}
 use Rattle.std.proofs.lemmas.List.FromFn.{map-range_with_len_more}
 use Rattle.std.specs.List.{range_with_len}
@@ -8,7 +8,7 @@ use Rattle.tor_v1.specs.declared.entry.Entry.{Entry}
 use Rattle.tor_plan.specs.declared.joined.JoinedCut.{JoinedCut}
 use Rattle.tor_plan.specs.declared.units.Part.{Part}
 use Rattle.tor_plan.specs.declared.units.PlanUnit.{PlanUnit}
-use Rattle.tor_plan.specs.steps.Joined.{begun_unit, HasCut, IsFileAt, IsPaddingAt, IsPartAt}
+use Rattle.tor_plan.specs.steps.Joined.{begun_unit, HasCut, IsPaddingAt, IsPartAt}
 use Rattle.tor_plan.specs.Entries.{empty_unit, entries_length, joined_entry_unit, joined_entry_units, unit_within}
 use Rattle.tor_plan.proofs.Ranges.{ceil_is}
 use Rattle.tor_plan.proofs.UnitJoins.{joined, part_alone, unit_of, with_zeros, zeros_alone, then_part, then_zeros}

@@ -1,6 +1,6 @@
 -- The bytes that a range of joined entries meets.
-use Rattle.std.proofs.Common.{◌≡◌, ℕ, ◌+◌, ◌-◌, ◌*◌, ◌<◌, ◌≤◌, min, max, List, [], ◌∷◌, ◌++◌, length, map, get_or, take}
-use Rattle.std.proofs.Common.{drop, arith, refl, ap, ap₂, ◌∙◌, sym, append_assoc, append-nil, length-drop}
+use Rattle.std.proofs.Common.{◌≡◌, ℕ, ◌+◌, ◌-◌, min, max, List, [], ◌∷◌, ◌++◌, length, map, get_or, take}
+use Rattle.std.proofs.Common.{drop, arith, refl, ap, ap₂, ◌∙◌, sym, append_assoc, length-drop}
 use Rattle.std.proofs.lemmas.List.{take_min, take_all, drop_all, take-replicate, drop-replicate}
 use Rattle.std.specs.List.{flat_map}
 use Rattle.tor_v1.specs.Content.{joined_content}
@@ -10,7 +10,7 @@ use Rattle.tor_v1.proofs.ProvedLaws.{length_of_zeros}
 use Rattle.tor_plan.specs.Content.{part_content, unit_content}
 use Rattle.tor_plan.specs.Entries.{after_part, after_zeros, empty_unit, lengths_of_entries, shared, unit_within}
 use Rattle.tor_plan.specs.declared.units.PlanUnit.{PlanUnit}
-use Rattle.tor_plan.proofs.Contents.{AreFrom, from_place, here, after, after_lengths}
+use Rattle.tor_plan.proofs.Contents.{from_place, here, after, after_lengths}
 use Rattle.tor_plan.proofs.Empty.{zeros-nil, zeros-add}
 use Rattle.tor_plan.proofs.EntrySteps.{Path, padding, file, by_entries}
 use Rattle.tor_plan.proofs.Joins.{drop-append, take-append}

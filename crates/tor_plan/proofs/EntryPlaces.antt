@@ -1,5 +1,5 @@
 -- Entries by their places.
-use Rattle.std.proofs.Common.{◌≡◌, ℕ, ◌+◌, ◌<◌, ◌≤◌, Bool, true, false, not, cond, List, [], ◌∷◌, ◌++◌, length, map, take}
+use Rattle.std.proofs.Common.{◌≡◌, ℕ, ◌+◌, ◌<◌, ◌≤◌, true, false, not, cond, List, [], ◌∷◌, ◌++◌, length, map, take}
 use Rattle.std.proofs.Common.{drop, get_or, arith, refl, ap, ◌∙◌, sym}
 use Rattle.std.proofs.lemmas.List.{take-append-drop, take-map, take_all, drop_more, get_or-map, length-map}
 use Rattle.std.proofs.lemmas.List.{length-take-le}

@@ -1,5 +1,5 @@
 -- Entries, one after another.
-use Rattle.std.proofs.Common.{◌≡◌, ℕ, ◌+◌, ◌-◌, ◌<◌, ◌≤◌, Bool, true, false, max, List, [], ◌∷◌, arith, sym, subst, inl, inr}
+use Rattle.std.proofs.Common.{◌≡◌, ℕ, ◌+◌, ◌-◌, ◌<◌, ◌≤◌, Bool, true, false, max, List, [], ◌∷◌, sym, subst, inl, inr}
 use Rattle.std.proofs.lemmas.Bool.{lt-ltb, le-ltb, cond-true, cond-false, cases_lt}
 use Rattle.tor_v1.specs.declared.entry.Entry.{Entry}
 use Rattle.tor_plan.specs.declared.units.PlanUnit.{PlanUnit}

@@ -1,13 +1,12 @@
 -- Files of a list, cut as the entries that they are in a torrent.
-use Rattle.std.proofs.Common.{◌≡◌, ℕ, ◌+◌, ◌-◌, ◌*◌, ◌%◌, ◌<◌, ◌≤◌, Bool, true, false, cond, ltb, ◌&&◌, min, max, List, []}
+use Rattle.std.proofs.Common.{◌≡◌, ℕ, ◌+◌, ◌-◌, ◌*◌, ◌%◌, Bool, true, false, cond, ltb, ◌&&◌, min, max, List, []}
 use Rattle.std.proofs.Common.{◌∷◌, ◌++◌, map, sum, sum_by, arith, refl, ap, ap₂, ◌∙◌, sym, inl, inr, zero-add}
 use Rattle.std.proofs.Math.Nat.{zero-mod, mod_self}
-use Rattle.std.proofs.lemmas.Bool.{lt-ltb, le-ltb, cond-true, cond-false, cases_lt, cases_Bool, and_right, or_parts}
-use Rattle.std.proofs.lemmas.Bool.{or_from}
+use Rattle.std.proofs.lemmas.Bool.{lt-ltb, le-ltb, cond-true, cond-false, cases_lt}
 use Rattle.std.proofs.lemmas.List.Sums.{sum-map}
 use Rattle.std.proofs.lemmas.Simd.{map-map}
 use Rattle.std.specs.Int.{div_ceil}
-use Rattle.std.specs.List.{list_any, range_with_len}
+use Rattle.std.specs.List.{range_with_len}
 use Rattle.tor_tree.specs.FileList.{lengths_of}
 use Rattle.tor_tree.specs.declared.kinds.Kind.{Kind}
 use Rattle.tor_tree.specs.declared.kinds.Kind.TheVariants.{V1, V2, Hybrid}
@@ -18,13 +17,11 @@ use Rattle.tor_v1.specs.declared.layout.Layout.{Layout}
 use Rattle.tor_v1.proofs.ProvedLaws.{facts-v1_entries}
 use Rattle.tor_plan.specs.Content.{layout_of}
 use Rattle.tor_plan.specs.Entries.{after_part, entries_length, entry_units, joined_entry_units, lengths_of_entries}
-use Rattle.tor_plan.specs.Entries.{padding_before_next, separate_entry_units, shared, unit_within}
-use Rattle.tor_plan.specs.EntryList.{has_padding, is_filled, ArePadded, IsLaidOut, IsPaddedTo}
-use Rattle.tor_plan.specs.Units.{hash_units, joined_unit, joined_units, parts_within, part_within, separate_units}
+use Rattle.tor_plan.specs.Entries.{padding_before_next, separate_entry_units, unit_within}
+use Rattle.tor_plan.specs.Units.{hash_units, joined_unit, joined_units, parts_within, separate_units}
 use Rattle.tor_plan.specs.Units.{units_of_file, zeros_after}
 use Rattle.tor_plan.proofs.Contents.{File}
 use Rattle.tor_plan.proofs.EntrySteps.{met, not_met}
-use Rattle.tor_plan.proofs.Files.{zeros_before}
 use Rattle.tor_plan.proofs.Ranges.{map_same}
 use Rattle.tor_plan.proofs.SeparateContent.{before_some, before_empty}
 

@@ -18,6 +18,8 @@ pub mod JoinedContent
 pub mod SeparateContent
 pub mod FilesAsEntries
 pub mod FilesLaidOut
+pub mod FileSizes
 pub mod WithinFiles
 pub mod WithinEntries
+pub mod ListRows
 pub mod ProvedLaws

@@ -1,6 +1,6 @@
 -- The proofs of the laws of src/laws.rt.
-use Rattle.std.proofs.Common.{◌≡◌, ◌≢◌, ℕ, ◌+◌, ◌*◌, ◌<◌, List, ◌++◌, length, get_or, refl, arith, ap, ap₂, ◌∙◌, sym, subst}
-use Rattle.std.proofs.Common.{map, mul-le-mul_right}
+use Rattle.std.proofs.Common.{◌≡◌, ◌≢◌, ℕ, ◌+◌, ◌*◌, ◌<◌, List, ◌++◌, length, get_or, refl, arith, ap, ◌∙◌, sym, subst}
+use Rattle.std.proofs.Common.{mul-le-mul_right}
 use Rattle.std.specs.List.{All, flat_map}
 use Rattle.tor_tree.specs.FileList.{lengths_of}
 use Rattle.tor_tree.specs.declared.kinds.Kind.{Kind}
@@ -11,7 +11,7 @@ use Rattle.tor_v1.specs.Piece.{piece_sums, zeros}
 use Rattle.tor_v1.specs.declared.entry.Entry.{Entry}
 use Rattle.tor_plan.specs.Content.{AreContentsOfFiles, cut_content, layout_of, unit_content}
 use Rattle.tor_plan.specs.Entries.{entry_units, lengths_of_entries, padding_before_next, separate_entry_units}
-use Rattle.tor_plan.specs.EntryList.{has_padding, IsLaidOut}
+use Rattle.tor_plan.specs.EntryList.{IsLaidOut}
 use Rattle.tor_plan.specs.Units.{hash_units}
 use Rattle.tor_plan.specs.WithinEntries.{IsUnitWithin, unit_length}
 use Rattle.tor_plan.specs.WithinFiles.{bytes_of, IsFileUnit, IsUnitOf}

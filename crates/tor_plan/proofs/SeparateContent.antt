@@ -1,6 +1,6 @@
 -- The content of files that are cut each by itself, with their padding, and the sums of its pieces.
-use Rattle.std.proofs.Common.{◌≡◌, ◌⊎◌, ℕ, ◌+◌, ◌-◌, ◌*◌, ◌/◌, ◌%◌, ◌<◌, false, true, List, [], ◌∷◌, ◌++◌, length, map}
-use Rattle.std.proofs.Common.{get_or, drop, ltb, arith, refl, ap, ap₂, ◌∙◌, sym, append_assoc, append-nil, inl, inr}
+use Rattle.std.proofs.Common.{◌≡◌, ℕ, ◌+◌, ◌-◌, ◌*◌, ◌/◌, ◌%◌, ◌<◌, false, List, [], ◌∷◌, ◌++◌, length, map}
+use Rattle.std.proofs.Common.{drop, ltb, arith, refl, ap, ap₂, ◌∙◌, sym, append_assoc, append-nil, inl, inr}
 use Rattle.std.proofs.Common.{length-append}
 use Rattle.std.proofs.Math.Nat.{mod_self, mod-eq_of_lt, mod-lt}
 use Rattle.std.proofs.lemmas.Nat.{div-add-mod'}
@@ -21,7 +21,7 @@ use Rattle.tor_plan.specs.declared.units.PlanUnit.{PlanUnit}
 use Rattle.tor_plan.proofs.Contents.{AreFrom, from_place, here, after, after_lengths, each_unit, file_content}
 use Rattle.tor_plan.proofs.Contents.{no_unit_of_file}
 use Rattle.tor_plan.proofs.Empty.{zeros-nil, zeros-add, sums_nil}
-use Rattle.tor_plan.proofs.EntrySteps.{Path, padding, file, entry_cases}
+use Rattle.tor_plan.proofs.EntrySteps.{Path, file, entry_cases}
 use Rattle.tor_plan.proofs.UnitSums.{sums_of_runs}
 
 -- the padding before a file with bytes, and before an empty one

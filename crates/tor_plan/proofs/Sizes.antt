@@ -1,20 +1,32 @@
--- How many units the files of a list have.
-use Rattle.std.proofs.Common.{◌≡◌, ℕ, ◌+◌, ◌*◌, ◌^◌, ◌<◌, ◌≤◌, Bool, true, false, List, Option, Some, None, cond, ltb}
-use Rattle.std.proofs.Common.{sum_by, arith, refl, ◌⊎◌, inl, inr, mul-le-mul_right, lt_of_mul-lt-mul_right}
-use Rattle.std.proofs.lemmas.Bool.{ltb-false, or_parts}
+-- How many bytes the entries of files have, and how many units.
+use Rattle.std.proofs.Common.{◌≡◌, ℕ, zero, suc, ◌+◌, ◌-◌, ◌*◌, ◌%◌, ◌/◌, ◌^◌, ◌<◌, ◌≤◌, Bool, true, false, ltb, List, []}
+use Rattle.std.proofs.Common.{◌∷◌, Option, Some, None, IsTrue, cond, sum, sum_by, arith, refl, ap, ◌∙◌, sym, subst}
+use Rattle.std.proofs.Common.{◌⊎◌, inl, inr, mul-le-mul_right, lt_of_mul-lt-mul_right, pow-suc}
+use Rattle.std.proofs.lemmas.Bool.{ltb-false, or_parts, eqb-true, cases_eq, cases_lt}
+use Rattle.std.proofs.Math.Pow.{pow-lt}
 use Rattle.std.proofs.lemmas.Grind.{div_ceil_times}
-use Rattle.std.proofs.lemmas.List.Sums.{sum_by-le-sum_by}
+use Rattle.std.proofs.lemmas.List.Sums.{sum_by-cons, sum_by-le-sum_by}
+use Rattle.std.proofs.lemmas.Nat.{pow-add, zero_from_ones, ones_le_self}
 use Rattle.std.proofs.Math.Nat.{le-mul_of_pos_right}
-use Rattle.std.specs.Int.{div_ceil, next_multiple_of}
+use Rattle.std.specs.Int.{div_ceil, is_power_of_two, next_multiple_of}
+use Rattle.std.specs.Int.RustNames.{count_ones}
 use Rattle.std.specs.List.{list_any}
 use Rattle.std.specs.Option.{option_or}
 use Rattle.tor_tree.specs.FileList.{lengths_of, lengths_fault, lengths_too_large, paths_fault, paths_of, IsFileList}
-use Rattle.tor_plan.specs.PlanFacts.{IsPlanPieceLength}
 use Rattle.tor_tree.specs.declared.kinds.Kind.{Kind}
 use Rattle.tor_tree.specs.declared.kinds.Kind.TheVariants.{V1, V2, Hybrid}
 use Rattle.tor_tree.specs.declared.lists.ListError.{ListError}
 use Rattle.tor_tree.specs.declared.lists.ListError.TheVariants.{TooLarge}
 use Rattle.tor_tree.specs.declared.lists.TheConstants.{MAX_LENGTH, MAX_TOTAL, ROUNDING}
+use Rattle.tor_v1.specs.Entries.{padding_length}
+use Rattle.tor_v1.specs.declared.entry.Entry.{Entry}
+use Rattle.tor_plan.specs.Entries.{entries_length, lengths_of_entries}
+use Rattle.tor_plan.specs.PlanFacts.{IsPlanPieceLength}
+use Rattle.tor_plan.proofs.EntrySteps.{padding, file, entry_cases}
+use Rattle.tor_plan.proofs.SeparateContent.{whole_with_padding}
+use lib.Count.{ones_step}
+
+-- ---- the files of a list
 
 second_none : {X : Type 0} (p q : Option X) → option_or p q ≡ None → q ≡ None
 second_none None q e = e
@@ -25,13 +37,58 @@ not_some true fault e = cc
 not_some false fault e = refl
 
 -- the lengths, each rounded up, are not too large together
-total_small : (files : List (List (List ℕ) × ℕ)) → IsFileList files
+pub total_small : (files : List (List (List ℕ) × ℕ)) → IsFileList files
     → sum_by (λ m. next_multiple_of m ROUNDING) (lengths_of files) ≤ MAX_TOTAL
 total_small files lawful =
     let none = second_none (paths_fault (paths_of files)) (lengths_fault (lengths_of files)) lawful.faultless in
     let small = not_some (lengths_too_large (lengths_of files)) TooLarge none in
     ltb-false MAX_TOTAL (sum_by (λ m. next_multiple_of m ROUNDING) (lengths_of files))
     (or_parts (list_any (ltb MAX_LENGTH) (lengths_of files)) _ small).1
+
+-- ---- rounding up
+
+-- one bit of n is set: it is a power of two
+power_of : (d n : ℕ) → n ≤ d → count_ones n ≡ 1 → (k : ℕ) × (n ≡ 2 ^ k)
+power_of zero n le one = absurd (omega (arith, ones_le_self n, one, le))
+power_of (suc d) n le one =
+    let step = ones_step n in
+    elim (cases_eq (n % 2) 0) [
+      | inl even ↦
+          let half = power_of d (n / 2) (omega (arith, le)) (omega (arith, step, one, even)) in
+          (suc half.0, omega (arith, even, half.1, pow-suc 2 half.0))
+      | inr odd ↦
+          let none : n / 2 ≡ 0 = zero_from_ones (n / 2) (omega (arith, step, one, odd)) in
+          (0, omega (arith, none, odd, step, one))
+    ]
+
+-- a length rounded up to a multiple of p is not longer than rounded up to one of q times p
+rounded_times : (p q m : ℕ) → 0 < p → 0 < q * p → m + padding_length p m ≤ m + padding_length (q * p) m
+rounded_times p q m some pos =
+    let near = whole_with_padding p m some in
+    let far = whole_with_padding (q * p) m pos in
+    let same : far.0 * (q * p) ≡ far.0 * q * p = omega arith in
+    let few : near.0 < far.0 * q + 1 = lt_of_mul-lt-mul_right p (omega (arith, near.1, far.1, same, some)) in
+    omega (arith, near.1, far.1, same, mul-le-mul_right {m = near.0} {n = far.0 * q} p (omega (arith, few)))
+
+-- so it is with powers of two
+pub rounded : (p m : ℕ) → IsTrue (is_power_of_two p) → 0 < p → p ≤ ROUNDING
+    → m + padding_length p m ≤ next_multiple_of m ROUNDING
+rounded p m power some le =
+    let two = power_of p p (omega arith) (eqb-true (count_ones p) 1 power) in
+    let k = two.0 in
+    let small : k ≤ 30 = elim (cases_lt 30 k) [
+      | inl more ↦ absurd (omega (arith, pow-lt more, two.1, le))
+      | inr few ↦ few
+    ] in
+    let split : ROUNDING ≡ 2 ^ (30 - k) * p =
+    ap (λ n. 2 ^ n) (let e : 30 ≡ 30 - k + k = omega (arith, small) in e) ∙ pow-add 2 (30 - k) k
+    ∙ ap (λ n. 2 ^ (30 - k) * n) (sym two.1) in
+    let up : m + padding_length p m ≤ m + padding_length ROUNDING m =
+    subst (λ (r : ℕ). m + padding_length p m ≤ m + padding_length r m) (sym split)
+    (rounded_times p (2 ^ (30 - k)) m some (omega (arith, split))) in
+    omega (arith, up)
+
+-- ---- entries
 
 units_within : (size m : ℕ) → 0 < size → div_ceil m size ≤ m
 units_within size m pos =
@@ -40,12 +97,20 @@ units_within size m pos =
     lt_of_mul-lt-mul_right size (omega (arith, bounds.1, le-mul_of_pos_right {m = size} m pos)) in
     omega arith
 
-pub few_units : (files : List (List (List ℕ) × ℕ)) (size : ℕ) → IsFileList files → 0 < size
-    → sum_by (λ m. div_ceil m size) (lengths_of files) < 2 ^ 64
-few_units files size lawful pos =
-    let each = sum_by-le-sum_by (λ m. div_ceil m size) (λ m. next_multiple_of m ROUNDING) (lengths_of files)
+files_within : (entries : List Entry) → sum (lengths_of_entries entries) ≤ entries_length entries
+files_within [] = omega arith
+files_within (entry ∷ entries) = entry_cases
+    (λ e. sum (lengths_of_entries (e ∷ entries)) ≤ entries_length (e ∷ entries))
+    (λ path m. omega (arith, files_within entries, sum_by-cons (λ (e : Entry). e.length) (padding path m) entries))
+    (λ path m. omega (arith, files_within entries, sum_by-cons (λ (e : Entry). e.length) (file path m) entries,
+    sum_by-cons (λ x. x) m (lengths_of_entries entries))) entry
+
+pub few_units : (entries : List Entry) (size : ℕ) → entries_length entries ≤ MAX_TOTAL → 0 < size
+    → sum_by (λ m. div_ceil m size) (lengths_of_entries entries) < 2 ^ 64
+few_units entries size small pos =
+    let each = sum_by-le-sum_by (λ m. div_ceil m size) (λ m. m) (lengths_of_entries entries)
     (λ m. omega (arith, units_within size m pos)) in
-    omega (arith, each, total_small files lawful)
+    omega (arith, each, files_within entries, small)
 
 -- pieces of torrents with trees have whole blocks, and so have units of at least one piece
 pub piece_of_trees : (kind : Kind) (piece_length : ℕ) → (kind ≡ V2) ⊎ (kind ≡ Hybrid)

@@ -1,5 +1,5 @@
 -- A unit, and then another.
-use Rattle.std.proofs.Common.{◌≡◌, ℕ, ◌+◌, Bool, true, false, cond, List, [], ◌∷◌, ◌++◌, arith, refl, ap, ap₂, ◌∙◌}
+use Rattle.std.proofs.Common.{◌≡◌, ℕ, ◌+◌, Bool, true, false, cond, List, [], ◌∷◌, ◌++◌, arith, refl, ap, ◌∙◌}
 use Rattle.std.proofs.Common.{append-nil}
 use Rattle.tor_plan.specs.Entries.{after_part, after_zeros, empty_unit}
 use Rattle.tor_plan.specs.declared.units.Part.{Part}

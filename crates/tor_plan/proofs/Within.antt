@@ -1,14 +1,13 @@
 -- What a range of joined entries meets when its end is moved.
-use Rattle.std.proofs.Common.{◌≡◌, ℕ, ◌+◌, ◌-◌, ◌<◌, ◌≤◌, false, true, cond, ltb, min, max, List, [], ◌∷◌, ◌++◌, length}
+use Rattle.std.proofs.Common.{◌≡◌, ℕ, ◌+◌, ◌-◌, ◌<◌, ◌≤◌, cond, ltb, max, List, [], ◌∷◌, ◌++◌, length}
 use Rattle.std.proofs.Common.{arith, refl, ap, ap₂, ◌∙◌, sym, subst, append-nil}
 use Rattle.std.proofs.lemmas.List.Sums.{sum_by-cons}
 use Rattle.tor_v1.specs.Content.{file_entries}
 use Rattle.tor_v1.specs.declared.entry.Entry.{Entry}
 use Rattle.tor_plan.specs.Entries.{after_part, after_zeros, empty_unit, entries_length, shared, unit_within}
-use Rattle.tor_plan.specs.declared.units.Part.{Part}
 use Rattle.tor_plan.specs.declared.units.PlanUnit.{PlanUnit}
 use Rattle.tor_plan.specs.steps.Joined.{IsEntryAt, IsFileAt, IsPaddingAt}
-use Rattle.tor_plan.proofs.EntrySteps.{Path, padding, file, entry_cases, by_entries, met}
+use Rattle.tor_plan.proofs.EntrySteps.{padding, file, entry_cases, by_entries, met}
 use Rattle.tor_plan.proofs.UnitJoins.{joined, zeros_then, file_then, then_nothing, zeros_alone, part_alone}
 
 abbrev entry_length : Entry → ℕ

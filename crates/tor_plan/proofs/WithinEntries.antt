@@ -1,21 +1,21 @@
 -- The parts of units are in the files of entries, and units are not too long.
-use Rattle.std.proofs.Common.{◌≡◌, ◌≢◌, ◌⊎◌, ℕ, ◌+◌, ◌-◌, ◌*◌, ◌<◌, ◌≤◌, false, cond, leb, min, max, List, [], ◌∷◌, ◌++◌, length}
-use Rattle.std.proofs.Common.{map, get_or, drop, sum_by, arith, refl, ap, ◌∙◌, subst, sym, inl, inr, zero-add, mul-le-mul_right}
+use Rattle.std.proofs.Common.{◌≡◌, ◌≢◌, ◌⊎◌, ℕ, ◌+◌, ◌-◌, ◌*◌, ◌<◌, ◌≤◌, false, cond, leb, min, max, List, [], ◌∷◌, length}
+use Rattle.std.proofs.Common.{get_or, drop, arith, refl, ap, ◌∙◌, inl, inr, zero-add, mul-le-mul_right}
 use Rattle.std.proofs.Common.{lt_of_mul-lt-mul_right}
 use Rattle.std.proofs.lemmas.Bool.{le-leb, lt-leb, cond-true, cond-false, cases_lt, lt-ltb, or_parts, true≢false}
 use Rattle.std.proofs.lemmas.List.Elements.{All-nil, All-cons, All-append}
 use Rattle.std.proofs.lemmas.List.FromFn.{length-map-range_with_len, get_or-map-range_with_len}
 use Rattle.std.proofs.lemmas.List.Sums.{sum_by-cons}
 use Rattle.std.specs.Int.{div_ceil}
-use Rattle.std.specs.List.{All, range_with_len, list_any}
+use Rattle.std.specs.List.{All}
 use Rattle.tor_tree.specs.declared.kinds.Kind.{Kind}
 use Rattle.tor_tree.specs.declared.kinds.Kind.TheVariants.{V1, V2, Hybrid}
 use Rattle.tor_v1.specs.Entries.{padding_length}
 use Rattle.tor_v1.specs.declared.entry.Entry.{Entry}
-use Rattle.tor_plan.specs.Entries.{after_part, after_zeros, empty_unit, entries_length, joined_entry_unit}
+use Rattle.tor_plan.specs.Entries.{entries_length, joined_entry_unit}
 use Rattle.tor_plan.specs.Entries.{joined_entry_units, lengths_of_entries, padding_before_next, separate_entry_units}
 use Rattle.tor_plan.specs.Entries.{shared, unit_within}
-use Rattle.tor_plan.specs.EntryList.{has_padding, is_filled, ArePadded, IsLaidOut, IsPaddedTo}
+use Rattle.tor_plan.specs.EntryList.{has_padding, ArePadded, IsLaidOut}
 use Rattle.tor_plan.specs.Units.{file_unit, units_of_file}
 use Rattle.tor_plan.specs.WithinEntries.{IsInFile, IsUnitWithin, unit_length}
 use Rattle.tor_plan.specs.WithinFiles.{IsFileUnit}

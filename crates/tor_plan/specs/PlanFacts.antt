@@ -1,12 +1,15 @@
 -- What a plan tells.
 use Rattle.std.specs.Prelude.{◌≡◌, ℕ, ◌*◌, ◌≤◌, IsTrue, List}
 use Rattle.std.specs.Int.{is_power_of_two}
-use Rattle.tor_tree.specs.FileList.{IsFileList, lengths_of}
+use Rattle.tor_tree.specs.FileList.{lengths_of}
 use Rattle.tor_tree.specs.declared.kinds.Kind.{Kind}
 use Rattle.tor_tree.specs.declared.kinds.Kind.TheVariants.{V1}
 use Rattle.tor_v1.specs.Piece.{IsV1PieceLength, max_piece_length}
 use Rattle.tor_plan.specs.declared.forests.Run.{Run}
 use Rattle.tor_plan.specs.declared.units.PlanUnit.{PlanUnit}
+use Rattle.tor_v1.specs.declared.entry.Entry.{Entry}
+use Rattle.tor_plan.specs.Entries.{entry_units, lengths_of_entries}
+use Rattle.tor_plan.specs.EntryList.{IsEntryList}
 use Rattle.tor_plan.specs.Forest.{forest_trees}
 use Rattle.tor_plan.specs.Units.{hash_units}
 use Rattle.tor_merkle.specs.declared.TheConstants.{BLOCK_LENGTH}
@@ -38,11 +41,21 @@ plan_of kind piece_length span files = record {
   trees = forest_trees kind (span * piece_length) (lengths_of files);
 }
 
--- the plan is that of some list of files
+-- the plan of the entries of a torrent
+abbrev pub plan_of_entries : Kind → ℕ → ℕ → List Entry → PlanFacts
+plan_of_entries kind piece_length span entries = record {
+  kind = kind;
+  piece_length = piece_length;
+  units = entry_units kind piece_length span entries;
+  lengths = lengths_of_entries entries;
+  trees = forest_trees kind (span * piece_length) (lengths_of_entries entries);
+}
+
+-- the plan is that of some entries; a list of files has the plan of its entries
 pub record IsPlan (plan : PlanFacts) : Type 0 where
   pub span : ℕ
-  pub files : List (List (List ℕ) × ℕ)
+  pub entries : List Entry
   pub is_span : IsSpan span
-  pub is_list : IsFileList files
+  pub is_list : IsEntryList plan.kind plan.piece_length entries
   pub pieces : IsPlanPieceLength plan.kind plan.piece_length
-  pub made : plan ≡ plan_of plan.kind plan.piece_length span files
+  pub made : plan ≡ plan_of_entries plan.kind plan.piece_length span entries

@@ -1,16 +1,18 @@
-//! The plan of a list of files.
+//! The plan of a list of files, or of the entries of a torrent.
 ghost use Rattle.std.specs.Prelude.{◌≡◌, IfOk, map};
 ghost use Rattle.tor_tree.specs.FileList.{lengths_of};
+ghost use Rattle.tor_plan.specs.Entries.{lengths_of_entries};
 
 use crate::forests::{Forest, trees_of};
-use crate::joined::cut_joined;
-use crate::separate::cut_each;
+use crate::joined::{cut_joined, cut_joined_entries};
+use crate::separate::{cut_each, cut_each_entry};
 use crate::units::PlanUnit;
 use std::alloc::{AllocError, Global};
 use std::marker::Model;
 use tor_tree::{FileList, FilePath, Kind};
+use tor_v1::Entry;
 
-/// How a list of files is cut into units of work for hashing workers. Contracts see what it tells.
+/// How files are cut into units of work for hashing workers. Contracts see what it tells.
 #[derive(Debug, Drop)]
 pub struct Plan {
     kind: Kind,
@@ -43,7 +45,8 @@ impl Model for Plan {
 }
 
 impl Plan {
-    ghost use Rattle.tor_plan.specs.PlanFacts.{plan_of, IsPlan, IsPlanPieceLength, IsSpan};
+    ghost use Rattle.tor_plan.specs.EntryList.{IsEntryList};
+    ghost use Rattle.tor_plan.specs.PlanFacts.{plan_of, plan_of_entries, IsPlan, IsPlanPieceLength, IsSpan};
 
     /// The plan whose units have `span` pieces, fewer at an end: of one file each, or of the joined files in V1.
     pub fn new(
@@ -76,6 +79,38 @@ impl Plan {
         })
     }
 
+    /// The plan of the entries of a torrent, whose padding is in the units as zeros. Files are those that are no
+    /// padding.
+    pub fn of_entries(
+        alloc: Global,
+        entries: &[Entry],
+        kind: Kind,
+        piece_length: u64,
+        span: u32,
+    ) -> Result<Plan, AllocError>
+        requires pieces { IsPlanPieceLength kind piece_length }
+        requires span { IsSpan span }
+        requires entries { IsEntryList kind piece_length entries.now }
+        ensures { IfOk result (λ plan. plan ≡ plan_of_entries kind piece_length span entries.now) }
+    {
+        let size = u64::from(span) * piece_length;
+        let lengths = lengths_of_entries(alloc, entries)?;
+        let (units, trees) = match kind {
+            Kind::V1 => (cut_joined_entries(alloc, entries, size)?, Vec::new(alloc)),
+            Kind::V2 | Kind::Hybrid => (
+                cut_each_entry(alloc, entries, size)?,
+                trees_of(alloc, &lengths, size)?,
+            ),
+        };
+        Ok(Plan {
+            kind,
+            piece_length,
+            units,
+            lengths,
+            forest: Forest { trees },
+        })
+    }
+
     /// Which sides the torrent has.
     pub fn kind(&self) -> Kind
         ensures { result ≡ self.now.kind }
@@ -90,7 +125,7 @@ impl Plan {
         self.piece_length
     }
 
-    /// In the order of the list; a unit is named by its place here.
+    /// In the order of the files; a unit is named by its place here.
     pub fn units(&self) -> &[PlanUnit]
         ensures value { result.now ≡ self.now.units }
         ensures planned { IsPlan self.now }
@@ -98,7 +133,7 @@ impl Plan {
         self.units.as_slice()
     }
 
-    /// The length of each file, in the order of the list.
+    /// The length of each file, in their order.
     pub fn lengths(&self) -> &[u64]
         ensures { result.now ≡ self.now.lengths }
     {
@@ -118,4 +153,15 @@ fn lengths_of(alloc: Global, files: &[(FilePath, u64)]) -> Result<Vec<u64>, Allo
     ensures { IfOk result (λ lengths. lengths.items ≡ lengths_of files.now) }
 {
     files.iter().map(|file| file.1).collect(alloc)
+}
+
+/// The length of each entry that is no padding.
+fn lengths_of_entries(alloc: Global, entries: &[Entry]) -> Result<Vec<u64>, AllocError>
+    ensures { IfOk result (λ lengths. lengths.items ≡ lengths_of_entries entries.now) }
+{
+    entries
+        .iter()
+        .filter(|entry| !entry.pad)
+        .map(|entry| entry.length)
+        .collect(alloc)
 }

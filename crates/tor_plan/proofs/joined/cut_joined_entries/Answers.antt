@@ -1,5 +1,5 @@
 -- one entry more: padding, or a file
-use Rattle.std.proofs.Common.{◌≡◌, ◌+◌, ◌∙◌, arith, ap, length, subst, sym, take}
+use Rattle.std.proofs.Common.{◌+◌, ◌∙◌, arith, ap, length, subst, sym, take}
 use Rattle.tor_v1.specs.Content.{file_entries}
 use Rattle.tor_plan.specs.Entries.{entries_length}
 use Rattle.tor_plan.specs.declared.joined.JoinedCut.{JoinedCut}

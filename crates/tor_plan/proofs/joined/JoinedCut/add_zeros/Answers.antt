@@ -1,5 +1,5 @@
 -- with a part, and without
-use Rattle.std.proofs.Common.{◌≡◌, ◌+◌, ◌≤◌, refl, arith, ap, ap₂, ◌∙◌, inl, inr}
+use Rattle.std.proofs.Common.{◌≤◌, refl, arith, ap, ap₂, ◌∙◌, inl, inr}
 use Rattle.std.proofs.lemmas.Bool.{cases_lt, false≢true}
 use Rattle.std.specs.Vec.{vec_len}
 use Rattle.tor_plan.proofs.Cut.{adds_zeros, after_last, before_first}
