@@ -89,7 +89,7 @@ after_last z n len ps last long some is =
     sym (take-append-drop k ps) ∙ ap (λ xs. front ++ xs) (drop_more ps k last (omega arith)
     ∙ ap₂ (λ p xs. p ∷ xs) (sym is) (drop_all (k + 1) ps (omega arith))) in
     ap (λ xs. unit_of z (set xs k (with_zeros last n))) split
-    ∙ ap (unit_of z)     (set_at front last [] (with_zeros last n) k (length-take-le k ps (omega arith)))
+    ∙ ap (unit_of z) (set_at front last [] (with_zeros last n) k (length-take-le k ps (omega arith)))
     ∙ sym (then_zeros z n front last)
     ∙ ap (λ xs. joined (unit_of z xs) (zeros_alone n)) (sym split)
 

@@ -80,7 +80,7 @@ module _ (size : ℕ) (pos : 0 < size) (entries : List Entry) (i : ℕ) (entry :
       let none : padding_before_next (entry ∷ rest) ≡ 0 =
       cond-false _ _ _ pad ∙ cond-true _ _ _ (lt-ltb 0 entry.length some) in
       let split : separate_entry_units size place (entry ∷ rest)
-          ≡ units_of_file size place entry.length before ++ others = cond-false _ _ _ pad in
+      ≡ units_of_file size place entry.length before ++ others = cond-false _ _ _ pad in
       ap₂ (λ us n. us ++ (units_of_file size new.file new.length (n + before) ++ others)) is_after zeros
       ∙ ap₂ (λ f m. (units ++ old) ++ (units_of_file size f m (0 + before) ++ others)) file long
       ∙ ap (λ n. (units ++ old) ++ (units_of_file size place entry.length n ++ others)) (zero-add before)

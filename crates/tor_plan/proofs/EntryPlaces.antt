@@ -14,41 +14,41 @@ use Rattle.tor_plan.proofs.Contents.{File}
 
 -- the entry at a place, after those before it
 module _ (entries : List Entry) (i : ℕ) (entry : Entry) (lt : i < length entries) (is : entry ≡ get_or entries i entry)
-    where
-  abbrev before : List Entry
-  before = take i entries
+  where
+    abbrev before : List Entry
+    before = take i entries
 
-  at_place : (place : ℕ) → place ≡ length (file_entries before) → IsEntryAt entries entry place (entries_length before)
-  at_place place counted = record {
-    before = before;
-    later = drop (i + 1) entries;
-    split = sym (take-append-drop i entries)
-        ∙ ap (λ es. before ++ es) (drop_more entries i entry lt ∙ ap (λ e. e ∷ drop (i + 1) entries) (sym is));
-    after = counted;
-    begins = refl;
-  }
+    at_place : (place : ℕ) → place ≡ length (file_entries before) → IsEntryAt entries entry place (entries_length before)
+    at_place place counted = record {
+      before = before;
+      later = drop (i + 1) entries;
+      split = sym (take-append-drop i entries)
+          ∙ ap (λ es. before ++ es) (drop_more entries i entry lt ∙ ap (λ e. e ∷ drop (i + 1) entries) (sym is));
+      after = counted;
+      begins = refl;
+    }
 
-  pub longer : entries_length (take (i + 1) entries) ≡ entries_length before + entry.length
-  longer = sum_by_more (λ (e : Entry). e.length) entries i entry lt
-      ∙ ap (λ e. entries_length before + e.length) (sym is)
+    pub longer : entries_length (take (i + 1) entries) ≡ entries_length before + entry.length
+    longer = sum_by_more (λ (e : Entry). e.length) entries i entry lt
+        ∙ ap (λ e. entries_length before + e.length) (sym is)
 
-  more_files : length (file_entries (take (i + 1) entries)) ≡ length (file_entries before) + cond (not entry.pad) 1 0
-  more_files = length-filter_more (λ (e : Entry). not e.pad) entries i entry lt
-      ∙ ap (λ e. length (file_entries before) + cond (not e.pad) 1 0) (sym is)
+    more_files : length (file_entries (take (i + 1) entries)) ≡ length (file_entries before) + cond (not entry.pad) 1 0
+    more_files = length-filter_more (λ (e : Entry). not e.pad) entries i entry lt
+        ∙ ap (λ e. length (file_entries before) + cond (not e.pad) 1 0) (sym is)
 
-  pub past_padding : entry.pad ≡ true → length (file_entries (take (i + 1) entries)) ≡ length (file_entries before)
-  past_padding pad = more_files ∙ ap (λ b. length (file_entries before) + cond (not b) 1 0) pad ∙ omega arith
+    pub past_padding : entry.pad ≡ true → length (file_entries (take (i + 1) entries)) ≡ length (file_entries before)
+    past_padding pad = more_files ∙ ap (λ b. length (file_entries before) + cond (not b) 1 0) pad ∙ omega arith
 
-  pub past_file : entry.pad ≡ false → length (file_entries (take (i + 1) entries)) ≡ length (file_entries before) + 1
-  past_file pad = more_files ∙ ap (λ b. length (file_entries before) + cond (not b) 1 0) pad
+    pub past_file : entry.pad ≡ false → length (file_entries (take (i + 1) entries)) ≡ length (file_entries before) + 1
+    past_file pad = more_files ∙ ap (λ b. length (file_entries before) + cond (not b) 1 0) pad
 
-  pub padding_there : entry.pad ≡ true
-      → IsPaddingAt entries (length (file_entries before)) (entries_length before) entry.length
-  padding_there pad = record { entry = entry; is = at_place (length (file_entries before)) refl; pad = pad; long = refl }
+    pub padding_there : entry.pad ≡ true
+        → IsPaddingAt entries (length (file_entries before)) (entries_length before) entry.length
+    padding_there pad = record { entry = entry; is = at_place (length (file_entries before)) refl; pad = pad; long = refl }
 
-  pub file_there : (place : ℕ) → place ≡ length (file_entries before) → entry.pad ≡ false
-      → IsFileAt entries place (entries_length before) entry.length
-  file_there place counted pad = record { entry = entry; is = at_place place counted; pad = pad; long = refl }
+    pub file_there : (place : ℕ) → place ≡ length (file_entries before) → entry.pad ≡ false
+        → IsFileAt entries place (entries_length before) entry.length
+    file_there place counted pad = record { entry = entry; is = at_place place counted; pad = pad; long = refl }
 
 -- ---- the entries of files, with no padding
 

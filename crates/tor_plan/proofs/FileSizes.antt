@@ -27,8 +27,11 @@ rounded_up m = next_multiple_of m ROUNDING
 
 joined_total : (files : List File) → entries_length (map file_entry files) ≤ sum_by rounded_up (lengths_of files)
 joined_total files =
-    omega (arith, length_of_files files,
-    sum_by-le-sum_by (λ m. m) rounded_up (lengths_of files) (λ m. omega arith))
+    omega (
+      arith,
+      length_of_files files,
+      sum_by-le-sum_by (λ m. m) rounded_up (lengths_of files) (λ m. omega arith),
+    )
 
 padded_length : (b : Bool) (n : ℕ) → sum_by entry_length (padded b n) ≤ n
 padded_length true n = omega arith
@@ -43,9 +46,15 @@ aligned_total p (file ∷ files) power some le =
     let n = padding_length p m in
     let tail = padded (ltb 0 n && has_bytes files) n in
     let others = aligned_entries p files in
-    omega (arith, sum_by-cons entry_length (file_entry file) (tail ++ others), sum_by-append entry_length tail others,
-    padded_length (ltb 0 n && has_bytes files) n, rounded p m power some le, aligned_total p files power some le,
-    sum_by-cons rounded_up m (lengths_of files))
+    omega (
+      arith,
+      sum_by-cons entry_length (file_entry file) (tail ++ others),
+      sum_by-append entry_length tail others,
+      padded_length (ltb 0 n && has_bytes files) n,
+      rounded p m power some le,
+      aligned_total p files power some le,
+      sum_by-cons rounded_up m (lengths_of files),
+    )
 
 total_length : (kind : Kind) (p : ℕ) (files : List File) → IsFileList files → IsPlanPieceLength kind p
     → entries_length (v1_entries (layout_of kind) p files) ≤ MAX_TOTAL

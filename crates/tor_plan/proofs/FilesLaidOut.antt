@@ -44,8 +44,10 @@ aligned_padded p (file ∷ files) =
     let zeros = zeros_are p file.1 files in
     let to : IsPaddedTo p file.1 (padded b n ++ aligned_entries p files) = elim (cases_Bool (has_bytes files)) [
       | inl more ↦ inl (sym zeros ∙ zeros_before p file.1 files more)
-      | inr none ↦ inr (filled_padded b n (aligned_entries p files) ∙ filled_aligned p files none,
-          sym zeros ∙ ap (λ c. sum_by entry_length (padded c n)) (and_right (ltb 0 n) (has_bytes files) none))
+      | inr none ↦ inr (
+        filled_padded b n (aligned_entries p files) ∙ filled_aligned p files none,
+        sym zeros ∙ ap (λ c. sum_by entry_length (padded c n)) (and_right (ltb 0 n) (has_bytes files) none),
+      )
     ] in
     ((λ filled. to), after_padding p b n (aligned_entries p files) (aligned_padded p files))
 

@@ -21,5 +21,6 @@ pub mod FilesLaidOut
 pub mod FileSizes
 pub mod WithinFiles
 pub mod WithinEntries
+pub mod Places
 pub mod ListRows
 pub mod ProvedLaws

@@ -12,6 +12,7 @@ use Rattle.tor_v1.specs.declared.entry.Entry.{Entry}
 use Rattle.tor_plan.specs.Content.{AreContentsOfFiles, cut_content, layout_of, unit_content}
 use Rattle.tor_plan.specs.Entries.{entry_units, lengths_of_entries, padding_before_next, separate_entry_units}
 use Rattle.tor_plan.specs.EntryList.{IsLaidOut}
+use Rattle.tor_plan.specs.Places.{places_of_files, places_of_unit}
 use Rattle.tor_plan.specs.Units.{hash_units}
 use Rattle.tor_plan.specs.WithinEntries.{IsUnitWithin, unit_length}
 use Rattle.tor_plan.specs.WithinFiles.{bytes_of, IsFileUnit, IsUnitOf}
@@ -20,6 +21,7 @@ use Rattle.tor_plan.proofs.Empty.{zeros-nil}
 use Rattle.tor_plan.proofs.FilesAsEntries.{entry_units_of_files, lengths_of_files}
 use Rattle.tor_plan.proofs.FilesLaidOut.{files_laid_out}
 use Rattle.tor_plan.proofs.JoinedContent.{joined_bytes, joined_sums}
+use Rattle.tor_plan.proofs.Places.{places_of_entry_units}
 use Rattle.tor_plan.proofs.SeparateContent.{separate_content, separate_sums}
 use Rattle.tor_plan.proofs.WithinEntries as within
 use Rattle.tor_plan.proofs.WithinFiles as bare
@@ -51,6 +53,11 @@ entry_units_are_the_content V2 piece_length span entries contents pos laid fit =
     unpadded_content contents (span * piece_length) entries pos fit (within.unpadded entries laid)
 entry_units_are_the_content Hybrid piece_length span entries contents pos laid fit =
     unpadded_content contents (span * piece_length) entries pos fit laid.0
+
+pub entry_units_name_each_byte : (kind : Kind) (piece_length span : ℕ) (entries : List Entry)
+    → 0 < span * piece_length
+    → flat_map places_of_unit (entry_units kind piece_length span entries) ≡ places_of_files 0 (lengths_of_entries entries)
+entry_units_name_each_byte kind piece_length span entries pos = places_of_entry_units kind piece_length span entries pos
 
 pub entry_units_are_within_files : (kind : Kind) (piece_length span : ℕ) (entries : List Entry) → 0 < span
     → 0 < piece_length → IsLaidOut kind piece_length entries

@@ -102,8 +102,12 @@ files_within [] = omega arith
 files_within (entry ∷ entries) = entry_cases
     (λ e. sum (lengths_of_entries (e ∷ entries)) ≤ entries_length (e ∷ entries))
     (λ path m. omega (arith, files_within entries, sum_by-cons (λ (e : Entry). e.length) (padding path m) entries))
-    (λ path m. omega (arith, files_within entries, sum_by-cons (λ (e : Entry). e.length) (file path m) entries,
-    sum_by-cons (λ x. x) m (lengths_of_entries entries))) entry
+    (λ path m. omega (
+      arith,
+      files_within entries,
+      sum_by-cons (λ (e : Entry). e.length) (file path m) entries,
+      sum_by-cons (λ x. x) m (lengths_of_entries entries),
+    )) entry
 
 pub few_units : (entries : List Entry) (size : ℕ) → entries_length entries ≤ MAX_TOTAL → 0 < size
     → sum_by (λ m. div_ceil m size) (lengths_of_entries entries) < 2 ^ 64

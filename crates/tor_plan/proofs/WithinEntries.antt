@@ -42,9 +42,13 @@ module _ (a b : ℕ) where
   length_within = by_entries a b HasLength (λ place at. omega arith)
       (λ place at path m entries unit rest. omega (arith, rest, sum_by-cons entry_length (padding path m) entries))
       (λ place at path m entries unit some rest.
-      omega (arith, rest, sum_by-cons entry_length (file path m) entries,
-      sum_by-cons part_length
-      (record { file = place; start = max a at - at; length = shared a b at m; zeros = unit.zeros }) unit.parts))
+      omega (
+        arith,
+        rest,
+        sum_by-cons entry_length (file path m) entries,
+        sum_by-cons part_length
+            (record { file = place; start = max a at - at; length = shared a b at m; zeros = unit.zeros }) unit.parts,
+      ))
       (λ place at path m entries unit few rest. omega (arith, rest, sum_by-cons entry_length (file path m) entries))
 
   module _ (lengths : List ℕ) where

@@ -6,4 +6,5 @@ pub mod WithinFiles
 pub mod Entries
 pub mod EntryList
 pub mod WithinEntries
+pub mod Places
 pub mod steps

@@ -263,7 +263,10 @@ fn cuts_hybrid_entries_with_padding_at_the_end(rt: HostRuntime) -> Result<(), Fa
     ]?;
     let plan = Plan::of_entries(alloc, &entries, Kind::Hybrid, 16384, 2)?;
     let told = units_told(alloc, plan.units())?;
-    assert_eq!(rt; told.as_str(), "[ 0:0+32768 ][ 0:32768+7232=9152 ][ 2:0+5=16379 ]");
+    assert_eq!(rt;
+        told.as_str(),
+        "[ 0:0+32768 ][ 0:32768+7232=9152 ][ 2:0+5=16379 ]"
+    );
     let told = trees_told(alloc, plan.forest())?;
     assert_eq!(rt; told.as_str(), "0+2^1 ");
     Ok(())

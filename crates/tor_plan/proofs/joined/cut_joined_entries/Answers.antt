@@ -20,22 +20,22 @@ entries-preserved c =
     let old = c.entries.invariant in
     elim c.if-entry.branch [
       | then-entry+in_ok-add_padding w ↦ record {
-          size = ap (λ cut. cut.size) w.cut-is ∙ w.in_ok-add_padding.ensures.size ∙ old.size;
-          few = omega (arith, old.few, w.place-is);
-          counted = w.place-is ∙ old.counted ∙ sym (past_padding entries i entry lt is w.if-entry.true);
-          cut = subst (λ (cut : JoinedCut). HasCut cut entries (entries_length (take (i + 1) entries))) (sym w.cut-is)
-              (subst (HasCut w.add_padding.new.self entries) here
-              (w.in_ok-add_padding.ensures.cut entries (length (file_entries (take i entries))) at old.cut
-              (padding_there entries i entry lt is w.if-entry.true)));
-        }
+        size = ap (λ cut. cut.size) w.cut-is ∙ w.in_ok-add_padding.ensures.size ∙ old.size;
+        few = omega (arith, old.few, w.place-is);
+        counted = w.place-is ∙ old.counted ∙ sym (past_padding entries i entry lt is w.if-entry.true);
+        cut = subst (λ (cut : JoinedCut). HasCut cut entries (entries_length (take (i + 1) entries))) (sym w.cut-is)
+            (subst (HasCut w.add_padding.new.self entries) here
+            (w.in_ok-add_padding.ensures.cut entries (length (file_entries (take i entries))) at old.cut
+            (padding_there entries i entry lt is w.if-entry.true)));
+      }
       | else-entry+in_ok-add_file w ↦ record {
-          size = ap (λ cut. cut.size) w.cut-is ∙ w.in_ok-add_file.ensures.size ∙ old.size;
-          few = omega (arith, old.few, w.place-is);
-          counted =
-              w.place-is ∙ ap (λ n. n + 1) old.counted ∙ sym (past_file entries i entry lt is w.if-entry.false);
-          cut = subst (λ (cut : JoinedCut). HasCut cut entries (entries_length (take (i + 1) entries))) (sym w.cut-is)
-              (subst (HasCut w.add_file.new.self entries) here
-              (w.in_ok-add_file.ensures.cut entries at old.cut
-              (file_there entries i entry lt is c.entries.place old.counted w.if-entry.false)));
-        }
+        size = ap (λ cut. cut.size) w.cut-is ∙ w.in_ok-add_file.ensures.size ∙ old.size;
+        few = omega (arith, old.few, w.place-is);
+        counted =
+            w.place-is ∙ ap (λ n. n + 1) old.counted ∙ sym (past_file entries i entry lt is w.if-entry.false);
+        cut = subst (λ (cut : JoinedCut). HasCut cut entries (entries_length (take (i + 1) entries))) (sym w.cut-is)
+            (subst (HasCut w.add_file.new.self entries) here
+            (w.in_ok-add_file.ensures.cut entries at old.cut
+            (file_there entries i entry lt is c.entries.place old.counted w.if-entry.false)));
+      }
     ]

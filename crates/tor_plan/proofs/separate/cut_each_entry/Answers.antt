@@ -22,16 +22,16 @@ entries-preserved c =
     let long = longer entries i entry lt is in
     elim c.if-entry.branch [
       | then-entry w ↦ record {
-          few = omega (arith, old.few, w.place-is);
-          small = omega (arith, old.small, ap (λ part. part.zeros) w.last-is, long);
-          all = same_cut size entries (i + 1) units _ new new place _ (ap (λ v. v.items) w.units-is) refl w.place-is
-              (cut_padding size c.requires.sized entries i entry lt is units last place old.all new w.if-entry.true
-              (ap (λ part. part.file) w.last-is) (ap (λ part. part.length) w.last-is)
-              (ap (λ part. part.zeros) w.last-is));
-        }
+        few = omega (arith, old.few, w.place-is);
+        small = omega (arith, old.small, ap (λ part. part.zeros) w.last-is, long);
+        all = same_cut size entries (i + 1) units _ new new place _ (ap (λ v. v.items) w.units-is) refl w.place-is
+            (cut_padding size c.requires.sized entries i entry lt is units last place old.all new w.if-entry.true
+            (ap (λ part. part.file) w.last-is) (ap (λ part. part.length) w.last-is)
+            (ap (λ part. part.zeros) w.last-is));
+      }
       | else-entry w ↦
           elim w.if-entry-gt0.branch [
-          | then-entry-gt0+in_ok-cut_file w' ↦ record {
+            | then-entry-gt0+in_ok-cut_file w' ↦ record {
               few = omega (arith, old.few, w.place-is);
               small = omega (arith, ap (λ part. part.zeros) (w.last-is ∙ w'.last-is));
               all = same_cut size entries (i + 1) w'.cut_file.new.units.items _ new new (place + 1) _
@@ -41,7 +41,7 @@ entries-preserved c =
                   (ap (λ part. part.file) (w.last-is ∙ w'.last-is)) (ap (λ part. part.length) (w.last-is ∙ w'.last-is))
                   (ap (λ part. part.zeros) (w.last-is ∙ w'.last-is)));
             }
-          | else-entry-gt0 w' ↦ record {
+            | else-entry-gt0 w' ↦ record {
               few = omega (arith, old.few, w.place-is);
               small = omega (arith, old.small, ap (λ part. part.zeros) (w.last-is ∙ w'.last-is), long);
               all = same_cut size entries (i + 1) units _ last _ (place + 1) _
@@ -49,7 +49,7 @@ entries-preserved c =
                   (cut_empty size c.requires.sized entries i entry lt is units last place old.all w.if-entry.false
                   w'.if-entry-gt0.false);
             }
-        ]
+          ]
     ]
 
 pub returns : goal.returns
