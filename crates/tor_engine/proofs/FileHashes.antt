@@ -1,5 +1,5 @@
--- The sums of the units of a plan are those of its files. The laws of the crates below come in as their statements: a
--- function that needs these lemmas calls them.
+-- The sums of the units of a plan are those of its files. The law of tor_merkle comes in as its statement: a function
+-- that needs these lemmas calls it.
 use Rattle.std.proofs.Common.{◌≡◌, ◌≢◌, ℕ, ◌*◌, ◌<◌, ◌≤◌, IsTrue, true, false, List, length, map, arith, refl, ap}
 use Rattle.std.proofs.Common.{◌∙◌, sym, mul-pos}
 use Rattle.std.proofs.lemmas.Bool.{le-leb}
@@ -7,37 +7,24 @@ use Rattle.std.specs.Int.{is_power_of_two}
 use Rattle.std.specs.List.{flat_map}
 use Rattle.tor_merkle.specs.Layer.{IsPieceLength}
 use Rattle.tor_merkle.specs.declared.TheConstants.{MAX_PIECE_LENGTH, MIN_PIECE_LENGTH}
-use Rattle.tor_plan.specs.Content.{AreContentsOfFiles, cut_content, unit_content}
+use Rattle.tor_plan.specs.Content.{unit_content}
+use Rattle.tor_plan.specs.Entries.{entry_units, separate_entry_units}
 use Rattle.tor_plan.specs.PlanFacts.{PlanFacts, IsPlan, IsPlanPieceLength}
-use Rattle.tor_plan.specs.Units.{separate_units, hash_units}
+use Rattle.tor_plan.proofs.ProvedLaws.{entry_units_are_the_content, pieces_are_in_entry_units}
 use Rattle.tor_tree.specs.Kinds.{has_v1, has_v2}
 use Rattle.tor_tree.specs.declared.kinds.Kind.{Kind}
 use Rattle.tor_tree.specs.declared.kinds.Kind.TheVariants.{V1, V2, Hybrid}
 use Rattle.tor_v1.specs.Piece.{piece_sums}
+use Rattle.tor_v1.specs.declared.entry.Entry.{Entry}
 use Rattle.tor_engine.specs.steps.Hashes.{hashes_of_unit, hashes_of_file}
 use Rattle.tor_engine.proofs.HashesByUnit.{RootsOfUnits, hashes_from}
 
--- the law units_are_the_content of tor_plan
-abbrev pub UnitsAreTheContent : Type 0
-UnitsAreTheContent = (kind : Kind) (piece_length span : ℕ) (files : List (List (List ℕ) × ℕ))
-    (contents : List (List ℕ)) → 0 < span * piece_length → AreContentsOfFiles files contents →
-    flat_map (unit_content contents) (hash_units kind piece_length span files)
-    ≡ cut_content kind piece_length files contents
-
--- the law pieces_are_in_units of tor_plan
-abbrev pub PiecesAreInUnits : Type 0
-PiecesAreInUnits = (kind : Kind) (piece_length span : ℕ) (files : List (List (List ℕ) × ℕ))
-    (contents : List (List ℕ)) → kind ≢ V2 → 0 < piece_length → 0 < span * piece_length →
-    AreContentsOfFiles files contents →
-    flat_map (λ unit. piece_sums piece_length (unit_content contents unit)) (hash_units kind piece_length span files)
-    ≡ piece_sums piece_length (cut_content kind piece_length files contents)
-
 -- the kinds with trees cut each file by itself
-units_with_trees : (kind : Kind) (p span : ℕ) (files : List (List (List ℕ) × ℕ)) → has_v2 kind ≡ true
-    → hash_units kind p span files ≡ separate_units kind p (span * p) 0 files
-units_with_trees V1 p span files trees = cc
-units_with_trees V2 p span files trees = refl
-units_with_trees Hybrid p span files trees = refl
+units_with_trees : (kind : Kind) (p span : ℕ) (entries : List Entry) → has_v2 kind ≡ true
+    → entry_units kind p span entries ≡ separate_entry_units (span * p) 0 entries
+units_with_trees V1 p span entries trees = cc
+units_with_trees V2 p span entries trees = refl
+units_with_trees Hybrid p span entries trees = refl
 
 -- no plan has pieces of no byte
 pub some_piece : (kind : Kind) (p : ℕ) → IsPlanPieceLength kind p → 0 < p
@@ -68,23 +55,23 @@ pub unit_hashes_of_files : RootsOfUnits → (plan : PlanFacts) (contents : List 
 unit_hashes_of_files roots plan contents is trees fit =
     let p = plan.piece_length in
     ap (flat_map (hashes_of_unit p contents))
-    (ap (λ facts. facts.units) is.made ∙ units_with_trees plan.kind p is.span is.files trees)
+    (ap (λ facts. facts.units) is.made ∙ units_with_trees plan.kind p is.span is.entries trees)
     ∙ hashes_from roots p is.span (allowed_with_trees plan.kind p is.pieces trees) (some_piece plan.kind p is.pieces)
-    (omega (arith, is.is_span.1)) plan.kind contents 0 is.files contents refl
+    (omega (arith, is.is_span.1)) contents 0 is.entries contents refl
     (fit ∙ ap (λ facts. facts.lengths) is.made)
 
 -- the SHA-1 of the pieces of the units are those of what the units have together
-pub unit_pieces_of_files : UnitsAreTheContent → PiecesAreInUnits → (plan : PlanFacts) (contents : List (List ℕ))
-    → IsPlan plan → has_v1 plan.kind ≡ true → map length contents ≡ plan.lengths
+pub unit_pieces_of_files : (plan : PlanFacts) (contents : List (List ℕ)) → IsPlan plan → has_v1 plan.kind ≡ true → map length contents ≡ plan.lengths
     → flat_map (λ unit. piece_sums plan.piece_length (unit_content contents unit)) plan.units
     ≡ piece_sums plan.piece_length (flat_map (unit_content contents) plan.units)
-unit_pieces_of_files the_content in_units plan contents is pieces fit =
+unit_pieces_of_files plan contents is pieces fit =
     let p = plan.piece_length in
     let pos = some_piece plan.kind p is.pieces in
     let unit : 0 < is.span * p = mul-pos (omega (arith, is.is_span.1)) pos in
+    let laid = is.is_list.laid_out in
     let cut = ap (λ facts. facts.units) is.made in
     let long = fit ∙ ap (λ facts. facts.lengths) is.made in
     ap (flat_map (λ unit. piece_sums p (unit_content contents unit))) cut
-    ∙ in_units plan.kind p is.span is.files contents (not_v2 plan.kind pieces) pos unit long
+    ∙ pieces_are_in_entry_units plan.kind p is.span is.entries contents (not_v2 plan.kind pieces) pos unit laid long
     ∙ sym (ap (piece_sums p) (ap (flat_map (unit_content contents)) cut
-    ∙ the_content plan.kind p is.span is.files contents unit long))
+    ∙ entry_units_are_the_content plan.kind p is.span is.entries contents unit laid long))

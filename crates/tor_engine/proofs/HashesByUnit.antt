@@ -1,5 +1,5 @@
 -- Files that are cut each by itself: the hashes of the units are those of the files.
-use Rattle.std.proofs.Common.{◌≡◌, ℕ, zero, suc, ◌+◌, ◌-◌, ◌*◌, ◌<◌, ◌≤◌, Bool, false, leb, min, cond, inl, inr}
+use Rattle.std.proofs.Common.{◌≡◌, ℕ, zero, suc, ◌+◌, ◌-◌, ◌*◌, ◌<◌, ◌≤◌, Bool, true, false, leb, min, cond, inl, inr}
 use Rattle.std.proofs.Common.{List, [], ◌∷◌, ◌++◌, length, map, get_or, take, drop, arith, refl, ap, ap₂, ◌∙◌, sym}
 use Rattle.std.proofs.Common.{append-nil, zero-mul, length-drop, mul-le-mul_right}
 use Rattle.std.proofs.lemmas.Bool.{cases_lt, lt-leb}
@@ -9,9 +9,10 @@ use Rattle.std.specs.Int.{div_ceil}
 use Rattle.std.specs.List.{flat_map, range_with_len}
 use Rattle.tor_merkle.specs.Block.{run_at}
 use Rattle.tor_merkle.specs.Layer.{IsPieceLength, pieces_root, piece_roots}
-use Rattle.tor_plan.specs.Units.{file_unit, units_of_file, separate_units, zeros_after}
-use Rattle.tor_tree.specs.FileList.{lengths_of}
-use Rattle.tor_tree.specs.declared.kinds.Kind.{Kind}
+use Rattle.tor_plan.specs.Entries.{lengths_of_entries, padding_before_next, separate_entry_units}
+use Rattle.tor_plan.specs.Units.{file_unit, units_of_file}
+use Rattle.tor_plan.specs.declared.units.PlanUnit.{PlanUnit}
+use Rattle.tor_v1.specs.declared.entry.Entry.{Entry}
 use Rattle.tor_engine.specs.steps.Hashes.{hashes_of_bytes, hashes_of_unit, hashes_of_file}
 
 -- the law piece_roots_of_units of tor_merkle, which a function that needs this calls
@@ -107,23 +108,45 @@ module _ (roots_of_units : RootsOfUnits) (p span : ℕ) (allowed : IsPieceLength
         (range_with_len 0 (div_ceil (length content) size))
         ∙ hashes_of_runs content
 
-  -- the files from a place on
-  pub hashes_from : (kind : Kind) (contents : List (List ℕ)) (place : ℕ) (files : List (List (List ℕ) × ℕ))
-      (rest : List (List ℕ)) → drop place contents ≡ rest → map length rest ≡ lengths_of files
-      → flat_map (hashes_of_unit p contents) (separate_units kind p size place files) ≡ flat_map (hashes_of_file p) rest
-  unfolding separate_units
-  hashes_from kind contents place [] [] split fit = refl
-  hashes_from kind contents place [] (content ∷ rest) split fit = cc
-  hashes_from kind contents place (file ∷ files) [] split fit = cc
-  hashes_from kind contents place (file ∷ files) (content ∷ rest) split fit =
-      let long : length content ≡ file.1 = cc in
+  -- a file, and units that have what comes after it
+  one_file : (contents : List (List ℕ)) (place m tail : ℕ) (others : List PlanUnit) (lengths : List ℕ)
+      → ((rest : List (List ℕ)) → drop (place + 1) contents ≡ rest → map length rest ≡ lengths
+      → flat_map (hashes_of_unit p contents) others ≡ flat_map (hashes_of_file p) rest)
+      → (rest : List (List ℕ)) → drop place contents ≡ rest → map length rest ≡ m ∷ lengths
+      → flat_map (hashes_of_unit p contents) (units_of_file size place m tail ++ others)
+      ≡ flat_map (hashes_of_file p) rest
+  one_file contents place m tail others lengths later [] split fit = cc
+  one_file contents place m tail others lengths later (content ∷ rest) split fit =
+      let long : length content ≡ m = cc in
       let next : place ≡ place + 0 = omega arith in
       let here : get_or contents place [] ≡ content =
       ap (λ n. get_or contents n []) next ∙ sym (get_or-drop place contents 0 []) ∙ ap (λ xs. get_or xs 0 []) split in
-      let tail = zeros_after kind p file.1 files in
-      flat_map-append (hashes_of_unit p contents) (units_of_file size place file.1 tail)
-      (separate_units kind p size (place + 1) files)
+      flat_map-append (hashes_of_unit p contents) (units_of_file size place m tail) others
       ∙ ap₂ (λ xs ys. xs ++ ys)
       (ap (λ n. flat_map (hashes_of_unit p contents) (units_of_file size place n tail)) (sym long)
       ∙ hashes_of_cut_file contents place content here tail)
-      (hashes_from kind contents (place + 1) files rest (sym (drop-drop 1 place contents) ∙ ap (drop 1) split) cc)
+      (later rest (sym (drop-drop 1 place contents) ∙ ap (drop 1) split) cc)
+
+  abbrev AreHashesFrom : List (List ℕ) → ℕ → List Entry → Type 0
+  AreHashesFrom contents place entries =
+      (rest : List (List ℕ)) → drop place contents ≡ rest → map length rest ≡ lengths_of_entries entries
+      → flat_map (hashes_of_unit p contents) (separate_entry_units size place entries)
+      ≡ flat_map (hashes_of_file p) rest
+
+  one_entry : (contents : List (List ℕ)) (place : ℕ) (path : List (List ℕ)) (m : ℕ) (pad : Bool) (entries : List Entry)
+      → AreHashesFrom contents place entries → AreHashesFrom contents (place + 1) entries
+      → AreHashesFrom contents place (record { path = path; length = m; pad = pad } ∷ entries)
+  unfolding separate_entry_units
+  one_entry contents place path m true entries same later = same
+  one_entry contents place path m false entries same later =
+      one_file contents place m (padding_before_next entries) (separate_entry_units size (place + 1) entries)
+      (lengths_of_entries entries) later
+
+  -- the files of the entries from a place on
+  pub hashes_from : (contents : List (List ℕ)) (place : ℕ) (entries : List Entry) → AreHashesFrom contents place entries
+  unfolding separate_entry_units
+  hashes_from contents place [] [] split fit = refl
+  hashes_from contents place [] (content ∷ rest) split fit = cc
+  hashes_from contents place (entry ∷ entries) rest split fit =
+      one_entry contents place entry.path entry.length entry.pad entries (hashes_from contents place entries)
+      (hashes_from contents (place + 1) entries) rest split fit

@@ -1,3 +1,4 @@
+pub mod Zeros
 pub mod ByFile
 pub mod Change
 pub mod FileHashes
@@ -14,7 +15,6 @@ pub mod ProvedLaws
 pub mod ReadContents
 pub mod Runs
 pub mod Taken
-pub mod Tiles
 pub mod Told
 pub mod Trees
 pub mod UnitParts

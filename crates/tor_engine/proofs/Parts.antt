@@ -4,7 +4,7 @@ use Rattle.std.proofs.Common.{zero-add, ap, sym, ◌∙◌, arith}
 use Rattle.std.proofs.lemmas.List.{get_or-map, length-drop, length-map}
 use Rattle.std.proofs.lemmas.List.FromFn.{get_or-map-range_with_len}
 use Rattle.tor_plan.specs.PlanFacts.{PlanFacts}
-use Rattle.tor_plan.specs.WithinFiles.{IsPartOf}
+use Rattle.tor_plan.specs.WithinEntries.{IsInFile}
 use Rattle.tor_plan.specs.declared.units.Part.{Part}
 use Rattle.tor_source.specs.Source.{SourceFacts, bytes_from}
 use Rattle.tor_engine.specs.Contents.{contents_in}
@@ -20,12 +20,12 @@ size_of lengths contents file fit named =
     ap (λ xs. get_or xs file 0) (sym fit) ∙ get_or-map length contents file [] 0 there
 
 -- a part has bytes
-pub some_bytes : (lengths : List ℕ) (p : ℕ) (part : Part) (bytes : List ℕ) → IsPartOf lengths p part
+pub some_bytes : (lengths : List ℕ) (part : Part) (bytes : List ℕ) → IsInFile lengths part
     → length bytes ≡ part.length → bytes ≢ []
-some_bytes lengths p part bytes is counted none = omega (arith, counted, is.some, ap length none)
+some_bytes lengths part bytes is counted none = omega (arith, counted, is.some, ap length none)
 
 module _ {F : Type 0} (facts : SourceFacts F) (plan : PlanFacts) (part : Part) (fit : HasLengths plan facts)
-    (is : IsPartOf plan.lengths plan.piece_length part) where
+    (is : IsInFile plan.lengths part) where
   content_at : get_or (contents_in facts (length plan.lengths)) part.file [] ≡ unwrap_or (facts.contents part.file) []
   content_at =
       get_or-map-range_with_len (λ file. unwrap_or (facts.contents file) []) 0 (length plan.lengths) part.file

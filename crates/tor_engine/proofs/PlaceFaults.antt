@@ -5,13 +5,18 @@ use Rattle.std.specs.Option.{option_or}
 use Rattle.tor_engine.specs.Fault.{byte_fault, file_fault, first_byte_fault, first_of, part_fault, unit_fault}
 use Rattle.tor_engine.specs.Fault.{units_fault}
 use Rattle.tor_engine.specs.declared.errors.EngineError.{EngineError}
+use Rattle.tor_plan.specs.Content.{layout_of}
+use Rattle.tor_plan.specs.Entries.{entry_units, lengths_of_entries}
+use Rattle.tor_plan.specs.Places.{places, places_of_files, places_of_part, places_of_unit}
 use Rattle.tor_plan.specs.Units.{hash_units}
 use Rattle.tor_plan.specs.declared.units.PlanUnit.{PlanUnit}
+use Rattle.tor_plan.proofs.ProvedLaws.{entry_units_name_each_byte, entry_units_of_files, lengths_of_files}
 use Rattle.tor_source.specs.Source.{SourceFacts}
 use Rattle.tor_tree.specs.FileList.{lengths_of}
 use Rattle.tor_tree.specs.declared.kinds.Kind.{Kind}
 use Rattle.tor_engine.proofs.FirstOf.{first_append}
-use Rattle.tor_engine.proofs.Places.{places, places_of_files, places_of_part, places_of_unit, places_of_units}
+use Rattle.tor_v1.specs.Entries.{v1_entries}
+use Rattle.tor_v1.specs.declared.entry.Entry.{Entry}
 
 -- the first of lists that stand one after the other
 first_flat : {A B C : Type 0} (found : B → Option C) (f : A → List B) (one : A → Option C) (xs : List A)
@@ -49,8 +54,16 @@ module _ {F : Type 0} (facts : SourceFacts F) where
       first_append found (places file 0 count) (places_of_files (file + 1) lengths)
       ∙ ap₂ (λ a b. option_or a b) (in_run file 0 count) (in_files (file + 1) lengths)
 
+  pub fault_of_entries : (kind : Kind) (p span : ℕ) (entries : List Entry) → 0 < span * p
+      → units_fault facts (entry_units kind p span entries) ≡ first_byte_fault facts (lengths_of_entries entries)
+  fault_of_entries kind p span entries pos =
+      sym (first_flat found places_of_unit (unit_fault facts) (entry_units kind p span entries) in_unit)
+      ∙ ap (first_of found) (entry_units_name_each_byte kind p span entries pos)
+      ∙ in_files 0 (lengths_of_entries entries)
+
   pub fault_of_units : (kind : Kind) (p span : ℕ) (files : List (List (List ℕ) × ℕ)) → 0 < span * p
       → units_fault facts (hash_units kind p span files) ≡ first_byte_fault facts (lengths_of files)
   fault_of_units kind p span files pos =
-      sym (first_flat found places_of_unit (unit_fault facts) (hash_units kind p span files) in_unit)
-      ∙ ap (first_of found) (places_of_units kind p span files pos) ∙ in_files 0 (lengths_of files)
+      ap (units_fault facts) (entry_units_of_files kind p span files)
+      ∙ fault_of_entries kind p span (v1_entries (layout_of kind) p files) pos
+      ∙ ap (first_byte_fault facts) (lengths_of_files (layout_of kind) p files)

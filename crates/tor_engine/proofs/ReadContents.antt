@@ -12,7 +12,8 @@ use Rattle.std.proofs.lemmas.List.Folds.{flat_map-map}
 use Rattle.std.proofs.lemmas.List.Sums.{sum_by-cons}
 use Rattle.std.proofs.lemmas.Simd.{map-map}
 use Rattle.tor_plan.specs.PlanFacts.{IsPlan, PlanFacts}
-use Rattle.tor_plan.specs.WithinFiles.{IsPartOf}
+use Rattle.tor_plan.specs.Places.{places, places_of_files, places_of_part, places_of_unit}
+use Rattle.tor_plan.specs.WithinEntries.{IsInFile}
 use Rattle.tor_plan.specs.declared.units.Part.{Part}
 use Rattle.tor_plan.specs.declared.units.PlanUnit.{PlanUnit}
 use Rattle.tor_source.specs.Source.{SourceFacts}
@@ -21,9 +22,9 @@ use Rattle.tor_engine.specs.steps.Run.{IsUnitOf, parts_of}
 use Rattle.tor_engine.proofs.FileHashes.{some_piece}
 use Rattle.tor_engine.proofs.PartReads.{all_append}
 use Rattle.tor_engine.proofs.Parts.{size_of}
-use Rattle.tor_engine.proofs.Places.{length_of_places, length_places, places, places_of_files, places_of_part}
-use Rattle.tor_engine.proofs.Places.{places_of_unit, places_of_units}
-use Rattle.tor_engine.proofs.Whole.{UnitsAreWithinFiles, units_of_plan}
+use Rattle.tor_engine.proofs.Places.{length_of_places, length_places}
+use Rattle.tor_engine.proofs.Whole.{units_of_plan}
+use Rattle.tor_plan.proofs.ProvedLaws.{entry_units_name_each_byte}
 
 -- ---- bytes cut by lengths
 
@@ -132,44 +133,44 @@ module _ (contents : List (List ℕ)) where
             ∙ drop-append_seam read.1 later),
       )
 
-  have_read : (lengths : List ℕ) (p : ℕ) (reads : List PartRead) → map length contents ≡ lengths
-      → AllByRecursion (IsPartOf lengths p) (map (λ read. read.0) reads)
+  have_read : (lengths : List ℕ) (reads : List PartRead) → map length contents ≡ lengths
+      → AllByRecursion (IsInFile lengths) (map (λ read. read.0) reads)
       → AllByRecursion (λ read. bytes_in read ≡ read.1) reads → HaveRead contents reads
-  have_read lengths p [] fit within same = tt
-  have_read lengths p (read ∷ reads) fit within same =
+  have_read lengths [] fit within same = tt
+  have_read lengths (read ∷ reads) fit within same =
       let part = read.0 in
       let size = size_of lengths contents part.file fit within.0.named in (
         sym (bytes_there contents part.file part.start part.length (omega (arith, size, within.0.within))) ∙ same.0,
-        have_read lengths p reads fit within.1 same.1,
+        have_read lengths reads fit within.1 same.1,
       )
 
 -- ---- a plan
 
 parts_within : (plan : PlanFacts) (units : List PlanUnit) → AllByRecursion (IsUnitOf plan) units
-    → AllByRecursion (IsPartOf plan.lengths plan.piece_length) (parts_of units)
+    → AllByRecursion (IsInFile plan.lengths) (parts_of units)
 parts_within plan [] are = tt
 parts_within plan (unit ∷ units) are =
-    all_append (IsPartOf plan.lengths plan.piece_length) unit.parts (parts_of units)
+    all_append (IsInFile plan.lengths) unit.parts (parts_of units)
     (recursion_from_All _ unit.parts are.0.parts) (parts_within plan units are.1)
 
 -- files of the plan's lengths have what was read of all its units
 pub contents_there : {F : Type 0} (is_steady : SourceFacts F → Type 0) (plan : PlanFacts) (reads : List PartRead)
-    → UnitsAreWithinFiles → IsPlan plan → AreReads is_steady plan (parts_of plan.units) reads
+    → IsPlan plan → AreReads is_steady plan (parts_of plan.units) reads
     → (contents : List (List ℕ)) × (map length contents ≡ plan.lengths) × HaveRead contents reads
-contents_there is_steady plan reads within is are =
+contents_there is_steady plan reads is are =
     let p = plan.piece_length in
     let pos : 0 < is.span * p = mul-pos (omega (arith, is.is_span.1)) (some_piece plan.kind p is.pieces) in
     let bytes = flat_map (λ (read : PartRead). read.1) reads in
     let all : read_places reads ≡ places_of_files 0 plan.lengths =
     sym (flat_map-map places_of_part (λ (read : PartRead). read.0) reads)
     ∙ ap (flat_map places_of_part) are.each ∙ sym (flat_parts plan.units)
-    ∙ ap (λ facts. flat_map places_of_unit facts.units) is.made ∙ places_of_units plan.kind p is.span is.files pos
+    ∙ ap (λ facts. flat_map places_of_unit facts.units) is.made ∙ entry_units_name_each_byte plan.kind p is.span is.entries pos
     ∙ ap (λ facts. places_of_files 0 facts.lengths) (sym is.made) in
     let long = as_many reads are.whole ∙ ap length all ∙ length_of_places 0 plan.lengths in
     let contents = cut plan.lengths bytes in
     let fit = cut_lengths plan.lengths bytes long in
     let same = joined_bytes contents reads ∙ ap (map (byte_at contents)) all
     ∙ cut_bytes contents 0 plan.lengths bytes long refl in
-    let named = subst (λ (ps : List Part). AllByRecursion (IsPartOf plan.lengths p) ps) (sym are.each)
-    (parts_within plan plan.units (recursion_from_All _ plan.units (units_of_plan within plan is))) in
-    (contents, fit, have_read contents plan.lengths p reads fit named (each_alike contents reads are.whole same))
+    let named = subst (λ (ps : List Part). AllByRecursion (IsInFile plan.lengths) ps) (sym are.each)
+    (parts_within plan plan.units (recursion_from_All _ plan.units (units_of_plan plan is))) in
+    (contents, fit, have_read contents plan.lengths reads fit named (each_alike contents reads are.whole same))

@@ -1,16 +1,15 @@
 -- All units of a plan, of files that have its lengths.
-use Rattle.std.proofs.Common.{◌≡◌, ◌<◌, ◌*◌, ◌+◌, ℕ, List, [], ◌∷◌, length, map, All, Option, None, Some, option_map}
-use Rattle.std.proofs.Common.{unwrap_or, cond, inl, inr, refl, ap, ap₂, sym, subst, ◌∙◌, arith}
+use Rattle.std.proofs.Common.{◌≡◌, ◌<◌, ◌≤◌, ◌*◌, ◌^◌, ◌+◌, ℕ, List, [], ◌∷◌, length, map, All, Option, None, Some, option_map}
+use Rattle.std.proofs.Common.{unwrap_or, mul-le-mul_right, cond, inl, inr, refl, ap, ap₂, sym, subst, ◌∙◌, arith}
 use Rattle.std.proofs.lemmas.Bool.{cases_eq, eq-eqb, ne_eqb}
 use Rattle.std.proofs.lemmas.List.{length-map}
 use Rattle.std.proofs.lemmas.List.FromFn.{length-map-range_with_len}
 use Rattle.std.specs.List.{range_with_len}
-use Rattle.tor_plan.specs.PlanFacts.{PlanFacts, IsPlan}
-use Rattle.tor_plan.specs.Units.{hash_units}
-use Rattle.tor_plan.specs.WithinFiles.{IsUnitOf as IsUnitWithin}
-use Rattle.tor_source.specs.Source.{SourceFacts}
-use Rattle.tor_tree.specs.FileList.{lengths_of}
+use Rattle.tor_plan.specs.PlanFacts.{PlanFacts, IsPlan, IsPlanPieceLength}
 use Rattle.tor_tree.specs.declared.kinds.Kind.{Kind}
+use Rattle.tor_tree.specs.declared.kinds.Kind.TheVariants.{V1, V2, Hybrid}
+use Rattle.tor_plan.proofs.ProvedLaws.{entry_units_are_within_files}
+use Rattle.tor_source.specs.Source.{SourceFacts}
 use Rattle.tor_engine.specs.Contents.{contents_in}
 use Rattle.tor_engine.specs.Fault.{change_from, first_length_fault, first_of, length_fault}
 use Rattle.tor_engine.specs.declared.errors.EngineError.TheVariants.{Changed}
@@ -19,19 +18,23 @@ use Rattle.tor_engine.specs.steps.Run.{AreUnitsOf}
 use Rattle.tor_engine.proofs.FileHashes.{some_piece}
 use Rattle.tor_engine.proofs.FirstOf.{neither}
 
--- the law units_are_within_files
-abbrev pub UnitsAreWithinFiles : Type 0
-UnitsAreWithinFiles = (kind : Kind) (piece_length span : ℕ) (files : List (List (List ℕ) × ℕ)) → 0 < span
-    → 0 < piece_length →
-    All (IsUnitWithin (lengths_of files) piece_length (span * piece_length)) (hash_units kind piece_length span files)
+piece_is_small : (kind : Kind) (p : ℕ) → IsPlanPieceLength kind p → p ≤ 2 ^ 30
+piece_is_small V1 p pieces = pieces.1
+piece_is_small V2 p pieces = pieces.2
+piece_is_small Hybrid p pieces = pieces.2
 
-pub units_of_plan : UnitsAreWithinFiles → (plan : PlanFacts) → IsPlan plan → AreUnitsOf plan plan.units
-units_of_plan within plan is =
+small_unit : (plan : PlanFacts) (is : IsPlan plan) → is.span * plan.piece_length ≤ 2 ^ 40
+small_unit plan is =
+    omega (arith, mul-le-mul_right {m = is.span} {n = 1024} plan.piece_length is.is_span.2,
+    piece_is_small plan.kind plan.piece_length is.pieces)
+
+pub units_of_plan : (plan : PlanFacts) → IsPlan plan → AreUnitsOf plan plan.units
+units_of_plan plan is =
     subst (λ (p : PlanFacts). AreUnitsOf p p.units) (sym is.made)
     (λ k d there.
-    let unit = within plan.kind plan.piece_length is.span is.files (omega (arith, is.is_span.1))
-    (some_piece plan.kind plan.piece_length is.pieces) k d there in
-    record { zeros = omega (arith, unit.bare); parts = unit.parts })
+    let unit = entry_units_are_within_files plan.kind plan.piece_length is.span is.entries (omega (arith, is.is_span.1))
+    (some_piece plan.kind plan.piece_length is.pieces) is.is_list.laid_out k d there in
+    record { within = omega (arith, unit.within, small_unit plan is); parts = unit.parts })
 
 -- lists of one length, of which no place differs
 same_lists : (told planned : List ℕ) (file : ℕ) → length told ≡ length planned → change_from file told planned ≡ None

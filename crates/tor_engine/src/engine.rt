@@ -18,7 +18,6 @@ use crate::turn::hash_in_turn;
 use std::alloc::Global;
 use std::thread::Threads;
 use tor_plan::Plan;
-use tor_plan::laws::units_are_within_files;
 use tor_source::Source;
 
 /// What the files of the source sum up to that the plan has: file i of the plan is file i of the source. First every
@@ -66,7 +65,6 @@ pub fn hash_told<S: Source, R: Threads + Sync>(
     ensures whole { IfOk result (AreSumsOfSome plan.now) }
     ensures gave { IfErr result (IsGiven (S.gave source.now)) }
 {
-    units_are_within_files();
     let run = match hash_units(rt, alloc, source, plan, how) {
         Ok(run) => run,
         Err(error) => return Err(error),
@@ -92,7 +90,6 @@ fn hash_units<S: Source, R: Threads + Sync>(
     ensures answered { AnswersUnits S.is_steady S.gave source.now plan.now plan.now.units result }
     ensures planned { IsPlan plan.now }
 {
-    units_are_within_files();
     let units = plan.units();
     match how {
         How::One => hash_in_turn(alloc, source, plan, units),

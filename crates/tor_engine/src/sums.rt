@@ -17,7 +17,6 @@ use tor_merkle::laws::{
 };
 use tor_merkle::{Hash, layer_root, piece_level};
 use tor_plan::Plan;
-use tor_plan::laws::{pieces_are_in_units, units_are_the_content};
 
 /// What files sum up to, file by file in the order of the plan.
 #[derive(Debug, Drop)]
@@ -43,8 +42,6 @@ pub(crate) fn sums_of_run(alloc: Global, plan: &Plan, run: RunSums) -> Result<Su
         IfOk result (AreSumsOf plan.now contents) }
 {
     piece_roots_of_units();
-    units_are_the_content();
-    pieces_are_in_units();
     let lengths = Vec::from_slice(alloc, plan.lengths())?;
     let (roots, layers) = if plan.kind().has_v2() {
         trees_of_files(alloc, plan.piece_length(), &lengths, &run.hashes)?

@@ -1,7 +1,7 @@
 //! Units hashed one after the other by one worker.
 ghost use Rattle.std.specs.Prelude.{◌≡◌, ◌<◌, None, IfErr, IfOk, MatchResult, length, vec_len};
 ghost use Rattle.tor_plan.specs.PlanFacts.{IsPlan};
-ghost use Rattle.tor_plan.specs.WithinFiles.{IsPartOf};
+ghost use Rattle.tor_plan.specs.WithinEntries.{IsInFile};
 ghost use Rattle.tor_source.specs.Source.{SourceFacts};
 ghost use Rattle.tor_engine.specs.Fault.{IsFault, IsGiven, part_fault, unit_fault};
 ghost use Rattle.tor_engine.specs.steps.Reads.{AddsPart, HasLengths};
@@ -93,7 +93,7 @@ fn hash_part<S: Source>(
     hashes: &mut Vec<Hash>,
 ) -> Result<(), EngineError<S::Fault>>
     requires planned { IsPlan plan.now }
-    requires part { IsPartOf plan.now.lengths plan.now.piece_length part.now }
+    requires part { IsInFile plan.now.lengths part.now }
     requires buffer { 0 < length buffer.old }
     requires fresh { begun_of sums.old ≡ 0 }
     ensures buffer { length buffer.new ≡ length buffer.old }

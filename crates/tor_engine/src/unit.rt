@@ -3,13 +3,17 @@ ghost use Rattle.std.specs.Prelude.{◌≡◌, ◌≢◌, ◌+◌, ◌≤◌, �
 ghost use Rattle.std.specs.Option.{ForSome};
 ghost use Rattle.tor_merkle.specs.declared.TheConstants.{MAX_LENGTH};
 ghost use Rattle.tor_plan.specs.PlanFacts.{IsPlanPieceLength};
-ghost use Rattle.tor_v1.specs.Piece.{max_piece_length, zeros};
+ghost use Rattle.tor_v1.specs.Feeding.{Feeds};
+ghost use Rattle.tor_v1.specs.Piece.{zeros};
 ghost use Rattle.tor_engine.specs.steps.Hashes.{hashes_of_bytes};
 
 use std::alloc::{AllocError, Global};
 use tor_merkle::{Feed, Hash};
 use tor_tree::Kind;
 use tor_v1::PieceSums;
+
+/// The zeros that the sums of pieces take at once, at most.
+const ZEROS_AT_ONCE: u64 = 1 << 30;
 
 /// What a unit sums up to, part by part. Clauses say by `HasTaken` which bytes were fed.
 #[derive(Drop)]
@@ -63,14 +67,13 @@ impl UnitSums {
 
     /// Adds zeros, which belong to no file.
     pub(crate) fn feed_zeros(&mut self, count: u64) -> Result<(), AllocError>
-        requires { count ≤ max_piece_length }
         ensures taken { (kind : Kind) (piece_length : ℕ) (part unit : List ℕ) →
             HasTaken kind piece_length part unit self.old →
             OnOk result (HasTaken kind piece_length part (unit ++ zeros count) self.new) }
         ensures begun { begun_of self.new ≡ begun_of self.old }
     {
         if let Some(pieces) = &mut self.pieces {
-            pieces.feed_zeros(count)?;
+            feed_zeros(pieces, count)?;
         }
         Ok(())
     }
@@ -119,6 +122,19 @@ impl UnitSums {
             None => Ok(()),
         }
     }
+}
+
+/// Feeds so many zeros, as many at a time as the sums take.
+fn feed_zeros(pieces: &mut PieceSums, count: u64) -> Result<(), AllocError>
+    ensures { OnOk result (Feeds pieces.old pieces.new (zeros count)) }
+{
+    let mut left = count;
+    'runs: while left > 0 {
+        let run = left.min(ZEROS_AT_ONCE);
+        pieces.feed_zeros(run)?;
+        left -= run;
+    }
+    Ok(())
 }
 
 /// Puts the hashes of the pieces of a part of a file of `length` bytes after `hashes`.

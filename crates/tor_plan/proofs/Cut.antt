@@ -1,5 +1,6 @@
 -- Joined entries while they are cut.
-use Rattle.std.proofs.Common.{◌≡◌, inl, inr, ℕ, ◌+◌, ◌-◌, ◌*◌, ◌<◌, ◌≤◌, max, List, [], ◌∷◌, ◌++◌, map, length, get_or, set}
+use Rattle.std.proofs.Common.{◌≡◌, inl, inr, ℕ, ◌+◌, ◌-◌, ◌*◌, ◌<◌, ◌≤◌, max, List, [], ◌∷◌, ◌++◌, map, length, get_or}
+use Rattle.std.proofs.Common.{set}
 use Rattle.std.proofs.Common.{take, arith, refl, ap, ap₂, ◌∙◌, sym}
 use Rattle.std.proofs.lemmas.List.{take-append-drop, set_at, drop_more, drop_all, length-take-le}
 use Rattle.std.proofs.lemmas.List.FromFn.{map-range_with_len_more}
@@ -72,7 +73,8 @@ adds_part old entries at m part cut is some bare new size units zeros parts room
     ap (λ z. record { file = part.file; start = part.start; length = part.length; zeros = z }) bare in
     cut_more old entries (at + part.start) cut part.length
     (part_alone (record { file = part.file; start = part.start; length = part.length; zeros = 0 }))
-    (more_bytes begin (at + part.start) part.length part.start entries part.file at m is.file refl is.within some begins)
+    (more_bytes begin (at + part.start) part.length part.start entries part.file at m is.file refl is.within some
+    begins)
     new size units
     (ap₂ unit_of zeros parts ∙ sym (then_part (begun_unit old) part)
     ∙ ap (λ p. joined (begun_unit old) (part_alone p)) same)

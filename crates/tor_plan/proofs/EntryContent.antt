@@ -20,7 +20,8 @@ abbrev pub between : ℕ → ℕ → ℕ → List ℕ → List ℕ
 between a b at xs = take (b - max a at) (drop (a - at) xs)
 
 module _ (a b at m : ℕ) where
-  between-append : (xs ys : List ℕ) → length xs ≡ m → between a b at (xs ++ ys) ≡ between a b at xs ++ between a b (at + m) ys
+  between-append : (xs ys : List ℕ) → length xs ≡ m
+      → between a b at (xs ++ ys) ≡ between a b at xs ++ between a b (at + m) ys
   between-append xs ys long =
       let s = a - at in
       let n = b - max a at in
@@ -46,7 +47,8 @@ module _ (a b at m : ℕ) where
       ∙ between-shared (zeros m) (length_of_zeros m)
 
 module _ (contents : List (List ℕ)) where
-  zeros_first : (n : ℕ) (unit : PlanUnit) → unit_content contents (after_zeros n unit) ≡ zeros n ++ unit_content contents unit
+  zeros_first : (n : ℕ) (unit : PlanUnit)
+      → unit_content contents (after_zeros n unit) ≡ zeros n ++ unit_content contents unit
   zeros_first n unit =
       ap (λ xs. xs ++ flat_map (part_content contents) unit.parts) (zeros-add n unit.zeros)
       ∙ append_assoc (zeros n) (zeros unit.zeros) (flat_map (part_content contents) unit.parts)
@@ -85,7 +87,8 @@ module _ (contents : List (List ℕ)) where
         → map length (drop place contents) ≡ m ∷ lengths_of_entries entries
         → part ≡ take (shared a b at m) (drop (max a at - at) (get_or contents place []))
         → IsBetween (place + 1) (at + m) entries unit
-        → part ++ unit_content contents unit ≡ between a b at (joined_content (file path m ∷ entries) (drop place contents))
+        → part ++ unit_content contents unit
+        ≡ between a b at (joined_content (file path m ∷ entries) (drop place contents))
     unfolding joined_content
     of_file place at path m entries part unit fit is rest =
         let lengths = lengths_of_entries entries in
@@ -100,10 +103,12 @@ module _ (contents : List (List ℕ)) where
         ∙ sym (ap (λ xs. between a b at (joined_content (file path m ∷ entries) xs)) from.split
         ∙ between-append a b at m from.first (joined_content entries from.later) from.long)
 
-    pub content_within : (place at : ℕ) (entries : List Entry) → IsBetween place at entries (unit_within a b place at entries)
+    pub content_within : (place at : ℕ) (entries : List Entry)
+        → IsBetween place at entries (unit_within a b place at entries)
     content_within = by_entries a b IsBetween none of_padding
         (λ place at path m entries unit some rest fit. part_first place (max a at - at) (shared a b at m) unit
         ∙ of_file place at path m entries _ unit fit refl rest)
         (λ place at path m entries unit few rest fit. of_file place at path m entries [] unit fit
-        (ap (λ n. take n (drop (max a at - at) (get_or contents place []))) (let e : 0 ≡ shared a b at m = omega arith in e))
+        (ap (λ n. take n (drop (max a at - at) (get_or contents place [])))
+        (let e : 0 ≡ shared a b at m = omega arith in e))
         rest)

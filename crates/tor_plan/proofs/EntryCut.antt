@@ -1,5 +1,6 @@
 -- Files of entries cut each by itself, one after another.
-use Rattle.std.proofs.Common.{◌≡◌, ℕ, ◌+◌, ◌<◌, ◌≤◌, true, false, List, [], ◌∷◌, ◌++◌, length, drop, get_or, arith, ap, ap₂}
+use Rattle.std.proofs.Common.{◌≡◌, ℕ, ◌+◌, ◌<◌, ◌≤◌, true, false, List, [], ◌∷◌, ◌++◌, length, drop, get_or, arith, ap}
+use Rattle.std.proofs.Common.{ap₂}
 use Rattle.std.proofs.Common.{◌∙◌, sym, append_assoc, append-nil, zero-add}
 use Rattle.std.proofs.lemmas.Bool.{lt-ltb, le-ltb, cond-true, cond-false}
 use Rattle.std.proofs.lemmas.List.{drop_all, drop_more}
@@ -13,7 +14,8 @@ use Rattle.tor_plan.proofs.Contents.{no_unit_of_file}
 -- what the entries from the i-th on add to units: more padding of the last file, and their own
 abbrev pub added : ℕ → Part → ℕ → List Entry → List PlanUnit
 added size last place rest =
-    units_of_file size last.file last.length (last.zeros + padding_before_next rest) ++ separate_entry_units size place rest
+    units_of_file size last.file last.length (last.zeros + padding_before_next rest)
+    ++ separate_entry_units size place rest
 
 abbrev pub IsCut : ℕ → List Entry → ℕ → List PlanUnit → Part → ℕ → Type 0
 IsCut size entries i units last place =
@@ -52,7 +54,8 @@ module _ (size : ℕ) (pos : 0 < size) (entries : List Entry) (i : ℕ) (entry :
       let all : padding_before_next (entry ∷ rest) ≡ entry.length + before = cond-true _ _ _ pad in
       let same : separate_entry_units size place (entry ∷ rest) ≡ separate_entry_units size place rest =
       cond-true _ _ _ pad in
-      ap₂ (λ f m. units ++ (units_of_file size f m (new.zeros + before) ++ separate_entry_units size place rest)) file long
+      ap₂ (λ f m. units ++ (units_of_file size f m (new.zeros + before) ++ separate_entry_units size place rest))
+      file long
       ∙ ap₂ (λ n us. units ++ (units_of_file size last.file last.length n ++ us))
       (let e : new.zeros + before ≡ last.zeros + padding_before_next (entry ∷ rest) = omega (arith, zeros, all) in e)
       (sym same)
@@ -66,7 +69,8 @@ module _ (size : ℕ) (pos : 0 < size) (entries : List Entry) (i : ℕ) (entry :
       let same : separate_entry_units size place (entry ∷ rest) ≡ separate_entry_units size (place + 1) rest =
       cond-false _ _ _ pad ∙ ap (λ us. us ++ separate_entry_units size (place + 1) rest)
       (no_unit_of_file size place entry.length (padding_before_next rest) pos (omega (arith, none))) in
-      ap₂ (λ n us. units ++ (units_of_file size last.file last.length (last.zeros + n) ++ us)) (sym all) (sym same) ∙ here
+      ap₂ (λ n us. units ++ (units_of_file size last.file last.length (last.zeros + n) ++ us)) (sym all) (sym same)
+      ∙ here
 
   pub cut_some : (after : List PlanUnit) (new : Part) → entry.pad ≡ false → 0 < entry.length
       → after ≡ units ++ units_of_file size last.file last.length last.zeros

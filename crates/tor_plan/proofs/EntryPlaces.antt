@@ -18,7 +18,8 @@ module _ (entries : List Entry) (i : ℕ) (entry : Entry) (lt : i < length entri
     abbrev before : List Entry
     before = take i entries
 
-    at_place : (place : ℕ) → place ≡ length (file_entries before) → IsEntryAt entries entry place (entries_length before)
+    at_place : (place : ℕ) → place ≡ length (file_entries before)
+        → IsEntryAt entries entry place (entries_length before)
     at_place place counted = record {
       before = before;
       later = drop (i + 1) entries;
@@ -44,7 +45,8 @@ module _ (entries : List Entry) (i : ℕ) (entry : Entry) (lt : i < length entri
 
     pub padding_there : entry.pad ≡ true
         → IsPaddingAt entries (length (file_entries before)) (entries_length before) entry.length
-    padding_there pad = record { entry = entry; is = at_place (length (file_entries before)) refl; pad = pad; long = refl }
+    padding_there pad =
+        record { entry = entry; is = at_place (length (file_entries before)) refl; pad = pad; long = refl }
 
     pub file_there : (place : ℕ) → place ≡ length (file_entries before) → entry.pad ≡ false
         → IsFileAt entries place (entries_length before) entry.length

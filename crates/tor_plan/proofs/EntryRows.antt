@@ -56,7 +56,8 @@ file_over_units = refl
 -- ---- each file by itself
 
 with_padding : entry_units Hybrid 4 2 (file 0 ∷ file 9 ∷ file 0 ∷ pad 1 ∷ pad 2 ∷ file 0 ∷ file 4 ∷ file 3 ∷ pad 1 ∷ [])
-    ≡ unit 0 (part 1 0 8 0 ∷ []) ∷ unit 0 (part 1 8 1 3 ∷ []) ∷ unit 0 (part 4 0 4 0 ∷ []) ∷ unit 0 (part 5 0 3 1 ∷ []) ∷ []
+    ≡ unit 0 (part 1 0 8 0 ∷ []) ∷ unit 0 (part 1 8 1 3 ∷ []) ∷ unit 0 (part 4 0 4 0 ∷ [])
+    ∷ unit 0 (part 5 0 3 1 ∷ []) ∷ []
 unfolding separate_entry_units padding_before_next
 with_padding = refl
 

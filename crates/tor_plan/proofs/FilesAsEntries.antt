@@ -11,7 +11,8 @@ use Rattle.tor_tree.specs.FileList.{lengths_of}
 use Rattle.tor_tree.specs.declared.kinds.Kind.{Kind}
 use Rattle.tor_tree.specs.declared.kinds.Kind.TheVariants.{V1, V2, Hybrid}
 use Rattle.tor_v1.specs.Content.{file_entries}
-use Rattle.tor_v1.specs.Entries.{file_entry, pad_entry, padding_after, padding_length, has_bytes, aligned_entries, v1_entries}
+use Rattle.tor_v1.specs.Entries.{file_entry, pad_entry, padding_after, padding_length, has_bytes, aligned_entries}
+use Rattle.tor_v1.specs.Entries.{v1_entries}
 use Rattle.tor_v1.specs.declared.entry.Entry.{Entry}
 use Rattle.tor_v1.specs.declared.layout.Layout.{Layout}
 use Rattle.tor_v1.proofs.ProvedLaws.{facts-v1_entries}

@@ -1,5 +1,6 @@
 -- The entries of a list of files have their padding in its places.
-use Rattle.std.proofs.Common.{◌≡◌, ℕ, Bool, true, false, ltb, ◌&&◌, List, [], ◌∷◌, ◌++◌, map, sum_by, refl, ap, ◌∙◌, sym}
+use Rattle.std.proofs.Common.{◌≡◌, ℕ, Bool, true, false, ltb, ◌&&◌, List, [], ◌∷◌, ◌++◌, map, sum_by, refl, ap, ◌∙◌}
+use Rattle.std.proofs.Common.{sym}
 use Rattle.std.proofs.Common.{inl, inr}
 use Rattle.std.proofs.lemmas.Bool.{cases_Bool, and_right, or_parts, or_from}
 use Rattle.std.specs.List.{list_any}

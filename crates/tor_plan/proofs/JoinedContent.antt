@@ -1,5 +1,6 @@
 -- The content of joined entries that are cut, and the sums of its pieces.
-use Rattle.std.proofs.Common.{◌≡◌, ℕ, ◌+◌, ◌-◌, ◌*◌, ◌<◌, Bool, true, false, cond, leb, max, List, [], ◌++◌, length, map}
+use Rattle.std.proofs.Common.{◌≡◌, ℕ, ◌+◌, ◌-◌, ◌*◌, ◌<◌, Bool, true, false, cond, leb, max, List, [], ◌++◌, length}
+use Rattle.std.proofs.Common.{map}
 use Rattle.std.proofs.Common.{take, drop, arith, ap, ap₂, ◌∙◌, sym, append-nil, inl, inr}
 use Rattle.std.proofs.lemmas.Bool.{cases_lt}
 use Rattle.std.proofs.lemmas.List.{nil_from_length}
@@ -58,7 +59,8 @@ joined_sums contents p span entries some pos fit =
     let size = span * p in
     let whole = joined_content entries contents in
     let unit = joined_entry_unit size entries in
-    ap (λ n. flat_map (λ unit. piece_sums p (unit_content contents unit)) (map unit (range_with_len 0 (div_ceil n size))))
+    ap (λ n. flat_map (λ unit. piece_sums p (unit_content contents unit))
+    (map unit (range_with_len 0 (div_ceil n size))))
     (total contents size entries pos fit)
     ∙ elim (cases_lt 0 (length whole)) [
       | inl there ↦ sums_of_runs (unit_content contents) unit p span whole [] some pos

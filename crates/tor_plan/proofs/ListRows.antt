@@ -40,5 +40,8 @@ unfolding IsLaidOut ArePadded padding_before_next
 hybrid_row a b c = record {
   total = omega arith;
   files = three_small 40000 0 5 (omega arith) (omega arith) (omega arith);
-  laid_out = (refl, ((λ filled. inl refl), ((λ filled. cc), ((λ filled. cc), ((λ filled. inl refl), ((λ filled. cc), tt))))));
+  laid_out = (
+    refl,
+    ((λ filled. inl refl), ((λ filled. cc), ((λ filled. cc), ((λ filled. inl refl), ((λ filled. cc), tt))))),
+  );
 }

@@ -79,7 +79,8 @@ split_range a b c place at (entry ∷ entries) le more = entry_cases
           ap (λ xs. (one ++ xs) ++ (other ++ others)) none
           ∙ ap (λ xs. xs ++ (other ++ others)) (append-nil one) ∙ sym (append_assoc one other others)
           ∙ ap₂ (λ xs ys. xs ++ ys)
-          (places-add place (max a at - at) (shared a b at m) (shared b c at m) (max b at - at) (omega (arith, le, beyond))
+          (places-add place (max a at - at) (shared a b at m) (shared b c at m) (max b at - at)
+          (omega (arith, le, beyond))
           ∙ ap (places place (max a at - at))
           (let e : shared a b at m + shared b c at m ≡ shared a c at m = omega (arith, le, more, beyond) in e))
           (sym (ap (λ xs. xs ++ others) none) ∙ rest)
@@ -135,7 +136,8 @@ joined_places size entries pos =
 -- ---- files cut each by itself
 
 units_before : (size place m tail n : ℕ)
-    → flat_map places_of_unit (map (file_unit size place m tail) (range_with_len 0 n)) ≡ places place 0 (min m (n * size))
+    → flat_map places_of_unit (map (file_unit size place m tail) (range_with_len 0 n))
+    ≡ places place 0 (min m (n * size))
 units_before size place m tail zero = sym (no_places place 0 (min m (0 * size)) (omega arith))
 units_before size place m tail (suc n) =
     let unit = file_unit size place m tail in

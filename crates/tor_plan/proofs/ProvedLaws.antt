@@ -18,8 +18,8 @@ use Rattle.tor_plan.specs.WithinEntries.{IsUnitWithin, unit_length}
 use Rattle.tor_plan.specs.WithinFiles.{bytes_of, IsFileUnit, IsUnitOf}
 use Rattle.tor_plan.specs.declared.units.PlanUnit.{PlanUnit}
 use Rattle.tor_plan.proofs.Empty.{zeros-nil}
-use Rattle.tor_plan.proofs.FilesAsEntries.{entry_units_of_files, lengths_of_files}
-use Rattle.tor_plan.proofs.FilesLaidOut.{files_laid_out}
+pub use Rattle.tor_plan.proofs.FilesAsEntries.{entry_units_of_files, lengths_of_files}
+pub use Rattle.tor_plan.proofs.FilesLaidOut.{files_laid_out}
 use Rattle.tor_plan.proofs.JoinedContent.{joined_bytes, joined_sums}
 use Rattle.tor_plan.proofs.Places.{places_of_entry_units}
 use Rattle.tor_plan.proofs.SeparateContent.{separate_content, separate_sums}
@@ -56,7 +56,8 @@ entry_units_are_the_content Hybrid piece_length span entries contents pos laid f
 
 pub entry_units_name_each_byte : (kind : Kind) (piece_length span : ℕ) (entries : List Entry)
     → 0 < span * piece_length
-    → flat_map places_of_unit (entry_units kind piece_length span entries) ≡ places_of_files 0 (lengths_of_entries entries)
+    → flat_map places_of_unit (entry_units kind piece_length span entries)
+    ≡ places_of_files 0 (lengths_of_entries entries)
 entry_units_name_each_byte kind piece_length span entries pos = places_of_entry_units kind piece_length span entries pos
 
 pub entry_units_are_within_files : (kind : Kind) (piece_length span : ℕ) (entries : List Entry) → 0 < span
@@ -87,7 +88,8 @@ separate_entry_units_are_whole Hybrid piece_length span entries not_v1 pos =
 pub pieces_are_in_entry_units : (kind : Kind) (piece_length span : ℕ) (entries : List Entry)
     (contents : List (List ℕ)) → kind ≢ V2 → 0 < piece_length → 0 < span * piece_length
     → IsLaidOut kind piece_length entries → AreContentsOf entries contents
-    → flat_map (λ unit. piece_sums piece_length (unit_content contents unit)) (entry_units kind piece_length span entries)
+    → flat_map (λ unit. piece_sums piece_length (unit_content contents unit))
+    (entry_units kind piece_length span entries)
     ≡ piece_sums piece_length (joined_content entries contents)
 unfolding IsLaidOut
 pieces_are_in_entry_units V1 piece_length span entries contents not_v2 some pos laid fit =
@@ -139,7 +141,8 @@ separate_units_are_whole kind piece_length span files not_v1 pos =
     let entries = v1_entries (layout_of kind) piece_length files in
     subst (λ (units : List PlanUnit). All (IsFileUnit (lengths_of files) (span * piece_length)) units)
     (sym (entry_units_of_files kind piece_length span files))
-    (subst (λ (lengths : List ℕ). All (IsFileUnit lengths (span * piece_length)) (entry_units kind piece_length span entries))
+    (subst (λ (lengths : List ℕ). All (IsFileUnit lengths (span * piece_length))
+    (entry_units kind piece_length span entries))
     (lengths_of_files (layout_of kind) piece_length files)
     (separate_entry_units_are_whole kind piece_length span entries not_v1 pos))
 
@@ -151,5 +154,5 @@ pub pieces_are_in_units : (kind : Kind) (piece_length span : ℕ) (files : List 
 pieces_are_in_units kind piece_length span files contents not_v2 some pos fit =
     ap (flat_map (λ unit. piece_sums piece_length (unit_content contents unit)))
     (entry_units_of_files kind piece_length span files)
-    ∙ pieces_are_in_entry_units kind piece_length span (v1_entries (layout_of kind) piece_length files) contents not_v2 some
-    pos (files_laid_out kind piece_length files) (contents_fit kind piece_length files contents fit)
+    ∙ pieces_are_in_entry_units kind piece_length span (v1_entries (layout_of kind) piece_length files) contents not_v2
+    some pos (files_laid_out kind piece_length files) (contents_fit kind piece_length files contents fit)

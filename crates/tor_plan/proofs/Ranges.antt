@@ -1,5 +1,6 @@
 -- How many runs of p there are in n, the last perhaps shorter.
-use Rattle.std.proofs.Common.{◌≡◌, ℕ, ◌+◌, ◌*◌, ◌<◌, ◌≤◌, List, [], ◌∷◌, map, arith, refl, ap₂, ap, lt_of_mul-lt-mul_right}
+use Rattle.std.proofs.Common.{◌≡◌, ℕ, ◌+◌, ◌*◌, ◌<◌, ◌≤◌, List, [], ◌∷◌, map, arith, refl, ap₂, ap}
+use Rattle.std.proofs.Common.{lt_of_mul-lt-mul_right}
 use Rattle.std.proofs.lemmas.Grind.{div_ceil_times}
 use Rattle.std.specs.Int.{div_ceil}
 use Rattle.std.specs.List.{flat_map, range_with_len}

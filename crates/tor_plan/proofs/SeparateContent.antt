@@ -147,12 +147,15 @@ module _ (contents : List (List ℕ)) (p span : ℕ) (some_piece : 0 < p) (pos :
         | inl full ↦
             let count = whole_with_padding p m some_piece in
             sym (sums_of_joined p count.0 whole (cut (place + 1) entries) some_piece
-            (length-append from.first (zeros tail) ∙ ap₂ (λ a b. a + b) from.long (length_of_zeros tail ∙ full) ∙ count.1))
+            (length-append from.first (zeros tail) ∙ ap₂ (λ a b. a + b) from.long (length_of_zeros tail ∙ full)
+            ∙ count.1))
         | inr last ↦
             let empty : cut (place + 1) entries ≡ [] =
             ap (flat_map (unit_content contents)) (no_units contents size pos (place + 1) entries last.0) in
-            ap (λ xs. piece_sums p whole ++ piece_sums p xs) empty ∙ ap (λ xs. piece_sums p whole ++ xs) (sums_nil p some_piece)
-            ∙ append-nil (piece_sums p whole) ∙ ap (piece_sums p) (sym (ap (λ xs. whole ++ xs) empty ∙ append-nil whole))
+            ap (λ xs. piece_sums p whole ++ piece_sums p xs) empty
+            ∙ ap (λ xs. piece_sums p whole ++ xs) (sums_nil p some_piece)
+            ∙ append-nil (piece_sums p whole)
+            ∙ ap (piece_sums p) (sym (ap (λ xs. whole ++ xs) empty ∙ append-nil whole))
       ]
 
   pub separate_sums : (place : ℕ) (entries : List Entry) → map length (drop place contents) ≡ lengths_of_entries entries

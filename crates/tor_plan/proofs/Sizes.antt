@@ -1,5 +1,6 @@
 -- How many bytes the entries of files have, and how many units.
-use Rattle.std.proofs.Common.{◌≡◌, ℕ, zero, suc, ◌+◌, ◌-◌, ◌*◌, ◌%◌, ◌/◌, ◌^◌, ◌<◌, ◌≤◌, Bool, true, false, ltb, List, []}
+use Rattle.std.proofs.Common.{◌≡◌, ℕ, zero, suc, ◌+◌, ◌-◌, ◌*◌, ◌%◌, ◌/◌, ◌^◌, ◌<◌, ◌≤◌, Bool, true, false, ltb, List}
+use Rattle.std.proofs.Common.{[]}
 use Rattle.std.proofs.Common.{◌∷◌, Option, Some, None, IsTrue, cond, sum, sum_by, arith, refl, ap, ◌∙◌, sym, subst}
 use Rattle.std.proofs.Common.{◌⊎◌, inl, inr, mul-le-mul_right, lt_of_mul-lt-mul_right, pow-suc}
 use Rattle.std.proofs.lemmas.Bool.{ltb-false, or_parts, eqb-true, cases_eq, cases_lt}

@@ -14,7 +14,8 @@ abbrev entry_length : Entry → ℕ
 entry_length entry = entry.length
 
 -- a range that has no byte, or ends before the entries
-pub within_none : (a b place at : ℕ) (entries : List Entry) → b ≤ max a at → unit_within a b place at entries ≡ empty_unit
+pub within_none : (a b place at : ℕ) (entries : List Entry) → b ≤ max a at
+    → unit_within a b place at entries ≡ empty_unit
 within_none a b = by_entries a b (λ place at entries unit. b ≤ max a at → unit ≡ empty_unit) (λ place at le. refl)
     (λ place at path m entries unit rest le.
     ap (after_zeros (shared a b at m)) (rest (omega (arith, le)))
@@ -64,7 +65,8 @@ within_all a x y entries past le =
 -- n bytes more than of the entries before this one and what the range has of it
 module _ (a x n : ℕ) (entries : List Entry) (entry : Entry) (place at : ℕ) (is : IsEntryAt entries entry place at)
     (from : at ≤ x) (v : PlanUnit)
-    (more : unit_within a (x + n) place at (entry ∷ is.later) ≡ joined (unit_within a x place at (entry ∷ is.later)) v) where
+    (more : unit_within a (x + n) place at (entry ∷ is.later)
+    ≡ joined (unit_within a x place at (entry ∷ is.later)) v) where
   extended_at : unit_within a (x + n) 0 0 entries ≡ joined (unit_within a x 0 0 entries) v
   extended_at =
       ap (unit_within a (x + n) 0 0) is.split
@@ -89,7 +91,8 @@ more_zeros a x n entries place at m pad begun from within =
     ∙ sym (ap (λ u. joined (after_zeros (shared a x at m) u) (zeros_alone n))
     (within_none a x place (at + m) later (omega (arith, within))))))
 
-pub more_bytes : (a x n start : ℕ) (entries : List Entry) (place at m : ℕ) → IsFileAt entries place at m → x ≡ at + start
+pub more_bytes : (a x n start : ℕ) (entries : List Entry) (place at m : ℕ) → IsFileAt entries place at m
+    → x ≡ at + start
     → start + n ≤ m → 0 < n → max a at ≡ x → unit_within a (x + n) 0 0 entries
     ≡ joined (unit_within a x 0 0 entries)
     (part_alone (record { file = place; start = start; length = n; zeros = 0 }))

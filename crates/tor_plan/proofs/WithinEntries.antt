@@ -1,5 +1,6 @@
 -- The parts of units are in the files of entries, and units are not too long.
-use Rattle.std.proofs.Common.{◌≡◌, ◌≢◌, ◌⊎◌, ℕ, ◌+◌, ◌-◌, ◌*◌, ◌<◌, ◌≤◌, false, cond, leb, min, max, List, [], ◌∷◌, length}
+use Rattle.std.proofs.Common.{◌≡◌, ◌≢◌, ◌⊎◌, ℕ, ◌+◌, ◌-◌, ◌*◌, ◌<◌, ◌≤◌, false, cond, leb, min, max, List, [], ◌∷◌}
+use Rattle.std.proofs.Common.{length}
 use Rattle.std.proofs.Common.{get_or, drop, arith, refl, ap, ◌∙◌, inl, inr, zero-add, mul-le-mul_right}
 use Rattle.std.proofs.Common.{lt_of_mul-lt-mul_right}
 use Rattle.std.proofs.lemmas.Bool.{le-leb, lt-leb, cond-true, cond-false, cases_lt, lt-ltb, or_parts, true≢false}
@@ -38,7 +39,8 @@ module _ (a b : ℕ) where
   HasLength place at entries unit = unit_length unit ≡ min b (at + entries_length entries) - max a at
 
   -- how many bytes a range meets
-  pub length_within : (place at : ℕ) (entries : List Entry) → HasLength place at entries (unit_within a b place at entries)
+  pub length_within : (place at : ℕ) (entries : List Entry)
+      → HasLength place at entries (unit_within a b place at entries)
   length_within = by_entries a b HasLength (λ place at. omega arith)
       (λ place at path m entries unit rest. omega (arith, rest, sum_by-cons entry_length (padding path m) entries))
       (λ place at path m entries unit some rest.
@@ -181,7 +183,8 @@ module _ (p span : ℕ) (some : 0 < p) (pos : 0 < span * p) where
       each_separate lengths size pos (IsUnitWithin lengths size) (λ es. has_padding es ≡ false)
       (λ entry es none. (or_parts entry.pad (has_padding es) none).1)
       (λ place path m es k none from begins.
-      unit_of_file lengths place m (padding_before_next es) k (lengths_of_entries es) from (inl (unpadded es none)) begins)
+      unit_of_file lengths place m (padding_before_next es) k (lengths_of_entries es) from
+      (inl (unpadded es none)) begins)
       0 entries refl laid
   separate_within Hybrid entries not_v1 laid =
       let lengths = lengths_of_entries entries in

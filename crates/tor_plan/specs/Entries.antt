@@ -1,5 +1,5 @@
--- How the entries of a torrent, files and padding (BEP 47, "padding files"), are cut into units of work. A file is named
--- by its place among the entries that are no padding.
+-- How the entries of a torrent, files and padding (BEP 47, "padding files"), are cut into units of work. A file is
+-- named by its place among the entries that are no padding.
 use Rattle.std.specs.Prelude.{ℕ, ◌+◌, ◌-◌, ◌*◌, min, max, nat_lt, List, [], ◌∷◌, ◌++◌, map, sum_by}
 use Rattle.std.specs.Prelude.{if◌then◌else◌}
 use Rattle.std.specs.Int.{div_ceil}
@@ -44,7 +44,8 @@ shared a b at m = min b (at + m) - max a at
 unfoldable pub unit_within : ℕ → ℕ → ℕ → ℕ → List Entry → PlanUnit
 unit_within a b place at [] = empty_unit
 unit_within a b place at (entry ∷ entries) =
-    if entry.pad then after_zeros (shared a b at entry.length) (unit_within a b place (at + entry.length) entries) else (
+    if entry.pad then after_zeros (shared a b at entry.length) (unit_within a b place (at + entry.length) entries)
+    else (
     if nat_lt 0 (shared a b at entry.length) then
     after_part place (max a at - at) (shared a b at entry.length)
     (unit_within a b (place + 1) (at + entry.length) entries)

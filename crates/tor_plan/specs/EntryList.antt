@@ -15,8 +15,8 @@ is_filled entry = not entry.pad && nat_lt 0 entry.length
 abbrev pub has_padding : List Entry → Bool
 has_padding entries = list_any (λ entry. entry.pad) entries
 
--- between a file of m bytes, which these entries follow, and the next that is not empty there is just what it lacks to a
--- whole piece; where no such file follows there may be none
+-- between a file of m bytes, which these entries follow, and the next that is not empty there is just what it lacks
+-- to a whole piece; where no such file follows there may be none
 abbrev pub IsPaddedTo : ℕ → ℕ → List Entry → Type 0
 IsPaddedTo piece_length m later =
     (padding_before_next later ≡ padding_length piece_length m)
@@ -28,8 +28,8 @@ ArePadded piece_length [] = Unit {0}
 ArePadded piece_length (entry ∷ later) =
     (is_filled entry ≡ true → IsPaddedTo piece_length entry.length later) × ArePadded piece_length later
 
--- where padding may stand: with trees alone nowhere; in a hybrid torrent so that each file that is not empty begins at a
--- piece
+-- where padding may stand: with trees alone nowhere; in a hybrid torrent so that each file that is not empty begins
+-- at a piece
 unfoldable pub IsLaidOut : Kind → ℕ → List Entry → Type 0
 IsLaidOut V1 piece_length entries = Unit {0}
 IsLaidOut V2 piece_length entries = has_padding entries ≡ false

@@ -112,9 +112,9 @@ impl JoinedCut {
     {
         let mut start = 0;
         'zeros: while start < length {
-            let within = self.room(alloc)?.min(length - start);
-            self.add_zeros(within);
-            start += within;
+            let count = self.room(alloc)?.min(length - start);
+            self.add_zeros(count);
+            start += count;
         }
         Ok(())
     }

@@ -3,8 +3,8 @@
 //! A unit is so many pieces: of one file where the torrent has trees (BEP 52, "pieces root"), else of the joined files
 //! (BEP 3, "info dictionary"). Units are numbered in the order of the list.
 //!
-//! - [`Plan`] (`plans.rt`): the units of a list of files. `separate.rt` cuts each file by itself, `joined.rt` the
-//!   joined files.
+//! - [`Plan`] (`plans.rt`): the units of a list of files, or of the entries of a torrent, padding among them.
+//!   `separate.rt` cuts each file by itself, `joined.rt` the joined files.
 //! - [`PlanUnit`], [`Parts`], [`Part`] (`units.rt`): which bytes a unit has.
 //! - [`Forest`], [`Run`] (`forests.rt`): which units are of one file's tree.
 //! - [`laws`]: what follows from the definitions alone.
@@ -26,6 +26,8 @@ mod plans;
 mod separate;
 #[cfg(test)]
 mod tests;
+#[cfg(test)]
+mod tests_entries;
 mod units;
 
 pub use forests::{Forest, Run};

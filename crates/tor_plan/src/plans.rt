@@ -94,19 +94,19 @@ impl Plan {
         ensures { IfOk result (λ plan. plan ≡ plan_of_entries kind piece_length span entries.now) }
     {
         let size = u64::from(span) * piece_length;
-        let lengths = lengths_of_entries(alloc, entries)?;
+        let file_lengths = lengths_of_entries(alloc, entries)?;
         let (units, trees) = match kind {
             Kind::V1 => (cut_joined_entries(alloc, entries, size)?, Vec::new(alloc)),
             Kind::V2 | Kind::Hybrid => (
                 cut_each_entry(alloc, entries, size)?,
-                trees_of(alloc, &lengths, size)?,
+                trees_of(alloc, &file_lengths, size)?,
             ),
         };
         Ok(Plan {
             kind,
             piece_length,
             units,
-            lengths,
+            lengths: file_lengths,
             forest: Forest { trees },
         })
     }

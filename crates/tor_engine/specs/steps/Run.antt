@@ -1,16 +1,16 @@
 -- What a run of units sums up to. Only private clauses cite these.
-use Rattle.std.specs.Prelude.{◌≡◌, ℕ, ◌≤◌, List, [], ◌∷◌, ◌++◌, All, length, map, Option, None, Result, MatchResult}
+use Rattle.std.specs.Prelude.{◌≡◌, ℕ, ◌^◌, ◌≤◌, List, [], ◌∷◌, ◌++◌, All, length, map, Option, None, Result, MatchResult}
 use Rattle.std.specs.Prelude.{IfErr, IfOk, if◌then◌else◌}
 use Rattle.std.specs.List.{flat_map}
 use Rattle.tor_plan.specs.Content.{unit_content}
 use Rattle.tor_plan.specs.PlanFacts.{PlanFacts}
-use Rattle.tor_plan.specs.WithinFiles.{IsPartOf}
+use Rattle.tor_plan.specs.WithinEntries.{IsInFile, unit_length}
 use Rattle.tor_plan.specs.declared.units.Part.{Part}
 use Rattle.tor_plan.specs.declared.units.PlanUnit.{PlanUnit}
 use Rattle.tor_source.specs.Source.{SourceFacts}
 use Rattle.tor_tree.specs.Kinds.{has_v1, has_v2}
 use Rattle.tor_tree.specs.declared.kinds.Kind.{Kind}
-use Rattle.tor_v1.specs.Piece.{max_piece_length, piece_sums}
+use Rattle.tor_v1.specs.Piece.{piece_sums}
 use Rattle.tor_engine.specs.Fault.{IsFault, IsGiven, units_fault}
 use Rattle.tor_engine.specs.declared.errors.EngineError.{EngineError}
 use Rattle.tor_engine.specs.declared.run.RunSums.{RunSums}
@@ -59,10 +59,10 @@ pub record HashesUnits {F : Type 0} (is_steady : SourceFacts F → Type 0) (plan
   pub sums : (contents : List (List ℕ)) → map length contents ≡ plan.lengths → HaveRead contents reads
       → AreRunSums plan contents units run
 
--- the parts of a unit are in the files of the plan, and the zeros before it are no more than a piece
+-- the parts of a unit are in the files of the plan, and it has no more bytes than 1,024 of the longest pieces
 pub record IsUnitOf (plan : PlanFacts) (unit : PlanUnit) : Type 0 where
-  pub zeros : unit.zeros ≤ max_piece_length
-  pub parts : All (IsPartOf plan.lengths plan.piece_length) unit.parts
+  pub within : unit_length unit ≤ 2 ^ 40
+  pub parts : All (IsInFile plan.lengths) unit.parts
 
 abbrev pub AreUnitsOf : PlanFacts → List PlanUnit → Type 0
 AreUnitsOf plan units = All (IsUnitOf plan) units

@@ -33,7 +33,7 @@ pub returns-clause-whole : goal.returns-clause-whole
 returns-clause-whole g c =
     let plan = c.args.plan.now in
     let summed = c.in-Ok.ensures.answered.summed in
-    let there = contents_there (g.S.Source.is_steady c.args.source.now) plan summed.reads
-    c.units_are_within_files.ensures c.hash_units.ensures.planned summed.are in
+    let there = contents_there (g.S.Source.is_steady c.args.source.now) plan summed.reads c.hash_units.ensures.planned
+    summed.are in
     let hashed = summed.sums there.0 there.1 there.2 in
     (there.0, there.1, c.in_ok-sums.ensures there.0 there.1 hashed.hashes hashed.pieces)

@@ -8,9 +8,9 @@ use Rattle.tor_engine.proofs.engine.hash_units.Goals as goal
 pub hash_in_turn-requires-clause-units : goal.hash_in_turn-requires-clause-units
 hash_in_turn-requires-clause-units g c = λ κs lives.
     subst (λ (units : List PlanUnit). AreUnitsOf c.args.plan.now units) (sym c.units-units.ensures.value)
-    (units_of_plan c.units_are_within_files.ensures c.args.plan.now c.units-units.ensures.planned)
+    (units_of_plan c.args.plan.now c.units-units.ensures.planned)
 
 pub hash_by_halves-requires-clause-units : goal.hash_by_halves-requires-clause-units
 hash_by_halves-requires-clause-units g c = λ κs lives.
     subst (λ (units : List PlanUnit). AreUnitsOf c.args.plan.now units) (sym c.units-units.ensures.value)
-    (units_of_plan c.units_are_within_files.ensures c.args.plan.now c.units-units.ensures.planned)
+    (units_of_plan c.args.plan.now c.units-units.ensures.planned)

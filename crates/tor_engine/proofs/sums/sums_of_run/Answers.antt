@@ -28,8 +28,7 @@ returns c contents fit hashes pieces =
     let units = flat_map (hashes_of_unit p contents) plan.units in
     let roots_if = λ (b : Bool). map (λ content. cond b (root_of content) None) contents in
     let layers_if = λ (b : Bool). map (λ content. cond b (piece_layer content p) []) contents in
-    let all_pieces = pieces ∙ where_true _ _ _ _ (λ b. unit_pieces_of_files c.units_are_the_content.ensures
-    c.pieces_are_in_units.ensures plan contents c.requires b fit) in
+    let all_pieces = pieces ∙ where_true _ _ _ _ (λ b. unit_pieces_of_files plan contents c.requires b fit) in
     elim c.if-has_v2.branch [
       | then-has_v2+in_ok-trees_of_files w ↦
           let trees : has_v2 plan.kind ≡ true = cc in

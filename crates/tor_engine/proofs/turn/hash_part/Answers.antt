@@ -39,7 +39,7 @@ returns-clause-added g c =
           ∙ ap (λ xs. unit ++ (xs ++ zeros part.zeros)) (sym own) in (
             subst (λ (xs : List ℕ). HasTaken plan.kind p [] xs c.feed_zeros.new.self) all zeroed,
             c.in_ok-end_part.ensures.hashed plan.kind p bytes (unit ++ bytes) (fed.taken plan.kind p [] unit given)
-                (some_bytes plan.lengths p part bytes c.requires.part fed.counted)
+                (some_bytes plan.lengths part bytes c.requires.part fed.counted)
                 ∙ ap (λ lengths. hashes ++ cond b (hashes_of_bytes p (get_or lengths part.file 0) bytes) [])
                 c.lengths.ensures
                 ∙ ap (λ n. hashes ++ cond b (hashes_of_bytes p n bytes) [])

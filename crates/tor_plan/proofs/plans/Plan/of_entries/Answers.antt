@@ -15,7 +15,8 @@ trees_of-requires c =
     ] in
     let whole : 16384 ≤ size =
     whole_blocks c.from.result c.args.piece_length (omega (arith, c.from.ensures, c.requires.span)) least in
-    let lengths : c.deref.result.now ≡ lengths_of_entries entries = c.deref.ensures.value ∙ c.in_ok-lengths.ensures in
+    let lengths : c.deref.result.now ≡ lengths_of_entries entries = c.deref.ensures.value
+    ∙ c.in_ok-file_lengths.ensures in
     record {
       whole = whole;
       few = subst (λ (xs : List ℕ). sum_by (λ m. div_ceil m size) xs < 2 ^ 64) (sym lengths)

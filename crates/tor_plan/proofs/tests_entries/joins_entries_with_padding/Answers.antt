@@ -3,7 +3,7 @@ use Rattle.std.proofs.Common.{◌∙◌, arith, refl, subst, sym}
 use Rattle.tor_tree.specs.declared.kinds.Kind.TheVariants.{V1}
 use Rattle.tor_plan.specs.EntryList.{IsEntryList}
 use Rattle.tor_plan.proofs.ListRows.{file_is, five, joined_row}
-use Rattle.tor_plan.proofs.tests.joins_entries_with_padding.Goals as goal
+use Rattle.tor_plan.proofs.tests_entries.joins_entries_with_padding.Goals as goal
 use lib.Count.{ones}
 
 pub of_entries-requires-clause-span : goal.of_entries-requires-clause-span

@@ -3,7 +3,7 @@ use Rattle.std.proofs.Common.{◌∙◌, arith, refl, subst, sym}
 use Rattle.tor_tree.specs.declared.kinds.Kind.TheVariants.{Hybrid}
 use Rattle.tor_plan.specs.EntryList.{IsEntryList}
 use Rattle.tor_plan.proofs.ListRows.{file_is, five, hybrid_row}
-use Rattle.tor_plan.proofs.tests.cuts_hybrid_entries_with_padding_at_the_end.Goals as goal
+use Rattle.tor_plan.proofs.tests_entries.cuts_hybrid_entries_with_padding_at_the_end.Goals as goal
 use lib.Count.{ones}
 
 pub of_entries-requires-clause-pieces : goal.of_entries-requires-clause-pieces
