@@ -61,7 +61,8 @@ unit_hashes_of_files roots plan contents is trees fit =
     (fit ∙ ap (λ facts. facts.lengths) is.made)
 
 -- the SHA-1 of the pieces of the units are those of what the units have together
-pub unit_pieces_of_files : (plan : PlanFacts) (contents : List (List ℕ)) → IsPlan plan → has_v1 plan.kind ≡ true → map length contents ≡ plan.lengths
+pub unit_pieces_of_files : (plan : PlanFacts) (contents : List (List ℕ)) → IsPlan plan → has_v1 plan.kind ≡ true
+    → map length contents ≡ plan.lengths
     → flat_map (λ unit. piece_sums plan.piece_length (unit_content contents unit)) plan.units
     ≡ piece_sums plan.piece_length (flat_map (unit_content contents) plan.units)
 unit_pieces_of_files plan contents is pieces fit =

@@ -164,7 +164,8 @@ contents_there is_steady plan reads is are =
     let all : read_places reads ≡ places_of_files 0 plan.lengths =
     sym (flat_map-map places_of_part (λ (read : PartRead). read.0) reads)
     ∙ ap (flat_map places_of_part) are.each ∙ sym (flat_parts plan.units)
-    ∙ ap (λ facts. flat_map places_of_unit facts.units) is.made ∙ entry_units_name_each_byte plan.kind p is.span is.entries pos
+    ∙ ap (λ facts. flat_map places_of_unit facts.units) is.made
+    ∙ entry_units_name_each_byte plan.kind p is.span is.entries pos
     ∙ ap (λ facts. places_of_files 0 facts.lengths) (sym is.made) in
     let long = as_many reads are.whole ∙ ap length all ∙ length_of_places 0 plan.lengths in
     let contents = cut plan.lengths bytes in

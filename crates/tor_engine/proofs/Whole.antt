@@ -1,6 +1,6 @@
 -- All units of a plan, of files that have its lengths.
-use Rattle.std.proofs.Common.{◌≡◌, ◌<◌, ◌≤◌, ◌*◌, ◌^◌, ◌+◌, ℕ, List, [], ◌∷◌, length, map, All, Option, None, Some, option_map}
-use Rattle.std.proofs.Common.{unwrap_or, mul-le-mul_right, cond, inl, inr, refl, ap, ap₂, sym, subst, ◌∙◌, arith}
+use Rattle.std.proofs.Common.{◌≡◌, ◌<◌, ◌≤◌, ◌*◌, ◌^◌, ◌+◌, ℕ, List, [], ◌∷◌, length, map, All, Option, None, Some}
+use Rattle.std.proofs.Common.{option_map, unwrap_or, mul-le-mul_right, cond, inl, inr, refl, ap, ap₂, sym, subst, ◌∙◌, arith}
 use Rattle.std.proofs.lemmas.Bool.{cases_eq, eq-eqb, ne_eqb}
 use Rattle.std.proofs.lemmas.List.{length-map}
 use Rattle.std.proofs.lemmas.List.FromFn.{length-map-range_with_len}
@@ -25,8 +25,11 @@ piece_is_small Hybrid p pieces = pieces.2
 
 small_unit : (plan : PlanFacts) (is : IsPlan plan) → is.span * plan.piece_length ≤ 2 ^ 40
 small_unit plan is =
-    omega (arith, mul-le-mul_right {m = is.span} {n = 1024} plan.piece_length is.is_span.2,
-    piece_is_small plan.kind plan.piece_length is.pieces)
+    omega (
+      arith,
+      mul-le-mul_right {m = is.span} {n = 1024} plan.piece_length is.is_span.2,
+      piece_is_small plan.kind plan.piece_length is.pieces,
+    )
 
 pub units_of_plan : (plan : PlanFacts) → IsPlan plan → AreUnitsOf plan plan.units
 units_of_plan plan is =

@@ -1,6 +1,6 @@
 -- What a run of units sums up to. Only private clauses cite these.
-use Rattle.std.specs.Prelude.{◌≡◌, ℕ, ◌^◌, ◌≤◌, List, [], ◌∷◌, ◌++◌, All, length, map, Option, None, Result, MatchResult}
-use Rattle.std.specs.Prelude.{IfErr, IfOk, if◌then◌else◌}
+use Rattle.std.specs.Prelude.{◌≡◌, ℕ, ◌^◌, ◌≤◌, List, [], ◌∷◌, ◌++◌, All, length, map, Option, None, Result}
+use Rattle.std.specs.Prelude.{MatchResult, IfErr, IfOk, if◌then◌else◌}
 use Rattle.std.specs.List.{flat_map}
 use Rattle.tor_plan.specs.Content.{unit_content}
 use Rattle.tor_plan.specs.PlanFacts.{PlanFacts}

@@ -19,7 +19,8 @@ runs-preserved c =
     record {
       within = omega (arith, c.runs.invariant.within);
       fed = feeds_more c.args.pieces.now c.runs.pieces c.feed_zeros.new.self (count - left) run (count - (left - run))
-          (omega (arith, c.runs.invariant.within, c.min-run.ensures)) c.runs.invariant.fed c.in_ok-feed_zeros.ensures.ok;
+          (omega (arith, c.runs.invariant.within, c.min-run.ensures)) c.runs.invariant.fed
+          c.in_ok-feed_zeros.ensures.ok;
     }
 
 pub returns : goal.returns
