@@ -13,9 +13,8 @@ use Rattle.tor_tree.specs.declared.kinds.Kind.TheVariants.{V1, V2, Hybrid}
 use Rattle.tor_v1.specs.declared.entry.Entry.{Entry}
 use Rattle.tor_plan.specs.Entries.{entries_length, entry_units, joined_entry_unit, joined_entry_units}
 use Rattle.tor_plan.specs.Entries.{lengths_of_entries, padding_before_next, separate_entry_units, shared, unit_within}
-use Rattle.tor_plan.specs.Places.{places, places_of_files, places_of_part, places_of_unit}
+use Rattle.tor_plan.specs.Places.{places, places_of_files, places_of_unit}
 use Rattle.tor_plan.specs.Units.{file_unit, units_of_file}
-use Rattle.tor_plan.specs.declared.units.PlanUnit.{PlanUnit}
 use Rattle.tor_plan.proofs.EntrySteps.{padding, file, entry_cases, met, not_met}
 use Rattle.tor_plan.proofs.Within.{within_none}
 
