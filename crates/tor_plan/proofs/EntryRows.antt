@@ -1,4 +1,4 @@
--- Worked rows: entries, and their units.
+-- Some entries, and the units that they are cut into.
 use Rattle.std.proofs.Common.{◌≡◌, ℕ, true, false, List, [], ◌∷◌, refl}
 use Rattle.tor_tree.specs.declared.kinds.Kind.TheVariants.{V1, V2, Hybrid}
 use Rattle.tor_v1.specs.declared.entry.Entry.{Entry}
