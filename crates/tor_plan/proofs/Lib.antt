@@ -23,4 +23,11 @@ pub mod WithinFiles
 pub mod WithinEntries
 pub mod Places
 pub mod ListRows
+pub mod PieceRows
+pub mod PieceSteps
+pub mod PieceRanges
+pub mod PieceRuns
+pub mod JoinedPieces
+pub mod FilePieces
+pub mod PieceWithin
 pub mod ProvedLaws

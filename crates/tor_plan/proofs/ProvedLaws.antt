@@ -10,17 +10,22 @@ use Rattle.tor_v1.specs.Entries.{v1_entries}
 use Rattle.tor_v1.specs.Piece.{piece_sums, zeros}
 use Rattle.tor_v1.specs.declared.entry.Entry.{Entry}
 use Rattle.tor_plan.specs.Content.{AreContentsOfFiles, cut_content, layout_of, unit_content}
-use Rattle.tor_plan.specs.Entries.{entry_units, lengths_of_entries, padding_before_next, separate_entry_units}
+use Rattle.tor_plan.specs.Entries.{entry_units, joined_entry_units, lengths_of_entries, padding_before_next}
+use Rattle.tor_plan.specs.Entries.{separate_entry_units}
 use Rattle.tor_plan.specs.EntryList.{IsLaidOut}
+use Rattle.tor_plan.specs.Pieces.{piece_of_unit, pieces_of_unit}
 use Rattle.tor_plan.specs.Places.{places_of_files, places_of_unit}
 use Rattle.tor_plan.specs.Units.{hash_units}
-use Rattle.tor_plan.specs.WithinEntries.{IsUnitWithin, unit_length}
+use Rattle.tor_plan.specs.WithinEntries.{IsInFile, IsUnitWithin, unit_length}
 use Rattle.tor_plan.specs.WithinFiles.{bytes_of, IsFileUnit, IsUnitOf}
 use Rattle.tor_plan.specs.declared.units.PlanUnit.{PlanUnit}
 use Rattle.tor_plan.proofs.Empty.{zeros-nil}
 pub use Rattle.tor_plan.proofs.FilesAsEntries.{entry_units_of_files, lengths_of_files}
 pub use Rattle.tor_plan.proofs.FilesLaidOut.{files_laid_out}
 use Rattle.tor_plan.proofs.JoinedContent.{joined_bytes, joined_sums}
+use Rattle.tor_plan.proofs.FilePieces.{separate_pieces}
+use Rattle.tor_plan.proofs.JoinedPieces.{joined_pieces}
+use Rattle.tor_plan.proofs.PieceWithin.{piece_within}
 use Rattle.tor_plan.proofs.Places.{places_of_entry_units}
 use Rattle.tor_plan.proofs.SeparateContent.{separate_content, separate_sums}
 use Rattle.tor_plan.proofs.WithinEntries as within
@@ -28,6 +33,9 @@ use Rattle.tor_plan.proofs.WithinFiles as bare
 
 some_bytes : (span piece_length : ℕ) → 0 < span → 0 < piece_length → 0 < span * piece_length
 some_bytes span piece_length some pos = omega (arith, mul-le-mul_right {m = 1} {n = span} piece_length some)
+
+one_piece : (piece_length : ℕ) → piece_length ≡ 1 * piece_length
+one_piece piece_length = omega arith
 
 -- ---- entries
 
@@ -69,6 +77,24 @@ entry_units_are_within_files V2 piece_length span entries some pos laid =
     within.separate_within piece_length span pos (some_bytes span piece_length some pos) V2 entries (λ e. cc) laid
 entry_units_are_within_files Hybrid piece_length span entries some pos laid =
     within.separate_within piece_length span pos (some_bytes span piece_length some pos) Hybrid entries (λ e. cc) laid
+
+pub units_are_cut_into_pieces : (kind : Kind) (piece_length span : ℕ) (entries : List Entry) → 0 < piece_length
+    → 0 < span → IsLaidOut kind piece_length entries
+    → flat_map (pieces_of_unit piece_length) (entry_units kind piece_length span entries)
+    ≡ entry_units kind piece_length 1 entries
+units_are_cut_into_pieces V1 piece_length span entries pos some laid =
+    joined_pieces piece_length span pos (some_bytes span piece_length some pos) entries
+    ∙ ap (λ n. joined_entry_units n entries) (one_piece piece_length)
+units_are_cut_into_pieces V2 piece_length span entries pos some laid =
+    separate_pieces piece_length span pos (some_bytes span piece_length some pos) V2 entries (λ e. cc) laid
+    ∙ ap (λ n. separate_entry_units n 0 entries) (one_piece piece_length)
+units_are_cut_into_pieces Hybrid piece_length span entries pos some laid =
+    separate_pieces piece_length span pos (some_bytes span piece_length some pos) Hybrid entries (λ e. cc) laid
+    ∙ ap (λ n. separate_entry_units n 0 entries) (one_piece piece_length)
+
+pub pieces_are_within_files : (lengths : List ℕ) (piece_length k : ℕ) (unit : PlanUnit)
+    → All (IsInFile lengths) unit.parts → IsUnitWithin lengths piece_length (piece_of_unit piece_length unit k)
+pieces_are_within_files lengths piece_length k unit held = piece_within lengths piece_length k unit held
 
 pub joined_entry_units_are_whole : (piece_length span : ℕ) (entries : List Entry) (k : ℕ) (unit : PlanUnit)
     → 0 < span * piece_length → k + 1 < length (entry_units V1 piece_length span entries)

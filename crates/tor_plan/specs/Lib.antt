@@ -7,4 +7,6 @@ pub mod Entries
 pub mod EntryList
 pub mod WithinEntries
 pub mod Places
+pub mod Pieces
+pub mod Present
 pub mod steps

@@ -4,9 +4,10 @@ ghost use Rattle.std.specs.List.{flat_map};
 ghost use Rattle.tor_plan.specs.Content.{AreContentsOfFiles, cut_content, layout_of, unit_content};
 ghost use Rattle.tor_plan.specs.Entries.{entry_units, lengths_of_entries};
 ghost use Rattle.tor_plan.specs.EntryList.{IsLaidOut};
+ghost use Rattle.tor_plan.specs.Pieces.{piece_of_unit, pieces_of_unit};
 ghost use Rattle.tor_plan.specs.Places.{places_of_files, places_of_unit};
 ghost use Rattle.tor_plan.specs.Units.{hash_units};
-ghost use Rattle.tor_plan.specs.WithinEntries.{IsUnitWithin, unit_length};
+ghost use Rattle.tor_plan.specs.WithinEntries.{IsInFile, IsUnitWithin, unit_length};
 ghost use Rattle.tor_plan.specs.WithinFiles.{bytes_of, IsFileUnit, IsUnitOf};
 ghost use Rattle.tor_plan.specs.declared.units.PlanUnit.{PlanUnit};
 ghost use Rattle.tor_tree.specs.FileList.{lengths_of};
@@ -88,6 +89,20 @@ pub fn entry_units_are_within_files()
         IsLaidOut kind piece_length entries →
         All (IsUnitWithin (lengths_of_entries entries) (span * piece_length))
         (entry_units kind piece_length span entries) }
+{}
+
+/// The pieces of the units are the units of one piece each, in order.
+pub fn units_are_cut_into_pieces()
+    ensures { (kind : Kind) (piece_length span : ℕ) (entries : List Entry) → 0 < piece_length → 0 < span →
+        IsLaidOut kind piece_length entries →
+        flat_map (pieces_of_unit piece_length) (entry_units kind piece_length span entries)
+        ≡ entry_units kind piece_length 1 entries }
+{}
+
+/// The parts of a piece are in the files where those of its unit are, and it has no more bytes than a piece may have.
+pub fn pieces_are_within_files()
+    ensures { (lengths : List ℕ) (piece_length k : ℕ) (unit : PlanUnit) → All (IsInFile lengths) unit.parts →
+        IsUnitWithin lengths piece_length (piece_of_unit piece_length unit k) }
 {}
 
 /// In version 1 each unit but the last has `span` pieces, of files and zeros.
