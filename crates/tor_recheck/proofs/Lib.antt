@@ -3,3 +3,14 @@ pub mod Grown
 pub mod ReadBack
 pub mod Bytes
 pub mod Counted
+pub mod PieceRows
+pub mod FoundBytes
+pub mod RangeBytes
+pub mod EntryForms
+pub mod JoinedPieces
+pub mod Judged
+pub mod MerklePieces
+pub mod FileRuns
+pub mod PaddedPieces
+pub mod PieceSides
+pub mod ProvedLaws

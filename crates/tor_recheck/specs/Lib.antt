@@ -1,2 +1,3 @@
 pub mod Bitfield
 pub mod steps
+pub mod Pieces

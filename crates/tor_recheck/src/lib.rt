@@ -11,9 +11,11 @@
 //! ```
 //!
 //! - [`Bits`] (`bits.rt`): one bit a piece, piece 0 first, and as the bitfield of BEP 3 ("peer messages").
+//! - [`laws`]: what follows from the definitions alone.
 #![tactic(auto)]
 
 mod bits;
+pub mod laws;
 #[cfg(test)]
 mod tests;
 

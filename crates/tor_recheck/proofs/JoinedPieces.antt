@@ -1,0 +1,120 @@
+-- The bytes that contents have of a piece of joined entries.
+use Rattle.std.proofs.Common.{◌≡◌, ℕ, ◌+◌, ◌-◌, ◌*◌, ◌<◌, ◌≤◌, max, List, [], ◌∷◌, ◌++◌, take, drop}
+use Rattle.std.proofs.Common.{get_or, arith, refl, ap, ap₂, ◌∙◌, sym, subst, inl, inr, append_assoc}
+use Rattle.std.proofs.lemmas.Bool.{cases_lt, cond-false, cond-true, le-ltb, lt-ltb}
+use Rattle.std.proofs.lemmas.List.{drop_all, replicate-append-replicate, take_all}
+use Rattle.std.specs.List.{flat_map}
+use Rattle.tor_merkle.specs.Block.{run_at}
+use Rattle.tor_plan.specs.Entries.{after_part, after_zeros, empty_unit, joined_entry_unit, shared, unit_within}
+use Rattle.tor_plan.specs.declared.units.PlanUnit.{PlanUnit}
+use Rattle.tor_recheck.proofs.EntryForms.{Path, padding, file, entry_cases, first_from, others_from}
+use Rattle.tor_recheck.proofs.FoundBytes.{Found, HaveBytes, length-file, no_bytes, part_bytes, there, there_append}
+use Rattle.tor_recheck.proofs.FoundBytes.{unit_bytes}
+use Rattle.tor_recheck.proofs.RangeBytes.{between, between-append, between-file, between-zeros, length-zeros}
+use Rattle.tor_spec.specs.Present.{file_bytes, joined_bytes}
+use Rattle.tor_v1.specs.Piece.{zeros}
+use Rattle.tor_v1.specs.declared.entry.Entry.{Entry}
+
+module _ (contents : List (List ℕ)) where
+  zeros_first : (n : ℕ) (unit : PlanUnit)
+      → unit_bytes contents (after_zeros n unit) ≡ there (zeros n) ++ unit_bytes contents unit
+  unfolding zeros
+  zeros_first n unit =
+      let others = flat_map (part_bytes contents) unit.parts in
+      ap (λ xs. there xs ++ others) (sym (replicate-append-replicate n unit.zeros 0))
+      ∙ ap (λ xs. xs ++ others) (sym (there_append (zeros n) (zeros unit.zeros)))
+      ∙ append_assoc (there (zeros n)) (there (zeros unit.zeros)) others
+
+  part_first : (place start n : ℕ) (unit : PlanUnit) → unit_bytes contents (after_part place start n unit)
+      ≡ file_bytes n (drop start (get_or contents place [])) ++ unit_bytes contents unit
+  unfolding zeros
+  part_first place start n unit =
+      append_assoc (file_bytes n (drop start (get_or contents place []))) (there (zeros unit.zeros))
+      (flat_map (part_bytes contents) unit.parts)
+
+  module _ (a b : ℕ) where
+    -- the unit is what the range meets of the entries
+    record IsMet (place at : ℕ) (entries : List Entry) (unit : PlanUnit) : Type 0 where
+      some : HaveBytes unit.parts
+      bytes : unit_bytes contents unit ≡ between a b at (joined_bytes entries (drop place contents))
+
+    none : (place at : ℕ) → IsMet place at [] empty_unit
+    unfolding zeros
+    none place at = record {
+      some = tt;
+      bytes = sym (ap (take (b - max a at)) (drop_all (a - at) [] (omega arith))
+          ∙ take_all (b - max a at) [] (omega arith));
+    }
+
+    of_padding : (place at : ℕ) (path : Path) (m : ℕ) (entries : List Entry) (unit : PlanUnit)
+        → IsMet place (at + m) entries unit
+        → IsMet place at (padding path m ∷ entries) (after_zeros (shared a b at m) unit)
+    of_padding place at path m entries unit rest = record {
+      some = rest.some;
+      bytes = zeros_first (shared a b at m) unit ∙ ap₂ (λ xs ys. xs ++ ys) (between-zeros a b at m) rest.bytes
+          ∙ sym (between-append a b at m (there (zeros m)) (joined_bytes entries (drop place contents))
+          (length-zeros m));
+    }
+
+    -- a file of which these bytes are met
+    of_file : (place at : ℕ) (path : Path) (m : ℕ) (entries : List Entry) (part : Found) (unit : PlanUnit)
+        → part ≡ file_bytes (shared a b at m) (drop (max a at - at) (get_or contents place []))
+        → IsMet (place + 1) (at + m) entries unit
+        → part ++ unit_bytes contents unit ≡ between a b at (joined_bytes (file path m ∷ entries) (drop place contents))
+    of_file place at path m entries part unit is rest =
+        let content = get_or contents place [] in
+        let later = drop (place + 1) contents in
+        ap₂ (λ xs ys. xs ++ ys) (is ∙ between-file a b at m content) rest.bytes
+        ∙ sym (between-append a b at m (file_bytes m content) (joined_bytes entries later) (length-file m content))
+        ∙ sym (ap₂ (λ one others. between a b at (file_bytes m one ++ joined_bytes entries others))
+        (first_from contents place) (others_from contents place))
+
+    met : (place at : ℕ) (path : Path) (m : ℕ) (entries : List Entry) → 0 < shared a b at m
+        → unit_within a b place at (file path m ∷ entries)
+        ≡ after_part place (max a at - at) (shared a b at m) (unit_within a b (place + 1) (at + m) entries)
+    unfolding unit_within
+    met place at path m entries some = cond-true _ _ _ (lt-ltb 0 (shared a b at m) some)
+
+    not_met : (place at : ℕ) (path : Path) (m : ℕ) (entries : List Entry) → shared a b at m ≤ 0
+        → unit_within a b place at (file path m ∷ entries) ≡ unit_within a b (place + 1) (at + m) entries
+    unfolding unit_within
+    not_met place at path m entries few = cond-false _ _ _ (le-ltb 0 (shared a b at m) few)
+
+    is_met : (place at : ℕ) (entries : List Entry) → IsMet place at entries (unit_within a b place at entries)
+    unfolding unit_within
+    is_met place at [] = none place at
+    is_met place at (entry ∷ entries) = entry_cases
+        (λ e. IsMet place at (e ∷ entries) (unit_within a b place at (e ∷ entries)))
+        (λ path m. of_padding place at path m entries _ (is_met place (at + m) entries))
+        (λ path m.
+        let later = unit_within a b (place + 1) (at + m) entries in
+        let rest = is_met (place + 1) (at + m) entries in
+        let n = shared a b at m in
+        let s = max a at - at in
+        elim (cases_lt 0 n) [
+          | inl some ↦ subst (IsMet place at (file path m ∷ entries)) (sym (met place at path m entries some)) (record {
+            some = (some, rest.some);
+            bytes = part_first place s n later ∙ of_file place at path m entries _ later refl rest;
+          })
+          | inr few ↦
+              subst (IsMet place at (file path m ∷ entries)) (sym (not_met place at path m entries few)) (record {
+                some = rest.some;
+                bytes = of_file place at path m entries [] later
+                    (sym (ap (λ k. file_bytes k (drop s (get_or contents place [])))
+                    (let e : n ≡ 0 = omega (arith, few) in e)
+                    ∙ no_bytes (drop s (get_or contents place []))))
+                    rest;
+              })
+        ]) entry
+
+-- a unit of the joined entries has parts with bytes, and what there is of the run of joined bytes
+pub joined_unit_some : (p : ℕ) (entries : List Entry) (k : ℕ) → HaveBytes (joined_entry_unit p entries k).parts
+joined_unit_some p entries k = (is_met [] (k * p) ((k + 1) * p) 0 0 entries).some
+
+pub joined_unit_bytes : (contents : List (List ℕ)) (p : ℕ) (entries : List Entry) (k : ℕ)
+    → unit_bytes contents (joined_entry_unit p entries k) ≡ run_at p (joined_bytes entries contents) k
+joined_unit_bytes contents p entries k =
+    let all = joined_bytes entries contents in
+    (is_met contents (k * p) ((k + 1) * p) 0 0 entries).bytes
+    ∙ ap₂ (λ n j. take n (drop j all)) (let e : (k + 1) * p - max (k * p) 0 ≡ p = omega arith in e)
+    (let e : k * p - 0 ≡ k * p = omega arith in e)

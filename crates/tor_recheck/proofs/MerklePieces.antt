@@ -1,0 +1,138 @@
+-- The pieces of a v2 side, and units of files that are cut each by itself.
+use Rattle.std.proofs.Common.{◌≡◌, ℕ, ◌+◌, ◌-◌, ◌*◌, ◌<◌, ◌≤◌, Bool, false, ◌&&◌, leb, min, List, [], ◌∷◌, ◌++◌}
+use Rattle.std.proofs.Common.{length, map, take, drop, get_or, arith, refl, ap, ap₂, ◌∙◌, sym, length-append}
+use Rattle.std.proofs.Common.{length-drop}
+use Rattle.std.proofs.Common.{mul-le-mul_right}
+use Rattle.std.proofs.lemmas.Bool.{leb-true}
+use Rattle.std.proofs.lemmas.Grind.{div_ceil_times}
+use Rattle.std.proofs.lemmas.List.{drop-drop}
+use Rattle.std.proofs.lemmas.List.FromFn.{length-map-range_with_len}
+use Rattle.std.specs.Int.{div_ceil}
+use Rattle.std.specs.List.{flat_map, range_with_len}
+use Rattle.std.specs.Str.{bytes_eq}
+use Rattle.tor_merkle.specs.Block.{run_at}
+use Rattle.tor_plan.specs.Entries.{lengths_of_entries, padding_before_next, separate_entry_units}
+use Rattle.tor_plan.specs.Units.{file_unit, units_of_file}
+use Rattle.tor_plan.specs.declared.units.PlanUnit.{PlanUnit}
+use Rattle.tor_plan.specs.Present.{is_there}
+use Rattle.tor_recheck.specs.Pieces.{hashes_of_file, no_file, piece_root, told_hashes}
+use Rattle.tor_recheck.proofs.EntryForms.{Path, file, entry_cases, first_from, first_of, others_from}
+use Rattle.tor_recheck.proofs.FoundBytes.{and_true, bytes_there, file_is_there, last_byte, run-file, whole_file}
+use Rattle.tor_recheck.proofs.Judged.{and_same, get_or-judged, judged, judged-append, judged-map, same_values}
+use Rattle.tor_spec.specs.Present.{bytes_in, file_bytes, is_whole}
+use Rattle.tor_spec.specs.Verified.{file_pieces, is_merkle_piece, merkle_hash, merkle_pieces, told_hash}
+use Rattle.tor_spec.specs.valid.View.{FileView, View}
+use Rattle.tor_v1.specs.declared.entry.Entry.{Entry}
+
+-- run k begins below n
+pub begins_within : (n p k : ℕ) → 0 < p → k < div_ceil n p → k * p < n
+begins_within n p k some lt = by (div_ceil n p) (div_ceil_times n p some) lt where
+  by : (q : ℕ) → (n ≤ q * p) × (q * p < n + p) → k < q → k * p < n
+  by q bounds less =
+      let next : (k + 1) * p ≡ k * p + p = omega arith in
+      let le : (k + 1) * p ≤ q * p = mul-le-mul_right p (omega (arith, less)) in
+      omega (arith, next, le, bounds.1)
+
+abbrev pub length_of : FileView → ℕ
+length_of told = told.file.length
+
+module _ (view : View) (contents : List (List ℕ)) (some : 0 < view.piece_length) where
+  abbrev p : ℕ
+  p = view.piece_length
+
+  -- the piece is there, and has this Merkle hash
+  abbrev pub has_hash : PlanUnit → List ℕ → Bool
+  has_hash unit hash = is_there contents unit && bytes_eq (piece_root view contents unit) hash
+
+  each_piece : (place : ℕ) (told : FileView) (tail k : ℕ) → get_or view.files place no_file ≡ told
+      → k * p < length_of told
+      → has_hash (file_unit p place (length_of told) tail k) (told_hash p told k)
+      ≡ is_merkle_piece p told (get_or contents place []) k
+  each_piece place told tail k here begun =
+      let m = length_of told in
+      let s = k * p in
+      let n = min (m - s) p in
+      let content = get_or contents place [] in
+      let rest = drop s content in
+      let run : run_at p (file_bytes m content) k ≡ file_bytes n rest = run-file s p m content in
+      let whole = sym (ap is_whole run ∙ whole_file n rest ∙ last_byte s n content (omega (arith, some, begun))) in
+      and_same _ _ _ _ (and_true (leb (s + n) (length content)) ∙ whole)
+      (λ all.
+      let last = leb-true (s + n) (length content) (sym (and_true (leb (s + n) (length content))) ∙ all) in
+      let bytes : bytes_in (run_at p (file_bytes m content) k) ≡ take n rest =
+      ap bytes_in (run ∙ file_is_there n rest (omega (arith, last, length-drop s content)))
+      ∙ bytes_there (take n rest) in
+      ap₂ (λ one xs. bytes_eq (merkle_hash p one xs) (told_hash p told k)) here (sym bytes))
+
+  each_file : (place : ℕ) (told : FileView) (tail : ℕ) → get_or view.files place no_file ≡ told
+      → judged has_hash (units_of_file p place (length_of told) tail) (hashes_of_file p told)
+      ≡ file_pieces p told (get_or contents place [])
+  each_file place told tail here =
+      let m = length_of told in
+      judged-map has_hash (file_unit p place m tail) (told_hash p told) (range_with_len 0 (div_ceil m p))
+      ∙ same_values _ (is_merkle_piece p told (get_or contents place [])) (div_ceil m p) false
+      (λ k lt. each_piece place told tail k here (begins_within m p k some lt))
+
+  -- these units are judged by the hashes of these files, of which the first has this place
+  record AreJudged (place : ℕ) (units : List PlanUnit) (files : List FileView) : Type 0 where
+    same : length units ≡ length (flat_map (hashes_of_file p) files)
+    pieces : merkle_pieces p files (drop place contents) ≡ judged has_hash units (flat_map (hashes_of_file p) files)
+
+  one_more : (place m tail : ℕ) (told : FileView) (files : List FileView) (units : List PlanUnit)
+      → get_or view.files place no_file ≡ told → m ≡ length_of told → AreJudged (place + 1) units files
+      → AreJudged place (units_of_file p place m tail ++ units) (told ∷ files)
+  one_more place m tail told files units here long rest =
+      let first = units_of_file p place m tail in
+      let hashes = hashes_of_file p told in
+      let others = flat_map (hashes_of_file p) files in
+      let count : length first ≡ length hashes =
+      length-map-range_with_len (file_unit p place m tail) 0 (div_ceil m p) ∙ ap (λ n. div_ceil n p) long
+      ∙ sym (length-map-range_with_len (told_hash p told) 0 (div_ceil (length_of told) p)) in
+      record {
+        same = length-append first units ∙ ap₂ (λ a b. a + b) count rest.same ∙ sym (length-append hashes others);
+        pieces = ap₂ (λ one xs. file_pieces p told one ++ merkle_pieces p files xs) (first_from contents place)
+            (others_from contents place)
+            ∙ ap₂ (λ xs ys. xs ++ ys) (sym (each_file place told tail here)
+            ∙ ap (λ n. judged has_hash (units_of_file p place n tail) hashes) (sym long)) rest.pieces
+            ∙ sym (judged-append has_hash first units hashes others count);
+      }
+
+  of_file : (place : ℕ) (path : Path) (m : ℕ) (entries : List Entry) (files : List FileView)
+      → drop place view.files ≡ files → m ∷ lengths_of_entries entries ≡ map length_of files
+      → ((later : List FileView) → drop (place + 1) view.files ≡ later
+      → lengths_of_entries entries ≡ map length_of later
+      → AreJudged (place + 1) (separate_entry_units p (place + 1) entries) later)
+      → AreJudged place (separate_entry_units p place (file path m ∷ entries)) files
+  unfolding separate_entry_units
+  of_file place path m entries [] from lengths rest = cc
+  of_file place path m entries (told ∷ files) from lengths rest =
+      let here : get_or view.files place no_file ≡ told =
+      sym (first_of view.files place no_file) ∙ ap (λ xs. get_or xs 0 no_file) from in
+      let after : drop (place + 1) view.files ≡ files = sym (drop-drop 1 place view.files) ∙ ap (drop 1) from in
+      let long : m ≡ length_of told = cc in
+      let others : lengths_of_entries entries ≡ map length_of files = cc in
+      one_more place m (padding_before_next entries) told files (separate_entry_units p (place + 1) entries) here long
+      (rest files after others)
+
+  are_judged : (place : ℕ) (entries : List Entry) (files : List FileView) → drop place view.files ≡ files
+      → lengths_of_entries entries ≡ map length_of files → AreJudged place (separate_entry_units p place entries) files
+  unfolding separate_entry_units
+  are_judged place [] [] from lengths = record { same = refl; pieces = refl }
+  are_judged place [] (told ∷ files) from lengths = cc
+  are_judged place (entry ∷ entries) files from lengths = entry_cases
+      (λ e. lengths_of_entries (e ∷ entries) ≡ map length_of files
+      → AreJudged place (separate_entry_units p place (e ∷ entries)) files)
+      (λ path m same. are_judged place entries files from same)
+      (λ path m same. of_file place path m entries files from same (are_judged (place + 1) entries)) entry lengths
+
+  -- all pieces
+  module _ (entries : List Entry) (lengths : lengths_of_entries entries ≡ map length_of view.files) where
+    pub same_count : length (separate_entry_units p 0 entries) ≡ length (told_hashes view)
+    same_count = (are_judged 0 entries view.files refl lengths).same
+
+    pub merkle_piece : (k : ℕ) (unit : PlanUnit) → k < length (separate_entry_units p 0 entries)
+        → get_or (merkle_pieces p view.files contents) k false
+        ≡ has_hash (get_or (separate_entry_units p 0 entries) k unit) (get_or (told_hashes view) k [])
+    merkle_piece k unit lt =
+        ap (λ bits. get_or bits k false) (are_judged 0 entries view.files refl lengths).pieces
+        ∙ get_or-judged has_hash (separate_entry_units p 0 entries) (told_hashes view) k unit [] same_count lt
