@@ -1,4 +1,4 @@
--- Worked rows: what a recheck finds is the same by runs and by units.
+-- What a recheck finds is the same by runs and by units: some torrents and contents.
 use Rattle.std.proofs.Common.{◌≡◌, ℕ, Bool, true, false, List, [], ◌∷◌, map, refl, replicate}
 use Rattle.std.specs.Prelude.{None}
 use Rattle.tor_plan.specs.Entries.{joined_entry_units, padding_before_next, separate_entry_units, unit_within}
