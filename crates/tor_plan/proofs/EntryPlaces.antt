@@ -9,8 +9,8 @@ use Rattle.tor_v1.specs.Content.{file_entries}
 use Rattle.tor_v1.specs.Entries.{file_entry}
 use Rattle.tor_v1.specs.declared.entry.Entry.{Entry}
 use Rattle.tor_plan.specs.Entries.{entries_length}
-use Rattle.tor_plan.specs.steps.Joined.{IsEntryAt, IsFileAt, IsPaddingAt}
 use Rattle.tor_plan.proofs.Contents.{File}
+use Rattle.tor_plan.proofs.Within.{IsEntryAt, IsFileAt, IsPaddingAt}
 
 -- the entry at a place, after those before it
 module _ (entries : List Entry) (i : ℕ) (entry : Entry) (lt : i < length entries) (is : entry ≡ get_or entries i entry)

@@ -12,6 +12,7 @@ pub mod UnitJoins
 pub mod Within
 pub mod Cut
 pub mod EntryPlaces
+pub mod EntryRanges
 pub mod EntryCut
 pub mod UnitSums
 pub mod JoinedContent
@@ -25,6 +26,7 @@ pub mod Places
 pub mod ListRows
 pub mod PieceRows
 pub mod PieceSteps
+pub mod PieceCut
 pub mod PieceRanges
 pub mod PieceRuns
 pub mod JoinedPieces

@@ -4,20 +4,7 @@ use Rattle.std.proofs.Common.{append-nil}
 use Rattle.tor_plan.specs.Entries.{after_part, after_zeros, empty_unit}
 use Rattle.tor_plan.specs.declared.units.Part.{Part}
 use Rattle.tor_plan.specs.declared.units.PlanUnit.{PlanUnit}
-
-abbrev pub parts_then : List Part → PlanUnit → PlanUnit
-parts_then [] v = v
-parts_then (part ∷ parts) v =
-    after_part part.file part.start part.length (after_zeros part.zeros (parts_then parts v))
-
-abbrev pub joined : PlanUnit → PlanUnit → PlanUnit
-joined u v = after_zeros u.zeros (parts_then u.parts v)
-
-abbrev pub zeros_alone : ℕ → PlanUnit
-zeros_alone n = record { zeros = n; parts = [] }
-
-abbrev pub part_alone : Part → PlanUnit
-part_alone part = record { zeros = 0; parts = part ∷ [] }
+pub use Rattle.tor_plan.specs.steps.Joined.{joined, parts_then, part_alone, zeros_alone}
 
 abbrev pub with_zeros : Part → ℕ → Part
 with_zeros part n = record { file = part.file; start = part.start; length = part.length; zeros = part.zeros + n }

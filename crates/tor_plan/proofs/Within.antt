@@ -1,17 +1,38 @@
 -- What a range of joined entries meets when its end is moved.
-use Rattle.std.proofs.Common.{◌≡◌, ℕ, ◌+◌, ◌-◌, ◌<◌, ◌≤◌, cond, ltb, max, List, [], ◌∷◌, ◌++◌, length}
+use Rattle.std.proofs.Common.{◌≡◌, ℕ, ◌+◌, ◌-◌, ◌<◌, ◌≤◌, true, false, cond, ltb, max, List, [], ◌∷◌, ◌++◌, length}
 use Rattle.std.proofs.Common.{arith, refl, ap, ap₂, ◌∙◌, sym, subst, append-nil}
 use Rattle.std.proofs.lemmas.List.Sums.{sum_by-cons}
 use Rattle.tor_v1.specs.Content.{file_entries}
 use Rattle.tor_v1.specs.declared.entry.Entry.{Entry}
 use Rattle.tor_plan.specs.Entries.{after_part, after_zeros, empty_unit, entries_length, shared, unit_within}
 use Rattle.tor_plan.specs.declared.units.PlanUnit.{PlanUnit}
-use Rattle.tor_plan.specs.steps.Joined.{IsEntryAt, IsFileAt, IsPaddingAt}
 use Rattle.tor_plan.proofs.EntrySteps.{padding, file, entry_cases, by_entries, met}
 use Rattle.tor_plan.proofs.UnitJoins.{joined, zeros_then, file_then, then_nothing, zeros_alone, part_alone}
 
 abbrev entry_length : Entry → ℕ
 entry_length entry = entry.length
+
+-- an entry before which so many files stand begins at byte at of the joined entries
+pub record IsEntryAt (entries : List Entry) (entry : Entry) (place at : ℕ) : Type 0 where
+  pub before : List Entry
+  pub later : List Entry
+  pub split : entries ≡ before ++ entry ∷ later
+  pub after : place ≡ length (file_entries before)
+  pub begins : at ≡ entries_length before
+
+-- padding of m bytes begins there
+pub record IsPaddingAt (entries : List Entry) (place at m : ℕ) : Type 0 where
+  pub entry : Entry
+  pub is : IsEntryAt entries entry place at
+  pub pad : entry.pad ≡ true
+  pub long : entry.length ≡ m
+
+-- the file at this place begins there, and has m bytes
+pub record IsFileAt (entries : List Entry) (place at m : ℕ) : Type 0 where
+  pub entry : Entry
+  pub is : IsEntryAt entries entry place at
+  pub pad : entry.pad ≡ false
+  pub long : entry.length ≡ m
 
 -- a range that has no byte, or ends before the entries
 pub within_none : (a b place at : ℕ) (entries : List Entry) → b ≤ max a at

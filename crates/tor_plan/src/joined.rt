@@ -1,4 +1,4 @@
-//! Files and padding that are joined, and then cut.
+//! Files and padding that are joined, and then cut; `pieces.rt` cuts units by the same steps.
 ghost use Rattle.std.specs.Prelude.{◌≡◌, ◌+◌, ◌<◌, IfOk, sum_by};
 ghost use Rattle.tor_tree.specs.FileList.{lengths_of};
 ghost use Rattle.tor_plan.specs.Entries.{joined_entry_units};
@@ -21,7 +21,7 @@ pub(crate) fn cut_joined(
 {
     let mut cut = JoinedCut::new(alloc, size);
     'files: for (place, (_, length)) in files.iter().enumerate() {
-        cut.add_file(alloc, place as u64, *length)?;
+        cut.add_bytes(alloc, place as u64, 0, *length)?;
     }
     cut.finish()
 }
@@ -41,16 +41,16 @@ pub(crate) fn cut_joined_entries(
         if entry.pad {
             cut.add_padding(alloc, entry.length)?;
         } else {
-            cut.add_file(alloc, place, entry.length)?;
+            cut.add_bytes(alloc, place, 0, entry.length)?;
             place += 1;
         }
     }
     cut.finish()
 }
 
-/// The units of the beginning of joined entries.
+/// The units of the first bytes of some: of joined entries, or of a unit.
 #[derive(Drop)]
-struct JoinedCut {
+pub(crate) struct JoinedCut {
     size: u64,
     // Those of `size` bytes.
     units: Vec<PlanUnit>,
@@ -63,16 +63,14 @@ struct JoinedCut {
 }
 
 impl JoinedCut {
-    ghost use Rattle.std.specs.Prelude.{◌≡◌, ◌+◌, ◌<◌, ◌≤◌, ℕ, List, IfOk, OnOk};
-    ghost use Rattle.tor_v1.specs.declared.entry.Entry.{Entry};
-    ghost use Rattle.tor_plan.specs.Entries.{entries_length, joined_entry_units};
-    ghost use Rattle.tor_plan.specs.steps.Joined.{HasCut, IsFileAt, IsPaddingAt, IsPartAt};
+    ghost use Rattle.std.specs.Prelude.{◌≡◌, ◌+◌, ◌<◌, ◌≤◌, ◌^◌, ℕ, IfOk, OnOk};
+    ghost use Rattle.tor_plan.specs.steps.Joined.{AreBytesAt, AreZerosAt, HasCut, IsPartAt, range_units, Ranges};
 
     /// Nothing was cut.
-    fn new(alloc: Global, size: u64) -> JoinedCut
+    pub(crate) fn new(alloc: Global, size: u64) -> JoinedCut
         requires { 0 < size }
         ensures size { result.size ≡ size }
-        ensures cut { (entries : List Entry) → HasCut result entries 0 }
+        ensures cut { (ranges : Ranges) → HasCut result ranges 0 }
     {
         JoinedCut {
             size,
@@ -83,32 +81,39 @@ impl JoinedCut {
         }
     }
 
-    /// Adds the file at this place.
-    fn add_file(&mut self, alloc: Global, place: u64, length: u64) -> Result<(), AllocError>
+    /// Adds so many bytes of a file, from `start` on.
+    pub(crate) fn add_bytes(
+        &mut self,
+        alloc: Global,
+        file: u64,
+        start: u64,
+        length: u64,
+    ) -> Result<(), AllocError>
+        requires { start + length < 2 ^ 64 }
         ensures size { self.new.size ≡ self.old.size }
-        ensures cut { (entries : List Entry) (at : ℕ) → HasCut self.old entries at → IsFileAt entries place at length →
-            OnOk result (HasCut self.new entries (at + length)) }
+        ensures cut { (ranges : Ranges) (at : ℕ) → HasCut self.old ranges at → AreBytesAt ranges at file start length →
+            OnOk result (HasCut self.new ranges (at + length)) }
     {
-        let mut start = 0;
-        'parts: while start < length {
-            let within = self.room(alloc)?.min(length - start);
+        let mut done = 0;
+        'parts: while done < length {
+            let within = self.room(alloc)?.min(length - done);
             let part = Part {
-                file: place,
-                start,
+                file,
+                start: start + done,
                 length: within,
                 zeros: 0,
             };
             self.add_part(part)?;
-            start += within;
+            done += within;
         }
         Ok(())
     }
 
-    /// Adds padding.
-    fn add_padding(&mut self, alloc: Global, length: u64) -> Result<(), AllocError>
+    /// Adds so many zeros.
+    pub(crate) fn add_padding(&mut self, alloc: Global, length: u64) -> Result<(), AllocError>
         ensures size { self.new.size ≡ self.old.size }
-        ensures cut { (entries : List Entry) (place at : ℕ) → HasCut self.old entries at →
-            IsPaddingAt entries place at length → OnOk result (HasCut self.new entries (at + length)) }
+        ensures cut { (ranges : Ranges) (at : ℕ) → HasCut self.old ranges at → AreZerosAt ranges at length →
+            OnOk result (HasCut self.new ranges (at + length)) }
     {
         let mut start = 0;
         'zeros: while start < length {
@@ -124,8 +129,7 @@ impl JoinedCut {
         ensures size { self.new.size ≡ self.old.size }
         ensures room { IfOk result (λ room. (room ≡ self.new.room) × (0 < room)) }
         ensures fresh { self.old.room ≡ 0 → OnOk result (self.new.room ≡ self.new.size) }
-        ensures cut { (entries : List Entry) (x : ℕ) → HasCut self.old entries x →
-            OnOk result (HasCut self.new entries x) }
+        ensures cut { (ranges : Ranges) (x : ℕ) → HasCut self.old ranges x → OnOk result (HasCut self.new ranges x) }
     {
         if self.room == 0 {
             let unit = PlanUnit {
@@ -145,9 +149,8 @@ impl JoinedCut {
         requires bare { part.zeros ≡ 0 }
         ensures size { self.new.size ≡ self.old.size }
         ensures room { OnOk result (self.new.room + part.length ≡ self.old.room) }
-        ensures cut { (entries : List Entry) (at m : ℕ) → HasCut self.old entries (at + part.start) →
-            IsPartAt self.old entries at m part →
-            OnOk result (HasCut self.new entries (at + part.start + part.length)) }
+        ensures cut { (ranges : Ranges) (at start n i : ℕ) → HasCut self.old ranges (at + i) →
+            IsPartAt self.old ranges at start n i part → OnOk result (HasCut self.new ranges (at + i + part.length)) }
     {
         self.parts.push(part)?;
         self.room -= part.length;
@@ -159,9 +162,8 @@ impl JoinedCut {
         requires { count ≤ self.old.room }
         ensures size { self.new.size ≡ self.old.size }
         ensures room { self.new.room + count ≡ self.old.room }
-        ensures cut { (entries : List Entry) (place at start m : ℕ) → HasCut self.old entries (at + start) →
-            IsPaddingAt entries place at m → start + count ≤ m →
-            HasCut self.new entries (at + start + count) }
+        ensures cut { (ranges : Ranges) (at n i : ℕ) → HasCut self.old ranges (at + i) → AreZerosAt ranges at n →
+            i + count ≤ n → HasCut self.new ranges (at + i + count) }
     {
         match self.parts.last_mut() {
             Some(last) => last.zeros += count,
@@ -171,9 +173,9 @@ impl JoinedCut {
     }
 
     /// The units, the last perhaps shorter.
-    fn finish(self) -> Result<Vec<PlanUnit>, AllocError>
-        ensures { (entries : List Entry) → HasCut self entries (entries_length entries) →
-            IfOk result (λ units. units.items ≡ joined_entry_units self.size entries) }
+    pub(crate) fn finish(self) -> Result<Vec<PlanUnit>, AllocError>
+        ensures { (ranges : Ranges) → HasCut self ranges ranges.total →
+            IfOk result (λ units. units.items ≡ range_units self.size ranges) }
     {
         let JoinedCut {
             size,

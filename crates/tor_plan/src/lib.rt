@@ -4,7 +4,7 @@
 //! (BEP 3, "info dictionary"). Units are numbered in the order of the list.
 //!
 //! - [`Plan`] (`plans.rt`): the units of a list of files, or of the entries of a torrent, padding among them.
-//!   `separate.rt` cuts each file by itself, `joined.rt` the joined files.
+//!   `separate.rt` cuts each file by itself, `joined.rt` the joined files; `pieces.rt` cuts a unit into its pieces.
 //! - [`PlanUnit`], [`Parts`], [`Part`] (`units.rt`): which bytes a unit has.
 //! - [`Forest`], [`Run`] (`forests.rt`): which units are of one file's tree.
 //! - [`laws`]: what follows from the definitions alone.
@@ -22,12 +22,15 @@
 mod forests;
 mod joined;
 pub mod laws;
+mod pieces;
 mod plans;
 mod separate;
 #[cfg(test)]
 mod tests;
 #[cfg(test)]
 mod tests_entries;
+#[cfg(test)]
+mod tests_pieces;
 mod units;
 
 pub use forests::{Forest, Run};

@@ -8,12 +8,12 @@ use Rattle.tor_plan.proofs.joined.JoinedCut.add_zeros.Goals as goal
 use Rattle.tor_plan.proofs.joined.JoinedCut.add_zeros.Goals.{in-Some, in-None}
 
 pub returns-clause-cut : goal.returns-clause-cut
-returns-clause-cut c = λ entries place at start m cut is within.
+returns-clause-cut c = λ ranges at m i cut are within.
     let old = c.args.self.now in
     let n = c.args.count in
     let parts = old.parts.items in
     elim c.match-last_mut.branch [
-      | in-Some w ↦ adds_zeros old entries place at start m n cut is within _ refl refl
+      | in-Some w ↦ adds_zeros old ranges at m i n cut are within _ refl refl
           (ap₂ unit_of (ap (λ s. s.1.1.1.0) w.self-is) (ap (λ s. s.1.1.1.1.0.items) w.self-is)
           ∙ after_last old.zeros n (vec_len old.parts) parts w.in-Some.last.now old.parts.ok.0
           (w.in-Some.ensures.variant.0 refl) w.in-Some.ensures.value)
@@ -23,7 +23,7 @@ returns-clause-cut c = λ entries place at start m cut is within.
             | inl some ↦ absurd (false≢true (w.in-None.ensures.variant.1 some))
             | inr le ↦ le
           ] in
-          adds_zeros old entries place at start m n cut is within _ refl refl
+          adds_zeros old ranges at m i n cut are within _ refl refl
           (ap₂ unit_of (ap (λ s. s.1.1.1.0) w.self-is) (ap (λ s. s.1.1.1.1.0.items) w.self-is)
           ∙ before_first old.zeros n parts (omega (arith, none, old.parts.ok.0)))
           (omega (arith, c.requires))
