@@ -76,10 +76,9 @@ module _ (p span : ℕ) (some : 0 < p) (pos : 0 < span * p) where
             ∙ sym (cond-false (leb (m - number * p) p) tail 0 (lt-leb (m - number * p) p more))
         | inr last ↦
             let full = in_last m tail number (fills (omega (arith, begins))) (omega (arith, last, end_of, place_of)) in
+            let ends = after_last k (omega (arith, last, place_of, fits)) in
             (let e : shared (j * p) ((j + 1) * p) (0 + bytes k) (after k) + 0 ≡ tail =
-            omega (arith, after_last k (omega (arith, last, place_of, fits)), full, last, begins, place_of,
-            end_of, fits)
-            in e)
+            omega (arith, ends, full, last, begins, place_of, end_of, fits) in e)
             ∙ sym (cond-true (leb (m - number * p) p) tail 0 (le-leb (m - number * p) p last))
       ]
 
