@@ -10,7 +10,6 @@
 //! assert!(rt; bits.to_bytes(alloc)?.as_slice() == &[0x80]);
 //! ```
 //!
-//! - [`laws`]: a piece is right where it is so as a unit of one piece.
 //! - [`Bits`] (`bits.rt`): one bit a piece, piece 0 first, and as the bitfield of BEP 3 ("peer messages").
 //! - [`laws`]: what follows from the definitions alone.
 #![tactic(auto)]
