@@ -37,6 +37,8 @@ mod tests;
 #[cfg(test)]
 mod tests_hybrids;
 #[cfg(test)]
+mod tests_layered;
+#[cfg(test)]
 mod tests_lenient;
 #[cfg(test)]
 mod tests_order;
@@ -44,6 +46,8 @@ mod tests_order;
 mod tests_pieces;
 #[cfg(test)]
 mod tests_rows;
+#[cfg(test)]
+mod tests_told;
 #[cfg(test)]
 mod tests_worked;
 mod told;

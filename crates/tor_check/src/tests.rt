@@ -1,10 +1,10 @@
 //! Which bytes are torrents, and what they describe. The bytes are worked out from the standards; no condition of these
-//! rows compares a hash.
-use crate::validate;
-use std::alloc::{AllocError, Global};
+//! rows but those of layers compares a hash.
+use crate::tests_layered::{L0, L1, TWO};
+use crate::tests_rows::{Layered, first_wrong_layer};
+use crate::tests_told::{Row, first_wrong};
+use crate::{Torrent, validate};
 use std::test::Fail;
-use tor_merkle::{Hash, pair};
-use tor_tree::Kind;
 
 // The files a = `ab` and b = `c` in the folder `f`, piece length 16,384: a torrent of version 1. The hash is the SHA-1
 // of `abc`.
@@ -17,117 +17,101 @@ pub(crate) const ABC_V2: &[u8] = b"d4:infod9:file treed1:ad0:d6:lengthi3e11:piec
 \xba\x78\x16\xbf\x8f\x01\xcf\xea\x41\x41\x40\xde\x5d\xae\x22\x23\xb0\x03\x61\xa3\x96\x17\x7a\x9c\xb4\x10\xff\x61\
 \xf2\x00\x15\xadeee12:meta versioni2e4:name1:a12:piece lengthi16384ee12:piece layersdee";
 
-// What `validate` tells, as the program tells it after `tor: `.
-fn told(alloc: Global, bytes: &[u8]) -> Result<String, AllocError> {
-    match validate(alloc, bytes) {
-        Ok(_) => String::from_str(alloc, "accepted"),
-        Err(refusal) => format!(in alloc; "{refusal}"),
-    }
-}
+const ROWS: &[Row] = &[
+    (&[b""], "V1 Bencode B1 Truncated at 0"),
+    (&[b"d1:b0:1:a0:e"], "V1 Bencode B7 KeyOrder at 6"),
+    (&[b"le"], "V2 RootShape"),
+    (&[b"de"], "V3 InfoShape"),
+    (&[b"d4:infod12:meta versioni3eee"], "V4 MetaVersion"),
+    (&[b"d4:infodee"], "V5 PieceLength"),
+    (&[b"d4:infod4:name3:a/b12:piece lengthi1eee"], "V6 Name"),
+    (
+        &[b"d4:infod4:name1:a12:piece lengthi1eee"],
+        "V7 LengthAndFiles",
+    ),
+    (
+        &[b"d4:infod6:length1:a4:name1:a12:piece lengthi1eee"],
+        "V8 FileShape",
+    ),
+    (
+        &[b"d4:infod6:lengthi-1e4:name1:a12:piece lengthi1eee"],
+        "V9 FileLength",
+    ),
+    (
+        &[
+            b"d4:infod5:filesld6:lengthi2e4:pathl1:aeed6:lengthi1e4:pathl1:aeee4:name1:f12:piece lengthi1eee",
+        ],
+        "V10 Duplicate",
+    ),
+    (
+        &[
+            b"d4:infod5:filesld6:lengthi2e4:pathl1:aeed6:lengthi1e4:pathl1:a1:beee4:name1:f12:piece lengthi1eee",
+        ],
+        "V11 FileAndFolder",
+    ),
+    (
+        &[b"d4:infod5:filesle4:name1:f12:piece lengthi1eee"],
+        "V12 NoFiles",
+    ),
+    (
+        &[b"d4:infod6:lengthi1125899906842625e4:name1:a12:piece lengthi1eee"],
+        "V13 TooLarge",
+    ),
+    (
+        &[b"d4:infod4:attr1:l6:lengthi1e4:name1:a12:piece lengthi1eee"],
+        "V14 Symlink",
+    ),
+    (
+        &[b"d4:infod6:lengthi1e4:name1:a12:piece lengthi1e6:pieces0:ee"],
+        "V15 PiecesLength",
+    ),
+    (
+        &[
+            b"d4:infod9:file treed0:d6:lengthi0eee12:meta versioni2e4:name1:a12:piece lengthi16384eee",
+        ],
+        "V16 MixedNode",
+    ),
+    (
+        &[
+            b"d4:infod9:file treed1:ad0:d6:lengthi1eeee12:meta versioni2e4:name1:a12:piece lengthi16384eee",
+        ],
+        "V17 RootHash",
+    ),
+    (&[FOLDER_V1], "V1 f 16384 1: a 2 b 1 | a 2 b 1"),
+    (&[ABC_V2], "V2 a 16384 1: a 3 |"),
+];
 
 #[test]
 fn tells_why_bytes_are_no_torrent(rt: HostRuntime) -> Result<(), Fail> {
-    let alloc = rt.alloc();
-    let rows: [(&[u8], &str); 20] = [
-        (b"", "V1 Bencode B1 Truncated at 0"),
-        (b"d1:b0:1:a0:e", "V1 Bencode B7 KeyOrder at 6"),
-        (b"le", "V2 RootShape"),
-        (b"de", "V3 InfoShape"),
-        (b"d4:infod12:meta versioni3eee", "V4 MetaVersion"),
-        (b"d4:infodee", "V5 PieceLength"),
-        (b"d4:infod4:name3:a/b12:piece lengthi1eee", "V6 Name"),
-        (
-            b"d4:infod4:name1:a12:piece lengthi1eee",
-            "V7 LengthAndFiles",
-        ),
-        (
-            b"d4:infod6:length1:a4:name1:a12:piece lengthi1eee",
-            "V8 FileShape",
-        ),
-        (
-            b"d4:infod6:lengthi-1e4:name1:a12:piece lengthi1eee",
-            "V9 FileLength",
-        ),
-        (
-            b"d4:infod5:filesld6:lengthi2e4:pathl1:aeed6:lengthi1e4:pathl1:aeee4:name1:f12:piece lengthi1eee",
-            "V10 Duplicate",
-        ),
-        (
-            b"d4:infod5:filesld6:lengthi2e4:pathl1:aeed6:lengthi1e4:pathl1:a1:beee4:name1:f12:piece lengthi1eee",
-            "V11 FileAndFolder",
-        ),
-        (
-            b"d4:infod5:filesle4:name1:f12:piece lengthi1eee",
-            "V12 NoFiles",
-        ),
-        (
-            b"d4:infod6:lengthi1125899906842625e4:name1:a12:piece lengthi1eee",
-            "V13 TooLarge",
-        ),
-        (
-            b"d4:infod4:attr1:l6:lengthi1e4:name1:a12:piece lengthi1eee",
-            "V14 Symlink",
-        ),
-        (
-            b"d4:infod6:lengthi1e4:name1:a12:piece lengthi1e6:pieces0:ee",
-            "V15 PiecesLength",
-        ),
-        (
-            b"d4:infod9:file treed0:d6:lengthi0eee12:meta versioni2e4:name1:a12:piece lengthi16384eee",
-            "V16 MixedNode",
-        ),
-        (
-            b"d4:infod9:file treed1:ad0:d6:lengthi1eeee12:meta versioni2e4:name1:a12:piece lengthi16384eee",
-            "V17 RootHash",
-        ),
-        (FOLDER_V1, "accepted"),
-        (ABC_V2, "accepted"),
-    ];
-    for (bytes, wanted) in rows {
-        assert_eq!(rt; told(alloc, bytes)?.as_str(), wanted);
-    }
+    assert_eq!(rt; first_wrong(rt.alloc(), ROWS)?, None);
     Ok(())
+}
+
+// That each file has a root, or none has.
+fn all_have_root(torrent: &Torrent, wanted: bool) -> bool {
+    for view in torrent.files() {
+        if view.file().root.is_some() != wanted {
+            return false;
+        }
+    }
+    true
 }
 
 #[test]
 fn tells_what_a_torrent_of_version_1_describes(rt: HostRuntime) -> Result<(), Fail> {
     let torrent = validate(rt.alloc(), FOLDER_V1).ok().ok_or("refused")?;
-    assert_eq!(rt; torrent.kind(), Kind::V1);
-    assert_eq!(rt; torrent.name().as_bytes(), b"f".as_slice());
-    assert_eq!(rt; torrent.piece_length(), 16384);
-    assert!(rt; !torrent.is_private());
     assert_eq!(rt; torrent.info_span(), (7, 128));
-    assert_eq!(rt; torrent.piece_count(), 1);
     assert_eq!(rt; torrent.pieces().len(), 20);
-    assert_eq!(rt; torrent.entries().len(), 2);
-    let wanted: [(&[u8], u64); 2] = [(b"a", 2), (b"b", 1)];
-    assert_eq!(rt; torrent.files().len(), wanted.len());
-    for (view, (name, length)) in torrent.files().iter().zip(wanted) {
-        let file = view.file();
-        assert_eq!(rt; file.length, length);
-        assert!(rt; file.root.is_none());
-        assert!(rt; view.layer().is_empty());
-        for part in file.path.names() {
-            assert_eq!(rt; part.as_bytes(), name);
-        }
-    }
+    assert!(rt; all_have_root(&torrent, false));
     Ok(())
 }
 
 #[test]
 fn tells_what_a_torrent_of_version_2_describes(rt: HostRuntime) -> Result<(), Fail> {
     let torrent = validate(rt.alloc(), ABC_V2).ok().ok_or("refused")?;
-    assert_eq!(rt; torrent.kind(), Kind::V2);
     assert_eq!(rt; torrent.info_span(), (7, 140));
-    assert_eq!(rt; torrent.piece_count(), 1);
-    assert!(rt; torrent.entries().is_empty());
     assert!(rt; torrent.pieces().is_empty());
-    assert_eq!(rt; torrent.files().len(), 1);
-    for view in torrent.files() {
-        assert_eq!(rt; view.file().length, 3);
-        assert!(rt; view.file().root.is_some());
-        assert!(rt; view.layer().is_empty());
-    }
+    assert!(rt; all_have_root(&torrent, true));
     Ok(())
 }
 
@@ -151,67 +135,53 @@ const DIFFERING_HYBRID: &[u8] = b"d4:infod9:file treed1:ad0:d6:lengthi2e\
 d6:lengthi2e4:pathl1:beee12:meta versioni2e4:name1:f12:piece lengthi16384e6:pieces20:0123456789abcdef0123e\
 12:piece layersdee";
 
+const SIDES: &[Row] = &[
+    (
+        &[FOLDER_HYBRID],
+        "Hybrid f 16384 2: a 2 b 1 | a 2 .pad/16382 16382p b 1",
+    ),
+    (&[UNALIGNED_HYBRID], "V23 Alignment"),
+    (&[DIFFERING_HYBRID], "V22 FilesDiffer"),
+];
+
 #[test]
 fn compares_the_sides_of_a_hybrid(rt: HostRuntime) -> Result<(), Fail> {
-    let alloc = rt.alloc();
-    let torrent = validate(alloc, FOLDER_HYBRID).ok().ok_or("refused")?;
-    assert_eq!(rt; torrent.kind(), Kind::Hybrid);
-    assert_eq!(rt; torrent.piece_count(), 2);
-    assert_eq!(rt; torrent.files().len(), 2);
-    assert_eq!(rt; torrent.entries().len(), 3);
-    assert_eq!(rt; told(alloc, UNALIGNED_HYBRID)?.as_str(), "V23 Alignment");
-    assert_eq!(rt; told(alloc, DIFFERING_HYBRID)?.as_str(), "V22 FilesDiffer");
+    assert_eq!(rt; first_wrong(rt.alloc(), SIDES)?, None);
     Ok(())
 }
 
-// A torrent of version 2 of a file of two pieces with this root; its layers have one key, and `value` spells what it
-// has.
-fn of_two_pieces(
-    alloc: Global,
-    root: &Hash,
-    key: &Hash,
-    value: &[u8],
-) -> Result<Vec<u8>, AllocError> {
-    let mut bytes = Vec::new(alloc);
-    bytes.extend_from_slice(b"d4:infod9:file treed1:ad0:d6:lengthi16385e11:pieces root32:")?;
-    bytes.extend_from_slice(root)?;
-    bytes.extend_from_slice(
-        b"eee12:meta versioni2e4:name1:a12:piece lengthi16384ee12:piece layersd32:",
-    )?;
-    bytes.extend_from_slice(key)?;
-    bytes.extend_from_slice(value)?;
-    bytes.extend_from_slice(b"ee")?;
-    Ok(bytes)
-}
+// A torrent of version 2 of a file of two pieces: what stands before its root, and between the root and the one key of
+// its layers.
+const OF_TWO_PIECES: &[u8] = b"d4:infod9:file treed1:ad0:d6:lengthi16385e11:pieces root32:";
 
-// The spelling of two hashes, one after the other.
-fn both(alloc: Global, first: &Hash, second: &Hash) -> Result<Vec<u8>, AllocError> {
-    let mut bytes = Vec::new(alloc);
-    bytes.extend_from_slice(b"64:")?;
-    bytes.extend_from_slice(first)?;
-    bytes.extend_from_slice(second)?;
-    Ok(bytes)
-}
+const LAYERS: &[u8] = b"eee12:meta versioni2e4:name1:a12:piece lengthi16384ee12:piece layersd32:";
+
+const OF_ITS_ROOT: &[Layered] = &[(
+    (
+        &[OF_TWO_PIECES, &TWO, LAYERS, &TWO, b"64:", &L0, &L1, b"ee"],
+        "V2 a 16384 2: a 16385++ |",
+    ),
+    &[L0, L1],
+)];
+
+const OF_ANOTHER: &[Row] = &[
+    (
+        &[OF_TWO_PIECES, &TWO, LAYERS, &TWO, b"64:", &L1, &L0, b"ee"],
+        "V21 LayerRoot",
+    ),
+    (
+        &[OF_TWO_PIECES, &TWO, LAYERS, &TWO, b"0:", b"ee"],
+        "V20 LayerLength",
+    ),
+    (
+        &[OF_TWO_PIECES, &TWO, LAYERS, &L0, b"64:", &L0, &L1, b"ee"],
+        "V19 LayerAbsent",
+    ),
+];
 
 #[test]
 fn compares_a_layer_with_its_root(rt: HostRuntime) -> Result<(), Fail> {
-    let alloc = rt.alloc();
-    let first: Hash = [1; 32];
-    let second: Hash = [2; 32];
-    let root = pair(&first, &second);
-    let layer = both(alloc, &first, &second)?;
-    let bytes = of_two_pieces(alloc, &root, &root, &layer)?;
-    let torrent = validate(alloc, &bytes).ok().ok_or("refused")?;
-    assert_eq!(rt; torrent.piece_count(), 2);
-    for view in torrent.files() {
-        assert_eq!(rt; view.layer(), [first, second].as_slice());
-    }
-    let swapped = both(alloc, &second, &first)?;
-    let bytes = of_two_pieces(alloc, &root, &root, &swapped)?;
-    assert_eq!(rt; told(alloc, &bytes)?.as_str(), "V21 LayerRoot");
-    let bytes = of_two_pieces(alloc, &root, &root, b"0:")?;
-    assert_eq!(rt; told(alloc, &bytes)?.as_str(), "V20 LayerLength");
-    let bytes = of_two_pieces(alloc, &root, &first, &layer)?;
-    assert_eq!(rt; told(alloc, &bytes)?.as_str(), "V19 LayerAbsent");
+    assert_eq!(rt; first_wrong_layer(rt.alloc(), OF_ITS_ROOT)?, None);
+    assert_eq!(rt; first_wrong(rt.alloc(), OF_ANOTHER)?, None);
     Ok(())
 }

@@ -6,7 +6,7 @@ use std::alloc::{AllocError, Global};
 use std::io::{self, Error, ErrorKind, Write};
 use std::process::Abort;
 use std::test::Fail;
-use tor_merkle::{leaf, pair, zero};
+use tor_merkle::{Hash, leaf, pair, zero};
 use tor_tree::{FilePath, Kind, Name};
 
 /// The torrent of the content `abc` under the name `a`, piece length 16,384. The hash is the SHA-256 of `abc`.
@@ -89,6 +89,15 @@ pub(crate) fn files(
     Ok(files)
 }
 
+/// The parts, one after the other.
+pub(crate) fn joined(alloc: Global, parts: &[&[u8]]) -> Result<Vec<u8>, AllocError> {
+    let mut bytes = Vec::new(alloc);
+    for part in parts {
+        bytes.extend_from_slice(part)?;
+    }
+    Ok(bytes)
+}
+
 /// The torrent of one content under the name `a`.
 fn single(alloc: Global, kind: Kind, content: &[u8]) -> Result<Vec<u8>, Fail> {
     let head = head(alloc, kind, b"a", true, 16384)?;
@@ -101,74 +110,107 @@ fn folder(alloc: Global, kind: Kind, told: &[(&str, &[u8])]) -> Result<Vec<u8>, 
     Ok(make_contents(alloc, files(alloc, told)?, &head)?)
 }
 
+/// A content, and its torrent of a kind with the number of its bytes.
+type OneFile = (Kind, &'static [u8], &'static [u8], usize);
+
+const OF_ONE_FILE: [OneFile; 4] = [
+    (Kind::V2, b"abc", ABC, 158),
+    (Kind::V1, b"", EMPTY_V1, 62),
+    (Kind::V2, b"", EMPTY_V2, 109),
+    (Kind::Hybrid, b"", EMPTY_HYBRID, 130),
+];
+
+fn is_made(alloc: Global, row: &OneFile) -> Result<bool, Fail> {
+    let (kind, content, torrent, length) = *row;
+    Ok(torrent.len() == length && single(alloc, kind, content)?.as_slice() == torrent)
+}
+
 #[test]
 fn makes_torrents_of_one_file(rt: HostRuntime) -> Result<(), Fail> {
-    let alloc = rt.alloc();
-    let rows: [(Kind, &[u8], &[u8], usize); 4] = [
-        (Kind::V2, b"abc", ABC, 158),
-        (Kind::V1, b"", EMPTY_V1, 62),
-        (Kind::V2, b"", EMPTY_V2, 109),
-        (Kind::Hybrid, b"", EMPTY_HYBRID, 130),
-    ];
-    for (kind, content, torrent, length) in rows {
-        assert_eq!(rt; torrent.len(), length);
-        assert_eq!(rt; single(alloc, kind, content)?.as_slice(), torrent);
+    for row in &OF_ONE_FILE {
+        assert!(rt; is_made(rt.alloc(), row)?);
     }
     Ok(())
+}
+
+/// The torrent of `abc` under the name `a` with a tracker, and private.
+fn tracked(alloc: Global) -> Result<Vec<u8>, Fail> {
+    let mut head = head(alloc, Kind::V2, b"a", true, 16384)?;
+    head.announce = Some(Vec::from_slice(alloc, b"http://t/")?);
+    head.is_private = true;
+    Ok(make_contents(alloc, files(alloc, &[("a", b"abc")])?, &head)?)
 }
 
 #[test]
 fn writes_tracker_and_private(rt: HostRuntime) -> Result<(), Fail> {
-    let alloc = rt.alloc();
-    let mut head = head(alloc, Kind::V2, b"a", true, 16384)?;
-    head.announce = Some(Vec::from_slice(alloc, b"http://t/")?);
-    head.is_private = true;
     assert_eq!(rt; TRACKED.len(), 191);
-    let torrent = make_contents(alloc, files(alloc, &[("a", b"abc")])?, &head)?;
-    assert_eq!(rt; torrent.as_slice(), TRACKED);
+    assert_eq!(rt; tracked(rt.alloc())?.as_slice(), TRACKED);
     Ok(())
+}
+
+/// Files as paths and contents.
+type Told = &'static [(&'static str, &'static [u8])];
+
+/// Files, and their torrent of a kind with the number of its bytes.
+type OfFolder = (Told, Kind, &'static [u8], usize);
+
+const OF_A_FOLDER: [OfFolder; 4] = [
+    (&[("a", b"ab"), ("b", b"c")], Kind::V1, FOLDER_V1, 129),
+    (
+        &[("a", b"ab"), ("b", b"c")],
+        Kind::Hybrid,
+        FOLDER_HYBRID,
+        382,
+    ),
+    (&[("b", b"c"), ("a", b"ab")], Kind::V1, FOLDER_V1, 129),
+    (
+        &[("b", b"c"), ("a", b"ab")],
+        Kind::Hybrid,
+        FOLDER_HYBRID,
+        382,
+    ),
+];
+
+fn is_of_folder(alloc: Global, row: &OfFolder) -> Result<bool, Fail> {
+    let (told, kind, torrent, length) = *row;
+    Ok(torrent.len() == length && folder(alloc, kind, told)?.as_slice() == torrent)
 }
 
 #[test]
 fn makes_torrents_of_a_folder(rt: HostRuntime) -> Result<(), Fail> {
-    let alloc = rt.alloc();
-    assert_eq!(rt; FOLDER_V1.len(), 129);
-    assert_eq!(rt; FOLDER_HYBRID.len(), 382);
-    for told in [
-        [("a", b"ab".as_slice()), ("b", b"c")],
-        [("b", b"c"), ("a", b"ab")],
-    ] {
-        assert_eq!(rt; folder(alloc, Kind::V1, &told)?.as_slice(), FOLDER_V1);
-        assert_eq!(rt;
-            folder(alloc, Kind::Hybrid, &told)?.as_slice(),
-            FOLDER_HYBRID
-        );
+    for row in &OF_A_FOLDER {
+        assert!(rt; is_of_folder(rt.alloc(), row)?);
     }
     Ok(())
 }
 
+/// Files, and what stands in their hybrid.
+const PADDED: [(Told, &[u8]); 2] = [
+    (
+        &[("a", b"ab"), ("aa", b"")],
+        b"5:filesld6:lengthi2e4:pathl1:aeed6:lengthi0e4:pathl2:aaeee",
+    ),
+    (
+        &[("a", b"ab"), ("aa", b""), ("b", b"c")],
+        b"5:filesld6:lengthi2e4:pathl1:aeed4:attr1:p6:lengthi16382e4:pathl4:.pad5:16382ee\
+d6:lengthi0e4:pathl2:aaeed6:lengthi1e4:pathl1:beee",
+    ),
+];
+
+fn has(torrent: &[u8], listed: &[u8]) -> bool {
+    for part in torrent.windows(listed.len().max(1)) {
+        if part == listed {
+            return true;
+        }
+    }
+    false
+}
+
 #[test]
 fn pads_hybrids_before_contents_alone(rt: HostRuntime) -> Result<(), Fail> {
-    let alloc = rt.alloc();
-    let listed = b"5:filesld6:lengthi2e4:pathl1:aeed6:lengthi0e4:pathl2:aaeee";
-    let torrent = folder(alloc, Kind::Hybrid, &[("a", b"ab"), ("aa", b"")])?;
-    assert!(rt;
-        torrent
-            .windows(listed.len())
-            .any(|part| part == listed.as_slice())
-    );
-    let listed = b"5:filesld6:lengthi2e4:pathl1:aeed4:attr1:p6:lengthi16382e4:pathl4:.pad5:16382ee\
-d6:lengthi0e4:pathl2:aaeed6:lengthi1e4:pathl1:beee";
-    let torrent = folder(
-        alloc,
-        Kind::Hybrid,
-        &[("a", b"ab"), ("aa", b""), ("b", b"c")],
-    )?;
-    assert!(rt;
-        torrent
-            .windows(listed.len())
-            .any(|part| part == listed.as_slice())
-    );
+    for (told, listed) in &PADDED {
+        assert!(rt; has(&folder(rt.alloc(), Kind::Hybrid, told)?, listed));
+    }
     Ok(())
 }
 
@@ -176,156 +218,180 @@ fn sevens(alloc: Global, length: usize) -> Result<Vec<u8>, AllocError> {
     vec![in alloc; 7; length]
 }
 
+/// The torrent of version 2 of five such blocks, in pieces of two blocks.
+fn torrent_of_five(alloc: Global, block: &Hash) -> Result<Vec<u8>, AllocError> {
+    let full = pair(block, block);
+    let last = pair(block, &zero(0));
+    let root = pair(&pair(&full, &full), &pair(&last, &zero(1)));
+    let parts: [&[u8]; 9] = [
+        b"d4:infod9:file treed1:ad0:d6:lengthi81920e11:pieces root32:",
+        &root,
+        b"eee12:meta versioni2e4:name1:a12:piece lengthi32768ee12:piece layersd32:",
+        &root,
+        b"96:",
+        &full,
+        &full,
+        &last,
+        b"ee",
+    ];
+    joined(alloc, &parts)
+}
+
 #[test]
 fn writes_root_and_layer_of_five_blocks(rt: HostRuntime) -> Result<(), Fail> {
     let alloc = rt.alloc();
+    let expected = torrent_of_five(alloc, &leaf(&sevens(alloc, 16384)?))?;
     let head = head(alloc, Kind::V2, b"a", true, 32768)?;
-    let content = sevens(alloc, 81920)?;
-    let torrent = make_contents(alloc, files(alloc, &[("a", &content)])?, &head)?;
-    let block = leaf(&sevens(alloc, 16384)?);
-    let full = pair(&block, &block);
-    let last = pair(&block, &zero(0));
-    let root = pair(&pair(&full, &full), &pair(&last, &zero(1)));
-    let mut expected = Vec::new(alloc);
-    expected.extend_from_slice(b"d4:infod9:file treed1:ad0:d6:lengthi81920e11:pieces root32:")?;
-    expected.extend_from_slice(&root)?;
-    expected.extend_from_slice(
-        b"eee12:meta versioni2e4:name1:a12:piece lengthi32768ee12:piece layersd32:",
-    )?;
-    expected.extend_from_slice(&root)?;
-    expected.extend_from_slice(b"96:")?;
-    for hash in [full, full, last] {
-        expected.extend_from_slice(&hash)?;
-    }
-    expected.extend_from_slice(b"ee")?;
-    assert_eq!(rt; torrent.as_slice(), expected.as_slice());
+    let files = files(alloc, &[("a", &sevens(alloc, 81920)?)])?;
+    assert!(rt; make_contents(alloc, files, &head)? == expected);
     Ok(())
+}
+
+/// The end of a torrent with the layer of a file of these two blocks.
+fn layer_of_two(alloc: Global, first: &Hash, last: &Hash) -> Result<Vec<u8>, AllocError> {
+    let root = pair(first, last);
+    let parts: [&[u8]; 6] = [b"12:piece layersd32:", &root, b"64:", first, last, b"ee"];
+    joined(alloc, &parts)
+}
+
+/// The end of the torrent of a file of 16,385 bytes 7.
+fn layers_of_sevens(alloc: Global) -> Result<Vec<u8>, AllocError> {
+    let first = leaf(&sevens(alloc, 16384)?);
+    layer_of_two(alloc, &first, &leaf(b"\x07"))
+}
+
+/// The torrent of two such files.
+fn torrent_of_sevens(alloc: Global) -> Result<Vec<u8>, Fail> {
+    let content = sevens(alloc, 16385)?;
+    folder(alloc, Kind::V2, &[("a", &content), ("b", &content)])
 }
 
 #[test]
 fn lists_one_layer_of_equal_files(rt: HostRuntime) -> Result<(), Fail> {
-    let alloc = rt.alloc();
-    let content = sevens(alloc, 16385)?;
-    let torrent = folder(alloc, Kind::V2, &[("a", &content), ("b", &content)])?;
-    let first = leaf(&sevens(alloc, 16384)?);
-    let last = leaf(b"\x07");
-    let mut layers = Vec::new(alloc);
-    layers.extend_from_slice(b"12:piece layersd32:")?;
-    layers.extend_from_slice(&pair(&first, &last))?;
-    layers.extend_from_slice(b"64:")?;
-    layers.extend_from_slice(&first)?;
-    layers.extend_from_slice(&last)?;
-    layers.extend_from_slice(b"ee")?;
-    assert!(rt; torrent.ends_with(&layers));
+    let torrent = torrent_of_sevens(rt.alloc())?;
+    assert!(rt; torrent.ends_with(&layers_of_sevens(rt.alloc())?));
     Ok(())
+}
+
+/// Whether there is a torrent of the file `1` in a folder `.pad`.
+fn takes_pad(alloc: Global, kind: Kind) -> Result<bool, Fail> {
+    let torrent = folder(alloc, kind, &[(".pad/1", b"x")])?;
+    Ok(torrent.starts_with(b"d4:infod"))
 }
 
 #[test]
 fn takes_reserved_names_where_there_is_no_padding(rt: HostRuntime) -> Result<(), Fail> {
+    assert!(rt; takes_pad(rt.alloc(), Kind::V1)?);
+    assert!(rt; takes_pad(rt.alloc(), Kind::V2)?);
+    Ok(())
+}
+
+#[test]
+fn takes_a_reserved_name_of_one_file(rt: HostRuntime) -> Result<(), Fail> {
     let alloc = rt.alloc();
-    for kind in [Kind::V1, Kind::V2] {
-        let torrent = folder(alloc, kind, &[(".pad/1", b"x")])?;
-        assert!(rt; torrent.starts_with(b"d4:infod"));
-    }
     let head = head(alloc, Kind::Hybrid, b".pad", true, 16384)?;
     let files = files(alloc, &[(".pad", b"x")])?;
     assert!(rt; make_contents(alloc, files, &head).is_ok());
     Ok(())
 }
 
-/// The line of the refusal of empty files, whose paths stand in a text with spaces between, in the folder or file `f`.
-fn refusal(
-    alloc: Global,
-    kind: Kind,
-    single: bool,
-    piece_length: u64,
-    paths: &str,
-) -> Result<String, Fail> {
+/// Empty files, whose paths stand in a text with spaces between.
+fn empty_files(alloc: Global, paths: &str) -> Result<Vec<(FilePath, Vec<u8>)>, Fail> {
     let mut files = Vec::new(alloc);
-    for text in paths.split(' ') {
-        if !text.is_empty() {
-            files.push((path(alloc, text)?, Vec::new(alloc)))?;
-        }
+    for text in paths.split_whitespace() {
+        files.push((path(alloc, text)?, Vec::new(alloc)))?;
     }
+    Ok(files)
+}
+
+/// The kind, whether it is of one file, the piece length, the paths of empty files in the folder or file `f`, and the
+/// line of the refusal.
+type Refused = (Kind, bool, u64, &'static str, &'static str);
+
+const REFUSED: [Refused; 9] = [
+    (Kind::V2, true, 16383, "", "M1 PieceLength"),
+    (Kind::V1, false, 2147483648, "b", "M1 PieceLength"),
+    (Kind::V2, true, 16384, "", "M5 SingleShape"),
+    (Kind::V1, true, 16384, "b", "M5 SingleShape"),
+    (Kind::V2, true, 16384, "f f", "M5 SingleShape"),
+    (Kind::V2, false, 16384, "", "L4 NoFiles"),
+    (Kind::V1, false, 16384, "b b", "L1 Duplicate"),
+    (
+        Kind::Hybrid,
+        false,
+        16384,
+        ".pad .pad/1",
+        "L2 FileAndFolder",
+    ),
+    (Kind::Hybrid, false, 16384, "a .pad/1", "Y1 ReservedPad"),
+];
+
+fn is_refused(alloc: Global, row: &Refused) -> Result<bool, Fail> {
+    let (kind, single, piece_length, paths, line) = *row;
     let head = head(alloc, kind, b"f", single, piece_length)?;
-    let refusal = make_contents(alloc, files, &head).err().ok_or("made")?;
-    Ok(format!(in alloc; "{refusal}")?)
+    match make_contents(alloc, empty_files(alloc, paths)?, &head) {
+        Ok(_) => Ok(false),
+        Err(refusal) => Ok(format!(in alloc; "{refusal}")?.as_str() == line),
+    }
 }
 
 #[test]
 fn refuses_in_order(rt: HostRuntime) -> Result<(), Fail> {
-    let alloc = rt.alloc();
-    let table: [(Kind, bool, u64, &str, &str); 9] = [
-        (Kind::V2, true, 16383, "", "M1 PieceLength"),
-        (Kind::V1, false, 2147483648, "b", "M1 PieceLength"),
-        (Kind::V2, true, 16384, "", "M5 SingleShape"),
-        (Kind::V1, true, 16384, "b", "M5 SingleShape"),
-        (Kind::V2, true, 16384, "f f", "M5 SingleShape"),
-        (Kind::V2, false, 16384, "", "L4 NoFiles"),
-        (Kind::V1, false, 16384, "b b", "L1 Duplicate"),
-        (
-            Kind::Hybrid,
-            false,
-            16384,
-            ".pad .pad/1",
-            "L2 FileAndFolder",
-        ),
-        (Kind::Hybrid, false, 16384, "a .pad/1", "Y1 ReservedPad"),
-    ];
-    for (kind, single, piece_length, paths, line) in table {
-        let refusal = refusal(alloc, kind, single, piece_length, paths)?;
-        assert_eq!(rt; refusal.as_str(), line);
+    for row in &REFUSED {
+        assert!(rt; is_refused(rt.alloc(), row)?);
     }
     Ok(())
 }
+
+/// A path of 65 names.
+const DEEP: &str = "a/a/a/a/a/a/a/a/a/a/a/a/a/a/a/a/a/a/a/a/a/a/a/a/a/a/a/a/a/a/a/a/\
+a/a/a/a/a/a/a/a/a/a/a/a/a/a/a/a/a/a/a/a/a/a/a/a/a/a/a/a/a/a/a/a/a";
 
 #[test]
 fn refuses_long_paths_before_their_shape(rt: HostRuntime) -> Result<(), Fail> {
-    let alloc = rt.alloc();
-    let mut deep = String::from_str(alloc, "a")?;
-    for _ in 1..65 {
-        deep.push_str("/a")?;
-    }
-    let mut files = Vec::new(alloc);
-    files.push((path(alloc, deep.as_str())?, Vec::new(alloc)))?;
-    let head = head(alloc, Kind::V2, b"f", true, 16384)?;
-    let made = make_contents(alloc, files, &head);
-    let refusal = made.err().ok_or("made")?;
-    let text = format!(in alloc; "{refusal}")?;
-    assert_eq!(rt; text.as_str(), "M4 Path");
+    assert_eq!(rt; DEEP.split('/').count(), 65);
+    assert!(rt; is_refused(rt.alloc(), &(Kind::V2, true, 16384, DEEP, "M4 Path"))?);
     Ok(())
 }
 
+/// Hashes, and the link to a torrent that has them.
+const LINKS: [(Option<[u8; 20]>, Option<[u8; 32]>, &str); 3] = [
+    (
+        Some([0xab; 20]),
+        None,
+        "magnet:?xt=urn:btih:abababababababababababababababababababab",
+    ),
+    (
+        None,
+        Some([0x0f; 32]),
+        "magnet:?xt=urn:btmh:12200f0f0f0f0f0f0f0f0f0f0f0f0f0f0f0f0f0f0f0f0f0f0f0f0f0f0f0f0f0f0f0f",
+    ),
+    (
+        Some([0xab; 20]),
+        Some([0x0f; 32]),
+        "magnet:?xt=urn:btih:abababababababababababababababababababab\
+&xt=urn:btmh:12200f0f0f0f0f0f0f0f0f0f0f0f0f0f0f0f0f0f0f0f0f0f0f0f0f0f0f0f0f0f0f0f",
+    ),
+];
+
 #[test]
 fn links_to_a_torrent(rt: HostRuntime) -> Result<(), Fail> {
-    let alloc = rt.alloc();
-    let v1 = Some([0xab; 20]);
-    let v2 = Some([0x0f; 32]);
-    assert_eq!(rt;
-        magnet(alloc, &Hashes { v1, v2: None })?.as_str(),
-        "magnet:?xt=urn:btih:abababababababababababababababababababab"
-    );
-    assert_eq!(rt;
-        magnet(alloc, &Hashes { v1: None, v2 })?.as_str(),
-        "magnet:?xt=urn:btmh:12200f0f0f0f0f0f0f0f0f0f0f0f0f0f0f0f0f0f0f0f0f0f0f0f0f0f0f0f0f0f0f0f"
-    );
-    assert_eq!(rt;
-        magnet(alloc, &Hashes { v1, v2 })?.as_str(),
-        "magnet:?xt=urn:btih:abababababababababababababababababababab\
-&xt=urn:btmh:12200f0f0f0f0f0f0f0f0f0f0f0f0f0f0f0f0f0f0f0f0f0f0f0f0f0f0f0f0f0f0f0f"
-    );
+    for (v1, v2, link) in LINKS {
+        assert_eq!(rt; magnet(rt.alloc(), &Hashes { v1, v2 })?.as_str(), link);
+    }
     Ok(())
+}
+
+/// Whether just these bytes are written out.
+fn are_written(alloc: Global, bytes: &[u8]) -> bool {
+    let mut written = Vec::new(alloc);
+    write_out(&mut written, bytes).is_ok() && written.as_slice() == bytes
 }
 
 #[test]
 fn writes_out_all_bytes(rt: HostRuntime) -> Result<(), Fail> {
-    let mut written = Vec::new(rt.alloc());
-    assert!(rt; write_out(&mut written, b"abc").is_ok());
-    assert_eq!(rt; written.as_slice(), b"abc".as_slice());
-    let long = sevens(rt.alloc(), 100_000)?;
-    let mut written = Vec::new(rt.alloc());
-    assert!(rt; write_out(&mut written, &long).is_ok());
-    assert!(rt; written == long);
+    assert!(rt; are_written(rt.alloc(), b"abc"));
+    assert!(rt; are_written(rt.alloc(), &sevens(rt.alloc(), 100_000)?));
     Ok(())
 }
 
@@ -351,20 +417,21 @@ impl Write for Twelve {
     }
 }
 
+/// Whether such a writer stops the writing after 12 bytes, by its fault where it faults.
+fn stops_after_twelve(faults: bool) -> bool {
+    let mut writer = Twelve { taken: 0, faults };
+    let Err(stopped) = write_out(&mut writer, b"thirteen bytes") else {
+        return false;
+    };
+    let is_told = match stopped.fault {
+        Some(fault) => faults && fault.kind() == ErrorKind::Interrupted,
+        None => !faults,
+    };
+    stopped.written == 12 && is_told
+}
+
 #[test]
 fn tells_what_stopped_a_write(rt: HostRuntime) {
-    for faults in [true, false] {
-        let mut writer = Twelve { taken: 0, faults };
-        match write_out(&mut writer, b"thirteen bytes") {
-            Ok(()) => assert!(rt; false, "all was written"),
-            Err(stopped) => {
-                assert_eq!(rt; stopped.written, 12);
-                assert_eq!(rt; stopped.fault.is_some(), faults);
-                let interrupted = stopped
-                    .fault
-                    .is_some_and(|fault| fault.kind() == ErrorKind::Interrupted);
-                assert_eq!(rt; interrupted, faults);
-            }
-        }
-    }
+    assert!(rt; stops_after_twelve(true));
+    assert!(rt; stops_after_twelve(false));
 }

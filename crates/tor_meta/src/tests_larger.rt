@@ -1,15 +1,19 @@
 //! Torrents of a long name and of many files, and info hashes; each hash in hexadecimal is of Python's hashlib.
 
-use crate::tests::{files, head};
+use crate::tests::{files, head, joined};
 use crate::{Hashes, info_hashes, make_contents};
 use std::alloc::{AllocError, Global};
 use std::test::Fail;
 use tor_tree::{FilePath, Kind, Name};
 
 /// The SHA-256 of `info` in the torrent of version 2 of `abc` under the name `a`, piece length 16,384.
-const ABC_HASH: [u8; 32] =
-    *b"\x97\xcf\xdb\xa4\xcd\x02\xb8\xbf\xb5\x0f\x3b\x76\x5f\x57\x3f\x20\xd7\x3f\x93\x4c\
-\xdd\x15\x91\xa3\xc1\x33\x3a\xaf\xda\x95\xc4\x36";
+const ABC_HASHES: Hashes = Hashes {
+    v1: None,
+    v2: Some(
+        *b"\x97\xcf\xdb\xa4\xcd\x02\xb8\xbf\xb5\x0f\x3b\x76\x5f\x57\x3f\x20\xd7\x3f\x93\x4c\
+\xdd\x15\x91\xa3\xc1\x33\x3a\xaf\xda\x95\xc4\x36",
+    ),
+};
 
 /// The hashes of `info` in the hybrid of `a`, that has `ab`, and `b`, that has `c`, in the folder `f`.
 const FOLDER_HASHES: Hashes = Hashes {
@@ -34,60 +38,107 @@ fn at_top(alloc: Global, name: &[u8]) -> Result<FilePath, Fail> {
     Ok(FilePath::new(names).ok_or("no name")?)
 }
 
+/// The torrent of no content under a name of 255 bytes.
+fn torrent_of_long_name(alloc: Global, name: &[u8]) -> Result<Vec<u8>, AllocError> {
+    let parts: [&[u8]; 5] = [
+        b"d4:infod9:file treed255:",
+        name,
+        b"d0:d6:lengthi0eeee12:meta versioni2e4:name255:",
+        name,
+        b"12:piece lengthi16384ee12:piece layersdee",
+    ];
+    joined(alloc, &parts)
+}
+
 #[test]
 fn makes_a_torrent_of_a_long_name(rt: HostRuntime) -> Result<(), Fail> {
     let alloc = rt.alloc();
     let name = repeated(alloc, b'n', 255)?;
+    let expected = torrent_of_long_name(alloc, &name)?;
     let files = vec![in alloc; (at_top(alloc, &name)?, Vec::new(alloc))]?;
     let head = head(alloc, Kind::V2, &name, true, 16384)?;
-    let mut expected = Vec::new(alloc);
-    expected.extend_from_slice(b"d4:infod9:file treed255:")?;
-    expected.extend_from_slice(&name)?;
-    expected.extend_from_slice(b"d0:d6:lengthi0eeee12:meta versioni2e4:name255:")?;
-    expected.extend_from_slice(&name)?;
-    expected.extend_from_slice(b"12:piece lengthi16384ee12:piece layersdee")?;
-    let torrent = make_contents(alloc, files, &head)?;
-    assert_eq!(rt; torrent.as_slice(), expected.as_slice());
+    assert!(rt; make_contents(alloc, files, &head)? == expected);
     Ok(())
 }
 
-/// A thousand files of one byte 7 have the names 1000 to 1999, and are handed in from the last one on.
+/// A file of one byte 7, which has a number as its name.
+fn numbered(alloc: Global, n: u64) -> Result<(FilePath, Vec<u8>), Fail> {
+    let name = format!(in alloc; "{n}")?;
+    let path = at_top(alloc, name.as_bytes())?;
+    Ok((path, repeated(alloc, 7, 1)?))
+}
+
+/// A thousand such files, which have the names 1000 to 1999, from the last one on.
+fn thousand_files(alloc: Global) -> Result<Vec<(FilePath, Vec<u8>)>, Fail> {
+    let mut files = Vec::new(alloc);
+    for n in (1000..2000).rev() {
+        files.push(numbered(alloc, n)?)?;
+    }
+    Ok(files)
+}
+
+/// Their entries, in order.
+fn thousand_entries(alloc: Global) -> Result<String, AllocError> {
+    let mut entries = String::new(alloc);
+    for n in 1000..2000 {
+        entries.push_str(&format!(in alloc; "d6:lengthi1e4:pathl4:{n}ee")?)?;
+    }
+    Ok(entries)
+}
+
+/// Their torrent.
+fn torrent_of_thousand(alloc: Global) -> Result<Vec<u8>, AllocError> {
+    let entries = thousand_entries(alloc)?;
+    let parts: [&[u8]; 5] = [
+        b"d4:infod5:filesl",
+        entries.as_bytes(),
+        b"e4:name1:f12:piece lengthi16384e6:pieces20:",
+        SEVENS_HASH,
+        b"ee",
+    ];
+    joined(alloc, &parts)
+}
+
 #[test]
 fn makes_a_torrent_of_a_thousand_files(rt: HostRuntime) -> Result<(), Fail> {
     let alloc = rt.alloc();
-    let mut files = Vec::new(alloc);
-    let mut expected = Vec::new(alloc);
-    expected.extend_from_slice(b"d4:infod5:filesl")?;
-    for n in 1000..2000 {
-        let entry = format!(in alloc; "d6:lengthi1e4:pathl4:{n}ee")?;
-        expected.extend_from_slice(entry.as_bytes())?;
-    }
-    for n in (1000..2000).rev() {
-        let name = format!(in alloc; "{n}")?;
-        files.push((at_top(alloc, name.as_bytes())?, repeated(alloc, 7, 1)?))?;
-    }
-    expected.extend_from_slice(b"e4:name1:f12:piece lengthi16384e6:pieces20:")?;
-    expected.extend_from_slice(SEVENS_HASH)?;
-    expected.extend_from_slice(b"ee")?;
+    let expected = torrent_of_thousand(alloc)?;
     let head = head(alloc, Kind::V1, b"f", false, 16384)?;
-    let torrent = make_contents(alloc, files, &head)?;
-    assert_eq!(rt; torrent.as_slice(), expected.as_slice());
+    assert!(rt; make_contents(alloc, thousand_files(alloc)?, &head)? == expected);
     Ok(())
+}
+
+/// A kind, the name, whether it is of one file, the files, and the hashes of their torrent.
+type Hashed = (
+    Kind,
+    &'static [u8],
+    bool,
+    &'static [(&'static str, &'static [u8])],
+    Hashes,
+);
+
+const HASHED: [Hashed; 2] = [
+    (Kind::V2, b"a", true, &[("a", b"abc")], ABC_HASHES),
+    (
+        Kind::Hybrid,
+        b"f",
+        false,
+        &[("a", b"ab"), ("b", b"c")],
+        FOLDER_HASHES,
+    ),
+];
+
+fn has_hashes(alloc: Global, row: &Hashed) -> Result<bool, Fail> {
+    let (kind, name, single, told, hashes) = row;
+    let head = head(alloc, *kind, name, *single, 16384)?;
+    let torrent = make_contents(alloc, files(alloc, told)?, &head)?;
+    Ok(info_hashes(&torrent, *kind) == *hashes)
 }
 
 #[test]
 fn tells_info_hashes(rt: HostRuntime) -> Result<(), Fail> {
-    let alloc = rt.alloc();
-    let single = head(alloc, Kind::V2, b"a", true, 16384)?;
-    let torrent = make_contents(alloc, files(alloc, &[("a", b"abc")])?, &single)?;
-    let expected = Hashes {
-        v1: None,
-        v2: Some(ABC_HASH),
-    };
-    assert_eq!(rt; info_hashes(&torrent, Kind::V2), expected);
-    let folder = head(alloc, Kind::Hybrid, b"f", false, 16384)?;
-    let files = files(alloc, &[("a", b"ab"), ("b", b"c")])?;
-    let torrent = make_contents(alloc, files, &folder)?;
-    assert_eq!(rt; info_hashes(&torrent, Kind::Hybrid), FOLDER_HASHES);
+    for row in &HASHED {
+        assert!(rt; has_hashes(rt.alloc(), row)?);
+    }
     Ok(())
 }

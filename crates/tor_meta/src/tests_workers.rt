@@ -6,7 +6,7 @@ use crate::tests_source::order;
 use std::sync::atomic::AtomicU64;
 use std::sync::atomic::Ordering::SeqCst;
 use std::test::Fail;
-use std::thread::yield_now;
+use std::thread::{Threads, yield_now};
 use tor_engine::How;
 use tor_source::Source;
 use tor_tree::Kind;
@@ -48,23 +48,27 @@ impl Source for Meeting {
     }
 }
 
+/// The workers, how often the first read looks for another, and whether it finds one.
+const MEETINGS: [(How, u64, bool); 3] = [
+    (How::One, 1000, false),
+    (How::Halves(1), 1000, false),
+    (How::Halves(2), 10_000_000, true),
+];
+
+fn meet<R: AllocGlobal + Threads + Sync>(rt: &R, how: How, turns: u64) -> Result<bool, Fail> {
+    let order = order(rt.alloc(), Kind::V2, "a", true, how)?;
+    let paths = vec![in rt.alloc(); path(rt.alloc(), "a")?]?;
+    let source = Meeting {
+        turns,
+        begun: AtomicU64::new(0),
+    };
+    Ok(make(rt, rt.alloc(), &source, &paths, &order).is_ok())
+}
+
 #[test]
 fn workers_of_an_order_meet(rt: HostRuntime) -> Result<(), Fail> {
-    let alloc = rt.alloc();
-    let rows = [
-        (How::One, 1000, false),
-        (How::Halves(1), 1000, false),
-        (How::Halves(2), 10_000_000, true),
-    ];
-    for (how, turns, meet) in rows {
-        let order = order(alloc, Kind::V2, "a", true, how)?;
-        let paths = vec![in alloc; path(alloc, "a")?]?;
-        let source = Meeting {
-            turns,
-            begun: AtomicU64::new(0),
-        };
-        let made = make(&rt, alloc, &source, &paths, &order);
-        assert_eq!(rt; made.is_ok(), meet, "{how:?}");
+    for (how, turns, wanted) in MEETINGS {
+        assert_eq!(rt; meet(&rt, how, turns)?, wanted);
     }
     Ok(())
 }

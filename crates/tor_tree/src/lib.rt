@@ -37,6 +37,10 @@ mod properties;
 mod read_tree;
 #[cfg(test)]
 mod tests;
+#[cfg(test)]
+mod tests_lists;
+#[cfg(test)]
+mod tests_trees;
 mod tree_file;
 mod write_tree;
 
