@@ -1,5 +1,6 @@
 -- The proofs of the laws of src/laws.rt.
-use Rattle.std.proofs.Common.{◌≡◌, ◌≢◌, ℕ, ◌+◌, ◌*◌, ◌<◌, List, ◌++◌, length, get_or, refl, arith, ap, ◌∙◌, sym, subst}
+use Rattle.std.proofs.Common.{◌≡◌, ◌≢◌, ℕ, ◌+◌, ◌-◌, ◌*◌, ◌<◌, min, List, ◌++◌, length, get_or, refl, arith, ap, ◌∙◌}
+use Rattle.std.proofs.Common.{sym, subst}
 use Rattle.std.proofs.Common.{mul-le-mul_right}
 use Rattle.std.specs.List.{All, flat_map}
 use Rattle.tor_tree.specs.FileList.{lengths_of}
@@ -25,7 +26,7 @@ pub use Rattle.tor_plan.proofs.FilesLaidOut.{files_laid_out}
 use Rattle.tor_plan.proofs.JoinedContent.{joined_bytes, joined_sums}
 use Rattle.tor_plan.proofs.FilePieces.{separate_pieces}
 use Rattle.tor_plan.proofs.JoinedPieces.{joined_pieces}
-use Rattle.tor_plan.proofs.PieceWithin.{piece_within}
+use Rattle.tor_plan.proofs.PieceWithin.{piece_within, unit_between_length}
 use Rattle.tor_plan.proofs.Places.{places_of_entry_units}
 use Rattle.tor_plan.proofs.SeparateContent.{separate_content, separate_sums}
 use Rattle.tor_plan.proofs.WithinEntries as within
@@ -95,6 +96,12 @@ units_are_cut_into_pieces Hybrid piece_length span entries pos some laid =
 pub pieces_are_within_files : (lengths : List ℕ) (piece_length k : ℕ) (unit : PlanUnit)
     → All (IsInFile lengths) unit.parts → IsUnitWithin lengths piece_length (piece_of_unit piece_length unit k)
 pieces_are_within_files lengths piece_length k unit held = piece_within lengths piece_length k unit held
+
+pub pieces_are_so_long : (piece_length k : ℕ) (unit : PlanUnit)
+    → unit_length (piece_of_unit piece_length unit k) ≡ min (unit_length unit - k * piece_length) piece_length
+pieces_are_so_long piece_length k unit =
+    let next : (k + 1) * piece_length ≡ k * piece_length + piece_length = omega arith in
+    omega (arith, unit_between_length (k * piece_length) ((k + 1) * piece_length) unit, next)
 
 pub joined_entry_units_are_whole : (piece_length span : ℕ) (entries : List Entry) (k : ℕ) (unit : PlanUnit)
     → 0 < span * piece_length → k + 1 < length (entry_units V1 piece_length span entries)

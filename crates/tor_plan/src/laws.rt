@@ -1,5 +1,5 @@
 //! Laws over the definitions, as contracts of functions that do nothing.
-ghost use Rattle.std.specs.Prelude.{◌≡◌, ◌≢◌, ℕ, ◌+◌, ◌*◌, ◌<◌, All, List, length, slice_index_or};
+ghost use Rattle.std.specs.Prelude.{◌≡◌, ◌≢◌, ℕ, ◌+◌, ◌-◌, ◌*◌, ◌<◌, min, All, List, length, slice_index_or};
 ghost use Rattle.std.specs.List.{flat_map};
 ghost use Rattle.tor_plan.specs.Content.{AreContentsOfFiles, cut_content, layout_of, unit_content};
 ghost use Rattle.tor_plan.specs.Entries.{entry_units, lengths_of_entries};
@@ -103,6 +103,12 @@ pub fn units_are_cut_into_pieces()
 pub fn pieces_are_within_files()
     ensures { (lengths : List ℕ) (piece_length k : ℕ) (unit : PlanUnit) → All (IsInFile lengths) unit.parts →
         IsUnitWithin lengths piece_length (piece_of_unit piece_length unit k) }
+{}
+
+/// Each piece of a unit but the last is whole, and none is empty.
+pub fn pieces_are_so_long()
+    ensures { (piece_length k : ℕ) (unit : PlanUnit) →
+        unit_length (piece_of_unit piece_length unit k) ≡ min (unit_length unit - k * piece_length) piece_length }
 {}
 
 /// In version 1 each unit but the last has `span` pieces, of files and zeros.
