@@ -42,7 +42,7 @@ bounded n h =
     let from = le-leb MIN_PIECE_LENGTH n h.1 in let to = le-leb n MAX_PIECE_LENGTH h.2 in rw (h.0, from, to) refl
 
 -- so is that of a plan with trees
-allowed_with_trees : (kind : Kind) (p : ℕ) → IsPlanPieceLength kind p → has_v2 kind ≡ true → IsPieceLength p
+pub allowed_with_trees : (kind : Kind) (p : ℕ) → IsPlanPieceLength kind p → has_v2 kind ≡ true → IsPieceLength p
 allowed_with_trees V1 p pieces trees = cc
 allowed_with_trees V2 p pieces trees = bounded p pieces
 allowed_with_trees Hybrid p pieces trees = bounded p pieces

@@ -11,7 +11,7 @@ use Rattle.tor_tree.specs.declared.kinds.Kind.{Kind}
 use Rattle.tor_engine.specs.Contents.{contents_in}
 use Rattle.tor_engine.specs.declared.unit.UnitSums.{UnitSums}
 use Rattle.tor_engine.specs.steps.Hashes.{bytes_of_part}
-use Rattle.tor_engine.specs.steps.Reads.{AreReads, FeedsPart, HasLengths, HaveRead, PartRead}
+use Rattle.tor_engine.specs.steps.Reads.{AreReads, FeedsPart, HasPart, HaveRead, PartRead}
 use Rattle.tor_engine.specs.steps.Unit.{HasTaken}
 use Rattle.tor_engine.proofs.PartBytes.{fed_more, fed_none, later_bytes}
 
@@ -53,7 +53,7 @@ pub all_append : {X : Type 0} (P : X → Type 0) (xs ys : List X) → AllByRecur
 all_append P [] ys one other = other
 all_append P (x ∷ xs) ys one other = (one.0, all_append P xs ys one.1 other)
 
-all_split : {X : Type 0} (P : X → Type 0) (xs ys : List X) → AllByRecursion P (xs ++ ys)
+pub all_split : {X : Type 0} (P : X → Type 0) (xs ys : List X) → AllByRecursion P (xs ++ ys)
     → AllByRecursion P xs × AllByRecursion P ys
 all_split P [] ys all = (tt, all)
 all_split P (x ∷ xs) ys all = let rest = all_split P xs ys all.1 in ((all.0, rest.0), rest.1)
@@ -65,14 +65,14 @@ have_both contents one other have = all_split (λ read. bytes_of_part contents r
 
 module _ {F : Type 0} (is_steady : SourceFacts F → Type 0) (plan : PlanFacts) where
   pub reads_none : AreReads is_steady plan [] []
-  reads_none = record { each = refl; whole = tt; steady = λ facts is fit. tt }
+  reads_none = record { each = refl; whole = tt; steady = λ facts is have. tt }
 
   pub reads_one : (part : Part) (bytes : List ℕ) → length bytes ≡ part.length
-      → ((facts : SourceFacts F) → is_steady facts → HasLengths plan facts
+      → ((facts : SourceFacts F) → is_steady facts → HasPart facts part
       → bytes_of_part (contents_in facts (length plan.lengths)) part ≡ bytes)
       → AreReads is_steady plan (part ∷ []) ((part, bytes) ∷ [])
   reads_one part bytes whole steady =
-      record { each = refl; whole = (whole, tt); steady = λ facts is fit. (steady facts is fit, tt) }
+      record { each = refl; whole = (whole, tt); steady = λ facts is have. (steady facts is have.0, tt) }
 
   pub reads_as : (parts other : List Part) (reads : List PartRead) → parts ≡ other → AreReads is_steady plan parts reads
       → AreReads is_steady plan other reads
@@ -83,7 +83,8 @@ module _ {F : Type 0} (is_steady : SourceFacts F → Type 0) (plan : PlanFacts) 
   reads_both parts later reads more one other = record {
     each = map-append (λ read. read.0) reads more ∙ ap₂ (λ xs ys. xs ++ ys) one.each other.each;
     whole = all_append (λ read. length read.1 ≡ read.0.length) reads more one.whole other.whole;
-    steady = λ facts is fit.
+    steady = λ facts is have.
+        let both = all_split (HasPart facts) parts later have in
         all_append (λ read. bytes_of_part (contents_in facts (length plan.lengths)) read.0 ≡ read.1) reads more
-        (one.steady facts is fit) (other.steady facts is fit);
+        (one.steady facts is both.0) (other.steady facts is both.1);
   }

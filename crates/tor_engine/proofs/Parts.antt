@@ -1,15 +1,19 @@
 -- A part of a plan's file, where the files have the plan's lengths.
-use Rattle.std.proofs.Common.{◌≡◌, ◌≢◌, ◌<◌, ◌≤◌, ℕ, List, [], length, map, take, drop, get_or, unwrap_or}
-use Rattle.std.proofs.Common.{zero-add, ap, sym, ◌∙◌, arith}
+use Rattle.std.proofs.Common.{◌≡◌, ◌≢◌, ◌<◌, ℕ, List, [], ◌∷◌, length, map, take, drop, get_or, unwrap_or}
+use Rattle.std.proofs.Common.{zero-add, ap, subst, sym, ◌∙◌, arith}
+use Rattle.std.specs.List.{AllByRecursion}
 use Rattle.std.proofs.lemmas.List.{get_or-map, length-drop, length-map}
+use Rattle.std.proofs.lemmas.List.Elements.{All-from_recursion, All-get_or, recursion_from_All}
 use Rattle.std.proofs.lemmas.List.FromFn.{get_or-map-range_with_len}
 use Rattle.tor_plan.specs.PlanFacts.{PlanFacts}
 use Rattle.tor_plan.specs.WithinEntries.{IsInFile}
 use Rattle.tor_plan.specs.declared.units.Part.{Part}
+use Rattle.tor_plan.specs.declared.units.PlanUnit.{PlanUnit}
 use Rattle.tor_source.specs.Source.{SourceFacts, bytes_from}
 use Rattle.tor_engine.specs.Contents.{contents_in}
 use Rattle.tor_engine.specs.steps.Hashes.{bytes_of_part}
-use Rattle.tor_engine.specs.steps.Reads.{HasLengths}
+use Rattle.tor_engine.specs.steps.Run.{AreUnitsOf}
+use Rattle.tor_engine.specs.steps.Reads.{HasLengths, HasPart, HasParts}
 
 -- the plan tells the length of a file's content
 pub size_of : (lengths : List ℕ) (contents : List (List ℕ)) (file : ℕ) → map length contents ≡ lengths
@@ -24,24 +28,44 @@ pub some_bytes : (lengths : List ℕ) (part : Part) (bytes : List ℕ) → IsInF
     → length bytes ≡ part.length → bytes ≢ []
 some_bytes lengths part bytes is counted none = omega (arith, counted, is.some, ap length none)
 
-module _ {F : Type 0} (facts : SourceFacts F) (plan : PlanFacts) (part : Part) (fit : HasLengths plan facts)
-    (is : IsInFile plan.lengths part) where
-  content_at : get_or (contents_in facts (length plan.lengths)) part.file [] ≡ unwrap_or (facts.contents part.file) []
-  content_at =
+module _ {F : Type 0} (facts : SourceFacts F) (plan : PlanFacts) where
+  pub content_at : (part : Part) → IsInFile plan.lengths part
+      → get_or (contents_in facts (length plan.lengths)) part.file [] ≡ unwrap_or (facts.contents part.file) []
+  content_at part is =
       get_or-map-range_with_len (λ file. unwrap_or (facts.contents file) []) 0 (length plan.lengths) part.file
       part.file []
       is.named (zero-add part.file)
 
-  -- the file has its bytes
-  pub part_there : part.length ≤ length (bytes_from facts part.file part.start)
-  part_there =
-      let size = size_of plan.lengths (contents_in facts (length plan.lengths)) part.file fit is.named in
-      let long : get_or plan.lengths part.file 0 ≡ length (unwrap_or (facts.contents part.file) []) =
-      size ∙ ap length content_at in
-      let rest = length-drop part.start (unwrap_or (facts.contents part.file) []) in
-      omega (arith, is.within, long, rest)
-
-  -- which are those that the source has from its start on
-  pub part_bytes : take part.length (bytes_from facts part.file part.start)
+  -- the bytes of a part are those that the source has from its start on
+  pub part_bytes : (part : Part) → IsInFile plan.lengths part
+      → take part.length (bytes_from facts part.file part.start)
       ≡ bytes_of_part (contents_in facts (length plan.lengths)) part
-  part_bytes = ap (λ bytes. take part.length (drop part.start bytes)) (sym content_at)
+  part_bytes part is = ap (λ bytes. take part.length (drop part.start bytes)) (sym (content_at part is))
+
+  -- which are there where the files have the plan's lengths
+  module _ (fit : HasLengths plan facts) where
+    part_there : (part : Part) → IsInFile plan.lengths part → HasPart facts part
+    part_there part is =
+        let size = size_of plan.lengths (contents_in facts (length plan.lengths)) part.file fit is.named in
+        let long : get_or plan.lengths part.file 0 ≡ length (unwrap_or (facts.contents part.file) []) =
+        size ∙ ap length (content_at part is) in
+        let rest = length-drop part.start (unwrap_or (facts.contents part.file) []) in
+        omega (arith, is.within, long, rest)
+
+    pub parts_there : (parts : List Part) → AllByRecursion (IsInFile plan.lengths) parts → HasParts facts parts
+    parts_there [] are = tt
+    parts_there (part ∷ parts) are = (part_there part are.0, parts_there parts are.1)
+
+    -- so are those of a unit of a run
+    pub unit_there : (units : List PlanUnit) (i : ℕ) (d unit : PlanUnit) → i < length units → get_or units i d ≡ unit
+        → AreUnitsOf plan units → HasParts facts unit.parts
+    unit_there units i d unit lt here are =
+        subst (λ (u : PlanUnit). HasParts facts u.parts) here
+        (parts_there (get_or units i d).parts (recursion_from_All _ (get_or units i d).parts (are i d lt).parts))
+
+-- each of the parts that a source has
+pub one_there : {F : Type 0} (facts : SourceFacts F) (parts other : List Part) (i : ℕ) (d : Part) → i < length parts
+    → parts ≡ other → HasParts facts other → HasPart facts (get_or parts i d)
+one_there facts parts other i d lt same have =
+    All-get_or (HasPart facts) parts i d lt
+    (All-from_recursion (HasPart facts) parts (subst (λ (ps : List Part). HasParts facts ps) (sym same) have))

@@ -19,7 +19,7 @@ use Rattle.tor_v1.specs.Entries.{v1_entries}
 use Rattle.tor_v1.specs.declared.entry.Entry.{Entry}
 
 -- the first of lists that stand one after the other
-first_flat : {A B C : Type 0} (found : B → Option C) (f : A → List B) (one : A → Option C) (xs : List A)
+pub first_flat : {A B C : Type 0} (found : B → Option C) (f : A → List B) (one : A → Option C) (xs : List A)
     → ((x : A) → first_of found (f x) ≡ one x) → first_of found (flat_map f xs) ≡ first_of one xs
 unfolding first_of
 first_flat found f one [] same = refl

@@ -17,11 +17,11 @@ use Rattle.tor_plan.specs.WithinEntries.{IsInFile}
 use Rattle.tor_plan.specs.declared.units.Part.{Part}
 use Rattle.tor_plan.specs.declared.units.PlanUnit.{PlanUnit}
 use Rattle.tor_source.specs.Source.{SourceFacts}
-use Rattle.tor_engine.specs.steps.Reads.{AreReads, HaveRead, PartRead}
+use Rattle.tor_engine.specs.steps.Reads.{AreReads, HasLengths, HasParts, HaveRead, PartRead}
 use Rattle.tor_engine.specs.steps.Run.{IsUnitOf, parts_of}
 use Rattle.tor_engine.proofs.FileHashes.{some_piece}
 use Rattle.tor_engine.proofs.PartReads.{all_append}
-use Rattle.tor_engine.proofs.Parts.{size_of}
+use Rattle.tor_engine.proofs.Parts.{parts_there, size_of}
 use Rattle.tor_engine.proofs.Places.{length_of_places, length_places}
 use Rattle.tor_engine.proofs.Whole.{units_of_plan}
 use Rattle.tor_plan.proofs.ProvedLaws.{entry_units_name_each_byte}
@@ -152,6 +152,13 @@ parts_within plan [] are = tt
 parts_within plan (unit ∷ units) are =
     all_append (IsInFile plan.lengths) unit.parts (parts_of units)
     (recursion_from_All _ unit.parts are.0.parts) (parts_within plan units are.1)
+
+-- the source has all bytes of all units where its files have the plan's lengths
+pub plan_there : {F : Type 0} (facts : SourceFacts F) (plan : PlanFacts) → HasLengths plan facts → IsPlan plan
+    → HasParts facts (parts_of plan.units)
+plan_there facts plan fit is =
+    parts_there facts plan fit (parts_of plan.units)
+    (parts_within plan plan.units (recursion_from_All _ plan.units (units_of_plan plan is)))
 
 -- files of the plan's lengths have what was read of all its units
 pub contents_there : {F : Type 0} (is_steady : SourceFacts F → Type 0) (plan : PlanFacts) (reads : List PartRead)

@@ -1,6 +1,7 @@
 -- All units of a plan, of files that have its lengths.
 use Rattle.std.proofs.Common.{◌≡◌, ◌≤◌, ◌*◌, ◌^◌, ◌+◌, ℕ, List, [], ◌∷◌, length, map, Option, None, Some}
-use Rattle.std.proofs.Common.{option_map, unwrap_or, mul-le-mul_right, cond, inl, inr, refl, ap, ap₂, sym, subst, ◌∙◌, arith}
+use Rattle.std.proofs.Common.{option_map, unwrap_or, mul-le-mul_right, cond, inl, inr, refl, ap, ap₂, sym, subst, ◌∙◌}
+use Rattle.std.proofs.Common.{arith}
 use Rattle.std.proofs.lemmas.Bool.{cases_eq, eq-eqb, ne_eqb}
 use Rattle.std.proofs.lemmas.List.{length-map}
 use Rattle.std.proofs.lemmas.List.FromFn.{length-map-range_with_len}
@@ -18,7 +19,7 @@ use Rattle.tor_engine.specs.steps.Run.{AreUnitsOf}
 use Rattle.tor_engine.proofs.FileHashes.{some_piece}
 use Rattle.tor_engine.proofs.FirstOf.{neither}
 
-piece_is_small : (kind : Kind) (p : ℕ) → IsPlanPieceLength kind p → p ≤ 2 ^ 30
+pub piece_is_small : (kind : Kind) (p : ℕ) → IsPlanPieceLength kind p → p ≤ 2 ^ 30
 piece_is_small V1 p pieces = pieces.1
 piece_is_small V2 p pieces = pieces.2
 piece_is_small Hybrid p pieces = pieces.2

@@ -79,3 +79,11 @@ IsGiven gave (Missing file) = Unit {0}
 IsGiven gave Resources = Unit {0}
 -- no stream is read
 IsGiven gave (StreamTooLong file) = ⊥
+
+-- the same where a missing file is no fault
+abbrev pub IsGivenOfPieces : {F : Type 0} → (ℕ → Option ℕ → F → Type 0) → EngineError F → Type 0
+IsGivenOfPieces gave (Read file start fault) = gave file start fault
+IsGivenOfPieces gave (Changed file) = Unit {0}
+IsGivenOfPieces gave (Missing file) = ⊥
+IsGivenOfPieces gave Resources = Unit {0}
+IsGivenOfPieces gave (StreamTooLong file) = ⊥

@@ -1,4 +1,5 @@
 pub mod Hashes
+pub mod Pieces
 pub mod Reads
 pub mod Run
 pub mod Unit

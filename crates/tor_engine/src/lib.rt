@@ -17,17 +17,26 @@
 //! ```
 #![tactic(auto)]
 
+mod asked;
 mod engine;
 mod errors;
 mod halves;
 mod how;
+mod items;
 pub mod laws;
 mod lengths;
+mod piece_halves;
+mod piece_hash;
+mod piece_turn;
+mod pieces;
+mod present;
 mod reading;
 mod run;
 mod sums;
 #[cfg(test)]
 mod tests;
+#[cfg(test)]
+mod tests_pieces;
 #[cfg(test)]
 mod tests_reads;
 #[cfg(test)]
@@ -39,4 +48,6 @@ pub use engine::{hash_all, hash_told};
 pub use errors::EngineError;
 pub use how::How;
 pub use lengths::ask_lengths;
+pub use piece_hash::PieceHash;
+pub use pieces::hash_pieces;
 pub use sums::Sums;

@@ -2,8 +2,8 @@
 ghost use Rattle.std.specs.Prelude.{◌≡◌, ◌+◌, ◌<◌, ◌≤◌, None, Some, IfErr, IfOk, MatchResult, length};
 ghost use Rattle.tor_merkle.specs.declared.TheConstants.{MAX_LENGTH};
 ghost use Rattle.tor_source.specs.Source.{AreRead, SourceFacts, bytes_from};
-ghost use Rattle.tor_engine.specs.Fault.{IsFault, IsGiven, byte_fault, part_fault};
-ghost use Rattle.tor_engine.specs.steps.Reads.{FeedsPart};
+ghost use Rattle.tor_engine.specs.Fault.{IsFault, IsGivenOfPieces, byte_fault, part_fault};
+ghost use Rattle.tor_engine.specs.steps.Reads.{FeedsPart, HasPart};
 ghost use Rattle.tor_engine.specs.steps.Unit.{begun_of};
 
 use crate::errors::EngineError;
@@ -23,10 +23,9 @@ pub(crate) fn feed_part<S: Source>(
     requires placed { part.now.start + part.now.length ≤ MAX_LENGTH }
     ensures buffer { length buffer.new ≡ length buffer.old }
     ensures fed { IfOk result (λ _. FeedsPart (S.is_steady source.now) part.now part.now.length sums.old sums.new) }
-    ensures fault { (facts : SourceFacts S.Fault) → S.is_steady source.now facts →
-        part.now.length ≤ length (bytes_from facts part.now.file part.now.start) →
+    ensures fault { (facts : SourceFacts S.Fault) → S.is_steady source.now facts → HasPart facts part.now →
         MatchResult result (λ _. part_fault facts part.now ≡ None) (IsFault (part_fault facts part.now)) }
-    ensures gave { IfErr result (IsGiven (S.gave source.now)) }
+    ensures gave { IfErr result (IsGivenOfPieces (S.gave source.now)) }
 {
     let mut done = 0;
     'reads: while done < part.length {
@@ -58,7 +57,7 @@ fn read_once<S: Source>(
         0 < length (bytes_from facts file start) →
         MatchResult result (AreRead facts file start room.old room.new)
         (λ error. byte_fault facts file start ≡ Some error) }
-    ensures gave { IfErr result (IsGiven (S.gave source.now)) }
+    ensures gave { IfErr result (IsGivenOfPieces (S.gave source.now)) }
 {
     match source.read_at(file, start, room) {
         Ok(0) => Err(EngineError::Changed { file }),

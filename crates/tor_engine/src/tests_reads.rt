@@ -1,10 +1,13 @@
 //! What is asked of a source: where each read begins and ends, and which of its faults is told.
 
 use super::*;
-use crate::tests::{expect_fault, fault_by, files_of, plan_of};
+use crate::tests::{files_of, is_each_fault, is_fault, plan_of};
+use std::process::Abort;
 use std::sync::atomic::AtomicU64;
 use std::sync::atomic::Ordering::SeqCst;
 use std::test::Fail;
+use std::thread::Threads;
+use tor_plan::Plan;
 use tor_source::{FailSource, Source};
 use tor_tree::Kind;
 
@@ -40,42 +43,59 @@ impl Source for Watched {
     }
 }
 
+/// The length of the file and of a piece, and the span.
+type Read = (u64, u64, u32, Kind);
+
+const READ: [Read; 5] = [
+    (40000, 16384, 1, Kind::V1),
+    (40000, 16384, 2, Kind::V2),
+    (40000, 16384, 1, Kind::Hybrid),
+    (1_200_000, 1 << 21, 1, Kind::V2),
+    (1_200_000, 1 << 19, 2, Kind::V1),
+];
+
+fn is_read_right<R: AllocGlobal + Abort + Threads + Sync>(
+    rt: &R,
+    row: &Read,
+    how: How,
+) -> Result<bool, Fail> {
+    let (length, piece_length, span, kind) = *row;
+    let plan = plan_of(rt, &[length], kind, piece_length, span)?;
+    let source = Watched {
+        length,
+        part: piece_length.saturating_mul(u64::from(span)),
+        wrong: AtomicU64::new(0),
+    };
+    Ok(is_fault(rt, &source, &plan, how, "none")? && source.wrong.load(SeqCst) == 0)
+}
+
 #[test]
 fn reads_within_parts_and_buffers(rt: HostRuntime) -> Result<(), Fail> {
-    // The length of the file and of a piece, and the span.
-    let rows = [
-        (40000, 16384, 1, Kind::V1),
-        (40000, 16384, 2, Kind::V2),
-        (40000, 16384, 1, Kind::Hybrid),
-        (1_200_000, 1 << 21, 1, Kind::V2),
-        (1_200_000, 1 << 19, 2, Kind::V1),
-    ];
-    for (length, piece_length, span, kind) in rows {
-        let plan = plan_of(&rt, &[length], kind, piece_length, span)?;
-        for how in [How::One, How::Halves(2)] {
-            let source = Watched {
-                length,
-                part: piece_length.saturating_mul(u64::from(span)),
-                wrong: AtomicU64::new(0),
-            };
-            let fault = fault_by(&rt, &source, &plan, how)?;
-            assert_eq!(rt; fault.as_str(), "none", "{length}, {kind:?}, {how:?}");
-            assert_eq!(rt; source.wrong.load(SeqCst), 0, "{length}, {kind:?}, {how:?}");
-        }
+    for row in &READ {
+        assert!(rt; is_read_right(&rt, row, How::One)?);
+        assert!(rt; is_read_right(&rt, row, How::Halves(2))?);
     }
     Ok(())
 }
 
+/// Whether the fault of this byte is told.
+fn is_told<R: AllocGlobal + Abort + Threads + Sync>(
+    rt: &R,
+    plan: &Plan,
+    place: u64,
+) -> Result<bool, Fail> {
+    let alloc = rt.alloc();
+    let faults = vec![in alloc; (0, Some(place), 5)]?;
+    let source = FailSource::new(files_of(alloc, &[163840])?, faults);
+    let wanted = format!(in alloc; "Read {{ file: 0, start: Some({place}), fault: 5 }}")?;
+    Ok(is_each_fault(rt, &source, plan, &wanted)?)
+}
+
 #[test]
 fn tells_each_byte_that_fails_in_turn(rt: HostRuntime) -> Result<(), Fail> {
-    let alloc = rt.alloc();
     let plan = plan_of(&rt, &[163840], Kind::V2, 16384, 1)?;
     for turn in 0..40u64 {
-        let place = turn.saturating_mul(4096);
-        let faults = vec![in alloc; (0, Some(place), 5)]?;
-        let source = FailSource::new(files_of(alloc, &[163840])?, faults);
-        let wanted = format!(in alloc; "Read {{ file: 0, start: Some({place}), fault: 5 }}")?;
-        expect_fault(&rt, &source, &plan, &wanted, &wanted)?;
+        assert!(rt; is_told(&rt, &plan, turn.saturating_mul(4096))?);
     }
     Ok(())
 }
@@ -107,19 +127,19 @@ impl Source for Vanishing {
 fn asks_lengths_again_where_they_were_told(rt: HostRuntime) -> Result<(), Fail> {
     let alloc = rt.alloc();
     let plan = plan_of(&rt, &[40000], Kind::V2, 16384, 1)?;
-    let told = hash_told(
-        &rt,
-        alloc,
-        &files_of(alloc, &[40000])?,
-        &plan,
-        How::Halves(2),
-    )?;
+    let source = files_of(alloc, &[40000])?;
+    let told = hash_told(&rt, alloc, &source, &plan, How::Halves(2))?;
     assert_eq!(rt; told.lengths.as_slice(), [40000u64].as_slice());
+    Ok(())
+}
+
+#[test]
+fn tells_of_a_file_that_vanished(rt: HostRuntime) -> Result<(), Fail> {
+    let alloc = rt.alloc();
+    let plan = plan_of(&rt, &[40000], Kind::V2, 16384, 1)?;
     let gone = hash_told(&rt, alloc, &Vanishing { length: 40000 }, &plan, How::One);
-    let text = match gone {
-        Ok(_) => String::from_str(alloc, "none")?,
-        Err(error) => format!(in alloc; "{error:?}")?,
-    };
+    let error = gone.err().ok_or("sums")?;
+    let text = format!(in alloc; "{error:?}")?;
     assert_eq!(rt; text.as_str(), "Changed { file: 0 }");
     Ok(())
 }

@@ -1,11 +1,12 @@
 //! How many workers read at once.
 
 use super::*;
-use crate::tests::{fault_by, plan_of};
+use crate::tests::{is_fault, plan_of};
+use std::process::Abort;
 use std::sync::atomic::AtomicU64;
 use std::sync::atomic::Ordering::SeqCst;
 use std::test::Fail;
-use std::thread::yield_now;
+use std::thread::{Threads, yield_now};
 use tor_source::Source;
 use tor_tree::Kind;
 
@@ -41,28 +42,37 @@ impl Source for Crowded {
     }
 }
 
+/// How the units are shared, and by how many workers.
+const SHARED: [(How, u64); 5] = [
+    (How::One, 1),
+    (How::Halves(1), 1),
+    (How::Halves(2), 2),
+    (How::Halves(3), 3),
+    (How::Halves(5), 5),
+];
+
+/// Whether no more than so many read a file of 16 units at once.
+fn is_never_crowded<R: AllocGlobal + Abort + Threads + Sync>(
+    rt: &R,
+    how: How,
+    workers: u64,
+) -> Result<bool, Fail> {
+    let length = 16 * 16384;
+    let plan = plan_of(rt, &[length], Kind::V2, 16384, 1)?;
+    assert_eq!(rt; plan.units().len(), 16);
+    let source = Crowded {
+        length,
+        workers,
+        open: AtomicU64::new(0),
+        wrong: AtomicU64::new(0),
+    };
+    Ok(is_fault(rt, &source, &plan, how, "none")? && source.wrong.load(SeqCst) == 0)
+}
+
 #[test]
 fn no_more_workers_read_than_were_asked_for(rt: HostRuntime) -> Result<(), Fail> {
-    let length = 16 * 16384;
-    let plan = plan_of(&rt, &[length], Kind::V2, 16384, 1)?;
-    assert_eq!(rt; plan.units().len(), 16);
-    let rows = [
-        (How::One, 1),
-        (How::Halves(1), 1),
-        (How::Halves(2), 2),
-        (How::Halves(3), 3),
-        (How::Halves(5), 5),
-    ];
-    for (how, workers) in rows {
-        let source = Crowded {
-            length,
-            workers,
-            open: AtomicU64::new(0),
-            wrong: AtomicU64::new(0),
-        };
-        let fault = fault_by(&rt, &source, &plan, how)?;
-        assert_eq!(rt; fault.as_str(), "none", "{how:?}");
-        assert_eq!(rt; source.wrong.load(SeqCst), 0, "{how:?}");
+    for (how, workers) in SHARED {
+        assert!(rt; is_never_crowded(&rt, how, workers)?);
     }
     Ok(())
 }

@@ -3,8 +3,8 @@ ghost use Rattle.std.specs.Prelude.{◌≡◌, ◌<◌, None, IfErr, IfOk, Match
 ghost use Rattle.tor_plan.specs.PlanFacts.{IsPlan};
 ghost use Rattle.tor_plan.specs.WithinEntries.{IsInFile};
 ghost use Rattle.tor_source.specs.Source.{SourceFacts};
-ghost use Rattle.tor_engine.specs.Fault.{IsFault, IsGiven, part_fault, unit_fault};
-ghost use Rattle.tor_engine.specs.steps.Reads.{AddsPart, HasLengths};
+ghost use Rattle.tor_engine.specs.Fault.{IsFault, IsGivenOfPieces, part_fault, unit_fault};
+ghost use Rattle.tor_engine.specs.steps.Reads.{AddsPart, HasPart, HasParts};
 ghost use Rattle.tor_engine.specs.steps.Run.{AddsUnit, AnswersUnits, AreUnitsOf, IsUnitOf};
 ghost use Rattle.tor_engine.specs.steps.Unit.{begun_of};
 
@@ -18,7 +18,7 @@ use tor_plan::{Part, Plan, PlanUnit};
 use tor_source::Source;
 
 /// The bytes that a worker reads at once, at most.
-const BUFFER_LENGTH: usize = 1 << 20;
+pub(crate) const BUFFER_LENGTH: usize = 1 << 20;
 
 /// What the units sum up to.
 pub(crate) fn hash_in_turn<S: Source>(
@@ -44,7 +44,7 @@ pub(crate) fn hash_in_turn<S: Source>(
 }
 
 /// Adds what one unit sums up to.
-fn hash_unit<S: Source>(
+pub(crate) fn hash_unit<S: Source>(
     alloc: Global,
     source: &S,
     plan: &Plan,
@@ -57,9 +57,9 @@ fn hash_unit<S: Source>(
     requires buffer { 0 < length buffer.old }
     ensures buffer { length buffer.new ≡ length buffer.old }
     ensures added { IfOk result (λ _. AddsUnit (S.is_steady source.now) plan.now unit.now run.old run.new) }
-    ensures fault { (facts : SourceFacts S.Fault) → S.is_steady source.now facts → HasLengths plan.now facts →
+    ensures fault { (facts : SourceFacts S.Fault) → S.is_steady source.now facts → HasParts facts unit.now.parts →
         MatchResult result (λ _. unit_fault facts unit.now ≡ None) (IsFault (unit_fault facts unit.now)) }
-    ensures gave { IfErr result (IsGiven (S.gave source.now)) }
+    ensures gave { IfErr result (IsGivenOfPieces (S.gave source.now)) }
 {
     let mut sums = UnitSums::new(alloc, plan.kind(), plan.piece_length());
     sums.feed_zeros(unit.zeros)?;
@@ -99,9 +99,9 @@ fn hash_part<S: Source>(
     ensures buffer { length buffer.new ≡ length buffer.old }
     ensures added { IfOk result
         (λ _. AddsPart (S.is_steady source.now) plan.now part.now sums.old sums.new hashes.old.items hashes.new.items) }
-    ensures fault { (facts : SourceFacts S.Fault) → S.is_steady source.now facts → HasLengths plan.now facts →
+    ensures fault { (facts : SourceFacts S.Fault) → S.is_steady source.now facts → HasPart facts part.now →
         MatchResult result (λ _. part_fault facts part.now ≡ None) (IsFault (part_fault facts part.now)) }
-    ensures gave { IfErr result (IsGiven (S.gave source.now)) }
+    ensures gave { IfErr result (IsGivenOfPieces (S.gave source.now)) }
 {
     match feed_part(source, part, buffer, sums) {
         Ok(()) => {}
@@ -112,7 +112,7 @@ fn hash_part<S: Source>(
     Ok(())
 }
 
-fn zeros(alloc: Global, length: usize) -> Result<Vec<u8>, AllocError>
+pub(crate) fn zeros(alloc: Global, length: usize) -> Result<Vec<u8>, AllocError>
     ensures { IfOk result (λ bytes. vec_len bytes ≡ length) }
 {
     vec![in alloc; 0; length]

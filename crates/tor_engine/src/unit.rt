@@ -125,7 +125,7 @@ impl UnitSums {
 }
 
 /// Feeds so many zeros, as many at a time as the sums take.
-fn feed_zeros(pieces: &mut PieceSums, count: u64) -> Result<(), AllocError>
+pub(crate) fn feed_zeros(pieces: &mut PieceSums, count: u64) -> Result<(), AllocError>
     ensures { OnOk result (Feeds pieces.old pieces.new (zeros count)) }
 {
     let mut left = count;

@@ -17,12 +17,20 @@ use Rattle.tor_engine.specs.steps.Unit.{HasTaken, begun_of}
 abbrev pub HasLengths : {F : Type 0} → PlanFacts → SourceFacts F → Type 0
 HasLengths plan facts = map length (contents_in facts (length plan.lengths)) ≡ plan.lengths
 
+-- the source has all bytes of a part
+abbrev pub HasPart : {F : Type 0} → SourceFacts F → Part → Type 0
+HasPart facts part = part.length ≤ length (bytes_from facts part.file part.start)
+
+-- and those of each of these
+abbrev pub HasParts : {F : Type 0} → SourceFacts F → List Part → Type 0
+HasParts facts parts = AllByRecursion (HasPart facts) parts
+
 -- the first so many bytes of a part were read and fed; of a steady source they are those that it has there
 pub record FeedsPart {F : Type 0} (is_steady : SourceFacts F → Type 0) (part : Part) (count : ℕ)
     (old new : UnitSums) : Type 0 where
   pub bytes : List ℕ
   pub counted : length bytes ≡ count
-  pub steady : (facts : SourceFacts F) → is_steady facts → part.length ≤ length (bytes_from facts part.file part.start)
+  pub steady : (facts : SourceFacts F) → is_steady facts → HasPart facts part
       → bytes ≡ take count (bytes_from facts part.file part.start)
   pub taken : (kind : Kind) (piece_length : ℕ) (before unit : List ℕ) → HasTaken kind piece_length before unit old
       → HasTaken kind piece_length (before ++ bytes) (unit ++ bytes) new
@@ -33,7 +41,7 @@ pub record AddsPart {F : Type 0} (is_steady : SourceFacts F → Type 0) (plan : 
     (old new : UnitSums) (hashes more : List (List ℕ)) : Type 0 where
   pub bytes : List ℕ
   pub counted : length bytes ≡ part.length
-  pub steady : (facts : SourceFacts F) → is_steady facts → HasLengths plan facts
+  pub steady : (facts : SourceFacts F) → is_steady facts → HasPart facts part
       → bytes_of_part (contents_in facts (length plan.lengths)) part ≡ bytes
   pub begun : begun_of new ≡ 0
   pub sums : (contents : List (List ℕ)) (unit : List ℕ) → map length contents ≡ plan.lengths
@@ -54,7 +62,7 @@ pub record AreReads {F : Type 0} (is_steady : SourceFacts F → Type 0) (plan : 
     (reads : List PartRead) : Type 0 where
   pub each : map (λ read. read.0) reads ≡ parts
   pub whole : AllByRecursion (λ read. length read.1 ≡ read.0.length) reads
-  pub steady : (facts : SourceFacts F) → is_steady facts → HasLengths plan facts
+  pub steady : (facts : SourceFacts F) → is_steady facts → HasParts facts parts
       → HaveRead (contents_in facts (length plan.lengths)) reads
 
 -- the parts of a unit were read so far, after so many zeros, and the hashes of their pieces were put after the others

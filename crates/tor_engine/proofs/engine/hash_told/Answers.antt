@@ -2,7 +2,7 @@
 use Rattle.std.proofs.Common.{length, inl, inr, sym, ◌∙◌}
 use Rattle.tor_engine.specs.Contents.{contents_in}
 use Rattle.tor_engine.proofs.PlanFaults.{fault_of_plan}
-use Rattle.tor_engine.proofs.ReadContents.{contents_there}
+use Rattle.tor_engine.proofs.ReadContents.{contents_there, plan_there}
 use Rattle.tor_engine.proofs.Whole.{lengths_hold}
 use Rattle.tor_engine.proofs.engine.hash_told.Goals as goal
 
@@ -23,7 +23,8 @@ returns-clause-summed g c = λ facts steady none.
     let fit = lengths_hold facts plan none in
     let contents = contents_in facts (length plan.lengths) in
     let summed = c.in-Ok.ensures.answered.summed in
-    let hashed = summed.sums contents fit (summed.are.steady facts steady fit) in (
+    let hashed = summed.sums contents fit (summed.are.steady facts steady
+    (plan_there facts plan fit c.hash_units.ensures.planned)) in (
       c.in_ok-sums.ensures contents fit hashed.hashes hashed.pieces,
       sym (fault_of_plan facts plan c.hash_units.ensures.planned)
           ∙ c.in-Ok.ensures.answered.steady facts steady fit,

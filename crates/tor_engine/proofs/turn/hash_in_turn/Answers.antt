@@ -1,7 +1,9 @@
 -- one unit after the other
 use Rattle.std.proofs.Common.{◌<◌, ℕ, inl, inr, ap, sym, subst, ◌∙◌, arith}
 use Rattle.tor_engine.specs.Fault.{unit_fault}
+use Rattle.tor_engine.proofs.Given.{given_of_pieces}
 use Rattle.tor_engine.proofs.FirstOf.{first_at, first_next, first_of_none}
+use Rattle.tor_engine.proofs.Parts.{unit_there}
 use Rattle.tor_engine.proofs.UnitRuns.{units_more, units_none}
 use Rattle.tor_engine.proofs.turn.hash_in_turn.Goals as goal
 
@@ -26,17 +28,20 @@ units-preserved g c =
           c.hash_unit.new.run c.units-test.true here old.hashed c.in-Ok.ensures.added;
       faultless = λ facts steady fit.
           first_next (unit_fault facts) units i _ c.units-test.true (old.faultless facts steady fit)
-          (ap (unit_fault facts) here ∙ c.in-Ok.ensures.fault facts steady fit);
+          (ap (unit_fault facts) here ∙ c.in-Ok.ensures.fault facts steady
+          (unit_there facts c.args.plan.now fit units i _ c.unit-item.result c.units-test.true here c.requires.units));
     }
 
 pub returns-in-Err : goal.returns-in-Err
 returns-in-Err g c = record {
   summed = _;
-  steady = λ facts steady fit. elim (c.in-Err.ensures.fault facts steady fit) [
-    | inl memory ↦ inl memory
-    | inr fault ↦ inr (first_at (unit_fault facts) c.args.units.now c.units.unit-index _ c.in-Err.error
-        c.units-test.true (c.units.invariant.faultless facts steady fit)
-        (ap (unit_fault facts) (sym c.unit-item.is) ∙ fault))
-  ];
-  given = c.in-Err.ensures.gave;
+  steady = λ facts steady fit. elim (c.in-Err.ensures.fault facts steady
+      (unit_there facts c.args.plan.now fit c.args.units.now c.units.unit-index _ c.unit-item.result
+      c.units-test.true (sym c.unit-item.is) c.requires.units)) [
+        | inl memory ↦ inl memory
+        | inr fault ↦ inr (first_at (unit_fault facts) c.args.units.now c.units.unit-index _ c.in-Err.error
+            c.units-test.true (c.units.invariant.faultless facts steady fit)
+            (ap (unit_fault facts) (sym c.unit-item.is) ∙ fault))
+      ];
+  given = given_of_pieces (g.S.Source.gave c.args.source.now) c.in-Err.error c.in-Err.ensures.gave;
 }

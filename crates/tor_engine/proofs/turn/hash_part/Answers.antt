@@ -4,16 +4,8 @@ use Rattle.tor_tree.specs.Kinds.{has_v2}
 use Rattle.tor_v1.specs.Piece.{zeros}
 use Rattle.tor_engine.specs.steps.Hashes.{hashes_of_bytes}
 use Rattle.tor_engine.specs.steps.Unit.{HasTaken}
-use Rattle.tor_engine.proofs.Parts.{part_bytes, part_there, size_of, some_bytes}
+use Rattle.tor_engine.proofs.Parts.{part_bytes, size_of, some_bytes}
 use Rattle.tor_engine.proofs.turn.hash_part.Goals as goal
-
-pub returns-in-Err-clause-fault : goal.returns-in-Err-clause-fault
-returns-in-Err-clause-fault g c = λ facts steady fit.
-    c.in-Err.ensures.fault facts steady (part_there facts c.args.plan.now c.args.part.now fit c.requires.part)
-
-pub returns-clause-fault : goal.returns-clause-fault
-returns-clause-fault g c = λ facts steady fit.
-    c.in-Ok.ensures.fault facts steady (part_there facts c.args.plan.now c.args.part.now fit c.requires.part)
 
 pub returns-clause-added : goal.returns-clause-added
 returns-clause-added g c =
@@ -27,9 +19,8 @@ returns-clause-added g c =
     record {
       bytes = bytes;
       counted = fed.counted;
-      steady = λ facts steady fit.
-          sym (fed.steady facts steady (part_there facts plan part fit c.requires.part)
-          ∙ part_bytes facts plan part fit c.requires.part);
+      steady = λ facts steady have.
+          sym (fed.steady facts steady have ∙ part_bytes facts plan part c.requires.part);
       begun = c.in_ok-feed_zeros.ensures.begun ∙ c.in_ok-end_part.ensures.begun;
       sums = λ contents unit fit own given.
           let ended = c.in_ok-end_part.ensures.taken plan.kind p bytes (unit ++ bytes)

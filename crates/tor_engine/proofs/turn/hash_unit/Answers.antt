@@ -8,6 +8,7 @@ use Rattle.tor_v1.specs.Piece.{piece_sums, zeros}
 use Rattle.tor_engine.specs.Fault.{first_of, part_fault}
 use Rattle.tor_engine.specs.steps.Hashes.{hashes_of_part, hashes_of_unit}
 use Rattle.tor_engine.proofs.FirstOf.{first_at, first_next, first_of_none}
+use Rattle.tor_engine.proofs.Parts.{one_there}
 use Rattle.tor_engine.proofs.PartReads.{reads_as}
 use Rattle.tor_engine.proofs.Runs.{one_alone}
 use Rattle.tor_engine.proofs.Taken.{taken_as}
@@ -25,16 +26,18 @@ each-init g c =
           c.args.run.now.hashes.items
           (taken_as _ _ _ _ _ _ _ c.kind.ensures c.piece_length.ensures refl
           (c.in_ok-feed_zeros.ensures.taken _ _ [] [] c.new-sums.ensures.taken));
-      faultless = λ facts steady fit. first_of_none (part_fault facts);
+      faultless = λ facts steady have. first_of_none (part_fault facts);
     }
 
 pub returns-in-Err-clause-fault : goal.returns-in-Err-clause-fault
-returns-in-Err-clause-fault g c = λ facts steady fit.
-    elim (c.in-Err.ensures.fault facts steady fit) [
+returns-in-Err-clause-fault g c = λ facts steady have.
+    elim (c.in-Err.ensures.fault facts steady
+    (one_there facts c.as_slice-parts.result.now c.args.unit.now.parts c.each.part-index _ c.each-test.true
+    c.as_slice-parts.ensures have)) [
       | inl memory ↦ inl memory
       | inr fault ↦ inr (ap (first_of (part_fault facts)) (sym c.as_slice-parts.ensures)
           ∙ first_at (part_fault facts) c.as_slice-parts.result.now c.each.part-index _ c.in-Err.error
-          c.each-test.true (c.each.invariant.faultless facts steady fit) fault)
+          c.each-test.true (c.each.invariant.faultless facts steady have) fault)
     ]
 
 pub each-preserved : goal.each-preserved
@@ -50,9 +53,10 @@ each-preserved g c =
           c.each.sums
           c.hash_part.new.sums c.args.run.now.hashes.items c.each.run.hashes.items c.hash_part.new.hashes.items
           c.each-test.true old.read c.in-Ok.ensures.added;
-      faultless = λ facts steady fit.
-          first_next (part_fault facts) parts i _ c.each-test.true (old.faultless facts steady fit)
-          (c.in-Ok.ensures.fault facts steady fit);
+      faultless = λ facts steady have.
+          first_next (part_fault facts) parts i _ c.each-test.true (old.faultless facts steady have)
+          (c.in-Ok.ensures.fault facts steady
+          (one_there facts parts c.args.unit.now.parts i _ c.each-test.true c.as_slice-parts.ensures have));
     }
 
 pub returns-clause-added : goal.returns-clause-added

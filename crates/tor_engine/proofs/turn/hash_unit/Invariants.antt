@@ -2,7 +2,7 @@
 use Rattle.std.proofs.Common.{◌≡◌, None, length, take}
 use Rattle.tor_source.specs.Source.{SourceFacts}
 use Rattle.tor_engine.specs.Fault.{first_of, part_fault}
-use Rattle.tor_engine.specs.steps.Reads.{HasLengths, ReadsParts}
+use Rattle.tor_engine.specs.steps.Reads.{HasParts, ReadsParts}
 use Rattle.tor_engine.proofs.turn.hash_unit.Given as goal
 
 abbrev pub invariant-each : goal.invariant-each
@@ -13,5 +13,5 @@ invariant-each g l = record {
   read : ReadsParts (g.S.Source.is_steady l.source) l.plan l.unit.zeros (take l.part-index l.parts) l.sums
       l.initial.run.hashes.items l.run.hashes.items;
   faultless : (facts : SourceFacts g.row.S-Fault.Denot) → g.S.Source.is_steady l.source facts →
-      HasLengths l.plan facts → first_of (part_fault facts) (take l.part-index l.parts) ≡ None;
+      HasParts facts l.unit.parts → first_of (part_fault facts) (take l.part-index l.parts) ≡ None;
 }

@@ -1,0 +1,63 @@
+-- The hashes and the first fault of all pieces of a plan, unit by unit.
+use Rattle.std.proofs.Common.{◌≡◌, ℕ, List, [], ◌∷◌, ◌++◌, length, map, Option, None, Some, unwrap_or, option_map}
+use Rattle.std.proofs.Common.{refl, ap}
+use Rattle.std.proofs.Common.{ap₂, sym, ◌∙◌}
+use Rattle.std.specs.List.{flat_map, range_with_len}
+use Rattle.std.proofs.lemmas.List.{map-append}
+use Rattle.std.proofs.lemmas.List.FromFn.{length-map-range_with_len}
+use Rattle.tor_plan.specs.Pieces.{pieces_of_unit}
+use Rattle.tor_plan.specs.PlanFacts.{PlanFacts}
+use Rattle.tor_source.specs.Source.{SourceFacts}
+use Rattle.tor_engine.specs.Contents.{contents_in}
+use Rattle.tor_engine.specs.PieceFault.{first_asked_fault, first_piece_fault, lengths_told, piece_fault, pieces_fault}
+use Rattle.tor_engine.specs.PieceHashes.{hash_if_there, pieces_of_plan, piece_hashes}
+use Rattle.tor_engine.specs.steps.Pieces.{AreTold, first_unit_fault, unit_hashes, unit_pieces_fault}
+use Rattle.tor_engine.proofs.FirstOf.{or_none}
+use Rattle.tor_engine.proofs.PlaceFaults.{first_flat}
+
+joined_maps : {X Y Z : Type 0} (f : Y → Z) (g : X → List Y) (xs : List X)
+    → flat_map (λ x. map f (g x)) xs ≡ map f (flat_map g xs)
+joined_maps f g [] = refl
+joined_maps f g (x ∷ xs) =
+    ap (λ ys. map f (g x) ++ ys) (joined_maps f g xs) ∙ sym (map-append f (g x) (flat_map g xs))
+
+pub all_hashes : (plan : PlanFacts) (contents : List (List ℕ))
+    → flat_map (unit_hashes plan contents) plan.units ≡ piece_hashes plan contents
+all_hashes plan contents = joined_maps (hash_if_there plan contents) (pieces_of_unit plan.piece_length) plan.units
+
+pub all_faults : {F : Type 0} (facts : SourceFacts F) (plan : PlanFacts) (contents : List (List ℕ))
+    → first_unit_fault facts plan contents plan.units ≡ pieces_fault facts contents (pieces_of_plan plan)
+all_faults facts plan contents =
+    sym (first_flat (piece_fault facts contents) (pieces_of_unit plan.piece_length)
+    (unit_pieces_fault facts plan contents) plan.units (λ unit. refl))
+
+-- the lengths that were told are those of the contents
+module _ {F : Type 0} (facts : SourceFacts F) where
+  same_size : (content : Option (List ℕ)) → unwrap_or (option_map length content) 0 ≡ length (unwrap_or content [])
+  same_size None = refl
+  same_size (Some content) = refl
+
+  same_sizes : (files : List ℕ)
+      → map (λ size. unwrap_or size 0) (map (λ file. option_map length (facts.contents file)) files)
+      ≡ map length (map (λ file. unwrap_or (facts.contents file) []) files)
+  same_sizes [] = refl
+  same_sizes (file ∷ files) = ap₂ (λ n ns. n ∷ ns) (same_size (facts.contents file)) (same_sizes files)
+
+  pub are_told : (told : List (Option ℕ)) (count : ℕ) → told ≡ lengths_told facts count
+      → AreTold told (contents_in facts count)
+  are_told told count is =
+      ap (map (λ size. unwrap_or size 0)) is ∙ same_sizes (range_with_len 0 count)
+
+  -- as many as were asked
+  pub told_whole : (told : List (Option ℕ)) (count : ℕ) → told ≡ lengths_told facts count → length told ≡ count
+  told_whole told count is =
+      ap length is ∙ length-map-range_with_len (λ file. option_map length (facts.contents file)) 0 count
+
+  -- where no length fails, the pieces come
+  pub fault_after : (plan : PlanFacts) → first_asked_fault facts (length plan.lengths) ≡ None
+      → first_unit_fault facts plan (contents_in facts (length plan.lengths)) plan.units ≡ first_piece_fault facts plan
+  fault_after plan none =
+      let contents = contents_in facts (length plan.lengths) in
+      all_faults facts plan contents
+      ∙ sym (or_none (first_asked_fault facts (length plan.lengths))
+      (pieces_fault facts contents (pieces_of_plan plan)) none)

@@ -1,0 +1,89 @@
+-- Lengths that are asked of files that may be missing.
+use Rattle.std.proofs.Common.{◌≡◌, ◌<◌, ℕ, ◌+◌, List, [], ◌∷◌, ◌++◌, length, Option, None, Some, Ok, Err}
+use Rattle.std.proofs.Common.{true, eqb, get_or, option_map, zero-add, refl, ap, sym, ◌∙◌, arith}
+use Rattle.std.specs.Option.{option_eq}
+use Rattle.std.proofs.lemmas.Bool.{eq-eqb}
+use Rattle.std.proofs.lemmas.List.FromFn.{get_or-map-range_with_len, map-range_with_len_more}
+use Rattle.tor_source.specs.Source.{SourceFacts, told_length, unless_fault}
+use Rattle.tor_engine.specs.PieceFault.{asked_fault, first_asked_fault, lengths_told}
+use Rattle.tor_engine.specs.declared.errors.EngineError.TheVariants.{Read}
+use Rattle.tor_engine.proofs.FirstOf.{first_found, first_none, none_of_range}
+
+module _ {F : Type 0} (facts : SourceFacts F) where
+  -- what an answer says of the length and of its fault
+  told_is : (fault : Option F) (size known : Option ℕ) → unless_fault fault size ≡ Ok known
+      → (fault ≡ None) × (size ≡ known)
+  told_is None size known is = (refl, cc)
+  told_is (Some fault) size known is = cc
+
+  fault_is : (fault : Option F) (size : Option ℕ) (given : F) → unless_fault fault size ≡ Err given
+      → fault ≡ Some given
+  fault_is None size given is = cc
+  fault_is (Some fault) size given is = cc
+
+  pub no_fault : (file : ℕ) (known : Option ℕ) → told_length facts file ≡ Ok known → asked_fault facts file ≡ None
+  no_fault file known is =
+      ap (option_map (λ fault. Read file None fault))
+      (told_is (facts.length_fault file) (option_map length (facts.contents file)) known is).0
+
+  pub own_fault : (file : ℕ) (given : F) → told_length facts file ≡ Err given
+      → asked_fault facts file ≡ Some (Read file None given)
+  own_fault file given is =
+      ap (option_map (λ fault. Read file None fault))
+      (fault_is (facts.length_fault file) (option_map length (facts.contents file)) given is)
+
+  -- one file more
+  pub asked_more : (told : List (Option ℕ)) (file : ℕ) (known : Option ℕ) → told ≡ lengths_told facts file
+      → told_length facts file ≡ Ok known → told ++ known ∷ [] ≡ lengths_told facts (file + 1)
+  asked_more told file known before is =
+      let size = (told_is (facts.length_fault file) (option_map length (facts.contents file)) known is).1 in
+      ap (λ xs. xs ++ known ∷ []) before ∙ ap (λ x. lengths_told facts file ++ x ∷ []) (sym size)
+      ∙ sym (map-range_with_len_more (λ k. option_map length (facts.contents k)) 0 file file (zero-add file))
+
+  pub asked_none : (file : ℕ) (known : Option ℕ) → first_asked_fault facts file ≡ None
+      → told_length facts file ≡ Ok known → first_asked_fault facts (file + 1) ≡ None
+  asked_none file known before is =
+      first_none (asked_fault facts) 0 file (file + 1) (omega arith) before
+      (λ j low high. let here : j ≡ file = omega arith in rw here (no_fault file known is))
+
+  -- the first that fails
+  pub asked_first : (file count : ℕ) (given : F) → file < count → first_asked_fault facts file ≡ None
+      → told_length facts file ≡ Err given → first_asked_fault facts count ≡ Some (Read file None given)
+  asked_first file count given less before is =
+      first_found (asked_fault facts) 0 file count file (Read file None given) less (zero-add file) before
+      (own_fault file given is)
+
+  -- ---- asked again
+
+  no_fault_told : (count file : ℕ) → file < count → first_asked_fault facts count ≡ None
+      → facts.length_fault file ≡ None
+  no_fault_told count file less none =
+      no_option (facts.length_fault file)
+      (ap (asked_fault facts) (sym (zero-add file)) ∙ none_of_range (asked_fault facts) 0 count file less none)
+    where
+      no_option : (fault : Option F) → option_map (λ f. Read file None f) fault ≡ None → fault ≡ None
+      no_option None is = refl
+      no_option (Some f) is = cc
+
+  -- the same is told
+  pub told_again : (told : List (Option ℕ)) (file : ℕ) (again : Option ℕ) → file < length told
+      → told ≡ lengths_told facts (length told) → told_length facts file ≡ Ok again
+      → option_eq eqb again (get_or told file None) ≡ true
+  told_again told file again less are is =
+      let size = (told_is (facts.length_fault file) (option_map length (facts.contents file)) again is).1 in
+      let here : get_or told file None ≡ again =
+      ap (λ xs. get_or xs file None) are
+      ∙ get_or-map-range_with_len (λ k. option_map length (facts.contents k)) 0 (length told) file file None less
+      (zero-add file) ∙ size in
+      ap (option_eq eqb again) here ∙ same again
+    where
+      same : (o : Option ℕ) → option_eq eqb o o ≡ true
+      same None = refl
+      same (Some n) = eq-eqb n n refl
+
+  -- and no fault
+  pub never_again : (told : List (Option ℕ)) (file : ℕ) (given : F) → file < length told
+      → first_asked_fault facts (length told) ≡ None → told_length facts file ≡ Err given → ⊥
+  never_again told file given less none is =
+      let some = fault_is (facts.length_fault file) (option_map length (facts.contents file)) given is in
+      let no : Some given ≡ None = sym some ∙ no_fault_told (length told) file less none in cc

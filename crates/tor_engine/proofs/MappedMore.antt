@@ -1,0 +1,24 @@
+-- A list to which the values of a function are added, one after another.
+use Rattle.std.proofs.Common.{◌≡◌, ◌<◌, ℕ, ◌+◌, List, [], ◌∷◌, ◌++◌, length, map, take, get_or, append_assoc, ap, ap₂}
+use Rattle.std.proofs.Common.{sym}
+use Rattle.std.proofs.Common.{◌∙◌}
+use Rattle.std.specs.List.{flat_map}
+use Rattle.std.proofs.lemmas.Grind.{flat_map-append}
+use Rattle.std.proofs.lemmas.List.{map-append, take_more}
+use Rattle.std.proofs.Common.{append-nil}
+
+pub mapped_more : {X A : Type 0} (f : X → A) (old now new : List A) (xs : List X) (i : ℕ) (d x : X) → i < length xs
+    → get_or xs i d ≡ x → now ≡ old ++ map f (take i xs) → new ≡ now ++ f x ∷ []
+    → new ≡ old ++ map f (take (i + 1) xs)
+mapped_more f old now new xs i d x there here before one =
+    one ∙ ap (λ ys. ys ++ f x ∷ []) before ∙ append_assoc old (map f (take i xs)) (f x ∷ [])
+    ∙ ap (λ ys. old ++ ys) (ap (λ z. map f (take i xs) ++ f z ∷ []) (sym here)
+    ∙ sym (map-append f (take i xs) (get_or xs i d ∷ [])) ∙ ap (map f) (sym (take_more xs i d there)))
+
+-- the same of lists that stand one after another
+pub joined_more : {X A : Type 0} (f : X → List A) (now new : List A) (xs : List X) (i : ℕ) (d x : X) → i < length xs
+    → get_or xs i d ≡ x → now ≡ flat_map f (take i xs) → new ≡ now ++ f x → new ≡ flat_map f (take (i + 1) xs)
+joined_more f now new xs i d x there here before one =
+    one ∙ ap₂ (λ ys z. ys ++ f z) before (sym here)
+    ∙ ap (λ ys. flat_map f (take i xs) ++ ys) (sym (append-nil (f (get_or xs i d))))
+    ∙ sym (flat_map-append f (take i xs) (get_or xs i d ∷ [])) ∙ ap (flat_map f) (sym (take_more xs i d there))

@@ -1,0 +1,70 @@
+-- Parts that are in contents: how many bytes they have there, and that the source has them.
+use Rattle.std.proofs.Common.{◌≡◌, ◌≤◌, ℕ, ◌+◌, Bool, true, false, ◌&&◌, true≢false, List, [], ◌∷◌, ◌++◌, length, take}
+use Rattle.std.proofs.Common.{drop, get_or, unwrap_or, sum_by, refl, ap, ap₂, sym, ◌∙◌, arith}
+use Rattle.std.specs.List.{AllByRecursion, flat_map, list_all}
+use Rattle.std.proofs.lemmas.Bool.{leb-true}
+use Rattle.std.proofs.lemmas.List.{length-append, length-drop, length-replicate, length-take-le}
+use Rattle.std.proofs.lemmas.List.Sums.{sum_by-cons}
+use Rattle.tor_plan.specs.Content.{part_content, unit_content}
+use Rattle.tor_plan.specs.PlanFacts.{PlanFacts}
+use Rattle.tor_plan.specs.Present.{is_part_there, is_there}
+use Rattle.tor_plan.specs.WithinEntries.{IsInFile, unit_length}
+use Rattle.tor_plan.specs.declared.units.Part.{Part}
+use Rattle.tor_plan.specs.declared.units.PlanUnit.{PlanUnit}
+use Rattle.tor_source.specs.Source.{SourceFacts}
+use Rattle.tor_v1.specs.Piece.{zeros}
+use Rattle.tor_engine.specs.Contents.{contents_in}
+use Rattle.tor_engine.specs.steps.Reads.{HasParts}
+use Rattle.tor_engine.proofs.Parts.{content_at}
+
+abbrev pub Inside : List (List ℕ) → Part → Type 0
+Inside contents part = part.start + part.length ≤ length (get_or contents part.file [])
+
+module _ (contents : List (List ℕ)) where
+  first_in : (a b : Bool) → (a && b) ≡ true → (a ≡ true) × (b ≡ true)
+  first_in true b both = (refl, both)
+  first_in false b both = absurd (true≢false (sym both))
+
+  pub parts_in : (parts : List Part) → list_all (is_part_there contents) parts ≡ true
+      → AllByRecursion (Inside contents) parts
+  parts_in [] all = tt
+  parts_in (part ∷ parts) all =
+      let both = first_in (is_part_there contents part) (list_all (is_part_there contents) parts) all in
+      (leb-true (part.start + part.length) (length (get_or contents part.file [])) both.0, parts_in parts both.1)
+
+  part_long : (part : Part) → part.start + part.length ≤ length (get_or contents part.file [])
+      → length (part_content contents part) ≡ part.length + part.zeros
+  unfolding zeros
+  part_long part there =
+      let content = get_or contents part.file [] in
+      let rest = drop part.start content in
+      let front = length-take-le part.length rest (omega (arith, there, length-drop part.start content)) in
+      length-append (take part.length rest) (zeros part.zeros)
+      ∙ ap₂ (λ a b. a + b) front (length-replicate {A = ℕ} part.zeros 0)
+
+  parts_long : (parts : List Part)
+      → AllByRecursion (Inside contents) parts
+      → length (flat_map (part_content contents) parts) ≡ sum_by (λ part. part.length + part.zeros) parts
+  parts_long [] there = refl
+  parts_long (part ∷ parts) there =
+      length-append (part_content contents part) (flat_map (part_content contents) parts)
+      ∙ ap₂ (λ a b. a + b) (part_long part there.0) (parts_long parts there.1)
+      ∙ sym (sum_by-cons (λ (part : Part). part.length + part.zeros) part parts)
+
+  pub unit_long : (unit : PlanUnit) → is_there contents unit ≡ true
+      → length (unit_content contents unit) ≡ unit_length unit
+  unfolding zeros
+  unit_long unit there =
+      length-append (zeros unit.zeros) (flat_map (part_content contents) unit.parts)
+      ∙ ap₂ (λ a b. a + b) (length-replicate {A = ℕ} unit.zeros 0) (parts_long unit.parts (parts_in unit.parts there))
+
+-- the source has them, too
+pub source_has : {F : Type 0} (facts : SourceFacts F) (plan : PlanFacts) (parts : List Part)
+    → AllByRecursion (IsInFile plan.lengths) parts
+    → AllByRecursion (Inside (contents_in facts (length plan.lengths))) parts
+    → HasParts facts parts
+source_has facts plan [] are there = tt
+source_has facts plan (part ∷ parts) are there =
+    let here = ap length (content_at facts plan part are.0) in
+    let rest = length-drop part.start (unwrap_or (facts.contents part.file) []) in
+    (omega (arith, here, rest, there.0), source_has facts plan parts are.1 there.1)

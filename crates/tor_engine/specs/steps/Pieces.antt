@@ -1,0 +1,113 @@
+-- What the pieces of units hash to. Only private clauses cite these.
+use Rattle.std.specs.Prelude.{◌≡◌, ℕ, ◌/◌, ◌<◌, ◌≤◌, max, true, false, All, List, [], ◌∷◌, length, map, slice_get}
+use Rattle.std.specs.Prelude.{slice_index_or, Option, None}
+use Rattle.std.specs.Prelude.{Some, unwrap_or, Result, MatchResult, IfErr, Vec, if◌then◌else◌}
+use Rattle.std.specs.declared.alloc.Global.{Global}
+use Rattle.std.specs.List.{flat_map, range_with_len}
+use Rattle.std.specs.Simd.{first_chunks}
+use Rattle.tor_plan.specs.Content.{unit_content}
+use Rattle.tor_plan.specs.Pieces.{pieces_of_unit}
+use Rattle.tor_plan.specs.PlanFacts.{PlanFacts}
+use Rattle.tor_plan.specs.WithinEntries.{unit_length}
+use Rattle.tor_plan.specs.declared.units.Part.{Part}
+use Rattle.tor_plan.specs.declared.units.PlanUnit.{PlanUnit}
+use Rattle.tor_source.specs.Source.{SourceFacts}
+use Rattle.tor_tree.specs.Kinds.{has_v1, has_v2}
+use Rattle.tor_v1.specs.Piece.{piece_sums, zeros}
+use Rattle.tor_engine.specs.Contents.{contents_in}
+use Rattle.tor_engine.specs.Fault.{IsFault, IsGivenOfPieces, first_of}
+use Rattle.tor_engine.specs.PieceFault.{pieces_fault}
+use Rattle.tor_engine.specs.PieceHashes.{hash_if_there}
+use Rattle.tor_engine.specs.declared.errors.EngineError.{EngineError}
+use Rattle.tor_engine.specs.declared.piece_hash.PieceHash.{PieceHash}
+use Rattle.tor_engine.specs.steps.Hashes.{bytes_of_part, hashes_of_bytes}
+use Rattle.tor_engine.specs.steps.Run.{AreUnitsOf, IsUnitOf}
+
+-- ---- of a unit that is there
+
+-- the joined SHA-1 of its pieces, where the kind has them
+abbrev pub unit_sums : PlanFacts → List (List ℕ) → PlanUnit → List ℕ
+unit_sums plan contents unit =
+    if has_v1 plan.kind then piece_sums plan.piece_length (unit_content contents unit) else []
+
+-- the Merkle hashes of the pieces of a part, whose file has the length that the plan says
+abbrev pub part_roots : PlanFacts → List (List ℕ) → Part → List (List ℕ)
+part_roots plan contents part =
+    hashes_of_bytes plan.piece_length (slice_index_or plan.lengths part.file 0) (bytes_of_part contents part)
+
+-- those of its pieces, where the kind has them
+abbrev pub unit_roots : PlanFacts → List (List ℕ) → PlanUnit → List (List ℕ)
+unit_roots plan contents unit = if has_v2 plan.kind then flat_map (part_roots plan contents) unit.parts else []
+
+-- joined SHA-1, one by one
+abbrev pub sums_in : List ℕ → List (List ℕ)
+sums_in text = first_chunks 20 (length text / 20) text
+
+-- the hashes at a place of both lists
+abbrev pub paired : List (List ℕ) → List (List ℕ) → ℕ → Option PieceHash
+paired sums roots i = Some (record { v1 = slice_get sums i; v2 = slice_get roots i })
+
+-- at each place that one of them has
+abbrev pub all_paired : List (List ℕ) → List (List ℕ) → List (Option PieceHash)
+all_paired sums roots = map (paired sums roots) (range_with_len 0 (max (length sums) (length roots)))
+
+abbrev pub run_hashes : PlanFacts → List (List ℕ) → PlanUnit → List (Option PieceHash)
+run_hashes plan contents unit = all_paired (sums_in (unit_sums plan contents unit)) (unit_roots plan contents unit)
+
+-- ---- of any unit
+
+-- the files have these lengths; a missing one has none
+abbrev pub AreTold : List (Option ℕ) → List (List ℕ) → Type 0
+AreTold told contents = map (λ size. unwrap_or size 0) told ≡ map length contents
+
+abbrev pub unit_hashes : PlanFacts → List (List ℕ) → PlanUnit → List (Option PieceHash)
+unit_hashes plan contents unit = map (hash_if_there plan contents) (pieces_of_unit plan.piece_length unit)
+
+abbrev pub unit_pieces_fault : {F : Type 0} → SourceFacts F → PlanFacts → List (List ℕ) → PlanUnit
+    → Option (EngineError F)
+unit_pieces_fault facts plan contents unit = pieces_fault facts contents (pieces_of_unit plan.piece_length unit)
+
+-- of units, one after another
+abbrev pub first_unit_fault : {F : Type 0} → SourceFacts F → PlanFacts → List (List ℕ) → List PlanUnit
+    → Option (EngineError F)
+first_unit_fault facts plan contents units = first_of (unit_pieces_fault facts plan contents) units
+
+-- the unit is one part, and nothing else
+abbrev pub IsOnePart : PlanUnit → Type 0
+IsOnePart unit = (part : Part) × (unit ≡ record { zeros = 0; parts = part ∷ [] })
+
+-- the SHA-1 of a piece of zeros alone
+abbrev pub IsPaddingSum : PlanFacts → Option (List ℕ) → Type 0
+IsPaddingSum plan None = Unit {0}
+IsPaddingSum plan (Some sum) =
+    (has_v2 plan.kind ≡ false) × (sum ≡ piece_sums plan.piece_length (zeros plan.piece_length))
+
+-- a piece of a plan: not empty, and in a kind with trees one part of a file
+pub record IsPiece (plan : PlanFacts) (piece : PlanUnit) : Type 0 where
+  pub unit : IsUnitOf plan piece
+  pub some : 0 < unit_length piece
+  pub within : unit_length piece ≤ plan.piece_length
+  pub alone : has_v2 plan.kind ≡ true → IsOnePart piece
+
+-- the pieces of these units are
+abbrev pub ArePieces : PlanFacts → List PlanUnit → Type 0
+ArePieces plan units = All (λ unit. All (IsPiece plan) (pieces_of_unit plan.piece_length unit)) units
+
+-- units whose pieces can be hashed
+pub record AreUnitsToHash (plan : PlanFacts) (units : List PlanUnit) : Type 0 where
+  pub within : AreUnitsOf plan units
+  pub pieces : ArePieces plan units
+
+-- what a worker answers for units of files with these lengths: of a steady source the hashes of their pieces, or the
+-- first fault; a fault of the source is one that it gave
+pub record AnswersPieces {S F : Type 0} (is_steady : S → SourceFacts F → Type 0)
+    (gave : S → ℕ → Option ℕ → F → Type 0) (source : S) (plan : PlanFacts) (told : List (Option ℕ))
+    (units : List PlanUnit) (result : Result (Vec (Option PieceHash) Global) (EngineError F)) : Type 0 where
+  pub steady : (facts : SourceFacts F) → is_steady source facts
+      → AreTold told (contents_in facts (length plan.lengths))
+      → MatchResult result
+      (λ hashes.
+      (hashes.items ≡ flat_map (unit_hashes plan (contents_in facts (length plan.lengths))) units)
+      × (first_unit_fault facts plan (contents_in facts (length plan.lengths)) units ≡ None))
+      (IsFault (first_unit_fault facts plan (contents_in facts (length plan.lengths)) units))
+  pub given : IfErr result (IsGivenOfPieces (gave source))

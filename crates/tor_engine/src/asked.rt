@@ -1,0 +1,64 @@
+//! The lengths of files that may be missing, asked of their source.
+ghost use Rattle.std.specs.Prelude.{◌≡◌, None, Ok, IfErr, MatchResult, length};
+ghost use Rattle.tor_source.specs.Source.{SourceFacts};
+ghost use Rattle.tor_engine.specs.Fault.{IsFault, IsGivenOfPieces};
+ghost use Rattle.tor_engine.specs.PieceFault.{first_asked_fault, lengths_told};
+
+use crate::errors::EngineError;
+use std::alloc::Global;
+use tor_source::Source;
+
+/// Asks for the length of each of so many files, in order: none of a file that is missing.
+pub(crate) fn ask_each<S: Source>(
+    alloc: Global,
+    source: &S,
+    count: usize,
+) -> Result<Vec<Option<u64>>, EngineError<S::Fault>>
+    ensures steady { (facts : SourceFacts S.Fault) → S.is_steady source.now facts →
+        MatchResult result
+        (λ told. (told.items ≡ lengths_told facts count) × (first_asked_fault facts count ≡ None))
+        (IsFault (first_asked_fault facts count)) }
+    ensures gave { IfErr result (IsGivenOfPieces (S.gave source.now)) }
+{
+    let mut told = Vec::with_capacity(alloc, count)?;
+    'files: for file in 0..count {
+        match source.length(file as u64) {
+            Ok(length) => told.push(length)?,
+            Err(fault) => {
+                return Err(EngineError::Read {
+                    file: file as u64,
+                    start: None,
+                    fault,
+                });
+            }
+        }
+    }
+    Ok(told)
+}
+
+/// Asks again: a file of which another length is told, or that is missing now and was not, or was and is there, was
+/// changed.
+pub(crate) fn expect_each<S: Source>(
+    source: &S,
+    told: &[Option<u64>],
+) -> Result<(), EngineError<S::Fault>>
+    ensures steady { (facts : SourceFacts S.Fault) → S.is_steady source.now facts →
+        told.now ≡ lengths_told facts (length told.now) → first_asked_fault facts (length told.now) ≡ None →
+        result ≡ Ok tt }
+    ensures gave { IfErr result (IsGivenOfPieces (S.gave source.now)) }
+{
+    'files: for (file, length) in told.iter().enumerate() {
+        match source.length(file as u64) {
+            Ok(again) if again == *length => {}
+            Ok(_) => return Err(EngineError::Changed { file: file as u64 }),
+            Err(fault) => {
+                return Err(EngineError::Read {
+                    file: file as u64,
+                    start: None,
+                    fault,
+                });
+            }
+        }
+    }
+    Ok(())
+}

@@ -1,0 +1,188 @@
+//! The pieces of units hashed one after the other by one worker.
+ghost use Rattle.std.specs.Prelude.{◌≡◌, ◌↔◌, [], ◌∷◌, ◌++◌, ◌<◌, IsTrue, None, All, IfErr, MatchResult, OnOk, length};
+ghost use Rattle.tor_plan.specs.Pieces.{pieces_of_unit};
+ghost use Rattle.tor_plan.specs.PlanFacts.{IsPlan};
+ghost use Rattle.tor_source.specs.Source.{SourceFacts};
+ghost use Rattle.tor_engine.specs.Contents.{contents_in};
+ghost use Rattle.tor_engine.specs.Fault.{IsFault, IsGivenOfPieces, unit_fault};
+ghost use Rattle.tor_engine.specs.PieceFault.{piece_fault};
+ghost use Rattle.tor_engine.specs.PieceHashes.{hash_if_there};
+ghost use Rattle.tor_engine.specs.steps.Pieces.{all_paired, run_hashes, sums_in, unit_hashes, unit_pieces_fault};
+ghost use Rattle.tor_engine.specs.steps.Pieces.{AnswersPieces, AreTold, AreUnitsToHash, IsPaddingSum, IsPiece};
+ghost use Rattle.tor_engine.specs.steps.Reads.{HasParts};
+ghost use Rattle.tor_engine.specs.steps.Run.{IsUnitOf};
+
+use crate::errors::EngineError;
+use crate::items::item_at;
+use crate::piece_hash::PieceHash;
+use crate::present::is_there;
+use crate::run::RunSums;
+use crate::turn::{BUFFER_LENGTH, hash_unit, zeros};
+use std::alloc::{AllocError, Global};
+use tor_merkle::laws::root_of_short_content;
+use tor_plan::{Plan, PlanUnit};
+use tor_source::Source;
+use tor_v1::laws::length_of_sums;
+
+/// What is known before units are read.
+#[derive(Drop)]
+pub(crate) struct Known {
+    /// The length that was told of each file, none of one that is missing.
+    pub(crate) lengths: Vec<Option<u64>>,
+    /// The SHA-1 of a whole piece of padding, which a torrent may have so many of that each is not hashed again.
+    pub(crate) padding_sum: Option<[u8; 20]>,
+}
+
+/// The hashes of the pieces of these units.
+pub(crate) fn hash_pieces_in_turn<S: Source>(
+    alloc: Global,
+    source: &S,
+    plan: &Plan,
+    known: &Known,
+    units: &[PlanUnit],
+) -> Result<Vec<Option<PieceHash>>, EngineError<S::Fault>>
+    requires planned { IsPlan plan.now }
+    requires padding { IsPaddingSum plan.now known.now.padding_sum }
+    requires units { AreUnitsToHash plan.now units.now }
+    ensures { AnswersPieces S.is_steady S.gave source.now plan.now known.now.lengths.items units.now result }
+{
+    let mut room = zeros(alloc, BUFFER_LENGTH)?;
+    let buffer = room.as_mut_slice();
+    let mut hashes = Vec::new(alloc);
+    'units: for unit in units {
+        match add_unit(alloc, source, plan, known, unit, buffer, &mut hashes) {
+            Ok(()) => {}
+            Err(error) => return Err(error),
+        }
+    }
+    Ok(hashes)
+}
+
+/// Adds the hashes of the pieces of a unit.
+fn add_unit<S: Source>(
+    alloc: Global,
+    source: &S,
+    plan: &Plan,
+    known: &Known,
+    unit: &PlanUnit,
+    buffer: &mut [u8],
+    hashes: &mut Vec<Option<PieceHash>>,
+) -> Result<(), EngineError<S::Fault>>
+    requires planned { IsPlan plan.now }
+    requires padding { IsPaddingSum plan.now known.now.padding_sum }
+    requires unit { IsUnitOf plan.now unit.now }
+    requires pieces { All (IsPiece plan.now) (pieces_of_unit plan.now.piece_length unit.now) }
+    requires buffer { 0 < length buffer.old }
+    ensures buffer { length buffer.new ≡ length buffer.old }
+    ensures hashed { (facts : SourceFacts S.Fault) → S.is_steady source.now facts →
+        AreTold known.now.lengths.items (contents_in facts (length plan.now.lengths)) →
+        MatchResult result
+        (λ _. (hashes.new.items
+        ≡ hashes.old.items ++ unit_hashes plan.now (contents_in facts (length plan.now.lengths)) unit.now)
+        × (unit_pieces_fault facts plan.now (contents_in facts (length plan.now.lengths)) unit.now ≡ None))
+        (IsFault (unit_pieces_fault facts plan.now (contents_in facts (length plan.now.lengths)) unit.now)) }
+    ensures gave { IfErr result (IsGivenOfPieces (S.gave source.now)) }
+{
+    let pieces = unit.pieces(alloc, plan.piece_length())?;
+    'pieces: for piece in pieces.as_slice() {
+        match add_piece(alloc, source, plan, known, piece, buffer, hashes) {
+            Ok(()) => {}
+            Err(error) => return Err(error),
+        }
+    }
+    Ok(())
+}
+
+/// Adds the hash of a piece, none where a byte of it is not there. Such a piece is not read.
+fn add_piece<S: Source>(
+    alloc: Global,
+    source: &S,
+    plan: &Plan,
+    known: &Known,
+    piece: &PlanUnit,
+    buffer: &mut [u8],
+    hashes: &mut Vec<Option<PieceHash>>,
+) -> Result<(), EngineError<S::Fault>>
+    requires planned { IsPlan plan.now }
+    requires padding { IsPaddingSum plan.now known.now.padding_sum }
+    requires piece { IsPiece plan.now piece.now }
+    requires buffer { 0 < length buffer.old }
+    ensures buffer { length buffer.new ≡ length buffer.old }
+    ensures hashed { (facts : SourceFacts S.Fault) → S.is_steady source.now facts →
+        AreTold known.now.lengths.items (contents_in facts (length plan.now.lengths)) →
+        MatchResult result
+        (λ _. (hashes.new.items
+        ≡ hashes.old.items ++ hash_if_there plan.now (contents_in facts (length plan.now.lengths)) piece.now ∷ [])
+        × (piece_fault facts (contents_in facts (length plan.now.lengths)) piece.now ≡ None))
+        (IsFault (piece_fault facts (contents_in facts (length plan.now.lengths)) piece.now)) }
+    ensures gave { IfErr result (IsGivenOfPieces (S.gave source.now)) }
+{
+    length_of_sums();
+    root_of_short_content();
+    if !is_there(&known.lengths, piece) {
+        hashes.push(None)?;
+        return Ok(());
+    }
+    match known.padding_sum {
+        Some(sum) if is_padding(piece, plan.piece_length()) => {
+            hashes.push(Some(PieceHash {
+                v1: Some(sum),
+                v2: None,
+            }))?;
+            Ok(())
+        }
+        _ => add_whole(alloc, source, plan, piece, buffer, hashes),
+    }
+}
+
+/// Whether a piece is padding alone, and whole.
+fn is_padding(piece: &PlanUnit, piece_length: u64) -> bool
+    ensures { IsTrue result ↔ ((piece.now.zeros ≡ piece_length) × (piece.now.parts ≡ [])) }
+{
+    piece.zeros == piece_length && piece.parts.as_slice().is_empty()
+}
+
+/// Reads a unit that is there, or a piece, and puts the hashes of its pieces after `hashes`.
+pub(crate) fn add_whole<S: Source>(
+    alloc: Global,
+    source: &S,
+    plan: &Plan,
+    unit: &PlanUnit,
+    buffer: &mut [u8],
+    hashes: &mut Vec<Option<PieceHash>>,
+) -> Result<(), EngineError<S::Fault>>
+    requires planned { IsPlan plan.now }
+    requires unit { IsUnitOf plan.now unit.now }
+    requires buffer { 0 < length buffer.old }
+    ensures buffer { length buffer.new ≡ length buffer.old }
+    ensures hashed { (facts : SourceFacts S.Fault) → S.is_steady source.now facts → HasParts facts unit.now.parts →
+        MatchResult result
+        (λ _. (hashes.new.items
+        ≡ hashes.old.items ++ run_hashes plan.now (contents_in facts (length plan.now.lengths)) unit.now)
+        × (unit_fault facts unit.now ≡ None))
+        (IsFault (unit_fault facts unit.now)) }
+    ensures gave { IfErr result (IsGivenOfPieces (S.gave source.now)) }
+{
+    let mut run = RunSums::none(alloc);
+    match hash_unit(alloc, source, plan, unit, buffer, &mut run) {
+        Ok(()) => {}
+        Err(error) => return Err(error),
+    }
+    add_hashes(&run, hashes)?;
+    Ok(())
+}
+
+/// Puts the hashes of the pieces of a unit after `hashes`.
+fn add_hashes(run: &RunSums, hashes: &mut Vec<Option<PieceHash>>) -> Result<(), AllocError>
+    ensures { OnOk result
+        (hashes.new.items ≡ hashes.old.items ++ all_paired (sums_in run.now.pieces.items) run.now.hashes.items) }
+{
+    let (sums, _) = run.pieces.as_chunks::<20>();
+    'pieces: for index in 0..sums.len().max(run.hashes.len()) {
+        hashes.push(Some(PieceHash {
+            v1: item_at(sums, index),
+            v2: item_at(&run.hashes, index),
+        }))?;
+    }
+    Ok(())
+}

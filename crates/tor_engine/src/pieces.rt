@@ -1,0 +1,114 @@
+//! The pieces of a plan hashed, of files that may be cut short or missing.
+ghost use Rattle.std.specs.Prelude.{◌≡◌, None, IfErr, IfOk, MatchResult, length};
+ghost use Rattle.tor_plan.specs.PlanFacts.{IsPlan};
+ghost use Rattle.tor_source.specs.Source.{SourceFacts};
+ghost use Rattle.tor_engine.specs.Contents.{contents_in};
+ghost use Rattle.tor_engine.specs.Fault.{IsFault, IsGivenOfPieces};
+ghost use Rattle.tor_engine.specs.How.{IsHow};
+ghost use Rattle.tor_engine.specs.PieceFault.{first_piece_fault};
+ghost use Rattle.tor_engine.specs.PieceHashes.{piece_hashes};
+ghost use Rattle.tor_engine.specs.steps.Pieces.{AnswersPieces, IsPaddingSum};
+
+use crate::asked::{ask_each, expect_each};
+use crate::errors::EngineError;
+use crate::how::How;
+use crate::items::item_at;
+use crate::piece_halves::hash_pieces_by_halves;
+use crate::piece_hash::PieceHash;
+use crate::piece_turn::{Known, hash_pieces_in_turn};
+use crate::unit::feed_zeros;
+use std::alloc::{AllocError, Global};
+use std::thread::Threads;
+use tor_plan::{Plan, PlanUnit};
+use tor_source::Source;
+use tor_v1::PieceSums;
+use tor_v1::laws::length_of_sums;
+
+/// What each piece of the plan hashes to, in their order, and none where some byte of it is not there: file i of the
+/// plan is file i of the source, which may be missing, or have another length. First every length is asked, in the
+/// order of the files. Then those pieces are read that are wholly there, each byte once, and no byte past the length
+/// that the plan has for a file; the first fault in the order of the pieces is told, whatever the `How`. Then every
+/// length is asked again: a file of which another is told was changed.
+pub fn hash_pieces<S: Source, R: Threads + Sync>(
+    rt: &R,
+    alloc: Global,
+    source: &S,
+    plan: &Plan,
+    how: How,
+) -> Result<Vec<Option<PieceHash>>, EngineError<S::Fault>>
+    requires { IsHow how }
+    ensures hashed { (facts : SourceFacts S.Fault) → S.is_steady source.now facts →
+        MatchResult result
+        (λ hashes. (hashes.items ≡ piece_hashes plan.now (contents_in facts (length plan.now.lengths)))
+        × (first_piece_fault facts plan.now ≡ None))
+        (IsFault (first_piece_fault facts plan.now)) }
+    ensures gave { IfErr result (IsGivenOfPieces (S.gave source.now)) }
+{
+    let lengths = match ask_each(alloc, source, plan.lengths().len()) {
+        Ok(lengths) => lengths,
+        Err(error) => return Err(error),
+    };
+    let padding_sum = padding_sum(alloc, plan)?;
+    let known = Known {
+        lengths,
+        padding_sum,
+    };
+    let hashes = match hash_units(rt, alloc, source, plan, &known, how) {
+        Ok(hashes) => hashes,
+        Err(error) => return Err(error),
+    };
+    match expect_each(source, &known.lengths) {
+        Ok(()) => Ok(hashes),
+        Err(error) => Err(error),
+    }
+}
+
+/// The hashes of the pieces of all units.
+fn hash_units<S: Source, R: Threads + Sync>(
+    rt: &R,
+    alloc: Global,
+    source: &S,
+    plan: &Plan,
+    known: &Known,
+    how: How,
+) -> Result<Vec<Option<PieceHash>>, EngineError<S::Fault>>
+    requires { IsPaddingSum plan.now known.now.padding_sum }
+    ensures answered { AnswersPieces S.is_steady S.gave source.now plan.now known.now.lengths.items plan.now.units
+        result }
+    ensures planned { IsPlan plan.now }
+{
+    let units = plan.units();
+    match how {
+        How::One => hash_pieces_in_turn(alloc, source, plan, known, units),
+        How::Halves(workers) => {
+            hash_pieces_by_halves(rt, alloc, source, plan, known, units, workers)
+        }
+    }
+}
+
+/// The SHA-1 of a whole piece of padding, where the plan may have one.
+fn padding_sum(alloc: Global, plan: &Plan) -> Result<Option<[u8; 20]>, AllocError>
+    ensures { IfOk result (IsPaddingSum plan.now) }
+{
+    length_of_sums();
+    if plan.kind().has_v2() || !has_long_padding(plan.units(), plan.piece_length()) {
+        return Ok(None);
+    }
+    let mut sums = PieceSums::new(alloc, plan.piece_length());
+    feed_zeros(&mut sums, plan.piece_length())?;
+    let joined = sums.finish();
+    let (each, _) = joined.as_chunks::<20>();
+    Ok(item_at(each, 0))
+}
+
+/// Whether some unit has as many zeros after one another as a piece.
+fn has_long_padding(units: &[PlanUnit], piece_length: u64) -> bool {
+    units.iter().any(|unit| {
+        unit.zeros >= piece_length
+            || unit
+                .parts
+                .as_slice()
+                .iter()
+                .any(|part| part.zeros >= piece_length)
+    })
+}

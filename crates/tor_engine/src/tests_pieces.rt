@@ -1,0 +1,215 @@
+//! The hashes of the pieces of `ab` and `c`; the hashes are of Python's hashlib.
+
+use super::*;
+use crate::tests::{Changing, plan_of};
+use std::alloc::{AllocError, Global};
+use std::process::Abort;
+use std::sync::atomic::AtomicU64;
+use std::sync::atomic::Ordering::SeqCst;
+use std::test::Fail;
+use std::thread::Threads;
+use tor_merkle::Hash;
+use tor_source::MemSource;
+use tor_tree::Kind;
+
+/// The SHA-256 of `ab`, and of `c`.
+const ROOT_A: &[u8; 32] = b"\xfb\x8e\x20\xfc\x2e\x4c\x3f\x24\x8c\x60\xc3\x9b\xd6\x52\xf3\xc1\
+\x34\x72\x98\xbb\x97\x7b\x8b\x4d\x59\x03\xb8\x50\x55\x62\x06\x03";
+
+const ROOT_B: &[u8; 32] = b"\x2e\x7d\x2c\x03\xa9\x50\x7a\xe2\x65\xec\xf5\xb5\x35\x68\x85\xa5\
+\x33\x93\xa2\x02\x9d\x24\x13\x94\x99\x72\x65\xa1\xa2\x5a\xef\xc6";
+
+/// The SHA-1 of `abc`, of `ab` and zeros up to 16,384 bytes, and of `c`.
+const SUM: &[u8; 20] = b"\xa9\x99\x3e\x36\x47\x06\x81\x6a\xba\x3e\
+\x25\x71\x78\x50\xc2\x6c\x9c\xd0\xd8\x9d";
+
+const SUM_A: &[u8; 20] = b"\xcb\x25\xce\xe0\xc9\xee\x3f\xc5\x74\x13\
+\xe4\x72\xac\xdb\x19\x13\x86\xed\xb6\x12";
+
+const SUM_B: &[u8; 20] = b"\x84\xa5\x16\x84\x1b\xa7\x7a\x5b\x46\x48\
+\xde\x2c\xd0\xdf\xcb\x30\xea\x46\xdb\xb4";
+
+/// The SHA-1 and the root of a piece; none of one that is not there.
+type Wanted = Option<(Option<&'static [u8; 20]>, Option<&'static [u8; 32]>)>;
+
+/// A kind, the contents that are there of files of two bytes and one, and the hashes of the pieces.
+type Row = (Kind, &'static [Option<&'static [u8]>], &'static [Wanted]);
+
+const ROWS: &[Row] = &[
+    (
+        Kind::V1,
+        &[Some(b"ab"), Some(b"c")],
+        &[Some((Some(SUM), None))],
+    ),
+    (
+        Kind::V1,
+        &[Some(b"abx"), Some(b"cx")],
+        &[Some((Some(SUM), None))],
+    ),
+    (Kind::V1, &[Some(b"ab"), None], &[None]),
+    (Kind::V1, &[Some(b"a"), Some(b"c")], &[None]),
+    (
+        Kind::V2,
+        &[Some(b"ab"), Some(b"c")],
+        &[Some((None, Some(ROOT_A))), Some((None, Some(ROOT_B)))],
+    ),
+    (
+        Kind::V2,
+        &[None, Some(b"c")],
+        &[None, Some((None, Some(ROOT_B)))],
+    ),
+    (
+        Kind::Hybrid,
+        &[Some(b"ab"), Some(b"c")],
+        &[
+            Some((Some(SUM_A), Some(ROOT_A))),
+            Some((Some(SUM_B), Some(ROOT_B))),
+        ],
+    ),
+    (
+        Kind::Hybrid,
+        &[Some(b"ab")],
+        &[Some((Some(SUM_A), Some(ROOT_A))), None],
+    ),
+    (Kind::Hybrid, &[], &[None, None]),
+];
+
+fn files_of(alloc: Global, files: &[Option<&[u8]>]) -> Result<MemSource, AllocError> {
+    let mut contents = Vec::new(alloc);
+    for file in files {
+        contents.push(match file {
+            Some(bytes) => Some(Vec::from_slice(alloc, bytes)?),
+            None => None,
+        })?;
+    }
+    Ok(MemSource::new(contents))
+}
+
+fn is_hash(hash: &Option<PieceHash>, wanted: &Wanted) -> bool {
+    match (hash, wanted) {
+        (Some(hash), Some(wanted)) => is_sum(hash.v1, wanted.0) && is_root(hash.v2, wanted.1),
+        (None, None) => true,
+        _ => false,
+    }
+}
+
+fn is_sum(sum: Option<[u8; 20]>, wanted: Option<&[u8; 20]>) -> bool {
+    match (sum, wanted) {
+        (Some(sum), Some(wanted)) => sum == *wanted,
+        (None, None) => true,
+        _ => false,
+    }
+}
+
+fn is_root(root: Option<Hash>, wanted: Option<&Hash>) -> bool {
+    match (root, wanted) {
+        (Some(root), Some(wanted)) => root == *wanted,
+        (None, None) => true,
+        _ => false,
+    }
+}
+
+/// Whether these are the hashes, by a number of workers that is tested first.
+fn are_hashes<R: AllocGlobal + Abort + Threads + Sync>(
+    rt: &R,
+    row: &Row,
+    how: How,
+) -> Result<bool, Fail> {
+    if let How::Halves(workers) = how {
+        assert!(rt; workers >= 1 && workers <= 64);
+    }
+    let plan = plan_of(rt, &[2, 1], row.0, 16_384, 16)?;
+    let source = files_of(rt.alloc(), row.1)?;
+    match hash_pieces(rt, rt.alloc(), &source, &plan, how) {
+        Ok(hashes) => Ok(
+            hashes.len() == row.2.len()
+                && hashes
+                    .iter()
+                    .zip(row.2)
+                    .all(|(hash, wanted)| is_hash(hash, wanted)),
+        ),
+        Err(_) => Ok(false),
+    }
+}
+
+/// The place of the first row that has other hashes.
+fn first_wrong<R: AllocGlobal + Abort + Threads + Sync>(
+    rt: &R,
+    how: How,
+) -> Result<Option<usize>, Fail> {
+    for (place, row) in ROWS.iter().enumerate() {
+        if !are_hashes(rt, row, how)? {
+            return Ok(Some(place));
+        }
+    }
+    Ok(None)
+}
+
+#[test]
+fn hashes_the_pieces_that_are_there(rt: HostRuntime) -> Result<(), Fail> {
+    for how in [How::One, How::Halves(1), How::Halves(2), How::Halves(64)] {
+        assert_eq!(rt; first_wrong(&rt, how)?, None);
+    }
+    Ok(())
+}
+
+/// The length of a file of three bytes at first and again, the bytes that it has, whether it was changed, and how often
+/// bytes are read.
+type Change = ((Option<u64>, Option<u64>), u64, bool, u64);
+
+const CHANGES: &[Change] = &[
+    ((Some(3), Some(3)), 3, false, 1),
+    // The piece is not wholly there, and so it is not read.
+    ((Some(2), Some(2)), 2, false, 0),
+    ((None, None), 0, false, 0),
+    // The bytes past the third are not read.
+    ((Some(9), Some(9)), 9, false, 1),
+    ((Some(3), Some(4)), 3, true, 1),
+    ((Some(3), None), 3, true, 1),
+    ((None, Some(3)), 3, true, 0),
+    ((None, Some(0)), 0, true, 0),
+    ((Some(3), Some(3)), 2, true, 2),
+];
+
+fn is_changed<R: AllocGlobal + Abort + Threads + Sync>(
+    rt: &R,
+    source: &Changing,
+    how: How,
+) -> Result<bool, Fail> {
+    if let How::Halves(workers) = how {
+        assert!(rt; workers >= 1 && workers <= 64);
+    }
+    let plan = plan_of(rt, &[3], Kind::V2, 16_384, 16)?;
+    match hash_pieces(rt, rt.alloc(), source, &plan, how) {
+        Err(EngineError::Changed { file }) => Ok(file == 0),
+        _ => Ok(false),
+    }
+}
+
+fn is_change<R: AllocGlobal + Abort + Threads + Sync>(
+    rt: &R,
+    row: &Change,
+    how: How,
+) -> Result<bool, Fail> {
+    let ((first, again), there, wanted, reads) = *row;
+    let source = Changing {
+        first,
+        again,
+        there,
+        lengths: AtomicU64::new(0),
+        reads: AtomicU64::new(0),
+    };
+    let changed = is_changed(rt, &source, how)?;
+    Ok(changed == wanted && source.reads.load(SeqCst) == reads)
+}
+
+/// The lengths are asked again when all pieces were read.
+#[test]
+fn tells_of_a_file_that_changes(rt: HostRuntime) -> Result<(), Fail> {
+    for row in CHANGES {
+        for how in [How::One, How::Halves(2)] {
+            assert!(rt; is_change(&rt, row, how)?);
+        }
+    }
+    Ok(())
+}
