@@ -13,4 +13,14 @@ pub mod MerklePieces
 pub mod FileRuns
 pub mod PaddedPieces
 pub mod PieceSides
+pub mod NoCondition
+pub mod ListedFiles
+pub mod ListedGaps
+pub mod ListedTails
+pub mod ListedPadded
+pub mod EntryBounds
+pub mod ValidAreCut
 pub mod ProvedLaws
+pub mod RecheckFaults
+pub mod Rechecked
+pub mod Sums

@@ -99,7 +99,7 @@ module _ (contents : List (List ℕ)) where
 
 -- ---- the files of both sides
 
-lengths_of_told : (files : List FileView)
+pub lengths_of_told : (files : List FileView)
     → lengths_of_entries (map (λ told. file_entry (told.file.path, told.file.length)) files) ≡ map length_of files
 lengths_of_told [] = refl
 lengths_of_told (told ∷ files) = ap (λ lengths. length_of told ∷ lengths) (lengths_of_told files)

@@ -15,6 +15,7 @@ use Rattle.tor_recheck.proofs.MerklePieces.{has_hash, length_of, merkle_piece, s
 use Rattle.tor_recheck.proofs.PieceSides.{by_sides, count_of_joined, cut_each, IsRun, other_side, same_lengths}
 use Rattle.tor_recheck.proofs.PieceSides.{same_sha1}
 use Rattle.tor_recheck.proofs.PieceSides.{some_piece, unit_is_run}
+pub use Rattle.tor_recheck.proofs.ValidAreCut.{valid_torrents_are_cut}
 use Rattle.tor_spec.specs.Verified.{is_sha1_piece, is_verified, merkle_pieces, told_hash, verified_pieces}
 use Rattle.tor_spec.specs.valid.Layers.{pieces_in}
 use Rattle.tor_spec.specs.valid.View.{FileView, View}

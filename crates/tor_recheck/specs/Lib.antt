@@ -1,3 +1,4 @@
 pub mod Bitfield
-pub mod steps
 pub mod Pieces
+pub mod Recheck
+pub mod steps

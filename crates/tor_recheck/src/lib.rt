@@ -15,8 +15,16 @@
 #![tactic(auto)]
 
 mod bits;
+mod errors;
+mod judge;
 pub mod laws;
+mod rechecking;
 #[cfg(test)]
 mod tests;
+#[cfg(test)]
+mod tests_recheck;
+mod told;
 
 pub use bits::Bits;
+pub use errors::RecheckError;
+pub use rechecking::recheck;

@@ -1,0 +1,74 @@
+-- Where each filled file of a v1 side begins at a piece of its own, the padding before the next one is known.
+use Rattle.std.proofs.Common.{◌≡◌, ℕ, ◌+◌, eqb, Bool, true, false, not, ◌&&◌, ◌||◌, List, [], ◌∷◌, ◌++◌}
+use Rattle.std.proofs.Common.{arith, refl, ap, ◌∙◌, sym, inl, inr}
+use Rattle.std.proofs.lemmas.Bool.{cases_Bool, eqb-true, not-false, or_parts}
+use Rattle.std.proofs.lemmas.List.Sums.{sum_by-cons}
+use Rattle.std.specs.List.{list_any}
+use Rattle.tor_plan.specs.Entries.{padding_before_next}
+use Rattle.tor_recheck.proofs.ListedFiles.{aligned_with_filled, aligned_with_other, gap, gap_at_filled, gap_at_other}
+use Rattle.tor_recheck.proofs.ListedFiles.{joined_more, size_of}
+use Rattle.tor_spec.specs.valid.ListSide.{joined_size, ListedFile}
+use Rattle.tor_spec.specs.valid.SidesAgree.{aligned_after, is_filled, is_misaligned_after}
+use Rattle.tor_v1.specs.Entries.{padding_length}
+
+-- some file is filled
+abbrev pub has_filled : List ListedFile → Bool
+has_filled files = list_any is_filled files
+
+-- ---- up to the next filled file
+
+pub no_more_filled : (files : List ListedFile) → has_filled files ≡ false → gap files ≡ joined_size files
+unfolding padding_before_next
+no_more_filled [] none = refl
+no_more_filled (file ∷ files) none =
+    let parts = or_parts (is_filled file) (has_filled files) none in
+    omega (arith, gap_at_other file files parts.0, no_more_filled files parts.1, sum_by-cons size_of file files)
+
+begins_at : (filled : Bool) (m n : ℕ) → filled ≡ true → (filled && not (eqb m n)) ≡ false → m ≡ n
+begins_at true m n filled placed = eqb-true m n (not-false (eqb m n) placed)
+begins_at false m n filled placed = cc
+
+module _ (p : ℕ) where
+  abbrev pub IsPlaced : List ListedFile → List ListedFile → Type 0
+  IsPlaced earlier files = is_misaligned_after p earlier files ≡ false
+
+  -- where a list begins with a file: that file begins where it is to, and so do the others
+  first_begins : (earlier : List ListedFile) (file : ListedFile) (files : List ListedFile)
+      → IsPlaced earlier (file ∷ files) → is_filled file ≡ true → joined_size earlier ≡ aligned_after p earlier
+  first_begins earlier file files placed filled =
+      begins_at (is_filled file) (joined_size earlier) (aligned_after p earlier) filled
+      (or_parts (is_filled file && not (eqb (joined_size earlier) (aligned_after p earlier)))
+      (is_misaligned_after p (earlier ++ file ∷ []) files) placed).0
+
+  pub others_placed : (earlier : List ListedFile) (file : ListedFile) (files : List ListedFile)
+      → IsPlaced earlier (file ∷ files) → IsPlaced (earlier ++ file ∷ []) files
+  others_placed earlier file files placed =
+      (or_parts (is_filled file && not (eqb (joined_size earlier) (aligned_after p earlier)))
+      (is_misaligned_after p (earlier ++ file ∷ []) files) placed).1
+
+  pub to_next_filled : (earlier files : List ListedFile) → IsPlaced earlier files → has_filled files ≡ true
+      → joined_size earlier + gap files ≡ aligned_after p earlier
+  to_next_filled earlier [] placed some = cc
+  to_next_filled earlier (file ∷ files) placed some = elim (cases_Bool (is_filled file)) [
+    | inl filled ↦
+        omega (arith, gap_at_filled file files filled, first_begins earlier file files placed filled)
+    | inr other ↦
+        let some_later : has_filled files ≡ true = sym (ap (λ b. b || has_filled files) other) ∙ some in
+        let next =
+        to_next_filled (earlier ++ file ∷ []) files (others_placed earlier file files placed) some_later in
+        omega (
+          arith,
+          next,
+          gap_at_other file files other,
+          joined_more earlier file,
+          aligned_with_other p earlier file other,
+        )
+  ]
+
+  pub after_filled : (earlier : List ListedFile) (file : ListedFile) (files : List ListedFile)
+      → IsPlaced earlier (file ∷ files) → is_filled file ≡ true → has_filled files ≡ true
+      → gap files ≡ padding_length p file.size
+  after_filled earlier file files placed filled some =
+      let begins = first_begins earlier file files placed filled in
+      let next = to_next_filled (earlier ++ file ∷ []) files (others_placed earlier file files placed) some in
+      omega (arith, begins, next, joined_more earlier file, aligned_with_filled p earlier file filled)

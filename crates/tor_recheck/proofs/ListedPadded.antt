@@ -1,0 +1,56 @@
+-- The entries of a v1 side whose filled files begin at pieces have their padding where a hybrid torrent has it.
+use Rattle.std.proofs.Common.{◌≡◌, ℕ, true, false, ◌||◌, List, [], ◌∷◌, ◌++◌, arith, refl, ap₂, ◌∙◌, sym, subst}
+use Rattle.std.proofs.Common.{append_assoc, inl, inr}
+use Rattle.std.specs.List.{list_any}
+use Rattle.std.proofs.lemmas.Bool.{cases_Bool}
+use Rattle.tor_plan.specs.EntryList as entry_list
+use Rattle.tor_plan.specs.EntryList.{ArePadded, IsLaidOut, IsPaddedTo}
+use Rattle.tor_recheck.proofs.ListedFiles.{entries_of, filled_as_entry, gap, size_of_entry}
+use Rattle.tor_recheck.proofs.ListedGaps.{after_filled, has_filled, IsPlaced, no_more_filled, others_placed}
+use Rattle.tor_recheck.proofs.ListedGaps.{to_next_filled}
+use Rattle.tor_recheck.proofs.ListedTails.{behind_last, none_at_all}
+use Rattle.tor_spec.specs.valid.ListSide.{ListedFile}
+use Rattle.tor_spec.specs.valid.SidesAgree.{has_wrong_tail, is_filled}
+use Rattle.tor_tree.specs.declared.kinds.Kind.TheVariants.{Hybrid}
+
+filled_entries : (files : List ListedFile) → list_any entry_list.is_filled (entries_of files) ≡ has_filled files
+filled_entries [] = refl
+filled_entries (file ∷ files) = ap₂ (λ a b. a || b) (filled_as_entry file) (filled_entries files)
+
+module _ (p : ℕ) where
+  padded_to : (earlier : List ListedFile) (file : ListedFile) (files : List ListedFile)
+      → IsPlaced p earlier (file ∷ files) → has_wrong_tail p (earlier ++ file ∷ files) ≡ false
+      → is_filled file ≡ true → IsPaddedTo p file.size (entries_of files)
+  padded_to earlier file files placed right filled = elim (cases_Bool (has_filled files)) [
+    | inl some ↦ inl (after_filled p earlier file files placed filled some)
+    | inr none ↦
+        let all = no_more_filled files none in
+        elim (behind_last p earlier file files right filled none) [
+          | inl nothing ↦ inr (filled_entries files ∙ none, all ∙ nothing)
+          | inr lack ↦ inl (all ∙ lack)
+        ]
+  ]
+
+  are_padded : (earlier files : List ListedFile) → IsPlaced p earlier files
+      → has_wrong_tail p (earlier ++ files) ≡ false → ArePadded p (entries_of files)
+  unfolding ArePadded
+  are_padded earlier [] placed right = tt
+  are_padded earlier (file ∷ files) placed right = (
+    (λ filled.
+        subst (λ (m : ℕ). IsPaddedTo p m (entries_of files)) (sym (size_of_entry file))
+        (padded_to earlier file files placed right (sym (filled_as_entry file) ∙ filled))),
+    are_padded (earlier ++ file ∷ []) files (others_placed p earlier file files placed)
+        (subst (λ (all : List ListedFile). has_wrong_tail p all ≡ false)
+        (sym (append_assoc earlier (file ∷ []) files)) right),
+  )
+
+  none_before : (files : List ListedFile) → IsPlaced p [] files → has_wrong_tail p files ≡ false → gap files ≡ 0
+  none_before files placed right = elim (cases_Bool (has_filled files)) [
+    | inl some ↦ omega (arith, to_next_filled p [] files placed some)
+    | inr none ↦ no_more_filled files none ∙ none_at_all p files right none
+  ]
+
+  pub laid_out : (files : List ListedFile) → IsPlaced p [] files → has_wrong_tail p files ≡ false
+      → IsLaidOut Hybrid p (entries_of files)
+  unfolding IsLaidOut
+  laid_out files placed right = (none_before files placed right, are_padded [] files placed right)

@@ -1,0 +1,11 @@
+-- the pieces so far were judged, and the SHA-1 of the others are left
+use Rattle.std.proofs.Common.{◌≡◌, ◌*◌, drop, map}
+use Rattle.std.specs.List.{range_with_len}
+use Rattle.tor_recheck.specs.steps.Judge.{judged}
+use Rattle.tor_recheck.proofs.judge.judge.Given as goal
+
+abbrev pub invariant-pieces : goal.invariant-pieces
+invariant-pieces l = record {
+  bits : l.bits ≡ map (judged l.torrent l.hashes) (range_with_len 0 l.index);
+  sums : l.sums ≡ drop (l.index * 20) l.torrent.pieces;
+}

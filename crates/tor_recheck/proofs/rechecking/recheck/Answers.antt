@@ -1,0 +1,38 @@
+-- the plan, the hashes, and what they are judged to be
+use Rattle.std.proofs.Common.{[], length, ap, subst, sym, ◌∙◌}
+use Rattle.tor_engine.specs.Contents.{contents_in}
+use Rattle.tor_engine.specs.Fault as engine
+use Rattle.tor_engine.specs.PieceFault.{first_piece_fault}
+use Rattle.tor_engine.specs.PieceHashes.{piece_hashes}
+use Rattle.tor_plan.specs.PlanFacts.{PlanFacts, plan_of_entries}
+use Rattle.tor_recheck.specs.Pieces.{entries_to_cut}
+use Rattle.tor_recheck.specs.Recheck.{IsFault, first_fault}
+use Rattle.tor_recheck.specs.steps.Judge.{all_judged}
+use Rattle.tor_recheck.proofs.RecheckFaults.{no_fault, same_fault}
+use Rattle.tor_recheck.proofs.Rechecked.{count_is, judged_is_verified}
+use Rattle.tor_recheck.proofs.rechecking.recheck.Goals as goal
+
+pub returns-in-Err-clause-found : goal.returns-in-Err-clause-found
+returns-in-Err-clause-found g c = λ how facts steady.
+    let view = c.args.torrent.now in
+    let fault = c.in-Err.ensures.hashed facts steady in
+    let planned = subst (λ (plan : PlanFacts). engine.IsFault (first_piece_fault facts plan) c.in-Err.error)
+    c.in_ok-plan.ensures.planned fault in
+    subst (λ error. IsFault (first_fault facts view) error) (sym c.into.ensures)
+    (same_fault facts view c.in_ok-plan.ensures.cut c.in-Err.error planned)
+
+pub returns-clause-found : goal.returns-clause-found
+returns-clause-found g c = λ how facts steady.
+    let view = c.args.torrent.now in
+    let cut = c.in_ok-plan.ensures.cut in
+    let planned = c.in_ok-plan.ensures.planned in
+    let plan = plan_of_entries view.kind view.piece_length 16 (entries_to_cut view) in
+    let hashed = c.in-Ok.ensures.hashed facts steady in
+    let hashes = hashed.0
+    ∙ ap (λ (p : PlanFacts). piece_hashes p (contents_in facts (length p.lengths))) planned
+    ∙ ap (λ n. piece_hashes plan (contents_in facts n)) (count_is view [] cut) in (
+      c.in_ok-bits.ensures
+          ∙ ap (all_judged view) c.deref.ensures.value
+          ∙ judged_is_verified view (contents_in facts (length view.files)) cut c.in-Ok.hashes.items hashes,
+      no_fault facts view cut (sym (ap (first_piece_fault facts) planned) ∙ hashed.1),
+    )

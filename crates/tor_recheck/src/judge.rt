@@ -1,0 +1,73 @@
+//! The hashes of pieces judged by those of a torrent.
+ghost use Rattle.std.specs.Prelude.{◌≡◌, [], IfOk, map, unwrap_or};
+ghost use Rattle.std.specs.Str.{bytes_eq};
+ghost use Rattle.tor_recheck.specs.steps.Judge.{all_judged, is_found, is_told};
+
+use crate::bits::Bits;
+use crate::told::{root_at, told_hashes};
+use std::alloc::{AllocError, Global};
+use tor_check::Torrent;
+use tor_engine::PieceHash;
+use tor_tree::Hash;
+
+/// The length of a SHA-1.
+const SUM_LENGTH: usize = 20;
+
+/// For each piece whether it is there, and has what each side of the torrent has for it.
+pub(crate) fn judge(
+    alloc: Global,
+    torrent: &Torrent,
+    hashes: &[Option<PieceHash>],
+) -> Result<Bits, AllocError>
+    ensures { IfOk result (λ bits. bits ≡ all_judged torrent.now hashes.now) }
+{
+    let told = told_hashes(alloc, torrent)?;
+    let mut bits = Bits::with_capacity(alloc, hashes.len() as u64)?;
+    let mut sums = torrent.pieces();
+    'pieces: for (index, hash) in hashes.iter().enumerate() {
+        let (sum, later) = sums.split_at(sums.len().min(SUM_LENGTH));
+        bits.push(is_found(hash, sum, root_at(&told, index)))?;
+        sums = later;
+    }
+    Ok(bits)
+}
+
+/// Whether a piece is there, and has these hashes where it has any.
+fn is_found(hash: &Option<PieceHash>, sum: &[u8], root: Option<Hash>) -> bool
+    ensures { result ≡ is_found hash.now sum.now (unwrap_or root []) }
+{
+    match hash {
+        Some(hash) => is_sum(&hash.v1, sum) && is_root(&hash.v2, root),
+        None => false,
+    }
+}
+
+/// Whether a SHA-1, where there is one, is this.
+fn is_sum(sum: &Option<[u8; 20]>, told: &[u8]) -> bool
+    ensures { result ≡ is_told sum.now told.now }
+{
+    match sum {
+        Some(sum) => sum.as_slice() == told,
+        None => true,
+    }
+}
+
+/// Whether a Merkle hash, where there is one, is this.
+fn is_root(hash: &Option<Hash>, told: Option<Hash>) -> bool
+    ensures { result ≡ is_told hash.now (unwrap_or told []) }
+{
+    match hash {
+        Some(hash) => is_hash(hash, told),
+        None => true,
+    }
+}
+
+/// Whether this is the hash that was told, if any was.
+fn is_hash(hash: &Hash, told: Option<Hash>) -> bool
+    ensures { result ≡ bytes_eq hash.now (unwrap_or told []) }
+{
+    match told {
+        Some(told) => *hash == told,
+        None => false,
+    }
+}

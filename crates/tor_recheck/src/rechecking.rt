@@ -1,0 +1,107 @@
+//! A torrent's pieces looked for in the files of a source.
+ghost use Rattle.std.specs.Prelude.{◌≡◌, ◌≢◌, ◌↔◌, IsTrue, None, Err, IfErr, IfOk, MatchResult, length, map};
+ghost use Rattle.tor_engine.specs.Contents.{contents_in};
+ghost use Rattle.tor_engine.specs.How.{IsHow};
+ghost use Rattle.tor_plan.specs.PlanFacts.{plan_of_entries};
+ghost use Rattle.tor_recheck.specs.Pieces.{IsCut, entries_to_cut};
+ghost use Rattle.tor_recheck.specs.Recheck.{IsFault, IsGiven, first_fault};
+ghost use Rattle.tor_recheck.specs.declared.errors.RecheckError.TheVariants.{Workers};
+ghost use Rattle.tor_source.specs.Source.{SourceFacts};
+ghost use Rattle.tor_recheck.specs.declared.rechecking.TheConstants.{SPAN};
+ghost use Rattle.tor_spec.specs.Verified.{verified_pieces};
+ghost use Rattle.tor_v1.specs.Entries.{file_entry};
+
+use crate::bits::Bits;
+use crate::errors::RecheckError;
+use crate::judge::judge;
+use crate::laws::valid_torrents_are_cut;
+use std::alloc::{AllocError, Global};
+use std::thread::Threads;
+use tor_check::{Torrent, ViewFile};
+use tor_engine::{How, hash_pieces};
+use tor_plan::Plan;
+use tor_source::Source;
+use tor_v1::Entry;
+
+/// The most workers that may share the hashing.
+const MAX_WORKERS: u32 = 64;
+
+/// The pieces that a worker takes at a time, at most.
+const SPAN: u32 = 16;
+
+/// Which pieces of the torrent are there and right: file i of the source is its file i, padding not counted. A piece is
+/// when all its bytes are there, and have each hash that the torrent has for it; padding is always there. A file may be
+/// missing, shorter or longer than the torrent says; bytes past its length there are not read, nor is a piece that is
+/// not wholly there. The workers are judged first; then each length is asked, the pieces are read, and each length is
+/// asked again. The first fault is told, whatever the `How`.
+pub fn recheck<S: Source, R: Threads + Sync>(
+    rt: &R,
+    alloc: Global,
+    source: &S,
+    torrent: &Torrent,
+    how: How,
+) -> Result<Bits, RecheckError<S::Fault>>
+    ensures workers { (IsHow how → ⊥) → result ≡ Err Workers }
+    ensures found { IsHow how → (facts : SourceFacts S.Fault) → S.is_steady source.now facts →
+        MatchResult result
+        (λ bits. (bits ≡ verified_pieces torrent.now (contents_in facts (length torrent.now.files)))
+        × (first_fault facts torrent.now ≡ None))
+        (IsFault (first_fault facts torrent.now)) }
+    ensures allowed { IsHow how → IfErr result (λ error. error ≢ Workers) }
+    ensures gave { IfErr result (IsGiven (S.gave source.now)) }
+{
+    if !is_how(how) {
+        return Err(RecheckError::Workers);
+    }
+    let plan = plan_of(alloc, torrent)?;
+    let hashes = match hash_pieces(rt, alloc, source, &plan, how) {
+        Ok(hashes) => hashes,
+        Err(error) => return Err(error.into()),
+    };
+    let bits = judge(alloc, torrent, &hashes)?;
+    Ok(bits)
+}
+
+/// Whether so many workers may share the hashing.
+fn is_how(how: How) -> bool
+    ensures { IsTrue result ↔ IsHow how }
+{
+    match how {
+        How::One => true,
+        How::Halves(workers) => 1 <= workers && workers <= MAX_WORKERS,
+    }
+}
+
+/// The units of the torrent's entries, or of its files where it has no v1 side.
+fn plan_of(alloc: Global, torrent: &Torrent) -> Result<Plan, AllocError>
+    ensures planned { IfOk result (λ plan. plan
+        ≡ plan_of_entries torrent.now.kind torrent.now.piece_length SPAN (entries_to_cut torrent.now)) }
+    ensures cut { IsCut torrent.now }
+{
+    valid_torrents_are_cut();
+    let files = torrent.files();
+    let kind = torrent.kind();
+    let piece_length = torrent.piece_length();
+    if kind.has_v1() {
+        return Plan::of_entries(alloc, torrent.entries(), kind, piece_length, SPAN);
+    }
+    let entries = entries_of(alloc, files)?;
+    Plan::of_entries(alloc, &entries, kind, piece_length, SPAN)
+}
+
+/// Files as entries.
+fn entries_of(alloc: Global, files: &[ViewFile]) -> Result<Vec<Entry>, AllocError>
+    ensures { IfOk result
+        (λ entries. entries.items ≡ map (λ told. file_entry (told.file.path, told.file.length)) files.now) }
+{
+    let mut entries = Vec::with_capacity(alloc, files.len())?;
+    'files: for file in files {
+        let file = file.file();
+        entries.push(Entry {
+            path: file.path.copy(alloc)?,
+            length: file.length,
+            pad: false,
+        })?;
+    }
+    Ok(entries)
+}
