@@ -46,7 +46,11 @@ mod tests;
 #[cfg(test)]
 mod tests_answers;
 #[cfg(test)]
+mod tests_faults;
+#[cfg(test)]
 mod tests_foreign;
+#[cfg(test)]
+mod tests_out;
 #[cfg(test)]
 mod tests_path;
 #[cfg(test)]
@@ -54,7 +58,15 @@ mod tests_proof_text;
 #[cfg(test)]
 mod tests_proofs;
 #[cfg(test)]
+mod tests_refused;
+#[cfg(test)]
+mod tests_runs;
+#[cfg(test)]
 mod tests_told;
+#[cfg(test)]
+mod tests_usage;
+#[cfg(test)]
+mod tests_words;
 mod torrent_words;
 mod verify_command;
 

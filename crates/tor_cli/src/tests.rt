@@ -1,21 +1,16 @@
+//! The program over readers and writers that fault.
 use crate::input::{InputFault, read_limited};
 use crate::run::run;
 use std::alloc::Global;
 use std::io::{Error, ErrorKind, Read, Result, Write};
 use std::test::Fail;
+use std::thread::Threads;
 
 // The torrent of the content `abc` under the name `a`, piece length 16,384. The hash is the SHA-256 of `abc`.
 pub const ABC: &[u8; 158] = b"d4:infod9:file treed1:ad0:d6:lengthi3e11:pieces root32:\
 \xba\x78\x16\xbf\x8f\x01\xcf\xea\x41\x41\x40\xde\x5d\xae\x22\x23\
 \xb0\x03\x61\xa3\x96\x17\x7a\x9c\xb4\x10\xff\x61\xf2\x00\x15\xad\
 eee12:meta versioni2e4:name1:a12:piece lengthi16384ee12:piece layersdee";
-
-// The same with the tracker `http://t/`, and private.
-const ABC_TRACKED: &[u8; 191] =
-    b"d8:announce9:http://t/4:infod9:file treed1:ad0:d6:lengthi3e11:pieces root32:\
-\xba\x78\x16\xbf\x8f\x01\xcf\xea\x41\x41\x40\xde\x5d\xae\x22\x23\
-\xb0\x03\x61\xa3\x96\x17\x7a\x9c\xb4\x10\xff\x61\xf2\x00\x15\xad\
-eee12:meta versioni2e4:name1:a12:piece lengthi16384e7:privatei1ee12:piece layersdee";
 
 const WORDS: [&str; 6] = ["tor", "make", "--name", "a", "--piece-length", "16384"];
 
@@ -78,343 +73,90 @@ fn narrow_writer(alloc: Global, step: usize, room: usize, faults: bool) -> Narro
     }
 }
 
+// That a run over the input `abc` has this status, writes these bytes and tells this line.
+fn is_written<T: Threads + Sync>(
+    rt: &T,
+    system: &HostRuntime,
+    mut out: Narrow,
+    status: u8,
+    written: &[u8],
+    line: &str,
+) -> bool {
+    let mut input: &[u8] = b"abc";
+    let mut err = Vec::new(system.alloc());
+    let ended = run(rt, system, &WORDS, &mut input, &mut out, &mut err, false);
+    ended == status && out.written.as_slice() == written && err.as_slice() == line.as_bytes()
+}
+
+// That a run over the reader has the status of a fault of it, writes nothing and tells this line.
+fn is_stopped<T: Threads + Sync, R: Read>(
+    rt: &T,
+    system: &HostRuntime,
+    words: &[&str],
+    reader: &mut R,
+    line: &str,
+) -> bool {
+    let mut out = Vec::new(system.alloc());
+    let mut err = Vec::new(system.alloc());
+    let status = run(rt, system, words, reader, &mut out, &mut err, false);
+    status == 3 && out.is_empty() && err.as_slice() == line.as_bytes()
+}
+
 #[test]
 fn reads_up_to_the_limit(rt: HostRuntime) -> std::result::Result<(), Fail> {
-    let alloc = rt.alloc();
     let mut five: &[u8] = b"abcde";
-    let bytes = read_limited(alloc, &mut five, 5)?;
-    assert_eq!(rt; bytes.as_slice(), b"abcde".as_slice());
+    let bytes = read_limited(rt.alloc(), &mut five, 5)?;
+    assert!(rt; bytes.as_slice() == b"abcde".as_slice());
+    Ok(())
+}
+
+#[test]
+fn reads_no_more_than_the_limit(rt: HostRuntime) {
     let mut six: &[u8] = b"abcdef";
-    assert_eq!(rt;
-        read_limited(alloc, &mut six, 5).err(),
-        Some(InputFault::TooLong)
-    );
+    let fault = read_limited(rt.alloc(), &mut six, 5).err();
+    assert!(rt; fault == Some(InputFault::TooLong));
+}
+
+#[test]
+fn tells_a_fault_of_its_reader(rt: HostRuntime) {
     let mut faulting = Faulting(b"abc");
-    assert_eq!(rt;
-        read_limited(alloc, &mut faulting, 5).err(),
-        Some(InputFault::Read)
-    );
-    Ok(())
+    let fault = read_limited(rt.alloc(), &mut faulting, 5).err();
+    assert!(rt; fault == Some(InputFault::Read));
 }
 
 #[test]
-fn makes_a_torrent_of_each_kind(rt: HostRuntime) -> std::result::Result<(), Fail> {
-    let alloc = rt.alloc();
-    let table: [(&[&str], &[u8], &[u8]); 7] = [
-        (&WORDS, b"abc", ABC),
-        (
-            &[
-                "tor",
-                "make",
-                "--private",
-                "--announce",
-                "http://t/",
-                "--piece-length=16384",
-                "--name=a",
-            ],
-            b"abc",
-            ABC_TRACKED,
-        ),
-        (
-            &[
-                "tor",
-                "make",
-                "--kind=v1",
-                "--name",
-                "a",
-                "--piece-length",
-                "16384",
-            ],
-            b"",
-            b"d4:infod6:lengthi0e4:name1:a12:piece lengthi16384e6:pieces0:ee",
-        ),
-        (
-            &[
-                "tor",
-                "make",
-                "--kind=hybrid",
-                "--name",
-                "a",
-                "--piece-length",
-                "16384",
-            ],
-            b"",
-            b"d4:infod9:file treed1:ad0:d6:lengthi0eeee6:lengthi0e12:meta versioni2e4:name1:a\
-12:piece lengthi16384e6:pieces0:e12:piece layersdee",
-        ),
-        (
-            &[
-                "tor",
-                "make",
-                "--kind=hybrid",
-                "--name",
-                ".pad",
-                "--piece-length",
-                "16384",
-            ],
-            b"",
-            b"d4:infod9:file treed4:.padd0:d6:lengthi0eeee6:lengthi0e12:meta versioni2e4:name4:.pad\
-12:piece lengthi16384e6:pieces0:e12:piece layersdee",
-        ),
-        (
-            &[
-                "tor",
-                "make",
-                "--kind",
-                "v1",
-                "--name",
-                " a ",
-                "--announce=",
-            ],
-            b"",
-            b"d8:announce0:4:infod6:lengthi0e4:name3: a 12:piece lengthi262144e6:pieces0:ee",
-        ),
-        (
-            &["tor", "make", "--name", "a"],
-            b"",
-            b"d4:infod9:file treed1:ad0:d6:lengthi0eeee12:meta versioni2e4:name1:a\
-12:piece lengthi262144ee12:piece layersdee",
-        ),
-    ];
-    for (words, input, torrent) in table {
-        let mut reader = input;
-        let mut out = Vec::new(alloc);
-        let mut err = Vec::new(alloc);
-        assert_eq!(rt;
-            run(&rt, &rt, words, &mut reader, &mut out, &mut err, false),
-            0,
-            "at {words:?}"
-        );
-        assert_eq!(rt; out.as_slice(), torrent, "at {words:?}");
-        assert!(rt; err.is_empty());
+fn writes_a_torrent_byte_by_byte(rt: HostRuntime) {
+    let out = narrow_writer(rt.alloc(), 1, 1000, true);
+    assert!(rt; is_written(&rt, &rt, out, 0, ABC, ""));
+}
+
+const READ_FAULT: &str = "tor: read fault\n";
+
+// Words without a mistake and with one.
+const MISTAKEN: [&[&str]; 3] = [
+    &WORDS,
+    &["tor", "make", "--name", ".."],
+    &["tor", "make", "--name", "a", "--piece-length", "5"],
+];
+
+#[test]
+fn tells_a_fault_of_its_reader_before_one_of_its_words(rt: HostRuntime) {
+    for words in MISTAKEN {
+        assert!(rt; is_stopped(&rt, &rt, words, &mut Faulting(b"ab"), READ_FAULT));
     }
-    Ok(())
 }
 
 #[test]
-fn writes_a_torrent_byte_by_byte(rt: HostRuntime) -> std::result::Result<(), Fail> {
-    let alloc = rt.alloc();
-    let mut input: &[u8] = b"abc";
-    let mut out = narrow_writer(alloc, 1, 1000, true);
-    let mut err = Vec::new(alloc);
-    assert_eq!(rt;
-        run(&rt, &rt, &WORDS, &mut input, &mut out, &mut err, false),
-        0
-    );
-    assert_eq!(rt; out.written.as_slice(), ABC.as_slice());
-    assert!(rt; err.is_empty());
-    Ok(())
-}
-
-#[test]
-fn tells_a_fault_of_its_reader_before_one_of_its_words(
-    rt: HostRuntime,
-) -> std::result::Result<(), Fail> {
-    let alloc = rt.alloc();
-    let table: [&[&str]; 3] = [
-        &WORDS,
-        &["tor", "make", "--name", ".."],
-        &["tor", "make", "--name", "a", "--piece-length", "5"],
-    ];
-    for words in table {
-        let mut out = Vec::new(alloc);
-        let mut err = Vec::new(alloc);
-        let status = run(
-            &rt,
-            &rt,
-            words,
-            &mut Faulting(b"ab"),
-            &mut out,
-            &mut err,
-            false,
-        );
-        assert_eq!(rt; status, 3, "at {words:?}");
-        assert!(rt; out.is_empty());
-        assert_eq!(rt;
-            err.as_slice(),
-            b"tor: read fault\n".as_slice(),
-            "at {words:?}"
-        );
-    }
-    Ok(())
-}
-
-#[test]
-fn tells_that_its_input_is_too_long(rt: HostRuntime) -> std::result::Result<(), Fail> {
-    let alloc = rt.alloc();
-    let mut out = Vec::new(alloc);
-    let mut err = Vec::new(alloc);
+fn tells_that_its_input_is_too_long(rt: HostRuntime) {
     let words = ["tor", "make", "--name", ".."];
-    let status = run(&rt, &rt, &words, &mut Endless, &mut out, &mut err, false);
-    assert_eq!(rt; status, 3);
-    assert!(rt; out.is_empty());
-    assert_eq!(rt; err.as_slice(), b"tor: input too long\n".as_slice());
-    Ok(())
+    assert!(rt; is_stopped(&rt, &rt, &words, &mut Endless, "tor: input too long\n"));
 }
 
 #[test]
-fn tells_how_many_bytes_were_written(rt: HostRuntime) -> std::result::Result<(), Fail> {
-    let alloc = rt.alloc();
+fn tells_how_many_bytes_were_written(rt: HostRuntime) {
+    let line = "tor: write fault after 12 bytes\n";
     for faults in [true, false] {
-        let mut input: &[u8] = b"abc";
-        let mut out = narrow_writer(alloc, 1000, 12, faults);
-        let mut err = Vec::new(alloc);
-        assert_eq!(rt;
-            run(&rt, &rt, &WORDS, &mut input, &mut out, &mut err, false),
-            3
-        );
-        assert_eq!(rt; out.written.as_slice(), b"d4:infod9:fi".as_slice());
-        assert_eq!(rt;
-            err.as_slice(),
-            b"tor: write fault after 12 bytes\n".as_slice()
-        );
+        let out = narrow_writer(rt.alloc(), 1000, 12, faults);
+        assert!(rt; is_written(&rt, &rt, out, 3, b"d4:infod9:fi", line));
     }
-    Ok(())
-}
-
-#[test]
-fn reads_its_input_before_it_refuses_its_words(rt: HostRuntime) -> std::result::Result<(), Fail> {
-    let alloc = rt.alloc();
-    let table: [(&str, &str, &str); 9] = [
-        ("", "16384", "tor: N1 Empty\n"),
-        (".", "16384", "tor: N2 Dot\n"),
-        ("..", "5", "tor: N3 DotDot\n"),
-        ("a/b", "16384", "tor: N4 Slash\n"),
-        ("a\0b", "16384", "tor: N5 Nul\n"),
-        ("a", "0", "tor: M1 PieceLength\n"),
-        ("a", "16383", "tor: M1 PieceLength\n"),
-        ("a", "49152", "tor: M1 PieceLength\n"),
-        ("a", "2147483648", "tor: M1 PieceLength\n"),
-    ];
-    for (name, piece_length, line) in table {
-        let words = [
-            "tor",
-            "make",
-            "--name",
-            name,
-            "--piece-length",
-            piece_length,
-        ];
-        let mut input: &[u8] = b"abc";
-        let mut out = Vec::new(alloc);
-        let mut err = Vec::new(alloc);
-        let status = run(&rt, &rt, &words, &mut input, &mut out, &mut err, false);
-        assert_eq!(rt; status, 1, "at {line}");
-        assert!(rt; input.is_empty(), "at {line}");
-        assert!(rt; out.is_empty());
-        assert_eq!(rt; err.as_slice(), line.as_bytes(), "at {line}");
-    }
-    Ok(())
-}
-
-#[test]
-fn tells_a_fault_of_usage_in_one_line(rt: HostRuntime) -> std::result::Result<(), Fail> {
-    let alloc = rt.alloc();
-    let table: [(&[&str], &str); 13] = [
-        (
-            &["tor", "make", "--foo"],
-            "tor: unexpected argument '--foo'; see 'tor make --help'\n",
-        ),
-        (
-            &["tor", "make"],
-            "tor: the following required arguments were not provided: --name <NAME>; see 'tor make --help'\n",
-        ),
-        (
-            &["tor", "make", "--name"],
-            "tor: a value is required for '--name <NAME>' but none was supplied; see 'tor make --help'\n",
-        ),
-        (
-            &["tor", "make", "--name", "a", "--piece-length", "x"],
-            "tor: invalid value 'x' for '--piece-length <N>': invalid digit found in string; see 'tor make --help'\n",
-        ),
-        (
-            &["tor", "make", "--name", "a", "--kind", "v3"],
-            "tor: invalid value 'v3' for '--kind <KIND>' [possible values: v1, v2, hybrid]; see 'tor make --help'\n",
-        ),
-        (
-            &["tor", "check"],
-            "tor: the following required arguments were not provided: <FILE>; see 'tor check --help'\n",
-        ),
-        (
-            &["tor", "verify", "a", "-1", "16384", "b"],
-            "tor: unexpected argument '-1'; see 'tor verify --help'\n",
-        ),
-        (
-            &["tor", "magnet", "a", "b"],
-            "tor: unexpected argument 'b'; see 'tor magnet --help'\n",
-        ),
-        (
-            &["tor", "mak"],
-            "tor: unrecognized subcommand 'mak'; see 'tor --help'\n",
-        ),
-        (
-            &["tor"],
-            "tor: 'tor' requires a subcommand but one was not provided \
-[subcommands: make, check, magnet, prove, verify, help]; \
-see 'tor --help'\n",
-        ),
-        (
-            &["tor", "make", "--f\n\noo\x1b[0m\\\x7f"],
-            "tor: unexpected argument '--f\\x0a\\x0aoo\\x1b[0m\\x5c\\x7f'; see 'tor make --help'\n",
-        ),
-        (
-            &["tor", "\té\r\n\r\n"],
-            "tor: unrecognized subcommand '\\x09é\\x0d\\x0a\\x0d\\x0a'; see 'tor --help'\n",
-        ),
-        (
-            &["tor", "make", "--name", "a\\", "--piece-length", "1\n\n2"],
-            "tor: invalid value '1\\x0a\\x0a2' for '--piece-length <N>': invalid digit found in string; \
-see 'tor make --help'\n",
-        ),
-    ];
-    for (words, line) in table {
-        let mut input: &[u8] = b"abc";
-        let mut out = Vec::new(alloc);
-        let mut err = Vec::new(alloc);
-        assert_eq!(rt;
-            run(&rt, &rt, words, &mut input, &mut out, &mut err, false),
-            2,
-            "at {line}"
-        );
-        assert_eq!(rt; input.len(), 3, "at {line}");
-        assert!(rt; out.is_empty());
-        assert_eq!(rt; err.as_slice(), line.as_bytes(), "at {line}");
-    }
-    Ok(())
-}
-
-#[test]
-fn shows_help_and_version(rt: HostRuntime) -> std::result::Result<(), Fail> {
-    let alloc = rt.alloc();
-    let table: [(&[&str], &str); 5] = [
-        (&["tor", "--version"], "tor 0.1.0\n"),
-        (
-            &["tor", "--help"],
-            "Makes and validates BitTorrent metainfo files\n",
-        ),
-        (
-            &["tor", "check", "--help"],
-            "Tells what a torrent describes, or why a file is none\n",
-        ),
-        (
-            &["tor", "magnet", "--help"],
-            "Prints the magnet link of a torrent\n",
-        ),
-        (
-            &["tor", "make", "--help"],
-            "Makes a torrent of standard input, or of a file or folder, and writes it to standard output\n",
-        ),
-    ];
-    for (words, beginning) in table {
-        let mut input: &[u8] = b"";
-        let mut out = Vec::new(alloc);
-        let mut err = Vec::new(alloc);
-        assert_eq!(rt;
-            run(&rt, &rt, words, &mut input, &mut out, &mut err, false),
-            0
-        );
-        assert!(rt; out.starts_with(beginning.as_bytes()));
-        assert!(rt; err.is_empty());
-    }
-    Ok(())
 }

@@ -1,6 +1,6 @@
 //! Which proofs hold, as the program tells it.
-use crate::tests_path::{below, new_folder};
 use crate::tests_proofs::{ABC_PROOF, FIRST_PIECE, ROOT, SECOND_PIECE, THIRD_PIECE};
+use crate::tests_runs::{below, new_folder};
 use crate::tests_told::{Judged, NO, READ_FAULT, Told, YES, answer_to, expect_answers, is_told};
 use std::alloc::{AllocError, Global};
 use std::fs;

@@ -1,12 +1,13 @@
 //! Torrents in files, as the program tells of them. Their bytes are spelled by hand from the standards, and their
 //! hashes were computed apart.
 use crate::tests::ABC;
-use crate::tests_path::{FOLDER_V1, Outcome, below, new_folder, run_texts};
-use std::alloc::{AllocError, Global};
-use std::fs;
+use crate::tests_path::FOLDER_V1;
+use crate::tests_runs::{Outcome, below, is_outcome, new_folder, run_texts};
+use std::process::Abort;
 use std::rt::Files;
 use std::test::Fail;
 use std::thread::Threads;
+use std::{fs, io};
 
 // The files a = `ab` and b = `c` in the folder `f`, piece length 16,384, for both versions. The roots are the SHA-256
 // of `ab` and of `c`, the pieces the SHA-1 of `ab` with 16,382 zero bytes and that of `c`.
@@ -45,33 +46,77 @@ const MAGNET_V1: &str = "magnet:?xt=urn:btih:5b31f52b05c3619aa3057861a8c2a9afc2c
 const MAGNET_V2: &str =
     "magnet:?xt=urn:btmh:122097cfdba4cd02b8bfb50f3b765f573f20d73f934cdd1591a3c1333aafda95c436\n";
 
+// A command, a torrent, and what the command tells of it.
+type Told = (&'static str, &'static [u8], &'static str);
+
+const TOLD: [Told; 7] = [
+    ("check", FOLDER_HYBRID, CHECK_HYBRID),
+    ("check", FOLDER_V1, CHECK_V1),
+    ("check", ABC, CHECK_V2),
+    ("check", ODD_NAMES, CHECK_ODD),
+    ("magnet", FOLDER_HYBRID, MAGNET_HYBRID),
+    ("magnet", FOLDER_V1, MAGNET_V1),
+    ("magnet", ABC, MAGNET_V2),
+];
+
 fn told_of<T: Threads + Sync>(rt: &T, system: &HostRuntime, command: &str, place: &str) -> Outcome {
     run_texts(rt, system, &["tor", command, place], true)
 }
 
+// That this is told of a torrent, which is put at `place`.
+fn is_told<T: Threads + Sync>(
+    rt: &T,
+    system: &HostRuntime,
+    place: &str,
+    row: &Told,
+) -> io::Result<bool> {
+    let (command, torrent, text) = row;
+    fs::write(system, place, *torrent)?;
+    let told = told_of(rt, system, command, place);
+    Ok(is_outcome(&told, 0, text.as_bytes(), "", 3))
+}
+
 #[test]
 fn tells_of_a_torrent_in_a_file(rt: HostRuntime) -> Result<(), Fail> {
-    let alloc = rt.alloc();
     let folder = new_folder(&rt, "tells")?;
-    let place = below(alloc, &folder, "t")?;
-    let table: [(&str, &[u8], &str); 7] = [
-        ("check", FOLDER_HYBRID, CHECK_HYBRID),
-        ("check", FOLDER_V1, CHECK_V1),
-        ("check", ABC, CHECK_V2),
-        ("check", ODD_NAMES, CHECK_ODD),
-        ("magnet", FOLDER_HYBRID, MAGNET_HYBRID),
-        ("magnet", FOLDER_V1, MAGNET_V1),
-        ("magnet", ABC, MAGNET_V2),
-    ];
-    for (command, torrent, text) in table {
-        fs::write(&rt, place.as_str(), torrent)?;
-        let told = told_of(&rt, &rt, command, &place);
-        assert_eq!(rt; told.err.as_slice(), b"".as_slice(), "at {text}");
-        assert_eq!(rt; told.out.as_slice(), text.as_bytes(), "at {text}");
-        assert_eq!(rt; told.status, 0, "at {text}");
-        assert_eq!(rt; told.unread, 3, "at {text}");
+    let place = below(rt.alloc(), &folder, "t")?;
+    for row in &TOLD {
+        assert!(rt; is_told(&rt, &rt, &place, row)?, "{}", row.2);
     }
-    rt.remove_dir_all(alloc, &folder)?;
+    rt.remove_dir_all(rt.alloc(), &folder)?;
+    Ok(())
+}
+
+// That both commands have this status and tell this line of what is at `place`.
+fn is_refused<T: Threads + Sync>(
+    rt: &T,
+    system: &HostRuntime,
+    place: &str,
+    status: u8,
+    line: &str,
+) -> bool {
+    let checked = told_of(rt, system, "check", place);
+    let linked = told_of(rt, system, "magnet", place);
+    is_outcome(&checked, status, b"", line, 3) && is_outcome(&linked, status, b"", line, 3)
+}
+
+// What are no torrents, and the lines that say why.
+const NO_TORRENTS: [(&[u8], &str); 3] = [
+    (b"d1:b0:1:a0:e", "tor: V1 Bencode B7 KeyOrder at 6\n"),
+    (b"", "tor: V1 Bencode B1 Truncated at 0\n"),
+    (b"de", "tor: V3 InfoShape\n"),
+];
+
+// That these, each put at `place`, are refused so.
+fn expect_refusals<T: Threads + Sync + Abort>(
+    rt: &T,
+    system: &HostRuntime,
+    place: &str,
+) -> io::Result<()> {
+    for (bytes, line) in NO_TORRENTS {
+        fs::write(system, place, bytes)?;
+        assert!(rt; is_refused(rt, system, place, 1, line), "{line}");
+    }
     Ok(())
 }
 
@@ -79,30 +124,10 @@ fn tells_of_a_torrent_in_a_file(rt: HostRuntime) -> Result<(), Fail> {
 fn tells_why_a_file_is_no_torrent(rt: HostRuntime) -> Result<(), Fail> {
     let alloc = rt.alloc();
     let folder = new_folder(&rt, "no-torrent")?;
-    let place = below(alloc, &folder, "t")?;
+    expect_refusals(&rt, &rt, &below(alloc, &folder, "t")?)?;
     let absent = below(alloc, &folder, "absent")?;
-    let table: [(&str, &[u8], u8, &str); 5] = [
-        (
-            &place,
-            b"d1:b0:1:a0:e",
-            1,
-            "tor: V1 Bencode B7 KeyOrder at 6\n",
-        ),
-        (&place, b"", 1, "tor: V1 Bencode B1 Truncated at 0\n"),
-        (&place, b"de", 1, "tor: V3 InfoShape\n"),
-        (&folder, b"", 3, "tor: read fault\n"),
-        (&absent, b"", 3, "tor: read fault\n"),
-    ];
-    for (place_of_row, bytes, status, line) in table {
-        fs::write(&rt, place.as_str(), bytes)?;
-        for command in ["check", "magnet"] {
-            let told = told_of(&rt, &rt, command, place_of_row);
-            assert_eq!(rt; told.err.as_slice(), line.as_bytes(), "at {line}");
-            assert_eq!(rt; told.status, status, "at {line}");
-            assert!(rt; told.out.is_empty(), "at {line}");
-            assert_eq!(rt; told.unread, 3, "at {line}");
-        }
-    }
+    assert!(rt; is_refused(&rt, &rt, &folder, 3, "tor: read fault\n"));
+    assert!(rt; is_refused(&rt, &rt, &absent, 3, "tor: read fault\n"));
     rt.remove_dir_all(alloc, &folder)?;
     Ok(())
 }

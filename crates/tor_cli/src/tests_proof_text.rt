@@ -43,72 +43,123 @@ fn lines(alloc: Global, index: &str, count: usize) -> Result<String, AllocError>
     Ok(text)
 }
 
+// An index, its digits, and how many siblings there are.
+type Written = (u64, &'static str, usize);
+
+const WRITTEN: [Written; 4] = [
+    (0, "0", 0),
+    (2, "2", 1),
+    (10, "10", 2),
+    (u64::MAX, "18446744073709551615", 36),
+];
+
+// That the text of the proof is this.
+fn is_written(alloc: Global, index: u64, proof: &Proof, text: &str) -> Result<bool, AllocError> {
+    Ok(proof_text(alloc, index, &counted(), proof)?.as_str() == text)
+}
+
+// That the proof is read from this text.
+fn is_read(alloc: Global, index: u64, proof: &Proof, text: &str) -> Result<bool, AllocError> {
+    match read_proof(alloc, text.as_bytes())? {
+        Some(read) => {
+            Ok(read.0 == index && read.1 == counted() && read.2.siblings == proof.siblings)
+        }
+        None => Ok(false),
+    }
+}
+
+fn is_right(alloc: Global, row: &Written) -> Result<bool, AllocError> {
+    let (index, digits, count) = row;
+    let text = lines(alloc, digits, *count)?;
+    let siblings = siblings(alloc, *count)?;
+    let proof = Proof { siblings };
+    Ok(is_written(alloc, *index, &proof, &text)? && is_read(alloc, *index, &proof, &text)?)
+}
+
 #[test]
 fn writes_a_proof_and_reads_it_back(rt: HostRuntime) -> Result<(), Fail> {
-    let alloc = rt.alloc();
-    for (index, digits, count) in [
-        (0, "0", 0),
-        (2, "2", 1),
-        (10, "10", 2),
-        (u64::MAX, "18446744073709551615", 36),
-    ] {
-        let proof = Proof {
-            siblings: siblings(alloc, count)?,
-        };
-        let text = proof_text(alloc, index, &counted(), &proof)?;
-        assert_eq!(rt; text.as_str(), lines(alloc, digits, count)?.as_str());
-        let read = read_proof(alloc, text.as_bytes())?.ok_or("no proof")?;
-        assert_eq!(rt; read.0, index);
-        assert_eq!(rt; read.1, counted());
-        assert_eq!(rt; read.2.siblings, proof.siblings);
+    for row in &WRITTEN {
+        assert!(rt; is_right(rt.alloc(), row)?, "{}", row.1);
     }
     Ok(())
+}
+
+// The digits of an index, and how many siblings there are: no such lines are read.
+const NO_PROOFS: [(&str, usize); 5] = [
+    ("2", 37),
+    ("02", 1),
+    ("+2", 1),
+    ("", 1),
+    ("18446744073709551616", 1),
+];
+
+#[test]
+fn reads_no_other_numbers(rt: HostRuntime) -> Result<(), Fail> {
+    let alloc = rt.alloc();
+    for (digits, count) in NO_PROOFS {
+        let text = lines(alloc, digits, count)?;
+        assert!(rt; read_proof(alloc, text.as_bytes())?.is_none(), "{digits}");
+    }
+    Ok(())
+}
+
+// Texts that are no proof; `H` stands for the hash of all bytes, `A` for the one of a byte 171.
+const NO_TEXTS: [&str; 9] = [
+    "",
+    "index 2\nhash H",
+    "index 2\nhash H\n\n",
+    "index 2\nhash H\nsibling A",
+    "index 2\nhash H\nsibling A\n ",
+    "index 2\nhash H\nhash H\n",
+    "index 2\r\nhash H\r\n",
+    "index 2\nhash H0\n",
+    "hash H\n",
+];
+
+// That the text is that of no proof.
+fn is_refused(alloc: Global, text: &str) -> Result<bool, AllocError> {
+    let spelled = text.replace(alloc, "H", H)?.replace(alloc, "A", A)?;
+    Ok(read_proof(alloc, spelled.as_bytes())?.is_none())
 }
 
 #[test]
 fn reads_no_other_text(rt: HostRuntime) -> Result<(), Fail> {
     let alloc = rt.alloc();
-    for text in [
-        String::new(alloc),
-        lines(alloc, "2", 37)?,
-        lines(alloc, "02", 1)?,
-        lines(alloc, "+2", 1)?,
-        lines(alloc, "", 1)?,
-        lines(alloc, "18446744073709551616", 1)?,
-        format!(in alloc; "index 2\nhash {H}")?,
-        format!(in alloc; "index 2\nhash {H}\n\n")?,
-        format!(in alloc; "index 2\nhash {H}\nsibling {A}")?,
-        format!(in alloc; "index 2\nhash {H}\nsibling {A}\n ")?,
-        format!(in alloc; "index 2\nhash {H}\nhash {H}\n")?,
-        format!(in alloc; "index 2\r\nhash {H}\r\n")?,
-        format!(in alloc; "index 2\nhash {H}0\n")?,
-        format!(in alloc; "hash {H}\n")?,
-        lines(alloc, "2", 0)?.replace(alloc, "f", "F")?,
-    ] {
-        assert!(rt; read_proof(alloc, text.as_bytes())?.is_none(), "{text}");
+    for text in NO_TEXTS {
+        assert!(rt; is_refused(alloc, text)?, "{text}");
     }
+    let upper = lines(alloc, "2", 0)?.replace(alloc, "f", "F")?;
+    assert!(rt; read_proof(alloc, upper.as_bytes())?.is_none());
     Ok(())
 }
 
+const NUMBERS: [(&str, Option<u64>); 8] = [
+    ("0", Some(0)),
+    ("7", Some(7)),
+    ("18446744073709551615", Some(u64::MAX)),
+    ("18446744073709551616", None),
+    ("", None),
+    ("00", None),
+    ("-1", None),
+    ("1 ", None),
+];
+
 #[test]
-fn reads_numbers_and_hashes(rt: HostRuntime) {
-    for (text, number) in [
-        ("0", Some(0)),
-        ("7", Some(7)),
-        ("18446744073709551615", Some(u64::MAX)),
-        ("18446744073709551616", None),
-        ("", None),
-        ("00", None),
-        ("-1", None),
-        ("1 ", None),
-    ] {
-        assert_eq!(rt; read_number(text.as_bytes()), number, "{text}");
+fn reads_numbers(rt: HostRuntime) {
+    for (text, number) in NUMBERS {
+        assert!(rt; read_number(text.as_bytes()) == number, "{text}");
     }
-    let upper = "000102030405060708090A0b0C0d0E0f101112131415161718191a1b1c1d1e1f";
-    assert_eq!(rt; read_hash(H.as_bytes()), Some(counted()));
-    assert_eq!(rt; read_hash(upper.as_bytes()), None);
-    assert_eq!(rt; read_root(H), Some(counted()));
-    assert_eq!(rt; read_root(upper), Some(counted()));
-    assert_eq!(rt; read_root("00"), None);
-    assert_eq!(rt; read_root(&H[1..]), None);
+}
+
+// The bytes 0 to 31, with three letters in upper case.
+const UPPER: &str = "000102030405060708090A0b0C0d0E0f101112131415161718191a1b1c1d1e1f";
+
+#[test]
+fn reads_hashes(rt: HostRuntime) {
+    assert!(rt; read_hash(H.as_bytes()) == Some(counted()));
+    assert!(rt; read_hash(UPPER.as_bytes()).is_none());
+    assert!(rt; read_root(H) == Some(counted()));
+    assert!(rt; read_root(UPPER) == Some(counted()));
+    assert!(rt; read_root("00").is_none());
+    assert!(rt; read_root(&H[1..]).is_none());
 }

@@ -1,6 +1,7 @@
 //! Proofs of pieces, as the program writes and judges them. The hashes were computed apart from the standards.
 use crate::tests::ABC;
-use crate::tests_path::{FOLDER_V1, below, new_folder};
+use crate::tests_path::FOLDER_V1;
+use crate::tests_runs::{below, new_folder};
 use crate::tests_told::{
     Judged, NO, Proved, READ_FAULT, Told, YES, blocks, expect_answers, expect_proofs, is_told,
     made, proof_of,

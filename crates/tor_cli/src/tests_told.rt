@@ -1,5 +1,5 @@
 //! What the tests of proofs share: torrents, the program's answers, and what is wanted of them.
-use crate::tests_path::{Outcome, run_texts};
+use crate::tests_runs::{Outcome, is_outcome, run_texts};
 use std::alloc::{AllocError, Global};
 use std::process::Abort;
 use std::thread::Threads;
@@ -25,10 +25,7 @@ pub fn blocks(alloc: Global, count: u8) -> Result<Vec<u8>, AllocError> {
 
 // That this is told, and that the input was not read.
 pub fn is_told(told: &Outcome, wanted: Told) -> bool {
-    told.out.as_slice() == wanted.0.as_bytes()
-        && told.err.as_slice() == wanted.1.as_bytes()
-        && told.status == wanted.2
-        && told.unread == 3
+    is_outcome(told, wanted.2, wanted.0.as_bytes(), wanted.1, 3)
 }
 
 // The torrent `x` of what is at a path, in pieces of this length.
