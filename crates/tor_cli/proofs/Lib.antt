@@ -8,5 +8,6 @@ pub mod Lines
 pub mod Numerals
 pub mod PathTexts
 pub mod Proofs
+pub mod Rechecking
 pub mod Siblings
 pub mod Stops

@@ -88,6 +88,7 @@ module _ (options : MakeOptions) (s : Streams) where
   stops_finding (faults.Make error) why untouched = (why, untouched)
   stops_finding (faults.Refused refusal) why untouched = absurd why
   stops_finding (faults.Piece error) why untouched = absurd why
+  stops_finding (faults.Recheck error) why untouched = absurd why
   stops_finding (faults.Argument fault) why untouched = absurd why
   stops_finding faults.Read why untouched = absurd why
   stops_finding faults.TooLong why untouched = absurd why

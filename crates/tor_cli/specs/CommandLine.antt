@@ -95,6 +95,9 @@ verify_app = with_rules (new_app (codes "verify"))
     (argument_of (codes "root") 1 ∷ argument_of (codes "length") 2 ∷ argument_of (codes "piece-length") 3
     ∷ argument_of (codes "proof") 4 ∷ [])
 
+abbrev pub recheck_app : App
+recheck_app = with_rules (new_app (codes "recheck")) (argument_of (codes "file") 1 ∷ argument_of (codes "path") 2 ∷ [])
+
 abbrev pub with_commands : App → List App → App
 with_commands app [] = app
 with_commands app (command ∷ commands) = with_commands (with_subcommand app command.top) commands
@@ -104,4 +107,5 @@ abbrev pub tor_app : ValueParser → ValueParser → App
 tor_app kinds hows =
     with_commands
     (on_top (λ shape. record shape { has_version = true; subcommand_required = true }) (new_app (codes "tor")))
-    (make_app kinds hows ∷ file_app (codes "check") ∷ file_app (codes "magnet") ∷ prove_app ∷ verify_app ∷ [])
+    (make_app kinds hows ∷ file_app (codes "check") ∷ file_app (codes "magnet") ∷ prove_app ∷ verify_app
+    ∷ recheck_app ∷ [])

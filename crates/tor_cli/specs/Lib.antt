@@ -6,6 +6,7 @@ pub mod Make
 pub mod Path
 pub mod ProofText
 pub mod Proving
+pub mod Recheck
 pub mod Request
 pub mod Shown
 pub mod Status

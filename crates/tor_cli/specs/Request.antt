@@ -14,6 +14,7 @@ use Rattle.tor_cli.specs.Input.{ReadsAll, ReadsSome, EndsInput}
 use Rattle.tor_cli.specs.Make.{IsFront, MakesOf, refusal_of}
 use Rattle.tor_cli.specs.Path.{AreFound, IsFileFault}
 use Rattle.tor_cli.specs.Proving.{DoesProve, DoesVerify, StopsProving, StopsVerifying}
+use Rattle.tor_cli.specs.Recheck.{DoesRecheck, StopsRechecking}
 use Rattle.tor_cli.specs.Status.{status_of}
 use Rattle.tor_cli.specs.Streams.{IsUntouched, Streams}
 use Rattle.tor_cli.specs.Telling.{lines_of}
@@ -26,9 +27,10 @@ use Rattle.tor_cli.specs.declared.command.Request.{Request}
 use Rattle.tor_cli.specs.declared.answer.Answer.{Answer}
 use Rattle.tor_cli.specs.declared.answer.Answer.TheVariants.{Yes, No}
 use Rattle.tor_cli.specs.declared.command.Request.TheVariants.{Show, Make as ToMake, Check, Magnet, Prove, Verify}
+use Rattle.tor_cli.specs.declared.command.Request.TheVariants.{Recheck as ToRecheck}
 use Rattle.tor_cli.specs.declared.telling.Telling.TheVariants.{Block, Link}
 use Rattle.tor_cli.specs.declared.fault.Fault.{Fault}
-use Rattle.tor_cli.specs.declared.fault.Fault.TheVariants.{Usage, Name, Scan, Make, Refused, Piece, Argument}
+use Rattle.tor_cli.specs.declared.fault.Fault.TheVariants.{Usage, Name, Scan, Make, Refused, Piece, Recheck, Argument}
 use Rattle.tor_cli.specs.declared.fault.Fault.TheVariants.{Read, TooLong, Write, Resources}
 
 -- the settings of the torrent that the options ask for, of one file or of a folder
@@ -82,6 +84,7 @@ StopsInput options s (Name fault) = (name_fault options.name.now ≡ Some fault)
 StopsInput options s (Scan fault) = ⊥
 StopsInput options s (Refused refusal) = ⊥
 StopsInput options s (Piece error) = ⊥
+StopsInput options s (Recheck error) = ⊥
 StopsInput options s (Argument fault) = ⊥
 StopsInput options s (Make error) = (name_fault options.name.now ≡ None)
     × ((order : Order) × IsOrder options true order × (refusal_of order ≡ Some error)) × OnlyReads s
@@ -147,11 +150,13 @@ IsDone (Check place) s = DoesTell (lines_of Block) s
 IsDone (Magnet place) s = DoesTell (lines_of Link) s
 IsDone (Prove options) s = DoesProve options s
 IsDone (Verify options) s = DoesVerify options Yes s
+IsDone (ToRecheck options) s = DoesRecheck Yes s
 
 -- it was done with this answer; only a question is ever answered by no
 abbrev pub Does : Request → Answer → Streams → Type 0
 Does request Yes s = IsDone request s
 Does (Verify options) No s = DoesVerify options No s
+Does (ToRecheck options) No s = DoesRecheck No s
 Does request No s = ⊥
 
 -- where this fault stopped it
@@ -164,6 +169,7 @@ Stops (Check place) s fault = StopsTelling (lines_of Block) s fault
 Stops (Magnet place) s fault = StopsTelling (lines_of Link) s fault
 Stops (Prove options) s fault = StopsProving options s fault
 Stops (Verify options) s fault = StopsVerifying options s fault
+Stops (ToRecheck options) s fault = StopsRechecking s fault
 
 -- what the words ask for was done with this answer
 abbrev pub DoesAsked : List (List ℕ) → Streams → Answer → Type 0

@@ -7,6 +7,8 @@ use Rattle.tor_check.specs.declared.refusal.Refusal.{Refusal}
 use Rattle.tor_check.specs.declared.refusal.Refusal.TheVariants as refusals
 use Rattle.tor_meta.specs.declared.make_error.MakeError.{MakeError}
 use Rattle.tor_meta.specs.declared.make_error.MakeError.TheVariants as makes
+use Rattle.tor_recheck.specs.declared.errors.RecheckError.{RecheckError}
+use Rattle.tor_recheck.specs.declared.errors.RecheckError.TheVariants as rechecks
 use Rattle.tor_source.specs.declared.faults.ScanFault.{ScanFault}
 use Rattle.tor_source.specs.declared.faults.ScanFault.TheVariants as scans
 use Rattle.tor_tree.specs.declared.names.NameError.{NameError}
@@ -18,7 +20,7 @@ use Rattle.tor_cli.specs.declared.input.InputFault.TheVariants as inputs
 use Rattle.tor_cli.specs.declared.make.FromFault.{FromFault}
 use Rattle.tor_cli.specs.declared.make.FromFault.TheVariants as steps
 use Rattle.tor_cli.specs.declared.fault.Fault.{Fault}
-use Rattle.tor_cli.specs.declared.fault.Fault.TheVariants.{Usage, Name, Scan, Make, Refused, Piece, Argument}
+use Rattle.tor_cli.specs.declared.fault.Fault.TheVariants.{Usage, Name, Scan, Make, Refused, Piece, Recheck, Argument}
 use Rattle.tor_cli.specs.declared.fault.Fault.TheVariants.{Read, TooLong, Write, Resources}
 
 abbrev pub of_input_fault : InputFault → Fault
@@ -45,6 +47,10 @@ of_refusal refusal = Refused refusal
 abbrev pub of_piece_error : PieceError → Fault
 of_piece_error pieces.Memory = Resources
 of_piece_error error = Piece error
+
+abbrev pub of_recheck_error : RecheckError Error → Fault
+of_recheck_error rechecks.Resources = Resources
+of_recheck_error error = Recheck error
 
 abbrev pub of_step_fault : FromFault → Fault
 of_step_fault (steps.Input fault) = of_input_fault fault
@@ -78,6 +84,13 @@ abbrev pub status_of_piece : PieceError → ℕ
 status_of_piece pieces.Memory = 4
 status_of_piece error = 1
 
+-- a file was not read, or did not stay as long as it was told to be
+abbrev pub status_of_recheck : {F : Type 0} → RecheckError F → ℕ
+status_of_recheck (rechecks.Read file start fault) = 3
+status_of_recheck (rechecks.Changed file) = 3
+status_of_recheck rechecks.Resources = 4
+status_of_recheck rechecks.Workers = 1
+
 abbrev pub status_of : Fault → ℕ
 status_of (Usage line) = 2
 status_of (Name fault) = 1
@@ -85,6 +98,7 @@ status_of (Scan fault) = status_of_scan fault
 status_of (Make error) = status_of_make error
 status_of (Refused refusal) = status_of_refusal refusal
 status_of (Piece error) = status_of_piece error
+status_of (Recheck error) = status_of_recheck error
 status_of (Argument fault) = 1
 status_of Read = 3
 status_of TooLong = 3

@@ -11,12 +11,13 @@ use Rattle.tor_engine.specs.declared.how.How.{How}
 use Rattle.tor_engine.specs.declared.how.How.TheVariants.{One, Halves}
 use Rattle.tor_cli.specs.CommandLine.{AreHows, AreKinds, tor_app}
 use Rattle.tor_cli.specs.declared.command.Request.{Request}
-use Rattle.tor_cli.specs.declared.command.Request.TheVariants.{Show, Make, Check, Magnet, Prove, Verify}
+use Rattle.tor_cli.specs.declared.command.Request.TheVariants.{Show, Make, Check, Magnet, Prove, Verify, Recheck}
 use Rattle.tor_cli.specs.declared.fault.Fault.{Fault}
 use Rattle.tor_cli.specs.declared.fault.Fault.TheVariants.{Usage, Resources}
 use Rattle.tor_cli.specs.declared.options.MakeOptions.{MakeOptions}
 use Rattle.tor_cli.specs.declared.proof_words.ProveOptions.{ProveOptions}
 use Rattle.tor_cli.specs.declared.proof_words.VerifyOptions.{VerifyOptions}
+use Rattle.tor_cli.specs.declared.recheck_words.RecheckOptions.{RecheckOptions}
 
 -- the word for a kind
 abbrev pub word_of : Kind → List ℕ
@@ -72,6 +73,11 @@ pub record IsProofIn (options : VerifyOptions) (rows : List Row) : Type 0 where
   pub piece_length : first_of (codes "piece-length") rows ≡ Some options.piece_length.now
   pub proof : first_of (codes "proof") rows ≡ Some options.proof.now
 
+-- the torrent that is rechecked, and where its files are looked for
+pub record IsRecheckIn (options : RecheckOptions) (rows : List Row) : Type 0 where
+  pub place : first_of (codes "file") rows ≡ Some options.place.now
+  pub path : first_of (codes "path") rows ≡ Some options.path.now
+
 -- this command was found, with rows of which this holds
 abbrev pub HasRows : Option (List ℕ × List Row) → List ℕ → (List Row → Type 0) → Type 0
 HasRows found command Holds = (rows : List Row) × (found ≡ Some (command, rows)) × Holds rows
@@ -85,6 +91,7 @@ IsFoundIn matches (Check place) = HasRows (subcommand_rows_of matches) (codes "c
 IsFoundIn matches (Magnet place) = HasRows (subcommand_rows_of matches) (codes "magnet") (IsFileIn place)
 IsFoundIn matches (Prove options) = HasRows (subcommand_rows_of matches) (codes "prove") (IsPieceIn options)
 IsFoundIn matches (Verify options) = HasRows (subcommand_rows_of matches) (codes "verify") (IsProofIn options)
+IsFoundIn matches (Recheck options) = HasRows (subcommand_rows_of matches) (codes "recheck") (IsRecheckIn options)
 
 -- the words have this command, with rows of which this holds
 abbrev pub HasCommand : List (List ℕ) → List ℕ → (List Row → Type 0) → Type 0
@@ -99,6 +106,7 @@ Asks words (Check place) = HasCommand words (codes "check") (IsFileIn place)
 Asks words (Magnet place) = HasCommand words (codes "magnet") (IsFileIn place)
 Asks words (Prove options) = HasCommand words (codes "prove") (IsPieceIn options)
 Asks words (Verify options) = HasCommand words (codes "verify") (IsProofIn options)
+Asks words (Recheck options) = HasCommand words (codes "recheck") (IsRecheckIn options)
 
 -- a fault of usage, whose line ends in where the help of this command is
 abbrev pub IsUsage : List ℕ → Fault → Type 0

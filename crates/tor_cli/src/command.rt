@@ -13,6 +13,7 @@ use crate::options::{MakeOptions, make_options};
 use crate::proof_words::{
     ProveOptions, VerifyOptions, prove_command, prove_options, verify_command, verify_options,
 };
+use crate::recheck_words::{RecheckOptions, recheck_command, recheck_options};
 use crate::torrent_words::{file_command, file_of};
 use clap::error::ErrorKind;
 use clap::{ArgMatches, Command};
@@ -37,6 +38,8 @@ pub enum Request<'a> {
     Prove(ProveOptions<'a>),
     /// To tell whether a proof of a piece holds.
     Verify(VerifyOptions<'a>),
+    /// To tell which pieces are there and right.
+    Recheck(RecheckOptions<'a>),
 }
 
 /// Reads the words, of which the first is the program's name.
@@ -65,7 +68,8 @@ fn tor_command<'a>(alloc: Global) -> Result<Command<'a>, AllocError>
         .subcommand(file_command(alloc, "check", CHECK)?)?
         .subcommand(file_command(alloc, "magnet", MAGNET)?)?
         .subcommand(prove_command(alloc)?)?
-        .subcommand(verify_command(alloc)?)
+        .subcommand(verify_command(alloc)?)?
+        .subcommand(recheck_command(alloc)?)
 }
 
 fn request_of<'a>(alloc: Global, matches: &ArgMatches<'a>) -> Result<Request<'a>, Fault>
@@ -96,6 +100,9 @@ fn request_in<'a>(matches: &ArgMatches<'a>) -> Option<Request<'a>>
     }
     if let Some(verify) = matches.subcommand_matches("verify") {
         return Some(Request::Verify(verify_options(verify)?));
+    }
+    if let Some(recheck) = matches.subcommand_matches("recheck") {
+        return Some(Request::Recheck(recheck_options(recheck)?));
     }
     None
 }
@@ -134,6 +141,7 @@ fn command_of(words: &[&str]) -> &'static str {
         [_, "magnet", ..] => "tor magnet",
         [_, "prove", ..] => "tor prove",
         [_, "verify", ..] => "tor verify",
+        [_, "recheck", ..] => "tor recheck",
         _ => "tor",
     }
 }

@@ -1,6 +1,7 @@
 //! What can stop the program: its line on standard error, and its status.
 ghost use Rattle.std.specs.Prelude.{◌≡◌, ◌<◌, IfOk};
-ghost use Rattle.tor_cli.specs.Status.{status_of, status_of_make, status_of_piece, status_of_refusal, status_of_scan};
+ghost use Rattle.tor_cli.specs.Status.{status_of, status_of_make, status_of_piece, status_of_recheck};
+ghost use Rattle.tor_cli.specs.Status.{status_of_refusal, status_of_scan};
 ghost use Rattle.tor_cli.specs.Words.{IsUsage};
 
 use crate::claim::ArgumentFault;
@@ -8,6 +9,7 @@ use std::alloc::{AllocError, Global};
 use std::{fmt, io};
 use tor_check::{PieceError, Refusal};
 use tor_meta::MakeError;
+use tor_recheck::RecheckError;
 use tor_source::ScanFault;
 use tor_tree::NameError;
 
@@ -26,6 +28,8 @@ pub enum Fault {
     Refused(Refusal),
     /// The torrent has no such piece, or no tree that it is of.
     Piece(PieceError),
+    /// A file of the torrent was not read, or did not stay as long as it was told to be.
+    Recheck(RecheckError<io::Error>),
     /// An argument of `verify` is none of its kind.
     Argument(ArgumentFault),
     /// Standard input, or FILE, was not read whole.
@@ -73,6 +77,7 @@ impl Fault {
             Fault::Make(error) => status_of_make(error),
             Fault::Refused(refusal) => status_of_refusal(refusal),
             Fault::Piece(error) => status_of_piece(error),
+            Fault::Recheck(error) => status_of_recheck(error),
             Fault::Argument(_) => 1,
             Fault::Read | Fault::TooLong | Fault::Write(_) => 3,
             Fault::Resources => 4,
@@ -125,6 +130,17 @@ fn status_of_piece(error: &PieceError) -> u8
     }
 }
 
+fn status_of_recheck(error: &RecheckError<io::Error>) -> u8
+    ensures value { result ≡ status_of_recheck error.now }
+    ensures positive { 0 < result }
+{
+    match error {
+        RecheckError::Read { .. } | RecheckError::Changed { .. } => 3,
+        RecheckError::Resources => 4,
+        RecheckError::Workers => 1,
+    }
+}
+
 impl fmt::Display for Fault {
     fn fmt<W: fmt::Write>(&self, f: &mut fmt::Formatter<W>) -> fmt::Result {
         match self {
@@ -134,6 +150,7 @@ impl fmt::Display for Fault {
             Fault::Make(error) => write_error(error, f),
             Fault::Refused(refusal) => write!(f, "{refusal}"),
             Fault::Piece(error) => write!(f, "{error}"),
+            Fault::Recheck(error) => write_recheck_error(error, f),
             Fault::Argument(fault) => write!(f, "{fault}"),
             Fault::Read => f.write_str("read fault"),
             Fault::TooLong => f.write_str("input too long"),
@@ -159,5 +176,22 @@ fn write_error<W: fmt::Write>(
         | MakeError::Missing { file }
         | MakeError::StreamTooLong { file } => write!(f, "{error} file {file}"),
         refusal => write!(f, "{refusal}"),
+    }
+}
+
+/// The same for a recheck, of whose faults each tells of a file by its number among the torrent's files.
+fn write_recheck_error<W: fmt::Write>(
+    error: &RecheckError<io::Error>,
+    f: &mut fmt::Formatter<W>,
+) -> fmt::Result {
+    match error {
+        RecheckError::Read {
+            file,
+            start: Some(start),
+            ..
+        } => write!(f, "{error} file {file} at {start}"),
+        RecheckError::Read { file, .. } => write!(f, "{error} file {file} at length"),
+        RecheckError::Changed { file } => write!(f, "{error} file {file}"),
+        other => write!(f, "{other}"),
     }
 }

@@ -1,7 +1,7 @@
 //! Which fault of the program a step's fault is.
 ghost use Rattle.std.specs.Prelude.{◌≡◌};
-ghost use Rattle.tor_cli.specs.Status.{of_input_fault, of_make_error, of_name_error, of_piece_error, of_refusal};
-ghost use Rattle.tor_cli.specs.Status.{of_scan_fault, of_step_fault};
+ghost use Rattle.tor_cli.specs.Status.{of_input_fault, of_make_error, of_name_error, of_piece_error, of_recheck_error};
+ghost use Rattle.tor_cli.specs.Status.{of_refusal, of_scan_fault, of_step_fault};
 ghost use Rattle.tor_cli.specs.declared.fault.Fault.TheVariants.{Argument, Write, Resources};
 
 use crate::claim::ArgumentFault;
@@ -12,6 +12,7 @@ use std::alloc::{AllocError, AllocFailed};
 use std::io;
 use tor_check::{PieceError, Refusal};
 use tor_meta::{MakeError, WriteFault};
+use tor_recheck::RecheckError;
 use tor_source::ScanFault;
 use tor_tree::NameError;
 
@@ -78,6 +79,17 @@ impl From<PieceError> for Fault {
         match error {
             PieceError::Memory => Fault::Resources,
             error => Fault::Piece(error),
+        }
+    }
+}
+
+impl From<RecheckError<io::Error>> for Fault {
+    ghost from_gives = { λ error e. e ≡ of_recheck_error error };
+
+    fn from(error: RecheckError<io::Error>) -> Fault {
+        match error {
+            RecheckError::Resources => Fault::Resources,
+            error => Fault::Recheck(error),
         }
     }
 }

@@ -12,6 +12,8 @@
 //! - `prove_command.rt`: the command `prove`; `verify_command.rt`: the command `verify`; `proof_words.rt`: their words;
 //!   `claim.rt`: what those of `verify` claim; `proof_text.rt`: a proof as a text, both ways; `numbers.rt` and
 //!   `digits.rt`: numbers and hashes in texts. `answer.rt`: yes and no.
+//! - `recheck_command.rt`: the command `recheck`; `recheck_words.rt`: its words; `recheck_source.rt`: where the files
+//!   of the torrent are looked for; `recheck_text.rt`: what is told of their pieces.
 //! - `fault.rt`: what stops the program, its line and its status; `fault_of.rt`: which step's fault it is. `escape.rt`:
 //!   the user's text in such a line.
 #![tactic(auto)]
@@ -38,6 +40,10 @@ mod progress;
 mod proof_text;
 mod proof_words;
 mod prove_command;
+mod recheck_command;
+mod recheck_source;
+mod recheck_text;
+mod recheck_words;
 mod run;
 mod shown;
 mod telling;
@@ -57,6 +63,8 @@ mod tests_path;
 mod tests_proof_text;
 #[cfg(test)]
 mod tests_proofs;
+#[cfg(test)]
+mod tests_recheck;
 #[cfg(test)]
 mod tests_refused;
 #[cfg(test)]

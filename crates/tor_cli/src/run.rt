@@ -13,6 +13,7 @@ use crate::command::{Request, read_words};
 use crate::fault::Fault;
 use crate::make_command::make;
 use crate::prove_command::prove;
+use crate::recheck_command::recheck;
 use crate::telling::{Telling, tell_torrent};
 use crate::verify_command::verify;
 use std::io::{Read, Write};
@@ -104,6 +105,7 @@ fn perform<T: Threads + Sync, R: Read, W: Write>(
         Request::Magnet(place) => done(tell_torrent(system, place, Telling::Link, out)),
         Request::Prove(options) => done(prove(system, options, out)),
         Request::Verify(options) => verify(system, options, out),
+        Request::Recheck(options) => recheck(rt, system, options, out),
     }
 }
 

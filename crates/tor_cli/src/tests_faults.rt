@@ -4,6 +4,7 @@ use std::alloc::{AllocError, Global};
 use std::io;
 use std::test::Fail;
 use tor_meta::MakeError;
+use tor_recheck::RecheckError;
 use tor_source::ScanFault;
 
 // That a fault has this status and this line.
@@ -54,5 +55,32 @@ fn tells_each_fault_of_a_scan_in_its_line(rt: HostRuntime) -> Result<(), Fail> {
             "out of resources"
         )?
     );
+    Ok(())
+}
+
+// A read of a file that is rechecked, which is refused.
+fn read_again(file: u64, start: Option<u64>) -> Fault {
+    let fault = io::Error::from(io::ErrorKind::PermissionDenied);
+    Fault::Recheck(RecheckError::Read { file, start, fault })
+}
+
+#[test]
+fn tells_each_fault_of_a_recheck_in_its_line(rt: HostRuntime) -> Result<(), Fail> {
+    let alloc = rt.alloc();
+    assert!(rt;
+        is_told(
+            alloc,
+            &read_again(0, Some(49157)),
+            3,
+            "C1 Read file 0 at 49157"
+        )?
+    );
+    assert!(rt; is_told(alloc, &read_again(7, None), 3, "C1 Read file 7 at length")?);
+    let changed = Fault::Recheck(RecheckError::Changed { file: 0 });
+    assert!(rt; is_told(alloc, &changed, 3, "C2 Changed file 0")?);
+    let resources = Fault::from(RecheckError::Resources);
+    assert!(rt; is_told(alloc, &resources, 4, "out of resources")?);
+    let workers = Fault::Recheck(RecheckError::Workers);
+    assert!(rt; is_told(alloc, &workers, 1, "C4 Workers")?);
     Ok(())
 }

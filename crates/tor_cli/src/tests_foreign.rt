@@ -11,7 +11,7 @@ use std::{fs, io};
 
 // The files a = `ab` and b = `c` in the folder `f`, piece length 16,384, for both versions. The roots are the SHA-256
 // of `ab` and of `c`, the pieces the SHA-1 of `ab` with 16,382 zero bytes and that of `c`.
-const FOLDER_HYBRID: &[u8; 382] = b"d4:infod9:file treed1:ad0:d6:lengthi2e11:pieces root32:\
+pub const FOLDER_HYBRID: &[u8; 382] = b"d4:infod9:file treed1:ad0:d6:lengthi2e11:pieces root32:\
 \xfb\x8e\x20\xfc\x2e\x4c\x3f\x24\x8c\x60\xc3\x9b\xd6\x52\xf3\xc1\x34\x72\x98\xbb\x97\x7b\x8b\x4d\x59\x03\xb8\x50\
 \x55\x62\x06\x03ee1:bd0:d6:lengthi1e11:pieces root32:\
 \x2e\x7d\x2c\x03\xa9\x50\x7a\xe2\x65\xec\xf5\xb5\x35\x68\x85\xa5\x33\x93\xa2\x02\x9d\x24\x13\x94\x99\x72\x65\xa1\

@@ -52,7 +52,7 @@ pub fn make_folders(system: &HostRuntime, folder: &str, names: &[&str]) -> io::R
     Ok(())
 }
 
-fn write_files(system: &HostRuntime, folder: &str, files: &[(&str, &str)]) -> io::Result<()> {
+pub fn write_files(system: &HostRuntime, folder: &str, files: &[(&str, &str)]) -> io::Result<()> {
     for (name, content) in files {
         fs::write(
             system,

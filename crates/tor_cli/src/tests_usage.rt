@@ -5,7 +5,7 @@ use std::thread::Threads;
 // The words, and what is told of them: a line on standard error, or how the help begins.
 type Row = (&'static [&'static str], &'static str);
 
-const MISUSED: [Row; 13] = [
+const MISUSED: [Row; 14] = [
     (
         &["tor", "make", "--foo"],
         "tor: unexpected argument '--foo'; see 'tor make --help'\n",
@@ -39,13 +39,17 @@ const MISUSED: [Row; 13] = [
         "tor: unexpected argument 'b'; see 'tor magnet --help'\n",
     ),
     (
+        &["tor", "recheck", "a"],
+        "tor: the following required arguments were not provided: <PATH>; see 'tor recheck --help'\n",
+    ),
+    (
         &["tor", "mak"],
         "tor: unrecognized subcommand 'mak'; see 'tor --help'\n",
     ),
     (
         &["tor"],
         "tor: 'tor' requires a subcommand but one was not provided \
-[subcommands: make, check, magnet, prove, verify, help]; \
+[subcommands: make, check, magnet, prove, verify, recheck, help]; \
 see 'tor --help'\n",
     ),
     (
@@ -76,7 +80,7 @@ fn tells_a_fault_of_usage_in_one_line(rt: HostRuntime) {
     }
 }
 
-const SHOWN: [Row; 5] = [
+const SHOWN: [Row; 6] = [
     (&["tor", "--version"], "tor 0.1.0\n"),
     (
         &["tor", "--help"],
@@ -89,6 +93,10 @@ const SHOWN: [Row; 5] = [
     (
         &["tor", "magnet", "--help"],
         "Prints the magnet link of a torrent\n",
+    ),
+    (
+        &["tor", "recheck", "--help"],
+        "Tells which pieces of a torrent are there and right\n",
     ),
     (
         &["tor", "make", "--help"],

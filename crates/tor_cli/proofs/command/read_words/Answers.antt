@@ -8,7 +8,7 @@ use Rattle.clap.specs.declared.parser.matches.ArgMatches.{ArgMatches}
 use Rattle.tor_cli.specs.CommandLine.{AreHows, AreKinds, tor_app}
 use Rattle.tor_cli.specs.Words.{Asks, HasCommand, HasRows, IsFoundIn}
 use Rattle.tor_cli.specs.declared.command.Request.{Request}
-use Rattle.tor_cli.specs.declared.command.Request.TheVariants.{Show, Make, Check, Magnet, Prove, Verify}
+use Rattle.tor_cli.specs.declared.command.Request.TheVariants.{Show, Make, Check, Magnet, Prove, Verify, Recheck}
 use Rattle.tor_cli.proofs.command.read_words.Goals as goal
 
 module _ (matches : ArgMatches) (words : List (List ℕ)) (kinds hows : ValueParser) (are : AreKinds kinds)
@@ -24,6 +24,7 @@ module _ (matches : ArgMatches) (words : List (List ℕ)) (kinds hows : ValuePar
   asked (Magnet place) found = has _ _ found
   asked (Prove options) found = has _ _ found
   asked (Verify options) found = has _ _ found
+  asked (Recheck options) found = has _ _ found
 
 pub returns-in-Ok-clause-asked : goal.returns-in-Ok-clause-asked
 returns-in-Ok-clause-asked c =

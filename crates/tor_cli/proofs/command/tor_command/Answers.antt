@@ -43,13 +43,17 @@ returns c =
     let proving =
     c.in_ok-subcommand-4.ensures.shape (third _ _ _ _ (ap (λ (app : App). app.top.is_plain) is_prove))
     ∙ ap₂ with_subcommand linking (ap (λ (app : App). app.top) is_prove) in
-    let plain = third _ _ _ _ (ap (λ (app : App). app.top.is_plain) is_verify) in
-    IfOk-weaker c.subcommand-5.result _ _
+    let is_recheck = c.in_ok-recheck_command.ensures in
+    let verifying =
+    c.in_ok-subcommand-5.ensures.shape (third _ _ _ _ (ap (λ (app : App). app.top.is_plain) is_verify))
+    ∙ ap₂ with_subcommand proving (ap (λ (app : App). app.top) is_verify) in
+    let plain = third _ _ _ _ (ap (λ (app : App). app.top.is_plain) is_recheck) in
+    IfOk-weaker c.subcommand-6.result _ _
     (λ command added. (
       kinds,
       hows,
       are,
       ways,
-      added.shape plain ∙ ap₂ with_subcommand proving (ap (λ (app : App). app.top) is_verify),
+      added.shape plain ∙ ap₂ with_subcommand verifying (ap (λ (app : App). app.top) is_recheck),
     ))
-    c.subcommand-5.ensures
+    c.subcommand-6.ensures

@@ -47,3 +47,13 @@ returns-in-Verify-clause-done g c =
 pub returns-in-Verify-clause-stopped : goal.returns-in-Verify-clause-stopped
 returns-in-Verify-clause-stopped g c =
     rw c.in-Verify.is (c.verify.ensures.stopped (g.R.Read.remaining c.args.reader.now))
+
+pub returns-in-Recheck-clause-done : goal.returns-in-Recheck-clause-done
+returns-in-Recheck-clause-done g c =
+    rw c.in-Recheck.is
+    (is_answered _ _ c.recheck.result (λ yes. yes) (λ no. no)
+    (c.recheck.ensures.answered (g.R.Read.remaining c.args.reader.now)))
+
+pub returns-in-Recheck-clause-stopped : goal.returns-in-Recheck-clause-stopped
+returns-in-Recheck-clause-stopped g c =
+    rw c.in-Recheck.is (c.recheck.ensures.stopped (g.R.Read.remaining c.args.reader.now))

@@ -1,0 +1,31 @@
+-- Why nothing is told is told of the torrent that was judged, and of as many places as it has files.
+use Rattle.std.proofs.Common.{ℕ, subst}
+use Rattle.tor_recheck.specs.Recheck.{IsGiven}
+use Rattle.tor_cli.specs.Path.{IsFileFault}
+use Rattle.tor_cli.specs.Status.{of_refusal}
+use Rattle.tor_cli.proofs.Judging.{not_told}
+use Rattle.tor_cli.proofs.Rechecking.{not_judged, not_placed, not_rechecked, places_count}
+use Rattle.tor_cli.proofs.recheck_command.report_at.Goals as goal
+
+pub returns-in-Err-clause-stopped : goal.returns-in-Err-clause-stopped
+returns-in-Err-clause-stopped g c =
+    let bytes = c.args.bytes.now in
+    rw c.from.ensures
+    (not_judged bytes (of_refusal c.in-Err.refusal) (not_told bytes c.in-Err.refusal c.in-Err.ensures.refused))
+
+pub returns-in-Err-source_at-clause-stopped : goal.returns-in-Err-source_at-clause-stopped
+returns-in-Err-source_at-clause-stopped g c =
+    rw c.from-in-Err-source_at.ensures
+    (not_placed c.args.bytes.now c.in-Ok.torrent c.in-Ok.ensures.accepted c.in-Err-source_at.fault
+    c.in-Err-source_at.ensures.refused)
+
+pub returns-clause-stopped : goal.returns-clause-stopped
+returns-clause-stopped g c =
+    let view = c.in-Ok.torrent in
+    let source = c.in-Ok-source_at.source in
+    let error = c.in-Err-report_of.error in
+    let count = places_count c.args.path.now view source c.in-Ok-source_at.ensures.placed in
+    rw c.from-in-Err-report_of.ensures
+    (not_rechecked c.args.bytes.now view c.in-Ok.ensures.accepted error
+    (subst (λ (n : ℕ). IsGiven (IsFileFault n) error) count c.in-Err-report_of.ensures.gave)
+    c.in-Err-report_of.ensures.allowed)

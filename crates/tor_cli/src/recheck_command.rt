@@ -1,0 +1,65 @@
+//! `tor recheck`: which pieces of the torrent in a file are there and right.
+ghost use Rattle.std.specs.Prelude.{ℕ, List, Option, IfErr, IfOk, string_bytes};
+ghost use Rattle.tor_cli.specs.Recheck.{DoesRecheck, IsNotRechecked, IsRechecked, StopsRechecking};
+
+use crate::answer::Answer;
+use crate::fault::Fault;
+use crate::foreign::read_file;
+use crate::recheck_source::source_at;
+use crate::recheck_text::{Report, report_of};
+use crate::recheck_words::RecheckOptions;
+use std::io::Write;
+use std::thread::Threads;
+use tor_check::validate;
+use tor_meta::write_out;
+
+/// Writes which pieces are there and right; the answer is yes where all are. Nothing is looked for, nor written, before
+/// the torrent was judged.
+pub fn recheck<T: Threads + Sync, W: Write>(
+    rt: &T,
+    system: &HostRuntime,
+    options: &RecheckOptions<'_>,
+    out: &mut W,
+) -> Result<Answer, Fault>
+    ensures answered { (reader : Option (List ℕ)) → IfOk result (λ answer. DoesRecheck answer (record {
+      reader = reader;
+      reader' = reader;
+      writer = W.contents out.old;
+      writer' = W.contents out.new;
+    })) }
+    ensures stopped { (reader : Option (List ℕ)) → IfErr result (StopsRechecking (record {
+      reader = reader;
+      reader' = reader;
+      writer = W.contents out.old;
+      writer' = W.contents out.new;
+    })) }
+{
+    let bytes = read_file(system.alloc(), system, options.place)?;
+    let report = report_at(rt, system, &bytes, options.path)?;
+    write_out(out, report.text.as_bytes())?;
+    Ok(report.answer)
+}
+
+/// What is told of the torrent that the bytes are, by what the system has at a place.
+fn report_at<T: Threads + Sync>(
+    rt: &T,
+    system: &HostRuntime,
+    bytes: &[u8],
+    path: &str,
+) -> Result<Report, Fault>
+    ensures told { IfOk result (λ report. IsRechecked bytes.now (string_bytes report.text) report.answer) }
+    ensures stopped { IfErr result (IsNotRechecked bytes.now) }
+{
+    let torrent = match validate(system.alloc(), bytes) {
+        Ok(torrent) => torrent,
+        Err(refusal) => return Err(Fault::from(refusal)),
+    };
+    let source = match source_at(system, path, &torrent) {
+        Ok(source) => source,
+        Err(fault) => return Err(Fault::from(fault)),
+    };
+    match report_of(rt, system.alloc(), &source, &torrent) {
+        Ok(report) => Ok(report),
+        Err(error) => Err(Fault::from(error)),
+    }
+}
