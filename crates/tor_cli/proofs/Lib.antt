@@ -2,7 +2,6 @@ pub mod Doing
 pub mod Escapes
 pub mod FoundTexts
 pub mod HashDigits
-pub mod Inputs
 pub mod Judging
 pub mod Lines
 pub mod Numerals

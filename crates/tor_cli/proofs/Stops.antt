@@ -9,17 +9,17 @@ use Rattle.tor_meta.specs.Make.{IsGivenTo, IsOwn, make_refusal}
 use Rattle.tor_source.specs.declared.faults.ScanFault.{ScanFault}
 use Rattle.tor_source.specs.declared.faults.ScanFault.TheVariants as scans
 use Rattle.tor_tree.specs.Name.{name_fault}
-use Rattle.tor_cli.specs.Input.{EndsInput, ReadsSome}
-use Rattle.tor_cli.specs.Make.{MakesPart, StopsReading, refusal_of}
+use Rattle.tor_input.specs.Input.{EndsInput, ReadsSome}
+use Rattle.tor_input.specs.Make.{MakesPart, StopsReading, refusal_of}
 use Rattle.tor_cli.specs.Path.{IsFileFault}
 use Rattle.tor_cli.specs.Request.{IsOrder, IsOrderOf, StopsFinding, StopsInput, StopsPath, file_of}
 use Rattle.tor_cli.specs.Streams.{IsUntouched, Streams}
 use Rattle.tor_cli.specs.Status.{of_input_fault, of_make_error, of_scan_fault, of_step_fault}
-use Rattle.tor_cli.specs.declared.input.TheConstants.{MAX_INPUT_LENGTH}
-use Rattle.tor_cli.specs.declared.input.InputFault.{InputFault}
-use Rattle.tor_cli.specs.declared.input.InputFault.TheVariants as inputs
-use Rattle.tor_cli.specs.declared.make.FromFault.{FromFault}
-use Rattle.tor_cli.specs.declared.make.FromFault.TheVariants.{Input, Make, Write}
+use Rattle.tor_input.specs.declared.input.TheConstants.{MAX_INPUT_LENGTH}
+use Rattle.tor_input.specs.declared.input.InputFault.{InputFault}
+use Rattle.tor_input.specs.declared.input.InputFault.TheVariants as inputs
+use Rattle.tor_input.specs.declared.make.FromFault.{FromFault}
+use Rattle.tor_input.specs.declared.make.FromFault.TheVariants.{Input, Make, Write}
 use Rattle.tor_cli.specs.declared.options.MakeOptions.{MakeOptions}
 use Rattle.tor_cli.specs.declared.fault.Fault.{Fault}
 use Rattle.tor_cli.specs.declared.fault.Fault.TheVariants as faults

@@ -1,8 +1,6 @@
 pub mod CommandLine
 pub mod Escape
 pub mod Foreign
-pub mod Input
-pub mod Make
 pub mod Path
 pub mod ProofText
 pub mod Proving
@@ -12,5 +10,4 @@ pub mod Shown
 pub mod Status
 pub mod Streams
 pub mod Words
-pub mod Taking
 pub mod Telling

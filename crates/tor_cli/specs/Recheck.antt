@@ -15,7 +15,7 @@ use Rattle.tor_source.specs.declared.faults.ScanFault.{ScanFault}
 use Rattle.tor_source.specs.declared.faults.ScanFault.TheVariants as scans
 use Rattle.tor_spec.specs.valid.View.{View}
 use Rattle.tor_cli.specs.Foreign.{IsNotTold, OfSome}
-use Rattle.tor_cli.specs.Make.{IsFront}
+use Rattle.tor_input.specs.Make.{IsFront}
 use Rattle.tor_cli.specs.Path.{IsFileFault}
 use Rattle.tor_cli.specs.Proving.{answer_of}
 use Rattle.tor_cli.specs.Streams.{IsUntouched, Streams}

@@ -10,8 +10,8 @@ use Rattle.tor_source.specs.declared.faults.ScanFault.TheVariants as scans
 use Rattle.tor_spec.specs.Settings.{Settings}
 use Rattle.tor_tree.specs.Name.{name_fault}
 use Rattle.tor_cli.specs.Foreign.{DoesTell, StopsTelling}
-use Rattle.tor_cli.specs.Input.{ReadsAll, ReadsSome, EndsInput}
-use Rattle.tor_cli.specs.Make.{IsFront, MakesOf, refusal_of}
+use Rattle.tor_input.specs.Input.{ReadsAll, ReadsSome, EndsInput}
+use Rattle.tor_input.specs.Make.{IsFront, MakesOf, refusal_of}
 use Rattle.tor_cli.specs.Path.{AreFound, IsFileFault}
 use Rattle.tor_cli.specs.Proving.{DoesProve, DoesVerify, StopsProving, StopsVerifying}
 use Rattle.tor_cli.specs.Recheck.{DoesRecheck, StopsRechecking}
@@ -19,9 +19,9 @@ use Rattle.tor_cli.specs.Status.{status_of}
 use Rattle.tor_cli.specs.Streams.{IsUntouched, Streams}
 use Rattle.tor_cli.specs.Telling.{lines_of}
 use Rattle.tor_cli.specs.Words.{Asks, IsOfWords}
-use Rattle.tor_cli.specs.declared.input.TheConstants.{MAX_INPUT_LENGTH}
-use Rattle.tor_cli.specs.declared.input.InputFault.{InputFault}
-use Rattle.tor_cli.specs.declared.input.InputFault.TheVariants as inputs
+use Rattle.tor_input.specs.declared.input.TheConstants.{MAX_INPUT_LENGTH}
+use Rattle.tor_input.specs.declared.input.InputFault.{InputFault}
+use Rattle.tor_input.specs.declared.input.InputFault.TheVariants as inputs
 use Rattle.tor_cli.specs.declared.options.MakeOptions.{MakeOptions}
 use Rattle.tor_cli.specs.declared.command.Request.{Request}
 use Rattle.tor_cli.specs.declared.answer.Answer.{Answer}

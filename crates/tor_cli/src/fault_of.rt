@@ -6,11 +6,10 @@ ghost use Rattle.tor_cli.specs.declared.fault.Fault.TheVariants.{Argument, Write
 
 use crate::claim::ArgumentFault;
 use crate::fault::Fault;
-use crate::input::InputFault;
-use crate::make::FromFault;
 use std::alloc::{AllocError, AllocFailed};
 use std::io;
 use tor_check::{PieceError, Refusal};
+use tor_input::{FromFault, InputFault};
 use tor_meta::{MakeError, WriteFault};
 use tor_recheck::RecheckError;
 use tor_source::ScanFault;

@@ -3,8 +3,6 @@
 //! - `run.rt`: the whole program, over any reader and writers; `main` hands it the real ones.
 //! - `command.rt`: what the words ask for.
 //! - `make_command.rt`: the command `make`; `make_words.rt`: its words; `options.rt`: what they ask for.
-//! - `make.rt`: the torrent of what a reader has. `input.rt`: an input read whole, within a limit. `intake.rt`: what
-//!   takes its parts.
 //! - `from_path.rt`: the torrent of a file or a folder. `out_file.rt`: the file that a torrent goes to.
 //!   `progress.rt`: the line that shows how far the reading is; `amount.rt`: bytes and seconds in it.
 //! - `telling.rt`: the commands `check` and `magnet`; `torrent_words.rt`: the words of both. `foreign.rt`: the torrent
@@ -28,9 +26,6 @@ mod fault;
 mod fault_of;
 mod foreign;
 mod from_path;
-mod input;
-mod intake;
-mod make;
 mod make_command;
 mod make_words;
 mod numbers;

@@ -7,14 +7,13 @@ ghost use Rattle.tor_cli.specs.Request.{StopsInput, StopsMake, StopsPath};
 
 use crate::fault::Fault;
 use crate::from_path::{files_at, torrent_of};
-use crate::input::drop_input;
-use crate::make::{make_from, torrent_from};
 use crate::options::MakeOptions;
 use crate::out_file::{send, write_file};
 use crate::progress::Progress;
 use std::alloc::{AllocError, Global};
 use std::io::{Read, Write};
 use std::thread::Threads;
+use tor_input::{drop_input, make_from, torrent_from};
 use tor_meta::Order;
 use tor_tree::{Name, NameError};
 

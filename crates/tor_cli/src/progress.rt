@@ -109,8 +109,8 @@ impl<'a, S: Source> Source for Counting<'a, S> {
 
     fn length(&self, file: u64) -> Result<Option<u64>, S::Fault> {
         let answer = self.source.length(file);
-        if let (Some(progress), Ok(Some(length))) = (&self.progress, &answer) {
-            progress.count_length(*length);
+        if let (Some(progress), Ok(length)) = (&self.progress, &answer) {
+            progress.count_length(length.unwrap_or(0));
         }
         answer
     }

@@ -5,8 +5,9 @@ ghost use Rattle.tor_cli.specs.Recheck.{DoesRecheck, IsNotRechecked, IsRechecked
 use crate::answer::Answer;
 use crate::fault::Fault;
 use crate::foreign::read_file;
+use crate::progress::Progress;
 use crate::recheck_source::source_at;
-use crate::recheck_text::{Report, report_of};
+use crate::recheck_text::{Report, counted_report};
 use crate::recheck_words::RecheckOptions;
 use std::io::Write;
 use std::thread::Threads;
@@ -20,6 +21,7 @@ pub fn recheck<T: Threads + Sync, W: Write>(
     system: &HostRuntime,
     options: &RecheckOptions<'_>,
     out: &mut W,
+    shows_progress: bool,
 ) -> Result<Answer, Fault>
     ensures answered { (reader : Option (List ℕ)) → IfOk result (λ answer. DoesRecheck answer (record {
       reader = reader;
@@ -35,7 +37,7 @@ pub fn recheck<T: Threads + Sync, W: Write>(
     })) }
 {
     let bytes = read_file(system.alloc(), system, options.place)?;
-    let report = report_at(rt, system, &bytes, options.path)?;
+    let report = report_at(rt, system, &bytes, options.path, shows_progress)?;
     write_out(out, report.text.as_bytes())?;
     Ok(report.answer)
 }
@@ -46,6 +48,7 @@ fn report_at<T: Threads + Sync>(
     system: &HostRuntime,
     bytes: &[u8],
     path: &str,
+    shows_progress: bool,
 ) -> Result<Report, Fault>
     ensures told { IfOk result (λ report. IsRechecked bytes.now (string_bytes report.text) report.answer) }
     ensures stopped { IfErr result (IsNotRechecked bytes.now) }
@@ -58,7 +61,11 @@ fn report_at<T: Threads + Sync>(
         Ok(source) => source,
         Err(fault) => return Err(Fault::from(fault)),
     };
-    match report_of(rt, system.alloc(), &source, &torrent) {
+    let progress = match shows_progress {
+        true => Progress::start(system, torrent.files().len()),
+        false => None,
+    };
+    match counted_report(rt, system.alloc(), &source, &torrent, progress) {
         Ok(report) => Ok(report),
         Err(error) => Err(Fault::from(error)),
     }

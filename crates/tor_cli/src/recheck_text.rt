@@ -8,6 +8,7 @@ ghost use Rattle.tor_source.specs.Source.{SourceFacts};
 ghost use Rattle.tor_spec.specs.Verified.{verified_pieces};
 
 use crate::answer::Answer;
+use crate::progress::{Counting, Progress};
 use hex::encode;
 use std::alloc::{AllocError, Global};
 use std::thread::Threads;
@@ -23,6 +24,31 @@ pub struct Report {
     pub text: String,
     /// Whether all are.
     pub answer: Answer,
+}
+
+/// What is told of the torrent's pieces in a source. The progress that is shown meanwhile is erased at the end.
+pub fn counted_report<S: Source, T: Threads + Sync>(
+    rt: &T,
+    alloc: Global,
+    source: &S,
+    torrent: &Torrent,
+    progress: Option<Progress>,
+) -> Result<Report, RecheckError<S::Fault>>
+    ensures told { IfOk result (λ report. (bits : List Bool) × IsReport bits (string_bytes report.text) report.answer) }
+    ensures found { (facts : SourceFacts S.Fault) → S.is_steady source.now facts →
+        MatchResult result
+        (λ report. IsReport (verified_pieces torrent.now (contents_in facts (length torrent.now.files)))
+        (string_bytes report.text) report.answer × (first_fault facts torrent.now ≡ None))
+        (IsFault (first_fault facts torrent.now)) }
+    ensures allowed { IfErr result (λ error. error ≢ Workers) }
+    ensures gave { IfErr result (IsGiven (S.gave source.now)) }
+{
+    let counting = Counting { source, progress };
+    let answer = report_of(rt, alloc, &counting, torrent);
+    if let Some(progress) = &counting.progress {
+        progress.erase();
+    }
+    answer
 }
 
 /// What is told of the torrent's pieces in a source.

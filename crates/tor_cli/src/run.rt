@@ -2,7 +2,7 @@
 ghost use Rattle.clap.specs.Walk.{texts};
 ghost use Rattle.std.specs.Prelude.{◌≡◌, ◌≢◌, ◌≤◌, ℕ, IfErr, IfOk, Ok, OnOk, string_bytes};
 ghost use Rattle.std.specs.Io.KnownBytes.{Appends};
-ghost use Rattle.tor_cli.specs.Make.{IsFront};
+ghost use Rattle.tor_input.specs.Make.{IsFront};
 ghost use Rattle.tor_cli.specs.Request.{Does, DoesAsked, EndsAsked, Stops, StopsAsked};
 ghost use Rattle.tor_cli.specs.Status.{done_of, status_after};
 ghost use Rattle.tor_cli.specs.declared.answer.Answer.TheVariants.{Yes};
@@ -105,7 +105,7 @@ fn perform<T: Threads + Sync, R: Read, W: Write>(
         Request::Magnet(place) => done(tell_torrent(system, place, Telling::Link, out)),
         Request::Prove(options) => done(prove(system, options, out)),
         Request::Verify(options) => verify(system, options, out),
-        Request::Recheck(options) => recheck(rt, system, options, out),
+        Request::Recheck(options) => recheck(rt, system, options, out, shows_progress),
     }
 }
 

@@ -1,9 +1,7 @@
 //! The program over readers and writers that fault.
-use crate::input::{InputFault, read_limited};
 use crate::run::run;
 use std::alloc::Global;
 use std::io::{Error, ErrorKind, Read, Result, Write};
-use std::test::Fail;
 use std::thread::Threads;
 
 // The torrent of the content `abc` under the name `a`, piece length 16,384. The hash is the SHA-256 of `abc`.
@@ -100,28 +98,6 @@ fn is_stopped<T: Threads + Sync, R: Read>(
     let mut err = Vec::new(system.alloc());
     let status = run(rt, system, words, reader, &mut out, &mut err, false);
     status == 3 && out.is_empty() && err.as_slice() == line.as_bytes()
-}
-
-#[test]
-fn reads_up_to_the_limit(rt: HostRuntime) -> std::result::Result<(), Fail> {
-    let mut five: &[u8] = b"abcde";
-    let bytes = read_limited(rt.alloc(), &mut five, 5)?;
-    assert!(rt; bytes.as_slice() == b"abcde".as_slice());
-    Ok(())
-}
-
-#[test]
-fn reads_no_more_than_the_limit(rt: HostRuntime) {
-    let mut six: &[u8] = b"abcdef";
-    let fault = read_limited(rt.alloc(), &mut six, 5).err();
-    assert!(rt; fault == Some(InputFault::TooLong));
-}
-
-#[test]
-fn tells_a_fault_of_its_reader(rt: HostRuntime) {
-    let mut faulting = Faulting(b"abc");
-    let fault = read_limited(rt.alloc(), &mut faulting, 5).err();
-    assert!(rt; fault == Some(InputFault::Read));
 }
 
 #[test]

@@ -1,8 +1,8 @@
 -- What came of the parts so far, and of one more.
 use Rattle.std.proofs.Common.{◌≡◌, arith, take, length, ◌++◌, length-append, length-take}
 use Rattle.std.proofs.KnownBytes.{Consumes-trans}
-use Rattle.tor_cli.proofs.Inputs.{fault_after}
-use Rattle.tor_cli.proofs.input.read_parts.Goals as goal
+use Rattle.tor_input.proofs.Inputs.{fault_after}
+use Rattle.tor_input.proofs.input.read_parts.Goals as goal
 
 pub returns-in-Err-clause-err : goal.returns-in-Err-clause-err
 returns-in-Err-clause-err g c =

@@ -1,8 +1,8 @@
 //! From a reader to the torrent of what it has, in a writer.
 ghost use Rattle.std.specs.Prelude.{◌≡◌, List, ℕ, IfErr, IfOk, OnOk};
 ghost use Rattle.tor_meta.specs.declared.make_error.MakeError.TheVariants.{Resources};
-ghost use Rattle.tor_cli.specs.Make.{MakesOf, MakesPart, MakesWhole, StopsReading};
-ghost use Rattle.tor_cli.specs.declared.make.FromFault.TheVariants.{Input, Make, Write};
+ghost use Rattle.tor_input.specs.Make.{MakesOf, MakesPart, MakesWhole, StopsReading};
+ghost use Rattle.tor_input.specs.declared.make.FromFault.TheVariants.{Input, Make, Write};
 
 use crate::input::{InputFault, MAX_INPUT_LENGTH, drop_input, read_parts};
 use std::alloc::{AllocError, Global};

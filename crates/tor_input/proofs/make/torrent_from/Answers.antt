@@ -1,6 +1,6 @@
 -- The sums were fed what was read.
 use Rattle.std.proofs.Common.{rules, []}
-use Rattle.tor_cli.proofs.make.torrent_from.Goals as goal
+use Rattle.tor_input.proofs.make.torrent_from.Goals as goal
 
 pub make_fed-requires-clause-fed : goal.make_fed-requires-clause-fed
 make_fed-requires-clause-fed g c =

@@ -1,8 +1,8 @@
 //! An input read to its end, part by part, within a limit.
 ghost use Rattle.std.specs.Prelude.{◌≡◌, ◌≤◌, ◌<◌, List, ℕ, length, take, vec_len, OnOk, IfOk, IfErr};
 ghost use Rattle.std.specs.Io.KnownBytes.{Consumes, IsAtEnd};
-ghost use Rattle.tor_cli.specs.Input.{ReadsWhole, ReadsAll, ReadsSome, EndsInput};
-ghost use Rattle.tor_cli.specs.declared.input.InputFault.TheVariants.{Memory};
+ghost use Rattle.tor_input.specs.Input.{ReadsWhole, ReadsAll, ReadsSome, EndsInput};
+ghost use Rattle.tor_input.specs.declared.input.InputFault.TheVariants.{Memory};
 
 use crate::intake::{Dropped, Intake};
 use std::alloc::{AllocError, Global};

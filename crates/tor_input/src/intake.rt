@@ -4,7 +4,7 @@ ghost use Rattle.std.specs.declared.alloc.Global.{Global};
 ghost use Rattle.tor_merkle.specs.declared.TheConstants.{MAX_LENGTH};
 ghost use Rattle.tor_meta.specs.Fed.{count_of};
 ghost use Rattle.tor_meta.specs.declared.fed.FedSums.{FedSums};
-ghost use Rattle.tor_cli.specs.Taking.{takes_fed, fed_none, fed_both, kept_none, kept_both};
+ghost use Rattle.tor_input.specs.Taking.{takes_fed, fed_none, fed_both, kept_none, kept_both};
 
 use std::alloc::AllocError;
 use tor_meta::FedSums;

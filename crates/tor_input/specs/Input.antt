@@ -1,9 +1,9 @@
 -- What a reader gave.
 use Rattle.std.specs.Prelude.{ℕ, ◌<◌, ◌≤◌, List, length, Option}
 use Rattle.std.specs.Io.KnownBytes.{Consumes, IsAtEnd}
-use Rattle.tor_cli.specs.declared.input.TheConstants.{MAX_INPUT_LENGTH}
-use Rattle.tor_cli.specs.declared.input.InputFault.{InputFault}
-use Rattle.tor_cli.specs.declared.input.InputFault.TheVariants.{TooLong, Read, Memory}
+use Rattle.tor_input.specs.declared.input.TheConstants.{MAX_INPUT_LENGTH}
+use Rattle.tor_input.specs.declared.input.InputFault.{InputFault}
+use Rattle.tor_input.specs.declared.input.InputFault.TheVariants.{TooLong, Read, Memory}
 
 -- the reader gave these bytes, and has no more
 pub record ReadsWhole (old new : Option (List ℕ)) (bytes : List ℕ) : Type 0 where

@@ -8,10 +8,10 @@ use Rattle.tor_meta.specs.declared.make_error.MakeError.{MakeError}
 use Rattle.tor_meta.specs.declared.make_error.MakeError.TheVariants.{Resources}
 use Rattle.tor_meta.specs.declared.order.Order.{Order}
 use Rattle.tor_spec.specs.Metainfo.{metainfo, only}
-use Rattle.tor_cli.specs.Input.{ReadsAll, ReadsSome, EndsInput}
-use Rattle.tor_cli.specs.declared.input.TheConstants.{MAX_INPUT_LENGTH}
-use Rattle.tor_cli.specs.declared.make.FromFault.{FromFault}
-use Rattle.tor_cli.specs.declared.make.FromFault.TheVariants.{Input, Make, Write}
+use Rattle.tor_input.specs.Input.{ReadsAll, ReadsSome, EndsInput}
+use Rattle.tor_input.specs.declared.input.TheConstants.{MAX_INPUT_LENGTH}
+use Rattle.tor_input.specs.declared.make.FromFault.{FromFault}
+use Rattle.tor_input.specs.declared.make.FromFault.TheVariants.{Input, Make, Write}
 
 -- the torrent of one content under the torrent's name
 abbrev pub torrent_of : Order → List ℕ → List ℕ

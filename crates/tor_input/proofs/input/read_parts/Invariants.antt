@@ -1,7 +1,7 @@
 -- What was taken so far is what was read, and within the limit.
 use Rattle.std.proofs.Common.{◌≡◌, ◌+◌, ℕ, List, length}
 use Rattle.std.specs.Io.KnownBytes.{Consumes}
-use Rattle.tor_cli.proofs.input.read_parts.Given as goal
+use Rattle.tor_input.proofs.input.read_parts.Given as goal
 
 abbrev pub invariant-parts : goal.invariant-parts
 invariant-parts g l = record {

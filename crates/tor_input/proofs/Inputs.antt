@@ -2,9 +2,9 @@
 use Rattle.std.proofs.Common.{◌≡◌, ℕ, ◌+◌, List, ◌++◌, length, Option, arith, length-append}
 use Rattle.std.specs.Io.KnownBytes.{Consumes}
 use Rattle.std.proofs.KnownBytes.{Consumes-trans}
-use Rattle.tor_cli.specs.Input.{ReadsSome, EndsInput}
-use Rattle.tor_cli.specs.declared.input.InputFault.{InputFault}
-use Rattle.tor_cli.specs.declared.input.InputFault.TheVariants.{TooLong, Read, Memory}
+use Rattle.tor_input.specs.Input.{ReadsSome, EndsInput}
+use Rattle.tor_input.specs.declared.input.InputFault.{InputFault}
+use Rattle.tor_input.specs.declared.input.InputFault.TheVariants.{TooLong, Read, Memory}
 
 ends_after : (limit left : ℕ) (fault : InputFault) (before bytes : List ℕ) → length before + left ≡ limit
     → EndsInput left fault bytes → EndsInput limit fault (before ++ bytes)
