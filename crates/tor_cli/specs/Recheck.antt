@@ -1,6 +1,6 @@
 -- What the program tells of the pieces of a torrent: which are there and right. No contract says which bytes a file
 -- of the system has, so a clause speaks of some bytes, those that the program took for FILE's, and of some bits, those
--- that were answered of the torrent's files.
+-- that were answered of the torrent's pieces, one for each.
 use Rattle.std.specs.Prelude.{◌≡◌, ◌≢◌, ◌⊎◌, ◌==◌, ℕ, Bool, List, [], ◌∷◌, ◌++◌, length, map, decimal, codes}
 use Rattle.std.specs.Io.KnownBytes.{Appends}
 use Rattle.std.specs.declared.io.Error.{Error}
@@ -50,11 +50,12 @@ IsNoPlace view scans.System = length view.files ≢ 1
 IsNoPlace view scans.Memory = Unit {0}
 IsNoPlace view other = ⊥
 
--- the bytes are a torrent, and this is told of some bits
+-- the bytes are a torrent, and this is told of some bits, one for each of its pieces
 pub record IsRechecked (bytes text : List ℕ) (answer : Answer) : Type 0 where
   pub view : View
   pub torrent : IsTold bytes view
   pub bits : List Bool
+  pub each : length bits ≡ view.piece_count
   pub report : IsReport bits text answer
 
 -- a fault of a file that the torrent has, or want of workers or of memory

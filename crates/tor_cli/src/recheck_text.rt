@@ -34,7 +34,8 @@ pub fn counted_report<S: Source, T: Threads + Sync>(
     torrent: &Torrent,
     progress: Option<Progress>,
 ) -> Result<Report, RecheckError<S::Fault>>
-    ensures told { IfOk result (λ report. (bits : List Bool) × IsReport bits (string_bytes report.text) report.answer) }
+    ensures told { IfOk result (λ report. (bits : List Bool) × (length bits ≡ torrent.now.piece_count)
+        × IsReport bits (string_bytes report.text) report.answer) }
     ensures found { (facts : SourceFacts S.Fault) → S.is_steady source.now facts →
         MatchResult result
         (λ report. IsReport (verified_pieces torrent.now (contents_in facts (length torrent.now.files)))
@@ -58,7 +59,8 @@ pub fn report_of<S: Source, T: Threads + Sync>(
     source: &S,
     torrent: &Torrent,
 ) -> Result<Report, RecheckError<S::Fault>>
-    ensures told { IfOk result (λ report. (bits : List Bool) × IsReport bits (string_bytes report.text) report.answer) }
+    ensures told { IfOk result (λ report. (bits : List Bool) × (length bits ≡ torrent.now.piece_count)
+        × IsReport bits (string_bytes report.text) report.answer) }
     ensures found { (facts : SourceFacts S.Fault) → S.is_steady source.now facts →
         MatchResult result
         (λ report. IsReport (verified_pieces torrent.now (contents_in facts (length torrent.now.files)))

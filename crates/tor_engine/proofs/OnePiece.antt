@@ -32,8 +32,8 @@ use Rattle.tor_engine.specs.PieceHashes.{hash_if_there, hash_of_parts, merkle_ha
 use Rattle.tor_engine.specs.declared.errors.EngineError.{EngineError}
 use Rattle.tor_engine.specs.declared.piece_hash.PieceHash.{PieceHash}
 use Rattle.tor_engine.specs.steps.Hashes.{bytes_of_part, hashes_of_bytes}
-use Rattle.tor_engine.specs.steps.Pieces.{IsPaddingSum, IsPiece, all_paired, part_roots, run_hashes, sums_in}
-use Rattle.tor_engine.specs.steps.Pieces.{unit_roots, unit_sums}
+use Rattle.tor_engine.specs.steps.Pieces.{IsPaddingSum, IsPiece, first_hashes, part_roots, sums_in}
+use Rattle.tor_engine.specs.steps.Pieces.{unit_hash, unit_roots, unit_sums}
 use Rattle.tor_engine.specs.steps.Reads.{HasParts}
 use Rattle.tor_engine.proofs.ByFile.{RootOfShortContent}
 use Rattle.tor_engine.proofs.FirstOf.{first_of_none}
@@ -70,13 +70,13 @@ module _ (law : RootOfShortContent) (p : ℕ) (allowed : IsPieceLength p) where
 paired_sides : (v1 v2 : Bool) (sum root : List ℕ) (sums roots : List (List ℕ)) → (v1 ≡ true) ⊎ (v2 ≡ true)
     → (v1 ≡ true → sums ≡ sum ∷ []) → (v2 ≡ true → roots ≡ root ∷ [])
     → (v1 ≡ false → sums ≡ []) → (v2 ≡ false → roots ≡ [])
-    → all_paired sums roots ≡ Some (record {
+    → first_hashes sums roots ≡ record {
       v1 = cond v1 (Some sum) None;
       v2 = cond v2 (Some root) None;
-    }) ∷ []
-paired_sides true true sum root sums roots one first second none none' = ap₂ all_paired (first refl) (second refl)
-paired_sides true false sum root sums roots one first second none none' = ap₂ all_paired (first refl) (none' refl)
-paired_sides false true sum root sums roots one first second none none' = ap₂ all_paired (none refl) (second refl)
+    }
+paired_sides true true sum root sums roots one first second none none' = ap₂ first_hashes (first refl) (second refl)
+paired_sides true false sum root sums roots one first second none none' = ap₂ first_hashes (first refl) (none' refl)
+paired_sides false true sum root sums roots one first second none none' = ap₂ first_hashes (none refl) (second refl)
 paired_sides false false sum root sums roots (inl one) first second none none' = absurd (true≢false (sym one))
 paired_sides false false sum root sums roots (inr one) first second none none' = absurd (true≢false (sym one))
 
@@ -132,9 +132,9 @@ module _ (roots_law : RootOfShortContent) (sums_law : LengthOfSums) (plan : Plan
       ∙ root_of_part one.0 one.1 v2
       ∙ ap (λ parts. hash_of_parts plan contents parts ∷ []) (sym own)
 
-  pub piece_alone : run_hashes plan contents piece ≡ hash_if_there plan contents piece ∷ []
+  pub piece_alone : Some (unit_hash plan contents piece) ≡ hash_if_there plan contents piece
   piece_alone =
-      paired_sides (has_v1 plan.kind) (has_v2 plan.kind) (piece_sums p content)
+      ap Some (paired_sides (has_v1 plan.kind) (has_v2 plan.kind) (piece_sums p content)
       (hash_of_parts plan contents piece.parts)
       (sums_in (unit_sums plan contents piece)) (unit_roots plan contents piece) (one_side plan.kind)
       (λ v1. ap sums_in (if_true (has_v1 plan.kind) (piece_sums p content) [] (piece_sums p content) refl v1)
@@ -142,8 +142,8 @@ module _ (roots_law : RootOfShortContent) (sums_law : LengthOfSums) (plan : Plan
       (λ v2. if_true (has_v2 plan.kind) (flat_map (part_roots plan contents) piece.parts) []
       (hash_of_parts plan contents piece.parts ∷ []) (root_alone v2) v2)
       (λ none. ap sums_in (if_false (has_v1 plan.kind) (piece_sums p content) [] none))
-      (λ none. if_false (has_v2 plan.kind) (flat_map (part_roots plan contents) piece.parts) [] none)
-      ∙ ap (λ b. cond b (Some (piece_hash plan contents piece)) None ∷ []) (sym there)
+      (λ none. if_false (has_v2 plan.kind) (flat_map (part_roots plan contents) piece.parts) [] none))
+      ∙ ap (λ b. cond b (Some (piece_hash plan contents piece)) None) (sym there)
 
 -- ---- a piece of padding alone
 
@@ -183,22 +183,10 @@ padding_fault facts contents piece bare = by_there (is_there contents piece)
 
 -- ---- a piece that is read
 
--- an answer for the piece as a unit is one for the piece
-pub answer_as : {F : Type 0} (facts : SourceFacts F) (contents : List (List ℕ)) (piece : PlanUnit)
-    → is_there contents piece ≡ true → (result : Result (Unit {0}) (EngineError F))
-    → (old new hashes : List (Option PieceHash)) (hash : Option PieceHash) → hashes ≡ hash ∷ []
-    → MatchResult result (λ _. (new ≡ old ++ hashes) × (unit_fault facts piece ≡ None))
-    (IsFault (unit_fault facts piece))
-    → MatchResult result (λ _. (new ≡ old ++ hash ∷ []) × (piece_fault facts contents piece ≡ None))
-    (IsFault (piece_fault facts contents piece))
-answer_as {F} facts contents piece there result old new hashes hash same answer =
-    let fault : unit_fault facts piece ≡ piece_fault facts contents piece =
-    ap (λ b. cond b (unit_fault facts piece) None) (sym there) in
-    subst (λ (first : Option (EngineError F)).
-    MatchResult result (λ _. (new ≡ old ++ hash ∷ []) × (first ≡ None)) (IsFault first)) fault
-    (subst (λ (hs : List (Option PieceHash)).
-    MatchResult result (λ _. (new ≡ old ++ hs) × (unit_fault facts piece ≡ None)) (IsFault (unit_fault facts piece)))
-    same answer)
+-- its fault is that of the unit that it is
+pub fault_there : {F : Type 0} (facts : SourceFacts F) (contents : List (List ℕ)) (piece : PlanUnit)
+    → is_there contents piece ≡ true → unit_fault facts piece ≡ piece_fault facts contents piece
+fault_there facts contents piece there = ap (λ b. cond b (unit_fault facts piece) None) (sym there)
 
 -- the sum of a whole piece of zeros
 pub padding_is : (sums_law : LengthOfSums) (plan : PlanFacts) (sum : List ℕ) (found : Option (List ℕ))

@@ -1,5 +1,5 @@
 //! The pieces of units hashed one after the other by one worker.
-ghost use Rattle.std.specs.Prelude.{◌≡◌, ◌↔◌, [], ◌∷◌, ◌++◌, ◌<◌, IsTrue, None, All, IfErr, MatchResult, OnOk, length};
+ghost use Rattle.std.specs.Prelude.{◌≡◌, ◌↔◌, [], ◌+◌, ◌++◌, ◌<◌, IsTrue, None, All, IfErr, MatchResult, OnOk, length};
 ghost use Rattle.tor_plan.specs.Pieces.{pieces_of_unit};
 ghost use Rattle.tor_plan.specs.PlanFacts.{IsPlan};
 ghost use Rattle.tor_source.specs.Source.{SourceFacts};
@@ -7,7 +7,7 @@ ghost use Rattle.tor_engine.specs.Contents.{contents_in};
 ghost use Rattle.tor_engine.specs.Fault.{IsFault, IsGivenOfPieces, unit_fault};
 ghost use Rattle.tor_engine.specs.PieceFault.{piece_fault};
 ghost use Rattle.tor_engine.specs.PieceHashes.{hash_if_there};
-ghost use Rattle.tor_engine.specs.steps.Pieces.{all_paired, run_hashes, sums_in, unit_hashes, unit_pieces_fault};
+ghost use Rattle.tor_engine.specs.steps.Pieces.{first_hashes, sums_in, unit_hash, unit_hashes, unit_pieces_fault};
 ghost use Rattle.tor_engine.specs.steps.Pieces.{AnswersPieces, AreTold, AreUnitsToHash, IsPaddingSum, IsPiece};
 ghost use Rattle.tor_engine.specs.steps.Reads.{HasParts};
 ghost use Rattle.tor_engine.specs.steps.Run.{IsUnitOf};
@@ -81,28 +81,30 @@ fn add_unit<S: Source>(
         ≡ hashes.old.items ++ unit_hashes plan.now (contents_in facts (length plan.now.lengths)) unit.now)
         × (unit_pieces_fault facts plan.now (contents_in facts (length plan.now.lengths)) unit.now ≡ None))
         (IsFault (unit_pieces_fault facts plan.now (contents_in facts (length plan.now.lengths)) unit.now)) }
+    ensures counted { OnOk result (length hashes.new.items
+        ≡ length hashes.old.items + length (pieces_of_unit plan.now.piece_length unit.now)) }
     ensures gave { IfErr result (IsGivenOfPieces (S.gave source.now)) }
 {
     let pieces = unit.pieces(alloc, plan.piece_length())?;
     'pieces: for piece in pieces.as_slice() {
-        match add_piece(alloc, source, plan, known, piece, buffer, hashes) {
-            Ok(()) => {}
+        let hash = match hash_if_there(alloc, source, plan, known, piece, buffer) {
+            Ok(hash) => hash,
             Err(error) => return Err(error),
-        }
+        };
+        hashes.push(hash)?;
     }
     Ok(())
 }
 
-/// Adds the hash of a piece, none where a byte of it is not there. Such a piece is not read.
-fn add_piece<S: Source>(
+/// The hashes of a piece, none where a byte of it is not there. Such a piece is not read.
+fn hash_if_there<S: Source>(
     alloc: Global,
     source: &S,
     plan: &Plan,
     known: &Known,
     piece: &PlanUnit,
     buffer: &mut [u8],
-    hashes: &mut Vec<Option<PieceHash>>,
-) -> Result<(), EngineError<S::Fault>>
+) -> Result<Option<PieceHash>, EngineError<S::Fault>>
     requires planned { IsPlan plan.now }
     requires padding { IsPaddingSum plan.now known.now.padding_sum }
     requires piece { IsPiece plan.now piece.now }
@@ -111,8 +113,7 @@ fn add_piece<S: Source>(
     ensures hashed { (facts : SourceFacts S.Fault) → S.is_steady source.now facts →
         AreTold known.now.lengths.items (contents_in facts (length plan.now.lengths)) →
         MatchResult result
-        (λ _. (hashes.new.items
-        ≡ hashes.old.items ++ hash_if_there plan.now (contents_in facts (length plan.now.lengths)) piece.now ∷ [])
+        (λ hash. (hash ≡ hash_if_there plan.now (contents_in facts (length plan.now.lengths)) piece.now)
         × (piece_fault facts (contents_in facts (length plan.now.lengths)) piece.now ≡ None))
         (IsFault (piece_fault facts (contents_in facts (length plan.now.lengths)) piece.now)) }
     ensures gave { IfErr result (IsGivenOfPieces (S.gave source.now)) }
@@ -120,18 +121,17 @@ fn add_piece<S: Source>(
     length_of_sums();
     root_of_short_content();
     if !is_there(&known.lengths, piece) {
-        hashes.push(None)?;
-        return Ok(());
+        return Ok(None);
     }
     match known.padding_sum {
-        Some(sum) if is_padding(piece, plan.piece_length()) => {
-            hashes.push(Some(PieceHash {
-                v1: Some(sum),
-                v2: None,
-            }))?;
-            Ok(())
-        }
-        _ => add_whole(alloc, source, plan, piece, buffer, hashes),
+        Some(sum) if is_padding(piece, plan.piece_length()) => Ok(Some(PieceHash {
+            v1: Some(sum),
+            v2: None,
+        })),
+        _ => match hash_piece(alloc, source, plan, piece, buffer) {
+            Ok(hash) => Ok(Some(hash)),
+            Err(error) => Err(error),
+        },
     }
 }
 
@@ -142,47 +142,40 @@ fn is_padding(piece: &PlanUnit, piece_length: u64) -> bool
     piece.zeros == piece_length && piece.parts.as_slice().is_empty()
 }
 
-/// Reads a unit that is there, or a piece, and puts the hashes of its pieces after `hashes`.
-pub(crate) fn add_whole<S: Source>(
+/// Reads a piece that is there, and gives its hashes.
+fn hash_piece<S: Source>(
     alloc: Global,
     source: &S,
     plan: &Plan,
-    unit: &PlanUnit,
+    piece: &PlanUnit,
     buffer: &mut [u8],
-    hashes: &mut Vec<Option<PieceHash>>,
-) -> Result<(), EngineError<S::Fault>>
+) -> Result<PieceHash, EngineError<S::Fault>>
     requires planned { IsPlan plan.now }
-    requires unit { IsUnitOf plan.now unit.now }
+    requires piece { IsUnitOf plan.now piece.now }
     requires buffer { 0 < length buffer.old }
     ensures buffer { length buffer.new ≡ length buffer.old }
-    ensures hashed { (facts : SourceFacts S.Fault) → S.is_steady source.now facts → HasParts facts unit.now.parts →
+    ensures hashed { (facts : SourceFacts S.Fault) → S.is_steady source.now facts → HasParts facts piece.now.parts →
         MatchResult result
-        (λ _. (hashes.new.items
-        ≡ hashes.old.items ++ run_hashes plan.now (contents_in facts (length plan.now.lengths)) unit.now)
-        × (unit_fault facts unit.now ≡ None))
-        (IsFault (unit_fault facts unit.now)) }
+        (λ hash. (hash ≡ unit_hash plan.now (contents_in facts (length plan.now.lengths)) piece.now)
+        × (unit_fault facts piece.now ≡ None))
+        (IsFault (unit_fault facts piece.now)) }
     ensures gave { IfErr result (IsGivenOfPieces (S.gave source.now)) }
 {
     let mut run = RunSums::none(alloc);
-    match hash_unit(alloc, source, plan, unit, buffer, &mut run) {
+    match hash_unit(alloc, source, plan, piece, buffer, &mut run) {
         Ok(()) => {}
         Err(error) => return Err(error),
     }
-    add_hashes(&run, hashes)?;
-    Ok(())
+    Ok(first_hashes(&run))
 }
 
-/// Puts the hashes of the pieces of a unit after `hashes`.
-fn add_hashes(run: &RunSums, hashes: &mut Vec<Option<PieceHash>>) -> Result<(), AllocError>
-    ensures { OnOk result
-        (hashes.new.items ≡ hashes.old.items ++ all_paired (sums_in run.now.pieces.items) run.now.hashes.items) }
+/// The first hashes of a run, on each side that has one.
+fn first_hashes(run: &RunSums) -> PieceHash
+    ensures { result ≡ first_hashes (sums_in run.now.pieces.items) run.now.hashes.items }
 {
     let (sums, _) = run.pieces.as_chunks::<20>();
-    'pieces: for index in 0..sums.len().max(run.hashes.len()) {
-        hashes.push(Some(PieceHash {
-            v1: item_at(sums, index),
-            v2: item_at(&run.hashes, index),
-        }))?;
+    PieceHash {
+        v1: item_at(sums, 0),
+        v2: item_at(&run.hashes, 0),
     }
-    Ok(())
 }

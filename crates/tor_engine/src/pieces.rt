@@ -6,7 +6,7 @@ ghost use Rattle.tor_engine.specs.Contents.{contents_in};
 ghost use Rattle.tor_engine.specs.Fault.{IsFault, IsGivenOfPieces};
 ghost use Rattle.tor_engine.specs.How.{IsHow};
 ghost use Rattle.tor_engine.specs.PieceFault.{first_piece_fault};
-ghost use Rattle.tor_engine.specs.PieceHashes.{piece_hashes};
+ghost use Rattle.tor_engine.specs.PieceHashes.{piece_hashes, pieces_of_plan};
 ghost use Rattle.tor_engine.specs.steps.Pieces.{AnswersPieces, IsPaddingSum};
 
 use crate::asked::{ask_each, expect_each};
@@ -42,6 +42,7 @@ pub fn hash_pieces<S: Source, R: Threads + Sync>(
         (λ hashes. (hashes.items ≡ piece_hashes plan.now (contents_in facts (length plan.now.lengths)))
         × (first_piece_fault facts plan.now ≡ None))
         (IsFault (first_piece_fault facts plan.now)) }
+    ensures counted { IfOk result (λ hashes. length hashes.items ≡ length (pieces_of_plan plan.now)) }
     ensures gave { IfErr result (IsGivenOfPieces (S.gave source.now)) }
 {
     let lengths = match ask_each(alloc, source, plan.lengths().len()) {

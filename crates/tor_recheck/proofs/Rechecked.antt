@@ -6,6 +6,7 @@ use Rattle.std.specs.Str.{bytes_eq}
 use Rattle.std.proofs.Math.ListN.{get_or-map}
 use Rattle.std.proofs.lemmas.Bool.{cases_lt, le-leb, le-ltb, lt-leb, lt-ltb}
 use Rattle.std.proofs.lemmas.List.{drop-drop, length-map}
+use Rattle.std.proofs.lemmas.List.FromFn.{length-map-range_with_len}
 use Rattle.tor_engine.specs.PieceHashes as engine
 use Rattle.tor_engine.specs.PieceHashes.{hash_if_there, piece_hash, piece_hashes, pieces_of_plan}
 use Rattle.tor_engine.specs.declared.piece_hash.PieceHash.{PieceHash}
@@ -24,7 +25,7 @@ use Rattle.tor_recheck.specs.steps.Judge.{all_judged, is_found, is_told, judged}
 use Rattle.tor_recheck.proofs.EntryForms.{first_of}
 use Rattle.tor_recheck.proofs.MerklePieces.{length_of}
 use Rattle.tor_recheck.proofs.PieceSides.{same_lengths, some_piece}
-use Rattle.tor_recheck.proofs.ProvedLaws.{pieces_are_verified_by_units}
+use Rattle.tor_recheck.proofs.ProvedLaws.{pieces_are_counted, pieces_are_verified_by_units}
 use Rattle.tor_spec.specs.Verified.{merkle_hash, verified_pieces}
 use Rattle.tor_spec.specs.valid.View.{FileView, View}
 use Rattle.tor_tree.specs.Kinds.{has_v1, has_v2}
@@ -110,3 +111,11 @@ module _ (view : View) (contents : List (List ℕ)) (cut : IsCut view) where
       ap (λ n. map (judged view hashes) (range_with_len 0 n)) count
       ∙ judged_from hashes 0 (pieces_of view) each
       ∙ sym (pieces_are_verified_by_units view contents cut)
+
+-- one bit for each piece
+pub count_of_judged : (view : View) → IsCut view → (hashes : List (Option PieceHash))
+    → length hashes ≡ length (pieces_of_plan (plan_of_entries view.kind view.piece_length 16 (entries_to_cut view)))
+    → length (all_judged view hashes) ≡ view.piece_count
+count_of_judged view cut hashes each =
+    length-map-range_with_len (judged view hashes) 0 (length hashes)
+    ∙ each ∙ ap length (pieces_are view [] cut) ∙ pieces_are_counted view cut

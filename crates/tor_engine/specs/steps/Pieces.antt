@@ -1,7 +1,7 @@
 -- What the pieces of units hash to. Only private clauses cite these.
 use Rattle.std.specs.Prelude.{◌≡◌, ℕ, ◌/◌, ◌<◌, ◌≤◌, max, true, false, All, List, [], ◌∷◌, length, map, slice_get}
 use Rattle.std.specs.Prelude.{slice_index_or, Option, None}
-use Rattle.std.specs.Prelude.{Some, unwrap_or, Result, MatchResult, IfErr, Vec, if◌then◌else◌}
+use Rattle.std.specs.Prelude.{Some, unwrap_or, Result, MatchResult, IfErr, IfOk, Vec, if◌then◌else◌}
 use Rattle.std.specs.declared.alloc.Global.{Global}
 use Rattle.std.specs.List.{flat_map, range_with_len}
 use Rattle.std.specs.Simd.{first_chunks}
@@ -43,16 +43,13 @@ unit_roots plan contents unit = if has_v2 plan.kind then flat_map (part_roots pl
 abbrev pub sums_in : List ℕ → List (List ℕ)
 sums_in text = first_chunks 20 (length text / 20) text
 
--- the hashes at a place of both lists
-abbrev pub paired : List (List ℕ) → List (List ℕ) → ℕ → Option PieceHash
-paired sums roots i = Some (record { v1 = slice_get sums i; v2 = slice_get roots i })
+-- the first hashes of both lists
+abbrev pub first_hashes : List (List ℕ) → List (List ℕ) → PieceHash
+first_hashes sums roots = record { v1 = slice_get sums 0; v2 = slice_get roots 0 }
 
--- at each place that one of them has
-abbrev pub all_paired : List (List ℕ) → List (List ℕ) → List (Option PieceHash)
-all_paired sums roots = map (paired sums roots) (range_with_len 0 (max (length sums) (length roots)))
-
-abbrev pub run_hashes : PlanFacts → List (List ℕ) → PlanUnit → List (Option PieceHash)
-run_hashes plan contents unit = all_paired (sums_in (unit_sums plan contents unit)) (unit_roots plan contents unit)
+-- those of a unit: all there are, where it is one piece
+abbrev pub unit_hash : PlanFacts → List (List ℕ) → PlanUnit → PieceHash
+unit_hash plan contents unit = first_hashes (sums_in (unit_sums plan contents unit)) (unit_roots plan contents unit)
 
 -- ---- of any unit
 
@@ -99,7 +96,7 @@ pub record AreUnitsToHash (plan : PlanFacts) (units : List PlanUnit) : Type 0 wh
   pub pieces : ArePieces plan units
 
 -- what a worker answers for units of files with these lengths: of a steady source the hashes of their pieces, or the
--- first fault; a fault of the source is one that it gave
+-- first fault; of any source one answer for each piece; a fault of the source is one that it gave
 pub record AnswersPieces {S F : Type 0} (is_steady : S → SourceFacts F → Type 0)
     (gave : S → ℕ → Option ℕ → F → Type 0) (source : S) (plan : PlanFacts) (told : List (Option ℕ))
     (units : List PlanUnit) (result : Result (Vec (Option PieceHash) Global) (EngineError F)) : Type 0 where
@@ -110,4 +107,6 @@ pub record AnswersPieces {S F : Type 0} (is_steady : S → SourceFacts F → Typ
       (hashes.items ≡ flat_map (unit_hashes plan (contents_in facts (length plan.lengths))) units)
       × (first_unit_fault facts plan (contents_in facts (length plan.lengths)) units ≡ None))
       (IsFault (first_unit_fault facts plan (contents_in facts (length plan.lengths)) units))
+  pub counted : IfOk result
+      (λ hashes. length hashes.items ≡ length (flat_map (pieces_of_unit plan.piece_length) units))
   pub given : IfErr result (IsGivenOfPieces (gave source))

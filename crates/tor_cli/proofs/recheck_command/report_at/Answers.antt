@@ -23,9 +23,9 @@ pub returns-clause-stopped : goal.returns-clause-stopped
 returns-clause-stopped g c =
     let view = c.in-Ok.torrent in
     let source = c.in-Ok-source_at.source in
-    let error = c.in-Err-report_of.error in
+    let error = c.in-Err-counted_report.error in
     let count = places_count c.args.path.now view source c.in-Ok-source_at.ensures.placed in
-    rw c.from-in-Err-report_of.ensures
+    rw c.from-in-Err-counted_report.ensures
     (not_rechecked c.args.bytes.now view c.in-Ok.ensures.accepted error
-    (subst (λ (n : ℕ). IsGiven (IsFileFault n) error) count c.in-Err-report_of.ensures.gave)
-    c.in-Err-report_of.ensures.allowed)
+    (subst (λ (n : ℕ). IsGiven (IsFileFault n) error) count c.in-Err-counted_report.ensures.gave)
+    c.in-Err-counted_report.ensures.allowed)

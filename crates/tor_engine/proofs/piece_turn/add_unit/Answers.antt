@@ -1,5 +1,6 @@
 -- one piece after the other
-use Rattle.std.proofs.Common.{length, inl, inr, append-nil, refl, ap}
+use Rattle.std.proofs.Common.{length, inl, inr, append-nil, refl, ap, arith, [], ◌∷◌, ◌++◌}
+use Rattle.std.proofs.lemmas.List.{length-append}
 use Rattle.std.proofs.Common.{sym, ◌∙◌}
 use Rattle.tor_plan.specs.Pieces.{pieces_of_unit}
 use Rattle.tor_engine.specs.Contents.{contents_in}
@@ -17,6 +18,7 @@ pieces-init g c = record {
         sym (append-nil c.args.hashes.now.items),
         first_of_none (piece_fault facts contents),
       );
+  counted = omega (arith);
 }
 
 pub returns-in-Err-clause-hashed : goal.returns-in-Err-clause-hashed
@@ -44,8 +46,15 @@ pieces-preserved g c = record {
       let one = c.in-Ok.ensures.hashed facts steady told in
       let here = sym c.piece-item.is in (
         mapped_more (hash_if_there plan contents) c.args.hashes.now.items c.pieces.hashes.items
-            c.add_piece.new.hashes.items pieces i _ c.piece-item.result c.pieces-test.true here before.0 one.0,
+            _ pieces i _ c.piece-item.result c.pieces-test.true here before.0
+            (c.in_ok-push.ensures.items ∙ ap (λ hash. c.pieces.hashes.items ++ hash ∷ []) one.0),
         first_next (piece_fault facts contents) pieces i _ c.pieces-test.true before.1
             (ap (piece_fault facts contents) here ∙ one.1),
       );
+  counted = omega (
+    arith,
+    c.pieces.invariant.counted,
+    ap length c.in_ok-push.ensures.items,
+    length-append c.pieces.hashes.items (c.in-Ok.hash ∷ []),
+  );
 }

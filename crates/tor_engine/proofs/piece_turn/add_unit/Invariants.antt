@@ -1,5 +1,5 @@
 -- the hashes of the pieces so far stand after the others, and none of them fails
-use Rattle.std.proofs.Common.{◌≡◌, ◌++◌, None, length, map, take}
+use Rattle.std.proofs.Common.{◌≡◌, ◌+◌, ◌++◌, None, length, map, take}
 use Rattle.tor_source.specs.Source.{SourceFacts}
 use Rattle.tor_engine.specs.Contents.{contents_in}
 use Rattle.tor_engine.specs.PieceFault.{pieces_fault}
@@ -15,4 +15,5 @@ invariant-pieces g l = record {
       (l.hashes.items ≡ l.fn.hashes.items
       ++ map (hash_if_there l.plan (contents_in facts (length l.plan.lengths))) (take l.piece-index l.piece-items))
       × (pieces_fault facts (contents_in facts (length l.plan.lengths)) (take l.piece-index l.piece-items) ≡ None);
+  counted : length l.hashes.items ≡ length l.fn.hashes.items + l.piece-index;
 }

@@ -1,9 +1,10 @@
 -- one unit after the other
 use Rattle.std.proofs.Common.{length, ℕ, ◌<◌, inl, inr, ap, subst, sym, ◌∙◌, arith}
+use Rattle.tor_plan.specs.Pieces.{pieces_of_unit}
 use Rattle.tor_engine.specs.Contents.{contents_in}
 use Rattle.tor_engine.specs.steps.Pieces.{unit_hashes, unit_pieces_fault}
 use Rattle.tor_engine.proofs.FirstOf.{first_at, first_next, first_of_none}
-use Rattle.tor_engine.proofs.MappedMore.{joined_more}
+use Rattle.tor_engine.proofs.MappedMore.{counted_more, joined_more}
 use Rattle.tor_engine.proofs.piece_turn.hash_pieces_in_turn.Goals as goal
 
 pub units-init : goal.units-init
@@ -14,6 +15,7 @@ units-init g c = record {
         c.new-hashes.ensures.items,
         first_of_none (unit_pieces_fault facts c.args.plan.now contents),
       );
+  counted = ap length c.new-hashes.ensures.items;
 }
 
 pub units-preserved : goal.units-preserved
@@ -33,6 +35,9 @@ units-preserved g c =
             first_next (unit_pieces_fault facts plan contents) units i _ c.units-test.true before.1
                 (ap (unit_pieces_fault facts plan contents) here ∙ one.1),
           );
+      counted = counted_more (pieces_of_unit c.args.plan.now.piece_length) (length c.units.hashes.items)
+          (length c.add_unit.new.hashes.items) units i _ c.unit-item.result c.units-test.true here
+          c.units.invariant.counted c.in-Ok.ensures.counted;
     }
 
 pub returns-in-Err : goal.returns-in-Err
@@ -46,5 +51,6 @@ returns-in-Err g c = record {
             c.in-Err.error c.units-test.true (c.units.invariant.hashed facts steady told).1
             (ap (unit_pieces_fault facts plan contents) (sym c.unit-item.is) ∙ fault))
       ];
+  counted = _;
   given = c.in-Err.ensures.gave;
 }

@@ -3,13 +3,13 @@ use Rattle.std.proofs.Common.{[], length, ap, subst, sym, ◌∙◌}
 use Rattle.tor_engine.specs.Contents.{contents_in}
 use Rattle.tor_engine.specs.Fault as engine
 use Rattle.tor_engine.specs.PieceFault.{first_piece_fault}
-use Rattle.tor_engine.specs.PieceHashes.{piece_hashes}
+use Rattle.tor_engine.specs.PieceHashes.{piece_hashes, pieces_of_plan}
 use Rattle.tor_plan.specs.PlanFacts.{PlanFacts, plan_of_entries}
 use Rattle.tor_recheck.specs.Pieces.{entries_to_cut}
 use Rattle.tor_recheck.specs.Recheck.{IsFault, first_fault}
 use Rattle.tor_recheck.specs.steps.Judge.{all_judged}
 use Rattle.tor_recheck.proofs.RecheckFaults.{no_fault, same_fault}
-use Rattle.tor_recheck.proofs.Rechecked.{count_is, judged_is_verified}
+use Rattle.tor_recheck.proofs.Rechecked.{count_is, count_of_judged, judged_is_verified}
 use Rattle.tor_recheck.proofs.rechecking.recheck.Goals as goal
 
 pub returns-in-Err-clause-found : goal.returns-in-Err-clause-found
@@ -36,3 +36,11 @@ returns-clause-found g c = λ how facts steady.
           ∙ judged_is_verified view (contents_in facts (length view.files)) cut c.in-Ok.hashes.items hashes,
       no_fault facts view cut (sym (ap (first_piece_fault facts) planned) ∙ hashed.1),
     )
+
+pub returns-clause-counted : goal.returns-clause-counted
+returns-clause-counted g c =
+    let view = c.args.torrent.now in
+    let cut = c.in_ok-plan.ensures.cut in
+    ap length (c.in_ok-bits.ensures ∙ ap (all_judged view) c.deref.ensures.value)
+    ∙ count_of_judged view cut c.in-Ok.hashes.items
+    (c.in-Ok.ensures.counted ∙ ap (λ (p : PlanFacts). length (pieces_of_plan p)) c.in_ok-plan.ensures.planned)
