@@ -1,0 +1,3 @@
+pub mod Lanes
+pub mod PaddingSha1
+pub mod PaddingSha256

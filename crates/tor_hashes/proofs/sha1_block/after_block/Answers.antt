@@ -1,0 +1,17 @@
+use Rattle.std.proofs.Common.{ap, ◌∙◌, refl}
+use Rattle.sha1.specs.Sha1.{add_state, compress, rounds}
+use Rattle.sha1.proofs.Schedule.{IsWindow_first}
+use Rattle.tor_hashes.specs.Lanes.{five_of, window}
+use Rattle.tor_hashes.proofs.sha1_block.after_block.Goals as goal
+
+pub returns : goal.returns
+unfolding compress rounds
+returns c = λ j b lt held.
+    let h = five_of j c.args.hash in
+    let first = IsWindow_first b (window j c.args.words) held.0 held.1 in
+    let s0 = c.first_rounds-v.ensures j b h lt first refl in
+    let s1 = c.ch_rounds-v.ensures j b h lt (first, s0) in
+    let s2 = c.parity_rounds-v.ensures j b h lt s1 in
+    let s3 = c.maj_rounds-v.ensures j b h lt s2 in
+    let s4 = c.last_rounds-v.ensures j b h lt s3 in
+    c.added.ensures j lt ∙ ap (add_state h) s4.1

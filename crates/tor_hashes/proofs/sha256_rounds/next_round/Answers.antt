@@ -1,0 +1,13 @@
+use Rattle.std.proofs.Common.{◌∙◌, ap, arith, refl}
+use Rattle.sha2.proofs.Schedule256.{rounds_window}
+use Rattle.tor_hashes.specs.Lanes.{eight_of, window}
+use Rattle.tor_hashes.proofs.Lanes.{window_set}
+use Rattle.tor_hashes.proofs.sha256_rounds.next_round.Goals as goal
+
+pub returns : goal.returns
+returns c = λ j b h lt held.
+    let w = window j c.args.w.now in
+    let word = c.next_word-word.ensures in
+    rounds_window b h w (eight_of j c.args.v) c.args.t _ _ _ _ (omega arith) (omega arith) held.0 held.1
+    (word.value j lt) (ap (window j) word.window ∙ window_set c.args.w.now j _ c.next_word-word.result)
+    refl (c.round.ensures j lt)

@@ -1,0 +1,13 @@
+use Rattle.std.proofs.Common.{arith}
+use Rattle.std.proofs.lemmas.Simd.{shifts_fit_splat}
+use Rattle.tor_hashes.proofs.Lanes.{lane_rotated_right}
+use Rattle.tor_hashes.proofs.words.rotated_right.Goals as goal
+
+pub overflow_shr-result : goal.overflow_shr-result
+overflow_shr-result c = shifts_fit_splat 32 c.args.x 8 c.args.n (omega arith)
+
+pub overflow_shl-result : goal.overflow_shl-result
+overflow_shl-result c = shifts_fit_splat 32 c.args.x 8 _ (omega arith)
+
+pub returns : goal.returns
+returns c j h = lane_rotated_right c.args.x 8 c.args.n j c.requires.some c.requires.fits c.fits-x.0 h

@@ -1,0 +1,49 @@
+//! SHA-256 and SHA-1 (FIPS 180-4) of eight messages of one length, side by side: each instruction does the same to
+//! a word of each message.
+//!
+//! ```rust
+//! use sha2::{Digest, Sha256};
+//! use tor_hashes::node_hashes;
+//!
+//! let nodes = [7; 512];
+//! let hashes = node_hashes(&nodes);
+//! assert!(rt; hashes[3] == Sha256::digest(&nodes[192..256]));
+//! ```
+//!
+//! - [`block_hashes`] (`blocks.rt`): the SHA-256 of blocks of 16,384 bytes.
+//! - [`node_hashes`] (`nodes.rt`): the SHA-256 of texts of 64 bytes. Their padding is always the same, so
+//!   `node_padding.rt` has its words ready.
+//! - [`piece_hashes`] (`pieces.rt`): the SHA-1 of pieces of any number of bytes that is a multiple of 64.
+//!
+//! Below them, named after the standard's parts: `words.rt` has words side by side, `block_words.rt` reads them,
+//! `functions.rt` has what both hashes do with them. Each hash has its constants, its rounds, its hash value block
+//! after block, and its digests: `sha256_constants.rt`, `sha256_functions.rt`, `sha256_rounds.rt`, `sha256_block.rt`,
+//! `sha256_digest.rt`; `sha1_constants.rt`, `sha1_round.rt` (a round of each kind), `sha1_rounds.rt`,
+//! `sha1_block.rt`, `sha1_digest.rt`.
+//!
+//! What is done in each block is `#[inline(always)]`, so that the places in the schedule are known when it is compiled.
+#![tactic(auto)]
+
+mod block_words;
+mod blocks;
+mod functions;
+mod node_padding;
+mod nodes;
+mod pieces;
+mod sha1_block;
+mod sha1_constants;
+mod sha1_digest;
+mod sha1_round;
+mod sha1_rounds;
+mod sha256_block;
+mod sha256_constants;
+mod sha256_digest;
+mod sha256_functions;
+mod sha256_rounds;
+#[cfg(test)]
+mod tests;
+mod words;
+
+pub use blocks::block_hashes;
+pub use nodes::node_hashes;
+pub use pieces::piece_hashes;

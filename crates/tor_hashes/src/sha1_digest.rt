@@ -1,0 +1,48 @@
+//! The digests of SHA-1 of eight messages: the words of each hash value, high byte first (FIPS 180-4, 6.1.2).
+
+ghost use Rattle.std.specs.Prelude.{◌≡◌, ℕ, ◌<◌, [], slice_index_or};
+ghost use Rattle.sha1.specs.Sha1.{digest_bytes};
+ghost use Rattle.tor_hashes.specs.Lanes.{five_of};
+
+use crate::words::Words;
+
+fn digest_of(words: &[u32; 5]) -> [u8; 20]
+    ensures { result ≡ digest_bytes words.now 5 }
+{
+    let mut bytes = [0; 20];
+    'words: for i in 0..5 {
+        bytes[4 * i..4 * i + 4].copy_from_slice(&words[i].to_be_bytes());
+    }
+    bytes
+}
+
+// The digest of message j.
+fn digest(hash: &[Words; 5], j: usize) -> [u8; 20]
+    requires { j < 8 }
+    ensures { result ≡ digest_bytes (five_of j hash.now) 5 }
+{
+    let words = [
+        hash[0].to_array()[j],
+        hash[1].to_array()[j],
+        hash[2].to_array()[j],
+        hash[3].to_array()[j],
+        hash[4].to_array()[j],
+    ];
+    digest_of(&words)
+}
+
+// The digest of each message.
+pub(crate) fn digests(hash: &[Words; 5]) -> [[u8; 20]; 8]
+    ensures { (j : ℕ) → j < 8 → slice_index_or result j [] ≡ digest_bytes (five_of j hash.now) 5 }
+{
+    [
+        digest(hash, 0),
+        digest(hash, 1),
+        digest(hash, 2),
+        digest(hash, 3),
+        digest(hash, 4),
+        digest(hash, 5),
+        digest(hash, 6),
+        digest(hash, 7),
+    ]
+}
