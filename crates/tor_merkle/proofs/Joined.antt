@@ -47,7 +47,8 @@ run_at-joined xs ys size c i long =
     (ap (λ n. drop n (xs ++ ys)) (omega arith) ∙ sym (drop-drop (i * size) (c * size) (xs ++ ys))
     ∙ ap (drop (i * size)) (drop_at xs ys (c * size) long))
 
-leaves-joined : (a b : List ℕ) (c : ℕ) → length a ≡ c * 16384 → leaves (a ++ b) ≡ leaves a ++ leaves b
+-- the first content has c whole blocks
+pub leaves-joined : (a b : List ℕ) (c : ℕ) → length a ≡ c * 16384 → leaves (a ++ b) ≡ leaves a ++ leaves b
 unfolding leaves blocks
 leaves-joined a b c long =
     let count : div_ceil (length (a ++ b)) 16384 ≡ c + div_ceil (length b) 16384 =

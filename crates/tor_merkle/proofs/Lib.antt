@@ -14,6 +14,7 @@ pub mod Keeps
 pub mod Leaves
 pub mod Sums
 pub mod Joined
+pub mod Runs
 pub mod Units
 pub mod Lengths
 pub mod HashLengths

@@ -5,7 +5,7 @@ ghost use Rattle.std.specs.Prelude.{◌++◌, length, OnOk, IsOk, IsNone, IfSome
 ghost use Rattle.std.specs.Int.{div_ceil};
 ghost use Rattle.tor_merkle.specs.Block.{leaves};
 ghost use Rattle.tor_merkle.specs.Layer.{pieces_root, piece_roots, piece_layer};
-ghost use Rattle.tor_merkle.specs.steps.Blocks.{FitsBlock};
+ghost use Rattle.tor_merkle.specs.steps.Blocks.{FitsBlock, FitsRun};
 
 use crate::hash::Hash;
 use crate::pieces::PieceTree;
@@ -14,6 +14,10 @@ use crate::{BLOCK_LENGTH, MAX_LENGTH};
 use sha2::{Digest, Sha256};
 use std::alloc::{AllocError, Global};
 use std::marker::Model;
+use tor_hashes::block_hashes;
+
+// The hashes of so many bytes, eight blocks, are told at once.
+const RUN_LENGTH: usize = 8 * BLOCK_LENGTH;
 
 // The running hash of the present block, and the tree over the blocks before it.
 #[derive(Drop)]
@@ -78,11 +82,31 @@ impl BlockHasher {
     {
         let mut rest = bytes;
         'parts: while !rest.is_empty() {
-            let length = rest.len().min(self.room_in_block());
-            let (part, later) = rest.split_at(length);
-            self.add(part);
-            rest = later;
+            if self.count % BLOCK_LENGTH as u64 == 0 && rest.len() >= RUN_LENGTH {
+                let (run, later) = rest.split_at(RUN_LENGTH);
+                self.add_run(run);
+                rest = later;
+            } else {
+                let length = rest.len().min(self.room_in_block());
+                let (part, later) = rest.split_at(length);
+                self.add(part);
+                rest = later;
+            }
         }
+    }
+
+    // Adds eight whole blocks, where none is begun.
+    fn add_run(&mut self, run: &[u8])
+        requires { FitsRun self.old run.now }
+        ensures height { self.new.height ≡ self.old.height }
+        ensures bytes { self.new.bytes ≡ self.old.bytes ++ run.now }
+        ensures room { self.old.room ≤ self.new.room }
+    {
+        let fed = self.fed.with(run);
+        let leaves = block_hashes(run);
+        self.tree.push_eight(&leaves);
+        self.count += RUN_LENGTH as u64;
+        self.fed = fed;
     }
 
     // How many bytes the present block lacks.

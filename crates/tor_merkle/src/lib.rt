@@ -14,8 +14,8 @@
 //! - [`leaf`], [`pair`], [`zero`] (`hash.rt`): the hash of a block, of two hashes, of a subtree past the end.
 //! - [`whole`] (`plain.rt`): root and piece layer of a content that lies in memory.
 //! - [`Feed`] (`feed.rt`): the same of a content that is fed in parts, or the hashes of a run of pieces of a
-//!   longer one; it keeps no leaves. Below it stand the cut into blocks (`blocks.rt`) and the tree of the
-//!   pieces (`pieces.rt`).
+//!   longer one; it keeps no leaves. Below it stand the cut into blocks (`blocks.rt`), of which eight whole ones
+//!   are hashed at once, and the tree of the pieces (`pieces.rt`).
 //! - [`Stack`], [`layer_root`] (`stack.rt`): the root over hashes that come one after another.
 //! - [`is_piece_length`], [`piece_level`] (`piece_length.rt`): which numbers of bytes a piece may have, and the level
 //!   of its hash.
@@ -44,6 +44,8 @@ mod stack;
 mod tests;
 #[cfg(test)]
 mod tests_proof;
+#[cfg(test)]
+mod tests_runs;
 mod trail;
 
 /// How many bytes a block has (BEP 52, "pieces root").

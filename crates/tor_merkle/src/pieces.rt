@@ -83,6 +83,20 @@ impl PieceTree {
         self.leaves = leaves;
     }
 
+    // Adds the leaves of the next eight blocks.
+    pub(crate) fn push_eight(&mut self, leaves: &[Hash; 8])
+        requires small { length self.old.leaves + 8 ≤ 2 ^ 36 }
+        requires room { div_ceil (length self.old.leaves + 8) (2 ^ self.old.height) ≤ self.old.room }
+        ensures height { self.new.height ≡ self.old.height }
+        ensures leaves { self.new.leaves ≡ self.old.leaves ++ leaves.now }
+        ensures eight { length leaves.now ≡ 8 }
+        ensures room { self.old.room ≤ self.new.room }
+    {
+        'leaves: for leaf in leaves {
+            self.push(*leaf);
+        }
+    }
+
     // The root of the tree over all leaves, and the hashes of the pieces where there is more than one.
     pub(crate) fn finish(self) -> (Hash, Vec<Hash>)
         requires some { 0 < length self.leaves }

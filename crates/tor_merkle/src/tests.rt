@@ -51,7 +51,7 @@ pub(crate) fn whole_of<R: AllocGlobal + Abort>(
 }
 
 // The same by a feed, in parts of `part` bytes.
-fn fed_of<R: AllocGlobal + Abort>(
+pub(crate) fn fed_of<R: AllocGlobal + Abort>(
     rt: &R,
     length: usize,
     piece_length: u64,

@@ -38,3 +38,10 @@ pub record FitsBlock (blocks : Blocks) (part : List ℕ) : Type 0 where
   pub within : length blocks.bytes % BLOCK_LENGTH + length part ≤ BLOCK_LENGTH
   pub small : length blocks.bytes + length part ≤ MAX_LENGTH
   pub room : div_ceil (length blocks.bytes + length part) (BLOCK_LENGTH * 2 ^ blocks.height) ≤ blocks.room
+
+-- eight whole blocks more, where none is begun
+pub record FitsRun (blocks : Blocks) (run : List ℕ) : Type 0 where
+  pub whole : length blocks.bytes % BLOCK_LENGTH ≡ 0
+  pub long : length run ≡ 8 * BLOCK_LENGTH
+  pub small : length blocks.bytes + length run ≤ MAX_LENGTH
+  pub room : div_ceil (length blocks.bytes + length run) (BLOCK_LENGTH * 2 ^ blocks.height) ≤ blocks.room

@@ -1,24 +1,43 @@
--- each part is within what is fed
-use Rattle.std.proofs.Common.{◌+◌, ◌*◌, ◌^◌, ◌<◌, length, arith, sym, ap, le_trans, length-append, pow_pos}
+-- each part and each run is within what is fed
+use Rattle.std.proofs.Common.{ℕ, ◌+◌, ◌*◌, ◌^◌, ◌≤◌, length, arith, sym, ap, le_trans, length-append}
+use Rattle.std.proofs.Common.{pow_pos}
 use Rattle.std.proofs.lemmas.Bool.{eqb-false}
+use Rattle.std.specs.Int.{div_ceil}
 use Rattle.tor_merkle.proofs.Ceil.{ceil_mono}
 use Rattle.tor_merkle.proofs.blocks.BlockHasher.feed.Goals as goal
 
+-- there is room for the pieces of less than all
+room_of_part : (less all k asked room : ℕ) → less ≤ all → div_ceil all (16384 * 2 ^ k) ≤ asked → asked ≤ room
+    → div_ceil less (16384 * 2 ^ k) ≤ room
+room_of_part less all k asked room le fits more =
+    le_trans (ceil_mono less all (16384 * 2 ^ k) (omega (arith, pow_pos k)) le) (le_trans fits more)
+
 pub add-requires : goal.add-requires
 add-requires c =
-    let all = simp length-append at (ap length c.parts.invariant.all) in
     let now = c.args.self.now in
-    let pos : 0 < 16384 * 2 ^ now.height = omega (arith, pow_pos now.height) in
+    let all = simp length-append at (ap length c.parts.invariant.all) in
+    let cut = c.split_at-else-self-eq0.ensures in
     record {
-      some =
-          omega (arith, eqb-false (length c.parts.rest.now) 0 (sym c.parts-test.ensures), c.split_at.ensures.front_len);
-      within = omega (arith, c.split_at.ensures.front_len);
-      small = omega (arith, all, c.split_at.ensures.front_len, c.split_at.ensures.back_len, c.requires.small);
+      some = omega (arith, eqb-false (length c.parts.rest.now) 0 (sym c.parts-test.ensures), cut.front_len);
+      within = omega (arith, cut.front_len);
+      small = omega (arith, all, cut.front_len, cut.back_len, c.requires.small);
       room =
           rw c.parts.invariant.height
-          (le_trans
-          (ceil_mono (length c.parts.self.bytes + length c.split_at.result.0.now)
-          (length now.bytes + length c.args.bytes.now) (16384 * 2 ^ now.height) pos
-          (omega (arith, all, c.split_at.ensures.front_len, c.split_at.ensures.back_len)))
-          (le_trans c.requires.room c.parts.invariant.room));
+          (room_of_part _ (length now.bytes + length c.args.bytes.now) now.height now.room _
+          (omega (arith, all, cut.front_len, cut.back_len)) c.requires.room c.parts.invariant.room);
+    }
+
+pub add_run-requires : goal.add_run-requires
+add_run-requires c =
+    let now = c.args.self.now in
+    let all = simp length-append at (ap length c.parts.invariant.all) in
+    let cut = c.split_at.ensures in
+    record {
+      whole = omega (arith, c.self.invariant.counted, c.if-self-eq0.true, ap (λ v. length v.bytes) c.self.view_is);
+      long = cut.front_len;
+      small = omega (arith, all, cut.front_len, cut.back_len, c.requires.small);
+      room =
+          rw c.parts.invariant.height
+          (room_of_part _ (length now.bytes + length c.args.bytes.now) now.height now.room _
+          (omega (arith, all, cut.front_len, cut.back_len)) c.requires.room c.parts.invariant.room);
     }

@@ -1,0 +1,10 @@
+-- the leaves of the slice that came so far were added
+use Rattle.std.proofs.Common.{◌≡◌, ◌≤◌, ◌++◌, take}
+use Rattle.tor_merkle.proofs.pieces.PieceTree.push_eight.Given as goal
+
+abbrev pub invariant-leaves : goal.invariant-leaves
+invariant-leaves l = record {
+  height : l.self.height ≡ l.initial.self.height;
+  all : l.self.leaves ≡ l.initial.self.leaves ++ take l.leaf-index l.leaves;
+  room : l.initial.self.room ≤ l.self.room;
+}
