@@ -5,6 +5,7 @@
 //! - [`lay_out`] (`layout.rt`): the entries of a list of files, in one of two layouts. `padding.rt` makes the padding;
 //!   [`padding_length`] and [`count_with_bytes`] tell what a file needs of it, [`pad_entry`] is one.
 //! - [`PieceSums`] (`sums.rt`): the SHA-1 of each piece of a content that is fed in parts.
+//!   `runs.rt` has eight pieces hashed at once.
 //! - [`laws`]: what follows from the definitions alone.
 //!
 //! ```rust
@@ -22,11 +23,15 @@ mod entry;
 pub mod laws;
 mod layout;
 mod padding;
+mod runs;
 mod sums;
 #[cfg(test)]
 mod tests;
+#[cfg(test)]
+mod tests_runs;
 
 pub use entry::{Entry, is_reserved};
 pub use layout::{Layout, LayoutError, count_with_bytes, lay_out};
 pub use padding::{pad_entry, padding_length};
+pub use runs::MAX_PIECE_IN_RUN;
 pub use sums::PieceSums;

@@ -1,10 +1,11 @@
 //! The SHA-1 of each piece of a content that is fed in parts.
 ghost use Rattle.std.specs.Prelude.{◌≡◌, ◌+◌, ◌*◌, ◌^◌, ◌<◌, ◌≤◌, ℕ, List, [], ◌++◌, length, OnOk, OnErr, IsOk};
-ghost use Rattle.std.specs.Prelude.{vec_len, vec_capacity};
+ghost use Rattle.std.specs.Prelude.{vec_len, vec_capacity, true};
 ghost use Rattle.std.specs.Int.{div_ceil};
 ghost use Rattle.sha1.specs.Sha1.{Holds, sha1};
 ghost use Rattle.tor_v1.specs.Piece.{IsV1PieceLength, max_piece_length, piece_sums, zeros};
 
+use crate::runs::{end_run, has_runs};
 use sha1::{DIGEST_LEN, Sha1};
 use std::alloc::{AllocError, Global};
 use std::mem;
@@ -32,6 +33,7 @@ pub struct PieceSums {
 impl PieceSums {
     ghost use Rattle.tor_v1.specs.Feeding.{HasFed, Feeds, IsUnchanged};
     ghost use Rattle.tor_v1.specs.steps.Room.{HasRoom, IsSameButRoom};
+    ghost use Rattle.tor_v1.specs.steps.Runs.{FitsRun};
 
     /// Sums of no byte, for pieces of `piece_length` bytes.
     pub fn new(alloc: Global, piece_length: u64) -> PieceSums
@@ -115,11 +117,35 @@ impl PieceSums {
     {
         let mut rest = bytes;
         'parts: while !rest.is_empty() {
-            let length = rest.len().min((self.piece_length - self.begun) as usize);
-            let (part, later) = rest.split_at(length);
-            self.add_to_piece(part);
-            rest = later;
+            if self.takes_run(rest.len()) {
+                let (run, later) = rest.split_at(8 * self.piece_length as usize);
+                self.add_run(run);
+                rest = later;
+            } else {
+                let length = rest.len().min((self.piece_length - self.begun) as usize);
+                let (part, later) = rest.split_at(length);
+                self.add_to_piece(part);
+                rest = later;
+            }
         }
+    }
+
+    // Whether the next eight pieces of so many bytes are taken at once.
+    fn takes_run(&self, left: usize) -> bool
+        ensures { result ≡ true → FitsRun self.now left }
+    {
+        self.begun == 0 && has_runs(self.piece_length) && left >= 8 * self.piece_length as usize
+    }
+
+    // Adds eight whole pieces, where none is begun.
+    fn add_run(&mut self, run: &[u8])
+        requires fits { FitsRun self.old (length run.now) }
+        requires length { length run.now ≡ 8 * self.old.piece_length }
+        requires room { HasRoom self.old (length run.now) }
+        ensures fed { Feeds self.old self.new run.now }
+        ensures room { (later : ℕ) → HasRoom self.old (length run.now + later) → HasRoom self.new later }
+    {
+        end_run(run, self.piece_length as usize, &mut self.sums);
     }
 
     // Adds bytes of one piece.

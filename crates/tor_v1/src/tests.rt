@@ -134,7 +134,7 @@ fn sums_can_go_to_another_thread() {
 }
 
 /// The joined hashes in hexadecimal.
-fn hex(alloc: Global, sums: &[u8]) -> Result<String, AllocError> {
+pub(crate) fn hex(alloc: Global, sums: &[u8]) -> Result<String, AllocError> {
     let mut text = String::new(alloc);
     for byte in sums {
         write!(text, "{byte:02x}")?;

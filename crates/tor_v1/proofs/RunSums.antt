@@ -1,0 +1,81 @@
+-- Sums that are fed runs of eight whole pieces, whose hashes are told at once.
+use Rattle.std.proofs.Common.{◌≡◌, ℕ, ◌+◌, ◌*◌, ◌/◌, ◌%◌, ◌<◌, ◌≤◌, List, [], ◌++◌, map, length, get_or, take, drop}
+use Rattle.std.proofs.Common.{arith, ap, ap₂, ◌∙◌, sym, subst, append-nil, length-append, vec_len, vec_capacity, mul_comm}
+use Rattle.std.proofs.lemmas.List.{take_all, drop_all}
+use Rattle.std.proofs.lemmas.List.Folds.{flat_map-map}
+use Rattle.std.proofs.lemmas.List.FromFn.{fill_by_all}
+use Rattle.std.specs.Fork.{slice_chunk}
+use Rattle.std.specs.Int.{div_ceil}
+use Rattle.std.specs.List.{flat_map, range_with_len}
+use Rattle.sha1.specs.Sha1.{Holds, sha1}
+use Rattle.tor_v1.specs.Feeding.{HasFed, in_pieces}
+use Rattle.tor_v1.specs.Piece.{pieces_of, piece_sums}
+use Rattle.tor_v1.specs.steps.Room.{HasRoom}
+use Rattle.tor_v1.specs.declared.sums.PieceSums.{PieceSums}
+use Rattle.tor_v1.proofs.Ceil.{ceil_is, ceil_add}
+use Rattle.tor_v1.proofs.Cut.{sums-append}
+use Rattle.tor_v1.proofs.Fed.{HasFed-append, pos}
+
+-- the hashes of eight pieces are the sums of their run
+pub sums-run : (p : ℕ) (run : List ℕ) (hashes : List (List ℕ)) → 0 < p → length run ≡ 8 * p → length hashes ≡ 8
+    → ((i : ℕ) → i < 8 → get_or hashes i [] ≡ sha1 (take p (drop (p * i) run)))
+    → flat_map (λ x. x) hashes ≡ piece_sums p run
+unfolding piece_sums pieces_of
+sums-run p run hashes some long count each =
+    let cut = slice_chunk run p in
+    let eight : div_ceil (length run) p ≡ 8 = ceil_is (length run) p 8 (omega (arith, long)) (omega (arith, long)) in
+    ap (flat_map (λ x. x)) (fill_by_all (λ i. sha1 (cut i)) hashes 8 [] count
+    (λ i lt. each i lt ∙ ap (λ n. sha1 (take p (drop n run))) (mul_comm p i)))
+    ∙ flat_map-map (λ x. x) (λ i. sha1 (cut i)) (range_with_len 0 8)
+    ∙ sym (flat_map-map sha1 cut (range_with_len 0 8))
+    ∙ ap (λ n. flat_map sha1 (map cut (range_with_len 0 n))) (sym eight)
+
+-- eight pieces where none is begun
+pub adds_run : (sums : PieceSums) (p : ℕ) (bytes : List ℕ) → HasFed sums p bytes → (sums' : PieceSums) (run : List ℕ)
+    → sums.begun ≡ 0 → length run ≡ 8 * sums.piece_length
+    → sums'.piece_length ≡ sums.piece_length → sums'.begun ≡ 0 → sums'.hasher ≡ sums.hasher
+    → sums'.sums.items ≡ sums.sums.items ++ piece_sums sums.piece_length run → HasFed sums' p (bytes ++ run)
+adds_run sums p bytes fed sums' run none long cut begun hasher items =
+    let positive = pos sums p bytes fed in
+    let k = length bytes / p in
+    let split : k * p + length bytes % p ≡ length bytes = omega arith in
+    let whole : length bytes ≡ k * p = omega (arith, split, none, fed.begun) in
+    let more : length run ≡ 8 * p = long ∙ ap (λ q. 8 * q) fed.cut_every in
+    let all : length (bytes ++ run) ≡ (k + 8) * p = length-append bytes run ∙ omega (arith, whole, more) in
+    let rest : drop (in_pieces p (length bytes)) bytes ≡ [] = drop_all (k * p) bytes (omega (arith, whole)) in
+    let front : take (in_pieces p (length bytes)) bytes ≡ bytes = take_all (k * p) bytes (omega (arith, whole)) in
+    subst (HasFed sums' p) (append-nil (bytes ++ run))
+    (HasFed-append sums' p (k + 8) (bytes ++ run) [] (cut ∙ fed.cut_every) all positive begun
+    (items
+    ∙ ap₂ (λ xs q. xs ++ piece_sums q run) (fed.whole ∙ ap (piece_sums p) front) fed.cut_every
+    ∙ sym (sums-append p positive k bytes run whole))
+    (subst (λ h. Holds h []) (sym hasher) (subst (Holds sums.hasher) rest fed.rest)))
+
+-- the hashes of so many more pieces
+ceil_run : (begun p later : ℕ) → 0 < p → begun ≡ 0
+    → div_ceil (begun + (8 * p + later)) p ≡ 8 + div_ceil (begun + later) p
+ceil_run begun p later some none =
+    ap (λ n. div_ceil n p) (let e : begun + (8 * p + later) ≡ 8 * p + (begun + later) = omega arith in e)
+    ∙ ceil_add 8 p (begun + later) some
+
+still_fits : (n n' room room' q q' : ℕ) → q ≡ 8 + q' → n' ≡ n + 160 → room ≤ room' → n + 20 * q ≤ room
+    → n' + 20 * q' ≤ room'
+still_fits n n' room room' q q' eight len capacity within = omega arith
+
+-- there is room for eight hashes
+pub room_run : (sums : PieceSums) (more : ℕ) → sums.begun ≡ 0 → more ≡ 8 * sums.piece_length → HasRoom sums more
+    → vec_len sums.sums + 160 ≤ vec_capacity sums.sums
+room_run sums more none long room =
+    let some : 0 < sums.piece_length = omega (arith, sums.allowed.0) in
+    let eight : div_ceil (sums.begun + more) sums.piece_length ≡ 8 =
+    ceil_is (sums.begun + more) sums.piece_length 8 (omega (arith, none, long)) (omega (arith, none, long)) in
+    omega (arith, eight, room)
+
+-- and after them for what comes later
+pub room_after : (sums : PieceSums) (more later len capacity : ℕ) → sums.begun ≡ 0 → more ≡ 8 * sums.piece_length
+    → len ≡ vec_len sums.sums + 160 → vec_capacity sums.sums ≤ capacity → HasRoom sums (more + later)
+    → len + 20 * div_ceil (sums.begun + later) sums.piece_length ≤ capacity
+room_after sums more later len capacity none long longer roomier room =
+    let some : 0 < sums.piece_length = omega (arith, sums.allowed.0) in
+    still_fits _ _ _ _ _ _ (ap (λ n. div_ceil (sums.begun + (n + later)) sums.piece_length) long
+    ∙ ceil_run sums.begun sums.piece_length later some none) longer roomier room
