@@ -17,7 +17,7 @@ use crate::items::item_at;
 use crate::piece_hash::PieceHash;
 use crate::present::is_there;
 use crate::run::RunSums;
-use crate::turn::{BUFFER_LENGTH, hash_unit, zeros};
+use crate::turn::{hash_unit, length_at_once, zeros};
 use std::alloc::{AllocError, Global};
 use tor_merkle::laws::root_of_short_content;
 use tor_plan::{Plan, PlanUnit};
@@ -46,7 +46,7 @@ pub(crate) fn hash_pieces_in_turn<S: Source>(
     requires units { AreUnitsToHash plan.now units.now }
     ensures { AnswersPieces S.is_steady S.gave source.now plan.now known.now.lengths.items units.now result }
 {
-    let mut room = zeros(alloc, BUFFER_LENGTH)?;
+    let mut room = zeros(alloc, length_at_once(plan))?;
     let buffer = room.as_mut_slice();
     let mut hashes = Vec::new(alloc);
     'units: for unit in units {

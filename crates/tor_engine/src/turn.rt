@@ -16,9 +16,10 @@ use std::alloc::{AllocError, Global};
 use tor_merkle::Hash;
 use tor_plan::{Part, Plan, PlanUnit};
 use tor_source::Source;
+use tor_v1::MAX_PIECE_IN_RUN;
 
-/// The bytes that a worker reads at once, at most.
-pub(crate) const BUFFER_LENGTH: usize = 1 << 20;
+/// The bytes that a worker reads at once, at most, where its pieces are not hashed in runs.
+const BUFFER_LENGTH: u64 = 1 << 20;
 
 /// What the units sum up to.
 pub(crate) fn hash_in_turn<S: Source>(
@@ -31,7 +32,7 @@ pub(crate) fn hash_in_turn<S: Source>(
     requires units { AreUnitsOf plan.now units.now }
     ensures { AnswersUnits S.is_steady S.gave source.now plan.now units.now result }
 {
-    let mut room = zeros(alloc, BUFFER_LENGTH)?;
+    let mut room = zeros(alloc, length_at_once(plan))?;
     let buffer = room.as_mut_slice();
     let mut run = RunSums::none(alloc);
     'units: for unit in units {
@@ -110,6 +111,16 @@ fn hash_part<S: Source>(
     sums.end_part(alloc, plan.lengths()[part.file as usize], hashes)?;
     sums.feed_zeros(part.zeros)?;
     Ok(())
+}
+
+/// How many bytes a worker reads at once, at most 8 MiB: eight pieces, where version 1 has them and they are not long.
+pub(crate) fn length_at_once(plan: &Plan) -> usize
+    ensures { 0 < result }
+{
+    if plan.kind().has_v1() && plan.piece_length() <= MAX_PIECE_IN_RUN {
+        return BUFFER_LENGTH.max(8 * plan.piece_length()) as usize;
+    }
+    BUFFER_LENGTH as usize
 }
 
 pub(crate) fn zeros(alloc: Global, length: usize) -> Result<Vec<u8>, AllocError>

@@ -11,7 +11,8 @@ use std::io::Read;
 /// The most bytes that the program reads of an input.
 pub const MAX_INPUT_LENGTH: u64 = 1 << 30;
 
-const BUFFER_LENGTH: usize = 65536;
+/// A pipe gives less a read, and the hashes of several blocks and pieces are computed at a time.
+const BUFFER_LENGTH: usize = 1 << 21;
 
 /// Why an input was not read whole.
 #[derive(Clone, Copy, Debug, PartialEq, Eq)]
@@ -65,8 +66,7 @@ pub fn read_parts<R: Read, I: Intake>(
     let buffer = room.as_mut_slice();
     let mut left = limit;
     'parts: loop {
-        let count = match read_part(reader, buffer, left) {
-            Ok(0) => return Ok(()),
+        let count = match fill(reader, buffer, left) {
             Ok(count) => count,
             Err(fault) => return Err(fault),
         };
@@ -75,7 +75,36 @@ pub fn read_parts<R: Read, I: Intake>(
             Ok(()) => left -= count as u64,
             Err(_) => return Err(InputFault::Memory),
         }
+        if count < BUFFER_LENGTH {
+            return Ok(());
+        }
     }
+}
+
+/// Reads until the buffer is full or the reader is at its end, and tells how many bytes came; they stand at the front
+/// of the buffer.
+fn fill<R: Read>(reader: &mut R, buffer: &mut [u8], room: u64) -> Result<usize, InputFault>
+    ensures buffer_stays { length buffer.new ≡ length buffer.old }
+    ensures within { IfOk result (λ count. (count ≤ length buffer.old) × (count ≤ room)) }
+    ensures given { IfOk result (λ count.
+        Consumes (R.remaining reader.old) (R.remaining reader.new) (take count buffer.new)) }
+    ensures end { IfOk result (λ count. count < length buffer.old → IsAtEnd (R.remaining reader.new)) }
+    ensures err { IfErr result (λ fault.
+        ReadsSome (R.remaining reader.old) (R.remaining reader.new) (EndsInput room fault)) }
+{
+    let mut filled = 0;
+    'reads: while filled < buffer.len() {
+        let (_, rest) = buffer.split_at_mut(filled);
+        let count = match read_part(reader, rest, room - filled as u64) {
+            Ok(count) => count,
+            Err(fault) => return Err(fault),
+        };
+        filled += count;
+        if count == 0 {
+            return Ok(filled);
+        }
+    }
+    Ok(filled)
 }
 
 /// Reads once, and tells how many bytes came; they stand at the front of the buffer.
