@@ -5,18 +5,20 @@
 //! `files-both CUT` hash the files whose places it has, one a line; `decode 1` reads it as bencode. `paths COUNT`
 //! makes so many paths, `list COUNT` a list of them too, and `lists COUNT` writes its tree and reads that back;
 //! `padded COUNT` makes a hybrid of so many small files; `scan FOLDER` lists a folder. `check 1` judges standard input,
-//! and `pairs COUNT` joins so many hashes.
-//! `decode`, `lists`, `padded`, `scan`, `check` and `pairs` print microseconds. Lists are in `lists.rt`, the hybrid in
-//! `padded.rt`, the hashes over all in `plain.rt`, the judging in `foreign.rt`.
+//! and `pairs COUNT` joins so many hashes; `hashes COUNT` hashes so many times 2 MiB, message by message and by eight.
+//! `decode`, `lists`, `padded`, `scan`, `check`, `pairs` and `hashes` print microseconds. Lists are in `lists.rt`, the hybrid in
+//! `padded.rt`, the hashes over all in `plain.rt`, the judging in `foreign.rt`, the hashing by eight in `eight.rt`.
 #![tactic(auto)]
 
 ghost use Rattle.std.specs.Prelude.{◌≡◌, IfOk, vec_len};
 
+mod eight;
 mod foreign;
 mod lists;
 mod padded;
 mod plain;
 
+use crate::eight::hashed;
 use crate::foreign::{judged, paired};
 use crate::lists::{list, lists, paths};
 use crate::padded::padded;
@@ -67,6 +69,7 @@ fn main(rt: HostRuntime) -> Result<()> {
         "scan" => scanned(&rt, word),
         "check" => judged(&rt),
         "pairs" => paired(&rt, number),
+        "hashes" => hashed(&rt, number),
         _ => decoded(&rt),
     }
 }

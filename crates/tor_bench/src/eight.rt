@@ -1,0 +1,124 @@
+//! Hashing eight messages at once, and one after another by the kit's crates.
+ghost use Rattle.std.specs.Prelude.{◌≡◌, IfOk, vec_len};
+
+use sha1::Sha1;
+use sha2::{Digest, Sha256};
+use std::alloc::{AllocError, Global};
+use std::io::Result;
+use std::time::Instant;
+use tor_hashes::{block_hashes, node_hashes, piece_hashes};
+
+const BLOCK: usize = 16384;
+
+const NODE: usize = 64;
+
+/// Eight pieces are hashed again and again.
+const PIECE: usize = 1 << 18;
+
+/// How messages are hashed.
+#[derive(Clone, Copy)]
+enum Way {
+    Blocks,
+    EightBlocks,
+    Nodes,
+    EightNodes,
+    Pieces,
+    EightPieces,
+}
+
+const WAYS: [(&str, Way); 6] = [
+    ("blocks", Way::Blocks),
+    ("eight-blocks", Way::EightBlocks),
+    ("nodes", Way::Nodes),
+    ("eight-nodes", Way::EightNodes),
+    ("pieces", Way::Pieces),
+    ("eight-pieces", Way::EightPieces),
+];
+
+/// Prints for each way the microseconds that so many times eight pieces of bytes take.
+pub fn hashed(rt: &HostRuntime, count: usize) -> Result<()> {
+    let bytes = zeros(rt.alloc(), 8 * PIECE)?;
+    'ways: for (name, way) in WAYS {
+        let start = Instant::now(rt)?;
+        let mut seen = 0;
+        'times: for _ in 0..count {
+            seen ^= hashed_by(way, &bytes);
+        }
+        let taken = start.elapsed(rt)?.as_micros();
+        println!(rt; "{name} {taken} {seen}")?;
+    }
+    Ok(())
+}
+
+/// The first byte of each hash, joined.
+fn hashed_by(way: Way, bytes: &[u8]) -> u8 {
+    match way {
+        Way::Blocks => blocks(bytes),
+        Way::EightBlocks => eight_blocks(bytes),
+        Way::Nodes => nodes(bytes),
+        Way::EightNodes => eight_nodes(bytes),
+        Way::Pieces => pieces(bytes),
+        Way::EightPieces => eight_pieces(bytes),
+    }
+}
+
+fn first<const N: usize>(hash: &[u8; N]) -> u8 {
+    hash.first().copied().unwrap_or(0)
+}
+
+fn blocks(bytes: &[u8]) -> u8 {
+    let mut seen = 0;
+    'blocks: for block in bytes.chunks_exact(BLOCK) {
+        seen ^= first(&Sha256::digest(block));
+    }
+    seen
+}
+
+fn eight_blocks(bytes: &[u8]) -> u8 {
+    let mut seen = 0;
+    'runs: for run in bytes.chunks_exact(8 * BLOCK) {
+        let [hash, ..] = block_hashes(run);
+        seen ^= first(&hash);
+    }
+    seen
+}
+
+fn nodes(bytes: &[u8]) -> u8 {
+    let mut seen = 0;
+    'nodes: for node in bytes.chunks_exact(NODE) {
+        seen ^= first(&Sha256::digest(node));
+    }
+    seen
+}
+
+fn eight_nodes(bytes: &[u8]) -> u8 {
+    let mut seen = 0;
+    'runs: for run in bytes.chunks_exact(8 * NODE) {
+        let [hash, ..] = node_hashes(run);
+        seen ^= first(&hash);
+    }
+    seen
+}
+
+fn pieces(bytes: &[u8]) -> u8 {
+    let mut seen = 0;
+    'pieces: for piece in bytes.chunks_exact(PIECE) {
+        seen ^= first(&Sha1::digest(piece));
+    }
+    seen
+}
+
+fn eight_pieces(bytes: &[u8]) -> u8 {
+    let mut seen = 0;
+    'runs: for run in bytes.chunks_exact(8 * PIECE) {
+        let [hash, ..] = piece_hashes(run, PIECE);
+        seen ^= first(&hash);
+    }
+    seen
+}
+
+fn zeros(alloc: Global, length: usize) -> std::result::Result<Vec<u8>, AllocError>
+    ensures { IfOk result (λ bytes. vec_len bytes ≡ length) }
+{
+    vec![in alloc; 0; length]
+}
