@@ -5,6 +5,7 @@ ghost use Rattle.sha1.specs.Sha1.{ch, maj, parity};
 
 use crate::words::{Words, and, not, xor};
 
+// Each bit of `x` chooses between those of `y` and `z`.
 #[inline(always)]
 pub(crate) fn ch(x: Words, y: Words, z: Words) -> Words
     ensures { (j : ℕ) → j < 8 → slice_index result j ≡ ch (slice_index x j) (slice_index y j) (slice_index z j) }
@@ -12,6 +13,7 @@ pub(crate) fn ch(x: Words, y: Words, z: Words) -> Words
     xor(and(x, y), and(not(x), z))
 }
 
+// The sum of three bits, without a carry.
 #[inline(always)]
 pub(crate) fn parity(x: Words, y: Words, z: Words) -> Words
     ensures { (j : ℕ) → j < 8 → slice_index result j ≡ parity (slice_index x j) (slice_index y j) (slice_index z j) }
@@ -19,6 +21,7 @@ pub(crate) fn parity(x: Words, y: Words, z: Words) -> Words
     xor(xor(x, y), z)
 }
 
+// The bit that two of three have at the least.
 #[inline(always)]
 pub(crate) fn maj(x: Words, y: Words, z: Words) -> Words
     ensures { (j : ℕ) → j < 8 → slice_index result j ≡ maj (slice_index x j) (slice_index y j) (slice_index z j) }

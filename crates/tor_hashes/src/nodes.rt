@@ -21,6 +21,7 @@ fn padding_round(v: [Words; 8], t: usize) -> [Words; 8]
     round(v, K[t], same(PADDING[t]))
 }
 
+// Four rounds of it from t on.
 #[inline(always)]
 fn four_padding_rounds(v: [Words; 8], t: usize) -> [Words; 8]
     requires { t + 4 ≤ 64 }

@@ -8,6 +8,7 @@ ghost use Rattle.tor_hashes.specs.Lanes.{five_of, window};
 use crate::sha1_round::{ch_round, first_round, last_round, maj_round, parity_round};
 use crate::words::Words;
 
+// Four rounds from t on, with words of the block.
 #[inline(always)]
 fn four_first_rounds(w: &[Words; 16], v: [Words; 5], t: usize) -> [Words; 5]
     requires { t + 4 ≤ 16 }
@@ -44,6 +45,7 @@ pub(crate) fn ch_rounds(w: &mut [Words; 16], v: [Words; 5]) -> [Words; 5]
     ch_round(w, v, 19)
 }
 
+// Five rounds from t on.
 #[inline(always)]
 fn five_parity_rounds(w: &mut [Words; 16], v: [Words; 5], t: usize) -> [Words; 5]
     requires least { 20 ≤ t }
@@ -70,6 +72,7 @@ pub(crate) fn parity_rounds(w: &mut [Words; 16], v: [Words; 5]) -> [Words; 5]
     five_parity_rounds(w, v, 35)
 }
 
+// Five rounds from t on.
 #[inline(always)]
 fn five_maj_rounds(w: &mut [Words; 16], v: [Words; 5], t: usize) -> [Words; 5]
     requires least { 40 ≤ t }
@@ -96,6 +99,7 @@ pub(crate) fn maj_rounds(w: &mut [Words; 16], v: [Words; 5]) -> [Words; 5]
     five_maj_rounds(w, v, 55)
 }
 
+// Five rounds from t on.
 #[inline(always)]
 fn five_last_rounds(w: &mut [Words; 16], v: [Words; 5], t: usize) -> [Words; 5]
     requires least { 60 ≤ t }

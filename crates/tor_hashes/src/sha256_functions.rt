@@ -5,6 +5,7 @@ ghost use Rattle.sha2.specs.Sha256.{big_sigma0, big_sigma1, small_sigma0, small_
 
 use crate::words::{Words, rotated_right, shifted_right, xor};
 
+// Of the working variable a.
 #[inline(always)]
 pub(crate) fn big_sigma0(x: Words) -> Words
     ensures { (j : ℕ) → j < 8 → slice_index result j ≡ big_sigma0 (slice_index x j) }
@@ -15,6 +16,7 @@ pub(crate) fn big_sigma0(x: Words) -> Words
     )
 }
 
+// Of the working variable e.
 #[inline(always)]
 pub(crate) fn big_sigma1(x: Words) -> Words
     ensures { (j : ℕ) → j < 8 → slice_index result j ≡ big_sigma1 (slice_index x j) }
@@ -25,6 +27,7 @@ pub(crate) fn big_sigma1(x: Words) -> Words
     )
 }
 
+// Of the word of the schedule fifteen places before.
 #[inline(always)]
 pub(crate) fn small_sigma0(x: Words) -> Words
     ensures { (j : ℕ) → j < 8 → slice_index result j ≡ small_sigma0 (slice_index x j) }
@@ -35,6 +38,7 @@ pub(crate) fn small_sigma0(x: Words) -> Words
     )
 }
 
+// Of the word of the schedule two places before.
 #[inline(always)]
 pub(crate) fn small_sigma1(x: Words) -> Words
     ensures { (j : ℕ) → j < 8 → slice_index result j ≡ small_sigma1 (slice_index x j) }

@@ -49,6 +49,7 @@ fn first_round(w: &[Words; 16], v: [Words; 8], t: usize) -> [Words; 8]
     round(v, K[t], w[t])
 }
 
+// Four rounds from t on, with words of the block.
 #[inline(always)]
 fn four_first_rounds(w: &[Words; 16], v: [Words; 8], t: usize) -> [Words; 8]
     requires { t + 4 ≤ 16 }
@@ -85,6 +86,7 @@ fn next_round(w: &mut [Words; 16], v: [Words; 8], t: usize) -> [Words; 8]
     round(v, K[t], word)
 }
 
+// Four rounds from t on, with words that follow.
 #[inline(always)]
 fn four_next_rounds(w: &mut [Words; 16], v: [Words; 8], t: usize) -> [Words; 8]
     requires least { 16 ≤ t }
