@@ -5,39 +5,48 @@ use crate::tests::{fed_of, whole_of};
 use std::alloc::AllocError;
 use std::process::Abort;
 
-// A byte fewer than so many blocks, those blocks, and a byte more: of 7, 8, 9, 16 and 17 blocks.
-const LENGTHS: &[usize] = &[
-    114_687, 114_688, 114_689, 131_071, 131_072, 131_073, 147_455, 147_456, 147_457, 262_143,
-    262_144, 262_145, 278_527, 278_528, 278_529,
+// A byte fewer than so many blocks, those blocks, and a byte more: of 7, 8, 9, 16 and 17 blocks. Beside each the length
+// of a piece: a block, four, or sixteen.
+const ROWS: &[(usize, u64)] = &[
+    (114_687, 16_384),
+    (114_688, 65_536),
+    (114_689, 262_144),
+    (131_071, 65_536),
+    (131_072, 16_384),
+    (131_073, 65_536),
+    (147_455, 16_384),
+    (147_456, 262_144),
+    (147_457, 65_536),
+    (262_143, 262_144),
+    (262_144, 65_536),
+    (262_145, 16_384),
+    (278_527, 65_536),
+    (278_528, 16_384),
+    (278_529, 262_144),
 ];
 
-// Pieces of one block, of four and of sixteen.
-const PIECE_LENGTHS: &[u64] = &[16_384, 65_536, 262_144];
-
-// Parts of all bytes, of six blocks and some bytes, and of eight blocks and a byte.
-const PARTS: &[usize] = &[1 << 20, 100_000, 131_073];
-
-// Whether a feed of parts of so many bytes tells what the plain program tells.
+// Whether a feed tells what the plain program tells, at one time and in parts of six blocks and some bytes.
 fn agrees<R: AllocGlobal + Abort>(
     rt: &R,
     length: usize,
     piece_length: u64,
-    part: usize,
 ) -> Result<bool, AllocError> {
     let (root, layer) = whole_of(rt, length, piece_length)?;
-    let (fed_root, fed_layer) = fed_of(rt, length, piece_length, part)?;
-    Ok(fed_root.as_str() == root.as_str() && fed_layer.as_slice() == layer.as_slice())
+    let (fed_root, fed_layer) = fed_of(rt, length, piece_length, 1 << 20)?;
+    let (parts_root, parts_layer) = fed_of(rt, length, piece_length, 100_000)?;
+    let roots = fed_root.as_str() == root.as_str() && parts_root.as_str() == root.as_str();
+    Ok(
+        roots
+            && fed_layer.as_slice() == layer.as_slice()
+            && parts_layer.as_slice() == layer.as_slice(),
+    )
 }
 
 #[test]
 fn feeds_runs_as_the_plain_program(rt: HostRuntime) -> Result<(), AllocError> {
-    for length in LENGTHS {
-        for piece_length in PIECE_LENGTHS {
-            for part in PARTS {
-                let same = agrees(&rt, *length, *piece_length, *part)?;
-                assert!(rt; same, "at {length}, {piece_length}, {part}");
-            }
-        }
+    for (length, piece_length) in ROWS {
+        let same = agrees(&rt, *length, *piece_length)?;
+        assert!(rt; same, "at {length}, {piece_length}");
     }
     Ok(())
 }
