@@ -1,6 +1,7 @@
 -- Sums that are fed runs of eight whole pieces, whose hashes are told at once.
 use Rattle.std.proofs.Common.{◌≡◌, ℕ, ◌+◌, ◌*◌, ◌/◌, ◌%◌, ◌<◌, ◌≤◌, List, [], ◌++◌, map, length, get_or, take, drop}
-use Rattle.std.proofs.Common.{arith, ap, ap₂, ◌∙◌, sym, subst, append-nil, length-append, vec_len, vec_capacity, mul_comm}
+use Rattle.std.proofs.Common.{arith, ap, ap₂, ◌∙◌, sym, subst, append-nil, length-append, vec_len, vec_capacity}
+use Rattle.std.proofs.Common.{mul_comm}
 use Rattle.std.proofs.lemmas.List.{take_all, drop_all}
 use Rattle.std.proofs.lemmas.List.Folds.{flat_map-map}
 use Rattle.std.proofs.lemmas.List.FromFn.{fill_by_all}

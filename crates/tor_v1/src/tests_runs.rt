@@ -1,5 +1,5 @@
-//! Runs of eight whole pieces, which are hashed at once: contents of about so many pieces, fed at one time and in parts.
-//! Hashes in hexadecimal were computed by another program (Python's hashlib).
+//! Runs of eight whole pieces, which are hashed at once: contents of about so many pieces, fed at one time and in
+//! parts. Hashes in hexadecimal were computed by another program (Python's hashlib).
 
 use crate::sums::PieceSums;
 use crate::tests::hex;
