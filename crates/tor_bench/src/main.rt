@@ -6,8 +6,9 @@
 //! makes so many paths, `list COUNT` a list of them too, and `lists COUNT` writes its tree and reads that back;
 //! `padded COUNT` makes a hybrid of so many small files; `scan FOLDER` lists a folder. `check 1` judges standard input,
 //! and `pairs COUNT` joins so many hashes; `hashes COUNT` hashes so many times 2 MiB, message by message and by eight.
-//! `decode`, `lists`, `padded`, `scan`, `check`, `pairs` and `hashes` print microseconds. Lists are in `lists.rt`, the hybrid in
-//! `padded.rt`, the hashes over all in `plain.rt`, the judging in `foreign.rt`, the hashing by eight in `eight.rt`.
+//! `decode`, `lists`, `padded`, `scan`, `check`, `pairs` and `hashes` print microseconds. Lists are in `lists.rt`, the
+//! hybrid in `padded.rt`, the hashes over all in `plain.rt`, the judging in `foreign.rt`, the hashing by eight in
+//! `eight.rt`.
 #![tactic(auto)]
 
 ghost use Rattle.std.specs.Prelude.{◌≡◌, IfOk, vec_len};

@@ -1,7 +1,7 @@
 //! An input that is read to its end, part by part, within a limit, and the torrent of what it has.
 //!
-//! - [`read_parts`], [`read_limited`], [`drop_input`] (`input.rt`): what a reader has, handed on, kept, or dropped, or the
-//!   [`InputFault`] that ended it. [`Intake`] (`intake.rt`): what takes the parts.
+//! - [`read_parts`], [`read_limited`], [`drop_input`] (`input.rt`): what a reader has, handed on, kept, or dropped, or
+//!   the [`InputFault`] that ended it. [`Intake`] (`intake.rt`): what takes the parts.
 //! - [`make_from`], [`torrent_from`] (`make.rt`): the torrent of what a reader has, in a writer or as bytes, or the
 //!   [`FromFault`] for which there is none.
 //!
