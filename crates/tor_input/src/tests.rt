@@ -93,7 +93,10 @@ fn makes_one_torrent_however_much_a_read_gives(rt: HostRuntime) -> std::result::
         };
         let mut torrent = Vec::new(rt.alloc());
         let made = make_from(rt.alloc(), &mut reader, &mut torrent, &order);
-        assert!(rt; made.is_ok() && torrent.as_slice() == ABC, "{step} a read");
+        assert!(rt;
+            made.is_ok() && torrent.as_slice() == ABC.as_slice(),
+            "{step} a read"
+        );
     }
     Ok(())
 }
