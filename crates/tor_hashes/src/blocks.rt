@@ -8,6 +8,8 @@ use crate::sha256_block::{after_block, after_blocks};
 use crate::sha256_digest::digests;
 use crate::words::{Words, same};
 
+const BLOCK_LENGTH: usize = 16384;
+
 // The words of the padding of 16,384 bytes, which is a block of its own (FIPS 180-4, 5.1.1): a one, zeros, and
 // the length in bits.
 fn padding_words() -> [Words; 16]
@@ -15,7 +17,7 @@ fn padding_words() -> [Words; 16]
 {
     let one = same(0x80000000);
     let zero = same(0);
-    let length = same(16384 * 8);
+    let length = same(BLOCK_LENGTH as u32 * 8);
     [
         one, zero, zero, zero, zero, zero, zero, zero, zero, zero, zero, zero, zero, zero, zero,
         length,
@@ -24,10 +26,10 @@ fn padding_words() -> [Words; 16]
 
 /// The SHA-256 of each of eight blocks of 16,384 bytes that lie one after another (FIPS 180-4).
 pub fn block_hashes(blocks: &[u8]) -> [[u8; 32]; 8]
-    requires { length blocks.now ≡ 131072 }
+    requires { length blocks.now ≡ 8 * 16384 }
     ensures { (i : ℕ) → i < 8 → slice_index_or result i [] ≡ sha256 (take 16384 (drop (16384 * i) blocks.now)) }
 {
-    let hash = after_blocks(blocks, 16384, 256);
+    let hash = after_blocks(blocks, BLOCK_LENGTH, BLOCK_LENGTH / 64);
     let last = after_block(padding_words(), hash);
     digests(&last)
 }

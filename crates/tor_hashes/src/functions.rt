@@ -1,7 +1,7 @@
-//! The functions on words that SHA-1 and SHA-256 share (FIPS 180-4, 4.1.1 and 4.1.2), and Parity of SHA-1.
+//! The functions on words that SHA-1 and SHA-256 share (FIPS 180-4, 4.1.1 and 4.1.2).
 
 ghost use Rattle.std.specs.Prelude.{◌≡◌, ℕ, ◌<◌, slice_index};
-ghost use Rattle.sha1.specs.Sha1.{ch, maj, parity};
+ghost use Rattle.sha1.specs.Sha1.{ch, maj};
 
 use crate::words::{Words, and, not, xor};
 
@@ -11,14 +11,6 @@ pub(crate) fn ch(x: Words, y: Words, z: Words) -> Words
     ensures { (j : ℕ) → j < 8 → slice_index result j ≡ ch (slice_index x j) (slice_index y j) (slice_index z j) }
 {
     xor(and(x, y), and(not(x), z))
-}
-
-// The sum of three bits, without a carry.
-#[inline(always)]
-pub(crate) fn parity(x: Words, y: Words, z: Words) -> Words
-    ensures { (j : ℕ) → j < 8 → slice_index result j ≡ parity (slice_index x j) (slice_index y j) (slice_index z j) }
-{
-    xor(xor(x, y), z)
 }
 
 // The bit that two of three have at the least.

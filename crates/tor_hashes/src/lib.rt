@@ -18,8 +18,8 @@
 //! Below them, named after the standard's parts: `words.rt` has words side by side, `block_words.rt` reads them,
 //! `functions.rt` has what both hashes do with them. Each hash has its constants, its rounds, its hash value block
 //! after block, and its digests: `sha256_constants.rt`, `sha256_functions.rt`, `sha256_rounds.rt`, `sha256_block.rt`,
-//! `sha256_digest.rt`; `sha1_constants.rt`, `sha1_round.rt` (a round of each kind), `sha1_rounds.rt`,
-//! `sha1_block.rt`, `sha1_digest.rt`.
+//! `sha256_digest.rt`; `sha1_constants.rt`, `sha1_functions.rt`, `sha1_rounds.rt`, `sha1_block.rt`,
+//! `sha1_digest.rt`.
 //!
 //! What is done in each block is `#[inline(always)]`, so that the places in the schedule are known when it is compiled.
 #![tactic(auto)]
@@ -33,7 +33,7 @@ mod pieces;
 mod sha1_block;
 mod sha1_constants;
 mod sha1_digest;
-mod sha1_round;
+mod sha1_functions;
 mod sha1_rounds;
 mod sha256_block;
 mod sha256_constants;

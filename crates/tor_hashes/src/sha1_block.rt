@@ -6,7 +6,7 @@ ghost use Rattle.tor_hashes.specs.Lanes.{five_of, window, AreWordsOf};
 
 use crate::block_words::words_of_blocks;
 use crate::sha1_constants::INITIAL;
-use crate::sha1_rounds::{ch_rounds, first_rounds, last_rounds, maj_rounds, parity_rounds};
+use crate::sha1_rounds::{first_rounds, next_rounds};
 use crate::words::{Words, add, same};
 
 // The initial hash value, of each message.
@@ -40,10 +40,10 @@ pub(crate) fn after_block(words: [Words; 16], hash: [Words; 5]) -> [Words; 5]
 {
     let mut w = words;
     let v = first_rounds(&w, hash);
-    let v = ch_rounds(&mut w, v);
-    let v = parity_rounds(&mut w, v);
-    let v = maj_rounds(&mut w, v);
-    let v = last_rounds(&mut w, v);
+    let v = next_rounds(&mut w, v, 16);
+    let v = next_rounds(&mut w, v, 32);
+    let v = next_rounds(&mut w, v, 48);
+    let v = next_rounds(&mut w, v, 64);
     added(hash, v)
 }
 

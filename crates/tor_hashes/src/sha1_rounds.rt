@@ -1,12 +1,51 @@
-//! The 80 rounds of SHA-1 on a block of each of eight messages (FIPS 180-4, 6.1.2, step 3), which
-//! `sha1_round.rt` does one at a time.
+//! The 80 rounds of SHA-1 on a block of each of eight messages (FIPS 180-4, 6.1.2, steps 1 to 3).
+//!
+//! Of the schedule W the last sixteen words are kept: W of t is at place t % 16.
 
-ghost use Rattle.std.specs.Prelude.{◌≡◌, ℕ, ◌+◌, ◌<◌, ◌≤◌, List};
-ghost use Rattle.sha1.specs.Sha1.{rounds, schedule, IsRoundsAt, IsWindow};
+ghost use Rattle.std.specs.Prelude.{◌≡◌, ℕ, ◌+◌, ◌%◌, ◌<◌, ◌≤◌, List, slice_index, slice_set};
+ghost use Rattle.sha1.specs.Sha1.{round, rounds, schedule, window_word, IsRoundsAt, IsWindow};
 ghost use Rattle.tor_hashes.specs.Lanes.{five_of, window};
 
-use crate::sha1_round::{ch_round, first_round, last_round, maj_round, parity_round};
-use crate::words::Words;
+use crate::sha1_functions::{constant, function};
+use crate::words::{Words, add, rotated_left, same, xor};
+
+// One round on the working variables, with a value of f, a word of K and one of W.
+#[inline(always)]
+fn round(v: [Words; 5], f: Words, k: u32, word: Words) -> [Words; 5]
+    ensures { (j : ℕ) → j < 8
+        → five_of j result ≡ round (five_of j v) (slice_index f j) k (slice_index word j) }
+{
+    let [a, b, c, d, e] = v;
+    let sum1 = add(rotated_left(a, 5), f);
+    let sum2 = add(sum1, e);
+    let sum3 = add(sum2, same(k));
+    [add(sum3, word), a, rotated_left(b, 30), c, d]
+}
+
+// W of t, for t from 16 on, in the place of W of t - 16.
+#[inline(always)]
+fn next_word(w: &mut [Words; 16], t: usize) -> Words
+    requires { t < 80 }
+    ensures value { (j : ℕ) → j < 8 → slice_index result j ≡ window_word (window j w.old) t }
+    ensures window { w.new ≡ slice_set w.old (t % 16) result }
+{
+    let sum1 = xor(w[(t + 13) % 16], w[(t + 8) % 16]);
+    let sum2 = xor(sum1, w[(t + 2) % 16]);
+    let word = rotated_left(xor(sum2, w[t % 16]), 1);
+    w[t % 16] = word;
+    word
+}
+
+// Round t, for t below 16.
+#[inline(always)]
+fn first_round(w: &[Words; 16], v: [Words; 5], t: usize) -> [Words; 5]
+    requires { t < 16 }
+    ensures { (j : ℕ) (b h : List ℕ) → j < 8 → IsWindow (window j w.now) (schedule b 64) 16
+        → five_of j v ≡ rounds h (schedule b 64) t → five_of j result ≡ rounds h (schedule b 64) (t + 1) }
+{
+    let f = function(t, v[1], v[2], v[3]);
+    round(v, f, constant(t), w[t])
+}
 
 // Four rounds from t on, with words of the block.
 #[inline(always)]
@@ -21,7 +60,7 @@ fn four_first_rounds(w: &[Words; 16], v: [Words; 5], t: usize) -> [Words; 5]
     first_round(w, v, t + 3)
 }
 
-// The rounds below 16, with the words of the block.
+// The rounds with the words of the block.
 #[inline(always)]
 pub(crate) fn first_rounds(w: &[Words; 16], v: [Words; 5]) -> [Words; 5]
     ensures { (j : ℕ) (b h : List ℕ) → j < 8 → IsWindow (window j w.now) (schedule b 64) 16
@@ -33,95 +72,43 @@ pub(crate) fn first_rounds(w: &[Words; 16], v: [Words; 5]) -> [Words; 5]
     four_first_rounds(w, v, 12)
 }
 
-// The rounds from 16 and below 20.
+// Round t, for t from 16 on.
 #[inline(always)]
-pub(crate) fn ch_rounds(w: &mut [Words; 16], v: [Words; 5]) -> [Words; 5]
-    ensures { (j : ℕ) (b h : List ℕ) → j < 8 → IsRoundsAt b h (window j w.old) (five_of j v) 16
-        → IsRoundsAt b h (window j w.new) (five_of j result) 20 }
-{
-    let v = ch_round(w, v, 16);
-    let v = ch_round(w, v, 17);
-    let v = ch_round(w, v, 18);
-    ch_round(w, v, 19)
-}
-
-// Five rounds from t on.
-#[inline(always)]
-fn five_parity_rounds(w: &mut [Words; 16], v: [Words; 5], t: usize) -> [Words; 5]
-    requires least { 20 ≤ t }
-    requires most { t + 5 ≤ 40 }
+fn next_round(w: &mut [Words; 16], v: [Words; 5], t: usize) -> [Words; 5]
+    requires least { 16 ≤ t }
+    requires most { t < 80 }
     ensures { (j : ℕ) (b h : List ℕ) → j < 8 → IsRoundsAt b h (window j w.old) (five_of j v) t
-        → IsRoundsAt b h (window j w.new) (five_of j result) (t + 5) }
+        → IsRoundsAt b h (window j w.new) (five_of j result) (t + 1) }
 {
-    let v = parity_round(w, v, t);
-    let v = parity_round(w, v, t + 1);
-    let v = parity_round(w, v, t + 2);
-    let v = parity_round(w, v, t + 3);
-    parity_round(w, v, t + 4)
+    let word = next_word(w, t);
+    let f = function(t, v[1], v[2], v[3]);
+    round(v, f, constant(t), word)
 }
 
-// The rounds from 20 and below 40.
+// Four rounds from t on, with words that follow.
 #[inline(always)]
-pub(crate) fn parity_rounds(w: &mut [Words; 16], v: [Words; 5]) -> [Words; 5]
-    ensures { (j : ℕ) (b h : List ℕ) → j < 8 → IsRoundsAt b h (window j w.old) (five_of j v) 20
-        → IsRoundsAt b h (window j w.new) (five_of j result) 40 }
-{
-    let v = five_parity_rounds(w, v, 20);
-    let v = five_parity_rounds(w, v, 25);
-    let v = five_parity_rounds(w, v, 30);
-    five_parity_rounds(w, v, 35)
-}
-
-// Five rounds from t on.
-#[inline(always)]
-fn five_maj_rounds(w: &mut [Words; 16], v: [Words; 5], t: usize) -> [Words; 5]
-    requires least { 40 ≤ t }
-    requires most { t + 5 ≤ 60 }
+fn four_next_rounds(w: &mut [Words; 16], v: [Words; 5], t: usize) -> [Words; 5]
+    requires least { 16 ≤ t }
+    requires most { t + 4 ≤ 80 }
     ensures { (j : ℕ) (b h : List ℕ) → j < 8 → IsRoundsAt b h (window j w.old) (five_of j v) t
-        → IsRoundsAt b h (window j w.new) (five_of j result) (t + 5) }
+        → IsRoundsAt b h (window j w.new) (five_of j result) (t + 4) }
 {
-    let v = maj_round(w, v, t);
-    let v = maj_round(w, v, t + 1);
-    let v = maj_round(w, v, t + 2);
-    let v = maj_round(w, v, t + 3);
-    maj_round(w, v, t + 4)
+    let v = next_round(w, v, t);
+    let v = next_round(w, v, t + 1);
+    let v = next_round(w, v, t + 2);
+    next_round(w, v, t + 3)
 }
 
-// The rounds from 40 and below 60.
+// Sixteen rounds with words that follow from those before them.
 #[inline(always)]
-pub(crate) fn maj_rounds(w: &mut [Words; 16], v: [Words; 5]) -> [Words; 5]
-    ensures { (j : ℕ) (b h : List ℕ) → j < 8 → IsRoundsAt b h (window j w.old) (five_of j v) 40
-        → IsRoundsAt b h (window j w.new) (five_of j result) 60 }
-{
-    let v = five_maj_rounds(w, v, 40);
-    let v = five_maj_rounds(w, v, 45);
-    let v = five_maj_rounds(w, v, 50);
-    five_maj_rounds(w, v, 55)
-}
-
-// Five rounds from t on.
-#[inline(always)]
-fn five_last_rounds(w: &mut [Words; 16], v: [Words; 5], t: usize) -> [Words; 5]
-    requires least { 60 ≤ t }
-    requires most { t + 5 ≤ 80 }
+pub(crate) fn next_rounds(w: &mut [Words; 16], v: [Words; 5], t: usize) -> [Words; 5]
+    requires least { 16 ≤ t }
+    requires most { t + 16 ≤ 80 }
     ensures { (j : ℕ) (b h : List ℕ) → j < 8 → IsRoundsAt b h (window j w.old) (five_of j v) t
-        → IsRoundsAt b h (window j w.new) (five_of j result) (t + 5) }
+        → IsRoundsAt b h (window j w.new) (five_of j result) (t + 16) }
 {
-    let v = last_round(w, v, t);
-    let v = last_round(w, v, t + 1);
-    let v = last_round(w, v, t + 2);
-    let v = last_round(w, v, t + 3);
-    last_round(w, v, t + 4)
-}
-
-// The rounds from 60 on.
-#[inline(always)]
-pub(crate) fn last_rounds(w: &mut [Words; 16], v: [Words; 5]) -> [Words; 5]
-    ensures { (j : ℕ) (b h : List ℕ) → j < 8 → IsRoundsAt b h (window j w.old) (five_of j v) 60
-        → IsRoundsAt b h (window j w.new) (five_of j result) 80 }
-{
-    let v = five_last_rounds(w, v, 60);
-    let v = five_last_rounds(w, v, 65);
-    let v = five_last_rounds(w, v, 70);
-    five_last_rounds(w, v, 75)
+    let v = four_next_rounds(w, v, t);
+    let v = four_next_rounds(w, v, t + 4);
+    let v = four_next_rounds(w, v, t + 8);
+    four_next_rounds(w, v, t + 12)
 }

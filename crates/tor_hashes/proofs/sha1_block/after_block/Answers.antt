@@ -10,8 +10,8 @@ returns c = λ j b lt held.
     let h = five_of j c.args.hash in
     let first = IsWindow_first b (window j c.args.words) held.0 held.1 in
     let s0 = c.first_rounds-v.ensures j b h lt first refl in
-    let s1 = c.ch_rounds-v.ensures j b h lt (first, s0) in
-    let s2 = c.parity_rounds-v.ensures j b h lt s1 in
-    let s3 = c.maj_rounds-v.ensures j b h lt s2 in
-    let s4 = c.last_rounds-v.ensures j b h lt s3 in
+    let s1 = c.next_rounds-v.ensures j b h lt (first, s0) in
+    let s2 = c.next_rounds-v-2.ensures j b h lt s1 in
+    let s3 = c.next_rounds-v-3.ensures j b h lt s2 in
+    let s4 = c.next_rounds-v-4.ensures j b h lt s3 in
     c.added.ensures j lt ∙ ap (add_state h) s4.1

@@ -1,6 +1,6 @@
 use Rattle.std.proofs.Common.{◌≡◌, ◌+◌, ◌%◌, arith, refl, length}
 use Rattle.tor_hashes.proofs.Lanes.{word_of_window}
-use Rattle.tor_hashes.proofs.sha1_round.next_word.Goals as goal
+use Rattle.tor_hashes.proofs.sha1_rounds.next_word.Goals as goal
 
 pub returns-clause-value : goal.returns-clause-value
 returns-clause-value c j h =
