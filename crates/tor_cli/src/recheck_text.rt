@@ -45,35 +45,14 @@ pub fn counted_report<S: Source, T: Threads + Sync>(
     ensures gave { IfErr result (IsGiven (S.gave source.now)) }
 {
     let counting = Counting { source, progress };
-    let answer = report_of(rt, alloc, &counting, torrent);
+    let rechecked = recheck(rt, alloc, &counting, torrent, How::One);
     if let Some(progress) = &counting.progress {
         progress.erase();
     }
-    answer
-}
-
-/// What is told of the torrent's pieces in a source.
-pub fn report_of<S: Source, T: Threads + Sync>(
-    rt: &T,
-    alloc: Global,
-    source: &S,
-    torrent: &Torrent,
-) -> Result<Report, RecheckError<S::Fault>>
-    ensures told { IfOk result (λ report. (bits : List Bool) × (length bits ≡ torrent.now.piece_count)
-        × IsReport bits (string_bytes report.text) report.answer) }
-    ensures found { (facts : SourceFacts S.Fault) → S.is_steady source.now facts →
-        MatchResult result
-        (λ report. IsReport (verified_pieces torrent.now (contents_in facts (length torrent.now.files)))
-        (string_bytes report.text) report.answer × (first_fault facts torrent.now ≡ None))
-        (IsFault (first_fault facts torrent.now)) }
-    ensures allowed { IfErr result (λ error. error ≢ Workers) }
-    ensures gave { IfErr result (IsGiven (S.gave source.now)) }
-{
-    let bits = match recheck(rt, alloc, source, torrent, How::One) {
-        Ok(bits) => bits,
-        Err(error) => return Err(error),
-    };
-    Ok(report_on(alloc, &bits)?)
+    match rechecked {
+        Ok(bits) => Ok(report_on(alloc, &bits)?),
+        Err(error) => Err(error),
+    }
 }
 
 fn report_on(alloc: Global, bits: &Bits) -> Result<Report, AllocError>

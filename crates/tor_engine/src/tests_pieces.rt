@@ -1,7 +1,8 @@
 //! The hashes of the pieces of `ab` and `c`; the hashes are of Python's hashlib.
 
 use super::*;
-use crate::tests::{Changing, plan_of};
+use crate::tests::plan_of;
+use crate::tests_faults::Changing;
 use std::alloc::{AllocError, Global};
 use std::process::Abort;
 use std::sync::atomic::AtomicU64;

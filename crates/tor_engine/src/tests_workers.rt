@@ -76,3 +76,76 @@ fn no_more_workers_read_than_were_asked_for(rt: HostRuntime) -> Result<(), Fail>
     }
     Ok(())
 }
+
+/// No other read came.
+#[derive(Debug, Drop)]
+struct Alone;
+
+/// A file of zeros, whose first read waits until a second one has begun. That is one of another worker, since the first
+/// worker waits.
+#[derive(Drop)]
+struct Meeting {
+    length: u64,
+    /// How often the first read looks for another.
+    turns: u64,
+    begun: AtomicU64,
+}
+
+impl Source for Meeting {
+    type Fault = Alone;
+
+    ghost is_steady = { λ _ _. ⊥ };
+
+    ghost gave = { λ _ _ _ _. Unit {0} };
+
+    fn length(&self, _file: u64) -> Result<Option<u64>, Alone> {
+        Ok(Some(self.length))
+    }
+
+    fn read_at(&self, _file: u64, _start: u64, buffer: &mut [u8]) -> Result<usize, Alone> {
+        if self.begun.fetch_add(1, SeqCst) > 0 {
+            return Ok(buffer.len());
+        }
+        for _ in 0..self.turns {
+            if self.begun.load(SeqCst) > 1 {
+                return Ok(buffer.len());
+            }
+            yield_now();
+        }
+        Err(Alone)
+    }
+}
+
+const ALONE: &str = "Read { file: 0, start: Some(0), fault: Alone }";
+
+/// The workers, how often the first read looks for another, and the fault.
+const MEETINGS: [(How, u64, &str); 3] = [
+    (How::One, 1000, ALONE),
+    (How::Halves(1), 1000, ALONE),
+    (How::Halves(2), 10_000_000, "none"),
+];
+
+/// Whether the fault of a file of four units is this one.
+fn is_fault_of_meeting<R: AllocGlobal + Abort + Threads + Sync>(
+    rt: &R,
+    how: How,
+    turns: u64,
+    wanted: &str,
+) -> Result<bool, Fail> {
+    let plan = plan_of(rt, &[65536], Kind::V2, 16384, 1)?;
+    assert_eq!(rt; plan.units().len(), 4);
+    let source = Meeting {
+        length: 65536,
+        turns,
+        begun: AtomicU64::new(0),
+    };
+    Ok(is_fault(rt, &source, &plan, how, wanted)?)
+}
+
+#[test]
+fn workers_meet(rt: HostRuntime) -> Result<(), Fail> {
+    for (how, turns, wanted) in MEETINGS {
+        assert!(rt; is_fault_of_meeting(&rt, how, turns, wanted)?);
+    }
+    Ok(())
+}

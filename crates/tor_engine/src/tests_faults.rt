@@ -1,0 +1,215 @@
+//! Which fault is answered: the first of a source, or that of a file that is missing or has changed.
+
+use super::*;
+use crate::tests::{EACH_HOW, EACH_KIND, content, files_of, is_each_fault, is_fault, plan_of};
+use std::alloc::{AllocError, Global};
+use std::process::Abort;
+use std::sync::atomic::AtomicU64;
+use std::sync::atomic::Ordering::SeqCst;
+use std::test::Fail;
+use std::thread::Threads;
+use tor_source::{FailSource, MemSource, Source};
+use tor_tree::Kind;
+
+/// A fault of a file: for its length, or at a byte; and its number.
+type Place = (u64, Option<u64>, u64);
+
+/// The lengths of files, their faults, and the one that is answered.
+type Faults = (&'static [u64], &'static [Place], &'static str);
+
+const FAULTS: [Faults; 8] = [
+    (
+        &[163840],
+        &[(0, Some(114688), 9), (0, Some(49157), 5)],
+        "Read { file: 0, start: Some(49157), fault: 5 }",
+    ),
+    (
+        &[163840],
+        &[(0, Some(163840), 2), (0, Some(163839), 1)],
+        "Read { file: 0, start: Some(163839), fault: 1 }",
+    ),
+    (
+        &[163840],
+        &[(0, Some(16384), 2), (0, Some(0), 1)],
+        "Read { file: 0, start: Some(0), fault: 1 }",
+    ),
+    (
+        &[40000, 40000],
+        &[(1, Some(0), 3), (0, Some(39999), 4)],
+        "Read { file: 0, start: Some(39999), fault: 4 }",
+    ),
+    (
+        &[40000, 40000],
+        &[(1, Some(9152), 7), (1, Some(9151), 6)],
+        "Read { file: 1, start: Some(9151), fault: 6 }",
+    ),
+    (
+        &[40000, 40000],
+        &[(1, Some(39999), 2)],
+        "Read { file: 1, start: Some(39999), fault: 2 }",
+    ),
+    // All lengths are asked before a byte is read.
+    (
+        &[40000, 40000],
+        &[(0, Some(5), 7), (1, None, 8)],
+        "Read { file: 1, start: None, fault: 8 }",
+    ),
+    (
+        &[40000, 40000],
+        &[(1, None, 8), (0, None, 7)],
+        "Read { file: 0, start: None, fault: 7 }",
+    ),
+];
+
+/// Whether the first fault of a row is answered.
+fn is_first_fault<R: AllocGlobal + Abort + Threads + Sync>(
+    rt: &R,
+    row: &Faults,
+    kind: Kind,
+) -> Result<bool, Fail> {
+    let (lengths, faults, wanted) = *row;
+    let faults = Vec::from_slice(rt.alloc(), faults)?;
+    let source = FailSource::new(files_of(rt.alloc(), lengths)?, faults);
+    let plan = plan_of(rt, lengths, kind, 16384, 1)?;
+    Ok(is_each_fault(rt, &source, &plan, wanted)?)
+}
+
+#[test]
+fn answers_the_first_fault_in_the_order_of_the_plan(rt: HostRuntime) -> Result<(), Fail> {
+    for row in &FAULTS {
+        for kind in EACH_KIND {
+            assert!(rt; is_first_fault(&rt, row, kind)?);
+        }
+    }
+    Ok(())
+}
+
+/// A file that others change: how long it is told to be at first, and when it is asked again, and how many bytes it
+/// gives; and how often bytes were asked.
+#[derive(Drop)]
+pub(crate) struct Changing {
+    pub(crate) first: Option<u64>,
+    pub(crate) again: Option<u64>,
+    pub(crate) there: u64,
+    pub(crate) lengths: AtomicU64,
+    pub(crate) reads: AtomicU64,
+}
+
+impl Source for Changing {
+    type Fault = u64;
+
+    ghost is_steady = { λ _ _. ⊥ };
+
+    ghost gave = { λ _ _ _ _. Unit {0} };
+
+    fn length(&self, _file: u64) -> Result<Option<u64>, u64> {
+        match self.lengths.fetch_add(1, SeqCst) {
+            0 => Ok(self.first),
+            _ => Ok(self.again),
+        }
+    }
+
+    fn read_at(&self, _file: u64, start: u64, buffer: &mut [u8]) -> Result<usize, u64> {
+        self.reads.fetch_add(1, SeqCst);
+        let left = self.there.saturating_sub(start) as usize;
+        Ok(left.min(buffer.len()))
+    }
+}
+
+/// The length at first and again, the bytes, the length in the plan, the fault, and how often bytes are read.
+type Change = ((Option<u64>, Option<u64>), u64, u64, &'static str, u64);
+
+const CHANGED: &str = "Changed { file: 0 }";
+
+const MISSING: &str = "Missing { file: 0 }";
+
+const CHANGES: [Change; 8] = [
+    ((Some(40000), Some(40000)), 40000, 40000, "none", 3),
+    ((Some(40000), Some(40000)), 40000, 39999, CHANGED, 0),
+    ((Some(40000), Some(40000)), 40000, 0, CHANGED, 0),
+    ((None, None), 0, 40000, MISSING, 0),
+    // It ends before the last byte, and so one read more finds nothing.
+    ((Some(40000), Some(40000)), 39999, 40000, CHANGED, 4),
+    ((Some(40000), Some(40001)), 40001, 40000, CHANGED, 3),
+    ((Some(40000), Some(39999)), 40000, 40000, CHANGED, 3),
+    ((Some(40000), None), 40000, 40000, CHANGED, 3),
+];
+
+fn is_change<R: AllocGlobal + Abort + Threads + Sync>(
+    rt: &R,
+    row: &Change,
+    how: How,
+) -> Result<bool, Fail> {
+    let ((first, again), there, planned, wanted, reads) = *row;
+    let plan = plan_of(rt, &[planned], Kind::V2, 16384, 1)?;
+    let source = Changing {
+        first,
+        again,
+        there,
+        lengths: AtomicU64::new(0),
+        reads: AtomicU64::new(0),
+    };
+    Ok(is_fault(rt, &source, &plan, how, wanted)? && source.reads.load(SeqCst) == reads)
+}
+
+#[test]
+fn answers_a_file_that_changes(rt: HostRuntime) -> Result<(), Fail> {
+    for row in &CHANGES {
+        for how in EACH_HOW {
+            assert!(rt; is_change(&rt, row, how)?);
+        }
+    }
+    Ok(())
+}
+
+/// The files, their lengths in the plan, and the fault.
+type Lengths = (&'static [Option<u64>], &'static [u64], &'static str);
+
+const LENGTHS: [Lengths; 5] = [
+    (
+        &[Some(5), Some(6), Some(7)],
+        &[5, 7, 8],
+        "Changed { file: 1 }",
+    ),
+    (&[Some(5), Some(6)], &[6, 5], "Changed { file: 0 }"),
+    (&[Some(5), Some(0)], &[5, 1], "Changed { file: 1 }"),
+    (&[Some(5), None], &[5, 0], "Missing { file: 1 }"),
+    (&[Some(5), None], &[6, 0], "Missing { file: 1 }"),
+];
+
+/// A content of this length; None stands for a missing file.
+fn file_there(alloc: Global, length: Option<u64>) -> Result<Option<Vec<u8>>, AllocError> {
+    match length {
+        Some(length) => Ok(Some(content(alloc, length)?)),
+        None => Ok(None),
+    }
+}
+
+/// Files of such contents.
+fn files_there(alloc: Global, lengths: &[Option<u64>]) -> Result<MemSource, AllocError> {
+    let mut files = Vec::new(alloc);
+    for length in lengths {
+        files.push(file_there(alloc, *length)?)?;
+    }
+    Ok(MemSource::new(files))
+}
+
+/// Whether the fault of a row is told, and not that of the first byte of its file 0.
+fn is_fault_of_lengths<R: AllocGlobal + Abort + Threads + Sync>(
+    rt: &R,
+    row: &Lengths,
+) -> Result<bool, Fail> {
+    let (lengths, planned, wanted) = *row;
+    let faults = vec![in rt.alloc(); (0, Some(0), 1)]?;
+    let source = FailSource::new(files_there(rt.alloc(), lengths)?, faults);
+    let plan = plan_of(rt, planned, Kind::V2, 16384, 1)?;
+    Ok(is_each_fault(rt, &source, &plan, wanted)?)
+}
+
+#[test]
+fn compares_lengths_when_all_were_told(rt: HostRuntime) -> Result<(), Fail> {
+    for row in &LENGTHS {
+        assert!(rt; is_fault_of_lengths(&rt, row)?);
+    }
+    Ok(())
+}
