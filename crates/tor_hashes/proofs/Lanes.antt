@@ -6,7 +6,7 @@ use Rattle.sha2.specs.Sha256.{word_at}
 use Rattle.std.proofs.lemmas.Simd.{get_or-chunk, get_or-zip2, get_or-replicate, length-zip2, length-replicate}
 use Rattle.std.proofs.lemmas.Bool.{cases_lt}
 use lib.Lanes.{zip2}
-use Rattle.tor_hashes.specs.Lanes.{window}
+use Rattle.tor_hashes.specs.Lanes.{window, word_of}
 
 pub lane_zip2 : (f : ℕ → ℕ → ℕ) (xs ys : List ℕ) (n j : ℕ) → length xs ≡ n → length ys ≡ n → j < n
     → slice_index (zip2 f xs ys) j ≡ f (slice_index xs j) (slice_index ys j)
@@ -69,6 +69,25 @@ below_sixteen P a b c d e f g h i k l m n o p q j lt = elim (cases_lt j 8) [
       let at : 8 + (j - 8) ≡ j = omega arith in
       subst P at (below_eight (λ x. P (8 + x)) i k l m n o p q (j - 8) (omega arith))
 ]
+
+-- sixteen words of message j, of which these are the first and the last eight
+abbrev pub joined : List (List ℕ) → List (List ℕ) → List (List ℕ)
+joined low high =
+    slice_index_or low 0 [] ∷ slice_index_or low 1 [] ∷ slice_index_or low 2 [] ∷ slice_index_or low 3 []
+    ∷ slice_index_or low 4 [] ∷ slice_index_or low 5 [] ∷ slice_index_or low 6 [] ∷ slice_index_or low 7 []
+    ∷ slice_index_or high 0 [] ∷ slice_index_or high 1 [] ∷ slice_index_or high 2 [] ∷ slice_index_or high 3 []
+    ∷ slice_index_or high 4 [] ∷ slice_index_or high 5 [] ∷ slice_index_or high 6 [] ∷ slice_index_or high 7 [] ∷ []
+
+pub words_of_halves : (low high : List (List ℕ)) (b : List ℕ) (j p : ℕ)
+    → ((k : ℕ) → k < 8 → word_of j low k ≡ word_at b (p + 4 * k))
+    → ((k : ℕ) → k < 8 → word_of j high k ≡ word_at b (p + 4 * (8 + k)))
+    → (k : ℕ) → k < 16 → slice_index (window j (joined low high)) k ≡ word_at b (p + 4 * k)
+words_of_halves low high b j p first last =
+    below_sixteen (λ k. slice_index (window j (joined low high)) k ≡ word_at b (p + 4 * k))
+    (first 0 (omega arith)) (first 1 (omega arith)) (first 2 (omega arith)) (first 3 (omega arith))
+    (first 4 (omega arith)) (first 5 (omega arith)) (first 6 (omega arith)) (first 7 (omega arith))
+    (last 0 (omega arith)) (last 1 (omega arith)) (last 2 (omega arith)) (last 3 (omega arith))
+    (last 4 (omega arith)) (last 5 (omega arith)) (last 6 (omega arith)) (last 7 (omega arith))
 
 -- two shifted vectors, joined
 lane_of_both : (f g : ℕ → ℕ → ℕ) (xs : List ℕ) (n k l j : ℕ) → length xs ≡ n → j < n

@@ -1,3 +1,4 @@
 pub mod Lanes
 pub mod PaddingSha1
 pub mod PaddingSha256
+pub mod Shuffles

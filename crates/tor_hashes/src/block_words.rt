@@ -1,10 +1,14 @@
 //! Reading the words of a block, high byte first (FIPS 180-4, 5.2.1), of eight messages that lie one after another.
+//!
+//! They are read message by message, eight words in a vector, and then transposed: so the memory of a message is met once
+//! a block, however far apart the messages lie.
 
 ghost use Rattle.std.specs.Prelude.{◌≡◌, ℕ, ◌+◌, ◌*◌, ◌<◌, ◌≤◌, length, slice_index};
 ghost use Rattle.sha2.specs.Sha256.{word_at};
-ghost use Rattle.tor_hashes.specs.Lanes.{window, block_of, AreWordsOf};
+ghost use Rattle.tor_hashes.specs.Lanes.{window, word_of, block_of, AreWordsOf};
 
-use crate::words::{Words, same};
+use crate::transposed::transposed;
+use crate::words::Words;
 
 // The word at byte `at`.
 #[inline(always)]
@@ -15,22 +19,40 @@ fn word(bytes: &[u8], at: usize) -> u32
     u32::from_be_bytes([bytes[at], bytes[at + 1], bytes[at + 2], bytes[at + 3]])
 }
 
-// The word at byte `at` of each message. A message has `size` bytes.
+// Eight words one after another, from byte `at` on.
 #[inline(always)]
-fn words_at(bytes: &[u8], size: usize, at: usize) -> Words
-    requires inside { at + 4 ≤ size }
-    requires length { 8 * size ≤ length bytes.now }
-    ensures { (j : ℕ) → j < 8 → slice_index result j ≡ word_at bytes.now (size * j + at) }
+fn eight_words(bytes: &[u8], at: usize) -> Words
+    requires { at + 32 ≤ length bytes.now }
+    ensures { (k : ℕ) → k < 8 → slice_index result k ≡ word_at bytes.now (at + 4 * k) }
 {
     Words::from_array([
         word(bytes, at),
-        word(bytes, size + at),
-        word(bytes, size * 2 + at),
-        word(bytes, size * 3 + at),
-        word(bytes, size * 4 + at),
-        word(bytes, size * 5 + at),
-        word(bytes, size * 6 + at),
-        word(bytes, size * 7 + at),
+        word(bytes, at + 4),
+        word(bytes, at + 8),
+        word(bytes, at + 12),
+        word(bytes, at + 16),
+        word(bytes, at + 20),
+        word(bytes, at + 24),
+        word(bytes, at + 28),
+    ])
+}
+
+// Eight words of each message, from byte `at` on. A message has `size` bytes.
+#[inline(always)]
+fn eight_of_each(bytes: &[u8], size: usize, at: usize) -> [Words; 8]
+    requires inside { at + 32 ≤ size }
+    requires length { 8 * size ≤ length bytes.now }
+    ensures { (j k : ℕ) → j < 8 → k < 8 → word_of j result k ≡ word_at bytes.now (size * j + at + 4 * k) }
+{
+    transposed([
+        eight_words(bytes, at),
+        eight_words(bytes, size + at),
+        eight_words(bytes, size * 2 + at),
+        eight_words(bytes, size * 3 + at),
+        eight_words(bytes, size * 4 + at),
+        eight_words(bytes, size * 5 + at),
+        eight_words(bytes, size * 6 + at),
+        eight_words(bytes, size * 7 + at),
     ])
 }
 
@@ -41,9 +63,7 @@ pub(crate) fn words_of_blocks(bytes: &[u8], size: usize, at: usize) -> [Words; 1
     requires length { 8 * size ≤ length bytes.now }
     ensures { (j : ℕ) → j < 8 → AreWordsOf (block_of bytes.now size at j) (window j result) }
 {
-    let mut words = [same(0); 16];
-    'words: for k in 0..16 {
-        words[k] = words_at(bytes, size, at + 4 * k);
-    }
-    words
+    let [a, b, c, d, e, f, g, h] = eight_of_each(bytes, size, at);
+    let [i, j, k, l, m, n, o, p] = eight_of_each(bytes, size, at + 32);
+    [a, b, c, d, e, f, g, h, i, j, k, l, m, n, o, p]
 }

@@ -15,11 +15,11 @@
 //!   `node_padding.rt` has its words ready.
 //! - [`piece_hashes`] (`pieces.rt`): the SHA-1 of pieces of any number of bytes that is a multiple of 64.
 //!
-//! Below them, named after the standard's parts: `words.rt` has words side by side, `block_words.rt` reads them,
-//! `functions.rt` has what both hashes do with them. Each hash has its constants, its rounds, its hash value block
-//! after block, and its digests: `sha256_constants.rt`, `sha256_functions.rt`, `sha256_rounds.rt`, `sha256_block.rt`,
-//! `sha256_digest.rt`; `sha1_constants.rt`, `sha1_functions.rt`, `sha1_rounds.rt`, `sha1_block.rt`,
-//! `sha1_digest.rt`.
+//! Below them, named after the standard's parts: `words.rt` has words side by side, `block_words.rt` reads them message
+//! by message, `transposed.rt` turns these to word by word, `functions.rt` has what both hashes do with them. Each hash
+//! has its constants, its rounds, its hash value block after block, and its digests: `sha256_constants.rt`,
+//! `sha256_functions.rt`, `sha256_rounds.rt`, `sha256_block.rt`, `sha256_digest.rt`; `sha1_constants.rt`,
+//! `sha1_functions.rt`, `sha1_rounds.rt`, `sha1_block.rt`, `sha1_digest.rt`.
 //!
 //! What is done in each block is `#[inline(always)]`, so that the places in the schedule are known when it is compiled.
 #![tactic(auto)]
@@ -42,6 +42,7 @@ mod sha256_functions;
 mod sha256_rounds;
 #[cfg(test)]
 mod tests;
+mod transposed;
 mod words;
 
 pub use blocks::block_hashes;
