@@ -1,14 +1,12 @@
 -- What one piece hashes to that is there. Laws of lower crates come in as their statements.
-use Rattle.std.proofs.Common.{◌≡◌, ◌<◌, ◌≤◌, ℕ, ◌+◌, ◌*◌, Bool, true, false, ◌&&◌, true≢false, leb, cond, List, [], ◌∷◌}
-use Rattle.std.proofs.Common.{◌++◌, length, take, drop, get_or, Option, None, Some, unwrap_or, sum_by, refl, ap, ap₂}
+use Rattle.std.proofs.Common.{◌≡◌, ◌<◌, ◌≤◌, ℕ, ◌+◌, ◌*◌, Bool, true, false, true≢false, leb, cond, List, [], ◌∷◌}
+use Rattle.std.proofs.Common.{◌++◌, length, drop, get_or, Option, None, Some, refl, ap, ap₂}
 use Rattle.std.proofs.Common.{sym, subst, ◌∙◌, arith, append-nil, inl, inr, ◌⊎◌, ◌/◌, lt_of_mul-lt-mul_right}
-use Rattle.std.specs.Prelude.{MatchResult, Result}
 use Rattle.std.specs.Int.{div_ceil}
 use Rattle.std.specs.List.{AllByRecursion, flat_map, list_all, slice_get}
 use Rattle.std.specs.Simd.{first_chunks}
-use Rattle.std.proofs.lemmas.Bool.{leb-true}
 use Rattle.std.proofs.lemmas.Grind.{div_ceil_times}
-use Rattle.std.proofs.lemmas.List.{length-append, length-drop, length-replicate, length-take-le, take_all}
+use Rattle.std.proofs.lemmas.List.{length-drop, length-replicate, length-take-le, take_all}
 use Rattle.std.proofs.lemmas.List.Elements.{recursion_from_All}
 use Rattle.std.proofs.lemmas.List.Sums.{sum_by-cons}
 use Rattle.tor_merkle.specs.Block.{leaves}
@@ -25,16 +23,12 @@ use Rattle.tor_tree.specs.Kinds.{has_v1, has_v2}
 use Rattle.tor_tree.specs.declared.kinds.Kind.{Kind}
 use Rattle.tor_tree.specs.declared.kinds.Kind.TheVariants.{V1, V2, Hybrid}
 use Rattle.tor_v1.specs.Piece.{piece_sums, zeros}
-use Rattle.tor_engine.specs.Contents.{contents_in}
-use Rattle.tor_engine.specs.Fault.{IsFault, first_of, part_fault, unit_fault}
+use Rattle.tor_engine.specs.Fault.{first_of, part_fault, unit_fault}
 use Rattle.tor_engine.specs.PieceFault.{piece_fault}
 use Rattle.tor_engine.specs.PieceHashes.{hash_if_there, hash_of_parts, merkle_hash, piece_hash}
-use Rattle.tor_engine.specs.declared.errors.EngineError.{EngineError}
-use Rattle.tor_engine.specs.declared.piece_hash.PieceHash.{PieceHash}
 use Rattle.tor_engine.specs.steps.Hashes.{bytes_of_part, hashes_of_bytes}
 use Rattle.tor_engine.specs.steps.Pieces.{IsPaddingSum, IsPiece, first_hashes, part_roots, sums_in}
 use Rattle.tor_engine.specs.steps.Pieces.{unit_hash, unit_roots, unit_sums}
-use Rattle.tor_engine.specs.steps.Reads.{HasParts}
 use Rattle.tor_engine.proofs.ByFile.{RootOfShortContent}
 use Rattle.tor_engine.proofs.FirstOf.{first_of_none}
 use Rattle.tor_engine.proofs.PartsInside.{Inside, parts_in, unit_long}

@@ -1,6 +1,6 @@
 -- What a source's files sum up to, as a plan of them has it and as a head asks for it.
-use Rattle.std.proofs.Common.{◌≡◌, ℕ, zero, suc, ◌+◌, ◌*◌, ◌<◌, ◌≤◌, Bool, true, false, cond, List, [], ◌∷◌, length}
-use Rattle.std.proofs.Common.{map, get_or, nat_lt, option_map, Option, None, Some, refl, ap, ◌∙◌, arith, ◌↔◌, IsTrue}
+use Rattle.std.proofs.Common.{◌≡◌, ℕ, ◌*◌, ◌<◌, ◌≤◌, Bool, true, false, List, [], ◌∷◌, length}
+use Rattle.std.proofs.Common.{map, nat_lt, option_map, Option, None, Some, refl, ap, ◌∙◌, arith, ◌↔◌, IsTrue}
 use Rattle.std.proofs.Common.{mul-le-mul_right}
 use Rattle.std.specs.Int.{is_power_of_two}
 use Rattle.std.specs.List.{flat_map}

@@ -4,7 +4,7 @@ use Rattle.std.proofs.Common.{◌≡◌, ℕ, negsuc, List, [], ◌∷◌, ◌++
 use Rattle.std.specs.Str.{is_utf8, chars}
 use lib.Utf8.{encode}
 use lib.Count.{ones}
-use Rattle.tor_bencode.specs.Data.{Data, integer, string, list}
+use Rattle.tor_bencode.specs.Data.{Data, integer, string}
 use Rattle.tor_spec.specs.valid.Conditions.{refusal_of, Condition}
 use Rattle.tor_spec.specs.valid.Conditions.{RootShape, InfoShape, MetaVersion, PieceLength, Name, LengthAndFiles}
 use Rattle.tor_spec.specs.valid.Conditions.{FileShape, FileLength, Duplicate, FileAndFolder, NoFiles, TooLarge, Symlink}

@@ -1,5 +1,5 @@
 -- Which bytes are a torrent: the spelling of a tree of which none of 22 conditions holds.
-use Rattle.std.specs.Prelude.{◌≡◌, ℕ, Bool, not, ◌&&◌, ◌||◌, List, [], ◌∷◌, find, Option, None}
+use Rattle.std.specs.Prelude.{◌≡◌, ℕ, Bool, ◌&&◌, ◌||◌, List, [], ◌∷◌, find, Option, None}
 use Rattle.tor_bencode.specs.Data.{Data}
 use Rattle.tor_bencode.specs.Lawful.{IsLawful}
 use Rattle.tor_bencode.specs.Spelling.{spelling}

@@ -1,5 +1,5 @@
 -- The v2 side of a foreign torrent (BEP 52, "file tree"): what it says of its files, and conditions on it.
-use Rattle.std.specs.Prelude.{ℕ, ◌==◌, Bool, true, not, List, length, map, codes, Option, None, Some}
+use Rattle.std.specs.Prelude.{◌==◌, Bool, true, not, List, length, map, codes, Option, None, Some}
 use Rattle.std.specs.List.{list_any}
 use Rattle.tor_bencode.specs.Data.{Data}
 use Rattle.tor_bencode.specs.Find.{value_of}
