@@ -1,7 +1,7 @@
 //! Reading the words of a block, high byte first (FIPS 180-4, 5.2.1), of eight messages that lie one after another.
 //!
-//! They are read message by message, eight words in a vector, and then transposed: so the memory of a message is met once
-//! a block, however far apart the messages lie.
+//! They are read message by message, eight words in a vector, and then transposed: so a block of a message is read at
+//! once, however far apart the messages lie.
 
 ghost use Rattle.std.specs.Prelude.{◌≡◌, ℕ, ◌+◌, ◌*◌, ◌<◌, ◌≤◌, length, slice_index};
 ghost use Rattle.sha2.specs.Sha256.{word_at};

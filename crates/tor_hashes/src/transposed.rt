@@ -1,7 +1,7 @@
 //! Eight vectors of eight words transposed: word j of vector k becomes word k of vector j.
 //!
-//! Vectors exchange words two by two: first those four apart, a half of each; then those two apart, a pair of each half;
-//! then neighbours, a word of each pair. Each time one binary digit of a word's lane becomes that of its vector.
+//! Vectors exchange words two by two: first those four apart, a half of each; then those two apart, a pair of each
+//! half; then neighbours, a word of each pair. Each time one binary digit of a word's lane becomes that of its vector.
 
 ghost use Rattle.std.specs.Prelude.{◌≡◌, ℕ, ◌<◌};
 ghost use Rattle.tor_hashes.specs.Lanes.{word_of};
