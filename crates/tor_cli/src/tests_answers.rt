@@ -59,21 +59,19 @@ fn judges_a_proof_by_its_words(rt: HostRuntime) -> Result<(), Fail> {
     let folder = new_folder(&rt, "judges")?;
     let place = below(alloc, &folder, "proof")?;
     expect_answers(&rt, &rt, &place, &JUDGED)?;
-    let absent = below(alloc, &folder, "absent")?;
-    assert!(rt;
-        is_told(
-            &answer_to(&rt, &rt, ABC_ROOT, "3", "16384", &absent),
-            READ_FAULT
-        )
-    );
-    assert!(rt;
-        is_told(
-            &answer_to(&rt, &rt, ABC_ROOT, "3", "1", &absent),
-            BAD_PIECE_LENGTH
-        )
-    );
     rt.remove_dir_all(alloc, &folder)?;
     Ok(())
+}
+
+// The piece length, and what is told where no file has the proof.
+const UNREAD: [(&str, Told); 2] = [("16384", READ_FAULT), ("1", BAD_PIECE_LENGTH)];
+
+#[test]
+fn judges_its_words_before_it_reads_a_proof(rt: HostRuntime) {
+    for (piece_length, wanted) in UNREAD {
+        let told = answer_to(&rt, &rt, ABC_ROOT, "3", piece_length, "");
+        assert!(rt; is_told(&told, wanted), "at {piece_length}");
+    }
 }
 
 // The text with one byte replaced by another, taken out, or put in.
@@ -165,13 +163,16 @@ fn expect_long<T: Threads + Sync + Abort>(
     Ok(())
 }
 
+const SIBLINGS: [(usize, Told); 2] = [(36, NO), (37, BAD_PROOF)];
+
 #[test]
 fn judges_proofs_of_at_most_36_siblings(rt: HostRuntime) -> Result<(), Fail> {
     let alloc = rt.alloc();
     let folder = new_folder(&rt, "long")?;
     let place = below(alloc, &folder, "proof")?;
-    expect_long(&rt, &rt, &place, 36, NO)?;
-    expect_long(&rt, &rt, &place, 37, BAD_PROOF)?;
+    for (siblings, wanted) in SIBLINGS {
+        expect_long(&rt, &rt, &place, siblings, wanted)?;
+    }
     rt.remove_dir_all(alloc, &folder)?;
     Ok(())
 }

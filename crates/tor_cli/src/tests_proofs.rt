@@ -3,8 +3,8 @@ use crate::tests::ABC;
 use crate::tests_path::FOLDER_V1;
 use crate::tests_runs::{below, new_folder};
 use crate::tests_told::{
-    Judged, NO, Proved, READ_FAULT, Told, YES, blocks, expect_answers, expect_proofs, is_told,
-    made, proof_of,
+    Judged, NO, Proved, READ_FAULT, Told, YES, blocks, expect_answers, expect_made, expect_proofs,
+    is_told, proof_of,
 };
 use std::process::Abort;
 use std::rt::Files;
@@ -47,18 +47,46 @@ const ACCEPTED: [Judged; 3] = [
     (ROOT, "81920", "32768", THIRD_PIECE, YES),
 ];
 
+// The piece length of a torrent, as a word, the proofs of its pieces, and what is told of proofs.
+type Proving = (&'static str, &'static [Proved], &'static [Judged]);
+
+// That so it is with what is at a path.
+fn expect_proving<T: Threads + Sync + Abort>(
+    rt: &T,
+    system: &HostRuntime,
+    folder: &str,
+    content: &str,
+    row: &Proving,
+) -> io::Result<()> {
+    let (piece_length, proofs, answers) = row;
+    let torrent = below(system.alloc(), folder, "x.torrent")?;
+    let place = below(system.alloc(), folder, "proof")?;
+    expect_made(rt, system, piece_length, content, &torrent);
+    expect_proofs(rt, system, &torrent, proofs);
+    expect_answers(rt, system, &place, answers)
+}
+
+// The same of so many blocks.
+fn expect_proving_blocks<T: Threads + Sync + Abort>(
+    rt: &T,
+    system: &HostRuntime,
+    folder: &str,
+    count: u8,
+    row: &Proving,
+) -> io::Result<()> {
+    let alloc = system.alloc();
+    let content = below(alloc, folder, "x")?;
+    fs::write(system, content.as_str(), &blocks(alloc, count)?)?;
+    expect_proving(rt, system, folder, &content, row)
+}
+
+const WITH_FIVE_BLOCKS: Proving = ("32768", &OF_FIVE_BLOCKS, &ACCEPTED);
+
 #[test]
 fn proves_each_piece_and_verifies_it(rt: HostRuntime) -> Result<(), Fail> {
-    let alloc = rt.alloc();
     let folder = new_folder(&rt, "proves")?;
-    let content = below(alloc, &folder, "x")?;
-    let torrent = below(alloc, &folder, "x.torrent")?;
-    let place = below(alloc, &folder, "proof")?;
-    fs::write(&rt, content.as_str(), &blocks(alloc, 5)?)?;
-    assert_eq!(rt; made(&rt, &rt, "32768", &content, &torrent).status, 0);
-    expect_proofs(&rt, &rt, &torrent, &OF_FIVE_BLOCKS);
-    expect_answers(&rt, &rt, &place, &ACCEPTED)?;
-    rt.remove_dir_all(alloc, &folder)?;
+    expect_proving_blocks(&rt, &rt, &folder, 5, &WITH_FIVE_BLOCKS)?;
+    rt.remove_dir_all(rt.alloc(), &folder)?;
     Ok(())
 }
 
@@ -96,24 +124,27 @@ const BY_LENGTH: [Judged; 5] = [
     (TWO_ROOT, "64", "16384", OF_HASHES, YES),
 ];
 
-#[test]
-fn tells_a_file_from_the_file_of_its_hashes(rt: HostRuntime) -> Result<(), Fail> {
-    let alloc = rt.alloc();
-    let folder = new_folder(&rt, "hashes")?;
-    let content = below(alloc, &folder, "f")?;
-    let torrent = below(alloc, &folder, "f.torrent")?;
-    let place = below(alloc, &folder, "proof")?;
-    rt.create_dir(&content)?;
+// A folder of two blocks, and of their hashes.
+fn new_pair(system: &HostRuntime, content: &str) -> io::Result<()> {
+    let alloc = system.alloc();
+    system.create_dir(content)?;
     fs::write(
-        &rt,
-        below(alloc, &content, "x")?.as_str(),
+        system,
+        below(alloc, content, "x")?.as_str(),
         &blocks(alloc, 2)?,
     )?;
-    fs::write(&rt, below(alloc, &content, "y")?.as_str(), TWO_HASHES)?;
-    assert_eq!(rt; made(&rt, &rt, "16384", &content, &torrent).status, 0);
-    expect_proofs(&rt, &rt, &torrent, &OF_TWO_FILES);
-    expect_answers(&rt, &rt, &place, &BY_LENGTH)?;
-    rt.remove_dir_all(alloc, &folder)?;
+    fs::write(system, below(alloc, content, "y")?.as_str(), TWO_HASHES)
+}
+
+const WITH_TWO_FILES: Proving = ("16384", &OF_TWO_FILES, &BY_LENGTH);
+
+#[test]
+fn tells_a_file_from_the_file_of_its_hashes(rt: HostRuntime) -> Result<(), Fail> {
+    let folder = new_folder(&rt, "hashes")?;
+    let content = below(rt.alloc(), &folder, "f")?;
+    new_pair(&rt, &content)?;
+    expect_proving(&rt, &rt, &folder, &content, &WITH_TWO_FILES)?;
+    rt.remove_dir_all(rt.alloc(), &folder)?;
     Ok(())
 }
 
@@ -137,18 +168,13 @@ const BY_PADDING: [Judged; 2] = [
     (THREE_ROOT, "49152", "16384", THIRD_NOT_PADDED, NO),
 ];
 
+const WITH_THREE_BLOCKS: Proving = ("16384", &OF_THREE_BLOCKS, &BY_PADDING);
+
 #[test]
 fn wants_zeros_past_the_end(rt: HostRuntime) -> Result<(), Fail> {
-    let alloc = rt.alloc();
     let folder = new_folder(&rt, "zeros")?;
-    let content = below(alloc, &folder, "x")?;
-    let torrent = below(alloc, &folder, "x.torrent")?;
-    let place = below(alloc, &folder, "proof")?;
-    fs::write(&rt, content.as_str(), &blocks(alloc, 3)?)?;
-    assert_eq!(rt; made(&rt, &rt, "16384", &content, &torrent).status, 0);
-    expect_proofs(&rt, &rt, &torrent, &OF_THREE_BLOCKS);
-    expect_answers(&rt, &rt, &place, &BY_PADDING)?;
-    rt.remove_dir_all(alloc, &folder)?;
+    expect_proving_blocks(&rt, &rt, &folder, 3, &WITH_THREE_BLOCKS)?;
+    rt.remove_dir_all(rt.alloc(), &folder)?;
     Ok(())
 }
 
@@ -203,13 +229,15 @@ fn expect_misuse<T: Threads + Sync + Abort>(
 
 #[test]
 fn tells_why_there_is_no_proof(rt: HostRuntime) -> Result<(), Fail> {
-    let alloc = rt.alloc();
     let folder = new_folder(&rt, "no-piece")?;
-    let place = below(alloc, &folder, "t")?;
+    let place = below(rt.alloc(), &folder, "t")?;
     expect_told(&rt, &rt, &place, &ASKED)?;
     expect_misuse(&rt, &rt, &place, &NO_NUMBERS);
-    let absent = below(alloc, &folder, "absent")?;
-    assert!(rt; is_told(&proof_of(&rt, &rt, &absent, "0", "0"), READ_FAULT));
-    rt.remove_dir_all(alloc, &folder)?;
+    rt.remove_dir_all(rt.alloc(), &folder)?;
     Ok(())
+}
+
+#[test]
+fn tells_that_there_is_no_torrent_to_prove_by(rt: HostRuntime) {
+    assert!(rt; is_told(&proof_of(&rt, &rt, "", "0", "0"), READ_FAULT));
 }

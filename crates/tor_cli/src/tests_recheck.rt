@@ -77,17 +77,25 @@ fn expect_told<T: Threads + Sync + Abort>(
     Ok(())
 }
 
+// What the torrents are rechecked against.
+fn put_contents(system: &HostRuntime, folder: &str) -> io::Result<()> {
+    let alloc = system.alloc();
+    make_folders(system, folder, &FOLDERS)?;
+    write_files(system, folder, &FILES)?;
+    system.symlink("both", &below(alloc, folder, "link")?)?;
+    system.symlink("abc", &below(alloc, folder, "file-link")?)
+}
+
 #[test]
 fn tells_which_pieces_are_there_and_right(rt: HostRuntime) -> Result<(), Fail> {
-    let alloc = rt.alloc();
     let folder = new_folder(&rt, "rechecks")?;
-    make_folders(&rt, &folder, &FOLDERS)?;
-    write_files(&rt, &folder, &FILES)?;
-    rt.symlink("both", &below(alloc, &folder, "link")?)?;
-    rt.symlink("abc", &below(alloc, &folder, "file-link")?)?;
+    put_contents(&rt, &folder)?;
     expect_told(&rt, &rt, &folder, &ROWS)?;
-    let absent = below(alloc, &folder, "absent")?;
-    assert!(rt; is_told(&recheck(&rt, &rt, &absent, &folder), READ_FAULT));
-    rt.remove_dir_all(alloc, &folder)?;
+    rt.remove_dir_all(rt.alloc(), &folder)?;
     Ok(())
+}
+
+#[test]
+fn tells_that_there_is_no_torrent_to_recheck(rt: HostRuntime) {
+    assert!(rt; is_told(&recheck(&rt, &rt, "", ""), READ_FAULT));
 }

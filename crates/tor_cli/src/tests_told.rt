@@ -28,14 +28,14 @@ pub fn is_told(told: &Outcome, wanted: Told) -> bool {
     is_outcome(told, wanted.2, wanted.0.as_bytes(), wanted.1, 3)
 }
 
-// The torrent `x` of what is at a path, in pieces of this length.
-pub fn made<T: Threads + Sync>(
+// That a torrent of what is at a path is made, in pieces of this length.
+pub fn expect_made<T: Threads + Sync + Abort>(
     rt: &T,
     system: &HostRuntime,
     piece_length: &str,
     content: &str,
     torrent: &str,
-) -> Outcome {
+) {
     let words = [
         "tor",
         "make",
@@ -47,7 +47,7 @@ pub fn made<T: Threads + Sync>(
         torrent,
         content,
     ];
-    run_texts(rt, system, &words, false)
+    assert_eq!(rt; run_texts(rt, system, &words, false).status, 0);
 }
 
 pub fn proof_of<T: Threads + Sync>(
