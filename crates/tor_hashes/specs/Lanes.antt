@@ -25,6 +25,6 @@ window j words = map (λ x. slice_index x j) words
 abbrev pub block_of : List ℕ → ℕ → ℕ → ℕ → List ℕ
 block_of bytes size at j = take 64 (drop (size * j + at) bytes)
 
--- these are the sixteen words of a block, high byte first (FIPS 180-4, 5.2.1)
+-- these are the sixteen big-endian words of a block (FIPS 180-4, 5.2.1)
 abbrev pub AreWordsOf : List ℕ → List ℕ → Type 0
 AreWordsOf block words = (length words ≡ 16) × ((k : ℕ) → k < 16 → slice_index words k ≡ word_at block (4 * k))

@@ -1,7 +1,7 @@
-//! Reading the words of a block, high byte first (FIPS 180-4, 5.2.1), of eight messages that lie one after another.
+//! Reading the big-endian words of a block (FIPS 180-4, 5.2.1) of each of eight messages that lie one after another.
 //!
-//! They are read message by message, eight words in a vector, and then transposed: so a block of a message is read at
-//! once, however far apart the messages lie.
+//! Half a block of each message is read after the other, eight words in a vector, and then the vectors are transposed:
+//! so what is read together lies together, however far apart the messages lie.
 
 ghost use Rattle.std.specs.Prelude.{◌≡◌, ℕ, ◌+◌, ◌*◌, ◌<◌, ◌≤◌, length, slice_index};
 ghost use Rattle.sha2.specs.Sha256.{word_at};

@@ -5,15 +5,16 @@
 //! use sha2::{Digest, Sha256};
 //! use tor_hashes::node_hashes;
 //!
-//! let nodes = [7; 512];
+//! let mut nodes = [0; 512];
+//! nodes[200] = 7;
 //! let hashes = node_hashes(&nodes);
 //! assert!(rt; hashes[3] == Sha256::digest(&nodes[192..256]));
 //! ```
 //!
 //! - [`block_hashes`] (`blocks.rt`): the SHA-256 of blocks of 16,384 bytes.
-//! - [`node_hashes`] (`nodes.rt`): the SHA-256 of texts of 64 bytes. Their padding is always the same, so
+//! - [`node_hashes`] (`nodes.rt`): the SHA-256 of messages of 64 bytes. Their padding is always the same, so
 //!   `node_padding.rt` has its words ready.
-//! - [`piece_hashes`] (`pieces.rt`): the SHA-1 of pieces of any number of bytes that is a multiple of 64.
+//! - [`piece_hashes`] (`pieces.rt`): the SHA-1 of pieces of any number of bytes that is a multiple of 64, at most 2^28.
 //!
 //! Below them, named after the standard's parts: `words.rt` has words side by side, `block_words.rt` reads them message
 //! by message, `transposed.rt` turns these to word by word, `functions.rt` has what both hashes do with them. Each hash
@@ -21,7 +22,8 @@
 //! `sha256_functions.rt`, `sha256_rounds.rt`, `sha256_block.rt`, `sha256_digest.rt`; `sha1_constants.rt`,
 //! `sha1_functions.rt`, `sha1_rounds.rt`, `sha1_block.rt`, `sha1_digest.rt`.
 //!
-//! What is done in each block is `#[inline(always)]`, so that the places in the schedule are known when it is compiled.
+//! Small steps are `#[inline(always)]`, and sixteen rounds at a time are generic in the number of the first, so that
+//! the places in the schedule are known when it is compiled.
 #![tactic(auto)]
 
 mod block_words;

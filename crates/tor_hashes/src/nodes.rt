@@ -1,4 +1,4 @@
-//! The SHA-256 of eight texts of 64 bytes, as the nodes of a tree are.
+//! The SHA-256 of eight messages of 64 bytes, as the nodes of a tree are.
 
 ghost use Rattle.std.specs.Prelude.{◌≡◌, ℕ, ◌+◌, ◌*◌, ◌<◌, ◌≤◌, List, [], drop, take, length, slice_index_or};
 ghost use Rattle.sha2.specs.Sha256.{compress, padding, rounds, schedule, sha256};
@@ -58,7 +58,7 @@ fn after_padding(hash: [Words; 8]) -> [Words; 8]
     added(hash, v)
 }
 
-/// The SHA-256 of each of eight texts of 64 bytes, as the nodes of a tree, that lie one after another.
+/// The SHA-256 of each of eight messages of 64 bytes, as the nodes of a tree are, that lie one after another.
 pub fn node_hashes(nodes: &[u8]) -> [[u8; 32]; 8]
     requires { length nodes.now ≡ 512 }
     ensures { (i : ℕ) → i < 8 → slice_index_or result i [] ≡ sha256 (take 64 (drop (64 * i) nodes.now)) }

@@ -24,7 +24,7 @@ fn padding_words(size: usize) -> [Words; 16]
     ]
 }
 
-/// The SHA-1 of each of eight messages of `size` bytes, a multiple of 64, that lie one after another.
+/// The SHA-1 of each of eight messages of `size` bytes, a multiple of 64 and at most 2^28, that lie one after another.
 pub fn piece_hashes(pieces: &[u8], size: usize) -> [[u8; 20]; 8]
     requires whole { size % 64 ≡ 0 }
     requires most { size ≤ 2 ^ 28 }

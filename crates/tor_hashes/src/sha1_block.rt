@@ -40,10 +40,10 @@ pub(crate) fn after_block(words: [Words; 16], hash: [Words; 5]) -> [Words; 5]
 {
     let mut w = words;
     let v = first_rounds(&w, hash);
-    let v = next_rounds(&mut w, v, 16);
-    let v = next_rounds(&mut w, v, 32);
-    let v = next_rounds(&mut w, v, 48);
-    let v = next_rounds(&mut w, v, 64);
+    let v = next_rounds::<16>(&mut w, v);
+    let v = next_rounds::<32>(&mut w, v);
+    let v = next_rounds::<48>(&mut w, v);
+    let v = next_rounds::<64>(&mut w, v);
     added(hash, v)
 }
 

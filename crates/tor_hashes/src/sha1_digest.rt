@@ -1,4 +1,4 @@
-//! The digests of SHA-1 of eight messages: the words of each hash value, high byte first (FIPS 180-4, 6.1.2).
+//! The digests of SHA-1 of eight messages: the big-endian words of each hash value (FIPS 180-4, 6.1.2).
 
 ghost use Rattle.std.specs.Prelude.{◌≡◌, ℕ, ◌<◌, [], slice_index_or};
 ghost use Rattle.sha1.specs.Sha1.{digest_bytes};

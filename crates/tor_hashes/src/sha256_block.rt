@@ -52,9 +52,9 @@ pub(crate) fn after_block(words: [Words; 16], hash: [Words; 8]) -> [Words; 8]
 {
     let mut w = words;
     let v = first_rounds(&w, hash);
-    let v = next_rounds(&mut w, v, 16);
-    let v = next_rounds(&mut w, v, 32);
-    let v = next_rounds(&mut w, v, 48);
+    let v = next_rounds::<16>(&mut w, v);
+    let v = next_rounds::<32>(&mut w, v);
+    let v = next_rounds::<48>(&mut w, v);
     added(hash, v)
 }
 

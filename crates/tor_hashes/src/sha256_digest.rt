@@ -1,4 +1,4 @@
-//! The digests of SHA-256 of eight messages: the words of each hash value, high byte first (FIPS 180-4, 6.2.2).
+//! The digests of SHA-256 of eight messages: the big-endian words of each hash value (FIPS 180-4, 6.2.2).
 
 ghost use Rattle.std.specs.Prelude.{◌≡◌, ℕ, ◌<◌, [], slice_index_or};
 ghost use Rattle.sha2.specs.Sha256.{digest_bytes};

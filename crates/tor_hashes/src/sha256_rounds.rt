@@ -100,16 +100,15 @@ fn four_next_rounds(w: &mut [Words; 16], v: [Words; 8], t: usize) -> [Words; 8]
     next_round(w, v, t + 3)
 }
 
-// Sixteen rounds with words that follow from those before them.
-#[inline(always)]
-pub(crate) fn next_rounds(w: &mut [Words; 16], v: [Words; 8], t: usize) -> [Words; 8]
-    requires least { 16 ≤ t }
-    requires most { t + 16 ≤ 64 }
-    ensures { (j : ℕ) (b h : List ℕ) → j < 8 → IsRoundsAt b h (window j w.old) (eight_of j v) t
-        → IsRoundsAt b h (window j w.new) (eight_of j result) (t + 16) }
+// Sixteen rounds from T on, with words that follow from those before them.
+pub(crate) fn next_rounds<const T: usize>(w: &mut [Words; 16], v: [Words; 8]) -> [Words; 8]
+    requires least { 16 ≤ T }
+    requires most { T + 16 ≤ 64 }
+    ensures { (j : ℕ) (b h : List ℕ) → j < 8 → IsRoundsAt b h (window j w.old) (eight_of j v) T
+        → IsRoundsAt b h (window j w.new) (eight_of j result) (T + 16) }
 {
-    let v = four_next_rounds(w, v, t);
-    let v = four_next_rounds(w, v, t + 4);
-    let v = four_next_rounds(w, v, t + 8);
-    four_next_rounds(w, v, t + 12)
+    let v = four_next_rounds(w, v, T);
+    let v = four_next_rounds(w, v, T + 4);
+    let v = four_next_rounds(w, v, T + 8);
+    four_next_rounds(w, v, T + 12)
 }
