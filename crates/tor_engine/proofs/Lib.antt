@@ -1,4 +1,3 @@
-pub mod Zeros
 pub mod AllPieces
 pub mod AskedLengths
 pub mod ByFile

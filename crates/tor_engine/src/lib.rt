@@ -6,6 +6,9 @@
 //! - [`ask_lengths`] (`lengths.rt`): the lengths of files. `halves.rt` shares the units among workers; `turn.rt` hashes
 //!   units one after the other, `unit.rt` one unit, `reading.rt` reads one part; `run.rt` holds what a run of units
 //!   sums up to.
+//! - [`hash_pieces`] (`pieces.rt`): what each piece hashes to ([`PieceHash`], `piece_hash.rt`), of files that may be cut
+//!   short or missing: `asked.rt` asks for their lengths, `present.rt` tells what is there by these, `piece_halves.rt`
+//!   shares the units among workers, `piece_turn.rt` hashes the pieces of units one after the other.
 //! - [`laws`] (`laws.rt`): a law over the definition of the first fault.
 //!
 //! ```rust

@@ -16,12 +16,11 @@ use crate::items::item_at;
 use crate::piece_halves::hash_pieces_by_halves;
 use crate::piece_hash::PieceHash;
 use crate::piece_turn::{Known, hash_pieces_in_turn};
-use crate::unit::feed_zeros;
 use std::alloc::{AllocError, Global};
 use std::thread::Threads;
 use tor_plan::{Plan, PlanUnit};
 use tor_source::Source;
-use tor_v1::PieceSums;
+use tor_v1::GatheredSums;
 use tor_v1::laws::length_of_sums;
 
 /// What each piece of the plan hashes to, in their order, and none where some byte of it is not there: file i of the
@@ -95,9 +94,10 @@ fn padding_sum(alloc: Global, plan: &Plan) -> Result<Option<[u8; 20]>, AllocErro
     if plan.kind().has_v2() || !has_long_padding(plan.units(), plan.piece_length()) {
         return Ok(None);
     }
-    let mut sums = PieceSums::new(alloc, plan.piece_length());
-    feed_zeros(&mut sums, plan.piece_length())?;
-    let joined = sums.finish();
+    let piece_length = plan.piece_length();
+    let mut sums = GatheredSums::new(alloc, piece_length, piece_length);
+    sums.feed_zeros(piece_length)?;
+    let joined = sums.finish()?;
     let (each, _) = joined.as_chunks::<20>();
     Ok(item_at(each, 0))
 }

@@ -62,7 +62,7 @@ pub(crate) fn hash_unit<S: Source>(
         MatchResult result (λ _. unit_fault facts unit.now ≡ None) (IsFault (unit_fault facts unit.now)) }
     ensures gave { IfErr result (IsGivenOfPieces (S.gave source.now)) }
 {
-    let mut sums = UnitSums::new(alloc, plan.kind(), plan.piece_length());
+    let mut sums = UnitSums::new(alloc, plan.kind(), plan.piece_length(), length_of(unit));
     sums.feed_zeros(unit.zeros)?;
     let parts = unit.parts.as_slice();
     'each: for part in parts {
@@ -113,7 +113,19 @@ fn hash_part<S: Source>(
     Ok(())
 }
 
+/// How many bytes and zeros a unit has, 2^64 - 1 where these are more.
+fn length_of(unit: &PlanUnit) -> u64 {
+    let mut length = unit.zeros;
+    for part in unit.parts.as_slice() {
+        length = length
+            .saturating_add(part.length)
+            .saturating_add(part.zeros);
+    }
+    length
+}
+
 /// How many bytes a worker reads at once, at most 8 MiB: eight pieces, where version 1 has them and they are not long.
+/// With the pieces that sums gather, a worker holds at most 8 MiB too: none of over 512 KiB is gathered.
 pub(crate) fn length_at_once(plan: &Plan) -> usize
     ensures { 0 < result }
 {

@@ -3,17 +3,13 @@ ghost use Rattle.std.specs.Prelude.{◌≡◌, ◌≢◌, ◌+◌, ◌≤◌, �
 ghost use Rattle.std.specs.Option.{ForSome};
 ghost use Rattle.tor_merkle.specs.declared.TheConstants.{MAX_LENGTH};
 ghost use Rattle.tor_plan.specs.PlanFacts.{IsPlanPieceLength};
-ghost use Rattle.tor_v1.specs.Feeding.{Feeds};
 ghost use Rattle.tor_v1.specs.Piece.{zeros};
 ghost use Rattle.tor_engine.specs.steps.Hashes.{hashes_of_bytes};
 
 use std::alloc::{AllocError, Global};
 use tor_merkle::{Feed, Hash};
 use tor_tree::Kind;
-use tor_v1::PieceSums;
-
-/// The zeros that the sums of pieces take at once, at most.
-const ZEROS_AT_ONCE: u64 = 1 << 30;
+use tor_v1::GatheredSums;
 
 /// What a unit sums up to, part by part. Clauses say by `HasTaken` which bytes were fed.
 #[derive(Drop)]
@@ -23,7 +19,7 @@ pub(crate) struct UnitSums {
     // The tree over the present part.
     tree: Option<Feed>,
     // The pieces of the whole unit.
-    pieces: Option<PieceSums>,
+    pieces: Option<GatheredSums>,
     ghost counted: { ForSome tree (λ feed. length feed.bytes ≡ begun) },
     ghost small: { begun ≤ MAX_LENGTH },
 }
@@ -34,8 +30,8 @@ impl UnitSums {
     ghost use Rattle.tor_tree.specs.declared.kinds.Kind.{Kind};
     ghost use Rattle.tor_v1.specs.Piece.{piece_sums};
 
-    /// Of no byte.
-    pub(crate) fn new(alloc: Global, kind: Kind, piece_length: u64) -> UnitSums
+    /// Of no byte. The unit is said to have `length` bytes and zeros.
+    pub(crate) fn new(alloc: Global, kind: Kind, piece_length: u64, length: u64) -> UnitSums
         requires { IsPlanPieceLength kind piece_length }
         ensures taken { HasTaken kind piece_length [] [] result }
         ensures begun { begun_of result ≡ 0 }
@@ -43,7 +39,9 @@ impl UnitSums {
         UnitSums {
             begun: 0,
             tree: kind.has_v2().then(|| Feed::new(alloc, piece_length)),
-            pieces: kind.has_v1().then(|| PieceSums::new(alloc, piece_length)),
+            pieces: kind
+                .has_v1()
+                .then(|| GatheredSums::new(alloc, piece_length, length)),
         }
     }
 
@@ -73,7 +71,7 @@ impl UnitSums {
         ensures begun { begun_of self.new ≡ begun_of self.old }
     {
         if let Some(pieces) = &mut self.pieces {
-            feed_zeros(pieces, count)?;
+            pieces.feed_zeros(count)?;
         }
         Ok(())
     }
@@ -118,23 +116,10 @@ impl UnitSums {
             pieces: sums,
         } = self;
         match sums {
-            Some(sums) => pieces.extend_from_slice(&sums.finish()),
+            Some(sums) => pieces.extend_from_slice(&sums.finish()?),
             None => Ok(()),
         }
     }
-}
-
-/// Feeds so many zeros, as many at a time as the sums take.
-pub(crate) fn feed_zeros(pieces: &mut PieceSums, count: u64) -> Result<(), AllocError>
-    ensures { OnOk result (Feeds pieces.old pieces.new (zeros count)) }
-{
-    let mut left = count;
-    'runs: while left > 0 {
-        let run = left.min(ZEROS_AT_ONCE);
-        pieces.feed_zeros(run)?;
-        left -= run;
-    }
-    Ok(())
 }
 
 /// Puts the hashes of the pieces of a part of a file of `length` bytes after `hashes`.

@@ -2,6 +2,7 @@ pub mod Zeros
 pub mod Ceil
 pub mod Cut
 pub mod Fed
+pub mod HeldBytes
 pub mod RunSums
 pub mod ProvedLaws
 pub mod Names

@@ -3,4 +3,5 @@ pub mod Reserved
 pub mod Entries
 pub mod Content
 pub mod Feeding
+pub mod Gathering
 pub mod steps
