@@ -12,7 +12,7 @@ use Rattle.tor_tree.specs.Name.{name_fault}
 use Rattle.tor_input.specs.Input.{EndsInput, ReadsSome}
 use Rattle.tor_input.specs.Make.{MakesPart, StopsReading, refusal_of}
 use Rattle.tor_cli.specs.Path.{IsFileFault}
-use Rattle.tor_cli.specs.Request.{IsOrder, IsOrderOf, StopsFinding, StopsInput, StopsPath, file_of}
+use Rattle.tor_cli.specs.Request.{IsOrder, IsOrderOf, IsToldFirst, StopsFinding, StopsInput, StopsPath, file_of}
 use Rattle.tor_cli.specs.Streams.{IsUntouched, Streams}
 use Rattle.tor_cli.specs.Status.{of_input_fault, of_make_error, of_scan_fault, of_step_fault}
 use Rattle.tor_input.specs.declared.input.TheConstants.{MAX_INPUT_LENGTH}
@@ -97,10 +97,10 @@ module _ (options : MakeOptions) (s : Streams) where
 
 -- an error of making is told of the order and the paths
 pub finding_make : (options : MakeOptions) (order : Order) (paths : List (List (List ℕ))) (error : MakeError Error)
-    → IsOrderOf options order paths → IsOwn (make_refusal order paths) error
+    → IsOrderOf options order paths → IsOwn (make_refusal order paths) error → IsToldFirst order paths error
     → IsGivenTo (IsFileFault (length paths)) error → StopsFinding options (of_make_error error)
-finding_make options order paths error is own gave = elim (told_or_memory error) [
-  | inl told ↦ rw told.1 (order, paths, is, own, gave)
+finding_make options order paths error is own first gave = elim (told_or_memory error) [
+  | inl told ↦ rw told.1 (order, paths, is, own, first, gave)
   | inr memory ↦ rw memory tt
 ]
 

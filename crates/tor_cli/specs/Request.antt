@@ -3,8 +3,11 @@ use Rattle.std.specs.Prelude.{◌≡◌, ◌≢◌, ◌⊎◌, ◌≤◌, ℕ, B
 use Rattle.std.specs.Prelude.{string_bytes}
 use Rattle.std.specs.Io.KnownBytes.{Appends, Keeps}
 use Rattle.std.specs.declared.io.Error.{Error}
+use Rattle.tor_meta.specs.Contents.{IsMadeOfSome}
 use Rattle.tor_meta.specs.Make.{IsGivenTo, IsOwn, make_refusal}
 use Rattle.tor_meta.specs.Order.{settings_of_order}
+use Rattle.tor_meta.specs.declared.make_error.MakeError.{MakeError}
+use Rattle.tor_meta.specs.declared.make_error.MakeError.TheVariants as makes
 use Rattle.tor_meta.specs.declared.order.Order.{Order}
 use Rattle.tor_source.specs.declared.faults.ScanFault.TheVariants as scans
 use Rattle.tor_spec.specs.Settings.{Settings}
@@ -102,29 +105,36 @@ pub record IsOrderOf (options : MakeOptions) (order : Order) (paths : List (List
   pub ordered : IsOrder options order.single order
   pub found : AreFound options.name.now order.single paths
 
--- that order is not refused for those paths
-abbrev pub IsAccepted : MakeOptions → Type 0
-IsAccepted options = (order : Order) × (paths : List (List (List ℕ))) × IsOrderOf options order paths
-    × (make_refusal {F = Error} order paths ≡ None)
+-- that order is not refused for those paths, and the bytes are its torrent of some files that have them
+abbrev pub IsTorrentAt : MakeOptions → List ℕ → Type 0
+IsTorrentAt options torrent = (order : Order) × (paths : List (List (List ℕ))) × IsOrderOf options order paths
+    × (make_refusal {F = Error} order paths ≡ None) × IsMadeOfSome (settings_of_order order) paths torrent
+
+-- where the order is refused for the paths, no fault of a file is told in place of the refusal
+abbrev pub IsToldFirst : Order → List (List (List ℕ)) → MakeError Error → Type 0
+IsToldFirst order paths error = (refusal : MakeError Error) → make_refusal order paths ≡ Some refusal
+    → (error ≡ makes.Resources) ⊎ (error ≡ refusal)
 
 -- why there is no torrent of the files at a place
 abbrev pub StopsFinding : MakeOptions → Fault → Type 0
 StopsFinding options (Name fault) = name_fault options.name.now ≡ Some fault
 StopsFinding options (Scan fault) = (name_fault options.name.now ≡ None) × (fault ≢ scans.Memory)
 StopsFinding options (Make error) = (order : Order) × (paths : List (List (List ℕ))) × IsOrderOf options order paths
-    × IsOwn (make_refusal order paths) error × IsGivenTo (IsFileFault (length paths)) error
+    × IsOwn (make_refusal order paths) error × IsToldFirst order paths error
+    × IsGivenTo (IsFileFault (length paths)) error
 StopsFinding options Resources = Unit {0}
 StopsFinding options other = ⊥
 
 -- a torrent was made of the files at a place, of which no contract says what they hold
 abbrev pub DoesPath : MakeOptions → Streams → Type 0
-DoesPath options s = (s.reader' ≡ s.reader) × IsAccepted options
-    × ((torrent : List ℕ) × Sends (file_of options) s.writer s.writer' torrent)
+DoesPath options s = (s.reader' ≡ s.reader)
+    × ((torrent : List ℕ) × IsTorrentAt options torrent × Sends (file_of options) s.writer s.writer' torrent)
 
 -- where this fault stopped it
 abbrev pub StopsPath : MakeOptions → Streams → Fault → Type 0
-StopsPath options s (Write written) = (s.reader' ≡ s.reader) × IsAccepted options
-    × ((torrent : List ℕ) × SendsFront (file_of options) s.writer s.writer' written torrent)
+StopsPath options s (Write written) = (s.reader' ≡ s.reader)
+    × ((torrent : List ℕ) × IsTorrentAt options torrent
+    × SendsFront (file_of options) s.writer s.writer' written torrent)
 StopsPath options s fault = StopsFinding options fault × IsUntouched s
 
 -- of the reader, or of the files at a place

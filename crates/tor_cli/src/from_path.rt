@@ -1,8 +1,11 @@
 //! From a file or a folder of the system to the torrent of it.
 ghost use Rattle.std.specs.Prelude.{◌≡◌, ◌∷◌, [], IfErr, IfOk, None, OnOk, length};
 ghost use Rattle.std.specs.declared.io.Error.{Error};
+ghost use Rattle.tor_meta.specs.Contents.{IsMadeOfSome};
 ghost use Rattle.tor_meta.specs.Make.{IsGivenTo, IsOwn, make_refusal};
+ghost use Rattle.tor_meta.specs.Order.{settings_of_order};
 ghost use Rattle.tor_cli.specs.Path.{AreFound, IsFileFault};
+ghost use Rattle.tor_cli.specs.Request.{IsToldFirst};
 
 use crate::progress::{Counting, Progress};
 use std::alloc::{AllocError, Global};
@@ -72,7 +75,10 @@ pub fn torrent_of<T: Threads + Sync>(
     progress: Option<Progress>,
 ) -> Result<Vec<u8>, MakeError<io::Error>>
     requires { length found.now.source ≡ length found.now.paths.items }
+    ensures whole { IfOk result
+        (λ bytes. IsMadeOfSome (settings_of_order order.now) found.now.paths.items bytes.items) }
     ensures accepted { OnOk result (make_refusal {F = Error} order.now found.now.paths.items ≡ None) }
+    ensures refused { IfErr result (IsToldFirst order.now found.now.paths.items) }
     ensures only { IfErr result (IsOwn (make_refusal order.now found.now.paths.items)) }
     ensures gave { IfErr result (IsGivenTo (IsFileFault (length found.now.paths.items))) }
 {

@@ -2,7 +2,7 @@
 ghost use Rattle.std.specs.Prelude.{◌≡◌, ◌⊎◌, ℕ, List, Option, IfErr, IfOk, OnOk, None, Some, true};
 ghost use Rattle.tor_tree.specs.Name.{name_fault};
 ghost use Rattle.tor_tree.specs.declared.names.NameError.TheVariants.{Memory};
-ghost use Rattle.tor_cli.specs.Request.{DoesInput, DoesMake, DoesPath, IsAccepted, IsOrder, StopsFinding};
+ghost use Rattle.tor_cli.specs.Request.{DoesInput, DoesMake, DoesPath, IsOrder, IsTorrentAt, StopsFinding};
 ghost use Rattle.tor_cli.specs.Request.{StopsInput, StopsMake, StopsPath};
 
 use crate::fault::Fault;
@@ -117,7 +117,7 @@ fn torrent_at<T: Threads + Sync>(
     path: &str,
     shows_progress: bool,
 ) -> Result<Vec<u8>, Fault>
-    ensures made { OnOk result (IsAccepted options.now) }
+    ensures made { IfOk result (λ torrent. IsTorrentAt options.now torrent.items) }
     ensures stopped { IfErr result (StopsFinding options.now) }
 {
     let alloc = system.alloc();

@@ -1,0 +1,17 @@
+-- An error of making is told of the order and the paths.
+use Rattle.std.proofs.Common.{rules}
+use Rattle.std.proofs.lemmas.Result.{err_from_is_err_and}
+use Rattle.tor_cli.specs.Request.{IsOrderOf}
+use Rattle.tor_cli.proofs.Stops.{finding_make}
+use Rattle.tor_cli.proofs.make_command.torrent_at.Goals as goal
+
+pub returns-in_err-torrent_of-clause-stopped : goal.returns-in_err-torrent_of-clause-stopped
+returns-in_err-torrent_of-clause-stopped g c =
+    let options = c.args.options.now in
+    let order = c.in_ok-order.order in
+    let paths = c.in_ok-found.found.paths.items in
+    let told = c.in_err-torrent_of.ensures in
+    let is : IsOrderOf options order paths = search rules in
+    let p =
+    err_from_is_err_and c.from_residual-in_err-torrent_of.result c.from_residual-in_err-torrent_of.ensures.1 in
+    rw (p.1, p.2) (finding_make options order paths c.in_err-torrent_of.field-0.0 is told.only told.refused told.gave)
