@@ -125,7 +125,7 @@ fn length_of(unit: &PlanUnit) -> u64 {
 }
 
 /// How many bytes a worker reads at once, at most 8 MiB: eight pieces, where version 1 has them and they are not long.
-/// With the pieces that sums gather, a worker holds at most 8 MiB too: none of over 512 KiB is gathered.
+/// With the pieces that sums gather, a worker holds at most 8 MiB too: none of over 256 KiB is gathered.
 pub(crate) fn length_at_once(plan: &Plan) -> usize
     ensures { 0 < result }
 {

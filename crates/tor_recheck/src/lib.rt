@@ -10,8 +10,8 @@
 //! assert!(rt; bits.to_bytes(alloc)?.as_slice() == &[0x80]);
 //! ```
 //!
-//! - [`recheck`] (`rechecking.rt`): a bit for each piece of a torrent, or a [`RecheckError`] (`errors.rt`): `told.rt` has
-//!   the hashes that the torrent gives, by which `judge.rt` judges those of the files.
+//! - [`recheck`] (`rechecking.rt`): a bit for each piece of a torrent, or a [`RecheckError`] (`errors.rt`). `told.rt`
+//!   has the hashes that the torrent gives, by which `judge.rt` judges those of the files.
 //! - [`Bits`] (`bits.rt`): one bit a piece, piece 0 first, and as the bitfield of BEP 3 ("peer messages").
 //! - [`laws`]: what follows from the definitions alone.
 #![tactic(auto)]

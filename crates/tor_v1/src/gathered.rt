@@ -7,11 +7,11 @@ use crate::runs::has_runs;
 use crate::sums::{PieceSums, ZEROS_LENGTH, zeros};
 use std::alloc::{AllocError, Global};
 
-/// The most bytes of a piece of which eight are gathered: they take 4 MiB.
-const MAX_PIECE_GATHERED: u64 = 1 << 19;
+/// The most bytes of a piece of which eight are gathered: they take 2 MiB.
+const MAX_PIECE_GATHERED: u64 = 1 << 18;
 
 /// The SHA-1 of each piece of a content that is fed in parts of any lengths, as [`PieceSums`] has them. Where parts are
-/// shorter than eight pieces it keeps their bytes, fewer than 4 MiB, until eight can be hashed at once. After an error
+/// shorter than eight pieces it keeps their bytes, fewer than 2 MiB, until eight can be hashed at once. After an error
 /// it is of no use. Clauses say by `HasGathered` which bytes were fed.
 #[derive(Drop)]
 pub struct GatheredSums {
