@@ -1,5 +1,5 @@
 //! From a file or a folder of the system to the torrent of it.
-ghost use Rattle.std.specs.Prelude.{◌≡◌, ◌∷◌, [], IfErr, IfOk, None, OnOk, length};
+ghost use Rattle.std.specs.Prelude.{◌≡◌, ◌∷◌, [], IfErr, IfOk, None, OnOk, length, true};
 ghost use Rattle.std.specs.declared.io.Error.{Error};
 ghost use Rattle.tor_meta.specs.Contents.{IsMadeOfSome};
 ghost use Rattle.tor_meta.specs.Make.{IsGivenTo, IsOwn, make_refusal};
@@ -45,6 +45,7 @@ pub fn files_at(system: &HostRuntime, path: &str, name: &Name) -> Result<Found, 
 }
 
 fn one_file(system: &HostRuntime, path: &str, name: &Name) -> Result<Found, AllocError>
+    ensures single { IfOk result (λ found. found.single ≡ true) }
     ensures paths { IfOk result (λ found. AreFound name.now found.single found.paths.items) }
     ensures each { IfOk result (λ found. length found.source ≡ length found.paths.items) }
 {

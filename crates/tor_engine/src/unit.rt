@@ -30,7 +30,7 @@ impl UnitSums {
     ghost use Rattle.tor_tree.specs.declared.kinds.Kind.{Kind};
     ghost use Rattle.tor_v1.specs.Piece.{piece_sums};
 
-    /// Of no byte. The unit is said to have `length` bytes and zeros.
+    /// Of no byte. The unit is expected to have `length` bytes and zeros; the sums do not depend on it.
     pub(crate) fn new(alloc: Global, kind: Kind, piece_length: u64, length: u64) -> UnitSums
         requires { IsPlanPieceLength kind piece_length }
         ensures taken { HasTaken kind piece_length [] [] result }

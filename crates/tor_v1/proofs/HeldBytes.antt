@@ -4,7 +4,7 @@ use Rattle.tor_v1.specs.Feeding.{HasFed, Feeds}
 use Rattle.tor_v1.specs.Gathering.{HasGathered, Gathers}
 use Rattle.tor_v1.specs.declared.gathered.GatheredSums.{GatheredSums}
 
--- bytes went on, and what is held now stands after them
+-- some bytes were handed on, and those held now come after them
 pub gathers_on : (old new : GatheredSums) (part fed : List ℕ) → Feeds old.sums new.sums fed
     → fed ++ new.held.items ≡ old.held.items ++ part → Gathers old new part
 gathers_on old new part fed feeds split p bytes before =
@@ -17,7 +17,7 @@ gathers_on old new part fed feeds split p bytes before =
           ∙ ap (λ xs. xs ++ part) before.joined;
     }
 
--- none went on
+-- no byte was handed on: the part is held
 pub gathers_held : (old new : GatheredSums) (part : List ℕ) → new.sums ≡ old.sums
     → new.held.items ≡ old.held.items ++ part → Gathers old new part
 gathers_held old new part same held p bytes before =
@@ -39,7 +39,7 @@ gathers_more old sums new first second one other p bytes before =
     subst (λ (xs : List ℕ). HasGathered new p xs) (append_assoc bytes first second)
     (other p (bytes ++ first) (one p bytes before))
 
--- a part of what is left was fed
+-- one turn of a loop: a part of what is left was fed
 pub gathers_next : (first sums next : GatheredSums) (taken part later left all : List ℕ) → part ++ later ≡ left
     → taken ++ left ≡ all → Gathers first sums taken → Gathers sums next part
     → (more : List ℕ) × (more ++ later ≡ all) × Gathers first next more

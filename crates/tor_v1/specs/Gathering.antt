@@ -3,7 +3,7 @@ use Rattle.std.specs.Prelude.{◌≡◌, ℕ, List, ◌++◌}
 use Rattle.tor_v1.specs.Feeding.{HasFed}
 use Rattle.tor_v1.specs.declared.gathered.GatheredSums.{GatheredSums}
 
--- the sums were fed these bytes: first those that they go by, and then those that they hold
+-- these bytes were fed: the sums were fed the front of them, and the rest is held
 pub record HasGathered (gathered : GatheredSums) (piece_length : ℕ) (bytes : List ℕ) : Type 0 where
   pub front : List ℕ
   pub fed : HasFed gathered.sums piece_length front

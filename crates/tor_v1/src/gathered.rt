@@ -7,18 +7,19 @@ use crate::runs::has_runs;
 use crate::sums::{PieceSums, ZEROS_LENGTH, zeros};
 use std::alloc::{AllocError, Global};
 
-/// The most bytes of a piece of which eight are gathered: they take 2 MiB.
+/// The longest piece whose bytes are gathered. Eight such pieces take 2 MiB.
 const MAX_PIECE_GATHERED: u64 = 1 << 18;
 
-/// The SHA-1 of each piece of a content that is fed in parts of any lengths, as [`PieceSums`] has them. Where parts are
-/// shorter than eight pieces it keeps their bytes, fewer than 2 MiB, until eight can be hashed at once. After an error
-/// it is of no use. Clauses say by `HasGathered` which bytes were fed.
+/// The SHA-1 of each piece of a content that is fed in parts of any lengths, as of [`PieceSums`]. Where parts are
+/// shorter than eight pieces it holds their bytes, at most 2 MiB, until eight pieces can be hashed together. Nothing is
+/// held for pieces of over 256 KiB, or of a length that is no multiple of 64. After an error it is of no use. Clauses
+/// say by `HasGathered` which bytes were fed.
 #[derive(Drop)]
 pub struct GatheredSums {
-    // Of the bytes before those that are held.
+    // The sums of all bytes before those that are held.
     sums: PieceSums,
     held: Vec<u8>,
-    // How many bytes go on together: those of eight pieces, or each byte alone where none are held.
+    // Bytes are handed to the sums in multiples of this: eight pieces, or 1 where nothing is ever held.
     together: usize,
     ghost fewer: { vec_len held < together },
 }
@@ -26,8 +27,8 @@ pub struct GatheredSums {
 impl GatheredSums {
     ghost use Rattle.tor_v1.specs.Gathering.{Gathers, HasGathered};
 
-    /// Sums of no byte, for pieces of `piece_length` bytes. Of a content that is said to have `length` bytes none is
-    /// held where these are fewer than eight pieces.
+    /// Sums of no byte, for pieces of `piece_length` bytes. The content is expected to have `length` bytes: where these
+    /// are fewer than eight pieces nothing is held. The sums do not depend on it.
     pub fn new(alloc: Global, piece_length: u64, length: u64) -> GatheredSums
         requires { IsV1PieceLength piece_length }
         ensures { HasGathered result piece_length [] }
@@ -87,7 +88,7 @@ impl GatheredSums {
         Ok(sums.finish())
     }
 
-    // How many of so many bytes go on at once, as they are: whole runs, where none is held.
+    // How many of so many bytes can be handed on without being held: whole runs, or none while some bytes are held.
     fn length_of_runs(&self, left: usize) -> usize
         ensures within { result ≤ left }
         ensures alone { 0 < result → self.now.held.items ≡ [] }
@@ -99,7 +100,7 @@ impl GatheredSums {
         }
     }
 
-    // Holds bytes, and hands on all that are held where these are as many as go on together.
+    // Holds bytes, and hands on all that are held once they are a whole run.
     fn hold(&mut self, bytes: &[u8]) -> Result<(), AllocError>
         requires { vec_len self.old.held + length bytes.now ≤ self.old.together }
         ensures { OnOk result (Gathers self.old self.new bytes.now) }
@@ -115,7 +116,7 @@ impl GatheredSums {
     }
 }
 
-/// How many bytes of a content of `length` bytes are hashed together.
+/// How many bytes of a content of `length` bytes are handed on together.
 fn together(piece_length: u64, length: u64) -> usize
     requires { IsV1PieceLength piece_length }
     ensures { 0 < result }

@@ -6,7 +6,7 @@
 //!   [`padding_length`] and [`count_with_bytes`] tell what a file needs of it, [`pad_entry`] is one.
 //! - [`PieceSums`] (`sums.rt`): the SHA-1 of each piece of a content that is fed in parts.
 //!   `runs.rt` has eight pieces hashed at once.
-//! - [`GatheredSums`] (`gathered.rt`): the same where the parts are short, and are gathered to eight pieces.
+//! - [`GatheredSums`] (`gathered.rt`): the same; parts shorter than eight pieces are held until eight are there.
 //! - [`laws`]: what follows from the definitions alone.
 //!
 //! ```rust
