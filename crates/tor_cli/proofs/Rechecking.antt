@@ -27,7 +27,8 @@ module _ (bytes : List ℕ) (view : View) (told : IsTold bytes view) where
   not_placed scans.Memory why = tt
 
   -- a file of the torrent had a fault, or memory was refused
-  pub not_rechecked : (error : RecheckError Error) → IsGiven (IsFileFault (length view.files)) error
+  pub not_rechecked : (error : RecheckError Error)
+      → IsGiven (IsFileFault (length view.files)) (length view.files) error
       → error ≢ rechecks.Workers → IsNotRechecked bytes (of_recheck_error error)
   not_rechecked (rechecks.Read file start fault) given other = (view, told, (given, other, λ same. cc))
   not_rechecked (rechecks.Changed file) given other = (view, told, (given, other, λ same. cc))

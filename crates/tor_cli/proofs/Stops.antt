@@ -98,7 +98,7 @@ module _ (options : MakeOptions) (s : Streams) where
 -- an error of making is told of the order and the paths
 pub finding_make : (options : MakeOptions) (order : Order) (paths : List (List (List ℕ))) (error : MakeError Error)
     → IsOrderOf options order paths → IsOwn (make_refusal order paths) error → IsToldFirst order paths error
-    → IsGivenTo (IsFileFault (length paths)) error → StopsFinding options (of_make_error error)
+    → IsGivenTo (IsFileFault (length paths)) (length paths) error → StopsFinding options (of_make_error error)
 finding_make options order paths error is own first gave = elim (told_or_memory error) [
   | inl told ↦ rw told.1 (order, paths, is, own, first, gave)
   | inr memory ↦ rw memory tt

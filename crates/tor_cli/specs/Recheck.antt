@@ -61,7 +61,8 @@ pub record IsRechecked (bytes text : List ℕ) (answer : Answer) : Type 0 where
 -- a fault of a file that the torrent has, or want of workers or of memory
 abbrev pub IsRecheckFault : View → RecheckError Error → Type 0
 IsRecheckFault view error =
-    IsGiven (IsFileFault (length view.files)) error × (error ≢ rechecks.Workers) × (error ≢ rechecks.Resources)
+    IsGiven (IsFileFault (length view.files)) (length view.files) error × (error ≢ rechecks.Workers)
+    × (error ≢ rechecks.Resources)
 
 -- why nothing is told of the bytes
 abbrev pub IsNotRechecked : List ℕ → Fault → Type 0

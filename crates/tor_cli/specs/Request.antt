@@ -121,7 +121,7 @@ StopsFinding options (Name fault) = name_fault options.name.now ≡ Some fault
 StopsFinding options (Scan fault) = (name_fault options.name.now ≡ None) × (fault ≢ scans.Memory)
 StopsFinding options (Make error) = (order : Order) × (paths : List (List (List ℕ))) × IsOrderOf options order paths
     × IsOwn (make_refusal order paths) error × IsToldFirst order paths error
-    × IsGivenTo (IsFileFault (length paths)) error
+    × IsGivenTo (IsFileFault (length paths)) (length paths) error
 StopsFinding options Resources = Unit {0}
 StopsFinding options other = ⊥
 

@@ -42,7 +42,7 @@ pub fn counted_report<S: Source, T: Threads + Sync>(
         (string_bytes report.text) report.answer × (first_fault facts torrent.now ≡ None))
         (IsFault (first_fault facts torrent.now)) }
     ensures allowed { IfErr result (λ error. error ≢ Workers) }
-    ensures gave { IfErr result (IsGiven (S.gave source.now)) }
+    ensures gave { IfErr result (IsGiven (S.gave source.now) (length torrent.now.files)) }
 {
     let counting = Counting { source, progress };
     let rechecked = recheck(rt, alloc, &counting, torrent, How::One);

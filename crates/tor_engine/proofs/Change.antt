@@ -1,5 +1,6 @@
 -- Lengths that were told beside those that were planned, from a file on.
-use Rattle.std.proofs.Common.{◌≡◌, ◌<◌, ◌≤◌, ℕ, ◌+◌, List, length, drop, get_or, None, Some, refl}
+use Rattle.std.proofs.Common.{◌≡◌, ◌<◌, ◌≤◌, ℕ, ◌+◌, List, [], ◌∷◌, length, drop, get_or, None, Some, refl}
+use Rattle.std.proofs.Common.{◌==◌, Bool, true, false, cond, arith}
 use Rattle.std.proofs.lemmas.Bool.{eq-eqb, ne_eqb}
 use Rattle.std.proofs.lemmas.List.{drop_all, drop_more}
 use Rattle.tor_engine.specs.Fault.{change_from}
@@ -30,3 +31,18 @@ module _ (told planned : List ℕ) (file : ℕ) where
   pub change_ends : length told ≤ file → change_from file (drop file told) (drop file planned) ≡ None
   unfolding change_from
   change_ends end = rw (drop_all file told end) refl
+
+-- the file that is found is one of those that were planned
+pub change_within : (first : ℕ) (told planned : List ℕ) (file : ℕ) → change_from first told planned ≡ Some file
+    → file < first + length planned
+unfolding change_from
+change_within first [] planned file is = let none : None ≡ Some file = is in cc
+change_within first (one ∷ told) [] file is = let none : None ≡ Some file = is in cc
+change_within first (one ∷ told) (other ∷ planned) file is = either (one == other) (change_within (first + 1) told planned file) is
+  where
+    either : (b : Bool)
+        → (change_from (first + 1) told planned ≡ Some file → file < first + 1 + length planned)
+        → cond b (change_from (first + 1) told planned) (Some first) ≡ Some file
+        → file < first + length (other ∷ planned)
+    either true within later = omega (arith, within later)
+    either false within here = let same : first ≡ file = cc in omega arith

@@ -28,5 +28,7 @@ pub mod ToldContents
 pub mod Trees
 pub mod UnitParts
 pub mod UnitRuns
+pub mod Waiting
 pub mod Whole
 pub mod WholeUnits
+pub mod Zeros

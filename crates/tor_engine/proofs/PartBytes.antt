@@ -3,11 +3,12 @@ use Rattle.std.proofs.Common.{◌≡◌, ◌<◌, ◌≤◌, ℕ, ◌+◌, ◌-�
 use Rattle.std.proofs.Common.{append_assoc, append-nil, refl, ap, sym, subst, ◌∙◌, arith}
 use Rattle.std.proofs.lemmas.List.{drop-drop, length-drop}
 use Rattle.std.specs.List.{range_with_len}
-use Rattle.tor_source.specs.Source.{AreRead, SourceFacts, bytes_from}
+use Rattle.tor_source.specs.Source.{SourceFacts, bytes_from}
 use Rattle.tor_tree.specs.declared.kinds.Kind.{Kind}
 use Rattle.tor_engine.specs.Fault.{byte_fault, first_of}
 use Rattle.tor_engine.specs.declared.errors.EngineError.{EngineError}
 use Rattle.tor_engine.specs.declared.unit.UnitSums.{UnitSums}
+use Rattle.tor_engine.specs.steps.Place.{IsFaultFree}
 use Rattle.tor_engine.specs.steps.Unit.{HasTaken}
 use Rattle.tor_engine.proofs.FirstOf.{first_found, first_none}
 
@@ -52,12 +53,11 @@ module _ {F : Type 0} (facts : SourceFacts F) (file start : ℕ) where
       first_found (byte_fault facts file) start done size (start + done) error less refl none is
 
   -- none of those that were read fails
-  pub no_fault : (done count : ℕ) (old new : List ℕ) → AreRead facts file (start + done) old new count
+  pub no_fault : (done count : ℕ) → IsFaultFree facts file (start + done) count
       → first_of (byte_fault facts file) (range_with_len start done) ≡ None
       → first_of (byte_fault facts file) (range_with_len start (done + count)) ≡ None
-  no_fault done count old new read none =
+  no_fault done count free none =
       first_none (byte_fault facts file) start done (done + count) (omega arith) none
       (λ j low high.
       let at : start + done + (j - (start + done)) ≡ j = omega arith in
-      let free = read.fault_free (j - (start + done)) (omega arith) in
-      rw (ap (facts.byte_fault file) (sym at) ∙ free) refl)
+      rw (ap (facts.byte_fault file) (sym at) ∙ free (j - (start + done)) (omega arith)) refl)

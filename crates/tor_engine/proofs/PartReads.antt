@@ -11,15 +11,15 @@ use Rattle.tor_tree.specs.declared.kinds.Kind.{Kind}
 use Rattle.tor_engine.specs.Contents.{contents_in}
 use Rattle.tor_engine.specs.declared.unit.UnitSums.{UnitSums}
 use Rattle.tor_engine.specs.steps.Hashes.{bytes_of_part}
-use Rattle.tor_engine.specs.steps.Reads.{AreReads, FeedsPart, HasPart, HaveRead, PartRead}
+use Rattle.tor_engine.specs.steps.Reads.{AreReads, TakesPart, HasPart, HaveRead, PartRead}
 use Rattle.tor_engine.specs.steps.Unit.{HasTaken}
 use Rattle.tor_engine.proofs.PartBytes.{fed_more, fed_none, later_bytes}
 
 -- ---- the bytes of one part
 
 module _ {F : Type 0} (is_steady : SourceFacts F → Type 0) (part : Part) (old : UnitSums) where
-  pub feeds_none : FeedsPart is_steady part 0 old old
-  feeds_none = record {
+  pub takes_none : TakesPart is_steady part 0 old old
+  takes_none = record {
     bytes = [];
     counted = refl;
     steady = λ facts steady long. refl;
@@ -27,13 +27,13 @@ module _ {F : Type 0} (is_steady : SourceFacts F → Type 0) (part : Part) (old 
   }
 
   -- and then the bytes that come next
-  pub feeds_more : (done count : ℕ) (now new : UnitSums) (chunk : List ℕ) → FeedsPart is_steady part done old now
+  pub takes_more : (done count : ℕ) (now new : UnitSums) (chunk : List ℕ) → TakesPart is_steady part done old now
       → length chunk ≡ count
       → ((facts : SourceFacts F) → is_steady facts → part.length ≤ length (bytes_from facts part.file part.start)
       → chunk ≡ take count (bytes_from facts part.file (part.start + done)))
       → ((kind : Kind) (p : ℕ) (before unit : List ℕ) → HasTaken kind p before unit now
-      → HasTaken kind p (before ++ chunk) (unit ++ chunk) new) → FeedsPart is_steady part (done + count) old new
-  feeds_more done count now new chunk fed counted steady taken = record {
+      → HasTaken kind p (before ++ chunk) (unit ++ chunk) new) → TakesPart is_steady part (done + count) old new
+  takes_more done count now new chunk fed counted steady taken = record {
     bytes = fed.bytes ++ chunk;
     counted = length-append fed.bytes chunk ∙ ap₂ (λ a b. a + b) fed.counted counted;
     steady = λ facts is long.

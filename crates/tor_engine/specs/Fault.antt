@@ -1,5 +1,5 @@
 -- The first fault of a steady source, in the order in which it is asked.
-use Rattle.std.specs.Prelude.{◌≡◌, ◌⊎◌, ℕ, ◌==◌, List, [], ◌∷◌, length, map, ◌+◌, Option, None, Some, Result, Ok, Err}
+use Rattle.std.specs.Prelude.{◌≡◌, ◌⊎◌, ℕ, ◌<◌, ◌==◌, List, [], ◌∷◌, length, map, ◌+◌, Option, None, Some, Result, Ok, Err}
 use Rattle.std.specs.Prelude.{option_map, if◌then◌else◌}
 use Rattle.std.specs.List.{enumerate_from, range_with_len}
 use Rattle.std.specs.Option.{option_or}
@@ -71,19 +71,19 @@ units_fault facts units = first_of (unit_fault facts) units
 abbrev pub IsFault : {F : Type 0} → Option (EngineError F) → EngineError F → Type 0
 IsFault first error = (error ≡ Resources) ⊎ (first ≡ Some error)
 
--- a fault of the source is one that it gave, for this file and place
-abbrev pub IsGiven : {F : Type 0} → (ℕ → Option ℕ → F → Type 0) → EngineError F → Type 0
-IsGiven gave (Read file start fault) = gave file start fault
-IsGiven gave (Changed file) = Unit {0}
-IsGiven gave (Missing file) = Unit {0}
-IsGiven gave Resources = Unit {0}
+-- a fault of the source is one that it gave, for this file and place; the file that is named is one of so many
+abbrev pub IsGiven : {F : Type 0} → (ℕ → Option ℕ → F → Type 0) → ℕ → EngineError F → Type 0
+IsGiven gave count (Read file start fault) = gave file start fault × (file < count)
+IsGiven gave count (Changed file) = file < count
+IsGiven gave count (Missing file) = file < count
+IsGiven gave count Resources = Unit {0}
 -- no stream is read
-IsGiven gave (StreamTooLong file) = ⊥
+IsGiven gave count (StreamTooLong file) = ⊥
 
 -- the same where a missing file is no fault
-abbrev pub IsGivenOfPieces : {F : Type 0} → (ℕ → Option ℕ → F → Type 0) → EngineError F → Type 0
-IsGivenOfPieces gave (Read file start fault) = gave file start fault
-IsGivenOfPieces gave (Changed file) = Unit {0}
-IsGivenOfPieces gave (Missing file) = ⊥
-IsGivenOfPieces gave Resources = Unit {0}
-IsGivenOfPieces gave (StreamTooLong file) = ⊥
+abbrev pub IsGivenOfPieces : {F : Type 0} → (ℕ → Option ℕ → F → Type 0) → ℕ → EngineError F → Type 0
+IsGivenOfPieces gave count (Read file start fault) = gave file start fault × (file < count)
+IsGivenOfPieces gave count (Changed file) = file < count
+IsGivenOfPieces gave count (Missing file) = ⊥
+IsGivenOfPieces gave count Resources = Unit {0}
+IsGivenOfPieces gave count (StreamTooLong file) = ⊥

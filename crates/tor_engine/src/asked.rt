@@ -1,5 +1,5 @@
 //! The lengths of files that may be missing, asked of their source.
-ghost use Rattle.std.specs.Prelude.{◌≡◌, None, Ok, IfErr, MatchResult, length};
+ghost use Rattle.std.specs.Prelude.{◌≡◌, None, Ok, IfErr, IfOk, MatchResult, length};
 ghost use Rattle.tor_source.specs.Source.{SourceFacts};
 ghost use Rattle.tor_engine.specs.Fault.{IsFault, IsGivenOfPieces};
 ghost use Rattle.tor_engine.specs.PieceFault.{first_asked_fault, lengths_told};
@@ -18,7 +18,8 @@ pub(crate) fn ask_each<S: Source>(
         MatchResult result
         (λ told. (told.items ≡ lengths_told facts count) × (first_asked_fault facts count ≡ None))
         (IsFault (first_asked_fault facts count)) }
-    ensures gave { IfErr result (IsGivenOfPieces (S.gave source.now)) }
+    ensures counted { IfOk result (λ told. length told.items ≡ count) }
+    ensures gave { IfErr result (IsGivenOfPieces (S.gave source.now) count) }
 {
     let mut told = Vec::with_capacity(alloc, count)?;
     'files: for file in 0..count {
@@ -45,7 +46,7 @@ pub(crate) fn expect_each<S: Source>(
     ensures steady { (facts : SourceFacts S.Fault) → S.is_steady source.now facts →
         told.now ≡ lengths_told facts (length told.now) → first_asked_fault facts (length told.now) ≡ None →
         result ≡ Ok tt }
-    ensures gave { IfErr result (IsGivenOfPieces (S.gave source.now)) }
+    ensures gave { IfErr result (IsGivenOfPieces (S.gave source.now) (length told.now)) }
 {
     'files: for (file, length) in told.iter().enumerate() {
         match source.length(file as u64) {

@@ -38,7 +38,7 @@ pub fn hash_all<S: Source, R: Threads + Sync>(
         × (first_fault facts plan.now.lengths ≡ None))
         (IsFault (first_fault facts plan.now.lengths)) }
     ensures whole { IfOk result (AreSumsOfSome plan.now) }
-    ensures gave { IfErr result (IsGiven (S.gave source.now)) }
+    ensures gave { IfErr result (IsGiven (S.gave source.now) (length plan.now.lengths)) }
 {
     expect_lengths(alloc, source, plan.lengths())?;
     hash_told(rt, alloc, source, plan, how)
@@ -63,7 +63,7 @@ pub fn hash_told<S: Source, R: Threads + Sync>(
     ensures unchanged { (facts : SourceFacts S.Fault) → S.is_steady source.now facts →
         OnOk result (first_length_fault facts plan.now.lengths ≡ None) }
     ensures whole { IfOk result (AreSumsOfSome plan.now) }
-    ensures gave { IfErr result (IsGiven (S.gave source.now)) }
+    ensures gave { IfErr result (IsGiven (S.gave source.now) (length plan.now.lengths)) }
 {
     let run = match hash_units(rt, alloc, source, plan, how) {
         Ok(run) => run,

@@ -4,8 +4,8 @@
 //!   where the lengths were asked before.
 //! - [`How`] (`how.rt`): by how many workers; [`Sums`] (`sums.rt`): what comes of it; [`EngineError`] (`errors.rt`).
 //! - [`ask_lengths`] (`lengths.rt`): the lengths of files. `halves.rt` shares the units among workers; `turn.rt` hashes
-//!   units one after the other, `unit.rt` one unit, `reading.rt` reads one part; `run.rt` holds what a run of units
-//!   sums up to.
+//!   units one after the other, `reading.rt` has one part read. `unit.rt` holds what one unit sums up to: `room.rt` the
+//!   bytes that wait, `hasher.rt` the hashes of those before them; `run.rt` what a run of units sums up to.
 //! - [`hash_pieces`] (`pieces.rt`): what each piece hashes to ([`PieceHash`], `piece_hash.rt`), of files that may be cut
 //!   short or missing: `asked.rt` asks for their lengths, `present.rt` tells what is there by these, `piece_halves.rt`
 //!   shares the units among workers, `piece_turn.rt` hashes the pieces of units one after the other.
@@ -24,6 +24,7 @@ mod asked;
 mod engine;
 mod errors;
 mod halves;
+mod hasher;
 mod how;
 mod items;
 pub mod laws;
@@ -34,6 +35,7 @@ mod piece_turn;
 mod pieces;
 mod present;
 mod reading;
+mod room;
 mod run;
 mod sums;
 #[cfg(test)]

@@ -1,5 +1,5 @@
 //! The pieces of units hashed one after the other by one worker.
-ghost use Rattle.std.specs.Prelude.{◌≡◌, ◌↔◌, [], ◌+◌, ◌++◌, ◌<◌, IsTrue, None, All, IfErr, MatchResult, OnOk, length};
+ghost use Rattle.std.specs.Prelude.{◌≡◌, ◌↔◌, [], ◌+◌, ◌++◌, IsTrue, None, All, IfErr, IfOk, MatchResult, OnOk, length};
 ghost use Rattle.tor_plan.specs.Pieces.{pieces_of_unit};
 ghost use Rattle.tor_plan.specs.PlanFacts.{IsPlan};
 ghost use Rattle.tor_source.specs.Source.{SourceFacts};
@@ -11,13 +11,15 @@ ghost use Rattle.tor_engine.specs.steps.Pieces.{first_hashes, sums_in, unit_hash
 ghost use Rattle.tor_engine.specs.steps.Pieces.{AnswersPieces, AreTold, AreUnitsToHash, IsPaddingSum, IsPiece};
 ghost use Rattle.tor_engine.specs.steps.Reads.{HasParts};
 ghost use Rattle.tor_engine.specs.steps.Run.{IsUnitOf};
+ghost use Rattle.tor_engine.specs.steps.Unit.{IsFresh};
 
 use crate::errors::EngineError;
 use crate::items::item_at;
 use crate::piece_hash::PieceHash;
 use crate::present::is_there;
 use crate::run::RunSums;
-use crate::turn::{hash_unit, length_at_once, zeros};
+use crate::turn::hash_unit;
+use crate::unit::UnitSums;
 use std::alloc::{AllocError, Global};
 use tor_merkle::laws::root_of_short_content;
 use tor_plan::{Plan, PlanUnit};
@@ -46,11 +48,10 @@ pub(crate) fn hash_pieces_in_turn<S: Source>(
     requires units { AreUnitsToHash plan.now units.now }
     ensures { AnswersPieces S.is_steady S.gave source.now plan.now known.now.lengths.items units.now result }
 {
-    let mut room = zeros(alloc, length_at_once(plan))?;
-    let buffer = room.as_mut_slice();
+    let mut sums = UnitSums::new(alloc, plan)?;
     let mut hashes = Vec::new(alloc);
     'units: for unit in units {
-        match add_unit(alloc, source, plan, known, unit, buffer, &mut hashes) {
+        match add_unit(alloc, source, plan, known, unit, &mut sums, &mut hashes) {
             Ok(()) => {}
             Err(error) => return Err(error),
         }
@@ -65,15 +66,15 @@ fn add_unit<S: Source>(
     plan: &Plan,
     known: &Known,
     unit: &PlanUnit,
-    buffer: &mut [u8],
+    sums: &mut UnitSums,
     hashes: &mut Vec<Option<PieceHash>>,
 ) -> Result<(), EngineError<S::Fault>>
     requires planned { IsPlan plan.now }
     requires padding { IsPaddingSum plan.now known.now.padding_sum }
     requires unit { IsUnitOf plan.now unit.now }
     requires pieces { All (IsPiece plan.now) (pieces_of_unit plan.now.piece_length unit.now) }
-    requires buffer { 0 < length buffer.old }
-    ensures buffer { length buffer.new ≡ length buffer.old }
+    requires fresh { IsFresh plan.now sums.old }
+    ensures fresh { IfOk result (λ _. IsFresh plan.now sums.new) }
     ensures hashed { (facts : SourceFacts S.Fault) → S.is_steady source.now facts →
         AreTold known.now.lengths.items (contents_in facts (length plan.now.lengths)) →
         MatchResult result
@@ -83,11 +84,11 @@ fn add_unit<S: Source>(
         (IsFault (unit_pieces_fault facts plan.now (contents_in facts (length plan.now.lengths)) unit.now)) }
     ensures counted { OnOk result (length hashes.new.items
         ≡ length hashes.old.items + length (pieces_of_unit plan.now.piece_length unit.now)) }
-    ensures gave { IfErr result (IsGivenOfPieces (S.gave source.now)) }
+    ensures gave { IfErr result (IsGivenOfPieces (S.gave source.now) (length plan.now.lengths)) }
 {
     let pieces = unit.pieces(alloc, plan.piece_length())?;
     'pieces: for piece in pieces.as_slice() {
-        let hash = match hash_if_there(alloc, source, plan, known, piece, buffer) {
+        let hash = match hash_if_there(alloc, source, plan, known, piece, sums) {
             Ok(hash) => hash,
             Err(error) => return Err(error),
         };
@@ -103,20 +104,20 @@ fn hash_if_there<S: Source>(
     plan: &Plan,
     known: &Known,
     piece: &PlanUnit,
-    buffer: &mut [u8],
+    sums: &mut UnitSums,
 ) -> Result<Option<PieceHash>, EngineError<S::Fault>>
     requires planned { IsPlan plan.now }
     requires padding { IsPaddingSum plan.now known.now.padding_sum }
     requires piece { IsPiece plan.now piece.now }
-    requires buffer { 0 < length buffer.old }
-    ensures buffer { length buffer.new ≡ length buffer.old }
+    requires fresh { IsFresh plan.now sums.old }
+    ensures fresh { IfOk result (λ _. IsFresh plan.now sums.new) }
     ensures hashed { (facts : SourceFacts S.Fault) → S.is_steady source.now facts →
         AreTold known.now.lengths.items (contents_in facts (length plan.now.lengths)) →
         MatchResult result
         (λ hash. (hash ≡ hash_if_there plan.now (contents_in facts (length plan.now.lengths)) piece.now)
         × (piece_fault facts (contents_in facts (length plan.now.lengths)) piece.now ≡ None))
         (IsFault (piece_fault facts (contents_in facts (length plan.now.lengths)) piece.now)) }
-    ensures gave { IfErr result (IsGivenOfPieces (S.gave source.now)) }
+    ensures gave { IfErr result (IsGivenOfPieces (S.gave source.now) (length plan.now.lengths)) }
 {
     length_of_sums();
     root_of_short_content();
@@ -128,7 +129,7 @@ fn hash_if_there<S: Source>(
             v1: Some(sum),
             v2: None,
         })),
-        _ => match hash_piece(alloc, source, plan, piece, buffer) {
+        _ => match hash_piece(alloc, source, plan, piece, sums) {
             Ok(hash) => Ok(Some(hash)),
             Err(error) => Err(error),
         },
@@ -148,21 +149,21 @@ fn hash_piece<S: Source>(
     source: &S,
     plan: &Plan,
     piece: &PlanUnit,
-    buffer: &mut [u8],
+    sums: &mut UnitSums,
 ) -> Result<PieceHash, EngineError<S::Fault>>
     requires planned { IsPlan plan.now }
     requires piece { IsUnitOf plan.now piece.now }
-    requires buffer { 0 < length buffer.old }
-    ensures buffer { length buffer.new ≡ length buffer.old }
+    requires fresh { IsFresh plan.now sums.old }
+    ensures fresh { IfOk result (λ _. IsFresh plan.now sums.new) }
     ensures hashed { (facts : SourceFacts S.Fault) → S.is_steady source.now facts → HasParts facts piece.now.parts →
         MatchResult result
         (λ hash. (hash ≡ unit_hash plan.now (contents_in facts (length plan.now.lengths)) piece.now)
         × (unit_fault facts piece.now ≡ None))
         (IsFault (unit_fault facts piece.now)) }
-    ensures gave { IfErr result (IsGivenOfPieces (S.gave source.now)) }
+    ensures gave { IfErr result (IsGivenOfPieces (S.gave source.now) (length plan.now.lengths)) }
 {
     let mut run = RunSums::none(alloc);
-    match hash_unit(alloc, source, plan, piece, buffer, &mut run) {
+    match hash_unit(alloc, source, plan, piece, sums, &mut run) {
         Ok(()) => {}
         Err(error) => return Err(error),
     }

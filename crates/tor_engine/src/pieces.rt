@@ -11,6 +11,7 @@ ghost use Rattle.tor_engine.specs.steps.Pieces.{AnswersPieces, IsPaddingSum};
 
 use crate::asked::{ask_each, expect_each};
 use crate::errors::EngineError;
+use crate::hasher::feed_zeros;
 use crate::how::How;
 use crate::items::item_at;
 use crate::piece_halves::hash_pieces_by_halves;
@@ -20,7 +21,7 @@ use std::alloc::{AllocError, Global};
 use std::thread::Threads;
 use tor_plan::{Plan, PlanUnit};
 use tor_source::Source;
-use tor_v1::GatheredSums;
+use tor_v1::PieceSums;
 use tor_v1::laws::length_of_sums;
 
 /// What each piece of the plan hashes to, in their order, and none where some byte of it is not there: file i of the
@@ -42,7 +43,7 @@ pub fn hash_pieces<S: Source, R: Threads + Sync>(
         × (first_piece_fault facts plan.now ≡ None))
         (IsFault (first_piece_fault facts plan.now)) }
     ensures counted { IfOk result (λ hashes. length hashes.items ≡ length (pieces_of_plan plan.now)) }
-    ensures gave { IfErr result (IsGivenOfPieces (S.gave source.now)) }
+    ensures gave { IfErr result (IsGivenOfPieces (S.gave source.now) (length plan.now.lengths)) }
 {
     let lengths = match ask_each(alloc, source, plan.lengths().len()) {
         Ok(lengths) => lengths,
@@ -94,10 +95,9 @@ fn padding_sum(alloc: Global, plan: &Plan) -> Result<Option<[u8; 20]>, AllocErro
     if plan.kind().has_v2() || !has_long_padding(plan.units(), plan.piece_length()) {
         return Ok(None);
     }
-    let piece_length = plan.piece_length();
-    let mut sums = GatheredSums::new(alloc, piece_length, piece_length);
-    sums.feed_zeros(piece_length)?;
-    let joined = sums.finish()?;
+    let mut sums = PieceSums::new(alloc, plan.piece_length());
+    feed_zeros(&mut sums, plan.piece_length())?;
+    let joined = sums.finish();
     let (each, _) = joined.as_chunks::<20>();
     Ok(item_at(each, 0))
 }

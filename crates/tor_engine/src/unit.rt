@@ -1,66 +1,86 @@
-//! What one unit sums up to, while its bytes come.
-ghost use Rattle.std.specs.Prelude.{◌≡◌, ◌≢◌, ◌+◌, ◌≤◌, ◌++◌, [], ℕ, List, IfOk, OnOk, length, if◌then◌else◌};
+//! What one unit sums up to, while its bytes are read.
+ghost use Rattle.std.specs.Prelude.{◌≡◌, ◌≢◌, ◌+◌, ◌*◌, ◌-◌, ◌<◌, ◌≤◌, ◌++◌, [], ℕ, List, IfErr, IfOk, MatchResult, OnOk};
+ghost use Rattle.std.specs.Prelude.{IsSome, length, if◌then◌else◌};
 ghost use Rattle.std.specs.Option.{ForSome};
 ghost use Rattle.tor_merkle.specs.declared.TheConstants.{MAX_LENGTH};
-ghost use Rattle.tor_plan.specs.PlanFacts.{IsPlanPieceLength};
+ghost use Rattle.tor_plan.specs.PlanFacts.{IsPlan, PlanFacts};
+ghost use Rattle.tor_source.specs.Source.{SourceFacts, bytes_from};
 ghost use Rattle.tor_v1.specs.Piece.{zeros};
+ghost use Rattle.tor_engine.specs.Fault.{IsFault, IsGivenOfPieces, byte_fault};
+ghost use Rattle.tor_engine.specs.steps.Hasher.{tree_of};
 ghost use Rattle.tor_engine.specs.steps.Hashes.{hashes_of_bytes};
+ghost use Rattle.tor_engine.specs.steps.Place.{IsFaultFree};
+ghost use Rattle.tor_engine.specs.steps.Room.{count_in, length_of};
 
+use crate::errors::EngineError;
+use crate::hasher::UnitHasher;
+use crate::room::Room;
 use std::alloc::{AllocError, Global};
-use tor_merkle::{Feed, Hash};
-use tor_tree::Kind;
-use tor_v1::GatheredSums;
+use std::mem;
+use tor_merkle::Hash;
+use tor_plan::Plan;
+use tor_source::Source;
 
-/// What a unit sums up to, part by part. Clauses say by `HasTaken` which bytes were fed.
+/// What the units of a worker sum up to, one after the other. Bytes are read into room of its own, and wait there until
+/// many can be hashed together: of version 1 across the ends of files, of trees until a part ends. Clauses say by
+/// `HasTaken` which bytes were taken. After an error it is of no use.
 #[derive(Drop)]
 pub(crate) struct UnitSums {
-    // How many bytes of the present part were fed.
+    // The bytes that wait to be hashed.
+    room: Room,
+    // How many bytes of the present part were taken.
     begun: u64,
-    // The tree over the present part.
-    tree: Option<Feed>,
-    // The pieces of the whole unit.
-    pieces: Option<GatheredSums>,
-    ghost counted: { ForSome tree (λ feed. length feed.bytes ≡ begun) },
+    // It was fed all bytes before those that wait.
+    hasher: UnitHasher,
+    ghost counted: { ForSome (tree_of hasher) (λ feed. length feed.bytes + count_in room ≡ begun) },
     ghost small: { begun ≤ MAX_LENGTH },
 }
 
 impl UnitSums {
-    ghost use Rattle.tor_engine.specs.steps.Unit.{HasTaken, begun_of};
+    ghost use Rattle.tor_engine.specs.steps.Unit.{HasTaken, IsFresh, Keeps, TakesMore, begun_of};
     ghost use Rattle.tor_tree.specs.Kinds.{has_v1, has_v2};
     ghost use Rattle.tor_tree.specs.declared.kinds.Kind.{Kind};
     ghost use Rattle.tor_v1.specs.Piece.{piece_sums};
 
-    /// Of no byte. The unit is expected to have `length` bytes and zeros; the sums do not depend on it.
-    pub(crate) fn new(alloc: Global, kind: Kind, piece_length: u64, length: u64) -> UnitSums
-        requires { IsPlanPieceLength kind piece_length }
-        ensures taken { HasTaken kind piece_length [] [] result }
-        ensures begun { begun_of result ≡ 0 }
+    /// Of no byte, for the units of a plan.
+    pub(crate) fn new(alloc: Global, plan: &Plan) -> Result<UnitSums, AllocError>
+        requires { IsPlan plan.now }
+        ensures { IfOk result (IsFresh plan.now) }
     {
-        UnitSums {
+        let room = Room::new(alloc, plan)?;
+        Ok(UnitSums {
+            room,
             begun: 0,
-            tree: kind.has_v2().then(|| Feed::new(alloc, piece_length)),
-            pieces: kind
-                .has_v1()
-                .then(|| GatheredSums::new(alloc, piece_length, length)),
-        }
+            hasher: UnitHasher::new(alloc, plan.kind(), plan.piece_length()),
+        })
     }
 
-    /// Adds bytes of the present part.
-    pub(crate) fn feed(&mut self, bytes: &[u8]) -> Result<(), AllocError>
-        requires { begun_of self.old + length bytes.now ≤ MAX_LENGTH }
-        ensures taken { (kind : Kind) (piece_length : ℕ) (part unit : List ℕ) →
-            HasTaken kind piece_length part unit self.old →
-            OnOk result (HasTaken kind piece_length (part ++ bytes.now) (unit ++ bytes.now) self.new) }
-        ensures begun { OnOk result (begun_of self.new ≡ begun_of self.old + length bytes.now) }
+    /// Reads bytes of the present part from a place of its file on, at most `left`, and tells how many were read.
+    pub(crate) fn read<S: Source>(
+        &mut self,
+        source: &S,
+        file: u64,
+        start: u64,
+        left: u64,
+    ) -> Result<usize, EngineError<S::Fault>>
+        requires left { 0 < left }
+        requires small { begun_of self.old + left ≤ MAX_LENGTH }
+        ensures some { IfOk result (λ count. (0 < count) × (count ≤ left)) }
+        ensures begun { IfOk result (λ count. begun_of self.new ≡ begun_of self.old + count) }
+        ensures read { IfOk result (λ count. TakesMore (S.is_steady source.now) file start count self.old self.new) }
+        ensures fault { (facts : SourceFacts S.Fault) → S.is_steady source.now facts →
+            0 < length (bytes_from facts file start) →
+            MatchResult result (IsFaultFree facts file start) (IsFault (byte_fault facts file start)) }
+        ensures gave { (files : ℕ) → file < files → IfErr result (IsGivenOfPieces (S.gave source.now) files) }
     {
-        if let Some(pieces) = &mut self.pieces {
-            pieces.feed(bytes)?;
+        self.make_room()?;
+        match self.room.read(source, file, start, left) {
+            Ok(count) => {
+                self.begun += count as u64;
+                Ok(count)
+            }
+            Err(error) => Err(error),
         }
-        if let Some(tree) = &mut self.tree {
-            tree.feed(bytes)?;
-        }
-        self.begun += bytes.len() as u64;
-        Ok(())
     }
 
     /// Adds zeros, which belong to no file.
@@ -70,9 +90,11 @@ impl UnitSums {
             OnOk result (HasTaken kind piece_length part (unit ++ zeros count) self.new) }
         ensures begun { begun_of self.new ≡ begun_of self.old }
     {
-        if let Some(pieces) = &mut self.pieces {
-            pieces.feed_zeros(count)?;
+        if count == 0 {
+            return Ok(());
         }
+        self.hash_all()?;
+        self.hasher.feed_zeros(count)?;
         Ok(())
     }
 
@@ -93,48 +115,79 @@ impl UnitSums {
             ++ (if has_v2 kind then hashes_of_bytes piece_length length part else [])) }
         ensures begun { OnOk result (begun_of self.new ≡ 0) }
     {
+        self.hash_tree()?;
         self.begun = 0;
-        match self.tree.take() {
-            Some(tree) => {
-                self.tree = Some(Feed::new(alloc, tree.piece_length()));
-                add_hashes(tree, length, hashes)
-            }
-            None => Ok(()),
-        }
+        self.hasher.end_part(alloc, length, hashes)?;
+        Ok(())
     }
 
-    /// Ends the unit: puts the SHA-1 of its pieces after `pieces`.
-    pub(crate) fn finish(self, pieces: &mut Vec<u8>) -> Result<(), AllocError>
-        ensures { (kind : Kind) (piece_length : ℕ) (part unit : List ℕ) →
-            HasTaken kind piece_length part unit self →
+    /// Ends the unit, whose last part has ended: puts the SHA-1 of its pieces after `pieces`, and begins the next one.
+    pub(crate) fn end_unit(
+        &mut self,
+        alloc: Global,
+        plan: &Plan,
+        pieces: &mut Vec<u8>,
+    ) -> Result<(), AllocError>
+        requires planned { IsPlan plan.now }
+        requires ended { begun_of self.old ≡ 0 }
+        ensures summed { (kind : Kind) (piece_length : ℕ) (part unit : List ℕ) →
+            HasTaken kind piece_length part unit self.old →
             OnOk result (pieces.new.items ≡ pieces.old.items
             ++ (if has_v1 kind then piece_sums piece_length unit else [])) }
+        ensures fresh { OnOk result (IsFresh plan.now self.new) }
     {
-        let UnitSums {
-            begun: _,
-            tree: _,
-            pieces: sums,
-        } = self;
-        match sums {
-            Some(sums) => pieces.extend_from_slice(&sums.finish()?),
-            None => Ok(()),
-        }
+        self.hash_all()?;
+        let next = UnitHasher::new(alloc, plan.kind(), plan.piece_length());
+        mem::replace(&mut self.hasher, next).finish(pieces)?;
+        Ok(())
     }
-}
 
-/// Puts the hashes of the pieces of a part of a file of `length` bytes after `hashes`.
-fn add_hashes(tree: Feed, length: u64, hashes: &mut Vec<Hash>) -> Result<(), AllocError>
-    ensures { tree.bytes ≢ [] →
-        OnOk result (hashes.new.items ≡ hashes.old.items ++ hashes_of_bytes tree.piece_length length tree.bytes) }
-{
-    if length > tree.piece_length() {
-        return hashes.extend_from_slice(&tree.piece_roots());
-    }
-    match tree.finish() {
-        Some(sums) => {
-            hashes.push(sums.0)?;
-            Ok(())
+    // Hashes a batch where there is little room left.
+    fn make_room(&mut self) -> Result<(), AllocError>
+        ensures keeps { OnOk result (Keeps self.old self.new) }
+        ensures begun { begun_of self.new ≡ begun_of self.old }
+        ensures room { OnOk result (count_in self.new.room < length_of self.new.room) }
+    {
+        if self.room.is_full() {
+            let count = self.room.batch();
+            return self.hash(count);
         }
-        None => Ok(()),
+        Ok(())
+    }
+
+    // Hashes all that waits where there is a tree.
+    fn hash_tree(&mut self) -> Result<(), AllocError>
+        ensures keeps { OnOk result (Keeps self.old self.new) }
+        ensures begun { begun_of self.new ≡ begun_of self.old }
+        ensures all { OnOk result (IsSome (tree_of self.new.hasher) → count_in self.new.room ≡ 0) }
+    {
+        if self.hasher.has_tree() {
+            return self.hash_all();
+        }
+        Ok(())
+    }
+
+    // Hashes all that waits.
+    fn hash_all(&mut self) -> Result<(), AllocError>
+        ensures keeps { OnOk result (Keeps self.old self.new) }
+        ensures begun { begun_of self.new ≡ begun_of self.old }
+        ensures none { OnOk result (count_in self.new.room ≡ 0) }
+    {
+        let count = self.room.held();
+        self.hash(count)
+    }
+
+    // Hashes the first so many bytes that wait, at least half of them.
+    fn hash(&mut self, count: usize) -> Result<(), AllocError>
+        requires within { count ≤ count_in self.old.room }
+        requires half { count_in self.old.room ≤ 2 * count }
+        ensures keeps { OnOk result (Keeps self.old self.new) }
+        ensures begun { begun_of self.new ≡ begun_of self.old }
+        ensures count { OnOk result (count_in self.new.room ≡ count_in self.old.room - count) }
+        ensures length { OnOk result (length_of self.new.room ≡ length_of self.old.room) }
+    {
+        self.hasher.feed(self.room.front(count))?;
+        self.room.let_go(count);
+        Ok(())
     }
 }

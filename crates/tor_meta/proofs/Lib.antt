@@ -10,6 +10,7 @@ pub mod OneFile
 pub mod Judged
 pub mod Refused
 pub mod FromSource
+pub mod GivenFiles
 pub mod ByteFaults
 pub mod SourceFaults
 pub mod Made

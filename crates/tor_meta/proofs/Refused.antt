@@ -40,20 +40,20 @@ paths_of {F} order head paths accepted same =
     (mapped_none (of_contents_error {F = F}) (paths_refusal (settings_of_order order) paths)
     (both_none (numbers_refusal {F = F} order) _ accepted).1)
 
-module _ {F : Type 0} (gave : ℕ → Option ℕ → F → Type 0) where
-  of_test : (b : Bool) (fault e : MakeError F) (rest : Option (MakeError F)) → IsGivenTo gave fault →
-      (rest ≡ Some e → IsGivenTo gave e) →
-      cond b (Some fault) rest ≡ Some e → IsGivenTo gave e
-  of_test true fault e rest here later is = let same : fault ≡ e = cc in subst (IsGivenTo gave) same here
+module _ {F : Type 0} (gave : ℕ → Option ℕ → F → Type 0) (count : ℕ) where
+  of_test : (b : Bool) (fault e : MakeError F) (rest : Option (MakeError F)) → IsGivenTo gave count fault →
+      (rest ≡ Some e → IsGivenTo gave count e) →
+      cond b (Some fault) rest ≡ Some e → IsGivenTo gave count e
+  of_test true fault e rest here later is = let same : fault ≡ e = cc in subst (IsGivenTo gave count) same here
   of_test false fault e rest here later is = later is
 
-  of_either : (a b : Option (MakeError F)) (e : MakeError F) → (a ≡ Some e → IsGivenTo gave e) → (b ≡ Some e →
-      IsGivenTo gave e) →
-      option_or a b ≡ Some e → IsGivenTo gave e
+  of_either : (a b : Option (MakeError F)) (e : MakeError F) → (a ≡ Some e → IsGivenTo gave count e) → (b ≡ Some e →
+      IsGivenTo gave count e) →
+      option_or a b ≡ Some e → IsGivenTo gave count e
   of_either None b e one other is = other is
   of_either (Some x) b e one other is = one is
 
-  of_contents : (refusal : ContentsError) → IsGivenTo gave (of_contents_error refusal)
+  of_contents : (refusal : ContentsError) → IsGivenTo gave count (of_contents_error refusal)
   of_contents refusal.PieceLength = tt
   of_contents refusal.Path = tt
   of_contents refusal.SingleShape = tt
@@ -62,14 +62,14 @@ module _ {F : Type 0} (gave : ℕ → Option ℕ → F → Type 0) where
   of_contents refusal.Memory = tt
 
   of_mapped : (refusal : Option ContentsError) (e : MakeError F) → option_map of_contents_error refusal ≡ Some e →
-      IsGivenTo gave e
+      IsGivenTo gave count e
   of_mapped None e is = cc
   of_mapped (Some fault) e is = let same : of_contents_error fault
-      ≡ e = cc in subst (IsGivenTo gave) same (of_contents fault)
+      ≡ e = cc in subst (IsGivenTo gave count) same (of_contents fault)
 
   -- no refusal is a fault of the source
   pub not_of_source : (order : Order) (paths : List (List (List ℕ))) (e : MakeError F) →
-      make_refusal order paths ≡ Some e → IsGivenTo gave e
+      make_refusal order paths ≡ Some e → IsGivenTo gave count e
   not_of_source order paths e is =
       of_either (numbers_refusal order) (option_map of_contents_error (paths_refusal (settings_of_order order) paths)) e
       (of_test (not (is_piece_length order.piece_length)) PieceLength e _ tt
@@ -78,6 +78,6 @@ module _ {F : Type 0} (gave : ℕ → Option ℕ → F → Type 0) where
       (of_mapped (paths_refusal (settings_of_order order) paths) e) is
 
   pub given_or_not : (order : Order) (paths : List (List (List ℕ))) (e : MakeError F) →
-      (e ≡ Resources) ⊎ (make_refusal order paths ≡ Some e) → IsGivenTo gave e
-  given_or_not order paths e (inl none) = subst (IsGivenTo gave) (sym none) tt
+      (e ≡ Resources) ⊎ (make_refusal order paths ≡ Some e) → IsGivenTo gave count e
+  given_or_not order paths e (inl none) = subst (IsGivenTo gave count) (sym none) tt
   given_or_not order paths e (inr is) = not_of_source order paths e is

@@ -1,5 +1,5 @@
 -- The torrent of the files of a source: what it is of, and why it is not made.
-use Rattle.std.specs.Prelude.{◌≡◌, ℕ, not, List as ListOf, [], length, map, option_map, Option, None, Some, unwrap_or}
+use Rattle.std.specs.Prelude.{◌≡◌, ℕ, ◌<◌, not, List as ListOf, [], length, map, option_map, Option, None, Some, unwrap_or}
 use Rattle.std.specs.Prelude.{if◌then◌else◌}
 use Rattle.std.specs.List.{enumerate_from, range_with_len}
 use Rattle.std.specs.Option.{option_or}
@@ -73,11 +73,14 @@ pub record IsMakeFault {F : Type 0} (facts : SourceFacts F) (order : Order) (pat
   pub placed : make_refusal {F = F} order paths ≡ None → ArePlacedPaths paths entries × IsInPathOrder entries
   pub is_first : fault_of facts order paths entries ≡ fault
 
--- a fault of the source is one that it gave, for this file and place; no stream is read
-abbrev pub IsGivenTo : {F : Type 0} → (ℕ → Option ℕ → F → Type 0) → MakeError F → Type 0
-IsGivenTo gave (Read file start fault) = gave file start fault
-IsGivenTo gave (StreamTooLong file) = ⊥
-IsGivenTo gave _ = Unit {0}
+-- a fault of the source is one that it gave, for this file and place; the file that is named is one of so many; no
+-- stream is read
+abbrev pub IsGivenTo : {F : Type 0} → (ℕ → Option ℕ → F → Type 0) → ℕ → MakeError F → Type 0
+IsGivenTo gave count (Read file start fault) = gave file start fault × (file < count)
+IsGivenTo gave count (Changed file) = file < count
+IsGivenTo gave count (Missing file) = file < count
+IsGivenTo gave count (StreamTooLong file) = ⊥
+IsGivenTo gave count _ = Unit {0}
 
 -- of a refusal of the order or the paths: it is the first that there is. Other answers are of the source or its
 -- lengths, or want of memory

@@ -47,7 +47,7 @@ pub fn make<S: Source, R: Threads + Sync>(
     ensures refused { (refusal : MakeError S.Fault) → make_refusal order.now paths.now ≡ Some refusal →
         IfErr result (λ error. (error ≡ Resources) ⊎ (error ≡ refusal)) }
     ensures only { IfErr result (IsOwn (make_refusal order.now paths.now)) }
-    ensures gave { IfErr result (IsGivenTo (S.gave source.now)) }
+    ensures gave { IfErr result (IsGivenTo (S.gave source.now) (length paths.now)) }
 {
     let head = order.head(alloc)?;
     let paths = match judge(alloc, order, &head, paths) {
@@ -118,7 +118,7 @@ fn ask_list<S: Source>(
         (λ _. asked_fault facts (length paths) ≡ None)
         (λ error. (error ≡ Resources) ⊎ (asked_fault facts (length paths) ≡ Some error)) }
     ensures only { (first : Option (MakeError S.Fault)) → IfErr result (IsOwn first) }
-    ensures gave { IfErr result (IsGivenTo (S.gave source.now)) }
+    ensures gave { IfErr result (IsGivenTo (S.gave source.now) (length paths)) }
 {
     let lengths = match ask_lengths(alloc, source, paths.entries().len()) {
         Ok(lengths) => lengths,

@@ -1,13 +1,14 @@
 -- The first fault of the hashing is that of the recheck.
-use Rattle.std.proofs.Common.{◌≡◌, [], None, option_map, ap, ap₂, sym, ◌∙◌, inl, inr}
+use Rattle.std.proofs.Common.{◌≡◌, ℕ, [], Option, None, option_map, ap, ap₂, sym, ◌∙◌, inl, inr}
 use Rattle.std.specs.Option.{option_or}
 use Rattle.tor_engine.specs.Contents.{contents_in}
 use Rattle.tor_engine.specs.Fault as engine
 use Rattle.tor_engine.specs.PieceFault.{first_asked_fault, first_piece_fault, pieces_fault}
 use Rattle.tor_engine.specs.declared.errors.EngineError.{EngineError}
+use Rattle.tor_engine.specs.declared.errors.EngineError.TheVariants.{Read, Changed, Missing, Resources, StreamTooLong}
 use Rattle.tor_plan.specs.PlanFacts.{PlanFacts, plan_of_entries}
 use Rattle.tor_recheck.specs.Pieces.{IsCut, entries_to_cut}
-use Rattle.tor_recheck.specs.Recheck.{IsFault, first_fault, of_engine_error}
+use Rattle.tor_recheck.specs.Recheck.{IsFault, IsGiven, first_fault, of_engine_error}
 use Rattle.tor_recheck.proofs.Rechecked.{count_is, pieces_are}
 use Rattle.tor_source.specs.Source.{SourceFacts}
 use Rattle.tor_spec.specs.valid.View.{View}
@@ -32,3 +33,11 @@ module _ {F : Type 0} (facts : SourceFacts F) (view : View) (cut : IsCut view) w
       → IsFault (first_fault facts view) (of_engine_error error)
   same_fault error (inl memory) = inl (ap of_engine_error memory)
   same_fault error (inr first) = inr (sym same_first ∙ ap (option_map of_engine_error) first)
+
+pub given_of : {F : Type 0} (gave : ℕ → Option ℕ → F → Type 0) (count : ℕ) (error : EngineError F)
+    → engine.IsGivenOfPieces gave count error → IsGiven gave count (of_engine_error error)
+given_of gave count (Read file start fault) given = given
+given_of gave count (Changed file) given = given
+given_of gave count (Missing file) given = absurd given
+given_of gave count Resources given = given
+given_of gave count (StreamTooLong file) given = absurd given

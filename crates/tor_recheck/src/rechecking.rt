@@ -49,7 +49,7 @@ pub fn recheck<S: Source, R: Threads + Sync>(
         (IsFault (first_fault facts torrent.now)) }
     ensures counted { IfOk result (λ bits. length bits ≡ torrent.now.piece_count) }
     ensures allowed { IsHow how → IfErr result (λ error. error ≢ Workers) }
-    ensures gave { IfErr result (IsGiven (S.gave source.now)) }
+    ensures gave { IfErr result (IsGiven (S.gave source.now) (length torrent.now.files)) }
 {
     if !is_how(how) {
         return Err(RecheckError::Workers);

@@ -2,7 +2,6 @@ pub mod Zeros
 pub mod Ceil
 pub mod Cut
 pub mod Fed
-pub mod HeldBytes
 pub mod RunSums
 pub mod ProvedLaws
 pub mod Names

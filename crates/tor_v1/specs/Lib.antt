@@ -3,5 +3,4 @@ pub mod Reserved
 pub mod Entries
 pub mod Content
 pub mod Feeding
-pub mod Gathering
 pub mod steps

@@ -6,7 +6,6 @@
 //!   [`padding_length`] and [`count_with_bytes`] tell what a file needs of it, [`pad_entry`] is one.
 //! - [`PieceSums`] (`sums.rt`): the SHA-1 of each piece of a content that is fed in parts.
 //!   `runs.rt` has eight pieces hashed at once.
-//! - [`GatheredSums`] (`gathered.rt`): the same; parts shorter than eight pieces are held until eight are there.
 //! - [`laws`]: what follows from the definitions alone.
 //!
 //! ```rust
@@ -21,7 +20,6 @@
 #![tactic(auto)]
 
 mod entry;
-mod gathered;
 pub mod laws;
 mod layout;
 mod padding;
@@ -33,7 +31,6 @@ mod tests;
 mod tests_runs;
 
 pub use entry::{Entry, is_reserved};
-pub use gathered::GatheredSums;
 pub use layout::{Layout, LayoutError, count_with_bytes, lay_out};
 pub use padding::{pad_entry, padding_length};
 pub use runs::MAX_PIECE_IN_RUN;

@@ -11,7 +11,7 @@ use std::alloc::{AllocError, Global};
 use std::mem;
 
 /// So many zeros are fed at once.
-pub(crate) const ZEROS_LENGTH: usize = 1024;
+const ZEROS_LENGTH: usize = 1024;
 
 static ZEROS: [u8; ZEROS_LENGTH] = [0; ZEROS_LENGTH];
 
@@ -179,7 +179,7 @@ fn end_piece(hasher: &mut Sha1, sums: &mut Vec<u8>)
 }
 
 /// So many zeros.
-pub(crate) fn zeros(count: usize) -> &'static [u8]
+fn zeros(count: usize) -> &'static [u8]
     requires { count ≤ ZEROS_LENGTH }
     ensures { result.now ≡ zeros count }
 {

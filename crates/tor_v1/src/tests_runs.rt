@@ -1,7 +1,6 @@
 //! Runs of eight whole pieces, which are hashed at once: contents of about so many pieces, fed at one time and in
 //! parts. Hashes in hexadecimal were computed by another program (Python's hashlib).
 
-use crate::gathered::GatheredSums;
 use crate::sums::PieceSums;
 use crate::tests::hex;
 use sha1::Sha1;
@@ -63,24 +62,8 @@ fn sums_of<R: AllocGlobal + Abort>(
     Ok(sums.finish())
 }
 
-// The same by sums that gather.
-fn gathered_sums_of<R: AllocGlobal + Abort>(
-    rt: &R,
-    piece_length: u64,
-    bytes: &[u8],
-    part: usize,
-) -> Result<Vec<u8>, AllocError> {
-    assert!(rt; piece_length >= 1 && piece_length <= 1 << 30);
-    assert!(rt; part > 0);
-    let mut sums = GatheredSums::new(rt.alloc(), piece_length, bytes.len() as u64);
-    for part in bytes.chunks(part) {
-        sums.feed(part)?;
-    }
-    sums.finish()
-}
-
 // Whether a content has the same sums fed at one time, in parts of less than a piece, and in parts of nine pieces
-// without the last byte, after which a piece is begun; and so by sums that gather.
+// without the last byte, after which a piece is begun.
 fn agrees<R: AllocGlobal + Abort>(
     rt: &R,
     piece_length: u64,
@@ -92,14 +75,7 @@ fn agrees<R: AllocGlobal + Abort>(
     let whole = sums_of(rt, piece_length, &bytes, 1 << 20)?;
     let parts = sums_of(rt, piece_length, &bytes, short)?;
     let runs = sums_of(rt, piece_length, &bytes, 9 * short + 8)?;
-    let held = gathered_sums_of(rt, piece_length, &bytes, short)?;
-    let gathered = gathered_sums_of(rt, piece_length, &bytes, 9 * short + 8)?;
-    Ok(
-        whole.as_slice() == parts.as_slice()
-            && whole.as_slice() == runs.as_slice()
-            && whole.as_slice() == held.as_slice()
-            && whole.as_slice() == gathered.as_slice(),
-    )
+    Ok(whole.as_slice() == parts.as_slice() && whole.as_slice() == runs.as_slice())
 }
 
 // The hash of the joined sums of a content that is fed at one time.
@@ -132,18 +108,5 @@ fn sums_seventeen_pieces_and_a_byte(rt: HostRuntime) -> Result<(), AllocError> {
         let text = told(&rt, *piece_length, *length)?;
         assert_eq!(rt; text.as_str(), *want, "at {piece_length}");
     }
-    Ok(())
-}
-
-// `ab`, and zeros up to seventeen pieces of 64 bytes, gathered.
-#[test]
-fn gathers_zeros(rt: HostRuntime) -> Result<(), AllocError> {
-    let mut sums = GatheredSums::new(rt.alloc(), 64, 1_088);
-    sums.feed(b"ab")?;
-    sums.feed_zeros(1_086)?;
-    let mut hasher = Sha1::new();
-    hasher.update(&sums.finish()?);
-    let text = hex(rt.alloc(), &hasher.finalize())?;
-    assert_eq!(rt; text.as_str(), "6ed7bee93301fbd40a6459ce89e0f58ff505b8d2");
     Ok(())
 }

@@ -109,4 +109,4 @@ pub record AnswersPieces {S F : Type 0} (is_steady : S → SourceFacts F → Typ
       (IsFault (first_unit_fault facts plan (contents_in facts (length plan.lengths)) units))
   pub counted : IfOk result
       (λ hashes. length hashes.items ≡ length (flat_map (pieces_of_unit plan.piece_length) units))
-  pub given : IfErr result (IsGivenOfPieces (gave source))
+  pub given : IfErr result (IsGivenOfPieces (gave source) (length plan.lengths))

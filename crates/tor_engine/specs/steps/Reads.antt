@@ -25,8 +25,8 @@ HasPart facts part = part.length ≤ length (bytes_from facts part.file part.sta
 abbrev pub HasParts : {F : Type 0} → SourceFacts F → List Part → Type 0
 HasParts facts parts = AllByRecursion (HasPart facts) parts
 
--- the first so many bytes of a part were read and fed; of a steady source they are those that it has there
-pub record FeedsPart {F : Type 0} (is_steady : SourceFacts F → Type 0) (part : Part) (count : ℕ)
+-- the first so many bytes of a part were read and taken; of a steady source they are those that it has there
+pub record TakesPart {F : Type 0} (is_steady : SourceFacts F → Type 0) (part : Part) (count : ℕ)
     (old new : UnitSums) : Type 0 where
   pub bytes : List ℕ
   pub counted : length bytes ≡ count

@@ -74,4 +74,4 @@ pub record AnswersUnits {S F : Type 0} (is_steady : S → SourceFacts F → Type
   pub summed : IfOk result (HashesUnits (is_steady source) plan units)
   pub steady : (facts : SourceFacts F) → is_steady source facts → HasLengths plan facts →
       MatchResult result (λ _. units_fault facts units ≡ None) (IsFault (units_fault facts units))
-  pub given : IfErr result (IsGiven (gave source))
+  pub given : IfErr result (IsGiven (gave source) (length plan.lengths))

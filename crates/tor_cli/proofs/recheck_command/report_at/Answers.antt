@@ -1,5 +1,5 @@
 -- Why nothing is told is told of the torrent that was judged, and of as many places as it has files.
-use Rattle.std.proofs.Common.{ℕ, subst}
+use Rattle.std.proofs.Common.{ℕ, length, subst}
 use Rattle.tor_recheck.specs.Recheck.{IsGiven}
 use Rattle.tor_cli.specs.Path.{IsFileFault}
 use Rattle.tor_cli.specs.Status.{of_refusal}
@@ -27,5 +27,5 @@ returns-clause-stopped g c =
     let count = places_count c.args.path.now view source c.in-Ok-source_at.ensures.placed in
     rw c.from-in-Err-counted_report.ensures
     (not_rechecked c.args.bytes.now view c.in-Ok.ensures.accepted error
-    (subst (λ (n : ℕ). IsGiven (IsFileFault n) error) count c.in-Err-counted_report.ensures.gave)
+    (subst (λ (n : ℕ). IsGiven (IsFileFault n) (length view.files) error) count c.in-Err-counted_report.ensures.gave)
     c.in-Err-counted_report.ensures.allowed)

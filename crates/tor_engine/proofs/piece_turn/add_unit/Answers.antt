@@ -1,5 +1,5 @@
 -- one piece after the other
-use Rattle.std.proofs.Common.{length, inl, inr, append-nil, refl, ap, arith, [], ◌∷◌, ◌++◌}
+use Rattle.std.proofs.Common.{length, inl, inr, append-nil, ap, arith, [], ◌∷◌, ◌++◌}
 use Rattle.std.proofs.lemmas.List.{length-append}
 use Rattle.std.proofs.Common.{sym, ◌∙◌}
 use Rattle.tor_plan.specs.Pieces.{pieces_of_unit}
@@ -12,7 +12,7 @@ use Rattle.tor_engine.proofs.piece_turn.add_unit.Goals as goal
 
 pub pieces-init : goal.pieces-init
 pieces-init g c = record {
-  buffer = refl;
+  fresh = c.requires.fresh;
   hashed = λ facts steady told.
       let contents = contents_in facts (length c.args.plan.now.lengths) in (
         sym (append-nil c.args.hashes.now.items),
@@ -36,7 +36,7 @@ returns-in-Err-clause-hashed g c = λ facts steady told.
 
 pub pieces-preserved : goal.pieces-preserved
 pieces-preserved g c = record {
-  buffer = c.in-Ok.ensures.buffer ∙ c.pieces.invariant.buffer;
+  fresh = c.in-Ok.ensures.fresh;
   hashed = λ facts steady told.
       let plan = c.args.plan.now in
       let contents = contents_in facts (length plan.lengths) in

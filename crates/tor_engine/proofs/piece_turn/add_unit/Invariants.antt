@@ -5,11 +5,12 @@ use Rattle.tor_engine.specs.Contents.{contents_in}
 use Rattle.tor_engine.specs.PieceFault.{pieces_fault}
 use Rattle.tor_engine.specs.PieceHashes.{hash_if_there}
 use Rattle.tor_engine.specs.steps.Pieces.{AreTold}
+use Rattle.tor_engine.specs.steps.Unit.{IsFresh}
 use Rattle.tor_engine.proofs.piece_turn.add_unit.Given as goal
 
 abbrev pub invariant-pieces : goal.invariant-pieces
 invariant-pieces g l = record {
-  buffer : length l.buffer ≡ length l.fn.buffer;
+  fresh : IsFresh l.plan l.sums;
   hashed : (facts : SourceFacts g.row.S-Fault.Denot) → g.S.Source.is_steady l.source facts →
       AreTold l.known.lengths.items (contents_in facts (length l.plan.lengths)) →
       (l.hashes.items ≡ l.fn.hashes.items

@@ -1,5 +1,5 @@
 -- one unit after the other
-use Rattle.std.proofs.Common.{length, ℕ, ◌<◌, inl, inr, ap, subst, sym, ◌∙◌, arith}
+use Rattle.std.proofs.Common.{length, inl, inr, ap, sym, ◌∙◌}
 use Rattle.tor_plan.specs.Pieces.{pieces_of_unit}
 use Rattle.tor_engine.specs.Contents.{contents_in}
 use Rattle.tor_engine.specs.steps.Pieces.{unit_hashes, unit_pieces_fault}
@@ -9,7 +9,7 @@ use Rattle.tor_engine.proofs.piece_turn.hash_pieces_in_turn.Goals as goal
 
 pub units-init : goal.units-init
 units-init g c = record {
-  buffer = omega (arith, c.as_mut_slice-buffer.ensures.len, c.in_ok-room.ensures);
+  fresh = c.in_ok-sums.ensures;
   hashed = λ facts steady told.
       let contents = contents_in facts (length c.args.plan.now.lengths) in (
         c.new-hashes.ensures.items,
@@ -24,7 +24,7 @@ units-preserved g c =
     let i = c.units.unit-index in
     let here = sym c.unit-item.is in
     record {
-      buffer = subst (λ (n : ℕ). 0 < n) (sym c.in-Ok.ensures.buffer) c.units.invariant.buffer;
+      fresh = c.in-Ok.ensures.fresh;
       hashed = λ facts steady told.
           let plan = c.args.plan.now in
           let contents = contents_in facts (length plan.lengths) in

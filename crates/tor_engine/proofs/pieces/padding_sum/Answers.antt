@@ -3,7 +3,7 @@ use Rattle.std.proofs.Common.{◌/◌, ℕ, [], length, ap, subst, sym, ◌∙�
 use Rattle.std.specs.List.{slice_get}
 use Rattle.std.specs.Simd.{first_chunks}
 use Rattle.tor_tree.specs.Kinds.{has_v2}
-use Rattle.tor_v1.specs.Gathering.{HasGathered}
+use Rattle.tor_v1.specs.Feeding.{HasFed}
 use Rattle.tor_v1.specs.Piece.{zeros}
 use Rattle.tor_engine.proofs.FileHashes.{some_piece}
 use Rattle.tor_engine.proofs.OnePiece.{padding_is}
@@ -13,14 +13,13 @@ pub returns : goal.returns
 returns c =
     let plan = c.args.plan.now in
     let planned = c.units.ensures.planned in
-    let same = c.piece_length-piece_length.ensures in
-    padding_is c.length_of_sums.ensures plan _ c.item_at.result
+    padding_is c.length_of_sums.ensures plan c.finish-joined.result.items c.item_at.result
     (some_piece plan.kind plan.piece_length planned.pieces)
     (ap has_v2 (sym c.kind.ensures) ∙ sym c.has_v2.ensures ∙ c.if-has_v2.false)
-    (c.in_ok-joined.ensures plan.piece_length (zeros plan.piece_length)
-    (subst (λ (n : ℕ). HasGathered c.feed_zeros.new.self plan.piece_length (zeros n)) same
+    (c.finish-joined.ensures plan.piece_length (zeros plan.piece_length)
+    (subst (λ (n : ℕ). HasFed c.feed_zeros.new.pieces plan.piece_length (zeros n)) c.piece_length-3.ensures
     (c.in_ok-feed_zeros.ensures plan.piece_length []
-    (subst (λ (n : ℕ). HasGathered c.new-sums.result n []) same c.new-sums.ensures))))
+    (subst (λ (n : ℕ). HasFed c.new-sums.result n []) c.piece_length-2.ensures c.new-sums.ensures))))
     (c.item_at.ensures
     ∙ ap (λ xs. slice_get xs 0)
     (c.as_chunks.ensures.front ∙ ap (λ xs. first_chunks 20 (length xs / 20) xs) c.deref.ensures.value))

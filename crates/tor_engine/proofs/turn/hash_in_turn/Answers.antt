@@ -1,5 +1,5 @@
 -- one unit after the other
-use Rattle.std.proofs.Common.{◌<◌, ℕ, inl, inr, ap, sym, subst, ◌∙◌, arith}
+use Rattle.std.proofs.Common.{inl, inr, ap, sym, ◌∙◌}
 use Rattle.tor_engine.specs.Fault.{unit_fault}
 use Rattle.tor_engine.proofs.Given.{given_of_pieces}
 use Rattle.tor_engine.proofs.FirstOf.{first_at, first_next, first_of_none}
@@ -9,7 +9,7 @@ use Rattle.tor_engine.proofs.turn.hash_in_turn.Goals as goal
 
 pub units-init : goal.units-init
 units-init g c = record {
-  buffer = omega (arith, c.as_mut_slice-buffer.ensures.len, c.in_ok-room.ensures);
+  fresh = c.in_ok-sums.ensures;
   hashed = units_none (g.S.Source.is_steady c.args.source.now) c.args.plan.now c.none-run.result
       c.none-run.ensures.hashes c.none-run.ensures.pieces;
   faultless = λ facts steady fit. first_of_none (unit_fault facts);
@@ -22,7 +22,7 @@ units-preserved g c =
     let old = c.units.invariant in
     let here = sym c.unit-item.is in
     record {
-      buffer = subst (λ (n : ℕ). 0 < n) (sym c.in-Ok.ensures.buffer) old.buffer;
+      fresh = c.in-Ok.ensures.fresh;
       hashed = units_more (g.S.Source.is_steady c.args.source.now) c.args.plan.now units i _ c.unit-item.result
           c.units.run
           c.hash_unit.new.run c.units-test.true here old.hashed c.in-Ok.ensures.added;
@@ -43,5 +43,5 @@ returns-in-Err g c = record {
             c.units-test.true (c.units.invariant.faultless facts steady fit)
             (ap (unit_fault facts) (sym c.unit-item.is) ∙ fault))
       ];
-  given = given_of_pieces (g.S.Source.gave c.args.source.now) c.in-Err.error c.in-Err.ensures.gave;
+  given = given_of_pieces (g.S.Source.gave c.args.source.now) _ c.in-Err.error c.in-Err.ensures.gave;
 }

@@ -12,25 +12,25 @@ returns-clause-added g c =
     let plan = c.args.plan.now in
     let part = c.args.part.now in
     let p = plan.piece_length in
-    let fed = c.in-Ok.ensures.fed in
-    let bytes = fed.bytes in
+    let read = c.in-Ok.ensures.taken in
+    let bytes = read.bytes in
     let hashes = c.args.hashes.now.items in
     let b = has_v2 plan.kind in
     record {
       bytes = bytes;
-      counted = fed.counted;
+      counted = read.counted;
       steady = λ facts steady have.
-          sym (fed.steady facts steady have ∙ part_bytes facts plan part c.requires.part);
+          sym (read.steady facts steady have ∙ part_bytes facts plan part c.requires.part);
       begun = c.in_ok-feed_zeros.ensures.begun ∙ c.in_ok-end_part.ensures.begun;
       sums = λ contents unit fit own given.
           let ended = c.in_ok-end_part.ensures.taken plan.kind p bytes (unit ++ bytes)
-          (fed.taken plan.kind p [] unit given) in
+          (read.taken plan.kind p [] unit given) in
           let zeroed = c.in_ok-feed_zeros.ensures.taken plan.kind p [] (unit ++ bytes) ended in
           let all = append_assoc unit bytes (zeros part.zeros)
           ∙ ap (λ xs. unit ++ (xs ++ zeros part.zeros)) (sym own) in (
             subst (λ (xs : List ℕ). HasTaken plan.kind p [] xs c.feed_zeros.new.self) all zeroed,
-            c.in_ok-end_part.ensures.hashed plan.kind p bytes (unit ++ bytes) (fed.taken plan.kind p [] unit given)
-                (some_bytes plan.lengths part bytes c.requires.part fed.counted)
+            c.in_ok-end_part.ensures.hashed plan.kind p bytes (unit ++ bytes) (read.taken plan.kind p [] unit given)
+                (some_bytes plan.lengths part bytes c.requires.part read.counted)
                 ∙ ap (λ lengths. hashes ++ cond b (hashes_of_bytes p (get_or lengths part.file 0) bytes) [])
                 c.lengths.ensures
                 ∙ ap (λ n. hashes ++ cond b (hashes_of_bytes p n bytes) [])

@@ -11,7 +11,6 @@ use Rattle.tor_engine.proofs.FirstOf.{first_at, first_next, first_of_none}
 use Rattle.tor_engine.proofs.Parts.{one_there}
 use Rattle.tor_engine.proofs.PartReads.{reads_as}
 use Rattle.tor_engine.proofs.Runs.{one_alone}
-use Rattle.tor_engine.proofs.Taken.{taken_as}
 use Rattle.tor_engine.proofs.UnitParts.{parts_more, parts_none}
 use Rattle.tor_engine.proofs.turn.hash_unit.Goals as goal
 
@@ -19,13 +18,11 @@ pub each-init : goal.each-init
 each-init g c =
     let plan = c.args.plan.now in
     record {
-      buffer = refl;
-      begun = omega (arith, c.feed_zeros.ensures.begun, c.new-sums.ensures.begun);
+      begun = omega (arith, c.feed_zeros.ensures.begun, c.requires.fresh.begun);
       pieces = refl;
       read = parts_none (g.S.Source.is_steady c.args.source.now) plan c.args.unit.now.zeros c.feed_zeros.new.self
           c.args.run.now.hashes.items
-          (taken_as _ _ _ _ _ _ _ c.kind.ensures c.piece_length.ensures refl
-          (c.in_ok-feed_zeros.ensures.taken _ _ [] [] c.new-sums.ensures.taken));
+          (c.in_ok-feed_zeros.ensures.taken _ _ [] [] c.requires.fresh.taken);
       faultless = λ facts steady have. first_of_none (part_fault facts);
     }
 
@@ -46,7 +43,6 @@ each-preserved g c =
     let i = c.each.part-index in
     let old = c.each.invariant in
     record {
-      buffer = c.in-Ok.ensures.buffer ∙ old.buffer;
       begun = c.in-Ok.ensures.added.begun;
       pieces = old.pieces;
       read = parts_more (g.S.Source.is_steady c.args.source.now) c.args.plan.now parts i _ c.args.unit.now.zeros
@@ -79,7 +75,7 @@ returns-clause-added g c =
             hashes = read.hashed contents fit have
                 ∙ ap (λ xs. hashes ++ cond (has_v2 plan.kind) (flat_map (hashes_of_part p contents) xs) []) all
                 ∙ ap (λ xs. hashes ++ cond (has_v2 plan.kind) xs []) (sym (one_alone (hashes_of_unit p contents) unit));
-            pieces = c.in_ok-finish.ensures plan.kind p [] fed (read.taken contents fit have)
+            pieces = c.in_ok-end_unit.ensures.summed plan.kind p [] fed (read.taken contents fit have)
                 ∙ ap (λ old. old.items ++ cond (has_v1 plan.kind) (piece_sums p fed) []) c.each.invariant.pieces
                 ∙ ap (λ xs. pieces ++ cond (has_v1 plan.kind)
                 (piece_sums p (zeros unit.zeros ++ flat_map (part_content contents) xs)) []) all

@@ -1,5 +1,5 @@
 -- the parts so far, of which no byte fails
-use Rattle.std.proofs.Common.{◌≡◌, None, length, take}
+use Rattle.std.proofs.Common.{◌≡◌, None, take}
 use Rattle.tor_source.specs.Source.{SourceFacts}
 use Rattle.tor_engine.specs.Fault.{first_of, part_fault}
 use Rattle.tor_engine.specs.steps.Reads.{HasParts, ReadsParts}
@@ -7,7 +7,6 @@ use Rattle.tor_engine.proofs.turn.hash_unit.Given as goal
 
 abbrev pub invariant-each : goal.invariant-each
 invariant-each g l = record {
-  buffer : length l.buffer ≡ length l.initial.buffer;
   begun : l.sums.begun ≡ 0;
   pieces : l.run.pieces ≡ l.initial.run.pieces;
   read : ReadsParts (g.S.Source.is_steady l.source) l.plan l.unit.zeros (take l.part-index l.parts) l.sums

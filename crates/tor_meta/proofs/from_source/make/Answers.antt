@@ -1,12 +1,19 @@
 -- the files in the order of their paths are those that were handed in
-use Rattle.std.proofs.Common.{◌∙◌, sym, ap, refl, length}
+use Rattle.std.proofs.Common.{◌≡◌, ◌<◌, ℕ, List, ◌∙◌, sym, ap, refl, subst, get_or, length}
+use Rattle.std.specs.List.{All}
+use Rattle.std.proofs.lemmas.List.{length-map}
 use Rattle.tor_engine.specs.Contents.{contents_in}
+use Rattle.tor_engine.specs.Fault.{IsGiven}
 use Rattle.tor_meta.specs.Contents.{files_of}
+use Rattle.tor_meta.specs.Make.{IsGivenTo}
 use Rattle.tor_meta.specs.MakeError.{of_engine_error}
 use Rattle.tor_meta.specs.Order.{settings_of_order}
 use Rattle.tor_meta.specs.PlacedFiles.{facts_at, renumbered}
 use Rattle.tor_spec.specs.Metainfo.{metainfo}
+use Rattle.tor_tree.specs.PathList.{places_of}
 use Rattle.tor_meta.proofs.FromSource.{made_of, made_of_some}
+use Rattle.tor_meta.proofs.GivenFiles.{given_of_placed}
+use Rattle.tor_meta.proofs.Placed.{places_within}
 use Rattle.tor_meta.proofs.SourceFaults.{fault_none, fault_told, lengths_told}
 use Rattle.tor_meta.proofs.Made.{judged_list}
 use Rattle.tor_meta.proofs.Refused.{given_or_not, paths_of, span_of}
@@ -14,7 +21,7 @@ use Rattle.tor_meta.proofs.from_source.make.Goals as goal
 
 pub returns-in-Err-clause-gave : goal.returns-in-Err-clause-gave
 returns-in-Err-clause-gave g c =
-    given_or_not (g.S.Source.gave c.args.source.now) c.args.order.now c.args.paths.now c.in-Err.error
+    given_or_not (g.S.Source.gave c.args.source.now) (length c.args.paths.now) c.args.order.now c.args.paths.now c.in-Err.error
     c.in-Err.ensures.refused
 
 pub torrent_of_listed-requires-clause-span : goal.torrent_of_listed-requires-clause-span
@@ -78,3 +85,30 @@ returns-clause-fault g c = λ facts steady.
 
 pub returns-in-Err-ask_list-clause-only : goal.returns-in-Err-ask_list-clause-only
 returns-in-Err-ask_list-clause-only g c = c.in-Err-ask_list.ensures.only _
+
+pub returns-in-Err-ask_list-clause-gave : goal.returns-in-Err-ask_list-clause-gave
+returns-in-Err-ask_list-clause-gave g c =
+    subst (λ (n : ℕ). IsGivenTo (g.S.Source.gave c.args.source.now) n c.in-Err-ask_list.error)
+    c.in-Ok.ensures.placed.one_each c.in-Err-ask_list.ensures.gave
+
+pub returns-clause-gave : goal.returns-clause-gave
+returns-clause-gave g c =
+    let gave = g.S.Source.gave c.args.source.now in
+    let places = c.deref.result.now in
+    let placed = c.in-Ok.ensures.placed in
+    let told = c.in-Ok-ask_list.ensures in
+    let are_places = c.deref.ensures.value ∙ told.places in
+    let handed_in : length (places_of c.in-Ok.paths) ≡ length c.args.paths.now =
+    length-map c.in-Ok.paths (λ entry. entry.1) ∙ placed.one_each in
+    let within = subst (λ (ks : List ℕ). All (λ place. place < length c.args.paths.now) ks) (sym are_places)
+    (places_within (length c.args.paths.now) (places_of c.in-Ok.paths) placed.places handed_in) in
+    let count : length c.in-Ok-ask_list.both.0 ≡ length places =
+    ap length told.list.1 ∙ length-map c.in-Ok.paths _ ∙ sym (length-map c.in-Ok.paths (λ entry. entry.1))
+    ∙ sym (ap length are_places) in
+    let same = c.from.ensures ∙ ap of_engine_error (c.renumbered.ensures
+    ∙ ap (λ places. renumbered places c.in-Err-torrent_of_listed.error)
+    (c.deref-in-Err-torrent_of_listed.ensures.value ∙ sym c.deref.ensures.value)) in
+    subst (λ error. IsGivenTo gave (length c.args.paths.now) error) (sym same)
+    (given_of_placed gave (length c.args.paths.now) places within c.in-Err-torrent_of_listed.error
+    (subst (λ (n : ℕ). IsGiven (λ file place fault. (file < length places) × gave (get_or places file 0) place fault) n
+    c.in-Err-torrent_of_listed.error) count c.in-Err-torrent_of_listed.ensures.gave))

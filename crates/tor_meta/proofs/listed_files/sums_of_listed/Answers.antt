@@ -2,7 +2,7 @@
 use Rattle.std.proofs.Common.{◌≡◌, ℕ, inl, inr, length, map, ap, subst, sym, ◌∙◌}
 use Rattle.std.proofs.lemmas.List.{length-map}
 use Rattle.tor_engine.specs.Contents.{contents_in}
-use Rattle.tor_engine.specs.Fault.{first_byte_fault, first_length_fault}
+use Rattle.tor_engine.specs.Fault.{IsGiven, first_byte_fault, first_length_fault}
 use Rattle.tor_meta.specs.Sums.{SumUp}
 use Rattle.tor_meta.proofs.SourceSums.{from_plan}
 use Rattle.tor_tree.specs.FileList.{lengths_of}
@@ -43,3 +43,9 @@ returns-clause-steady g c = λ facts steady none.
     × SumUp head list (contents_in facts n)
     (record { roots = c.in-Ok.sums.roots; layers = c.in-Ok.sums.layers; pieces = c.in-Ok.sums.pieces })) count both in
     (there.0, there.1, sym (ap (λ plan. first_byte_fault facts plan.lengths) is) ∙ told.1)
+
+pub returns-in-Err-clause-gave : goal.returns-in-Err-clause-gave
+returns-in-Err-clause-gave g c =
+    let list = c.args.list.now in
+    let count = ap (λ plan. length plan.lengths) c.in_ok-plan.ensures ∙ length-map list (λ file. file.1) in
+    subst (λ (n : ℕ). IsGiven (g.S.Source.gave c.args.source.now) n c.in-Err.error) count c.in-Err.ensures.gave

@@ -1,14 +1,14 @@
 -- the plan, the hashes, and what they are judged to be
-use Rattle.std.proofs.Common.{[], length, ap, subst, sym, ◌∙◌}
+use Rattle.std.proofs.Common.{[], ℕ, length, ap, subst, sym, ◌∙◌}
 use Rattle.tor_engine.specs.Contents.{contents_in}
 use Rattle.tor_engine.specs.Fault as engine
 use Rattle.tor_engine.specs.PieceFault.{first_piece_fault}
 use Rattle.tor_engine.specs.PieceHashes.{piece_hashes, pieces_of_plan}
 use Rattle.tor_plan.specs.PlanFacts.{PlanFacts, plan_of_entries}
 use Rattle.tor_recheck.specs.Pieces.{entries_to_cut}
-use Rattle.tor_recheck.specs.Recheck.{IsFault, first_fault}
+use Rattle.tor_recheck.specs.Recheck.{IsFault, IsGiven, first_fault}
 use Rattle.tor_recheck.specs.steps.Judge.{all_judged}
-use Rattle.tor_recheck.proofs.RecheckFaults.{no_fault, same_fault}
+use Rattle.tor_recheck.proofs.RecheckFaults.{given_of, no_fault, same_fault}
 use Rattle.tor_recheck.proofs.Rechecked.{count_is, count_of_judged, judged_is_verified}
 use Rattle.tor_recheck.proofs.rechecking.recheck.Goals as goal
 
@@ -44,3 +44,13 @@ returns-clause-counted g c =
     ap length (c.in_ok-bits.ensures ∙ ap (all_judged view) c.deref.ensures.value)
     ∙ count_of_judged view cut c.in-Ok.hashes.items
     (c.in-Ok.ensures.counted ∙ ap (λ (p : PlanFacts). length (pieces_of_plan p)) c.in_ok-plan.ensures.planned)
+
+pub returns-in-Err-clause-gave : goal.returns-in-Err-clause-gave
+returns-in-Err-clause-gave g c =
+    let view = c.args.torrent.now in
+    let cut = c.in_ok-plan.ensures.cut in
+    let count = ap (λ (p : PlanFacts). length p.lengths) c.in_ok-plan.ensures.planned ∙ count_is view [] cut in
+    subst (λ error. IsGiven (g.S.Source.gave c.args.source.now) (length view.files) error) (sym c.into.ensures)
+    (given_of (g.S.Source.gave c.args.source.now) (length view.files) c.in-Err.error
+    (subst (λ (n : ℕ). engine.IsGivenOfPieces (g.S.Source.gave c.args.source.now) n c.in-Err.error) count
+    c.in-Err.ensures.gave))

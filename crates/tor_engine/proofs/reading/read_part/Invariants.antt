@@ -1,17 +1,16 @@
--- the bytes so far were fed, and none of them fails
+-- the bytes so far were taken, and none of them fails
 use Rattle.std.proofs.Common.{◌≡◌, ◌+◌, ◌-◌, ◌≤◌, length, None}
 use Rattle.std.specs.List.{range_with_len}
 use Rattle.tor_source.specs.Source.{SourceFacts, bytes_from}
 use Rattle.tor_engine.specs.Fault.{byte_fault, first_of}
-use Rattle.tor_engine.specs.steps.Reads.{FeedsPart}
-use Rattle.tor_engine.proofs.reading.feed_part.Given as goal
+use Rattle.tor_engine.specs.steps.Reads.{TakesPart}
+use Rattle.tor_engine.proofs.reading.read_part.Given as goal
 
 abbrev pub invariant-reads : goal.invariant-reads
 invariant-reads g l = record {
-  buffer : length l.buffer ≡ length l.initial.buffer;
   within : l.done ≤ l.part.length;
   begun : l.sums.begun ≡ l.initial.sums.begun + l.done;
-  fed : FeedsPart (g.S.Source.is_steady l.source) l.part l.done l.initial.sums l.sums;
+  taken : TakesPart (g.S.Source.is_steady l.source) l.part l.done l.initial.sums l.sums;
   fault : (facts : SourceFacts g.row.S-Fault.Denot) → g.S.Source.is_steady l.source facts →
       l.part.length ≤ length (bytes_from facts l.part.file l.part.start) →
       first_of (byte_fault facts l.part.file) (range_with_len l.part.start l.done) ≡ None;

@@ -1,0 +1,53 @@
+-- the bytes that come next
+use Rattle.std.proofs.Common.{◌≡◌, ℕ, inl, inr, subst, arith}
+use Rattle.tor_engine.specs.Fault.{byte_fault}
+use Rattle.tor_engine.specs.steps.Reads.{TakesPart}
+use Rattle.tor_engine.proofs.FirstOf.{first_of_none}
+use Rattle.tor_engine.proofs.PartBytes.{no_fault, read_fault, some_left}
+use Rattle.tor_engine.proofs.PartReads.{takes_more, takes_none}
+use Rattle.tor_engine.proofs.reading.read_part.Goals as goal
+
+pub reads-init : goal.reads-init
+reads-init g c = record {
+  within = omega arith;
+  begun = omega arith;
+  taken = takes_none (g.S.Source.is_steady c.args.source.now) c.args.part.now c.args.sums.now;
+  fault = λ facts steady long. first_of_none (byte_fault facts c.args.part.now.file);
+}
+
+pub reads-preserved : goal.reads-preserved
+reads-preserved g c =
+    let part = c.args.part.now in
+    let done = c.reads.done in
+    let old = c.reads.invariant in
+    let read = c.in-Ok.ensures.read in
+    record {
+      within = omega (arith, c.in-Ok.ensures.some.1);
+      begun = omega (arith, c.in-Ok.ensures.begun, old.begun);
+      taken = takes_more (g.S.Source.is_steady c.args.source.now) part c.args.sums.now done c.in-Ok.count c.reads.sums
+          c.read.new.self read.bytes old.taken read.counted
+          (λ facts steady long. read.steady facts steady
+          (some_left facts part.file part.start done part.length c.reads-test.true long))
+          read.taken;
+      fault = λ facts steady long.
+          no_fault facts part.file part.start done c.in-Ok.count
+          (c.in-Ok.ensures.fault facts steady
+          (some_left facts part.file part.start done part.length c.reads-test.true long))
+          (old.fault facts steady long);
+    }
+
+pub returns-in-Err-clause-fault : goal.returns-in-Err-clause-fault
+returns-in-Err-clause-fault g c = λ facts steady long.
+    let part = c.args.part.now in
+    elim (c.in-Err.ensures.fault facts steady
+    (some_left facts part.file part.start c.reads.done part.length c.reads-test.true long)) [
+      | inl memory ↦ inl memory
+      | inr fault ↦ inr (read_fault facts part.file part.start c.reads.done part.length c.in-Err.error
+          c.reads-test.true (c.reads.invariant.fault facts steady long) fault)
+    ]
+
+pub returns-clause-taken : goal.returns-clause-taken
+returns-clause-taken g c =
+    let all : c.reads.done ≡ c.args.part.now.length = omega (arith, c.reads.invariant.within, c.reads-test.false) in
+    subst (λ (n : ℕ). TakesPart (g.S.Source.is_steady c.args.source.now) c.args.part.now n c.args.sums.now c.reads.sums)
+    all c.reads.invariant.taken

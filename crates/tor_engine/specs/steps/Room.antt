@@ -1,0 +1,23 @@
+-- The bytes that a worker holds. Only private clauses cite these.
+use Rattle.std.specs.Prelude.{◌≡◌, ℕ, ◌<◌, List, ◌++◌, length, take, vec_len}
+use Rattle.tor_source.specs.Source.{SourceFacts, bytes_from}
+use Rattle.tor_engine.specs.declared.room.Room.{Room}
+
+abbrev pub held_in : Room → List ℕ
+held_in room = take room.held room.bytes.items
+
+-- how many these are, and how many there is room for
+abbrev pub count_in : Room → ℕ
+count_in room = room.held
+
+abbrev pub length_of : Room → ℕ
+length_of room = vec_len room.bytes
+
+-- so many bytes were read and stand behind those that were held; of a steady source they are those that it has there
+pub record ReadsMore {F : Type 0} (is_steady : SourceFacts F → Type 0) (file start count : ℕ)
+    (old new : Room) : Type 0 where
+  pub bytes : List ℕ
+  pub counted : length bytes ≡ count
+  pub held : held_in new ≡ held_in old ++ bytes
+  pub steady : (facts : SourceFacts F) → is_steady facts → 0 < length (bytes_from facts file start)
+      → bytes ≡ take count (bytes_from facts file start)
