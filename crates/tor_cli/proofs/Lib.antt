@@ -9,4 +9,5 @@ pub mod PathTexts
 pub mod Proofs
 pub mod Rechecking
 pub mod Siblings
+pub mod Sizes
 pub mod Stops

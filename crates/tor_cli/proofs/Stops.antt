@@ -1,5 +1,6 @@
 -- Which fault of the program a step's fault is, and where it stopped.
-use Rattle.std.proofs.Common.{◌≡◌, ◌⊎◌, ◌∙◌, inl, inr, refl, sym, ap, Bool, true, false, ℕ, List, length, None, Some}
+use Rattle.std.proofs.Common.{◌≡◌, ◌≢◌, ◌⊎◌, ◌<◌, ◌∙◌, inl, inr, refl, sym, ap, subst}
+use Rattle.std.proofs.Common.{Bool, true, false, ℕ, List, length, None, Some}
 use Rattle.std.specs.Io.KnownBytes.{Keeps}
 use Rattle.std.specs.declared.io.Error.{Error}
 use Rattle.tor_meta.specs.declared.make_error.MakeError.{MakeError}
@@ -10,9 +11,10 @@ use Rattle.tor_source.specs.declared.faults.ScanFault.{ScanFault}
 use Rattle.tor_source.specs.declared.faults.ScanFault.TheVariants as scans
 use Rattle.tor_tree.specs.Name.{name_fault}
 use Rattle.tor_input.specs.Input.{EndsInput, ReadsSome}
-use Rattle.tor_input.specs.Make.{MakesPart, StopsReading, refusal_of}
+use Rattle.tor_input.specs.Make.{MakesOf, MakesPart, StopsReading, refusal_of, torrent_of}
 use Rattle.tor_cli.specs.Path.{IsFileFault}
-use Rattle.tor_cli.specs.Request.{IsOrder, IsOrderOf, IsToldFirst, StopsFinding, StopsInput, StopsPath, file_of}
+use Rattle.tor_cli.specs.Request.{IsOrder, IsOrderOf, IsToldFirst, SendsFront, StopsFinding, StopsInput, StopsPath}
+use Rattle.tor_cli.specs.Request.{file_of}
 use Rattle.tor_cli.specs.Streams.{IsUntouched, Streams}
 use Rattle.tor_cli.specs.Status.{of_input_fault, of_make_error, of_scan_fault, of_step_fault}
 use Rattle.tor_input.specs.declared.input.TheConstants.{MAX_INPUT_LENGTH}
@@ -20,6 +22,7 @@ use Rattle.tor_input.specs.declared.input.InputFault.{InputFault}
 use Rattle.tor_input.specs.declared.input.InputFault.TheVariants as inputs
 use Rattle.tor_input.specs.declared.make.FromFault.{FromFault}
 use Rattle.tor_input.specs.declared.make.FromFault.TheVariants.{Input, Make, Write}
+use Rattle.tor_cli.proofs.Sizes.{has_bytes}
 use Rattle.tor_cli.specs.declared.options.MakeOptions.{MakeOptions}
 use Rattle.tor_cli.specs.declared.fault.Fault.{Fault}
 use Rattle.tor_cli.specs.declared.fault.Fault.TheVariants as faults
@@ -51,6 +54,10 @@ unfolding is_memory
 is_refused order error other (inl refused) = refused
 is_refused order error other (inr memory) = let bad : true ≡ false = sym (ap is_memory memory) ∙ other in cc
 
+is_no_memory : (error : MakeError Error) → is_memory error ≡ false → error ≢ makes.Resources
+unfolding is_memory
+is_no_memory error other = λ same. let bad : true ≡ false = sym (ap is_memory same) ∙ other in cc
+
 module _ (options : MakeOptions) (s : Streams) where
   stops_input : (fault : InputFault) → ReadsSome s.reader s.reader' (EndsInput MAX_INPUT_LENGTH fault)
       → Keeps s.writer s.writer' → StopsInput options s (of_input_fault fault)
@@ -80,6 +87,19 @@ module _ (options : MakeOptions) (s : Streams) where
   stops_part order named is (Make error) none (given, keeps) = stops_make order named is error given keeps
   stops_part order named is (Write fault) none (content, front) = (named, (order, is, (content, rw none front)))
 
+  -- so many bytes of the torrent went to a file
+  pub stops_file : (order : Order) → name_fault options.name.now ≡ None → IsOrder options true order
+      → (place : List ℕ) → file_of options ≡ Some place → s.writer' ≡ s.writer
+      → (torrent : List ℕ) → ((content : List ℕ) × MakesOf order s.reader s.reader' (λ bytes. torrent ≡ bytes) content)
+      → (written : ℕ) → (0 < length torrent → written < length torrent) → StopsInput options s (faults.Write written)
+  stops_file order named is place some kept torrent (content, made) written front =
+      let long : 0 < length torrent = subst (λ t. 0 < length t) (sym made.torrent) (has_bytes _ _) in
+      let part : written < length (torrent_of order content) =
+      subst (λ t. written < length t) made.torrent (front long) in
+      let sent : MakesOf order s.reader s.reader' (SendsFront (file_of options) s.writer s.writer' written) content =
+      record { read = made.read; accepted = made.accepted; torrent = rw some (part, kept) } in
+      (named, (order, is, (content, sent)))
+
   -- a fault that comes before anything was written
   pub stops_finding : (fault : Fault) → StopsFinding options fault → IsUntouched s → StopsPath options s fault
   stops_finding (faults.Usage line) why untouched = absurd why
@@ -100,7 +120,7 @@ pub finding_make : (options : MakeOptions) (order : Order) (paths : List (List (
     → IsOrderOf options order paths → IsOwn (make_refusal order paths) error → IsToldFirst order paths error
     → IsGivenTo (IsFileFault (length paths)) (length paths) error → StopsFinding options (of_make_error error)
 finding_make options order paths error is own first gave = elim (told_or_memory error) [
-  | inl told ↦ rw told.1 (order, paths, is, own, first, gave)
+  | inl told ↦ rw told.1 (order, paths, is, own, first, gave, is_no_memory error told.0)
   | inr memory ↦ rw memory tt
 ]
 

@@ -1,5 +1,5 @@
 -- What the program does for a request: what it reads and writes, and where a fault stops it.
-use Rattle.std.specs.Prelude.{◌≡◌, ◌≢◌, ◌⊎◌, ◌≤◌, ℕ, Bool, List, length, true, option_map, Option, None, Some}
+use Rattle.std.specs.Prelude.{◌≡◌, ◌≢◌, ◌⊎◌, ◌<◌, ℕ, Bool, List, length, true, option_map, Option, None, Some}
 use Rattle.std.specs.Prelude.{string_bytes}
 use Rattle.std.specs.Io.KnownBytes.{Appends, Keeps}
 use Rattle.std.specs.declared.io.Error.{Error}
@@ -65,7 +65,7 @@ Sends (Some place) writer writer' bytes = writer' ≡ writer
 -- so many of these bytes, and nothing else, did
 abbrev pub SendsFront : Option (List ℕ) → Option (List ℕ) → Option (List ℕ) → ℕ → List ℕ → Type 0
 SendsFront None writer writer' written bytes = IsFront writer writer' written bytes
-SendsFront (Some place) writer writer' written bytes = (written ≤ length bytes) × (writer' ≡ writer)
+SendsFront (Some place) writer writer' written bytes = (written < length bytes) × (writer' ≡ writer)
 
 -- the torrent that the options ask for was made of all that the reader had
 abbrev pub DoesInput : MakeOptions → Streams → Type 0
@@ -121,7 +121,7 @@ StopsFinding options (Name fault) = name_fault options.name.now ≡ Some fault
 StopsFinding options (Scan fault) = (name_fault options.name.now ≡ None) × (fault ≢ scans.Memory)
 StopsFinding options (Make error) = (order : Order) × (paths : List (List (List ℕ))) × IsOrderOf options order paths
     × IsOwn (make_refusal order paths) error × IsToldFirst order paths error
-    × IsGivenTo (IsFileFault (length paths)) (length paths) error
+    × IsGivenTo (IsFileFault (length paths)) (length paths) error × (error ≢ makes.Resources)
 StopsFinding options Resources = Unit {0}
 StopsFinding options other = ⊥
 

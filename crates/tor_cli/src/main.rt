@@ -65,7 +65,7 @@ mod tests_refused;
 #[cfg(test)]
 mod tests_runs;
 #[cfg(test)]
-mod tests_told;
+mod tests_scenes;
 #[cfg(test)]
 mod tests_usage;
 #[cfg(test)]

@@ -1,5 +1,5 @@
 //! `tor make`: its doing.
-ghost use Rattle.std.specs.Prelude.{◌≡◌, ◌⊎◌, ℕ, List, Option, IfErr, IfOk, OnOk, None, Some, true};
+ghost use Rattle.std.specs.Prelude.{◌≡◌, ◌⊎◌, ◌<◌, ℕ, List, Option, IfErr, IfOk, OnOk, None, Some, length, true};
 ghost use Rattle.tor_tree.specs.Name.{name_fault};
 ghost use Rattle.tor_tree.specs.declared.names.NameError.TheVariants.{Memory};
 ghost use Rattle.tor_cli.specs.Request.{DoesInput, DoesMake, DoesPath, IsOrder, IsTorrentAt, StopsFinding};
@@ -118,6 +118,7 @@ fn torrent_at<T: Threads + Sync>(
     shows_progress: bool,
 ) -> Result<Vec<u8>, Fault>
     ensures made { IfOk result (λ torrent. IsTorrentAt options.now torrent.items) }
+    ensures some { IfOk result (λ torrent. 0 < length torrent.items) }
     ensures stopped { IfErr result (StopsFinding options.now) }
 {
     let alloc = system.alloc();

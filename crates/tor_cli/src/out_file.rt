@@ -1,5 +1,5 @@
 //! A torrent on its way out: to standard output, or into the file that the words name.
-ghost use Rattle.std.specs.Prelude.{◌≤◌, IfErr, OnOk, length, option_map};
+ghost use Rattle.std.specs.Prelude.{◌≤◌, ◌<◌, IfErr, OnOk, length, option_map};
 ghost use Rattle.tor_cli.specs.Request.{Sends, SendsFront};
 
 use std::fs;
@@ -9,7 +9,8 @@ use tor_meta::{WriteFault, write_out};
 
 /// Makes or empties the file `place`, and writes the bytes into it. Where it stops, what went into it stays there.
 pub fn write_file<H: Files>(system: &H, place: &str, bytes: &[u8]) -> Result<(), WriteFault>
-    ensures { IfErr result (λ fault. fault.written ≤ length bytes.now) }
+    ensures within { IfErr result (λ fault. fault.written ≤ length bytes.now) }
+    ensures part { 0 < length bytes.now → IfErr result (λ fault. fault.written < length bytes.now) }
 {
     let mut file = match fs::create(system, place) {
         Ok(file) => file,
@@ -32,7 +33,8 @@ pub fn send<H: Files, W: Write>(
 ) -> Result<(), WriteFault>
     ensures whole { OnOk result (Sends (option_map (λ name. name.now) place.entry)
         (W.contents out.old) (W.contents out.new) torrent.now) }
-    ensures part { IfErr result (λ fault. SendsFront (option_map (λ name. name.now) place.entry)
+    ensures part { 0 < length torrent.now → IfErr result
+        (λ fault. SendsFront (option_map (λ name. name.now) place.entry)
         (W.contents out.old) (W.contents out.new) fault.written torrent.now) }
 {
     match place {

@@ -1,5 +1,5 @@
 //! The program over readers and writers that fault.
-use crate::run::run;
+use crate::tests_runs::run_over;
 use std::alloc::Global;
 use std::io::{Error, ErrorKind, Read, Result, Write};
 use std::thread::Threads;
@@ -81,8 +81,7 @@ fn is_written<T: Threads + Sync>(
     line: &str,
 ) -> bool {
     let mut input: &[u8] = b"abc";
-    let mut err = Vec::new(system.alloc());
-    let ended = run(rt, system, &WORDS, &mut input, &mut out, &mut err, false);
+    let (ended, err) = run_over(rt, system, &WORDS, &mut input, &mut out, false);
     ended == status && out.written.as_slice() == written && err.as_slice() == line.as_bytes()
 }
 
@@ -95,8 +94,7 @@ fn is_stopped<T: Threads + Sync, R: Read>(
     line: &str,
 ) -> bool {
     let mut out = Vec::new(system.alloc());
-    let mut err = Vec::new(system.alloc());
-    let status = run(rt, system, words, reader, &mut out, &mut err, false);
+    let (status, err) = run_over(rt, system, words, reader, &mut out, false);
     status == 3 && out.is_empty() && err.as_slice() == line.as_bytes()
 }
 

@@ -1,12 +1,7 @@
 //! Torrents of files and folders, as the program makes them.
 use crate::tests::ABC;
-use crate::tests_runs::{below, is_outcome, new_folder, run_words};
-use std::alloc::AllocError;
-use std::process::Abort;
-use std::rt::Files;
+use crate::tests_scenes::{NOTHING, Scene, Step, Thing, Things, Told, expect_scene};
 use std::test::Fail;
-use std::thread::Threads;
-use std::{fs, io};
 
 // A folder `f` with the files a = `ab` and b = `c`, piece length 16,384, of version 1. The hash is the SHA-1 of `abc`.
 pub const FOLDER_V1: &[u8; 129] =
@@ -18,87 +13,70 @@ const NESTED_V1: &[u8] =
     b"d4:infod5:filesld6:lengthi0e4:pathl1:a1:ceed6:lengthi0e4:pathl3:a-beee4:name1:f\
 12:piece lengthi16384e6:pieces0:ee";
 
-const FOLDERS: [&str; 3] = ["pair", "nested", "nested/a"];
-
-const FILES: [(&str, &str); 5] = [
-    ("abc", "abc"),
-    ("pair/a", "ab"),
-    ("pair/b", "c"),
-    ("nested/a/c", ""),
-    ("nested/a-b", ""),
+const THINGS: Things = &[
+    ("abc", Thing::File(b"abc")),
+    ("pair", Thing::Folder),
+    ("pair/a", Thing::File(b"ab")),
+    ("pair/b", Thing::File(b"c")),
+    ("nested", Thing::Folder),
+    ("nested/a", Thing::Folder),
+    ("nested/a/c", Thing::File(NOTHING)),
+    ("nested/a-b", Thing::File(NOTHING)),
+    ("link", Thing::Link("pair")),
 ];
 
-// Words of `make`, and the torrent.
-type Made = (&'static str, &'static [u8]);
+// Words of `make`, by who is to hash.
+const ONE: &str = "tor make --piece-length 16384 --how one --workers 0";
 
-const MADE: [Made; 4] = [
-    ("--name a %/abc", ABC),
-    ("--kind v1 --name f %/pair", FOLDER_V1),
-    ("--kind v1 --name f %/link", FOLDER_V1),
-    ("--kind v1 --name f %/nested", NESTED_V1),
+const HALVES: &str = "tor make --piece-length 16384 --how halves";
+
+const TWO: &str = "tor make --piece-length 16384 --how halves --workers 2 --span 1";
+
+const MANY: &str = "tor make --piece-length 16384 --how halves --workers 64 --span 1024";
+
+// Their last words, and the torrent.
+const FILE: &str = "--name a %/abc";
+
+const PAIR: &str = "--kind v1 --name f %/pair";
+
+const LINK: &str = "--kind v1 --name f %/link";
+
+const NESTED: &str = "--kind v1 --name f %/nested";
+
+const OF_FILE: Told = (ABC, "", 0);
+
+const OF_PAIR: Told = (FOLDER_V1, "", 0);
+
+const OF_NESTED: Told = (NESTED_V1, "", 0);
+
+// The same torrent is made, whoever hashes.
+const MADE: [Step; 16] = [
+    (NOTHING, &[ONE, FILE], OF_FILE),
+    (NOTHING, &[HALVES, FILE], OF_FILE),
+    (NOTHING, &[TWO, FILE], OF_FILE),
+    (NOTHING, &[MANY, FILE], OF_FILE),
+    (NOTHING, &[ONE, PAIR], OF_PAIR),
+    (NOTHING, &[HALVES, PAIR], OF_PAIR),
+    (NOTHING, &[TWO, PAIR], OF_PAIR),
+    (NOTHING, &[MANY, PAIR], OF_PAIR),
+    (NOTHING, &[ONE, LINK], OF_PAIR),
+    (NOTHING, &[HALVES, LINK], OF_PAIR),
+    (NOTHING, &[TWO, LINK], OF_PAIR),
+    (NOTHING, &[MANY, LINK], OF_PAIR),
+    (NOTHING, &[ONE, NESTED], OF_NESTED),
+    (NOTHING, &[HALVES, NESTED], OF_NESTED),
+    (NOTHING, &[TWO, NESTED], OF_NESTED),
+    (NOTHING, &[MANY, NESTED], OF_NESTED),
 ];
 
-const HOWS: [&str; 4] = [
-    "--how one --workers 0",
-    "--how halves",
-    "--how halves --workers 2 --span 1",
-    "--how halves --workers 64 --span 1024",
-];
-
-pub fn make_folders(system: &HostRuntime, folder: &str, names: &[&str]) -> io::Result<()> {
-    for name in names {
-        system.create_dir(&below(system.alloc(), folder, name)?)?;
-    }
-    Ok(())
-}
-
-pub fn write_files(system: &HostRuntime, folder: &str, files: &[(&str, &str)]) -> io::Result<()> {
-    for (name, content) in files {
-        fs::write(
-            system,
-            below(system.alloc(), folder, name)?.as_str(),
-            *content,
-        )?;
-    }
-    Ok(())
-}
-
-fn is_made<T: Threads + Sync>(
-    rt: &T,
-    system: &HostRuntime,
-    folder: &str,
-    how: &str,
-    row: &Made,
-) -> Result<bool, AllocError> {
-    let (words, torrent) = row;
-    let words = format!(in system.alloc(); "--piece-length 16384 {how} {words}")?;
-    let made = run_words(rt, system, folder, &words)?;
-    Ok(is_outcome(&made, 0, torrent, "", 3))
-}
-
-// That this torrent is made, whoever hashes.
-fn expect_made<T: Threads + Sync + Abort>(
-    rt: &T,
-    system: &HostRuntime,
-    folder: &str,
-    row: &Made,
-) -> Result<(), AllocError> {
-    for how in HOWS {
-        assert!(rt; is_made(rt, system, folder, how, row)?, "{how}");
-    }
-    Ok(())
-}
+const MAKES: Scene = Scene {
+    things: THINGS,
+    steps: &MADE,
+    unread: 3,
+    shows_progress: false,
+};
 
 #[test]
 fn makes_torrents_of_files_and_folders(rt: HostRuntime) -> Result<(), Fail> {
-    let alloc = rt.alloc();
-    let folder = new_folder(&rt, "makes")?;
-    make_folders(&rt, &folder, &FOLDERS)?;
-    write_files(&rt, &folder, &FILES)?;
-    rt.symlink("pair", &below(alloc, &folder, "link")?)?;
-    for row in &MADE {
-        expect_made(&rt, &rt, &folder, row)?;
-    }
-    rt.remove_dir_all(alloc, &folder)?;
-    Ok(())
+    Ok(expect_scene(&rt, &rt, "makes", &MAKES)?)
 }

@@ -1,101 +1,116 @@
 //! Torrents rechecked against files and folders, as the program tells of them.
 use crate::tests::ABC;
 use crate::tests_foreign::FOLDER_HYBRID;
-use crate::tests_path::{make_folders, write_files};
-use crate::tests_runs::{Outcome, below, new_folder, run_texts};
-use crate::tests_told::{READ_FAULT, Told, is_told};
-use std::process::Abort;
-use std::rt::Files;
+use crate::tests_scenes::{NOTHING, READ_FAULT, Scene, Step, Thing, Things, Told, expect_scene};
 use std::test::Fail;
-use std::thread::Threads;
-use std::{fs, io};
 
 // One empty file, whose torrent has no piece.
 const EMPTY: &[u8] = b"d4:infod9:file treed1:ad0:d6:lengthi0eeee12:meta versioni2e4:name1:a\
 12:piece lengthi16384ee12:piece layersdee";
 
-const FOLDERS: [&str; 4] = ["both", "first", "turned", "longer"];
-
-const FILES: [(&str, &str); 8] = [
-    ("both/a", "ab"),
-    ("both/b", "c"),
-    ("first/a", "ab"),
-    ("turned/a", "aB"),
-    ("turned/b", "c"),
-    ("longer/a", "abc"),
-    ("abc", "abc"),
-    ("ab", "ab"),
+const THINGS: Things = &[
+    ("both", Thing::Folder),
+    ("both/a", Thing::File(b"ab")),
+    ("both/b", Thing::File(b"c")),
+    ("first", Thing::Folder),
+    ("first/a", Thing::File(b"ab")),
+    ("turned", Thing::Folder),
+    ("turned/a", Thing::File(b"aB")),
+    ("turned/b", Thing::File(b"c")),
+    ("longer", Thing::Folder),
+    ("longer/a", Thing::File(b"abc")),
+    ("abc", Thing::File(b"abc")),
+    ("ab", Thing::File(b"ab")),
+    ("link", Thing::Link("both")),
+    ("file-link", Thing::Link("abc")),
 ];
 
-// A torrent, where its files are looked for, and what is told of them.
-type Row = (&'static [u8], &'static str, Told);
+const SYSTEM_FAULT: Told = (NOTHING, "tor: F4 System\n", 3);
 
-const SYSTEM_FAULT: Told = ("", "tor: F4 System\n", 3);
-
-const ROWS: [Row; 15] = [
-    (FOLDER_HYBRID, "both", ("pieces 2 of 2\nbits c0\n", "", 0)),
-    (FOLDER_HYBRID, "link", ("pieces 2 of 2\nbits c0\n", "", 0)),
-    (FOLDER_HYBRID, "first", ("pieces 1 of 2\nbits 80\n", "", 1)),
-    (FOLDER_HYBRID, "turned", ("pieces 1 of 2\nbits 40\n", "", 1)),
-    (FOLDER_HYBRID, "absent", ("pieces 0 of 2\nbits 00\n", "", 1)),
+// The last is that there is no torrent, and no place of its files.
+const RECHECKED: [Step; 16] = [
     (
         FOLDER_HYBRID,
-        "both/a/x",
-        ("pieces 0 of 2\nbits 00\n", "", 1),
+        &["tor recheck %/t %/both"],
+        (b"pieces 2 of 2\nbits c0\n", "", 0),
     ),
-    (FOLDER_HYBRID, "abc", SYSTEM_FAULT),
-    (ABC, "abc", ("pieces 1 of 1\nbits 80\n", "", 0)),
-    (ABC, "file-link", ("pieces 1 of 1\nbits 80\n", "", 0)),
-    (ABC, "longer", ("pieces 1 of 1\nbits 80\n", "", 0)),
-    (ABC, "ab", ("pieces 0 of 1\nbits 00\n", "", 1)),
-    (ABC, "absent", ("pieces 0 of 1\nbits 00\n", "", 1)),
-    (EMPTY, "absent", ("pieces 0 of 0\nbits \n", "", 0)),
-    (EMPTY, "abc", ("pieces 0 of 0\nbits \n", "", 0)),
-    (b"de", "abc", ("", "tor: V3 InfoShape\n", 1)),
+    (
+        FOLDER_HYBRID,
+        &["tor recheck %/t %/link"],
+        (b"pieces 2 of 2\nbits c0\n", "", 0),
+    ),
+    (
+        FOLDER_HYBRID,
+        &["tor recheck %/t %/first"],
+        (b"pieces 1 of 2\nbits 80\n", "", 1),
+    ),
+    (
+        FOLDER_HYBRID,
+        &["tor recheck %/t %/turned"],
+        (b"pieces 1 of 2\nbits 40\n", "", 1),
+    ),
+    (
+        FOLDER_HYBRID,
+        &["tor recheck %/t %/absent"],
+        (b"pieces 0 of 2\nbits 00\n", "", 1),
+    ),
+    (
+        FOLDER_HYBRID,
+        &["tor recheck %/t %/both/a/x"],
+        (b"pieces 0 of 2\nbits 00\n", "", 1),
+    ),
+    (FOLDER_HYBRID, &["tor recheck %/t %/abc"], SYSTEM_FAULT),
+    (
+        ABC,
+        &["tor recheck %/t %/abc"],
+        (b"pieces 1 of 1\nbits 80\n", "", 0),
+    ),
+    (
+        ABC,
+        &["tor recheck %/t %/file-link"],
+        (b"pieces 1 of 1\nbits 80\n", "", 0),
+    ),
+    (
+        ABC,
+        &["tor recheck %/t %/longer"],
+        (b"pieces 1 of 1\nbits 80\n", "", 0),
+    ),
+    (
+        ABC,
+        &["tor recheck %/t %/ab"],
+        (b"pieces 0 of 1\nbits 00\n", "", 1),
+    ),
+    (
+        ABC,
+        &["tor recheck %/t %/absent"],
+        (b"pieces 0 of 1\nbits 00\n", "", 1),
+    ),
+    (
+        EMPTY,
+        &["tor recheck %/t %/absent"],
+        (b"pieces 0 of 0\nbits \n", "", 0),
+    ),
+    (
+        EMPTY,
+        &["tor recheck %/t %/abc"],
+        (b"pieces 0 of 0\nbits \n", "", 0),
+    ),
+    (
+        b"de",
+        &["tor recheck %/t %/abc"],
+        (b"", "tor: V3 InfoShape\n", 1),
+    ),
+    (NOTHING, &["tor recheck  "], READ_FAULT),
 ];
 
-fn recheck<T: Threads + Sync>(rt: &T, system: &HostRuntime, torrent: &str, path: &str) -> Outcome {
-    run_texts(rt, system, &["tor", "recheck", torrent, path], false)
-}
-
-// That this is told of each, whose torrent is put into the folder.
-fn expect_told<T: Threads + Sync + Abort>(
-    rt: &T,
-    system: &HostRuntime,
-    folder: &str,
-    rows: &[Row],
-) -> io::Result<()> {
-    let place = below(system.alloc(), folder, "t")?;
-    for (torrent, name, wanted) in rows {
-        fs::write(system, place.as_str(), *torrent)?;
-        let path = below(system.alloc(), folder, name)?;
-        assert!(rt;
-            is_told(&recheck(rt, system, &place, &path), *wanted),
-            "at {name}"
-        );
-    }
-    Ok(())
-}
-
-// What the torrents are rechecked against.
-fn put_contents(system: &HostRuntime, folder: &str) -> io::Result<()> {
-    let alloc = system.alloc();
-    make_folders(system, folder, &FOLDERS)?;
-    write_files(system, folder, &FILES)?;
-    system.symlink("both", &below(alloc, folder, "link")?)?;
-    system.symlink("abc", &below(alloc, folder, "file-link")?)
-}
+const RECHECKS: Scene = Scene {
+    things: THINGS,
+    steps: &RECHECKED,
+    unread: 3,
+    shows_progress: false,
+};
 
 #[test]
 fn tells_which_pieces_are_there_and_right(rt: HostRuntime) -> Result<(), Fail> {
-    let folder = new_folder(&rt, "rechecks")?;
-    put_contents(&rt, &folder)?;
-    expect_told(&rt, &rt, &folder, &ROWS)?;
-    rt.remove_dir_all(rt.alloc(), &folder)?;
-    Ok(())
-}
-
-#[test]
-fn tells_that_there_is_no_torrent_to_recheck(rt: HostRuntime) {
-    assert!(rt; is_told(&recheck(&rt, &rt, "", ""), READ_FAULT));
+    Ok(expect_scene(&rt, &rt, "rechecks", &RECHECKS)?)
 }

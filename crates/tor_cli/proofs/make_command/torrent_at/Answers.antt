@@ -1,7 +1,9 @@
--- An error of making is told of the order and the paths.
+-- An error of making is told of the order and the paths. No torrent is empty.
 use Rattle.std.proofs.Common.{rules}
 use Rattle.std.proofs.lemmas.Result.{err_from_is_err_and}
+use Rattle.tor_meta.specs.Order.{settings_of_order}
 use Rattle.tor_cli.specs.Request.{IsOrderOf}
+use Rattle.tor_cli.proofs.Sizes.{some_have_bytes}
 use Rattle.tor_cli.proofs.Stops.{finding_make}
 use Rattle.tor_cli.proofs.make_command.torrent_at.Goals as goal
 
@@ -15,3 +17,8 @@ returns-in_err-torrent_of-clause-stopped g c =
     let p =
     err_from_is_err_and c.from_residual-in_err-torrent_of.result c.from_residual-in_err-torrent_of.ensures.1 in
     rw (p.1, p.2) (finding_make options order paths c.in_err-torrent_of.field-0.0 is told.only told.refused told.gave)
+
+pub returns-clause-some : goal.returns-clause-some
+returns-clause-some g c =
+    some_have_bytes (settings_of_order c.in_ok-order.order) c.in_ok-found.found.paths.items
+    c.in_ok-torrent_of.field-0.items c.in_ok-torrent_of.ensures.whole

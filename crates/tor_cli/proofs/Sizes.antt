@@ -1,0 +1,15 @@
+-- No torrent is empty.
+use Rattle.std.proofs.Common.{◌<◌, ℕ, List, length, subst, sym, arith}
+use Rattle.tor_meta.specs.Contents.{IsMadeOfSome}
+use Rattle.tor_spec.specs.Facts.{File}
+use Rattle.tor_spec.specs.Metainfo.{metainfo}
+use Rattle.tor_spec.specs.Settings.{Settings}
+
+pub has_bytes : (settings : Settings) (files : List File) → 0 < length (metainfo settings files)
+unfolding metainfo
+has_bytes settings files = omega arith
+
+pub some_have_bytes : (settings : Settings) (paths : List (List (List ℕ))) (torrent : List ℕ)
+    → IsMadeOfSome settings paths torrent → 0 < length torrent
+some_have_bytes settings paths torrent (sorted, placed, rising, made) =
+    subst (λ t. 0 < length t) (sym made) (has_bytes settings sorted)
