@@ -81,7 +81,7 @@ pub fn torrent_of<T: Threads + Sync>(
     ensures accepted { OnOk result (make_refusal {F = Error} order.now found.now.paths.items ≡ None) }
     ensures refused { IfErr result (IsToldFirst order.now found.now.paths.items) }
     ensures only { IfErr result (IsOwn (make_refusal order.now found.now.paths.items)) }
-    ensures gave { IfErr result (IsGivenTo (IsFileFault (length found.now.paths.items)) (length found.now.paths.items)) }
+    ensures gave { let count = length found.now.paths.items in IfErr result (IsGivenTo (IsFileFault count) count) }
 {
     let counting = Counting {
         source: &found.source,

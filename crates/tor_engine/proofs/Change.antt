@@ -38,7 +38,8 @@ pub change_within : (first : ℕ) (told planned : List ℕ) (file : ℕ) → cha
 unfolding change_from
 change_within first [] planned file is = let none : None ≡ Some file = is in cc
 change_within first (one ∷ told) [] file is = let none : None ≡ Some file = is in cc
-change_within first (one ∷ told) (other ∷ planned) file is = either (one == other) (change_within (first + 1) told planned file) is
+change_within first (one ∷ told) (other ∷ planned) file is =
+    either (one == other) (change_within (first + 1) told planned file) is
   where
     either : (b : Bool)
         → (change_from (first + 1) told planned ≡ Some file → file < first + 1 + length planned)

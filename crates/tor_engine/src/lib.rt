@@ -3,9 +3,10 @@
 //! - [`hash_all`] (`engine.rt`): the lengths, roots, layers and pieces of all files, or the first fault; [`hash_told`]
 //!   where the lengths were asked before.
 //! - [`How`] (`how.rt`): by how many workers; [`Sums`] (`sums.rt`): what comes of it; [`EngineError`] (`errors.rt`).
-//! - [`ask_lengths`] (`lengths.rt`): the lengths of files. `halves.rt` shares the units among workers; `turn.rt` hashes
-//!   units one after the other, `reading.rt` has one part read. `unit.rt` holds what one unit sums up to: `room.rt` the
-//!   bytes that wait, `hasher.rt` the hashes of those before them; `run.rt` what a run of units sums up to.
+//! - [`ask_lengths`] (`lengths.rt`): the lengths of files.
+//! - `halves.rt` shares the units among workers; `turn.rt` hashes units one after the other, `reading.rt` has one part
+//!   read. `unit.rt` holds what one unit sums up to: `room.rt` the bytes that wait, `hasher.rt` the hashes of those
+//!   before them; `run.rt` what a run of units sums up to.
 //! - [`hash_pieces`] (`pieces.rt`): what each piece hashes to ([`PieceHash`], `piece_hash.rt`), of files that may be cut
 //!   short or missing: `asked.rt` asks for their lengths, `present.rt` tells what is there by these, `piece_halves.rt`
 //!   shares the units among workers, `piece_turn.rt` hashes the pieces of units one after the other.

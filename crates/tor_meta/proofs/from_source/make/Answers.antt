@@ -21,8 +21,8 @@ use Rattle.tor_meta.proofs.from_source.make.Goals as goal
 
 pub returns-in-Err-clause-gave : goal.returns-in-Err-clause-gave
 returns-in-Err-clause-gave g c =
-    given_or_not (g.S.Source.gave c.args.source.now) (length c.args.paths.now) c.args.order.now c.args.paths.now c.in-Err.error
-    c.in-Err.ensures.refused
+    given_or_not (g.S.Source.gave c.args.source.now) (length c.args.paths.now) c.args.order.now c.args.paths.now
+    c.in-Err.error c.in-Err.ensures.refused
 
 pub torrent_of_listed-requires-clause-span : goal.torrent_of_listed-requires-clause-span
 torrent_of_listed-requires-clause-span g c κs within = span_of c.args.order.now c.args.paths.now

@@ -13,10 +13,18 @@ returns-in-Ok-clause-read g c =
     record {
       bytes = take count (drop held bytes);
       counted = length-take count (drop held bytes)
-          ∙ omega (arith, left, c.in-Ok.ensures.some.1, c.asked-most.ensures.room, c.in-Ok.ensures.len, c.deref_mut.ensures.len);
+          ∙ omega (
+            arith,
+            left,
+            c.in-Ok.ensures.some.1,
+            c.asked-most.ensures.room,
+            c.in-Ok.ensures.len,
+            c.deref_mut.ensures.len,
+          );
       held = ap (take (held + count)) (with_items_is c.args.self.now.bytes bytes
           (c.in-Ok.ensures.len ∙ c.deref_mut.ensures.len))
           ∙ take-add held count bytes
-          ∙ ap (λ xs. xs ++ take count (drop held bytes)) (c.in-Ok.ensures.front ∙ ap (take held) c.deref_mut.ensures.value);
+          ∙ ap (λ xs. xs ++ take count (drop held bytes))
+          (c.in-Ok.ensures.front ∙ ap (take held) c.deref_mut.ensures.value);
       steady = λ facts steady some. (c.in-Ok.ensures.read facts steady some).same;
     }
