@@ -1,13 +1,24 @@
 -- Lengths that are asked of files that may be missing.
-use Rattle.std.proofs.Common.{◌≡◌, ◌<◌, ℕ, ◌+◌, List, [], ◌∷◌, ◌++◌, length, Option, None, Some, Ok, Err}
-use Rattle.std.proofs.Common.{true, eqb, get_or, option_map, zero-add, refl, ap, sym, ◌∙◌, arith}
+use Rattle.std.proofs.Common.{◌≡◌, ◌≢◌, ◌<◌, ℕ, ◌+◌, List, [], ◌∷◌, ◌++◌, length, take, Option, None, Some, Ok, Err}
+use Rattle.std.proofs.Common.{true, false, eqb, get_or, option_map, zero-add, true≢false, refl, ap, sym, ◌∙◌, arith}
 use Rattle.std.specs.Option.{option_eq}
-use Rattle.std.proofs.lemmas.Bool.{eq-eqb}
+use Rattle.std.proofs.lemmas.Bool.{eq-eqb, eqb-true}
+use Rattle.std.proofs.lemmas.List.{take_more}
 use Rattle.std.proofs.lemmas.List.FromFn.{get_or-map-range_with_len, map-range_with_len_more}
 use Rattle.tor_source.specs.Source.{SourceFacts, told_length, unless_fault}
 use Rattle.tor_engine.specs.PieceFault.{asked_fault, first_asked_fault, lengths_told}
 use Rattle.tor_engine.specs.declared.errors.EngineError.TheVariants.{Read}
 use Rattle.tor_engine.proofs.FirstOf.{first_found, first_none, none_of_range}
+
+option_equal : (o : Option ℕ) → option_eq eqb o o ≡ true
+option_equal None = refl
+option_equal (Some n) = eq-eqb n n refl
+
+option_same : (one other : Option ℕ) → option_eq eqb one other ≡ true → one ≡ other
+option_same None None is = refl
+option_same None (Some n) is = cc
+option_same (Some n) None is = cc
+option_same (Some n) (Some m) is = ap (λ k. Some k) (eqb-true n m is)
 
 module _ {F : Type 0} (facts : SourceFacts F) where
   -- what an answer says of the length and of its fault
@@ -75,11 +86,7 @@ module _ {F : Type 0} (facts : SourceFacts F) where
       ap (λ xs. get_or xs file None) are
       ∙ get_or-map-range_with_len (λ k. option_map length (facts.contents k)) 0 (length told) file file None less
       (zero-add file) ∙ size in
-      ap (option_eq eqb again) here ∙ same again
-    where
-      same : (o : Option ℕ) → option_eq eqb o o ≡ true
-      same None = refl
-      same (Some n) = eq-eqb n n refl
+      ap (option_eq eqb again) here ∙ option_equal again
 
   -- and no fault
   pub never_again : (told : List (Option ℕ)) (file : ℕ) (given : F) → file < length told
@@ -87,3 +94,21 @@ module _ {F : Type 0} (facts : SourceFacts F) where
   never_again told file given less none is =
       let some = fault_is (facts.length_fault file) (option_map length (facts.contents file)) given is in
       let no : Some given ≡ None = sym some ∙ no_fault_told (length told) file less none in cc
+
+  -- one file more of which the same is told
+  pub same_more : (told : List (Option ℕ)) (file : ℕ) (again : Option ℕ) → file < length told
+      → take file told ≡ lengths_told facts file → told_length facts file ≡ Ok again
+      → option_eq eqb again (get_or told file None) ≡ true → take (file + 1) told ≡ lengths_told facts (file + 1)
+  same_more told file again less before is same =
+      take_more told file None less
+      ∙ ap (λ size. take file told ++ size ∷ []) (sym (option_same again (get_or told file None) same))
+      ∙ asked_more (take file told) file again before is
+
+  -- a file of which another is told
+  pub other_told : (told : List (Option ℕ)) (file : ℕ) (again : Option ℕ) → told_length facts file ≡ Ok again
+      → option_eq eqb again (get_or told file None) ≡ false
+      → get_or told file None ≢ option_map length (facts.contents file)
+  other_told told file again is other same =
+      let size = (told_is (facts.length_fault file) (option_map length (facts.contents file)) again is).1 in
+      let equal = ap (λ o. option_eq eqb again o) (same ∙ size) ∙ option_equal again in
+      true≢false (sym equal ∙ other)

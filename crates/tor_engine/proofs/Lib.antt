@@ -5,7 +5,6 @@ pub mod Change
 pub mod FileHashes
 pub mod FirstOf
 pub mod Fitted
-pub mod Given
 pub mod Halved
 pub mod HalvedPieces
 pub mod HashesByUnit

@@ -7,24 +7,24 @@ use Rattle.tor_source.specs.Source.{SourceFacts, bytes_from}
 use Rattle.tor_tree.specs.declared.kinds.Kind.{Kind}
 use Rattle.tor_engine.specs.Fault.{byte_fault, first_of}
 use Rattle.tor_engine.specs.declared.errors.EngineError.{EngineError}
-use Rattle.tor_engine.specs.declared.unit.UnitSums.{UnitSums}
+use Rattle.tor_engine.specs.declared.worker.WorkerSums.{WorkerSums}
 use Rattle.tor_engine.specs.steps.Place.{IsFaultFree}
-use Rattle.tor_engine.specs.steps.Unit.{HasTaken}
+use Rattle.tor_engine.specs.steps.Worker.{HasTaken}
 use Rattle.tor_engine.proofs.FirstOf.{first_found, first_none}
 
-fed_as : (kind : Kind) (p : ℕ) (sums : UnitSums) (bytes bytes' unit unit' : List ℕ) → bytes ≡ bytes' → unit ≡ unit'
+fed_as : (kind : Kind) (p : ℕ) (sums : WorkerSums) (bytes bytes' unit unit' : List ℕ) → bytes ≡ bytes' → unit ≡ unit'
     → HasTaken kind p bytes unit sums → HasTaken kind p bytes' unit' sums
 fed_as kind p sums bytes bytes' unit unit' same same' given =
     subst (λ (u : List ℕ). HasTaken kind p bytes' u sums) same'
     (subst (λ (b : List ℕ). HasTaken kind p b unit sums) same given)
 
-pub fed_none : (kind : Kind) (p : ℕ) (sums : UnitSums) (before unit : List ℕ) → HasTaken kind p before unit sums
+pub fed_none : (kind : Kind) (p : ℕ) (sums : WorkerSums) (before unit : List ℕ) → HasTaken kind p before unit sums
     → HasTaken kind p (before ++ []) (unit ++ []) sums
 fed_none kind p sums before unit given =
     fed_as kind p sums before (before ++ []) unit (unit ++ []) (sym (append-nil before)) (sym (append-nil unit)) given
 
 -- after a front, the bytes that come next
-pub fed_more : (kind : Kind) (p : ℕ) (sums : UnitSums) (before unit front next all : List ℕ) → front ++ next ≡ all
+pub fed_more : (kind : Kind) (p : ℕ) (sums : WorkerSums) (before unit front next all : List ℕ) → front ++ next ≡ all
     → HasTaken kind p ((before ++ front) ++ next) ((unit ++ front) ++ next) sums
     → HasTaken kind p (before ++ all) (unit ++ all) sums
 fed_more kind p sums before unit front next all is given =

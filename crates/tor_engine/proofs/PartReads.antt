@@ -9,15 +9,15 @@ use Rattle.tor_plan.specs.declared.units.Part.{Part}
 use Rattle.tor_source.specs.Source.{SourceFacts, bytes_from}
 use Rattle.tor_tree.specs.declared.kinds.Kind.{Kind}
 use Rattle.tor_engine.specs.Contents.{contents_in}
-use Rattle.tor_engine.specs.declared.unit.UnitSums.{UnitSums}
+use Rattle.tor_engine.specs.declared.worker.WorkerSums.{WorkerSums}
 use Rattle.tor_engine.specs.steps.Hashes.{bytes_of_part}
 use Rattle.tor_engine.specs.steps.Reads.{AreReads, TakesPart, HasPart, HaveRead, PartRead}
-use Rattle.tor_engine.specs.steps.Unit.{HasTaken}
+use Rattle.tor_engine.specs.steps.Worker.{HasTaken}
 use Rattle.tor_engine.proofs.PartBytes.{fed_more, fed_none, later_bytes}
 
 -- ---- the bytes of one part
 
-module _ {F : Type 0} (is_steady : SourceFacts F → Type 0) (part : Part) (old : UnitSums) where
+module _ {F : Type 0} (is_steady : SourceFacts F → Type 0) (part : Part) (old : WorkerSums) where
   pub takes_none : TakesPart is_steady part 0 old old
   takes_none = record {
     bytes = [];
@@ -27,7 +27,7 @@ module _ {F : Type 0} (is_steady : SourceFacts F → Type 0) (part : Part) (old 
   }
 
   -- and then the bytes that come next
-  pub takes_more : (done count : ℕ) (now new : UnitSums) (chunk : List ℕ) → TakesPart is_steady part done old now
+  pub takes_more : (done count : ℕ) (now new : WorkerSums) (chunk : List ℕ) → TakesPart is_steady part done old now
       → length chunk ≡ count
       → ((facts : SourceFacts F) → is_steady facts → part.length ≤ length (bytes_from facts part.file part.start)
       → chunk ≡ take count (bytes_from facts part.file (part.start + done)))

@@ -9,16 +9,16 @@ use Rattle.tor_plan.specs.declared.units.Part.{Part}
 use Rattle.tor_source.specs.Source.{SourceFacts}
 use Rattle.tor_tree.specs.Kinds.{has_v2}
 use Rattle.tor_v1.specs.Piece.{zeros}
-use Rattle.tor_engine.specs.declared.unit.UnitSums.{UnitSums}
+use Rattle.tor_engine.specs.declared.worker.WorkerSums.{WorkerSums}
 use Rattle.tor_engine.specs.steps.Hashes.{hashes_of_part}
 use Rattle.tor_engine.specs.steps.Reads.{AddsPart, HaveRead, ReadsParts}
-use Rattle.tor_engine.specs.steps.Unit.{HasTaken}
+use Rattle.tor_engine.specs.steps.Worker.{HasTaken}
 use Rattle.tor_engine.proofs.PartReads.{have_both, reads_as, reads_both, reads_none, reads_one}
 use Rattle.tor_engine.proofs.Runs.{none_yet, one_more, one_more_if}
 use Rattle.tor_engine.proofs.Taken.{taken_as}
 
 module _ {F : Type 0} (is_steady : SourceFacts F → Type 0) (plan : PlanFacts) where
-  pub parts_none : (before : ℕ) (sums : UnitSums) (hashes : List (List ℕ))
+  pub parts_none : (before : ℕ) (sums : WorkerSums) (hashes : List (List ℕ))
       → HasTaken plan.kind plan.piece_length [] (zeros before) sums
       → ReadsParts is_steady plan before [] sums hashes hashes
   parts_none before sums hashes given = record {
@@ -31,7 +31,7 @@ module _ {F : Type 0} (is_steady : SourceFacts F → Type 0) (plan : PlanFacts) 
   }
 
   -- one part more
-  pub parts_more : (parts : List Part) (i : ℕ) (d : Part) (before : ℕ) (sums new : UnitSums)
+  pub parts_more : (parts : List Part) (i : ℕ) (d : Part) (before : ℕ) (sums new : WorkerSums)
       (hashes now more : List (List ℕ)) → i < length parts
       → ReadsParts is_steady plan before (take i parts) sums hashes now
       → AddsPart is_steady plan (get_or parts i d) sums new now more

@@ -8,10 +8,10 @@ use Rattle.tor_tree.specs.declared.kinds.Kind.TheVariants.{V1, V2, Hybrid}
 use Rattle.tor_v1.specs.Piece.{piece_sums, zeros}
 use Rattle.tor_engine.specs.declared.hasher.UnitHasher.{UnitHasher}
 use Rattle.tor_engine.specs.declared.room.Room.{Room}
-use Rattle.tor_engine.specs.declared.unit.UnitSums.{UnitSums}
+use Rattle.tor_engine.specs.declared.worker.WorkerSums.{WorkerSums}
 use Rattle.tor_engine.specs.steps.Hasher.{HasFedUnit}
 use Rattle.tor_engine.specs.steps.Room.{count_in, held_in}
-use Rattle.tor_engine.specs.steps.Unit.{HasTaken, Keeps}
+use Rattle.tor_engine.specs.steps.Worker.{HasTaken, Keeps}
 
 pub none_held : (room : Room) → count_in room ≡ 0 → held_in room ≡ []
 none_held room none = ap (λ n. take n room.bytes.items) none
@@ -31,13 +31,13 @@ more_held fed held more left all longer joined =
 -- ---- what is known of the sums is kept, or gets longer
 
 -- no byte was taken
-pub fresh : (kind : Kind) (p : ℕ) (sums : UnitSums) → HasFedUnit kind p [] [] sums.hasher → held_in sums.room ≡ []
+pub fresh : (kind : Kind) (p : ℕ) (sums : WorkerSums) → HasFedUnit kind p [] [] sums.hasher → held_in sums.room ≡ []
     → HasTaken kind p [] [] sums
 fresh kind p sums fed none =
     record { fed_part = []; fed_unit = []; fed = fed; part_joined = λ has. none; unit_joined = λ has. none }
 
 -- the first bytes that waited were hashed
-pub keeps : (old new : UnitSums) (count : ℕ) (front : List ℕ) → front ≡ take count (held_in old.room)
+pub keeps : (old new : WorkerSums) (count : ℕ) (front : List ℕ) → front ≡ take count (held_in old.room)
     → held_in new.room ≡ drop count (held_in old.room)
     → ((kind : Kind) (p : ℕ) (part unit : List ℕ) → HasFedUnit kind p part unit old.hasher
     → HasFedUnit kind p (part ++ front) (unit ++ front) new.hasher) → Keeps old new
@@ -54,7 +54,7 @@ keeps old new count front first left fed kind p part unit before =
     }
 
 -- bytes were read behind those that waited
-pub takes : (kind : Kind) (p : ℕ) (old new : UnitSums) (bytes part unit : List ℕ) → new.hasher ≡ old.hasher
+pub takes : (kind : Kind) (p : ℕ) (old new : WorkerSums) (bytes part unit : List ℕ) → new.hasher ≡ old.hasher
     → held_in new.room ≡ held_in old.room ++ bytes → HasTaken kind p part unit old
     → HasTaken kind p (part ++ bytes) (unit ++ bytes) new
 takes kind p old new bytes part unit same longer before = record {
@@ -66,7 +66,7 @@ takes kind p old new bytes part unit same longer before = record {
 }
 
 -- zeros were hashed where nothing waited
-pub takes_zeros : (kind : Kind) (p : ℕ) (old new : UnitSums) (more part unit : List ℕ) → held_in old.room ≡ []
+pub takes_zeros : (kind : Kind) (p : ℕ) (old new : WorkerSums) (more part unit : List ℕ) → held_in old.room ≡ []
     → new.room ≡ old.room
     → ((part unit : List ℕ) → HasFedUnit kind p part unit old.hasher → HasFedUnit kind p part (unit ++ more) new.hasher)
     → HasTaken kind p part unit old → HasTaken kind p part (unit ++ more) new
@@ -81,7 +81,7 @@ takes_zeros kind p old new more part unit none same fed before =
           ∙ ap (λ xs. xs ++ more) (all_fed before.fed_unit _ unit none (before.unit_joined has));
     }
 
-pub takes_none : (kind : Kind) (p : ℕ) (sums : UnitSums) (part unit : List ℕ) (n : ℕ) → n ≡ 0
+pub takes_none : (kind : Kind) (p : ℕ) (sums : WorkerSums) (part unit : List ℕ) (n : ℕ) → n ≡ 0
     → HasTaken kind p part unit sums → HasTaken kind p part (unit ++ zeros n) sums
 unfolding zeros
 takes_none kind p sums part unit n none taken =
@@ -90,7 +90,7 @@ takes_none kind p sums part unit n none taken =
 -- ---- the ends of parts and units
 
 -- the tree was fed the whole part, where there is one; nothing waits then
-pub whole_part : (kind : Kind) (p : ℕ) (sums : UnitSums) (part unit : List ℕ)
+pub whole_part : (kind : Kind) (p : ℕ) (sums : WorkerSums) (part unit : List ℕ)
     → (IsSome sums.hasher.tree → count_in sums.room ≡ 0) → (taken : HasTaken kind p part unit sums)
     → HasFedUnit kind p part taken.fed_unit sums.hasher
 whole_part V1 p sums part unit none taken =
@@ -105,7 +105,7 @@ whole_part Hybrid p sums part unit none taken =
     (all_fed taken.fed_part _ part (none_held sums.room (none some)) (taken.part_joined refl)) taken.fed
 
 -- the next part begins
-pub next_part : (kind : Kind) (p : ℕ) (old new : UnitSums) (part unit : List ℕ)
+pub next_part : (kind : Kind) (p : ℕ) (old new : WorkerSums) (part unit : List ℕ)
     → (IsSome old.hasher.tree → count_in old.room ≡ 0) → new.room ≡ old.room
     → ((part unit : List ℕ) → HasFedUnit kind p part unit old.hasher → HasFedUnit kind p [] unit new.hasher)
     → HasTaken kind p part unit old → HasTaken kind p [] unit new
@@ -121,7 +121,7 @@ next_part kind p old new part unit none same fed before = record {
 }
 
 -- the pieces were fed the whole unit, where version 1 has them
-pub whole_unit : (kind : Kind) (p : ℕ) (sums : UnitSums) (part unit : List ℕ) → held_in sums.room ≡ []
+pub whole_unit : (kind : Kind) (p : ℕ) (sums : WorkerSums) (part unit : List ℕ) → held_in sums.room ≡ []
     → (taken : HasTaken kind p part unit sums)
     → cond (has_v1 kind) (piece_sums p taken.fed_unit) [] ≡ cond (has_v1 kind) (piece_sums p unit) []
 whole_unit V1 p sums part unit none taken =

@@ -81,9 +81,9 @@ IsGiven gave count Resources = Unit {0}
 IsGiven gave count (StreamTooLong file) = ⊥
 
 -- the same where a missing file is no fault
-abbrev pub IsGivenOfPieces : {F : Type 0} → (ℕ → Option ℕ → F → Type 0) → ℕ → EngineError F → Type 0
-IsGivenOfPieces gave count (Read file start fault) = gave file start fault × (file < count)
-IsGivenOfPieces gave count (Changed file) = file < count
-IsGivenOfPieces gave count (Missing file) = ⊥
-IsGivenOfPieces gave count Resources = Unit {0}
-IsGivenOfPieces gave count (StreamTooLong file) = ⊥
+abbrev pub IsGivenNotMissing : {F : Type 0} → (ℕ → Option ℕ → F → Type 0) → ℕ → EngineError F → Type 0
+IsGivenNotMissing gave count (Read file start fault) = gave file start fault × (file < count)
+IsGivenNotMissing gave count (Changed file) = file < count
+IsGivenNotMissing gave count (Missing file) = ⊥
+IsGivenNotMissing gave count Resources = Unit {0}
+IsGivenNotMissing gave count (StreamTooLong file) = ⊥

@@ -1,3 +1,4 @@
+pub mod Asked
 pub mod Hasher
 pub mod Hashes
 pub mod Pieces
@@ -5,4 +6,4 @@ pub mod Place
 pub mod Reads
 pub mod Room
 pub mod Run
-pub mod Unit
+pub mod Worker

@@ -1,8 +1,9 @@
 //! The lengths of files that may be missing, asked of their source.
-ghost use Rattle.std.specs.Prelude.{◌≡◌, None, Ok, IfErr, IfOk, MatchResult, length};
+ghost use Rattle.std.specs.Prelude.{◌≡◌, None, Ok, IfErr, IfOk, MatchResult, OnOk, length};
 ghost use Rattle.tor_source.specs.Source.{SourceFacts};
-ghost use Rattle.tor_engine.specs.Fault.{IsFault, IsGivenOfPieces};
+ghost use Rattle.tor_engine.specs.Fault.{IsFault, IsGivenNotMissing};
 ghost use Rattle.tor_engine.specs.PieceFault.{first_asked_fault, lengths_told};
+ghost use Rattle.tor_engine.specs.steps.Asked.{IsOfAnother};
 
 use crate::errors::EngineError;
 use std::alloc::Global;
@@ -19,7 +20,7 @@ pub(crate) fn ask_each<S: Source>(
         (λ told. (told.items ≡ lengths_told facts count) × (first_asked_fault facts count ≡ None))
         (IsFault (first_asked_fault facts count)) }
     ensures counted { IfOk result (λ told. length told.items ≡ count) }
-    ensures gave { IfErr result (IsGivenOfPieces (S.gave source.now) count) }
+    ensures gave { IfErr result (IsGivenNotMissing (S.gave source.now) count) }
 {
     let mut told = Vec::with_capacity(alloc, count)?;
     'files: for file in 0..count {
@@ -46,7 +47,11 @@ pub(crate) fn expect_each<S: Source>(
     ensures steady { (facts : SourceFacts S.Fault) → S.is_steady source.now facts →
         told.now ≡ lengths_told facts (length told.now) → first_asked_fault facts (length told.now) ≡ None →
         result ≡ Ok tt }
-    ensures gave { IfErr result (IsGivenOfPieces (S.gave source.now) (length told.now)) }
+    ensures unchanged { (facts : SourceFacts S.Fault) → S.is_steady source.now facts →
+        OnOk result (told.now ≡ lengths_told facts (length told.now)) }
+    ensures changed { (facts : SourceFacts S.Fault) → S.is_steady source.now facts →
+        IfErr result (IsOfAnother facts told.now) }
+    ensures gave { IfErr result (IsGivenNotMissing (S.gave source.now) (length told.now)) }
 {
     'files: for (file, length) in told.iter().enumerate() {
         match source.length(file as u64) {

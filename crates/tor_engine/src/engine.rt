@@ -3,7 +3,8 @@ ghost use Rattle.std.specs.Prelude.{◌≡◌, None, IfErr, IfOk, MatchResult, O
 ghost use Rattle.tor_plan.specs.PlanFacts.{IsPlan};
 ghost use Rattle.tor_source.specs.Source.{SourceFacts};
 ghost use Rattle.tor_engine.specs.Contents.{contents_in};
-ghost use Rattle.tor_engine.specs.Fault.{IsFault, IsGiven, first_byte_fault, first_fault, first_length_fault};
+ghost use Rattle.tor_engine.specs.Fault.{IsFault, IsGiven, IsGivenNotMissing, first_byte_fault, first_fault};
+ghost use Rattle.tor_engine.specs.Fault.{first_length_fault};
 ghost use Rattle.tor_engine.specs.How.{IsHow};
 ghost use Rattle.tor_engine.specs.Sums.{AreSumsOf, AreSumsOfSome};
 ghost use Rattle.tor_engine.specs.steps.Run.{AnswersUnits};
@@ -63,7 +64,7 @@ pub fn hash_told<S: Source, R: Threads + Sync>(
     ensures unchanged { (facts : SourceFacts S.Fault) → S.is_steady source.now facts →
         OnOk result (first_length_fault facts plan.now.lengths ≡ None) }
     ensures whole { IfOk result (AreSumsOfSome plan.now) }
-    ensures gave { IfErr result (IsGiven (S.gave source.now) (length plan.now.lengths)) }
+    ensures gave { IfErr result (IsGivenNotMissing (S.gave source.now) (length plan.now.lengths)) }
 {
     let run = match hash_units(rt, alloc, source, plan, how) {
         Ok(run) => run,

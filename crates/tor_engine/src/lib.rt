@@ -5,11 +5,11 @@
 //! - [`How`] (`how.rt`): by how many workers; [`Sums`] (`sums.rt`): what comes of it; [`EngineError`] (`errors.rt`).
 //! - [`ask_lengths`] (`lengths.rt`): the lengths of files.
 //! - `halves.rt` shares the units among workers; `turn.rt` hashes units one after the other, `reading.rt` has one part
-//!   read. `unit.rt` holds what one unit sums up to: `room.rt` the bytes that wait, `hasher.rt` the hashes of those
-//!   before them; `run.rt` what a run of units sums up to.
-//! - [`hash_pieces`] (`pieces.rt`): what each piece hashes to ([`PieceHash`], `piece_hash.rt`), of files that may be cut
-//!   short or missing: `asked.rt` asks for their lengths, `present.rt` tells what is there by these, `piece_halves.rt`
-//!   shares the units among workers, `piece_turn.rt` hashes the pieces of units one after the other.
+//!   read. `worker.rt` holds what the units of a worker sum up to: `room.rt` the bytes that wait, `hasher.rt` hashes
+//!   those before them; `run.rt` what a run of units sums up to.
+//! - [`hash_pieces`] (`pieces.rt`): what each piece hashes to ([`PieceHash`], `piece_hash.rt`), of files that may be
+//!   cut short or missing: `asked.rt` asks for their lengths, `present.rt` tells what is there by these,
+//!   `piece_halves.rt` shares the units among workers, `piece_turn.rt` hashes the pieces of units one after the other.
 //! - [`laws`] (`laws.rt`): a law over the definition of the first fault.
 //!
 //! ```rust
@@ -52,7 +52,7 @@ mod tests_sums;
 #[cfg(test)]
 mod tests_workers;
 mod turn;
-mod unit;
+mod worker;
 
 pub use engine::{hash_all, hash_told};
 pub use errors::EngineError;

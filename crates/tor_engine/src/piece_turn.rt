@@ -4,14 +4,14 @@ ghost use Rattle.tor_plan.specs.Pieces.{pieces_of_unit};
 ghost use Rattle.tor_plan.specs.PlanFacts.{IsPlan};
 ghost use Rattle.tor_source.specs.Source.{SourceFacts};
 ghost use Rattle.tor_engine.specs.Contents.{contents_in};
-ghost use Rattle.tor_engine.specs.Fault.{IsFault, IsGivenOfPieces, unit_fault};
+ghost use Rattle.tor_engine.specs.Fault.{IsFault, IsGivenNotMissing, unit_fault};
 ghost use Rattle.tor_engine.specs.PieceFault.{piece_fault};
 ghost use Rattle.tor_engine.specs.PieceHashes.{hash_if_there};
 ghost use Rattle.tor_engine.specs.steps.Pieces.{first_hashes, sums_in, unit_hash, unit_hashes, unit_pieces_fault};
 ghost use Rattle.tor_engine.specs.steps.Pieces.{AnswersPieces, AreTold, AreUnitsToHash, IsPaddingSum, IsPiece};
 ghost use Rattle.tor_engine.specs.steps.Reads.{HasParts};
 ghost use Rattle.tor_engine.specs.steps.Run.{IsUnitOf};
-ghost use Rattle.tor_engine.specs.steps.Unit.{IsFresh};
+ghost use Rattle.tor_engine.specs.steps.Worker.{IsFresh};
 
 use crate::errors::EngineError;
 use crate::items::item_at;
@@ -19,7 +19,7 @@ use crate::piece_hash::PieceHash;
 use crate::present::is_there;
 use crate::run::RunSums;
 use crate::turn::hash_unit;
-use crate::unit::UnitSums;
+use crate::worker::WorkerSums;
 use std::alloc::{AllocError, Global};
 use tor_merkle::laws::root_of_short_content;
 use tor_plan::{Plan, PlanUnit};
@@ -48,7 +48,7 @@ pub(crate) fn hash_pieces_in_turn<S: Source>(
     requires units { AreUnitsToHash plan.now units.now }
     ensures { AnswersPieces S.is_steady S.gave source.now plan.now known.now.lengths.items units.now result }
 {
-    let mut sums = UnitSums::new(alloc, plan)?;
+    let mut sums = WorkerSums::new(alloc, plan)?;
     let mut hashes = Vec::new(alloc);
     'units: for unit in units {
         match add_unit(alloc, source, plan, known, unit, &mut sums, &mut hashes) {
@@ -66,7 +66,7 @@ fn add_unit<S: Source>(
     plan: &Plan,
     known: &Known,
     unit: &PlanUnit,
-    sums: &mut UnitSums,
+    sums: &mut WorkerSums,
     hashes: &mut Vec<Option<PieceHash>>,
 ) -> Result<(), EngineError<S::Fault>>
     requires planned { IsPlan plan.now }
@@ -84,7 +84,7 @@ fn add_unit<S: Source>(
         (IsFault (unit_pieces_fault facts plan.now (contents_in facts (length plan.now.lengths)) unit.now)) }
     ensures counted { OnOk result (length hashes.new.items
         ≡ length hashes.old.items + length (pieces_of_unit plan.now.piece_length unit.now)) }
-    ensures gave { IfErr result (IsGivenOfPieces (S.gave source.now) (length plan.now.lengths)) }
+    ensures gave { IfErr result (IsGivenNotMissing (S.gave source.now) (length plan.now.lengths)) }
 {
     let pieces = unit.pieces(alloc, plan.piece_length())?;
     'pieces: for piece in pieces.as_slice() {
@@ -104,7 +104,7 @@ fn hash_if_there<S: Source>(
     plan: &Plan,
     known: &Known,
     piece: &PlanUnit,
-    sums: &mut UnitSums,
+    sums: &mut WorkerSums,
 ) -> Result<Option<PieceHash>, EngineError<S::Fault>>
     requires planned { IsPlan plan.now }
     requires padding { IsPaddingSum plan.now known.now.padding_sum }
@@ -117,7 +117,7 @@ fn hash_if_there<S: Source>(
         (λ hash. (hash ≡ hash_if_there plan.now (contents_in facts (length plan.now.lengths)) piece.now)
         × (piece_fault facts (contents_in facts (length plan.now.lengths)) piece.now ≡ None))
         (IsFault (piece_fault facts (contents_in facts (length plan.now.lengths)) piece.now)) }
-    ensures gave { IfErr result (IsGivenOfPieces (S.gave source.now) (length plan.now.lengths)) }
+    ensures gave { IfErr result (IsGivenNotMissing (S.gave source.now) (length plan.now.lengths)) }
 {
     length_of_sums();
     root_of_short_content();
@@ -149,7 +149,7 @@ fn hash_piece<S: Source>(
     source: &S,
     plan: &Plan,
     piece: &PlanUnit,
-    sums: &mut UnitSums,
+    sums: &mut WorkerSums,
 ) -> Result<PieceHash, EngineError<S::Fault>>
     requires planned { IsPlan plan.now }
     requires piece { IsUnitOf plan.now piece.now }
@@ -160,7 +160,7 @@ fn hash_piece<S: Source>(
         (λ hash. (hash ≡ unit_hash plan.now (contents_in facts (length plan.now.lengths)) piece.now)
         × (unit_fault facts piece.now ≡ None))
         (IsFault (unit_fault facts piece.now)) }
-    ensures gave { IfErr result (IsGivenOfPieces (S.gave source.now) (length plan.now.lengths)) }
+    ensures gave { IfErr result (IsGivenNotMissing (S.gave source.now) (length plan.now.lengths)) }
 {
     let mut run = RunSums::none(alloc);
     match hash_unit(alloc, source, plan, piece, sums, &mut run) {

@@ -3,7 +3,7 @@ ghost use Rattle.std.specs.Prelude.{◌≡◌, None, IfErr, IfOk, MatchResult, l
 ghost use Rattle.tor_plan.specs.PlanFacts.{IsPlan};
 ghost use Rattle.tor_source.specs.Source.{SourceFacts};
 ghost use Rattle.tor_engine.specs.Contents.{contents_in};
-ghost use Rattle.tor_engine.specs.Fault.{IsFault, IsGivenOfPieces};
+ghost use Rattle.tor_engine.specs.Fault.{IsFault, IsGivenNotMissing};
 ghost use Rattle.tor_engine.specs.How.{IsHow};
 ghost use Rattle.tor_engine.specs.PieceFault.{first_piece_fault};
 ghost use Rattle.tor_engine.specs.PieceHashes.{piece_hashes, pieces_of_plan};
@@ -43,7 +43,7 @@ pub fn hash_pieces<S: Source, R: Threads + Sync>(
         × (first_piece_fault facts plan.now ≡ None))
         (IsFault (first_piece_fault facts plan.now)) }
     ensures counted { IfOk result (λ hashes. length hashes.items ≡ length (pieces_of_plan plan.now)) }
-    ensures gave { IfErr result (IsGivenOfPieces (S.gave source.now) (length plan.now.lengths)) }
+    ensures gave { IfErr result (IsGivenNotMissing (S.gave source.now) (length plan.now.lengths)) }
 {
     let lengths = match ask_each(alloc, source, plan.lengths().len()) {
         Ok(lengths) => lengths,

@@ -2,12 +2,12 @@
 ghost use Rattle.std.specs.Prelude.{◌≡◌, ◌+◌, ◌<◌, ◌≤◌, None, IfErr, IfOk, MatchResult, ℕ};
 ghost use Rattle.tor_merkle.specs.declared.TheConstants.{MAX_LENGTH};
 ghost use Rattle.tor_source.specs.Source.{SourceFacts};
-ghost use Rattle.tor_engine.specs.Fault.{IsFault, IsGivenOfPieces, part_fault};
+ghost use Rattle.tor_engine.specs.Fault.{IsFault, IsGivenNotMissing, part_fault};
 ghost use Rattle.tor_engine.specs.steps.Reads.{HasPart, TakesPart};
-ghost use Rattle.tor_engine.specs.steps.Unit.{begun_of};
+ghost use Rattle.tor_engine.specs.steps.Worker.{begun_of};
 
 use crate::errors::EngineError;
-use crate::unit::UnitSums;
+use crate::worker::WorkerSums;
 use tor_plan::Part;
 use tor_source::Source;
 
@@ -15,7 +15,7 @@ use tor_source::Source;
 pub(crate) fn read_part<S: Source>(
     source: &S,
     part: &Part,
-    sums: &mut UnitSums,
+    sums: &mut WorkerSums,
 ) -> Result<(), EngineError<S::Fault>>
     requires small { begun_of sums.old + part.now.length ≤ MAX_LENGTH }
     requires placed { part.now.start + part.now.length ≤ MAX_LENGTH }
@@ -23,7 +23,7 @@ pub(crate) fn read_part<S: Source>(
     ensures fault { (facts : SourceFacts S.Fault) → S.is_steady source.now facts → HasPart facts part.now →
         MatchResult result (λ _. part_fault facts part.now ≡ None) (IsFault (part_fault facts part.now)) }
     ensures gave { (files : ℕ) → part.now.file < files →
-        IfErr result (IsGivenOfPieces (S.gave source.now) files) }
+        IfErr result (IsGivenNotMissing (S.gave source.now) files) }
 {
     let mut done = 0;
     'reads: while done < part.length {

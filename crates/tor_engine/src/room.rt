@@ -1,11 +1,13 @@
 //! The bytes that a worker has read and not hashed yet, and room for more behind them.
-ghost use Rattle.std.specs.Prelude.{◌≡◌, ◌+◌, ◌*◌, ◌-◌, ◌^◌, ◌<◌, ◌≤◌, [], ◌++◌, Some, None, false, true};
+ghost use Rattle.std.specs.Prelude.{◌≡◌, ◌+◌, ◌*◌, ◌-◌, ◌%◌, ◌<◌, ◌≤◌, [], ◌++◌, Some, None, false, true};
 ghost use Rattle.std.specs.Prelude.{IfErr, IfOk, MatchResult, drop, length, take, vec_len, ℕ};
 ghost use Rattle.tor_plan.specs.PlanFacts.{IsPlan};
 ghost use Rattle.tor_source.specs.Source.{SourceFacts, bytes_from};
-ghost use Rattle.tor_engine.specs.Fault.{IsGivenOfPieces, byte_fault};
-ghost use Rattle.tor_engine.specs.declared.room.TheConstants.{LEAST_ASKED};
-ghost use Rattle.tor_engine.specs.steps.Place.{AreBytesAt, IsFaultFree};
+ghost use Rattle.tor_engine.specs.Fault.{IsGivenNotMissing, byte_fault};
+ghost use Rattle.tor_engine.specs.declared.room.TheConstants.{BATCH, LEAST_ASKED, MOST_HELD};
+ghost use Rattle.tor_engine.specs.steps.Place.{AreBytesAt, EndsThere, IsFaultFree};
+ghost use Rattle.tor_tree.specs.Kinds.{has_v1};
+ghost use Rattle.tor_v1.specs.declared.runs.TheConstants.{MAX_PIECE_IN_RUN};
 
 use crate::errors::EngineError;
 use std::alloc::{AllocError, Global};
@@ -32,9 +34,10 @@ pub(crate) struct Room {
     // So many are hashed together, where as many are held.
     batch: usize,
     ghost within: { held ≤ vec_len bytes },
-    ghost some: { 0 < batch },
-    ghost short: { vec_len bytes ≤ 2 * batch },
+    ghost many: { LEAST_ASKED ≤ batch },
     ghost large: { LEAST_ASKED ≤ vec_len bytes },
+    ghost short: { vec_len bytes ≤ batch + LEAST_ASKED },
+    ghost bounded: { vec_len bytes ≤ MOST_HELD },
 }
 
 impl Room {
@@ -64,7 +67,7 @@ impl Room {
 
     /// Whether a batch is held, or there is little room left.
     pub(crate) fn is_full(&self) -> bool
-        ensures room { result ≡ false → count_in self.now < length_of self.now }
+        ensures room { result ≡ false → count_in self.now + LEAST_ASKED ≤ length_of self.now }
         ensures some { result ≡ true → 0 < count_in self.now }
     {
         self.held >= self.batch || self.bytes.len() - self.held < LEAST_ASKED
@@ -74,6 +77,7 @@ impl Room {
     pub(crate) fn batch(&self) -> usize
         ensures within { result ≤ count_in self.now }
         ensures half { count_in self.now ≤ 2 * result }
+        ensures room { count_in self.now - result + LEAST_ASKED ≤ length_of self.now }
     {
         self.held.min(self.batch)
     }
@@ -111,15 +115,17 @@ impl Room {
         left: u64,
     ) -> Result<usize, EngineError<S::Fault>>
         requires left { 0 < left }
-        requires room { count_in self.old < length_of self.old }
+        requires room { count_in self.old + LEAST_ASKED ≤ length_of self.old }
         ensures some { IfOk result (λ count. (0 < count) × (count ≤ left)) }
         ensures count { IfOk result (λ count. count_in self.new ≡ count_in self.old + count) }
         ensures read { IfOk result (λ count. ReadsMore (S.is_steady source.now) file start count self.old self.new) }
         ensures fault { (facts : SourceFacts S.Fault) → S.is_steady source.now facts →
             0 < length (bytes_from facts file start) →
             MatchResult result (IsFaultFree facts file start) (λ error. byte_fault facts file start ≡ Some error) }
+        ensures ends { (facts : SourceFacts S.Fault) → S.is_steady source.now facts →
+            length (bytes_from facts file start) ≡ 0 → EndsThere facts file start result }
         ensures err { IfErr result (λ _. count_in self.new ≡ count_in self.old) }
-        ensures gave { (files : ℕ) → file < files → IfErr result (IsGivenOfPieces (S.gave source.now) files) }
+        ensures gave { (files : ℕ) → file < files → IfErr result (IsGivenNotMissing (S.gave source.now) files) }
     {
         let most = self.asked(left);
         match read_behind(source, file, start, self.held, most, &mut self.bytes) {
@@ -131,12 +137,13 @@ impl Room {
         }
     }
 
-    // How many bytes are asked for where so many are left: up to a whole batch, but no few.
+    // How many bytes are asked for where so many are left: up to a whole batch, and few only where no more are left.
     fn asked(&self, left: u64) -> usize
         requires left { 0 < left }
-        requires room { count_in self.now < length_of self.now }
+        requires room { count_in self.now + LEAST_ASKED ≤ length_of self.now }
         ensures some { 0 < result }
         ensures left { result ≤ left }
+        ensures least { result < LEAST_ASKED → result ≡ left }
         ensures room { count_in self.now + result ≤ length_of self.now }
     {
         let room = self.bytes.len() - self.held;
@@ -155,6 +162,8 @@ fn batch_length(plan: &Plan) -> usize
     requires { IsPlan plan.now }
     ensures least { BATCH ≤ result }
     ensures most { result ≤ MOST_HELD }
+    ensures eight { has_v1 plan.now.kind ≡ true → plan.now.piece_length ≤ MAX_PIECE_IN_RUN →
+        result % (8 * plan.now.piece_length) ≡ 0 }
 {
     let eight = 8 * plan.piece_length();
     if !plan.kind().has_v1() || plan.piece_length() > MAX_PIECE_IN_RUN {
@@ -203,7 +212,9 @@ fn read_behind<S: Source>(
         0 < length (bytes_from facts file start) →
         MatchResult result (AreBytesAt facts file start held bytes.new)
         (λ error. byte_fault facts file start ≡ Some error) }
-    ensures gave { (files : ℕ) → file < files → IfErr result (IsGivenOfPieces (S.gave source.now) files) }
+    ensures ends { (facts : SourceFacts S.Fault) → S.is_steady source.now facts →
+        length (bytes_from facts file start) ≡ 0 → EndsThere facts file start result }
+    ensures gave { (files : ℕ) → file < files → IfErr result (IsGivenNotMissing (S.gave source.now) files) }
 {
     let (_, behind) = bytes.split_at_mut(held);
     let (room, _) = behind.split_at_mut(most);

@@ -11,13 +11,16 @@ use tor_plan::Plan;
 use tor_source::{FailSource, Source};
 use tor_tree::Kind;
 
-/// A file of zeros, which counts the reads that go past the end of a part, that ask for more than a buffer holds, or
-/// for nothing.
+/// A file of zeros, which counts the reads that go past the end of a part, that ask for more than is read at once, or
+/// for fewer than 64 KiB where as many are left of the part; and keeps how many bytes the largest asks for.
 #[derive(Drop)]
 struct Watched {
     length: u64,
     /// A part of the file begins at each multiple of this.
     part: u64,
+    /// No read gives more bytes.
+    step: usize,
+    most: AtomicU64,
     wrong: AtomicU64,
 }
 
@@ -33,47 +36,65 @@ impl Source for Watched {
     }
 
     fn read_at(&self, _file: u64, start: u64, buffer: &mut [u8]) -> Result<usize, u64> {
-        let most = buffer.len() as u64;
-        let left = self.length.saturating_sub(start);
+        let asked = buffer.len() as u64;
         let begun = start.checked_rem(self.part).unwrap_or(0);
-        if most == 0 || most > left.min(1 << 20) || most > self.part.saturating_sub(begun) {
+        let left = self
+            .length
+            .saturating_sub(start)
+            .min(self.part.saturating_sub(begun));
+        if asked == 0 || asked > left.min(MOST_READ) || asked < left.min(LEAST_READ) {
             self.wrong.fetch_add(1, SeqCst);
         }
-        Ok(buffer.len())
+        self.most.fetch_max(asked, SeqCst);
+        Ok(buffer.len().min(self.step))
     }
 }
 
-/// The length of the file and of a piece, and the span.
-type Read = (u64, u64, u32, Kind);
+/// No read asks for more bytes, and none for fewer where as many are left.
+const MOST_READ: u64 = 1 << 20;
+
+const LEAST_READ: u64 = 1 << 16;
+
+/// The length of the file and of a piece, the span, the kind, and how many bytes the largest read asks for.
+type Read = (u64, u64, u32, Kind, u64);
 
 const READ: [Read; 5] = [
-    (40000, 16384, 1, Kind::V1),
-    (40000, 16384, 2, Kind::V2),
-    (40000, 16384, 1, Kind::Hybrid),
-    (1_200_000, 1 << 21, 1, Kind::V2),
-    (1_200_000, 1 << 19, 2, Kind::V1),
+    (40000, 16384, 1, Kind::V1, 16384),
+    (40000, 16384, 2, Kind::V2, 32768),
+    (40000, 16384, 1, Kind::Hybrid, 16384),
+    (1_200_000, 1 << 21, 1, Kind::V2, 1 << 20),
+    (1_200_000, 1 << 19, 2, Kind::V1, 1 << 20),
 ];
+
+/// How many bytes a read gives at most.
+const STEPS: [usize; 3] = [1 << 20, 50_000, 999];
 
 fn is_read_right<R: AllocGlobal + Abort + Threads + Sync>(
     rt: &R,
     row: &Read,
+    step: usize,
     how: How,
 ) -> Result<bool, Fail> {
-    let (length, piece_length, span, kind) = *row;
+    let (length, piece_length, span, kind, most) = *row;
     let plan = plan_of(rt, &[length], kind, piece_length, span)?;
     let source = Watched {
         length,
         part: piece_length.saturating_mul(u64::from(span)),
+        step,
+        most: AtomicU64::new(0),
         wrong: AtomicU64::new(0),
     };
-    Ok(is_fault(rt, &source, &plan, how, "none")? && source.wrong.load(SeqCst) == 0)
+    let is_made = is_fault(rt, &source, &plan, how, "none")?;
+    Ok(is_made && source.wrong.load(SeqCst) == 0 && source.most.load(SeqCst) == most)
 }
 
 #[test]
 fn reads_within_parts_and_buffers(rt: HostRuntime) -> Result<(), Fail> {
     for row in &READ {
-        assert!(rt; is_read_right(&rt, row, How::One)?);
-        assert!(rt; is_read_right(&rt, row, How::Halves(2))?);
+        for step in STEPS {
+            assert!(rt; is_read_right(&rt, row, step, How::One)?);
+            assert!(rt; is_read_right(&rt, row, step, How::Halves(2))?);
+        }
     }
     Ok(())
 }
@@ -124,7 +145,7 @@ impl Source for Vanishing {
 }
 
 #[test]
-fn asks_lengths_again_where_they_were_told(rt: HostRuntime) -> Result<(), Fail> {
+fn hashes_files_whose_lengths_were_told_before(rt: HostRuntime) -> Result<(), Fail> {
     let alloc = rt.alloc();
     let plan = plan_of(&rt, &[40000], Kind::V2, 16384, 1)?;
     let source = files_of(alloc, &[40000])?;

@@ -2,11 +2,13 @@
 
 use super::*;
 use crate::tests::{is_fault, plan_of};
+use std::alloc::AllocError;
 use std::process::Abort;
 use std::sync::atomic::AtomicU64;
 use std::sync::atomic::Ordering::SeqCst;
 use std::test::Fail;
 use std::thread::{Threads, yield_now};
+use tor_plan::Plan;
 use tor_source::Source;
 use tor_tree::Kind;
 
@@ -77,16 +79,17 @@ fn no_more_workers_read_than_were_asked_for(rt: HostRuntime) -> Result<(), Fail>
     Ok(())
 }
 
-/// No other read came.
+/// Too few others read.
 #[derive(Debug, Drop)]
 struct Alone;
 
-/// A file of zeros, whose first read waits until a second one has begun. That is one of another worker, since the first
-/// worker waits.
+/// A file of zeros, whose reads wait until so many have begun. These are of as many workers, since one that waits
+/// begins no other.
 #[derive(Drop)]
 struct Meeting {
     length: u64,
-    /// How often the first read looks for another.
+    workers: u64,
+    /// How often a read looks for the others.
     turns: u64,
     begun: AtomicU64,
 }
@@ -103,11 +106,9 @@ impl Source for Meeting {
     }
 
     fn read_at(&self, _file: u64, _start: u64, buffer: &mut [u8]) -> Result<usize, Alone> {
-        if self.begun.fetch_add(1, SeqCst) > 0 {
-            return Ok(buffer.len());
-        }
+        self.begun.fetch_add(1, SeqCst);
         for _ in 0..self.turns {
-            if self.begun.load(SeqCst) > 1 {
+            if self.begun.load(SeqCst) >= self.workers {
                 return Ok(buffer.len());
             }
             yield_now();
@@ -118,34 +119,69 @@ impl Source for Meeting {
 
 const ALONE: &str = "Read { file: 0, start: Some(0), fault: Alone }";
 
-/// The workers, how often the first read looks for another, and the fault.
-const MEETINGS: [(How, u64, &str); 3] = [
-    (How::One, 1000, ALONE),
-    (How::Halves(1), 1000, ALONE),
-    (How::Halves(2), 10_000_000, "none"),
+/// How often a read looks for others that do not come, and for others that do.
+const FEW: u64 = 1000;
+
+const MANY: u64 = 10_000_000;
+
+/// The workers, how many reads wait for one another, how often each looks for the others, and the fault.
+const MEETINGS: [(How, u64, u64, &str); 6] = [
+    (How::One, 2, FEW, ALONE),
+    (How::Halves(1), 2, FEW, ALONE),
+    (How::Halves(2), 3, FEW, ALONE),
+    (How::Halves(2), 2, MANY, "none"),
+    (How::Halves(3), 3, MANY, "none"),
+    (How::Halves(4), 4, MANY, "none"),
 ];
 
-/// Whether the fault of a file of four units is this one.
-fn is_fault_of_meeting<R: AllocGlobal + Abort + Threads + Sync>(
-    rt: &R,
-    how: How,
-    turns: u64,
-    wanted: &str,
-) -> Result<bool, Fail> {
-    let plan = plan_of(rt, &[65536], Kind::V2, 16384, 1)?;
-    assert_eq!(rt; plan.units().len(), 4);
-    let source = Meeting {
+/// A file of four units whose reads meet.
+fn meeting_of(workers: u64, turns: u64) -> Meeting {
+    Meeting {
         length: 65536,
+        workers,
         turns,
         begun: AtomicU64::new(0),
-    };
-    Ok(is_fault(rt, &source, &plan, how, wanted)?)
+    }
+}
+
+/// Its plan.
+fn plan_of_meeting<R: AllocGlobal + Abort>(rt: &R) -> Result<Plan, Fail> {
+    let plan = plan_of(rt, &[65536], Kind::V2, 16384, 1)?;
+    assert_eq!(rt; plan.units().len(), 4);
+    Ok(plan)
 }
 
 #[test]
 fn workers_meet(rt: HostRuntime) -> Result<(), Fail> {
-    for (how, turns, wanted) in MEETINGS {
-        assert!(rt; is_fault_of_meeting(&rt, how, turns, wanted)?);
+    let plan = plan_of_meeting(&rt)?;
+    for (how, workers, turns, wanted) in MEETINGS {
+        assert!(rt; is_fault(&rt, &meeting_of(workers, turns), &plan, how, wanted)?);
+    }
+    Ok(())
+}
+
+/// Whether the fault of the pieces has this text; `none` where they have hashes.
+fn is_fault_of_pieces<R: AllocGlobal + Abort + Threads + Sync>(
+    rt: &R,
+    source: &Meeting,
+    plan: &Plan,
+    how: How,
+    wanted: &str,
+) -> Result<bool, AllocError> {
+    if let How::Halves(workers) = how {
+        assert!(rt; workers >= 1 && workers <= 64);
+    }
+    match hash_pieces(rt, rt.alloc(), source, plan, how) {
+        Ok(_) => Ok(wanted == "none"),
+        Err(error) => Ok(format!(in rt.alloc(); "{error:?}")?.as_str() == wanted),
+    }
+}
+
+#[test]
+fn workers_meet_over_pieces(rt: HostRuntime) -> Result<(), Fail> {
+    let plan = plan_of_meeting(&rt)?;
+    for (how, workers, turns, wanted) in MEETINGS {
+        assert!(rt; is_fault_of_pieces(&rt, &meeting_of(workers, turns), &plan, how, wanted)?);
     }
     Ok(())
 }

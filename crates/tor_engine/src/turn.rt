@@ -3,15 +3,15 @@ ghost use Rattle.std.specs.Prelude.{◌≡◌, None, IfErr, IfOk, MatchResult, l
 ghost use Rattle.tor_plan.specs.PlanFacts.{IsPlan};
 ghost use Rattle.tor_plan.specs.WithinEntries.{IsInFile};
 ghost use Rattle.tor_source.specs.Source.{SourceFacts};
-ghost use Rattle.tor_engine.specs.Fault.{IsFault, IsGivenOfPieces, part_fault, unit_fault};
+ghost use Rattle.tor_engine.specs.Fault.{IsFault, IsGivenNotMissing, part_fault, unit_fault};
 ghost use Rattle.tor_engine.specs.steps.Reads.{AddsPart, HasPart, HasParts};
 ghost use Rattle.tor_engine.specs.steps.Run.{AddsUnit, AnswersUnits, AreUnitsOf, IsUnitOf};
-ghost use Rattle.tor_engine.specs.steps.Unit.{IsFresh, begun_of};
+ghost use Rattle.tor_engine.specs.steps.Worker.{IsFresh, begun_of};
 
 use crate::errors::EngineError;
 use crate::reading::read_part;
 use crate::run::RunSums;
-use crate::unit::UnitSums;
+use crate::worker::WorkerSums;
 use std::alloc::Global;
 use tor_merkle::Hash;
 use tor_plan::{Part, Plan, PlanUnit};
@@ -28,7 +28,7 @@ pub(crate) fn hash_in_turn<S: Source>(
     requires units { AreUnitsOf plan.now units.now }
     ensures { AnswersUnits S.is_steady S.gave source.now plan.now units.now result }
 {
-    let mut sums = UnitSums::new(alloc, plan)?;
+    let mut sums = WorkerSums::new(alloc, plan)?;
     let mut run = RunSums::none(alloc);
     'units: for unit in units {
         match hash_unit(alloc, source, plan, unit, &mut sums, &mut run) {
@@ -45,7 +45,7 @@ pub(crate) fn hash_unit<S: Source>(
     source: &S,
     plan: &Plan,
     unit: &PlanUnit,
-    sums: &mut UnitSums,
+    sums: &mut WorkerSums,
     run: &mut RunSums,
 ) -> Result<(), EngineError<S::Fault>>
     requires planned { IsPlan plan.now }
@@ -55,7 +55,7 @@ pub(crate) fn hash_unit<S: Source>(
     ensures added { IfOk result (λ _. AddsUnit (S.is_steady source.now) plan.now unit.now run.old run.new) }
     ensures fault { (facts : SourceFacts S.Fault) → S.is_steady source.now facts → HasParts facts unit.now.parts →
         MatchResult result (λ _. unit_fault facts unit.now ≡ None) (IsFault (unit_fault facts unit.now)) }
-    ensures gave { IfErr result (IsGivenOfPieces (S.gave source.now) (length plan.now.lengths)) }
+    ensures gave { IfErr result (IsGivenNotMissing (S.gave source.now) (length plan.now.lengths)) }
 {
     sums.feed_zeros(unit.zeros)?;
     let parts = unit.parts.as_slice();
@@ -75,7 +75,7 @@ fn hash_part<S: Source>(
     source: &S,
     plan: &Plan,
     part: &Part,
-    sums: &mut UnitSums,
+    sums: &mut WorkerSums,
     hashes: &mut Vec<Hash>,
 ) -> Result<(), EngineError<S::Fault>>
     requires planned { IsPlan plan.now }
@@ -85,7 +85,7 @@ fn hash_part<S: Source>(
         (λ _. AddsPart (S.is_steady source.now) plan.now part.now sums.old sums.new hashes.old.items hashes.new.items) }
     ensures fault { (facts : SourceFacts S.Fault) → S.is_steady source.now facts → HasPart facts part.now →
         MatchResult result (λ _. part_fault facts part.now ≡ None) (IsFault (part_fault facts part.now)) }
-    ensures gave { IfErr result (IsGivenOfPieces (S.gave source.now) (length plan.now.lengths)) }
+    ensures gave { IfErr result (IsGivenNotMissing (S.gave source.now) (length plan.now.lengths)) }
 {
     match read_part(source, part, sums) {
         Ok(()) => {}

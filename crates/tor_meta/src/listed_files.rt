@@ -1,7 +1,7 @@
 //! The torrent of a list of files whose bytes a source gives.
 ghost use Rattle.std.specs.Prelude.{◌≡◌, List, ℕ, None, IfErr, IfOk, MatchResult, length, map};
 ghost use Rattle.tor_engine.specs.Contents.{contents_in};
-ghost use Rattle.tor_engine.specs.Fault.{IsFault, IsGiven, first_byte_fault, first_length_fault};
+ghost use Rattle.tor_engine.specs.Fault.{IsFault, IsGivenNotMissing, first_byte_fault, first_length_fault};
 ghost use Rattle.tor_engine.specs.How.{IsHow};
 ghost use Rattle.tor_meta.specs.Contents.{files_of};
 ghost use Rattle.tor_meta.specs.Hashes.{HasInfo};
@@ -47,7 +47,7 @@ pub(crate) fn torrent_of_listed<S: Source, R: Threads + Sync>(
     ensures whole { IfOk result (λ bytes. (contents : List (List ℕ)) × (map length contents ≡ lengths_of list.now)
         × (bytes.items ≡ metainfo (settings_of head.now) (files_of list.now contents))) }
     ensures info { IfOk result (λ bytes. HasInfo bytes.items) }
-    ensures gave { IfErr result (IsGiven (S.gave source.now) (length list.now)) }
+    ensures gave { IfErr result (IsGivenNotMissing (S.gave source.now) (length list.now)) }
 {
     let sums = match sums_of_listed(rt, alloc, source, list, head, span, how) {
         Ok(sums) => sums,
@@ -77,7 +77,7 @@ fn sums_of_listed<S: Source, R: Threads + Sync>(
         × (first_byte_fault facts (lengths_of list.now) ≡ None))
         (IsFault (first_byte_fault facts (lengths_of list.now))) }
     ensures whole { IfOk result (SumUpSome head.now list.now) }
-    ensures gave { IfErr result (IsGiven (S.gave source.now) (length list.now)) }
+    ensures gave { IfErr result (IsGivenNotMissing (S.gave source.now) (length list.now)) }
 {
     piece_length_bounds();
     units_are_the_content();

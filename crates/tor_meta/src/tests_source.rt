@@ -251,17 +251,20 @@ fn is_taken<R: AllocGlobal + Threads + Sync>(
     rt: &R,
     told: &str,
     shape: Shape,
+    step: usize,
 ) -> Result<bool, Fail> {
     let (kind, name, single) = shape;
-    let (paths, contents) = files_told(rt.alloc(), told)?;
+    let (paths, source) = files_in_steps(rt.alloc(), told, step)?;
     let order = order(rt.alloc(), kind, name, single, How::One)?;
-    Ok(is_told(rt, &MemSource::new(contents), &paths, &order, "made")?)
+    Ok(is_told(rt, &source, &paths, &order, "made")?)
 }
 
 #[test]
 fn takes_reserved_names_where_nothing_is_aligned(rt: HostRuntime) -> Result<(), Fail> {
     for (told, shape) in TAKEN {
-        assert!(rt; is_taken(&rt, told, shape)?);
+        for step in [1, 7, 16384] {
+            assert!(rt; is_taken(&rt, told, shape, step)?);
+        }
     }
     Ok(())
 }
@@ -393,9 +396,10 @@ impl Source for Changing {
 /// The file, what it is told to have when it is asked again, whether its byte is there to read, and what is told.
 type Change = (u64, Option<u64>, bool, &'static str);
 
-const CHANGES: [Change; 7] = [
+const CHANGES: [Change; 8] = [
     (0, Some(2), true, "Changed { file: 0 }"),
     (1, Some(2), true, "Changed { file: 1 }"),
+    (0, Some(1), false, "Changed { file: 0 }"),
     (1, Some(1), false, "Changed { file: 1 }"),
     (0, Some(0), true, "Changed { file: 0 }"),
     // It vanished: that it is missing is told of the first asking alone.

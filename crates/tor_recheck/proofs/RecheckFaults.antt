@@ -35,7 +35,7 @@ module _ {F : Type 0} (facts : SourceFacts F) (view : View) (cut : IsCut view) w
   same_fault error (inr first) = inr (sym same_first ∙ ap (option_map of_engine_error) first)
 
 pub given_of : {F : Type 0} (gave : ℕ → Option ℕ → F → Type 0) (count : ℕ) (error : EngineError F)
-    → engine.IsGivenOfPieces gave count error → IsGiven gave count (of_engine_error error)
+    → engine.IsGivenNotMissing gave count error → IsGiven gave count (of_engine_error error)
 given_of gave count (Read file start fault) given = given
 given_of gave count (Changed file) given = given
 given_of gave count (Missing file) given = absurd given

@@ -15,7 +15,7 @@ use Rattle.tor_source.specs.Source.{SourceFacts}
 use Rattle.tor_tree.specs.Kinds.{has_v1, has_v2}
 use Rattle.tor_v1.specs.Piece.{piece_sums, zeros}
 use Rattle.tor_engine.specs.Contents.{contents_in}
-use Rattle.tor_engine.specs.Fault.{IsFault, IsGivenOfPieces, first_of}
+use Rattle.tor_engine.specs.Fault.{IsFault, IsGivenNotMissing, first_of}
 use Rattle.tor_engine.specs.PieceFault.{pieces_fault}
 use Rattle.tor_engine.specs.PieceHashes.{hash_if_there}
 use Rattle.tor_engine.specs.declared.errors.EngineError.{EngineError}
@@ -109,4 +109,4 @@ pub record AnswersPieces {S F : Type 0} (is_steady : S → SourceFacts F → Typ
       (IsFault (first_unit_fault facts plan (contents_in facts (length plan.lengths)) units))
   pub counted : IfOk result
       (λ hashes. length hashes.items ≡ length (flat_map (pieces_of_unit plan.piece_length) units))
-  pub given : IfErr result (IsGivenOfPieces (gave source) (length plan.lengths))
+  pub given : IfErr result (IsGivenNotMissing (gave source) (length plan.lengths))

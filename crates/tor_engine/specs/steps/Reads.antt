@@ -9,9 +9,9 @@ use Rattle.tor_tree.specs.Kinds.{has_v2}
 use Rattle.tor_tree.specs.declared.kinds.Kind.{Kind}
 use Rattle.tor_v1.specs.Piece.{zeros}
 use Rattle.tor_engine.specs.Contents.{contents_in}
-use Rattle.tor_engine.specs.declared.unit.UnitSums.{UnitSums}
+use Rattle.tor_engine.specs.declared.worker.WorkerSums.{WorkerSums}
 use Rattle.tor_engine.specs.steps.Hashes.{bytes_of_part, hashes_of_part}
-use Rattle.tor_engine.specs.steps.Unit.{HasTaken, begun_of}
+use Rattle.tor_engine.specs.steps.Worker.{HasTaken, begun_of}
 
 -- the files have the lengths of the plan
 abbrev pub HasLengths : {F : Type 0} → PlanFacts → SourceFacts F → Type 0
@@ -27,7 +27,7 @@ HasParts facts parts = AllByRecursion (HasPart facts) parts
 
 -- the first so many bytes of a part were read and taken; of a steady source they are those that it has there
 pub record TakesPart {F : Type 0} (is_steady : SourceFacts F → Type 0) (part : Part) (count : ℕ)
-    (old new : UnitSums) : Type 0 where
+    (old new : WorkerSums) : Type 0 where
   pub bytes : List ℕ
   pub counted : length bytes ≡ count
   pub steady : (facts : SourceFacts F) → is_steady facts → HasPart facts part
@@ -38,7 +38,7 @@ pub record TakesPart {F : Type 0} (is_steady : SourceFacts F → Type 0) (part :
 -- a part was read and fed, with the zeros after it, and the hashes of its pieces were put after the others: those of
 -- any contents that have the bytes that were read
 pub record AddsPart {F : Type 0} (is_steady : SourceFacts F → Type 0) (plan : PlanFacts) (part : Part)
-    (old new : UnitSums) (hashes more : List (List ℕ)) : Type 0 where
+    (old new : WorkerSums) (hashes more : List (List ℕ)) : Type 0 where
   pub bytes : List ℕ
   pub counted : length bytes ≡ part.length
   pub steady : (facts : SourceFacts F) → is_steady facts → HasPart facts part
@@ -67,7 +67,7 @@ pub record AreReads {F : Type 0} (is_steady : SourceFacts F → Type 0) (plan : 
 
 -- the parts of a unit were read so far, after so many zeros, and the hashes of their pieces were put after the others
 pub record ReadsParts {F : Type 0} (is_steady : SourceFacts F → Type 0) (plan : PlanFacts) (before : ℕ)
-    (parts : List Part) (sums : UnitSums) (hashes more : List (List ℕ)) : Type 0 where
+    (parts : List Part) (sums : WorkerSums) (hashes more : List (List ℕ)) : Type 0 where
   pub reads : List PartRead
   pub are : AreReads is_steady plan parts reads
   pub taken : (contents : List (List ℕ)) → map length contents ≡ plan.lengths → HaveRead contents reads

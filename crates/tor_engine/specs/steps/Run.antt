@@ -11,7 +11,7 @@ use Rattle.tor_source.specs.Source.{SourceFacts}
 use Rattle.tor_tree.specs.Kinds.{has_v1, has_v2}
 use Rattle.tor_tree.specs.declared.kinds.Kind.{Kind}
 use Rattle.tor_v1.specs.Piece.{piece_sums}
-use Rattle.tor_engine.specs.Fault.{IsFault, IsGiven, units_fault}
+use Rattle.tor_engine.specs.Fault.{IsFault, IsGivenNotMissing, units_fault}
 use Rattle.tor_engine.specs.declared.errors.EngineError.{EngineError}
 use Rattle.tor_engine.specs.declared.run.RunSums.{RunSums}
 use Rattle.tor_engine.specs.steps.Hashes.{hashes_of_unit}
@@ -74,4 +74,4 @@ pub record AnswersUnits {S F : Type 0} (is_steady : S → SourceFacts F → Type
   pub summed : IfOk result (HashesUnits (is_steady source) plan units)
   pub steady : (facts : SourceFacts F) → is_steady source facts → HasLengths plan facts →
       MatchResult result (λ _. units_fault facts units ≡ None) (IsFault (units_fault facts units))
-  pub given : IfErr result (IsGiven (gave source) (length plan.lengths))
+  pub given : IfErr result (IsGivenNotMissing (gave source) (length plan.lengths))

@@ -5,7 +5,7 @@ use Rattle.tor_engine.specs.Contents.{contents_in}
 use Rattle.tor_engine.specs.PieceFault.{pieces_fault}
 use Rattle.tor_engine.specs.PieceHashes.{hash_if_there}
 use Rattle.tor_engine.specs.steps.Pieces.{AreTold}
-use Rattle.tor_engine.specs.steps.Unit.{IsFresh}
+use Rattle.tor_engine.specs.steps.Worker.{IsFresh}
 use Rattle.tor_engine.proofs.piece_turn.add_unit.Given as goal
 
 abbrev pub invariant-pieces : goal.invariant-pieces

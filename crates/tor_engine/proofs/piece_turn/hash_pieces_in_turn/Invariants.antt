@@ -5,7 +5,7 @@ use Rattle.tor_plan.specs.Pieces.{pieces_of_unit}
 use Rattle.tor_source.specs.Source.{SourceFacts}
 use Rattle.tor_engine.specs.Contents.{contents_in}
 use Rattle.tor_engine.specs.steps.Pieces.{AreTold, first_unit_fault, unit_hashes}
-use Rattle.tor_engine.specs.steps.Unit.{IsFresh}
+use Rattle.tor_engine.specs.steps.Worker.{IsFresh}
 use Rattle.tor_engine.proofs.piece_turn.hash_pieces_in_turn.Given as goal
 
 abbrev pub invariant-units : goal.invariant-units

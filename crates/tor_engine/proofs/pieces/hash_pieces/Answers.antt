@@ -1,7 +1,7 @@
 -- the lengths, the pieces, and the lengths again
 use Rattle.std.proofs.Common.{ℕ, length, inl, inr, ap, subst, sym, ◌∙◌}
 use Rattle.tor_engine.specs.Contents.{contents_in}
-use Rattle.tor_engine.specs.Fault.{IsGivenOfPieces}
+use Rattle.tor_engine.specs.Fault.{IsGivenNotMissing}
 use Rattle.tor_engine.specs.PieceFault.{first_asked_fault, lengths_told}
 use Rattle.tor_engine.proofs.AllPieces.{all_hashes, are_told, fault_after, told_whole}
 use Rattle.tor_engine.proofs.pieces.hash_pieces.Goals as goal
@@ -44,6 +44,6 @@ returns-clause-hashed g c = λ facts steady.
 
 pub returns-clause-gave : goal.returns-clause-gave
 returns-clause-gave g c =
-    subst (λ (n : ℕ). IsGivenOfPieces (g.S.Source.gave c.args.source.now) n c.in-Err-expect_each.error)
+    subst (λ (n : ℕ). IsGivenNotMissing (g.S.Source.gave c.args.source.now) n c.in-Err-expect_each.error)
     (ap length c.deref.ensures.value ∙ c.in-Ok.ensures.counted ∙ ap length c.lengths.ensures)
     c.in-Err-expect_each.ensures.gave

@@ -1,7 +1,6 @@
 -- one unit after the other
 use Rattle.std.proofs.Common.{inl, inr, ap, sym, ◌∙◌}
 use Rattle.tor_engine.specs.Fault.{unit_fault}
-use Rattle.tor_engine.proofs.Given.{given_of_pieces}
 use Rattle.tor_engine.proofs.FirstOf.{first_at, first_next, first_of_none}
 use Rattle.tor_engine.proofs.Parts.{unit_there}
 use Rattle.tor_engine.proofs.UnitRuns.{units_more, units_none}
@@ -43,5 +42,5 @@ returns-in-Err g c = record {
             c.units-test.true (c.units.invariant.faultless facts steady fit)
             (ap (unit_fault facts) (sym c.unit-item.is) ∙ fault))
       ];
-  given = given_of_pieces (g.S.Source.gave c.args.source.now) _ c.in-Err.error c.in-Err.ensures.gave;
+  given = c.in-Err.ensures.gave;
 }

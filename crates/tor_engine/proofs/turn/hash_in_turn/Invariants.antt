@@ -4,7 +4,7 @@ use Rattle.tor_source.specs.Source.{SourceFacts}
 use Rattle.tor_engine.specs.Fault.{first_of, unit_fault}
 use Rattle.tor_engine.specs.steps.Reads.{HasLengths}
 use Rattle.tor_engine.specs.steps.Run.{HashesUnits}
-use Rattle.tor_engine.specs.steps.Unit.{IsFresh}
+use Rattle.tor_engine.specs.steps.Worker.{IsFresh}
 use Rattle.tor_engine.proofs.turn.hash_in_turn.Given as goal
 
 abbrev pub invariant-units : goal.invariant-units

@@ -3,7 +3,7 @@ use Rattle.std.proofs.Common.{ℕ, List, [], ◌++◌, cond, get_or, length, app
 use Rattle.tor_tree.specs.Kinds.{has_v2}
 use Rattle.tor_v1.specs.Piece.{zeros}
 use Rattle.tor_engine.specs.steps.Hashes.{hashes_of_bytes}
-use Rattle.tor_engine.specs.steps.Unit.{HasTaken}
+use Rattle.tor_engine.specs.steps.Worker.{HasTaken}
 use Rattle.tor_engine.proofs.Parts.{part_bytes, size_of, some_bytes}
 use Rattle.tor_engine.proofs.turn.hash_part.Goals as goal
 

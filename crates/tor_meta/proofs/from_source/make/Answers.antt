@@ -3,7 +3,7 @@ use Rattle.std.proofs.Common.{◌≡◌, ◌<◌, ℕ, List, ◌∙◌, sym, ap,
 use Rattle.std.specs.List.{All}
 use Rattle.std.proofs.lemmas.List.{length-map}
 use Rattle.tor_engine.specs.Contents.{contents_in}
-use Rattle.tor_engine.specs.Fault.{IsGiven}
+use Rattle.tor_engine.specs.Fault.{IsGivenNotMissing}
 use Rattle.tor_meta.specs.Contents.{files_of}
 use Rattle.tor_meta.specs.Make.{IsGivenTo}
 use Rattle.tor_meta.specs.MakeError.{of_engine_error}
@@ -110,5 +110,6 @@ returns-clause-gave g c =
     (c.deref-in-Err-torrent_of_listed.ensures.value ∙ sym c.deref.ensures.value)) in
     subst (λ error. IsGivenTo gave (length c.args.paths.now) error) (sym same)
     (given_of_placed gave (length c.args.paths.now) places within c.in-Err-torrent_of_listed.error
-    (subst (λ (n : ℕ). IsGiven (λ file place fault. (file < length places) × gave (get_or places file 0) place fault) n
+    (subst (λ (n : ℕ). IsGivenNotMissing
+    (λ file place fault. (file < length places) × gave (get_or places file 0) place fault) n
     c.in-Err-torrent_of_listed.error) count c.in-Err-torrent_of_listed.ensures.gave))

@@ -2,7 +2,7 @@
 use Rattle.std.proofs.Common.{◌≡◌, ℕ, inl, inr, length, map, ap, subst, sym, ◌∙◌}
 use Rattle.std.proofs.lemmas.List.{length-map}
 use Rattle.tor_engine.specs.Contents.{contents_in}
-use Rattle.tor_engine.specs.Fault.{IsGiven, first_byte_fault, first_length_fault}
+use Rattle.tor_engine.specs.Fault.{IsGivenNotMissing, first_byte_fault, first_length_fault}
 use Rattle.tor_meta.specs.Sums.{SumUp}
 use Rattle.tor_meta.proofs.SourceSums.{from_plan}
 use Rattle.tor_tree.specs.FileList.{lengths_of}
@@ -48,4 +48,5 @@ pub returns-in-Err-clause-gave : goal.returns-in-Err-clause-gave
 returns-in-Err-clause-gave g c =
     let list = c.args.list.now in
     let count = ap (λ plan. length plan.lengths) c.in_ok-plan.ensures ∙ length-map list (λ file. file.1) in
-    subst (λ (n : ℕ). IsGiven (g.S.Source.gave c.args.source.now) n c.in-Err.error) count c.in-Err.ensures.gave
+    subst (λ (n : ℕ). IsGivenNotMissing (g.S.Source.gave c.args.source.now) n c.in-Err.error) count
+    c.in-Err.ensures.gave

@@ -52,5 +52,5 @@ returns-in-Err-clause-gave g c =
     let count = ap (λ (p : PlanFacts). length p.lengths) c.in_ok-plan.ensures.planned ∙ count_is view [] cut in
     subst (λ error. IsGiven (g.S.Source.gave c.args.source.now) (length view.files) error) (sym c.into.ensures)
     (given_of (g.S.Source.gave c.args.source.now) (length view.files) c.in-Err.error
-    (subst (λ (n : ℕ). engine.IsGivenOfPieces (g.S.Source.gave c.args.source.now) n c.in-Err.error) count
+    (subst (λ (n : ℕ). engine.IsGivenNotMissing (g.S.Source.gave c.args.source.now) n c.in-Err.error) count
     c.in-Err.ensures.gave))

@@ -2,7 +2,7 @@
 use Rattle.std.proofs.Common.{refl}
 use Rattle.tor_v1.specs.Piece.{zeros}
 use Rattle.tor_engine.proofs.Waiting.{none_held, takes_none, takes_zeros}
-use Rattle.tor_engine.proofs.unit.UnitSums.feed_zeros.Goals as goal
+use Rattle.tor_engine.proofs.worker.WorkerSums.feed_zeros.Goals as goal
 
 pub returns-then-count-eq0-clause-taken : goal.returns-then-count-eq0-clause-taken
 returns-then-count-eq0-clause-taken c = λ kind p part unit taken.

@@ -1,6 +1,6 @@
 -- the first bytes that waited were hashed
 use Rattle.tor_engine.proofs.Waiting.{keeps}
-use Rattle.tor_engine.proofs.unit.UnitSums.hash.Goals as goal
+use Rattle.tor_engine.proofs.worker.WorkerSums.hash.Goals as goal
 
 pub returns-clause-keeps : goal.returns-clause-keeps
 returns-clause-keeps c =

@@ -1,4 +1,4 @@
-//! What one unit sums up to, while its bytes are read.
+//! What the units of a worker sum up to, while their bytes are read.
 ghost use Rattle.std.specs.Prelude.{◌≡◌, ◌≢◌, ◌+◌, ◌*◌, ◌-◌, ◌<◌, ◌≤◌, ◌++◌, [], ℕ, List, IfErr, IfOk, MatchResult, OnOk};
 ghost use Rattle.std.specs.Prelude.{IsSome, length, if◌then◌else◌};
 ghost use Rattle.std.specs.Option.{ForSome};
@@ -6,7 +6,8 @@ ghost use Rattle.tor_merkle.specs.declared.TheConstants.{MAX_LENGTH};
 ghost use Rattle.tor_plan.specs.PlanFacts.{IsPlan, PlanFacts};
 ghost use Rattle.tor_source.specs.Source.{SourceFacts, bytes_from};
 ghost use Rattle.tor_v1.specs.Piece.{zeros};
-ghost use Rattle.tor_engine.specs.Fault.{IsFault, IsGivenOfPieces, byte_fault};
+ghost use Rattle.tor_engine.specs.Fault.{IsFault, IsGivenNotMissing, byte_fault};
+ghost use Rattle.tor_engine.specs.declared.room.TheConstants.{LEAST_ASKED};
 ghost use Rattle.tor_engine.specs.steps.Hasher.{tree_of};
 ghost use Rattle.tor_engine.specs.steps.Hashes.{hashes_of_bytes};
 ghost use Rattle.tor_engine.specs.steps.Place.{IsFaultFree};
@@ -25,7 +26,7 @@ use tor_source::Source;
 /// many can be hashed together: of version 1 across the ends of files, of trees until a part ends. Clauses say by
 /// `HasTaken` which bytes were taken. After an error it is of no use.
 #[derive(Drop)]
-pub(crate) struct UnitSums {
+pub(crate) struct WorkerSums {
     // The bytes that wait to be hashed.
     room: Room,
     // How many bytes of the present part were taken.
@@ -36,19 +37,19 @@ pub(crate) struct UnitSums {
     ghost small: { begun ≤ MAX_LENGTH },
 }
 
-impl UnitSums {
-    ghost use Rattle.tor_engine.specs.steps.Unit.{HasTaken, IsFresh, Keeps, TakesMore, begun_of};
+impl WorkerSums {
+    ghost use Rattle.tor_engine.specs.steps.Worker.{HasTaken, IsFresh, Keeps, TakesMore, begun_of};
     ghost use Rattle.tor_tree.specs.Kinds.{has_v1, has_v2};
     ghost use Rattle.tor_tree.specs.declared.kinds.Kind.{Kind};
     ghost use Rattle.tor_v1.specs.Piece.{piece_sums};
 
     /// Of no byte, for the units of a plan.
-    pub(crate) fn new(alloc: Global, plan: &Plan) -> Result<UnitSums, AllocError>
+    pub(crate) fn new(alloc: Global, plan: &Plan) -> Result<WorkerSums, AllocError>
         requires { IsPlan plan.now }
         ensures { IfOk result (IsFresh plan.now) }
     {
         let room = Room::new(alloc, plan)?;
-        Ok(UnitSums {
+        Ok(WorkerSums {
             room,
             begun: 0,
             hasher: UnitHasher::new(alloc, plan.kind(), plan.piece_length()),
@@ -71,7 +72,7 @@ impl UnitSums {
         ensures fault { (facts : SourceFacts S.Fault) → S.is_steady source.now facts →
             0 < length (bytes_from facts file start) →
             MatchResult result (IsFaultFree facts file start) (IsFault (byte_fault facts file start)) }
-        ensures gave { (files : ℕ) → file < files → IfErr result (IsGivenOfPieces (S.gave source.now) files) }
+        ensures gave { (files : ℕ) → file < files → IfErr result (IsGivenNotMissing (S.gave source.now) files) }
     {
         self.make_room()?;
         match self.room.read(source, file, start, left) {
@@ -146,7 +147,7 @@ impl UnitSums {
     fn make_room(&mut self) -> Result<(), AllocError>
         ensures keeps { OnOk result (Keeps self.old self.new) }
         ensures begun { begun_of self.new ≡ begun_of self.old }
-        ensures room { OnOk result (count_in self.new.room < length_of self.new.room) }
+        ensures room { OnOk result (count_in self.new.room + LEAST_ASKED ≤ length_of self.new.room) }
     {
         if self.room.is_full() {
             let count = self.room.batch();

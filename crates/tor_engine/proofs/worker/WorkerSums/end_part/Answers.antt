@@ -1,7 +1,7 @@
 -- the tree was fed the whole part
 use Rattle.std.proofs.Common.{refl}
 use Rattle.tor_engine.proofs.Waiting.{next_part, whole_part}
-use Rattle.tor_engine.proofs.unit.UnitSums.end_part.Goals as goal
+use Rattle.tor_engine.proofs.worker.WorkerSums.end_part.Goals as goal
 
 pub returns-clause-taken : goal.returns-clause-taken
 returns-clause-taken c = λ kind p part unit taken.

@@ -3,7 +3,7 @@ use Rattle.std.proofs.Common.{◌≡◌, ◌++◌, ap, sym, subst, ◌∙◌, ru
 use Rattle.tor_engine.specs.declared.hasher.UnitHasher.{UnitHasher}
 use Rattle.tor_engine.specs.steps.Hasher.{HasFedUnit}
 use Rattle.tor_engine.proofs.Waiting.{none_held, whole_unit}
-use Rattle.tor_engine.proofs.unit.UnitSums.end_unit.Goals as goal
+use Rattle.tor_engine.proofs.worker.WorkerSums.end_unit.Goals as goal
 
 pub returns-clause-summed : goal.returns-clause-summed
 returns-clause-summed c = λ kind p part unit taken.
