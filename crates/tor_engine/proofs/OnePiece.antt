@@ -1,5 +1,6 @@
 -- What one piece hashes to that is there. Laws of lower crates come in as their statements.
 use Rattle.std.proofs.Common.{◌≡◌, ◌<◌, ◌≤◌, ℕ, ◌+◌, ◌*◌, Bool, true, false, true≢false, leb, cond, List, [], ◌∷◌}
+use Rattle.std.specs.Prelude.{IsSome}
 use Rattle.std.proofs.Common.{◌++◌, length, drop, get_or, Option, None, Some, refl, ap, ap₂}
 use Rattle.std.proofs.Common.{sym, subst, ◌∙◌, arith, append-nil, inl, inr, ◌⊎◌, ◌/◌, lt_of_mul-lt-mul_right}
 use Rattle.std.specs.Int.{div_ceil}
@@ -186,12 +187,12 @@ fault_there facts contents piece there = ap (λ b. cond b (unit_fault facts piec
 pub padding_is : (sums_law : LengthOfSums) (plan : PlanFacts) (sum : List ℕ) (found : Option (List ℕ))
     → 0 < plan.piece_length → has_v2 plan.kind ≡ false
     → sum ≡ piece_sums plan.piece_length (zeros plan.piece_length) → found ≡ slice_get (sums_in sum) 0
-    → IsPaddingSum plan found
+    → IsPaddingSum plan found × IsSome found
 unfolding zeros
 padding_is sums_law plan sum found some none is at =
     let p = plan.piece_length in
     let count = one_ceil (length (zeros p)) p (omega (arith, length-replicate {A = ℕ} p 0, some))
     (omega (arith, length-replicate {A = ℕ} p 0)) in
     let long : length sum ≡ 20 = ap length is ∙ sums_law p (zeros p) ∙ ap (λ n. 20 * n) count in
-    subst (λ (o : Option (List ℕ)). IsPaddingSum plan o) (sym (at ∙ ap (λ xs. slice_get xs 0) (one_sum sum long)))
-    (none, is)
+    subst (λ (o : Option (List ℕ)). IsPaddingSum plan o × IsSome o)
+    (sym (at ∙ ap (λ xs. slice_get xs 0) (one_sum sum long))) ((none, is), refl)

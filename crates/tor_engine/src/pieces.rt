@@ -1,13 +1,14 @@
 //! The pieces of a plan hashed, of files that may be cut short or missing.
-ghost use Rattle.std.specs.Prelude.{◌≡◌, None, IfErr, IfOk, MatchResult, length};
+ghost use Rattle.std.specs.Prelude.{◌≡◌, None, IfErr, IfOk, IsSome, MatchResult, OnOk, length, nat_le};
+ghost use Rattle.std.specs.List.{list_any};
 ghost use Rattle.tor_plan.specs.PlanFacts.{IsPlan};
 ghost use Rattle.tor_source.specs.Source.{SourceFacts};
 ghost use Rattle.tor_engine.specs.Contents.{contents_in};
 ghost use Rattle.tor_engine.specs.Fault.{IsFault, IsGivenNotMissing};
 ghost use Rattle.tor_engine.specs.How.{IsHow};
-ghost use Rattle.tor_engine.specs.PieceFault.{first_piece_fault};
+ghost use Rattle.tor_engine.specs.PieceFault.{first_asked_fault, first_piece_fault, lengths_told};
 ghost use Rattle.tor_engine.specs.PieceHashes.{piece_hashes, pieces_of_plan};
-ghost use Rattle.tor_engine.specs.steps.Pieces.{AnswersPieces, IsPaddingSum};
+ghost use Rattle.tor_engine.specs.steps.Pieces.{AnswersPieces, IsPaddingSum, MayHavePadding, has_long_zeros};
 
 use crate::asked::{ask_each, expect_each};
 use crate::errors::EngineError;
@@ -19,7 +20,7 @@ use crate::piece_hash::PieceHash;
 use crate::piece_turn::{Known, hash_pieces_in_turn};
 use std::alloc::{AllocError, Global};
 use std::thread::Threads;
-use tor_plan::{Plan, PlanUnit};
+use tor_plan::{Part, Plan, PlanUnit};
 use tor_source::Source;
 use tor_v1::PieceSums;
 use tor_v1::laws::length_of_sums;
@@ -54,7 +55,34 @@ pub fn hash_pieces<S: Source, R: Threads + Sync>(
         lengths,
         padding_sum,
     };
-    let hashes = match hash_units(rt, alloc, source, plan, &known, how) {
+    hash_known(rt, alloc, source, plan, &known, how)
+}
+
+/// The hashes of the pieces, where the lengths of all files were told: those pieces are read that are wholly there, and
+/// then every length is asked again.
+fn hash_known<S: Source, R: Threads + Sync>(
+    rt: &R,
+    alloc: Global,
+    source: &S,
+    plan: &Plan,
+    known: &Known,
+    how: How,
+) -> Result<Vec<Option<PieceHash>>, EngineError<S::Fault>>
+    requires padding { IsPaddingSum plan.now known.now.padding_sum }
+    requires counted { length known.now.lengths.items ≡ length plan.now.lengths }
+    ensures hashed { (facts : SourceFacts S.Fault) → S.is_steady source.now facts →
+        known.now.lengths.items ≡ lengths_told facts (length plan.now.lengths) →
+        first_asked_fault facts (length plan.now.lengths) ≡ None →
+        MatchResult result
+        (λ hashes. (hashes.items ≡ piece_hashes plan.now (contents_in facts (length plan.now.lengths)))
+        × (first_piece_fault facts plan.now ≡ None))
+        (IsFault (first_piece_fault facts plan.now)) }
+    ensures unchanged { (facts : SourceFacts S.Fault) → S.is_steady source.now facts →
+        OnOk result (known.now.lengths.items ≡ lengths_told facts (length plan.now.lengths)) }
+    ensures counted { IfOk result (λ hashes. length hashes.items ≡ length (pieces_of_plan plan.now)) }
+    ensures gave { IfErr result (IsGivenNotMissing (S.gave source.now) (length plan.now.lengths)) }
+{
+    let hashes = match hash_units(rt, alloc, source, plan, known, how) {
         Ok(hashes) => hashes,
         Err(error) => return Err(error),
     };
@@ -89,7 +117,7 @@ fn hash_units<S: Source, R: Threads + Sync>(
 
 /// The SHA-1 of a whole piece of padding, where the plan may have one.
 fn padding_sum(alloc: Global, plan: &Plan) -> Result<Option<[u8; 20]>, AllocError>
-    ensures { IfOk result (IsPaddingSum plan.now) }
+    ensures { IfOk result (λ sum. IsPaddingSum plan.now sum × (MayHavePadding plan.now → IsSome sum)) }
 {
     length_of_sums();
     if plan.kind().has_v2() || !has_long_padding(plan.units(), plan.piece_length()) {
@@ -103,13 +131,21 @@ fn padding_sum(alloc: Global, plan: &Plan) -> Result<Option<[u8; 20]>, AllocErro
 }
 
 /// Whether some unit has as many zeros after one another as a piece.
-fn has_long_padding(units: &[PlanUnit], piece_length: u64) -> bool {
-    units.iter().any(|unit| {
-        unit.zeros >= piece_length
-            || unit
-                .parts
-                .as_slice()
-                .iter()
-                .any(|part| part.zeros >= piece_length)
-    })
+fn has_long_padding(units: &[PlanUnit], piece_length: u64) -> bool
+    ensures { result ≡ list_any (has_long_zeros piece_length) units.now }
+{
+    units.iter().any(|unit| has_long_zeros(unit, piece_length))
+}
+
+/// Whether this one has: before its parts, or after one of them.
+fn has_long_zeros(unit: &PlanUnit, piece_length: u64) -> bool
+    ensures { result ≡ has_long_zeros piece_length unit.now }
+{
+    unit.zeros >= piece_length || has_long_zeros_after(unit.parts.as_slice(), piece_length)
+}
+
+fn has_long_zeros_after(parts: &[Part], piece_length: u64) -> bool
+    ensures { result ≡ list_any (λ part. nat_le piece_length part.zeros) parts.now }
+{
+    parts.iter().any(|part| part.zeros >= piece_length)
 }

@@ -1,5 +1,5 @@
 //! The bytes that a worker has read and not hashed yet, and room for more behind them.
-ghost use Rattle.std.specs.Prelude.{◌≡◌, ◌+◌, ◌*◌, ◌-◌, ◌%◌, ◌<◌, ◌≤◌, [], ◌++◌, Some, None, false, true};
+ghost use Rattle.std.specs.Prelude.{◌≡◌, ◌⊎◌, ◌+◌, ◌*◌, ◌-◌, ◌%◌, ◌<◌, ◌≤◌, [], ◌++◌, Some, None, false, true};
 ghost use Rattle.std.specs.Prelude.{IfErr, IfOk, MatchResult, drop, length, take, vec_len, ℕ};
 ghost use Rattle.tor_plan.specs.PlanFacts.{IsPlan};
 ghost use Rattle.tor_source.specs.Source.{SourceFacts, bytes_from};
@@ -35,19 +35,21 @@ pub(crate) struct Room {
     batch: usize,
     ghost within: { held ≤ vec_len bytes },
     ghost many: { LEAST_ASKED ≤ batch },
-    ghost large: { LEAST_ASKED ≤ vec_len bytes },
+    ghost whole: { batch ≤ vec_len bytes },
     ghost short: { vec_len bytes ≤ batch + LEAST_ASKED },
     ghost bounded: { vec_len bytes ≤ MOST_HELD },
 }
 
 impl Room {
-    ghost use Rattle.tor_engine.specs.steps.Room.{ReadsMore, count_in, held_in, length_of};
+    ghost use Rattle.tor_engine.specs.steps.Room.{HasRoom, IsFull, ReadsMore, batch_of, count_in, held_in, length_of};
 
     /// Room for the units of a plan. No byte is held.
     pub(crate) fn new(alloc: Global, plan: &Plan) -> Result<Room, AllocError>
         requires { IsPlan plan.now }
         ensures held { IfOk result (λ room. held_in room ≡ []) }
         ensures none { IfOk result (λ room. count_in room ≡ 0) }
+        ensures eight { has_v1 plan.now.kind ≡ true → plan.now.piece_length ≤ MAX_PIECE_IN_RUN →
+            IfOk result (λ room. batch_of room % (8 * plan.now.piece_length) ≡ 0) }
     {
         let batch = batch_length(plan);
         let bytes = zeros(alloc, MOST_HELD.min(batch + LEAST_ASKED))?;
@@ -65,16 +67,18 @@ impl Room {
         self.held
     }
 
-    /// Whether a batch is held, or there is little room left.
-    pub(crate) fn is_full(&self) -> bool
-        ensures room { result ≡ false → count_in self.now + LEAST_ASKED ≤ length_of self.now }
-        ensures some { result ≡ true → 0 < count_in self.now }
+    /// Whether a batch is held, or there is little room for the bytes of the present part, of which so many are left.
+    pub(crate) fn is_full(&self, left: u64) -> bool
+        ensures room { result ≡ false → HasRoom left self.now }
+        ensures full { result ≡ true → IsFull left self.now }
     {
-        self.held >= self.batch || self.bytes.len() - self.held < LEAST_ASKED
+        let room = self.bytes.len() - self.held;
+        self.held >= self.batch || (left >= LEAST_ASKED as u64 && room < LEAST_ASKED)
     }
 
-    /// How many of the bytes that are held are hashed next: at least half of them.
+    /// How many of the bytes that are held are hashed next: a batch, or all, at least half of them.
     pub(crate) fn batch(&self) -> usize
+        ensures batch { batch_of self.now ≤ count_in self.now → result ≡ batch_of self.now }
         ensures within { result ≤ count_in self.now }
         ensures half { count_in self.now ≤ 2 * result }
         ensures room { count_in self.now - result + LEAST_ASKED ≤ length_of self.now }
@@ -115,7 +119,7 @@ impl Room {
         left: u64,
     ) -> Result<usize, EngineError<S::Fault>>
         requires left { 0 < left }
-        requires room { count_in self.old + LEAST_ASKED ≤ length_of self.old }
+        requires room { HasRoom left self.old }
         ensures some { IfOk result (λ count. (0 < count) × (count ≤ left)) }
         ensures count { IfOk result (λ count. count_in self.new ≡ count_in self.old + count) }
         ensures read { IfOk result (λ count. ReadsMore (S.is_steady source.now) file start count self.old self.new) }
@@ -137,13 +141,14 @@ impl Room {
         }
     }
 
-    // How many bytes are asked for where so many are left: up to a whole batch, and few only where no more are left.
+    // How many bytes are asked for where so many are left: up to a whole batch, and few only where few are left.
     fn asked(&self, left: u64) -> usize
         requires left { 0 < left }
-        requires room { count_in self.now + LEAST_ASKED ≤ length_of self.now }
+        requires room { HasRoom left self.now }
         ensures some { 0 < result }
         ensures left { result ≤ left }
-        ensures least { result < LEAST_ASKED → result ≡ left }
+        ensures least { LEAST_ASKED ≤ left → LEAST_ASKED ≤ result }
+        ensures all { result < LEAST_ASKED → (result ≡ left) ⊎ (count_in self.now + result ≡ length_of self.now) }
         ensures room { count_in self.now + result ≤ length_of self.now }
     {
         let room = self.bytes.len() - self.held;

@@ -85,9 +85,10 @@ fn answers_the_first_fault_in_the_order_of_the_plan(rt: HostRuntime) -> Result<(
 }
 
 /// A file that others change: how long it is told to be at first, and when it is asked again, and how many bytes it
-/// gives; and how often bytes were asked.
+/// gives; and how often bytes were asked. All other files are empty.
 #[derive(Drop)]
 pub(crate) struct Changing {
+    pub(crate) file: u64,
     pub(crate) first: Option<u64>,
     pub(crate) again: Option<u64>,
     pub(crate) there: u64,
@@ -102,15 +103,21 @@ impl Source for Changing {
 
     ghost gave = { λ _ _ _ _. Unit {0} };
 
-    fn length(&self, _file: u64) -> Result<Option<u64>, u64> {
+    fn length(&self, file: u64) -> Result<Option<u64>, u64> {
+        if file != self.file {
+            return Ok(Some(0));
+        }
         match self.lengths.fetch_add(1, SeqCst) {
             0 => Ok(self.first),
             _ => Ok(self.again),
         }
     }
 
-    fn read_at(&self, _file: u64, start: u64, buffer: &mut [u8]) -> Result<usize, u64> {
+    fn read_at(&self, file: u64, start: u64, buffer: &mut [u8]) -> Result<usize, u64> {
         self.reads.fetch_add(1, SeqCst);
+        if file != self.file {
+            return Ok(0);
+        }
         let left = self.there.saturating_sub(start) as usize;
         Ok(left.min(buffer.len()))
     }
@@ -143,6 +150,7 @@ fn is_change<R: AllocGlobal + Abort + Threads + Sync>(
     let ((first, again), there, planned, wanted, reads) = *row;
     let plan = plan_of(rt, &[planned], Kind::V2, 16384, 1)?;
     let source = Changing {
+        file: 0,
         first,
         again,
         there,

@@ -172,6 +172,7 @@ const CHANGES: &[Change] = &[
     ((Some(3), Some(3)), 2, true, 2),
 ];
 
+/// Whether the file is told that changes, of two.
 fn is_changed<R: AllocGlobal + Abort + Threads + Sync>(
     rt: &R,
     source: &Changing,
@@ -180,9 +181,10 @@ fn is_changed<R: AllocGlobal + Abort + Threads + Sync>(
     if let How::Halves(workers) = how {
         assert!(rt; workers >= 1 && workers <= 64);
     }
-    let plan = plan_of(rt, &[3], Kind::V2, 16_384, 16)?;
+    let lengths = if source.file == 0 { [3, 0] } else { [0, 3] };
+    let plan = plan_of(rt, &lengths, Kind::V2, 16_384, 16)?;
     match hash_pieces(rt, rt.alloc(), source, &plan, how) {
-        Err(EngineError::Changed { file }) => Ok(file == 0),
+        Err(EngineError::Changed { file }) => Ok(file == source.file),
         _ => Ok(false),
     }
 }
@@ -190,10 +192,12 @@ fn is_changed<R: AllocGlobal + Abort + Threads + Sync>(
 fn is_change<R: AllocGlobal + Abort + Threads + Sync>(
     rt: &R,
     row: &Change,
+    file: u64,
     how: How,
 ) -> Result<bool, Fail> {
     let ((first, again), there, wanted, reads) = *row;
     let source = Changing {
+        file,
         first,
         again,
         there,
@@ -208,8 +212,9 @@ fn is_change<R: AllocGlobal + Abort + Threads + Sync>(
 #[test]
 fn tells_of_a_file_that_changes(rt: HostRuntime) -> Result<(), Fail> {
     for row in CHANGES {
-        for how in [How::One, How::Halves(2)] {
-            assert!(rt; is_change(&rt, row, how)?);
+        for file in [0, 1] {
+            assert!(rt; is_change(&rt, row, file, How::One)?);
+            assert!(rt; is_change(&rt, row, file, How::Halves(2))?);
         }
     }
     Ok(())

@@ -11,8 +11,8 @@ use tor_plan::Plan;
 use tor_source::{FailSource, Source};
 use tor_tree::Kind;
 
-/// A file of zeros, which counts the reads that go past the end of a part, that ask for more than is read at once, or
-/// for fewer than 64 KiB where as many are left of the part; and keeps how many bytes the largest asks for.
+/// A file of zeros, which counts the reads that go past the end of a part, that ask for nothing, or for fewer bytes than
+/// 64 KiB where as many are left of the part; and keeps how many bytes the largest asks for.
 #[derive(Drop)]
 struct Watched {
     length: u64,
@@ -42,7 +42,7 @@ impl Source for Watched {
             .length
             .saturating_sub(start)
             .min(self.part.saturating_sub(begun));
-        if asked == 0 || asked > left.min(MOST_READ) || asked < left.min(LEAST_READ) {
+        if asked == 0 || asked > left || (asked < LEAST_READ && left >= LEAST_READ) {
             self.wrong.fetch_add(1, SeqCst);
         }
         self.most.fetch_max(asked, SeqCst);
@@ -50,24 +50,25 @@ impl Source for Watched {
     }
 }
 
-/// No read asks for more bytes, and none for fewer where as many are left.
-const MOST_READ: u64 = 1 << 20;
-
+/// No read asks for fewer bytes where as many are left.
 const LEAST_READ: u64 = 1 << 16;
 
 /// The length of the file and of a piece, the span, the kind, and how many bytes the largest read asks for.
 type Read = (u64, u64, u32, Kind, u64);
 
-const READ: [Read; 5] = [
+const READ: [Read; 7] = [
     (40000, 16384, 1, Kind::V1, 16384),
     (40000, 16384, 2, Kind::V2, 32768),
     (40000, 16384, 1, Kind::Hybrid, 16384),
     (1_200_000, 1 << 21, 1, Kind::V2, 1 << 20),
     (1_200_000, 1 << 19, 2, Kind::V1, 1 << 20),
+    // Eight pieces, which fill the room in the last row.
+    (4_500_000, 1 << 18, 32, Kind::V1, 1 << 21),
+    (9_000_000, 1 << 20, 16, Kind::V1, 1 << 23),
 ];
 
 /// How many bytes a read gives at most.
-const STEPS: [usize; 3] = [1 << 20, 50_000, 999];
+const STEPS: [usize; 3] = [1 << 23, 50_000, 9_999];
 
 fn is_read_right<R: AllocGlobal + Abort + Threads + Sync>(
     rt: &R,
@@ -121,13 +122,14 @@ fn tells_each_byte_that_fails_in_turn(rt: HostRuntime) -> Result<(), Fail> {
     Ok(())
 }
 
-/// A file of zeros that is there, and then vanishes.
+/// A file of zeros whose length was told before, and what is told of it when it is asked again.
 #[derive(Drop)]
-struct Vanishing {
+struct Again {
     length: u64,
+    again: Result<Option<u64>, u64>,
 }
 
-impl Source for Vanishing {
+impl Source for Again {
     type Fault = u64;
 
     ghost is_steady = { λ _ _. ⊥ };
@@ -135,7 +137,7 @@ impl Source for Vanishing {
     ghost gave = { λ _ _ _ _. Unit {0} };
 
     fn length(&self, _file: u64) -> Result<Option<u64>, u64> {
-        Ok(None)
+        self.again
     }
 
     fn read_at(&self, _file: u64, start: u64, buffer: &mut [u8]) -> Result<usize, u64> {
@@ -154,13 +156,30 @@ fn hashes_files_whose_lengths_were_told_before(rt: HostRuntime) -> Result<(), Fa
     Ok(())
 }
 
+/// What is told when it is asked again, and the fault. That a file is missing is told of the first asking alone.
+const AGAIN: [(Result<Option<u64>, u64>, &str); 4] = [
+    (Ok(None), "Changed { file: 0 }"),
+    (Ok(Some(39999)), "Changed { file: 0 }"),
+    (Ok(Some(40001)), "Changed { file: 0 }"),
+    (Err(7), "Read { file: 0, start: None, fault: 7 }"),
+];
+
+/// The fault of such a file.
+fn fault_again<R: AllocGlobal + Abort + Threads + Sync>(
+    rt: &R,
+    again: Result<Option<u64>, u64>,
+) -> Result<String, Fail> {
+    let length = 40000;
+    let plan = plan_of(rt, &[length], Kind::V2, 16384, 1)?;
+    let source = Again { length, again };
+    let error = hash_told(rt, rt.alloc(), &source, &plan, How::One).err();
+    Ok(format!(in rt.alloc(); "{:?}", error.ok_or("sums")?)?)
+}
+
 #[test]
-fn tells_of_a_file_that_vanished(rt: HostRuntime) -> Result<(), Fail> {
-    let alloc = rt.alloc();
-    let plan = plan_of(&rt, &[40000], Kind::V2, 16384, 1)?;
-    let gone = hash_told(&rt, alloc, &Vanishing { length: 40000 }, &plan, How::One);
-    let error = gone.err().ok_or("sums")?;
-    let text = format!(in alloc; "{error:?}")?;
-    assert_eq!(rt; text.as_str(), "Changed { file: 0 }");
+fn tells_of_a_file_that_changed_since_it_was_asked(rt: HostRuntime) -> Result<(), Fail> {
+    for (again, wanted) in AGAIN {
+        assert_eq!(rt; fault_again(&rt, again)?.as_str(), wanted);
+    }
     Ok(())
 }

@@ -45,11 +45,12 @@ impl Source for Crowded {
 }
 
 /// How the units are shared, and by how many workers.
-const SHARED: [(How, u64); 5] = [
+const SHARED: [(How, u64); 6] = [
     (How::One, 1),
     (How::Halves(1), 1),
     (How::Halves(2), 2),
     (How::Halves(3), 3),
+    (How::Halves(4), 4),
     (How::Halves(5), 5),
 ];
 

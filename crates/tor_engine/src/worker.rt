@@ -7,11 +7,10 @@ ghost use Rattle.tor_plan.specs.PlanFacts.{IsPlan, PlanFacts};
 ghost use Rattle.tor_source.specs.Source.{SourceFacts, bytes_from};
 ghost use Rattle.tor_v1.specs.Piece.{zeros};
 ghost use Rattle.tor_engine.specs.Fault.{IsFault, IsGivenNotMissing, byte_fault};
-ghost use Rattle.tor_engine.specs.declared.room.TheConstants.{LEAST_ASKED};
 ghost use Rattle.tor_engine.specs.steps.Hasher.{tree_of};
 ghost use Rattle.tor_engine.specs.steps.Hashes.{hashes_of_bytes};
 ghost use Rattle.tor_engine.specs.steps.Place.{IsFaultFree};
-ghost use Rattle.tor_engine.specs.steps.Room.{count_in, length_of};
+ghost use Rattle.tor_engine.specs.steps.Room.{HasRoom, count_in, length_of};
 
 use crate::errors::EngineError;
 use crate::hasher::UnitHasher;
@@ -74,7 +73,7 @@ impl WorkerSums {
             MatchResult result (IsFaultFree facts file start) (IsFault (byte_fault facts file start)) }
         ensures gave { (files : ℕ) → file < files → IfErr result (IsGivenNotMissing (S.gave source.now) files) }
     {
-        self.make_room()?;
+        self.make_room(left)?;
         match self.room.read(source, file, start, left) {
             Ok(count) => {
                 self.begun += count as u64;
@@ -143,13 +142,13 @@ impl WorkerSums {
         Ok(())
     }
 
-    // Hashes a batch where there is little room left.
-    fn make_room(&mut self) -> Result<(), AllocError>
+    // Hashes a batch where one is held, or where there is little room for the bytes that are left.
+    fn make_room(&mut self, left: u64) -> Result<(), AllocError>
         ensures keeps { OnOk result (Keeps self.old self.new) }
         ensures begun { begun_of self.new ≡ begun_of self.old }
-        ensures room { OnOk result (count_in self.new.room + LEAST_ASKED ≤ length_of self.new.room) }
+        ensures room { OnOk result (HasRoom left self.new.room) }
     {
-        if self.room.is_full() {
+        if self.room.is_full(left) {
             let count = self.room.batch();
             return self.hash(count);
         }

@@ -3,6 +3,8 @@
 use super::*;
 use std::alloc::{AllocError, Global};
 use std::fmt::Write;
+use std::sync::atomic::AtomicU64;
+use std::sync::atomic::Ordering::SeqCst;
 use std::test::Fail;
 use std::thread::Threads;
 use tor_check::{Torrent, validate};
@@ -303,6 +305,58 @@ fn judges_the_workers_first(rt: HostRuntime) -> Result<(), Fail> {
     let failing = FailSource::new(files_of(alloc, &[])?, vec![in alloc; (0, None, 4)]?);
     for how in [How::Halves(0), How::Halves(65), How::Halves(u32::MAX)] {
         assert_eq!(rt; told(&rt, &failing, &torrent, how)?.as_str(), "Workers");
+    }
+    Ok(())
+}
+
+/// Files of two bytes and of one. Once both lengths were asked, one of the files is told to have another.
+#[derive(Drop)]
+struct Changing {
+    file: u64,
+    again: Option<u64>,
+    asked: AtomicU64,
+}
+
+impl Source for Changing {
+    type Fault = u64;
+
+    ghost is_steady = { λ _ _. ⊥ };
+
+    ghost gave = { λ _ _ _ _. Unit {0} };
+
+    fn length(&self, file: u64) -> Result<Option<u64>, u64> {
+        if self.asked.fetch_add(1, SeqCst) > 1 && file == self.file {
+            return Ok(self.again);
+        }
+        Ok(Some(if file == 0 { 2 } else { 1 }))
+    }
+
+    fn read_at(&self, _file: u64, _start: u64, buffer: &mut [u8]) -> Result<usize, u64> {
+        Ok(buffer.len())
+    }
+}
+
+/// The file, what it is told to have when it is asked again, and what is told of the pieces.
+const CHANGES: [(u64, Option<u64>, &str); 4] = [
+    (0, Some(3), "Changed { file: 0 }"),
+    (1, Some(0), "Changed { file: 1 }"),
+    (1, None, "Changed { file: 1 }"),
+    (1, Some(1), "00 00"),
+];
+
+#[test]
+fn tells_of_a_file_that_changes(rt: HostRuntime) -> Result<(), Fail> {
+    let torrent = torrent_of(rt.alloc(), OF_BOTH)?;
+    for (file, again, wanted) in CHANGES {
+        let source = Changing {
+            file,
+            again,
+            asked: AtomicU64::new(0),
+        };
+        assert_eq!(rt;
+            told(&rt, &source, &torrent, How::Halves(2))?.as_str(),
+            wanted
+        );
     }
     Ok(())
 }

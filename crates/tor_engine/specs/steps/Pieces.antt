@@ -1,9 +1,9 @@
 -- What the pieces of units hash to. Only private clauses cite these.
 use Rattle.std.specs.Prelude.{◌≡◌, ℕ, ◌/◌, ◌<◌, ◌≤◌, true, false, All, List, [], ◌∷◌, length, map, slice_get}
-use Rattle.std.specs.Prelude.{slice_index_or, Option, None}
+use Rattle.std.specs.Prelude.{slice_index_or, Bool, nat_le, ◌||◌, Option, None}
 use Rattle.std.specs.Prelude.{Some, unwrap_or, Result, MatchResult, IfErr, IfOk, Vec, if◌then◌else◌}
 use Rattle.std.specs.declared.alloc.Global.{Global}
-use Rattle.std.specs.List.{flat_map}
+use Rattle.std.specs.List.{flat_map, list_any}
 use Rattle.std.specs.Simd.{first_chunks}
 use Rattle.tor_plan.specs.Content.{unit_content}
 use Rattle.tor_plan.specs.Pieces.{pieces_of_unit}
@@ -72,6 +72,16 @@ first_unit_fault facts plan contents units = first_of (unit_pieces_fault facts p
 -- the unit is one part, and nothing else
 abbrev pub IsOnePart : PlanUnit → Type 0
 IsOnePart unit = (part : Part) × (unit ≡ record { zeros = 0; parts = part ∷ [] })
+
+-- as many zeros after one another as a piece has bytes: before the parts of a unit, or after one of them
+abbrev pub has_long_zeros : ℕ → PlanUnit → Bool
+has_long_zeros piece_length unit =
+    nat_le piece_length unit.zeros || list_any (λ part. nat_le piece_length part.zeros) unit.parts
+
+-- the plan has no trees, and a piece of it may be padding alone
+abbrev pub MayHavePadding : PlanFacts → Type 0
+MayHavePadding plan =
+    (has_v2 plan.kind ≡ false) × (list_any (has_long_zeros plan.piece_length) plan.units ≡ true)
 
 -- the SHA-1 of a piece of zeros alone
 abbrev pub IsPaddingSum : PlanFacts → Option (List ℕ) → Type 0
