@@ -11,8 +11,8 @@ use tor_plan::Plan;
 use tor_source::{FailSource, Source};
 use tor_tree::Kind;
 
-/// A file of zeros, which counts the reads that go past the end of a part, that ask for nothing, or for fewer bytes than
-/// 64 KiB where as many are left of the part; and keeps how many bytes the largest asks for.
+/// A file of zeros, which counts the reads that go past the end of a part, that ask for nothing, or for fewer bytes
+/// than 64 KiB where as many are left of the part; and keeps how many bytes the largest asks for.
 #[derive(Drop)]
 struct Watched {
     length: u64,
