@@ -80,7 +80,7 @@ IsGiven gave count Resources = Unit {0}
 -- no stream is read
 IsGiven gave count (StreamTooLong file) = ⊥
 
--- the same where a missing file is no fault
+-- the same, and it is not that a file is missing
 abbrev pub IsGivenNotMissing : {F : Type 0} → (ℕ → Option ℕ → F → Type 0) → ℕ → EngineError F → Type 0
 IsGivenNotMissing gave count (Read file start fault) = gave file start fault × (file < count)
 IsGivenNotMissing gave count (Changed file) = file < count

@@ -1,4 +1,4 @@
--- What one unit sums up to, while its bytes come. Only private clauses cite these.
+-- What the units of a worker sum up to, while their bytes come. Only private clauses cite these.
 use Rattle.std.specs.Prelude.{◌≡◌, ℕ, ◌<◌, true, List, [], ◌++◌, length, take}
 use Rattle.tor_plan.specs.PlanFacts.{PlanFacts}
 use Rattle.tor_source.specs.Source.{SourceFacts, bytes_from}
