@@ -2,19 +2,24 @@
 ghost use Rattle.std.specs.Prelude.{◌≡◌};
 
 use crate::amount::{Bytes, Seconds};
+use crate::watch::Watch;
+use std::alloc::Global;
+use std::io::Eprint;
+use std::rt::Stderr;
 use std::sync::atomic::AtomicU64;
 use std::sync::atomic::Ordering::SeqCst;
-use std::time::Instant;
 use tor_source::Source;
 
 /// Milliseconds from one print of the line to the next.
 const INTERVAL: u64 = 250;
 
-/// How far the reading is, as the line on standard error shows it. Several workers may count at once.
+/// How far the reading is, as the line on standard error shows it. Several workers may count at once. Nothing in it can
+/// write anywhere else.
 #[derive(Drop)]
 pub struct Progress {
-    system: HostRuntime,
-    start: Instant,
+    line: Stderr,
+    watch: Watch,
+    alloc: Global,
     /// So many files tell their lengths before a byte is read; they tell them again later.
     files: u64,
     asked: AtomicU64,
@@ -29,8 +34,9 @@ impl Progress {
     /// Of so many files, from now on; none where the clock does not tell the time.
     pub fn start(system: &HostRuntime, files: usize) -> Option<Progress> {
         Some(Progress {
-            system: *system,
-            start: Instant::now(system).ok()?,
+            line: system.stderr(),
+            watch: Watch::start(system)?,
+            alloc: system.alloc(),
             files: files as u64,
             asked: AtomicU64::new(0),
             total: AtomicU64::new(0),
@@ -48,13 +54,9 @@ impl Progress {
     /// Counts bytes that were read. Of the workers that find it time for a print, the one that sets its moment prints.
     fn count_read(&self, count: u64) {
         let read = self.read.fetch_add(count, SeqCst).saturating_add(count);
-        let Ok(elapsed) = self.start.elapsed(&self.system) else {
+        let Some(now) = self.watch.milliseconds() else {
             return;
         };
-        let now = elapsed
-            .as_secs()
-            .saturating_mul(1000)
-            .saturating_add(u64::from(elapsed.subsec_millis()));
         let last = self.last.load(SeqCst);
         if now < last.saturating_add(INTERVAL) {
             return;
@@ -73,7 +75,7 @@ impl Progress {
         let total = self.total.load(SeqCst);
         let speed = read.saturating_mul(1000) / now.max(1);
         let left = total.saturating_sub(read) / speed.max(1);
-        let line = format!(in self.system.alloc();
+        let line = format!(in self.alloc;
             "\r{} of {}, {}/s, {} left\x1b[K",
             Bytes(read),
             Bytes(total),
@@ -81,14 +83,14 @@ impl Progress {
             Seconds(left)
         );
         if let Ok(line) = line {
-            let _ = self.system.eprint(line.as_str());
+            let _ = self.line.eprint(line.as_str());
         }
     }
 
     /// Erases the line, where one was printed.
     pub fn erase(&self) {
         if self.last.load(SeqCst) > 0 {
-            let _ = self.system.eprint("\r\x1b[K");
+            let _ = self.line.eprint("\r\x1b[K");
         }
     }
 }

@@ -4,7 +4,6 @@ use Rattle.std.proofs.Common.{refl, ap}
 use Rattle.std.proofs.Common.{ap₂, sym, ◌∙◌}
 use Rattle.std.specs.List.{flat_map, range_with_len}
 use Rattle.std.proofs.lemmas.List.{map-append}
-use Rattle.std.proofs.lemmas.List.FromFn.{length-map-range_with_len}
 use Rattle.tor_plan.specs.Pieces.{pieces_of_unit}
 use Rattle.tor_plan.specs.PlanFacts.{PlanFacts}
 use Rattle.tor_source.specs.Source.{SourceFacts}
@@ -47,11 +46,6 @@ module _ {F : Type 0} (facts : SourceFacts F) where
       → AreTold told (contents_in facts count)
   are_told told count is =
       ap (map (λ size. unwrap_or size 0)) is ∙ same_sizes (range_with_len 0 count)
-
-  -- as many as were asked
-  pub told_whole : (told : List (Option ℕ)) (count : ℕ) → told ≡ lengths_told facts count → length told ≡ count
-  told_whole told count is =
-      ap length is ∙ length-map-range_with_len (λ file. option_map length (facts.contents file)) 0 count
 
   -- where no length fails, the pieces come
   pub fault_after : (plan : PlanFacts) → first_asked_fault facts (length plan.lengths) ≡ None

@@ -1,10 +1,12 @@
-//! The program `tor`: it makes BitTorrent metainfo files, and tells what foreign ones describe.
+//! The program `tor` over any reader and writers: it makes BitTorrent metainfo files, and tells what foreign ones
+//! describe. The crate `tor` hands it the words of the command line and the real streams.
 //!
-//! - `run.rt`: the whole program, over any reader and writers; `main` hands it the real ones.
+//! - `run.rt`: the whole program.
 //! - `command.rt`: what the words ask for.
 //! - `make_command.rt`: the command `make`; `make_words.rt`: its words; `options.rt`: what they ask for.
 //! - `from_path.rt`: the torrent of a file or a folder. `out_file.rt`: the file that a torrent goes to.
-//!   `progress.rt`: the line that shows how far the reading is; `amount.rt`: bytes and seconds in it.
+//!   `progress.rt`: the line that shows how far the reading is; `amount.rt`: bytes and seconds in it; `watch.rt`: the
+//!   time that has gone.
 //! - `telling.rt`: the commands `check` and `magnet`; `torrent_words.rt`: the words of both. `foreign.rt`: the torrent
 //!   in a file, judged; `shown.rt`: the lines that tell of it.
 //! - `prove_command.rt`: the command `prove`; `verify_command.rt`: the command `verify`; `proof_words.rt`: their words;
@@ -22,7 +24,7 @@ mod claim;
 mod command;
 mod digits;
 mod escape;
-mod fault;
+pub mod fault;
 mod fault_of;
 mod foreign;
 mod from_path;
@@ -32,14 +34,14 @@ mod numbers;
 mod options;
 mod out_file;
 mod progress;
-mod proof_text;
+pub mod proof_text;
 mod proof_words;
 mod prove_command;
 mod recheck_command;
 mod recheck_source;
 mod recheck_text;
 mod recheck_words;
-mod run;
+pub mod run;
 mod shown;
 mod telling;
 #[cfg(test)]
@@ -72,52 +74,4 @@ mod tests_usage;
 mod tests_words;
 mod torrent_words;
 mod verify_command;
-
-use fault::Fault;
-use std::alloc::{AllocError, Global};
-use std::env;
-use std::io::{ErrorKind, IsTerminal};
-use std::process::ExitCode;
-
-fn main(rt: HostRuntime) -> ExitCode {
-    let words = match program_words(&rt) {
-        Ok(words) => words,
-        Err(fault) => return stop(&rt, &fault),
-    };
-    let texts = match texts(rt.alloc(), &words) {
-        Ok(texts) => texts,
-        Err(error) => return stop(&rt, &Fault::from(error)),
-    };
-    ExitCode::from(run::run(
-        &rt,
-        &rt,
-        &texts,
-        &mut rt.stdin(),
-        &mut rt.stdout(),
-        &mut rt.stderr(),
-        rt.stderr().is_terminal(),
-    ))
-}
-
-// The words of the command line, from the program's name on.
-fn program_words(rt: &HostRuntime) -> Result<Vec<String>, Fault> {
-    let alloc = rt.alloc();
-    match env::args(rt) {
-        Ok(words) => Ok(words.collect(alloc)?),
-        Err(error) if error.kind() == ErrorKind::OutOfMemory => Err(Fault::Resources),
-        Err(_) => Err(Fault::usage(alloc, "a word is not UTF-8", "tor")?),
-    }
-}
-
-fn texts<'a>(alloc: Global, words: &'a [String]) -> Result<Vec<&'a str>, AllocError> {
-    let mut texts = Vec::new(alloc);
-    for word in words {
-        texts.push(word.as_str())?;
-    }
-    Ok(texts)
-}
-
-fn stop(rt: &HostRuntime, fault: &Fault) -> ExitCode {
-    let _ = eprintln!(rt; "tor: {fault}");
-    ExitCode::from(fault.status())
-}
+mod watch;

@@ -1,0 +1,78 @@
+# Completion of the words of tor (BitTorrent metainfo files), for bash.
+
+# The options of a command, or of tor itself where there is none.
+_tor_options() {
+    case $1 in
+        '') echo '-h --help -V --version' ;;
+        make) echo '--name --piece-length --kind --announce --private --how --workers --span --out -h --help' ;;
+        *) echo '-h --help' ;;
+    esac
+}
+
+# What an option of make has for a value: words, `files`, or `any`. Nothing where it has none.
+_tor_value() {
+    case $1 in
+        --kind) echo 'v1 v2 hybrid' ;;
+        --how) echo 'one halves' ;;
+        --out) echo files ;;
+        --name | --piece-length | --announce | --workers | --span) echo any ;;
+    esac
+}
+
+# Whether a file goes to this place, from 1, behind a command.
+_tor_takes_file() {
+    case $1-$2 in
+        make-1 | check-1 | magnet-1 | prove-1 | recheck-1 | recheck-2 | verify-4) return 0 ;;
+        *) return 1 ;;
+    esac
+}
+
+_tor_files() {
+    compopt -o filenames 2>/dev/null
+    mapfile -t COMPREPLY < <(compgen -f -- "$1")
+}
+
+_tor_words() {
+    mapfile -t COMPREPLY < <(compgen -W "$1" -- "$2")
+}
+
+_tor() {
+    local commands='make check magnet prove verify recheck help'
+    local word=${COMP_WORDS[COMP_CWORD]} option='' command='' count=0 i
+    # bash takes the = of --kind=v2 for a word of its own.
+    for ((i = 1; i < COMP_CWORD; i++)); do
+        local before=${COMP_WORDS[i]}
+        if [[ $before == '=' && -n $option ]]; then
+            continue
+        elif [[ -n $option ]]; then
+            option=''
+        elif [[ $command == make && -n $(_tor_value "$before") ]]; then
+            option=$before
+        elif [[ $before == -* ]]; then
+            continue
+        elif [[ -z $command ]]; then
+            command=$before
+        else
+            count=$((count + 1))
+        fi
+    done
+    if [[ $word == '=' && -n $option ]]; then
+        word=''
+    fi
+    COMPREPLY=()
+    if [[ -n $option ]]; then
+        case $(_tor_value "$option") in
+            files) _tor_files "$word" ;;
+            any) ;;
+            *) _tor_words "$(_tor_value "$option")" "$word" ;;
+        esac
+    elif [[ $word == -* ]]; then
+        _tor_words "$(_tor_options "$command")" "$word"
+    elif [[ -z $command || $command == help ]]; then
+        ((count > 0)) || _tor_words "$commands" "$word"
+    elif _tor_takes_file "$command" $((count + 1)); then
+        _tor_files "$word"
+    fi
+}
+
+complete -F _tor tor

@@ -1,0 +1,37 @@
+# Completion of the words of tor (BitTorrent metainfo files), for fish.
+
+# Whether the command is the first of these words, and as many words as the others say stand before the present one.
+function __tor_at
+    set -l words (commandline -opc)
+    test (count $words) -ge 2; and test $words[2] = $argv[1]; and contains -- (count $words) $argv[2..]
+end
+
+complete -c tor -f
+complete -c tor -n __fish_use_subcommand -s V -l version -d 'print the version'
+complete -c tor -n 'not __fish_seen_subcommand_from help' -s h -l help -d 'print help'
+
+complete -c tor -n __fish_use_subcommand -a make -d 'make a torrent of standard input, a file or a folder'
+complete -c tor -n __fish_use_subcommand -a check -d 'tell what a torrent describes'
+complete -c tor -n __fish_use_subcommand -a magnet -d 'print the magnet link of a torrent'
+complete -c tor -n __fish_use_subcommand -a prove -d 'prove that a piece is of a file of a torrent'
+complete -c tor -n __fish_use_subcommand -a verify -d 'tell whether a proof of a piece holds'
+complete -c tor -n __fish_use_subcommand -a recheck -d 'tell which pieces of a torrent are there and right'
+complete -c tor -n __fish_use_subcommand -a help -d 'print help'
+complete -c tor -n '__tor_at help 2' -a 'make check magnet prove verify recheck help'
+
+complete -c tor -n '__fish_seen_subcommand_from make' -l name -x -d 'the name of the torrent'
+complete -c tor -n '__fish_seen_subcommand_from make' -l piece-length -x -d 'bytes in a piece'
+complete -c tor -n '__fish_seen_subcommand_from make' -l kind -x -a 'v1 v2 hybrid' -d 'which clients can use it'
+complete -c tor -n '__fish_seen_subcommand_from make' -l announce -x -d 'the URL of the tracker'
+complete -c tor -n '__fish_seen_subcommand_from make' -l private -d 'peers are to come from the tracker alone'
+complete -c tor -n '__fish_seen_subcommand_from make' -l how -x -a 'one halves' -d 'who hashes the files'
+complete -c tor -n '__fish_seen_subcommand_from make' -l workers -x -d 'how many workers by halves'
+complete -c tor -n '__fish_seen_subcommand_from make' -l span -x -d 'pieces that a worker takes at a time'
+complete -c tor -n '__fish_seen_subcommand_from make' -l out -r -F -d 'the file that the torrent goes to'
+complete -c tor -n '__fish_seen_subcommand_from make' -F
+
+complete -c tor -n '__tor_at check 2' -F
+complete -c tor -n '__tor_at magnet 2' -F
+complete -c tor -n '__tor_at prove 2' -F
+complete -c tor -n '__tor_at recheck 2 3' -F
+complete -c tor -n '__tor_at verify 5' -F
