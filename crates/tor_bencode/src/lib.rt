@@ -30,8 +30,6 @@ mod order;
 mod place;
 mod read;
 mod stop;
-#[cfg(test)]
-mod tests;
 mod token;
 mod tree;
 mod write;

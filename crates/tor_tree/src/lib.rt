@@ -35,12 +35,6 @@ mod path_lists;
 mod paths;
 mod properties;
 mod read_tree;
-#[cfg(test)]
-mod tests;
-#[cfg(test)]
-mod tests_lists;
-#[cfg(test)]
-mod tests_trees;
 mod tree_file;
 mod write_tree;
 

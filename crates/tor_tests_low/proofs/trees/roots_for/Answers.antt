@@ -2,7 +2,7 @@ use Rattle.std.proofs.Common.{◌≡◌, ◌+◌, ◌++◌, ◌∷◌, [], take,
 use Rattle.std.proofs.lemmas.List.{take_more}
 use Rattle.std.proofs.lemmas.Slice.Zip.{all_zipped_more}
 use Rattle.tor_tree.specs.TidyTree.{HasItsRoot}
-use Rattle.tor_tree.proofs.tests_trees.roots_for.Goals as goal
+use Rattle.tor_tests_low.proofs.trees.roots_for.Goals as goal
 
 pub loop-length-preserved : goal.loop-length-preserved
 loop-length-preserved c =

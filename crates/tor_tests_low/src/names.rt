@@ -1,7 +1,7 @@
 //! Names, paths and what tests of lists and trees share.
-use crate::{FilePath, ListError, Name, NameError, TreeFault, copy_names};
 use std::alloc::{AllocError, Global};
 use std::test::Fail;
+use tor_tree::{FilePath, ListError, Name, NameError, TreeFault, copy_names};
 
 // The path whose names are the parts of a text between its slashes.
 pub(crate) fn path(alloc: Global, text: &str) -> Result<FilePath, Fail> {

@@ -1,8 +1,8 @@
 //! Lists of files and of paths: their order, and why there is none.
-use crate::tests::path;
-use crate::{FileList, FilePath, MAX_LENGTH, PathList};
+use crate::names::path;
 use std::alloc::Global;
 use std::test::Fail;
+use tor_tree::{FileList, FilePath, MAX_LENGTH, PathList};
 
 // Files as their paths and lengths.
 pub(crate) type Files = &'static [(&'static str, u64)];

@@ -3,12 +3,12 @@ ghost use Rattle.std.specs.Prelude.{◌↔◌, ◌<◌, IfOk, IsSome};
 ghost use Rattle.std.specs.List.{AllZip};
 ghost use Rattle.tor_tree.specs.TidyTree.{HasItsRoot};
 
-use crate::tests::path;
-use crate::tests_lists::files_of;
-use crate::{FileList, FilePath, Hash, TreeFile, from_item, to_item};
+use crate::lists::files_of;
+use crate::names::path;
 use std::alloc::{AllocError, Global};
 use std::test::Fail;
 use tor_bencode::{Tree, decode, encode};
+use tor_tree::{FileList, FilePath, Hash, TreeFile, from_item, to_item};
 
 // A tree as its spelling, and why it is no file tree.
 type Fault = (&'static [u8], &'static str);
