@@ -42,8 +42,6 @@ mod sha256_constants;
 mod sha256_digest;
 mod sha256_functions;
 mod sha256_rounds;
-#[cfg(test)]
-mod tests;
 mod transposed;
 mod words;
 

@@ -40,12 +40,6 @@ mod pieces;
 mod plain;
 mod proof;
 mod stack;
-#[cfg(test)]
-mod tests;
-#[cfg(test)]
-mod tests_proof;
-#[cfg(test)]
-mod tests_runs;
 mod trail;
 
 /// How many bytes a block has (BEP 52, "pieces root").

@@ -23,7 +23,6 @@ pub mod FileSizes
 pub mod WithinFiles
 pub mod WithinEntries
 pub mod Places
-pub mod ListRows
 pub mod PieceRows
 pub mod PieceSteps
 pub mod PieceCut

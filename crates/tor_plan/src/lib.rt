@@ -25,12 +25,6 @@ pub mod laws;
 mod pieces;
 mod plans;
 mod separate;
-#[cfg(test)]
-mod tests;
-#[cfg(test)]
-mod tests_entries;
-#[cfg(test)]
-mod tests_pieces;
 mod units;
 
 pub use forests::{Forest, Run};

@@ -25,10 +25,6 @@ mod layout;
 mod padding;
 mod runs;
 mod sums;
-#[cfg(test)]
-mod tests;
-#[cfg(test)]
-mod tests_runs;
 
 pub use entry::{Entry, is_reserved};
 pub use layout::{Layout, LayoutError, count_with_bytes, lay_out};

@@ -3,11 +3,12 @@
 
 ghost use Rattle.std.specs.Prelude.{◌<◌};
 
-use crate::{block_hashes, node_hashes, piece_hashes};
+use crate::shared::content;
 use sha1::Sha1;
 use sha2::{Digest, Sha256};
 use std::alloc::{AllocError, Global};
 use std::process::Abort;
+use tor_hashes::{block_hashes, node_hashes, piece_hashes};
 
 // SHA-256 of 64 zero bytes, as sha256sum tells it.
 const ZERO_NODE: [u8; 32] = [
@@ -70,15 +71,6 @@ const MILLION: [u8; 20] = [
     0x34, 0xaa, 0x97, 0x3c, 0xd4, 0xc4, 0xda, 0xa4, 0xf6, 0x1e, 0xeb, 0x2b, 0xdb, 0xad, 0x27, 0x31,
     0x65, 0x34, 0x01, 0x6f,
 ];
-
-// Bytes of which no eight messages in a row are alike.
-fn content(alloc: Global, length: usize) -> Result<Vec<u8>, AllocError> {
-    let mut bytes = Vec::with_capacity(alloc, length)?;
-    for i in 0..length {
-        bytes.push((i % 251) as u8)?;
-    }
-    Ok(bytes)
-}
 
 fn repeated(alloc: Global, byte: u8, length: usize) -> Result<Vec<u8>, AllocError> {
     let mut bytes = Vec::with_capacity(alloc, length)?;

@@ -2,16 +2,16 @@
 use Rattle.std.proofs.Common.{◌∙◌, arith, refl, subst, sym}
 use Rattle.tor_tree.specs.declared.kinds.Kind.TheVariants.{V1}
 use Rattle.tor_plan.specs.EntryList.{IsEntryList}
-use Rattle.tor_plan.proofs.ListRows.{file_is, five, joined_row}
-use Rattle.tor_plan.proofs.tests_entries.joins_entries_with_padding.Goals as goal
+use Rattle.tor_tests_hashes.proofs.ListRows.{file_is, five, joined_row}
+use Rattle.tor_tests_hashes.proofs.entries.joined_plan.Goals as goal
 use lib.Count.{ones}
 
 pub of_entries-requires-clause-span : goal.of_entries-requires-clause-span
 unfolding ones
-of_entries-requires-clause-span g c = (refl, omega arith, omega arith)
+of_entries-requires-clause-span c = (refl, omega arith, omega arith)
 
 pub of_entries-requires-clause-entries : goal.of_entries-requires-clause-entries
-of_entries-requires-clause-entries g c =
+of_entries-requires-clause-entries c =
     subst (IsEntryList V1 4)
     (sym (c.deref.ensures.value ∙ c.in_ok-entries.ensures.items
     ∙ five _ _ _ _ _ _ _ _ _ _ c.in_ok-pad_entry.ensures (file_is _ 2 c.in_ok-file_entry.ensures)

@@ -1,5 +1,5 @@
 -- The entries of the tests can be cut.
-use Rattle.std.proofs.Common.{◌≡◌, ℕ, ◌≤◌, false, [], ◌∷◌, arith, refl, ap₂, inl}
+use Rattle.std.proofs.Common.{List, ◌≡◌, ℕ, ◌≤◌, false, [], ◌∷◌, arith, refl, ap₂, inl}
 use Rattle.std.proofs.lemmas.List.Elements.{All-nil, All-cons}
 use Rattle.std.specs.List.{All}
 use Rattle.tor_tree.specs.declared.kinds.Kind.TheVariants.{V1, Hybrid}
@@ -8,7 +8,12 @@ use Rattle.tor_v1.specs.Entries.{pad_entry}
 use Rattle.tor_v1.specs.declared.entry.Entry.{Entry}
 use Rattle.tor_plan.specs.Entries.{padding_before_next}
 use Rattle.tor_plan.specs.EntryList.{ArePadded, IsEntryList, IsLaidOut}
-use Rattle.tor_plan.proofs.EntrySteps.{Path, file}
+
+abbrev pub Path : Type 0
+Path = List (List ℕ)
+
+abbrev pub file : Path → ℕ → Entry
+file path m = record { path = path; length = m; pad = false }
 
 pub file_is : (entry : Entry) (m : ℕ) → (entry.length ≡ m) × (entry.pad ≡ false) → entry ≡ file entry.path m
 file_is entry m is = ap₂ (λ n b. record { path = entry.path; length = n; pad = b }) is.0 is.1

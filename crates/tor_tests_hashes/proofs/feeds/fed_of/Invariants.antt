@@ -1,6 +1,6 @@
 -- no more was fed than the bytes so far
 use Rattle.std.proofs.Common.{◌-◌, ◌≤◌, length, vec_len}
-use Rattle.tor_merkle.proofs.tests.fed_of.Given as goal
+use Rattle.tor_tests_hashes.proofs.feeds.fed_of.Given as goal
 
 abbrev pub invariant-parts : goal.invariant-parts
 invariant-parts g l = record {

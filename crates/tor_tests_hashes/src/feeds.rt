@@ -1,0 +1,147 @@
+//! Contents that are fed in parts, against the plain program; and one of a hundred blocks, whose hashes in hexadecimal
+//! were computed by another program (Python's hashlib).
+
+use crate::merkle::{Sums, whole_of};
+use crate::shared::{content, is_hex};
+use std::alloc::{AllocError, Global};
+use std::process::Abort;
+use tor_merkle::{Feed, Hash, is_piece_length};
+
+// Root and layer of a content that is fed in parts of `part` bytes.
+fn fed_of<R: AllocGlobal + Abort>(
+    rt: &R,
+    length: usize,
+    piece_length: u64,
+    part: usize,
+) -> Result<Sums, AllocError> {
+    let bytes = content(rt.alloc(), length)?;
+    assert!(rt; bytes.len() <= 1 << 50);
+    assert!(rt; part > 0 && part <= 1 << 50);
+    assert!(rt; is_piece_length(piece_length));
+    let mut feed = Feed::new(rt.alloc(), piece_length);
+    let mut start = 0;
+    'parts: while start < bytes.len() {
+        let end = bytes.len().min(start + part);
+        feed.feed(&bytes[start..end])?;
+        start = end;
+    }
+    Ok(feed.finish())
+}
+
+fn are_same(sums: &Sums, others: &Sums) -> bool {
+    match (sums, others) {
+        (Some(sums), Some(others)) => {
+            sums.0 == others.0 && sums.1.as_slice() == others.1.as_slice()
+        }
+        (None, None) => true,
+        _ => false,
+    }
+}
+
+// Whether a feed tells what the plain program tells.
+fn agrees<R: AllocGlobal + Abort>(
+    rt: &R,
+    length: usize,
+    piece_length: u64,
+    part: usize,
+) -> Result<bool, AllocError> {
+    let sums = whole_of(rt, length, piece_length)?;
+    Ok(are_same(&fed_of(rt, length, piece_length, part)?, &sums))
+}
+
+// The length of the content, that of a piece, and that of the parts.
+const ROWS: &[(usize, u64, usize)] = &[
+    (0, 16_384, 1),
+    (1, 16_384, 1),
+    (16_384, 16_384, 1),
+    (16_384, 16_384, 16_383),
+    (16_384, 16_384, 16_384),
+    (16_385, 16_384, 1),
+    (16_385, 16_384, 16_383),
+    (16_385, 16_384, 16_385),
+    (32_768, 32_768, 10_000),
+    (49_152, 16_384, 16_384),
+    (49_152, 16_384, 16_385),
+    (49_152, 16_384, 49_152),
+    (81_920, 32_768, 4_096),
+    (81_920, 32_768, 20_000),
+    (81_920, 32_768, 81_920),
+    (81_920, 1 << 30, 50_000),
+    (100_000, 65_536, 33_333),
+    (1_638_400, 65_536, 33_333),
+];
+
+#[test]
+fn feeds_in_parts_what_lies_in_memory(rt: HostRuntime) -> Result<(), AllocError> {
+    for (length, piece_length, part) in ROWS {
+        assert!(rt; agrees(&rt, *length, *piece_length, *part)?);
+    }
+    Ok(())
+}
+
+// A byte fewer than so many blocks, those blocks, and a byte more: of 7, 8, 9, 16 and 17 blocks. Beside each the length
+// of a piece: a block, four, or sixteen.
+const RUNS: &[(usize, u64)] = &[
+    (114_687, 16_384),
+    (114_688, 65_536),
+    (114_689, 262_144),
+    (131_071, 65_536),
+    (131_072, 16_384),
+    (131_073, 65_536),
+    (147_455, 16_384),
+    (147_456, 262_144),
+    (147_457, 65_536),
+    (262_143, 262_144),
+    (262_144, 65_536),
+    (262_145, 16_384),
+    (278_527, 65_536),
+    (278_528, 16_384),
+    (278_529, 262_144),
+];
+
+// Eight whole blocks are hashed at once; they are fed at one time, and in parts of six blocks and some bytes.
+#[test]
+fn feeds_runs_as_the_plain_program(rt: HostRuntime) -> Result<(), AllocError> {
+    for (length, piece_length) in RUNS {
+        assert!(rt; agrees(&rt, *length, *piece_length, 1 << 20)?);
+        assert!(rt; agrees(&rt, *length, *piece_length, 100_000)?);
+    }
+    Ok(())
+}
+
+const ROOT: &str = "7b2ac37c09a99dbcfda8bb89f8604684ac60ba314f772fdde6f789123b5d9575";
+
+const LAST: &str = "d63e0ec4c0a4ce56d4371cd1c4aab43f3164959fe9f442d6714721f84f60bcd1";
+
+// Whether a layer has 25 hashes, of which that is the last.
+fn is_layer_of_a_hundred(alloc: Global, layer: &[Hash]) -> Result<bool, AllocError> {
+    match layer.get(24) {
+        Some(last) => Ok(layer.len() == 25 && is_hex(alloc, last, LAST)?),
+        None => Ok(false),
+    }
+}
+
+// Whether a hundred blocks, fed in such parts, have this root and such a layer.
+fn are_of_a_hundred_blocks<R: AllocGlobal + Abort>(
+    rt: &R,
+    part: usize,
+) -> Result<bool, AllocError> {
+    match fed_of(rt, 1_638_400, 65_536, part)? {
+        Some(sums) => Ok(
+            is_hex(rt.alloc(), &sums.0, ROOT)? && is_layer_of_a_hundred(rt.alloc(), &sums.1)?,
+        ),
+        None => Ok(false),
+    }
+}
+
+#[test]
+fn tells_the_root_of_a_hundred_blocks(rt: HostRuntime) -> Result<(), AllocError> {
+    assert!(rt; are_of_a_hundred_blocks(&rt, 77_777)?);
+    Ok(())
+}
+
+#[test]
+fn tells_the_root_of_a_hundred_blocks_fed_at_one_time(rt: HostRuntime) -> Result<(), AllocError> {
+    assert!(rt; are_of_a_hundred_blocks(&rt, 1_638_400)?);
+    Ok(())
+}

@@ -1,0 +1,32 @@
+//! The tests of `tor_hashes`, `tor_merkle`, `tor_v1` and `tor_plan`, in a crate of their own: a crate with tests is
+//! proved twice, and these libraries are large.
+//!
+//! - `hashes.rt`: SHA-256 and SHA-1 of eight messages.
+//! - `merkle.rt`: roots, layers and stacks; `feeds.rt`: contents that are fed in parts; `piece_proofs.rt`: proofs of
+//!   single pieces.
+//! - `layouts.rt`: version 1's list of files; `sums.rt`: the SHA-1 of its pieces.
+//! - `plans.rt`: units of work for lists of files; `entries.rt`: for entries; `pieces.rt`: their pieces.
+//!
+//! `shared.rt` has contents, lists of files and hexadecimal digits.
+#![tactic(auto)]
+
+#[cfg(test)]
+mod entries;
+#[cfg(test)]
+mod feeds;
+#[cfg(test)]
+mod hashes;
+#[cfg(test)]
+mod layouts;
+#[cfg(test)]
+mod merkle;
+#[cfg(test)]
+mod piece_proofs;
+#[cfg(test)]
+mod pieces;
+#[cfg(test)]
+mod plans;
+#[cfg(test)]
+mod shared;
+#[cfg(test)]
+mod sums;

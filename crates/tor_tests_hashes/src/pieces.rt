@@ -1,0 +1,78 @@
+//! Pieces of units, worked out by hand.
+ghost use Rattle.std.specs.Prelude.{◌≡◌, ◌+◌, ◌<◌, ◌^◌, true, All};
+
+use crate::plans::units_told;
+use std::alloc::{AllocError, Global};
+use std::process::Abort;
+use std::test::Fail;
+use tor_plan::{Part, Parts, PlanUnit};
+
+/// Whether the parts begin and end before byte 2^33 of their files.
+fn are_small(parts: &[Part]) -> bool
+    ensures { result ≡ true → All (λ part. part.start + part.length < 2 ^ 64) parts.now }
+{
+    parts
+        .iter()
+        .all(|part| part.start < 1 << 32 && part.length < 1 << 32)
+}
+
+/// Parts as file, start, length and zeros.
+type Numbers = &'static [(u64, u64, u64, u64)];
+
+fn parts_of(alloc: Global, numbers: Numbers) -> Result<Vec<Part>, AllocError> {
+    let mut parts = Vec::new(alloc);
+    for (file, start, length, zeros) in numbers {
+        parts.push(Part {
+            file: *file,
+            start: *start,
+            length: *length,
+            zeros: *zeros,
+        })?;
+    }
+    Ok(parts)
+}
+
+/// The pieces of four bytes of a unit.
+fn pieces_told<R: AllocGlobal + Abort>(
+    rt: &R,
+    zeros: u64,
+    parts: Vec<Part>,
+) -> Result<String, Fail> {
+    assert!(rt; are_small(&parts));
+    let unit = PlanUnit {
+        zeros,
+        parts: Parts::new(parts),
+    };
+    let pieces = unit.pieces(rt.alloc(), 4)?;
+    units_told(rt.alloc(), &pieces)
+}
+
+/// The zeros before the parts of a unit, the parts, and the pieces.
+const ROWS: &[(u64, Numbers, &str)] = &[
+    (9, &[(3, 10, 5, 0)], "[=4 ][=4 ][=1 3:10+3 ][ 3:13+2 ]"),
+    (0, &[(7, 5, 2, 0), (8, 0, 3, 0)], "[ 7:5+2 8:0+2 ][ 8:2+1 ]"),
+    (
+        0,
+        &[(2, 100, 9, 4), (4, 0, 1, 0)],
+        "[ 2:100+4 ][ 2:104+4 ][ 2:108+1=3 ][=1 4:0+1 ]",
+    ),
+    (0, &[], ""),
+];
+
+fn has_pieces<R: AllocGlobal + Abort>(
+    rt: &R,
+    zeros: u64,
+    numbers: Numbers,
+    wanted: &str,
+) -> Result<bool, Fail> {
+    let parts = parts_of(rt.alloc(), numbers)?;
+    Ok(pieces_told(rt, zeros, parts)?.as_str() == wanted)
+}
+
+#[test]
+fn cuts_units_into_pieces(rt: HostRuntime) -> Result<(), Fail> {
+    for (zeros, numbers, wanted) in ROWS {
+        assert!(rt; has_pieces(&rt, *zeros, numbers, wanted)?);
+    }
+    Ok(())
+}
