@@ -39,18 +39,6 @@ mod reading;
 mod room;
 mod run;
 mod sums;
-#[cfg(test)]
-mod tests;
-#[cfg(test)]
-mod tests_faults;
-#[cfg(test)]
-mod tests_pieces;
-#[cfg(test)]
-mod tests_reads;
-#[cfg(test)]
-mod tests_sums;
-#[cfg(test)]
-mod tests_workers;
 mod turn;
 mod worker;
 

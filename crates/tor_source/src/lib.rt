@@ -30,14 +30,10 @@ mod folder;
 pub mod laws;
 mod listing;
 mod memory;
-#[cfg(test)]
-mod memory_tests;
 mod places;
 mod regular;
 mod short;
 mod source;
-#[cfg(test)]
-mod tests;
 mod walk;
 
 pub use failing::FailSource;

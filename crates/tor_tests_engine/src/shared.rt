@@ -1,10 +1,10 @@
-//! What the tests share: plans, files, and how these are hashed.
+//! What the tests share: paths, contents, plans, and how files are hashed.
 
-use super::*;
 use std::alloc::{AllocError, Global};
 use std::process::Abort;
 use std::test::Fail;
 use std::thread::Threads;
+use tor_engine::{EngineError, How, Sums, hash_all};
 use tor_plan::Plan;
 use tor_source::{MemSource, Source};
 use tor_tree::{FileList, FilePath, Kind, Name};
@@ -14,11 +14,19 @@ pub(crate) const EACH_HOW: [How; 4] = [How::One, How::Halves(1), How::Halves(2),
 
 pub(crate) const EACH_KIND: [Kind; 3] = [Kind::V1, Kind::V2, Kind::Hybrid];
 
+/// The path whose names are the parts of a text between its slashes.
+pub(crate) fn path(alloc: Global, text: &str) -> Result<FilePath, Fail> {
+    let mut names = Vec::new(alloc);
+    for part in text.split('/') {
+        names.push(Name::new(alloc, part.as_bytes())?)?;
+    }
+    Ok(FilePath::new(names).ok_or("a path")?)
+}
+
 /// The path `000` of the first file, `001` of the second, and so on.
 fn path_at(alloc: Global, place: usize) -> Result<FilePath, Fail> {
     let text = format!(in alloc; "{place:03}")?;
-    let names = vec![in alloc; Name::new(alloc, text.as_bytes())?]?;
-    Ok(FilePath::new(names).ok_or("no name")?)
+    path(alloc, &text)
 }
 
 /// Files with these lengths, under such paths.

@@ -1,14 +1,14 @@
 //! The hashes of the pieces of `ab` and `c`; the hashes are of Python's hashlib.
 
-use super::*;
-use crate::tests::plan_of;
-use crate::tests_faults::Changing;
+use crate::faults::Changing;
+use crate::shared::plan_of;
 use std::alloc::{AllocError, Global};
 use std::process::Abort;
 use std::sync::atomic::AtomicU64;
 use std::sync::atomic::Ordering::SeqCst;
 use std::test::Fail;
 use std::thread::Threads;
+use tor_engine::{EngineError, How, PieceHash, hash_pieces};
 use tor_merkle::Hash;
 use tor_source::MemSource;
 use tor_tree::Kind;

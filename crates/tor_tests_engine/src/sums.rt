@@ -1,11 +1,11 @@
 //! The sums of rows worked out by hand from BEP 3 and BEP 52; each hash in hexadecimal is of Python's hashlib.
 
-use super::*;
-use crate::tests::{EACH_HOW, content, files_of, hash_by, plan_of};
+use crate::shared::{EACH_HOW, content, files_of, hash_by, plan_of};
 use std::alloc::{AllocError, Global};
 use std::process::Abort;
 use std::test::Fail;
 use std::thread::Threads;
+use tor_engine::{How, Sums};
 use tor_merkle::{Hash, leaf, pair, zero};
 use tor_plan::Plan;
 use tor_source::{MemSource, ShortSource, Source};

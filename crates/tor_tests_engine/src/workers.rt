@@ -1,13 +1,13 @@
 //! How many workers read at once.
 
-use super::*;
-use crate::tests::{is_fault, plan_of};
+use crate::shared::{is_fault, plan_of};
 use std::alloc::AllocError;
 use std::process::Abort;
 use std::sync::atomic::AtomicU64;
 use std::sync::atomic::Ordering::SeqCst;
 use std::test::Fail;
 use std::thread::{Threads, yield_now};
+use tor_engine::{How, hash_pieces};
 use tor_plan::Plan;
 use tor_source::Source;
 use tor_tree::Kind;

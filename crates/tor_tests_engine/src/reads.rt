@@ -1,12 +1,12 @@
 //! What is asked of a source: where each read begins and ends, and which of its faults is told.
 
-use super::*;
-use crate::tests::{files_of, is_each_fault, is_fault, plan_of};
+use crate::shared::{files_of, is_each_fault, is_fault, plan_of};
 use std::process::Abort;
 use std::sync::atomic::AtomicU64;
 use std::sync::atomic::Ordering::SeqCst;
 use std::test::Fail;
 use std::thread::Threads;
+use tor_engine::{How, hash_told};
 use tor_plan::Plan;
 use tor_source::{FailSource, Source};
 use tor_tree::Kind;

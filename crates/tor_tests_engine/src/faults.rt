@@ -1,13 +1,13 @@
 //! Which fault is answered: the first of a source, or that of a file that is missing or has changed.
 
-use super::*;
-use crate::tests::{EACH_HOW, EACH_KIND, content, files_of, is_each_fault, is_fault, plan_of};
+use crate::shared::{EACH_HOW, EACH_KIND, content, files_of, is_each_fault, is_fault, plan_of};
 use std::alloc::{AllocError, Global};
 use std::process::Abort;
 use std::sync::atomic::AtomicU64;
 use std::sync::atomic::Ordering::SeqCst;
 use std::test::Fail;
 use std::thread::Threads;
+use tor_engine::How;
 use tor_source::{FailSource, MemSource, Source};
 use tor_tree::Kind;
 

@@ -1,0 +1,222 @@
+//! Scans and reads of a system that has what no test can make.
+use crate::folders::{fault, shown};
+use crate::memory::read;
+use crate::shared::path;
+use std::alloc::{Allocator, Global};
+use std::fs::{File, Metadata, OpenOptions};
+use std::io;
+use std::io::{Cursor, Read};
+use std::rt::Files;
+use std::test::Fail;
+use tor_source::{FolderSource, ScanFault, Source};
+use tor_tree::FilePath;
+
+// A system that has what no test can make: in its folder `top` are these names, each ended by a zero byte. A name that
+// ends in `file` is a file that may not be opened, in `folder` an empty folder, in `locked` a folder that may not be
+// read, and of one that ends in `hidden` the system tells nothing. All others stand for a FIFO. Where the listing
+// breaks, a read after its last name fails.
+#[derive(Clone, Drop)]
+struct Listed {
+    rt: HostRuntime,
+    names: Vec<u8>,
+    breaks: bool,
+}
+
+#[derive(Drop)]
+struct Listing {
+    names: Cursor<Vec<u8>>,
+    breaks: bool,
+}
+
+impl Read for Listing {
+    fn read(&mut self, buffer: &mut [u8]) -> io::Result<usize> {
+        match self.names.read(buffer)? {
+            0 if self.breaks => Err(io::Error::from(io::ErrorKind::TimedOut)),
+            count => Ok(count),
+        }
+    }
+}
+
+impl Alloc for Listed {
+    type A = Global;
+
+    fn alloc(&self) -> Global {
+        self.rt.alloc()
+    }
+}
+
+impl Files for Listed {
+    type File = File;
+
+    type Dir = Listing;
+
+    fn open_file(&self, _how: &OpenOptions, _path: &str) -> io::Result<File> {
+        Err(io::Error::from(io::ErrorKind::PermissionDenied))
+    }
+
+    fn open_dir(&self, path: &str) -> io::Result<Listing> {
+        if path.ends_with("locked") {
+            return Err(io::Error::from(io::ErrorKind::PermissionDenied));
+        }
+        let names: &[u8] = if path == "top/" { &self.names } else { b"" };
+        Ok(Listing {
+            names: Cursor::new(Vec::from_slice(self.alloc(), names)?),
+            breaks: self.breaks,
+        })
+    }
+
+    fn metadata(&self, path: &str) -> io::Result<Metadata> {
+        self.symlink_metadata(path)
+    }
+
+    fn symlink_metadata(&self, path: &str) -> io::Result<Metadata> {
+        if path.ends_with("hidden") {
+            return Err(io::Error::from(io::ErrorKind::PermissionDenied));
+        }
+        let is_file = path.ends_with("file");
+        let is_folder = path == "top" || path.ends_with("folder") || path.ends_with("locked");
+        self.rt.metadata(match (is_file, is_folder) {
+            (true, _) => "/proc/self/exe",
+            (_, true) => "/",
+            _ => "/dev/null",
+        })
+    }
+
+    fn copy(&self, from: &str, to: &str) -> io::Result<u64> {
+        self.rt.copy(from, to)
+    }
+
+    fn rename(&self, from: &str, to: &str) -> io::Result<()> {
+        self.rt.rename(from, to)
+    }
+
+    fn remove_file(&self, path: &str) -> io::Result<()> {
+        self.rt.remove_file(path)
+    }
+
+    fn create_dir(&self, path: &str) -> io::Result<()> {
+        self.rt.create_dir(path)
+    }
+
+    fn remove_dir(&self, path: &str) -> io::Result<()> {
+        self.rt.remove_dir(path)
+    }
+
+    fn remove_dir_all<B: Allocator>(&self, alloc: B, path: &str) -> io::Result<()> {
+        self.rt.remove_dir_all(alloc, path)
+    }
+}
+
+fn system_of(rt: &HostRuntime, names: &[u8], breaks: bool) -> io::Result<Listed> {
+    Ok(Listed {
+        rt: rt.clone()?,
+        names: Vec::from_slice(rt.alloc(), names)?,
+        breaks,
+    })
+}
+
+// What a scan of this path gives where `top` has these names: its paths, or why there are none.
+fn told(rt: &HostRuntime, path: &str, names: &[u8], breaks: bool) -> io::Result<Vec<u8>> {
+    let alloc = rt.alloc();
+    match FolderSource::scan(&system_of(rt, names, breaks)?, path) {
+        Ok((_source, paths)) => Ok(shown(alloc, &paths)?),
+        Err(fault) => Ok(format!(in alloc; "{fault}")?.into_bytes()),
+    }
+}
+
+const SCANS: &[(&[u8], &[u8])] = &[
+    (b"\xff\0a file\0", b"F1 NotUtf8"),
+    (b"\xff\0fifo\0", b"F2 NotRegular"),
+    (b"fifo\0a locked\0", b"F4 System"),
+    (
+        b"b file\0..\0a file\0.\0a folder\0b file\0",
+        b"/a file /b file ",
+    ),
+    (b".file\0...file\0\0..file\0", b"/...file /..file /.file "),
+    (b"a file\0b file", b"/a file /b file "),
+    (b"", b""),
+];
+
+fn is_told(
+    rt: &HostRuntime,
+    path: &str,
+    names: &[u8],
+    breaks: bool,
+    wanted: &[u8],
+) -> io::Result<bool> {
+    Ok(told(rt, path, names, breaks)?.as_slice() == wanted)
+}
+
+#[test]
+fn answers_the_first_fault_in_the_order_of_names(rt: HostRuntime) -> Result<(), Fail> {
+    for (names, wanted) in SCANS {
+        assert!(rt; is_told(&rt, "top", names, false, wanted)?);
+    }
+    Ok(())
+}
+
+const BROKEN: &[&[u8]] = &[b"", b"a file\0", b"a file\0b fi"];
+
+#[test]
+fn tells_a_listing_that_breaks_off(rt: HostRuntime) -> Result<(), Fail> {
+    for names in BROKEN {
+        assert!(rt; is_told(&rt, "top", names, true, b"F4 System")?);
+    }
+    Ok(())
+}
+
+fn paths(alloc: Global, texts: &[&str]) -> Result<Vec<FilePath>, Fail> {
+    let mut paths = Vec::new(alloc);
+    for text in texts {
+        paths.push(path(alloc, text)?)?;
+    }
+    Ok(paths)
+}
+
+// The system of these tests would tell of a FIFO, were it asked.
+#[test]
+fn has_no_file_below_the_empty_place(rt: HostRuntime) -> Result<(), Fail> {
+    assert!(rt; is_told(&rt, "", b"a file\0", false, b"F4 System")?);
+    assert!(rt; matches!(fault(&rt, ""), Some(ScanFault::System)));
+    assert!(rt; rt.metadata("").is_err());
+    let files = paths(rt.alloc(), &["proc"])?;
+    assert!(rt; FolderSource::at(&rt, "", files)?.count() == 1);
+    Ok(())
+}
+
+// Whether a file is missing: no length is told, and a read gives nothing.
+fn is_missing(source: &FolderSource<Listed>, file: u64) -> io::Result<bool> {
+    let length = source.length(file)?;
+    Ok(length.is_none() && read(source, file, 0, &mut [0; 3])?.is_empty())
+}
+
+fn is_refused(fault: &io::Error) -> bool {
+    fault.kind() == io::ErrorKind::PermissionDenied
+}
+
+fn refuses_length(source: &FolderSource<Listed>, file: u64) -> bool {
+    match source.length(file) {
+        Ok(_) => false,
+        Err(fault) => is_refused(&fault),
+    }
+}
+
+fn refuses_read(source: &FolderSource<Listed>, file: u64) -> bool {
+    match source.read_at(file, 0, &mut [0; 3]) {
+        Ok(_) => false,
+        Err(fault) => is_refused(&fault),
+    }
+}
+
+// A FIFO is missing, and not opened.
+#[test]
+fn tells_faults_of_the_system(rt: HostRuntime) -> Result<(), Fail> {
+    let files = paths(rt.alloc(), &["fifo", "a file", "hidden"])?;
+    let source = FolderSource::at(&system_of(&rt, b"", false)?, "top", files)?;
+    assert!(rt; is_missing(&source, 0)?);
+    assert!(rt; matches!(source.length(1)?, Some(1..)));
+    assert!(rt; refuses_read(&source, 1));
+    assert!(rt; refuses_length(&source, 2));
+    assert!(rt; refuses_read(&source, 2));
+    Ok(())
+}
