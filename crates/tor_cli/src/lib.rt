@@ -44,34 +44,6 @@ mod recheck_words;
 pub mod run;
 mod shown;
 mod telling;
-#[cfg(test)]
-mod tests;
-#[cfg(test)]
-mod tests_answers;
-#[cfg(test)]
-mod tests_faults;
-#[cfg(test)]
-mod tests_foreign;
-#[cfg(test)]
-mod tests_out;
-#[cfg(test)]
-mod tests_path;
-#[cfg(test)]
-mod tests_proof_text;
-#[cfg(test)]
-mod tests_proofs;
-#[cfg(test)]
-mod tests_recheck;
-#[cfg(test)]
-mod tests_refused;
-#[cfg(test)]
-mod tests_runs;
-#[cfg(test)]
-mod tests_scenes;
-#[cfg(test)]
-mod tests_usage;
-#[cfg(test)]
-mod tests_words;
 mod torrent_words;
 mod verify_command;
 mod watch;

@@ -1,5 +1,5 @@
 //! The program over readers and writers that fault.
-use crate::tests_runs::run_over;
+use crate::runs::run_over;
 use std::alloc::Global;
 use std::io::{Error, ErrorKind, Read, Result, Write};
 use std::thread::Threads;

@@ -1,0 +1,18 @@
+//! A run of the whole program over a reader and a writer.
+use std::io::{Read, Write};
+use std::thread::Threads;
+use tor_cli::run::run;
+
+// Runs `tor` with these words over a reader and a writer: the status, and what it tells on standard error.
+pub fn run_over<T: Threads + Sync, R: Read, W: Write>(
+    rt: &T,
+    system: &HostRuntime,
+    words: &[&str],
+    reader: &mut R,
+    out: &mut W,
+    shows_progress: bool,
+) -> (u8, Vec<u8>) {
+    let mut err = Vec::new(system.alloc());
+    let status = run(rt, system, words, reader, out, &mut err, shows_progress);
+    (status, err)
+}
