@@ -32,24 +32,6 @@ mod piece_proofs;
 mod places;
 mod refusal;
 mod sides;
-#[cfg(test)]
-mod tests;
-#[cfg(test)]
-mod tests_hybrids;
-#[cfg(test)]
-mod tests_layered;
-#[cfg(test)]
-mod tests_lenient;
-#[cfg(test)]
-mod tests_order;
-#[cfg(test)]
-mod tests_pieces;
-#[cfg(test)]
-mod tests_rows;
-#[cfg(test)]
-mod tests_told;
-#[cfg(test)]
-mod tests_worked;
 mod told;
 mod torrent;
 mod tree_side;

@@ -17,8 +17,6 @@
 mod input;
 mod intake;
 mod make;
-#[cfg(test)]
-mod tests;
 
 pub use input::{InputFault, MAX_INPUT_LENGTH, drop_input, read_limited, read_parts};
 pub use intake::{Dropped, Intake};

@@ -44,16 +44,6 @@ mod output;
 mod placed_files;
 mod refusals;
 mod sums;
-#[cfg(test)]
-mod tests;
-#[cfg(test)]
-mod tests_larger;
-#[cfg(test)]
-mod tests_rows;
-#[cfg(test)]
-mod tests_source;
-#[cfg(test)]
-mod tests_workers;
 mod torrent;
 
 pub use contents::make_contents;

@@ -21,10 +21,6 @@ mod errors;
 mod judge;
 pub mod laws;
 mod rechecking;
-#[cfg(test)]
-mod tests;
-#[cfg(test)]
-mod tests_recheck;
 mod told;
 
 pub use bits::Bits;

@@ -1,9 +1,9 @@
 //! Which bytes are torrents, and what they describe. The bytes are worked out from the standards; no condition of these
 //! rows but those of layers compares a hash.
-use crate::tests_layered::{L0, L1, TWO};
-use crate::tests_rows::{Layered, first_wrong_layer};
-use crate::tests_told::{Row, first_wrong};
-use crate::{Torrent, validate};
+use crate::layered::{L0, L1, TWO};
+use crate::layers::{Layered, first_wrong_layer};
+use crate::telling::{Row, first_wrong};
+use tor_check::{Torrent, validate};
 use std::test::Fail;
 
 // The files a = `ab` and b = `c` in the folder `f`, piece length 16,384: a torrent of version 1. The hash is the SHA-1

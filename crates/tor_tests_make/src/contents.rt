@@ -1,7 +1,7 @@
 //! Torrents whose bytes were worked out by hand from BEP 3, BEP 47 and BEP 52; each hash in hexadecimal is of Python's
 //! hashlib.
 
-use crate::{Hashes, Head, magnet, make_contents, write_out};
+use tor_meta::{Hashes, Head, magnet, make_contents, write_out};
 use std::alloc::{AllocError, Global};
 use std::io::{self, Error, ErrorKind, Write};
 use std::process::Abort;

@@ -1,5 +1,5 @@
 //! Readers that give all, few bytes a read, or a fault, and what comes of them.
-use crate::{FromFault, InputFault, drop_input, make_from, read_limited};
+use tor_input::{FromFault, InputFault, drop_input, make_from, read_limited};
 use std::alloc::Global;
 use std::io::{Error, ErrorKind, Read, Result};
 use std::test::Fail;

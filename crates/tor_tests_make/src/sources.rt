@@ -1,7 +1,7 @@
 //! Torrents of the files of a source, and why there is none.
 
-use crate::tests::{ABC, EMPTY_HYBRID, EMPTY_V1, EMPTY_V2, FOLDER_HYBRID, FOLDER_V1, path};
-use crate::{Order, make};
+use crate::contents::{ABC, EMPTY_HYBRID, EMPTY_V1, EMPTY_V2, FOLDER_HYBRID, FOLDER_V1, path};
+use tor_meta::{Order, make};
 use std::alloc::{AllocError, Global};
 use std::sync::atomic::AtomicU64;
 use std::sync::atomic::Ordering::SeqCst;

@@ -1,11 +1,11 @@
 //! Proofs of pieces, worked out from BEP 52, and why there is none.
-use crate::tests::{ABC_V2, FOLDER_HYBRID, FOLDER_V1};
-use crate::tests_layered::{
+use crate::verdicts::{ABC_V2, FOLDER_HYBRID, FOLDER_V1};
+use crate::layered::{
     FIVE_BLOCKS, L0, L1, L2, LAST, LAST_OF_TWO_BLOCKS, ONE_PIECE, THREE_PIECES, THREE_PIECES_TWICE,
     TWO, WITH_ITS_HASHES, ZERO, ZEROS,
 };
-use crate::tests_told::{Parts, joined};
-use crate::{prove_piece, validate};
+use crate::telling::{Parts, joined};
+use tor_check::{prove_piece, validate};
 use std::alloc::{AllocError, Global};
 use std::test::Fail;
 use tor_merkle::Hash;

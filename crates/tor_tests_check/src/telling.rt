@@ -1,5 +1,5 @@
 //! What the tests share: what is told of bytes, and tables of bytes with what is to be told of them.
-use crate::{Torrent, validate};
+use tor_check::{Torrent, validate};
 use std::alloc::{AllocError, Global};
 use std::fmt::Write;
 use tor_tree::FilePath;

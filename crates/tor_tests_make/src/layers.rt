@@ -1,8 +1,8 @@
 //! Torrents of the files of a source whose lists, roots and layers were worked out by hand from BEP 3 and BEP 52; the
 //! hash in hexadecimal is of Python's hashlib.
 
-use crate::tests::{joined, path};
-use crate::tests_source::{files_in_steps, is_made, order};
+use crate::contents::{joined, path};
+use crate::sources::{files_in_steps, is_made, order};
 use std::alloc::{AllocError, Global};
 use std::test::Fail;
 use std::thread::Threads;

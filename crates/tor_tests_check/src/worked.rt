@@ -1,5 +1,5 @@
 //! Torrents worked out from BEP 3, BEP 47 and BEP 52, and what a change makes of them. Hashes are any bytes.
-use crate::tests_told::{Row, first_wrong};
+use crate::telling::{Row, first_wrong};
 use std::test::Fail;
 
 const WORKED: &[Row] = &[

@@ -1,10 +1,10 @@
 //! Torrents of the lengths at which layers begin, and of layers that are wrong, worked out from BEP 52.
-use crate::tests_layered::{
+use crate::layered::{
     FILE_A, FILE_B, FIVE_BLOCKS, L0, L1, L2, LAYERS, ONE_PIECE, ROOT, THREE, THREE_PIECES,
     THREE_PIECES_TWICE, TWO, WITH_ITS_HASHES, ZERO,
 };
-use crate::tests_told::{Row, first_wrong, is_right, joined};
-use crate::{Torrent, validate};
+use crate::telling::{Row, first_wrong, is_right, joined};
+use tor_check::{Torrent, validate};
 use std::alloc::{AllocError, Global};
 use std::test::Fail;
 use tor_merkle::Hash;

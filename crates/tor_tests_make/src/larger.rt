@@ -1,7 +1,7 @@
 //! Torrents of a long name and of many files, and info hashes; each hash in hexadecimal is of Python's hashlib.
 
-use crate::tests::{files, head, joined};
-use crate::{Hashes, info_hashes, make_contents};
+use crate::contents::{files, head, joined};
+use tor_meta::{Hashes, info_hashes, make_contents};
 use std::alloc::{AllocError, Global};
 use std::test::Fail;
 use tor_tree::{FilePath, Kind, Name};

@@ -1,6 +1,6 @@
 //! Torrents of version 2 with layers, worked out from BEP 52, for the tests. Leaves are any hashes, joined by SHA-256
 //! as the standard says; another program joined them.
-use crate::tests_told::Parts;
+use crate::telling::Parts;
 use std::test::Fail;
 use tor_merkle::{Hash, pair, zero};
 

@@ -1,6 +1,6 @@
 //! Hybrids: where padding may stand, and where the sides differ. The bytes are worked out from BEP 3, BEP 47 and
 //! BEP 52; hashes are any bytes.
-use crate::tests_told::{Row, first_wrong};
+use crate::telling::{Row, first_wrong};
 use std::test::Fail;
 
 // What stands before the entries of the folder `f`: its tree, of the files a of two bytes and b of one.

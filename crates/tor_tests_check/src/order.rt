@@ -1,6 +1,6 @@
 //! Torrents of which two conditions do not hold: the one with the lower number is told. The bytes are worked out from
 //! BEP 3, BEP 47 and BEP 52; hashes are any bytes.
-use crate::tests_told::{Row, first_wrong};
+use crate::telling::{Row, first_wrong};
 use std::test::Fail;
 
 const ROWS: &[Row] = &[

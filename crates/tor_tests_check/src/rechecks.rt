@@ -1,6 +1,5 @@
 //! Torrents rechecked against files in memory. The hashes are of Python's hashlib.
 
-use super::*;
 use std::alloc::{AllocError, Global};
 use std::fmt::Write;
 use std::sync::atomic::AtomicU64;
@@ -9,6 +8,7 @@ use std::test::Fail;
 use std::thread::Threads;
 use tor_check::{Torrent, validate};
 use tor_engine::How;
+use tor_recheck::{Bits, recheck};
 use tor_source::{FailSource, MemSource, Source};
 
 /// Each way to share the units.
@@ -261,50 +261,94 @@ fn tells_which_pieces_are_there_and_right(rt: HostRuntime) -> Result<(), Fail> {
     Ok(())
 }
 
+/// A source of one file of so many zeros.
+fn source_of_zeros(alloc: Global, length: usize) -> Result<MemSource, AllocError> {
+    let content = vec![in alloc; 0; length]?;
+    Ok(MemSource::new(vec![in alloc; Some(content)]?))
+}
+
+/// Whether this is told of the pieces of LONG, where so many zeros are there.
+fn is_told_of_zeros<R: AllocGlobal + Threads + Sync>(
+    rt: &R,
+    length: usize,
+    wanted: &str,
+) -> Result<bool, Fail> {
+    let torrent = torrent_of(rt.alloc(), LONG)?;
+    let source = source_of_zeros(rt.alloc(), length)?;
+    Ok(is_each_told(rt, &source, &torrent, wanted)?)
+}
+
+/// The whole of the file, and its first block alone.
+const OF_ZEROS: [(usize, &str); 2] = [(16_385, "11 c0"), (16_384, "10 80")];
+
 #[test]
 fn tells_of_a_file_of_several_blocks(rt: HostRuntime) -> Result<(), Fail> {
-    let alloc = rt.alloc();
-    let torrent = torrent_of(alloc, LONG)?;
-    let mut content = Vec::new(alloc);
-    content.resize(16_385, 0)?;
-    let whole = MemSource::new(vec![in alloc; Some(content)]?);
-    assert!(rt; is_each_told(&rt, &whole, &torrent, "11 c0")?);
-    let mut content = Vec::new(alloc);
-    content.resize(16_384, 0)?;
-    let cut = MemSource::new(vec![in alloc; Some(content)]?);
-    assert!(rt; is_each_told(&rt, &cut, &torrent, "10 80")?);
+    for (length, wanted) in OF_ZEROS {
+        assert!(rt; is_told_of_zeros(&rt, length, wanted)?);
+    }
     Ok(())
 }
 
-/// A fault at byte 0 of the first file, where it is read and where it is not; one of its length; too many workers.
+/// A place that fails: a file, for its length or at a byte; and the number of the fault.
+type Place = (u64, Option<u64>, u64);
+
+fn failing(
+    alloc: Global,
+    files: &[Option<&[u8]>],
+    place: Place,
+) -> Result<FailSource, AllocError> {
+    let files = files_of(alloc, files)?;
+    Ok(FailSource::new(files, vec![in alloc; place]?))
+}
+
+/// Files of OF_BOTH, a place that fails, and what is told.
+type Fault = (&'static [Option<&'static [u8]>], Place, &'static str);
+
+const FAULTS: [Fault; 3] = [
+    // Byte 0 of the first file, where it is read.
+    (
+        &[Some(b"ab"), Some(b"c")],
+        (0, Some(0), 4),
+        "Read { file: 0, start: Some(0), fault: 4 }",
+    ),
+    // The same where it is not, since the file has another length.
+    (&[Some(b"a"), Some(b"c")], (0, Some(0), 4), "01 40"),
+    // A length.
+    (
+        &[],
+        (1, None, 7),
+        "Read { file: 1, start: None, fault: 7 }",
+    ),
+];
+
+fn is_fault<R: AllocGlobal + Threads + Sync>(rt: &R, row: &Fault) -> Result<bool, Fail> {
+    let torrent = torrent_of(rt.alloc(), OF_BOTH)?;
+    let source = failing(rt.alloc(), row.0, row.1)?;
+    Ok(is_each_told(rt, &source, &torrent, row.2)?)
+}
+
 #[test]
 fn tells_the_first_fault(rt: HostRuntime) -> Result<(), Fail> {
-    let alloc = rt.alloc();
-    let torrent = torrent_of(alloc, OF_BOTH)?;
-    let read = FailSource::new(
-        files_of(alloc, &[Some(b"ab"), Some(b"c")])?,
-        vec![in alloc; (0, Some(0), 4)]?,
-    );
-    let wanted = "Read { file: 0, start: Some(0), fault: 4 }";
-    assert!(rt; is_each_told(&rt, &read, &torrent, wanted)?);
-    let unread = FailSource::new(
-        files_of(alloc, &[Some(b"a"), Some(b"c")])?,
-        vec![in alloc; (0, Some(0), 4)]?,
-    );
-    assert!(rt; is_each_told(&rt, &unread, &torrent, "01 40")?);
-    let asked = FailSource::new(files_of(alloc, &[])?, vec![in alloc; (1, None, 7)]?);
-    let wanted = "Read { file: 1, start: None, fault: 7 }";
-    assert!(rt; is_each_told(&rt, &asked, &torrent, wanted)?);
+    for row in &FAULTS {
+        assert!(rt; is_fault(&rt, row)?);
+    }
     Ok(())
+}
+
+/// Numbers of workers that are too few and too many.
+const OUTSIDE: [How; 3] = [How::Halves(0), How::Halves(65), How::Halves(u32::MAX)];
+
+/// Whether the workers are refused where the length of a file fails too.
+fn are_workers_refused<R: AllocGlobal + Threads + Sync>(rt: &R, how: How) -> Result<bool, Fail> {
+    let torrent = torrent_of(rt.alloc(), OF_BOTH)?;
+    let source = failing(rt.alloc(), &[], (0, None, 4))?;
+    Ok(told(rt, &source, &torrent, how)?.as_str() == "Workers")
 }
 
 #[test]
 fn judges_the_workers_first(rt: HostRuntime) -> Result<(), Fail> {
-    let alloc = rt.alloc();
-    let torrent = torrent_of(alloc, OF_BOTH)?;
-    let failing = FailSource::new(files_of(alloc, &[])?, vec![in alloc; (0, None, 4)]?);
-    for how in [How::Halves(0), How::Halves(65), How::Halves(u32::MAX)] {
-        assert_eq!(rt; told(&rt, &failing, &torrent, how)?.as_str(), "Workers");
+    for how in OUTSIDE {
+        assert!(rt; are_workers_refused(&rt, how)?);
     }
     Ok(())
 }
@@ -337,26 +381,30 @@ impl Source for Changing {
 }
 
 /// The file, what it is told to have when it is asked again, and what is told of the pieces.
-const CHANGES: [(u64, Option<u64>, &str); 4] = [
+type Change = (u64, Option<u64>, &'static str);
+
+const CHANGES: [Change; 4] = [
     (0, Some(3), "Changed { file: 0 }"),
     (1, Some(0), "Changed { file: 1 }"),
     (1, None, "Changed { file: 1 }"),
     (1, Some(1), "00 00"),
 ];
 
+fn is_change<R: AllocGlobal + Threads + Sync>(rt: &R, row: &Change) -> Result<bool, Fail> {
+    let (file, again, wanted) = *row;
+    let torrent = torrent_of(rt.alloc(), OF_BOTH)?;
+    let source = Changing {
+        file,
+        again,
+        asked: AtomicU64::new(0),
+    };
+    Ok(told(rt, &source, &torrent, How::Halves(2))?.as_str() == wanted)
+}
+
 #[test]
 fn tells_of_a_file_that_changes(rt: HostRuntime) -> Result<(), Fail> {
-    let torrent = torrent_of(rt.alloc(), OF_BOTH)?;
-    for (file, again, wanted) in CHANGES {
-        let source = Changing {
-            file,
-            again,
-            asked: AtomicU64::new(0),
-        };
-        assert_eq!(rt;
-            told(&rt, &source, &torrent, How::Halves(2))?.as_str(),
-            wanted
-        );
+    for row in &CHANGES {
+        assert!(rt; is_change(&rt, row)?);
     }
     Ok(())
 }

@@ -1,6 +1,6 @@
 //! What other makers may write, and what is told of it. The bytes are worked out from BEP 3, BEP 47 and BEP 52. Hashes
 //! are any bytes: no condition of these rows compares one.
-use crate::tests_told::{Row, first_wrong};
+use crate::telling::{Row, first_wrong};
 use std::test::Fail;
 
 // The files a of two bytes and b of one, in a tree.

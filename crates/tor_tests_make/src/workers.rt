@@ -1,8 +1,8 @@
 //! That as many workers hash as an order asks for.
 
-use crate::make;
-use crate::tests::path;
-use crate::tests_source::order;
+use tor_meta::make;
+use crate::contents::path;
+use crate::sources::order;
 use std::sync::atomic::AtomicU64;
 use std::sync::atomic::Ordering::SeqCst;
 use std::test::Fail;
