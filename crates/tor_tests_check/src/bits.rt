@@ -14,7 +14,7 @@ fn bits_of(alloc: Global, pieces: &str) -> Result<Bits, AllocError> {
 }
 
 /// The bitfield in hexadecimal.
-fn hex_of(alloc: Global, bits: &Bits) -> Result<String, AllocError> {
+pub(crate) fn hex_of(alloc: Global, bits: &Bits) -> Result<String, AllocError> {
     let mut text = String::new(alloc);
     for byte in bits.to_bytes(alloc)? {
         write!(text, "{byte:02x}")?;
@@ -76,9 +76,9 @@ fn packs_pieces_from_the_high_bit(rt: HostRuntime) -> Result<(), Fail> {
 #[test]
 fn reads_none_past_the_end(rt: HostRuntime) -> Result<(), Fail> {
     let bits = bits_of(rt.alloc(), "11111111")?;
-    for (index, wanted) in [(7, Some(true)), (8, None), (u64::MAX, None)] {
-        assert!(rt; bits.get(index) == wanted);
-    }
+    assert!(rt; bits.get(7) == Some(true));
+    assert!(rt; bits.get(8).is_none());
+    assert!(rt; bits.get(u64::MAX).is_none());
     Ok(())
 }
 
@@ -91,13 +91,18 @@ fn thirds(alloc: Global, count: u32) -> Result<Bits, AllocError> {
     Ok(bits)
 }
 
+/// Whether the bits are 200,000, of which each third one is set.
+fn are_thirds(bits: &Bits) -> bool {
+    bits.len() == 200_000
+        && bits.count_set() == 66_667
+        && bits.get(199_998) == Some(true)
+        && bits.get(199_999) == Some(false)
+}
+
 #[test]
 fn grows_past_its_capacity(rt: HostRuntime) -> Result<(), Fail> {
     let bits = thirds(rt.alloc(), 200_000)?;
-    assert!(rt; bits.len() == 200_000);
-    assert!(rt; bits.count_set() == 66_667);
+    assert!(rt; are_thirds(&bits));
     assert!(rt; bits.to_bytes(rt.alloc())?.len() == 25_000);
-    assert!(rt; bits.get(199_998) == Some(true));
-    assert!(rt; bits.get(199_999) == Some(false));
     Ok(())
 }

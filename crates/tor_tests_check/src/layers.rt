@@ -3,10 +3,10 @@ use crate::layered::{
     FILE_A, FILE_B, FIVE_BLOCKS, L0, L1, L2, LAYERS, ONE_PIECE, ROOT, THREE, THREE_PIECES,
     THREE_PIECES_TWICE, TWO, WITH_ITS_HASHES, ZERO,
 };
-use crate::telling::{Row, first_wrong, is_right, joined};
-use tor_check::{Torrent, validate};
+use crate::telling::{Row, are_right, is_right, joined};
 use std::alloc::{AllocError, Global};
 use std::test::Fail;
+use tor_check::{Torrent, validate};
 use tor_merkle::Hash;
 
 // The bytes and what is told of them, and the layer of each file longer than a piece.
@@ -73,22 +73,19 @@ fn is_layered(alloc: Global, row: &Layered) -> Result<bool, AllocError> {
     }
 }
 
-// The place of the first row that is wrong.
-pub(crate) fn first_wrong_layer(
-    alloc: Global,
-    rows: &[Layered],
-) -> Result<Option<usize>, AllocError> {
-    for (place, row) in rows.iter().enumerate() {
+// Whether just what stands there is told of each row, with these layers.
+pub(crate) fn are_layered(alloc: Global, rows: &[Layered]) -> Result<bool, AllocError> {
+    for row in rows {
         if !is_right(alloc, &row.0)? || !is_layered(alloc, row)? {
-            return Ok(Some(place));
+            return Ok(false);
         }
     }
-    Ok(None)
+    Ok(true)
 }
 
 #[test]
 fn tells_the_layer_of_a_file_longer_than_a_piece(rt: HostRuntime) -> Result<(), Fail> {
-    assert_eq!(rt; first_wrong_layer(rt.alloc(), LAYERED)?, None);
+    assert!(rt; are_layered(rt.alloc(), LAYERED)?);
     Ok(())
 }
 
@@ -150,6 +147,6 @@ const WRONG: &[Row] = &[
 
 #[test]
 fn tells_what_is_wrong_with_a_layer(rt: HostRuntime) -> Result<(), Fail> {
-    assert_eq!(rt; first_wrong(rt.alloc(), WRONG)?, None);
+    assert!(rt; are_right(rt.alloc(), WRONG)?);
     Ok(())
 }

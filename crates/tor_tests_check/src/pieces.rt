@@ -1,13 +1,13 @@
 //! Proofs of pieces, worked out from BEP 52, and why there is none.
-use crate::verdicts::{ABC_V2, FOLDER_HYBRID, FOLDER_V1};
 use crate::layered::{
     FIVE_BLOCKS, L0, L1, L2, LAST, LAST_OF_TWO_BLOCKS, ONE_PIECE, THREE_PIECES, THREE_PIECES_TWICE,
     TWO, WITH_ITS_HASHES, ZERO, ZEROS,
 };
 use crate::telling::{Parts, joined};
-use tor_check::{prove_piece, validate};
+use crate::verdicts::{ABC_V2, FOLDER_HYBRID, FOLDER_V1};
 use std::alloc::{AllocError, Global};
 use std::test::Fail;
+use tor_check::{Torrent, prove_piece, validate};
 use tor_merkle::Hash;
 
 // A file that is empty: a torrent of version 2, and what makes it a hybrid.
@@ -39,15 +39,25 @@ const REFUSED: &[Refused] = &[
     (&[EMPTY_HYBRID], 0, 1, "P2 NoTree"),
 ];
 
+// Whether this is told of why a piece of a torrent has no proof.
+fn is_told_why(
+    alloc: Global,
+    torrent: &Torrent,
+    place: (u64, u64),
+    wanted: &str,
+) -> Result<bool, AllocError> {
+    match prove_piece(alloc, torrent, place.0, place.1) {
+        Ok(_) => Ok(false),
+        Err(fault) => Ok(format!(in alloc; "{fault}")?.as_str() == wanted),
+    }
+}
+
 fn is_refused(alloc: Global, row: &Refused) -> Result<bool, AllocError> {
     let (parts, file, index, wanted) = row;
     let bytes = joined(alloc, parts)?;
-    let Ok(torrent) = validate(alloc, &bytes) else {
-        return Ok(false);
-    };
-    match prove_piece(alloc, &torrent, *file, *index) {
-        Ok(_) => Ok(false),
-        Err(fault) => Ok(format!(in alloc; "{fault}")?.as_str() == *wanted),
+    match validate(alloc, &bytes) {
+        Ok(torrent) => is_told_why(alloc, &torrent, (*file, *index), wanted),
+        Err(_) => Ok(false),
     }
 }
 
@@ -74,14 +84,14 @@ fn is_proved(alloc: Global, row: &Proved) -> Result<bool, AllocError> {
     }
 }
 
-// The place of the first row that has another proof.
-fn first_not_proved(alloc: Global, rows: &[Proved]) -> Result<Option<usize>, AllocError> {
-    for (place, row) in rows.iter().enumerate() {
+// Whether each row has this proof.
+fn are_proved(alloc: Global, rows: &[Proved]) -> Result<bool, AllocError> {
+    for row in rows {
         if !is_proved(alloc, row)? {
-            return Ok(Some(place));
+            return Ok(false);
         }
     }
-    Ok(None)
+    Ok(true)
 }
 
 // The SHA-256 of `abc`.
@@ -99,7 +109,7 @@ const OF_ONE_PIECE: &[Proved] = &[
 
 #[test]
 fn proves_the_root_of_a_file_of_one_piece(rt: HostRuntime) -> Result<(), Fail> {
-    assert_eq!(rt; first_not_proved(rt.alloc(), OF_ONE_PIECE)?, None);
+    assert!(rt; are_proved(rt.alloc(), OF_ONE_PIECE)?);
     Ok(())
 }
 
@@ -116,7 +126,7 @@ const OF_THREE: &[Proved] = &[
 
 #[test]
 fn proves_each_piece_of_three(rt: HostRuntime) -> Result<(), Fail> {
-    assert_eq!(rt; first_not_proved(rt.alloc(), OF_THREE)?, None);
+    assert!(rt; are_proved(rt.alloc(), OF_THREE)?);
     Ok(())
 }
 
@@ -128,10 +138,7 @@ const OF_A_FILE_AND_ITS_HASHES: &[Proved] = &[
 
 #[test]
 fn proves_a_file_and_the_file_of_its_hashes(rt: HostRuntime) -> Result<(), Fail> {
-    assert_eq!(rt;
-        first_not_proved(rt.alloc(), OF_A_FILE_AND_ITS_HASHES)?,
-        None
-    );
+    assert!(rt; are_proved(rt.alloc(), OF_A_FILE_AND_ITS_HASHES)?);
     Ok(())
 }
 
@@ -155,6 +162,6 @@ const OF_A_HYBRID: &[Proved] = &[
 
 #[test]
 fn proves_the_pieces_of_a_hybrid(rt: HostRuntime) -> Result<(), Fail> {
-    assert_eq!(rt; first_not_proved(rt.alloc(), OF_A_HYBRID)?, None);
+    assert!(rt; are_proved(rt.alloc(), OF_A_HYBRID)?);
     Ok(())
 }

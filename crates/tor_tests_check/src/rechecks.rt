@@ -1,7 +1,7 @@
 //! Torrents rechecked against files in memory. The hashes are of Python's hashlib.
 
+use crate::bits::hex_of;
 use std::alloc::{AllocError, Global};
-use std::fmt::Write;
 use std::sync::atomic::AtomicU64;
 use std::sync::atomic::Ordering::SeqCst;
 use std::test::Fail;
@@ -195,16 +195,11 @@ fn files_of(alloc: Global, files: &[Option<&[u8]>]) -> Result<MemSource, AllocEr
 fn text_of(alloc: Global, bits: &Bits) -> Result<String, AllocError> {
     let mut text = String::new(alloc);
     for index in 0..bits.len() {
-        text.push(if bits.get(index) == Some(true) {
-            '1'
-        } else {
-            '0'
-        })?;
+        let is_set = bits.get(index) == Some(true);
+        text.push(if is_set { '1' } else { '0' })?;
     }
     text.push(' ')?;
-    for byte in bits.to_bytes(alloc)? {
-        write!(text, "{byte:02x}")?;
-    }
+    text.push_str(&hex_of(alloc, bits)?)?;
     Ok(text)
 }
 
@@ -242,22 +237,11 @@ fn is_right<R: AllocGlobal + Threads + Sync>(rt: &R, row: &Row) -> Result<bool, 
     Ok(is_each_told(rt, &source, &torrent, row.2)?)
 }
 
-/// The place of the first row of which something else is told.
-fn first_wrong<R: AllocGlobal + Threads + Sync>(
-    rt: &R,
-    rows: &[Row],
-) -> Result<Option<usize>, Fail> {
-    for (place, row) in rows.iter().enumerate() {
-        if !is_right(rt, row)? {
-            return Ok(Some(place));
-        }
-    }
-    Ok(None)
-}
-
 #[test]
 fn tells_which_pieces_are_there_and_right(rt: HostRuntime) -> Result<(), Fail> {
-    assert_eq!(rt; first_wrong(&rt, ROWS)?, None);
+    for row in ROWS {
+        assert!(rt; is_right(&rt, row)?);
+    }
     Ok(())
 }
 
@@ -292,11 +276,7 @@ fn tells_of_a_file_of_several_blocks(rt: HostRuntime) -> Result<(), Fail> {
 /// A place that fails: a file, for its length or at a byte; and the number of the fault.
 type Place = (u64, Option<u64>, u64);
 
-fn failing(
-    alloc: Global,
-    files: &[Option<&[u8]>],
-    place: Place,
-) -> Result<FailSource, AllocError> {
+fn failing(alloc: Global, files: &[Option<&[u8]>], place: Place) -> Result<FailSource, AllocError> {
     let files = files_of(alloc, files)?;
     Ok(FailSource::new(files, vec![in alloc; place]?))
 }
@@ -314,11 +294,7 @@ const FAULTS: [Fault; 3] = [
     // The same where it is not, since the file has another length.
     (&[Some(b"a"), Some(b"c")], (0, Some(0), 4), "01 40"),
     // A length.
-    (
-        &[],
-        (1, None, 7),
-        "Read { file: 1, start: None, fault: 7 }",
-    ),
+    (&[], (1, None, 7), "Read { file: 1, start: None, fault: 7 }"),
 ];
 
 fn is_fault<R: AllocGlobal + Threads + Sync>(rt: &R, row: &Fault) -> Result<bool, Fail> {
@@ -335,14 +311,23 @@ fn tells_the_first_fault(rt: HostRuntime) -> Result<(), Fail> {
     Ok(())
 }
 
+/// What is told of the pieces of OF_BOTH, or why it is not.
+fn told_of_both<S: Source, R: AllocGlobal + Threads + Sync>(
+    rt: &R,
+    source: &S,
+    how: How,
+) -> Result<String, Fail> {
+    let torrent = torrent_of(rt.alloc(), OF_BOTH)?;
+    Ok(told(rt, source, &torrent, how)?)
+}
+
 /// Numbers of workers that are too few and too many.
 const OUTSIDE: [How; 3] = [How::Halves(0), How::Halves(65), How::Halves(u32::MAX)];
 
 /// Whether the workers are refused where the length of a file fails too.
 fn are_workers_refused<R: AllocGlobal + Threads + Sync>(rt: &R, how: How) -> Result<bool, Fail> {
-    let torrent = torrent_of(rt.alloc(), OF_BOTH)?;
     let source = failing(rt.alloc(), &[], (0, None, 4))?;
-    Ok(told(rt, &source, &torrent, how)?.as_str() == "Workers")
+    Ok(told_of_both(rt, &source, how)?.as_str() == "Workers")
 }
 
 #[test]
@@ -392,13 +377,12 @@ const CHANGES: [Change; 4] = [
 
 fn is_change<R: AllocGlobal + Threads + Sync>(rt: &R, row: &Change) -> Result<bool, Fail> {
     let (file, again, wanted) = *row;
-    let torrent = torrent_of(rt.alloc(), OF_BOTH)?;
     let source = Changing {
         file,
         again,
         asked: AtomicU64::new(0),
     };
-    Ok(told(rt, &source, &torrent, How::Halves(2))?.as_str() == wanted)
+    Ok(told_of_both(rt, &source, How::Halves(2))?.as_str() == wanted)
 }
 
 #[test]

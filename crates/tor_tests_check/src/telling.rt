@@ -1,7 +1,7 @@
 //! What the tests share: what is told of bytes, and tables of bytes with what is to be told of them.
-use tor_check::{Torrent, validate};
 use std::alloc::{AllocError, Global};
 use std::fmt::Write;
+use tor_check::{Torrent, ViewFile, validate};
 use tor_tree::FilePath;
 
 // The names of a path with slashes between.
@@ -15,18 +15,23 @@ fn push_path(line: &mut String, path: &FilePath) -> Result<(), AllocError> {
     Ok(())
 }
 
-// Each file as its path and length, `x` and `h` where it has these letters, and `+` for each hash of its layer.
+// `x` and `h` where a file has these letters, and `+` for each hash of its layer.
+fn push_letters(line: &mut String, view: &ViewFile) -> Result<(), AllocError> {
+    line.push_str(if view.file().exec { "x" } else { "" })?;
+    line.push_str(if view.file().hidden { "h" } else { "" })?;
+    for _ in view.layer() {
+        line.push_str("+")?;
+    }
+    Ok(())
+}
+
+// Each file as its path, its length and its letters.
 fn push_files(line: &mut String, torrent: &Torrent) -> Result<(), AllocError> {
     for view in torrent.files() {
-        let file = view.file();
-        push_path(line, &file.path)?;
-        let length = file.length;
+        push_path(line, &view.file().path)?;
+        let length = view.file().length;
         write!(line, " {length}")?;
-        line.push_str(if file.exec { "x" } else { "" })?;
-        line.push_str(if file.hidden { "h" } else { "" })?;
-        for _ in view.layer() {
-            line.push_str("+")?;
-        }
+        push_letters(line, view)?;
     }
     Ok(())
 }
@@ -42,22 +47,31 @@ fn push_entries(line: &mut String, torrent: &Torrent) -> Result<(), AllocError> 
     Ok(())
 }
 
-// What is told of a torrent: its kind, its name, its piece length, its number of pieces, its files and its entries; or
-// why the bytes are none.
-pub(crate) fn told(alloc: Global, bytes: &[u8]) -> Result<String, AllocError> {
-    let torrent = match validate(alloc, bytes) {
-        Ok(torrent) => torrent,
-        Err(refusal) => return format!(in alloc; "{refusal}"),
-    };
+// Its kind, its name, its piece length and its number of pieces.
+fn push_head(line: &mut String, torrent: &Torrent) -> Result<(), AllocError> {
     let kind = torrent.kind();
     let name = torrent.name().as_str();
     let (length, count) = (torrent.piece_length(), torrent.piece_count());
-    let mut line = format!(in alloc; "{kind:?} {name} {length} {count}:")?;
-    push_files(&mut line, &torrent)?;
+    write!(line, "{kind:?} {name} {length} {count}:")
+}
+
+// What is told of a torrent: its head, its files, its entries, and whether it is private.
+fn line_of(alloc: Global, torrent: &Torrent) -> Result<String, AllocError> {
+    let mut line = String::new(alloc);
+    push_head(&mut line, torrent)?;
+    push_files(&mut line, torrent)?;
     line.push_str(" |")?;
-    push_entries(&mut line, &torrent)?;
+    push_entries(&mut line, torrent)?;
     line.push_str(if torrent.is_private() { " private" } else { "" })?;
     Ok(line)
+}
+
+// What is told of the torrent that the bytes are, or why they are none.
+fn told(alloc: Global, bytes: &[u8]) -> Result<String, AllocError> {
+    match validate(alloc, bytes) {
+        Ok(torrent) => line_of(alloc, &torrent),
+        Err(refusal) => format!(in alloc; "{refusal}"),
+    }
 }
 
 // Bytes as parts, one after the other.
@@ -81,12 +95,12 @@ pub(crate) fn is_right(alloc: Global, row: &Row) -> Result<bool, AllocError> {
     Ok(line.as_str() == *wanted)
 }
 
-// The place of the first row of which something else is told.
-pub(crate) fn first_wrong(alloc: Global, rows: &[Row]) -> Result<Option<usize>, AllocError> {
-    for (place, row) in rows.iter().enumerate() {
+// Whether just what stands there is told of the bytes of each row.
+pub(crate) fn are_right(alloc: Global, rows: &[Row]) -> Result<bool, AllocError> {
+    for row in rows {
         if !is_right(alloc, row)? {
-            return Ok(Some(place));
+            return Ok(false);
         }
     }
-    Ok(None)
+    Ok(true)
 }

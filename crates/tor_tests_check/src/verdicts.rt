@@ -1,10 +1,11 @@
 //! Which bytes are torrents, and what they describe. The bytes are worked out from the standards; no condition of these
 //! rows but those of layers compares a hash.
 use crate::layered::{L0, L1, TWO};
-use crate::layers::{Layered, first_wrong_layer};
-use crate::telling::{Row, first_wrong};
-use tor_check::{Torrent, validate};
+use crate::layers::{Layered, are_layered};
+use crate::telling::{Row, are_right};
+use std::alloc::Global;
 use std::test::Fail;
+use tor_check::{Torrent, validate};
 
 // The files a = `ab` and b = `c` in the folder `f`, piece length 16,384: a torrent of version 1. The hash is the SHA-1
 // of `abc`.
@@ -83,7 +84,7 @@ const ROWS: &[Row] = &[
 
 #[test]
 fn tells_why_bytes_are_no_torrent(rt: HostRuntime) -> Result<(), Fail> {
-    assert_eq!(rt; first_wrong(rt.alloc(), ROWS)?, None);
+    assert!(rt; are_right(rt.alloc(), ROWS)?);
     Ok(())
 }
 
@@ -97,22 +98,32 @@ fn all_have_root(torrent: &Torrent, wanted: bool) -> bool {
     true
 }
 
-#[test]
-fn tells_what_a_torrent_of_version_1_describes(rt: HostRuntime) -> Result<(), Fail> {
-    let torrent = validate(rt.alloc(), FOLDER_V1).ok().ok_or("refused")?;
-    assert_eq!(rt; torrent.info_span(), (7, 128));
-    assert_eq!(rt; torrent.pieces().len(), 20);
-    assert!(rt; all_have_root(&torrent, false));
-    Ok(())
+// Whether bytes are a torrent whose `info` stands there, with so many bytes of SHA-1, its files with roots or without.
+fn is_described(
+    alloc: Global,
+    bytes: &[u8],
+    info: (usize, usize),
+    sums: usize,
+    has_roots: bool,
+) -> bool {
+    match validate(alloc, bytes) {
+        Ok(torrent) => {
+            torrent.info_span() == info
+                && torrent.pieces().len() == sums
+                && all_have_root(&torrent, has_roots)
+        }
+        Err(_) => false,
+    }
 }
 
 #[test]
-fn tells_what_a_torrent_of_version_2_describes(rt: HostRuntime) -> Result<(), Fail> {
-    let torrent = validate(rt.alloc(), ABC_V2).ok().ok_or("refused")?;
-    assert_eq!(rt; torrent.info_span(), (7, 140));
-    assert!(rt; torrent.pieces().is_empty());
-    assert!(rt; all_have_root(&torrent, true));
-    Ok(())
+fn tells_what_a_torrent_of_version_1_describes(rt: HostRuntime) {
+    assert!(rt; is_described(rt.alloc(), FOLDER_V1, (7, 128), 20, false));
+}
+
+#[test]
+fn tells_what_a_torrent_of_version_2_describes(rt: HostRuntime) {
+    assert!(rt; is_described(rt.alloc(), ABC_V2, (7, 140), 0, true));
 }
 
 // The files a = `ab` and b = `c` in the folder `f`, piece length 16,384: a hybrid. Roots and hashes are any bytes.
@@ -146,7 +157,7 @@ const SIDES: &[Row] = &[
 
 #[test]
 fn compares_the_sides_of_a_hybrid(rt: HostRuntime) -> Result<(), Fail> {
-    assert_eq!(rt; first_wrong(rt.alloc(), SIDES)?, None);
+    assert!(rt; are_right(rt.alloc(), SIDES)?);
     Ok(())
 }
 
@@ -181,7 +192,7 @@ const OF_ANOTHER: &[Row] = &[
 
 #[test]
 fn compares_a_layer_with_its_root(rt: HostRuntime) -> Result<(), Fail> {
-    assert_eq!(rt; first_wrong_layer(rt.alloc(), OF_ITS_ROOT)?, None);
-    assert_eq!(rt; first_wrong(rt.alloc(), OF_ANOTHER)?, None);
+    assert!(rt; are_layered(rt.alloc(), OF_ITS_ROOT)?);
+    assert!(rt; are_right(rt.alloc(), OF_ANOTHER)?);
     Ok(())
 }

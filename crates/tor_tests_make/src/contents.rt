@@ -1,12 +1,11 @@
 //! Torrents whose bytes were worked out by hand from BEP 3, BEP 47 and BEP 52; each hash in hexadecimal is of Python's
 //! hashlib.
 
-use tor_meta::{Hashes, Head, magnet, make_contents, write_out};
 use std::alloc::{AllocError, Global};
 use std::io::{self, Error, ErrorKind, Write};
-use std::process::Abort;
 use std::test::Fail;
 use tor_merkle::{Hash, leaf, pair, zero};
+use tor_meta::{Hashes, Head, magnet, make_contents, write_out};
 use tor_tree::{FilePath, Kind, Name};
 
 /// The torrent of the content `abc` under the name `a`, piece length 16,384. The hash is the SHA-256 of `abc`.
@@ -78,6 +77,11 @@ pub(crate) fn path(alloc: Global, text: &str) -> Result<FilePath, Fail> {
     Ok(FilePath::new(names).ok_or("no name")?)
 }
 
+/// The path of such a text, alone.
+pub(crate) fn only_path(alloc: Global, text: &str) -> Result<Vec<FilePath>, Fail> {
+    Ok(vec![in alloc; path(alloc, text)?]?)
+}
+
 pub(crate) fn files(
     alloc: Global,
     told: &[(&str, &[u8])],
@@ -98,10 +102,10 @@ pub(crate) fn joined(alloc: Global, parts: &[&[u8]]) -> Result<Vec<u8>, AllocErr
     Ok(bytes)
 }
 
-/// The torrent of one content under the name `a`.
-fn single(alloc: Global, kind: Kind, content: &[u8]) -> Result<Vec<u8>, Fail> {
-    let head = head(alloc, kind, b"a", true, 16384)?;
-    Ok(make_contents(alloc, files(alloc, &[("a", content)])?, &head)?)
+/// The torrent of one content under a name.
+fn single(alloc: Global, kind: Kind, name: &str, content: &[u8]) -> Result<Vec<u8>, Fail> {
+    let head = head(alloc, kind, name.as_bytes(), true, 16384)?;
+    Ok(make_contents(alloc, files(alloc, &[(name, content)])?, &head)?)
 }
 
 /// The torrent of files in the folder `f`.
@@ -122,7 +126,7 @@ const OF_ONE_FILE: [OneFile; 4] = [
 
 fn is_made(alloc: Global, row: &OneFile) -> Result<bool, Fail> {
     let (kind, content, torrent, length) = *row;
-    Ok(torrent.len() == length && single(alloc, kind, content)?.as_slice() == torrent)
+    Ok(torrent.len() == length && single(alloc, kind, "a", content)?.as_slice() == torrent)
 }
 
 #[test]
@@ -133,18 +137,28 @@ fn makes_torrents_of_one_file(rt: HostRuntime) -> Result<(), Fail> {
     Ok(())
 }
 
-/// The torrent of `abc` under the name `a` with a tracker, and private.
+/// The head under the name `a` with a tracker, and private.
+fn tracked_head(alloc: Global) -> Result<Head, Fail> {
+    Ok(Head {
+        kind: Kind::V2,
+        single: true,
+        name: Name::new(alloc, b"a")?,
+        piece_length: 16384,
+        announce: Some(Vec::from_slice(alloc, b"http://t/")?),
+        is_private: true,
+    })
+}
+
+/// The torrent of `abc` with it.
 fn tracked(alloc: Global) -> Result<Vec<u8>, Fail> {
-    let mut head = head(alloc, Kind::V2, b"a", true, 16384)?;
-    head.announce = Some(Vec::from_slice(alloc, b"http://t/")?);
-    head.is_private = true;
+    let head = tracked_head(alloc)?;
     Ok(make_contents(alloc, files(alloc, &[("a", b"abc")])?, &head)?)
 }
 
 #[test]
 fn writes_tracker_and_private(rt: HostRuntime) -> Result<(), Fail> {
-    assert_eq!(rt; TRACKED.len(), 191);
-    assert_eq!(rt; tracked(rt.alloc())?.as_slice(), TRACKED);
+    assert!(rt; TRACKED.len() == 191);
+    assert!(rt; tracked(rt.alloc())?.as_slice() == TRACKED);
     Ok(())
 }
 
@@ -288,10 +302,8 @@ fn takes_reserved_names_where_there_is_no_padding(rt: HostRuntime) -> Result<(),
 
 #[test]
 fn takes_a_reserved_name_of_one_file(rt: HostRuntime) -> Result<(), Fail> {
-    let alloc = rt.alloc();
-    let head = head(alloc, Kind::Hybrid, b".pad", true, 16384)?;
-    let files = files(alloc, &[(".pad", b"x")])?;
-    assert!(rt; make_contents(alloc, files, &head).is_ok());
+    let torrent = single(rt.alloc(), Kind::Hybrid, ".pad", b"x")?;
+    assert!(rt; torrent.starts_with(b"d4:infod"));
     Ok(())
 }
 
@@ -349,13 +361,15 @@ a/a/a/a/a/a/a/a/a/a/a/a/a/a/a/a/a/a/a/a/a/a/a/a/a/a/a/a/a/a/a/a/a";
 
 #[test]
 fn refuses_long_paths_before_their_shape(rt: HostRuntime) -> Result<(), Fail> {
-    assert_eq!(rt; DEEP.split('/').count(), 65);
+    assert!(rt; DEEP.split('/').count() == 65);
     assert!(rt; is_refused(rt.alloc(), &(Kind::V2, true, 16384, DEEP, "M4 Path"))?);
     Ok(())
 }
 
 /// Hashes, and the link to a torrent that has them.
-const LINKS: [(Option<[u8; 20]>, Option<[u8; 32]>, &str); 3] = [
+type Link = (Option<[u8; 20]>, Option<[u8; 32]>, &'static str);
+
+const LINKS: [Link; 3] = [
     (
         Some([0xab; 20]),
         None,
@@ -374,10 +388,15 @@ const LINKS: [(Option<[u8; 20]>, Option<[u8; 32]>, &str); 3] = [
     ),
 ];
 
+fn is_link(alloc: Global, row: &Link) -> Result<bool, AllocError> {
+    let (v1, v2, link) = *row;
+    Ok(magnet(alloc, &Hashes { v1, v2 })?.as_str() == link)
+}
+
 #[test]
 fn links_to_a_torrent(rt: HostRuntime) -> Result<(), Fail> {
-    for (v1, v2, link) in LINKS {
-        assert_eq!(rt; magnet(rt.alloc(), &Hashes { v1, v2 })?.as_str(), link);
+    for row in &LINKS {
+        assert!(rt; is_link(rt.alloc(), row)?);
     }
     Ok(())
 }

@@ -1,9 +1,9 @@
 //! Readers that give all, few bytes a read, or a fault, and what comes of them.
-use tor_input::{FromFault, InputFault, drop_input, make_from, read_limited};
 use std::alloc::Global;
 use std::io::{Error, ErrorKind, Read, Result};
 use std::test::Fail;
 use tor_engine::How;
+use tor_input::{FromFault, InputFault, drop_input, make_from, read_limited};
 use tor_meta::{MakeError, Order};
 use tor_tree::{Kind, Name};
 
@@ -83,31 +83,40 @@ fn drops_all_that_its_reader_has(rt: HostRuntime) {
     assert!(rt; reader.is_empty());
 }
 
+// Whether the torrent of `abc` is made of a reader that gives at most `step` bytes a read.
+fn is_made_in_steps(alloc: Global, order: &Order, step: usize) -> bool {
+    let mut reader = Steps {
+        bytes: b"abc",
+        step,
+    };
+    let mut torrent = Vec::new(alloc);
+    make_from(alloc, &mut reader, &mut torrent, order).is_ok()
+        && torrent.as_slice() == ABC.as_slice()
+}
+
 #[test]
 fn makes_one_torrent_however_much_a_read_gives(rt: HostRuntime) -> std::result::Result<(), Fail> {
     let order = order(rt.alloc(), 16384)?;
     for step in [1, 2, 3, 7] {
-        let mut reader = Steps {
-            bytes: b"abc",
-            step,
-        };
-        let mut torrent = Vec::new(rt.alloc());
-        let made = make_from(rt.alloc(), &mut reader, &mut torrent, &order);
-        assert!(rt;
-            made.is_ok() && torrent.as_slice() == ABC.as_slice(),
-            "{step} a read"
-        );
+        assert!(rt; is_made_in_steps(rt.alloc(), &order, step));
     }
     Ok(())
+}
+
+// Whether the piece length is refused once all was read, and nothing is written.
+fn is_refused_at_the_end(alloc: Global, order: &Order) -> bool {
+    let mut reader: &[u8] = b"abc";
+    let mut torrent = Vec::new(alloc);
+    let is_told = match make_from(alloc, &mut reader, &mut torrent, order) {
+        Err(fault) => matches!(fault, FromFault::Make(MakeError::PieceLength)),
+        Ok(_) => false,
+    };
+    is_told && reader.is_empty() && torrent.is_empty()
 }
 
 #[test]
 fn reads_all_before_it_refuses(rt: HostRuntime) -> std::result::Result<(), Fail> {
     let order = order(rt.alloc(), 5)?;
-    let mut reader: &[u8] = b"abc";
-    let mut torrent = Vec::new(rt.alloc());
-    let fault = make_from(rt.alloc(), &mut reader, &mut torrent, &order).err();
-    assert!(rt; matches!(&fault, Some(FromFault::Make(MakeError::PieceLength))));
-    assert!(rt; reader.is_empty() && torrent.is_empty());
+    assert!(rt; is_refused_at_the_end(rt.alloc(), &order));
     Ok(())
 }

@@ -1,9 +1,10 @@
 //! Torrents of a long name and of many files, and info hashes; each hash in hexadecimal is of Python's hashlib.
 
 use crate::contents::{files, head, joined};
-use tor_meta::{Hashes, info_hashes, make_contents};
 use std::alloc::{AllocError, Global};
+use std::fmt::Write;
 use std::test::Fail;
+use tor_meta::{Hashes, info_hashes, make_contents};
 use tor_tree::{FilePath, Kind, Name};
 
 /// The SHA-256 of `info` in the torrent of version 2 of `abc` under the name `a`, piece length 16,384.
@@ -50,29 +51,35 @@ fn torrent_of_long_name(alloc: Global, name: &[u8]) -> Result<Vec<u8>, AllocErro
     joined(alloc, &parts)
 }
 
+/// What is made of no content under a name.
+fn made_under(alloc: Global, name: &[u8]) -> Result<Vec<u8>, Fail> {
+    let head = head(alloc, Kind::V2, name, true, 16384)?;
+    let files = vec![in alloc; (at_top(alloc, name)?, Vec::new(alloc))]?;
+    Ok(make_contents(alloc, files, &head)?)
+}
+
+fn is_made_under(alloc: Global, name: &[u8]) -> Result<bool, Fail> {
+    Ok(made_under(alloc, name)? == torrent_of_long_name(alloc, name)?)
+}
+
 #[test]
 fn makes_a_torrent_of_a_long_name(rt: HostRuntime) -> Result<(), Fail> {
-    let alloc = rt.alloc();
-    let name = repeated(alloc, b'n', 255)?;
-    let expected = torrent_of_long_name(alloc, &name)?;
-    let files = vec![in alloc; (at_top(alloc, &name)?, Vec::new(alloc))]?;
-    let head = head(alloc, Kind::V2, &name, true, 16384)?;
-    assert!(rt; make_contents(alloc, files, &head)? == expected);
+    let name = repeated(rt.alloc(), b'n', 255)?;
+    assert!(rt; is_made_under(rt.alloc(), &name)?);
     Ok(())
 }
 
-/// A file of one byte 7, which has a number as its name.
-fn numbered(alloc: Global, n: u64) -> Result<(FilePath, Vec<u8>), Fail> {
+/// The path whose one name is a number.
+fn numbered(alloc: Global, n: u64) -> Result<FilePath, Fail> {
     let name = format!(in alloc; "{n}")?;
-    let path = at_top(alloc, name.as_bytes())?;
-    Ok((path, repeated(alloc, 7, 1)?))
+    at_top(alloc, name.as_bytes())
 }
 
-/// A thousand such files, which have the names 1000 to 1999, from the last one on.
+/// A thousand files of one byte 7, which have the names 1000 to 1999, from the last one on.
 fn thousand_files(alloc: Global) -> Result<Vec<(FilePath, Vec<u8>)>, Fail> {
     let mut files = Vec::new(alloc);
     for n in (1000..2000).rev() {
-        files.push(numbered(alloc, n)?)?;
+        files.push((numbered(alloc, n)?, repeated(alloc, 7, 1)?))?;
     }
     Ok(files)
 }
@@ -81,7 +88,7 @@ fn thousand_files(alloc: Global) -> Result<Vec<(FilePath, Vec<u8>)>, Fail> {
 fn thousand_entries(alloc: Global) -> Result<String, AllocError> {
     let mut entries = String::new(alloc);
     for n in 1000..2000 {
-        entries.push_str(&format!(in alloc; "d6:lengthi1e4:pathl4:{n}ee")?)?;
+        write!(entries, "d6:lengthi1e4:pathl4:{n}ee")?;
     }
     Ok(entries)
 }
@@ -99,12 +106,15 @@ fn torrent_of_thousand(alloc: Global) -> Result<Vec<u8>, AllocError> {
     joined(alloc, &parts)
 }
 
+/// What is made of them.
+fn made_of_thousand(alloc: Global) -> Result<Vec<u8>, Fail> {
+    let head = head(alloc, Kind::V1, b"f", false, 16384)?;
+    Ok(make_contents(alloc, thousand_files(alloc)?, &head)?)
+}
+
 #[test]
 fn makes_a_torrent_of_a_thousand_files(rt: HostRuntime) -> Result<(), Fail> {
-    let alloc = rt.alloc();
-    let expected = torrent_of_thousand(alloc)?;
-    let head = head(alloc, Kind::V1, b"f", false, 16384)?;
-    assert!(rt; make_contents(alloc, thousand_files(alloc)?, &head)? == expected);
+    assert!(rt; made_of_thousand(rt.alloc())? == torrent_of_thousand(rt.alloc())?);
     Ok(())
 }
 

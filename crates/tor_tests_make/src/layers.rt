@@ -1,13 +1,14 @@
 //! Torrents of the files of a source whose lists, roots and layers were worked out by hand from BEP 3 and BEP 52; the
 //! hash in hexadecimal is of Python's hashlib.
 
-use crate::contents::{joined, path};
+use crate::contents::{joined, only_path, path};
 use crate::sources::{files_in_steps, is_made, order};
 use std::alloc::{AllocError, Global};
 use std::test::Fail;
 use std::thread::Threads;
 use tor_engine::How;
 use tor_merkle::{Hash, leaf, pair, zero};
+use tor_meta::Order;
 use tor_source::MemSource;
 use tor_tree::Kind;
 
@@ -140,6 +141,15 @@ fn source_of_one(alloc: Global, length: usize) -> Result<MemSource, AllocError> 
     Ok(MemSource::new(files))
 }
 
+/// An order for it, with so many pieces a unit.
+fn order_of_a(alloc: Global, row: &OfA, span: u32) -> Result<Order, Fail> {
+    let (_, piece_length, _, _) = *row;
+    let mut order = order(alloc, Kind::V2, "a", true, How::One)?;
+    order.piece_length = piece_length;
+    order.span = span;
+    Ok(order)
+}
+
 /// Whether the torrent is made of it, each way to share the units, with so many pieces a unit.
 fn is_made_of_a<R: AllocGlobal + Threads + Sync>(
     rt: &R,
@@ -147,12 +157,9 @@ fn is_made_of_a<R: AllocGlobal + Threads + Sync>(
     span: u32,
     torrent: &[u8],
 ) -> Result<bool, Fail> {
-    let (length, piece_length, _, _) = *row;
-    let mut order = order(rt.alloc(), Kind::V2, "a", true, How::One)?;
-    order.piece_length = piece_length;
-    order.span = span;
-    let paths = vec![in rt.alloc(); path(rt.alloc(), "a")?]?;
-    let source = source_of_one(rt.alloc(), length)?;
+    let mut order = order_of_a(rt.alloc(), row, span)?;
+    let paths = only_path(rt.alloc(), "a")?;
+    let source = source_of_one(rt.alloc(), row.0)?;
     Ok(is_made(rt, &source, &paths, &mut order, torrent))
 }
 
