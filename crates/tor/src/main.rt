@@ -1,5 +1,5 @@
-//! The program `tor`: it hands the words of the command line and the real streams to `tor_cli`, and ends with the status
-//! that comes back.
+//! The program `tor`: it hands the words of the command line and the real streams to `tor_cli`, and ends with the
+//! status that comes back.
 #![tactic(auto)]
 
 ghost use Rattle.std.specs.Prelude.{◌≡◌, ◌≢◌, ◌≤◌, IfOk, map, string_bytes};
