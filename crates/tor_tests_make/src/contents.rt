@@ -367,9 +367,7 @@ fn refuses_long_paths_before_their_shape(rt: HostRuntime) -> Result<(), Fail> {
 }
 
 /// Hashes, and the link to a torrent that has them.
-type Link = (Option<[u8; 20]>, Option<[u8; 32]>, &'static str);
-
-const LINKS: [Link; 3] = [
+const LINKS: [(Option<[u8; 20]>, Option<[u8; 32]>, &str); 3] = [
     (
         Some([0xab; 20]),
         None,
@@ -388,15 +386,10 @@ const LINKS: [Link; 3] = [
     ),
 ];
 
-fn is_link(alloc: Global, row: &Link) -> Result<bool, AllocError> {
-    let (v1, v2, link) = *row;
-    Ok(magnet(alloc, &Hashes { v1, v2 })?.as_str() == link)
-}
-
 #[test]
 fn links_to_a_torrent(rt: HostRuntime) -> Result<(), Fail> {
-    for row in &LINKS {
-        assert!(rt; is_link(rt.alloc(), row)?);
+    for (v1, v2, link) in LINKS {
+        assert!(rt; magnet(rt.alloc(), &Hashes { v1, v2 })?.as_str() == link);
     }
     Ok(())
 }
