@@ -1,0 +1,360 @@
+"""What a body that is made for small inputs would refuse, or count wrong. Large files are sparse: zeros, but for a few
+bytes, so that their hashes are known without hashing all of them."""
+import hashlib
+import os
+import random
+
+import reference
+from foreign import wanted_lines
+from reference import BLOCK, Order, encode, judge, make, parents, root_of, sha1, sha256
+from support import Skipped, done, expect, expect_equal, refused
+
+ZERO_LEAF = sha256(bytes(BLOCK))
+ZERO_PIECE = sha1(bytes(BLOCK))
+GIB = 1 << 30
+
+
+def order(kind, single, piece_length=BLOCK, name=b'f'):
+    return Order(kind, single, name, piece_length, None, False, 'one', 1, 16)
+
+
+def sparse(place, length, marks=()):
+    """A file of zeros with bytes at some places."""
+    try:
+        with open(place, 'wb') as file:
+            for at, data in marks:
+                file.seek(at)
+                file.write(data)
+            file.truncate(length)
+    except OSError as error:
+        raise Skipped(f'no file of {length} bytes: {error}') from None
+    return str(place)
+
+
+def blocks_of(length, marks, zero, hashed):
+    """The hash of each block of such a file, only the marked ones of which are hashed."""
+    hashes = [zero] * (length // BLOCK) + ([hashed(bytes(length % BLOCK))] if length % BLOCK else [])
+    for number in {place // BLOCK for at, data in marks for place in range(at, at + len(data))}:
+        block = bytearray(min(BLOCK, length - number * BLOCK))
+        for at, data in marks:
+            for i, byte in enumerate(data):
+                if (at + i) // BLOCK == number:
+                    block[at + i - number * BLOCK] = byte
+        hashes[number] = hashed(bytes(block))
+    return hashes
+
+
+# Bytes on both sides of each place where 32 bits end, other ones at the places that these would be taken for.
+LENGTH = 4 * GIB + 40000
+MARKS = [(5, b'low'), (2 * GIB - 2, b'half'), (3 * GIB, b'three'), (4 * GIB - 3, b'beyond'), (4 * GIB + 20000, b'high'),
+         (LENGTH - 1, b'z')]
+
+
+def v2_of(length, hashes, piece_length):
+    """The v2 torrent of one such file, and its layer."""
+    layer, level = hashes, 0
+    while BLOCK << level < piece_length:
+        layer, level = parents(layer, level), level + 1
+    root = root_of(layer, level)
+    info = {b'file tree': {b'f': {b'': {b'length': length, b'pieces root': root}}}, b'meta version': 2, b'name': b'f',
+            b'piece length': piece_length}
+    return encode({b'info': info, b'piece layers': {root: b''.join(layer)}}), layer, root
+
+
+def test_v2_over_4_gib(program, folder):
+    """Made and rechecked in pieces of 1 MiB: 4,097 of them, the last beyond 32 bits."""
+    path = sparse(folder / 'f', LENGTH, MARKS)
+    text, _, _ = v2_of(LENGTH, blocks_of(LENGTH, MARKS, ZERO_LEAF, sha256), 1 << 20)
+    words = ['make', '--name', 'f', '--piece-length', str(1 << 20), '--how', 'halves', '--workers', '2']
+    torrent = folder / 'torrent'
+    expect(program, [*words, '--out', str(torrent), path], done())
+    expect_equal('the torrent', True, torrent.read_bytes() == text)
+    # The byte past 32 bits is turned: its piece alone is wrong.
+    sparse(folder / 'f', LENGTH, MARKS[:4] + [(4 * GIB + 20000, b'hiGh'), MARKS[5]])
+    expect(program, ['recheck', str(torrent), path], done(b'pieces 4096 of 4097\nbits ' + b'ff' * 512 + b'00\n', 1))
+
+
+def test_v1_over_4_gib(program, folder):
+    """A folder whose first file ends beyond 32 bits, in 262,147 pieces and as many units."""
+    place = folder / 'files'
+    place.mkdir()
+    sparse(place / 'a', LENGTH, MARKS)
+    (place / 'b').write_bytes(b'after it')
+    whole = blocks_of(LENGTH + 8, MARKS + [(LENGTH, b'after it')], ZERO_PIECE, sha1)
+    info = {b'files': [{b'length': LENGTH, b'path': [b'a']}, {b'length': 8, b'path': [b'b']}], b'name': b'f',
+            b'piece length': BLOCK, b'pieces': b''.join(whole)}
+    torrent = folder / 'torrent'
+    words = ['make', '--name', 'f', '--kind', 'v1', '--piece-length', str(BLOCK), '--span', '1', '--how', 'halves',
+             '--workers', '2', '--out', str(torrent), str(place)]
+    expect(program, words, done())
+    expect_equal('the torrent', True, torrent.read_bytes() == encode({b'info': info}))
+    expect(program, ['check', str(torrent)], wanted_lines(torrent.read_bytes()))
+
+
+def test_recheck_past_262144_pieces(program, folder):
+    """Padding of 2^32 bytes, whose piece of zeros is hashed once, and a file behind it."""
+    content = random.Random(8).randbytes(5 * BLOCK + 77)
+    pieces = [ZERO_PIECE] * (4 * GIB // BLOCK) + [sha1(content[at:at + BLOCK]) for at in range(0, len(content), BLOCK)]
+    info = {b'files': [{b'attr': b'p', b'length': 4 * GIB}, {b'length': len(content), b'path': [b'a']}], b'name': b'f',
+            b'piece length': BLOCK, b'pieces': b''.join(pieces)}
+    torrent = folder / 'torrent'
+    torrent.write_bytes(encode({b'info': info}))
+    place = folder / 'files'
+    place.mkdir()
+    for turned in [None, 0, 3, 5]:
+        changed = bytearray(content)
+        if turned is not None:
+            changed[turned * BLOCK] ^= 1
+        (place / 'a').write_bytes(changed)
+        marks = [True] * (4 * GIB // BLOCK) + [i != turned for i in range(6)]
+        wanted = done(reference.recheck_lines(marks), 0 if turned is None else 1)
+        expect(program, ['recheck', str(torrent), str(place)], wanted)
+
+
+def test_layer_of_65537_hashes(program, folder):
+    """Made, judged, proved and verified: 17 siblings a piece."""
+    length, marks = GIB + 1, [(77, b'x'), (GIB, b'y')]
+    path = sparse(folder / 'f', length, marks)
+    text, layer, root = v2_of(length, blocks_of(length, marks, ZERO_LEAF, sha256), BLOCK)
+    torrent, proof = folder / 'torrent', folder / 'proof'
+    words = ['make', '--name', 'f', '--piece-length', str(BLOCK)]
+    expect(program, [*words, '--out', str(torrent), path], done())
+    expect_equal('the torrent', True, torrent.read_bytes() == text)
+    expect(program, ['check', str(torrent)], wanted_lines(text))
+    expect(program, ['magnet', str(torrent)], wanted_lines(text, 'magnet'))
+    view = judge(text)
+    for index in [0, 1, 511, 32768, 65535, 65536]:
+        wanted = reference.prove(view, 0, index)
+        expect_equal('siblings', 17, wanted.count(b'sibling'))
+        expect(program, ['prove', str(torrent), '0', str(index)], done(wanted))
+        proof.write_bytes(wanted)
+        expect(program, ['verify', root.hex(), str(length), str(BLOCK), str(proof)], done(b'yes\n'))
+        proof.write_bytes(wanted.replace(layer[index].hex().encode(), layer[5].hex().encode()[::-1], 1))
+        expect(program, ['verify', root.hex(), str(length), str(BLOCK), str(proof)], done(b'no\n', 1))
+    expect(program, ['prove', str(torrent), '0', '65537'], refused('P1 Index'))
+    changed = bytearray(text)
+    changed[-20] ^= 1
+    torrent.write_bytes(changed)
+    expect(program, ['check', str(torrent)], refused('V21 LayerRoot'))
+
+
+def test_pieces_of_1_gib(program, folder):
+    """The longest pieces of version 2: two of them, of which the second is a byte."""
+    length, marks = GIB + 1, [(GIB - 1, b'xy')]
+    path = sparse(folder / 'f', length, marks)
+    text, _, _ = v2_of(length, blocks_of(length, marks, ZERO_LEAF, sha256), GIB)
+    torrent = folder / 'torrent'
+    torrent.write_bytes(text)
+    expect(program, ['make', '--name', 'f', '--piece-length', str(GIB), path], done(text))
+    expect(program, ['recheck', str(torrent), path], done(b'pieces 2 of 2\nbits c0\n'))
+    os.truncate(path, GIB)
+    expect(program, ['recheck', str(torrent), path], done(b'pieces 1 of 2\nbits 80\n', 1))
+
+
+def crowd(count):
+    """Paths of so many files in a few folders, some under names of 255 bytes."""
+    paths = [(b'%06d' % i,) if i % 7 else (b'%06d' % i + b'n' * 249,) for i in range(count - 100)]
+    long = 'é'.encode() * 127 + b'x'
+    return sorted(paths + [(long, b'%03d' % i + b'm' * 252) for i in range(100)])
+
+
+def test_folder_of_70000_names(program, folder):
+    """A listing of over 65,536 names, most of empty files; made, rechecked and judged."""
+    paths = crowd(70_000)
+    place = folder / 'files'
+    files = []
+    for i, path in enumerate(paths):
+        content = b'%d' % i if i % 1000 == 0 else b''
+        files.append((path, content))
+    (place / os.fsdecode(paths[-1][0])).mkdir(parents=True)
+    for path, content in files:
+        with open(os.path.join(os.fsencode(place), *path), 'wb') as file:
+            file.write(content)
+    torrent = folder / 'torrent'
+    words = ['make', '--name', 'f', '--kind', 'hybrid', '--piece-length', str(BLOCK), '--how', 'halves',
+             '--workers', '2']
+    wanted = make(files, order('hybrid', False))
+    expect(program, [*words, '--out', str(torrent), str(place)], done())
+    expect_equal('the torrent', True, torrent.read_bytes() == wanted)
+    lines = reference.recheck_lines([True] * 70)
+    expect(program, ['recheck', str(torrent), str(place)], done(lines))
+    expect(program, ['check', str(torrent)], wanted_lines(wanted))
+
+
+def test_folder_of_12000_files(program, folder):
+    """Each has bytes of its own: 12,000 planned files, and as many units."""
+    rng = random.Random(5)
+    files = [((b'%d' % (i // 100), b'%d' % (i % 100)), rng.randbytes(rng.randint(1, 40))) for i in range(12_000)]
+    place = folder / 'files'
+    for i in range(120):
+        (place / str(i)).mkdir(parents=True)
+    for (above, name), content in files:
+        (place / above.decode() / name.decode()).write_bytes(content)
+    torrent = folder / 'torrent'
+    for kind in ['v2', 'hybrid']:
+        wanted = make(files, order(kind, False))
+        words = ['make', '--name', 'f', '--kind', kind, '--piece-length', str(BLOCK), '--out', str(torrent), str(place)]
+        expect(program, words, done())
+        expect_equal(f'the {kind} torrent', True, torrent.read_bytes() == wanted)
+    lines = reference.recheck_lines([True] * 12_000)
+    expect(program, ['recheck', str(torrent), str(place)], done(lines))
+    (place / '7' / '7').unlink()
+    view = reference.view_files(judge(wanted))
+    marks = [file.path != (b'7', b'7') for file in view]
+    expect(program, ['recheck', str(torrent), str(place)], done(reference.recheck_lines(marks), 1))
+
+
+def test_foreign_torrents_of_110000_entries(program, folder):
+    """Some MiB of entries, of padding and files; and as many in a file tree."""
+    entries = [{b'length': i % 3, b'path': [b'%d' % (i % 400), b'%06d' % i]} for i in range(110_000)]
+    entries += [{b'attr': b'p', b'length': 1} for _ in range(1000)]
+    total = sum(entry[b'length'] for entry in entries)
+    v1 = encode({b'info': {b'files': entries, b'name': b'f', b'piece length': 100,
+                           b'pieces': bytes(20 * -(-total // 100))}})
+    tree = {b'%d' % i: {b'%03d' % j: {b'': {b'length': 0}} for j in range(400)} for i in range(275)}
+    v2 = encode({b'info': {b'file tree': tree, b'meta version': 2, b'name': b'f', b'piece length': BLOCK}})
+    torrent = folder / 'torrent'
+    pieces = -(-total // 100)
+    for text, wanted in [(v1, done(reference.recheck_lines([False] * pieces), 1)),
+                         (v2, done(b'pieces 0 of 0\nbits \n'))]:
+        torrent.write_bytes(text)
+        view = judge(text)
+        expect(program, ['check', str(torrent)], done(reference.check_block(view)))
+        expect(program, ['magnet', str(torrent)], done(reference.magnet(view)))
+        expect(program, ['recheck', str(torrent), str(folder / 'absent')], wanted)
+    expect(program, ['prove', str(torrent), '109999', '0'], refused('P2 NoTree'))
+    expect(program, ['prove', str(torrent), '110000', '0'], refused('P1 Index'))
+
+
+def test_64_names_of_a_path(program, folder):
+    """The deepest path that is made, with names of 60 bytes; of each kind, and rechecked."""
+    path = tuple(b'%02d' % i + b'd' * 58 for i in range(64))
+    place = folder / 'files'
+    deep = os.path.join(os.fsencode(place), *path[:-1])
+    os.makedirs(deep)
+    with open(os.path.join(deep, path[-1]), 'wb') as file:
+        file.write(b'deep')
+    (place / 'z').write_bytes(b'z')
+    files = [(path, b'deep'), ((b'z',), b'z')]
+    torrent = folder / 'torrent'
+    for kind in ['v1', 'v2', 'hybrid']:
+        wanted = make(files, order(kind, False))
+        expect(program, ['make', '--name', 'f', '--kind', kind, '--piece-length', str(BLOCK), str(place)], done(wanted))
+        torrent.write_bytes(wanted)
+        expect(program, ['check', str(torrent)], wanted_lines(wanted))
+        told = b'pieces 1 of 1\nbits 80\n' if kind == 'v1' else b'pieces 2 of 2\nbits c0\n'
+        expect(program, ['recheck', str(torrent), str(place)], done(told))
+
+
+def test_padding_over_1_mib(program, folder):
+    """Padding of nearly 4 MiB in a hybrid, and of 3 MiB in foreign torrents, made and rechecked."""
+    files = [((b'a',), b'ab'), ((b'b',), b'c' * 100_000), ((b'c',), b'd')]
+    place = folder / 'files'
+    place.mkdir()
+    for (name,), content in files:
+        (place / name.decode()).write_bytes(content)
+    torrent = folder / 'torrent'
+    wanted = make(files, order('hybrid', False, 1 << 22))
+    for how in ['one', 'halves']:
+        words = ['make', '--name', 'f', '--kind', 'hybrid', '--piece-length', str(1 << 22), '--how', how,
+                 '--workers', '3']
+        expect(program, [*words, str(place)], done(wanted))
+    torrent.write_bytes(wanted)
+    expect(program, ['recheck', str(torrent), str(place)], done(b'pieces 3 of 3\nbits e0\n'))
+    padding = 3 << 20
+    joined = b'ab' + bytes(padding) + b'c' * 100_000
+    for p in [BLOCK, 1 << 22, 1000, padding + 5]:
+        info = {b'files': [{b'length': 2, b'path': [b'a']}, {b'attr': b'p', b'length': padding},
+                           {b'length': 100_000, b'path': [b'b']}], b'name': b'f', b'piece length': p,
+                b'pieces': b''.join(sha1(joined[at:at + p]) for at in range(0, len(joined), p))}
+        torrent.write_bytes(encode({b'info': info}))
+        marks = [True] * -(-len(joined) // p)
+        expect(program, ['recheck', str(torrent), str(place)], done(reference.recheck_lines(marks)))
+
+
+def test_64_workers(program, folder):
+    """Of random bytes, by every span: the torrent is the same."""
+    content = random.Random(6).randbytes((24 << 20) + 321)
+    path = folder / 'f'
+    path.write_bytes(content)
+    for kind in ['v1', 'v2', 'hybrid']:
+        wanted = make([((b'f',), content)], order(kind, True))
+        for workers, span in [(64, 1), (64, 16), (63, 4), (33, 1024), (5, 2)]:
+            words = ['make', '--name', 'f', '--kind', kind, '--piece-length', str(BLOCK), '--how', 'halves',
+                     '--workers', str(workers), '--span', str(span), str(path)]
+            expect(program, words, done(wanted))
+
+
+def test_lengths_past_32_bits(program, folder):
+    """Foreign torrents of a file of up to 2^50 bytes, which is missing: as many pieces as there are."""
+    torrent = folder / 'torrent'
+    for length, p in [(1 << 32, GIB), ((1 << 32) + 1, GIB), ((1 << 42) + 5, GIB), (1 << 50, GIB),
+                      ((1 << 33) - 1, 1 << 20)]:
+        pieces = -(-length // p)
+        text = encode({b'info': {b'length': length, b'name': b'f', b'piece length': p, b'pieces': bytes(20 * pieces)}})
+        torrent.write_bytes(text)
+        expect(program, ['check', str(torrent)], wanted_lines(text))
+        wanted = done(reference.recheck_lines([False] * pieces), 1)
+        expect(program, ['recheck', str(torrent), str(folder / 'absent')], wanted)
+        torrent.write_bytes(text.replace(b'6:pieces', b'6:piecez', 1))
+        expect(program, ['check', str(torrent)], refused('V15 PiecesLength'))
+
+
+def test_files_too_large(program, folder):
+    """L3: a file of over 2^50 bytes, where the system can hold one; it is told once all lengths were asked."""
+    place = '/dev/shm' if os.path.isdir('/dev/shm') and os.access('/dev/shm', os.W_OK) else str(folder)
+    path = os.path.join(place, f'tor-tests-{os.getpid()}')
+    try:
+        for size, line, status in [((1 << 50) + 1, 'L3 TooLarge', 1), ((1 << 62), 'L3 TooLarge', 1)]:
+            sparse(path, size)
+            for kind in ['v1', 'v2', 'hybrid']:
+                expect(program, ['make', '--name', 'f', '--kind', kind, path], refused(line, status))
+    finally:
+        if os.path.exists(path):
+            os.remove(path)
+
+
+def test_small_pieces(program, folder):
+    """A foreign torrent of pieces of a byte: 70,001 of them, of which one is wrong."""
+    content = bytes(random.Random(7).choices(range(256), k=70_001))
+    hashes = {byte: hashlib.sha1(bytes([byte])).digest() for byte in range(256)}
+    text = encode({b'info': {b'length': len(content), b'name': b'f', b'piece length': 1,
+                             b'pieces': b''.join(hashes[byte] for byte in content)}})
+    (folder / 'torrent').write_bytes(text)
+    changed = bytearray(content)
+    changed[65_536] ^= 1
+    (folder / 'f').write_bytes(changed)
+    marks = [i != 65_536 for i in range(len(content))]
+    expect(program, ['recheck', str(folder / 'torrent'), str(folder / 'f')], done(reference.recheck_lines(marks), 1))
+
+
+def test_lengths_about_powers_of_two(program, folder):
+    """Files and torrents of exactly as many bytes as one read may give: none is taken for a fault."""
+    rng = random.Random(9)
+    place, torrent = folder / 'f', folder / 'torrent'
+    for power in [10, 12, 13, 15, 16, 17, 20, 21]:
+        for length in [(1 << power) - 1, 1 << power, (1 << power) + 1]:
+            content = rng.randbytes(length)
+            place.write_bytes(content)
+            for kind in ['v1', 'v2']:
+                wanted = make([((b'f',), content)], order(kind, True))
+                expect(program, ['make', '--name', 'f', '--kind', kind, '--piece-length', str(BLOCK), str(place)],
+                       done(wanted))
+            text = torrent_of_length(length)
+            expect_equal('the torrent\'s length', length, len(text))
+            torrent.write_bytes(text)
+            expect(program, ['check', str(torrent)], wanted_lines(text))
+
+
+def torrent_of_length(length):
+    """A torrent of one empty file, and two comments that make it exactly so many bytes."""
+    info = {b'length': 0, b'name': b'f', b'piece length': 1, b'pieces': b''}
+    for first in (0, 1):
+        bare = {b'comment': b'', b'info': info, b'more': b'x' * first}
+        room = length - len(encode(bare))
+        # The count of the comment has one digit in `bare`.
+        for count in range(max(room - 8, 0), room + 1):
+            text = encode({**bare, b'comment': b'x' * count})
+            if len(text) == length:
+                return text
+    raise ValueError(length)

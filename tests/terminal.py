@@ -1,0 +1,241 @@
+"""The line of progress, which a terminal at standard error shows, and nothing else does."""
+import os
+import re
+import select
+import signal
+import subprocess
+import tempfile
+import time
+import tty
+
+from support import Failure, Skipped, Told, done, expect, expect_equal, run
+
+UNITS = {'B': 1, 'KiB': 1 << 10, 'MiB': 1 << 20, 'GiB': 1 << 30, 'TiB': 1 << 40}
+AMOUNT = rb'(?:(\d+) B|(\d+\.\d) (KiB|MiB|GiB|TiB))'
+TIME = rb'(?:(\d+) h (\d+) min|(\d+) min (\d+) s|(\d+) s)'
+LINE = re.compile(rb'\r' + AMOUNT + rb' of ' + AMOUNT + rb', ' + AMOUNT + rb'/s, ' + TIME + rb' left\x1b\[K')
+ERASED = b'\r\x1b[K'
+
+
+def terminal():
+    try:
+        master, slave = os.openpty()
+    except OSError as error:
+        raise Skipped(f'no pseudo-terminal: {error}') from None
+    tty.setraw(slave)
+    return master, slave
+
+
+def watch(program, words, meanwhile=None, lines=None, **streams):
+    """Runs the program with a terminal at standard error: what came there, part by part with its time, and the run.
+    After so many lines it is stopped; `meanwhile` is done once, after the first."""
+    master, slave = terminal()
+    start = time.monotonic()
+    output = tempfile.TemporaryFile()
+    child = subprocess.Popen([program, *words], stderr=slave, stdout=output, **streams)
+    os.close(slave)
+    parts = []
+    while True:
+        ready, _, _ = select.select([master], [], [], 120)
+        if not ready:
+            child.kill()
+            raise Failure(f'nothing comes for 120 seconds: {words}')
+        try:
+            part = os.read(master, 65536)
+        except OSError:
+            break
+        if not part:
+            break
+        parts.append((time.monotonic() - start, part))
+        if meanwhile:
+            meanwhile()
+            meanwhile = None
+        if lines and len(parts) == lines:
+            child.send_signal(signal.SIGKILL)
+    child.wait()
+    os.close(master)
+    output.seek(0)
+    shown = b''.join(part for _, part in parts)
+    return parts, Told(child.returncode, output.read(), shown)
+
+
+def amount(groups):
+    whole, number, unit = groups
+    return (int(whole), 0) if whole else (float(number) * UNITS[unit.decode()], UNITS[unit.decode()] / 10)
+
+
+def seconds(groups):
+    """Seconds that are shown, and how many more there may be."""
+    hours, minutes, more, rest, alone = (int(group) if group else None for group in groups)
+    if hours is not None:
+        if hours == 0 or minutes > 59:
+            raise Failure(f'no time: {hours} h {minutes} min')
+        return hours * 3600 + minutes * 60, 60
+    if more is not None:
+        if not 0 < more < 60 or rest > 59:
+            raise Failure(f'no time: {more} min {rest} s')
+        return more * 60 + rest, 1
+    if alone > 59:
+        raise Failure(f'no time: {alone} s')
+    return alone, 1
+
+
+def check_line(line, at, total):
+    """That one line is true to itself and to the clock: answers how many bytes it says were read."""
+    match = LINE.fullmatch(line)
+    if not match:
+        raise Failure(f'no line of progress: {line!r}')
+    groups = match.groups()
+    read, read_step = amount(groups[0:3])
+    whole, whole_step = amount(groups[3:6])
+    speed, speed_step = amount(groups[6:9])
+    left, left_step = seconds(groups[9:14])
+    if not whole <= total <= whole + whole_step or read > total:
+        raise Failure(f'not of {total} bytes: {line!r}')
+    least = (total - read - read_step) / (speed + speed_step)
+    most = (total - read) / max(speed, 1)
+    if not least - left_step - 1 <= left <= most + 1:
+        raise Failure(f'not the time that is left, {least} to {most} seconds: {line!r}')
+    # The clock of this test began before the program's, and each line is read after it was printed.
+    if speed + speed_step < read / (at + 0.5) * 0.9:
+        raise Failure(f'{read} bytes after {at} seconds: {line!r}')
+    return read
+
+
+def check_lines(parts, shown, total, ending):
+    """That so many lines came, the next ones after a quarter of a second each, and then the ending."""
+    if not shown.endswith(ending):
+        raise Failure(f'does not end in {ending!r}: {shown[-300:]!r}')
+    lines = LINE.findall(shown)
+    rest = LINE.sub(b'', shown)
+    if rest != ending or not lines:
+        raise Failure(f'wanted lines of progress and {ending!r}, came {shown!r}')
+    last, before = 0, 0.0
+    for at, part in parts:
+        for match in LINE.finditer(part):
+            read = check_line(match[0], at, total)
+            if read < last:
+                raise Failure(f'fewer bytes than before: {match[0]!r}')
+            last = read
+            if at - before < 0.1:
+                raise Failure(f'a line after {at - before} seconds: {match[0]!r}')
+            before = at
+    return len(lines)
+
+
+def sparse(folder, size, name='sparse'):
+    place = folder / name
+    with open(place, 'wb') as file:
+        try:
+            file.truncate(size)
+        except OSError as error:
+            raise Skipped(f'no file of {size} bytes: {error}') from None
+    return str(place)
+
+
+SIZE = (2 << 30) + 12345
+
+
+def test_make_and_recheck_show_it(program, folder):
+    path = sparse(folder, SIZE)
+    words = ['make', '--name', 'a', '--piece-length', '1048576', path]
+    quiet = run(program, words)
+    expect_equal('status and standard error without a terminal', (0, b''), (quiet.status, quiet.err))
+    parts, told = watch(program, words)
+    expect_equal('status', 0, told.status)
+    expect_equal('the torrent on standard output', quiet.out, told.out)
+    check_lines(parts, told.err, SIZE, ERASED)
+    torrent = folder / 'torrent'
+    torrent.write_bytes(quiet.out)
+    words = ['recheck', str(torrent), path]
+    wanted = b'pieces 2049 of 2049\nbits ' + b'ff' * 256 + b'80\n'
+    parts, told = watch(program, words)
+    expect_equal('status and output', (0, wanted), (told.status, told.out))
+    check_lines(parts, told.err, SIZE, ERASED)
+    expect(program, words, done(wanted))
+
+
+def test_of_a_folder_by_workers(program, folder):
+    place = folder / 'files'
+    place.mkdir()
+    sizes = [1 << 30, 0, 3, (1 << 30) + 1]
+    for i, size in enumerate(sizes):
+        sparse(place, size, str(i))
+    parts, told = watch(program, ['make', '--name', 'f', '--how', 'halves', '--workers', '3', str(place)])
+    expect_equal('status', 0, told.status)
+    check_lines(parts, told.err, sum(sizes), ERASED)
+
+
+def test_only_on_standard_error(program, folder):
+    """Not a byte comes where the input and the output are terminals, and standard error is none."""
+    path = sparse(folder, 1 << 30)
+    wanted = run(program, ['make', '--name', 'a', path]).out
+    for words, torrent in [(['make', '--name', 'a', path], wanted),
+                           (['make', '--name', 'a', '--out', str(folder / 't'), path], b'')]:
+        master, slave = terminal()
+        err = open(folder / 'err', 'wb')
+        child = subprocess.Popen([program, *words], stdin=slave, stdout=slave, stderr=err)
+        os.close(slave)
+        out = b''
+        while True:
+            try:
+                part = os.read(master, 65536)
+            except OSError:
+                break
+            out += part
+        expect_equal('status', 0, child.wait())
+        expect_equal('standard error', b'', (folder / 'err').read_bytes())
+        expect_equal('standard output, a terminal', torrent, out)
+        os.close(master)
+
+
+def test_erased_before_another_line(program, folder):
+    """A file that is cut while it is read: the line is gone before the fault is told, and no torrent is made."""
+    size = 6 << 30
+    path = sparse(folder, size)
+    parts, told = watch(program, ['make', '--name', 'a', path], meanwhile=lambda: os.truncate(path, 5))
+    expect_equal('status and output', (3, b''), (told.status, told.out))
+    check_lines(parts, told.err, size, ERASED + b'tor: E2 Changed file 0\n')
+
+
+def test_recheck_of_a_cut_file(program, folder):
+    size = 6 << 30
+    path = sparse(folder, size)
+    torrent = folder / 'torrent'
+    pieces = 6
+    torrent.write_bytes(b'd4:infod6:lengthi%de4:name1:a12:piece lengthi1073741824e6:pieces120:' % size
+                        + bytes(20 * pieces) + b'ee')
+    parts, told = watch(program, ['recheck', str(torrent), path], meanwhile=lambda: os.truncate(path, 5))
+    expect_equal('status and output', (3, b''), (told.status, told.out))
+    check_lines(parts, told.err, size, ERASED + b'tor: C2 Changed file 0\n')
+
+
+def test_nothing_is_shown_of_short_work(program, folder):
+    """A file that is read at once, standard input, and the other commands: a fault's line comes alone."""
+    (folder / 'abc').write_bytes(b'abc')
+    torrent = folder / 'torrent'
+    torrent.write_bytes(run(program, ['make', '--name', 'a', str(folder / 'abc')]).out)
+    for words, status, line in [(['make', '--name', 'a', str(folder / 'abc')], 0, b''),
+                                (['make', '--name', '..', str(folder / 'abc')], 1, b'tor: N3 DotDot\n'),
+                                (['check', str(torrent)], 0, b''), (['magnet', str(torrent)], 0, b''),
+                                (['prove', str(torrent), '0', '0'], 0, b''), (['--help'], 0, b''),
+                                (['recheck', str(torrent), str(folder / 'abc')], 0, b''),
+                                (['recheck', str(torrent), str(folder)], 1, b''),
+                                (['check', 'absent'], 3, b'tor: read fault\n')]:
+        _, told = watch(program, words)
+        expect_equal(f'{words}: status and standard error', (status, line), (told.status, told.err))
+    big = sparse(folder, 1 << 30)
+    for words, place in [(['make', '--name', 'a'], big), (['make', '--name', 'a', '--out', str(folder / 't')], big)]:
+        with open(place, 'rb') as data:
+            _, told = watch(program, words, stdin=data)
+        expect_equal(f'{words}: status and standard error', (0, b''), (told.status, told.err))
+
+
+def test_minutes_and_hours(program, folder):
+    """How long the rest takes, of files that take minutes and hours: two lines of each, then the program is ended."""
+    for size in [64 << 30, 400 << 30, 15 << 40]:
+        path = sparse(folder, size)
+        parts, _ = watch(program, ['make', '--name', 'a', '--piece-length', '1073741824', path], lines=2)
+        for at, part in parts[:2]:
+            check_line(part, at, size)
+        os.remove(path)
