@@ -245,7 +245,7 @@ def wanted_lines(text, command='check'):
         torrent = judge(text)
     except Refused as refusal:
         return refused(refusal.line)
-    return done(reference.check_block(torrent) if command == 'check' else reference.magnet(torrent))
+    return done(reference.check_lines(torrent) if command == 'check' else reference.magnet(torrent))
 
 
 def expect_torrent(program, folder, text, line, note):

@@ -632,7 +632,7 @@ def info_hashes(torrent):
             sha256(info).hex().encode() if torrent.has_tree else None)
 
 
-def check_block(torrent):
+def check_lines(torrent):
     files = view_files(torrent)
     lines = [b'kind ' + torrent.kind.encode(), b'name ' + escaped(torrent.info[b'name']),
              b'piece length %d' % torrent.piece_length, b'pieces %d' % count_pieces(torrent), b'files %d' % len(files)]
@@ -751,8 +751,8 @@ def holds(root, length, piece_length, proof):
     if index >= count or len(siblings) != (count - 1).bit_length():
         return False
     for j, sibling in enumerate(siblings):
-        place = (index >> j) ^ 1
-        if place << j >= count and sibling != ZERO[level + j]:
+        beside = (index >> j) ^ 1
+        if beside << j >= count and sibling != ZERO[level + j]:
             return False
         own = sha256(sibling + own if (index >> j) & 1 else own + sibling)
     return own == root

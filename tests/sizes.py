@@ -219,7 +219,7 @@ def test_foreign_torrents_of_110000_entries(program, folder):
                          (v2, done(b'pieces 0 of 0\nbits \n'))]:
         torrent.write_bytes(text)
         view = judge(text)
-        expect(program, ['check', str(torrent)], done(reference.check_block(view)))
+        expect(program, ['check', str(torrent)], done(reference.check_lines(view)))
         expect(program, ['magnet', str(torrent)], done(reference.magnet(view)))
         expect(program, ['recheck', str(torrent), str(folder / 'absent')], wanted)
     expect(program, ['prove', str(torrent), '109999', '0'], refused('P2 NoTree'))

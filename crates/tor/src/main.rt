@@ -14,8 +14,8 @@ use std::env;
 use std::io::{ErrorKind, IsTerminal, Read, Write};
 use std::process::ExitCode;
 use std::thread::Threads;
+use tor_cli::execute::execute;
 use tor_cli::fault::Fault;
-use tor_cli::run::run;
 
 fn main(rt: HostRuntime) -> ExitCode {
     let words = match words_of(&rt) {
@@ -27,7 +27,7 @@ fn main(rt: HostRuntime) -> ExitCode {
         Err(error) => return stop(&rt, &Fault::from(error)),
     };
     let shows_progress = rt.stderr().is_terminal();
-    run_over(
+    execute_over(
         &rt,
         &rt,
         &texts,
@@ -66,8 +66,8 @@ fn texts_of<'a>(alloc: Global, words: &'a [String]) -> Result<Vec<&'a str>, Allo
     Ok(texts)
 }
 
-/// Runs the program over these words and streams: its status is the process's.
-fn run_over<T: Threads + Sync, R: Read, W: Write, E: Write>(
+/// Executes the program over these words and streams: its status is the process's.
+fn execute_over<T: Threads + Sync, R: Read, W: Write, E: Write>(
     rt: &T,
     system: &HostRuntime,
     words: &[&str],
@@ -90,7 +90,7 @@ fn run_over<T: Threads + Sync, R: Read, W: Write, E: Write>(
       writer' = W.contents out.new;
     }) (exit_status result) }
 {
-    ExitCode::from(run(rt, system, words, reader, out, err, shows_progress))
+    ExitCode::from(execute(rt, system, words, reader, out, err, shows_progress))
 }
 
 /// Tells a fault of the words, which is all that can stop the program before it runs.

@@ -11,7 +11,7 @@ use tor_tree::{FileList, FilePath, Hash, Name, NameError, from_item, to_item};
 /// How many files lie in one folder.
 const FOLDER: usize = 100;
 
-/// A prime, so that its multiples reach each place.
+/// A prime, so that its multiples reach each index.
 const STEP: usize = 7_919;
 
 /// Prints how many paths were made.
@@ -74,10 +74,10 @@ fn root_for(length: u64) -> Option<Hash>
 fn files(alloc: Global, count: usize) -> std::result::Result<Vec<(FilePath, u64)>, NameError> {
     let mut files = Vec::with_capacity(alloc, count)?;
     for n in 0..count {
-        let place = n.wrapping_mul(STEP) % count;
+        let index = n.wrapping_mul(STEP) % count;
         let mut names = Vec::new(alloc);
-        names.push(named(alloc, "folder", place / FOLDER)?)?;
-        names.push(named(alloc, "file", place)?)?;
+        names.push(named(alloc, "folder", index / FOLDER)?)?;
+        names.push(named(alloc, "file", index)?)?;
         if let Some(path) = FilePath::new(names) {
             files.push((path, 1))?;
         }

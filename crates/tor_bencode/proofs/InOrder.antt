@@ -67,12 +67,12 @@ sorted pairs h k d low high =
     {x = suc k} (omega arith) (neighbours pairs k d h (omega arith))
 
 module _ (pairs : List Pair) (rising : KeysRise pairs) (key : List ℕ) where
-  -- the place that the search ends at has the key's value
+  -- the index that the search ends at has the key's value
   found : (k : ℕ) (d : Pair) → k < length pairs → slice_cmp nat_cmp (get_or pairs k d).0.items key ≡ Equal
       → value_in key (pairs_view pairs) ≡ Some (view (get_or pairs k d).1)
   found k d lt equal = value_at pairs key k d rising lt (slice_cmp-IsAntisymmetric nat_cmp-IsAntisymmetric _ key equal)
 
-  -- where it finds none, all keys before that place are less, and all others greater
+  -- where it finds none, all keys before that index are less, and all others greater
   absent : (k : ℕ) → IsBinarySearchResult (λ p. slice_cmp nat_cmp p.0.items key) pairs (Err k)
       → value_in key (pairs_view pairs) ≡ None
   absent k parted =

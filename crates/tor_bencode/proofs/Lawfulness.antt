@@ -12,7 +12,7 @@ lawful-integer room n fits = record { keys = tt; integers = fits; nesting = omeg
 pub lawful-string : (room : ℕ) (bytes : List ℕ) → IsLawfulWithin room (string bytes)
 lawful-string room bytes = record { keys = tt; integers = tt; nesting = omega arith }
 
--- a list takes one place of the room
+-- a list takes one of the room
 pub lawful-list : (room : ℕ) (items : Items)
     → IsLawfulWithin room (list items) ↔ ((0 < room) × ItemsAreLawfulWithin (room - 1) items)
 lawful-list room items = (

@@ -20,6 +20,6 @@ pub mod RefusedWhole
 pub mod Skips
 pub mod SkippedPairs
 pub mod Keys
-pub mod Places
+pub mod Spans
 pub mod ProvedLaws
 pub mod InOrder

@@ -13,13 +13,13 @@ use Rattle.std.proofs.lemmas.Option.{none-some}
 use Rattle.std.specs.Str.{bytes_eq}
 use Rattle.tor_bencode.specs.Lawful.{AreRising, HasRisingKeys, IsLawful, IsLawfulWithin, ItemsAreLawfulWithin}
 use Rattle.tor_bencode.specs.Lawful.{PairsAreLawfulWithin, PairsHaveRisingKeys}
-use Rattle.tor_bencode.specs.Place.{IsSpelledAt, IsTree, place_of}
+use Rattle.tor_bencode.specs.Span.{IsSpelledAt, IsTree, span_of}
 use Rattle.tor_bencode.specs.Spelling.{spelling}
 use Rattle.tor_bencode.specs.steps.Reading.{whole}
 use Rattle.tor_bencode.proofs.Keys.{none_before, same_pairs, some_is_one}
 use Rattle.tor_bencode.proofs.Lawfulness.{lawful-integer, lawful-string, lawful-item, lawful-pair, lawful-no_items}
 use Rattle.tor_bencode.proofs.Lawfulness.{lawful-no_pairs}
-use Rattle.tor_bencode.proofs.Places.{found_at, none_found}
+use Rattle.tor_bencode.proofs.Spans.{found_at, none_found}
 use Rattle.tor_bencode.proofs.ReadBack.{same_front, whole-spelling}
 use Rattle.tor_bencode.proofs.RefusedWhole.{refused_read}
 use Rattle.tor_bencode.proofs.Whole.{WholeIs, whole_sound, refused_within}
@@ -71,14 +71,14 @@ pub no_value_before_the_first_key : (key : List ℕ) (pairs : Pairs) → AreRisi
     → value_in key pairs ≡ None
 no_value_before_the_first_key = none_before
 
--- at the place of a key its value is spelled
-pub place_of_a_value : (key : List ℕ) (d : Data) (start end : ℕ) → place_of key d ≡ Some (start, end)
+-- at the span of a key its value is spelled
+pub span_of_a_value : (key : List ℕ) (d : Data) (start end : ℕ) → span_of key d ≡ Some (start, end)
     → (value : Data) × (value_of key d ≡ Some value) × IsSpelledAt value (spelling d) start end
-place_of_a_value = found_at
+span_of_a_value = found_at
 
--- a key has a place where it has a value
-pub no_place_no_value : (key : List ℕ) (d : Data) → (place_of key d ≡ None) ↔ (value_of key d ≡ None)
-no_place_no_value = none_found
+-- a key has a span where it has a value
+pub no_span_no_value : (key : List ℕ) (d : Data) → (span_of key d ≡ None) ↔ (value_of key d ≡ None)
+no_span_no_value = none_found
 
 -- what is lawful within a room is lawful within a larger one
 pub lawful_within_more : (room more : ℕ) (d : Data) → room ≤ more → IsLawfulWithin room d → IsLawfulWithin more d
@@ -92,7 +92,7 @@ pub pairs_lawful_within_more : (room more : ℕ) (pairs : Pairs) → room ≤ mo
     → PairsAreLawfulWithin room pairs → PairsAreLawfulWithin more pairs
 pairs_lawful_within_more room more pairs le h = record { keys = h.keys; integers = h.integers; nesting = omega arith }
 
--- when a value is lawful: a list and a dictionary take one place of the room
+-- when a value is lawful: a list and a dictionary take one of the room
 pub integer_is_lawful : (room : ℕ) (n : ℤ) → FitsSigned w64 n → IsLawfulWithin room (integer n)
 integer_is_lawful = lawful-integer
 

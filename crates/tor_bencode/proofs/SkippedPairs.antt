@@ -5,7 +5,7 @@ use Rattle.std.specs.Str.{bytes_eq}
 use Rattle.std.proofs.lemmas.List.{append-nil, length-append}
 use Rattle.tor_bencode.specs.Data.{Data, integer, string, list, dictionary, Pairs, no_pairs, pair}
 use Rattle.tor_bencode.specs.Lawful.{IsLawfulWithin, PairsAreLawfulWithin}
-use Rattle.tor_bencode.specs.Place.{place_in, place_of}
+use Rattle.tor_bencode.specs.Span.{span_in, span_of}
 use Rattle.tor_bencode.specs.steps.Reading.{Stops, string_at}
 use Rattle.tor_bencode.specs.Spelling.{spelling, string_spelling, pairs_spelling}
 use Rattle.tor_bencode.specs.declared.fault.Fault.TheVariants.{BadLength}
@@ -20,7 +20,7 @@ use Rattle.tor_bencode.proofs.Skips.{read_is, not_both, no_stop, read, tail-is, 
 pub open_pairs : (d : Data) (bytes : List ℕ) → IsLawfulWithin 100 d → bytes ≡ spelling d → get_or bytes 0 0 ≡ 100
     → (pairs : Pairs) × PairsAreLawfulWithin 99 pairs
     × (take (length bytes - 1) (drop 1 bytes) ≡ pairs_spelling pairs ++ 101 ∷ [])
-    × ((key : List ℕ) → place_of key d ≡ place_in 1 key pairs)
+    × ((key : List ℕ) → span_of key d ≡ span_in 1 key pairs)
 open_pairs (integer n) bytes lawful is head = let h = head-is bytes 105 _ is in absurd (omega arith)
 open_pairs (string s) bytes lawful is head =
     absurd (string_head s bytes [] 100 (is ∙ sym (append-nil (string_spelling s))) (omega arith) head)
@@ -65,7 +65,7 @@ next_pair (pair k d others) rest key after lawful is read =
 
 -- nothing is left where no key stands
 pub none_left : (left : Pairs) (rest key : List ℕ) (at : ℕ) (stop : Stop) → rest ≡ pairs_spelling left ++ 101 ∷ []
-    → stop ≢ stops.Memory → Stops stop (string_at rest) → None ≡ place_in at key left
+    → stop ≢ stops.Memory → Stops stop (string_at rest) → None ≡ span_in at key left
 none_left no_pairs rest key at stop is other h = refl
 none_left (pair k d others) rest key at stop is other h =
     let middle = spelling d ++ (pairs_spelling others ++ 101 ∷ []) in
@@ -90,13 +90,13 @@ module _ (left : Pairs) (bytes rest name after next key : List ℕ) (h : IsNextP
         ap length then,
       )
 
-  pub place_found : bytes_eq name key ≡ true
-      → Some (length bytes - length after, length bytes - length next) ≡ place_in (length bytes - length rest) key left
-  place_found e =
+  pub span_found : bytes_eq name key ≡ true
+      → Some (length bytes - length after, length bytes - length next) ≡ span_in (length bytes - length rest) key left
+  span_found e =
       ap₂ (λ start end. Some (start, end)) (sym start_is) (sym end_is)
-      ∙ sym (ap (place_in (length bytes - length rest) key) h.pairs ∙ rw e refl)
+      ∙ sym (ap (span_in (length bytes - length rest) key) h.pairs ∙ rw e refl)
 
-  pub place_later : bytes_eq name key ≡ false
-      → place_in (length bytes - length rest) key left ≡ place_in (length bytes - length next) key h.others
-  place_later e =
-      ap (place_in (length bytes - length rest) key) h.pairs ∙ rw e (ap (λ end. place_in end key h.others) end_is)
+  pub span_later : bytes_eq name key ≡ false
+      → span_in (length bytes - length rest) key left ≡ span_in (length bytes - length next) key h.others
+  span_later e =
+      ap (span_in (length bytes - length rest) key) h.pairs ∙ rw e (ap (λ end. span_in end key h.others) end_is)

@@ -1,4 +1,4 @@
--- Which trees have a place in a torrent: the keys of every dictionary strictly rise as raw bytes (BEP 3,
+-- Which trees may stand in a torrent: the keys of every dictionary strictly rise as raw bytes (BEP 3,
 -- "bencoding"), and in this profile integers are those of 64 bits and at most 100 lists and dictionaries are open
 -- at once.
 use Rattle.std.specs.Prelude.{◌≡◌, ◌≤◌, ℕ, suc, max, List, [], ◌∷◌}

@@ -5,5 +5,5 @@ pub mod Lawful
 pub mod Find
 pub mod View
 pub mod Fault
-pub mod Place
+pub mod Span
 pub mod steps

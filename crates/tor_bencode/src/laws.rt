@@ -8,7 +8,7 @@ ghost use Rattle.tor_bencode.specs.Fault.{IsFaultAt};
 ghost use Rattle.tor_bencode.specs.Find.{value_in, value_of};
 ghost use Rattle.tor_bencode.specs.Lawful.{AreRising, HasRisingKeys, IsLawful, IsLawfulWithin};
 ghost use Rattle.tor_bencode.specs.Lawful.{ItemsAreLawfulWithin, PairsAreLawfulWithin};
-ghost use Rattle.tor_bencode.specs.Place.{IsSpelledAt, IsTree, place_of};
+ghost use Rattle.tor_bencode.specs.Span.{IsSpelledAt, IsTree, span_of};
 ghost use Rattle.tor_bencode.specs.Spelling.{spelling};
 ghost use Rattle.tor_bencode.specs.declared.TheConstants.{MAX_NESTING};
 
@@ -39,11 +39,11 @@ pub fn no_value_before_the_first_key()
     ensures { (key : List ℕ) (pairs : Pairs) → AreRising (key ∷ keys_of pairs) → value_in key pairs ≡ None }
 {}
 
-/// At the place of a key its value is spelled, and a key has a place where it has a value.
-pub fn place_of_a_value()
-    ensures spelled { (key : List ℕ) (d : Data) (start end : ℕ) → place_of key d ≡ Some (start, end)
+/// At the span of a key its value is spelled, and a key has a span where it has a value.
+pub fn span_of_a_value()
+    ensures spelled { (key : List ℕ) (d : Data) (start end : ℕ) → span_of key d ≡ Some (start, end)
         → (value : Data) × (value_of key d ≡ Some value) × IsSpelledAt value (spelling d) start end }
-    ensures none { (key : List ℕ) (d : Data) → (place_of key d ≡ None) ↔ (value_of key d ≡ None) }
+    ensures none { (key : List ℕ) (d : Data) → (span_of key d ≡ None) ↔ (value_of key d ≡ None) }
 {}
 
 /// What is lawful where so many lists and dictionaries may be opened is lawful where more may be.
@@ -55,7 +55,7 @@ pub fn lawful_within_more()
         → PairsAreLawfulWithin room pairs → PairsAreLawfulWithin more pairs }
 {}
 
-/// When a value is lawful: a list and a dictionary take one place of the room.
+/// When a value is lawful: a list and a dictionary take one of the room.
 pub fn lawful_values()
     ensures integer { (room : ℕ) (n : ℤ) → FitsSigned w64 n → IsLawfulWithin room (integer n) }
     ensures string { (room : ℕ) (bytes : List ℕ) → IsLawfulWithin room (string bytes) }

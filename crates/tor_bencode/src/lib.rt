@@ -10,11 +10,11 @@
 //! ```
 //!
 //! - [`Item`] (`item.rt`): a bencode value, which owns its bytes.
-//! - [`Tree`] (`tree.rt`): an item that has a place in a torrent: keys rise, nesting has an end.
+//! - [`Tree`] (`tree.rt`): an item that may stand in a torrent: keys rise, nesting has an end.
 //! - [`encode`] (`write.rt`): the spelling of a tree.
 //! - [`decode`] (`read.rt`): the tree of a spelling, or the first fault of the bytes.
 //! - [`find`] and [`find_in_order`] (`lookup.rt`): the value of a key.
-//! - [`span`] (`place.rt`): where the value of a key is spelled.
+//! - `span` (`value_span.rt`): where the value of a key is spelled.
 //! - [`BenError`] (`error.rt`), [`Fault`] (`fault.rt`): what these refuse.
 //! - [`laws`] (`laws.rt`): laws over the definitions of `specs/`.
 //!
@@ -27,11 +27,11 @@ mod item;
 pub mod laws;
 mod lookup;
 mod order;
-mod place;
 mod read;
 mod stop;
 mod token;
 mod tree;
+mod value_span;
 mod write;
 
 /// How many lists and dictionaries may be open at once: a limit of this profile.
@@ -41,7 +41,7 @@ pub use error::BenError;
 pub use fault::Fault;
 pub use item::Item;
 pub use lookup::{find, find_in_order};
-pub use place::span;
 pub use read::decode;
 pub use tree::Tree;
+pub use value_span::span;
 pub use write::encode;

@@ -36,18 +36,18 @@ pub fn find_in_order<'a>(item: &'a Item, key: &[u8]) -> Option<&'a Item>
     let Item::Dict(pairs) = item else {
         return None;
     };
-    match place_of_key(pairs, key) {
-        Ok(place) => Some(&pairs[place].1),
+    match index_of_key(pairs, key) {
+        Ok(index) => Some(&pairs[index].1),
         Err(_) => None,
     }
 }
 
 /// Where a key stands among rising ones; or else where it would.
-fn place_of_key(pairs: &[(Vec<u8>, Item)], key: &[u8]) -> Result<usize, usize>
+fn index_of_key(pairs: &[(Vec<u8>, Item)], key: &[u8]) -> Result<usize, usize>
     requires { AreRising (keys_of (pairs_view pairs.now)) }
-    ensures within { IfOk result (λ place. place < length pairs.now) }
-    ensures found { IfOk result (λ place. (d : Vec ℕ Global × Item) →
-        value_in key.now (pairs_view pairs.now) ≡ Some (view (slice_index_or pairs.now place d).1)) }
+    ensures within { IfOk result (λ index. index < length pairs.now) }
+    ensures found { IfOk result (λ index. (d : Vec ℕ Global × Item) →
+        value_in key.now (pairs_view pairs.now) ≡ Some (view (slice_index_or pairs.now index d).1)) }
     ensures absent { IfErr result (λ _. value_in key.now (pairs_view pairs.now) ≡ None) }
 {
     pairs.binary_search_by(|pair| order_of_name(pair, key))

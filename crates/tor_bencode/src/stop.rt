@@ -1,4 +1,4 @@
-//! Why reading stops, inside the reader: a fault is told with the bytes from it on.
+//! Why reading stops, inside the reader: a fault is given with the bytes from it on.
 
 ghost use Rattle.std.specs.Prelude.{◌≡◌};
 

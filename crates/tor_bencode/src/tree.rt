@@ -1,4 +1,4 @@
-//! Items that have a place in a torrent.
+//! Items that may stand in a torrent.
 
 ghost use Rattle.std.specs.Prelude.{◌≡◌, ◌↔◌, IsTrue, IsOk, IfOk, IfErr};
 ghost use Rattle.tor_bencode.specs.Data.{keys_of};
@@ -11,7 +11,7 @@ use crate::item::Item;
 use crate::order::comes_before;
 use std::marker::Model;
 
-/// An item that has a place in a torrent: the keys of each dictionary strictly rise as raw bytes,
+/// An item that may stand in a torrent: the keys of each dictionary strictly rise as raw bytes,
 /// and at most 100 lists and dictionaries are open at once.
 #[derive(Debug, Drop)]
 pub struct Tree {

@@ -5,7 +5,7 @@ use Rattle.std.specs.Prelude.{option_map, if◌then◌else◌}
 use Rattle.tor_bencode.specs.Data.{Data}
 use Rattle.tor_check.proofs.SideLemmas.{listed_is_side, sized_in_side}
 use Rattle.tor_check.specs.Listed.{all_listed, files_from, sized_files, tree_pairs}
-use Rattle.tor_check.specs.Judged.{first_of_places, refusal_for}
+use Rattle.tor_check.specs.Judged.{first_of_alignment, refusal_for}
 use Rattle.tor_check.specs.Sides.{files_if, listed_if}
 use Rattle.tor_check.specs.declared.listed.Listed.{Listed}
 use Rattle.tor_check.specs.declared.refusal.Refusal.TheVariants as refusals
@@ -27,27 +27,27 @@ tells_differ info listed files answer v1 v2 read tree e =
     let files' : files ≡ tree_files info = rw v2 at tree in
     sym (rw (files', sized_in_side listed, listed', listed_is_side info) at e)
 
-pub tells_places : (info : Data) (listed : List Listed) (piece_length : ℕ) (answer : Bool)
+pub tells_alignment : (info : Data) (listed : List Listed) (piece_length : ℕ) (answer : Bool)
     → has_v1 (kind_of info) ≡ true → listed ≡ listed_if info → piece_length ≡ piece_length_of info
     → answer ≡ (is_misaligned_after piece_length [] (files_from listed)
     || has_wrong_tail piece_length (files_from listed))
     → alignment info ≡ answer
-tells_places info listed piece_length answer v1 read is e =
+tells_alignment info listed piece_length answer v1 read is e =
     let listed' : listed ≡ all_listed info = rw v1 at read in
     sym (rw (listed', listed_is_side info, is) at e)
 
 pub at_differ : (info : Data) → has_v1 (kind_of info) ≡ true → has_v2 (kind_of info) ≡ true → files_differ info ≡ true
-    → option_map refusal_for (first_of_places info) ≡ Some refusals.FilesDiffer
+    → option_map refusal_for (first_of_alignment info) ≡ Some refusals.FilesDiffer
 at_differ info v1 v2 differ = rw (v1, v2, differ) refl
 
-pub at_places : (info : Data) → has_v1 (kind_of info) ≡ true → has_v2 (kind_of info) ≡ true
+pub at_alignment : (info : Data) → has_v1 (kind_of info) ≡ true → has_v2 (kind_of info) ≡ true
     → files_differ info ≡ false → alignment info ≡ true
-    → option_map refusal_for (first_of_places info) ≡ Some refusals.Alignment
-at_places info v1 v2 same places = rw (v1, v2, same, places) refl
+    → option_map refusal_for (first_of_alignment info) ≡ Some refusals.Alignment
+at_alignment info v1 v2 same elsewhere = rw (v1, v2, same, elsewhere) refl
 
 pub at_end : (info : Data) → has_v1 (kind_of info) ≡ true → has_v2 (kind_of info) ≡ true
-    → files_differ info ≡ false → alignment info ≡ false → first_of_places info ≡ None
-at_end info v1 v2 same places = rw (v1, v2, same, places) refl
+    → files_differ info ≡ false → alignment info ≡ false → first_of_alignment info ≡ None
+at_end info v1 v2 same aligned = rw (v1, v2, same, aligned) refl
 
 -- without a v2 side there is a v1 side
 list_if_no_tree : (kind : Kind) → has_v2 kind ≡ false → has_v1 kind ≡ true

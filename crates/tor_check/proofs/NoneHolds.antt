@@ -9,14 +9,14 @@ use Rattle.tor_bencode.specs.Data.{Data}
 use Rattle.tor_check.proofs.Bounds.{first_or, found_none}
 use Rattle.tor_check.proofs.FirstOfBoth.{sides_first}
 use Rattle.tor_check.proofs.Stages.{find_behind, find_front}
-use Rattle.tor_check.specs.Judged.{head_conditions, layer_conditions, place_conditions}
+use Rattle.tor_check.specs.Judged.{head_conditions, layer_conditions, alignment_conditions}
 use Rattle.tor_check.specs.Listed.{side_conditions}
 use Rattle.tor_check.specs.Sides.{first_of_both}
 use Rattle.tor_spec.specs.valid.Conditions.{Condition, conditions, holds, refusal_of}
 use Rattle.tor_spec.specs.valid.Conditions as named
 use Rattle.tor_spec.specs.valid.Parts.{info_of}
 
--- the condition at a place of the row, counted from V2, does not hold
+-- the condition at an index of the row, counted from V2, does not hold
 pub not_held : (root : Data) → refusal_of root ≡ None → (i : ℕ) → i < 22
     → holds root (get_or conditions i named.RootShape) ≡ false
 not_held root none i within =
@@ -35,12 +35,12 @@ none_front p front back none = by_found (find p front) refl
 -- no side has a fault
 pub no_side_fault : (root : Data) → refusal_of root ≡ None → first_of_both (info_of root) ≡ None
 no_side_fault root none =
-    let behind = side_conditions ++ (layer_conditions ++ place_conditions) in
+    let behind = side_conditions ++ (layer_conditions ++ alignment_conditions) in
     let heads = none_front (holds root) head_conditions behind none in
     let sides = sym (find_behind (holds root) head_conditions behind heads) ∙ none in
-    sym (sides_first root) ∙ none_front (holds root) side_conditions (layer_conditions ++ place_conditions) sides
+    sym (sides_first root) ∙ none_front (holds root) side_conditions (layer_conditions ++ alignment_conditions) sides
 
--- what holds of none of a list does not hold of the one at a place
+-- what holds of none of a list does not hold of the one at an index
 pub none_at : {X : Type 0} (p : X → Bool) (xs : List X) (i : ℕ) (x : X) → list_any p xs ≡ false
     → slice_get xs i ≡ Some x → p x ≡ false
 none_at p [] i x none at = absurd (none-some x at)
@@ -53,7 +53,7 @@ pub all_at : {X : Type 0} (P : X → Type 0) (xs : List X) (i : ℕ) (x : X) →
 all_at P xs i x all at =
     subst P (get_or_from_slice_get xs i x x at) (All-get_or P xs i x (slice_get_within xs i x at) all)
 
--- what a mapped list has at a place is made of what the list has there
+-- what a mapped list has at an index is made of what the list has there
 made_of : {X Y : Type 0} (f : X → Y) (o : Option X) (y : Y) → option_map f o ≡ Some y
     → (x : X) × (o ≡ Some x) × (f x ≡ y)
 made_of f None y e = absurd (none-some y e)

@@ -29,7 +29,7 @@ proof_of_root p told index hash siblings short root first none =
       proof = rw (small, root, first, none) (alone hash (proof_level told.file.length p));
     }
 
--- a file of a v2 side that is not empty, at its place
+-- a file of a v2 side that is not empty, at its index
 pub record IsFound (view : View) (file : ℕ) (told : FileView) : Type 0 where
   pub v2 : has_v2 view.kind ≡ true
   pub there : slice_get view.files file ≡ Some told

@@ -10,7 +10,7 @@ use Rattle.tor_check.specs.declared.refusal.Refusal.{Refusal}
 use Rattle.tor_spec.specs.valid.Conditions.{Condition, refusal_of}
 use Rattle.tor_spec.specs.valid.Conditions as conditions
 
--- the refusal of a condition is told as such
+-- the refusal of a condition is answered as such
 of_condition : (bytes : List ℕ) (condition : Condition) → IsRefused bytes (refusal_for condition)
     → IsRefusedFor bytes (refusal_for condition)
 of_condition bytes conditions.RootShape refused = refused
@@ -40,7 +40,7 @@ pub refused_for : (bytes : List ℕ) (root : Data) (refusal : Refusal) → IsLaw
     → IsFirst (refusal_of root) refusal → IsRefusedFor bytes refusal
 refused_for bytes root refusal lawful spelled (inl memory) = subst (λ r. IsRefusedFor bytes r) (sym memory) tt
 refused_for bytes root refusal lawful spelled (inr e) =
-    let told = found (refusal_of root) refusal e in
-    let refused : IsRefused bytes (refusal_for told.0) =
-    record { root = root; lawful = lawful; spelled = spelled; condition = told.0; first = told.1; named = refl } in
-    subst (λ r. IsRefusedFor bytes r) told.2 (of_condition bytes told.0 refused)
+    let known = found (refusal_of root) refusal e in
+    let refused : IsRefused bytes (refusal_for known.0) =
+    record { root = root; lawful = lawful; spelled = spelled; condition = known.0; first = known.1; named = refl } in
+    subst (λ r. IsRefusedFor bytes r) known.2 (of_condition bytes known.0 refused)

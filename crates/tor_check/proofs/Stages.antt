@@ -4,8 +4,8 @@ use Rattle.std.proofs.Common.{Option, None, Some, cond, refl, ap, sym, ◌∙◌
 use Rattle.std.specs.Prelude.{find, option_map}
 use Rattle.tor_bencode.specs.Data.{Data}
 use Rattle.tor_check.proofs.FirstOfBoth.{sides_first}
-use Rattle.tor_check.specs.Judged.{IsFirst, first_in, first_of_places, head_conditions, layer_conditions}
-use Rattle.tor_check.specs.Judged.{place_conditions, refusal_for}
+use Rattle.tor_check.specs.Judged.{IsFirst, first_in, first_of_alignment, head_conditions, layer_conditions}
+use Rattle.tor_check.specs.Judged.{alignment_conditions, refusal_for}
 use Rattle.tor_check.specs.Listed.{side_conditions}
 use Rattle.tor_check.specs.Sides.{first_of_both}
 use Rattle.tor_check.specs.declared.refusal.Refusal.{Refusal}
@@ -43,25 +43,25 @@ pub at_stage : (root : Data) (front stage back : List Condition) (refusal : Refu
     → IsFirst (find (holds root) (front ++ (stage ++ back))) refusal
 at_stage root front stage back refusal none (inl memory) = inl memory
 at_stage root front stage back refusal none (inr e) =
-    let told = found (find (holds root) stage) refusal e in
-    let whole : find (holds root) (front ++ (stage ++ back)) ≡ Some told.0 =
-    find_behind (holds root) front (stage ++ back) none ∙ find_front (holds root) stage back told.0 told.1 in
-    inr (ap (option_map refusal_for) whole ∙ ap Some told.2)
+    let known = found (find (holds root) stage) refusal e in
+    let whole : find (holds root) (front ++ (stage ++ back)) ≡ Some known.0 =
+    find_behind (holds root) front (stage ++ back) none ∙ find_front (holds root) stage back known.0 known.1 in
+    inr (ap (option_map refusal_for) whole ∙ ap Some known.2)
 
 pub refusal_in_stages : (root : Data) → refusal_of root
-    ≡ find (holds root) (head_conditions ++ (side_conditions ++ (layer_conditions ++ place_conditions)))
+    ≡ find (holds root) (head_conditions ++ (side_conditions ++ (layer_conditions ++ alignment_conditions)))
 refusal_in_stages root = refl
 
 -- the same of the fault that each stage tells
 pub at_head : (root : Data) (refusal : Refusal) → IsFirst (first_in head_conditions root) refusal
     → IsFirst (refusal_of root) refusal
 at_head root refusal first =
-    at_stage root [] head_conditions (side_conditions ++ (layer_conditions ++ place_conditions)) refusal refl first
+    at_stage root [] head_conditions (side_conditions ++ (layer_conditions ++ alignment_conditions)) refusal refl first
 
 pub at_sides : (root : Data) (refusal : Refusal) → first_in head_conditions root ≡ None
     → IsFirst (first_of_both (info_of root)) refusal → IsFirst (refusal_of root) refusal
 at_sides root refusal none first =
-    at_stage root head_conditions side_conditions (layer_conditions ++ place_conditions) refusal none
+    at_stage root head_conditions side_conditions (layer_conditions ++ alignment_conditions) refusal none
     (subst (λ found. IsFirst found refusal) (sym (sides_first root)) first)
 
 -- nothing is found in two rows
@@ -73,20 +73,20 @@ pub at_layers : (root : Data) (refusal : Refusal) → first_in head_conditions r
     → first_of_both (info_of root) ≡ None → IsFirst (first_in layer_conditions root) refusal
     → IsFirst (refusal_of root) refusal
 at_layers root refusal none sides first =
-    at_stage root (head_conditions ++ side_conditions) layer_conditions place_conditions refusal
+    at_stage root (head_conditions ++ side_conditions) layer_conditions alignment_conditions refusal
     (find_both root head_conditions side_conditions none (sides_first root ∙ sides)) first
 
-pub at_places : (root : Data) (refusal : Refusal) → first_in head_conditions root ≡ None
+pub at_alignment : (root : Data) (refusal : Refusal) → first_in head_conditions root ≡ None
     → first_of_both (info_of root) ≡ None → first_in layer_conditions root ≡ None
-    → IsFirst (first_of_places (info_of root)) refusal → IsFirst (refusal_of root) refusal
-at_places root refusal none sides layers first =
-    at_stage root (head_conditions ++ (side_conditions ++ layer_conditions)) place_conditions [] refusal
+    → IsFirst (first_of_alignment (info_of root)) refusal → IsFirst (refusal_of root) refusal
+at_alignment root refusal none sides layers first =
+    at_stage root (head_conditions ++ (side_conditions ++ layer_conditions)) alignment_conditions [] refusal
     (find_both root head_conditions (side_conditions ++ layer_conditions) none
     (find_both root side_conditions layer_conditions (sides_first root ∙ sides) layers)) first
 
 pub at_end : (root : Data) → first_in head_conditions root ≡ None → first_of_both (info_of root) ≡ None
-    → first_in layer_conditions root ≡ None → first_of_places (info_of root) ≡ None → refusal_of root ≡ None
-at_end root none sides layers places =
-    find_both root head_conditions (side_conditions ++ (layer_conditions ++ place_conditions)) none
-    (find_both root side_conditions (layer_conditions ++ place_conditions) (sides_first root ∙ sides)
-    (find_both root layer_conditions place_conditions layers places))
+    → first_in layer_conditions root ≡ None → first_of_alignment (info_of root) ≡ None → refusal_of root ≡ None
+at_end root none sides layers aligned =
+    find_both root head_conditions (side_conditions ++ (layer_conditions ++ alignment_conditions)) none
+    (find_both root side_conditions (layer_conditions ++ alignment_conditions) (sides_first root ∙ sides)
+    (find_both root layer_conditions alignment_conditions layers aligned))

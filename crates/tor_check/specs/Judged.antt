@@ -55,12 +55,12 @@ layer_conditions =
     conditions.LayersAbsent ∷ conditions.LayerAbsent ∷ conditions.LayerLength ∷ conditions.LayerRoot ∷ []
 
 -- V22 and V23
-abbrev pub place_conditions : List Condition
-place_conditions = conditions.FilesDiffer ∷ conditions.Alignment ∷ []
+abbrev pub alignment_conditions : List Condition
+alignment_conditions = conditions.FilesDiffer ∷ conditions.Alignment ∷ []
 
 -- the first of them that holds
-abbrev pub first_of_places : Data → Option Condition
-first_of_places info =
+abbrev pub first_of_alignment : Data → Option Condition
+first_of_alignment info =
     if of_both files_differ info then Some conditions.FilesDiffer else (
     if of_both alignment info then Some conditions.Alignment else None)
 

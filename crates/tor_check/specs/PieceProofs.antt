@@ -22,7 +22,7 @@ refusal_at kind piece_length (Some told) index =
     if not (has_v2 kind) || told.file.length == 0 then Some errors.NoTree else (
     if nat_le (proof_count told.file.length piece_length) index then Some errors.Index else None)
 
--- the same of the file at a place of a torrent
+-- the same of the file at an index of a torrent
 abbrev pub piece_refusal : View → ℕ → ℕ → Option PieceError
 piece_refusal view file index = refusal_at view.kind view.piece_length (slice_get view.files file) index
 

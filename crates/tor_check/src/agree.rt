@@ -1,4 +1,4 @@
-//! Whether the two sides of a hybrid describe the same files at the same places (BEP 52, "Upgrade Path"; BEP 47).
+//! Whether the two sides of a hybrid describe the same files at the same offsets (BEP 52, "Upgrade Path"; BEP 47).
 ghost use Rattle.std.specs.Prelude.{◌≡◌, ◌≤◌, [], All, not, sum_by};
 ghost use Rattle.tor_check.specs.Listed.{file_of_listed, files_from, size_of_listed, sized_files};
 ghost use Rattle.tor_spec.specs.valid.ListSide.{joined_size};

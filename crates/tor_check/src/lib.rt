@@ -16,11 +16,12 @@
 //!
 //! The root and the keys that all kinds have: `head.rt`. The v1 side: `marks.rt` and `listed.rt` read it,
 //! `list_side.rt` judges it; the v2 side: `tree_side.rt`; both: `sides.rt`. Piece layers: `layer_keys.rt`, `layers.rt`.
-//! Where the sides agree: `agree.rt`; both of these judged: `places.rt`. What is told: `views.rt`, `told.rt`.
+//! Where the sides agree: `agree.rt`; both of these judged: `alignment.rt`. What is told: `views.rt`, `told.rt`.
 //! `parts.rt` reads single keys.
 #![tactic(auto)]
 
 mod agree;
+mod alignment;
 mod head;
 mod layer_keys;
 mod layers;
@@ -29,7 +30,6 @@ mod listed;
 mod marks;
 mod parts;
 mod piece_proofs;
-mod places;
 mod refusal;
 mod sides;
 mod told;

@@ -12,7 +12,7 @@ use thiserror::Error;
 use tor_merkle::{Proof, ProveError, piece_level, prove};
 use tor_tree::Hash;
 
-/// Why there is no proof of a piece. The first that holds is told.
+/// Why there is no proof of a piece. The first that holds is answered.
 #[derive(Debug, Drop, Error)]
 pub enum PieceError {
     /// The torrent has no such file, or the file no such piece.

@@ -10,7 +10,7 @@ use thiserror::Error;
 use tor_bencode::{BenError, Fault};
 use tor_tree::{ListError, TreeFault};
 
-/// Why bytes are no torrent. The least number is told, each looked for in the whole torrent before the next.
+/// Why bytes are no torrent. The least number is answered, each looked for in the whole torrent before the next.
 #[derive(Debug, Drop, Error)]
 pub enum Refusal {
     /// The bytes spell no tree: the first fault in reading order, and its offset in bytes.

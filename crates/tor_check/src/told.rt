@@ -1,7 +1,7 @@
 //! What a torrent describes whose sides have no fault.
 ghost use Rattle.std.specs.Prelude.{◌≡◌, [], None, IfOk, codes, unwrap_or, if◌then◌else◌};
 ghost use Rattle.tor_bencode.specs.Lawful.{HasRisingKeys};
-ghost use Rattle.tor_bencode.specs.Place.{place_of};
+ghost use Rattle.tor_bencode.specs.Span.{span_of};
 ghost use Rattle.tor_bencode.specs.View.{view};
 ghost use Rattle.tor_check.specs.Judged.{IsHeadOf};
 ghost use Rattle.tor_check.specs.Sides.{AreSidesOf, first_of_both};
@@ -33,7 +33,7 @@ pub fn torrent_of(
     requires sides { AreSidesOf (info_of (view root.now)) sides }
     requires judged { first_of_both (info_of (view root.now)) ≡ None }
     requires accepted { refusal_of (view root.now) ≡ None }
-    requires span { info_span ≡ unwrap_or (place_of (codes "info") (view root.now)) (0, 0) }
+    requires span { info_span ≡ unwrap_or (span_of (codes "info") (view root.now)) (0, 0) }
     ensures { IfOk result (λ torrent. torrent ≡ view_of (view root.now)) }
 {
     let piece_count = piece_count(root, head, &sides);

@@ -1,15 +1,15 @@
 //! Whether bytes are a torrent, and what it describes.
 ghost use Rattle.std.specs.Prelude.{◌≡◌, None, IfErr, IfOk, OnOk, codes, unwrap_or};
 ghost use Rattle.tor_bencode.specs.Lawful.{HasRisingKeys};
-ghost use Rattle.tor_bencode.specs.Place.{place_of};
+ghost use Rattle.tor_bencode.specs.Span.{span_of};
 ghost use Rattle.tor_bencode.specs.View.{view};
 ghost use Rattle.tor_check.specs.Judged.{IsFirst};
 ghost use Rattle.tor_check.specs.Valid.{IsRefusedFor, IsTold};
 ghost use Rattle.tor_spec.specs.valid.Conditions.{refusal_of};
 ghost use Rattle.tor_spec.specs.valid.View.{view_of};
 
+use crate::alignment::{judge_alignment, judge_layers};
 use crate::head::read_head;
-use crate::places::{judge_layers, judge_places};
 use crate::refusal::Refusal;
 use crate::sides::read_sides;
 use crate::told::torrent_of;
@@ -36,8 +36,8 @@ pub fn validate(alloc: Global, bytes: &[u8]) -> Result<Torrent, Refusal>
 /// The same of a tree, in whose spelling `info` begins and ends here.
 fn judge(alloc: Global, root: &Item, info_span: (usize, usize)) -> Result<Torrent, Refusal>
     requires keys { HasRisingKeys (view root.now) }
-    requires span { info_span ≡ unwrap_or (place_of (codes "info") (view root.now)) (0, 0) }
-    ensures told { IfOk result (λ torrent. torrent ≡ view_of (view root.now)) }
+    requires span { info_span ≡ unwrap_or (span_of (codes "info") (view root.now)) (0, 0) }
+    ensures described { IfOk result (λ torrent. torrent ≡ view_of (view root.now)) }
     ensures accepted { OnOk result (refusal_of (view root.now) ≡ None) }
     ensures refused { IfErr result (IsFirst (refusal_of (view root.now))) }
 {
@@ -52,7 +52,7 @@ fn judge(alloc: Global, root: &Item, info_span: (usize, usize)) -> Result<Torren
     if let Err(refusal) = judge_layers(root, &head, &sides) {
         return Err(refusal);
     }
-    if let Err(refusal) = judge_places(&head, &sides) {
+    if let Err(refusal) = judge_alignment(&head, &sides) {
         return Err(refusal);
     }
     let torrent = torrent_of(alloc, root, &head, sides, info_span)?;

@@ -17,19 +17,19 @@ pub is_stopped : {A : Type 0} (Why : Fault → Type 0) (outcome : Result A Fault
 is_stopped Why (Ok done) result is holds = subst (λ r. IfErr r Why) (sym is) tt
 is_stopped Why (Err fault) result is holds = subst (λ r. IfErr r Why) (sym is) holds
 
-pub is_answered : (Told Holds : Answer → Type 0) (result : Result Answer Fault) → (Told Yes → Holds Yes)
-    → (Told No → Holds No) → IfOk result Told → IfOk result Holds
-is_answered Told Holds (Ok Yes) of_yes of_no told = of_yes told
-is_answered Told Holds (Ok No) of_yes of_no told = of_no told
-is_answered Told Holds (Err fault) of_yes of_no told = tt
+pub is_answered : (Given Holds : Answer → Type 0) (result : Result Answer Fault) → (Given Yes → Holds Yes)
+    → (Given No → Holds No) → IfOk result Given → IfOk result Holds
+is_answered Given Holds (Ok Yes) of_yes of_no given = of_yes given
+is_answered Given Holds (Ok No) of_yes of_no given = of_no given
+is_answered Given Holds (Err fault) of_yes of_no given = tt
 
 -- a status that is not 0 is that of a no, or of a fault
 pub ends : (Holds : Answer → Type 0) (Why : Fault → Type 0) (outcome : Result Answer Fault) (status : ℕ)
     → status ≡ status_after outcome → IfOk outcome Holds → IfErr outcome Why → status ≢ 0
     → ((status ≡ 1) × Holds No) ⊎ ((fault : Fault) × (status ≡ status_of fault) × Why fault)
-ends Holds Why (Ok Yes) status told done why other = absurd (other told)
-ends Holds Why (Ok No) status told done why other = inl (told, done)
-ends Holds Why (Err fault) status told done why other = inr (fault, told, why)
+ends Holds Why (Ok Yes) status is done why other = absurd (other is)
+ends Holds Why (Ok No) status is done why other = inl (is, done)
+ends Holds Why (Err fault) status is done why other = inr (fault, is, why)
 
 -- the outcome that is a yes
 pub ends_well : (Holds : Answer → Type 0) (outcome : Result Answer Fault) → outcome ≡ Ok Yes → IfOk outcome Holds

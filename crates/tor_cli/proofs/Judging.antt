@@ -15,7 +15,7 @@ use Rattle.tor_spec.specs.valid.Parts.{info_of}
 use Rattle.tor_spec.specs.valid.View.{View}
 use Rattle.tor_tree.specs.declared.kinds.Kind.{Kind}
 use Rattle.tor_tree.specs.declared.kinds.Kind.TheVariants.{V1, V2, Hybrid}
-use Rattle.tor_cli.specs.Foreign.{IsNotTold, StopsTelling}
+use Rattle.tor_cli.specs.Foreign.{IsNoTorrent, StopsTelling}
 use Rattle.tor_cli.specs.Status.{of_input_fault, of_refusal}
 use Rattle.tor_cli.specs.Streams.{IsUntouched, Streams}
 use Rattle.tor_cli.specs.declared.fault.Fault.{Fault}
@@ -59,32 +59,33 @@ has_hash V1 info hashes are = inl (rw are.first refl)
 has_hash V2 info hashes are = inr (rw are.second refl)
 has_hash Hybrid info hashes are = inl (rw are.first refl)
 
--- a refusal is told as it is, and want of memory is none
-pub not_told : (bytes : List ℕ) (refusal : Refusal) → IsRefusedFor bytes refusal → IsNotTold bytes (of_refusal refusal)
-not_told bytes (refusals.Bencode fault offset) why = (why, λ same. cc)
-not_told bytes refusals.RootShape why = (why, λ same. cc)
-not_told bytes refusals.InfoShape why = (why, λ same. cc)
-not_told bytes refusals.MetaVersion why = (why, λ same. cc)
-not_told bytes refusals.PieceLength why = (why, λ same. cc)
-not_told bytes refusals.Name why = (why, λ same. cc)
-not_told bytes refusals.LengthAndFiles why = (why, λ same. cc)
-not_told bytes refusals.FileShape why = (why, λ same. cc)
-not_told bytes refusals.FileLength why = (why, λ same. cc)
-not_told bytes refusals.Duplicate why = (why, λ same. cc)
-not_told bytes refusals.FileAndFolder why = (why, λ same. cc)
-not_told bytes refusals.NoFiles why = (why, λ same. cc)
-not_told bytes refusals.TooLarge why = (why, λ same. cc)
-not_told bytes refusals.Symlink why = (why, λ same. cc)
-not_told bytes refusals.PiecesLength why = (why, λ same. cc)
-not_told bytes refusals.MixedNode why = (why, λ same. cc)
-not_told bytes refusals.RootHash why = (why, λ same. cc)
-not_told bytes refusals.LayersAbsent why = (why, λ same. cc)
-not_told bytes refusals.LayerAbsent why = (why, λ same. cc)
-not_told bytes refusals.LayerLength why = (why, λ same. cc)
-not_told bytes refusals.LayerRoot why = (why, λ same. cc)
-not_told bytes refusals.FilesDiffer why = (why, λ same. cc)
-not_told bytes refusals.Alignment why = (why, λ same. cc)
-not_told bytes refusals.Memory why = tt
+-- a refusal is answered as it is, and want of memory is none
+pub no_torrent : (bytes : List ℕ) (refusal : Refusal) → IsRefusedFor bytes refusal
+    → IsNoTorrent bytes (of_refusal refusal)
+no_torrent bytes (refusals.Bencode fault offset) why = (why, λ same. cc)
+no_torrent bytes refusals.RootShape why = (why, λ same. cc)
+no_torrent bytes refusals.InfoShape why = (why, λ same. cc)
+no_torrent bytes refusals.MetaVersion why = (why, λ same. cc)
+no_torrent bytes refusals.PieceLength why = (why, λ same. cc)
+no_torrent bytes refusals.Name why = (why, λ same. cc)
+no_torrent bytes refusals.LengthAndFiles why = (why, λ same. cc)
+no_torrent bytes refusals.FileShape why = (why, λ same. cc)
+no_torrent bytes refusals.FileLength why = (why, λ same. cc)
+no_torrent bytes refusals.Duplicate why = (why, λ same. cc)
+no_torrent bytes refusals.FileAndFolder why = (why, λ same. cc)
+no_torrent bytes refusals.NoFiles why = (why, λ same. cc)
+no_torrent bytes refusals.TooLarge why = (why, λ same. cc)
+no_torrent bytes refusals.Symlink why = (why, λ same. cc)
+no_torrent bytes refusals.PiecesLength why = (why, λ same. cc)
+no_torrent bytes refusals.MixedNode why = (why, λ same. cc)
+no_torrent bytes refusals.RootHash why = (why, λ same. cc)
+no_torrent bytes refusals.LayersAbsent why = (why, λ same. cc)
+no_torrent bytes refusals.LayerAbsent why = (why, λ same. cc)
+no_torrent bytes refusals.LayerLength why = (why, λ same. cc)
+no_torrent bytes refusals.LayerRoot why = (why, λ same. cc)
+no_torrent bytes refusals.FilesDiffer why = (why, λ same. cc)
+no_torrent bytes refusals.Alignment why = (why, λ same. cc)
+no_torrent bytes refusals.Memory why = tt
 
 module _ (lines : View → Hashes → List ℕ) (s : Streams) (untouched : IsUntouched s) where
   -- a fault of reading, before anything was written
@@ -94,7 +95,7 @@ module _ (lines : View → Hashes → List ℕ) (s : Streams) (untouched : IsUnt
   stops_reading inputs.Memory = untouched
 
   -- a fault of judging, of bytes that were read whole
-  pub stops_judging : (bytes : List ℕ) → length bytes ≤ MAX_INPUT_LENGTH → (fault : Fault) → IsNotTold bytes fault
+  pub stops_judging : (bytes : List ℕ) → length bytes ≤ MAX_INPUT_LENGTH → (fault : Fault) → IsNoTorrent bytes fault
       → StopsTelling lines s fault
   stops_judging bytes within (faults.Usage line) why = absurd why
   stops_judging bytes within (faults.Name fault) why = absurd why

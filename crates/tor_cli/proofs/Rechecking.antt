@@ -10,8 +10,8 @@ use Rattle.tor_source.specs.Places.{place_of}
 use Rattle.tor_source.specs.declared.faults.ScanFault.{ScanFault}
 use Rattle.tor_source.specs.declared.faults.ScanFault.TheVariants as scans
 use Rattle.tor_spec.specs.valid.View.{View}
-use Rattle.tor_cli.specs.Foreign.{IsNotTold}
-use Rattle.tor_cli.specs.Path.{IsFileFault}
+use Rattle.tor_cli.specs.Foreign.{IsNoTorrent}
+use Rattle.tor_cli.specs.Place.{IsFileFault}
 use Rattle.tor_cli.specs.Recheck.{ArePlaces, IsNoPlace, IsNotRechecked}
 use Rattle.tor_cli.specs.Status.{of_recheck_error, of_scan_fault}
 use Rattle.tor_cli.specs.declared.fault.Fault.{Fault}
@@ -35,8 +35,8 @@ module _ (bytes : List ℕ) (view : View) (told : IsTold bytes view) where
   not_rechecked rechecks.Resources given other = tt
   not_rechecked rechecks.Workers given other = absurd (other refl)
 
--- a refusal is told as it is, and want of memory is none
-pub not_judged : (bytes : List ℕ) (fault : Fault) → IsNotTold bytes fault → IsNotRechecked bytes fault
+-- a refusal is answered as it is, and want of memory is none
+pub not_judged : (bytes : List ℕ) (fault : Fault) → IsNoTorrent bytes fault → IsNotRechecked bytes fault
 not_judged bytes (faults.Usage line) why = absurd why
 not_judged bytes (faults.Name fault) why = absurd why
 not_judged bytes (faults.Scan fault) why = absurd why
@@ -51,10 +51,10 @@ not_judged bytes (faults.Write written) why = absurd why
 not_judged bytes faults.Resources why = tt
 
 -- there are as many places as the torrent has files
-pub places_count : (path : List ℕ) (view : View) (places : List (List ℕ)) → ArePlaces path view places
+pub places_count : (place : List ℕ) (view : View) (places : List (List ℕ)) → ArePlaces place view places
     → length places ≡ length view.files
-places_count path view places (inl (one, is)) = ap length is ∙ sym one
-places_count path view places (inr is) =
+places_count place view places (inl (one, is)) = ap length is ∙ sym one
+places_count place view places (inr is) =
     ap length is
-    ∙ length-map (map (λ told. told.file.path) view.files) (place_of path)
+    ∙ length-map (map (λ told. told.file.path) view.files) (place_of place)
     ∙ length-map view.files (λ told. told.file.path)

@@ -12,8 +12,8 @@ use Rattle.tor_source.specs.declared.faults.ScanFault.TheVariants as scans
 use Rattle.tor_tree.specs.Name.{name_fault}
 use Rattle.tor_input.specs.Input.{EndsInput, ReadsSome}
 use Rattle.tor_input.specs.Make.{MakesOf, MakesPart, StopsReading, refusal_of, torrent_of}
-use Rattle.tor_cli.specs.Path.{IsFileFault}
-use Rattle.tor_cli.specs.Request.{IsOrder, IsOrderOf, IsToldFirst, SendsFront, StopsFinding, StopsInput, StopsPath}
+use Rattle.tor_cli.specs.Place.{IsFileFault}
+use Rattle.tor_cli.specs.Request.{IsOrder, IsOrderOf, IsRefusedFirst, SendsFront, StopsFinding, StopsInput, StopsPlace}
 use Rattle.tor_cli.specs.Request.{file_of}
 use Rattle.tor_cli.specs.Streams.{IsUntouched, Streams}
 use Rattle.tor_cli.specs.Status.{of_input_fault, of_make_error, of_scan_fault, of_step_fault}
@@ -32,21 +32,21 @@ is_memory makes.Resources = true
 is_memory error = false
 
 -- want of memory is the program's own, and every other error of making stays what it is
-told_or_memory : (error : MakeError Error)
+kept_or_memory : (error : MakeError Error)
     → ((is_memory error ≡ false) × (of_make_error error ≡ faults.Make error)) ⊎ (error ≡ makes.Resources)
 unfolding is_memory
-told_or_memory makes.PieceLength = inl (refl, refl)
-told_or_memory makes.Workers = inl (refl, refl)
-told_or_memory makes.Span = inl (refl, refl)
-told_or_memory makes.Path = inl (refl, refl)
-told_or_memory makes.SingleShape = inl (refl, refl)
-told_or_memory (makes.List fault) = inl (refl, refl)
-told_or_memory makes.ReservedPad = inl (refl, refl)
-told_or_memory (makes.Read file start fault) = inl (refl, refl)
-told_or_memory (makes.Changed file) = inl (refl, refl)
-told_or_memory (makes.Missing file) = inl (refl, refl)
-told_or_memory makes.Resources = inr refl
-told_or_memory (makes.StreamTooLong file) = inl (refl, refl)
+kept_or_memory makes.PieceLength = inl (refl, refl)
+kept_or_memory makes.Workers = inl (refl, refl)
+kept_or_memory makes.Span = inl (refl, refl)
+kept_or_memory makes.Path = inl (refl, refl)
+kept_or_memory makes.SingleShape = inl (refl, refl)
+kept_or_memory (makes.List fault) = inl (refl, refl)
+kept_or_memory makes.ReservedPad = inl (refl, refl)
+kept_or_memory (makes.Read file start fault) = inl (refl, refl)
+kept_or_memory (makes.Changed file) = inl (refl, refl)
+kept_or_memory (makes.Missing file) = inl (refl, refl)
+kept_or_memory makes.Resources = inr refl
+kept_or_memory (makes.StreamTooLong file) = inl (refl, refl)
 
 is_refused : (order : Order) (error : MakeError Error) → is_memory error ≡ false
     → (refusal_of order ≡ Some error) ⊎ (error ≡ makes.Resources) → refusal_of order ≡ Some error
@@ -68,8 +68,8 @@ module _ (options : MakeOptions) (s : Streams) where
   stops_make : (order : Order) → name_fault options.name.now ≡ None → IsOrder options true order
       → (error : MakeError Error) → StopsReading order s.reader s.reader' (Make error)
       → Keeps s.writer s.writer' → StopsInput options s (of_make_error error)
-  stops_make order named is error (content, reads, either) keeps = elim (told_or_memory error) [
-    | inl told ↦ rw told.1 (named, (order, is, is_refused order error told.0 either), ((content, reads), keeps))
+  stops_make order named is error (content, reads, either) keeps = elim (kept_or_memory error) [
+    | inl kept ↦ rw kept.1 (named, (order, is, is_refused order error kept.0 either), ((content, reads), keeps))
     | inr memory ↦ rw memory ((content, reads.0.given, reads.1), keeps)
   ]
 
@@ -101,7 +101,7 @@ module _ (options : MakeOptions) (s : Streams) where
       (named, (order, is, (content, sent)))
 
   -- a fault that comes before anything was written
-  pub stops_finding : (fault : Fault) → StopsFinding options fault → IsUntouched s → StopsPath options s fault
+  pub stops_finding : (fault : Fault) → StopsFinding options fault → IsUntouched s → StopsPlace options s fault
   stops_finding (faults.Usage line) why untouched = absurd why
   stops_finding (faults.Name fault) why untouched = (why, untouched)
   stops_finding (faults.Scan fault) why untouched = (why, untouched)
@@ -115,12 +115,12 @@ module _ (options : MakeOptions) (s : Streams) where
   stops_finding (faults.Write written) why untouched = absurd why
   stops_finding faults.Resources why untouched = (why, untouched)
 
--- an error of making is told of the order and the paths
+-- an error of making is of the order and the paths
 pub finding_make : (options : MakeOptions) (order : Order) (paths : List (List (List ℕ))) (error : MakeError Error)
-    → IsOrderOf options order paths → IsOwn (make_refusal order paths) error → IsToldFirst order paths error
+    → IsOrderOf options order paths → IsOwn (make_refusal order paths) error → IsRefusedFirst order paths error
     → IsGivenTo (IsFileFault (length paths)) (length paths) error → StopsFinding options (of_make_error error)
-finding_make options order paths error is own first gave = elim (told_or_memory error) [
-  | inl told ↦ rw told.1 (order, paths, is, own, first, gave, is_no_memory error told.0)
+finding_make options order paths error is own first gave = elim (kept_or_memory error) [
+  | inl kept ↦ rw kept.1 (order, paths, is, own, first, gave, is_no_memory error kept.0)
   | inr memory ↦ rw memory tt
 ]
 

@@ -74,13 +74,13 @@ make_app kinds hows = with_rules (new_app (codes "make"))
     (name_option ∷ piece_length_option ∷ kind_option kinds ∷ announce_option ∷ private_option ∷ how_option hows
     ∷ workers_option ∷ span_option ∷ out_option ∷ path_argument ∷ [])
 
--- the word at this place, which has to be there
+-- the word of this number, from 1, which has to be there
 abbrev pub argument_of : List ℕ → ℕ → Rule
-argument_of name place = record (new_rule name) { index = Some place; value_names = 1; required = true }
+argument_of name number = record (new_rule name) { index = Some number; value_names = 1; required = true }
 
--- the word at this place, a number of 64 bits
+-- the word of this number, itself a number of 64 bits
 abbrev pub number_of : List ℕ → ℕ → Rule
-number_of name place = record (argument_of name place) { parser = Some (Unsigned 0 18446744073709551615) }
+number_of name number = record (argument_of name number) { parser = Some (Unsigned 0 18446744073709551615) }
 
 -- the command of this name over one torrent
 abbrev pub file_app : List ℕ → App

@@ -1,4 +1,4 @@
--- What the program tells of a torrent in a file of the system. No contract says which bytes a file has, so a clause
+-- What the program prints of a torrent in a file of the system. No contract says which bytes a file has, so a clause
 -- speaks of some bytes: those that the program took for the file's.
 use Rattle.std.specs.Prelude.{◌≡◌, ◌≢◌, ◌≤◌, ℕ, List, length}
 use Rattle.std.specs.Io.KnownBytes.{Appends}
@@ -25,15 +25,15 @@ pub record IsTorrentWith (bytes : List ℕ) (view : View) (hashes : Hashes) : Ty
   pub hashed : AreInfoHashes (kind_of (info_of root)) (spelling (info_of root)) hashes
 
 -- the bytes are a torrent, and the text is its lines
-abbrev pub IsToldOf : (View → Hashes → List ℕ) → List ℕ → List ℕ → Type 0
-IsToldOf lines bytes text =
+abbrev pub AreLinesOf : (View → Hashes → List ℕ) → List ℕ → List ℕ → Type 0
+AreLinesOf lines bytes text =
     (view : View) × (hashes : Hashes) × IsTorrentWith bytes view hashes × (text ≡ lines view hashes)
 
 -- why the bytes are no torrent; want of memory is no refusal
-abbrev pub IsNotTold : List ℕ → Fault → Type 0
-IsNotTold bytes (Refused refusal) = IsRefusedFor bytes refusal × (refusal ≢ Memory)
-IsNotTold bytes Resources = Unit {0}
-IsNotTold bytes other = ⊥
+abbrev pub IsNoTorrent : List ℕ → Fault → Type 0
+IsNoTorrent bytes (Refused refusal) = IsRefusedFor bytes refusal × (refusal ≢ Memory)
+IsNoTorrent bytes Resources = Unit {0}
+IsNoTorrent bytes other = ⊥
 
 -- bytes that the program read whole, of which this holds
 abbrev pub OfSome : (List ℕ → Type 0) → Type 0
@@ -41,7 +41,7 @@ OfSome Holds = (bytes : List ℕ) × (length bytes ≤ MAX_INPUT_LENGTH) × Hold
 
 -- the lines of a torrent, of which this holds
 abbrev pub TellsOfSome : (View → Hashes → List ℕ) → (List ℕ → Type 0) → Type 0
-TellsOfSome lines Holds = OfSome (λ bytes. (text : List ℕ) × IsToldOf lines bytes text × Holds text)
+TellsOfSome lines Holds = OfSome (λ bytes. (text : List ℕ) × AreLinesOf lines bytes text × Holds text)
 
 -- the lines of a torrent, and nothing else, were written
 abbrev pub DoesTell : (View → Hashes → List ℕ) → Streams → Type 0
@@ -49,7 +49,7 @@ DoesTell lines s = (s.reader' ≡ s.reader) × TellsOfSome lines (Appends s.writ
 
 -- where this fault stopped it
 abbrev pub StopsTelling : (View → Hashes → List ℕ) → Streams → Fault → Type 0
-StopsTelling lines s (Refused refusal) = OfSome (λ bytes. IsNotTold bytes (Refused refusal)) × IsUntouched s
+StopsTelling lines s (Refused refusal) = OfSome (λ bytes. IsNoTorrent bytes (Refused refusal)) × IsUntouched s
 StopsTelling lines s Read = IsUntouched s
 StopsTelling lines s TooLong = IsUntouched s
 StopsTelling lines s (Write written) =

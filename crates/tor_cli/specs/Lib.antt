@@ -1,7 +1,8 @@
 pub mod CommandLine
 pub mod Escape
 pub mod Foreign
-pub mod Path
+pub mod Place
+pub mod ProgressLine
 pub mod ProofText
 pub mod Proving
 pub mod Recheck

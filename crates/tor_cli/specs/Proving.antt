@@ -1,4 +1,4 @@
--- What the program tells of single pieces: the proof of one of a torrent in a file, and whether a proof in a file
+-- What the program prints of single pieces: the proof of one of a torrent in a file, and whether a proof in a file
 -- holds. No contract says which bytes a file has, so a clause speaks of some bytes: those that the program took for the
 -- file's.
 use Rattle.std.specs.Prelude.{◌≡◌, ◌≤◌, ◌<◌, ℕ, Bool, true, false, List, codes, Some, None}
@@ -12,7 +12,7 @@ use Rattle.tor_merkle.specs.Proof.{is_proof, proof_count, proof_level}
 use Rattle.tor_merkle.specs.declared.TheConstants.{MAX_LENGTH}
 use Rattle.tor_spec.specs.valid.Conditions.{IsTorrentOf}
 use Rattle.tor_spec.specs.valid.View.{FileView, view_of}
-use Rattle.tor_cli.specs.Foreign.{IsNotTold, OfSome}
+use Rattle.tor_cli.specs.Foreign.{IsNoTorrent, OfSome}
 use Rattle.tor_input.specs.Make.{IsFront}
 use Rattle.tor_cli.specs.ProofText.{IsProof, IsRootText, proof_text}
 use Rattle.tor_cli.specs.Streams.{IsUntouched, Streams}
@@ -41,7 +41,7 @@ pub record IsProofOf (file index : ℕ) (bytes text : List ℕ) : Type 0 where
 
 -- why there is none; want of memory is no refusal
 abbrev pub IsNotProved : ℕ → ℕ → List ℕ → Fault → Type 0
-IsNotProved file index bytes (Refused refusal) = IsNotTold bytes (Refused refusal)
+IsNotProved file index bytes (Refused refusal) = IsNoTorrent bytes (Refused refusal)
 IsNotProved file index bytes (Piece error) =
     (root : Data) × IsTorrentOf root bytes × (piece_refusal (view_of root) file index ≡ Some error)
 IsNotProved file index bytes Resources = Unit {0}

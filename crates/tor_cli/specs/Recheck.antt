@@ -1,4 +1,4 @@
--- What the program tells of the pieces of a torrent: which are there and right. No contract says which bytes a file
+-- What the program prints of the pieces of a torrent: which are there and right. No contract says which bytes a file
 -- of the system has, so a clause speaks of some bytes, those that the program took for FILE's, and of some bits, those
 -- that were answered of the torrent's pieces, one for each.
 use Rattle.std.specs.Prelude.{◌≡◌, ◌≢◌, ◌⊎◌, ◌==◌, ℕ, Bool, List, [], ◌∷◌, ◌++◌, length, map, decimal, codes}
@@ -14,9 +14,9 @@ use Rattle.tor_source.specs.Places.{place_of}
 use Rattle.tor_source.specs.declared.faults.ScanFault.{ScanFault}
 use Rattle.tor_source.specs.declared.faults.ScanFault.TheVariants as scans
 use Rattle.tor_spec.specs.valid.View.{View}
-use Rattle.tor_cli.specs.Foreign.{IsNotTold, OfSome}
+use Rattle.tor_cli.specs.Foreign.{IsNoTorrent, OfSome}
 use Rattle.tor_input.specs.Make.{IsFront}
-use Rattle.tor_cli.specs.Path.{IsFileFault}
+use Rattle.tor_cli.specs.Place.{IsFileFault}
 use Rattle.tor_cli.specs.Proving.{answer_of}
 use Rattle.tor_cli.specs.Streams.{IsUntouched, Streams}
 use Rattle.tor_cli.specs.declared.answer.Answer.{Answer}
@@ -34,15 +34,15 @@ recheck_text bits =
 abbrev pub recheck_answer : List Bool → Answer
 recheck_answer bits = answer_of (set_count bits == length bits)
 
--- this is told of these bits
+-- this is printed of these bits
 pub record IsReport (bits : List Bool) (text : List ℕ) (answer : Answer) : Type 0 where
-  pub told : text ≡ recheck_text bits
+  pub printed : text ≡ recheck_text bits
   pub answered : answer ≡ recheck_answer bits
 
 -- where the torrent's files are looked for: its one file at the place itself, or each below the place
 abbrev pub ArePlaces : List ℕ → View → List (List ℕ) → Type 0
-ArePlaces path view places = ((length view.files ≡ 1) × (places ≡ path ∷ []))
-    ⊎ (places ≡ map (place_of path) (map (λ told. told.file.path) view.files))
+ArePlaces place view places = ((length view.files ≡ 1) × (places ≡ place ∷ []))
+    ⊎ (places ≡ map (place_of place) (map (λ told. told.file.path) view.files))
 
 -- why they are not: a file by itself is not what a torrent of several files has; or memory was refused
 abbrev pub IsNoPlace : View → ScanFault → Type 0
@@ -50,7 +50,7 @@ IsNoPlace view scans.System = length view.files ≢ 1
 IsNoPlace view scans.Memory = Unit {0}
 IsNoPlace view other = ⊥
 
--- the bytes are a torrent, and this is told of some bits, one for each of its pieces
+-- the bytes are a torrent, and this is printed of some bits, one for each of its pieces
 pub record IsRechecked (bytes text : List ℕ) (answer : Answer) : Type 0 where
   pub view : View
   pub torrent : IsTold bytes view
@@ -64,9 +64,9 @@ IsRecheckFault view error =
     IsGiven (IsFileFault (length view.files)) (length view.files) error × (error ≢ rechecks.Workers)
     × (error ≢ rechecks.Resources)
 
--- why nothing is told of the bytes
+-- why nothing is printed of the bytes
 abbrev pub IsNotRechecked : List ℕ → Fault → Type 0
-IsNotRechecked bytes (Refused refusal) = IsNotTold bytes (Refused refusal)
+IsNotRechecked bytes (Refused refusal) = IsNoTorrent bytes (Refused refusal)
 IsNotRechecked bytes (Scan fault) = (view : View) × IsTold bytes view × IsNoPlace view fault × (fault ≢ scans.Memory)
 IsNotRechecked bytes (Recheck error) = (view : View) × IsTold bytes view × IsRecheckFault view error
 IsNotRechecked bytes Resources = Unit {0}

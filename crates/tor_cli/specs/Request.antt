@@ -15,7 +15,7 @@ use Rattle.tor_tree.specs.Name.{name_fault}
 use Rattle.tor_cli.specs.Foreign.{DoesTell, StopsTelling}
 use Rattle.tor_input.specs.Input.{ReadsAll, ReadsSome, EndsInput}
 use Rattle.tor_input.specs.Make.{IsFront, MakesOf, refusal_of}
-use Rattle.tor_cli.specs.Path.{AreFound, IsFileFault}
+use Rattle.tor_cli.specs.Place.{AreFound, IsFileFault}
 use Rattle.tor_cli.specs.Proving.{DoesProve, DoesVerify, StopsProving, StopsVerifying}
 use Rattle.tor_cli.specs.Recheck.{DoesRecheck, StopsRechecking}
 use Rattle.tor_cli.specs.Status.{status_of}
@@ -31,7 +31,7 @@ use Rattle.tor_cli.specs.declared.answer.Answer.{Answer}
 use Rattle.tor_cli.specs.declared.answer.Answer.TheVariants.{Yes, No}
 use Rattle.tor_cli.specs.declared.command.Request.TheVariants.{Show, Make as ToMake, Check, Magnet, Prove, Verify}
 use Rattle.tor_cli.specs.declared.command.Request.TheVariants.{Recheck as ToRecheck}
-use Rattle.tor_cli.specs.declared.telling.Telling.TheVariants.{Block, Link}
+use Rattle.tor_cli.specs.declared.telling.Telling.TheVariants.{Lines, Link}
 use Rattle.tor_cli.specs.declared.fault.Fault.{Fault}
 use Rattle.tor_cli.specs.declared.fault.Fault.TheVariants.{Usage, Name, Scan, Make, Refused, Piece, Recheck, Argument}
 use Rattle.tor_cli.specs.declared.fault.Fault.TheVariants.{Read, TooLong, Write, Resources}
@@ -110,9 +110,9 @@ abbrev pub IsTorrentAt : MakeOptions → List ℕ → Type 0
 IsTorrentAt options torrent = (order : Order) × (paths : List (List (List ℕ))) × IsOrderOf options order paths
     × (make_refusal {F = Error} order paths ≡ None) × IsMadeOfSome (settings_of_order order) paths torrent
 
--- where the order is refused for the paths, no fault of a file is told in place of the refusal
-abbrev pub IsToldFirst : Order → List (List (List ℕ)) → MakeError Error → Type 0
-IsToldFirst order paths error = (refusal : MakeError Error) → make_refusal order paths ≡ Some refusal
+-- where the order is refused for the paths, no fault of a file stops it before the refusal
+abbrev pub IsRefusedFirst : Order → List (List (List ℕ)) → MakeError Error → Type 0
+IsRefusedFirst order paths error = (refusal : MakeError Error) → make_refusal order paths ≡ Some refusal
     → (error ≡ makes.Resources) ⊎ (error ≡ refusal)
 
 -- why there is no torrent of the files at a place
@@ -120,44 +120,44 @@ abbrev pub StopsFinding : MakeOptions → Fault → Type 0
 StopsFinding options (Name fault) = name_fault options.name.now ≡ Some fault
 StopsFinding options (Scan fault) = (name_fault options.name.now ≡ None) × (fault ≢ scans.Memory)
 StopsFinding options (Make error) = (order : Order) × (paths : List (List (List ℕ))) × IsOrderOf options order paths
-    × IsOwn (make_refusal order paths) error × IsToldFirst order paths error
+    × IsOwn (make_refusal order paths) error × IsRefusedFirst order paths error
     × IsGivenTo (IsFileFault (length paths)) (length paths) error × (error ≢ makes.Resources)
 StopsFinding options Resources = Unit {0}
 StopsFinding options other = ⊥
 
 -- a torrent was made of the files at a place, of which no contract says what they hold
-abbrev pub DoesPath : MakeOptions → Streams → Type 0
-DoesPath options s = (s.reader' ≡ s.reader)
+abbrev pub DoesPlace : MakeOptions → Streams → Type 0
+DoesPlace options s = (s.reader' ≡ s.reader)
     × ((torrent : List ℕ) × IsTorrentAt options torrent × Sends (file_of options) s.writer s.writer' torrent)
 
 -- where this fault stopped it
-abbrev pub StopsPath : MakeOptions → Streams → Fault → Type 0
-StopsPath options s (Write written) = (s.reader' ≡ s.reader)
+abbrev pub StopsPlace : MakeOptions → Streams → Fault → Type 0
+StopsPlace options s (Write written) = (s.reader' ≡ s.reader)
     × ((torrent : List ℕ) × IsTorrentAt options torrent
     × SendsFront (file_of options) s.writer s.writer' written torrent)
-StopsPath options s fault = StopsFinding options fault × IsUntouched s
+StopsPlace options s fault = StopsFinding options fault × IsUntouched s
 
 -- of the reader, or of the files at a place
 abbrev pub DoesFrom : Option (List ℕ) → MakeOptions → Streams → Type 0
 DoesFrom None options s = DoesInput options s
-DoesFrom (Some path) options s = DoesPath options s
+DoesFrom (Some place) options s = DoesPlace options s
 
 abbrev pub StopsFrom : Option (List ℕ) → MakeOptions → Streams → Fault → Type 0
 StopsFrom None options s fault = StopsInput options s fault
-StopsFrom (Some path) options s fault = StopsPath options s fault
+StopsFrom (Some place) options s fault = StopsPlace options s fault
 
 abbrev pub DoesMake : MakeOptions → Streams → Type 0
-DoesMake options s = DoesFrom (option_map (λ path. path.now) options.path) options s
+DoesMake options s = DoesFrom (option_map (λ place. place.now) options.place) options s
 
 abbrev pub StopsMake : MakeOptions → Streams → Fault → Type 0
-StopsMake options s fault = StopsFrom (option_map (λ path. path.now) options.path) options s fault
+StopsMake options s fault = StopsFrom (option_map (λ place. place.now) options.place) options s fault
 
 -- what was asked for was done
 abbrev pub IsDone : Request → Streams → Type 0
 IsDone (Show text) s = (s.reader' ≡ s.reader) × Appends s.writer s.writer' (string_bytes text)
 IsDone (ToMake options) s = DoesMake options s
-IsDone (Check place) s = DoesTell (lines_of Block) s
-IsDone (Magnet place) s = DoesTell (lines_of Link) s
+IsDone (Check torrent) s = DoesTell (lines_of Lines) s
+IsDone (Magnet torrent) s = DoesTell (lines_of Link) s
 IsDone (Prove options) s = DoesProve options s
 IsDone (Verify options) s = DoesVerify options Yes s
 IsDone (ToRecheck options) s = DoesRecheck Yes s
@@ -175,8 +175,8 @@ Stops (Show text) s (Write written) =
     (s.reader' ≡ s.reader) × IsFront s.writer s.writer' written (string_bytes text)
 Stops (Show text) s other = ⊥
 Stops (ToMake options) s fault = StopsMake options s fault
-Stops (Check place) s fault = StopsTelling (lines_of Block) s fault
-Stops (Magnet place) s fault = StopsTelling (lines_of Link) s fault
+Stops (Check torrent) s fault = StopsTelling (lines_of Lines) s fault
+Stops (Magnet torrent) s fault = StopsTelling (lines_of Link) s fault
 Stops (Prove options) s fault = StopsProving options s fault
 Stops (Verify options) s fault = StopsVerifying options s fault
 Stops (ToRecheck options) s fault = StopsRechecking s fault

@@ -36,8 +36,8 @@ abbrev pub hash_lines : Hashes → List ℕ
 hash_lines hashes = hash_line (codes "btih ") hashes.v1 ++ hash_line (codes "btmh 1220") hashes.v2
 
 -- the lines of `tor check`: the torrent as a whole, its files in their order, its hashes
-abbrev pub check_block : View → Hashes → List ℕ
-check_block view hashes =
+abbrev pub check_lines : View → Hashes → List ℕ
+check_lines view hashes =
     head_lines view ++ (flat_map (λ shown. file_line shown.file) view.files ++ hash_lines hashes)
 
 -- the line of `tor magnet`

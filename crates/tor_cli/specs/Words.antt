@@ -52,7 +52,7 @@ pub record AreOptionsIn (rows : List Row) (options : MakeOptions) : Type 0 where
   pub workers : (text : List ℕ) → one_of (codes "workers") rows ≡ Some text → IsNumber text (HasWorkers options.how)
   pub span : (text : List ℕ) → one_of (codes "span") rows ≡ Some text → IsNumber text (λ number. options.span ≡ number)
   pub out : first_of (codes "out") rows ≡ option_map (λ place. place.now) options.out
-  pub path : first_of (codes "path") rows ≡ option_map (λ place. place.now) options.path
+  pub place : first_of (codes "path") rows ≡ option_map (λ place. place.now) options.place
 
 -- the file of a command over one torrent
 abbrev pub IsFileIn : Bor (List ℕ) → List Row → Type 0
@@ -60,7 +60,7 @@ IsFileIn place rows = first_of (codes "file") rows ≡ Some place.now
 
 -- the piece that a proof is wanted of
 pub record IsPieceIn (options : ProveOptions) (rows : List Row) : Type 0 where
-  pub place : first_of (codes "file") rows ≡ Some options.place.now
+  pub torrent : first_of (codes "file") rows ≡ Some options.torrent.now
   pub file : (text : List ℕ) → one_of (codes "file-number") rows ≡ Some text
       → IsNumber text (λ number. options.file ≡ number)
   pub index : (text : List ℕ) → one_of (codes "index") rows ≡ Some text
@@ -75,8 +75,8 @@ pub record IsProofIn (options : VerifyOptions) (rows : List Row) : Type 0 where
 
 -- the torrent that is rechecked, and where its files are looked for
 pub record IsRecheckIn (options : RecheckOptions) (rows : List Row) : Type 0 where
-  pub place : first_of (codes "file") rows ≡ Some options.place.now
-  pub path : first_of (codes "path") rows ≡ Some options.path.now
+  pub torrent : first_of (codes "file") rows ≡ Some options.torrent.now
+  pub place : first_of (codes "path") rows ≡ Some options.place.now
 
 -- this command was found, with rows of which this holds
 abbrev pub HasRows : Option (List ℕ × List Row) → List ℕ → (List Row → Type 0) → Type 0
@@ -87,8 +87,8 @@ abbrev pub IsFoundIn : ArgMatches → Request → Type 0
 IsFoundIn matches (Show text) = Unit {0}
 IsFoundIn matches (Make options) =
     HasRows (subcommand_rows_of matches) (codes "make") (λ rows. AreOptionsIn rows options)
-IsFoundIn matches (Check place) = HasRows (subcommand_rows_of matches) (codes "check") (IsFileIn place)
-IsFoundIn matches (Magnet place) = HasRows (subcommand_rows_of matches) (codes "magnet") (IsFileIn place)
+IsFoundIn matches (Check torrent) = HasRows (subcommand_rows_of matches) (codes "check") (IsFileIn torrent)
+IsFoundIn matches (Magnet torrent) = HasRows (subcommand_rows_of matches) (codes "magnet") (IsFileIn torrent)
 IsFoundIn matches (Prove options) = HasRows (subcommand_rows_of matches) (codes "prove") (IsPieceIn options)
 IsFoundIn matches (Verify options) = HasRows (subcommand_rows_of matches) (codes "verify") (IsProofIn options)
 IsFoundIn matches (Recheck options) = HasRows (subcommand_rows_of matches) (codes "recheck") (IsRecheckIn options)
@@ -102,8 +102,8 @@ HasCommand words command Holds = (kinds hows : ValueParser) × AreKinds kinds ×
 abbrev pub Asks : List (List ℕ) → Request → Type 0
 Asks words (Show text) = Unit {0}
 Asks words (Make options) = HasCommand words (codes "make") (λ rows. AreOptionsIn rows options)
-Asks words (Check place) = HasCommand words (codes "check") (IsFileIn place)
-Asks words (Magnet place) = HasCommand words (codes "magnet") (IsFileIn place)
+Asks words (Check torrent) = HasCommand words (codes "check") (IsFileIn torrent)
+Asks words (Magnet torrent) = HasCommand words (codes "magnet") (IsFileIn torrent)
 Asks words (Prove options) = HasCommand words (codes "prove") (IsPieceIn options)
 Asks words (Verify options) = HasCommand words (codes "verify") (IsProofIn options)
 Asks words (Recheck options) = HasCommand words (codes "recheck") (IsRecheckIn options)

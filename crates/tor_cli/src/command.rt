@@ -19,7 +19,7 @@ use clap::error::ErrorKind;
 use clap::{ArgMatches, Command};
 use std::alloc::{AllocError, Global};
 
-// What the help tells of these commands.
+// What the help says of these commands.
 const CHECK: &str = "Tells what a torrent describes, or why a file is none";
 
 const MAGNET: &str = "Prints the magnet link of a torrent";
@@ -107,11 +107,11 @@ fn request_in<'a>(matches: &ArgMatches<'a>) -> Option<Request<'a>>
     None
 }
 
-/// What is wrong with the words, told of them as they are printed. No word that `clap` knows has a byte that is
+/// What is wrong with the words, said of them as they are printed. No word that `clap` knows has a byte that is
 /// written out, so the same is wrong with the printed ones.
 fn usage_fault(alloc: Global, words: &[&str]) -> Result<Fault, Fault>
-    ensures told { IfOk result IsOfWords }
-    ensures untold { IfErr result IsOfWords }
+    ensures named { IfOk result IsOfWords }
+    ensures unnamed { IfErr result IsOfWords }
 {
     let printed = printed_words(alloc, words)?;
     let error = tor_command(alloc)?.try_get_matches_from(&printed).err();

@@ -160,7 +160,7 @@ impl fmt::Display for Fault {
     }
 }
 
-/// The code and the name, and for a fault of a file its number, from 0 in the order of the paths, and the place.
+/// The code and the name, and for a fault of a file its index in the order of the paths, and the offset.
 fn write_error<W: fmt::Write>(
     error: &MakeError<io::Error>,
     f: &mut fmt::Formatter<W>,
@@ -179,7 +179,7 @@ fn write_error<W: fmt::Write>(
     }
 }
 
-/// The same for a recheck, of whose faults each tells of a file by its number among the torrent's files.
+/// The same for a recheck, of whose faults each names a file by its index among the torrent's files.
 fn write_recheck_error<W: fmt::Write>(
     error: &RecheckError<io::Error>,
     f: &mut fmt::Formatter<W>,

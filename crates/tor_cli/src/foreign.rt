@@ -11,7 +11,7 @@ use tor_check::{Refusal, Torrent, validate};
 use tor_input::{InputFault, MAX_INPUT_LENGTH, read_limited};
 use tor_meta::{Hashes, info_hashes};
 
-/// What is told of a torrent.
+/// What a torrent describes, and its info hashes.
 #[derive(Drop)]
 pub struct Judged {
     pub torrent: Torrent,
@@ -30,7 +30,7 @@ pub fn read_file<H: Files>(alloc: Global, system: &H, place: &str) -> Result<Vec
 
 /// What the torrent describes that the bytes are, and its info hashes; or why they are none.
 pub fn judge(alloc: Global, bytes: &[u8]) -> Result<Judged, Refusal>
-    ensures told { IfOk result (λ judged. IsTorrentWith bytes.now judged.torrent judged.hashes) }
+    ensures accepted { IfOk result (λ judged. IsTorrentWith bytes.now judged.torrent judged.hashes) }
     ensures refused { IfErr result (IsRefusedFor bytes.now) }
 {
     match validate(alloc, bytes) {

@@ -1,39 +1,40 @@
 //! The program `tor` over any reader and writers: it makes BitTorrent metainfo files, and tells what foreign ones
 //! describe. The crate `tor` hands it the words of the command line and the real streams.
 //!
-//! - `run.rt`: the whole program.
+//! - `execute.rt`: the whole program.
 //! - `command.rt`: what the words ask for.
 //! - `make_command.rt`: the command `make`; `make_words.rt`: its words; `options.rt`: what they ask for.
-//! - `from_path.rt`: the torrent of a file or a folder. `out_file.rt`: the file that a torrent goes to.
-//!   `progress.rt`: the line that shows how far the reading is; `amount.rt`: bytes and seconds in it; `watch.rt`: the
-//!   time that has gone.
+//! - `from_place.rt`: the torrent of a file or a folder. `out_file.rt`: the file that a torrent goes to.
+//!   `progress.rt`: how far the reading is, shown on a terminal; `progress_line.rt`: the line; `watch.rt`: the time
+//!   that has gone.
 //! - `telling.rt`: the commands `check` and `magnet`; `torrent_words.rt`: the words of both. `foreign.rt`: the torrent
 //!   in a file, judged; `shown.rt`: the lines that tell of it.
 //! - `prove_command.rt`: the command `prove`; `verify_command.rt`: the command `verify`; `proof_words.rt`: their words;
 //!   `claim.rt`: what those of `verify` claim; `proof_text.rt`: a proof as a text, both ways; `numbers.rt` and
 //!   `digits.rt`: numbers and hashes in texts. `answer.rt`: yes and no.
 //! - `recheck_command.rt`: the command `recheck`; `recheck_words.rt`: its words; `recheck_source.rt`: where the files
-//!   of the torrent are looked for; `recheck_text.rt`: what is told of their pieces.
+//!   of the torrent are looked for; `recheck_text.rt`: what is printed of their pieces.
 //! - `fault.rt`: what stops the program, its line and its status; `fault_of.rt`: which step's fault it is. `escape.rt`:
 //!   the user's text in such a line.
 #![tactic(auto)]
 
-mod amount;
 mod answer;
 mod claim;
 mod command;
 mod digits;
 mod escape;
+pub mod execute;
 pub mod fault;
 mod fault_of;
 mod foreign;
-mod from_path;
+mod from_place;
 mod make_command;
 mod make_words;
 mod numbers;
 mod options;
 mod out_file;
 mod progress;
+pub mod progress_line;
 pub mod proof_text;
 mod proof_words;
 mod prove_command;
@@ -41,7 +42,6 @@ mod recheck_command;
 mod recheck_source;
 mod recheck_text;
 mod recheck_words;
-pub mod run;
 mod shown;
 mod telling;
 mod torrent_words;

@@ -2,11 +2,11 @@
 ghost use Rattle.std.specs.Prelude.{◌≡◌, ◌⊎◌, ◌<◌, ℕ, List, Option, IfErr, IfOk, OnOk, None, Some, length, true};
 ghost use Rattle.tor_tree.specs.Name.{name_fault};
 ghost use Rattle.tor_tree.specs.declared.names.NameError.TheVariants.{Memory};
-ghost use Rattle.tor_cli.specs.Request.{DoesInput, DoesMake, DoesPath, IsOrder, IsTorrentAt, StopsFinding};
-ghost use Rattle.tor_cli.specs.Request.{StopsInput, StopsMake, StopsPath};
+ghost use Rattle.tor_cli.specs.Request.{DoesInput, DoesMake, DoesPlace, IsOrder, IsTorrentAt, StopsFinding};
+ghost use Rattle.tor_cli.specs.Request.{StopsInput, StopsMake, StopsPlace};
 
 use crate::fault::Fault;
-use crate::from_path::{files_at, torrent_of};
+use crate::from_place::{files_at, torrent_of};
 use crate::options::MakeOptions;
 use crate::out_file::{send, write_file};
 use crate::progress::Progress;
@@ -18,7 +18,7 @@ use tor_meta::Order;
 use tor_tree::{Name, NameError};
 
 /// Makes the torrent of one file, whose content the reader has, or of the files at a place of the system. The first of
-/// these faults is told: of the reader, of the name, of the place, of the other options, of the files, of the writer.
+/// these faults is answered: of the reader, the name, the place, the other options, the files, the writer.
 pub fn make<T: Threads + Sync, R: Read, W: Write>(
     rt: &T,
     system: &HostRuntime,
@@ -40,8 +40,8 @@ pub fn make<T: Threads + Sync, R: Read, W: Write>(
       writer' = W.contents out.new;
     })) }
 {
-    match options.path {
-        Some(path) => make_of_path(rt, system, options, path, out, shows_progress),
+    match options.place {
+        Some(place) => make_of_place(rt, system, options, place, out, shows_progress),
         None => make_of_input(system, options, reader, out),
     }
 }
@@ -84,28 +84,28 @@ fn make_of_input<R: Read, W: Write>(
 }
 
 /// Makes the torrent of the file or the folder at a place of the system.
-fn make_of_path<T: Threads + Sync, W: Write>(
+fn make_of_place<T: Threads + Sync, W: Write>(
     rt: &T,
     system: &HostRuntime,
     options: &MakeOptions<'_>,
-    path: &str,
+    place: &str,
     out: &mut W,
     shows_progress: bool,
 ) -> Result<(), Fault>
-    ensures made { (reader : Option (List ℕ)) → OnOk result (DoesPath options.now (record {
+    ensures made { (reader : Option (List ℕ)) → OnOk result (DoesPlace options.now (record {
       reader = reader;
       reader' = reader;
       writer = W.contents out.old;
       writer' = W.contents out.new;
     })) }
-    ensures stopped { (reader : Option (List ℕ)) → IfErr result (StopsPath options.now (record {
+    ensures stopped { (reader : Option (List ℕ)) → IfErr result (StopsPlace options.now (record {
       reader = reader;
       reader' = reader;
       writer = W.contents out.old;
       writer' = W.contents out.new;
     })) }
 {
-    let torrent = torrent_at(rt, system, options, path, shows_progress)?;
+    let torrent = torrent_at(rt, system, options, place, shows_progress)?;
     Ok(send(system, out, options.out, &torrent)?)
 }
 
@@ -114,7 +114,7 @@ fn torrent_at<T: Threads + Sync>(
     rt: &T,
     system: &HostRuntime,
     options: &MakeOptions<'_>,
-    path: &str,
+    place: &str,
     shows_progress: bool,
 ) -> Result<Vec<u8>, Fault>
     ensures made { IfOk result (λ torrent. IsTorrentAt options.now torrent.items) }
@@ -123,7 +123,7 @@ fn torrent_at<T: Threads + Sync>(
 {
     let alloc = system.alloc();
     let name = name_of(alloc, options)?;
-    let found = files_at(system, path, &name)?;
+    let found = files_at(system, place, &name)?;
     let order = order_of(alloc, options, name, found.single)?;
     let progress = match shows_progress {
         true => Progress::start(system, found.paths.len()),

@@ -26,7 +26,7 @@ pub struct MakeOptions<'a> {
     /// The file that the torrent goes to; standard output where there is none.
     pub out: Option<&'a str>,
     /// The file or folder that it is made of; standard input where there is none.
-    pub path: Option<&'a str>,
+    pub place: Option<&'a str>,
 }
 
 /// The options that stand in the words; none where `clap` let through words that give no option its value.
@@ -42,7 +42,7 @@ pub fn make_options<'a>(matches: &ArgMatches<'a>) -> Option<MakeOptions<'a>>
         how: how_of(matches.get_str("how")?, matches.get_one::<u32>("workers")?)?,
         span: matches.get_one::<u32>("span")?,
         out: matches.get_str("out"),
-        path: matches.get_str("path"),
+        place: matches.get_str("path"),
     })
 }
 

@@ -1,7 +1,7 @@
 //! The line on a terminal that shows how far the reading of files is.
 ghost use Rattle.std.specs.Prelude.{◌≡◌};
 
-use crate::amount::{Bytes, Seconds};
+use crate::progress_line::progress_line;
 use crate::watch::Watch;
 use std::alloc::Global;
 use std::io::Eprint;
@@ -73,16 +73,7 @@ impl Progress {
     /// Prints the line over the one before it. Where it cannot be printed, the work goes on.
     fn print(&self, read: u64, now: u64) {
         let total = self.total.load(SeqCst);
-        let speed = read.saturating_mul(1000) / now.max(1);
-        let left = total.saturating_sub(read) / speed.max(1);
-        let line = format!(in self.alloc;
-            "\r{} of {}, {}/s, {} left\x1b[K",
-            Bytes(read),
-            Bytes(total),
-            Bytes(speed),
-            Seconds(left)
-        );
-        if let Ok(line) = line {
+        if let Ok(line) = progress_line(self.alloc, read, total, now) {
             let _ = self.line.eprint(line.as_str());
         }
     }
@@ -107,7 +98,7 @@ impl<'a, S: Source> Source for Counting<'a, S> {
 
     ghost is_steady = { λ counting facts. S.is_steady counting.source.now facts };
 
-    ghost gave = { λ counting file place fault. S.gave counting.source.now file place fault };
+    ghost gave = { λ counting file offset fault. S.gave counting.source.now file offset fault };
 
     fn length(&self, file: u64) -> Result<Option<u64>, S::Fault> {
         let answer = self.source.length(file);

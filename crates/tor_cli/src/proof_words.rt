@@ -13,7 +13,7 @@ use std::alloc::{AllocError, Global};
 #[derive(Clone, Copy)]
 pub struct ProveOptions<'a> {
     /// The file with the torrent.
-    pub place: &'a str,
+    pub torrent: &'a str,
     /// The number of the file in the torrent, from 0.
     pub file: u64,
     /// The number of the piece in the file, from 0.
@@ -68,7 +68,7 @@ pub fn prove_options<'a>(matches: &ArgMatches<'a>) -> Option<ProveOptions<'a>>
     ensures { IfSome result (λ options. IsPieceIn options (rows_of (found_of matches.now))) }
 {
     Some(ProveOptions {
-        place: matches.get_str("file")?,
+        torrent: matches.get_str("file")?,
         file: matches.get_one::<u64>("file-number")?,
         index: matches.get_one::<u64>("index")?,
     })
@@ -89,12 +89,12 @@ pub fn verify_options<'a>(matches: &ArgMatches<'a>) -> Option<VerifyOptions<'a>>
 fn number_of<'a>(
     alloc: Global,
     name: &'a str,
-    place: usize,
+    number: usize,
     shown: &'a str,
     help: &'a str,
 ) -> Arg<'a>
-    ensures rule { rule_of result ≡ number_of name.now place }
+    ensures rule { rule_of result ≡ number_of name.now number }
     ensures local { result.global ≡ false }
 {
-    argument_of(alloc, name, place, shown, help).value_parser(value_parser!(u64))
+    argument_of(alloc, name, number, shown, help).value_parser(value_parser!(u64))
 }

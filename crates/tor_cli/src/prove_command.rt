@@ -31,7 +31,7 @@ pub fn prove<W: Write>(
     })) }
 {
     let alloc = system.alloc();
-    let bytes = read_file(alloc, system, options.place)?;
+    let bytes = read_file(alloc, system, options.torrent)?;
     let text = text_of_piece(alloc, &bytes, options.file, options.index)?;
     Ok(write_out(out, text.as_bytes())?)
 }

@@ -36,28 +36,28 @@ pub fn recheck<T: Threads + Sync, W: Write>(
       writer' = W.contents out.new;
     })) }
 {
-    let bytes = read_file(system.alloc(), system, options.place)?;
-    let report = report_at(rt, system, &bytes, options.path, shows_progress)?;
+    let bytes = read_file(system.alloc(), system, options.torrent)?;
+    let report = report_at(rt, system, &bytes, options.place, shows_progress)?;
     write_out(out, report.text.as_bytes())?;
     Ok(report.answer)
 }
 
-/// What is told of the torrent that the bytes are, by what the system has at a place.
+/// What is printed of the torrent that the bytes are, by what the system has at a place.
 fn report_at<T: Threads + Sync>(
     rt: &T,
     system: &HostRuntime,
     bytes: &[u8],
-    path: &str,
+    place: &str,
     shows_progress: bool,
 ) -> Result<Report, Fault>
-    ensures told { IfOk result (λ report. IsRechecked bytes.now (string_bytes report.text) report.answer) }
+    ensures rechecked { IfOk result (λ report. IsRechecked bytes.now (string_bytes report.text) report.answer) }
     ensures stopped { IfErr result (IsNotRechecked bytes.now) }
 {
     let torrent = match validate(system.alloc(), bytes) {
         Ok(torrent) => torrent,
         Err(refusal) => return Err(Fault::from(refusal)),
     };
-    let source = match source_at(system, path, &torrent) {
+    let source = match source_at(system, place, &torrent) {
         Ok(source) => source,
         Err(fault) => return Err(Fault::from(fault)),
     };

@@ -13,22 +13,22 @@ use tor_tree::FilePath;
 /// there, whether they are there or not. A link at the place itself is followed.
 pub fn source_at(
     system: &HostRuntime,
-    path: &str,
+    place: &str,
     torrent: &Torrent,
 ) -> Result<FolderSource<HostRuntime>, ScanFault>
-    ensures placed { IfOk result (ArePlaces path.now torrent.now) }
+    ensures placed { IfOk result (ArePlaces place.now torrent.now) }
     ensures refused { IfErr result (IsNoPlace torrent.now) }
 {
     let files = torrent.files();
-    match system.metadata(path) {
+    match system.metadata(place) {
         Ok(metadata) if metadata.is_file() => match files {
-            [_] => Ok(FolderSource::single(system, path)?),
+            [_] => Ok(FolderSource::single(system, place)?),
             _ => Err(ScanFault::System),
         },
         Err(error) if error.kind() == ErrorKind::OutOfMemory => Err(ScanFault::Memory),
         _ => {
             let paths = paths_of(system.alloc(), files)?;
-            Ok(FolderSource::at(system, path, paths)?)
+            Ok(FolderSource::at(system, place, paths)?)
         }
     }
 }

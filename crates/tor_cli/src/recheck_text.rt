@@ -17,7 +17,7 @@ use tor_engine::How;
 use tor_recheck::{Bits, RecheckError, recheck};
 use tor_source::Source;
 
-/// What is told of a recheck.
+/// What is printed of a recheck.
 #[derive(Drop)]
 pub struct Report {
     /// Two lines: how many pieces are there and right, of how many; and the bitfield.
@@ -26,7 +26,7 @@ pub struct Report {
     pub answer: Answer,
 }
 
-/// What is told of the torrent's pieces in a source. The progress that is shown meanwhile is erased at the end.
+/// What is printed of the torrent's pieces in a source. The progress that is shown meanwhile is erased at the end.
 pub fn counted_report<S: Source, T: Threads + Sync>(
     rt: &T,
     alloc: Global,
@@ -34,7 +34,7 @@ pub fn counted_report<S: Source, T: Threads + Sync>(
     torrent: &Torrent,
     progress: Option<Progress>,
 ) -> Result<Report, RecheckError<S::Fault>>
-    ensures told { IfOk result (λ report. (bits : List Bool) × (length bits ≡ torrent.now.piece_count)
+    ensures reported { IfOk result (λ report. (bits : List Bool) × (length bits ≡ torrent.now.piece_count)
         × IsReport bits (string_bytes report.text) report.answer) }
     ensures found { (facts : SourceFacts S.Fault) → S.is_steady source.now facts →
         MatchResult result

@@ -12,9 +12,9 @@ use std::alloc::{AllocError, Global};
 #[derive(Clone, Copy)]
 pub struct RecheckOptions<'a> {
     /// The file with the torrent.
-    pub place: &'a str,
+    pub torrent: &'a str,
     /// The file or folder that has the torrent's files.
-    pub path: &'a str,
+    pub place: &'a str,
 }
 
 /// The command `recheck`.
@@ -34,7 +34,7 @@ pub fn recheck_options<'a>(matches: &ArgMatches<'a>) -> Option<RecheckOptions<'a
     ensures { IfSome result (λ options. IsRecheckIn options (rows_of (found_of matches.now))) }
 {
     Some(RecheckOptions {
-        place: matches.get_str("file")?,
-        path: matches.get_str("path")?,
+        torrent: matches.get_str("file")?,
+        place: matches.get_str("path")?,
     })
 }

@@ -1,7 +1,7 @@
 //! The lines that tell of a torrent.
 ghost use Rattle.hex.specs.Hex.{encode_lower};
 ghost use Rattle.std.specs.Prelude.{◌≡◌, ◌++◌, IfOk, OnOk, codes, string_bytes};
-ghost use Rattle.tor_cli.specs.Shown.{check_block, file_line, hash_lines, head_lines, magnet_line, path_text};
+ghost use Rattle.tor_cli.specs.Shown.{check_lines, file_line, hash_lines, head_lines, magnet_line, path_text};
 ghost use Rattle.tor_meta.specs.Hashes.{HasHash};
 ghost use Rattle.tor_cli.specs.Words.{word_of};
 
@@ -14,15 +14,15 @@ use tor_meta::{Hashes, magnet};
 use tor_tree::{FilePath, Kind, TreeFile};
 
 /// The torrent as a whole, then its files in its order, then its info hashes. The user's text is escaped.
-pub fn check_block(alloc: Global, torrent: &Torrent, hashes: &Hashes) -> Result<String, AllocError>
-    ensures { IfOk result (λ block. string_bytes block ≡ check_block torrent.now hashes.now) }
+pub fn check_lines(alloc: Global, torrent: &Torrent, hashes: &Hashes) -> Result<String, AllocError>
+    ensures { IfOk result (λ lines. string_bytes lines ≡ check_lines torrent.now hashes.now) }
 {
-    let mut block = head_lines(alloc, torrent)?;
+    let mut lines = head_lines(alloc, torrent)?;
     for shown in torrent.files() {
-        push_file(alloc, &mut block, shown.file())?;
+        push_file(alloc, &mut lines, shown.file())?;
     }
-    push_hashes(alloc, &mut block, hashes)?;
-    Ok(block)
+    push_hashes(alloc, &mut lines, hashes)?;
+    Ok(lines)
 }
 
 /// The magnet link.
@@ -59,12 +59,12 @@ fn word_of(kind: Kind) -> &'static str
     }
 }
 
-fn push_file(alloc: Global, block: &mut String, file: &TreeFile) -> Result<(), AllocError>
-    ensures { OnOk result (string_bytes block.new ≡ string_bytes block.old ++ file_line file.now) }
+fn push_file(alloc: Global, lines: &mut String, file: &TreeFile) -> Result<(), AllocError>
+    ensures { OnOk result (string_bytes lines.new ≡ string_bytes lines.old ++ file_line file.now) }
 {
     let length = file.length;
     let path = escaped(alloc, path_text(alloc, &file.path)?.as_str())?;
-    writeln!(block, "{length} {path}")
+    writeln!(lines, "{length} {path}")
 }
 
 /// The names of a path, a slash between each two.
@@ -79,22 +79,22 @@ fn path_text(alloc: Global, path: &FilePath) -> Result<String, AllocError>
 }
 
 /// A line for each hash. That of version 2 is a multihash: 12 says SHA-256, 20 its 32 bytes.
-fn push_hashes(alloc: Global, block: &mut String, hashes: &Hashes) -> Result<(), AllocError>
-    ensures { OnOk result (string_bytes block.new ≡ string_bytes block.old ++ hash_lines hashes.now) }
+fn push_hashes(alloc: Global, lines: &mut String, hashes: &Hashes) -> Result<(), AllocError>
+    ensures { OnOk result (string_bytes lines.new ≡ string_bytes lines.old ++ hash_lines hashes.now) }
 {
     if let Some(hash) = &hashes.v1 {
-        push_hash(alloc, block, "btih ", hash.as_slice())?;
+        push_hash(alloc, lines, "btih ", hash.as_slice())?;
     }
     if let Some(hash) = &hashes.v2 {
-        push_hash(alloc, block, "btmh 1220", hash.as_slice())?;
+        push_hash(alloc, lines, "btmh 1220", hash.as_slice())?;
     }
     Ok(())
 }
 
-fn push_hash(alloc: Global, block: &mut String, before: &str, hash: &[u8]) -> Result<(), AllocError>
-    ensures { OnOk result (string_bytes block.new
-        ≡ string_bytes block.old ++ (before.now ++ (encode_lower hash.now ++ codes "\n"))) }
+fn push_hash(alloc: Global, lines: &mut String, before: &str, hash: &[u8]) -> Result<(), AllocError>
+    ensures { OnOk result (string_bytes lines.new
+        ≡ string_bytes lines.old ++ (before.now ++ (encode_lower hash.now ++ codes "\n"))) }
 {
     let digits = encode(alloc, hash)?;
-    writeln!(block, "{before}{digits}")
+    writeln!(lines, "{before}{digits}")
 }

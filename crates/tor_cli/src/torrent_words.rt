@@ -31,19 +31,19 @@ pub fn file_of<'a>(matches: &ArgMatches<'a>) -> Option<&'a str>
     matches.get_str("file")
 }
 
-/// The word at this place, which has to be there.
+/// The word of this number, from 1, which has to be there.
 pub fn argument_of<'a>(
     alloc: Global,
     name: &'a str,
-    place: usize,
+    number: usize,
     shown: &'a str,
     help: &'a str,
 ) -> Arg<'a>
-    ensures rule { rule_of result ≡ argument_of name.now place }
+    ensures rule { rule_of result ≡ argument_of name.now number }
     ensures local { result.global ≡ false }
 {
     Arg::new(alloc, name)
-        .index(place)
+        .index(number)
         .value_name(shown)
         .required(true)
         .help(help)

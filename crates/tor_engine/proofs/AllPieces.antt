@@ -12,7 +12,7 @@ use Rattle.tor_engine.specs.PieceFault.{first_asked_fault, first_piece_fault, le
 use Rattle.tor_engine.specs.PieceHashes.{hash_if_there, pieces_of_plan, piece_hashes}
 use Rattle.tor_engine.specs.steps.Pieces.{AreTold, first_unit_fault, unit_hashes, unit_pieces_fault}
 use Rattle.tor_engine.proofs.FirstOf.{or_none}
-use Rattle.tor_engine.proofs.PlaceFaults.{first_flat}
+use Rattle.tor_engine.proofs.PositionFaults.{first_flat}
 
 joined_maps : {X Y Z : Type 0} (f : Y → Z) (g : X → List Y) (xs : List X)
     → flat_map (λ x. map f (g x)) xs ≡ map f (flat_map g xs)

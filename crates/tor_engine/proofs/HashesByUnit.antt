@@ -86,67 +86,67 @@ module _ (roots_of_units : RootsOfUnits) (p span : ℕ) (allowed : IsPieceLength
         (omega (arith, short, piece_in_unit))
   ]
 
-  module _ (contents : List (List ℕ)) (place : ℕ) (content : List ℕ) (is : get_or contents place [] ≡ content) where
+  module _ (contents : List (List ℕ)) (index : ℕ) (content : List ℕ) (is : get_or contents index [] ≡ content) where
     -- a unit of a file has a run of its content
-    hashes_of_file_unit : (tail k : ℕ) → hashes_of_unit p contents (file_unit size place (length content) tail k)
+    hashes_of_file_unit : (tail k : ℕ) → hashes_of_unit p contents (file_unit size index (length content) tail k)
         ≡ hashes_of_bytes p (length content) (run_at size content k)
     hashes_of_file_unit tail k =
         let rest = drop (k * size) content in
         let count = min (length content - k * size) size in
         let hashes : List ℕ → List (List ℕ) = λ xs. hashes_of_bytes p (length xs) (take count (drop (k * size) xs)) in
         let counted : count ≡ min size (length rest) = omega (arith, length-drop (k * size) content) in
-        append-nil (hashes (get_or contents place [])) ∙ ap hashes is
+        append-nil (hashes (get_or contents index [])) ∙ ap hashes is
         ∙ ap (hashes_of_bytes p (length content)) (ap (λ n. take n rest) counted ∙ take_min size rest)
 
     -- all units of a file
     hashes_of_cut_file : (tail : ℕ)
-        → flat_map (hashes_of_unit p contents) (units_of_file size place (length content) tail)
+        → flat_map (hashes_of_unit p contents) (units_of_file size index (length content) tail)
         ≡ hashes_of_file p content
     hashes_of_cut_file tail =
-        same_each (hashes_of_unit p contents) (file_unit size place (length content) tail)
+        same_each (hashes_of_unit p contents) (file_unit size index (length content) tail)
         (hashes_of_bytes p (length content)) (run_at size content) (hashes_of_file_unit tail)
         (range_with_len 0 (div_ceil (length content) size))
         ∙ hashes_of_runs content
 
   -- a file, and units that have what comes after it
-  one_file : (contents : List (List ℕ)) (place m tail : ℕ) (others : List PlanUnit) (lengths : List ℕ)
-      → ((rest : List (List ℕ)) → drop (place + 1) contents ≡ rest → map length rest ≡ lengths
+  one_file : (contents : List (List ℕ)) (index m tail : ℕ) (others : List PlanUnit) (lengths : List ℕ)
+      → ((rest : List (List ℕ)) → drop (index + 1) contents ≡ rest → map length rest ≡ lengths
       → flat_map (hashes_of_unit p contents) others ≡ flat_map (hashes_of_file p) rest)
-      → (rest : List (List ℕ)) → drop place contents ≡ rest → map length rest ≡ m ∷ lengths
-      → flat_map (hashes_of_unit p contents) (units_of_file size place m tail ++ others)
+      → (rest : List (List ℕ)) → drop index contents ≡ rest → map length rest ≡ m ∷ lengths
+      → flat_map (hashes_of_unit p contents) (units_of_file size index m tail ++ others)
       ≡ flat_map (hashes_of_file p) rest
-  one_file contents place m tail others lengths later [] split fit = cc
-  one_file contents place m tail others lengths later (content ∷ rest) split fit =
+  one_file contents index m tail others lengths later [] split fit = cc
+  one_file contents index m tail others lengths later (content ∷ rest) split fit =
       let long : length content ≡ m = cc in
-      let next : place ≡ place + 0 = omega arith in
-      let here : get_or contents place [] ≡ content =
-      ap (λ n. get_or contents n []) next ∙ sym (get_or-drop place contents 0 []) ∙ ap (λ xs. get_or xs 0 []) split in
-      flat_map-append (hashes_of_unit p contents) (units_of_file size place m tail) others
+      let next : index ≡ index + 0 = omega arith in
+      let here : get_or contents index [] ≡ content =
+      ap (λ n. get_or contents n []) next ∙ sym (get_or-drop index contents 0 []) ∙ ap (λ xs. get_or xs 0 []) split in
+      flat_map-append (hashes_of_unit p contents) (units_of_file size index m tail) others
       ∙ ap₂ (λ xs ys. xs ++ ys)
-      (ap (λ n. flat_map (hashes_of_unit p contents) (units_of_file size place n tail)) (sym long)
-      ∙ hashes_of_cut_file contents place content here tail)
-      (later rest (sym (drop-drop 1 place contents) ∙ ap (drop 1) split) cc)
+      (ap (λ n. flat_map (hashes_of_unit p contents) (units_of_file size index n tail)) (sym long)
+      ∙ hashes_of_cut_file contents index content here tail)
+      (later rest (sym (drop-drop 1 index contents) ∙ ap (drop 1) split) cc)
 
   abbrev AreHashesFrom : List (List ℕ) → ℕ → List Entry → Type 0
-  AreHashesFrom contents place entries =
-      (rest : List (List ℕ)) → drop place contents ≡ rest → map length rest ≡ lengths_of_entries entries
-      → flat_map (hashes_of_unit p contents) (separate_entry_units size place entries)
+  AreHashesFrom contents index entries =
+      (rest : List (List ℕ)) → drop index contents ≡ rest → map length rest ≡ lengths_of_entries entries
+      → flat_map (hashes_of_unit p contents) (separate_entry_units size index entries)
       ≡ flat_map (hashes_of_file p) rest
 
-  one_entry : (contents : List (List ℕ)) (place : ℕ) (path : List (List ℕ)) (m : ℕ) (pad : Bool) (entries : List Entry)
-      → AreHashesFrom contents place entries → AreHashesFrom contents (place + 1) entries
-      → AreHashesFrom contents place (record { path = path; length = m; pad = pad } ∷ entries)
+  one_entry : (contents : List (List ℕ)) (index : ℕ) (path : List (List ℕ)) (m : ℕ) (pad : Bool) (entries : List Entry)
+      → AreHashesFrom contents index entries → AreHashesFrom contents (index + 1) entries
+      → AreHashesFrom contents index (record { path = path; length = m; pad = pad } ∷ entries)
   unfolding separate_entry_units
-  one_entry contents place path m true entries same later = same
-  one_entry contents place path m false entries same later =
-      one_file contents place m (padding_before_next entries) (separate_entry_units size (place + 1) entries)
+  one_entry contents index path m true entries same later = same
+  one_entry contents index path m false entries same later =
+      one_file contents index m (padding_before_next entries) (separate_entry_units size (index + 1) entries)
       (lengths_of_entries entries) later
 
-  -- the files of the entries from a place on
-  pub hashes_from : (contents : List (List ℕ)) (place : ℕ) (entries : List Entry) → AreHashesFrom contents place entries
+  -- the files of the entries from an index on
+  pub hashes_from : (contents : List (List ℕ)) (index : ℕ) (entries : List Entry) → AreHashesFrom contents index entries
   unfolding separate_entry_units
-  hashes_from contents place [] [] split fit = refl
-  hashes_from contents place [] (content ∷ rest) split fit = cc
-  hashes_from contents place (entry ∷ entries) rest split fit =
-      one_entry contents place entry.path entry.length entry.pad entries (hashes_from contents place entries)
-      (hashes_from contents (place + 1) entries) rest split fit
+  hashes_from contents index [] [] split fit = refl
+  hashes_from contents index [] (content ∷ rest) split fit = cc
+  hashes_from contents index (entry ∷ entries) rest split fit =
+      one_entry contents index entry.path entry.length entry.pad entries (hashes_from contents index entries)
+      (hashes_from contents (index + 1) entries) rest split fit

@@ -14,8 +14,8 @@ pub mod PartBytes
 pub mod PartReads
 pub mod Parts
 pub mod PartsInside
-pub mod PlaceFaults
-pub mod Places
+pub mod PositionFaults
+pub mod Positions
 pub mod PlanFaults
 pub mod PlanPieces
 pub mod ProvedLaws

@@ -8,7 +8,7 @@ use Rattle.tor_tree.specs.declared.kinds.Kind.{Kind}
 use Rattle.tor_engine.specs.Fault.{byte_fault, first_of}
 use Rattle.tor_engine.specs.declared.errors.EngineError.{EngineError}
 use Rattle.tor_engine.specs.declared.worker.WorkerSums.{WorkerSums}
-use Rattle.tor_engine.specs.steps.Place.{IsFaultFree}
+use Rattle.tor_engine.specs.steps.ReadBytes.{IsFaultFree}
 use Rattle.tor_engine.specs.steps.Worker.{HasTaken}
 use Rattle.tor_engine.proofs.FirstOf.{first_found, first_none}
 
@@ -33,7 +33,7 @@ fed_more kind p sums before unit front next all is given =
     (append_assoc unit front next ∙ ap (λ bytes. unit ++ bytes) is) given
 
 module _ {F : Type 0} (facts : SourceFacts F) (file start : ℕ) where
-  -- the bytes from a later place on
+  -- the bytes from a later offset on
   pub later_bytes : (done : ℕ) → bytes_from facts file (start + done) ≡ drop done (bytes_from facts file start)
   later_bytes done = sym (drop-drop done start (unwrap_or (facts.contents file) []))
 

@@ -2,7 +2,7 @@
 use Rattle.std.proofs.Common.{◌≡◌, ◌<◌, ◌*◌, ap, sym, ◌∙◌, arith, mul-pos}
 use Rattle.tor_engine.specs.Fault.{first_byte_fault, units_fault}
 use Rattle.tor_engine.proofs.FileHashes.{some_piece}
-use Rattle.tor_engine.proofs.PlaceFaults.{fault_of_entries}
+use Rattle.tor_engine.proofs.PositionFaults.{fault_of_entries}
 use Rattle.tor_plan.specs.PlanFacts.{IsPlan, PlanFacts}
 use Rattle.tor_source.specs.Source.{SourceFacts}
 

@@ -5,7 +5,7 @@ use Rattle.tor_plan.specs.Units.{hash_units}
 use Rattle.tor_source.specs.Source.{SourceFacts}
 use Rattle.tor_tree.specs.FileList.{lengths_of}
 use Rattle.tor_tree.specs.declared.kinds.Kind.{Kind}
-use Rattle.tor_engine.proofs.PlaceFaults.{fault_of_units}
+use Rattle.tor_engine.proofs.PositionFaults.{fault_of_units}
 
 pub first_fault_of_units : {F : Type 0} (facts : SourceFacts F) (kind : Kind) (piece_length span : ℕ)
     (files : List (List (List ℕ) × ℕ)) → 0 < span * piece_length

@@ -12,7 +12,7 @@ use Rattle.std.proofs.lemmas.List.Folds.{flat_map-map}
 use Rattle.std.proofs.lemmas.List.Sums.{sum_by-cons}
 use Rattle.std.proofs.lemmas.Simd.{map-map}
 use Rattle.tor_plan.specs.PlanFacts.{IsPlan, PlanFacts}
-use Rattle.tor_plan.specs.Places.{places, places_of_files, places_of_part, places_of_unit}
+use Rattle.tor_plan.specs.Positions.{positions, positions_of_files, positions_of_part, positions_of_unit}
 use Rattle.tor_plan.specs.WithinEntries.{IsInFile}
 use Rattle.tor_plan.specs.declared.units.Part.{Part}
 use Rattle.tor_plan.specs.declared.units.PlanUnit.{PlanUnit}
@@ -22,7 +22,7 @@ use Rattle.tor_engine.specs.steps.Run.{IsUnitOf, parts_of}
 use Rattle.tor_engine.proofs.FileHashes.{some_piece}
 use Rattle.tor_engine.proofs.PartReads.{all_append}
 use Rattle.tor_engine.proofs.Parts.{parts_there, size_of}
-use Rattle.tor_engine.proofs.Places.{length_of_places, length_places}
+use Rattle.tor_engine.proofs.Positions.{length_of_positions, length_positions}
 use Rattle.tor_engine.proofs.Whole.{units_of_plan}
 use Rattle.tor_plan.proofs.ProvedLaws.{entry_units_name_each_byte}
 
@@ -45,24 +45,24 @@ cut_lengths (n ∷ lengths) bytes long =
     ap₂ (λ m ms. m ∷ ms) (first_long n lengths bytes long)
     (cut_lengths lengths (drop n bytes) (rest_long n lengths bytes long))
 
--- ---- bytes by their places
+-- ---- bytes by their positions
 
 abbrev byte_at : List (List ℕ) → ℕ × ℕ → ℕ
-byte_at contents place = get_or (get_or contents place.0 []) place.1 0
+byte_at contents position = get_or (get_or contents position.0 []) position.1 0
 
-by_places : (xs : List ℕ) (a n : ℕ) → a + n ≤ length xs
-    → map (λ place. get_or xs place 0) (range_with_len a n) ≡ take n (drop a xs)
-by_places xs a zero fits = refl
-by_places xs a (suc n) fits =
-    ap (λ ys. get_or xs a 0 ∷ ys) (by_places xs (a + 1) n (omega (arith, fits)))
+by_offsets : (xs : List ℕ) (a n : ℕ) → a + n ≤ length xs
+    → map (λ offset. get_or xs offset 0) (range_with_len a n) ≡ take n (drop a xs)
+by_offsets xs a zero fits = refl
+by_offsets xs a (suc n) fits =
+    ap (λ ys. get_or xs a 0 ∷ ys) (by_offsets xs (a + 1) n (omega (arith, fits)))
     ∙ ap (take (suc n)) (sym (drop_more xs a 0 (omega (arith, fits))))
 
--- the bytes of a run of places of a file
+-- the bytes of a run of positions of a file
 bytes_there : (contents : List (List ℕ)) (file start count : ℕ) → start + count ≤ length (get_or contents file [])
-    → map (byte_at contents) (places file start count) ≡ take count (drop start (get_or contents file []))
+    → map (byte_at contents) (positions file start count) ≡ take count (drop start (get_or contents file []))
 bytes_there contents file start count fits =
-    map-map (byte_at contents) (λ place. (file, place)) (range_with_len start count)
-    ∙ by_places (get_or contents file []) start count fits
+    map-map (byte_at contents) (λ offset. (file, offset)) (range_with_len start count)
+    ∙ by_offsets (get_or contents file []) start count fits
 
 no_bytes : (bytes : List ℕ) → length bytes ≡ 0 → [] ≡ bytes
 no_bytes [] none = refl
@@ -70,15 +70,15 @@ no_bytes (byte ∷ bytes) none = absurd (omega (arith, none))
 
 -- what was cut, joined again
 cut_bytes : (contents : List (List ℕ)) (file : ℕ) (lengths bytes : List ℕ) → length bytes ≡ sum lengths
-    → drop file contents ≡ cut lengths bytes → map (byte_at contents) (places_of_files file lengths) ≡ bytes
-unfolding cut places_of_files
+    → drop file contents ≡ cut lengths bytes → map (byte_at contents) (positions_of_files file lengths) ≡ bytes
+unfolding cut positions_of_files
 cut_bytes contents file [] bytes long split = no_bytes bytes long
 cut_bytes contents file (n ∷ lengths) bytes long split =
     let next : file ≡ file + 0 = omega arith in
     let here : get_or contents file [] ≡ take n bytes =
     ap (λ k. get_or contents k []) next ∙ sym (get_or-drop file contents 0 []) ∙ ap (λ xs. get_or xs 0 []) split in
     let size = ap length here ∙ first_long n lengths bytes long in
-    map-append (byte_at contents) (places file 0 n) (places_of_files (file + 1) lengths)
+    map-append (byte_at contents) (positions file 0 n) (positions_of_files (file + 1) lengths)
     ∙ ap₂ (λ xs ys. xs ++ ys)
     (bytes_there contents file 0 n (omega (arith, size)) ∙ take_all n (get_or contents file [])
     (omega (arith, size)) ∙ here)
@@ -88,33 +88,34 @@ cut_bytes contents file (n ∷ lengths) bytes long split =
 
 -- ---- what was read, part by part
 
-flat_parts : (units : List PlanUnit) → flat_map places_of_unit units ≡ flat_map places_of_part (parts_of units)
+flat_parts : (units : List PlanUnit) → flat_map positions_of_unit units ≡ flat_map positions_of_part (parts_of units)
 flat_parts [] = refl
 flat_parts (unit ∷ units) =
-    ap (λ ps. places_of_unit unit ++ ps) (flat_parts units)
-    ∙ sym (flat_map-append places_of_part unit.parts (parts_of units))
+    ap (λ ps. positions_of_unit unit ++ ps) (flat_parts units)
+    ∙ sym (flat_map-append positions_of_part unit.parts (parts_of units))
 
-abbrev read_places : List PartRead → List (ℕ × ℕ)
-read_places reads = flat_map (λ read. places_of_part read.0) reads
+abbrev read_positions : List PartRead → List (ℕ × ℕ)
+read_positions reads = flat_map (λ read. positions_of_part read.0) reads
 
--- there are as many bytes as places
+-- there are as many bytes as positions
 as_many : (reads : List PartRead) → AllByRecursion (λ read. length read.1 ≡ read.0.length) reads
-    → length (flat_map (λ read. read.1) reads) ≡ length (read_places reads)
+    → length (flat_map (λ read. read.1) reads) ≡ length (read_positions reads)
 as_many [] whole = refl
 as_many (read ∷ reads) whole =
     length-append read.1 (flat_map (λ read. read.1) reads)
-    ∙ ap₂ (λ a b. a + b) (whole.0 ∙ sym (length_places read.0.file read.0.start read.0.length)) (as_many reads whole.1)
-    ∙ sym (length-append (places_of_part read.0) (read_places reads))
+    ∙ ap₂ (λ a b. a + b) (whole.0 ∙ sym (length_positions read.0.file read.0.start read.0.length))
+    (as_many reads whole.1)
+    ∙ sym (length-append (positions_of_part read.0) (read_positions reads))
 
 module _ (contents : List (List ℕ)) where
   abbrev bytes_in : PartRead → List ℕ
-  bytes_in read = map (byte_at contents) (places_of_part read.0)
+  bytes_in read = map (byte_at contents) (positions_of_part read.0)
 
-  joined_bytes : (reads : List PartRead) → flat_map bytes_in reads ≡ map (byte_at contents) (read_places reads)
+  joined_bytes : (reads : List PartRead) → flat_map bytes_in reads ≡ map (byte_at contents) (read_positions reads)
   joined_bytes [] = refl
   joined_bytes (read ∷ reads) =
       ap (λ xs. bytes_in read ++ xs) (joined_bytes reads)
-      ∙ sym (map-append (byte_at contents) (places_of_part read.0) (read_places reads))
+      ∙ sym (map-append (byte_at contents) (positions_of_part read.0) (read_positions reads))
 
   -- lists that are the same when they are joined are the same where their lengths are
   each_alike : (reads : List PartRead) → AllByRecursion (λ read. length read.1 ≡ read.0.length) reads
@@ -124,8 +125,8 @@ module _ (contents : List (List ℕ)) where
   each_alike (read ∷ reads) whole same =
       let rest = flat_map bytes_in reads in
       let later = flat_map (λ (r : PartRead). r.1) reads in
-      let long : length (bytes_in read) ≡ length read.1 = length-map (places_of_part read.0) (byte_at contents)
-      ∙ length_places read.0.file read.0.start read.0.length ∙ sym whole.0 in (
+      let long : length (bytes_in read) ≡ length read.1 = length-map (positions_of_part read.0) (byte_at contents)
+      ∙ length_positions read.0.file read.0.start read.0.length ∙ sym whole.0 in (
         sym (take-append_seam (bytes_in read) rest) ∙ ap (take (length (bytes_in read))) same
             ∙ ap (λ n. take n (read.1 ++ later)) long ∙ take-append_seam read.1 later,
         each_alike reads whole.1 (sym (drop-append_seam (bytes_in read) rest)
@@ -168,13 +169,13 @@ contents_there is_steady plan reads is are =
     let p = plan.piece_length in
     let pos : 0 < is.span * p = mul-pos (omega (arith, is.is_span.1)) (some_piece plan.kind p is.pieces) in
     let bytes = flat_map (λ (read : PartRead). read.1) reads in
-    let all : read_places reads ≡ places_of_files 0 plan.lengths =
-    sym (flat_map-map places_of_part (λ (read : PartRead). read.0) reads)
-    ∙ ap (flat_map places_of_part) are.each ∙ sym (flat_parts plan.units)
-    ∙ ap (λ facts. flat_map places_of_unit facts.units) is.made
+    let all : read_positions reads ≡ positions_of_files 0 plan.lengths =
+    sym (flat_map-map positions_of_part (λ (read : PartRead). read.0) reads)
+    ∙ ap (flat_map positions_of_part) are.each ∙ sym (flat_parts plan.units)
+    ∙ ap (λ facts. flat_map positions_of_unit facts.units) is.made
     ∙ entry_units_name_each_byte plan.kind p is.span is.entries pos
-    ∙ ap (λ facts. places_of_files 0 facts.lengths) (sym is.made) in
-    let long = as_many reads are.whole ∙ ap length all ∙ length_of_places 0 plan.lengths in
+    ∙ ap (λ facts. positions_of_files 0 facts.lengths) (sym is.made) in
+    let long = as_many reads are.whole ∙ ap length all ∙ length_of_positions 0 plan.lengths in
     let contents = cut plan.lengths bytes in
     let fit = cut_lengths plan.lengths bytes long in
     let same = joined_bytes contents reads ∙ ap (map (byte_at contents)) all

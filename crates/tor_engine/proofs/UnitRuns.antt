@@ -23,8 +23,9 @@ module _ {F : Type 0} (is_steady : SourceFacts F → Type 0) (plan : PlanFacts) 
   abbrev pieces_in : List (List ℕ) → PlanUnit → List ℕ
   pieces_in contents unit = piece_sums plan.piece_length (unit_content contents unit)
 
-  pub units_none : (run : RunSums) → run.hashes.items ≡ [] → run.pieces.items ≡ [] → HashesUnits is_steady plan [] run
-  units_none run hashes pieces = record {
+  pub units_none : (run_sums : RunSums) → run_sums.hashes.items ≡ [] → run_sums.pieces.items ≡ []
+      → HashesUnits is_steady plan [] run_sums
+  units_none run_sums hashes pieces = record {
     reads = [];
     are = reads_none is_steady plan;
     sums = λ contents fit have. record {
@@ -34,10 +35,11 @@ module _ {F : Type 0} (is_steady : SourceFacts F → Type 0) (plan : PlanFacts) 
   }
 
   -- one unit more
-  pub units_more : (units : List PlanUnit) (i : ℕ) (d unit : PlanUnit) (run new : RunSums) → i < length units
-      → get_or units i d ≡ unit → HashesUnits is_steady plan (take i units) run → AddsUnit is_steady plan unit run new
+  pub units_more : (units : List PlanUnit) (i : ℕ) (d unit : PlanUnit) (run_sums new : RunSums) → i < length units
+      → get_or units i d ≡ unit → HashesUnits is_steady plan (take i units) run_sums
+      → AddsUnit is_steady plan unit run_sums new
       → HashesUnits is_steady plan (take (i + 1) units) new
-  units_more units i d unit run new there here old added =
+  units_more units i d unit run_sums new there here old added =
       let front = parts_of (take i units) in
       let all : front ++ unit.parts ≡ parts_of (take (i + 1) units) =
       ap (λ ps. front ++ ps) (sym (append-nil unit.parts) ∙ ap (λ u. parts_of (u ∷ [])) (sym here))
@@ -53,15 +55,15 @@ module _ {F : Type 0} (is_steady : SourceFacts F → Type 0) (plan : PlanFacts) 
             let before = old.sums contents fit both.0 in
             let own = added.sums contents fit both.1 in
             record {
-              hashes = one_more_if (hashes_in contents) (has_v2 plan.kind) [] run.hashes.items new.hashes.items units
-                  i d
+              hashes = one_more_if (hashes_in contents) (has_v2 plan.kind) [] run_sums.hashes.items new.hashes.items
+                  units i d
                   there before.hashes (own.hashes
-                  ∙ ap (λ xs. run.hashes.items ++ cond (has_v2 plan.kind) xs [])
+                  ∙ ap (λ xs. run_sums.hashes.items ++ cond (has_v2 plan.kind) xs [])
                   (append-nil (hashes_in contents unit) ∙ ap (hashes_in contents) (sym here)));
-              pieces = one_more_if (pieces_in contents) (has_v1 plan.kind) [] run.pieces.items new.pieces.items units
-                  i d
+              pieces = one_more_if (pieces_in contents) (has_v1 plan.kind) [] run_sums.pieces.items new.pieces.items
+                  units i d
                   there before.pieces (own.pieces
-                  ∙ ap (λ xs. run.pieces.items ++ cond (has_v1 plan.kind) xs [])
+                  ∙ ap (λ xs. run_sums.pieces.items ++ cond (has_v1 plan.kind) xs [])
                   (append-nil (pieces_in contents unit) ∙ ap (pieces_in contents) (sym here)));
             };
       }
@@ -74,10 +76,10 @@ module _ {F : Type 0} (is_steady : SourceFacts F → Type 0) (plan : PlanFacts) 
         joined ∙ ap₂ (λ xs ys. xs ++ ys) one_is other_is ∙ sym (flat_map-append f first second) ∙ ap (flat_map f) is
     joined_if f false one other both joined one_is other_is = joined ∙ ap₂ (λ xs ys. xs ++ ys) one_is other_is
 
-    pub units_both : (run next both : RunSums) → HashesUnits is_steady plan first run
-        → HashesUnits is_steady plan second next → both.hashes.items ≡ run.hashes.items ++ next.hashes.items
-        → both.pieces.items ≡ run.pieces.items ++ next.pieces.items → HashesUnits is_steady plan all both
-    units_both run next both one other hashes pieces = record {
+    pub units_both : (run_sums next both : RunSums) → HashesUnits is_steady plan first run_sums
+        → HashesUnits is_steady plan second next → both.hashes.items ≡ run_sums.hashes.items ++ next.hashes.items
+        → both.pieces.items ≡ run_sums.pieces.items ++ next.pieces.items → HashesUnits is_steady plan all both
+    units_both run_sums next both one other hashes pieces = record {
       reads = one.reads ++ other.reads;
       are = reads_as is_steady plan (parts_of first ++ parts_of second) (parts_of all) (one.reads ++ other.reads)
           (sym (flat_map-append (λ u. u.parts) first second) ∙ ap parts_of is)
@@ -87,9 +89,9 @@ module _ {F : Type 0} (is_steady : SourceFacts F → Type 0) (plan : PlanFacts) 
           let before = one.sums contents fit halves.0 in
           let after = other.sums contents fit halves.1 in
           record {
-            hashes = joined_if (hashes_in contents) (has_v2 plan.kind) run.hashes.items next.hashes.items
+            hashes = joined_if (hashes_in contents) (has_v2 plan.kind) run_sums.hashes.items next.hashes.items
                 both.hashes.items hashes before.hashes after.hashes;
-            pieces = joined_if (pieces_in contents) (has_v1 plan.kind) run.pieces.items next.pieces.items
+            pieces = joined_if (pieces_in contents) (has_v1 plan.kind) run_sums.pieces.items next.pieces.items
                 both.pieces.items pieces before.pieces after.pieces;
           };
     }

@@ -40,7 +40,7 @@ units_of_plan plan is =
     (some_piece plan.kind plan.piece_length is.pieces) is.is_list.laid_out k d there in
     record { within = omega (arith, unit.within, small_unit plan is); parts = unit.parts })
 
--- lists of one length, of which no place differs
+-- lists of one length, of which no element differs
 same_lists : (told planned : List ℕ) (file : ℕ) → length told ≡ length planned → change_from file told planned ≡ None
     → told ≡ planned
 unfolding change_from

@@ -44,7 +44,7 @@ first_length_fault facts planned =
 
 -- where a byte is read
 abbrev pub byte_fault : {F : Type 0} → SourceFacts F → ℕ → ℕ → Option (EngineError F)
-byte_fault facts file place = option_map (λ fault. Read file (Some place) fault) (facts.byte_fault file place)
+byte_fault facts file offset = option_map (λ fault. Read file (Some offset) fault) (facts.byte_fault file offset)
 
 -- where the bytes of files of these lengths are read, file by file, each from its first byte to its last
 abbrev pub file_fault : {F : Type 0} → SourceFacts F → ℕ → ℕ → Option (EngineError F)
@@ -71,7 +71,7 @@ units_fault facts units = first_of (unit_fault facts) units
 abbrev pub IsFault : {F : Type 0} → Option (EngineError F) → EngineError F → Type 0
 IsFault first error = (error ≡ Resources) ⊎ (first ≡ Some error)
 
--- a fault of the source is one that it gave, for this file and place; the file that is named is one of so many
+-- a fault of the source is one that it gave, for this file and offset; the file that is named is one of so many
 abbrev pub IsGiven : {F : Type 0} → (ℕ → Option ℕ → F → Type 0) → ℕ → EngineError F → Type 0
 IsGiven gave count (Read file start fault) = gave file start fault × (file < count)
 IsGiven gave count (Changed file) = file < count

@@ -2,7 +2,7 @@ pub mod Asked
 pub mod Hasher
 pub mod Hashes
 pub mod Pieces
-pub mod Place
+pub mod ReadBytes
 pub mod Reads
 pub mod Room
 pub mod Run

@@ -22,8 +22,8 @@ use tor_plan::Plan;
 use tor_source::Source;
 
 /// What the files of the source sum up to that the plan has: file i of the plan is file i of the source. First every
-/// length is asked, in the order of the files; a file that is not as long as the plan says is told when all were
-/// asked. Then the units are read, each byte once; the first fault in the order of the files is told, whatever the
+/// length is asked, in the order of the files; a file that is not as long as the plan says is answered when all were
+/// asked. Then the units are read, each byte once; the first fault in the order of the files is answered, whatever the
 /// `How`. Then every length is asked again.
 pub fn hash_all<S: Source, R: Threads + Sync>(
     rt: &R,
@@ -66,8 +66,8 @@ pub fn hash_told<S: Source, R: Threads + Sync>(
     ensures whole { IfOk result (AreSumsOfSome plan.now) }
     ensures gave { IfErr result (IsGivenNotMissing (S.gave source.now) (length plan.now.lengths)) }
 {
-    let run = match hash_units(rt, alloc, source, plan, how) {
-        Ok(run) => run,
+    let run_sums = match hash_units(rt, alloc, source, plan, how) {
+        Ok(run_sums) => run_sums,
         Err(error) => return Err(error),
     };
     match expect_lengths(alloc, source, plan.lengths()) {
@@ -76,7 +76,7 @@ pub fn hash_told<S: Source, R: Threads + Sync>(
         Err(EngineError::Missing { file }) => return Err(EngineError::Changed { file }),
         Err(error) => return Err(error),
     }
-    let sums = sums_of_run(alloc, plan, run)?;
+    let sums = sums_of_run(alloc, plan, run_sums)?;
     Ok(sums)
 }
 

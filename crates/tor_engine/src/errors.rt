@@ -5,7 +5,7 @@ ghost use Rattle.tor_engine.specs.declared.errors.EngineError.TheVariants.{Resou
 use std::alloc::{AllocError, AllocFailed};
 use thiserror::Error;
 
-/// Why files have no sums. A file is named by its place in the plan.
+/// Why files have no sums. A file is named by its index in the plan.
 #[derive(Debug, Drop, Error)]
 pub enum EngineError<F> {
     /// The source had a fault: for the length of the file, or at its byte `start`.

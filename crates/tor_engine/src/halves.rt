@@ -42,14 +42,14 @@ pub(crate) fn hash_by_halves<S: Source, R: Threads + Sync>(
             ensures { AnswersUnits S.is_steady S.gave source.entry.now plan.entry.now second.entry.now result }
         { hash_by_halves(rt, alloc, source, plan, second, rest) },
     );
-    let mut run = match one {
-        Ok(run) => run,
+    let mut sums = match one {
+        Ok(sums) => sums,
         Err(error) => return Err(error),
     };
     let next = match other {
         Ok(next) => next,
         Err(error) => return Err(error),
     };
-    run.append(&next)?;
-    Ok(run)
+    sums.append(&next)?;
+    Ok(sums)
 }

@@ -132,9 +132,9 @@ pub(crate) fn feed_zeros(pieces: &mut PieceSums, count: u64) -> Result<(), Alloc
 {
     let mut left = count;
     'runs: while left > 0 {
-        let run = left.min(ZEROS_AT_ONCE);
-        pieces.feed_zeros(run)?;
-        left -= run;
+        let width = left.min(ZEROS_AT_ONCE);
+        pieces.feed_zeros(width)?;
+        left -= width;
     }
     Ok(())
 }

@@ -1,4 +1,4 @@
-//! The element at a place of a list.
+//! The element at an index of a list.
 ghost use Rattle.std.specs.Prelude.{◌≡◌, slice_get};
 
 /// None past the end.

@@ -9,7 +9,7 @@ use crate::errors::EngineError;
 use std::alloc::Global;
 use tor_source::Source;
 
-/// Asks for the length of each file, in order, and then tells the first that is not the one that was planned.
+/// Asks for the length of each file, in order, and then answers the first that is not the one that was planned.
 pub(crate) fn expect_lengths<S: Source>(
     alloc: Global,
     source: &S,

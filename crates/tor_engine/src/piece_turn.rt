@@ -162,21 +162,21 @@ fn hash_piece<S: Source>(
         (IsFault (unit_fault facts piece.now)) }
     ensures gave { IfErr result (IsGivenNotMissing (S.gave source.now) (length plan.now.lengths)) }
 {
-    let mut run = RunSums::none(alloc);
-    match hash_unit(alloc, source, plan, piece, sums, &mut run) {
+    let mut run_sums = RunSums::none(alloc);
+    match hash_unit(alloc, source, plan, piece, sums, &mut run_sums) {
         Ok(()) => {}
         Err(error) => return Err(error),
     }
-    Ok(first_hashes(&run))
+    Ok(first_hashes(&run_sums))
 }
 
-/// The first hashes of a run, on each side that has one.
-fn first_hashes(run: &RunSums) -> PieceHash
-    ensures { result ≡ first_hashes (sums_in run.now.pieces.items) run.now.hashes.items }
+/// The first hashes of the units of a run, on each side that has one.
+fn first_hashes(run_sums: &RunSums) -> PieceHash
+    ensures { result ≡ first_hashes (sums_in run_sums.now.pieces.items) run_sums.now.hashes.items }
 {
-    let (sums, _) = run.pieces.as_chunks::<20>();
+    let (sums, _) = run_sums.pieces.as_chunks::<20>();
     PieceHash {
         v1: item_at(sums, 0),
-        v2: item_at(&run.hashes, 0),
+        v2: item_at(&run_sums.hashes, 0),
     }
 }

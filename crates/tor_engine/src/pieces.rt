@@ -28,7 +28,7 @@ use tor_v1::laws::length_of_sums;
 /// What each piece of the plan hashes to, in their order, and none where some byte of it is not there: file i of the
 /// plan is file i of the source, which may be missing, or have another length. First every length is asked, in the
 /// order of the files. Then those pieces are read that are wholly there, each byte once, and no byte past the length
-/// that the plan has for a file; the first fault in the order of the pieces is told, whatever the `How`. Then every
+/// that the plan has for a file; the first fault in the order of the pieces is answered, whatever the `How`. Then every
 /// length is asked again: a file of which another is told was changed.
 pub fn hash_pieces<S: Source, R: Threads + Sync>(
     rt: &R,

@@ -18,7 +18,7 @@ pub(crate) fn read_part<S: Source>(
     sums: &mut WorkerSums,
 ) -> Result<(), EngineError<S::Fault>>
     requires small { begun_of sums.old + part.now.length ≤ MAX_LENGTH }
-    requires placed { part.now.start + part.now.length ≤ MAX_LENGTH }
+    requires within { part.now.start + part.now.length ≤ MAX_LENGTH }
     ensures taken { IfOk result (λ _. TakesPart (S.is_steady source.now) part.now part.now.length sums.old sums.new) }
     ensures fault { (facts : SourceFacts S.Fault) → S.is_steady source.now facts → HasPart facts part.now →
         MatchResult result (λ _. part_fault facts part.now ≡ None) (IsFault (part_fault facts part.now)) }

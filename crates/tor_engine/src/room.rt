@@ -5,7 +5,7 @@ ghost use Rattle.tor_plan.specs.PlanFacts.{IsPlan};
 ghost use Rattle.tor_source.specs.Source.{SourceFacts, bytes_from};
 ghost use Rattle.tor_engine.specs.Fault.{IsGivenNotMissing, byte_fault};
 ghost use Rattle.tor_engine.specs.declared.room.TheConstants.{BATCH, LEAST_ASKED, MOST_HELD};
-ghost use Rattle.tor_engine.specs.steps.Place.{AreBytesAt, EndsThere, IsFaultFree};
+ghost use Rattle.tor_engine.specs.steps.ReadBytes.{AreBytesAt, EndsThere, IsFaultFree};
 ghost use Rattle.tor_tree.specs.Kinds.{has_v1};
 ghost use Rattle.tor_v1.specs.declared.runs.TheConstants.{MAX_PIECE_IN_RUN};
 
@@ -194,9 +194,9 @@ fn move_to_front(bytes: &mut [u8], count: usize, left: usize)
     ensures len { length bytes.new ≡ length bytes.old }
 {
     let (front, rest) = bytes.split_at_mut(count);
-    let (room, _) = front.split_at_mut(left);
+    let (buffer, _) = front.split_at_mut(left);
     let (moved, _) = rest.split_at(left);
-    room.copy_from_slice(moved);
+    buffer.copy_from_slice(moved);
 }
 
 /// Reads once, at most so many bytes, behind the first `held`.
@@ -222,8 +222,8 @@ fn read_behind<S: Source>(
     ensures gave { (files : ℕ) → file < files → IfErr result (IsGivenNotMissing (S.gave source.now) files) }
 {
     let (_, behind) = bytes.split_at_mut(held);
-    let (room, _) = behind.split_at_mut(most);
-    match source.read_at(file, start, room) {
+    let (buffer, _) = behind.split_at_mut(most);
+    match source.read_at(file, start, buffer) {
         Ok(0) => Err(EngineError::Changed { file }),
         Ok(count) => Ok(count),
         Err(fault) => Err(EngineError::Read {

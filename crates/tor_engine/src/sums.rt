@@ -34,17 +34,17 @@ pub struct Sums {
 }
 
 /// What the files of a plan sum up to, from what all its units do.
-pub(crate) fn sums_of_run(alloc: Global, plan: &Plan, run: RunSums) -> Result<Sums, AllocError>
+pub(crate) fn sums_of_run(alloc: Global, plan: &Plan, sums: RunSums) -> Result<Sums, AllocError>
     requires { IsPlan plan.now }
     ensures { (contents : List (List ℕ)) → map length contents ≡ plan.now.lengths →
-        run.hashes.items ≡ hashes_of_units plan.now.kind plan.now.piece_length contents plan.now.units →
-        run.pieces.items ≡ sums_of_units plan.now.kind plan.now.piece_length contents plan.now.units →
+        sums.hashes.items ≡ hashes_of_units plan.now.kind plan.now.piece_length contents plan.now.units →
+        sums.pieces.items ≡ sums_of_units plan.now.kind plan.now.piece_length contents plan.now.units →
         IfOk result (AreSumsOf plan.now contents) }
 {
     piece_roots_of_units();
     let lengths = Vec::from_slice(alloc, plan.lengths())?;
     let (roots, layers) = if plan.kind().has_v2() {
-        trees_of_files(alloc, plan.piece_length(), &lengths, &run.hashes)?
+        trees_of_files(alloc, plan.piece_length(), &lengths, &sums.hashes)?
     } else {
         no_trees(alloc, lengths.len())?
     };
@@ -52,7 +52,7 @@ pub(crate) fn sums_of_run(alloc: Global, plan: &Plan, run: RunSums) -> Result<Su
         lengths,
         roots,
         layers,
-        pieces: run.pieces,
+        pieces: sums.pieces,
     })
 }
 

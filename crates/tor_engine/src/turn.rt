@@ -29,14 +29,14 @@ pub(crate) fn hash_in_turn<S: Source>(
     ensures { AnswersUnits S.is_steady S.gave source.now plan.now units.now result }
 {
     let mut sums = WorkerSums::new(alloc, plan)?;
-    let mut run = RunSums::none(alloc);
+    let mut run_sums = RunSums::none(alloc);
     'units: for unit in units {
-        match hash_unit(alloc, source, plan, unit, &mut sums, &mut run) {
+        match hash_unit(alloc, source, plan, unit, &mut sums, &mut run_sums) {
             Ok(()) => {}
             Err(error) => return Err(error),
         }
     }
-    Ok(run)
+    Ok(run_sums)
 }
 
 /// Adds what one unit sums up to.
@@ -46,13 +46,13 @@ pub(crate) fn hash_unit<S: Source>(
     plan: &Plan,
     unit: &PlanUnit,
     sums: &mut WorkerSums,
-    run: &mut RunSums,
+    run_sums: &mut RunSums,
 ) -> Result<(), EngineError<S::Fault>>
     requires planned { IsPlan plan.now }
     requires unit { IsUnitOf plan.now unit.now }
     requires fresh { IsFresh plan.now sums.old }
     ensures fresh { IfOk result (λ _. IsFresh plan.now sums.new) }
-    ensures added { IfOk result (λ _. AddsUnit (S.is_steady source.now) plan.now unit.now run.old run.new) }
+    ensures added { IfOk result (λ _. AddsUnit (S.is_steady source.now) plan.now unit.now run_sums.old run_sums.new) }
     ensures fault { (facts : SourceFacts S.Fault) → S.is_steady source.now facts → HasParts facts unit.now.parts →
         MatchResult result (λ _. unit_fault facts unit.now ≡ None) (IsFault (unit_fault facts unit.now)) }
     ensures gave { IfErr result (IsGivenNotMissing (S.gave source.now) (length plan.now.lengths)) }
@@ -60,12 +60,12 @@ pub(crate) fn hash_unit<S: Source>(
     sums.feed_zeros(unit.zeros)?;
     let parts = unit.parts.as_slice();
     'each: for part in parts {
-        match hash_part(alloc, source, plan, part, sums, &mut run.hashes) {
+        match hash_part(alloc, source, plan, part, sums, &mut run_sums.hashes) {
             Ok(()) => {}
             Err(error) => return Err(error),
         }
     }
-    sums.end_unit(alloc, plan, &mut run.pieces)?;
+    sums.end_unit(alloc, plan, &mut run_sums.pieces)?;
     Ok(())
 }
 

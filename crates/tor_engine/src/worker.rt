@@ -9,7 +9,7 @@ ghost use Rattle.tor_v1.specs.Piece.{zeros};
 ghost use Rattle.tor_engine.specs.Fault.{IsFault, IsGivenNotMissing, byte_fault};
 ghost use Rattle.tor_engine.specs.steps.Hasher.{tree_of};
 ghost use Rattle.tor_engine.specs.steps.Hashes.{hashes_of_bytes};
-ghost use Rattle.tor_engine.specs.steps.Place.{IsFaultFree};
+ghost use Rattle.tor_engine.specs.steps.ReadBytes.{IsFaultFree};
 ghost use Rattle.tor_engine.specs.steps.Room.{HasRoom, count_in, length_of};
 
 use crate::errors::EngineError;
@@ -21,9 +21,9 @@ use tor_merkle::Hash;
 use tor_plan::Plan;
 use tor_source::Source;
 
-/// What the units of a worker sum up to, one after the other. Bytes are read into room of its own, and wait there until
-/// many can be hashed together: of version 1 across the ends of files, of trees until a part ends. Clauses say by
-/// `HasTaken` which bytes were taken. After an error it is of no use.
+/// What the units of a worker sum up to, one after the other. Bytes are read into a buffer of its own, and wait there
+/// until many can be hashed together: of version 1 across the ends of files, of trees until a part ends. Clauses say
+/// by `HasTaken` which bytes were taken. After an error it is of no use.
 #[derive(Drop)]
 pub(crate) struct WorkerSums {
     // The bytes that wait to be hashed.
@@ -55,7 +55,7 @@ impl WorkerSums {
         })
     }
 
-    /// Reads bytes of the present part from a place of its file on, at most `left`, and tells how many were read.
+    /// Reads bytes of the present part from an offset of its file on, at most `left`, and answers how many were read.
     pub(crate) fn read<S: Source>(
         &mut self,
         source: &S,

@@ -21,9 +21,9 @@ picked x y p long = elim (cases_lt p 8) [
 ]
 
 -- a shuffle of two vectors of eight words
-pub shuffled : (x y places : List ℕ) → length x ≡ 8 → pick_l 0 (x ++ y) places ≡ of_both x y places
+pub shuffled : (x y indices : List ℕ) → length x ≡ 8 → pick_l 0 (x ++ y) indices ≡ of_both x y indices
 shuffled x y [] long = refl
-shuffled x y (p ∷ places) long = ap₂ (λ (w : ℕ) (l : List ℕ). w ∷ l) (picked x y p long) (shuffled x y places long)
+shuffled x y (p ∷ indices) long = ap₂ (λ (w : ℕ) (l : List ℕ). w ∷ l) (picked x y p long) (shuffled x y indices long)
 
 -- eight vectors after three exchanges
 abbrev exchange : List (List ℕ) → List (List ℕ)
@@ -42,8 +42,8 @@ exchange v =
     let gh = singles_of eg.1 fh.1 in
     ab.0 ∷ ab.1 ∷ cd.0 ∷ cd.1 ∷ ef.0 ∷ ef.1 ∷ gh.0 ∷ gh.1 ∷ []
 
-exchange_places : (v : List (List ℕ)) (j k : ℕ) → j < 8 → k < 8 → word_of j (exchange v) k ≡ word_of k v j
-exchange_places v j k lane place =
+exchange_indices : (v : List (List ℕ)) (j k : ℕ) → j < 8 → k < 8 → word_of j (exchange v) k ≡ word_of k v j
+exchange_indices v j k lane index =
     below_eight (λ j. (k : ℕ) → k < 8 → word_of j (exchange v) k ≡ word_of k v j)
     (below_eight _ refl refl refl refl refl refl refl refl)
     (below_eight _ refl refl refl refl refl refl refl refl)
@@ -53,9 +53,9 @@ exchange_places v j k lane place =
     (below_eight _ refl refl refl refl refl refl refl refl)
     (below_eight _ refl refl refl refl refl refl refl refl)
     (below_eight _ refl refl refl refl refl refl refl refl)
-    j lane k place
+    j lane k index
 
--- the same, exchange by exchange: each word is at the place of its lane, and in the lane of its place
+-- the same, exchange by exchange: each word is at the index of its lane, and in the lane of its index
 pub exchanged : (v : List (List ℕ)) {ae bf cg dh ac bd eg fh ab cd ef gh : List ℕ × List ℕ}
     → ae ≡ halves_of (slice_index_or v 0 []) (slice_index_or v 4 [])
     → bf ≡ halves_of (slice_index_or v 1 []) (slice_index_or v 5 [])
@@ -65,8 +65,8 @@ pub exchanged : (v : List (List ℕ)) {ae bf cg dh ac bd eg fh ab cd ef gh : Lis
     → ab ≡ singles_of ac.0 bd.0 → cd ≡ singles_of ac.1 bd.1 → ef ≡ singles_of eg.0 fh.0 → gh ≡ singles_of eg.1 fh.1
     → (j k : ℕ) → j < 8 → k < 8
     → word_of j (ab.0 ∷ ab.1 ∷ cd.0 ∷ cd.1 ∷ ef.0 ∷ ef.1 ∷ gh.0 ∷ gh.1 ∷ []) k ≡ word_of k v j
-exchanged v e1 e2 e3 e4 e5 e6 e7 e8 e9 e10 e11 e12 j k lane place =
+exchanged v e1 e2 e3 e4 e5 e6 e7 e8 e9 e10 e11 e12 j k lane index =
     rw (e9, e10, e11, e12)
     (rw (e5, e6, e7, e8)
     (rw (e1, e2, e3, e4)
-    (exchange_places v j k lane place)))
+    (exchange_indices v j k lane index)))

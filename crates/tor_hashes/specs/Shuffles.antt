@@ -1,9 +1,9 @@
 -- What two vectors of eight words exchange.
 use Rattle.std.specs.Prelude.{ℕ, ◌-◌, List, [], ◌∷◌, map, nat_lt, slice_index, if◌then◌else◌}
 
--- the words at these places, of the first vector from 0 on, and of the second from 8 on
+-- the words at these indices, of the first vector from 0 on, and of the second from 8 on
 abbrev pub of_both : List ℕ → List ℕ → List ℕ → List ℕ
-of_both x y places = map (λ p. if nat_lt p 8 then slice_index x p else slice_index y (p - 8)) places
+of_both x y indices = map (λ p. if nat_lt p 8 then slice_index x p else slice_index y (p - 8)) indices
 
 -- the second half of the first goes, for the first of the second
 abbrev pub halves_of : List ℕ → List ℕ → List ℕ × List ℕ

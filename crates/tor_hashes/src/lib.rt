@@ -23,7 +23,7 @@
 //! `sha1_functions.rt`, `sha1_rounds.rt`, `sha1_block.rt`, `sha1_digest.rt`.
 //!
 //! Small steps are `#[inline(always)]`, and sixteen rounds at a time are generic in the number of the first, so that
-//! the places in the schedule are known when it is compiled.
+//! the indices in the schedule are known when it is compiled.
 #![tactic(auto)]
 
 mod block_words;

@@ -1,6 +1,6 @@
 //! The 80 rounds of SHA-1 on a block of each of eight messages (FIPS 180-4, 6.1.2, steps 1 to 3).
 //!
-//! Of the schedule W the last sixteen words are kept: W of t is at place t % 16.
+//! Of the schedule W the last sixteen words are kept: W of t is at index t % 16.
 
 ghost use Rattle.std.specs.Prelude.{◌≡◌, ℕ, ◌+◌, ◌%◌, ◌<◌, ◌≤◌, List, slice_index, slice_set};
 ghost use Rattle.sha1.specs.Sha1.{round, rounds, schedule, window_word, IsRoundsAt, IsWindow};
@@ -22,7 +22,7 @@ fn round(v: [Words; 5], f: Words, k: u32, word: Words) -> [Words; 5]
     [add(sum3, word), a, rotated_left(b, 30), c, d]
 }
 
-// W of t, for t from 16 on, in the place of W of t - 16.
+// W of t, for t from 16 on, at the index of W of t - 16.
 #[inline(always)]
 fn next_word(w: &mut [Words; 16], t: usize) -> Words
     requires { t < 80 }

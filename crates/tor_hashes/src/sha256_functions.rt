@@ -27,7 +27,7 @@ pub(crate) fn big_sigma1(x: Words) -> Words
     )
 }
 
-// Of the word of the schedule fifteen places before.
+// Of the word of the schedule fifteen words before.
 #[inline(always)]
 pub(crate) fn small_sigma0(x: Words) -> Words
     ensures { (j : ℕ) → j < 8 → slice_index result j ≡ small_sigma0 (slice_index x j) }
@@ -38,7 +38,7 @@ pub(crate) fn small_sigma0(x: Words) -> Words
     )
 }
 
-// Of the word of the schedule two places before.
+// Of the word of the schedule two words before.
 #[inline(always)]
 pub(crate) fn small_sigma1(x: Words) -> Words
     ensures { (j : ℕ) → j < 8 → slice_index result j ≡ small_sigma1 (slice_index x j) }

@@ -1,6 +1,6 @@
 //! The 64 rounds of SHA-256 on a block of each of eight messages (FIPS 180-4, 6.2.2, steps 1 to 3).
 //!
-//! Of the schedule W the last sixteen words are kept: W of t is at place t % 16.
+//! Of the schedule W the last sixteen words are kept: W of t is at index t % 16.
 
 ghost use Rattle.std.specs.Prelude.{◌≡◌, ℕ, ◌+◌, ◌*◌, ◌%◌, ◌<◌, ◌≤◌, List, slice_index, slice_set};
 ghost use Rattle.sha2.specs.Sha256.{round, rounds, schedule, window_word, IsRoundsAt, IsWindow};
@@ -25,7 +25,7 @@ pub(crate) fn round(v: [Words; 8], k: u32, word: Words) -> [Words; 8]
     [add(temp1, temp2), a, b, c, add(d, temp1), e, f, g]
 }
 
-// W of t, for t from 16 on, in the place of W of t - 16.
+// W of t, for t from 16 on, at the index of W of t - 16.
 #[inline(always)]
 fn next_word(w: &mut [Words; 16], t: usize) -> Words
     requires { t < 64 }

@@ -62,8 +62,8 @@ pub fn read_parts<R: Read, I: Intake>(
     ensures err { IfErr result (λ fault.
         ReadsSome (R.remaining reader.old) (R.remaining reader.new) (EndsInput limit fault)) }
 {
-    let mut room = zeros(alloc, BUFFER_LENGTH)?;
-    let buffer = room.as_mut_slice();
+    let mut memory = zeros(alloc, BUFFER_LENGTH)?;
+    let buffer = memory.as_mut_slice();
     let mut left = limit;
     'parts: loop {
         let count = match fill(reader, buffer, left) {

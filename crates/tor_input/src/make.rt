@@ -54,7 +54,7 @@ pub fn torrent_from<R: io::Read>(
             Ok(make_fed(alloc, &head, fed)?)
         }
         Err(refusal) => {
-            // A fault of the reader is told before what is wrong with the order.
+            // A fault of the reader is answered before what is wrong with the order.
             drop_input(alloc, reader)?;
             Err(FromFault::Make(refusal))
         }

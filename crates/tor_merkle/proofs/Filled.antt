@@ -16,7 +16,7 @@ use Rattle.tor_merkle.proofs.Ceil.{ceil_from_below, ceil_at_most, ceil_covers}
 use Rattle.tor_merkle.proofs.Height.{height_covers, height_least, height_above}
 use Rattle.tor_merkle.proofs.Levels.{map-range_same, get_or-nodes, length-nodes}
 use Rattle.tor_merkle.proofs.Node.{node-append, subtree_root-padded}
-use Rattle.tor_merkle.proofs.Places.{div_between}
+use Rattle.tor_merkle.proofs.BinaryDigits.{div_between}
 
 -- the nodes over the rest of a list are those of the list, further on
 pub node-drop : (base : ℕ) (hashes : List (List ℕ)) (a k j : ℕ)

@@ -41,21 +41,22 @@ module _ (k : ℕ) (leaves : List (List ℕ)) (blocks pieces : Subtrees) (layer 
       lt_of_mul-lt-mul_right (2 ^ k) (omega (arith, filled_below k leaves some, keeps.small, all)) in
       omega (arith, length-closed)
 
-  layer_fits : (room : ℕ) → 0 < length leaves → div_ceil (length leaves) (2 ^ k) ≤ room → length layer < room
-  layer_fits room some le = omega (arith, ap length keeps.listed, length-closed, all_filled k leaves some)
+  layer_fits : (capacity : ℕ) → 0 < length leaves → div_ceil (length leaves) (2 ^ k) ≤ capacity
+      → length layer < capacity
+  layer_fits capacity some le = omega (arith, ap length keeps.listed, length-closed, all_filled k leaves some)
 
   -- the last piece may end
-  pub ends_piece : (hashes room : ℕ) → hashes ≡ length layer → 0 < length leaves
-      → div_ceil (length leaves) (2 ^ k) ≤ room
-      → EndsPiece k blocks pieces hashes room
-  ends_piece hashes room is some le = record {
+  pub ends_piece : (hashes capacity : ℕ) → hashes ≡ length layer → 0 < length leaves
+      → div_ceil (length leaves) (2 ^ k) ≤ capacity
+      → EndsPiece k blocks pieces hashes capacity
+  ends_piece hashes capacity is some le = record {
     low = keeps.low;
     block_level = keeps.block_level;
     some = blocks_some some;
     within = blocks_fit;
     piece_level = keeps.piece_level;
     stack = pieces_fit some;
-    fits = omega (arith, layer_fits room some le);
+    fits = omega (arith, layer_fits capacity some le);
   }
 
   -- a leaf that the last piece has room for

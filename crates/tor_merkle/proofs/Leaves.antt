@@ -70,9 +70,9 @@ module _ (count : ℕ) (hasher : Sha256) (done : List (List ℕ)) (bytes : List 
   done_small more lt le = omega (arith, length-done)
 
   -- and there is room for the pieces begun
-  pub done_room : (more k room : ℕ) → div_ceil (length bytes + more) (16384 * 2 ^ k) ≤ room
-      → div_ceil (length done) (2 ^ k) ≤ room
-  done_room more k room le =
+  pub done_room : (more k capacity : ℕ) → div_ceil (length bytes + more) (16384 * 2 ^ k) ≤ capacity
+      → div_ceil (length done) (2 ^ k) ≤ capacity
+  done_room more k capacity le =
       let pos : 0 < 16384 * 2 ^ k = omega (arith, pow_pos k) in
       let pieces = div_ceil (length bytes + more) (16384 * 2 ^ k) in
       let all = ceil_covers (length bytes + more) (16384 * 2 ^ k) pos in

@@ -6,7 +6,7 @@ pub mod Power
 pub mod Content
 pub mod Climb
 pub mod Walks
-pub mod Places
+pub mod BinaryDigits
 pub mod Tops
 pub mod Root
 pub mod Filled

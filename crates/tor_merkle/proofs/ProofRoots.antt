@@ -8,23 +8,23 @@ use Rattle.std.specs.List.{list_all, range_with_len}
 use Rattle.tor_merkle.specs.Proof.{proof_root}
 use Rattle.tor_merkle.specs.Subtree.{node_of}
 
-pub proof_root-none : (hash : List ℕ) (place : ℕ) → proof_root hash place [] ≡ hash
+pub proof_root-none : (hash : List ℕ) (index : ℕ) → proof_root hash index [] ≡ hash
 unfolding proof_root
-proof_root-none hash place = refl
+proof_root-none hash index = refl
 
--- at an even place the hash is the left one
-pub proof_root-left : (hash : List ℕ) (place : ℕ) (sibling : List ℕ) (siblings : List (List ℕ)) → place % 2 ≡ 0
-    → proof_root hash place (sibling ∷ siblings) ≡ proof_root (node_of hash sibling) (place / 2) siblings
+-- at an even index the hash is the left one
+pub proof_root-left : (hash : List ℕ) (index : ℕ) (sibling : List ℕ) (siblings : List (List ℕ)) → index % 2 ≡ 0
+    → proof_root hash index (sibling ∷ siblings) ≡ proof_root (node_of hash sibling) (index / 2) siblings
 unfolding proof_root
-proof_root-left hash place sibling siblings even =
-    ap (λ x. proof_root x (place / 2) siblings) (cond-true _ _ _ (eq-eqb (place % 2) 0 even))
+proof_root-left hash index sibling siblings even =
+    ap (λ x. proof_root x (index / 2) siblings) (cond-true _ _ _ (eq-eqb (index % 2) 0 even))
 
-pub proof_root-right : (hash : List ℕ) (place : ℕ) (sibling : List ℕ) (siblings : List (List ℕ))
-    → (place % 2 ≡ 0 → ⊥)
-    → proof_root hash place (sibling ∷ siblings) ≡ proof_root (node_of sibling hash) (place / 2) siblings
+pub proof_root-right : (hash : List ℕ) (index : ℕ) (sibling : List ℕ) (siblings : List (List ℕ))
+    → (index % 2 ≡ 0 → ⊥)
+    → proof_root hash index (sibling ∷ siblings) ≡ proof_root (node_of sibling hash) (index / 2) siblings
 unfolding proof_root
-proof_root-right hash place sibling siblings odd =
-    ap (λ x. proof_root x (place / 2) siblings) (cond-false _ _ _ (ne_eqb (place % 2) 0 odd))
+proof_root-right hash index sibling siblings odd =
+    ap (λ x. proof_root x (index / 2) siblings) (cond-false _ _ _ (ne_eqb (index % 2) 0 odd))
 
 -- a test of all numbers below n
 pub all_below : (test : ℕ → Bool) (n : ℕ) → ((k : ℕ) → k < n → test k ≡ true)

@@ -10,15 +10,15 @@ use Rattle.tor_merkle.specs.Subtree.{node_of, zero_leaf, zero_subtree}
 use Rattle.tor_merkle.proofs.Node.{node_past, subtree_root-padded}
 use Rattle.tor_merkle.proofs.Tops.{top_left}
 
--- top is the last node of level j that is not past the end, at this place; where its place is odd, it is not whole
-pub record IsLastNode (level count : ℕ) (hashes : List (List ℕ)) (j place : ℕ) (top : List ℕ) : Type 0 where
-  pub low : place * 2 ^ j < count
-  pub high : count ≤ (place + 1) * 2 ^ j
-  pub strict : place % 2 ≡ 1 → count < (place + 1) * 2 ^ j
-  pub is : top ≡ node level hashes j place
+-- top is the last node of level j that is not past the end, at this index; where its index is odd, it is not whole
+pub record IsLastNode (level count : ℕ) (hashes : List (List ℕ)) (j index : ℕ) (top : List ℕ) : Type 0 where
+  pub low : index * 2 ^ j < count
+  pub high : count ≤ (index + 1) * 2 ^ j
+  pub strict : index % 2 ≡ 1 → count < (index + 1) * 2 ^ j
+  pub is : top ≡ node level hashes j index
 
 module _ (level count : ℕ) (tops hashes : List (List ℕ)) (keeps : KeepsTops level count tops hashes) where
-  -- the lowest digit that is 1 tells the last whole node
+  -- the lowest digit that is 1 gives the last whole node
   pub last_whole : (j odd : ℕ) → count ≡ odd * 2 ^ j → odd % 2 ≡ 1
       → IsLastNode level count hashes j (odd - 1) (get_or tops j zero_leaf)
   last_whole j odd e one =
@@ -33,47 +33,47 @@ module _ (level count : ℕ) (tops hashes : List (List ℕ)) (keeps : KeepsTops 
         is = keeps.top j (ap (λ x. x % 2) q ∙ one) ∙ ap (λ x. node level hashes j (x - 1)) q;
       }
 
-  module _ (j place : ℕ) (top : List ℕ) (last : IsLastNode level count hashes j place top) where
-    pub above_low : place / 2 * 2 ^ suc j < count
+  module _ (j index : ℕ) (top : List ℕ) (last : IsLastNode level count hashes j index top) where
+    pub above_low : index / 2 * 2 ^ suc j < count
     above_low =
-        let down : 2 * (place / 2) * 2 ^ j ≤ place * 2 ^ j = mul-le-mul_right {n = place} (2 ^ j) (omega arith) in
-        let wide : place / 2 * 2 ^ suc j ≡ place / 2 * (2 ^ j + 2 ^ j) = ap (λ x. place / 2 * x) (two-pow-succ j) in
+        let down : 2 * (index / 2) * 2 ^ j ≤ index * 2 ^ j = mul-le-mul_right {n = index} (2 ^ j) (omega arith) in
+        let wide : index / 2 * 2 ^ suc j ≡ index / 2 * (2 ^ j + 2 ^ j) = ap (λ x. index / 2 * x) (two-pow-succ j) in
         omega (arith, last.low)
 
-    pub above_high : count < (place / 2 + 1) * 2 ^ suc j
+    pub above_high : count < (index / 2 + 1) * 2 ^ suc j
     above_high =
-        let wide : (place / 2 + 1) * 2 ^ suc j ≡ (place / 2 + 1) * (2 ^ j + 2 ^ j) =
-        ap (λ x. (place / 2 + 1) * x) (two-pow-succ j) in
+        let wide : (index / 2 + 1) * 2 ^ suc j ≡ (index / 2 + 1) * (2 ^ j + 2 ^ j) =
+        ap (λ x. (index / 2 + 1) * x) (two-pow-succ j) in
         let pos = pow_pos j in
-        elim (cases_eq (place % 2) 1) [
+        elim (cases_eq (index % 2) 1) [
           | inl odd ↦
-              let same : place ≡ 2 * (place / 2) + 1 = omega arith in
+              let same : index ≡ 2 * (index / 2) + 1 = omega arith in
               omega (arith, last.strict odd, ap (λ x. x * 2 ^ j) same)
           | inr even ↦
-              let same : place ≡ 2 * (place / 2) = omega arith in
+              let same : index ≡ 2 * (index / 2) = omega arith in
               omega (arith, last.high, ap (λ x. x * 2 ^ j) same)
         ]
 
-    -- at an odd place, the kept hash stands on its left
-    pub last_right : place % 2 ≡ 1
-        → IsLastNode level count hashes (suc j) (place / 2) (node_of (get_or tops j zero_leaf) top)
+    -- at an odd index, the kept hash stands on its left
+    pub last_right : index % 2 ≡ 1
+        → IsLastNode level count hashes (suc j) (index / 2) (node_of (get_or tops j zero_leaf) top)
     unfolding node
     last_right odd = record {
       low = above_low;
       high = omega (arith, above_high);
       strict = λ _. above_high;
       is =
-          ap₂ node_of (top_left level count tops hashes keeps j place (omega (arith, last.low)) (last.strict odd) odd)
+          ap₂ node_of (top_left level count tops hashes keeps j index (omega (arith, last.low)) (last.strict odd) odd)
           (last.is ∙ ap (node level hashes j) (omega arith));
     }
 
-    -- at an even place, nothing stands on its right
-    pub last_left : place % 2 ≡ 0
-        → IsLastNode level count hashes (suc j) (place / 2) (node_of top (zero_subtree (level + j)))
+    -- at an even index, nothing stands on its right
+    pub last_left : index % 2 ≡ 0
+        → IsLastNode level count hashes (suc j) (index / 2) (node_of top (zero_subtree (level + j)))
     unfolding node
     last_left even =
-        let same : place ≡ 2 * (place / 2) = omega arith in
-        let past : length hashes ≤ (2 * (place / 2) + 1) * 2 ^ j =
+        let same : index ≡ 2 * (index / 2) = omega arith in
+        let past : length hashes ≤ (2 * (index / 2) + 1) * 2 ^ j =
         omega (arith, last.high, keeps.counted, ap (λ x. x * 2 ^ j) same) in
         record {
           low = above_low;
@@ -81,15 +81,15 @@ module _ (level count : ℕ) (tops hashes : List (List ℕ)) (keeps : KeepsTops 
           strict = λ _. above_high;
           is =
               ap₂ node_of (last.is ∙ ap (node level hashes j) same)
-              (sym (node_past level hashes j (2 * (place / 2) + 1) past));
+              (sym (node_past level hashes j (2 * (index / 2) + 1) past));
         }
 
     -- where one node covers all, it is the root
     pub last_root : count ≤ 2 ^ j → top ≡ padded_subtree j level hashes
     last_root covers =
-        let first : place ≡ 0 = elim (cases_eq place 0) [
+        let first : index ≡ 0 = elim (cases_eq index 0) [
           | inl is ↦ is
-          | inr more ↦ absurd (omega (arith, last.low, mul-le-mul_right {m = 1} {n = place} (2 ^ j) (omega arith)))
+          | inr more ↦ absurd (omega (arith, last.low, mul-le-mul_right {m = 1} {n = index} (2 ^ j) (omega arith)))
         ] in
         last.is ∙ ap (node level hashes j) first
         ∙ sym (subtree_root-padded level hashes j (omega (arith, keeps.counted)))

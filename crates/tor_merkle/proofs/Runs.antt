@@ -1,4 +1,4 @@
--- Runs of eight whole blocks, whose leaves are told at once.
+-- Runs of eight whole blocks, whose leaves are computed at once.
 use Rattle.std.proofs.Common.{◌≡◌, ℕ, ◌+◌, ◌*◌, ◌/◌, ◌%◌, ◌^◌, ◌<◌, ◌≤◌, List, [], ◌++◌, map, length, get_or}
 use Rattle.std.proofs.Common.{take, drop, arith, ap, ◌∙◌, sym, subst, length-append, pow_pos, le_trans}
 use Rattle.std.proofs.Common.{mul_assoc, mul_comm}
@@ -36,9 +36,9 @@ module _ (count : ℕ) (hasher : Sha256) (done : List (List ℕ)) (bytes : List 
   run_small whole le = omega (arith, length-done count hasher done bytes keeps, keeps.counted)
 
   -- and there is room for the pieces begun
-  pub run_room : (k room : ℕ) → count % 16384 ≡ 0 → div_ceil (length bytes + 131072) (16384 * 2 ^ k) ≤ room
-      → div_ceil (length done + 8) (2 ^ k) ≤ room
-  run_room k room whole le =
+  pub run_room : (k capacity : ℕ) → count % 16384 ≡ 0 → div_ceil (length bytes + 131072) (16384 * 2 ^ k) ≤ capacity
+      → div_ceil (length done + 8) (2 ^ k) ≤ capacity
+  run_room k capacity whole le =
       let pos : 0 < 16384 * 2 ^ k = omega (arith, pow_pos k) in
       let pieces = div_ceil (length bytes + 131072) (16384 * 2 ^ k) in
       let all = ceil_covers (length bytes + 131072) (16384 * 2 ^ k) pos in

@@ -10,14 +10,14 @@ use Rattle.std.proofs.lemmas.List.FromFn.{length-map-range_with_len, get_or-map-
 use Rattle.std.proofs.lemmas.Slice.Eq.{bytes_eq-Decides}
 use Rattle.std.specs.List.{range_with_len}
 use Rattle.tor_merkle.specs.Block.{run_at}
-use Rattle.tor_merkle.specs.Proof.{proof_root, sibling_place, is_past_end, is_zero_past_end, is_proof, siblings_of}
+use Rattle.tor_merkle.specs.Proof.{proof_root, sibling_index, is_past_end, is_zero_past_end, is_proof, siblings_of}
 use Rattle.tor_merkle.specs.Stack.{padded_subtree, padded_root}
 use Rattle.tor_merkle.specs.Subtree.{node_of, zero_leaf, zero_subtree, height}
 use Rattle.tor_merkle.specs.steps.Node.{node}
 use Rattle.tor_merkle.proofs.Filled.{node-drop}
 use Rattle.tor_merkle.proofs.Height.{height_covers}
 use Rattle.tor_merkle.proofs.Node.{node-append, node_past, subtree_root-padded}
-use Rattle.tor_merkle.proofs.Places.{div_between}
+use Rattle.tor_merkle.proofs.BinaryDigits.{div_between}
 use Rattle.tor_merkle.proofs.ProofRoots.{proof_root-none, proof_root-left, proof_root-right, all_below}
 
 -- the first node needs the first hashes only
@@ -47,18 +47,19 @@ pub run-past : (base : ℕ) (hashes : List (List ℕ)) (k i : ℕ) → length ha
 run-past base hashes k i past = run-node base hashes k i ∙ node_past base hashes k i past
 
 -- the sibling at a level ends no further than one subtree of that level after the index
-pub sibling_near : (index level : ℕ) → sibling_place index level * 2 ^ level ≤ index + 2 ^ level
+pub sibling_near : (index level : ℕ) → sibling_index index level * 2 ^ level ≤ index + 2 ^ level
 sibling_near index level =
-    let place = index / 2 ^ level in
-    let near : sibling_place index level ≤ place + 1 =
-    cond_both (eqb (place % 2) 0) (place + 1) (place - 1) (λ x. x ≤ place + 1) (λ _. omega arith) (λ _. omega arith) in
-    let wide : sibling_place index level * 2 ^ level ≤ (place + 1) * 2 ^ level =
-    mul-le-mul_right {n = place + 1} (2 ^ level) near in
+    let node_index = index / 2 ^ level in
+    let near : sibling_index index level ≤ node_index + 1 =
+    cond_both (eqb (node_index % 2) 0) (node_index + 1) (node_index - 1) (λ x. x ≤ node_index + 1)
+    (λ _. omega arith) (λ _. omega arith) in
+    let wide : sibling_index index level * 2 ^ level ≤ (node_index + 1) * 2 ^ level =
+    mul-le-mul_right {n = node_index + 1} (2 ^ level) near in
     omega (arith, wide, div-mul-le_self index (2 ^ level))
 
 module _ (base : ℕ) (hashes : List (List ℕ)) (index : ℕ) where
   abbrev sibling : ℕ → List ℕ
-  sibling level = padded_subtree level base (run_at (2 ^ level) hashes (sibling_place index level))
+  sibling level = padded_subtree level base (run_at (2 ^ level) hashes (sibling_index index level))
 
   -- those of all levels
   pub siblings_all : (n : ℕ) → n ≡ height (length hashes)
@@ -74,44 +75,44 @@ module _ (base : ℕ) (hashes : List (List ℕ)) (index : ℕ) where
       → node_of (node base hashes k (index / 2 ^ k)) (sibling k) ≡ node base hashes (suc k) (index / 2 ^ suc k)
   unfolding node
   node-left k even =
-      let place = index / 2 ^ k in
+      let node_index = index / 2 ^ k in
       ap₂ node_of
-      (ap (node base hashes k) (let same : place ≡ 2 * (index / 2 ^ suc k) = omega (arith, half k) in same))
-      (run-node base hashes k (sibling_place index k)
-      ∙ ap (node base hashes k) (cond-true _ (place + 1) (place - 1) (eq-eqb (place % 2) 0 even)
-      ∙ (let same : place + 1 ≡ 2 * (index / 2 ^ suc k) + 1 = omega (arith, half k) in same)))
+      (ap (node base hashes k) (let same : node_index ≡ 2 * (index / 2 ^ suc k) = omega (arith, half k) in same))
+      (run-node base hashes k (sibling_index index k)
+      ∙ ap (node base hashes k) (cond-true _ (node_index + 1) (node_index - 1) (eq-eqb (node_index % 2) 0 even)
+      ∙ (let same : node_index + 1 ≡ 2 * (index / 2 ^ suc k) + 1 = omega (arith, half k) in same)))
 
   node-right : (k : ℕ) → (index / 2 ^ k % 2 ≡ 0 → ⊥)
       → node_of (sibling k) (node base hashes k (index / 2 ^ k)) ≡ node base hashes (suc k) (index / 2 ^ suc k)
   unfolding node
   node-right k odd =
-      let place = index / 2 ^ k in
+      let node_index = index / 2 ^ k in
       ap₂ node_of
-      (run-node base hashes k (sibling_place index k)
-      ∙ ap (node base hashes k) (cond-false _ (place + 1) (place - 1) (ne_eqb (place % 2) 0 odd)
-      ∙ (let same : place - 1 ≡ 2 * (index / 2 ^ suc k) = omega (arith, half k) in same)))
-      (ap (node base hashes k) (let same : place ≡ 2 * (index / 2 ^ suc k) + 1 = omega (arith, half k) in same))
+      (run-node base hashes k (sibling_index index k)
+      ∙ ap (node base hashes k) (cond-false _ (node_index + 1) (node_index - 1) (ne_eqb (node_index % 2) 0 odd)
+      ∙ (let same : node_index - 1 ≡ 2 * (index / 2 ^ suc k) = omega (arith, half k) in same)))
+      (ap (node base hashes k) (let same : node_index ≡ 2 * (index / 2 ^ suc k) + 1 = omega (arith, half k) in same))
 
   -- the way from level k through n levels
   climb : (n k : ℕ) → proof_root (node base hashes k (index / 2 ^ k)) (index / 2 ^ k) (map sibling (range_with_len k n))
       ≡ node base hashes (k + n) (index / 2 ^ (k + n))
   climb zero k = proof_root-none _ _ ∙ ap (λ h. node base hashes h (index / 2 ^ h)) (sym (add-zero k))
   climb (suc n) k =
-      let place = index / 2 ^ k in
+      let node_index = index / 2 ^ k in
       let rest = map sibling (range_with_len (k + 1) n) in
-      let up : proof_root (node base hashes (suc k) (index / 2 ^ suc k)) (place / 2) rest
+      let up : proof_root (node base hashes (suc k) (index / 2 ^ suc k)) (node_index / 2) rest
       ≡ node base hashes (k + suc n) (index / 2 ^ (k + suc n)) =
       ap₂ (λ h p. proof_root (node base hashes h (index / 2 ^ h)) p rest) (sym (add-one k))
       (sym (half k) ∙ ap (λ h. index / 2 ^ h) (sym (add-one k)))
       ∙ climb n (k + 1)
       ∙ ap (λ h. node base hashes h (index / 2 ^ h)) (omega arith) in
-      elim (cases_eq (place % 2) 0) [
+      elim (cases_eq (node_index % 2) 0) [
         | inl even ↦
-            proof_root-left _ place (sibling k) rest even
-            ∙ ap (λ x. proof_root x (place / 2) rest) (node-left k even) ∙ up
+            proof_root-left _ node_index (sibling k) rest even
+            ∙ ap (λ x. proof_root x (node_index / 2) rest) (node-left k even) ∙ up
         | inr odd ↦
-            proof_root-right _ place (sibling k) rest odd
-            ∙ ap (λ x. proof_root x (place / 2) rest) (node-right k odd) ∙ up
+            proof_root-right _ node_index (sibling k) rest odd
+            ∙ ap (λ x. proof_root x (node_index / 2) rest) (node-right k odd) ∙ up
       ]
 
   -- the proof over all levels, of a hash that is there
@@ -138,7 +139,7 @@ module _ (base : ℕ) (hashes : List (List ℕ)) (index : ℕ) where
       | inl past ↦
           or_right _ _ ((bytes_eq-Decides _ _).1
           (get_or-map-range_with_len sibling 0 (height (length hashes)) level level zero_leaf lt (zero-add level)
-          ∙ run-past base hashes level (sibling_place index level) (leb-true _ _ past)))
+          ∙ run-past base hashes level (sibling_index index level) (leb-true _ _ past)))
       | inr before ↦ or_left _ _ (not_from_false _ before)
     ]
 

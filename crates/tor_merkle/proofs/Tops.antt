@@ -7,7 +7,7 @@ use Rattle.std.proofs.lemmas.List.{length_push}
 use Rattle.tor_merkle.specs.steps.Node.{node}
 use Rattle.tor_merkle.specs.steps.Tops.{KeepsTops}
 use Rattle.tor_merkle.specs.Subtree.{node_of, zero_leaf}
-use Rattle.tor_merkle.proofs.Places.{div_between, same_above, none_below, power_within}
+use Rattle.tor_merkle.proofs.BinaryDigits.{div_between, same_above, none_below, power_within}
 use Rattle.tor_merkle.proofs.Node.{node-append}
 
 module _ (level count : ℕ) (tops hashes : List (List ℕ)) (keeps : KeepsTops level count tops hashes) where
@@ -44,9 +44,9 @@ module _ (level count : ℕ) (tops hashes : List (List ℕ)) (keeps : KeepsTops 
         | inl same ↦
             let q : (count + 1) / 2 ^ j ≡ rest + 1 =
             div_between (count + 1) j (rest + 1) (omega (arith, e)) (omega (arith, e, pow_pos j)) in
-            let place : rest ≡ (count + 1) / 2 ^ i - 1 = omega (arith, q, ap (λ x. (count + 1) / 2 ^ x) same) in
+            let index : rest ≡ (count + 1) / 2 ^ i - 1 = omega (arith, q, ap (λ x. (count + 1) / 2 ^ x) same) in
             ap (λ x. get_or (set tops j top) x zero_leaf) same ∙ get_or-set_same tops j top zero_leaf within ∙ is
-            ∙ ap₂ (node level all) (sym same) place
+            ∙ ap₂ (node level all) (sym same) index
         | inr (inl less) ↦
             let upper : count + 1 ≡ (rest + 1) * 2 ^ (i + suc (j - i - 1)) =
             e ∙ ap (λ x. (rest + 1) * 2 ^ x) (omega arith) in

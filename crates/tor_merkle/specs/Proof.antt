@@ -1,4 +1,4 @@
--- Proofs that a hash stands at a place of a tree (BEP 52, "piece layers"): the hash's siblings on the way to the root.
+-- Proofs that a hash stands at an index of a tree (BEP 52, "piece layers"): the hash's siblings on the way to the root.
 use Rattle.std.specs.Prelude.{ℕ, ◌+◌, ◌-◌, ◌*◌, ◌/◌, ◌%◌, ◌^◌, ◌==◌, Bool, not, ◌&&◌, ◌||◌, nat_lt, nat_le}
 use Rattle.std.specs.Prelude.{List, [], ◌∷◌, length, map, slice_index_or, if◌then◌else◌}
 use Rattle.std.specs.Int.{div_ceil}
@@ -10,21 +10,21 @@ use Rattle.tor_merkle.specs.Stack.{padded_subtree}
 use Rattle.tor_merkle.specs.Subtree.{node_of, zero_subtree, zero_leaf, height}
 use Rattle.tor_merkle.specs.declared.TheConstants.{BLOCK_LENGTH}
 
--- the root that a hash at a place and its siblings, lowest first, name; at an even place the hash is the left one
+-- the root that a hash at an index and its siblings, lowest first, name; at an even index the hash is the left one
 unfoldable pub proof_root : List ℕ → ℕ → List (List ℕ) → List ℕ
-proof_root hash place [] = hash
-proof_root hash place (sibling ∷ siblings) =
-    proof_root (if place % 2 == 0 then node_of hash sibling else node_of sibling hash) (place / 2) siblings
+proof_root hash index [] = hash
+proof_root hash index (sibling ∷ siblings) =
+    proof_root (if index % 2 == 0 then node_of hash sibling else node_of sibling hash) (index / 2) siblings
 
--- the place of the sibling at a level, counted in subtrees of that level
-abbrev pub sibling_place : ℕ → ℕ → ℕ
-sibling_place index level =
-    let place = index / 2 ^ level in
-    if place % 2 == 0 then place + 1 else place - 1
+-- the index of the sibling at a level, counted in subtrees of that level
+abbrev pub sibling_index : ℕ → ℕ → ℕ
+sibling_index index level =
+    let node = index / 2 ^ level in
+    if node % 2 == 0 then node + 1 else node - 1
 
--- that sibling covers only places from count on
+-- that sibling covers only indices from count on
 abbrev pub is_past_end : ℕ → ℕ → ℕ → Bool
-is_past_end count index level = nat_le count (sibling_place index level * 2 ^ level)
+is_past_end count index level = nat_le count (sibling_index index level * 2 ^ level)
 
 -- and is then the zero subtree of its level; the hashes themselves stand at level bottom of the whole tree
 abbrev pub is_zero_past_end : ℕ → ℕ → ℕ → List (List ℕ) → ℕ → Bool
@@ -44,7 +44,7 @@ is_proof root count bottom index hash siblings =
 -- the siblings of the hash at an index, lowest first: at each level the root of the run beside it
 unfoldable pub siblings_of : ℕ → List (List ℕ) → ℕ → List (List ℕ)
 siblings_of bottom hashes index =
-    map (λ level. padded_subtree level bottom (run_at (2 ^ level) hashes (sibling_place index level)))
+    map (λ level. padded_subtree level bottom (run_at (2 ^ level) hashes (sibling_index index level)))
     (range_with_len 0 (height (length hashes)))
 
 -- how many hashes the proofs of a file are over: one for each piece, or the root alone

@@ -16,7 +16,7 @@ use std::alloc::{AllocError, Global};
 use std::marker::Model;
 use tor_hashes::block_hashes;
 
-// The hashes of so many bytes, eight blocks, are told at once.
+// The hashes of so many bytes, eight blocks, are computed at once.
 const RUN_LENGTH: usize = 8 * BLOCK_LENGTH;
 
 // The running hash of the present block, and the tree over the blocks before it.
@@ -33,7 +33,7 @@ impl Model for BlockHasher {
 
     ghost Value = { Blocks };
 
-    ghost view = { λ b. record { height = b.tree.height; bytes = b.fed.items; room = b.tree.room } };
+    ghost view = { λ b. record { height = b.tree.height; bytes = b.fed.items; capacity = b.tree.capacity } };
 
     ghost invariant = { λ b. KeepsBlocks b.count b.hasher b.tree.leaves b.fed.items };
 }
@@ -64,9 +64,9 @@ impl BlockHasher {
     pub(crate) fn reserve(&mut self, pieces: usize) -> Result<(), AllocError>
         ensures height { self.new.height ≡ self.old.height }
         ensures bytes { self.new.bytes ≡ self.old.bytes }
-        ensures kept { self.old.room ≤ self.new.room }
-        ensures room { OnOk result (pieces ≤ self.new.room) }
-        ensures there { pieces ≤ self.old.room → IsOk result }
+        ensures kept { self.old.capacity ≤ self.new.capacity }
+        ensures room { OnOk result (pieces ≤ self.new.capacity) }
+        ensures there { pieces ≤ self.old.capacity → IsOk result }
     {
         self.tree.reserve(pieces)
     }
@@ -75,10 +75,10 @@ impl BlockHasher {
     pub(crate) fn feed(&mut self, bytes: &[u8])
         requires small { length self.old.bytes + length bytes.now ≤ MAX_LENGTH }
         requires room { div_ceil (length self.old.bytes + length bytes.now) (BLOCK_LENGTH * 2 ^ self.old.height)
-            ≤ self.old.room }
+            ≤ self.old.capacity }
         ensures height { self.new.height ≡ self.old.height }
         ensures bytes { self.new.bytes ≡ self.old.bytes ++ bytes.now }
-        ensures room { self.old.room ≤ self.new.room }
+        ensures capacity { self.old.capacity ≤ self.new.capacity }
     {
         let mut rest = bytes;
         'parts: while !rest.is_empty() {
@@ -100,7 +100,7 @@ impl BlockHasher {
         requires { FitsRun self.old run.now }
         ensures height { self.new.height ≡ self.old.height }
         ensures bytes { self.new.bytes ≡ self.old.bytes ++ run.now }
-        ensures room { self.old.room ≤ self.new.room }
+        ensures capacity { self.old.capacity ≤ self.new.capacity }
     {
         let fed = self.fed.with(run);
         let leaves = block_hashes(run);
@@ -121,7 +121,7 @@ impl BlockHasher {
         requires { FitsBlock self.old part.now }
         ensures height { self.new.height ≡ self.old.height }
         ensures bytes { self.new.bytes ≡ self.old.bytes ++ part.now }
-        ensures room { self.old.room ≤ self.new.room }
+        ensures capacity { self.old.capacity ≤ self.new.capacity }
     {
         let fed = self.fed.with(part);
         self.hasher.update(part);
@@ -135,7 +135,7 @@ impl BlockHasher {
 
     // The root of the bytes fed, and the hashes of their pieces where there is more than one.
     pub(crate) fn finish(self) -> Option<(Hash, Vec<Hash>)>
-        requires { div_ceil (length self.bytes) (BLOCK_LENGTH * 2 ^ self.height) ≤ self.room }
+        requires { div_ceil (length self.bytes) (BLOCK_LENGTH * 2 ^ self.height) ≤ self.capacity }
         ensures empty { IsNone result ↔ (self.bytes ≡ []) }
         ensures root { IfSome result (λ s. s.0 ≡ pieces_root self.bytes) }
         ensures layer { IfSome result (λ s. s.1.items ≡ piece_layer self.bytes (BLOCK_LENGTH * 2 ^ self.height)) }
@@ -148,7 +148,7 @@ impl BlockHasher {
 
     // The root of each piece of the bytes fed.
     pub(crate) fn piece_roots(self) -> Vec<Hash>
-        requires { div_ceil (length self.bytes) (BLOCK_LENGTH * 2 ^ self.height) ≤ self.room }
+        requires { div_ceil (length self.bytes) (BLOCK_LENGTH * 2 ^ self.height) ≤ self.capacity }
         ensures { result.items ≡ piece_roots self.bytes (BLOCK_LENGTH * 2 ^ self.height) }
     {
         self.into_tree().piece_roots()
@@ -156,10 +156,10 @@ impl BlockHasher {
 
     // The tree with the leaf of the last block, whole or short.
     fn into_tree(self) -> PieceTree
-        requires { div_ceil (length self.bytes) (BLOCK_LENGTH * 2 ^ self.height) ≤ self.room }
+        requires { div_ceil (length self.bytes) (BLOCK_LENGTH * 2 ^ self.height) ≤ self.capacity }
         ensures height { result.height ≡ self.height }
         ensures leaves { result.leaves ≡ leaves self.bytes }
-        ensures room { self.room ≤ result.room }
+        ensures capacity { self.capacity ≤ result.capacity }
     {
         let BlockHasher {
             count,

@@ -1,4 +1,4 @@
-//! Two different hashes for one place of a tree: what their proofs are worth.
+//! Two different hashes for one index of a tree: what their proofs are worth.
 
 ghost use Rattle.std.specs.Prelude.{◌≡◌, ◌≢◌, ℕ, ◌%◌, ◌==◌, List, ◌++◌, IsTrue, length, if◌then◌else◌};
 ghost use Rattle.sha2.specs.Sha256.{sha256};
@@ -7,7 +7,7 @@ ghost use Rattle.tor_merkle.specs.Proof.{is_proof};
 use crate::hash::{Hash, leaf};
 use crate::proof::Proof;
 
-/// Two different texts of 64 bytes with one SHA-256, where two different hashes have accepted proofs for one place
+/// Two different texts of 64 bytes with one SHA-256, where two different hashes have accepted proofs for one index
 /// under one root. Of other hashes or proofs the texts say nothing.
 pub fn collide(
     index: u64,
@@ -24,26 +24,26 @@ pub fn collide(
 {
     let mut node = *hash;
     let mut other_node = *other;
-    let mut place = index;
+    let mut node_index = index;
     'levels: for (sibling, other_sibling) in proof.siblings.iter().zip(&other_proof.siblings) {
-        let text = children(place, &node, sibling);
-        let other_text = children(place, &other_node, other_sibling);
+        let text = children(node_index, &node, sibling);
+        let other_text = children(node_index, &other_node, other_sibling);
         node = leaf(&text);
         other_node = leaf(&other_text);
         if node == other_node {
             return (text, other_text);
         }
-        place /= 2;
+        node_index /= 2;
     }
     ([0; 64], [0; 64])
 }
 
-// The 64 bytes of a hash and its sibling, at an even place the hash first.
-fn children(place: u64, hash: &Hash, sibling: &Hash) -> [u8; 64]
-    ensures text { result ≡ (if place % 2 == 0 then hash.now ++ sibling.now else sibling.now ++ hash.now) }
+// The 64 bytes of a hash and its sibling, at an even index the hash first.
+fn children(index: u64, hash: &Hash, sibling: &Hash) -> [u8; 64]
+    ensures text { result ≡ (if index % 2 == 0 then hash.now ++ sibling.now else sibling.now ++ hash.now) }
     ensures lengths { (length hash.now ≡ 32) × (length sibling.now ≡ 32) }
 {
-    if place % 2 == 0 {
+    if index % 2 == 0 {
         joined(hash, sibling)
     } else {
         joined(sibling, hash)

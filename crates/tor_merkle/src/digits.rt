@@ -15,17 +15,17 @@ pub(crate) fn height_of(count: u64) -> u32
     k
 }
 
-// The place of the lowest digit that is 1, and the odd number that the digits from there on are.
+// Which digit is the lowest that is 1, and the odd number that the digits from there on are.
 pub(crate) fn lowest_one(count: u64) -> (u32, u64)
     requires { 0 < count }
     ensures whole { count ≡ result.1 * 2 ^ result.0 }
     ensures odd { result.1 % 2 ≡ 1 }
 {
     let mut odd = count;
-    let mut place = 0;
+    let mut digit = 0;
     'zeros: while odd % 2 == 0 {
         odd /= 2;
-        place += 1;
+        digit += 1;
     }
-    (place, odd)
+    (digit, odd)
 }

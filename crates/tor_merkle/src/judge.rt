@@ -1,4 +1,4 @@
-//! Whether a hash stands at a place of a tree, as its siblings say (BEP 52, "piece layers").
+//! Whether a hash stands at an index of a tree, as its siblings say (BEP 52, "piece layers").
 
 ghost use Rattle.std.specs.Prelude.{◌≡◌, ◌+◌, ◌^◌, ◌<◌, ◌≤◌, length};
 ghost use Rattle.std.specs.List.{list_all, range_with_len};
@@ -7,7 +7,7 @@ ghost use Rattle.tor_merkle.specs.Subtree.{height};
 
 use crate::digits::height_of;
 use crate::hash::{Hash, pair, zero};
-use crate::proof::{Proof, sibling_place};
+use crate::proof::{Proof, sibling_index};
 
 /// Whether `hash` stands at `index` of the `count` hashes, roots of subtrees of `2^level` leaves each, over which
 /// `root` is the root: the proof has a sibling for each level of their tree, those past the end are zero subtrees, and
@@ -26,7 +26,7 @@ pub fn verify(root: &Hash, count: u64, level: u32, index: u64, hash: &Hash, proo
         && root_from(index, hash, &proof.siblings) == *root
 }
 
-// Whether each sibling that covers only places from `count` on is the zero subtree of its level.
+// Whether each sibling that covers only indices from `count` on is the zero subtree of its level.
 fn has_zeros_past_end(count: u64, level: u32, index: u64, siblings: &[Hash]) -> bool
     requires low { level + length siblings.now ≤ 36 }
     requires within { index < 2 ^ 36 }
@@ -43,13 +43,13 @@ fn has_zeros_past_end(count: u64, level: u32, index: u64, siblings: &[Hash]) -> 
     true
 }
 
-// Whether the sibling at a level covers only places from `count` on.
+// Whether the sibling at a level covers only indices from `count` on.
 fn is_past_end(count: u64, index: u64, level: u32) -> bool
     requires within { index < 2 ^ 36 }
     requires low { level ≤ 36 }
     ensures { result ≡ is_past_end count index level }
 {
-    sibling_place(index, level) * (1 << level) >= count
+    sibling_index(index, level) * (1 << level) >= count
 }
 
 // The root that a hash and its siblings name.
@@ -57,14 +57,14 @@ fn root_from(index: u64, hash: &Hash, siblings: &[Hash]) -> Hash
     ensures { result ≡ proof_root hash.now index siblings.now }
 {
     let mut node = *hash;
-    let mut place = index;
+    let mut node_index = index;
     'siblings: for sibling in siblings {
-        node = if place % 2 == 0 {
+        node = if node_index % 2 == 0 {
             pair(&node, sibling)
         } else {
             pair(sibling, &node)
         };
-        place /= 2;
+        node_index /= 2;
     }
     node
 }

@@ -19,8 +19,8 @@
 //! - [`Stack`], [`layer_root`] (`stack.rt`): the root over hashes that come one after another.
 //! - [`is_piece_length`], [`piece_level`] (`piece_length.rt`): which numbers of bytes a piece may have, and the level
 //!   of its hash.
-//! - [`Proof`] (`proof.rt`): that a hash stands at a place of a tree: [`prove`] makes, [`verify`] (`judge.rt`) judges
-//!   one, and [`collide`] (`collision.rt`) shows what two different ones for one place are worth. [`proof_count`] and
+//! - [`Proof`] (`proof.rt`): that a hash stands at an index of a tree: [`prove`] makes, [`verify`] (`judge.rt`) judges
+//!   one, and [`collide`] (`collision.rt`) shows what two different ones for one index are worth. [`proof_count`] and
 //!   [`proof_level`] tell over how many hashes those of a file are, and of which level.
 //! - [`History`] (`trail.rt`): what came so far, which only proofs read.
 //! - [`laws`] (`laws.rt`): laws over the definitions of `specs/`.

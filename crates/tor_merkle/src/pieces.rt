@@ -31,7 +31,7 @@ impl Model for PieceTree {
 
     ghost Value = { Growing };
 
-    ghost view = { λ t. record { height = t.height; leaves = t.leaves.items; room = vec_capacity t.layer } };
+    ghost view = { λ t. record { height = t.height; leaves = t.leaves.items; capacity = vec_capacity t.layer } };
 
     ghost invariant = { λ t. KeepsPieces t.height t.leaves.items t.blocks t.pieces t.layer.items };
 }
@@ -55,9 +55,9 @@ impl PieceTree {
     pub(crate) fn reserve(&mut self, pieces: usize) -> Result<(), AllocError>
         ensures height { self.new.height ≡ self.old.height }
         ensures leaves { self.new.leaves ≡ self.old.leaves }
-        ensures kept { self.old.room ≤ self.new.room }
-        ensures room { OnOk result (pieces ≤ self.new.room) }
-        ensures there { pieces ≤ self.old.room → IsOk result }
+        ensures kept { self.old.capacity ≤ self.new.capacity }
+        ensures room { OnOk result (pieces ≤ self.new.capacity) }
+        ensures there { pieces ≤ self.old.capacity → IsOk result }
     {
         self.layer.reserve(pieces.saturating_sub(self.layer.len()))
     }
@@ -65,10 +65,10 @@ impl PieceTree {
     // Adds the leaf of the next block.
     pub(crate) fn push(&mut self, leaf: Hash)
         requires small { length self.old.leaves < 2 ^ 36 }
-        requires room { div_ceil (length self.old.leaves) (2 ^ self.old.height) ≤ self.old.room }
+        requires room { div_ceil (length self.old.leaves) (2 ^ self.old.height) ≤ self.old.capacity }
         ensures height { self.new.height ≡ self.old.height }
         ensures leaves { self.new.leaves ≡ self.old.leaves ++ leaf ∷ [] }
-        ensures room { self.old.room ≤ self.new.room }
+        ensures capacity { self.old.capacity ≤ self.new.capacity }
     {
         let leaves = self.leaves.with(&[leaf]);
         if self.blocks.len() == 1 << self.height {
@@ -86,11 +86,11 @@ impl PieceTree {
     // Adds the leaves of the next eight blocks.
     pub(crate) fn push_eight(&mut self, leaves: &[Hash; 8])
         requires small { length self.old.leaves + 8 ≤ 2 ^ 36 }
-        requires room { div_ceil (length self.old.leaves + 8) (2 ^ self.old.height) ≤ self.old.room }
+        requires room { div_ceil (length self.old.leaves + 8) (2 ^ self.old.height) ≤ self.old.capacity }
         ensures height { self.new.height ≡ self.old.height }
         ensures leaves { self.new.leaves ≡ self.old.leaves ++ leaves.now }
         ensures eight { length leaves.now ≡ 8 }
-        ensures room { self.old.room ≤ self.new.room }
+        ensures capacity { self.old.capacity ≤ self.new.capacity }
     {
         'leaves: for leaf in leaves {
             self.push(*leaf);
@@ -100,7 +100,7 @@ impl PieceTree {
     // The root of the tree over all leaves, and the hashes of the pieces where there is more than one.
     pub(crate) fn finish(self) -> (Hash, Vec<Hash>)
         requires some { 0 < length self.leaves }
-        requires room { div_ceil (length self.leaves) (2 ^ self.height) ≤ self.room }
+        requires room { div_ceil (length self.leaves) (2 ^ self.height) ≤ self.capacity }
         ensures root { result.0 ≡ padded_root 0 self.leaves }
         ensures layer { result.1.items
             ≡ (if nat_le (length self.leaves) (2 ^ self.height) then [] else nodes 0 self.leaves self.height) }
@@ -121,7 +121,7 @@ impl PieceTree {
 
     // The hash of each piece, the last widened where it is short.
     pub(crate) fn piece_roots(self) -> Vec<Hash>
-        requires { div_ceil (length self.leaves) (2 ^ self.height) ≤ self.room }
+        requires { div_ceil (length self.leaves) (2 ^ self.height) ≤ self.capacity }
         ensures { result.items ≡ nodes 0 self.leaves self.height }
     {
         let PieceTree {

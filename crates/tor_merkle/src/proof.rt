@@ -1,10 +1,10 @@
-//! Proofs that a hash stands at a place of a tree (BEP 52, "piece layers").
+//! Proofs that a hash stands at an index of a tree (BEP 52, "piece layers").
 
 ghost use Rattle.std.specs.Prelude.{◌≡◌, ◌+◌, ◌*◌, ◌^◌, ◌<◌, ◌≤◌, ◌↔◌, IsTrue, length, slice_index_or};
 ghost use Rattle.std.specs.Prelude.{IfOk, Err};
 ghost use Rattle.tor_merkle.specs.Block.{run_at};
 ghost use Rattle.tor_merkle.specs.Layer.{IsPieceLength};
-ghost use Rattle.tor_merkle.specs.Proof.{is_proof, proof_count, proof_level, sibling_place, siblings_of};
+ghost use Rattle.tor_merkle.specs.Proof.{is_proof, proof_count, proof_level, sibling_index, siblings_of};
 ghost use Rattle.tor_merkle.specs.Stack.{padded_root, padded_subtree};
 ghost use Rattle.tor_merkle.specs.Subtree.{height, zero_leaf};
 ghost use Rattle.tor_merkle.specs.declared.proof.ProveError.TheVariants.{Index, Memory};
@@ -65,28 +65,28 @@ pub fn prove(alloc: Global, hashes: &[Hash], level: u32, index: u64) -> Result<P
     let levels = height_of(hashes.len() as u64);
     let mut siblings = Vec::new(alloc);
     'levels: for above in 0..levels {
-        siblings.push(root_of_run(hashes, level, above, sibling_place(index, above)))?;
+        siblings.push(root_of_run(hashes, level, above, sibling_index(index, above)))?;
     }
     Ok(Proof { siblings })
 }
 
-// The place of the sibling at a level, counted in subtrees of that level.
-pub(crate) fn sibling_place(index: u64, level: u32) -> u64
+// The index of the sibling at a level, counted in subtrees of that level.
+pub(crate) fn sibling_index(index: u64, level: u32) -> u64
     requires { level ≤ 36 }
-    ensures { result ≡ sibling_place index level }
+    ensures { result ≡ sibling_index index level }
 {
-    let place = index >> level;
-    if place % 2 == 0 { place + 1 } else { place - 1 }
+    let node = index >> level;
+    if node % 2 == 0 { node + 1 } else { node - 1 }
 }
 
-// The root of the run of `2^above` hashes at a place, where zero subtrees stand for those that are missing.
-fn root_of_run(hashes: &[Hash], level: u32, above: u32, place: u64) -> Hash
+// The root of the run of `2^above` hashes at an index, where zero subtrees stand for those that are missing.
+fn root_of_run(hashes: &[Hash], level: u32, above: u32, index: u64) -> Hash
     requires low { level + above ≤ 36 }
-    requires small { place * 2 ^ above < 2 ^ 64 }
-    ensures { result ≡ padded_subtree above level (run_at (2 ^ above) hashes.now place) }
+    requires small { index * 2 ^ above < 2 ^ 64 }
+    ensures { result ≡ padded_subtree above level (run_at (2 ^ above) hashes.now index) }
 {
     let width = 1 << above;
-    let start = place * width;
+    let start = index * width;
     if start >= hashes.len() as u64 {
         return zero(level + above);
     }

@@ -90,7 +90,7 @@ impl Stack {
         self.subtree(height_of(self.count))
     }
 
-    // The root over `2^height` places: the hashes pushed, followed by zero subtrees.
+    // The root over `2^height` hashes: those pushed, followed by zero subtrees.
     pub(crate) fn subtree(&self, height: u32) -> Hash
         requires some { 0 < length self.now.hashes }
         requires wide { length self.now.hashes ≤ 2 ^ height }
@@ -99,14 +99,14 @@ impl Stack {
     {
         let (lowest, odd) = lowest_one(self.count);
         let mut top = self.tops[lowest as usize];
-        let mut place = odd - 1;
+        let mut index = odd - 1;
         'climb: for digit in lowest..height {
-            top = if place % 2 == 1 {
+            top = if index % 2 == 1 {
                 pair(&self.tops[digit as usize], &top)
             } else {
                 pair(&top, &zero(self.level + digit))
             };
-            place /= 2;
+            index /= 2;
         }
         top
     }

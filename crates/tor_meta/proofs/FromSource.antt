@@ -11,43 +11,43 @@ use Rattle.std.proofs.lemmas.List.FromFn.{get_or-enumerate_from, length-enumerat
 use Rattle.tor_engine.specs.Contents.{contents_in}
 use Rattle.tor_meta.specs.Contents.{files_of, IsMadeOf, IsMadeOfSome}
 use Rattle.tor_meta.specs.Make.{content_at, files_of_source, listed_files}
-use Rattle.tor_meta.specs.PlacedFiles.{facts_at}
+use Rattle.tor_meta.specs.IndexedFiles.{facts_at}
 use Rattle.tor_source.specs.Source.{SourceFacts}
 use Rattle.tor_spec.specs.Facts.{File}
 use Rattle.tor_spec.specs.Metainfo.{metainfo}
 use Rattle.tor_spec.specs.Settings.{Settings}
 use Rattle.tor_tree.specs.FileList.{lengths_of, paths_of}
 use Rattle.tor_tree.specs.Path.{path_cmp}
-use Rattle.tor_tree.specs.PathList.{ArePlacedPaths, IsPathList, places_of}
-use Rattle.tor_tree.proofs.ProvedLaws.{at_places}
-use Rattle.tor_meta.proofs.Placed.{paths_moved}
+use Rattle.tor_tree.specs.PathList.{AreIndexedPaths, IsPathList, indices_of}
+use Rattle.tor_tree.proofs.ProvedLaws.{at_indices}
+use Rattle.tor_meta.proofs.Indexed.{paths_moved}
 use Rattle.tor_meta.proofs.SourceFiles.{AreWithin, Entries, entries_within}
 
 -- a function of the numbers that is one of what stands there
-by_place : {A B : Type 0} (f : A → B) (h : ℕ → B) (places : ListOf A) (a : ℕ) → ((k : ℕ) (d : A) →
-    k < length places → h (a + k) ≡ f (get_or places k d)) →
-    map h (range_with_len a (length places)) ≡ map f places
-by_place f h [] a at = refl
-by_place f h (place ∷ places) a at =
+by_index : {A B : Type 0} (f : A → B) (h : ℕ → B) (indices : ListOf A) (a : ℕ) → ((k : ℕ) (d : A) →
+    k < length indices → h (a + k) ≡ f (get_or indices k d)) →
+    map h (range_with_len a (length indices)) ≡ map f indices
+by_index f h [] a at = refl
+by_index f h (index ∷ indices) a at =
     let here : a + 0 ≡ a = omega arith in
-    let first : h a ≡ f place = subst (λ n. h n ≡ f place) here (at zero place (omega arith)) in
-    let later = by_place f h places (a + 1) (λ k d less.
+    let first : h a ≡ f index = subst (λ n. h n ≡ f index) here (at zero index (omega arith)) in
+    let later = by_index f h indices (a + 1) (λ k d less.
     let next : a + suc k ≡ a + 1 + k = omega arith in
-    subst (λ n. h n ≡ f (get_or places k d)) next (at (suc k) d (omega arith))) in
+    subst (λ n. h n ≡ f (get_or indices k d)) next (at (suc k) d (omega arith))) in
     rw (first, later) refl
 
 module _ {F : Type 0} (facts : SourceFacts F) where
-  pub contents_moved : (places : ListOf ℕ) →
-      contents_in (facts_at places facts) (length places) ≡ map (content_at facts) places
-  contents_moved places =
-      by_place (content_at facts) (λ k. unwrap_or (get_or (map facts.contents places) k None) []) places 0
+  pub contents_moved : (indices : ListOf ℕ) →
+      contents_in (facts_at indices facts) (length indices) ≡ map (content_at facts) indices
+  contents_moved indices =
+      by_index (content_at facts) (λ k. unwrap_or (get_or (map facts.contents indices) k None) []) indices 0
       (λ k d less. rw (zero-add k) (ap (λ content. unwrap_or content [])
-      (get_or-map facts.contents places k d None less)))
+      (get_or-map facts.contents indices k d None less)))
 
   sorted : Entries → ListOf File
   sorted entries = map (λ entry. record { path = entry.0; content = content_at facts entry.1 }) entries
 
-  in_order : (entries : Entries) → files_of (listed_files facts entries) (map (content_at facts) (places_of entries))
+  in_order : (entries : Entries) → files_of (listed_files facts entries) (map (content_at facts) (indices_of entries))
       ≡ sorted entries
   unfolding sorted
   in_order [] = refl
@@ -65,30 +65,30 @@ module _ {F : Type 0} (facts : SourceFacts F) where
   files_there : (paths : ListOf (ListOf (ListOf ℕ))) (d : File) (entries : Entries) →
       AllByRecursion (λ entry. get_or paths entry.1 [] ≡ entry.0) entries →
       AreWithin (length paths) entries →
-      map (λ place. get_or (files_of_source facts paths) place d) (places_of entries) ≡ sorted entries
+      map (λ index. get_or (files_of_source facts paths) index d) (indices_of entries) ≡ sorted entries
   unfolding sorted
   files_there paths d [] found within = refl
   files_there paths d (entry ∷ entries) found within =
       rw (file_there paths entry.1 d within.0, found.0, files_there paths d entries found.1 within.1) refl
 
   pub made_of : (settings : Settings) (paths : ListOf (ListOf (ListOf ℕ))) (entries list : Entries)
-      (places : ListOf ℕ) (bytes : ListOf ℕ) → ArePlacedPaths paths entries →
-      IsPathList entries → list ≡ listed_files facts entries → places ≡ places_of entries →
-      bytes ≡ metainfo settings (files_of list (contents_in (facts_at places facts) (length list))) →
+      (indices : ListOf ℕ) (bytes : ListOf ℕ) → AreIndexedPaths paths entries →
+      IsPathList entries → list ≡ listed_files facts entries → indices ≡ indices_of entries →
+      bytes ≡ metainfo settings (files_of list (contents_in (facts_at indices facts) (length list))) →
       IsMadeOf settings (files_of_source facts paths) bytes
-  made_of settings paths entries list places bytes placed lawful are_files are_places made =
+  made_of settings paths entries list indices bytes indexed lawful are_files are_indices made =
       let none : File = record { path = []; content = [] } in
-      let count : length list ≡ length (places_of entries) = rw are_files (simp length-map refl) in
-      let files : files_of list (contents_in (facts_at places facts) (length list)) ≡ sorted entries =
-      rw (count, are_places, are_files) (ap (files_of (listed_files facts entries))
-      (contents_moved (places_of entries)) ∙ in_order entries) in
-      let within = entries_within (length paths) entries placed.places placed.one_each in
-      let there = files_there paths none entries (recursion_from_All _ entries placed.found) within in
-      let long : length (places_of entries)
-      ≡ length (files_of_source facts paths) = simp length-map (placed.one_each
+      let count : length list ≡ length (indices_of entries) = rw are_files (simp length-map refl) in
+      let files : files_of list (contents_in (facts_at indices facts) (length list)) ≡ sorted entries =
+      rw (count, are_indices, are_files) (ap (files_of (listed_files facts entries))
+      (contents_moved (indices_of entries)) ∙ in_order entries) in
+      let within = entries_within (length paths) entries indexed.indices indexed.one_each in
+      let there = files_there paths none entries (recursion_from_All _ entries indexed.found) within in
+      let long : length (indices_of entries)
+      ≡ length (files_of_source facts paths) = simp length-map (indexed.one_each
       ∙ sym (length-enumerate_from 0 paths)) in (
         sorted entries,
-        rw (← there) (at_places (files_of_source facts paths) none (places_of entries) placed.places long),
+        rw (← there) (at_indices (files_of_source facts paths) none (indices_of entries) indexed.indices long),
         rw (← in_order entries) (rw (paths_moved (λ k. length (content_at facts k)) (content_at facts) entries)
             lawful.in_order),
         made ∙ ap (metainfo settings) files,
@@ -106,23 +106,24 @@ paths_of_files (file ∷ files) (content ∷ contents) fit =
 
 paths_found : (paths : ListOf (ListOf (ListOf ℕ))) (entries : Entries)
     → AllByRecursion (λ entry. get_or paths entry.1 [] ≡ entry.0) entries
-    → map (λ place. get_or paths place []) (places_of entries) ≡ paths_of entries
+    → map (λ index. get_or paths index []) (indices_of entries) ≡ paths_of entries
 paths_found paths [] found = refl
 paths_found paths (entry ∷ entries) found = ap₂ (λ p ps. p ∷ ps) found.0 (paths_found paths entries found.1)
 
 pub made_of_some : (settings : Settings) (paths : ListOf (ListOf (ListOf ℕ))) (lengths : ListOf ℕ)
-    (entries list : Entries) (contents : ListOf (ListOf ℕ)) (bytes : ListOf ℕ) → ArePlacedPaths paths entries
+    (entries list : Entries) (contents : ListOf (ListOf ℕ)) (bytes : ListOf ℕ) → AreIndexedPaths paths entries
     → IsPathList entries → list ≡ map (λ entry. (entry.0, get_or lengths entry.1 0)) entries
     → map length contents ≡ lengths_of list → bytes ≡ metainfo settings (files_of list contents)
     → IsMadeOfSome settings paths bytes
-made_of_some settings paths lengths entries list contents bytes placed lawful is fit made =
+made_of_some settings paths lengths entries list contents bytes indexed lawful is fit made =
     let same : map (λ (file : File). file.path) (files_of list contents) ≡ paths_of entries =
     paths_of_files list contents fit ∙ ap paths_of is
     ∙ map-map (λ (file : ListOf (ListOf ℕ) × ℕ). file.0) (λ entry. (entry.0, get_or lengths entry.1 0)) entries in
-    let found = paths_found paths entries (recursion_from_All _ entries placed.found) in
-    let long : length (places_of entries) ≡ length paths = length-map entries (λ entry. entry.1) ∙ placed.one_each in (
+    let found = paths_found paths entries (recursion_from_All _ entries indexed.found) in
+    let long : length (indices_of entries) ≡ length paths =
+    length-map entries (λ entry. entry.1) ∙ indexed.one_each in (
       files_of list contents,
-      subst (IsPermutation paths) (found ∙ sym same) (at_places paths [] (places_of entries) placed.places long),
+      subst (IsPermutation paths) (found ∙ sym same) (at_indices paths [] (indices_of entries) indexed.indices long),
       subst (IsStrictlySortedBy path_cmp) (sym same) lawful.in_order,
       made,
     )

@@ -7,18 +7,18 @@ use Rattle.tor_engine.specs.declared.errors.EngineError.{EngineError}
 use Rattle.tor_engine.specs.declared.errors.EngineError.TheVariants.{Read, Changed, Missing, Resources, StreamTooLong}
 use Rattle.tor_meta.specs.Make.{IsGivenTo}
 use Rattle.tor_meta.specs.MakeError.{of_engine_error}
-use Rattle.tor_meta.specs.PlacedFiles.{renumbered}
+use Rattle.tor_meta.specs.IndexedFiles.{renumbered}
 
-module _ {F : Type 0} (gave : ℕ → Option ℕ → F → Type 0) (count : ℕ) (places : ListOf ℕ)
-    (within : All (λ place. place < count) places) where
-  pub given_of_placed : (error : EngineError F)
-      → IsGivenNotMissing (λ file place fault. (file < length places) × gave (get_or places file 0) place fault)
-      (length places) error → IsGivenTo gave count (of_engine_error (renumbered places error))
-  given_of_placed (Read file start fault) ((there, given), less) = (
-    subst (λ (k : ℕ). gave k start fault) (get_or_default places file 0 file there) given,
+module _ {F : Type 0} (gave : ℕ → Option ℕ → F → Type 0) (count : ℕ) (indices : ListOf ℕ)
+    (within : All (λ index. index < count) indices) where
+  pub given_of_indexed : (error : EngineError F)
+      → IsGivenNotMissing (λ file offset fault. (file < length indices) × gave (get_or indices file 0) offset fault)
+      (length indices) error → IsGivenTo gave count (of_engine_error (renumbered indices error))
+  given_of_indexed (Read file start fault) ((there, given), less) = (
+    subst (λ (k : ℕ). gave k start fault) (get_or_default indices file 0 file there) given,
     within file file there,
   )
-  given_of_placed (Changed file) there = within file file there
-  given_of_placed (Missing file) none = absurd none
-  given_of_placed Resources none = none
-  given_of_placed (StreamTooLong file) none = none
+  given_of_indexed (Changed file) there = within file file there
+  given_of_indexed (Missing file) none = absurd none
+  given_of_indexed Resources none = none
+  given_of_indexed (StreamTooLong file) none = none

@@ -14,7 +14,7 @@ use Rattle.tor_meta.specs.declared.head.Head.{Head}
 use Rattle.tor_tree.specs.declared.paths.TheConstants.{MAX_NAMES}
 use Rattle.tor_spec.specs.Settings.{is_aligned}
 use Rattle.tor_tree.specs.FileList.{IsFileList}
-use Rattle.tor_tree.specs.PathList.{ArePlacedPaths}
+use Rattle.tor_tree.specs.PathList.{AreIndexedPaths}
 use Rattle.tor_v1.specs.Reserved.{is_reserved, takes_reserved}
 use Rattle.tor_v1.specs.declared.layout.Layout.TheVariants.{Joined, Aligned}
 
@@ -71,17 +71,17 @@ not_reserved true files h = h refl
 not_reserved false files h = refl
 
 pub judged : (head : Head) (paths : List (List (List ℕ))) (lengths : ℕ → ℕ) (entries : List (List (List ℕ) × ℕ))
-    → ArePlacedPaths paths entries → paths_refusal (settings_of head) paths ≡ None
+    → AreIndexedPaths paths entries → paths_refusal (settings_of head) paths ≡ None
     → IsFileList (map (λ entry. (entry.0, lengths entry.1)) entries)
     → IsJudged head (map (λ entry. (entry.0, lengths entry.1)) entries)
-judged head paths lengths entries placed accepted is_list =
+judged head paths lengths entries indexed accepted is_list =
     let parts = both_none (shape_refusal (settings_of head) paths) _ accepted in
     let later = both_none _ _ parts.1 in
     let first = cleared (not (is_piece_length head.piece_length)) _ _ parts.0 in
     let second = cleared (list_any is_long paths) _ _ first.1 in
     let third = cleared (head.single && not (is_only head.name paths)) _ _ second.1 in
     let reserved = cleared (is_aligned head.kind head.single && list_any is_reserved paths) _ _ later.1 in
-    let found = recursion_from_All _ entries placed.found in
+    let found = recursion_from_All _ entries indexed.found in
     let files = map (λ (entry : List (List ℕ) × ℕ). (entry.0, lengths entry.1)) entries in
     record {
       is_list = is_list;
@@ -91,7 +91,7 @@ judged head paths lengths entries placed accepted is_list =
           (All-from_recursion (λ (file : List (List ℕ) × ℕ). is_long file.0
           ≡ false) files (of_files is_long refl paths lengths entries found second.0) k d lt);
       one =
-          λ e. simp length-map (placed.one_each
+          λ e. simp length-map (indexed.one_each
           ∙ one_path head.name paths
           (allowed (is_only head.name paths) (second_of head.single (not (is_only head.name paths)) third.0 e)));
       free =

@@ -38,7 +38,7 @@ insert_put (entry ∷ entries) key value =
         ap (λ k. pair k (string value.items) (pairs_of_map entries)) (sym (exact_bytes key entry.0 e))
     by_order Greater e later = ap (pair entry.0 (string entry.1.items)) later
 
--- the facts at a place, as the lists have them
+-- the facts at an index, as the lists have them
 pub record IsAt (files : List (List (List ℕ) × ℕ)) (roots : List (Option (List ℕ)))
     (layers : List (Vec (List ℕ) Global)) (k : ℕ) (facts : List Facts) (fact : Facts) : Type 0 where
   pub first : drop k facts ≡ fact ∷ drop (k + 1) facts
@@ -112,8 +112,8 @@ module _ (p : ℕ) (files : List (List (List ℕ) × ℕ)) (roots : List (Option
       → (facts : List Facts) → listed facts ≡ files → roots_in facts ≡ roots → layers_in facts ≡ lists_of layers
       → pairs_of_map old ≡ piece_layers p (drop left facts) → pairs_of_map new ≡ piece_layers p (drop (left - 1) facts)
   layer_put e g root value old new long is_root is_value is_new facts is_listed is_roots is_layers =
-      let at_place = facts_at files roots layers (left - 1) facts (omega arith) is_listed is_roots is_layers in
-      put_here e g root value old new long is_root is_value is_new facts at_place.0 at_place.1
+      let at_index = facts_at files roots layers (left - 1) facts (omega arith) is_listed is_roots is_layers in
+      put_here e g root value old new long is_root is_value is_new facts at_index.0 at_index.1
 
   -- a file of one piece has no layer there
   pub layer_left_out : (entries : List (List ℕ × Vec ℕ Global)) → (get_or files (left - 1) d).1 ≤ p
@@ -121,5 +121,5 @@ module _ (p : ℕ) (files : List (List (List ℕ) × ℕ)) (roots : List (Option
       → pairs_of_map entries ≡ piece_layers p (drop left facts)
       → pairs_of_map entries ≡ piece_layers p (drop (left - 1) facts)
   layer_left_out entries short facts is_listed is_roots is_layers =
-      let at_place = facts_at files roots layers (left - 1) facts (omega arith) is_listed is_roots is_layers in
-      left_out_here entries short facts at_place.0 at_place.1
+      let at_index = facts_at files roots layers (left - 1) facts (omega arith) is_listed is_roots is_layers in
+      left_out_here entries short facts at_index.0 at_index.1

@@ -3,7 +3,7 @@ pub mod LayerSteps
 pub mod SumSteps
 pub mod Listed
 pub mod ContentSteps
-pub mod Placed
+pub mod Indexed
 pub mod SourceFiles
 pub mod SourceSums
 pub mod OneFile

@@ -14,12 +14,12 @@ use Rattle.tor_meta.specs.declared.refusals.ContentsError.TheVariants.{List, Mem
 use Rattle.tor_spec.specs.Metainfo.{metainfo}
 use Rattle.tor_spec.specs.Settings.{Settings}
 use Rattle.tor_tree.specs.FileList.{IsFileList, lengths_fault, lengths_of, lengths_too_large}
-use Rattle.tor_tree.specs.PathList.{ArePlacedPaths, IsPathList, places_of}
+use Rattle.tor_tree.specs.PathList.{AreIndexedPaths, IsPathList, indices_of}
 use Rattle.tor_tree.specs.declared.lists.ListError.{ListError}
 use Rattle.tor_tree.specs.declared.lists.ListError.TheVariants as faults
 use Rattle.tor_meta.proofs.Judged.{judged}
-use Rattle.tor_meta.proofs.Placed.{files_moved, handed_lengths, handed_paths, lengths_at, or_first, or_second}
-use Rattle.tor_meta.proofs.Placed.{paths_moved, places_within}
+use Rattle.tor_meta.proofs.Indexed.{files_moved, handed_lengths, handed_paths, lengths_at, or_first, or_second}
+use Rattle.tor_meta.proofs.Indexed.{paths_moved, indices_within}
 
 abbrev pub Handed : Type 0
 Handed = ListOf (ListOf (ListOf ℕ) × Vec ℕ Global)
@@ -64,29 +64,29 @@ module _ (settings : Settings) (files : Handed) (paths : ListOf (ListOf (ListOf 
       ∙ ap Some (sym (is ∙ only_too_large (lengths_too_large lengths) fault e))))
   refused_lengths fault refusal is none (inr e) = inr (is ∙ rw e refl)
 
-  module _ (entries : ListOf (ListOf (ListOf ℕ) × ℕ)) (list : ListOf (ListOf (ListOf ℕ) × ℕ)) (places : ListOf ℕ)
-      (placed : ArePlacedPaths paths entries)
+  module _ (entries : ListOf (ListOf (ListOf ℕ) × ℕ)) (list : ListOf (ListOf (ListOf ℕ) × ℕ)) (indices : ListOf ℕ)
+      (indexed : AreIndexedPaths paths entries)
       (is_list : list ≡ map (λ entry. (entry.0, get_or lengths entry.1 0)) entries)
-      (are_places : places ≡ places_of entries) where
-    pub within : All (λ place. place < length contents) places
+      (are_indices : indices ≡ indices_of entries) where
+    pub within : All (λ index. index < length contents) indices
     within =
         let handed : length paths ≡ length files = ap length are_paths ∙ simp length-map in
         let held : length contents ≡ length files = ap length are_contents ∙ simp length-map in
-        let count : length (places_of entries) ≡ length contents =
-        simp length-map (placed.one_each ∙ handed ∙ sym held) in
-        rw are_places (places_within (length contents) (places_of entries) placed.places count)
+        let count : length (indices_of entries) ≡ length contents =
+        simp length-map (indexed.one_each ∙ handed ∙ sym held) in
+        rw are_indices (indices_within (length contents) (indices_of entries) indexed.indices count)
 
-    pub contents_listed : (ordered : ListOf (ListOf ℕ)) → ordered ≡ contents_at contents places
+    pub contents_listed : (ordered : ListOf (ListOf ℕ)) → ordered ≡ contents_at contents indices
         → map length ordered ≡ lengths_of list
-    contents_listed ordered is = rw (is, is_list, are_places, are_lengths) (lengths_at contents entries)
+    contents_listed ordered is = rw (is, is_list, are_indices, are_lengths) (lengths_at contents entries)
 
     pub made_of : IsPathList entries → (ordered : ListOf (ListOf ℕ)) (bytes : ListOf ℕ)
-        → ordered ≡ contents_at contents places → bytes ≡ metainfo settings (files_of list ordered)
+        → ordered ≡ contents_at contents indices → bytes ≡ metainfo settings (files_of list ordered)
         → IsMadeOf settings (files_in files) bytes
     made_of lawful ordered bytes is made = (
       files_of list ordered,
-      rw (is, is_list, are_places, are_lengths, are_contents) (files_moved files entries (rw are_paths at placed)),
-      rw (is, is_list, are_places)
+      rw (is, is_list, are_indices, are_lengths, are_contents) (files_moved files entries (rw are_paths at indexed)),
+      rw (is, is_list, are_indices)
           (rw
           (paths_moved (λ k. get_or lengths k 0) (λ k. get_or (map (λ content. content.items) contents) k []) entries)
           lawful.in_order),
@@ -94,8 +94,8 @@ module _ (settings : Settings) (files : Handed) (paths : ListOf (ListOf (ListOf 
     )
 
 pub judged_list : (head : Head) (paths : ListOf (ListOf (ListOf ℕ))) (lengths : ListOf ℕ)
-    (entries list : ListOf (ListOf (ListOf ℕ) × ℕ)) → ArePlacedPaths paths entries
+    (entries list : ListOf (ListOf (ListOf ℕ) × ℕ)) → AreIndexedPaths paths entries
     → paths_refusal (settings_of head) paths ≡ None
     → list ≡ map (λ entry. (entry.0, get_or lengths entry.1 0)) entries → IsFileList list → IsJudged head list
-judged_list head paths lengths entries list placed accepted is lawful =
-    rw is (judged head paths (λ k. get_or lengths k 0) entries placed accepted (rw is at lawful))
+judged_list head paths lengths entries list indexed accepted is lawful =
+    rw is (judged head paths (λ k. get_or lengths k 0) entries indexed accepted (rw is at lawful))

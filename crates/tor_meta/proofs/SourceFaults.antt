@@ -15,16 +15,16 @@ use Rattle.tor_engine.specs.declared.errors.EngineError.TheVariants.{Resources a
 use Rattle.tor_meta.specs.Make.{IsMakeFault, asked_fault, bytes_fault, content_at, listed_files}
 use Rattle.tor_meta.specs.Make.{make_refusal}
 use Rattle.tor_meta.specs.MakeError.{of_engine_error}
-use Rattle.tor_meta.specs.PlacedFiles.{facts_at, renumbered}
+use Rattle.tor_meta.specs.IndexedFiles.{facts_at, renumbered}
 use Rattle.tor_meta.specs.declared.make_error.MakeError.{MakeError}
 use Rattle.tor_meta.specs.declared.make_error.MakeError.TheVariants.{Resources}
 use Rattle.tor_meta.specs.declared.order.Order.{Order}
 use Rattle.tor_source.specs.Source.{SourceFacts, told_length}
 use Rattle.tor_tree.specs.FileList.{lengths_of}
-use Rattle.tor_tree.specs.PathList.{ArePlacedPaths, IsPathList, places_of}
+use Rattle.tor_tree.specs.PathList.{AreIndexedPaths, IsPathList, indices_of}
 use Rattle.tor_meta.proofs.ByteFaults.{byte_fault_told}
 use Rattle.tor_meta.proofs.Judged.{both_none}
-use Rattle.tor_meta.proofs.Placed.{or_second, places_within}
+use Rattle.tor_meta.proofs.Indexed.{or_second, indices_within}
 use Rattle.tor_meta.proofs.SourceFiles.{Entries}
 use Rattle.tor_meta.proofs.SourceSums.{mapped_none}
 use Rattle.tor_meta.proofs.FromSource.{contents_moved}
@@ -63,89 +63,90 @@ told_none file other (Ok (Some n)) h = refl
 
 module _ {F : Type 0} (facts : SourceFacts F) where
   lengths_listed : (entries : Entries) →
-      map length (map (content_at facts) (places_of entries)) ≡ lengths_of (listed_files facts entries)
+      map length (map (content_at facts) (indices_of entries)) ≡ lengths_of (listed_files facts entries)
   lengths_listed [] = refl
   lengths_listed (entry ∷ entries) = ap (λ ns. length (content_at facts entry.1) ∷ ns) (lengths_listed entries)
 
-  told_there : (n : ℕ) (places : ListOf ℕ) → All (λ place. place < n) places →
+  told_there : (n : ℕ) (indices : ListOf ℕ) → All (λ index. index < n) indices →
       first_of (length_fault facts) (range_with_len 0 n) ≡ None →
-      (k : ℕ) → k < length places → length_fault (facts_at places facts) k ≡ None
-  told_there n places within none k less =
-      rw (get_or-map facts.length_fault places k 0 None less, get_or-map facts.contents places k 0 None less)
-      (told_none k (get_or places k 0) (told_length facts (get_or places k 0))
-      (each_none (length_fault facts) 0 n (get_or places k 0) (omega arith) (omega (arith, within k 0 less)) none))
+      (k : ℕ) → k < length indices → length_fault (facts_at indices facts) k ≡ None
+  told_there n indices within none k less =
+      rw (get_or-map facts.length_fault indices k 0 None less, get_or-map facts.contents indices k 0 None less)
+      (told_none k (get_or indices k 0) (told_length facts (get_or indices k 0))
+      (each_none (length_fault facts) 0 n (get_or indices k 0) (omega arith) (omega (arith, within k 0 less)) none))
 
-  all_told : (n : ℕ) (places : ListOf ℕ) → All (λ place. place < n) places →
+  all_told : (n : ℕ) (indices : ListOf ℕ) → All (λ index. index < n) indices →
       first_of (length_fault facts) (range_with_len 0 n) ≡ None →
-      first_of (length_fault (facts_at places facts)) (range_with_len 0 (length places)) ≡ None
-  all_told n places within none =
-      none_of (length_fault (facts_at places facts)) (range_with_len 0 (length places))
-      (recursion_from_All _ (range_with_len 0 (length places)) (λ k d less.
-      let inside : k < length places = omega (arith, less, length-range_with_len 0 (length places)) in
-      rw (get_or-range_with_len 0 (length places) k d inside, zero-add k) (told_there n places within none k inside)))
+      first_of (length_fault (facts_at indices facts)) (range_with_len 0 (length indices)) ≡ None
+  all_told n indices within none =
+      none_of (length_fault (facts_at indices facts)) (range_with_len 0 (length indices))
+      (recursion_from_All _ (range_with_len 0 (length indices)) (λ k d less.
+      let inside : k < length indices = omega (arith, less, length-range_with_len 0 (length indices)) in
+      rw (get_or-range_with_len 0 (length indices) k d inside, zero-add k) (told_there n indices within none k inside)))
 
-  lengths_moved : (n : ℕ) (entries : Entries) → All (λ place. place < n) (places_of entries) →
+  lengths_moved : (n : ℕ) (entries : Entries) → All (λ index. index < n) (indices_of entries) →
       first_of (length_fault facts) (range_with_len 0 n) ≡ None →
-      first_length_fault (facts_at (places_of entries) facts) (lengths_of (listed_files facts entries)) ≡ None
+      first_length_fault (facts_at (indices_of entries) facts) (lengths_of (listed_files facts entries)) ≡ None
   lengths_moved n entries within none =
-      let long : length (lengths_of (listed_files facts entries)) ≡ length (places_of entries) = simp length-map refl in
-      let contents = ap (map length) (contents_moved facts (places_of entries)) ∙ lengths_listed entries in
+      let long : length (lengths_of (listed_files facts entries)) ≡ length (indices_of entries) =
+      simp length-map refl in
+      let contents = ap (map length) (contents_moved facts (indices_of entries)) ∙ lengths_listed entries in
       rw (
         long,
-        all_told n (places_of entries) within none,
+        all_told n (indices_of entries) within none,
         contents,
         same_change 0
             (lengths_of (listed_files facts entries)),
       ) refl
 
   -- the lengths that were told are those of the list, in its order
-  pub lengths_told : (paths : ListOf (ListOf (ListOf ℕ))) (entries list : Entries) (places : ListOf ℕ) →
-      ArePlacedPaths paths entries → asked_fault facts (length entries) ≡ None → list ≡ listed_files facts entries →
-      places ≡ places_of entries → first_length_fault (facts_at places facts) (lengths_of list) ≡ None
-  lengths_told paths entries list places placed asked are_files are_places =
-      let count : length (places_of entries) ≡ length entries = simp length-map refl in
-      let within = places_within (length entries) (places_of entries) placed.places count in
-      ap₂ (λ ps files. first_length_fault (facts_at ps facts) (lengths_of files)) are_places are_files
+  pub lengths_told : (paths : ListOf (ListOf (ListOf ℕ))) (entries list : Entries) (indices : ListOf ℕ) →
+      AreIndexedPaths paths entries → asked_fault facts (length entries) ≡ None → list ≡ listed_files facts entries →
+      indices ≡ indices_of entries → first_length_fault (facts_at indices facts) (lengths_of list) ≡ None
+  lengths_told paths entries list indices indexed asked are_files are_indices =
+      let count : length (indices_of entries) ≡ length entries = simp length-map refl in
+      let within = indices_within (length entries) (indices_of entries) indexed.indices count in
+      ap₂ (λ ps files. first_length_fault (facts_at ps facts) (lengths_of files)) are_indices are_files
       ∙ lengths_moved (length entries) entries within (mapped_none of_engine_error _ (both_none _ _ asked).0)
 
   pub fault_told : (order : Order) (paths : ListOf (ListOf (ListOf ℕ))) (entries list : Entries)
-      (places : ListOf ℕ) (error : EngineError F) (e : MakeError F) →
-      ArePlacedPaths paths entries → IsPathList entries → make_refusal {F = F} order paths ≡ None →
-      asked_fault facts (length entries) ≡ None → list ≡ listed_files facts entries → places ≡ places_of entries →
-      e ≡ of_engine_error (renumbered places error) →
-      (error ≡ NoResources) ⊎ (first_byte_fault (facts_at places facts) (lengths_of list) ≡ Some error) →
+      (indices : ListOf ℕ) (error : EngineError F) (e : MakeError F) →
+      AreIndexedPaths paths entries → IsPathList entries → make_refusal {F = F} order paths ≡ None →
+      asked_fault facts (length entries) ≡ None → list ≡ listed_files facts entries → indices ≡ indices_of entries →
+      e ≡ of_engine_error (renumbered indices error) →
+      (error ≡ NoResources) ⊎ (first_byte_fault (facts_at indices facts) (lengths_of list) ≡ Some error) →
       (e ≡ Resources) ⊎ IsMakeFault facts order paths (Some e)
-  fault_told order paths entries list places error e placed lawful accepted asked are_files are_places is (inl none) =
+  fault_told order paths entries list indices error e indexed lawful accepted asked are_files are is (inl none) =
       inl (is ∙ rw none refl)
-  fault_told order paths entries list places error e placed lawful accepted asked are_files are_places is (inr h) =
-      let listed = sym (ap₂ (λ ps files. first_byte_fault (facts_at ps facts) (lengths_of files)) are_places are_files)
+  fault_told order paths entries list indices error e indexed lawful accepted asked are_files are_indices is (inr h) =
+      let listed = sym (ap₂ (λ ps files. first_byte_fault (facts_at ps facts) (lengths_of files)) are_indices are_files)
       ∙ h in
       let told : bytes_fault facts entries ≡ Some e =
       sym (byte_fault_told facts entries)
-      ∙ ap (option_map (λ fault. of_engine_error (renumbered (places_of entries) fault))) listed
-      ∙ ap Some (sym (is ∙ ap (λ ps. of_engine_error (renumbered ps error)) are_places)) in
+      ∙ ap (option_map (λ fault. of_engine_error (renumbered (indices_of entries) fault))) listed
+      ∙ ap Some (sym (is ∙ ap (λ ps. of_engine_error (renumbered ps error)) are_indices)) in
       inr (record {
         entries = entries;
-        placed = λ _. (placed, lawful.in_order);
+        indexed = λ _. (indexed, lawful.in_order);
         is_first = or_second (make_refusal {F = F} order paths) _ (Some e) accepted
             (or_second (asked_fault facts (length paths)) _ (Some e)
-            (subst (λ n. asked_fault facts n ≡ None) placed.one_each asked) told);
+            (subst (λ n. asked_fault facts n ≡ None) indexed.one_each asked) told);
       })
 
   pub fault_none : (order : Order) (paths : ListOf (ListOf (ListOf ℕ))) (entries list : Entries)
-      (places : ListOf ℕ) → ArePlacedPaths paths entries → IsPathList entries
+      (indices : ListOf ℕ) → AreIndexedPaths paths entries → IsPathList entries
       → make_refusal {F = F} order paths ≡ None →
-      asked_fault facts (length entries) ≡ None → list ≡ listed_files facts entries → places ≡ places_of entries →
-      first_byte_fault (facts_at places facts) (lengths_of list) ≡ None → IsMakeFault facts order paths None
-  fault_none order paths entries list places placed lawful accepted asked are_files are_places none =
+      asked_fault facts (length entries) ≡ None → list ≡ listed_files facts entries → indices ≡ indices_of entries →
+      first_byte_fault (facts_at indices facts) (lengths_of list) ≡ None → IsMakeFault facts order paths None
+  fault_none order paths entries list indices indexed lawful accepted asked are_files are_indices none =
       let told : bytes_fault facts entries ≡ None =
       sym (byte_fault_told facts entries)
-      ∙ ap (option_map (λ fault. of_engine_error (renumbered (places_of entries) fault)))
-      (sym (ap₂ (λ ps files. first_byte_fault (facts_at ps facts) (lengths_of files)) are_places are_files) ∙ none) in
+      ∙ ap (option_map (λ fault. of_engine_error (renumbered (indices_of entries) fault)))
+      (sym (ap₂ (λ ps files. first_byte_fault (facts_at ps facts) (lengths_of files)) are_indices are_files) ∙ none) in
       record {
         entries = entries;
-        placed = λ _. (placed, lawful.in_order);
+        indexed = λ _. (indexed, lawful.in_order);
         is_first = or_second (make_refusal {F = F} order paths) _ None accepted
             (or_second (asked_fault facts (length paths)) _ None
-            (subst (λ n. asked_fault facts n ≡ None) placed.one_each asked) told);
+            (subst (λ n. asked_fault facts n ≡ None) indexed.one_each asked) told);
       }

@@ -1,4 +1,4 @@
--- The files of a source at the places of a list of paths.
+-- The files of a source at the indices of a list of paths.
 use Rattle.std.proofs.Common.{◌≡◌, ℕ, ◌<◌, List, [], ◌∷◌, length, get_or, map, refl, ap, ◌∙◌, arith, zero-add}
 use Rattle.std.specs.List.{AllByRecursion}
 use Rattle.std.proofs.lemmas.List.{get_or-map, length-map}
@@ -6,9 +6,9 @@ use Rattle.std.proofs.lemmas.List.Elements.{recursion_from_All}
 use Rattle.std.proofs.lemmas.List.FromFn.{get_or-map-range_with_len, length-map-range_with_len}
 use Rattle.tor_engine.specs.Contents.{contents_in}
 use Rattle.tor_meta.specs.Make.{content_at, listed_files}
-use Rattle.tor_meta.proofs.Placed.{places_within}
+use Rattle.tor_meta.proofs.Indexed.{indices_within}
 use Rattle.tor_source.specs.Source.{SourceFacts}
-use Rattle.tor_tree.specs.PathList.{ArePlaces, places_of}
+use Rattle.tor_tree.specs.PathList.{AreIndices, indices_of}
 
 abbrev pub Entries : Type 0
 Entries = List (List (List ℕ) × ℕ)
@@ -16,14 +16,14 @@ Entries = List (List (List ℕ) × ℕ)
 abbrev pub AreWithin : ℕ → Entries → Type 0
 AreWithin n entries = AllByRecursion (λ entry. entry.1 < n) entries
 
--- the places of paths are those of the files
-pub entries_within : (n : ℕ) (entries : Entries) → ArePlaces (places_of entries) → length entries ≡ n →
+-- the indices of paths are those of the files
+pub entries_within : (n : ℕ) (entries : Entries) → AreIndices (indices_of entries) → length entries ≡ n →
     AreWithin n entries
-entries_within n entries places count =
-    each entries (recursion_from_All _ (places_of entries)
-    (places_within n (places_of entries) places (simp length-map count)))
+entries_within n entries indices count =
+    each entries (recursion_from_All _ (indices_of entries)
+    (indices_within n (indices_of entries) indices (simp length-map count)))
   where
-    each : (es : Entries) → AllByRecursion (λ place. place < n) (places_of es) → AreWithin n es
+    each : (es : Entries) → AllByRecursion (λ index. index < n) (indices_of es) → AreWithin n es
     each [] h = tt
     each (e ∷ es) h = (h.0, each es h.1)
 

@@ -2,7 +2,7 @@ pub mod Fields
 pub mod Head
 pub mod Order
 pub mod MakeError
-pub mod PlacedFiles
+pub mod IndexedFiles
 pub mod Make
 pub mod ListRefusal
 pub mod Refusal

@@ -17,7 +17,7 @@ use Rattle.tor_source.specs.Source.{SourceFacts}
 use Rattle.tor_spec.specs.Facts.{File}
 use Rattle.tor_tree.specs.FileList.{IsInPathOrder, lengths_fault}
 use Rattle.tor_tree.specs.declared.lists.ListError.TheVariants.{TooLarge}
-use Rattle.tor_tree.specs.PathList.{ArePlacedPaths}
+use Rattle.tor_tree.specs.PathList.{AreIndexedPaths}
 
 -- the bytes of a file; a missing one has none
 abbrev pub content_at : {F : Type 0} → SourceFacts F → ℕ → ListOf ℕ
@@ -28,7 +28,7 @@ abbrev pub files_of_source : {F : Type 0} → SourceFacts F → ListOf (ListOf (
 files_of_source facts paths =
     map (λ file. record { path = file.1; content = content_at facts file.0 }) (enumerate_from 0 paths)
 
--- paths with their places, and the lengths of the files there
+-- paths with their indices, and the lengths of the files there
 abbrev pub listed_files : {F : Type 0} → SourceFacts F → ListOf (ListOf (ListOf ℕ) × ℕ) → ListOf (ListOf (ListOf ℕ) × ℕ)
 listed_files facts entries = map (λ entry. (entry.0, length (content_at facts entry.1))) entries
 
@@ -52,7 +52,7 @@ asked_fault facts count =
 
 -- where the bytes are read: file by file in the order of the list, each from its first byte to its last
 abbrev pub byte_told : {F : Type 0} → SourceFacts F → ℕ → ℕ → Option (MakeError F)
-byte_told facts file place = option_map (λ fault. Read file (Some place) fault) (facts.byte_fault file place)
+byte_told facts file offset = option_map (λ fault. Read file (Some offset) fault) (facts.byte_fault file offset)
 
 abbrev pub bytes_fault : {F : Type 0} → SourceFacts F → ListOf (ListOf (ListOf ℕ) × ℕ) → Option (MakeError F)
 bytes_fault facts entries =
@@ -66,14 +66,14 @@ fault_of facts order paths entries =
     option_or (make_refusal order paths) (
     option_or (asked_fault facts (length paths)) (bytes_fault facts entries))
 
--- it is this one, where the entries are the paths in order, each with its place
+-- it is this one, where the entries are the paths in order, each with its index
 pub record IsMakeFault {F : Type 0} (facts : SourceFacts F) (order : Order) (paths : ListOf (ListOf (ListOf ℕ)))
     (fault : Option (MakeError F)) : Type 0 where
   pub entries : ListOf (ListOf (ListOf ℕ) × ℕ)
-  pub placed : make_refusal {F = F} order paths ≡ None → ArePlacedPaths paths entries × IsInPathOrder entries
+  pub indexed : make_refusal {F = F} order paths ≡ None → AreIndexedPaths paths entries × IsInPathOrder entries
   pub is_first : fault_of facts order paths entries ≡ fault
 
--- a fault of the source is one that it gave, for this file and place; the file that is named is one of so many; no
+-- a fault of the source is one that it gave, for this file and offset; the file that is named is one of so many; no
 -- stream is read
 abbrev pub IsGivenTo : {F : Type 0} → (ℕ → Option ℕ → F → Type 0) → ℕ → MakeError F → Type 0
 IsGivenTo gave count (Read file start fault) = gave file start fault × (file < count)

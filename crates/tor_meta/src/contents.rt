@@ -38,11 +38,11 @@ pub fn make_contents(
         Err(refusal) => return Err(refusal),
     };
     let lengths = lengths(alloc, &contents)?;
-    let (list, places) = match paths.with_lengths(alloc, &lengths) {
+    let (list, indices) = match paths.with_lengths(alloc, &lengths) {
         Ok(both) => both,
         Err(fault) => return Err(ContentsError::from(fault)),
     };
-    let ordered = in_order(alloc, &contents, &places)?;
+    let ordered = in_order(alloc, &contents, &indices)?;
     let bytes = torrent_of(alloc, head, &list, &ordered)?;
     Ok(bytes)
 }
@@ -75,18 +75,18 @@ fn lengths(alloc: Global, contents: &[Vec<u8>]) -> Result<Vec<u64>, AllocError>
     Ok(lengths)
 }
 
-/// The contents at these places.
+/// The contents at these indices.
 fn in_order<'a>(
     alloc: Global,
     contents: &'a [Vec<u8>],
-    places: &[usize],
+    indices: &[usize],
 ) -> Result<Vec<&'a [u8]>, AllocError>
-    requires { All (λ place. place < length contents.now) places.now }
-    ensures { IfOk result (λ ordered. bytes_of ordered.items ≡ contents_at contents.entry.now places.now) }
+    requires { All (λ index. index < length contents.now) indices.now }
+    ensures { IfOk result (λ ordered. bytes_of ordered.items ≡ contents_at contents.entry.now indices.now) }
 {
-    let mut ordered = Vec::with_capacity(alloc, places.len())?;
-    for place in places {
-        ordered.push(contents[*place].as_slice())?;
+    let mut ordered = Vec::with_capacity(alloc, indices.len())?;
+    for index in indices {
+        ordered.push(contents[*index].as_slice())?;
     }
     Ok(ordered)
 }

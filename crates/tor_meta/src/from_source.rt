@@ -10,14 +10,14 @@ ghost use Rattle.tor_meta.specs.Order.{settings_of_order};
 ghost use Rattle.tor_meta.specs.declared.make_error.MakeError.{MakeError};
 ghost use Rattle.tor_meta.specs.declared.make_error.MakeError.TheVariants.{Resources};
 ghost use Rattle.tor_source.specs.Source.{SourceFacts};
-ghost use Rattle.tor_tree.specs.PathList.{ArePlacedPaths, IsPathList, places_of};
+ghost use Rattle.tor_tree.specs.PathList.{AreIndexedPaths, IsPathList, indices_of};
 
 use crate::head::Head;
+use crate::indexed_files::{Indexed, renumbered};
 use crate::judge::judge_paths;
 use crate::listed_files::torrent_of_listed;
 use crate::make_error::MakeError;
 use crate::order::{Order, refusal_of_numbers};
-use crate::placed_files::{Placed, renumbered};
 use crate::refusals::ContentsError;
 use std::alloc::{AllocError, Global};
 use std::thread::Threads;
@@ -54,17 +54,17 @@ pub fn make<S: Source, R: Threads + Sync>(
         Ok(paths) => paths,
         Err(error) => return Err(error),
     };
-    let (list, places) = match ask_list(alloc, source, paths) {
+    let (list, indices) = match ask_list(alloc, source, paths) {
         Ok(both) => both,
         Err(error) => return Err(error),
     };
-    let placed = Placed {
+    let indexed = Indexed {
         source,
-        places: &places,
+        indices: &indices,
     };
-    match torrent_of_listed(rt, alloc, &placed, &list, &head, order.span, order.how) {
+    match torrent_of_listed(rt, alloc, &indexed, &list, &head, order.span, order.how) {
         Ok(bytes) => Ok(bytes),
-        Err(error) => Err(MakeError::from(renumbered(&places, error))),
+        Err(error) => Err(MakeError::from(renumbered(&indices, error))),
     }
 }
 
@@ -76,7 +76,7 @@ fn judge<F>(
     paths: &[FilePath],
 ) -> Result<PathList, MakeError<F>>
     requires { settings_of head.now ≡ settings_of_order order.now }
-    ensures placed { IfOk result (ArePlacedPaths paths.now) }
+    ensures indexed { IfOk result (AreIndexedPaths paths.now) }
     ensures lawful { IfOk result IsPathList }
     ensures accepted { OnOk result (make_refusal {F = F} order.now paths.now ≡ None) }
     ensures refused { IfErr result
@@ -103,7 +103,7 @@ fn copies(alloc: Global, paths: &[FilePath]) -> Result<Vec<FilePath>, AllocError
     Ok(copies)
 }
 
-/// The list of the files of the source that have these paths, and the place of each.
+/// The list of the files of the source that have these paths, and the index of each.
 fn ask_list<S: Source>(
     alloc: Global,
     source: &S,
@@ -111,7 +111,7 @@ fn ask_list<S: Source>(
 ) -> Result<(FileList, Vec<usize>), MakeError<S::Fault>>
     ensures list { IfOk result (λ both. (lengths : List ℕ) ×
         (both.0 ≡ map (λ entry. (entry.0, slice_index lengths entry.1)) paths)) }
-    ensures places { IfOk result (λ both. both.1.items ≡ places_of paths) }
+    ensures indices { IfOk result (λ both. both.1.items ≡ indices_of paths) }
     ensures files { (facts : SourceFacts S.Fault) → S.is_steady source.now facts →
         IfOk result (λ both. both.0 ≡ listed_files facts paths) }
     ensures fault { (facts : SourceFacts S.Fault) → S.is_steady source.now facts → MatchResult result

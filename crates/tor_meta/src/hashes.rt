@@ -12,7 +12,7 @@ use hex::encode;
 use sha1::Sha1;
 use sha2::{Digest, Sha256};
 use std::alloc::{AllocError, Global};
-use tor_bencode::laws::place_of_a_value;
+use tor_bencode::laws::span_of_a_value;
 use tor_bencode::span;
 use tor_merkle::Hash;
 use tor_tree::Kind;
@@ -57,7 +57,7 @@ fn raw_info(bytes: &[u8]) -> &[u8]
     ensures { (root info : Data) → IsLawful root → bytes.now ≡ spelling root →
         value_of (codes "info") root ≡ Some info → result.now ≡ spelling info }
 {
-    place_of_a_value();
+    span_of_a_value();
     let Some((start, end)) = span(bytes, b"info") else {
         unreachable!();
     };

@@ -10,7 +10,7 @@ use tor_v1::Layout;
 #[derive(Debug, Drop)]
 pub struct Head {
     pub kind: Kind,
-    /// It is of one file, which has the torrent's name (BEP 3, "info dictionary": `length` in place of `files`).
+    /// It is of one file, which has the torrent's name (BEP 3, "info dictionary": `length` instead of `files`).
     pub single: bool,
     /// The name that it suggests for its content.
     pub name: Name,

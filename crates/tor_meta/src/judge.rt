@@ -5,7 +5,7 @@ ghost use Rattle.tor_meta.specs.declared.refusals.ContentsError.{ContentsError};
 ghost use Rattle.tor_meta.specs.Head.{settings_of};
 ghost use Rattle.tor_meta.specs.Refusal.{is_long, is_name, is_only, paths_refusal, shape_refusal};
 ghost use Rattle.tor_spec.specs.Settings.{is_aligned};
-ghost use Rattle.tor_tree.specs.PathList.{ArePlacedPaths, IsPathList};
+ghost use Rattle.tor_tree.specs.PathList.{AreIndexedPaths, IsPathList};
 ghost use Rattle.tor_v1.specs.Reserved.{is_reserved};
 
 use crate::head::Head;
@@ -15,16 +15,16 @@ use tor_merkle::is_piece_length;
 use tor_tree::{FilePath, MAX_NAMES, PathList};
 use tor_v1::is_reserved;
 
-/// The paths in order, each with its place, where no torrent is refused for them or for the head.
+/// The paths in order, each with its index, where no torrent is refused for them or for the head.
 pub(crate) fn judge_paths(
     alloc: Global,
     head: &Head,
     paths: Vec<FilePath>,
 ) -> Result<PathList, ContentsError>
-    ensures placed { IfOk result (ArePlacedPaths paths.items) }
+    ensures indexed { IfOk result (AreIndexedPaths paths.items) }
     ensures lawful { IfOk result IsPathList }
     ensures accepted { OnOk result (paths_refusal (settings_of head.now) paths.items ≡ None) }
-    // What needs no order of the paths is told without any memory.
+    // What needs no order of the paths is answered without any memory.
     ensures shape { (refusal : ContentsError) → shape_refusal (settings_of head.now) paths.items ≡ Some refusal →
         result ≡ Err refusal }
     ensures refused { IfErr result (λ refusal.

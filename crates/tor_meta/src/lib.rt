@@ -5,7 +5,7 @@
 //! - [`make_contents`] (`contents.rt`): the torrent of files whose contents lie in memory.
 //! - [`FedSums`] (`fed.rt`) and [`make_fed`] (`making.rt`): the torrent of one content that is fed in parts.
 //! - [`make`] (`from_source.rt`): the torrent of the files of a source, as an [`Order`] (`order.rt`) says, or the first
-//!   [`MakeError`] (`make_error.rt`). `placed_files.rt` puts a source's files into another order; `listed_files.rt`
+//!   [`MakeError`] (`make_error.rt`). `indexed_files.rt` puts a source's files into another order; `listed_files.rt`
 //!   makes the torrent of a list of files whose bytes a source gives.
 //! - [`ContentsError`] (`refusals.rt`): why there is no torrent of files in memory.
 //! - `sums.rt`: the Merkle trees and the SHA-1 of the pieces, as far as a kind asks for them.
@@ -31,6 +31,7 @@ mod fed;
 mod from_source;
 mod hashes;
 mod head;
+mod indexed_files;
 mod info;
 mod items;
 mod judge;
@@ -41,7 +42,6 @@ mod make_error;
 mod making;
 mod order;
 mod output;
-mod placed_files;
 mod refusals;
 mod sums;
 mod torrent;

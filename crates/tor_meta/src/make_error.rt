@@ -9,10 +9,10 @@ use thiserror::Error;
 use tor_engine::EngineError;
 use tor_tree::ListError;
 
-/// Why no torrent is made of the files of a source. A file is named by its place among the paths that were handed in.
+/// Why no torrent is made of the files of a source. A file is named by its index among the paths that were handed in.
 ///
-/// Those before `Read` are told before the source is asked, but for a list's `TooLarge`, which is told when all lengths
-/// were; the first that holds, where the faults of paths come before `ReservedPad`.
+/// Those before `Read` are answered before the source is asked, but for a list's `TooLarge`, which is answered when all
+/// lengths were told; the first that holds, where the faults of paths come before `ReservedPad`.
 #[derive(Debug, Drop, Error)]
 pub enum MakeError<F> {
     /// No power of two from 2^14 to 2^30.

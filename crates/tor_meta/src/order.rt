@@ -24,7 +24,7 @@ pub const MAX_SPAN: u32 = 1024;
 #[derive(Debug, Drop)]
 pub struct Order {
     pub kind: Kind,
-    /// It is of one file, which has the torrent's name (BEP 3, "info dictionary": `length` in place of `files`).
+    /// It is of one file, which has the torrent's name (BEP 3, "info dictionary": `length` instead of `files`).
     pub single: bool,
     /// The name that it suggests for its content.
     pub name: Name,

@@ -14,65 +14,65 @@ abbrev pub File : Type 0
 File = List (List ℕ) × ℕ
 
 -- the contents from a file on
-pub record AreFrom (contents : List (List ℕ)) (place : ℕ) (m : ℕ) (lengths : List ℕ) : Type 0 where
+pub record AreFrom (contents : List (List ℕ)) (index : ℕ) (m : ℕ) (lengths : List ℕ) : Type 0 where
   pub first : List ℕ
   pub later : List (List ℕ)
-  pub split : drop place contents ≡ first ∷ later
+  pub split : drop index contents ≡ first ∷ later
   pub long : length first ≡ m
   pub others : map length later ≡ lengths
 
-from_split : (contents xs : List (List ℕ)) (place m : ℕ) (lengths : List ℕ) → drop place contents ≡ xs
-    → map length xs ≡ m ∷ lengths → AreFrom contents place m lengths
-from_split contents [] place m lengths split e = cc
-from_split contents (x ∷ xs) place m lengths split e =
+from_split : (contents xs : List (List ℕ)) (index m : ℕ) (lengths : List ℕ) → drop index contents ≡ xs
+    → map length xs ≡ m ∷ lengths → AreFrom contents index m lengths
+from_split contents [] index m lengths split e = cc
+from_split contents (x ∷ xs) index m lengths split e =
     record { first = x; later = xs; split = split; long = cc; others = cc }
 
-pub from_place : (contents : List (List ℕ)) (place m : ℕ) (lengths : List ℕ)
-    → map length (drop place contents) ≡ m ∷ lengths → AreFrom contents place m lengths
-from_place contents place m lengths e = from_split contents (drop place contents) place m lengths refl e
+pub from_index : (contents : List (List ℕ)) (index m : ℕ) (lengths : List ℕ)
+    → map length (drop index contents) ≡ m ∷ lengths → AreFrom contents index m lengths
+from_index contents index m lengths e = from_split contents (drop index contents) index m lengths refl e
 
-module _ (contents : List (List ℕ)) (place m : ℕ) (lengths : List ℕ) (from : AreFrom contents place m lengths) where
-  pub here : get_or contents place [] ≡ from.first
-  here = ap (λ n. get_or contents n []) (let e : place ≡ place + 0 = omega arith in e)
-      ∙ sym (get_or-drop place contents 0 []) ∙ ap (λ xs. get_or xs 0 []) from.split
+module _ (contents : List (List ℕ)) (index m : ℕ) (lengths : List ℕ) (from : AreFrom contents index m lengths) where
+  pub here : get_or contents index [] ≡ from.first
+  here = ap (λ n. get_or contents n []) (let e : index ≡ index + 0 = omega arith in e)
+      ∙ sym (get_or-drop index contents 0 []) ∙ ap (λ xs. get_or xs 0 []) from.split
 
-  pub after : drop (place + 1) contents ≡ from.later
-  after = sym (drop-drop 1 place contents) ∙ ap (drop 1) from.split
+  pub after : drop (index + 1) contents ≡ from.later
+  after = sym (drop-drop 1 index contents) ∙ ap (drop 1) from.split
 
-  pub after_lengths : map length (drop (place + 1) contents) ≡ lengths
+  pub after_lengths : map length (drop (index + 1) contents) ≡ lengths
   after_lengths = ap (map length) after ∙ from.others
 
 -- ---- a file that is cut by itself
 
-module _ (contents : List (List ℕ)) (size place tail : ℕ) (content : List ℕ) (pos : 0 < size)
-    (is : get_or contents place [] ≡ content) where
+module _ (contents : List (List ℕ)) (size index tail : ℕ) (content : List ℕ) (pos : 0 < size)
+    (is : get_or contents index [] ≡ content) where
   cond_zeros : (b : Bool) → zeros (cond b tail 0) ≡ cond b (zeros tail) []
   cond_zeros true = refl
   cond_zeros false = zeros-nil
 
   pub each_unit : (k : ℕ) → k * size < length content
-      → unit_content contents (file_unit size place (length content) tail k) ≡ run_of size content (zeros tail) k
+      → unit_content contents (file_unit size index (length content) tail k) ≡ run_of size content (zeros tail) k
   each_unit k less =
       let left = length content - k * size in
       let rest = drop (k * size) content in
-      let taken : take (min left size) (drop (k * size) (get_or contents place [])) ≡ take size rest =
+      let taken : take (min left size) (drop (k * size) (get_or contents index [])) ≡ take size rest =
       ap (λ xs. take (min left size) (drop (k * size) xs)) is
       ∙ ap (λ n. take n rest) (let e : min left size ≡ min size (length rest) =
       omega (arith, length-drop (k * size) content) in e) ∙ take_min size rest in
-      ap (λ xs. xs ++ ((take (min left size) (drop (k * size) (get_or contents place []))
+      ap (λ xs. xs ++ ((take (min left size) (drop (k * size) (get_or contents index []))
       ++ zeros (cond (leb left size) tail 0)) ++ [])) zeros-nil
-      ∙ append-nil (take (min left size) (drop (k * size) (get_or contents place []))
+      ∙ append-nil (take (min left size) (drop (k * size) (get_or contents index []))
       ++ zeros (cond (leb left size) tail 0))
       ∙ ap₂ (λ xs ys. xs ++ ys) taken (cond_zeros (leb left size))
 
   pub file_content : 0 < length content
-      → flat_map (unit_content contents) (units_of_file size place (length content) tail) ≡ content ++ zeros tail
+      → flat_map (unit_content contents) (units_of_file size index (length content) tail) ≡ content ++ zeros tail
   file_content some =
-      runs_are (unit_content contents) (file_unit size place (length content) tail) size content (zeros tail) pos
+      runs_are (unit_content contents) (file_unit size index (length content) tail) size content (zeros tail) pos
       each_unit some
 
 -- an empty file has no unit
-pub no_unit_of_file : (size place m tail : ℕ) → 0 < size → m ≡ 0 → units_of_file size place m tail ≡ []
-no_unit_of_file size place m tail pos none =
-    ap (λ n. map (file_unit size place m tail) (range_with_len 0 n))
+pub no_unit_of_file : (size index m tail : ℕ) → 0 < size → m ≡ 0 → units_of_file size index m tail ≡ []
+no_unit_of_file size index m tail pos none =
+    ap (λ n. map (file_unit size index m tail) (range_with_len 0 n))
     (ceil_is m size 0 (omega (arith, none)) (omega (arith, none)))

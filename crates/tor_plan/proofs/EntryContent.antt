@@ -10,7 +10,7 @@ use Rattle.tor_v1.proofs.ProvedLaws.{length_of_zeros}
 use Rattle.tor_plan.specs.Content.{part_content, unit_content}
 use Rattle.tor_plan.specs.Entries.{after_part, after_zeros, empty_unit, lengths_of_entries, shared, unit_within}
 use Rattle.tor_plan.specs.declared.units.PlanUnit.{PlanUnit}
-use Rattle.tor_plan.proofs.Contents.{from_place, here, after, after_lengths}
+use Rattle.tor_plan.proofs.Contents.{from_index, here, after, after_lengths}
 use Rattle.tor_plan.proofs.Empty.{zeros-nil, zeros-add}
 use Rattle.tor_plan.proofs.EntrySteps.{Path, padding, file, by_entries}
 use Rattle.tor_plan.proofs.Joins.{drop-append, take-append}
@@ -53,10 +53,10 @@ module _ (contents : List (List ℕ)) where
       ap (λ xs. xs ++ flat_map (part_content contents) unit.parts) (zeros-add n unit.zeros)
       ∙ append_assoc (zeros n) (zeros unit.zeros) (flat_map (part_content contents) unit.parts)
 
-  part_first : (place start n : ℕ) (unit : PlanUnit) → unit_content contents (after_part place start n unit)
-      ≡ take n (drop start (get_or contents place [])) ++ unit_content contents unit
-  part_first place start n unit =
-      let bytes = take n (drop start (get_or contents place [])) in
+  part_first : (index start n : ℕ) (unit : PlanUnit) → unit_content contents (after_part index start n unit)
+      ≡ take n (drop start (get_or contents index [])) ++ unit_content contents unit
+  part_first index start n unit =
+      let bytes = take n (drop start (get_or contents index [])) in
       let others = flat_map (part_content contents) unit.parts in
       ap (λ xs. xs ++ ((bytes ++ zeros unit.zeros) ++ others)) zeros-nil
       ∙ append_assoc bytes (zeros unit.zeros) others
@@ -64,51 +64,51 @@ module _ (contents : List (List ℕ)) where
   -- what a range meets of all entries
   module _ (a b : ℕ) where
     abbrev IsBetween : ℕ → ℕ → List Entry → PlanUnit → Type 0
-    IsBetween place at entries unit =
-        map length (drop place contents) ≡ lengths_of_entries entries
-        → unit_content contents unit ≡ between a b at (joined_content entries (drop place contents))
+    IsBetween index at entries unit =
+        map length (drop index contents) ≡ lengths_of_entries entries
+        → unit_content contents unit ≡ between a b at (joined_content entries (drop index contents))
 
-    none : (place at : ℕ) → IsBetween place at [] empty_unit
+    none : (index at : ℕ) → IsBetween index at [] empty_unit
     unfolding joined_content
-    none place at fit =
+    none index at fit =
         ap (λ xs. xs ++ []) zeros-nil
         ∙ sym (ap (take (b - max a at)) (drop_all (a - at) [] (omega arith)) ∙ take_all (b - max a at) [] (omega arith))
 
-    of_padding : (place at : ℕ) (path : Path) (m : ℕ) (entries : List Entry) (unit : PlanUnit)
-        → IsBetween place (at + m) entries unit
-        → IsBetween place at (padding path m ∷ entries) (after_zeros (shared a b at m) unit)
+    of_padding : (index at : ℕ) (path : Path) (m : ℕ) (entries : List Entry) (unit : PlanUnit)
+        → IsBetween index (at + m) entries unit
+        → IsBetween index at (padding path m ∷ entries) (after_zeros (shared a b at m) unit)
     unfolding joined_content
-    of_padding place at path m entries unit rest fit =
+    of_padding index at path m entries unit rest fit =
         zeros_first (shared a b at m) unit ∙ ap₂ (λ xs ys. xs ++ ys) (between-zeros a b at m) (rest fit)
-        ∙ sym (between-append a b at m (zeros m) (joined_content entries (drop place contents)) (length_of_zeros m))
+        ∙ sym (between-append a b at m (zeros m) (joined_content entries (drop index contents)) (length_of_zeros m))
 
     -- a file whose part is this
-    of_file : (place at : ℕ) (path : Path) (m : ℕ) (entries : List Entry) (part : List ℕ) (unit : PlanUnit)
-        → map length (drop place contents) ≡ m ∷ lengths_of_entries entries
-        → part ≡ take (shared a b at m) (drop (max a at - at) (get_or contents place []))
-        → IsBetween (place + 1) (at + m) entries unit
+    of_file : (index at : ℕ) (path : Path) (m : ℕ) (entries : List Entry) (part : List ℕ) (unit : PlanUnit)
+        → map length (drop index contents) ≡ m ∷ lengths_of_entries entries
+        → part ≡ take (shared a b at m) (drop (max a at - at) (get_or contents index []))
+        → IsBetween (index + 1) (at + m) entries unit
         → part ++ unit_content contents unit
-        ≡ between a b at (joined_content (file path m ∷ entries) (drop place contents))
+        ≡ between a b at (joined_content (file path m ∷ entries) (drop index contents))
     unfolding joined_content
-    of_file place at path m entries part unit fit is rest =
+    of_file index at path m entries part unit fit is rest =
         let lengths = lengths_of_entries entries in
-        let from = from_place contents place m lengths fit in
+        let from = from_index contents index m lengths fit in
         let first : part ≡ between a b at from.first =
-        is ∙ ap (λ xs. take (shared a b at m) (drop (max a at - at) xs)) (here contents place m lengths from)
+        is ∙ ap (λ xs. take (shared a b at m) (drop (max a at - at) xs)) (here contents index m lengths from)
         ∙ between-shared a b at m from.first from.long in
         let others : unit_content contents unit ≡ between a b (at + m) (joined_content entries from.later) =
-        rest (after_lengths contents place m lengths from)
-        ∙ ap (λ xs. between a b (at + m) (joined_content entries xs)) (after contents place m lengths from) in
+        rest (after_lengths contents index m lengths from)
+        ∙ ap (λ xs. between a b (at + m) (joined_content entries xs)) (after contents index m lengths from) in
         ap₂ (λ xs ys. xs ++ ys) first others
         ∙ sym (ap (λ xs. between a b at (joined_content (file path m ∷ entries) xs)) from.split
         ∙ between-append a b at m from.first (joined_content entries from.later) from.long)
 
-    pub content_within : (place at : ℕ) (entries : List Entry)
-        → IsBetween place at entries (unit_within a b place at entries)
+    pub content_within : (index at : ℕ) (entries : List Entry)
+        → IsBetween index at entries (unit_within a b index at entries)
     content_within = by_entries a b IsBetween none of_padding
-        (λ place at path m entries unit some rest fit. part_first place (max a at - at) (shared a b at m) unit
-        ∙ of_file place at path m entries _ unit fit refl rest)
-        (λ place at path m entries unit few rest fit. of_file place at path m entries [] unit fit
-        (ap (λ n. take n (drop (max a at - at) (get_or contents place [])))
+        (λ index at path m entries unit some rest fit. part_first index (max a at - at) (shared a b at m) unit
+        ∙ of_file index at path m entries _ unit fit refl rest)
+        (λ index at path m entries unit few rest fit. of_file index at path m entries [] unit fit
+        (ap (λ n. take n (drop (max a at - at) (get_or contents index [])))
         (let e : 0 ≡ shared a b at m = omega arith in e))
         rest)

@@ -1,4 +1,4 @@
--- The bytes of joined entries by their places.
+-- The bytes of joined entries by their offsets.
 use Rattle.std.proofs.Common.{◌≡◌, ℕ, ◌+◌, List, refl, arith, ap, ◌∙◌}
 use Rattle.tor_v1.specs.declared.entry.Entry.{Entry}
 use Rattle.tor_plan.specs.Entries.{entries_length, joined_entry_units, unit_within}
@@ -18,15 +18,15 @@ pub units_of_entries : (size : ℕ) (entries : List Entry)
 unfolding joined_entry_units
 units_of_entries size entries = refl
 
-pub bytes_there : (entries : List Entry) (place at m : ℕ) → IsFileAt entries place at m
-    → AreBytesAt (ranges_of_entries entries) at place 0 m
-bytes_there entries place at m is = λ a i k begins some within.
-    more_bytes a (at + i) k i entries place at m is refl within some begins
+pub bytes_there : (entries : List Entry) (index at m : ℕ) → IsFileAt entries index at m
+    → AreBytesAt (ranges_of_entries entries) at index 0 m
+bytes_there entries index at m is = λ a i k begins some within.
+    more_bytes a (at + i) k i entries index at m is refl within some begins
     ∙ ap (λ s. joined (unit_within a (at + i) 0 0 entries)
-    (part_alone (record { file = place; start = s; length = k; zeros = 0 })))
+    (part_alone (record { file = index; start = s; length = k; zeros = 0 })))
     (let e : i ≡ 0 + i = omega arith in e)
 
-pub zeros_there : (entries : List Entry) (place at m : ℕ) → IsPaddingAt entries place at m
+pub zeros_there : (entries : List Entry) (index at m : ℕ) → IsPaddingAt entries index at m
     → AreZerosAt (ranges_of_entries entries) at m
-zeros_there entries place at m is = λ a i k begun within.
-    more_zeros a (at + i) k entries place at m is begun (omega arith) (omega (arith, within))
+zeros_there entries index at m is = λ a i k begun within.
+    more_zeros a (at + i) k entries index at m is begun (omega arith) (omega (arith, within))

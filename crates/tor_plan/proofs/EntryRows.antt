@@ -42,7 +42,7 @@ padding_over_units_of_two : entry_units V1 4 2 (file 2 ∷ file 1 ∷ pad 7 ∷ 
 unfolding joined_entry_units unit_within
 padding_over_units_of_two = refl
 
--- empty files have their places; zeros of two paddings are counted together
+-- empty files have their indices; zeros of two paddings are counted together
 empty_files : entry_units V1 4 1 (file 0 ∷ pad 1 ∷ file 0 ∷ pad 1 ∷ file 1 ∷ pad 0 ∷ file 0 ∷ pad 2 ∷ pad 3 ∷ [])
     ≡ unit 2 (part 2 0 1 1 ∷ []) ∷ unit 4 [] ∷ []
 unfolding joined_entry_units unit_within

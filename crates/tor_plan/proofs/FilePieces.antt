@@ -45,7 +45,7 @@ module _ (p span : ℕ) (some : 0 < p) (pos : 0 < span * p) where
       let less : count.0 < j + 1 + 1 = lt_of_mul-lt-mul_right p (omega (arith, count.1, le, some)) in
       omega (arith, full, count.1, mul-le-mul_right {m = count.0} {n = j + 1} p (omega (arith, less)))
 
-  module _ (place m tail : ℕ) (fills : 0 < m → Fills m tail) where
+  module _ (index m tail : ℕ) (fills : 0 < m → Fills m tail) where
     -- of the k-th unit: how many bytes it has, and the zeros after them
     abbrev bytes : ℕ → ℕ
     bytes k = min (m - k * size) size
@@ -63,8 +63,8 @@ module _ (p span : ℕ) (some : 0 < p) (pos : 0 < span * p) where
       abbrev number : ℕ
       number = k * span + j
 
-      place_of : number * p ≡ k * size + j * p
-      place_of = omega arith
+      offset_of : number * p ≡ k * size + j * p
+      offset_of = omega arith
 
       end_of : (number + 1) * p ≡ k * size + (j + 1) * p
       end_of = omega arith
@@ -72,39 +72,39 @@ module _ (p span : ℕ) (some : 0 < p) (pos : 0 < span * p) where
       zeros_are : shared (j * p) ((j + 1) * p) (0 + bytes k) (after k) + 0 ≡ cond (leb (m - number * p) p) tail 0
       zeros_are = elim (cases_lt p (m - number * p)) [
         | inl more ↦ (let e : shared (j * p) ((j + 1) * p) (0 + bytes k) (after k) + 0 ≡ 0 =
-            omega (arith, more, place_of, fits) in e)
+            omega (arith, more, offset_of, fits) in e)
             ∙ sym (cond-false (leb (m - number * p) p) tail 0 (lt-leb (m - number * p) p more))
         | inr last ↦
-            let full = in_last m tail number (fills (omega (arith, begins))) (omega (arith, last, end_of, place_of)) in
-            let ends = after_last k (omega (arith, last, place_of, fits)) in
+            let full = in_last m tail number (fills (omega (arith, begins))) (omega (arith, last, end_of, offset_of)) in
+            let ends = after_last k (omega (arith, last, offset_of, fits)) in
             (let e : shared (j * p) ((j + 1) * p) (0 + bytes k) (after k) + 0 ≡ tail =
-            omega (arith, ends, full, last, begins, place_of, end_of, fits) in e)
+            omega (arith, ends, full, last, begins, offset_of, end_of, fits) in e)
             ∙ sym (cond-true (leb (m - number * p) p) tail 0 (le-leb (m - number * p) p last))
       ]
 
       alone : ℕ → ℕ → ℕ → PlanUnit
-      alone start n zeros = part_alone (record { file = place; start = start; length = n; zeros = zeros })
+      alone start n zeros = part_alone (record { file = index; start = start; length = n; zeros = zeros })
 
-      file_piece : piece_of_unit p (file_unit size place m tail k) j ≡ file_unit p place m tail number
+      file_piece : piece_of_unit p (file_unit size index m tail k) j ≡ file_unit p index m tail number
       unfolding parts_between alone
       file_piece =
-          let part : Part = record { file = place; start = k * size; length = bytes k; zeros = after k } in
+          let part : Part = record { file = index; start = k * size; length = bytes k; zeros = after k } in
           no_zeros (shared (j * p) ((j + 1) * p) 0 0) (parts_between (j * p) ((j + 1) * p) 0 (part ∷ [])) (omega arith)
           ∙ part_met (j * p) ((j + 1) * p) 0 part [] (omega (arith, begins, some))
           ∙ ap₂ (λ s n. alone s n (shared (j * p) ((j + 1) * p) (0 + bytes k) (after k) + 0))
-          (let e : k * size + (max (j * p) 0 - 0) ≡ number * p = omega (arith, place_of) in e)
+          (let e : k * size + (max (j * p) 0 - 0) ≡ number * p = omega (arith, offset_of) in e)
           (let e : shared (j * p) ((j + 1) * p) 0 (bytes k) ≡ min (m - number * p) p =
-          omega (arith, place_of, begins, fits) in e)
+          omega (arith, offset_of, begins, fits) in e)
           ∙ ap (alone (number * p) (min (m - number * p) p)) zeros_are
 
     -- a unit has as many pieces as its bytes of the file
     same_count : (k : ℕ) → k * size < m
-        → div_ceil (unit_length (file_unit size place m tail k)) p ≡ div_ceil (bytes k) p
+        → div_ceil (unit_length (file_unit size index m tail k)) p ≡ div_ceil (bytes k) p
     same_count k less =
         let count = div_ceil (bytes k) p in
         let few = div_ceil_times (bytes k) p some in
-        let long : unit_length (file_unit size place m tail k) ≡ bytes k + after k = omega arith in
-        ceil_is (unit_length (file_unit size place m tail k)) p count
+        let long : unit_length (file_unit size index m tail k) ≡ bytes k + after k = omega arith in
+        ceil_is (unit_length (file_unit size index m tail k)) p count
         (elim (cases_lt size (m - k * size)) [
           | inl more ↦ omega (arith, long, after_other k more, few.0)
           | inr last ↦
@@ -118,39 +118,39 @@ module _ (p span : ℕ) (some : 0 < p) (pos : 0 < span * p) where
         ])
         (omega (arith, long, few.1))
 
-    file_unit_pieces : (k : ℕ) → k * size < m → pieces_of_unit p (file_unit size place m tail k)
-        ≡ map (λ j. file_unit p place m tail (k * span + j)) (range_with_len 0 (div_ceil (bytes k) p))
+    file_unit_pieces : (k : ℕ) → k * size < m → pieces_of_unit p (file_unit size index m tail k)
+        ≡ map (λ j. file_unit p index m tail (k * span + j)) (range_with_len 0 (div_ceil (bytes k) p))
     unfolding pieces_of_unit
     file_unit_pieces k less =
-        let unit = file_unit size place m tail k in
+        let unit = file_unit size index m tail k in
         ap (λ n. map (piece_of_unit p unit) (range_with_len 0 n)) (same_count k less)
-        ∙ range_same (piece_of_unit p unit) (λ j. file_unit p place m tail (k * span + j)) (div_ceil (bytes k) p)
+        ∙ range_same (piece_of_unit p unit) (λ j. file_unit p index m tail (k * span + j)) (div_ceil (bytes k) p)
         (λ j lt. file_piece k j (run_begins (bytes k) p j some lt)
         (piece_fits p span some pos (bytes k) j (omega arith) lt))
 
-    file_pieces : flat_map (pieces_of_unit p) (units_of_file size place m tail) ≡ units_of_file p place m tail
+    file_pieces : flat_map (pieces_of_unit p) (units_of_file size index m tail) ≡ units_of_file p index m tail
     file_pieces =
-        runs_of_runs (pieces_of_unit p) (file_unit size place m tail) (file_unit p place m tail) m p span some pos
+        runs_of_runs (pieces_of_unit p) (file_unit size index m tail) (file_unit p index m tail) m p span some pos
         file_unit_pieces
 
   -- entries of which each file with bytes has such padding
   module _ (H : List Entry → Type 0) (next : (entry : Entry) (entries : List Entry) → H (entry ∷ entries) → H entries)
       (each : (path : Path) (m : ℕ) (entries : List Entry) → H (file path m ∷ entries) → 0 < m
       → Fills m (padding_before_next entries)) where
-    pieces_by_file : (place : ℕ) (entries : List Entry) → H entries
-        → flat_map (pieces_of_unit p) (separate_entry_units size place entries) ≡ separate_entry_units p place entries
+    pieces_by_file : (index : ℕ) (entries : List Entry) → H entries
+        → flat_map (pieces_of_unit p) (separate_entry_units size index entries) ≡ separate_entry_units p index entries
     unfolding separate_entry_units
-    pieces_by_file place [] held = refl
-    pieces_by_file place (entry ∷ entries) held = entry_cases
-        (λ e. H (e ∷ entries) → flat_map (pieces_of_unit p) (separate_entry_units size place (e ∷ entries))
-        ≡ separate_entry_units p place (e ∷ entries))
-        (λ path m now. pieces_by_file place entries (next (padding path m) entries now))
+    pieces_by_file index [] held = refl
+    pieces_by_file index (entry ∷ entries) held = entry_cases
+        (λ e. H (e ∷ entries) → flat_map (pieces_of_unit p) (separate_entry_units size index (e ∷ entries))
+        ≡ separate_entry_units p index (e ∷ entries))
+        (λ path m now. pieces_by_file index entries (next (padding path m) entries now))
         (λ path m now.
         let tail = padding_before_next entries in
-        flat_map-append (pieces_of_unit p) (units_of_file size place m tail)
-        (separate_entry_units size (place + 1) entries)
-        ∙ ap₂ (λ xs ys. xs ++ ys) (file_pieces place m tail (each path m entries now))
-        (pieces_by_file (place + 1) entries (next (file path m) entries now)))
+        flat_map-append (pieces_of_unit p) (units_of_file size index m tail)
+        (separate_entry_units size (index + 1) entries)
+        ∙ ap₂ (λ xs ys. xs ++ ys) (file_pieces index m tail (each path m entries now))
+        (pieces_by_file (index + 1) entries (next (file path m) entries now)))
         entry held
 
   pub separate_pieces : (kind : Kind) (entries : List Entry) → kind ≢ V1 → IsLaidOut kind p entries

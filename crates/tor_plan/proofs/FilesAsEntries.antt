@@ -42,22 +42,22 @@ lengths_of_files layout p files =
 
 -- ---- joined files
 
-files_within : (a b place at : ℕ) (files : List File) → unit_within a b place at (map file_entry files)
-    ≡ record { zeros = 0; parts = parts_within a b place at (lengths_of files) }
+files_within : (a b index at : ℕ) (files : List File) → unit_within a b index at (map file_entry files)
+    ≡ record { zeros = 0; parts = parts_within a b index at (lengths_of files) }
 unfolding unit_within parts_within
-files_within a b place at [] = refl
-files_within a b place at (file ∷ files) =
+files_within a b index at [] = refl
+files_within a b index at (file ∷ files) =
     let m = file.1 in
     let low = max a at in
     let high = min b (at + m) in
-    let rest = files_within a b (place + 1) (at + m) files in
-    let others = parts_within a b (place + 1) (at + m) (lengths_of files) in
+    let rest = files_within a b (index + 1) (at + m) files in
+    let others = parts_within a b (index + 1) (at + m) (lengths_of files) in
     elim (cases_lt low high) [
-      | inl some ↦ met a b place at file.0 m (map file_entry files) (omega (arith, some))
-          ∙ ap (after_part place (low - at) (high - low)) rest
+      | inl some ↦ met a b index at file.0 m (map file_entry files) (omega (arith, some))
+          ∙ ap (after_part index (low - at) (high - low)) rest
           ∙ ap (λ ps. record { zeros = 0; parts = ps ++ others })
           (sym (cond-true _ _ _ (lt-ltb low high some)))
-      | inr none ↦ not_met a b place at file.0 m (map file_entry files) (omega (arith, none)) ∙ rest
+      | inr none ↦ not_met a b index at file.0 m (map file_entry files) (omega (arith, none)) ∙ rest
           ∙ ap (λ ps. record { zeros = 0; parts = ps ++ others }) (sym (cond-false _ _ _ (le-ltb low high none)))
     ]
 
@@ -125,29 +125,29 @@ zeros_are p m files =
     sym (before_padded b n (aligned_entries p files)
     ∙ omega (arith, before_aligned p files))
 
-skips_padded : (size place : ℕ) (b : Bool) (n : ℕ) (entries : List Entry)
-    → separate_entry_units size place entries ≡ separate_entry_units size place (padded b n ++ entries)
+skips_padded : (size index : ℕ) (b : Bool) (n : ℕ) (entries : List Entry)
+    → separate_entry_units size index entries ≡ separate_entry_units size index (padded b n ++ entries)
 unfolding separate_entry_units
-skips_padded size place true n entries = refl
-skips_padded size place false n entries = refl
+skips_padded size index true n entries = refl
+skips_padded size index false n entries = refl
 
-files_alone : (p size place : ℕ) (files : List File)
-    → separate_units V2 p size place files ≡ separate_entry_units size place (map file_entry files)
+files_alone : (p size index : ℕ) (files : List File)
+    → separate_units V2 p size index files ≡ separate_entry_units size index (map file_entry files)
 unfolding separate_units separate_entry_units
-files_alone p size place [] = refl
-files_alone p size place (file ∷ files) =
-    ap₂ (λ n units. units_of_file size place file.1 n ++ units) (sym (before_files files))
-    (files_alone p size (place + 1) files)
+files_alone p size index [] = refl
+files_alone p size index (file ∷ files) =
+    ap₂ (λ n units. units_of_file size index file.1 n ++ units) (sym (before_files files))
+    (files_alone p size (index + 1) files)
 
-aligned_files : (p size place : ℕ) (files : List File)
-    → separate_units Hybrid p size place files ≡ separate_entry_units size place (aligned_entries p files)
+aligned_files : (p size index : ℕ) (files : List File)
+    → separate_units Hybrid p size index files ≡ separate_entry_units size index (aligned_entries p files)
 unfolding separate_units separate_entry_units aligned_entries
-aligned_files p size place [] = refl
-aligned_files p size place (file ∷ files) =
+aligned_files p size index [] = refl
+aligned_files p size index (file ∷ files) =
     let n = padding_length p file.1 in
-    ap₂ (λ tail units. units_of_file size place file.1 tail ++ units) (zeros_are p file.1 files)
-    (aligned_files p size (place + 1) files
-    ∙ skips_padded size (place + 1) (ltb 0 n && has_bytes files) n (aligned_entries p files))
+    ap₂ (λ tail units. units_of_file size index file.1 tail ++ units) (zeros_are p file.1 files)
+    (aligned_files p size (index + 1) files
+    ∙ skips_padded size (index + 1) (ltb 0 n && has_bytes files) n (aligned_entries p files))
 
 pub entry_units_of_files : (kind : Kind) (p span : ℕ) (files : List File)
     → hash_units kind p span files ≡ entry_units kind p span (v1_entries (layout_of kind) p files)

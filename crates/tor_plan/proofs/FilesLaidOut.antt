@@ -1,4 +1,4 @@
--- The entries of a list of files have their padding in its places.
+-- The entries of a list of files have their padding where it belongs.
 use Rattle.std.proofs.Common.{◌≡◌, ℕ, Bool, true, false, ltb, ◌&&◌, List, [], ◌∷◌, ◌++◌, map, sum_by, refl, ap, ◌∙◌}
 use Rattle.std.proofs.Common.{sym}
 use Rattle.std.proofs.Common.{inl, inr}

@@ -11,7 +11,7 @@ pub mod EntryContent
 pub mod UnitJoins
 pub mod Within
 pub mod Cut
-pub mod EntryPlaces
+pub mod EntryIndices
 pub mod EntryRanges
 pub mod EntryCut
 pub mod UnitSums
@@ -22,7 +22,7 @@ pub mod FilesLaidOut
 pub mod FileSizes
 pub mod WithinFiles
 pub mod WithinEntries
-pub mod Places
+pub mod Positions
 pub mod PieceRows
 pub mod PieceSteps
 pub mod PieceCut

@@ -1,4 +1,4 @@
--- The bytes of a unit by their places.
+-- The bytes of a unit by their offsets.
 use Rattle.std.proofs.Common.{◌≡◌, ℕ, ◌+◌, ◌-◌, ◌<◌, ◌≤◌, cond, ltb, max, List, [], ◌∷◌, ◌++◌, length}
 use Rattle.std.proofs.Common.{get_or, take, drop, sum_by, refl, arith, ap, ap₂, ◌∙◌, sym, subst, append-nil}
 use Rattle.std.proofs.lemmas.List.{take-append-drop, drop_more}
@@ -83,7 +83,7 @@ first_zeros unit = λ a i k begun within.
     omega (arith, begun, within) in e)
     ∙ sym (ap (λ u. joined u (zeros_alone k)) (none (0 + i) (omega (arith, within))))
 
--- the part at a place, after those before it
+-- the part at an index, after those before it
 module _ (unit : PlanUnit) (i : ℕ) (part : Part) (lt : i < length unit.parts)
     (is : part ≡ get_or unit.parts i part) where
   abbrev before : List Part

@@ -45,17 +45,17 @@ module _ (a b c d : ℕ) where
       ]
 
   abbrev IsRange : ℕ → ℕ → List Entry → PlanUnit → Type 0
-  IsRange place at entries unit = from a b (begin at) unit ≡ unit_within (c + a) end place at entries
+  IsRange index at entries unit = from a b (begin at) unit ≡ unit_within (c + a) end index at entries
 
-  none : (place at : ℕ) → IsRange place at [] empty_unit
+  none : (index at : ℕ) → IsRange index at [] empty_unit
   unfolding parts_between unit_within
-  none place at = ap zeros_alone (let e : shared a b (begin at) 0 + 0 ≡ 0 = omega arith in e)
+  none index at = ap zeros_alone (let e : shared a b (begin at) 0 + 0 ≡ 0 = omega arith in e)
 
-  of_padding : (place at : ℕ) (path : Path) (m : ℕ) (entries : List Entry) (unit : PlanUnit)
-      → IsRange place (at + m) entries unit
-      → IsRange place at (padding path m ∷ entries) (after_zeros (shared c d at m) unit)
+  of_padding : (index at : ℕ) (path : Path) (m : ℕ) (entries : List Entry) (unit : PlanUnit)
+      → IsRange index (at + m) entries unit
+      → IsRange index at (padding path m ∷ entries) (after_zeros (shared c d at m) unit)
   unfolding unit_within
-  of_padding place at path m entries unit rest =
+  of_padding index at path m entries unit rest =
       let n = shared c d at m in
       let e : begin at + (n + unit.zeros) ≡ begin at + n + unit.zeros = omega arith in
       ap₂ (λ k i. after_zeros k (parts_between a b i unit.parts))
@@ -67,16 +67,16 @@ module _ (a b c d : ℕ) where
       ∙ ap (after_zeros (shared (c + a) end at m)) rest
 
   -- a file of which the range has a part
-  module _ (place at : ℕ) (path : Path) (m : ℕ) (entries : List Entry) (unit : PlanUnit) (some : 0 < shared c d at m)
-      (rest : IsRange (place + 1) (at + m) entries unit) where
+  module _ (index at : ℕ) (path : Path) (m : ℕ) (entries : List Entry) (unit : PlanUnit) (some : 0 < shared c d at m)
+      (rest : IsRange (index + 1) (at + m) entries unit) where
     abbrev part : Part
-    part = record { file = place; start = max c at - at; length = shared c d at m; zeros = unit.zeros }
+    part = record { file = index; start = max c at - at; length = shared c d at m; zeros = unit.zeros }
 
     later : from a b (begin at + part.length) (unit_of part.zeros unit.parts)
-        ≡ unit_within (c + a) end (place + 1) (at + m) entries
+        ≡ unit_within (c + a) end (index + 1) (at + m) entries
     later = ap (λ i. from a b i unit) (begin_next at m) ∙ rest
 
-    bare : from a b (begin at) (after_part place (max c at - at) (shared c d at m) unit)
+    bare : from a b (begin at) (after_part index (max c at - at) (shared c d at m) unit)
         ≡ parts_between a b (begin at) (part ∷ unit.parts)
     bare =
         no_zeros (shared a b (begin at) 0) (parts_between a b (begin at + 0) (part ∷ unit.parts)) (omega arith)
@@ -85,23 +85,23 @@ module _ (a b c d : ℕ) where
     start_is : 0 < shared (c + a) end at m → max c at - at + (max a (begin at) - begin at) ≡ max (c + a) at - at
     start_is more = omega (arith, more)
 
-    of_met : IsRange place at (file path m ∷ entries) (after_part place (max c at - at) (shared c d at m) unit)
+    of_met : IsRange index at (file path m ∷ entries) (after_part index (max c at - at) (shared c d at m) unit)
     of_met = bare ∙ elim (cases_lt 0 (shared (c + a) end at m)) [
       | inl more ↦ part_met a b (begin at) part unit.parts (omega (arith, more, shared_same at m))
-          ∙ ap₂ (λ i k. after_part place i k (from a b (begin at + part.length) (unit_of part.zeros unit.parts)))
+          ∙ ap₂ (λ i k. after_part index i k (from a b (begin at + part.length) (unit_of part.zeros unit.parts)))
           (start_is more) (shared_same at m)
-          ∙ ap (after_part place (max (c + a) at - at) (shared (c + a) end at m)) later
-          ∙ sym (met (c + a) end place at path m entries more)
+          ∙ ap (after_part index (max (c + a) at - at) (shared (c + a) end at m)) later
+          ∙ sym (met (c + a) end index at path m entries more)
       | inr few ↦ part_not_met a b (begin at) part unit.parts (omega (arith, few, shared_same at m))
-          ∙ later ∙ sym (not_met (c + a) end place at path m entries few)
+          ∙ later ∙ sym (not_met (c + a) end index at path m entries few)
     ]
 
-  range_from : (place at : ℕ) (entries : List Entry) → IsRange place at entries (unit_within c d place at entries)
+  range_from : (index at : ℕ) (entries : List Entry) → IsRange index at entries (unit_within c d index at entries)
   range_from = by_entries c d IsRange none of_padding
-      (λ place at path m entries unit some rest. of_met place at path m entries unit some rest)
-      (λ place at path m entries unit few rest.
+      (λ index at path m entries unit some rest. of_met index at path m entries unit some rest)
+      (λ index at path m entries unit few rest.
       ap (λ i. from a b i unit) (let e : begin at ≡ begin (at + m) = omega (arith, few) in e)
-      ∙ rest ∙ sym (not_met (c + a) end place at path m entries (omega (arith, few))))
+      ∙ rest ∙ sym (not_met (c + a) end index at path m entries (omega (arith, few))))
 
   pub range_of_range : (entries : List Entry)
       → unit_between a b (unit_within c d 0 0 entries) ≡ unit_within (c + a) end 0 0 entries

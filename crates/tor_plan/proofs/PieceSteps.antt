@@ -1,4 +1,4 @@
--- Parts of a unit, one after another, and the bytes between two places.
+-- Parts of a unit, one after another, and the bytes between two offsets.
 use Rattle.std.proofs.Common.{◌≡◌, ℕ, ◌+◌, ◌-◌, ◌<◌, ◌≤◌, max, List, [], ◌∷◌, refl, arith, ap, ◌∙◌}
 use Rattle.std.proofs.Common.{sym, zero-add}
 use Rattle.std.proofs.lemmas.Bool.{lt-ltb, le-ltb, cond-true, cond-false}

@@ -15,7 +15,7 @@ use Rattle.tor_plan.specs.Entries.{entry_units, joined_entry_units, lengths_of_e
 use Rattle.tor_plan.specs.Entries.{separate_entry_units}
 use Rattle.tor_plan.specs.EntryList.{IsLaidOut}
 use Rattle.tor_plan.specs.Pieces.{piece_of_unit, pieces_of_unit}
-use Rattle.tor_plan.specs.Places.{places_of_files, places_of_unit}
+use Rattle.tor_plan.specs.Positions.{positions_of_files, positions_of_unit}
 use Rattle.tor_plan.specs.Units.{hash_units}
 use Rattle.tor_plan.specs.WithinEntries.{IsInFile, IsUnitWithin, unit_length}
 use Rattle.tor_plan.specs.WithinFiles.{bytes_of, IsFileUnit, IsUnitOf}
@@ -27,7 +27,7 @@ use Rattle.tor_plan.proofs.JoinedContent.{joined_bytes, joined_sums}
 use Rattle.tor_plan.proofs.FilePieces.{separate_pieces}
 use Rattle.tor_plan.proofs.JoinedPieces.{joined_pieces}
 use Rattle.tor_plan.proofs.PieceWithin.{piece_within, unit_between_length}
-use Rattle.tor_plan.proofs.Places.{places_of_entry_units}
+use Rattle.tor_plan.proofs.Positions.{positions_of_entry_units}
 use Rattle.tor_plan.proofs.SeparateContent.{separate_content, separate_sums}
 use Rattle.tor_plan.proofs.WithinEntries as within
 use Rattle.tor_plan.proofs.WithinFiles as bare
@@ -65,9 +65,10 @@ entry_units_are_the_content Hybrid piece_length span entries contents pos laid f
 
 pub entry_units_name_each_byte : (kind : Kind) (piece_length span : ℕ) (entries : List Entry)
     → 0 < span * piece_length
-    → flat_map places_of_unit (entry_units kind piece_length span entries)
-    ≡ places_of_files 0 (lengths_of_entries entries)
-entry_units_name_each_byte kind piece_length span entries pos = places_of_entry_units kind piece_length span entries pos
+    → flat_map positions_of_unit (entry_units kind piece_length span entries)
+    ≡ positions_of_files 0 (lengths_of_entries entries)
+entry_units_name_each_byte kind piece_length span entries pos =
+    positions_of_entry_units kind piece_length span entries pos
 
 pub entry_units_are_within_files : (kind : Kind) (piece_length span : ℕ) (entries : List Entry) → 0 < span
     → 0 < piece_length → IsLaidOut kind piece_length entries

@@ -36,36 +36,36 @@ part_length part = part.length + part.zeros
 
 module _ (a b : ℕ) where
   abbrev HasLength : ℕ → ℕ → List Entry → PlanUnit → Type 0
-  HasLength place at entries unit = unit_length unit ≡ min b (at + entries_length entries) - max a at
+  HasLength index at entries unit = unit_length unit ≡ min b (at + entries_length entries) - max a at
 
   -- how many bytes a range meets
-  pub length_within : (place at : ℕ) (entries : List Entry)
-      → HasLength place at entries (unit_within a b place at entries)
-  length_within = by_entries a b HasLength (λ place at. omega arith)
-      (λ place at path m entries unit rest. omega (arith, rest, sum_by-cons entry_length (padding path m) entries))
-      (λ place at path m entries unit some rest.
+  pub length_within : (index at : ℕ) (entries : List Entry)
+      → HasLength index at entries (unit_within a b index at entries)
+  length_within = by_entries a b HasLength (λ index at. omega arith)
+      (λ index at path m entries unit rest. omega (arith, rest, sum_by-cons entry_length (padding path m) entries))
+      (λ index at path m entries unit some rest.
       omega (
         arith,
         rest,
         sum_by-cons entry_length (file path m) entries,
         sum_by-cons part_length
-            (record { file = place; start = max a at - at; length = shared a b at m; zeros = unit.zeros }) unit.parts,
+            (record { file = index; start = max a at - at; length = shared a b at m; zeros = unit.zeros }) unit.parts,
       ))
-      (λ place at path m entries unit few rest. omega (arith, rest, sum_by-cons entry_length (file path m) entries))
+      (λ index at path m entries unit few rest. omega (arith, rest, sum_by-cons entry_length (file path m) entries))
 
   module _ (lengths : List ℕ) where
     abbrev AreIn : ℕ → ℕ → List Entry → PlanUnit → Type 0
-    AreIn place at entries unit = drop place lengths ≡ lengths_of_entries entries → All (IsInFile lengths) unit.parts
+    AreIn index at entries unit = drop index lengths ≡ lengths_of_entries entries → All (IsInFile lengths) unit.parts
 
-    pub parts_within : (place at : ℕ) (entries : List Entry) → AreIn place at entries (unit_within a b place at entries)
-    parts_within = by_entries a b AreIn (λ place at e. All-nil (IsInFile lengths))
-        (λ place at path m entries unit rest e. rest e)
-        (λ place at path m entries unit some rest e.
-        let from = lengths_from lengths place m (lengths_of_entries entries) e in
+    pub parts_within : (index at : ℕ) (entries : List Entry) → AreIn index at entries (unit_within a b index at entries)
+    parts_within = by_entries a b AreIn (λ index at e. All-nil (IsInFile lengths))
+        (λ index at path m entries unit rest e. rest e)
+        (λ index at path m entries unit some rest e.
+        let from = lengths_from lengths index m (lengths_of_entries entries) e in
         All-cons (IsInFile lengths) _ unit.parts
         (record { named = from.named; some = some; within = omega (arith, from.here) }) (rest from.after))
-        (λ place at path m entries unit few rest e.
-        rest (lengths_from lengths place m (lengths_of_entries entries) e).after)
+        (λ index at path m entries unit few rest e.
+        rest (lengths_from lengths index m (lengths_of_entries entries) e).after)
 
 module _ (size : ℕ) (pos : 0 < size) (entries : List Entry) where
   pub joined_within : All (IsUnitWithin (lengths_of_entries entries) size) (joined_entry_units size entries)
@@ -97,24 +97,24 @@ module _ (size : ℕ) (pos : 0 < size) (entries : List Entry) where
 -- what each unit has, given what the entries from its file on keep to
 module _ (lengths : List ℕ) (size : ℕ) (pos : 0 < size) (Q : PlanUnit → Type 0) (H : List Entry → Type 0)
     (next : (entry : Entry) (entries : List Entry) → H (entry ∷ entries) → H entries)
-    (each : (place : ℕ) (path : Path) (m : ℕ) (entries : List Entry) (k : ℕ) → H (file path m ∷ entries)
-    → AreLengthsFrom lengths place m (lengths_of_entries entries) → k * size < m
-    → Q (file_unit size place m (padding_before_next entries) k)) where
-  pub each_separate : (place : ℕ) (entries : List Entry) → drop place lengths ≡ lengths_of_entries entries → H entries
-      → All Q (separate_entry_units size place entries)
+    (each : (index : ℕ) (path : Path) (m : ℕ) (entries : List Entry) (k : ℕ) → H (file path m ∷ entries)
+    → AreLengthsFrom lengths index m (lengths_of_entries entries) → k * size < m
+    → Q (file_unit size index m (padding_before_next entries) k)) where
+  pub each_separate : (index : ℕ) (entries : List Entry) → drop index lengths ≡ lengths_of_entries entries → H entries
+      → All Q (separate_entry_units size index entries)
   unfolding separate_entry_units
-  each_separate place [] e held = All-nil Q
-  each_separate place (entry ∷ entries) e held = entry_cases
-      (λ x. drop place lengths ≡ lengths_of_entries (x ∷ entries) → H (x ∷ entries)
-      → All Q (separate_entry_units size place (x ∷ entries)))
-      (λ path m same now. each_separate place entries same (next (padding path m) entries now))
+  each_separate index [] e held = All-nil Q
+  each_separate index (entry ∷ entries) e held = entry_cases
+      (λ x. drop index lengths ≡ lengths_of_entries (x ∷ entries) → H (x ∷ entries)
+      → All Q (separate_entry_units size index (x ∷ entries)))
+      (λ path m same now. each_separate index entries same (next (padding path m) entries now))
       (λ path m same now.
-      let from = lengths_from lengths place m (lengths_of_entries entries) same in
+      let from = lengths_from lengths index m (lengths_of_entries entries) same in
       let tail = padding_before_next entries in
-      All-append Q (units_of_file size place m tail) (separate_entry_units size (place + 1) entries)
-      (all_range Q (file_unit size place m tail) (div_ceil m size)
-      (λ k lt. each place path m entries k now from (run_begins m size k pos lt)))
-      (each_separate (place + 1) entries from.after (next (file path m) entries now)))
+      All-append Q (units_of_file size index m tail) (separate_entry_units size (index + 1) entries)
+      (all_range Q (file_unit size index m tail) (div_ceil m size)
+      (λ k lt. each index path m entries k now from (run_begins m size k pos lt)))
+      (each_separate (index + 1) entries from.after (next (file path m) entries now)))
       entry e held
 
 pub separate_whole : (size : ℕ) (pos : 0 < size) (entries : List Entry)
@@ -122,8 +122,8 @@ pub separate_whole : (size : ℕ) (pos : 0 < size) (entries : List Entry)
 separate_whole size pos entries =
     let lengths = lengths_of_entries entries in
     each_separate lengths size pos (IsFileUnit lengths size) (λ _. Unit {0}) (λ _ _ _. tt)
-    (λ place path m others k held from begins.
-    whole_of_file lengths 0 size pos place m (padding_before_next others) k (lengths_of_entries others) from begins)
+    (λ index path m others k held from begins.
+    whole_of_file lengths 0 size pos index m (padding_before_next others) k (lengths_of_entries others) from begins)
     0 entries refl tt
 
 pub unpadded : (entries : List Entry) → has_padding entries ≡ false → padding_before_next entries ≡ 0
@@ -156,9 +156,9 @@ module _ (p span : ℕ) (some : 0 < p) (pos : 0 < span * p) where
   tail_fits m k tail (inl none) le = omega (arith, none)
   tail_fits m k tail (inr full) le = omega (arith, full, padding_fits m k le)
 
-  unit_of_file : (lengths : List ℕ) (place m tail k : ℕ) (later : List ℕ) → AreLengthsFrom lengths place m later
-      → Padding m tail → k * size < m → IsUnitWithin lengths size (file_unit size place m tail k)
-  unit_of_file lengths place m tail k later from padding begins = record {
+  unit_of_file : (lengths : List ℕ) (index m tail k : ℕ) (later : List ℕ) → AreLengthsFrom lengths index m later
+      → Padding m tail → k * size < m → IsUnitWithin lengths size (file_unit size index m tail k)
+  unit_of_file lengths index m tail k later from padding begins = record {
     parts = All-cons (IsInFile lengths) _ [] (record {
       named = from.named;
       some = omega (arith, begins, pos);
@@ -182,18 +182,18 @@ module _ (p span : ℕ) (some : 0 < p) (pos : 0 < span * p) where
       let lengths = lengths_of_entries entries in
       each_separate lengths size pos (IsUnitWithin lengths size) (λ es. has_padding es ≡ false)
       (λ entry es none. (or_parts entry.pad (has_padding es) none).1)
-      (λ place path m es k none from begins.
-      unit_of_file lengths place m (padding_before_next es) k (lengths_of_entries es) from
+      (λ index path m es k none from begins.
+      unit_of_file lengths index m (padding_before_next es) k (lengths_of_entries es) from
       (inl (unpadded es none)) begins)
       0 entries refl laid
   separate_within Hybrid entries not_v1 laid =
       let lengths = lengths_of_entries entries in
       each_separate lengths size pos (IsUnitWithin lengths size) (ArePadded p)
       (λ entry es padded. padded.1)
-      (λ place path m es k padded from begins.
+      (λ index path m es k padded from begins.
       let is : Padding m (padding_before_next es) = elim (padded.0 (lt-ltb 0 m (omega (arith, begins)))) [
         | inl full ↦ inr full
         | inr last ↦ inl last.1
       ] in
-      unit_of_file lengths place m (padding_before_next es) k (lengths_of_entries es) from is begins)
+      unit_of_file lengths index m (padding_before_next es) k (lengths_of_entries es) from is begins)
       0 entries refl laid.1

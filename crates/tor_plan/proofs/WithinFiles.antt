@@ -22,7 +22,7 @@ use Rattle.tor_plan.specs.Units.{joined_unit, joined_units}
 use Rattle.tor_plan.specs.WithinFiles.{IsPartOf, IsUnitOf, IsFileUnit, bytes_of}
 use Rattle.tor_plan.proofs.Contents.{File}
 
--- ---- lists by places
+-- ---- lists by indices
 
 pub all_range : {X : Type 0} (P : X → Type 0) (f : ℕ → X) (n : ℕ) → ((k : ℕ) → k < n → P (f k))
     → All P (map f (range_with_len 0 n))
@@ -37,18 +37,18 @@ run_begins m size k pos lt = begins (div_ceil m size) lt (div_ceil_times m size 
   begins q less bounds = omega (arith, mul-le-mul_right {m = k + 1} {n = q} size (omega (arith, less)), bounds.1)
 
 -- the lengths of all files, from a file on
-pub record AreLengthsFrom (lengths : List ℕ) (place m : ℕ) (later : List ℕ) : Type 0 where
-  pub named : place < length lengths
-  pub here : get_or lengths place 0 ≡ m
-  pub after : drop (place + 1) lengths ≡ later
+pub record AreLengthsFrom (lengths : List ℕ) (index m : ℕ) (later : List ℕ) : Type 0 where
+  pub named : index < length lengths
+  pub here : get_or lengths index 0 ≡ m
+  pub after : drop (index + 1) lengths ≡ later
 
-pub lengths_from : (lengths : List ℕ) (place m : ℕ) (later : List ℕ) → drop place lengths ≡ m ∷ later
-    → AreLengthsFrom lengths place m later
-lengths_from lengths place m later e = record {
-  named = omega (arith, length-drop place lengths, ap length e);
-  here = ap (λ n. get_or lengths n 0) (let z : place ≡ place + 0 = omega arith in z)
-      ∙ sym (get_or-drop place lengths 0 0) ∙ ap (λ xs. get_or xs 0 0) e;
-  after = sym (drop-drop 1 place lengths) ∙ ap (drop 1) e;
+pub lengths_from : (lengths : List ℕ) (index m : ℕ) (later : List ℕ) → drop index lengths ≡ m ∷ later
+    → AreLengthsFrom lengths index m later
+lengths_from lengths index m later e = record {
+  named = omega (arith, length-drop index lengths, ap length e);
+  here = ap (λ n. get_or lengths n 0) (let z : index ≡ index + 0 = omega arith in z)
+      ∙ sym (get_or-drop index lengths 0 0) ∙ ap (λ xs. get_or xs 0 0) e;
+  after = sym (drop-drop 1 index lengths) ∙ ap (drop 1) e;
 }
 
 -- ---- files cut each by itself
@@ -71,10 +71,10 @@ end_zeros true n p less = less
 end_zeros false n p less = omega (arith, less)
 
 module _ (lengths : List ℕ) (p size : ℕ) (pos : 0 < size) where
-  unit_of_file : (place m zeros k : ℕ) (later : List ℕ) → AreLengthsFrom lengths place m later → zeros < p
+  unit_of_file : (index m zeros k : ℕ) (later : List ℕ) → AreLengthsFrom lengths index m later → zeros < p
       → k * size < m
-      → IsUnitOf lengths p size (file_unit size place m zeros k)
-  unit_of_file place m zeros k later from small begins = record {
+      → IsUnitOf lengths p size (file_unit size index m zeros k)
+  unit_of_file index m zeros k later from small begins = record {
     parts = All-cons (IsPartOf lengths p) _ [] (record {
       named = from.named;
       some = omega (arith, begins);
@@ -85,25 +85,25 @@ module _ (lengths : List ℕ) (p size : ℕ) (pos : 0 < size) where
     within = omega arith;
   }
 
-  pub separate_within : (kind : Kind) (place : ℕ) (files : List File) → 0 < p → drop place lengths ≡ lengths_of files
-      → All (IsUnitOf lengths p size) (separate_units kind p size place files)
+  pub separate_within : (kind : Kind) (index : ℕ) (files : List File) → 0 < p → drop index lengths ≡ lengths_of files
+      → All (IsUnitOf lengths p size) (separate_units kind p size index files)
   unfolding separate_units
-  separate_within kind place [] some e = All-nil (IsUnitOf lengths p size)
-  separate_within kind place (file ∷ files) some e =
-      let from = lengths_from lengths place file.1 (lengths_of files) e in
+  separate_within kind index [] some e = All-nil (IsUnitOf lengths p size)
+  separate_within kind index (file ∷ files) some e =
+      let from = lengths_from lengths index file.1 (lengths_of files) e in
       let zeros = zeros_after kind p file.1 files in
-      All-append (IsUnitOf lengths p size) (units_of_file size place file.1 zeros)
-      (separate_units kind p size (place + 1) files)
-      (all_range (IsUnitOf lengths p size) (file_unit size place file.1 zeros) (div_ceil file.1 size)
-      (λ k lt. unit_of_file place file.1 zeros k (lengths_of files) from (zeros_small kind p file.1 files some)
+      All-append (IsUnitOf lengths p size) (units_of_file size index file.1 zeros)
+      (separate_units kind p size (index + 1) files)
+      (all_range (IsUnitOf lengths p size) (file_unit size index file.1 zeros) (div_ceil file.1 size)
+      (λ k lt. unit_of_file index file.1 zeros k (lengths_of files) from (zeros_small kind p file.1 files some)
       (run_begins file.1 size k pos lt)))
-      (separate_within kind (place + 1) files some from.after)
+      (separate_within kind (index + 1) files some from.after)
 
-  pub whole_of_file : (place m zeros k : ℕ) (later : List ℕ) → AreLengthsFrom lengths place m later → k * size < m
-      → IsFileUnit lengths size (file_unit size place m zeros k)
-  whole_of_file place m zeros k later from begins = record {
+  pub whole_of_file : (index m zeros k : ℕ) (later : List ℕ) → AreLengthsFrom lengths index m later → k * size < m
+      → IsFileUnit lengths size (file_unit size index m zeros k)
+  whole_of_file index m zeros k later from begins = record {
     part = record {
-      file = place;
+      file = index;
       start = k * size;
       length = min (m - k * size) size;
       zeros = cond (leb (m - k * size) size) zeros 0;
@@ -117,27 +117,27 @@ module _ (lengths : List ℕ) (p size : ℕ) (pos : 0 < size) where
 -- ---- joined files
 
 -- how many bytes a range meets
-pub bytes_within : (a b place at : ℕ) (lengths : List ℕ)
-    → sum_by (λ (part : Part). part.length) (parts_within a b place at lengths) ≡ min b (at + sum lengths) - max a at
+pub bytes_within : (a b index at : ℕ) (lengths : List ℕ)
+    → sum_by (λ (part : Part). part.length) (parts_within a b index at lengths) ≡ min b (at + sum lengths) - max a at
 unfolding parts_within
-bytes_within a b place at [] = omega arith
-bytes_within a b place at (m ∷ lengths) =
+bytes_within a b index at [] = omega arith
+bytes_within a b index at (m ∷ lengths) =
     let bytes : Part → ℕ = λ part. part.length in
     let whole = sum_by-cons (λ x. x) m lengths in
-    let first : sum_by bytes (part_within a b place at m) ≡ min b (at + m) - max a at =
+    let first : sum_by bytes (part_within a b index at m) ≡ min b (at + m) - max a at =
     elim (cases_lt (max a at) (min b (at + m))) [
       | inl some ↦ ap (sum_by bytes) (cond-true _ _ _ (lt-ltb (max a at) (min b (at + m)) some))
           ∙ zero-add (min b (at + m) - max a at)
       | inr none ↦ ap (sum_by bytes) (cond-false _ _ _ (le-ltb (max a at) (min b (at + m)) none))
           ∙ (let e : 0 ≡ min b (at + m) - max a at = omega arith in e)
     ] in
-    sum_by-append bytes (part_within a b place at m) (parts_within a b (place + 1) (at + m) lengths)
-    ∙ ap₂ (λ x y. x + y) first (bytes_within a b (place + 1) (at + m) lengths) ∙ omega (arith, whole)
+    sum_by-append bytes (part_within a b index at m) (parts_within a b (index + 1) (at + m) lengths)
+    ∙ ap₂ (λ x y. x + y) first (bytes_within a b (index + 1) (at + m) lengths) ∙ omega (arith, whole)
 
 module _ (lengths : List ℕ) (p a b : ℕ) (some_piece : 0 < p) where
-  part_within_file : (place at m : ℕ) (later : List ℕ) → AreLengthsFrom lengths place m later
-      → All (IsPartOf lengths p) (part_within a b place at m)
-  part_within_file place at m later from = elim (cases_lt (max a at) (min b (at + m))) [
+  part_within_file : (index at m : ℕ) (later : List ℕ) → AreLengthsFrom lengths index m later
+      → All (IsPartOf lengths p) (part_within a b index at m)
+  part_within_file index at m later from = elim (cases_lt (max a at) (min b (at + m))) [
     | inl some ↦ subst (All (IsPartOf lengths p)) (sym (cond-true _ _ _ (lt-ltb (max a at) (min b (at + m)) some)))
         (All-cons (IsPartOf lengths p) _ []
         (record { named = from.named; some = omega arith; within = omega (arith, from.here); padded = some_piece })
@@ -146,14 +146,14 @@ module _ (lengths : List ℕ) (p a b : ℕ) (some_piece : 0 < p) where
         (All-nil (IsPartOf lengths p))
   ]
 
-  pub parts_within_files : (place at : ℕ) (rest : List ℕ) → drop place lengths ≡ rest
-      → All (IsPartOf lengths p) (parts_within a b place at rest)
+  pub parts_within_files : (index at : ℕ) (rest : List ℕ) → drop index lengths ≡ rest
+      → All (IsPartOf lengths p) (parts_within a b index at rest)
   unfolding parts_within
-  parts_within_files place at [] e = All-nil (IsPartOf lengths p)
-  parts_within_files place at (m ∷ rest) e =
-      let from = lengths_from lengths place m rest e in
-      All-append (IsPartOf lengths p) (part_within a b place at m) (parts_within a b (place + 1) (at + m) rest)
-      (part_within_file place at m rest from) (parts_within_files (place + 1) (at + m) rest from.after)
+  parts_within_files index at [] e = All-nil (IsPartOf lengths p)
+  parts_within_files index at (m ∷ rest) e =
+      let from = lengths_from lengths index m rest e in
+      All-append (IsPartOf lengths p) (part_within a b index at m) (parts_within a b (index + 1) (at + m) rest)
+      (part_within_file index at m rest from) (parts_within_files (index + 1) (at + m) rest from.after)
 
 module _ (lengths : List ℕ) (size : ℕ) (pos : 0 < size) where
   pub joined_within : (p : ℕ) → 0 < p → All (IsUnitOf lengths p size) (joined_units size lengths)

@@ -1,5 +1,5 @@
 -- How the entries of a torrent, files and padding (BEP 47, "padding files"), are cut into units of work. A file is
--- named by its place among the entries that are no padding.
+-- named by its index among the entries that are no padding.
 use Rattle.std.specs.Prelude.{ℕ, ◌+◌, ◌-◌, ◌*◌, min, max, nat_lt, List, [], ◌∷◌, ◌++◌, map, sum_by}
 use Rattle.std.specs.Prelude.{if◌then◌else◌}
 use Rattle.std.specs.Int.{div_ceil}
@@ -40,16 +40,16 @@ after_part file start n unit = record {
 abbrev pub shared : ℕ → ℕ → ℕ → ℕ → ℕ
 shared a b at m = min b (at + m) - max a at
 
--- the bytes from a to b of the joined entries, of which the first begins at byte at; the first file has this place
+-- the bytes from a to b of the joined entries, of which the first begins at byte at; the first file has this index
 unfoldable pub unit_within : ℕ → ℕ → ℕ → ℕ → List Entry → PlanUnit
-unit_within a b place at [] = empty_unit
-unit_within a b place at (entry ∷ entries) =
-    if entry.pad then after_zeros (shared a b at entry.length) (unit_within a b place (at + entry.length) entries)
+unit_within a b index at [] = empty_unit
+unit_within a b index at (entry ∷ entries) =
+    if entry.pad then after_zeros (shared a b at entry.length) (unit_within a b index (at + entry.length) entries)
     else (
     if nat_lt 0 (shared a b at entry.length) then
-    after_part place (max a at - at) (shared a b at entry.length)
-    (unit_within a b (place + 1) (at + entry.length) entries)
-    else unit_within a b (place + 1) (at + entry.length) entries)
+    after_part index (max a at - at) (shared a b at entry.length)
+    (unit_within a b (index + 1) (at + entry.length) entries)
+    else unit_within a b (index + 1) (at + entry.length) entries)
 
 -- the k-th unit of the joined entries, which are cut every size bytes
 abbrev pub joined_entry_unit : ℕ → List Entry → ℕ → PlanUnit
@@ -70,13 +70,13 @@ padding_before_next (entry ∷ entries) =
     if nat_lt 0 entry.length then 0 else padding_before_next entries)
 
 -- each file cut by itself, and the padding up to the next one that is not empty in its last unit; the first has this
--- place
+-- index
 unfoldable pub separate_entry_units : ℕ → ℕ → List Entry → List PlanUnit
-separate_entry_units size place [] = []
-separate_entry_units size place (entry ∷ entries) =
-    if entry.pad then separate_entry_units size place entries else
-    units_of_file size place entry.length (padding_before_next entries)
-    ++ separate_entry_units size (place + 1) entries
+separate_entry_units size index [] = []
+separate_entry_units size index (entry ∷ entries) =
+    if entry.pad then separate_entry_units size index entries else
+    units_of_file size index entry.length (padding_before_next entries)
+    ++ separate_entry_units size (index + 1) entries
 
 -- the units of span pieces: of the joined entries in version 1, else of each file by itself
 abbrev pub entry_units : Kind → ℕ → ℕ → List Entry → List PlanUnit

@@ -6,7 +6,7 @@ pub mod WithinFiles
 pub mod Entries
 pub mod EntryList
 pub mod WithinEntries
-pub mod Places
+pub mod Positions
 pub mod Pieces
 pub mod Present
 pub mod steps

@@ -1,5 +1,5 @@
 -- How a list of files is cut into units of work. A file is a pair of a path and a length in bytes; it is named by its
--- place in the list.
+-- index in the list.
 use Rattle.std.specs.Prelude.{ℕ, ◌+◌, ◌-◌, ◌*◌, min, max, nat_lt, nat_le, List, [], ◌∷◌, ◌++◌, map, sum_by}
 use Rattle.std.specs.Prelude.{if◌then◌else◌}
 use Rattle.std.specs.Int.{div_ceil}
@@ -32,12 +32,12 @@ abbrev pub zeros_after : Kind → ℕ → ℕ → List (List (List ℕ) × ℕ) 
 zeros_after Hybrid piece_length m later = sum_by (λ entry. entry.length) (padding_after piece_length m later)
 zeros_after _ piece_length m later = 0
 
--- each file cut by itself; the first has this place
+-- each file cut by itself; the first has this index
 unfoldable pub separate_units : Kind → ℕ → ℕ → ℕ → List (List (List ℕ) × ℕ) → List PlanUnit
-separate_units kind piece_length size place [] = []
-separate_units kind piece_length size place (file ∷ later) =
-    units_of_file size place file.1 (zeros_after kind piece_length file.1 later)
-    ++ separate_units kind piece_length size (place + 1) later
+separate_units kind piece_length size index [] = []
+separate_units kind piece_length size index (file ∷ later) =
+    units_of_file size index file.1 (zeros_after kind piece_length file.1 later)
+    ++ separate_units kind piece_length size (index + 1) later
 
 -- what the bytes from a to b of the joined files have of a file that begins at byte at and has m bytes
 abbrev pub part_within : ℕ → ℕ → ℕ → ℕ → ℕ → List Part
@@ -46,10 +46,10 @@ part_within a b file at m =
     record { file = file; start = max a at - at; length = min b (at + m) - max a at; zeros = 0 } ∷ []
     else []
 
--- the parts of files that the bytes from a to b meet; the first file has this place and begins at byte at
+-- the parts of files that the bytes from a to b meet; the first file has this index and begins at byte at
 unfoldable pub parts_within : ℕ → ℕ → ℕ → ℕ → List ℕ → List Part
-parts_within a b place at [] = []
-parts_within a b place at (m ∷ lengths) = part_within a b place at m ++ parts_within a b (place + 1) (at + m) lengths
+parts_within a b index at [] = []
+parts_within a b index at (m ∷ lengths) = part_within a b index at m ++ parts_within a b (index + 1) (at + m) lengths
 
 -- the k-th unit of the joined files, which are cut every size bytes
 abbrev pub joined_unit : ℕ → List ℕ → ℕ → PlanUnit

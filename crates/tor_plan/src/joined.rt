@@ -20,8 +20,8 @@ pub(crate) fn cut_joined(
     ensures { IfOk result (λ units. units.items ≡ joined_units size (lengths_of files.now)) }
 {
     let mut cut = JoinedCut::new(alloc, size);
-    'files: for (place, (_, length)) in files.iter().enumerate() {
-        cut.add_bytes(alloc, place as u64, 0, *length)?;
+    'files: for (index, (_, length)) in files.iter().enumerate() {
+        cut.add_bytes(alloc, index as u64, 0, *length)?;
     }
     cut.finish()
 }
@@ -36,13 +36,13 @@ pub(crate) fn cut_joined_entries(
     ensures { IfOk result (λ units. units.items ≡ joined_entry_units size entries.now) }
 {
     let mut cut = JoinedCut::new(alloc, size);
-    let mut place = 0;
+    let mut index = 0;
     'entries: for entry in entries {
         if entry.pad {
             cut.add_padding(alloc, entry.length)?;
         } else {
-            cut.add_bytes(alloc, place, 0, entry.length)?;
-            place += 1;
+            cut.add_bytes(alloc, index, 0, entry.length)?;
+            index += 1;
         }
     }
     cut.finish()

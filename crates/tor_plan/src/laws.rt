@@ -5,7 +5,7 @@ ghost use Rattle.tor_plan.specs.Content.{AreContentsOfFiles, cut_content, layout
 ghost use Rattle.tor_plan.specs.Entries.{entry_units, lengths_of_entries};
 ghost use Rattle.tor_plan.specs.EntryList.{IsLaidOut};
 ghost use Rattle.tor_plan.specs.Pieces.{piece_of_unit, pieces_of_unit};
-ghost use Rattle.tor_plan.specs.Places.{places_of_files, places_of_unit};
+ghost use Rattle.tor_plan.specs.Positions.{positions_of_files, positions_of_unit};
 ghost use Rattle.tor_plan.specs.Units.{hash_units};
 ghost use Rattle.tor_plan.specs.WithinEntries.{IsInFile, IsUnitWithin, unit_length};
 ghost use Rattle.tor_plan.specs.WithinFiles.{bytes_of, IsFileUnit, IsUnitOf};
@@ -79,8 +79,8 @@ pub fn entry_units_are_the_content()
 /// The units name each byte of each file once, file by file and byte by byte.
 pub fn entry_units_name_each_byte()
     ensures { (kind : Kind) (piece_length span : ℕ) (entries : List Entry) → 0 < span * piece_length →
-        flat_map places_of_unit (entry_units kind piece_length span entries)
-        ≡ places_of_files 0 (lengths_of_entries entries) }
+        flat_map positions_of_unit (entry_units kind piece_length span entries)
+        ≡ positions_of_files 0 (lengths_of_entries entries) }
 {}
 
 /// The parts of units are in their files, and no unit has more bytes than `span` pieces, zeros among them.

@@ -125,7 +125,7 @@ impl Plan {
         self.piece_length
     }
 
-    /// In the order of the files; a unit is named by its place here.
+    /// In the order of the files; a unit is named by its index here.
     pub fn units(&self) -> &[PlanUnit]
         ensures value { result.now ≡ self.now.units }
         ensures planned { IsPlan self.now }

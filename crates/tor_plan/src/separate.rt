@@ -25,12 +25,12 @@ pub(crate) fn cut_each(
     // How many files with bytes are still to come.
     let mut later = count_with_bytes(files);
     let mut units = Vec::new(alloc);
-    'files: for (place, (_, length)) in files.iter().enumerate() {
+    'files: for (index, (_, length)) in files.iter().enumerate() {
         if *length > 0 {
             later -= 1;
         }
         let zeros = zeros_after(kind, piece_length, *length, later);
-        cut_file(alloc, &mut units, size, place as u64, *length, zeros)?;
+        cut_file(alloc, &mut units, size, index as u64, *length, zeros)?;
     }
     Ok(units)
 }
@@ -53,7 +53,7 @@ pub(crate) fn cut_each_entry(
         length: 0,
         zeros: 0,
     };
-    let mut place = 0;
+    let mut index = 0;
     'entries: for entry in entries {
         if entry.pad {
             last.zeros += entry.length;
@@ -61,13 +61,13 @@ pub(crate) fn cut_each_entry(
             if entry.length > 0 {
                 cut_file(alloc, &mut units, size, last.file, last.length, last.zeros)?;
                 last = Part {
-                    file: place,
+                    file: index,
                     start: 0,
                     length: entry.length,
                     zeros: 0,
                 };
             }
-            place += 1;
+            index += 1;
         }
     }
     cut_file(alloc, &mut units, size, last.file, last.length, last.zeros)?;

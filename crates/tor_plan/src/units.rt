@@ -6,9 +6,9 @@ use std::marker::Model;
 /// Bytes of one file that stand directly after one another, and zeros after them.
 #[derive(Clone, Copy, Debug, PartialEq, Eq)]
 pub struct Part {
-    /// The place of the file in the list.
+    /// The index of the file in the list.
     pub file: u64,
-    /// The first byte's place in the file.
+    /// The first byte's offset in the file.
     pub start: u64,
     /// In bytes, never 0.
     pub length: u64,

@@ -9,11 +9,11 @@ use Rattle.tor_recheck.specs.Bitfield.{bit_of, byte_from, bitfield}
 use Rattle.tor_recheck.specs.steps.Packed.{packed_bit, packed_bits, KeepsBits}
 use Rattle.tor_recheck.proofs.ReadBack.{read_any, length-packed_bits}
 
--- a digit tested and told as a number again
-digit_told : (b : ℕ) → b < 2 → cond (eqb b 1) 1 0 ≡ b
-digit_told zero lt = refl
-digit_told (suc zero) lt = refl
-digit_told (suc (suc b)) lt = absurd (omega arith)
+-- a digit tested and read as a number again
+digit_again : (b : ℕ) → b < 2 → cond (eqb b 1) 1 0 ≡ b
+digit_again zero lt = refl
+digit_again (suc zero) lt = refl
+digit_again (suc (suc b)) lt = absurd (omega arith)
 
 -- what is above a digit is twice what is above the next
 halves : (n k : ℕ) → n / 2 ^ k ≡ 2 * (n / 2 ^ (k + 1)) + bit_at n k
@@ -31,21 +31,21 @@ digits_of n lt =
 -- the bit of a piece that stands there
 bit_there : (bytes : List ℕ) (count k j i : ℕ) → KeepsBits bytes count → i / 8 ≡ k → i % 8 ≡ j
     → bit_of (packed_bits bytes count) i ≡ bit_at (get_or bytes k 0) (7 - j)
-bit_there bytes count k j i kept byte place =
-    let told : cond (packed_bit bytes i) 1 0 ≡ bit_at (get_or bytes k 0) (7 - j) =
-    rw (byte, place) (digit_told (bit_at (get_or bytes k 0) (7 - j)) (bit_at-lt (get_or bytes k 0) (7 - j))) in
-    ap (λ (b : Bool). cond b 1 0) (read_any bytes count i kept) ∙ told
+bit_there bytes count k j i kept byte digit =
+    let found : cond (packed_bit bytes i) 1 0 ≡ bit_at (get_or bytes k 0) (7 - j) =
+    rw (byte, digit) (digit_again (bit_at (get_or bytes k 0) (7 - j)) (bit_at-lt (get_or bytes k 0) (7 - j))) in
+    ap (λ (b : Bool). cond b 1 0) (read_any bytes count i kept) ∙ found
 
 -- piece j of byte k
-bit_of_place : (bytes : List ℕ) (count k j i : ℕ) → KeepsBits bytes count → j < 8 → i ≡ 8 * k + j
+bit_of_piece : (bytes : List ℕ) (count k j i : ℕ) → KeepsBits bytes count → j < 8 → i ≡ 8 * k + j
     → bit_of (packed_bits bytes count) i ≡ bit_at (get_or bytes k 0) (7 - j)
-bit_of_place bytes count k j i kept lt is = bit_there bytes count k j i kept (omega arith) (omega arith)
+bit_of_piece bytes count k j i kept lt is = bit_there bytes count k j i kept (omega arith) (omega arith)
 
 -- the byte kept is that of its eight pieces
 byte_of : (bytes : List ℕ) (count k : ℕ) → KeepsBits bytes count → get_or bytes k 0 < 256
     → get_or bytes k 0 ≡ byte_from (packed_bits bytes count) (8 * k)
 byte_of bytes count k kept lt =
-    let at = λ (j i : ℕ) (small : j < 8) (is : i ≡ 8 * k + j). bit_of_place bytes count k j i kept small is in
+    let at = λ (j i : ℕ) (small : j < 8) (is : i ≡ 8 * k + j). bit_of_piece bytes count k j i kept small is in
     omega (
       arith,
       digits_of (get_or bytes k 0) lt,

@@ -1,4 +1,4 @@
--- Entries as padding and files, and the contents of those from a place on.
+-- Entries as padding and files, and the contents of those from an index on.
 use Rattle.std.proofs.Common.{◌≡◌, ℕ, ◌+◌, Bool, true, false, List, [], drop, get_or, arith, ap, ◌∙◌}
 use Rattle.std.proofs.lemmas.List.{drop-drop, get_or-drop}
 use Rattle.tor_v1.specs.declared.entry.Entry.{Entry}
@@ -20,13 +20,13 @@ entry_cases Q of_padding of_file entry = by_pad entry.pad where
   by_pad true = of_padding entry.path entry.length
   by_pad false = of_file entry.path entry.length
 
--- the first element from a place on, and the others
-pub first_of : {X : Type 0} (xs : List X) (place : ℕ) (none : X) → get_or (drop place xs) 0 none ≡ get_or xs place none
-first_of xs place none =
-    get_or-drop place xs 0 none ∙ ap (λ n. get_or xs n none) (let e : place + 0 ≡ place = omega arith in e)
+-- the first element from an index on, and the others
+pub first_of : {X : Type 0} (xs : List X) (index : ℕ) (none : X) → get_or (drop index xs) 0 none ≡ get_or xs index none
+first_of xs index none =
+    get_or-drop index xs 0 none ∙ ap (λ n. get_or xs n none) (let e : index + 0 ≡ index = omega arith in e)
 
-pub first_from : (contents : List (List ℕ)) (place : ℕ) → get_or (drop place contents) 0 [] ≡ get_or contents place []
-first_from contents place = first_of contents place []
+pub first_from : (contents : List (List ℕ)) (index : ℕ) → get_or (drop index contents) 0 [] ≡ get_or contents index []
+first_from contents index = first_of contents index []
 
-pub others_from : (contents : List (List ℕ)) (place : ℕ) → drop 1 (drop place contents) ≡ drop (place + 1) contents
-others_from contents place = drop-drop 1 place contents
+pub others_from : (contents : List (List ℕ)) (index : ℕ) → drop 1 (drop index contents) ≡ drop (index + 1) contents
+others_from contents index = drop-drop 1 index contents

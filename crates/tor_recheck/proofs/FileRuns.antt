@@ -76,12 +76,12 @@ module _ (contents : List (List ℕ)) (p : ℕ) (pos : 0 < p) where
       )
 
   -- a file of m bytes, the padding after it, and the bytes after that
-  module _ (place m tail : ℕ) (units : List PlanUnit) (rest : Found) (runs : AreRuns units rest) where
+  module _ (index m tail : ℕ) (units : List PlanUnit) (rest : Found) (runs : AreRuns units rest) where
     abbrev content : List ℕ
-    content = get_or contents place []
+    content = get_or contents index []
 
     abbrev unit_at : ℕ → PlanUnit
-    unit_at = file_unit p place m tail
+    unit_at = file_unit p index m tail
 
     -- what comes from the file's k-th piece on
     abbrev from : ℕ → Found
@@ -185,5 +185,5 @@ module _ (contents : List (List ℕ)) (p : ℕ) (pos : 0 < p) where
 
     -- the units of the file, and those after them
     pub file_runs : 0 < m → (m + tail ≡ div_ceil m p * p) ⊎ ((rest ≡ []) × (tail ≡ 0))
-        → AreRuns (units_of_file p place m tail ++ units) (file_bytes m content ++ (there (zeros tail) ++ rest))
+        → AreRuns (units_of_file p index m tail ++ units) (file_bytes m content ++ (there (zeros tail) ++ rest))
     file_runs some ending = counted (div_ceil m p) (div_ceil_times m p pos) ending some

@@ -86,14 +86,14 @@ pub drop-file : (s m : ℕ) (content : List ℕ) → drop s (file_bytes m conten
 drop-file s m content =
     ap (drop s) (are_first m content) ∙ drop-first s m content ∙ sym (are_first (m - s) (drop s content))
 
--- n bytes of it from place s on
+-- n bytes of it from offset s on
 pub part-file : (s n m : ℕ) (content : List ℕ) → n ≤ m - s
     → take n (drop s (file_bytes m content)) ≡ file_bytes n (drop s content)
 part-file s n m content le =
     ap (λ xs. take n (drop s xs)) (are_first m content) ∙ ap (take n) (drop-first s m content)
     ∙ take-first n (m - s) (drop s content) le ∙ sym (are_first n (drop s content))
 
--- as many from place s on as there are, at most p
+-- as many from offset s on as there are, at most p
 pub run-file : (s p m : ℕ) (content : List ℕ)
     → take p (drop s (file_bytes m content)) ≡ file_bytes (min (m - s) p) (drop s content)
 run-file s p m content =
@@ -139,7 +139,7 @@ pub and_true : (b : Bool) → (b && true) ≡ b
 and_true true = refl
 and_true false = refl
 
--- n bytes from place s on are there where the last one is
+-- n bytes from offset s on are there where the last one is
 pub last_byte : (s n : ℕ) (content : List ℕ) → 0 < n
     → leb n (length (drop s content)) ≡ leb (s + n) (length content)
 last_byte s n content some =

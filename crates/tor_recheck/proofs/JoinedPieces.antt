@@ -25,84 +25,84 @@ module _ (contents : List (List ℕ)) where
       ∙ ap (λ xs. xs ++ others) (sym (there_append (zeros n) (zeros unit.zeros)))
       ∙ append_assoc (there (zeros n)) (there (zeros unit.zeros)) others
 
-  part_first : (place start n : ℕ) (unit : PlanUnit) → unit_bytes contents (after_part place start n unit)
-      ≡ file_bytes n (drop start (get_or contents place [])) ++ unit_bytes contents unit
+  part_first : (index start n : ℕ) (unit : PlanUnit) → unit_bytes contents (after_part index start n unit)
+      ≡ file_bytes n (drop start (get_or contents index [])) ++ unit_bytes contents unit
   unfolding zeros
-  part_first place start n unit =
-      append_assoc (file_bytes n (drop start (get_or contents place []))) (there (zeros unit.zeros))
+  part_first index start n unit =
+      append_assoc (file_bytes n (drop start (get_or contents index []))) (there (zeros unit.zeros))
       (flat_map (part_bytes contents) unit.parts)
 
   module _ (a b : ℕ) where
     -- the unit is what the range meets of the entries
-    record IsMet (place at : ℕ) (entries : List Entry) (unit : PlanUnit) : Type 0 where
+    record IsMet (index at : ℕ) (entries : List Entry) (unit : PlanUnit) : Type 0 where
       some : HaveBytes unit.parts
-      bytes : unit_bytes contents unit ≡ between a b at (joined_bytes entries (drop place contents))
+      bytes : unit_bytes contents unit ≡ between a b at (joined_bytes entries (drop index contents))
 
-    none : (place at : ℕ) → IsMet place at [] empty_unit
+    none : (index at : ℕ) → IsMet index at [] empty_unit
     unfolding zeros
-    none place at = record {
+    none index at = record {
       some = tt;
       bytes = sym (ap (take (b - max a at)) (drop_all (a - at) [] (omega arith))
           ∙ take_all (b - max a at) [] (omega arith));
     }
 
-    of_padding : (place at : ℕ) (path : Path) (m : ℕ) (entries : List Entry) (unit : PlanUnit)
-        → IsMet place (at + m) entries unit
-        → IsMet place at (padding path m ∷ entries) (after_zeros (shared a b at m) unit)
-    of_padding place at path m entries unit rest = record {
+    of_padding : (index at : ℕ) (path : Path) (m : ℕ) (entries : List Entry) (unit : PlanUnit)
+        → IsMet index (at + m) entries unit
+        → IsMet index at (padding path m ∷ entries) (after_zeros (shared a b at m) unit)
+    of_padding index at path m entries unit rest = record {
       some = rest.some;
       bytes = zeros_first (shared a b at m) unit ∙ ap₂ (λ xs ys. xs ++ ys) (between-zeros a b at m) rest.bytes
-          ∙ sym (between-append a b at m (there (zeros m)) (joined_bytes entries (drop place contents))
+          ∙ sym (between-append a b at m (there (zeros m)) (joined_bytes entries (drop index contents))
           (length-zeros m));
     }
 
     -- a file of which these bytes are met
-    of_file : (place at : ℕ) (path : Path) (m : ℕ) (entries : List Entry) (part : Found) (unit : PlanUnit)
-        → part ≡ file_bytes (shared a b at m) (drop (max a at - at) (get_or contents place []))
-        → IsMet (place + 1) (at + m) entries unit
-        → part ++ unit_bytes contents unit ≡ between a b at (joined_bytes (file path m ∷ entries) (drop place contents))
-    of_file place at path m entries part unit is rest =
-        let content = get_or contents place [] in
-        let later = drop (place + 1) contents in
+    of_file : (index at : ℕ) (path : Path) (m : ℕ) (entries : List Entry) (part : Found) (unit : PlanUnit)
+        → part ≡ file_bytes (shared a b at m) (drop (max a at - at) (get_or contents index []))
+        → IsMet (index + 1) (at + m) entries unit
+        → part ++ unit_bytes contents unit ≡ between a b at (joined_bytes (file path m ∷ entries) (drop index contents))
+    of_file index at path m entries part unit is rest =
+        let content = get_or contents index [] in
+        let later = drop (index + 1) contents in
         ap₂ (λ xs ys. xs ++ ys) (is ∙ between-file a b at m content) rest.bytes
         ∙ sym (between-append a b at m (file_bytes m content) (joined_bytes entries later) (length-file m content))
         ∙ sym (ap₂ (λ one others. between a b at (file_bytes m one ++ joined_bytes entries others))
-        (first_from contents place) (others_from contents place))
+        (first_from contents index) (others_from contents index))
 
-    met : (place at : ℕ) (path : Path) (m : ℕ) (entries : List Entry) → 0 < shared a b at m
-        → unit_within a b place at (file path m ∷ entries)
-        ≡ after_part place (max a at - at) (shared a b at m) (unit_within a b (place + 1) (at + m) entries)
+    met : (index at : ℕ) (path : Path) (m : ℕ) (entries : List Entry) → 0 < shared a b at m
+        → unit_within a b index at (file path m ∷ entries)
+        ≡ after_part index (max a at - at) (shared a b at m) (unit_within a b (index + 1) (at + m) entries)
     unfolding unit_within
-    met place at path m entries some = cond-true _ _ _ (lt-ltb 0 (shared a b at m) some)
+    met index at path m entries some = cond-true _ _ _ (lt-ltb 0 (shared a b at m) some)
 
-    not_met : (place at : ℕ) (path : Path) (m : ℕ) (entries : List Entry) → shared a b at m ≤ 0
-        → unit_within a b place at (file path m ∷ entries) ≡ unit_within a b (place + 1) (at + m) entries
+    not_met : (index at : ℕ) (path : Path) (m : ℕ) (entries : List Entry) → shared a b at m ≤ 0
+        → unit_within a b index at (file path m ∷ entries) ≡ unit_within a b (index + 1) (at + m) entries
     unfolding unit_within
-    not_met place at path m entries few = cond-false _ _ _ (le-ltb 0 (shared a b at m) few)
+    not_met index at path m entries few = cond-false _ _ _ (le-ltb 0 (shared a b at m) few)
 
-    is_met : (place at : ℕ) (entries : List Entry) → IsMet place at entries (unit_within a b place at entries)
+    is_met : (index at : ℕ) (entries : List Entry) → IsMet index at entries (unit_within a b index at entries)
     unfolding unit_within
-    is_met place at [] = none place at
-    is_met place at (entry ∷ entries) = entry_cases
-        (λ e. IsMet place at (e ∷ entries) (unit_within a b place at (e ∷ entries)))
-        (λ path m. of_padding place at path m entries _ (is_met place (at + m) entries))
+    is_met index at [] = none index at
+    is_met index at (entry ∷ entries) = entry_cases
+        (λ e. IsMet index at (e ∷ entries) (unit_within a b index at (e ∷ entries)))
+        (λ path m. of_padding index at path m entries _ (is_met index (at + m) entries))
         (λ path m.
-        let later = unit_within a b (place + 1) (at + m) entries in
-        let rest = is_met (place + 1) (at + m) entries in
+        let later = unit_within a b (index + 1) (at + m) entries in
+        let rest = is_met (index + 1) (at + m) entries in
         let n = shared a b at m in
         let s = max a at - at in
         elim (cases_lt 0 n) [
-          | inl some ↦ subst (IsMet place at (file path m ∷ entries)) (sym (met place at path m entries some)) (record {
+          | inl some ↦ subst (IsMet index at (file path m ∷ entries)) (sym (met index at path m entries some)) (record {
             some = (some, rest.some);
-            bytes = part_first place s n later ∙ of_file place at path m entries _ later refl rest;
+            bytes = part_first index s n later ∙ of_file index at path m entries _ later refl rest;
           })
           | inr few ↦
-              subst (IsMet place at (file path m ∷ entries)) (sym (not_met place at path m entries few)) (record {
+              subst (IsMet index at (file path m ∷ entries)) (sym (not_met index at path m entries few)) (record {
                 some = rest.some;
-                bytes = of_file place at path m entries [] later
-                    (sym (ap (λ k. file_bytes k (drop s (get_or contents place [])))
+                bytes = of_file index at path m entries [] later
+                    (sym (ap (λ k. file_bytes k (drop s (get_or contents index [])))
                     (let e : n ≡ 0 = omega (arith, few) in e)
-                    ∙ no_bytes (drop s (get_or contents place []))))
+                    ∙ no_bytes (drop s (get_or contents index []))))
                     rest;
               })
         ]) entry

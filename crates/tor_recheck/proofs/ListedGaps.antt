@@ -25,37 +25,37 @@ no_more_filled (file ∷ files) none =
     omega (arith, gap_at_other file files parts.0, no_more_filled files parts.1, sum_by-cons size_of file files)
 
 begins_at : (filled : Bool) (m n : ℕ) → filled ≡ true → (filled && not (eqb m n)) ≡ false → m ≡ n
-begins_at true m n filled placed = eqb-true m n (not-false (eqb m n) placed)
-begins_at false m n filled placed = cc
+begins_at true m n filled aligned = eqb-true m n (not-false (eqb m n) aligned)
+begins_at false m n filled aligned = cc
 
 module _ (p : ℕ) where
-  abbrev pub IsPlaced : List ListedFile → List ListedFile → Type 0
-  IsPlaced earlier files = is_misaligned_after p earlier files ≡ false
+  abbrev pub IsAligned : List ListedFile → List ListedFile → Type 0
+  IsAligned earlier files = is_misaligned_after p earlier files ≡ false
 
   -- where a list begins with a file: that file begins where it is to, and so do the others
   first_begins : (earlier : List ListedFile) (file : ListedFile) (files : List ListedFile)
-      → IsPlaced earlier (file ∷ files) → is_filled file ≡ true → joined_size earlier ≡ aligned_after p earlier
-  first_begins earlier file files placed filled =
+      → IsAligned earlier (file ∷ files) → is_filled file ≡ true → joined_size earlier ≡ aligned_after p earlier
+  first_begins earlier file files aligned filled =
       begins_at (is_filled file) (joined_size earlier) (aligned_after p earlier) filled
       (or_parts (is_filled file && not (eqb (joined_size earlier) (aligned_after p earlier)))
-      (is_misaligned_after p (earlier ++ file ∷ []) files) placed).0
+      (is_misaligned_after p (earlier ++ file ∷ []) files) aligned).0
 
-  pub others_placed : (earlier : List ListedFile) (file : ListedFile) (files : List ListedFile)
-      → IsPlaced earlier (file ∷ files) → IsPlaced (earlier ++ file ∷ []) files
-  others_placed earlier file files placed =
+  pub others_aligned : (earlier : List ListedFile) (file : ListedFile) (files : List ListedFile)
+      → IsAligned earlier (file ∷ files) → IsAligned (earlier ++ file ∷ []) files
+  others_aligned earlier file files aligned =
       (or_parts (is_filled file && not (eqb (joined_size earlier) (aligned_after p earlier)))
-      (is_misaligned_after p (earlier ++ file ∷ []) files) placed).1
+      (is_misaligned_after p (earlier ++ file ∷ []) files) aligned).1
 
-  pub to_next_filled : (earlier files : List ListedFile) → IsPlaced earlier files → has_filled files ≡ true
+  pub to_next_filled : (earlier files : List ListedFile) → IsAligned earlier files → has_filled files ≡ true
       → joined_size earlier + gap files ≡ aligned_after p earlier
-  to_next_filled earlier [] placed some = cc
-  to_next_filled earlier (file ∷ files) placed some = elim (cases_Bool (is_filled file)) [
+  to_next_filled earlier [] aligned some = cc
+  to_next_filled earlier (file ∷ files) aligned some = elim (cases_Bool (is_filled file)) [
     | inl filled ↦
-        omega (arith, gap_at_filled file files filled, first_begins earlier file files placed filled)
+        omega (arith, gap_at_filled file files filled, first_begins earlier file files aligned filled)
     | inr other ↦
         let some_later : has_filled files ≡ true = sym (ap (λ b. b || has_filled files) other) ∙ some in
         let next =
-        to_next_filled (earlier ++ file ∷ []) files (others_placed earlier file files placed) some_later in
+        to_next_filled (earlier ++ file ∷ []) files (others_aligned earlier file files aligned) some_later in
         omega (
           arith,
           next,
@@ -66,9 +66,9 @@ module _ (p : ℕ) where
   ]
 
   pub after_filled : (earlier : List ListedFile) (file : ListedFile) (files : List ListedFile)
-      → IsPlaced earlier (file ∷ files) → is_filled file ≡ true → has_filled files ≡ true
+      → IsAligned earlier (file ∷ files) → is_filled file ≡ true → has_filled files ≡ true
       → gap files ≡ padding_length p file.size
-  after_filled earlier file files placed filled some =
-      let begins = first_begins earlier file files placed filled in
-      let next = to_next_filled (earlier ++ file ∷ []) files (others_placed earlier file files placed) some in
+  after_filled earlier file files aligned filled some =
+      let begins = first_begins earlier file files aligned filled in
+      let next = to_next_filled (earlier ++ file ∷ []) files (others_aligned earlier file files aligned) some in
       omega (arith, begins, next, joined_more earlier file, aligned_with_filled p earlier file filled)

@@ -6,7 +6,7 @@ use Rattle.std.proofs.lemmas.Bool.{cases_Bool}
 use Rattle.tor_plan.specs.EntryList as entry_list
 use Rattle.tor_plan.specs.EntryList.{ArePadded, IsLaidOut, IsPaddedTo}
 use Rattle.tor_recheck.proofs.ListedFiles.{entries_of, filled_as_entry, gap, size_of_entry}
-use Rattle.tor_recheck.proofs.ListedGaps.{after_filled, has_filled, IsPlaced, no_more_filled, others_placed}
+use Rattle.tor_recheck.proofs.ListedGaps.{after_filled, has_filled, IsAligned, no_more_filled, others_aligned}
 use Rattle.tor_recheck.proofs.ListedGaps.{to_next_filled}
 use Rattle.tor_recheck.proofs.ListedTails.{behind_last, none_at_all}
 use Rattle.tor_spec.specs.valid.ListSide.{ListedFile}
@@ -19,10 +19,10 @@ filled_entries (file ∷ files) = ap₂ (λ a b. a || b) (filled_as_entry file) 
 
 module _ (p : ℕ) where
   padded_to : (earlier : List ListedFile) (file : ListedFile) (files : List ListedFile)
-      → IsPlaced p earlier (file ∷ files) → has_wrong_tail p (earlier ++ file ∷ files) ≡ false
+      → IsAligned p earlier (file ∷ files) → has_wrong_tail p (earlier ++ file ∷ files) ≡ false
       → is_filled file ≡ true → IsPaddedTo p file.size (entries_of files)
-  padded_to earlier file files placed right filled = elim (cases_Bool (has_filled files)) [
-    | inl some ↦ inl (after_filled p earlier file files placed filled some)
+  padded_to earlier file files aligned right filled = elim (cases_Bool (has_filled files)) [
+    | inl some ↦ inl (after_filled p earlier file files aligned filled some)
     | inr none ↦
         let all = no_more_filled files none in
         elim (behind_last p earlier file files right filled none) [
@@ -31,26 +31,26 @@ module _ (p : ℕ) where
         ]
   ]
 
-  are_padded : (earlier files : List ListedFile) → IsPlaced p earlier files
+  are_padded : (earlier files : List ListedFile) → IsAligned p earlier files
       → has_wrong_tail p (earlier ++ files) ≡ false → ArePadded p (entries_of files)
   unfolding ArePadded
-  are_padded earlier [] placed right = tt
-  are_padded earlier (file ∷ files) placed right = (
+  are_padded earlier [] aligned right = tt
+  are_padded earlier (file ∷ files) aligned right = (
     (λ filled.
         subst (λ (m : ℕ). IsPaddedTo p m (entries_of files)) (sym (size_of_entry file))
-        (padded_to earlier file files placed right (sym (filled_as_entry file) ∙ filled))),
-    are_padded (earlier ++ file ∷ []) files (others_placed p earlier file files placed)
+        (padded_to earlier file files aligned right (sym (filled_as_entry file) ∙ filled))),
+    are_padded (earlier ++ file ∷ []) files (others_aligned p earlier file files aligned)
         (subst (λ (all : List ListedFile). has_wrong_tail p all ≡ false)
         (sym (append_assoc earlier (file ∷ []) files)) right),
   )
 
-  none_before : (files : List ListedFile) → IsPlaced p [] files → has_wrong_tail p files ≡ false → gap files ≡ 0
-  none_before files placed right = elim (cases_Bool (has_filled files)) [
-    | inl some ↦ omega (arith, to_next_filled p [] files placed some)
+  none_before : (files : List ListedFile) → IsAligned p [] files → has_wrong_tail p files ≡ false → gap files ≡ 0
+  none_before files aligned right = elim (cases_Bool (has_filled files)) [
+    | inl some ↦ omega (arith, to_next_filled p [] files aligned some)
     | inr none ↦ no_more_filled files none ∙ none_at_all p files right none
   ]
 
-  pub laid_out : (files : List ListedFile) → IsPlaced p [] files → has_wrong_tail p files ≡ false
+  pub laid_out : (files : List ListedFile) → IsAligned p [] files → has_wrong_tail p files ≡ false
       → IsLaidOut Hybrid p (entries_of files)
   unfolding IsLaidOut
-  laid_out files placed right = (none_before files placed right, are_padded [] files placed right)
+  laid_out files aligned right = (none_before files aligned right, are_padded [] files aligned right)

@@ -44,15 +44,15 @@ module _ (view : View) (contents : List (List ℕ)) (some : 0 < view.piece_lengt
   abbrev pub has_hash : PlanUnit → List ℕ → Bool
   has_hash unit hash = is_there contents unit && bytes_eq (piece_root view contents unit) hash
 
-  each_piece : (place : ℕ) (told : FileView) (tail k : ℕ) → get_or view.files place no_file ≡ told
+  each_piece : (index : ℕ) (told : FileView) (tail k : ℕ) → get_or view.files index no_file ≡ told
       → k * p < length_of told
-      → has_hash (file_unit p place (length_of told) tail k) (told_hash p told k)
-      ≡ is_merkle_piece p told (get_or contents place []) k
-  each_piece place told tail k here begun =
+      → has_hash (file_unit p index (length_of told) tail k) (told_hash p told k)
+      ≡ is_merkle_piece p told (get_or contents index []) k
+  each_piece index told tail k here begun =
       let m = length_of told in
       let s = k * p in
       let n = min (m - s) p in
-      let content = get_or contents place [] in
+      let content = get_or contents index [] in
       let rest = drop s content in
       let run : run_at p (file_bytes m content) k ≡ file_bytes n rest = run-file s p m content in
       let whole = sym (ap is_whole run ∙ whole_file n rest ∙ last_byte s n content (omega (arith, some, begun))) in
@@ -64,66 +64,66 @@ module _ (view : View) (contents : List (List ℕ)) (some : 0 < view.piece_lengt
       ∙ bytes_there (take n rest) in
       ap₂ (λ one xs. bytes_eq (merkle_hash p one xs) (told_hash p told k)) here (sym bytes))
 
-  each_file : (place : ℕ) (told : FileView) (tail : ℕ) → get_or view.files place no_file ≡ told
-      → judged has_hash (units_of_file p place (length_of told) tail) (hashes_of_file p told)
-      ≡ file_pieces p told (get_or contents place [])
-  each_file place told tail here =
+  each_file : (index : ℕ) (told : FileView) (tail : ℕ) → get_or view.files index no_file ≡ told
+      → judged has_hash (units_of_file p index (length_of told) tail) (hashes_of_file p told)
+      ≡ file_pieces p told (get_or contents index [])
+  each_file index told tail here =
       let m = length_of told in
-      judged-map has_hash (file_unit p place m tail) (told_hash p told) (range_with_len 0 (div_ceil m p))
-      ∙ same_values _ (is_merkle_piece p told (get_or contents place [])) (div_ceil m p) false
-      (λ k lt. each_piece place told tail k here (begins_within m p k some lt))
+      judged-map has_hash (file_unit p index m tail) (told_hash p told) (range_with_len 0 (div_ceil m p))
+      ∙ same_values _ (is_merkle_piece p told (get_or contents index [])) (div_ceil m p) false
+      (λ k lt. each_piece index told tail k here (begins_within m p k some lt))
 
-  -- these units are judged by the hashes of these files, of which the first has this place
-  record AreJudged (place : ℕ) (units : List PlanUnit) (files : List FileView) : Type 0 where
+  -- these units are judged by the hashes of these files, of which the first has this index
+  record AreJudged (index : ℕ) (units : List PlanUnit) (files : List FileView) : Type 0 where
     same : length units ≡ length (flat_map (hashes_of_file p) files)
-    pieces : merkle_pieces p files (drop place contents) ≡ judged has_hash units (flat_map (hashes_of_file p) files)
+    pieces : merkle_pieces p files (drop index contents) ≡ judged has_hash units (flat_map (hashes_of_file p) files)
 
-  one_more : (place m tail : ℕ) (told : FileView) (files : List FileView) (units : List PlanUnit)
-      → get_or view.files place no_file ≡ told → m ≡ length_of told → AreJudged (place + 1) units files
-      → AreJudged place (units_of_file p place m tail ++ units) (told ∷ files)
-  one_more place m tail told files units here long rest =
-      let first = units_of_file p place m tail in
+  one_more : (index m tail : ℕ) (told : FileView) (files : List FileView) (units : List PlanUnit)
+      → get_or view.files index no_file ≡ told → m ≡ length_of told → AreJudged (index + 1) units files
+      → AreJudged index (units_of_file p index m tail ++ units) (told ∷ files)
+  one_more index m tail told files units here long rest =
+      let first = units_of_file p index m tail in
       let hashes = hashes_of_file p told in
       let others = flat_map (hashes_of_file p) files in
       let count : length first ≡ length hashes =
-      length-map-range_with_len (file_unit p place m tail) 0 (div_ceil m p) ∙ ap (λ n. div_ceil n p) long
+      length-map-range_with_len (file_unit p index m tail) 0 (div_ceil m p) ∙ ap (λ n. div_ceil n p) long
       ∙ sym (length-map-range_with_len (told_hash p told) 0 (div_ceil (length_of told) p)) in
       record {
         same = length-append first units ∙ ap₂ (λ a b. a + b) count rest.same ∙ sym (length-append hashes others);
-        pieces = ap₂ (λ one xs. file_pieces p told one ++ merkle_pieces p files xs) (first_from contents place)
-            (others_from contents place)
-            ∙ ap₂ (λ xs ys. xs ++ ys) (sym (each_file place told tail here)
-            ∙ ap (λ n. judged has_hash (units_of_file p place n tail) hashes) (sym long)) rest.pieces
+        pieces = ap₂ (λ one xs. file_pieces p told one ++ merkle_pieces p files xs) (first_from contents index)
+            (others_from contents index)
+            ∙ ap₂ (λ xs ys. xs ++ ys) (sym (each_file index told tail here)
+            ∙ ap (λ n. judged has_hash (units_of_file p index n tail) hashes) (sym long)) rest.pieces
             ∙ sym (judged-append has_hash first units hashes others count);
       }
 
-  of_file : (place : ℕ) (path : Path) (m : ℕ) (entries : List Entry) (files : List FileView)
-      → drop place view.files ≡ files → m ∷ lengths_of_entries entries ≡ map length_of files
-      → ((later : List FileView) → drop (place + 1) view.files ≡ later
+  of_file : (index : ℕ) (path : Path) (m : ℕ) (entries : List Entry) (files : List FileView)
+      → drop index view.files ≡ files → m ∷ lengths_of_entries entries ≡ map length_of files
+      → ((later : List FileView) → drop (index + 1) view.files ≡ later
       → lengths_of_entries entries ≡ map length_of later
-      → AreJudged (place + 1) (separate_entry_units p (place + 1) entries) later)
-      → AreJudged place (separate_entry_units p place (file path m ∷ entries)) files
+      → AreJudged (index + 1) (separate_entry_units p (index + 1) entries) later)
+      → AreJudged index (separate_entry_units p index (file path m ∷ entries)) files
   unfolding separate_entry_units
-  of_file place path m entries [] from lengths rest = cc
-  of_file place path m entries (told ∷ files) from lengths rest =
-      let here : get_or view.files place no_file ≡ told =
-      sym (first_of view.files place no_file) ∙ ap (λ xs. get_or xs 0 no_file) from in
-      let after : drop (place + 1) view.files ≡ files = sym (drop-drop 1 place view.files) ∙ ap (drop 1) from in
+  of_file index path m entries [] from lengths rest = cc
+  of_file index path m entries (told ∷ files) from lengths rest =
+      let here : get_or view.files index no_file ≡ told =
+      sym (first_of view.files index no_file) ∙ ap (λ xs. get_or xs 0 no_file) from in
+      let after : drop (index + 1) view.files ≡ files = sym (drop-drop 1 index view.files) ∙ ap (drop 1) from in
       let long : m ≡ length_of told = cc in
       let others : lengths_of_entries entries ≡ map length_of files = cc in
-      one_more place m (padding_before_next entries) told files (separate_entry_units p (place + 1) entries) here long
+      one_more index m (padding_before_next entries) told files (separate_entry_units p (index + 1) entries) here long
       (rest files after others)
 
-  are_judged : (place : ℕ) (entries : List Entry) (files : List FileView) → drop place view.files ≡ files
-      → lengths_of_entries entries ≡ map length_of files → AreJudged place (separate_entry_units p place entries) files
+  are_judged : (index : ℕ) (entries : List Entry) (files : List FileView) → drop index view.files ≡ files
+      → lengths_of_entries entries ≡ map length_of files → AreJudged index (separate_entry_units p index entries) files
   unfolding separate_entry_units
-  are_judged place [] [] from lengths = record { same = refl; pieces = refl }
-  are_judged place [] (told ∷ files) from lengths = cc
-  are_judged place (entry ∷ entries) files from lengths = entry_cases
+  are_judged index [] [] from lengths = record { same = refl; pieces = refl }
+  are_judged index [] (told ∷ files) from lengths = cc
+  are_judged index (entry ∷ entries) files from lengths = entry_cases
       (λ e. lengths_of_entries (e ∷ entries) ≡ map length_of files
-      → AreJudged place (separate_entry_units p place (e ∷ entries)) files)
-      (λ path m same. are_judged place entries files from same)
-      (λ path m same. of_file place path m entries files from same (are_judged (place + 1) entries)) entry lengths
+      → AreJudged index (separate_entry_units p index (e ∷ entries)) files)
+      (λ path m same. are_judged index entries files from same)
+      (λ path m same. of_file index path m entries files from same (are_judged (index + 1) entries)) entry lengths
 
   -- all pieces
   module _ (entries : List Entry) (lengths : lengths_of_entries entries ≡ map length_of view.files) where

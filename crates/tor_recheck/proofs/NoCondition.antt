@@ -1,4 +1,4 @@
--- What a tree of which no condition holds keeps to: its piece length, its lengths, and the places of its files.
+-- What a tree of which no condition holds keeps to: its piece length, its lengths, and the alignment of its files.
 use Rattle.std.proofs.Common.{◌≡◌, ℕ, ℤ, pos, negsuc, ◌<◌, true, false, Bool, not, ◌&&◌, List, [], ◌∷◌, Option, None}
 use Rattle.std.proofs.Common.{Some, codes, cond, find, get_or, lit<, nat_le, refl, unsigned_abs, unwrap_or}
 use Rattle.std.specs.List.{AllByRecursion}
@@ -38,7 +38,7 @@ found_none : {C : Type 0} (p : C → Bool) (cs : List C) → find p cs ≡ None 
 found_none p [] e = tt
 found_none p (c ∷ cs) e = found_in_front p c cs (found_none p cs) e
 
--- the condition at a place of the row, counted from V2, does not hold
+-- the condition at an index of the row, counted from V2, does not hold
 not_held : (root : Data) → refusal_of root ≡ None → (i : ℕ) → i < 22
     → holds root (get_or conditions i named.RootShape) ≡ false
 not_held root none i within =
@@ -81,7 +81,7 @@ pub record IsKept (kind : Kind) (info : Data) : Type 0 where
   pub list : has_v1 kind ≡ true → list_too_large info ≡ false
   pub tree : has_v2 kind ≡ true → tree_too_large info ≡ false
   pub files : has_v1 kind ≡ true → has_v2 kind ≡ true → files_differ info ≡ false
-  pub places : has_v1 kind ≡ true → has_v2 kind ≡ true → alignment info ≡ false
+  pub aligned : has_v1 kind ≡ true → has_v2 kind ≡ true → alignment info ≡ false
 
 pub kept : (root : Data) → refusal_of root ≡ None → IsKept (kind_of (info_of root)) (info_of root)
 kept root none =
@@ -90,12 +90,12 @@ kept root none =
     let v2 = has_v2 (kind_of info) in
     let large = or_parts (v1 && list_too_large info) (v2 && tree_too_large info) (not_held root none 11 (lit< tt)) in
     let differ = of_side v1 (v2 && files_differ info) (not_held root none 20 (lit< tt)) in
-    let misplaced = of_side v1 (v2 && alignment info) (not_held root none 21 (lit< tt)) in
+    let misaligned = of_side v1 (v2 && alignment info) (not_held root none 21 (lit< tt)) in
     record {
       pieces = allowed_by (kind_of info) (as_integer (value_of (codes "piece length") info))
           (not_held root none 3 (lit< tt));
       list = of_side v1 (list_too_large info) large.0;
       tree = of_side v2 (tree_too_large info) large.1;
       files = λ one two. of_side v2 (files_differ info) (differ one) two;
-      places = λ one two. of_side v2 (alignment info) (misplaced one) two;
+      aligned = λ one two. of_side v2 (alignment info) (misaligned one) two;
     }

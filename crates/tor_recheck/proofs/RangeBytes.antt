@@ -1,4 +1,4 @@
--- The bytes from one place to another of bytes that may be missing.
+-- The bytes from one offset to another of bytes that may be missing.
 use Rattle.std.proofs.Common.{◌≡◌, ℕ, ◌+◌, ◌-◌, min, max, List, ◌++◌, length, take, drop, Some, arith}
 use Rattle.std.proofs.Common.{refl, ap, ap₂, ◌∙◌, sym, inl, inr, append-nil, length-drop}
 use Rattle.std.proofs.Math.Seq.{take-append-add}

@@ -5,7 +5,7 @@ use Rattle.std.specs.Int.{div_ceil}
 use Rattle.std.proofs.lemmas.Bool.{and_parts, eqb-true, not-false, or_parts}
 use Rattle.std.proofs.lemmas.List.Sums.{sum_by-cons}
 use Rattle.tor_bencode.specs.Data.{Data}
-use Rattle.tor_bencode.specs.Place.{place_of}
+use Rattle.tor_bencode.specs.Span.{span_of}
 use Rattle.tor_plan.specs.EntryList.{IsLaidOut}
 use Rattle.tor_recheck.specs.Pieces.{IsCut}
 use Rattle.tor_recheck.proofs.EntryBounds.{lengths_told, no_padding_told, small_listed, small_told}
@@ -95,7 +95,7 @@ view_as root kind =
       files = cond (has_v2 kind) (told_files root) (map file_of_list (listed_files info));
       entries = cond (has_v1 kind) (map entry_of_file (side_files info)) [];
       pieces = cond (has_v1 kind) (text_of (part (codes "pieces") info)) [];
-      info_span = unwrap_or (place_of (codes "info") root) (0, 0);
+      info_span = unwrap_or (span_of (codes "info") root) (0, 0);
       piece_count = cond (has_v2 kind) (tree_piece_count info) (side_piece_count info);
     }
 
@@ -136,12 +136,12 @@ module _ (root : Data) where
   hybrid_cut kept =
       let files = side_files info in
       let small = small_listed files (kept.list refl) in
-      let places = or_parts (is_misaligned_after p [] files) (has_wrong_tail p files) (kept.places refl refl) in
+      let aligned = or_parts (is_misaligned_after p [] files) (has_wrong_tail p files) (kept.aligned refl refl) in
       record {
         entries = record {
           total = small.total;
           files = small.files;
-          laid_out = laid_out p files places.0 places.1;
+          laid_out = laid_out p files aligned.0 aligned.1;
         };
         pieces = kept.pieces;
         same = λ one. lengths_of_listed files ∙ sides_same root (kept.files refl refl);

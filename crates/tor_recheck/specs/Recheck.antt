@@ -1,4 +1,4 @@
--- What a recheck tells of a source: which pieces are there and right, or why that is not told.
+-- What a recheck tells of a source: which pieces are there and right, or why that is not answered.
 use Rattle.std.specs.Prelude.{◌≡◌, ◌⊎◌, ℕ, ◌<◌, length, Option, Some}
 use Rattle.std.specs.Prelude.{option_map}
 use Rattle.std.specs.Option.{option_or}
@@ -30,7 +30,7 @@ first_fault facts view =
 abbrev pub IsFault : {F : Type 0} → Option (RecheckError F) → RecheckError F → Type 0
 IsFault first error = (error ≡ Resources) ⊎ (first ≡ Some error)
 
--- a fault of the source is one that it gave, for this file and place; the file that is named is one of so many
+-- a fault of the source is one that it gave, for this file and offset; the file that is named is one of so many
 abbrev pub IsGiven : {F : Type 0} → (ℕ → Option ℕ → F → Type 0) → ℕ → RecheckError F → Type 0
 IsGiven gave count (Read file start fault) = gave file start fault × (file < count)
 IsGiven gave count (Changed file) = file < count

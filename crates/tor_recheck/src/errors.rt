@@ -1,4 +1,4 @@
-//! Why it is not told which pieces are there and right.
+//! Why it is not answered which pieces are there and right.
 ghost use Rattle.std.specs.Prelude.{◌≡◌};
 ghost use Rattle.tor_recheck.specs.Recheck.{of_engine_error};
 ghost use Rattle.tor_recheck.specs.declared.errors.RecheckError.TheVariants.{Resources};
@@ -7,7 +7,7 @@ use std::alloc::{AllocError, AllocFailed};
 use thiserror::Error;
 use tor_engine::EngineError;
 
-/// Why it is not told which pieces are there and right. A file is named by its place among the torrent's files,
+/// Why it is not answered which pieces are there and right. A file is named by its index among the torrent's files,
 /// padding not counted.
 #[derive(Debug, Drop, Error)]
 pub enum RecheckError<F> {

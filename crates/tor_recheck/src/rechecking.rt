@@ -33,7 +33,7 @@ const SPAN: u32 = 16;
 /// when all its bytes are there, and have each hash that the torrent has for it; padding is always there. A file may be
 /// missing, shorter or longer than the torrent says; bytes past its length there are not read, nor is a piece that is
 /// not wholly there. The workers are judged first; then each length is asked, the pieces are read, and each length is
-/// asked again. The first fault is told, whatever the `How`. Of any source there is one bit for each piece.
+/// asked again. The first fault is answered, whatever the `How`. Of any source there is one bit for each piece.
 pub fn recheck<S: Source, R: Threads + Sync>(
     rt: &R,
     alloc: Global,

@@ -8,7 +8,7 @@ use std::alloc::{AllocError, Global};
 use tor_check::{Torrent, ViewFile};
 use tor_tree::Hash;
 
-/// For each piece of each file: of a file longer than a piece the hash at its place in the layer, of another the root
+/// For each piece of each file: of a file longer than a piece the hash at its index in the layer, of another the root
 /// of the file; none where the torrent has none.
 pub(crate) fn told_hashes(alloc: Global, torrent: &Torrent) -> Result<Vec<Option<Hash>>, AllocError>
     ensures { IfOk result (λ told. texts_of told.items ≡ told_hashes torrent.now) }
@@ -47,7 +47,7 @@ fn told_at(piece_length: u64, file: &ViewFile, index: u64) -> Option<Hash>
     }
 }
 
-/// That of the piece at this place.
+/// That of the piece at this index.
 pub(crate) fn root_at(told: &[Option<Hash>], index: usize) -> Option<Hash>
     ensures { unwrap_or result [] ≡ slice_index_or (texts_of told.now) index [] }
 {

@@ -17,7 +17,7 @@ abbrev pub fault_of_kind : ErrorKind → ScanFault
 fault_of_kind OutOfMemory = faults.Memory
 fault_of_kind _ = faults.System
 
--- nothing is at the place, or its path leads through a file
+-- nothing is at the place, or it leads through a file
 abbrev pub is_absence : ErrorKind → Bool
 is_absence NotFound = true
 is_absence NotADirectory = true

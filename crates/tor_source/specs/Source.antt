@@ -3,7 +3,7 @@ use Rattle.std.specs.Prelude.{◌≡◌, ◌≤◌, ◌<◌, ◌+◌, ◌⊎◌,
 use Rattle.std.specs.Prelude.{Ok, Err, MatchResult, option_map, unwrap_or}
 
 -- what a source has: the bytes of each file, none where it is missing; and the faults, of the length of a file and of
--- the byte at a place of a file
+-- the byte at an offset of a file
 pub record SourceFacts (F : Type 0) : Type 0 where
   pub contents : ℕ → Option (List ℕ)
   pub length_fault : ℕ → Option F
@@ -18,11 +18,11 @@ unless_fault None value = Ok value
 abbrev pub told_length : {F : Type 0} → SourceFacts F → ℕ → Result (Option ℕ) F
 told_length facts file = unless_fault (facts.length_fault file) (option_map length (facts.contents file))
 
--- the bytes of a file from a place on; a missing file has none
+-- the bytes of a file from an offset on; a missing file has none
 abbrev pub bytes_from : {F : Type 0} → SourceFacts F → ℕ → ℕ → List ℕ
 bytes_from facts file start = drop start (unwrap_or (facts.contents file) [])
 
--- so many bytes of a file were read from a place on into a buffer, which was `old` and is now `new`: no byte that
+-- so many bytes of a file were read from an offset on into a buffer, which was `old` and is now `new`: no byte that
 -- fails is among them, and there is at least one, unless the buffer is empty or the file has no more
 pub record AreRead {F : Type 0} (facts : SourceFacts F) (file start : ℕ) (old new : List ℕ) (count : ℕ) : Type 0 where
   pub within : count ≤ length old
@@ -36,7 +36,7 @@ abbrev pub IsReadAt : {F : Type 0} → SourceFacts F → ℕ → ℕ → List �
 IsReadAt facts file start old new result =
     MatchResult result (AreRead facts file start old new) (λ fault. facts.byte_fault file start ≡ Some fault)
 
--- the fault of a place of a file: of its length, where the place is none, or of a byte
+-- the fault at an offset of a file: of a byte, or where the offset is none, of the length
 abbrev pub fault_at : {F : Type 0} → SourceFacts F → ℕ → Option ℕ → Option F
 fault_at facts file None = facts.length_fault file
-fault_at facts file (Some place) = facts.byte_fault file place
+fault_at facts file (Some offset) = facts.byte_fault file offset

@@ -16,27 +16,27 @@ mem_facts files = record {
   byte_fault = λ _ _. None;
 }
 
--- files, and faults at them: each is a file, a place, which is a byte of the file or none for its length, and a number
+-- files, and faults at them: each is a file, the offset of a byte, none for the length, and a number
 pub record FailingFiles : Type 0 where
   pub files : List (Option (List ℕ))
   pub faults : List (ℕ × Option ℕ × ℕ)
 
--- the fault is at this place
+-- the fault is at this offset
 abbrev pub is_at : ℕ → Option ℕ → (ℕ × Option ℕ × ℕ) → Bool
-is_at file place fault = fault.0 == file && option_eq nat_eq fault.1 place
+is_at file offset fault = fault.0 == file && option_eq nat_eq fault.1 offset
 
--- the number of the first fault at a place
+-- the number of the first fault at an offset
 abbrev pub first_fault : List (ℕ × Option ℕ × ℕ) → ℕ → Option ℕ → Option ℕ
-first_fault faults file place = option_map (λ fault. fault.2) (find (is_at file place) faults)
+first_fault faults file offset = option_map (λ fault. fault.2) (find (is_at file offset) faults)
 
--- of the faults at one place the first counts, and none at a byte that the file does not have
+-- of the faults at one offset the first counts, and none at a byte that the file does not have
 abbrev pub fail_facts : FailingFiles → SourceFacts ℕ
 fail_facts source = record {
   contents = content_of source.files;
   length_fault = λ file. first_fault source.faults file None;
-  byte_fault = λ file place.
-      if nat_lt place (length (unwrap_or (content_of source.files file) []))
-      then first_fault source.faults file (Some place) else None;
+  byte_fault = λ file offset.
+      if nat_lt offset (length (unwrap_or (content_of source.files file) []))
+      then first_fault source.faults file (Some offset) else None;
 }
 
 -- files, and the most bytes that one read gives

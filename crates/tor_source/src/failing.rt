@@ -1,4 +1,4 @@
-//! Files in memory, some places of which fail.
+//! Files in memory, of which some lengths and some bytes fail.
 ghost use Rattle.std.specs.Prelude.{◌≡◌, ◌<◌, ◌≤◌, ℕ, false, None, Some};
 ghost use Rattle.tor_source.specs.Source.{fault_at};
 ghost use Rattle.tor_source.specs.Sources.{fail_facts, first_fault, is_at};
@@ -7,8 +7,8 @@ use crate::memory::MemSource;
 use crate::source::Source;
 use std::marker::Model;
 
-/// Files in memory, and faults at them: each is a file, a place and a number. The place is a byte of the file, or None
-/// for its length. Of two faults at one place the first counts; one at a byte that the file does not have counts for
+/// Files in memory, and faults at them: each is a file, an offset and a number. The offset is that of a byte, or None
+/// for the length. Of two faults at one offset the first counts; one at a byte that the file does not have counts for
 /// nothing. Contracts see the files and the faults.
 #[derive(Drop)]
 pub struct FailSource {
@@ -39,7 +39,7 @@ impl Source for FailSource {
 
     ghost is_steady = { λ source facts. facts ≡ fail_facts source };
 
-    ghost gave = { λ source file place fault. fault_at (fail_facts source) file place ≡ Some fault };
+    ghost gave = { λ source file offset fault. fault_at (fail_facts source) file offset ≡ Some fault };
 
     fn length(&self, file: u64) -> Result<Option<u64>, u64> {
         match first_fault(&self.faults, file, None) {
@@ -65,19 +65,19 @@ impl Source for FailSource {
     }
 }
 
-// The number of the first fault at a place.
-fn first_fault(faults: &[(u64, Option<u64>, u64)], file: u64, place: Option<u64>) -> Option<u64>
-    ensures { result ≡ first_fault faults.now file place }
+// The number of the first fault at an offset.
+fn first_fault(faults: &[(u64, Option<u64>, u64)], file: u64, offset: Option<u64>) -> Option<u64>
+    ensures { result ≡ first_fault faults.now file offset }
 {
-    let fault = faults.iter().find(|fault| is_at(fault, file, place))?;
+    let fault = faults.iter().find(|fault| is_at(fault, file, offset))?;
     Some(fault.2)
 }
 
-// Whether the fault is at this place.
-fn is_at(fault: &(u64, Option<u64>, u64), file: u64, place: Option<u64>) -> bool
-    ensures { result ≡ is_at file place fault.now }
+// Whether the fault is at this offset.
+fn is_at(fault: &(u64, Option<u64>, u64), file: u64, offset: Option<u64>) -> bool
+    ensures { result ≡ is_at file offset fault.now }
 {
-    fault.0 == file && fault.1 == place
+    fault.0 == file && fault.1 == offset
 }
 
 // The first byte after `start` and before `end` at which there is a fault, or `end` where there is none.
@@ -102,7 +102,7 @@ fn nearer(fault: &(u64, Option<u64>, u64), file: u64, start: u64, next: u64) -> 
     ensures not_between { (k : ℕ) → start < k → k < result → is_at file (Some k) fault.now ≡ false }
 {
     match fault.1 {
-        Some(place) if fault.0 == file && start < place && place < next => place,
+        Some(offset) if fault.0 == file && start < offset && offset < next => offset,
         _ => next,
     }
 }

@@ -39,26 +39,26 @@ impl<R: Files> Model for FolderSource<R> {
 }
 
 impl<R: Files + AllocGlobal + Clone + Drop> FolderSource<R> {
-    /// All files below the folder `path`, in the order of their paths. A folder is listed whole, then its names are
+    /// All files below the folder `place`, in the order of their paths. A folder is listed whole, then its names are
     /// entered in the order of their bytes; the first fault so met is answered. Empty folders give nothing. The empty
-    /// path is no folder.
-    pub fn scan(rt: &R, path: &str) -> Result<(FolderSource<R>, Vec<FilePath>), ScanFault>
-        ensures placed { IfOk result (λ found. found.0 ≡ map (place_of path.now) found.1.items) }
+    /// place is no folder.
+    pub fn scan(rt: &R, place: &str) -> Result<(FolderSource<R>, Vec<FilePath>), ScanFault>
+        ensures placed { IfOk result (λ found. found.0 ≡ map (place_of place.now) found.1.items) }
         ensures rising { IfOk result (λ found. IsStrictlySortedBy path_cmp found.1.items) }
         ensures short { IfOk result (λ found. All (λ names. length names ≤ MAX_NAMES) found.1.items) }
-        ensures nowhere { path.now ≡ [] → result ≡ Err System }
+        ensures nowhere { place.now ≡ [] → result ≡ Err System }
     {
-        if path.is_empty() {
+        if place.is_empty() {
             return Err(ScanFault::System);
         }
-        let metadata = rt.metadata(path)?;
+        let metadata = rt.metadata(place)?;
         if metadata.is_file() {
             return Err(ScanFault::System);
         }
         if !metadata.is_dir() {
             return Err(ScanFault::NotRegular);
         }
-        let found = walk(rt, path)?;
+        let found = walk(rt, place)?;
         let source = FolderSource {
             rt: rt.clone()?,
             places: found.places,
@@ -66,13 +66,13 @@ impl<R: Files + AllocGlobal + Clone + Drop> FolderSource<R> {
         Ok((source, found.paths))
     }
 
-    /// These files below the folder `path`, whether they are there or not. Below the empty path none is.
-    pub fn at(rt: &R, path: &str, files: Vec<FilePath>) -> Result<FolderSource<R>, AllocError>
-        ensures { IfOk result (λ source. source ≡ map (place_of path.now) files.items) }
+    /// These files below the folder `place`, whether they are there or not. Below the empty place none is.
+    pub fn at(rt: &R, place: &str, files: Vec<FilePath>) -> Result<FolderSource<R>, AllocError>
+        ensures { IfOk result (λ source. source ≡ map (place_of place.now) files.items) }
     {
         let mut places = Vec::new(rt.alloc());
         for file in &files {
-            places.push(place_of(rt.alloc(), path, file)?)?;
+            places.push(place_of(rt.alloc(), place, file)?)?;
         }
         Ok(FolderSource {
             rt: rt.clone()?,
@@ -80,12 +80,12 @@ impl<R: Files + AllocGlobal + Clone + Drop> FolderSource<R> {
         })
     }
 
-    /// The one file `path`.
-    pub fn single(rt: &R, path: &str) -> Result<FolderSource<R>, AllocError>
-        ensures { IfOk result (λ source. source ≡ path.now ∷ []) }
+    /// The one file `place`.
+    pub fn single(rt: &R, place: &str) -> Result<FolderSource<R>, AllocError>
+        ensures { IfOk result (λ source. source ≡ place.now ∷ []) }
     {
         let mut places = Vec::new(rt.alloc());
-        places.push(String::from_str(rt.alloc(), path)?)?;
+        places.push(String::from_str(rt.alloc(), place)?)?;
         Ok(FolderSource {
             rt: rt.clone()?,
             places,
@@ -104,9 +104,9 @@ impl<R: Files + AllocGlobal + Clone + Drop> FolderSource<R> {
 /// facts, and contracts tell of it that a read gives at most what the buffer has room for, that only a file of the
 /// list has faults, and that no fault of a length says that nothing is there, since such a file is missing.
 ///
-/// Each call asks the system anew. What stands at a file's place and is no regular file is missing, as is what a path
-/// through a regular file would lead to; a symbolic link at a file's place is followed. Each read opens the file, reads
-/// once, and closes it.
+/// Each call asks the system anew. What stands at a file's place and is no regular file is missing, as is a file
+/// whose place leads through a regular file; a symbolic link at a file's place is followed. Each read opens the file,
+/// reads once, and closes it.
 impl<R: Files + Sync> Source for FolderSource<R>
 where
     R::File: FileExt,
@@ -115,8 +115,8 @@ where
 
     ghost is_steady = { λ _ _. ⊥ };
 
-    ghost gave = { λ source file place fault.
-        (file < length source) × (place ≡ None → is_absence (error_kind fault) ≡ false) };
+    ghost gave = { λ source file offset fault.
+        (file < length source) × (offset ≡ None → is_absence (error_kind fault) ≡ false) };
 
     fn length(&self, file: u64) -> io::Result<Option<u64>>
         ensures gave { IfErr result

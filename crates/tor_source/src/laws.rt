@@ -1,4 +1,4 @@
-//! Laws over the sources in memory: each is steady, and the first fault at a place counts.
+//! Laws over the sources in memory: each is steady, and the first fault at an offset counts.
 ghost use Rattle.std.specs.Prelude.{◌≡◌, ◌∷◌, ◌++◌, ℕ, List, Option, None, Some, Contains};
 ghost use Rattle.tor_source.specs.Sources.{FailingFiles, ShortFiles, fail_facts, first_fault, mem_facts};
 
@@ -22,15 +22,15 @@ pub fn short_is_steady()
     ensures { (source : ShortFiles) → ⟦<ShortSource as Source>⟧.is_steady source (mem_facts source.files) }
 {}
 
-/// Of the faults at one place the first counts.
+/// Of the faults at one offset the first counts.
 pub fn first_fault_counts()
-    ensures { (before after : List (ℕ × Option ℕ × ℕ)) (file : ℕ) (place : Option ℕ) (number : ℕ) →
-        first_fault before file place ≡ None →
-        first_fault (before ++ (file, place, number) ∷ after) file place ≡ Some number }
+    ensures { (before after : List (ℕ × Option ℕ × ℕ)) (file : ℕ) (offset : Option ℕ) (number : ℕ) →
+        first_fault before file offset ≡ None →
+        first_fault (before ++ (file, offset, number) ∷ after) file offset ≡ Some number }
 {}
 
-/// No place has a fault but one that is listed for it.
+/// No offset has a fault but one that is listed for it.
 pub fn faults_are_listed()
-    ensures { (faults : List (ℕ × Option ℕ × ℕ)) (file : ℕ) (place : Option ℕ) (number : ℕ) →
-        first_fault faults file place ≡ Some number → Contains faults (file, place, number) }
+    ensures { (faults : List (ℕ × Option ℕ × ℕ)) (file : ℕ) (offset : Option ℕ) (number : ℕ) →
+        first_fault faults file offset ≡ Some number → Contains faults (file, offset, number) }
 {}

@@ -16,7 +16,7 @@
 //! - [`Source`] (`source.rt`): files by their numbers; what a steady source answers.
 //! - [`FolderSource`] (`folder.rt`): the files below a folder, or a file by itself, as the system has them.
 //! - [`MemSource`] (`memory.rt`), [`FailSource`] (`failing.rt`), [`ShortSource`] (`short.rt`): files in memory, with
-//!   faults at chosen places, or read in small steps.
+//!   faults at chosen offsets, or read in small steps.
 //! - [`ScanFault`] (`faults.rt`): why a folder's files are no list.
 //! - [`laws`] (`laws.rt`): laws over the sources in memory.
 //!

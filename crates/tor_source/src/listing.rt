@@ -9,7 +9,7 @@ use std::alloc::Global;
 use std::io::{BufRead, BufReader, Read};
 
 /// How many bytes of a folder's names are read at once. A read of a folder needs room for one whole name at least.
-const ROOM: usize = 32768;
+const BUFFER_LENGTH: usize = 32768;
 
 /// The names in a folder but `.` and `..`, each once, rising by their bytes.
 pub(crate) fn rising_names<D: Read + Drop>(
@@ -21,7 +21,10 @@ pub(crate) fn rising_names<D: Read + Drop>(
     ensures all { IfSome (D.remaining folder)
         (λ listing. IfOk result (λ names. HasSameNames (names_in listing) (map vec_items names.items))) }
 {
-    let mut names = names_of(alloc, BufReader::with_capacity(alloc, ROOM, folder)?)?;
+    let mut names = names_of(
+        alloc,
+        BufReader::with_capacity(alloc, BUFFER_LENGTH, folder)?,
+    )?;
     names.sort()?;
     names.dedup();
     Ok(names)

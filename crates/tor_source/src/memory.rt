@@ -40,7 +40,7 @@ impl MemSource {
         }
     }
 
-    /// Reads as many bytes of a file from a place on as there are, as the buffer has room for, and at most `most`.
+    /// Reads as many bytes of a file from an offset on as there are, as the buffer has room for, and at most `most`.
     pub(crate) fn read_most(&self, file: u64, start: u64, most: usize, buffer: &mut [u8]) -> usize
         ensures count { result
             ≡ min most (min (length buffer.old) (length (bytes_from (mem_facts self.now) file start))) }

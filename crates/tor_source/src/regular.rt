@@ -37,7 +37,7 @@ where
     }
 }
 
-// What the system tells of the regular file at a place. A path through a file leads to nothing.
+// What the system tells of the regular file at a place. A place that leads through a file has nothing.
 fn file_at<R: Files>(rt: &R, place: &str) -> io::Result<Option<Metadata>>
     ensures found { IfOk result (λ found. IfSome found (λ metadata. IsFile (file_type metadata))) }
     ensures refused { IfErr result (λ fault. is_absence (error_kind fault) ≡ false) }

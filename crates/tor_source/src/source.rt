@@ -7,7 +7,7 @@ use std::fmt::Debug;
 /// Files by their numbers, of which it tells the lengths and the bytes.
 ///
 /// A source is steady where it answers by facts that stay: for each file a content, or none where it is missing, and
-/// the places that fail, each with its fault. Then `length` tells how long the content is, or the fault of the length,
+/// the offsets that fail, each with its fault. Then `length` tells how long the content is, or the fault of the length,
 /// each time. Into a buffer with room `read_at` gives from a byte that fails its fault, each time; from any other at
 /// least one byte, and none from the next failing byte on; and from the end on no byte. A source need not be steady:
 /// one of files that others may write is not.
@@ -17,7 +17,7 @@ pub trait Source: Sync {
     /// The source answers as these facts say, each time.
     ghost is_steady: { Self → SourceFacts Self.Fault → Type 0 };
 
-    /// The source gave this fault for this file: for its length (None), or for the byte at a place. Generic code
+    /// The source gave this fault for this file: for its length (None), or for the byte at an offset. Generic code
     /// learns it from a call alone.
     ghost gave: { Self → ℕ → Option ℕ → Self.Fault → Type 0 };
 
@@ -26,8 +26,8 @@ pub trait Source: Sync {
         ensures steady { (facts : SourceFacts Self.Fault) → is_steady self.now facts → result ≡ told_length facts file }
         ensures gave { IfErr result (gave self.now file None) };
 
-    /// Reads bytes of a file from a place on into the buffer, and tells how many; what stands in the buffer after them
-    /// is not said. A missing file has none.
+    /// Reads bytes of a file from an offset on into the buffer, and tells how many; what stands in the buffer after
+    /// them is not said. A missing file has none.
     fn read_at(&self, file: u64, start: u64, buffer: &mut [u8]) -> Result<usize, Self::Fault>
         ensures steady { (facts : SourceFacts Self.Fault) → is_steady self.now facts →
             IsReadAt facts file start buffer.old buffer.new result }

@@ -57,8 +57,8 @@ pub(crate) fn walk<R: Files + AllocGlobal>(rt: &R, root: &str) -> Result<Found, 
     Err(ScanFault::System)
 }
 
-/// Adds a file to those that were found, or the names in a folder to those that wait. Its path takes the place of
-/// `last`, the one that was entered before.
+/// Adds a file to those that were found, or the names in a folder to those that wait. `last`, the path that was
+/// entered before, becomes its path.
 fn enter<R: Files + AllocGlobal>(
     rt: &R,
     entry: Entry,

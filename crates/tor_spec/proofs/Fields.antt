@@ -80,7 +80,7 @@ equal_keys a b (next ∷ keys) e rises = (nat_list_cmp_total.congr a b next e �
 later : (a b : List ℕ) → name_cmp a b ≡ Greater → name_cmp b a ≡ Less
 later a b h = nat_list_cmp_total.antisymm b a ∙ ap ordering_reverse h
 
--- one more pair in its place
+-- one more pair where its key belongs
 put_above : (below key : List ℕ) (value : Data) (pairs : Pairs) → AreRising (below ∷ keys_of pairs)
     → name_cmp below key ≡ Less → AreRising (below ∷ keys_of (put key value pairs))
 put_above below key value no_pairs rising less = (less, tt)

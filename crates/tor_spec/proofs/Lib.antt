@@ -16,7 +16,7 @@ pub mod MadeListPieces
 pub mod MadeListShape
 pub mod MadeList
 pub mod MadeListView
-pub mod MadeSidesPlaces
+pub mod MadeSidesAligned
 pub mod MadeSides
 pub mod MadeConditions
 pub mod MadeView

@@ -177,7 +177,7 @@ module _ (settings : Settings) (files : List File) (made : AreMade settings file
   none_holds LayerRoot = no_layers (layers.layer_root root) (λ two. no_layer_of layers.has_other_root two
       (λ k d lt. has_own_root p made.piece_length some (get_or files k d) (layers_found settings files made k d lt)))
   none_holds FilesDiffer = no_both files_differ (λ s. s.files)
-  none_holds Alignment = no_both alignment (λ s. s.places)
+  none_holds Alignment = no_both alignment (λ s. s.aligned)
 
   pub made_is_accepted : refusal_of root ≡ None
   made_is_accepted = find_none (holds root) conditions none_holds

@@ -16,7 +16,7 @@ use Rattle.tor_spec.specs.valid.TreeSide.{tree_files}
 use Rattle.tor_spec.proofs.MadeHeads.{IsInfo, piece_length_told, plain_file}
 use Rattle.tor_spec.proofs.MadeListEntries.{listed_of, plain}
 use Rattle.tor_spec.proofs.MadeListSide.{layout_of_one, made_listed, made_side}
-use Rattle.tor_spec.proofs.MadeSidesPlaces.{all_aligned, right_tail, size_of_last}
+use Rattle.tor_spec.proofs.MadeSidesAligned.{all_aligned, right_tail, size_of_last}
 use Rattle.tor_tree.specs.Kinds.{has_v1}
 use Rattle.tor_tree.specs.Path.{path_eq}
 use Rattle.tor_tree.specs.TidyTree.{plain_files}
@@ -51,32 +51,32 @@ same_as_itself (file ∷ files) =
     (same_as_itself files)
 
 -- the files of a list of the v1 side begin where they are to, and its padding ends so
-abbrev ArePlaced : ℕ → List ListedFile → Type 0
-ArePlaced p side = (is_misaligned_after p [] side || has_wrong_tail p side) ≡ false
+abbrev AreAligned : ℕ → List ListedFile → Type 0
+AreAligned p side = (is_misaligned_after p [] side || has_wrong_tail p side) ≡ false
 
-one_placed : (p : ℕ) (files : List File) (name : List ℕ) → map (λ (file : File). file.path) files ≡ (name ∷ []) ∷ []
-    → ArePlaced p (map listed_of (v1_entries Joined p (sizes_of files)))
-one_placed p [] name paths = cc
-one_placed p (file ∷ []) name paths =
+one_aligned : (p : ℕ) (files : List File) (name : List ℕ) → map (λ (file : File). file.path) files ≡ (name ∷ []) ∷ []
+    → AreAligned p (map listed_of (v1_entries Joined p (sizes_of files)))
+one_aligned p [] name paths = cc
+one_aligned p (file ∷ []) name paths =
     let n = length file.content in
     or_from _ _ (or_from (nat_lt 0 n && false) false (and_right (nat_lt 0 n) false refl) refl)
     (ap (λ tail. not (tail == 0 || tail == padding_length p (last_size (plain (file.path, n) ∷ []))))
     (size_of_last n 0 refl))
-one_placed p (file ∷ more ∷ files) name paths = cc
+one_aligned p (file ∷ more ∷ files) name paths = cc
 
 module _ (settings : Settings) (files : List File) (pieces : List ℕ) (info : Data)
     (is : IsInfo settings (facts_of_files settings.piece_length files) pieces info) (made : AreMade settings files)
     (hybrid : settings.kind ≡ Hybrid) where
-  placed : (single : Bool) → settings.single ≡ single
-      → ArePlaced settings.piece_length
+  sides_aligned : (single : Bool) → settings.single ≡ single
+      → AreAligned settings.piece_length
       (map listed_of (v1_entries (layout_of settings) settings.piece_length (sizes_of files)))
-  placed true e =
+  sides_aligned true e =
       ap (λ layout. is_misaligned_after settings.piece_length []
       (map listed_of (v1_entries layout settings.piece_length (sizes_of files)))
       || has_wrong_tail settings.piece_length
       (map listed_of (v1_entries layout settings.piece_length (sizes_of files)))) (layout_of_one settings e)
-      ∙ one_placed settings.piece_length files settings.name (made.single e)
-  placed false e =
+      ∙ one_aligned settings.piece_length files settings.name (made.single e)
+  sides_aligned false e =
       let aligned : layout_of settings ≡ Aligned =
       ap₂ (λ kind single. if is_aligned kind single then Aligned else Joined) hybrid e in
       ap (λ layout. is_misaligned_after settings.piece_length []
@@ -86,11 +86,11 @@ module _ (settings : Settings) (files : List File) (pieces : List ℕ) (info : D
       ∙ or_from _ _ (all_aligned settings.piece_length (sizes_of files) [] (λ some. refl))
       (right_tail settings.piece_length (sizes_of files))
 
-  made_places : alignment info ≡ false
-  made_places =
+  made_aligned : alignment info ≡ false
+  made_aligned =
       ap₂ (λ p side. is_misaligned_after p [] side || has_wrong_tail p side)
       (piece_length_told settings _ pieces info is) (made_side settings files pieces info is made (ap has_v1 hybrid))
-      ∙ placed settings.single refl
+      ∙ sides_aligned settings.single refl
 
   made_files : listed_by_tree info ≡ sizes_of files → files_differ info ≡ false
   made_files tree =
@@ -101,7 +101,7 @@ module _ (settings : Settings) (files : List File) (pieces : List ℕ) (info : D
 
   -- where the tree has the files
   pub made_sides : listed_by_tree info ≡ sizes_of files → SidesAgree info
-  made_sides tree = record { files = made_files tree; places = made_places }
+  made_sides tree = record { files = made_files tree; aligned = made_aligned }
 
   pub made_sides_of_roots : (roots : List (Option (List ℕ))) → length roots ≡ length (sizes_of files)
       → tree_files info ≡ plain_files (sizes_of files) roots → SidesAgree info

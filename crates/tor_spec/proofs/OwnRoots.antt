@@ -44,9 +44,9 @@ module _ (p : ℕ) (allowed : IsPieceLength p) (d : List ℕ) where
       let long : length x ≡ i * p = length-take-le (i * p) xs (omega (arith, begun)) in
       let count : length (piece_roots x p) ≡ i =
       count_of_piece_roots x p ∙ ap (λ n. div_ceil n p) long ∙ ceil_exact p i some in
-      let place : i ≡ length (piece_roots x p) + 0 = omega (arith, count) in
+      let here : i ≡ length (piece_roots x p) + 0 = omega (arith, count) in
       ap (λ zs. get_or (piece_roots zs p) i d) (sym (take-append-drop (i * p) xs))
       ∙ ap (λ roots. get_or roots i d) (piece_roots_of_joined x rest p i allowed long)
-      ∙ ap (λ n. get_or (piece_roots x p ++ piece_roots rest p) n d) place
+      ∙ ap (λ n. get_or (piece_roots x p ++ piece_roots rest p) n d) here
       ∙ get_or-append-add (piece_roots x p) (piece_roots rest p) 0 d
       ∙ first_root rest (omega (arith, length-drop (i * p) xs, begun))

@@ -1,4 +1,4 @@
--- The value of a key where one more pair was put in its place, and the layers that are found so.
+-- The value of a key where one more pair was put where its key belongs, and the layers that are found so.
 use Rattle.std.proofs.Common.{◌≡◌, ◌<◌, ℕ, zero, suc, Bool, true, false, true≢false, cond, List, [], ◌∷◌, length}
 use Rattle.std.proofs.Common.{nat_le, Option, Some, unwrap_or, Ordering, Less, Equal, Greater, refl, sym, ap, ◌∙◌}
 use Rattle.std.proofs.Common.{get_or, arith}

@@ -14,7 +14,7 @@ present [] = no_pairs
 present ((key, None) ∷ fields) = present fields
 present ((key, Some value) ∷ fields) = pair key value (present fields)
 
--- pairs whose keys rise, with one more in its place; a key that is there gets this value
+-- pairs whose keys rise, with one more where its key belongs; a key that is there gets this value
 abbrev pub put : List ℕ → Data → Pairs → Pairs
 put key value no_pairs = pair key value no_pairs
 put key value (pair k v pairs) =

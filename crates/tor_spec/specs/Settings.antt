@@ -5,7 +5,7 @@ use Rattle.tor_tree.specs.declared.kinds.Kind.TheVariants.{V1, V2, Hybrid}
 use Rattle.tor_v1.specs.declared.layout.Layout.{Layout}
 use Rattle.tor_v1.specs.declared.layout.Layout.TheVariants.{Joined, Aligned}
 
--- `single`: it is of one file, which has the torrent's name, and `info` has its `length` in place of `files`
+-- `single`: it is of one file, which has the torrent's name, and `info` has its `length` instead of `files`
 pub record Settings : Type 0 where
   pub kind : Kind
   pub single : Bool

@@ -19,7 +19,7 @@ merkle_hash piece_length file bytes =
     if is_long piece_length file.file then padded_subtree (piece_level piece_length) 0 (leaves bytes)
     else pieces_root bytes
 
--- the hash that the torrent has for piece i of a file: the one at its place in the file's layer, or the file's root
+-- the hash that the torrent has for piece i of a file: the one at its index in the file's layer, or the file's root
 abbrev pub told_hash : ℕ → FileView → ℕ → List ℕ
 told_hash piece_length file i =
     if is_long piece_length file.file then slice_index_or file.layer i [] else root_of_file file.file

@@ -61,8 +61,8 @@ const PACKED: [Packed; 13] = [
 fn is_packed(alloc: Global, row: &Packed) -> Result<bool, AllocError> {
     let (pieces, hex, set) = *row;
     let bits = bits_of(alloc, pieces)?;
-    let is_told = are_counted(&bits, pieces, set) && are_read_back(&bits, pieces);
-    Ok(is_told && hex_of(alloc, &bits)?.as_str() == hex)
+    let is_kept = are_counted(&bits, pieces, set) && are_read_back(&bits, pieces);
+    Ok(is_kept && hex_of(alloc, &bits)?.as_str() == hex)
 }
 
 #[test]

@@ -39,14 +39,14 @@ const REFUSED: &[Refused] = &[
     (&[EMPTY_HYBRID], 0, 1, "P2 NoTree"),
 ];
 
-// Whether this is told of why a piece of a torrent has no proof.
-fn is_told_why(
+// Whether this is answered why a piece of a torrent has no proof.
+fn is_refused_for(
     alloc: Global,
     torrent: &Torrent,
-    place: (u64, u64),
+    piece: (u64, u64),
     wanted: &str,
 ) -> Result<bool, AllocError> {
-    match prove_piece(alloc, torrent, place.0, place.1) {
+    match prove_piece(alloc, torrent, piece.0, piece.1) {
         Ok(_) => Ok(false),
         Err(fault) => Ok(format!(in alloc; "{fault}")?.as_str() == wanted),
     }
@@ -56,7 +56,7 @@ fn is_refused(alloc: Global, row: &Refused) -> Result<bool, AllocError> {
     let (parts, file, index, wanted) = row;
     let bytes = joined(alloc, parts)?;
     match validate(alloc, &bytes) {
-        Ok(torrent) => is_told_why(alloc, &torrent, (*file, *index), wanted),
+        Ok(torrent) => is_refused_for(alloc, &torrent, (*file, *index), wanted),
         Err(_) => Ok(false),
     }
 }

@@ -203,8 +203,8 @@ fn text_of(alloc: Global, bits: &Bits) -> Result<String, AllocError> {
     Ok(text)
 }
 
-/// What is told of the pieces, or why it is not.
-fn told<S: Source, R: AllocGlobal + Threads + Sync>(
+/// The answer: the bits of the pieces, or why there are none.
+fn answer<S: Source, R: AllocGlobal + Threads + Sync>(
     rt: &R,
     source: &S,
     torrent: &Torrent,
@@ -216,15 +216,15 @@ fn told<S: Source, R: AllocGlobal + Threads + Sync>(
     }
 }
 
-/// Whether this is told of the pieces, each way to share the units.
-fn is_each_told<S: Source, R: AllocGlobal + Threads + Sync>(
+/// Whether this is answered of the pieces, each way to share the units.
+fn is_each_answer<S: Source, R: AllocGlobal + Threads + Sync>(
     rt: &R,
     source: &S,
     torrent: &Torrent,
     wanted: &str,
 ) -> Result<bool, AllocError> {
     for how in EACH_HOW {
-        if told(rt, source, torrent, how)?.as_str() != wanted {
+        if answer(rt, source, torrent, how)?.as_str() != wanted {
             return Ok(false);
         }
     }
@@ -234,7 +234,7 @@ fn is_each_told<S: Source, R: AllocGlobal + Threads + Sync>(
 fn is_right<R: AllocGlobal + Threads + Sync>(rt: &R, row: &Row) -> Result<bool, Fail> {
     let torrent = torrent_of(rt.alloc(), row.0)?;
     let source = files_of(rt.alloc(), row.1)?;
-    Ok(is_each_told(rt, &source, &torrent, row.2)?)
+    Ok(is_each_answer(rt, &source, &torrent, row.2)?)
 }
 
 #[test]
@@ -251,15 +251,15 @@ fn source_of_zeros(alloc: Global, length: usize) -> Result<MemSource, AllocError
     Ok(MemSource::new(vec![in alloc; Some(content)]?))
 }
 
-/// Whether this is told of the pieces of LONG, where so many zeros are there.
-fn is_told_of_zeros<R: AllocGlobal + Threads + Sync>(
+/// Whether this is answered of the pieces of LONG, where so many zeros are there.
+fn is_answered_of_zeros<R: AllocGlobal + Threads + Sync>(
     rt: &R,
     length: usize,
     wanted: &str,
 ) -> Result<bool, Fail> {
     let torrent = torrent_of(rt.alloc(), LONG)?;
     let source = source_of_zeros(rt.alloc(), length)?;
-    Ok(is_each_told(rt, &source, &torrent, wanted)?)
+    Ok(is_each_answer(rt, &source, &torrent, wanted)?)
 }
 
 /// The whole of the file, and its first block alone.
@@ -268,21 +268,21 @@ const OF_ZEROS: [(usize, &str); 2] = [(16_385, "11 c0"), (16_384, "10 80")];
 #[test]
 fn tells_of_a_file_of_several_blocks(rt: HostRuntime) -> Result<(), Fail> {
     for (length, wanted) in OF_ZEROS {
-        assert!(rt; is_told_of_zeros(&rt, length, wanted)?);
+        assert!(rt; is_answered_of_zeros(&rt, length, wanted)?);
     }
     Ok(())
 }
 
-/// A place that fails: a file, for its length or at a byte; and the number of the fault.
-type Place = (u64, Option<u64>, u64);
+/// A fault: of a file, for its length or at an offset; and its number.
+type FaultAt = (u64, Option<u64>, u64);
 
-fn failing(alloc: Global, files: &[Option<&[u8]>], place: Place) -> Result<FailSource, AllocError> {
+fn failing(alloc: Global, files: &[Option<&[u8]>], at: FaultAt) -> Result<FailSource, AllocError> {
     let files = files_of(alloc, files)?;
-    Ok(FailSource::new(files, vec![in alloc; place]?))
+    Ok(FailSource::new(files, vec![in alloc; at]?))
 }
 
-/// Files of OF_BOTH, a place that fails, and what is told.
-type Fault = (&'static [Option<&'static [u8]>], Place, &'static str);
+/// Files of OF_BOTH, a fault, and what is answered.
+type Fault = (&'static [Option<&'static [u8]>], FaultAt, &'static str);
 
 const FAULTS: [Fault; 3] = [
     // Byte 0 of the first file, where it is read.
@@ -300,7 +300,7 @@ const FAULTS: [Fault; 3] = [
 fn is_fault<R: AllocGlobal + Threads + Sync>(rt: &R, row: &Fault) -> Result<bool, Fail> {
     let torrent = torrent_of(rt.alloc(), OF_BOTH)?;
     let source = failing(rt.alloc(), row.0, row.1)?;
-    Ok(is_each_told(rt, &source, &torrent, row.2)?)
+    Ok(is_each_answer(rt, &source, &torrent, row.2)?)
 }
 
 #[test]
@@ -311,14 +311,14 @@ fn tells_the_first_fault(rt: HostRuntime) -> Result<(), Fail> {
     Ok(())
 }
 
-/// What is told of the pieces of OF_BOTH, or why it is not.
-fn told_of_both<S: Source, R: AllocGlobal + Threads + Sync>(
+/// What is answered of the pieces of OF_BOTH.
+fn answer_of_both<S: Source, R: AllocGlobal + Threads + Sync>(
     rt: &R,
     source: &S,
     how: How,
 ) -> Result<String, Fail> {
     let torrent = torrent_of(rt.alloc(), OF_BOTH)?;
-    Ok(told(rt, source, &torrent, how)?)
+    Ok(answer(rt, source, &torrent, how)?)
 }
 
 /// Numbers of workers that are too few and too many.
@@ -327,7 +327,7 @@ const OUTSIDE: [How; 3] = [How::Halves(0), How::Halves(65), How::Halves(u32::MAX
 /// Whether the workers are refused where the length of a file fails too.
 fn are_workers_refused<R: AllocGlobal + Threads + Sync>(rt: &R, how: How) -> Result<bool, Fail> {
     let source = failing(rt.alloc(), &[], (0, None, 4))?;
-    Ok(told_of_both(rt, &source, how)?.as_str() == "Workers")
+    Ok(answer_of_both(rt, &source, how)?.as_str() == "Workers")
 }
 
 #[test]
@@ -365,7 +365,7 @@ impl Source for Changing {
     }
 }
 
-/// The file, what it is told to have when it is asked again, and what is told of the pieces.
+/// The file, what it is told to have when it is asked again, and what is answered of the pieces.
 type Change = (u64, Option<u64>, &'static str);
 
 const CHANGES: [Change; 4] = [
@@ -382,7 +382,7 @@ fn is_change<R: AllocGlobal + Threads + Sync>(rt: &R, row: &Change) -> Result<bo
         again,
         asked: AtomicU64::new(0),
     };
-    Ok(told_of_both(rt, &source, How::Halves(2))?.as_str() == wanted)
+    Ok(answer_of_both(rt, &source, How::Halves(2))?.as_str() == wanted)
 }
 
 #[test]

@@ -7,16 +7,16 @@ use tor_recheck::RecheckError;
 use tor_source::ScanFault;
 
 // That a fault has this status and this line.
-fn is_told(alloc: Global, fault: Fault, status: u8, line: &str) -> bool {
+fn is_printed(alloc: Global, fault: Fault, status: u8, line: &str) -> bool {
     match format!(in alloc; "{fault}") {
-        Ok(told) => fault.status() == status && told.as_str() == line,
+        Ok(printed) => fault.status() == status && printed.as_str() == line,
         Err(_) => false,
     }
 }
 
 // That an error of making has this status and this line.
 fn is_made(alloc: Global, error: MakeError<io::Error>, status: u8, line: &str) -> bool {
-    is_told(alloc, Fault::from(error), status, line)
+    is_printed(alloc, Fault::from(error), status, line)
 }
 
 // A read that is refused.
@@ -64,7 +64,7 @@ fn tells_each_fault_of_a_file_in_its_line(rt: HostRuntime) {
 
 // That a fault of a scan has this status and this line.
 fn is_scanned(alloc: Global, fault: ScanFault, status: u8, line: &str) -> bool {
-    is_told(alloc, Fault::from(fault), status, line)
+    is_printed(alloc, Fault::from(fault), status, line)
 }
 
 #[test]
@@ -84,7 +84,7 @@ fn read_again(file: u64, start: Option<u64>) -> RecheckError<io::Error> {
 
 // That an error of a recheck has this status and this line.
 fn is_rechecked(alloc: Global, error: RecheckError<io::Error>, status: u8, line: &str) -> bool {
-    is_told(alloc, Fault::from(error), status, line)
+    is_printed(alloc, Fault::from(error), status, line)
 }
 
 #[test]

@@ -2,15 +2,17 @@
 //! it, and texts of proofs.
 //!
 //! - `faults.rt`: the line and the status of each fault.
-//! - `streams.rt`: the program over readers and writers that fault; `runs.rt`: its runs.
-//! - `proof_texts.rt`: proofs as texts, both ways.
+//! - `streams.rt`: the program over readers and writers that fault; `execute.rt`: over any.
+//! - `proof_texts.rt`: proofs as texts, both ways. `progress_lines.rt`: the line of progress.
 #![tactic(auto)]
 
 #[cfg(test)]
+mod execute;
+#[cfg(test)]
 mod faults;
 #[cfg(test)]
-mod proof_texts;
+mod progress_lines;
 #[cfg(test)]
-mod runs;
+mod proof_texts;
 #[cfg(test)]
 mod streams;

@@ -1,5 +1,5 @@
 //! The program over readers and writers that fault.
-use crate::runs::run_over;
+use crate::execute::execute_over;
 use std::alloc::Global;
 use std::io::{Error, ErrorKind, Read, Result, Write};
 use std::thread::Threads;
@@ -71,7 +71,7 @@ fn narrow_writer(alloc: Global, step: usize, room: usize, faults: bool) -> Narro
     }
 }
 
-// That a run over the input `abc` has this status, writes these bytes and tells this line.
+// That the program over the input `abc` has this status, writes these bytes and tells this line.
 fn is_written<T: Threads + Sync>(
     rt: &T,
     system: &HostRuntime,
@@ -81,11 +81,11 @@ fn is_written<T: Threads + Sync>(
     line: &str,
 ) -> bool {
     let mut input: &[u8] = b"abc";
-    let (ended, err) = run_over(rt, system, &WORDS, &mut input, &mut out, false);
+    let (ended, err) = execute_over(rt, system, &WORDS, &mut input, &mut out, false);
     ended == status && out.written.as_slice() == written && err.as_slice() == line.as_bytes()
 }
 
-// That a run over the reader has the status of a fault of it, writes nothing and tells this line.
+// That the program over the reader has the status of a fault of it, writes nothing and tells this line.
 fn is_stopped<T: Threads + Sync, R: Read>(
     rt: &T,
     system: &HostRuntime,
@@ -94,7 +94,7 @@ fn is_stopped<T: Threads + Sync, R: Read>(
     line: &str,
 ) -> bool {
     let mut out = Vec::new(system.alloc());
-    let (status, err) = run_over(rt, system, words, reader, &mut out, false);
+    let (status, err) = execute_over(rt, system, words, reader, &mut out, false);
     status == 3 && out.is_empty() && err.as_slice() == line.as_bytes()
 }
 

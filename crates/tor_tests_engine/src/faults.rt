@@ -12,10 +12,10 @@ use tor_source::{FailSource, MemSource, Source};
 use tor_tree::Kind;
 
 /// A fault of a file: for its length, or at a byte; and its number.
-type Place = (u64, Option<u64>, u64);
+type FaultAt = (u64, Option<u64>, u64);
 
 /// The lengths of files, their faults, and the one that is answered.
-type Faults = (&'static [u64], &'static [Place], &'static str);
+type Faults = (&'static [u64], &'static [FaultAt], &'static str);
 
 const FAULTS: [Faults; 8] = [
     (
@@ -202,7 +202,7 @@ fn files_there(alloc: Global, lengths: &[Option<u64>]) -> Result<MemSource, Allo
     Ok(MemSource::new(files))
 }
 
-/// Whether the fault of a row is told, and not that of the first byte of its file 0.
+/// Whether the fault of a row is answered, and not that of the first byte of its file 0.
 fn is_fault_of_lengths<R: AllocGlobal + Abort + Threads + Sync>(
     rt: &R,
     row: &Lengths,

@@ -29,7 +29,7 @@ pub(crate) fn read<'a, S: Source>(
     Ok(&buffer[..count])
 }
 
-// Whether one read from a place on, into a buffer with so much room, at most six bytes, gives these bytes or this
+// Whether one read from an offset on, into a buffer with so much room, at most six bytes, gives these bytes or this
 // fault.
 fn is_read<S: Source<Fault = u64>>(
     source: &S,
@@ -76,7 +76,7 @@ fn memory_gives_what_is_there(rt: HostRuntime) -> Result<(), AllocError> {
     Ok(())
 }
 
-// Of two faults at one place the first counts, and none at a byte that the file does not have.
+// Of two faults at one offset the first counts, and none at a byte that the file does not have.
 const FAULTS: &[(u64, Option<u64>, u64)] = &[
     (0, Some(4), 1),
     (0, Some(3), 5),
@@ -113,7 +113,7 @@ fn failing(alloc: Global) -> Result<FailSource, AllocError> {
 }
 
 #[test]
-fn faults_stand_at_their_places(rt: HostRuntime) -> Result<(), AllocError> {
+fn faults_stand_at_their_offsets(rt: HostRuntime) -> Result<(), AllocError> {
     let source = failing(rt.alloc())?;
     for (file, wanted) in FAULTS_OF_LENGTHS {
         assert!(rt; is_told(&source, *file, *wanted));

@@ -133,14 +133,14 @@ fn are_hashes<R: AllocGlobal + Abort + Threads + Sync>(
     }
 }
 
-/// The place of the first row that has other hashes.
+/// The index of the first row that has other hashes.
 fn first_wrong<R: AllocGlobal + Abort + Threads + Sync>(
     rt: &R,
     how: How,
 ) -> Result<Option<usize>, Fail> {
-    for (place, row) in ROWS.iter().enumerate() {
+    for (index, row) in ROWS.iter().enumerate() {
         if !are_hashes(rt, row, how)? {
-            return Ok(Some(place));
+            return Ok(Some(index));
         }
     }
     Ok(None)
@@ -172,7 +172,7 @@ const CHANGES: &[Change] = &[
     ((Some(3), Some(3)), 2, true, 2),
 ];
 
-/// Whether the file is told that changes, of two.
+/// Whether the file that changes, of two, is answered.
 fn is_changed<R: AllocGlobal + Abort + Threads + Sync>(
     rt: &R,
     source: &Changing,

@@ -1,4 +1,4 @@
-//! What is asked of a source: where each read begins and ends, and which of its faults is told.
+//! What is asked of a source: where each read begins and ends, and which of its faults is answered.
 
 use crate::shared::{files_of, is_each_fault, is_fault, plan_of};
 use std::process::Abort;
@@ -100,16 +100,16 @@ fn reads_within_parts_and_buffers(rt: HostRuntime) -> Result<(), Fail> {
     Ok(())
 }
 
-/// Whether the fault of this byte is told.
-fn is_told<R: AllocGlobal + Abort + Threads + Sync>(
+/// Whether the fault of this byte is answered.
+fn is_answered<R: AllocGlobal + Abort + Threads + Sync>(
     rt: &R,
     plan: &Plan,
-    place: u64,
+    offset: u64,
 ) -> Result<bool, Fail> {
     let alloc = rt.alloc();
-    let faults = vec![in alloc; (0, Some(place), 5)]?;
+    let faults = vec![in alloc; (0, Some(offset), 5)]?;
     let source = FailSource::new(files_of(alloc, &[163840])?, faults);
-    let wanted = format!(in alloc; "Read {{ file: 0, start: Some({place}), fault: 5 }}")?;
+    let wanted = format!(in alloc; "Read {{ file: 0, start: Some({offset}), fault: 5 }}")?;
     Ok(is_each_fault(rt, &source, plan, &wanted)?)
 }
 
@@ -117,7 +117,7 @@ fn is_told<R: AllocGlobal + Abort + Threads + Sync>(
 fn tells_each_byte_that_fails_in_turn(rt: HostRuntime) -> Result<(), Fail> {
     let plan = plan_of(&rt, &[163840], Kind::V2, 16384, 1)?;
     for turn in 0..40u64 {
-        assert!(rt; is_told(&rt, &plan, turn.saturating_mul(4096))?);
+        assert!(rt; is_answered(&rt, &plan, turn.saturating_mul(4096))?);
     }
     Ok(())
 }

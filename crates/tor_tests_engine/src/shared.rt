@@ -24,16 +24,16 @@ pub(crate) fn path(alloc: Global, text: &str) -> Result<FilePath, Fail> {
 }
 
 /// The path `000` of the first file, `001` of the second, and so on.
-fn path_at(alloc: Global, place: usize) -> Result<FilePath, Fail> {
-    let text = format!(in alloc; "{place:03}")?;
+fn path_at(alloc: Global, index: usize) -> Result<FilePath, Fail> {
+    let text = format!(in alloc; "{index:03}")?;
     path(alloc, &text)
 }
 
 /// Files with these lengths, under such paths.
 fn list_of(alloc: Global, lengths: &[u64]) -> Result<FileList, Fail> {
     let mut paths = Vec::new(alloc);
-    for (place, length) in lengths.iter().enumerate() {
-        paths.push((path_at(alloc, place)?, *length))?;
+    for (index, length) in lengths.iter().enumerate() {
+        paths.push((path_at(alloc, index)?, *length))?;
     }
     Ok(FileList::build(alloc, paths)?)
 }

@@ -116,7 +116,7 @@ fn system_of(rt: &HostRuntime, names: &[u8], breaks: bool) -> io::Result<Listed>
 }
 
 // What a scan of this path gives where `top` has these names: its paths, or why there are none.
-fn told(rt: &HostRuntime, path: &str, names: &[u8], breaks: bool) -> io::Result<Vec<u8>> {
+fn scan_text(rt: &HostRuntime, path: &str, names: &[u8], breaks: bool) -> io::Result<Vec<u8>> {
     let alloc = rt.alloc();
     match FolderSource::scan(&system_of(rt, names, breaks)?, path) {
         Ok((_source, paths)) => Ok(shown(alloc, &paths)?),
@@ -137,20 +137,20 @@ const SCANS: &[(&[u8], &[u8])] = &[
     (b"", b""),
 ];
 
-fn is_told(
+fn gives(
     rt: &HostRuntime,
     path: &str,
     names: &[u8],
     breaks: bool,
     wanted: &[u8],
 ) -> io::Result<bool> {
-    Ok(told(rt, path, names, breaks)?.as_slice() == wanted)
+    Ok(scan_text(rt, path, names, breaks)?.as_slice() == wanted)
 }
 
 #[test]
 fn answers_the_first_fault_in_the_order_of_names(rt: HostRuntime) -> Result<(), Fail> {
     for (names, wanted) in SCANS {
-        assert!(rt; is_told(&rt, "top", names, false, wanted)?);
+        assert!(rt; gives(&rt, "top", names, false, wanted)?);
     }
     Ok(())
 }
@@ -160,7 +160,7 @@ const BROKEN: &[&[u8]] = &[b"", b"a file\0", b"a file\0b fi"];
 #[test]
 fn tells_a_listing_that_breaks_off(rt: HostRuntime) -> Result<(), Fail> {
     for names in BROKEN {
-        assert!(rt; is_told(&rt, "top", names, true, b"F4 System")?);
+        assert!(rt; gives(&rt, "top", names, true, b"F4 System")?);
     }
     Ok(())
 }
@@ -176,7 +176,7 @@ fn paths(alloc: Global, texts: &[&str]) -> Result<Vec<FilePath>, Fail> {
 // The system of these tests would tell of a FIFO, were it asked.
 #[test]
 fn has_no_file_below_the_empty_place(rt: HostRuntime) -> Result<(), Fail> {
-    assert!(rt; is_told(&rt, "", b"a file\0", false, b"F4 System")?);
+    assert!(rt; gives(&rt, "", b"a file\0", false, b"F4 System")?);
     assert!(rt; matches!(fault(&rt, ""), Some(ScanFault::System)));
     assert!(rt; rt.metadata("").is_err());
     let files = paths(rt.alloc(), &["proc"])?;

@@ -1,7 +1,7 @@
 //! Rows of entries, worked out by hand.
 ghost use Rattle.std.specs.Prelude.{◌≡◌, false, IfOk};
 
-use crate::plans::is_told;
+use crate::plans::is_plan;
 use crate::shared::path;
 use std::alloc::Global;
 use std::test::Fail;
@@ -36,7 +36,7 @@ fn joined_plan(alloc: Global) -> Result<Plan, Fail> {
 fn joins_entries_with_padding(rt: HostRuntime) -> Result<(), Fail> {
     let plan = joined_plan(rt.alloc())?;
     assert!(rt;
-        is_told(
+        is_plan(
             rt.alloc(),
             &plan,
             "[=3 0:0+1 ][ 0:1+1=3 ][=4 ][=2 2:0+1 ]",
@@ -64,6 +64,6 @@ const HYBRID: &str = "[ 0:0+32768 ][ 0:32768+7232=9152 ][ 2:0+5=16379 ]";
 #[test]
 fn cuts_hybrid_entries_with_padding_at_the_end(rt: HostRuntime) -> Result<(), Fail> {
     let plan = hybrid_plan(rt.alloc())?;
-    assert!(rt; is_told(rt.alloc(), &plan, HYBRID, "0+2^1 ")?);
+    assert!(rt; is_plan(rt.alloc(), &plan, HYBRID, "0+2^1 ")?);
     Ok(())
 }

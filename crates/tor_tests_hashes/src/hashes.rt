@@ -1,4 +1,4 @@
-//! Each hash of eight messages against the kit's hash of one, and against hashes that `sha256sum` told or the standard
+//! Each hash of eight messages against the kit's hash of one, and against hashes that `sha256sum` gave or the standard
 //! has as its example.
 
 ghost use Rattle.std.specs.Prelude.{◌<◌};

@@ -8,11 +8,11 @@ use tor_tree::{FileList, FilePath};
 use tor_v1::{Entry, Layout, LayoutError, is_reserved, lay_out};
 
 /// The entries as text: path and length, padding with an equals sign.
-fn told(alloc: Global, entries: &[Entry]) -> Result<String, Fail> {
+fn entries_text(alloc: Global, entries: &[Entry]) -> Result<String, Fail> {
     let mut text = String::new(alloc);
     for entry in entries {
-        for (place, name) in entry.path.names().iter().enumerate() {
-            if place > 0 {
+        for (index, name) in entry.path.names().iter().enumerate() {
+            if index > 0 {
                 text.push('/')?;
             }
             for byte in name.as_bytes() {
@@ -52,10 +52,10 @@ const ROWS: &[Row] = &[
     (&[(".pad/1", 2), ("b", 1)], Layout::Joined, ".pad/1:2 b:1 "),
 ];
 
-// What is told of files: their entries, or why they have none.
+// What files give: their entries, or why they have none.
 fn laid_out(alloc: Global, list: &FileList, layout: Layout) -> Result<String, Fail> {
     match lay_out(alloc, list, 16384, layout) {
-        Ok(entries) => told(alloc, &entries),
+        Ok(entries) => entries_text(alloc, &entries),
         Err(fault) => Ok(format!(in alloc; "{fault}")?),
     }
 }
@@ -73,7 +73,7 @@ fn lays_out_files(rt: HostRuntime) -> Result<(), Fail> {
     Ok(())
 }
 
-// Files, whether a path of theirs is reserved, and what is told of their aligned list.
+// Files, whether a path of theirs is reserved, and what their aligned list gives.
 type Reserved = (Files, bool, &'static str);
 
 const RESERVED: &[Reserved] = &[
@@ -101,17 +101,17 @@ fn refuses_paths_of_padding_in_aligned_lists(rt: HostRuntime) -> Result<(), Fail
     Ok(())
 }
 
-// The file at a place of a thousand.
-fn numbered_path(alloc: Global, place: u64) -> Result<FilePath, Fail> {
-    let text = format!(in alloc; "folder/{place:03}")?;
+// The file at an index of a thousand.
+fn numbered_path(alloc: Global, index: u64) -> Result<FilePath, Fail> {
+    let text = format!(in alloc; "folder/{index:03}")?;
     path(alloc, text.as_str())
 }
 
-// A thousand files, each as long as its place says.
+// A thousand files, each as long as its index says.
 fn thousand_files(alloc: Global) -> Result<FileList, Fail> {
     let mut files = Vec::new(alloc);
-    for place in 0..1000u64 {
-        files.push((numbered_path(alloc, place)?, place))?;
+    for index in 0..1000u64 {
+        files.push((numbered_path(alloc, index)?, index))?;
     }
     Ok(FileList::build(alloc, files)?)
 }

@@ -1,7 +1,7 @@
 //! Pieces of units, worked out by hand.
 ghost use Rattle.std.specs.Prelude.{◌≡◌, ◌+◌, ◌<◌, ◌^◌, true, All};
 
-use crate::plans::units_told;
+use crate::plans::units_text;
 use std::alloc::{AllocError, Global};
 use std::process::Abort;
 use std::test::Fail;
@@ -33,7 +33,7 @@ fn parts_of(alloc: Global, numbers: Numbers) -> Result<Vec<Part>, AllocError> {
 }
 
 /// The pieces of four bytes of a unit.
-fn pieces_told<R: AllocGlobal + Abort>(
+fn pieces_text<R: AllocGlobal + Abort>(
     rt: &R,
     zeros: u64,
     parts: Vec<Part>,
@@ -44,7 +44,7 @@ fn pieces_told<R: AllocGlobal + Abort>(
         parts: Parts::new(parts),
     };
     let pieces = unit.pieces(rt.alloc(), 4)?;
-    units_told(rt.alloc(), &pieces)
+    units_text(rt.alloc(), &pieces)
 }
 
 /// The zeros before the parts of a unit, the parts, and the pieces.
@@ -66,7 +66,7 @@ fn has_pieces<R: AllocGlobal + Abort>(
     wanted: &str,
 ) -> Result<bool, Fail> {
     let parts = parts_of(rt.alloc(), numbers)?;
-    Ok(pieces_told(rt, zeros, parts)?.as_str() == wanted)
+    Ok(pieces_text(rt, zeros, parts)?.as_str() == wanted)
 }
 
 #[test]

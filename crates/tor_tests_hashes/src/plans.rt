@@ -35,7 +35,7 @@ fn joined_plan_of<R: AllocGlobal + Abort>(
 }
 
 /// Each unit in brackets: its parts as file, start and length, and zeros with an equals sign.
-pub(crate) fn units_told(alloc: Global, units: &[PlanUnit]) -> Result<String, Fail> {
+pub(crate) fn units_text(alloc: Global, units: &[PlanUnit]) -> Result<String, Fail> {
     let mut text = String::new(alloc);
     for unit in units {
         write!(text, "[")?;
@@ -54,7 +54,7 @@ pub(crate) fn units_told(alloc: Global, units: &[PlanUnit]) -> Result<String, Fa
 }
 
 /// Each tree as its first unit, its number of units and its level.
-fn trees_told(alloc: Global, forest: &Forest) -> Result<String, Fail> {
+fn trees_text(alloc: Global, forest: &Forest) -> Result<String, Fail> {
     let mut text = String::new(alloc);
     for tree in &forest.trees {
         write!(text, "{}+{}^{} ", tree.first, tree.count, tree.level)?;
@@ -140,10 +140,10 @@ const ROWS: &[Row] = &[
 ];
 
 /// Whether these are the units and the trees of a plan.
-pub(crate) fn is_told(alloc: Global, plan: &Plan, units: &str, trees: &str) -> Result<bool, Fail> {
+pub(crate) fn is_plan(alloc: Global, plan: &Plan, units: &str, trees: &str) -> Result<bool, Fail> {
     Ok(
-        units_told(alloc, plan.units())?.as_str() == units
-            && trees_told(alloc, plan.forest())?.as_str() == trees,
+        units_text(alloc, plan.units())?.as_str() == units
+            && trees_text(alloc, plan.forest())?.as_str() == trees,
     )
 }
 
@@ -152,7 +152,7 @@ fn is_cut<R: AllocGlobal + Abort>(rt: &R, row: &Row) -> Result<bool, Fail> {
     let list = list_of(rt.alloc(), files)?;
     let plan = plan_of(rt, &list, kind, 16384, span)?;
     let is_kept = plan.kind() == kind && plan.piece_length() == 16384;
-    Ok(is_kept && plan.lengths().len() == files.len() && is_told(rt.alloc(), &plan, units, trees)?)
+    Ok(is_kept && plan.lengths().len() == files.len() && is_plan(rt.alloc(), &plan, units, trees)?)
 }
 
 #[test]
@@ -167,22 +167,22 @@ fn cuts_files_by_kind_and_span(rt: HostRuntime) -> Result<(), Fail> {
 fn joins_files_at_any_piece_length(rt: HostRuntime) -> Result<(), Fail> {
     let list = list_of(rt.alloc(), &[("a", 4), ("b", 0), ("c", 5)])?;
     let plan = joined_plan_of(&rt, &list, 3, 1)?;
-    assert!(rt; is_told(rt.alloc(), &plan, "[ 0:0+3 ][ 0:3+1 2:0+2 ][ 2:2+3 ]", "")?);
+    assert!(rt; is_plan(rt.alloc(), &plan, "[ 0:0+3 ][ 0:3+1 2:0+2 ][ 2:2+3 ]", "")?);
     assert!(rt; plan.lengths() == [4, 0, 5].as_slice());
     Ok(())
 }
 
-// The path of the file at a place of a thousand.
-fn numbered_path(alloc: Global, place: u64) -> Result<FilePath, Fail> {
-    let text = format!(in alloc; "{place:03}")?;
+// The path of the file at an index of a thousand.
+fn numbered_path(alloc: Global, index: u64) -> Result<FilePath, Fail> {
+    let text = format!(in alloc; "{index:03}")?;
     path(alloc, text.as_str())
 }
 
 // A thousand files, of which file i has i * 100 bytes.
 fn thousand_files(alloc: Global) -> Result<FileList, Fail> {
     let mut files = Vec::new(alloc);
-    for place in 0..1000u64 {
-        files.push((numbered_path(alloc, place)?, place * 100))?;
+    for index in 0..1000u64 {
+        files.push((numbered_path(alloc, index)?, index * 100))?;
     }
     Ok(FileList::build(alloc, files)?)
 }
@@ -216,7 +216,7 @@ fn plans_a_thousand_files(rt: HostRuntime) -> Result<(), Fail> {
 fn is_longest<R: AllocGlobal + Abort>(rt: &R, kind: Kind, trees: &str) -> Result<bool, Fail> {
     let list = list_of(rt.alloc(), &[("a", 1 << 50)])?;
     let plan = plan_of(rt, &list, kind, 1 << 30, 1024)?;
-    Ok(plan.units().len() == 1024 && trees_told(rt.alloc(), plan.forest())?.as_str() == trees)
+    Ok(plan.units().len() == 1024 && trees_text(rt.alloc(), plan.forest())?.as_str() == trees)
 }
 
 #[test]

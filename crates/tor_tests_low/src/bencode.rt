@@ -4,7 +4,7 @@ use std::alloc::{AllocError, Global};
 use std::test::Fail;
 use tor_bencode::laws::{
     lawful_one_by_one, lawful_values, lawful_within_more, no_spelling_begins_another,
-    no_value_before_the_first_key, one_tree_or_one_fault, pairs_by_their_values, place_of_a_value,
+    no_value_before_the_first_key, one_tree_or_one_fault, pairs_by_their_values, span_of_a_value,
 };
 use tor_bencode::{BenError, Fault, Item, Tree, decode, encode, find, span};
 
@@ -14,13 +14,13 @@ fn bytes(alloc: Global, text: &[u8]) -> Result<Item, AllocError> {
 
 type Keys = &'static [&'static [u8]];
 
-/// A dictionary with these keys, each with its place as its value.
+/// A dictionary with these keys, each with its index as its value.
 fn keyed(alloc: Global, keys: &[&[u8]]) -> Result<Item, AllocError> {
     let mut pairs = Vec::new(alloc);
-    let mut place = 0i64;
+    let mut index = 0i64;
     for key in keys {
-        pairs.push((Vec::from_slice(alloc, key)?, Item::Int(place)))?;
-        place = place.wrapping_add(1);
+        pairs.push((Vec::from_slice(alloc, key)?, Item::Int(index)))?;
+        index = index.wrapping_add(1);
     }
     Ok(Item::Dict(pairs))
 }
@@ -359,7 +359,7 @@ fn calls_the_laws() {
     one_tree_or_one_fault();
     pairs_by_their_values();
     no_value_before_the_first_key();
-    place_of_a_value();
+    span_of_a_value();
     lawful_within_more();
     lawful_values();
     lawful_one_by_one();

@@ -62,7 +62,7 @@ fn is_no_list(alloc: Global, files: &[(&str, u64)], wanted: &str) -> Result<bool
 }
 
 #[test]
-fn the_first_fault_of_a_list_is_told(rt: HostRuntime) -> Result<(), Fail> {
+fn the_first_fault_of_a_list_is_answered(rt: HostRuntime) -> Result<(), Fail> {
     for (files, wanted) in LIST_FAULTS {
         assert!(rt; is_no_list(rt.alloc(), files, wanted)?);
     }
@@ -80,8 +80,8 @@ fn a_list_of_paths_tells_where_each_was_handed_in(rt: HostRuntime) -> Result<(),
     let list = three_paths(alloc)?;
     assert_eq!(rt; list.entries().len(), 3);
     let wanted = [("a/c", 2), ("a-b", 1), ("b", 0)];
-    for (entry, (text, place)) in list.entries().iter().zip(wanted) {
-        assert!(rt; entry.0 == path(alloc, text)? && entry.1 == place);
+    for (entry, (text, index)) in list.entries().iter().zip(wanted) {
+        assert!(rt; entry.0 == path(alloc, text)? && entry.1 == index);
     }
     Ok(())
 }
@@ -92,8 +92,8 @@ fn a_list_of_paths_takes_lengths(rt: HostRuntime) -> Result<(), Fail> {
     let list = three_paths(alloc)?;
     let lengths = [7, 0, 5];
     assert_eq!(rt; lengths.len(), list.entries().len());
-    let (files, places) = list.with_lengths(alloc, &lengths)?;
-    assert!(rt; places.as_slice() == [2, 1, 0].as_slice());
+    let (files, indices) = list.with_lengths(alloc, &lengths)?;
+    assert!(rt; indices.as_slice() == [2, 1, 0].as_slice());
     let wanted = files_of(alloc, &[("a/c", 5), ("a-b", 0), ("b", 7)])?;
     assert!(rt; files.files() == wanted.as_slice());
     Ok(())
@@ -114,7 +114,7 @@ fn are_no_paths(alloc: Global, texts: &[&str], wanted: &str) -> Result<bool, Fai
 }
 
 #[test]
-fn the_first_fault_of_paths_is_told(rt: HostRuntime) -> Result<(), Fail> {
+fn the_first_fault_of_paths_is_answered(rt: HostRuntime) -> Result<(), Fail> {
     for (texts, wanted) in PATH_FAULTS {
         assert!(rt; are_no_paths(rt.alloc(), texts, wanted)?);
     }

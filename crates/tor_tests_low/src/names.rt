@@ -12,7 +12,7 @@ pub(crate) fn path(alloc: Global, text: &str) -> Result<FilePath, Fail> {
     Ok(FilePath::new(names).ok_or("a path")?)
 }
 
-// The bytes, and what is told of them.
+// The bytes, and what is answered.
 type NameRow = (&'static [u8], &'static str);
 
 const NAMES: &[NameRow] = &[
@@ -43,19 +43,19 @@ fn is_judged(alloc: Global, row: &NameRow) -> Result<bool, AllocError> {
 }
 
 #[test]
-fn the_first_fault_of_a_name_is_told(rt: HostRuntime) -> Result<(), Fail> {
-    for (place, row) in NAMES.iter().enumerate() {
-        assert!(rt; is_judged(rt.alloc(), row)?, "at row {place}");
+fn the_first_fault_of_a_name_is_answered(rt: HostRuntime) -> Result<(), Fail> {
+    for (index, row) in NAMES.iter().enumerate() {
+        assert!(rt; is_judged(rt.alloc(), row)?, "at row {index}");
     }
     Ok(())
 }
 
 #[test]
-fn a_lack_of_memory_is_told(rt: HostRuntime) -> Result<(), Fail> {
+fn a_lack_of_memory_is_answered(rt: HostRuntime) -> Result<(), Fail> {
     let (name, list) = (NameError::from(AllocError), ListError::from(AllocError));
     let tree = TreeFault::from(AllocError);
-    let told = format!(in rt.alloc(); "{name}, {list}, {tree}")?;
-    assert!(rt; told.as_str() == "out of memory, out of memory, out of memory");
+    let said = format!(in rt.alloc(); "{name}, {list}, {tree}")?;
+    assert!(rt; said.as_str() == "out of memory, out of memory, out of memory");
     Ok(())
 }
 

@@ -34,9 +34,9 @@ fn is_refused(alloc: Global, row: &Fault) -> Result<bool, Fail> {
 }
 
 #[test]
-fn the_first_fault_of_a_tree_is_told(rt: HostRuntime) -> Result<(), Fail> {
-    for (place, row) in FAULTS.iter().enumerate() {
-        assert!(rt; is_refused(rt.alloc(), row)?, "at row {place}");
+fn the_first_fault_of_a_tree_is_answered(rt: HostRuntime) -> Result<(), Fail> {
+    for (index, row) in FAULTS.iter().enumerate() {
+        assert!(rt; is_refused(rt.alloc(), row)?, "at row {index}");
     }
     Ok(())
 }

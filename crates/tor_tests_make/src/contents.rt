@@ -84,10 +84,10 @@ pub(crate) fn only_path(alloc: Global, text: &str) -> Result<Vec<FilePath>, Fail
 
 pub(crate) fn files(
     alloc: Global,
-    told: &[(&str, &[u8])],
+    given: &[(&str, &[u8])],
 ) -> Result<Vec<(FilePath, Vec<u8>)>, Fail> {
     let mut files = Vec::new(alloc);
-    for (text, content) in told {
+    for (text, content) in given {
         files.push((path(alloc, text)?, Vec::from_slice(alloc, content)?))?;
     }
     Ok(files)
@@ -109,9 +109,9 @@ fn single(alloc: Global, kind: Kind, name: &str, content: &[u8]) -> Result<Vec<u
 }
 
 /// The torrent of files in the folder `f`.
-fn folder(alloc: Global, kind: Kind, told: &[(&str, &[u8])]) -> Result<Vec<u8>, Fail> {
+fn folder(alloc: Global, kind: Kind, given: &[(&str, &[u8])]) -> Result<Vec<u8>, Fail> {
     let head = head(alloc, kind, b"f", false, 16384)?;
-    Ok(make_contents(alloc, files(alloc, told)?, &head)?)
+    Ok(make_contents(alloc, files(alloc, given)?, &head)?)
 }
 
 /// A content, and its torrent of a kind with the number of its bytes.
@@ -163,10 +163,10 @@ fn writes_tracker_and_private(rt: HostRuntime) -> Result<(), Fail> {
 }
 
 /// Files as paths and contents.
-type Told = &'static [(&'static str, &'static [u8])];
+type Given = &'static [(&'static str, &'static [u8])];
 
 /// Files, and their torrent of a kind with the number of its bytes.
-type OfFolder = (Told, Kind, &'static [u8], usize);
+type OfFolder = (Given, Kind, &'static [u8], usize);
 
 const OF_A_FOLDER: [OfFolder; 4] = [
     (&[("a", b"ab"), ("b", b"c")], Kind::V1, FOLDER_V1, 129),
@@ -186,8 +186,8 @@ const OF_A_FOLDER: [OfFolder; 4] = [
 ];
 
 fn is_of_folder(alloc: Global, row: &OfFolder) -> Result<bool, Fail> {
-    let (told, kind, torrent, length) = *row;
-    Ok(torrent.len() == length && folder(alloc, kind, told)?.as_slice() == torrent)
+    let (given, kind, torrent, length) = *row;
+    Ok(torrent.len() == length && folder(alloc, kind, given)?.as_slice() == torrent)
 }
 
 #[test]
@@ -199,7 +199,7 @@ fn makes_torrents_of_a_folder(rt: HostRuntime) -> Result<(), Fail> {
 }
 
 /// Files, and what stands in their hybrid.
-const PADDED: [(Told, &[u8]); 2] = [
+const PADDED: [(Given, &[u8]); 2] = [
     (
         &[("a", b"ab"), ("aa", b"")],
         b"5:filesld6:lengthi2e4:pathl1:aeed6:lengthi0e4:pathl2:aaeee",
@@ -222,8 +222,8 @@ fn has(torrent: &[u8], listed: &[u8]) -> bool {
 
 #[test]
 fn pads_hybrids_before_contents_alone(rt: HostRuntime) -> Result<(), Fail> {
-    for (told, listed) in &PADDED {
-        assert!(rt; has(&folder(rt.alloc(), Kind::Hybrid, told)?, listed));
+    for (given, listed) in &PADDED {
+        assert!(rt; has(&folder(rt.alloc(), Kind::Hybrid, given)?, listed));
     }
     Ok(())
 }
@@ -435,11 +435,11 @@ fn stops_after_twelve(faults: bool) -> bool {
     let Err(stopped) = write_out(&mut writer, b"thirteen bytes") else {
         return false;
     };
-    let is_told = match stopped.fault {
+    let is_answered = match stopped.fault {
         Some(fault) => faults && fault.kind() == ErrorKind::Interrupted,
         None => !faults,
     };
-    stopped.written == 12 && is_told
+    stopped.written == 12 && is_answered
 }
 
 #[test]

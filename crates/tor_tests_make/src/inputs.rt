@@ -107,11 +107,11 @@ fn makes_one_torrent_however_much_a_read_gives(rt: HostRuntime) -> std::result::
 fn is_refused_at_the_end(alloc: Global, order: &Order) -> bool {
     let mut reader: &[u8] = b"abc";
     let mut torrent = Vec::new(alloc);
-    let is_told = match make_from(alloc, &mut reader, &mut torrent, order) {
+    let is_answered = match make_from(alloc, &mut reader, &mut torrent, order) {
         Err(fault) => matches!(fault, FromFault::Make(MakeError::PieceLength)),
         Ok(_) => false,
     };
-    is_told && reader.is_empty() && torrent.is_empty()
+    is_answered && reader.is_empty() && torrent.is_empty()
 }
 
 #[test]

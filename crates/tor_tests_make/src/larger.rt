@@ -139,9 +139,9 @@ const HASHED: [Hashed; 2] = [
 ];
 
 fn has_hashes(alloc: Global, row: &Hashed) -> Result<bool, Fail> {
-    let (kind, name, single, told, hashes) = row;
+    let (kind, name, single, given, hashes) = row;
     let head = head(alloc, *kind, name, *single, 16384)?;
-    let torrent = make_contents(alloc, files(alloc, told)?, &head)?;
+    let torrent = make_contents(alloc, files(alloc, given)?, &head)?;
     Ok(info_hashes(&torrent, *kind) == *hashes)
 }
 

@@ -21,9 +21,9 @@ fn content(alloc: Global, length: usize) -> Result<Vec<u8>, AllocError> {
     Ok(bytes)
 }
 
-/// The hash of the block at a place of such a content.
-fn leaf_at(bytes: &[u8], place: usize) -> Hash {
-    let (_, rest) = bytes.split_at(bytes.len().min(place));
+/// The hash of the block at an offset of such a content.
+fn leaf_at(bytes: &[u8], offset: usize) -> Hash {
+    let (_, rest) = bytes.split_at(bytes.len().min(offset));
     let (block, _) = rest.split_at(rest.len().min(16384));
     leaf(block)
 }

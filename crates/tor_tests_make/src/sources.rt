@@ -19,21 +19,21 @@ const EACH_KIND: [Kind; 3] = [Kind::V1, Kind::V2, Kind::Hybrid];
 /// Paths, and contents; None stands for a missing file.
 type Files = (Vec<FilePath>, Vec<Option<Vec<u8>>>);
 
-/// A file told as its path and content, as `a=ab`; `b!` is missing.
-fn file_told(alloc: Global, told: &str) -> Result<(FilePath, Option<Vec<u8>>), Fail> {
-    let Some((text, content)) = told.split_once('=') else {
-        return Ok((path(alloc, told.trim_end_matches('!'))?, None));
+/// A file given as its path and content, as `a=ab`; `b!` is missing.
+fn file_given(alloc: Global, given: &str) -> Result<(FilePath, Option<Vec<u8>>), Fail> {
+    let Some((text, content)) = given.split_once('=') else {
+        return Ok((path(alloc, given.trim_end_matches('!'))?, None));
     };
     let content = Vec::from_slice(alloc, content.as_bytes())?;
     Ok((path(alloc, text)?, Some(content)))
 }
 
-/// Files told with spaces between, as `b=c a=ab`.
-fn files_told(alloc: Global, told: &str) -> Result<Files, Fail> {
+/// Files given with spaces between, as `b=c a=ab`.
+fn files_given(alloc: Global, given: &str) -> Result<Files, Fail> {
     let mut paths = Vec::new(alloc);
     let mut contents = Vec::new(alloc);
-    for file in told.split_whitespace() {
-        let (path, content) = file_told(alloc, file)?;
+    for file in given.split_whitespace() {
+        let (path, content) = file_given(alloc, file)?;
         paths.push(path)?;
         contents.push(content)?;
     }
@@ -41,18 +41,18 @@ fn files_told(alloc: Global, told: &str) -> Result<Files, Fail> {
 }
 
 /// Their paths alone.
-fn paths_told(alloc: Global, told: &str) -> Result<Vec<FilePath>, Fail> {
-    let (paths, _) = files_told(alloc, told)?;
+fn paths_given(alloc: Global, given: &str) -> Result<Vec<FilePath>, Fail> {
+    let (paths, _) = files_given(alloc, given)?;
     Ok(paths)
 }
 
 /// Such files, of which no read gives more than so many bytes.
 pub(crate) fn files_in_steps(
     alloc: Global,
-    told: &str,
+    given: &str,
     step: usize,
 ) -> Result<(Vec<FilePath>, ShortSource), Fail> {
-    let (paths, contents) = files_told(alloc, told)?;
+    let (paths, contents) = files_given(alloc, given)?;
     let source = ShortSource::new(MemSource::new(contents), step.max(1));
     Ok((paths, source))
 }
@@ -77,8 +77,8 @@ pub(crate) fn order(
     })
 }
 
-/// Whether `made` is told, or why it is not, in this text.
-fn is_told<S: Source, R: AllocGlobal + Threads + Sync>(
+/// Whether `made` is answered, or why it is not, in this text.
+fn is_answered<S: Source, R: AllocGlobal + Threads + Sync>(
     rt: &R,
     source: &S,
     paths: &[FilePath],
@@ -122,7 +122,7 @@ pub(crate) fn is_made<S: Source, R: AllocGlobal + Threads + Sync>(
     true
 }
 
-/// The kind, the name, whether it is of one file, the files told, and their torrent.
+/// The kind, the name, whether it is of one file, the files given, and their torrent.
 type Made = (Kind, &'static str, bool, &'static str, &'static [u8]);
 
 const MADE: [Made; 7] = [
@@ -137,9 +137,9 @@ const MADE: [Made; 7] = [
 
 /// Whether a row holds where reads give all that they are asked for.
 fn is_made_at_once<R: AllocGlobal + Threads + Sync>(rt: &R, row: &Made) -> Result<bool, Fail> {
-    let (kind, name, single, told, torrent) = *row;
+    let (kind, name, single, given, torrent) = *row;
     let mut order = order(rt.alloc(), kind, name, single, How::One)?;
-    let (paths, contents) = files_told(rt.alloc(), told)?;
+    let (paths, contents) = files_given(rt.alloc(), given)?;
     Ok(is_made(rt, &MemSource::new(contents), &paths, &mut order, torrent))
 }
 
@@ -149,9 +149,9 @@ fn is_made_in_steps<R: AllocGlobal + Threads + Sync>(
     row: &Made,
     step: usize,
 ) -> Result<bool, Fail> {
-    let (kind, name, single, told, torrent) = *row;
+    let (kind, name, single, given, torrent) = *row;
     let mut order = order(rt.alloc(), kind, name, single, How::One)?;
-    let (paths, source) = files_in_steps(rt.alloc(), told, step)?;
+    let (paths, source) = files_in_steps(rt.alloc(), given, step)?;
     Ok(is_made(rt, &source, &paths, &mut order, torrent))
 }
 
@@ -203,7 +203,7 @@ const HYBRID: Shape = (Kind::Hybrid, "f", false);
 
 const V2_OF_A: Shape = (Kind::V2, "a", true);
 
-/// The files, the shape, the piece length, the span and the workers, and what is told.
+/// The files, the shape, the piece length, the span and the workers, and what is answered.
 type Refused = (&'static str, Shape, (u64, u32, How), &'static str);
 
 const REFUSED: [Refused; 10] = [
@@ -230,14 +230,14 @@ fn order_for(alloc: Global, shape: Shape, numbers: (u64, u32, How)) -> Result<Or
 
 /// Whether a row is refused so, with nothing asked of the source.
 fn is_refused<R: AllocGlobal + Threads + Sync>(rt: &R, row: &Refused) -> Result<bool, Fail> {
-    let (told, shape, numbers, wanted) = *row;
+    let (given, shape, numbers, wanted) = *row;
     let order = order_for(rt.alloc(), shape, numbers)?;
-    let paths = paths_told(rt.alloc(), told)?;
+    let paths = paths_given(rt.alloc(), given)?;
     let source = Tells {
         length: 5,
         asked: AtomicU64::new(0),
     };
-    Ok(is_told(rt, &source, &paths, &order, wanted)? && source.asked.load(SeqCst) == 0)
+    Ok(is_answered(rt, &source, &paths, &order, wanted)? && source.asked.load(SeqCst) == 0)
 }
 
 #[test]
@@ -257,31 +257,31 @@ const TAKEN: [(&str, Shape); 3] = [
 
 fn is_taken<R: AllocGlobal + Threads + Sync>(
     rt: &R,
-    told: &str,
+    given: &str,
     shape: Shape,
     step: usize,
 ) -> Result<bool, Fail> {
     let (kind, name, single) = shape;
-    let (paths, source) = files_in_steps(rt.alloc(), told, step)?;
+    let (paths, source) = files_in_steps(rt.alloc(), given, step)?;
     let order = order(rt.alloc(), kind, name, single, How::One)?;
-    Ok(is_told(rt, &source, &paths, &order, "made")?)
+    Ok(is_answered(rt, &source, &paths, &order, "made")?)
 }
 
 #[test]
 fn takes_reserved_names_where_nothing_is_aligned(rt: HostRuntime) -> Result<(), Fail> {
-    for (told, shape) in TAKEN {
+    for (given, shape) in TAKEN {
         for step in [1, 7, 16384] {
-            assert!(rt; is_taken(&rt, told, shape, step)?);
+            assert!(rt; is_taken(&rt, given, shape, step)?);
         }
     }
     Ok(())
 }
 
-/// A place that fails: a file, for its length or at a byte; and the number of the fault.
-type Place = (u64, Option<u64>, u64);
+/// A request that fails: for the length of a file, or for a byte of it; and the number of the fault.
+type Failing = (u64, Option<u64>, u64);
 
-/// Files, two places that fail, and what is told.
-type Fault = (&'static str, Place, Place, &'static str);
+/// Files, two requests that fail, and what is answered.
+type Fault = (&'static str, Failing, Failing, &'static str);
 
 const FAULTS: [Fault; 6] = [
     ("b! a=ab", (9, None, 1), (9, None, 2), "Missing { file: 0 }"),
@@ -313,12 +313,12 @@ fn is_fault<R: AllocGlobal + Threads + Sync>(
     kind: Kind,
     how: How,
 ) -> Result<bool, Fail> {
-    let (told, one, other, wanted) = *row;
-    let (paths, contents) = files_told(rt.alloc(), told)?;
+    let (given, one, other, wanted) = *row;
+    let (paths, contents) = files_given(rt.alloc(), given)?;
     let faults = vec![in rt.alloc(); one, other]?;
     let source = FailSource::new(MemSource::new(contents), faults);
     let order = order(rt.alloc(), kind, "f", false, how)?;
-    Ok(is_told(rt, &source, &paths, &order, wanted)?)
+    Ok(is_answered(rt, &source, &paths, &order, wanted)?)
 }
 
 /// Whether a row holds for each kind, each way to share the units.
@@ -341,31 +341,31 @@ fn tells_faults_under_the_numbers_handed_in(rt: HostRuntime) -> Result<(), Fail>
     Ok(())
 }
 
-/// The length that is told of a file with no bytes, and what is told.
+/// The length that is told of a file with no bytes, and what is answered.
 const LENGTHS: [(u64, &str); 3] = [
     ((1 << 50) + 1, "List(TooLarge)"),
     (5, "Changed { file: 0 }"),
     (0, "made"),
 ];
 
-fn is_told_of_length<R: AllocGlobal + Threads + Sync>(
+fn is_answered_for_length<R: AllocGlobal + Threads + Sync>(
     rt: &R,
     length: u64,
     wanted: &str,
 ) -> Result<bool, Fail> {
-    let paths = paths_told(rt.alloc(), "a!")?;
+    let paths = paths_given(rt.alloc(), "a!")?;
     let order = order(rt.alloc(), Kind::Hybrid, "a", true, How::Halves(2))?;
     let source = Tells {
         length,
         asked: AtomicU64::new(0),
     };
-    Ok(is_told(rt, &source, &paths, &order, wanted)?)
+    Ok(is_answered(rt, &source, &paths, &order, wanted)?)
 }
 
 #[test]
 fn refuses_lengths_that_are_too_large(rt: HostRuntime) -> Result<(), Fail> {
     for (length, wanted) in LENGTHS {
-        assert!(rt; is_told_of_length(&rt, length, wanted)?);
+        assert!(rt; is_answered_for_length(&rt, length, wanted)?);
     }
     Ok(())
 }
@@ -401,7 +401,7 @@ impl Source for Changing {
     }
 }
 
-/// The file, what it is told to have when it is asked again, whether its byte is there to read, and what is told.
+/// The file, what it is told to have when it is asked again, whether its byte is there to read, and what is answered.
 type Change = (u64, Option<u64>, bool, &'static str);
 
 const CHANGES: [Change; 8] = [
@@ -410,7 +410,7 @@ const CHANGES: [Change; 8] = [
     (0, Some(1), false, "Changed { file: 0 }"),
     (1, Some(1), false, "Changed { file: 1 }"),
     (0, Some(0), true, "Changed { file: 0 }"),
-    // It vanished: that it is missing is told of the first asking alone.
+    // It vanished: that it is missing is answered at the first asking alone.
     (0, None, true, "Changed { file: 0 }"),
     (1, None, true, "Changed { file: 1 }"),
     (1, None, false, "Changed { file: 1 }"),
@@ -422,7 +422,7 @@ fn is_change<R: AllocGlobal + Threads + Sync>(
     how: How,
 ) -> Result<bool, Fail> {
     let (file, again, has_bytes, wanted) = *row;
-    let paths = paths_told(rt.alloc(), "b! a!")?;
+    let paths = paths_given(rt.alloc(), "b! a!")?;
     let order = order(rt.alloc(), Kind::Hybrid, "f", false, how)?;
     let source = Changing {
         file,
@@ -430,7 +430,7 @@ fn is_change<R: AllocGlobal + Threads + Sync>(
         asked: AtomicU64::new(0),
         has_bytes,
     };
-    Ok(is_told(rt, &source, &paths, &order, wanted)?)
+    Ok(is_answered(rt, &source, &paths, &order, wanted)?)
 }
 
 #[test]

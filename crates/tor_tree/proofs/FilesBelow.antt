@@ -70,16 +70,16 @@ pub apart_after : (deep : ℕ) (name : List ℕ) (files : List (List (List ℕ) 
     → (f : List (List ℕ) × Data) (fs : List (List (List ℕ) × Data)) → drop count (files_below deep files roots) ≡ f ∷ fs
     → is_first name f.0 ≡ false
 apart_after deep name files roots count ends f fs e =
-    first_apart deep name (drop count files) (drop count roots) at_place f fs
+    first_apart deep name (drop count files) (drop count roots) at_count f fs
     (sym (drop-files_below deep count files roots) ∙ e)
   where
     first_of : count < length files → (file : List (List ℕ) × ℕ) (others : List (List (List ℕ) × ℕ))
         → drop count files ≡ file ∷ others → get_or files count file ≡ file
     first_of lt file others is = let shown = sym (drop_more files count file lt) ∙ is in cc
 
-    at_place : (file : List (List ℕ) × ℕ) (others : List (List (List ℕ) × ℕ)) → drop count files ≡ file ∷ others
+    at_count : (file : List (List ℕ) × ℕ) (others : List (List (List ℕ) × ℕ)) → drop count files ≡ file ∷ others
         → has_name_at deep name file.0 ≡ false
-    at_place file others is = elim (cases_lt count (length files)) [
+    at_count file others is = elim (cases_lt count (length files)) [
       | inl lt ↦ rw (first_of lt file others is) at (ends file lt)
       | inr past ↦ (let none = sym (drop_all count files past) ∙ is in cc)
     ]
@@ -149,6 +149,6 @@ pub faultless_named : (name : List ℕ) → name_fault name ≡ None → name �
 faultless_named [] faultless e = cc
 faultless_named (c ∷ cs) faultless e = cc
 
--- a slice from a place to the end
+-- a slice from an index to the end
 pub to_end : {X : Type 0} (n : ℕ) (xs : List X) → take (length xs - n) (drop n xs) ≡ drop n xs
 to_end n xs = take_all (length xs - n) (drop n xs) (omega (arith, length-drop n xs))

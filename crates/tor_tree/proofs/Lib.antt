@@ -11,7 +11,7 @@ pub mod NameLemmas
 pub mod OneTree
 pub mod PathLists
 pub mod Permuted
-pub mod PlacedPaths
+pub mod IndexedPaths
 pub mod PropertyLemmas
 pub mod ProvedLaws
 pub mod ReadFiles

@@ -51,29 +51,29 @@ never_below_itself path below = let tied = tied_itself path_order path in cc
 not_inside_later : (paths : List (List (List ℕ))) → IsStrictlySortedBy path_cmp paths
     → AllAdjacentBelow (λ x y. starts_with name_eq y x ≡ false) paths (length paths) → (i j : ℕ) → i < j
     → j < length paths → starts_with name_eq (get_or paths j []) (get_or paths i []) ≡ true → ⊥
-not_inside_later paths rising apart i j lt within starts = by_places (cases_order (i + 1) j)
+not_inside_later paths rising apart i j lt within starts = by_indices (cases_order (i + 1) j)
   where
-    by_places : (i + 1 ≡ j) ⊎ ((i + 1 < j) ⊎ (j < i + 1)) → ⊥
-    by_places (inl e) = both_ways _ (apart i [] (omega arith)) (rw (← e) at starts)
-    by_places (inr (inl further)) =
+    by_indices : (i + 1 ≡ j) ⊎ ((i + 1 < j) ⊎ (j < i + 1)) → ⊥
+    by_indices (inl e) = both_ways _ (apart i [] (omega arith)) (rw (← e) at starts)
+    by_indices (inr (inl further)) =
         let first = Less-from_sorted path_cmp paths i (i + 1) [] rising (omega arith) (omega arith) in
         let second = Less-from_sorted path_cmp paths (i + 1) j [] rising further within in
         both_ways _ (apart i [] (omega arith)) (beginning_between nat_list_cmp_total texts_ties (get_or paths i [])
         (get_or paths (i + 1) []) (get_or paths j []) first second starts)
-    by_places (inr (inr before)) = absurd (omega arith)
+    by_indices (inr (inr before)) = absurd (omega arith)
 
 not_inside : (paths : List (List (List ℕ))) → IsStrictlySortedBy path_cmp paths
     → AllAdjacentBelow (λ x y. starts_with name_eq y x ≡ false) paths (length paths) → (i j : ℕ) → i < length paths
     → j < length paths → is_inside (get_or paths i []) (get_or paths j []) ≡ true → ⊥
-not_inside paths rising apart i j in_i in_j inside = by_places (cases_order i j)
+not_inside paths rising apart i j in_i in_j inside = by_indices (cases_order i j)
   where
-    by_places : (i ≡ j) ⊎ ((i < j) ⊎ (j < i)) → ⊥
-    by_places (inl e) =
+    by_indices : (i ≡ j) ⊎ ((i < j) ⊎ (j < i)) → ⊥
+    by_indices (inl e) =
         never_below_itself (get_or paths j []) (rw e at (inside_after (get_or paths i []) (get_or paths j []) inside))
-    by_places (inr (inl before)) =
+    by_indices (inr (inl before)) =
         not_inside_later paths rising apart i j before in_j
         (and_parts _ (nat_lt (length (get_or paths i [])) (length (get_or paths j []))) inside).0
-    by_places (inr (inr after)) =
+    by_indices (inr (inr after)) =
         let below = Less-from_sorted path_cmp paths j i [] rising after in_i in
         let above = inside_after (get_or paths i []) (get_or paths j []) inside in
         never_below_itself (get_or paths j []) (path_order.trans _ (get_or paths i []) _ below above)

@@ -11,7 +11,7 @@ use Rattle.tor_tree.specs.FileList.{IsFileList, IsInPathOrder, is_inside, length
 use Rattle.tor_tree.specs.FileTree.{files_of_tree, tree_fault}
 use Rattle.tor_tree.specs.Name.{name_fault}
 use Rattle.tor_tree.specs.Path.{HasNames, IsFilePath, path_cmp}
-use Rattle.tor_tree.specs.PathList.{ArePlaces}
+use Rattle.tor_tree.specs.PathList.{AreIndices}
 use Rattle.tor_tree.specs.TidyTree.{AtMostOneTree, HasItsRoot, IsFileTreeOf}
 use Rattle.tor_tree.specs.WrittenTree.{file_tree}
 use Rattle.tor_tree.specs.declared.tree_file.TreeFile.{TreeFile}
@@ -23,9 +23,9 @@ use Rattle.tor_tree.proofs.ListFaults.{small_files}
 use Rattle.tor_tree.proofs.PathLists.{inside_after, path_order}
 use Rattle.tor_tree.proofs.OneTree.{one_tree}
 use Rattle.tor_tree.proofs.Permuted.{lengths_fault-permutation, paths_fault-permutation}
-use Rattle.tor_tree.proofs.PlacedPaths.{moved_to_places}
+use Rattle.tor_tree.proofs.IndexedPaths.{moved_to_indices}
 use Rattle.tor_tree.proofs.Readable.{all_named, path_named, readable}
-use Rattle.tor_tree.proofs.ReadFiles.{read_paths, read_roots, rooted_by_place}
+use Rattle.tor_tree.proofs.ReadFiles.{read_paths, read_roots, rooted_by_index}
 use Rattle.tor_tree.proofs.RisingPaths.{paths_rise}
 
 pub one_file_tree : AtMostOneTree
@@ -87,15 +87,15 @@ paths_in_order = path_order
 pub folder_before_inside : (folder path : List (List ℕ)) → is_inside folder path ≡ true → path_cmp folder path ≡ Less
 folder_before_inside = inside_after
 
-pub roots_by_place : (files : List (List (List ℕ) × ℕ)) (roots : List (Option (List ℕ))) → length roots ≡ length files
+pub roots_by_index : (files : List (List (List ℕ) × ℕ)) (roots : List (Option (List ℕ))) → length roots ≡ length files
     → ((k : ℕ) (file : List (List ℕ) × ℕ) (root : Option (List ℕ)) → k < length files
     → HasItsRoot (get_or files k file) (get_or roots k root))
     → AllZip HasItsRoot files roots
-roots_by_place = rooted_by_place
+roots_by_index = rooted_by_index
 
-pub at_places : {X : Type 0} (xs : List X) (d : X) (places : List ℕ) → ArePlaces places → length places ≡ length xs
-    → IsPermutation xs (map (λ place. get_or xs place d) places)
-at_places = moved_to_places
+pub at_indices : {X : Type 0} (xs : List X) (d : X) (indices : List ℕ) → AreIndices indices → length indices ≡ length xs
+    → IsPermutation xs (map (λ index. get_or xs index d) indices)
+at_indices = moved_to_indices
 
 pub rising_paths : (tree : Data) → HasRisingKeys tree
     → IsStrictlySortedBy path_cmp (map (λ (file : TreeFile). file.path) (files_of_tree tree))

@@ -105,15 +105,15 @@ pub read_roots : (tree : Data) → tree_fault tree ≡ None
     (map (λ (file : TreeFile). file.root) (files_of_tree tree))
 read_roots tree faultless = roots_there (entries_of tree) (faultless_tree tree faultless).1
 
--- roots that are each at their files' places are those of the list
-pub rooted_by_place : (files : List (List (List ℕ) × ℕ)) (roots : List (Option (List ℕ))) → length roots ≡ length files
+-- roots that are each at their files' indices are those of the list
+pub rooted_by_index : (files : List (List (List ℕ) × ℕ)) (roots : List (Option (List ℕ))) → length roots ≡ length files
     → ((k : ℕ) (file : List (List ℕ) × ℕ) (root : Option (List ℕ)) → k < length files
     → HasItsRoot (get_or files k file) (get_or roots k root))
     → AllZip HasItsRoot files roots
-rooted_by_place [] [] e each = tt
-rooted_by_place [] (root ∷ roots) e each = absurd (omega (arith, e))
-rooted_by_place (file ∷ files) [] e each = absurd (omega (arith, e))
-rooted_by_place (file ∷ files) (root ∷ roots) e each = (
+rooted_by_index [] [] e each = tt
+rooted_by_index [] (root ∷ roots) e each = absurd (omega (arith, e))
+rooted_by_index (file ∷ files) [] e each = absurd (omega (arith, e))
+rooted_by_index (file ∷ files) (root ∷ roots) e each = (
   each 0 file root (omega arith),
-  rooted_by_place files roots (omega (arith, e)) (λ k f r lt. each (suc k) f r (omega (arith, lt))),
+  rooted_by_index files roots (omega (arith, e)) (λ k f r lt. each (suc k) f r (omega (arith, lt))),
 )

@@ -19,7 +19,7 @@ use Rattle.tor_tree.proofs.OneTree.{AreTidyFiles, tidy_of}
 use Rattle.tor_tree.proofs.PathLists.{nest_found}
 use Rattle.tor_tree.proofs.Shaped.{HaveNames, no_link, no_negative_length, shaped_folder}
 use Rattle.tor_tree.proofs.TreeOfFiles.{one_root_each, plain, plain_file}
-use Rattle.tor_tree.proofs.Unmixed.{AreApart, HavePaths, apart_from_places, paths_in, told_paths, unmixed}
+use Rattle.tor_tree.proofs.Unmixed.{AreApart, HavePaths, apart_from_indices, paths_in, told_paths, unmixed}
 use Rattle.std.proofs.lemmas.List.Elements.{All-from_recursion, recursion_from_All}
 
 told_lengths : (entries : List (List (List ℕ) × Data))
@@ -83,7 +83,7 @@ moved P (entry ∷ entries) (file ∷ files) same each =
 apart_list : (files : List (List (List ℕ) × ℕ)) → IsInPathOrder files → paths_nest (paths_of files) ≡ false
     → AreApart (paths_of files)
 apart_list files in_order flat =
-    apart_from_places (paths_of files)
+    apart_from_indices (paths_of files)
     (λ k lt.
     let next : suc k ≡ k + 1 = omega arith in
     false_from_ne_true _

@@ -61,7 +61,7 @@ module _ {K : Type 0} {R : K → K → Ordering} (o : IsTotalOrder R) {E : K →
           at_most_one false = omega arith
       by_order Greater e rest = rw (ties p x, e, zero-add) rest
 
--- an element that stands at two neighbouring places is there more than once
+-- an element that stands at two neighbouring indices is there more than once
 pub count_of_neighbours : {X : Type 0} (p : X → Bool) (xs : List X) (k : ℕ) (d : X) → k + 1 < length xs
     → p (get_or xs k d) ≡ true → p (get_or xs (k + 1) d) ≡ true → 1 < count_by p xs
 count_of_neighbours {X} p xs k d lt here next =

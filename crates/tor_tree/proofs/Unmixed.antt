@@ -29,13 +29,13 @@ pub told_paths : (entries : List (List (List ℕ) × Data))
 told_paths [] = refl
 told_paths ((path, properties) ∷ entries) = ap (λ paths. path ∷ paths) (told_paths entries)
 
-pub apart_from_places : (paths : List (List (List ℕ)))
+pub apart_from_indices : (paths : List (List (List ℕ)))
     → ((k : ℕ) → suc k < length paths → starts_with name_eq (get_or paths (suc k) []) (get_or paths k []) ≡ false)
     → AreApart paths
-apart_from_places [] each = tt
-apart_from_places (path ∷ []) each = tt
-apart_from_places (path ∷ next ∷ paths) each =
-    (each 0 (omega arith), apart_from_places (next ∷ paths) (λ k lt. each (suc k) (omega (arith, lt))))
+apart_from_indices [] each = tt
+apart_from_indices (path ∷ []) each = tt
+apart_from_indices (path ∷ next ∷ paths) each =
+    (each 0 (omega arith), apart_from_indices (next ∷ paths) (λ k lt. each (suc k) (omega (arith, lt))))
 
 apart_under : (key : List ℕ) (inside rest : List (List (List ℕ) × Data))
     → AreApart (paths_in (under key inside ++ rest)) → AreApart (paths_in inside)

@@ -37,7 +37,7 @@ added_folder folder (c ∷ cs) value named =
 
 pub ruleset walking = (added_folder, view_dictionary)
 
--- the pairs from place i on are those of the pair there and of the rest
+-- the pairs from index i on are those of the pair there and of the rest
 pairs_from : (items : List (Vec ℕ Global × Item)) (i : ℕ) (p : Vec ℕ Global × Item) → i < length items
     → p ≡ get_or items i p → pairs_view (drop i items) ≡ pair p.0.items (view p.1) (pairs_view (drop (i + 1) items))
 pairs_from items i p within is = ap pairs_view (drop_more items i p within) ∙ rw (sym is) refl

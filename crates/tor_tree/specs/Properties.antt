@@ -42,7 +42,7 @@ abbrev pub is_hash : Option (List ℕ) → Bool
 is_hash None = false
 is_hash (Some bytes) = length bytes == 32
 
--- the letters of `attr`: `l` for a symbolic link, `x` for a file that may be run, `h` for a hidden one
+-- the letters of `attr`: `l` for a symbolic link, `x` for an executable file, `h` for a hidden one
 abbrev pub letter_l : ℕ
 letter_l = 108
 

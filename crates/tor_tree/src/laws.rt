@@ -11,7 +11,7 @@ ghost use Rattle.tor_tree.specs.FileList.{IsFileList, IsInPathOrder, is_inside, 
 ghost use Rattle.tor_tree.specs.FileTree.{files_of_tree, tree_fault};
 ghost use Rattle.tor_tree.specs.Name.{name_fault};
 ghost use Rattle.tor_tree.specs.Path.{HasNames, IsFilePath, path_cmp};
-ghost use Rattle.tor_tree.specs.PathList.{ArePlaces};
+ghost use Rattle.tor_tree.specs.PathList.{AreIndices};
 ghost use Rattle.tor_tree.specs.TidyTree.{AtMostOneTree, HasItsRoot, IsFileTreeOf};
 ghost use Rattle.tor_tree.specs.WrittenTree.{file_tree};
 ghost use Rattle.tor_tree.specs.declared.lists.TheConstants.{MAX_LENGTH, MAX_TOTAL, ROUNDING};
@@ -77,18 +77,18 @@ pub fn paths_are_ordered()
     ensures inside { (folder path : List (List ℕ)) → is_inside folder path ≡ true → path_cmp folder path ≡ Less }
 {}
 
-/// Roots that are there just where their files are not empty, place by place, are those of the whole list.
-pub fn roots_by_place()
+/// Roots that are there just where their files are not empty, index by index, are those of the whole list.
+pub fn roots_by_index()
     ensures { (files : List (List (List ℕ) × ℕ)) (roots : List (Option (List ℕ))) → length roots ≡ length files →
         ((k : ℕ) (file : List (List ℕ) × ℕ) (root : Option (List ℕ)) → k < length files →
         HasItsRoot (slice_index_or files k file) (slice_index_or roots k root)) →
         AllZip HasItsRoot files roots }
 {}
 
-/// What stands at the places of a list of paths is all that was handed in, in another order.
-pub fn at_places<T>()
-    ensures { (xs : List T) (d : T) (places : List ℕ) → ArePlaces places → length places ≡ length xs →
-        IsPermutation xs (map (λ place. slice_index_or xs place d) places) }
+/// What stands at the indices of a list of paths is all that was handed in, in another order.
+pub fn at_indices<T>()
+    ensures { (xs : List T) (d : T) (indices : List ℕ) → AreIndices indices → length indices ≡ length xs →
+        IsPermutation xs (map (λ index. slice_index_or xs index d) indices) }
 {}
 
 /// The files of a tree whose keys rise are in the order of their paths, each path once.

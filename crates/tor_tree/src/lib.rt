@@ -13,7 +13,7 @@
 //! - [`Name`] (`names.rt`): the name of a file or a folder.
 //! - [`FilePath`] (`paths.rt`): the names that lead to a file, in the order of paths.
 //! - [`FileList`] (`lists.rt`): files in order, each once.
-//! - [`PathList`] (`path_lists.rt`): paths in order, each with its place among those
+//! - [`PathList`] (`path_lists.rt`): paths in order, each with its index among those
 //!   that were handed in, where lengths are still to be asked.
 //! - [`from_item`] (`read_tree.rt`): the files that a tree describes, each a [`TreeFile`] (`tree_file.rt`); they are in
 //!   order.

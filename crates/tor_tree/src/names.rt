@@ -14,7 +14,7 @@ use std::marker::Model;
 use std::str;
 use thiserror::Error;
 
-/// Why a byte string is no name. The least number is told.
+/// Why a byte string is no name. The least number is answered.
 #[derive(Debug, Drop, Error)]
 pub enum NameError {
     #[error("N1 Empty")]

@@ -25,7 +25,7 @@ pub struct TreeFile {
     pub hidden: bool,
 }
 
-/// Why an item is no file tree. The least number is told, each looked for in the whole tree before the next.
+/// Why an item is no file tree. The least number is answered, each looked for in the whole tree before the next.
 #[derive(Debug, Drop, Error)]
 pub enum TreeFault {
     /// A folder is no dictionary, a key is no name, or a file's properties are not of their shape.

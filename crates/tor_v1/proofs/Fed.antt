@@ -37,8 +37,8 @@ HasFed-nil sums p cut pos begun items holds = HasFed-append sums p 0 [] [] cut
 no_more : (all now k q r : ℕ) → now ≡ k + q → all ≡ k + r → all ≤ now → r ≤ q
 no_more all now k q r before after le = omega arith
 
-fits : (n room q r : ℕ) → r ≤ q → n + 20 * q ≤ room → n + 20 * r ≤ room
-fits n room q r le within = omega arith
+fits : (n capacity q r : ℕ) → r ≤ q → n + 20 * q ≤ capacity → n + 20 * r ≤ capacity
+fits n capacity q r le within = omega arith
 
 module _ (sums : PieceSums) (p : ℕ) (bytes : List ℕ) (fed : HasFed sums p bytes) where
   pub pos : 0 < p
@@ -125,9 +125,9 @@ module _ (sums : PieceSums) (p : ℕ) (bytes : List ℕ) (fed : HasFed sums p by
       let P : ℕ → Type 0 = λ n. div_ceil (sums.begun + more) n ≤ div_ceil sums.begun n in
       fits _ _ _ _ (subst P (sym fed.cut_every) fewer) sums.room
 
-still_fits : (n n' room room' q q' r : ℕ) → q ≡ 1 + r → q' ≡ r → n' ≡ n + 20 → room ≤ room' → n + 20 * q ≤ room
-    → n' + 20 * q' ≤ room'
-still_fits n n' room room' q q' r one same len capacity within = omega arith
+still_fits : (n n' capacity capacity' q q' r : ℕ) → q ≡ 1 + r → q' ≡ r → n' ≡ n + 20 → capacity ≤ capacity'
+    → n + 20 * q ≤ capacity → n' + 20 * q' ≤ capacity'
+still_fits n n' capacity capacity' q q' r one same len longer within = omega arith
 
 -- less needs no more room
 pub room_less : (sums : PieceSums) (more less : ℕ) → less ≤ more → HasRoom sums more → HasRoom sums less

@@ -1,4 +1,4 @@
--- Sums that are fed runs of eight whole pieces, whose hashes are told at once.
+-- Sums that are fed runs of eight whole pieces, whose hashes are computed at once.
 use Rattle.std.proofs.Common.{◌≡◌, ℕ, ◌+◌, ◌*◌, ◌/◌, ◌%◌, ◌<◌, ◌≤◌, List, [], ◌++◌, map, length, get_or, take, drop}
 use Rattle.std.proofs.Common.{arith, ap, ap₂, ◌∙◌, sym, subst, append-nil, length-append, vec_len, vec_capacity}
 use Rattle.std.proofs.Common.{mul_comm}
@@ -59,9 +59,9 @@ ceil_run begun p later some none =
     ap (λ n. div_ceil n p) (let e : begun + (8 * p + later) ≡ 8 * p + (begun + later) = omega arith in e)
     ∙ ceil_add 8 p (begun + later) some
 
-still_fits : (n n' room room' q q' : ℕ) → q ≡ 8 + q' → n' ≡ n + 160 → room ≤ room' → n + 20 * q ≤ room
-    → n' + 20 * q' ≤ room'
-still_fits n n' room room' q q' eight len capacity within = omega arith
+still_fits : (n n' capacity capacity' q q' : ℕ) → q ≡ 8 + q' → n' ≡ n + 160 → capacity ≤ capacity'
+    → n + 20 * q ≤ capacity → n' + 20 * q' ≤ capacity'
+still_fits n n' capacity capacity' q q' eight len longer within = omega arith
 
 -- there is room for eight hashes
 pub room_run : (sums : PieceSums) (more : ℕ) → sums.begun ≡ 0 → more ≡ 8 * sums.piece_length → HasRoom sums more

@@ -105,8 +105,8 @@ impl PieceSums {
         ensures there { HasRoom self.old more → IsOk result }
     {
         let pieces = (self.begun + more).div_ceil(self.piece_length);
-        let room = pieces.saturating_mul(DIGEST_LEN as u64);
-        self.sums.reserve(room as usize)
+        let capacity = pieces.saturating_mul(DIGEST_LEN as u64);
+        self.sums.reserve(capacity as usize)
     }
 
     // Adds bytes of any number, for whose pieces there is room.

@@ -7,7 +7,7 @@ use Rattle.tor_engine.specs.declared.room.TheConstants.{LEAST_ASKED}
 abbrev pub held_in : Room → List ℕ
 held_in room = take room.held room.bytes.items
 
--- how many these are, and how many there is room for
+-- how many these are, and how many can be held at most
 abbrev pub count_in : Room → ℕ
 count_in room = room.held
 

@@ -47,17 +47,17 @@ pub record AddsUnit {F : Type 0} (is_steady : SourceFacts F → Type 0) (plan : 
 
 -- the sums are those of the units of files with these contents
 pub record AreRunSums (plan : PlanFacts) (contents : List (List ℕ)) (units : List PlanUnit)
-    (run : RunSums) : Type 0 where
-  pub hashes : run.hashes.items ≡ hashes_of_units plan.kind plan.piece_length contents units
-  pub pieces : run.pieces.items ≡ sums_of_units plan.kind plan.piece_length contents units
+    (sums : RunSums) : Type 0 where
+  pub hashes : sums.hashes.items ≡ hashes_of_units plan.kind plan.piece_length contents units
+  pub pieces : sums.pieces.items ≡ sums_of_units plan.kind plan.piece_length contents units
 
 -- units were read, and the sums are those of any contents that have what was read
 pub record HashesUnits {F : Type 0} (is_steady : SourceFacts F → Type 0) (plan : PlanFacts) (units : List PlanUnit)
-    (run : RunSums) : Type 0 where
+    (run_sums : RunSums) : Type 0 where
   pub reads : List PartRead
   pub are : AreReads is_steady plan (parts_of units) reads
   pub sums : (contents : List (List ℕ)) → map length contents ≡ plan.lengths → HaveRead contents reads
-      → AreRunSums plan contents units run
+      → AreRunSums plan contents units run_sums
 
 -- the parts of a unit are in the files of the plan, and it has no more bytes than 1,024 of the longest pieces
 pub record IsUnitOf (plan : PlanFacts) (unit : PlanUnit) : Type 0 where
@@ -68,7 +68,7 @@ abbrev pub AreUnitsOf : PlanFacts → List PlanUnit → Type 0
 AreUnitsOf plan units = All (IsUnitOf plan) units
 
 -- what a worker answers for units: their sums; of a steady source no byte of theirs fails, or the first fault is
--- told; a fault of the source is one that it gave
+-- answered; a fault of the source is one that it gave
 pub record AnswersUnits {S F : Type 0} (is_steady : S → SourceFacts F → Type 0) (gave : S → ℕ → Option ℕ → F → Type 0)
     (source : S) (plan : PlanFacts) (units : List PlanUnit) (result : Result RunSums (EngineError F)) : Type 0 where
   pub summed : IfOk result (HashesUnits (is_steady source) plan units)

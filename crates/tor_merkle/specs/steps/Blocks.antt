@@ -7,11 +7,11 @@ use Rattle.tor_merkle.specs.Block.{leaves}
 use Rattle.tor_merkle.specs.Layer.{IsPieceLength}
 use Rattle.tor_merkle.specs.declared.TheConstants.{BLOCK_LENGTH, MAX_LENGTH}
 
--- the bytes fed so far, in pieces of 2 ^ height blocks, and how many hashes of pieces there is room for
+-- the bytes fed so far, in pieces of 2 ^ height blocks, and how many hashes of pieces their vector can have
 pub record Blocks : Type 0 where
   pub height : ℕ
   pub bytes : List ℕ
-  pub room : ℕ
+  pub capacity : ℕ
 
 -- how many bytes of n fill whole blocks
 abbrev pub in_blocks : ℕ → ℕ
@@ -30,18 +30,18 @@ pub record KeepsFeeding (piece_length : ℕ) (blocks : Blocks) : Type 0 where
   pub low : blocks.height ≤ 16
   pub piece : piece_length ≡ BLOCK_LENGTH * 2 ^ blocks.height
   pub small : length blocks.bytes ≤ MAX_LENGTH
-  pub reserved : div_ceil (length blocks.bytes) piece_length ≤ blocks.room
+  pub reserved : div_ceil (length blocks.bytes) piece_length ≤ blocks.capacity
 
 -- some bytes more, within the last block and within the longest content, and there is room for the pieces begun
 pub record FitsBlock (blocks : Blocks) (part : List ℕ) : Type 0 where
   pub some : 0 < length part
   pub within : length blocks.bytes % BLOCK_LENGTH + length part ≤ BLOCK_LENGTH
   pub small : length blocks.bytes + length part ≤ MAX_LENGTH
-  pub room : div_ceil (length blocks.bytes + length part) (BLOCK_LENGTH * 2 ^ blocks.height) ≤ blocks.room
+  pub room : div_ceil (length blocks.bytes + length part) (BLOCK_LENGTH * 2 ^ blocks.height) ≤ blocks.capacity
 
 -- eight whole blocks more, where none is begun
 pub record FitsRun (blocks : Blocks) (run : List ℕ) : Type 0 where
   pub whole : length blocks.bytes % BLOCK_LENGTH ≡ 0
   pub long : length run ≡ 8 * BLOCK_LENGTH
   pub small : length blocks.bytes + length run ≤ MAX_LENGTH
-  pub room : div_ceil (length blocks.bytes + length run) (BLOCK_LENGTH * 2 ^ blocks.height) ≤ blocks.room
+  pub room : div_ceil (length blocks.bytes + length run) (BLOCK_LENGTH * 2 ^ blocks.height) ≤ blocks.capacity

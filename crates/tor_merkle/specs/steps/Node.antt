@@ -1,4 +1,4 @@
--- The nodes of a tree, each named by its level and its place in the level. Only private clauses cite this.
+-- The nodes of a tree, each named by its level and its index in the level. Only private clauses cite this.
 use Rattle.std.specs.Prelude.{ℕ, zero, suc, ◌+◌, ◌*◌, ◌^◌, List, length, map, slice_index_or}
 use Rattle.std.specs.Int.{div_ceil}
 use Rattle.std.specs.List.{range_with_len}

@@ -4,11 +4,11 @@ use Rattle.std.specs.Prelude.{◌≡◌, ℕ, ◌-◌, ◌*◌, ◌/◌, ◌^◌
 use Rattle.tor_merkle.specs.steps.Node.{first_nodes}
 use Rattle.tor_merkle.specs.Stack.{Subtrees, padded_subtree}
 
--- the leaves so far, in pieces of 2 ^ height, and how many hashes of pieces there is room for
+-- the leaves so far, in pieces of 2 ^ height, and how many hashes of pieces their vector can have
 pub record Growing : Type 0 where
   pub height : ℕ
   pub leaves : List (List ℕ)
-  pub room : ℕ
+  pub capacity : ℕ
 
 -- the pieces before that of the last leaf are filled
 abbrev pub filled : ℕ → List (List ℕ) → ℕ
@@ -26,14 +26,14 @@ pub record KeepsPieces (height : ℕ) (leaves : List (List ℕ)) (blocks pieces 
   pub listed : layer ≡ pieces.hashes
 
 -- a piece may end: it has leaves, and no more than its length has, and there is room for its hash
-pub record EndsPiece (height : ℕ) (blocks pieces : Subtrees) (hashes room : ℕ) : Type 0 where
+pub record EndsPiece (height : ℕ) (blocks pieces : Subtrees) (hashes capacity : ℕ) : Type 0 where
   pub low : height ≤ 16
   pub block_level : blocks.level ≡ 0
   pub some : 0 < length blocks.hashes
   pub within : length blocks.hashes ≤ 2 ^ height
   pub piece_level : pieces.level ≡ height
   pub stack : length pieces.hashes < 2 ^ (36 - height)
-  pub fits : hashes < room
+  pub fits : hashes < capacity
 
 -- its hash follows those of the pieces before it, and no leaf is stacked any more
 pub record ClosesPiece (height : ℕ) (blocks blocks' pieces pieces' : Subtrees) (layer layer' : List (List ℕ))

@@ -23,9 +23,9 @@ zeros_alone n = record { zeros = n; parts = [] }
 abbrev pub part_alone : Part → PlanUnit
 part_alone part = record { zeros = 0; parts = part ∷ [] }
 
--- ---- bytes by their places
+-- ---- bytes by their offsets
 
--- so many bytes, and what those from one place to another are as a unit
+-- so many bytes, and what those from one offset to another are as a unit
 pub record Ranges : Type 0 where
   pub total : ℕ
   pub within : ℕ → ℕ → PlanUnit

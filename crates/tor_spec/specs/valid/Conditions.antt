@@ -36,7 +36,7 @@ pub data Condition : Type 0 where
   FilesDiffer : Condition
   Alignment : Condition
 
--- in the order in which they are told
+-- in the order in which they are answered
 abbrev pub conditions : List Condition
 conditions =
     RootShape ∷ InfoShape ∷ MetaVersion ∷ PieceLength ∷ Name ∷ LengthAndFiles ∷ FileShape ∷ FileLength ∷

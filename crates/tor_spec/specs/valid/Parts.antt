@@ -1,5 +1,5 @@
 -- What the keys of a foreign torrent say (BEP 3, "metainfo files"; BEP 52, "metainfo files"). What is not there, or not
--- of its type, is told by a condition of its own; here it says nothing.
+-- of its type, is found by a condition of its own; here it says nothing.
 use Rattle.std.specs.Prelude.{ℕ, pos, negsuc, ◌==◌, Bool, true, false, List, [], ◌∷◌, unsigned_abs, codes}
 use Rattle.std.specs.Prelude.{Option, None, Some, is_none, is_some, unwrap_or, if◌then◌else◌}
 use Rattle.tor_bencode.specs.Data.{Data, integer, string, list, dictionary, Items, no_items, item, no_pairs}

@@ -1,4 +1,4 @@
--- Where the two sides of a hybrid describe the same files at the same places (BEP 52, "Upgrade Path"; BEP 47, "padding
+-- Where the two sides of a hybrid describe the same files at the same offsets (BEP 52, "Upgrade Path"; BEP 47, "padding
 -- files").
 use Rattle.std.specs.Prelude.{◌≡◌, ℕ, ◌==◌, Bool, false, not, ◌&&◌, ◌||◌, List, [], ◌∷◌, ◌++◌, map, filter, find}
 use Rattle.std.specs.Prelude.{reverse, sum_by, nat_lt, ◌+◌}
@@ -69,4 +69,4 @@ alignment info =
 -- the sides of a hybrid agree
 pub record SidesAgree (info : Data) : Type 0 where
   pub files : files_differ info ≡ false
-  pub places : alignment info ≡ false
+  pub aligned : alignment info ≡ false

@@ -1,7 +1,7 @@
 -- What a torrent describes.
 use Rattle.std.specs.Prelude.{ℕ, Bool, List, [], map, sum_by, codes, None, unwrap_or, if◌then◌else◌}
 use Rattle.tor_bencode.specs.Data.{Data}
-use Rattle.tor_bencode.specs.Place.{place_of}
+use Rattle.tor_bencode.specs.Span.{span_of}
 use Rattle.tor_tree.specs.Kinds.{has_v1, has_v2}
 use Rattle.tor_tree.specs.declared.kinds.Kind.{Kind}
 use Rattle.tor_tree.specs.declared.tree_file.TreeFile.{TreeFile}
@@ -76,6 +76,6 @@ view_of root =
       files = files_of root;
       entries = if v1 then map entry_of_file (side_files info) else [];
       pieces = if v1 then text_of (part (codes "pieces") info) else [];
-      info_span = unwrap_or (place_of (codes "info") root) (0, 0);
+      info_span = unwrap_or (span_of (codes "info") root) (0, 0);
       piece_count = if has_v2 (kind_of info) then tree_piece_count info else side_piece_count info;
     }

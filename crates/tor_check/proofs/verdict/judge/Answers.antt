@@ -1,12 +1,12 @@
 use Rattle.std.proofs.Common.{◌≡◌, None, subst}
 use Rattle.tor_bencode.specs.View.{view}
 use Rattle.tor_check.proofs.HeadFacts.{allowed}
-use Rattle.tor_check.proofs.Stages.{at_end, at_head, at_layers, at_places, at_sides}
-use Rattle.tor_check.specs.Judged.{IsFirst, first_of_places}
+use Rattle.tor_check.proofs.Stages.{at_end, at_head, at_layers, at_alignment, at_sides}
+use Rattle.tor_check.specs.Judged.{IsFirst, first_of_alignment}
 use Rattle.tor_check.specs.Sides.{first_of_both}
 use Rattle.tor_spec.specs.valid.Conditions.{refusal_of}
 use Rattle.tor_check.proofs.verdict.judge.Goals as goal
-use Rattle.tor_check.proofs.verdict.judge.Goals.{In_default-judge_places}
+use Rattle.tor_check.proofs.verdict.judge.Goals.{In_default-judge_alignment}
 
 pub returns-in-Err-clause-refused : goal.returns-in-Err-clause-refused
 returns-in-Err-clause-refused c = at_head (view c.args.root.now) c.in-Err.refusal c.in-Err.ensures.refused
@@ -16,8 +16,8 @@ judge_layers-requires-clause-allowed c =
     (allowed (view c.args.root.now) c.in-Ok.head.piece_length c.in-Ok.ensures.accepted
     c.in-Ok.ensures.read.piece_length).tree
 
-pub judge_places-requires-clause-some : goal.judge_places-requires-clause-some
-judge_places-requires-clause-some c =
+pub judge_alignment-requires-clause-some : goal.judge_alignment-requires-clause-some
+judge_alignment-requires-clause-some c =
     let length =
     allowed (view c.args.root.now) c.in-Ok.head.piece_length c.in-Ok.ensures.accepted
     c.in-Ok.ensures.read.piece_length in
@@ -36,27 +36,27 @@ returns-in-Err-judge_layers-clause-refused c =
     at_layers (view c.args.root.now) c.in-Err-judge_layers.refusal c.in-Ok.ensures.accepted sides
     c.in-Err-judge_layers.ensures.refused
 
-pub returns-in-Err-judge_places-clause-refused : goal.returns-in-Err-judge_places-clause-refused
-returns-in-Err-judge_places-clause-refused c =
-    let refusal = c.in-Err-judge_places.refusal in
+pub returns-in-Err-judge_alignment-clause-refused : goal.returns-in-Err-judge_alignment-clause-refused
+returns-in-Err-judge_alignment-clause-refused c =
+    let refusal = c.in-Err-judge_alignment.refusal in
     let sides =
     subst (λ info. first_of_both info ≡ None) c.in-Ok.ensures.read.info c.in-Ok-read_sides.ensures.accepted in
-    let places =
-    subst (λ info. IsFirst (first_of_places info) refusal) c.in-Ok.ensures.read.info
-    c.in-Err-judge_places.ensures.refused in
-    at_places (view c.args.root.now) refusal c.in-Ok.ensures.accepted sides c.in_default.ensures.accepted places
+    let misaligned =
+    subst (λ info. IsFirst (first_of_alignment info) refusal) c.in-Ok.ensures.read.info
+    c.in-Err-judge_alignment.ensures.refused in
+    at_alignment (view c.args.root.now) refusal c.in-Ok.ensures.accepted sides c.in_default.ensures.accepted misaligned
 
 -- no condition holds where all judges passed
-none_holds : (c : In_default-judge_places) → refusal_of (view c.args.root.now) ≡ None
+none_holds : (c : In_default-judge_alignment) → refusal_of (view c.args.root.now) ≡ None
 none_holds c =
     let read = c.in-Ok.ensures.read.info in
     let sides = subst (λ info. first_of_both info ≡ None) read c.in-Ok-read_sides.ensures.accepted in
-    let places = subst (λ info. first_of_places info ≡ None) read (c.in_default-judge_places).ensures.accepted in
-    at_end (view c.args.root.now) c.in-Ok.ensures.accepted sides c.in_default.ensures.accepted places
+    let aligned = subst (λ info. first_of_alignment info ≡ None) read (c.in_default-judge_alignment).ensures.accepted in
+    at_end (view c.args.root.now) c.in-Ok.ensures.accepted sides c.in_default.ensures.accepted aligned
 
 pub torrent_of-requires-clause-accepted : goal.torrent_of-requires-clause-accepted
 torrent_of-requires-clause-accepted c =
-    none_holds (goal.at.torrent_of-requires-clause-accepted c).In_default-judge_places
+    none_holds (goal.at.torrent_of-requires-clause-accepted c).In_default-judge_alignment
 
 pub returns-clause-accepted : goal.returns-clause-accepted
-returns-clause-accepted c = none_holds (goal.at.returns-clause-accepted c).In_default-judge_places
+returns-clause-accepted c = none_holds (goal.at.returns-clause-accepted c).In_default-judge_alignment

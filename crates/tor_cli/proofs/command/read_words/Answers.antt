@@ -20,8 +20,8 @@ module _ (matches : ArgMatches) (words : List (List ℕ)) (kinds hows : ValuePar
   asked : (request : Request) → IsFoundIn matches request → Asks words request
   asked (Show text) found = tt
   asked (Make options) found = has _ _ found
-  asked (Check place) found = has _ _ found
-  asked (Magnet place) found = has _ _ found
+  asked (Check torrent) found = has _ _ found
+  asked (Magnet torrent) found = has _ _ found
   asked (Prove options) found = has _ _ found
   asked (Verify options) found = has _ _ found
   asked (Recheck options) found = has _ _ found

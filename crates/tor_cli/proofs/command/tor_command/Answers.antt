@@ -21,10 +21,10 @@ returns c =
     =
     ap app_of_fields c.version.ensures
     ∙ ap (on_top (λ shape. record shape { has_version = true })) c.new.ensures.app in
-    let told = ap app_of_fields c.about.ensures ∙ versioned in
+    let described = ap app_of_fields c.about.ensures ∙ versioned in
     let wanting =
     ap app_of_fields c.subcommand_required.ensures
-    ∙ ap (on_top (λ shape. record shape { subcommand_required = true })) told in
+    ∙ ap (on_top (λ shape. record shape { subcommand_required = true })) described in
     let top = ap app_of_fields c.in_ok-bin_name.ensures.0 ∙ wanting in
     let (kinds, hows, are, ways, is) = c.in_ok-make_command.ensures in
     let is_check = c.in_ok-file_command.ensures in

@@ -12,8 +12,8 @@ info_hashes-hashes-requires c =
     let (root, torrent, described) = c.in-Ok.ensures.accepted in
     has_info root c.args.bytes.now torrent
 
-pub returns-in-Ok-clause-told : goal.returns-in-Ok-clause-told
-returns-in-Ok-clause-told c =
+pub returns-in-Ok-clause-accepted : goal.returns-in-Ok-clause-accepted
+returns-in-Ok-clause-accepted c =
     let (root, torrent, described) = c.in-Ok.ensures.accepted in
     let found = info_found root torrent.accepted in
     record {

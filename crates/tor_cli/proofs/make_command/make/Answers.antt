@@ -12,8 +12,8 @@ returns-in-Some-clause-stopped g c =
       reader = reader;
       reader' = reader;
       writer = g.W.Write.contents c.args.out.now;
-      writer' = g.W.Write.contents c.make_of_path.new.out;
+      writer' = g.W.Write.contents c.make_of_place.new.out;
     } in
-    let asked : option_map (λ path. path.now) c.args.options.now.path ≡ Some c.in-Some.path.now = search rules in
-    subst (λ (path : Option (List ℕ)). IfErr c.make_of_path.result (StopsFrom path c.args.options.now s)) (sym asked)
-    (c.make_of_path.ensures.stopped reader)
+    let asked : option_map (λ place. place.now) c.args.options.now.place ≡ Some c.in-Some.place.now = search rules in
+    subst (λ (place : Option (List ℕ)). IfErr c.make_of_place.result (StopsFrom place c.args.options.now s)) (sym asked)
+    (c.make_of_place.ensures.stopped reader)

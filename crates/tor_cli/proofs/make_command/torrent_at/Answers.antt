@@ -1,4 +1,4 @@
--- An error of making is told of the order and the paths. No torrent is empty.
+-- An error of making is of the order and the paths. No torrent is empty.
 use Rattle.std.proofs.Common.{rules}
 use Rattle.std.proofs.lemmas.Result.{err_from_is_err_and}
 use Rattle.tor_meta.specs.Order.{settings_of_order}
@@ -12,11 +12,11 @@ returns-in_err-torrent_of-clause-stopped g c =
     let options = c.args.options.now in
     let order = c.in_ok-order.order in
     let paths = c.in_ok-found.found.paths.items in
-    let told = c.in_err-torrent_of.ensures in
+    let why = c.in_err-torrent_of.ensures in
     let is : IsOrderOf options order paths = search rules in
     let p =
     err_from_is_err_and c.from_residual-in_err-torrent_of.result c.from_residual-in_err-torrent_of.ensures.1 in
-    rw (p.1, p.2) (finding_make options order paths c.in_err-torrent_of.field-0.0 is told.only told.refused told.gave)
+    rw (p.1, p.2) (finding_make options order paths c.in_err-torrent_of.field-0.0 is why.only why.refused why.gave)
 
 pub returns-clause-some : goal.returns-clause-some
 returns-clause-some g c =

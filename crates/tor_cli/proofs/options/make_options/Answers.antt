@@ -32,5 +32,5 @@ returns c =
           let read = c.in_ok-get_one-3.ensures.value text (one_text-rows found (codes "span") ∙ is) in
           (read.0.0.0, read.0.1);
       out = sym (first_value-rows found (codes "out")) ∙ sym c.get_str-5.ensures;
-      path = sym (first_value-rows found (codes "path")) ∙ sym c.get_str-6.ensures;
+      place = sym (first_value-rows found (codes "path")) ∙ sym c.get_str-6.ensures;
     }

@@ -9,7 +9,7 @@ pub returns : goal.returns
 returns c =
     let found = found_of c.args.matches.now in
     record {
-      place =
+      torrent =
           found_text found (codes "file") c.get_str.result c.in_ok-get_str.field-0 c.get_str.ensures (search rules);
       file = λ text is.
           let read = c.in_ok-get_one.ensures.value text (one_text-rows found (codes "file-number") ∙ is) in

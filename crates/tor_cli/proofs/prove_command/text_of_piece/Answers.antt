@@ -22,7 +22,7 @@ returns-clause-proved c =
     let none = none_refused _ c.prove_piece.result c.in-Ok-prove_piece.proved c.in-Ok-prove_piece.is
     c.prove_piece.ensures.refused in
     let view = c.in-Ok.torrent in
-    let told : IsSomeAnd (slice_get view.files file) (IsTextOfPiece view.piece_length index text) =
+    let proved : IsSomeAnd (slice_get view.files file) (IsTextOfPiece view.piece_length index text) =
     weaker _ _ (IsTextOfPiece view.piece_length index text)
     (λ told is. (
       c.in-Ok-prove_piece.proved.0,
@@ -43,5 +43,5 @@ returns-clause-proved c =
       proved =
           subst
           (λ (view : View). IsSomeAnd (slice_get view.files file) (IsTextOfPiece view.piece_length index text))
-          described told;
+          described proved;
     }

@@ -12,10 +12,10 @@ returns-in_err-write_out-clause-stopped g c reader =
     let short = rw c.as_bytes.ensures.value at c.in_err-write_out.ensures.part in
     let front = rw c.as_bytes.ensures.value at c.in_err-write_out.ensures.err in
     let report = c.in_ok-report.report in
-    let told = c.in_ok-report.ensures.told in
+    let rechecked = c.in_ok-report.ensures.rechecked in
     let p =
     err_from_is_err_and c.from_residual-in_err-write_out.result c.from_residual-in_err-write_out.ensures.1 in
     rw (p.1, p.2) (
       refl,
-      (report.answer, (c.deref.result.now, within, (string_bytes report.text, told, (short, front)))),
+      (report.answer, (c.deref.result.now, within, (string_bytes report.text, rechecked, (short, front)))),
     )

@@ -8,9 +8,9 @@ pub returns : goal.returns
 returns c =
     let found = found_of c.args.matches.now in
     record {
-      place =
+      torrent =
           found_text found (codes "file") c.get_str.result c.in_ok-get_str.field-0 c.get_str.ensures (search rules);
-      path =
+      place =
           found_text found (codes "path") c.get_str-2.result c.in_ok-get_str-2.field-0 c.get_str-2.ensures
           (search rules);
     }

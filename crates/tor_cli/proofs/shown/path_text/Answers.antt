@@ -13,7 +13,7 @@ returns c =
     let names : map (λ name. name.now) c.loop-name.names.items ≡ path = c.loop-name.invariant ∙ all in
     let texts = ap (join_by (λ (text : Bor (List ℕ)). text.now) (codes "/")) c.deref.ensures.value in
     IfOk-weaker c.join.result _ _
-    (λ text told.
-    told ∙ texts ∙ joined (codes "/") c.loop-name.names.items
+    (λ text same.
+    same ∙ texts ∙ joined (codes "/") c.loop-name.names.items
     ∙ ap (join_by (λ (name : List ℕ). name) (codes "/")) names)
     c.join.ensures.ok

@@ -11,7 +11,7 @@ returns-in_err-write_out-clause-stopped g c reader =
     omega (arith, c.deref.ensures.len, c.in_ok-bytes.ensures) in
     let short = rw c.as_bytes.ensures.value at c.in_err-write_out.ensures.part in
     let front = rw c.as_bytes.ensures.value at c.in_err-write_out.ensures.err in
-    let told = c.in_ok-lines.ensures.told in
+    let printed = c.in_ok-lines.ensures.printed in
     let p =
     err_from_is_err_and c.from_residual-in_err-write_out.result c.from_residual-in_err-write_out.ensures.1 in
-    rw (p.1, p.2) (refl, (c.deref.result.now, within, (string_bytes c.in_ok-lines.lines, told, (short, front))))
+    rw (p.1, p.2) (refl, (c.deref.result.now, within, (string_bytes c.in_ok-lines.lines, printed, (short, front))))

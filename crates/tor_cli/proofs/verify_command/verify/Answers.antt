@@ -11,7 +11,7 @@ returns-in_err-write_out-clause-stopped g c reader =
     let line = c.as_bytes.ensures.value ∙ c.answer_line.ensures in
     let short = rw line at c.in_err-write_out.ensures.part in
     let front = rw line at c.in_err-write_out.ensures.err in
-    let told = c.in_ok-answer.ensures.answered in
+    let answered = c.in_ok-answer.ensures.answered in
     let p =
     err_from_is_err_and c.from_residual-in_err-write_out.result c.from_residual-in_err-write_out.ensures.1 in
     rw (p.1, p.2) (
@@ -21,7 +21,7 @@ returns-in_err-write_out-clause-stopped g c reader =
         (
           c.in_ok-claim.claim,
           c.in_ok-claim.ensures.claimed,
-          (c.deref.result.now, within, told),
+          (c.deref.result.now, within, answered),
           (short, front),
         ),
       ),

@@ -15,11 +15,12 @@ pub runs-preserved : goal.runs-preserved
 runs-preserved c =
     let count = c.args.count in
     let left = c.runs.left in
-    let run = c.min-run.result in
+    let width = c.min-width.result in
     record {
       within = omega (arith, c.runs.invariant.within);
-      fed = feeds_more c.args.pieces.now c.runs.pieces c.feed_zeros.new.self (count - left) run (count - (left - run))
-          (omega (arith, c.runs.invariant.within, c.min-run.ensures)) c.runs.invariant.fed
+      fed = feeds_more c.args.pieces.now c.runs.pieces c.feed_zeros.new.self (count - left) width
+          (count - (left - width))
+          (omega (arith, c.runs.invariant.within, c.min-width.ensures)) c.runs.invariant.fed
           c.in_ok-feed_zeros.ensures.ok;
     }
 

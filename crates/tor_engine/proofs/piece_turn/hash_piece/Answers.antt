@@ -12,9 +12,9 @@ returns-clause-hashed g c = λ facts steady have.
     let is_steady = g.S.Source.is_steady c.args.source.now in (
       c.first_hashes.ensures
           ∙ ap₂ (λ sums roots. first_hashes (sums_in sums) roots)
-          (whole_sums facts plan piece is_steady c.none-run.result c.hash_unit.new.run c.requires.piece steady have
-          added c.none-run.ensures.pieces)
-          (whole_roots facts plan piece is_steady c.none-run.result c.hash_unit.new.run c.requires.piece steady have
-          added c.none-run.ensures.hashes),
+          (whole_sums facts plan piece is_steady c.none-run_sums.result c.hash_unit.new.run_sums c.requires.piece
+          steady have added c.none-run_sums.ensures.pieces)
+          (whole_roots facts plan piece is_steady c.none-run_sums.result c.hash_unit.new.run_sums c.requires.piece
+          steady have added c.none-run_sums.ensures.hashes),
       c.in-Ok.ensures.fault facts steady have,
     )

@@ -1,4 +1,4 @@
--- a place of the told lengths, and of the contents'
+-- an index of the told lengths, and of the contents'
 use Rattle.std.proofs.Common.{◌∙◌}
 use Rattle.tor_engine.proofs.ToldContents.{told_at}
 use Rattle.tor_engine.proofs.present.length_told.Goals as goal

@@ -9,8 +9,8 @@ use Rattle.tor_engine.proofs.turn.hash_in_turn.Goals as goal
 pub units-init : goal.units-init
 units-init g c = record {
   fresh = c.in_ok-sums.ensures;
-  hashed = units_none (g.S.Source.is_steady c.args.source.now) c.args.plan.now c.none-run.result
-      c.none-run.ensures.hashes c.none-run.ensures.pieces;
+  hashed = units_none (g.S.Source.is_steady c.args.source.now) c.args.plan.now c.none-run_sums.result
+      c.none-run_sums.ensures.hashes c.none-run_sums.ensures.pieces;
   faultless = λ facts steady fit. first_of_none (unit_fault facts);
 }
 
@@ -23,8 +23,8 @@ units-preserved g c =
     record {
       fresh = c.in-Ok.ensures.fresh;
       hashed = units_more (g.S.Source.is_steady c.args.source.now) c.args.plan.now units i _ c.unit-item.result
-          c.units.run
-          c.hash_unit.new.run c.units-test.true here old.hashed c.in-Ok.ensures.added;
+          c.units.run_sums
+          c.hash_unit.new.run_sums c.units-test.true here old.hashed c.in-Ok.ensures.added;
       faultless = λ facts steady fit.
           first_next (unit_fault facts) units i _ c.units-test.true (old.faultless facts steady fit)
           (ap (unit_fault facts) here ∙ c.in-Ok.ensures.fault facts steady

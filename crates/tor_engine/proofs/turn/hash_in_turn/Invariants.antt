@@ -10,7 +10,7 @@ use Rattle.tor_engine.proofs.turn.hash_in_turn.Given as goal
 abbrev pub invariant-units : goal.invariant-units
 invariant-units g l = record {
   fresh : IsFresh l.plan l.sums;
-  hashed : HashesUnits (g.S.Source.is_steady l.source) l.plan (take l.unit-index l.units) l.run;
+  hashed : HashesUnits (g.S.Source.is_steady l.source) l.plan (take l.unit-index l.units) l.run_sums;
   faultless : (facts : SourceFacts g.row.S-Fault.Denot) → g.S.Source.is_steady l.source facts →
       HasLengths l.plan facts → first_of (unit_fault facts) (take l.unit-index l.units) ≡ None;
 }

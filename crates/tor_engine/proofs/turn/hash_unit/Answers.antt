@@ -21,7 +21,7 @@ each-init g c =
       begun = omega (arith, c.feed_zeros.ensures.begun, c.requires.fresh.begun);
       pieces = refl;
       read = parts_none (g.S.Source.is_steady c.args.source.now) plan c.args.unit.now.zeros c.feed_zeros.new.self
-          c.args.run.now.hashes.items
+          c.args.run_sums.now.hashes.items
           (c.in_ok-feed_zeros.ensures.taken _ _ [] [] c.requires.fresh.taken);
       faultless = λ facts steady have. first_of_none (part_fault facts);
     }
@@ -46,8 +46,8 @@ each-preserved g c =
       begun = c.in-Ok.ensures.added.begun;
       pieces = old.pieces;
       read = parts_more (g.S.Source.is_steady c.args.source.now) c.args.plan.now parts i _ c.args.unit.now.zeros
-          c.each.sums
-          c.hash_part.new.sums c.args.run.now.hashes.items c.each.run.hashes.items c.hash_part.new.hashes.items
+          c.each.sums c.hash_part.new.sums
+          c.args.run_sums.now.hashes.items c.each.run_sums.hashes.items c.hash_part.new.hashes.items
           c.each-test.true old.read c.in-Ok.ensures.added;
       faultless = λ facts steady have.
           first_next (part_fault facts) parts i _ c.each-test.true (old.faultless facts steady have)
@@ -63,8 +63,8 @@ returns-clause-added g c =
     let read = c.each.invariant.read in
     let parts = c.as_slice-parts.result.now in
     let all = take_all c.each.part-index parts c.each-test.false ∙ c.as_slice-parts.ensures in
-    let hashes = c.args.run.now.hashes.items in
-    let pieces = c.args.run.now.pieces.items in
+    let hashes = c.args.run_sums.now.hashes.items in
+    let pieces = c.args.run_sums.now.pieces.items in
     record {
       reads = read.reads;
       are = reads_as (g.S.Source.is_steady c.args.source.now) plan (take c.each.part-index parts) unit.parts read.reads

@@ -8,9 +8,9 @@ use Rattle.tor_engine.proofs.turn.hash_unit.Given as goal
 abbrev pub invariant-each : goal.invariant-each
 invariant-each g l = record {
   begun : l.sums.begun ≡ 0;
-  pieces : l.run.pieces ≡ l.initial.run.pieces;
+  pieces : l.run_sums.pieces ≡ l.initial.run_sums.pieces;
   read : ReadsParts (g.S.Source.is_steady l.source) l.plan l.unit.zeros (take l.part-index l.parts) l.sums
-      l.initial.run.hashes.items l.run.hashes.items;
+      l.initial.run_sums.hashes.items l.run_sums.hashes.items;
   faultless : (facts : SourceFacts g.row.S-Fault.Denot) → g.S.Source.is_steady l.source facts →
       HasParts facts l.unit.parts → first_of (part_fault facts) (take l.part-index l.parts) ≡ None;
 }

@@ -37,7 +37,7 @@ parts-preserved g c =
     let rest =
     rw (c.split_at.ensures.front, counted) at (c.in-Ok-take.ensures.rest c.parts.left c.parts.invariant.allowed) in
     record {
-      room = omega (arith, c.parts.invariant.room, c.fill.ensures.buffer_stays);
+      buffer = omega (arith, c.parts.invariant.buffer, c.fill.ensures.buffer_stays);
       allowed = rest;
       taken =
           (before.0 ++ part, rw length-append (omega (arith, before.1, counted, c.in-Ok.ensures.within)), given, taken);
@@ -56,7 +56,7 @@ returns-then-count-lt-BUFFER_LENGTH-clause-whole g c =
     (rw c.split_at.ensures.front at c.in-Ok-take.ensures.taken) in
     let counted : length part ≡ c.in-Ok.count =
     rw length-take (omega (arith, c.in-Ok.ensures.within, c.fill.ensures.buffer_stays)) in
-    let end = c.in-Ok.ensures.end (omega (arith, c.parts.invariant.room, c.if-count-lt-BUFFER_LENGTH.true)) in (
+    let end = c.in-Ok.ensures.end (omega (arith, c.parts.invariant.buffer, c.if-count-lt-BUFFER_LENGTH.true)) in (
       before.0 ++ part,
       rw length-append (omega (arith, before.1, counted, c.in-Ok.ensures.within)),
       record { given = given; end = end },

@@ -5,7 +5,7 @@ use Rattle.tor_input.proofs.input.read_parts.Given as goal
 
 abbrev pub invariant-parts : goal.invariant-parts
 invariant-parts g l = record {
-  room : length l.buffer ≡ 2097152;
+  buffer : length l.buffer ≡ 2097152;
   allowed : g.I.Intake.may_take l.intake l.left;
   taken : (bytes : List ℕ) × (length bytes + l.left ≡ l.limit)
       × Consumes (g.R.Read.remaining l.fn.reader) (g.R.Read.remaining l.reader) bytes

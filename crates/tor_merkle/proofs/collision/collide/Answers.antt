@@ -19,7 +19,7 @@ levels-init c = record {
 pub returns-then-eq : goal.returns-then-eq
 returns-then-eq c = λ root count level proof other_proof apart. (
   λ same.
-      texts_apart c.levels.place _ _ _ _
+      texts_apart c.levels.node_index _ _ _ _
       c.children-text.ensures.lengths.0 c.children-text.ensures.lengths.1
       c.children-other_text.ensures.lengths.0 c.children-other_text.ensures.lengths.1
       (c.levels.invariant.apart apart)

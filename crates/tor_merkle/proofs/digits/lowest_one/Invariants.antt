@@ -1,11 +1,11 @@
--- the digits below the place are 0
+-- the digits below this one are 0
 use Rattle.std.proofs.Common.{◌≡◌, ◌*◌, ◌^◌, ◌<◌}
 use Rattle.tor_merkle.proofs.digits.lowest_one.Given as goal
 
 abbrev pub invariant-zeros : goal.invariant-zeros
 invariant-zeros l = record {
   some : 0 < l.odd;
-  whole : l.count ≡ l.odd * 2 ^ l.place;
+  whole : l.count ≡ l.odd * 2 ^ l.digit;
 }
 
 abbrev pub decreases-zeros : goal.decreases-zeros

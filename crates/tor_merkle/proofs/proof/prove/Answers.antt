@@ -3,7 +3,7 @@ use Rattle.std.proofs.Common.{ℕ, ◌^◌, ◌≤◌, List, [], ◌∷◌, ◌+
 use Rattle.std.proofs.Common.{arith, ap, ap₂, ◌∙◌, sym, zero-add, pow_mono}
 use Rattle.std.proofs.lemmas.List.FromFn.{map-range_with_len_more}
 use Rattle.tor_merkle.specs.Block.{run_at}
-use Rattle.tor_merkle.specs.Proof.{is_proof, sibling_place}
+use Rattle.tor_merkle.specs.Proof.{is_proof, sibling_index}
 use Rattle.tor_merkle.specs.Stack.{padded_root, padded_subtree}
 use Rattle.tor_merkle.specs.Subtree.{zero_leaf}
 use Rattle.tor_merkle.proofs.Height.{low_height}
@@ -19,18 +19,18 @@ root_of_run-requires-clause-small c =
     let low : c.levels.above ≤ 36 = omega (arith, c.height_of-levels.ensures) in
     let narrow : 2 ^ c.levels.above ≤ 2 ^ 36 = pow_mono low in
     let near = sibling_near c.args.index c.levels.above in
-    rw c.sibling_place.ensures (omega (arith, few, narrow, near))
+    rw c.sibling_index.ensures (omega (arith, few, narrow, near))
 
 pub levels-preserved : goal.levels-preserved
 levels-preserved c =
     let hashes = c.args.hashes.now in
     let above = c.levels.above in
     let sibling =
-    λ (level : ℕ). padded_subtree level c.args.level (run_at (2 ^ level) hashes (sibling_place c.args.index level)) in
+    λ (level : ℕ). padded_subtree level c.args.level (run_at (2 ^ level) hashes (sibling_index c.args.index level)) in
     ◌∙◌ {A = List (List ℕ)} c.in_ok-push.ensures.items
     (ap₂ (λ xs x. xs ++ x ∷ []) c.levels.invariant
     (c.root_of_run.ensures
-    ∙ ap (λ place. padded_subtree above c.args.level (run_at (2 ^ above) hashes place)) c.sibling_place.ensures)
+    ∙ ap (λ index. padded_subtree above c.args.level (run_at (2 ^ above) hashes index)) c.sibling_index.ensures)
     ∙ sym (map-range_with_len_more sibling 0 above above (zero-add above)))
 
 pub returns-clause-siblings : goal.returns-clause-siblings

@@ -2,12 +2,12 @@
 use Rattle.std.proofs.Common.{◌≡◌, ◌^◌, map}
 use Rattle.std.specs.List.{range_with_len}
 use Rattle.tor_merkle.specs.Block.{run_at}
-use Rattle.tor_merkle.specs.Proof.{sibling_place}
+use Rattle.tor_merkle.specs.Proof.{sibling_index}
 use Rattle.tor_merkle.specs.Stack.{padded_subtree}
 use Rattle.tor_merkle.proofs.proof.prove.Given as goal
 
 abbrev pub invariant-levels : goal.invariant-levels
 invariant-levels l =
     l.siblings.items
-    ≡ map (λ level. padded_subtree level l.level (run_at (2 ^ level) l.hashes (sibling_place l.index level)))
+    ≡ map (λ level. padded_subtree level l.level (run_at (2 ^ level) l.hashes (sibling_index l.index level)))
     (range_with_len 0 l.above)

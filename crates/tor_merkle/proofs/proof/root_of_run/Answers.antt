@@ -9,8 +9,8 @@ pub returns-then-start-hashes : goal.returns-then-start-hashes
 returns-then-start-hashes c =
     let power : (1 * 2 ^ c.args.above) % 2 ^ 64 ≡ 2 ^ c.args.above = one_shl c.args.above 64 (omega arith) in
     c.zero.ensures
-    ∙ sym (run-past c.args.level c.args.hashes.now c.args.above c.args.place
-    (omega (arith, c.if-start-hashes.true, ap (λ x. c.args.place * x) power)))
+    ∙ sym (run-past c.args.level c.args.hashes.now c.args.above c.args.index
+    (omega (arith, c.if-start-hashes.true, ap (λ x. c.args.index * x) power)))
 
 pub push-requires : goal.push-requires
 push-requires c =

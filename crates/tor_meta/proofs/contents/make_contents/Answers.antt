@@ -36,13 +36,13 @@ in_order-requires c =
     c.deref-2.result.now
     c.in_ok-paths.ensures.paths c.in_ok-paths.ensures.contents (c.deref-2.ensures.value ∙ c.in_ok-lengths.ensures
     ∙ ap lengths_in c.deref.ensures.value)
-    c.in-Ok.paths c.in-Ok-with_lengths.both.0 c.in-Ok-with_lengths.both.1.items c.in-Ok.ensures.placed
-    c.in-Ok-with_lengths.ensures.files c.in-Ok-with_lengths.ensures.places)
+    c.in-Ok.paths c.in-Ok-with_lengths.both.0 c.in-Ok-with_lengths.both.1.items c.in-Ok.ensures.indexed
+    c.in-Ok-with_lengths.ensures.files c.in-Ok-with_lengths.ensures.indices)
 
 pub torrent_of-requires-clause-judged : goal.torrent_of-requires-clause-judged
 torrent_of-requires-clause-judged c =
     judged_list c.args.head.now c.in_ok-paths.paths.items c.deref-2.result.now c.in-Ok.paths c.in-Ok-with_lengths.both.0
-    c.in-Ok.ensures.placed c.in-Ok.ensures.accepted c.in-Ok-with_lengths.ensures.files
+    c.in-Ok.ensures.indexed c.in-Ok.ensures.accepted c.in-Ok-with_lengths.ensures.files
     (rw (← c.list.view_is) c.list.invariant)
 
 pub torrent_of-requires-clause-contents : goal.torrent_of-requires-clause-contents
@@ -51,8 +51,8 @@ torrent_of-requires-clause-contents c =
     c.in_ok-paths.contents.items c.deref-2.result.now
     c.in_ok-paths.ensures.paths c.in_ok-paths.ensures.contents (c.deref-2.ensures.value ∙ c.in_ok-lengths.ensures
     ∙ ap lengths_in c.deref.ensures.value)
-    c.in-Ok.paths c.in-Ok-with_lengths.both.0 c.in-Ok-with_lengths.both.1.items c.in-Ok.ensures.placed
-    c.in-Ok-with_lengths.ensures.files c.in-Ok-with_lengths.ensures.places
+    c.in-Ok.paths c.in-Ok-with_lengths.both.0 c.in-Ok-with_lengths.both.1.items c.in-Ok.ensures.indexed
+    c.in-Ok-with_lengths.ensures.files c.in-Ok-with_lengths.ensures.indices
     _ (ap bytes_of c.deref-5.ensures.value ∙ c.in_ok-ordered.ensures
     ∙ rw (c.deref-3.ensures.value, c.deref-4.ensures.value) refl)
 
@@ -62,7 +62,7 @@ returns-clause-made c =
     c.deref-2.result.now
     c.in_ok-paths.ensures.paths c.in_ok-paths.ensures.contents (c.deref-2.ensures.value ∙ c.in_ok-lengths.ensures
     ∙ ap lengths_in c.deref.ensures.value)
-    c.in-Ok.paths c.in-Ok-with_lengths.both.0 c.in-Ok-with_lengths.both.1.items c.in-Ok.ensures.placed
-    c.in-Ok-with_lengths.ensures.files c.in-Ok-with_lengths.ensures.places
+    c.in-Ok.paths c.in-Ok-with_lengths.both.0 c.in-Ok-with_lengths.both.1.items c.in-Ok.ensures.indexed
+    c.in-Ok-with_lengths.ensures.files c.in-Ok-with_lengths.ensures.indices
     c.in-Ok.ensures.lawful _ c.in_ok-bytes.bytes.items (ap bytes_of c.deref-5.ensures.value ∙ c.in_ok-ordered.ensures
     ∙ rw (c.deref-3.ensures.value, c.deref-4.ensures.value) refl) c.in_ok-bytes.ensures.made

@@ -8,12 +8,12 @@ use Rattle.tor_meta.specs.Contents.{files_of}
 use Rattle.tor_meta.specs.Make.{IsGivenTo}
 use Rattle.tor_meta.specs.MakeError.{of_engine_error}
 use Rattle.tor_meta.specs.Order.{settings_of_order}
-use Rattle.tor_meta.specs.PlacedFiles.{facts_at, renumbered}
+use Rattle.tor_meta.specs.IndexedFiles.{facts_at, renumbered}
 use Rattle.tor_spec.specs.Metainfo.{metainfo}
-use Rattle.tor_tree.specs.PathList.{places_of}
+use Rattle.tor_tree.specs.PathList.{indices_of}
 use Rattle.tor_meta.proofs.FromSource.{made_of, made_of_some}
-use Rattle.tor_meta.proofs.GivenFiles.{given_of_placed}
-use Rattle.tor_meta.proofs.Placed.{places_within}
+use Rattle.tor_meta.proofs.GivenFiles.{given_of_indexed}
+use Rattle.tor_meta.proofs.Indexed.{indices_within}
 use Rattle.tor_meta.proofs.SourceFaults.{fault_none, fault_told, lengths_told}
 use Rattle.tor_meta.proofs.Made.{judged_list}
 use Rattle.tor_meta.proofs.Refused.{given_or_not, paths_of, span_of}
@@ -31,19 +31,19 @@ torrent_of_listed-requires-clause-span g c κs within = span_of c.args.order.now
 pub torrent_of_listed-requires-clause-judged : goal.torrent_of_listed-requires-clause-judged
 torrent_of_listed-requires-clause-judged g c κs within =
     let told = c.in-Ok-ask_list.ensures.list in
-    judged_list c.in_ok-head.head c.args.paths.now told.0 c.in-Ok.paths c.in-Ok-ask_list.both.0 c.in-Ok.ensures.placed
+    judged_list c.in_ok-head.head c.args.paths.now told.0 c.in-Ok.paths c.in-Ok-ask_list.both.0 c.in-Ok.ensures.indexed
     (paths_of c.args.order.now c.in_ok-head.head c.args.paths.now c.in-Ok.ensures.accepted c.in_ok-head.ensures)
     told.1 (rw (← c.list.view_is) c.list.invariant)
 
 pub returns-in-Ok-torrent_of_listed-clause-made : goal.returns-in-Ok-torrent_of_listed-clause-made
 returns-in-Ok-torrent_of_listed-clause-made g c = λ facts steady.
     let told = c.in-Ok-ask_list.ensures in
-    let are_places = c.deref.ensures.value ∙ told.places in
+    let are_indices = c.deref.ensures.value ∙ told.indices in
     let none = lengths_told facts c.args.paths.now c.in-Ok.paths c.in-Ok-ask_list.both.0 c.deref.result.now
-    c.in-Ok.ensures.placed (told.fault facts steady) (told.files facts steady) are_places in
+    c.in-Ok.ensures.indexed (told.fault facts steady) (told.files facts steady) are_indices in
     made_of facts (settings_of_order c.args.order.now) c.args.paths.now c.in-Ok.paths c.in-Ok-ask_list.both.0
     c.deref.result.now c.in-Ok-torrent_of_listed.bytes.items
-    c.in-Ok.ensures.placed c.in-Ok.ensures.lawful (told.files facts steady) are_places
+    c.in-Ok.ensures.indexed c.in-Ok.ensures.lawful (told.files facts steady) are_indices
     (c.in-Ok-torrent_of_listed.ensures.made (facts_at c.deref.result.now facts) (facts, steady, refl) none
     ∙ ap (λ settings. metainfo settings (files_of c.in-Ok-ask_list.both.0
     (contents_in (facts_at c.deref.result.now facts) (length c.in-Ok-ask_list.both.0)))) c.in_ok-head.ensures)
@@ -51,12 +51,12 @@ returns-in-Ok-torrent_of_listed-clause-made g c = λ facts steady.
 pub returns-in-Ok-torrent_of_listed-clause-fault : goal.returns-in-Ok-torrent_of_listed-clause-fault
 returns-in-Ok-torrent_of_listed-clause-fault g c = λ facts steady.
     let told = c.in-Ok-ask_list.ensures in
-    let are_places = c.deref.ensures.value ∙ told.places in
+    let are_indices = c.deref.ensures.value ∙ told.indices in
     let none = lengths_told facts c.args.paths.now c.in-Ok.paths c.in-Ok-ask_list.both.0 c.deref.result.now
-    c.in-Ok.ensures.placed (told.fault facts steady) (told.files facts steady) are_places in
+    c.in-Ok.ensures.indexed (told.fault facts steady) (told.files facts steady) are_indices in
     fault_none facts c.args.order.now c.args.paths.now c.in-Ok.paths c.in-Ok-ask_list.both.0 c.deref.result.now
-    c.in-Ok.ensures.placed c.in-Ok.ensures.lawful c.in-Ok.ensures.accepted (told.fault facts steady)
-    (told.files facts steady) are_places
+    c.in-Ok.ensures.indexed c.in-Ok.ensures.lawful c.in-Ok.ensures.accepted (told.fault facts steady)
+    (told.files facts steady) are_indices
     (c.in-Ok-torrent_of_listed.ensures.fault (facts_at c.deref.result.now facts) (facts, steady, refl) none)
 
 pub returns-in-Ok-torrent_of_listed-clause-whole : goal.returns-in-Ok-torrent_of_listed-clause-whole
@@ -65,21 +65,21 @@ returns-in-Ok-torrent_of_listed-clause-whole g c =
     let whole = c.in-Ok-torrent_of_listed.ensures.whole in
     made_of_some (settings_of_order c.args.order.now) c.args.paths.now list.0 c.in-Ok.paths c.in-Ok-ask_list.both.0
     whole.0
-    c.in-Ok-torrent_of_listed.bytes.items c.in-Ok.ensures.placed c.in-Ok.ensures.lawful list.1 whole.1
+    c.in-Ok-torrent_of_listed.bytes.items c.in-Ok.ensures.indexed c.in-Ok.ensures.lawful list.1 whole.1
     (whole.2 ∙ ap (λ settings. metainfo settings (files_of c.in-Ok-ask_list.both.0 whole.0)) c.in_ok-head.ensures)
 
 pub returns-clause-fault : goal.returns-clause-fault
 returns-clause-fault g c = λ facts steady.
     let told = c.in-Ok-ask_list.ensures in
-    let are_places = c.deref.ensures.value ∙ told.places in
+    let are_indices = c.deref.ensures.value ∙ told.indices in
     let none = lengths_told facts c.args.paths.now c.in-Ok.paths c.in-Ok-ask_list.both.0 c.deref.result.now
-    c.in-Ok.ensures.placed (told.fault facts steady) (told.files facts steady) are_places in
+    c.in-Ok.ensures.indexed (told.fault facts steady) (told.files facts steady) are_indices in
     fault_told facts c.args.order.now c.args.paths.now c.in-Ok.paths c.in-Ok-ask_list.both.0
     c.deref.result.now c.in-Err-torrent_of_listed.error c.from.result
-    c.in-Ok.ensures.placed c.in-Ok.ensures.lawful c.in-Ok.ensures.accepted (told.fault facts steady)
-    (told.files facts steady) are_places
+    c.in-Ok.ensures.indexed c.in-Ok.ensures.lawful c.in-Ok.ensures.accepted (told.fault facts steady)
+    (told.files facts steady) are_indices
     (c.from.ensures ∙ ap of_engine_error (c.renumbered.ensures
-    ∙ ap (λ places. renumbered places c.in-Err-torrent_of_listed.error)
+    ∙ ap (λ indices. renumbered indices c.in-Err-torrent_of_listed.error)
     (c.deref-in-Err-torrent_of_listed.ensures.value ∙ sym c.deref.ensures.value)))
     (c.in-Err-torrent_of_listed.ensures.fault (facts_at c.deref.result.now facts) (facts, steady, refl) none)
 
@@ -89,27 +89,27 @@ returns-in-Err-ask_list-clause-only g c = c.in-Err-ask_list.ensures.only _
 pub returns-in-Err-ask_list-clause-gave : goal.returns-in-Err-ask_list-clause-gave
 returns-in-Err-ask_list-clause-gave g c =
     subst (λ (n : ℕ). IsGivenTo (g.S.Source.gave c.args.source.now) n c.in-Err-ask_list.error)
-    c.in-Ok.ensures.placed.one_each c.in-Err-ask_list.ensures.gave
+    c.in-Ok.ensures.indexed.one_each c.in-Err-ask_list.ensures.gave
 
 pub returns-clause-gave : goal.returns-clause-gave
 returns-clause-gave g c =
     let gave = g.S.Source.gave c.args.source.now in
-    let places = c.deref.result.now in
-    let placed = c.in-Ok.ensures.placed in
+    let indices = c.deref.result.now in
+    let indexed = c.in-Ok.ensures.indexed in
     let told = c.in-Ok-ask_list.ensures in
-    let are_places = c.deref.ensures.value ∙ told.places in
-    let handed_in : length (places_of c.in-Ok.paths) ≡ length c.args.paths.now =
-    length-map c.in-Ok.paths (λ entry. entry.1) ∙ placed.one_each in
-    let within = subst (λ (ks : List ℕ). All (λ place. place < length c.args.paths.now) ks) (sym are_places)
-    (places_within (length c.args.paths.now) (places_of c.in-Ok.paths) placed.places handed_in) in
-    let count : length c.in-Ok-ask_list.both.0 ≡ length places =
+    let are_indices = c.deref.ensures.value ∙ told.indices in
+    let handed_in : length (indices_of c.in-Ok.paths) ≡ length c.args.paths.now =
+    length-map c.in-Ok.paths (λ entry. entry.1) ∙ indexed.one_each in
+    let within = subst (λ (ks : List ℕ). All (λ index. index < length c.args.paths.now) ks) (sym are_indices)
+    (indices_within (length c.args.paths.now) (indices_of c.in-Ok.paths) indexed.indices handed_in) in
+    let count : length c.in-Ok-ask_list.both.0 ≡ length indices =
     ap length told.list.1 ∙ length-map c.in-Ok.paths _ ∙ sym (length-map c.in-Ok.paths (λ entry. entry.1))
-    ∙ sym (ap length are_places) in
+    ∙ sym (ap length are_indices) in
     let same = c.from.ensures ∙ ap of_engine_error (c.renumbered.ensures
-    ∙ ap (λ places. renumbered places c.in-Err-torrent_of_listed.error)
+    ∙ ap (λ indices. renumbered indices c.in-Err-torrent_of_listed.error)
     (c.deref-in-Err-torrent_of_listed.ensures.value ∙ sym c.deref.ensures.value)) in
     subst (λ error. IsGivenTo gave (length c.args.paths.now) error) (sym same)
-    (given_of_placed gave (length c.args.paths.now) places within c.in-Err-torrent_of_listed.error
+    (given_of_indexed gave (length c.args.paths.now) indices within c.in-Err-torrent_of_listed.error
     (subst (λ (n : ℕ). IsGivenNotMissing
-    (λ file place fault. (file < length places) × gave (get_or places file 0) place fault) n
+    (λ file offset fault. (file < length indices) × gave (get_or indices file 0) offset fault) n
     c.in-Err-torrent_of_listed.error) count c.in-Err-torrent_of_listed.ensures.gave))

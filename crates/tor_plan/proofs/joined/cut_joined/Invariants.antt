@@ -10,5 +10,5 @@ abbrev pub invariant-files : goal.invariant-files
 invariant-files l = record {
   size : l.cut.size ≡ l.size;
   cut : HasCut l.cut (ranges_of_entries (map file_entry l.files))
-      (entries_length (take l.place (map file_entry l.files)));
+      (entries_length (take l.index (map file_entry l.files)));
 }

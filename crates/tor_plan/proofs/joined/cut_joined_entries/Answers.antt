@@ -6,7 +6,7 @@ use Rattle.tor_plan.specs.Entries.{entries_length, joined_entry_units}
 use Rattle.tor_plan.specs.declared.joined.JoinedCut.{JoinedCut}
 use Rattle.tor_plan.specs.declared.units.PlanUnit.{PlanUnit}
 use Rattle.tor_plan.specs.steps.Joined.{HasCut}
-use Rattle.tor_plan.proofs.EntryPlaces.{longer, past_padding, past_file, padding_there, file_there}
+use Rattle.tor_plan.proofs.EntryIndices.{longer, past_padding, past_file, padding_there, file_there}
 use Rattle.tor_plan.proofs.EntryRanges.{bytes_there, ranges_of_entries, units_of_entries, zeros_there}
 use Rattle.tor_plan.proofs.joined.cut_joined_entries.Goals as goal
 use Rattle.tor_plan.proofs.joined.cut_joined_entries.Goals.{then-entry+in_ok-add_padding, else-entry+in_ok-add_bytes}
@@ -25,8 +25,8 @@ entries-preserved c =
     elim c.if-entry.branch [
       | then-entry+in_ok-add_padding w ↦ record {
         size = ap (λ cut. cut.size) w.cut-is ∙ w.in_ok-add_padding.ensures.size ∙ old.size;
-        few = omega (arith, old.few, w.place-is);
-        counted = w.place-is ∙ old.counted ∙ sym (past_padding entries i entry lt is w.if-entry.true);
+        few = omega (arith, old.few, w.index-is);
+        counted = w.index-is ∙ old.counted ∙ sym (past_padding entries i entry lt is w.if-entry.true);
         cut = subst (λ (cut : JoinedCut). HasCut cut ranges (entries_length (take (i + 1) entries))) (sym w.cut-is)
             (subst (HasCut w.add_padding.new.self ranges) here
             (w.in_ok-add_padding.ensures.cut ranges at old.cut
@@ -35,14 +35,14 @@ entries-preserved c =
       }
       | else-entry+in_ok-add_bytes w ↦ record {
         size = ap (λ cut. cut.size) w.cut-is ∙ w.in_ok-add_bytes.ensures.size ∙ old.size;
-        few = omega (arith, old.few, w.place-is);
+        few = omega (arith, old.few, w.index-is);
         counted =
-            w.place-is ∙ ap (λ n. n + 1) old.counted ∙ sym (past_file entries i entry lt is w.if-entry.false);
+            w.index-is ∙ ap (λ n. n + 1) old.counted ∙ sym (past_file entries i entry lt is w.if-entry.false);
         cut = subst (λ (cut : JoinedCut). HasCut cut ranges (entries_length (take (i + 1) entries))) (sym w.cut-is)
             (subst (HasCut w.add_bytes.new.self ranges) here
             (w.in_ok-add_bytes.ensures.cut ranges at old.cut
-            (bytes_there entries c.entries.place at entry.length
-            (file_there entries i entry lt is c.entries.place old.counted w.if-entry.false))));
+            (bytes_there entries c.entries.index at entry.length
+            (file_there entries i entry lt is c.entries.index old.counted w.if-entry.false))));
       }
     ]
 

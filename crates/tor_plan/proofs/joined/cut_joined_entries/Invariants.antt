@@ -9,7 +9,7 @@ use Rattle.tor_plan.proofs.joined.cut_joined_entries.Given as goal
 abbrev pub invariant-entries : goal.invariant-entries
 invariant-entries l = record {
   size : l.cut.size ≡ l.size;
-  few : l.place ≤ l.entry-index;
-  counted : l.place ≡ length (file_entries (take l.entry-index l.entries));
+  few : l.index ≤ l.entry-index;
+  counted : l.index ≡ length (file_entries (take l.entry-index l.entries));
   cut : HasCut l.cut (ranges_of_entries l.entries) (entries_length (take l.entry-index l.entries));
 }

@@ -5,7 +5,7 @@ use Rattle.tor_plan.proofs.separate.cut_each.Given as goal
 
 abbrev pub invariant-files : goal.invariant-files
 invariant-files l = record {
-  counted : l.later ≡ count_by (λ file. nat_lt 0 file.1) (drop l.place l.files);
-  all : l.units.items ++ separate_units l.kind l.piece_length l.size l.place (drop l.place l.files)
+  counted : l.later ≡ count_by (λ file. nat_lt 0 file.1) (drop l.index l.files);
+  all : l.units.items ++ separate_units l.kind l.piece_length l.size l.index (drop l.index l.files)
       ≡ separate_units l.kind l.piece_length l.size 0 l.files;
 }

@@ -6,7 +6,7 @@ use Rattle.tor_plan.proofs.separate.cut_each_entry.Given as goal
 
 abbrev pub invariant-entries : goal.invariant-entries
 invariant-entries l = record {
-  few : l.place ≤ l.entry-index;
+  few : l.index ≤ l.entry-index;
   small : l.last.zeros ≤ entries_length (take l.entry-index l.entries);
-  all : IsCut l.size l.entries l.entry-index l.units.items l.last l.place;
+  all : IsCut l.size l.entries l.entry-index l.units.items l.last l.index;
 }

@@ -20,11 +20,11 @@ loop-name-preserved-in-Continue-branch-2 g c =
     let known = g.B.Read.remaining in
     let before = c.loop-name.name-iterator in
     let piece = c.in_ok-name.name.items in
-    let told = rw c.in_ok-name.was at c.in-Some.ensures.steps.2 in
+    let step = rw c.in_ok-name.was at c.in-Some.ensures.steps.2 in
     let listed : is_listed piece ≡ true = rw c.deref.ensures.value at (sym c.is_listed.ensures ∙ c.if-is_listed.true) in
     let more = read_more (known c.args.folder) (split_known_bytes known before)
     (split_known_bytes known c.next.new.self) (map vec_items c.loop-name.names.items) piece (split_byte before)
-    c.loop-name.invariant.0 c.loop-name.invariant.1 told.0 told.1 in (
+    c.loop-name.invariant.0 c.loop-name.invariant.1 step.0 step.1 in (
       c.in-Some.ensures.steps.1 ∙ c.loop-name.invariant.0,
       rw (c.in_ok-push.ensures.items, map_push vec_items c.loop-name.names.items c.in_ok-name.name) (rw listed at more),
     )
@@ -34,12 +34,12 @@ loop-name-preserved g c =
     let known = g.B.Read.remaining in
     let before = c.loop-name.name-iterator in
     let piece = c.in_ok-name.name.items in
-    let told = rw c.in_ok-name.was at c.in-Some.ensures.steps.2 in
+    let step = rw c.in_ok-name.was at c.in-Some.ensures.steps.2 in
     let unlisted : is_listed piece ≡ false =
     rw c.deref.ensures.value at (sym c.is_listed.ensures ∙ c.if-is_listed.false) in
     let more = read_more (known c.args.folder) (split_known_bytes known before)
     (split_known_bytes known c.next.new.self) (map vec_items c.loop-name.names.items) piece (split_byte before)
-    c.loop-name.invariant.0 c.loop-name.invariant.1 told.0 told.1 in
+    c.loop-name.invariant.0 c.loop-name.invariant.1 step.0 step.1 in
     (c.in-Some.ensures.steps.1 ∙ c.loop-name.invariant.0, rw (unlisted, append-nil) at more)
 
 pub returns : goal.returns

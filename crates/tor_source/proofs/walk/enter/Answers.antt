@@ -31,10 +31,10 @@ returns-then-is_file-clause-found g c =
     let place : string_bytes c.in_ok-place.place ≡ place_below folder path =
     rw (← c.deref-2.ensures, ← c.deref-3.ensures.value) c.in_ok-place.ensures in
     on_ok_weaker c.add_file.result (λ added.
-    let told = rw c.deref-then-is_file.ensures.value at added in
-    rw (told.0, told.1, told.2)
+    let known = rw c.deref-then-is_file.ensures.value at added in
+    rw (known.0, known.1, known.2)
     (found_push folder c.args.found.now.paths.items (map string_bytes c.args.found.now.places.items) path
-    (string_bytes c.in_ok-place.place) c.args.waiting.now.items c.requires.found entered told.3 place))
+    (string_bytes c.in_ok-place.place) c.args.waiting.now.items c.requires.found entered known.3 place))
     c.add_file.ensures.added
 
 pub returns-then-is_file-clause-ahead : goal.returns-then-is_file-clause-ahead

@@ -15,7 +15,7 @@ pub push-requires-clause-room : goal.push-requires-clause-room
 push-requires-clause-room c =
     let b = c.self.inside in
     done_room b.count b.hasher b.tree.leaves b.fed.items c.self.invariant
-    (length c.args.part.now) b.tree.height b.tree.room (rw (← c.self.view_is) at c.requires.room)
+    (length c.args.part.now) b.tree.height b.tree.capacity (rw (← c.self.view_is) at c.requires.room)
 
 pub invariant_of-self : goal.invariant_of-self
 invariant_of-self c =

@@ -14,7 +14,7 @@ pub push_eight-requires-clause-room : goal.push_eight-requires-clause-room
 push_eight-requires-clause-room c =
     let b = c.self.inside in
     let fits = rw (← c.self.view_is) at c.requires in
-    run_room b.count b.hasher b.tree.leaves b.fed.items c.self.invariant b.tree.height b.tree.room
+    run_room b.count b.hasher b.tree.leaves b.fed.items c.self.invariant b.tree.height b.tree.capacity
     (omega (arith, c.self.invariant.counted, fits.whole)) (rw fits.long at fits.room)
 
 pub invariant_of-self : goal.invariant_of-self

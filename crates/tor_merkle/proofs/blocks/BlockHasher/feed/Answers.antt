@@ -7,9 +7,9 @@ use Rattle.tor_merkle.proofs.Ceil.{ceil_mono}
 use Rattle.tor_merkle.proofs.blocks.BlockHasher.feed.Goals as goal
 
 -- there is room for the pieces of less than all
-room_of_part : (less all k asked room : ℕ) → less ≤ all → div_ceil all (16384 * 2 ^ k) ≤ asked → asked ≤ room
-    → div_ceil less (16384 * 2 ^ k) ≤ room
-room_of_part less all k asked room le fits more =
+room_of_part : (less all k asked capacity : ℕ) → less ≤ all → div_ceil all (16384 * 2 ^ k) ≤ asked → asked ≤ capacity
+    → div_ceil less (16384 * 2 ^ k) ≤ capacity
+room_of_part less all k asked capacity le fits more =
     le_trans (ceil_mono less all (16384 * 2 ^ k) (omega (arith, pow_pos k)) le) (le_trans fits more)
 
 pub add-requires : goal.add-requires
@@ -23,8 +23,8 @@ add-requires c =
       small = omega (arith, all, cut.front_len, cut.back_len, c.requires.small);
       room =
           rw c.parts.invariant.height
-          (room_of_part _ (length now.bytes + length c.args.bytes.now) now.height now.room _
-          (omega (arith, all, cut.front_len, cut.back_len)) c.requires.room c.parts.invariant.room);
+          (room_of_part _ (length now.bytes + length c.args.bytes.now) now.height now.capacity _
+          (omega (arith, all, cut.front_len, cut.back_len)) c.requires.room c.parts.invariant.capacity);
     }
 
 pub add_run-requires : goal.add_run-requires
@@ -38,6 +38,6 @@ add_run-requires c =
       small = omega (arith, all, cut.front_len, cut.back_len, c.requires.small);
       room =
           rw c.parts.invariant.height
-          (room_of_part _ (length now.bytes + length c.args.bytes.now) now.height now.room _
-          (omega (arith, all, cut.front_len, cut.back_len)) c.requires.room c.parts.invariant.room);
+          (room_of_part _ (length now.bytes + length c.args.bytes.now) now.height now.capacity _
+          (omega (arith, all, cut.front_len, cut.back_len)) c.requires.room c.parts.invariant.capacity);
     }

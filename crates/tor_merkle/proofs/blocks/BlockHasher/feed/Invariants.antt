@@ -6,7 +6,7 @@ abbrev pub invariant-parts : goal.invariant-parts
 invariant-parts l = record {
   all : l.self.bytes ++ l.rest ≡ l.initial.self.bytes ++ l.initial.rest;
   height : l.self.height ≡ l.initial.self.height;
-  room : l.initial.self.room ≤ l.self.room;
+  capacity : l.initial.self.capacity ≤ l.self.capacity;
 }
 
 abbrev pub decreases-parts : goal.decreases-parts

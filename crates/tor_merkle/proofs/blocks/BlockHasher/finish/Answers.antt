@@ -18,7 +18,7 @@ pub finish-requires-clause-room : goal.finish-requires-clause-room
 finish-requires-clause-room c =
     let self = c.args.self in
     rw (c.into_tree.ensures.leaves, c.into_tree.ensures.height, ← count-pieces self.bytes self.height)
-    (le_trans c.requires c.into_tree.ensures.room)
+    (le_trans c.requires c.into_tree.ensures.capacity)
 
 pub returns-clause-root : goal.returns-clause-root
 returns-clause-root c =

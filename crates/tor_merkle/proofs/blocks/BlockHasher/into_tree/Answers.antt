@@ -13,7 +13,7 @@ push-requires-clause-small c =
 pub push-requires-clause-room : goal.push-requires-clause-room
 push-requires-clause-room c =
     let b = c.self.inside in
-    done_room b.count b.hasher b.tree.leaves b.fed.items c.self.invariant 0 b.tree.height b.tree.room
+    done_room b.count b.hasher b.tree.leaves b.fed.items c.self.invariant 0 b.tree.height b.tree.capacity
     (rw (add-zero (length b.fed.items)) (rw (← c.self.view_is) at c.requires))
 
 pub returns-then-count-gt0-clause-leaves : goal.returns-then-count-gt0-clause-leaves

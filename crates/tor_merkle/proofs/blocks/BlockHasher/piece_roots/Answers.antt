@@ -8,7 +8,7 @@ pub piece_roots-requires : goal.piece_roots-requires
 piece_roots-requires c =
     let self = c.args.self in
     rw (c.into_tree.ensures.leaves, c.into_tree.ensures.height, ← count-pieces self.bytes self.height)
-    (le_trans c.requires c.into_tree.ensures.room)
+    (le_trans c.requires c.into_tree.ensures.capacity)
 
 pub returns : goal.returns
 returns c =

@@ -17,6 +17,6 @@ invariant_of-result c =
           piece.1 ∙ ap (λ k. 16384 * 2 ^ k) (sym (level ∙ level_is c.args.piece_length piece.0 piece.1));
       small = omega (arith, none);
       reserved =
-          ceil_at_most (length c.new.result.bytes) c.args.piece_length c.new.result.room (omega (arith, bounds.1))
+          ceil_at_most (length c.new.result.bytes) c.args.piece_length c.new.result.capacity (omega (arith, bounds.1))
           (omega (arith, none));
     }

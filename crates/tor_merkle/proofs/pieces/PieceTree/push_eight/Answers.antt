@@ -11,4 +11,4 @@ push-requires-clause-room c =
     (le_trans
     (ceil_mono (length c.leaves.self.leaves) (length now.leaves + 8) (2 ^ now.height)
     (pow_pos now.height) (omega (arith, all, c.told-leaves)))
-    (le_trans c.requires.room c.leaves.invariant.room))
+    (le_trans c.requires.room c.leaves.invariant.capacity))

@@ -6,5 +6,5 @@ abbrev pub invariant-leaves : goal.invariant-leaves
 invariant-leaves l = record {
   height : l.self.height ≡ l.initial.self.height;
   all : l.self.leaves ≡ l.initial.self.leaves ++ take l.leaf-index l.leaves;
-  room : l.initial.self.room ≤ l.self.room;
+  capacity : l.initial.self.capacity ≤ l.self.capacity;
 }

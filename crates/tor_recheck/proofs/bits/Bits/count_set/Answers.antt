@@ -12,12 +12,12 @@ pieces-preserved c =
     let count = ap (λ (b : List Bool). length b) (sym c.self.view_is) in
     let lt : c.pieces.index < length bits =
     omega (arith, count, length-packed_bits c.self.inside.bytes.items c.self.inside.count) in
-    let told = test_tells bits c.pieces.index c.get.result c.eq.result lt c.get.ensures c.eq.ensures in
+    let tested = test_tells bits c.pieces.index c.get.result c.eq.result lt c.get.ensures c.eq.ensures in
     elim c.if-eq.branch [
       | then-eq w ↦
-          one_more bits c.pieces.index c.pieces.set c.if-eq.set lt c.pieces.invariant (told ∙ w.if-eq.true) w.set-is
+          one_more bits c.pieces.index c.pieces.set c.if-eq.set lt c.pieces.invariant (tested ∙ w.if-eq.true) w.set-is
       | else-eq w ↦
-          none_more bits c.pieces.index c.pieces.set c.if-eq.set lt c.pieces.invariant (told ∙ w.if-eq.false) w.set-is
+          none_more bits c.pieces.index c.pieces.set c.if-eq.set lt c.pieces.invariant (tested ∙ w.if-eq.false) w.set-is
     ]
 
 pub returns : goal.returns

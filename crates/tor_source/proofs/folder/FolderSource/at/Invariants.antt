@@ -4,4 +4,4 @@ use Rattle.tor_source.specs.Places.{place_of}
 use Rattle.tor_source.proofs.folder.FolderSource.at.Given as goal
 
 abbrev pub invariant-loop-file : goal.invariant-loop-file
-invariant-loop-file g l = map string_bytes l.places.items ≡ map (place_of l.path) (take l.file-index l.file-items)
+invariant-loop-file g l = map string_bytes l.places.items ≡ map (place_of l.place) (take l.file-index l.file-items)

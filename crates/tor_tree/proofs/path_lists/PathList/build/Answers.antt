@@ -1,20 +1,20 @@
 use Rattle.std.proofs.Common.{inl, sym, ◌∙◌, arith}
 use Rattle.std.proofs.lemmas.Bool.{eqb-false}
-use Rattle.tor_tree.proofs.PlacedPaths.{placed_count, placed_fault, placed_paths}
+use Rattle.tor_tree.proofs.IndexedPaths.{indexed_count, indexed_fault, indexed_paths}
 use Rattle.tor_tree.proofs.path_lists.PathList.build.Goals as goal
 
 pub paths_fault-requires-clause-some : goal.paths_fault-requires-clause-some
 paths_fault-requires-clause-some c =
     rw c.deref.ensures.value (omega (
       arith,
-      placed_count c.args.paths.items c.in_ok-entries.entries.items
+      indexed_count c.args.paths.items c.in_ok-entries.entries.items
           c.in_ok-entries.ensures.same,
       eqb-false _ _ (sym c.is_empty.ensures ∙ c.if-is_empty.false),
     ))
 
 pub returns-in-Some-clause-refused : goal.returns-in-Some-clause-refused
 returns-in-Some-clause-refused c =
-    inl (placed_fault c.args.paths.items c.in_ok-entries.entries.items c.in_ok-entries.ensures.same
+    inl (indexed_fault c.args.paths.items c.in_ok-entries.entries.items c.in_ok-entries.ensures.same
     ∙ sym (rw c.deref.ensures.value at c.in-Some.ensures.value))
 
 pub invariant_of-result : goal.invariant_of-result
@@ -22,16 +22,16 @@ invariant_of-result c = record {
   faultless = sym (rw c.deref.ensures.value at c.in_default.ensures.value);
   in_order = rw c.deref.ensures.value at c.in_default.ensures.rising;
   named = rw c.deref-2.ensures.value at c.each_is_path.ensures;
-  places = (placed_paths c.args.paths.items c.in_ok-entries.entries.items c.in_ok-entries.ensures.same).places;
+  indices = (indexed_paths c.args.paths.items c.in_ok-entries.entries.items c.in_ok-entries.ensures.same).indices;
 }
 
-pub returns-clause-placed : goal.returns-clause-placed
-returns-clause-placed c =
-    placed_paths c.args.paths.items c.in_ok-entries.entries.items c.in_ok-entries.ensures.same
+pub returns-clause-indexed : goal.returns-clause-indexed
+returns-clause-indexed c =
+    indexed_paths c.args.paths.items c.in_ok-entries.entries.items c.in_ok-entries.ensures.same
 
 pub returns-clause-accepted : goal.returns-clause-accepted
 returns-clause-accepted c =
-    placed_fault c.args.paths.items c.in_ok-entries.entries.items c.in_ok-entries.ensures.same
+    indexed_fault c.args.paths.items c.in_ok-entries.entries.items c.in_ok-entries.ensures.same
     ∙ sym (rw c.deref.ensures.value at c.in_default.ensures.value)
 
 pub returns-clause-lawful : goal.returns-clause-lawful

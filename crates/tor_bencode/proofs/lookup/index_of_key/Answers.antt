@@ -1,0 +1,20 @@
+use Rattle.std.proofs.Common.{rules}
+use Rattle.std.proofs.lemmas.Fn.{always_returns_same}
+use Rattle.std.specs.Cmp.Lexicographic.{slice_cmp}
+use Rattle.std.specs.Ordering.{nat_cmp}
+use Rattle.tor_bencode.proofs.InOrder.{searched}
+use Rattle.tor_bencode.proofs.lookup.index_of_key.Goals as goal
+
+pub returns-clause-found : goal.returns-clause-found
+returns-clause-found c =
+    let facts = c.binary_search_by.ensures in
+    let by_key = facts.position (λ p. slice_cmp nat_cmp p.0.items c.args.key.now)
+    (always_returns_same _ _ _ (λ a r f called. (search rules, search rules))) in
+    (searched c.args.pairs.now c.requires c.args.key.now _ facts.bound by_key).0
+
+pub returns-clause-absent : goal.returns-clause-absent
+returns-clause-absent c =
+    let facts = c.binary_search_by.ensures in
+    let by_key = facts.position (λ p. slice_cmp nat_cmp p.0.items c.args.key.now)
+    (always_returns_same _ _ _ (λ a r f called. (search rules, search rules))) in
+    (searched c.args.pairs.now c.requires c.args.key.now _ facts.bound by_key).1

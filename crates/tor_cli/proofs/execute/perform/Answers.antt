@@ -1,0 +1,59 @@
+-- The request is of a torrent or a proof in a file; the reader stays.
+use Rattle.tor_cli.proofs.Doing.{is_answered, is_done, is_stopped}
+use Rattle.tor_cli.proofs.execute.perform.Goals as goal
+
+pub returns-in-Check-clause-done : goal.returns-in-Check-clause-done
+returns-in-Check-clause-done g c =
+    rw c.in-Check.is
+    (is_done _ c.tell_torrent.result c.done-in-Check.result c.done-in-Check.ensures
+    (c.tell_torrent.ensures.printed (g.R.Read.remaining c.args.reader.now)))
+
+pub returns-in-Check-clause-stopped : goal.returns-in-Check-clause-stopped
+returns-in-Check-clause-stopped g c =
+    rw c.in-Check.is
+    (is_stopped _ c.tell_torrent.result c.done-in-Check.result c.done-in-Check.ensures
+    (c.tell_torrent.ensures.stopped (g.R.Read.remaining c.args.reader.now)))
+
+pub returns-in-Magnet-clause-done : goal.returns-in-Magnet-clause-done
+returns-in-Magnet-clause-done g c =
+    rw c.in-Magnet.is
+    (is_done _ c.tell_torrent-in-Magnet.result c.done-in-Magnet.result c.done-in-Magnet.ensures
+    (c.tell_torrent-in-Magnet.ensures.printed (g.R.Read.remaining c.args.reader.now)))
+
+pub returns-in-Magnet-clause-stopped : goal.returns-in-Magnet-clause-stopped
+returns-in-Magnet-clause-stopped g c =
+    rw c.in-Magnet.is
+    (is_stopped _ c.tell_torrent-in-Magnet.result c.done-in-Magnet.result c.done-in-Magnet.ensures
+    (c.tell_torrent-in-Magnet.ensures.stopped (g.R.Read.remaining c.args.reader.now)))
+
+pub returns-in-Prove-clause-done : goal.returns-in-Prove-clause-done
+returns-in-Prove-clause-done g c =
+    rw c.in-Prove.is
+    (is_done _ c.prove.result c.done-in-Prove.result c.done-in-Prove.ensures
+    (c.prove.ensures.proved (g.R.Read.remaining c.args.reader.now)))
+
+pub returns-in-Prove-clause-stopped : goal.returns-in-Prove-clause-stopped
+returns-in-Prove-clause-stopped g c =
+    rw c.in-Prove.is
+    (is_stopped _ c.prove.result c.done-in-Prove.result c.done-in-Prove.ensures
+    (c.prove.ensures.stopped (g.R.Read.remaining c.args.reader.now)))
+
+pub returns-in-Verify-clause-done : goal.returns-in-Verify-clause-done
+returns-in-Verify-clause-done g c =
+    rw c.in-Verify.is
+    (is_answered _ _ c.verify.result (λ yes. yes) (λ no. no)
+    (c.verify.ensures.answered (g.R.Read.remaining c.args.reader.now)))
+
+pub returns-in-Verify-clause-stopped : goal.returns-in-Verify-clause-stopped
+returns-in-Verify-clause-stopped g c =
+    rw c.in-Verify.is (c.verify.ensures.stopped (g.R.Read.remaining c.args.reader.now))
+
+pub returns-in-Recheck-clause-done : goal.returns-in-Recheck-clause-done
+returns-in-Recheck-clause-done g c =
+    rw c.in-Recheck.is
+    (is_answered _ _ c.recheck.result (λ yes. yes) (λ no. no)
+    (c.recheck.ensures.answered (g.R.Read.remaining c.args.reader.now)))
+
+pub returns-in-Recheck-clause-stopped : goal.returns-in-Recheck-clause-stopped
+returns-in-Recheck-clause-stopped g c =
+    rw c.in-Recheck.is (c.recheck.ensures.stopped (g.R.Read.remaining c.args.reader.now))

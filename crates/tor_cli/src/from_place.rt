@@ -1,0 +1,95 @@
+//! From a file or a folder of the system to the torrent of it.
+ghost use Rattle.std.specs.Prelude.{◌≡◌, ◌∷◌, [], IfErr, IfOk, None, OnOk, length, true};
+ghost use Rattle.std.specs.declared.io.Error.{Error};
+ghost use Rattle.tor_meta.specs.Contents.{IsMadeOfSome};
+ghost use Rattle.tor_meta.specs.Make.{IsGivenTo, IsOwn, make_refusal};
+ghost use Rattle.tor_meta.specs.Order.{settings_of_order};
+ghost use Rattle.tor_cli.specs.Place.{AreFound, IsFileFault};
+ghost use Rattle.tor_cli.specs.Request.{IsRefusedFirst};
+
+use crate::progress::{Counting, Progress};
+use std::alloc::{AllocError, Global};
+use std::io;
+use std::rt::Files;
+use std::thread::Threads;
+use tor_meta::{MakeError, Order, make};
+use tor_source::{FolderSource, ScanFault};
+use tor_tree::{FilePath, Name};
+
+/// The files at a place: file i of the source has path i.
+#[derive(Drop)]
+pub struct Found {
+    pub source: FolderSource<HostRuntime>,
+    pub paths: Vec<FilePath>,
+    /// It is one file, and not a folder's.
+    pub single: bool,
+}
+
+/// The file at a place, which gets the torrent's name, or the files below the folder there. A link at the place itself
+/// is followed.
+pub fn files_at(system: &HostRuntime, place: &str, name: &Name) -> Result<Found, ScanFault>
+    ensures paths { IfOk result (λ found. AreFound name.now found.single found.paths.items) }
+    ensures each { IfOk result (λ found. length found.source ≡ length found.paths.items) }
+{
+    match system.metadata(place) {
+        Ok(metadata) if metadata.is_file() => Ok(one_file(system, place, name)?),
+        _ => {
+            let (source, paths) = FolderSource::scan(system, place)?;
+            Ok(Found {
+                source,
+                paths,
+                single: false,
+            })
+        }
+    }
+}
+
+fn one_file(system: &HostRuntime, place: &str, name: &Name) -> Result<Found, AllocError>
+    ensures single { IfOk result (λ found. found.single ≡ true) }
+    ensures paths { IfOk result (λ found. AreFound name.now found.single found.paths.items) }
+    ensures each { IfOk result (λ found. length found.source ≡ length found.paths.items) }
+{
+    let alloc = system.alloc();
+    let path_of_name = path_of(alloc, name)?;
+    Ok(Found {
+        source: FolderSource::single(system, place)?,
+        paths: vec![in alloc; path_of_name]?,
+        single: true,
+    })
+}
+
+fn path_of(alloc: Global, name: &Name) -> Result<FilePath, AllocError>
+    ensures { IfOk result (λ path. path ≡ name.now ∷ []) }
+{
+    match FilePath::new(vec![in alloc; name.copy(alloc)?]?) {
+        Some(path) => Ok(path),
+        None => unreachable!(),
+    }
+}
+
+/// The torrent of the files that were found. The progress that is shown meanwhile is erased at the end.
+pub fn torrent_of<T: Threads + Sync>(
+    rt: &T,
+    alloc: Global,
+    found: &Found,
+    order: &Order,
+    progress: Option<Progress>,
+) -> Result<Vec<u8>, MakeError<io::Error>>
+    requires { length found.now.source ≡ length found.now.paths.items }
+    ensures whole { IfOk result
+        (λ bytes. IsMadeOfSome (settings_of_order order.now) found.now.paths.items bytes.items) }
+    ensures accepted { OnOk result (make_refusal {F = Error} order.now found.now.paths.items ≡ None) }
+    ensures refused { IfErr result (IsRefusedFirst order.now found.now.paths.items) }
+    ensures only { IfErr result (IsOwn (make_refusal order.now found.now.paths.items)) }
+    ensures gave { let count = length found.now.paths.items in IfErr result (IsGivenTo (IsFileFault count) count) }
+{
+    let counting = Counting {
+        source: &found.source,
+        progress,
+    };
+    let answer = make(rt, alloc, &counting, &found.paths, order);
+    if let Some(progress) = &counting.progress {
+        progress.erase();
+    }
+    answer
+}

@@ -1,0 +1,60 @@
+# How rattle is called for the crates of a tree, for the scripts that read this file. The libraries of the repository
+# are read from where `rlib_of TREE LIBRARY` says they were proved.
+kit=$(dirname "$(rt doc)")
+
+# The libraries that the line of a crate in TREE/crates.txt names.
+libraries_of() {
+    sed 's/#.*//' "$1/crates.txt" | awk -F: -v name="$2" '$1 == name { print $2 }'
+}
+
+# The libraries of the repository below a crate, each once, the lowest first.
+below() {
+    local library
+    for library in $(libraries_of "$1" "$2"); do
+        if [ -d "$1/crates/$library" ]; then
+            below "$1" "$library"
+            echo "$library"
+        fi
+    done | awk '!told[$0]++'
+}
+
+# The words by which a crate is read over the libraries that were proved.
+read_words() {
+    local tree=$1 crate=$2 library root=src/lib.rt
+    if [ -f "$tree/crates/$crate/src/main.rt" ]; then root=src/main.rt; fi
+    words=(--crate-name "$crate" "$root" --extern "std=$kit/rlibs/std.rlib" -L "dependency=$kit/rlibs")
+    for library in $(libraries_of "$tree" "$crate"); do
+        if [ -d "$tree/crates/$library" ]; then
+            words+=(--extern "$library=$(rlib_of "$tree" "$library")")
+        else
+            words+=(--extern "$library=$kit/rlibs/$library.rlib")
+        fi
+    done
+    for library in $(below "$tree" "$crate"); do
+        words+=(-L "dependency=$(dirname "$(rlib_of "$tree" "$library")")")
+    done
+    words+=(--antt-project "$kit/rattle/logic/antt-project.json" --logic-built "$kit/logic_built" --links "$crate=")
+}
+
+# Calls rattle build in the folder of a crate. What it says is shown where it fails.
+call_rattle() {
+    local tree=$1 crate=$2 log=$3
+    shift 3
+    (cd "$tree/crates/$crate" && rattle build "$@" >"$log" 2>&1) || { cat "$log" >&2; return 1; }
+}
+
+# Proves a library from nothing, and leaves what crates above it need of it. The last argument is how many jobs.
+prove_library() {
+    local words
+    read_words "$1" "$2"
+    call_rattle "$1" "$2" "$3.log" "${words[@]}" --jobs "$4" --statements -o "$3"
+}
+
+# Proves the program's own file over the libraries, compiles it for a processor, and links it, as the gate does.
+build_program() {
+    local words
+    read_words "$1" tor
+    call_rattle "$1" tor "$3.log" "${words[@]}" --cpu="$2" --jobs 1 --toolchain "$kit/toolchain" --backend llvm -o "$3.o"
+    "$kit/bin/rattle-link" --target x86_64-unknown-linux-gnu --toolchain "$kit/toolchain" -o "$3" "$3.o" \
+        "$kit/c/libos_c.a" "$kit/c/liblibc_c.a" >/dev/null
+}
