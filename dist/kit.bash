@@ -9,13 +9,15 @@ libraries_of() {
 
 # The libraries of the repository below a crate, each once, the lowest first.
 below() {
-    local library
-    for library in $(libraries_of "$1" "$2"); do
-        if [ -d "$1/crates/$library" ]; then
-            below "$1" "$library"
-            echo "$library"
-        fi
-    done | awk '!told[$0]++'
+    sed 's/#.*//' "$1/crates.txt" | awk -F: -v crate="$2" '
+        function tell(name, words, count, i) {
+            if (told[name]++) return
+            count = split(libraries[name], words, " ")
+            for (i = 1; i <= count; i++) if (words[i] in libraries) tell(words[i])
+            if (name != crate) print name
+        }
+        NF == 2 { libraries[$1] = $2 }
+        END { tell(crate) }'
 }
 
 # The words by which a crate is read over the libraries that were proved.

@@ -41,9 +41,16 @@ def lay_out(folder):
 
 
 def expect_faults(program, folder, words, place, rows):
+    """Each of these faults, put in at a place, is told so; all that are not are named."""
+    failures = []
     for inject, line in rows:
         told, _ = traced(program, words, place, [inject], folder / 'log')
-        expect_told([str(word) for word in words], refused(line, 3), told, f'with {inject} at {place}\n')
+        try:
+            expect_told([str(word) for word in words], refused(line, 3), told, f'with {inject} at {place}\n')
+        except Failure as failure:
+            failures.append(str(failure))
+    if failures:
+        raise Failure('\n'.join(failures))
 
 
 def test_of_make(program, folder):

@@ -1,7 +1,7 @@
 """BEP 3, 47 and 52 written once more, plainly: makes, judges and rechecks torrents, and proves single pieces.
 
-It shares nothing with the program, and takes no value from it. What the standards leave open is decided as README.md
-and docs/DECISIONS.md at the root of the repository say. Contents are bytes in memory; None is a file that is missing.
+It shares nothing with the program, and takes no value from it. What the standards leave open is decided as
+docs/MANUAL.md and docs/DECISIONS.md say. Contents are bytes in memory; None is a file that is missing.
 """
 import hashlib
 import re

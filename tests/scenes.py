@@ -89,12 +89,15 @@ def play(name, program, folder):
     for need in needs:
         if typed(need, place, environment).status != 0:
             raise Skipped(f'it needs `{need.decode()}`')
+    failures = []
     for step in steps:
         told = typed(step.command, place, environment)
         wanted = Told(step.status, b''.join(step.out), b''.join(step.err))
         if told != wanted:
-            raise Failure(f'{path}:{step.line}\nrun     {step.command.decode()}\n'
-                          f'wanted  {shown(wanted)}\ncame    {shown(told)}')
+            failures.append(f'{path}:{step.line}\nrun     {step.command.decode()}\n'
+                            f'wanted  {shown(wanted)}\ncame    {shown(told)}')
+    if failures:
+        raise Failure('\n'.join(failures))
 
 
 def typed(command, place, environment):

@@ -138,6 +138,22 @@ def test_layer_of_65537_hashes(program, folder):
     expect(program, ['check', str(torrent)], refused('V21 LayerRoot'))
 
 
+def test_proofs_of_10_siblings(program, folder):
+    """Of a file of 513 blocks, whose tree is as high as one of 1,024."""
+    content = random.Random(10).randbytes(512 * BLOCK + 1)
+    text = make([((b'f',), content)], order('v2', True))
+    torrent, proof = folder / 'torrent', folder / 'proof'
+    torrent.write_bytes(text)
+    view = judge(text)
+    root = root_of([sha256(content[at:at + BLOCK]) for at in range(0, len(content), BLOCK)], 0)
+    for index in [0, 511, 512]:
+        wanted = reference.prove(view, 0, index)
+        expect_equal('siblings', 10, wanted.count(b'sibling'))
+        expect(program, ['prove', str(torrent), '0', str(index)], done(wanted))
+        proof.write_bytes(wanted)
+        expect(program, ['verify', root.hex(), str(len(content)), str(BLOCK), str(proof)], done(b'yes\n'))
+
+
 def test_pieces_of_1_gib(program, folder):
     """The longest pieces of version 2: two of them, of which the second is a byte."""
     length, marks = GIB + 1, [(GIB - 1, b'xy')]

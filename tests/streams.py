@@ -24,15 +24,16 @@ def waiting(pipe):
     return count[0]
 
 
-def feed(pipe, data, sizes):
-    """Writes the data in parts of these sizes, each once the one before it was read, so that a read gives one part."""
+def feed(pipe, data, sizes, ended):
+    """Writes the data in parts of these sizes, each once the one before it was read, so that a read gives one part. It
+    stops where the program has ended before."""
     at = 0
     try:
         while at < len(data):
             size = next(sizes)
             os.write(pipe, data[at:at + size])
             at += size
-            while waiting(pipe):
+            while waiting(pipe) and not ended.is_set():
                 time.sleep(0)
     except BrokenPipeError:
         pass
@@ -45,9 +46,11 @@ def told_of_parts(program, words, data, sizes):
     fcntl.fcntl(writer, 1031, PIPE_SIZE)  # F_SETPIPE_SZ
     child = subprocess.Popen([program, *words], stdin=reader, stdout=subprocess.PIPE, stderr=subprocess.PIPE)
     os.close(reader)
-    feeder = threading.Thread(target=feed, args=(writer, data, iter(sizes)))
+    ended = threading.Event()
+    feeder = threading.Thread(target=feed, args=(writer, data, iter(sizes), ended))
     feeder.start()
     out, err = child.communicate()
+    ended.set()
     feeder.join()
     return Told(child.returncode, out, err)
 

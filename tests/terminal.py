@@ -210,6 +210,17 @@ def test_recheck_of_a_cut_file(program, folder):
     check_lines(parts, told.err, size, ERASED + b'tor: C2 Changed file 0\n')
 
 
+def test_recheck_of_a_longer_file(program, folder):
+    """Of a file nothing is read past the torrent's length, and no more is shown."""
+    path = sparse(folder, 9 << 30)
+    torrent = folder / 'torrent'
+    torrent.write_bytes(b'd4:infod6:lengthi%de4:name1:a12:piece lengthi1073741824e6:pieces60:' % (3 << 30)
+                        + bytes(60) + b'ee')
+    parts, told = watch(program, ['recheck', str(torrent), path])
+    expect_equal('status and output', (1, b'pieces 0 of 3\nbits 00\n'), (told.status, told.out))
+    check_lines(parts, told.err, 3 << 30, ERASED)
+
+
 def test_nothing_is_shown_of_short_work(program, folder):
     """A file that is read at once, standard input, and the other commands: a fault's line comes alone."""
     (folder / 'abc').write_bytes(b'abc')

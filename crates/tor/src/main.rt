@@ -93,7 +93,7 @@ fn execute_over<T: Threads + Sync, R: Read, W: Write, E: Write>(
     ExitCode::from(execute(rt, system, words, reader, out, err, shows_progress))
 }
 
-/// Tells a fault of the words, which is all that can stop the program before it runs.
+/// Tells a fault of the words, which is all that can stop the program before it does anything.
 fn stop(rt: &HostRuntime, fault: &Fault) -> ExitCode {
     let _ = eprintln!(rt; "tor: {fault}");
     ExitCode::from(fault.status())

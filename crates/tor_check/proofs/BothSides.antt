@@ -1,7 +1,8 @@
 -- The first fault of two sides is the one of the lesser number.
-use Rattle.std.proofs.Common.{◌≡◌, Bool, true, false, Option, None, Some, cond}
+use Rattle.std.proofs.Common.{◌≡◌, ◌⊎◌, ◌∙◌, ◌||◌, Result, Ok, Err, ⊎_elim, true≢false, Bool, true, false, Option, None}
+use Rattle.std.proofs.Common.{Some, cond}
 use Rattle.std.proofs.Common.{refl, ap, sym, inl, inr, nat_eq}
-use Rattle.std.specs.Prelude.{option_map, nat_le}
+use Rattle.std.specs.Prelude.{option_map, nat_le, IfErr, OnOk}
 use Rattle.tor_check.specs.Judged.{IsFirst, refusal_for}
 use Rattle.tor_check.specs.Sides.{earlier, earlier_refusal, earliest, number_of}
 use Rattle.tor_check.specs.declared.refusal.Refusal.{Refusal}
@@ -62,6 +63,37 @@ pub merged : (a b : Option Condition) (one other : Refusal) → IsFirst a one �
 merged a b one other (inl memory) right = inl (rw memory refl)
 merged a b one other (inr e) (inl memory) = inl (rw memory (second_memory (nat_eq (number_of one) 24)))
 merged a b one other (inr e) (inr f) = inr (of_two a b one other e f)
+
+-- memory is told where one of the two is want of it
+pub memory_of_two : (a b : Option Condition) (one other : Refusal) → IsFirst a one → IsFirst b other
+    → earlier_refusal one other ≡ refusals.Memory → (one ≡ refusals.Memory) ⊎ (other ≡ refusals.Memory)
+memory_of_two a b one other (inl memory) right is = inl memory
+memory_of_two a b one other (inr e) (inl memory) is = inr memory
+memory_of_two None b one other (inr e) (inr f) is = absurd cc
+memory_of_two (Some c) None one other (inr e) (inr f) is = absurd cc
+memory_of_two (Some c) (Some d) one other (inr e) (inr f) is =
+    let first : refusal_for c ≡ one = cc in
+    let second : refusal_for d ≡ other = cc in
+    let told : refusal_for (earlier c d) ≡ refusals.Memory =
+    rw (sym first, sym second, earlier_of_conditions c d) at is in
+    absurd (true≢false (sym (ap (λ refusal. nat_eq (number_of refusal) 24) told) ∙ is_no_memory (earlier c d)))
+
+pub memory_of_either : {T : Type 0} (a b : Option Condition) (one told : Refusal) (tree : Result T Refusal)
+    → IsFirst a one → IfErr tree (IsFirst b) → OnOk tree (told ≡ one)
+    → IfErr tree (λ other. told ≡ earlier_refusal one other) → told ≡ refusals.Memory
+    → (one ≡ refusals.Memory) ⊎ (tree ≡ Err refusals.Memory)
+memory_of_either a b one told (Ok files) first second alone earlier is = inl (sym alone ∙ is)
+memory_of_either a b one told (Err other) first second alone earlier is =
+    ⊎_elim (λ memory. inl memory) (λ memory. inr (ap Err memory))
+    (memory_of_two a b one other first second (sym earlier ∙ is))
+
+-- it is taken by one of the sides
+pub by_list : (a b : Bool) → a ≡ true → (a || b) ≡ true
+by_list a b e = rw e refl
+
+pub by_tree : (a b : Bool) → b ≡ true → (a || b) ≡ true
+by_tree true b e = refl
+by_tree false b e = e
 
 pub first_alone : (a b : Option Condition) (one : Refusal) → b ≡ None → IsFirst a one → IsFirst (earliest a b) one
 first_alone a (Some d) one none h = absurd cc

@@ -16,3 +16,5 @@ pub mod Heights
 pub mod NoneHolds
 pub mod ValidTrees
 pub mod PieceSteps
+pub mod RisingFiles
+pub mod TreeDecides

@@ -9,7 +9,8 @@ use Rattle.tor_bencode.specs.Data.{Data}
 use Rattle.tor_check.proofs.Bounds.{first_or, found_none}
 use Rattle.tor_check.proofs.FirstOfBoth.{sides_first}
 use Rattle.tor_check.proofs.Stages.{find_behind, find_front}
-use Rattle.tor_check.specs.Judged.{head_conditions, layer_conditions, alignment_conditions}
+use Rattle.tor_check.specs.Judged.{alignment_conditions, conditions_before_memory, first_in, head_conditions}
+use Rattle.tor_check.specs.Judged.{layer_conditions}
 use Rattle.tor_check.specs.Listed.{side_conditions}
 use Rattle.tor_check.specs.Sides.{first_of_both}
 use Rattle.tor_spec.specs.valid.Conditions.{Condition, conditions, holds, refusal_of}
@@ -31,6 +32,10 @@ none_front p front back none = by_found (find p front) refl
     by_found : (o : Option Condition) → find p front ≡ o → o ≡ None
     by_found None is = refl
     by_found (Some c) is = absurd (none-some c (sym none ∙ find_front p front back c is))
+
+-- a head without fault has none that is told without memory
+pub before_memory : (root : Data) → first_in head_conditions root ≡ None → first_in conditions_before_memory root ≡ None
+before_memory root none = none_front (holds root) conditions_before_memory (named.LengthAndFiles ∷ []) none
 
 -- no side has a fault
 pub no_side_fault : (root : Data) → refusal_of root ≡ None → first_of_both (info_of root) ≡ None

@@ -1,9 +1,11 @@
 -- The path of an entry, from its texts.
-use Rattle.std.proofs.Common.{◌≡◌, ◌≢◌, ◌&&◌, true, false, List, [], ◌∷◌, Some, map, refl, ap, ◌∙◌}
+use Rattle.std.proofs.Common.{◌≡◌, ◌≢◌, ◌&&◌, ◌==◌, true, false, length, List, [], ◌∷◌, Some, map, refl, ap, ◌∙◌}
 use Rattle.std.specs.List.{list_all}
+use Rattle.std.proofs.lemmas.List.{length-map}
 use Rattle.tor_bencode.specs.Data.{Data, list}
 use Rattle.tor_bencode.specs.View.{items_of, items_view, view}
 use Rattle.tor_bencode.specs.declared.item.Item.{Item}
+use Rattle.tor_check.specs.Listed.{lists_some}
 use Rattle.tor_spec.specs.valid.ListSide.{is_name, is_path, names_of}
 use Rattle.tor_spec.specs.valid.Parts.{items_in, text_of}
 
@@ -23,12 +25,10 @@ pub is_path_of_names : (texts : List Item) → list_all is_name (map view texts)
 is_path_of_names [] named some = absurd (some refl)
 is_path_of_names (text ∷ texts) named some = path_of_some text texts ∙ named
 
-pub no_path_of_none : (texts : List Item) → map text_of (map view texts) ≡ []
-    → is_path (Some (list (items_view texts))) ≡ false
-no_path_of_none [] none = refl
-no_path_of_none (text ∷ texts) none = absurd cc
-
 pub no_path_of_others : (texts : List Item) → list_all is_name (map view texts) ≡ false
     → is_path (Some (list (items_view texts))) ≡ false
 no_path_of_others [] other = refl
 no_path_of_others (text ∷ texts) other = path_of_some text texts ∙ other
+
+pub some_texts : (texts : List Item) → (length texts == 0) ≡ false → lists_some (list (items_view texts)) ≡ true
+some_texts texts some = rw (same_items (map view texts), length-map texts view, some) refl

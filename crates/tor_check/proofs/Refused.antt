@@ -1,5 +1,7 @@
 -- What is refused of a tree is refused of its bytes.
-use Rattle.std.proofs.Common.{◌≡◌, ℕ, List, inl, inr, refl, subst, sym}
+use Rattle.std.proofs.Common.{◌≡◌, ◌∙◌, ◌++◌, ℕ, List, [], ap, inl, inr, refl, subst, sym}
+use Rattle.std.proofs.lemmas.Option.{none-some}
+use Rattle.tor_bencode.proofs.ProvedLaws.{no_spelling_begins_another}
 use Rattle.tor_bencode.specs.Data.{Data}
 use Rattle.tor_bencode.specs.Lawful.{IsLawful}
 use Rattle.tor_bencode.specs.Spelling.{spelling}
@@ -7,7 +9,8 @@ use Rattle.tor_check.proofs.Stages.{found}
 use Rattle.tor_check.specs.Judged.{IsFirst, refusal_for}
 use Rattle.tor_check.specs.Valid.{IsRefused, IsRefusedFor}
 use Rattle.tor_check.specs.declared.refusal.Refusal.{Refusal}
-use Rattle.tor_spec.specs.valid.Conditions.{Condition, refusal_of}
+use Rattle.tor_check.specs.declared.refusal.Refusal.TheVariants.{Memory}
+use Rattle.tor_spec.specs.valid.Conditions.{Condition, IsValid, refusal_of}
 use Rattle.tor_spec.specs.valid.Conditions as conditions
 
 -- the refusal of a condition is answered as such
@@ -44,3 +47,15 @@ refused_for bytes root refusal lawful spelled (inr e) =
     let refused : IsRefused bytes (refusal_for known.0) =
     record { root = root; lawful = lawful; spelled = spelled; condition = known.0; first = known.1; named = refl } in
     subst (λ r. IsRefusedFor bytes r) known.2 (of_condition bytes known.0 refused)
+
+-- of a tree that valid bytes spell memory alone is refused
+pub memory_alone : (bytes : List ℕ) (root : Data) (refusal : Refusal) → IsLawful root → bytes ≡ spelling root
+    → IsFirst (refusal_of root) refusal → IsValid bytes → refusal ≡ Memory
+memory_alone bytes root refusal lawful spelled (inl memory) valid = memory
+memory_alone bytes root refusal lawful spelled (inr e) valid =
+    let known = found (refusal_of root) refusal e in
+    let text : spelling root ++ [] ≡ spelling valid.0 ++ [] =
+    ap (λ text. text ++ []) (sym spelled ∙ valid.1.spelled) in
+    let same : root ≡ valid.0 =
+    (no_spelling_begins_another root valid.0 [] [] lawful valid.1.lawful text).0 in
+    absurd (none-some known.0 (sym valid.1.accepted ∙ ap refusal_of (sym same) ∙ known.1))

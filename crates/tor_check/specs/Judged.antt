@@ -35,15 +35,25 @@ refusal_for conditions.LayerRoot = refusals.LayerRoot
 refusal_for conditions.FilesDiffer = refusals.FilesDiffer
 refusal_for conditions.Alignment = refusals.Alignment
 
+-- this is the refusal of the first condition
+abbrev pub Names : Option Condition → Refusal → Type 0
+Names first refusal = option_map refusal_for first ≡ Some refusal
+
 -- memory was refused, or this is the first condition
 abbrev pub IsFirst : Option Condition → Refusal → Type 0
-IsFirst first refusal = (refusal ≡ refusals.Memory) ⊎ (option_map refusal_for first ≡ Some refusal)
+IsFirst first refusal = (refusal ≡ refusals.Memory) ⊎ Names first refusal
 
 -- V2 to V7
 abbrev pub head_conditions : List Condition
 head_conditions =
     conditions.RootShape ∷ conditions.InfoShape ∷ conditions.MetaVersion ∷ conditions.PieceLength ∷
     conditions.Name ∷ conditions.LengthAndFiles ∷ []
+
+-- V2 to V6: where one of them holds, it is answered without memory
+abbrev pub conditions_before_memory : List Condition
+conditions_before_memory =
+    conditions.RootShape ∷ conditions.InfoShape ∷ conditions.MetaVersion ∷ conditions.PieceLength ∷
+    conditions.Name ∷ []
 
 -- the first of them that holds
 abbrev pub first_in : List Condition → Data → Option Condition

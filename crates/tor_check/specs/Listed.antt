@@ -1,6 +1,6 @@
 -- What is read of the v1 side before it is judged.
-use Rattle.std.specs.Prelude.{ℕ, Bool, false, List, [], ◌∷◌, map, find, filter_map, option_map, codes, is_none}
-use Rattle.std.specs.Prelude.{unsigned_abs}
+use Rattle.std.specs.Prelude.{ℕ, Bool, false, not, ◌&&◌, List, [], ◌∷◌, map, find, filter_map, option_map, codes}
+use Rattle.std.specs.Prelude.{◌==◌, is_none, length, unsigned_abs}
 use Rattle.std.specs.Prelude.{Option, None, Some, unwrap_or, if◌then◌else◌}
 use Rattle.tor_bencode.specs.Data.{Data}
 use Rattle.tor_bencode.specs.Find.{value_of}
@@ -9,7 +9,7 @@ use Rattle.tor_spec.specs.valid.Conditions as conditions
 use Rattle.tor_spec.specs.valid.ListSide.{ListedFile, entries_of, has_list, letter_p, names_of}
 use Rattle.tor_spec.specs.valid.ListSide.{list_duplicate, list_file_and_folder, list_length, list_no_files}
 use Rattle.tor_spec.specs.valid.ListSide.{list_pieces, list_shape, list_symlink, list_too_large}
-use Rattle.tor_spec.specs.valid.Parts.{name_of, part}
+use Rattle.tor_spec.specs.valid.Parts.{is_list, items_of_list, name_of, part}
 use Rattle.tor_tree.specs.Properties.{are_properties, as_string, has_letter, letter_h, letter_l, letter_x}
 use Rattle.tor_tree.specs.Properties.{signed_length}
 use Rattle.tor_tree.specs.declared.tree_file.TreeFile.{TreeFile}
@@ -78,6 +78,18 @@ sized_files listed = filter_map sized listed
 -- paths and lengths of the files of a tree
 abbrev pub tree_pairs : List TreeFile → List (List (List ℕ) × ℕ)
 tree_pairs files = map (λ file. (file.path, file.length)) files
+
+-- a list that is not empty
+abbrev pub lists_some : Data → Bool
+lists_some value = not (length (items_of_list value) == 0)
+
+-- what is read before an entry of `files` takes memory: it is no padding, and has a list of some texts as its path
+abbrev pub takes_path : Data → Bool
+takes_path entry = are_properties entry && (not (has_letter letter_p entry) && lists_some (part (codes "path") entry))
+
+-- before the files of the v1 side do: `files` is a list, or what `length` and `attr` say has its shape
+abbrev pub takes_files : Data → Bool
+takes_files info = if has_list info then is_list (part (codes "files") info) else are_properties info
 
 -- what a fault of a list is for a torrent
 abbrev pub of_list_error : ListError → Refusal

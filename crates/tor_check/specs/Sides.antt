@@ -1,20 +1,21 @@
 -- The two sides of a torrent judged together.
-use Rattle.std.specs.Prelude.{◌≡◌, ℕ, Bool, false, List, [], find, nat_eq, nat_le, true, Option, None, Some}
+use Rattle.std.specs.Prelude.{◌≡◌, ℕ, Bool, false, ◌||◌, List, [], find, nat_eq, nat_le, true, Option, None, Some}
 use Rattle.std.specs.Prelude.{if◌then◌else◌}
 use Rattle.tor_bencode.specs.Data.{Data}
 use Rattle.tor_check.specs.Judged.{refusal_for}
-use Rattle.tor_check.specs.Listed.{all_listed, first_of_list, side_conditions}
+use Rattle.tor_check.specs.Listed.{all_listed, first_of_list, side_conditions, takes_files}
 use Rattle.tor_check.specs.declared.refusal.Refusal.{Refusal}
 use Rattle.tor_check.specs.declared.refusal.Refusal.TheVariants as refusals
 use Rattle.tor_check.specs.declared.listed.Listed.{Listed}
 use Rattle.tor_check.specs.declared.sides.Sides.{Sides}
 use Rattle.tor_tree.specs.declared.tree_file.TreeFile.{TreeFile}
-use Rattle.tor_spec.specs.valid.Conditions.{Condition, holds}
+use Rattle.tor_spec.specs.valid.Conditions.{Condition, holds, of_list, of_tree}
 use Rattle.tor_spec.specs.valid.Conditions as conditions
 use Rattle.tor_spec.specs.valid.ListSide.{side_size}
 use Rattle.tor_spec.specs.valid.Parts.{kind_of}
 use Rattle.tor_spec.specs.valid.TreeSide.{tree_files, tree_length, tree_mixed, tree_no_files, tree_root, tree_shape}
-use Rattle.tor_spec.specs.valid.TreeSide.{tree_symlink, tree_too_large}
+use Rattle.tor_spec.specs.valid.TreeSide.{tree_of, tree_symlink, tree_too_large}
+use Rattle.tor_tree.specs.FileTree.{takes_memory}
 use Rattle.tor_tree.specs.Kinds.{has_v1, has_v2}
 use Rattle.tor_tree.specs.declared.tree_file.TreeFault.{TreeFault}
 use Rattle.tor_tree.specs.declared.tree_file.TreeFault.TheVariants as trees
@@ -102,6 +103,14 @@ listed_if info = if has_v1 (kind_of info) then all_listed info else []
 
 abbrev pub files_if : Data → List TreeFile
 files_if info = if has_v2 (kind_of info) then tree_files info else []
+
+-- to read the file tree takes memory
+abbrev pub takes_tree : Data → Bool
+takes_tree info = takes_memory (tree_of info)
+
+-- to read the sides that are there takes memory
+abbrev pub takes_sides : Data → Bool
+takes_sides info = of_list takes_files info || of_tree takes_tree info
 
 pub record AreSidesOf (info : Data) (sides : Sides) : Type 0 where
   pub listed : sides.list.files.items ≡ listed_if info

@@ -1,4 +1,4 @@
--- What is told of bytes that are a torrent, and why others are none.
+-- What bytes describe that are a torrent, and why others are none.
 use Rattle.std.specs.Prelude.{◌≡◌, ℕ, List, Some}
 use Rattle.tor_bencode.specs.Data.{Data}
 use Rattle.tor_bencode.specs.Fault.{IsFaultAt}

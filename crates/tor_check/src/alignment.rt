@@ -1,54 +1,19 @@
-//! Piece layers, and the alignment of files in a hybrid, judged.
-ghost use Rattle.std.specs.Prelude.{◌≡◌, ◌≤◌, ◌||◌, [], true, All, None, IfErr, OnOk, sum_by};
-ghost use Rattle.tor_bencode.specs.Lawful.{HasRisingKeys};
+//! Whether the two sides of a hybrid agree, and its files are aligned, judged.
+ghost use Rattle.std.specs.Prelude.{◌≡◌, ◌≤◌, ◌||◌, [], All, None, IfErr, OnOk, sum_by};
 ghost use Rattle.tor_bencode.specs.View.{view};
-ghost use Rattle.tor_check.specs.Judged.{IsFirst, IsHeadOf, first_in, first_of_alignment, layer_conditions};
+ghost use Rattle.tor_check.specs.Judged.{Names, first_of_alignment};
 ghost use Rattle.tor_check.specs.Listed.{files_from, size_of_listed};
 ghost use Rattle.tor_check.specs.Sides.{AreSidesOf, first_of_both};
-ghost use Rattle.tor_merkle.specs.Layer.{IsPieceLength};
-ghost use Rattle.tor_spec.specs.valid.Parts.{info_of, kind_of, piece_length_of};
+ghost use Rattle.tor_spec.specs.valid.Parts.{kind_of, piece_length_of};
 ghost use Rattle.tor_spec.specs.valid.SidesAgree.{has_wrong_tail, is_misaligned_after};
-ghost use Rattle.tor_tree.specs.Kinds.{has_v2};
 ghost use Rattle.tor_tree.specs.declared.lists.TheConstants.{MAX_LENGTH, MAX_TOTAL};
 ghost use Rattle.tor_v1.specs.Piece.{max_piece_length};
 
 use crate::agree::{files_differ, has_wrong_tail, is_misaligned};
 use crate::head::Head;
-use crate::layer_keys::layers_of;
-use crate::layers::{has_misshaped, has_other, lacks_a_layer, lacks_layers};
 use crate::listed::Listed;
 use crate::refusal::Refusal;
 use crate::sides::Sides;
-use tor_bencode::Item;
-
-/// The piece layers of a v2 side: V18 to V21.
-pub fn judge_layers(root: &Item, head: &Head<'_>, sides: &Sides) -> Result<(), Refusal>
-    requires keys { HasRisingKeys (view root.now) }
-    requires head { IsHeadOf (view root.now) head.now }
-    requires sides { AreSidesOf (info_of (view root.now)) sides.now }
-    requires judged { first_of_both (info_of (view root.now)) ≡ None }
-    requires allowed { has_v2 (kind_of (info_of (view root.now))) ≡ true → IsPieceLength head.now.piece_length }
-    ensures accepted { OnOk result (first_in layer_conditions (view root.now) ≡ None) }
-    ensures refused { IfErr result (IsFirst (first_in layer_conditions (view root.now))) }
-{
-    if !head.kind.has_v2() {
-        return Ok(());
-    }
-    let layers = layers_of(root, head.piece_length);
-    if lacks_layers(&layers, &sides.files) {
-        return Err(Refusal::LayersAbsent);
-    }
-    if lacks_a_layer(&layers, &sides.files) {
-        return Err(Refusal::LayerAbsent);
-    }
-    if has_misshaped(&layers, &sides.files) {
-        return Err(Refusal::LayerLength);
-    }
-    if has_other(&layers, &sides.files) {
-        return Err(Refusal::LayerRoot);
-    }
-    Ok(())
-}
 
 /// Whether the sides of a hybrid agree: V22 and V23.
 pub fn judge_alignment(head: &Head<'_>, sides: &Sides) -> Result<(), Refusal>
@@ -58,7 +23,7 @@ pub fn judge_alignment(head: &Head<'_>, sides: &Sides) -> Result<(), Refusal>
     requires sides { AreSidesOf (view head.now.info.now) sides.now }
     requires judged { first_of_both (view head.now.info.now) ≡ None }
     ensures accepted { OnOk result (first_of_alignment (view head.now.info.now) ≡ None) }
-    ensures refused { IfErr result (IsFirst (first_of_alignment (view head.now.info.now))) }
+    ensures refused { IfErr result (Names (first_of_alignment (view head.now.info.now))) }
 {
     if !head.kind.has_v1() || !head.kind.has_v2() {
         return Ok(());

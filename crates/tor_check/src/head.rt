@@ -1,7 +1,7 @@
 //! The root of a torrent, and the keys of `info` that all kinds have.
-ghost use Rattle.std.specs.Prelude.{◌≡◌, ◌⊎◌, ◌<◌, true, false, None, IfErr, IfOk, IfSome, MatchOption, OnOk};
+ghost use Rattle.std.specs.Prelude.{◌≡◌, ◌⊎◌, ◌<◌, true, false, None, Err, IfErr, IfOk, IfSome, MatchOption, OnOk};
 ghost use Rattle.tor_bencode.specs.View.{view};
-ghost use Rattle.tor_check.specs.Judged.{IsFirst, IsHeadOf, head_conditions, first_in};
+ghost use Rattle.tor_check.specs.Judged.{IsFirst, IsHeadOf, conditions_before_memory, head_conditions, first_in};
 ghost use Rattle.tor_spec.specs.valid.Heads.{info_shape, length_and_files, meta_version, name, piece_length};
 ghost use Rattle.tor_spec.specs.valid.Parts.{info_of, is_private, kind_of, name_of, piece_length_of};
 ghost use Rattle.tor_check.specs.declared.refusal.Refusal.TheVariants as refusals;
@@ -29,6 +29,7 @@ pub fn read_head<'a>(alloc: Global, root: &'a Item) -> Result<Head<'a>, Refusal>
     ensures read { IfOk result (IsHeadOf (view root.now)) }
     ensures accepted { OnOk result (first_in head_conditions (view root.now) ≡ None) }
     ensures refused { IfErr result (IsFirst (first_in head_conditions (view root.now))) }
+    ensures memory { result ≡ Err refusals.Memory → first_in conditions_before_memory (view root.now) ≡ None }
 {
     if !is_dictionary(root) {
         return Err(Refusal::RootShape);
@@ -105,7 +106,8 @@ fn piece_length_of(info: &Item, kind: Kind) -> Option<u64>
 fn name_of(alloc: Global, info: &Item) -> Result<Name, Refusal>
     ensures made { IfOk result (λ text. (name (view info.now) ≡ false) × (text ≡ name_of (view info.now))) }
     ensures refused { IfErr result
-        (λ refusal. (refusal ≡ refusals.Memory) ⊎ ((refusal ≡ refusals.Name) × (name (view info.now) ≡ true))) }
+        (λ refusal. ((refusal ≡ refusals.Memory) × (name (view info.now) ≡ false))
+        ⊎ ((refusal ≡ refusals.Name) × (name (view info.now) ≡ true))) }
 {
     let Some(text) = text(info, b"name") else {
         return Err(Refusal::Name);

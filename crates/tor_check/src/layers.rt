@@ -1,22 +1,59 @@
 //! The piece layers of a torrent (BEP 52, "piece layers"), judged.
-ghost use Rattle.std.specs.Prelude.{◌≡◌, ◌≤◌, ◌<◌, [], false, All, option_map, unwrap_or};
+ghost use Rattle.std.specs.Prelude.{◌≡◌, ◌≤◌, ◌<◌, [], true, false, All, None, IfErr, OnOk, option_map, unwrap_or};
 ghost use Rattle.std.specs.List.{list_any};
 ghost use Rattle.std.specs.Option.{option_copied};
+ghost use Rattle.tor_bencode.specs.Lawful.{HasRisingKeys};
 ghost use Rattle.tor_bencode.specs.View.{view};
+ghost use Rattle.tor_check.specs.Judged.{IsHeadOf, Names, first_in, layer_conditions};
 ghost use Rattle.tor_check.specs.Layers.{seen};
+ghost use Rattle.tor_check.specs.Sides.{AreSidesOf, first_of_both};
 ghost use Rattle.tor_merkle.specs.Layer.{IsPieceLength};
 ghost use Rattle.tor_spec.specs.valid.Layers.{has_other_root, is_long, is_misshaped, lacks_layer, lacks_layers};
 ghost use Rattle.tor_spec.specs.valid.Layers.{layer_text, root_of_file};
+ghost use Rattle.tor_spec.specs.valid.Parts.{info_of, kind_of};
+ghost use Rattle.tor_tree.specs.Kinds.{has_v2};
 ghost use Rattle.tor_merkle.specs.declared.TheConstants.{MAX_LENGTH};
 
-use crate::layer_keys::Layers;
+use crate::head::Head;
+use crate::layer_keys::{Layers, layers_of};
+use crate::refusal::Refusal;
+use crate::sides::Sides;
 use tor_bencode::{Item, find_in_order};
 use tor_merkle::laws::piece_roots_fit_a_layer;
 use tor_merkle::{layer_root, piece_level};
 use tor_tree::TreeFile;
 
+/// The piece layers of a v2 side: V18 to V21.
+pub fn judge_layers(root: &Item, head: &Head<'_>, sides: &Sides) -> Result<(), Refusal>
+    requires keys { HasRisingKeys (view root.now) }
+    requires head { IsHeadOf (view root.now) head.now }
+    requires sides { AreSidesOf (info_of (view root.now)) sides.now }
+    requires judged { first_of_both (info_of (view root.now)) ≡ None }
+    requires allowed { has_v2 (kind_of (info_of (view root.now))) ≡ true → IsPieceLength head.now.piece_length }
+    ensures accepted { OnOk result (first_in layer_conditions (view root.now) ≡ None) }
+    ensures refused { IfErr result (Names (first_in layer_conditions (view root.now))) }
+{
+    if !head.kind.has_v2() {
+        return Ok(());
+    }
+    let layers = layers_of(root, head.piece_length);
+    if lacks_layers(&layers, &sides.files) {
+        return Err(Refusal::LayersAbsent);
+    }
+    if lacks_a_layer(&layers, &sides.files) {
+        return Err(Refusal::LayerAbsent);
+    }
+    if has_misshaped(&layers, &sides.files) {
+        return Err(Refusal::LayerLength);
+    }
+    if has_other(&layers, &sides.files) {
+        return Err(Refusal::LayerRoot);
+    }
+    Ok(())
+}
+
 /// Whether layers are needed and absent, or no dictionary.
-pub fn lacks_layers(layers: &Layers<'_>, files: &[TreeFile]) -> bool
+fn lacks_layers(layers: &Layers<'_>, files: &[TreeFile]) -> bool
     ensures { result ≡ lacks_layers layers.now.piece_length files.now
         (option_map (λ item. view item.now) layers.now.item) }
 {
@@ -35,7 +72,7 @@ fn has_long(piece_length: u64, files: &[TreeFile]) -> bool
 }
 
 /// Whether a file has no layer where it is to have one.
-pub fn lacks_a_layer(layers: &Layers<'_>, files: &[TreeFile]) -> bool
+fn lacks_a_layer(layers: &Layers<'_>, files: &[TreeFile]) -> bool
     ensures { result ≡ list_any (lacks_layer layers.now.piece_length (seen layers.now)) files.now }
 {
     'files: for file in files {
@@ -53,7 +90,7 @@ fn lacks_layer(layers: &Layers<'_>, file: &TreeFile) -> bool
 }
 
 /// Whether a layer is not 32 bytes for each piece of its file.
-pub fn has_misshaped(layers: &Layers<'_>, files: &[TreeFile]) -> bool
+fn has_misshaped(layers: &Layers<'_>, files: &[TreeFile]) -> bool
     requires { 0 < layers.now.piece_length }
     ensures { result ≡ list_any (is_misshaped layers.now.piece_length (seen layers.now)) files.now }
 {
@@ -104,7 +141,7 @@ fn root_of(file: &TreeFile) -> &[u8]
 }
 
 /// Whether a layer has not the root of its file. Each layer is one hash for each piece.
-pub fn has_other(layers: &Layers<'_>, files: &[TreeFile]) -> bool
+fn has_other(layers: &Layers<'_>, files: &[TreeFile]) -> bool
     requires piece_length { IsPieceLength layers.now.piece_length }
     requires shaped { list_any (is_misshaped layers.now.piece_length (seen layers.now)) files.now ≡ false }
     requires small { All (λ file. file.length ≤ MAX_LENGTH) files.now }

@@ -16,7 +16,7 @@
 //!
 //! The root and the keys that all kinds have: `head.rt`. The v1 side: `marks.rt` and `listed.rt` read it,
 //! `list_side.rt` judges it; the v2 side: `tree_side.rt`; both: `sides.rt`. Piece layers: `layer_keys.rt`, `layers.rt`.
-//! Where the sides agree: `agree.rt`; both of these judged: `alignment.rt`. What is told: `views.rt`, `told.rt`.
+//! Where the sides of a hybrid agree: `agree.rt`, judged in `alignment.rt`. What is told: `views.rt`, `told.rt`.
 //! `parts.rt` reads single keys.
 #![tactic(auto)]
 

@@ -1,5 +1,6 @@
 //! The v1 side of a torrent (BEP 3, "info dictionary"), judged.
-ghost use Rattle.std.specs.Prelude.{◌≡◌, ◌⊎◌, ◌<◌, ◌∷◌, [], true, false, None, Some, IfErr, IfOk, OnOk, MatchOption};
+ghost use Rattle.std.specs.Prelude.{◌≡◌, ◌⊎◌, ◌<◌, true, false, None, Some, Err, IfErr, IfOk, OnOk};
+ghost use Rattle.std.specs.Prelude.{MatchOption};
 ghost use Rattle.std.specs.Prelude.{int_lt, pos, unsigned_abs, sum_by, codes, nat_lt, option_map};
 ghost use Rattle.std.specs.Int.{div_ceil};
 ghost use Rattle.std.specs.List.{list_any};
@@ -7,9 +8,9 @@ ghost use Rattle.tor_bencode.specs.Find.{value_of};
 ghost use Rattle.tor_bencode.specs.View.{view};
 ghost use Rattle.tor_check.specs.Judged.{IsFirst};
 ghost use Rattle.tor_check.specs.Listed.{all_listed, first_after_sizes, first_of_list, of_list_error, size_of_listed};
-ghost use Rattle.tor_check.specs.Listed.{sized_files};
+ghost use Rattle.tor_check.specs.Listed.{sized_files, takes_files};
 ghost use Rattle.tor_check.specs.declared.refusal.Refusal.TheVariants.{FileShape, Memory};
-ghost use Rattle.tor_spec.specs.valid.ListSide.{is_no_sums, list_shape, side_size};
+ghost use Rattle.tor_spec.specs.valid.ListSide.{is_no_sums, list_length, list_shape, side_size};
 ghost use Rattle.tor_spec.specs.valid.Parts.{name_of, piece_length_of};
 ghost use Rattle.tor_tree.specs.FileList.{list_fault};
 ghost use Rattle.tor_tree.specs.Properties.{as_string};
@@ -42,6 +43,7 @@ pub fn read_list(alloc: Global, head: &Head<'_>) -> Result<ListSide, Refusal>
     ensures size { IfOk result (λ side. side.size ≡ side_size (view head.now.info.now)) }
     ensures accepted { OnOk result (first_of_list (view head.now.info.now) ≡ None) }
     ensures refused { IfErr result (IsFirst (first_of_list (view head.now.info.now))) }
+    ensures memory { result ≡ Err Memory → takes_files (view head.now.info.now) ≡ true }
 {
     let files = read_files(alloc, head.info, &head.name)?;
     let size = match judge_sizes(alloc, head.info, &files) {
@@ -64,6 +66,7 @@ fn judge_sizes(alloc: Global, info: &Item, files: &[Listed]) -> Result<u64, Refu
     ensures size { IfOk result (λ size. size ≡ side_size (view info.now)) }
     ensures first { OnOk result (first_of_list (view info.now) ≡ first_after_sizes (view info.now)) }
     ensures refused { IfErr result (IsFirst (first_of_list (view info.now))) }
+    ensures memory { result ≡ Err Memory → list_length (view info.now) ≡ false }
 {
     // The contract speaks of it alone.
     let _info = info;
@@ -89,6 +92,7 @@ fn read_files(alloc: Global, info: &Item, name: &Name) -> Result<Vec<Listed>, Re
     ensures shaped { OnOk result (list_shape (view info.now) ≡ false) }
     ensures refused { IfErr result (λ refusal.
         ((refusal ≡ FileShape) × (list_shape (view info.now) ≡ true)) ⊎ (refusal ≡ Memory)) }
+    ensures memory { result ≡ Err Memory → takes_files (view info.now) ≡ true }
 {
     match find(info, b"files") {
         Some(Item::List(entries)) => read_list_of(alloc, entries),
@@ -97,19 +101,9 @@ fn read_files(alloc: Global, info: &Item, name: &Name) -> Result<Vec<Listed>, Re
             let Some(marks) = read_marks(info) else {
                 return Err(Refusal::FileShape);
             };
-            let path = Some(path_of(alloc, name)?);
+            let path = Some(FilePath::of_name(alloc, name)?);
             Ok(vec![in alloc; Listed { path, marks }]?)
         }
-    }
-}
-
-/// The path of one name.
-fn path_of(alloc: Global, name: &Name) -> Result<FilePath, AllocError>
-    ensures { IfOk result (λ path. path ≡ name.now ∷ []) }
-{
-    match FilePath::new(vec![in alloc; name.copy(alloc)?]?) {
-        Some(path) => Ok(path),
-        None => unreachable!(),
     }
 }
 

@@ -1,10 +1,10 @@
 //! The files of the v1 side (BEP 3, "info dictionary"; BEP 47), as they are read before they are judged.
-ghost use Rattle.std.specs.Prelude.{◌≡◌, ◌⊎◌, true, false, IfErr, IfOk, OnOk, Some, codes, map};
+ghost use Rattle.std.specs.Prelude.{◌≡◌, ◌⊎◌, true, false, Err, IfErr, IfOk, OnOk, Some, codes, map};
 ghost use Rattle.std.specs.List.{list_all, list_any};
 ghost use Rattle.tor_bencode.specs.Find.{value_of};
 ghost use Rattle.tor_bencode.specs.Data.{list};
 ghost use Rattle.tor_bencode.specs.View.{items_view, view};
-ghost use Rattle.tor_check.specs.Listed.{listed_entry};
+ghost use Rattle.tor_check.specs.Listed.{listed_entry, lists_some, takes_path};
 ghost use Rattle.tor_check.specs.declared.refusal.Refusal.TheVariants.{FileShape, Memory};
 ghost use Rattle.tor_spec.specs.valid.ListSide.{is_name, is_no_entry, is_path, names_of};
 ghost use Rattle.tor_spec.specs.valid.Parts.{items_in, part, text_of};
@@ -56,6 +56,7 @@ fn read_entry(alloc: Global, entry: &Item) -> Result<Listed, Refusal>
     ensures shaped { OnOk result (is_no_entry (view entry.now) ≡ false) }
     ensures refused { IfErr result (λ refusal.
         ((refusal ≡ FileShape) × (is_no_entry (view entry.now) ≡ true)) ⊎ (refusal ≡ Memory)) }
+    ensures memory { result ≡ Err Memory → takes_path (view entry.now) ≡ true }
 {
     let Some(marks) = read_marks(entry) else {
         return Err(Refusal::FileShape);
@@ -78,6 +79,7 @@ fn read_path(alloc: Global, entry: &Item) -> Result<FilePath, Refusal>
     ensures shaped { OnOk result (is_path (value_of (codes "path") (view entry.now)) ≡ true) }
     ensures refused { IfErr result (λ refusal.
         ((refusal ≡ FileShape) × (is_path (value_of (codes "path") (view entry.now)) ≡ false)) ⊎ (refusal ≡ Memory)) }
+    ensures memory { result ≡ Err Memory → lists_some (part (codes "path") (view entry.now)) ≡ true }
 {
     match find(entry, b"path") {
         Some(Item::List(texts)) => path_of(alloc, texts),
@@ -91,11 +93,15 @@ fn path_of(alloc: Global, texts: &[Item]) -> Result<FilePath, Refusal>
     ensures shaped { OnOk result (is_path (Some (list (items_view texts.now))) ≡ true) }
     ensures refused { IfErr result (λ refusal.
         ((refusal ≡ FileShape) × (is_path (Some (list (items_view texts.now))) ≡ false)) ⊎ (refusal ≡ Memory)) }
+    ensures memory { result ≡ Err Memory → lists_some (list (items_view texts.now)) ≡ true }
 {
+    if texts.is_empty() {
+        return Err(Refusal::FileShape);
+    }
     match read_names(alloc, texts) {
         Ok(names) => match FilePath::new(names) {
             Some(path) => Ok(path),
-            None => Err(Refusal::FileShape),
+            None => unreachable!(),
         },
         Err(refusal) => Err(refusal),
     }
@@ -123,8 +129,8 @@ fn read_names(alloc: Global, texts: &[Item]) -> Result<Vec<Name>, Refusal>
 fn read_name(alloc: Global, text: &Item) -> Result<Name, Refusal>
     ensures read { IfOk result (λ name. name ≡ text_of (view text.now)) }
     ensures shaped { OnOk result (is_name (view text.now) ≡ true) }
-    ensures refused { IfErr result (λ refusal.
-        ((refusal ≡ FileShape) × (is_name (view text.now) ≡ false)) ⊎ (refusal ≡ Memory)) }
+    ensures refused { IfErr result (λ refusal. ((refusal ≡ FileShape) × (is_name (view text.now) ≡ false))
+        ⊎ ((refusal ≡ Memory) × (is_name (view text.now) ≡ true))) }
 {
     let Item::Bytes(bytes) = text else {
         return Err(Refusal::FileShape);

@@ -36,6 +36,8 @@ pub fn prove_piece(
 ) -> Result<(Hash, Proof), PieceError>
     ensures refused { ForSome (piece_refusal torrent.now file index) (λ fault. result ≡ Err fault) }
     ensures answered { piece_refusal torrent.now file index ≡ None → IfErr result (λ fault. fault ≡ Memory) }
+    ensures memory { result ≡ Err Memory → IsSomeAnd (slice_get torrent.now.files file)
+        (λ told. torrent.now.piece_length < told.file.length) }
     ensures proved { IfOk result (λ answer. IsSomeAnd (slice_get torrent.now.files file)
         (λ told. IsPieceProof torrent.now.piece_length told index answer.0 answer.1.siblings.items)) }
     ensures few { IfOk result (λ answer. length answer.1.siblings.items ≤ 36) }
@@ -60,6 +62,7 @@ fn prove_in_file(
     requires tree { HasTree piece_length told.now }
     ensures refused { proof_count told.now.file.length piece_length ≤ index → result ≡ Err Index }
     ensures answered { index < proof_count told.now.file.length piece_length → IfErr result (λ fault. fault ≡ Memory) }
+    ensures memory { result ≡ Err Memory → piece_length < told.now.file.length }
     ensures proved { IfOk result (λ answer.
         IsPieceProof piece_length told.now index answer.0 answer.1.siblings.items) }
     ensures few { IfOk result (λ answer. length answer.1.siblings.items ≤ 36) }

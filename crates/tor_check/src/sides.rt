@@ -1,10 +1,12 @@
 //! The sides of a torrent, judged together: one condition is looked for in both before the next.
-ghost use Rattle.std.specs.Prelude.{◌≡◌, ◌<◌, true, None, IfErr, IfOk, OnOk, Option};
+ghost use Rattle.std.specs.Prelude.{◌≡◌, ◌<◌, true, None, Err, IfErr, IfOk, OnOk, Option};
 ghost use Rattle.tor_bencode.specs.View.{view};
 ghost use Rattle.tor_check.specs.Judged.{IsFirst};
 ghost use Rattle.tor_check.specs.Sides.{AreSidesOf, earlier_refusal, earliest, files_if, first_of_both, list_if};
-ghost use Rattle.tor_check.specs.Sides.{listed_if, tree_if};
-ghost use Rattle.tor_spec.specs.valid.Conditions.{Condition};
+ghost use Rattle.tor_check.specs.Sides.{listed_if, takes_sides, takes_tree, tree_if};
+ghost use Rattle.tor_check.specs.Listed.{takes_files};
+ghost use Rattle.tor_check.specs.declared.refusal.Refusal.TheVariants.{Memory};
+ghost use Rattle.tor_spec.specs.valid.Conditions.{Condition, of_list, of_tree};
 ghost use Rattle.tor_spec.specs.valid.ListSide.{side_size};
 ghost use Rattle.tor_spec.specs.valid.Parts.{kind_of, name_of, piece_length_of};
 ghost use Rattle.tor_tree.specs.Kinds.{has_v1};
@@ -36,6 +38,7 @@ pub fn read_sides(alloc: Global, head: &Head<'_>) -> Result<Sides, Refusal>
     ensures read { IfOk result (AreSidesOf (view head.now.info.now)) }
     ensures accepted { OnOk result (first_of_both (view head.now.info.now) ≡ None) }
     ensures refused { IfErr result (IsFirst (first_of_both (view head.now.info.now))) }
+    ensures memory { result ≡ Err Memory → takes_sides (view head.now.info.now) ≡ true }
 {
     match list_of(alloc, head) {
         Ok(list) => match tree_of(alloc, head) {
@@ -57,6 +60,7 @@ fn list_of(alloc: Global, head: &Head<'_>) -> Result<ListSide, Refusal>
         → side.size ≡ side_size (view head.now.info.now)) }
     ensures accepted { OnOk result (list_if (view head.now.info.now) ≡ None) }
     ensures refused { IfErr result (IsFirst (list_if (view head.now.info.now))) }
+    ensures memory { result ≡ Err Memory → of_list takes_files (view head.now.info.now) ≡ true }
 {
     if head.kind.has_v1() {
         return read_list(alloc, head);
@@ -73,6 +77,7 @@ fn tree_of(alloc: Global, head: &Head<'_>) -> Result<Vec<TreeFile>, Refusal>
     ensures files { IfOk result (λ files. files.items ≡ files_if (view head.now.info.now)) }
     ensures accepted { OnOk result (tree_if (view head.now.info.now) ≡ None) }
     ensures refused { IfErr result (IsFirst (tree_if (view head.now.info.now))) }
+    ensures memory { result ≡ Err Memory → of_tree takes_tree (view head.now.info.now) ≡ true }
 {
     if head.kind.has_v2() {
         return read_tree(alloc, head.info);
@@ -83,7 +88,9 @@ fn tree_of(alloc: Global, head: &Head<'_>) -> Result<Vec<TreeFile>, Refusal>
 /// The first refusal of the sides, where the v1 side has one.
 #[tactic(auto, using(crate::proofs::BothSides::merged, crate::proofs::BothSides::first_alone))]
 fn first_of_two(one: Refusal, tree: Result<Vec<TreeFile>, Refusal>) -> Refusal
-    ensures { (list others : Option Condition) → IsFirst list one → OnOk tree (others ≡ None) →
+    ensures alone { OnOk tree (result ≡ one) }
+    ensures earlier { IfErr tree (λ other. result ≡ earlier_refusal one other) }
+    ensures first { (list others : Option Condition) → IsFirst list one → OnOk tree (others ≡ None) →
         IfErr tree (IsFirst others) → IsFirst (earliest list others) result }
 {
     match tree {

@@ -1,6 +1,6 @@
 //! What a torrent describes whose sides have no fault.
-ghost use Rattle.std.specs.Prelude.{◌≡◌, [], None, IfOk, codes, unwrap_or, if◌then◌else◌};
-ghost use Rattle.tor_bencode.specs.Lawful.{HasRisingKeys};
+ghost use Rattle.std.specs.Prelude.{◌≡◌, [], true, None, IfOk, OnErr, codes, unwrap_or, if◌then◌else◌};
+ghost use Rattle.tor_bencode.specs.Lawful.{HasRisingKeys, IsLawful};
 ghost use Rattle.tor_bencode.specs.Span.{span_of};
 ghost use Rattle.tor_bencode.specs.View.{view};
 ghost use Rattle.tor_check.specs.Judged.{IsHeadOf};
@@ -28,7 +28,7 @@ pub fn torrent_of(
     sides: Sides,
     info_span: (usize, usize),
 ) -> Result<Torrent, AllocError>
-    requires keys { HasRisingKeys (view root.now) }
+    requires lawful { IsLawful (view root.now) }
     requires head { IsHeadOf (view root.now) head.now }
     requires sides { AreSidesOf (info_of (view root.now)) sides }
     requires judged { first_of_both (info_of (view root.now)) ≡ None }
@@ -73,8 +73,9 @@ fn piece_count(root: &Item, head: &Head<'_>, sides: &Sides) -> u64
 /// The joined SHA-1 of each piece of the v1 side; no byte without that side.
 fn pieces_of(alloc: Global, head: &Head<'_>) -> Result<Vec<u8>, AllocError>
     requires { head.now.kind ≡ kind_of (view head.now.info.now) }
-    ensures { IfOk result (λ pieces. pieces.items ≡ (if has_v1 (kind_of (view head.now.info.now))
+    ensures pieces { IfOk result (λ pieces. pieces.items ≡ (if has_v1 (kind_of (view head.now.info.now))
         then text_of (part (codes "pieces") (view head.now.info.now)) else [])) }
+    ensures memory { OnErr result (has_v1 (kind_of (view head.now.info.now)) ≡ true) }
 {
     if !head.kind.has_v1() {
         return Ok(Vec::new(alloc));

@@ -83,8 +83,9 @@ impl Model for Torrent {
 }
 
 impl Torrent {
-    ghost use Rattle.std.specs.Prelude.{◌≡◌};
-    ghost use Rattle.tor_check.specs.ValidViews.{IsViewOfValid};
+    ghost use Rattle.std.specs.Prelude.{◌≡◌, true};
+    ghost use Rattle.tor_check.specs.ValidViews.{HasRisingPaths, IsViewOfValid};
+    ghost use Rattle.tor_tree.specs.Kinds.{has_v2};
 
     /// Which sides it has.
     pub fn kind(&self) -> Kind
@@ -114,10 +115,11 @@ impl Torrent {
         self.is_private
     }
 
-    /// The files in the torrent's order, without padding.
+    /// The files in the torrent's order, without padding; with a v2 side that is the order of their paths.
     pub fn files(&self) -> &[ViewFile]
         ensures value { result.now ≡ self.now.files }
         ensures valid { IsViewOfValid self.now }
+        ensures rising { has_v2 self.now.kind ≡ true → HasRisingPaths self.now }
     {
         self.files.as_slice()
     }

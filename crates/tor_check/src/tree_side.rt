@@ -1,8 +1,9 @@
 //! The v2 side of a torrent (BEP 52, "file tree"), judged.
-ghost use Rattle.std.specs.Prelude.{◌≡◌, None, IfErr, IfOk, OnOk};
+ghost use Rattle.std.specs.Prelude.{◌≡◌, true, None, Err, IfErr, IfOk, OnOk};
 ghost use Rattle.tor_bencode.specs.View.{view};
 ghost use Rattle.tor_check.specs.Judged.{IsFirst};
-ghost use Rattle.tor_check.specs.Sides.{first_of_tree};
+ghost use Rattle.tor_check.specs.Sides.{first_of_tree, takes_tree};
+ghost use Rattle.tor_check.specs.declared.refusal.Refusal.TheVariants.{Memory};
 ghost use Rattle.tor_spec.specs.valid.TreeSide.{tree_files};
 
 use crate::refusal::Refusal;
@@ -15,6 +16,7 @@ pub fn read_tree(alloc: Global, info: &Item) -> Result<Vec<TreeFile>, Refusal>
     ensures files { IfOk result (λ files. files.items ≡ tree_files (view info.now)) }
     ensures accepted { OnOk result (first_of_tree (view info.now) ≡ None) }
     ensures refused { IfErr result (IsFirst (first_of_tree (view info.now))) }
+    ensures memory { result ≡ Err Memory → takes_tree (view info.now) ≡ true }
 {
     let Some(tree) = find(info, b"file tree") else {
         return Err(Refusal::FileShape);

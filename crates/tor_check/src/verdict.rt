@@ -1,15 +1,18 @@
 //! Whether bytes are a torrent, and what it describes.
-ghost use Rattle.std.specs.Prelude.{◌≡◌, None, IfErr, IfOk, OnOk, codes, unwrap_or};
-ghost use Rattle.tor_bencode.specs.Lawful.{HasRisingKeys};
+ghost use Rattle.std.specs.Prelude.{◌≡◌, true, None, Err, IfErr, IfOk, IsOkUnless, OnOk, codes, unwrap_or};
+ghost use Rattle.tor_bencode.specs.Fault.{may_take_memory};
+ghost use Rattle.tor_bencode.specs.Lawful.{IsLawful};
 ghost use Rattle.tor_bencode.specs.Span.{span_of};
 ghost use Rattle.tor_bencode.specs.View.{view};
-ghost use Rattle.tor_check.specs.Judged.{IsFirst};
+ghost use Rattle.tor_check.specs.Judged.{IsFirst, conditions_before_memory, first_in};
 ghost use Rattle.tor_check.specs.Valid.{IsRefusedFor, IsTold};
-ghost use Rattle.tor_spec.specs.valid.Conditions.{refusal_of};
+ghost use Rattle.tor_check.specs.declared.refusal.Refusal.TheVariants.{Memory};
+ghost use Rattle.tor_spec.specs.valid.Conditions.{IsValid, refusal_of};
 ghost use Rattle.tor_spec.specs.valid.View.{view_of};
 
-use crate::alignment::{judge_alignment, judge_layers};
+use crate::alignment::judge_alignment;
 use crate::head::read_head;
+use crate::layers::judge_layers;
 use crate::refusal::Refusal;
 use crate::sides::read_sides;
 use crate::told::torrent_of;
@@ -20,7 +23,9 @@ use tor_bencode::{Item, decode, span};
 /// What the torrent describes that the bytes are; or why they are none, the least number whose condition holds.
 pub fn validate(alloc: Global, bytes: &[u8]) -> Result<Torrent, Refusal>
     ensures accepted { IfOk result (IsTold bytes.now) }
+    ensures only { IsValid bytes.now → IsOkUnless result Memory }
     ensures refused { IfErr result (IsRefusedFor bytes.now) }
+    ensures memory { result ≡ Err Memory → may_take_memory bytes.now ≡ true }
 {
     let tree = match decode(alloc, bytes) {
         Ok(tree) => tree,
@@ -35,11 +40,12 @@ pub fn validate(alloc: Global, bytes: &[u8]) -> Result<Torrent, Refusal>
 
 /// The same of a tree, in whose spelling `info` begins and ends here.
 fn judge(alloc: Global, root: &Item, info_span: (usize, usize)) -> Result<Torrent, Refusal>
-    requires keys { HasRisingKeys (view root.now) }
+    requires lawful { IsLawful (view root.now) }
     requires span { info_span ≡ unwrap_or (span_of (codes "info") (view root.now)) (0, 0) }
     ensures described { IfOk result (λ torrent. torrent ≡ view_of (view root.now)) }
     ensures accepted { OnOk result (refusal_of (view root.now) ≡ None) }
     ensures refused { IfErr result (IsFirst (refusal_of (view root.now))) }
+    ensures memory { result ≡ Err Memory → first_in conditions_before_memory (view root.now) ≡ None }
 {
     let head = match read_head(alloc, root) {
         Ok(head) => head,

@@ -6,6 +6,7 @@ pub mod Judging
 pub mod Lines
 pub mod Numerals
 pub mod PathTexts
+pub mod PlainLines
 pub mod Proofs
 pub mod Rechecking
 pub mod Siblings

@@ -6,7 +6,7 @@ use Rattle.std.specs.List.{flat_map}
 abbrev pub backslash : ℕ
 backslash = 92
 
--- the letter that begins two hexadecimal digits
+-- the byte before two hexadecimal digits
 abbrev pub letter_x : ℕ
 letter_x = 120
 

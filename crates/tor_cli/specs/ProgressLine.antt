@@ -1,21 +1,21 @@
 -- The line of progress.
 use Rattle.std.specs.Prelude.{ℕ, ◌-◌, ◌*◌, ◌/◌, ◌%◌, ◌^◌, List, ◌++◌, if◌then◌else◌, decimal, codes, nat_lt, min, max}
 
--- units of so many bytes, with one digit after the point, rounded down
-abbrev pub in_units : ℕ → ℕ → List ℕ → List ℕ
-in_units bytes unit name =
-    decimal (bytes / unit) ++ (codes "." ++ (decimal (bytes % unit * 10 / unit) ++ (codes " " ++ name)))
+-- bytes in a scale, with one digit after the point, rounded down
+abbrev pub in_scale : ℕ → ℕ → List ℕ → List ℕ
+in_scale bytes scale name =
+    decimal (bytes / scale) ++ (codes "." ++ (decimal (bytes % scale * 10 / scale) ++ (codes " " ++ name)))
 
--- so many bytes, in the largest unit of which there is one
+-- so many bytes, in the largest scale of which there is one, or as they are
 abbrev pub amount : ℕ → List ℕ
 amount bytes =
     if nat_lt bytes (2 ^ 10) then decimal bytes ++ codes " B"
-    else (if nat_lt bytes (2 ^ 20) then in_units bytes (2 ^ 10) (codes "KiB")
-    else (if nat_lt bytes (2 ^ 30) then in_units bytes (2 ^ 20) (codes "MiB")
-    else (if nat_lt bytes (2 ^ 40) then in_units bytes (2 ^ 30) (codes "GiB")
-    else in_units bytes (2 ^ 40) (codes "TiB"))))
+    else (if nat_lt bytes (2 ^ 20) then in_scale bytes (2 ^ 10) (codes "KiB")
+    else (if nat_lt bytes (2 ^ 30) then in_scale bytes (2 ^ 20) (codes "MiB")
+    else (if nat_lt bytes (2 ^ 40) then in_scale bytes (2 ^ 30) (codes "GiB")
+    else in_scale bytes (2 ^ 40) (codes "TiB"))))
 
--- so many seconds, in the two largest units of which there is one
+-- so many seconds: in hours and minutes, in minutes and seconds, or in seconds
 abbrev pub duration : ℕ → List ℕ
 duration seconds =
     if nat_lt seconds 60 then decimal seconds ++ codes " s"

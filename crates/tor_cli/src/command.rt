@@ -61,7 +61,7 @@ fn tor_command<'a>(alloc: Global) -> Result<Command<'a>, AllocError>
 {
     Command::new(alloc, "tor")
         .version("0.1.0")
-        .about("Makes and validates BitTorrent metainfo files")
+        .about("Makes, checks and rechecks BitTorrent metainfo files, and proves single pieces")
         .subcommand_required(true)
         .bin_name("tor")?
         .subcommand(make_command(alloc)?)?

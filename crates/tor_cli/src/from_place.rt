@@ -1,5 +1,5 @@
 //! From a file or a folder of the system to the torrent of it.
-ghost use Rattle.std.specs.Prelude.{◌≡◌, ◌∷◌, [], IfErr, IfOk, None, OnOk, length, true};
+ghost use Rattle.std.specs.Prelude.{◌≡◌, IfErr, IfOk, None, OnOk, length, true};
 ghost use Rattle.std.specs.declared.io.Error.{Error};
 ghost use Rattle.tor_meta.specs.Contents.{IsMadeOfSome};
 ghost use Rattle.tor_meta.specs.Make.{IsGivenTo, IsOwn, make_refusal};
@@ -50,21 +50,12 @@ fn one_file(system: &HostRuntime, place: &str, name: &Name) -> Result<Found, All
     ensures each { IfOk result (λ found. length found.source ≡ length found.paths.items) }
 {
     let alloc = system.alloc();
-    let path_of_name = path_of(alloc, name)?;
+    let path = FilePath::of_name(alloc, name)?;
     Ok(Found {
         source: FolderSource::single(system, place)?,
-        paths: vec![in alloc; path_of_name]?,
+        paths: vec![in alloc; path]?,
         single: true,
     })
-}
-
-fn path_of(alloc: Global, name: &Name) -> Result<FilePath, AllocError>
-    ensures { IfOk result (λ path. path ≡ name.now ∷ []) }
-{
-    match FilePath::new(vec![in alloc; name.copy(alloc)?]?) {
-        Some(path) => Ok(path),
-        None => unreachable!(),
-    }
 }
 
 /// The torrent of the files that were found. The progress that is shown meanwhile is erased at the end.
@@ -85,6 +76,7 @@ pub fn torrent_of<T: Threads + Sync>(
 {
     let counting = Counting {
         source: &found.source,
+        files: &[],
         progress,
     };
     let answer = make(rt, alloc, &counting, &found.paths, order);

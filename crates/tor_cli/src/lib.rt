@@ -15,7 +15,7 @@
 //! - `recheck_command.rt`: the command `recheck`; `recheck_words.rt`: its words; `recheck_source.rt`: where the files
 //!   of the torrent are looked for; `recheck_text.rt`: what is printed of their pieces.
 //! - `fault.rt`: what stops the program, its line and its status; `fault_of.rt`: which step's fault it is. `escape.rt`:
-//!   the user's text in such a line.
+//!   the user's text in such a line. `laws.rt`: that it has no control byte there.
 #![tactic(auto)]
 
 mod answer;
@@ -28,6 +28,7 @@ pub mod fault;
 mod fault_of;
 mod foreign;
 mod from_place;
+pub mod laws;
 mod make_command;
 mod make_words;
 mod numbers;

@@ -29,9 +29,7 @@ pub fn make_command<'a>(alloc: Global) -> Result<Command<'a>, AllocError>
         × (app_of command ≡ make_app kinds hows)) }
 {
     Command::new(alloc, "make")
-        .about(
-            "Makes a torrent of standard input, or of a file or folder, and writes it to standard output",
-        )
+        .about("Makes a torrent of standard input, or of a file or folder")
         .arg(name_option(alloc))?
         .arg(piece_length_option(alloc))?
         .arg(kind_option(alloc))?
@@ -140,7 +138,7 @@ fn out_option<'a>(alloc: Global) -> Arg<'a>
     ensures local { result.global ≡ false }
 {
     Arg::new(alloc, "out").long("out").value_name("FILE").help(
-        "The file that the torrent goes to, in place of standard output",
+        "The file that the torrent goes to, instead of standard output",
     )
 }
 
@@ -149,6 +147,6 @@ fn path_argument<'a>(alloc: Global) -> Arg<'a>
     ensures local { result.global ≡ false }
 {
     Arg::new(alloc, "path").index(1).value_name("PATH").help(
-        "The file or folder that the torrent is of, in place of standard input",
+        "The file or folder that the torrent is of, instead of standard input",
     )
 }

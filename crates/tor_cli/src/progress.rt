@@ -8,6 +8,7 @@ use std::io::Eprint;
 use std::rt::Stderr;
 use std::sync::atomic::AtomicU64;
 use std::sync::atomic::Ordering::SeqCst;
+use tor_check::ViewFile;
 use tor_source::Source;
 
 /// Milliseconds from one print of the line to the next.
@@ -90,7 +91,17 @@ impl Progress {
 #[derive(Drop)]
 pub struct Counting<'a, S: Source> {
     pub source: &'a S,
+    /// The files of the torrent that is rechecked, past whose lengths nothing is read; none where one is made.
+    pub files: &'a [ViewFile],
     pub progress: Option<Progress>,
+}
+
+/// How many bytes are read at most of a file that has so many.
+fn length_to_read(files: &[ViewFile], file: u64, length: u64) -> u64 {
+    match files.get(file as usize) {
+        Some(told) => length.min(told.file().length),
+        None => length,
+    }
 }
 
 impl<'a, S: Source> Source for Counting<'a, S> {
@@ -103,7 +114,7 @@ impl<'a, S: Source> Source for Counting<'a, S> {
     fn length(&self, file: u64) -> Result<Option<u64>, S::Fault> {
         let answer = self.source.length(file);
         if let (Some(progress), Ok(length)) = (&self.progress, &answer) {
-            progress.count_length(length.unwrap_or(0));
+            progress.count_length(length_to_read(self.files, file, length.unwrap_or(0)));
         }
         answer
     }

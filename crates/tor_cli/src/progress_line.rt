@@ -1,6 +1,6 @@
 //! The line of progress: amounts of bytes and of time, as a reader takes them in at a glance.
 ghost use Rattle.std.specs.Prelude.{◌≡◌, ◌<◌, ◌≤◌, ◌^◌, IfOk, string_bytes};
-ghost use Rattle.tor_cli.specs.ProgressLine.{amount, duration, in_units, progress_line, speed, time_left};
+ghost use Rattle.tor_cli.specs.ProgressLine.{amount, duration, in_scale, progress_line, speed, time_left};
 
 use std::alloc::{AllocError, Global};
 
@@ -36,34 +36,34 @@ fn time_left(read: u64, total: u64, speed: u64) -> u64
     total.saturating_sub(read) / speed.max(1)
 }
 
-/// So many bytes, in the largest unit of which there is one, with one digit after the point, rounded down.
+/// So many bytes, in the largest scale of which there is one, with one digit after the point, rounded down.
 fn amount(alloc: Global, bytes: u64) -> Result<String, AllocError>
     ensures { IfOk result (λ text. string_bytes text ≡ amount bytes) }
 {
     if bytes < 1 << 10 {
         format!(in alloc; "{bytes} B")
     } else if bytes < 1 << 20 {
-        in_units(alloc, bytes, 1 << 10, "KiB")
+        in_scale(alloc, bytes, 1 << 10, "KiB")
     } else if bytes < 1 << 30 {
-        in_units(alloc, bytes, 1 << 20, "MiB")
+        in_scale(alloc, bytes, 1 << 20, "MiB")
     } else if bytes < 1 << 40 {
-        in_units(alloc, bytes, 1 << 30, "GiB")
+        in_scale(alloc, bytes, 1 << 30, "GiB")
     } else {
-        in_units(alloc, bytes, 1 << 40, "TiB")
+        in_scale(alloc, bytes, 1 << 40, "TiB")
     }
 }
 
-fn in_units(alloc: Global, bytes: u64, unit: u64, name: &str) -> Result<String, AllocError>
-    requires some { 0 < unit }
-    requires small { unit ≤ 2 ^ 40 }
-    ensures { IfOk result (λ text. string_bytes text ≡ in_units bytes unit name.now) }
+fn in_scale(alloc: Global, bytes: u64, scale: u64, name: &str) -> Result<String, AllocError>
+    requires some { 0 < scale }
+    requires small { scale ≤ 2 ^ 40 }
+    ensures { IfOk result (λ text. string_bytes text ≡ in_scale bytes scale name.now) }
 {
-    let whole = bytes / unit;
-    let tenths = bytes % unit * 10 / unit;
+    let whole = bytes / scale;
+    let tenths = bytes % scale * 10 / scale;
     format!(in alloc; "{whole}.{tenths} {name}")
 }
 
-/// So many seconds, in the two largest units of which there is one.
+/// So many seconds: in hours and minutes, in minutes and seconds, or in seconds.
 fn duration(alloc: Global, seconds: u64) -> Result<String, AllocError>
     ensures { IfOk result (λ text. string_bytes text ≡ duration seconds) }
 {

@@ -59,7 +59,7 @@ pub fn verify_command<'a>(alloc: Global) -> Result<Command<'a>, AllocError>
 
 const ROOT: &str = "The root of the file: 64 hexadecimal digits";
 
-const LENGTH: &str = "Bytes in the file, at most 1125899906842624";
+const LENGTH: &str = "Bytes in the file: from 1 to 1125899906842624";
 
 const PIECE_LENGTH: &str = "Bytes in a piece: a power of two from 16384 to 1073741824";
 

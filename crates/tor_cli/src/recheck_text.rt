@@ -44,7 +44,11 @@ pub fn counted_report<S: Source, T: Threads + Sync>(
     ensures allowed { IfErr result (λ error. error ≢ Workers) }
     ensures gave { IfErr result (IsGiven (S.gave source.now) (length torrent.now.files)) }
 {
-    let counting = Counting { source, progress };
+    let counting = Counting {
+        source,
+        files: torrent.files(),
+        progress,
+    };
     let rechecked = recheck(rt, alloc, &counting, torrent, How::One);
     if let Some(progress) = &counting.progress {
         progress.erase();

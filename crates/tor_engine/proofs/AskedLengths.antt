@@ -1,5 +1,5 @@
 -- Lengths that are asked of files that may be missing.
-use Rattle.std.proofs.Common.{◌≡◌, ◌≢◌, ◌<◌, ℕ, ◌+◌, List, [], ◌∷◌, ◌++◌, length, take, Option, None, Some, Ok, Err}
+use Rattle.std.proofs.Common.{◌≡◌, ◌≢◌, ◌<◌, ℕ, ◌+◌, List, [], ◌∷◌, ◌++◌, length, take, Option, None, Some, Ok}
 use Rattle.std.proofs.Common.{true, false, eqb, get_or, option_map, zero-add, true≢false, refl, ap, sym, ◌∙◌, arith}
 use Rattle.std.specs.Option.{option_eq}
 use Rattle.std.proofs.lemmas.Bool.{eq-eqb, eqb-true}
@@ -7,6 +7,7 @@ use Rattle.std.proofs.lemmas.List.{take_more}
 use Rattle.std.proofs.lemmas.List.FromFn.{get_or-map-range_with_len, map-range_with_len_more}
 use Rattle.tor_source.specs.Source.{SourceFacts, told_length, unless_fault}
 use Rattle.tor_engine.specs.PieceFault.{asked_fault, first_asked_fault, lengths_told}
+use Rattle.tor_engine.specs.declared.errors.EngineError.{EngineError}
 use Rattle.tor_engine.specs.declared.errors.EngineError.TheVariants.{Read}
 use Rattle.tor_engine.proofs.FirstOf.{first_found, first_none, none_of_range}
 
@@ -27,21 +28,10 @@ module _ {F : Type 0} (facts : SourceFacts F) where
   told_is None size known is = (refl, cc)
   told_is (Some fault) size known is = cc
 
-  fault_is : (fault : Option F) (size : Option ℕ) (given : F) → unless_fault fault size ≡ Err given
-      → fault ≡ Some given
-  fault_is None size given is = cc
-  fault_is (Some fault) size given is = cc
-
   pub no_fault : (file : ℕ) (known : Option ℕ) → told_length facts file ≡ Ok known → asked_fault facts file ≡ None
   no_fault file known is =
       ap (option_map (λ fault. Read file None fault))
       (told_is (facts.length_fault file) (option_map length (facts.contents file)) known is).0
-
-  pub own_fault : (file : ℕ) (given : F) → told_length facts file ≡ Err given
-      → asked_fault facts file ≡ Some (Read file None given)
-  own_fault file given is =
-      ap (option_map (λ fault. Read file None fault))
-      (fault_is (facts.length_fault file) (option_map length (facts.contents file)) given is)
 
   -- one file more
   pub asked_more : (told : List (Option ℕ)) (file : ℕ) (known : Option ℕ) → told ≡ lengths_told facts file
@@ -58,23 +48,12 @@ module _ {F : Type 0} (facts : SourceFacts F) where
       (λ j low high. let here : j ≡ file = omega arith in rw here (no_fault file known is))
 
   -- the first that fails
-  pub asked_first : (file count : ℕ) (given : F) → file < count → first_asked_fault facts file ≡ None
-      → told_length facts file ≡ Err given → first_asked_fault facts count ≡ Some (Read file None given)
-  asked_first file count given less before is =
-      first_found (asked_fault facts) 0 file count file (Read file None given) less (zero-add file) before
-      (own_fault file given is)
+  pub asked_first : (file count : ℕ) (error : EngineError F) → file < count → first_asked_fault facts file ≡ None
+      → asked_fault facts file ≡ Some error → first_asked_fault facts count ≡ Some error
+  asked_first file count error less before is =
+      first_found (asked_fault facts) 0 file count file error less (zero-add file) before is
 
   -- ---- asked again
-
-  no_fault_told : (count file : ℕ) → file < count → first_asked_fault facts count ≡ None
-      → facts.length_fault file ≡ None
-  no_fault_told count file less none =
-      no_option (facts.length_fault file)
-      (ap (asked_fault facts) (sym (zero-add file)) ∙ none_of_range (asked_fault facts) 0 count file less none)
-    where
-      no_option : (fault : Option F) → option_map (λ f. Read file None f) fault ≡ None → fault ≡ None
-      no_option None is = refl
-      no_option (Some f) is = cc
 
   -- the same is told
   pub told_again : (told : List (Option ℕ)) (file : ℕ) (again : Option ℕ) → file < length told
@@ -89,11 +68,11 @@ module _ {F : Type 0} (facts : SourceFacts F) where
       ap (option_eq eqb again) here ∙ option_equal again
 
   -- and no fault
-  pub never_again : (told : List (Option ℕ)) (file : ℕ) (given : F) → file < length told
-      → first_asked_fault facts (length told) ≡ None → told_length facts file ≡ Err given → ⊥
-  never_again told file given less none is =
-      let some = fault_is (facts.length_fault file) (option_map length (facts.contents file)) given is in
-      let no : Some given ≡ None = sym some ∙ no_fault_told (length told) file less none in cc
+  pub never_again : (told : List (Option ℕ)) (file : ℕ) (error : EngineError F) → file < length told
+      → first_asked_fault facts (length told) ≡ None → asked_fault facts file ≡ Some error → ⊥
+  never_again told file error less none is =
+      let never = none_of_range (asked_fault facts) 0 (length told) file less none in
+      let no : Some error ≡ None = sym is ∙ ap (asked_fault facts) (sym (zero-add file)) ∙ never in cc
 
   -- one file more of which the same is told
   pub same_more : (told : List (Option ℕ)) (file : ℕ) (again : Option ℕ) → file < length told

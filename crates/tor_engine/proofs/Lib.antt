@@ -2,13 +2,11 @@ pub mod AllPieces
 pub mod AskedLengths
 pub mod ByFile
 pub mod Change
+pub mod Failing
 pub mod FileHashes
 pub mod FirstOf
 pub mod Fitted
-pub mod Halved
-pub mod HalvedPieces
 pub mod HashesByUnit
-pub mod MappedMore
 pub mod OnePiece
 pub mod PartBytes
 pub mod PartReads
@@ -21,7 +19,7 @@ pub mod PlanPieces
 pub mod ProvedLaws
 pub mod ReadContents
 pub mod Runs
-pub mod Taken
+pub mod Shares
 pub mod Told
 pub mod ToldContents
 pub mod Trees

@@ -120,7 +120,7 @@ module _ (roots_law : RootOfShortContent) (sums_law : LengthOfSums) (plan : Plan
   root_alone : has_v2 plan.kind ≡ true
       → flat_map (part_roots plan contents) piece.parts ≡ hash_of_parts plan contents piece.parts ∷ []
   root_alone v2 =
-      let one = is.alone v2 in
+      let one = is.unit.alone v2 in
       let own = ap (λ (u : PlanUnit). u.parts) one.1 in
       ap (flat_map (part_roots plan contents)) own
       ∙ append-nil (part_roots plan contents one.0)

@@ -12,8 +12,8 @@ use Rattle.tor_engine.specs.steps.ReadBytes.{IsFaultFree}
 use Rattle.tor_engine.specs.steps.Worker.{HasTaken}
 use Rattle.tor_engine.proofs.FirstOf.{first_found, first_none}
 
-fed_as : (kind : Kind) (p : ℕ) (sums : WorkerSums) (bytes bytes' unit unit' : List ℕ) → bytes ≡ bytes' → unit ≡ unit'
-    → HasTaken kind p bytes unit sums → HasTaken kind p bytes' unit' sums
+pub fed_as : (kind : Kind) (p : ℕ) (sums : WorkerSums) (bytes bytes' unit unit' : List ℕ) → bytes ≡ bytes'
+    → unit ≡ unit' → HasTaken kind p bytes unit sums → HasTaken kind p bytes' unit' sums
 fed_as kind p sums bytes bytes' unit unit' same same' given =
     subst (λ (u : List ℕ). HasTaken kind p bytes' u sums) same'
     (subst (λ (b : List ℕ). HasTaken kind p b unit sums) same given)

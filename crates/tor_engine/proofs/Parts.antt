@@ -12,7 +12,7 @@ use Rattle.tor_plan.specs.declared.units.PlanUnit.{PlanUnit}
 use Rattle.tor_source.specs.Source.{SourceFacts, bytes_from}
 use Rattle.tor_engine.specs.Contents.{contents_in}
 use Rattle.tor_engine.specs.steps.Hashes.{bytes_of_part}
-use Rattle.tor_engine.specs.steps.Run.{AreUnitsOf}
+use Rattle.tor_engine.specs.steps.Run.{IsUnitOf}
 use Rattle.tor_engine.specs.steps.Reads.{HasLengths, HasPart, HasParts}
 
 -- the plan tells the length of a file's content
@@ -56,12 +56,9 @@ module _ {F : Type 0} (facts : SourceFacts F) (plan : PlanFacts) where
     parts_there [] are = tt
     parts_there (part ∷ parts) are = (part_there part are.0, parts_there parts are.1)
 
-    -- so are those of a unit of a run
-    pub unit_there : (units : List PlanUnit) (i : ℕ) (d unit : PlanUnit) → i < length units → get_or units i d ≡ unit
-        → AreUnitsOf plan units → HasParts facts unit.parts
-    unit_there units i d unit lt here are =
-        subst (λ (u : PlanUnit). HasParts facts u.parts) here
-        (parts_there (get_or units i d).parts (recursion_from_All _ (get_or units i d).parts (are i d lt).parts))
+    -- so are those of a unit
+    pub unit_there : (unit : PlanUnit) → IsUnitOf plan unit → HasParts facts unit.parts
+    unit_there unit is = parts_there unit.parts (recursion_from_All (IsInFile plan.lengths) unit.parts is.parts)
 
 -- each of the parts that a source has
 pub one_there : {F : Type 0} (facts : SourceFacts F) (parts other : List Part) (i : ℕ) (d : Part) → i < length parts

@@ -1,9 +1,10 @@
 -- Parts that are in contents: how many bytes they have there, and that the source has them.
 use Rattle.std.proofs.Common.{◌≡◌, ◌≤◌, ℕ, ◌+◌, Bool, true, false, ◌&&◌, true≢false, List, [], ◌∷◌, length, take}
 use Rattle.std.proofs.Common.{drop, get_or, unwrap_or, sum_by, refl, ap, ap₂, sym, ◌∙◌, arith}
-use Rattle.std.specs.List.{AllByRecursion, flat_map, list_all}
+use Rattle.std.specs.List.{All, AllByRecursion, flat_map, list_all}
 use Rattle.std.proofs.lemmas.Bool.{leb-true}
 use Rattle.std.proofs.lemmas.List.{length-append, length-drop, length-replicate, length-take-le}
+use Rattle.std.proofs.lemmas.List.Elements.{recursion_from_All}
 use Rattle.std.proofs.lemmas.List.Sums.{sum_by-cons}
 use Rattle.tor_plan.specs.Content.{part_content, unit_content}
 use Rattle.tor_plan.specs.PlanFacts.{PlanFacts}
@@ -59,7 +60,7 @@ module _ (contents : List (List ℕ)) where
       ∙ ap₂ (λ a b. a + b) (length-replicate {A = ℕ} unit.zeros 0) (parts_long unit.parts (parts_in unit.parts there))
 
 -- the source has them, too
-pub source_has : {F : Type 0} (facts : SourceFacts F) (plan : PlanFacts) (parts : List Part)
+source_has : {F : Type 0} (facts : SourceFacts F) (plan : PlanFacts) (parts : List Part)
     → AllByRecursion (IsInFile plan.lengths) parts
     → AllByRecursion (Inside (contents_in facts (length plan.lengths))) parts
     → HasParts facts parts
@@ -68,3 +69,10 @@ source_has facts plan (part ∷ parts) are there =
     let here = ap length (content_at facts plan part are.0) in
     let rest = length-drop part.start (unwrap_or (facts.contents part.file) []) in
     (omega (arith, here, rest, there.0), source_has facts plan parts are.1 there.1)
+
+pub source_has_unit : {F : Type 0} (facts : SourceFacts F) (plan : PlanFacts) (unit : PlanUnit)
+    → All (IsInFile plan.lengths) unit.parts → is_there (contents_in facts (length plan.lengths)) unit ≡ true
+    → HasParts facts unit.parts
+source_has_unit facts plan unit are there =
+    source_has facts plan unit.parts (recursion_from_All (IsInFile plan.lengths) unit.parts are)
+    (parts_in (contents_in facts (length plan.lengths)) unit.parts there)

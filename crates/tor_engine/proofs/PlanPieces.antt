@@ -1,5 +1,5 @@
 -- The pieces of the units of a plan are not empty, and in a kind with trees one part of a file each.
-use Rattle.std.proofs.Common.{◌≡◌, ◌≢◌, ◌<◌, ◌*◌, ◌+◌, ℕ, true, true≢false, List, [], ◌∷◌}
+use Rattle.std.proofs.Common.{◌≡◌, ◌<◌, ◌*◌, ◌+◌, ℕ, true, List, [], ◌∷◌}
 use Rattle.std.proofs.Common.{get_or, ap, subst, sym, ◌∙◌, arith, zero-add, mul-le-mul_right}
 use Rattle.std.specs.Int.{div_ceil}
 use Rattle.std.specs.List.{All, AllByRecursion, flat_map}
@@ -9,21 +9,16 @@ use Rattle.std.proofs.lemmas.List.FromFn.{get_or-map-range_with_len, length-map-
 use Rattle.tor_plan.specs.Entries.{entry_units}
 use Rattle.tor_plan.specs.Pieces.{piece_of_unit, pieces_of_unit}
 use Rattle.tor_plan.specs.PlanFacts.{IsPlan, PlanFacts}
-use Rattle.tor_plan.specs.WithinEntries.{unit_length}
+use Rattle.tor_plan.specs.WithinEntries.{IsInFile, unit_length}
 use Rattle.tor_plan.specs.declared.units.PlanUnit.{PlanUnit}
 use Rattle.tor_plan.proofs.ProvedLaws.{pieces_are_so_long, pieces_are_within_files, separate_entry_units_are_whole}
 use Rattle.tor_plan.proofs.ProvedLaws.{units_are_cut_into_pieces}
 use Rattle.tor_tree.specs.Kinds.{has_v2}
-use Rattle.tor_tree.specs.declared.kinds.Kind.{Kind}
-use Rattle.tor_tree.specs.declared.kinds.Kind.TheVariants.{V1}
-use Rattle.tor_engine.specs.steps.Pieces.{AreUnitsToHash, IsOnePart, IsPiece}
-use Rattle.tor_engine.specs.steps.Run.{IsUnitOf}
+use Rattle.tor_engine.specs.steps.Pieces.{IsPiece, IsUnitToHash}
+use Rattle.tor_engine.specs.steps.Run.{IsOnePart, IsUnitOf}
 use Rattle.tor_engine.proofs.FileHashes.{some_piece}
 use Rattle.tor_engine.proofs.PartReads.{all_split}
-use Rattle.tor_engine.proofs.Whole.{piece_is_small, units_of_plan}
-
-has_no_trees : (kind : Kind) → has_v2 kind ≡ true → kind ≢ V1
-has_no_trees kind v2 is = true≢false (sym v2 ∙ ap has_v2 is)
+use Rattle.tor_engine.proofs.Whole.{has_no_trees, piece_is_small, units_of_plan}
 
 -- what holds of all lists that stand one after another holds of each
 each_list : {X Y : Type 0} (P : Y → Type 0) (f : X → List Y) (xs : List X) → AllByRecursion P (flat_map f xs)
@@ -74,22 +69,21 @@ module _ (plan : PlanFacts) (is : IsPlan plan) where
       let long = pieces_are_so_long p j unit in
       let begins = begins_before (unit_length unit) p j some less in
       record {
-        unit = subst (λ (piece : PlanUnit). IsUnitOf plan piece) (sym here) (record {
-          within = omega (arith, within.within, piece_is_small plan.kind p is.pieces);
-          parts = within.parts;
-        });
+        unit = record {
+          within = omega (arith, ap unit_length here, within.within, piece_is_small plan.kind p is.pieces);
+          parts = subst (λ (piece : PlanUnit). All (IsInFile plan.lengths) piece.parts) (sym here) within.parts;
+          alone = λ v2. All-from_recursion IsOnePart (pieces_of_unit p unit) (own v2) j d lt;
+        };
         some = omega (arith, ap unit_length here, long, begins, some);
         within = omega (arith, ap unit_length here, within.within);
-        alone = λ v2. All-from_recursion IsOnePart (pieces_of_unit p unit) (own v2) j d lt;
       }
 
-  pub units_to_hash : AreUnitsToHash plan plan.units
-  units_to_hash =
-      let units = units_of_plan plan is in
+  pub units_to_hash : All (IsUnitToHash plan) plan.units
+  units_to_hash k d lt =
+      let unit = units_of_plan plan is k d lt in
       record {
-        within = units;
-        pieces = λ k d lt.
-            each_piece (get_or plan.units k d) (units k d lt)
+        within = unit;
+        pieces = each_piece (get_or plan.units k d) unit
             (λ v2. All-from_recursion (λ unit. AllByRecursion IsOnePart (pieces_of_unit p unit)) plan.units (alone v2) k
             d lt);
       }

@@ -1,11 +1,12 @@
 -- Bytes that were taken, and wait to be hashed.
-use Rattle.std.proofs.Common.{◌≡◌, ℕ, List, [], ◌++◌, cond, take, drop, Option, None, Some, IsSome}
+use Rattle.std.proofs.Common.{◌≡◌, ℕ, Bool, true, false, List, [], ◌++◌, cond, take, drop, Option, None, Some}
+use Rattle.std.proofs.Common.{IsSomeAnd}
 use Rattle.std.proofs.Common.{refl, ap, sym, subst, ◌∙◌, append_assoc, append-nil, take-append-drop}
 use Rattle.tor_merkle.specs.Feeding.{Feeding}
-use Rattle.tor_tree.specs.Kinds.{has_v1}
+use Rattle.tor_tree.specs.Kinds.{has_v2}
 use Rattle.tor_tree.specs.declared.kinds.Kind.{Kind}
-use Rattle.tor_tree.specs.declared.kinds.Kind.TheVariants.{V1, V2, Hybrid}
-use Rattle.tor_v1.specs.Piece.{piece_sums, zeros}
+use Rattle.tor_v1.specs.Feeding.{HasFed}
+use Rattle.tor_v1.specs.Piece.{zeros}
 use Rattle.tor_engine.specs.declared.hasher.UnitHasher.{UnitHasher}
 use Rattle.tor_engine.specs.declared.room.Room.{Room}
 use Rattle.tor_engine.specs.declared.worker.WorkerSums.{WorkerSums}
@@ -34,98 +35,81 @@ more_held fed held more left all longer joined =
 pub fresh : (kind : Kind) (p : ℕ) (sums : WorkerSums) → HasFedUnit kind p [] [] sums.hasher → held_in sums.room ≡ []
     → HasTaken kind p [] [] sums
 fresh kind p sums fed none =
-    record { fed_part = []; fed_unit = []; fed = fed; part_joined = λ has. none; unit_joined = λ has. none }
+    record { fed_bytes = []; fed_unit = []; fed = fed; bytes_joined = λ has. none; unit_joined = λ has. none }
 
 -- the first bytes that waited were hashed
 pub keeps : (old new : WorkerSums) (count : ℕ) (front : List ℕ) → front ≡ take count (held_in old.room)
     → held_in new.room ≡ drop count (held_in old.room)
-    → ((kind : Kind) (p : ℕ) (part unit : List ℕ) → HasFedUnit kind p part unit old.hasher
-    → HasFedUnit kind p (part ++ front) (unit ++ front) new.hasher) → Keeps old new
-keeps old new count front first left fed kind p part unit before =
+    → ((kind : Kind) (p : ℕ) (bytes unit : List ℕ) → HasFedUnit kind p bytes unit old.hasher
+    → HasFedUnit kind p (bytes ++ front) (unit ++ front) new.hasher) → Keeps old new
+keeps old new count front first left fed kind p bytes unit before =
     let cut : front ++ held_in new.room ≡ held_in old.room =
     ap (λ xs. xs ++ held_in new.room) first ∙ ap (λ xs. take count (held_in old.room) ++ xs) left
     ∙ take-append-drop count (held_in old.room) in
     record {
-      fed_part = before.fed_part ++ front;
+      fed_bytes = before.fed_bytes ++ front;
       fed_unit = before.fed_unit ++ front;
-      fed = fed kind p before.fed_part before.fed_unit before.fed;
-      part_joined = λ has. more_fed before.fed_part front _ _ part cut (before.part_joined has);
+      fed = fed kind p before.fed_bytes before.fed_unit before.fed;
+      bytes_joined = λ has. more_fed before.fed_bytes front _ _ bytes cut (before.bytes_joined has);
       unit_joined = λ has. more_fed before.fed_unit front _ _ unit cut (before.unit_joined has);
     }
 
 -- bytes were read behind those that waited
-pub takes : (kind : Kind) (p : ℕ) (old new : WorkerSums) (bytes part unit : List ℕ) → new.hasher ≡ old.hasher
-    → held_in new.room ≡ held_in old.room ++ bytes → HasTaken kind p part unit old
-    → HasTaken kind p (part ++ bytes) (unit ++ bytes) new
-takes kind p old new bytes part unit same longer before = record {
-  fed_part = before.fed_part;
+pub takes : (kind : Kind) (p : ℕ) (old new : WorkerSums) (more bytes unit : List ℕ) → new.hasher ≡ old.hasher
+    → held_in new.room ≡ held_in old.room ++ more → HasTaken kind p bytes unit old
+    → HasTaken kind p (bytes ++ more) (unit ++ more) new
+takes kind p old new more bytes unit same longer before = record {
+  fed_bytes = before.fed_bytes;
   fed_unit = before.fed_unit;
-  fed = subst (λ (hasher : UnitHasher). HasFedUnit kind p before.fed_part before.fed_unit hasher) (sym same) before.fed;
-  part_joined = λ has. more_held before.fed_part _ bytes _ part longer (before.part_joined has);
-  unit_joined = λ has. more_held before.fed_unit _ bytes _ unit longer (before.unit_joined has);
+  fed = subst (λ (hasher : UnitHasher). HasFedUnit kind p before.fed_bytes before.fed_unit hasher) (sym same)
+      before.fed;
+  bytes_joined = λ has. more_held before.fed_bytes _ more _ bytes longer (before.bytes_joined has);
+  unit_joined = λ has. more_held before.fed_unit _ more _ unit longer (before.unit_joined has);
 }
 
 -- zeros were hashed where nothing waited
-pub takes_zeros : (kind : Kind) (p : ℕ) (old new : WorkerSums) (more part unit : List ℕ) → held_in old.room ≡ []
+pub takes_zeros : (kind : Kind) (p : ℕ) (old new : WorkerSums) (more bytes unit : List ℕ) → held_in old.room ≡ []
     → new.room ≡ old.room
-    → ((part unit : List ℕ) → HasFedUnit kind p part unit old.hasher → HasFedUnit kind p part (unit ++ more) new.hasher)
-    → HasTaken kind p part unit old → HasTaken kind p part (unit ++ more) new
-takes_zeros kind p old new more part unit none same fed before =
+    → ((bytes unit : List ℕ) → HasFedUnit kind p bytes unit old.hasher
+    → HasFedUnit kind p bytes (unit ++ more) new.hasher)
+    → HasTaken kind p bytes unit old → HasTaken kind p bytes (unit ++ more) new
+takes_zeros kind p old new more bytes unit none same fed before =
     let left : held_in new.room ≡ [] = ap held_in same ∙ none in
     record {
-      fed_part = before.fed_part;
+      fed_bytes = before.fed_bytes;
       fed_unit = before.fed_unit ++ more;
-      fed = fed before.fed_part before.fed_unit before.fed;
-      part_joined = λ has. ap (λ xs. before.fed_part ++ xs) (ap held_in same) ∙ before.part_joined has;
+      fed = fed before.fed_bytes before.fed_unit before.fed;
+      bytes_joined = λ has. ap (λ xs. before.fed_bytes ++ xs) (ap held_in same) ∙ before.bytes_joined has;
       unit_joined = λ has. ap (λ xs. (before.fed_unit ++ more) ++ xs) left ∙ append-nil (before.fed_unit ++ more)
           ∙ ap (λ xs. xs ++ more) (all_fed before.fed_unit _ unit none (before.unit_joined has));
     }
 
-pub takes_none : (kind : Kind) (p : ℕ) (sums : WorkerSums) (part unit : List ℕ) (n : ℕ) → n ≡ 0
-    → HasTaken kind p part unit sums → HasTaken kind p part (unit ++ zeros n) sums
+pub takes_none : (kind : Kind) (p : ℕ) (sums : WorkerSums) (bytes unit : List ℕ) (n : ℕ) → n ≡ 0
+    → HasTaken kind p bytes unit sums → HasTaken kind p bytes (unit ++ zeros n) sums
 unfolding zeros
-takes_none kind p sums part unit n none taken =
-    subst (λ (xs : List ℕ). HasTaken kind p part xs sums) (sym (ap (λ k. unit ++ zeros k) none ∙ append-nil unit)) taken
+takes_none kind p sums bytes unit n none taken =
+    subst (λ (xs : List ℕ). HasTaken kind p bytes xs sums) (sym (ap (λ k. unit ++ zeros k) none ∙ append-nil unit))
+    taken
 
--- ---- the ends of parts and units
+-- ---- the end of a unit
 
--- the tree was fed the whole part, where there is one; nothing waits then
-pub whole_part : (kind : Kind) (p : ℕ) (sums : WorkerSums) (part unit : List ℕ)
-    → (IsSome sums.hasher.tree → count_in sums.room ≡ 0) → (taken : HasTaken kind p part unit sums)
-    → HasFedUnit kind p part taken.fed_unit sums.hasher
-whole_part V1 p sums part unit none taken =
-    record { tree = taken.fed.tree; pieces = taken.fed.pieces; none = taken.fed.none }
-whole_part V2 p sums part unit none taken =
-    let some : IsSome sums.hasher.tree = subst (λ (o : Option Feeding). IsSome o) (sym taken.fed.tree) refl in
-    subst (λ (xs : List ℕ). HasFedUnit V2 p xs taken.fed_unit sums.hasher)
-    (all_fed taken.fed_part _ part (none_held sums.room (none some)) (taken.part_joined refl)) taken.fed
-whole_part Hybrid p sums part unit none taken =
-    let some : IsSome sums.hasher.tree = subst (λ (o : Option Feeding). IsSome o) (sym taken.fed.tree) refl in
-    subst (λ (xs : List ℕ). HasFedUnit Hybrid p xs taken.fed_unit sums.hasher)
-    (all_fed taken.fed_part _ part (none_held sums.room (none some)) (taken.part_joined refl)) taken.fed
+same_if : {A B : Type 0} (b : Bool) (f : A → B) (x y : A) (z : B) → (b ≡ true → x ≡ y)
+    → cond b (f x) z ≡ cond b (f y) z
+same_if true f x y z same = ap f (same refl)
+same_if false f x y z same = refl
 
--- the next part begins
-pub next_part : (kind : Kind) (p : ℕ) (old new : WorkerSums) (part unit : List ℕ)
-    → (IsSome old.hasher.tree → count_in old.room ≡ 0) → new.room ≡ old.room
-    → ((part unit : List ℕ) → HasFedUnit kind p part unit old.hasher → HasFedUnit kind p [] unit new.hasher)
-    → HasTaken kind p part unit old → HasTaken kind p [] unit new
-next_part kind p old new part unit none same fed before = record {
-  fed_part = [];
-  fed_unit = before.fed_unit;
-  fed = fed before.fed_part before.fed_unit before.fed;
-  part_joined = λ has.
-      let tree = before.fed.tree
-      ∙ ap (λ b. cond b (Some (record { piece_length = p; bytes = before.fed_part })) None) has in
-      ap held_in same ∙ none_held old.room (none (subst (λ (o : Option Feeding). IsSome o) (sym tree) refl));
-  unit_joined = λ has. ap (λ xs. before.fed_unit ++ xs) (ap held_in same) ∙ before.unit_joined has;
+tree_over : ℕ → List ℕ → Option Feeding
+tree_over p bytes = Some (record { piece_length = p; bytes = bytes })
+
+-- where nothing waits, the hasher was fed the whole unit
+pub whole_unit : (kind : Kind) (p : ℕ) (sums : WorkerSums) (bytes unit : List ℕ) → held_in sums.room ≡ []
+    → HasTaken kind p bytes unit sums → HasFedUnit kind p bytes unit sums.hasher
+unfolding tree_over
+whole_unit kind p sums bytes unit none taken = record {
+  tree = taken.fed.tree ∙ same_if (has_v2 kind) (tree_over p) taken.fed_bytes bytes None
+      (λ has. all_fed taken.fed_bytes _ bytes none (taken.bytes_joined has));
+  pieces = λ has.
+      subst (λ (xs : List ℕ). IsSomeAnd sums.hasher.pieces (λ pieces. HasFed pieces p xs))
+      (all_fed taken.fed_unit _ unit none (taken.unit_joined has)) (taken.fed.pieces has);
+  none = taken.fed.none;
 }
-
--- the pieces were fed the whole unit, where version 1 has them
-pub whole_unit : (kind : Kind) (p : ℕ) (sums : WorkerSums) (part unit : List ℕ) → held_in sums.room ≡ []
-    → (taken : HasTaken kind p part unit sums)
-    → cond (has_v1 kind) (piece_sums p taken.fed_unit) [] ≡ cond (has_v1 kind) (piece_sums p unit) []
-whole_unit V1 p sums part unit none taken =
-    ap (piece_sums p) (all_fed taken.fed_unit _ unit none (taken.unit_joined refl))
-whole_unit V2 p sums part unit none taken = refl
-whole_unit Hybrid p sums part unit none taken =
-    ap (piece_sums p) (all_fed taken.fed_unit _ unit none (taken.unit_joined refl))

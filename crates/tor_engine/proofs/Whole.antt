@@ -1,21 +1,22 @@
 -- All units of a plan, of files that have its lengths.
 use Rattle.std.proofs.Common.{◌≡◌, ◌≤◌, ◌*◌, ◌^◌, ◌+◌, ℕ, List, [], ◌∷◌, length, map, Option, None, Some}
 use Rattle.std.proofs.Common.{option_map, unwrap_or, mul-le-mul_right, cond, inl, inr, refl, ap, ap₂, sym, subst, ◌∙◌}
-use Rattle.std.proofs.Common.{arith}
+use Rattle.std.proofs.Common.{arith, mul-pos, true, true≢false, ◌≢◌, ◌<◌}
 use Rattle.std.proofs.lemmas.Bool.{cases_eq, eq-eqb, ne_eqb}
 use Rattle.std.proofs.lemmas.List.{length-map}
 use Rattle.std.proofs.lemmas.List.FromFn.{length-map-range_with_len}
-use Rattle.std.specs.List.{range_with_len}
+use Rattle.std.specs.List.{All, range_with_len}
 use Rattle.tor_plan.specs.PlanFacts.{PlanFacts, IsPlan, IsPlanPieceLength}
+use Rattle.tor_tree.specs.Kinds.{has_v2}
 use Rattle.tor_tree.specs.declared.kinds.Kind.{Kind}
 use Rattle.tor_tree.specs.declared.kinds.Kind.TheVariants.{V1, V2, Hybrid}
-use Rattle.tor_plan.proofs.ProvedLaws.{entry_units_are_within_files}
+use Rattle.tor_plan.proofs.ProvedLaws.{entry_units_are_within_files, separate_entry_units_are_whole}
 use Rattle.tor_source.specs.Source.{SourceFacts}
 use Rattle.tor_engine.specs.Contents.{contents_in}
 use Rattle.tor_engine.specs.Fault.{change_from, first_length_fault, first_of, length_fault}
 use Rattle.tor_engine.specs.declared.errors.EngineError.TheVariants.{Changed}
 use Rattle.tor_engine.specs.steps.Reads.{HasLengths}
-use Rattle.tor_engine.specs.steps.Run.{AreUnitsOf}
+use Rattle.tor_engine.specs.steps.Run.{IsUnitOf}
 use Rattle.tor_engine.proofs.FileHashes.{some_piece}
 use Rattle.tor_engine.proofs.FirstOf.{neither}
 
@@ -32,13 +33,25 @@ small_unit plan is =
       piece_is_small plan.kind plan.piece_length is.pieces,
     )
 
-pub units_of_plan : (plan : PlanFacts) → IsPlan plan → AreUnitsOf plan plan.units
+pub has_no_trees : (kind : Kind) → has_v2 kind ≡ true → kind ≢ V1
+has_no_trees kind v2 is = true≢false (sym v2 ∙ ap has_v2 is)
+
+pub units_of_plan : (plan : PlanFacts) → IsPlan plan → All (IsUnitOf plan) plan.units
 units_of_plan plan is =
-    subst (λ (p : PlanFacts). AreUnitsOf p p.units) (sym is.made)
+    subst (λ (p : PlanFacts). All (IsUnitOf p) p.units) (sym is.made)
     (λ k d there.
     let unit = entry_units_are_within_files plan.kind plan.piece_length is.span is.entries (omega (arith, is.is_span.1))
     (some_piece plan.kind plan.piece_length is.pieces) is.is_list.laid_out k d there in
-    record { within = omega (arith, unit.within, small_unit plan is); parts = unit.parts })
+    let pos : 0 < is.span * plan.piece_length =
+    mul-pos (omega (arith, is.is_span.1)) (some_piece plan.kind plan.piece_length is.pieces) in
+    record {
+      within = omega (arith, unit.within, small_unit plan is);
+      parts = unit.parts;
+      alone = λ v2.
+          let one = separate_entry_units_are_whole plan.kind plan.piece_length is.span is.entries
+          (has_no_trees plan.kind v2) pos k d there in
+          (one.part, one.alone);
+    })
 
 -- lists of one length, of which no element differs
 same_lists : (told planned : List ℕ) (file : ℕ) → length told ≡ length planned → change_from file told planned ≡ None

@@ -1,5 +1,5 @@
 -- What a unit sums up to that is there, though its files may be longer or shorter than was planned.
-use Rattle.std.proofs.Common.{◌≡◌, ℕ, List, [], ◌∷◌, ◌++◌, length, cond, append-nil}
+use Rattle.std.proofs.Common.{◌≡◌, ℕ, List, [], ◌∷◌, length, cond, append-nil}
 use Rattle.std.proofs.Common.{unwrap_or, ap, sym, subst, ◌∙◌, arith}
 use Rattle.std.specs.List.{AllByRecursion}
 use Rattle.std.proofs.lemmas.List.{length-drop}
@@ -17,7 +17,7 @@ use Rattle.tor_engine.specs.declared.run.RunSums.{RunSums}
 use Rattle.tor_engine.specs.steps.Hashes.{hashes_of_unit}
 use Rattle.tor_engine.specs.steps.Pieces.{unit_roots, unit_sums}
 use Rattle.tor_engine.specs.steps.Reads.{HasParts}
-use Rattle.tor_engine.specs.steps.Run.{AddSums, AddsUnit, IsUnitOf, hashes_of_units, sums_of_units}
+use Rattle.tor_engine.specs.steps.Run.{AreRunSums, HashesUnits, IsUnitOf}
 use Rattle.tor_engine.proofs.Fitted.{IsIn, all_roots_kept, fitted, fitted_lengths, reads_kept, unit_kept}
 use Rattle.tor_engine.proofs.Parts.{content_at}
 
@@ -35,36 +35,36 @@ module _ {F : Type 0} (facts : SourceFacts F) (plan : PlanFacts) where
       let some = are.0.some in
       (omega (arith, here, rest, have.0, some), are_in parts are.1 have.1)
 
-  module _ (unit : PlanUnit) (is_steady : SourceFacts F → Type 0) (old new : RunSums) (is : IsUnitOf plan unit)
-      (steady : is_steady facts) (have : HasParts facts unit.parts) (added : AddsUnit is_steady plan unit old new) where
+  module _ (unit : PlanUnit) (is_steady : SourceFacts F → Type 0) (sums : RunSums) (is : IsUnitOf plan unit)
+      (steady : is_steady facts) (have : HasParts facts unit.parts)
+      (hashed : HashesUnits is_steady plan (unit ∷ []) sums) where
     within : AllByRecursion (IsInFile plan.lengths) unit.parts
     within = recursion_from_All (IsInFile plan.lengths) unit.parts is.parts
 
     there : AllByRecursion (IsIn plan contents) unit.parts
     there = are_in unit.parts within have
 
-    summed : AddSums plan (fitted plan.lengths contents) (unit ∷ []) old new
+    summed : AreRunSums plan (fitted plan.lengths contents) (unit ∷ []) sums
     summed =
-        let each = sym added.are.each in
-        added.sums (fitted plan.lengths contents) (fitted_lengths plan.lengths contents)
-        (reads_kept plan contents added.reads
+        let alone = append-nil unit.parts in
+        let each = sym (hashed.are.each ∙ alone) in
+        hashed.sums (fitted plan.lengths contents) (fitted_lengths plan.lengths contents)
+        (reads_kept plan contents hashed.reads
         (subst (λ (ps : List Part). AllByRecursion (IsInFile plan.lengths) ps) each within)
         (subst (λ (ps : List Part). AllByRecursion (IsIn plan contents) ps) each there)
-        (added.are.steady facts steady have))
+        (hashed.are.steady facts steady (subst (λ (ps : List Part). HasParts facts ps) (sym alone) have)))
 
-    pub whole_sums : old.pieces.items ≡ [] → new.pieces.items ≡ unit_sums plan contents unit
-    whole_sums none =
+    pub whole_sums : sums.pieces.items ≡ unit_sums plan contents unit
+    whole_sums =
         summed.pieces
-        ∙ ap (λ xs. xs ++ sums_of_units plan.kind plan.piece_length (fitted plan.lengths contents) (unit ∷ [])) none
         ∙ ap (λ xs. cond (has_v1 plan.kind) xs [])
         (append-nil (piece_sums plan.piece_length (unit_content (fitted plan.lengths contents) unit))
         ∙ ap (piece_sums plan.piece_length)
         (unit_kept plan contents unit within there))
 
-    pub whole_roots : old.hashes.items ≡ [] → new.hashes.items ≡ unit_roots plan contents unit
-    whole_roots none =
+    pub whole_roots : sums.hashes.items ≡ unit_roots plan contents unit
+    whole_roots =
         summed.hashes
-        ∙ ap (λ xs. xs ++ hashes_of_units plan.kind plan.piece_length (fitted plan.lengths contents) (unit ∷ [])) none
         ∙ ap (λ xs. cond (has_v2 plan.kind) xs [])
         (append-nil (hashes_of_unit plan.piece_length (fitted plan.lengths contents) unit)
         ∙ all_roots_kept plan contents unit.parts within there)

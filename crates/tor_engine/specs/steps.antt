@@ -1,4 +1,5 @@
 pub mod Asked
+pub mod Failing
 pub mod Hasher
 pub mod Hashes
 pub mod Pieces

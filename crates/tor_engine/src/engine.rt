@@ -1,21 +1,18 @@
 //! All files of a plan hashed.
 ghost use Rattle.std.specs.Prelude.{◌≡◌, None, IfErr, IfOk, MatchResult, OnOk, length};
-ghost use Rattle.tor_plan.specs.PlanFacts.{IsPlan};
 ghost use Rattle.tor_source.specs.Source.{SourceFacts};
 ghost use Rattle.tor_engine.specs.Contents.{contents_in};
 ghost use Rattle.tor_engine.specs.Fault.{IsFault, IsGiven, IsGivenNotMissing, first_byte_fault, first_fault};
 ghost use Rattle.tor_engine.specs.Fault.{first_length_fault};
 ghost use Rattle.tor_engine.specs.How.{IsHow};
 ghost use Rattle.tor_engine.specs.Sums.{AreSumsOf, AreSumsOfSome};
-ghost use Rattle.tor_engine.specs.steps.Run.{AnswersUnits};
 
 use crate::errors::EngineError;
-use crate::halves::hash_by_halves;
 use crate::how::How;
 use crate::lengths::expect_lengths;
-use crate::run::RunSums;
+use crate::sum_work::SumWork;
 use crate::sums::{Sums, sums_of_run};
-use crate::turn::hash_in_turn;
+use crate::turn::hash_units;
 use std::alloc::Global;
 use std::thread::Threads;
 use tor_plan::Plan;
@@ -66,7 +63,13 @@ pub fn hash_told<S: Source, R: Threads + Sync>(
     ensures whole { IfOk result (AreSumsOfSome plan.now) }
     ensures gave { IfErr result (IsGivenNotMissing (S.gave source.now) (length plan.now.lengths)) }
 {
-    let run_sums = match hash_units(rt, alloc, source, plan, how) {
+    let units = plan.units();
+    let work = SumWork {
+        alloc,
+        source,
+        plan,
+    };
+    let run_sums = match hash_units(rt, &work, units, how) {
         Ok(run_sums) => run_sums,
         Err(error) => return Err(error),
     };
@@ -78,22 +81,4 @@ pub fn hash_told<S: Source, R: Threads + Sync>(
     }
     let sums = sums_of_run(alloc, plan, run_sums)?;
     Ok(sums)
-}
-
-/// What all units sum up to.
-fn hash_units<S: Source, R: Threads + Sync>(
-    rt: &R,
-    alloc: Global,
-    source: &S,
-    plan: &Plan,
-    how: How,
-) -> Result<RunSums, EngineError<S::Fault>>
-    ensures answered { AnswersUnits S.is_steady S.gave source.now plan.now plan.now.units result }
-    ensures planned { IsPlan plan.now }
-{
-    let units = plan.units();
-    match how {
-        How::One => hash_in_turn(alloc, source, plan, units),
-        How::Halves(workers) => hash_by_halves(rt, alloc, source, plan, units, workers),
-    }
 }

@@ -1,55 +1,65 @@
-//! Units shared among workers by halves.
+//! Work shared among workers by halves.
+ghost use Rattle.std.specs.Prelude.{◌≡◌, IfErr, IfOk};
 ghost use Rattle.std.specs.Thread.{IsSend, IsSync};
-ghost use Rattle.tor_plan.specs.PlanFacts.{IsPlan};
-ghost use Rattle.tor_engine.specs.steps.Run.{AnswersUnits, AreUnitsOf};
 
-use crate::errors::EngineError;
-use crate::run::RunSums;
-use crate::turn::hash_in_turn;
-use std::alloc::Global;
 use std::thread::{Threads, join};
-use tor_plan::{Plan, PlanUnit};
-use tor_source::Source;
 
-/// What the units sum up to, hashed by so many workers: both halves of the units at once, and each again in halves
-/// while there are workers. The first fault in the order of the units is answered.
-pub(crate) fn hash_by_halves<S: Source, R: Threads + Sync>(
-    rt: &R,
-    alloc: Global,
-    source: &S,
-    plan: &Plan,
-    units: &[PlanUnit],
-    workers: u32,
-) -> Result<RunSums, EngineError<S::Fault>>
-    requires planned { IsPlan plan.now }
-    requires units { AreUnitsOf plan.now units.now }
-    ensures { AnswersUnits S.is_steady S.gave source.now plan.now units.now result }
+/// Work that one worker does, or two do of which each has a half.
+pub(crate) trait Share: Send + Drop {
+    type Answer: Send + Drop;
+
+    /// The work can be done.
+    ghost may_answer: { Self → Type 0 };
+
+    /// The work may answer this.
+    ghost answers: { Self → Self.Answer → Type 0 };
+
+    /// The work is cut into these two.
+    ghost halves: { Self → Self → Self → Type 0 };
+
+    /// Two halves, or the whole again, where it is too little for two.
+    fn halve(self) -> Result<(Self, Self), Self>
+        requires { may_answer self }
+        ensures whole { IfErr result (λ whole. whole ≡ self) }
+        ensures halves { IfOk result (λ both. may_answer both.0 × may_answer both.1 × halves self both.0 both.1) };
+
+    /// Does the work.
+    fn answer(self) -> Self::Answer
+        requires { may_answer self }
+        ensures { answers self result };
+
+    /// The answer of the whole, from those of its halves.
+    fn join(one: Self::Answer, other: Self::Answer) -> Self::Answer
+        ensures { (whole first second : Self) → halves whole first second → answers first one →
+            answers second other → answers whole result };
+}
+
+/// What the work answers, done by so many workers: both halves at once, and each again in halves while there are
+/// workers.
+pub(crate) fn by_halves<S: Share, R: Threads + Sync>(rt: &R, share: S, workers: u32) -> S::Answer
+    requires { S.may_answer share }
+    ensures { S.answers share result }
 {
-    if workers < 2 || units.len() < 2 {
-        return hash_in_turn(alloc, source, plan, units);
+    if workers < 2 {
+        return share.answer();
     }
-    let (first, second) = units.split_at(units.len() / 2);
-    let fewer = workers / 2;
-    let rest = workers - fewer;
-    let (one, other) = join(
-        rt,
-        || -> Result<RunSums, EngineError<S::Fault>>
-            requires { IsSync R.row × IsSync S.row × IsPlan plan.now × AreUnitsOf plan.now first.now }
-            ensures { AnswersUnits S.is_steady S.gave source.entry.now plan.entry.now first.entry.now result }
-        { hash_by_halves(rt, alloc, source, plan, first, fewer) },
-        || -> Result<RunSums, EngineError<S::Fault>>
-            requires { IsSync R.row × IsSync S.row × IsPlan plan.now × AreUnitsOf plan.now second.now }
-            ensures { AnswersUnits S.is_steady S.gave source.entry.now plan.entry.now second.entry.now result }
-        { hash_by_halves(rt, alloc, source, plan, second, rest) },
-    );
-    let mut sums = match one {
-        Ok(sums) => sums,
-        Err(error) => return Err(error),
-    };
-    let next = match other {
-        Ok(next) => next,
-        Err(error) => return Err(error),
-    };
-    sums.append(&next)?;
-    Ok(sums)
+    match share.halve() {
+        Err(share) => share.answer(),
+        Ok((first, second)) => {
+            let fewer = workers / 2;
+            let rest = workers - fewer;
+            let (one, other) = join(
+                rt,
+                move || -> S::Answer
+                    requires { IsSync R.row × IsSend S.row × S.may_answer first }
+                    ensures { S.answers first result }
+                { by_halves(rt, first, fewer) },
+                move || -> S::Answer
+                    requires { IsSync R.row × IsSend S.row × S.may_answer second }
+                    ensures { S.answers second result }
+                { by_halves(rt, second, rest) },
+            );
+            S::join(one, other)
+        }
+    }
 }

@@ -5,6 +5,7 @@ ghost use Rattle.tor_source.specs.Source.{SourceFacts, told_length};
 ghost use Rattle.tor_engine.specs.Fault.{IsFault, IsGiven, ToldLengths, change_from, first_length_fault, first_of};
 ghost use Rattle.tor_engine.specs.Fault.{length_fault};
 
+use crate::asked::ask_one;
 use crate::errors::EngineError;
 use std::alloc::Global;
 use tor_source::Source;
@@ -50,21 +51,17 @@ pub fn ask_lengths<S: Source>(
     Ok(lengths)
 }
 
-/// Asks for the length of one file.
+/// Asks for the length of one file, which has to be there.
 fn ask_length<S: Source>(source: &S, file: u64) -> Result<u64, EngineError<S::Fault>>
     ensures steady { (facts : SourceFacts S.Fault) → S.is_steady source.now facts →
         MatchResult result (λ length. told_length facts file ≡ Ok (Some length))
         (λ error. length_fault facts file ≡ Some error) }
     ensures gave { (files : ℕ) → file < files → IfErr result (IsGiven (S.gave source.now) files) }
 {
-    match source.length(file) {
+    match ask_one(source, file) {
         Ok(Some(length)) => Ok(length),
         Ok(None) => Err(EngineError::Missing { file }),
-        Err(fault) => Err(EngineError::Read {
-            file,
-            start: None,
-            fault,
-        }),
+        Err(error) => Err(error),
     }
 }
 

@@ -4,12 +4,16 @@
 //!   where the lengths were asked before.
 //! - [`How`] (`how.rt`): by how many workers; [`Sums`] (`sums.rt`): what comes of it; [`EngineError`] (`errors.rt`).
 //! - [`ask_lengths`] (`lengths.rt`): the lengths of files.
-//! - `halves.rt` shares the units among workers; `turn.rt` hashes units one after the other, `reading.rt` has one part
-//!   read. `worker.rt` holds what the units of a worker sum up to: `room.rt` the bytes that wait, `hasher.rt` hashes
-//!   those before them; `run.rt` what a run of units sums up to.
+//! - `halves.rt` shares work among workers, whatever work it is; `turn.rt` so shares the units of a plan, each worker
+//!   taking its own one after the other, and `failure.rt` tells which of two faults is answered. `work.rt` says what a
+//!   worker does with a unit.
+//! - `sum_work.rt` does it for the sums of files. `unit_hash.rt` reads a unit and hashes it by itself, whatever files
+//!   it is of: `reading.rt` has one part read of the source (`file_bytes.rt`), `worker.rt` holds what was read and not
+//!   hashed (`room.rt`) and the hashes of what came before (`hasher.rt`). `unit_sums.rt` tells what that sums up to in
+//!   the unit's files, and `run.rt` what units sum up to that stand one after the other.
 //! - [`hash_pieces`] (`pieces.rt`): what each piece hashes to ([`PieceHash`], `piece_hash.rt`), of files that may be
-//!   cut short or missing: `asked.rt` asks for their lengths, `present.rt` tells what is there by these,
-//!   `piece_halves.rt` shares the units among workers, `piece_turn.rt` hashes the pieces of units one after the other.
+//!   cut short or missing: `asked.rt` asks for their lengths, `present.rt` tells what is there by these, and
+//!   `piece_work.rt` hashes the pieces of a unit.
 //! - [`laws`] (`laws.rt`): a law over the definition of the first fault.
 //!
 //! ```rust
@@ -24,22 +28,27 @@
 mod asked;
 mod engine;
 mod errors;
+mod failure;
+mod file_bytes;
 mod halves;
 mod hasher;
 mod how;
 mod items;
 pub mod laws;
 mod lengths;
-mod piece_halves;
 mod piece_hash;
-mod piece_turn;
+mod piece_work;
 mod pieces;
 mod present;
 mod reading;
 mod room;
 mod run;
+mod sum_work;
 mod sums;
 mod turn;
+mod unit_hash;
+mod unit_sums;
+mod work;
 mod worker;
 
 pub use engine::{hash_all, hash_told};

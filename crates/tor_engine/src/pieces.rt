@@ -1,23 +1,22 @@
 //! The pieces of a plan hashed, of files that may be cut short or missing.
 ghost use Rattle.std.specs.Prelude.{◌≡◌, None, IfErr, IfOk, IsSome, MatchResult, OnOk, length, nat_le};
 ghost use Rattle.std.specs.List.{list_any};
-ghost use Rattle.tor_plan.specs.PlanFacts.{IsPlan};
 ghost use Rattle.tor_source.specs.Source.{SourceFacts};
 ghost use Rattle.tor_engine.specs.Contents.{contents_in};
 ghost use Rattle.tor_engine.specs.Fault.{IsFault, IsGivenNotMissing};
 ghost use Rattle.tor_engine.specs.How.{IsHow};
 ghost use Rattle.tor_engine.specs.PieceFault.{first_asked_fault, first_piece_fault, lengths_told};
 ghost use Rattle.tor_engine.specs.PieceHashes.{piece_hashes, pieces_of_plan};
-ghost use Rattle.tor_engine.specs.steps.Pieces.{AnswersPieces, IsPaddingSum, MayHavePadding, has_long_zeros};
+ghost use Rattle.tor_engine.specs.steps.Pieces.{IsPaddingSum, MayHavePadding, has_long_zeros};
 
 use crate::asked::{ask_each, expect_each};
 use crate::errors::EngineError;
 use crate::hasher::feed_zeros;
 use crate::how::How;
 use crate::items::item_at;
-use crate::piece_halves::hash_pieces_by_halves;
 use crate::piece_hash::PieceHash;
-use crate::piece_turn::{Known, hash_pieces_in_turn};
+use crate::piece_work::{Known, PieceWork};
+use crate::turn::hash_units;
 use std::alloc::{AllocError, Global};
 use std::thread::Threads;
 use tor_plan::{Part, Plan, PlanUnit};
@@ -82,36 +81,20 @@ fn hash_known<S: Source, R: Threads + Sync>(
     ensures counted { IfOk result (λ hashes. length hashes.items ≡ length (pieces_of_plan plan.now)) }
     ensures gave { IfErr result (IsGivenNotMissing (S.gave source.now) (length plan.now.lengths)) }
 {
-    let hashes = match hash_units(rt, alloc, source, plan, known, how) {
+    let units = plan.units();
+    let work = PieceWork {
+        alloc,
+        source,
+        plan,
+        known,
+    };
+    let hashes = match hash_units(rt, &work, units, how) {
         Ok(hashes) => hashes,
         Err(error) => return Err(error),
     };
     match expect_each(source, &known.lengths) {
         Ok(()) => Ok(hashes),
         Err(error) => Err(error),
-    }
-}
-
-/// The hashes of the pieces of all units.
-fn hash_units<S: Source, R: Threads + Sync>(
-    rt: &R,
-    alloc: Global,
-    source: &S,
-    plan: &Plan,
-    known: &Known,
-    how: How,
-) -> Result<Vec<Option<PieceHash>>, EngineError<S::Fault>>
-    requires { IsPaddingSum plan.now known.now.padding_sum }
-    ensures answered { AnswersPieces S.is_steady S.gave source.now plan.now known.now.lengths.items plan.now.units
-        result }
-    ensures planned { IsPlan plan.now }
-{
-    let units = plan.units();
-    match how {
-        How::One => hash_pieces_in_turn(alloc, source, plan, known, units),
-        How::Halves(workers) => {
-            hash_pieces_by_halves(rt, alloc, source, plan, known, units, workers)
-        }
     }
 }
 

@@ -1,25 +1,28 @@
-//! One part of a file, read and taken.
+//! One part of a unit, read and taken.
 ghost use Rattle.std.specs.Prelude.{◌≡◌, ◌+◌, ◌<◌, ◌≤◌, None, IfErr, IfOk, MatchResult, ℕ};
 ghost use Rattle.tor_merkle.specs.declared.TheConstants.{MAX_LENGTH};
+ghost use Rattle.tor_plan.specs.PlanFacts.{PlanFacts};
+ghost use Rattle.tor_plan.specs.WithinEntries.{IsInFile};
 ghost use Rattle.tor_source.specs.Source.{SourceFacts};
 ghost use Rattle.tor_engine.specs.Fault.{IsFault, IsGivenNotMissing, part_fault};
-ghost use Rattle.tor_engine.specs.steps.Reads.{HasPart, TakesPart};
+ghost use Rattle.tor_engine.specs.steps.Reads.{AddsPart, HasPart};
 ghost use Rattle.tor_engine.specs.steps.Worker.{begun_of};
 
 use crate::errors::EngineError;
+use crate::file_bytes::FileBytes;
 use crate::worker::WorkerSums;
 use tor_plan::Part;
-use tor_source::Source;
 
-/// Reads a part, as many bytes at once as the sums ask for.
-pub(crate) fn read_part<S: Source>(
+/// Reads a part, as many bytes at once as the sums ask for, and takes it with the zeros after it.
+pub(crate) fn read_part<S: FileBytes>(
     source: &S,
     part: &Part,
     sums: &mut WorkerSums,
 ) -> Result<(), EngineError<S::Fault>>
     requires small { begun_of sums.old + part.now.length ≤ MAX_LENGTH }
     requires within { part.now.start + part.now.length ≤ MAX_LENGTH }
-    ensures taken { IfOk result (λ _. TakesPart (S.is_steady source.now) part.now part.now.length sums.old sums.new) }
+    ensures added { (plan : PlanFacts) → IsInFile plan.lengths part.now →
+        IfOk result (λ _. AddsPart (S.is_steady source.now) plan part.now sums.old sums.new) }
     ensures fault { (facts : SourceFacts S.Fault) → S.is_steady source.now facts → HasPart facts part.now →
         MatchResult result (λ _. part_fault facts part.now ≡ None) (IsFault (part_fault facts part.now)) }
     ensures gave { (files : ℕ) → part.now.file < files →
@@ -32,5 +35,6 @@ pub(crate) fn read_part<S: Source>(
             Err(error) => return Err(error),
         }
     }
+    sums.feed_zeros(part.zeros)?;
     Ok(())
 }

@@ -1,5 +1,5 @@
 //! The bytes that a worker has read and not hashed yet, and room for more behind them.
-ghost use Rattle.std.specs.Prelude.{◌≡◌, ◌⊎◌, ◌+◌, ◌*◌, ◌-◌, ◌%◌, ◌<◌, ◌≤◌, [], ◌++◌, Some, None, false, true};
+ghost use Rattle.std.specs.Prelude.{◌≡◌, ◌⊎◌, ◌+◌, ◌*◌, ◌-◌, ◌%◌, ◌<◌, ◌≤◌, [], Some, false, true};
 ghost use Rattle.std.specs.Prelude.{IfErr, IfOk, MatchResult, drop, length, take, vec_len, ℕ};
 ghost use Rattle.tor_plan.specs.PlanFacts.{IsPlan};
 ghost use Rattle.tor_source.specs.Source.{SourceFacts, bytes_from};
@@ -10,9 +10,9 @@ ghost use Rattle.tor_tree.specs.Kinds.{has_v1};
 ghost use Rattle.tor_v1.specs.declared.runs.TheConstants.{MAX_PIECE_IN_RUN};
 
 use crate::errors::EngineError;
+use crate::file_bytes::FileBytes;
 use std::alloc::{AllocError, Global};
 use tor_plan::Plan;
-use tor_source::Source;
 use tor_v1::MAX_PIECE_IN_RUN;
 
 /// Where so many bytes are left, at least so many are asked for at a time.
@@ -111,7 +111,7 @@ impl Room {
 
     /// Reads once from a byte of a file on, behind the bytes that are held: at most `left` bytes. A file that ends
     /// there is not as long as was told.
-    pub(crate) fn read<S: Source>(
+    pub(crate) fn read<S: FileBytes>(
         &mut self,
         source: &S,
         file: u64,
@@ -200,7 +200,7 @@ fn move_to_front(bytes: &mut [u8], count: usize, left: usize)
 }
 
 /// Reads once, at most so many bytes, behind the first `held`.
-fn read_behind<S: Source>(
+fn read_behind<S: FileBytes>(
     source: &S,
     file: u64,
     start: u64,
@@ -223,7 +223,7 @@ fn read_behind<S: Source>(
 {
     let (_, behind) = bytes.split_at_mut(held);
     let (buffer, _) = behind.split_at_mut(most);
-    match source.read_at(file, start, buffer) {
+    match source.bytes_at(file, start, buffer) {
         Ok(0) => Err(EngineError::Changed { file }),
         Ok(count) => Ok(count),
         Err(fault) => Err(EngineError::Read {

@@ -1,97 +1,141 @@
-//! Units hashed one after the other by one worker.
-ghost use Rattle.std.specs.Prelude.{◌≡◌, None, IfErr, IfOk, MatchResult, length};
-ghost use Rattle.tor_plan.specs.PlanFacts.{IsPlan};
-ghost use Rattle.tor_plan.specs.WithinEntries.{IsInFile};
+//! Units hashed one after the other by one worker, or shared among several.
+ghost use Rattle.std.specs.Prelude.{◌≡◌, ◌+◌, ◌<◌, ◌^◌, ◌++◌, None, All, IfErr, IfOk, MatchResult, length};
+ghost use Rattle.tor_plan.specs.declared.units.PlanUnit.{PlanUnit};
 ghost use Rattle.tor_source.specs.Source.{SourceFacts};
-ghost use Rattle.tor_engine.specs.Fault.{IsFault, IsGivenNotMissing, part_fault, unit_fault};
-ghost use Rattle.tor_engine.specs.steps.Reads.{AddsPart, HasPart, HasParts};
-ghost use Rattle.tor_engine.specs.steps.Run.{AddsUnit, AnswersUnits, AreUnitsOf, IsUnitOf};
-ghost use Rattle.tor_engine.specs.steps.Worker.{IsFresh, begun_of};
+ghost use Rattle.tor_engine.specs.Fault.{IsFault, first_of};
+ghost use Rattle.tor_engine.specs.steps.Failing.{AnswersUnits};
 
 use crate::errors::EngineError;
-use crate::reading::read_part;
-use crate::run::RunSums;
-use crate::worker::WorkerSums;
-use std::alloc::Global;
-use tor_merkle::Hash;
-use tor_plan::{Part, Plan, PlanUnit};
-use tor_source::Source;
+use crate::failure::{Failure, least};
+use crate::halves::{Share, by_halves};
+use crate::how::How;
+use crate::work::UnitWork;
+use std::thread::Threads;
+use tor_plan::PlanUnit;
 
-/// What the units sum up to.
-pub(crate) fn hash_in_turn<S: Source>(
-    alloc: Global,
-    source: &S,
-    plan: &Plan,
+/// What the units of a plan sum up to. The first fault in the order of the units is answered, whatever the `How`.
+pub(crate) fn hash_units<W: UnitWork + Sync, R: Threads + Sync>(
+    rt: &R,
+    work: &W,
     units: &[PlanUnit],
-) -> Result<RunSums, EngineError<S::Fault>>
-    requires planned { IsPlan plan.now }
-    requires units { AreUnitsOf plan.now units.now }
-    ensures { AnswersUnits S.is_steady S.gave source.now plan.now units.now result }
+    how: How,
+) -> Result<W::Sums, EngineError<W::Fault>>
+where
+    W::Sums: Send,
+    W::Fault: Send,
+    requires begin { W.may_begin work.now }
+    requires units { All (W.may_hash work.now) units.now }
+    ensures summed { IfOk result (W.sums_up work.now units.now) }
+    ensures fault { (facts : SourceFacts W.Fault) → W.is_steady work.now facts →
+        MatchResult result (λ _. first_of (W.fault work.now facts) units.now ≡ None)
+        (IsFault (first_of (W.fault work.now facts) units.now)) }
+    ensures gave { IfErr result (W.gave work.now) }
 {
-    let mut sums = WorkerSums::new(alloc, plan)?;
-    let mut run_sums = RunSums::none(alloc);
-    'units: for unit in units {
-        match hash_unit(alloc, source, plan, unit, &mut sums, &mut run_sums) {
-            Ok(()) => {}
-            Err(error) => return Err(error),
-        }
+    let workers = match how {
+        How::One => 1,
+        How::Halves(workers) => workers,
+    };
+    let share = UnitShare {
+        work,
+        units,
+        first: 0,
+    };
+    match by_halves(rt, share, workers) {
+        Ok(sums) => Ok(sums),
+        Err(failure) => Err(failure.error),
     }
-    Ok(run_sums)
 }
 
-/// Adds what one unit sums up to.
-pub(crate) fn hash_unit<S: Source>(
-    alloc: Global,
-    source: &S,
-    plan: &Plan,
-    unit: &PlanUnit,
-    sums: &mut WorkerSums,
-    run_sums: &mut RunSums,
-) -> Result<(), EngineError<S::Fault>>
-    requires planned { IsPlan plan.now }
-    requires unit { IsUnitOf plan.now unit.now }
-    requires fresh { IsFresh plan.now sums.old }
-    ensures fresh { IfOk result (λ _. IsFresh plan.now sums.new) }
-    ensures added { IfOk result (λ _. AddsUnit (S.is_steady source.now) plan.now unit.now run_sums.old run_sums.new) }
-    ensures fault { (facts : SourceFacts S.Fault) → S.is_steady source.now facts → HasParts facts unit.now.parts →
-        MatchResult result (λ _. unit_fault facts unit.now ≡ None) (IsFault (unit_fault facts unit.now)) }
-    ensures gave { IfErr result (IsGivenNotMissing (S.gave source.now) (length plan.now.lengths)) }
-{
-    sums.feed_zeros(unit.zeros)?;
-    let parts = unit.parts.as_slice();
-    'each: for part in parts {
-        match hash_part(alloc, source, plan, part, sums, &mut run_sums.hashes) {
-            Ok(()) => {}
-            Err(error) => return Err(error),
-        }
-    }
-    sums.end_unit(alloc, plan, &mut run_sums.pieces)?;
-    Ok(())
+/// Units that stand one after the other in a plan.
+#[derive(Drop)]
+struct UnitShare<'a, W> {
+    work: &'a W,
+    units: &'a [PlanUnit],
+    // The number of the first of them.
+    first: u64,
 }
 
-/// Takes one part of a unit with the zeros after it, and puts the hashes of its pieces after `hashes`.
-fn hash_part<S: Source>(
-    alloc: Global,
-    source: &S,
-    plan: &Plan,
-    part: &Part,
-    sums: &mut WorkerSums,
-    hashes: &mut Vec<Hash>,
-) -> Result<(), EngineError<S::Fault>>
-    requires planned { IsPlan plan.now }
-    requires part { IsInFile plan.now.lengths part.now }
-    requires begun { begun_of sums.old ≡ 0 }
-    ensures added { IfOk result
-        (λ _. AddsPart (S.is_steady source.now) plan.now part.now sums.old sums.new hashes.old.items hashes.new.items) }
-    ensures fault { (facts : SourceFacts S.Fault) → S.is_steady source.now facts → HasPart facts part.now →
-        MatchResult result (λ _. part_fault facts part.now ≡ None) (IsFault (part_fault facts part.now)) }
-    ensures gave { IfErr result (IsGivenNotMissing (S.gave source.now) (length plan.now.lengths)) }
+impl<'a, W: UnitWork + Sync> Share for UnitShare<'a, W>
+where
+    W::Sums: Send,
+    W::Fault: Send,
 {
-    match read_part(source, part, sums) {
-        Ok(()) => {}
-        Err(error) => return Err(error),
+    type Answer = Result<W::Sums, Failure<W::Fault>>;
+
+    ghost may_answer = { λ share. W.may_begin share.work.now × All (W.may_hash share.work.now) share.units.now
+        × (share.first + length share.units.now < 2 ^ 64) };
+
+    ghost answers = { λ share result.
+        AnswersUnits (W.sums_up share.work.now) (W.is_steady share.work.now) (W.fault share.work.now)
+        (W.gave share.work.now) share.first share.units.now result };
+
+    ghost halves = { λ whole one other. (one.work.now ≡ whole.work.now) × (other.work.now ≡ whole.work.now)
+        × (whole.units.now ≡ one.units.now ++ other.units.now) × (one.first ≡ whole.first)
+        × (other.first ≡ whole.first + length one.units.now) };
+
+    fn halve(self) -> Result<(Self, Self), Self> {
+        if self.units.len() < 2 {
+            return Err(self);
+        }
+        let (one, other) = self.units.split_at(self.units.len() / 2);
+        Ok((
+            UnitShare {
+                work: self.work,
+                units: one,
+                first: self.first,
+            },
+            UnitShare {
+                work: self.work,
+                units: other,
+                first: self.first + one.len() as u64,
+            },
+        ))
     }
-    sums.end_part(alloc, plan.lengths()[part.file as usize], hashes)?;
-    sums.feed_zeros(part.zeros)?;
-    Ok(())
+
+    fn answer(self) -> Result<W::Sums, Failure<W::Fault>> {
+        hash_in_turn(self.work, self.units, self.first)
+    }
+
+    fn join(
+        one: Result<W::Sums, Failure<W::Fault>>,
+        other: Result<W::Sums, Failure<W::Fault>>,
+    ) -> Result<W::Sums, Failure<W::Fault>> {
+        match (one, other) {
+            (Ok(mut sums), Ok(next)) => {
+                W::append(&mut sums, &next)?;
+                Ok(sums)
+            }
+            (Ok(_), Err(failure)) => Err(failure),
+            (Err(failure), Ok(_)) => Err(failure),
+            (Err(failure), Err(later)) => Err(least(failure, later)),
+        }
+    }
+}
+
+/// What the units sum up to, of which the first has the number `first`.
+fn hash_in_turn<W: UnitWork>(
+    work: &W,
+    units: &[PlanUnit],
+    first: u64,
+) -> Result<W::Sums, Failure<W::Fault>>
+    requires begin { W.may_begin work.now }
+    requires units { All (W.may_hash work.now) units.now }
+    requires small { first + length units.now < 2 ^ 64 }
+    ensures { AnswersUnits (W.sums_up work.now) (W.is_steady work.now) (W.fault work.now) (W.gave work.now) first
+        units.now result }
+{
+    let (mut worker, mut sums) = work.begin()?;
+    'units: for (index, unit) in units.iter().enumerate() {
+        let next = match work.hash(unit, &mut worker) {
+            Ok(next) => next,
+            Err(error) => {
+                return Err(Failure {
+                    unit: first + index as u64,
+                    error,
+                });
+            }
+        };
+        W::append(&mut sums, &next)?;
+    }
+    Ok(sums)
 }

@@ -1,34 +1,32 @@
-//! What the units of a worker sum up to, while their bytes are read.
-ghost use Rattle.std.specs.Prelude.{◌≡◌, ◌≢◌, ◌+◌, ◌*◌, ◌-◌, ◌<◌, ◌≤◌, ◌++◌, [], ℕ, List, IfErr, IfOk, MatchResult, OnOk};
-ghost use Rattle.std.specs.Prelude.{IsSome, length, if◌then◌else◌};
+//! What the units of a worker hash to, while their bytes are read.
+ghost use Rattle.std.specs.Prelude.{◌≡◌, ◌+◌, ◌*◌, ◌-◌, ◌<◌, ◌≤◌, ◌++◌, ℕ, List, IfErr, IfOk, MatchResult, OnOk};
+ghost use Rattle.std.specs.Prelude.{length};
 ghost use Rattle.std.specs.Option.{ForSome};
 ghost use Rattle.tor_merkle.specs.declared.TheConstants.{MAX_LENGTH};
-ghost use Rattle.tor_plan.specs.PlanFacts.{IsPlan, PlanFacts};
+ghost use Rattle.tor_plan.specs.PlanFacts.{IsPlan};
 ghost use Rattle.tor_source.specs.Source.{SourceFacts, bytes_from};
 ghost use Rattle.tor_v1.specs.Piece.{zeros};
 ghost use Rattle.tor_engine.specs.Fault.{IsFault, IsGivenNotMissing, byte_fault};
-ghost use Rattle.tor_engine.specs.steps.Hasher.{tree_of};
-ghost use Rattle.tor_engine.specs.steps.Hashes.{hashes_of_bytes};
+ghost use Rattle.tor_engine.specs.steps.Hasher.{AreHashesOf, tree_of};
 ghost use Rattle.tor_engine.specs.steps.ReadBytes.{IsFaultFree};
 ghost use Rattle.tor_engine.specs.steps.Room.{HasRoom, count_in, length_of};
 
 use crate::errors::EngineError;
-use crate::hasher::UnitHasher;
+use crate::file_bytes::FileBytes;
+use crate::hasher::{Hashed, UnitHasher};
 use crate::room::Room;
 use std::alloc::{AllocError, Global};
 use std::mem;
-use tor_merkle::Hash;
 use tor_plan::Plan;
-use tor_source::Source;
 
-/// What the units of a worker sum up to, one after the other. Bytes are read into a buffer of its own, and wait there
-/// until many can be hashed together: of version 1 across the ends of files, of trees until a part ends. Clauses say
-/// by `HasTaken` which bytes were taken. After an error it is of no use.
+/// What the units of a worker hash to, one after the other. Bytes are read into a buffer of its own, and wait there
+/// until many can be hashed together, or the unit ends. Clauses say by `HasTaken` which bytes were taken. After an error
+/// it is of no use.
 #[derive(Drop)]
 pub(crate) struct WorkerSums {
     // The bytes that wait to be hashed.
     room: Room,
-    // How many bytes of the present part were taken.
+    // How many bytes of files were taken of the present unit.
     begun: u64,
     // It was fed all bytes before those that wait.
     hasher: UnitHasher,
@@ -38,9 +36,7 @@ pub(crate) struct WorkerSums {
 
 impl WorkerSums {
     ghost use Rattle.tor_engine.specs.steps.Worker.{HasTaken, IsFresh, Keeps, TakesMore, begun_of};
-    ghost use Rattle.tor_tree.specs.Kinds.{has_v1, has_v2};
     ghost use Rattle.tor_tree.specs.declared.kinds.Kind.{Kind};
-    ghost use Rattle.tor_v1.specs.Piece.{piece_sums};
 
     /// Of no byte, for the units of a plan.
     pub(crate) fn new(alloc: Global, plan: &Plan) -> Result<WorkerSums, AllocError>
@@ -55,8 +51,8 @@ impl WorkerSums {
         })
     }
 
-    /// Reads bytes of the present part from an offset of its file on, at most `left`, and answers how many were read.
-    pub(crate) fn read<S: Source>(
+    /// Reads bytes of a file from an offset on, at most `left`, and answers how many were read.
+    pub(crate) fn read<S: FileBytes>(
         &mut self,
         source: &S,
         file: u64,
@@ -85,9 +81,9 @@ impl WorkerSums {
 
     /// Adds zeros, which belong to no file.
     pub(crate) fn feed_zeros(&mut self, count: u64) -> Result<(), AllocError>
-        ensures taken { (kind : Kind) (piece_length : ℕ) (part unit : List ℕ) →
-            HasTaken kind piece_length part unit self.old →
-            OnOk result (HasTaken kind piece_length part (unit ++ zeros count) self.new) }
+        ensures taken { (kind : Kind) (piece_length : ℕ) (bytes unit : List ℕ) →
+            HasTaken kind piece_length bytes unit self.old →
+            OnOk result (HasTaken kind piece_length bytes (unit ++ zeros count) self.new) }
         ensures begun { begun_of self.new ≡ begun_of self.old }
     {
         if count == 0 {
@@ -98,48 +94,18 @@ impl WorkerSums {
         Ok(())
     }
 
-    /// Ends the present part, of a file of `length` bytes: puts the hashes of its pieces after `hashes`, and begins
-    /// the next one.
-    pub(crate) fn end_part(
-        &mut self,
-        alloc: Global,
-        length: u64,
-        hashes: &mut Vec<Hash>,
-    ) -> Result<(), AllocError>
-        ensures taken { (kind : Kind) (piece_length : ℕ) (part unit : List ℕ) →
-            HasTaken kind piece_length part unit self.old →
-            OnOk result (HasTaken kind piece_length [] unit self.new) }
-        ensures hashed { (kind : Kind) (piece_length : ℕ) (part unit : List ℕ) →
-            HasTaken kind piece_length part unit self.old → part ≢ [] →
-            OnOk result (hashes.new.items ≡ hashes.old.items
-            ++ (if has_v2 kind then hashes_of_bytes piece_length length part else [])) }
-        ensures begun { OnOk result (begun_of self.new ≡ 0) }
-    {
-        self.hash_tree()?;
-        self.begun = 0;
-        self.hasher.end_part(alloc, length, hashes)?;
-        Ok(())
-    }
-
-    /// Ends the unit, whose last part has ended: puts the SHA-1 of its pieces after `pieces`, and begins the next one.
-    pub(crate) fn end_unit(
-        &mut self,
-        alloc: Global,
-        plan: &Plan,
-        pieces: &mut Vec<u8>,
-    ) -> Result<(), AllocError>
-        requires planned { IsPlan plan.now }
-        requires ended { begun_of self.old ≡ 0 }
-        ensures summed { (kind : Kind) (piece_length : ℕ) (part unit : List ℕ) →
-            HasTaken kind piece_length part unit self.old →
-            OnOk result (pieces.new.items ≡ pieces.old.items
-            ++ (if has_v1 kind then piece_sums piece_length unit else [])) }
+    /// Ends the unit: gives what its bytes hash to, and begins the next one.
+    pub(crate) fn end_unit(&mut self, alloc: Global, plan: &Plan) -> Result<Hashed, AllocError>
+        requires { IsPlan plan.now }
+        ensures hashed { (kind : Kind) (piece_length : ℕ) (bytes unit : List ℕ) →
+            HasTaken kind piece_length bytes unit self.old →
+            IfOk result (AreHashesOf kind piece_length bytes unit) }
         ensures fresh { OnOk result (IsFresh plan.now self.new) }
     {
         self.hash_all()?;
+        self.begun = 0;
         let next = UnitHasher::new(alloc, plan.kind(), plan.piece_length());
-        mem::replace(&mut self.hasher, next).finish(pieces)?;
-        Ok(())
+        Ok(mem::replace(&mut self.hasher, next).finish(alloc))
     }
 
     // Hashes a batch where one is held, or where there is little room for the bytes that are left.
@@ -151,18 +117,6 @@ impl WorkerSums {
         if self.room.is_full(left) {
             let count = self.room.batch();
             return self.hash(count);
-        }
-        Ok(())
-    }
-
-    // Hashes all that waits where there is a tree.
-    fn hash_tree(&mut self) -> Result<(), AllocError>
-        ensures keeps { OnOk result (Keeps self.old self.new) }
-        ensures begun { begun_of self.new ≡ begun_of self.old }
-        ensures all { OnOk result (IsSome (tree_of self.new.hasher) → count_in self.new.room ≡ 0) }
-    {
-        if self.hasher.has_tree() {
-            return self.hash_all();
         }
         Ok(())
     }

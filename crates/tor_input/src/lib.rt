@@ -4,6 +4,7 @@
 //!   the [`InputFault`] that ended it. [`Intake`] (`intake.rt`): what takes the parts.
 //! - [`make_from`], [`torrent_from`] (`make.rt`): the torrent of what a reader has, in a writer or as bytes, or the
 //!   [`FromFault`] for which there is none.
+//! - [`laws`]: how long an input may be.
 //!
 //! ```rust
 //! use tor_input::read_limited;
@@ -16,6 +17,7 @@
 
 mod input;
 mod intake;
+pub mod laws;
 mod make;
 
 pub use input::{InputFault, MAX_INPUT_LENGTH, drop_input, read_limited, read_parts};

@@ -15,7 +15,7 @@ use Rattle.tor_merkle.proofs.Ceil.{ceil_at_most, ceil_from_below}
 use Rattle.tor_merkle.proofs.Content.{length-piece_roots, longer_than_piece, piece_roots-nodes, only_piece_root}
 use Rattle.tor_merkle.proofs.Filled.{padded_root-nodes}
 pub use Rattle.tor_merkle.proofs.HashLengths.{piece_roots_have_32_bytes, root_has_32_bytes}
-use Rattle.tor_merkle.proofs.Height.{height_least}
+pub use Rattle.tor_merkle.proofs.Height.{height_covers, height_least}
 use Rattle.tor_merkle.proofs.Joined.{piece_roots-joined}
 use Rattle.tor_merkle.proofs.Lengths.{length_bounds, length_split, level_is, level_low}
 use Rattle.tor_merkle.proofs.Units.{roots-units}

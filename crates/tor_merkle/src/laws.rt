@@ -80,6 +80,12 @@ pub fn proofs_are_low()
         proof_level size piece_length + height (proof_count size piece_length) ≤ 36 }
 {}
 
+/// The height of a tree over n hashes is the least k with n at most 2^k.
+pub fn heights_are_least()
+    ensures covers { (n : ℕ) → n ≤ 2 ^ height n }
+    ensures least { (n k : ℕ) → n ≤ 2 ^ k → height n ≤ k }
+{}
+
 /// A block, and the limits of a piece and of a file, in bytes.
 pub fn lengths_of_blocks_and_pieces()
     ensures block { BLOCK_LENGTH ≡ 16384 }

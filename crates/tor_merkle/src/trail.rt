@@ -1,4 +1,4 @@
-//! Histories that only proofs read: they take no memory, and their functions do nothing at run time.
+//! Histories that only proofs read: they take no memory, and their functions do nothing in the program.
 //!
 //! A clause over a history alone says nothing, since any history meets it. It says something beside an
 //! `invariant` that ties the history to what the struct computed, as that of the hashes of a [`crate::Stack`].

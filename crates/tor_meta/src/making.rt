@@ -35,9 +35,7 @@ fn list_of_one(alloc: Global, name: &Name, length: u64) -> Result<FileList, Allo
     ensures list { IfOk result (λ list. list ≡ (name.now ∷ [], length) ∷ []) }
     ensures lawful { IfOk result IsFileList }
 {
-    let Some(path) = FilePath::new(vec![in alloc; name.copy(alloc)?]?) else {
-        unreachable!();
-    };
+    let path = FilePath::of_name(alloc, name)?;
     match FileList::build(alloc, vec![in alloc; (path, length)]?) {
         Ok(list) => {
             let _files = list.files();

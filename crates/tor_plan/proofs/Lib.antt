@@ -32,3 +32,4 @@ pub mod JoinedPieces
 pub mod FilePieces
 pub mod PieceWithin
 pub mod ProvedLaws
+pub mod LowTrees

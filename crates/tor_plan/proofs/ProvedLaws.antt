@@ -23,6 +23,7 @@ use Rattle.tor_plan.specs.declared.units.PlanUnit.{PlanUnit}
 use Rattle.tor_plan.proofs.Empty.{zeros-nil}
 pub use Rattle.tor_plan.proofs.FilesAsEntries.{entry_units_of_files, lengths_of_files}
 pub use Rattle.tor_plan.proofs.FilesLaidOut.{files_laid_out}
+pub use Rattle.tor_plan.proofs.LowTrees.{trees_are_runs, units_are_few}
 use Rattle.tor_plan.proofs.JoinedContent.{joined_bytes, joined_sums}
 use Rattle.tor_plan.proofs.FilePieces.{separate_pieces}
 use Rattle.tor_plan.proofs.JoinedPieces.{joined_pieces}

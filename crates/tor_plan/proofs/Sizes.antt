@@ -91,7 +91,7 @@ rounded p m power some le =
 
 -- ---- entries
 
-units_within : (size m : ℕ) → 0 < size → div_ceil m size ≤ m
+pub units_within : (size m : ℕ) → 0 < size → div_ceil m size ≤ m
 units_within size m pos =
     let bounds = div_ceil_times m size pos in
     let less : div_ceil m size < m + 1 =
@@ -111,7 +111,7 @@ files_within (entry ∷ entries) = entry_cases
     )) entry
 
 pub few_units : (entries : List Entry) (size : ℕ) → entries_length entries ≤ MAX_TOTAL → 0 < size
-    → sum_by (λ m. div_ceil m size) (lengths_of_entries entries) < 2 ^ 64
+    → sum_by (λ m. div_ceil m size) (lengths_of_entries entries) ≤ MAX_TOTAL
 few_units entries size small pos =
     let each = sum_by-le-sum_by (λ m. div_ceil m size) (λ m. m) (lengths_of_entries entries)
     (λ m. omega (arith, units_within size m pos)) in

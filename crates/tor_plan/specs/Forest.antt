@@ -1,9 +1,10 @@
 -- Which units are the leaves of one file's tree.
-use Rattle.std.specs.Prelude.{ℕ, zero, suc, ◌+◌, ◌/◌, ◌^◌, nat_lt, nat_le, List, [], ◌∷◌, ◌++◌, if◌then◌else◌}
+use Rattle.std.specs.Prelude.{ℕ, zero, suc, ◌+◌, ◌/◌, ◌^◌, ◌≤◌, nat_lt, nat_le, List, [], ◌∷◌, ◌++◌, if◌then◌else◌}
 use Rattle.std.specs.Int.{div_ceil}
 use Rattle.tor_tree.specs.declared.kinds.Kind.{Kind}
 use Rattle.tor_tree.specs.declared.kinds.Kind.TheVariants.{V1}
 use Rattle.tor_plan.specs.declared.forests.Run.{Run}
+use Rattle.tor_merkle.specs.Subtree.{height}
 use Rattle.tor_merkle.specs.declared.TheConstants.{BLOCK_LENGTH}
 
 -- the binary logarithm, rounded down: the greatest k with 2 ^ k at most n
@@ -30,3 +31,11 @@ trees_from size first (m ∷ lengths) =
 abbrev pub forest_trees : Kind → ℕ → List ℕ → List Run
 forest_trees V1 size lengths = []
 forest_trees kind size lengths = trees_from size 0 lengths
+
+-- runs of two or more units, apart and in order, from this unit on and below so many; the tree of each has at most
+-- 2 ^ 36 blocks
+unfoldable pub AreRuns : ℕ → ℕ → List Run → Type 0
+AreRuns units from [] = Unit {0}
+AreRuns units from (run ∷ runs) =
+    (from ≤ run.first) × (2 ≤ run.count) × (run.first + run.count ≤ units) × (run.level + height run.count ≤ 36)
+    × AreRuns units (run.first + run.count) runs

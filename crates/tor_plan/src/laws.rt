@@ -1,9 +1,11 @@
 //! Laws over the definitions, as contracts of functions that do nothing.
-ghost use Rattle.std.specs.Prelude.{◌≡◌, ◌≢◌, ℕ, ◌+◌, ◌-◌, ◌*◌, ◌<◌, min, All, List, length, slice_index_or};
+ghost use Rattle.std.specs.Prelude.{◌≡◌, ◌≢◌, ℕ, ◌+◌, ◌-◌, ◌*◌, ◌^◌, ◌<◌, ◌≤◌, min, All, List, length, slice_index_or};
 ghost use Rattle.std.specs.List.{flat_map};
 ghost use Rattle.tor_plan.specs.Content.{AreContentsOfFiles, cut_content, layout_of, unit_content};
 ghost use Rattle.tor_plan.specs.Entries.{entry_units, lengths_of_entries};
 ghost use Rattle.tor_plan.specs.EntryList.{IsLaidOut};
+ghost use Rattle.tor_plan.specs.Forest.{AreRuns};
+ghost use Rattle.tor_plan.specs.PlanFacts.{IsPlan, PlanFacts};
 ghost use Rattle.tor_plan.specs.Pieces.{piece_of_unit, pieces_of_unit};
 ghost use Rattle.tor_plan.specs.Positions.{positions_of_files, positions_of_unit};
 ghost use Rattle.tor_plan.specs.Units.{hash_units};
@@ -134,4 +136,14 @@ pub fn pieces_are_in_entry_units()
         flat_map (λ unit. piece_sums piece_length (unit_content contents unit))
         (entry_units kind piece_length span entries)
         ≡ piece_sums piece_length (joined_content entries contents) }
+{}
+
+/// The trees of a plan are runs of two or more of its units, apart and in order, each of at most 2^36 blocks.
+pub fn trees_are_runs()
+    ensures { (plan : PlanFacts) → IsPlan plan → AreRuns (length plan.units) 0 plan.trees }
+{}
+
+/// A plan has at most 2^62 units.
+pub fn units_are_few()
+    ensures { (plan : PlanFacts) → IsPlan plan → length plan.units ≤ 2 ^ 62 }
 {}

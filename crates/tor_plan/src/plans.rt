@@ -142,7 +142,8 @@ impl Plan {
 
     /// The files of more than one unit; none in V1.
     pub fn forest(&self) -> &Forest
-        ensures { result.now.trees.items ≡ self.now.trees }
+        ensures value { result.now.trees.items ≡ self.now.trees }
+        ensures planned { IsPlan self.now }
     {
         &self.forest
     }

@@ -1,6 +1,6 @@
 -- What a tree of which no condition holds keeps to: its piece length, its lengths, and the alignment of its files.
 use Rattle.std.proofs.Common.{◌≡◌, ℕ, ℤ, pos, negsuc, ◌<◌, true, false, Bool, not, ◌&&◌, List, [], ◌∷◌, Option, None}
-use Rattle.std.proofs.Common.{Some, codes, cond, find, get_or, lit<, nat_le, refl, unsigned_abs, unwrap_or}
+use Rattle.std.proofs.Common.{Some, arith, codes, cond, find, get_or, lit<, nat_le, refl, unsigned_abs, unwrap_or}
 use Rattle.std.specs.List.{AllByRecursion}
 use Rattle.std.proofs.lemmas.Bool.{and_parts, leb-true, not-false, or_parts}
 use Rattle.std.proofs.lemmas.List.Elements.{All-from_recursion, All-get_or}
@@ -99,3 +99,12 @@ kept root none =
       files = λ one two. of_side v2 (files_differ info) (differ one) two;
       aligned = λ one two. of_side v2 (alignment info) (misaligned one) two;
     }
+
+-- a piece has some bytes
+pub some_bytes : (root : Data) → refusal_of root ≡ None → 0 < piece_length_of (info_of root)
+some_bytes root none = by_kind (kind_of (info_of root)) (piece_length_of (info_of root)) (kept root none).pieces
+  where
+    by_kind : (kind : Kind) (n : ℕ) → IsPlanPieceLength kind n → 0 < n
+    by_kind V1 n allowed = omega (arith, allowed.0)
+    by_kind V2 n allowed = omega (arith, allowed.1)
+    by_kind Hybrid n allowed = omega (arith, allowed.1)

@@ -3,7 +3,8 @@
 //!
 //! Of tor_check: `verdicts.rt`, `worked.rt`, `order.rt` (which bytes are torrents, and of two faults the first),
 //! `lenient.rt` (what other makers may write), `hybrids.rt`, `layers.rt`, `pieces.rt` (proofs of pieces). `telling.rt`
-//! and `layered.rt` have what these share. Of tor_recheck: `bits.rt` and `rechecks.rt`.
+//! and `layered.rt` have what these share. Of tor_recheck: `bits.rt`, `rechecks.rt`, and `meetings.rt`:
+//! whether its workers work at once.
 #![tactic(auto)]
 
 #[cfg(test)]
@@ -16,6 +17,8 @@ mod layered;
 mod layers;
 #[cfg(test)]
 mod lenient;
+#[cfg(test)]
+mod meetings;
 #[cfg(test)]
 mod order;
 #[cfg(test)]

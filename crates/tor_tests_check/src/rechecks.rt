@@ -173,7 +173,7 @@ fn joined(alloc: Global, parts: &[&[u8]]) -> Result<Vec<u8>, AllocError> {
     Ok(bytes)
 }
 
-fn torrent_of(alloc: Global, parts: &[&[u8]]) -> Result<Torrent, Fail> {
+pub(crate) fn torrent_of(alloc: Global, parts: &[&[u8]]) -> Result<Torrent, Fail> {
     match validate(alloc, &joined(alloc, parts)?) {
         Ok(torrent) => Ok(torrent),
         Err(_) => Err("no torrent".into()),

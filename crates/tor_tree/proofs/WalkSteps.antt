@@ -1,11 +1,14 @@
 -- A step of the walk through a file tree.
 use Rattle.std.proofs.Common.{◌≡◌, ◌==◌, ◌+◌, ◌<◌, ◌≤◌, ◌&&◌, get_or, drop, is_none, Bool, true, ℕ, false, Vec, Global}
-use Rattle.std.proofs.Common.{List, [], ◌∷◌, ◌++◌, length, map, refl, sym, ap, ◌∙◌, append_assoc, rules}
-use Rattle.std.proofs.lemmas.List.{append-nil, drop_more, drop_all}
+use Rattle.std.proofs.Common.{List, [], ◌∷◌, ◌++◌, length, map, refl, sym, ap, ◌∙◌, append_assoc, rules, arith, zero}
+use Rattle.std.proofs.Common.{suc}
+use Rattle.std.proofs.lemmas.Bool.{and_parts}
+use Rattle.std.proofs.lemmas.List.{append-nil, drop_more, drop_all, map-append}
 use Rattle.tor_bencode.specs.Data.{Data, dictionary, Pairs, pair, no_pairs}
 use Rattle.tor_bencode.specs.View.{view, pairs_view}
 use Rattle.tor_bencode.specs.declared.item.Item.{Item, Dict, the_lemmas}
-use Rattle.tor_tree.specs.FileTree.{entries_in, entries_of, under, are_entries, is_folder}
+use Rattle.tor_tree.specs.FileTree.{entries_in, entries_of, under, are_entries, is_folder, takes_memory}
+use Rattle.tor_tree.specs.FileTree.{takes_memory_in}
 use Rattle.tor_tree.specs.Name.{name_fault}
 use Rattle.tor_tree.specs.Properties.{are_properties}
 use Rattle.tor_tree.specs.declared.entries.Entry.{Entry}
@@ -57,6 +60,30 @@ shape_split (c ∷ cs) value pairs unshaped =
     last true false d h = refl
     last false b d h = refl
 
+entries_split : (key : List ℕ) (value : Data) (pairs : Pairs)
+    → entries_in (pair key value pairs) ≡ entries_in (pair key value no_pairs) ++ entries_in pairs
+entries_split [] value pairs = refl
+entries_split (c ∷ cs) value pairs =
+    ap (λ entries. entries ++ entries_in pairs) (sym (append-nil (under (c ∷ cs) (entries_of value))))
+
+shape_rest : (key : List ℕ) (value : Data) (pairs : Pairs) → are_entries (pair key value no_pairs) ≡ true
+    → are_entries (pair key value pairs) ≡ are_entries pairs
+shape_rest [] value pairs shaped = rw ((and_parts (are_properties value) true shaped).0) refl
+shape_rest (c ∷ cs) value pairs shaped =
+    let name = and_parts (is_none (name_fault (c ∷ cs))) (is_folder value && true) shaped in
+    rw (name.0, (and_parts (is_folder value) true name.1).0) refl
+
+-- the first pair alone decides whether memory is taken; where it has its shape, it is
+taken_by_first : (key : List ℕ) (value : Data) (pairs : Pairs)
+    → takes_memory_in (pair key value pairs) ≡ takes_memory_in (pair key value no_pairs)
+taken_by_first [] value pairs = refl
+taken_by_first (c ∷ cs) value pairs = refl
+
+pub shaped_takes : (key : List ℕ) (value : Data) → are_entries (pair key value no_pairs) ≡ true
+    → takes_memory_in (pair key value no_pairs) ≡ true
+shaped_takes [] value shaped = (and_parts (are_properties value) true shaped).0
+shaped_takes (c ∷ cs) value shaped = (and_parts (is_none (name_fault (c ∷ cs))) (is_folder value && true) shaped).0
+
 module _ (item : Item) (pairs : Vec (Vec ℕ Global × Item) Global) (seen : item ≡ Dict pairs)
     (items : List (Vec ℕ Global × Item)) (all : items ≡ pairs.items) (i : ℕ)
     (whole : are_entries (pairs_view (drop i items)) ≡ are_entries (pairs_view items)) where
@@ -83,3 +110,43 @@ module _ (item : Item) (pairs : Vec (Vec ℕ Global × Item) Global) (seen : ite
       ap (λ ps. entries_in (pairs_view ps)) (drop_all i items past) in
       let of_item : entries_of (view item) ≡ entries_in (pairs_view items) = ap entries_of as_pairs in
       rw of_item (sym (append-nil new) ∙ rw ended at same)
+
+  -- what was added of a pair, and what is left
+  pub entries_go_on : (folder : List (List ℕ)) (p : Vec ℕ Global × Item) (now new all : List Entry) → i < length items
+      → p ≡ get_or items i p → new ≡ now ++ map (entry_at folder) (entries_in (pair p.0.items (view p.1) no_pairs))
+      → now ++ map (entry_at folder) (entries_in (pairs_view (drop i items))) ≡ all
+      → new ++ map (entry_at folder) (entries_in (pairs_view (drop (i + 1) items))) ≡ all
+  entries_go_on folder p now new all within is added before =
+      let rest = pairs_view (drop (i + 1) items) in
+      let one = entries_in (pair p.0.items (view p.1) no_pairs) in
+      let f = entry_at folder in
+      ap (λ entries. entries ++ map f (entries_in rest)) added
+      ∙ append_assoc now (map f one) (map f (entries_in rest))
+      ∙ ap (λ entries. now ++ entries) (sym (map-append f one (entries_in rest)))
+      ∙ ap (λ entries. now ++ map f entries) (sym (entries_split p.0.items (view p.1) rest))
+      ∙ ap (λ ps. now ++ map f (entries_in ps)) (sym (pairs_from items i p within is)) ∙ before
+
+  pub shape_goes_on : (p : Vec ℕ Global × Item) → i < length items → p ≡ get_or items i p
+      → are_entries (pair p.0.items (view p.1) no_pairs) ≡ true
+      → are_entries (pairs_view (drop (i + 1) items)) ≡ are_entries (pairs_view items)
+  shape_goes_on p within is shaped =
+      sym (shape_rest p.0.items (view p.1) (pairs_view (drop (i + 1) items)) shaped)
+      ∙ ap are_entries (sym (pairs_from items i p within is)) ∙ whole
+
+  -- a pair that has its shape is the first, or the first had it
+  pub first_shaped : (p : Vec ℕ Global × Item) → i < length items → p ≡ get_or items i p
+      → takes_memory_in (pair p.0.items (view p.1) no_pairs) ≡ true
+      → (0 < i → takes_memory_in (pairs_view items) ≡ true) → takes_memory_in (pairs_view items) ≡ true
+  first_shaped p within is taken before = by_index i refl
+    where
+      by_index : (j : ℕ) → j ≡ i → takes_memory_in (pairs_view items) ≡ true
+      by_index zero at =
+          let front : pairs_view items ≡ pair p.0.items (view p.1) (pairs_view (drop (i + 1) items)) =
+          ap (λ j. pairs_view (drop j items)) at ∙ pairs_from items i p within is in
+          ap takes_memory_in front ∙ taken_by_first p.0.items (view p.1) (pairs_view (drop (i + 1) items)) ∙ taken
+      by_index (suc j) at = before (omega (arith, at))
+
+  pub taken_here : (p : Vec ℕ Global × Item) → i < length items → p ≡ get_or items i p
+      → takes_memory_in (pair p.0.items (view p.1) no_pairs) ≡ true
+      → (0 < i → takes_memory_in (pairs_view items) ≡ true) → takes_memory (view item) ≡ true
+  taken_here p within is taken before = ap takes_memory as_pairs ∙ first_shaped p within is taken before

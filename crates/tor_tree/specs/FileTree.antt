@@ -90,6 +90,18 @@ lacks_root properties = nat_lt 0 (length_of properties) && not (is_hash (pieces_
 abbrev pub properties_in : Data → List Data
 properties_in tree = map (λ entry. entry.1) (entries_of tree)
 
+-- what is read first of a folder has its shape: the properties of its file, or a name. No memory is taken before.
+abbrev pub takes_memory_in : Pairs → Bool
+takes_memory_in no_pairs = false
+takes_memory_in (pair [] properties pairs) = are_properties properties
+takes_memory_in (pair (c ∷ cs) folder pairs) = is_none (name_fault (c ∷ cs))
+
+abbrev pub takes_memory : Data → Bool
+takes_memory (integer n) = false
+takes_memory (string bytes) = false
+takes_memory (list items) = false
+takes_memory (dictionary pairs) = takes_memory_in pairs
+
 -- why a tree describes no files: the first of seven causes that holds, or none
 abbrev pub tree_fault : Data → Option TreeFault
 tree_fault tree =

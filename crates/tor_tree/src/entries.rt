@@ -3,6 +3,7 @@ ghost use Rattle.std.specs.Prelude.{◌≡◌, ◌⊎◌, ◌++◌, true, false,
 ghost use Rattle.tor_bencode.specs.Data.{pair, no_pairs};
 ghost use Rattle.tor_bencode.specs.View.{view};
 ghost use Rattle.tor_tree.specs.FileTree.{are_entries, entries_in, entries_of, is_dictionary, is_folder};
+ghost use Rattle.tor_tree.specs.FileTree.{takes_memory, takes_memory_in};
 ghost use Rattle.tor_tree.specs.Properties.{are_properties};
 ghost use Rattle.tor_tree.specs.Reading.{entry_at};
 ghost use Rattle.tor_tree.specs.declared.tree_file.TreeFault.TheVariants.{Memory, Shape};
@@ -37,6 +38,7 @@ pub fn add_folder(
     ensures refused { IfErr result
         (λ fault. ((fault ≡ Shape) × (is_folder (view item.now) ≡ false)) ⊎ (fault ≡ Memory)) }
     ensures no_dictionary { is_dictionary (view item.now) ≡ false → result ≡ Err Shape }
+    ensures memory { result ≡ Err Memory → takes_memory (view item.now) ≡ true }
 {
     let Item::Dict(pairs) = item else {
         return Err(TreeFault::Shape);
@@ -64,6 +66,7 @@ fn add_pair(
     ensures refused { IfErr result
         (λ fault. ((fault ≡ Shape) × (are_entries (pair key.now (view value.now) no_pairs) ≡ false))
         ⊎ (fault ≡ Memory)) }
+    ensures memory { result ≡ Err Memory → takes_memory_in (pair key.now (view value.now) no_pairs) ≡ true }
 {
     if key.is_empty() {
         return add_file(alloc, value, folder, entries);
@@ -86,6 +89,7 @@ fn add_file(
         ≡ entries.old.items ++ entry_at folder.now ([], view properties.now) ∷ []) }
     ensures refused { IfErr result
         (λ fault. ((fault ≡ Shape) × (are_properties (view properties.now) ≡ false)) ⊎ (fault ≡ Memory)) }
+    ensures memory { result ≡ Err Memory → are_properties (view properties.now) ≡ true }
 {
     let Some(properties) = read_properties(properties) else {
         return Err(TreeFault::Shape);

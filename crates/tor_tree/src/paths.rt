@@ -1,5 +1,5 @@
 //! Paths: the names from the top folder down to a file.
-ghost use Rattle.std.specs.Prelude.{◌≡◌, Some, [], All, IfOk, MatchOption};
+ghost use Rattle.std.specs.Prelude.{◌≡◌, ◌∷◌, Some, [], All, IfOk, MatchOption};
 ghost use Rattle.std.proofs.Common.{refl};
 ghost use Rattle.std.specs.Cmp.{partial_equiv_from_equiv, po};
 ghost use Rattle.std.specs.Cmp.Lexicographic.{lists_equiv, lists_total, lists_ties, nat_list_eq_equiv};
@@ -44,6 +44,15 @@ impl FilePath {
         }
         each_is_name(&names);
         Some(FilePath { names })
+    }
+
+    /// The path of one name.
+    pub fn of_name(alloc: Global, name: &Name) -> Result<FilePath, AllocError>
+        ensures { IfOk result (λ path. path ≡ name.now ∷ []) }
+    {
+        let names = vec![in alloc; name.copy(alloc)?]?;
+        each_is_name(&names);
+        Ok(FilePath { names })
     }
 
     /// The same path again.

@@ -1,10 +1,11 @@
 //! Reading a file tree (BEP 52, "file tree").
-ghost use Rattle.std.specs.Prelude.{◌≡◌, ◌⊎◌, Some, None, unsigned_abs, int_lt, pos, map, false, Err, IfOk, IfErr};
+ghost use Rattle.std.specs.Prelude.{◌≡◌, ◌⊎◌, Some, None, unsigned_abs, int_lt, pos, map, true, false, Err, IfOk};
+ghost use Rattle.std.specs.Prelude.{IfErr};
 ghost use Rattle.std.specs.Prelude.{OnOk, All, IsSome, IsOkUnless};
 ghost use Rattle.std.specs.List.{list_any};
 ghost use Rattle.tor_bencode.specs.View.{view};
 ghost use Rattle.tor_tree.specs.FileList.{lengths_too_large};
-ghost use Rattle.tor_tree.specs.FileTree.{files_of_tree, is_dictionary, tree_fault};
+ghost use Rattle.tor_tree.specs.FileTree.{files_of_tree, is_dictionary, takes_memory, tree_fault};
 ghost use Rattle.tor_tree.specs.Reading.{entries_fault, file_from, misses_root};
 ghost use Rattle.tor_tree.specs.declared.tree_file.TreeFault.TheVariants.{Memory, Shape};
 
@@ -21,6 +22,7 @@ pub fn from_item(alloc: Global, item: &Item) -> Result<Vec<TreeFile>, TreeFault>
     ensures accepted { OnOk result (tree_fault (view item.now) ≡ None) }
     ensures refused { IfErr result (λ fault. (tree_fault (view item.now) ≡ Some fault) ⊎ (fault ≡ Memory)) }
     ensures no_dictionary { is_dictionary (view item.now) ≡ false → result ≡ Err Shape }
+    ensures memory { result ≡ Err Memory → takes_memory (view item.now) ≡ true }
 {
     let mut entries = Vec::new(alloc);
     add_folder(alloc, item, &mut Vec::new(alloc), &mut entries)?;

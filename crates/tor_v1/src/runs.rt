@@ -13,7 +13,8 @@ pub const MAX_PIECE_IN_RUN: u64 = 1 << 20;
 
 /// Whether pieces of so many bytes are taken in runs.
 pub(crate) fn has_runs(piece_length: u64) -> bool
-    ensures { result ≡ true → HasRuns piece_length }
+    ensures only { result ≡ true → HasRuns piece_length }
+    ensures all { HasRuns piece_length → result ≡ true }
 {
     piece_length % 64 == 0 && piece_length <= MAX_PIECE_IN_RUN
 }

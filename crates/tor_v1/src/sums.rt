@@ -132,7 +132,8 @@ impl PieceSums {
 
     // Whether the next eight pieces of so many bytes are taken at once.
     fn takes_run(&self, left: usize) -> bool
-        ensures { result ≡ true → FitsRun self.now left }
+        ensures only { result ≡ true → FitsRun self.now left }
+        ensures all { FitsRun self.now left → result ≡ true }
     {
         self.begun == 0 && has_runs(self.piece_length) && left >= 8 * self.piece_length as usize
     }

@@ -1,8 +1,7 @@
 -- What the pieces of units hash to. Only private clauses cite these.
-use Rattle.std.specs.Prelude.{◌≡◌, ℕ, ◌/◌, ◌<◌, ◌≤◌, true, false, All, List, [], ◌∷◌, length, map, slice_get}
+use Rattle.std.specs.Prelude.{◌≡◌, ℕ, ◌/◌, ◌<◌, ◌≤◌, true, false, All, List, [], length, map, slice_get}
 use Rattle.std.specs.Prelude.{slice_index_or, Bool, nat_le, ◌||◌, Option, None}
-use Rattle.std.specs.Prelude.{Some, unwrap_or, Result, MatchResult, IfErr, IfOk, Vec, if◌then◌else◌}
-use Rattle.std.specs.declared.alloc.Global.{Global}
+use Rattle.std.specs.Prelude.{Some, unwrap_or, if◌then◌else◌}
 use Rattle.std.specs.List.{flat_map, list_any}
 use Rattle.std.specs.Simd.{first_chunks}
 use Rattle.tor_plan.specs.Content.{unit_content}
@@ -15,13 +14,13 @@ use Rattle.tor_source.specs.Source.{SourceFacts}
 use Rattle.tor_tree.specs.Kinds.{has_v1, has_v2}
 use Rattle.tor_v1.specs.Piece.{piece_sums, zeros}
 use Rattle.tor_engine.specs.Contents.{contents_in}
-use Rattle.tor_engine.specs.Fault.{IsFault, IsGivenNotMissing, first_of}
+use Rattle.tor_engine.specs.Fault.{first_of}
 use Rattle.tor_engine.specs.PieceFault.{pieces_fault}
 use Rattle.tor_engine.specs.PieceHashes.{hash_if_there}
 use Rattle.tor_engine.specs.declared.errors.EngineError.{EngineError}
 use Rattle.tor_engine.specs.declared.piece_hash.PieceHash.{PieceHash}
 use Rattle.tor_engine.specs.steps.Hashes.{bytes_of_part, hashes_of_bytes}
-use Rattle.tor_engine.specs.steps.Run.{AreUnitsOf, IsUnitOf}
+use Rattle.tor_engine.specs.steps.Run.{IsUnitOf}
 
 -- ---- of a unit that is there
 
@@ -69,10 +68,6 @@ abbrev pub first_unit_fault : {F : Type 0} → SourceFacts F → PlanFacts → L
     → Option (EngineError F)
 first_unit_fault facts plan contents units = first_of (unit_pieces_fault facts plan contents) units
 
--- the unit is one part, and nothing else
-abbrev pub IsOnePart : PlanUnit → Type 0
-IsOnePart unit = (part : Part) × (unit ≡ record { zeros = 0; parts = part ∷ [] })
-
 -- as many zeros after one another as a piece has bytes: before the parts of a unit, or after one of them
 abbrev pub has_long_zeros : ℕ → PlanUnit → Bool
 has_long_zeros piece_length unit =
@@ -89,34 +84,22 @@ IsPaddingSum plan None = Unit {0}
 IsPaddingSum plan (Some sum) =
     (has_v2 plan.kind ≡ false) × (sum ≡ piece_sums plan.piece_length (zeros plan.piece_length))
 
--- a piece of a plan: not empty, and in a kind with trees one part of a file
+-- a piece of a plan, which is not empty
 pub record IsPiece (plan : PlanFacts) (piece : PlanUnit) : Type 0 where
   pub unit : IsUnitOf plan piece
   pub some : 0 < unit_length piece
   pub within : unit_length piece ≤ plan.piece_length
-  pub alone : has_v2 plan.kind ≡ true → IsOnePart piece
 
--- the pieces of these units are
-abbrev pub ArePieces : PlanFacts → List PlanUnit → Type 0
-ArePieces plan units = All (λ unit. All (IsPiece plan) (pieces_of_unit plan.piece_length unit)) units
+-- a unit whose pieces can be hashed
+pub record IsUnitToHash (plan : PlanFacts) (unit : PlanUnit) : Type 0 where
+  pub within : IsUnitOf plan unit
+  pub pieces : All (IsPiece plan) (pieces_of_unit plan.piece_length unit)
 
--- units whose pieces can be hashed
-pub record AreUnitsToHash (plan : PlanFacts) (units : List PlanUnit) : Type 0 where
-  pub within : AreUnitsOf plan units
-  pub pieces : ArePieces plan units
-
--- what a worker answers for units of files with these lengths: of a steady source the hashes of their pieces, or the
--- first fault; of any source one answer for each piece; a fault of the source is one that it gave
-pub record AnswersPieces {S F : Type 0} (is_steady : S → SourceFacts F → Type 0)
-    (gave : S → ℕ → Option ℕ → F → Type 0) (source : S) (plan : PlanFacts) (told : List (Option ℕ))
-    (units : List PlanUnit) (result : Result (Vec (Option PieceHash) Global) (EngineError F)) : Type 0 where
-  pub steady : (facts : SourceFacts F) → is_steady source facts
+-- these are the hashes of the pieces of units of files with these lengths: of a steady source those of what it has,
+-- and of any source one for each piece
+pub record HashesPieces {F : Type 0} (is_steady : SourceFacts F → Type 0) (plan : PlanFacts) (told : List (Option ℕ))
+    (units : List PlanUnit) (hashes : List (Option PieceHash)) : Type 0 where
+  pub steady : (facts : SourceFacts F) → is_steady facts
       → AreTold told (contents_in facts (length plan.lengths))
-      → MatchResult result
-      (λ hashes.
-      (hashes.items ≡ flat_map (unit_hashes plan (contents_in facts (length plan.lengths))) units)
-      × (first_unit_fault facts plan (contents_in facts (length plan.lengths)) units ≡ None))
-      (IsFault (first_unit_fault facts plan (contents_in facts (length plan.lengths)) units))
-  pub counted : IfOk result
-      (λ hashes. length hashes.items ≡ length (flat_map (pieces_of_unit plan.piece_length) units))
-  pub given : IfErr result (IsGivenNotMissing (gave source) (length plan.lengths))
+      → hashes ≡ flat_map (unit_hashes plan (contents_in facts (length plan.lengths))) units
+  pub counted : length hashes ≡ length (flat_map (pieces_of_unit plan.piece_length) units)

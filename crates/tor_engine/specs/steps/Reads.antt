@@ -1,16 +1,15 @@
 -- What was read of a source, whether it is steady or not. Only private clauses cite these.
-use Rattle.std.specs.Prelude.{◌≡◌, ◌≤◌, ℕ, List, ◌++◌, length, map, take, if◌then◌else◌, []}
+use Rattle.std.specs.Prelude.{◌≡◌, ◌+◌, ◌≤◌, ℕ, List, ◌++◌, length, map, take}
 use Rattle.std.specs.List.{AllByRecursion, flat_map}
 use Rattle.tor_plan.specs.Content.{part_content}
 use Rattle.tor_plan.specs.PlanFacts.{PlanFacts}
 use Rattle.tor_plan.specs.declared.units.Part.{Part}
 use Rattle.tor_source.specs.Source.{SourceFacts, bytes_from}
-use Rattle.tor_tree.specs.Kinds.{has_v2}
 use Rattle.tor_tree.specs.declared.kinds.Kind.{Kind}
 use Rattle.tor_v1.specs.Piece.{zeros}
 use Rattle.tor_engine.specs.Contents.{contents_in}
 use Rattle.tor_engine.specs.declared.worker.WorkerSums.{WorkerSums}
-use Rattle.tor_engine.specs.steps.Hashes.{bytes_of_part, hashes_of_part}
+use Rattle.tor_engine.specs.steps.Hashes.{bytes_of_part}
 use Rattle.tor_engine.specs.steps.Worker.{HasTaken, begun_of}
 
 -- the files have the lengths of the plan
@@ -35,19 +34,18 @@ pub record TakesPart {F : Type 0} (is_steady : SourceFacts F → Type 0) (part :
   pub taken : (kind : Kind) (piece_length : ℕ) (before unit : List ℕ) → HasTaken kind piece_length before unit old
       → HasTaken kind piece_length (before ++ bytes) (unit ++ bytes) new
 
--- a part was read and fed, with the zeros after it, and the hashes of its pieces were put after the others: those of
--- any contents that have the bytes that were read
+-- a part was read and fed, with the zeros after it
 pub record AddsPart {F : Type 0} (is_steady : SourceFacts F → Type 0) (plan : PlanFacts) (part : Part)
-    (old new : WorkerSums) (hashes more : List (List ℕ)) : Type 0 where
+    (old new : WorkerSums) : Type 0 where
   pub bytes : List ℕ
   pub counted : length bytes ≡ part.length
   pub steady : (facts : SourceFacts F) → is_steady facts → HasPart facts part
       → bytes_of_part (contents_in facts (length plan.lengths)) part ≡ bytes
-  pub begun : begun_of new ≡ 0
-  pub sums : (contents : List (List ℕ)) (unit : List ℕ) → map length contents ≡ plan.lengths
-      → bytes_of_part contents part ≡ bytes → HasTaken plan.kind plan.piece_length [] unit old
-      → HasTaken plan.kind plan.piece_length [] (unit ++ part_content contents part) new
-      × (more ≡ hashes ++ (if has_v2 plan.kind then hashes_of_part plan.piece_length contents part else []))
+  pub begun : begun_of new ≡ begun_of old + part.length
+  pub taken : (contents : List (List ℕ)) (before unit : List ℕ) → bytes_of_part contents part ≡ bytes
+      → HasTaken plan.kind plan.piece_length before unit old
+      → HasTaken plan.kind plan.piece_length (before ++ bytes_of_part contents part)
+      (unit ++ part_content contents part) new
 
 -- a part, and the bytes that were read of it
 abbrev pub PartRead : Type 0
@@ -65,13 +63,11 @@ pub record AreReads {F : Type 0} (is_steady : SourceFacts F → Type 0) (plan : 
   pub steady : (facts : SourceFacts F) → is_steady facts → HasParts facts parts
       → HaveRead (contents_in facts (length plan.lengths)) reads
 
--- the parts of a unit were read so far, after so many zeros, and the hashes of their pieces were put after the others
+-- the parts of a unit were read so far, after so many zeros
 pub record ReadsParts {F : Type 0} (is_steady : SourceFacts F → Type 0) (plan : PlanFacts) (before : ℕ)
-    (parts : List Part) (sums : WorkerSums) (hashes more : List (List ℕ)) : Type 0 where
+    (parts : List Part) (sums : WorkerSums) : Type 0 where
   pub reads : List PartRead
   pub are : AreReads is_steady plan parts reads
-  pub taken : (contents : List (List ℕ)) → map length contents ≡ plan.lengths → HaveRead contents reads
-      → HasTaken plan.kind plan.piece_length [] (zeros before ++ flat_map (part_content contents) parts) sums
-  pub hashed : (contents : List (List ℕ)) → map length contents ≡ plan.lengths → HaveRead contents reads
-      → more ≡ hashes ++ (if has_v2 plan.kind
-      then flat_map (hashes_of_part plan.piece_length contents) parts else [])
+  pub taken : (contents : List (List ℕ)) → HaveRead contents reads
+      → HasTaken plan.kind plan.piece_length (flat_map (bytes_of_part contents) parts)
+      (zeros before ++ flat_map (part_content contents) parts) sums

@@ -8,16 +8,16 @@ use Rattle.tor_engine.specs.declared.worker.WorkerSums.{WorkerSums}
 use Rattle.tor_engine.specs.steps.Hasher.{HasFedUnit}
 use Rattle.tor_engine.specs.steps.Room.{held_in}
 
--- the sums took the bytes of the present part, and those of the whole unit up to now, with its zeros: the hasher was
--- fed the front of them, and the rest is held
-pub record HasTaken (kind : Kind) (piece_length : ℕ) (part unit : List ℕ) (sums : WorkerSums) : Type 0 where
-  pub fed_part : List ℕ
+-- the sums took these bytes of files, and those of the whole unit up to now, with its zeros: the hasher was fed the
+-- front of them, and the rest is held
+pub record HasTaken (kind : Kind) (piece_length : ℕ) (bytes unit : List ℕ) (sums : WorkerSums) : Type 0 where
+  pub fed_bytes : List ℕ
   pub fed_unit : List ℕ
-  pub fed : HasFedUnit kind piece_length fed_part fed_unit sums.hasher
-  pub part_joined : has_v2 kind ≡ true → fed_part ++ held_in sums.room ≡ part
+  pub fed : HasFedUnit kind piece_length fed_bytes fed_unit sums.hasher
+  pub bytes_joined : has_v2 kind ≡ true → fed_bytes ++ held_in sums.room ≡ bytes
   pub unit_joined : has_v1 kind ≡ true → fed_unit ++ held_in sums.room ≡ unit
 
--- how many bytes of the present part were taken
+-- how many bytes of files were taken of the present unit
 abbrev pub begun_of : WorkerSums → ℕ
 begun_of sums = sums.begun
 
@@ -29,8 +29,8 @@ pub record IsFresh (plan : PlanFacts) (sums : WorkerSums) : Type 0 where
 -- whatever was taken before, the same was taken now
 abbrev pub Keeps : WorkerSums → WorkerSums → Type 0
 Keeps old new =
-    (kind : Kind) (piece_length : ℕ) (part unit : List ℕ) → HasTaken kind piece_length part unit old
-    → HasTaken kind piece_length part unit new
+    (kind : Kind) (piece_length : ℕ) (bytes unit : List ℕ) → HasTaken kind piece_length bytes unit old
+    → HasTaken kind piece_length bytes unit new
 
 -- so many bytes were read and taken; of a steady source they are those that it has there
 pub record TakesMore {F : Type 0} (is_steady : SourceFacts F → Type 0) (file start count : ℕ)
@@ -39,5 +39,5 @@ pub record TakesMore {F : Type 0} (is_steady : SourceFacts F → Type 0) (file s
   pub counted : length bytes ≡ count
   pub steady : (facts : SourceFacts F) → is_steady facts → 0 < length (bytes_from facts file start)
       → bytes ≡ take count (bytes_from facts file start)
-  pub taken : (kind : Kind) (piece_length : ℕ) (part unit : List ℕ) → HasTaken kind piece_length part unit old
-      → HasTaken kind piece_length (part ++ bytes) (unit ++ bytes) new
+  pub taken : (kind : Kind) (piece_length : ℕ) (before unit : List ℕ) → HasTaken kind piece_length before unit old
+      → HasTaken kind piece_length (before ++ bytes) (unit ++ bytes) new

@@ -1,4 +1,4 @@
-use Rattle.std.proofs.Common.{◌≡◌, ◌∙◌, true, false, rules, inr}
+use Rattle.std.proofs.Common.{◌≡◌, ◌∙◌, true, false, rules}
 use Rattle.tor_bencode.specs.View.{view}
 use Rattle.tor_check.proofs.Bounds.{small_listed}
 use Rattle.tor_check.proofs.Hybrids.{at_differ, at_end, at_alignment, tells_differ, tells_alignment}
@@ -23,7 +23,7 @@ returns-then-files_differ-clause-refused c =
     let v2 : has_v2 (kind_of info) ≡ true = search rules in
     let listed = c.deref.ensures.value ∙ c.requires.sides.listed in
     let files = c.deref-2.ensures.value ∙ c.requires.sides.files in
-    inr (at_differ info v1 v2 (tells_differ info _ _ true v1 v2 listed files c.if-files_differ.ensures))
+    at_differ info v1 v2 (tells_differ info _ _ true v1 v2 listed files c.if-files_differ.ensures)
 
 pub returns-then-lies_elsewhere-clause-refused : goal.returns-then-lies_elsewhere-clause-refused
 returns-then-lies_elsewhere-clause-refused c =
@@ -33,8 +33,8 @@ returns-then-lies_elsewhere-clause-refused c =
     let listed = c.deref.ensures.value ∙ c.requires.sides.listed in
     let files = c.deref-2.ensures.value ∙ c.requires.sides.files in
     let again = c.deref-3.ensures.value ∙ c.requires.sides.listed in
-    inr (at_alignment info v1 v2 (tells_differ info _ _ false v1 v2 listed files c.if-files_differ.ensures)
-    (tells_alignment info _ _ true v1 again c.requires.piece_length c.if-lies_elsewhere.ensures))
+    at_alignment info v1 v2 (tells_differ info _ _ false v1 v2 listed files c.if-files_differ.ensures)
+    (tells_alignment info _ _ true v1 again c.requires.piece_length c.if-lies_elsewhere.ensures)
 
 pub returns-clause-accepted : goal.returns-clause-accepted
 returns-clause-accepted c =

@@ -50,3 +50,7 @@ returns-in-Some-clause-first c =
     let long = tells_long info files false c.requires.read c.if-has_long.ensures in
     after_sizes info c.requires.shaped positive none long
     (rw (sym (tells_size info files c.requires.read)) c.in-Some.ensures.0)
+
+pub returns-in-Err-clause-memory : goal.returns-in-Err-clause-memory
+returns-in-Err-clause-memory c =
+    λ _. tells_negative (view c.args.info.now) c.args.files.now false c.requires.read c.if-has_negative.ensures

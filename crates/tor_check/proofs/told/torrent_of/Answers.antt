@@ -17,7 +17,7 @@ returns c =
       head.is_private,
       c.in_ok-files.ensures,
       entries,
-      c.in_ok-pieces.ensures,
+      c.in_ok-pieces.ensures.pieces,
       head.info,
       c.requires.span,
       c.piece_count-piece_count.ensures,
@@ -25,4 +25,9 @@ returns c =
 
 pub invariant_of-result : goal.invariant_of-result
 invariant_of-result c =
-    record { tree = view c.args.root.now; accepted = c.requires.accepted; described = returns c }
+    record {
+      tree = view c.args.root.now;
+      lawful = c.requires.lawful;
+      accepted = c.requires.accepted;
+      described = returns c;
+    }

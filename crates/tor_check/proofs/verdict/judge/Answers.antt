@@ -1,6 +1,7 @@
-use Rattle.std.proofs.Common.{◌≡◌, None, subst}
+use Rattle.std.proofs.Common.{◌≡◌, None, inr, subst}
 use Rattle.tor_bencode.specs.View.{view}
 use Rattle.tor_check.proofs.HeadFacts.{allowed}
+use Rattle.tor_check.proofs.NoneHolds.{before_memory}
 use Rattle.tor_check.proofs.Stages.{at_end, at_head, at_layers, at_alignment, at_sides}
 use Rattle.tor_check.specs.Judged.{IsFirst, first_of_alignment}
 use Rattle.tor_check.specs.Sides.{first_of_both}
@@ -34,7 +35,7 @@ returns-in-Err-judge_layers-clause-refused c =
     let sides =
     subst (λ info. first_of_both info ≡ None) c.in-Ok.ensures.read.info c.in-Ok-read_sides.ensures.accepted in
     at_layers (view c.args.root.now) c.in-Err-judge_layers.refusal c.in-Ok.ensures.accepted sides
-    c.in-Err-judge_layers.ensures.refused
+    (inr c.in-Err-judge_layers.ensures.refused)
 
 pub returns-in-Err-judge_alignment-clause-refused : goal.returns-in-Err-judge_alignment-clause-refused
 returns-in-Err-judge_alignment-clause-refused c =
@@ -43,7 +44,7 @@ returns-in-Err-judge_alignment-clause-refused c =
     subst (λ info. first_of_both info ≡ None) c.in-Ok.ensures.read.info c.in-Ok-read_sides.ensures.accepted in
     let misaligned =
     subst (λ info. IsFirst (first_of_alignment info) refusal) c.in-Ok.ensures.read.info
-    c.in-Err-judge_alignment.ensures.refused in
+    (inr c.in-Err-judge_alignment.ensures.refused) in
     at_alignment (view c.args.root.now) refusal c.in-Ok.ensures.accepted sides c.in_default.ensures.accepted misaligned
 
 -- no condition holds where all judges passed
@@ -60,3 +61,11 @@ torrent_of-requires-clause-accepted c =
 
 pub returns-clause-accepted : goal.returns-clause-accepted
 returns-clause-accepted c = none_holds (goal.at.returns-clause-accepted c).In_default-judge_alignment
+
+pub returns-in-Err-judge_alignment-clause-memory : goal.returns-in-Err-judge_alignment-clause-memory
+returns-in-Err-judge_alignment-clause-memory c =
+    λ _. before_memory (view c.args.root.now) c.in-Ok.ensures.accepted
+
+pub returns-in_err-torrent-clause-memory : goal.returns-in_err-torrent-clause-memory
+returns-in_err-torrent-clause-memory c =
+    λ _. before_memory (view c.args.root.now) c.in-Ok.ensures.accepted

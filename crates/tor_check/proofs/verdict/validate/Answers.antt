@@ -1,6 +1,6 @@
 use Rattle.std.proofs.Common.{subst}
 use Rattle.tor_bencode.specs.View.{view}
-use Rattle.tor_check.proofs.Refused.{refused_for}
+use Rattle.tor_check.proofs.Refused.{memory_alone, refused_for}
 use Rattle.tor_check.specs.Judged.{IsFirst}
 use Rattle.tor_spec.specs.valid.Conditions.{refusal_of}
 use Rattle.tor_check.proofs.verdict.validate.Goals as goal
@@ -11,3 +11,10 @@ returns-clause-refused c =
     let first =
     subst (λ root. IsFirst (refusal_of (view root)) refusal) c.item.ensures.same c.in-Err-judge.ensures.refused in
     refused_for c.args.bytes.now (view c.in-Ok.tree) refusal c.in-Ok.ensures.tree.0 c.in-Ok.ensures.tree.1 first
+
+pub returns-clause-only : goal.returns-clause-only
+returns-clause-only c = λ valid.
+    let refusal = c.in-Err-judge.refusal in
+    let first =
+    subst (λ root. IsFirst (refusal_of (view root)) refusal) c.item.ensures.same c.in-Err-judge.ensures.refused in
+    memory_alone c.args.bytes.now (view c.in-Ok.tree) refusal c.in-Ok.ensures.tree.0 c.in-Ok.ensures.tree.1 first valid

@@ -1,17 +1,19 @@
--- the bytes that come next
-use Rattle.std.proofs.Common.{◌≡◌, ℕ, inl, inr, subst, arith}
+-- the bytes that come next, and the zeros after them
+use Rattle.std.proofs.Common.{◌≡◌, ℕ, ◌++◌, append_assoc, inl, inr, ap, subst, sym, ◌∙◌, arith}
+use Rattle.tor_v1.specs.Piece.{zeros}
 use Rattle.tor_engine.specs.Fault.{byte_fault}
 use Rattle.tor_engine.specs.steps.Reads.{TakesPart}
 use Rattle.tor_engine.proofs.FirstOf.{first_of_none}
-use Rattle.tor_engine.proofs.PartBytes.{no_fault, read_fault, some_left}
+use Rattle.tor_engine.proofs.PartBytes.{fed_as, no_fault, read_fault, some_left}
 use Rattle.tor_engine.proofs.PartReads.{takes_more, takes_none}
+use Rattle.tor_engine.proofs.Parts.{part_bytes}
 use Rattle.tor_engine.proofs.reading.read_part.Goals as goal
 
 pub reads-init : goal.reads-init
 reads-init g c = record {
   within = omega arith;
   begun = omega arith;
-  taken = takes_none (g.S.Source.is_steady c.args.source.now) c.args.part.now c.args.sums.now;
+  taken = takes_none (g.S.FileBytes.is_steady c.args.source.now) c.args.part.now c.args.sums.now;
   fault = λ facts steady long. first_of_none (byte_fault facts c.args.part.now.file);
 }
 
@@ -24,8 +26,8 @@ reads-preserved g c =
     record {
       within = omega (arith, c.in-Ok.ensures.some.1);
       begun = omega (arith, c.in-Ok.ensures.begun, old.begun);
-      taken = takes_more (g.S.Source.is_steady c.args.source.now) part c.args.sums.now done c.in-Ok.count c.reads.sums
-          c.read.new.self read.bytes old.taken read.counted
+      taken = takes_more (g.S.FileBytes.is_steady c.args.source.now) part c.args.sums.now done c.in-Ok.count
+          c.reads.sums c.read.new.self read.bytes old.taken read.counted
           (λ facts steady long. read.steady facts steady
           (some_left facts part.file part.start done part.length c.reads-test.true long))
           read.taken;
@@ -46,8 +48,24 @@ returns-in-Err-clause-fault g c = λ facts steady long.
           c.reads-test.true (c.reads.invariant.fault facts steady long) fault)
     ]
 
-pub returns-clause-taken : goal.returns-clause-taken
-returns-clause-taken g c =
-    let all : c.reads.done ≡ c.args.part.now.length = omega (arith, c.reads.invariant.within, c.reads-test.false) in
-    subst (λ (n : ℕ). TakesPart (g.S.Source.is_steady c.args.source.now) c.args.part.now n c.args.sums.now c.reads.sums)
-    all c.reads.invariant.taken
+pub returns-clause-added : goal.returns-clause-added
+returns-clause-added g c = λ plan is.
+    let part = c.args.part.now in
+    let p = plan.piece_length in
+    let is_steady = g.S.FileBytes.is_steady c.args.source.now in
+    let all : c.reads.done ≡ part.length = omega (arith, c.reads.invariant.within, c.reads-test.false) in
+    let read = subst (λ (n : ℕ). TakesPart is_steady part n c.args.sums.now c.reads.sums) all
+    c.reads.invariant.taken in
+    let bytes = read.bytes in
+    record {
+      bytes = bytes;
+      counted = read.counted;
+      steady = λ facts steady have. sym (read.steady facts steady have ∙ part_bytes facts plan part is);
+      begun = omega (arith, all, c.in_ok-feed_zeros.ensures.begun, c.reads.invariant.begun);
+      taken = λ contents before unit own given.
+          fed_as plan.kind p _ (before ++ bytes) _ ((unit ++ bytes) ++ zeros part.zeros) _
+          (ap (λ xs. before ++ xs) (sym own))
+          (append_assoc unit bytes (zeros part.zeros) ∙ ap (λ xs. unit ++ (xs ++ zeros part.zeros)) (sym own))
+          (c.in_ok-feed_zeros.ensures.taken plan.kind p (before ++ bytes) (unit ++ bytes)
+          (read.taken plan.kind p before unit given));
+    }

@@ -10,8 +10,8 @@ abbrev pub invariant-reads : goal.invariant-reads
 invariant-reads g l = record {
   within : l.done ≤ l.part.length;
   begun : l.sums.begun ≡ l.initial.sums.begun + l.done;
-  taken : TakesPart (g.S.Source.is_steady l.source) l.part l.done l.initial.sums l.sums;
-  fault : (facts : SourceFacts g.row.S-Fault.Denot) → g.S.Source.is_steady l.source facts →
+  taken : TakesPart (g.S.FileBytes.is_steady l.source) l.part l.done l.initial.sums l.sums;
+  fault : (facts : SourceFacts g.row.S-Fault.Denot) → g.S.FileBytes.is_steady l.source facts →
       l.part.length ≤ length (bytes_from facts l.part.file l.part.start) →
       first_of (byte_fault facts l.part.file) (range_with_len l.part.start l.done) ≡ None;
 }

@@ -1,46 +1,70 @@
 -- one unit after the other
-use Rattle.std.proofs.Common.{inl, inr, ap, sym, ◌∙◌}
-use Rattle.tor_engine.specs.Fault.{unit_fault}
-use Rattle.tor_engine.proofs.FirstOf.{first_at, first_next, first_of_none}
-use Rattle.tor_engine.proofs.Parts.{unit_there}
-use Rattle.tor_engine.proofs.UnitRuns.{units_more, units_none}
+use Rattle.std.proofs.Common.{List, [], ◌∷◌, ◌++◌, take, inl, inr, subst, sym, ap, ◌∙◌}
+use Rattle.std.proofs.lemmas.List.{take_all, take_more}
+use Rattle.tor_plan.specs.declared.units.PlanUnit.{PlanUnit}
+use Rattle.tor_engine.specs.steps.Failing.{failure_of}
+use Rattle.tor_engine.proofs.Failing.{all_hold, fails_here, next_holds}
+use Rattle.tor_engine.proofs.FirstOf.{first_of_none}
+use Rattle.tor_engine.proofs.Shares.{refused}
 use Rattle.tor_engine.proofs.turn.hash_in_turn.Goals as goal
+
+pub returns-in_err-worker : goal.returns-in_err-worker
+returns-in_err-worker g c =
+    let w = g.W.UnitWork in
+    refused w.sums_up w.is_steady w.fault w.gave c.args.work.now c.args.first c.args.units.now c.from_residual.result
+    c.from_residual.ensures.1 (g.met.W.UnitWork.may_refuse c.args.work.now)
 
 pub units-init : goal.units-init
 units-init g c = record {
-  fresh = c.in_ok-sums.ensures;
-  hashed = units_none (g.S.Source.is_steady c.args.source.now) c.args.plan.now c.none-run_sums.result
-      c.none-run_sums.ensures.hashes c.none-run_sums.ensures.pieces;
-  faultless = λ facts steady fit. first_of_none (unit_fault facts);
+  fresh = c.in_ok-worker.ensures.fresh;
+  summed = c.in_ok-worker.ensures.none;
+  faultless = λ facts steady. first_of_none (failure_of (g.W.UnitWork.fault c.args.work.now facts));
 }
-
-pub units-preserved : goal.units-preserved
-units-preserved g c =
-    let units = c.args.units.now in
-    let i = c.units.unit-index in
-    let old = c.units.invariant in
-    let here = sym c.unit-item.is in
-    record {
-      fresh = c.in-Ok.ensures.fresh;
-      hashed = units_more (g.S.Source.is_steady c.args.source.now) c.args.plan.now units i _ c.unit-item.result
-          c.units.run_sums
-          c.hash_unit.new.run_sums c.units-test.true here old.hashed c.in-Ok.ensures.added;
-      faultless = λ facts steady fit.
-          first_next (unit_fault facts) units i _ c.units-test.true (old.faultless facts steady fit)
-          (ap (unit_fault facts) here ∙ c.in-Ok.ensures.fault facts steady
-          (unit_there facts c.args.plan.now fit units i _ c.unit-item.result c.units-test.true here c.requires.units));
-    }
 
 pub returns-in-Err : goal.returns-in-Err
 returns-in-Err g c = record {
   summed = _;
-  steady = λ facts steady fit. elim (c.in-Err.ensures.fault facts steady
-      (unit_there facts c.args.plan.now fit c.args.units.now c.units.unit-index _ c.unit-item.result
-      c.units-test.true (sym c.unit-item.is) c.requires.units)) [
-        | inl memory ↦ inl memory
-        | inr fault ↦ inr (first_at (unit_fault facts) c.args.units.now c.units.unit-index _ c.in-Err.error
-            c.units-test.true (c.units.invariant.faultless facts steady fit)
-            (ap (unit_fault facts) (sym c.unit-item.is) ∙ fault))
-      ];
-  given = c.in-Err.ensures.gave;
+  steady = λ facts steady. elim (c.in-Err.ensures.fault facts steady) [
+    | inl memory ↦ inl memory
+    | inr fault ↦ inr (fails_here (g.W.UnitWork.fault c.args.work.now facts) c.args.first c.args.units.now c.units.index
+        _ c.index-units-index.result c.units-test.true (sym c.index-units-index.is)
+        (c.units.invariant.faultless facts steady) c.in-Err.error fault)
+  ];
+  gave = c.in-Err.ensures.gave;
 }
+
+pub returns-in_err-append : goal.returns-in_err-append
+returns-in_err-append g c =
+    let w = g.W.UnitWork in
+    refused w.sums_up w.is_steady w.fault w.gave c.args.work.now c.args.first c.args.units.now
+    c.from_residual-in_err-append.result c.from_residual-in_err-append.ensures.1
+    (g.met.W.UnitWork.may_refuse c.args.work.now)
+
+pub units-preserved : goal.units-preserved
+units-preserved g c =
+    let work = c.args.work.now in
+    let units = c.args.units.now in
+    let i = c.units.index in
+    let unit = c.index-units-index.result in
+    let here = sym c.index-units-index.is in
+    record {
+      fresh = c.in-Ok.ensures.fresh;
+      summed = subst (λ (us : List PlanUnit). g.W.UnitWork.sums_up work us c.append.new.sums)
+          (ap (λ u. take i units ++ u ∷ []) c.index-units-index.is ∙ sym (take_more units i _ c.units-test.true))
+          (c.in_ok-append.ensures work (take i units) (unit ∷ []) c.units.invariant.summed c.in-Ok.ensures.summed);
+      faultless = λ facts steady.
+          next_holds (g.W.UnitWork.fault work facts) c.args.first units i _ unit c.units-test.true here
+          (c.units.invariant.faultless facts steady) (c.in-Ok.ensures.fault facts steady);
+    }
+
+pub returns : goal.returns
+returns g c =
+    let units = c.args.units.now in
+    record {
+      summed = subst (λ (us : List PlanUnit). g.W.UnitWork.sums_up c.args.work.now us c.units.sums)
+          (take_all c.units.index units c.units-test.false) c.units.invariant.summed;
+      steady = λ facts steady.
+          all_hold (g.W.UnitWork.fault c.args.work.now facts) c.args.first units c.units.index c.units-test.false
+          (c.units.invariant.faultless facts steady);
+      gave = _;
+    }

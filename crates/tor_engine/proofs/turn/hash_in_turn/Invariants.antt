@@ -1,16 +1,16 @@
--- the sums of the units so far, of which no byte fails
+-- the sums of the units so far, of which none fails
 use Rattle.std.proofs.Common.{◌≡◌, None, take}
+use Rattle.std.specs.List.{enumerate_from}
 use Rattle.tor_source.specs.Source.{SourceFacts}
-use Rattle.tor_engine.specs.Fault.{first_of, unit_fault}
-use Rattle.tor_engine.specs.steps.Reads.{HasLengths}
-use Rattle.tor_engine.specs.steps.Run.{HashesUnits}
+use Rattle.tor_engine.specs.Fault.{first_of}
+use Rattle.tor_engine.specs.steps.Failing.{failure_of}
 use Rattle.tor_engine.specs.steps.Worker.{IsFresh}
 use Rattle.tor_engine.proofs.turn.hash_in_turn.Given as goal
 
 abbrev pub invariant-units : goal.invariant-units
 invariant-units g l = record {
-  fresh : IsFresh l.plan l.sums;
-  hashed : HashesUnits (g.S.Source.is_steady l.source) l.plan (take l.unit-index l.units) l.run_sums;
-  faultless : (facts : SourceFacts g.row.S-Fault.Denot) → g.S.Source.is_steady l.source facts →
-      HasLengths l.plan facts → first_of (unit_fault facts) (take l.unit-index l.units) ≡ None;
+  fresh : IsFresh (g.W.UnitWork.plan l.work) l.worker;
+  summed : g.W.UnitWork.sums_up l.work (take l.index l.units) l.sums;
+  faultless : (facts : SourceFacts g.row.W-Fault.Denot) → g.W.UnitWork.is_steady l.work facts →
+      first_of (failure_of (g.W.UnitWork.fault l.work facts)) (take l.index (enumerate_from l.first l.units)) ≡ None;
 }

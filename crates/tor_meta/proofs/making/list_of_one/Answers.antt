@@ -4,7 +4,5 @@ use Rattle.tor_meta.proofs.making.list_of_one.Goals as goal
 
 pub returns-in-Ok-clause-list : goal.returns-in-Ok-clause-list
 returns-in-Ok-clause-list c =
-    let path : c.in-Some.path ≡ c.args.name.now ∷ [] =
-    rw (c.in_ok-vec.ensures.items, c.in_ok-copy.ensures) at c.in-Some.ensures.0 in
     only_one (c.args.name.now ∷ [], c.args.length) c.in-Ok.list
-    (rw (c.in_ok-vec-2.ensures.items, path) at c.in-Ok.ensures.same_files)
+    (rw (c.in_ok-vec.ensures.items, c.in_ok-path.ensures) at c.in-Ok.ensures.same_files)

@@ -1,6 +1,6 @@
 -- few hashes have few levels
 use Rattle.std.proofs.Common.{length, arith}
-use Rattle.tor_merkle.proofs.Height.{height_least}
+use Rattle.tor_merkle.proofs.ProvedLaws.{height_least}
 use Rattle.tor_tests_hashes.proofs.piece_proofs.proof_of.Goals as goal
 
 pub prove-requires : goal.prove-requires

@@ -1,9 +1,11 @@
-use Rattle.std.proofs.Common.{◌≡◌, false, subst, inl, inr, ⊎_elim, arith}
+use Rattle.std.proofs.Common.{◌≡◌, ◌∙◌, true, false, ap, subst, inl, inr, ⊎_elim, arith, Err}
 use Rattle.std.proofs.lemmas.Result.{err_from_is_err_and}
 use Rattle.tor_bencode.specs.Data.{pair, no_pairs}
 use Rattle.tor_bencode.specs.View.{view}
-use Rattle.tor_tree.specs.FileTree.{are_entries}
-use Rattle.tor_tree.proofs.WalkSteps.{not_shaped, shaped_to_end, added_to_end}
+use Rattle.tor_tree.specs.FileTree.{are_entries, takes_memory_in}
+use Rattle.tor_tree.specs.declared.tree_file.TreeFault.TheVariants.{Memory}
+use Rattle.tor_tree.proofs.WalkSteps.{added_to_end, entries_go_on, first_shaped, not_shaped, shape_goes_on}
+use Rattle.tor_tree.proofs.WalkSteps.{shaped_takes, shaped_to_end, taken_here}
 use Rattle.tor_tree.proofs.entries.+walk.Goals as goal
 
 pub add_folder-returns-in_err-add_pair-clause-refused : goal.add_folder-returns-in_err-add_pair-clause-refused
@@ -31,3 +33,38 @@ add_folder-returns-clause-added t c =
     added_to_end c.args.item.now c.in-Dict.pairs c.in-Dict.is c.deref-key-items.result.now
     c.deref-key-items.ensures.value c.loop-key.key-index c.loop-key.invariant.2 c.args.folder.now.items
     c.args.entries.now.items c.loop-key.entries.items (omega arith) c.loop-key.invariant.1
+
+pub add_folder-returns-in_err-add_pair-clause-memory : goal.add_folder-returns-in_err-add_pair-clause-memory
+add_folder-returns-in_err-add_pair-clause-memory t c = λ is.
+    let p = err_from_is_err_and c.from_residual.result c.from_residual.ensures.1 in
+    let item = c.loop-key-item.result in
+    let told = p.1 in
+    let same = p.2 in
+    let refused : c.in_err-add_pair.field-0.0 ≡ Memory = cc in
+    let taken = c.in_err-add_pair.ensures.memory (ap Err refused) in
+    taken_here c.args.item.now c.in-Dict.pairs c.in-Dict.is c.deref-key-items.result.now
+    c.deref-key-items.ensures.value c.loop-key.key-index c.loop-key.invariant.2 item (omega arith) c.loop-key-item.is
+    (subst (λ key. takes_memory_in (pair key (view item.1) no_pairs) ≡ true) c.deref.ensures.value taken)
+    c.loop-key.invariant.3
+
+pub add_folder-loop-key-preserved : goal.add_folder-loop-key-preserved
+add_folder-loop-key-preserved t c =
+    let item = c.loop-key-item.result in
+    let items = c.deref-key-items.result.now in
+    let i = c.loop-key.key-index in
+    let folder = c.args.folder.now.items in
+    let key : c.deref.result.now ≡ item.0.items = c.deref.ensures.value in
+    let stays = c.loop-key.invariant.0 in
+    let shaped : are_entries (pair item.0.items (view item.1) no_pairs) ≡ true =
+    subst (λ key. are_entries (pair key (view item.1) no_pairs) ≡ true) key c.in_ok-add_pair.ensures.shaped in
+    let added = rw (key, stays) at c.in_ok-add_pair.ensures.added in (
+      c.in_ok-add_pair.ensures.folder_stays ∙ stays,
+      entries_go_on c.args.item.now c.in-Dict.pairs c.in-Dict.is items c.deref-key-items.ensures.value i
+          c.loop-key.invariant.2 folder item c.loop-key.entries.items _ _ (omega arith) c.loop-key-item.is added
+          c.loop-key.invariant.1,
+      shape_goes_on c.args.item.now c.in-Dict.pairs c.in-Dict.is items c.deref-key-items.ensures.value i
+          c.loop-key.invariant.2 item (omega arith) c.loop-key-item.is shaped,
+      λ _. first_shaped c.args.item.now c.in-Dict.pairs c.in-Dict.is items c.deref-key-items.ensures.value i
+          c.loop-key.invariant.2 item (omega arith) c.loop-key-item.is
+          (shaped_takes item.0.items (view item.1) shaped) c.loop-key.invariant.3,
+    )

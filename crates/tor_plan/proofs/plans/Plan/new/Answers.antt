@@ -28,8 +28,11 @@ trees_of-requires c =
     record {
       whole = whole;
       few = subst (λ (xs : List ℕ). sum_by (λ m. div_ceil m size) xs < 2 ^ 64) (sym lengths)
-          (few_units entries size (files_are_list kind p files c.files-files.ensures.lawful c.requires.pieces).total
-          (omega (arith, whole)));
+          (omega (
+            arith,
+            few_units entries size (files_are_list kind p files c.files-files.ensures.lawful c.requires.pieces).total
+                (omega (arith, whole)),
+          ));
     }
 
 pub invariant_of-result : goal.invariant_of-result

@@ -20,5 +20,5 @@ trees_of-requires c =
     record {
       whole = whole;
       few = subst (λ (xs : List ℕ). sum_by (λ m. div_ceil m size) xs < 2 ^ 64) (sym lengths)
-          (few_units entries size c.requires.entries.total (omega (arith, whole)));
+          (omega (arith, few_units entries size c.requires.entries.total (omega (arith, whole))));
     }

@@ -1,0 +1,58 @@
+-- one piece after the other
+use Rattle.std.proofs.Common.{length, inl, inr, ap, ap₂, arith, [], ◌∷◌, ◌++◌, map, take, sym, ◌∙◌}
+use Rattle.std.proofs.lemmas.List.{length-append, map-append, take_more}
+use Rattle.tor_plan.specs.Pieces.{pieces_of_unit}
+use Rattle.tor_engine.specs.Contents.{contents_in}
+use Rattle.tor_engine.specs.PieceFault.{piece_fault, pieces_fault}
+use Rattle.tor_engine.specs.PieceHashes.{hash_if_there}
+use Rattle.tor_engine.proofs.FirstOf.{first_at, first_next, first_of_none}
+use Rattle.tor_engine.proofs.piece_work.PieceWorkUnitWork.hash.Goals as goal
+
+pub returns-in-Err-clause-fault : goal.returns-in-Err-clause-fault
+returns-in-Err-clause-fault g c = λ facts steady.
+    let contents = contents_in facts (length c.args.self.now.plan.now.lengths) in
+    elim (c.in-Err.ensures.hashed facts steady.0 steady.1) [
+      | inl memory ↦ inl memory
+      | inr fault ↦ inr (ap (λ p. pieces_fault facts contents (pieces_of_unit p c.args.unit.now))
+          (sym c.piece_length.ensures)
+          ∙ ap (pieces_fault facts contents) (sym (c.as_slice-piece-items.ensures.value ∙ c.in_ok-pieces.ensures))
+          ∙ first_at (piece_fault facts contents) c.as_slice-piece-items.result.now c.pieces.piece-index _
+          c.in-Err.error c.pieces-test.true (c.pieces.invariant.hashed facts steady.0 steady.1).1
+          (ap (piece_fault facts contents) (sym c.piece-item.is) ∙ fault))
+    ]
+
+pub pieces-init : goal.pieces-init
+pieces-init g c = record {
+  fresh = c.requires.fresh;
+  hashed = λ facts steady told. (
+    c.new-hashes.ensures.items,
+    first_of_none (piece_fault facts (contents_in facts (length c.args.self.now.plan.now.lengths))),
+  );
+  counted = ap length c.new-hashes.ensures.items;
+}
+
+pub pieces-preserved : goal.pieces-preserved
+pieces-preserved g c = record {
+  fresh = c.in-Ok.ensures.fresh;
+  hashed = λ facts steady told.
+      let plan = c.args.self.now.plan.now in
+      let contents = contents_in facts (length plan.lengths) in
+      let hash = hash_if_there plan contents in
+      let pieces = c.as_slice-piece-items.result.now in
+      let i = c.pieces.piece-index in
+      let before = c.pieces.invariant.hashed facts steady told in
+      let one = c.in-Ok.ensures.hashed facts steady told in (
+        c.in_ok-push.ensures.items
+            ∙ ap₂ (λ hashes last. hashes ++ last ∷ []) before.0 (one.0 ∙ ap hash c.piece-item.is)
+            ∙ sym (map-append hash (take i pieces) (_ ∷ []))
+            ∙ ap (map hash) (sym (take_more pieces i _ c.pieces-test.true)),
+        first_next (piece_fault facts contents) pieces i _ c.pieces-test.true before.1
+            (ap (piece_fault facts contents) (sym c.piece-item.is) ∙ one.1),
+      );
+  counted = omega (
+    arith,
+    c.pieces.invariant.counted,
+    ap length c.in_ok-push.ensures.items,
+    length-append c.pieces.hashes.items (c.in-Ok.hash ∷ []),
+  );
+}

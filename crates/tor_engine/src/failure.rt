@@ -1,0 +1,44 @@
+//! Why workers stop, and what is answered of two of them.
+ghost use Rattle.std.specs.Prelude.{◌≡◌, ◌⊎◌, ◌↔◌, IsTrue, min};
+ghost use Rattle.tor_engine.specs.declared.errors.EngineError.TheVariants.{Resources};
+
+use crate::errors::EngineError;
+use std::alloc::AllocError;
+
+/// Why a worker stopped.
+#[derive(Drop)]
+pub(crate) struct Failure<F> {
+    /// The number of the unit that failed; of no meaning where resources were refused.
+    pub(crate) unit: u64,
+    pub(crate) error: EngineError<F>,
+}
+
+impl<F> From<AllocError> for Failure<F> {
+    ghost from_gives = { λ _ failure. failure.error ≡ Resources };
+
+    fn from(_error: AllocError) -> Failure<F> {
+        Failure {
+            unit: 0,
+            error: EngineError::Resources,
+        }
+    }
+}
+
+/// What is answered where two workers stopped: want of resources before all, else the fault of the lesser unit.
+pub(crate) fn least<F: Drop>(one: Failure<F>, other: Failure<F>) -> Failure<F>
+    ensures either { (result ≡ one) ⊎ (result ≡ other) }
+    ensures resources { (one.error ≡ Resources) ⊎ (other.error ≡ Resources) → result.error ≡ Resources }
+    ensures lesser { (result.error ≡ Resources) ⊎ (result.unit ≡ min one.unit other.unit) }
+{
+    if is_resources(&one.error) || (!is_resources(&other.error) && one.unit <= other.unit) {
+        one
+    } else {
+        other
+    }
+}
+
+fn is_resources<F>(error: &EngineError<F>) -> bool
+    ensures { IsTrue result ↔ (error.now ≡ Resources) }
+{
+    matches!(error, EngineError::Resources)
+}

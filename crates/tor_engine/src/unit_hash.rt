@@ -1,0 +1,45 @@
+//! One unit read and hashed.
+ghost use Rattle.std.specs.Prelude.{◌≡◌, None, IfErr, IfOk, MatchResult, length};
+ghost use Rattle.tor_plan.specs.PlanFacts.{IsPlan};
+ghost use Rattle.tor_source.specs.Source.{SourceFacts};
+ghost use Rattle.tor_engine.specs.Fault.{IsFault, IsGivenNotMissing, unit_fault};
+ghost use Rattle.tor_engine.specs.steps.Reads.{HasParts};
+ghost use Rattle.tor_engine.specs.steps.Run.{HashesUnit, IsUnitOf};
+ghost use Rattle.tor_engine.specs.steps.Worker.{IsFresh};
+
+use crate::errors::EngineError;
+use crate::file_bytes::FileBytes;
+use crate::hasher::Hashed;
+use crate::reading::read_part;
+use crate::worker::WorkerSums;
+use std::alloc::Global;
+use tor_plan::{Plan, PlanUnit};
+
+/// What the bytes of one unit hash to.
+pub(crate) fn hash_unit<S: FileBytes>(
+    alloc: Global,
+    source: &S,
+    plan: &Plan,
+    unit: &PlanUnit,
+    sums: &mut WorkerSums,
+) -> Result<Hashed, EngineError<S::Fault>>
+    requires planned { IsPlan plan.now }
+    requires unit { IsUnitOf plan.now unit.now }
+    requires fresh { IsFresh plan.now sums.old }
+    ensures fresh { IfOk result (λ _. IsFresh plan.now sums.new) }
+    ensures hashed { IfOk result (HashesUnit (S.is_steady source.now) plan.now unit.now) }
+    ensures fault { (facts : SourceFacts S.Fault) → S.is_steady source.now facts → HasParts facts unit.now.parts →
+        MatchResult result (λ _. unit_fault facts unit.now ≡ None) (IsFault (unit_fault facts unit.now)) }
+    ensures gave { IfErr result (IsGivenNotMissing (S.gave source.now) (length plan.now.lengths)) }
+{
+    sums.feed_zeros(unit.zeros)?;
+    let parts = unit.parts.as_slice();
+    'each: for part in parts {
+        match read_part(source, part, sums) {
+            Ok(()) => {}
+            Err(error) => return Err(error),
+        }
+    }
+    let hashed = sums.end_unit(alloc, plan)?;
+    Ok(hashed)
+}

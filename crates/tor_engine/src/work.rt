@@ -1,0 +1,74 @@
+//! What a worker does with each of its units.
+ghost use Rattle.std.specs.Prelude.{◌≡◌, ◌++◌, ◌∷◌, [], List, None, Option, IfErr, IfOk, MatchResult, OnOk};
+ghost use Rattle.tor_plan.specs.PlanFacts.{PlanFacts};
+ghost use Rattle.tor_plan.specs.declared.units.PlanUnit.{PlanUnit};
+ghost use Rattle.tor_source.specs.Source.{SourceFacts};
+ghost use Rattle.tor_engine.specs.Fault.{IsFault};
+ghost use Rattle.tor_engine.specs.declared.errors.EngineError.{EngineError};
+ghost use Rattle.tor_engine.specs.declared.errors.EngineError.TheVariants.{Resources};
+ghost use Rattle.tor_engine.specs.steps.Worker.{IsFresh};
+
+use crate::errors::EngineError;
+use crate::worker::WorkerSums;
+use std::alloc::AllocError;
+use std::fmt::Debug;
+use tor_plan::PlanUnit;
+
+/// What a worker does with each of its units, and what comes of units that stand one after the other.
+pub(crate) trait UnitWork {
+    /// That of the source.
+    type Fault: Debug + Drop;
+
+    /// What units sum up to.
+    type Sums: Drop;
+
+    /// The plan of the units.
+    ghost plan: { Self → PlanFacts };
+
+    /// A worker can begin.
+    ghost may_begin: { Self → Type 0 };
+
+    /// The unit can be hashed.
+    ghost may_hash: { Self → PlanUnit → Type 0 };
+
+    /// The source is steady by these facts, and has what was told of it.
+    ghost is_steady: { Self → SourceFacts Self.Fault → Type 0 };
+
+    /// The first fault of a unit.
+    ghost fault: { Self → SourceFacts Self.Fault → PlanUnit → Option (EngineError Self.Fault) };
+
+    /// The units sum up to this.
+    ghost sums_up: { Self → List PlanUnit → Self.Sums → Type 0 };
+
+    /// The error may be answered: if it is a fault of the source, the source gave it.
+    ghost gave: { Self → EngineError Self.Fault → Type 0 };
+
+    /// What a worker begins with, and what no unit sums up to.
+    fn begin(&self) -> Result<(WorkerSums, Self::Sums), AllocError>
+        requires { may_begin self.now }
+        ensures fresh { IfOk result (λ begun. IsFresh (plan self.now) begun.0) }
+        ensures none { IfOk result (λ begun. sums_up self.now [] begun.1) };
+
+    /// What one unit sums up to.
+    fn hash(
+        &self,
+        unit: &PlanUnit,
+        worker: &mut WorkerSums,
+    ) -> Result<Self::Sums, EngineError<Self::Fault>>
+        requires begin { may_begin self.now }
+        requires unit { may_hash self.now unit.now }
+        requires fresh { IsFresh (plan self.now) worker.old }
+        ensures fresh { IfOk result (λ _. IsFresh (plan self.now) worker.new) }
+        ensures summed { IfOk result (sums_up self.now (unit.now ∷ [])) }
+        ensures fault { (facts : SourceFacts Self.Fault) → is_steady self.now facts →
+            MatchResult result (λ _. fault self.now facts unit.now ≡ None) (IsFault (fault self.now facts unit.now)) }
+        ensures gave { IfErr result (gave self.now) };
+
+    /// Puts the sums of the units that come next after these.
+    fn append(sums: &mut Self::Sums, next: &Self::Sums) -> Result<(), AllocError>
+        ensures { (work : Self) (first second : List PlanUnit) → sums_up work first sums.old →
+            sums_up work second next.now → OnOk result (sums_up work (first ++ second) sums.new) };
+
+    /// Want of resources may be answered.
+    ghost may_refuse: { (work : Self) → gave work Resources };
+}
