@@ -21,4 +21,6 @@ pub mod HashLengths
 pub mod ProofRoots
 pub mod Collisions
 pub mod Siblings
+pub mod RunRoots
+pub mod UnitRoots
 pub mod ProvedLaws

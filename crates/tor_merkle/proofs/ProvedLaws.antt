@@ -18,6 +18,8 @@ pub use Rattle.tor_merkle.proofs.HashLengths.{piece_roots_have_32_bytes, root_ha
 pub use Rattle.tor_merkle.proofs.Height.{height_covers, height_least}
 use Rattle.tor_merkle.proofs.Joined.{piece_roots-joined}
 use Rattle.tor_merkle.proofs.Lengths.{length_bounds, length_split, level_is, level_low}
+pub use Rattle.tor_merkle.proofs.RunRoots.{root_of_halves, root_of_one, root_of_whole}
+pub use Rattle.tor_merkle.proofs.UnitRoots.{root_over_units, subtree_over_pieces}
 use Rattle.tor_merkle.proofs.Units.{roots-units}
 use Rattle.tor_merkle.proofs.Power.{power_from_ones}
 use Rattle.tor_merkle.proofs.Sums.{padded_root-leaves}

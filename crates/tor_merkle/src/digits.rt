@@ -3,8 +3,8 @@
 ghost use Rattle.std.specs.Prelude.{◌≡◌, ◌*◌, ◌%◌, ◌^◌, ◌<◌, ◌≤◌};
 ghost use Rattle.tor_merkle.specs.Subtree.{height};
 
-// The least k with `count` at most 2^k.
-pub(crate) fn height_of(count: u64) -> u32
+/// The height of a tree over so many hashes: the least k with `count` at most 2^k.
+pub fn height_of(count: u64) -> u32
     requires { count ≤ 2 ^ 36 }
     ensures { result ≡ height count }
 {

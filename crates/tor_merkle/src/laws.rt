@@ -1,14 +1,14 @@
 //! Laws over the definitions alone.
 
-ghost use Rattle.std.specs.Prelude.{◌≡◌, ℕ, ◌+◌, ◌*◌, ◌-◌, ◌^◌, ◌<◌, ◌≤◌, ◌↔◌, IsTrue, All, List, [], ◌∷◌, ◌++◌};
-ghost use Rattle.std.specs.Prelude.{length, map};
+ghost use Rattle.std.specs.Prelude.{◌≡◌, ℕ, suc, ◌+◌, ◌*◌, ◌-◌, ◌^◌, ◌<◌, ◌≤◌, ◌↔◌, IsTrue, All, List, [], ◌∷◌, ◌++◌};
+ghost use Rattle.std.specs.Prelude.{length, map, slice_index_or};
 ghost use Rattle.std.specs.Int.{div_ceil, is_power_of_two};
 ghost use Rattle.std.specs.List.{flat_map, range_with_len};
 ghost use Rattle.tor_merkle.specs.Block.{run_at, leaves};
 ghost use Rattle.tor_merkle.specs.Layer.{IsPieceLength, pieces_root, piece_level, piece_roots, piece_layer};
 ghost use Rattle.tor_merkle.specs.Proof.{proof_count, proof_level};
 ghost use Rattle.tor_merkle.specs.Stack.{padded_root, padded_subtree};
-ghost use Rattle.tor_merkle.specs.Subtree.{height};
+ghost use Rattle.tor_merkle.specs.Subtree.{height, node_of, zero_subtree};
 
 use crate::{BLOCK_LENGTH, MAX_LENGTH, MAX_PIECE_LENGTH, MIN_PIECE_LENGTH};
 
@@ -84,6 +84,36 @@ pub fn proofs_are_low()
 pub fn heights_are_least()
     ensures covers { (n : ℕ) → n ≤ 2 ^ height n }
     ensures least { (n k : ℕ) → n ≤ 2 ^ k → height n ≤ k }
+{}
+
+/// The root over a run of hashes is the node of the roots over its halves; past the end stand zero subtrees.
+pub fn roots_of_runs()
+    ensures one { (level i : ℕ) (hashes : List (List ℕ)) →
+        padded_subtree 0 level (run_at 1 hashes i) ≡ slice_index_or hashes i (zero_subtree level) }
+    ensures halves { (level k i : ℕ) (hashes : List (List ℕ)) →
+        padded_subtree (suc k) level (run_at (2 ^ suc k) hashes i)
+        ≡ node_of (padded_subtree k level (run_at (2 ^ k) hashes (2 * i)))
+        (padded_subtree k level (run_at (2 ^ k) hashes (2 * i + 1))) }
+    ensures whole { (level : ℕ) (hashes : List (List ℕ)) →
+        padded_subtree (height (length hashes)) level (run_at (2 ^ height (length hashes)) hashes 0)
+        ≡ padded_root level hashes }
+{}
+
+/// A content that fits into a subtree has the root over its leaves that it has over the roots of its pieces of 2^j
+/// blocks, past whose end stand zero subtrees.
+pub fn subtrees_over_pieces()
+    ensures { (content : List ℕ) (j k : ℕ) → length content ≤ BLOCK_LENGTH * 2 ^ (k + j) →
+        padded_subtree (k + j) 0 (leaves content)
+        ≡ padded_subtree k j (piece_roots content (BLOCK_LENGTH * 2 ^ j)) }
+{}
+
+/// The root of a content longer than 2^k blocks is that over its runs of so many, each of which has the root over its
+/// leaves, followed by zero subtrees.
+pub fn roots_over_units()
+    ensures { (content : List ℕ) (k : ℕ) → BLOCK_LENGTH * 2 ^ k < length content →
+        pieces_root content ≡ padded_root k (map (λ unit. padded_subtree k 0 (leaves unit))
+        (map (run_at (BLOCK_LENGTH * 2 ^ k) content)
+        (range_with_len 0 (div_ceil (length content) (BLOCK_LENGTH * 2 ^ k))))) }
 {}
 
 /// A block, and the limits of a piece and of a file, in bytes.

@@ -16,7 +16,7 @@
 //! - [`Feed`] (`feed.rt`): the same of a content that is fed in parts, or the hashes of a run of pieces of a
 //!   longer one; it keeps no leaves. Below it stand the cut into blocks (`blocks.rt`), of which eight whole ones
 //!   are hashed at once, and the tree of the pieces (`pieces.rt`).
-//! - [`Stack`], [`layer_root`] (`stack.rt`): the root over hashes that come one after another.
+//! - [`Stack`], [`layer_root`], [`layer_subtree`] (`stack.rt`): the root over hashes that come one after another.
 //! - [`is_piece_length`], [`piece_level`] (`piece_length.rt`): which numbers of bytes a piece may have, and the level
 //!   of its hash.
 //! - [`Proof`] (`proof.rt`): that a hash stands at an index of a tree: [`prove`] makes, [`verify`] (`judge.rt`) judges
@@ -25,7 +25,7 @@
 //! - [`History`] (`trail.rt`): what came so far, which only proofs read.
 //! - [`laws`] (`laws.rt`): laws over the definitions of `specs/`.
 //!
-//! `digits.rt` has digits in base two.
+//! `digits.rt` has digits in base two, and [`height_of`] a tree.
 #![tactic(auto)]
 
 mod blocks;
@@ -55,11 +55,12 @@ pub const MAX_PIECE_LENGTH: u64 = 1 << 30;
 pub const MAX_LENGTH: u64 = 1 << 50;
 
 pub use collision::collide;
+pub use digits::height_of;
 pub use feed::Feed;
 pub use hash::{Hash, leaf, pair, zero};
 pub use judge::verify;
 pub use piece_length::{is_piece_length, piece_level};
 pub use plain::whole;
 pub use proof::{Proof, ProveError, proof_count, proof_level, prove};
-pub use stack::{Stack, layer_root};
+pub use stack::{Stack, layer_root, layer_subtree};
 pub use trail::History;

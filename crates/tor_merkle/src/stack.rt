@@ -90,8 +90,8 @@ impl Stack {
         self.subtree(height_of(self.count))
     }
 
-    // The root over `2^height` hashes: those pushed, followed by zero subtrees.
-    pub(crate) fn subtree(&self, height: u32) -> Hash
+    /// The root over `2^height` hashes: those pushed, followed by zero subtrees.
+    pub fn subtree(&self, height: u32) -> Hash
         requires some { 0 < length self.now.hashes }
         requires wide { length self.now.hashes ≤ 2 ^ height }
         requires low { self.now.level + height ≤ 36 }
@@ -120,9 +120,29 @@ pub fn layer_root(hashes: &[Hash], level: u32) -> Hash
     requires small { length hashes.now ≤ 2 ^ (36 - level) }
     ensures { result ≡ padded_root level hashes.now }
 {
+    stack_of(hashes, level).root()
+}
+
+/// The root over `2^height` roots of subtrees of `2^level` leaves: `hashes`, followed by zero subtrees.
+pub fn layer_subtree(hashes: &[Hash], level: u32, height: u32) -> Hash
+    requires some { 0 < length hashes.now }
+    requires wide { length hashes.now ≤ 2 ^ height }
+    requires low { level + height ≤ 36 }
+    ensures { result ≡ padded_subtree height level hashes.now }
+{
+    stack_of(hashes, level).subtree(height)
+}
+
+// A stack to which all of them were pushed.
+fn stack_of(hashes: &[Hash], level: u32) -> Stack
+    requires level { level ≤ 36 }
+    requires small { length hashes.now ≤ 2 ^ (36 - level) }
+    ensures hashes { result.hashes ≡ hashes.now }
+    ensures level { result.level ≡ level }
+{
     let mut stack = Stack::new(level);
     'pushes: for hash in hashes {
         stack.push(*hash);
     }
-    stack.root()
+    stack
 }
