@@ -1,12 +1,12 @@
 //! Hashing eight messages at once, and one after another by the kit's crates.
-ghost use Rattle.std.specs.Prelude.{◌≡◌, IfOk, vec_len};
 
 use sha1::Sha1;
 use sha2::{Digest, Sha256};
-use std::alloc::{AllocError, Global};
+use std::alloc::Global;
 use std::io::Result;
 use std::time::Instant;
 use tor_hashes::{block_hashes, node_hashes, piece_hashes};
+use tor_source::zeros;
 
 const BLOCK: usize = 16384;
 
@@ -115,10 +115,4 @@ fn eight_pieces(bytes: &[u8]) -> u8 {
         seen ^= first(&hash);
     }
     seen
-}
-
-fn zeros(alloc: Global, length: usize) -> std::result::Result<Vec<u8>, AllocError>
-    ensures { IfOk result (λ bytes. vec_len bytes ≡ length) }
-{
-    vec![in alloc; 0; length]
 }

@@ -6,7 +6,8 @@ ghost use Rattle.tor_tree.specs.TidyTree.{HasItsRoot};
 use std::alloc::{AllocError, Global};
 use std::io::Result;
 use std::time::Instant;
-use tor_tree::{FileList, FilePath, Hash, Name, NameError, from_item, to_item};
+use tor_merkle::Hash;
+use tor_tree::{FileList, FilePath, Name, NameError, from_item, to_item};
 
 /// How many files lie in one folder.
 const FOLDER: usize = 100;

@@ -2,23 +2,25 @@
 //!
 //! Over standard input: `feed CUT` hashes it by the streamed tree, in pieces of 256 KiB, and `sha1 CUT`, `sha256 CUT`
 //! and `both CUT` by those hashes over all, each in reads of CUT bytes; `files-sha1 CUT`, `files-sha256 CUT` and
-//! `files-both CUT` hash the files whose places it has, one a line; `decode 1` reads it as bencode. `paths COUNT`
-//! makes so many paths, `list COUNT` a list of them too, and `lists COUNT` writes its tree and reads that back;
-//! `padded COUNT` makes a hybrid of so many small files; `scan FOLDER` lists a folder. `check 1` judges standard input,
-//! and `pairs COUNT` joins so many hashes; `hashes COUNT` hashes so many times 2 MiB, message by message and by eight.
-//! `decode`, `lists`, `padded`, `scan`, `check`, `pairs` and `hashes` print microseconds. Lists are in `lists.rt`, the
-//! hybrid in `padded.rt`, the hashes over all in `plain.rt`, the judging in `foreign.rt`, the hashing by eight in
-//! `eight.rt`.
+//! `files-both CUT` hash the files whose places it has, one a line; `decode 1` reads it as bencode. `paths COUNT` makes
+//! so many paths, `list COUNT` a list of them too, and `lists COUNT` writes its tree and reads that back; `padded
+//! COUNT` makes a hybrid of so many small files; `scan FOLDER` lists a folder. `check 1` judges standard input, and
+//! `pairs COUNT` joins so many hashes; `hashes COUNT` hashes so many times 2 MiB, message by message and by eight.
+//! `board-units COUNT` has one seat of a board claim and give so many units, `board-tree COUNT` units of one tree;
+//! `board-blocks WORKERS` has so many threads hash a block for each unit, and `board-rounds WORKERS` counts what is
+//! wrong in a thousand boards. `decode`, `lists`, `padded`, `scan`, `check`, `pairs`, `hashes` and those of boards
+//! print microseconds. Lists are in `lists.rt`, the hybrid in `padded.rt`, the hashes over all in `plain.rt`, the
+//! judging in `foreign.rt`, the hashing by eight in `eight.rt`, boards in `board.rt`.
 #![tactic(auto)]
 
-ghost use Rattle.std.specs.Prelude.{◌≡◌, IfOk, vec_len};
-
+mod board;
 mod eight;
 mod foreign;
 mod lists;
 mod padded;
 mod plain;
 
+use crate::board::{alone, hashing, rounds};
 use crate::eight::hashed;
 use crate::foreign::{judged, paired};
 use crate::lists::{list, lists, paths};
@@ -26,13 +28,13 @@ use crate::padded::padded;
 use crate::plain::{Hashers, plain, plain_files};
 use sha1::Sha1;
 use sha2::{Digest, Sha256};
-use std::alloc::{AllocError, Global};
+use std::alloc::Global;
 use std::env;
 use std::io::{Error, ErrorKind, Read, Result};
 use std::time::Instant;
 use tor_bencode::decode;
 use tor_merkle::Feed;
-use tor_source::FolderSource;
+use tor_source::{FolderSource, zeros};
 
 const PIECE_LENGTH: u64 = 262_144;
 
@@ -71,6 +73,10 @@ fn main(rt: HostRuntime) -> Result<()> {
         "check" => judged(&rt),
         "pairs" => paired(&rt, number),
         "hashes" => hashed(&rt, number),
+        "board-units" => printed(&rt, alone(&rt, number, false)?),
+        "board-tree" => printed(&rt, alone(&rt, number, true)?),
+        "board-blocks" => printed(&rt, hashing(&rt, number)?),
+        "board-rounds" => printed(&rt, rounds(&rt, number)?),
         _ => decoded(&rt),
     }
 }
@@ -80,6 +86,11 @@ fn hashers(mode: &str) -> Hashers {
         sha1: (!mode.ends_with("sha256")).then(|| Sha1::new()),
         sha256: (!mode.ends_with("sha1")).then(|| Sha256::new()),
     }
+}
+
+fn printed(rt: &HostRuntime, numbers: (u128, u64)) -> Result<()> {
+    let (first, second) = numbers;
+    println!(rt; "{first} {second}")
 }
 
 fn scanned(rt: &HostRuntime, folder: &str) -> Result<()> {
@@ -99,12 +110,6 @@ fn decoded(rt: &HostRuntime) -> Result<()> {
     let decodes = decode(rt.alloc(), &bytes).is_ok();
     let taken = start.elapsed(rt)?.as_micros();
     println!(rt; "{decodes} {taken}")
-}
-
-fn zeros(alloc: Global, length: usize) -> std::result::Result<Vec<u8>, AllocError>
-    ensures { IfOk result (λ bytes. vec_len bytes ≡ length) }
-{
-    vec![in alloc; 0; length]
 }
 
 fn streamed<R: Read>(alloc: Global, reader: &mut R, buffer: &mut [u8]) -> Result<()> {

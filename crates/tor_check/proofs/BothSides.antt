@@ -3,8 +3,9 @@ use Rattle.std.proofs.Common.{◌≡◌, ◌⊎◌, ◌∙◌, ◌||◌, Result,
 use Rattle.std.proofs.Common.{Some, cond}
 use Rattle.std.proofs.Common.{refl, ap, sym, inl, inr, nat_eq}
 use Rattle.std.specs.Prelude.{option_map, nat_le, IfErr, OnOk}
-use Rattle.tor_check.specs.Judged.{IsFirst, refusal_for}
-use Rattle.tor_check.specs.Sides.{earlier, earlier_refusal, earliest, number_of}
+use Rattle.tor_check.specs.Refusals.{refusal_for}
+use Rattle.tor_check.specs.steps.Judged.{IsFirst}
+use Rattle.tor_check.specs.steps.Sides.{earlier, earlier_refusal, earliest, number_of}
 use Rattle.tor_check.specs.declared.refusal.Refusal.{Refusal}
 use Rattle.tor_check.specs.declared.refusal.Refusal.TheVariants as refusals
 use Rattle.tor_spec.specs.valid.Conditions.{Condition}

@@ -11,9 +11,9 @@ use Rattle.std.proofs.lemmas.Grind.{div_ceil_times}
 use Rattle.std.proofs.lemmas.List.Elements.{All-from_recursion}
 use Rattle.std.proofs.lemmas.List.Sums.{sum_by-le-sum_by, sum_by-cons}
 use Rattle.tor_bencode.specs.Data.{Data}
-use Rattle.tor_check.specs.Listed.{all_listed, first_of_list, list_holds, side_conditions, size_of_listed}
-use Rattle.tor_check.specs.Sides.{earliest, files_if, first_of_both, first_of_tree, list_if, listed_if, tree_holds}
-use Rattle.tor_check.specs.Sides.{tree_if}
+use Rattle.tor_check.specs.steps.Listed.{all_listed, first_of_list, list_holds, side_conditions, size_of_listed}
+use Rattle.tor_check.specs.steps.Sides.{earliest, files_if, first_of_both, first_of_tree, list_if, listed_if, tree_holds}
+use Rattle.tor_check.specs.steps.Sides.{tree_if}
 use Rattle.tor_check.specs.declared.listed.Listed.{Listed}
 use Rattle.tor_check.proofs.ListSteps.{any_mapped}
 use Rattle.tor_check.proofs.SideLemmas.{tells_long, tells_size}
@@ -26,7 +26,8 @@ use Rattle.tor_tree.specs.FileList.{lengths_too_large}
 use Rattle.tor_tree.specs.FileTree.{entries_of, file_of}
 use Rattle.tor_tree.specs.Kinds.{has_v1, has_v2}
 use Rattle.tor_tree.specs.Properties.{length_of}
-use Rattle.tor_tree.specs.declared.lists.TheConstants.{MAX_LENGTH, MAX_TOTAL, ROUNDING}
+use Rattle.tor_merkle.specs.declared.TheConstants.{MAX_LENGTH}
+use Rattle.tor_tree.specs.declared.lists.TheConstants.{MAX_TOTAL, ROUNDING}
 use Rattle.tor_tree.specs.declared.tree_file.TreeFile.{TreeFile}
 
 -- what is not found holds of none

@@ -5,10 +5,10 @@ use Rattle.std.specs.Prelude.{find, if◌then◌else◌}
 use Rattle.std.specs.List.{AllByRecursion}
 use Rattle.std.proofs.lemmas.Bool.{le-leb, lt-leb}
 use Rattle.tor_bencode.specs.Data.{Data}
-use Rattle.tor_check.specs.Judged.{refusal_for}
-use Rattle.tor_check.specs.Listed.{list_holds, side_conditions}
-use Rattle.tor_check.specs.Sides.{earliest, first_of_both, first_of_sides, number_of}
-use Rattle.tor_check.specs.Sides.{tree_holds}
+use Rattle.tor_check.specs.Refusals.{refusal_for}
+use Rattle.tor_check.specs.steps.Listed.{list_holds, side_conditions}
+use Rattle.tor_check.specs.steps.Sides.{earliest, first_of_both, first_of_sides, number_of}
+use Rattle.tor_check.specs.steps.Sides.{tree_holds}
 use Rattle.tor_spec.specs.valid.Conditions.{Condition, holds}
 use Rattle.tor_spec.specs.valid.Parts.{info_of, kind_of}
 use Rattle.tor_tree.specs.Kinds.{has_v1, has_v2}

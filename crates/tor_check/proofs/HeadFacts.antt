@@ -6,7 +6,7 @@ use Rattle.std.proofs.lemmas.Bool.{leb-true}
 use Rattle.tor_bencode.specs.Data.{Data}
 use Rattle.tor_bencode.specs.Find.{value_of}
 use Rattle.tor_check.proofs.Bounds.{found_none, first_or}
-use Rattle.tor_check.specs.Judged.{first_in, head_conditions}
+use Rattle.tor_check.specs.steps.Judged.{first_in, head_conditions}
 use Rattle.tor_merkle.specs.Layer.{IsPieceLength, is_piece_length}
 use Rattle.tor_spec.specs.valid.Conditions.{holds}
 use Rattle.tor_spec.specs.valid.Heads.{is_no_piece_length}

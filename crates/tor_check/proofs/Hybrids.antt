@@ -4,9 +4,10 @@ use Rattle.std.proofs.Common.{sym}
 use Rattle.std.specs.Prelude.{option_map, if◌then◌else◌}
 use Rattle.tor_bencode.specs.Data.{Data}
 use Rattle.tor_check.proofs.SideLemmas.{listed_is_side, sized_in_side}
-use Rattle.tor_check.specs.Listed.{all_listed, files_from, sized_files, tree_pairs}
-use Rattle.tor_check.specs.Judged.{first_of_alignment, refusal_for}
-use Rattle.tor_check.specs.Sides.{files_if, listed_if}
+use Rattle.tor_check.specs.Refusals.{refusal_for}
+use Rattle.tor_check.specs.steps.Listed.{all_listed, files_from, sized_files, tree_pairs}
+use Rattle.tor_check.specs.steps.Judged.{first_of_alignment}
+use Rattle.tor_check.specs.steps.Sides.{files_if, listed_if}
 use Rattle.tor_check.specs.declared.listed.Listed.{Listed}
 use Rattle.tor_check.specs.declared.refusal.Refusal.TheVariants as refusals
 use Rattle.tor_spec.specs.valid.ListSide.{side_files, without_padding}

@@ -8,8 +8,8 @@ use Rattle.std.specs.Option.{option_or}
 use Rattle.std.proofs.lemmas.Bool.{eqb-true}
 use Rattle.tor_bencode.specs.Data.{Data}
 use Rattle.tor_check.proofs.SideLemmas.{listed_is_side, sized_in_side}
-use Rattle.tor_check.specs.Judged.{refusal_for}
-use Rattle.tor_check.specs.Listed.{all_listed, first_after_sizes, first_of_list, of_list_error, sized_files}
+use Rattle.tor_check.specs.Refusals.{of_list_error, refusal_for}
+use Rattle.tor_check.specs.steps.Listed.{all_listed, first_after_sizes, first_of_list, sized_files}
 use Rattle.tor_check.specs.declared.listed.Listed.{Listed}
 use Rattle.tor_check.specs.declared.refusal.Refusal.{Refusal}
 use Rattle.tor_check.specs.declared.refusal.Refusal.TheVariants as refusals
@@ -26,7 +26,8 @@ use Rattle.tor_tree.specs.FileList.{lengths_of, lengths_too_large, list_fault, p
 use Rattle.tor_tree.specs.Properties.{as_string}
 use Rattle.tor_tree.specs.declared.lists.ListError.{ListError}
 use Rattle.tor_tree.specs.declared.lists.ListError.TheVariants as lists
-use Rattle.tor_tree.specs.declared.lists.TheConstants.{MAX_LENGTH, MAX_TOTAL}
+use Rattle.tor_merkle.specs.declared.TheConstants.{MAX_LENGTH}
+use Rattle.tor_tree.specs.declared.lists.TheConstants.{MAX_TOTAL}
 
 -- the fault of a list, from four tests of it
 abbrev fault_by : Bool → Bool → Bool → Bool → Option ListError

@@ -9,10 +9,10 @@ use Rattle.tor_bencode.specs.Data.{Data}
 use Rattle.tor_check.proofs.Bounds.{first_or, found_none}
 use Rattle.tor_check.proofs.FirstOfBoth.{sides_first}
 use Rattle.tor_check.proofs.Stages.{find_behind, find_front}
-use Rattle.tor_check.specs.Judged.{alignment_conditions, conditions_before_memory, first_in, head_conditions}
-use Rattle.tor_check.specs.Judged.{layer_conditions}
-use Rattle.tor_check.specs.Listed.{side_conditions}
-use Rattle.tor_check.specs.Sides.{first_of_both}
+use Rattle.tor_check.specs.steps.Judged.{alignment_conditions, conditions_before_memory, first_in, head_conditions}
+use Rattle.tor_check.specs.steps.Judged.{layer_conditions}
+use Rattle.tor_check.specs.steps.Listed.{side_conditions}
+use Rattle.tor_check.specs.steps.Sides.{first_of_both}
 use Rattle.tor_spec.specs.valid.Conditions.{Condition, conditions, holds, refusal_of}
 use Rattle.tor_spec.specs.valid.Conditions as named
 use Rattle.tor_spec.specs.valid.Parts.{info_of}

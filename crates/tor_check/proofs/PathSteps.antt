@@ -5,7 +5,7 @@ use Rattle.std.proofs.lemmas.List.{length-map}
 use Rattle.tor_bencode.specs.Data.{Data, list}
 use Rattle.tor_bencode.specs.View.{items_of, items_view, view}
 use Rattle.tor_bencode.specs.declared.item.Item.{Item}
-use Rattle.tor_check.specs.Listed.{lists_some}
+use Rattle.tor_check.specs.steps.Listed.{lists_some}
 use Rattle.tor_spec.specs.valid.ListSide.{is_name, is_path, names_of}
 use Rattle.tor_spec.specs.valid.Parts.{items_in, text_of}
 

@@ -6,7 +6,8 @@ use Rattle.tor_bencode.specs.Data.{Data}
 use Rattle.tor_bencode.specs.Lawful.{IsLawful}
 use Rattle.tor_bencode.specs.Spelling.{spelling}
 use Rattle.tor_check.proofs.Stages.{found}
-use Rattle.tor_check.specs.Judged.{IsFirst, refusal_for}
+use Rattle.tor_check.specs.Refusals.{refusal_for}
+use Rattle.tor_check.specs.steps.Judged.{IsFirst}
 use Rattle.tor_check.specs.Valid.{IsRefused, IsRefusedFor}
 use Rattle.tor_check.specs.declared.refusal.Refusal.{Refusal}
 use Rattle.tor_check.specs.declared.refusal.Refusal.TheVariants.{Memory}

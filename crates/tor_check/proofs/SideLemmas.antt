@@ -10,8 +10,8 @@ use native.Mathlib.Numerals.{unary_clauses}
 use Rattle.std.proofs.lemmas.List.Sums.{sum_by-cons}
 use Rattle.tor_bencode.specs.Data.{Data}
 use Rattle.tor_check.proofs.ListSteps.{any_mapped}
-use Rattle.tor_check.specs.Listed.{all_listed, file_of_listed, files_from, listed_entry, listed_single}
-use Rattle.tor_check.specs.Listed.{size_of_listed, sized, sized_files}
+use Rattle.tor_check.specs.steps.Listed.{all_listed, file_of_listed, files_from, listed_entry, listed_single}
+use Rattle.tor_check.specs.steps.Listed.{size_of_listed, sized, sized_files}
 use Rattle.tor_check.specs.declared.listed.Listed.{Listed}
 use Rattle.tor_check.specs.declared.marks.Marks.{Marks}
 use Rattle.tor_spec.specs.valid.ListSide.{described, entries_of, entry_file, has_list, joined_size}
@@ -19,7 +19,7 @@ use Rattle.tor_spec.specs.valid.ListSide.{letter_p, list_length, list_symlink, n
 use Rattle.tor_spec.specs.valid.ListSide.{without_padding, ListedFile}
 use Rattle.tor_spec.specs.valid.Parts.{part}
 use Rattle.tor_tree.specs.Properties.{has_letter, has_negative_length, letter_l}
-use Rattle.tor_tree.specs.declared.lists.TheConstants.{MAX_LENGTH}
+use Rattle.tor_merkle.specs.declared.TheConstants.{MAX_LENGTH}
 
 -- with one more file, and with padding
 sized_append : (files : List Listed) (file : Listed) (found : Option (List (List ℕ) × ℕ)) → sized file ≡ found

@@ -4,10 +4,11 @@ use Rattle.std.proofs.Common.{Option, None, Some, cond, refl, ap, sym, ◌∙◌
 use Rattle.std.specs.Prelude.{find, option_map}
 use Rattle.tor_bencode.specs.Data.{Data}
 use Rattle.tor_check.proofs.FirstOfBoth.{sides_first}
-use Rattle.tor_check.specs.Judged.{IsFirst, first_in, first_of_alignment, head_conditions, layer_conditions}
-use Rattle.tor_check.specs.Judged.{alignment_conditions, refusal_for}
-use Rattle.tor_check.specs.Listed.{side_conditions}
-use Rattle.tor_check.specs.Sides.{first_of_both}
+use Rattle.tor_check.specs.Refusals.{refusal_for}
+use Rattle.tor_check.specs.steps.Judged.{IsFirst, first_in, first_of_alignment, head_conditions, layer_conditions}
+use Rattle.tor_check.specs.steps.Judged.{alignment_conditions}
+use Rattle.tor_check.specs.steps.Listed.{side_conditions}
+use Rattle.tor_check.specs.steps.Sides.{first_of_both}
 use Rattle.tor_check.specs.declared.refusal.Refusal.{Refusal}
 use Rattle.tor_spec.specs.valid.Conditions.{Condition, holds, refusal_of}
 use Rattle.tor_spec.specs.valid.Parts.{info_of}

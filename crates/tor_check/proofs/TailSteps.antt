@@ -2,7 +2,7 @@
 use Rattle.std.proofs.Common.{◌≡◌, ℕ, ◌+◌, ◌<◌, true, false, List, [], ◌∷◌, length, take, reverse}
 use Rattle.std.proofs.Common.{slice_index_or, refl}
 use Rattle.std.proofs.lemmas.List.{map-append, reverse-append, take_more}
-use Rattle.tor_check.specs.Listed.{file_of_listed, files_from, size_of_listed}
+use Rattle.tor_check.specs.steps.Listed.{file_of_listed, files_from, size_of_listed}
 use Rattle.tor_check.specs.declared.listed.Listed.{Listed}
 use Rattle.tor_spec.specs.valid.SidesAgree.{is_filled, last_size, tail_size}
 

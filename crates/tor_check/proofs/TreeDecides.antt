@@ -3,8 +3,9 @@ use Rattle.std.proofs.Common.{◌≡◌, true, false, Bool, Option, None, Some, 
 use Rattle.std.specs.Prelude.{option_map}
 use Rattle.tor_bencode.specs.Data.{Data}
 use Rattle.tor_bencode.specs.Find.{value_of}
-use Rattle.tor_check.specs.Judged.{Names, refusal_for}
-use Rattle.tor_check.specs.Sides.{first_of_tree, of_tree_fault}
+use Rattle.tor_check.specs.Refusals.{of_tree_fault, refusal_for}
+use Rattle.tor_check.specs.steps.Judged.{Names}
+use Rattle.tor_check.specs.steps.Sides.{first_of_tree}
 use Rattle.tor_spec.specs.valid.Conditions.{Condition}
 use Rattle.tor_spec.specs.valid.Conditions as conditions
 use Rattle.tor_tree.specs.FileTree.{tree_fault}

@@ -17,7 +17,7 @@ use Rattle.tor_check.proofs.LayerSteps.{shaped_length}
 use Rattle.tor_check.proofs.ListSteps.{any_mapped}
 use Rattle.tor_check.proofs.NoneHolds.{all_at, mapped_at, no_side_fault, none_at, not_held}
 use Rattle.tor_check.specs.PieceProofs.{HasTree}
-use Rattle.tor_check.specs.Sides.{files_if}
+use Rattle.tor_check.specs.steps.Sides.{files_if}
 use Rattle.tor_check.specs.ValidViews.{IsViewOfValid}
 use Rattle.tor_merkle.specs.Layer.{IsPieceLength, piece_level}
 use Rattle.tor_merkle.specs.Stack.{padded_root}
@@ -30,7 +30,7 @@ use Rattle.tor_spec.specs.valid.View.{FileView, View, file_of_tree, files_of}
 use Rattle.tor_tree.specs.FileTree.{entries_of, file_of, lacks_root}
 use Rattle.tor_tree.specs.Kinds.{has_v2}
 use Rattle.tor_tree.specs.Properties.{as_integer, is_hash, length_of, pieces_root}
-use Rattle.tor_tree.specs.declared.lists.TheConstants.{MAX_LENGTH}
+use Rattle.tor_merkle.specs.declared.TheConstants.{MAX_LENGTH}
 use Rattle.tor_tree.specs.declared.tree_file.TreeFile.{TreeFile}
 
 -- of a side that is there

@@ -1,8 +1,5 @@
-pub mod Judged
-pub mod Listed
-pub mod Sides
-pub mod Layers
-pub mod Views
+pub mod Refusals
 pub mod Valid
 pub mod ValidViews
 pub mod PieceProofs
+pub mod steps

@@ -6,7 +6,7 @@ use Rattle.tor_bencode.specs.Lawful.{IsLawful}
 use Rattle.tor_bencode.specs.Spelling.{spelling}
 use Rattle.tor_bencode.specs.declared.error.BenError.{BenError}
 use Rattle.tor_bencode.specs.declared.error.BenError.TheVariants as errors
-use Rattle.tor_check.specs.Judged.{refusal_for}
+use Rattle.tor_check.specs.Refusals.{refusal_for}
 use Rattle.tor_check.specs.declared.refusal.Refusal.{Refusal}
 use Rattle.tor_check.specs.declared.refusal.Refusal.TheVariants as refusals
 use Rattle.tor_spec.specs.valid.Conditions.{Condition, IsTorrentOf, refusal_of}

@@ -1,10 +1,11 @@
 //! Whether the two sides of a hybrid describe the same files at the same offsets (BEP 52, "Upgrade Path"; BEP 47).
 ghost use Rattle.std.specs.Prelude.{◌≡◌, ◌≤◌, [], All, not, sum_by};
-ghost use Rattle.tor_check.specs.Listed.{file_of_listed, files_from, size_of_listed, sized_files};
+ghost use Rattle.tor_check.specs.steps.Listed.{file_of_listed, files_from, size_of_listed, sized_files};
 ghost use Rattle.tor_spec.specs.valid.ListSide.{joined_size};
 ghost use Rattle.tor_spec.specs.valid.SidesAgree.{has_wrong_tail, is_filled, is_misaligned_after, same_files};
-ghost use Rattle.tor_check.specs.Listed.{tree_pairs};
-ghost use Rattle.tor_tree.specs.declared.lists.TheConstants.{MAX_LENGTH, MAX_TOTAL};
+ghost use Rattle.tor_check.specs.steps.Listed.{tree_pairs};
+ghost use Rattle.tor_merkle.specs.declared.TheConstants.{MAX_LENGTH};
+ghost use Rattle.tor_tree.specs.declared.lists.TheConstants.{MAX_TOTAL};
 ghost use Rattle.tor_v1.specs.Piece.{max_piece_length};
 
 use crate::listed::Listed;

@@ -1,12 +1,13 @@
 //! Whether the two sides of a hybrid agree, and its files are aligned, judged.
 ghost use Rattle.std.specs.Prelude.{◌≡◌, ◌≤◌, ◌||◌, [], All, None, IfErr, OnOk, sum_by};
 ghost use Rattle.tor_bencode.specs.View.{view};
-ghost use Rattle.tor_check.specs.Judged.{Names, first_of_alignment};
-ghost use Rattle.tor_check.specs.Listed.{files_from, size_of_listed};
-ghost use Rattle.tor_check.specs.Sides.{AreSidesOf, first_of_both};
+ghost use Rattle.tor_check.specs.steps.Judged.{Names, first_of_alignment};
+ghost use Rattle.tor_check.specs.steps.Listed.{files_from, size_of_listed};
+ghost use Rattle.tor_check.specs.steps.Sides.{AreSidesOf, first_of_both};
 ghost use Rattle.tor_spec.specs.valid.Parts.{kind_of, piece_length_of};
 ghost use Rattle.tor_spec.specs.valid.SidesAgree.{has_wrong_tail, is_misaligned_after};
-ghost use Rattle.tor_tree.specs.declared.lists.TheConstants.{MAX_LENGTH, MAX_TOTAL};
+ghost use Rattle.tor_merkle.specs.declared.TheConstants.{MAX_LENGTH};
+ghost use Rattle.tor_tree.specs.declared.lists.TheConstants.{MAX_TOTAL};
 ghost use Rattle.tor_v1.specs.Piece.{max_piece_length};
 
 use crate::agree::{files_differ, has_wrong_tail, is_misaligned};

@@ -1,7 +1,7 @@
 //! The root of a torrent, and the keys of `info` that all kinds have.
 ghost use Rattle.std.specs.Prelude.{◌≡◌, ◌⊎◌, ◌<◌, true, false, None, Err, IfErr, IfOk, IfSome, MatchOption, OnOk};
 ghost use Rattle.tor_bencode.specs.View.{view};
-ghost use Rattle.tor_check.specs.Judged.{IsFirst, IsHeadOf, conditions_before_memory, head_conditions, first_in};
+ghost use Rattle.tor_check.specs.steps.Judged.{IsFirst, IsHeadOf, conditions_before_memory, head_conditions, first_in};
 ghost use Rattle.tor_spec.specs.valid.Heads.{info_shape, length_and_files, meta_version, name, piece_length};
 ghost use Rattle.tor_spec.specs.valid.Parts.{info_of, is_private, kind_of, name_of, piece_length_of};
 ghost use Rattle.tor_check.specs.declared.refusal.Refusal.TheVariants as refusals;

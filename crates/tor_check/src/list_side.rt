@@ -6,15 +6,17 @@ ghost use Rattle.std.specs.Int.{div_ceil};
 ghost use Rattle.std.specs.List.{list_any};
 ghost use Rattle.tor_bencode.specs.Find.{value_of};
 ghost use Rattle.tor_bencode.specs.View.{view};
-ghost use Rattle.tor_check.specs.Judged.{IsFirst};
-ghost use Rattle.tor_check.specs.Listed.{all_listed, first_after_sizes, first_of_list, of_list_error, size_of_listed};
-ghost use Rattle.tor_check.specs.Listed.{sized_files, takes_files};
+ghost use Rattle.tor_check.specs.Refusals.{of_list_error};
+ghost use Rattle.tor_check.specs.steps.Judged.{IsFirst};
+ghost use Rattle.tor_check.specs.steps.Listed.{all_listed, first_after_sizes, first_of_list, size_of_listed};
+ghost use Rattle.tor_check.specs.steps.Listed.{sized_files, takes_files};
 ghost use Rattle.tor_check.specs.declared.refusal.Refusal.TheVariants.{FileShape, Memory};
 ghost use Rattle.tor_spec.specs.valid.ListSide.{is_no_sums, list_length, list_shape, side_size};
 ghost use Rattle.tor_spec.specs.valid.Parts.{name_of, piece_length_of};
 ghost use Rattle.tor_tree.specs.FileList.{list_fault};
 ghost use Rattle.tor_tree.specs.Properties.{as_string};
-ghost use Rattle.tor_tree.specs.declared.lists.TheConstants.{MAX_LENGTH, MAX_TOTAL};
+ghost use Rattle.tor_merkle.specs.declared.TheConstants.{MAX_LENGTH};
+ghost use Rattle.tor_tree.specs.declared.lists.TheConstants.{MAX_TOTAL};
 
 use crate::head::Head;
 use crate::listed::{Listed, read_list_of};
@@ -23,7 +25,8 @@ use crate::parts::text;
 use crate::refusal::Refusal;
 use std::alloc::{AllocError, Global};
 use tor_bencode::{Item, find};
-use tor_tree::{FileList, FilePath, MAX_LENGTH, MAX_TOTAL, Name};
+use tor_merkle::MAX_LENGTH;
+use tor_tree::{FileList, FilePath, MAX_TOTAL, Name};
 
 /// What the v1 side says.
 #[derive(Drop)]

@@ -4,7 +4,7 @@ ghost use Rattle.std.specs.List.{list_all, list_any};
 ghost use Rattle.tor_bencode.specs.Find.{value_of};
 ghost use Rattle.tor_bencode.specs.Data.{list};
 ghost use Rattle.tor_bencode.specs.View.{items_view, view};
-ghost use Rattle.tor_check.specs.Listed.{listed_entry, lists_some, takes_path};
+ghost use Rattle.tor_check.specs.steps.Listed.{listed_entry, lists_some, takes_path};
 ghost use Rattle.tor_check.specs.declared.refusal.Refusal.TheVariants.{FileShape, Memory};
 ghost use Rattle.tor_spec.specs.valid.ListSide.{is_name, is_no_entry, is_path, names_of};
 ghost use Rattle.tor_spec.specs.valid.Parts.{items_in, part, text_of};

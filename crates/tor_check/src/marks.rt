@@ -1,11 +1,11 @@
 //! The length and the letters of what describes a file (BEP 3, "info dictionary"; BEP 47, "attr").
 ghost use Rattle.std.specs.Prelude.{◌≡◌};
-ghost use Rattle.std.specs.Option.{option_copied};
 ghost use Rattle.tor_bencode.specs.View.{view};
-ghost use Rattle.tor_check.specs.Listed.{letters_of, marks_in};
+ghost use Rattle.tor_check.specs.steps.Listed.{marks_in};
 
 use crate::parts::integer;
-use tor_bencode::{Item, find};
+use tor_bencode::Item;
+use tor_tree::letters_of;
 
 /// What a dictionary says of its file, beside the path.
 #[derive(Clone, Copy)]
@@ -30,15 +30,4 @@ pub fn read_marks(item: &Item) -> Option<Marks>
         exec: letters.contains(&b'x'),
         hidden: letters.contains(&b'h'),
     })
-}
-
-/// The letters of `attr`, none of them where it is absent; None where it is no byte string.
-fn letters_of(item: &Item) -> Option<&[u8]>
-    ensures { option_copied result ≡ letters_of (view item.now) }
-{
-    match find(item, b"attr") {
-        None => Some(b""),
-        Some(Item::Bytes(letters)) => Some(letters.as_slice()),
-        Some(_) => None,
-    }
 }

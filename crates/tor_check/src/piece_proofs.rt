@@ -9,8 +9,7 @@ ghost use Rattle.tor_merkle.specs.Proof.{proof_count};
 use crate::torrent::{Torrent, ViewFile};
 use std::alloc::Global;
 use thiserror::Error;
-use tor_merkle::{Proof, ProveError, piece_level, prove};
-use tor_tree::Hash;
+use tor_merkle::{Hash, Proof, ProveError, piece_level, prove};
 
 /// Why there is no proof of a piece. The first that holds is answered.
 #[derive(Debug, Drop, Error)]

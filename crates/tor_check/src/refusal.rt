@@ -1,89 +1,107 @@
 //! Why bytes are no torrent.
 ghost use Rattle.std.specs.Prelude.{◌≡◌};
-ghost use Rattle.tor_check.specs.Listed.{of_list_error};
-ghost use Rattle.tor_check.specs.Sides.{number_of, of_tree_fault};
+ghost use Rattle.tor_check.specs.Refusals.{of_list_error, of_tree_fault};
+ghost use Rattle.tor_check.specs.steps.Sides.{number_of};
 ghost use Rattle.tor_check.specs.Valid.{of_bencode};
 ghost use Rattle.tor_check.specs.declared.refusal.Refusal.TheVariants.{Memory};
 
 use std::alloc::{AllocError, AllocFailed};
-use thiserror::Error;
+use std::error::Error;
+use std::fmt;
 use tor_bencode::{BenError, Fault};
 use tor_tree::{ListError, TreeFault};
 
 /// Why bytes are no torrent. The least number is answered, each looked for in the whole torrent before the next.
-#[derive(Debug, Drop, Error)]
+#[derive(Debug, Drop)]
 pub enum Refusal {
     /// The bytes spell no tree: the first fault in reading order, and its offset in bytes.
-    #[error("V1 Bencode {fault} at {offset}")]
     Bencode { fault: Fault, offset: usize },
     /// The root is no dictionary.
-    #[error("V2 RootShape")]
     RootShape,
     /// `info` is absent or no dictionary.
-    #[error("V3 InfoShape")]
     InfoShape,
     /// `meta version` is there and is not the integer 2.
-    #[error("V4 MetaVersion")]
     MetaVersion,
     /// `piece length` is absent or no integer, or no length of pieces.
-    #[error("V5 PieceLength")]
     PieceLength,
     /// `name` is absent or no byte string, or no name.
-    #[error("V6 Name")]
     Name,
     /// Both or neither of `length` and `files` are there.
-    #[error("V7 LengthAndFiles")]
     LengthAndFiles,
     /// What describes a file has not its shape.
-    #[error("V8 FileShape")]
     FileShape,
     /// A length is negative.
-    #[error("V9 FileLength")]
     FileLength,
     /// Two files have one path.
-    #[error("V10 Duplicate")]
     Duplicate,
     /// The path of a file is the beginning of another's.
-    #[error("V11 FileAndFolder")]
     FileAndFolder,
     /// There is no file.
-    #[error("V12 NoFiles")]
     NoFiles,
     /// A length is too large, or all of them together are.
-    #[error("V13 TooLarge")]
     TooLarge,
     /// An `attr` has an `l`.
-    #[error("V14 Symlink")]
     Symlink,
     /// `pieces` is not 20 bytes for each piece.
-    #[error("V15 PiecesLength")]
     PiecesLength,
     /// A folder of the file tree is a file too.
-    #[error("V16 MixedNode")]
     MixedNode,
     /// A file that is not empty has no `pieces root` of 32 bytes.
-    #[error("V17 RootHash")]
     RootHash,
     /// `piece layers` is absent where it is needed, or no dictionary.
-    #[error("V18 LayersAbsent")]
     LayersAbsent,
     /// A file longer than a piece has no layer.
-    #[error("V19 LayerAbsent")]
     LayerAbsent,
     /// A layer is not 32 bytes for each piece of its file.
-    #[error("V20 LayerLength")]
     LayerLength,
     /// A layer has not the root of its file.
-    #[error("V21 LayerRoot")]
     LayerRoot,
     /// The two sides of a hybrid describe other files.
-    #[error("V22 FilesDiffer")]
     FilesDiffer,
     /// A file of a hybrid does not begin at a piece of its own, or padding follows the last that is of another length.
-    #[error("V23 Alignment")]
     Alignment,
-    #[error("V24 Memory")]
     Memory,
+}
+
+impl fmt::Display for Refusal {
+    fn fmt<W: fmt::Write>(&self, f: &mut fmt::Formatter<W>) -> fmt::Result {
+        match self {
+            Refusal::Bencode { fault, offset } => write!(f, "V1 Bencode {fault} at {offset}"),
+            refusal => f.write_str(text_of(refusal)),
+        }
+    }
+}
+
+impl Error for Refusal {}
+
+// The code and the name.
+fn text_of(refusal: &Refusal) -> &'static str {
+    match refusal {
+        Refusal::Bencode { .. } => "V1 Bencode",
+        Refusal::RootShape => "V2 RootShape",
+        Refusal::InfoShape => "V3 InfoShape",
+        Refusal::MetaVersion => "V4 MetaVersion",
+        Refusal::PieceLength => "V5 PieceLength",
+        Refusal::Name => "V6 Name",
+        Refusal::LengthAndFiles => "V7 LengthAndFiles",
+        Refusal::FileShape => "V8 FileShape",
+        Refusal::FileLength => "V9 FileLength",
+        Refusal::Duplicate => "V10 Duplicate",
+        Refusal::FileAndFolder => "V11 FileAndFolder",
+        Refusal::NoFiles => "V12 NoFiles",
+        Refusal::TooLarge => "V13 TooLarge",
+        Refusal::Symlink => "V14 Symlink",
+        Refusal::PiecesLength => "V15 PiecesLength",
+        Refusal::MixedNode => "V16 MixedNode",
+        Refusal::RootHash => "V17 RootHash",
+        Refusal::LayersAbsent => "V18 LayersAbsent",
+        Refusal::LayerAbsent => "V19 LayerAbsent",
+        Refusal::LayerLength => "V20 LayerLength",
+        Refusal::LayerRoot => "V21 LayerRoot",
+        Refusal::FilesDiffer => "V22 FilesDiffer",
+        Refusal::Alignment => "V23 Alignment",
+        Refusal::Memory => "V24 Memory",
+    }
 }
 
 impl From<AllocError> for Refusal {

@@ -1,10 +1,10 @@
 //! The sides of a torrent, judged together: one condition is looked for in both before the next.
 ghost use Rattle.std.specs.Prelude.{◌≡◌, ◌<◌, true, None, Err, IfErr, IfOk, OnOk, Option};
 ghost use Rattle.tor_bencode.specs.View.{view};
-ghost use Rattle.tor_check.specs.Judged.{IsFirst};
-ghost use Rattle.tor_check.specs.Sides.{AreSidesOf, earlier_refusal, earliest, files_if, first_of_both, list_if};
-ghost use Rattle.tor_check.specs.Sides.{listed_if, takes_sides, takes_tree, tree_if};
-ghost use Rattle.tor_check.specs.Listed.{takes_files};
+ghost use Rattle.tor_check.specs.steps.Judged.{IsFirst};
+ghost use Rattle.tor_check.specs.steps.Sides.{AreSidesOf, earlier_refusal, earliest, files_if, first_of_both, list_if};
+ghost use Rattle.tor_check.specs.steps.Sides.{listed_if, takes_sides, takes_tree, tree_if};
+ghost use Rattle.tor_check.specs.steps.Listed.{takes_files};
 ghost use Rattle.tor_check.specs.declared.refusal.Refusal.TheVariants.{Memory};
 ghost use Rattle.tor_spec.specs.valid.Conditions.{Condition, of_list, of_tree};
 ghost use Rattle.tor_spec.specs.valid.ListSide.{side_size};

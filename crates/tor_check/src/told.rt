@@ -3,8 +3,8 @@ ghost use Rattle.std.specs.Prelude.{◌≡◌, [], true, None, IfOk, OnErr, code
 ghost use Rattle.tor_bencode.specs.Lawful.{HasRisingKeys, IsLawful};
 ghost use Rattle.tor_bencode.specs.Span.{span_of};
 ghost use Rattle.tor_bencode.specs.View.{view};
-ghost use Rattle.tor_check.specs.Judged.{IsHeadOf};
-ghost use Rattle.tor_check.specs.Sides.{AreSidesOf, first_of_both};
+ghost use Rattle.tor_check.specs.steps.Judged.{IsHeadOf};
+ghost use Rattle.tor_check.specs.steps.Sides.{AreSidesOf, first_of_both};
 ghost use Rattle.tor_spec.specs.valid.Conditions.{refusal_of};
 ghost use Rattle.tor_spec.specs.valid.Parts.{info_of, kind_of, part, text_of};
 ghost use Rattle.tor_spec.specs.valid.ListSide.{side_piece_count};

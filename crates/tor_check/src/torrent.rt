@@ -1,6 +1,7 @@
 //! What a foreign torrent describes.
 use std::marker::Model;
-use tor_tree::{Hash, Kind, Name, TreeFile};
+use tor_merkle::Hash;
+use tor_tree::{Kind, Name, TreeFile};
 use tor_v1::Entry;
 
 /// A file of a torrent, and the hashes of its piece layer.

@@ -1,8 +1,8 @@
 //! The v2 side of a torrent (BEP 52, "file tree"), judged.
 ghost use Rattle.std.specs.Prelude.{◌≡◌, true, None, Err, IfErr, IfOk, OnOk};
 ghost use Rattle.tor_bencode.specs.View.{view};
-ghost use Rattle.tor_check.specs.Judged.{IsFirst};
-ghost use Rattle.tor_check.specs.Sides.{first_of_tree, takes_tree};
+ghost use Rattle.tor_check.specs.steps.Judged.{IsFirst};
+ghost use Rattle.tor_check.specs.steps.Sides.{first_of_tree, takes_tree};
 ghost use Rattle.tor_check.specs.declared.refusal.Refusal.TheVariants.{Memory};
 ghost use Rattle.tor_spec.specs.valid.TreeSide.{tree_files};
 

@@ -4,7 +4,7 @@ ghost use Rattle.tor_bencode.specs.Fault.{may_take_memory};
 ghost use Rattle.tor_bencode.specs.Lawful.{IsLawful};
 ghost use Rattle.tor_bencode.specs.Span.{span_of};
 ghost use Rattle.tor_bencode.specs.View.{view};
-ghost use Rattle.tor_check.specs.Judged.{IsFirst, conditions_before_memory, first_in};
+ghost use Rattle.tor_check.specs.steps.Judged.{IsFirst, conditions_before_memory, first_in};
 ghost use Rattle.tor_check.specs.Valid.{IsRefusedFor, IsTold};
 ghost use Rattle.tor_check.specs.declared.refusal.Refusal.TheVariants.{Memory};
 ghost use Rattle.tor_spec.specs.valid.Conditions.{IsValid, refusal_of};

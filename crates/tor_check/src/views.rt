@@ -1,20 +1,21 @@
 //! What the sides of a torrent tell of its files.
 ghost use Rattle.std.specs.Prelude.{◌≡◌, ◌<◌, ◌^◌, IfOk, IfNone, map, sum_by};
-ghost use Rattle.tor_check.specs.Layers.{seen};
-ghost use Rattle.tor_check.specs.Listed.{files_from};
-ghost use Rattle.tor_check.specs.Views.{layer_for, viewed};
+ghost use Rattle.tor_check.specs.steps.Layers.{seen};
+ghost use Rattle.tor_check.specs.steps.Listed.{files_from};
+ghost use Rattle.tor_check.specs.steps.Views.{layer_for, viewed};
 ghost use Rattle.tor_check.specs.declared.listed.Listed.{Listed as ListedFacts};
 ghost use Rattle.tor_spec.specs.valid.Layers.{pieces_in};
 ghost use Rattle.tor_spec.specs.valid.ListSide.{without_padding};
 ghost use Rattle.tor_spec.specs.valid.View.{entry_of_file, file_of_list};
-ghost use Rattle.tor_check.specs.Listed.{file_of_listed};
+ghost use Rattle.tor_check.specs.steps.Listed.{file_of_listed};
 
 use crate::layer_keys::Layers;
 use crate::layers::text_of_layer;
 use crate::listed::Listed;
 use crate::torrent::ViewFile;
 use std::alloc::{AllocError, Global};
-use tor_tree::{FilePath, Hash, TreeFile};
+use tor_merkle::Hash;
+use tor_tree::{FilePath, TreeFile};
 use tor_v1::{Entry, pad_entry};
 
 /// The files of a tree, each with its layer.

@@ -20,9 +20,9 @@ use Rattle.tor_cli.specs.Status.{of_input_fault, of_refusal}
 use Rattle.tor_cli.specs.Streams.{IsUntouched, Streams}
 use Rattle.tor_cli.specs.declared.fault.Fault.{Fault}
 use Rattle.tor_cli.specs.declared.fault.Fault.TheVariants as faults
-use Rattle.tor_input.specs.declared.input.InputFault.{InputFault}
-use Rattle.tor_input.specs.declared.input.InputFault.TheVariants as inputs
-use Rattle.tor_input.specs.declared.input.TheConstants.{MAX_INPUT_LENGTH}
+use Rattle.tor_source.specs.declared.input.InputFault.{InputFault}
+use Rattle.tor_source.specs.declared.input.InputFault.TheVariants as inputs
+use Rattle.tor_source.specs.declared.input.TheConstants.{MAX_INPUT_LENGTH}
 
 none_first : {C : Type 0} (p : C → Bool) (x : C) (xs : List C) → find p (x ∷ xs) ≡ None
     → (p x ≡ false) × (find p xs ≡ None)

@@ -11,7 +11,7 @@ use Rattle.tor_source.specs.declared.faults.ScanFault.{ScanFault}
 use Rattle.tor_source.specs.declared.faults.ScanFault.TheVariants as scans
 use Rattle.tor_spec.specs.valid.View.{View}
 use Rattle.tor_cli.specs.Foreign.{IsNoTorrent}
-use Rattle.tor_cli.specs.Place.{IsFileFault}
+use Rattle.tor_cli.specs.Place.{IsFileEnd, IsFileFault, IsFileSize}
 use Rattle.tor_cli.specs.Recheck.{ArePlaces, IsNoPlace, IsNotRechecked}
 use Rattle.tor_cli.specs.Status.{of_recheck_error, of_scan_fault}
 use Rattle.tor_cli.specs.declared.fault.Fault.{Fault}
@@ -28,7 +28,7 @@ module _ (bytes : List ℕ) (view : View) (told : IsTold bytes view) where
 
   -- a file of the torrent had a fault, or memory was refused
   pub not_rechecked : (error : RecheckError Error)
-      → IsGiven (IsFileFault (length view.files)) (length view.files) error
+      → IsGiven (IsFileFault (length view.files)) (IsFileSize (length view.files)) IsFileEnd (length view.files) error
       → error ≢ rechecks.Workers → IsNotRechecked bytes (of_recheck_error error)
   not_rechecked (rechecks.Read file start fault) given other = (view, told, (given, other, λ same. cc))
   not_rechecked (rechecks.Changed file) given other = (view, told, (given, other, λ same. cc))

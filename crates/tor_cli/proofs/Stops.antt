@@ -10,18 +10,18 @@ use Rattle.tor_meta.specs.Make.{IsGivenTo, IsOwn, make_refusal}
 use Rattle.tor_source.specs.declared.faults.ScanFault.{ScanFault}
 use Rattle.tor_source.specs.declared.faults.ScanFault.TheVariants as scans
 use Rattle.tor_tree.specs.Name.{name_fault}
-use Rattle.tor_input.specs.Input.{EndsInput, ReadsSome}
-use Rattle.tor_input.specs.Make.{MakesOf, MakesPart, StopsReading, refusal_of, torrent_of}
-use Rattle.tor_cli.specs.Place.{IsFileFault}
+use Rattle.tor_source.specs.Input.{EndsInput, ReadsSome}
+use Rattle.tor_meta.specs.FromInput.{MakesOf, MakesPart, StopsReading, refusal_of, torrent_of}
+use Rattle.tor_cli.specs.Place.{IsFileEnd, IsFileFault, IsFileSize}
 use Rattle.tor_cli.specs.Request.{IsOrder, IsOrderOf, IsRefusedFirst, SendsFront, StopsFinding, StopsInput, StopsPlace}
 use Rattle.tor_cli.specs.Request.{file_of}
 use Rattle.tor_cli.specs.Streams.{IsUntouched, Streams}
 use Rattle.tor_cli.specs.Status.{of_input_fault, of_make_error, of_scan_fault, of_step_fault}
-use Rattle.tor_input.specs.declared.input.TheConstants.{MAX_INPUT_LENGTH}
-use Rattle.tor_input.specs.declared.input.InputFault.{InputFault}
-use Rattle.tor_input.specs.declared.input.InputFault.TheVariants as inputs
-use Rattle.tor_input.specs.declared.make.FromFault.{FromFault}
-use Rattle.tor_input.specs.declared.make.FromFault.TheVariants.{Input, Make, Write}
+use Rattle.tor_source.specs.declared.input.TheConstants.{MAX_INPUT_LENGTH}
+use Rattle.tor_source.specs.declared.input.InputFault.{InputFault}
+use Rattle.tor_source.specs.declared.input.InputFault.TheVariants as inputs
+use Rattle.tor_meta.specs.declared.from_input.FromFault.{FromFault}
+use Rattle.tor_meta.specs.declared.from_input.FromFault.TheVariants.{Input, Make, Write}
 use Rattle.tor_cli.proofs.Sizes.{has_bytes}
 use Rattle.tor_cli.specs.declared.options.MakeOptions.{MakeOptions}
 use Rattle.tor_cli.specs.declared.fault.Fault.{Fault}
@@ -118,7 +118,8 @@ module _ (options : MakeOptions) (s : Streams) where
 -- an error of making is of the order and the paths
 pub finding_make : (options : MakeOptions) (order : Order) (paths : List (List (List ℕ))) (error : MakeError Error)
     → IsOrderOf options order paths → IsOwn (make_refusal order paths) error → IsRefusedFirst order paths error
-    → IsGivenTo (IsFileFault (length paths)) (length paths) error → StopsFinding options (of_make_error error)
+    → IsGivenTo (IsFileFault (length paths)) (IsFileSize (length paths)) IsFileEnd (length paths) error
+    → StopsFinding options (of_make_error error)
 finding_make options order paths error is own first gave = elim (kept_or_memory error) [
   | inl kept ↦ rw kept.1 (order, paths, is, own, first, gave, is_no_memory error kept.0)
   | inr memory ↦ rw memory tt

@@ -69,10 +69,18 @@ abbrev pub with_rules : App → List Rule → App
 with_rules app [] = app
 with_rules app (rule ∷ rules) = with_rules (with_rule app rule) rules
 
+-- what the torrent is to have, beside its files
+abbrev pub with_torrent : ValueParser → App → App
+with_torrent kinds app = with_rules app
+    (name_option ∷ piece_length_option ∷ kind_option kinds ∷ announce_option ∷ private_option ∷ [])
+
+-- who hashes, where the torrent goes, and where the files are
+abbrev pub with_ways : ValueParser → App → App
+with_ways hows app = with_rules app
+    (how_option hows ∷ workers_option ∷ span_option ∷ out_option ∷ path_argument ∷ [])
+
 abbrev pub make_app : ValueParser → ValueParser → App
-make_app kinds hows = with_rules (new_app (codes "make"))
-    (name_option ∷ piece_length_option ∷ kind_option kinds ∷ announce_option ∷ private_option ∷ how_option hows
-    ∷ workers_option ∷ span_option ∷ out_option ∷ path_argument ∷ [])
+make_app kinds hows = with_ways hows (with_torrent kinds (new_app (codes "make")))
 
 -- the word of this number, from 1, which has to be there
 abbrev pub argument_of : List ℕ → ℕ → Rule

@@ -11,9 +11,9 @@ use Rattle.tor_meta.specs.declared.hashes.Hashes.{Hashes}
 use Rattle.tor_spec.specs.valid.Conditions.{IsTorrentOf}
 use Rattle.tor_spec.specs.valid.Parts.{info_of, kind_of}
 use Rattle.tor_spec.specs.valid.View.{View, view_of}
-use Rattle.tor_input.specs.Make.{IsFront}
+use Rattle.tor_meta.specs.FromInput.{IsFront}
 use Rattle.tor_cli.specs.Streams.{IsUntouched, Streams}
-use Rattle.tor_input.specs.declared.input.TheConstants.{MAX_INPUT_LENGTH}
+use Rattle.tor_source.specs.declared.input.TheConstants.{MAX_INPUT_LENGTH}
 use Rattle.tor_cli.specs.declared.fault.Fault.{Fault}
 use Rattle.tor_cli.specs.declared.fault.Fault.TheVariants.{Refused, Read, TooLong, Write, Resources}
 

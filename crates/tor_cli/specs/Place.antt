@@ -15,3 +15,11 @@ AreFound name false paths = IsStrictlySortedBy path_cmp paths × All (λ path. l
 -- a fault that one of so many files can have: its length never says that nothing is there
 abbrev pub IsFileFault : ℕ → ℕ → Option ℕ → Error → Type 0
 IsFileFault count file offset fault = (file < count) × (offset ≡ None → is_absence (error_kind fault) ≡ false)
+
+-- what can be told of the length of a file: of one that is none of so many, that it is missing
+abbrev pub IsFileSize : ℕ → ℕ → Option ℕ → Type 0
+IsFileSize count file size = count ≤ file → size ≡ None
+
+-- a read can end at any offset of any file
+abbrev pub IsFileEnd : ℕ → ℕ → Type 0
+IsFileEnd file start = Unit {0}

@@ -13,7 +13,7 @@ use Rattle.tor_merkle.specs.declared.TheConstants.{MAX_LENGTH}
 use Rattle.tor_spec.specs.valid.Conditions.{IsTorrentOf}
 use Rattle.tor_spec.specs.valid.View.{FileView, view_of}
 use Rattle.tor_cli.specs.Foreign.{IsNoTorrent, OfSome}
-use Rattle.tor_input.specs.Make.{IsFront}
+use Rattle.tor_meta.specs.FromInput.{IsFront}
 use Rattle.tor_cli.specs.ProofText.{IsProof, IsRootText, proof_text}
 use Rattle.tor_cli.specs.Streams.{IsUntouched, Streams}
 use Rattle.tor_cli.specs.declared.answer.Answer.{Answer}

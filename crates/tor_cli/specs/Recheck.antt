@@ -15,8 +15,8 @@ use Rattle.tor_source.specs.declared.faults.ScanFault.{ScanFault}
 use Rattle.tor_source.specs.declared.faults.ScanFault.TheVariants as scans
 use Rattle.tor_spec.specs.valid.View.{View}
 use Rattle.tor_cli.specs.Foreign.{IsNoTorrent, OfSome}
-use Rattle.tor_input.specs.Make.{IsFront}
-use Rattle.tor_cli.specs.Place.{IsFileFault}
+use Rattle.tor_meta.specs.FromInput.{IsFront}
+use Rattle.tor_cli.specs.Place.{IsFileEnd, IsFileFault, IsFileSize}
 use Rattle.tor_cli.specs.Proving.{answer_of}
 use Rattle.tor_cli.specs.Streams.{IsUntouched, Streams}
 use Rattle.tor_cli.specs.declared.answer.Answer.{Answer}
@@ -61,8 +61,8 @@ pub record IsRechecked (bytes text : List ℕ) (answer : Answer) : Type 0 where
 -- a fault of a file that the torrent has, or want of workers or of memory
 abbrev pub IsRecheckFault : View → RecheckError Error → Type 0
 IsRecheckFault view error =
-    IsGiven (IsFileFault (length view.files)) (length view.files) error × (error ≢ rechecks.Workers)
-    × (error ≢ rechecks.Resources)
+    IsGiven (IsFileFault (length view.files)) (IsFileSize (length view.files)) IsFileEnd (length view.files) error
+    × (error ≢ rechecks.Workers) × (error ≢ rechecks.Resources)
 
 -- why nothing is printed of the bytes
 abbrev pub IsNotRechecked : List ℕ → Fault → Type 0

@@ -13,18 +13,18 @@ use Rattle.tor_source.specs.declared.faults.ScanFault.TheVariants as scans
 use Rattle.tor_spec.specs.Settings.{Settings}
 use Rattle.tor_tree.specs.Name.{name_fault}
 use Rattle.tor_cli.specs.Foreign.{DoesTell, StopsTelling}
-use Rattle.tor_input.specs.Input.{ReadsAll, ReadsSome, EndsInput}
-use Rattle.tor_input.specs.Make.{IsFront, MakesOf, refusal_of}
-use Rattle.tor_cli.specs.Place.{AreFound, IsFileFault}
+use Rattle.tor_source.specs.Input.{ReadsAll, ReadsSome, EndsInput}
+use Rattle.tor_meta.specs.FromInput.{IsFront, MakesOf, refusal_of}
+use Rattle.tor_cli.specs.Place.{AreFound, IsFileEnd, IsFileFault, IsFileSize}
 use Rattle.tor_cli.specs.Proving.{DoesProve, DoesVerify, StopsProving, StopsVerifying}
 use Rattle.tor_cli.specs.Recheck.{DoesRecheck, StopsRechecking}
 use Rattle.tor_cli.specs.Status.{status_of}
 use Rattle.tor_cli.specs.Streams.{IsUntouched, Streams}
 use Rattle.tor_cli.specs.Telling.{lines_of}
 use Rattle.tor_cli.specs.Words.{Asks, IsOfWords}
-use Rattle.tor_input.specs.declared.input.TheConstants.{MAX_INPUT_LENGTH}
-use Rattle.tor_input.specs.declared.input.InputFault.{InputFault}
-use Rattle.tor_input.specs.declared.input.InputFault.TheVariants as inputs
+use Rattle.tor_source.specs.declared.input.TheConstants.{MAX_INPUT_LENGTH}
+use Rattle.tor_source.specs.declared.input.InputFault.{InputFault}
+use Rattle.tor_source.specs.declared.input.InputFault.TheVariants as inputs
 use Rattle.tor_cli.specs.declared.options.MakeOptions.{MakeOptions}
 use Rattle.tor_cli.specs.declared.command.Request.{Request}
 use Rattle.tor_cli.specs.declared.answer.Answer.{Answer}
@@ -121,7 +121,8 @@ StopsFinding options (Name fault) = name_fault options.name.now ≡ Some fault
 StopsFinding options (Scan fault) = (name_fault options.name.now ≡ None) × (fault ≢ scans.Memory)
 StopsFinding options (Make error) = (order : Order) × (paths : List (List (List ℕ))) × IsOrderOf options order paths
     × IsOwn (make_refusal order paths) error × IsRefusedFirst order paths error
-    × IsGivenTo (IsFileFault (length paths)) (length paths) error × (error ≢ makes.Resources)
+    × IsGivenTo (IsFileFault (length paths)) (IsFileSize (length paths)) IsFileEnd (length paths) error
+    × (error ≢ makes.Resources)
 StopsFinding options Resources = Unit {0}
 StopsFinding options other = ⊥
 

@@ -15,10 +15,10 @@ use Rattle.tor_tree.specs.declared.names.NameError.{NameError}
 use Rattle.tor_tree.specs.declared.names.NameError.TheVariants as names
 use Rattle.tor_cli.specs.declared.answer.Answer.{Answer}
 use Rattle.tor_cli.specs.declared.answer.Answer.TheVariants.{Yes, No}
-use Rattle.tor_input.specs.declared.input.InputFault.{InputFault}
-use Rattle.tor_input.specs.declared.input.InputFault.TheVariants as inputs
-use Rattle.tor_input.specs.declared.make.FromFault.{FromFault}
-use Rattle.tor_input.specs.declared.make.FromFault.TheVariants as steps
+use Rattle.tor_source.specs.declared.input.InputFault.{InputFault}
+use Rattle.tor_source.specs.declared.input.InputFault.TheVariants as inputs
+use Rattle.tor_meta.specs.declared.from_input.FromFault.{FromFault}
+use Rattle.tor_meta.specs.declared.from_input.FromFault.TheVariants as steps
 use Rattle.tor_cli.specs.declared.fault.Fault.{Fault}
 use Rattle.tor_cli.specs.declared.fault.Fault.TheVariants.{Usage, Name, Scan, Make, Refused, Piece, Recheck, Argument}
 use Rattle.tor_cli.specs.declared.fault.Fault.TheVariants.{Read, TooLong, Write, Resources}

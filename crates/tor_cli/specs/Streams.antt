@@ -8,6 +8,19 @@ pub record Streams : Type 0 where
   pub writer : Option (List ℕ)
   pub writer' : Option (List ℕ)
 
+-- what a reader had, and has, and what stood in a writer, and stands there
+abbrev pub streams : Option (List ℕ) → Option (List ℕ) → Option (List ℕ) → Option (List ℕ) → Streams
+streams reader reader' writer writer' = record {
+  reader = reader;
+  reader' = reader';
+  writer = writer;
+  writer' = writer';
+}
+
+-- where nothing is read: what the reader has, and what stood in the writer, and stands there
+abbrev pub writing : Option (List ℕ) → Option (List ℕ) → Option (List ℕ) → Streams
+writing reader writer writer' = streams reader reader writer writer'
+
 -- nothing was read, and nothing was written
 abbrev pub IsUntouched : Streams → Type 0
 IsUntouched s = (s.reader' ≡ s.reader) × (s.writer' ≡ s.writer)

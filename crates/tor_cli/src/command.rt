@@ -95,6 +95,13 @@ fn request_in<'a>(matches: &ArgMatches<'a>) -> Option<Request<'a>>
     if let Some(magnet) = matches.subcommand_matches("magnet") {
         return Some(Request::Magnet(file_of(magnet)?));
     }
+    request_of_pieces(matches)
+}
+
+/// The same of the commands over single pieces.
+fn request_of_pieces<'a>(matches: &ArgMatches<'a>) -> Option<Request<'a>>
+    ensures { IfSome result (IsFoundIn matches.now) }
+{
     if let Some(prove) = matches.subcommand_matches("prove") {
         return Some(Request::Prove(prove_options(prove)?));
     }

@@ -2,9 +2,10 @@
 ghost use Rattle.clap.specs.Walk.{texts};
 ghost use Rattle.std.specs.Prelude.{◌≡◌, ◌≢◌, ◌≤◌, ℕ, IfErr, IfOk, Ok, OnOk, string_bytes};
 ghost use Rattle.std.specs.Io.KnownBytes.{Appends};
-ghost use Rattle.tor_input.specs.Make.{IsFront};
+ghost use Rattle.tor_meta.specs.FromInput.{IsFront};
 ghost use Rattle.tor_cli.specs.Request.{Does, DoesAsked, EndsAsked, Stops, StopsAsked};
 ghost use Rattle.tor_cli.specs.Status.{done_of, status_after};
+ghost use Rattle.tor_cli.specs.Streams.{streams};
 ghost use Rattle.tor_cli.specs.declared.answer.Answer.TheVariants.{Yes};
 ghost use Rattle.tor_cli.specs.declared.fault.Fault.TheVariants.{Write as WriteFault};
 
@@ -33,18 +34,10 @@ pub fn execute<T: Threads + Sync, R: Read, W: Write, E: Write>(
     shows_progress: bool,
 ) -> u8
     ensures within { result ≤ 4 }
-    ensures done { result ≡ 0 → DoesAsked (texts words.entry.now) (record {
-      reader = R.remaining reader.old;
-      reader' = R.remaining reader.new;
-      writer = W.contents out.old;
-      writer' = W.contents out.new;
-    }) Yes }
-    ensures stopped { result ≢ 0 → EndsAsked (texts words.entry.now) (record {
-      reader = R.remaining reader.old;
-      reader' = R.remaining reader.new;
-      writer = W.contents out.old;
-      writer' = W.contents out.new;
-    }) result }
+    ensures done { result ≡ 0 → DoesAsked (texts words.entry.now)
+        (streams (R.remaining reader.old) (R.remaining reader.new) (W.contents out.old) (W.contents out.new)) Yes }
+    ensures stopped { result ≢ 0 → EndsAsked (texts words.entry.now)
+        (streams (R.remaining reader.old) (R.remaining reader.new) (W.contents out.old) (W.contents out.new)) result }
 {
     let outcome = answer(rt, system, words, reader, out, shows_progress);
     tell(&outcome, err)
@@ -59,18 +52,10 @@ fn answer<T: Threads + Sync, R: Read, W: Write>(
     out: &mut W,
     shows_progress: bool,
 ) -> Result<Answer, Fault>
-    ensures done { IfOk result (DoesAsked (texts words.entry.now) (record {
-      reader = R.remaining reader.old;
-      reader' = R.remaining reader.new;
-      writer = W.contents out.old;
-      writer' = W.contents out.new;
-    })) }
-    ensures stopped { IfErr result (StopsAsked (texts words.entry.now) (record {
-      reader = R.remaining reader.old;
-      reader' = R.remaining reader.new;
-      writer = W.contents out.old;
-      writer' = W.contents out.new;
-    })) }
+    ensures done { IfOk result (DoesAsked (texts words.entry.now)
+        (streams (R.remaining reader.old) (R.remaining reader.new) (W.contents out.old) (W.contents out.new))) }
+    ensures stopped { IfErr result (StopsAsked (texts words.entry.now)
+        (streams (R.remaining reader.old) (R.remaining reader.new) (W.contents out.old) (W.contents out.new))) }
 {
     let request = read_words(system.alloc(), words)?;
     perform(rt, system, &request, reader, out, shows_progress)
@@ -85,18 +70,10 @@ fn perform<T: Threads + Sync, R: Read, W: Write>(
     out: &mut W,
     shows_progress: bool,
 ) -> Result<Answer, Fault>
-    ensures done { IfOk result (λ answer. Does request.now answer (record {
-      reader = R.remaining reader.old;
-      reader' = R.remaining reader.new;
-      writer = W.contents out.old;
-      writer' = W.contents out.new;
-    })) }
-    ensures stopped { IfErr result (Stops request.now (record {
-      reader = R.remaining reader.old;
-      reader' = R.remaining reader.new;
-      writer = W.contents out.old;
-      writer' = W.contents out.new;
-    })) }
+    ensures done { IfOk result (λ answer. Does request.now answer
+        (streams (R.remaining reader.old) (R.remaining reader.new) (W.contents out.old) (W.contents out.new))) }
+    ensures stopped { IfErr result (Stops request.now (streams (R.remaining reader.old) (R.remaining reader.new)
+        (W.contents out.old) (W.contents out.new))) }
 {
     match request {
         Request::Show(text) => done(show(text, out)),

@@ -9,10 +9,9 @@ use crate::fault::Fault;
 use std::alloc::{AllocError, AllocFailed};
 use std::io;
 use tor_check::{PieceError, Refusal};
-use tor_input::{FromFault, InputFault};
-use tor_meta::{MakeError, WriteFault};
+use tor_meta::{FromFault, MakeError, WriteFault};
 use tor_recheck::RecheckError;
-use tor_source::ScanFault;
+use tor_source::{InputFault, ScanFault};
 use tor_tree::NameError;
 
 impl From<InputFault> for Fault {

@@ -2,14 +2,14 @@
 ghost use Rattle.std.specs.Prelude.{◌≤◌, IfErr, IfOk, vec_len};
 ghost use Rattle.tor_check.specs.Valid.{IsRefusedFor};
 ghost use Rattle.tor_cli.specs.Foreign.{IsTorrentWith};
-ghost use Rattle.tor_input.specs.declared.input.TheConstants.{MAX_INPUT_LENGTH};
+ghost use Rattle.tor_source.specs.declared.input.TheConstants.{MAX_INPUT_LENGTH};
 
 use std::alloc::Global;
 use std::fs;
 use std::rt::Files;
 use tor_check::{Refusal, Torrent, validate};
-use tor_input::{InputFault, MAX_INPUT_LENGTH, read_limited};
 use tor_meta::{Hashes, info_hashes};
+use tor_source::{InputFault, MAX_INPUT_LENGTH, read_limited};
 
 /// What a torrent describes, and its info hashes.
 #[derive(Drop)]

@@ -4,7 +4,7 @@ ghost use Rattle.std.specs.declared.io.Error.{Error};
 ghost use Rattle.tor_meta.specs.Contents.{IsMadeOfSome};
 ghost use Rattle.tor_meta.specs.Make.{IsGivenTo, IsOwn, make_refusal};
 ghost use Rattle.tor_meta.specs.Order.{settings_of_order};
-ghost use Rattle.tor_cli.specs.Place.{AreFound, IsFileFault};
+ghost use Rattle.tor_cli.specs.Place.{AreFound, IsFileEnd, IsFileFault, IsFileSize};
 ghost use Rattle.tor_cli.specs.Request.{IsRefusedFirst};
 
 use crate::progress::{Counting, Progress};
@@ -72,7 +72,8 @@ pub fn torrent_of<T: Threads + Sync>(
     ensures accepted { OnOk result (make_refusal {F = Error} order.now found.now.paths.items ≡ None) }
     ensures refused { IfErr result (IsRefusedFirst order.now found.now.paths.items) }
     ensures only { IfErr result (IsOwn (make_refusal order.now found.now.paths.items)) }
-    ensures gave { let count = length found.now.paths.items in IfErr result (IsGivenTo (IsFileFault count) count) }
+    ensures gave { let count = length found.now.paths.items in
+        IfErr result (IsGivenTo (IsFileFault count) (IsFileSize count) IsFileEnd count) }
 {
     let counting = Counting {
         source: &found.source,

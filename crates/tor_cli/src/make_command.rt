@@ -4,6 +4,7 @@ ghost use Rattle.tor_tree.specs.Name.{name_fault};
 ghost use Rattle.tor_tree.specs.declared.names.NameError.TheVariants.{Memory};
 ghost use Rattle.tor_cli.specs.Request.{DoesInput, DoesMake, DoesPlace, IsOrder, IsTorrentAt, StopsFinding};
 ghost use Rattle.tor_cli.specs.Request.{StopsInput, StopsMake, StopsPlace};
+ghost use Rattle.tor_cli.specs.Streams.{streams, writing};
 
 use crate::fault::Fault;
 use crate::from_place::{files_at, torrent_of};
@@ -13,8 +14,8 @@ use crate::progress::Progress;
 use std::alloc::{AllocError, Global};
 use std::io::{Read, Write};
 use std::thread::Threads;
-use tor_input::{drop_input, make_from, torrent_from};
-use tor_meta::Order;
+use tor_meta::{Order, make_from, torrent_from};
+use tor_source::drop_input;
 use tor_tree::{Name, NameError};
 
 /// Makes the torrent of one file, whose content the reader has, or of the files at a place of the system. The first of
@@ -27,18 +28,10 @@ pub fn make<T: Threads + Sync, R: Read, W: Write>(
     out: &mut W,
     shows_progress: bool,
 ) -> Result<(), Fault>
-    ensures made { OnOk result (DoesMake options.now (record {
-      reader = R.remaining reader.old;
-      reader' = R.remaining reader.new;
-      writer = W.contents out.old;
-      writer' = W.contents out.new;
-    })) }
-    ensures stopped { IfErr result (StopsMake options.now (record {
-      reader = R.remaining reader.old;
-      reader' = R.remaining reader.new;
-      writer = W.contents out.old;
-      writer' = W.contents out.new;
-    })) }
+    ensures made { OnOk result (DoesMake options.now (streams (R.remaining reader.old) (R.remaining reader.new)
+        (W.contents out.old) (W.contents out.new))) }
+    ensures stopped { IfErr result (StopsMake options.now (streams (R.remaining reader.old) (R.remaining reader.new)
+        (W.contents out.old) (W.contents out.new))) }
 {
     match options.place {
         Some(place) => make_of_place(rt, system, options, place, out, shows_progress),
@@ -53,18 +46,10 @@ fn make_of_input<R: Read, W: Write>(
     reader: &mut R,
     out: &mut W,
 ) -> Result<(), Fault>
-    ensures made { OnOk result (DoesInput options.now (record {
-      reader = R.remaining reader.old;
-      reader' = R.remaining reader.new;
-      writer = W.contents out.old;
-      writer' = W.contents out.new;
-    })) }
-    ensures stopped { IfErr result (StopsInput options.now (record {
-      reader = R.remaining reader.old;
-      reader' = R.remaining reader.new;
-      writer = W.contents out.old;
-      writer' = W.contents out.new;
-    })) }
+    ensures made { OnOk result (DoesInput options.now (streams (R.remaining reader.old) (R.remaining reader.new)
+        (W.contents out.old) (W.contents out.new))) }
+    ensures stopped { IfErr result (StopsInput options.now (streams (R.remaining reader.old) (R.remaining reader.new)
+        (W.contents out.old) (W.contents out.new))) }
 {
     let alloc = system.alloc();
     let order = match order_of_one(alloc, options) {
@@ -92,18 +77,10 @@ fn make_of_place<T: Threads + Sync, W: Write>(
     out: &mut W,
     shows_progress: bool,
 ) -> Result<(), Fault>
-    ensures made { (reader : Option (List ℕ)) → OnOk result (DoesPlace options.now (record {
-      reader = reader;
-      reader' = reader;
-      writer = W.contents out.old;
-      writer' = W.contents out.new;
-    })) }
-    ensures stopped { (reader : Option (List ℕ)) → IfErr result (StopsPlace options.now (record {
-      reader = reader;
-      reader' = reader;
-      writer = W.contents out.old;
-      writer' = W.contents out.new;
-    })) }
+    ensures made { (reader : Option (List ℕ)) → OnOk result (DoesPlace options.now (writing reader
+        (W.contents out.old) (W.contents out.new))) }
+    ensures stopped { (reader : Option (List ℕ)) → IfErr result (StopsPlace options.now (writing reader
+        (W.contents out.old) (W.contents out.new))) }
 {
     let torrent = torrent_at(rt, system, options, place, shows_progress)?;
     Ok(send(system, out, options.out, &torrent)?)

@@ -4,7 +4,7 @@ ghost use Rattle.clap.specs.declared.builder.value_parser.ValueParser.{ValuePars
 ghost use Rattle.std.specs.Prelude.{◌≡◌, IfOk, false};
 ghost use Rattle.tor_cli.specs.CommandLine.{AreHows, AreKinds, announce_option, how_option, kind_option, make_app};
 ghost use Rattle.tor_cli.specs.CommandLine.{name_option, out_option, path_argument, piece_length_option};
-ghost use Rattle.tor_cli.specs.CommandLine.{private_option, span_option, workers_option};
+ghost use Rattle.tor_cli.specs.CommandLine.{private_option, span_option, with_torrent, with_ways, workers_option};
 
 use clap::{Arg, ArgAction, Command, value_parser};
 use std::alloc::{AllocError, Global};
@@ -28,13 +28,32 @@ pub fn make_command<'a>(alloc: Global) -> Result<Command<'a>, AllocError>
     ensures { IfOk result (λ command. (kinds hows : ValueParser) × AreKinds kinds × AreHows hows
         × (app_of command ≡ make_app kinds hows)) }
 {
-    Command::new(alloc, "make")
-        .about("Makes a torrent of standard input, or of a file or folder")
+    let begun = Command::new(alloc, "make").about(
+        "Makes a torrent of standard input, or of a file or folder",
+    );
+    let command = add_torrent(alloc, begun)?;
+    add_ways(alloc, command)
+}
+
+// What the torrent is to have, beside its files.
+fn add_torrent<'a>(alloc: Global, command: Command<'a>) -> Result<Command<'a>, AllocError>
+    ensures { IfOk result (λ added. (kinds : ValueParser) × AreKinds kinds
+        × (app_of added ≡ with_torrent kinds (app_of command.entry))) }
+{
+    command
         .arg(name_option(alloc))?
         .arg(piece_length_option(alloc))?
         .arg(kind_option(alloc))?
         .arg(announce_option(alloc))?
-        .arg(private_option(alloc))?
+        .arg(private_option(alloc))
+}
+
+// Who hashes, where the torrent goes, and where the files are.
+fn add_ways<'a>(alloc: Global, command: Command<'a>) -> Result<Command<'a>, AllocError>
+    ensures { IfOk result (λ added. (hows : ValueParser) × AreHows hows
+        × (app_of added ≡ with_ways hows (app_of command.entry))) }
+{
+    command
         .arg(how_option(alloc))?
         .arg(workers_option(alloc))?
         .arg(span_option(alloc))?

@@ -111,6 +111,10 @@ impl<'a, S: Source> Source for Counting<'a, S> {
 
     ghost gave = { λ counting file offset fault. S.gave counting.source.now file offset fault };
 
+    ghost told = { λ counting file size. S.told counting.source.now file size };
+
+    ghost ended = { λ counting file start. S.ended counting.source.now file start };
+
     fn length(&self, file: u64) -> Result<Option<u64>, S::Fault> {
         let answer = self.source.length(file);
         if let (Some(progress), Ok(length)) = (&self.progress, &answer) {

@@ -1,6 +1,7 @@
 //! `tor prove`: the proof of one piece of the torrent in a file.
 ghost use Rattle.std.specs.Prelude.{ℕ, List, Option, IfErr, IfOk, OnOk, string_bytes};
 ghost use Rattle.tor_cli.specs.Proving.{DoesProve, IsNotProved, IsProofOf, StopsProving};
+ghost use Rattle.tor_cli.specs.Streams.{writing};
 
 use crate::fault::Fault;
 use crate::foreign::read_file;
@@ -17,18 +18,10 @@ pub fn prove<W: Write>(
     options: &ProveOptions<'_>,
     out: &mut W,
 ) -> Result<(), Fault>
-    ensures proved { (reader : Option (List ℕ)) → OnOk result (DoesProve options.now (record {
-      reader = reader;
-      reader' = reader;
-      writer = W.contents out.old;
-      writer' = W.contents out.new;
-    })) }
-    ensures stopped { (reader : Option (List ℕ)) → IfErr result (StopsProving options.now (record {
-      reader = reader;
-      reader' = reader;
-      writer = W.contents out.old;
-      writer' = W.contents out.new;
-    })) }
+    ensures proved { (reader : Option (List ℕ)) → OnOk result (DoesProve options.now (writing reader
+        (W.contents out.old) (W.contents out.new))) }
+    ensures stopped { (reader : Option (List ℕ)) → IfErr result (StopsProving options.now (writing reader
+        (W.contents out.old) (W.contents out.new))) }
 {
     let alloc = system.alloc();
     let bytes = read_file(alloc, system, options.torrent)?;

@@ -1,6 +1,7 @@
 //! `tor recheck`: which pieces of the torrent in a file are there and right.
 ghost use Rattle.std.specs.Prelude.{ℕ, List, Option, IfErr, IfOk, string_bytes};
 ghost use Rattle.tor_cli.specs.Recheck.{DoesRecheck, IsNotRechecked, IsRechecked, StopsRechecking};
+ghost use Rattle.tor_cli.specs.Streams.{writing};
 
 use crate::answer::Answer;
 use crate::fault::Fault;
@@ -23,18 +24,10 @@ pub fn recheck<T: Threads + Sync, W: Write>(
     out: &mut W,
     shows_progress: bool,
 ) -> Result<Answer, Fault>
-    ensures answered { (reader : Option (List ℕ)) → IfOk result (λ answer. DoesRecheck answer (record {
-      reader = reader;
-      reader' = reader;
-      writer = W.contents out.old;
-      writer' = W.contents out.new;
-    })) }
-    ensures stopped { (reader : Option (List ℕ)) → IfErr result (StopsRechecking (record {
-      reader = reader;
-      reader' = reader;
-      writer = W.contents out.old;
-      writer' = W.contents out.new;
-    })) }
+    ensures answered { (reader : Option (List ℕ)) → IfOk result (λ answer. DoesRecheck answer (writing reader
+        (W.contents out.old) (W.contents out.new))) }
+    ensures stopped { (reader : Option (List ℕ)) → IfErr result (StopsRechecking (writing reader
+        (W.contents out.old) (W.contents out.new))) }
 {
     let bytes = read_file(system.alloc(), system, options.torrent)?;
     let report = report_at(rt, system, &bytes, options.place, shows_progress)?;

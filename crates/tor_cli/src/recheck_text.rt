@@ -42,7 +42,8 @@ pub fn counted_report<S: Source, T: Threads + Sync>(
         (string_bytes report.text) report.answer × (first_fault facts torrent.now ≡ None))
         (IsFault (first_fault facts torrent.now)) }
     ensures allowed { IfErr result (λ error. error ≢ Workers) }
-    ensures gave { IfErr result (IsGiven (S.gave source.now) (length torrent.now.files)) }
+    ensures gave { IfErr result
+        (IsGiven (S.gave source.now) (S.told source.now) (S.ended source.now) (length torrent.now.files)) }
 {
     let counting = Counting {
         source,

@@ -1,6 +1,7 @@
 //! `tor check` and `tor magnet`: what is printed of the torrent in a file.
 ghost use Rattle.std.specs.Prelude.{ℕ, List, Option, IfErr, IfOk, OnOk, string_bytes};
 ghost use Rattle.tor_cli.specs.Foreign.{AreLinesOf, DoesTell, IsNoTorrent, StopsTelling};
+ghost use Rattle.tor_cli.specs.Streams.{writing};
 ghost use Rattle.tor_cli.specs.Telling.{lines_of};
 
 use crate::fault::Fault;
@@ -26,18 +27,10 @@ pub fn tell_torrent<W: Write>(
     telling: Telling,
     out: &mut W,
 ) -> Result<(), Fault>
-    ensures printed { (reader : Option (List ℕ)) → OnOk result (DoesTell (lines_of telling) (record {
-      reader = reader;
-      reader' = reader;
-      writer = W.contents out.old;
-      writer' = W.contents out.new;
-    })) }
-    ensures stopped { (reader : Option (List ℕ)) → IfErr result (StopsTelling (lines_of telling) (record {
-      reader = reader;
-      reader' = reader;
-      writer = W.contents out.old;
-      writer' = W.contents out.new;
-    })) }
+    ensures printed { (reader : Option (List ℕ)) → OnOk result (DoesTell (lines_of telling) (writing reader
+        (W.contents out.old) (W.contents out.new))) }
+    ensures stopped { (reader : Option (List ℕ)) → IfErr result (StopsTelling (lines_of telling) (writing reader
+        (W.contents out.old) (W.contents out.new))) }
 {
     let alloc = system.alloc();
     let bytes = read_file(alloc, system, place)?;

@@ -3,6 +3,7 @@ ghost use Rattle.std.specs.Prelude.{◌≡◌, ◌≤◌, ℕ, List, Option, IfE
 ghost use Rattle.tor_cli.specs.Proving.{DoesVerify, IsAnswered, IsNotAnswered, StopsVerifying, answer_line};
 ghost use Rattle.tor_merkle.specs.Layer.{IsPieceLength};
 ghost use Rattle.tor_merkle.specs.declared.TheConstants.{MAX_LENGTH};
+ghost use Rattle.tor_cli.specs.Streams.{writing};
 
 use crate::answer::Answer;
 use crate::claim::{ArgumentFault, Claim, claim_of};
@@ -21,18 +22,10 @@ pub fn verify<W: Write>(
     options: &VerifyOptions<'_>,
     out: &mut W,
 ) -> Result<Answer, Fault>
-    ensures answered { (reader : Option (List ℕ)) → IfOk result (λ answer. DoesVerify options.now answer (record {
-      reader = reader;
-      reader' = reader;
-      writer = W.contents out.old;
-      writer' = W.contents out.new;
-    })) }
-    ensures stopped { (reader : Option (List ℕ)) → IfErr result (StopsVerifying options.now (record {
-      reader = reader;
-      reader' = reader;
-      writer = W.contents out.old;
-      writer' = W.contents out.new;
-    })) }
+    ensures answered { (reader : Option (List ℕ)) → IfOk result (λ answer. DoesVerify options.now answer (writing reader
+        (W.contents out.old) (W.contents out.new))) }
+    ensures stopped { (reader : Option (List ℕ)) → IfErr result (StopsVerifying options.now (writing reader
+        (W.contents out.old) (W.contents out.new))) }
 {
     let alloc = system.alloc();
     let claim = claim_of(options)?;

@@ -1,16 +1,21 @@
 -- The hashes and the first fault of all pieces of a plan, unit by unit.
-use Rattle.std.proofs.Common.{◌≡◌, ℕ, List, [], ◌∷◌, ◌++◌, length, map, Option, None, Some, unwrap_or, option_map}
+use Rattle.std.proofs.Common.{◌≡◌, ℕ, ◌+◌, List, [], ◌∷◌, ◌++◌, length, map, Option, None, Some, unwrap_or, option_map}
+use Rattle.std.proofs.Common.{Vec}
 use Rattle.std.proofs.Common.{refl, ap}
 use Rattle.std.proofs.Common.{ap₂, sym, ◌∙◌}
 use Rattle.std.specs.List.{flat_map, range_with_len}
-use Rattle.std.proofs.lemmas.List.{map-append}
+use Rattle.std.proofs.lemmas.List.{length-append, map-append}
+use Rattle.std.specs.declared.alloc.Global.{Global}
 use Rattle.tor_plan.specs.Pieces.{pieces_of_unit}
 use Rattle.tor_plan.specs.PlanFacts.{PlanFacts}
+use Rattle.tor_plan.specs.declared.units.PlanUnit.{PlanUnit}
 use Rattle.tor_source.specs.Source.{SourceFacts}
 use Rattle.tor_engine.specs.Contents.{contents_in}
 use Rattle.tor_engine.specs.PieceFault.{first_asked_fault, first_piece_fault, lengths_told, piece_fault, pieces_fault}
 use Rattle.tor_engine.specs.PieceHashes.{hash_if_there, pieces_of_plan, piece_hashes}
-use Rattle.tor_engine.specs.steps.Pieces.{AreTold, first_unit_fault, unit_hashes, unit_pieces_fault}
+use Rattle.tor_engine.specs.declared.piece_hash.PieceHash.{PieceHash}
+use Rattle.tor_engine.specs.steps.Each.{SumUpEach}
+use Rattle.tor_engine.specs.steps.Pieces.{AreTold, HashesPieces, first_unit_fault, unit_hashes, unit_pieces_fault}
 use Rattle.tor_engine.proofs.FirstOf.{or_none}
 use Rattle.tor_engine.proofs.PositionFaults.{first_flat}
 
@@ -29,6 +34,35 @@ pub all_faults : {F : Type 0} (facts : SourceFacts F) (plan : PlanFacts) (conten
 all_faults facts plan contents =
     sym (first_flat (piece_fault facts contents) (pieces_of_unit plan.piece_length)
     (unit_pieces_fault facts plan contents) plan.units (λ unit. refl))
+
+-- units that are hashed each by itself, as vectors of their hashes
+module _ {F : Type 0} (is_steady : SourceFacts F → Type 0) (plan : PlanFacts) (told : List (Option ℕ)) where
+  abbrev Each : List PlanUnit → List (Vec (Option PieceHash) Global) → Type 0
+  Each units hashes = SumUpEach (λ unit one. HashesPieces is_steady plan told unit one.items) units hashes
+
+  pub hashes_joined : (facts : SourceFacts F) → is_steady facts
+      → AreTold told (contents_in facts (length plan.lengths))
+      → (units : List PlanUnit) (hashes : List (Vec (Option PieceHash) Global)) → Each units hashes
+      → flat_map (λ one. one.items) hashes
+      ≡ flat_map (unit_hashes plan (contents_in facts (length plan.lengths))) units
+  unfolding SumUpEach
+  hashes_joined facts steady are [] [] each = refl
+  hashes_joined facts steady are [] (one ∷ hashes) each = absurd each
+  hashes_joined facts steady are (unit ∷ units) [] each = absurd each
+  hashes_joined facts steady are (unit ∷ units) (one ∷ hashes) each =
+      ap₂ (λ xs ys. xs ++ ys) (each.0.steady facts steady are) (hashes_joined facts steady are units hashes each.1)
+
+  pub hashes_counted : (units : List PlanUnit) (hashes : List (Vec (Option PieceHash) Global)) → Each units hashes
+      → length (flat_map (λ one. one.items) hashes) ≡ length (flat_map (pieces_of_unit plan.piece_length) units)
+  unfolding SumUpEach
+  hashes_counted [] [] each = refl
+  hashes_counted [] (one ∷ hashes) each = absurd each
+  hashes_counted (unit ∷ units) [] each = absurd each
+  hashes_counted (unit ∷ units) (one ∷ hashes) each =
+      length-append one.items (flat_map (λ one. one.items) hashes)
+      ∙ ap₂ (λ n m. n + m) each.0.counted (hashes_counted units hashes each.1)
+      ∙ sym (length-append (pieces_of_unit plan.piece_length unit)
+      (flat_map (pieces_of_unit plan.piece_length) units))
 
 -- the lengths that were told are those of the contents
 module _ {F : Type 0} (facts : SourceFacts F) where

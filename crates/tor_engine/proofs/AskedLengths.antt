@@ -1,15 +1,20 @@
 -- Lengths that are asked of files that may be missing.
-use Rattle.std.proofs.Common.{◌≡◌, ◌≢◌, ◌<◌, ℕ, ◌+◌, List, [], ◌∷◌, ◌++◌, length, take, Option, None, Some, Ok}
-use Rattle.std.proofs.Common.{true, false, eqb, get_or, option_map, zero-add, true≢false, refl, ap, sym, ◌∙◌, arith}
+use Rattle.std.proofs.Common.{◌≡◌, ◌≢◌, ◌<◌, ◌≤◌, ℕ, ◌+◌, Bool, List, [], ◌∷◌, ◌++◌, length, map, take, Option, None}
+use Rattle.std.proofs.Common.{Some, Ok, true, false, cond, eqb, get_or, option_map, zero-add, true≢false, refl}
+use Rattle.std.proofs.Common.{ap, ap₂, sym}
+use Rattle.std.proofs.Common.{◌∙◌, arith}
+use Rattle.std.specs.List.{enumerate_from, range_with_len}
 use Rattle.std.specs.Option.{option_eq}
 use Rattle.std.proofs.lemmas.Bool.{eq-eqb, eqb-true}
-use Rattle.std.proofs.lemmas.List.{take_more}
-use Rattle.std.proofs.lemmas.List.FromFn.{get_or-map-range_with_len, map-range_with_len_more}
+use Rattle.std.proofs.lemmas.List.{take_all}
+use Rattle.std.proofs.lemmas.List.FromFn.{get_or-enumerate_from, length-enumerate_from, map-range_with_len_more}
 use Rattle.tor_source.specs.Source.{SourceFacts, told_length, unless_fault}
+use Rattle.tor_engine.specs.Fault.{first_of}
 use Rattle.tor_engine.specs.PieceFault.{asked_fault, first_asked_fault, lengths_told}
 use Rattle.tor_engine.specs.declared.errors.EngineError.{EngineError}
-use Rattle.tor_engine.specs.declared.errors.EngineError.TheVariants.{Read}
-use Rattle.tor_engine.proofs.FirstOf.{first_found, first_none, none_of_range}
+use Rattle.tor_engine.specs.declared.errors.EngineError.TheVariants.{Changed, Read}
+use Rattle.tor_engine.specs.steps.Asked.{again_fault, first_again_fault, unless_same}
+use Rattle.tor_engine.proofs.FirstOf.{first_at, first_found, first_next, first_none, neither, or_none}
 
 option_equal : (o : Option ℕ) → option_eq eqb o o ≡ true
 option_equal None = refl
@@ -55,39 +60,110 @@ module _ {F : Type 0} (facts : SourceFacts F) where
 
   -- ---- asked again
 
-  -- the same is told
-  pub told_again : (told : List (Option ℕ)) (file : ℕ) (again : Option ℕ) → file < length told
-      → told ≡ lengths_told facts (length told) → told_length facts file ≡ Ok again
-      → option_eq eqb again (get_or told file None) ≡ true
-  told_again told file again less are is =
-      let size = (told_is (facts.length_fault file) (option_map length (facts.contents file)) again is).1 in
-      let here : get_or told file None ≡ again =
-      ap (λ xs. get_or xs file None) are
-      ∙ get_or-map-range_with_len (λ k. option_map length (facts.contents k)) 0 (length told) file file None less
-      (zero-add file) ∙ size in
-      ap (option_eq eqb again) here ∙ option_equal again
+  told_as : (file : ℕ) (size now : Option ℕ) (b : Bool) → option_eq eqb now size ≡ b
+      → unless_same {F = F} file size (Ok now) ≡ cond b None (Some (Changed file))
+  told_as file size now b is = ap (λ b. cond b None (Some (Changed file))) is
 
-  -- and no fault
-  pub never_again : (told : List (Option ℕ)) (file : ℕ) (error : EngineError F) → file < length told
-      → first_asked_fault facts (length told) ≡ None → asked_fault facts file ≡ Some error → ⊥
-  never_again told file error less none is =
-      let never = none_of_range (asked_fault facts) 0 (length told) file less none in
-      let no : Some error ≡ None = sym is ∙ ap (asked_fault facts) (sym (zero-add file)) ∙ never in cc
+  -- a file has no fault where the same is told, and only there
+  same_told : (file : ℕ) (fault : Option F) (size now : Option ℕ) → option_map (λ f. Read file None f) fault ≡ None
+      → size ≡ now → unless_same file size (unless_fault fault now) ≡ None
+  same_told file None size now none same =
+      told_as file size now true (ap (option_eq eqb now) same ∙ option_equal now)
+  same_told file (Some fault) size now none same = cc
 
-  -- one file more of which the same is told
-  pub same_more : (told : List (Option ℕ)) (file : ℕ) (again : Option ℕ) → file < length told
-      → take file told ≡ lengths_told facts file → told_length facts file ≡ Ok again
-      → option_eq eqb again (get_or told file None) ≡ true → take (file + 1) told ≡ lengths_told facts (file + 1)
-  same_more told file again less before is same =
-      take_more told file None less
-      ∙ ap (λ size. take file told ++ size ∷ []) (sym (option_same again (get_or told file None) same))
-      ∙ asked_more (take file told) file again before is
+  told_same : (file : ℕ) (fault : Option F) (size now : Option ℕ)
+      → unless_same file size (unless_fault fault now) ≡ None → size ≡ now
+  told_same file None size now none = by_test (option_eq eqb now size) refl
+    where
+      by_test : (b : Bool) → option_eq eqb now size ≡ b → size ≡ now
+      by_test true is = sym (option_same now size is)
+      by_test false is = let no = sym (told_as file size now false is) ∙ none in cc
+  told_same file (Some fault) size now none = cc
 
-  -- a file of which another is told
-  pub other_told : (told : List (Option ℕ)) (file : ℕ) (again : Option ℕ) → told_length facts file ≡ Ok again
-      → option_eq eqb again (get_or told file None) ≡ false
-      → get_or told file None ≢ option_map length (facts.contents file)
-  other_told told file again is other same =
-      let size = (told_is (facts.length_fault file) (option_map length (facts.contents file)) again is).1 in
-      let equal = ap (λ o. option_eq eqb again o) (same ∙ size) ∙ option_equal again in
-      true≢false (sym equal ∙ other)
+  same_from : (a : ℕ) (sizes : List (Option ℕ))
+      → sizes ≡ map (λ file. option_map length (facts.contents file)) (range_with_len a (length sizes))
+      → first_of (asked_fault facts) (range_with_len a (length sizes)) ≡ None
+      → first_of (again_fault facts) (enumerate_from a sizes) ≡ None
+  unfolding first_of
+  same_from a [] same none = refl
+  same_from a (size ∷ sizes) same none =
+      let both = neither (asked_fault facts a) (first_of (asked_fault facts) (range_with_len (a + 1) (length sizes)))
+      none in
+      let here : size ≡ option_map length (facts.contents a) = cc in
+      let rest : sizes
+      ≡ map (λ file. option_map length (facts.contents file)) (range_with_len (a + 1) (length sizes)) = cc in
+      or_none (again_fault facts (a, size)) (first_of (again_fault facts) (enumerate_from (a + 1) sizes))
+      (same_told a (facts.length_fault a) size (option_map length (facts.contents a)) both.0 here)
+      ∙ same_from (a + 1) sizes rest both.1
+
+  from_same : (a : ℕ) (sizes : List (Option ℕ)) → first_of (again_fault facts) (enumerate_from a sizes) ≡ None
+      → sizes ≡ map (λ file. option_map length (facts.contents file)) (range_with_len a (length sizes))
+  unfolding first_of
+  from_same a [] none = refl
+  from_same a (size ∷ sizes) none =
+      let both = neither (again_fault facts (a, size)) (first_of (again_fault facts) (enumerate_from (a + 1) sizes))
+      none in
+      ap₂ (λ x xs. x ∷ xs) (told_same a (facts.length_fault a) size (option_map length (facts.contents a)) both.0)
+      (from_same (a + 1) sizes both.1)
+
+  -- a steady source tells again what it told, and nothing else
+  pub same_again : (sizes : List (Option ℕ)) (count : ℕ) → length sizes ≡ count → sizes ≡ lengths_told facts count
+      → first_asked_fault facts count ≡ None → first_again_fault facts sizes ≡ None
+  same_again sizes count long same none =
+      same_from 0 sizes (same ∙ ap (lengths_told facts) (sym long)) (ap (first_asked_fault facts) long ∙ none)
+
+  pub again_same : (sizes : List (Option ℕ)) (count : ℕ) → length sizes ≡ count
+      → first_again_fault facts sizes ≡ None → sizes ≡ lengths_told facts count
+  again_same sizes count long none = from_same 0 sizes none ∙ ap (lengths_told facts) long
+
+  -- one file after the other
+  module _ (sizes : List (Option ℕ)) (file : ℕ) (less : file < length sizes)
+      (before : first_of (again_fault facts) (take file (enumerate_from 0 sizes)) ≡ None) where
+    within : file < length (enumerate_from 0 sizes)
+    within = omega (arith, less, length-enumerate_from 0 sizes)
+
+    own : again_fault facts (get_or (enumerate_from 0 sizes) file (0, None))
+        ≡ unless_same file (get_or sizes file None) (told_length facts file)
+    own =
+        ap (again_fault facts) (get_or-enumerate_from 0 sizes file (0, None) less)
+        ∙ ap (λ k. again_fault facts (k, get_or sizes file None)) (zero-add file)
+
+    pub same_more : (again : Option ℕ) → told_length facts file ≡ Ok again
+        → option_eq eqb again (get_or sizes file None) ≡ true
+        → first_of (again_fault facts) (take (file + 1) (enumerate_from 0 sizes)) ≡ None
+    same_more again is same =
+        first_next (again_fault facts) (enumerate_from 0 sizes) file (0, None) within before
+        (own ∙ ap (unless_same file (get_or sizes file None)) is
+        ∙ told_as file (get_or sizes file None) again true same)
+
+    pub other_told : (again : Option ℕ) → told_length facts file ≡ Ok again
+        → option_eq eqb again (get_or sizes file None) ≡ false
+        → first_again_fault facts sizes ≡ Some (Changed file)
+    other_told again is other =
+        first_at (again_fault facts) (enumerate_from 0 sizes) file (0, None) (Changed file) within before
+        (own ∙ ap (unless_same file (get_or sizes file None)) is
+        ∙ told_as file (get_or sizes file None) again false other)
+
+    pub fails_again : (error : EngineError F) → asked_fault facts file ≡ Some error
+        → first_again_fault facts sizes ≡ Some error
+    fails_again error is =
+        first_at (again_fault facts) (enumerate_from 0 sizes) file (0, None) error within before
+        (own ∙ failed (facts.length_fault file) is)
+      where
+        failed : (fault : Option F) → option_map (λ f. Read file None f) fault ≡ Some error
+            → unless_same file (get_or sizes file None)
+            (unless_fault fault (option_map length (facts.contents file))) ≡ Some error
+        failed None never = cc
+        failed (Some fault) same = same
+
+  pub all_again : (sizes : List (Option ℕ)) (file : ℕ) → length sizes ≤ file
+      → first_of (again_fault facts) (take file (enumerate_from 0 sizes)) ≡ None
+      → first_again_fault facts sizes ≡ None
+  all_again sizes file all none =
+      ap (first_of (again_fault facts))
+      (sym (take_all file (enumerate_from 0 sizes) (omega (arith, all, length-enumerate_from 0 sizes)))) ∙ none
+
+-- another size is another
+pub other_size : (one other : Option ℕ) → option_eq eqb one other ≡ false → one ≢ other
+other_size one other is same =
+    true≢false (sym (ap (option_eq eqb one) (sym same) ∙ option_equal one) ∙ is)

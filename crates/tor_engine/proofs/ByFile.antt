@@ -1,76 +1,60 @@
--- The hashes of all files, cut file by file. Laws of tor_merkle come in as their statements.
-use Rattle.std.proofs.Common.{◌≡◌, ◌<◌, ◌≤◌, ℕ, ◌+◌, ◌*◌, List, [], ◌∷◌, ◌++◌, length, take, drop, get_or, inl, inr, ap}
-use Rattle.std.proofs.Common.{sym, ◌∙◌, arith, lt_of_mul-lt-mul_right}
+-- The units of all files, cut file by file.
+use Rattle.std.proofs.Common.{◌≡◌, ◌<◌, ◌≤◌, ℕ, ◌+◌, List, [], ◌∷◌, ◌++◌, length, map, take, drop, get_or, Option}
+use Rattle.std.proofs.Common.{ap, sym, ◌∙◌, arith}
 use Rattle.std.proofs.Math.Seq.{drop-append_seam, take-append_seam}
-use Rattle.std.proofs.lemmas.Bool.{cases_lt, le-leb, lt-leb}
-use Rattle.std.proofs.lemmas.Grind.{div_ceil_times}
-use Rattle.std.proofs.lemmas.List.{drop_more, length-append}
+use Rattle.std.proofs.lemmas.List.{drop-map, drop_more, length-append, length-map, take-map}
 use Rattle.std.proofs.lemmas.List.Concat.{flat_map-cons}
+use Rattle.std.proofs.lemmas.List.Elements.{All-from_recursion}
 use Rattle.std.specs.Int.{div_ceil}
 use Rattle.std.specs.List.{flat_map}
-use Rattle.tor_merkle.specs.Block.{leaves}
-use Rattle.tor_merkle.specs.Layer.{IsPieceLength, piece_level, piece_roots}
-use Rattle.tor_merkle.specs.Stack.{padded_subtree}
-use Rattle.tor_engine.specs.steps.Hashes.{hashes_of_file}
-use Rattle.tor_engine.proofs.Trees.{CountOfPieceRoots}
+use Rattle.tor_engine.specs.declared.unit_sums.UnitSums.{UnitSums}
+use Rattle.tor_engine.specs.steps.Hashes.{IsCut, Node, nodes_of_file}
+use Rattle.tor_engine.specs.steps.Run.{node_in}
+use Rattle.tor_engine.proofs.FileNodes.{count_of_nodes}
 
--- the law root_of_short_content
-abbrev pub RootOfShortContent : Type 0
-RootOfShortContent = (content : List ℕ) (p : ℕ) → IsPieceLength p → 0 < length content → length content ≤ p
-    → piece_roots content p ≡ padded_subtree (piece_level p) 0 (leaves content) ∷ []
+-- one file of those that are cut
+pub one_cut : (p size : ℕ) (level : Option ℕ) (lengths : List ℕ) (i m : ℕ) → i < length lengths
+    → get_or lengths i 0 ≡ m → IsCut p size level lengths → IsCut p size level (m ∷ [])
+one_cut p size level lengths i m there is cut = record {
+  allowed = cut.allowed;
+  span = cut.span;
+  some = cut.some;
+  pieces = cut.pieces;
+  stands = cut.stands;
+  alone = λ none.
+      let short = All-from_recursion (λ n. n ≤ size) lengths (cut.alone none) i 0 there in
+      (omega (arith, short, is), tt);
+}
 
-ceil_zero : (p : ℕ) → 0 < p → div_ceil 0 p ≡ 0
-ceil_zero p some =
-    let below : div_ceil 0 p * p < 1 * p = omega (arith, (div_ceil_times 0 p some).1) in
-    let none : div_ceil 0 p < 1 = lt_of_mul-lt-mul_right p below in
-    omega arith
+module _ (p size : ℕ) (level : Option ℕ) (contents : List (List ℕ)) (i : ℕ) (there : i < length contents)
+    (cut : IsCut p size level (length (get_or contents i []) ∷ [])) (units : List UnitSums)
+    (is : map node_in units ≡ flat_map (nodes_of_file p size level) (drop i contents)) where
+  abbrev own : List Node
+  own = nodes_of_file p size level (get_or contents i [])
 
--- a file has as many hashes as pieces
-count_of_file : CountOfPieceRoots → RootOfShortContent → (p : ℕ) (content : List ℕ) → IsPieceLength p → 0 < p
-    → length (hashes_of_file p content) ≡ div_ceil (length content) p
-count_of_file count one p [] allowed some = sym (ceil_zero p some)
-count_of_file count one p (byte ∷ bytes) allowed some =
-    let content = byte ∷ bytes in
-    elim (cases_lt p (length content)) [
-      | inl long ↦ rw (lt-leb (length content) p long) (count content p)
-      | inr short ↦
-          rw (le-leb (length content) p short)
-          (sym (ap length (one content p allowed (omega arith) short)) ∙ count content p)
-    ]
+  abbrev later : List Node
+  later = flat_map (nodes_of_file p size level) (drop (i + 1) contents)
 
-module _ (count : CountOfPieceRoots) (one : RootOfShortContent) (p : ℕ) (allowed : IsPieceLength p) (some : 0 < p)
-    (contents : List (List ℕ)) (i : ℕ) (there : i < length contents) where
-  -- the hashes from a file on are its own, and those of the files after it
-  own_first : flat_map (hashes_of_file p) (drop i contents)
-      ≡ hashes_of_file p (get_or contents i []) ++ flat_map (hashes_of_file p) (drop (i + 1) contents)
-  own_first =
-      ap (flat_map (hashes_of_file p)) (drop_more contents i [] there)
-      ∙ flat_map-cons (hashes_of_file p) (get_or contents i []) (drop (i + 1) contents)
+  all : map node_in units ≡ own ++ later
+  all = is ∙ ap (flat_map (nodes_of_file p size level)) (drop_more contents i [] there)
+      ∙ flat_map-cons (nodes_of_file p size level) (get_or contents i []) (drop (i + 1) contents)
 
-  pub own_hashes : (size n : ℕ) (rest : List (List ℕ)) → length (get_or contents i []) ≡ size
-      → rest ≡ flat_map (hashes_of_file p) (drop i contents) → n ≡ div_ceil size p
-      → take n rest ≡ hashes_of_file p (get_or contents i [])
-  own_hashes size n rest long is counted =
-      let own = hashes_of_file p (get_or contents i []) in
-      let many : n ≡ length own = counted ∙ ap (λ m. div_ceil m p) (sym long)
-      ∙ sym (count_of_file count one p (get_or contents i []) allowed some) in
-      rw (many, is, own_first) (take-append_seam own (flat_map (hashes_of_file p) (drop (i + 1) contents)))
+  abbrev IsCount : ℕ → Type 0
+  IsCount n = n ≡ div_ceil (length (get_or contents i [])) size
 
-  pub later_hashes : (size n : ℕ) (rest : List (List ℕ)) → length (get_or contents i []) ≡ size
-      → rest ≡ flat_map (hashes_of_file p) (drop i contents) → n ≡ div_ceil size p
-      → drop n rest ≡ flat_map (hashes_of_file p) (drop (i + 1) contents)
-  later_hashes size n rest long is counted =
-      let own = hashes_of_file p (get_or contents i []) in
-      let many : n ≡ length own = counted ∙ ap (λ m. div_ceil m p) (sym long)
-      ∙ sym (count_of_file count one p (get_or contents i []) allowed some) in
-      rw (many, is, own_first) (drop-append_seam own (flat_map (hashes_of_file p) (drop (i + 1) contents)))
+  many : (n : ℕ) → IsCount n → n ≡ length own
+  many n counted = counted ∙ sym (count_of_nodes p size level (get_or contents i []) cut)
 
-  pub enough_hashes : (size : ℕ) (rest : List (List ℕ)) → length (get_or contents i []) ≡ size
-      → rest ≡ flat_map (hashes_of_file p) (drop i contents) → div_ceil size p ≤ length rest
-  enough_hashes size rest long is =
-      let own = hashes_of_file p (get_or contents i []) in
-      let later = flat_map (hashes_of_file p) (drop (i + 1) contents) in
-      let many = ap (λ m. div_ceil m p) (sym long) ∙ sym (count_of_file count one p (get_or contents i []) allowed
-      some) in
-      let total : length rest ≡ length own + length later = ap length (is ∙ own_first) ∙ length-append own later in
-      omega (arith, many, total)
+  pub own_nodes : (n : ℕ) → IsCount n → map node_in (take n units) ≡ own
+  own_nodes n counted =
+      sym (take-map node_in n units) ∙ ap (take n) all ∙ ap (λ k. take k (own ++ later)) (many n counted)
+      ∙ take-append_seam own later
+
+  pub later_nodes : (n : ℕ) → IsCount n → map node_in (drop n units) ≡ later
+  later_nodes n counted =
+      sym (drop-map node_in n units) ∙ ap (drop n) all ∙ ap (λ k. drop k (own ++ later)) (many n counted)
+      ∙ drop-append_seam own later
+
+  pub enough_nodes : (n : ℕ) → IsCount n → n ≤ length units
+  enough_nodes n counted =
+      omega (arith, many n counted, length-map units node_in, ap length all, length-append own later)

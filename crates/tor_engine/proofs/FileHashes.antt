@@ -1,5 +1,4 @@
--- The sums of the units of a plan are those of its files. The law of tor_merkle comes in as its statement: a function
--- that needs these lemmas calls it.
+-- The sums of the units of a plan are those of its files.
 use Rattle.std.proofs.Common.{◌≡◌, ◌≢◌, ℕ, ◌*◌, ◌<◌, ◌≤◌, IsTrue, true, false, List, length, map, arith, refl, ap}
 use Rattle.std.proofs.Common.{◌∙◌, sym, mul-pos}
 use Rattle.std.proofs.lemmas.Bool.{le-leb}
@@ -16,8 +15,8 @@ use Rattle.tor_tree.specs.declared.kinds.Kind.{Kind}
 use Rattle.tor_tree.specs.declared.kinds.Kind.TheVariants.{V1, V2, Hybrid}
 use Rattle.tor_v1.specs.Piece.{piece_sums}
 use Rattle.tor_v1.specs.declared.entry.Entry.{Entry}
-use Rattle.tor_engine.specs.steps.Hashes.{hashes_of_unit, hashes_of_file}
-use Rattle.tor_engine.proofs.HashesByUnit.{RootsOfUnits, hashes_from}
+use Rattle.tor_engine.specs.steps.Hashes.{level_of, nodes_of_file, nodes_of_unit}
+use Rattle.tor_engine.proofs.NodesByUnit.{nodes_from}
 
 -- the kinds with trees cut each file by itself
 units_with_trees : (kind : Kind) (p span : ℕ) (entries : List Entry) → has_v2 kind ≡ true
@@ -47,17 +46,17 @@ allowed_with_trees V1 p pieces trees = cc
 allowed_with_trees V2 p pieces trees = bounded p pieces
 allowed_with_trees Hybrid p pieces trees = bounded p pieces
 
--- the hashes of the units are those of the files
-pub unit_hashes_of_files : RootsOfUnits → (plan : PlanFacts) (contents : List (List ℕ)) → IsPlan plan
-    → has_v2 plan.kind ≡ true → map length contents ≡ plan.lengths
-    → flat_map (hashes_of_unit plan.piece_length contents) plan.units
-    ≡ flat_map (hashes_of_file plan.piece_length) contents
-unit_hashes_of_files roots plan contents is trees fit =
+-- the nodes of the units are those of the files
+pub unit_nodes_of_files : (plan : PlanFacts) (contents : List (List ℕ)) (is : IsPlan plan) → has_v2 plan.kind ≡ true
+    → map length contents ≡ plan.lengths
+    → flat_map (nodes_of_unit plan.piece_length (level_of plan.trees) contents) plan.units
+    ≡ flat_map (nodes_of_file plan.piece_length (is.span * plan.piece_length) (level_of plan.trees)) contents
+unit_nodes_of_files plan contents is trees fit =
     let p = plan.piece_length in
-    ap (flat_map (hashes_of_unit p contents))
+    let level = level_of plan.trees in
+    ap (flat_map (nodes_of_unit p level contents))
     (ap (λ facts. facts.units) is.made ∙ units_with_trees plan.kind p is.span is.entries trees)
-    ∙ hashes_from roots p is.span (allowed_with_trees plan.kind p is.pieces trees) (some_piece plan.kind p is.pieces)
-    (omega (arith, is.is_span.1)) contents 0 is.entries contents refl
+    ∙ nodes_from p (is.span * p) level contents 0 is.entries contents refl
     (fit ∙ ap (λ facts. facts.lengths) is.made)
 
 -- the SHA-1 of the pieces of the units are those of what the units have together

@@ -2,11 +2,14 @@ pub mod AllPieces
 pub mod AskedLengths
 pub mod ByFile
 pub mod Change
+pub mod Each
 pub mod Failing
 pub mod FileHashes
+pub mod FileNodes
 pub mod FirstOf
-pub mod Fitted
-pub mod HashesByUnit
+pub mod GivenAnswers
+pub mod Levels
+pub mod NodesByUnit
 pub mod OnePiece
 pub mod PartBytes
 pub mod PartReads
@@ -15,6 +18,7 @@ pub mod PartsInside
 pub mod PositionFaults
 pub mod Positions
 pub mod PlanFaults
+pub mod PlanLevels
 pub mod PlanPieces
 pub mod ProvedLaws
 pub mod ReadContents
@@ -22,10 +26,9 @@ pub mod Runs
 pub mod Shares
 pub mod Told
 pub mod ToldContents
-pub mod Trees
+pub mod UnitNodes
 pub mod UnitParts
 pub mod UnitRuns
 pub mod Waiting
 pub mod Whole
-pub mod WholeUnits
 pub mod Zeros

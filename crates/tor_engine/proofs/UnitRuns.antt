@@ -1,43 +1,41 @@
 -- Units that are read one after the other.
-use Rattle.std.proofs.Common.{◌≡◌, ℕ, List, [], ◌++◌, Result, Ok, Err, sym, ◌∙◌}
-use Rattle.std.specs.Prelude.{OnOk}
+use Rattle.std.proofs.Common.{◌≡◌, ℕ, List, [], ◌∷◌, ◌++◌, map, refl, ap₂, subst, sym, ◌∙◌}
+use Rattle.std.specs.List.{flat_map}
 use Rattle.std.proofs.lemmas.Grind.{flat_map-append}
 use Rattle.tor_plan.specs.Content.{unit_content}
 use Rattle.tor_plan.specs.PlanFacts.{PlanFacts}
 use Rattle.tor_plan.specs.declared.units.PlanUnit.{PlanUnit}
 use Rattle.tor_source.specs.Source.{SourceFacts}
-use Rattle.tor_tree.specs.Kinds.{has_v1, has_v2}
+use Rattle.tor_tree.specs.Kinds.{has_v1}
 use Rattle.tor_v1.specs.Piece.{piece_sums}
-use Rattle.tor_engine.specs.declared.run.RunSums.{RunSums}
-use Rattle.tor_engine.specs.steps.Hashes.{hashes_of_unit}
-use Rattle.tor_engine.specs.steps.Run.{HashesUnits, parts_of}
+use Rattle.tor_engine.specs.declared.unit_sums.UnitSums.{UnitSums}
+use Rattle.tor_engine.specs.steps.Each.{SumUpEach}
+use Rattle.tor_engine.specs.steps.Hashes.{Node, level_of, nodes_of_unit}
+use Rattle.tor_engine.specs.steps.Run.{HashesUnits, SumsUpUnit, node_in, parts_of}
 use Rattle.tor_engine.proofs.PartReads.{have_both, reads_as, reads_both, reads_none}
 use Rattle.tor_engine.proofs.Runs.{joined_if, none_if}
 
 module _ {F : Type 0} (is_steady : SourceFacts F → Type 0) (plan : PlanFacts) where
-  abbrev hashes_in : List (List ℕ) → PlanUnit → List (List ℕ)
-  hashes_in contents = hashes_of_unit plan.piece_length contents
+  abbrev nodes_in : List (List ℕ) → PlanUnit → List Node
+  nodes_in contents = nodes_of_unit plan.piece_length (level_of plan.trees) contents
 
   abbrev pieces_in : List (List ℕ) → PlanUnit → List ℕ
   pieces_in contents unit = piece_sums plan.piece_length (unit_content contents unit)
 
-  pub units_none : (run_sums : RunSums) → run_sums.hashes.items ≡ [] → run_sums.pieces.items ≡ []
-      → HashesUnits is_steady plan [] run_sums
-  units_none run_sums hashes pieces = record {
+  units_none : HashesUnits is_steady plan [] [] []
+  units_none = record {
     reads = [];
     are = reads_none is_steady plan;
     sums = λ contents fit have. record {
-      hashes = hashes ∙ none_if (hashes_in contents) (has_v2 plan.kind);
-      pieces = pieces ∙ none_if (pieces_in contents) (has_v1 plan.kind);
+      nodes = λ trees. refl;
+      pieces = none_if (pieces_in contents) (has_v1 plan.kind);
     };
   }
 
-  pub units_both : (first second : List PlanUnit) (run_sums next both : RunSums)
-      → HashesUnits is_steady plan first run_sums → HashesUnits is_steady plan second next
-      → both.hashes.items ≡ run_sums.hashes.items ++ next.hashes.items
-      → both.pieces.items ≡ run_sums.pieces.items ++ next.pieces.items
-      → HashesUnits is_steady plan (first ++ second) both
-  units_both first second run_sums next both one other hashes pieces = record {
+  units_both : (first second : List PlanUnit) (nodes more : List Node) (pieces later : List ℕ)
+      → HashesUnits is_steady plan first nodes pieces → HashesUnits is_steady plan second more later
+      → HashesUnits is_steady plan (first ++ second) (nodes ++ more) (pieces ++ later)
+  units_both first second nodes more pieces later one other = record {
     reads = one.reads ++ other.reads;
     are = reads_as is_steady plan (parts_of first ++ parts_of second) (parts_of (first ++ second))
         (one.reads ++ other.reads) (sym (flat_map-append (λ u. u.parts) first second))
@@ -47,20 +45,30 @@ module _ {F : Type 0} (is_steady : SourceFacts F → Type 0) (plan : PlanFacts) 
         let before = one.sums contents fit halves.0 in
         let after = other.sums contents fit halves.1 in
         record {
-          hashes = hashes ∙ joined_if (hashes_in contents) (has_v2 plan.kind) first second _ _ before.hashes
-              after.hashes;
-          pieces = pieces ∙ joined_if (pieces_in contents) (has_v1 plan.kind) first second _ _ before.pieces
-              after.pieces;
+          nodes = λ trees.
+              ap₂ (λ xs ys. xs ++ ys) (before.nodes trees) (after.nodes trees)
+              ∙ sym (flat_map-append (nodes_in contents) first second);
+          pieces = joined_if (pieces_in contents) (has_v1 plan.kind) first second _ _ before.pieces after.pieces;
         };
   }
 
-  -- unless memory was refused
-  pub if_both : {E : Type 0} (first second : List PlanUnit) (run_sums next both : RunSums)
-      (result : Result (Unit {0}) E)
-      → HashesUnits is_steady plan first run_sums → HashesUnits is_steady plan second next
-      → OnOk result (both.hashes.items ≡ run_sums.hashes.items ++ next.hashes.items)
-      → OnOk result (both.pieces.items ≡ run_sums.pieces.items ++ next.pieces.items)
-      → OnOk result (HashesUnits is_steady plan (first ++ second) both)
-  if_both first second run_sums next both (Ok done) one other hashes pieces =
-      units_both first second run_sums next both one other hashes pieces
-  if_both first second run_sums next both (Err error) one other hashes pieces = _
+  -- units that sum up each by itself
+  units_joined : (units : List PlanUnit) (sums : List UnitSums) → SumUpEach (SumsUpUnit is_steady plan) units sums
+      → HashesUnits is_steady plan units (map node_in sums)
+      (flat_map (λ one. one.pieces.items) sums)
+  unfolding SumUpEach
+  units_joined [] [] each = units_none
+  units_joined [] (one ∷ sums) each = absurd each
+  units_joined (unit ∷ units) [] each = absurd each
+  units_joined (unit ∷ units) (one ∷ sums) each =
+      units_both (unit ∷ []) units (node_in one ∷ []) (map node_in sums) one.pieces.items
+      (flat_map (λ one. one.pieces.items) sums) each.0 (units_joined units sums each.1)
+
+  pub units_summed : (units all : List PlanUnit) (sums given : List UnitSums) → units ≡ all → given ≡ sums
+      → SumUpEach (SumsUpUnit is_steady plan) units sums
+      → HashesUnits is_steady plan all (map node_in given)
+      (flat_map (λ one. one.pieces.items) given)
+  units_summed units all sums given same_units same_sums each =
+      units_joined all given
+      (subst (λ (us : List PlanUnit). SumUpEach (SumsUpUnit is_steady plan) us given) same_units
+      (subst (λ (xs : List UnitSums). SumUpEach (SumsUpUnit is_steady plan) units xs) (sym same_sums) each))

@@ -7,10 +7,10 @@ use Rattle.tor_tree.specs.Kinds.{has_v2}
 use Rattle.tor_tree.specs.declared.kinds.Kind.{Kind}
 use Rattle.tor_v1.specs.Feeding.{HasFed}
 use Rattle.tor_v1.specs.Piece.{zeros}
-use Rattle.tor_engine.specs.declared.hasher.UnitHasher.{UnitHasher}
+use Rattle.tor_engine.specs.declared.hasher.ContentHasher.{ContentHasher}
 use Rattle.tor_engine.specs.declared.room.Room.{Room}
 use Rattle.tor_engine.specs.declared.worker.WorkerSums.{WorkerSums}
-use Rattle.tor_engine.specs.steps.Hasher.{HasFedUnit}
+use Rattle.tor_engine.specs.Hasher.{HasFedContent}
 use Rattle.tor_engine.specs.steps.Room.{count_in, held_in}
 use Rattle.tor_engine.specs.steps.Worker.{HasTaken, Keeps}
 
@@ -32,7 +32,7 @@ more_held fed held more left all longer joined =
 -- ---- what is known of the sums is kept, or gets longer
 
 -- no byte was taken
-pub fresh : (kind : Kind) (p : ℕ) (sums : WorkerSums) → HasFedUnit kind p [] [] sums.hasher → held_in sums.room ≡ []
+pub fresh : (kind : Kind) (p : ℕ) (sums : WorkerSums) → HasFedContent kind p [] [] sums.hasher → held_in sums.room ≡ []
     → HasTaken kind p [] [] sums
 fresh kind p sums fed none =
     record { fed_bytes = []; fed_unit = []; fed = fed; bytes_joined = λ has. none; unit_joined = λ has. none }
@@ -40,8 +40,8 @@ fresh kind p sums fed none =
 -- the first bytes that waited were hashed
 pub keeps : (old new : WorkerSums) (count : ℕ) (front : List ℕ) → front ≡ take count (held_in old.room)
     → held_in new.room ≡ drop count (held_in old.room)
-    → ((kind : Kind) (p : ℕ) (bytes unit : List ℕ) → HasFedUnit kind p bytes unit old.hasher
-    → HasFedUnit kind p (bytes ++ front) (unit ++ front) new.hasher) → Keeps old new
+    → ((kind : Kind) (p : ℕ) (bytes unit : List ℕ) → HasFedContent kind p bytes unit old.hasher
+    → HasFedContent kind p (bytes ++ front) (unit ++ front) new.hasher) → Keeps old new
 keeps old new count front first left fed kind p bytes unit before =
     let cut : front ++ held_in new.room ≡ held_in old.room =
     ap (λ xs. xs ++ held_in new.room) first ∙ ap (λ xs. take count (held_in old.room) ++ xs) left
@@ -61,7 +61,7 @@ pub takes : (kind : Kind) (p : ℕ) (old new : WorkerSums) (more bytes unit : Li
 takes kind p old new more bytes unit same longer before = record {
   fed_bytes = before.fed_bytes;
   fed_unit = before.fed_unit;
-  fed = subst (λ (hasher : UnitHasher). HasFedUnit kind p before.fed_bytes before.fed_unit hasher) (sym same)
+  fed = subst (λ (hasher : ContentHasher). HasFedContent kind p before.fed_bytes before.fed_unit hasher) (sym same)
       before.fed;
   bytes_joined = λ has. more_held before.fed_bytes _ more _ bytes longer (before.bytes_joined has);
   unit_joined = λ has. more_held before.fed_unit _ more _ unit longer (before.unit_joined has);
@@ -70,8 +70,8 @@ takes kind p old new more bytes unit same longer before = record {
 -- zeros were hashed where nothing waited
 pub takes_zeros : (kind : Kind) (p : ℕ) (old new : WorkerSums) (more bytes unit : List ℕ) → held_in old.room ≡ []
     → new.room ≡ old.room
-    → ((bytes unit : List ℕ) → HasFedUnit kind p bytes unit old.hasher
-    → HasFedUnit kind p bytes (unit ++ more) new.hasher)
+    → ((bytes unit : List ℕ) → HasFedContent kind p bytes unit old.hasher
+    → HasFedContent kind p bytes (unit ++ more) new.hasher)
     → HasTaken kind p bytes unit old → HasTaken kind p bytes (unit ++ more) new
 takes_zeros kind p old new more bytes unit none same fed before =
     let left : held_in new.room ≡ [] = ap held_in same ∙ none in
@@ -103,7 +103,7 @@ tree_over p bytes = Some (record { piece_length = p; bytes = bytes })
 
 -- where nothing waits, the hasher was fed the whole unit
 pub whole_unit : (kind : Kind) (p : ℕ) (sums : WorkerSums) (bytes unit : List ℕ) → held_in sums.room ≡ []
-    → HasTaken kind p bytes unit sums → HasFedUnit kind p bytes unit sums.hasher
+    → HasTaken kind p bytes unit sums → HasFedContent kind p bytes unit sums.hasher
 unfolding tree_over
 whole_unit kind p sums bytes unit none taken = record {
   tree = taken.fed.tree ∙ same_if (has_v2 kind) (tree_over p) taken.fed_bytes bytes None

@@ -1,8 +1,7 @@
 -- All units of a plan, of files that have its lengths.
-use Rattle.std.proofs.Common.{◌≡◌, ◌≤◌, ◌*◌, ◌^◌, ◌+◌, ℕ, List, [], ◌∷◌, length, map, Option, None, Some}
-use Rattle.std.proofs.Common.{option_map, unwrap_or, mul-le-mul_right, cond, inl, inr, refl, ap, ap₂, sym, subst, ◌∙◌}
+use Rattle.std.proofs.Common.{◌≡◌, ◌≤◌, ◌*◌, ◌^◌, ℕ, [], length, map, Option, None, Some}
+use Rattle.std.proofs.Common.{option_map, unwrap_or, mul-le-mul_right, refl, ap, sym, subst, ◌∙◌}
 use Rattle.std.proofs.Common.{arith, mul-pos, true, true≢false, ◌≢◌, ◌<◌}
-use Rattle.std.proofs.lemmas.Bool.{cases_eq, eq-eqb, ne_eqb}
 use Rattle.std.proofs.lemmas.List.{length-map}
 use Rattle.std.proofs.lemmas.List.FromFn.{length-map-range_with_len}
 use Rattle.std.specs.List.{All, range_with_len}
@@ -17,6 +16,7 @@ use Rattle.tor_engine.specs.Fault.{change_from, first_length_fault, first_of, le
 use Rattle.tor_engine.specs.declared.errors.EngineError.TheVariants.{Changed}
 use Rattle.tor_engine.specs.steps.Reads.{HasLengths}
 use Rattle.tor_engine.specs.steps.Run.{IsUnitOf}
+use Rattle.tor_engine.proofs.Change.{none_changed}
 use Rattle.tor_engine.proofs.FileHashes.{some_piece}
 use Rattle.tor_engine.proofs.FirstOf.{neither}
 
@@ -53,24 +53,6 @@ units_of_plan plan is =
           (one.part, one.alone);
     })
 
--- lists of one length, of which no element differs
-same_lists : (told planned : List ℕ) (file : ℕ) → length told ≡ length planned → change_from file told planned ≡ None
-    → told ≡ planned
-unfolding change_from
-same_lists [] [] file long none = refl
-same_lists [] (other ∷ planned) file long none = cc
-same_lists (one ∷ told) [] file long none = cc
-same_lists (one ∷ told) (other ∷ planned) file long none =
-    let rest = change_from (file + 1) told planned in
-    elim (cases_eq one other) [
-      | inl same ↦
-          let more : rest ≡ None = ap (λ b. cond b rest (Some file)) (sym (eq-eqb one other same)) ∙ none in
-          ap₂ (λ x xs. x ∷ xs) same (same_lists told planned (file + 1) (omega (arith, long)) more)
-      | inr differ ↦
-          let some : Some file ≡ None = ap (λ b. cond b rest (Some file)) (sym (ne_eqb one other differ)) ∙ none in
-          cc
-    ]
-
 no_change : {A B : Type 0} (f : A → B) (change : Option A) → option_map f change ≡ None → change ≡ None
 no_change f None none = refl
 no_change f (Some file) none = cc
@@ -85,4 +67,4 @@ lengths_hold facts plan none =
     (option_map (λ file. Changed file) (change_from 0 told plan.lengths)) none).1 in
     let long = length-map (contents_in facts (length plan.lengths)) length
     ∙ length-map-range_with_len (λ file. unwrap_or (facts.contents file) []) 0 (length plan.lengths) in
-    same_lists told plan.lengths 0 long (no_change (λ file. Changed file) (change_from 0 told plan.lengths) same)
+    none_changed 0 told plan.lengths long (no_change (λ file. Changed file) (change_from 0 told plan.lengths) same)

@@ -1,5 +1,5 @@
 -- The first fault of a steady source, in the order in which it is asked.
-use Rattle.std.specs.Prelude.{◌≡◌, ◌⊎◌, ℕ, ◌<◌, ◌==◌, List, [], ◌∷◌, length, map, ◌+◌, Option, None, Some, Result, Ok, Err}
+use Rattle.std.specs.Prelude.{◌≡◌, ◌⊎◌, ℕ, ◌==◌, List, [], ◌∷◌, length, map, ◌+◌, Option, None, Some, Result, Ok, Err}
 use Rattle.std.specs.Prelude.{option_map, if◌then◌else◌}
 use Rattle.std.specs.List.{enumerate_from, range_with_len}
 use Rattle.std.specs.Option.{option_or}
@@ -8,7 +8,7 @@ use Rattle.tor_plan.specs.declared.units.PlanUnit.{PlanUnit}
 use Rattle.tor_source.specs.Source.{SourceFacts, told_length}
 use Rattle.tor_engine.specs.Contents.{contents_in}
 use Rattle.tor_engine.specs.declared.errors.EngineError.{EngineError}
-use Rattle.tor_engine.specs.declared.errors.EngineError.TheVariants.{Read, Changed, Missing, Resources, StreamTooLong}
+use Rattle.tor_engine.specs.declared.errors.EngineError.TheVariants.{Read, Changed, Missing, Resources}
 
 -- the first that there is, in the order of the list
 unfoldable pub first_of : {A B : Type 0} → (A → Option B) → List A → Option B
@@ -70,20 +70,3 @@ units_fault facts units = first_of (unit_fault facts) units
 -- memory was refused, or this is the fault
 abbrev pub IsFault : {F : Type 0} → Option (EngineError F) → EngineError F → Type 0
 IsFault first error = (error ≡ Resources) ⊎ (first ≡ Some error)
-
--- a fault of the source is one that it gave, for this file and offset; the file that is named is one of so many
-abbrev pub IsGiven : {F : Type 0} → (ℕ → Option ℕ → F → Type 0) → ℕ → EngineError F → Type 0
-IsGiven gave count (Read file start fault) = gave file start fault × (file < count)
-IsGiven gave count (Changed file) = file < count
-IsGiven gave count (Missing file) = file < count
-IsGiven gave count Resources = Unit {0}
--- no stream is read
-IsGiven gave count (StreamTooLong file) = ⊥
-
--- the same, and it is not that a file is missing
-abbrev pub IsGivenNotMissing : {F : Type 0} → (ℕ → Option ℕ → F → Type 0) → ℕ → EngineError F → Type 0
-IsGivenNotMissing gave count (Read file start fault) = gave file start fault × (file < count)
-IsGivenNotMissing gave count (Changed file) = file < count
-IsGivenNotMissing gave count (Missing file) = ⊥
-IsGivenNotMissing gave count Resources = Unit {0}
-IsGivenNotMissing gave count (StreamTooLong file) = ⊥

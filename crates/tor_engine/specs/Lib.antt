@@ -1,5 +1,7 @@
 pub mod Contents
 pub mod Fault
+pub mod Given
+pub mod Hasher
 pub mod How
 pub mod PieceFault
 pub mod PieceHashes

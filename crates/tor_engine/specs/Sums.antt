@@ -6,6 +6,7 @@ use Rattle.tor_merkle.specs.Layer.{root_of, piece_layer}
 use Rattle.tor_plan.specs.Content.{unit_content}
 use Rattle.tor_plan.specs.PlanFacts.{PlanFacts}
 use Rattle.tor_tree.specs.Kinds.{has_v1, has_v2}
+use Rattle.tor_tree.specs.declared.kinds.Kind.{Kind}
 use Rattle.tor_v1.specs.Piece.{piece_sums}
 use Rattle.tor_engine.specs.declared.sums.Sums.{Sums}
 
@@ -16,16 +17,22 @@ lists_of layers = map (λ layer. layer.items) layers
 abbrev pub plan_content : PlanFacts → List (List ℕ) → List ℕ
 plan_content plan contents = flat_map (unit_content contents) plan.units
 
--- root and layer of each content, where the kind has trees; the SHA-1 of each piece, where it has pieces
-pub record AreSumsOf (plan : PlanFacts) (contents : List (List ℕ)) (sums : Sums) : Type 0 where
+-- root and layer of each content, where the kind has trees; where it has pieces, the SHA-1 of each piece of the joined
+-- content: these contents, and the zeros of padding between them
+pub record AreSumsOf (kind : Kind) (piece_length : ℕ) (contents : List (List ℕ)) (joined : List ℕ)
+    (sums : Sums) : Type 0 where
   pub lengths : sums.lengths.items ≡ map length contents
-  pub roots : sums.roots.items ≡ map (λ content. if has_v2 plan.kind then root_of content else None) contents
+  pub roots : sums.roots.items ≡ map (λ content. if has_v2 kind then root_of content else None) contents
   pub layers : lists_of sums.layers.items
-      ≡ map (λ content. if has_v2 plan.kind then piece_layer content plan.piece_length else []) contents
-  pub pieces : sums.pieces.items
-      ≡ (if has_v1 plan.kind then piece_sums plan.piece_length (plan_content plan contents) else [])
+      ≡ map (λ content. if has_v2 kind then piece_layer content piece_length else []) contents
+  pub pieces : sums.pieces.items ≡ (if has_v1 kind then piece_sums piece_length joined else [])
+
+-- of the files of a plan, whose units are the joined content
+abbrev pub AreSumsOfPlan : PlanFacts → List (List ℕ) → Sums → Type 0
+AreSumsOfPlan plan contents sums =
+    AreSumsOf plan.kind plan.piece_length contents (plan_content plan contents) sums
 
 -- the sums are those of some contents, which have the lengths of the plan
 abbrev pub AreSumsOfSome : PlanFacts → Sums → Type 0
 AreSumsOfSome plan sums =
-    (contents : List (List ℕ)) × (map length contents ≡ plan.lengths) × AreSumsOf plan contents sums
+    (contents : List (List ℕ)) × (map length contents ≡ plan.lengths) × AreSumsOfPlan plan contents sums

@@ -1,6 +1,7 @@
 pub mod Asked
+pub mod Each
 pub mod Failing
-pub mod Hasher
+pub mod Given
 pub mod Hashes
 pub mod Pieces
 pub mod ReadBytes

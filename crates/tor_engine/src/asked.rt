@@ -1,9 +1,12 @@
 //! The lengths of files that may be missing, asked of their source.
-ghost use Rattle.std.specs.Prelude.{◌≡◌, ◌<◌, ℕ, None, Ok, Some, IfErr, IfOk, MatchResult, OnOk, length};
+ghost use Rattle.std.specs.Prelude.{◌≡◌, ◌⊎◌, ◌<◌, ℕ, None, Ok, Some, IfErr, IfOk, MatchResult, length};
 ghost use Rattle.tor_source.specs.Source.{SourceFacts, told_length};
-ghost use Rattle.tor_engine.specs.Fault.{IsFault, IsGivenNotMissing};
+ghost use Rattle.tor_engine.specs.Fault.{IsFault};
+ghost use Rattle.tor_engine.specs.Given.{HasTold};
 ghost use Rattle.tor_engine.specs.PieceFault.{asked_fault, first_asked_fault, lengths_told};
-ghost use Rattle.tor_engine.specs.steps.Asked.{IsOfAnother};
+ghost use Rattle.tor_engine.specs.declared.errors.EngineError.TheVariants.{Resources};
+ghost use Rattle.tor_engine.specs.steps.Asked.{first_again_fault};
+ghost use Rattle.tor_engine.specs.steps.Given.{IsGivenAgain, IsGivenLength};
 
 use crate::errors::EngineError;
 use std::alloc::Global;
@@ -19,8 +22,10 @@ pub(crate) fn ask_each<S: Source>(
         MatchResult result
         (λ told. (told.items ≡ lengths_told facts count) × (first_asked_fault facts count ≡ None))
         (IsFault (first_asked_fault facts count)) }
+    ensures told { IfOk result (λ told. HasTold (S.told source.now) told.items) }
     ensures counted { IfOk result (λ told. length told.items ≡ count) }
-    ensures gave { IfErr result (IsGivenNotMissing (S.gave source.now) count) }
+    ensures gave { IfErr result
+        (λ error. (error ≡ Resources) ⊎ IsGivenLength (S.gave source.now) count error) }
 {
     let mut told = Vec::with_capacity(alloc, count)?;
     'files: for file in 0..count {
@@ -40,7 +45,8 @@ pub(crate) fn ask_one<S: Source>(
     ensures steady { (facts : SourceFacts S.Fault) → S.is_steady source.now facts →
         MatchResult result (λ length. told_length facts file ≡ Ok length)
         (λ error. asked_fault facts file ≡ Some error) }
-    ensures gave { (files : ℕ) → file < files → IfErr result (IsGivenNotMissing (S.gave source.now) files) }
+    ensures told { IfOk result (S.told source.now file) }
+    ensures gave { (files : ℕ) → file < files → IfErr result (IsGivenLength (S.gave source.now) files) }
 {
     match source.length(file) {
         Ok(length) => Ok(length),
@@ -52,20 +58,16 @@ pub(crate) fn ask_one<S: Source>(
     }
 }
 
-/// Asks again: a file of which another length is told, or that is missing now and was not, or was and is there, was
-/// changed.
+/// Asks again, and answers the first fault: that of a length, or that a file was changed, where another length is told,
+/// or it is missing now and was not, or was and is there. It takes no memory.
 pub(crate) fn expect_each<S: Source>(
     source: &S,
     told: &[Option<u64>],
 ) -> Result<(), EngineError<S::Fault>>
     ensures steady { (facts : SourceFacts S.Fault) → S.is_steady source.now facts →
-        told.now ≡ lengths_told facts (length told.now) → first_asked_fault facts (length told.now) ≡ None →
-        result ≡ Ok tt }
-    ensures unchanged { (facts : SourceFacts S.Fault) → S.is_steady source.now facts →
-        OnOk result (told.now ≡ lengths_told facts (length told.now)) }
-    ensures changed { (facts : SourceFacts S.Fault) → S.is_steady source.now facts →
-        IfErr result (IsOfAnother facts told.now) }
-    ensures gave { IfErr result (IsGivenNotMissing (S.gave source.now) (length told.now)) }
+        MatchResult result (λ _. first_again_fault facts told.now ≡ None)
+        (λ error. first_again_fault facts told.now ≡ Some error) }
+    ensures gave { IfErr result (IsGivenAgain (S.gave source.now) (S.told source.now) told.now) }
 {
     'files: for (file, length) in told.iter().enumerate() {
         match ask_one(source, file as u64) {

@@ -2,16 +2,16 @@
 ghost use Rattle.std.specs.Prelude.{◌≡◌, None, IfErr, IfOk, MatchResult, OnOk, length};
 ghost use Rattle.tor_source.specs.Source.{SourceFacts};
 ghost use Rattle.tor_engine.specs.Contents.{contents_in};
-ghost use Rattle.tor_engine.specs.Fault.{IsFault, IsGiven, IsGivenNotMissing, first_byte_fault, first_fault};
-ghost use Rattle.tor_engine.specs.Fault.{first_length_fault};
+ghost use Rattle.tor_engine.specs.Fault.{IsFault, first_byte_fault, first_fault, first_length_fault};
+ghost use Rattle.tor_engine.specs.Given.{HasToldLengths, IsGiven, IsGivenNotMissing};
 ghost use Rattle.tor_engine.specs.How.{IsHow};
-ghost use Rattle.tor_engine.specs.Sums.{AreSumsOf, AreSumsOfSome};
+ghost use Rattle.tor_engine.specs.Sums.{AreSumsOfPlan, AreSumsOfSome};
 
 use crate::errors::EngineError;
 use crate::how::How;
 use crate::lengths::expect_lengths;
 use crate::sum_work::SumWork;
-use crate::sums::{Sums, sums_of_run};
+use crate::sums::{Sums, sums_of_units};
 use crate::turn::hash_units;
 use std::alloc::Global;
 use std::thread::Threads;
@@ -32,11 +32,13 @@ pub fn hash_all<S: Source, R: Threads + Sync>(
     requires { IsHow how }
     ensures summed { (facts : SourceFacts S.Fault) → S.is_steady source.now facts →
         MatchResult result
-        (λ sums. AreSumsOf plan.now (contents_in facts (length plan.now.lengths)) sums
+        (λ sums. AreSumsOfPlan plan.now (contents_in facts (length plan.now.lengths)) sums
         × (first_fault facts plan.now.lengths ≡ None))
         (IsFault (first_fault facts plan.now.lengths)) }
     ensures whole { IfOk result (AreSumsOfSome plan.now) }
-    ensures gave { IfErr result (IsGiven (S.gave source.now) (length plan.now.lengths)) }
+    ensures told { IfOk result (λ _. HasToldLengths (S.told source.now) plan.now.lengths) }
+    ensures gave { IfErr result
+        (IsGiven (S.gave source.now) (S.told source.now) (S.ended source.now) plan.now.lengths) }
 {
     expect_lengths(alloc, source, plan.lengths())?;
     hash_told(rt, alloc, source, plan, how)
@@ -55,13 +57,15 @@ pub fn hash_told<S: Source, R: Threads + Sync>(
     ensures summed { (facts : SourceFacts S.Fault) → S.is_steady source.now facts →
         first_length_fault facts plan.now.lengths ≡ None →
         MatchResult result
-        (λ sums. AreSumsOf plan.now (contents_in facts (length plan.now.lengths)) sums
+        (λ sums. AreSumsOfPlan plan.now (contents_in facts (length plan.now.lengths)) sums
         × (first_byte_fault facts plan.now.lengths ≡ None))
         (IsFault (first_byte_fault facts plan.now.lengths)) }
     ensures unchanged { (facts : SourceFacts S.Fault) → S.is_steady source.now facts →
         OnOk result (first_length_fault facts plan.now.lengths ≡ None) }
     ensures whole { IfOk result (AreSumsOfSome plan.now) }
-    ensures gave { IfErr result (IsGivenNotMissing (S.gave source.now) (length plan.now.lengths)) }
+    ensures told { IfOk result (λ _. HasToldLengths (S.told source.now) plan.now.lengths) }
+    ensures gave { IfErr result
+        (IsGivenNotMissing (S.gave source.now) (S.told source.now) (S.ended source.now) plan.now.lengths) }
 {
     let units = plan.units();
     let work = SumWork {
@@ -69,8 +73,8 @@ pub fn hash_told<S: Source, R: Threads + Sync>(
         source,
         plan,
     };
-    let run_sums = match hash_units(rt, &work, units, how) {
-        Ok(run_sums) => run_sums,
+    let unit_sums = match hash_units(rt, &work, units, how) {
+        Ok(unit_sums) => unit_sums,
         Err(error) => return Err(error),
     };
     match expect_lengths(alloc, source, plan.lengths()) {
@@ -79,6 +83,6 @@ pub fn hash_told<S: Source, R: Threads + Sync>(
         Err(EngineError::Missing { file }) => return Err(EngineError::Changed { file }),
         Err(error) => return Err(error),
     }
-    let sums = sums_of_run(alloc, plan, run_sums)?;
+    let sums = sums_of_units(alloc, plan, &unit_sums)?;
     Ok(sums)
 }

@@ -3,7 +3,7 @@ ghost use Rattle.std.specs.Prelude.{◌≡◌, ◌⊎◌, ◌↔◌, IsTrue, min
 ghost use Rattle.tor_engine.specs.declared.errors.EngineError.TheVariants.{Resources};
 
 use crate::errors::EngineError;
-use std::alloc::AllocError;
+use std::alloc::{AllocError, AllocFailed};
 
 /// Why a worker stopped.
 #[derive(Drop)]
@@ -17,6 +17,17 @@ impl<F> From<AllocError> for Failure<F> {
     ghost from_gives = { λ _ failure. failure.error ≡ Resources };
 
     fn from(_error: AllocError) -> Failure<F> {
+        Failure {
+            unit: 0,
+            error: EngineError::Resources,
+        }
+    }
+}
+
+impl<F, T: Drop> From<AllocFailed<T>> for Failure<F> {
+    ghost from_gives = { λ _ failure. failure.error ≡ Resources };
+
+    fn from(_failed: AllocFailed<T>) -> Failure<F> {
         Failure {
             unit: 0,
             error: EngineError::Resources,

@@ -1,13 +1,14 @@
-//! What one unit hashes to, while its bytes come.
-ghost use Rattle.std.specs.Prelude.{◌≡◌, ◌+◌, ◌≤◌, ◌++◌, [], ℕ, List, None, OnErr, OnOk, length};
+//! What a content hashes to, while its bytes come.
+ghost use Rattle.std.specs.Prelude.{◌≡◌, ◌+◌, ◌<◌, ◌≤◌, ◌++◌, [], ℕ, List, None, IsOk, OnErr, OnOk, length};
+ghost use Rattle.std.specs.Int.{div_ceil};
 ghost use Rattle.std.specs.Option.{ForSome};
 ghost use Rattle.tor_merkle.specs.declared.TheConstants.{MAX_LENGTH};
 ghost use Rattle.tor_plan.specs.PlanFacts.{IsPlanPieceLength};
 ghost use Rattle.tor_tree.specs.Kinds.{has_v1, has_v2};
 ghost use Rattle.tor_tree.specs.declared.kinds.Kind.{Kind};
-ghost use Rattle.tor_v1.specs.Feeding.{Feeds};
+ghost use Rattle.tor_v1.specs.Feeding.{Feeds, HasFed};
 ghost use Rattle.tor_v1.specs.Piece.{zeros};
-ghost use Rattle.tor_engine.specs.steps.Hasher.{AreHashesOf, HasFedUnit, fed_tree, tree_of};
+ghost use Rattle.tor_engine.specs.Hasher.{AreHashesOf, HasFedContent, IsLeft, IsLeftOfZeros, fed_tree, tree_of};
 
 use std::alloc::{AllocError, Global};
 use tor_merkle::Feed;
@@ -17,45 +18,55 @@ use tor_v1::PieceSums;
 /// The zeros that the sums of pieces take at once, at most.
 const ZEROS_AT_ONCE: u64 = 1 << 30;
 
-/// What the bytes of a unit hash to, whatever files they are of.
+/// What the bytes of a content hash to, whatever files they are of.
 #[derive(Drop)]
-pub(crate) struct Hashed {
-    /// The tree over the unit's bytes of files, without its zeros; none in V1.
-    pub(crate) tree: Option<Feed>,
+pub struct Hashed {
+    /// The tree over its bytes of files, without its zeros; none in V1.
+    pub tree: Option<Feed>,
     /// The joined SHA-1 of each piece; none in V2.
-    pub(crate) pieces: Vec<u8>,
+    pub pieces: Vec<u8>,
 }
 
-/// The hashes of a unit whose bytes are fed part by part. Clauses say by `HasFedUnit` which bytes were fed.
+/// The hashes of a content whose bytes are fed part by part: of bytes of files, and of zeros that belong to none, which
+/// pieces have and trees have not. Nothing of the content is kept. Clauses say by `HasFedContent` which bytes were fed.
 #[derive(Drop)]
-pub(crate) struct UnitHasher {
+pub struct ContentHasher {
     // The tree over the bytes of files.
     tree: Option<Feed>,
-    // The pieces of the whole unit.
+    // The pieces of the whole content.
     pieces: Option<PieceSums>,
 }
 
-impl UnitHasher {
+impl ContentHasher {
     /// Of no byte.
-    pub(crate) fn new(alloc: Global, kind: Kind, piece_length: u64) -> UnitHasher
+    pub fn new(alloc: Global, kind: Kind, piece_length: u64) -> ContentHasher
         requires { IsPlanPieceLength kind piece_length }
-        ensures fed { HasFedUnit kind piece_length [] [] result }
+        ensures fed { HasFedContent kind piece_length [] [] result }
         ensures empty { ForSome (tree_of result) (λ feed. feed.bytes ≡ []) }
     {
-        UnitHasher {
+        ContentHasher {
             tree: kind.has_v2().then(|| Feed::new(alloc, piece_length)),
             pieces: kind.has_v1().then(|| PieceSums::new(alloc, piece_length)),
         }
     }
 
-    /// Adds bytes of files.
-    pub(crate) fn feed(&mut self, bytes: &[u8]) -> Result<(), AllocError>
+    /// Adds bytes of files. Where memory is refused, the tree is as it was; it can only be refused where they begin a
+    /// piece.
+    pub fn feed(&mut self, bytes: &[u8]) -> Result<(), AllocError>
         requires { ForSome (tree_of self.old) (λ feed. length feed.bytes + length bytes.now ≤ MAX_LENGTH) }
-        ensures fed { (kind : Kind) (piece_length : ℕ) (before unit : List ℕ) →
-            HasFedUnit kind piece_length before unit self.old →
-            OnOk result (HasFedUnit kind piece_length (before ++ bytes.now) (unit ++ bytes.now) self.new) }
+        ensures fed { (kind : Kind) (piece_length : ℕ) (before joined : List ℕ) →
+            HasFedContent kind piece_length before joined self.old →
+            OnOk result (HasFedContent kind piece_length (before ++ bytes.now) (joined ++ bytes.now) self.new) }
         ensures tree { OnOk result (tree_of self.new ≡ fed_tree bytes.now (tree_of self.old)) }
         ensures err { OnErr result (tree_of self.new ≡ tree_of self.old) }
+        ensures left { (kind : Kind) (piece_length : ℕ) (before joined : List ℕ) →
+            HasFedContent kind piece_length before joined self.old →
+            OnErr result (IsLeft kind piece_length before joined bytes.now self.new) }
+        ensures within { (kind : Kind) (piece_length : ℕ) (before joined : List ℕ) →
+            HasFedContent kind piece_length before joined self.old →
+            div_ceil (length before + length bytes.now) piece_length ≤ div_ceil (length before) piece_length →
+            div_ceil (length joined + length bytes.now) piece_length ≤ div_ceil (length joined) piece_length →
+            IsOk result }
     {
         if let Some(pieces) = &mut self.pieces {
             pieces.feed(bytes)?;
@@ -66,12 +77,19 @@ impl UnitHasher {
         Ok(())
     }
 
-    /// Adds zeros, which belong to no file.
-    pub(crate) fn feed_zeros(&mut self, count: u64) -> Result<(), AllocError>
-        ensures fed { (kind : Kind) (piece_length : ℕ) (bytes unit : List ℕ) →
-            HasFedUnit kind piece_length bytes unit self.old →
-            OnOk result (HasFedUnit kind piece_length bytes (unit ++ zeros count) self.new) }
+    /// Adds zeros, which belong to no file. Where memory is refused, fewer were added; it can only be refused where
+    /// they begin a piece.
+    pub fn feed_zeros(&mut self, count: u64) -> Result<(), AllocError>
+        ensures fed { (kind : Kind) (piece_length : ℕ) (bytes joined : List ℕ) →
+            HasFedContent kind piece_length bytes joined self.old →
+            OnOk result (HasFedContent kind piece_length bytes (joined ++ zeros count) self.new) }
         ensures tree { tree_of self.new ≡ tree_of self.old }
+        ensures left { (kind : Kind) (piece_length : ℕ) (bytes joined : List ℕ) →
+            HasFedContent kind piece_length bytes joined self.old →
+            OnErr result (IsLeftOfZeros kind piece_length bytes joined count self.new) }
+        ensures within { (kind : Kind) (piece_length : ℕ) (bytes joined : List ℕ) →
+            HasFedContent kind piece_length bytes joined self.old →
+            div_ceil (length joined + count) piece_length ≤ div_ceil (length joined) piece_length → IsOk result }
     {
         if let Some(pieces) = &mut self.pieces {
             feed_zeros(pieces, count)?;
@@ -79,12 +97,12 @@ impl UnitHasher {
         Ok(())
     }
 
-    /// Ends the unit.
-    pub(crate) fn finish(self, alloc: Global) -> Hashed
-        ensures { (kind : Kind) (piece_length : ℕ) (bytes unit : List ℕ) →
-            HasFedUnit kind piece_length bytes unit self → AreHashesOf kind piece_length bytes unit result }
+    /// Ends the content. It takes no memory.
+    pub fn finish(self, alloc: Global) -> Hashed
+        ensures { (kind : Kind) (piece_length : ℕ) (bytes joined : List ℕ) →
+            HasFedContent kind piece_length bytes joined self → AreHashesOf kind piece_length bytes joined result }
     {
-        let UnitHasher { tree, pieces } = self;
+        let ContentHasher { tree, pieces } = self;
         let pieces = match pieces {
             Some(sums) => sums.finish(),
             None => Vec::new(alloc),
@@ -93,9 +111,13 @@ impl UnitHasher {
     }
 }
 
-/// Feeds so many zeros, as many at a time as the sums take.
+/// Feeds so many zeros, as many at a time as the sums take. Where memory is refused, fewer were fed; it can only be
+/// refused where they begin a piece.
 pub(crate) fn feed_zeros(pieces: &mut PieceSums, count: u64) -> Result<(), AllocError>
-    ensures { OnOk result (Feeds pieces.old pieces.new (zeros count)) }
+    ensures fed { OnOk result (Feeds pieces.old pieces.new (zeros count)) }
+    ensures left { OnErr result ((fewer : ℕ) × (fewer < count) × Feeds pieces.old pieces.new (zeros fewer)) }
+    ensures within { (piece_length : ℕ) (bytes : List ℕ) → HasFed pieces.old piece_length bytes →
+        div_ceil (length bytes + count) piece_length ≤ div_ceil (length bytes) piece_length → IsOk result }
 {
     let mut left = count;
     'runs: while left > 0 {

@@ -1,4 +1,8 @@
 //! By how many workers files are hashed.
+ghost use Rattle.std.specs.Prelude.{◌≡◌, ◌↔◌, IsTrue};
+
+/// The most workers that may share the hashing.
+pub const MAX_WORKERS: u32 = 64;
 
 /// How the units of a plan are shared among workers.
 #[derive(Clone, Copy, Debug, PartialEq, Eq)]
@@ -7,4 +11,19 @@ pub enum How {
     One,
     /// So many workers: the units are split in two, and again while there are workers; both halves are hashed at once.
     Halves(u32),
+}
+
+impl How {
+    ghost use Rattle.tor_engine.specs.How.{IsHow, is_how};
+
+    /// Whether so many workers may share the hashing.
+    pub fn is_allowed(self) -> bool
+        ensures value { result ≡ is_how self }
+        ensures allowed { IsTrue result ↔ IsHow self }
+    {
+        match self {
+            How::One => true,
+            How::Halves(workers) => 1 <= workers && workers <= MAX_WORKERS,
+        }
+    }
 }

@@ -2,8 +2,9 @@
 ghost use Rattle.std.specs.Prelude.{◌≡◌, ◌<◌, None, Ok, Some, IfErr, IfOk, MatchResult, length, ℕ};
 ghost use Rattle.std.specs.List.{range_with_len};
 ghost use Rattle.tor_source.specs.Source.{SourceFacts, told_length};
-ghost use Rattle.tor_engine.specs.Fault.{IsFault, IsGiven, ToldLengths, change_from, first_length_fault, first_of};
+ghost use Rattle.tor_engine.specs.Fault.{IsFault, ToldLengths, change_from, first_length_fault, first_of};
 ghost use Rattle.tor_engine.specs.Fault.{length_fault};
+ghost use Rattle.tor_engine.specs.Given.{HasToldLengths, IsGiven, IsGivenAsked};
 
 use crate::asked::ask_one;
 use crate::errors::EngineError;
@@ -19,7 +20,9 @@ pub(crate) fn expect_lengths<S: Source>(
     ensures steady { (facts : SourceFacts S.Fault) → S.is_steady source.now facts →
         MatchResult result (λ _. first_length_fault facts planned.now ≡ None)
         (IsFault (first_length_fault facts planned.now)) }
-    ensures gave { IfErr result (IsGiven (S.gave source.now) (length planned.now)) }
+    ensures told { IfOk result (λ _. HasToldLengths (S.told source.now) planned.now) }
+    ensures gave { IfErr result
+        (IsGiven (S.gave source.now) (S.told source.now) (S.ended source.now) planned.now) }
 {
     let told = ask_lengths(alloc, source, planned.len())?;
     match first_change(&told, planned) {
@@ -39,7 +42,8 @@ pub fn ask_lengths<S: Source>(
         MatchResult result (λ lengths. ToldLengths facts count lengths.items)
         (IsFault (first_of (length_fault facts) (range_with_len 0 count))) }
     ensures counted { IfOk result (λ lengths. length lengths.items ≡ count) }
-    ensures gave { IfErr result (IsGiven (S.gave source.now) count) }
+    ensures told { IfOk result (λ lengths. HasToldLengths (S.told source.now) lengths.items) }
+    ensures gave { IfErr result (IsGivenAsked (S.gave source.now) (S.told source.now) count) }
 {
     let mut lengths = Vec::with_capacity(alloc, count)?;
     'files: for file in 0..count {
@@ -56,7 +60,9 @@ fn ask_length<S: Source>(source: &S, file: u64) -> Result<u64, EngineError<S::Fa
     ensures steady { (facts : SourceFacts S.Fault) → S.is_steady source.now facts →
         MatchResult result (λ length. told_length facts file ≡ Ok (Some length))
         (λ error. length_fault facts file ≡ Some error) }
-    ensures gave { (files : ℕ) → file < files → IfErr result (IsGiven (S.gave source.now) files) }
+    ensures told { IfOk result (λ length. S.told source.now file (Some length)) }
+    ensures gave { (files : ℕ) → file < files →
+        IfErr result (IsGivenAsked (S.gave source.now) (S.told source.now) files) }
 {
     match ask_one(source, file) {
         Ok(Some(length)) => Ok(length),

@@ -4,17 +4,18 @@
 //!   where the lengths were asked before.
 //! - [`How`] (`how.rt`): by how many workers; [`Sums`] (`sums.rt`): what comes of it; [`EngineError`] (`errors.rt`).
 //! - [`ask_lengths`] (`lengths.rt`): the lengths of files.
+//! - [`ContentHasher`] (`hasher.rt`): what a content hashes to, while its bytes come ([`Hashed`]).
 //! - `halves.rt` shares work among workers, whatever work it is; `turn.rt` so shares the units of a plan, each worker
 //!   taking its own one after the other, and `failure.rt` tells which of two faults is answered. `work.rt` says what a
 //!   worker does with a unit.
 //! - `sum_work.rt` does it for the sums of files. `unit_hash.rt` reads a unit and hashes it by itself, whatever files
 //!   it is of: `reading.rt` has one part read of the source (`file_bytes.rt`), `worker.rt` holds what was read and not
 //!   hashed (`room.rt`) and the hashes of what came before (`hasher.rt`). `unit_sums.rt` tells what that sums up to in
-//!   the unit's files, and `run.rt` what units sum up to that stand one after the other.
+//!   the unit's files, and `joined.rt` puts together what units give.
 //! - [`hash_pieces`] (`pieces.rt`): what each piece hashes to ([`PieceHash`], `piece_hash.rt`), of files that may be
 //!   cut short or missing: `asked.rt` asks for their lengths, `present.rt` tells what is there by these, and
 //!   `piece_work.rt` hashes the pieces of a unit.
-//! - [`laws`] (`laws.rt`): a law over the definition of the first fault.
+//! - [`laws`] (`laws.rt`): a law over the definition of the first fault, and the limits of workers and buffers.
 //!
 //! ```rust
 //! use tor_engine::{How, hash_all};
@@ -34,6 +35,7 @@ mod halves;
 mod hasher;
 mod how;
 mod items;
+mod joined;
 pub mod laws;
 mod lengths;
 mod piece_hash;
@@ -42,7 +44,6 @@ mod pieces;
 mod present;
 mod reading;
 mod room;
-mod run;
 mod sum_work;
 mod sums;
 mod turn;
@@ -53,7 +54,8 @@ mod worker;
 
 pub use engine::{hash_all, hash_told};
 pub use errors::EngineError;
-pub use how::How;
+pub use hasher::{ContentHasher, Hashed};
+pub use how::{How, MAX_WORKERS};
 pub use lengths::ask_lengths;
 pub use piece_hash::PieceHash;
 pub use pieces::hash_pieces;

@@ -1,12 +1,21 @@
 //! The pieces of units hashed, those that are wholly there.
-ghost use Rattle.std.specs.Prelude.{◌≡◌, ◌↔◌, [], IsTrue, None, IfErr, IfOk, MatchResult, length};
+ghost use Rattle.std.specs.Prelude.{◌≡◌, ◌≢◌, ◌≤◌, ◌↔◌, true, [], ℕ, All, IsTrue, List, None, Some};
+ghost use Rattle.std.specs.Prelude.{IfErr, IfOk, MatchResult, length, if◌then◌else◌};
+ghost use Rattle.std.specs.List.{flat_map};
+ghost use Rattle.tor_plan.specs.Content.{unit_content};
 ghost use Rattle.tor_plan.specs.PlanFacts.{IsPlan};
+ghost use Rattle.tor_plan.specs.Present.{is_there};
+ghost use Rattle.tor_plan.specs.WithinEntries.{IsInFile};
+ghost use Rattle.tor_tree.specs.Kinds.{has_v2};
 ghost use Rattle.tor_source.specs.Source.{SourceFacts};
 ghost use Rattle.tor_engine.specs.Contents.{contents_in};
-ghost use Rattle.tor_engine.specs.Fault.{IsFault, IsGivenNotMissing, unit_fault};
+ghost use Rattle.tor_engine.specs.Fault.{IsFault, unit_fault};
+ghost use Rattle.tor_engine.specs.Hasher.{AreHashesOf, IsTreeOf};
 ghost use Rattle.tor_engine.specs.PieceFault.{piece_fault};
-ghost use Rattle.tor_engine.specs.PieceHashes.{hash_if_there};
-ghost use Rattle.tor_engine.specs.steps.Pieces.{first_hashes, sums_in, unit_hash, unit_pieces_fault};
+ghost use Rattle.tor_engine.specs.PieceHashes.{hash_if_there, hash_of_parts, merkle_hash, piece_hash};
+ghost use Rattle.tor_engine.specs.steps.Given.{IsGivenRead, lengths_of_sizes};
+ghost use Rattle.tor_engine.specs.steps.Hashes.{bytes_of_part};
+ghost use Rattle.tor_engine.specs.steps.Pieces.{HasPieces, unit_pieces_fault};
 ghost use Rattle.tor_engine.specs.steps.Pieces.{AreTold, HashesPieces, IsPaddingSum, IsPiece, IsUnitToHash};
 ghost use Rattle.tor_engine.specs.steps.Reads.{HasParts};
 ghost use Rattle.tor_engine.specs.steps.Run.{IsUnitOf};
@@ -14,15 +23,16 @@ ghost use Rattle.tor_engine.specs.steps.Worker.{IsFresh};
 
 use crate::errors::EngineError;
 use crate::file_bytes::FileBytes;
+use crate::hasher::Hashed;
 use crate::items::item_at;
 use crate::piece_hash::PieceHash;
 use crate::present::is_there;
-use crate::run::RunSums;
-use crate::unit_sums::sum_unit;
+use crate::unit_hash::hash_unit;
 use crate::work::UnitWork;
 use crate::worker::WorkerSums;
 use std::alloc::{AllocError, Global};
 use tor_merkle::laws::root_of_short_content;
+use tor_merkle::{Feed, Hash};
 use tor_plan::{Plan, PlanUnit};
 use tor_v1::laws::length_of_sums;
 
@@ -61,16 +71,20 @@ impl<'a, S: FileBytes> UnitWork for PieceWork<'a, S> {
     ghost fault = { λ work facts unit.
         unit_pieces_fault facts work.plan.now (contents_in facts (length work.plan.now.lengths)) unit };
 
-    ghost sums_up = { λ work units hashes.
-        HashesPieces (S.is_steady work.source.now) work.plan.now work.known.now.lengths.items units hashes.items };
+    ghost sums_up = { λ work unit hashes.
+        HashesPieces (S.is_steady work.source.now) work.plan.now work.known.now.lengths.items unit hashes.items };
 
-    ghost gave = { λ work. IsGivenNotMissing (S.gave work.source.now) (length work.plan.now.lengths) };
+    ghost gave = { λ work. IsGivenRead (S.gave work.source.now) (S.ended work.source.now)
+        (lengths_of_sizes work.known.now.lengths.items) };
 
     ghost may_refuse = { λ _. tt };
 
-    fn begin(&self) -> Result<(WorkerSums, Vec<Option<PieceHash>>), AllocError> {
-        let worker = WorkerSums::new(self.alloc, self.plan)?;
-        Ok((worker, Vec::new(self.alloc)))
+    fn alloc(&self) -> Global {
+        self.alloc
+    }
+
+    fn begin(&self) -> Result<WorkerSums, AllocError> {
+        WorkerSums::new(self.alloc, self.plan)
     }
 
     fn hash(
@@ -96,13 +110,6 @@ impl<'a, S: FileBytes> UnitWork for PieceWork<'a, S> {
         }
         Ok(hashes)
     }
-
-    fn append(
-        hashes: &mut Vec<Option<PieceHash>>,
-        next: &Vec<Option<PieceHash>>,
-    ) -> Result<(), AllocError> {
-        hashes.extend_from_slice(next)
-    }
 }
 
 /// The hashes of a piece, none where a byte of it is not there. Such a piece is not read.
@@ -125,10 +132,9 @@ fn hash_if_there<S: FileBytes>(
         (λ hash. (hash ≡ hash_if_there plan.now (contents_in facts (length plan.now.lengths)) piece.now)
         × (piece_fault facts (contents_in facts (length plan.now.lengths)) piece.now ≡ None))
         (IsFault (piece_fault facts (contents_in facts (length plan.now.lengths)) piece.now)) }
-    ensures gave { IfErr result (IsGivenNotMissing (S.gave source.now) (length plan.now.lengths)) }
+    ensures gave { IfErr result (IsGivenRead (S.gave source.now) (S.ended source.now)
+        (lengths_of_sizes known.now.lengths.items)) }
 {
-    length_of_sums();
-    root_of_short_content();
     if !is_there(&known.lengths, piece) {
         return Ok(None);
     }
@@ -160,29 +166,66 @@ fn hash_piece<S: FileBytes>(
     sums: &mut WorkerSums,
 ) -> Result<PieceHash, EngineError<S::Fault>>
     requires planned { IsPlan plan.now }
-    requires piece { IsUnitOf plan.now piece.now }
+    requires piece { IsPiece plan.now piece.now }
     requires fresh { IsFresh plan.now sums.old }
     ensures fresh { IfOk result (λ _. IsFresh plan.now sums.new) }
-    ensures hashed { (facts : SourceFacts S.Fault) → S.is_steady source.now facts → HasParts facts piece.now.parts →
+    ensures hashed { (facts : SourceFacts S.Fault) → S.is_steady source.now facts →
+        is_there (contents_in facts (length plan.now.lengths)) piece.now ≡ true →
         MatchResult result
-        (λ hash. (hash ≡ unit_hash plan.now (contents_in facts (length plan.now.lengths)) piece.now)
+        (λ hash. (hash ≡ piece_hash plan.now (contents_in facts (length plan.now.lengths)) piece.now)
         × (unit_fault facts piece.now ≡ None))
         (IsFault (unit_fault facts piece.now)) }
-    ensures gave { IfErr result (IsGivenNotMissing (S.gave source.now) (length plan.now.lengths)) }
+    ensures gave { (lengths : List ℕ) → All (IsInFile lengths) piece.now.parts →
+        IfErr result (IsGivenRead (S.gave source.now) (S.ended source.now) lengths) }
 {
-    match sum_unit(alloc, source, plan, piece, sums) {
-        Ok(run_sums) => Ok(first_hashes(&run_sums)),
+    match hash_unit(alloc, source, plan, piece, sums) {
+        Ok(hashed) => Ok(hashes_of_piece(plan, piece, hashed)),
         Err(error) => Err(error),
     }
 }
 
-/// The first hashes of the units of a run, on each side that has one.
-fn first_hashes(run_sums: &RunSums) -> PieceHash
-    ensures { result ≡ first_hashes (sums_in run_sums.now.pieces.items) run_sums.now.hashes.items }
+/// The hashes of a piece, on each side that has one.
+fn hashes_of_piece(plan: &Plan, piece: &PlanUnit, hashed: Hashed) -> PieceHash
+    requires { IsPiece plan.now piece.now }
+    ensures { (contents : List (List ℕ)) → is_there contents piece.now ≡ true →
+        AreHashesOf plan.now.kind plan.now.piece_length (flat_map (bytes_of_part contents) piece.now.parts)
+        (unit_content contents piece.now) hashed → result ≡ piece_hash plan.now contents piece.now }
 {
-    let (sums, _) = run_sums.pieces.as_chunks::<20>();
+    length_of_sums();
+    let Hashed { tree, pieces } = hashed;
+    let (sums, _) = pieces.as_chunks::<20>();
     PieceHash {
         v1: item_at(sums, 0),
-        v2: item_at(&run_sums.hashes, 0),
+        v2: merkle_hash_of_piece(plan, piece, tree),
     }
+}
+
+/// The Merkle hash of a piece, from the tree over its bytes.
+fn merkle_hash_of_piece(plan: &Plan, piece: &PlanUnit, tree: Option<Feed>) -> Option<Hash>
+    requires { IsPiece plan.now piece.now }
+    ensures { (contents : List (List ℕ)) → HasPieces plan.now.piece_length contents piece.now.parts →
+        IsTreeOf plan.now.kind plan.now.piece_length (flat_map (bytes_of_part contents) piece.now.parts) tree →
+        result ≡ (if has_v2 plan.now.kind then Some (hash_of_parts plan.now contents piece.now.parts) else None) }
+{
+    let Some(tree) = tree else {
+        return None;
+    };
+    let Some(part) = piece.parts.as_slice().first() else {
+        return None;
+    };
+    merkle_hash(tree, plan.lengths()[part.file as usize])
+}
+
+/// That of the bytes of a tree, a piece of a file that has `size` bytes.
+fn merkle_hash(tree: Feed, size: u64) -> Option<Hash>
+    ensures { tree.bytes ≢ [] → length tree.bytes ≤ tree.piece_length →
+        result ≡ Some (merkle_hash tree.piece_length size tree.bytes) }
+{
+    root_of_short_content();
+    if size > tree.piece_length() {
+        return item_at(&tree.piece_roots(), 0);
+    }
+    let sums = tree.finish()?;
+    let root = sums.0;
+    Some(root)
 }

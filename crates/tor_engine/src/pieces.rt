@@ -3,10 +3,12 @@ ghost use Rattle.std.specs.Prelude.{◌≡◌, None, IfErr, IfOk, IsSome, MatchR
 ghost use Rattle.std.specs.List.{list_any};
 ghost use Rattle.tor_source.specs.Source.{SourceFacts};
 ghost use Rattle.tor_engine.specs.Contents.{contents_in};
-ghost use Rattle.tor_engine.specs.Fault.{IsFault, IsGivenNotMissing};
+ghost use Rattle.tor_engine.specs.Fault.{IsFault};
+ghost use Rattle.tor_engine.specs.Given.{IsGivenPieces};
 ghost use Rattle.tor_engine.specs.How.{IsHow};
 ghost use Rattle.tor_engine.specs.PieceFault.{first_asked_fault, first_piece_fault, lengths_told};
 ghost use Rattle.tor_engine.specs.PieceHashes.{piece_hashes, pieces_of_plan};
+ghost use Rattle.tor_engine.specs.steps.Given.{IsGivenKnown};
 ghost use Rattle.tor_engine.specs.steps.Pieces.{IsPaddingSum, MayHavePadding, has_long_zeros};
 
 use crate::asked::{ask_each, expect_each};
@@ -14,6 +16,7 @@ use crate::errors::EngineError;
 use crate::hasher::feed_zeros;
 use crate::how::How;
 use crate::items::item_at;
+use crate::joined::joined;
 use crate::piece_hash::PieceHash;
 use crate::piece_work::{Known, PieceWork};
 use crate::turn::hash_units;
@@ -43,7 +46,8 @@ pub fn hash_pieces<S: Source, R: Threads + Sync>(
         × (first_piece_fault facts plan.now ≡ None))
         (IsFault (first_piece_fault facts plan.now)) }
     ensures counted { IfOk result (λ hashes. length hashes.items ≡ length (pieces_of_plan plan.now)) }
-    ensures gave { IfErr result (IsGivenNotMissing (S.gave source.now) (length plan.now.lengths)) }
+    ensures gave { IfErr result (IsGivenPieces (S.gave source.now) (S.told source.now) (S.ended source.now)
+        (length plan.now.lengths)) }
 {
     let lengths = match ask_each(alloc, source, plan.lengths().len()) {
         Ok(lengths) => lengths,
@@ -79,7 +83,8 @@ fn hash_known<S: Source, R: Threads + Sync>(
     ensures unchanged { (facts : SourceFacts S.Fault) → S.is_steady source.now facts →
         OnOk result (known.now.lengths.items ≡ lengths_told facts (length plan.now.lengths)) }
     ensures counted { IfOk result (λ hashes. length hashes.items ≡ length (pieces_of_plan plan.now)) }
-    ensures gave { IfErr result (IsGivenNotMissing (S.gave source.now) (length plan.now.lengths)) }
+    ensures gave { IfErr result (IsGivenKnown (S.gave source.now) (S.told source.now) (S.ended source.now)
+        known.now.lengths.items) }
 {
     let units = plan.units();
     let work = PieceWork {
@@ -93,9 +98,11 @@ fn hash_known<S: Source, R: Threads + Sync>(
         Err(error) => return Err(error),
     };
     match expect_each(source, &known.lengths) {
-        Ok(()) => Ok(hashes),
-        Err(error) => Err(error),
+        Ok(()) => {}
+        Err(error) => return Err(error),
     }
+    let joined = joined(alloc, &hashes)?;
+    Ok(joined)
 }
 
 /// The SHA-1 of a whole piece of padding, where the plan may have one.

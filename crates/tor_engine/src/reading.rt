@@ -1,10 +1,11 @@
 //! One part of a unit, read and taken.
-ghost use Rattle.std.specs.Prelude.{◌≡◌, ◌+◌, ◌<◌, ◌≤◌, None, IfErr, IfOk, MatchResult, ℕ};
+ghost use Rattle.std.specs.Prelude.{◌≡◌, ◌+◌, ◌≤◌, None, IfErr, IfOk, List, MatchResult, ℕ};
 ghost use Rattle.tor_merkle.specs.declared.TheConstants.{MAX_LENGTH};
 ghost use Rattle.tor_plan.specs.PlanFacts.{PlanFacts};
 ghost use Rattle.tor_plan.specs.WithinEntries.{IsInFile};
 ghost use Rattle.tor_source.specs.Source.{SourceFacts};
-ghost use Rattle.tor_engine.specs.Fault.{IsFault, IsGivenNotMissing, part_fault};
+ghost use Rattle.tor_engine.specs.Fault.{IsFault, part_fault};
+ghost use Rattle.tor_engine.specs.steps.Given.{IsGivenRead};
 ghost use Rattle.tor_engine.specs.steps.Reads.{AddsPart, HasPart};
 ghost use Rattle.tor_engine.specs.steps.Worker.{begun_of};
 
@@ -25,8 +26,8 @@ pub(crate) fn read_part<S: FileBytes>(
         IfOk result (λ _. AddsPart (S.is_steady source.now) plan part.now sums.old sums.new) }
     ensures fault { (facts : SourceFacts S.Fault) → S.is_steady source.now facts → HasPart facts part.now →
         MatchResult result (λ _. part_fault facts part.now ≡ None) (IsFault (part_fault facts part.now)) }
-    ensures gave { (files : ℕ) → part.now.file < files →
-        IfErr result (IsGivenNotMissing (S.gave source.now) files) }
+    ensures gave { (lengths : List ℕ) → IsInFile lengths part.now →
+        IfErr result (IsGivenRead (S.gave source.now) (S.ended source.now) lengths) }
 {
     let mut done = 0;
     'reads: while done < part.length {

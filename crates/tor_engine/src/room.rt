@@ -1,10 +1,11 @@
 //! The bytes that a worker has read and not hashed yet, and room for more behind them.
 ghost use Rattle.std.specs.Prelude.{◌≡◌, ◌⊎◌, ◌+◌, ◌*◌, ◌-◌, ◌%◌, ◌<◌, ◌≤◌, [], Some, false, true};
-ghost use Rattle.std.specs.Prelude.{IfErr, IfOk, MatchResult, drop, length, take, vec_len, ℕ};
+ghost use Rattle.std.specs.Prelude.{IfErr, IfOk, List, MatchResult, drop, length, slice_index_or, take, vec_len, ℕ};
 ghost use Rattle.tor_plan.specs.PlanFacts.{IsPlan};
 ghost use Rattle.tor_source.specs.Source.{SourceFacts, bytes_from};
-ghost use Rattle.tor_engine.specs.Fault.{IsGivenNotMissing, byte_fault};
+ghost use Rattle.tor_engine.specs.Fault.{byte_fault};
 ghost use Rattle.tor_engine.specs.declared.room.TheConstants.{BATCH, LEAST_ASKED, MOST_HELD};
+ghost use Rattle.tor_engine.specs.steps.Given.{IsGivenRead};
 ghost use Rattle.tor_engine.specs.steps.ReadBytes.{AreBytesAt, EndsThere, IsFaultFree};
 ghost use Rattle.tor_tree.specs.Kinds.{has_v1};
 ghost use Rattle.tor_v1.specs.declared.runs.TheConstants.{MAX_PIECE_IN_RUN};
@@ -13,6 +14,7 @@ use crate::errors::EngineError;
 use crate::file_bytes::FileBytes;
 use std::alloc::{AllocError, Global};
 use tor_plan::Plan;
+use tor_source::zeros;
 use tor_v1::MAX_PIECE_IN_RUN;
 
 /// Where so many bytes are left, at least so many are asked for at a time.
@@ -129,7 +131,8 @@ impl Room {
         ensures ends { (facts : SourceFacts S.Fault) → S.is_steady source.now facts →
             length (bytes_from facts file start) ≡ 0 → EndsThere facts file start result }
         ensures err { IfErr result (λ _. count_in self.new ≡ count_in self.old) }
-        ensures gave { (files : ℕ) → file < files → IfErr result (IsGivenNotMissing (S.gave source.now) files) }
+        ensures gave { (lengths : List ℕ) → file < length lengths → start < slice_index_or lengths file 0 →
+            IfErr result (IsGivenRead (S.gave source.now) (S.ended source.now) lengths) }
     {
         let most = self.asked(left);
         match read_behind(source, file, start, self.held, most, &mut self.bytes) {
@@ -180,12 +183,6 @@ fn batch_length(plan: &Plan) -> usize
     }
 }
 
-fn zeros(alloc: Global, length: usize) -> Result<Vec<u8>, AllocError>
-    ensures { IfOk result (λ bytes. vec_len bytes ≡ length) }
-{
-    vec![in alloc; 0; length]
-}
-
 /// Copies `left` bytes behind the first `count` to the front.
 fn move_to_front(bytes: &mut [u8], count: usize, left: usize)
     requires half { left ≤ count }
@@ -219,7 +216,8 @@ fn read_behind<S: FileBytes>(
         (λ error. byte_fault facts file start ≡ Some error) }
     ensures ends { (facts : SourceFacts S.Fault) → S.is_steady source.now facts →
         length (bytes_from facts file start) ≡ 0 → EndsThere facts file start result }
-    ensures gave { (files : ℕ) → file < files → IfErr result (IsGivenNotMissing (S.gave source.now) files) }
+    ensures gave { (lengths : List ℕ) → file < length lengths → start < slice_index_or lengths file 0 →
+        IfErr result (IsGivenRead (S.gave source.now) (S.ended source.now) lengths) }
 {
     let (_, behind) = bytes.split_at_mut(held);
     let (buffer, _) = behind.split_at_mut(most);

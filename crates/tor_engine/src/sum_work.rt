@@ -1,14 +1,13 @@
 //! Units hashed for the sums of files.
-ghost use Rattle.std.specs.Prelude.{length};
 ghost use Rattle.tor_plan.specs.PlanFacts.{IsPlan};
-ghost use Rattle.tor_engine.specs.Fault.{IsGivenNotMissing, unit_fault};
+ghost use Rattle.tor_engine.specs.Fault.{unit_fault};
+ghost use Rattle.tor_engine.specs.steps.Given.{IsGivenRead};
 ghost use Rattle.tor_engine.specs.steps.Reads.{HasLengths};
-ghost use Rattle.tor_engine.specs.steps.Run.{HashesUnits, IsUnitOf};
+ghost use Rattle.tor_engine.specs.steps.Run.{IsUnitToSum, SumsUpUnit};
 
 use crate::errors::EngineError;
 use crate::file_bytes::FileBytes;
-use crate::run::RunSums;
-use crate::unit_sums::sum_unit;
+use crate::unit_sums::{UnitSums, sum_unit};
 use crate::work::UnitWork;
 use crate::worker::WorkerSums;
 use std::alloc::{AllocError, Global};
@@ -25,38 +24,37 @@ pub(crate) struct SumWork<'a, S> {
 impl<'a, S: FileBytes> UnitWork for SumWork<'a, S> {
     type Fault = S::Fault;
 
-    type Sums = RunSums;
+    type Sums = UnitSums;
 
     ghost plan = { λ work. work.plan.now };
 
     ghost may_begin = { λ work. IsPlan work.plan.now };
 
-    ghost may_hash = { λ work unit. IsUnitOf work.plan.now unit };
+    ghost may_hash = { λ work unit. IsUnitToSum work.plan.now unit };
 
     ghost is_steady = { λ work facts. S.is_steady work.source.now facts × HasLengths work.plan.now facts };
 
     ghost fault = { λ _ facts unit. unit_fault facts unit };
 
-    ghost sums_up = { λ work units sums. HashesUnits (S.is_steady work.source.now) work.plan.now units sums };
+    ghost sums_up = { λ work unit sums. SumsUpUnit (S.is_steady work.source.now) work.plan.now unit sums };
 
-    ghost gave = { λ work. IsGivenNotMissing (S.gave work.source.now) (length work.plan.now.lengths) };
+    ghost gave = { λ work. IsGivenRead (S.gave work.source.now) (S.ended work.source.now) work.plan.now.lengths };
 
     ghost may_refuse = { λ _. tt };
 
-    fn begin(&self) -> Result<(WorkerSums, RunSums), AllocError> {
-        let worker = WorkerSums::new(self.alloc, self.plan)?;
-        Ok((worker, RunSums::none(self.alloc)))
+    fn alloc(&self) -> Global {
+        self.alloc
+    }
+
+    fn begin(&self) -> Result<WorkerSums, AllocError> {
+        WorkerSums::new(self.alloc, self.plan)
     }
 
     fn hash(
         &self,
         unit: &PlanUnit,
         worker: &mut WorkerSums,
-    ) -> Result<RunSums, EngineError<S::Fault>> {
+    ) -> Result<UnitSums, EngineError<S::Fault>> {
         sum_unit(self.alloc, self.source, self.plan, unit, worker)
-    }
-
-    fn append(sums: &mut RunSums, next: &RunSums) -> Result<(), AllocError> {
-        sums.append(next)
     }
 }

@@ -1,21 +1,20 @@
 //! What the files of a plan sum up to.
-ghost use Rattle.std.specs.Prelude.{◌≡◌, ◌≤◌, [], All, IfOk, List, ℕ, None, length, map, replicate};
+ghost use Rattle.std.specs.Prelude.{◌≡◌, ◌-◌, ◌*◌, ◌^◌, ◌≤◌, [], ◌∷◌, All, IfOk, List, ℕ, None, length, map, min};
+ghost use Rattle.std.specs.Prelude.{replicate};
 ghost use Rattle.std.specs.Int.{div_ceil};
 ghost use Rattle.std.specs.List.{flat_map};
-ghost use Rattle.tor_merkle.specs.Layer.{IsPieceLength, piece_layer, root_of};
-ghost use Rattle.tor_merkle.specs.declared.TheConstants.{MAX_LENGTH};
+ghost use Rattle.std.specs.Option.{ForSome};
+ghost use Rattle.tor_merkle.specs.Layer.{piece_layer, root_of};
+ghost use Rattle.tor_merkle.specs.declared.TheConstants.{BLOCK_LENGTH, MAX_LENGTH};
 ghost use Rattle.tor_plan.specs.PlanFacts.{IsPlan};
-ghost use Rattle.tor_engine.specs.Sums.{AreSumsOf, lists_of};
-ghost use Rattle.tor_engine.specs.steps.Hashes.{hashes_of_file};
-ghost use Rattle.tor_engine.specs.steps.Run.{hashes_of_units, sums_of_units};
+ghost use Rattle.tor_engine.specs.Sums.{AreSumsOfPlan, lists_of};
+ghost use Rattle.tor_engine.specs.steps.Hashes.{IsCut, nodes_of_file};
+ghost use Rattle.tor_engine.specs.steps.Run.{AreSumsOfUnits, node_in};
 
-use crate::run::RunSums;
+use crate::joined::{layer_of_units, pieces_of_units, root_of_units};
+use crate::unit_sums::{UnitSums, level_of};
 use std::alloc::{AllocError, Global};
-use tor_merkle::laws::{
-    count_of_piece_roots, piece_length_bounds, piece_roots_fit_a_layer, piece_roots_of_units,
-    root_of_long_content, root_of_short_content,
-};
-use tor_merkle::{Hash, layer_root, piece_level};
+use tor_merkle::{BLOCK_LENGTH, Hash};
 use tor_plan::Plan;
 
 /// What files sum up to, file by file in the order of the plan.
@@ -34,17 +33,21 @@ pub struct Sums {
 }
 
 /// What the files of a plan sum up to, from what all its units do.
-pub(crate) fn sums_of_run(alloc: Global, plan: &Plan, sums: RunSums) -> Result<Sums, AllocError>
+pub(crate) fn sums_of_units(
+    alloc: Global,
+    plan: &Plan,
+    units: &[UnitSums],
+) -> Result<Sums, AllocError>
     requires { IsPlan plan.now }
     ensures { (contents : List (List ℕ)) → map length contents ≡ plan.now.lengths →
-        sums.hashes.items ≡ hashes_of_units plan.now.kind plan.now.piece_length contents plan.now.units →
-        sums.pieces.items ≡ sums_of_units plan.now.kind plan.now.piece_length contents plan.now.units →
-        IfOk result (AreSumsOf plan.now contents) }
+        AreSumsOfUnits plan.now contents plan.now.units (map node_in units.now)
+        (flat_map (λ unit. unit.pieces.items) units.now) →
+        IfOk result (AreSumsOfPlan plan.now contents) }
 {
-    piece_roots_of_units();
+    let pieces = pieces_of_units(alloc, units)?;
     let lengths = Vec::from_slice(alloc, plan.lengths())?;
     let (roots, layers) = if plan.kind().has_v2() {
-        trees_of_files(alloc, plan.piece_length(), &lengths, &sums.hashes)?
+        trees_of_files(alloc, &lengths, level_of(&plan.forest().trees), units)?
     } else {
         no_trees(alloc, lengths.len())?
     };
@@ -52,7 +55,7 @@ pub(crate) fn sums_of_run(alloc: Global, plan: &Plan, sums: RunSums) -> Result<S
         lengths,
         roots,
         layers,
-        pieces: sums.pieces,
+        pieces,
     })
 }
 
@@ -70,32 +73,28 @@ fn no_trees(alloc: Global, count: usize) -> Result<(Vec<Option<Hash>>, Vec<Vec<H
     Ok((roots, layers))
 }
 
-/// The root and the layer of each file, from the hashes of the pieces of all files.
+/// The root and the layer of each file, from what the units of all files sum up to.
 fn trees_of_files(
     alloc: Global,
-    piece_length: u64,
     lengths: &[u64],
-    hashes: &[Hash],
+    level: Option<u32>,
+    units: &[UnitSums],
 ) -> Result<(Vec<Option<Hash>>, Vec<Vec<Hash>>), AllocError>
-    requires piece { IsPieceLength piece_length }
+    requires low { ForSome level (λ k. k ≤ 36) }
     requires small { All (λ size. size ≤ MAX_LENGTH) lengths.now }
-    ensures roots { (contents : List (List ℕ)) → map length contents ≡ lengths.now →
-        hashes.now ≡ flat_map (hashes_of_file piece_length) contents →
-        IfOk result (λ trees. trees.0.items ≡ map root_of contents) }
-    ensures layers { (contents : List (List ℕ)) → map length contents ≡ lengths.now →
-        hashes.now ≡ flat_map (hashes_of_file piece_length) contents →
-        IfOk result (λ trees. lists_of trees.1.items ≡ map (λ content. piece_layer content piece_length) contents) }
+    ensures { (piece_length size : ℕ) (contents : List (List ℕ)) → map length contents ≡ lengths.now →
+        IsCut piece_length size level lengths.now →
+        map node_in units.now ≡ flat_map (nodes_of_file piece_length size level) contents →
+        IfOk result (λ trees. (trees.0.items ≡ map root_of contents)
+        × (lists_of trees.1.items ≡ map (λ content. piece_layer content piece_length) contents)) }
 {
-    count_of_piece_roots();
-    piece_length_bounds();
-    root_of_short_content();
     let mut roots = Vec::with_capacity(alloc, lengths.len())?;
     let mut layers = Vec::with_capacity(alloc, lengths.len())?;
-    let mut rest = hashes;
+    let mut rest = units;
     'files: for size in lengths {
-        let count = size.div_ceil(piece_length) as usize;
-        let (pieces, later) = rest.split_at(count.min(rest.len()));
-        let (root, layer) = tree_of_file(alloc, piece_length, *size, pieces)?;
+        let count = count_of_units(*size, level) as usize;
+        let (own, later) = rest.split_at(count.min(rest.len()));
+        let (root, layer) = tree_of_file(alloc, level, own)?;
         roots.push(root)?;
         layers.push(layer)?;
         rest = later;
@@ -103,31 +102,38 @@ fn trees_of_files(
     Ok((roots, layers))
 }
 
-/// The root and the layer of a file of `size` bytes, from the hashes of its pieces.
+/// How many units a file has, of which several stand at the level.
+fn count_of_units(size: u64, level: Option<u32>) -> u64
+    requires low { ForSome level (λ k. k ≤ 36) }
+    requires small { size ≤ MAX_LENGTH }
+    ensures several { ForSome level (λ k. result ≡ div_ceil size (BLOCK_LENGTH * 2 ^ k)) }
+    ensures few { ForSome level (λ k. result ≤ 2 ^ (36 - k)) }
+    ensures one { level ≡ None → result ≡ min 1 size }
+{
+    match level {
+        Some(level) => size.div_ceil(BLOCK_LENGTH as u64 * (1 << level)),
+        None => size.min(1),
+    }
+}
+
+/// The root and the layer of a file, from what its units sum up to.
 fn tree_of_file(
     alloc: Global,
-    piece_length: u64,
-    size: u64,
-    hashes: &[Hash],
+    level: Option<u32>,
+    units: &[UnitSums],
 ) -> Result<(Option<Hash>, Vec<Hash>), AllocError>
-    requires piece { IsPieceLength piece_length }
-    requires small { size ≤ MAX_LENGTH }
-    requires few { length hashes.now ≤ div_ceil size piece_length }
-    ensures root { (content : List ℕ) → length content ≡ size → hashes.now ≡ hashes_of_file piece_length content →
-        IfOk result (λ tree. tree.0 ≡ root_of content) }
-    ensures layer { (content : List ℕ) → length content ≡ size → hashes.now ≡ hashes_of_file piece_length content →
-        IfOk result (λ tree. tree.1.items ≡ piece_layer content piece_length) }
+    requires low { ForSome level (λ k. (k ≤ 36) × (length units.now ≤ 2 ^ (36 - k))) }
+    ensures { (piece_length size : ℕ) (content : List ℕ) → IsCut piece_length size level (length content ∷ []) →
+        map node_in units.now ≡ nodes_of_file piece_length size level content →
+        IfOk result (λ tree. (tree.0 ≡ root_of content) × (tree.1.items ≡ piece_layer content piece_length)) }
 {
-    count_of_piece_roots();
-    piece_roots_fit_a_layer();
-    root_of_long_content();
-    let Some(first) = hashes.first() else {
+    let Some(first) = units.first() else {
         return Ok((None, Vec::new(alloc)));
     };
-    if size <= piece_length {
-        return Ok((Some(*first), Vec::new(alloc)));
-    }
-    let root = layer_root(hashes, piece_level(piece_length));
-    let layer = Vec::from_slice(alloc, hashes)?;
+    let layer = layer_of_units(alloc, units)?;
+    let root = match level {
+        Some(level) if units.len() > 1 => root_of_units(units, level),
+        _ => first.hash,
+    };
     Ok((Some(root), layer))
 }

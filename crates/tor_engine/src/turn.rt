@@ -3,29 +3,32 @@ ghost use Rattle.std.specs.Prelude.{◌≡◌, ◌+◌, ◌<◌, ◌^◌, ◌++�
 ghost use Rattle.tor_plan.specs.declared.units.PlanUnit.{PlanUnit};
 ghost use Rattle.tor_source.specs.Source.{SourceFacts};
 ghost use Rattle.tor_engine.specs.Fault.{IsFault, first_of};
+ghost use Rattle.tor_engine.specs.steps.Each.{SumUpEach};
 ghost use Rattle.tor_engine.specs.steps.Failing.{AnswersUnits};
 
 use crate::errors::EngineError;
 use crate::failure::{Failure, least};
 use crate::halves::{Share, by_halves};
 use crate::how::How;
+use crate::joined::append;
 use crate::work::UnitWork;
 use std::thread::Threads;
 use tor_plan::PlanUnit;
 
-/// What the units of a plan sum up to. The first fault in the order of the units is answered, whatever the `How`.
+/// What each of the units of a plan sums up to. The first fault in the order of the units is answered, whatever the
+/// `How`.
 pub(crate) fn hash_units<W: UnitWork + Sync, R: Threads + Sync>(
     rt: &R,
     work: &W,
     units: &[PlanUnit],
     how: How,
-) -> Result<W::Sums, EngineError<W::Fault>>
+) -> Result<Vec<W::Sums>, EngineError<W::Fault>>
 where
     W::Sums: Send,
     W::Fault: Send,
     requires begin { W.may_begin work.now }
     requires units { All (W.may_hash work.now) units.now }
-    ensures summed { IfOk result (W.sums_up work.now units.now) }
+    ensures summed { IfOk result (λ sums. SumUpEach (W.sums_up work.now) units.now sums.items) }
     ensures fault { (facts : SourceFacts W.Fault) → W.is_steady work.now facts →
         MatchResult result (λ _. first_of (W.fault work.now facts) units.now ≡ None)
         (IsFault (first_of (W.fault work.now facts) units.now)) }
@@ -60,14 +63,15 @@ where
     W::Sums: Send,
     W::Fault: Send,
 {
-    type Answer = Result<W::Sums, Failure<W::Fault>>;
+    type Answer = Result<Vec<W::Sums>, Failure<W::Fault>>;
 
     ghost may_answer = { λ share. W.may_begin share.work.now × All (W.may_hash share.work.now) share.units.now
         × (share.first + length share.units.now < 2 ^ 64) };
 
     ghost answers = { λ share result.
-        AnswersUnits (W.sums_up share.work.now) (W.is_steady share.work.now) (W.fault share.work.now)
-        (W.gave share.work.now) share.first share.units.now result };
+        AnswersUnits (λ units sums. SumUpEach (W.sums_up share.work.now) units sums.items)
+        (W.is_steady share.work.now) (W.fault share.work.now) (W.gave share.work.now) share.first share.units.now
+        result };
 
     ghost halves = { λ whole one other. (one.work.now ≡ whole.work.now) × (other.work.now ≡ whole.work.now)
         × (whole.units.now ≡ one.units.now ++ other.units.now) × (one.first ≡ whole.first)
@@ -92,17 +96,17 @@ where
         ))
     }
 
-    fn answer(self) -> Result<W::Sums, Failure<W::Fault>> {
+    fn answer(self) -> Result<Vec<W::Sums>, Failure<W::Fault>> {
         hash_in_turn(self.work, self.units, self.first)
     }
 
     fn join(
-        one: Result<W::Sums, Failure<W::Fault>>,
-        other: Result<W::Sums, Failure<W::Fault>>,
-    ) -> Result<W::Sums, Failure<W::Fault>> {
+        one: Result<Vec<W::Sums>, Failure<W::Fault>>,
+        other: Result<Vec<W::Sums>, Failure<W::Fault>>,
+    ) -> Result<Vec<W::Sums>, Failure<W::Fault>> {
         match (one, other) {
             (Ok(mut sums), Ok(next)) => {
-                W::append(&mut sums, &next)?;
+                append(&mut sums, next)?;
                 Ok(sums)
             }
             (Ok(_), Err(failure)) => Err(failure),
@@ -112,19 +116,20 @@ where
     }
 }
 
-/// What the units sum up to, of which the first has the number `first`.
+/// What each of the units sums up to, of which the first has the number `first`.
 fn hash_in_turn<W: UnitWork>(
     work: &W,
     units: &[PlanUnit],
     first: u64,
-) -> Result<W::Sums, Failure<W::Fault>>
+) -> Result<Vec<W::Sums>, Failure<W::Fault>>
     requires begin { W.may_begin work.now }
     requires units { All (W.may_hash work.now) units.now }
     requires small { first + length units.now < 2 ^ 64 }
-    ensures { AnswersUnits (W.sums_up work.now) (W.is_steady work.now) (W.fault work.now) (W.gave work.now) first
-        units.now result }
+    ensures { AnswersUnits (λ units sums. SumUpEach (W.sums_up work.now) units sums.items) (W.is_steady work.now)
+        (W.fault work.now) (W.gave work.now) first units.now result }
 {
-    let (mut worker, mut sums) = work.begin()?;
+    let mut worker = work.begin()?;
+    let mut sums = Vec::new(work.alloc());
     'units: for (index, unit) in units.iter().enumerate() {
         let next = match work.hash(unit, &mut worker) {
             Ok(next) => next,
@@ -135,7 +140,7 @@ fn hash_in_turn<W: UnitWork>(
                 });
             }
         };
-        W::append(&mut sums, &next)?;
+        sums.push(next)?;
     }
     Ok(sums)
 }

@@ -1,8 +1,10 @@
 //! One unit read and hashed.
-ghost use Rattle.std.specs.Prelude.{◌≡◌, None, IfErr, IfOk, MatchResult, length};
+ghost use Rattle.std.specs.Prelude.{◌≡◌, ℕ, All, List, None, IfErr, IfOk, MatchResult};
 ghost use Rattle.tor_plan.specs.PlanFacts.{IsPlan};
+ghost use Rattle.tor_plan.specs.WithinEntries.{IsInFile};
 ghost use Rattle.tor_source.specs.Source.{SourceFacts};
-ghost use Rattle.tor_engine.specs.Fault.{IsFault, IsGivenNotMissing, unit_fault};
+ghost use Rattle.tor_engine.specs.Fault.{IsFault, unit_fault};
+ghost use Rattle.tor_engine.specs.steps.Given.{IsGivenRead};
 ghost use Rattle.tor_engine.specs.steps.Reads.{HasParts};
 ghost use Rattle.tor_engine.specs.steps.Run.{HashesUnit, IsUnitOf};
 ghost use Rattle.tor_engine.specs.steps.Worker.{IsFresh};
@@ -30,7 +32,8 @@ pub(crate) fn hash_unit<S: FileBytes>(
     ensures hashed { IfOk result (HashesUnit (S.is_steady source.now) plan.now unit.now) }
     ensures fault { (facts : SourceFacts S.Fault) → S.is_steady source.now facts → HasParts facts unit.now.parts →
         MatchResult result (λ _. unit_fault facts unit.now ≡ None) (IsFault (unit_fault facts unit.now)) }
-    ensures gave { IfErr result (IsGivenNotMissing (S.gave source.now) (length plan.now.lengths)) }
+    ensures gave { (lengths : List ℕ) → All (IsInFile lengths) unit.now.parts →
+        IfErr result (IsGivenRead (S.gave source.now) (S.ended source.now) lengths) }
 {
     sums.feed_zeros(unit.zeros)?;
     let parts = unit.parts.as_slice();

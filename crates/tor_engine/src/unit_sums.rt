@@ -1,24 +1,120 @@
-//! What one unit sums up to in its files.
-ghost use Rattle.std.specs.Prelude.{◌≡◌, ◌≢◌, ◌∷◌, [], ℕ, List, None, IfErr, IfOk, MatchResult, length, map};
-ghost use Rattle.std.specs.List.{flat_map};
+//! What one unit sums up to in its file.
+ghost use Rattle.std.specs.Prelude.{◌≡◌, ◌≢◌, ◌∷◌, [], ℕ, All, IsSomeAnd, List, None, Some, IfErr, IfOk, MatchResult};
+ghost use Rattle.std.specs.Prelude.{length, slice_index_or};
+ghost use Rattle.std.specs.Option.{ForSome};
 ghost use Rattle.tor_plan.specs.PlanFacts.{IsPlan};
+ghost use Rattle.tor_plan.specs.WithinEntries.{IsInFile};
+ghost use Rattle.tor_plan.specs.declared.units.Part.{Part};
 ghost use Rattle.tor_source.specs.Source.{SourceFacts};
-ghost use Rattle.tor_engine.specs.Fault.{IsFault, IsGivenNotMissing, unit_fault};
-ghost use Rattle.tor_engine.specs.steps.Hasher.{IsTreeOf};
-ghost use Rattle.tor_engine.specs.steps.Hashes.{bytes_of_part, hashes_of_bytes};
+ghost use Rattle.tor_engine.specs.Fault.{IsFault, unit_fault};
+ghost use Rattle.tor_engine.specs.steps.Given.{IsGivenRead};
+ghost use Rattle.tor_engine.specs.steps.Hashes.{level_in, level_of, node_over};
 ghost use Rattle.tor_engine.specs.steps.Reads.{HasParts};
-ghost use Rattle.tor_engine.specs.steps.Run.{HashesUnits, IsUnitOf, hashes_of_units};
+ghost use Rattle.tor_engine.specs.steps.Run.{HasRoomAt, IsUnitOf, IsUnitToSum, SumsUpUnit, node_in};
 ghost use Rattle.tor_engine.specs.steps.Worker.{IsFresh};
 
 use crate::errors::EngineError;
 use crate::file_bytes::FileBytes;
 use crate::hasher::Hashed;
-use crate::run::RunSums;
 use crate::unit_hash::hash_unit;
 use crate::worker::WorkerSums;
-use std::alloc::{AllocError, Global};
-use tor_merkle::{Feed, Hash};
-use tor_plan::{Plan, PlanUnit};
+use std::alloc::Global;
+use tor_merkle::laws::{count_of_piece_roots, piece_roots_fit_a_layer, subtrees_over_pieces};
+use tor_merkle::{Feed, Hash, layer_subtree, piece_level};
+use tor_plan::{Plan, PlanUnit, Run};
+
+/// What one unit sums up to.
+#[derive(Debug, Drop)]
+pub(crate) struct UnitSums {
+    /// The root of its file where it is alone there, else the node of the file's tree that covers it; zeros in V1.
+    pub(crate) hash: Hash,
+    /// What it has of its file's layer; none in V1.
+    pub(crate) layer: Vec<Hash>,
+    /// The joined SHA-1 of each piece; none in V2.
+    pub(crate) pieces: Vec<u8>,
+}
+
+impl UnitSums {
+    /// From what its bytes hash to, and its level, where it is not alone in its file.
+    pub(crate) fn new(alloc: Global, hashed: Hashed, level: Option<u32>) -> UnitSums
+        requires { ForSome hashed.tree (λ tree. ForSome level (HasRoomAt tree.piece_length (length tree.bytes))) }
+        ensures node { ForSome hashed.tree (λ tree. tree.bytes ≢ [] →
+            node_in result ≡ node_over tree.piece_length level tree.bytes) }
+        ensures pieces { result.pieces ≡ hashed.pieces }
+    {
+        let Hashed { tree, pieces } = hashed;
+        let node = match tree {
+            Some(tree) => node_over(tree, level),
+            None => None,
+        };
+        let (hash, layer) = match node {
+            Some(node) => node,
+            None => ([0; 32], Vec::new(alloc)),
+        };
+        UnitSums {
+            hash,
+            layer,
+            pieces,
+        }
+    }
+}
+
+/// The node over the bytes of a tree, and what they have of the layer; none where there is no byte.
+fn node_over(tree: Feed, level: Option<u32>) -> Option<(Hash, Vec<Hash>)>
+    requires { ForSome level (HasRoomAt tree.piece_length (length tree.bytes)) }
+    ensures { tree.bytes ≢ [] → IsSomeAnd result (λ node.
+        (node.0, node.1.items) ≡ node_over tree.piece_length level tree.bytes) }
+{
+    match level {
+        Some(level) => node_at(tree, level),
+        None => tree.finish(),
+    }
+}
+
+/// The same at a level of a higher tree.
+fn node_at(tree: Feed, level: u32) -> Option<(Hash, Vec<Hash>)>
+    requires { HasRoomAt tree.piece_length (length tree.bytes) level }
+    ensures { tree.bytes ≢ [] → IsSomeAnd result (λ node.
+        (node.0, node.1.items) ≡ node_over tree.piece_length (Some level) tree.bytes) }
+{
+    count_of_piece_roots();
+    piece_roots_fit_a_layer();
+    subtrees_over_pieces();
+    let below = piece_level(tree.piece_length());
+    let layer = tree.piece_roots();
+    if layer.is_empty() {
+        return None;
+    }
+    let hash = layer_subtree(&layer, below, level - below);
+    Some((hash, layer))
+}
+
+/// The level of the units of files that have several.
+pub(crate) fn level_of(trees: &[Run]) -> Option<u32>
+    ensures { result ≡ level_of trees.now }
+{
+    match trees.first() {
+        Some(run) => Some(run.level),
+        None => None,
+    }
+}
+
+/// That of a unit, none where it is alone in its file.
+fn level_in(plan: &Plan, unit: &PlanUnit) -> Option<u32>
+    requires { IsUnitOf plan.now unit.now }
+    ensures level { (part : Part) → unit.now.parts ≡ part ∷ [] →
+        result ≡ level_in (level_of plan.now.trees) (slice_index_or plan.now.lengths part.file 0) part.length }
+    ensures tree { ForSome result (λ level. level_of plan.now.trees ≡ Some level) }
+{
+    let Some(part) = unit.parts.as_slice().first() else {
+        return None;
+    };
+    if part.length < plan.lengths()[part.file as usize] {
+        level_of(&plan.forest().trees)
+    } else {
+        None
+    }
+}
 
 /// Reads one unit, and gives what it sums up to.
 pub(crate) fn sum_unit<S: FileBytes>(
@@ -27,58 +123,20 @@ pub(crate) fn sum_unit<S: FileBytes>(
     plan: &Plan,
     unit: &PlanUnit,
     sums: &mut WorkerSums,
-) -> Result<RunSums, EngineError<S::Fault>>
+) -> Result<UnitSums, EngineError<S::Fault>>
     requires planned { IsPlan plan.now }
-    requires unit { IsUnitOf plan.now unit.now }
+    requires unit { IsUnitToSum plan.now unit.now }
     requires fresh { IsFresh plan.now sums.old }
     ensures fresh { IfOk result (λ _. IsFresh plan.now sums.new) }
-    ensures summed { IfOk result (HashesUnits (S.is_steady source.now) plan.now (unit.now ∷ [])) }
+    ensures summed { IfOk result (SumsUpUnit (S.is_steady source.now) plan.now unit.now) }
     ensures fault { (facts : SourceFacts S.Fault) → S.is_steady source.now facts → HasParts facts unit.now.parts →
         MatchResult result (λ _. unit_fault facts unit.now ≡ None) (IsFault (unit_fault facts unit.now)) }
-    ensures gave { IfErr result (IsGivenNotMissing (S.gave source.now) (length plan.now.lengths)) }
+    ensures gave { (lengths : List ℕ) → All (IsInFile lengths) unit.now.parts →
+        IfErr result (IsGivenRead (S.gave source.now) (S.ended source.now) lengths) }
 {
     let hashed = match hash_unit(alloc, source, plan, unit, sums) {
         Ok(hashed) => hashed,
         Err(error) => return Err(error),
     };
-    let Hashed { tree, pieces } = hashed;
-    let hashes = hashes_of_unit(alloc, plan, unit, tree)?;
-    Ok(RunSums { hashes, pieces })
-}
-
-/// The hash of each piece of a unit, from the tree over its bytes.
-fn hashes_of_unit(
-    alloc: Global,
-    plan: &Plan,
-    unit: &PlanUnit,
-    tree: Option<Feed>,
-) -> Result<Vec<Hash>, AllocError>
-    requires { IsUnitOf plan.now unit.now }
-    ensures { (contents : List (List ℕ)) → map length contents ≡ plan.now.lengths →
-        IsTreeOf plan.now.kind plan.now.piece_length (flat_map (bytes_of_part contents) unit.now.parts) tree →
-        IfOk result (λ hashes.
-        hashes.items ≡ hashes_of_units plan.now.kind plan.now.piece_length contents (unit.now ∷ [])) }
-{
-    let Some(tree) = tree else {
-        return Ok(Vec::new(alloc));
-    };
-    let Some(part) = unit.parts.as_slice().first() else {
-        return Ok(Vec::new(alloc));
-    };
-    hashes_of_tree(alloc, tree, plan.lengths()[part.file as usize])
-}
-
-/// The hash of each piece of a tree over bytes of a file that has `length` bytes.
-fn hashes_of_tree(alloc: Global, tree: Feed, length: u64) -> Result<Vec<Hash>, AllocError>
-    ensures { tree.bytes ≢ [] → IfOk result (λ hashes.
-        hashes.items ≡ hashes_of_bytes tree.piece_length length tree.bytes) }
-{
-    if length > tree.piece_length() {
-        return Ok(tree.piece_roots());
-    }
-    let mut hashes = Vec::new(alloc);
-    if let Some(sums) = tree.finish() {
-        hashes.push(sums.0)?;
-    }
-    Ok(hashes)
+    Ok(UnitSums::new(alloc, hashed, level_in(plan, unit)))
 }

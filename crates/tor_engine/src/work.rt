@@ -1,5 +1,5 @@
 //! What a worker does with each of its units.
-ghost use Rattle.std.specs.Prelude.{◌≡◌, ◌++◌, ◌∷◌, [], List, None, Option, IfErr, IfOk, MatchResult, OnOk};
+ghost use Rattle.std.specs.Prelude.{◌≡◌, None, Option, IfErr, IfOk, MatchResult};
 ghost use Rattle.tor_plan.specs.PlanFacts.{PlanFacts};
 ghost use Rattle.tor_plan.specs.declared.units.PlanUnit.{PlanUnit};
 ghost use Rattle.tor_source.specs.Source.{SourceFacts};
@@ -10,16 +10,16 @@ ghost use Rattle.tor_engine.specs.steps.Worker.{IsFresh};
 
 use crate::errors::EngineError;
 use crate::worker::WorkerSums;
-use std::alloc::AllocError;
+use std::alloc::{AllocError, Global};
 use std::fmt::Debug;
 use tor_plan::PlanUnit;
 
-/// What a worker does with each of its units, and what comes of units that stand one after the other.
+/// What a worker does with each of its units.
 pub(crate) trait UnitWork {
     /// That of the source.
     type Fault: Debug + Drop;
 
-    /// What units sum up to.
+    /// What one unit sums up to.
     type Sums: Drop;
 
     /// The plan of the units.
@@ -37,17 +37,19 @@ pub(crate) trait UnitWork {
     /// The first fault of a unit.
     ghost fault: { Self → SourceFacts Self.Fault → PlanUnit → Option (EngineError Self.Fault) };
 
-    /// The units sum up to this.
-    ghost sums_up: { Self → List PlanUnit → Self.Sums → Type 0 };
+    /// The unit sums up to this.
+    ghost sums_up: { Self → PlanUnit → Self.Sums → Type 0 };
 
     /// The error may be answered: if it is a fault of the source, the source gave it.
     ghost gave: { Self → EngineError Self.Fault → Type 0 };
 
-    /// What a worker begins with, and what no unit sums up to.
-    fn begin(&self) -> Result<(WorkerSums, Self::Sums), AllocError>
+    /// Where the memory comes from.
+    fn alloc(&self) -> Global;
+
+    /// What a worker begins with.
+    fn begin(&self) -> Result<WorkerSums, AllocError>
         requires { may_begin self.now }
-        ensures fresh { IfOk result (λ begun. IsFresh (plan self.now) begun.0) }
-        ensures none { IfOk result (λ begun. sums_up self.now [] begun.1) };
+        ensures { IfOk result (IsFresh (plan self.now)) };
 
     /// What one unit sums up to.
     fn hash(
@@ -59,15 +61,10 @@ pub(crate) trait UnitWork {
         requires unit { may_hash self.now unit.now }
         requires fresh { IsFresh (plan self.now) worker.old }
         ensures fresh { IfOk result (λ _. IsFresh (plan self.now) worker.new) }
-        ensures summed { IfOk result (sums_up self.now (unit.now ∷ [])) }
+        ensures summed { IfOk result (sums_up self.now unit.now) }
         ensures fault { (facts : SourceFacts Self.Fault) → is_steady self.now facts →
             MatchResult result (λ _. fault self.now facts unit.now ≡ None) (IsFault (fault self.now facts unit.now)) }
         ensures gave { IfErr result (gave self.now) };
-
-    /// Puts the sums of the units that come next after these.
-    fn append(sums: &mut Self::Sums, next: &Self::Sums) -> Result<(), AllocError>
-        ensures { (work : Self) (first second : List PlanUnit) → sums_up work first sums.old →
-            sums_up work second next.now → OnOk result (sums_up work (first ++ second) sums.new) };
 
     /// Want of resources may be answered.
     ghost may_refuse: { (work : Self) → gave work Resources };

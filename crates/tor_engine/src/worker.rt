@@ -1,27 +1,28 @@
 //! What the units of a worker hash to, while their bytes are read.
 ghost use Rattle.std.specs.Prelude.{◌≡◌, ◌+◌, ◌*◌, ◌-◌, ◌<◌, ◌≤◌, ◌++◌, ℕ, List, IfErr, IfOk, MatchResult, OnOk};
-ghost use Rattle.std.specs.Prelude.{length};
+ghost use Rattle.std.specs.Prelude.{length, slice_index_or};
 ghost use Rattle.std.specs.Option.{ForSome};
 ghost use Rattle.tor_merkle.specs.declared.TheConstants.{MAX_LENGTH};
 ghost use Rattle.tor_plan.specs.PlanFacts.{IsPlan};
 ghost use Rattle.tor_source.specs.Source.{SourceFacts, bytes_from};
 ghost use Rattle.tor_v1.specs.Piece.{zeros};
-ghost use Rattle.tor_engine.specs.Fault.{IsFault, IsGivenNotMissing, byte_fault};
-ghost use Rattle.tor_engine.specs.steps.Hasher.{AreHashesOf, tree_of};
+ghost use Rattle.tor_engine.specs.Fault.{IsFault, byte_fault};
+ghost use Rattle.tor_engine.specs.steps.Given.{IsGivenRead};
+ghost use Rattle.tor_engine.specs.Hasher.{AreHashesOf, tree_of};
 ghost use Rattle.tor_engine.specs.steps.ReadBytes.{IsFaultFree};
 ghost use Rattle.tor_engine.specs.steps.Room.{HasRoom, count_in, length_of};
 
 use crate::errors::EngineError;
 use crate::file_bytes::FileBytes;
-use crate::hasher::{Hashed, UnitHasher};
+use crate::hasher::{ContentHasher, Hashed};
 use crate::room::Room;
 use std::alloc::{AllocError, Global};
 use std::mem;
 use tor_plan::Plan;
 
 /// What the units of a worker hash to, one after the other. Bytes are read into a buffer of its own, and wait there
-/// until many can be hashed together, or the unit ends. Clauses say by `HasTaken` which bytes were taken. After an error
-/// it is of no use.
+/// until many can be hashed together, or the unit ends. Clauses say by `HasTaken` which bytes were taken. After an
+/// error it is of no use.
 #[derive(Drop)]
 pub(crate) struct WorkerSums {
     // The bytes that wait to be hashed.
@@ -29,7 +30,7 @@ pub(crate) struct WorkerSums {
     // How many bytes of files were taken of the present unit.
     begun: u64,
     // It was fed all bytes before those that wait.
-    hasher: UnitHasher,
+    hasher: ContentHasher,
     ghost counted: { ForSome (tree_of hasher) (λ feed. length feed.bytes + count_in room ≡ begun) },
     ghost small: { begun ≤ MAX_LENGTH },
 }
@@ -47,7 +48,7 @@ impl WorkerSums {
         Ok(WorkerSums {
             room,
             begun: 0,
-            hasher: UnitHasher::new(alloc, plan.kind(), plan.piece_length()),
+            hasher: ContentHasher::new(alloc, plan.kind(), plan.piece_length()),
         })
     }
 
@@ -67,7 +68,8 @@ impl WorkerSums {
         ensures fault { (facts : SourceFacts S.Fault) → S.is_steady source.now facts →
             0 < length (bytes_from facts file start) →
             MatchResult result (IsFaultFree facts file start) (IsFault (byte_fault facts file start)) }
-        ensures gave { (files : ℕ) → file < files → IfErr result (IsGivenNotMissing (S.gave source.now) files) }
+        ensures gave { (lengths : List ℕ) → file < length lengths → start < slice_index_or lengths file 0 →
+            IfErr result (IsGivenRead (S.gave source.now) (S.ended source.now) lengths) }
     {
         self.make_room(left)?;
         match self.room.read(source, file, start, left) {
@@ -104,7 +106,7 @@ impl WorkerSums {
     {
         self.hash_all()?;
         self.begun = 0;
-        let next = UnitHasher::new(alloc, plan.kind(), plan.piece_length());
+        let next = ContentHasher::new(alloc, plan.kind(), plan.piece_length());
         Ok(mem::replace(&mut self.hasher, next).finish(alloc))
     }
 

@@ -9,7 +9,7 @@ use Rattle.tor_engine.specs.declared.errors.EngineError.{EngineError}
 use Rattle.tor_engine.specs.declared.errors.EngineError.TheVariants.{Read as EngineRead}
 use Rattle.tor_meta.specs.Make.{byte_told, bytes_fault, content_at, listed_files}
 use Rattle.tor_meta.specs.MakeError.{of_engine_error}
-use Rattle.tor_meta.specs.IndexedFiles.{facts_at, renumbered}
+use Rattle.tor_meta.specs.steps.IndexedFiles.{facts_at, renumbered}
 use Rattle.tor_meta.specs.declared.make_error.MakeError.{MakeError}
 use Rattle.tor_meta.specs.declared.make_error.MakeError.TheVariants.{Read}
 use Rattle.tor_meta.proofs.SourceFiles.{Entries}

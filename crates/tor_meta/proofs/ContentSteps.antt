@@ -7,9 +7,9 @@ use Rattle.std.proofs.lemmas.List.Elements.{All-from_recursion, recursion_from_A
 use Rattle.tor_merkle.specs.Layer.{piece_layer}
 use Rattle.tor_meta.specs.Contents.{bytes_of, files_of}
 use Rattle.tor_meta.specs.Head.{settings_of}
-use Rattle.tor_meta.specs.Sums.{AreFactsOf, HaveTrees, SumUp}
+use Rattle.tor_meta.specs.steps.Sums.{AreFactsOf, HaveTrees, SumUp}
 use Rattle.tor_meta.specs.declared.head.Head.{Head}
-use Rattle.tor_meta.specs.declared.sums.TorrentSums.{TorrentSums}
+use Rattle.tor_engine.specs.declared.sums.Sums.{Sums}
 use Rattle.tor_spec.specs.Facts.{Facts, File, listed, layers_in, roots_in}
 use Rattle.tor_merkle.specs.Layer.{root_of}
 use Rattle.tor_spec.specs.Metainfo.{facts_of_files, pieces_of_files, root_dictionary}
@@ -51,14 +51,14 @@ contents_listed p (file ∷ files) (content ∷ contents) e =
       ap (λ cs. content ∷ cs) rest.3,
     )
 
-pub have_trees : (head : Head) (files : List (List (List ℕ) × ℕ)) (contents : List (List ℕ)) (sums : TorrentSums)
+pub have_trees : (head : Head) (files : List (List (List ℕ) × ℕ)) (contents : List (List ℕ)) (sums : Sums)
     → map length contents ≡ lengths_of files → SumUp head files contents sums → HaveTrees head files sums
 have_trees head files contents sums same up = record {
   rooted = λ e. rw (up.roots e) (roots_there files contents same);
   layered = λ e. simp length-map at (ap length (up.layers e)) ∙ simp length-map at (ap length same);
 }
 
-pub told_facts : (head : Head) (files : List (List (List ℕ) × ℕ)) (contents : List (List ℕ)) (sums : TorrentSums)
+pub told_facts : (head : Head) (files : List (List (List ℕ) × ℕ)) (contents : List (List ℕ)) (sums : Sums)
     → map length contents ≡ lengths_of files → SumUp head files contents sums
     → AreFactsOf head files sums (facts_of_files head.piece_length (files_of files contents))
 told_facts head files contents sums same up =
@@ -74,7 +74,7 @@ pieces_matter_not : (settings : Settings) (facts : List Facts) (p q : List ℕ) 
 pieces_matter_not settings facts p q e = rw e refl
 
 -- the pieces of the torrent, where it has any
-pub same_pieces : (head : Head) (files : List (List (List ℕ) × ℕ)) (contents : List (List ℕ)) (sums : TorrentSums)
+pub same_pieces : (head : Head) (files : List (List (List ℕ) × ℕ)) (contents : List (List ℕ)) (sums : Sums)
     → map length contents ≡ lengths_of files → SumUp head files contents sums
     → root_dictionary (settings_of head) (facts_of_files head.piece_length (files_of files contents)) sums.pieces.items
     ≡ root_dictionary (settings_of head) (facts_of_files head.piece_length (files_of files contents))

@@ -1,7 +1,7 @@
 -- A maker's answer over a source, of the files that were handed in.
 use Rattle.std.proofs.Common.{◌≡◌, ℕ, zero, suc, ◌+◌, ◌<◌, List as ListOf, [], ◌∷◌, length}
 use Rattle.std.proofs.Common.{get_or, map, None, unwrap_or, refl, sym, ap, ap₂, subst, ◌∙◌}
-use Rattle.std.proofs.Common.{arith, zero-add}
+use Rattle.std.proofs.Common.{arith, zero-add, Option, Some}
 use Rattle.std.specs.List.{AllByRecursion, enumerate_from, range_with_len}
 use Rattle.std.specs.List.Sorted.{IsPermutation, IsStrictlySortedBy}
 use Rattle.std.proofs.lemmas.Simd.{map-map}
@@ -9,9 +9,10 @@ use Rattle.std.proofs.lemmas.List.{get_or-map, length-map}
 use Rattle.std.proofs.lemmas.List.Elements.{recursion_from_All}
 use Rattle.std.proofs.lemmas.List.FromFn.{get_or-enumerate_from, length-enumerate_from}
 use Rattle.tor_engine.specs.Contents.{contents_in}
+use Rattle.tor_engine.specs.Given.{HasToldLengths}
 use Rattle.tor_meta.specs.Contents.{files_of, IsMadeOf, IsMadeOfSome}
-use Rattle.tor_meta.specs.Make.{content_at, files_of_source, listed_files}
-use Rattle.tor_meta.specs.IndexedFiles.{facts_at}
+use Rattle.tor_meta.specs.Make.{IsMadeOfTold, content_at, files_of_source, listed_files}
+use Rattle.tor_meta.specs.steps.IndexedFiles.{facts_at}
 use Rattle.tor_source.specs.Source.{SourceFacts}
 use Rattle.tor_spec.specs.Facts.{File}
 use Rattle.tor_spec.specs.Metainfo.{metainfo}
@@ -21,7 +22,7 @@ use Rattle.tor_tree.specs.Path.{path_cmp}
 use Rattle.tor_tree.specs.PathList.{AreIndexedPaths, IsPathList, indices_of}
 use Rattle.tor_tree.proofs.ProvedLaws.{at_indices}
 use Rattle.tor_meta.proofs.Indexed.{paths_moved}
-use Rattle.tor_meta.proofs.SourceFiles.{AreWithin, Entries, entries_within}
+use Rattle.tor_meta.proofs.SourceFiles.{AreWithin, Entries, entries_within, told_of_listed}
 
 -- a function of the numbers that is one of what stands there
 by_index : {A B : Type 0} (f : A → B) (h : ℕ → B) (indices : ListOf A) (a : ℕ) → ((k : ℕ) (d : A) →
@@ -127,3 +128,41 @@ made_of_some settings paths lengths entries list contents bytes indexed lawful i
       subst (IsStrictlySortedBy path_cmp) (sym same) lawful.in_order,
       made,
     )
+
+-- files of a list and their contents, whatever numbers stand beside the paths
+same_files : (lengths : ListOf ℕ) (entries : Entries) (contents : ListOf (ListOf ℕ))
+    → files_of (map (λ entry. (entry.0, get_or lengths entry.1 0)) entries) contents ≡ files_of entries contents
+same_files lengths [] [] = refl
+same_files lengths [] (content ∷ contents) = refl
+same_files lengths (entry ∷ entries) [] = refl
+same_files lengths (entry ∷ entries) (content ∷ contents) =
+    ap (λ files. record { path = entry.0; content = content } ∷ files) (same_files lengths entries contents)
+
+-- contents of these lengths are of the lengths that were told
+pub made_of_told : (told : ℕ → Option ℕ → Type 0) (settings : Settings) (paths : ListOf (ListOf (ListOf ℕ)))
+    (lengths : ListOf ℕ) (entries list : Entries) (contents : ListOf (ListOf ℕ)) (bytes : ListOf ℕ)
+    → AreIndexedPaths paths entries → IsPathList entries → length lengths ≡ length entries → HasToldLengths told lengths
+    → list ≡ map (λ entry. (entry.0, get_or lengths entry.1 0)) entries → map length contents ≡ lengths_of list
+    → bytes ≡ metainfo settings (files_of list contents) → IsMadeOfTold told settings paths bytes
+made_of_told told settings paths lengths entries list contents bytes indexed lawful many asked is fit made =
+    let one_each : length contents ≡ length entries =
+    sym (length-map contents length) ∙ ap length fit ∙ length-map list (λ file. file.1) ∙ ap length is
+    ∙ length-map entries (λ entry. (entry.0, get_or lengths entry.1 0)) in
+    let within = entries_within (length lengths) entries indexed.indices (sym many) in
+    record {
+      entries = entries;
+      contents = contents;
+      indexed = (indexed, lawful.in_order);
+      one_each = one_each;
+      are_told = λ k less.
+          let there : k < length (indices_of entries) = omega (arith, less, length-map entries (λ entry. entry.1)) in
+          let inside : k < length contents = omega (arith, less, one_each) in
+          let same : get_or (lengths_of (map (λ entry. (entry.0, get_or lengths entry.1 0)) entries)) k 0
+          ≡ length (get_or contents k []) =
+          ap (λ files. get_or (lengths_of files) k 0) (sym is) ∙ ap (λ ns. get_or ns k 0) (sym fit)
+          ∙ get_or-map length contents k [] 0 inside in
+          subst (λ (n : ℕ). told (get_or (indices_of entries) k 0) (Some n)) same
+          (told_of_listed told lengths entries within asked k there);
+      made = made ∙ ap (metainfo settings) (ap (λ files. files_of files contents) is
+          ∙ same_files lengths entries contents);
+    }

@@ -9,7 +9,7 @@ use Rattle.std.proofs.lemmas.List.Elements.{All-from_recursion, recursion_from_A
 use Rattle.tor_merkle.specs.Layer.{is_piece_length}
 use Rattle.tor_meta.specs.Head.{settings_of}
 use Rattle.tor_meta.specs.Refusal.{is_long, is_only, paths_refusal, shape_refusal}
-use Rattle.tor_meta.specs.Sums.{IsJudged}
+use Rattle.tor_meta.specs.steps.Sums.{IsJudged}
 use Rattle.tor_meta.specs.declared.head.Head.{Head}
 use Rattle.tor_tree.specs.declared.paths.TheConstants.{MAX_NAMES}
 use Rattle.tor_spec.specs.Settings.{is_aligned}

@@ -11,7 +11,8 @@ use Rattle.std.proofs.lemmas.Bool.{le-leb, lt-leb}
 use Rattle.std.proofs.lemmas.List.{drop_more, get_or-map, length-map}
 use Rattle.std.proofs.lemmas.Map.Lookups.{exact_bytes}
 use Rattle.tor_bencode.specs.Data.{string, pair}
-use Rattle.tor_meta.specs.Layers.{lists_of, pairs_of_map}
+use Rattle.tor_engine.specs.Sums.{lists_of}
+use Rattle.tor_meta.specs.steps.Layers.{pairs_of_map}
 use Rattle.tor_spec.specs.Dictionary.{put}
 use Rattle.tor_spec.specs.Facts.{Facts, listed, layers_in, roots_in}
 use Rattle.tor_spec.specs.PieceLayers.{joined, piece_layers}

@@ -10,10 +10,10 @@ use Rattle.std.proofs.lemmas.List.Elements.{All-from_recursion}
 use Rattle.std.proofs.lemmas.List.Sums.{sum_by-cons}
 use Rattle.std.proofs.lemmas.Slice.Zip.{AllZip-long}
 use Rattle.tor_meta.specs.Head.{settings_of}
-use Rattle.tor_meta.specs.Layers.{lists_of}
-use Rattle.tor_meta.specs.Sums.{AreFactsOf, HaveTrees, IsJudged}
+use Rattle.tor_engine.specs.Sums.{lists_of}
+use Rattle.tor_meta.specs.steps.Sums.{AreFactsOf, HaveTrees, IsJudged}
 use Rattle.tor_meta.specs.declared.head.Head.{Head}
-use Rattle.tor_meta.specs.declared.sums.TorrentSums.{TorrentSums}
+use Rattle.tor_engine.specs.declared.sums.Sums.{Sums}
 use Rattle.tor_spec.specs.Facts.{Facts, facts_from, listed, layers_in, roots_in}
 use Rattle.tor_spec.specs.InfoDictionary.{total_size}
 use Rattle.tor_spec.specs.Makeable.{AreMakeable}
@@ -23,7 +23,8 @@ use Rattle.tor_tree.specs.FileList.{paths_of}
 use Rattle.tor_tree.specs.Path.{HasNames}
 use Rattle.tor_tree.specs.TidyTree.{HasItsRoot}
 use Rattle.tor_tree.specs.declared.lists.ListError.{ListError}
-use Rattle.tor_tree.specs.declared.lists.TheConstants.{MAX_LENGTH, MAX_TOTAL, ROUNDING}
+use Rattle.tor_merkle.specs.declared.TheConstants.{MAX_LENGTH}
+use Rattle.tor_tree.specs.declared.lists.TheConstants.{MAX_TOTAL, ROUNDING}
 use Rattle.tor_tree.proofs.ProvedLaws.{paths_have_names}
 
 second_none : {X : Type 0} (a b : Option X) → option_or a b ≡ None → b ≡ None
@@ -115,7 +116,7 @@ bare_listed [] = refl
 bare_listed (file ∷ files) = ap (λ fs. file ∷ fs) (bare_listed files)
 
 -- sums tell facts of the files
-pub facts_there : (head : Head) (files : List (List (List ℕ) × ℕ)) (sums : TorrentSums) → HaveTrees head files sums
+pub facts_there : (head : Head) (files : List (List (List ℕ) × ℕ)) (sums : Sums) → HaveTrees head files sums
     → (facts : List Facts) × AreFactsOf head files sums facts
 facts_there head files sums trees = by_kind (has_v2 head.kind) refl
   where
@@ -131,7 +132,7 @@ facts_there head files sums trees = by_kind (has_v2 head.kind) refl
     by_kind false e = (bare files, record { is_listed = bare_listed files; is_rooted = λ f. cc; is_layered = λ f. cc })
 
 -- a torrent may tell the facts
-pub makeable : (head : Head) (files : List (List (List ℕ) × ℕ)) (sums : TorrentSums) (facts : List Facts)
+pub makeable : (head : Head) (files : List (List (List ℕ) × ℕ)) (sums : Sums) (facts : List Facts)
     → IsJudged head files
     → HaveTrees head files sums → AreFactsOf head files sums facts → AreMakeable (settings_of head) facts
 makeable head files sums facts judged trees told = record {

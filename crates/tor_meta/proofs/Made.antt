@@ -7,7 +7,7 @@ use Rattle.tor_meta.specs.Contents.{contents_at, files_in, files_of, IsMadeOf}
 use Rattle.tor_meta.specs.Head.{settings_of}
 use Rattle.tor_meta.specs.ListRefusal.{of_list_error}
 use Rattle.tor_meta.specs.Refusal.{contents_refusal, paths_refusal}
-use Rattle.tor_meta.specs.Sums.{IsJudged}
+use Rattle.tor_meta.specs.steps.Sums.{IsJudged}
 use Rattle.tor_meta.specs.declared.head.Head.{Head}
 use Rattle.tor_meta.specs.declared.refusals.ContentsError.{ContentsError}
 use Rattle.tor_meta.specs.declared.refusals.ContentsError.TheVariants.{List, Memory}

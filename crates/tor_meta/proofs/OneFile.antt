@@ -7,9 +7,9 @@ use Rattle.std.proofs.lemmas.List.{append-nil}
 use Rattle.std.proofs.lemmas.List.Sorted.{All-permutation, length_permutation}
 use Rattle.tor_meta.specs.Fed.{SumsOfOne}
 use Rattle.tor_meta.specs.Head.{settings_of}
-use Rattle.tor_meta.specs.Sums.{SumUp}
+use Rattle.tor_meta.specs.steps.Sums.{SumUp}
 use Rattle.tor_meta.specs.declared.head.Head.{Head}
-use Rattle.tor_meta.specs.declared.sums.TorrentSums.{TorrentSums}
+use Rattle.tor_engine.specs.declared.sums.Sums.{Sums}
 use Rattle.tor_spec.specs.Settings.{layout_of}
 use Rattle.tor_v1.specs.Content.{joined_content, v1_pieces}
 use Rattle.tor_v1.specs.Entries.{aligned_entries, file_entry, has_bytes, pad_entry, padding_after, padding_length}
@@ -57,7 +57,7 @@ unfolding v1_pieces
 pieces_of_one layout p file bytes =
     ap (piece_sums p) (ap (λ es. joined_content es (bytes ∷ [])) (one_entry layout p file) ∙ one_content file bytes)
 
-pub sum_up_one : (head : Head) (file : List (List ℕ) × ℕ) (bytes : List ℕ) (sums : TorrentSums)
+pub sum_up_one : (head : Head) (file : List (List ℕ) × ℕ) (bytes : List ℕ) (sums : Sums)
     → SumsOfOne head.kind head.piece_length bytes sums → SumUp head (file ∷ []) (bytes ∷ []) sums
 sum_up_one head file bytes sums one = record {
   roots = one.roots;

@@ -4,8 +4,8 @@ use Rattle.tor_bencode.specs.Data.{string, Pairs, no_pairs, pair}
 use Rattle.tor_bencode.specs.View.{pairs_view, view}
 use Rattle.tor_bencode.specs.declared.item.Item.{Item}
 use Rattle.tor_spec.specs.Dictionary.{present}
-use Rattle.tor_meta.specs.Fields.{fields_of}
-use Rattle.tor_meta.specs.Layers.{pairs_of_map}
+use Rattle.tor_meta.specs.steps.Fields.{fields_of}
+use Rattle.tor_meta.specs.steps.Layers.{pairs_of_map}
 
 -- pairs, and more after them
 abbrev followed_by : Pairs → Pairs → Pairs

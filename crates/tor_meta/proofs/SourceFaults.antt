@@ -15,7 +15,7 @@ use Rattle.tor_engine.specs.declared.errors.EngineError.TheVariants.{Resources a
 use Rattle.tor_meta.specs.Make.{IsMakeFault, asked_fault, bytes_fault, content_at, listed_files}
 use Rattle.tor_meta.specs.Make.{make_refusal}
 use Rattle.tor_meta.specs.MakeError.{of_engine_error}
-use Rattle.tor_meta.specs.IndexedFiles.{facts_at, renumbered}
+use Rattle.tor_meta.specs.steps.IndexedFiles.{facts_at, renumbered}
 use Rattle.tor_meta.specs.declared.make_error.MakeError.{MakeError}
 use Rattle.tor_meta.specs.declared.make_error.MakeError.TheVariants.{Resources}
 use Rattle.tor_meta.specs.declared.order.Order.{Order}

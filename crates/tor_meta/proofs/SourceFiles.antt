@@ -1,13 +1,16 @@
 -- The files of a source at the indices of a list of paths.
-use Rattle.std.proofs.Common.{◌≡◌, ℕ, ◌<◌, List, [], ◌∷◌, length, get_or, map, refl, ap, ◌∙◌, arith, zero-add}
+use Rattle.std.proofs.Common.{◌≡◌, ℕ, zero, suc, ◌<◌, Option, Some, List, [], ◌∷◌, length, get_or, map}
+use Rattle.std.proofs.Common.{refl, ap, ◌∙◌, arith, zero-add}
 use Rattle.std.specs.List.{AllByRecursion}
 use Rattle.std.proofs.lemmas.List.{get_or-map, length-map}
 use Rattle.std.proofs.lemmas.List.Elements.{recursion_from_All}
 use Rattle.std.proofs.lemmas.List.FromFn.{get_or-map-range_with_len, length-map-range_with_len}
 use Rattle.tor_engine.specs.Contents.{contents_in}
+use Rattle.tor_engine.specs.Given.{HasToldLengths}
 use Rattle.tor_meta.specs.Make.{content_at, listed_files}
 use Rattle.tor_meta.proofs.Indexed.{indices_within}
 use Rattle.tor_source.specs.Source.{SourceFacts}
+use Rattle.tor_tree.specs.FileList.{lengths_of}
 use Rattle.tor_tree.specs.PathList.{AreIndices, indices_of}
 
 abbrev pub Entries : Type 0
@@ -26,6 +29,16 @@ entries_within n entries indices count =
     each : (es : Entries) → AllByRecursion (λ index. index < n) (indices_of es) → AreWithin n es
     each [] h = tt
     each (e ∷ es) h = (h.0, each es h.1)
+
+-- lengths that were told of the files, in the order of the list
+pub told_of_listed : (told : ℕ → Option ℕ → Type 0) (lengths : List ℕ) (entries : Entries)
+    → AreWithin (length lengths) entries → HasToldLengths told lengths → (file : ℕ) → file < length (indices_of entries)
+    → told (get_or (indices_of entries) file 0)
+    (Some (get_or (lengths_of (map (λ entry. (entry.0, get_or lengths entry.1 0)) entries)) file 0))
+told_of_listed told lengths [] within are file less = let none : ⊥ = omega (arith, less) in absurd none
+told_of_listed told lengths (entry ∷ entries) (here, rest) are zero less = are entry.1 here
+told_of_listed told lengths (entry ∷ entries) (here, rest) are (suc k) less =
+    told_of_listed told lengths entries rest are k (omega (arith, less))
 
 module _ {F : Type 0} (facts : SourceFacts F) where
   length_there : (n k : ℕ) → k < n → get_or (map length (contents_in facts n)) k 0 ≡ length (content_at facts k)

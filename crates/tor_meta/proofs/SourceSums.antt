@@ -5,12 +5,12 @@ use Rattle.std.proofs.Common.{mul-le-mul_right}
 use Rattle.std.specs.Int.{is_power_of_two}
 use Rattle.std.specs.List.{flat_map}
 use Rattle.std.proofs.lemmas.Bool.{and_right}
-use Rattle.tor_engine.specs.Sums.{AreSumsOf, plan_content}
+use Rattle.tor_engine.specs.Sums.{AreSumsOfPlan, plan_content}
 use Rattle.tor_engine.specs.declared.sums.Sums.{Sums as Hashed}
 use Rattle.tor_merkle.specs.Layer.{IsPieceLength, root_of as merkle_root}
 use Rattle.tor_merkle.specs.declared.TheConstants.{MAX_PIECE_LENGTH, MIN_PIECE_LENGTH}
 use Rattle.tor_meta.specs.Head.{settings_of}
-use Rattle.tor_meta.specs.Sums.{IsJudged, SumUp}
+use Rattle.tor_meta.specs.steps.Sums.{IsJudged, SumUp}
 use Rattle.tor_meta.specs.declared.head.Head.{Head}
 use Rattle.tor_plan.specs.Content.{AreContentsOfFiles, cut_content, layout_of as plan_layout, unit_content}
 use Rattle.tor_plan.specs.PlanFacts.{PlanFacts, plan_of}
@@ -78,8 +78,8 @@ pub sums_up : (head : Head) (span : ℕ) (files : List (List (List ℕ)
     × ℕ)) (contents : List (List ℕ)) (hashed : Hashed) → IsJudged head files →
     plan_content (plan_of head.kind head.piece_length span files) contents
     ≡ cut_content head.kind head.piece_length files contents →
-    AreSumsOf (plan_of head.kind head.piece_length span files) contents hashed →
-    SumUp head files contents (record { roots = hashed.roots; layers = hashed.layers; pieces = hashed.pieces })
+    AreSumsOfPlan (plan_of head.kind head.piece_length span files) contents hashed →
+    SumUp head files contents hashed
 unfolding v1_pieces
 sums_up head span files contents hashed judged law sums = record {
   roots = λ e. let there = same_v2 head.kind e in (rw there at sums.roots) ∙ same_roots contents;
@@ -95,9 +95,9 @@ pub from_plan : (head : Head) (span : ℕ) (files : List (List (List ℕ) × ℕ
     → ((n : ℕ) → IsPieceLength n ↔ (IsTrue (is_power_of_two n) × (MIN_PIECE_LENGTH ≤ n) × (n ≤ MAX_PIECE_LENGTH)))
     → ((kind : Kind) (p : ℕ) (contents : List (List ℕ)) → 0 < span * p → AreContentsOfFiles files contents →
     flat_map (unit_content contents) (hash_units kind p span files) ≡ cut_content kind p files contents)
-    → map length contents ≡ plan.lengths → AreSumsOf plan contents hashed
+    → map length contents ≡ plan.lengths → AreSumsOfPlan plan contents hashed
     → (map length contents ≡ lengths_of files)
-    × SumUp head files contents (record { roots = hashed.roots; layers = hashed.layers; pieces = hashed.pieces })
+    × SumUp head files contents hashed
 from_plan head span files hashed plan contents made judged some bounds law fit sums =
     let same : map length contents ≡ lengths_of files = fit ∙ ap (λ plan. plan.lengths) made in
     let long = (bounds head.piece_length).0 judged.piece_length in

@@ -1,13 +1,12 @@
-pub mod Fields
 pub mod Head
 pub mod Order
 pub mod MakeError
-pub mod IndexedFiles
 pub mod Make
 pub mod ListRefusal
 pub mod Refusal
-pub mod Layers
 pub mod Contents
-pub mod Sums
 pub mod Fed
+pub mod FedIntake
+pub mod FromInput
 pub mod Hashes
+pub mod steps

@@ -1,13 +1,16 @@
 -- The torrent of the files of a source: what it is of, and why it is not made.
-use Rattle.std.specs.Prelude.{◌≡◌, ℕ, ◌<◌, not, List as ListOf, [], length, map, option_map, Option, None, Some, unwrap_or}
-use Rattle.std.specs.Prelude.{if◌then◌else◌}
+use Rattle.std.specs.Prelude.{◌≡◌, ℕ, ◌<◌, not, List as ListOf, [], length, map, slice_index_or, Option, None, Some}
+use Rattle.std.specs.Prelude.{option_map, unwrap_or, if◌then◌else◌}
 use Rattle.std.specs.List.{enumerate_from, range_with_len}
 use Rattle.std.specs.Option.{option_or}
 use Rattle.tor_engine.specs.Contents.{contents_in}
 use Rattle.tor_engine.specs.Fault.{first_of, length_fault}
+use Rattle.tor_engine.specs.Given.{Departs, HasToldLengths}
+use Rattle.tor_engine.specs.How.{is_how}
 use Rattle.tor_merkle.specs.Layer.{is_piece_length}
+use Rattle.tor_meta.specs.Contents.{files_of}
 use Rattle.tor_meta.specs.MakeError.{of_contents_error, of_engine_error}
-use Rattle.tor_meta.specs.Order.{is_how, is_span, settings_of_order}
+use Rattle.tor_meta.specs.Order.{is_span, settings_of_order}
 use Rattle.tor_meta.specs.Refusal.{paths_refusal}
 use Rattle.tor_meta.specs.declared.make_error.MakeError.{MakeError}
 use Rattle.tor_meta.specs.declared.make_error.MakeError.TheVariants.{PieceLength, Workers, Span, List, Read}
@@ -15,9 +18,11 @@ use Rattle.tor_meta.specs.declared.make_error.MakeError.TheVariants.{StreamTooLo
 use Rattle.tor_meta.specs.declared.order.Order.{Order}
 use Rattle.tor_source.specs.Source.{SourceFacts}
 use Rattle.tor_spec.specs.Facts.{File}
+use Rattle.tor_spec.specs.Metainfo.{metainfo}
+use Rattle.tor_spec.specs.Settings.{Settings}
 use Rattle.tor_tree.specs.FileList.{IsInPathOrder, lengths_fault}
 use Rattle.tor_tree.specs.declared.lists.ListError.TheVariants.{TooLarge}
-use Rattle.tor_tree.specs.PathList.{AreIndexedPaths}
+use Rattle.tor_tree.specs.PathList.{AreIndexedPaths, indices_of}
 
 -- the bytes of a file; a missing one has none
 abbrev pub content_at : {F : Type 0} → SourceFacts F → ℕ → ListOf ℕ
@@ -73,14 +78,39 @@ pub record IsMakeFault {F : Type 0} (facts : SourceFacts F) (order : Order) (pat
   pub indexed : make_refusal {F = F} order paths ≡ None → AreIndexedPaths paths entries × IsInPathOrder entries
   pub is_first : fault_of facts order paths entries ≡ fault
 
--- a fault of the source is one that it gave, for this file and offset; the file that is named is one of so many; no
--- stream is read
-abbrev pub IsGivenTo : {F : Type 0} → (ℕ → Option ℕ → F → Type 0) → ℕ → MakeError F → Type 0
-IsGivenTo gave count (Read file start fault) = gave file start fault × (file < count)
-IsGivenTo gave count (Changed file) = file < count
-IsGivenTo gave count (Missing file) = file < count
-IsGivenTo gave count (StreamTooLong file) = ⊥
-IsGivenTo gave count _ = Unit {0}
+-- the bytes are the torrent of some files, in the order of their paths: each has a path that was handed in, and a
+-- length that was told of the file under this path's index
+pub record IsMadeOfTold (told : ℕ → Option ℕ → Type 0) (settings : Settings) (paths : ListOf (ListOf (ListOf ℕ)))
+    (bytes : ListOf ℕ) : Type 0 where
+  pub entries : ListOf (ListOf (ListOf ℕ) × ℕ)
+  pub contents : ListOf (ListOf ℕ)
+  pub indexed : AreIndexedPaths paths entries × IsInPathOrder entries
+  pub one_each : length contents ≡ length entries
+  pub are_told : (k : ℕ) → k < length entries →
+      told (slice_index_or (indices_of entries) k 0) (Some (length (slice_index_or contents k [])))
+  pub made : bytes ≡ metainfo settings (files_of entries contents)
+
+-- a length was told of this file, and the source does not keep to it
+abbrev pub IsToldChanged : (ℕ → Option ℕ → Type 0) → (ℕ → ℕ → Type 0) → ℕ → Type 0
+IsToldChanged told ended file = (size : ℕ) × told file (Some size) × Departs told ended file (Some size)
+
+-- lengths were told of so many files that are too large for a list
+abbrev pub AreToldTooLarge : (ℕ → Option ℕ → Type 0) → ℕ → Type 0
+AreToldTooLarge told count =
+    (lengths : ListOf ℕ) × (length lengths ≡ count) × HasToldLengths told lengths
+    × (lengths_fault lengths ≡ Some TooLarge)
+
+-- what is answered of the source it gave or told, steady or not: a fault for this file and offset, that a file is
+-- missing, lengths that it did not keep to, or that are too large; the file that is named is one of so many; no stream
+-- is read
+abbrev pub IsGivenTo : {F : Type 0} → (ℕ → Option ℕ → F → Type 0) → (ℕ → Option ℕ → Type 0) → (ℕ → ℕ → Type 0) → ℕ
+    → MakeError F → Type 0
+IsGivenTo gave told ended count (Read file start fault) = gave file start fault × (file < count)
+IsGivenTo gave told ended count (Changed file) = IsToldChanged told ended file × (file < count)
+IsGivenTo gave told ended count (Missing file) = told file None × (file < count)
+IsGivenTo gave told ended count (StreamTooLong file) = ⊥
+IsGivenTo gave told ended count (List TooLarge) = AreToldTooLarge told count
+IsGivenTo gave told ended count other = Unit {0}
 
 -- of a refusal of the order or the paths: it is the first that there is. Other answers are of the source or its
 -- lengths, or want of memory

@@ -3,9 +3,9 @@ ghost use Rattle.std.specs.Prelude.{◌≡◌, ◌⊎◌, ◌<◌, All, List, So
 ghost use Rattle.tor_meta.specs.Contents.{bytes_of, contents_at, files_in, files_of, IsMadeOf};
 ghost use Rattle.tor_meta.specs.Hashes.{HasInfo};
 ghost use Rattle.tor_meta.specs.Head.{settings_of};
-ghost use Rattle.tor_meta.specs.Layers.{lists_of};
+ghost use Rattle.tor_engine.specs.Sums.{lists_of};
 ghost use Rattle.tor_meta.specs.Refusal.{contents_refusal};
-ghost use Rattle.tor_meta.specs.Sums.{IsJudged, SumUp};
+ghost use Rattle.tor_meta.specs.steps.Sums.{IsJudged, SumUp};
 ghost use Rattle.tor_spec.specs.Metainfo.{metainfo};
 ghost use Rattle.tor_tree.specs.FileList.{lengths_of};
 
@@ -13,9 +13,10 @@ use crate::head::Head;
 use crate::info::entries;
 use crate::judge::judge_paths;
 use crate::refusals::ContentsError;
-use crate::sums::{TorrentSums, sum_pieces, sum_trees};
+use crate::sums::{no_sums, sum_pieces, sum_trees};
 use crate::torrent::torrent_bytes;
 use std::alloc::{AllocError, Global};
+use tor_engine::Sums;
 use tor_tree::laws::files_are_small;
 use tor_tree::{FileList, FilePath};
 
@@ -115,13 +116,14 @@ fn sums_of(
     head: &Head,
     list: &FileList,
     contents: &[&[u8]],
-) -> Result<TorrentSums, AllocError>
+) -> Result<Sums, AllocError>
     requires judged { IsJudged head.now list.now }
     requires contents { map length (bytes_of contents.now) ≡ lengths_of list.now }
     ensures { IfOk result (SumUp head.now list.now (bytes_of contents.entry.now)) }
 {
     files_are_small();
-    let mut sums = TorrentSums::none(alloc);
+    let mut sums = no_sums(alloc);
+    sums.lengths = list.files().iter().map(|file| file.1).collect(alloc)?;
     if head.kind.has_v2() {
         let trees = sum_trees(alloc, head.piece_length, contents)?;
         sums.roots = trees.0;

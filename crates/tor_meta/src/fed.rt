@@ -1,7 +1,10 @@
 //! The torrent of one content that is fed in parts, under the torrent's name.
-ghost use Rattle.std.specs.Prelude.{◌≡◌, ◌+◌, ◌≤◌, ◌∷◌, [], ℕ, List, None, IfOk, OnOk, length};
+ghost use Rattle.std.specs.Prelude.{◌≡◌, ◌+◌, ◌≤◌, ◌∷◌, [], ℕ, List, None, Some, IfOk, IsOk, OnErr, OnOk, length};
+ghost use Rattle.std.specs.Int.{div_ceil};
 ghost use Rattle.std.specs.Option.{ForSome};
-ghost use Rattle.tor_merkle.specs.Layer.{IsPieceLength};
+ghost use Rattle.tor_engine.specs.Hasher.{tree_of};
+ghost use Rattle.tor_engine.specs.Sums.{lists_of};
+ghost use Rattle.tor_merkle.specs.Layer.{IsPieceLength, piece_layer, root_of};
 ghost use Rattle.tor_merkle.specs.declared.TheConstants.{MAX_LENGTH};
 ghost use Rattle.tor_meta.specs.Head.{settings_of};
 ghost use Rattle.tor_meta.specs.Refusal.{paths_refusal};
@@ -9,24 +12,24 @@ ghost use Rattle.tor_spec.specs.Metainfo.{metainfo, only};
 
 use crate::head::Head;
 use crate::refusals::ContentsError;
-use crate::sums::{TorrentSums, tree_of};
+use crate::sums::tree_of;
 use std::alloc::{AllocError, Global};
-use tor_merkle::{Feed, is_piece_length};
-use tor_v1::PieceSums;
+use tor_engine::{ContentHasher, Hashed, Sums};
+use tor_merkle::laws::piece_length_bounds;
+use tor_merkle::{Feed, Hash, is_piece_length};
 
 /// What a content sums up to that is fed in parts, as far as a head asks for it. Nothing of the content is kept.
 /// Clauses say by `HasFed` which bytes were fed.
 #[derive(Drop)]
 pub struct FedSums {
     count: u64,
-    feed: Option<Feed>,
-    pieces: Option<PieceSums>,
-    ghost counted: { ForSome feed (λ f. length f.bytes ≡ count) },
+    hasher: ContentHasher,
+    ghost counted: { ForSome (tree_of hasher) (λ feed. length feed.bytes ≡ count) },
     ghost small: { count ≤ MAX_LENGTH },
 }
 
 impl FedSums {
-    ghost use Rattle.tor_meta.specs.Fed.{Feeds, HasFed, SumsOfOne, count_of};
+    ghost use Rattle.tor_meta.specs.Fed.{Feeds, HasFed, Leaves, SumsOfOne, count_of};
     ghost use Rattle.tor_tree.specs.declared.kinds.Kind.{Kind};
 
     /// Sums of no byte.
@@ -35,33 +38,32 @@ impl FedSums {
         ensures fed { HasFed result head.now.kind head.now.piece_length [] }
         ensures count { count_of result ≡ 0 }
     {
+        piece_length_bounds();
         FedSums {
             count: 0,
-            feed: head
-                .kind
-                .has_v2()
-                .then(|| Feed::new(alloc, head.piece_length)),
-            pieces: head
-                .kind
-                .has_v1()
-                .then(|| PieceSums::new(alloc, head.piece_length)),
+            hasher: ContentHasher::new(alloc, head.kind, head.piece_length),
         }
     }
 
-    /// Adds a part at the end of the content, which has at most `MAX_LENGTH` bytes in all.
+    /// Adds a part at the end of the content, which has at most `MAX_LENGTH` bytes in all. Where memory is refused, the
+    /// sums are of no more use; it can only be refused where the part begins a piece.
     pub fn feed(&mut self, part: &[u8]) -> Result<(), AllocError>
         requires { count_of self.old + length part.now ≤ MAX_LENGTH }
         ensures ok { OnOk result (Feeds self.old self.new part.now) }
         ensures count { OnOk result (count_of self.new ≡ count_of self.old + length part.now) }
+        ensures left { OnErr result (Leaves self.old self.new part.now) }
+        ensures kept { OnErr result (count_of self.new ≡ count_of self.old) }
+        ensures within { (kind : Kind) (piece_length : ℕ) (bytes : List ℕ) → HasFed self.old kind piece_length bytes →
+            div_ceil (length bytes + length part.now) piece_length ≤ div_ceil (length bytes) piece_length →
+            IsOk result }
     {
-        if let Some(pieces) = &mut self.pieces {
-            pieces.feed(part)?;
+        match self.hasher.feed(part) {
+            Ok(()) => {
+                self.count += part.len() as u64;
+                Ok(())
+            }
+            Err(error) => Err(error),
         }
-        if let Some(feed) = &mut self.feed {
-            feed.feed(part)?;
-        }
-        self.count += part.len() as u64;
-        Ok(())
     }
 
     /// How many bytes were fed.
@@ -73,25 +75,38 @@ impl FedSums {
     }
 
     /// What they sum up to, as a list of one file.
-    pub(crate) fn finish(self, alloc: Global) -> Result<TorrentSums, AllocError>
+    pub(crate) fn finish(self, alloc: Global) -> Result<Sums, AllocError>
         ensures { (kind : Kind) (piece_length : ℕ) (bytes : List ℕ) → HasFed self kind piece_length bytes →
             IfOk result (SumsOfOne kind piece_length bytes) }
     {
-        let FedSums {
-            count: _,
-            feed,
+        let FedSums { count, hasher } = self;
+        let Hashed { tree, pieces } = hasher.finish(alloc);
+        let (roots, layers) = trees_of(alloc, tree)?;
+        Ok(Sums {
+            lengths: vec![in alloc; count]?,
+            roots,
+            layers,
             pieces,
-        } = self;
-        let mut sums = TorrentSums::none(alloc);
-        if let Some(pieces) = pieces {
-            sums.pieces = pieces.finish();
+        })
+    }
+}
+
+// The pieces root and the layer of the one file, where it has a tree.
+fn trees_of(
+    alloc: Global,
+    tree: Option<Feed>,
+) -> Result<(Vec<Option<Hash>>, Vec<Vec<Hash>>), AllocError>
+    ensures { (piece_length : ℕ) (bytes : List ℕ) →
+        tree ≡ Some (record { piece_length = piece_length; bytes = bytes }) →
+        IfOk result (λ trees. (trees.0.items ≡ root_of bytes ∷ [])
+        × (lists_of trees.1.items ≡ piece_layer bytes piece_length ∷ [])) }
+{
+    match tree {
+        Some(feed) => {
+            let (root, layer) = tree_of(alloc, feed);
+            Ok((vec![in alloc; root]?, vec![in alloc; layer]?))
         }
-        if let Some(feed) = feed {
-            let tree = tree_of(alloc, feed);
-            sums.roots.push(tree.0)?;
-            sums.layers.push(tree.1)?;
-        }
-        Ok(sums)
+        None => Ok((Vec::new(alloc), Vec::new(alloc))),
     }
 }
 

@@ -1,11 +1,12 @@
 //! The torrent of the files of a source.
 ghost use Rattle.std.specs.Prelude.{◌≡◌, ◌⊎◌, Some, None, IfErr, IfOk, OnOk, List, ℕ, MatchResult, length, map};
 ghost use Rattle.std.specs.Prelude.{Option, slice_index};
+ghost use Rattle.tor_engine.specs.Given.{HasToldLengths};
 ghost use Rattle.tor_meta.specs.Contents.{IsMadeOf, IsMadeOfSome};
 ghost use Rattle.tor_meta.specs.Hashes.{HasInfo};
 ghost use Rattle.tor_meta.specs.Head.{settings_of};
-ghost use Rattle.tor_meta.specs.Make.{IsGivenTo, IsMakeFault, IsOwn, asked_fault, files_of_source, listed_files};
-ghost use Rattle.tor_meta.specs.Make.{make_refusal};
+ghost use Rattle.tor_meta.specs.Make.{IsGivenTo, IsMadeOfTold, IsMakeFault, IsOwn, asked_fault, files_of_source};
+ghost use Rattle.tor_meta.specs.Make.{listed_files, make_refusal};
 ghost use Rattle.tor_meta.specs.Order.{settings_of_order};
 ghost use Rattle.tor_meta.specs.declared.make_error.MakeError.{MakeError};
 ghost use Rattle.tor_meta.specs.declared.make_error.MakeError.TheVariants.{Resources};
@@ -28,7 +29,8 @@ use tor_tree::{FileList, FilePath, PathList};
 /// The bytes of the torrent of the files of a source: file i of the source has path i. The files are put into the order
 /// of their paths. Nothing is asked of the source where the order or the paths are refused; then every length is asked,
 /// in the order of the source's numbers, then the bytes are read in the order of the list, and then every length is
-/// asked again. Of a source that is not steady the bytes are the torrent of some files that have the paths.
+/// asked again. Of a source that is not steady the bytes are the torrent of some files that have the paths, and the
+/// lengths that it told.
 pub fn make<S: Source, R: Threads + Sync>(
     rt: &R,
     alloc: Global,
@@ -39,6 +41,8 @@ pub fn make<S: Source, R: Threads + Sync>(
     ensures made { (facts : SourceFacts S.Fault) → S.is_steady source.now facts → IfOk result
         (λ bytes. IsMadeOf (settings_of_order order.now) (files_of_source facts paths.now) bytes.items) }
     ensures whole { IfOk result (λ bytes. IsMadeOfSome (settings_of_order order.now) paths.now bytes.items) }
+    ensures told { IfOk result (λ bytes.
+        IsMadeOfTold (S.told source.now) (settings_of_order order.now) paths.now bytes.items) }
     ensures info { IfOk result (λ bytes. HasInfo bytes.items) }
     ensures fault { (facts : SourceFacts S.Fault) → S.is_steady source.now facts → MatchResult result
         (λ _. IsMakeFault facts order.now paths.now None)
@@ -47,7 +51,8 @@ pub fn make<S: Source, R: Threads + Sync>(
     ensures refused { (refusal : MakeError S.Fault) → make_refusal order.now paths.now ≡ Some refusal →
         IfErr result (λ error. (error ≡ Resources) ⊎ (error ≡ refusal)) }
     ensures only { IfErr result (IsOwn (make_refusal order.now paths.now)) }
-    ensures gave { IfErr result (IsGivenTo (S.gave source.now) (length paths.now)) }
+    ensures gave { IfErr result
+        (IsGivenTo (S.gave source.now) (S.told source.now) (S.ended source.now) (length paths.now)) }
 {
     let head = order.head(alloc)?;
     let paths = match judge(alloc, order, &head, paths) {
@@ -109,8 +114,9 @@ fn ask_list<S: Source>(
     source: &S,
     paths: PathList,
 ) -> Result<(FileList, Vec<usize>), MakeError<S::Fault>>
-    ensures list { IfOk result (λ both. (lengths : List ℕ) ×
-        (both.0 ≡ map (λ entry. (entry.0, slice_index lengths entry.1)) paths)) }
+    ensures list { IfOk result (λ both. (lengths : List ℕ) × (length lengths ≡ length paths)
+        × HasToldLengths (S.told source.now) lengths
+        × (both.0 ≡ map (λ entry. (entry.0, slice_index lengths entry.1)) paths)) }
     ensures indices { IfOk result (λ both. both.1.items ≡ indices_of paths) }
     ensures files { (facts : SourceFacts S.Fault) → S.is_steady source.now facts →
         IfOk result (λ both. both.0 ≡ listed_files facts paths) }
@@ -118,7 +124,8 @@ fn ask_list<S: Source>(
         (λ _. asked_fault facts (length paths) ≡ None)
         (λ error. (error ≡ Resources) ⊎ (asked_fault facts (length paths) ≡ Some error)) }
     ensures only { (first : Option (MakeError S.Fault)) → IfErr result (IsOwn first) }
-    ensures gave { IfErr result (IsGivenTo (S.gave source.now) (length paths)) }
+    ensures gave { IfErr result
+        (IsGivenTo (S.gave source.now) (S.told source.now) (S.ended source.now) (length paths)) }
 {
     let lengths = match ask_lengths(alloc, source, paths.entries().len()) {
         Ok(lengths) => lengths,

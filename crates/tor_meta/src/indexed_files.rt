@@ -1,6 +1,6 @@
 //! The files of a source in another order.
 ghost use Rattle.std.specs.Prelude.{◌≡◌};
-ghost use Rattle.tor_meta.specs.IndexedFiles.{handed_in, renumbered};
+ghost use Rattle.tor_meta.specs.steps.IndexedFiles.{handed_in, renumbered};
 
 use tor_engine::EngineError;
 use tor_source::Source;
@@ -15,7 +15,7 @@ pub(crate) struct Indexed<'a, S: Source> {
 impl<'a, S: Source> Source for Indexed<'a, S> {
     ghost use Rattle.std.specs.Prelude.{◌<◌, length, slice_index};
     ghost use Rattle.tor_source.specs.Source.{SourceFacts};
-    ghost use Rattle.tor_meta.specs.IndexedFiles.{facts_at};
+    ghost use Rattle.tor_meta.specs.steps.IndexedFiles.{facts_at};
 
     type Fault = S::Fault;
 
@@ -24,6 +24,12 @@ impl<'a, S: Source> Source for Indexed<'a, S> {
 
     ghost gave = { λ indexed file offset fault. (file < length indexed.indices.now) ×
         S.gave indexed.source.now (slice_index indexed.indices.now file) offset fault };
+
+    ghost told = { λ indexed file size. file < length indexed.indices.now →
+        S.told indexed.source.now (slice_index indexed.indices.now file) size };
+
+    ghost ended = { λ indexed file start. file < length indexed.indices.now →
+        S.ended indexed.source.now (slice_index indexed.indices.now file) start };
 
     fn length(&self, file: u64) -> Result<Option<u64>, S::Fault> {
         match self.indices.get(file as usize) {

@@ -4,7 +4,7 @@ ghost use Rattle.tor_bencode.specs.Data.{string, integer};
 ghost use Rattle.tor_bencode.specs.View.{view};
 ghost use Rattle.tor_merkle.specs.Layer.{IsPieceLength};
 ghost use Rattle.tor_meta.specs.Head.{settings_of};
-ghost use Rattle.tor_meta.specs.Sums.{AreFactsOf, HaveTrees, IsJudged};
+ghost use Rattle.tor_meta.specs.steps.Sums.{AreFactsOf, HaveTrees, IsJudged};
 ghost use Rattle.tor_spec.specs.Dictionary.{when};
 ghost use Rattle.tor_spec.specs.Facts.{Facts, listed};
 ghost use Rattle.tor_spec.specs.FilesList.{files_list};
@@ -18,9 +18,9 @@ ghost use Rattle.tor_v1.specs.Reserved.{takes_reserved};
 
 use crate::head::Head;
 use crate::items::{dictionary, files, number, text};
-use crate::sums::TorrentSums;
 use std::alloc::{AllocError, Global};
 use tor_bencode::Item;
+use tor_engine::Sums;
 use tor_merkle::laws::piece_length_bounds;
 use tor_spec::laws::entries_fit;
 use tor_tree::{FileList, FilePath, to_item};
@@ -31,7 +31,7 @@ pub(crate) fn info(
     alloc: Global,
     head: &Head,
     list: &FileList,
-    sums: &TorrentSums,
+    sums: &Sums,
 ) -> Result<Item, AllocError>
     requires judged { IsJudged head.now list.now }
     requires trees { HaveTrees head.now list.now sums.now }
@@ -62,7 +62,7 @@ fn tree(
     alloc: Global,
     head: &Head,
     list: &FileList,
-    sums: &TorrentSums,
+    sums: &Sums,
 ) -> Result<Option<Item>, AllocError>
     requires { HaveTrees head.now list.now sums.now }
     ensures { IfOk result (λ item.

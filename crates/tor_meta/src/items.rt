@@ -2,7 +2,7 @@
 ghost use Rattle.std.specs.Prelude.{◌≡◌, ◌<◌, ◌≤◌, ◌^◌, ◌∷◌, All, ℕ, List, pos, codes, map, IfOk, option_map};
 ghost use Rattle.tor_bencode.specs.Data.{integer, string, dictionary};
 ghost use Rattle.tor_bencode.specs.View.{view};
-ghost use Rattle.tor_meta.specs.Fields.{fields_of};
+ghost use Rattle.tor_meta.specs.steps.Fields.{fields_of};
 ghost use Rattle.tor_spec.specs.Dictionary.{present, when};
 ghost use Rattle.tor_spec.specs.FilesList.{entry_dictionary, files_list, strings};
 ghost use Rattle.tor_spec.specs.PieceLayers.{joined};

@@ -4,7 +4,7 @@ ghost use Rattle.std.specs.List.Sorted.{IsPermutation, IsStrictlySortedBy};
 ghost use Rattle.tor_bencode.specs.Data.{Data};
 ghost use Rattle.tor_meta.specs.Contents.{IsMadeOf};
 ghost use Rattle.tor_meta.specs.Refusal.{contents_refusal};
-ghost use Rattle.tor_meta.specs.declared.order.TheConstants.{MAX_SPAN, MAX_WORKERS};
+ghost use Rattle.tor_meta.specs.declared.order.TheConstants.{MAX_SPAN};
 ghost use Rattle.tor_spec.specs.Facts.{File};
 ghost use Rattle.tor_spec.specs.Made.{HaveOneLayer, IsViewOfMade};
 ghost use Rattle.tor_spec.specs.Settings.{Settings};
@@ -23,8 +23,7 @@ pub fn what_is_made_is_valid()
         × IsStrictlySortedBy path_cmp (map (λ file. file.path) sorted) × IsViewOfMade settings sorted (view_of root) }
 {}
 
-/// The limits of an order: of its workers, and of the pieces of a unit of work.
-pub fn limits_of_orders()
-    ensures workers { MAX_WORKERS ≡ 64 }
-    ensures span { MAX_SPAN ≡ 1024 }
+/// The limit of the pieces of a unit of work.
+pub fn limit_of_spans()
+    ensures { MAX_SPAN ≡ 1024 }
 {}

@@ -4,6 +4,8 @@
 //! - [`Head`] (`head.rt`): what a torrent is made with, beside its files. `judge.rt` refuses heads and paths.
 //! - [`make_contents`] (`contents.rt`): the torrent of files whose contents lie in memory.
 //! - [`FedSums`] (`fed.rt`) and [`make_fed`] (`making.rt`): the torrent of one content that is fed in parts.
+//! - [`make_from`], [`torrent_from`] (`from_input.rt`): the torrent of what a reader has, in a writer or as bytes, or
+//!   the [`FromFault`] for which there is none; `fed_intake.rt` takes the parts that are read.
 //! - [`make`] (`from_source.rt`): the torrent of the files of a source, as an [`Order`] (`order.rt`) says, or the first
 //!   [`MakeError`] (`make_error.rt`). `indexed_files.rt` puts a source's files into another order; `listed_files.rt`
 //!   makes the torrent of a list of files whose bytes a source gives.
@@ -11,7 +13,7 @@
 //! - `sums.rt`: the Merkle trees and the SHA-1 of the pieces, as far as a kind asks for them.
 //! - `torrent.rt`: from files and sums to bytes, by `info.rt`, `layers.rt` and `items.rt`.
 //! - [`Hashes`], [`info_hashes`], [`magnet`] (`hashes.rt`); [`write_out`] (`output.rt`): all bytes into a writer.
-//! - [`laws`] (`laws.rt`): what is made is valid, and the limits of an order.
+//! - [`laws`] (`laws.rt`): what is made is valid, and the limit of a span.
 //!
 //! ```rust
 //! use tor_meta::{Head, make_contents};
@@ -28,6 +30,8 @@
 
 mod contents;
 mod fed;
+mod fed_intake;
+mod from_input;
 mod from_source;
 mod hashes;
 mod head;
@@ -48,11 +52,12 @@ mod torrent;
 
 pub use contents::make_contents;
 pub use fed::{FedSums, refusal_of_one};
+pub use from_input::{FromFault, make_from, torrent_from};
 pub use from_source::make;
 pub use hashes::{Hashes, info_hashes, magnet};
 pub use head::Head;
 pub use make_error::MakeError;
 pub use making::make_fed;
-pub use order::{MAX_SPAN, MAX_WORKERS, Order};
+pub use order::{MAX_SPAN, Order};
 pub use output::{WriteFault, write_out};
 pub use refusals::ContentsError;

@@ -1,23 +1,23 @@
 //! The torrent of a list of files whose bytes a source gives.
 ghost use Rattle.std.specs.Prelude.{◌≡◌, List, ℕ, None, IfErr, IfOk, MatchResult, length, map};
 ghost use Rattle.tor_engine.specs.Contents.{contents_in};
-ghost use Rattle.tor_engine.specs.Fault.{IsFault, IsGivenNotMissing, first_byte_fault, first_length_fault};
+ghost use Rattle.tor_engine.specs.Fault.{IsFault, first_byte_fault, first_length_fault};
+ghost use Rattle.tor_engine.specs.Given.{IsGivenNotMissing};
 ghost use Rattle.tor_engine.specs.How.{IsHow};
 ghost use Rattle.tor_meta.specs.Contents.{files_of};
 ghost use Rattle.tor_meta.specs.Hashes.{HasInfo};
 ghost use Rattle.tor_meta.specs.Head.{settings_of};
-ghost use Rattle.tor_meta.specs.Sums.{HaveTrees, IsJudged, SumUp, SumUpSome};
+ghost use Rattle.tor_meta.specs.steps.Sums.{HaveTrees, IsJudged, SumUp, SumUpSome};
 ghost use Rattle.tor_plan.specs.PlanFacts.{IsSpan};
 ghost use Rattle.tor_source.specs.Source.{SourceFacts};
 ghost use Rattle.tor_spec.specs.Metainfo.{metainfo};
 ghost use Rattle.tor_tree.specs.FileList.{lengths_of};
 
 use crate::head::Head;
-use crate::sums::TorrentSums;
 use crate::torrent::torrent_bytes;
 use std::alloc::{AllocError, Global};
 use std::thread::Threads;
-use tor_engine::{EngineError, How, hash_told};
+use tor_engine::{EngineError, How, Sums, hash_told};
 use tor_merkle::laws::piece_length_bounds;
 use tor_plan::Plan;
 use tor_plan::laws::units_are_the_content;
@@ -47,7 +47,8 @@ pub(crate) fn torrent_of_listed<S: Source, R: Threads + Sync>(
     ensures whole { IfOk result (λ bytes. (contents : List (List ℕ)) × (map length contents ≡ lengths_of list.now)
         × (bytes.items ≡ metainfo (settings_of head.now) (files_of list.now contents))) }
     ensures info { IfOk result (λ bytes. HasInfo bytes.items) }
-    ensures gave { IfErr result (IsGivenNotMissing (S.gave source.now) (length list.now)) }
+    ensures gave { IfErr result
+        (IsGivenNotMissing (S.gave source.now) (S.told source.now) (S.ended source.now) (lengths_of list.now)) }
 {
     let sums = match sums_of_listed(rt, alloc, source, list, head, span, how) {
         Ok(sums) => sums,
@@ -66,7 +67,7 @@ fn sums_of_listed<S: Source, R: Threads + Sync>(
     head: &Head,
     span: u32,
     how: How,
-) -> Result<TorrentSums, EngineError<S::Fault>>
+) -> Result<Sums, EngineError<S::Fault>>
     requires judged { IsJudged head.now list.now }
     requires span { IsSpan span }
     requires how { IsHow how }
@@ -77,20 +78,17 @@ fn sums_of_listed<S: Source, R: Threads + Sync>(
         × (first_byte_fault facts (lengths_of list.now) ≡ None))
         (IsFault (first_byte_fault facts (lengths_of list.now))) }
     ensures whole { IfOk result (SumUpSome head.now list.now) }
-    ensures gave { IfErr result (IsGivenNotMissing (S.gave source.now) (length list.now)) }
+    ensures gave { IfErr result
+        (IsGivenNotMissing (S.gave source.now) (S.told source.now) (S.ended source.now) (lengths_of list.now)) }
 {
     piece_length_bounds();
     units_are_the_content();
     let plan = Plan::new(alloc, list, head.kind, head.piece_length, span)?;
-    let hashed = match hash_told(rt, alloc, source, &plan, how) {
+    let sums = match hash_told(rt, alloc, source, &plan, how) {
         Ok(sums) => sums,
         Err(error) => return Err(error),
     };
-    Ok(TorrentSums {
-        roots: hashed.roots,
-        layers: hashed.layers,
-        pieces: hashed.pieces,
-    })
+    Ok(sums)
 }
 
 /// The bytes of the torrent of the files that have these sums.
@@ -98,7 +96,7 @@ fn torrent_of_sums(
     alloc: Global,
     head: &Head,
     list: &FileList,
-    sums: &TorrentSums,
+    sums: &Sums,
 ) -> Result<Vec<u8>, AllocError>
     requires judged { IsJudged head.now list.now }
     requires trees { HaveTrees head.now list.now sums.now }

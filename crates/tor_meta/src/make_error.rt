@@ -5,7 +5,8 @@ ghost use Rattle.tor_meta.specs.declared.make_error.MakeError.TheVariants.{Resou
 
 use crate::refusals::ContentsError;
 use std::alloc::{AllocError, AllocFailed};
-use thiserror::Error;
+use std::error::Error;
+use std::fmt;
 use tor_engine::EngineError;
 use tor_tree::ListError;
 
@@ -13,52 +14,69 @@ use tor_tree::ListError;
 ///
 /// Those before `Read` are answered before the source is asked, but for a list's `TooLarge`, which is answered when all
 /// lengths were told; the first that holds, where the faults of paths come before `ReservedPad`.
-#[derive(Debug, Drop, Error)]
+#[derive(Debug, Drop)]
 pub enum MakeError<F> {
     /// No power of two from 2^14 to 2^30.
-    #[error("M1 PieceLength")]
     PieceLength,
     /// No worker, or more than 64.
-    #[error("M2 Workers")]
     Workers,
     /// No power of two from 1 to 1,024.
-    #[error("M3 Span")]
     Span,
     /// A path of more than 64 names.
-    #[error("M4 Path")]
     Path,
     /// A single file is asked for, and there is not exactly one path that is the torrent's name.
-    #[error("M5 SingleShape")]
     SingleShape,
-    #[error(transparent)]
     List(ListError),
     /// In a hybrid of a folder some path begins with `.pad`.
-    #[error("Y1 ReservedPad")]
     ReservedPad,
     /// The source had a fault: for the length of the file, or at its byte `start`.
-    #[error("E1 Read")]
     Read {
         file: u64,
         start: Option<u64>,
         fault: F,
     },
     /// The file did not stay as long as was told.
-    #[error("E2 Changed")]
     Changed {
         file: u64,
     },
-    #[error("E3 Missing")]
     Missing {
         file: u64,
     },
     /// Memory or a thread was refused.
-    #[error("E4 Resources")]
     Resources,
     /// A stream had more than 2^50 bytes.
-    #[error("E5 StreamTooLong")]
     StreamTooLong {
         file: u64,
     },
+}
+
+impl<F> fmt::Display for MakeError<F> {
+    fn fmt<W: fmt::Write>(&self, f: &mut fmt::Formatter<W>) -> fmt::Result {
+        match self {
+            MakeError::List(fault) => write!(f, "{fault}"),
+            error => f.write_str(text_of(error)),
+        }
+    }
+}
+
+impl<F: fmt::Debug + Drop> Error for MakeError<F> {}
+
+// The code and the name; those of a list are its own.
+fn text_of<F>(error: &MakeError<F>) -> &'static str {
+    match error {
+        MakeError::List(_) => "List",
+        MakeError::PieceLength => "M1 PieceLength",
+        MakeError::Workers => "M2 Workers",
+        MakeError::Span => "M3 Span",
+        MakeError::Path => "M4 Path",
+        MakeError::SingleShape => "M5 SingleShape",
+        MakeError::ReservedPad => "Y1 ReservedPad",
+        MakeError::Read { .. } => "E1 Read",
+        MakeError::Changed { .. } => "E2 Changed",
+        MakeError::Missing { .. } => "E3 Missing",
+        MakeError::Resources => "E4 Resources",
+        MakeError::StreamTooLong { .. } => "E5 StreamTooLong",
+    }
 }
 
 impl<F> From<ContentsError> for MakeError<F> {

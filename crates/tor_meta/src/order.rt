@@ -1,9 +1,10 @@
 //! How the torrent of a source's files is to be made.
-ghost use Rattle.std.specs.Prelude.{◌≡◌, ◌⊎◌, ◌∷◌, [], IfErr, IfOk, None, OnOk, Some, option_map, vec_items};
+ghost use Rattle.std.specs.Prelude.{◌≡◌, ◌⊎◌, ◌∷◌, [], Err, IfErr, IfOk, None, OnOk, Some, option_map, vec_items};
 ghost use Rattle.tor_meta.specs.Head.{settings_of};
 ghost use Rattle.tor_meta.specs.Make.{make_refusal, numbers_refusal};
-ghost use Rattle.tor_meta.specs.Order.{is_how, is_span, settings_of_order};
+ghost use Rattle.tor_meta.specs.Order.{is_span, settings_of_order};
 ghost use Rattle.tor_meta.specs.Refusal.{paths_refusal};
+ghost use Rattle.tor_meta.specs.declared.make_error.MakeError.{MakeError};
 ghost use Rattle.tor_meta.specs.declared.make_error.MakeError.TheVariants.{Resources};
 
 use crate::fed::refusal_of_one;
@@ -13,9 +14,6 @@ use std::alloc::{AllocError, Global};
 use tor_engine::How;
 use tor_merkle::is_piece_length;
 use tor_tree::{Kind, Name};
-
-/// The most workers that may share the hashing.
-pub const MAX_WORKERS: u32 = 64;
 
 /// The most pieces that one unit of work may have.
 pub const MAX_SPAN: u32 = 1024;
@@ -57,11 +55,13 @@ impl Order {
         })
     }
 
-    /// The same for a torrent of one content under the order's name, or the first refusal.
+    /// The same for a torrent of one content under the order's name, or the first refusal; those that need no path take
+    /// no memory.
     pub fn head_of_one<F>(&self, alloc: Global) -> Result<Head, MakeError<F>>
         ensures settings { IfOk result (λ head. settings_of head ≡ settings_of_order self.now) }
         ensures lawful { IfOk result (λ head. paths_refusal (settings_of head) ((head.name ∷ []) ∷ []) ≡ None) }
         ensures accepted { OnOk result (make_refusal {F = F} self.now ((self.now.name ∷ []) ∷ []) ≡ None) }
+        ensures numbers { (refusal : MakeError F) → numbers_refusal self.now ≡ Some refusal → result ≡ Err refusal }
         ensures refused { IfErr result (λ refusal.
             (make_refusal self.now ((self.now.name ∷ []) ∷ []) ≡ Some refusal) ⊎ (refusal ≡ Resources)) }
     {
@@ -83,7 +83,7 @@ pub(crate) fn refusal_of_numbers<F>(order: &Order) -> Option<MakeError<F>>
     if !is_piece_length(order.piece_length) {
         return Some(MakeError::PieceLength);
     }
-    if !is_how(order.how) {
+    if !order.how.is_allowed() {
         return Some(MakeError::Workers);
     }
     if !is_span(order.span) {
@@ -99,16 +99,6 @@ fn copy_of_url(alloc: Global, url: &Option<Vec<u8>>) -> Result<Option<Vec<u8>>, 
     match url {
         Some(url) => Ok(Some(Vec::from_slice(alloc, url)?)),
         None => Ok(None),
-    }
-}
-
-/// Whether so many workers may share the hashing.
-fn is_how(how: How) -> bool
-    ensures { result ≡ is_how how }
-{
-    match how {
-        How::One => true,
-        How::Halves(workers) => 1 <= workers && workers <= MAX_WORKERS,
     }
 }
 

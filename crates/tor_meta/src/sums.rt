@@ -2,40 +2,28 @@
 ghost use Rattle.std.specs.Prelude.{◌≡◌, ◌≤◌, ◌<◌, ◌^◌, All, IfOk, [], length, map, true};
 ghost use Rattle.tor_merkle.specs.Layer.{IsPieceLength, piece_layer};
 ghost use Rattle.tor_merkle.specs.declared.TheConstants.{MAX_LENGTH};
-ghost use Rattle.tor_meta.specs.Layers.{lists_of};
+ghost use Rattle.tor_engine.specs.Sums.{lists_of};
 ghost use Rattle.tor_meta.specs.Contents.{bytes_of};
 ghost use Rattle.tor_merkle.specs.Layer.{root_of};
 ghost use Rattle.tor_v1.specs.Content.{v1_pieces};
 ghost use Rattle.tor_v1.specs.Piece.{IsV1PieceLength, max_piece_length};
 
 use std::alloc::{AllocError, Global};
+use tor_engine::Sums;
 use tor_merkle::{Feed, Hash};
 use tor_v1::{Entry, PieceSums};
 
-/// What the contents of files sum up to, file by file in the order of their list.
-#[derive(Debug, Drop)]
-pub(crate) struct TorrentSums {
-    /// The pieces root of each file, 32 bytes; an empty file has none (BEP 52, "pieces root").
-    pub(crate) roots: Vec<Option<Hash>>,
-    /// For each file, the hashes of the layer where one covers one piece, in the order of the pieces; none of a file
-    /// of at most one piece (BEP 52, "piece layers").
-    pub(crate) layers: Vec<Vec<Hash>>,
-    /// The joined SHA-1 of each piece of the whole content, 20 bytes a piece (BEP 3, "info dictionary": `pieces`).
-    pub(crate) pieces: Vec<u8>,
-}
-
-impl TorrentSums {
-    /// Of no file.
-    pub(crate) fn none(alloc: Global) -> TorrentSums
-        ensures roots { result.roots.items ≡ [] }
-        ensures layers { result.layers.items ≡ [] }
-        ensures pieces { result.pieces.items ≡ [] }
-    {
-        TorrentSums {
-            roots: Vec::new(alloc),
-            layers: Vec::new(alloc),
-            pieces: Vec::new(alloc),
-        }
+/// Sums of no file.
+pub(crate) fn no_sums(alloc: Global) -> Sums
+    ensures roots { result.roots.items ≡ [] }
+    ensures layers { result.layers.items ≡ [] }
+    ensures pieces { result.pieces.items ≡ [] }
+{
+    Sums {
+        lengths: Vec::new(alloc),
+        roots: Vec::new(alloc),
+        layers: Vec::new(alloc),
+        pieces: Vec::new(alloc),
     }
 }
 

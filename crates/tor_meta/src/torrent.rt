@@ -6,7 +6,7 @@ ghost use Rattle.tor_bencode.specs.Spelling.{spelling};
 ghost use Rattle.tor_bencode.specs.View.{view};
 ghost use Rattle.tor_meta.specs.Hashes.{HasInfo};
 ghost use Rattle.tor_meta.specs.Head.{settings_of};
-ghost use Rattle.tor_meta.specs.Sums.{AreFactsOf, HaveTrees, IsJudged};
+ghost use Rattle.tor_meta.specs.steps.Sums.{AreFactsOf, HaveTrees, IsJudged};
 ghost use Rattle.tor_spec.specs.Dictionary.{when};
 ghost use Rattle.tor_spec.specs.Facts.{Facts};
 ghost use Rattle.tor_spec.specs.Metainfo.{root_dictionary};
@@ -17,9 +17,9 @@ use crate::head::Head;
 use crate::info::info;
 use crate::items::{dictionary, text};
 use crate::layers::piece_layers;
-use crate::sums::TorrentSums;
 use std::alloc::{AllocError, Global};
 use tor_bencode::{BenError, Item, Tree, encode};
+use tor_engine::Sums;
 use tor_spec::laws::torrents_are_lawful;
 use tor_tree::FileList;
 
@@ -28,7 +28,7 @@ pub(crate) fn torrent_bytes(
     alloc: Global,
     head: &Head,
     list: &FileList,
-    sums: &TorrentSums,
+    sums: &Sums,
 ) -> Result<Vec<u8>, AllocError>
     requires judged { IsJudged head.now list.now }
     requires trees { HaveTrees head.now list.now sums.now }
@@ -45,7 +45,7 @@ pub(crate) fn torrent_bytes(
 }
 
 /// Its root dictionary.
-fn tree(alloc: Global, head: &Head, list: &FileList, sums: &TorrentSums) -> Result<Tree, AllocError>
+fn tree(alloc: Global, head: &Head, list: &FileList, sums: &Sums) -> Result<Tree, AllocError>
     requires judged { IsJudged head.now list.now }
     requires trees { HaveTrees head.now list.now sums.now }
     ensures made { (facts : List Facts) → AreFactsOf head.now list.now sums.now facts → IfOk result (λ tree.
@@ -61,7 +61,7 @@ fn tree(alloc: Global, head: &Head, list: &FileList, sums: &TorrentSums) -> Resu
 }
 
 /// The same as an item.
-fn root(alloc: Global, head: &Head, list: &FileList, sums: &TorrentSums) -> Result<Item, AllocError>
+fn root(alloc: Global, head: &Head, list: &FileList, sums: &Sums) -> Result<Item, AllocError>
     requires judged { IsJudged head.now list.now }
     requires trees { HaveTrees head.now list.now sums.now }
     ensures { (facts : List Facts) → AreFactsOf head.now list.now sums.now facts → IfOk result (λ item.
@@ -95,7 +95,7 @@ fn layers(
     alloc: Global,
     head: &Head,
     list: &FileList,
-    sums: &TorrentSums,
+    sums: &Sums,
 ) -> Result<Option<Item>, AllocError>
     requires judged { IsJudged head.now list.now }
     requires trees { HaveTrees head.now list.now sums.now }

@@ -1,13 +1,9 @@
 -- The bytes of units, file by file.
-use Rattle.std.proofs.Common.{◌≡◌, ℕ, ◌+◌, ◌-◌, ◌*◌, ◌<◌, Bool, true, false, cond, leb, min, List, [], ◌∷◌, ◌++◌}
-use Rattle.std.proofs.Common.{length, map, get_or, take, drop, arith, refl, ap, ap₂, ◌∙◌, sym, append-nil, length-drop}
-use Rattle.std.proofs.lemmas.List.{take_min, get_or-drop, drop-drop}
-use Rattle.std.specs.List.{flat_map, range_with_len}
-use Rattle.tor_v1.specs.Piece.{zeros}
-use Rattle.tor_plan.specs.Content.{unit_content}
+use Rattle.std.proofs.Common.{◌≡◌, ℕ, ◌+◌, ◌<◌, List, [], ◌∷◌}
+use Rattle.std.proofs.Common.{length, map, get_or, drop, arith, refl, ap, ◌∙◌, sym}
+use Rattle.std.proofs.lemmas.List.{get_or-drop, drop-drop}
+use Rattle.std.specs.List.{range_with_len}
 use Rattle.tor_plan.specs.Units.{file_unit, units_of_file}
-use Rattle.tor_plan.proofs.Empty.{zeros-nil}
-use Rattle.tor_plan.proofs.Joins.{run_of, runs_are}
 use Rattle.tor_plan.proofs.Ranges.{ceil_is}
 
 abbrev pub File : Type 0
@@ -41,35 +37,6 @@ module _ (contents : List (List ℕ)) (index m : ℕ) (lengths : List ℕ) (from
 
   pub after_lengths : map length (drop (index + 1) contents) ≡ lengths
   after_lengths = ap (map length) after ∙ from.others
-
--- ---- a file that is cut by itself
-
-module _ (contents : List (List ℕ)) (size index tail : ℕ) (content : List ℕ) (pos : 0 < size)
-    (is : get_or contents index [] ≡ content) where
-  cond_zeros : (b : Bool) → zeros (cond b tail 0) ≡ cond b (zeros tail) []
-  cond_zeros true = refl
-  cond_zeros false = zeros-nil
-
-  pub each_unit : (k : ℕ) → k * size < length content
-      → unit_content contents (file_unit size index (length content) tail k) ≡ run_of size content (zeros tail) k
-  each_unit k less =
-      let left = length content - k * size in
-      let rest = drop (k * size) content in
-      let taken : take (min left size) (drop (k * size) (get_or contents index [])) ≡ take size rest =
-      ap (λ xs. take (min left size) (drop (k * size) xs)) is
-      ∙ ap (λ n. take n rest) (let e : min left size ≡ min size (length rest) =
-      omega (arith, length-drop (k * size) content) in e) ∙ take_min size rest in
-      ap (λ xs. xs ++ ((take (min left size) (drop (k * size) (get_or contents index []))
-      ++ zeros (cond (leb left size) tail 0)) ++ [])) zeros-nil
-      ∙ append-nil (take (min left size) (drop (k * size) (get_or contents index []))
-      ++ zeros (cond (leb left size) tail 0))
-      ∙ ap₂ (λ xs ys. xs ++ ys) taken (cond_zeros (leb left size))
-
-  pub file_content : 0 < length content
-      → flat_map (unit_content contents) (units_of_file size index (length content) tail) ≡ content ++ zeros tail
-  file_content some =
-      runs_are (unit_content contents) (file_unit size index (length content) tail) size content (zeros tail) pos
-      each_unit some
 
 -- an empty file has no unit
 pub no_unit_of_file : (size index m tail : ℕ) → 0 < size → m ≡ 0 → units_of_file size index m tail ≡ []

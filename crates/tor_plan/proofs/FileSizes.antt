@@ -8,19 +8,23 @@ use Rattle.std.specs.List.{All}
 use Rattle.tor_tree.specs.FileList.{lengths_of, IsFileList}
 use Rattle.tor_tree.specs.declared.kinds.Kind.{Kind}
 use Rattle.tor_tree.specs.declared.kinds.Kind.TheVariants.{V1, V2, Hybrid}
-use Rattle.tor_tree.specs.declared.lists.TheConstants.{MAX_LENGTH, MAX_TOTAL, ROUNDING}
+use Rattle.tor_merkle.specs.declared.TheConstants.{MAX_LENGTH}
+use Rattle.tor_tree.specs.declared.lists.TheConstants.{MAX_TOTAL, ROUNDING}
 use Rattle.tor_tree.proofs.ProvedLaws.{files_are_small}
 use Rattle.tor_v1.specs.Entries.{file_entry, padding_length, has_bytes, aligned_entries, v1_entries}
 use Rattle.tor_plan.specs.Content.{layout_of}
 use Rattle.tor_plan.specs.Entries.{entries_length}
 use Rattle.tor_plan.specs.EntryList.{IsEntryList}
 use Rattle.tor_plan.specs.Forest.{forest_trees}
-use Rattle.tor_plan.specs.PlanFacts.{plan_of, plan_of_entries, IsPlan, IsPlanPieceLength, IsSpan, PlanFacts}
+use Rattle.tor_plan.specs.PlanFacts.{plan_of, plan_of_entries, IsPlanPieceLength}
+use Rattle.tor_plan.specs.declared.units.PlanUnit.{PlanUnit}
+use Rattle.tor_plan.specs.steps.Whole.{plan_of_whole, whole_unit}
 use Rattle.tor_plan.proofs.Contents.{File}
 use Rattle.tor_plan.proofs.FilesAsEntries.{entry_length, padded, entry_units_of_files, length_of_files}
 use Rattle.tor_plan.proofs.FilesAsEntries.{lengths_of_files}
 use Rattle.tor_plan.proofs.FilesLaidOut.{files_laid_out}
 use Rattle.tor_plan.proofs.Sizes.{rounded, total_small}
+use Rattle.tor_plan.proofs.WholeUnits.{plan_is}
 
 abbrev rounded_up : ℕ → ℕ
 rounded_up m = next_multiple_of m ROUNDING
@@ -82,15 +86,11 @@ same_plan kind p span files = ap₂ (λ units lengths. record {
   trees = forest_trees kind (span * p) lengths;
 }) (entry_units_of_files kind p span files) (sym (lengths_of_files (layout_of kind) p files))
 
-pub plan_of_list : (plan : PlanFacts) (span : ℕ) (files : List File)
-    → plan ≡ plan_of plan.kind plan.piece_length span files → IsSpan span
-    → IsFileList files
-    → IsPlanPieceLength plan.kind plan.piece_length → IsPlan plan
-plan_of_list plan span files made is_span lawful pieces = record {
-  span = span;
-  entries = v1_entries (layout_of plan.kind) plan.piece_length files;
-  is_span = is_span;
-  is_list = files_are_list plan.kind plan.piece_length files lawful pieces;
-  pieces = pieces;
-  made = made ∙ same_plan plan.kind plan.piece_length span files;
-}
+-- the plan of all bytes of the files
+pub plan_of_list : (kind : Kind) (p span : ℕ) (files : List File) (whole : PlanUnit) (lengths : List ℕ)
+    → 0 < span * p → whole ≡ whole_unit (v1_entries (layout_of kind) p files) → lengths ≡ lengths_of files
+    → plan_of_whole kind p span whole lengths ≡ plan_of kind p span files
+plan_of_list kind p span files whole lengths pos bytes long =
+    let entries = v1_entries (layout_of kind) p files in
+    ap₂ (plan_of_whole kind p span) bytes (long ∙ sym (lengths_of_files (layout_of kind) p files))
+    ∙ plan_is kind p span entries pos ∙ sym (same_plan kind p span files)

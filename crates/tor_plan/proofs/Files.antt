@@ -1,17 +1,14 @@
 -- Files cut each by itself, one after another.
-use Rattle.std.proofs.Common.{◌≡◌, ℕ, ◌+◌, ◌-◌, ◌<◌, ◌≤◌, Bool, true, cond, ltb, inl, inr, List, [], ◌∷◌}
-use Rattle.std.proofs.Common.{◌++◌, length, get_or, drop, count_by, sum_by, arith, refl, ap, ◌∙◌, sym, zero-add}
-use Rattle.std.proofs.Common.{append_assoc, append-nil}
+use Rattle.std.proofs.Common.{◌≡◌, ◌⊎◌, ℕ, ◌+◌, ◌-◌, ◌<◌, ◌≤◌, Bool, true, cond, ltb, inl, inr, List, [], ◌∷◌}
+use Rattle.std.proofs.Common.{drop, count_by, sum_by, arith, refl, ap, ◌∙◌, zero-add}
 use Rattle.std.proofs.lemmas.Bool.{lt-ltb, le-ltb, cases_lt, and_from, and_left, and_right}
-use Rattle.std.proofs.lemmas.List.{drop_all, drop_more}
 use Rattle.std.proofs.lemmas.List.Sums.{sum_by-cons}
 use Rattle.tor_tree.specs.declared.kinds.Kind.{Kind}
 use Rattle.tor_tree.specs.declared.kinds.Kind.TheVariants.{V1, V2, Hybrid}
 use Rattle.tor_v1.specs.declared.entry.Entry.{Entry}
 use Rattle.tor_v1.specs.Entries.{pad_entry, padding_length, has_bytes}
 use Rattle.tor_v1.proofs.ProvedLaws.{files_with_bytes}
-use Rattle.tor_plan.specs.declared.units.PlanUnit.{PlanUnit}
-use Rattle.tor_plan.specs.Units.{units_of_file, zeros_after, separate_units}
+use Rattle.tor_plan.specs.Units.{zeros_after}
 
 abbrev pub File : Type 0
 File = List (List ℕ) × ℕ
@@ -49,35 +46,15 @@ zeros_last Hybrid p m later none =
     (and_right (ltb 0 n) (has_bytes later) (files_with_bytes later ∙ le-ltb 0 (count_by is_some later) none))
 
 -- the count after a file with bytes, and after an empty one
-pub counted_some : (m old later n : ℕ) → 0 < m → old ≡ cond (ltb 0 m) 1 0 + n → later ≡ old - 1 → later ≡ n
-counted_some m old later n some count is = omega (arith, count ∙ ap (λ b. cond b 1 0 + n) (lt-ltb 0 m some), is)
+pub counted : (m old later n : ℕ) → old ≡ cond (ltb 0 m) 1 0 + n
+    → ((0 < m) × (later ≡ old - 1)) ⊎ ((m ≤ 0) × (later ≡ old)) → later ≡ n
+counted m old later n count (inl some) =
+    omega (arith, count ∙ ap (λ b. cond b 1 0 + n) (lt-ltb 0 m some.0), some.1)
+counted m old later n count (inr none) =
+    omega (arith, count ∙ ap (λ b. cond b 1 0 + n) (le-ltb 0 m none.0), none.1)
 
-pub counted_none : (m old later n : ℕ) → m ≤ 0 → old ≡ cond (ltb 0 m) 1 0 + n → later ≡ old → later ≡ n
-counted_none m old later n none count is = omega (arith, count ∙ ap (λ b. cond b 1 0 + n) (le-ltb 0 m none), is)
-
--- a file whose units were added
-module _ (kind : Kind) (p size : ℕ) (files : List File) (i : ℕ) (file : File) (before all : List PlanUnit)
-    (lt : i < length files)
-    (is : file ≡ get_or files i file) (so_far : before ++ separate_units kind p size i (drop i files) ≡ all) where
-  at_file : drop i files ≡ file ∷ drop (i + 1) files
-  at_file = drop_more files i file lt ∙ ap (λ x. x ∷ drop (i + 1) files) (sym is)
-
-  pub count-next : count_by is_some (drop i files) ≡ cond (is_some file) 1 0 + count_by is_some (drop (i + 1) files)
-  count-next = ap (count_by is_some) at_file ∙ sum_by-cons (λ x. cond (is_some x) 1 0) file (drop (i + 1) files)
-
-  pub cut_next : (zeros : ℕ) → zeros ≡ zeros_after kind p file.1 (drop (i + 1) files)
-      → (before ++ units_of_file size i file.1 zeros) ++ separate_units kind p size (i + 1) (drop (i + 1) files) ≡ all
-  unfolding separate_units
-  cut_next zeros same =
-      append_assoc before (units_of_file size i file.1 zeros) _
-      ∙ ap (λ n. before ++ (units_of_file size i file.1 n ++ separate_units kind p size (i + 1) (drop (i + 1) files)))
-      same
-      ∙ ap (λ xs. before ++ separate_units kind p size i xs) (sym at_file) ∙ so_far
-
--- after the last file
-pub separate-end : (kind : Kind) (p size : ℕ) (files : List File) (i : ℕ) (before all : List PlanUnit)
-    → length files ≤ i
-    → before ++ separate_units kind p size i (drop i files) ≡ all → before ≡ all
-unfolding separate_units
-separate-end kind p size files i before all le so_far =
-    sym (append-nil before) ∙ ap (λ xs. before ++ separate_units kind p size i xs) (sym (drop_all i files le)) ∙ so_far
+-- how many files with bytes come after one
+pub count-next : (files : List File) (i : ℕ) (file : File) (rest : List File) → drop i files ≡ file ∷ rest
+    → count_by is_some (drop i files) ≡ cond (is_some file) 1 0 + count_by is_some rest
+count-next files i file rest at_file =
+    ap (count_by is_some) at_file ∙ sum_by-cons (λ x. cond (is_some x) 1 0) file rest

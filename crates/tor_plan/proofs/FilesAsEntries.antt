@@ -24,7 +24,7 @@ use Rattle.tor_plan.specs.Units.{units_of_file, zeros_after}
 use Rattle.tor_plan.proofs.Contents.{File}
 use Rattle.tor_plan.proofs.EntrySteps.{met, not_met}
 use Rattle.tor_plan.proofs.Ranges.{map_same}
-use Rattle.tor_plan.proofs.SeparateContent.{before_some, before_empty}
+use Rattle.tor_plan.proofs.Padding.{before_some, before_empty}
 
 abbrev pub entry_length : Entry → ℕ
 entry_length entry = entry.length

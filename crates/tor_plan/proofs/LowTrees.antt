@@ -16,7 +16,7 @@ use Rattle.tor_merkle.proofs.ProvedLaws.{height_least}
 use Rattle.tor_merkle.specs.Subtree.{height}
 use Rattle.tor_tree.specs.declared.kinds.Kind.{Kind}
 use Rattle.tor_tree.specs.declared.kinds.Kind.TheVariants.{V1, V2, Hybrid}
-use Rattle.tor_tree.specs.declared.lists.TheConstants.{MAX_LENGTH}
+use Rattle.tor_merkle.specs.declared.TheConstants.{MAX_LENGTH}
 use Rattle.tor_v1.specs.declared.entry.Entry.{Entry}
 use Rattle.tor_plan.specs.Entries.{entries_length, entry_units, joined_entry_unit, joined_entry_units}
 use Rattle.tor_plan.specs.Entries.{lengths_of_entries, padding_before_next, separate_entry_units}

@@ -4,13 +4,15 @@ use Rattle.std.proofs.Common.{get_or, take, drop, sum_by, refl, arith, ap, ap₂
 use Rattle.std.proofs.lemmas.List.{take-append-drop, drop_more}
 use Rattle.std.proofs.lemmas.List.Sums.{sum_by-cons}
 use Rattle.tor_plan.specs.Entries.{after_part, after_zeros, empty_unit, shared}
-use Rattle.tor_plan.specs.Pieces.{parts_between, pieces_of_unit, unit_between}
+use Rattle.tor_plan.specs.Pieces.{parts_between, unit_between}
 use Rattle.tor_plan.specs.WithinEntries.{unit_length}
 use Rattle.tor_plan.specs.declared.units.Part.{Part}
 use Rattle.tor_plan.specs.declared.units.PlanUnit.{PlanUnit}
-use Rattle.tor_plan.specs.steps.Joined.{joined, part_alone, range_units, zeros_alone, AreBytesAt, AreZerosAt, Ranges}
-use Rattle.tor_plan.proofs.PieceSteps.{between_none, from, part_length, part_met}
-use Rattle.tor_plan.proofs.UnitJoins.{unit_of, zeros_then, file_then, then_nothing}
+use Rattle.tor_plan.specs.steps.Joined.{joined, part_alone, zeros_alone}
+use Rattle.tor_plan.specs.declared.unit_cut.Stretch.TheVariants.{Bytes, Zeros}
+use Rattle.tor_plan.specs.steps.UnitCut.{IsStretchAt}
+use Rattle.tor_plan.proofs.PieceSteps.{between_none, from, part_met}
+use Rattle.tor_plan.proofs.UnitJoins.{unit_of, zeros_then, file_then, then_nothing, part_length}
 
 -- parts before the end of a range, where it is known what those after them have more
 module _ (a x y : ℕ) (rest : List Part) (v : PlanUnit) (le : x ≤ y) where
@@ -60,21 +62,9 @@ unit_all a x y unit past le =
     (omega arith) past refl
     ∙ then_nothing (unit_between a x unit)
 
-abbrev pub ranges_of_unit : PlanUnit → Ranges
-ranges_of_unit unit = record {
-  total = unit_length unit;
-  within = λ a b. unit_between a b unit;
-  none = λ a b le. unit_none a b unit le;
-  all = λ a x y past le. unit_all a x y unit past le;
-}
-
-pub units_of_unit : (size : ℕ) (unit : PlanUnit) → range_units size (ranges_of_unit unit) ≡ pieces_of_unit size unit
-unfolding pieces_of_unit
-units_of_unit size unit = refl
-
 -- zeros before all parts
-pub first_zeros : (unit : PlanUnit) → AreZerosAt (ranges_of_unit unit) 0 unit.zeros
-first_zeros unit = λ a i k begun within.
+pub first_zeros : (unit : PlanUnit) → IsStretchAt unit 0 Zeros unit.zeros
+first_zeros unit = λ a i k begun some within.
     let z = unit.zeros in
     let none : (b : ℕ) → b ≤ z → unit_between a b unit ≡ zeros_alone (shared a b 0 z + 0) =
     λ b le. ap (after_zeros (shared a b 0 z)) (between_none a b z unit.parts (omega (arith, le))) in
@@ -99,7 +89,7 @@ module _ (unit : PlanUnit) (i : ℕ) (part : Part) (lt : i < length unit.parts)
   split = sym (take-append-drop i unit.parts)
       ∙ ap (λ ps. before ++ ps) (drop_more unit.parts i part lt ∙ ap (λ p. p ∷ later) (sym is))
 
-  pub bytes_of_part : AreBytesAt (ranges_of_unit unit) at part.file part.start part.length
+  pub bytes_of_part : IsStretchAt unit at (Bytes part.file part.start) part.length
   bytes_of_part = λ a j k begins some within.
       let x = at + j in
       let new : Part = record { file = part.file; start = part.start + j; length = k; zeros = 0 } in
@@ -118,9 +108,9 @@ module _ (unit : PlanUnit) (i : ℕ) (part : Part) (lt : i < length unit.parts)
             (between_none a b (at + part.length + part.zeros) later (omega (arith, le)))
             ∙ ap zeros_alone (let e : shared a b (at + part.length) part.zeros + 0 ≡ 0 = omega (arith, le) in e)
 
-  pub zeros_of_part : AreZerosAt (ranges_of_unit unit) (at + part.length) part.zeros
+  pub zeros_of_part : IsStretchAt unit (at + part.length) Zeros part.zeros
   unfolding parts_between
-  zeros_of_part = λ a j k begun within.
+  zeros_of_part = λ a j k begun some within.
       let x = at + part.length + j in
       let z = part.zeros in
       let end = at + part.length in

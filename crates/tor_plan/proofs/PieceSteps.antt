@@ -1,15 +1,14 @@
 -- Parts of a unit, one after another, and the bytes between two offsets.
 use Rattle.std.proofs.Common.{◌≡◌, ℕ, ◌+◌, ◌-◌, ◌<◌, ◌≤◌, max, List, [], ◌∷◌, refl, arith, ap, ◌∙◌}
-use Rattle.std.proofs.Common.{sym, zero-add}
+use Rattle.std.proofs.Common.{ap₂, cond, ltb, sum_by, sym, zero-add}
+use Rattle.std.proofs.lemmas.List.Sums.{sum_by-cons}
 use Rattle.std.proofs.lemmas.Bool.{lt-ltb, le-ltb, cond-true, cond-false}
 use Rattle.tor_plan.specs.Entries.{after_part, after_zeros, empty_unit, shared}
 use Rattle.tor_plan.specs.Pieces.{parts_between, unit_between}
+use Rattle.tor_plan.specs.WithinEntries.{unit_length}
 use Rattle.tor_plan.specs.declared.units.Part.{Part}
 use Rattle.tor_plan.specs.declared.units.PlanUnit.{PlanUnit}
-use Rattle.tor_plan.proofs.UnitJoins.{unit_of, zeros_alone}
-
-abbrev pub part_length : Part → ℕ
-part_length part = part.length + part.zeros
+use Rattle.tor_plan.proofs.UnitJoins.{file_then, joined, part_length, parts_then, unit_of, zeros_alone, zeros_then}
 
 -- the bytes from a to b of a unit that begins at byte at
 abbrev pub from : ℕ → ℕ → ℕ → PlanUnit → PlanUnit
@@ -52,3 +51,46 @@ between_none a b at (part ∷ parts) le =
     ∙ ap (after_zeros (shared a b (at + part.length) part.zeros))
     (between_none a b (at + part.length + part.zeros) parts (omega (arith, le)))
     ∙ ap zeros_alone (let e : shared a b (at + part.length) part.zeros + 0 ≡ 0 = omega (arith, le) in e)
+
+-- zeros before a unit, and a unit after another
+module _ (a b : ℕ) where
+  pub from_zeros : (at n : ℕ) (unit : PlanUnit)
+      → from a b at (after_zeros n unit) ≡ after_zeros (shared a b at n) (from a b (at + n) unit)
+  from_zeros at n unit =
+      ap₂ (λ k i. after_zeros k (parts_between a b i unit.parts)) (shared-add a b at n unit.zeros)
+      (let e : at + (n + unit.zeros) ≡ at + n + unit.zeros = omega arith in e)
+      ∙ zeros_twice (shared a b at n) (shared a b (at + n) unit.zeros)
+      (parts_between a b (at + n + unit.zeros) unit.parts)
+
+  from_parts : (at : ℕ) (ps : List Part) (v : PlanUnit) → from a b at (parts_then ps v)
+      ≡ joined (parts_between a b at ps) (from a b (at + sum_by part_length ps) v)
+  unfolding parts_between
+  from_parts at [] v =
+      ap (λ i. from a b i v) (let e : at ≡ at + 0 = omega arith in e) ∙ sym (no_zeros 0 (from a b (at + 0) v) refl)
+  from_parts at (p ∷ ps) v =
+      let later = after_zeros p.zeros (parts_then ps v) in
+      let next = at + p.length + p.zeros in
+      let rest = from a b (next + sum_by part_length ps) v in
+      let n = shared a b at p.length in
+      let start = p.start + (max a at - at) in
+      let part : Part = record { file = p.file; start = p.start; length = p.length; zeros = later.zeros } in
+      no_zeros (shared a b at 0) (parts_between a b (at + 0) (part ∷ later.parts)) (omega arith)
+      ∙ ap (λ i. parts_between a b i (part ∷ later.parts)) (let e : at + 0 ≡ at = omega arith in e)
+      ∙ ap (λ u. cond (ltb 0 n) (after_part p.file start n u) u)
+      (from_zeros (at + p.length) p.zeros (parts_then ps v)
+      ∙ ap (after_zeros (shared a b (at + p.length) p.zeros)) (from_parts next ps v)
+      ∙ sym (zeros_then (shared a b (at + p.length) p.zeros) (parts_between a b next ps) rest))
+      ∙ sym (file_then (ltb 0 n) p.file start n
+      (after_zeros (shared a b (at + p.length) p.zeros) (parts_between a b next ps)) rest)
+      ∙ ap (λ i. joined (parts_between a b at (p ∷ ps)) (from a b i v))
+      (let e : next + sum_by part_length ps ≡ at + sum_by part_length (p ∷ ps) =
+      omega (arith, sum_by-cons part_length p ps) in e)
+
+  pub between_joined : (u v : PlanUnit)
+      → unit_between a b (joined u v) ≡ joined (unit_between a b u) (from a b (unit_length u) v)
+  between_joined u v =
+      from_first a b (joined u v) ∙ from_zeros 0 u.zeros (parts_then u.parts v)
+      ∙ ap (after_zeros (shared a b 0 u.zeros)) (from_parts (0 + u.zeros) u.parts v)
+      ∙ sym (zeros_then (shared a b 0 u.zeros) (parts_between a b (0 + u.zeros) u.parts) _)
+      ∙ ap₂ (λ w i. joined w (from a b i v)) (sym (from_first a b u))
+      (let e : 0 + u.zeros + sum_by part_length u.parts ≡ unit_length u = omega arith in e)

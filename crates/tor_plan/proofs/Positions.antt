@@ -1,25 +1,30 @@
 -- The positions that units name, which are those of the files: file by file, byte by byte.
 use Rattle.std.proofs.Common.{◌≡◌, ℕ, zero, suc, ◌+◌, ◌-◌, ◌*◌, ◌<◌, ◌≤◌, min, max, inl, inr, List, [], ◌∷◌, ◌++◌, map}
-use Rattle.std.proofs.Common.{arith, refl, ap, ap₂, ◌∙◌, sym, append_assoc, append-nil}
+use Rattle.std.proofs.Common.{sum_by, arith, refl, ap, ap₂, ◌∙◌, sym, append_assoc, append-nil}
 use Rattle.std.proofs.lemmas.Bool.{cases_lt}
-use Rattle.std.proofs.lemmas.Grind.{div_ceil_times}
-use Rattle.std.proofs.lemmas.List.Concat.{flat_map-append}
 use Rattle.std.proofs.lemmas.List.FromFn.{map-range_with_len_more}
+use Rattle.std.proofs.lemmas.List.Concat.{flat_map-append}
 use Rattle.std.proofs.lemmas.List.Sums.{sum_by-cons}
 use Rattle.std.specs.Int.{div_ceil}
 use Rattle.std.specs.List.{flat_map, range_with_len}
 use Rattle.tor_tree.specs.declared.kinds.Kind.{Kind}
 use Rattle.tor_tree.specs.declared.kinds.Kind.TheVariants.{V1, V2, Hybrid}
 use Rattle.tor_v1.specs.declared.entry.Entry.{Entry}
-use Rattle.tor_plan.specs.Entries.{entries_length, entry_units, joined_entry_unit, joined_entry_units}
-use Rattle.tor_plan.specs.Entries.{lengths_of_entries, padding_before_next, separate_entry_units, shared, unit_within}
+use Rattle.tor_plan.specs.Entries.{entry_units, lengths_of_entries, shared}
+use Rattle.tor_plan.specs.Pieces.{parts_between, piece_of_unit, pieces_of_unit, unit_between}
 use Rattle.tor_plan.specs.Positions.{positions, positions_of_files, positions_of_unit}
 use Rattle.tor_plan.specs.Units.{file_unit, units_of_file}
-use Rattle.tor_plan.proofs.EntrySteps.{padding, file, entry_cases, met, not_met}
-use Rattle.tor_plan.proofs.Within.{within_none}
-
-abbrev entry_length : Entry → ℕ
-entry_length entry = entry.length
+use Rattle.tor_plan.specs.WithinEntries.{unit_length}
+use Rattle.tor_plan.specs.declared.units.Part.{Part}
+use Rattle.tor_plan.specs.declared.units.PlanUnit.{PlanUnit}
+use Rattle.tor_plan.specs.steps.Joined.{part_alone}
+use Rattle.tor_plan.specs.steps.Whole.{separate_parts, whole_from, whole_unit}
+use Rattle.tor_plan.proofs.FileUnits.{file_pieces}
+use Rattle.tor_plan.proofs.PieceCut.{unit_all, unit_none}
+use Rattle.tor_plan.proofs.PieceSteps.{between_none, part_met, part_not_met}
+use Rattle.tor_plan.proofs.Runs.{runs_are}
+use Rattle.tor_plan.proofs.UnitJoins.{part_length}
+use Rattle.tor_plan.proofs.WholeUnits.{by_whole, parts_of_whole, pieces_of_whole}
 
 no_positions : (index start n : ℕ) → n ≡ 0 → positions index start n ≡ []
 no_positions index start n none = ap (positions index start) none
@@ -39,142 +44,141 @@ positions-add index s n (suc k) t is =
     ∙ sym (map-range_with_len_more at s (n + k) (s + (n + k)) refl)
     ∙ ap (positions index s) (let e : n + k + 1 ≡ n + suc k = omega arith in e)
 
--- ---- joined entries
+-- ---- the pieces of a unit
 
-abbrev met_positions : ℕ → ℕ → ℕ → ℕ → List Entry → List (ℕ × ℕ)
-met_positions a b index at entries = positions_of_unit (unit_within a b index at entries)
+abbrev met_positions : ℕ → ℕ → ℕ → List Part → List (ℕ × ℕ)
+met_positions a b at parts = positions_of_unit (parts_between a b at parts)
 
-file_positions : (a b index at : ℕ) (path : List (List ℕ)) (m : ℕ) (entries : List Entry)
-    → met_positions a b index at (file path m ∷ entries)
-    ≡ positions index (max a at - at) (shared a b at m) ++ met_positions a b (index + 1) (at + m) entries
-file_positions a b index at path m entries =
-    let others = met_positions a b (index + 1) (at + m) entries in
-    elim (cases_lt 0 (shared a b at m)) [
-      | inl some ↦ ap positions_of_unit (met a b index at path m entries some)
-      | inr few ↦ ap positions_of_unit (not_met a b index at path m entries few)
-          ∙ ap (λ xs. xs ++ others) (sym (no_positions index (max a at - at) (shared a b at m) (omega (arith, few))))
+part_positions : (a b at : ℕ) (part : Part) (parts : List Part) → met_positions a b at (part ∷ parts)
+    ≡ positions part.file (part.start + (max a at - at)) (shared a b at part.length)
+    ++ met_positions a b (at + part.length + part.zeros) parts
+part_positions a b at part parts =
+    let others = met_positions a b (at + part.length + part.zeros) parts in
+    let start = part.start + (max a at - at) in
+    elim (cases_lt 0 (shared a b at part.length)) [
+      | inl some ↦ ap positions_of_unit (part_met a b at part parts some)
+      | inr few ↦ ap positions_of_unit (part_not_met a b at part parts few)
+          ∙ ap (λ xs. xs ++ others)
+          (sym (no_positions part.file start (shared a b at part.length) (omega (arith, few))))
     ]
 
 -- two ranges of which one ends where the other begins
-split_range : (a b c index at : ℕ) (entries : List Entry) → a ≤ b → b ≤ c
-    → met_positions a b index at entries ++ met_positions b c index at entries ≡ met_positions a c index at entries
-unfolding unit_within
-split_range a b c index at [] le more = refl
-split_range a b c index at (entry ∷ entries) le more = entry_cases
-    (λ e. met_positions a b index at (e ∷ entries) ++ met_positions b c index at (e ∷ entries)
-    ≡ met_positions a c index at (e ∷ entries))
-    (λ path m. split_range a b c index (at + m) entries le more)
-    (λ path m.
-    let rest = split_range a b c (index + 1) (at + m) entries le more in
-    let one = positions index (max a at - at) (shared a b at m) in
-    let other = positions index (max b at - at) (shared b c at m) in
-    let ones = met_positions a b (index + 1) (at + m) entries in
-    let others = met_positions b c (index + 1) (at + m) entries in
-    ap₂ (λ xs ys. xs ++ ys) (file_positions a b index at path m entries) (file_positions b c index at path m entries)
+split_range : (a b c at : ℕ) (parts : List Part) → a ≤ b → b ≤ c
+    → met_positions a b at parts ++ met_positions b c at parts ≡ met_positions a c at parts
+unfolding parts_between
+split_range a b c at [] le more = refl
+split_range a b c at (part ∷ parts) le more =
+    let m = part.length in
+    let next = at + m + part.zeros in
+    let rest = split_range a b c next parts le more in
+    let start = part.start + (max a at - at) in
+    let later = part.start + (max b at - at) in
+    let one = positions part.file start (shared a b at m) in
+    let other = positions part.file later (shared b c at m) in
+    let ones = met_positions a b next parts in
+    let others = met_positions b c next parts in
+    ap₂ (λ xs ys. xs ++ ys) (part_positions a b at part parts) (part_positions b c at part parts)
     ∙ elim (cases_lt b (at + m)) [
       | inl beyond ↦
           let none : ones ≡ [] =
-          ap positions_of_unit (within_none a b (index + 1) (at + m) entries (omega (arith, beyond))) in
+          ap positions_of_unit (between_none a b next parts (omega (arith, beyond))) in
           ap (λ xs. (one ++ xs) ++ (other ++ others)) none
           ∙ ap (λ xs. xs ++ (other ++ others)) (append-nil one) ∙ sym (append_assoc one other others)
           ∙ ap₂ (λ xs ys. xs ++ ys)
-          (positions-add index (max a at - at) (shared a b at m) (shared b c at m) (max b at - at)
-          (omega (arith, le, beyond))
-          ∙ ap (positions index (max a at - at))
+          (positions-add part.file start (shared a b at m) (shared b c at m) later (omega (arith, le, beyond))
+          ∙ ap (positions part.file start)
           (let e : shared a b at m + shared b c at m ≡ shared a c at m = omega (arith, le, more, beyond) in e))
           (sym (ap (λ xs. xs ++ others) none) ∙ rest)
       | inr past ↦
-          let none : other ≡ [] = no_positions index (max b at - at) (shared b c at m) (omega (arith, past)) in
+          let none : other ≡ [] = no_positions part.file later (shared b c at m) (omega (arith, past)) in
           ap (λ xs. (one ++ ones) ++ (xs ++ others)) none ∙ append_assoc one ones others
-          ∙ ap₂ (λ n xs. positions index (max a at - at) n ++ xs)
+          ∙ ap₂ (λ n xs. positions part.file start n ++ xs)
           (let e : shared a b at m ≡ shared a c at m = omega (arith, past, more) in e) rest
     ]
-    ∙ sym (file_positions a c index at path m entries)) entry
+    ∙ sym (part_positions a c at part parts)
 
--- the units before one of them
-first_units : (size : ℕ) (entries : List Entry) (n : ℕ)
-    → flat_map positions_of_unit (map (joined_entry_unit size entries) (range_with_len 0 n))
-    ≡ met_positions 0 (n * size) 0 0 entries
-first_units size entries zero = sym (ap positions_of_unit (within_none 0 (0 * size) 0 0 entries (omega arith)))
-first_units size entries (suc n) =
-    let unit = joined_entry_unit size entries in
-    let next : n * size ≤ (n + 1) * size = omega arith in
-    ap (λ k. flat_map positions_of_unit (map unit (range_with_len 0 k))) (let e : suc n ≡ n + 1 = omega arith in e)
-    ∙ ap (flat_map positions_of_unit) (map-range_with_len_more unit 0 n n (omega arith))
-    ∙ flat_map-append positions_of_unit (map unit (range_with_len 0 n)) (unit n ∷ [])
-    ∙ ap₂ (λ xs ys. xs ++ ys) (first_units size entries n) (append-nil (positions_of_unit (unit n)))
-    ∙ split_range 0 (n * size) ((n + 1) * size) 0 0 entries (omega arith) next
-    ∙ ap (λ b. met_positions 0 b 0 0 entries) (let e : (n + 1) * size ≡ suc n * size = omega arith in e)
-
--- a range that has all entries
-whole_range : (a b index at : ℕ) (entries : List Entry) → a ≤ at → at + entries_length entries ≤ b
-    → met_positions a b index at entries ≡ positions_of_files index (lengths_of_entries entries)
-unfolding unit_within positions_of_files
-whole_range a b index at [] from to = refl
-whole_range a b index at (entry ∷ entries) from to = entry_cases
-    (λ e. at + entries_length (e ∷ entries) ≤ b
-    → met_positions a b index at (e ∷ entries) ≡ positions_of_files index (lengths_of_entries (e ∷ entries)))
-    (λ path m within. whole_range a b index (at + m) entries (omega (arith, from))
-    (omega (arith, within, sum_by-cons entry_length (padding path m) entries)))
-    (λ path m within.
-    let long = sum_by-cons entry_length (file path m) entries in
-    file_positions a b index at path m entries
-    ∙ ap₂ (λ xs ys. xs ++ ys) (ap₂ (positions index) (let e : max a at - at ≡ 0 = omega (arith, from) in e)
-    (let e : shared a b at m ≡ m = omega (arith, from, within, long) in e))
-    (whole_range a b (index + 1) (at + m) entries (omega (arith, from)) (omega (arith, within, long)))) entry to
-
-joined_positions : (size : ℕ) (entries : List Entry) → 0 < size
-    → flat_map positions_of_unit (joined_entry_units size entries) ≡ positions_of_files 0 (lengths_of_entries entries)
-unfolding joined_entry_units
-joined_positions size entries pos =
-    let n = div_ceil (entries_length entries) size in
-    first_units size entries n
-    ∙ whole_range 0 (n * size) 0 0 entries (omega arith)
-    (omega (arith, div_ceil_times (entries_length entries) size pos))
-
--- ---- files cut each by itself
-
-units_before : (size index m tail n : ℕ)
-    → flat_map positions_of_unit (map (file_unit size index m tail) (range_with_len 0 n))
-    ≡ positions index 0 (min m (n * size))
-units_before size index m tail zero = sym (no_positions index 0 (min m (0 * size)) (omega arith))
-units_before size index m tail (suc n) =
-    let unit = file_unit size index m tail in
-    let old = min m (n * size) in
-    let more = min (m - n * size) size in
-    ap (λ k. flat_map positions_of_unit (map unit (range_with_len 0 k))) (let e : suc n ≡ n + 1 = omega arith in e)
-    ∙ ap (flat_map positions_of_unit) (map-range_with_len_more unit 0 n n (omega arith))
-    ∙ flat_map-append positions_of_unit (map unit (range_with_len 0 n)) (unit n ∷ [])
-    ∙ ap₂ (λ xs ys. xs ++ ys) (units_before size index m tail n)
-    (append-nil (positions_of_unit (unit n)) ∙ append-nil (positions index (n * size) more))
-    ∙ elim (cases_lt (n * size) m) [
-      | inl less ↦ positions-add index 0 old more (n * size) (omega (arith, less))
-      | inr all ↦ ap (λ xs. positions index 0 old ++ xs) (no_positions index (n * size) more (omega (arith, all)))
-          ∙ append-nil (positions index 0 old)
-          ∙ ap (positions index 0) (let e : old ≡ old + more = omega (arith, all) in e)
-    ]
-    ∙ ap (positions index 0) (let e : old + more ≡ min m (suc n * size) = omega arith in e)
-
-separate_positions : (size index : ℕ) (entries : List Entry) → 0 < size
-    → flat_map positions_of_unit (separate_entry_units size index entries)
-    ≡ positions_of_files index (lengths_of_entries entries)
-unfolding separate_entry_units positions_of_files
-separate_positions size index [] pos = refl
-separate_positions size index (entry ∷ entries) pos = entry_cases
-    (λ e. flat_map positions_of_unit (separate_entry_units size index (e ∷ entries))
-    ≡ positions_of_files index (lengths_of_entries (e ∷ entries)))
-    (λ path m. separate_positions size index entries pos)
-    (λ path m.
-    let tail = padding_before_next entries in
-    let n = div_ceil m size in
-    flat_map-append positions_of_unit (units_of_file size index m tail) (separate_entry_units size (index + 1) entries)
+-- a range that has all parts
+whole_range : (a b at : ℕ) (parts : List Part) → a ≤ at → at + sum_by part_length parts ≤ b
+    → met_positions a b at parts ≡ flat_map (λ part. positions part.file part.start part.length) parts
+unfolding parts_between
+whole_range a b at [] from to = refl
+whole_range a b at (part ∷ parts) from to =
+    let long = sum_by-cons part_length part parts in
+    part_positions a b at part parts
     ∙ ap₂ (λ xs ys. xs ++ ys)
-    (units_before size index m tail n
-    ∙ ap (positions index 0) (let e : min m (n * size) ≡ m = omega (arith, div_ceil_times m size pos) in e))
-    (separate_positions size (index + 1) entries pos)) entry
+    (ap₂ (positions part.file) (let e : part.start + (max a at - at) ≡ part.start = omega (arith, from) in e)
+    (let e : shared a b at part.length ≡ part.length = omega (arith, from, to, long) in e))
+    (whole_range a b (at + part.length + part.zeros) parts (omega (arith, from)) (omega (arith, to, long)))
 
-pub positions_of_entry_units : (kind : Kind) (p span : ℕ) (entries : List Entry) → 0 < span * p
+positions_of_pieces : (size : ℕ) → 0 < size → (unit : PlanUnit)
+    → flat_map positions_of_unit (pieces_of_unit size unit) ≡ positions_of_unit unit
+unfolding pieces_of_unit
+positions_of_pieces size pos unit =
+    let n = unit_length unit in
+    runs_are positions_of_unit (piece_of_unit size unit) (λ x. positions_of_unit (unit_between 0 x unit)) n size pos
+    (λ k less.
+    split_range 0 (k * size) ((k + 1) * size) unit.zeros unit.parts (omega arith)
+    (let e : k * size ≤ (k + 1) * size = omega arith in e)
+    ∙ elim (cases_lt n ((k + 1) * size)) [
+      | inl past ↦ ap positions_of_unit (unit_all 0 n ((k + 1) * size) unit (omega arith) (omega (arith, past)))
+          ∙ ap (λ x. positions_of_unit (unit_between 0 x unit))
+          (let e : n ≡ min n ((k + 1) * size) = omega (arith, past) in e)
+      | inr within ↦ ap (λ x. positions_of_unit (unit_between 0 x unit))
+          (let e : (k + 1) * size ≡ min n ((k + 1) * size) = omega (arith, within) in e)
+    ]) (ap positions_of_unit (unit_none 0 0 unit (omega arith)))
+    ∙ whole_range 0 n unit.zeros unit.parts (omega arith) (omega arith)
+
+-- ---- those of entries
+
+joined_positions : (index : ℕ) (entries : List Entry)
+    → positions_of_unit (whole_from index entries) ≡ positions_of_files index (lengths_of_entries entries)
+unfolding positions_of_files
+joined_positions = by_whole
+    (λ index entries unit. positions_of_unit unit ≡ positions_of_files index (lengths_of_entries entries))
+    (λ index. refl) (λ index path m entries unit rest. rest)
+    (λ index path m entries unit some rest. ap (λ xs. positions index 0 m ++ xs) rest)
+    (λ index path m entries unit few rest.
+    rest ∙ ap (λ xs. xs ++ positions_of_files (index + 1) (lengths_of_entries entries))
+    (sym (no_positions index 0 m (omega (arith, few)))))
+
+-- the zeros after a file are at no position
+no_zeros_there : (size index m tail : ℕ) (ks : List ℕ)
+    → flat_map positions_of_unit (map (file_unit size index m tail) ks)
+    ≡ flat_map positions_of_unit (map (file_unit size index m 0) ks)
+no_zeros_there size index m tail [] = refl
+no_zeros_there size index m tail (k ∷ ks) =
+    ap (λ xs. positions_of_unit (file_unit size index m 0 k) ++ xs) (no_zeros_there size index m tail ks)
+
+file_positions : (size index m tail : ℕ) → 0 < size → 0 < m
+    → flat_map positions_of_unit (units_of_file size index m tail) ≡ positions index 0 m
+file_positions size index m tail pos some =
+    no_zeros_there size index m tail (range_with_len 0 (div_ceil m size))
+    ∙ ap (flat_map positions_of_unit) (sym (file_pieces size pos index m 0 (λ q le. omega (arith, le)) some))
+    ∙ positions_of_pieces size pos (part_alone (record { file = index; start = 0; length = m; zeros = 0 }))
+    ∙ append-nil (positions index 0 m)
+
+separate_positions : (size : ℕ) → 0 < size → (index : ℕ) (entries : List Entry)
+    → flat_map positions_of_unit (separate_parts size (whole_from index entries).parts)
+    ≡ positions_of_files index (lengths_of_entries entries)
+unfolding positions_of_files
+separate_positions size pos = by_whole
+    (λ index entries unit. flat_map positions_of_unit (separate_parts size unit.parts)
+    ≡ positions_of_files index (lengths_of_entries entries)) (λ index. refl) (λ index path m entries unit rest. rest)
+    (λ index path m entries unit some rest.
+    flat_map-append positions_of_unit (units_of_file size index m unit.zeros) (separate_parts size unit.parts)
+    ∙ ap₂ (λ xs ys. xs ++ ys) (file_positions size index m unit.zeros pos some) rest)
+    (λ index path m entries unit few rest.
+    rest ∙ ap (λ xs. xs ++ positions_of_files (index + 1) (lengths_of_entries entries))
+    (sym (no_positions index 0 m (omega (arith, few)))))
+
+pub entry_units_name_each_byte : (kind : Kind) (p span : ℕ) (entries : List Entry) → 0 < span * p
     → flat_map positions_of_unit (entry_units kind p span entries) ≡ positions_of_files 0 (lengths_of_entries entries)
-positions_of_entry_units V1 p span entries pos = joined_positions (span * p) entries pos
-positions_of_entry_units V2 p span entries pos = separate_positions (span * p) 0 entries pos
-positions_of_entry_units Hybrid p span entries pos = separate_positions (span * p) 0 entries pos
+entry_units_name_each_byte V1 p span entries pos =
+    ap (flat_map positions_of_unit) (sym (pieces_of_whole (span * p) entries))
+    ∙ positions_of_pieces (span * p) pos (whole_unit entries) ∙ joined_positions 0 entries
+entry_units_name_each_byte V2 p span entries pos =
+    ap (flat_map positions_of_unit) (sym (parts_of_whole (span * p) entries pos))
+    ∙ separate_positions (span * p) pos 0 entries
+entry_units_name_each_byte Hybrid p span entries pos =
+    ap (flat_map positions_of_unit) (sym (parts_of_whole (span * p) entries pos))
+    ∙ separate_positions (span * p) pos 0 entries

@@ -1,9 +1,8 @@
 -- How many runs of p there are in n, the last perhaps shorter.
-use Rattle.std.proofs.Common.{◌≡◌, ℕ, ◌+◌, ◌*◌, ◌<◌, ◌≤◌, List, [], ◌∷◌, map, arith, refl, ap₂, ap}
+use Rattle.std.proofs.Common.{◌≡◌, ℕ, ◌+◌, ◌*◌, ◌<◌, ◌≤◌, List, [], ◌∷◌, map, arith, refl, ap₂}
 use Rattle.std.proofs.Common.{lt_of_mul-lt-mul_right}
 use Rattle.std.proofs.lemmas.Grind.{div_ceil_times}
 use Rattle.std.specs.Int.{div_ceil}
-use Rattle.std.specs.List.{flat_map, range_with_len}
 
 -- two numbers of runs that both cover n with less than one run too much
 one_count : (n p q k : ℕ) → n ≤ q * p → q * p < n + p → n ≤ k * p → k * p < n + p → q ≡ k
@@ -17,12 +16,6 @@ pub ceil_is : (n p k : ℕ) → n ≤ k * p → k * p < n + p → div_ceil n p �
 ceil_is n p k low high =
     let bounds = div_ceil_times n p (omega arith) in
     one_count n p (div_ceil n p) k bounds.0 bounds.1 low high
-
--- no run of nothing
-pub none_of_range : {X : Type 0} (g : ℕ → X) (f : X → List ℕ) (n p : ℕ) → 0 < p → n ≡ 0
-    → flat_map f (map g (range_with_len 0 (div_ceil n p))) ≡ []
-none_of_range g f n p pos none =
-    ap (λ k. flat_map f (map g (range_with_len 0 k))) (ceil_is n p 0 (omega (arith, none)) (omega (arith, none)))
 
 pub map_same : {X : Type 0} (f g : ℕ → X) → ((k : ℕ) → f k ≡ g k) → (ks : List ℕ) → map f ks ≡ map g ks
 map_same f g same [] = refl

@@ -2,7 +2,7 @@
 use Rattle.std.proofs.Common.{◌≡◌, ℕ, zero, suc, ◌+◌, ◌-◌, ◌*◌, ◌%◌, ◌/◌, ◌^◌, ◌<◌, ◌≤◌, Bool, true, false, ltb, List}
 use Rattle.std.proofs.Common.{[]}
 use Rattle.std.proofs.Common.{◌∷◌, Option, Some, None, IsTrue, cond, sum, sum_by, arith, refl, ap, ◌∙◌, sym, subst}
-use Rattle.std.proofs.Common.{◌⊎◌, inl, inr, mul-le-mul_right, lt_of_mul-lt-mul_right, pow-suc}
+use Rattle.std.proofs.Common.{◌⊎◌, inl, inr, mul-le-mul_right, lt_of_mul-lt-mul_right, pow-suc, mul-pos}
 use Rattle.std.proofs.lemmas.Bool.{ltb-false, or_parts, eqb-true, cases_eq, cases_lt}
 use Rattle.std.proofs.Math.Pow.{pow-lt}
 use Rattle.std.proofs.lemmas.Grind.{div_ceil_times}
@@ -18,13 +18,15 @@ use Rattle.tor_tree.specs.declared.kinds.Kind.{Kind}
 use Rattle.tor_tree.specs.declared.kinds.Kind.TheVariants.{V1, V2, Hybrid}
 use Rattle.tor_tree.specs.declared.lists.ListError.{ListError}
 use Rattle.tor_tree.specs.declared.lists.ListError.TheVariants.{TooLarge}
-use Rattle.tor_tree.specs.declared.lists.TheConstants.{MAX_LENGTH, MAX_TOTAL, ROUNDING}
+use Rattle.tor_merkle.specs.declared.TheConstants.{MAX_LENGTH}
+use Rattle.tor_tree.specs.declared.lists.TheConstants.{MAX_TOTAL, ROUNDING}
 use Rattle.tor_v1.specs.Entries.{padding_length}
+use Rattle.tor_v1.specs.Piece.{IsV1PieceLength}
 use Rattle.tor_v1.specs.declared.entry.Entry.{Entry}
 use Rattle.tor_plan.specs.Entries.{entries_length, lengths_of_entries}
-use Rattle.tor_plan.specs.PlanFacts.{IsPlanPieceLength}
+use Rattle.tor_plan.specs.PlanFacts.{IsPlanPieceLength, IsSpan}
 use Rattle.tor_plan.proofs.EntrySteps.{padding, file, entry_cases}
-use Rattle.tor_plan.proofs.SeparateContent.{whole_with_padding}
+use Rattle.tor_plan.proofs.Padding.{whole_with_padding}
 use lib.Count.{ones_step}
 
 -- ---- the files of a list
@@ -127,3 +129,14 @@ piece_of_trees Hybrid piece_length is pieces = pieces.1
 
 pub whole_blocks : (span piece_length : ℕ) → 1 ≤ span → 16384 ≤ piece_length → 16384 ≤ span * piece_length
 whole_blocks span piece_length some le = omega (arith, mul-le-mul_right {m = 1} {n = span} piece_length some)
+
+-- a piece is not empty, and no unit
+pub v1_piece : (kind : Kind) (piece_length : ℕ) → IsPlanPieceLength kind piece_length → IsV1PieceLength piece_length
+v1_piece V1 piece_length pieces = pieces
+v1_piece V2 piece_length pieces = (omega (arith, pieces.1), pieces.2)
+v1_piece Hybrid piece_length pieces = (omega (arith, pieces.1), pieces.2)
+
+pub some_bytes : (kind : Kind) (piece_length span : ℕ) → IsSpan span → IsPlanPieceLength kind piece_length
+    → 0 < span * piece_length
+some_bytes kind piece_length span is_span pieces =
+    mul-pos (omega (arith, is_span.1)) (v1_piece kind piece_length pieces).0

@@ -1,7 +1,10 @@
 -- A unit, and then another.
-use Rattle.std.proofs.Common.{◌≡◌, ℕ, ◌+◌, Bool, true, false, cond, List, [], ◌∷◌, ◌++◌, arith, refl, ap, ◌∙◌}
-use Rattle.std.proofs.Common.{append-nil}
+use Rattle.std.proofs.Common.{◌≡◌, ℕ, ◌+◌, ◌-◌, ◌<◌, Bool, true, false, cond, List, [], ◌∷◌, ◌++◌, length, get_or}
+use Rattle.std.proofs.Common.{set, sum_by, take, arith, refl, ap, ap₂, ◌∙◌, sym, append-nil, zero-add}
+use Rattle.std.proofs.lemmas.List.{take-append-drop, set_at, drop_more, drop_all, length-take-le}
+use Rattle.std.proofs.lemmas.List.Sums.{sum_by-cons}
 use Rattle.tor_plan.specs.Entries.{after_part, after_zeros, empty_unit}
+use Rattle.tor_plan.specs.WithinEntries.{unit_length}
 use Rattle.tor_plan.specs.declared.units.Part.{Part}
 use Rattle.tor_plan.specs.declared.units.PlanUnit.{PlanUnit}
 pub use Rattle.tor_plan.specs.steps.Joined.{joined, parts_then, part_alone, zeros_alone}
@@ -35,7 +38,7 @@ same_part part n parts is =
     ap (λ k. unit_of 0 (record { file = part.file; start = part.start; length = part.length; zeros = k } ∷ parts)) is
 
 -- parts before others, and before zeros that come after the last of them
-parts_first : (ps qs : List Part) → parts_then ps (unit_of 0 qs) ≡ unit_of 0 (ps ++ qs)
+pub parts_first : (ps qs : List Part) → parts_then ps (unit_of 0 qs) ≡ unit_of 0 (ps ++ qs)
 parts_first [] qs = refl
 parts_first (p ∷ ps) qs =
     ap (λ u. after_part p.file p.start p.length (after_zeros p.zeros u)) (parts_first ps qs)
@@ -66,3 +69,48 @@ pub then_nothing : (u : PlanUnit) → joined u empty_unit ≡ u
 then_nothing u =
     ap (after_zeros u.zeros) (parts_first u.parts []) ∙ same_zeros u.zeros (u.zeros + 0) (u.parts ++ []) (omega arith)
     ∙ ap (unit_of u.zeros) (append-nil u.parts)
+
+-- zeros after the last part
+pub after_last : (z n len : ℕ) (ps : List Part) (last : Part) → len ≡ length ps → 0 < len
+    → last ≡ get_or ps (len - 1) last
+    → unit_of z (set ps (len - 1) (with_zeros last n)) ≡ joined (unit_of z ps) (zeros_alone n)
+after_last z n len ps last long some is =
+    let k = len - 1 in
+    let front = take k ps in
+    let split : ps ≡ front ++ last ∷ [] =
+    sym (take-append-drop k ps) ∙ ap (λ xs. front ++ xs) (drop_more ps k last (omega arith)
+    ∙ ap₂ (λ p xs. p ∷ xs) (sym is) (drop_all (k + 1) ps (omega arith))) in
+    ap (λ xs. unit_of z (set xs k (with_zeros last n))) split
+    ∙ ap (unit_of z) (set_at front last [] (with_zeros last n) k (length-take-le k ps (omega arith)))
+    ∙ sym (then_zeros z n front last)
+    ∙ ap (λ xs. joined (unit_of z xs) (zeros_alone n)) (sym split)
+
+-- ---- three units
+
+joined_parts : (ps : List Part) (v w : PlanUnit) → joined (parts_then ps v) w ≡ parts_then ps (joined v w)
+joined_parts [] v w = refl
+joined_parts (p ∷ ps) v w =
+    ap (after_part p.file p.start p.length)
+    (zeros_then p.zeros (parts_then ps v) w ∙ ap (after_zeros p.zeros) (joined_parts ps v w))
+
+pub joined_twice : (u v w : PlanUnit) → joined (joined u v) w ≡ joined u (joined v w)
+joined_twice u v w = zeros_then u.zeros (parts_then u.parts v) w ∙ ap (after_zeros u.zeros) (joined_parts u.parts v w)
+
+abbrev pub part_length : Part → ℕ
+part_length part = part.length + part.zeros
+
+length_parts : (ps : List Part) (v : PlanUnit)
+    → unit_length (parts_then ps v) ≡ sum_by part_length ps + unit_length v
+length_parts [] v = sym (zero-add (unit_length v))
+length_parts (p ∷ ps) v =
+    let later = after_zeros p.zeros (parts_then ps v) in
+    omega (
+      arith,
+      length_parts ps v,
+      sum_by-cons part_length p ps,
+      sum_by-cons part_length
+          (record { file = p.file; start = p.start; length = p.length; zeros = later.zeros }) later.parts,
+    )
+
+pub joined_length : (u v : PlanUnit) → unit_length (joined u v) ≡ unit_length u + unit_length v
+joined_length u v = omega (arith, length_parts u.parts v)

@@ -1,1 +1,3 @@
 pub mod Joined
+pub mod Whole
+pub mod UnitCut

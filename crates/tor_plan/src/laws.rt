@@ -14,7 +14,7 @@ ghost use Rattle.tor_plan.specs.WithinFiles.{bytes_of, IsFileUnit, IsUnitOf};
 ghost use Rattle.tor_plan.specs.declared.units.PlanUnit.{PlanUnit};
 ghost use Rattle.tor_tree.specs.FileList.{lengths_of};
 ghost use Rattle.tor_tree.specs.declared.kinds.Kind.{Kind};
-ghost use Rattle.tor_tree.specs.declared.kinds.Kind.TheVariants.{V1, V2};
+ghost use Rattle.tor_tree.specs.declared.kinds.Kind.TheVariants.{V1, V2, Hybrid};
 ghost use Rattle.tor_v1.specs.Content.{AreContentsOf, joined_content};
 ghost use Rattle.tor_v1.specs.Entries.{v1_entries};
 ghost use Rattle.tor_v1.specs.Piece.{piece_sums};
@@ -40,23 +40,6 @@ pub fn joined_units_are_whole()
     ensures { (piece_length span : ℕ) (files : List (List (List ℕ) × ℕ)) (k : ℕ) (unit : PlanUnit) →
         0 < span * piece_length → k + 1 < length (hash_units V1 piece_length span files) →
         bytes_of (slice_index_or (hash_units V1 piece_length span files) k unit) ≡ span * piece_length }
-{}
-
-/// In the other kinds each unit but the last of a file has `span` pieces of that file, and nothing else.
-pub fn separate_units_are_whole()
-    ensures { (kind : Kind) (piece_length span : ℕ) (files : List (List (List ℕ) × ℕ)) → kind ≢ V1 →
-        0 < span * piece_length →
-        All (IsFileUnit (lengths_of files) (span * piece_length)) (hash_units kind piece_length span files) }
-{}
-
-/// In version 1 and in a hybrid torrent no piece is in two units: the SHA-1 of the pieces of the whole content are
-/// those of the pieces of each unit, joined.
-pub fn pieces_are_in_units()
-    ensures { (kind : Kind) (piece_length span : ℕ) (files : List (List (List ℕ) × ℕ)) (contents : List (List ℕ)) →
-        kind ≢ V2 → 0 < piece_length → 0 < span * piece_length → AreContentsOfFiles files contents →
-        flat_map (λ unit. piece_sums piece_length (unit_content contents unit))
-        (hash_units kind piece_length span files)
-        ≡ piece_sums piece_length (cut_content kind piece_length files contents) }
 {}
 
 /// The files of a list are cut as their entries are.
@@ -136,6 +119,12 @@ pub fn pieces_are_in_entry_units()
         flat_map (λ unit. piece_sums piece_length (unit_content contents unit))
         (entry_units kind piece_length span entries)
         ≡ piece_sums piece_length (joined_content entries contents) }
+{}
+
+/// In a hybrid torrent, whose files begin at pieces, the pieces of the files are those of the joined entries.
+pub fn aligned_pieces_are_joined()
+    ensures { (piece_length : ℕ) (entries : List Entry) → 0 < piece_length → IsLaidOut Hybrid piece_length entries →
+        entry_units Hybrid piece_length 1 entries ≡ entry_units V1 piece_length 1 entries }
 {}
 
 /// The trees of a plan are runs of two or more of its units, apart and in order, each of at most 2^36 blocks.

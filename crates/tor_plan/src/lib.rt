@@ -4,7 +4,8 @@
 //! (BEP 3, "info dictionary"). Units are numbered in the order of the list.
 //!
 //! - [`Plan`] (`plans.rt`): the units of a list of files, or of the entries of a torrent, padding among them.
-//!   `separate.rt` cuts each file by itself, `joined.rt` the joined files; `pieces.rt` cuts a unit into its pieces.
+//!   `whole.rt` makes one unit of all bytes. `unit_cut.rt` cuts a unit every so many bytes, `separate.rt` each file by
+//!   itself.
 //! - [`PlanUnit`], [`Parts`], [`Part`] (`units.rt`): which bytes a unit has.
 //! - [`Forest`], [`Run`] (`forests.rt`): which units are of one file's tree.
 //! - [`laws`]: what follows from the definitions alone.
@@ -20,12 +21,12 @@
 #![tactic(auto)]
 
 mod forests;
-mod joined;
 pub mod laws;
-mod pieces;
 mod plans;
 mod separate;
+mod unit_cut;
 mod units;
+mod whole;
 
 pub use forests::{Forest, Run};
 pub use plans::Plan;

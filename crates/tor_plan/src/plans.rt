@@ -4,9 +4,9 @@ ghost use Rattle.tor_tree.specs.FileList.{lengths_of};
 ghost use Rattle.tor_plan.specs.Entries.{lengths_of_entries};
 
 use crate::forests::{Forest, trees_of};
-use crate::joined::{cut_joined, cut_joined_entries};
-use crate::separate::{cut_each, cut_each_entry};
+use crate::separate::cut_each;
 use crate::units::PlanUnit;
+use crate::whole::{whole_of_entries, whole_of_files};
 use std::alloc::{AllocError, Global};
 use std::marker::Model;
 use tor_tree::{FileList, FilePath, Kind};
@@ -47,6 +47,7 @@ impl Model for Plan {
 impl Plan {
     ghost use Rattle.tor_plan.specs.EntryList.{IsEntryList};
     ghost use Rattle.tor_plan.specs.PlanFacts.{plan_of, plan_of_entries, IsPlan, IsPlanPieceLength, IsSpan};
+    ghost use Rattle.tor_plan.specs.steps.Whole.{plan_of_whole, AreWhole};
 
     /// The plan whose units have `span` pieces, fewer at an end: of one file each, or of the joined files in V1.
     pub fn new(
@@ -61,22 +62,9 @@ impl Plan {
         ensures { IfOk result (λ plan. plan ≡ plan_of kind piece_length span list.now) }
     {
         let files = list.files();
-        let size = u64::from(span) * piece_length;
+        let whole = whole_of_files(alloc, files, kind, piece_length)?;
         let lengths = lengths_of(alloc, files)?;
-        let (units, trees) = match kind {
-            Kind::V1 => (cut_joined(alloc, files, size)?, Vec::new(alloc)),
-            Kind::V2 | Kind::Hybrid => (
-                cut_each(alloc, files, kind, piece_length, size)?,
-                trees_of(alloc, &lengths, size)?,
-            ),
-        };
-        Ok(Plan {
-            kind,
-            piece_length,
-            units,
-            lengths,
-            forest: Forest { trees },
-        })
+        Plan::of_whole(alloc, &whole, lengths, kind, piece_length, span)
     }
 
     /// The plan of the entries of a torrent, whose padding is in the units as zeros. Files are those that are no
@@ -93,20 +81,38 @@ impl Plan {
         requires entries { IsEntryList kind piece_length entries.now }
         ensures { IfOk result (λ plan. plan ≡ plan_of_entries kind piece_length span entries.now) }
     {
+        let whole = whole_of_entries(alloc, entries)?;
+        let lengths = lengths_of_entries(alloc, entries)?;
+        Plan::of_whole(alloc, &whole, lengths, kind, piece_length, span)
+    }
+
+    // The plan of all bytes of entries, whose files have these lengths.
+    fn of_whole(
+        alloc: Global,
+        whole: &PlanUnit,
+        lengths: Vec<u64>,
+        kind: Kind,
+        piece_length: u64,
+        span: u32,
+    ) -> Result<Plan, AllocError>
+        requires pieces { IsPlanPieceLength kind piece_length }
+        requires span { IsSpan span }
+        requires entries { AreWhole kind piece_length whole.now lengths.items }
+        ensures { IfOk result (λ plan. plan ≡ plan_of_whole kind piece_length span whole.now lengths.items) }
+    {
         let size = u64::from(span) * piece_length;
-        let file_lengths = lengths_of_entries(alloc, entries)?;
         let (units, trees) = match kind {
-            Kind::V1 => (cut_joined_entries(alloc, entries, size)?, Vec::new(alloc)),
+            Kind::V1 => (whole.pieces(alloc, size)?, Vec::new(alloc)),
             Kind::V2 | Kind::Hybrid => (
-                cut_each_entry(alloc, entries, size)?,
-                trees_of(alloc, &file_lengths, size)?,
+                cut_each(alloc, whole.parts.as_slice(), size)?,
+                trees_of(alloc, &lengths, size)?,
             ),
         };
         Ok(Plan {
             kind,
             piece_length,
             units,
-            lengths: file_lengths,
+            lengths,
             forest: Forest { trees },
         })
     }

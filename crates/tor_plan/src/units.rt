@@ -1,6 +1,7 @@
 //! Units of work, and their parts.
 ghost use Rattle.std.specs.Prelude.{◌≡◌};
 
+use std::alloc::{AllocError, Global};
 use std::marker::Model;
 
 /// Bytes of one file that stand directly after one another, and zeros after them.
@@ -54,4 +55,43 @@ pub struct PlanUnit {
     pub zeros: u64,
     /// Perhaps none.
     pub parts: Parts,
+}
+
+impl PlanUnit {
+    ghost use Rattle.std.specs.Prelude.{◌≡◌, ◌+◌, ◌<◌, ◌^◌, OnErr, OnOk};
+    ghost use Rattle.tor_plan.specs.Entries.{empty_unit};
+    ghost use Rattle.tor_plan.specs.WithinEntries.{unit_length};
+    ghost use Rattle.tor_plan.specs.steps.Joined.{joined, part_alone, zeros_alone};
+
+    /// No byte.
+    pub(crate) fn empty(alloc: Global) -> PlanUnit
+        ensures { result ≡ empty_unit }
+    {
+        PlanUnit {
+            zeros: 0,
+            parts: Parts::new(Vec::new(alloc)),
+        }
+    }
+
+    /// Adds a part after all.
+    pub(crate) fn add_part(&mut self, part: Part) -> Result<(), AllocError>
+        ensures value { OnOk result (self.new ≡ joined self.old (part_alone part)) }
+        ensures long { OnOk result (unit_length self.new ≡ unit_length self.old + (part.length + part.zeros)) }
+        ensures kept { OnErr result (self.new ≡ self.old) }
+    {
+        self.parts.parts.push(part)?;
+        Ok(())
+    }
+
+    /// Adds zeros: after its last part, or before all parts.
+    pub(crate) fn add_zeros(&mut self, count: u64)
+        requires { unit_length self.old + count < 2 ^ 64 }
+        ensures value { self.new ≡ joined self.old (zeros_alone count) }
+        ensures long { unit_length self.new ≡ unit_length self.old + count }
+    {
+        match self.parts.parts.last_mut() {
+            Some(last) => last.zeros += count,
+            None => self.zeros += count,
+        }
+    }
 }

@@ -19,7 +19,8 @@ use Rattle.tor_spec.specs.valid.View.{file_of_tree, FileView}
 use Rattle.tor_tree.specs.FileList.{lengths_too_large}
 use Rattle.tor_tree.specs.FileTree as file_tree
 use Rattle.tor_tree.specs.Properties as properties
-use Rattle.tor_tree.specs.declared.lists.TheConstants.{MAX_LENGTH, MAX_TOTAL, ROUNDING}
+use Rattle.tor_merkle.specs.declared.TheConstants.{MAX_LENGTH}
+use Rattle.tor_tree.specs.declared.lists.TheConstants.{MAX_TOTAL, ROUNDING}
 use Rattle.tor_tree.specs.declared.tree_file.TreeFile.{TreeFile}
 use Rattle.tor_v1.specs.Entries.{file_entry}
 use Rattle.tor_v1.specs.declared.entry.Entry.{Entry}

@@ -10,8 +10,6 @@ pub mod EntryForms
 pub mod JoinedPieces
 pub mod Judged
 pub mod MerklePieces
-pub mod FileRuns
-pub mod PaddedPieces
 pub mod PieceSides
 pub mod NoCondition
 pub mod ListedFiles

@@ -15,11 +15,11 @@ use Rattle.tor_plan.specs.PlanFacts.{IsPlanPieceLength}
 use Rattle.tor_plan.specs.declared.units.PlanUnit.{PlanUnit}
 use Rattle.tor_plan.specs.Present.{is_there}
 use Rattle.tor_recheck.specs.Pieces.{entries_to_cut, has_sha1, IsCut}
+use Rattle.tor_plan.proofs.ProvedLaws.{aligned_pieces_are_joined}
 use Rattle.tor_recheck.proofs.FoundBytes.{HaveBytes, bytes_there, unit_bytes, unit_is_there, whole_unit}
 use Rattle.tor_recheck.proofs.JoinedPieces.{joined_unit_bytes, joined_unit_some}
 use Rattle.tor_recheck.proofs.Judged.{and_same}
 use Rattle.tor_recheck.proofs.MerklePieces.{length_of}
-use Rattle.tor_recheck.proofs.PaddedPieces.{padded_unit}
 use Rattle.tor_spec.specs.Present.{bytes_in, is_whole, joined_bytes}
 use Rattle.tor_spec.specs.Verified.{is_sha1_piece}
 use Rattle.tor_spec.specs.valid.View.{FileView, View}
@@ -81,10 +81,9 @@ module _ (contents : List (List ℕ)) where
   unit_is_run V1 p entries one pos laid k unit lt = joined_run p entries k unit lt
   unit_is_run V2 p entries one pos laid k unit lt = absurd (false≢true one)
   unit_is_run Hybrid p entries one pos laid k unit lt =
-      let same = cut_each Hybrid p entries refl in
+      let same = aligned_pieces_are_joined p entries pos laid in
       subst (λ (units : List PlanUnit). IsRun p entries k (get_or units k unit)) (sym same)
-      (padded_unit contents p pos entries laid.0 laid.1 k unit
-      (subst (λ (units : List PlanUnit). k < length units) same lt))
+      (joined_run p entries k unit (subst (λ (units : List PlanUnit). k < length units) same lt))
 
   -- a unit that is a run of the entries' bytes is judged as that run
   pub same_sha1 : (view : View) (k : ℕ) (unit : PlanUnit) → IsRun view.piece_length view.entries k unit

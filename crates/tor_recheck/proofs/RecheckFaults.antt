@@ -3,6 +3,7 @@ use Rattle.std.proofs.Common.{◌≡◌, ℕ, [], Option, None, option_map, ap, 
 use Rattle.std.specs.Option.{option_or}
 use Rattle.tor_engine.specs.Contents.{contents_in}
 use Rattle.tor_engine.specs.Fault as engine
+use Rattle.tor_engine.specs.Given.{IsGivenPieces}
 use Rattle.tor_engine.specs.PieceFault.{first_asked_fault, first_piece_fault, pieces_fault}
 use Rattle.tor_engine.specs.declared.errors.EngineError.{EngineError}
 use Rattle.tor_engine.specs.declared.errors.EngineError.TheVariants.{Read, Changed, Missing, Resources, StreamTooLong}
@@ -34,10 +35,12 @@ module _ {F : Type 0} (facts : SourceFacts F) (view : View) (cut : IsCut view) w
   same_fault error (inl memory) = inl (ap of_engine_error memory)
   same_fault error (inr first) = inr (sym same_first ∙ ap (option_map of_engine_error) first)
 
-pub given_of : {F : Type 0} (gave : ℕ → Option ℕ → F → Type 0) (count : ℕ) (error : EngineError F)
-    → engine.IsGivenNotMissing gave count error → IsGiven gave count (of_engine_error error)
-given_of gave count (Read file start fault) given = given
-given_of gave count (Changed file) given = given
-given_of gave count (Missing file) given = absurd given
-given_of gave count Resources given = given
-given_of gave count (StreamTooLong file) given = absurd given
+module _ {F : Type 0} (gave : ℕ → Option ℕ → F → Type 0) (told : ℕ → Option ℕ → Type 0) (ended : ℕ → ℕ → Type 0)
+    (count : ℕ) where
+  pub given_of : (error : EngineError F) → IsGivenPieces gave told ended count error
+      → IsGiven gave told ended count (of_engine_error error)
+  given_of (Read file start fault) given = given
+  given_of (Changed file) given = given
+  given_of (Missing file) given = absurd given
+  given_of Resources given = given
+  given_of (StreamTooLong file) given = absurd given

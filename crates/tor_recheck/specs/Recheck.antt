@@ -3,6 +3,7 @@ use Rattle.std.specs.Prelude.{◌≡◌, ◌⊎◌, ℕ, ◌<◌, length, Option
 use Rattle.std.specs.Prelude.{option_map}
 use Rattle.std.specs.Option.{option_or}
 use Rattle.tor_engine.specs.Contents.{contents_in}
+use Rattle.tor_engine.specs.Given.{Departs}
 use Rattle.tor_engine.specs.PieceFault.{first_asked_fault, pieces_fault}
 use Rattle.tor_engine.specs.declared.errors.EngineError.{EngineError}
 use Rattle.tor_engine.specs.declared.errors.EngineError.TheVariants as engine
@@ -30,9 +31,12 @@ first_fault facts view =
 abbrev pub IsFault : {F : Type 0} → Option (RecheckError F) → RecheckError F → Type 0
 IsFault first error = (error ≡ Resources) ⊎ (first ≡ Some error)
 
--- a fault of the source is one that it gave, for this file and offset; the file that is named is one of so many
-abbrev pub IsGiven : {F : Type 0} → (ℕ → Option ℕ → F → Type 0) → ℕ → RecheckError F → Type 0
-IsGiven gave count (Read file start fault) = gave file start fault × (file < count)
-IsGiven gave count (Changed file) = file < count
-IsGiven gave count Resources = Unit {0}
-IsGiven gave count Workers = Unit {0}
+-- what is answered of the source it gave or told, steady or not: a fault for this file and offset; a size of a changed
+-- file, to which it did not keep. The file that is named is one of so many
+abbrev pub IsGiven : {F : Type 0} → (ℕ → Option ℕ → F → Type 0) → (ℕ → Option ℕ → Type 0) → (ℕ → ℕ → Type 0) → ℕ
+    → RecheckError F → Type 0
+IsGiven gave told ended count (Read file start fault) = gave file start fault × (file < count)
+IsGiven gave told ended count (Changed file) =
+    ((size : Option ℕ) × told file size × Departs told ended file size) × (file < count)
+IsGiven gave told ended count Resources = Unit {0}
+IsGiven gave told ended count Workers = Unit {0}

@@ -8,7 +8,7 @@ use crate::told::{root_at, told_hashes};
 use std::alloc::{AllocError, Global};
 use tor_check::Torrent;
 use tor_engine::PieceHash;
-use tor_tree::Hash;
+use tor_merkle::Hash;
 
 /// The length of a SHA-1.
 const SUM_LENGTH: usize = 20;

@@ -2,7 +2,7 @@
 ghost use Rattle.std.specs.Prelude.{◌≡◌, ℕ, List, length, None};
 ghost use Rattle.tor_bencode.specs.Data.{Data};
 ghost use Rattle.tor_recheck.specs.Pieces.{IsCut, pieces_of, right_pieces};
-ghost use Rattle.tor_recheck.specs.declared.rechecking.TheConstants.{MAX_WORKERS, SPAN};
+ghost use Rattle.tor_recheck.specs.declared.rechecking.TheConstants.{SPAN};
 ghost use Rattle.tor_spec.specs.Verified.{verified_pieces};
 ghost use Rattle.tor_spec.specs.valid.Conditions.{refusal_of};
 ghost use Rattle.tor_spec.specs.valid.View.{View, view_of};
@@ -24,8 +24,7 @@ pub fn valid_torrents_are_cut()
     ensures { (root : Data) → refusal_of root ≡ None → IsCut (view_of root) }
 {}
 
-/// The limits of a recheck: of its workers, and of the pieces that one of them takes at a time.
-pub fn limits_of_rechecks()
-    ensures workers { MAX_WORKERS ≡ 64 }
-    ensures span { SPAN ≡ 16 }
+/// The limit of the pieces that a worker takes at a time.
+pub fn limit_of_rechecks()
+    ensures { SPAN ≡ 16 }
 {}

@@ -1,5 +1,5 @@
 //! A torrent's pieces looked for in the files of a source.
-ghost use Rattle.std.specs.Prelude.{◌≡◌, ◌≢◌, ◌↔◌, IsTrue, None, Err, IfErr, IfOk, MatchResult, length, map};
+ghost use Rattle.std.specs.Prelude.{◌≡◌, ◌≢◌, None, Err, IfErr, IfOk, MatchResult, length, map};
 ghost use Rattle.tor_engine.specs.Contents.{contents_in};
 ghost use Rattle.tor_engine.specs.How.{IsHow};
 ghost use Rattle.tor_plan.specs.PlanFacts.{plan_of_entries};
@@ -14,7 +14,6 @@ ghost use Rattle.tor_v1.specs.Entries.{file_entry};
 use crate::bits::Bits;
 use crate::errors::RecheckError;
 use crate::judge::judge;
-use crate::laws::valid_torrents_are_cut;
 use std::alloc::{AllocError, Global};
 use std::thread::Threads;
 use tor_check::{Torrent, ViewFile};
@@ -22,9 +21,6 @@ use tor_engine::{How, hash_pieces};
 use tor_plan::Plan;
 use tor_source::Source;
 use tor_v1::Entry;
-
-/// The most workers that may share the hashing.
-const MAX_WORKERS: u32 = 64;
 
 /// The pieces that a worker takes at a time, at most.
 const SPAN: u32 = 16;
@@ -49,9 +45,10 @@ pub fn recheck<S: Source, R: Threads + Sync>(
         (IsFault (first_fault facts torrent.now)) }
     ensures counted { IfOk result (λ bits. length bits ≡ torrent.now.piece_count) }
     ensures allowed { IsHow how → IfErr result (λ error. error ≢ Workers) }
-    ensures gave { IfErr result (IsGiven (S.gave source.now) (length torrent.now.files)) }
+    ensures gave { IfErr result
+        (IsGiven (S.gave source.now) (S.told source.now) (S.ended source.now) (length torrent.now.files)) }
 {
-    if !is_how(how) {
+    if !how.is_allowed() {
         return Err(RecheckError::Workers);
     }
     let plan = plan_of(alloc, torrent)?;
@@ -63,31 +60,28 @@ pub fn recheck<S: Source, R: Threads + Sync>(
     Ok(bits)
 }
 
-/// Whether so many workers may share the hashing.
-fn is_how(how: How) -> bool
-    ensures { IsTrue result ↔ IsHow how }
-{
-    match how {
-        How::One => true,
-        How::Halves(workers) => 1 <= workers && workers <= MAX_WORKERS,
-    }
-}
-
 /// The units of the torrent's entries, or of its files where it has no v1 side.
 fn plan_of(alloc: Global, torrent: &Torrent) -> Result<Plan, AllocError>
     ensures planned { IfOk result (λ plan. plan
         ≡ plan_of_entries torrent.now.kind torrent.now.piece_length SPAN (entries_to_cut torrent.now)) }
     ensures cut { IsCut torrent.now }
 {
-    valid_torrents_are_cut();
     let files = torrent.files();
-    let kind = torrent.kind();
-    let piece_length = torrent.piece_length();
-    if kind.has_v1() {
-        return Plan::of_entries(alloc, torrent.entries(), kind, piece_length, SPAN);
+    if torrent.kind().has_v1() {
+        return cut_entries(alloc, torrent, torrent.entries());
     }
     let entries = entries_of(alloc, files)?;
-    Plan::of_entries(alloc, &entries, kind, piece_length, SPAN)
+    cut_entries(alloc, torrent, &entries)
+}
+
+/// The units of the entries of a torrent that are to be cut.
+fn cut_entries(alloc: Global, torrent: &Torrent, entries: &[Entry]) -> Result<Plan, AllocError>
+    requires cut { IsCut torrent.now }
+    requires entries { entries.now ≡ entries_to_cut torrent.now }
+    ensures { IfOk result (λ plan. plan
+        ≡ plan_of_entries torrent.now.kind torrent.now.piece_length SPAN (entries_to_cut torrent.now)) }
+{
+    Plan::of_entries(alloc, entries, torrent.kind(), torrent.piece_length(), SPAN)
 }
 
 /// Files as entries.

@@ -6,7 +6,7 @@ ghost use Rattle.tor_spec.specs.Verified.{told_hash};
 
 use std::alloc::{AllocError, Global};
 use tor_check::{Torrent, ViewFile};
-use tor_tree::Hash;
+use tor_merkle::Hash;
 
 /// For each piece of each file: of a file longer than a piece the hash at its index in the layer, of another the root
 /// of the file; none where the torrent has none.

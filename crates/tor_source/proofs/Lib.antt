@@ -3,6 +3,7 @@ pub mod Ends
 pub mod Entries
 pub mod FirstFault
 pub mod FoundFiles
+pub mod Inputs
 pub mod PathOrder
 pub mod Pieces
 pub mod ProvedLaws

@@ -102,7 +102,8 @@ impl<R: Files + AllocGlobal + Clone + Drop> FolderSource<R> {
 
 /// No contract can say what a file of the system holds, nor that it stays as it is: so this source is steady for no
 /// facts, and contracts tell of it that a read gives at most what the buffer has room for, that only a file of the
-/// list has faults, and that no fault of a length says that nothing is there, since such a file is missing.
+/// list has faults, that any other is missing, and that no fault of a length says that nothing is there, since such a
+/// file is missing.
 ///
 /// Each call asks the system anew. What stands at a file's place and is no regular file is missing, as is a file
 /// whose place leads through a regular file; a symbolic link at a file's place is followed. Each read opens the file,
@@ -117,6 +118,10 @@ where
 
     ghost gave = { λ source file offset fault.
         (file < length source) × (offset ≡ None → is_absence (error_kind fault) ≡ false) };
+
+    ghost told = { λ source file size. length source ≤ file → size ≡ None };
+
+    ghost ended = { λ _ _ _. Unit {0} };
 
     fn length(&self, file: u64) -> io::Result<Option<u64>>
         ensures gave { IfErr result

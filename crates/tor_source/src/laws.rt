@@ -1,6 +1,7 @@
-//! Laws over the sources in memory: each is steady, and the first fault at an offset counts.
-ghost use Rattle.std.specs.Prelude.{◌≡◌, ◌∷◌, ◌++◌, ℕ, List, Option, None, Some, Contains};
+//! Laws over the sources in memory: each is steady, and the first fault at an offset counts. The limit of an input.
+ghost use Rattle.std.specs.Prelude.{◌≡◌, ◌^◌, ◌∷◌, ◌++◌, ℕ, List, Option, None, Some, Contains};
 ghost use Rattle.tor_source.specs.Sources.{FailingFiles, ShortFiles, fail_facts, first_fault, mem_facts};
+ghost use Rattle.tor_source.specs.declared.input.TheConstants.{BUFFER_LENGTH, MAX_INPUT_LENGTH};
 
 use crate::failing::FailSource;
 use crate::memory::MemSource;
@@ -33,4 +34,14 @@ pub fn first_fault_counts()
 pub fn faults_are_listed()
     ensures { (faults : List (ℕ × Option ℕ × ℕ)) (file : ℕ) (offset : Option ℕ) (number : ℕ) →
         first_fault faults file offset ≡ Some number → Contains faults (file, offset, number) }
+{}
+
+/// An input has at most 1 GiB.
+pub fn limit_of_inputs()
+    ensures { MAX_INPUT_LENGTH ≡ 2 ^ 30 }
+{}
+
+/// So many bytes of an input are handed on at a time, fewer at its end.
+pub fn limit_of_parts()
+    ensures { BUFFER_LENGTH ≡ 2 ^ 21 }
 {}

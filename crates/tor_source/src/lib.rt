@@ -1,4 +1,4 @@
-//! Where the bytes of files come from.
+//! Where bytes come from: the files of a source, and an input that is read once.
 //!
 //! ```rust
 //! use tor_source::{FolderSource, Source};
@@ -18,15 +18,21 @@
 //! - [`MemSource`] (`memory.rt`), [`FailSource`] (`failing.rt`), [`ShortSource`] (`short.rt`): files in memory, with
 //!   faults at chosen offsets, or read in small steps.
 //! - [`ScanFault`] (`faults.rt`): why a folder's files are no list.
-//! - [`laws`] (`laws.rt`): laws over the sources in memory.
+//! - [`read_parts`], [`read_limited`], [`drop_input`] (`input.rt`): what a reader has, handed on, kept, or dropped, or
+//!   the [`InputFault`] that ended it. [`Intake`] (`intake.rt`): what takes the parts. [`zeros`] (`buffer.rt`): room
+//!   to read into.
+//! - [`laws`] (`laws.rt`): laws over the sources in memory, and the limits of an input.
 //!
 //! `walk.rt` finds the files below a folder, `listing.rt` the names in one; `places.rt` joins places and names, and
 //! `regular.rt` reads what stands at a place.
 #![tactic(auto)]
 
+mod buffer;
 mod failing;
 mod faults;
 mod folder;
+mod input;
+mod intake;
 pub mod laws;
 mod listing;
 mod memory;
@@ -36,9 +42,12 @@ mod short;
 mod source;
 mod walk;
 
+pub use buffer::zeros;
 pub use failing::FailSource;
 pub use faults::ScanFault;
 pub use folder::FolderSource;
+pub use input::{InputFault, MAX_INPUT_LENGTH, drop_input, read_limited, read_parts};
+pub use intake::{Dropped, Intake};
 pub use memory::MemSource;
 pub use short::ShortSource;
 pub use source::Source;

@@ -63,6 +63,10 @@ impl Source for MemSource {
 
     ghost gave = { λ _ _ _ _. ⊥ };
 
+    ghost told = { λ source file size. size ≡ option_map length (content_of source file) };
+
+    ghost ended = { λ source file start. length (bytes_from (mem_facts source) file start) ≡ 0 };
+
     fn length(&self, file: u64) -> Result<Option<u64>, u64> {
         match self.content(file) {
             Some(bytes) => Ok(Some(bytes.len() as u64)),

@@ -1,7 +1,7 @@
 //! Files in memory that are read in small steps.
-ghost use Rattle.std.specs.Prelude.{◌≡◌, ◌≤◌, ℕ, IfErr, IfOk, length};
-ghost use Rattle.tor_source.specs.Source.{IsReadAt, SourceFacts};
-ghost use Rattle.tor_source.specs.Sources.{mem_facts};
+ghost use Rattle.std.specs.Prelude.{◌≡◌, ◌≤◌, ◌<◌, ℕ, IfErr, IfOk, Ok, length, option_map};
+ghost use Rattle.tor_source.specs.Source.{IsReadAt, SourceFacts, bytes_from};
+ghost use Rattle.tor_source.specs.Sources.{content_of, mem_facts};
 
 use crate::memory::MemSource;
 use crate::source::Source;
@@ -44,6 +44,10 @@ impl Source for ShortSource {
 
     ghost gave = { λ _ _ _ _. ⊥ };
 
+    ghost told = { λ source file size. size ≡ option_map length (content_of source.files file) };
+
+    ghost ended = { λ source file start. length (bytes_from (mem_facts source.files) file start) ≡ 0 };
+
     fn length(&self, file: u64) -> Result<Option<u64>, u64> {
         self.files.length(file)
     }
@@ -53,6 +57,8 @@ impl Source for ShortSource {
             IsReadAt facts file start buffer.old buffer.new result }
         ensures within { IfOk result (λ count. count ≤ length buffer.old) }
         ensures gave { IfErr result (λ _. ⊥) }
+        ensures ended { result ≡ Ok 0 → 0 < length buffer.old →
+            length (bytes_from (mem_facts self.now.files) file start) ≡ 0 }
         ensures short { IfOk result (λ count. count ≤ self.now.step) }
     {
         Ok(self.files.read_most(file, start, self.step, buffer))

@@ -20,7 +20,8 @@ use Rattle.tor_tree.proofs.ProvedLaws.{lists_have_names}
 use Rattle.tor_tree.specs.FileList.{IsFileList, lengths_fault, lengths_of, lengths_too_large, paths_fault, paths_of}
 use Rattle.tor_tree.specs.TidyTree.{HasItsRoot, plain_files}
 use Rattle.tor_tree.specs.declared.lists.ListError.{ListError}
-use Rattle.tor_tree.specs.declared.lists.TheConstants.{MAX_LENGTH, MAX_TOTAL, ROUNDING}
+use Rattle.tor_merkle.specs.declared.TheConstants.{MAX_LENGTH}
+use Rattle.tor_tree.specs.declared.lists.TheConstants.{MAX_TOTAL, ROUNDING}
 
 pub listed_made : (p : ℕ) (files : List File) → listed (facts_of_files p files) ≡ sizes_of files
 listed_made p [] = refl

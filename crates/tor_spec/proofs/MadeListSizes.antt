@@ -15,7 +15,8 @@ use Rattle.tor_spec.proofs.MadeListEntries.{each_entry, files_of_entries, listed
 use Rattle.tor_spec.proofs.MadeListRounding.{rounded_within}
 use Rattle.tor_tree.proofs.ProvedLaws.{files_are_small}
 use Rattle.tor_tree.specs.FileList.{IsFileList, lengths_of, lengths_too_large}
-use Rattle.tor_tree.specs.declared.lists.TheConstants.{MAX_LENGTH, MAX_TOTAL, ROUNDING}
+use Rattle.tor_merkle.specs.declared.TheConstants.{MAX_LENGTH}
+use Rattle.tor_tree.specs.declared.lists.TheConstants.{MAX_TOTAL, ROUNDING}
 use Rattle.tor_v1.specs.Entries.{aligned_entries, file_entry, has_bytes, pad_entry, padding_length, v1_entries}
 use Rattle.tor_v1.specs.declared.entry.Entry.{Entry}
 use Rattle.tor_v1.specs.declared.layout.Layout.{Layout}

@@ -34,6 +34,10 @@ impl Source for Meeting {
 
     ghost gave = { λ _ _ _ _. Unit {0} };
 
+    ghost told = { λ _ _ _. Unit {0} };
+
+    ghost ended = { λ _ _ _. Unit {0} };
+
     fn length(&self, _file: u64) -> Result<Option<u64>, Alone> {
         self.asked.fetch_add(1, SeqCst);
         Ok(Some(32))

@@ -353,6 +353,10 @@ impl Source for Changing {
 
     ghost gave = { λ _ _ _ _. Unit {0} };
 
+    ghost told = { λ _ _ _. Unit {0} };
+
+    ghost ended = { λ _ _ _. Unit {0} };
+
     fn length(&self, file: u64) -> Result<Option<u64>, u64> {
         if self.asked.fetch_add(1, SeqCst) > 1 && file == self.file {
             return Ok(self.again);

@@ -103,6 +103,10 @@ impl Source for Changing {
 
     ghost gave = { λ _ _ _ _. Unit {0} };
 
+    ghost told = { λ _ _ _. Unit {0} };
+
+    ghost ended = { λ _ _ _. Unit {0} };
+
     fn length(&self, file: u64) -> Result<Option<u64>, u64> {
         if file != self.file {
             return Ok(Some(0));

@@ -31,6 +31,10 @@ impl Source for Watched {
 
     ghost gave = { λ _ _ _ _. Unit {0} };
 
+    ghost told = { λ _ _ _. Unit {0} };
+
+    ghost ended = { λ _ _ _. Unit {0} };
+
     fn length(&self, _file: u64) -> Result<Option<u64>, u64> {
         Ok(Some(self.length))
     }
@@ -135,6 +139,10 @@ impl Source for Again {
     ghost is_steady = { λ _ _. ⊥ };
 
     ghost gave = { λ _ _ _ _. Unit {0} };
+
+    ghost told = { λ _ _ _. Unit {0} };
+
+    ghost ended = { λ _ _ _. Unit {0} };
 
     fn length(&self, _file: u64) -> Result<Option<u64>, u64> {
         self.again

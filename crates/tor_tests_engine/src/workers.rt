@@ -28,6 +28,10 @@ impl Source for Crowded {
 
     ghost gave = { λ _ _ _ _. Unit {0} };
 
+    ghost told = { λ _ _ _. Unit {0} };
+
+    ghost ended = { λ _ _ _. Unit {0} };
+
     fn length(&self, _file: u64) -> Result<Option<u64>, u64> {
         Ok(Some(self.length))
     }
@@ -101,6 +105,10 @@ impl Source for Meeting {
     ghost is_steady = { λ _ _. ⊥ };
 
     ghost gave = { λ _ _ _ _. Unit {0} };
+
+    ghost told = { λ _ _ _. Unit {0} };
+
+    ghost ended = { λ _ _ _. Unit {0} };
 
     fn length(&self, _file: u64) -> Result<Option<u64>, Alone> {
         Ok(Some(self.length))

@@ -3,7 +3,7 @@ use Rattle.std.proofs.Common.{List, ◌≡◌, ℕ, ◌≤◌, false, [], ◌∷
 use Rattle.std.proofs.lemmas.List.Elements.{All-nil, All-cons}
 use Rattle.std.specs.List.{All}
 use Rattle.tor_tree.specs.declared.kinds.Kind.TheVariants.{V1, Hybrid}
-use Rattle.tor_tree.specs.declared.lists.TheConstants.{MAX_LENGTH}
+use Rattle.tor_merkle.specs.declared.TheConstants.{MAX_LENGTH}
 use Rattle.tor_v1.specs.Entries.{pad_entry}
 use Rattle.tor_v1.specs.declared.entry.Entry.{Entry}
 use Rattle.tor_plan.specs.Entries.{padding_before_next}

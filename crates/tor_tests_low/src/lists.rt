@@ -2,7 +2,8 @@
 use crate::names::path;
 use std::alloc::Global;
 use std::test::Fail;
-use tor_tree::{FileList, FilePath, MAX_LENGTH, PathList};
+use tor_merkle::MAX_LENGTH;
+use tor_tree::{FileList, FilePath, PathList};
 
 // Files as their paths and lengths.
 pub(crate) type Files = &'static [(&'static str, u64)];

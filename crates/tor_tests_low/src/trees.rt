@@ -8,7 +8,8 @@ use crate::names::path;
 use std::alloc::{AllocError, Global};
 use std::test::Fail;
 use tor_bencode::{Tree, decode, encode};
-use tor_tree::{FileList, FilePath, Hash, TreeFile, from_item, to_item};
+use tor_merkle::Hash;
+use tor_tree::{FileList, FilePath, TreeFile, from_item, to_item};
 
 // A tree as its spelling, and why it is no file tree.
 type Fault = (&'static [u8], &'static str);

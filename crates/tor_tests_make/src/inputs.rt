@@ -3,8 +3,8 @@ use std::alloc::Global;
 use std::io::{Error, ErrorKind, Read, Result};
 use std::test::Fail;
 use tor_engine::How;
-use tor_input::{FromFault, InputFault, drop_input, make_from, read_limited};
-use tor_meta::{MakeError, Order};
+use tor_meta::{FromFault, MakeError, Order, make_from};
+use tor_source::{InputFault, drop_input, read_limited};
 use tor_tree::{Kind, Name};
 
 // The torrent of the content `abc` under the name `a`, piece length 16,384. The hash is the SHA-256 of `abc`.

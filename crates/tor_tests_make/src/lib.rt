@@ -1,9 +1,8 @@
-//! Tests of tor_meta and tor_input by their public items, in a crate of their own, so that neither is proved once more
-//! for them.
+//! Tests of tor_meta by its public items, in a crate of their own, so that it is not proved once more for them.
 //!
-//! Of tor_meta: `contents.rt` and `larger.rt` (torrents of files in memory, info hashes, links, writing out),
-//! `sources.rt` and `layers.rt` (torrents of the files of a source), `workers.rt` (that workers meet). Of tor_input:
-//! `inputs.rt`.
+//! `contents.rt` and `larger.rt`: torrents of files in memory, info hashes, links, writing out. `sources.rt` and
+//! `layers.rt`: torrents of the files of a source. `workers.rt`: that workers meet. `inputs.rt`: inputs of tor_source,
+//! and the torrent of one.
 #![tactic(auto)]
 
 #[cfg(test)]

@@ -181,6 +181,10 @@ impl Source for Tells {
 
     ghost gave = { λ _ _ _ _. Unit {0} };
 
+    ghost told = { λ _ _ _. Unit {0} };
+
+    ghost ended = { λ _ _ _. Unit {0} };
+
     fn length(&self, _file: u64) -> Result<Option<u64>, u64> {
         self.asked.fetch_add(1, SeqCst);
         Ok(Some(self.length))
@@ -385,6 +389,10 @@ impl Source for Changing {
     ghost is_steady = { λ _ _. ⊥ };
 
     ghost gave = { λ _ _ _ _. Unit {0} };
+
+    ghost told = { λ _ _ _. Unit {0} };
+
+    ghost ended = { λ _ _ _. Unit {0} };
 
     fn length(&self, file: u64) -> Result<Option<u64>, u64> {
         if file == self.file && self.asked.fetch_add(1, SeqCst) > 0 {

@@ -30,6 +30,10 @@ impl Source for Meeting {
 
     ghost gave = { λ _ _ _ _. Unit {0} };
 
+    ghost told = { λ _ _ _. Unit {0} };
+
+    ghost ended = { λ _ _ _. Unit {0} };
+
     fn length(&self, _file: u64) -> Result<Option<u64>, Alone> {
         Ok(Some(65536))
     }

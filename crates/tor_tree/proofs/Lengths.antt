@@ -8,7 +8,8 @@ use Rattle.std.proofs.lemmas.List.{get_or-map, length-map}
 use Rattle.std.proofs.lemmas.List.Folds.{list_any_at, list_any_more}
 use Rattle.std.proofs.lemmas.List.Sums.{sum_by_more, sum_by-take-le}
 use Rattle.tor_tree.specs.FileList.{lengths_too_large}
-use Rattle.tor_tree.specs.declared.lists.TheConstants.{MAX_LENGTH, MAX_TOTAL, ROUNDING}
+use Rattle.tor_merkle.specs.declared.TheConstants.{MAX_LENGTH}
+use Rattle.tor_tree.specs.declared.lists.TheConstants.{MAX_TOTAL, ROUNDING}
 
 -- a length, rounded up
 abbrev pub rounded : ℕ → ℕ

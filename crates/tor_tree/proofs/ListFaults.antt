@@ -8,7 +8,7 @@ use Rattle.std.proofs.lemmas.List.Elements.{All-from_recursion}
 use Rattle.tor_tree.specs.declared.lists.ListError.{ListError}
 use Rattle.tor_tree.specs.FileList.{lengths_fault, lengths_of, lengths_too_large, list_fault, paths_fault, paths_nest}
 use Rattle.tor_tree.specs.FileList.{paths_of, paths_repeat}
-use Rattle.tor_tree.specs.declared.lists.TheConstants.{MAX_LENGTH}
+use Rattle.tor_merkle.specs.declared.TheConstants.{MAX_LENGTH}
 
 -- a test that gives a fault is not passed where there is none
 pub clear : {E : Type 0} (test : Bool) (fault : E) (rest : Option E) → cond test (Some fault) rest ≡ None

@@ -10,7 +10,7 @@ use Rattle.tor_tree.specs.FileList.{paths_of, lengths_of, paths_repeat, paths_ne
 use Rattle.tor_tree.specs.FileList.{list_fault, is_inside}
 use Rattle.tor_tree.specs.Path.{path_eq}
 use Rattle.tor_tree.proofs.Lengths.{rounded}
-use Rattle.tor_tree.specs.declared.lists.TheConstants.{MAX_LENGTH}
+use Rattle.tor_merkle.specs.declared.TheConstants.{MAX_LENGTH}
 
 -- tests that agree find the same in a list
 list_any-same : {X : Type 0} (p q : X → Bool) → ((x : X) → p x ≡ q x) → (xs : List X) → list_any p xs ≡ list_any q xs

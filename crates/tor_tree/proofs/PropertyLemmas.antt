@@ -4,8 +4,8 @@ use Rattle.std.proofs.Common.{codes, refl, ap}
 use Rattle.tor_bencode.specs.Data.{Data}
 use Rattle.tor_bencode.specs.Find.{value_of}
 use Rattle.tor_tree.specs.Name.{has_byte}
-use Rattle.tor_tree.specs.Properties.{are_properties, as_integer, as_string, letter_l, letter_x, letter_h}
-use Rattle.tor_tree.specs.Reading.{letters_of, hash_of, facts_of, facts_in}
+use Rattle.tor_tree.specs.Properties.{are_properties, as_integer, as_string, letters_of, letter_l, letter_x, letter_h}
+use Rattle.tor_tree.specs.steps.Reading.{hash_of, facts_of, facts_in}
 
 with_attr : (attr : Option Data) (letters : List ℕ) → cond (is_none attr) (Some []) (as_string attr) ≡ Some letters
     → ((is_none attr || is_some (as_string attr)) ≡ true) × (unwrap_or (as_string attr) [] ≡ letters)

@@ -12,7 +12,7 @@ use Rattle.tor_tree.specs.FileList.{lengths_too_large}
 use Rattle.tor_tree.specs.FileTree.{entries_of, entries_in, under, file_of, files_of_tree, has_empty_key, is_folder}
 use Rattle.tor_tree.specs.FileTree.{lacks_root, properties_in, tree_fault, tree_mixes}
 use Rattle.tor_tree.specs.Properties.{has_negative_length, has_letter, length_of, is_hash, pieces_root, letter_l}
-use Rattle.tor_tree.specs.Reading.{entries_fault, entry_at, file_from, hash_of, path_if_any}
+use Rattle.tor_tree.specs.steps.Reading.{entries_fault, entry_at, file_from, hash_of, path_if_any}
 use Rattle.tor_tree.specs.declared.entries.Entry.{Entry}
 use Rattle.tor_tree.proofs.ListFaults.{clear}
 

@@ -12,7 +12,7 @@ use Rattle.tor_tree.specs.FileTree.{takes_memory_in}
 use Rattle.tor_tree.specs.Name.{name_fault}
 use Rattle.tor_tree.specs.Properties.{are_properties}
 use Rattle.tor_tree.specs.declared.entries.Entry.{Entry}
-use Rattle.tor_tree.specs.Reading.{entry_at, path_if_any, facts_in}
+use Rattle.tor_tree.specs.steps.Reading.{entry_at, path_if_any, facts_in}
 
 pub view_dictionary : (pairs : Vec (Vec ℕ Global × Item) Global)
     → view (Dict pairs) ≡ dictionary (pairs_view pairs.items)

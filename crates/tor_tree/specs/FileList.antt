@@ -8,7 +8,8 @@ use Rattle.std.specs.Option.{option_or}
 use Rattle.tor_tree.specs.declared.lists.ListError.{ListError}
 use Rattle.tor_tree.specs.declared.lists.ListError.TheVariants.{NoFiles, Duplicate, FileAndFolder, TooLarge}
 use Rattle.tor_tree.specs.Path.{IsFilePath, name_eq, path_eq, path_cmp}
-use Rattle.tor_tree.specs.declared.lists.TheConstants.{MAX_LENGTH, MAX_TOTAL, ROUNDING}
+use Rattle.tor_merkle.specs.declared.TheConstants.{MAX_LENGTH}
+use Rattle.tor_tree.specs.declared.lists.TheConstants.{MAX_TOTAL, ROUNDING}
 
 -- the paths of pairs, of a path and of whatever goes with it
 abbrev pub paths_of : {X : Type 0} → List (List (List ℕ) × X) → List (List (List ℕ))

@@ -1,6 +1,6 @@
 -- The properties of a file in a file tree (BEP 52, "file tree"), and its attributes (BEP 47, "attr").
 use Rattle.std.specs.Prelude.{ℕ, ℤ, pos, unsigned_abs, int_lt, ◌==◌, Bool, false, ◌&&◌, ◌||◌, List, [], length, Option}
-use Rattle.std.specs.Prelude.{None, Some, is_some, is_none, unwrap_or, codes}
+use Rattle.std.specs.Prelude.{None, Some, is_some, is_none, unwrap_or, if◌then◌else◌, codes}
 use Rattle.tor_bencode.specs.Data.{Data, integer, string, list, dictionary, no_pairs, pair}
 use Rattle.tor_bencode.specs.Find.{value_of}
 use Rattle.tor_tree.specs.Name.{has_byte}
@@ -18,6 +18,10 @@ as_string (Some (integer n)) = None
 as_string (Some (string bytes)) = Some bytes
 as_string (Some (list items)) = None
 as_string (Some (dictionary pairs)) = None
+
+-- the letters of `attr`, if it is absent or a byte string
+abbrev pub letters_of : Data → Option (List ℕ)
+letters_of file = if is_none (value_of (codes "attr") file) then Some [] else as_string (value_of (codes "attr") file)
 
 -- a dictionary with an integer `length`, whose `attr`, if it is there, is a byte string
 abbrev pub are_properties : Data → Bool

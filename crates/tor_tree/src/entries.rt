@@ -5,7 +5,7 @@ ghost use Rattle.tor_bencode.specs.View.{view};
 ghost use Rattle.tor_tree.specs.FileTree.{are_entries, entries_in, entries_of, is_dictionary, is_folder};
 ghost use Rattle.tor_tree.specs.FileTree.{takes_memory, takes_memory_in};
 ghost use Rattle.tor_tree.specs.Properties.{are_properties};
-ghost use Rattle.tor_tree.specs.Reading.{entry_at};
+ghost use Rattle.tor_tree.specs.steps.Reading.{entry_at};
 ghost use Rattle.tor_tree.specs.declared.tree_file.TreeFault.TheVariants.{Memory, Shape};
 
 use crate::names::{Name, copy_names};

@@ -14,7 +14,8 @@ ghost use Rattle.tor_tree.specs.Path.{HasNames, IsFilePath, path_cmp};
 ghost use Rattle.tor_tree.specs.PathList.{AreIndices};
 ghost use Rattle.tor_tree.specs.TidyTree.{AtMostOneTree, HasItsRoot, IsFileTreeOf};
 ghost use Rattle.tor_tree.specs.WrittenTree.{file_tree};
-ghost use Rattle.tor_tree.specs.declared.lists.TheConstants.{MAX_LENGTH, MAX_TOTAL, ROUNDING};
+ghost use Rattle.tor_merkle.specs.declared.TheConstants.{MAX_LENGTH};
+ghost use Rattle.tor_tree.specs.declared.lists.TheConstants.{MAX_TOTAL, ROUNDING};
 ghost use Rattle.tor_tree.specs.declared.paths.TheConstants.{MAX_NAMES};
 
 /// A list of files with their roots has at most one tidy file tree.
@@ -108,7 +109,6 @@ pub fn files_of_tree_are_files()
 
 /// The limits of a list of files, in bytes, and of a path, in names.
 pub fn limits_of_lists()
-    ensures length { MAX_LENGTH ≡ 2 ^ 50 }
     ensures total { MAX_TOTAL ≡ 2 ^ 62 }
     ensures rounding { ROUNDING ≡ 2 ^ 30 }
     ensures names { MAX_NAMES ≡ 64 }

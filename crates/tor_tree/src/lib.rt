@@ -17,6 +17,7 @@
 //!   that were handed in, where lengths are still to be asked.
 //! - [`from_item`] (`read_tree.rt`): the files that a tree describes, each a [`TreeFile`] (`tree_file.rt`); they are in
 //!   order.
+//! - [`letters_of`] (`properties.rt`): the letters of a file's `attr`.
 //! - [`to_item`] (`write_tree.rt`): the tidy tree of a list; there is one at most.
 //! - [`Kind`] (`kinds.rt`): which sides a torrent has.
 //! - [`laws`] (`laws.rt`): laws over the definitions of `specs/`.
@@ -39,10 +40,11 @@ mod tree_file;
 mod write_tree;
 
 pub use kinds::Kind;
-pub use lists::{FileList, ListError, MAX_LENGTH, MAX_TOTAL, ROUNDING};
+pub use lists::{FileList, ListError, MAX_TOTAL, ROUNDING};
 pub use names::{Name, NameError, copy_names, each_is_name};
 pub use path_lists::PathList;
 pub use paths::{FilePath, MAX_NAMES};
+pub use properties::letters_of;
 pub use read_tree::from_item;
-pub use tree_file::{Hash, TreeFault, TreeFile};
+pub use tree_file::{TreeFault, TreeFile};
 pub use write_tree::to_item;

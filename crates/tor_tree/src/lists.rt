@@ -3,16 +3,15 @@ ghost use Rattle.std.specs.Prelude.{◌≡◌, ◌⊎◌, MatchOption, ◌<◌, 
 ghost use Rattle.std.specs.Int.{next_multiple_of};
 ghost use Rattle.tor_tree.specs.FileList.{lengths_of, lengths_too_large};
 ghost use Rattle.tor_tree.specs.declared.lists.ListError.TheVariants.{Memory};
-ghost use Rattle.tor_tree.specs.declared.lists.TheConstants.{MAX_LENGTH, MAX_TOTAL, ROUNDING};
+ghost use Rattle.tor_merkle.specs.declared.TheConstants.{MAX_LENGTH};
+ghost use Rattle.tor_tree.specs.declared.lists.TheConstants.{MAX_TOTAL, ROUNDING};
 
 use crate::path_faults::paths_fault;
 use crate::paths::{FilePath, each_is_path};
 use std::alloc::{AllocError, AllocFailed, Global};
 use std::marker::Model;
 use thiserror::Error;
-
-/// The most bytes that a file may have.
-pub const MAX_LENGTH: u64 = 1 << 50;
+use tor_merkle::MAX_LENGTH;
 
 /// The most bytes that all files may have, each rounded up to a multiple of `ROUNDING`.
 pub const MAX_TOTAL: u64 = 1 << 62;

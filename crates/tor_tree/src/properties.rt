@@ -4,11 +4,11 @@ ghost use Rattle.std.specs.Int.{w64};
 ghost use Rattle.std.specs.Option.{option_copied};
 ghost use Rattle.tor_bencode.specs.Find.{value_of};
 ghost use Rattle.tor_bencode.specs.View.{view};
-ghost use Rattle.tor_tree.specs.Properties.{as_integer};
-ghost use Rattle.tor_tree.specs.Reading.{facts_of, letters_of, hash_of};
+ghost use Rattle.tor_tree.specs.Properties.{as_integer, letters_of};
+ghost use Rattle.tor_tree.specs.steps.Reading.{facts_of, hash_of};
 
-use crate::tree_file::Hash;
 use tor_bencode::{Item, find};
+use tor_merkle::Hash;
 
 /// What the properties of a file say, before they are judged.
 #[derive(Drop)]
@@ -46,8 +46,8 @@ fn length_of(item: &Item) -> Option<i64>
     }
 }
 
-/// The letters of `attr`, none of them where it is absent; None where it is no byte string.
-fn letters_of(item: &Item) -> Option<&[u8]>
+/// The letters of `attr` (BEP 47), none of them where it is absent; None where it is no byte string.
+pub fn letters_of(item: &Item) -> Option<&[u8]>
     ensures { option_copied result ≡ letters_of (view item.now) }
 {
     match find(item, b"attr") {

@@ -6,7 +6,7 @@ ghost use Rattle.std.specs.List.{list_any};
 ghost use Rattle.tor_bencode.specs.View.{view};
 ghost use Rattle.tor_tree.specs.FileList.{lengths_too_large};
 ghost use Rattle.tor_tree.specs.FileTree.{files_of_tree, is_dictionary, takes_memory, tree_fault};
-ghost use Rattle.tor_tree.specs.Reading.{entries_fault, file_from, misses_root};
+ghost use Rattle.tor_tree.specs.steps.Reading.{entries_fault, file_from, misses_root};
 ghost use Rattle.tor_tree.specs.declared.tree_file.TreeFault.TheVariants.{Memory, Shape};
 
 use crate::entries::{Entry, add_folder};

@@ -7,9 +7,7 @@ use crate::names::NameError;
 use crate::paths::FilePath;
 use std::alloc::{AllocError, AllocFailed};
 use thiserror::Error;
-
-/// A SHA-256 hash.
-pub type Hash = [u8; 32];
+use tor_merkle::Hash;
 
 /// A file of a file tree (BEP 52, "file tree").
 #[derive(Debug, Drop)]

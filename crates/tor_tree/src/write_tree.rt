@@ -9,14 +9,14 @@ ghost use Rattle.tor_tree.specs.Properties.{properties_for};
 ghost use Rattle.tor_tree.specs.TidyTree.{IsFileTreeOf, HasItsRoot};
 ghost use Rattle.tor_tree.specs.steps.Writing.{IsRoot, files_below, has_name_at};
 ghost use Rattle.tor_tree.specs.WrittenTree.{file_tree, pairs_of_files};
-ghost use Rattle.tor_tree.specs.declared.lists.TheConstants.{MAX_LENGTH};
+ghost use Rattle.tor_merkle.specs.declared.TheConstants.{MAX_LENGTH};
 
 use crate::lists::FileList;
 use crate::names::Name;
 use crate::paths::FilePath;
-use crate::tree_file::Hash;
 use std::alloc::{AllocError, Global};
 use tor_bencode::Item;
+use tor_merkle::Hash;
 
 /// The tidy file tree of the files: no empty folder, and no keys but those that are needed.
 /// `roots` has the pieces root of each file, and none for an empty one.

@@ -1,7 +1,14 @@
--- The hashes that the parts and units of a plan have in the trees of their files. Only private clauses cite these.
-use Rattle.std.specs.Prelude.{ℕ, List, [], ◌∷◌, length, take, drop, nat_le, slice_index_or, if◌then◌else◌}
-use Rattle.std.specs.List.{flat_map}
-use Rattle.tor_merkle.specs.Layer.{pieces_root, piece_roots}
+-- What the parts and units of a plan have in the trees of their files. Only private clauses cite these.
+use Rattle.std.specs.Prelude.{◌≡◌, ◌*◌, ◌^◌, ◌<◌, ◌≤◌, ℕ, List, [], ◌∷◌, length, map, take, drop, nat_lt}
+use Rattle.std.specs.Prelude.{slice_index_or, Option, None, Some, if◌then◌else◌}
+use Rattle.std.specs.Int.{div_ceil}
+use Rattle.std.specs.List.{AllByRecursion, range_with_len}
+use Rattle.std.specs.Option.{ForSome}
+use Rattle.tor_merkle.specs.Block.{leaves, run_at}
+use Rattle.tor_merkle.specs.Layer.{IsPieceLength, pieces_root, piece_layer, piece_roots}
+use Rattle.tor_merkle.specs.Stack.{padded_subtree}
+use Rattle.tor_merkle.specs.declared.TheConstants.{BLOCK_LENGTH}
+use Rattle.tor_plan.specs.declared.forests.Run.{Run}
 use Rattle.tor_plan.specs.declared.units.Part.{Part}
 use Rattle.tor_plan.specs.declared.units.PlanUnit.{PlanUnit}
 
@@ -9,19 +16,46 @@ use Rattle.tor_plan.specs.declared.units.PlanUnit.{PlanUnit}
 abbrev pub bytes_of_part : List (List ℕ) → Part → List ℕ
 bytes_of_part contents part = take part.length (drop part.start (slice_index_or contents part.file []))
 
--- the hash of each piece of a part of a file of so many bytes: its root, widened where the file has more than one
-abbrev pub hashes_of_bytes : ℕ → ℕ → List ℕ → List (List ℕ)
-hashes_of_bytes piece_length size bytes =
-    if nat_le size piece_length then pieces_root bytes ∷ [] else piece_roots bytes piece_length
+-- the level of the units of files that have several; all trees have the same
+abbrev pub level_of : List Run → Option ℕ
+level_of [] = None
+level_of (run ∷ runs) = Some run.level
 
-abbrev pub hashes_of_part : ℕ → List (List ℕ) → Part → List (List ℕ)
-hashes_of_part piece_length contents part =
-    hashes_of_bytes piece_length (length (slice_index_or contents part.file [])) (bytes_of_part contents part)
+-- that of a unit which has so many of the bytes of its file; none of one that is alone there
+abbrev pub level_in : Option ℕ → ℕ → ℕ → Option ℕ
+level_in level size count = if nat_lt count size then level else None
 
-abbrev pub hashes_of_unit : ℕ → List (List ℕ) → PlanUnit → List (List ℕ)
-hashes_of_unit piece_length contents unit = flat_map (hashes_of_part piece_length contents) unit.parts
+-- a node of a tree, and the hashes below it where one covers one piece
+abbrev pub Node : Type 0
+Node = List ℕ × List (List ℕ)
 
--- of an empty file none, of one of at most a piece its root, of a longer one those of its layer
-abbrev pub hashes_of_file : ℕ → List ℕ → List (List ℕ)
-hashes_of_file piece_length [] = []
-hashes_of_file piece_length (byte ∷ bytes) = hashes_of_bytes piece_length (length (byte ∷ bytes)) (byte ∷ bytes)
+-- that of the bytes of a unit: alone in its file the root and the layer (BEP 52, "pieces root" and "piece layers"),
+-- else the node at its level, over zero leaves past the end, and the hashes that it has in the layer of its file
+abbrev pub node_over : ℕ → Option ℕ → List ℕ → Node
+node_over piece_length None bytes = (pieces_root bytes, piece_layer bytes piece_length)
+node_over piece_length (Some level) bytes = (padded_subtree level 0 (leaves bytes), piece_roots bytes piece_length)
+
+abbrev pub node_of_part : ℕ → Option ℕ → List (List ℕ) → Part → Node
+node_of_part piece_length level contents part =
+    node_over piece_length (level_in level (length (slice_index_or contents part.file [])) part.length)
+    (bytes_of_part contents part)
+
+-- for each part one
+abbrev pub nodes_of_unit : ℕ → Option ℕ → List (List ℕ) → PlanUnit → List Node
+nodes_of_unit piece_length level contents unit = map (node_of_part piece_length level contents) unit.parts
+
+-- those of the units of a file, which is cut every size bytes
+abbrev pub nodes_of_file : ℕ → ℕ → Option ℕ → List ℕ → List Node
+nodes_of_file piece_length size level content =
+    map (λ run. node_over piece_length (level_in level (length content) (length run)) run)
+    (map (run_at size content) (range_with_len 0 (div_ceil (length content) size)))
+
+-- files of these lengths are cut every size bytes, which are some pieces; the units of those that have several stand at
+-- the level
+pub record IsCut (piece_length size : ℕ) (level : Option ℕ) (lengths : List ℕ) : Type 0 where
+  pub allowed : IsPieceLength piece_length
+  pub span : ℕ
+  pub some : 0 < span
+  pub pieces : size ≡ span * piece_length
+  pub stands : ForSome level (λ k. (k ≤ 36) × (size ≡ BLOCK_LENGTH * 2 ^ k))
+  pub alone : level ≡ None → AllByRecursion (λ m. m ≤ size) lengths

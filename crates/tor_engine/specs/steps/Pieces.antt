@@ -1,17 +1,16 @@
 -- What the pieces of units hash to. Only private clauses cite these.
-use Rattle.std.specs.Prelude.{◌≡◌, ℕ, ◌/◌, ◌<◌, ◌≤◌, true, false, All, List, [], length, map, slice_get}
-use Rattle.std.specs.Prelude.{slice_index_or, Bool, nat_le, ◌||◌, Option, None}
-use Rattle.std.specs.Prelude.{Some, unwrap_or, if◌then◌else◌}
-use Rattle.std.specs.List.{flat_map, list_any}
+use Rattle.std.specs.Prelude.{◌≡◌, ℕ, ◌/◌, ◌<◌, ◌≤◌, true, false, All, List, length, map}
+use Rattle.std.specs.Prelude.{Bool, nat_le, ◌||◌, Option, None}
+use Rattle.std.specs.Prelude.{Some, unwrap_or}
+use Rattle.std.specs.List.{AllByRecursion, list_any}
 use Rattle.std.specs.Simd.{first_chunks}
-use Rattle.tor_plan.specs.Content.{unit_content}
 use Rattle.tor_plan.specs.Pieces.{pieces_of_unit}
 use Rattle.tor_plan.specs.PlanFacts.{PlanFacts}
 use Rattle.tor_plan.specs.WithinEntries.{unit_length}
 use Rattle.tor_plan.specs.declared.units.Part.{Part}
 use Rattle.tor_plan.specs.declared.units.PlanUnit.{PlanUnit}
 use Rattle.tor_source.specs.Source.{SourceFacts}
-use Rattle.tor_tree.specs.Kinds.{has_v1, has_v2}
+use Rattle.tor_tree.specs.Kinds.{has_v2}
 use Rattle.tor_v1.specs.Piece.{piece_sums, zeros}
 use Rattle.tor_engine.specs.Contents.{contents_in}
 use Rattle.tor_engine.specs.Fault.{first_of}
@@ -19,36 +18,20 @@ use Rattle.tor_engine.specs.PieceFault.{pieces_fault}
 use Rattle.tor_engine.specs.PieceHashes.{hash_if_there}
 use Rattle.tor_engine.specs.declared.errors.EngineError.{EngineError}
 use Rattle.tor_engine.specs.declared.piece_hash.PieceHash.{PieceHash}
-use Rattle.tor_engine.specs.steps.Hashes.{bytes_of_part, hashes_of_bytes}
+use Rattle.tor_engine.specs.steps.Hashes.{bytes_of_part}
 use Rattle.tor_engine.specs.steps.Run.{IsUnitOf}
 
--- ---- of a unit that is there
-
--- the joined SHA-1 of its pieces, where the kind has them
-abbrev pub unit_sums : PlanFacts → List (List ℕ) → PlanUnit → List ℕ
-unit_sums plan contents unit =
-    if has_v1 plan.kind then piece_sums plan.piece_length (unit_content contents unit) else []
-
--- the Merkle hashes of the pieces of a part, whose file has the length that the plan says
-abbrev pub part_roots : PlanFacts → List (List ℕ) → Part → List (List ℕ)
-part_roots plan contents part =
-    hashes_of_bytes plan.piece_length (slice_index_or plan.lengths part.file 0) (bytes_of_part contents part)
-
--- those of its pieces, where the kind has them
-abbrev pub unit_roots : PlanFacts → List (List ℕ) → PlanUnit → List (List ℕ)
-unit_roots plan contents unit = if has_v2 plan.kind then flat_map (part_roots plan contents) unit.parts else []
+-- ---- of a piece that is there
 
 -- joined SHA-1, one by one
 abbrev pub sums_in : List ℕ → List (List ℕ)
 sums_in text = first_chunks 20 (length text / 20) text
 
--- the first hashes of both lists
-abbrev pub first_hashes : List (List ℕ) → List (List ℕ) → PieceHash
-first_hashes sums roots = record { v1 = slice_get sums 0; v2 = slice_get roots 0 }
-
--- those of a unit: all there are, where it is one piece
-abbrev pub unit_hash : PlanFacts → List (List ℕ) → PlanUnit → PieceHash
-unit_hash plan contents unit = first_hashes (sums_in (unit_sums plan contents unit)) (unit_roots plan contents unit)
+-- contents have some bytes of each part, and no more than a piece
+abbrev pub HasPieces : ℕ → List (List ℕ) → List Part → Type 0
+HasPieces piece_length contents parts =
+    AllByRecursion (λ part. (0 < length (bytes_of_part contents part))
+    × (length (bytes_of_part contents part) ≤ piece_length)) parts
 
 -- ---- of any unit
 
@@ -95,11 +78,11 @@ pub record IsUnitToHash (plan : PlanFacts) (unit : PlanUnit) : Type 0 where
   pub within : IsUnitOf plan unit
   pub pieces : All (IsPiece plan) (pieces_of_unit plan.piece_length unit)
 
--- these are the hashes of the pieces of units of files with these lengths: of a steady source those of what it has,
+-- these are the hashes of the pieces of a unit of files with these lengths: of a steady source those of what it has,
 -- and of any source one for each piece
 pub record HashesPieces {F : Type 0} (is_steady : SourceFacts F → Type 0) (plan : PlanFacts) (told : List (Option ℕ))
-    (units : List PlanUnit) (hashes : List (Option PieceHash)) : Type 0 where
+    (unit : PlanUnit) (hashes : List (Option PieceHash)) : Type 0 where
   pub steady : (facts : SourceFacts F) → is_steady facts
       → AreTold told (contents_in facts (length plan.lengths))
-      → hashes ≡ flat_map (unit_hashes plan (contents_in facts (length plan.lengths))) units
-  pub counted : length hashes ≡ length (flat_map (pieces_of_unit plan.piece_length) units)
+      → hashes ≡ unit_hashes plan (contents_in facts (length plan.lengths)) unit
+  pub counted : length hashes ≡ length (pieces_of_unit plan.piece_length unit)

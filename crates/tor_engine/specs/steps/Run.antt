@@ -1,7 +1,10 @@
--- What a run of units sums up to. Only private clauses cite these.
-use Rattle.std.specs.Prelude.{◌≡◌, ℕ, ◌^◌, ◌≤◌, true, List, [], ◌∷◌, All, length, map}
+-- What units sum up to. Only private clauses cite these.
+use Rattle.std.specs.Prelude.{◌≡◌, ℕ, ◌*◌, ◌^◌, ◌≤◌, true, List, [], ◌∷◌, All, length, map}
 use Rattle.std.specs.Prelude.{if◌then◌else◌}
 use Rattle.std.specs.List.{flat_map}
+use Rattle.std.specs.Option.{ForSome}
+use Rattle.tor_merkle.specs.Layer.{piece_level}
+use Rattle.tor_merkle.specs.declared.TheConstants.{BLOCK_LENGTH}
 use Rattle.tor_plan.specs.Content.{unit_content}
 use Rattle.tor_plan.specs.PlanFacts.{PlanFacts}
 use Rattle.tor_plan.specs.WithinEntries.{IsInFile, unit_length}
@@ -11,16 +14,11 @@ use Rattle.tor_source.specs.Source.{SourceFacts}
 use Rattle.tor_tree.specs.Kinds.{has_v1, has_v2}
 use Rattle.tor_tree.specs.declared.kinds.Kind.{Kind}
 use Rattle.tor_v1.specs.Piece.{piece_sums}
-use Rattle.tor_engine.specs.declared.run.RunSums.{RunSums}
 use Rattle.tor_engine.specs.declared.hasher.Hashed.{Hashed}
-use Rattle.tor_engine.specs.steps.Hasher.{AreHashesOf}
-use Rattle.tor_engine.specs.steps.Hashes.{bytes_of_part, hashes_of_unit}
+use Rattle.tor_engine.specs.declared.unit_sums.UnitSums.{UnitSums}
+use Rattle.tor_engine.specs.Hasher.{AreHashesOf}
+use Rattle.tor_engine.specs.steps.Hashes.{Node, bytes_of_part, level_of, nodes_of_unit}
 use Rattle.tor_engine.specs.steps.Reads.{AreReads, HaveRead, PartRead}
-
--- the hashes of the pieces of files, where the kind has trees
-abbrev pub hashes_of_units : Kind → ℕ → List (List ℕ) → List PlanUnit → List (List ℕ)
-hashes_of_units kind piece_length contents units =
-    if has_v2 kind then flat_map (hashes_of_unit piece_length contents) units else []
 
 -- the joined SHA-1 of the pieces of each unit, where the kind has them
 abbrev pub sums_of_units : Kind → ℕ → List (List ℕ) → List PlanUnit → List ℕ
@@ -31,11 +29,12 @@ sums_of_units kind piece_length contents units =
 abbrev pub parts_of : List PlanUnit → List Part
 parts_of units = flat_map (λ unit. unit.parts) units
 
--- the sums are those of the units of files with these contents
-pub record AreRunSums (plan : PlanFacts) (contents : List (List ℕ)) (units : List PlanUnit)
-    (sums : RunSums) : Type 0 where
-  pub hashes : sums.hashes.items ≡ hashes_of_units plan.kind plan.piece_length contents units
-  pub pieces : sums.pieces.items ≡ sums_of_units plan.kind plan.piece_length contents units
+-- the nodes, where the kind has trees, and the joined SHA-1 are those of the units of files with these contents
+pub record AreSumsOfUnits (plan : PlanFacts) (contents : List (List ℕ)) (units : List PlanUnit)
+    (given : List Node) (sums : List ℕ) : Type 0 where
+  pub nodes : has_v2 plan.kind ≡ true
+      → given ≡ flat_map (nodes_of_unit plan.piece_length (level_of plan.trees) contents) units
+  pub pieces : sums ≡ sums_of_units plan.kind plan.piece_length contents units
 
 -- a unit was read, and hashes to this, as it does in any contents that have what was read
 pub record HashesUnit {F : Type 0} (is_steady : SourceFacts F → Type 0) (plan : PlanFacts) (unit : PlanUnit)
@@ -46,13 +45,21 @@ pub record HashesUnit {F : Type 0} (is_steady : SourceFacts F → Type 0) (plan 
       → AreHashesOf plan.kind plan.piece_length (flat_map (bytes_of_part contents) unit.parts)
       (unit_content contents unit) hashed
 
--- units were read, and the sums are those of any contents that have what was read
+-- units were read, and these are the sums of any contents that have what was read
 pub record HashesUnits {F : Type 0} (is_steady : SourceFacts F → Type 0) (plan : PlanFacts) (units : List PlanUnit)
-    (run_sums : RunSums) : Type 0 where
+    (nodes : List Node) (pieces : List ℕ) : Type 0 where
   pub reads : List PartRead
   pub are : AreReads is_steady plan (parts_of units) reads
   pub sums : (contents : List (List ℕ)) → map length contents ≡ plan.lengths → HaveRead contents reads
-      → AreRunSums plan contents units run_sums
+      → AreSumsOfUnits plan contents units nodes pieces
+
+abbrev pub node_in : UnitSums → Node
+node_in sums = (sums.hash, sums.layer.items)
+
+-- so is one unit
+abbrev pub SumsUpUnit : {F : Type 0} → (SourceFacts F → Type 0) → PlanFacts → PlanUnit → UnitSums → Type 0
+SumsUpUnit is_steady plan unit sums =
+    HashesUnits is_steady plan (unit ∷ []) (node_in sums ∷ []) sums.pieces.items
 
 -- the unit is one part, and nothing else
 abbrev pub IsOnePart : PlanUnit → Type 0
@@ -64,3 +71,14 @@ pub record IsUnitOf (plan : PlanFacts) (unit : PlanUnit) : Type 0 where
   pub within : unit_length unit ≤ 2 ^ 40
   pub parts : All (IsInFile plan.lengths) unit.parts
   pub alone : has_v2 plan.kind ≡ true → IsOnePart unit
+
+-- a node at this level has room for so many bytes
+abbrev pub HasRoomAt : ℕ → ℕ → ℕ → Type 0
+HasRoomAt piece_length count level =
+    (piece_level piece_length ≤ level) × (level ≤ 36) × (count ≤ BLOCK_LENGTH * 2 ^ level)
+
+-- so is a unit of the plan; it has no more bytes than its level has room for
+pub record IsUnitToSum (plan : PlanFacts) (unit : PlanUnit) : Type 0 where
+  pub within : IsUnitOf plan unit
+  pub room : ForSome (level_of plan.trees)
+      (λ k. (has_v2 plan.kind ≡ true) × HasRoomAt plan.piece_length (unit_length unit) k)

@@ -5,7 +5,7 @@ use Rattle.tor_source.specs.Source.{SourceFacts, bytes_from}
 use Rattle.tor_tree.specs.Kinds.{has_v1, has_v2}
 use Rattle.tor_tree.specs.declared.kinds.Kind.{Kind}
 use Rattle.tor_engine.specs.declared.worker.WorkerSums.{WorkerSums}
-use Rattle.tor_engine.specs.steps.Hasher.{HasFedUnit}
+use Rattle.tor_engine.specs.Hasher.{HasFedContent}
 use Rattle.tor_engine.specs.steps.Room.{held_in}
 
 -- the sums took these bytes of files, and those of the whole unit up to now, with its zeros: the hasher was fed the
@@ -13,7 +13,7 @@ use Rattle.tor_engine.specs.steps.Room.{held_in}
 pub record HasTaken (kind : Kind) (piece_length : ℕ) (bytes unit : List ℕ) (sums : WorkerSums) : Type 0 where
   pub fed_bytes : List ℕ
   pub fed_unit : List ℕ
-  pub fed : HasFedUnit kind piece_length fed_bytes fed_unit sums.hasher
+  pub fed : HasFedContent kind piece_length fed_bytes fed_unit sums.hasher
   pub bytes_joined : has_v2 kind ≡ true → fed_bytes ++ held_in sums.room ≡ bytes
   pub unit_joined : has_v1 kind ≡ true → fed_unit ++ held_in sums.room ≡ unit
 

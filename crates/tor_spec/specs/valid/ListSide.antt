@@ -11,7 +11,8 @@ use Rattle.tor_tree.specs.FileList.{lengths_too_large, paths_nest, paths_repeat}
 use Rattle.tor_tree.specs.Name.{name_fault}
 use Rattle.tor_tree.specs.Properties.{are_properties, as_string, has_letter, has_negative_length}
 use Rattle.tor_tree.specs.Properties.{length_of, letter_h, letter_l, letter_x}
-use Rattle.tor_tree.specs.declared.lists.TheConstants.{MAX_LENGTH, MAX_TOTAL}
+use Rattle.tor_merkle.specs.declared.TheConstants.{MAX_LENGTH}
+use Rattle.tor_tree.specs.declared.lists.TheConstants.{MAX_TOTAL}
 use Rattle.tor_spec.specs.valid.Parts.{is_list, is_string, is_there, items_of_list, name_of, part}
 use Rattle.tor_spec.specs.valid.Parts.{piece_length_of, text_of}
 

@@ -1,6 +1,6 @@
 use Rattle.std.proofs.Common.{◌≡◌, drop}
 use Rattle.std.specs.Slice.Iter.{iter_rest}
-use Rattle.tor_check.specs.Listed.{sized_files, tree_pairs}
+use Rattle.tor_check.specs.steps.Listed.{sized_files, tree_pairs}
 use Rattle.tor_spec.specs.valid.SidesAgree.{same_files}
 use Rattle.tor_check.proofs.agree.files_differ.Given as goal
 

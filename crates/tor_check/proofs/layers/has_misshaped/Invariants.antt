@@ -1,6 +1,6 @@
 use Rattle.std.proofs.Common.{◌≡◌, false, take}
 use Rattle.std.specs.List.{list_any}
-use Rattle.tor_check.specs.Layers.{seen}
+use Rattle.tor_check.specs.steps.Layers.{seen}
 use Rattle.tor_spec.specs.valid.Layers.{is_misshaped}
 use Rattle.tor_check.proofs.layers.has_misshaped.Given as goal
 

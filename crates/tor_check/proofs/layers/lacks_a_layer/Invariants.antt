@@ -1,6 +1,6 @@
 use Rattle.std.proofs.Common.{◌≡◌, false, take}
 use Rattle.std.specs.List.{list_any}
-use Rattle.tor_check.specs.Layers.{seen}
+use Rattle.tor_check.specs.steps.Layers.{seen}
 use Rattle.tor_spec.specs.valid.Layers.{lacks_layer}
 use Rattle.tor_check.proofs.layers.lacks_a_layer.Given as goal
 

@@ -1,7 +1,7 @@
 use Rattle.std.proofs.Common.{◌≡◌, ap, arith, rules, sym, ◌∙◌, ◌++◌, ◌∷◌, [], Some, take}
 use Rattle.std.proofs.lemmas.List.{take_all}
 use Rattle.tor_check.proofs.SideLemmas.{sized_file, sized_padding}
-use Rattle.tor_check.specs.Listed.{size_of_listed, sized_files}
+use Rattle.tor_check.specs.steps.Listed.{size_of_listed, sized_files}
 use Rattle.tor_check.proofs.list_side.sized_files.Goals as goal
 use Rattle.tor_check.proofs.list_side.sized_files.Goals.{in-Some+in_ok-copy+in_ok-push, in_default}
 

@@ -1,7 +1,7 @@
 use Rattle.std.proofs.Common.{◌≡◌, false, map, take}
 use Rattle.std.specs.List.{list_any}
 use Rattle.tor_bencode.specs.View.{view}
-use Rattle.tor_check.specs.Listed.{listed_entry}
+use Rattle.tor_check.specs.steps.Listed.{listed_entry}
 use Rattle.tor_spec.specs.valid.ListSide.{is_no_entry}
 use Rattle.tor_check.proofs.listed.read_entries.Given as goal
 

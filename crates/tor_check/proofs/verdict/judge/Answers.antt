@@ -3,8 +3,8 @@ use Rattle.tor_bencode.specs.View.{view}
 use Rattle.tor_check.proofs.HeadFacts.{allowed}
 use Rattle.tor_check.proofs.NoneHolds.{before_memory}
 use Rattle.tor_check.proofs.Stages.{at_end, at_head, at_layers, at_alignment, at_sides}
-use Rattle.tor_check.specs.Judged.{IsFirst, first_of_alignment}
-use Rattle.tor_check.specs.Sides.{first_of_both}
+use Rattle.tor_check.specs.steps.Judged.{IsFirst, first_of_alignment}
+use Rattle.tor_check.specs.steps.Sides.{first_of_both}
 use Rattle.tor_spec.specs.valid.Conditions.{refusal_of}
 use Rattle.tor_check.proofs.verdict.judge.Goals as goal
 use Rattle.tor_check.proofs.verdict.judge.Goals.{In_default-judge_alignment}

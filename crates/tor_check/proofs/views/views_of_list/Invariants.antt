@@ -1,5 +1,5 @@
 use Rattle.std.proofs.Common.{◌≡◌, map, take}
-use Rattle.tor_check.specs.Listed.{files_from}
+use Rattle.tor_check.specs.steps.Listed.{files_from}
 use Rattle.tor_spec.specs.valid.ListSide.{without_padding}
 use Rattle.tor_spec.specs.valid.View.{file_of_list}
 use Rattle.tor_check.proofs.views.views_of_list.Given as goal

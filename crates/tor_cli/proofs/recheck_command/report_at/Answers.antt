@@ -1,7 +1,7 @@
 -- Why nothing is printed is that of the torrent that was judged, and of as many places as it has files.
 use Rattle.std.proofs.Common.{ℕ, length, subst}
 use Rattle.tor_recheck.specs.Recheck.{IsGiven}
-use Rattle.tor_cli.specs.Place.{IsFileFault}
+use Rattle.tor_cli.specs.Place.{IsFileEnd, IsFileFault, IsFileSize}
 use Rattle.tor_cli.specs.Status.{of_refusal}
 use Rattle.tor_cli.proofs.Judging.{no_torrent}
 use Rattle.tor_cli.proofs.Rechecking.{not_judged, not_placed, not_rechecked, places_count}
@@ -27,5 +27,6 @@ returns-clause-stopped g c =
     let count = places_count c.args.place.now view source c.in-Ok-source_at.ensures.placed in
     rw c.from-in-Err-counted_report.ensures
     (not_rechecked c.args.bytes.now view c.in-Ok.ensures.accepted error
-    (subst (λ (n : ℕ). IsGiven (IsFileFault n) (length view.files) error) count c.in-Err-counted_report.ensures.gave)
+    (subst (λ (n : ℕ). IsGiven (IsFileFault n) (IsFileSize n) IsFileEnd (length view.files) error) count
+    c.in-Err-counted_report.ensures.gave)
     c.in-Err-counted_report.ensures.allowed)

@@ -2,7 +2,7 @@
 use Rattle.std.proofs.Common.{◌≤◌, arith, length, refl}
 use Rattle.std.proofs.lemmas.Result.{err_from_is_err_and}
 use Rattle.std.specs.Prelude.{string_bytes}
-use Rattle.tor_input.specs.declared.input.TheConstants.{MAX_INPUT_LENGTH}
+use Rattle.tor_source.specs.declared.input.TheConstants.{MAX_INPUT_LENGTH}
 use Rattle.tor_cli.proofs.telling.tell_torrent.Goals as goal
 
 pub returns-in_err-write_out-clause-stopped : goal.returns-in_err-write_out-clause-stopped

@@ -1,7 +1,7 @@
 -- The line of the answer, or a front of it, was written.
 use Rattle.std.proofs.Common.{◌≤◌, ◌∙◌, arith, length, refl}
 use Rattle.std.proofs.lemmas.Result.{err_from_is_err_and}
-use Rattle.tor_input.specs.declared.input.TheConstants.{MAX_INPUT_LENGTH}
+use Rattle.tor_source.specs.declared.input.TheConstants.{MAX_INPUT_LENGTH}
 use Rattle.tor_cli.proofs.verify_command.verify.Goals as goal
 
 pub returns-in_err-write_out-clause-stopped : goal.returns-in_err-write_out-clause-stopped

@@ -4,16 +4,18 @@ use Rattle.std.specs.List.{All}
 use Rattle.tor_plan.specs.declared.units.PlanUnit.{PlanUnit}
 use Rattle.tor_engine.specs.Contents.{contents_in}
 use Rattle.tor_engine.specs.Fault.{units_fault}
-use Rattle.tor_engine.specs.steps.Run.{HashesUnits, IsUnitOf}
+use Rattle.tor_engine.specs.steps.Run.{IsUnitToSum}
 use Rattle.tor_engine.proofs.PlanFaults.{fault_of_plan}
+use Rattle.tor_engine.proofs.PlanLevels.{units_to_sum}
 use Rattle.tor_engine.proofs.ReadContents.{contents_there, plan_there}
-use Rattle.tor_engine.proofs.Whole.{lengths_hold, units_of_plan}
+use Rattle.tor_engine.proofs.UnitRuns.{units_summed}
+use Rattle.tor_engine.proofs.Whole.{lengths_hold}
 use Rattle.tor_engine.proofs.engine.hash_told.Goals as goal
 
 pub hash_units-requires-clause-units : goal.hash_units-requires-clause-units
 hash_units-requires-clause-units g c = λ κs lives.
-    subst (λ (units : List PlanUnit). All (IsUnitOf c.args.plan.now) units) (sym c.units-units.ensures.value)
-    (units_of_plan c.args.plan.now c.units-units.ensures.planned)
+    subst (λ (units : List PlanUnit). All (IsUnitToSum c.args.plan.now) units) (sym c.units-units.ensures.value)
+    (units_to_sum c.args.plan.now c.units-units.ensures.planned)
 
 pub returns-in-Err-clause-summed : goal.returns-in-Err-clause-summed
 returns-in-Err-clause-summed g c = λ facts steady none.
@@ -24,20 +26,20 @@ returns-in-Err-clause-summed g c = λ facts steady none.
           ∙ fault_of_plan facts plan c.units-units.ensures.planned) ∙ fault)
     ]
 
-pub sums_of_run-requires : goal.sums_of_run-requires
-sums_of_run-requires g c = c.units-units.ensures.planned
+pub sums_of_units-requires : goal.sums_of_units-requires
+sums_of_units-requires g c = c.units-units.ensures.planned
 
 pub returns-clause-summed : goal.returns-clause-summed
 returns-clause-summed g c = λ facts steady none.
     let plan = c.args.plan.now in
     let fit = lengths_hold facts plan none in
     let contents = contents_in facts (length plan.lengths) in
-    let summed = subst (λ (units : List PlanUnit).
-    HashesUnits (g.S.Source.is_steady c.args.source.now) plan units c.in-Ok.run_sums) c.units-units.ensures.value
+    let summed = units_summed (g.S.Source.is_steady c.args.source.now) plan c.units-units.result.now plan.units
+    c.in-Ok.unit_sums.items c.deref.result.now c.units-units.ensures.value c.deref.ensures.value
     c.in-Ok.ensures.summed in
     let hashed = summed.sums contents fit (summed.are.steady facts steady
     (plan_there facts plan fit c.units-units.ensures.planned)) in (
-      c.in_ok-sums.ensures contents fit hashed.hashes hashed.pieces,
+      c.in_ok-sums.ensures contents fit hashed,
       sym (ap (units_fault facts) c.units-units.ensures.value
           ∙ fault_of_plan facts plan c.units-units.ensures.planned) ∙ c.in-Ok.ensures.fault facts (steady, fit),
     )
@@ -45,10 +47,10 @@ returns-clause-summed g c = λ facts steady none.
 pub returns-clause-whole : goal.returns-clause-whole
 returns-clause-whole g c =
     let plan = c.args.plan.now in
-    let summed = subst (λ (units : List PlanUnit).
-    HashesUnits (g.S.Source.is_steady c.args.source.now) plan units c.in-Ok.run_sums) c.units-units.ensures.value
+    let summed = units_summed (g.S.Source.is_steady c.args.source.now) plan c.units-units.result.now plan.units
+    c.in-Ok.unit_sums.items c.deref.result.now c.units-units.ensures.value c.deref.ensures.value
     c.in-Ok.ensures.summed in
     let there = contents_there (g.S.Source.is_steady c.args.source.now) plan summed.reads c.units-units.ensures.planned
     summed.are in
     let hashed = summed.sums there.0 there.1 there.2 in
-    (there.0, there.1, c.in_ok-sums.ensures there.0 there.1 hashed.hashes hashed.pieces)
+    (there.0, there.1, c.in_ok-sums.ensures there.0 there.1 hashed)

@@ -2,9 +2,13 @@
 use Rattle.std.proofs.Common.{◌≡◌, length}
 use Rattle.tor_source.specs.Source.{SourceFacts}
 use Rattle.tor_engine.specs.Fault.{ToldLengths}
+use Rattle.tor_engine.specs.Given.{HasToldLengths}
 use Rattle.tor_engine.proofs.lengths.ask_lengths.Given as goal
 
 abbrev pub invariant-files : goal.invariant-files
-invariant-files g l = (length l.lengths.items ≡ l.file)
-    × ((facts : SourceFacts g.row.S-Fault.Denot) → g.S.Source.is_steady l.source facts →
-    ToldLengths facts l.file l.lengths.items)
+invariant-files g l = record {
+  counted : length l.lengths.items ≡ l.file;
+  told : HasToldLengths (g.S.Source.told l.source) l.lengths.items;
+  steady : (facts : SourceFacts g.row.S-Fault.Denot) → g.S.Source.is_steady l.source facts →
+      ToldLengths facts l.file l.lengths.items;
+}

@@ -1,10 +1,11 @@
 -- a piece of padding, and one that is read
-use Rattle.std.proofs.Common.{Option, List, length, ap, subst, sym, ◌∙◌, ℕ, Some, inl, inr}
+use Rattle.std.proofs.Common.{Option, List, length, ap, cond, subst, sym, ◌∙◌, ℕ, None, Some, inl, inr}
 use Rattle.tor_engine.specs.Contents.{contents_in}
+use Rattle.tor_engine.specs.PieceHashes.{piece_hash}
+use Rattle.tor_engine.specs.steps.Given.{lengths_of_sizes}
 use Rattle.tor_engine.specs.steps.Pieces.{AreTold, IsPaddingSum}
-use Rattle.tor_engine.proofs.FileHashes.{allowed_with_trees}
-use Rattle.tor_engine.proofs.OnePiece.{fault_there, padding_fault, padding_hash, piece_alone}
-use Rattle.tor_engine.proofs.PartsInside.{source_has_unit}
+use Rattle.tor_engine.proofs.OnePiece.{fault_there, padding_fault, padding_hash}
+use Rattle.tor_engine.proofs.PartsInside.{unit_in_told}
 use Rattle.tor_engine.proofs.piece_work.hash_if_there.Goals as goal
 
 pub returns-in-Some-clause-hashed : goal.returns-in-Some-clause-hashed
@@ -25,11 +26,8 @@ returns-in-Ok-clause-hashed g c = λ facts steady told.
     let contents = contents_in facts (length plan.lengths) in
     let known = subst (λ (sizes : List (Option ℕ)). AreTold sizes contents) (sym c.deref.ensures.value) told in
     let there = sym (c.is_there.ensures contents known) ∙ c.if-not-is_there.false in
-    let have = source_has_unit facts plan piece c.requires.piece.unit.parts there in
-    let answer = c.in-Ok.ensures.hashed facts steady have in (
-      ap Some answer.0
-          ∙ piece_alone c.root_of_short_content.ensures c.length_of_sums.ensures plan contents piece c.requires.piece
-          there (allowed_with_trees plan.kind plan.piece_length c.requires.planned.pieces),
+    let answer = c.in-Ok.ensures.hashed facts steady there in (
+      ap Some answer.0 ∙ sym (ap (λ b. cond b (Some (piece_hash plan contents piece)) None) there),
       sym (fault_there facts contents piece there) ∙ answer.1,
     )
 
@@ -40,8 +38,17 @@ returns-in-Err-clause-hashed g c = λ facts steady told.
     let contents = contents_in facts (length plan.lengths) in
     let known = subst (λ (sizes : List (Option ℕ)). AreTold sizes contents) (sym c.deref.ensures.value) told in
     let there = sym (c.is_there.ensures contents known) ∙ c.if-not-is_there.false in
-    let have = source_has_unit facts plan piece c.requires.piece.unit.parts there in
-    elim (c.in-Err.ensures.hashed facts steady have) [
+    elim (c.in-Err.ensures.hashed facts steady there) [
       | inl memory ↦ inl memory
       | inr fault ↦ inr (sym (fault_there facts contents piece there) ∙ fault)
     ]
+
+pub returns-in-Err-clause-gave : goal.returns-in-Err-clause-gave
+returns-in-Err-clause-gave g c =
+    let sizes = c.args.known.now.lengths.items in
+    let piece = c.args.piece.now in
+    c.in-Err.ensures.gave (lengths_of_sizes sizes)
+    (unit_in_told sizes c.args.plan.now.lengths piece c.requires.piece.unit.parts
+    (λ contents told.
+    let known = subst (λ (xs : List (Option ℕ)). AreTold xs contents) (sym c.deref.ensures.value) told in
+    sym (c.is_there.ensures contents known) ∙ c.if-not-is_there.false))

@@ -1,12 +1,13 @@
 -- the pieces, and the lengths again
-use Rattle.std.proofs.Common.{ℕ, List, length, inl, inr, ap, subst, sym, ◌∙◌}
+use Rattle.std.proofs.Common.{List, length, inl, inr, ap, subst, sym, ◌∙◌}
 use Rattle.std.specs.List.{All, flat_map}
+use Rattle.tor_plan.specs.Pieces.{pieces_of_unit}
 use Rattle.tor_plan.specs.declared.units.PlanUnit.{PlanUnit}
 use Rattle.tor_engine.specs.Contents.{contents_in}
-use Rattle.tor_engine.specs.Fault.{IsGivenNotMissing}
-use Rattle.tor_engine.specs.PieceFault.{first_asked_fault, lengths_told}
+use Rattle.tor_engine.specs.steps.Asked.{first_again_fault}
 use Rattle.tor_engine.specs.steps.Pieces.{IsUnitToHash, first_unit_fault, unit_hashes}
-use Rattle.tor_engine.proofs.AllPieces.{all_hashes, are_told, fault_after}
+use Rattle.tor_engine.proofs.AllPieces.{all_hashes, are_told, fault_after, hashes_counted, hashes_joined}
+use Rattle.tor_engine.proofs.AskedLengths.{again_same, same_again}
 use Rattle.tor_engine.proofs.PlanPieces.{units_to_hash}
 use Rattle.tor_engine.proofs.pieces.hash_known.Goals as goal
 
@@ -26,32 +27,37 @@ returns-in-Err-clause-hashed g c = λ facts steady told none.
           ∙ fault_after facts plan none) ∙ fault)
     ]
 
-pub returns-in-Ok-expect_each-clause-hashed : goal.returns-in-Ok-expect_each-clause-hashed
-returns-in-Ok-expect_each-clause-hashed g c = λ facts steady told none.
+pub returns-clause-hashed : goal.returns-clause-hashed
+returns-clause-hashed g c = λ facts steady told none.
     let plan = c.args.plan.now in
     let contents = contents_in facts (length plan.lengths) in
-    let known = are_told facts c.args.known.now.lengths.items (length plan.lengths) told in (
-      c.in-Ok.ensures.summed.steady facts steady known
+    let sizes = c.args.known.now.lengths.items in
+    let known = are_told facts sizes (length plan.lengths) told in (
+      c.in_ok-joined.ensures ∙ ap (flat_map (λ one. one.items)) c.deref-2.ensures.value
+          ∙ hashes_joined (g.S.Source.is_steady c.args.source.now) plan sizes facts steady known _ _
+          c.in-Ok.ensures.summed
           ∙ ap (flat_map (unit_hashes plan contents)) c.units-units.ensures.value ∙ all_hashes plan contents,
       sym (ap (first_unit_fault facts plan contents) c.units-units.ensures.value ∙ fault_after facts plan none)
           ∙ c.in-Ok.ensures.fault facts (steady, known),
     )
 
-pub returns-in-Ok-expect_each-clause-unchanged : goal.returns-in-Ok-expect_each-clause-unchanged
-returns-in-Ok-expect_each-clause-unchanged g c = λ facts steady.
-    sym c.deref.ensures.value ∙ c.in-Ok-expect_each.ensures.unchanged facts steady
-    ∙ ap (lengths_told facts) (ap length c.deref.ensures.value ∙ c.requires.counted)
+pub returns-clause-counted : goal.returns-clause-counted
+returns-clause-counted g c =
+    let plan = c.args.plan.now in
+    ap length (c.in_ok-joined.ensures ∙ ap (flat_map (λ one. one.items)) c.deref-2.ensures.value)
+    ∙ hashes_counted (g.S.Source.is_steady c.args.source.now) plan c.args.known.now.lengths.items _ _
+    c.in-Ok.ensures.summed
+    ∙ ap (λ units. length (flat_map (pieces_of_unit plan.piece_length) units)) c.units-units.ensures.value
+
+pub returns-clause-unchanged : goal.returns-clause-unchanged
+returns-clause-unchanged g c = λ facts steady.
+    again_same facts c.args.known.now.lengths.items (length c.args.plan.now.lengths) c.requires.counted
+    (ap (first_again_fault facts) (sym c.deref.ensures.value) ∙ c.in-Ok-expect_each.ensures.steady facts steady)
 
 pub returns-in-Err-expect_each-clause-hashed : goal.returns-in-Err-expect_each-clause-hashed
 returns-in-Err-expect_each-clause-hashed g c = λ facts steady told none.
-    let count = ap length c.deref.ensures.value ∙ c.requires.counted in
-    let again = c.deref.ensures.value ∙ told ∙ ap (lengths_told facts) (sym count) in
-    let never = c.in-Err-expect_each.ensures.steady facts steady again
-    (ap (first_asked_fault facts) count ∙ none) in
+    let same = same_again facts c.args.known.now.lengths.items (length c.args.plan.now.lengths) c.requires.counted told
+    none in
+    let never = sym (c.in-Err-expect_each.ensures.steady facts steady)
+    ∙ ap (first_again_fault facts) c.deref.ensures.value ∙ same in
     cc
-
-pub returns-in-Err-expect_each-clause-gave : goal.returns-in-Err-expect_each-clause-gave
-returns-in-Err-expect_each-clause-gave g c =
-    subst (λ (n : ℕ). IsGivenNotMissing (g.S.Source.gave c.args.source.now) n c.in-Err-expect_each.error)
-    (ap length c.deref.ensures.value ∙ c.requires.counted)
-    c.in-Err-expect_each.ensures.gave

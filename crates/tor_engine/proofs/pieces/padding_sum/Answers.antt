@@ -18,7 +18,7 @@ returns c =
     (ap has_v2 (sym c.kind.ensures) ∙ sym c.has_v2.ensures ∙ c.if-has_v2.false)
     (c.finish-joined.ensures plan.piece_length (zeros plan.piece_length)
     (subst (λ (n : ℕ). HasFed c.feed_zeros.new.pieces plan.piece_length (zeros n)) c.piece_length-3.ensures
-    (c.in_ok-feed_zeros.ensures plan.piece_length []
+    (c.in_ok-feed_zeros.ensures.fed plan.piece_length []
     (subst (λ (n : ℕ). HasFed c.new-sums.result n []) c.piece_length-2.ensures c.new-sums.ensures))))
     (c.item_at.ensures
     ∙ ap (λ xs. slice_get xs 0)

@@ -4,21 +4,31 @@ use Rattle.tor_plan.specs.Content.{unit_content}
 use Rattle.tor_tree.specs.Kinds.{has_v1}
 use Rattle.tor_v1.specs.Piece.{piece_sums}
 use Rattle.tor_engine.proofs.PartReads.{reads_as}
+use Rattle.tor_engine.proofs.UnitNodes.{node_of_unit, room_of_unit}
 use Rattle.tor_engine.proofs.unit_sums.sum_unit.Goals as goal
+
+pub new-requires : goal.new-requires
+new-requires g c = λ tree found level at.
+    let room = c.requires.unit.room level (c.level_in.ensures.tree level at) in
+    room_of_unit c.args.plan.now c.args.unit.now c.requires.unit.within room.0
+    (g.S.FileBytes.is_steady c.args.source.now) c.in-Ok.hashed tree level c.in-Ok.ensures.hashed found room.1
 
 pub returns-clause-summed : goal.returns-clause-summed
 returns-clause-summed g c =
     let unit = c.args.unit.now in
+    let plan = c.args.plan.now in
     let hashed = c.in-Ok.ensures.hashed in
     record {
       reads = hashed.reads;
-      are = reads_as (g.S.FileBytes.is_steady c.args.source.now) c.args.plan.now unit.parts (unit.parts ++ [])
+      are = reads_as (g.S.FileBytes.is_steady c.args.source.now) plan unit.parts (unit.parts ++ [])
           hashed.reads (sym (append-nil unit.parts)) hashed.are;
       sums = λ contents fit have.
           let all = hashed.hashes contents have in
           record {
-            hashes = c.in_ok-hashes.ensures contents fit all.tree;
-            pieces = all.pieces ∙ ap (λ xs. cond (has_v1 c.args.plan.now.kind) xs [])
-                (sym (append-nil (piece_sums c.args.plan.now.piece_length (unit_content contents unit))));
+            nodes = λ trees. node_of_unit plan unit c.requires.unit.within trees contents fit _ c.level_in.result
+                c.in-Ok.hashed.tree all.tree c.new.ensures.node c.level_in.ensures.level;
+            pieces = ap (λ pieces. pieces.items) c.new.ensures.pieces ∙ all.pieces
+                ∙ ap (λ xs. cond (has_v1 plan.kind) xs [])
+                (sym (append-nil (piece_sums plan.piece_length (unit_content contents unit))));
           };
     }

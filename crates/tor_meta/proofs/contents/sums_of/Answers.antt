@@ -1,4 +1,4 @@
-use Rattle.tor_tree.specs.declared.lists.TheConstants.{MAX_LENGTH}
+use Rattle.tor_merkle.specs.declared.TheConstants.{MAX_LENGTH}
 use Rattle.tor_meta.proofs.ContentSteps.{contents_small}
 use Rattle.tor_meta.proofs.contents.sums_of.Goals as goal
 

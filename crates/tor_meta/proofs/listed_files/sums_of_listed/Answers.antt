@@ -1,9 +1,10 @@
 -- the plan's sums are those that the head asks for
-use Rattle.std.proofs.Common.{◌≡◌, ℕ, inl, inr, length, map, ap, subst, sym, ◌∙◌}
+use Rattle.std.proofs.Common.{◌≡◌, ℕ, List, inl, inr, length, map, ap, subst, sym, ◌∙◌}
 use Rattle.std.proofs.lemmas.List.{length-map}
 use Rattle.tor_engine.specs.Contents.{contents_in}
-use Rattle.tor_engine.specs.Fault.{IsGivenNotMissing, first_byte_fault, first_length_fault}
-use Rattle.tor_meta.specs.Sums.{SumUp}
+use Rattle.tor_engine.specs.Fault.{first_byte_fault, first_length_fault}
+use Rattle.tor_engine.specs.Given.{IsGivenNotMissing}
+use Rattle.tor_meta.specs.steps.Sums.{SumUp}
 use Rattle.tor_meta.proofs.SourceSums.{from_plan}
 use Rattle.tor_tree.specs.FileList.{lengths_of}
 use Rattle.tor_meta.proofs.listed_files.sums_of_listed.Goals as goal
@@ -40,13 +41,13 @@ returns-clause-steady g c = λ facts steady none.
     let count : length plan.lengths ≡ length list = ap (λ plan. length plan.lengths) is
     ∙ length-map list (λ file. file.1) in
     let there = subst (λ (n : ℕ). (map length (contents_in facts n) ≡ lengths_of list)
-    × SumUp head list (contents_in facts n)
-    (record { roots = c.in-Ok.sums.roots; layers = c.in-Ok.sums.layers; pieces = c.in-Ok.sums.pieces })) count both in
+    × SumUp head list (contents_in facts n) c.in-Ok.sums) count both in
     (there.0, there.1, sym (ap (λ plan. first_byte_fault facts plan.lengths) is) ∙ told.1)
 
 pub returns-in-Err-clause-gave : goal.returns-in-Err-clause-gave
 returns-in-Err-clause-gave g c =
-    let list = c.args.list.now in
-    let count = ap (λ plan. length plan.lengths) c.in_ok-plan.ensures ∙ length-map list (λ file. file.1) in
-    subst (λ (n : ℕ). IsGivenNotMissing (g.S.Source.gave c.args.source.now) n c.in-Err.error) count
-    c.in-Err.ensures.gave
+    let source = c.args.source.now in
+    subst (λ (lengths : List ℕ).
+    IsGivenNotMissing (g.S.Source.gave source) (g.S.Source.told source) (g.S.Source.ended source) lengths
+    c.in-Err.error)
+    (ap (λ plan. plan.lengths) c.in_ok-plan.ensures) c.in-Err.ensures.gave

@@ -1,4 +1,4 @@
-use Rattle.std.proofs.Common.{◌∷◌, [], ◌≡◌}
+use Rattle.std.proofs.Common.{◌∷◌, []}
 use Rattle.tor_meta.proofs.OneFile.{only_one}
 use Rattle.tor_meta.proofs.making.list_of_one.Goals as goal
 

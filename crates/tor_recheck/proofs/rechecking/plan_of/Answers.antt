@@ -1,12 +1,37 @@
--- sixteen pieces are a span
-use Rattle.std.proofs.Common.{refl, arith}
-use lib.Count.{ones}
+-- what is cut are the torrent's entries, or its files where it has no v1 side
+use Rattle.std.proofs.Common.{◌∙◌, map, subst, sym, ap}
+use Rattle.std.proofs.lemmas.Bool.{cond-true, cond-false}
+use Rattle.tor_check.specs.ValidViews.{IsViewOfValid}
+use Rattle.tor_recheck.specs.Pieces.{IsCut}
+use Rattle.tor_spec.specs.valid.View.{View}
+use Rattle.tor_tree.specs.Kinds.{has_v1}
+use Rattle.tor_v1.specs.Entries.{file_entry}
+use Rattle.tor_recheck.proofs.ProvedLaws.{valid_torrents_are_cut}
 use Rattle.tor_recheck.proofs.rechecking.plan_of.Goals as goal
 
-pub of_entries-requires-clause-span : goal.of_entries-requires-clause-span
-unfolding ones
-of_entries-requires-clause-span c = (refl, omega arith, omega arith)
+cut_of : (view : View) → IsViewOfValid view → IsCut view
+cut_of view valid = subst IsCut (sym valid.described) (valid_torrents_are_cut valid.tree valid.accepted)
 
-pub of_entries-requires-2-clause-span : goal.of_entries-requires-2-clause-span
-unfolding ones
-of_entries-requires-2-clause-span c = (refl, omega arith, omega arith)
+pub cut_entries-requires : goal.cut_entries-requires
+cut_entries-requires c = record {
+  cut = cut_of c.args.torrent.now c.files-files.ensures.valid;
+  entries = c.entries.ensures
+      ∙ sym (cond-true _ _ _ (sym (c.has_v1.ensures ∙ ap has_v1 c.kind.ensures) ∙ c.if-has_v1.true));
+}
+
+pub cut_entries-requires-2 : goal.cut_entries-requires-2
+cut_entries-requires-2 c = record {
+  cut = cut_of c.args.torrent.now c.files-files.ensures.valid;
+  entries = c.deref.ensures.value ∙ c.in_ok-entries.ensures
+      ∙ ap (map (λ told. file_entry (told.file.path, told.file.length))) c.files-files.ensures.value
+      ∙ sym (cond-false _ _ _ (sym (c.has_v1.ensures ∙ ap has_v1 c.kind.ensures) ∙ c.if-has_v1.false));
+}
+
+pub returns-then-has_v1-clause-cut : goal.returns-then-has_v1-clause-cut
+returns-then-has_v1-clause-cut c = cut_of c.args.torrent.now c.files-files.ensures.valid
+
+pub returns-in_err-entries-clause-cut : goal.returns-in_err-entries-clause-cut
+returns-in_err-entries-clause-cut c = cut_of c.args.torrent.now c.files-files.ensures.valid
+
+pub returns-clause-cut : goal.returns-clause-cut
+returns-clause-cut c = cut_of c.args.torrent.now c.files-files.ensures.valid

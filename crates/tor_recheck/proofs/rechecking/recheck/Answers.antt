@@ -2,6 +2,7 @@
 use Rattle.std.proofs.Common.{[], ℕ, length, ap, subst, sym, ◌∙◌}
 use Rattle.tor_engine.specs.Contents.{contents_in}
 use Rattle.tor_engine.specs.Fault as engine
+use Rattle.tor_engine.specs.Given.{IsGivenPieces}
 use Rattle.tor_engine.specs.PieceFault.{first_piece_fault}
 use Rattle.tor_engine.specs.PieceHashes.{piece_hashes, pieces_of_plan}
 use Rattle.tor_plan.specs.PlanFacts.{PlanFacts, plan_of_entries}
@@ -50,7 +51,9 @@ returns-in-Err-clause-gave g c =
     let view = c.args.torrent.now in
     let cut = c.in_ok-plan.ensures.cut in
     let count = ap (λ (p : PlanFacts). length p.lengths) c.in_ok-plan.ensures.planned ∙ count_is view [] cut in
-    subst (λ error. IsGiven (g.S.Source.gave c.args.source.now) (length view.files) error) (sym c.into.ensures)
-    (given_of (g.S.Source.gave c.args.source.now) (length view.files) c.in-Err.error
-    (subst (λ (n : ℕ). engine.IsGivenNotMissing (g.S.Source.gave c.args.source.now) n c.in-Err.error) count
-    c.in-Err.ensures.gave))
+    let gave = g.S.Source.gave c.args.source.now in
+    let told = g.S.Source.told c.args.source.now in
+    let ended = g.S.Source.ended c.args.source.now in
+    subst (λ error. IsGiven gave told ended (length view.files) error) (sym c.into.ensures)
+    (given_of gave told ended (length view.files) c.in-Err.error
+    (subst (λ (n : ℕ). IsGivenPieces gave told ended n c.in-Err.error) count c.in-Err.ensures.gave))

@@ -1,7 +1,7 @@
 -- the hasher was fed the whole unit
 use Rattle.std.proofs.Common.{◌≡◌, sym, subst, rules}
-use Rattle.tor_engine.specs.declared.hasher.UnitHasher.{UnitHasher}
-use Rattle.tor_engine.specs.steps.Hasher.{HasFedUnit}
+use Rattle.tor_engine.specs.declared.hasher.ContentHasher.{ContentHasher}
+use Rattle.tor_engine.specs.Hasher.{HasFedContent}
 use Rattle.tor_engine.proofs.Waiting.{none_held, whole_unit}
 use Rattle.tor_engine.proofs.worker.WorkerSums.end_unit.Goals as goal
 
@@ -11,5 +11,5 @@ returns-clause-hashed c = λ kind p bytes unit taken.
     let kept = c.in_ok-hash_all.ensures.keeps kind p bytes unit taken in
     let same : c.replace.result ≡ mid.hasher = search rules in
     c.finish.ensures kind p bytes unit
-    (subst (λ (hasher : UnitHasher). HasFedUnit kind p bytes unit hasher) (sym same)
+    (subst (λ (hasher : ContentHasher). HasFedContent kind p bytes unit hasher) (sym same)
     (whole_unit kind p mid bytes unit (none_held mid.room c.in_ok-hash_all.ensures.none) kept))

@@ -1,24 +1,29 @@
--- the units are few, and whole blocks
-use Rattle.std.proofs.Common.{◌≡◌, ◌*◌, ◌^◌, ◌<◌, ◌≤◌, sum_by, arith, subst, sym, List, ℕ, ◌∙◌, inl, inr}
-use Rattle.std.specs.Int.{div_ceil}
-use Rattle.tor_plan.specs.Entries.{lengths_of_entries}
-use Rattle.tor_plan.proofs.Sizes.{few_units, piece_of_trees, whole_blocks}
+-- the whole is that of the entries, and its plan theirs
+use Rattle.std.proofs.Common.{◌≡◌, ◌∙◌, ap₂, subst, IfOk}
+use Rattle.tor_plan.specs.PlanFacts.{PlanFacts}
+use Rattle.tor_plan.specs.steps.Whole.{plan_of_whole}
+use Rattle.tor_plan.proofs.Sizes.{some_bytes}
+use Rattle.tor_plan.proofs.WholeUnits.{plan_is}
 use Rattle.tor_plan.proofs.plans.Plan.of_entries.Goals as goal
 
-pub trees_of-requires : goal.trees_of-requires
-trees_of-requires c =
-    let entries = c.args.entries.now in
-    let size = c.from.result * c.args.piece_length in
-    let least : 16384 ≤ c.args.piece_length = elim c.in-V2.is [
-      | inl is ↦ piece_of_trees c.args.kind c.args.piece_length (inl is) c.requires.pieces
-      | inr is ↦ piece_of_trees c.args.kind c.args.piece_length (inr is) c.requires.pieces
-    ] in
-    let whole : 16384 ≤ size =
-    whole_blocks c.from.result c.args.piece_length (omega (arith, c.from.ensures, c.requires.span)) least in
-    let lengths : c.deref.result.now ≡ lengths_of_entries entries = c.deref.ensures.value
-    ∙ c.in_ok-file_lengths.ensures in
-    record {
-      whole = whole;
-      few = subst (λ (xs : List ℕ). sum_by (λ m. div_ceil m size) xs < 2 ^ 64) (sym lengths)
-          (omega (arith, few_units entries size c.requires.entries.total (omega (arith, whole))));
-    }
+pub of_whole-requires : goal.of_whole-requires
+of_whole-requires c = record {
+  pieces = c.requires.pieces;
+  span = c.requires.span;
+  entries = record {
+    entries = c.args.entries.now;
+    is_list = c.requires.entries;
+    bytes = c.in_ok-whole.ensures;
+    files = c.in_ok-lengths.ensures;
+  };
+}
+
+pub returns : goal.returns
+returns c =
+    let kind = c.args.kind in
+    let p = c.args.piece_length in
+    let span = c.args.span in
+    subst (λ (all : PlanFacts). IfOk c.of_whole.result (λ plan. plan ≡ all))
+    (ap₂ (plan_of_whole kind p span) c.in_ok-whole.ensures c.in_ok-lengths.ensures
+    ∙ plan_is kind p span c.args.entries.now (some_bytes kind p span c.requires.span c.requires.pieces))
+    c.of_whole.ensures

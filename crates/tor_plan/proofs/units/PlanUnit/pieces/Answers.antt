@@ -5,26 +5,25 @@ use Rattle.std.proofs.lemmas.List.Sums.{sum_by_more}
 use Rattle.tor_plan.specs.Pieces.{pieces_of_unit}
 use Rattle.tor_plan.specs.declared.units.Part.{Part}
 use Rattle.tor_plan.specs.declared.units.PlanUnit.{PlanUnit}
-use Rattle.tor_plan.specs.steps.Joined.{HasCut}
-use Rattle.tor_plan.proofs.PieceCut.{bytes_of_part, first_zeros, ranges_of_unit, units_of_unit, zeros_of_part}
-use Rattle.tor_plan.proofs.PieceSteps.{part_length}
+use Rattle.tor_plan.specs.steps.UnitCut.{HasCut}
+use Rattle.tor_plan.proofs.PieceCut.{bytes_of_part, first_zeros, zeros_of_part}
+use Rattle.tor_plan.proofs.UnitJoins.{part_length}
 use Rattle.tor_plan.proofs.units.PlanUnit.pieces.Goals as goal
 
 pub parts-init : goal.parts-init
 parts-init c =
     let unit = c.args.self.now in
     record {
-      size = c.in_ok-add_padding.ensures.size ∙ c.new-cut.ensures.size;
-      cut = subst (HasCut c.add_padding.new.self (ranges_of_unit unit))
+      size = c.in_ok-add.ensures.size ∙ c.new-cut.ensures.size;
+      cut = subst (HasCut c.add.new.self unit)
           (let e : 0 + unit.zeros ≡ unit.zeros + sum_by part_length (take 0 unit.parts) = omega arith in e)
-          (c.in_ok-add_padding.ensures.cut (ranges_of_unit unit) 0 (c.new-cut.ensures.cut (ranges_of_unit unit))
+          (c.in_ok-add.ensures.cut unit 0 (c.new-cut.ensures.cut unit)
           (first_zeros unit));
     }
 
 pub parts-preserved : goal.parts-preserved
 parts-preserved c =
     let unit = c.args.self.now in
-    let ranges = ranges_of_unit unit in
     let i = c.parts.part-index in
     let none : Part = record { file = 0; start = 0; length = 0; zeros = 0 } in
     let same : c.as_slice-part-items.result.now ≡ unit.parts = c.as_slice-part-items.ensures in
@@ -34,12 +33,12 @@ parts-preserved c =
     ap (λ ps. get_or ps i none) same ∙ get_or_default unit.parts i none part lt in
     let at = unit.zeros + sum_by part_length (take i unit.parts) in
     record {
-      size = c.in_ok-add_padding-2.ensures.size ∙ c.in_ok-add_bytes.ensures.size ∙ c.parts.invariant.size;
-      cut = subst (HasCut c.add_padding-in-parts.new.self ranges)
+      size = c.in_ok-add-3.ensures.size ∙ c.in_ok-add-2.ensures.size ∙ c.parts.invariant.size;
+      cut = subst (HasCut c.add-in-parts-2.new.self unit)
           (let e : at + part.length + part.zeros ≡ unit.zeros + sum_by part_length (take (i + 1) unit.parts) =
           omega (arith, sum_by_more part_length unit.parts i part lt, ap part_length is) in e)
-          (c.in_ok-add_padding-2.ensures.cut ranges (at + part.length)
-          (c.in_ok-add_bytes.ensures.cut ranges at c.parts.invariant.cut (bytes_of_part unit i part lt is))
+          (c.in_ok-add-3.ensures.cut unit (at + part.length)
+          (c.in_ok-add-2.ensures.cut unit at c.parts.invariant.cut (bytes_of_part unit i part lt is))
           (zeros_of_part unit i part lt is));
     }
 
@@ -47,11 +46,10 @@ pub returns : goal.returns
 returns c =
     let unit = c.args.self.now in
     let cut = c.parts.cut in
-    let ranges = ranges_of_unit unit in
     let i = c.parts.part-index in
     let past : length unit.parts ≤ i =
     subst (λ (ps : List Part). length ps ≤ i) c.as_slice-part-items.ensures c.parts-test.false in
     subst (λ (all : List PlanUnit). IfOk c.finish.result (λ pieces. pieces.items ≡ all))
-    (units_of_unit cut.size unit ∙ ap (λ size. pieces_of_unit size unit) c.parts.invariant.size)
-    (c.finish.ensures ranges (subst (λ (ps : List Part). HasCut cut ranges (unit.zeros + sum_by part_length ps))
+    (ap (λ size. pieces_of_unit size unit) c.parts.invariant.size)
+    (c.finish.ensures unit (subst (λ (ps : List Part). HasCut cut unit (unit.zeros + sum_by part_length ps))
     (take_all i unit.parts past) c.parts.invariant.cut))

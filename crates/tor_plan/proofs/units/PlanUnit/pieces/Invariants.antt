@@ -1,12 +1,11 @@
 -- so many parts were added, with the zeros after them
 use Rattle.std.proofs.Common.{◌≡◌, ◌+◌, sum_by, take}
-use Rattle.tor_plan.specs.steps.Joined.{HasCut}
-use Rattle.tor_plan.proofs.PieceCut.{ranges_of_unit}
-use Rattle.tor_plan.proofs.PieceSteps.{part_length}
+use Rattle.tor_plan.specs.steps.UnitCut.{HasCut}
+use Rattle.tor_plan.proofs.UnitJoins.{part_length}
 use Rattle.tor_plan.proofs.units.PlanUnit.pieces.Given as goal
 
 abbrev pub invariant-parts : goal.invariant-parts
 invariant-parts l = record {
   size : l.cut.size ≡ l.piece_length;
-  cut : HasCut l.cut (ranges_of_unit l.self) (l.self.zeros + sum_by part_length (take l.part-index l.self.parts));
+  cut : HasCut l.cut l.self (l.self.zeros + sum_by part_length (take l.part-index l.self.parts));
 }

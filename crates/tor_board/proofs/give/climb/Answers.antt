@@ -1,0 +1,12 @@
+use Rattle.std.proofs.Common.{refl, arith}
+use Rattle.tor_board.proofs.Joins.{joined_none}
+use Rattle.tor_board.proofs.give.climb.Goals as goal
+
+pub nodes-init : goal.nodes-init
+nodes-init c = record {
+  table = refl;
+  low = c.requires.low;
+  few = omega arith;
+  climbs = c.requires.climbs;
+  view = (_, joined_none c.args.seat.now.me.0);
+}

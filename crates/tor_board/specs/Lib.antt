@@ -1,0 +1,17 @@
+pub mod Weights
+pub mod Spots
+pub mod Desks
+pub mod Machine
+pub mod Examples
+pub mod Climb
+pub mod Views
+pub mod Trees
+pub mod Rising
+pub mod Shapes
+pub mod Rule
+pub mod Plays
+pub mod Results
+pub mod Seats
+pub mod Running
+pub mod Stepping
+pub mod steps

@@ -1,0 +1,36 @@
+-- What a board tells in the end, from what was given.
+use Rattle.std.specs.Prelude.{◌≡◌, ℕ, ◌+◌, ◌-◌, ◌<◌, ◌≤◌, ◌⊎◌, List, cond, Option, None, Some}
+use Rattle.tor_merkle.specs.Stack.{padded_root}
+use Rattle.tor_plan.specs.declared.forests.Run.{Run}
+pub use Rattle.tor_board.specs.Desks.{hash_of, unit_hashes, in_run}
+use Rattle.tor_board.specs.Desks.{GivenUnit, units_of}
+use Rattle.tor_board.specs.Trees.{middle, word_of, slot_of}
+use Rattle.tor_board.specs.declared.tree.Tree.{Tree}
+use mathlib.Core.Option.{some}
+use lib.ListN.{get_elem?}
+use Rattle.tor_board.specs.Rule.{tops_of, TopsAre}
+use Rattle.tor_board.specs.Weights.{total, times}
+
+-- each of the tree's units was given
+abbrev pub IsComplete : List GivenUnit → Run → Type 0
+IsComplete given run = (u : ℕ) → run.first ≤ u → u < run.first + run.count → 0 < times u (units_of given)
+
+-- at how many nodes of the tree the gives came second
+abbrev pub joined_of : List GivenUnit → Run → ℕ
+joined_of given run = total (λ (g : GivenUnit). cond (in_run run g.unit) g.joined 0) given
+
+-- of the k-th tree: its root is there exactly where each of its units was given. Then it is that over their hashes,
+-- followed by zero subtrees up to a power of two; one give told it, and at each node one give came second
+abbrev pub IsTreeEnd : List GivenUnit → List (ℕ × List ℕ) → ℕ → Run → Option (List ℕ) → Type 0
+IsTreeEnd given tops k run None = (IsComplete given run → ⊥) × (tops_of k tops ≡ 0)
+IsTreeEnd given tops k run (Some root) =
+    IsComplete given run × (root ≡ padded_root run.level (unit_hashes given run))
+    × (tops_of k tops ≡ 1) × TopsAre k (λ hash. hash ≡ root) tops
+    × (joined_of given run ≡ run.count - 1)
+
+-- of the words and the slots' values: the root is that in the tree's slot where two came to the highest node, else none
+abbrev pub IsLeft : List ℕ → List (List ℕ) → Tree → Option (List ℕ) → Type 0
+IsLeft words slots t root =
+    (n : ℕ) × (get_elem? words (word_of t (middle (t.height - 1) 0)) ≡ some n)
+    × (((2 ≤ n) × ((x : List ℕ) × (get_elem? slots (slot_of t 0 0) ≡ some x) × (root ≡ Some x)))
+    ⊎ ((n < 2) × (root ≡ None)))

@@ -1,0 +1,88 @@
+-- The steps of a running board, as events of the machine. What a step tells is in Plays.
+use Rattle.std.specs.Prelude.{◌≡◌, ◌≢◌, ℕ, ◌+◌, ◌*◌, ◌%◌, ◌^◌, ◌<◌, ◌≤◌, List, [], ◌∷◌, ◌++◌, min, true, false, None}
+use Rattle.std.specs.Prelude.{Some, slice_index, slice_set}
+use mathlib.Core.Option.{some}
+use lib.ListN.{get_elem?}
+use Rattle.atomic_table.specs.Table.{State, Step}
+use Rattle.tor_board.specs.Machine.{Machine, Event, look, claim, hand, arrive, seal, fail, split, join, desk_at}
+use Rattle.tor_board.specs.Machine.{times_arrived, IsStep, IsLegalRun}
+use Rattle.tor_board.specs.Plays.{Seated, IsFree, looked, claimed, gave, arrived, sealed, failed}
+use Rattle.tor_board.specs.Rule.{Keeps, nobody, climbing}
+use Rattle.tor_board.specs.Running.{least_of, runs_of}
+use Rattle.tor_board.specs.Shapes.{IsTreeOf}
+use Rattle.tor_board.specs.Trees.{middle, slot_of, has_unit, ready}
+use Rattle.tor_board.specs.Views.{desks_of, first, keeping, fresh, both, spent}
+use Rattle.tor_board.specs.declared.tree.Tree.{Tree}
+use Rattle.tor_board.specs.declared.tree.Shape.{Shape}
+use Rattle.tor_board.specs.declared.view.View.{View}
+
+-- the machine stands where the board does. A side has arrived where what has come to it climbs to it no more
+pub record Shows (shape : Shape) (m : Machine) (s : State (List ℕ) View) : Type 0 where
+  pub claims : m.claims ≡ slice_index s.words 0
+  pub least : m.least ≡ least_of (slice_index s.words 1)
+  pub desks : m.desks ≡ desks_of s.views
+  pub sides : (t : Tree) → IsTreeOf shape t → (k i side : ℕ) → side < 2 → middle k i < t.count
+      → climbing (slot_of t (middle k i) side) s.views + times_arrived (record {
+        tree = t.number;
+        level = k;
+        index = 2 * i + side;
+      }) m.arrived
+      ≡ ready t s.words s.views k (2 * i + side)
+
+-- a step that sets one word, and changes what one seat knows
+abbrev pub IsChange : State (List ℕ) View → ℕ → ℕ → ℕ → View → State (List ℕ) View → Type 0
+IsChange s word n id w s' = (s'.words ≡ slice_set s.words word n) × (s'.views ≡ slice_set s.views id w)
+
+-- a step of the seat with that number, which knows v and has those slots; by its name it sets its word, and tells what
+-- that name's step tells
+pub data IsBoardStep (shape : Shape) (s : State (List ℕ) View) (id : ℕ) (v : View) (has : List (ℕ × List ℕ)) : Event
+    → State (List ℕ) View → Type 0 where
+  looks : (st : Step (List ℕ)) (after : Seated) (s' : State (List ℕ) View)
+      → looked st (v, has) (slice_index s.words 1) after
+      → IsChange s 1 (slice_index s.words 1) id after.0 s' → IsBoardStep shape s id v has look s'
+  claims : (st : Step (List ℕ)) (after : Seated) (s' : State (List ℕ) View)
+      → claimed st (v, has) (slice_index s.words 0) after
+      → IsChange s 0 ((slice_index s.words 0 + 1) % 2 ^ 64) id after.0 s' → IsBoardStep shape s id v has claim s'
+  hands : (st : Step (List ℕ)) (after : Seated) (s' : State (List ℕ) View) (u : ℕ) (hash : List ℕ)
+      → ((t : Tree) → IsTreeOf shape t → has_unit t u ≡ false)
+      → gave None u hash st (v, has) (slice_index s.words 0) after
+      → IsChange s 0 (slice_index s.words 0) id after.0 s' → IsBoardStep shape s id v has (hand u hash) s'
+  begins : (st : Step (List ℕ)) (after : Seated) (s' : State (List ℕ) View) (u : ℕ) (hash : List ℕ) (t : Tree)
+      → IsTreeOf shape t → has_unit t u ≡ true
+      → gave (Some t) u hash st (v, has) (slice_index s.words 0) after
+      → IsChange s 0 (slice_index s.words 0) id after.0 s' → IsBoardStep shape s id v has (hand u hash) s'
+  arrives : (st : Step (List ℕ)) (after : Seated) (s' : State (List ℕ) View)
+      → arrived st (v, has) (slice_index s.words st.word) after
+      → IsChange s st.word ((slice_index s.words st.word + 1) % 2 ^ 64) id after.0 s'
+      → IsBoardStep shape s id v has arrive s'
+  seals : (st : Step (List ℕ)) (after : Seated) (s' : State (List ℕ) View)
+      → sealed st (v, has) (slice_index s.words 0) after
+      → IsChange s 0 (slice_index s.words 0) id after.0 s' → IsBoardStep shape s id v has seal s'
+  fails : (st : Step (List ℕ)) (after : Seated) (s' : State (List ℕ) View)
+      → failed st (v, has) (slice_index s.words 1) after
+      → IsChange s 1 (min (slice_index s.words 1) st.first) id after.0 s'
+      → IsBoardStep shape s id v has (fail st.first) s'
+  splits : (s' : State (List ℕ) View) → 2 ≤ v.room → v.climb ≡ None → s'.words ≡ s.words
+      → s'.views ≡ slice_set s.views id (keeping v) ++ fresh v ∷ []
+      → IsBoardStep shape s id v has split s'
+  joins : (s' : State (List ℕ) View) (other : ℕ) (w : View) → get_elem? s.views other ≡ some w → other ≢ id → IsFree v
+      → IsFree w
+      → s'.words ≡ s.words → s'.views ≡ slice_set (slice_set s.views id (both v w)) other spent
+      → IsBoardStep shape s id v has (join other) s'
+
+-- what can have happened to a board, the last first: it opened, and each step kept the rule
+pub data IsHistory (shape : Shape) : List (ℕ × Event) → State (List ℕ) View → Type 0 where
+  opened : (s : State (List ℕ) View) → Keeps shape s → slice_index s.words 0 ≡ 0 → slice_index s.words 1 ≡ nobody
+      → ((i : ℕ) → 1 < i → slice_index s.words i ≡ 0) → s.views ≡ first shape.units ∷ [] → IsHistory shape [] s
+  stepped : (events : List (ℕ × Event)) (s s' : State (List ℕ) View) (id : ℕ) (v : View) (has : List (ℕ
+      × List ℕ)) (e : Event)
+      → IsHistory shape events s → get_elem? s.views id ≡ some v → IsBoardStep shape s id v has e s' → Keeps shape s'
+      → IsHistory shape ((id, e) ∷ events) s'
+
+-- that event of that seat takes the machine to where the board then stands
+abbrev pub IsEvent : Shape → Machine → ℕ → Event → State (List ℕ) View → Type 0
+IsEvent shape m id e s' = (n : Machine) × IsStep shape.units (runs_of shape) m id (desk_at m id) e n × Shows shape n s'
+
+-- those events are a legal run of the machine, which stands where the board does
+abbrev pub IsRunOf : Shape → List (ℕ × Event) → State (List ℕ) View → Type 0
+IsRunOf shape events s = (m : Machine) × IsLegalRun shape.units (runs_of shape) events m × Shows shape m s

@@ -1,0 +1,5 @@
+pub mod Judged
+pub mod Layers
+pub mod Listed
+pub mod Sides
+pub mod Views

@@ -1,0 +1,61 @@
+-- What `make_from` reads and writes.
+use Rattle.std.specs.Prelude.{◌≡◌, ◌⊎◌, ◌<◌, ℕ, List, [], ◌∷◌, length, take, Option, None, Some}
+use Rattle.std.specs.Io.KnownBytes.{Appends, Keeps}
+use Rattle.std.specs.declared.io.Error.{Error}
+use Rattle.tor_meta.specs.Make.{make_refusal}
+use Rattle.tor_meta.specs.Order.{settings_of_order}
+use Rattle.tor_meta.specs.declared.make_error.MakeError.{MakeError}
+use Rattle.tor_meta.specs.declared.make_error.MakeError.TheVariants.{Resources}
+use Rattle.tor_meta.specs.declared.order.Order.{Order}
+use Rattle.tor_spec.specs.Metainfo.{metainfo, only}
+use Rattle.tor_source.specs.Input.{ReadsAll, ReadsSome, EndsInput}
+use Rattle.tor_source.specs.declared.input.TheConstants.{MAX_INPUT_LENGTH}
+use Rattle.tor_meta.specs.declared.from_input.FromFault.{FromFault}
+use Rattle.tor_meta.specs.declared.from_input.FromFault.TheVariants.{Input, Make, Write}
+
+-- the torrent of one content under the torrent's name
+abbrev pub torrent_of : Order → List ℕ → List ℕ
+torrent_of order content = metainfo (settings_of_order order) (only order.name content)
+
+-- why no torrent is made of one content under the torrent's name
+abbrev pub refusal_of : Order → Option (MakeError Error)
+refusal_of order = make_refusal order ((order.name ∷ []) ∷ [])
+
+-- all that the reader had was read, and of its torrent this holds
+pub record MakesOf (order : Order) (reader reader' : Option (List ℕ)) (Holds : List ℕ → Type 0)
+    (content : List ℕ) : Type 0 where
+  pub read : ReadsAll reader reader' content
+  pub accepted : refusal_of order ≡ None
+  pub torrent : Holds (torrent_of order content)
+
+-- all that the reader had was read, and its torrent, and nothing else, was written
+abbrev pub MakesWhole : Order → Option (List ℕ) → Option (List ℕ) → Option (List ℕ) → Option (List ℕ) → List ℕ → Type 0
+MakesWhole order reader reader' writer writer' = MakesOf order reader reader' (Appends writer writer')
+
+-- so many bytes of a torrent, and nothing else, were written
+abbrev pub IsFront : Option (List ℕ) → Option (List ℕ) → ℕ → List ℕ → Type 0
+IsFront writer writer' written torrent = (written < length torrent) × Appends writer writer' (take written torrent)
+
+-- all that the reader had was read, and so many bytes of its torrent, and nothing else, were written
+abbrev pub MakesFront : Order → Option (List ℕ) → Option (List ℕ) → Option (List ℕ) → Option (List ℕ) → ℕ → List ℕ
+    → Type 0
+MakesFront order reader reader' writer writer' written = MakesOf order reader reader' (IsFront writer writer' written)
+
+-- what was read where no torrent is made
+abbrev pub StopsReading : Order → Option (List ℕ) → Option (List ℕ) → FromFault → Type 0
+-- some bytes were read
+StopsReading order reader reader' (Input fault) = ReadsSome reader reader' (EndsInput MAX_INPUT_LENGTH fault)
+-- all was read, and it is refused
+StopsReading order reader reader' (Make refusal) =
+    (content : List ℕ) × ReadsAll reader reader' content
+    × ((refusal_of order ≡ Some refusal) ⊎ (refusal ≡ Resources))
+StopsReading order reader reader' (Write fault) = ⊥
+
+-- what was read and written where it ended in this fault
+abbrev pub MakesPart : Order → Option (List ℕ) → Option (List ℕ) → Option (List ℕ) → Option (List ℕ) → FromFault
+    → Type 0
+-- all was read, and a front of its torrent was written
+MakesPart order reader reader' writer writer' (Write fault) =
+    (content : List ℕ) × MakesFront order reader reader' writer writer' fault.written content
+-- there is no torrent, and nothing was written
+MakesPart order reader reader' writer writer' fault = StopsReading order reader reader' fault × Keeps writer writer'

@@ -1,0 +1,4 @@
+pub mod Fields
+pub mod IndexedFiles
+pub mod Layers
+pub mod Sums

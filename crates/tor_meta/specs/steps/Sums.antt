@@ -1,0 +1,53 @@
+-- Sums that a torrent can be made of, and the facts that they tell.
+use Rattle.std.specs.Prelude.{◌≡◌, ◌≤◌, ℕ, true, false, All, List, length, map}
+use Rattle.std.specs.List.{AllZip}
+use Rattle.tor_merkle.specs.Layer.{IsPieceLength, piece_layer}
+use Rattle.tor_meta.specs.Head.{settings_of}
+use Rattle.tor_engine.specs.Sums.{lists_of}
+use Rattle.tor_meta.specs.declared.head.Head.{Head}
+use Rattle.tor_tree.specs.declared.paths.TheConstants.{MAX_NAMES}
+use Rattle.tor_engine.specs.declared.sums.Sums.{Sums}
+use Rattle.tor_spec.specs.Facts.{Facts, listed, layers_in, roots_in}
+use Rattle.tor_merkle.specs.Layer.{root_of}
+use Rattle.tor_spec.specs.Settings.{layout_of}
+use Rattle.tor_tree.specs.Kinds.{has_v1, has_v2}
+use Rattle.tor_tree.specs.FileList.{IsFileList, lengths_of}
+use Rattle.tor_tree.specs.TidyTree.{HasItsRoot}
+use Rattle.tor_v1.specs.Content.{v1_pieces}
+use Rattle.tor_v1.specs.Entries.{v1_entries}
+use Rattle.tor_v1.specs.Reserved.{takes_reserved}
+
+-- a list of files, of which no torrent is refused for the head or the paths
+pub record IsJudged (head : Head) (files : List (List (List ℕ) × ℕ)) : Type 0 where
+  pub is_list : IsFileList files
+  pub piece_length : IsPieceLength head.piece_length
+  pub short : All (λ file. length file.0 ≤ MAX_NAMES) files
+  pub one : head.single ≡ true → length files ≡ 1
+  pub free : takes_reserved (layout_of (settings_of head)) files ≡ false
+
+-- roots and layers for each of its files, a root just where the file is not empty
+pub record HaveTrees (head : Head) (files : List (List (List ℕ) × ℕ)) (sums : Sums) : Type 0 where
+  pub rooted : has_v2 head.kind ≡ true → AllZip HasItsRoot files sums.roots.items
+  pub layered : has_v2 head.kind ≡ true → length sums.layers.items ≡ length files
+
+-- the facts of the files, with these roots and layers where the head asks for them
+pub record AreFactsOf (head : Head) (files : List (List (List ℕ) × ℕ)) (sums : Sums)
+    (facts : List Facts) : Type 0 where
+  pub is_listed : listed facts ≡ files
+  pub is_rooted : has_v2 head.kind ≡ true → roots_in facts ≡ sums.roots.items
+  pub is_layered : has_v2 head.kind ≡ true → layers_in facts ≡ lists_of sums.layers.items
+
+-- the sums are those of the contents, as far as the head asks for them
+pub record SumUp (head : Head) (files : List (List (List ℕ) × ℕ)) (contents : List (List ℕ))
+    (sums : Sums) : Type 0 where
+  pub roots : has_v2 head.kind ≡ true → sums.roots.items ≡ map root_of contents
+  pub layers : has_v2 head.kind ≡ true
+      → lists_of sums.layers.items ≡ map (λ content. piece_layer content head.piece_length) contents
+  pub pieces : has_v1 head.kind ≡ true
+      → sums.pieces.items
+      ≡ v1_pieces head.piece_length (v1_entries (layout_of (settings_of head)) head.piece_length files) contents
+
+-- they are those of some contents, which have the lengths of the files
+abbrev pub SumUpSome : Head → List (List (List ℕ) × ℕ) → Sums → Type 0
+SumUpSome head files sums =
+    (contents : List (List ℕ)) × (map length contents ≡ lengths_of files) × SumUp head files contents sums

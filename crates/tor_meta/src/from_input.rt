@@ -1,0 +1,90 @@
+//! From a reader to the torrent of what it has, in a writer.
+ghost use Rattle.std.specs.Prelude.{◌≡◌, List, ℕ, IfErr, IfOk, OnOk};
+ghost use Rattle.tor_meta.specs.declared.make_error.MakeError.TheVariants.{Resources};
+ghost use Rattle.tor_meta.specs.FromInput.{MakesOf, MakesPart, MakesWhole, StopsReading};
+ghost use Rattle.tor_meta.specs.declared.from_input.FromFault.TheVariants.{Input, Make, Write};
+
+use crate::fed::FedSums;
+use crate::make_error::MakeError;
+use crate::making::make_fed;
+use crate::order::Order;
+use crate::output::{WriteFault, write_out};
+use std::alloc::{AllocError, Global};
+use std::io;
+use tor_source::{InputFault, MAX_INPUT_LENGTH, drop_input, read_parts};
+
+/// Why no whole torrent was written.
+#[derive(Debug, Drop)]
+pub enum FromFault {
+    Input(InputFault),
+    /// A refusal, or want of memory; no file is read.
+    Make(MakeError<io::Error>),
+    Write(WriteFault),
+}
+
+/// Reads all of a content, at most `MAX_INPUT_LENGTH` bytes, and writes the torrent of it under the order's name.
+/// Nothing of the content is kept.
+pub fn make_from<R: io::Read, W: io::Write>(
+    alloc: Global,
+    reader: &mut R,
+    writer: &mut W,
+    order: &Order,
+) -> Result<(), FromFault>
+    ensures made { OnOk result ((content : List ℕ) × MakesWhole order.now
+        (R.remaining reader.old) (R.remaining reader.new) (W.contents writer.old) (W.contents writer.new) content) }
+    ensures part { IfErr result (MakesPart order.now
+        (R.remaining reader.old) (R.remaining reader.new) (W.contents writer.old) (W.contents writer.new)) }
+{
+    let torrent = torrent_from(alloc, reader, order)?;
+    write_out(writer, &torrent)?;
+    Ok(())
+}
+
+/// Reads all of a content, at most `MAX_INPUT_LENGTH` bytes, and gives the torrent of it under the order's name. The
+/// caller's thread reads and hashes, whoever is to hash files.
+pub fn torrent_from<R: io::Read>(
+    alloc: Global,
+    reader: &mut R,
+    order: &Order,
+) -> Result<Vec<u8>, FromFault>
+    ensures made { IfOk result (λ torrent. (content : List ℕ) × MakesOf order.now
+        (R.remaining reader.old) (R.remaining reader.new) (λ bytes. torrent.items ≡ bytes) content) }
+    ensures stopped { IfErr result (StopsReading order.now (R.remaining reader.old) (R.remaining reader.new)) }
+{
+    match order.head_of_one(alloc) {
+        Ok(head) => {
+            let mut fed = FedSums::new(alloc, &head);
+            read_parts(alloc, reader, MAX_INPUT_LENGTH, &mut fed)?;
+            Ok(make_fed(alloc, &head, fed)?)
+        }
+        Err(refusal) => {
+            // A fault of the reader is answered before what is wrong with the order.
+            drop_input(alloc, reader)?;
+            Err(FromFault::Make(refusal))
+        }
+    }
+}
+
+impl From<AllocError> for FromFault {
+    ghost from_gives = { λ _ e. e ≡ Make Resources };
+
+    fn from(_error: AllocError) -> FromFault {
+        FromFault::Make(MakeError::Resources)
+    }
+}
+
+impl From<InputFault> for FromFault {
+    ghost from_gives = { λ fault e. e ≡ Input fault };
+
+    fn from(fault: InputFault) -> FromFault {
+        FromFault::Input(fault)
+    }
+}
+
+impl From<WriteFault> for FromFault {
+    ghost from_gives = { λ fault e. e ≡ Write fault };
+
+    fn from(fault: WriteFault) -> FromFault {
+        FromFault::Write(fault)
+    }
+}

@@ -1,0 +1,282 @@
+-- What all bytes of entries are, and the units that are cut of them.
+use Rattle.std.proofs.Common.{◌≡◌, ◌≢◌, ◌⊎◌, ℕ, ◌+◌, ◌*◌, ◌<◌, false, List, [], ◌∷◌, ◌++◌, length, map, drop, get_or}
+use Rattle.std.proofs.Common.{take, arith, refl, ap, ap₂, ◌∙◌, sym, append-nil, inl, inr}
+use Rattle.std.proofs.Common.{subst}
+use Rattle.std.proofs.lemmas.Bool.{lt-ltb, ltb-false, or_parts}
+use Rattle.std.proofs.lemmas.List.{nil_from_length, take_all}
+use Rattle.std.proofs.lemmas.List.Elements.{All-nil, All-cons, All-append, All-head, All-tail}
+use Rattle.std.specs.Int.{div_ceil}
+use Rattle.std.specs.List.{All, flat_map, list_any, range_with_len}
+use Rattle.tor_tree.specs.declared.kinds.Kind.{Kind}
+use Rattle.tor_tree.specs.declared.kinds.Kind.TheVariants.{V1, V2, Hybrid}
+use Rattle.tor_v1.specs.Content.{joined_content}
+use Rattle.tor_v1.specs.Entries.{padding_length}
+use Rattle.tor_v1.specs.Piece.{zeros}
+use Rattle.tor_v1.specs.declared.entry.Entry.{Entry}
+use Rattle.tor_plan.specs.Content.{part_content, unit_content}
+use Rattle.tor_plan.specs.Entries.{after_zeros, empty_unit}
+use Rattle.tor_plan.specs.Entries.{entry_units, lengths_of_entries, padding_before_next}
+use Rattle.tor_plan.specs.EntryList.{has_padding, is_filled, ArePadded, IsLaidOut}
+use Rattle.tor_plan.specs.Pieces.{piece_of_unit, pieces_of_unit}
+use Rattle.tor_plan.specs.Units.{file_unit, units_of_file}
+use Rattle.tor_plan.specs.WithinEntries.{IsInFile, unit_length}
+use Rattle.tor_plan.specs.WithinFiles.{IsFileUnit}
+use Rattle.tor_plan.specs.declared.units.Part.{Part}
+use Rattle.tor_plan.specs.declared.units.PlanUnit.{PlanUnit}
+use Rattle.tor_plan.specs.steps.Joined.{part_alone}
+use Rattle.tor_plan.specs.steps.Whole.{separate_parts, whole_from, whole_unit}
+use Rattle.tor_plan.proofs.Contents.{after, after_lengths, from_index, here}
+use Rattle.tor_plan.proofs.EntrySteps.{Path, file}
+use Rattle.tor_plan.proofs.Empty.{zeros-nil}
+use Rattle.tor_plan.proofs.FileUnits.{file_pieces}
+use Rattle.tor_plan.proofs.Padding.{before_empty, before_some, tail_fits, unpadded, whole_with_padding, Fills}
+use Rattle.tor_plan.proofs.PieceJoins.{pieces_joined}
+use Rattle.tor_plan.proofs.Ranges.{ceil_is}
+use Rattle.tor_plan.proofs.UnitJoins.{parts_first, unit_of}
+use Rattle.tor_plan.proofs.Runs.{flat_map-map, flat_map-same}
+use Rattle.tor_plan.proofs.UnitContent.{part_first, zeros_first}
+use Rattle.tor_plan.proofs.WholeUnits.{by_whole, parts_of_whole, pieces_of_whole}
+use Rattle.tor_plan.proofs.WithinFiles.{all_range, lengths_from, run_begins, whole_of_file}
+
+-- ---- where its parts are, and its bytes
+
+pub in_files : (lengths : List ℕ) (index : ℕ) (entries : List Entry) → drop index lengths ≡ lengths_of_entries entries
+    → All (IsInFile lengths) (whole_from index entries).parts
+in_files lengths = by_whole
+    (λ index entries unit. drop index lengths ≡ lengths_of_entries entries → All (IsInFile lengths) unit.parts)
+    (λ index e. All-nil (IsInFile lengths)) (λ index path m entries unit rest e. rest e)
+    (λ index path m entries unit some rest e.
+    let from = lengths_from lengths index m (lengths_of_entries entries) e in
+    All-cons (IsInFile lengths) _ unit.parts
+    (record { named = from.named; some = some; within = omega (arith, from.here) }) (rest from.after))
+    (λ index path m entries unit few rest e. rest (lengths_from lengths index m (lengths_of_entries entries) e).after)
+
+pub content_of_whole : (contents : List (List ℕ)) (index : ℕ) (entries : List Entry)
+    → map length (drop index contents) ≡ lengths_of_entries entries
+    → unit_content contents (whole_from index entries) ≡ joined_content entries (drop index contents)
+unfolding joined_content
+content_of_whole contents = by_whole
+    (λ index entries unit. map length (drop index contents) ≡ lengths_of_entries entries
+    → unit_content contents unit ≡ joined_content entries (drop index contents))
+    (λ index fit. ap (λ xs. xs ++ []) zeros-nil)
+    (λ index path m entries unit rest fit. zeros_first contents m unit ∙ ap (λ xs. zeros m ++ xs) (rest fit))
+    (λ index path m entries unit some rest fit.
+    let from = from_index contents index m (lengths_of_entries entries) fit in
+    part_first contents index 0 m unit
+    ∙ ap₂ (λ xs ys. xs ++ ys)
+    (ap (λ xs. take m xs) (here contents index m (lengths_of_entries entries) from)
+    ∙ take_all m from.first (omega (arith, from.long)))
+    (rest (after_lengths contents index m (lengths_of_entries entries) from)
+    ∙ ap (joined_content entries) (after contents index m (lengths_of_entries entries) from))
+    ∙ sym (ap (λ xs. get_or xs 0 [] ++ joined_content entries (drop 1 xs)) from.split))
+    (λ index path m entries unit few rest fit.
+    let from = from_index contents index m (lengths_of_entries entries) fit in
+    rest (after_lengths contents index m (lengths_of_entries entries) from)
+    ∙ ap (joined_content entries) (after contents index m (lengths_of_entries entries) from)
+    ∙ ap (λ xs. xs ++ joined_content entries from.later)
+    (sym (nil_from_length from.first (omega (arith, from.long, few))))
+    ∙ sym (ap (λ xs. get_or xs 0 [] ++ joined_content entries (drop 1 xs)) from.split))
+
+-- each unit but the last of a file is whole
+pub separate_whole : (lengths : List ℕ) (size : ℕ) → 0 < size → (index : ℕ) (entries : List Entry)
+    → drop index lengths ≡ lengths_of_entries entries
+    → All (IsFileUnit lengths size) (separate_parts size (whole_from index entries).parts)
+separate_whole lengths size pos = by_whole
+    (λ index entries unit. drop index lengths ≡ lengths_of_entries entries
+    → All (IsFileUnit lengths size) (separate_parts size unit.parts))
+    (λ index e. All-nil (IsFileUnit lengths size)) (λ index path m entries unit rest e. rest e)
+    (λ index path m entries unit some rest e.
+    let from = lengths_from lengths index m (lengths_of_entries entries) e in
+    All-append (IsFileUnit lengths size) (units_of_file size index m unit.zeros) (separate_parts size unit.parts)
+    (all_range (IsFileUnit lengths size) (file_unit size index m unit.zeros) (div_ceil m size)
+    (λ k lt. whole_of_file lengths 0 size pos index m unit.zeros k (lengths_of_entries entries) from
+    (run_begins m size k pos lt)))
+    (rest from.after))
+    (λ index path m entries unit few rest e. rest (lengths_from lengths index m (lengths_of_entries entries) e).after)
+
+-- ---- files with their padding
+
+-- all of a file, and after it no padding or what it lacks to a whole piece
+pub record IsWholeFile (p : ℕ) (part : Part) : Type 0 where
+  pub first : part.start ≡ 0
+  pub some : 0 < part.length
+  pub fills : Fills p part.length part.zeros
+
+-- given what the entries from a file on keep to
+module _ (p : ℕ) (H : List Entry → Type 0)
+    (next : (entry : Entry) (entries : List Entry) → H (entry ∷ entries) → H entries)
+    (each : (path : Path) (m : ℕ) (entries : List Entry) → H (file path m ∷ entries) → 0 < m
+    → Fills p m (padding_before_next entries)) where
+  abbrev AreFiles : ℕ → List Entry → PlanUnit → Type 0
+  AreFiles index entries unit =
+      (unit.zeros ≡ padding_before_next entries) × (H entries → All (IsWholeFile p) unit.parts)
+
+  files_by : (index : ℕ) (entries : List Entry) → AreFiles index entries (whole_from index entries)
+  unfolding padding_before_next
+  files_by = by_whole AreFiles (λ index. (refl, λ held. All-nil (IsWholeFile p)))
+      (λ index path m entries unit rest. (ap (λ n. m + n) rest.0, λ held. rest.1 (next _ entries held)))
+      (λ index path m entries unit some rest. (
+        sym (before_some path m entries some),
+        λ held. All-cons (IsWholeFile p) _ unit.parts
+            (record {
+              first = refl;
+              some = some;
+              fills = subst (Fills p m) (sym rest.0) (each path m entries held some);
+            })
+            (rest.1 (next _ entries held)),
+      ))
+      (λ index path m entries unit few rest. (
+        rest.0 ∙ sym (before_empty path m entries (omega (arith, few))),
+        λ held. rest.1 (next _ entries held),
+      ))
+
+pub whole_files : (kind : Kind) (p : ℕ) (entries : List Entry) → kind ≢ V1 → IsLaidOut kind p entries
+    → All (IsWholeFile p) (whole_unit entries).parts
+unfolding IsLaidOut ArePadded
+whole_files V1 p entries not_v1 laid = absurd (not_v1 refl)
+whole_files V2 p entries not_v1 laid =
+    (files_by p (λ es. has_padding es ≡ false) (λ entry es none. (or_parts entry.pad (has_padding es) none).1)
+    (λ path m es none there. inl (unpadded es none)) 0 entries).1 laid
+whole_files Hybrid p entries not_v1 laid =
+    (files_by p (ArePadded p) (λ entry es padded. padded.1)
+    (λ path m es padded there. elim (padded.0 (lt-ltb 0 m there)) [
+      | inl full ↦ inr full
+      | inr last ↦ inl last.1
+    ]) 0 entries).1 laid.1
+
+-- ---- what is cut: all of it in version 1, else each file by itself
+
+abbrev pub roots : Kind → PlanUnit → List PlanUnit
+roots V1 whole = whole ∷ []
+roots kind whole = map part_alone whole.parts
+
+file_roots : (p span : ℕ) → 0 < p → 0 < span * p → (parts : List Part) → All (IsWholeFile p) parts
+    → separate_parts (span * p) parts ≡ flat_map (pieces_of_unit (span * p)) (map part_alone parts)
+file_roots p span some pos [] files = refl
+file_roots p span some pos (part ∷ parts) files =
+    let is = All-head (IsWholeFile p) part parts files in
+    ap₂ (λ xs ys. xs ++ ys)
+    (sym (ap (λ s. pieces_of_unit (span * p)
+    (part_alone (record { file = part.file; start = s; length = part.length; zeros = part.zeros }))) is.first
+    ∙ file_pieces (span * p) pos part.file part.length part.zeros
+    (tail_fits p span part.length part.zeros some is.fills) is.some))
+    (file_roots p span some pos parts (All-tail (IsWholeFile p) part parts files))
+
+pub units_are_pieces : (kind : Kind) (p span : ℕ) (entries : List Entry) → 0 < p → 0 < span * p
+    → IsLaidOut kind p entries
+    → entry_units kind p span entries ≡ flat_map (pieces_of_unit (span * p)) (roots kind (whole_unit entries))
+units_are_pieces V1 p span entries some pos laid =
+    sym (append-nil (pieces_of_unit (span * p) (whole_unit entries)) ∙ pieces_of_whole (span * p) entries)
+units_are_pieces V2 p span entries some pos laid =
+    sym (parts_of_whole (span * p) entries pos)
+    ∙ file_roots p span some pos (whole_unit entries).parts (whole_files V2 p entries (λ e. cc) laid)
+units_are_pieces Hybrid p span entries some pos laid =
+    sym (parts_of_whole (span * p) entries pos)
+    ∙ file_roots p span some pos (whole_unit entries).parts (whole_files Hybrid p entries (λ e. cc) laid)
+
+parts_alone : (P : Part → Type 0) (parts : List Part) → All P parts
+    → All (λ (u : PlanUnit). All P u.parts) (map part_alone parts)
+parts_alone P [] held = All-nil (λ (u : PlanUnit). All P u.parts)
+parts_alone P (part ∷ parts) held =
+    All-cons (λ (u : PlanUnit). All P u.parts) (part_alone part) (map part_alone parts)
+    (All-cons P part [] (All-head P part parts held) (All-nil P)) (parts_alone P parts (All-tail P part parts held))
+
+pub roots_in : (kind : Kind) (P : Part → Type 0) (whole : PlanUnit) → All P whole.parts
+    → All (λ (u : PlanUnit). All P u.parts) (roots kind whole)
+roots_in V1 P whole held =
+    All-cons (λ (u : PlanUnit). All P u.parts) whole [] held (All-nil (λ (u : PlanUnit). All P u.parts))
+roots_in V2 P whole held = parts_alone P whole.parts held
+roots_in Hybrid P whole held = parts_alone P whole.parts held
+
+-- ---- their content
+
+content_alone : (contents : List (List ℕ)) (part : Part)
+    → unit_content contents (part_alone part) ≡ part_content contents part
+content_alone contents part =
+    ap (λ xs. xs ++ (part_content contents part ++ [])) zeros-nil ∙ append-nil (part_content contents part)
+
+content_of_files : (contents : List (List ℕ)) (whole : PlanUnit) → whole.zeros ≡ 0
+    → flat_map (unit_content contents) (map part_alone whole.parts) ≡ unit_content contents whole
+content_of_files contents whole none =
+    let others = flat_map (part_content contents) whole.parts in
+    flat_map-map (unit_content contents) part_alone whole.parts
+    ∙ flat_map-same (λ part. unit_content contents (part_alone part)) (part_content contents) (content_alone contents)
+    whole.parts
+    ∙ sym (ap (λ n. zeros n ++ others) none ∙ ap (λ xs. xs ++ others) zeros-nil)
+
+-- with trees no padding comes before the first file with bytes
+pub no_zeros_first : (kind : Kind) (p : ℕ) (entries : List Entry) → kind ≢ V1 → IsLaidOut kind p entries
+    → padding_before_next entries ≡ 0
+unfolding IsLaidOut
+no_zeros_first V1 p entries not_v1 laid = absurd (not_v1 refl)
+no_zeros_first V2 p entries not_v1 laid = unpadded entries laid
+no_zeros_first Hybrid p entries not_v1 laid = laid.0
+
+pub content_of_roots : (kind : Kind) (contents : List (List ℕ)) (whole : PlanUnit) → (kind ≢ V1 → whole.zeros ≡ 0)
+    → flat_map (unit_content contents) (roots kind whole) ≡ unit_content contents whole
+content_of_roots V1 contents whole none = append-nil (unit_content contents whole)
+content_of_roots V2 contents whole none = content_of_files contents whole (none (λ e. cc))
+content_of_roots Hybrid contents whole none = content_of_files contents whole (none (λ e. cc))
+
+-- ---- where each file but the last ends with a piece
+
+AreEnded : ℕ → List Part → Type 0
+AreEnded p [] = Unit {0}
+AreEnded p (part ∷ parts) = ((part.zeros ≡ padding_length p part.length) ⊎ (parts ≡ [])) × AreEnded p parts
+
+abbrev IsEnded : ℕ → ℕ → List Entry → PlanUnit → Type 0
+IsEnded p index entries unit =
+    (unit.zeros ≡ padding_before_next entries) × (list_any is_filled entries ≡ false → unit.parts ≡ [])
+    × (ArePadded p entries → AreEnded p unit.parts)
+
+ended : (p index : ℕ) (entries : List Entry) → IsEnded p index entries (whole_from index entries)
+unfolding padding_before_next ArePadded AreEnded
+ended p = by_whole (IsEnded p) (λ index. (refl, (λ none. refl), λ padded. tt))
+    (λ index path m entries unit rest. (ap (λ n. m + n) rest.0, rest.1, λ padded. rest.2 padded.1))
+    (λ index path m entries unit some rest. (
+      sym (before_some path m entries some),
+      (λ none. absurd (omega (arith, some, ltb-false 0 m (or_parts _ (list_any is_filled entries) none).0))),
+      λ padded. (
+        elim (padded.0 (lt-ltb 0 m some)) [
+          | inl full ↦ inl (rest.0 ∙ full)
+          | inr last ↦ inr (rest.1 last.0)
+        ],
+        rest.2 padded.1,
+      ),
+    ))
+    (λ index path m entries unit few rest. (
+      rest.0 ∙ sym (before_empty path m entries (omega (arith, few))),
+      (λ none. rest.1 (or_parts _ (list_any is_filled entries) none).1),
+      λ padded. rest.2 padded.1,
+    ))
+
+pieces_of_files : (p : ℕ) → 0 < p → (parts : List Part) → AreEnded p parts
+    → flat_map (pieces_of_unit p) (map part_alone parts) ≡ pieces_of_unit p (unit_of 0 parts)
+unfolding AreEnded pieces_of_unit
+pieces_of_files p some [] are =
+    sym (ap (λ n. map (piece_of_unit p empty_unit) (range_with_len 0 n))
+    (ceil_is 0 p 0 (omega arith) (omega (arith, some))))
+pieces_of_files p some (part ∷ parts) are = elim are.0 [
+  | inl full ↦
+      let count = whole_with_padding p part.length some in
+      let long : unit_length (part_alone part) ≡ count.0 * p = omega (arith, full, count.1) in
+      ap (λ ps. pieces_of_unit p (part_alone part) ++ ps) (pieces_of_files p some parts are.1)
+      ∙ sym (pieces_joined p count.0 some (part_alone part) (unit_of 0 parts) long)
+      ∙ ap (λ u. pieces_of_unit p (after_zeros 0 u)) (parts_first (part ∷ []) parts)
+  | inr last ↦ subst (λ (ps : List Part). pieces_of_unit p (part_alone part)
+      ++ flat_map (pieces_of_unit p) (map part_alone ps) ≡ pieces_of_unit p (unit_of 0 (part ∷ ps))) (sym last)
+      (append-nil (pieces_of_unit p (part_alone part)))
+]
+
+pub aligned_pieces_are_joined : (p : ℕ) (entries : List Entry) → 0 < p → IsLaidOut Hybrid p entries
+    → entry_units Hybrid p 1 entries ≡ entry_units V1 p 1 entries
+unfolding IsLaidOut
+aligned_pieces_are_joined p entries some laid =
+    let whole = whole_unit entries in
+    let is = ended p 0 entries in
+    let one : 1 * p ≡ p = omega arith in
+    units_are_pieces Hybrid p 1 entries some (omega (arith, some)) laid
+    ∙ ap (λ n. flat_map (pieces_of_unit n) (map part_alone whole.parts)) one
+    ∙ pieces_of_files p some whole.parts (is.2 laid.1)
+    ∙ ap (λ z. pieces_of_unit p (unit_of z whole.parts)) (sym (is.0 ∙ laid.0))
+    ∙ ap (λ n. pieces_of_unit n whole) (sym one) ∙ pieces_of_whole (1 * p) entries

@@ -1,5 +1,0 @@
-use Rattle.tor_plan.proofs.ProvedLaws.{pieces_are_in_units}
-use Rattle.tor_plan.proofs.laws.pieces_are_in_units.Goals as goal
-
-pub returns : goal.returns
-returns c = pieces_are_in_units
