@@ -1,6 +1,6 @@
 //! The tests of `tor_board`, in a crate of their own: a crate with tests is proved twice, and that library is large.
 //!
-//! - `rows.rt`: worked rows: in which order units are given, what each give tells, failures, rooms.
+//! - `rows.rt`: rows: in which order units are given, what each give tells, failures, rooms.
 //! - `trees.rt`: trees of other counts and levels, two trees, units of no tree.
 //! - `callers.rt`: four callers' threads share a board.
 //!

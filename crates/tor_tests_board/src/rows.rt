@@ -1,4 +1,4 @@
-//! Worked rows: what each give tells, by the order of the gives; failures, rooms, and a board that is closed at once.
+//! Rows: what each give tells, by the order of the gives; failures, rooms, and a board that is closed at once.
 ghost use Rattle.tor_board.specs.Seats.{IsSeatOf};
 
 use crate::shared::{all_tops, end, joined, one_tree, tops, unit_hash, work};
