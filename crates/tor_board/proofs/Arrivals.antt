@@ -1,200 +1,127 @@
--- An arrival keeps the rule of its tree: what was left over from the node below goes home first.
-use Rattle.std.proofs.Common.{◌≡◌, ℕ, zero, suc, ◌+◌, ◌-◌, ◌*◌, ◌/◌, ◌%◌, ◌<◌, ◌≤◌, ◌^◌, ◌⊎◌, List, [], ◌∷◌, Some}
-use Rattle.std.proofs.Common.{length, set, get_or, sym, refl, ap, ◌∙◌, subst, inl, inr, arith}
-use mathlib.Core.Logic.{dite}
-use mathlib.Core.Option.{some, none, Option as Opt, some-ne-none}
-use native.Mathlib.Decide.{ℕ_discrete}
-use lib.ListN.{get_elem?}
-use Rattle.atomic_table.proofs.Lists.{set_here, set_else}
-use Rattle.tor_board.specs.Weights.{total}
-use Rattle.tor_board.specs.Desks.{GivenUnit, joined_more}
-use Rattle.tor_board.specs.Climb.{Climb}
-use Rattle.tor_board.specs.Trees.{middle, word_of, slot_of, slot_at}
-use Rattle.tor_board.specs.Rule.{KeepsTree}
-use Rattle.tor_board.specs.Rising.{risen, raised, climbed, other_slot}
-use Rattle.tor_board.specs.Views.{rested, joining}
-use Rattle.tor_board.specs.declared.tree.Tree.{Tree}
-use Rattle.tor_board.specs.declared.view.View.{View}
-use Rattle.tor_board.proofs.Trees.{ready_once, side_inside, split_positive, side_of}
-use Rattle.tor_board.proofs.Risen.{risen_rises, risen_side, risen_root}
-use Rattle.tor_board.proofs.Arriving.{first, alone_there}
-use Rattle.tor_board.proofs.Meeting.{second, other_hash, above_home, above_slot, above_other, other_slot as other_apart}
-use Rattle.tor_board.proofs.Returning.{puts_back}
+-- An arrival keeps the whole rule: what was left over from the node below goes home first.
+use Rattle.tor_board.proofs.Names.{List, None, Option, Some, [], ap, arith, get_or, inl, inr, length, length-set, refl}
+use Rattle.tor_board.proofs.Names.{set, set-set, subst, suc, ℕ, ⊎_elim, ◌%◌, ◌++◌, ◌+◌, ◌-◌, ◌/◌, ◌<◌, ◌^◌, ◌∙◌, ◌∷◌}
+use Rattle.tor_board.proofs.Names.{◌≡◌, ◌≤◌, Opt, none, some, get_elem?, set_here, Act, Allows, State, carried_after}
+use Rattle.tor_board.proofs.Names.{chain, gives, put_back, step, takes, Climb, GivenUnit, joined_more, IsAtNode, Seated}
+use Rattle.tor_board.proofs.Names.{arrived, arrived_from, climbed, other_slot, ClimbsIn, Keeps, KeepsTree, has_out}
+use Rattle.tor_board.proofs.Names.{IsShape, IsTreeOf, joined_in, pairs, slot_of, word_of, joining, rested, only, total}
+use Rattle.tor_board.proofs.Names.{Shape, Tree, View, AtMostOneSpare, LastGiveIsIn, IsIn}
+use Rattle.tor_board.proofs.Sums.{within}
+use Rattle.tor_board.proofs.Counting.{pairs_same, pairs_once, words-set, joined_head, joined_else, joined_same, IsBelow}
+use Rattle.tor_board.proofs.Counting.{node_above, word_above, above_slot, one_more, word_now, word_else, same_halves}
+use Rattle.tor_board.proofs.Claims.{steady}
+use Rattle.tor_board.proofs.Finding.{Apart}
+use Rattle.tor_board.proofs.Trees.{node_inside, split_positive, side_in}
+use Rattle.tor_board.proofs.Risen.{lands}
+use Rattle.tor_board.proofs.Steps.{weight, Does}
+use Rattle.tor_board.proofs.Resting.{bare, returned}
+use Rattle.tor_board.proofs.Arriving.{Arrived, arrived_tree, Met}
+use Rattle.tor_board.proofs.Going.{IsWithin, moved_tree, touched, climb_within, returned_homes, with_spare, of_climb}
 
--- the climb is at a side of a node of its tree
-pub record IsBelow (c : Climb) : Type 0 where
-  pub slot : c.slot ≡ slot_of c.tree (middle c.level (c.index / 2)) (c.index % 2)
-  pub inside : middle c.level (c.index / 2) < c.tree.count
-  pub low : c.level < c.tree.height
+-- which slots are a tree's
+slot_in : (t : Tree) (n side : ℕ) → side < 2 → n < t.count → IsIn t (slot_of t n side)
+slot_in t n side two h = (omega arith, omega arith)
 
--- the split of that node
-abbrev pub node_above : Climb → ℕ
-node_above c = middle c.level (c.index / 2)
+pub other_in : (c : Climb) → IsBelow c → IsIn c.tree (other_slot c)
+other_in c below = slot_in c.tree (node_above c) (1 - c.index % 2) (omega arith) below.inside
 
--- the slot to which the joined hash goes
-abbrev pub above_slot_of : Climb → ℕ
-above_slot_of c = (climbed c []).slot
+-- the seat has come to one node more
+abbrev went : View → List GivenUnit → Option Climb → View
+went v given climb = record v { given = given; arrivals = v.arrivals + 1; climb = climb }
 
-pub joined_same : (f : GivenUnit → ℕ)
-    → ((u : ℕ) (h : List ℕ) (a b : ℕ)
-    → f (record { unit = u; hash = h; joined = a }) ≡ f (record { unit = u; hash = h; joined = b }))
-    → (gs : List GivenUnit) → total f (joined_more gs) ≡ total f gs
-joined_same f same [] = refl
-joined_same f same (g ∷ gs) = omega (arith, same g.unit g.hash (g.joined + 1) g.joined)
+module _ {words_count slots_count : ℕ} {shape : Shape} (shaped : IsShape words_count slots_count shape)
+    {s : State (List ℕ) View} (kept : Keeps shape s) (id : ℕ) (v : View) (at : get_elem? s.views id ≡ some v)
+    (c : Climb) (in_climb : v.climb ≡ Some c) (is : IsTreeOf shape c.tree) (below : IsBelow c)
+    (spare : AtMostOneSpare c) (some_room : 0 < v.room) (head : LastGiveIsIn c.tree v.given) where
+  abbrev n : ℕ
+  n = get_or s.words (word_above c) 0
 
--- what an arrival makes of its tree, where `after` has what all seats know, once this one knows that
-abbrev pub ArrivedAt : ℕ → List ℕ → List (Opt (List ℕ)) → View → Climb → (View → List View) → Type 0
-ArrivedAt slot words homes v c after =
-    let n = get_or words (word_of c.tree (node_above c)) 0 in
-    let words' = set words (word_of c.tree (node_above c)) (n + 1) in
-    let homes' = set homes slot (some c.hash) in
-    ((n ≡ 0) × KeepsTree c.tree words' homes' (after (rested v)))
-    ⊎ ((n ≡ 1) × (x : List ℕ) × (z : List ℕ)
-    × (get_elem? homes' (above_slot_of c) ≡ some (some z))
-    × (get_elem? (set homes' (above_slot_of c) none) (other_slot c) ≡ some (some x))
-    × KeepsTree c.tree words' (set (set homes' (above_slot_of c) none) (other_slot c) none)
-    (after (joining v (climbed c x))))
+  long : word_above c < length s.words
+  long = omega (arith, (kept.trees c.tree is).long, below.inside)
 
-abbrev pub Arrived : List ℕ → List (Opt (List ℕ)) → View → Climb → (View → List View) → Type 0
-Arrived words homes v c after = ArrivedAt c.slot words homes v c after
+  own_in : IsIn c.tree c.slot
+  own_in = rw below.slot (slot_in c.tree (node_above c) (c.index % 2) (omega arith) below.inside)
 
-by_side : (o m n : ℕ) (ar : ℕ → ℕ) → (s : ℕ) → s < 2 → ar (2 * (o + m) + s) ≡ 0 → ar (2 * (o + m) + 0) ≤ 1
-    → ar (2 * (o + m) + 1) ≤ 1 → n ≡ ar (2 * (o + m) + 0) + ar (2 * (o + m) + 1) → n < 2
-by_side o m n ar zero l z a b e = omega (arith, z, a, b, e)
-by_side o m n ar (suc zero) l z a b e = omega (arith, z, a, b, e)
-by_side o m n ar (suc (suc x)) l z a b e = absurd (omega arith)
+  above_in : IsIn c.tree (above_slot c)
+  above_in = let tree = kept.trees c.tree is in
+      side_in c.tree tree.some_unit (above_slot c) (climbed c []).level (climbed c []).index
+      (lands c.tree tree.some_unit tree.tall (suc c.level) (c.index / 2) below.low
+      (node_inside c.level (c.index / 2) c.tree.count below.inside)).1
 
-module _ (words : List ℕ) (homes : List (Opt (List ℕ))) (views : List View) (id : ℕ) (v : View) (c : Climb)
-    (kept : KeepsTree c.tree words homes views)
-    (at : get_elem? views id ≡ some v) (in_climb : v.climb ≡ Some c) (no_spare : c.spare ≡ []) (below : IsBelow c) where
-  abbrev t : Tree
-  t = c.tree
+  moved : (given : List GivenUnit) (climb : Option Climb) (homes' : List (Opt (List ℕ))) → n < 2
+      → ClimbsIn shape climb → IsWithin c.tree climb
+      → KeepsTree c.tree (one_more s.words (word_above c)) homes' (set s.views id (went v given climb))
+      → ((x : ℕ) → (IsIn c.tree x → ⊥) → get_elem? homes' x ≡ get_elem? s.homes x) → length s.homes ≤ length homes'
+      → ((f : ℕ → List ℕ → ℕ) → total (λ (g : GivenUnit). f g.unit g.hash) given ≡ weight f v)
+      → joined_in c.tree given + pairs c.tree s.words
+      ≡ joined_in c.tree v.given + pairs c.tree (one_more s.words (word_above c))
+      → ((u : Tree) → Apart u c.tree → joined_in u given ≡ joined_in u v.given)
+      → Keeps shape record {
+        words = set s.words (word_above c) ((n + 1) % 2 ^ 64);
+        homes = homes';
+        views = set s.views id (went v given climb);
+      }
+  moved given climb homes' few of w_in main homes_else wider same joins joins_else =
+      let next : (n + 1) % 2 ^ 64 ≡ n + 1 = omega arith in let w : View = went v given climb in
+      let v_in : IsWithin c.tree v.climb = λ x o. ap (has_out x) in_climb ∙ climb_within c.tree c own_in spare x o in
+      rw next (moved_tree shaped kept id v at c.tree is (one_more s.words (word_above c)) homes' w
+      (λ y. ((kept.known id v at y).0, of)) main
+      (λ k o. word_else c below s.words long k (o (node_above c) (split_positive c.level (c.index / 2)) below.inside))
+      (omega (arith, length-set s.words (word_above c) (n + 1))) homes_else wider (λ k ne. refl) (λ k P ne are. are)
+      (omega (arith, words-set s.words (word_above c) (n + 1) long)) joins joins_else v_in w_in
+      (λ f. omega (arith, same f)) (λ u o. same (λ y h. only u y))
+      (steady kept.claims id v at some_room (get_or s.words 0 0) w (λ f. omega (arith, same (λ y h. f y))) refl
+      (λ t t' h e. omega arith) refl (omega arith) (λ e. inl e)))
 
-  abbrev k : ℕ
-  k = c.level
+  -- the step, and what it tells
+  arrives_all : Does shape s (put_back s.homes c.spare) id (word_above c) ((n + 1) % 2 ^ 64) ((c.slot, c.hash) ∷ [])
+      (arrived_from c (v, []) n)
+  arrives_all =
+      let t : Tree = c.tree in let words' : List ℕ = one_more s.words (word_above c) in
+      let h0 : List (Opt (List ℕ)) = put_back s.homes c.spare in
+      let h1 : List (Opt (List ℕ)) = set h0 c.slot (some c.hash) in let back = returned_homes c s.homes spare in
+      let h1_else : (x : ℕ) → (IsIn t x → ⊥) → get_elem? h1 x ≡ get_elem? s.homes x
+      = λ x o. touched t h0 c.slot (some c.hash) own_in x o ∙ back.0 x o in
+      let h1_long : length s.homes ≤ length h1 = omega (arith, back.1, length-set h0 c.slot (some c.hash)) in
+      let vs : List View = set s.views id (bare v c) in
+      let after = subst (λ (after : View → List View). Arrived s.words h0 v c after)
+      (λ i w. set-set s.views id (bare v c) w i)
+      (arrived_tree c (returned c (kept.trees t is) id v at in_climb spare) id v
+      (set_here s.views id (bare v c) (within s.views id v at)) below) in
+      let now = word_now c below s.words long in
+      ⊎_elim
+      (λ (r : (n ≡ 0) × KeepsTree t words' h1 (set s.views id (rested v))).
+      let whole = moved v.given None h1 (omega (arith, r.0)) tt (λ x o. refl) r.1 h1_else h1_long (λ f. refl)
+      (omega (arith, pairs_same t s.words words' (λ m h. same_halves c below s.words long r.0 m))) (λ u a. refl) in
+      (rested v, gives, tt, whole, (omega (arith, r.0), (λ e. refl), λ e. absurd (omega (arith, r.0)))))
+      (λ (r : (n ≡ 1) × Met s.words h0 v c (set s.views id)).
+      let up : Climb = climbed c r.1.0 in let h2 : List (Opt (List ℕ)) = set h1 (above_slot c) none in
+      let act : Act (List ℕ) = chain gives (chain (takes (above_slot c) r.1.1) (takes (other_slot c) r.1.0)) in
+      let head' = joined_head t v.given head in
+      let pairs = pairs_once t s.words words' (node_above c) (split_positive c.level (c.index / 2)) below.inside
+      (omega (arith, r.0)) (λ m ne. ap (λ (x : ℕ). x / 2)
+      (word_else c below s.words long (word_of t m) (λ e. ne (omega arith)))) in
+      let whole = moved (joined_more v.given) (Some up) (set h2 (other_slot c) none) (omega (arith, r.0)) is
+      (climb_within t up above_in (inr (other_slot c, r.1.0, refl, other_in c below))) r.1.4
+      (λ x o. touched t h2 (other_slot c) none (other_in c below) x o
+      ∙ (touched t h1 (above_slot c) none above_in x o ∙ h1_else x o))
+      (omega (arith, length-set h1 (above_slot c) none, length-set h2 (other_slot c) none))
+      (λ f. joined_same (λ (g : GivenUnit). f g.unit g.hash) (λ u h a b. refl) v.given)
+      (omega (arith, pairs)) (λ u a. joined_else t u a v.given head) in
+      let two : n < 2 = omega (arith, r.0) in let not_first : n ≡ 0 → ⊥ = λ e. omega (arith, r.0) in
+      (joining v up, act, (tt, (r.1.2, r.1.3)), whole, (two, (λ e. absurd (not_first e)), λ e. (r.1.0, r.1.1, refl))))
+      after
 
-  abbrev i : ℕ
-  i = c.index / 2
-
-  abbrev side : ℕ
-  side = c.index % 2
-
-  two : c.index % 2 < 2
-  two = omega arith
-
-  few_found : get_or words (word_of c.tree (node_above c)) 0 < 2
-  few_found =
-      let a0 = side_inside c.level (c.index / 2) 0 c.tree.count (omega arith) below.inside in
-      let a1 = side_inside c.level (c.index / 2) 1 c.tree.count (omega arith) below.inside in
-      let f0 = kept.flow (slot_of c.tree (node_above c) 0) c.level (2 * (c.index / 2) + 0)
-      (side_of c.tree c.level (c.index / 2) 0 (omega arith) below.inside) in
-      let f1 = kept.flow (slot_of c.tree (node_above c) 1) c.level (2 * (c.index / 2) + 1)
-      (side_of c.tree c.level (c.index / 2) 1 (omega arith) below.inside) in
-      let r0 = ready_once c.tree words homes views kept c.level (2 * (c.index / 2) + 0) a0 in
-      let r1 = ready_once c.tree words homes views kept c.level (2 * (c.index / 2) + 1) a1 in
-      let mine = (alone_there c.tree words homes views kept id v c at in_climb no_spare c.level (c.index / 2)
-      (c.index % 2) two below.inside below.slot).0 in
-      by_side c.tree.offset (node_above c) (get_or words (word_of c.tree (node_above c)) 0) kept.arrived (c.index % 2)
-      two mine (omega (arith, f0, r0)) (omega (
-        arith,
-        f1,
-        r1,
-      )) (kept.word (node_above c) (split_positive c.level (c.index / 2)) below.inside)
-
-  -- where the node stands
-  node_covers : c.index / 2 * 2 ^ suc c.level < c.tree.count
-  node_covers = omega (
-    arith,
-    side_inside c.level (c.index / 2) 0 c.tree.count (omega arith) below.inside,
-    Rattle.tor_board.proofs.Trees.twice c.level (c.index / 2),
-  )
-
-  abbrev up : ℕ × ℕ
-  up = risen c.tree (c.tree.height - (suc c.level)) (suc c.level) (c.index / 2)
-
-  goes : suc c.level + (c.tree.height - (suc c.level)) ≡ c.tree.height
-  goes = omega (arith, below.low)
-
-  arrive_there : ArrivedAt (slot_of c.tree (node_above c) (c.index % 2)) words homes v c (set views id)
-  arrive_there =
-      let d : ℕ = c.tree.height - (suc c.level) in
-      let rise = risen_rises c.tree kept.some_unit kept.tall d (suc c.level) (c.index / 2) goes node_covers in
-      let above : ℕ = slot_at c.tree up.0 up.1 in
-      let side1 = risen_side c.tree kept.some_unit kept.tall d (suc c.level) (c.index / 2) goes node_covers in
-      let lifted : List ℕ → List ℕ = raised c.tree d (suc c.level) (c.index / 2) in
-      let lift = risen_root c.tree kept.some_unit kept.tall d (suc c.level) (c.index / 2) goes node_covers in
-      dite (ℕ_discrete (get_or words (word_of c.tree (node_above c)) 0) 0)
-      (λ none_there. inl (
-        none_there,
-        (first c.tree words homes views kept id v c at in_climb no_spare c.level (c.index / 2) (c.index % 2) two
-            below.inside below.slot (rested v) refl refl refl none_there),
-      ))
-      (λ some_there. let one : get_or words (word_of c.tree (node_above c)) 0 ≡ 1
-      = omega (arith, few_found, some_there) in
-      let p = other_hash c.tree words homes views kept id v c at in_climb no_spare c.level (c.index / 2) (c.index % 2)
-      two below.inside below.slot above up.0 up.1 side1 rise.0 rise.1 lifted lift one in
-      let q = kept.home above up.0 up.1 side1
-      (above_home c.tree words homes views kept id v c at in_climb no_spare c.level (c.index / 2) (c.index % 2) two
-      below.inside below.slot above up.0 up.1 side1 rise.0 rise.1 lifted lift one) in
-      let apart = above_slot c.tree words homes views kept id v c at in_climb no_spare c.level (c.index / 2)
-      (c.index % 2) two below.inside below.slot above up.0 up.1 side1 rise.0 rise.1 lifted lift one in
-      let apart2 = above_other c.tree words homes views kept id v c at in_climb no_spare c.level (c.index / 2)
-      (c.index % 2) two below.inside below.slot above up.0 up.1 side1 rise.0 rise.1 lifted lift one in
-      let apart3 = other_apart c.tree words homes views kept id v c at in_climb no_spare c.level (c.index / 2)
-      (c.index % 2) two below.inside below.slot above up.0 up.1 side1 rise.0 rise.1 lifted lift one in
-      let w : View = joining v (climbed c p.0) in
-      inr (
-        one,
-        p.0,
-        q.0,
-        (set_else homes (slot_of c.tree (node_above c) (c.index % 2)) above (some c.hash) apart ∙ q.1),
-        (set_else (set homes (slot_of c.tree (node_above c) (c.index % 2)) (some c.hash)) above (other_slot c) none
-            (λ e. apart2 (sym e)) ∙ (set_else homes (slot_of c.tree (node_above c) (c.index % 2)) (other_slot c)
-            (some c.hash) apart3 ∙ p.1)),
-        (second c.tree words homes views kept id v c at in_climb no_spare c.level (c.index / 2) (c.index % 2) two
-            below.inside below.slot above up.0 up.1 side1 rise.0 rise.1 lifted lift one p.0 p.1 p.2 w (climbed c p.0)
-            refl refl refl refl refl
-            (λ f. joined_same (λ (g : GivenUnit). f g.unit g.hash) (λ u h a b. refl) v.given)),
-      ))
-
-  pub arrive_bare : Arrived words homes v c (set views id)
-  arrive_bare = subst (λ (slot : ℕ). ArrivedAt slot words homes v c (set views id)) (sym below.slot) arrive_there
-
-pub within : {X : Type 0} (l : List X) (j : ℕ) (x : X) → get_elem? l j ≡ some x → j < length l
-within [] j x e = absurd (some-ne-none x (sym e))
-within (y ∷ l) zero x e = omega arith
-within (y ∷ l) (suc j) x e = omega (arith, within l j x e)
-
-pub set_twice : {X : Type 0} (l : List X) (j : ℕ) (x y : X) → set (set l j x) j y ≡ set l j y
-set_twice [] j x y = refl
-set_twice (z ∷ l) zero x y = refl
-set_twice (z ∷ l) (suc j) x y = ap (λ (m : List _). z ∷ m) (set_twice l j x y)
-
--- the climb, once nothing is left over
-abbrev pub cleared : Climb → Climb
-cleared c = record { tree = c.tree; level = c.level; index = c.index; slot = c.slot; hash = c.hash; spare = [] }
-
-module _ (words : List ℕ) (homes : List (Opt (List ℕ))) (views : List View) (id : ℕ) (v : View) (c : Climb)
-    (kept : KeepsTree c.tree words homes views)
-    (at : get_elem? views id ≡ some v) (in_climb : v.climb ≡ Some c) (o : ℕ) (y : List ℕ) (one_spare : c.spare ≡ (o, y)
-    ∷ []) (there : o < length homes) where
-  abbrev pub bare : View
-  bare = record v { climb = Some (cleared c) }
-
-  -- the slot that was left over goes home
-  pub cleared_tree : KeepsTree c.tree words (set homes o (some y)) (set views id bare)
-  cleared_tree = puts_back c.tree words homes views kept id v c o y at in_climb one_spare there bare (cleared c) refl
-      refl refl refl refl (λ f. refl)
-
-  -- and then the seat arrives
-  pub arrive_left : IsBelow c → Arrived words (set homes o (some y)) v c (set views id)
-  arrive_left below =
-      let vs : List View = set views id bare in
-      let r = arrive_bare words (set homes o (some y)) vs id bare (cleared c) cleared_tree
-      (set_here views id bare (within views id v at)) refl refl (record {
-        slot = below.slot;
-        inside = below.inside;
-        low = below.low;
-      }) in
-      subst (λ (after : View → List View). Arrived words (set homes o (some y)) v c after)
-      (λ i w. set_twice views id bare w i) r
+pub arrives : {words_count slots_count : ℕ} {shape : Shape} → IsShape words_count slots_count shape
+    → (slots id : ℕ) (m : Seated) (c : Climb) → m.0.climb ≡ Some c → m.1 ≡ c.spare ++ (c.slot, c.hash) ∷ []
+    → IsTreeOf shape c.tree → IsBelow c → AtMostOneSpare c → 0 < m.0.room → LastGiveIsIn c.tree m.0.given
+    → Allows (Keeps shape) slots id m (word_above c) (λ n. (n + 1) % 2 ^ 64)
+    (arrived (step slots (word_above c) 1 0 none) m)
+arrives {shape = shape} shaped slots id m c in_climb carried is below spare some_room head s kept homes at small =
+    let n : ℕ = get_or s.words (word_above c) 0 in
+    let here : IsAtNode c (word_above c) = (below.inside, below.slot, refl) in
+    let r = arrives_all shaped kept id m.0 at c in_climb is below spare some_room head in
+    let after : Seated = (r.0, carried_after ((c.slot, c.hash) ∷ []) r.1) in
+    let At : Climb → Type 0 = λ x. arrived_from x m n after × IsAtNode x (word_above c) in
+    with_spare shape s id (word_above c) ((n + 1) % 2 ^ 64) c m.1 (arrived (step slots (word_above c) 1 0 none) m n)
+    carried spare (r.0, r.1, r.2, r.3, (of_climb At m.0 c in_climb (r.4, here), some_room, c, in_climb))

@@ -1,191 +1,211 @@
--- The first arrival at a node keeps the rule of its tree.
-use Rattle.std.proofs.Common.{◌≡◌, ◌≢◌, ℕ, ◌+◌, ◌*◌, ◌/◌, ◌<◌, ◌≤◌, List, [], Some, None, cond, ◌==◌, eq-eqb, ne_eqb}
-use Rattle.std.proofs.Common.{rules, set, get_or, sym, refl, ap, ◌∙◌, subst, ⊎_elim, arith, length-set}
-use Rattle.std.proofs.Common.{get_or-set_other, get_or-set_same}
-use mathlib.Core.Logic.{dite}
-use mathlib.Core.Option.{some}
-use native.Mathlib.Decide.{ℕ_discrete}
-use lib.ListN.{get_elem?}
-use Rattle.atomic_table.proofs.Lists.{at_set, set_here, set_else}
-use Rattle.tor_board.specs.Weights.{total, only}
-use Rattle.tor_board.specs.Desks.{GivenUnit}
-use Rattle.tor_board.specs.Climb.{Climb}
-use Rattle.tor_board.specs.Trees.{middle, word_of, slot_of, WasGiven, IsRoot}
-use Rattle.tor_board.specs.Rule.{KeepsTree, climbing, out, climbs_to, has_out, IsSide, tops_of}
-use Rattle.tor_board.specs.declared.tree.Tree.{Tree}
-use Rattle.tor_board.specs.declared.view.View.{View}
-use Rattle.tor_board.proofs.Sums.{total-set, term_le, only-same, only-other}
-use Rattle.tor_board.proofs.Trees.{told_set, ready_same, root_more, ready_once, split_positive, one_side, no_side}
-use Rattle.tor_board.proofs.Trees.{side_inside, side_of}
+-- An arrival at a node: one more in its word, and what comes of it.
+use Rattle.tor_board.proofs.Names.{List, ap, arith, cond, eq-eqb, get_or, inl, inr, length, length-set, ne_eqb, refl}
+use Rattle.tor_board.proofs.Names.{set, suc, sym, zero, ℕ, ◌%◌, ◌*◌, ◌+◌, ◌-◌, ◌/◌, ◌<◌, ◌∙◌, ◌≡◌, ◌≢◌, ◌⊎◌, dite, Opt}
+use Rattle.tor_board.proofs.Names.{none, some, ℕ_discrete, get_elem?, set_else, set_here, node_of, Climb, GivenUnit}
+use Rattle.tor_board.proofs.Names.{climbed, met, other_slot, IsSide, KeepsTree, climbing, out, IsRoot, WasGiven, middle}
+use Rattle.tor_board.proofs.Names.{ready, slot_of, word_of, joining, rested, only, Tree, View}
+use Rattle.tor_board.proofs.Sums.{total-set, only-same, only-other, only_le, term_le}
+use Rattle.tor_board.proofs.Rising.{split_one, rooted_at, rises_ready, ready_from, ready_grown}
+use Rattle.tor_board.proofs.Trees.{alone_there, empty_home, node_word, node_flow, node_once, ready_node, side_of}
+use Rattle.tor_board.proofs.Trees.{split_positive, node_inside, zero_more, side_once}
+use Rattle.tor_board.proofs.Counting.{joined_same, IsBelow, node_above, word_above, above_slot, one_more, own_side}
+use Rattle.tor_board.proofs.Counting.{word_now, word_else, same_halves, counted}
+use Rattle.tor_board.proofs.Risen.{Lands, goal_of, lands}
+use Rattle.tor_board.proofs.Steps.{SeatStep, keeps_step, put_home, old_seat, seat_rooted, outs, weight, gave}
+use Rattle.tor_board.proofs.Resting.{bare, cleared, comes_home}
 
--- the function, with another value at one number
-abbrev pub marked : (ℕ → ℕ) → ℕ → ℕ → ℕ
-marked f s x = cond (x == s) 1 (f x)
+module _ {words : List ℕ} {homes : List (Opt (List ℕ))} {views : List View} (c : Climb)
+    (kept : KeepsTree c.tree words homes views) (below : IsBelow c) (unarrived : kept.arrived c.slot ≡ 0) where
+  -- those that came before a hash came from the other side
+  pub found_other : get_or words (word_above c) 0
+      ≡ kept.arrived (slot_of c.tree (middle c.level (c.index / 2)) (1 - c.index % 2))
+  found_other = let w = node_word kept c.level (c.index / 2) (c.index % 2) (omega arith) below.inside in
+      omega (arith, ap kept.arrived below.slot)
 
-pub marked_here : (f : ℕ → ℕ) (s : ℕ) → marked f s s ≡ 1
-marked_here f s = ap (λ b. cond b 1 (f s)) (eq-eqb s s refl)
+  pub found_few : get_or words (word_above c) 0 < 2
+  found_few = let once = node_once kept c.level (c.index / 2) (1 - c.index % 2) (omega arith) below.inside in
+      omega (arith, found_other)
 
-pub marked_else : (f : ℕ → ℕ) (s x : ℕ) → x ≢ s → marked f s x ≡ f x
-marked_else f s x ne = ap (λ b. cond b 1 (f x)) (ne_eqb x s ne)
+pub met_left : (side : ℕ) (a b : List ℕ) → side ≡ 0 → met side a b ≡ node_of a b
+met_left side a b e = ap (λ x. cond x (node_of a b) (node_of b a)) (eq-eqb side 0 e)
 
--- what one arrival more does to the words of the nodes of a tree, and to which sides have arrived
-pub record Arrival (t : Tree) (words : List ℕ) (arrived : ℕ → ℕ) (m slot : ℕ) : Type 0 where
-  pub now : get_or (set words (word_of t m) (get_or words (word_of t m) 0 + 1)) (word_of t m) 0
-      ≡ get_or words (word_of t m) 0 + 1
-  pub else_ : (n : ℕ) → n ≢ m
-      → get_or (set words (word_of t m) (get_or words (word_of t m) 0 + 1)) (word_of t n) 0
-      ≡ get_or words (word_of t n) 0
-  pub more : (n : ℕ) → n < t.count → get_or words (word_of t n) 0
-      ≤ get_or (set words (word_of t m) (get_or words (word_of t m) 0 + 1)) (word_of t n) 0
-  pub grown : (s : ℕ) → marked arrived slot s ≡ arrived s + only s slot
-  pub word : (n : ℕ) → 0 < n → n < t.count
-      → get_or (set words (word_of t m) (get_or words (word_of t m) 0 + 1)) (word_of t n) 0
-      ≡ marked arrived slot (slot_of t n 0) + marked arrived slot (slot_of t n 1)
+pub met_right : (side : ℕ) (a b : List ℕ) → side ≢ 0 → met side a b ≡ node_of b a
+met_right side a b ne = ap (λ x. cond x (node_of a b) (node_of b a)) (ne_eqb side 0 ne)
 
-no_climb : (c : Climb) → None ≡ Some c → ⊥
-no_climb c e = absurd (search rules)
+met_root : (t : Tree) (G : ℕ → List ℕ → Type 0) (k i side : ℕ) (a b : List ℕ) → side < 2
+    → IsRoot G t k (2 * i + side) a → IsRoot G t k (2 * i + (1 - side)) b → IsRoot G t (suc k) i (met side a b)
+met_root t G k i zero a b two x y = (a, b, rw (zero_more (2 * i)) x, y, refl)
+met_root t G k i (suc zero) a b two x y = (b, a, rw (zero_more (2 * i)) y, x, refl)
+met_root t G k i (suc (suc n)) a b two x y = absurd (omega arith)
 
-module _ (t : Tree) (words : List ℕ) (homes : _) (views : List View) (kept : KeepsTree t words homes views)
-    (id : ℕ) (v : View) (c : Climb) (at : get_elem? views id ≡ some v) (in_climb : v.climb ≡ Some c)
-    (no_spare : c.spare ≡ [])
-    (k i side : ℕ) (two : side < 2) (inside : middle k i < t.count) (here : c.slot ≡ slot_of t (middle k i) side) where
-  abbrev m : ℕ
-  m = middle k i
+-- what a second arrival makes of its tree, where `after` has what all seats know, once this one knows that
+abbrev pub Met : List ℕ → List (Opt (List ℕ)) → View → Climb → (View → List View) → Type 0
+Met words homes v c after =
+    let homes' = set homes c.slot (some c.hash) in
+    (x : List ℕ) × (z : List ℕ) × (get_elem? homes' (above_slot c) ≡ some (some z))
+    × (get_elem? (set homes' (above_slot c) none) (other_slot c) ≡ some (some x))
+    × KeepsTree c.tree (one_more words (word_above c)) (set (set homes' (above_slot c) none) (other_slot c) none)
+    (after (joining v (climbed c x)))
 
-  abbrev slot : ℕ
-  slot = slot_of t (middle k i) side
+-- and any
+abbrev pub Arrived : List ℕ → List (Opt (List ℕ)) → View → Climb → (View → List View) → Type 0
+Arrived words homes v c after =
+    ((get_or words (word_above c) 0 ≡ 0)
+    × KeepsTree c.tree (one_more words (word_above c)) (set homes c.slot (some c.hash)) (after (rested v)))
+    ⊎ ((get_or words (word_above c) 0 ≡ 1) × Met words homes v c after)
 
-  weighs : climbs_to slot v.climb ≡ 1
-  weighs = ap (climbs_to slot) in_climb ∙ (ap (only slot) here ∙ only-same slot)
+module _ {words : List ℕ} {homes : List (Opt (List ℕ))} {views : List View} (c : Climb)
+    (kept : KeepsTree c.tree words homes views) (id : ℕ) (v : View) (at : get_elem? views id ≡ some (bare v c))
+    (below : IsBelow c) where
+  abbrev n : ℕ
+  n = get_or words (word_above c) 0
 
-  -- the climbing hash has not arrived, and no other climbs there
-  pub alone_there : (kept.arrived slot ≡ 0) × (climbing slot views ≡ 1)
-  alone_there =
-      let part = term_le (λ (u : View). climbs_to slot u.climb) views id v at in
-      let all = kept.flow slot k (2 * i + side) (side_of t k i side two inside) in
-      let one = ready_once t words homes views kept k (2 * i + side) (side_inside k i side t.count two inside) in
-      (omega (arith, weighs), omega (arith, weighs))
+  abbrev other : ℕ
+  other = slot_of c.tree (middle c.level (c.index / 2)) (1 - c.index % 2)
 
-  pub arrival : Arrival t words kept.arrived m slot
-  arrival =
-      let ws : List ℕ = set words (word_of t m) (get_or words (word_of t m) 0 + 1) in
-      let now : get_or ws (word_of t m) 0 ≡ get_or words (word_of t m) 0 + 1
-      = get_or-set_same words (word_of t m) _ 0 (omega (arith, kept.long)) in
-      let else_ : (n : ℕ) → n ≢ m → get_or ws (word_of t n) 0 ≡ get_or words (word_of t n) 0
-      = λ n ne. get_or-set_other words (word_of t m) (word_of t n) _ 0 (λ e. ne (omega arith)) in
-      let grown : (s : ℕ) → marked kept.arrived slot s ≡ kept.arrived s + only s slot = λ s. dite (ℕ_discrete s slot)
-      (λ e. rw e (omega (arith, marked_here kept.arrived slot, only-same slot, alone_there.0)))
-      (λ ne. omega (arith, marked_else kept.arrived slot s ne, only-other s slot (λ e. ne (sym e)))) in
-      record {
-        now = now;
-        else_ = else_;
-        more = λ n h. dite (ℕ_discrete n m)
-            (λ e. let f : get_or ws (word_of t n) 0 ≡ get_or words (word_of t n) 0 + 1 = rw e now in omega arith)
-            (λ ne. omega (arith, else_ n ne));
-        grown = grown;
-        word = λ n pos h. dite (ℕ_discrete n m)
-            (λ e. let f : get_or ws (word_of t n) 0 ≡ get_or words (word_of t n) 0 + 1 = rw e now in
-            let one : only (slot_of t n 0) slot + only (slot_of t n 1) slot ≡ 1 = rw e (one_side t m side two) in
-            omega (arith, f, one, grown (slot_of t n 0), grown (slot_of t n 1), kept.word n pos h))
-            (λ ne. omega (
-              arith,
-              else_ n ne,
-              no_side t n m side ne two,
-              grown (slot_of t n 0),
-              grown (slot_of t n 1),
-              kept.word n pos h,
-            ));
-      }
+  long : word_above c < length words
+  long = omega (arith, kept.long, below.inside)
 
-  module _ (w : View) (same_tops : w.tops ≡ v.tops) (gone : w.climb ≡ None) (same : w.given ≡ v.given) where
-    pub first : (first_there : get_or words (word_of t m) 0 ≡ 0)
-        → KeepsTree t (set words (word_of t m) (get_or words (word_of t m) 0 + 1)) (set homes slot (some c.hash))
-        (set views id w)
-    first first_there =
-        let ws : List ℕ = set words (word_of t m) (get_or words (word_of t m) 0 + 1) in
-        let vs : List View = set views id w in
-        let step = arrival in
-        let halves : (n : ℕ) → n < t.count
-        → get_or ws (word_of t n) 0 / 2 ≡ get_or words (word_of t n) 0 / 2 = λ n h. dite (ℕ_discrete n m)
-        (λ e. let f : get_or ws (word_of t n) 0 ≡ 1 = rw e (omega (arith, step.now, first_there)) in
-        let g : get_or words (word_of t n) 0 ≡ 0 = rw e first_there in
-        omega (arith, f, g)) (λ ne. ap (λ (x : ℕ). x / 2) (step.else_ n ne)) in
-        let given : (f : GivenUnit → ℕ)
-        → total (λ (u : View). total f u.given) vs ≡ total (λ (u : View). total f u.given) views
-        = λ f. omega (arith, total-set (λ (u : View). total f u.given) views id v w at, ap (total f) same) in
-        let climbs : (s : ℕ) → climbing s vs + only s slot ≡ climbing s views = λ s.
-        omega (
-          arith,
-          total-set (λ (u : View). climbs_to s u.climb) views id v w at,
-          ap (climbs_to s) gone,
-          ap (climbs_to s) in_climb,
-          ap (only s) here,
-        ) in
-        let outs : (s : ℕ) → out s vs + only s slot ≡ out s views = λ s.
-        omega (
-          arith,
-          total-set (λ (u : View). has_out s u.climb) views id v w at,
-          ap (has_out s) gone,
-          ap (has_out s) in_climb,
-          ap (only s) here,
-          ap (total (λ (p : ℕ × List ℕ). only s p.0)) no_spare,
-        ) in
-        let stand : (u : ℕ) (x : List ℕ) → WasGiven views u x
-        → WasGiven vs u x = λ u x s f. omega (arith, given (λ g. f g.unit g.hash), s f) in
-        let ar : ℕ → ℕ = marked kept.arrived slot in
-        record {
-          tops = omega (
-            arith,
-            kept.tops,
-            total-set (λ (u : View). tops_of t.number u.tops) views id v w at,
-            ap (tops_of t.number) same_tops,
-            marked_else kept.arrived slot (slot_of t 0 0) (λ e. absurd (omega (arith, e, split_positive k i))),
-          );
-          told = told_set t.number (IsRoot (WasGiven views) t t.height 0) (IsRoot (WasGiven vs) t t.height 0)
-              (λ y. root_more t (WasGiven views) (WasGiven vs) stand t.height 0 y) views id v w at same_tops kept.told;
-          arrived = ar;
-          long = omega (arith, kept.long, length-set words (word_of t m) (get_or words (word_of t m) 0 + 1));
-          wide = omega (arith, kept.wide, length-set homes slot (some c.hash));
-          once = λ j h. omega (arith, given (λ g. only (t.first + j) g.unit), kept.once j h);
-          word = step.word;
-          some_unit = kept.some_unit;
-          tall = kept.tall;
-          flow = λ s k2 j2 is. omega (
-            arith,
-            kept.flow s k2 j2 is,
-            climbs s,
-            step.grown s,
-            ready_same t words ws views vs halves (λ u. given (λ g. only u g.unit)) k2 j2,
-          );
-          outs = λ n s2 two2 pos h. omega (
-            arith,
-            kept.outs n s2 two2 pos h,
-            climbs (slot_of t n s2),
-            outs (slot_of t n s2),
-            step.more n h,
-          );
-          out_top = omega (arith, kept.out_top, climbs (slot_of t 0 0), outs (slot_of t 0 0));
-          home = λ s k2 j2 is none_out. dite (ℕ_discrete s slot)
-              (λ e. (
-                c.hash,
-                rw e (set_here homes slot (some c.hash) (omega (arith, kept.wide))),
-                λ yes. root_more t (WasGiven views) (WasGiven vs) stand k2 j2 c.hash
-                    (kept.climb id v c k2 j2 at in_climb (subst (λ (x : ℕ). IsSide t x k2 j2) (e ∙ sym here) is)),
-              ))
-              (λ ne. let q = kept.home s k2 j2 is (omega (arith, outs s, only-other s slot (λ e. ne (sym e)))) in (
-                q.0,
-                set_else homes slot s (some c.hash) ne ∙ q.1,
-                λ yes. root_more t (WasGiven views) (WasGiven vs) stand k2 j2 q.0
-                    (q.2 (sym (marked_else kept.arrived slot s ne) ∙ yes)),
-              ));
-          climb = λ j u d k2 j2 e is to. ⊎_elim
-              (λ (r : (j ≡ id) × (w ≡ u)). absurd (no_climb d (sym gone ∙ (ap (λ (x : View). x.climb) r.1 ∙ is))))
-              (λ (r : (j ≢ id) × (get_elem? views j ≡ some u)). root_more t (WasGiven views) (WasGiven vs) stand k2 j2
-              d.hash (kept.climb j u d k2 j2 r.1 is to))
-              (at_set views id j w u e);
-          left = λ j u d o y k2 j2 e is sp to. ⊎_elim
-              (λ (r : (j ≡ id) × (w ≡ u)). absurd (no_climb d (sym gone ∙ (ap (λ (x : View). x.climb) r.1 ∙ is))))
-              (λ (r : (j ≢ id) × (get_elem? views j ≡ some u)). root_more t (WasGiven views) (WasGiven vs) stand k2 j2
-              y (kept.left j u d o y k2 j2 r.1 is sp to))
-              (at_set views id j w u e);
-        }
+  alone : (climbing c.slot views ≡ 1) × (ready c.tree words views c.level c.index ≡ 1) × (kept.arrived c.slot ≡ 0)
+  alone = alone_there kept id (bare v c) (cleared c) at refl c.level c.index (own_side c below)
+
+  found : n ≡ kept.arrived other
+  found = found_other c kept below alone.2
+
+  not_top : only (slot_of c.tree 0 0) c.slot ≡ 0
+  not_top = only-other (slot_of c.tree 0 0) c.slot
+      (λ e. omega (arith, below.slot, split_positive c.level (c.index / 2)))
+
+  first : n ≡ 0 → KeepsTree c.tree (one_more words (word_above c)) (set homes c.slot (some c.hash))
+      (set views id (rested v))
+  first none_there = comes_home c kept id v at c.level c.index (own_side c below) (one_more words (word_above c))
+      (v.arrivals + 1) v.tops (omega (arith, length-set words (word_above c) (n + 1)))
+      (same_halves c below words long none_there) (λ m pos. counted c below words long c.tree m)
+      (omega (arith, not_top)) (seat_rooted kept id (bare v c) at).1
+
+  -- the second takes the slot above, to which nothing has come, and that of the other side, whose hash was there
+  module _ (one : n ≡ 1) where
+    abbrev up : ℕ × ℕ
+    up = goal_of c.tree (suc c.level) (c.index / 2)
+
+    landed : Lands c.tree (c.tree.height - suc c.level) (suc c.level) (c.index / 2) up
+    landed = lands c.tree kept.some_unit kept.tall (suc c.level) (c.index / 2) below.low
+        (node_inside c.level (c.index / 2) c.tree.count below.inside)
+
+    above_side : IsSide c.tree (above_slot c) up.0 up.1
+    above_side = landed.1
+
+    unready : ready c.tree words views (suc c.level) (c.index / 2) ≡ 0
+    unready = omega (arith, ready_node c.tree words views c.level (c.index / 2) below.inside)
+
+    above_unready : ready c.tree words views up.0 up.1 ≡ 0
+    above_unready = rises_ready c.tree words views landed.0.0 (suc c.level) (c.index / 2) up.0 up.1 landed.0.1 ∙ unready
+
+    above_empty : (climbing (above_slot c) views ≡ 0) × (kept.arrived (above_slot c) ≡ 0)
+    above_empty = let f = kept.flow (above_slot c) up.0 up.1 above_side in
+        (omega (arith, above_unready), omega (arith, above_unready))
+
+    other_side : IsSide c.tree other c.level (2 * (c.index / 2) + (1 - c.index % 2))
+    other_side = side_of c.tree c.level (c.index / 2) (1 - c.index % 2) (omega arith) below.inside
+
+    other_out : out other views ≡ 0
+    other_out =
+        let flow = node_flow kept c.level (c.index / 2) (1 - c.index % 2) (omega arith) below.inside in
+        let once = side_once kept other c.level (2 * (c.index / 2) + (1 - c.index % 2)) other_side in
+        let o = kept.outs (node_above c) (1 - c.index % 2) (omega arith) (split_positive c.level (c.index / 2))
+        below.inside in
+        omega (arith, found)
+
+    above_own : above_slot c ≢ c.slot
+    above_own e = omega (arith, ap (λ (s : ℕ). climbing s views) e, above_empty.0, alone.0)
+
+    other_above : other ≢ above_slot c
+    other_above e = omega (arith, ap kept.arrived e, found, above_empty.1)
+
+    other_own : other ≢ c.slot
+    other_own e = omega (arith, ap kept.arrived e, found, alone.2)
+
+    -- and climbs on
+    joined : (x : List ℕ) → IsRoot (WasGiven views) c.tree c.level (2 * (c.index / 2) + (1 - c.index % 2)) x
+        → KeepsTree c.tree (one_more words (word_above c))
+        (set (set (set homes c.slot (some c.hash)) (above_slot c) none) other none)
+        (set views id (joining v (climbed c x)))
+    joined x x_root =
+        let t : Tree = c.tree in let w : View = joining v (climbed c x) in let vs : List View = set views id w in
+        let words' : List ℕ = one_more words (word_above c) in
+        let homes1 : List (Opt (List ℕ)) = set homes c.slot (some c.hash) in
+        let homes2 : List (Opt (List ℕ)) = set homes1 (above_slot c) none in
+        let homes3 : List (Opt (List ℕ)) = set homes2 other none in let has = seat_rooted kept id (bare v c) at in
+        let now = word_now c below words long in let sum = λ (g : View → ℕ). total-set g views id (bare v c) w at in
+        let given : (f : ℕ → List ℕ → ℕ) → weight f w ≡ weight f v
+        = λ f. joined_same (λ (g : GivenUnit). f g.unit g.hash) (λ u h a b. refl) v.given in
+        let same : (u : ℕ) → gave u w ≡ gave u v = λ u. given (λ y h. only u y) in
+        let two : c.index % 2 < 2 = omega arith in
+        let root = landed.3 (WasGiven views) (met (c.index % 2) c.hash x)
+        (met_root t (WasGiven views) c.level (c.index / 2) (c.index % 2) c.hash x two
+        (has.0.0 c.level (2 * (c.index / 2) + c.index % 2)
+        (inl (c.index / 2, c.index % 2, two, below.inside, below.slot, refl))) x_root) in
+        let grown = ready_from t words words' views vs (suc c.level) (c.index / 2)
+        (λ i. inl (omega (arith, sum (gave (t.first + i)), same (t.first + i))))
+        (λ k j near. dite (ℕ_discrete (middle k j) (node_above c))
+        (λ e. let q = split_one c.level (c.index / 2) k j (sym e) in inr (ap suc q.0, q.1))
+        (λ ne. inl (word_else c below words long (word_of t (middle k j)) (λ e. ne (omega arith))))) in
+        let full : ready t words' vs (suc c.level) (c.index / 2) ≡ 1
+        = omega (arith, ready_node t words' vs c.level (c.index / 2) below.inside) in
+        let step : SeatStep t words words' homes homes3 views kept.arrived id (bare v c) w (λ s. only s c.slot)
+        = record {
+          sum = sum;
+          long = omega (arith, length-set words (word_above c) (n + 1));
+          wide = let d = length-set homes c.slot (some c.hash) in let p = length-set homes1 (above_slot c) none in
+              let r = length-set homes2 other none in omega arith;
+          given = λ f. omega (arith, given f);
+          once = λ j h. omega (arith, sum (gave (t.first + j)), same (t.first + j), kept.once j h);
+          word = λ m pos h. counted c below words long t m;
+          flow = λ s k j is. let more = ready_grown t kept.tall words words' views vs (suc c.level) (c.index / 2)
+              (above_slot c) up.0 up.1 landed.0.0 above_side landed.0.1 unready full grown s k j is in omega arith;
+          sides_out = λ m side two pos h. dite (ℕ_discrete m (node_above c))
+              (λ e.
+              let a : get_or words' (word_of t m) 0 ≡ 2 = rw e (omega arith) in
+              let b : get_or words (word_of t m) 0 ≡ 1 = rw e one in
+              omega (arith, only_le (slot_of t m side) other))
+              (λ ne. let l = word_else c below words long (word_of t m) (λ e. ne (omega arith)) in
+              omega (arith, only-other (slot_of t m side) other (λ e. ne (omega arith))));
+          out_top = let pos = split_positive c.level (c.index / 2) in
+              omega (arith, only-other (slot_of t 0 0) other (λ e. omega arith));
+          home = λ s k j is none_out.
+              let mine = term_le (outs s) views id (bare v c) at in let all = sum (outs s) in
+              let not_other : s ≢ other = λ e. let o : only s other ≡ 1 = rw e (only-same other) in
+              omega arith in
+              let not_above : s ≢ above_slot c = λ e.
+              let o : only s (above_slot c) ≡ 1 = rw e (only-same (above_slot c)) in
+              omega arith in
+              let through : get_elem? homes3 s ≡ get_elem? homes1 s = set_else homes2 other s none not_other
+              ∙ set_else homes1 (above_slot c) s none not_above in
+              put_home kept homes3 (λ y. only y c.slot) c.slot c.hash has.0.0 s k j is
+              (λ e. let inside : c.slot < length homes = omega (arith, kept.wide, below.slot, below.inside) in
+              through ∙ rw e (set_here homes c.slot (some c.hash) inside))
+              (λ ne. let z = only-other s c.slot (λ e. ne (sym e)) in
+              (omega arith, through ∙ set_else homes c.slot s (some c.hash) ne, z));
+          seats = let a = rooted_at (WasGiven views) t (above_slot c) up.0 up.1 (climbed c x).hash above_side root in
+              let j : ℕ = 2 * (c.index / 2) + (1 - c.index % 2) in
+              let b = rooted_at (WasGiven views) t other c.level j x other_side x_root in
+              old_seat kept id w ((a, b), has.1);
+          tops = omega (arith, not_top);
+        } in
+        keeps_step kept step
+
+    second : Met words homes v c (set views id)
+    second =
+        let h = kept.home other c.level (2 * (c.index / 2) + (1 - c.index % 2)) other_side other_out in
+        let q = kept.home (above_slot c) up.0 up.1 above_side
+        (empty_home kept (above_slot c) up.0 up.1 above_side above_unready) in
+        let homes1 : List (Opt (List ℕ)) = set homes c.slot (some c.hash) in
+        let z = set_else homes c.slot (above_slot c) (some c.hash) above_own ∙ q.1 in
+        let x = set_else homes1 (above_slot c) other none other_above
+        ∙ (set_else homes c.slot other (some c.hash) other_own ∙ h.1) in
+        (h.0, q.0, z, x, joined h.0 (h.2 (sym found ∙ one)))
+
+  pub arrived_tree : Arrived words homes v c (set views id)
+  arrived_tree = dite (ℕ_discrete n 0) (λ none_there. inl (none_there, first none_there))
+      (λ some_there. let one : n ≡ 1 = omega (arith, found_few c kept below alone.2) in
+      inr (one, second one))

@@ -1,20 +1,8 @@
--- Sums over lists of which one item changes.
-use Rattle.std.proofs.Common.{◌≡◌, ℕ, zero, suc, ◌+◌, ◌<◌, ◌≤◌, ◌≢◌, List, [], ◌∷◌, ◌++◌, set, sym, refl, ap, arith}
-use Rattle.std.proofs.Common.{cond, eq-eqb, ne_eqb}
-use mathlib.Core.Logic.{dite}
-use native.Mathlib.Decide.{ℕ_discrete}
-use mathlib.Core.Option.{some, some-injective, some-ne-none}
-use lib.ListN.{get_elem?}
-use Rattle.tor_board.specs.Weights.{total, below, only, times, without}
-
-module _ {A : Type 0} (r : A → ℕ) where
-  term_in : (l : List A) (j : ℕ) (v : A) → get_elem? l j ≡ some v → r v ≤ total r l
-  term_in [] j v e = absurd (some-ne-none v (sym e))
-  term_in (x ∷ xs) zero v e = omega (arith, ap r (some-injective x v e))
-  term_in (x ∷ xs) (suc j) v e = omega (arith, term_in xs j v e)
-
-  nothing_of : (l : List A) (j : ℕ) (v : A) → get_elem? l j ≡ some v → total r l ≡ 0 → r v ≡ 0
-  nothing_of l j v e none = omega (arith, term_in l j v e)
+-- Sums over lists of which one item changes, and what holds of each item.
+use Rattle.tor_board.proofs.Names.{Bool, List, [], ap, arith, cond, eq-eqb, false, get_or, le-ltb, length, lt-ltb, ltb}
+use Rattle.tor_board.proofs.Names.{map, ne_eqb, refl, set, subst, suc, sym, true, zero, ℕ, ⊎_elim, ◌++◌, ◌+◌, ◌<◌, ◌==◌}
+use Rattle.tor_board.proofs.Names.{◌∙◌, ◌∷◌, ◌≡◌, ◌≢◌, ◌≤◌, dite, some, some-injective, some-ne-none, dec_le}
+use Rattle.tor_board.proofs.Names.{ℕ_discrete, get_elem?, at_set, at_snoc, below, only, times, total, without}
 
 module _ {A : Type 0} (g : A → ℕ) where
   pub total-append : (l m : List A) → total g (l ++ m) ≡ total g l + total g m
@@ -39,18 +27,50 @@ module _ {A : Type 0} (g : A → ℕ) where
   total_le h [] le = omega arith
   total_le h (x ∷ xs) le = omega (arith, le x, total_le h xs le)
 
-  -- where the j-th has the whole of r, and those with no r have no g, it has the whole of g
-  pub alone : (r : A → ℕ) (l : List A) (j : ℕ) (v : A) → get_elem? l j ≡ some v → total r l ≡ r v
-      → ((i : ℕ) (w : A) → get_elem? l i ≡ some w → r w ≡ 0 → g w ≡ 0) → total g l ≡ g v
-  alone r [] j v e all idle = absurd (some-ne-none v (sym e))
-  alone r (x ∷ xs) zero v e all idle =
-      let same : x ≡ v = some-injective x v e in
-      let rest : total r xs ≡ 0 = omega (arith, all, ap r same) in
-      omega (arith, ap g same, none_there xs (λ i w at. idle (suc i) w at (nothing_of r xs i w at rest)))
-  alone r (x ∷ xs) (suc j) v e all idle =
-      let part = term_in r xs j v e in
-      let mine : total r xs ≡ r v = omega arith in
-      omega (arith, idle 0 x refl (omega arith), alone r xs j v e mine (λ i w at. idle (suc i) w at))
+-- where the j-th has the whole of r, and those with no r have no g, it has the whole of g
+pub alone : {A : Type 0} (g r : A → ℕ) (l : List A) (j : ℕ) (v : A) → get_elem? l j ≡ some v → total r l ≡ r v
+    → ((i : ℕ) (w : A) → get_elem? l i ≡ some w → r w ≡ 0 → g w ≡ 0) → total g l ≡ g v
+alone g r [] j v e all idle = absurd (some-ne-none v (sym e))
+alone g r (x ∷ xs) zero v e all idle =
+    let same : x ≡ v = some-injective x v e in let rest : total r xs ≡ 0 = omega (arith, ap r same) in
+    omega (arith, ap g same, none_there g xs (λ i w at. idle (suc i) w at (omega (arith, term_le r xs i w at))))
+alone g r (x ∷ xs) (suc j) v e all idle = let part = term_le r xs j v e in
+    omega (arith, idle 0 x refl (omega arith), alone g r xs j v e (omega arith) (λ i w at. idle (suc i) w at))
+
+pub total-map : {A B : Type 0} (f : B → ℕ) (h : A → B) (l : List A) → total f (map h l) ≡ total (λ x. f (h x)) l
+total-map f h [] = refl
+total-map f h (x ∷ xs) = omega (arith, total-map f h xs)
+
+-- what holds of each item, once one is another, or there is one more
+pub set_all : {A : Type 0} (P : A → Type 0) (l : List A) (id : ℕ) (w : A)
+    → ((j : ℕ) (u : A) → get_elem? l j ≡ some u → P u) → P w
+    → (j : ℕ) (u : A) → get_elem? (set l id w) j ≡ some u → P u
+set_all P l id w all now j u e = ⊎_elim (λ (r : (j ≡ id) × (w ≡ u)). subst P r.1 now)
+    (λ (r : (j ≢ id) × (get_elem? l j ≡ some u)). all j u r.1) (at_set l id j w u e)
+
+pub snoc_all : {A : Type 0} (P : A → Type 0) (l : List A) (w : A)
+    → ((j : ℕ) (u : A) → get_elem? l j ≡ some u → P u) → P w
+    → (j : ℕ) (u : A) → get_elem? (l ++ w ∷ []) j ≡ some u → P u
+snoc_all P l w all now j u e = ⊎_elim (λ (r : get_elem? l j ≡ some u). all j u r) (λ (r : w ≡ u). subst P r now)
+    (at_snoc l w u j e)
+
+pub within : {X : Type 0} (l : List X) (j : ℕ) (x : X) → get_elem? l j ≡ some x → j < length l
+within [] j x e = absurd (some-ne-none x (sym e))
+within (y ∷ l) zero x e = omega arith
+within (y ∷ l) (suc j) x e = omega (arith, within l j x e)
+
+-- an item of a list that a function made
+pub mapped : {A B : Type 0} (f : A → B) (l : List A) (k : ℕ) (y : B) → get_elem? (map f l) k ≡ some y
+    → (x : A) × (get_elem? l k ≡ some x) × (f x ≡ y)
+mapped f [] k y e = absurd (some-ne-none y (sym e))
+mapped f (x ∷ l) zero y e = (x, refl, some-injective (f x) y e)
+mapped f (x ∷ l) (suc k) y e = mapped f l k y e
+
+-- an item, read with a default
+pub read : {X : Type 0} (l : List X) (i : ℕ) (x d : X) → get_elem? l i ≡ some x → get_or l i d ≡ x
+read [] i x d e = absurd (some-ne-none x (sym e))
+read (y ∷ l) zero x d e = some-injective y x e
+read (y ∷ l) (suc i) x d e = read l i x d e
 
 pub below_more : (f : ℕ → ℕ) (n : ℕ) → below f (n + 1) ≡ below f n + f n
 below_more f n = let e : n + 1 ≡ suc n = omega arith in ap (below f) e
@@ -62,22 +82,33 @@ pub only-other : (u x : ℕ) → x ≢ u → only u x ≡ 0
 only-other u x n = ap (λ b. cond b 1 0) (ne_eqb x u n)
 
 pub below-only : (u n : ℕ) → (below (only u) n ≤ 1) × (n ≤ u → below (only u) n ≡ 0) × (u < n → below (only u) n ≡ 1)
-below-only u zero = (omega arith, (λ _. refl), λ h. absurd (omega arith))
+below-only u zero = (omega arith, (λ _. refl), λ h. omega arith)
 below-only u (suc n) =
     let before = below-only u n in
     dite (ℕ_discrete n u)
     (λ e. let here : only u n ≡ 1 = ap (λ b. cond b 1 0) (eq-eqb n u e) in let none-yet = before.1 (omega arith) in
-    (omega arith, (λ h. absurd (omega arith)), λ h. omega arith))
-    (λ ne. let here : only u n ≡ 0 = only-other u n ne in (
-      omega (arith, before.0),
-      (λ h. omega (arith, before.1 (omega arith))),
-      λ h. omega (arith, before.2 (omega arith)),
-    ))
+    (omega arith, (λ h. omega arith), λ h. omega arith))
+    (λ ne. let here : only u n ≡ 0 = only-other u n ne in let none = before.1 in let one = before.2 in
+    (omega (arith, before.0), (λ h. omega (arith, none (omega arith))), λ h. omega (arith, one (omega arith))))
+
+-- of the numbers below n there is that one where it is less
+pub below-test : (u n : ℕ) → below (only u) n ≡ cond (ltb u n) 1 0
+below-test u n = dite (dec_le n u)
+    (λ le. (below-only u n).1 le ∙ ap (λ b. cond {A = ℕ} b 1 0) (sym (le-ltb u n le)))
+    (λ gt. let h : u < n = omega arith in
+    (below-only u n).2 h ∙ ap (λ b. cond {A = ℕ} b 1 0) (sym (lt-ltb u n h)))
 
 pub total-without : (f : ℕ → ℕ) (u : ℕ) (xs : List ℕ) → 0 < times u xs → total f (without u xs) + f u ≡ total f xs
-total-without f u [] has = absurd (omega arith)
+total-without f u [] has = omega arith
 total-without f u (x ∷ xs) has = dite (ℕ_discrete x u)
     (λ e. let first : without u (x ∷ xs) ≡ xs = ap (λ b. cond b xs (x ∷ without u xs)) (eq-eqb x u e) in
     omega (arith, ap (total f) first, ap f e))
     (λ ne. let later : without u (x ∷ xs) ≡ x ∷ without u xs = ap (λ b. cond b xs (x ∷ without u xs)) (ne_eqb x u ne) in
     omega (arith, ap (total f) later, total-without f u xs (omega (arith, only-other u x ne))))
+
+pub cond_le : (b : Bool) (n : ℕ) → cond b n 0 ≤ n
+cond_le true n = omega arith
+cond_le false n = omega arith
+
+pub only_le : (u x : ℕ) → only u x ≤ 1
+only_le u x = cond_le (x == u) 1

@@ -1,70 +1,16 @@
 -- Facts on trees that any step uses.
-use Rattle.std.proofs.Common.{◌≡◌, ◌≢◌, ℕ, zero, suc, ◌+◌, ◌*◌, ◌/◌, ◌<◌, ◌≤◌, ◌^◌, List, [], ◌∷◌, ◌++◌, cond, get_or}
-use Rattle.std.proofs.Common.{set, sym, refl, ap, ◌∙◌, subst, inl, inr, ⊎_elim, arith, lt-ltb, le-ltb, mul-le-mul_right}
-use Rattle.atomic_table.proofs.Lists.{at_set}
-use mathlib.Core.Option.{some}
-use lib.ListN.{get_elem?}
-use Rattle.std.proofs.Math.Nat.{pow-suc}
-use Rattle.std.proofs.lemmas.Nat.{pow_pos}
-use mathlib.Core.Logic.{dite}
-use native.Mathlib.Decide.{ℕ_discrete, dec_le}
-use Rattle.tor_board.specs.Weights.{only}
-use Rattle.tor_board.specs.Trees.{middle, word_of, slot_of, IsRoot, ready, times_given}
-use Rattle.tor_board.specs.Rule.{KeepsTree, IsSide, TopsAre}
-use Rattle.tor_board.specs.declared.tree.Tree.{Tree}
-use Rattle.tor_board.specs.declared.view.View.{View}
-use Rattle.tor_board.proofs.Sums.{only-same, only-other}
+use Rattle.tor_board.proofs.Names.{Bool, List, Some, [], ap, ap₂, arith, cond, false, get_or, inl, inr, le-leb, le-ltb}
+use Rattle.tor_board.proofs.Names.{leb, leb-true, lt-ltb, ltb, mul-le-mul_right, refl, subst, suc, sym, true, zero, ℕ}
+use Rattle.tor_board.proofs.Names.{⊎_elim, ◌&&◌, ◌*◌, ◌++◌, ◌+◌, ◌-◌, ◌/◌, ◌<◌, ◌^◌, ◌∙◌, ◌∷◌, ◌≡◌, ◌≢◌, ◌≤◌, pow-suc}
+use Rattle.tor_board.proofs.Names.{pow_pos, dite, Opt, some, dec_le, get_elem?, Climb, IsNodeSlot, IsSide, IsTopSlot}
+use Rattle.tor_board.proofs.Names.{KeepsTree, TopsAre, climbing, climbs_to, out, IsRoot, has_unit, middle, ready}
+use Rattle.tor_board.proofs.Names.{slot_of, times_given, word_of, only, Tree, View, IsIn}
+use Rattle.tor_board.proofs.Sums.{only-same, only-other, term_le}
 
-pub ready_node : (t : Tree) (words : List ℕ) (views : List View) (k i : ℕ) → middle k i < t.count
-    → ready t words views (suc k) i ≡ get_or words (word_of t (middle k i)) 0 / 2
-ready_node t words views k i h
-    = ap (λ b. cond b (get_or words (word_of t (middle k i)) 0 / 2) (ready t words views k (2 * i)))
-    (lt-ltb (middle k i) t.count h)
-
-pub ready_chain : (t : Tree) (words : List ℕ) (views : List View) (k i : ℕ) → t.count ≤ middle k i
-    → ready t words views (suc k) i ≡ ready t words views k (2 * i)
-ready_chain t words views k i h
-    = ap (λ b. cond b (get_or words (word_of t (middle k i)) 0 / 2) (ready t words views k (2 * i)))
-    (le-ltb (middle k i) t.count h)
-
--- where no word gets less and no unit is given less often, no spot gets less ready
-pub ready_more : (t : Tree) (words words' : List ℕ) (views views' : List View)
-    → ((m : ℕ) → m < t.count → get_or words (word_of t m) 0 ≤ get_or words' (word_of t m) 0)
-    → ((u : ℕ) → times_given u views ≤ times_given u views')
-    → (k i : ℕ) → ready t words views k i ≤ ready t words' views' k i
-ready_more t words words' views views' more given zero i = given (t.first + i)
-ready_more t words words' views views' more given (suc k) i = dite (dec_le t.count (middle k i))
-    (λ le. omega (
-      arith,
-      ready_chain t words views k i le,
-      ready_chain t words' views' k i le,
-      ready_more t words words' views views' more given k (2 * i),
-    ))
-    (λ gt. let h : middle k i < t.count = omega arith in
-    omega (arith, ready_node t words views k i h, ready_node t words' views' k i h, more (middle k i) h))
-
--- where each word has the same half and each unit is given as often, each spot is as ready
-pub ready_same : (t : Tree) (words words' : List ℕ) (views views' : List View)
-    → ((m : ℕ) → m < t.count → get_or words' (word_of t m) 0 / 2 ≡ get_or words (word_of t m) 0 / 2)
-    → ((u : ℕ) → times_given u views' ≡ times_given u views)
-    → (k i : ℕ) → ready t words' views' k i ≡ ready t words views k i
-ready_same t words words' views views' same given zero i = given (t.first + i)
-ready_same t words words' views views' same given (suc k) i = dite (dec_le t.count (middle k i))
-    (λ le. omega (
-      arith,
-      ready_chain t words views k i le,
-      ready_chain t words' views' k i le,
-      ready_same t words words' views views' same given k (2 * i),
-    ))
-    (λ gt. let h : middle k i < t.count = omega arith in
-    omega (arith, ready_node t words views k i h, ready_node t words' views' k i h, same (middle k i) h))
-
-pub root_more : (t : Tree) (G H : ℕ → List ℕ → Type 0) → ((u : ℕ) (x : List ℕ) → G u x → H u x)
-    → (k i : ℕ) (hash : List ℕ) → IsRoot G t k i hash → IsRoot H t k i hash
-root_more t G H more zero i hash is
-    = ⊎_elim (λ (r : (i < t.count) × G (t.first + i) hash). inl (r.0, more (t.first + i) hash r.1)) (λ r. inr r) is
-root_more t G H more (suc k) i hash is
-    = (is.0, is.1, root_more t G H more k (2 * i) is.0 is.2, root_more t G H more k (2 * i + 1) is.1 is.3, is.4)
+pub by_sides : (P : ℕ → Type 0) → P 0 → P 1 → (side : ℕ) → side < 2 → P side
+by_sides P a b zero two = a
+by_sides P a b (suc zero) two = b
+by_sides P a b (suc (suc n)) two = absurd (omega arith)
 
 -- 2 i 2^k is i 2^(k+1), in the forms that the induction on spots needs
 pub zero_more : (n : ℕ) → n ≡ n + 0
@@ -84,7 +30,72 @@ pub side_of : (t : Tree) (k i side : ℕ) → side < 2 → middle k i < t.count
     → IsSide t (slot_of t (middle k i) side) k (2 * i + side)
 side_of t k i side two inside = inl (i, side, two, inside, refl, refl)
 
-module _ (t : Tree) (words : List ℕ) (homes : _) (views : List View) (kept : KeepsTree t words homes views) where
+pub side_inside : (k i side n : ℕ) → side < 2 → middle k i < n → (2 * i + side) * 2 ^ k < n
+side_inside k i side n two inside = let p : (2 * i + side) * 2 ^ k ≤ (2 * i + 1) * 2 ^ k
+    = mul-le-mul_right (2 ^ k) (omega arith) in omega arith
+
+-- a node stands over units
+pub node_inside : (k i n : ℕ) → middle k i < n → i * 2 ^ suc k < n
+node_inside k i n near = omega (arith, side_inside k i 0 n (omega arith) near, twice k i)
+
+pub side_in : (t : Tree) → 0 < t.count → (slot k j : ℕ) → IsSide t slot k j → IsIn t slot
+side_in t some_unit slot k j is = ⊎_elim
+    (λ (p : IsNodeSlot t slot k j). (omega (arith, p.4), omega (arith, p.2, p.3, p.4)))
+    (λ (p : IsTopSlot t slot k j). (omega (arith, p.0), omega (arith, p.0)))
+    is
+
+pub side_covers : (t : Tree) → 0 < t.count → (slot k j : ℕ) → IsSide t slot k j → j * 2 ^ k < t.count
+side_covers t some_unit slot k j is = ⊎_elim
+    (λ (p : IsNodeSlot t slot k j). rw p.5 (side_inside k p.0 p.1 t.count p.2 p.3))
+    (λ (p : IsTopSlot t slot k j). rw p.2 (omega arith))
+    is
+
+pub ready_node : (t : Tree) (words : List ℕ) (views : List View) (k i : ℕ) → middle k i < t.count
+    → ready t words views (suc k) i ≡ get_or words (word_of t (middle k i)) 0 / 2
+ready_node t words views k i h
+    = ap (λ b. cond b (get_or words (word_of t (middle k i)) 0 / 2) (ready t words views k (2 * i)))
+    (lt-ltb (middle k i) t.count h)
+
+pub ready_chain : (t : Tree) (words : List ℕ) (views : List View) (k i : ℕ) → t.count ≤ middle k i
+    → ready t words views (suc k) i ≡ ready t words views k (2 * i)
+ready_chain t words views k i h
+    = ap (λ b. cond b (get_or words (word_of t (middle k i)) 0 / 2) (ready t words views k (2 * i)))
+    (le-ltb (middle k i) t.count h)
+
+-- where no word's half gets less and no unit is given less often, no spot gets less ready
+pub ready_more : (t : Tree) (words words' : List ℕ) (views views' : List View)
+    → ((m : ℕ) → 0 < m → m < t.count → get_or words (word_of t m) 0 / 2 ≤ get_or words' (word_of t m) 0 / 2)
+    → ((j : ℕ) → j < t.count → times_given (t.first + j) views ≤ times_given (t.first + j) views')
+    → (k i : ℕ) → i * 2 ^ k < t.count → ready t words views k i ≤ ready t words' views' k i
+ready_more t words words' views views' more given zero i h = given i (omega arith)
+ready_more t words words' views views' more given (suc k) i h = let below : 2 * i * 2 ^ k < t.count = rw (twice k i) h
+    in dite (dec_le t.count (middle k i))
+    (λ le. let less = ready_more t words words' views views' more given k (2 * i) below in
+    omega (arith, ready_chain t words views k i le, ready_chain t words' views' k i le))
+    (λ gt. let in_ : middle k i < t.count = omega arith in
+    let a = more (middle k i) (split_positive k i) in_ in
+    omega (arith, ready_node t words views k i in_, ready_node t words' views' k i in_))
+
+pub ready_same : (t : Tree) (words words' : List ℕ) (views views' : List View)
+    → ((m : ℕ) → 0 < m → m < t.count → get_or words' (word_of t m) 0 / 2 ≡ get_or words (word_of t m) 0 / 2)
+    → ((j : ℕ) → j < t.count → times_given (t.first + j) views' ≡ times_given (t.first + j) views)
+    → (k i : ℕ) → i * 2 ^ k < t.count → ready t words' views' k i ≡ ready t words views k i
+ready_same t words words' views views' same given k i h =
+    let a = ready_more t words words' views views' (λ m pos l. omega (arith, same m pos l))
+    (λ j l. omega (arith, given j l)) k i h in
+    let b = ready_more t words' words views' views (λ m pos l. omega (arith, same m pos l))
+    (λ j l. omega (arith, given j l)) k i h in
+    omega arith
+
+pub root_more : (t : Tree) (G H : ℕ → List ℕ → Type 0) → ((u : ℕ) (x : List ℕ) → G u x → H u x)
+    → (k i : ℕ) (hash : List ℕ) → IsRoot G t k i hash → IsRoot H t k i hash
+root_more t G H more zero i hash is
+    = ⊎_elim (λ (r : (i < t.count) × G (t.first + i) hash). inl (r.0, more (t.first + i) hash r.1)) (λ r. inr r) is
+root_more t G H more (suc k) i hash is
+    = (is.0, is.1, root_more t G H more k (2 * i) is.0 is.2, root_more t G H more k (2 * i + 1) is.1 is.3, is.4)
+
+module _ {t : Tree} {words : List ℕ} {homes : List (Opt (List ℕ))} {views : List View}
+    (kept : KeepsTree t words homes views) where
   -- nothing is ready twice
   pub ready_once : (k i : ℕ) → i * 2 ^ k < t.count → ready t words views k i ≤ 1
   ready_once zero i h = kept.once i (omega arith)
@@ -98,39 +109,65 @@ module _ (t : Tree) (words : List ℕ) (homes : _) (views : List View) (kept : K
       let b = kept.flow (slot_of t (middle k i) 1) k (2 * i + 1) (side_of t k i 1 (omega arith) in_) in
       omega (arith, ready_node t words views k i in_, kept.word (middle k i) (split_positive k i) in_))
 
--- the two sides of a node have two slots, and a slot is a side of one node
-pub one_side : (t : Tree) (n side : ℕ) → side < 2
-    → only (slot_of t n 0) (slot_of t n side) + only (slot_of t n 1) (slot_of t n side) ≡ 1
-one_side t n side two = dite (ℕ_discrete side 0)
-    (λ e. let a : only (slot_of t n 0) (slot_of t n side) ≡ 1 = rw e (only-same (slot_of t n 0)) in
-    omega (arith, a, only-other (slot_of t n 1) (slot_of t n side) (λ h. absurd (omega arith))))
-    (λ ne. let is : side ≡ 1 = omega arith in
-    let a : only (slot_of t n 1) (slot_of t n side) ≡ 1 = rw is (only-same (slot_of t n 1)) in
-    omega (arith, a, only-other (slot_of t n 0) (slot_of t n side) (λ h. absurd (omega arith))))
+  pub side_once : (slot k j : ℕ) → IsSide t slot k j → ready t words views k j ≤ 1
+  side_once slot k j is = ready_once k j (side_covers t kept.some_unit slot k j is)
 
-pub no_side : (t : Tree) (n m side : ℕ) → n ≢ m → side < 2
-    → only (slot_of t n 0) (slot_of t m side) + only (slot_of t n 1) (slot_of t m side) ≡ 0
-no_side t n m side ne two
-    = omega (
-      arith,
-      only-other (slot_of t n 0) (slot_of t m side) (λ h. ne (omega arith)),
-      only-other (slot_of t n 1) (slot_of t m side) (λ h. ne (omega arith)),
-    )
+  pub arrived_once : (slot k j : ℕ) → IsSide t slot k j → kept.arrived slot ≤ 1
+  arrived_once slot k j is = omega (arith, kept.flow slot k j is, side_once slot k j is)
 
-pub side_inside : (k i side n : ℕ) → side < 2 → middle k i < n → (2 * i + side) * 2 ^ k < n
-side_inside k i side n two inside = let p : (2 * i + side) * 2 ^ k ≤ (2 * i + 1) * 2 ^ k
-    = mul-le-mul_right (2 ^ k) (omega arith) in omega arith
+  -- a node's word counts what arrived at that side and at the other
+  pub node_word : (k i side : ℕ) → side < 2 → middle k i < t.count → get_or words (word_of t (middle k i)) 0
+      ≡ kept.arrived (slot_of t (middle k i) side) + kept.arrived (slot_of t (middle k i) (1 - side))
+  node_word k i side two near = let sum = kept.word (middle k i) (split_positive k i) near in
+      by_sides (λ (b : ℕ). get_or words (word_of t (middle k i)) 0
+      ≡ kept.arrived (slot_of t (middle k i) b) + kept.arrived (slot_of t (middle k i) (1 - b)))
+      (omega arith) (omega arith) side two
 
--- what has come to a side is at most one
-pub side_once : (t : Tree) (words : List ℕ) (homes : _) (views : List View) (kept : KeepsTree t words homes views)
-    (slot k j : ℕ) → IsSide t slot k j → ready t words views k j ≤ 1
-side_once t words homes views kept slot k j is = ⊎_elim
-    (λ (r : (i : ℕ) × (side : ℕ) × (side < 2) × (middle k i < t.count) × (slot ≡ slot_of t (middle k i) side)
-    × (j ≡ 2 * i + side)).
-    rw r.5 (ready_once t words homes views kept k (2 * r.0 + r.1) (side_inside k r.0 r.1 t.count r.2 r.3)))
-    (λ (r : (slot ≡ slot_of t 0 0) × (k ≡ t.height)
-    × (j ≡ 0)). rw r.2 (ready_once t words homes views kept k 0 (omega (arith, kept.some_unit))))
-    is
+  pub node_flow : (k i side : ℕ) → side < 2 → middle k i < t.count
+      → climbing (slot_of t (middle k i) side) views + kept.arrived (slot_of t (middle k i) side)
+      ≡ ready t words views k (2 * i + side)
+  node_flow k i side two near = kept.flow (slot_of t (middle k i) side) k (2 * i + side) (side_of t k i side two near)
+
+  pub node_once : (k i side : ℕ) → side < 2 → middle k i < t.count → kept.arrived (slot_of t (middle k i) side) ≤ 1
+  node_once k i side two near
+      = arrived_once (slot_of t (middle k i) side) k (2 * i + side) (side_of t k i side two near)
+
+  -- a hash that climbs has not arrived, and no other climbs there
+  pub alone_there : (id : ℕ) (v : View) (c : Climb) → get_elem? views id ≡ some v → v.climb ≡ Some c
+      → (k j : ℕ) → IsSide t c.slot k j
+      → (climbing c.slot views ≡ 1) × (ready t words views k j ≡ 1) × (kept.arrived c.slot ≡ 0)
+  alone_there id v c at in_climb k j is =
+      let f = kept.flow c.slot k j is in let r = side_once c.slot k j is in
+      let mine = term_le (λ (u : View). climbs_to c.slot u.climb) views id v at in
+      let one : climbs_to c.slot v.climb ≡ 1 = ap (climbs_to c.slot) in_climb ∙ only-same c.slot in
+      (omega arith, omega arith, omega arith)
+
+  -- a slot to which nothing has come is at home
+  pub empty_home : (slot k j : ℕ) → IsSide t slot k j → ready t words views k j ≡ 0 → out slot views ≡ 0
+  empty_home slot k j is none = ⊎_elim
+      (λ (p : IsNodeSlot t slot k j).
+      let o = kept.outs (middle k p.0) p.1 p.2 (split_positive k p.0) p.3 in
+      let z : ready t words views k (2 * p.0 + p.1) ≡ 0 = subst (λ (x : ℕ). ready t words views k x ≡ 0) p.5 none in
+      let f = node_flow k p.0 p.1 p.2 p.3 in let w = node_word k p.0 p.1 p.2 p.3 in
+      let once = node_once k p.0 (1 - p.1) (omega (arith, p.2)) p.3 in
+      rw p.4 (omega arith))
+      (λ (p : IsTopSlot t slot k j).
+      let z : climbing (slot_of t 0 0) views ≡ 0
+      = rw (sym p.0) (omega (arith, kept.flow slot k j is)) in
+      rw p.0 (omega (arith, kept.out_top)))
+      is
+
+-- of the two slots of a node of one tree, each counts where it is that of the other tree's node
+pub one_side : (n m side : ℕ) → side < 2 → n ≡ m → only (2 * n + 0) (2 * m + side) + only (2 * n + 1) (2 * m + side) ≡ 1
+one_side n m side two e = rw e (by_sides
+    (λ (b : ℕ). only (2 * m + 0) (2 * m + b) + only (2 * m + 1) (2 * m + b) ≡ 1)
+    (omega (arith, only-same (2 * m + 0), only-other (2 * m + 1) (2 * m + 0) (λ h. omega arith)))
+    (omega (arith, only-same (2 * m + 1), only-other (2 * m + 0) (2 * m + 1) (λ h. omega arith)))
+    side two)
+
+pub no_side : (n m side : ℕ) → side < 2 → n ≢ m → only (2 * n + 0) (2 * m + side) + only (2 * n + 1) (2 * m + side) ≡ 0
+no_side n m side two ne = let a = only-other (2 * n + 0) (2 * m + side) (λ h. ne (omega arith)) in
+    let b = only-other (2 * n + 1) (2 * m + side) (λ h. ne (omega arith)) in omega arith
 
 -- what was told stays so
 pub told_more : (number : ℕ) (P Q : List ℕ → Type 0) → ((hash : List ℕ) → P hash → Q hash) → (tops : List (ℕ × List ℕ))
@@ -138,17 +175,19 @@ pub told_more : (number : ℕ) (P Q : List ℕ → Type 0) → ((hash : List ℕ
 told_more number P Q more [] are = tt
 told_more number P Q more (top ∷ tops) are = ((λ e. more top.1 (are.0 e)), told_more number P Q more tops are.1)
 
-pub told_set : (number : ℕ) (P Q : List ℕ → Type 0) → ((hash : List ℕ) → P hash → Q hash) → (views : List View) (id : ℕ)
-    (v w : View) → get_elem? views id ≡ some v → w.tops ≡ v.tops
-    → ((j : ℕ) (u : View) → get_elem? views j ≡ some u → TopsAre number P u.tops)
-    → (j : ℕ) (u : View) → get_elem? (set views id w) j ≡ some u → TopsAre number Q u.tops
-told_set number P Q more views id v w at same told j u e = ⊎_elim
-    (λ (r : (j ≡ id) × (w ≡ u)). subst (λ (x : View). TopsAre number Q x.tops) r.1
-    (subst (TopsAre number Q) (sym same) (told_more number P Q more v.tops (told id v at))))
-    (λ (r : (j ≢ id) × (get_elem? views j ≡ some u)). told_more number P Q more u.tops (told j u r.1))
-    (at_set views id j w u e)
-
 pub told_append : (number : ℕ) (P : List ℕ → Type 0) (a b : List (ℕ × List ℕ)) → TopsAre number P a
     → TopsAre number P b → TopsAre number P (a ++ b)
 told_append number P [] b x y = y
 told_append number P (top ∷ a) b x y = (x.0, told_append number P a b x.1 y)
+
+-- the unit is one of the tree's
+both_true : (a b : Bool) → (a && b) ≡ true → (a ≡ true) × (b ≡ true)
+both_true true b e = (refl, e)
+both_true false b e = cc
+
+pub has_unit-true : (t : Tree) (u : ℕ) → has_unit t u ≡ true → (t.first ≤ u) × (u < t.first + t.count)
+has_unit-true t u e = let p = both_true (leb t.first u) (ltb u (t.first + t.count)) e in
+    (leb-true t.first u p.0, omega (arith, leb-true (suc u) (t.first + t.count) p.1))
+
+pub has_unit-within : (t : Tree) (u : ℕ) → t.first ≤ u → u < t.first + t.count → has_unit t u ≡ true
+has_unit-within t u low high = ap₂ ◌&&◌ (le-leb t.first u low) (lt-ltb u (t.first + t.count) high)

@@ -1,27 +1,32 @@
--- What a seat knows, and how its steps change it.
-use Rattle.std.specs.Prelude.{ℕ, ◌+◌, ◌-◌, ◌/◌, ◌||◌, true, false, List, [], ◌∷◌, ◌++◌, map, cond, Option, None, Some}
-use Rattle.tor_board.specs.Weights.{total, without}
-use Rattle.tor_board.specs.Climb.{Climb, way_in}
-use Rattle.tor_board.specs.Desks.{Desk, GivenUnit, joined_more}
+-- What a seat knows, and how its steps change it: its desk as the event does, and its climb.
+use Rattle.std.specs.Prelude.{ℕ, ◌+◌, List, map, cond, Option, None, Some}
+use Rattle.tor_board.specs.Weights.{total}
+use Rattle.tor_board.specs.Climb.{Climb, way_in, way_of}
+use Rattle.tor_board.specs.Desks
+use Rattle.tor_board.specs.Desks.{Desk, GivenUnit}
 use Rattle.tor_board.specs.declared.view.View.{View}
 
-abbrev pub first : ℕ → View
-first units = record {
+-- what is known of a board of so many units, with that desk and that climb
+abbrev pub seen : ℕ → Desk → Option Climb → View
+seen units d climb = record {
   units = units;
-  room = 256;
-  held = [];
-  given = [];
-  failed = [];
-  done = false;
-  looked = false;
-  arrivals = 0;
-  climb = None;
-  tops = [];
+  room = d.room;
+  held = d.held;
+  given = d.given;
+  failed = d.failed;
+  done = d.done;
+  looked = d.looked;
+  arrivals = d.arrivals;
+  climb = climb;
+  tops = d.tops;
 }
+
+abbrev pub first : ℕ → View
+first units = seen units Desks.first None
 
 -- what is left of a seat that was joined to another
 abbrev pub spent : View
-spent = record (first 0) { room = 0 }
+spent = seen 0 Desks.spent None
 
 -- what of it is shown
 abbrev pub desk_of : View → Desk
@@ -53,52 +58,38 @@ stopped v = cond v.done v.room 0
 
 -- a look found none failed
 abbrev pub looking : View → View
-looking v = record v { looked = true }
+looking v = seen v.units (Desks.looking (desk_of v)) v.climb
 
 abbrev pub finished : View → View
-finished v = record v { done = true; looked = false }
+finished v = seen v.units (Desks.finished (desk_of v)) v.climb
 
 abbrev pub holding : View → ℕ → View
-holding v u = record v { held = u ∷ v.held; looked = false }
+holding v u = seen v.units (Desks.holding (desk_of v) u) v.climb
 
 -- the unit is given, and its climb, if any, begins
 abbrev pub handed : View → ℕ → List ℕ → Option Climb → View
-handed v u hash climb = record v {
-  held = without u v.held;
-  given = record { unit = u; hash = hash; joined = 0 } ∷ v.given;
-  looked = false;
-  climb = climb;
-}
+handed v u hash climb = seen v.units (Desks.handed (desk_of v) u hash (way_in climb)) climb
 
 -- the first to arrive at a node rests
 abbrev pub rested : View → View
-rested v = record v { arrivals = v.arrivals + 1; climb = None }
+rested v = seen v.units (Desks.rested (desk_of v)) None
 
 -- the second joins the two hashes, and climbs on
 abbrev pub joining : View → Climb → View
-joining v climb = record v { given = joined_more v.given; arrivals = v.arrivals + 1; climb = Some climb }
+joining v climb = seen v.units (Desks.joining (desk_of v) (way_of climb)) (Some climb)
 
 -- a tree's root is told
 abbrev pub topped : View → ℕ → List ℕ → View
-topped v tree hash = record v { climb = None; tops = (tree, hash) ∷ v.tops }
+topped v tree hash = seen v.units (Desks.topped (desk_of v) tree hash) None
 
 abbrev pub failing : View → ℕ → View
-failing v u = record v { held = without u v.held; failed = u ∷ v.failed; looked = false }
+failing v u = seen v.units (Desks.failing (desk_of v) u) v.climb
 
 abbrev pub keeping : View → View
-keeping v = record v { room = v.room - v.room / 2; looked = false }
+keeping v = seen v.units (Desks.keeping (desk_of v)) v.climb
 
 abbrev pub fresh : View → View
-fresh v = record (first v.units) { room = v.room / 2; done = v.done }
+fresh v = seen v.units (Desks.fresh (desk_of v)) None
 
 abbrev pub both : View → View → View
-both v w = record v {
-  room = v.room + w.room;
-  held = v.held ++ w.held;
-  given = v.given ++ w.given;
-  failed = v.failed ++ w.failed;
-  done = v.done || w.done;
-  looked = false;
-  arrivals = v.arrivals + w.arrivals;
-  tops = v.tops ++ w.tops;
-}
+both v w = seen v.units (Desks.both (desk_of v) (desk_of w)) v.climb

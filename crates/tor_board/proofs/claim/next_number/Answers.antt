@@ -1,4 +1,4 @@
-use Rattle.std.proofs.Common.{arith}
+use Rattle.tor_board.proofs.Names.{arith}
 use Rattle.tor_board.proofs.Moves.{claims}
 use Rattle.tor_board.proofs.claim.next_number.Goals as goal
 

@@ -1,4 +1,4 @@
-use Rattle.std.proofs.Common.{arith}
+use Rattle.tor_board.proofs.Names.{arith}
 use Rattle.tor_board.proofs.Moves.{looks}
 use Rattle.tor_board.proofs.claim.sees_failure.Goals as goal
 

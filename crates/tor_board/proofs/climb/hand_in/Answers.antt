@@ -1,4 +1,4 @@
-use Rattle.std.proofs.Common.{arith}
+use Rattle.tor_board.proofs.Names.{arith}
 use Rattle.tor_board.proofs.Begins.{hands}
 use Rattle.tor_board.proofs.climb.hand_in.Goals as goal
 
@@ -8,6 +8,6 @@ load-requires g c =
       c.requires.table,
       omega (arith, c.requires.shape.two),
       rw (c.requires.picked.0, c.requires.picked.1, c.requires.picked.2)
-          (hands _ _ _ c.requires.shape _ _ _ c.args._tree.now c.args._unit c.args._hash.now idle.0 idle.1 idle.2
+          (hands c.requires.shape _ _ _ c.args._tree.now c.args._unit c.args._hash.now idle.0 idle.1 idle.2
           c.requires.held tree.0 tree.1 tree.2),
     )

@@ -1,17 +1,16 @@
-use Rattle.std.proofs.Common.{arith}
-use Rattle.tor_board.specs.steps.Climbing.{climb_at}
+use Rattle.tor_board.proofs.Names.{arith, climb_at}
 use Rattle.tor_board.proofs.Begins.{seals}
-use Rattle.tor_board.proofs.Meets.{tree_facts, top_of}
+use Rattle.tor_board.proofs.Meets.{top_of}
 use Rattle.tor_board.proofs.climb.seal.Goals as goal
 
 pub load-requires : goal.load-requires
 load-requires c =
-    let t = c.args._tree.now in let f = tree_facts _ _ _ c.requires.shape t c.requires.tree in
-    let cl = c.requires.climbs in let spot = c.args._spot.now in (
+    let cl = c.requires.climbs in let spot = c.args._spot.now in
+    let top = top_of (c.requires.shape.fits c.args._tree.now c.requires.tree) cl c.requires.top in (
       c.requires.table,
       omega (arith, c.requires.shape.two),
-      seals _ _ _ c.requires.shape _ _ _ (climb_at t spot.level spot.index spot.hash cl.spare) cl.is cl.carried
-          c.requires.tree (top_of t f.0 f.1 _ _ cl.side c.requires.top) cl.left c.requires.room,
+      seals c.requires.shape _ _ _ (climb_at c.args._tree.now spot.level spot.index spot.hash cl.spare) cl.is cl.carried
+          c.requires.tree top cl.left c.requires.room,
     )
 
 pub returns : goal.returns

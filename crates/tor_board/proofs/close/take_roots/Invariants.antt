@@ -1,11 +1,6 @@
 -- the slots so far are taken, and the roots of the trees whose slots they are are there
-use Rattle.std.proofs.Common.{◌≡◌, ℕ, ◌*◌, ◌<◌, ◌≤◌, false, get_or, length, None}
-use Rattle.std.specs.Mem.Slots.{slots_filled, slots_items, slots_len}
-use Rattle.std.specs.Mem.Slots.Ownership.{Filled}
-use mathlib.Core.Option.{some}
-use lib.ListN.{get_elem?}
-use Rattle.tor_board.specs.Results.{IsLeft}
-use Rattle.tor_board.specs.declared.tree.Tree.{Tree}
+use Rattle.tor_board.proofs.Names.{None, false, get_or, length, ℕ, ◌*◌, ◌<◌, ◌≡◌, ◌≤◌, slots_filled, slots_items}
+use Rattle.tor_board.proofs.Names.{slots_len, Filled, some, get_elem?, IsLeft, Tree}
 use Rattle.tor_board.proofs.close.take_roots.Given as goal
 
 abbrev pub invariant-slots : goal.invariant-slots

@@ -1,4 +1,4 @@
-use Rattle.std.proofs.Common.{refl, arith}
+use Rattle.tor_board.proofs.Names.{arith, refl}
 use Rattle.tor_board.proofs.Joins.{joined_none}
 use Rattle.tor_board.proofs.give.climb.Goals as goal
 

@@ -1,7 +1,5 @@
 -- how far the hash has come, and what the seat knows of it
-use Rattle.std.proofs.Common.{◌≡◌, ◌-◌, ◌≤◌, Option}
-use Rattle.tor_board.specs.Climb.{Climb}
-use Rattle.tor_board.specs.steps.Climbing.{IsClimbing, joined_view}
+use Rattle.tor_board.proofs.Names.{Option, ◌-◌, ◌≡◌, ◌≤◌, Climb, IsClimbing, joined_view}
 use Rattle.tor_board.proofs.give.climb.Given as goal
 
 abbrev pub decreases-nodes : goal.decreases-nodes

@@ -1,5 +1,5 @@
 use Rattle.tor_board.proofs.Machines.{every_run_lawful}
-use Rattle.tor_board.proofs.Moves.{few_claims}
+use Rattle.tor_board.proofs.Claims.{few_claims}
 use Rattle.tor_board.proofs.Running.{running}
 use Rattle.tor_board.proofs.Stepping.{each_step, history_runs}
 use Rattle.tor_board.proofs.laws.board_law.Goals as goal
@@ -7,10 +7,10 @@ use Rattle.tor_board.proofs.laws.board_law.Goals as goal
 pub returns : goal.returns
 returns c = record {
   reason = λ shape state kept i v at done. kept.claims.why i v at done;
-  few_claims = λ shape state kept. few_claims _ _ _ _ kept.claims;
-  running = λ words slots shape state shaped kept. running shape state kept words slots shaped;
-  events = λ words slots shape shaped m s s' kept kept' shows id v has e at step. each_step shape m s s' kept kept'
-      shows id v at words slots shaped has e step;
+  few_claims = λ shape state kept. few_claims kept.claims;
+  running = λ words slots shape state shaped kept. running kept shaped;
+  events = λ words slots shape shaped m s s' kept kept' shows id v has e at step. each_step
+      (record { kept = kept; kept' = kept'; shows = shows; at = at }) shaped has e step;
   history = history_runs;
   runs = every_run_lawful;
 }

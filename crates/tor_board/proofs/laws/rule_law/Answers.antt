@@ -1,4 +1,4 @@
-use Rattle.std.proofs.Common.{refl}
+use Rattle.tor_board.proofs.Names.{refl}
 use Rattle.tor_board.proofs.laws.rule_law.Goals as goal
 
 pub returns : goal.returns

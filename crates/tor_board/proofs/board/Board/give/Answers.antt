@@ -1,8 +1,4 @@
-use Rattle.std.proofs.Common.{subst, ap, ◌∙◌, arith}
-use Rattle.tor_board.specs.Shapes.{IsTreeOf}
-use Rattle.tor_board.specs.Plays.{Seated}
-use Rattle.tor_board.specs.Views.{desk_of}
-use Rattle.tor_board.specs.declared.tree.Shape.{Shape}
+use Rattle.tor_board.proofs.Names.{ap, arith, subst, ◌∙◌, Seated, IsTreeOf, desk_of, Shape}
 use Rattle.tor_board.proofs.Finding.{levels_of}
 use Rattle.tor_board.proofs.Joins.{after_alone, given_after, in_no_run}
 use Rattle.tor_board.proofs.board.Board.give.Goals as goal
@@ -14,22 +10,16 @@ hand_alone-requires-clause-alone c
 pub returns-clause-given : goal.returns-clause-given
 returns-clause-given c =
     let t = c.in-Some.tree in let some = c.in-Some.ensures.some in
-    let levels = levels_of _ _ c.args.self.now c.args.self.now.shaped t some.0 c.args.job.number some.1 some.2 in
+    let levels = levels_of c.args.self.now c.args.self.now.shaped t some.0 c.args.job.number some.1 some.2 in
     given_after c.args.self.now t some.0 c.climb.result.top c.climb.result.joined _ levels c.climb.ensures.few
     c.climb.ensures.number c.args.seat.now.inner.me.0 c.begin-start.new.seat.me.0 c.climb.new.seat.me
     c.args.job.number c.args.hash c.begin-start.ensures.given.0 some.1 some.2 c.begin-start.ensures.given.1
     c.climb.ensures.view
 
 pub returns-in_default-clause-given : goal.returns-in_default-clause-given
-returns-in_default-clause-given c = (
-  0,
-  ap (λ (m : Seated). desk_of m.0) c.hand_alone.ensures.given
-      ∙ ap desk_of (after_alone c.args.seat.now.inner.me.0 c.args.job.number c.args.hash),
-  omega arith,
-  (
-    omega arith,
-    λ n run there inside. absurd
-        (in_no_run c.args.self.now _ _ c.args.self.now.shaped c.args.job.number c.in_default.ensures.none n run there
-        inside),
-  ),
-)
+returns-in_default-clause-given c =
+    let board = c.args.self.now in
+    let shown = ap (λ (m : Seated). desk_of m.0) c.hand_alone.ensures.given
+    ∙ after_alone c.args.seat.now.inner.me.0 c.args.job.number c.args.hash in
+    let none = in_no_run board board.shaped c.args.job.number c.in_default.ensures.none in
+    (0, shown, omega arith, (omega arith, λ n run there inside. absurd (none n run there inside)))

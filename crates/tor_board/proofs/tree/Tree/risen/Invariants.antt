@@ -1,6 +1,5 @@
 -- the hash so far rises where the first one does
-use Rattle.std.proofs.Common.{◌≡◌, ◌-◌, ◌*◌, ◌^◌, ◌<◌, ◌≤◌}
-use Rattle.tor_board.specs.Rising.{risen, raised}
+use Rattle.tor_board.proofs.Names.{◌*◌, ◌-◌, ◌<◌, ◌^◌, ◌≡◌, ◌≤◌, raised, risen}
 use Rattle.tor_board.proofs.tree.Tree.risen.Given as goal
 
 abbrev pub decreases-levels : goal.decreases-levels

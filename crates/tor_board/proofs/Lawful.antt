@@ -1,0 +1,119 @@
+-- What every run of the machine keeps, and what makes it lawful.
+use Rattle.tor_board.proofs.Names.{List, None, Option, Some, [], ap, arith, cond, get_or, inl, inr, length, min, refl}
+use Rattle.tor_board.proofs.Names.{suc, sym, zero, ℕ, ⊎_elim, ◌*◌, ◌+◌, ◌<◌, ◌∙◌, ◌∷◌, ◌≡◌, ◌≤◌, dite, some}
+use Rattle.tor_board.proofs.Names.{some-ne-none, dec_le, get_elem?, Run, Desk, GivenUnit, Way, names, Every}
+use Rattle.tor_board.proofs.Names.{IsLawfulState, IsLeastFailed, IsNodeSide, Machine, Side, is_given_side, lesser}
+use Rattle.tor_board.proofs.Names.{start, times_arrived, times_failed, below, only, times, total}
+use Rattle.tor_board.proofs.Sides.{side_at, at_node}
+use Rattle.tor_board.proofs.Sums.{cond_le, snoc_all, total_le, only-same, only-other, below-test, below_more}
+use Rattle.tor_board.proofs.Sums.{below-only}
+use Rattle.tor_board.specs.Desks.{first}
+use Rattle.tor_board.specs.Machine.{times_given}
+
+abbrev pub gave : ℕ → Desk → ℕ
+gave u d = total (λ (g : GivenUnit). only u g.unit) d.given
+
+abbrev pub failures : ℕ → Desk → ℕ
+failures u d = times u d.failed
+
+abbrev pub mark : ℕ → ℕ → ℕ → ℕ
+mark units made u = below (only u) (min made units)
+
+-- the room of a seat that is done
+abbrev pub stopped : Desk → ℕ
+stopped d = cond d.done d.room 0
+
+pub stopped_le : (d : Desk) → stopped d ≤ d.room
+stopped_le d = cond_le d.done d.room
+
+pub there : {X : Type 0} (l : List X) (i : ℕ) (d : X) → i < length l → get_elem? l i ≡ some (get_or l i d)
+there [] i d h = absurd (omega arith)
+there (x ∷ xs) zero d h = refl
+there (x ∷ xs) (suc i) d h = there xs i d (omega arith)
+
+pub mark_more : (units made u : ℕ) → made < units → mark units (made + 1) u ≡ mark units made u + only u made
+mark_more units made u h =
+    let a : min made units ≡ made = omega arith in
+    let b : min (made + 1) units ≡ made + 1 = omega arith in rw (a, b) (below_more (only u) made)
+
+pub mark_past : (units made u : ℕ) → units ≤ made → mark units (made + 1) u ≡ mark units made u
+mark_past units made u h = let e : min (made + 1) units ≡ min made units = omega arith in ap (below (only u)) e
+
+-- what every run keeps
+abbrev pub ClimbOk : List Run → Option Way → Type 0
+ClimbOk forest None = Unit {0}
+ClimbOk forest (Some w) = get_elem? forest w.tree ≡ some w.run
+
+abbrev pub AllOk : List Run → List Desk → Type 0
+AllOk forest desks = (j : ℕ) (d : Desk) → get_elem? desks j ≡ some d → ClimbOk forest d.climb
+
+-- where a side arrived, all its units were given
+abbrev pub IsWhole : List Run → List Desk → List Side → Type 0
+IsWhole forest desks arrived = (n : ℕ) (run : Run) → get_elem? forest n ≡ some run → (k j : ℕ)
+    → is_given_side desks run k j (times_arrived (side_at n k j) arrived)
+
+pub record Good (units : ℕ) (forest : List Run) (m : Machine) : Type 0 where
+  pub named : (u : ℕ) → total (names u) m.desks ≡ mark units m.claims u
+  pub bounded : m.claims ≤ units + total stopped m.desks
+  pub rooms : total (λ (d : Desk). d.room) m.desks ≡ 256
+  pub least : IsLeastFailed m.least m.desks
+  pub whole : IsWhole forest m.desks m.arrived
+  pub arrivals : length m.arrived ≡ total (λ (d : Desk). d.arrivals) m.desks
+  pub climbs : AllOk forest m.desks
+  pub real : Every (IsNodeSide forest) m.arrived
+
+pub lawful : (units : ℕ) (forest : List Run) (m : Machine) → Good units forest m → IsLawfulState units forest m
+lawful units forest m g = (
+  record {
+    named = λ u. g.named u ∙ below-test u (min m.claims units);
+    few = omega (arith, g.bounded, g.rooms, total_le stopped (λ (d : Desk). d.room) m.desks stopped_le);
+    failed = g.least;
+    nodes = λ n run is k i inside.
+        let l = times_arrived (side_at n k (2 * i)) m.arrived in
+        let r = times_arrived (side_at n k (2 * i + 1)) m.arrived in
+        (l, r, g.whole n run is k (2 * i), g.whole n run is k (2 * i + 1), at_node n k i m.arrived);
+    seats = g.arrivals;
+  },
+  g.real,
+)
+
+pub begins_good : (units : ℕ) (forest : List Run) → Good units forest start
+begins_good units forest = record {
+  named = λ u. omega (arith, (below-only u (min 0 units)).1 (omega arith));
+  bounded = omega arith;
+  rooms = refl;
+  least = inl (refl, λ u. refl);
+  whole = λ n run is k j. inl refl;
+  arrivals = refl;
+  climbs = snoc_all (λ (d : Desk). ClimbOk forest d.climb) [] first (λ j d e. absurd (some-ne-none d (sym e))) tt;
+  real = tt;
+}
+
+pub still_given : (before after : List Desk) → ((u : ℕ) → times_given u before ≤ times_given u after)
+    → (run : Run) (k j x : ℕ) → is_given_side before run k j x → is_given_side after run k j x
+still_given before after more run k j x s = ⊎_elim (λ e. inl e)
+    (λ p. inr (p.0, λ i low high inside. let one = p.1 i low high inside in omega (arith, more (run.first + i)))) s
+
+pub least_same : (least : Option ℕ) (before after : List Desk)
+    → ((u : ℕ) → times_failed u after ≡ times_failed u before) → IsLeastFailed least before → IsLeastFailed least after
+least_same least before after same l = ⊎_elim
+    (λ p. inl (p.0, λ u. same u ∙ p.1 u))
+    (λ p. inr (p.0, p.1, omega (arith, p.2, same p.0), λ x h. same x ∙ p.3 x h))
+    l
+
+-- once a unit more has failed
+pub fewest : (before after : List Desk) (u : ℕ) → ((x : ℕ) → times_failed x after ≡ times_failed x before + only x u)
+    → (l : Option ℕ) → IsLeastFailed l before → IsLeastFailed (Some (lesser l u)) after
+fewest before after u now l f = ⊎_elim
+    (λ (p : (l ≡ None) × ((x : ℕ) → times_failed x before ≡ 0)).
+    let spared : (x : ℕ) → x < u → times_failed x after ≡ 0
+    = λ x h. omega (arith, now x, p.1 x, only-other x u (λ e. omega arith)) in
+    rw p.0 (inr (u, refl, omega (arith, now u, only-same u), spared)))
+    (λ (p : (y : ℕ) × (l ≡ Some y) × (0 < times_failed y before) × ((x : ℕ) → x < y → times_failed x before ≡ 0)).
+    let one : 0 < times_failed (min p.0 u) after = dite (dec_le p.0 u)
+    (λ le. let is : min p.0 u ≡ p.0 = omega arith in rw is (omega (arith, now p.0, p.2)))
+    (λ gt. let is : min p.0 u ≡ u = omega arith in rw is (omega (arith, now u, only-same u))) in
+    let spared : (x : ℕ) → x < min p.0 u → times_failed x after ≡ 0
+    = λ x h. omega (arith, now x, p.3 x (omega arith), only-other x u (λ e. omega arith)) in
+    rw p.1 (inr (min p.0 u, refl, one, spared)))
+    f

@@ -1,0 +1,170 @@
+-- A step keeps the rule of a tree where it shows what it changes of it.
+use Rattle.tor_board.proofs.Names.{List, None, Option, Some, [], arith, get_or, length, refl, set, subst, sym, ℕ, ◌+◌}
+use Rattle.tor_board.proofs.Names.{◌/◌, ◌<◌, ◌∙◌, ◌∷◌, ◌≡◌, ◌≢◌, ◌≤◌, dite, Opt, some, ℕ_discrete, get_elem?, Act}
+use Rattle.tor_board.proofs.Names.{State, Valid, carried_after, homes_after, Climb, GivenUnit, Seated, IsHome, IsSide}
+use Rattle.tor_board.proofs.Names.{Keeps, KeepsTree, TopsAre, climbs_to, has_out, out, tops_of, IsRoot, WasGiven, ready}
+use Rattle.tor_board.proofs.Names.{slot_of, times_given, word_of, only, total, Shape, Tree, View}
+use Rattle.tor_board.proofs.Sums.{set_all}
+use Rattle.tor_board.proofs.Trees.{told_more, root_more}
+
+-- what a seat adds to the sums of the rule
+abbrev pub climbs : ℕ → View → ℕ
+climbs slot v = climbs_to slot v.climb
+
+abbrev pub outs : ℕ → View → ℕ
+outs slot v = has_out slot v.climb
+
+abbrev pub weight : (ℕ → List ℕ → ℕ) → View → ℕ
+weight f v = total (λ (g : GivenUnit). f g.unit g.hash) v.given
+
+abbrev pub gave : ℕ → View → ℕ
+gave u v = total (λ (g : GivenUnit). only u g.unit) v.given
+
+abbrev pub tops_at : Tree → View → ℕ
+tops_at t v = tops_of t.number v.tops
+
+-- ---- what a seat knows of a tree's roots
+
+abbrev pub Rooted : (ℕ → List ℕ → Type 0) → Tree → ℕ → List ℕ → Type 0
+Rooted G t slot hash = (k j : ℕ) → IsSide t slot k j → IsRoot G t k j hash
+
+abbrev pub SpareRooted : (ℕ → List ℕ → Type 0) → Tree → List (ℕ × List ℕ) → Type 0
+SpareRooted G t [] = Unit {0}
+SpareRooted G t (x ∷ []) = Rooted G t x.0 x.1
+SpareRooted G t (x ∷ (y ∷ l)) = Unit {0}
+
+abbrev pub ClimbRooted : (ℕ → List ℕ → Type 0) → Tree → Option Climb → Type 0
+ClimbRooted G t None = Unit {0}
+ClimbRooted G t (Some c) = Rooted G t c.slot c.hash × SpareRooted G t c.spare
+
+abbrev pub SeatRooted : (ℕ → List ℕ → Type 0) → Tree → View → Type 0
+SeatRooted G t v = ClimbRooted G t v.climb × TopsAre t.number (IsRoot G t t.height 0) v.tops
+
+module _ (t : Tree) (G H : ℕ → List ℕ → Type 0) (more : (u : ℕ) (x : List ℕ) → G u x → H u x) where
+  spare_more : (l : List (ℕ × List ℕ)) → SpareRooted G t l → SpareRooted H t l
+  spare_more [] has = tt
+  spare_more (x ∷ []) has = λ k j to. root_more t G H more k j x.1 (has k j to)
+  spare_more (x ∷ (y ∷ l)) has = tt
+
+  climb_more : (c : Option Climb) → ClimbRooted G t c → ClimbRooted H t c
+  climb_more None has = tt
+  climb_more (Some c) has = ((λ k j to. root_more t G H more k j c.hash (has.0 k j to)), spare_more c.spare has.1)
+
+  pub seat_more : (v : View) → SeatRooted G t v → SeatRooted H t v
+  seat_more v has = (climb_more v.climb has.0, told_more t.number _ _ (root_more t G H more t.height 0) v.tops has.1)
+
+module _ {t : Tree} {words : List ℕ} {homes : List (Opt (List ℕ))} {views : List View}
+    (kept : KeepsTree t words homes views) where
+  pub seat_rooted : (id : ℕ) (v : View) → get_elem? views id ≡ some v → SeatRooted (WasGiven views) t v
+  seat_rooted id v at = (climb v.climb refl, kept.told id v at) where
+    spare : (c : Climb) → v.climb ≡ Some c → (l : List (ℕ × List ℕ)) → c.spare ≡ l → SpareRooted (WasGiven views) t l
+    spare c is [] e = tt
+    spare c is (x ∷ []) e = λ k j to. kept.left id v c x.0 x.1 k j at is e to
+    spare c is (x ∷ (y ∷ l)) e = tt
+
+    climb : (o : Option Climb) → v.climb ≡ o → ClimbRooted (WasGiven views) t o
+    climb None is = tt
+    climb (Some c) is = ((λ k j to. kept.climb id v c k j at is to), spare c is c.spare refl)
+
+-- ---- the step
+
+-- of all seats, `less` is what they lose, and `more` what they gain; `grow` is what arrives
+pub record TreeStep (t : Tree) (words words' : List ℕ) (homes homes' : List (Opt (List ℕ))) (views views' : List View)
+    (arrived : ℕ → ℕ) (less more : (View → ℕ) → ℕ) (grow : ℕ → ℕ) : Type 0 where
+  pub sum : (g : View → ℕ) → total g views' + less g ≡ total g views + more g
+  pub long : length words ≤ length words'
+  pub wide : length homes ≤ length homes'
+  pub given : (f : ℕ → List ℕ → ℕ) → less (weight f) ≤ more (weight f)
+  pub once : (j : ℕ) → j < t.count → times_given (t.first + j) views' ≤ 1
+  pub word : (m : ℕ) → 0 < m → m < t.count → get_or words' (word_of t m) 0
+      ≡ get_or words (word_of t m) 0 + (grow (slot_of t m 0) + grow (slot_of t m 1))
+  pub flow : (s k j : ℕ) → IsSide t s k j
+      → more (climbs s) + grow s + ready t words views k j ≡ less (climbs s) + ready t words' views' k j
+  pub sides_out : (m side : ℕ) → side < 2 → 0 < m → m < t.count
+      → more (outs (slot_of t m side)) + less (climbs (slot_of t m side)) + get_or words (word_of t m) 0 / 2
+      ≤ less (outs (slot_of t m side)) + more (climbs (slot_of t m side)) + get_or words' (word_of t m) 0 / 2
+  pub out_top : more (outs (slot_of t 0 0)) + less (climbs (slot_of t 0 0))
+      ≤ less (outs (slot_of t 0 0)) + more (climbs (slot_of t 0 0))
+  pub home : (s k j : ℕ) → IsSide t s k j → out s views' ≡ 0
+      → IsHome homes' s (λ hash. arrived s + grow s ≡ 1 → IsRoot (WasGiven views) t k j hash)
+  pub seats : ((u : ℕ) (x : List ℕ) → WasGiven views u x → WasGiven views' u x)
+      → (j : ℕ) (u : View) → get_elem? views' j ≡ some u → SeatRooted (WasGiven views') t u
+  pub tops : more (tops_at t) ≡ less (tops_at t) + grow (slot_of t 0 0)
+
+pub keeps_step : {t : Tree} {words words' : List ℕ} {homes homes' : List (Opt (List ℕ))} {views views' : List View}
+    {less more : (View → ℕ) → ℕ} {grow : ℕ → ℕ} (kept : KeepsTree t words homes views)
+    → TreeStep t words words' homes homes' views views' kept.arrived less more grow → KeepsTree t words' homes' views'
+keeps_step {t = t} {views = views} {views' = views'} {less = less} {more = more} {grow = grow} kept step =
+    let stand : (u : ℕ) (x : List ℕ) → WasGiven views u x → WasGiven views' u x
+    = λ u x s f. omega (arith, step.sum (weight f), step.given f, s f) in
+    record {
+      arrived = λ s. kept.arrived s + grow s;
+      some_unit = kept.some_unit;
+      tall = kept.tall;
+      long = omega (arith, kept.long, step.long);
+      wide = omega (arith, kept.wide, step.wide);
+      once = step.once;
+      word = λ m pos h. omega (arith, kept.word m pos h, step.word m pos h);
+      flow = λ s k j is. omega (arith, kept.flow s k j is, step.flow s k j is, step.sum (climbs s));
+      outs = λ m side two pos h. let s : ℕ = slot_of t m side in
+          let a = kept.outs m side two pos h in let b = step.sides_out m side two pos h in
+          omega (arith, step.sum (climbs s), step.sum (outs s));
+      out_top = let s : ℕ = slot_of t 0 0 in
+          omega (arith, kept.out_top, step.out_top, step.sum (climbs s), step.sum (outs s));
+      home = λ s k j is none. let h = step.home s k j is none in
+          (h.0, h.1, λ yes. root_more t (WasGiven views) (WasGiven views') stand k j h.0 (h.2 yes));
+      climb = λ id v c k j e is to. (subst (ClimbRooted (WasGiven views') t) is (step.seats stand id v e).0).0 k j to;
+      left = λ id v c o x k j e is one to. subst (SpareRooted (WasGiven views') t) one
+          (subst (ClimbRooted (WasGiven views') t) is (step.seats stand id v e).0).1 k j to;
+      tops = omega (arith, kept.tops, step.tops, step.sum (tops_at t));
+      told = λ id v e. (step.seats stand id v e).1;
+    }
+
+-- ---- one seat
+
+-- the seat of that number knows w
+abbrev pub SeatStep : Tree → List ℕ → List ℕ → List (Opt (List ℕ)) → List (Opt (List ℕ)) → List View → (ℕ → ℕ) → ℕ
+    → View → View → (ℕ → ℕ) → Type 0
+SeatStep t words words' homes homes' views arrived id v w grow
+    = TreeStep t words words' homes homes' views (set views id w) arrived (λ g. g v) (λ g. g w) grow
+
+module _ {t : Tree} {words : List ℕ} {homes : List (Opt (List ℕ))} {views : List View}
+    (kept : KeepsTree t words homes views) where
+  -- the other seats' roots stay
+  pub new_seat : (id : ℕ) (w : View) → SeatRooted (WasGiven (set views id w)) t w
+      → ((u : ℕ) (x : List ℕ) → WasGiven views u x → WasGiven (set views id w) u x)
+      → (j : ℕ) (u : View) → get_elem? (set views id w) j ≡ some u → SeatRooted (WasGiven (set views id w)) t u
+  new_seat id w now stand = set_all (SeatRooted (WasGiven (set views id w)) t) views id w
+      (λ j u e. seat_more t (WasGiven views) (WasGiven (set views id w)) stand u (seat_rooted kept j u e)) now
+
+  pub old_seat : (id : ℕ) (w : View) → SeatRooted (WasGiven views) t w
+      → ((u : ℕ) (x : List ℕ) → WasGiven views u x → WasGiven (set views id w) u x)
+      → (j : ℕ) (u : View) → get_elem? (set views id w) j ≡ some u → SeatRooted (WasGiven (set views id w)) t u
+  old_seat id w has stand = new_seat id w (seat_more t (WasGiven views) (WasGiven (set views id w)) stand w has) stand
+
+  -- a slot that the step leaves at home
+  pub old_home : (homes' : List (Opt (List ℕ))) (grow : ℕ → ℕ) (s k j : ℕ) → IsSide t s k j → out s views ≡ 0
+      → get_elem? homes' s ≡ get_elem? homes s → grow s ≡ 0
+      → IsHome homes' s (λ hash. kept.arrived s + grow s ≡ 1 → IsRoot (WasGiven views) t k j hash)
+  old_home homes' grow s k j is none same still = let h = kept.home s k j is none in
+      (h.0, same ∙ h.1, λ yes. h.2 (omega arith))
+
+  -- or to which it brings a hash
+  pub put_home : (homes' : List (Opt (List ℕ))) (grow : ℕ → ℕ) (put : ℕ) (hash : List ℕ)
+      → Rooted (WasGiven views) t put hash → (s k j : ℕ) → IsSide t s k j
+      → (s ≡ put → get_elem? homes' s ≡ some (some hash))
+      → (s ≢ put → (out s views ≡ 0) × (get_elem? homes' s ≡ get_elem? homes s) × (grow s ≡ 0))
+      → IsHome homes' s (λ hash. kept.arrived s + grow s ≡ 1 → IsRoot (WasGiven views) t k j hash)
+  put_home homes' grow put hash root s k j is here else_ = dite (ℕ_discrete s put)
+      (λ e. (hash, here e, λ yes. root k j (rw (sym e) is)))
+      (λ ne. let q = else_ ne in old_home homes' grow s k j is q.0 q.1 q.2)
+
+-- ---- the whole step
+
+-- a view and an act of the seat, where those are at home and it has these slots, by which the rule stays and P is told
+abbrev pub Does : Shape → State (List ℕ) View → List (Opt (List ℕ)) → ℕ → ℕ → ℕ → List (ℕ × List ℕ)
+    → (Seated → Type 0) → Type 0
+Does shape s homes id i f slots P =
+    (w : View) × (a : Act (List ℕ)) × Valid homes slots a
+    × Keeps shape record { words = set s.words i f; homes = homes_after homes slots a; views = set s.views id w }
+    × P (w, carried_after slots a)
