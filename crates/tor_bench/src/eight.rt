@@ -6,6 +6,7 @@ use std::alloc::Global;
 use std::io::Result;
 use std::time::Instant;
 use tor_hashes::{block_hashes, node_hashes, piece_hashes};
+use tor_merkle::{layer_root, pair};
 use tor_source::zeros;
 
 const BLOCK: usize = 16384;
@@ -24,15 +25,19 @@ enum Way {
     EightNodes,
     Pieces,
     EightPieces,
+    Layers,
+    EightLayers,
 }
 
-const WAYS: [(&str, Way); 6] = [
+const WAYS: [(&str, Way); 8] = [
     ("blocks", Way::Blocks),
     ("eight-blocks", Way::EightBlocks),
     ("nodes", Way::Nodes),
     ("eight-nodes", Way::EightNodes),
     ("pieces", Way::Pieces),
     ("eight-pieces", Way::EightPieces),
+    ("layers", Way::Layers),
+    ("eight-layers", Way::EightLayers),
 ];
 
 /// Prints for each way the microseconds that so many times eight pieces of bytes take.
@@ -59,6 +64,8 @@ fn hashed_by(way: Way, bytes: &[u8]) -> u8 {
         Way::EightNodes => eight_nodes(bytes),
         Way::Pieces => pieces(bytes),
         Way::EightPieces => eight_pieces(bytes),
+        Way::Layers => layers(bytes),
+        Way::EightLayers => eight_layers(bytes),
     }
 }
 
@@ -115,4 +122,23 @@ fn eight_pieces(bytes: &[u8]) -> u8 {
         seen ^= first(&hash);
     }
     seen
+}
+
+/// As many calls of `pair` as the tree over the bytes, as hashes, has nodes.
+fn layers(bytes: &[u8]) -> u8 {
+    let (hashes, _) = bytes.as_chunks::<32>();
+    let mut seen = 0;
+    'hashes: for hash in hashes {
+        seen ^= first(&pair(hash, hash));
+    }
+    seen
+}
+
+/// The tree itself.
+fn eight_layers(bytes: &[u8]) -> u8 {
+    let (hashes, _) = bytes.as_chunks::<32>();
+    if hashes.is_empty() || hashes.len() > 1 << 20 {
+        return 0;
+    }
+    first(&layer_root(hashes, 0))
 }

@@ -1,6 +1,6 @@
 -- The root and the piece layer of a content are nodes of the tree over its leaves.
 use Rattle.std.proofs.Common.{◌≡◌, ℕ, ◌*◌, ◌/◌, ◌^◌, ◌<◌, ◌≤◌, List, [], ◌∷◌, map, length}
-use Rattle.std.proofs.Common.{arith, le_antisymm, refl, sym, ap, ◌∙◌, pow_pos, mul_comm, ap₂}
+use Rattle.std.proofs.Common.{arith, le_antisymm, le_trans, refl, sym, ap, ap₂, ◌∙◌, pow_pos, mul_assoc, mul_comm}
 use Rattle.std.proofs.Math.Nat.{mul-div_cancel_left}
 use Rattle.std.proofs.lemmas.List.{length-map}
 use Rattle.std.proofs.lemmas.List.FromFn.{length-map-range_with_len}
@@ -10,7 +10,7 @@ use Rattle.sha2.specs.Sha256.{sha256}
 use Rattle.tor_merkle.specs.Block.{run_at, blocks, leaves}
 use Rattle.tor_merkle.specs.Layer.{pieces_root, piece_level, piece_roots, tree_leaves}
 use Rattle.tor_merkle.specs.Subtree.{zero_leaf, zero_subtree, subtree_root, height, padded}
-use Rattle.tor_merkle.proofs.Ceil.{ceil_at_most, ceil_from_below, ceil_ceil}
+use Rattle.tor_merkle.proofs.Ceil.{ceil_at_most, ceil_ceil, ceil_covers, ceil_from_below}
 use Rattle.tor_merkle.proofs.Height.{height_covers, height-pow}
 use Rattle.tor_merkle.proofs.Levels.{map-range_same}
 use Rattle.tor_merkle.specs.steps.Node.{node, nodes}
@@ -56,6 +56,21 @@ pub longer_than_piece : (content : List ℕ) (k : ℕ) → 16384 * 2 ^ k < lengt
 longer_than_piece content k lt =
     rw length-leaves (ceil_from_below (length content) 16384 (2 ^ k) (omega arith) (omega arith))
 
+-- and one of at most a piece no more
+pub within_piece : (content : List ℕ) (k : ℕ) → length content ≤ 16384 * 2 ^ k → length (leaves content) ≤ 2 ^ k
+within_piece content k short =
+    rw length-leaves (ceil_at_most (length content) 16384 (2 ^ k) (omega arith) (omega arith))
+
+-- where there is room for the pieces of bytes, there is room for those of no more leaves than the bytes have blocks
+pub room_of_leaves : (n bytes k capacity : ℕ) → n * 16384 ≤ bytes → div_ceil bytes (16384 * 2 ^ k) ≤ capacity
+    → div_ceil n (2 ^ k) ≤ capacity
+room_of_leaves n bytes k capacity few le =
+    let pieces = div_ceil bytes (16384 * 2 ^ k) in
+    let wide : pieces * (16384 * 2 ^ k) ≡ pieces * 2 ^ k * 16384 =
+    ap (λ x. pieces * x) (mul_comm 16384 (2 ^ k)) ∙ sym (mul_assoc pieces (2 ^ k) 16384) in
+    let all = ceil_covers bytes (16384 * 2 ^ k) (omega (arith, pow_pos k)) in
+    le_trans (ceil_at_most n (2 ^ k) pieces (pow_pos k) (omega (arith, few, all, wide))) le
+
 -- the roots of the pieces are the nodes of their level
 pub piece_roots-nodes : (content : List ℕ) (k : ℕ)
     → piece_roots content (16384 * 2 ^ k) ≡ nodes 0 (leaves content) k
@@ -79,7 +94,7 @@ pub only_piece_root : (content : List ℕ) (k : ℕ) → 0 < length content → 
 unfolding nodes
 only_piece_root content k some short =
     let n = length (leaves content) in
-    let fits : n ≤ 2 ^ k = rw length-leaves (ceil_at_most (length content) 16384 (2 ^ k) (omega arith) (omega arith)) in
+    let fits : n ≤ 2 ^ k = within_piece content k short in
     let leaf : 0 < n = rw length-leaves (ceil_from_below (length content) 16384 0 (omega arith) (omega arith)) in
     let one : div_ceil n (2 ^ k) ≡ 1 = le_antisymm
     (ceil_at_most n (2 ^ k) 1 (pow_pos k) (omega arith)) (ceil_from_below n (2 ^ k) 0 (pow_pos k) (omega arith)) in

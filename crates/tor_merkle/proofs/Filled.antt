@@ -1,9 +1,8 @@
 -- Pieces filled one after another: the leaves of the last, and the nodes of those before it.
 use Rattle.std.proofs.Common.{◌≡◌, ℕ, zero, suc, ◌+◌, ◌-◌, ◌*◌, ◌/◌, ◌^◌, ◌<◌, ◌≤◌, List, [], ◌∷◌, ◌++◌, map}
 use Rattle.std.proofs.Common.{length, get_or, drop, arith, ap, ap₂, ◌∙◌, sym, pow_pos, pow-add, le_antisymm}
-use Rattle.std.proofs.Common.{le_trans, mul-le-mul_right, div-mul-le_self, suc-add, zero-add, length-drop, inl, inr}
+use Rattle.std.proofs.Common.{le_trans, mul-le-mul_right, div-mul-le_self, suc-add, zero-add, length-drop}
 use Rattle.std.proofs.Math.Nat.{lt-div-mul-add, two-pow-succ}
-use Rattle.std.proofs.lemmas.Bool.{cases_lt}
 use Rattle.std.proofs.lemmas.List.{get_or-drop, length_push}
 use Rattle.std.proofs.lemmas.List.FromFn.{map-range_with_len_more, length-map-range_with_len}
 use Rattle.std.specs.Int.{div_ceil}
@@ -31,15 +30,24 @@ node-drop base hashes a (suc k) j =
     (node-drop base hashes (2 * a) k (2 * j) ∙ ap (node base hashes k) (omega arith))
     (node-drop base hashes (2 * a) k (2 * j + 1) ∙ ap (node base hashes k) (omega arith))
 
--- the nodes over a level are those above it
-pub node-nodes : (hashes : List (List ℕ)) (k j i : ℕ) → node k (nodes 0 hashes k) j i ≡ node 0 hashes (j + k) i
+-- the nodes over nodes of level k are those above it
+pub node-over : (top : ℕ) (nodes : List (List ℕ)) (base : ℕ) (hashes : List (List ℕ)) (k end : ℕ)
+    → ((i : ℕ) → i < end → get_or nodes i (zero_subtree top) ≡ node base hashes k i) → (j i : ℕ) → (i + 1) * 2 ^ j ≤ end
+    → node top nodes j i ≡ node base hashes (j + k) i
 unfolding node
-node-nodes hashes k zero i =
-    ap (λ b. get_or (nodes 0 hashes k) i (zero_subtree b)) (sym (zero-add k)) ∙ get_or-nodes 0 hashes k i
-    ∙ ap (λ h. node 0 hashes h i) (sym (zero-add k))
-node-nodes hashes k (suc j) i =
-    ap₂ node_of (node-nodes hashes k j (2 * i)) (node-nodes hashes k j (2 * i + 1))
-    ∙ ap (λ h. node 0 hashes h i) (sym (suc-add j k))
+node-over top nodes base hashes k end each zero i le =
+    each i (omega arith) ∙ ap (λ h. node base hashes h i) (sym (zero-add k))
+node-over top nodes base hashes k end each (suc j) i le =
+    let wide : (i + 1) * 2 ^ suc j ≡ (i + 1) * (2 ^ j + 2 ^ j) = ap (λ x. (i + 1) * x) (two-pow-succ j) in
+    ap₂ node_of (node-over top nodes base hashes k end each j (2 * i) (omega arith))
+    (node-over top nodes base hashes k end each j (2 * i + 1) (omega arith))
+    ∙ ap (λ h. node base hashes h i) (sym (suc-add j k))
+
+pub node-nodes : (hashes : List (List ℕ)) (k j i : ℕ) → node k (nodes 0 hashes k) j i ≡ node 0 hashes (j + k) i
+node-nodes hashes k j i =
+    node-over k (nodes 0 hashes k) 0 hashes k ((i + 1) * 2 ^ j)
+    (λ i _. ap (λ b. get_or (nodes 0 hashes k) i (zero_subtree b)) (sym (zero-add k)) ∙ get_or-nodes 0 hashes k i)
+    j i (omega arith)
 
 -- the height of a tree above one of its levels
 pub height-ceil : (n k : ℕ) → 2 ^ k < n → height n ≡ height (div_ceil n (2 ^ k)) + k
@@ -70,6 +78,9 @@ padded_root-nodes hashes k more =
     ∙ sym (subtree_root-padded 0 hashes (height (length hashes)) (height_covers (length hashes)))
 
 module _ (k : ℕ) (leaves : List (List ℕ)) where
+  pub filled_within : filled k leaves * 2 ^ k ≤ length leaves
+  filled_within = omega (arith, div-mul-le_self (length leaves - 1) (2 ^ k))
+
   -- the last piece has some leaf, and no more than fit
   pub filled_below : 0 < length leaves → filled k leaves * 2 ^ k < length leaves
   filled_below some = omega (arith, div-mul-le_self (length leaves - 1) (2 ^ k))
@@ -114,13 +125,9 @@ module _ (k : ℕ) (leaves : List (List ℕ)) where
   pub filled_open : (leaf : List ℕ) → (length (drop (filled k leaves * 2 ^ k) leaves) ≡ 2 ^ k → ⊥)
       → filled k (leaves ++ leaf ∷ []) ≡ filled k leaves
   filled_open leaf open_still =
-      let below : filled k leaves * 2 ^ k ≤ length leaves = elim (cases_lt 0 (length leaves)) [
-        | inl some ↦ omega (arith, filled_below some)
-        | inr none ↦ omega (arith, div-mul-le_self (length leaves - 1) (2 ^ k))
-      ] in
       ap (λ x. x / 2 ^ k)
       (let same : length (leaves ++ leaf ∷ []) - 1 ≡ length leaves = omega (arith, length_push leaves leaf) in same)
-      ∙ div_between (length leaves) k (filled k leaves) below
+      ∙ div_between (length leaves) k (filled k leaves) filled_within
       (omega (arith, length-last_piece, filled_covers, open_still))
 
   -- all pieces

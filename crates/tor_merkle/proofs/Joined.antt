@@ -3,7 +3,8 @@ use Rattle.std.proofs.Common.{◌≡◌, ℕ, ◌+◌, ◌-◌, ◌*◌, ◌^◌
 use Rattle.std.proofs.Common.{take, drop, arith, inl, inr, sym, ap, ap₂, ◌∙◌, zero-add, length-append}
 use Rattle.std.proofs.Common.{pow_pos, mul-le-mul_right, le_trans, mul_assoc, mul_comm}
 use Rattle.std.proofs.lemmas.Bool.{cases_lt}
-use Rattle.std.proofs.lemmas.List.{get_or_append_left, get_or-append_right, drop_at, drop-drop, map-append}
+use Rattle.std.proofs.lemmas.List.{get_or_append_left, get_or-append_right, drop_at, drop-append-le, drop-drop}
+use Rattle.std.proofs.lemmas.List.{length-drop, map-append, take-append-le}
 use Rattle.std.proofs.lemmas.List.FromFn.{length-map-range_with_len, get_or-map-range_with_len, fill_by_all}
 use Rattle.std.specs.Int.{div_ceil}
 use Rattle.std.specs.List.{range_with_len}
@@ -15,7 +16,6 @@ use Rattle.tor_merkle.specs.Subtree.{zero_leaf}
 use Rattle.tor_merkle.proofs.Ceil.{ceil_joined, ceil_whole}
 use Rattle.tor_merkle.proofs.Content.{length-leaves, piece_roots-nodes}
 use Rattle.tor_merkle.proofs.Filled.{node-drop}
-use Rattle.tor_merkle.proofs.Leaves.{run_at-append}
 use Rattle.tor_merkle.proofs.Node.{node-append}
 
 -- the first a values of a function, and the b after them
@@ -38,6 +38,13 @@ values_joined f g h a b d first later =
           ∙ get_or-map-range_with_len h 0 b (i - a) (i - a) d (omega arith) (zero-add (i - a))
           ∙ sym (later (i - a)) ∙ ap f (omega arith)
     ]))
+
+-- whole runs of the first list stay
+run_at-append : {X : Type 0} (xs ys : List X) (size i : ℕ) → (i + 1) * size ≤ length xs
+    → run_at size (xs ++ ys) i ≡ run_at size xs i
+run_at-append xs ys size i le =
+    ap (take size) (drop-append-le (i * size) xs ys (omega arith))
+    ∙ take-append-le size (drop (i * size) xs) ys (omega (arith, length-drop (i * size) xs))
 
 -- runs past the seam are those of the second list
 run_at-joined : {X : Type 0} (xs ys : List X) (size c i : ℕ) → length xs ≡ c * size

@@ -1,7 +1,7 @@
 -- What the tree of pieces keeps, through one leaf more and to its end.
 use Rattle.std.proofs.Common.{◌≡◌, ℕ, ◌+◌, ◌-◌, ◌*◌, ◌/◌, ◌^◌, ◌<◌, ◌≤◌, List, [], ◌∷◌, ◌++◌}
 use Rattle.std.proofs.Common.{length, drop, map, arith, ap, ap₂, ◌∙◌, sym, pow_pos, pow-add}
-use Rattle.std.proofs.Common.{lt_of_mul-lt-mul_right, inl, inr, zero-mul, div-mul-le_self}
+use Rattle.std.proofs.Common.{lt_of_mul-lt-mul_right, inl, inr, zero-mul}
 use Rattle.std.proofs.lemmas.Bool.{cases_lt}
 use Rattle.std.proofs.lemmas.List.{length_push, drop-append-le, drop_at, drop_all, nil_from_length}
 use Rattle.std.proofs.Math.Nat.{zero-div}
@@ -12,7 +12,7 @@ use Rattle.tor_merkle.specs.steps.Pieces.{KeepsPieces, EndsPiece, filled}
 use Rattle.tor_merkle.specs.Stack.{Subtrees, padded_subtree}
 use Rattle.tor_merkle.proofs.Ceil.{ceil_at_most}
 use Rattle.tor_merkle.proofs.Levels.{length-nodes}
-use Rattle.tor_merkle.proofs.Filled.{filled_below, filled_covers, length-last_piece, first_nodes_closed}
+use Rattle.tor_merkle.proofs.Filled.{filled_below, filled_covers, filled_within, length-last_piece, first_nodes_closed}
 use Rattle.tor_merkle.proofs.Filled.{first_nodes-push, filled_full, filled_open, all_filled}
 use Rattle.tor_merkle.proofs.Filled.{first_nodes_all, length-first_nodes, one_piece, more_pieces}
 
@@ -67,10 +67,7 @@ module _ (k : ℕ) (leaves : List (List ℕ)) (blocks pieces : Subtrees) (layer 
       let short =
       λ (e : length (drop (filled k leaves * 2 ^ k) leaves) ≡ 2 ^ k). open_still (ap length keeps.stacked ∙ e) in
       let same = filled_open k leaves leaf short in
-      let below : filled k leaves * 2 ^ k ≤ length leaves = elim (cases_lt 0 (length leaves)) [
-        | inl some ↦ omega (arith, filled_below k leaves some)
-        | inr none ↦ omega (arith, div-mul-le_self (length leaves - 1) (2 ^ k))
-      ] in
+      let below = filled_within k leaves in
       record {
         low = keeps.low;
         small = omega (arith, length_push leaves leaf);

@@ -1,10 +1,9 @@
 -- The leaves of a content that grows by parts of blocks.
 use Rattle.std.proofs.Common.{◌≡◌, ℕ, ◌+◌, ◌*◌, ◌/◌, ◌%◌, ◌^◌, ◌<◌, ◌≤◌, List, [], ◌∷◌, ◌++◌, map, length}
-use Rattle.std.proofs.Common.{take, drop, arith, refl, ap, ap₂, ◌∙◌, sym, subst, append_assoc, take-append-drop}
-use Rattle.std.proofs.Common.{length-append, length-take, length-drop, pow_pos, le_antisymm, le_trans}
-use Rattle.std.proofs.Common.{mul_assoc, le_of_mul-le-mul_right, zero-add, mul_comm, append-nil}
-use Rattle.std.proofs.lemmas.List.{take-append-le, drop-append-le, drop_at, take_all, drop_all, map_push}
-use Rattle.std.proofs.lemmas.List.FromFn.{map-range_with_len_more}
+use Rattle.std.proofs.Common.{take, drop, arith, refl, ap, ◌∙◌, sym, subst, append_assoc, take-append-drop}
+use Rattle.std.proofs.Common.{length-append, length-take, length-drop, le_antisymm}
+use Rattle.std.proofs.Common.{append-nil}
+use Rattle.std.proofs.lemmas.List.{take-append-le, drop-append-le, take_all, drop_all}
 use Rattle.std.specs.Int.{div_ceil}
 use Rattle.std.specs.List.{range_with_len}
 use Rattle.sha2.specs.Hashers.{Holds256}
@@ -12,41 +11,28 @@ use Rattle.sha2.specs.Sha256.{sha256}
 use Rattle.sha2.specs.declared.Sha256.{Sha256}
 use Rattle.tor_merkle.specs.Block.{run_at, blocks, leaves}
 use Rattle.tor_merkle.specs.steps.Blocks.{KeepsBlocks, in_blocks}
-use Rattle.tor_merkle.proofs.Ceil.{ceil_at_most, ceil_covers, ceil_from_below}
-use Rattle.tor_merkle.proofs.Content.{length-leaves}
-use Rattle.tor_merkle.proofs.Levels.{map-range_same}
+use Rattle.tor_merkle.proofs.Ceil.{ceil_at_most, ceil_from_below, ceil_whole}
+use Rattle.tor_merkle.proofs.Content.{length-leaves, room_of_leaves}
+use Rattle.tor_merkle.proofs.Joined.{leaves-joined}
 
 pub leaves-nil : leaves [] ≡ []
 unfolding leaves blocks
 leaves-nil = refl
 
--- whole runs stay where elements are added at the end
-pub run_at-append : {X : Type 0} (xs ys : List X) (size i : ℕ) → (i + 1) * size ≤ length xs
-    → run_at size (xs ++ ys) i ≡ run_at size xs i
-run_at-append xs ys size i le =
-    ap (take size) (drop-append-le (i * size) xs ys (omega arith))
-    ∙ take-append-le size (drop (i * size) xs) ys (omega (arith, length-drop (i * size) xs))
-
 -- one block more is one leaf more
+one_leaf : (ys : List ℕ) → 0 < length ys → length ys ≤ 16384 → leaves ys ≡ sha256 ys ∷ []
+unfolding leaves blocks
+one_leaf ys some short =
+    let one : div_ceil (length ys) 16384 ≡ 1 = le_antisymm
+    (ceil_at_most (length ys) 16384 1 (omega arith) (omega arith))
+    (ceil_from_below (length ys) 16384 0 (omega arith) (omega arith)) in
+    ap (λ n. map sha256 (map (run_at 16384 ys) (range_with_len 0 n))) one
+    ∙ ap (λ xs. sha256 xs ∷ []) (take_all 16384 ys short)
+
 pub leaves-push : (xs ys : List ℕ) (b : ℕ) → length xs ≡ b * 16384 → 0 < length ys → length ys ≤ 16384
     → leaves (xs ++ ys) ≡ leaves xs ++ sha256 ys ∷ []
-unfolding leaves blocks
 leaves-push xs ys b whole some short =
-    let count : div_ceil (length (xs ++ ys)) 16384 ≡ b + 1 = le_antisymm
-    (ceil_at_most (length (xs ++ ys)) 16384 (b + 1) (omega arith) (omega (arith, length-append xs ys)))
-    (omega (arith, ceil_from_below (length (xs ++ ys)) 16384 b (omega arith) (omega (arith, length-append xs ys)))) in
-    let before : div_ceil (length xs) 16384 ≡ b = le_antisymm
-    (ceil_at_most (length xs) 16384 b (omega arith) (omega arith))
-    (le_of_mul-le-mul_right {m = b} {n = div_ceil (length xs) 16384} {k = 16384}
-    (omega (arith, ceil_covers (length xs) 16384 (omega arith))) (omega arith)) in
-    let cut = run_at 16384 (xs ++ ys) in
-    let same : map cut (range_with_len 0 b) ≡ map (run_at 16384 xs) (range_with_len 0 (div_ceil (length xs) 16384)) =
-    map-range_same cut (run_at 16384 xs) b [] (λ i lt. run_at-append xs ys 16384 i (omega arith))
-    ∙ ap (λ n. map (run_at 16384 xs) (range_with_len 0 n)) (sym before) in
-    let last : cut b ≡ ys = ap (take 16384) (drop_at xs ys (b * 16384) whole) ∙ take_all 16384 ys short in
-    ap (λ n. map sha256 (map cut (range_with_len 0 n))) count
-    ∙ ap (map sha256) (map-range_with_len_more cut 0 b b (zero-add b) ∙ ap₂ (λ xs x. xs ++ x ∷ []) same last)
-    ∙ map_push sha256 (map (run_at 16384 xs) (range_with_len 0 (div_ceil (length xs) 16384))) ys
+    leaves-joined xs ys b whole ∙ ap (λ zs. leaves xs ++ zs) (one_leaf ys some short)
 
 module _ (count : ℕ) (hasher : Sha256) (done : List (List ℕ)) (bytes : List ℕ)
     (keeps : KeepsBlocks count hasher done bytes) where
@@ -58,11 +44,8 @@ module _ (count : ℕ) (hasher : Sha256) (done : List (List ℕ)) (bytes : List 
 
   pub length-done : length done ≡ count / 16384
   length-done =
-      let n = length (take (in_blocks count) bytes) in
       ap length keeps.whole ∙ length-leaves (take (in_blocks count) bytes)
-      ∙ le_antisymm (ceil_at_most n 16384 (count / 16384) (omega arith) (omega (arith, length-front)))
-      (le_of_mul-le-mul_right {m = count / 16384} {n = div_ceil n 16384} {k = 16384}
-      (omega (arith, ceil_covers n 16384 (omega arith), length-front)) (omega arith))
+      ∙ ap (λ n. div_ceil n 16384) length-front ∙ ceil_whole (count / 16384) 16384 (omega arith)
 
   -- one leaf more is within the tree
   pub done_small : (more : ℕ) → count / 16384 * 16384 < length bytes + more → length bytes + more ≤ 2 ^ 50
@@ -72,14 +55,8 @@ module _ (count : ℕ) (hasher : Sha256) (done : List (List ℕ)) (bytes : List 
   -- and there is room for the pieces begun
   pub done_room : (more k capacity : ℕ) → div_ceil (length bytes + more) (16384 * 2 ^ k) ≤ capacity
       → div_ceil (length done) (2 ^ k) ≤ capacity
-  done_room more k capacity le =
-      let pos : 0 < 16384 * 2 ^ k = omega (arith, pow_pos k) in
-      let pieces = div_ceil (length bytes + more) (16384 * 2 ^ k) in
-      let all = ceil_covers (length bytes + more) (16384 * 2 ^ k) pos in
-      let wide : pieces * (16384 * 2 ^ k) ≡ pieces * 2 ^ k * 16384 =
-      ap (λ x. pieces * x) (mul_comm 16384 (2 ^ k)) ∙ sym (mul_assoc pieces (2 ^ k) 16384) in
-      let few : length done ≤ pieces * 2 ^ k = omega (arith, length-done, keeps.counted) in
-      le_trans (ceil_at_most (length done) (2 ^ k) pieces (pow_pos k) few) le
+  done_room more k capacity =
+      room_of_leaves (length done) (length bytes + more) k capacity (omega (arith, length-done, keeps.counted))
 
   -- a part that does not end its block
   pub adds_open : (part : List ℕ) (hasher' : Sha256) → count % 16384 + length part ≤ 16384

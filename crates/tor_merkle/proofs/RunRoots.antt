@@ -12,7 +12,7 @@ use Rattle.tor_merkle.proofs.Height.{height_covers}
 use Rattle.tor_merkle.proofs.Node.{subtree_root-padded}
 
 -- a node that lies in the first hashes is one of theirs
-node-take : (base : ℕ) (hashes : List (List ℕ)) (n k i : ℕ) → (i + 1) * 2 ^ k ≤ n
+pub node-take : (base : ℕ) (hashes : List (List ℕ)) (n k i : ℕ) → (i + 1) * 2 ^ k ≤ n
     → node base (take n hashes) k i ≡ node base hashes k i
 unfolding node
 node-take base hashes n zero i le = get_or-take n hashes i (zero_subtree base) (omega (arith, le))
@@ -34,7 +34,8 @@ pub root_of_one : (level i : ℕ) (hashes : List (List ℕ))
 unfolding node
 root_of_one level i hashes = run_is_node level hashes 0 i
 
-pub root_of_halves : (level k i : ℕ) (hashes : List (List ℕ)) → padded_subtree (suc k) level (run_at (2 ^ suc k) hashes i)
+pub root_of_halves : (level k i : ℕ) (hashes : List (List ℕ))
+    → padded_subtree (suc k) level (run_at (2 ^ suc k) hashes i)
     ≡ node_of (padded_subtree k level (run_at (2 ^ k) hashes (2 * i)))
     (padded_subtree k level (run_at (2 ^ k) hashes (2 * i + 1)))
 unfolding node

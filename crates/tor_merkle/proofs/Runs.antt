@@ -1,7 +1,7 @@
 -- Runs of eight whole blocks, whose leaves are computed at once.
 use Rattle.std.proofs.Common.{◌≡◌, ℕ, ◌+◌, ◌*◌, ◌/◌, ◌%◌, ◌^◌, ◌<◌, ◌≤◌, List, [], ◌++◌, map, length, get_or}
-use Rattle.std.proofs.Common.{take, drop, arith, ap, ◌∙◌, sym, subst, length-append, pow_pos, le_trans}
-use Rattle.std.proofs.Common.{mul_assoc, mul_comm}
+use Rattle.std.proofs.Common.{take, drop, arith, ap, ◌∙◌, sym, subst, length-append}
+use Rattle.std.proofs.Common.{mul_comm}
 use Rattle.std.proofs.lemmas.List.{take_all, drop_all}
 use Rattle.std.proofs.lemmas.List.FromFn.{fill_by_all}
 use Rattle.std.proofs.lemmas.Simd.{map-map}
@@ -12,7 +12,8 @@ use Rattle.sha2.specs.Sha256.{sha256}
 use Rattle.sha2.specs.declared.Sha256.{Sha256}
 use Rattle.tor_merkle.specs.Block.{run_at, blocks, leaves}
 use Rattle.tor_merkle.specs.steps.Blocks.{KeepsBlocks, in_blocks}
-use Rattle.tor_merkle.proofs.Ceil.{ceil_at_most, ceil_covers, ceil_whole}
+use Rattle.tor_merkle.proofs.Ceil.{ceil_whole}
+use Rattle.tor_merkle.proofs.Content.{room_of_leaves}
 use Rattle.tor_merkle.proofs.Joined.{leaves-joined}
 use Rattle.tor_merkle.proofs.Leaves.{length-done, leaves-whole}
 
@@ -38,15 +39,9 @@ module _ (count : ℕ) (hasher : Sha256) (done : List (List ℕ)) (bytes : List 
   -- and there is room for the pieces begun
   pub run_room : (k capacity : ℕ) → count % 16384 ≡ 0 → div_ceil (length bytes + 131072) (16384 * 2 ^ k) ≤ capacity
       → div_ceil (length done + 8) (2 ^ k) ≤ capacity
-  run_room k capacity whole le =
-      let pos : 0 < 16384 * 2 ^ k = omega (arith, pow_pos k) in
-      let pieces = div_ceil (length bytes + 131072) (16384 * 2 ^ k) in
-      let all = ceil_covers (length bytes + 131072) (16384 * 2 ^ k) pos in
-      let wide : pieces * (16384 * 2 ^ k) ≡ pieces * 2 ^ k * 16384 =
-      ap (λ x. pieces * x) (mul_comm 16384 (2 ^ k)) ∙ sym (mul_assoc pieces (2 ^ k) 16384) in
-      let few : length done + 8 ≤ pieces * 2 ^ k =
-      omega (arith, length-done count hasher done bytes keeps, keeps.counted) in
-      le_trans (ceil_at_most (length done + 8) (2 ^ k) pieces (pow_pos k) few) le
+  run_room k capacity whole =
+      room_of_leaves (length done + 8) (length bytes + 131072) k capacity
+      (omega (arith, length-done count hasher done bytes keeps, keeps.counted))
 
   -- no block is begun, neither before nor after a run
   pub adds_run : (run : List ℕ) (done' : List (List ℕ)) → count % 16384 ≡ 0 → length run ≡ 131072

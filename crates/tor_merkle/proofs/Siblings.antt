@@ -1,11 +1,11 @@
 -- The siblings on the way from a hash to the root are nodes, and each two nodes of one parent give it.
 use Rattle.std.proofs.Common.{◌≡◌, ℕ, zero, suc, ◌+◌, ◌-◌, ◌*◌, ◌/◌, ◌%◌, ◌^◌, ◌<◌, ◌≤◌, List, map, length}
-use Rattle.std.proofs.Common.{IsTrue, true, get_or, take, drop, arith, ap, ap₂, ◌∙◌, sym, inl, inr, add-zero}
+use Rattle.std.proofs.Common.{IsTrue, true, get_or, arith, ap, ap₂, ◌∙◌, sym, inl, inr, add-zero}
 use Rattle.std.proofs.Common.{add-one, zero-add, pow-suc, mul-le-mul_right, div-mul-le_self, eqb}
 use Rattle.std.proofs.Math.Nat.{div-div-eq-div-mul}
-use Rattle.std.proofs.lemmas.Bool.{cases_eq, cases_lt, cases_Bool, cond-true, cond-false, cond_both, eq-eqb, ne_eqb}
+use Rattle.std.proofs.lemmas.Bool.{cases_eq, cases_Bool, cond-true, cond-false, cond_both, eq-eqb, ne_eqb}
 use Rattle.std.proofs.lemmas.Bool.{lt-ltb, and_from, or_left, or_right, not_from_false, leb-true}
-use Rattle.std.proofs.lemmas.List.{take_all, take-append-drop, length-take, length-take-le, get_or_default}
+use Rattle.std.proofs.lemmas.List.{get_or_default}
 use Rattle.std.proofs.lemmas.List.FromFn.{length-map-range_with_len, get_or-map-range_with_len}
 use Rattle.std.proofs.lemmas.Slice.Eq.{bytes_eq-Decides}
 use Rattle.std.specs.List.{range_with_len}
@@ -14,37 +14,16 @@ use Rattle.tor_merkle.specs.Proof.{proof_root, sibling_index, is_past_end, is_ze
 use Rattle.tor_merkle.specs.Stack.{padded_subtree, padded_root}
 use Rattle.tor_merkle.specs.Subtree.{node_of, zero_leaf, zero_subtree, height}
 use Rattle.tor_merkle.specs.steps.Node.{node}
-use Rattle.tor_merkle.proofs.Filled.{node-drop}
 use Rattle.tor_merkle.proofs.Height.{height_covers}
-use Rattle.tor_merkle.proofs.Node.{node-append, node_past, subtree_root-padded}
+use Rattle.tor_merkle.proofs.Node.{node_past, subtree_root-padded}
 use Rattle.tor_merkle.proofs.BinaryDigits.{div_between}
 use Rattle.tor_merkle.proofs.ProofRoots.{proof_root-none, proof_root-left, proof_root-right, all_below}
-
--- the first node needs the first hashes only
-node-take : (base : ℕ) (hashes : List (List ℕ)) (k : ℕ)
-    → node base (take (2 ^ k) hashes) k 0 ≡ node base hashes k 0
-node-take base hashes k = elim (cases_lt (2 ^ k) (length hashes)) [
-  | inl more ↦
-      sym (node-append base (take (2 ^ k) hashes) (drop (2 ^ k) hashes) k 0
-      (omega (arith, length-take-le (2 ^ k) hashes (omega arith))))
-      ∙ ap (λ xs. node base xs k 0) (take-append-drop (2 ^ k) hashes)
-  | inr few ↦ ap (λ xs. node base xs k 0) (take_all (2 ^ k) hashes few)
-]
-
--- the root of a run, widened by zero subtrees, is a node
-pub run-node : (base : ℕ) (hashes : List (List ℕ)) (k i : ℕ)
-    → padded_subtree k base (run_at (2 ^ k) hashes i) ≡ node base hashes k i
-run-node base hashes k i =
-    subtree_root-padded base (run_at (2 ^ k) hashes i) k
-    (omega (arith, length-take (2 ^ k) (drop (i * 2 ^ k) hashes)))
-    ∙ node-take base (drop (i * 2 ^ k) hashes) k
-    ∙ node-drop base hashes i k 0
-    ∙ ap (node base hashes k) (add-zero i)
+use Rattle.tor_merkle.proofs.RunRoots.{run_is_node}
 
 -- that of no hash is a zero subtree
 pub run-past : (base : ℕ) (hashes : List (List ℕ)) (k i : ℕ) → length hashes ≤ i * 2 ^ k
     → padded_subtree k base (run_at (2 ^ k) hashes i) ≡ zero_subtree (base + k)
-run-past base hashes k i past = run-node base hashes k i ∙ node_past base hashes k i past
+run-past base hashes k i past = run_is_node base hashes k i ∙ node_past base hashes k i past
 
 -- the sibling at a level ends no further than one subtree of that level after the index
 pub sibling_near : (index level : ℕ) → sibling_index index level * 2 ^ level ≤ index + 2 ^ level
@@ -78,7 +57,7 @@ module _ (base : ℕ) (hashes : List (List ℕ)) (index : ℕ) where
       let node_index = index / 2 ^ k in
       ap₂ node_of
       (ap (node base hashes k) (let same : node_index ≡ 2 * (index / 2 ^ suc k) = omega (arith, half k) in same))
-      (run-node base hashes k (sibling_index index k)
+      (run_is_node base hashes k (sibling_index index k)
       ∙ ap (node base hashes k) (cond-true _ (node_index + 1) (node_index - 1) (eq-eqb (node_index % 2) 0 even)
       ∙ (let same : node_index + 1 ≡ 2 * (index / 2 ^ suc k) + 1 = omega (arith, half k) in same)))
 
@@ -88,7 +67,7 @@ module _ (base : ℕ) (hashes : List (List ℕ)) (index : ℕ) where
   node-right k odd =
       let node_index = index / 2 ^ k in
       ap₂ node_of
-      (run-node base hashes k (sibling_index index k)
+      (run_is_node base hashes k (sibling_index index k)
       ∙ ap (node base hashes k) (cond-false _ (node_index + 1) (node_index - 1) (ne_eqb (node_index % 2) 0 odd)
       ∙ (let same : node_index - 1 ≡ 2 * (index / 2 ^ suc k) = omega (arith, half k) in same)))
       (ap (node base hashes k) (let same : node_index ≡ 2 * (index / 2 ^ suc k) + 1 = omega (arith, half k) in same))

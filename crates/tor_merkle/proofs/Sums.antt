@@ -1,15 +1,13 @@
 -- Root and layer over the leaves are those of the content.
-use Rattle.std.proofs.Common.{◌≡◌, ℕ, ◌*◌, ◌^◌, ◌<◌, ◌≤◌, List, [], cond, length, leb, arith, ◌∙◌, sym, inl, inr}
+use Rattle.std.proofs.Common.{◌≡◌, ℕ, ◌*◌, ◌^◌, List, [], cond, length, leb, ◌∙◌, sym, inl, inr}
 use Rattle.std.proofs.lemmas.Bool.{cases_lt, cond-true, cond-false, lt-leb, le-leb}
-use Rattle.std.specs.Int.{div_ceil}
 use Rattle.tor_merkle.specs.Block.{leaves}
 use Rattle.tor_merkle.specs.Layer.{pieces_root, piece_layer}
 use Rattle.tor_merkle.specs.steps.Node.{nodes}
 use Rattle.tor_merkle.specs.Stack.{padded_root}
 use Rattle.tor_merkle.specs.Subtree.{height}
 use Rattle.tor_merkle.proofs.Climb.{piece_layer-nodes, piece_layer-none}
-use Rattle.tor_merkle.proofs.Content.{pieces_root-node, longer_than_piece, length-leaves}
-use Rattle.tor_merkle.proofs.Ceil.{below_from_ceil}
+use Rattle.tor_merkle.proofs.Content.{longer_than_piece, pieces_root-node, within_piece}
 use Rattle.tor_merkle.proofs.Height.{height_covers}
 use Rattle.tor_merkle.proofs.Node.{subtree_root-padded}
 
@@ -27,13 +25,6 @@ nodes-piece_layer content k = elim (cases_lt (16384 * 2 ^ k) (length content)) [
       cond-false _ [] _ (lt-leb (length (leaves content)) (2 ^ k) (longer_than_piece content k more))
       ∙ sym (piece_layer-nodes content k more)
   | inr less ↦
-      cond-true _ [] _ (le-leb (length (leaves content)) (2 ^ k) (few less))
+      cond-true _ [] _ (le-leb (length (leaves content)) (2 ^ k) (within_piece content k less))
       ∙ sym (piece_layer-none content (16384 * 2 ^ k) less)
-] where
-  few : length content ≤ 16384 * 2 ^ k → length (leaves content) ≤ 2 ^ k
-  few less = elim (cases_lt (2 ^ k) (length (leaves content))) [
-    | inl more ↦
-        let begun : 2 ^ k < div_ceil (length content) 16384 = rw (← length-leaves content) more in
-        absurd (omega (arith, below_from_ceil (length content) 16384 (2 ^ k) (omega arith) begun))
-    | inr le ↦ le
-  ]
+]

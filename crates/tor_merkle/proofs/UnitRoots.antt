@@ -12,7 +12,7 @@ use Rattle.tor_merkle.specs.Layer.{pieces_root, piece_roots}
 use Rattle.tor_merkle.specs.Stack.{padded_root, padded_subtree}
 use Rattle.tor_merkle.specs.steps.Node.{nodes}
 use Rattle.tor_merkle.proofs.Ceil.{below_from_ceil, ceil_at_most}
-use Rattle.tor_merkle.proofs.Content.{length-leaves, longer_than_piece, only_piece_root, piece_roots-nodes}
+use Rattle.tor_merkle.proofs.Content.{longer_than_piece, only_piece_root, piece_roots-nodes, within_piece}
 use Rattle.tor_merkle.proofs.Filled.{node-nodes, padded_root-nodes}
 use Rattle.tor_merkle.proofs.Levels.{length-nodes}
 use Rattle.tor_merkle.proofs.Node.{subtree_root-padded}
@@ -24,8 +24,7 @@ pub subtree_over_pieces : (content : List ℕ) (j k : ℕ) → length content �
 subtree_over_pieces content j k short =
     let all = leaves content in
     let split : 2 ^ (k + j) ≡ 2 ^ k * 2 ^ j = pow-add 2 k j in
-    let fits : length all ≤ 2 ^ (k + j) =
-    rw length-leaves (ceil_at_most (length content) 16384 (2 ^ (k + j)) (omega arith) (omega (arith, short))) in
+    let fits : length all ≤ 2 ^ (k + j) = within_piece content (k + j) short in
     let few : length (nodes 0 all j) ≤ 2 ^ k =
     rw length-nodes (ceil_at_most (length all) (2 ^ j) (2 ^ k) (pow_pos j) (omega (arith, fits, split))) in
     subtree_root-padded 0 all (k + j) fits

@@ -4,7 +4,7 @@ ghost use Rattle.std.specs.Prelude.{◌≡◌, ◌≢◌, ℕ, ◌%◌, ◌==◌
 ghost use Rattle.sha2.specs.Sha256.{sha256};
 ghost use Rattle.tor_merkle.specs.Proof.{is_proof};
 
-use crate::hash::{Hash, leaf};
+use crate::hash::{Hash, joined, leaf};
 use crate::proof::Proof;
 
 /// Two different texts of 64 bytes with one SHA-256, where two different hashes have accepted proofs for one index
@@ -48,14 +48,4 @@ fn children(index: u64, hash: &Hash, sibling: &Hash) -> [u8; 64]
     } else {
         joined(sibling, hash)
     }
-}
-
-// The bytes of both hashes.
-fn joined(left: &Hash, right: &Hash) -> [u8; 64]
-    ensures { result ≡ left.now ++ right.now }
-{
-    let mut text = [0; 64];
-    text[..32].copy_from_slice(left.as_slice());
-    text[32..].copy_from_slice(right.as_slice());
-    text
 }

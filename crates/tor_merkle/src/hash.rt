@@ -1,6 +1,6 @@
 //! Hashes of blocks, of inner nodes, and of subtrees past the end of a content.
 
-ghost use Rattle.std.specs.Prelude.{◌≡◌, ◌≤◌};
+ghost use Rattle.std.specs.Prelude.{◌≡◌, ◌≤◌, ◌++◌, length};
 ghost use Rattle.sha2.specs.Sha256.{sha256};
 ghost use Rattle.tor_merkle.specs.Subtree.{node_of, zero_subtree};
 
@@ -25,6 +25,17 @@ pub fn pair(left: &Hash, right: &Hash) -> Hash
     hasher.update(left.as_slice());
     hasher.update(right.as_slice());
     hasher.finalize()
+}
+
+/// The 64 bytes of two children, which [`pair`] hashes.
+pub(crate) fn joined(left: &Hash, right: &Hash) -> [u8; 64]
+    ensures bytes { result ≡ left.now ++ right.now }
+    ensures long { length result ≡ 64 }
+{
+    let mut text = [0; 64];
+    text[..32].copy_from_slice(left.as_slice());
+    text[32..].copy_from_slice(right.as_slice());
+    text
 }
 
 /// The root of `2^level` leaves past the end of a content, each of which is 32 zero bytes (BEP 52, "pieces root").

@@ -16,7 +16,9 @@
 //! - [`Feed`] (`feed.rt`): the same of a content that is fed in parts, or the hashes of a run of pieces of a
 //!   longer one; it keeps no leaves. Below it stand the cut into blocks (`blocks.rt`), of which eight whole ones
 //!   are hashed at once, and the tree of the pieces (`pieces.rt`).
-//! - [`Stack`], [`layer_root`], [`layer_subtree`] (`stack.rt`): the root over hashes that come one after another.
+//! - [`Stack`] (`stack.rt`): the root over hashes that come one after another.
+//! - [`layer_root`], [`layer_subtree`] (`layer.rt`): that over hashes that lie in a slice. Below them stand eight
+//!   neighbouring nodes, hashed at once (`eight.rt`).
 //! - [`is_piece_length`], [`piece_level`] (`piece_length.rt`): which numbers of bytes a piece may have, and the level
 //!   of its hash.
 //! - [`Proof`] (`proof.rt`): that a hash stands at an index of a tree: [`prove`] makes, [`verify`] (`judge.rt`) judges
@@ -31,10 +33,12 @@
 mod blocks;
 mod collision;
 mod digits;
+mod eight;
 mod feed;
 mod hash;
 mod judge;
 pub mod laws;
+mod layer;
 mod piece_length;
 mod pieces;
 mod plain;
@@ -59,8 +63,9 @@ pub use digits::height_of;
 pub use feed::Feed;
 pub use hash::{Hash, leaf, pair, zero};
 pub use judge::verify;
+pub use layer::{layer_root, layer_subtree};
 pub use piece_length::{is_piece_length, piece_level};
 pub use plain::whole;
 pub use proof::{Proof, ProveError, proof_count, proof_level, prove};
-pub use stack::{Stack, layer_root, layer_subtree};
+pub use stack::Stack;
 pub use trail::History;

@@ -11,8 +11,8 @@ ghost use Rattle.tor_merkle.specs.declared.proof.ProveError.TheVariants.{Index, 
 
 use crate::digits::height_of;
 use crate::hash::{Hash, zero};
+use crate::layer::layer_subtree;
 use crate::piece_length::piece_level;
-use crate::stack::Stack;
 use crate::{BLOCK_LENGTH, MAX_LENGTH};
 use std::alloc::{AllocError, AllocFailed, Global};
 use thiserror::Error;
@@ -92,11 +92,7 @@ fn root_of_run(hashes: &[Hash], level: u32, above: u32, index: u64) -> Hash
     }
     let (_, rest) = hashes.split_at(start as usize);
     let (run, _) = rest.split_at(rest.len().min(width as usize));
-    let mut stack = Stack::new(level);
-    'pushes: for hash in run {
-        stack.push(*hash);
-    }
-    stack.subtree(above)
+    layer_subtree(run, level, above)
 }
 
 /// How many hashes the proofs of a file of `size` bytes are over: one for each piece of a file longer than a piece, and

@@ -111,38 +111,3 @@ impl Stack {
         top
     }
 }
-
-/// The root of the tree over `hashes`, roots of subtrees of `2^level` leaves, followed by zero
-/// subtrees up to a power of two (BEP 52, "piece layers").
-pub fn layer_root(hashes: &[Hash], level: u32) -> Hash
-    requires level { level ≤ 36 }
-    requires some { 0 < length hashes.now }
-    requires small { length hashes.now ≤ 2 ^ (36 - level) }
-    ensures { result ≡ padded_root level hashes.now }
-{
-    stack_of(hashes, level).root()
-}
-
-/// The root over `2^height` roots of subtrees of `2^level` leaves: `hashes`, followed by zero subtrees.
-pub fn layer_subtree(hashes: &[Hash], level: u32, height: u32) -> Hash
-    requires some { 0 < length hashes.now }
-    requires wide { length hashes.now ≤ 2 ^ height }
-    requires low { level + height ≤ 36 }
-    ensures { result ≡ padded_subtree height level hashes.now }
-{
-    stack_of(hashes, level).subtree(height)
-}
-
-// A stack to which all of them were pushed.
-fn stack_of(hashes: &[Hash], level: u32) -> Stack
-    requires level { level ≤ 36 }
-    requires small { length hashes.now ≤ 2 ^ (36 - level) }
-    ensures hashes { result.hashes ≡ hashes.now }
-    ensures level { result.level ≡ level }
-{
-    let mut stack = Stack::new(level);
-    'pushes: for hash in hashes {
-        stack.push(*hash);
-    }
-    stack
-}

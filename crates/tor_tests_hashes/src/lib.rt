@@ -2,8 +2,8 @@
 //! proved twice, and these libraries are large.
 //!
 //! - `hashes.rt`: SHA-256 and SHA-1 of eight messages.
-//! - `merkle.rt`: roots, layers and stacks; `feeds.rt`: contents that are fed in parts; `piece_proofs.rt`: proofs of
-//!   single pieces.
+//! - `merkle.rt`: roots, layers and stacks; `layers.rt`: roots over hashes in a slice; `feeds.rt`: contents that are
+//!   fed in parts; `piece_proofs.rt`: proofs of single pieces.
 //! - `layouts.rt`: version 1's list of files; `sums.rt`: the SHA-1 of its pieces.
 //! - `plans.rt`: units of work for lists of files; `entries.rt`: for entries; `pieces.rt`: their pieces.
 //!
@@ -16,6 +16,8 @@ mod entries;
 mod feeds;
 #[cfg(test)]
 mod hashes;
+#[cfg(test)]
+mod layers;
 #[cfg(test)]
 mod layouts;
 #[cfg(test)]

@@ -1,6 +1,6 @@
 -- the stack has the hashes so far
 use Rattle.std.proofs.Common.{◌≡◌, take}
-use Rattle.tor_merkle.proofs.stack.stack_of.Given as goal
+use Rattle.tor_merkle.proofs.layer.stack_of.Given as goal
 
 abbrev pub invariant-pushes : goal.invariant-pushes
 invariant-pushes l = record {
