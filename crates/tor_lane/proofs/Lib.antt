@@ -1,0 +1,10 @@
+pub mod Lists
+pub mod Sums
+pub mod Messages
+pub mod Puts
+pub mod Takes
+pub mod Takers
+pub mod Settled
+pub mod Absorbed
+pub mod Whole
+pub mod Reached
