@@ -67,7 +67,8 @@ def test_of_make(program, folder):
              ('statx:error=ENOENT:when=4', 'E2 Changed file 1')]
     rows += [(f'statx:error={error}:when=1', 'F4 System')
              for error in ['EIO', 'EACCES', 'ENOENT', 'ETIMEDOUT', 'EINTR']]
-    for how in [[], ['--how', 'halves', '--workers', '2', '--span', '1'], ['--kind', 'v1'], ['--kind', 'hybrid']]:
+    for how in [[], ['--how', 'halves', '--workers', '2', '--span', '1'], ['--kind', 'v1'], ['--kind', 'hybrid'],
+                ['--how', 'board', '--workers', '2', '--span', '1']]:
         out = folder / 'out'
         out.write_bytes(b'old')
         words = ['make', '--name', 'f', *how, '--out', out, files]
@@ -144,7 +145,8 @@ def test_places_of_reads(program, folder):
     path = folder / 'large'
     path.write_bytes(bytes(5 << 20) + b'end')
     for words in [['--how', 'one'], ['--how', 'one', '--kind', 'v1'], ['--kind', 'hybrid', '--piece-length', '1048576'],
-                  ['--how', 'halves', '--workers', '3', '--span', '1'], ['--piece-length', '4194304', '--kind', 'v1']]:
+                  ['--how', 'halves', '--workers', '3', '--span', '1'], ['--piece-length', '4194304', '--kind', 'v1'],
+                  ['--how', 'board', '--workers', '3', '--span', '1']]:
         words = ['make', '--name', 'a', *words, str(path)]
         told, log = traced(program, words, path, [], folder / 'log', trace='pread64')
         expect_equal(f'{words}: status', 0, told.status)
@@ -155,7 +157,7 @@ def test_places_of_reads(program, folder):
                 raise Failure(f'{words}\nwanted  each byte once, and at least 65536 at a time\ncame    {reads}')
             at += came
         expect_equal(f'{words}: bytes that were read', (5 << 20) + 3, at)
-        if 'halves' in words or len(reads) == 1:
+        if '--workers' in words or len(reads) == 1:
             continue
         told, log = traced(program, words, path, ['pread64:error=EIO:when=2'], folder / 'log', trace='pread64')
         expect_told(words, refused(f'E1 Read file 0 at {reads[1][0]}', 3), told)
@@ -164,7 +166,8 @@ def test_places_of_reads(program, folder):
 def test_what_is_asked_before_a_refusal(program, folder):
     """A refusal of the order comes before a file's length is asked: it is asked once, as it is found."""
     files = lay_out(folder)
-    for words in [['--piece-length', '5'], ['--how', 'halves', '--workers', '65'], ['--span', '3']]:
+    for words in [['--piece-length', '5'], ['--how', 'halves', '--workers', '65'], ['--span', '3'],
+                  ['--how', 'board', '--workers', '65']]:
         words = ['make', '--name', 'f', *words, files]
         _, log = traced(program, words, files / 'a', [], folder / 'log')
         expect_equal(f'{words}: calls upon a file', 1, len(log.splitlines()))

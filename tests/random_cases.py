@@ -151,7 +151,7 @@ def random_order(rng, single):
         piece_length = 1 << 22
     announce = rng.choice([None, None, b'', b'http://t/', 'http://ü/ a'.encode(), b'x' * 3000])
     return Order(kind, single, name, piece_length, announce, rng.random() < 0.3,
-                 rng.choice(['one', 'halves']), workers, span)
+                 rng.choice(['one', 'halves', 'board']), workers, span)
 
 
 def words_of(rng, order, *arguments):

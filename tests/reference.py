@@ -243,7 +243,7 @@ def order_fault(order, paths):
     """The first refusal that needs no byte of a file."""
     if not is_power(order.piece_length, BLOCK, MAX_PIECE_LENGTH):
         return 'M1'
-    if order.how == 'halves' and not 1 <= order.workers <= 64:
+    if order.how != 'one' and not 1 <= order.workers <= 64:
         return 'M2'
     if not is_power(order.span, 1, 1024):
         return 'M3'

@@ -8,7 +8,7 @@ use Rattle.clap.specs.declared.parser.matches.ArgMatches.{ArgMatches}
 use Rattle.tor_tree.specs.declared.kinds.Kind.{Kind}
 use Rattle.tor_tree.specs.declared.kinds.Kind.TheVariants.{V1, V2, Hybrid}
 use Rattle.tor_engine.specs.declared.how.How.{How}
-use Rattle.tor_engine.specs.declared.how.How.TheVariants.{One, Halves}
+use Rattle.tor_engine.specs.declared.how.How.TheVariants.{One, Halves, Board}
 use Rattle.tor_cli.specs.CommandLine.{AreHows, AreKinds, tor_app}
 use Rattle.tor_cli.specs.declared.command.Request.{Request}
 use Rattle.tor_cli.specs.declared.command.Request.TheVariants.{Show, Make, Check, Magnet, Prove, Verify, Recheck}
@@ -29,11 +29,13 @@ word_of Hybrid = codes "hybrid"
 abbrev pub how_word : How → List ℕ
 how_word One = codes "one"
 how_word (Halves workers) = codes "halves"
+how_word (Board workers) = codes "board"
 
 -- it has this number of workers; one worker takes no notice of a number
 abbrev pub HasWorkers : How → ℕ → Type 0
 HasWorkers One number = Unit {0}
 HasWorkers (Halves workers) number = workers ≡ number
+HasWorkers (Board workers) number = workers ≡ number
 
 -- the text is a number in decimal digits, of which this holds
 abbrev pub IsNumber : List ℕ → (ℕ → Type 0) → Type 0

@@ -66,6 +66,7 @@ fn how_of(word: &str, workers: u32) -> Option<How>
     match word {
         "one" => Some(How::One),
         "halves" => Some(How::Halves(workers)),
+        "board" => Some(How::Board(workers)),
         _ => None,
     }
 }

@@ -50,7 +50,7 @@ pub fn counted_report<S: Source, T: Threads + Sync>(
         files: torrent.files(),
         progress,
     };
-    let rechecked = recheck(rt, alloc, &counting, torrent, How::One);
+    let rechecked = recheck(rt, alloc, &counting, torrent, How::Board(4));
     if let Some(progress) = &counting.progress {
         progress.erase();
     }

@@ -1,11 +1,9 @@
 -- The hashes and the first fault of all pieces of a plan, unit by unit.
 use Rattle.std.proofs.Common.{◌≡◌, ℕ, ◌+◌, List, [], ◌∷◌, ◌++◌, length, map, Option, None, Some, unwrap_or, option_map}
-use Rattle.std.proofs.Common.{Vec}
 use Rattle.std.proofs.Common.{refl, ap}
 use Rattle.std.proofs.Common.{ap₂, sym, ◌∙◌}
 use Rattle.std.specs.List.{flat_map, range_with_len}
 use Rattle.std.proofs.lemmas.List.{length-append, map-append}
-use Rattle.std.specs.declared.alloc.Global.{Global}
 use Rattle.tor_plan.specs.Pieces.{pieces_of_unit}
 use Rattle.tor_plan.specs.PlanFacts.{PlanFacts}
 use Rattle.tor_plan.specs.declared.units.PlanUnit.{PlanUnit}
@@ -13,7 +11,7 @@ use Rattle.tor_source.specs.Source.{SourceFacts}
 use Rattle.tor_engine.specs.Contents.{contents_in}
 use Rattle.tor_engine.specs.PieceFault.{first_asked_fault, first_piece_fault, lengths_told, piece_fault, pieces_fault}
 use Rattle.tor_engine.specs.PieceHashes.{hash_if_there, pieces_of_plan, piece_hashes}
-use Rattle.tor_engine.specs.declared.piece_hash.PieceHash.{PieceHash}
+use Rattle.tor_engine.specs.declared.piece_work.UnitPieces.{UnitPieces}
 use Rattle.tor_engine.specs.steps.Each.{SumUpEach}
 use Rattle.tor_engine.specs.steps.Pieces.{AreTold, HashesPieces, first_unit_fault, unit_hashes, unit_pieces_fault}
 use Rattle.tor_engine.proofs.FirstOf.{or_none}
@@ -35,15 +33,15 @@ all_faults facts plan contents =
     sym (first_flat (piece_fault facts contents) (pieces_of_unit plan.piece_length)
     (unit_pieces_fault facts plan contents) plan.units (λ unit. refl))
 
--- units that are hashed each by itself, as vectors of their hashes
+-- units that are hashed each by itself
 module _ {F : Type 0} (is_steady : SourceFacts F → Type 0) (plan : PlanFacts) (told : List (Option ℕ)) where
-  abbrev Each : List PlanUnit → List (Vec (Option PieceHash) Global) → Type 0
-  Each units hashes = SumUpEach (λ unit one. HashesPieces is_steady plan told unit one.items) units hashes
+  abbrev Each : List PlanUnit → List UnitPieces → Type 0
+  Each units hashes = SumUpEach (λ unit one. HashesPieces is_steady plan told unit one.hashes.items) units hashes
 
   pub hashes_joined : (facts : SourceFacts F) → is_steady facts
       → AreTold told (contents_in facts (length plan.lengths))
-      → (units : List PlanUnit) (hashes : List (Vec (Option PieceHash) Global)) → Each units hashes
-      → flat_map (λ one. one.items) hashes
+      → (units : List PlanUnit) (hashes : List UnitPieces) → Each units hashes
+      → flat_map (λ one. one.hashes.items) hashes
       ≡ flat_map (unit_hashes plan (contents_in facts (length plan.lengths))) units
   unfolding SumUpEach
   hashes_joined facts steady are [] [] each = refl
@@ -52,14 +50,14 @@ module _ {F : Type 0} (is_steady : SourceFacts F → Type 0) (plan : PlanFacts) 
   hashes_joined facts steady are (unit ∷ units) (one ∷ hashes) each =
       ap₂ (λ xs ys. xs ++ ys) (each.0.steady facts steady are) (hashes_joined facts steady are units hashes each.1)
 
-  pub hashes_counted : (units : List PlanUnit) (hashes : List (Vec (Option PieceHash) Global)) → Each units hashes
-      → length (flat_map (λ one. one.items) hashes) ≡ length (flat_map (pieces_of_unit plan.piece_length) units)
+  pub hashes_counted : (units : List PlanUnit) (hashes : List UnitPieces) → Each units hashes
+      → length (flat_map (λ one. one.hashes.items) hashes) ≡ length (flat_map (pieces_of_unit plan.piece_length) units)
   unfolding SumUpEach
   hashes_counted [] [] each = refl
   hashes_counted [] (one ∷ hashes) each = absurd each
   hashes_counted (unit ∷ units) [] each = absurd each
   hashes_counted (unit ∷ units) (one ∷ hashes) each =
-      length-append one.items (flat_map (λ one. one.items) hashes)
+      length-append one.hashes.items (flat_map (λ one. one.hashes.items) hashes)
       ∙ ap₂ (λ n m. n + m) each.0.counted (hashes_counted units hashes each.1)
       ∙ sym (length-append (pieces_of_unit plan.piece_length unit)
       (flat_map (pieces_of_unit plan.piece_length) units))

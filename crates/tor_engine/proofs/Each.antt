@@ -1,5 +1,5 @@
 -- What units sum up to, each by itself.
-use Rattle.std.proofs.Common.{List, [], ◌∷◌, ◌++◌}
+use Rattle.std.proofs.Common.{◌≡◌, suc, List, [], ◌∷◌, ◌++◌, ap, length, refl}
 use Rattle.tor_plan.specs.declared.units.PlanUnit.{PlanUnit}
 use Rattle.tor_engine.specs.steps.Each.{SumUpEach}
 
@@ -7,6 +7,13 @@ module _ {A : Type 0} (sums_up : PlanUnit → A → Type 0) where
   pub each_none : SumUpEach sums_up [] []
   unfolding SumUpEach
   each_none = tt
+
+  pub each_length : (units : List PlanUnit) (sums : List A) → SumUpEach sums_up units sums → length units ≡ length sums
+  unfolding SumUpEach
+  each_length [] [] each = refl
+  each_length [] (one ∷ sums) each = absurd each
+  each_length (unit ∷ units) [] each = absurd each
+  each_length (unit ∷ units) (one ∷ sums) each = ap suc (each_length units sums each.1)
 
   pub each_append : (xs ys : List PlanUnit) (one other : List A) → SumUpEach sums_up xs one
       → SumUpEach sums_up ys other → SumUpEach sums_up (xs ++ ys) (one ++ other)

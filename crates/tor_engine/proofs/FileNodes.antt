@@ -139,7 +139,11 @@ module _ (p size : ℕ) (level : Option ℕ) (content : List ℕ) (cut : IsCut p
         ∙ ap (λ n. flat_map (λ unit. piece_roots unit p)
         (map (run_at n content) (range_with_len 0 (div_ceil (length content) n)))) cut.pieces
         ∙ piece_roots_of_units content p cut.span cut.allowed cut.some
-        ∙ sym (layer_of_long_content content p (omega (arith, piece_within p size level (length content ∷ []) cut, long)))
+        ∙ sym (layer_of_long_content content p (omega (
+          arith,
+          piece_within p size level (length content ∷ []) cut,
+          long,
+        )))
 
 -- how many units a file has
 pub units_counted : (p size m n : ℕ) (level : Option ℕ) → IsCut p size level (m ∷ [])

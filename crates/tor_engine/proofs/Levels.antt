@@ -74,6 +74,12 @@ log2_of (suc n) k is some =
       | inr ge ↦ let same : a ≡ b = omega (arith, le, ge) in omega (arith, ap (λ k. 2 ^ k) same)
     ]
 
+-- the level of a unit of so many blocks
+pub level_of_power : (size k : ℕ) → size ≡ 16384 * 2 ^ k → unit_level size ≡ k
+level_of_power size k is =
+    ap (λ n. log2 (n / 16384)) is ∙ ap log2 (mul-div_cancel_left (2 ^ k) (omega arith))
+    ∙ log2_of (2 ^ k) k refl (pow_pos k)
+
 -- ---- pieces and units
 
 -- how many runs of 2 ^ j blocks fit below a node
@@ -115,8 +121,7 @@ unit_at_level p span allowed is_span =
     mul_comm span p ∙ ap (λ n. n * span) (piece_at_level p allowed) ∙ ap (λ n. 16384 * 2 ^ j * n) is.1
     ∙ mul_assoc 16384 (2 ^ j) (2 ^ k) ∙ ap (λ n. 16384 * n) (mul_comm (2 ^ j) (2 ^ k) ∙ sym (pow-add 2 k j)) in
     let level : unit_level (span * p) ≡ k + j =
-    ap (λ n. log2 (n / 16384)) size ∙ ap log2 (mul-div_cancel_left (2 ^ (k + j)) (omega arith))
-    ∙ log2_of (2 ^ (k + j)) (k + j) refl (pow_pos (k + j)) in
+    level_of_power (span * p) (k + j) size in
     let few : k ≤ 10 = exponents k 10 (omega (arith, is.1, is_span.2)) in
     let low : j ≤ 16 = height_least (p / 16384) 16 (omega (arith, bounds.2)) in
     (omega (arith, level), omega (arith, level, few, low), size ∙ ap (λ n. 16384 * 2 ^ n) (sym level))

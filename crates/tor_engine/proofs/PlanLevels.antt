@@ -53,15 +53,17 @@ module _ (plan : PlanFacts) (is : IsPlan plan) where
   size_of_unit = is.span * plan.piece_length
 
   module _ (trees : has_v2 plan.kind ≡ true) where
+    pub trees_of_plan : plan.trees ≡ trees_from size_of_unit 0 plan.lengths
+    trees_of_plan =
+        ap (λ (facts : PlanFacts). facts.trees) is.made ∙ trees_of_kind plan.kind size_of_unit _ trees
+        ∙ ap (trees_from size_of_unit 0) (sym (ap (λ (facts : PlanFacts). facts.lengths) is.made))
+
     several : ((level_of plan.trees ≡ None) × AllByRecursion (λ m. m ≤ size_of_unit) plan.lengths)
         ⊎ (level_of plan.trees ≡ Some (unit_level size_of_unit))
     several =
-        let made = ap (λ (facts : PlanFacts). facts.trees) is.made
-        ∙ trees_of_kind plan.kind size_of_unit _ trees
-        ∙ ap (trees_from size_of_unit 0) (sym (ap (λ (facts : PlanFacts). facts.lengths) is.made)) in
         let some = mul-pos (omega (arith, is.is_span.1)) (some_piece plan.kind plan.piece_length is.pieces) in
         subst (λ (runs : List Run). ((level_of runs ≡ None) × AllByRecursion (λ m. m ≤ size_of_unit) plan.lengths)
-        ⊎ (level_of runs ≡ Some (unit_level size_of_unit))) (sym made)
+        ⊎ (level_of runs ≡ Some (unit_level size_of_unit))) (sym trees_of_plan)
         (level_from size_of_unit some 0 plan.lengths)
 
     stands : ForSome (level_of plan.trees) (StandsAt plan.piece_length size_of_unit)

@@ -1,5 +1,6 @@
 -- Units that are read one after the other.
 use Rattle.std.proofs.Common.{◌≡◌, ℕ, List, [], ◌∷◌, ◌++◌, map, refl, ap₂, subst, sym, ◌∙◌}
+use Rattle.std.proofs.lemmas.List.{map-append}
 use Rattle.std.specs.List.{flat_map}
 use Rattle.std.proofs.lemmas.Grind.{flat_map-append}
 use Rattle.tor_plan.specs.Content.{unit_content}
@@ -11,7 +12,7 @@ use Rattle.tor_v1.specs.Piece.{piece_sums}
 use Rattle.tor_engine.specs.declared.unit_sums.UnitSums.{UnitSums}
 use Rattle.tor_engine.specs.steps.Each.{SumUpEach}
 use Rattle.tor_engine.specs.steps.Hashes.{Node, level_of, nodes_of_unit}
-use Rattle.tor_engine.specs.steps.Run.{HashesUnits, SumsUpUnit, node_in, parts_of}
+use Rattle.tor_engine.specs.steps.Run.{HashesUnits, SumsUpUnit, bare_node, node_in, parts_of}
 use Rattle.tor_engine.proofs.PartReads.{have_both, reads_as, reads_both, reads_none}
 use Rattle.tor_engine.proofs.Runs.{joined_if, none_if}
 
@@ -28,6 +29,7 @@ module _ {F : Type 0} (is_steady : SourceFacts F → Type 0) (plan : PlanFacts) 
     are = reads_none is_steady plan;
     sums = λ contents fit have. record {
       nodes = λ trees. refl;
+      bare = λ none. refl;
       pieces = none_if (pieces_in contents) (has_v1 plan.kind);
     };
   }
@@ -48,6 +50,9 @@ module _ {F : Type 0} (is_steady : SourceFacts F → Type 0) (plan : PlanFacts) 
           nodes = λ trees.
               ap₂ (λ xs ys. xs ++ ys) (before.nodes trees) (after.nodes trees)
               ∙ sym (flat_map-append (nodes_in contents) first second);
+          bare = λ none.
+              ap₂ (λ xs ys. xs ++ ys) (before.bare none) (after.bare none)
+              ∙ sym (map-append (λ _. bare_node) first second);
           pieces = joined_if (pieces_in contents) (has_v1 plan.kind) first second _ _ before.pieces after.pieces;
         };
   }

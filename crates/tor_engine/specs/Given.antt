@@ -61,3 +61,16 @@ IsGivenPieces gave told ended count (Changed file) =
 IsGivenPieces gave told ended count (Missing file) = ⊥
 IsGivenPieces gave told ended count Resources = Unit {0}
 IsGivenPieces gave told ended count (StreamTooLong file) = ⊥
+
+-- where bytes alone are read of files of these lengths: a fault is one that the source gave, at a byte of the file; of
+-- a file that is answered as changed a read of one of its bytes gave none
+abbrev pub IsGivenRead : {F : Type 0} → (ℕ → Option ℕ → F → Type 0) → (ℕ → ℕ → Type 0) → List ℕ
+    → EngineError F → Type 0
+IsGivenRead gave ended lengths (Read file None fault) = ⊥
+IsGivenRead gave ended lengths (Read file (Some start) fault) =
+    gave file (Some start) fault × (start < slice_index_or lengths file 0) × (file < length lengths)
+IsGivenRead gave ended lengths (Changed file) =
+    ((start : ℕ) × ended file start × (start < slice_index_or lengths file 0)) × (file < length lengths)
+IsGivenRead gave ended lengths (Missing file) = ⊥
+IsGivenRead gave ended lengths Resources = Unit {0}
+IsGivenRead gave ended lengths (StreamTooLong file) = ⊥

@@ -1,14 +1,16 @@
 -- By how many workers files are hashed.
 use Rattle.std.specs.Prelude.{◌≤◌, Bool, true, ◌&&◌, nat_le}
 use Rattle.tor_engine.specs.declared.how.How.{How}
-use Rattle.tor_engine.specs.declared.how.How.TheVariants.{One, Halves}
+use Rattle.tor_engine.specs.declared.how.How.TheVariants.{One, Halves, Board}
 use Rattle.tor_engine.specs.declared.how.TheConstants.{MAX_WORKERS}
 
 -- from 1 to 64 workers
 abbrev pub is_how : How → Bool
 is_how One = true
 is_how (Halves workers) = nat_le 1 workers && nat_le workers MAX_WORKERS
+is_how (Board workers) = nat_le 1 workers && nat_le workers MAX_WORKERS
 
 abbrev pub IsHow : How → Type 0
 IsHow One = Unit {0}
 IsHow (Halves workers) = (1 ≤ workers) × (workers ≤ MAX_WORKERS)
+IsHow (Board workers) = (1 ≤ workers) × (workers ≤ MAX_WORKERS)

@@ -5,5 +5,7 @@ pub mod Hasher
 pub mod How
 pub mod PieceFault
 pub mod PieceHashes
+pub mod Shares
 pub mod Sums
+pub mod UnitNodes
 pub mod steps

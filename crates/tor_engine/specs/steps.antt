@@ -4,8 +4,11 @@ pub mod Failing
 pub mod Given
 pub mod Hashes
 pub mod Pieces
+pub mod Places
 pub mod ReadBytes
 pub mod Reads
+pub mod Roots
+pub mod Taken
 pub mod Room
 pub mod Run
 pub mod Worker

@@ -12,7 +12,7 @@ use crate::how::How;
 use crate::lengths::expect_lengths;
 use crate::sum_work::SumWork;
 use crate::sums::{Sums, sums_of_units};
-use crate::turn::hash_units;
+use crate::units::hash_units;
 use std::alloc::Global;
 use std::thread::Threads;
 use tor_plan::Plan;
@@ -73,8 +73,8 @@ pub fn hash_told<S: Source, R: Threads + Sync>(
         source,
         plan,
     };
-    let unit_sums = match hash_units(rt, &work, units, how) {
-        Ok(unit_sums) => unit_sums,
+    let (unit_sums, roots) = match hash_units(rt, &work, units, plan.forest(), how) {
+        Ok(hashed) => hashed,
         Err(error) => return Err(error),
     };
     match expect_lengths(alloc, source, plan.lengths()) {
@@ -83,6 +83,6 @@ pub fn hash_told<S: Source, R: Threads + Sync>(
         Err(EngineError::Missing { file }) => return Err(EngineError::Changed { file }),
         Err(error) => return Err(error),
     }
-    let sums = sums_of_units(alloc, plan, &unit_sums)?;
+    let sums = sums_of_units(alloc, plan, &unit_sums, &roots)?;
     Ok(sums)
 }

@@ -24,7 +24,7 @@ pub enum EngineError<F> {
     Missing {
         file: u64,
     },
-    /// Memory or a thread was refused.
+    /// Memory was refused.
     #[error("E4 Resources")]
     Resources,
     /// A stream had more than 2^50 bytes.

@@ -1,6 +1,7 @@
 //! Why workers stop, and what is answered of two of them.
 ghost use Rattle.std.specs.Prelude.{◌≡◌, ◌⊎◌, ◌↔◌, IsTrue, min};
 ghost use Rattle.tor_engine.specs.declared.errors.EngineError.TheVariants.{Resources};
+ghost use Rattle.tor_engine.specs.steps.Failing.{AreBoth};
 
 use crate::errors::EngineError;
 use std::alloc::{AllocError, AllocFailed};
@@ -8,7 +9,7 @@ use std::alloc::{AllocError, AllocFailed};
 /// Why a worker stopped.
 #[derive(Drop)]
 pub(crate) struct Failure<F> {
-    /// The number of the unit that failed; of no meaning where resources were refused.
+    /// The number of the unit that failed; 0, of no meaning, where memory was refused for what several units have.
     pub(crate) unit: u64,
     pub(crate) error: EngineError<F>,
 }
@@ -35,8 +36,23 @@ impl<F, T: Drop> From<AllocFailed<T>> for Failure<F> {
     }
 }
 
+/// What two workers answer together: both answers, or why one stopped.
+pub(crate) fn both<T: Drop, F: Drop>(
+    one: Result<T, Failure<F>>,
+    other: Result<T, Failure<F>>,
+) -> Result<(T, T), Failure<F>>
+    ensures { AreBoth one other result }
+{
+    match (one, other) {
+        (Ok(one), Ok(other)) => Ok((one, other)),
+        (Ok(_), Err(failure)) => Err(failure),
+        (Err(failure), Ok(_)) => Err(failure),
+        (Err(failure), Err(later)) => Err(least(failure, later)),
+    }
+}
+
 /// What is answered where two workers stopped: want of resources before all, else the fault of the lesser unit.
-pub(crate) fn least<F: Drop>(one: Failure<F>, other: Failure<F>) -> Failure<F>
+fn least<F: Drop>(one: Failure<F>, other: Failure<F>) -> Failure<F>
     ensures either { (result ≡ one) ⊎ (result ≡ other) }
     ensures resources { (one.error ≡ Resources) ⊎ (other.error ≡ Resources) → result.error ≡ Resources }
     ensures lesser { (result.error ≡ Resources) ⊎ (result.unit ≡ min one.unit other.unit) }

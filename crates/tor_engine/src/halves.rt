@@ -5,7 +5,7 @@ ghost use Rattle.std.specs.Thread.{IsSend, IsSync};
 use std::thread::{Threads, join};
 
 /// Work that one worker does, or two do of which each has a half.
-pub(crate) trait Share: Send + Drop {
+pub(crate) trait Divisible: Send + Drop {
     type Answer: Send + Drop;
 
     /// The work can be done.
@@ -30,13 +30,19 @@ pub(crate) trait Share: Send + Drop {
 
     /// The answer of the whole, from those of its halves.
     fn join(one: Self::Answer, other: Self::Answer) -> Self::Answer
+        requires { (whole : Self) × (first : Self) × (second : Self) × halves whole first second
+            × answers first one × answers second other }
         ensures { (whole first second : Self) → halves whole first second → answers first one →
             answers second other → answers whole result };
 }
 
 /// What the work answers, done by so many workers: both halves at once, and each again in halves while there are
 /// workers.
-pub(crate) fn by_halves<S: Share, R: Threads + Sync>(rt: &R, share: S, workers: u32) -> S::Answer
+pub(crate) fn by_halves<S: Divisible, R: Threads + Sync>(
+    rt: &R,
+    share: S,
+    workers: u32,
+) -> S::Answer
     requires { S.may_answer share }
     ensures { S.answers share result }
 {

@@ -7,10 +7,12 @@ pub const MAX_WORKERS: u32 = 64;
 /// How the units of a plan are shared among workers.
 #[derive(Clone, Copy, Debug, PartialEq, Eq)]
 pub enum How {
-    /// The caller's thread takes them all.
+    /// The caller's thread takes them all, from a board with one seat.
     One,
     /// So many workers: the units are split in two, and again while there are workers; both halves are hashed at once.
     Halves(u32),
+    /// So many workers, of whom each takes the next unit that nobody has taken.
+    Board(u32),
 }
 
 impl How {
@@ -23,7 +25,7 @@ impl How {
     {
         match self {
             How::One => true,
-            How::Halves(workers) => 1 <= workers && workers <= MAX_WORKERS,
+            How::Halves(workers) | How::Board(workers) => 1 <= workers && workers <= MAX_WORKERS,
         }
     }
 }

@@ -1,11 +1,12 @@
 //! What units give, joined in their order.
-ghost use Rattle.std.specs.Prelude.{◌≡◌, ◌-◌, ◌^◌, ◌<◌, ◌≤◌, ◌++◌, IfOk, OnOk, length, map};
+ghost use Rattle.std.specs.Prelude.{◌≡◌, ◌++◌, IfOk, OnOk};
 ghost use Rattle.std.specs.List.{flat_map};
-ghost use Rattle.tor_merkle.specs.Stack.{padded_root};
 
+use crate::piece_hash::PieceHash;
+use crate::piece_work::UnitPieces;
 use crate::unit_sums::UnitSums;
 use std::alloc::{AllocError, Global};
-use tor_merkle::{Hash, Stack};
+use tor_merkle::Hash;
 
 /// Puts the items of one vector after those of another.
 pub(crate) fn append<T: Drop>(items: &mut Vec<T>, next: Vec<T>) -> Result<(), AllocError>
@@ -17,13 +18,16 @@ pub(crate) fn append<T: Drop>(items: &mut Vec<T>, next: Vec<T>) -> Result<(), Al
     Ok(())
 }
 
-/// The items of all lists, one after the other.
-pub(crate) fn joined<T: Copy + Drop>(alloc: Global, lists: &[Vec<T>]) -> Result<Vec<T>, AllocError>
-    ensures { IfOk result (λ all. all.items ≡ flat_map (λ list. list.items) lists.now) }
+/// The hashes of the pieces of all units, one after the other.
+pub(crate) fn hashes_of_pieces(
+    alloc: Global,
+    units: &[UnitPieces],
+) -> Result<Vec<Option<PieceHash>>, AllocError>
+    ensures { IfOk result (λ all. all.items ≡ flat_map (λ unit. unit.hashes.items) units.now) }
 {
     let mut all = Vec::new(alloc);
-    'lists: for list in lists {
-        all.extend_from_slice(list)?;
+    'units: for unit in units {
+        all.extend_from_slice(&unit.hashes)?;
     }
     Ok(all)
 }
@@ -48,18 +52,4 @@ pub(crate) fn layer_of_units(alloc: Global, units: &[UnitSums]) -> Result<Vec<Ha
         layer.extend_from_slice(&unit.layer)?;
     }
     Ok(layer)
-}
-
-/// The root over the hashes of units at a level.
-pub(crate) fn root_of_units(units: &[UnitSums], level: u32) -> Hash
-    requires level { level ≤ 36 }
-    requires some { 0 < length units.now }
-    requires small { length units.now ≤ 2 ^ (36 - level) }
-    ensures { result ≡ padded_root level (map (λ unit. unit.hash) units.now) }
-{
-    let mut stack = Stack::new(level);
-    'units: for unit in units {
-        stack.push(unit.hash);
-    }
-    stack.root()
 }

@@ -5,9 +5,13 @@
 //! - [`How`] (`how.rt`): by how many workers; [`Sums`] (`sums.rt`): what comes of it; [`EngineError`] (`errors.rt`).
 //! - [`ask_lengths`] (`lengths.rt`): the lengths of files.
 //! - [`ContentHasher`] (`hasher.rt`): what a content hashes to, while its bytes come ([`Hashed`]).
-//! - `halves.rt` shares work among workers, whatever work it is; `turn.rt` so shares the units of a plan, each worker
-//!   taking its own one after the other, and `failure.rt` tells which of two faults is answered. `work.rt` says what a
+//! - `units.rt` has the units of a plan hashed by one worker or by several. `halves.rt` shares work among workers,
+//!   whatever work it is. `turn.rt` so deals the units out beforehand, and each worker takes its own one after the
+//!   other; `seats.rt` gives each worker a seat at a board (`on_board.rt`), from which it claims one unit after the
+//!   other (`taking.rt`, `taken.rt`), and `placed.rt` puts what they took in the order of the units. `failure.rt` tells
+//!   which of two faults is answered, `roots.rt` the roots of trees where no board does. `unit_work.rt` says what a
 //!   worker does with a unit.
+//! - [`work`] (`shares.rt`): one worker at a board, for callers with threads of their own.
 //! - `sum_work.rt` does it for the sums of files. `unit_hash.rt` reads a unit and hashes it by itself, whatever files
 //!   it is of: `reading.rt` has one part read of the source (`file_bytes.rt`), `worker.rt` holds what was read and not
 //!   hashed (`room.rt`) and the hashes of what came before (`hasher.rt`). `unit_sums.rt` tells what that sums up to in
@@ -38,18 +42,26 @@ mod items;
 mod joined;
 pub mod laws;
 mod lengths;
+mod on_board;
 mod piece_hash;
 mod piece_work;
 mod pieces;
+mod placed;
 mod present;
 mod reading;
 mod room;
+mod roots;
+mod seats;
+mod shares;
 mod sum_work;
 mod sums;
+mod taken;
+mod taking;
 mod turn;
 mod unit_hash;
 mod unit_sums;
-mod work;
+mod unit_work;
+mod units;
 mod worker;
 
 pub use engine::{hash_all, hash_told};
@@ -59,4 +71,6 @@ pub use how::{How, MAX_WORKERS};
 pub use lengths::ask_lengths;
 pub use piece_hash::PieceHash;
 pub use pieces::hash_pieces;
+pub use shares::{Share, work};
 pub use sums::Sums;
+pub use unit_sums::UnitSums;

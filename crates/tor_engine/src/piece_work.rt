@@ -1,6 +1,6 @@
 //! The pieces of units hashed, those that are wholly there.
 ghost use Rattle.std.specs.Prelude.{◌≡◌, ◌≢◌, ◌≤◌, ◌↔◌, true, [], ℕ, All, IsTrue, List, None, Some};
-ghost use Rattle.std.specs.Prelude.{IfErr, IfOk, MatchResult, length, if◌then◌else◌};
+ghost use Rattle.std.specs.Prelude.{IfErr, IfOk, MatchResult, length, replicate, if◌then◌else◌};
 ghost use Rattle.std.specs.List.{flat_map};
 ghost use Rattle.tor_plan.specs.Content.{unit_content};
 ghost use Rattle.tor_plan.specs.PlanFacts.{IsPlan};
@@ -28,7 +28,7 @@ use crate::items::item_at;
 use crate::piece_hash::PieceHash;
 use crate::present::is_there;
 use crate::unit_hash::hash_unit;
-use crate::work::UnitWork;
+use crate::unit_work::UnitWork;
 use crate::worker::WorkerSums;
 use std::alloc::{AllocError, Global};
 use tor_merkle::laws::root_of_short_content;
@@ -45,6 +45,14 @@ pub(crate) struct Known {
     pub(crate) padding_sum: Option<[u8; 20]>,
 }
 
+/// What the pieces of a unit hash to, none where a byte of one is not there.
+#[derive(Drop)]
+pub(crate) struct UnitPieces {
+    /// The unit's number.
+    pub(crate) unit: u64,
+    pub(crate) hashes: Vec<Option<PieceHash>>,
+}
+
 /// Hashes the pieces of units, of files that may be cut short or missing.
 #[derive(Drop)]
 pub(crate) struct PieceWork<'a, S> {
@@ -57,7 +65,7 @@ pub(crate) struct PieceWork<'a, S> {
 impl<'a, S: FileBytes> UnitWork for PieceWork<'a, S> {
     type Fault = S::Fault;
 
-    type Sums = Vec<Option<PieceHash>>;
+    type Sums = UnitPieces;
 
     ghost plan = { λ work. work.plan.now };
 
@@ -71,8 +79,12 @@ impl<'a, S: FileBytes> UnitWork for PieceWork<'a, S> {
     ghost fault = { λ work facts unit.
         unit_pieces_fault facts work.plan.now (contents_in facts (length work.plan.now.lengths)) unit };
 
-    ghost sums_up = { λ work unit hashes.
-        HashesPieces (S.is_steady work.source.now) work.plan.now work.known.now.lengths.items unit hashes.items };
+    ghost sums_up = { λ work unit sums. HashesPieces (S.is_steady work.source.now) work.plan.now
+        work.known.now.lengths.items unit sums.hashes.items };
+
+    ghost number_in = { λ _ sums. sums.unit };
+
+    ghost hash_in = { λ _ _. replicate 32 0 };
 
     ghost gave = { λ work. IsGivenRead (S.gave work.source.now) (S.ended work.source.now)
         (lengths_of_sizes work.known.now.lengths.items) };
@@ -89,9 +101,10 @@ impl<'a, S: FileBytes> UnitWork for PieceWork<'a, S> {
 
     fn hash(
         &self,
+        number: u64,
         unit: &PlanUnit,
         worker: &mut WorkerSums,
-    ) -> Result<Vec<Option<PieceHash>>, EngineError<S::Fault>> {
+    ) -> Result<UnitPieces, EngineError<S::Fault>> {
         let pieces = unit.pieces(self.alloc, self.plan.piece_length())?;
         let mut hashes = Vec::new(self.alloc);
         'pieces: for piece in pieces.as_slice() {
@@ -108,7 +121,18 @@ impl<'a, S: FileBytes> UnitWork for PieceWork<'a, S> {
             };
             hashes.push(hash)?;
         }
-        Ok(hashes)
+        Ok(UnitPieces {
+            unit: number,
+            hashes,
+        })
+    }
+
+    fn number_of(&self, sums: &UnitPieces) -> u64 {
+        sums.unit
+    }
+
+    fn hash_of(&self, _sums: &UnitPieces) -> Hash {
+        [0; 32]
     }
 }
 

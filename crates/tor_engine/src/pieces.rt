@@ -16,13 +16,13 @@ use crate::errors::EngineError;
 use crate::hasher::feed_zeros;
 use crate::how::How;
 use crate::items::item_at;
-use crate::joined::joined;
+use crate::joined::hashes_of_pieces;
 use crate::piece_hash::PieceHash;
 use crate::piece_work::{Known, PieceWork};
-use crate::turn::hash_units;
+use crate::units::hash_units;
 use std::alloc::{AllocError, Global};
 use std::thread::Threads;
-use tor_plan::{Part, Plan, PlanUnit};
+use tor_plan::{Forest, Part, Plan, PlanUnit};
 use tor_source::Source;
 use tor_v1::PieceSums;
 use tor_v1::laws::length_of_sums;
@@ -93,15 +93,19 @@ fn hash_known<S: Source, R: Threads + Sync>(
         plan,
         known,
     };
-    let hashes = match hash_units(rt, &work, units, how) {
-        Ok(hashes) => hashes,
+    // Pieces stand alone: no tree is put together.
+    let forest = Forest {
+        trees: Vec::new(alloc),
+    };
+    let (hashes, _) = match hash_units(rt, &work, units, &forest, how) {
+        Ok(hashed) => hashed,
         Err(error) => return Err(error),
     };
     match expect_each(source, &known.lengths) {
         Ok(()) => {}
         Err(error) => return Err(error),
     }
-    let joined = joined(alloc, &hashes)?;
+    let joined = hashes_of_pieces(alloc, &hashes)?;
     Ok(joined)
 }
 

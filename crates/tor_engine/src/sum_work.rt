@@ -8,9 +8,10 @@ ghost use Rattle.tor_engine.specs.steps.Run.{IsUnitToSum, SumsUpUnit};
 use crate::errors::EngineError;
 use crate::file_bytes::FileBytes;
 use crate::unit_sums::{UnitSums, sum_unit};
-use crate::work::UnitWork;
+use crate::unit_work::UnitWork;
 use crate::worker::WorkerSums;
 use std::alloc::{AllocError, Global};
+use tor_merkle::Hash;
 use tor_plan::{Plan, PlanUnit};
 
 /// Hashes units whose files have the lengths of the plan.
@@ -38,6 +39,10 @@ impl<'a, S: FileBytes> UnitWork for SumWork<'a, S> {
 
     ghost sums_up = { λ work unit sums. SumsUpUnit (S.is_steady work.source.now) work.plan.now unit sums };
 
+    ghost number_in = { λ _ sums. sums.unit };
+
+    ghost hash_in = { λ _ sums. sums.hash };
+
     ghost gave = { λ work. IsGivenRead (S.gave work.source.now) (S.ended work.source.now) work.plan.now.lengths };
 
     ghost may_refuse = { λ _. tt };
@@ -52,9 +57,18 @@ impl<'a, S: FileBytes> UnitWork for SumWork<'a, S> {
 
     fn hash(
         &self,
+        number: u64,
         unit: &PlanUnit,
         worker: &mut WorkerSums,
     ) -> Result<UnitSums, EngineError<S::Fault>> {
-        sum_unit(self.alloc, self.source, self.plan, unit, worker)
+        sum_unit(self.alloc, self.source, self.plan, number, unit, worker)
+    }
+
+    fn number_of(&self, sums: &UnitSums) -> u64 {
+        sums.unit
+    }
+
+    fn hash_of(&self, sums: &UnitSums) -> Hash {
+        sums.hash
     }
 }

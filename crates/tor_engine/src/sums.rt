@@ -1,17 +1,20 @@
 //! What the files of a plan sum up to.
-ghost use Rattle.std.specs.Prelude.{◌≡◌, ◌-◌, ◌*◌, ◌^◌, ◌≤◌, [], ◌∷◌, All, IfOk, List, ℕ, None, length, map, min};
-ghost use Rattle.std.specs.Prelude.{replicate};
+ghost use Rattle.std.specs.Prelude.{◌≡◌, ◌-◌, ◌*◌, ◌^◌, ◌<◌, ◌≤◌, [], ◌∷◌, All, IfOk, List, ℕ, None, Option, Some};
+ghost use Rattle.std.specs.Prelude.{length, map, min, replicate, slice_index_or};
 ghost use Rattle.std.specs.Int.{div_ceil};
 ghost use Rattle.std.specs.List.{flat_map};
 ghost use Rattle.std.specs.Option.{ForSome};
 ghost use Rattle.tor_merkle.specs.Layer.{piece_layer, root_of};
 ghost use Rattle.tor_merkle.specs.declared.TheConstants.{BLOCK_LENGTH, MAX_LENGTH};
+ghost use Rattle.tor_plan.specs.Forest.{trees_from};
 ghost use Rattle.tor_plan.specs.PlanFacts.{IsPlan};
 ghost use Rattle.tor_engine.specs.Sums.{AreSumsOfPlan, lists_of};
+ghost use Rattle.tor_engine.specs.declared.unit_sums.UnitSums.{UnitSums};
 ghost use Rattle.tor_engine.specs.steps.Hashes.{IsCut, nodes_of_file};
+ghost use Rattle.tor_engine.specs.steps.Roots.{roots_of_trees};
 ghost use Rattle.tor_engine.specs.steps.Run.{AreSumsOfUnits, node_in};
 
-use crate::joined::{layer_of_units, pieces_of_units, root_of_units};
+use crate::joined::{layer_of_units, pieces_of_units};
 use crate::unit_sums::{UnitSums, level_of};
 use std::alloc::{AllocError, Global};
 use tor_merkle::{BLOCK_LENGTH, Hash};
@@ -32,13 +35,15 @@ pub struct Sums {
     pub pieces: Vec<u8>,
 }
 
-/// What the files of a plan sum up to, from what all its units do.
+/// What the files of a plan sum up to, from what all its units do, and the roots of the trees over them.
 pub(crate) fn sums_of_units(
     alloc: Global,
     plan: &Plan,
     units: &[UnitSums],
+    roots: &[Option<Hash>],
 ) -> Result<Sums, AllocError>
-    requires { IsPlan plan.now }
+    requires planned { IsPlan plan.now }
+    requires roots { roots.now ≡ roots_of_trees (map (λ unit. unit.hash) units.now) plan.now.trees }
     ensures { (contents : List (List ℕ)) → map length contents ≡ plan.now.lengths →
         AreSumsOfUnits plan.now contents plan.now.units (map node_in units.now)
         (flat_map (λ unit. unit.pieces.items) units.now) →
@@ -47,7 +52,13 @@ pub(crate) fn sums_of_units(
     let pieces = pieces_of_units(alloc, units)?;
     let lengths = Vec::from_slice(alloc, plan.lengths())?;
     let (roots, layers) = if plan.kind().has_v2() {
-        trees_of_files(alloc, &lengths, level_of(&plan.forest().trees), units)?
+        trees_of_files(
+            alloc,
+            &lengths,
+            level_of(&plan.forest().trees),
+            units,
+            roots,
+        )?
     } else {
         no_trees(alloc, lengths.len())?
     };
@@ -73,31 +84,34 @@ fn no_trees(alloc: Global, count: usize) -> Result<(Vec<Option<Hash>>, Vec<Vec<H
     Ok((roots, layers))
 }
 
-/// The root and the layer of each file, from what the units of all files sum up to.
+/// The root and the layer of each file, from what the units of all files sum up to, and the roots of the trees over
+/// them.
 fn trees_of_files(
     alloc: Global,
     lengths: &[u64],
     level: Option<u32>,
     units: &[UnitSums],
+    tops: &[Option<Hash>],
 ) -> Result<(Vec<Option<Hash>>, Vec<Vec<Hash>>), AllocError>
     requires low { ForSome level (λ k. k ≤ 36) }
     requires small { All (λ size. size ≤ MAX_LENGTH) lengths.now }
     ensures { (piece_length size : ℕ) (contents : List (List ℕ)) → map length contents ≡ lengths.now →
         IsCut piece_length size level lengths.now →
         map node_in units.now ≡ flat_map (nodes_of_file piece_length size level) contents →
+        tops.now ≡ roots_of_trees (map (λ unit. unit.hash) units.now) (trees_from size 0 lengths.now) →
         IfOk result (λ trees. (trees.0.items ≡ map root_of contents)
         × (lists_of trees.1.items ≡ map (λ content. piece_layer content piece_length) contents)) }
 {
     let mut roots = Vec::with_capacity(alloc, lengths.len())?;
     let mut layers = Vec::with_capacity(alloc, lengths.len())?;
-    let mut rest = units;
+    let (mut rest, mut tops) = (units, tops);
     'files: for size in lengths {
         let count = count_of_units(*size, level) as usize;
         let (own, later) = rest.split_at(count.min(rest.len()));
-        let (root, layer) = tree_of_file(alloc, level, own)?;
+        let (root, more) = root_of_file(own, tops);
         roots.push(root)?;
-        layers.push(layer)?;
-        rest = later;
+        layers.push(layer_of_units(alloc, own)?)?;
+        (rest, tops) = (later, more);
     }
     Ok((roots, layers))
 }
@@ -116,24 +130,20 @@ fn count_of_units(size: u64, level: Option<u32>) -> u64
     }
 }
 
-/// The root and the layer of a file, from what its units sum up to.
-fn tree_of_file(
-    alloc: Global,
-    level: Option<u32>,
+/// The root of a file: that of its one unit, or of the first of these trees; and the trees that are left.
+fn root_of_file<'a>(
     units: &[UnitSums],
-) -> Result<(Option<Hash>, Vec<Hash>), AllocError>
-    requires low { ForSome level (λ k. (k ≤ 36) × (length units.now ≤ 2 ^ (36 - k))) }
-    ensures { (piece_length size : ℕ) (content : List ℕ) → IsCut piece_length size level (length content ∷ []) →
-        map node_in units.now ≡ nodes_of_file piece_length size level content →
-        IfOk result (λ tree. (tree.0 ≡ root_of content) × (tree.1.items ≡ piece_layer content piece_length)) }
+    tops: &'a [Option<Hash>],
+) -> (Option<Hash>, &'a [Option<Hash>])
+    ensures none { length units.now ≡ 0 → (result.0 ≡ None) × (result.1.now ≡ tops.now) }
+    ensures one { (d : UnitSums) → length units.now ≡ 1 →
+        (result.0 ≡ Some (slice_index_or units.now 0 d).hash) × (result.1.now ≡ tops.now) }
+    ensures several { (top : Option (List ℕ)) (more : List (Option (List ℕ))) → 1 < length units.now →
+        tops.now ≡ top ∷ more → (result.0 ≡ top) × (result.1.now ≡ more) }
 {
-    let Some(first) = units.first() else {
-        return Ok((None, Vec::new(alloc)));
-    };
-    let layer = layer_of_units(alloc, units)?;
-    let root = match level {
-        Some(level) if units.len() > 1 => root_of_units(units, level),
-        _ => first.hash,
-    };
-    Ok((Some(root), layer))
+    match (units.first(), tops.split_first()) {
+        (Some(_), Some((top, more))) if units.len() > 1 => (*top, more),
+        (Some(one), _) => (Some(one.hash), tops),
+        (None, _) => (None, tops),
+    }
 }

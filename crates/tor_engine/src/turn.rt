@@ -1,4 +1,4 @@
-//! Units hashed one after the other by one worker, or shared among several.
+//! Units shared among workers beforehand, each of whom takes its own one after the other.
 ghost use Rattle.std.specs.Prelude.{◌≡◌, ◌+◌, ◌<◌, ◌^◌, ◌++◌, None, All, IfErr, IfOk, MatchResult, length};
 ghost use Rattle.tor_plan.specs.declared.units.PlanUnit.{PlanUnit};
 ghost use Rattle.tor_source.specs.Source.{SourceFacts};
@@ -7,21 +7,19 @@ ghost use Rattle.tor_engine.specs.steps.Each.{SumUpEach};
 ghost use Rattle.tor_engine.specs.steps.Failing.{AnswersUnits};
 
 use crate::errors::EngineError;
-use crate::failure::{Failure, least};
-use crate::halves::{Share, by_halves};
-use crate::how::How;
+use crate::failure::{Failure, both};
+use crate::halves::{Divisible, by_halves};
 use crate::joined::append;
-use crate::work::UnitWork;
+use crate::unit_work::UnitWork;
 use std::thread::Threads;
 use tor_plan::PlanUnit;
 
-/// What each of the units of a plan sums up to. The first fault in the order of the units is answered, whatever the
-/// `How`.
-pub(crate) fn hash_units<W: UnitWork + Sync, R: Threads + Sync>(
+/// What each of the units sums up to, by so many workers. The first fault in the order of the units is answered.
+pub(crate) fn hash_by_halves<W: UnitWork + Sync, R: Threads + Sync>(
     rt: &R,
     work: &W,
     units: &[PlanUnit],
-    how: How,
+    workers: u32,
 ) -> Result<Vec<W::Sums>, EngineError<W::Fault>>
 where
     W::Sums: Send,
@@ -34,10 +32,6 @@ where
         (IsFault (first_of (W.fault work.now facts) units.now)) }
     ensures gave { IfErr result (W.gave work.now) }
 {
-    let workers = match how {
-        How::One => 1,
-        How::Halves(workers) => workers,
-    };
     let share = UnitShare {
         work,
         units,
@@ -58,7 +52,7 @@ struct UnitShare<'a, W> {
     first: u64,
 }
 
-impl<'a, W: UnitWork + Sync> Share for UnitShare<'a, W>
+impl<'a, W: UnitWork + Sync> Divisible for UnitShare<'a, W>
 where
     W::Sums: Send,
     W::Fault: Send,
@@ -104,14 +98,12 @@ where
         one: Result<Vec<W::Sums>, Failure<W::Fault>>,
         other: Result<Vec<W::Sums>, Failure<W::Fault>>,
     ) -> Result<Vec<W::Sums>, Failure<W::Fault>> {
-        match (one, other) {
-            (Ok(mut sums), Ok(next)) => {
+        match both(one, other) {
+            Ok((mut sums, next)) => {
                 append(&mut sums, next)?;
                 Ok(sums)
             }
-            (Ok(_), Err(failure)) => Err(failure),
-            (Err(failure), Ok(_)) => Err(failure),
-            (Err(failure), Err(later)) => Err(least(failure, later)),
+            Err(failure) => Err(failure),
         }
     }
 }
@@ -131,11 +123,12 @@ fn hash_in_turn<W: UnitWork>(
     let mut worker = work.begin()?;
     let mut sums = Vec::new(work.alloc());
     'units: for (index, unit) in units.iter().enumerate() {
-        let next = match work.hash(unit, &mut worker) {
+        let number = first + index as u64;
+        let next = match work.hash(number, unit, &mut worker) {
             Ok(next) => next,
             Err(error) => {
                 return Err(Failure {
-                    unit: first + index as u64,
+                    unit: number,
                     error,
                 });
             }

@@ -10,7 +10,7 @@ ghost use Rattle.tor_engine.specs.Fault.{IsFault, unit_fault};
 ghost use Rattle.tor_engine.specs.steps.Given.{IsGivenRead};
 ghost use Rattle.tor_engine.specs.steps.Hashes.{level_in, level_of, node_over};
 ghost use Rattle.tor_engine.specs.steps.Reads.{HasParts};
-ghost use Rattle.tor_engine.specs.steps.Run.{HasRoomAt, IsUnitOf, IsUnitToSum, SumsUpUnit, node_in};
+ghost use Rattle.tor_engine.specs.steps.Run.{HasRoomAt, IsUnitOf, IsUnitToSum, SumsUpUnit, bare_node, node_in};
 ghost use Rattle.tor_engine.specs.steps.Worker.{IsFresh};
 
 use crate::errors::EngineError;
@@ -25,21 +25,26 @@ use tor_plan::{Plan, PlanUnit, Run};
 
 /// What one unit sums up to.
 #[derive(Debug, Drop)]
-pub(crate) struct UnitSums {
-    /// The root of its file where it is alone there, else the node of the file's tree that covers it; zeros in V1.
-    pub(crate) hash: Hash,
-    /// What it has of its file's layer; none in V1.
-    pub(crate) layer: Vec<Hash>,
-    /// The joined SHA-1 of each piece; none in V2.
-    pub(crate) pieces: Vec<u8>,
+pub struct UnitSums {
+    /// Its number, from 0.
+    pub unit: u64,
+    /// The root of its file where it is alone there (BEP 52, "pieces root"), else the node of the file's tree that
+    /// covers it, over zero leaves past the end; zeros in V1.
+    pub hash: Hash,
+    /// What it has of its file's layer, in order (BEP 52, "piece layers"); none in V1.
+    pub layer: Vec<Hash>,
+    /// The joined SHA-1 of each piece, 20 bytes a piece (BEP 3, "info dictionary": `pieces`); none in V2.
+    pub pieces: Vec<u8>,
 }
 
 impl UnitSums {
-    /// From what its bytes hash to, and its level, where it is not alone in its file.
-    pub(crate) fn new(alloc: Global, hashed: Hashed, level: Option<u32>) -> UnitSums
+    /// From its number, what its bytes hash to, and its level, where it is not alone in its file.
+    pub(crate) fn new(alloc: Global, unit: u64, hashed: Hashed, level: Option<u32>) -> UnitSums
         requires { ForSome hashed.tree (λ tree. ForSome level (HasRoomAt tree.piece_length (length tree.bytes))) }
+        ensures unit { result.unit ≡ unit }
         ensures node { ForSome hashed.tree (λ tree. tree.bytes ≢ [] →
             node_in result ≡ node_over tree.piece_length level tree.bytes) }
+        ensures bare { hashed.tree ≡ None → node_in result ≡ bare_node }
         ensures pieces { result.pieces ≡ hashed.pieces }
     {
         let Hashed { tree, pieces } = hashed;
@@ -52,6 +57,7 @@ impl UnitSums {
             None => ([0; 32], Vec::new(alloc)),
         };
         UnitSums {
+            unit,
             hash,
             layer,
             pieces,
@@ -121,6 +127,7 @@ pub(crate) fn sum_unit<S: FileBytes>(
     alloc: Global,
     source: &S,
     plan: &Plan,
+    number: u64,
     unit: &PlanUnit,
     sums: &mut WorkerSums,
 ) -> Result<UnitSums, EngineError<S::Fault>>
@@ -128,6 +135,7 @@ pub(crate) fn sum_unit<S: FileBytes>(
     requires unit { IsUnitToSum plan.now unit.now }
     requires fresh { IsFresh plan.now sums.old }
     ensures fresh { IfOk result (λ _. IsFresh plan.now sums.new) }
+    ensures number { IfOk result (λ summed. summed.unit ≡ number) }
     ensures summed { IfOk result (SumsUpUnit (S.is_steady source.now) plan.now unit.now) }
     ensures fault { (facts : SourceFacts S.Fault) → S.is_steady source.now facts → HasParts facts unit.now.parts →
         MatchResult result (λ _. unit_fault facts unit.now ≡ None) (IsFault (unit_fault facts unit.now)) }
@@ -138,5 +146,5 @@ pub(crate) fn sum_unit<S: FileBytes>(
         Ok(hashed) => hashed,
         Err(error) => return Err(error),
     };
-    Ok(UnitSums::new(alloc, hashed, level_in(plan, unit)))
+    Ok(UnitSums::new(alloc, number, hashed, level_in(plan, unit)))
 }

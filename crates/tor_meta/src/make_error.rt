@@ -42,7 +42,7 @@ pub enum MakeError<F> {
     Missing {
         file: u64,
     },
-    /// Memory or a thread was refused.
+    /// Memory was refused.
     Resources,
     /// A stream had more than 2^50 bytes.
     StreamTooLong {

@@ -23,7 +23,7 @@ pub enum RecheckError<F> {
     Changed {
         file: u64,
     },
-    /// Memory or a thread was refused.
+    /// Memory was refused.
     #[error("C3 Resources")]
     Resources,
     /// No worker, or more than 64.

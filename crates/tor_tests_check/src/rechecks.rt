@@ -12,7 +12,15 @@ use tor_recheck::{Bits, recheck};
 use tor_source::{FailSource, MemSource, Source};
 
 /// Each way to share the units.
-const EACH_HOW: [How; 4] = [How::One, How::Halves(1), How::Halves(2), How::Halves(64)];
+const EACH_HOW: [How; 7] = [
+    How::One,
+    How::Halves(1),
+    How::Halves(2),
+    How::Halves(64),
+    How::Board(1),
+    How::Board(2),
+    How::Board(64),
+];
 
 /// A torrent in parts, the files that are there, and which pieces are there and right: their bits, and the bitfield.
 type Row = (
@@ -322,7 +330,13 @@ fn answer_of_both<S: Source, R: AllocGlobal + Threads + Sync>(
 }
 
 /// Numbers of workers that are too few and too many.
-const OUTSIDE: [How; 3] = [How::Halves(0), How::Halves(65), How::Halves(u32::MAX)];
+const OUTSIDE: [How; 5] = [
+    How::Halves(0),
+    How::Halves(65),
+    How::Halves(u32::MAX),
+    How::Board(0),
+    How::Board(65),
+];
 
 /// Whether the workers are refused where the length of a file fails too.
 fn are_workers_refused<R: AllocGlobal + Threads + Sync>(rt: &R, how: How) -> Result<bool, Fail> {

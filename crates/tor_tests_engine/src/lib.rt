@@ -4,12 +4,14 @@
 //! - `memory.rt`: what sources in memory answer.
 //! - `folders.rt`: scans and reads of real folders; `systems.rt`: of a system that has what no test can make.
 //! - `faults.rt`: which fault a hash of files answers; `reads.rt`: what is asked of a source; `workers.rt`: how many
-//!   workers read at once.
+//!   workers read at once; `board.rt`: workers that share a board.
 //! - `sums.rt`: roots, layers and pieces of files; `pieces.rt`: hashes of single pieces.
 //!
 //! `shared.rt` has paths, contents, plans, and how files are hashed.
 #![tactic(auto)]
 
+#[cfg(test)]
+mod board;
 #[cfg(test)]
 mod faults;
 #[cfg(test)]

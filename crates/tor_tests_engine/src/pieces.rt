@@ -1,7 +1,7 @@
 //! The hashes of the pieces of `ab` and `c`; the hashes are of Python's hashlib.
 
 use crate::faults::Changing;
-use crate::shared::plan_of;
+use crate::shared::{EACH_HOW, plan_of};
 use std::alloc::{AllocError, Global};
 use std::process::Abort;
 use std::sync::atomic::AtomicU64;
@@ -116,7 +116,7 @@ fn are_hashes<R: AllocGlobal + Abort + Threads + Sync>(
     row: &Row,
     how: How,
 ) -> Result<bool, Fail> {
-    if let How::Halves(workers) = how {
+    if let How::Halves(workers) | How::Board(workers) = how {
         assert!(rt; workers >= 1 && workers <= 64);
     }
     let plan = plan_of(rt, &[2, 1], row.0, 16_384, 16)?;
@@ -148,7 +148,7 @@ fn first_wrong<R: AllocGlobal + Abort + Threads + Sync>(
 
 #[test]
 fn hashes_the_pieces_that_are_there(rt: HostRuntime) -> Result<(), Fail> {
-    for how in [How::One, How::Halves(1), How::Halves(2), How::Halves(64)] {
+    for how in EACH_HOW {
         assert_eq!(rt; first_wrong(&rt, how)?, None);
     }
     Ok(())
@@ -178,7 +178,7 @@ fn is_changed<R: AllocGlobal + Abort + Threads + Sync>(
     source: &Changing,
     how: How,
 ) -> Result<bool, Fail> {
-    if let How::Halves(workers) = how {
+    if let How::Halves(workers) | How::Board(workers) = how {
         assert!(rt; workers >= 1 && workers <= 64);
     }
     let lengths = if source.file == 0 { [3, 0] } else { [0, 3] };

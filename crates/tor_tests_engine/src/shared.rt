@@ -10,7 +10,15 @@ use tor_source::{MemSource, Source};
 use tor_tree::{FileList, FilePath, Kind, Name};
 
 /// Each way to share the units.
-pub(crate) const EACH_HOW: [How; 4] = [How::One, How::Halves(1), How::Halves(2), How::Halves(64)];
+pub(crate) const EACH_HOW: [How; 7] = [
+    How::One,
+    How::Halves(1),
+    How::Halves(2),
+    How::Halves(64),
+    How::Board(1),
+    How::Board(2),
+    How::Board(64),
+];
 
 pub(crate) const EACH_KIND: [Kind; 3] = [Kind::V1, Kind::V2, Kind::Hybrid];
 
@@ -78,7 +86,7 @@ pub(crate) fn hash_by<S: Source, R: AllocGlobal + Abort + Threads + Sync>(
     plan: &Plan,
     how: How,
 ) -> Result<Sums, EngineError<S::Fault>> {
-    if let How::Halves(workers) = how {
+    if let How::Halves(workers) | How::Board(workers) = how {
         assert!(rt; workers >= 1 && workers <= 64);
     }
     hash_all(rt, rt.alloc(), source, plan, how)

@@ -49,13 +49,16 @@ impl Source for Crowded {
 }
 
 /// How the units are shared, and by how many workers.
-const SHARED: [(How, u64); 6] = [
+const SHARED: [(How, u64); 9] = [
     (How::One, 1),
     (How::Halves(1), 1),
     (How::Halves(2), 2),
     (How::Halves(3), 3),
     (How::Halves(4), 4),
     (How::Halves(5), 5),
+    (How::Board(1), 1),
+    (How::Board(2), 2),
+    (How::Board(5), 5),
 ];
 
 /// Whether no more than so many read a file of 16 units at once.
@@ -134,13 +137,17 @@ const FEW: u64 = 1000;
 const MANY: u64 = 10_000_000;
 
 /// The workers, how many reads wait for one another, how often each looks for the others, and the fault.
-const MEETINGS: [(How, u64, u64, &str); 6] = [
+const MEETINGS: [(How, u64, u64, &str); 10] = [
     (How::One, 2, FEW, ALONE),
     (How::Halves(1), 2, FEW, ALONE),
     (How::Halves(2), 3, FEW, ALONE),
     (How::Halves(2), 2, MANY, "none"),
     (How::Halves(3), 3, MANY, "none"),
     (How::Halves(4), 4, MANY, "none"),
+    (How::Board(1), 2, FEW, ALONE),
+    (How::Board(2), 3, FEW, ALONE),
+    (How::Board(2), 2, MANY, "none"),
+    (How::Board(4), 4, MANY, "none"),
 ];
 
 /// A file of four units whose reads meet.
@@ -177,7 +184,7 @@ fn is_fault_of_pieces<R: AllocGlobal + Abort + Threads + Sync>(
     how: How,
     wanted: &str,
 ) -> Result<bool, AllocError> {
-    if let How::Halves(workers) = how {
+    if let How::Halves(workers) | How::Board(workers) = how {
         assert!(rt; workers >= 1 && workers <= 64);
     }
     match hash_pieces(rt, rt.alloc(), source, plan, how) {

@@ -12,7 +12,15 @@ use tor_source::{FailSource, MemSource, ShortSource, Source};
 use tor_tree::{FilePath, Kind, Name};
 
 /// Each way to share the units.
-const EACH_HOW: [How; 4] = [How::One, How::Halves(1), How::Halves(2), How::Halves(64)];
+const EACH_HOW: [How; 7] = [
+    How::One,
+    How::Halves(1),
+    How::Halves(2),
+    How::Halves(64),
+    How::Board(1),
+    How::Board(2),
+    How::Board(64),
+];
 
 const EACH_KIND: [Kind; 3] = [Kind::V1, Kind::V2, Kind::Hybrid];
 
@@ -210,10 +218,12 @@ const V2_OF_A: Shape = (Kind::V2, "a", true);
 /// The files, the shape, the piece length, the span and the workers, and what is answered.
 type Refused = (&'static str, Shape, (u64, u32, How), &'static str);
 
-const REFUSED: [Refused; 10] = [
+const REFUSED: [Refused; 12] = [
     ("a!", V2, (16383, 3, How::Halves(0)), "PieceLength"),
     ("a!", V2, (16384, 3, How::Halves(0)), "Workers"),
     ("a!", V2, (16384, 3, How::Halves(65)), "Workers"),
+    ("a!", V2, (16384, 3, How::Board(0)), "Workers"),
+    ("a!", V2, (16384, 3, How::Board(65)), "Workers"),
     ("a!", V2, (16384, 3, How::Halves(64)), "Span"),
     ("a!", V2, (16384, 2048, How::One), "Span"),
     ("b!", V2_OF_A, (16384, 1, How::One), "SingleShape"),

@@ -15,10 +15,12 @@ use tor_tree::Kind;
 #[derive(Debug, Drop)]
 struct Alone;
 
-/// A file of 64 KiB, whose first read waits until a second one has begun: one of another worker.
+/// A file of 64 KiB, whose first read waits until so many have begun, itself among them: the others are of another
+/// worker.
 #[derive(Drop)]
 struct Meeting {
-    /// How often the first read looks for another.
+    reads: u64,
+    /// How often the first read looks for the others.
     turns: u64,
     begun: AtomicU64,
 }
@@ -43,7 +45,7 @@ impl Source for Meeting {
             return Ok(buffer.len());
         }
         for _ in 0..self.turns {
-            if self.begun.load(SeqCst) > 1 {
+            if self.begun.load(SeqCst) >= self.reads {
                 return Ok(buffer.len());
             }
             yield_now();
@@ -52,17 +54,27 @@ impl Source for Meeting {
     }
 }
 
-/// The workers, how often the first read looks for another, and whether it finds one.
-const MEETINGS: [(How, u64, bool); 3] = [
-    (How::One, 1000, false),
-    (How::Halves(1), 1000, false),
-    (How::Halves(2), 10_000_000, true),
+/// The workers, how many of the four reads have to begin, how often the first looks for the others, and whether they
+/// come. Where the units are dealt out beforehand, one waits behind the first.
+const MEETINGS: [(How, u64, u64, bool); 6] = [
+    (How::One, 2, 1000, false),
+    (How::Halves(1), 2, 1000, false),
+    (How::Halves(2), 2, 10_000_000, true),
+    (How::Halves(2), 4, 1000, false),
+    (How::Board(2), 2, 10_000_000, true),
+    (How::Board(2), 4, 10_000_000, true),
 ];
 
-fn meet<R: AllocGlobal + Threads + Sync>(rt: &R, how: How, turns: u64) -> Result<bool, Fail> {
+fn meet<R: AllocGlobal + Threads + Sync>(
+    rt: &R,
+    how: How,
+    reads: u64,
+    turns: u64,
+) -> Result<bool, Fail> {
     let order = order(rt.alloc(), Kind::V2, "a", true, how)?;
     let paths = only_path(rt.alloc(), "a")?;
     let source = Meeting {
+        reads,
         turns,
         begun: AtomicU64::new(0),
     };
@@ -71,8 +83,8 @@ fn meet<R: AllocGlobal + Threads + Sync>(rt: &R, how: How, turns: u64) -> Result
 
 #[test]
 fn workers_of_an_order_meet(rt: HostRuntime) -> Result<(), Fail> {
-    for (how, turns, wanted) in MEETINGS {
-        assert!(rt; meet(&rt, how, turns)? == wanted);
+    for (how, reads, turns, wanted) in MEETINGS {
+        assert!(rt; meet(&rt, how, reads, turns)? == wanted);
     }
     Ok(())
 }

@@ -1,5 +1,6 @@
 -- The first of numbered units that fails. Only private clauses cite these.
-use Rattle.std.specs.Prelude.{◌≡◌, ◌⊎◌, ℕ, List, Option, None, Result, IfErr, IfOk, MatchResult, Some, option_map}
+use Rattle.std.specs.Prelude.{◌≡◌, ◌⊎◌, ℕ, List, Option, None, Result, IfErr, IfOk, MatchResult, Some, option_map, min}
+use Rattle.std.specs.Prelude.{Ok, Err, IsErrAnd}
 use Rattle.std.specs.List.{enumerate_from}
 use Rattle.tor_plan.specs.declared.units.PlanUnit.{PlanUnit}
 use Rattle.tor_source.specs.Source.{SourceFacts}
@@ -30,3 +31,16 @@ pub record AnswersUnits {F A : Type 0} (sums_up : List PlanUnit → A → Type 0
       MatchResult result (λ _. first_failure (fault facts) first units ≡ None)
       (IsFailure (first_failure (fault facts) first units))
   pub gave : IfErr result (λ failure. may_be failure.error)
+
+-- of two failures: want of resources before all, else that of the lesser unit
+pub record IsLesser {F : Type 0} (one other least : Failure F) : Type 0 where
+  pub either : (least ≡ one) ⊎ (least ≡ other)
+  pub resources : (one.error ≡ Resources) ⊎ (other.error ≡ Resources) → least.error ≡ Resources
+  pub lesser : (least.error ≡ Resources) ⊎ (least.unit ≡ min one.unit other.unit)
+
+-- what two workers answer together: both answers, or why one stopped
+abbrev pub AreBoth : {F A : Type 0} → Result A (Failure F) → Result A (Failure F) → Result (A × A) (Failure F) → Type 0
+AreBoth (Ok one) (Ok other) result = result ≡ Ok (one, other)
+AreBoth (Ok one) (Err failure) result = result ≡ Err failure
+AreBoth (Err failure) (Ok other) result = result ≡ Err failure
+AreBoth (Err failure) (Err later) result = IsErrAnd result (IsLesser failure later)

@@ -1,6 +1,7 @@
--- What an answer may come from where only lengths are asked, or only bytes are read. Only private clauses cite these.
+-- What an answer may come from where only lengths are asked, or pieces are read. Only private clauses cite these.
 use Rattle.std.specs.Prelude.{◌≢◌, ◌<◌, ℕ, List, length, map, slice_index_or, unwrap_or, Option, None}
 use Rattle.tor_engine.specs.Given.{Departs}
+pub use Rattle.tor_engine.specs.Given.{IsGivenRead}
 use Rattle.tor_engine.specs.declared.errors.EngineError.{EngineError}
 use Rattle.tor_engine.specs.declared.errors.EngineError.TheVariants.{Read, Changed, Missing, Resources, StreamTooLong}
 
@@ -15,16 +16,6 @@ abbrev pub IsGivenAgain : {F : Type 0} → (ℕ → Option ℕ → F → Type 0)
 IsGivenAgain gave told sizes (Changed file) =
     ((other : Option ℕ) × told file other × (other ≢ slice_index_or sizes file None)) × (file < length sizes)
 IsGivenAgain gave told sizes error = IsGivenLength gave (length sizes) error
-
--- where bytes are read of files of these lengths: the source gave the fault, or a read of one of their bytes gave none
-abbrev pub IsGivenRead : {F : Type 0} → (ℕ → Option ℕ → F → Type 0) → (ℕ → ℕ → Type 0) → List ℕ
-    → EngineError F → Type 0
-IsGivenRead gave ended lengths (Read file start fault) = gave file start fault × (file < length lengths)
-IsGivenRead gave ended lengths (Changed file) =
-    ((start : ℕ) × ended file start × (start < slice_index_or lengths file 0)) × (file < length lengths)
-IsGivenRead gave ended lengths (Missing file) = ⊥
-IsGivenRead gave ended lengths Resources = Unit {0}
-IsGivenRead gave ended lengths (StreamTooLong file) = ⊥
 
 -- the sizes as lengths, that of a missing file is 0
 abbrev pub lengths_of_sizes : List (Option ℕ) → List ℕ

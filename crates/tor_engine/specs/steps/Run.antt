@@ -1,5 +1,5 @@
 -- What units sum up to. Only private clauses cite these.
-use Rattle.std.specs.Prelude.{◌≡◌, ℕ, ◌*◌, ◌^◌, ◌≤◌, true, List, [], ◌∷◌, All, length, map}
+use Rattle.std.specs.Prelude.{◌≡◌, ℕ, ◌*◌, ◌^◌, ◌≤◌, true, List, [], ◌∷◌, All, false, length, map}
 use Rattle.std.specs.Prelude.{if◌then◌else◌}
 use Rattle.std.specs.List.{flat_map}
 use Rattle.std.specs.Option.{ForSome}
@@ -17,6 +17,7 @@ use Rattle.tor_v1.specs.Piece.{piece_sums}
 use Rattle.tor_engine.specs.declared.hasher.Hashed.{Hashed}
 use Rattle.tor_engine.specs.declared.unit_sums.UnitSums.{UnitSums}
 use Rattle.tor_engine.specs.Hasher.{AreHashesOf}
+pub use Rattle.tor_engine.specs.Shares.{bare_node, node_in}
 use Rattle.tor_engine.specs.steps.Hashes.{Node, bytes_of_part, level_of, nodes_of_unit}
 use Rattle.tor_engine.specs.steps.Reads.{AreReads, HaveRead, PartRead}
 
@@ -34,6 +35,7 @@ pub record AreSumsOfUnits (plan : PlanFacts) (contents : List (List ℕ)) (units
     (given : List Node) (sums : List ℕ) : Type 0 where
   pub nodes : has_v2 plan.kind ≡ true
       → given ≡ flat_map (nodes_of_unit plan.piece_length (level_of plan.trees) contents) units
+  pub bare : has_v2 plan.kind ≡ false → given ≡ map (λ _. bare_node) units
   pub pieces : sums ≡ sums_of_units plan.kind plan.piece_length contents units
 
 -- a unit was read, and hashes to this, as it does in any contents that have what was read
@@ -52,9 +54,6 @@ pub record HashesUnits {F : Type 0} (is_steady : SourceFacts F → Type 0) (plan
   pub are : AreReads is_steady plan (parts_of units) reads
   pub sums : (contents : List (List ℕ)) → map length contents ≡ plan.lengths → HaveRead contents reads
       → AreSumsOfUnits plan contents units nodes pieces
-
-abbrev pub node_in : UnitSums → Node
-node_in sums = (sums.hash, sums.layer.items)
 
 -- so is one unit
 abbrev pub SumsUpUnit : {F : Type 0} → (SourceFacts F → Type 0) → PlanFacts → PlanUnit → UnitSums → Type 0

@@ -1,9 +1,14 @@
 -- the units, and then the lengths again
-use Rattle.std.proofs.Common.{List, length, inl, inr, ap, subst, sym, ◌∙◌}
+use Rattle.std.proofs.Common.{List, length, map, inl, inr, ap, ap₂, subst, sym, ◌∙◌}
 use Rattle.std.specs.List.{All}
+use Rattle.tor_plan.specs.Forest.{AreRuns}
+use Rattle.tor_plan.specs.declared.forests.Run.{Run}
 use Rattle.tor_plan.specs.declared.units.PlanUnit.{PlanUnit}
+use Rattle.tor_plan.proofs.ProvedLaws.{trees_are_runs}
 use Rattle.tor_engine.specs.Contents.{contents_in}
 use Rattle.tor_engine.specs.Fault.{units_fault}
+use Rattle.tor_engine.specs.declared.unit_sums.UnitSums.{UnitSums}
+use Rattle.tor_engine.specs.steps.Roots.{roots_of_trees}
 use Rattle.tor_engine.specs.steps.Run.{IsUnitToSum}
 use Rattle.tor_engine.proofs.PlanFaults.{fault_of_plan}
 use Rattle.tor_engine.proofs.PlanLevels.{units_to_sum}
@@ -17,6 +22,12 @@ hash_units-requires-clause-units g c = λ κs lives.
     subst (λ (units : List PlanUnit). All (IsUnitToSum c.args.plan.now) units) (sym c.units-units.ensures.value)
     (units_to_sum c.args.plan.now c.units-units.ensures.planned)
 
+pub hash_units-requires-clause-runs : goal.hash_units-requires-clause-runs
+hash_units-requires-clause-runs g c = λ κs lives.
+    subst (λ (runs : List Run). AreRuns (length c.units-units.result.now) 0 runs) (sym c.forest.ensures.value)
+    (subst (λ (units : List PlanUnit). AreRuns (length units) 0 c.args.plan.now.trees) (sym c.units-units.ensures.value)
+    (trees_are_runs c.args.plan.now c.units-units.ensures.planned))
+
 pub returns-in-Err-clause-summed : goal.returns-in-Err-clause-summed
 returns-in-Err-clause-summed g c = λ facts steady none.
     let plan = c.args.plan.now in
@@ -27,7 +38,12 @@ returns-in-Err-clause-summed g c = λ facts steady none.
     ]
 
 pub sums_of_units-requires : goal.sums_of_units-requires
-sums_of_units-requires g c = c.units-units.ensures.planned
+sums_of_units-requires g c = record {
+  planned = c.units-units.ensures.planned;
+  roots = c.deref-2.ensures.value ∙ c.in-Ok.ensures.roots
+      ∙ ap₂ roots_of_trees (ap (map (λ (unit : UnitSums). unit.hash)) (sym c.deref.ensures.value))
+      c.forest.ensures.value;
+}
 
 pub returns-clause-summed : goal.returns-clause-summed
 returns-clause-summed g c = λ facts steady none.
@@ -35,7 +51,7 @@ returns-clause-summed g c = λ facts steady none.
     let fit = lengths_hold facts plan none in
     let contents = contents_in facts (length plan.lengths) in
     let summed = units_summed (g.S.Source.is_steady c.args.source.now) plan c.units-units.result.now plan.units
-    c.in-Ok.unit_sums.items c.deref.result.now c.units-units.ensures.value c.deref.ensures.value
+    c.in-Ok.hashed.0.items c.deref.result.now c.units-units.ensures.value c.deref.ensures.value
     c.in-Ok.ensures.summed in
     let hashed = summed.sums contents fit (summed.are.steady facts steady
     (plan_there facts plan fit c.units-units.ensures.planned)) in (
@@ -48,7 +64,7 @@ pub returns-clause-whole : goal.returns-clause-whole
 returns-clause-whole g c =
     let plan = c.args.plan.now in
     let summed = units_summed (g.S.Source.is_steady c.args.source.now) plan c.units-units.result.now plan.units
-    c.in-Ok.unit_sums.items c.deref.result.now c.units-units.ensures.value c.deref.ensures.value
+    c.in-Ok.hashed.0.items c.deref.result.now c.units-units.ensures.value c.deref.ensures.value
     c.in-Ok.ensures.summed in
     let there = contents_there (g.S.Source.is_steady c.args.source.now) plan summed.reads c.units-units.ensures.planned
     summed.are in

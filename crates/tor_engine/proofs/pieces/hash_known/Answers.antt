@@ -2,6 +2,8 @@
 use Rattle.std.proofs.Common.{List, length, inl, inr, ap, subst, sym, ◌∙◌}
 use Rattle.std.specs.List.{All, flat_map}
 use Rattle.tor_plan.specs.Pieces.{pieces_of_unit}
+use Rattle.tor_plan.specs.Forest.{AreRuns}
+use Rattle.tor_plan.specs.declared.forests.Run.{Run}
 use Rattle.tor_plan.specs.declared.units.PlanUnit.{PlanUnit}
 use Rattle.tor_engine.specs.Contents.{contents_in}
 use Rattle.tor_engine.specs.steps.Asked.{first_again_fault}
@@ -9,12 +11,18 @@ use Rattle.tor_engine.specs.steps.Pieces.{IsUnitToHash, first_unit_fault, unit_h
 use Rattle.tor_engine.proofs.AllPieces.{all_hashes, are_told, fault_after, hashes_counted, hashes_joined}
 use Rattle.tor_engine.proofs.AskedLengths.{again_same, same_again}
 use Rattle.tor_engine.proofs.PlanPieces.{units_to_hash}
+use Rattle.tor_engine.proofs.RunRoots.{no_runs}
 use Rattle.tor_engine.proofs.pieces.hash_known.Goals as goal
 
 pub hash_units-requires-clause-units : goal.hash_units-requires-clause-units
 hash_units-requires-clause-units g c = λ κs lives.
     subst (λ (units : List PlanUnit). All (IsUnitToHash c.args.plan.now) units) (sym c.units-units.ensures.value)
     (units_to_hash c.args.plan.now c.units-units.ensures.planned)
+
+pub hash_units-requires-clause-runs : goal.hash_units-requires-clause-runs
+hash_units-requires-clause-runs g c = λ κs lives.
+    subst (λ (runs : List Run). AreRuns (length c.units-units.result.now) 0 runs) (sym c.new.ensures.items)
+    (no_runs (length c.units-units.result.now))
 
 pub returns-in-Err-clause-hashed : goal.returns-in-Err-clause-hashed
 returns-in-Err-clause-hashed g c = λ facts steady told none.
@@ -33,7 +41,7 @@ returns-clause-hashed g c = λ facts steady told none.
     let contents = contents_in facts (length plan.lengths) in
     let sizes = c.args.known.now.lengths.items in
     let known = are_told facts sizes (length plan.lengths) told in (
-      c.in_ok-joined.ensures ∙ ap (flat_map (λ one. one.items)) c.deref-2.ensures.value
+      c.in_ok-joined.ensures ∙ ap (flat_map (λ one. one.hashes.items)) c.deref-2.ensures.value
           ∙ hashes_joined (g.S.Source.is_steady c.args.source.now) plan sizes facts steady known _ _
           c.in-Ok.ensures.summed
           ∙ ap (flat_map (unit_hashes plan contents)) c.units-units.ensures.value ∙ all_hashes plan contents,
@@ -44,7 +52,7 @@ returns-clause-hashed g c = λ facts steady told none.
 pub returns-clause-counted : goal.returns-clause-counted
 returns-clause-counted g c =
     let plan = c.args.plan.now in
-    ap length (c.in_ok-joined.ensures ∙ ap (flat_map (λ one. one.items)) c.deref-2.ensures.value)
+    ap length (c.in_ok-joined.ensures ∙ ap (flat_map (λ one. one.hashes.items)) c.deref-2.ensures.value)
     ∙ hashes_counted (g.S.Source.is_steady c.args.source.now) plan c.args.known.now.lengths.items _ _
     c.in-Ok.ensures.summed
     ∙ ap (λ units. length (flat_map (pieces_of_unit plan.piece_length) units)) c.units-units.ensures.value

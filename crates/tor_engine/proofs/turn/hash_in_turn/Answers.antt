@@ -7,7 +7,7 @@ use Rattle.tor_engine.specs.steps.Failing.{failure_of}
 use Rattle.tor_engine.proofs.Each.{each_next, each_none}
 use Rattle.tor_engine.proofs.Failing.{all_hold, fails_here, next_holds}
 use Rattle.tor_engine.proofs.FirstOf.{first_of_none}
-use Rattle.tor_engine.proofs.Shares.{refused}
+use Rattle.tor_engine.proofs.UnitShares.{refused}
 use Rattle.tor_engine.proofs.turn.hash_in_turn.Goals as goal
 
 pub returns-in_err-worker : goal.returns-in_err-worker

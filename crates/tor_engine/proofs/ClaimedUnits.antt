@@ -1,0 +1,196 @@
+-- Units that one worker claims at a board, one after the other.
+use Rattle.std.proofs.Common.{◌≡◌, ◌<◌, ◌≤◌, ℕ, ◌+◌, true, cond, List, [], ◌∷◌, ◌++◌, length, map, reverse}
+use Rattle.std.proofs.Common.{Option, None, Some, Result, Ok, Err, inl, inr, refl, ap, ap₂, sym, subst, ◌∙◌, arith, eqb}
+use Rattle.std.proofs.Common.{◌||◌, append-nil}
+use Rattle.std.proofs.lemmas.Bool.{cases_eq, eq-eqb, ne_eqb}
+use Rattle.std.proofs.lemmas.List.{length-append, length-map, map-append, reverse-append}
+use Rattle.std.proofs.lemmas.Map.Steps.{length-le_from_distinct_below}
+use Rattle.std.specs.List.{AllByRecursion, IsDistinct, list_any}
+use Rattle.tor_board.specs.Desks.{Desk, GivenUnit, after_give, failing, finished, holding, names, told, units_of}
+use Rattle.tor_board.specs.Weights.{only, times, total, without}
+use Rattle.tor_plan.specs.declared.units.PlanUnit.{PlanUnit}
+use Rattle.tor_source.specs.Source.{SourceFacts}
+use Rattle.tor_engine.specs.Fault.{IsFault}
+use Rattle.tor_engine.specs.declared.errors.EngineError.{EngineError}
+use Rattle.tor_engine.specs.declared.failure.Failure.{Failure}
+use Rattle.tor_engine.specs.declared.taken.Taken.{Taken}
+use Rattle.tor_engine.specs.steps.Taken.{GivesUnit, HasGiven, IsIdle, IsOfGiven, IsSumOf, TakesUnits}
+use Rattle.tor_engine.specs.steps.Taken.{pair_in, unit_at}
+use Rattle.tor_engine.proofs.Counts.{each_append, none_of}
+
+-- a unit that is given up, or given, is no more held
+let_go : (u : ℕ) (rest : List ℕ) → without u (u ∷ rest) ≡ rest
+let_go u rest = ap (λ b. cond b rest (u ∷ without u rest)) (eq-eqb u u refl)
+
+among_below : (n : ℕ) (xs : List ℕ) → AllByRecursion (λ x. x < n) xs → (q : ℕ) → list_any (eqb q) xs ≡ true → q < n
+among_below n [] below q is = cc
+among_below n (x ∷ xs) below q is = elim (cases_eq q x) [
+  | inl same ↦ omega (arith, same, below.0)
+  | inr other ↦
+      among_below n xs below.1 q (ap (λ b. b || list_any (eqb q) xs) (sym (ne_eqb q x other)) ∙ is)
+]
+
+-- the numbers of a list that are below a bound and differ from one another are at most as many
+few : (xs : List ℕ) (n : ℕ) → IsDistinct eqb xs → AllByRecursion (λ x. x < n) xs → length xs ≤ n
+few xs n distinct below = length-le_from_distinct_below xs n distinct (among_below n xs below)
+
+units_below : (n : ℕ) (news : List GivenUnit) → AllByRecursion (λ (g : GivenUnit). g.unit < n) news
+    → AllByRecursion (λ x. x < n) (units_of news)
+units_below n [] is = tt
+units_below n (g ∷ news) is = (is.0, units_below n news is.1)
+
+given_before : (u : ℕ) (news : List GivenUnit) → total (λ (g : GivenUnit). only u g.unit) news ≡ times u (units_of news)
+given_before u [] = refl
+given_before u (g ∷ news) = ap (λ n. only u g.unit + n) (given_before u news)
+
+total_append : (u : ℕ) (xs ys : List GivenUnit) → total (λ (g : GivenUnit). only u g.unit) (xs ++ ys)
+    ≡ total (λ (g : GivenUnit). only u g.unit) xs + total (λ (g : GivenUnit). only u g.unit) ys
+total_append u [] ys = omega arith
+total_append u (x ∷ xs) ys = omega (arith, total_append u xs ys)
+
+module _ {F A : Type 0} (number_in : A → ℕ) (hash_in : A → List ℕ) (sums_up : PlanUnit → A → Type 0)
+    (is_steady : SourceFacts F → Type 0) (fault : SourceFacts F → PlanUnit → Option (EngineError F))
+    (may_be : EngineError F → Type 0) (units : List PlanUnit) (old : Desk) where
+  abbrev pair : A → ℕ × List ℕ
+  pair = pair_in number_in hash_in
+
+  -- a worker took these so far, and holds none
+  pub record IsTaking (now : Desk) (taken : Taken A) : Type 0 where
+    pub news : List GivenUnit
+    pub has : HasGiven is_steady fault units old now news
+    pub none : now.failed ≡ []
+    pub of : IsOfGiven number_in hash_in sums_up units old now news taken
+    pub distinct : IsDistinct eqb (units_of news)
+
+  abbrev Takes : Desk → Result (Taken A) (Failure F) → Type 0
+  Takes new result = TakesUnits number_in hash_in sums_up is_steady fault may_be units old new result
+
+  pub takes_none : (taken : Taken A) → IsIdle old → taken.sums.items ≡ [] → taken.tops.items ≡ [] → IsTaking old taken
+  unfolding IsDistinct
+  takes_none taken idle no_sums no_tops = record {
+    news = [];
+    has = record { room = refl; held = idle.0; given = refl; within = tt; faultless = λ facts steady. tt };
+    none = idle.1;
+    of = record {
+      order = ap (λ xs. reverse (map pair xs)) (sym no_sums);
+      tops = ap (λ xs. reverse xs ++ old.tops) (sym no_tops);
+      summed = subst (AllByRecursion (IsSumOf number_in sums_up units)) (sym no_sums) tt;
+    };
+    distinct = tt;
+  }
+
+  -- they are at most as many as the units
+  pub taken_few : (now : Desk) (taken : Taken A) (is : IsTaking now taken)
+      → length now.given ≤ length units + length old.given
+  taken_few now taken is =
+      let some = few (units_of is.news) (length units) is.distinct (units_below (length units) is.news is.has.within) in
+      omega (
+        arith,
+        some,
+        length-map is.news (λ (g : GivenUnit). g.unit),
+        ap length is.has.given,
+        length-append is.news old.given,
+      )
+
+  module _ (now : Desk) (taken : Taken A) (is : IsTaking now taken) (number : ℕ) (there : number < length units)
+      (new_one : names number now ≡ 0) where
+    abbrev mid : Desk
+    mid = holding now number
+
+    fresh_number : times number (units_of is.news) ≡ 0
+    fresh_number =
+        let all = ap (total (λ (g : GivenUnit). only number g.unit)) is.has.given
+        ∙ total_append number is.news old.given in
+        omega (arith, new_one, all, given_before number is.news)
+
+    -- one more is given
+    module _ (new : Desk) (after : Taken A)
+        (gives : GivesUnit number_in hash_in sums_up units number mid new taken after)
+        (holds : (facts : SourceFacts F) → is_steady facts → fault facts (unit_at units number) ≡ None) where
+      abbrev given : GivenUnit
+      given = record { unit = number; hash = hash_in gives.one; joined = gives.joined }
+
+      of_new : {X : Type 0} (f : Desk → X)
+          → f new ≡ f (after_give mid number (hash_in gives.one) gives.joined gives.arrivals gives.top)
+      of_new f = ap f gives.given
+
+      pub takes_next : IsTaking new after
+      unfolding IsDistinct
+      takes_next = record {
+        news = given ∷ is.news;
+        has = record {
+          room = of_new (λ (d : Desk). d.room) ∙ is.has.room;
+          held = of_new (λ (d : Desk). d.held) ∙ let_go number now.held ∙ is.has.held;
+          given = of_new (λ (d : Desk). d.given) ∙ ap (λ xs. given ∷ xs) is.has.given;
+          within = (there, is.has.within);
+          faultless = λ facts steady. (holds facts steady, is.has.faultless facts steady);
+        };
+        none = of_new (λ (d : Desk). d.failed) ∙ is.none;
+        of = record {
+          order = ap₂ (λ p ps. p ∷ ps) (ap (λ n. (n, hash_in gives.one)) (sym gives.numbered)) is.of.order
+              ∙ sym (ap reverse (ap (map pair) gives.sums ∙ map-append pair taken.sums.items (gives.one ∷ []))
+              ∙ reverse-append (map pair taken.sums.items) (pair gives.one ∷ []));
+          tops = of_new (λ (d : Desk). d.tops) ∙ ap (λ ts. told gives.top ++ ts) is.of.tops
+              ∙ sym (ap (λ ts. reverse ts ++ old.tops) gives.tops ∙ tops_more gives.top);
+          summed = subst (AllByRecursion (IsSumOf number_in sums_up units)) (sym gives.sums)
+              (each_append (IsSumOf number_in sums_up units) taken.sums.items (gives.one ∷ []) is.of.summed (
+                (subst (λ (n : ℕ). (n < length units) × sums_up (unit_at units n) gives.one) (sym gives.numbered)
+                    (there, gives.summed)),
+                tt,
+              ));
+        };
+        distinct = (none_of number (units_of is.news) fresh_number, is.distinct);
+      }
+        where
+          tops_more : (top : Option (ℕ × List ℕ)) → reverse (taken.tops.items ++ told top) ++ old.tops
+              ≡ told top ++ (reverse taken.tops.items ++ old.tops)
+          tops_more None = ap (λ ts. reverse ts ++ old.tops) (append-nil taken.tops.items)
+          tops_more (Some top) = ap (λ ts. ts ++ old.tops) (reverse-append taken.tops.items (top ∷ []))
+
+    -- it fails
+    pub takes_failed : (new : Desk) (failure : Failure F) → new ≡ failing mid number → failure.unit ≡ number
+        → ((facts : SourceFacts F) → is_steady facts → IsFault (fault facts (unit_at units number)) failure.error)
+        → may_be failure.error → Takes new (Err failure)
+    takes_failed new failure is_new unit faults may = record {
+      news = is.news;
+      has = record {
+        room = ap (λ (d : Desk). d.room) is_new ∙ is.has.room;
+        held = ap (λ (d : Desk). d.held) is_new ∙ let_go number now.held ∙ is.has.held;
+        given = ap (λ (d : Desk). d.given) is_new ∙ is.has.given;
+        within = is.has.within;
+        faultless = is.has.faultless;
+      };
+      took = _;
+      failed = (
+        ap (λ (d : Desk). d.failed) is_new ∙ ap (λ xs. number ∷ xs) is.none ∙ ap (λ n. n ∷ []) (sym unit),
+        omega (arith, there, unit),
+      );
+      steady = λ facts steady.
+          subst (λ (n : ℕ). IsFault (fault facts (unit_at units n)) failure.error) (sym unit) (faults facts steady);
+      gave = may;
+    }
+
+  -- no unit is left, or some worker failed one
+  pub takes_all : (now new : Desk) (taken : Taken A) → IsTaking now taken → new ≡ finished now → Takes new (Ok taken)
+  takes_all now new taken is is_new = record {
+    news = is.news;
+    has = record {
+      room = ap (λ (d : Desk). d.room) is_new ∙ is.has.room;
+      held = ap (λ (d : Desk). d.held) is_new ∙ is.has.held;
+      given = ap (λ (d : Desk). d.given) is_new ∙ is.has.given;
+      within = is.has.within;
+      faultless = is.has.faultless;
+    };
+    took = (
+      ap (λ (d : Desk). d.done) is_new,
+      ap (λ (d : Desk). d.failed) is_new ∙ is.none,
+      record {
+        order = is.of.order;
+        tops = ap (λ (d : Desk). d.tops) is_new ∙ is.of.tops;
+        summed = is.of.summed;
+      },
+    );
+    failed = _;
+    steady = λ facts steady. _;
+    gave = _;
+  }

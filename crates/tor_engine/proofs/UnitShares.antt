@@ -1,0 +1,122 @@
+-- What workers answer for units, and for two halves of them.
+use Rattle.std.proofs.Common.{◌≡◌, ◌⊎◌, ℕ, ◌+◌, List, ◌++◌, length, min, Option, Result, Ok, Err, inl, inr}
+use Rattle.std.proofs.Common.{ap, refl, sym, subst, ◌∙◌}
+use Rattle.std.specs.Prelude.{IsErrAnd}
+use Rattle.tor_plan.specs.declared.units.PlanUnit.{PlanUnit}
+use Rattle.tor_source.specs.Source.{SourceFacts}
+use Rattle.tor_engine.specs.declared.errors.EngineError.{EngineError}
+use Rattle.tor_engine.specs.declared.errors.EngineError.TheVariants.{Resources}
+use Rattle.tor_engine.specs.declared.failure.Failure.{Failure}
+use Rattle.tor_engine.specs.steps.Failing.{AnswersUnits, AreBoth, IsFailure}
+use Rattle.tor_engine.proofs.Failing.{both_fail, first_fails, second_decides}
+
+module _ {W F A : Type 0} (sums_up : W → List PlanUnit → A → Type 0) (is_steady : W → SourceFacts F → Type 0)
+    (fault : W → SourceFacts F → PlanUnit → Option (EngineError F)) (may_be : W → EngineError F → Type 0) where
+  abbrev Answers : W → ℕ → List PlanUnit → Result A (Failure F) → Type 0
+  Answers work n units result =
+      AnswersUnits (sums_up work) (is_steady work) (fault work) (may_be work) n units result
+
+  -- resources were refused
+  pub refused : (work : W) (n : ℕ) (units : List PlanUnit) (result : Result A (Failure F))
+      → IsErrAnd result (λ failure. failure.error ≡ Resources) → may_be work Resources → Answers work n units result
+  refused work n units (Ok sums) is may = absurd is
+  refused work n units (Err failure) is may =
+      record { summed = _; steady = λ facts steady. inl is; gave = subst (may_be work) (sym is) may }
+
+  module _ (work first second : W) (n m k : ℕ) (all xs ys : List PlanUnit)
+      (halves : first ≡ work × second ≡ work × all ≡ xs ++ ys × m ≡ n × k ≡ n + length xs)
+      (r s : Result A (Failure F)) (is_one : Answers first m xs r) (is_other : Answers second k ys s) where
+    one : (answer : Result A (Failure F)) → r ≡ answer → Answers work n xs answer
+    one answer is =
+        subst (λ (w : W). Answers w n xs answer) halves.0
+        (subst (λ (i : ℕ). Answers first i xs answer) halves.3
+        (subst (λ (t : Result A (Failure F)). Answers first m xs t) is is_one))
+
+    other : (answer : Result A (Failure F)) → s ≡ answer → Answers work (n + length xs) ys answer
+    other answer is =
+        subst (λ (w : W). Answers w (n + length xs) ys answer) halves.1
+        (subst (λ (i : ℕ). Answers second i ys answer) halves.4
+        (subst (λ (t : Result A (Failure F)). Answers second k ys t) is is_other))
+
+    whole : (answer : Result A (Failure F)) → Answers work n (xs ++ ys) answer → Answers work n all answer
+    whole answer = subst (λ (units : List PlanUnit). Answers work n units answer) (sym halves.2)
+
+    pub both_answer : (sums next both : A) → r ≡ Ok sums → s ≡ Ok next
+        → (sums_up work xs sums → sums_up work ys next → sums_up work (xs ++ ys) both) → Answers work n all (Ok both)
+    both_answer sums next both is_sums is_next summed =
+        let before = one (Ok sums) is_sums in
+        let after = other (Ok next) is_next in
+        whole (Ok both) (record {
+          summed = summed before.summed after.summed;
+          steady = λ facts steady.
+              second_decides (fault work facts) n xs ys (before.steady facts steady) ∙ after.steady facts steady;
+          gave = _;
+        })
+
+    second_answers : (sums : A) (failure : Failure F) → r ≡ Ok sums → s ≡ Err failure
+        → Answers work n all (Err failure)
+    second_answers sums failure is_sums is_failure =
+        let before = one (Ok sums) is_sums in
+        let after = other (Err failure) is_failure in
+        whole (Err failure) (record {
+          summed = _;
+          steady = λ facts steady.
+              subst (λ (first : Option (Failure F)). IsFailure first failure)
+              (sym (second_decides (fault work facts) n xs ys (before.steady facts steady)))
+              (after.steady facts steady);
+          gave = after.gave;
+        })
+
+    first_answers : (failure : Failure F) → r ≡ Err failure → Answers work n all (Err failure)
+    first_answers failure is_failure =
+        let before = one (Err failure) is_failure in
+        whole (Err failure) (record {
+          summed = _;
+          steady = λ facts steady. first_fails (fault work facts) n xs ys failure (before.steady facts steady);
+          gave = before.gave;
+        })
+
+    least_answers : (failure later least : Failure F) → r ≡ Err failure → s ≡ Err later
+        → (least ≡ failure) ⊎ (least ≡ later)
+        → ((failure.error ≡ Resources) ⊎ (later.error ≡ Resources) → least.error ≡ Resources)
+        → (least.error ≡ Resources) ⊎ (least.unit ≡ min failure.unit later.unit) → Answers work n all (Err least)
+    least_answers failure later least is_failure is_later either memory lesser =
+        let before = one (Err failure) is_failure in
+        let after = other (Err later) is_later in
+        whole (Err least) (record {
+          summed = _;
+          steady = λ facts steady.
+              both_fail (fault work facts) n xs ys failure later least (before.steady facts steady)
+              (after.steady facts steady) either memory lesser;
+          gave = elim either [
+            | inl is ↦ subst (λ (f : Failure F). may_be work f.error) (sym is) before.gave
+            | inr is ↦ subst (λ (f : Failure F). may_be work f.error) (sym is) after.gave
+          ];
+        })
+
+    -- both answered
+    pub are_both : (sums next : A) → AreBoth r s (Ok (sums, next)) → (r ≡ Ok sums) × (s ≡ Ok next)
+    are_both sums next = by_cases r s refl refl
+      where
+        by_cases : (a b : Result A (Failure F)) → r ≡ a → s ≡ b → AreBoth a b (Ok (sums, next))
+            → (r ≡ Ok sums) × (s ≡ Ok next)
+        by_cases (Ok x) (Ok y) is_first is_second both =
+            let same : ◌≡◌ {A = A × A} (x, y) (sums, next) = cc in
+            (is_first ∙ ap Ok (ap (λ p. p.0) same), is_second ∙ ap Ok (ap (λ p. p.1) same))
+        by_cases (Ok x) (Err g) is_first is_second both = cc
+        by_cases (Err f) (Ok y) is_first is_second both = cc
+        by_cases (Err f) (Err g) is_first is_second both = absurd both
+
+    -- one stopped
+    pub one_stopped : (failure : Failure F) → AreBoth r s (Err failure) → Answers work n all (Err failure)
+    one_stopped failure = by_cases r s refl refl
+      where
+        by_cases : (a b : Result A (Failure F)) → r ≡ a → s ≡ b → AreBoth a b (Err failure)
+            → Answers work n all (Err failure)
+        by_cases (Ok x) (Ok y) is_first is_second both = cc
+        by_cases (Ok x) (Err g) is_first is_second both = second_answers x failure is_first
+            (is_second ∙ ap Err (let e : g ≡ failure = cc in e))
+        by_cases (Err f) (Ok y) is_first is_second both =
+            first_answers failure (is_first ∙ ap Err (let e : f ≡ failure = cc in e))
+        by_cases (Err f) (Err g) is_first is_second both =
+            least_answers f g failure is_first is_second both.either both.resources both.lesser

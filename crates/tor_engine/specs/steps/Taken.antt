@@ -1,0 +1,117 @@
+-- What workers did with units that they claimed at a board. Only private clauses cite these.
+use Rattle.std.specs.Prelude.{◌≡◌, ◌⊎◌, ◌<◌, ◌+◌, ◌≤◌, ℕ, true, List, [], ◌∷◌, ◌++◌, map, reverse, length, Option}
+use Rattle.std.specs.Prelude.{None, Result, Ok, Err, IfErr, IfOk, IsErrAnd, MatchResult, Some}
+use Rattle.std.specs.Prelude.{vec_capacity, vec_len}
+use Rattle.std.specs.List.{AllByRecursion}
+use Rattle.tor_board.specs.Desks.{Desk, GivenUnit, after_give, told, units_of}
+use Rattle.tor_board.specs.Seats.{IsLeastOf}
+use Rattle.tor_board.specs.Weights.{times}
+use Rattle.tor_plan.specs.declared.units.PlanUnit.{PlanUnit}
+use Rattle.tor_source.specs.Source.{SourceFacts}
+use Rattle.tor_engine.specs.Fault.{IsFault}
+use Rattle.tor_engine.specs.declared.errors.EngineError.{EngineError}
+use Rattle.tor_engine.specs.declared.errors.EngineError.TheVariants.{Resources}
+use Rattle.tor_engine.specs.declared.failure.Failure.{Failure}
+use Rattle.tor_engine.specs.declared.taken.Taken.{Taken}
+use Rattle.tor_engine.specs.steps.Failing.{IsLesser}
+pub use Rattle.tor_engine.specs.Shares.{given_pairs, unit_at}
+
+-- one more unit and its top can be kept
+abbrev pub HasRoom : {A : Type 0} → Taken A → Type 0
+HasRoom taken = (vec_len taken.sums + 1 ≤ vec_capacity taken.sums) × (vec_len taken.tops + 1 ≤ vec_capacity taken.tops)
+
+-- the seat holds no unit, and none has failed
+abbrev pub IsIdle : Desk → Type 0
+IsIdle desk = (desk.held ≡ []) × (desk.failed ≡ [])
+
+-- what has a number is of one of the units, and that unit sums up to it
+abbrev pub IsSumOf : {A : Type 0} → (A → ℕ) → (PlanUnit → A → Type 0) → List PlanUnit → A → Type 0
+IsSumOf number_in sums_up units one =
+    (number_in one < length units) × sums_up (unit_at units (number_in one)) one
+
+-- a unit of this number was hashed, given, and kept
+pub record GivesUnit {A : Type 0} (number_in : A → ℕ) (hash_in : A → List ℕ) (sums_up : PlanUnit → A → Type 0)
+    (units : List PlanUnit) (number : ℕ) (old new : Desk) (before after : Taken A) : Type 0 where
+  pub one : A
+  pub numbered : number_in one ≡ number
+  pub summed : sums_up (unit_at units number) one
+  pub joined : ℕ
+  pub arrivals : ℕ
+  pub top : Option (ℕ × List ℕ)
+  pub given : new ≡ after_give old number (hash_in one) joined arrivals top
+  pub sums : after.sums.items ≡ before.sums.items ++ one ∷ []
+  pub tops : after.tops.items ≡ before.tops.items ++ told top
+
+-- the seat gave these units, the last first: each is one of the plan, and of a steady source none of them fails
+pub record HasGiven {F : Type 0} (is_steady : SourceFacts F → Type 0)
+    (fault : SourceFacts F → PlanUnit → Option (EngineError F)) (units : List PlanUnit) (old new : Desk)
+    (news : List GivenUnit) : Type 0 where
+  pub room : new.room ≡ old.room
+  pub held : new.held ≡ []
+  pub given : new.given ≡ news ++ old.given
+  pub within : AllByRecursion (λ (g : GivenUnit). g.unit < length units) news
+  pub faultless : (facts : SourceFacts F) → is_steady facts
+      → AllByRecursion (λ (g : GivenUnit). fault facts (unit_at units g.unit) ≡ None) news
+
+-- its number, and the hash that it is given with
+abbrev pub pair_in : {A : Type 0} → (A → ℕ) → (A → List ℕ) → A → ℕ × List ℕ
+pair_in number_in hash_in one = (number_in one, hash_in one)
+
+-- what one worker took is of these units, in the order of their gives
+pub record IsOfGiven {A : Type 0} (number_in : A → ℕ) (hash_in : A → List ℕ) (sums_up : PlanUnit → A → Type 0)
+    (units : List PlanUnit) (old new : Desk) (news : List GivenUnit) (taken : Taken A) : Type 0 where
+  pub order : given_pairs news
+      ≡ reverse (map (pair_in number_in hash_in) taken.sums.items)
+  pub tops : new.tops ≡ reverse taken.tops.items ++ old.tops
+  pub summed : AllByRecursion (IsSumOf number_in sums_up units) taken.sums.items
+
+-- what one worker did from one seat: at an error the seat failed that unit alone
+pub record TakesUnits {F A : Type 0} (number_in : A → ℕ) (hash_in : A → List ℕ) (sums_up : PlanUnit → A → Type 0)
+    (is_steady : SourceFacts F → Type 0) (fault : SourceFacts F → PlanUnit → Option (EngineError F))
+    (may_be : EngineError F → Type 0) (units : List PlanUnit) (old new : Desk) (result : Result (Taken A) (Failure F))
+    : Type 0 where
+  pub news : List GivenUnit
+  pub has : HasGiven is_steady fault units old new news
+  pub took : IfOk result (λ taken. (new.done ≡ true) × (new.failed ≡ [])
+      × IsOfGiven number_in hash_in sums_up units old new news taken)
+  pub failed : IfErr result (λ failure. (new.failed ≡ failure.unit ∷ []) × (failure.unit < length units))
+  pub steady : (facts : SourceFacts F) → is_steady facts →
+      IfErr result (λ failure. IsFault (fault facts (unit_at units failure.unit)) failure.error)
+  pub gave : IfErr result (λ failure. may_be failure.error)
+
+-- the element stands in the list
+unfoldable pub IsIn : {X : Type 0} → List X → X → Type 0
+IsIn [] x = ⊥
+IsIn (y ∷ ys) x = (y ≡ x) ⊎ IsIn ys x
+
+-- these are of the units that were given, in any order
+pub record AreOfGiven {A : Type 0} (number_in : A → ℕ) (hash_in : A → List ℕ) (given : List GivenUnit)
+    (sums : List A) : Type 0 where
+  pub counted : (u : ℕ) → times u (map number_in sums) ≡ times u (units_of given)
+  pub hashes : AllByRecursion (λ one. IsIn (given_pairs given) (pair_in number_in hash_in one)) sums
+
+-- what workers did from one seat that was cut and joined again: of a steady source the least unit that failed is
+-- answered
+pub record AnswersSeat {F A : Type 0} (number_in : A → ℕ) (hash_in : A → List ℕ) (sums_up : PlanUnit → A → Type 0)
+    (is_steady : SourceFacts F → Type 0) (fault : SourceFacts F → PlanUnit → Option (EngineError F))
+    (may_be : EngineError F → Type 0) (units : List PlanUnit) (old new : Desk) (result : Result (Taken A) (Failure F))
+    : Type 0 where
+  pub news : List GivenUnit
+  pub has : HasGiven is_steady fault units old new news
+  pub took : IfOk result (λ taken. (new.done ≡ true) × (new.failed ≡ [])
+      × AreOfGiven number_in hash_in news taken.sums.items
+      × AllByRecursion (IsSumOf number_in sums_up units) taken.sums.items)
+  pub steady : (facts : SourceFacts F) → is_steady facts →
+      IfErr result (λ failure. (failure.error ≡ Resources) ⊎ (IsLeastOf new.failed failure.unit
+      × (failure.unit < length units) × (fault facts (unit_at units failure.unit) ≡ Some failure.error)))
+  pub gave : IfErr result (λ failure. may_be failure.error)
+
+-- what two workers took, put together, or why one of them stopped
+abbrev pub AreJoined : {F A : Type 0} → Result (Taken A) (Failure F) → Result (Taken A) (Failure F)
+    → Result (Taken A) (Failure F) → Type 0
+AreJoined (Ok one) (Ok other) result =
+    MatchResult result (λ both. both.sums.items ≡ one.sums.items ++ other.sums.items)
+    (λ failure. failure.error ≡ Resources)
+AreJoined (Ok one) (Err failure) result = result ≡ Err failure
+AreJoined (Err failure) (Ok other) result = result ≡ Err failure
+AreJoined (Err failure) (Err later) result = IsErrAnd result (IsLesser failure later)

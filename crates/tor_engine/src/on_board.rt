@@ -1,0 +1,63 @@
+//! Units hashed by workers that share a board.
+ghost use Rattle.std.specs.Prelude.{◌≡◌, ◌≤◌, ◌^◌, None, All, IfErr, IfOk, MatchResult, length, map};
+ghost use Rattle.tor_plan.specs.Forest.{AreRuns};
+ghost use Rattle.tor_source.specs.Source.{SourceFacts};
+ghost use Rattle.tor_engine.specs.Fault.{IsFault, first_of};
+ghost use Rattle.tor_engine.specs.steps.Each.{SumUpEach};
+ghost use Rattle.tor_engine.specs.steps.Roots.{roots_of_trees};
+
+use crate::errors::EngineError;
+use crate::halves::by_halves;
+use crate::placed::placed;
+use crate::seats::SeatShare;
+use crate::unit_work::UnitWork;
+use std::thread::Threads;
+use tor_board::Board;
+use tor_merkle::Hash;
+use tor_plan::{Forest, PlanUnit};
+
+/// What each of the units sums up to, and the roots of the trees over them. So many workers claim them at one board;
+/// want of resources is answered before all, else the fault of the least unit that failed, whatever came first in time.
+pub(crate) fn hash_on_board<W: UnitWork + Sync, R: Threads + Sync>(
+    rt: &R,
+    work: &W,
+    units: &[PlanUnit],
+    forest: &Forest,
+    workers: u32,
+) -> Result<(Vec<W::Sums>, Vec<Option<Hash>>), EngineError<W::Fault>>
+where
+    W::Sums: Send,
+    W::Fault: Send,
+    requires begin { W.may_begin work.now }
+    requires units { All (W.may_hash work.now) units.now }
+    requires few { length units.now ≤ 2 ^ 62 }
+    requires runs { AreRuns (length units.now) 0 forest.now.trees.items }
+    ensures summed { IfOk result (λ r. SumUpEach (W.sums_up work.now) units.now r.0.items) }
+    ensures roots { IfOk result (λ r. r.1.items
+        ≡ roots_of_trees (map (W.hash_in work.now) r.0.items) forest.now.trees.items) }
+    ensures fault { (facts : SourceFacts W.Fault) → W.is_steady work.now facts →
+        MatchResult result (λ _. first_of (W.fault work.now facts) units.now ≡ None)
+        (IsFault (first_of (W.fault work.now facts) units.now)) }
+    ensures gave { IfErr result (W.gave work.now) }
+{
+    let (board, seat) = Board::open(work.alloc(), forest, units.len() as u64)?;
+    let seated = by_halves(
+        rt,
+        SeatShare {
+            work,
+            units,
+            board: &board,
+            seat,
+        },
+        workers,
+    );
+    let (seat, result) = (seated.seat, seated.result);
+    let closed = board.close(seat);
+    match result {
+        Ok(taken) => {
+            let sums = placed(work, units.len(), taken.sums)?;
+            Ok((sums, closed.roots))
+        }
+        Err(failure) => Err(failure.error),
+    }
+}

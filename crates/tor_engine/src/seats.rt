@@ -1,0 +1,129 @@
+//! Units that several workers claim at one board, each with a seat of its own.
+ghost use Rattle.std.specs.Prelude.{◌≡◌, [], All, length};
+ghost use Rattle.tor_board.specs.Desks.{fresh, keeping};
+ghost use Rattle.tor_board.specs.Seats.{IsSeatOf, knows, unit_count};
+ghost use Rattle.tor_engine.specs.steps.Taken.{AnswersSeat, AreJoined, IsIdle};
+
+use crate::failure::{Failure, both};
+use crate::halves::Divisible;
+use crate::joined::append;
+use crate::taken::Taken;
+use crate::taking::take_units;
+use crate::unit_work::UnitWork;
+use tor_board::{Board, Seat};
+use tor_plan::PlanUnit;
+
+/// A seat from which units are claimed, by one worker, or by several of which each has a part of its room.
+#[derive(Drop)]
+pub(crate) struct SeatShare<'a, W> {
+    pub(crate) work: &'a W,
+    pub(crate) units: &'a [PlanUnit],
+    pub(crate) board: &'a Board,
+    pub(crate) seat: Seat,
+}
+
+/// The seat when its workers have ended, and what they took, or why one stopped.
+#[derive(Drop)]
+pub(crate) struct Seated<'a, T, F> {
+    pub(crate) board: &'a Board,
+    pub(crate) seat: Seat,
+    pub(crate) result: Result<Taken<T>, Failure<F>>,
+}
+
+impl<'a, W: UnitWork + Sync> Divisible for SeatShare<'a, W>
+where
+    W::Sums: Send,
+    W::Fault: Send,
+{
+    type Answer = Seated<'a, W::Sums, W::Fault>;
+
+    ghost may_answer = { λ share. W.may_begin share.work.now × All (W.may_hash share.work.now) share.units.now
+        × IsSeatOf share.board.now share.seat × (unit_count share.board.now ≡ length share.units.now)
+        × IsIdle (knows share.seat) × ((knows share.seat).given ≡ []) };
+
+    ghost answers = { λ share seated. (seated.board.now ≡ share.board.now) × IsSeatOf share.board.now seated.seat
+        × AnswersSeat (W.number_in share.work.now) (W.hash_in share.work.now) (W.sums_up share.work.now)
+        (W.is_steady share.work.now) (W.fault share.work.now) (W.gave share.work.now) share.units.now
+        (knows share.seat) (knows seated.seat) seated.result };
+
+    ghost halves = { λ whole one other. (one.work.now ≡ whole.work.now) × (other.work.now ≡ whole.work.now)
+        × (one.units.now ≡ whole.units.now) × (other.units.now ≡ whole.units.now)
+        × (one.board.now ≡ whole.board.now) × (other.board.now ≡ whole.board.now)
+        × (knows one.seat ≡ keeping (knows whole.seat)) × (knows other.seat ≡ fresh (knows whole.seat))
+        × ((knows whole.seat).given ≡ []) };
+
+    fn halve(self) -> Result<(Self, Self), Self> {
+        let SeatShare {
+            work,
+            units,
+            board,
+            seat,
+        } = self;
+        match board.split(seat) {
+            Ok((one, other)) => Ok((
+                SeatShare {
+                    work,
+                    units,
+                    board,
+                    seat: one,
+                },
+                SeatShare {
+                    work,
+                    units,
+                    board,
+                    seat: other,
+                },
+            )),
+            Err((seat, _)) => Err(SeatShare {
+                work,
+                units,
+                board,
+                seat,
+            }),
+        }
+    }
+
+    fn answer(self) -> Seated<'a, W::Sums, W::Fault> {
+        let SeatShare {
+            work,
+            units,
+            board,
+            mut seat,
+        } = self;
+        let result = take_units(work, units, board, &mut seat);
+        Seated {
+            board,
+            seat,
+            result,
+        }
+    }
+
+    fn join(
+        one: Seated<'a, W::Sums, W::Fault>,
+        other: Seated<'a, W::Sums, W::Fault>,
+    ) -> Seated<'a, W::Sums, W::Fault> {
+        let board = one.board;
+        Seated {
+            board,
+            seat: board.join(one.seat, other.seat),
+            result: joined(one.result, other.result),
+        }
+    }
+}
+
+/// What two workers took, or why one of them stopped.
+fn joined<T: Drop, F: Drop>(
+    one: Result<Taken<T>, Failure<F>>,
+    other: Result<Taken<T>, Failure<F>>,
+) -> Result<Taken<T>, Failure<F>>
+    ensures { AreJoined one other result }
+{
+    match both(one, other) {
+        Ok((mut taken, next)) => {
+            // The board has the roots, so that the tops are of no more use.
+            append(&mut taken.sums, next.sums)?;
+            Ok(taken)
+        }
+        Err(failure) => Err(failure),
+    }
+}

@@ -1,0 +1,129 @@
+//! Units that one worker claims at a board, one after the other.
+ghost use Rattle.std.specs.Prelude.{◌≡◌, ◌<◌, All, IfErr, IfOk, MatchResult, OnOk, length};
+ghost use Rattle.tor_board.specs.Desks.{Has, failing};
+ghost use Rattle.tor_board.specs.Seats.{IsSeatOf, knows, unit_count};
+ghost use Rattle.tor_source.specs.Source.{SourceFacts};
+ghost use Rattle.tor_engine.specs.Fault.{IsFault};
+ghost use Rattle.tor_engine.specs.steps.Taken.{GivesUnit, HasRoom, IsIdle, TakesUnits, unit_at};
+ghost use Rattle.tor_engine.specs.steps.Worker.{IsFresh};
+
+use crate::errors::EngineError;
+use crate::failure::Failure;
+use crate::taken::Taken;
+use crate::unit_work::UnitWork;
+use crate::worker::WorkerSums;
+use tor_board::{Board, Job, Seat};
+use tor_plan::PlanUnit;
+
+/// Claims units, hashes each and gives its hash, until none is left or some worker failed one; what the units sum up
+/// to, or why one failed, which is then failed at the board too.
+pub(crate) fn take_units<W: UnitWork>(
+    work: &W,
+    units: &[PlanUnit],
+    board: &Board,
+    seat: &mut Seat,
+) -> Result<Taken<W::Sums>, Failure<W::Fault>>
+    requires begin { W.may_begin work.now }
+    requires units { All (W.may_hash work.now) units.now }
+    requires board { IsSeatOf board.now seat.old × (unit_count board.now ≡ length units.now) }
+    requires idle { IsIdle (knows seat.old) }
+    ensures board { IsSeatOf board.now seat.new }
+    ensures taken { TakesUnits (W.number_in work.now) (W.hash_in work.now) (W.sums_up work.now) (W.is_steady work.now)
+        (W.fault work.now) (W.gave work.now) units.now (knows seat.old) (knows seat.new) result }
+{
+    let mut taken = Taken::new(work.alloc());
+    let Some(job) = board.claim(seat) else {
+        return Ok(taken);
+    };
+    let mut worker = match work.begin() {
+        Ok(worker) => worker,
+        Err(_) => return Err(give_up(board, seat, job, EngineError::Resources)),
+    };
+    match take_unit(work, units, board, seat, job, &mut worker, &mut taken) {
+        Ok(()) => {}
+        Err(failure) => return Err(failure),
+    }
+    'claims: while let Some(job) = board.claim(seat) {
+        match take_unit(work, units, board, seat, job, &mut worker, &mut taken) {
+            Ok(()) => {}
+            Err(failure) => return Err(failure),
+        }
+    }
+    Ok(taken)
+}
+
+/// Hashes one unit, gives its hash and keeps what it sums up to.
+fn take_unit<W: UnitWork>(
+    work: &W,
+    units: &[PlanUnit],
+    board: &Board,
+    seat: &mut Seat,
+    job: Job,
+    worker: &mut WorkerSums,
+    taken: &mut Taken<W::Sums>,
+) -> Result<(), Failure<W::Fault>>
+    requires begin { W.may_begin work.now }
+    requires units { All (W.may_hash work.now) units.now }
+    requires fresh { IsFresh (W.plan work.now) worker.old }
+    requires board { IsSeatOf board.now seat.old }
+    requires job { Has (knows seat.old).held job.number × (job.number < length units.now) }
+    ensures board { IsSeatOf board.now seat.new }
+    ensures fresh { OnOk result (IsFresh (W.plan work.now) worker.new) }
+    ensures given { OnOk result (GivesUnit (W.number_in work.now) (W.hash_in work.now) (W.sums_up work.now)
+        units.now job.number (knows seat.old) (knows seat.new) taken.old taken.new) }
+    ensures failed { IfErr result (λ failure. (failure.unit ≡ job.number)
+        × (knows seat.new ≡ failing (knows seat.old) job.number)) }
+    ensures kept { IfErr result (λ _. taken.new.sums.items ≡ taken.old.sums.items) }
+    ensures fault { (facts : SourceFacts W.Fault) → W.is_steady work.now facts →
+        MatchResult result (λ _. W.fault work.now facts (unit_at units.now job.number) ≡ None)
+        (λ failure. IsFault (W.fault work.now facts (unit_at units.now job.number)) failure.error) }
+    ensures gave { IfErr result (λ failure. W.gave work.now failure.error) }
+{
+    match hash_claimed(work, units, job.number(), worker, taken) {
+        Ok(sums) => {
+            let given = board.give(seat, job, work.hash_of(&sums));
+            taken.keep(sums, given.top);
+            Ok(())
+        }
+        Err(error) => Err(give_up(board, seat, job, error)),
+    }
+}
+
+/// Hashes one unit, for which there is room then among those that were taken.
+fn hash_claimed<W: UnitWork>(
+    work: &W,
+    units: &[PlanUnit],
+    number: u64,
+    worker: &mut WorkerSums,
+    taken: &mut Taken<W::Sums>,
+) -> Result<W::Sums, EngineError<W::Fault>>
+    requires begin { W.may_begin work.now }
+    requires units { All (W.may_hash work.now) units.now }
+    requires fresh { IsFresh (W.plan work.now) worker.old }
+    requires number { number < length units.now }
+    ensures fresh { IfOk result (λ _. IsFresh (W.plan work.now) worker.new) }
+    ensures room { IfOk result (λ _. HasRoom taken.new) }
+    ensures kept { (taken.new.sums.items ≡ taken.old.sums.items) × (taken.new.tops.items ≡ taken.old.tops.items) }
+    ensures summed { IfOk result (W.sums_up work.now (unit_at units.now number)) }
+    ensures number { IfOk result (λ sums. W.number_in work.now sums ≡ number) }
+    ensures fault { (facts : SourceFacts W.Fault) → W.is_steady work.now facts →
+        MatchResult result (λ _. W.fault work.now facts (unit_at units.now number) ≡ None)
+        (IsFault (W.fault work.now facts (unit_at units.now number))) }
+    ensures gave { IfErr result (W.gave work.now) }
+{
+    taken.reserve()?;
+    work.hash(number, &units[number as usize], worker)
+}
+
+/// Fails a unit at the board, and tells why.
+fn give_up<F>(board: &Board, seat: &mut Seat, job: Job, error: EngineError<F>) -> Failure<F>
+    requires board { IsSeatOf board.now seat.old }
+    requires job { Has (knows seat.old).held job.number }
+    ensures board { IsSeatOf board.now seat.new }
+    ensures failed { knows seat.new ≡ failing (knows seat.old) job.number }
+    ensures failure { (result.unit ≡ job.number) × (result.error ≡ error) }
+{
+    let unit = job.number();
+    board.fail(seat, job);
+    Failure { unit, error }
+}

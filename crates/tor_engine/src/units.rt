@@ -1,0 +1,55 @@
+//! The units of a plan hashed, by whatever workers.
+ghost use Rattle.std.specs.Prelude.{◌≡◌, ◌≤◌, ◌^◌, None, All, IfErr, IfOk, MatchResult, length, map};
+ghost use Rattle.tor_plan.specs.Forest.{AreRuns};
+ghost use Rattle.tor_source.specs.Source.{SourceFacts};
+ghost use Rattle.tor_engine.specs.Fault.{IsFault, first_of};
+ghost use Rattle.tor_engine.specs.steps.Each.{SumUpEach};
+ghost use Rattle.tor_engine.specs.steps.Roots.{roots_of_trees};
+
+use crate::errors::EngineError;
+use crate::how::How;
+use crate::on_board::hash_on_board;
+use crate::roots::roots_of_trees;
+use crate::turn::hash_by_halves;
+use crate::unit_work::UnitWork;
+use std::thread::Threads;
+use tor_merkle::Hash;
+use tor_plan::{Forest, PlanUnit};
+
+/// What each of the units sums up to, and the roots of the trees over them. The first fault in the order of the units
+/// is answered, whatever the `How`, or want of resources, which comes before all.
+pub(crate) fn hash_units<W: UnitWork + Sync, R: Threads + Sync>(
+    rt: &R,
+    work: &W,
+    units: &[PlanUnit],
+    forest: &Forest,
+    how: How,
+) -> Result<(Vec<W::Sums>, Vec<Option<Hash>>), EngineError<W::Fault>>
+where
+    W::Sums: Send,
+    W::Fault: Send,
+    requires begin { W.may_begin work.now }
+    requires units { All (W.may_hash work.now) units.now }
+    requires few { length units.now ≤ 2 ^ 62 }
+    requires runs { AreRuns (length units.now) 0 forest.now.trees.items }
+    ensures summed { IfOk result (λ r. SumUpEach (W.sums_up work.now) units.now r.0.items) }
+    ensures roots { IfOk result (λ r. r.1.items
+        ≡ roots_of_trees (map (W.hash_in work.now) r.0.items) forest.now.trees.items) }
+    ensures fault { (facts : SourceFacts W.Fault) → W.is_steady work.now facts →
+        MatchResult result (λ _. first_of (W.fault work.now facts) units.now ≡ None)
+        (IsFault (first_of (W.fault work.now facts) units.now)) }
+    ensures gave { IfErr result (W.gave work.now) }
+{
+    match how {
+        How::One => hash_on_board(rt, work, units, forest, 1),
+        How::Board(workers) => hash_on_board(rt, work, units, forest, workers),
+        How::Halves(workers) => {
+            let sums = match hash_by_halves(rt, work, units, workers) {
+                Ok(sums) => sums,
+                Err(error) => return Err(error),
+            };
+            let roots = roots_of_trees(work, &forest.trees, &sums)?;
+            Ok((sums, roots))
+        }
+    }
+}
