@@ -1,11 +1,11 @@
 //! Torrents of a long name and of many files, and info hashes; each hash in hexadecimal is of Python's hashlib.
 
-use crate::contents::{files, head, joined};
+use crate::contents::{are_right, head, made};
+use crate::given::{Row, Shape, are, files, joined};
 use std::alloc::{AllocError, Global};
 use std::fmt::Write;
-use std::test::Fail;
-use tor_meta::{Hashes, info_hashes, make_contents};
-use tor_tree::{FilePath, Kind, Name};
+use tor_meta::{Hashes, Head, info_hashes, make_contents};
+use tor_tree::{FilePath, Kind};
 
 /// The SHA-256 of `info` in the torrent of version 2 of `abc` under the name `a`, piece length 16,384.
 const ABC_HASHES: Hashes = Hashes {
@@ -29,59 +29,37 @@ const FOLDER_HASHES: Hashes = Hashes {
 const SEVENS_HASH: &[u8] =
     b"\xc6\xc4\x14\xd7\x58\xc4\x6d\xe0\xab\xbe\x57\x3c\xba\xcf\x77\x89\x7f\xd8\x49\x1e";
 
-fn repeated(alloc: Global, byte: u8, length: usize) -> Result<Vec<u8>, AllocError> {
-    vec![in alloc; byte; length]
-}
+/// A name of 255 bytes, and the torrent of no content under it.
+const LONG_NAME: &str = "\
+nnnnnnnnnnnnnnnnnnnnnnnnnnnnnnnnnnnnnnnnnnnnnnnnnnnnnnnnnnnnnnnnnnnnnnnnnnnnnnnnnnnnnnnnnnnnnnnn\
+nnnnnnnnnnnnnnnnnnnnnnnnnnnnnnnnnnnnnnnnnnnnnnnnnnnnnnnnnnnnnnnnnnnnnnnnnnnnnnnnnnnnnnnnnnnnnnnn\
+nnnnnnnnnnnnnnnnnnnnnnnnnnnnnnnnnnnnnnnnnnnnnnnnnnnnnnnnnnnnnnn";
 
-/// The path of one name.
-fn at_top(alloc: Global, name: &[u8]) -> Result<FilePath, Fail> {
-    let names = vec![in alloc; Name::new(alloc, name)?]?;
-    Ok(FilePath::new(names).ok_or("no name")?)
-}
+const OF_LONG_NAME: &[u8] = b"d4:infod9:file treed255:\
+nnnnnnnnnnnnnnnnnnnnnnnnnnnnnnnnnnnnnnnnnnnnnnnnnnnnnnnnnnnnnnnnnnnnnnnnnnnnnnnnnnnnnnnnnnnnnnnn\
+nnnnnnnnnnnnnnnnnnnnnnnnnnnnnnnnnnnnnnnnnnnnnnnnnnnnnnnnnnnnnnnnnnnnnnnnnnnnnnnnnnnnnnnnnnnnnnnn\
+nnnnnnnnnnnnnnnnnnnnnnnnnnnnnnnnnnnnnnnnnnnnnnnnnnnnnnnnnnnnnnn\
+d0:d6:lengthi0eeee12:meta versioni2e4:name255:\
+nnnnnnnnnnnnnnnnnnnnnnnnnnnnnnnnnnnnnnnnnnnnnnnnnnnnnnnnnnnnnnnnnnnnnnnnnnnnnnnnnnnnnnnnnnnnnnnn\
+nnnnnnnnnnnnnnnnnnnnnnnnnnnnnnnnnnnnnnnnnnnnnnnnnnnnnnnnnnnnnnnnnnnnnnnnnnnnnnnnnnnnnnnnnnnnnnnn\
+nnnnnnnnnnnnnnnnnnnnnnnnnnnnnnnnnnnnnnnnnnnnnnnnnnnnnnnnnnnnnnn\
+12:piece lengthi16384ee12:piece layersdee";
 
-/// The torrent of no content under a name of 255 bytes.
-fn torrent_of_long_name(alloc: Global, name: &[u8]) -> Result<Vec<u8>, AllocError> {
-    let parts: [&[u8]; 5] = [
-        b"d4:infod9:file treed255:",
-        name,
-        b"d0:d6:lengthi0eeee12:meta versioni2e4:name255:",
-        name,
-        b"12:piece lengthi16384ee12:piece layersdee",
-    ];
-    joined(alloc, &parts)
-}
-
-/// What is made of no content under a name.
-fn made_under(alloc: Global, name: &[u8]) -> Result<Vec<u8>, Fail> {
-    let head = head(alloc, Kind::V2, name, true, 16384)?;
-    let files = vec![in alloc; (at_top(alloc, name)?, Vec::new(alloc))]?;
-    Ok(make_contents(alloc, files, &head)?)
-}
-
-fn is_made_under(alloc: Global, name: &[u8]) -> Result<bool, Fail> {
-    Ok(made_under(alloc, name)? == torrent_of_long_name(alloc, name)?)
-}
+const LONG: &[Row] = &[((Kind::V2, true, 16384, LONG_NAME), LONG_NAME, OF_LONG_NAME)];
 
 #[test]
-fn makes_a_torrent_of_a_long_name(rt: HostRuntime) -> Result<(), Fail> {
-    let name = repeated(rt.alloc(), b'n', 255)?;
-    assert!(rt; is_made_under(rt.alloc(), &name)?);
-    Ok(())
-}
-
-/// The path whose one name is a number.
-fn numbered(alloc: Global, n: u64) -> Result<FilePath, Fail> {
-    let name = format!(in alloc; "{n}")?;
-    at_top(alloc, name.as_bytes())
+fn makes_a_torrent_of_a_long_name(rt: HostRuntime) {
+    assert!(rt; LONG_NAME.len() == 255);
+    assert!(rt; are_right(rt.alloc(), LONG));
 }
 
 /// A thousand files of one byte 7, which have the names 1000 to 1999, from the last one on.
-fn thousand_files(alloc: Global) -> Result<Vec<(FilePath, Vec<u8>)>, Fail> {
-    let mut files = Vec::new(alloc);
-    for n in (1000..2000).rev() {
-        files.push((numbered(alloc, n)?, repeated(alloc, 7, 1)?))?;
+fn thousand_files(alloc: Global) -> Result<String, AllocError> {
+    let mut text = String::new(alloc);
+    for n in (1000..2000u64).rev() {
+        write!(text, "{n}=*1 ")?;
     }
-    Ok(files)
+    Ok(text)
 }
 
 /// Their entries, in order.
@@ -107,48 +85,54 @@ fn torrent_of_thousand(alloc: Global) -> Result<Vec<u8>, AllocError> {
 }
 
 /// What is made of them.
-fn made_of_thousand(alloc: Global) -> Result<Vec<u8>, Fail> {
-    let head = head(alloc, Kind::V1, b"f", false, 16384)?;
-    Ok(make_contents(alloc, thousand_files(alloc)?, &head)?)
+fn made_of_thousand(alloc: Global) -> Result<Vec<u8>, AllocError> {
+    let given = thousand_files(alloc)?;
+    made(alloc, &(Kind::V1, false, 16384, "f"), &given)
+}
+
+fn is_of_thousand(alloc: Global) -> bool {
+    match torrent_of_thousand(alloc) {
+        Ok(torrent) => are(made_of_thousand(alloc), &torrent),
+        Err(_) => false,
+    }
 }
 
 #[test]
-fn makes_a_torrent_of_a_thousand_files(rt: HostRuntime) -> Result<(), Fail> {
-    assert!(rt; made_of_thousand(rt.alloc())? == torrent_of_thousand(rt.alloc())?);
-    Ok(())
+fn makes_a_torrent_of_a_thousand_files(rt: HostRuntime) {
+    assert!(rt; is_of_thousand(rt.alloc()));
 }
 
-/// A kind, the name, whether it is of one file, the files, and the hashes of their torrent.
-type Hashed = (
-    Kind,
-    &'static [u8],
-    bool,
-    &'static [(&'static str, &'static [u8])],
-    Hashes,
-);
-
-const HASHED: [Hashed; 2] = [
-    (Kind::V2, b"a", true, &[("a", b"abc")], ABC_HASHES),
-    (
-        Kind::Hybrid,
-        b"f",
-        false,
-        &[("a", b"ab"), ("b", b"c")],
-        FOLDER_HASHES,
-    ),
+/// What is asked for, the files, and the hashes of their torrent.
+const HASHED: &[(Shape, &str, Hashes)] = &[
+    ((Kind::V2, true, 16384, "a"), "a=abc", ABC_HASHES),
+    ((Kind::Hybrid, false, 16384, "f"), "a=ab b=c", FOLDER_HASHES),
 ];
 
-fn has_hashes(alloc: Global, row: &Hashed) -> Result<bool, Fail> {
-    let (kind, name, single, given, hashes) = row;
-    let head = head(alloc, *kind, name, *single, 16384)?;
-    let torrent = make_contents(alloc, files(alloc, given)?, &head)?;
-    Ok(info_hashes(&torrent, *kind) == *hashes)
+fn are_hashes(
+    alloc: Global,
+    files: Vec<(FilePath, Vec<u8>)>,
+    head: &Head,
+    hashes: &Hashes,
+) -> bool {
+    match make_contents(alloc, files, head) {
+        Ok(torrent) => info_hashes(&torrent, head.kind) == *hashes,
+        Err(_) => false,
+    }
+}
+
+fn has_hashes(alloc: Global, shape: &Shape, given: &str, hashes: &Hashes) -> bool {
+    let Ok(head) = head(alloc, shape) else {
+        return false;
+    };
+    match files(alloc, given) {
+        Ok(files) => are_hashes(alloc, files, &head, hashes),
+        Err(_) => false,
+    }
 }
 
 #[test]
-fn tells_info_hashes(rt: HostRuntime) -> Result<(), Fail> {
-    for row in &HASHED {
-        assert!(rt; has_hashes(rt.alloc(), row)?);
+fn tells_info_hashes(rt: HostRuntime) {
+    for (shape, given, hashes) in HASHED {
+        assert!(rt; has_hashes(rt.alloc(), shape, given, hashes));
     }
-    Ok(())
 }

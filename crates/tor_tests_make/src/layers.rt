@@ -1,32 +1,10 @@
-//! Torrents of the files of a source whose lists, roots and layers were worked out by hand from BEP 3 and BEP 52; the
-//! hash in hexadecimal is of Python's hashlib.
+//! Torrents of the files of a source whose lists, roots and layers were worked out from BEP 3 and BEP 52; each hash in
+//! hexadecimal is of Python's hashlib.
 
-use crate::contents::{joined, only_path, path};
-use crate::sources::{files_in_steps, is_made, order};
-use std::alloc::{AllocError, Global};
-use std::test::Fail;
+use crate::given::Row;
+use crate::sources::{is_made_at_once, is_made_in_steps};
 use std::thread::Threads;
-use tor_engine::How;
-use tor_merkle::{Hash, leaf, pair, zero};
-use tor_meta::Order;
-use tor_source::MemSource;
 use tor_tree::Kind;
-
-/// A content whose byte i is i % 251.
-fn content(alloc: Global, length: usize) -> Result<Vec<u8>, AllocError> {
-    let mut bytes = Vec::with_capacity(alloc, length)?;
-    for i in 0..length {
-        bytes.push((i % 251) as u8)?;
-    }
-    Ok(bytes)
-}
-
-/// The hash of the block at an offset of such a content.
-fn leaf_at(bytes: &[u8], offset: usize) -> Hash {
-    let (_, rest) = bytes.split_at(bytes.len().min(offset));
-    let (block, _) = rest.split_at(rest.len().min(16384));
-    leaf(block)
-}
 
 /// The list of `a/c`, that has `y`, and `a-b`, that has `x`, in the folder `f`, with the SHA-1 of `yx`.
 const DASH_V1: &[u8] = b"d4:infod5:filesld6:lengthi1e4:pathl1:a1:ceed6:lengthi1e4:pathl3:a-beee\
@@ -34,225 +12,138 @@ const DASH_V1: &[u8] = b"d4:infod5:filesld6:lengthi1e4:pathl1:a1:ceed6:lengthi1e
 \x62\xba\x52\x94\xe4\x45\xf5\xb1\x5f\x10\x07\xb8\xc9\x3c\xcb\x46\xea\xb2\xe7\xe7ee";
 
 /// Their tree: the key `a` comes before `a-b`.
-fn dash_v2(alloc: Global) -> Result<Vec<u8>, AllocError> {
-    let parts: [&[u8]; 5] = [
-        b"d4:infod9:file treed1:ad1:cd0:d6:lengthi1e11:pieces root32:",
-        &leaf(b"y"),
-        b"eee3:a-bd0:d6:lengthi1e11:pieces root32:",
-        &leaf(b"x"),
-        b"eee12:meta versioni2e4:name1:f12:piece lengthi16384ee12:piece layersdee",
-    ];
-    joined(alloc, &parts)
-}
+const DASH_V2: &[u8] = b"d4:infod9:file treed1:ad1:cd0:d6:lengthi1e11:pieces root32:\
+\xa1\xfc\xe4\x36\x38\x54\xff\x88\x8c\xff\x4b\x8e\x78\x75\xd6\x00\
+\xc2\x68\x23\x90\x41\x2a\x8c\xf7\x9b\x37\xd0\xb1\x11\x48\xb0\xfa\
+eee3:a-bd0:d6:lengthi1e11:pieces root32:\
+\x2d\x71\x16\x42\xb7\x26\xb0\x44\x01\x62\x7c\xa9\xfb\xac\x32\xf5\
+\xc8\x53\x0f\xb1\x90\x3c\xc4\xdb\x02\x25\x87\x17\x92\x1a\x48\x81\
+eee12:meta versioni2e4:name1:f12:piece lengthi16384ee12:piece layersdee";
 
-/// Whether their torrent is these bytes, no read giving more than `step` bytes.
-fn is_dash<R: AllocGlobal + Threads + Sync>(
-    rt: &R,
-    kind: Kind,
-    step: usize,
-    torrent: &[u8],
-) -> Result<bool, Fail> {
-    let mut order = order(rt.alloc(), kind, "f", false, How::One)?;
-    let (paths, source) = files_in_steps(rt.alloc(), "a-b=x a/c=y", step)?;
-    Ok(is_made(rt, &source, &paths, &mut order, torrent))
-}
+const DASHES: &[Row] = &[
+    ((Kind::V1, false, 16384, "f"), "a-b=x a/c=y", DASH_V1),
+    ((Kind::V2, false, 16384, "f"), "a-b=x a/c=y", DASH_V2),
+];
 
 #[test]
-fn lists_a_folder_before_its_longer_name(rt: HostRuntime) -> Result<(), Fail> {
-    let tree = dash_v2(rt.alloc())?;
-    for step in [1, 7] {
-        assert!(rt; is_dash(&rt, Kind::V1, step, DASH_V1)?);
-        assert!(rt; is_dash(&rt, Kind::V2, step, &tree)?);
+fn lists_a_folder_before_its_longer_name(rt: HostRuntime) {
+    for row in DASHES {
+        assert!(rt; is_made_in_steps(&rt, row, 1));
+        assert!(rt; is_made_in_steps(&rt, row, 7));
     }
-    Ok(())
 }
 
-/// The hashes one after the other.
-fn joined_hashes(alloc: Global, layer: &[Hash]) -> Result<Vec<u8>, AllocError> {
-    let mut bytes = Vec::new(alloc);
-    for hash in layer {
-        bytes.extend_from_slice(hash)?;
-    }
-    Ok(bytes)
+/// Whether a row holds with one piece a unit, and with two.
+fn is_right<R: AllocGlobal + Threads + Sync>(rt: &R, row: &Row) -> bool {
+    is_made_at_once(rt, row, 1) && is_made_at_once(rt, row, 2)
 }
 
-/// The pair of a root and a layer, where there is one.
-fn layer_pair(alloc: Global, root: &Hash, layer: &[Hash]) -> Result<Vec<u8>, AllocError> {
-    if layer.is_empty() {
-        return Ok(Vec::new(alloc));
-    }
-    let hashes = joined_hashes(alloc, layer)?;
-    let length = format!(in alloc; "{}:", hashes.len())?;
-    let parts: [&[u8]; 4] = [b"32:", root, length.as_bytes(), &hashes];
-    joined(alloc, &parts)
+/// The torrent of the file `a` of a block, of which byte i is i % 251, as in all that follow.
+const ONE_BLOCK: &[u8] = b"d4:infod9:file treed1:ad0:d6:lengthi16384e11:pieces root32:\
+\x43\x48\xe3\xb9\x8e\x8a\x32\x7b\x34\xce\xd3\x9c\x1d\xa9\xe6\x7c\
+\xdb\x4c\xd5\xe4\x8e\x4d\x79\x60\x60\x7a\x3a\xe4\x03\xd3\x5f\x0c\
+eee12:meta versioni2e4:name1:a12:piece lengthi16384ee12:piece layersdee";
+
+const OF_ONE_BLOCK: Row = ((Kind::V2, true, 16384, "a"), "a=#16384", ONE_BLOCK);
+
+#[test]
+fn has_no_layer_of_one_block(rt: HostRuntime) {
+    assert!(rt; is_right(&rt, &OF_ONE_BLOCK));
 }
 
-/// One file `a` of a content: its length, the piece length, and what its torrent of version 2 has before its root and
-/// after it.
-type OfA = (usize, u64, &'static [u8], &'static [u8]);
+/// Of a block and a byte.
+const TWO_BLOCKS: &[u8] = b"d4:infod9:file treed1:ad0:d6:lengthi16385e11:pieces root32:\
+\x9d\x78\x87\xc6\x5d\x57\x7a\x02\x37\xfb\x3c\x09\x98\xb8\x7b\x3a\
+\x62\x76\x2d\x03\x79\x68\x89\xa2\xca\xea\x01\xdb\x91\x4c\xcb\xb8\
+eee12:meta versioni2e4:name1:a12:piece lengthi16384ee12:piece layersd32:\
+\x9d\x78\x87\xc6\x5d\x57\x7a\x02\x37\xfb\x3c\x09\x98\xb8\x7b\x3a\
+\x62\x76\x2d\x03\x79\x68\x89\xa2\xca\xea\x01\xdb\x91\x4c\xcb\xb8\
+64:\
+\x43\x48\xe3\xb9\x8e\x8a\x32\x7b\x34\xce\xd3\x9c\x1d\xa9\xe6\x7c\
+\xdb\x4c\xd5\xe4\x8e\x4d\x79\x60\x60\x7a\x3a\xe4\x03\xd3\x5f\x0c\
+\xa9\xf5\x15\x66\xbd\x67\x05\xf7\xea\x6a\xd5\x4b\xb9\xde\xb4\x49\
+\xf7\x95\x58\x2d\x65\x29\xa0\xe2\x22\x07\xb8\x98\x12\x33\xec\x58\
+ee";
 
-const OF_ONE_BLOCK: OfA = (
-    16384,
-    16384,
-    b"d4:infod9:file treed1:ad0:d6:lengthi16384e11:pieces root32:",
-    b"eee12:meta versioni2e4:name1:a12:piece lengthi16384ee12:piece layersd",
+const PAST_A_BLOCK: Row = ((Kind::V2, true, 16384, "a"), "a=#16385", TWO_BLOCKS);
+
+#[test]
+fn writes_root_and_layer_past_a_block(rt: HostRuntime) {
+    assert!(rt; is_right(&rt, &PAST_A_BLOCK));
+}
+
+/// Of three blocks.
+const THREE_BLOCKS: &[u8] = b"d4:infod9:file treed1:ad0:d6:lengthi49152e11:pieces root32:\
+\xc2\x3d\x35\xec\x94\x22\x88\xa7\xd9\xb5\x8d\x1d\x04\x46\xa7\x61\
+\x04\x66\x0b\x7c\x72\xe5\xcf\x39\xf3\x8b\xdd\xb0\x28\xff\x8c\xa0\
+eee12:meta versioni2e4:name1:a12:piece lengthi16384ee12:piece layersd32:\
+\xc2\x3d\x35\xec\x94\x22\x88\xa7\xd9\xb5\x8d\x1d\x04\x46\xa7\x61\
+\x04\x66\x0b\x7c\x72\xe5\xcf\x39\xf3\x8b\xdd\xb0\x28\xff\x8c\xa0\
+96:\
+\x43\x48\xe3\xb9\x8e\x8a\x32\x7b\x34\xce\xd3\x9c\x1d\xa9\xe6\x7c\
+\xdb\x4c\xd5\xe4\x8e\x4d\x79\x60\x60\x7a\x3a\xe4\x03\xd3\x5f\x0c\
+\xf7\xc9\x04\x5c\x2a\x79\xa8\xa2\xa5\x87\xef\xbf\x5b\x31\x06\x52\
+\x68\x5b\x29\x2e\x6f\xbb\x0b\x08\xc1\xdf\x85\x75\x00\xda\x26\x99\
+\x59\x7f\x81\x85\x97\x24\xf9\x79\xae\xce\x03\xe9\x5c\x04\x8d\x6e\
+\xe5\xc6\xd5\x93\x51\xe6\xa4\xdb\x04\x89\x97\xdb\x6f\x05\xc8\x45\
+ee";
+
+const OF_THREE_BLOCKS: Row = ((Kind::V2, true, 16384, "a"), "a=#49152", THREE_BLOCKS);
+
+#[test]
+fn writes_root_and_layer_of_three_blocks(rt: HostRuntime) {
+    assert!(rt; is_right(&rt, &OF_THREE_BLOCKS));
+}
+
+/// Of five blocks, two blocks a piece.
+const FIVE_BLOCKS: &[u8] = b"d4:infod9:file treed1:ad0:d6:lengthi81920e11:pieces root32:\
+\xec\xc3\x1c\x9c\x67\xd9\xc7\xb8\xc7\xf2\x54\x0d\xf7\x22\x08\xac\
+\x59\xa0\xdc\x2f\x7b\x24\x77\xb2\x66\x38\xdb\x31\x3a\x24\x5c\xa4\
+eee12:meta versioni2e4:name1:a12:piece lengthi32768ee12:piece layersd32:\
+\xec\xc3\x1c\x9c\x67\xd9\xc7\xb8\xc7\xf2\x54\x0d\xf7\x22\x08\xac\
+\x59\xa0\xdc\x2f\x7b\x24\x77\xb2\x66\x38\xdb\x31\x3a\x24\x5c\xa4\
+96:\
+\xd9\xe1\x3d\x0b\x67\x6a\xd6\x81\x16\x4e\xf0\xb7\xb5\x91\x0d\x13\
+\x28\xea\x83\xa0\x47\xca\xd5\x7e\x61\x9d\x76\xbb\xe3\xa0\x85\x25\
+\xe2\x80\x97\xea\xaa\x55\x95\x67\x02\xcf\x81\x95\xd1\xa5\x51\xdb\
+\xab\xb6\x3e\x3d\x67\x9b\x29\x4c\xf3\x3d\x50\x6a\x6b\x5e\xf4\x79\
+\x8f\x95\x45\x51\x95\x2d\x5d\x15\x7c\xc3\xa8\x50\x22\x95\xe4\x36\
+\xfd\xb8\x81\xa0\x9a\x54\x98\xdf\xe0\xed\xf5\xaa\x61\x70\x2a\xbf\
+ee";
+
+const OF_FIVE_BLOCKS: Row = ((Kind::V2, true, 32768, "a"), "a=#81920", FIVE_BLOCKS);
+
+#[test]
+fn writes_root_and_layer_of_pieces_of_two_blocks(rt: HostRuntime) {
+    assert!(rt; is_right(&rt, &OF_FIVE_BLOCKS));
+}
+
+/// Of the files `a` and `b` of three blocks each.
+const EQUAL_FILES: &[u8] = b"d4:infod9:file treed1:ad0:d6:lengthi40000e11:pieces root32:\
+\xab\x67\x16\x31\xa9\xfa\x97\xa1\xfd\xac\x65\x1f\xff\x6c\x68\x77\
+\x3b\x9a\xcf\x07\x35\xb9\xc7\xf6\xec\xdd\x54\xcb\xf1\xbf\x5d\xc2\
+ee1:bd0:d6:lengthi40000e11:pieces root32:\
+\xab\x67\x16\x31\xa9\xfa\x97\xa1\xfd\xac\x65\x1f\xff\x6c\x68\x77\
+\x3b\x9a\xcf\x07\x35\xb9\xc7\xf6\xec\xdd\x54\xcb\xf1\xbf\x5d\xc2\
+eee12:meta versioni2e4:name1:f12:piece lengthi16384ee12:piece layersd32:\
+\xab\x67\x16\x31\xa9\xfa\x97\xa1\xfd\xac\x65\x1f\xff\x6c\x68\x77\
+\x3b\x9a\xcf\x07\x35\xb9\xc7\xf6\xec\xdd\x54\xcb\xf1\xbf\x5d\xc2\
+96:\
+\x43\x48\xe3\xb9\x8e\x8a\x32\x7b\x34\xce\xd3\x9c\x1d\xa9\xe6\x7c\
+\xdb\x4c\xd5\xe4\x8e\x4d\x79\x60\x60\x7a\x3a\xe4\x03\xd3\x5f\x0c\
+\xf7\xc9\x04\x5c\x2a\x79\xa8\xa2\xa5\x87\xef\xbf\x5b\x31\x06\x52\
+\x68\x5b\x29\x2e\x6f\xbb\x0b\x08\xc1\xdf\x85\x75\x00\xda\x26\x99\
+\x8e\xc9\x9c\x0f\xa9\x06\xcc\xb8\x1a\x4c\x7b\x86\x98\x39\x28\x3e\
+\x27\x3b\x59\x6b\x82\x4b\x31\x00\x7f\x66\x49\xd3\x12\x81\xdb\x63\
+ee";
+
+const OF_EQUAL_FILES: Row = (
+    (Kind::V2, false, 16384, "f"),
+    "a=#40000 b=#40000",
+    EQUAL_FILES,
 );
 
-const PAST_A_BLOCK: OfA = (
-    16385,
-    16384,
-    b"d4:infod9:file treed1:ad0:d6:lengthi16385e11:pieces root32:",
-    b"eee12:meta versioni2e4:name1:a12:piece lengthi16384ee12:piece layersd",
-);
-
-const OF_THREE_BLOCKS: OfA = (
-    49152,
-    16384,
-    b"d4:infod9:file treed1:ad0:d6:lengthi49152e11:pieces root32:",
-    b"eee12:meta versioni2e4:name1:a12:piece lengthi16384ee12:piece layersd",
-);
-
-const OF_FIVE_BLOCKS: OfA = (
-    81920,
-    32768,
-    b"d4:infod9:file treed1:ad0:d6:lengthi81920e11:pieces root32:",
-    b"eee12:meta versioni2e4:name1:a12:piece lengthi32768ee12:piece layersd",
-);
-
-/// Its torrent with this root and layer.
-fn torrent_of_a(
-    alloc: Global,
-    front: &[u8],
-    root: &Hash,
-    rest: &[u8],
-    layer: &[Hash],
-) -> Result<Vec<u8>, AllocError> {
-    let mut torrent = Vec::from_slice(alloc, front)?;
-    torrent.extend_from_slice(root)?;
-    torrent.extend_from_slice(rest)?;
-    torrent.extend_from_slice(&layer_pair(alloc, root, layer)?)?;
-    torrent.extend_from_slice(b"ee")?;
-    Ok(torrent)
-}
-
-/// A source of such a content alone.
-fn source_of_one(alloc: Global, length: usize) -> Result<MemSource, AllocError> {
-    let files = vec![in alloc; Some(content(alloc, length)?)]?;
-    Ok(MemSource::new(files))
-}
-
-/// An order for it, with so many pieces a unit.
-fn order_of_a(alloc: Global, row: &OfA, span: u32) -> Result<Order, Fail> {
-    let (_, piece_length, _, _) = *row;
-    let mut order = order(alloc, Kind::V2, "a", true, How::One)?;
-    order.piece_length = piece_length;
-    order.span = span;
-    Ok(order)
-}
-
-/// Whether the torrent is made of it, each way to share the units, with so many pieces a unit.
-fn is_made_of_a<R: AllocGlobal + Threads + Sync>(
-    rt: &R,
-    row: &OfA,
-    span: u32,
-    torrent: &[u8],
-) -> Result<bool, Fail> {
-    let mut order = order_of_a(rt.alloc(), row, span)?;
-    let paths = only_path(rt.alloc(), "a")?;
-    let source = source_of_one(rt.alloc(), row.0)?;
-    Ok(is_made(rt, &source, &paths, &mut order, torrent))
-}
-
-/// Whether it is made with one piece a unit, and with two.
-fn is_right<R: AllocGlobal + Threads + Sync>(
-    rt: &R,
-    row: &OfA,
-    root: &Hash,
-    layer: &[Hash],
-) -> Result<bool, Fail> {
-    let (_, _, front, rest) = *row;
-    let torrent = torrent_of_a(rt.alloc(), front, root, rest, layer)?;
-    Ok(is_made_of_a(rt, row, 1, &torrent)? && is_made_of_a(rt, row, 2, &torrent)?)
-}
-
 #[test]
-fn has_no_layer_of_one_block(rt: HostRuntime) -> Result<(), Fail> {
-    let root = leaf_at(&content(rt.alloc(), 16384)?, 0);
-    assert!(rt; is_right(&rt, &OF_ONE_BLOCK, &root, &[])?);
-    Ok(())
-}
-
-#[test]
-fn writes_root_and_layer_past_a_block(rt: HostRuntime) -> Result<(), Fail> {
-    let bytes = content(rt.alloc(), 16385)?;
-    let layer = [leaf_at(&bytes, 0), leaf_at(&bytes, 16384)];
-    let [l0, l1] = &layer;
-    assert!(rt; is_right(&rt, &PAST_A_BLOCK, &pair(l0, l1), &layer)?);
-    Ok(())
-}
-
-/// The hashes of three blocks of a content.
-fn three_leaves(bytes: &[u8]) -> [Hash; 3] {
-    [
-        leaf_at(bytes, 0),
-        leaf_at(bytes, 16384),
-        leaf_at(bytes, 32768),
-    ]
-}
-
-/// The root over three blocks.
-fn root_of_three(leaves: &[Hash; 3]) -> Hash {
-    let [l0, l1, l2] = leaves;
-    pair(&pair(l0, l1), &pair(l2, &zero(0)))
-}
-
-#[test]
-fn writes_root_and_layer_of_three_blocks(rt: HostRuntime) -> Result<(), Fail> {
-    let leaves = three_leaves(&content(rt.alloc(), 49152)?);
-    assert!(rt; is_right(&rt, &OF_THREE_BLOCKS, &root_of_three(&leaves), &leaves)?);
-    Ok(())
-}
-
-/// The hashes of the pieces of five blocks, two blocks a piece.
-fn three_pieces(bytes: &[u8]) -> [Hash; 3] {
-    let [l0, l1, l2] = three_leaves(bytes);
-    let (l3, l4) = (leaf_at(bytes, 49152), leaf_at(bytes, 65536));
-    [pair(&l0, &l1), pair(&l2, &l3), pair(&l4, &zero(0))]
-}
-
-#[test]
-fn writes_root_and_layer_of_pieces_of_two_blocks(rt: HostRuntime) -> Result<(), Fail> {
-    let pieces = three_pieces(&content(rt.alloc(), 81920)?);
-    let [p0, p1, p2] = &pieces;
-    let root = pair(&pair(p0, p1), &pair(p2, &zero(1)));
-    assert!(rt; is_right(&rt, &OF_FIVE_BLOCKS, &root, &pieces)?);
-    Ok(())
-}
-
-/// The torrent of the files `a` and `b` of these three blocks each.
-fn torrent_of_equals(alloc: Global, leaves: &[Hash; 3]) -> Result<Vec<u8>, AllocError> {
-    let root = root_of_three(leaves);
-    let layer = layer_pair(alloc, &root, leaves)?;
-    let parts: [&[u8]; 7] = [
-        b"d4:infod9:file treed1:ad0:d6:lengthi40000e11:pieces root32:",
-        &root,
-        b"ee1:bd0:d6:lengthi40000e11:pieces root32:",
-        &root,
-        b"eee12:meta versioni2e4:name1:f12:piece lengthi16384ee12:piece layersd",
-        &layer,
-        b"ee",
-    ];
-    joined(alloc, &parts)
-}
-
-#[test]
-fn lists_one_layer_of_equal_files_of_a_source(rt: HostRuntime) -> Result<(), Fail> {
-    let alloc = rt.alloc();
-    let (a, b) = (content(alloc, 40000)?, content(alloc, 40000)?);
-    let torrent = torrent_of_equals(alloc, &three_leaves(&a))?;
-    let source = MemSource::new(vec![in alloc; Some(a), Some(b)]?);
-    let paths = vec![in alloc; path(alloc, "a")?, path(alloc, "b")?]?;
-    let mut order = order(alloc, Kind::V2, "f", false, How::One)?;
-    assert!(rt; is_made(&rt, &source, &paths, &mut order, &torrent));
-    Ok(())
+fn lists_one_layer_of_equal_files_of_a_source(rt: HostRuntime) {
+    assert!(rt; is_right(&rt, &OF_EQUAL_FILES));
 }

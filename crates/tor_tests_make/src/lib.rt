@@ -2,11 +2,13 @@
 //!
 //! `contents.rt` and `larger.rt`: torrents of files in memory, info hashes, links, writing out. `sources.rt` and
 //! `layers.rt`: torrents of the files of a source. `workers.rt`: that workers meet. `inputs.rt`: inputs of tor_source,
-//! and the torrent of one.
+//! and the torrent of one. `given.rt` has files that are given as texts.
 #![tactic(auto)]
 
 #[cfg(test)]
 mod contents;
+#[cfg(test)]
+mod given;
 #[cfg(test)]
 mod inputs;
 #[cfg(test)]

@@ -1,10 +1,8 @@
 //! That as many workers hash as an order asks for.
 
-use crate::contents::only_path;
-use crate::sources::order;
+use crate::sources::asked;
 use std::sync::atomic::AtomicU64;
 use std::sync::atomic::Ordering::SeqCst;
-use std::test::Fail;
 use std::thread::{Threads, yield_now};
 use tor_engine::How;
 use tor_meta::make;
@@ -56,7 +54,7 @@ impl Source for Meeting {
 
 /// The workers, how many of the four reads have to begin, how often the first looks for the others, and whether they
 /// come. Where the units are dealt out beforehand, one waits behind the first.
-const MEETINGS: [(How, u64, u64, bool); 6] = [
+const MEETINGS: &[(How, u64, u64, bool)] = &[
     (How::One, 2, 1000, false),
     (How::Halves(1), 2, 1000, false),
     (How::Halves(2), 2, 10_000_000, true),
@@ -65,26 +63,22 @@ const MEETINGS: [(How, u64, u64, bool); 6] = [
     (How::Board(2), 4, 10_000_000, true),
 ];
 
-fn meet<R: AllocGlobal + Threads + Sync>(
-    rt: &R,
-    how: How,
-    reads: u64,
-    turns: u64,
-) -> Result<bool, Fail> {
-    let order = order(rt.alloc(), Kind::V2, "a", true, how)?;
-    let paths = only_path(rt.alloc(), "a")?;
+fn meet<R: AllocGlobal + Threads + Sync>(rt: &R, how: How, reads: u64, turns: u64) -> bool {
+    let Ok((mut order, paths)) = asked(rt.alloc(), &(Kind::V2, true, 16384, "a"), "a") else {
+        return false;
+    };
+    order.how = how;
     let source = Meeting {
         reads,
         turns,
         begun: AtomicU64::new(0),
     };
-    Ok(make(rt, rt.alloc(), &source, &paths, &order).is_ok())
+    make(rt, rt.alloc(), &source, &paths, &order).is_ok()
 }
 
 #[test]
-fn workers_of_an_order_meet(rt: HostRuntime) -> Result<(), Fail> {
+fn workers_of_an_order_meet(rt: HostRuntime) {
     for (how, reads, turns, wanted) in MEETINGS {
-        assert!(rt; meet(&rt, how, reads, turns)? == wanted);
+        assert!(rt; meet(&rt, *how, *reads, *turns) == *wanted);
     }
-    Ok(())
 }

@@ -1,0 +1,168 @@
+//! What the tests share: tables of torrents, and files that are given as a text, as `a=ab b=#9 c`.
+
+use std::alloc::{AllocError, Global};
+use tor_source::MemSource;
+use tor_tree::{FilePath, Kind, Name};
+
+/// A kind, whether it is of one file, the piece length, and the name.
+pub(crate) type Shape = (Kind, bool, u64, &'static str);
+
+/// What is asked for, the files given, and their torrent, or why there is none.
+pub(crate) type Row = (Shape, &'static str, &'static [u8]);
+
+/// A name. That a text is none, which none of the tables has, is told as want of memory.
+pub(crate) fn name(alloc: Global, text: &str) -> Result<Name, AllocError> {
+    match Name::new(alloc, text.as_bytes()) {
+        Ok(name) => Ok(name),
+        Err(_) => Err(AllocError),
+    }
+}
+
+fn add_names(alloc: Global, text: &str, names: &mut Vec<Name>) -> Result<(), AllocError> {
+    for part in text.split('/') {
+        names.push(name(alloc, part)?)?;
+    }
+    Ok(())
+}
+
+/// The path whose names are the parts of a text between its slashes.
+fn path(alloc: Global, text: &str) -> Result<FilePath, AllocError> {
+    let mut names = Vec::new(alloc);
+    add_names(alloc, text, &mut names)?;
+    FilePath::new(names).ok_or(AllocError)
+}
+
+/// The path of a file, and its content where it is there.
+fn parts(given: &str) -> (&str, Option<&str>) {
+    match given.split_once('=') {
+        Some((path, content)) => (path, Some(content)),
+        None => (given, None),
+    }
+}
+
+fn add_counted(bytes: &mut Vec<u8>, length: usize) -> Result<(), AllocError> {
+    for i in 0..length {
+        bytes.push((i % 251) as u8)?;
+    }
+    Ok(())
+}
+
+/// So many bytes, of which byte i is i % 251.
+fn counted(alloc: Global, length: usize) -> Result<Vec<u8>, AllocError> {
+    let mut bytes = Vec::new(alloc);
+    add_counted(&mut bytes, length)?;
+    Ok(bytes)
+}
+
+pub(crate) fn repeated(alloc: Global, byte: u8, length: usize) -> Result<Vec<u8>, AllocError> {
+    vec![in alloc; byte; length]
+}
+
+fn number(digits: &str) -> usize {
+    digits.parse::<usize>().unwrap_or(0)
+}
+
+/// The bytes that a text stands for: `#9` for nine of which byte i is i % 251, `*9` for nine bytes 7, else its own.
+fn content(alloc: Global, text: &str) -> Result<Vec<u8>, AllocError> {
+    if let Some(digits) = text.strip_prefix('#') {
+        return counted(alloc, number(digits));
+    }
+    if let Some(digits) = text.strip_prefix('*') {
+        return repeated(alloc, 7, number(digits));
+    }
+    Vec::from_slice(alloc, text.as_bytes())
+}
+
+fn add_paths(alloc: Global, given: &str, paths: &mut Vec<FilePath>) -> Result<(), AllocError> {
+    for text in given.split_whitespace() {
+        let (text, _) = parts(text);
+        paths.push(path(alloc, text)?)?;
+    }
+    Ok(())
+}
+
+/// The paths of files given with spaces between.
+pub(crate) fn paths(alloc: Global, given: &str) -> Result<Vec<FilePath>, AllocError> {
+    let mut paths = Vec::new(alloc);
+    add_paths(alloc, given, &mut paths)?;
+    Ok(paths)
+}
+
+fn content_there(alloc: Global, given: &str) -> Result<Option<Vec<u8>>, AllocError> {
+    match parts(given).1 {
+        Some(text) => Ok(Some(content(alloc, text)?)),
+        None => Ok(None),
+    }
+}
+
+fn add_contents(
+    alloc: Global,
+    given: &str,
+    contents: &mut Vec<Option<Vec<u8>>>,
+) -> Result<(), AllocError> {
+    for text in given.split_whitespace() {
+        contents.push(content_there(alloc, text)?)?;
+    }
+    Ok(())
+}
+
+/// Their contents. A file without one is missing.
+pub(crate) fn source(alloc: Global, given: &str) -> Result<MemSource, AllocError> {
+    let mut contents = Vec::new(alloc);
+    add_contents(alloc, given, &mut contents)?;
+    Ok(MemSource::new(contents))
+}
+
+fn file(alloc: Global, given: &str) -> Result<(FilePath, Vec<u8>), AllocError> {
+    let (text, content_text) = parts(given);
+    let bytes = content(alloc, content_text.unwrap_or(""))?;
+    Ok((path(alloc, text)?, bytes))
+}
+
+fn add_files(
+    alloc: Global,
+    given: &str,
+    files: &mut Vec<(FilePath, Vec<u8>)>,
+) -> Result<(), AllocError> {
+    for text in given.split_whitespace() {
+        files.push(file(alloc, text)?)?;
+    }
+    Ok(())
+}
+
+/// Their paths and contents. A file without one is empty.
+pub(crate) fn files(alloc: Global, given: &str) -> Result<Vec<(FilePath, Vec<u8>)>, AllocError> {
+    let mut files = Vec::new(alloc);
+    add_files(alloc, given, &mut files)?;
+    Ok(files)
+}
+
+fn add_parts(bytes: &mut Vec<u8>, parts: &[&[u8]]) -> Result<(), AllocError> {
+    for part in parts {
+        bytes.extend_from_slice(part)?;
+    }
+    Ok(())
+}
+
+/// The parts, one after the other.
+pub(crate) fn joined(alloc: Global, parts: &[&[u8]]) -> Result<Vec<u8>, AllocError> {
+    let mut bytes = Vec::new(alloc);
+    add_parts(&mut bytes, parts)?;
+    Ok(bytes)
+}
+
+/// Whether there are bytes, and these.
+pub(crate) fn are(bytes: Result<Vec<u8>, AllocError>, wanted: &[u8]) -> bool {
+    match bytes {
+        Ok(bytes) => bytes.as_slice() == wanted,
+        Err(_) => false,
+    }
+}
+
+/// Whether there is a text, and this.
+pub(crate) fn is(text: Result<String, AllocError>, wanted: &[u8]) -> bool {
+    match text {
+        Ok(text) => text.as_bytes() == wanted,
+        Err(_) => false,
+    }
+}
