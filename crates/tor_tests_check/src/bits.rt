@@ -1,29 +1,45 @@
 //! Bits of pieces, in rows worked out by hand.
+use crate::telling::is;
 use std::alloc::{AllocError, Global};
 use std::fmt::Write;
-use std::test::Fail;
 use tor_recheck::Bits;
 
 /// The bits of these pieces: '1' where a piece is there and right.
 fn bits_of(alloc: Global, pieces: &str) -> Result<Bits, AllocError> {
     let mut bits = Bits::with_capacity(alloc, pieces.len() as u64)?;
-    for piece in pieces.as_bytes() {
-        bits.push(*piece == b'1')?;
-    }
+    add_pieces(&mut bits, pieces)?;
     Ok(bits)
 }
 
-/// The bitfield in hexadecimal.
-pub(crate) fn hex_of(alloc: Global, bits: &Bits) -> Result<String, AllocError> {
-    let mut text = String::new(alloc);
-    for byte in bits.to_bytes(alloc)? {
+fn add_pieces(bits: &mut Bits, pieces: &str) -> Result<(), AllocError> {
+    for piece in pieces.as_bytes() {
+        bits.push(*piece == b'1')?;
+    }
+    Ok(())
+}
+
+fn push_hex(text: &mut String, bytes: &[u8]) -> Result<(), AllocError> {
+    for byte in bytes {
         write!(text, "{byte:02x}")?;
     }
+    Ok(())
+}
+
+/// The bitfield in hexadecimal.
+fn hex_of(alloc: Global, bits: &Bits) -> Result<String, AllocError> {
+    let bytes = bits.to_bytes(alloc)?;
+    let mut text = String::new(alloc);
+    push_hex(&mut text, &bytes)?;
     Ok(text)
 }
 
+/// Whether this is the bitfield in hexadecimal.
+pub(crate) fn is_hex(alloc: Global, bits: &Bits, hex: &str) -> bool {
+    is(hex_of(alloc, bits), hex)
+}
+
 /// Whether the bits, read one by one, are those of these pieces, and there is none after the last.
-fn are_read_back(bits: &Bits, pieces: &str) -> bool {
+pub(crate) fn are_read_back(bits: &Bits, pieces: &str) -> bool {
     for (index, piece) in pieces.as_bytes().iter().enumerate() {
         if bits.get(index as u64) != Some(*piece == b'1') {
             return false;
@@ -42,7 +58,7 @@ fn are_counted(bits: &Bits, pieces: &str, set: u64) -> bool {
 /// Pieces, their bitfield in hexadecimal, and how many of them are there and right.
 type Packed = (&'static str, &'static str, u64);
 
-const PACKED: [Packed; 13] = [
+const PACKED: &[Packed] = &[
     ("", "", 0),
     ("0", "00", 0),
     ("1", "80", 1),
@@ -58,37 +74,50 @@ const PACKED: [Packed; 13] = [
     ("101100111000111100", "b38f00", 10),
 ];
 
-fn is_packed(alloc: Global, row: &Packed) -> Result<bool, AllocError> {
-    let (pieces, hex, set) = *row;
-    let bits = bits_of(alloc, pieces)?;
-    let is_kept = are_counted(&bits, pieces, set) && are_read_back(&bits, pieces);
-    Ok(is_kept && hex_of(alloc, &bits)?.as_str() == hex)
-}
-
-#[test]
-fn packs_pieces_from_the_high_bit(rt: HostRuntime) -> Result<(), Fail> {
-    for row in &PACKED {
-        assert!(rt; is_packed(rt.alloc(), row)?);
+fn is_packed(alloc: Global, row: &Packed) -> bool {
+    match bits_of(alloc, row.0) {
+        Ok(bits) => {
+            are_counted(&bits, row.0, row.2)
+                && are_read_back(&bits, row.0)
+                && is_hex(alloc, &bits, row.1)
+        }
+        Err(_) => false,
     }
-    Ok(())
 }
 
 #[test]
-fn reads_none_past_the_end(rt: HostRuntime) -> Result<(), Fail> {
-    let bits = bits_of(rt.alloc(), "11111111")?;
-    assert!(rt; bits.get(7) == Some(true));
-    assert!(rt; bits.get(8).is_none());
-    assert!(rt; bits.get(u64::MAX).is_none());
-    Ok(())
+fn packs_pieces_from_the_high_bit(rt: HostRuntime) {
+    for row in PACKED {
+        assert!(rt; is_packed(rt.alloc(), row));
+    }
+}
+
+fn is_none_past_the_end(alloc: Global) -> bool {
+    match bits_of(alloc, "11111111") {
+        Ok(bits) => {
+            bits.get(7) == Some(true) && bits.get(8).is_none() && bits.get(u64::MAX).is_none()
+        }
+        Err(_) => false,
+    }
+}
+
+#[test]
+fn reads_none_past_the_end(rt: HostRuntime) {
+    assert!(rt; is_none_past_the_end(rt.alloc()));
 }
 
 /// So many bits, of which each third one is set, in room for none.
 fn thirds(alloc: Global, count: u32) -> Result<Bits, AllocError> {
     let mut bits = Bits::with_capacity(alloc, 0)?;
+    add_thirds(&mut bits, count)?;
+    Ok(bits)
+}
+
+fn add_thirds(bits: &mut Bits, count: u32) -> Result<(), AllocError> {
     for index in 0..count {
         bits.push(index % 3 == 0)?;
     }
-    Ok(bits)
+    Ok(())
 }
 
 /// Whether the bits are 200,000, of which each third one is set.
@@ -99,10 +128,21 @@ fn are_thirds(bits: &Bits) -> bool {
         && bits.get(199_999) == Some(false)
 }
 
+fn count_of_bytes(alloc: Global, bits: &Bits) -> usize {
+    match bits.to_bytes(alloc) {
+        Ok(bytes) => bytes.len(),
+        Err(_) => 0,
+    }
+}
+
+fn is_grown(alloc: Global) -> bool {
+    match thirds(alloc, 200_000) {
+        Ok(bits) => are_thirds(&bits) && count_of_bytes(alloc, &bits) == 25_000,
+        Err(_) => false,
+    }
+}
+
 #[test]
-fn grows_past_its_capacity(rt: HostRuntime) -> Result<(), Fail> {
-    let bits = thirds(rt.alloc(), 200_000)?;
-    assert!(rt; are_thirds(&bits));
-    assert!(rt; bits.to_bytes(rt.alloc())?.len() == 25_000);
-    Ok(())
+fn grows_past_its_capacity(rt: HostRuntime) {
+    assert!(rt; is_grown(rt.alloc()));
 }

@@ -1,7 +1,6 @@
 //! Hybrids: where padding may stand, and where the sides differ. The bytes are worked out from BEP 3, BEP 47 and
 //! BEP 52; hashes are any bytes.
 use crate::telling::{Row, are_right};
-use std::test::Fail;
 
 // What stands before the entries of the folder `f`: its tree, of the files a of two bytes and b of one.
 const TWO: &[u8] =
@@ -140,9 +139,8 @@ const ALIGNED: &[Row] = &[
 ];
 
 #[test]
-fn aligns_each_file_of_a_hybrid(rt: HostRuntime) -> Result<(), Fail> {
-    assert!(rt; are_right(rt.alloc(), ALIGNED)?);
-    Ok(())
+fn aligns_each_file_of_a_hybrid(rt: HostRuntime) {
+    assert!(rt; are_right(rt.alloc(), ALIGNED));
 }
 
 // The tree of a of two bytes and the empty files aa and b.
@@ -199,9 +197,8 @@ const AMONG_EMPTY: &[Row] = &[
 ];
 
 #[test]
-fn lets_padding_stand_among_empty_files(rt: HostRuntime) -> Result<(), Fail> {
-    assert!(rt; are_right(rt.alloc(), AMONG_EMPTY)?);
-    Ok(())
+fn lets_padding_stand_among_empty_files(rt: HostRuntime) {
+    assert!(rt; are_right(rt.alloc(), AMONG_EMPTY));
 }
 
 // The tree of TWO with an empty folder d.
@@ -230,9 +227,8 @@ const BETWEEN: &[Row] = &[
 ];
 
 #[test]
-fn takes_folders_and_empty_files_between_two_others(rt: HostRuntime) -> Result<(), Fail> {
-    assert!(rt; are_right(rt.alloc(), BETWEEN)?);
-    Ok(())
+fn takes_folders_and_empty_files_between_two_others(rt: HostRuntime) {
+    assert!(rt; are_right(rt.alloc(), BETWEEN));
 }
 
 // TWO with other keys before `info`.
@@ -264,7 +260,6 @@ const OTHER_KEYS: &[Row] = &[
 ];
 
 #[test]
-fn takes_other_keys_of_a_hybrid(rt: HostRuntime) -> Result<(), Fail> {
-    assert!(rt; are_right(rt.alloc(), OTHER_KEYS)?);
-    Ok(())
+fn takes_other_keys_of_a_hybrid(rt: HostRuntime) {
+    assert!(rt; are_right(rt.alloc(), OTHER_KEYS));
 }

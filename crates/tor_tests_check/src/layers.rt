@@ -4,8 +4,7 @@ use crate::layered::{
     THREE_PIECES_TWICE, TWO, WITH_ITS_HASHES, ZERO,
 };
 use crate::telling::{Row, are_right, is_right, joined};
-use std::alloc::{AllocError, Global};
-use std::test::Fail;
+use std::alloc::Global;
 use tor_check::{Torrent, validate};
 use tor_merkle::Hash;
 
@@ -64,29 +63,29 @@ fn have_layer(torrent: &Torrent, layer: &[Hash]) -> bool {
     true
 }
 
-fn is_layered(alloc: Global, row: &Layered) -> Result<bool, AllocError> {
-    let (told, layer) = row;
-    let bytes = joined(alloc, told.0)?;
+fn is_layered(alloc: Global, row: &Layered) -> bool {
+    let Ok(bytes) = joined(alloc, row.0.0) else {
+        return false;
+    };
     match validate(alloc, &bytes) {
-        Ok(torrent) => Ok(have_layer(&torrent, layer)),
-        Err(_) => Ok(false),
+        Ok(torrent) => have_layer(&torrent, row.1),
+        Err(_) => false,
     }
 }
 
 // Whether just what stands there is told of each row, with these layers.
-pub(crate) fn are_layered(alloc: Global, rows: &[Layered]) -> Result<bool, AllocError> {
+pub(crate) fn are_layered(alloc: Global, rows: &[Layered]) -> bool {
     for row in rows {
-        if !is_right(alloc, &row.0)? || !is_layered(alloc, row)? {
-            return Ok(false);
+        if !is_right(alloc, &row.0) || !is_layered(alloc, row) {
+            return false;
         }
     }
-    Ok(true)
+    true
 }
 
 #[test]
-fn tells_the_layer_of_a_file_longer_than_a_piece(rt: HostRuntime) -> Result<(), Fail> {
-    assert!(rt; are_layered(rt.alloc(), LAYERED)?);
-    Ok(())
+fn tells_the_layer_of_a_file_longer_than_a_piece(rt: HostRuntime) {
+    assert!(rt; are_layered(rt.alloc(), LAYERED));
 }
 
 // L1 with another last bit.
@@ -146,7 +145,6 @@ const WRONG: &[Row] = &[
 ];
 
 #[test]
-fn tells_what_is_wrong_with_a_layer(rt: HostRuntime) -> Result<(), Fail> {
-    assert!(rt; are_right(rt.alloc(), WRONG)?);
-    Ok(())
+fn tells_what_is_wrong_with_a_layer(rt: HostRuntime) {
+    assert!(rt; are_right(rt.alloc(), WRONG));
 }

@@ -1,7 +1,6 @@
 //! What other makers may write, and what is told of it. The bytes are worked out from BEP 3, BEP 47 and BEP 52. Hashes
 //! are any bytes: no condition of these rows compares one.
 use crate::telling::{Row, are_right};
-use std::test::Fail;
 
 // The files a of two bytes and b of one, in a tree.
 const TWO: &[u8] = b"1:ad0:d6:lengthi2e11:pieces root32:0123456789abcdef0123456789abcdefee\
@@ -73,9 +72,8 @@ const PADDED: &[Row] = &[
 ];
 
 #[test]
-fn takes_padding_anywhere_in_version_1(rt: HostRuntime) -> Result<(), Fail> {
-    assert!(rt; are_right(rt.alloc(), PADDED)?);
-    Ok(())
+fn takes_padding_anywhere_in_version_1(rt: HostRuntime) {
+    assert!(rt; are_right(rt.alloc(), PADDED));
 }
 
 const ENTRY_KEYS: &[Row] = &[
@@ -110,9 +108,8 @@ const ENTRY_KEYS: &[Row] = &[
 ];
 
 #[test]
-fn takes_other_letters_and_keys_of_an_entry(rt: HostRuntime) -> Result<(), Fail> {
-    assert!(rt; are_right(rt.alloc(), ENTRY_KEYS)?);
-    Ok(())
+fn takes_other_letters_and_keys_of_an_entry(rt: HostRuntime) {
+    assert!(rt; are_right(rt.alloc(), ENTRY_KEYS));
 }
 
 // The keys of an `info` from `name` to `pieces`, one piece in all.
@@ -167,9 +164,8 @@ const OTHER_KEYS: &[Row] = &[
 ];
 
 #[test]
-fn takes_other_keys_and_values_of_private(rt: HostRuntime) -> Result<(), Fail> {
-    assert!(rt; are_right(rt.alloc(), OTHER_KEYS)?);
-    Ok(())
+fn takes_other_keys_and_values_of_private(rt: HostRuntime) {
+    assert!(rt; are_right(rt.alloc(), OTHER_KEYS));
 }
 
 // What stands before a tree in a torrent of version 2, and the rest of its `info`, that of the folder `f`.
@@ -242,7 +238,6 @@ const TREES: &[Row] = &[
 ];
 
 #[test]
-fn takes_trees_of_other_makers(rt: HostRuntime) -> Result<(), Fail> {
-    assert!(rt; are_right(rt.alloc(), TREES)?);
-    Ok(())
+fn takes_trees_of_other_makers(rt: HostRuntime) {
+    assert!(rt; are_right(rt.alloc(), TREES));
 }

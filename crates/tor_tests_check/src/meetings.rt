@@ -1,10 +1,9 @@
 //! Whether the workers of a recheck work at once, and what is asked of a source before they are judged.
 
 use crate::rechecks::torrent_of;
-use std::alloc::{AllocError, Global};
+use crate::telling::is;
 use std::sync::atomic::AtomicU64;
 use std::sync::atomic::Ordering::SeqCst;
-use std::test::Fail;
 use std::thread::{Threads, yield_now};
 use tor_check::Torrent;
 use tor_engine::How;
@@ -61,17 +60,6 @@ impl Source for Meeting {
     }
 }
 
-fn meeting_of(workers: u64, turns: u64) -> Meeting {
-    Meeting {
-        length: 32,
-        workers,
-        first_alone: false,
-        turns,
-        begun: AtomicU64::new(0),
-        asked: AtomicU64::new(0),
-    }
-}
-
 /// Eight hashes, of no piece.
 const EIGHT: &[u8] =
     b"--------------------------------------------------------------------------------\
@@ -102,84 +90,104 @@ const OF_FOUR_UNITS: &[&[u8]] = &[
 ];
 
 /// Whether the fault of the recheck has this text; `none` where it has bits.
-fn is_fault<T: Threads + Sync>(
+fn is_fault<T: AllocGlobal + Threads + Sync>(
     rt: &T,
-    alloc: Global,
     source: &Meeting,
     torrent: &Torrent,
     how: How,
     wanted: &str,
-) -> Result<bool, AllocError> {
-    match recheck(rt, alloc, source, torrent, how) {
-        Ok(_) => Ok(wanted == "none"),
-        Err(error) => Ok(format!(in alloc; "{error}")?.as_str() == wanted),
+) -> bool {
+    match recheck(rt, rt.alloc(), source, torrent, how) {
+        Ok(_) => wanted == "none",
+        Err(error) => is(format!(in rt.alloc(); "{error}"), wanted),
     }
+}
+
+/// How the units are shared, how many reads wait for one another, how often each looks for the others, the fault, and
+/// whether the length is asked.
+type Row = (How, u64, u64, &'static str, bool);
+
+/// Whether a row holds of a file of so many bytes, whose first byte alone waits, or each.
+fn meets<T: AllocGlobal + Threads + Sync>(
+    rt: &T,
+    torrent: &Torrent,
+    length: u64,
+    first_alone: bool,
+    row: &Row,
+) -> bool {
+    let (how, workers, turns, wanted, is_asked) = *row;
+    let source = Meeting {
+        length,
+        workers,
+        first_alone,
+        turns,
+        begun: AtomicU64::new(0),
+        asked: AtomicU64::new(0),
+    };
+    is_fault(rt, &source, torrent, how, wanted) && (source.asked.load(SeqCst) > 0) == is_asked
+}
+
+/// Whether each row does, of the torrent that the parts are.
+fn each_meets<T: AllocGlobal + Threads + Sync>(
+    rt: &T,
+    parts: &[&[u8]],
+    length: u64,
+    first_alone: bool,
+    rows: &[Row],
+) -> bool {
+    let Ok(torrent) = torrent_of(rt.alloc(), parts) else {
+        return false;
+    };
+    for row in rows {
+        if !meets(rt, &torrent, length, first_alone, row) {
+            return false;
+        }
+    }
+    true
 }
 
 const FEW: u64 = 1000;
 
 const MANY: u64 = 10_000_000;
 
-/// The workers, how many reads wait for one another, how often each looks for the others, and the fault.
-const MEETINGS: [(How, u64, u64, &str); 8] = [
-    (How::One, 2, FEW, "C1 Read"),
-    (How::Halves(1), 2, FEW, "C1 Read"),
-    (How::Halves(2), 3, FEW, "C1 Read"),
-    (How::Halves(2), 2, MANY, "none"),
-    (How::Halves(64), 2, MANY, "none"),
-    (How::Board(1), 2, FEW, "C1 Read"),
-    (How::Board(2), 2, MANY, "none"),
-    (How::Board(64), 2, MANY, "none"),
+const MEETINGS: &[Row] = &[
+    (How::One, 2, FEW, "C1 Read", true),
+    (How::Halves(1), 2, FEW, "C1 Read", true),
+    (How::Halves(2), 3, FEW, "C1 Read", true),
+    (How::Halves(2), 2, MANY, "none", true),
+    (How::Halves(64), 2, MANY, "none", true),
+    (How::Board(1), 2, FEW, "C1 Read", true),
+    (How::Board(2), 2, MANY, "none", true),
+    (How::Board(64), 2, MANY, "none", true),
 ];
 
 #[test]
-fn recheck_meets(rt: HostRuntime) -> Result<(), Fail> {
-    let torrent = torrent_of(rt.alloc(), OF_TWO_UNITS)?;
-    for (how, workers, turns, wanted) in MEETINGS {
-        let source = meeting_of(workers, turns);
-        assert!(rt; is_fault(&rt, rt.alloc(), &source, &torrent, how, wanted)?);
-    }
-    Ok(())
+fn recheck_meets(rt: HostRuntime) {
+    assert!(rt; each_meets(&rt, OF_TWO_UNITS, 32, false, MEETINGS));
 }
 
-/// The workers, how often the first read looks for those of the other three units, and the fault. Where the units are
-/// dealt out beforehand, one waits behind the first.
-const SHARES: [(How, u64, &str); 4] = [
-    (How::Halves(2), FEW, "C1 Read"),
-    (How::Board(1), FEW, "C1 Read"),
-    (How::Board(2), MANY, "none"),
-    (How::Board(4), MANY, "none"),
+/// The first read waits for those of the other three units. Where the units are dealt out beforehand, one waits behind
+/// the first.
+const SHARES: &[Row] = &[
+    (How::Halves(2), 49, FEW, "C1 Read", true),
+    (How::Board(1), 49, FEW, "C1 Read", true),
+    (How::Board(2), 49, MANY, "none", true),
+    (How::Board(4), 49, MANY, "none", true),
 ];
 
 #[test]
-fn recheck_shares(rt: HostRuntime) -> Result<(), Fail> {
-    let torrent = torrent_of(rt.alloc(), OF_FOUR_UNITS)?;
-    for (how, turns, wanted) in SHARES {
-        let source = Meeting {
-            length: 64,
-            workers: 49,
-            first_alone: true,
-            turns,
-            begun: AtomicU64::new(0),
-            asked: AtomicU64::new(0),
-        };
-        assert!(rt; is_fault(&rt, rt.alloc(), &source, &torrent, how, wanted)?);
-    }
-    Ok(())
+fn recheck_shares(rt: HostRuntime) {
+    assert!(rt; each_meets(&rt, OF_FOUR_UNITS, 64, true, SHARES));
 }
 
+const OUTSIDE: &[Row] = &[
+    (How::Halves(0), 1, FEW, "C4 Workers", false),
+    (How::Halves(65), 1, FEW, "C4 Workers", false),
+    (How::Board(0), 1, FEW, "C4 Workers", false),
+    (How::Board(65), 1, FEW, "C4 Workers", false),
+];
+
 #[test]
-fn judges_workers_before_it_asks_a_length(rt: HostRuntime) -> Result<(), Fail> {
-    let torrent = torrent_of(rt.alloc(), OF_TWO_UNITS)?;
-    for how in [
-        How::Halves(0),
-        How::Halves(65),
-        How::Board(0),
-        How::Board(65),
-    ] {
-        let source = meeting_of(1, FEW);
-        assert!(rt; is_fault(&rt, rt.alloc(), &source, &torrent, how, "C4 Workers")?);
-        assert_eq!(rt; source.asked.load(SeqCst), 0);
-    }
-    Ok(())
+fn judges_workers_before_it_asks_a_length(rt: HostRuntime) {
+    assert!(rt; each_meets(&rt, OF_TWO_UNITS, 32, false, OUTSIDE));
 }

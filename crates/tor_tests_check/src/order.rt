@@ -1,7 +1,6 @@
 //! Torrents of which two conditions do not hold: the one with the lower number is told. The bytes are worked out from
 //! BEP 3, BEP 47 and BEP 52; hashes are any bytes.
 use crate::telling::{Row, are_right};
-use std::test::Fail;
 
 const ROWS: &[Row] = &[
     (
@@ -89,7 +88,6 @@ const ROWS: &[Row] = &[
 ];
 
 #[test]
-fn tells_the_first_of_two_conditions(rt: HostRuntime) -> Result<(), Fail> {
-    assert!(rt; are_right(rt.alloc(), ROWS)?);
-    Ok(())
+fn tells_the_first_of_two_conditions(rt: HostRuntime) {
+    assert!(rt; are_right(rt.alloc(), ROWS));
 }

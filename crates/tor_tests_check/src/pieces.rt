@@ -3,10 +3,9 @@ use crate::layered::{
     FIVE_BLOCKS, L0, L1, L2, LAST, LAST_OF_TWO_BLOCKS, ONE_PIECE, THREE_PIECES, THREE_PIECES_TWICE,
     TWO, WITH_ITS_HASHES, ZERO, ZEROS,
 };
-use crate::telling::{Parts, joined};
+use crate::telling::{Parts, is, joined};
 use crate::verdicts::{ABC_V2, FOLDER_HYBRID, FOLDER_V1};
-use std::alloc::{AllocError, Global};
-use std::test::Fail;
+use std::alloc::Global;
 use tor_check::{Torrent, prove_piece, validate};
 use tor_merkle::Hash;
 
@@ -40,58 +39,60 @@ const REFUSED: &[Refused] = &[
 ];
 
 // Whether this is answered why a piece of a torrent has no proof.
-fn is_refused_for(
-    alloc: Global,
-    torrent: &Torrent,
-    piece: (u64, u64),
-    wanted: &str,
-) -> Result<bool, AllocError> {
-    match prove_piece(alloc, torrent, piece.0, piece.1) {
-        Ok(_) => Ok(false),
-        Err(fault) => Ok(format!(in alloc; "{fault}")?.as_str() == wanted),
+fn is_refused_for(alloc: Global, torrent: &Torrent, row: &Refused) -> bool {
+    match prove_piece(alloc, torrent, row.1, row.2) {
+        Ok(_) => false,
+        Err(fault) => is(format!(in alloc; "{fault}"), row.3),
     }
 }
 
-fn is_refused(alloc: Global, row: &Refused) -> Result<bool, AllocError> {
-    let (parts, file, index, wanted) = row;
-    let bytes = joined(alloc, parts)?;
-    match validate(alloc, &bytes) {
-        Ok(torrent) => is_refused_for(alloc, &torrent, (*file, *index), wanted),
-        Err(_) => Ok(false),
+// The torrent that the parts are, if they are one.
+fn torrent_of(alloc: Global, parts: Parts) -> Option<Torrent> {
+    match joined(alloc, parts) {
+        Ok(bytes) => validate(alloc, &bytes).ok(),
+        Err(_) => None,
+    }
+}
+
+fn is_refused(alloc: Global, row: &Refused) -> bool {
+    match torrent_of(alloc, row.0) {
+        Some(torrent) => is_refused_for(alloc, &torrent, row),
+        None => false,
     }
 }
 
 #[test]
-fn tells_why_a_piece_has_no_proof(rt: HostRuntime) -> Result<(), Fail> {
+fn tells_why_a_piece_has_no_proof(rt: HostRuntime) {
     for row in REFUSED {
-        assert!(rt; is_refused(rt.alloc(), row)?);
+        assert!(rt; is_refused(rt.alloc(), row));
     }
-    Ok(())
 }
 
 // A torrent, a file and an index, and the hash and the siblings of the proof.
 type Proved = (Parts, u64, u64, &'static Hash, &'static [Hash]);
 
-fn is_proved(alloc: Global, row: &Proved) -> Result<bool, AllocError> {
-    let (parts, file, index, hash, siblings) = row;
-    let bytes = joined(alloc, parts)?;
-    let Ok(torrent) = validate(alloc, &bytes) else {
-        return Ok(false);
-    };
-    match prove_piece(alloc, &torrent, *file, *index) {
-        Ok(proved) => Ok(proved.0 == **hash && proved.1.siblings.as_slice() == *siblings),
-        Err(_) => Ok(false),
+fn is_proved_of(alloc: Global, torrent: &Torrent, row: &Proved) -> bool {
+    match prove_piece(alloc, torrent, row.1, row.2) {
+        Ok(proved) => proved.0 == *row.3 && proved.1.siblings.as_slice() == row.4,
+        Err(_) => false,
+    }
+}
+
+fn is_proved(alloc: Global, row: &Proved) -> bool {
+    match torrent_of(alloc, row.0) {
+        Some(torrent) => is_proved_of(alloc, &torrent, row),
+        None => false,
     }
 }
 
 // Whether each row has this proof.
-fn are_proved(alloc: Global, rows: &[Proved]) -> Result<bool, AllocError> {
+fn are_proved(alloc: Global, rows: &[Proved]) -> bool {
     for row in rows {
-        if !is_proved(alloc, row)? {
-            return Ok(false);
+        if !is_proved(alloc, row) {
+            return false;
         }
     }
-    Ok(true)
+    true
 }
 
 // The SHA-256 of `abc`.
@@ -108,9 +109,8 @@ const OF_ONE_PIECE: &[Proved] = &[
 ];
 
 #[test]
-fn proves_the_root_of_a_file_of_one_piece(rt: HostRuntime) -> Result<(), Fail> {
-    assert!(rt; are_proved(rt.alloc(), OF_ONE_PIECE)?);
-    Ok(())
+fn proves_the_root_of_a_file_of_one_piece(rt: HostRuntime) {
+    assert!(rt; are_proved(rt.alloc(), OF_ONE_PIECE));
 }
 
 const OF_THREE: &[Proved] = &[
@@ -125,9 +125,8 @@ const OF_THREE: &[Proved] = &[
 ];
 
 #[test]
-fn proves_each_piece_of_three(rt: HostRuntime) -> Result<(), Fail> {
-    assert!(rt; are_proved(rt.alloc(), OF_THREE)?);
-    Ok(())
+fn proves_each_piece_of_three(rt: HostRuntime) {
+    assert!(rt; are_proved(rt.alloc(), OF_THREE));
 }
 
 const OF_A_FILE_AND_ITS_HASHES: &[Proved] = &[
@@ -137,9 +136,8 @@ const OF_A_FILE_AND_ITS_HASHES: &[Proved] = &[
 ];
 
 #[test]
-fn proves_a_file_and_the_file_of_its_hashes(rt: HostRuntime) -> Result<(), Fail> {
-    assert!(rt; are_proved(rt.alloc(), OF_A_FILE_AND_ITS_HASHES)?);
-    Ok(())
+fn proves_a_file_and_the_file_of_its_hashes(rt: HostRuntime) {
+    assert!(rt; are_proved(rt.alloc(), OF_A_FILE_AND_ITS_HASHES));
 }
 
 // The hybrid of the file a of two pieces.
@@ -161,7 +159,6 @@ const OF_A_HYBRID: &[Proved] = &[
 ];
 
 #[test]
-fn proves_the_pieces_of_a_hybrid(rt: HostRuntime) -> Result<(), Fail> {
-    assert!(rt; are_proved(rt.alloc(), OF_A_HYBRID)?);
-    Ok(())
+fn proves_the_pieces_of_a_hybrid(rt: HostRuntime) {
+    assert!(rt; are_proved(rt.alloc(), OF_A_HYBRID));
 }

@@ -1,10 +1,10 @@
 //! Torrents rechecked against files in memory. The hashes are of Python's hashlib.
 
-use crate::bits::hex_of;
+use crate::bits::{are_read_back, is_hex};
+use crate::telling::{is, joined};
 use std::alloc::{AllocError, Global};
 use std::sync::atomic::AtomicU64;
 use std::sync::atomic::Ordering::SeqCst;
-use std::test::Fail;
 use std::thread::Threads;
 use tor_check::{Torrent, validate};
 use tor_engine::How;
@@ -172,85 +172,98 @@ const ROWS: &[Row] = &[
     (LONG, &[None], "00 00"),
 ];
 
-/// The parts, joined.
-fn joined(alloc: Global, parts: &[&[u8]]) -> Result<Vec<u8>, AllocError> {
-    let mut bytes = Vec::new(alloc);
-    for part in parts {
-        bytes.extend_from_slice(part)?;
-    }
-    Ok(bytes)
+/// The torrent that the parts are. That they are none, as in none of the tables, is told as want of memory.
+pub(crate) fn torrent_of(alloc: Global, parts: &[&[u8]]) -> Result<Torrent, AllocError> {
+    let bytes = joined(alloc, parts)?;
+    validate(alloc, &bytes).ok().ok_or(AllocError)
 }
 
-pub(crate) fn torrent_of(alloc: Global, parts: &[&[u8]]) -> Result<Torrent, Fail> {
-    match validate(alloc, &joined(alloc, parts)?) {
-        Ok(torrent) => Ok(torrent),
-        Err(_) => Err("no torrent".into()),
+fn content(alloc: Global, file: &Option<&[u8]>) -> Result<Option<Vec<u8>>, AllocError> {
+    match file {
+        Some(bytes) => Ok(Some(Vec::from_slice(alloc, bytes)?)),
+        None => Ok(None),
     }
+}
+
+fn add_contents(
+    alloc: Global,
+    files: &[Option<&[u8]>],
+    contents: &mut Vec<Option<Vec<u8>>>,
+) -> Result<(), AllocError> {
+    for file in files {
+        contents.push(content(alloc, file)?)?;
+    }
+    Ok(())
 }
 
 fn files_of(alloc: Global, files: &[Option<&[u8]>]) -> Result<MemSource, AllocError> {
     let mut contents = Vec::new(alloc);
-    for file in files {
-        contents.push(match file {
-            Some(bytes) => Some(Vec::from_slice(alloc, bytes)?),
-            None => None,
-        })?;
-    }
+    add_contents(alloc, files, &mut contents)?;
     Ok(MemSource::new(contents))
 }
 
-/// The bits, and the bitfield in hexadecimal.
-fn text_of(alloc: Global, bits: &Bits) -> Result<String, AllocError> {
-    let mut text = String::new(alloc);
-    for index in 0..bits.len() {
-        let is_set = bits.get(index) == Some(true);
-        text.push(if is_set { '1' } else { '0' })?;
+/// Whether these are the bits, and after a space the bitfield in hexadecimal.
+fn is_told(alloc: Global, bits: &Bits, wanted: &str) -> bool {
+    match wanted.split_once(' ') {
+        Some((pieces, hex)) => are_read_back(bits, pieces) && is_hex(alloc, bits, hex),
+        None => false,
     }
-    text.push(' ')?;
-    text.push_str(&hex_of(alloc, bits)?)?;
-    Ok(text)
 }
 
-/// The answer: the bits of the pieces, or why there are none.
-fn answer<S: Source, R: AllocGlobal + Threads + Sync>(
+/// Whether this is answered: the bits of the pieces, or why there are none.
+fn is_answer<S: Source, R: AllocGlobal + Threads + Sync>(
     rt: &R,
     source: &S,
     torrent: &Torrent,
     how: How,
-) -> Result<String, AllocError> {
+    wanted: &str,
+) -> bool {
     match recheck(rt, rt.alloc(), source, torrent, how) {
-        Ok(bits) => text_of(rt.alloc(), &bits),
-        Err(error) => format!(in rt.alloc(); "{error:?}"),
+        Ok(bits) => is_told(rt.alloc(), &bits, wanted),
+        Err(error) => is(format!(in rt.alloc(); "{error:?}"), wanted),
     }
 }
 
-/// Whether this is answered of the pieces, each way to share the units.
+/// Whether it is, each way to share the units.
 fn is_each_answer<S: Source, R: AllocGlobal + Threads + Sync>(
     rt: &R,
     source: &S,
     torrent: &Torrent,
     wanted: &str,
-) -> Result<bool, AllocError> {
+) -> bool {
     for how in EACH_HOW {
-        if answer(rt, source, torrent, how)?.as_str() != wanted {
-            return Ok(false);
+        if !is_answer(rt, source, torrent, how, wanted) {
+            return false;
         }
     }
-    Ok(true)
+    true
 }
 
-fn is_right<R: AllocGlobal + Threads + Sync>(rt: &R, row: &Row) -> Result<bool, Fail> {
-    let torrent = torrent_of(rt.alloc(), row.0)?;
-    let source = files_of(rt.alloc(), row.1)?;
-    Ok(is_each_answer(rt, &source, &torrent, row.2)?)
+/// Whether it is of the torrent that the parts are.
+fn is_each_answer_of<S: Source, R: AllocGlobal + Threads + Sync>(
+    rt: &R,
+    source: &S,
+    parts: &[&[u8]],
+    wanted: &str,
+) -> bool {
+    match torrent_of(rt.alloc(), parts) {
+        Ok(torrent) => is_each_answer(rt, source, &torrent, wanted),
+        Err(_) => false,
+    }
+}
+
+fn is_right<R: AllocGlobal + Threads + Sync>(rt: &R, row: &Row) -> bool {
+    match files_of(rt.alloc(), row.1) {
+        Ok(source) => is_each_answer_of(rt, &source, row.0, row.2),
+        Err(_) => false,
+    }
 }
 
 #[test]
-fn tells_which_pieces_are_there_and_right(rt: HostRuntime) -> Result<(), Fail> {
+fn tells_which_pieces_are_there_and_right(rt: HostRuntime) {
     for row in ROWS {
-        assert!(rt; is_right(&rt, row)?);
+        assert!(rt; is_right(&rt, row));
     }
-    Ok(())
 }
 
 /// A source of one file of so many zeros.
@@ -264,35 +277,35 @@ fn is_answered_of_zeros<R: AllocGlobal + Threads + Sync>(
     rt: &R,
     length: usize,
     wanted: &str,
-) -> Result<bool, Fail> {
-    let torrent = torrent_of(rt.alloc(), LONG)?;
-    let source = source_of_zeros(rt.alloc(), length)?;
-    Ok(is_each_answer(rt, &source, &torrent, wanted)?)
+) -> bool {
+    match source_of_zeros(rt.alloc(), length) {
+        Ok(source) => is_each_answer_of(rt, &source, LONG, wanted),
+        Err(_) => false,
+    }
 }
 
 /// The whole of the file, and its first block alone.
-const OF_ZEROS: [(usize, &str); 2] = [(16_385, "11 c0"), (16_384, "10 80")];
+const OF_ZEROS: &[(usize, &str)] = &[(16_385, "11 c0"), (16_384, "10 80")];
 
 #[test]
-fn tells_of_a_file_of_several_blocks(rt: HostRuntime) -> Result<(), Fail> {
+fn tells_of_a_file_of_several_blocks(rt: HostRuntime) {
     for (length, wanted) in OF_ZEROS {
-        assert!(rt; is_answered_of_zeros(&rt, length, wanted)?);
+        assert!(rt; is_answered_of_zeros(&rt, *length, wanted));
     }
-    Ok(())
 }
 
 /// A fault: of a file, for its length or at an offset; and its number.
 type FaultAt = (u64, Option<u64>, u64);
 
 fn failing(alloc: Global, files: &[Option<&[u8]>], at: FaultAt) -> Result<FailSource, AllocError> {
-    let files = files_of(alloc, files)?;
-    Ok(FailSource::new(files, vec![in alloc; at]?))
+    let faults = vec![in alloc; at]?;
+    Ok(FailSource::new(files_of(alloc, files)?, faults))
 }
 
 /// Files of OF_BOTH, a fault, and what is answered.
 type Fault = (&'static [Option<&'static [u8]>], FaultAt, &'static str);
 
-const FAULTS: [Fault; 3] = [
+const FAULTS: &[Fault] = &[
     // Byte 0 of the first file, where it is read.
     (
         &[Some(b"ab"), Some(b"c")],
@@ -305,32 +318,35 @@ const FAULTS: [Fault; 3] = [
     (&[], (1, None, 7), "Read { file: 1, start: None, fault: 7 }"),
 ];
 
-fn is_fault<R: AllocGlobal + Threads + Sync>(rt: &R, row: &Fault) -> Result<bool, Fail> {
-    let torrent = torrent_of(rt.alloc(), OF_BOTH)?;
-    let source = failing(rt.alloc(), row.0, row.1)?;
-    Ok(is_each_answer(rt, &source, &torrent, row.2)?)
+fn is_fault<R: AllocGlobal + Threads + Sync>(rt: &R, row: &Fault) -> bool {
+    match failing(rt.alloc(), row.0, row.1) {
+        Ok(source) => is_each_answer_of(rt, &source, OF_BOTH, row.2),
+        Err(_) => false,
+    }
 }
 
 #[test]
-fn tells_the_first_fault(rt: HostRuntime) -> Result<(), Fail> {
-    for row in &FAULTS {
-        assert!(rt; is_fault(&rt, row)?);
+fn tells_the_first_fault(rt: HostRuntime) {
+    for row in FAULTS {
+        assert!(rt; is_fault(&rt, row));
     }
-    Ok(())
 }
 
-/// What is answered of the pieces of OF_BOTH.
-fn answer_of_both<S: Source, R: AllocGlobal + Threads + Sync>(
+/// Whether this is answered of the pieces of OF_BOTH.
+fn is_answer_of_both<S: Source, R: AllocGlobal + Threads + Sync>(
     rt: &R,
     source: &S,
     how: How,
-) -> Result<String, Fail> {
-    let torrent = torrent_of(rt.alloc(), OF_BOTH)?;
-    Ok(answer(rt, source, &torrent, how)?)
+    wanted: &str,
+) -> bool {
+    match torrent_of(rt.alloc(), OF_BOTH) {
+        Ok(torrent) => is_answer(rt, source, &torrent, how, wanted),
+        Err(_) => false,
+    }
 }
 
 /// Numbers of workers that are too few and too many.
-const OUTSIDE: [How; 5] = [
+const OUTSIDE: &[How] = &[
     How::Halves(0),
     How::Halves(65),
     How::Halves(u32::MAX),
@@ -339,17 +355,18 @@ const OUTSIDE: [How; 5] = [
 ];
 
 /// Whether the workers are refused where the length of a file fails too.
-fn are_workers_refused<R: AllocGlobal + Threads + Sync>(rt: &R, how: How) -> Result<bool, Fail> {
-    let source = failing(rt.alloc(), &[], (0, None, 4))?;
-    Ok(answer_of_both(rt, &source, how)?.as_str() == "Workers")
+fn are_workers_refused<R: AllocGlobal + Threads + Sync>(rt: &R, how: How) -> bool {
+    match failing(rt.alloc(), &[], (0, None, 4)) {
+        Ok(source) => is_answer_of_both(rt, &source, how, "Workers"),
+        Err(_) => false,
+    }
 }
 
 #[test]
-fn judges_the_workers_first(rt: HostRuntime) -> Result<(), Fail> {
+fn judges_the_workers_first(rt: HostRuntime) {
     for how in OUTSIDE {
-        assert!(rt; are_workers_refused(&rt, how)?);
+        assert!(rt; are_workers_refused(&rt, *how));
     }
-    Ok(())
 }
 
 /// Files of two bytes and of one. Once both lengths were asked, one of the files is told to have another.
@@ -386,27 +403,26 @@ impl Source for Changing {
 /// The file, what it is told to have when it is asked again, and what is answered of the pieces.
 type Change = (u64, Option<u64>, &'static str);
 
-const CHANGES: [Change; 4] = [
+const CHANGES: &[Change] = &[
     (0, Some(3), "Changed { file: 0 }"),
     (1, Some(0), "Changed { file: 1 }"),
     (1, None, "Changed { file: 1 }"),
     (1, Some(1), "00 00"),
 ];
 
-fn is_change<R: AllocGlobal + Threads + Sync>(rt: &R, row: &Change) -> Result<bool, Fail> {
+fn is_change<R: AllocGlobal + Threads + Sync>(rt: &R, row: &Change) -> bool {
     let (file, again, wanted) = *row;
     let source = Changing {
         file,
         again,
         asked: AtomicU64::new(0),
     };
-    Ok(answer_of_both(rt, &source, How::Halves(2))?.as_str() == wanted)
+    is_answer_of_both(rt, &source, How::Halves(2), wanted)
 }
 
 #[test]
-fn tells_of_a_file_that_changes(rt: HostRuntime) -> Result<(), Fail> {
-    for row in &CHANGES {
-        assert!(rt; is_change(&rt, row)?);
+fn tells_of_a_file_that_changes(rt: HostRuntime) {
+    for row in CHANGES {
+        assert!(rt; is_change(&rt, row));
     }
-    Ok(())
 }

@@ -56,13 +56,17 @@ fn push_head(line: &mut String, torrent: &Torrent) -> Result<(), AllocError> {
 }
 
 // What is told of a torrent: its head, its files, its entries, and whether it is private.
+fn push_torrent(line: &mut String, torrent: &Torrent) -> Result<(), AllocError> {
+    push_head(line, torrent)?;
+    push_files(line, torrent)?;
+    line.push_str(" |")?;
+    push_entries(line, torrent)?;
+    line.push_str(if torrent.is_private() { " private" } else { "" })
+}
+
 fn line_of(alloc: Global, torrent: &Torrent) -> Result<String, AllocError> {
     let mut line = String::new(alloc);
-    push_head(&mut line, torrent)?;
-    push_files(&mut line, torrent)?;
-    line.push_str(" |")?;
-    push_entries(&mut line, torrent)?;
-    line.push_str(if torrent.is_private() { " private" } else { "" })?;
+    push_torrent(&mut line, torrent)?;
     Ok(line)
 }
 
@@ -77,30 +81,43 @@ fn told(alloc: Global, bytes: &[u8]) -> Result<String, AllocError> {
 // Bytes as parts, one after the other.
 pub(crate) type Parts = &'static [&'static [u8]];
 
-pub(crate) fn joined(alloc: Global, parts: &[&[u8]]) -> Result<Vec<u8>, AllocError> {
-    let mut bytes = Vec::new(alloc);
+fn add_parts(bytes: &mut Vec<u8>, parts: &[&[u8]]) -> Result<(), AllocError> {
     for part in parts {
         bytes.extend_from_slice(part)?;
     }
+    Ok(())
+}
+
+pub(crate) fn joined(alloc: Global, parts: &[&[u8]]) -> Result<Vec<u8>, AllocError> {
+    let mut bytes = Vec::new(alloc);
+    add_parts(&mut bytes, parts)?;
     Ok(bytes)
 }
 
 // The bytes, and what is told of them.
 pub(crate) type Row = (Parts, &'static str);
 
-pub(crate) fn is_right(alloc: Global, row: &Row) -> Result<bool, AllocError> {
-    let (parts, wanted) = row;
-    let bytes = joined(alloc, parts)?;
-    let line = told(alloc, &bytes)?;
-    Ok(line.as_str() == *wanted)
+// Whether there is a text, and this.
+pub(crate) fn is(text: Result<String, AllocError>, wanted: &str) -> bool {
+    match text {
+        Ok(text) => text.as_str() == wanted,
+        Err(_) => false,
+    }
+}
+
+pub(crate) fn is_right(alloc: Global, row: &Row) -> bool {
+    match joined(alloc, row.0) {
+        Ok(bytes) => is(told(alloc, &bytes), row.1),
+        Err(_) => false,
+    }
 }
 
 // Whether just what stands there is told of the bytes of each row.
-pub(crate) fn are_right(alloc: Global, rows: &[Row]) -> Result<bool, AllocError> {
+pub(crate) fn are_right(alloc: Global, rows: &[Row]) -> bool {
     for row in rows {
-        if !is_right(alloc, row)? {
-            return Ok(false);
+        if !is_right(alloc, row) {
+            return false;
         }
     }
-    Ok(true)
+    true
 }

@@ -4,7 +4,6 @@ use crate::layered::{L0, L1, TWO};
 use crate::layers::{Layered, are_layered};
 use crate::telling::{Row, are_right};
 use std::alloc::Global;
-use std::test::Fail;
 use tor_check::{Torrent, validate};
 
 // The files a = `ab` and b = `c` in the folder `f`, piece length 16,384: a torrent of version 1. The hash is the SHA-1
@@ -83,9 +82,8 @@ const ROWS: &[Row] = &[
 ];
 
 #[test]
-fn tells_why_bytes_are_no_torrent(rt: HostRuntime) -> Result<(), Fail> {
-    assert!(rt; are_right(rt.alloc(), ROWS)?);
-    Ok(())
+fn tells_why_bytes_are_no_torrent(rt: HostRuntime) {
+    assert!(rt; are_right(rt.alloc(), ROWS));
 }
 
 // That each file has a root, or none has.
@@ -156,9 +154,8 @@ const SIDES: &[Row] = &[
 ];
 
 #[test]
-fn compares_the_sides_of_a_hybrid(rt: HostRuntime) -> Result<(), Fail> {
-    assert!(rt; are_right(rt.alloc(), SIDES)?);
-    Ok(())
+fn compares_the_sides_of_a_hybrid(rt: HostRuntime) {
+    assert!(rt; are_right(rt.alloc(), SIDES));
 }
 
 // A torrent of version 2 of a file of two pieces: what stands before its root, and between the root and the one key of
@@ -191,8 +188,7 @@ const OF_ANOTHER: &[Row] = &[
 ];
 
 #[test]
-fn compares_a_layer_with_its_root(rt: HostRuntime) -> Result<(), Fail> {
-    assert!(rt; are_layered(rt.alloc(), OF_ITS_ROOT)?);
-    assert!(rt; are_right(rt.alloc(), OF_ANOTHER)?);
-    Ok(())
+fn compares_a_layer_with_its_root(rt: HostRuntime) {
+    assert!(rt; are_layered(rt.alloc(), OF_ITS_ROOT));
+    assert!(rt; are_right(rt.alloc(), OF_ANOTHER));
 }
