@@ -2,8 +2,8 @@
 //! were computed by another program (Python's hashlib).
 
 use crate::merkle::{Sums, whole_of};
-use crate::shared::{content, is_hex};
-use std::alloc::{AllocError, Global};
+use crate::shared::content;
+use std::alloc::AllocError;
 use std::process::Abort;
 use tor_merkle::{Feed, Hash, is_piece_length};
 
@@ -38,15 +38,26 @@ fn are_same(sums: &Sums, others: &Sums) -> bool {
     }
 }
 
-// Whether a feed tells what the plain program tells.
-fn agrees<R: AllocGlobal + Abort>(
+// Whether a feed tells the same sums.
+fn feed_agrees<R: AllocGlobal + Abort>(
     rt: &R,
     length: usize,
     piece_length: u64,
     part: usize,
-) -> Result<bool, AllocError> {
-    let sums = whole_of(rt, length, piece_length)?;
-    Ok(are_same(&fed_of(rt, length, piece_length, part)?, &sums))
+    sums: &Sums,
+) -> bool {
+    match fed_of(rt, length, piece_length, part) {
+        Ok(fed) => are_same(&fed, sums),
+        Err(_) => false,
+    }
+}
+
+// Whether a feed tells what the plain program tells.
+fn agrees<R: AllocGlobal + Abort>(rt: &R, length: usize, piece_length: u64, part: usize) -> bool {
+    match whole_of(rt.alloc(), length, piece_length) {
+        Ok(sums) => feed_agrees(rt, length, piece_length, part, &sums),
+        Err(_) => false,
+    }
 }
 
 // The length of the content, that of a piece, and that of the parts.
@@ -72,11 +83,10 @@ const ROWS: &[(usize, u64, usize)] = &[
 ];
 
 #[test]
-fn feeds_in_parts_what_lies_in_memory(rt: HostRuntime) -> Result<(), AllocError> {
+fn feeds_in_parts_what_lies_in_memory(rt: HostRuntime) {
     for (length, piece_length, part) in ROWS {
-        assert!(rt; agrees(&rt, *length, *piece_length, *part)?);
+        assert!(rt; agrees(&rt, *length, *piece_length, *part));
     }
-    Ok(())
 }
 
 // A byte fewer than so many blocks, those blocks, and a byte more: of 7, 8, 9, 16 and 17 blocks. Beside each the length
@@ -101,47 +111,41 @@ const RUNS: &[(usize, u64)] = &[
 
 // Eight whole blocks are hashed at once; they are fed at one time, and in parts of six blocks and some bytes.
 #[test]
-fn feeds_runs_as_the_plain_program(rt: HostRuntime) -> Result<(), AllocError> {
+fn feeds_runs_as_the_plain_program(rt: HostRuntime) {
     for (length, piece_length) in RUNS {
-        assert!(rt; agrees(&rt, *length, *piece_length, 1 << 20)?);
-        assert!(rt; agrees(&rt, *length, *piece_length, 100_000)?);
+        assert!(rt; agrees(&rt, *length, *piece_length, 1 << 20));
+        assert!(rt; agrees(&rt, *length, *piece_length, 100_000));
     }
-    Ok(())
 }
 
-const ROOT: &str = "7b2ac37c09a99dbcfda8bb89f8604684ac60ba314f772fdde6f789123b5d9575";
+const ROOT: Hash = *b"\x7b\x2a\xc3\x7c\x09\xa9\x9d\xbc\xfd\xa8\xbb\x89\xf8\x60\x46\x84\
+\xac\x60\xba\x31\x4f\x77\x2f\xdd\xe6\xf7\x89\x12\x3b\x5d\x95\x75";
 
-const LAST: &str = "d63e0ec4c0a4ce56d4371cd1c4aab43f3164959fe9f442d6714721f84f60bcd1";
+const LAST: Hash = *b"\xd6\x3e\x0e\xc4\xc0\xa4\xce\x56\xd4\x37\x1c\xd1\xc4\xaa\xb4\x3f\
+\x31\x64\x95\x9f\xe9\xf4\x42\xd6\x71\x47\x21\xf8\x4f\x60\xbc\xd1";
 
 // Whether a layer has 25 hashes, of which that is the last.
-fn is_layer_of_a_hundred(alloc: Global, layer: &[Hash]) -> Result<bool, AllocError> {
+fn is_layer_of_a_hundred(layer: &[Hash]) -> bool {
     match layer.get(24) {
-        Some(last) => Ok(layer.len() == 25 && is_hex(alloc, last, LAST)?),
-        None => Ok(false),
+        Some(last) => layer.len() == 25 && *last == LAST,
+        None => false,
     }
 }
 
 // Whether a hundred blocks, fed in such parts, have this root and such a layer.
-fn are_of_a_hundred_blocks<R: AllocGlobal + Abort>(
-    rt: &R,
-    part: usize,
-) -> Result<bool, AllocError> {
-    match fed_of(rt, 1_638_400, 65_536, part)? {
-        Some(sums) => Ok(
-            is_hex(rt.alloc(), &sums.0, ROOT)? && is_layer_of_a_hundred(rt.alloc(), &sums.1)?,
-        ),
-        None => Ok(false),
+fn are_of_a_hundred_blocks<R: AllocGlobal + Abort>(rt: &R, part: usize) -> bool {
+    match fed_of(rt, 1_638_400, 65_536, part) {
+        Ok(Some(sums)) => sums.0 == ROOT && is_layer_of_a_hundred(&sums.1),
+        _ => false,
     }
 }
 
 #[test]
-fn tells_the_root_of_a_hundred_blocks(rt: HostRuntime) -> Result<(), AllocError> {
-    assert!(rt; are_of_a_hundred_blocks(&rt, 77_777)?);
-    Ok(())
+fn tells_the_root_of_a_hundred_blocks(rt: HostRuntime) {
+    assert!(rt; are_of_a_hundred_blocks(&rt, 77_777));
 }
 
 #[test]
-fn tells_the_root_of_a_hundred_blocks_fed_at_one_time(rt: HostRuntime) -> Result<(), AllocError> {
-    assert!(rt; are_of_a_hundred_blocks(&rt, 1_638_400)?);
-    Ok(())
+fn tells_the_root_of_a_hundred_blocks_fed_at_one_time(rt: HostRuntime) {
+    assert!(rt; are_of_a_hundred_blocks(&rt, 1_638_400));
 }

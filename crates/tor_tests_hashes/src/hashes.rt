@@ -7,7 +7,6 @@ use crate::shared::content;
 use sha1::Sha1;
 use sha2::{Digest, Sha256};
 use std::alloc::{AllocError, Global};
-use std::process::Abort;
 use tor_hashes::{block_hashes, node_hashes, piece_hashes};
 
 // SHA-256 of 64 zero bytes, as sha256sum tells it.
@@ -73,11 +72,7 @@ const MILLION: [u8; 20] = [
 ];
 
 fn repeated(alloc: Global, byte: u8, length: usize) -> Result<Vec<u8>, AllocError> {
-    let mut bytes = Vec::with_capacity(alloc, length)?;
-    for _i in 0..length {
-        bytes.push(byte)?;
-    }
-    Ok(bytes)
+    vec![in alloc; byte; length]
 }
 
 // Whether the hash of each message of `size` bytes is that of SHA-256.
@@ -112,62 +107,121 @@ fn are_sha1(bytes: &[u8], size: usize, hashes: &[[u8; 20]; 8]) -> bool
     true
 }
 
-// The SHA-1 of eight messages of `size` bytes, where `bytes` has as many.
-fn pieces_of<R: Abort>(rt: &R, bytes: &[u8], size: usize) -> [[u8; 20]; 8] {
-    assert!(rt; size <= 1 << 28);
-    assert!(rt; size % 64 == 0);
-    assert!(rt; bytes.len() == 8 * size);
-    piece_hashes(bytes, size)
-}
-
-#[test]
-fn hashes_eight_blocks(rt: HostRuntime) -> Result<(), AllocError> {
-    let bytes = content(rt.alloc(), 131_072)?;
-    assert!(rt; bytes.len() == 131_072);
-    let hashes = block_hashes(&bytes);
-    assert!(rt; are_sha256(&bytes, 16_384, &hashes));
-    assert!(rt; hashes == BLOCKS);
-    Ok(())
-}
-
-#[test]
-fn hashes_eight_nodes(rt: HostRuntime) -> Result<(), AllocError> {
-    let bytes = content(rt.alloc(), 512)?;
-    assert!(rt; bytes.len() == 512);
-    assert!(rt; are_sha256(&bytes, 64, &node_hashes(&bytes)));
-    Ok(())
-}
-
-#[test]
-fn hashes_eight_pieces(rt: HostRuntime) -> Result<(), AllocError> {
-    for size in [64, 16_384] {
-        assert!(rt; size == 64 || size == 16_384);
-        let bytes = content(rt.alloc(), 8 * size)?;
-        assert!(rt; are_sha1(&bytes, size, &pieces_of(&rt, &bytes, size)));
+// The SHA-256 of eight blocks, where `bytes` has as many.
+fn blocks_of(bytes: &[u8]) -> Option<[[u8; 32]; 8]> {
+    if bytes.len() == 131_072 {
+        Some(block_hashes(bytes))
+    } else {
+        None
     }
-    Ok(())
+}
+
+// The SHA-256 of eight nodes.
+fn nodes_of(bytes: &[u8]) -> Option<[[u8; 32]; 8]> {
+    if bytes.len() == 512 {
+        Some(node_hashes(bytes))
+    } else {
+        None
+    }
+}
+
+// The SHA-1 of eight messages of `size` bytes.
+fn pieces_of(bytes: &[u8], size: usize) -> Option<[[u8; 20]; 8]> {
+    if size <= 1 << 28 && size % 64 == 0 && bytes.len() == 8 * size {
+        Some(piece_hashes(bytes, size))
+    } else {
+        None
+    }
+}
+
+// Whether eight blocks have the hashes of the kit and those above.
+fn are_blocks_right(bytes: &[u8]) -> bool {
+    match blocks_of(bytes) {
+        Some(hashes) => are_sha256(bytes, 16_384, &hashes) && hashes == BLOCKS,
+        None => false,
+    }
+}
+
+fn are_nodes_right(bytes: &[u8]) -> bool {
+    match nodes_of(bytes) {
+        Some(hashes) => are_sha256(bytes, 64, &hashes),
+        None => false,
+    }
+}
+
+fn are_pieces_right(bytes: &[u8], size: usize) -> bool {
+    match pieces_of(bytes, size) {
+        Some(hashes) => size > 0 && are_sha1(bytes, size, &hashes),
+        None => false,
+    }
+}
+
+fn are_content_blocks_right(alloc: Global) -> bool {
+    match content(alloc, 131_072) {
+        Ok(bytes) => are_blocks_right(&bytes),
+        Err(_) => false,
+    }
 }
 
 #[test]
-fn hashes_zeros(rt: HostRuntime) -> Result<(), AllocError> {
-    let nodes = repeated(rt.alloc(), 0, 512)?;
-    assert!(rt; nodes.len() == 512);
-    for hash in &node_hashes(&nodes) {
-        assert!(rt; *hash == ZERO_NODE);
+fn hashes_eight_blocks(rt: HostRuntime) {
+    assert!(rt; are_content_blocks_right(rt.alloc()));
+}
+
+fn are_content_nodes_right(alloc: Global) -> bool {
+    match content(alloc, 512) {
+        Ok(bytes) => are_nodes_right(&bytes),
+        Err(_) => false,
     }
-    let blocks = repeated(rt.alloc(), 0, 131_072)?;
-    assert!(rt; blocks.len() == 131_072);
-    for hash in &block_hashes(&blocks) {
-        assert!(rt; *hash == ZERO_BLOCK);
-    }
-    Ok(())
 }
 
 #[test]
-fn hashes_a_million_letters(rt: HostRuntime) -> Result<(), AllocError> {
-    let bytes = repeated(rt.alloc(), b'a', 8_000_000)?;
-    for hash in &pieces_of(&rt, &bytes, 1_000_000) {
-        assert!(rt; *hash == MILLION);
+fn hashes_eight_nodes(rt: HostRuntime) {
+    assert!(rt; are_content_nodes_right(rt.alloc()));
+}
+
+// Whether a content of eight messages of `size` bytes is hashed right.
+fn are_content_pieces_right(alloc: Global, length: usize, size: usize) -> bool {
+    match content(alloc, length) {
+        Ok(bytes) => are_pieces_right(&bytes, size),
+        Err(_) => false,
     }
-    Ok(())
+}
+
+#[test]
+fn hashes_eight_pieces(rt: HostRuntime) {
+    assert!(rt; are_content_pieces_right(rt.alloc(), 512, 64));
+    assert!(rt; are_content_pieces_right(rt.alloc(), 131_072, 16_384));
+}
+
+fn are_zero_nodes_right(alloc: Global) -> bool {
+    match repeated(alloc, 0, 512) {
+        Ok(bytes) => nodes_of(&bytes) == Some([ZERO_NODE; 8]),
+        Err(_) => false,
+    }
+}
+
+fn are_zero_blocks_right(alloc: Global) -> bool {
+    match repeated(alloc, 0, 131_072) {
+        Ok(bytes) => blocks_of(&bytes) == Some([ZERO_BLOCK; 8]),
+        Err(_) => false,
+    }
+}
+
+#[test]
+fn hashes_zeros(rt: HostRuntime) {
+    assert!(rt; are_zero_nodes_right(rt.alloc()));
+    assert!(rt; are_zero_blocks_right(rt.alloc()));
+}
+
+fn are_letters_right(alloc: Global) -> bool {
+    match repeated(alloc, b'a', 8_000_000) {
+        Ok(bytes) => pieces_of(&bytes, 1_000_000) == Some([MILLION; 8]),
+        Err(_) => false,
+    }
+}
+
+#[test]
+fn hashes_a_million_letters(rt: HostRuntime) {
+    assert!(rt; are_letters_right(rt.alloc()));
 }

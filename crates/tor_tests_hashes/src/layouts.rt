@@ -1,27 +1,36 @@
 //! The list of files of version 1, written out by hand.
 
-use crate::shared::{Files, list_of, path};
+use crate::shared::{Files, is, list_of, thousand_files};
 use std::alloc::{AllocError, Global};
 use std::fmt::Write;
-use std::test::Fail;
 use tor_tree::{FileList, FilePath};
 use tor_v1::{Entry, Layout, LayoutError, is_reserved, lay_out};
 
-/// The entries as text: path and length, padding with an equals sign.
-fn entries_text(alloc: Global, entries: &[Entry]) -> Result<String, Fail> {
-    let mut text = String::new(alloc);
-    for entry in entries {
-        for (index, name) in entry.path.names().iter().enumerate() {
-            if index > 0 {
-                text.push('/')?;
-            }
-            for byte in name.as_bytes() {
-                text.push(char::from(*byte))?;
-            }
-        }
-        let sign = if entry.pad { '=' } else { ':' };
-        write!(text, "{sign}{} ", entry.length)?;
+// The names of a path, with slashes between.
+fn push_path(text: &mut String, path: &FilePath) -> Result<(), AllocError> {
+    let mut between = "";
+    for name in path.names() {
+        text.push_str(between)?;
+        text.push_str(name.as_str())?;
+        between = "/";
     }
+    Ok(())
+}
+
+// The entries as text: path and length, padding with an equals sign.
+fn push_entries(text: &mut String, entries: &[Entry]) -> Result<(), AllocError> {
+    for entry in entries {
+        push_path(text, &entry.path)?;
+        text.push(if entry.pad { '=' } else { ':' })?;
+        let length = entry.length;
+        write!(text, "{length} ")?;
+    }
+    Ok(())
+}
+
+fn entries_text(alloc: Global, entries: &[Entry]) -> Result<String, AllocError> {
+    let mut text = String::new(alloc);
+    push_entries(&mut text, entries)?;
     Ok(text)
 }
 
@@ -53,24 +62,25 @@ const ROWS: &[Row] = &[
 ];
 
 // What files give: their entries, or why they have none.
-fn laid_out(alloc: Global, list: &FileList, layout: Layout) -> Result<String, Fail> {
+fn laid_out(alloc: Global, list: &FileList, layout: Layout) -> Result<String, AllocError> {
     match lay_out(alloc, list, 16384, layout) {
         Ok(entries) => entries_text(alloc, &entries),
-        Err(fault) => Ok(format!(in alloc; "{fault}")?),
+        Err(fault) => format!(in alloc; "{fault}"),
     }
 }
 
-fn is_laid_out(alloc: Global, row: &Row) -> Result<bool, Fail> {
-    let list = list_of(alloc, row.0)?;
-    Ok(laid_out(alloc, &list, row.1)?.as_str() == row.2)
+fn is_laid_out(alloc: Global, row: &Row) -> bool {
+    match list_of(alloc, row.0) {
+        Ok(list) => is(laid_out(alloc, &list, row.1), row.2),
+        Err(_) => false,
+    }
 }
 
 #[test]
-fn lays_out_files(rt: HostRuntime) -> Result<(), Fail> {
+fn lays_out_files(rt: HostRuntime) {
     for row in ROWS {
-        assert!(rt; is_laid_out(rt.alloc(), row)?);
+        assert!(rt; is_laid_out(rt.alloc(), row));
     }
-    Ok(())
 }
 
 // Files, whether a path of theirs is reserved, and what their aligned list gives.
@@ -85,42 +95,58 @@ const RESERVED: &[Reserved] = &[
     (&[(".pa", 1)], false, ".pa:1 "),
 ];
 
-fn is_judged(alloc: Global, row: &Reserved) -> Result<bool, Fail> {
-    let list = list_of(alloc, row.0)?;
-    let reserved = list.files().iter().any(|file| is_reserved(&file.0));
-    Ok(reserved == row.1 && laid_out(alloc, &list, Layout::Aligned)?.as_str() == row.2)
+// Whether a path of a list is reserved.
+fn has_reserved(list: &FileList) -> bool {
+    for file in list.files() {
+        if is_reserved(&file.0) {
+            return true;
+        }
+    }
+    false
+}
+
+fn is_judged(alloc: Global, row: &Reserved) -> bool {
+    match list_of(alloc, row.0) {
+        Ok(list) => {
+            has_reserved(&list) == row.1 && is(laid_out(alloc, &list, Layout::Aligned), row.2)
+        }
+        Err(_) => false,
+    }
 }
 
 #[test]
-fn refuses_paths_of_padding_in_aligned_lists(rt: HostRuntime) -> Result<(), Fail> {
+fn refuses_paths_of_padding_in_aligned_lists(rt: HostRuntime) {
     for row in RESERVED {
-        assert!(rt; is_judged(rt.alloc(), row)?);
+        assert!(rt; is_judged(rt.alloc(), row));
     }
-    let text = format!(in rt.alloc(); "{}", LayoutError::from(AllocError))?;
-    assert!(rt; text.as_str() == "out of memory");
-    Ok(())
-}
-
-// The file at an index of a thousand.
-fn numbered_path(alloc: Global, index: u64) -> Result<FilePath, Fail> {
-    let text = format!(in alloc; "folder/{index:03}")?;
-    path(alloc, text.as_str())
-}
-
-// A thousand files, each as long as its index says.
-fn thousand_files(alloc: Global) -> Result<FileList, Fail> {
-    let mut files = Vec::new(alloc);
-    for index in 0..1000u64 {
-        files.push((numbered_path(alloc, index)?, index))?;
-    }
-    Ok(FileList::build(alloc, files)?)
 }
 
 #[test]
-fn lays_out_a_thousand_files(rt: HostRuntime) -> Result<(), Fail> {
-    let list = thousand_files(rt.alloc())?;
-    // Neither the first, which is empty, nor the last has padding.
-    assert!(rt; lay_out(rt.alloc(), &list, 100_000, Layout::Aligned)?.len() == 1998);
-    assert!(rt; lay_out(rt.alloc(), &list, 1, Layout::Aligned)?.len() == 1000);
-    Ok(())
+fn tells_want_of_memory(rt: HostRuntime) {
+    let fault = LayoutError::from(AllocError);
+    assert!(rt; is(format!(in rt.alloc(); "{fault}"), "out of memory"));
+}
+
+// How many entries a list has.
+fn count_of(alloc: Global, list: &FileList, piece_length: u64) -> usize {
+    if piece_length == 0 || piece_length > 1 << 30 {
+        return 0;
+    }
+    match lay_out(alloc, list, piece_length, Layout::Aligned) {
+        Ok(entries) => entries.len(),
+        Err(_) => 0,
+    }
+}
+
+// Neither the first, which is empty, nor the last has padding.
+fn is_thousand_laid_out(alloc: Global) -> bool {
+    match thousand_files(alloc, "folder/", 1) {
+        Ok(list) => count_of(alloc, &list, 100_000) == 1998 && count_of(alloc, &list, 1) == 1000,
+        Err(_) => false,
+    }
+}
+
+#[test]
+fn lays_out_a_thousand_files(rt: HostRuntime) {
+    assert!(rt; is_thousand_laid_out(rt.alloc()));
 }

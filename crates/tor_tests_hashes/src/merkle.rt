@@ -1,66 +1,55 @@
 //! Roots, layers and stacks. Hashes in hexadecimal were computed by another program (Python's hashlib), of contents
 //! whose byte i is i % 251.
 
-use crate::shared::{content, is_hex};
+use crate::shared::content;
 use std::alloc::{AllocError, Global};
-use std::process::Abort;
 use tor_merkle::laws::piece_length_bounds;
-use tor_merkle::{
-    Feed, Hash, Stack, is_piece_length, layer_root, leaf, pair, piece_level, whole, zero,
-};
+use tor_merkle::{Feed, Hash, Stack, is_piece_length, layer_root, leaf, pair, whole, zero};
 
 // Root and layer of a content; none of no byte.
 pub(crate) type Sums = Option<(Hash, Vec<Hash>)>;
 
-pub(crate) fn whole_of<R: AllocGlobal + Abort>(
-    rt: &R,
+pub(crate) fn whole_of(
+    alloc: Global,
     length: usize,
     piece_length: u64,
 ) -> Result<Sums, AllocError> {
-    let bytes = content(rt.alloc(), length)?;
-    assert!(rt; bytes.len() <= 1 << 50);
-    assert!(rt; is_piece_length(piece_length));
-    Ok(whole(rt.alloc(), &bytes, piece_length)?)
-}
-
-pub(crate) fn layer_of<R: AllocGlobal + Abort>(
-    rt: &R,
-    length: usize,
-    piece_length: u64,
-) -> Result<Vec<Hash>, AllocError> {
-    match whole_of(rt, length, piece_length)? {
-        Some(sums) => Ok(sums.1),
-        None => Ok(Vec::new(rt.alloc())),
+    let bytes = content(alloc, length)?;
+    if bytes.len() > 1 << 50 || !is_piece_length(piece_length) {
+        return Err(AllocError);
     }
+    whole(alloc, &bytes, piece_length)
 }
 
-pub(crate) fn root_of<R: AllocGlobal + Abort>(
-    rt: &R,
-    length: usize,
-    piece_length: u64,
-) -> Result<Option<Hash>, AllocError> {
-    match whole_of(rt, length, piece_length)? {
-        Some(sums) => Ok(Some(sums.0)),
-        None => Ok(None),
-    }
-}
+// The leaves of the blocks, and of shorter last ones: of three bytes, of one, of 7,232 and of five.
+pub(crate) const L0: Hash = *b"\x43\x48\xe3\xb9\x8e\x8a\x32\x7b\x34\xce\xd3\x9c\x1d\xa9\xe6\x7c\
+\xdb\x4c\xd5\xe4\x8e\x4d\x79\x60\x60\x7a\x3a\xe4\x03\xd3\x5f\x0c";
 
-// Whether the first of these hashes are so many in hexadecimal.
-pub(crate) fn are_hex(alloc: Global, hashes: &[Hash], texts: &[&str]) -> Result<bool, AllocError> {
-    for (hash, text) in hashes.iter().zip(texts) {
-        if !is_hex(alloc, hash, text)? {
-            return Ok(false);
-        }
-    }
-    Ok(true)
-}
+pub(crate) const L1: Hash = *b"\xf7\xc9\x04\x5c\x2a\x79\xa8\xa2\xa5\x87\xef\xbf\x5b\x31\x06\x52\
+\x68\x5b\x29\x2e\x6f\xbb\x0b\x08\xc1\xdf\x85\x75\x00\xda\x26\x99";
 
-// The leaves of the first three blocks.
-const L0: &str = "4348e3b98e8a327b34ced39c1da9e67cdb4cd5e48e4d7960607a3ae403d35f0c";
+pub(crate) const L2: Hash = *b"\x59\x7f\x81\x85\x97\x24\xf9\x79\xae\xce\x03\xe9\x5c\x04\x8d\x6e\
+\xe5\xc6\xd5\x93\x51\xe6\xa4\xdb\x04\x89\x97\xdb\x6f\x05\xc8\x45";
 
-const L1: &str = "f7c9045c2a79a8a2a587efbf5b310652685b292e6fbb0b08c1df857500da2699";
+const L3: Hash = *b"\xe2\x0f\x1d\x51\x95\x1c\x26\xd9\x54\x12\xe7\x11\xa1\x95\xc7\x4f\
+\x1d\x43\x17\xef\x26\x0e\x98\xf2\xf8\x6e\x74\xed\x41\x4c\x67\x0f";
 
-const L2: &str = "597f81859724f979aece03e95c048d6ee5c6d59351e6a4db048997db6f05c845";
+const L4: Hash = *b"\x10\xf1\x3f\x06\x7b\x84\xb1\xb4\xa6\xa1\x9e\x8e\x59\xe2\x60\x93\
+\x78\x6c\xbd\xa1\xf5\x31\xc5\x44\x57\xe6\x65\x4a\x55\x1f\x65\x9f";
+
+const OF_THREE: Hash = *b"\xae\x4b\x32\x80\xe5\x6e\x2f\xaf\x83\xf4\x14\xa6\xe3\xda\xbe\x9d\
+\x5f\xbe\x18\x97\x65\x44\xc0\x5f\xed\x12\x1a\xcc\xb8\x5b\x53\xfc";
+
+const LAST_OF_ONE: Hash = *b"\xa9\xf5\x15\x66\xbd\x67\x05\xf7\xea\x6a\xd5\x4b\xb9\xde\xb4\x49\
+\xf7\x95\x58\x2d\x65\x29\xa0\xe2\x22\x07\xb8\x98\x12\x33\xec\x58";
+
+pub(crate) const LAST_OF_7232: Hash =
+    *b"\x8e\xc9\x9c\x0f\xa9\x06\xcc\xb8\x1a\x4c\x7b\x86\x98\x39\x28\x3e\
+\x27\x3b\x59\x6b\x82\x4b\x31\x00\x7f\x66\x49\xd3\x12\x81\xdb\x63";
+
+pub(crate) const LAST_OF_FIVE: Hash =
+    *b"\xf5\x5d\xf4\x2e\xa5\xfe\x16\x59\x35\x49\xba\xbd\x66\x16\xbf\xd0\
+\xc8\xee\x9c\x00\x96\xf0\x82\x71\x3c\xa9\xb8\x1b\x30\x8b\x27\xf3";
 
 // Five blocks in pieces of two (BEP 52, "pieces root", "piece layers"). The layer has the hash of each piece. Past
 // the end stand zero subtrees, z0 of one leaf and z1 of two, and the layer has none of them.
@@ -72,159 +61,169 @@ const L2: &str = "597f81859724f979aece03e95c048d6ee5c6d59351e6a4db048997db6f05c8
 //      p0        p1          p2        z1        the layer: p0 p1 p2
 //     /  \      /  \        /  \      /  \
 //   b0    b1  b2    b3    b4    z0  z0    z0     the SHA-256 of each block
-const P0: &str = "d9e13d0b676ad681164ef0b7b5910d1328ea83a047cad57e619d76bbe3a08525";
+pub(crate) const P0: Hash = *b"\xd9\xe1\x3d\x0b\x67\x6a\xd6\x81\x16\x4e\xf0\xb7\xb5\x91\x0d\x13\
+\x28\xea\x83\xa0\x47\xca\xd5\x7e\x61\x9d\x76\xbb\xe3\xa0\x85\x25";
 
-const P1: &str = "e28097eaaa55956702cf8195d1a551dbabb63e3d679b294cf33d506a6b5ef479";
+pub(crate) const P1: Hash = *b"\xe2\x80\x97\xea\xaa\x55\x95\x67\x02\xcf\x81\x95\xd1\xa5\x51\xdb\
+\xab\xb6\x3e\x3d\x67\x9b\x29\x4c\xf3\x3d\x50\x6a\x6b\x5e\xf4\x79";
 
-const P2: &str = "8f954551952d5d157cc3a8502295e436fdb881a09a5498dfe0edf5aa61702abf";
+pub(crate) const P2: Hash = *b"\x8f\x95\x45\x51\x95\x2d\x5d\x15\x7c\xc3\xa8\x50\x22\x95\xe4\x36\
+\xfd\xb8\x81\xa0\x9a\x54\x98\xdf\xe0\xed\xf5\xaa\x61\x70\x2a\xbf";
 
-const OF_THREE: &str = "ae4b3280e56e2faf83f414a6e3dabe9d5fbe18976544c05fed121accb85b53fc";
+// The roots of two and of four leaves past the end.
+pub(crate) const Z1: Hash = *b"\xf5\xa5\xfd\x42\xd1\x6a\x20\x30\x27\x98\xef\x6e\xd3\x09\x97\x9b\
+\x43\x00\x3d\x23\x20\xd9\xf0\xe8\xea\x98\x31\xa9\x27\x59\xfb\x4b";
 
-const OF_TWO_BLOCKS: &str = "9d7887c65d577a0237fb3c0998b87b3a62762d03796889a2caea01db914ccbb8";
+pub(crate) const Z2: Hash = *b"\xdb\x56\x11\x4e\x00\xfd\xd4\xc1\xf8\x5c\x89\x2b\xf3\x5a\xc9\xa8\
+\x92\x89\xaa\xec\xb1\xeb\xd0\xa9\x6c\xde\x60\x6a\x74\x8b\x5d\x71";
 
-const OF_THREE_BLOCKS: &str = "c23d35ec942288a7d9b58d1d0446a76104660b7c72e5cf39f38bddb028ff8ca0";
+// The last piece of three blocks, and the first of one block, of two and of four blocks a piece.
+const LAST_P1: Hash = *b"\xd5\xb0\xe3\x6f\x05\xee\xdd\x8f\xea\x72\x69\xf4\x81\x69\xe1\x25\
+\x96\xa5\x89\xf6\xc8\x85\x93\xb9\x27\x9c\x63\x27\xab\x4c\x22\x8b";
 
-const OF_FIVE_BLOCKS: &str = "ecc31c9c67d9c7b8c7f2540df72208ac59a0dc2f7b2477b26638db313a245ca4";
+const WIDE: Hash = *b"\x03\xcc\x1a\x6c\x6a\x86\x49\x7f\x37\x6f\xc0\x0f\x50\xe4\xd4\x5b\
+\xd6\x4e\x6e\xeb\x0c\x5f\xbf\x89\xe7\x3a\x42\xd9\x98\x71\x08\x6e";
 
-// The length of the content, that of a piece, the root, and how many hashes the layer has.
-type Row = (usize, u64, &'static str, usize);
+const WIDER: Hash = *b"\xaf\xcd\x98\x48\x23\x2a\x82\xfa\x8d\xa1\xaa\x93\x2d\xb2\xb0\x32\
+\x5f\x07\x9d\x91\x44\x75\x34\xb6\x0f\x8f\x03\xa7\xc1\x13\xe2\x58";
+
+// The roots of contents.
+const OF_TWO_BLOCKS: Hash = *b"\x9d\x78\x87\xc6\x5d\x57\x7a\x02\x37\xfb\x3c\x09\x98\xb8\x7b\x3a\
+\x62\x76\x2d\x03\x79\x68\x89\xa2\xca\xea\x01\xdb\x91\x4c\xcb\xb8";
+
+pub(crate) const OF_40000: Hash =
+    *b"\xab\x67\x16\x31\xa9\xfa\x97\xa1\xfd\xac\x65\x1f\xff\x6c\x68\x77\
+\x3b\x9a\xcf\x07\x35\xb9\xc7\xf6\xec\xdd\x54\xcb\xf1\xbf\x5d\xc2";
+
+const OF_THREE_BLOCKS: Hash = *b"\xc2\x3d\x35\xec\x94\x22\x88\xa7\xd9\xb5\x8d\x1d\x04\x46\xa7\x61\
+\x04\x66\x0b\x7c\x72\xe5\xcf\x39\xf3\x8b\xdd\xb0\x28\xff\x8c\xa0";
+
+pub(crate) const OF_49157: Hash =
+    *b"\x4b\xe4\xcf\x03\x0e\x4a\x5a\xad\xb5\x04\x5a\xbe\xe9\xad\xbc\x14\
+\x86\xd3\x39\xa1\xd3\x4f\xb4\xee\x06\x32\xe6\xc7\x67\xe0\x28\x85";
+
+pub(crate) const OF_FIVE_BLOCKS: Hash =
+    *b"\xec\xc3\x1c\x9c\x67\xd9\xc7\xb8\xc7\xf2\x54\x0d\xf7\x22\x08\xac\
+\x59\xa0\xdc\x2f\x7b\x24\x77\xb2\x66\x38\xdb\x31\x3a\x24\x5c\xa4";
+
+pub(crate) const BLOCKS_OF_40000: &[Hash] = &[L0, L1, LAST_OF_7232];
+
+pub(crate) const BLOCKS_OF_49157: &[Hash] = &[L0, L1, L2, LAST_OF_FIVE];
+
+pub(crate) const FIVE_BLOCKS: &[Hash] = &[L0, L1, L2, L3, L4];
+
+pub(crate) const FIVE_BY_TWO: &[Hash] = &[P0, P1, P2];
+
+// The length of the content, that of a piece, the root, and the layer.
+type Row = (usize, u64, Option<Hash>, &'static [Hash]);
 
 const ROWS: &[Row] = &[
-    (0, 16_384, "", 0),
-    (3, 16_384, OF_THREE, 0),
-    (16_384, 16_384, L0, 0),
-    (16_385, 16_384, OF_TWO_BLOCKS, 2),
-    (32_768, 32_768, P0, 0),
-    (49_152, 16_384, OF_THREE_BLOCKS, 3),
-    (81_920, 32_768, OF_FIVE_BLOCKS, 3),
-    (81_920, 1 << 30, OF_FIVE_BLOCKS, 0),
+    (0, 16_384, None, &[]),
+    (3, 16_384, Some(OF_THREE), &[]),
+    (16_384, 16_384, Some(L0), &[]),
+    (16_385, 16_384, Some(OF_TWO_BLOCKS), &[L0, LAST_OF_ONE]),
+    (32_768, 32_768, Some(P0), &[]),
+    (40_000, 16_384, Some(OF_40000), BLOCKS_OF_40000),
+    (49_152, 16_384, Some(OF_THREE_BLOCKS), &[L0, L1, L2]),
+    (49_152, 32_768, Some(OF_THREE_BLOCKS), &[P0, LAST_P1]),
+    (49_157, 16_384, Some(OF_49157), BLOCKS_OF_49157),
+    (81_920, 32_768, Some(OF_FIVE_BLOCKS), FIVE_BY_TWO),
+    (81_920, 16_384, Some(OF_FIVE_BLOCKS), FIVE_BLOCKS),
+    (81_920, 1 << 30, Some(OF_FIVE_BLOCKS), &[]),
 ];
 
-fn has_root<R: AllocGlobal + Abort>(rt: &R, row: &Row) -> Result<bool, AllocError> {
-    let (length, piece_length, root, hashes) = *row;
-    match whole_of(rt, length, piece_length)? {
-        Some(sums) => Ok(sums.1.len() == hashes && is_hex(rt.alloc(), &sums.0, root)?),
-        None => Ok(root.is_empty() && hashes == 0),
+fn has_sums(alloc: Global, row: &Row) -> bool {
+    let (length, piece_length, root, layer) = *row;
+    match whole_of(alloc, length, piece_length) {
+        Ok(Some(sums)) => root == Some(sums.0) && sums.1.as_slice() == layer,
+        Ok(None) => root.is_none() && layer.is_empty(),
+        Err(_) => false,
     }
 }
 
 #[test]
-fn tells_the_root_of_a_content(rt: HostRuntime) -> Result<(), AllocError> {
+fn tells_root_and_layer_of_a_content(rt: HostRuntime) {
     for row in ROWS {
-        assert!(rt; has_root(&rt, row)?);
+        assert!(rt; has_sums(rt.alloc(), row));
     }
-    Ok(())
 }
 
-// Whether these are the layer and the blocks of the tree that is drawn above, under this root.
-fn are_drawn(root: &Hash, layer: &[Hash], blocks: &[Hash]) -> bool {
-    match (layer, blocks) {
-        ([p0, p1, p2], [b0, b1, _, _, b4]) => {
-            *root == pair(&pair(p0, p1), &pair(p2, &zero(1)))
-                && *p0 == pair(b0, b1)
-                && *p2 == pair(b4, &zero(0))
-        }
-        _ => false,
-    }
+// Whether the hashes are those of the tree that is drawn above.
+fn are_drawn() -> bool {
+    pair(&pair(&P0, &P1), &pair(&P2, &zero(1))) == OF_FIVE_BLOCKS
+        && pair(&L0, &L1) == P0
+        && pair(&L4, &zero(0)) == P2
 }
 
 #[test]
-fn tells_the_layer_of_five_blocks(rt: HostRuntime) -> Result<(), AllocError> {
-    let root = root_of(&rt, 81_920, 32_768)?.unwrap_or([0; 32]);
-    let layer = layer_of(&rt, 81_920, 32_768)?;
-    assert!(rt; layer.len() == 3);
-    assert!(rt; are_hex(rt.alloc(), &layer, &[P0, P1, P2])?);
-    let blocks = layer_of(&rt, 81_920, 16_384)?;
-    assert!(rt; blocks.len() == 5);
-    assert!(rt; are_hex(rt.alloc(), &blocks, &[L0, L1, L2])?);
-    assert!(rt; are_drawn(&root, &layer, &blocks));
-    Ok(())
+fn tells_the_layer_of_five_blocks(rt: HostRuntime) {
+    assert!(rt; are_drawn());
 }
 
 // The roots of the pieces of a content, by a feed.
-fn piece_roots_of<R: AllocGlobal + Abort>(
-    rt: &R,
+fn piece_roots_of(
+    alloc: Global,
     length: usize,
     piece_length: u64,
 ) -> Result<Vec<Hash>, AllocError> {
-    let bytes = content(rt.alloc(), length)?;
-    assert!(rt; bytes.len() <= 1 << 50);
-    assert!(rt; is_piece_length(piece_length));
-    let mut feed = Feed::new(rt.alloc(), piece_length);
+    let bytes = content(alloc, length)?;
+    if bytes.len() > 1 << 50 || !is_piece_length(piece_length) {
+        return Err(AllocError);
+    }
+    let mut feed = Feed::new(alloc, piece_length);
     feed.feed(&bytes)?;
     Ok(feed.piece_roots())
 }
 
-fn has_piece_roots<R: AllocGlobal + Abort>(
-    rt: &R,
-    length: usize,
-    piece_length: u64,
-    wanted: &[Hash],
-) -> Result<bool, AllocError> {
-    Ok(piece_roots_of(rt, length, piece_length)?.as_slice() == wanted)
-}
+// The length of a content and of a piece, and the roots of its pieces.
+const PIECE_ROOTS: &[(usize, u64, &[Hash])] = &[
+    (0, 32_768, &[]),
+    (16_384, 32_768, &[WIDE]),
+    (16_384, 65_536, &[WIDER]),
+    (32_768, 32_768, &[P0]),
+    (49_152, 32_768, &[P0, LAST_P1]),
+    (49_152, 16_384, &[L0, L1, L2]),
+];
 
-// The leaves of three blocks.
-fn three_leaves<R: AllocGlobal + Abort>(rt: &R) -> Result<[Hash; 3], AllocError> {
-    let bytes = content(rt.alloc(), 49_152)?;
-    assert!(rt; bytes.len() == 49_152);
-    let (first, rest) = bytes.split_at(16_384);
-    let (second, third) = rest.split_at(16_384);
-    Ok([leaf(first), leaf(second), leaf(third)])
-}
-
-// Whether the root of three blocks is that over the two pieces that they are.
-fn has_root_over_pieces<R: AllocGlobal + Abort>(rt: &R) -> Result<bool, AllocError> {
-    let two = piece_roots_of(rt, 49_152, 32_768)?;
-    assert!(rt; is_piece_length(32_768));
-    let level = piece_level(32_768);
-    assert!(rt; level == 1 && two.len() == 2);
-    Ok(root_of(rt, 49_152, 32_768)? == Some(layer_root(&two, level)))
+fn has_piece_roots(alloc: Global, length: usize, piece_length: u64, roots: &[Hash]) -> bool {
+    match piece_roots_of(alloc, length, piece_length) {
+        Ok(found) => found.as_slice() == roots,
+        Err(_) => false,
+    }
 }
 
 #[test]
-fn widens_the_pieces_of_a_part(rt: HostRuntime) -> Result<(), AllocError> {
-    let [l0, l1, l2] = three_leaves(&rt)?;
-    let wide = pair(&l0, &zero(0));
-    assert!(rt; has_piece_roots(&rt, 0, 32_768, &[])?);
-    assert!(rt; has_piece_roots(&rt, 16_384, 32_768, &[wide])?);
-    assert!(rt; has_piece_roots(&rt, 16_384, 65_536, &[pair(&wide, &zero(1))])?);
-    assert!(rt; has_piece_roots(&rt, 32_768, 32_768, &[pair(&l0, &l1)])?);
-    assert!(rt; has_piece_roots(&rt, 49_152, 32_768, &[pair(&l0, &l1), pair(&l2, &zero(0))])?);
-    assert!(rt; has_piece_roots(&rt, 49_152, 16_384, &[l0, l1, l2])?);
-    assert!(rt; has_root_over_pieces(&rt)?);
-    Ok(())
+fn widens_the_pieces_of_a_part(rt: HostRuntime) {
+    for (length, piece_length, roots) in PIECE_ROOTS {
+        assert!(rt; has_piece_roots(rt.alloc(), *length, *piece_length, roots));
+    }
 }
 
-const OF_ABC: &str = "ba7816bf8f01cfea414140de5dae2223b00361a396177a9cb410ff61f20015ad";
-
-const OF_AB: &str = "fb8e20fc2e4c3f248c60c39bd652f3c1347298bb977b8b4d5903b85055620603";
-
-const OF_C: &str = "2e7d2c03a9507ae265ecf5b5356885a53393a2029d241394997265a1a25aefc6";
-
-const OF_PAIR: &str = "115323e562c4a4fdf7ceacedca660dc4bbe1389dab9323aad08440907c7426d0";
-
-const Z0: &str = "0000000000000000000000000000000000000000000000000000000000000000";
-
-const Z1: &str = "f5a5fd42d16a20302798ef6ed309979b43003d2320d9f0e8ea9831a92759fb4b";
-
-const Z2: &str = "db56114e00fdd4c1f85c892bf35ac9a89289aaecb1ebd0a96cde606a748b5d71";
+const TWO_PIECES: &[Hash; 2] = &[P0, LAST_P1];
 
 #[test]
-fn hashes_blocks_pairs_and_padding(rt: HostRuntime) -> Result<(), AllocError> {
-    let (ab, c) = (leaf(b"ab"), leaf(b"c"));
-    let hashes = [
-        leaf(b"abc"),
-        ab,
-        c,
-        zero(0),
-        zero(1),
-        zero(2),
-        pair(&ab, &c),
-    ];
-    let texts = [OF_ABC, OF_AB, OF_C, Z0, Z1, Z2, OF_PAIR];
-    assert!(rt; are_hex(rt.alloc(), &hashes, &texts)?);
-    Ok(())
+fn joins_the_roots_of_pieces(rt: HostRuntime) {
+    assert!(rt; layer_root(TWO_PIECES, 1) == OF_THREE_BLOCKS);
+}
+
+// The SHA-256 of `abc`, of `ab` and of `c`, and the node over the last two.
+const OF_ABC: Hash = *b"\xba\x78\x16\xbf\x8f\x01\xcf\xea\x41\x41\x40\xde\x5d\xae\x22\x23\
+\xb0\x03\x61\xa3\x96\x17\x7a\x9c\xb4\x10\xff\x61\xf2\x00\x15\xad";
+
+const OF_AB: Hash = *b"\xfb\x8e\x20\xfc\x2e\x4c\x3f\x24\x8c\x60\xc3\x9b\xd6\x52\xf3\xc1\
+\x34\x72\x98\xbb\x97\x7b\x8b\x4d\x59\x03\xb8\x50\x55\x62\x06\x03";
+
+const OF_C: Hash = *b"\x2e\x7d\x2c\x03\xa9\x50\x7a\xe2\x65\xec\xf5\xb5\x35\x68\x85\xa5\
+\x33\x93\xa2\x02\x9d\x24\x13\x94\x99\x72\x65\xa1\xa2\x5a\xef\xc6";
+
+const OF_PAIR: Hash = *b"\x11\x53\x23\xe5\x62\xc4\xa4\xfd\xf7\xce\xac\xed\xca\x66\x0d\xc4\
+\xbb\xe1\x38\x9d\xab\x93\x23\xaa\xd0\x84\x40\x90\x7c\x74\x26\xd0";
+
+#[test]
+fn hashes_blocks_pairs_and_padding(rt: HostRuntime) {
+    assert!(rt; leaf(b"abc") == OF_ABC && leaf(b"ab") == OF_AB && leaf(b"c") == OF_C);
+    assert!(rt; zero(0) == [0; 32] && zero(1) == Z1 && zero(2) == Z2);
+    assert!(rt; pair(&OF_AB, &OF_C) == OF_PAIR);
 }
 
 // Whether a stack of level 1 has these roots as hashes come.
@@ -240,16 +239,16 @@ fn stacks(hashes: &[Hash; 3], root: &Hash) -> bool {
     was_empty && of_one && of_two && stack.len() == 3 && stack.root() == *root
 }
 
-const OF_STACK: &str = "0069305f195129eb7e8ddb2f05b67f3d6fb865c73b5f880fe082e5b96da344d9";
+const OF_STACK: Hash = *b"\x00\x69\x30\x5f\x19\x51\x29\xeb\x7e\x8d\xdb\x2f\x05\xb6\x7f\x3d\
+\x6f\xb8\x65\xc7\x3b\x5f\x88\x0f\xe0\x82\xe5\xb9\x6d\xa3\x44\xd9";
+
+const STACKED: &[Hash; 3] = &[OF_AB, OF_C, OF_ABC];
 
 #[test]
-fn stacks_three_hashes_of_a_higher_level(rt: HostRuntime) -> Result<(), AllocError> {
-    let hashes = [leaf(b"ab"), leaf(b"c"), leaf(b"abc")];
-    let root = pair(&pair(&hashes[0], &hashes[1]), &pair(&hashes[2], &zero(1)));
-    assert!(rt; is_hex(rt.alloc(), &root, OF_STACK)?);
-    assert!(rt; layer_root(&hashes, 1) == root);
-    assert!(rt; stacks(&hashes, &root));
-    Ok(())
+fn stacks_three_hashes_of_a_higher_level(rt: HostRuntime) {
+    assert!(rt; pair(&OF_PAIR, &pair(&OF_ABC, &zero(1))) == OF_STACK);
+    assert!(rt; layer_root(STACKED, 1) == OF_STACK);
+    assert!(rt; stacks(STACKED, &OF_STACK));
 }
 
 const LENGTHS: &[(u64, bool)] = &[

@@ -1,34 +1,48 @@
 //! Proofs of single pieces, whose hashes in hexadecimal were computed by another program (Python's hashlib).
 
-use crate::merkle::{are_hex, layer_of, root_of};
-use crate::shared::is_hex;
-use std::alloc::AllocError;
+use crate::merkle::{
+    BLOCKS_OF_40000, BLOCKS_OF_49157, FIVE_BLOCKS, FIVE_BY_TWO, L0, L1, L2, LAST_OF_7232,
+    LAST_OF_FIVE, OF_40000, OF_49157, OF_FIVE_BLOCKS, P0, P2, Z1, Z2,
+};
 use std::process::Abort;
 use tor_merkle::laws::proofs_are_low;
 use tor_merkle::{
     Hash, Proof, ProveError, collide, is_piece_length, layer_root, leaf, pair, proof_count,
-    proof_level, prove, verify, zero,
+    proof_level, prove, verify,
 };
 
-// The leaf of the fourth block of 49,157 bytes, and the node over the first two.
-const L3: &str = "f55df42ea5fe16593549babd6616bfd0c8ee9c0096f082713ca9b81b308b27f3";
+// Any five hashes, the nodes beside the third, and their root.
+const F0: Hash = [1; 32];
 
-const L01: &str = "d9e13d0b676ad681164ef0b7b5910d1328ea83a047cad57e619d76bbe3a08525";
+const F1: Hash = [2; 32];
 
-// The roots of 49,157 and of 40,000 bytes.
-const OF_FOUR: &str = "4be4cf030e4a5aadb5045abee9adbc1486d339a1d34fb4ee0632e6c767e02885";
+const F2: Hash = [3; 32];
 
-const OF_THREE: &str = "ab671631a9fa97a1fdac651fff6c68773b9acf0735b9c7f6ecdd54cbf1bf5dc2";
+const F3: Hash = [4; 32];
 
-// Any five hashes, and their root.
-const FIVE: [Hash; 5] = [[1; 32], [2; 32], [3; 32], [4; 32], [5; 32]];
+const FIVE: &[Hash] = &[F0, F1, F2, F3, [5; 32]];
 
-const OF_FIVE: &str = "6c1cfb22738edf2a397893ab3bd49b601f5dfc69439772b613f6fad2889ebbd6";
+const F01: Hash = *b"\xf8\x18\xaf\xd3\x7a\x6d\xc3\xbc\x92\xfb\x44\x73\x10\x11\x27\x70\
+\x06\xdb\x4e\xfa\x6e\x90\x23\xcd\x74\x68\xc0\x23\x35\xd2\x2a\x4d";
 
-// The hashes of the pieces of a content, of 16,384 bytes each.
-fn pieces_of<R: AllocGlobal + Abort>(rt: &R, length: usize) -> Result<Vec<Hash>, AllocError> {
-    layer_of(rt, length, 16_384)
-}
+const F4567: Hash = *b"\xe3\x56\x9b\x78\x16\x03\x9f\x14\x49\xef\xad\x95\x51\x56\x6c\x60\
+\x77\xaa\x5a\x47\x03\x54\xe6\x29\xff\x1c\xd5\xa9\xc4\x09\x17\x9b";
+
+const OF_FIVE: Hash = *b"\x6c\x1c\xfb\x22\x73\x8e\xdf\x2a\x39\x78\x93\xab\x3b\xd4\x9b\x60\
+\x1f\x5d\xfc\x69\x43\x97\x72\xb6\x13\xf6\xfa\xd2\x88\x9e\xbb\xd6";
+
+// The root over the node that a tree of three pieces has first, and another fourth; and that above a tree of three.
+const WIDER: Hash = *b"\x0c\x24\xba\xcb\x71\x1b\xba\x3f\x26\x70\x8a\x7f\xf8\x5e\xce\xb1\
+\x59\x56\x14\x6f\xb9\x61\x16\x70\x6a\xf6\x00\xcf\xc6\x57\x1c\xd4";
+
+const ABOVE: Hash = *b"\xe6\xfb\x54\xc1\xe6\xa7\x4d\xf5\xd2\xa7\x23\x52\x48\x25\x32\x91\
+\xe1\xae\x05\xdf\x97\xd7\x21\xbd\x74\xa3\xd3\x34\xcb\x65\x42\x71";
+
+// The node over the first two pieces of five blocks.
+const P01: Hash = *b"\x2d\x6b\x54\x62\x31\x22\x5a\x71\x32\xa3\x8a\xb3\x54\xf0\x3e\x91\
+\x32\xe4\xb9\x14\x1d\xa8\x9f\x17\x84\xb7\x1a\xb2\xfb\x34\xfa\xe3";
+
+const Z0: Hash = [0; 32];
 
 // The proof of one of a few hashes.
 fn proof_of<R: AllocGlobal + Abort>(
@@ -55,41 +69,51 @@ fn accepts<R: Abort>(
     verify(root, count, level, index, hash, proof)
 }
 
-// What is said of these siblings of the hash at `index` of so many, at level 0.
-fn accepts_siblings<R: AllocGlobal + Abort>(
-    rt: &R,
-    root: &Hash,
-    count: u64,
-    index: u64,
-    hash: &Hash,
-    siblings: &[Hash],
-) -> Result<bool, AllocError> {
-    let siblings = siblings.to_vec(rt.alloc())?;
-    Ok(accepts(rt, root, count, 0, index, hash, &Proof { siblings }))
+// A root, how many hashes, their level, an index, the hash there, its siblings, and what is said of them.
+type Judged = (Hash, u64, u32, u64, Hash, &'static [Hash], bool);
+
+fn is_judged<R: AllocGlobal + Abort>(rt: &R, row: &Judged) -> bool {
+    let (root, count, level, index, hash, siblings, wanted) = row;
+    match siblings.to_vec(rt.alloc()) {
+        Ok(siblings) => {
+            accepts(rt, root, *count, *level, *index, hash, &Proof { siblings }) == *wanted
+        }
+        Err(_) => false,
+    }
 }
 
-// Whether these are the siblings of the hash at `index`.
-fn has_siblings<R: AllocGlobal + Abort>(
-    rt: &R,
-    hashes: &[Hash],
-    level: u32,
-    index: u64,
-    siblings: &[Hash],
-) -> Result<bool, ProveError> {
-    Ok(proof_of(rt, hashes, level, index)?.siblings.as_slice() == siblings)
+fn are_judged<R: AllocGlobal + Abort>(rt: &R, rows: &[Judged]) -> bool {
+    for row in rows {
+        if !is_judged(rt, row) {
+            return false;
+        }
+    }
+    true
 }
 
-// Whether the proof of the hash at `index` is accepted under this root.
-fn is_proved<R: AllocGlobal + Abort>(
-    rt: &R,
-    root: &Hash,
-    hashes: &[Hash],
-    level: u32,
-    index: u64,
-    hash: &Hash,
-) -> Result<bool, ProveError> {
-    let proof = proof_of(rt, hashes, level, index)?;
-    Ok(accepts(rt, root, hashes.len() as u64, level, index, hash, &proof))
+// Hashes, their level, an index, and the siblings there.
+type Siblings = (&'static [Hash], u32, u64, &'static [Hash]);
+
+fn has_siblings<R: AllocGlobal + Abort>(rt: &R, row: &Siblings) -> bool {
+    match proof_of(rt, row.0, row.1, row.2) {
+        Ok(proof) => proof.siblings.as_slice() == row.3,
+        Err(_) => false,
+    }
+}
+
+// Hashes, their level, and the root over them.
+type Rooted = (&'static [Hash], u32, Hash);
+
+fn has_root(row: &Rooted) -> bool {
+    let (hashes, level, root) = row;
+    if hashes.is_empty() || hashes.len() > 1000 {
+        return false;
+    }
+    match level {
+        0 => layer_root(hashes, 0) == *root,
+        1 => layer_root(hashes, 1) == *root,
+        _ => false,
+    }
 }
 
 // Whether there is no hash at `index`.
@@ -97,178 +121,186 @@ fn is_past_the_last<R: AllocGlobal + Abort>(rt: &R, hashes: &[Hash], index: u64)
     matches!(proof_of(rt, hashes, 0, index), Err(ProveError::Index))
 }
 
-// Whether the siblings of the third of four hashes are these in hexadecimal.
-fn are_siblings_of_third<R: AllocGlobal + Abort>(
+// Three whole blocks and one of 5 bytes.
+const OF_FOUR: &[Judged] = &[(OF_49157, 4, 0, 2, L2, &[LAST_OF_FIVE, P0], true)];
+
+const OF_THIRD: &Siblings = &(BLOCKS_OF_49157, 0, 2, &[LAST_OF_FIVE, P0]);
+
+const ROOT_OF_FOUR: &Rooted = &(BLOCKS_OF_49157, 0, OF_49157);
+
+#[test]
+fn gives_the_siblings_of_a_piece(rt: HostRuntime) {
+    assert!(rt; has_siblings(&rt, OF_THIRD));
+    assert!(rt; has_root(ROOT_OF_FOUR));
+    assert!(rt; are_judged(&rt, OF_FOUR));
+}
+
+const THIRD_OF_FIVE: &[Judged] = &[
+    (OF_FIVE, 5, 0, 2, F2, &[F3, F01, F4567], true),
+    (OF_FIVE, 5, 0, 3, F2, &[F3, F01, F4567], false),
+    (OF_FIVE, 5, 0, 2, F2, &[F3, F01], false),
+];
+
+const BESIDE_THIRD_OF_FIVE: &Siblings = &(FIVE, 0, 2, &[F3, F01, F4567]);
+
+#[test]
+fn gives_the_siblings_of_the_third_of_five(rt: HostRuntime) {
+    assert!(rt; has_siblings(&rt, BESIDE_THIRD_OF_FIVE));
+    assert!(rt; is_past_the_last(&rt, FIVE, 5));
+    assert!(rt; are_judged(&rt, THIRD_OF_FIVE));
+}
+
+// The two hashes, whose 64 bytes are a block, of which their root is the leaf.
+const TWO_HASHES: &[u8] = b"\
+\x01\x01\x01\x01\x01\x01\x01\x01\x01\x01\x01\x01\x01\x01\x01\x01\
+\x01\x01\x01\x01\x01\x01\x01\x01\x01\x01\x01\x01\x01\x01\x01\x01\
+\x02\x02\x02\x02\x02\x02\x02\x02\x02\x02\x02\x02\x02\x02\x02\x02\
+\x02\x02\x02\x02\x02\x02\x02\x02\x02\x02\x02\x02\x02\x02\x02\x02";
+
+const OF_A_FILE_AND_ITS_HASHES: &[Judged] = &[
+    (F01, 2, 0, 0, F0, &[F1], true),
+    (F01, 1, 0, 0, F0, &[F1], false),
+];
+
+fn is_file_of_its_hashes() -> bool {
+    leaf(TWO_HASHES) == F01 && pair(&F0, &F1) == F01
+}
+
+#[test]
+fn tells_a_file_from_the_file_of_its_hashes(rt: HostRuntime) {
+    assert!(rt; is_file_of_its_hashes());
+    assert!(rt; are_judged(&rt, OF_A_FILE_AND_ITS_HASHES));
+}
+
+// Whether a proof of a hash is accepted at its index alone.
+fn is_accepted_there_alone<R: Abort>(
     rt: &R,
-    hashes: &[Hash],
-) -> Result<bool, ProveError> {
-    let proof = proof_of(rt, hashes, 0, 2)?;
-    Ok(proof.siblings.len() == 2 && are_hex(rt.alloc(), &proof.siblings, &[L3, L01])?)
+    root: &Hash,
+    count: u64,
+    index: u64,
+    hash: &Hash,
+    proof: &Proof,
+) -> bool {
+    for other in 0..count.saturating_add(2) {
+        if accepts(rt, root, count, 0, other, hash, proof) != (other == index) {
+            return false;
+        }
+    }
+    true
 }
 
-#[test]
-fn gives_the_siblings_of_a_piece(rt: HostRuntime) -> Result<(), ProveError> {
-    // Three whole blocks and one of 5 bytes.
-    let hashes = pieces_of(&rt, 49_157)?;
-    assert!(rt; hashes.len() == 4);
-    assert!(rt; are_siblings_of_third(&rt, &hashes)?);
-    let root = layer_root(&hashes, 0);
-    assert!(rt; is_hex(rt.alloc(), &root, OF_FOUR)?);
-    assert!(rt; is_proved(&rt, &root, &hashes, 0, 2, &hashes[2])?);
-    Ok(())
-}
-
-#[test]
-fn gives_the_siblings_of_the_third_of_five(rt: HostRuntime) -> Result<(), ProveError> {
-    let [l0, l1, l2, l3, l4] = FIVE;
-    let z0: Hash = [0; 32];
-    let l01 = pair(&l0, &l1);
-    let last = pair(&pair(&l4, &z0), &pair(&z0, &z0));
-    let root = pair(&pair(&l01, &pair(&l2, &l3)), &last);
-    assert!(rt; is_hex(rt.alloc(), &root, OF_FIVE)?);
-    assert!(rt; has_siblings(&rt, &FIVE, 0, 2, &[l3, l01, last])?);
-    assert!(rt; accepts_siblings(&rt, &root, 5, 2, &l2, &[l3, l01, last])?);
-    assert!(rt; !accepts_siblings(&rt, &root, 5, 3, &l2, &[l3, l01, last])?);
-    assert!(rt; !accepts_siblings(&rt, &root, 5, 2, &l2, &[l3, l01])?);
-    assert!(rt; is_past_the_last(&rt, &FIVE, 5));
-    Ok(())
-}
-
-#[test]
-fn tells_a_file_from_the_file_of_its_hashes(rt: HostRuntime) -> Result<(), AllocError> {
-    let [l0, l1, _, _, _] = FIVE;
-    let root = pair(&l0, &l1);
-    // The 64 bytes of both hashes are a block, of which that root is the leaf.
-    let mut text = l0.as_slice().to_vec(rt.alloc())?;
-    text.extend_from_slice(&l1)?;
-    assert!(rt; leaf(&text) == root);
-    assert!(rt; accepts_siblings(&rt, &root, 2, 0, &l0, &[l1])?);
-    assert!(rt; !accepts_siblings(&rt, &root, 1, 0, &l0, &[l1])?);
-    Ok(())
-}
-
-// Whether the proof of a hash is accepted at its index alone, and of this hash alone.
-fn is_accepted_there_alone<R: AllocGlobal + Abort>(
+// Whether the proof of a hash is, and of this hash alone.
+fn is_accepted_alone<R: AllocGlobal + Abort>(
     rt: &R,
     root: &Hash,
     hashes: &[Hash],
     index: u64,
     hash: &Hash,
-) -> Result<bool, ProveError> {
-    let proof = proof_of(rt, hashes, 0, index)?;
+) -> bool {
     let count = hashes.len() as u64;
-    for other in 0..count.saturating_add(2) {
-        if accepts(rt, root, count, 0, other, hash, &proof) != (other == index) {
-            return Ok(false);
+    match proof_of(rt, hashes, 0, index) {
+        Ok(proof) => {
+            is_accepted_there_alone(rt, root, count, index, hash, &proof)
+                && !accepts(rt, root, count, 0, index, root, &proof)
         }
+        Err(_) => false,
     }
-    Ok(!accepts(rt, root, count, 0, index, root, &proof))
 }
 
-// Whether each piece of a content is.
-fn is_each_accepted<R: AllocGlobal + Abort>(rt: &R, length: usize) -> Result<bool, ProveError> {
-    let hashes = pieces_of(rt, length)?;
+// Whether each of a few hashes is.
+fn is_each_accepted<R: AllocGlobal + Abort>(rt: &R, hashes: &[Hash]) -> bool {
     let count = hashes.len() as u64;
     assert!(rt; count > 2 && count < 6);
-    let root = layer_root(&hashes, 0);
-    for (index, hash) in (0..count).zip(&hashes) {
-        if !is_accepted_there_alone(rt, &root, &hashes, index, hash)? {
-            return Ok(false);
+    let root = layer_root(hashes, 0);
+    for (index, hash) in (0..count).zip(hashes) {
+        if !is_accepted_alone(rt, &root, hashes, index, hash) {
+            return false;
         }
     }
-    Ok(true)
+    true
 }
 
 #[test]
-fn accepts_each_piece_at_its_index_alone(rt: HostRuntime) -> Result<(), ProveError> {
-    assert!(rt; is_each_accepted(&rt, 40_000)?);
-    assert!(rt; is_each_accepted(&rt, 49_157)?);
-    assert!(rt; is_each_accepted(&rt, 81_920)?);
-    Ok(())
+fn accepts_each_piece_at_its_index_alone(rt: HostRuntime) {
+    assert!(rt; is_each_accepted(&rt, BLOCKS_OF_40000));
+    assert!(rt; is_each_accepted(&rt, BLOCKS_OF_49157));
+    assert!(rt; is_each_accepted(&rt, FIVE_BLOCKS));
 }
 
-// What is said of these siblings of the third of so many.
-fn accepts_third<R: AllocGlobal + Abort>(
-    rt: &R,
-    root: &Hash,
-    count: u64,
-    hash: &Hash,
-    siblings: &[Hash],
-) -> Result<bool, AllocError> {
-    accepts_siblings(rt, root, count, 2, hash, siblings)
-}
+// The third of three, with the zeros beside it and with another hash; under the root that these siblings lead to, which
+// a tree of four pieces has; with a sibling too few, and one too many.
+const THIRD_OF_THREE: &[Judged] = &[
+    (OF_40000, 3, 0, 2, LAST_OF_7232, &[Z0, P0], true),
+    (OF_40000, 3, 0, 2, LAST_OF_7232, &[L0, P0], false),
+    (WIDER, 3, 0, 2, LAST_OF_7232, &[L0, P0], false),
+    (WIDER, 4, 0, 2, LAST_OF_7232, &[L0, P0], true),
+    (OF_40000, 3, 0, 2, LAST_OF_7232, &[Z0], false),
+    (ABOVE, 3, 0, 2, LAST_OF_7232, &[Z0, P0, Z2], false),
+];
+
+const BESIDE_THIRD_OF_THREE: &Siblings = &(BLOCKS_OF_40000, 0, 2, &[Z0, P0]);
+
+const ROOT_OF_THREE: &Rooted = &(BLOCKS_OF_40000, 0, OF_40000);
 
 #[test]
-fn wants_zero_subtrees_past_the_end(rt: HostRuntime) -> Result<(), ProveError> {
-    let hashes = pieces_of(&rt, 40_000)?;
-    assert!(rt; hashes.len() == 3);
-    let (l0, l2) = (hashes[0], hashes[2]);
-    let l01 = pair(&l0, &hashes[1]);
-    let root = layer_root(&hashes, 0);
-    assert!(rt; is_hex(rt.alloc(), &root, OF_THREE)?);
-    assert!(rt; has_siblings(&rt, &hashes, 0, 2, &[zero(0), l01])?);
-    assert!(rt; accepts_third(&rt, &root, 3, &l2, &[zero(0), l01])?);
-    assert!(rt; !accepts_third(&rt, &root, 3, &l2, &[l0, l01])?);
-    // Nor under the root that these siblings lead to, which a tree of four pieces has.
-    let wider = pair(&l01, &pair(&l2, &l0));
-    assert!(rt; !accepts_third(&rt, &wider, 3, &l2, &[l0, l01])?);
-    assert!(rt; accepts_third(&rt, &wider, 4, &l2, &[l0, l01])?);
-    // A sibling too few, and one too many.
-    assert!(rt; !accepts_third(&rt, &root, 3, &l2, &[zero(0)])?);
-    let above = pair(&root, &zero(2));
-    assert!(rt; !accepts_third(&rt, &above, 3, &l2, &[zero(0), l01, zero(2)])?);
-    Ok(())
+fn wants_zero_subtrees_past_the_end(rt: HostRuntime) {
+    assert!(rt; has_root(ROOT_OF_THREE));
+    assert!(rt; has_siblings(&rt, BESIDE_THIRD_OF_THREE));
+    assert!(rt; are_judged(&rt, THIRD_OF_THREE));
 }
 
-// Whether one hash is the root, with no sibling, and no other is.
-fn is_root_alone<R: AllocGlobal + Abort>(
-    rt: &R,
-    hash: &Hash,
-    other: &Hash,
-) -> Result<bool, ProveError> {
-    let proof = proof_of(rt, &[*hash], 0, 0)?;
-    Ok(
-        proof.siblings.is_empty()
-            && accepts(rt, hash, 1, 0, 0, hash, &proof)
-            && !accepts(rt, other, 1, 0, 0, hash, &proof)
-            && !accepts(rt, hash, 0, 0, 0, hash, &proof),
-    )
-}
+// One hash is the root, with no sibling, and no other is.
+const ALONE: &[Judged] = &[
+    (L0, 1, 0, 0, L0, &[], true),
+    (L1, 1, 0, 0, L0, &[], false),
+    (L0, 0, 0, 0, L0, &[], false),
+];
 
 // Whether the texts for one hash twice are that of its first parent, twice.
-fn collides_in_its_parent<R: AllocGlobal + Abort>(
-    rt: &R,
-    hashes: &[Hash],
-) -> Result<bool, ProveError> {
-    assert!(rt; hashes.len() == 3);
-    let proof = proof_of(rt, hashes, 0, 1)?;
-    let (text, other) = collide(1, &hashes[1], &proof, &hashes[1], &proof);
-    Ok(leaf(&text) == pair(&hashes[0], &hashes[1]) && text.as_slice() == other.as_slice())
+fn collides_in_its_parent<R: AllocGlobal + Abort>(rt: &R) -> bool {
+    match proof_of(rt, BLOCKS_OF_40000, 0, 1) {
+        Ok(proof) => {
+            let (text, other) = collide(1, &L1, &proof, &L1, &proof);
+            leaf(&text) == P0 && text.as_slice() == other.as_slice()
+        }
+        Err(_) => false,
+    }
 }
 
-#[test]
-fn proves_what_is_there_alone(rt: HostRuntime) -> Result<(), ProveError> {
-    let hashes = pieces_of(&rt, 40_000)?;
-    assert!(rt; hashes.len() == 3);
-    assert!(rt; is_past_the_last(&rt, &hashes, 3));
-    assert!(rt; is_past_the_last(&rt, &hashes, 4));
-    assert!(rt; is_past_the_last(&rt, &hashes, u64::MAX));
-    assert!(rt; is_past_the_last(&rt, &[], 0));
-    assert!(rt; is_root_alone(&rt, &hashes[0], &hashes[1])?);
-    assert!(rt; collides_in_its_parent(&rt, &hashes)?);
-    Ok(())
-}
+const NOT_THERE: &[(&[Hash], u64)] = &[
+    (BLOCKS_OF_40000, 3),
+    (BLOCKS_OF_40000, 4),
+    (BLOCKS_OF_40000, u64::MAX),
+    (&[], 0),
+];
 
 #[test]
-fn proves_pieces_of_two_blocks(rt: HostRuntime) -> Result<(), ProveError> {
-    let hashes = layer_of(&rt, 81_920, 32_768)?;
-    assert!(rt; hashes.len() == 3);
-    let beside = [zero(1), pair(&hashes[0], &hashes[1])];
-    assert!(rt; has_siblings(&rt, &hashes, 1, 2, &beside)?);
-    let top = layer_root(&hashes, 1);
-    assert!(rt; root_of(&rt, 81_920, 32_768)? == Some(top));
-    assert!(rt; is_proved(&rt, &top, &hashes, 1, 2, &hashes[2])?);
-    Ok(())
+fn proves_no_piece_past_the_last(rt: HostRuntime) {
+    for (hashes, index) in NOT_THERE {
+        assert!(rt; is_past_the_last(&rt, hashes, *index));
+    }
+}
+
+const BESIDE_ONE: &Siblings = &(&[L0], 0, 0, &[]);
+
+#[test]
+fn proves_what_is_there_alone(rt: HostRuntime) {
+    assert!(rt; has_siblings(&rt, BESIDE_ONE));
+    assert!(rt; are_judged(&rt, ALONE));
+    assert!(rt; collides_in_its_parent(&rt));
+}
+
+const THIRD_PIECE: &[Judged] = &[(OF_FIVE_BLOCKS, 3, 1, 2, P2, &[Z1, P01], true)];
+
+const BESIDE_THIRD_PIECE: &Siblings = &(FIVE_BY_TWO, 1, 2, &[Z1, P01]);
+
+const ROOT_OF_PIECES: &Rooted = &(FIVE_BY_TWO, 1, OF_FIVE_BLOCKS);
+
+#[test]
+fn proves_pieces_of_two_blocks(rt: HostRuntime) {
+    assert!(rt; has_siblings(&rt, BESIDE_THIRD_PIECE));
+    assert!(rt; has_root(ROOT_OF_PIECES));
+    assert!(rt; are_judged(&rt, THIRD_PIECE));
 }
 
 // The size, the length of a piece, how many hashes, and their level.

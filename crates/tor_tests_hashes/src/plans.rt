@@ -1,64 +1,92 @@
 //! Units of work for lists of files, worked out by hand.
 
-use crate::shared::{Files, list_of, path};
-use std::alloc::Global;
+use crate::shared::{Files, is, list_of, thousand_files};
+use std::alloc::{AllocError, Global};
 use std::fmt::Write;
-use std::process::Abort;
-use std::test::Fail;
-use tor_plan::{Forest, Plan, PlanUnit};
-use tor_tree::{FileList, FilePath, Kind};
+use tor_plan::{Forest, Part, Plan, PlanUnit};
+use tor_tree::{FileList, Kind};
 
-/// A plan whose piece length and span are tested first.
-fn plan_of<R: AllocGlobal + Abort>(
-    rt: &R,
+/// A plan, where its piece length and span are allowed.
+fn plan_of(
+    alloc: Global,
     list: &FileList,
     kind: Kind,
     piece_length: u64,
     span: u32,
-) -> Result<Plan, Fail> {
-    assert!(rt; piece_length.is_power_of_two());
-    assert!(rt; piece_length >= 16384 && piece_length <= 1 << 30);
-    assert!(rt; span.is_power_of_two() && span >= 1 && span <= 1024);
-    Ok(Plan::new(rt.alloc(), list, kind, piece_length, span)?)
+) -> Result<Plan, AllocError> {
+    if !piece_length.is_power_of_two() || piece_length < 16384 || piece_length > 1 << 30 {
+        return Err(AllocError);
+    }
+    if !span.is_power_of_two() || span < 1 || span > 1024 {
+        return Err(AllocError);
+    }
+    Plan::new(alloc, list, kind, piece_length, span)
 }
 
 /// A plan of joined files, whose pieces may have any length.
-fn joined_plan_of<R: AllocGlobal + Abort>(
-    rt: &R,
+fn joined_plan_of(
+    alloc: Global,
     list: &FileList,
     piece_length: u64,
     span: u32,
-) -> Result<Plan, Fail> {
-    assert!(rt; piece_length >= 1 && piece_length <= 1 << 30);
-    assert!(rt; span.is_power_of_two() && span >= 1 && span <= 1024);
-    Ok(Plan::new(rt.alloc(), list, Kind::V1, piece_length, span)?)
+) -> Result<Plan, AllocError> {
+    if piece_length < 1 || piece_length > 1 << 30 {
+        return Err(AllocError);
+    }
+    if !span.is_power_of_two() || span < 1 || span > 1024 {
+        return Err(AllocError);
+    }
+    Plan::new(alloc, list, Kind::V1, piece_length, span)
 }
 
-/// Each unit in brackets: its parts as file, start and length, and zeros with an equals sign.
-pub(crate) fn units_text(alloc: Global, units: &[PlanUnit]) -> Result<String, Fail> {
-    let mut text = String::new(alloc);
-    for unit in units {
-        write!(text, "[")?;
-        if unit.zeros > 0 {
-            write!(text, "={}", unit.zeros)?;
-        }
-        for part in unit.parts.as_slice() {
-            write!(text, " {}:{}+{}", part.file, part.start, part.length)?;
-            if part.zeros > 0 {
-                write!(text, "={}", part.zeros)?;
-            }
-        }
-        write!(text, " ]")?;
+/// A unit's part as file, start and length, and zeros with an equals sign.
+fn push_part(text: &mut String, part: &Part) -> Result<(), AllocError> {
+    let (file, start, length, zeros) = (part.file, part.start, part.length, part.zeros);
+    write!(text, " {file}:{start}+{length}")?;
+    if zeros > 0 {
+        write!(text, "={zeros}")?;
     }
+    Ok(())
+}
+
+/// A unit in brackets: its zeros with an equals sign, and its parts.
+fn push_unit(text: &mut String, unit: &PlanUnit) -> Result<(), AllocError> {
+    text.push('[')?;
+    let zeros = unit.zeros;
+    if zeros > 0 {
+        write!(text, "={zeros}")?;
+    }
+    for part in unit.parts.as_slice() {
+        push_part(text, part)?;
+    }
+    text.push_str(" ]")
+}
+
+fn push_units(text: &mut String, units: &[PlanUnit]) -> Result<(), AllocError> {
+    for unit in units {
+        push_unit(text, unit)?;
+    }
+    Ok(())
+}
+
+pub(crate) fn units_text(alloc: Global, units: &[PlanUnit]) -> Result<String, AllocError> {
+    let mut text = String::new(alloc);
+    push_units(&mut text, units)?;
     Ok(text)
 }
 
 /// Each tree as its first unit, its number of units and its level.
-fn trees_text(alloc: Global, forest: &Forest) -> Result<String, Fail> {
-    let mut text = String::new(alloc);
+fn push_trees(text: &mut String, forest: &Forest) -> Result<(), AllocError> {
     for tree in &forest.trees {
-        write!(text, "{}+{}^{} ", tree.first, tree.count, tree.level)?;
+        let (first, count, level) = (tree.first, tree.count, tree.level);
+        write!(text, "{first}+{count}^{level} ")?;
     }
+    Ok(())
+}
+
+fn trees_text(alloc: Global, forest: &Forest) -> Result<String, AllocError> {
+    let mut text = String::new(alloc);
+    push_trees(&mut text, forest)?;
     Ok(text)
 }
 
@@ -140,51 +168,60 @@ const ROWS: &[Row] = &[
 ];
 
 /// Whether these are the units and the trees of a plan.
-pub(crate) fn is_plan(alloc: Global, plan: &Plan, units: &str, trees: &str) -> Result<bool, Fail> {
-    Ok(
-        units_text(alloc, plan.units())?.as_str() == units
-            && trees_text(alloc, plan.forest())?.as_str() == trees,
-    )
+pub(crate) fn is_plan(alloc: Global, plan: &Plan, units: &str, trees: &str) -> bool {
+    is(units_text(alloc, plan.units()), units) && is(trees_text(alloc, plan.forest()), trees)
 }
 
-fn is_cut<R: AllocGlobal + Abort>(rt: &R, row: &Row) -> Result<bool, Fail> {
+/// The plan of files.
+fn plan_of_files(
+    alloc: Global,
+    files: Files,
+    kind: Kind,
+    piece_length: u64,
+    span: u32,
+) -> Result<Plan, AllocError> {
+    let list = list_of(alloc, files)?;
+    plan_of(alloc, &list, kind, piece_length, span)
+}
+
+fn is_cut(alloc: Global, row: &Row) -> bool {
     let (files, kind, span, units, trees) = *row;
-    let list = list_of(rt.alloc(), files)?;
-    let plan = plan_of(rt, &list, kind, 16384, span)?;
-    let is_kept = plan.kind() == kind && plan.piece_length() == 16384;
-    Ok(is_kept && plan.lengths().len() == files.len() && is_plan(rt.alloc(), &plan, units, trees)?)
+    match plan_of_files(alloc, files, kind, 16384, span) {
+        Ok(plan) => {
+            plan.kind() == kind
+                && plan.piece_length() == 16384
+                && plan.lengths().len() == files.len()
+                && is_plan(alloc, &plan, units, trees)
+        }
+        Err(_) => false,
+    }
 }
 
 #[test]
-fn cuts_files_by_kind_and_span(rt: HostRuntime) -> Result<(), Fail> {
+fn cuts_files_by_kind_and_span(rt: HostRuntime) {
     for row in ROWS {
-        assert!(rt; is_cut(&rt, row)?);
+        assert!(rt; is_cut(rt.alloc(), row));
     }
-    Ok(())
+}
+
+/// Files of four bytes, of none and of five.
+fn joined_files(alloc: Global) -> Result<Plan, AllocError> {
+    let list = list_of(alloc, &[("a", 4), ("b", 0), ("c", 5)])?;
+    joined_plan_of(alloc, &list, 3, 1)
+}
+
+const JOINED: &str = "[ 0:0+3 ][ 0:3+1 2:0+2 ][ 2:2+3 ]";
+
+fn are_joined(alloc: Global) -> bool {
+    match joined_files(alloc) {
+        Ok(plan) => { is_plan(alloc, &plan, JOINED, "") && plan.lengths() == [4, 0, 5].as_slice() }
+        Err(_) => false,
+    }
 }
 
 #[test]
-fn joins_files_at_any_piece_length(rt: HostRuntime) -> Result<(), Fail> {
-    let list = list_of(rt.alloc(), &[("a", 4), ("b", 0), ("c", 5)])?;
-    let plan = joined_plan_of(&rt, &list, 3, 1)?;
-    assert!(rt; is_plan(rt.alloc(), &plan, "[ 0:0+3 ][ 0:3+1 2:0+2 ][ 2:2+3 ]", "")?);
-    assert!(rt; plan.lengths() == [4, 0, 5].as_slice());
-    Ok(())
-}
-
-// The path of the file at an index of a thousand.
-fn numbered_path(alloc: Global, index: u64) -> Result<FilePath, Fail> {
-    let text = format!(in alloc; "{index:03}")?;
-    path(alloc, text.as_str())
-}
-
-// A thousand files, of which file i has i * 100 bytes.
-fn thousand_files(alloc: Global) -> Result<FileList, Fail> {
-    let mut files = Vec::new(alloc);
-    for index in 0..1000u64 {
-        files.push((numbered_path(alloc, index)?, index * 100))?;
-    }
-    Ok(FileList::build(alloc, files)?)
+fn joins_files_at_any_piece_length(rt: HostRuntime) {
+    assert!(rt; are_joined(rt.alloc()));
 }
 
 /// The kind, and how many units and trees: the counts are those of a sum by another program.
@@ -194,36 +231,44 @@ const COUNTS: &[(Kind, usize, usize)] = &[
     (Kind::Hybrid, 3555, 836),
 ];
 
-fn has_counts<R: AllocGlobal + Abort>(
-    rt: &R,
-    list: &FileList,
-    row: &(Kind, usize, usize),
-) -> Result<bool, Fail> {
-    let plan = plan_of(rt, list, row.0, 16384, 1)?;
-    Ok(plan.units().len() == row.1 && plan.forest().trees.len() == row.2)
+fn has_counts(alloc: Global, list: &FileList, row: &(Kind, usize, usize)) -> bool {
+    match plan_of(alloc, list, row.0, 16384, 1) {
+        Ok(plan) => plan.units().len() == row.1 && plan.forest().trees.len() == row.2,
+        Err(_) => false,
+    }
+}
+
+fn has_each_counts(alloc: Global) -> bool {
+    let Ok(list) = thousand_files(alloc, "", 100) else {
+        return false;
+    };
+    for row in COUNTS {
+        if !has_counts(alloc, &list, row) {
+            return false;
+        }
+    }
+    true
 }
 
 #[test]
-fn plans_a_thousand_files(rt: HostRuntime) -> Result<(), Fail> {
-    let list = thousand_files(rt.alloc())?;
-    for row in COUNTS {
-        assert!(rt; has_counts(&rt, &list, row)?);
-    }
-    Ok(())
+fn plans_a_thousand_files(rt: HostRuntime) {
+    assert!(rt; has_each_counts(rt.alloc()));
 }
+
+const LONGEST: Files = &[("a", 1 << 50)];
 
 /// Whether the longest file is cut into 1,024 units, and these are its trees.
-fn is_longest<R: AllocGlobal + Abort>(rt: &R, kind: Kind, trees: &str) -> Result<bool, Fail> {
-    let list = list_of(rt.alloc(), &[("a", 1 << 50)])?;
-    let plan = plan_of(rt, &list, kind, 1 << 30, 1024)?;
-    Ok(plan.units().len() == 1024 && trees_text(rt.alloc(), plan.forest())?.as_str() == trees)
+fn is_longest(alloc: Global, kind: Kind, trees: &str) -> bool {
+    match plan_of_files(alloc, LONGEST, kind, 1 << 30, 1024) {
+        Ok(plan) => plan.units().len() == 1024 && is(trees_text(alloc, plan.forest()), trees),
+        Err(_) => false,
+    }
 }
 
 #[test]
-fn plans_the_longest_file(rt: HostRuntime) -> Result<(), Fail> {
-    assert!(rt; is_longest(&rt, Kind::V2, "0+1024^26 ")?);
-    assert!(rt; is_longest(&rt, Kind::V1, "")?);
-    Ok(())
+fn plans_the_longest_file(rt: HostRuntime) {
+    assert!(rt; is_longest(rt.alloc(), Kind::V2, "0+1024^26 "));
+    assert!(rt; is_longest(rt.alloc(), Kind::V1, ""));
 }
 
 fn shareable<T: Send + Sync>() {}

@@ -1,48 +1,105 @@
-//! What the tests share: contents, lists of files, and hexadecimal digits.
+//! What the tests share: contents, and lists of files.
 
 use std::alloc::{AllocError, Global};
-use std::fmt::Write;
-use std::test::Fail;
 use tor_tree::{FileList, FilePath, Name};
 
-// A content whose byte i is i % 251, so that no eight messages in a row are alike.
-pub(crate) fn content(alloc: Global, length: usize) -> Result<Vec<u8>, AllocError> {
-    let mut bytes = Vec::with_capacity(alloc, length)?;
+fn add_counted(bytes: &mut Vec<u8>, length: usize) -> Result<(), AllocError> {
     for i in 0..length {
         bytes.push((i % 251) as u8)?;
     }
+    Ok(())
+}
+
+// A content whose byte i is i % 251, so that no eight messages in a row are alike.
+pub(crate) fn content(alloc: Global, length: usize) -> Result<Vec<u8>, AllocError> {
+    let mut bytes = Vec::new(alloc);
+    add_counted(&mut bytes, length)?;
     Ok(bytes)
-}
-
-fn hex(alloc: Global, bytes: &[u8]) -> Result<String, AllocError> {
-    let mut text = String::new(alloc);
-    for byte in bytes {
-        write!(text, "{byte:02x}")?;
-    }
-    Ok(text)
-}
-
-// Whether bytes are these in hexadecimal.
-pub(crate) fn is_hex(alloc: Global, bytes: &[u8], digits: &str) -> Result<bool, AllocError> {
-    Ok(hex(alloc, bytes)?.as_str() == digits)
 }
 
 // Paths and lengths of files.
 pub(crate) type Files = &'static [(&'static str, u64)];
 
-// The path whose names are the parts of a text between its slashes.
-pub(crate) fn path(alloc: Global, text: &str) -> Result<FilePath, Fail> {
-    let mut names = Vec::new(alloc);
-    for part in text.split('/') {
-        names.push(Name::new(alloc, part.as_bytes())?)?;
+// A name. That a text is none, which none of the tables has, is told as want of memory.
+fn name(alloc: Global, text: &str) -> Result<Name, AllocError> {
+    match Name::new(alloc, text.as_bytes()) {
+        Ok(name) => Ok(name),
+        Err(_) => Err(AllocError),
     }
-    Ok(FilePath::new(names).ok_or("a path")?)
 }
 
-pub(crate) fn list_of(alloc: Global, files: &[(&str, u64)]) -> Result<FileList, Fail> {
-    let mut paths = Vec::new(alloc);
-    for (text, length) in files {
-        paths.push((path(alloc, text)?, *length))?;
+fn add_names(alloc: Global, text: &str, names: &mut Vec<Name>) -> Result<(), AllocError> {
+    for part in text.split('/') {
+        names.push(name(alloc, part)?)?;
     }
-    Ok(FileList::build(alloc, paths)?)
+    Ok(())
+}
+
+// The path whose names are the parts of a text between its slashes.
+pub(crate) fn path(alloc: Global, text: &str) -> Result<FilePath, AllocError> {
+    let mut names = Vec::new(alloc);
+    add_names(alloc, text, &mut names)?;
+    FilePath::new(names).ok_or(AllocError)
+}
+
+// A list of files. That they make none, as in none of the tables, is told as want of memory.
+fn list(alloc: Global, files: Vec<(FilePath, u64)>) -> Result<FileList, AllocError> {
+    match FileList::build(alloc, files) {
+        Ok(list) => Ok(list),
+        Err(_) => Err(AllocError),
+    }
+}
+
+fn add_files(
+    alloc: Global,
+    rows: &[(&str, u64)],
+    files: &mut Vec<(FilePath, u64)>,
+) -> Result<(), AllocError> {
+    for (text, length) in rows {
+        files.push((path(alloc, text)?, *length))?;
+    }
+    Ok(())
+}
+
+pub(crate) fn list_of(alloc: Global, rows: &[(&str, u64)]) -> Result<FileList, AllocError> {
+    let mut files = Vec::new(alloc);
+    add_files(alloc, rows, &mut files)?;
+    list(alloc, files)
+}
+
+// The path of the file at an index of a thousand, after a text.
+fn numbered_path(alloc: Global, front: &str, index: u64) -> Result<FilePath, AllocError> {
+    let text = format!(in alloc; "{front}{index:03}")?;
+    path(alloc, &text)
+}
+
+fn add_thousand(
+    alloc: Global,
+    front: &str,
+    step: u32,
+    files: &mut Vec<(FilePath, u64)>,
+) -> Result<(), AllocError> {
+    for index in 0..1000u64 {
+        files.push((numbered_path(alloc, front, index)?, index * u64::from(step)))?;
+    }
+    Ok(())
+}
+
+// A thousand files, of which file i has i times so many bytes.
+pub(crate) fn thousand_files(
+    alloc: Global,
+    front: &str,
+    step: u32,
+) -> Result<FileList, AllocError> {
+    let mut files = Vec::new(alloc);
+    add_thousand(alloc, front, step, &mut files)?;
+    list(alloc, files)
+}
+
+// Whether there is a text, and this.
+pub(crate) fn is(text: Result<String, AllocError>, wanted: &str) -> bool {
+    match text {
+        Ok(text) => text.as_str() == wanted,
+        Err(_) => false,
+    }
 }

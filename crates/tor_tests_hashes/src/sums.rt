@@ -1,7 +1,7 @@
 //! The SHA-1 of the pieces of a content that is fed in parts. Hashes in hexadecimal were computed by another program
 //! (Python's hashlib).
 
-use crate::shared::{content, is_hex};
+use crate::shared::content;
 use sha1::Sha1;
 use std::alloc::AllocError;
 use std::process::Abort;
@@ -39,32 +39,30 @@ fn sums_of_parts<R: AllocGlobal + Abort>(
     Ok(sums.finish())
 }
 
-const ABC: &str = "a9993e364706816aba3e25717850c26c9cd0d89d";
+const ABC: &[u8] = b"\
+\xa9\x99\x3e\x36\x47\x06\x81\x6a\xba\x3e\x25\x71\x78\x50\xc2\x6c\x9c\xd0\xd8\x9d";
 
-const JOINED: &str = concat!(
-    "cb25cee0c9ee3fc57413e472acdb191386edb612",
-    "84a516841ba77a5b4648de2cd0dfcb30ea46dbb4"
-);
+const JOINED: &[u8] = b"\
+\xcb\x25\xce\xe0\xc9\xee\x3f\xc5\x74\x13\xe4\x72\xac\xdb\x19\x13\x86\xed\xb6\x12\
+\x84\xa5\x16\x84\x1b\xa7\x7a\x5b\x46\x48\xde\x2c\xd0\xdf\xcb\x30\xea\x46\xdb\xb4";
 
-const SEVEN: &str = concat!(
-    "a9993e364706816aba3e25717850c26c9cd0d89d",
-    "589c22335a381f122d129225f5c0ba3056ed5811",
-    "54fd1711209fb1c0781092374132c66e79e2241b"
-);
+const SEVEN: &[u8] = b"\
+\xa9\x99\x3e\x36\x47\x06\x81\x6a\xba\x3e\x25\x71\x78\x50\xc2\x6c\x9c\xd0\xd8\x9d\
+\x58\x9c\x22\x33\x5a\x38\x1f\x12\x2d\x12\x92\x25\xf5\xc0\xba\x30\x56\xed\x58\x11\
+\x54\xfd\x17\x11\x20\x9f\xb1\xc0\x78\x10\x92\x37\x41\x32\xc6\x6e\x79\xe2\x24\x1b";
 
-const ZEROS: &str = concat!(
-    "e0b84b834a7adb40107fa783a008fd5e699dd938",
-    "e0b84b834a7adb40107fa783a008fd5e699dd938",
-    "e0b84b834a7adb40107fa783a008fd5e699dd938",
-    "f907b7bf318b79fd6b9da589646f8b1dac77d0c8"
-);
+const ZEROS: &[u8] = b"\
+\xe0\xb8\x4b\x83\x4a\x7a\xdb\x40\x10\x7f\xa7\x83\xa0\x08\xfd\x5e\x69\x9d\xd9\x38\
+\xe0\xb8\x4b\x83\x4a\x7a\xdb\x40\x10\x7f\xa7\x83\xa0\x08\xfd\x5e\x69\x9d\xd9\x38\
+\xe0\xb8\x4b\x83\x4a\x7a\xdb\x40\x10\x7f\xa7\x83\xa0\x08\xfd\x5e\x69\x9d\xd9\x38\
+\xf9\x07\xb7\xbf\x31\x8b\x79\xfd\x6b\x9d\xa5\x89\x64\x6f\x8b\x1d\xac\x77\xd0\xc8";
 
 /// The length of a piece, the parts of a content, and the joined hashes.
-type Row = (u64, &'static [Part], &'static str);
+type Row = (u64, &'static [Part], &'static [u8]);
 
 const ROWS: &[Row] = &[
-    (16384, &[], ""),
-    (16384, &[Part::Bytes(b""), Part::Zeros(0)], ""),
+    (16384, &[], b""),
+    (16384, &[Part::Bytes(b""), Part::Zeros(0)], b""),
     (16384, &[Part::Bytes(b"abc")], ABC),
     (
         16384,
@@ -101,46 +99,51 @@ const ROWS: &[Row] = &[
     (30000, &[Part::Zeros(100_000)], ZEROS),
 ];
 
-fn has_sums<R: AllocGlobal + Abort>(rt: &R, row: &Row) -> Result<bool, AllocError> {
-    is_hex(rt.alloc(), &sums_of_parts(rt, row.0, row.1)?, row.2)
+fn has_sums<R: AllocGlobal + Abort>(rt: &R, row: &Row) -> bool {
+    match sums_of_parts(rt, row.0, row.1) {
+        Ok(sums) => sums.as_slice() == row.2,
+        Err(_) => false,
+    }
 }
 
 #[test]
-fn sums_pieces(rt: HostRuntime) -> Result<(), AllocError> {
+fn sums_pieces(rt: HostRuntime) {
     for row in ROWS {
-        assert!(rt; has_sums(&rt, row)?);
+        assert!(rt; has_sums(&rt, row));
     }
-    Ok(())
 }
 
-// The length of a piece, and a byte fewer than so many pieces, those pieces, and a byte more: of 7, 8, 9, 16 and 17.
-const RUNS: &[(u64, &[usize])] = &[
-    (
-        64,
-        &[
-            447, 448, 449, 511, 512, 513, 575, 576, 577, 1_023, 1_024, 1_025, 1_087, 1_088, 1_089,
-        ],
-    ),
-    (
-        16_384,
-        &[
-            114_687, 114_688, 114_689, 131_071, 131_072, 131_073, 147_455, 147_456, 147_457,
-            262_143, 262_144, 262_145, 278_527, 278_528, 278_529,
-        ],
-    ),
-    (
-        100,
-        &[
-            699, 700, 701, 799, 800, 801, 899, 900, 901, 1_599, 1_600, 1_601, 1_699, 1_700, 1_701,
-        ],
-    ),
+// Of each length of a piece: a byte fewer than so many pieces, those pieces, and a byte more, of 7, 8, 9, 16 and 17.
+const OF_64: &[usize] = &[
+    447, 448, 449, 511, 512, 513, 575, 576, 577, 1_023, 1_024, 1_025, 1_087, 1_088, 1_089,
+];
+
+const OF_16384: &[usize] = &[
+    114_687, 114_688, 114_689, 131_071, 131_072, 131_073, 147_455, 147_456, 147_457, 262_143,
+    262_144, 262_145, 278_527, 278_528, 278_529,
+];
+
+const OF_100: &[usize] = &[
+    699, 700, 701, 799, 800, 801, 899, 900, 901, 1_599, 1_600, 1_601, 1_699, 1_700, 1_701,
 ];
 
 // The length of a piece, that of a content, and the hash of its joined sums.
-const SUMS: &[(u64, usize, &str)] = &[
-    (64, 1_089, "4cedf31704daf5ef33f47b02bf6d4d9a8d2250d6"),
-    (16_384, 278_529, "a20c97c3322e9658ebc2d8caaf144acecb23b7fb"),
-    (100, 1_701, "a9e467ae3a4d079309fab79c79f4adeb37e00b5f"),
+const SUMS: &[(u64, usize, [u8; 20])] = &[
+    (
+        64,
+        1_089,
+        *b"\x4c\xed\xf3\x17\x04\xda\xf5\xef\x33\xf4\x7b\x02\xbf\x6d\x4d\x9a\x8d\x22\x50\xd6",
+    ),
+    (
+        16_384,
+        278_529,
+        *b"\xa2\x0c\x97\xc3\x32\x2e\x96\x58\xeb\xc2\xd8\xca\xaf\x14\x4a\xce\xcb\x23\xb7\xfb",
+    ),
+    (
+        100,
+        1_701,
+        *b"\xa9\xe4\x67\xae\x3a\x4d\x07\x93\x09\xfa\xb7\x9c\x79\xf4\xad\xeb\x37\xe0\x0b\x5f",
+    ),
 ];
 
 // The sums of bytes that are fed in parts of so many.
@@ -159,60 +162,83 @@ fn sums_of<R: AllocGlobal + Abort>(
     Ok(sums.finish())
 }
 
-// Whether bytes have the same sums fed at one time and in parts of so many.
-fn are_sums_of_parts<R: AllocGlobal + Abort>(
+// Whether bytes that are fed in parts of so many have these sums.
+fn has_sums_of_parts<R: AllocGlobal + Abort>(
     rt: &R,
     piece_length: u64,
     bytes: &[u8],
     part: usize,
-) -> Result<bool, AllocError> {
-    let whole = sums_of(rt, piece_length, bytes, 1 << 20)?;
-    Ok(sums_of(rt, piece_length, bytes, part)?.as_slice() == whole.as_slice())
+    wanted: &[u8],
+) -> bool {
+    match sums_of(rt, piece_length, bytes, part) {
+        Ok(sums) => sums.as_slice() == wanted,
+        Err(_) => false,
+    }
 }
 
-// Whether a content has the same sums fed at one time, in parts of less than a piece, and in parts of nine pieces
-// without the last byte, after which a piece is begun.
-fn agrees<R: AllocGlobal + Abort>(
-    rt: &R,
-    piece_length: u64,
-    length: usize,
-) -> Result<bool, AllocError> {
+// Whether bytes have the same sums fed at one time, in parts of less than a piece, and in parts of nine pieces without
+// the last byte, after which a piece is begun.
+fn are_same<R: AllocGlobal + Abort>(rt: &R, piece_length: u64, bytes: &[u8]) -> bool {
     assert!(rt; piece_length > 1 && piece_length <= 1 << 20);
-    let bytes = content(rt.alloc(), length)?;
     let short = piece_length as usize - 1;
-    Ok(
-        are_sums_of_parts(rt, piece_length, &bytes, short)?
-            && are_sums_of_parts(rt, piece_length, &bytes, 9 * short + 8)?,
-    )
+    match sums_of(rt, piece_length, bytes, 1 << 20) {
+        Ok(sums) => {
+            has_sums_of_parts(rt, piece_length, bytes, short, &sums)
+                && has_sums_of_parts(rt, piece_length, bytes, 9 * short + 8, &sums)
+        }
+        Err(_) => false,
+    }
+}
+
+// Whether a content has.
+fn agrees<R: AllocGlobal + Abort>(rt: &R, piece_length: u64, length: usize) -> bool {
+    match content(rt.alloc(), length) {
+        Ok(bytes) => are_same(rt, piece_length, &bytes),
+        Err(_) => false,
+    }
+}
+
+fn agree<R: AllocGlobal + Abort>(rt: &R, piece_length: u64, lengths: &[usize]) -> bool {
+    for length in lengths {
+        if !agrees(rt, piece_length, *length) {
+            return false;
+        }
+    }
+    true
 }
 
 // Eight whole pieces are hashed at once.
 #[test]
-fn sums_runs_as_their_parts(rt: HostRuntime) -> Result<(), AllocError> {
-    for (piece_length, lengths) in RUNS {
-        for length in *lengths {
-            assert!(rt; agrees(&rt, *piece_length, *length)?);
-        }
-    }
-    Ok(())
+fn sums_runs_as_their_parts(rt: HostRuntime) {
+    assert!(rt; agree(&rt, 64, OF_64));
+    assert!(rt; agree(&rt, 16_384, OF_16384));
+    assert!(rt; agree(&rt, 100, OF_100));
 }
 
-// Whether the joined sums of a content that is fed at one time have this hash.
-fn has_hash<R: AllocGlobal + Abort>(
+// Whether the joined sums of bytes that are fed at one time have this hash.
+fn has_hash_of_sums<R: AllocGlobal + Abort>(
     rt: &R,
     piece_length: u64,
-    length: usize,
-    digits: &str,
-) -> Result<bool, AllocError> {
-    let bytes = content(rt.alloc(), length)?;
-    let sums = sums_of(rt, piece_length, &bytes, 1 << 20)?;
-    is_hex(rt.alloc(), &Sha1::digest(&sums), digits)
+    bytes: &[u8],
+    hash: &[u8; 20],
+) -> bool {
+    match sums_of(rt, piece_length, bytes, 1 << 20) {
+        Ok(sums) => Sha1::digest(&sums) == *hash,
+        Err(_) => false,
+    }
+}
+
+// Whether those of a content have.
+fn has_hash<R: AllocGlobal + Abort>(rt: &R, row: &(u64, usize, [u8; 20])) -> bool {
+    match content(rt.alloc(), row.1) {
+        Ok(bytes) => has_hash_of_sums(rt, row.0, &bytes, &row.2),
+        Err(_) => false,
+    }
 }
 
 #[test]
-fn sums_seventeen_pieces_and_a_byte(rt: HostRuntime) -> Result<(), AllocError> {
-    for (piece_length, length, digits) in SUMS {
-        assert!(rt; has_hash(&rt, *piece_length, *length, digits)?);
+fn sums_seventeen_pieces_and_a_byte(rt: HostRuntime) {
+    for row in SUMS {
+        assert!(rt; has_hash(&rt, row));
     }
-    Ok(())
 }
