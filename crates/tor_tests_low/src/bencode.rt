@@ -1,7 +1,7 @@
 //! Rows after BEP 3, "bencoding", each written out by hand.
 
+use crate::names::is;
 use std::alloc::{AllocError, Global};
-use std::test::Fail;
 use tor_bencode::laws::{
     lawful_one_by_one, lawful_values, lawful_within_more, no_spelling_begins_another,
     no_value_before_the_first_key, one_tree_or_one_fault, pairs_by_their_values, span_of_a_value,
@@ -17,12 +17,21 @@ type Keys = &'static [&'static [u8]];
 /// A dictionary with these keys, each with its index as its value.
 fn keyed(alloc: Global, keys: &[&[u8]]) -> Result<Item, AllocError> {
     let mut pairs = Vec::new(alloc);
+    add_keys(alloc, keys, &mut pairs)?;
+    Ok(Item::Dict(pairs))
+}
+
+fn add_keys(
+    alloc: Global,
+    keys: &[&[u8]],
+    pairs: &mut Vec<(Vec<u8>, Item)>,
+) -> Result<(), AllocError> {
     let mut index = 0i64;
     for key in keys {
         pairs.push((Vec::from_slice(alloc, key)?, Item::Int(index)))?;
         index = index.wrapping_add(1);
     }
-    Ok(Item::Dict(pairs))
+    Ok(())
 }
 
 /// So many lists, each in the one before.
@@ -36,11 +45,22 @@ fn nested(alloc: Global, count: usize) -> Result<Item, AllocError> {
     Ok(item)
 }
 
+/// Whether a tree has this spelling.
+fn is_spelling(alloc: Global, tree: &Tree, text: &[u8]) -> bool {
+    match encode(alloc, tree) {
+        Ok(spelling) => spelling.as_slice() == text,
+        Err(_) => false,
+    }
+}
+
 /// Whether an item is lawful and has this spelling.
-fn is_spelled(alloc: Global, item: Item, text: &[u8]) -> Result<bool, BenError> {
+fn is_spelled(alloc: Global, item: Result<Item, AllocError>, text: &[u8]) -> bool {
+    let Ok(item) = item else {
+        return false;
+    };
     match Tree::of(item) {
-        Ok(tree) => Ok(encode(alloc, &tree)?.as_slice() == text),
-        Err(_) => Ok(false),
+        Ok(tree) => is_spelling(alloc, &tree, text),
+        Err(_) => false,
     }
 }
 
@@ -59,24 +79,6 @@ const DICTIONARIES: &[(Keys, &[u8])] = &[
     (&[b"", b"a", b"ab", b"b"], b"d0:i0e1:ai1e2:abi2e1:bi3ee"),
 ];
 
-fn are_strings_spelled(alloc: Global) -> Result<bool, BenError> {
-    for (string, text) in STRINGS {
-        if !is_spelled(alloc, bytes(alloc, string)?, text)? {
-            return Ok(false);
-        }
-    }
-    Ok(true)
-}
-
-fn are_dictionaries_spelled(alloc: Global) -> Result<bool, BenError> {
-    for (keys, text) in DICTIONARIES {
-        if !is_spelled(alloc, keyed(alloc, keys)?, text)? {
-            return Ok(false);
-        }
-    }
-    Ok(true)
-}
-
 /// A list of a string and a dictionary.
 fn mixed_list(alloc: Global) -> Result<Item, AllocError> {
     let mut items = Vec::new(alloc);
@@ -86,20 +88,37 @@ fn mixed_list(alloc: Global) -> Result<Item, AllocError> {
 }
 
 #[test]
-fn spells_each_kind_of_tree(rt: HostRuntime) -> Result<(), BenError> {
-    let alloc = rt.alloc();
+fn spells_integers_and_strings(rt: HostRuntime) {
     for (n, text) in INTEGERS {
-        assert!(rt; is_spelled(alloc, Item::Int(*n), text)?);
+        assert!(rt; is_spelled(rt.alloc(), Ok(Item::Int(*n)), text));
     }
-    assert!(rt; are_strings_spelled(alloc)?);
-    assert!(rt; are_dictionaries_spelled(alloc)?);
-    assert!(rt; is_spelled(alloc, Item::List(Vec::new(alloc)), b"le")?);
-    assert!(rt; is_spelled(alloc, mixed_list(alloc)?, b"l4:spamd1:ai0eee")?);
-    Ok(())
+    for (string, text) in STRINGS {
+        assert!(rt; is_spelled(rt.alloc(), bytes(rt.alloc(), string), text));
+    }
 }
 
-fn is_lawful(item: Item) -> bool {
-    Tree::of(item).is_ok()
+#[test]
+fn spells_each_kind_of_tree(rt: HostRuntime) {
+    for (keys, text) in DICTIONARIES {
+        assert!(rt; is_spelled(rt.alloc(), keyed(rt.alloc(), keys), text));
+    }
+    assert!(rt; is_spelled(rt.alloc(), Ok(Item::List(Vec::new(rt.alloc()))), b"le"));
+    assert!(rt; is_spelled(rt.alloc(), mixed_list(rt.alloc()), b"l4:spamd1:ai0eee"));
+}
+
+fn is_lawful(item: Result<Item, AllocError>) -> bool {
+    match item {
+        Ok(item) => Tree::of(item).is_ok(),
+        Err(_) => false,
+    }
+}
+
+/// Whether it is there, and not lawful.
+fn is_unlawful(item: Result<Item, AllocError>) -> bool {
+    match item {
+        Ok(item) => Tree::of(item).is_err(),
+        Err(_) => false,
+    }
 }
 
 /// The keys of a dictionary, and whether it is lawful.
@@ -110,24 +129,37 @@ const KEYS: &[(Keys, bool)] = &[
     (&[b"aa", b"b"], true),
 ];
 
-/// How many pairs a dictionary has that is handed back.
-fn pairs_handed_back(item: Item) -> Option<usize> {
+/// Whether a dictionary of so many pairs is handed back.
+fn are_pairs_handed_back(item: Item, count: usize) -> bool {
     match Tree::of(item) {
-        Err(Item::Dict(pairs)) => Some(pairs.len()),
-        _ => None,
+        Err(Item::Dict(pairs)) => pairs.len() == count,
+        _ => false,
+    }
+}
+
+fn are_keys_handed_back(alloc: Global, keys: &[&[u8]]) -> bool {
+    match keyed(alloc, keys) {
+        Ok(item) => are_pairs_handed_back(item, keys.len()),
+        Err(_) => false,
+    }
+}
+
+fn are_keys_judged(alloc: Global, keys: &[&[u8]], lawful: bool) -> bool {
+    if lawful {
+        is_lawful(keyed(alloc, keys))
+    } else {
+        is_unlawful(keyed(alloc, keys))
     }
 }
 
 #[test]
-fn hands_back_what_is_not_lawful(rt: HostRuntime) -> Result<(), AllocError> {
-    let alloc = rt.alloc();
-    assert!(rt; is_lawful(nested(alloc, 100)?));
-    assert!(rt; !is_lawful(nested(alloc, 101)?));
+fn hands_back_what_is_not_lawful(rt: HostRuntime) {
+    assert!(rt; is_lawful(nested(rt.alloc(), 100)));
+    assert!(rt; is_unlawful(nested(rt.alloc(), 101)));
     for (keys, lawful) in KEYS {
-        assert!(rt; is_lawful(keyed(alloc, keys)?) == *lawful);
+        assert!(rt; are_keys_judged(rt.alloc(), keys, *lawful));
     }
-    assert!(rt; pairs_handed_back(keyed(alloc, &[b"b", b"a"])?) == Some(2));
-    Ok(())
+    assert!(rt; are_keys_handed_back(rt.alloc(), &[b"b", b"a"]));
 }
 
 /// Whether a key has this number, or no value.
@@ -147,29 +179,31 @@ fn holds_seven() -> bool {
     }
 }
 
+/// Whether the first pair of a key is found in a dictionary that has the key twice.
+fn finds_first(twice: &Item) -> bool {
+    finds(twice, b"a", Some(1)) && finds(twice, b"ab", Some(0)) && finds(twice, b"b", None)
+}
+
 #[test]
 fn finds_the_value_of_the_first_pair(rt: HostRuntime) -> Result<(), AllocError> {
-    let alloc = rt.alloc();
-    let twice = keyed(alloc, &[b"ab", b"a", b"a"])?;
-    assert!(rt; finds(&twice, b"a", Some(1)));
-    assert!(rt; finds(&twice, b"ab", Some(0)));
-    assert!(rt; finds(&twice, b"b", None));
-    assert!(rt; finds(&bytes(alloc, b"a")?, b"a", None));
+    assert!(rt; finds_first(&keyed(rt.alloc(), &[b"ab", b"a", b"a"])?));
+    assert!(rt; finds(&bytes(rt.alloc(), b"a")?, b"a", None));
     assert!(rt; holds_seven());
     Ok(())
 }
 
 #[test]
-fn shows_want_of_memory(rt: HostRuntime) -> Result<(), Fail> {
-    let text = format!(in rt.alloc(); "{}", BenError::Memory)?;
-    assert!(rt; text.as_str() == "B10 Memory");
-    Ok(())
+fn shows_want_of_memory(rt: HostRuntime) {
+    let error = BenError::Memory;
+    assert!(rt; is(format!(in rt.alloc(); "{error}"), "B10 Memory"));
 }
 
 /// Whether a text is the spelling of the tree that is read from it.
-fn is_reread(alloc: Global, text: &[u8]) -> Result<bool, BenError> {
-    let tree = decode(alloc, text)?;
-    Ok(encode(alloc, &tree)?.as_slice() == text)
+fn is_reread(alloc: Global, text: &[u8]) -> bool {
+    match decode(alloc, text) {
+        Ok(tree) => is_spelling(alloc, &tree, text),
+        Err(_) => false,
+    }
 }
 
 const REREAD: &[&[u8]] = &[
@@ -192,73 +226,102 @@ fn nested_spelling(alloc: Global, count: usize) -> Result<Vec<u8>, AllocError> {
     Ok(text)
 }
 
-/// How many pairs the dictionary has that a text spells.
-fn pairs_read(alloc: Global, text: &[u8]) -> Result<Option<usize>, BenError> {
-    let tree = decode(alloc, text)?;
+fn is_nested_reread(alloc: Global, count: usize) -> bool {
+    match nested_spelling(alloc, count) {
+        Ok(text) => is_reread(alloc, &text),
+        Err(_) => false,
+    }
+}
+
+/// Whether a text spells a dictionary of so many pairs.
+fn are_pairs_read(alloc: Global, text: &[u8], count: usize) -> bool {
+    let Ok(tree) = decode(alloc, text) else {
+        return false;
+    };
     match tree.item() {
-        Item::Dict(pairs) => Ok(Some(pairs.len())),
-        _ => Ok(None),
+        Item::Dict(pairs) => pairs.len() == count,
+        _ => false,
     }
 }
 
 #[test]
-fn reads_what_it_writes(rt: HostRuntime) -> Result<(), BenError> {
+fn reads_what_it_writes(rt: HostRuntime) {
     for text in REREAD {
-        assert!(rt; is_reread(rt.alloc(), text)?);
+        assert!(rt; is_reread(rt.alloc(), text));
     }
-    assert!(rt; is_reread(rt.alloc(), &nested_spelling(rt.alloc(), 100)?)?);
-    assert!(rt; pairs_read(rt.alloc(), b"d1:al4:spamee")? == Some(1));
-    Ok(())
+    assert!(rt; is_nested_reread(rt.alloc(), 100));
+    assert!(rt; are_pairs_read(rt.alloc(), b"d1:al4:spamee", 1));
 }
 
 /// A key of six digits.
-fn number_key(alloc: Global, number: usize) -> Result<Vec<u8>, Fail> {
+fn number_key(alloc: Global, number: usize) -> Result<Vec<u8>, AllocError> {
     Ok(format!(in alloc; "{number:06}")?.into_bytes())
 }
 
 /// A dictionary of so many pairs, whose keys are numbers of the same length.
-fn numbered(alloc: Global, count: usize) -> Result<Item, Fail> {
+fn numbered(alloc: Global, count: usize) -> Result<Item, AllocError> {
     let mut pairs = Vec::new(alloc);
-    for number in 0..count {
-        pairs.push((number_key(alloc, number)?, Item::Int(7)))?;
-    }
+    add_numbers(alloc, count, &mut pairs)?;
     Ok(Item::Dict(pairs))
 }
 
-/// Its spelling.
-fn numbered_spelling(alloc: Global, count: usize) -> Result<Vec<u8>, Fail> {
+fn add_numbers(
+    alloc: Global,
+    count: usize,
+    pairs: &mut Vec<(Vec<u8>, Item)>,
+) -> Result<(), AllocError> {
+    for number in 0..count {
+        pairs.push((number_key(alloc, number)?, Item::Int(7)))?;
+    }
+    Ok(())
+}
+
+/// Its spelling; none where it is not lawful.
+fn numbered_spelling(alloc: Global, count: usize) -> Result<Vec<u8>, BenError> {
     match Tree::of(numbered(alloc, count)?) {
-        Ok(tree) => Ok(encode(alloc, &tree)?),
-        Err(_) => Err(Fail::from("unlawful")),
+        Ok(tree) => encode(alloc, &tree),
+        Err(_) => Ok(Vec::new(alloc)),
     }
 }
 
 /// Whether the dictionary that a text spells has the first and the last of ten thousand keys, and none after them.
-fn finds_ten_thousand(alloc: Global, text: &[u8]) -> Result<bool, BenError> {
-    let tree = decode(alloc, text)?;
-    let item = tree.item();
-    Ok(
-        finds(item, b"000000", Some(7))
-            && finds(item, b"009999", Some(7))
-            && finds(item, b"010000", None),
-    )
+fn finds_ten_thousand(alloc: Global, text: &[u8]) -> bool {
+    match decode(alloc, text) {
+        Ok(tree) => {
+            finds(tree.item(), b"000000", Some(7))
+                && finds(tree.item(), b"009999", Some(7))
+                && finds(tree.item(), b"010000", None)
+        }
+        Err(_) => false,
+    }
 }
 
-/// Where the value of a key is spelled, in a text that spells a tree.
-fn span_read(alloc: Global, text: &[u8], key: &[u8]) -> Result<Option<(usize, usize)>, BenError> {
-    let _tree = decode(alloc, text)?;
-    Ok(span(text, key))
+/// Whether a text spells a tree, and the value of a key there.
+fn is_spanned(alloc: Global, text: &[u8], key: &[u8], wanted: Option<(usize, usize)>) -> bool {
+    match decode(alloc, text) {
+        Ok(_tree) => span(text, key) == wanted,
+        Err(_) => false,
+    }
+}
+
+/// Whether the text of ten thousand pairs is read. A pair is 6:000000i7e.
+fn are_read(alloc: Global, text: &[u8]) -> bool {
+    text.len() == 110_002
+        && finds_ten_thousand(alloc, text)
+        && is_spanned(alloc, text, b"009999", Some((109_998, 110_001)))
+        && is_reread(alloc, text)
+}
+
+fn are_ten_thousand_read(alloc: Global) -> bool {
+    match numbered_spelling(alloc, 10_000) {
+        Ok(text) => are_read(alloc, &text),
+        Err(_) => false,
+    }
 }
 
 #[test]
-fn writes_and_reads_ten_thousand_keys(rt: HostRuntime) -> Result<(), Fail> {
-    let text = numbered_spelling(rt.alloc(), 10_000)?;
-    // A pair is 6:000000i7e.
-    assert!(rt; text.len() == 110_002);
-    assert!(rt; finds_ten_thousand(rt.alloc(), &text)?);
-    assert!(rt; span_read(rt.alloc(), &text, b"009999")? == Some((109_998, 110_001)));
-    assert!(rt; is_reread(rt.alloc(), &text)?);
-    Ok(())
+fn writes_and_reads_ten_thousand_keys(rt: HostRuntime) {
+    assert!(rt; are_ten_thousand_read(rt.alloc()));
 }
 
 /// A text that spells no tree, and its first fault.
@@ -295,10 +358,10 @@ const REFUSED: &[(&[u8], &str)] = &[
     (b"0:x", "B9 Trailing at 2"),
 ];
 
-fn is_refused(alloc: Global, text: &[u8], wanted: &str) -> Result<bool, AllocError> {
+fn is_refused(alloc: Global, text: &[u8], wanted: &str) -> bool {
     match decode(alloc, text) {
-        Ok(_) => Ok(false),
-        Err(refusal) => Ok(format!(in alloc; "{refusal}")?.as_str() == wanted),
+        Ok(_) => false,
+        Err(refusal) => is(format!(in alloc; "{refusal}"), wanted),
     }
 }
 
@@ -313,12 +376,11 @@ fn trails_at_two(alloc: Global, text: &[u8]) -> bool {
 }
 
 #[test]
-fn refuses_the_first_fault(rt: HostRuntime) -> Result<(), AllocError> {
+fn refuses_the_first_fault(rt: HostRuntime) {
     for (text, wanted) in REFUSED {
-        assert!(rt; is_refused(rt.alloc(), text, wanted)?);
+        assert!(rt; is_refused(rt.alloc(), text, wanted));
     }
     assert!(rt; trails_at_two(rt.alloc(), b"0:x"));
-    Ok(())
 }
 
 /// The torrent of one file `a` that holds `abc` (BEP 52).
@@ -345,12 +407,11 @@ const SPANS: &[Span] = &[
 ];
 
 #[test]
-fn spans_values_of_the_root(rt: HostRuntime) -> Result<(), BenError> {
+fn spans_values_of_the_root(rt: HostRuntime) {
     assert!(rt; TORRENT.len() == 158);
     for (text, key, wanted) in SPANS {
-        assert!(rt; span_read(rt.alloc(), text, key)? == *wanted);
+        assert!(rt; is_spanned(rt.alloc(), text, key, *wanted));
     }
-    Ok(())
 }
 
 #[test]

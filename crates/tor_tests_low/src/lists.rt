@@ -1,27 +1,47 @@
 //! Lists of files and of paths: their order, and why there is none.
-use crate::names::path;
-use std::alloc::Global;
-use std::test::Fail;
+use crate::names::{is, path};
+use std::alloc::{AllocError, Global};
 use tor_merkle::MAX_LENGTH;
-use tor_tree::{FileList, FilePath, PathList};
+use tor_tree::{FileList, FilePath, ListError, PathList};
 
 // Files as their paths and lengths.
 pub(crate) type Files = &'static [(&'static str, u64)];
 
-pub(crate) fn files_of(alloc: Global, rows: &[(&str, u64)]) -> Result<Vec<(FilePath, u64)>, Fail> {
-    let mut files = Vec::new(alloc);
+fn add_files(
+    alloc: Global,
+    rows: &[(&str, u64)],
+    files: &mut Vec<(FilePath, u64)>,
+) -> Result<(), AllocError> {
     for (text, length) in rows {
         files.push((path(alloc, text)?, *length))?;
     }
+    Ok(())
+}
+
+pub(crate) fn files_of(
+    alloc: Global,
+    rows: &[(&str, u64)],
+) -> Result<Vec<(FilePath, u64)>, AllocError> {
+    let mut files = Vec::new(alloc);
+    add_files(alloc, rows, &mut files)?;
     Ok(files)
 }
 
-fn paths_of(alloc: Global, texts: &[&str]) -> Result<Vec<FilePath>, Fail> {
-    let mut paths = Vec::new(alloc);
+fn add_paths(alloc: Global, texts: &[&str], paths: &mut Vec<FilePath>) -> Result<(), AllocError> {
     for text in texts {
         paths.push(path(alloc, text)?)?;
     }
+    Ok(())
+}
+
+fn paths_of(alloc: Global, texts: &[&str]) -> Result<Vec<FilePath>, AllocError> {
+    let mut paths = Vec::new(alloc);
+    add_paths(alloc, texts, &mut paths)?;
     Ok(paths)
+}
+
+fn list_of_files(alloc: Global, files: &[(&str, u64)]) -> Result<FileList, ListError> {
+    FileList::build(alloc, files_of(alloc, files)?)
 }
 
 // Two orders of the same files.
@@ -30,13 +50,18 @@ const ORDERS: &[Files] = &[
     &[("b", 0), ("a/c", 2), ("a-b", 1)],
 ];
 
+fn is_listed(alloc: Global, files: &[(&str, u64)], wanted: &[(FilePath, u64)]) -> bool {
+    match list_of_files(alloc, files) {
+        Ok(list) => list.files() == wanted,
+        Err(_) => false,
+    }
+}
+
 #[test]
-fn files_are_listed_in_the_order_of_their_paths(rt: HostRuntime) -> Result<(), Fail> {
-    let alloc = rt.alloc();
-    let wanted = files_of(alloc, &[("a/c", 2), ("a-b", 1), ("b", 0)])?;
+fn files_are_listed_in_the_order_of_their_paths(rt: HostRuntime) -> Result<(), AllocError> {
+    let wanted = files_of(rt.alloc(), &[("a/c", 2), ("a-b", 1), ("b", 0)])?;
     for files in ORDERS {
-        let list = FileList::build(alloc, files_of(alloc, files)?)?;
-        assert!(rt; list.files() == wanted.as_slice());
+        assert!(rt; is_listed(rt.alloc(), files, &wanted));
     }
     Ok(())
 }
@@ -55,48 +80,86 @@ const LIST_FAULTS: &[(Files, &str)] = &[
     (&[("a/b/c", LONG), ("a", 1)], "L2 FileAndFolder"),
 ];
 
-fn is_no_list(alloc: Global, files: &[(&str, u64)], wanted: &str) -> Result<bool, Fail> {
-    match FileList::build(alloc, files_of(alloc, files)?) {
-        Ok(_) => Ok(false),
-        Err(fault) => Ok(format!(in alloc; "{fault}")?.as_str() == wanted),
+fn is_no_list(alloc: Global, files: &[(&str, u64)], wanted: &str) -> bool {
+    match list_of_files(alloc, files) {
+        Ok(_) => false,
+        Err(fault) => is(format!(in alloc; "{fault}"), wanted),
     }
 }
 
 #[test]
-fn the_first_fault_of_a_list_is_answered(rt: HostRuntime) -> Result<(), Fail> {
+fn the_first_fault_of_a_list_is_answered(rt: HostRuntime) {
     for (files, wanted) in LIST_FAULTS {
-        assert!(rt; is_no_list(rt.alloc(), files, wanted)?);
+        assert!(rt; is_no_list(rt.alloc(), files, wanted));
     }
-    Ok(())
 }
 
-// The list of the paths b, a-b and a/c, handed in so.
-fn three_paths(alloc: Global) -> Result<PathList, Fail> {
-    Ok(PathList::build(alloc, paths_of(alloc, &["b", "a-b", "a/c"])?)?)
+fn list_of(alloc: Global, texts: &[&str]) -> Result<PathList, ListError> {
+    PathList::build(alloc, paths_of(alloc, texts)?)
+}
+
+const THREE: &[&str] = &["b", "a-b", "a/c"];
+
+// Whether an entry is this path, handed in at this index.
+fn is_entry(alloc: Global, entry: &(FilePath, usize), text: &str, index: usize) -> bool {
+    match path(alloc, text) {
+        Ok(path) => entry.0 == path && entry.1 == index,
+        Err(_) => false,
+    }
+}
+
+fn are_entries(alloc: Global, list: &PathList) -> bool {
+    match list.entries() {
+        [first, second, third] => {
+            is_entry(alloc, first, "a/c", 2)
+                && is_entry(alloc, second, "a-b", 1)
+                && is_entry(alloc, third, "b", 0)
+        }
+        _ => false,
+    }
+}
+
+fn are_three_entries(alloc: Global) -> bool {
+    match list_of(alloc, THREE) {
+        Ok(list) => are_entries(alloc, &list),
+        Err(_) => false,
+    }
 }
 
 #[test]
-fn a_list_of_paths_tells_where_each_was_handed_in(rt: HostRuntime) -> Result<(), Fail> {
-    let alloc = rt.alloc();
-    let list = three_paths(alloc)?;
-    assert_eq!(rt; list.entries().len(), 3);
-    let wanted = [("a/c", 2), ("a-b", 1), ("b", 0)];
-    for (entry, (text, index)) in list.entries().iter().zip(wanted) {
-        assert!(rt; entry.0 == path(alloc, text)? && entry.1 == index);
+fn a_list_of_paths_tells_where_each_was_handed_in(rt: HostRuntime) {
+    assert!(rt; are_three_entries(rt.alloc()));
+}
+
+// Whether a list of paths takes these lengths: the files, and where each was handed in.
+fn takes_lengths(
+    alloc: Global,
+    list: PathList,
+    lengths: &[u64],
+    wanted: &[(FilePath, u64)],
+) -> bool {
+    if lengths.len() != list.entries().len() {
+        return false;
     }
-    Ok(())
+    match list.with_lengths(alloc, lengths) {
+        Ok((files, indices)) => {
+            indices.as_slice() == [2, 1, 0].as_slice() && files.files() == wanted
+        }
+        Err(_) => false,
+    }
+}
+
+fn take_lengths(alloc: Global, lengths: &[u64], wanted: &[(FilePath, u64)]) -> bool {
+    match list_of(alloc, THREE) {
+        Ok(list) => takes_lengths(alloc, list, lengths, wanted),
+        Err(_) => false,
+    }
 }
 
 #[test]
-fn a_list_of_paths_takes_lengths(rt: HostRuntime) -> Result<(), Fail> {
-    let alloc = rt.alloc();
-    let list = three_paths(alloc)?;
-    let lengths = [7, 0, 5];
-    assert_eq!(rt; lengths.len(), list.entries().len());
-    let (files, indices) = list.with_lengths(alloc, &lengths)?;
-    assert!(rt; indices.as_slice() == [2, 1, 0].as_slice());
-    let wanted = files_of(alloc, &[("a/c", 5), ("a-b", 0), ("b", 7)])?;
-    assert!(rt; files.files() == wanted.as_slice());
+fn a_list_of_paths_takes_lengths(rt: HostRuntime) -> Result<(), AllocError> {
+    let wanted = files_of(rt.alloc(), &[("a/c", 5), ("a-b", 0), ("b", 7)])?;
+    assert!(rt; take_lengths(rt.alloc(), &[7, 0, 5], &wanted));
     Ok(())
 }
 
@@ -107,28 +170,39 @@ const PATH_FAULTS: &[(&[&str], &str)] = &[
     (&["a/b", "a", "c", "c"], "L1 Duplicate"),
 ];
 
-fn are_no_paths(alloc: Global, texts: &[&str], wanted: &str) -> Result<bool, Fail> {
-    match PathList::build(alloc, paths_of(alloc, texts)?) {
-        Ok(_) => Ok(false),
-        Err(fault) => Ok(format!(in alloc; "{fault}")?.as_str() == wanted),
+fn are_no_paths(alloc: Global, texts: &[&str], wanted: &str) -> bool {
+    match list_of(alloc, texts) {
+        Ok(_) => false,
+        Err(fault) => is(format!(in alloc; "{fault}"), wanted),
     }
 }
 
 #[test]
-fn the_first_fault_of_paths_is_answered(rt: HostRuntime) -> Result<(), Fail> {
+fn the_first_fault_of_paths_is_answered(rt: HostRuntime) {
     for (texts, wanted) in PATH_FAULTS {
-        assert!(rt; are_no_paths(rt.alloc(), texts, wanted)?);
+        assert!(rt; are_no_paths(rt.alloc(), texts, wanted));
     }
-    Ok(())
+}
+
+// Whether a list of paths refuses these lengths, and this is why.
+fn refuses_lengths(alloc: Global, list: PathList, lengths: &[u64], wanted: &str) -> bool {
+    if lengths.len() != list.entries().len() {
+        return false;
+    }
+    match list.with_lengths(alloc, lengths) {
+        Ok(_) => false,
+        Err(fault) => is(format!(in alloc; "{fault}"), wanted),
+    }
+}
+
+fn refuse_length(alloc: Global, length: u64, wanted: &str) -> bool {
+    match list_of(alloc, &["a"]) {
+        Ok(list) => refuses_lengths(alloc, list, &[length], wanted),
+        Err(_) => false,
+    }
 }
 
 #[test]
-fn a_list_of_paths_refuses_a_length(rt: HostRuntime) -> Result<(), Fail> {
-    let alloc = rt.alloc();
-    let list = PathList::build(alloc, paths_of(alloc, &["a"])?)?;
-    let lengths = [LONG];
-    assert_eq!(rt; lengths.len(), list.entries().len());
-    let fault = list.with_lengths(alloc, &lengths).err().ok_or("a list")?;
-    assert!(rt; format!(in alloc; "{fault}")?.as_str() == "L3 TooLarge");
-    Ok(())
+fn a_list_of_paths_refuses_a_length(rt: HostRuntime) {
+    assert!(rt; refuse_length(rt.alloc(), LONG, "L3 TooLarge"));
 }

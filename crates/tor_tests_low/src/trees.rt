@@ -4,9 +4,8 @@ ghost use Rattle.std.specs.List.{AllZip};
 ghost use Rattle.tor_tree.specs.TidyTree.{HasItsRoot};
 
 use crate::lists::files_of;
-use crate::names::path;
+use crate::names::{is, path};
 use std::alloc::{AllocError, Global};
-use std::test::Fail;
 use tor_bencode::{Tree, decode, encode};
 use tor_merkle::Hash;
 use tor_tree::{FileList, FilePath, TreeFile, from_item, to_item};
@@ -26,20 +25,21 @@ const FAULTS: &[Fault] = &[
     (b"d1:ad0:d6:lengthi1eeee", "K7 Root"),
 ];
 
-fn is_refused(alloc: Global, row: &Fault) -> Result<bool, Fail> {
-    let tree = decode(alloc, row.0)?;
+fn is_refused(alloc: Global, row: &Fault) -> bool {
+    let Ok(tree) = decode(alloc, row.0) else {
+        return false;
+    };
     match from_item(alloc, tree.item()) {
-        Ok(_) => Ok(false),
-        Err(fault) => Ok(format!(in alloc; "{fault}")?.as_str() == row.1),
+        Ok(_) => false,
+        Err(fault) => is(format!(in alloc; "{fault}"), row.1),
     }
 }
 
 #[test]
-fn the_first_fault_of_a_tree_is_answered(rt: HostRuntime) -> Result<(), Fail> {
-    for (index, row) in FAULTS.iter().enumerate() {
-        assert!(rt; is_refused(rt.alloc(), row)?, "at row {index}");
+fn the_first_fault_of_a_tree_is_answered(rt: HostRuntime) {
+    for row in FAULTS {
+        assert!(rt; is_refused(rt.alloc(), row));
     }
-    Ok(())
 }
 
 // A tree of one empty file, as its spelling, the path of the file, and whether it has the letters x and h.
@@ -50,26 +50,44 @@ const ONE_FILE: &[OneFile] = &[
     (b"d1:ade1:bd0:d6:lengthi0eeee", "b", false, false),
 ];
 
-fn has_one_file(alloc: Global, row: &OneFile) -> Result<bool, Fail> {
-    let (bytes, text, exec, hidden) = row;
-    let tree = decode(alloc, bytes)?;
-    let files = from_item(alloc, tree.item())?;
-    let [file] = files.as_slice() else {
-        return Ok(false);
+// Whether a path has this text.
+fn is_path(alloc: Global, found: &FilePath, text: &str) -> bool {
+    match path(alloc, text) {
+        Ok(path) => *found == path,
+        Err(_) => false,
+    }
+}
+
+// Whether these are the one file of a row.
+fn is_file(alloc: Global, files: &[TreeFile], row: &OneFile) -> bool {
+    let (_, text, exec, hidden) = *row;
+    match files {
+        [file] => {
+            file.length == 0
+                && file.root.is_none()
+                && file.exec == exec
+                && file.hidden == hidden
+                && is_path(alloc, &file.path, text)
+        }
+        _ => false,
+    }
+}
+
+fn has_one_file(alloc: Global, row: &OneFile) -> bool {
+    let Ok(tree) = decode(alloc, row.0) else {
+        return false;
     };
-    let is_right = file.length == 0
-        && file.root.is_none()
-        && file.exec == *exec
-        && file.hidden == *hidden;
-    Ok(is_right && file.path == path(alloc, text)?)
+    match from_item(alloc, tree.item()) {
+        Ok(files) => is_file(alloc, &files, row),
+        Err(_) => false,
+    }
 }
 
 #[test]
-fn the_files_of_a_tree_are_told(rt: HostRuntime) -> Result<(), Fail> {
+fn the_files_of_a_tree_are_told(rt: HostRuntime) {
     for row in ONE_FILE {
-        assert!(rt; has_one_file(rt.alloc(), row)?);
+        assert!(rt; has_one_file(rt.alloc(), row));
     }
-    Ok(())
 }
 
 /// A root where there are bytes.
@@ -90,12 +108,21 @@ fn roots_for(alloc: Global, files: &[(FilePath, u64)]) -> Result<Vec<Option<Hash
     Ok(roots)
 }
 
-// The tree of these files.
-fn tree_of(alloc: Global, files: Vec<(FilePath, u64)>) -> Result<Tree, Fail> {
-    let list = FileList::build(alloc, files)?;
+// A list of files. That they make none is told as want of memory.
+fn list_of(alloc: Global, files: Vec<(FilePath, u64)>) -> Result<FileList, AllocError> {
+    match FileList::build(alloc, files) {
+        Ok(list) => Ok(list),
+        Err(_) => Err(AllocError),
+    }
+}
+
+// The tree of a list of files; that it is not lawful is told as want of memory.
+fn tree_of(alloc: Global, list: &FileList) -> Result<Tree, AllocError> {
     let roots = roots_for(alloc, list.files())?;
-    let item = to_item(alloc, &list, &roots)?;
-    Ok(Tree::of(item).ok().ok_or("a lawful tree")?)
+    match Tree::of(to_item(alloc, list, &roots)?) {
+        Ok(tree) => Ok(tree),
+        Err(_) => Err(AllocError),
+    }
 }
 
 // That these are the files, each with a root where it has bytes.
@@ -116,36 +143,67 @@ const SPELLED: &[u8] = b"d1:ad1:cd0:d6:lengthi3e11:pieces root32:\
 \x07\x07\x07\x07\x07\x07\x07\x07\x07\x07\x07\x07\x07\x07\x07\x07\
 eee3:a-bd0:d6:lengthi0eeee";
 
+// Whether a tree has just these files.
+fn has_files(alloc: Global, tree: &Tree, wanted: &[(FilePath, u64)]) -> bool {
+    match from_item(alloc, tree.item()) {
+        Ok(files) => are_files(&files, wanted),
+        Err(_) => false,
+    }
+}
+
+fn is_spelled(alloc: Global, tree: &Tree, text: &[u8]) -> bool {
+    match encode(alloc, tree) {
+        Ok(bytes) => bytes.as_slice() == text,
+        Err(_) => false,
+    }
+}
+
+fn tree_of_two(alloc: Global) -> Result<Tree, AllocError> {
+    let list = list_of(alloc, files_of(alloc, &[("a-b", 0), ("a/c", 3)])?)?;
+    tree_of(alloc, &list)
+}
+
 #[test]
-fn a_tree_has_its_files_again(rt: HostRuntime) -> Result<(), Fail> {
-    let alloc = rt.alloc();
-    let tree = tree_of(alloc, files_of(alloc, &[("a-b", 0), ("a/c", 3)])?)?;
-    let files = from_item(alloc, tree.item())?;
-    let wanted = files_of(alloc, &[("a/c", 3), ("a-b", 0)])?;
-    assert!(rt; are_files(&files, &wanted));
-    assert!(rt; encode(alloc, &tree)?.as_slice() == SPELLED);
+fn a_tree_has_its_files_again(rt: HostRuntime) -> Result<(), AllocError> {
+    let tree = tree_of_two(rt.alloc())?;
+    let wanted = files_of(rt.alloc(), &[("a/c", 3), ("a-b", 0)])?;
+    assert!(rt; has_files(rt.alloc(), &tree, &wanted));
+    assert!(rt; is_spelled(rt.alloc(), &tree, SPELLED));
+    Ok(())
+}
+
+fn numbered_path(alloc: Global, number: u64) -> Result<FilePath, AllocError> {
+    let folder = number % 7;
+    let text = format!(in alloc; "{folder}/{number:04}")?;
+    path(alloc, &text)
+}
+
+fn add_many(alloc: Global, count: u64, files: &mut Vec<(FilePath, u64)>) -> Result<(), AllocError> {
+    for i in 0..count {
+        let number = count - i;
+        files.push((numbered_path(alloc, number)?, number))?;
+    }
     Ok(())
 }
 
 // So many files in up to seven folders, each of a length of its own.
-fn many_files(alloc: Global, count: u64) -> Result<Vec<(FilePath, u64)>, Fail> {
+fn many_files(alloc: Global, count: u64) -> Result<Vec<(FilePath, u64)>, AllocError> {
     let mut files = Vec::new(alloc);
-    for i in 0..count {
-        let number = count - i;
-        let text = format!(in alloc; "{}/{number:04}", number % 7)?;
-        files.push((path(alloc, &text)?, number))?;
-    }
+    add_many(alloc, count, &mut files)?;
     Ok(files)
 }
 
+// Whether the tree of so many files has just these.
+fn has_many_files(alloc: Global, count: u64) -> Result<bool, AllocError> {
+    let list = list_of(alloc, many_files(alloc, count)?)?;
+    let tree = tree_of(alloc, &list)?;
+    Ok(has_files(alloc, &tree, list.files()))
+}
+
 #[test]
-fn a_tree_of_many_files_has_them_again(rt: HostRuntime) -> Result<(), Fail> {
-    let alloc = rt.alloc();
+fn a_tree_of_many_files_has_them_again(rt: HostRuntime) -> Result<(), AllocError> {
     for count in [1, 10, 1000] {
-        let tree = tree_of(alloc, many_files(alloc, count)?)?;
-        let files = from_item(alloc, tree.item())?;
-        let list = FileList::build(alloc, many_files(alloc, count)?)?;
-        assert!(rt; are_files(&files, list.files()));
+        assert!(rt; has_many_files(rt.alloc(), count)?);
     }
     Ok(())
 }
