@@ -4,12 +4,12 @@ ghost use Rattle.std.specs.Thread.{IsSync};
 ghost use Rattle.tor_board.specs.Seats.{IsSeatOf, forest_of, knows, unit_count};
 
 use crate::shared::{files_of, is_fault, plan_of};
+use std::alloc::{AllocError, Global};
 use std::process::Abort;
 use std::sync::atomic::AtomicU64;
 use std::sync::atomic::Ordering::SeqCst;
-use std::test::Fail;
 use std::thread::{Threads, join, yield_now};
-use tor_board::{Board, Seat};
+use tor_board::{Board, Closed, Seat};
 use tor_engine::{EngineError, How, Share, hash_pieces, work};
 use tor_plan::Plan;
 use tor_plan::laws::{trees_are_runs, units_are_few};
@@ -79,7 +79,7 @@ const MANY: u64 = 100_000_000;
 
 /// The workers, how often the first read looks for the others, and the fault. Where the units are dealt out
 /// beforehand, some wait behind the first.
-const ROWS: [(How, u64, &str); 5] = [
+const ROWS: &[(How, u64, &str)] = &[
     (How::One, FEW, ALONE),
     (How::Halves(2), FEW, ALONE),
     (How::Board(1), FEW, ALONE),
@@ -87,30 +87,51 @@ const ROWS: [(How, u64, &str); 5] = [
     (How::Board(5), MANY, "none"),
 ];
 
+/// The plan of the eight units.
+fn plan_of_eight<R: AllocGlobal + Abort>(rt: &R) -> Result<Plan, AllocError> {
+    let plan = plan_of(rt, &[LENGTH], Kind::V2, 16384, 1)?;
+    assert!(rt; plan.units().len() == 8);
+    Ok(plan)
+}
+
+/// Whether a row holds, and each byte is read once.
+fn is_shared<R: AllocGlobal + Abort + Threads + Sync>(
+    rt: &R,
+    plan: &Plan,
+    row: &(How, u64, &str),
+) -> bool {
+    let source = waiting_for(row.1);
+    let is_told = is_fault(rt, &source, plan, row.0, row.2);
+    is_told && (row.2 != "none" || source.bytes.load(SeqCst) == LENGTH)
+}
+
 #[test]
-fn board_shares(rt: HostRuntime) -> Result<(), Fail> {
-    let plan = plan_of(&rt, &[LENGTH], Kind::V2, 16384, 1)?;
-    assert_eq!(rt; plan.units().len(), 8);
-    for (how, turns, wanted) in ROWS {
-        let source = waiting_for(turns);
-        assert!(rt; is_fault(&rt, &source, &plan, how, wanted)?);
-        assert!(rt; wanted != "none" || source.bytes.load(SeqCst) == LENGTH);
+fn board_shares(rt: HostRuntime) -> Result<(), AllocError> {
+    let plan = plan_of_eight(&rt)?;
+    for row in ROWS {
+        assert!(rt; is_shared(&rt, &plan, row));
     }
     Ok(())
 }
 
+/// Whether the pieces have hashes, by a number of workers that is tested first.
+fn are_hashed<R: AllocGlobal + Abort + Threads + Sync>(
+    rt: &R,
+    plan: &Plan,
+    how: How,
+    turns: u64,
+) -> bool {
+    if let How::Halves(workers) | How::Board(workers) = how {
+        assert!(rt; workers >= 1 && workers <= 64);
+    }
+    hash_pieces(rt, rt.alloc(), &waiting_for(turns), plan, how).is_ok()
+}
+
 #[test]
-fn board_shares_over_pieces(rt: HostRuntime) -> Result<(), Fail> {
-    let plan = plan_of(&rt, &[LENGTH], Kind::V2, 16384, 1)?;
+fn board_shares_over_pieces(rt: HostRuntime) -> Result<(), AllocError> {
+    let plan = plan_of_eight(&rt)?;
     for (how, turns, wanted) in ROWS {
-        if let How::Halves(workers) | How::Board(workers) = how {
-            assert!(rt; workers >= 1 && workers <= 64);
-        }
-        let told = match hash_pieces(&rt, rt.alloc(), &waiting_for(turns), &plan, how) {
-            Ok(_) => "none",
-            Err(_) => ALONE,
-        };
-        assert!(rt; told == wanted);
+        assert!(rt; are_hashed(&rt, &plan, *how, *turns) == (*wanted == "none"));
     }
     Ok(())
 }
@@ -169,20 +190,41 @@ fn work_by_two<R: AllocGlobal + Abort + Threads + Sync>(
     )
 }
 
-/// Whether each of the units is in one of these shares, and how many tops there are.
-fn told(one: &Share, other: &Share) -> (bool, usize) {
-    let count = |unit: u64| {
-        let mine = one.units.iter().filter(|sums| sums.unit == unit).count();
-        mine + other.units.iter().filter(|sums| sums.unit == unit).count()
-    };
-    (
-        (0..8).all(|unit| count(unit) == 1),
-        one.tops.len() + other.tops.len(),
-    )
+/// How often a unit is in a share.
+fn times(share: &Share, unit: u64) -> u64 {
+    let mut times: u64 = 0;
+    for sums in &share.units {
+        if sums.unit == unit {
+            times = times.saturating_add(1);
+        }
+    }
+    times
+}
+
+/// Whether each of the units is in one of these shares.
+fn has_each_once(one: &Share, other: &Share) -> bool {
+    for unit in 0..8 {
+        if times(one, unit).saturating_add(times(other, unit)) != 1 {
+            return false;
+        }
+    }
+    true
+}
+
+/// Whether the board has one root, and one of these shares tells it alone.
+fn tells_root(one: &Share, other: &Share, closed: &Closed) -> bool {
+    match (
+        one.tops.as_slice(),
+        other.tops.as_slice(),
+        closed.roots.as_slice(),
+    ) {
+        ([top], [], [root]) | ([], [top], [root]) => *root == Some(top.1),
+        _ => false,
+    }
 }
 
 #[test]
-fn board_shares_callers_threads(rt: HostRuntime) -> Result<(), Fail> {
+fn board_shares_callers_threads(rt: HostRuntime) -> Result<(), AllocError> {
     trees_are_runs();
     units_are_few();
     let plan = plan_of(&rt, &[LENGTH], Kind::V2, 16384, 1)?;
@@ -190,23 +232,13 @@ fn board_shares_callers_threads(rt: HostRuntime) -> Result<(), Fail> {
     let (board, seat) = Board::open(rt.alloc(), plan.forest(), plan.units().len() as u64)?;
     let ((first, one), (second, other)) = work_by_two(&rt, &source, &plan, &board, seat);
     let seat = board.join(first, second);
-    assert_eq!(rt; Board::room(&seat), 256);
+    assert!(rt; Board::room(&seat) == 256);
     let closed = board.close(seat);
     let (Ok(one), Ok(other)) = (one, other) else {
         panic!(&rt; "a fault")
     };
-    assert_eq!(rt; told(&one, &other), (true, 1));
-    assert_eq!(rt; source.bytes.load(SeqCst), LENGTH);
-    assert_eq!(rt; closed.roots.len(), 1);
-    assert!(rt;
-        closed.roots.first()
-            == one
-                .tops
-                .first()
-                .or(other.tops.first())
-                .map(|top| Some(top.1))
-                .as_ref()
-    );
+    assert!(rt; has_each_once(&one, &other) && tells_root(&one, &other, &closed));
+    assert!(rt; source.bytes.load(SeqCst) == LENGTH);
     Ok(())
 }
 
@@ -249,52 +281,72 @@ impl Source for Late {
     }
 }
 
+/// Whether the fault of the first unit is answered, and the fourth failed once.
+fn is_least<R: AllocGlobal + Abort + Threads + Sync>(rt: &R, plan: &Plan, how: How) -> bool {
+    let source = Late {
+        failed: AtomicU64::new(0),
+    };
+    let wanted = "Read { file: 0, start: Some(0), fault: 5 }";
+    is_fault(rt, &source, plan, how, wanted) && source.failed.load(SeqCst) == 1
+}
+
 #[test]
 fn answers_the_least_unit_that_fails_though_another_failed_first(
     rt: HostRuntime,
-) -> Result<(), Fail> {
-    let plan = plan_of(&rt, &[LENGTH], Kind::V2, 16384, 1)?;
+) -> Result<(), AllocError> {
+    let plan = plan_of_eight(&rt)?;
     for how in [How::Halves(8), How::Board(2), How::Board(8)] {
-        let source = Late {
-            failed: AtomicU64::new(0),
-        };
-        let wanted = "Read { file: 0, start: Some(0), fault: 5 }";
-        assert!(rt; is_fault(&rt, &source, &plan, how, wanted)?);
-        assert_eq!(rt; source.failed.load(SeqCst), 1);
+        assert!(rt; is_least(&rt, &plan, how));
     }
     Ok(())
 }
 
-#[test]
-fn a_worker_tells_the_unit_that_it_failed(rt: HostRuntime) -> Result<(), Fail> {
-    trees_are_runs();
-    units_are_few();
-    let faults = vec![in rt.alloc(); (0, Some(114688), 9), (0, Some(49157), 5)]?;
-    let source = FailSource::new(files_of(rt.alloc(), &[163840])?, faults);
-    let plan = plan_of(&rt, &[163840], Kind::V2, 16384, 1)?;
-    let (board, mut seat) = Board::open(rt.alloc(), plan.forest(), plan.units().len() as u64)?;
-    let told = match work(rt.alloc(), &source, &plan, &board, &mut seat) {
-        Err(
-            (
-                3,
-                EngineError::Read {
-                    file: 0,
-                    start: Some(49157),
-                    fault: 5,
-                },
-            ),
-        ) => true,
-        _ => false,
-    };
-    let is_done = match board.claim(&mut seat) {
+/// A file of ten units, of which the seventh fails, and the fourth.
+fn failing_twice(alloc: Global) -> Result<FailSource, AllocError> {
+    let faults = vec![in alloc; (0, Some(114688), 9), (0, Some(49157), 5)]?;
+    Ok(FailSource::new(files_of(alloc, &[163840])?, faults))
+}
+
+/// Whether the fault of the fourth is told.
+fn is_of_fourth(told: &Result<Share, (u64, EngineError<u64>)>) -> bool {
+    matches!(
+        told,
+        Err((
+            3,
+            EngineError::Read {
+                file: 0,
+                start: Some(49157),
+                fault: 5,
+            },
+        ))
+    )
+}
+
+/// Whether a claim gets no unit.
+fn gets_none(board: &Board, seat: &mut Seat) -> bool
+    requires { IsSeatOf board.now seat.old }
+    ensures { IsSeatOf board.now seat.new }
+{
+    match board.claim(seat) {
         None => true,
         Some(job) => {
-            board.fail(&mut seat, job);
+            board.fail(seat, job);
             false
         }
-    };
-    assert_eq!(rt; Board::room(&seat), 256);
-    assert_eq!(rt; board.close(seat).least_failed, Some(3));
-    assert!(rt; told && is_done);
+    }
+}
+
+#[test]
+fn a_worker_tells_the_unit_that_it_failed(rt: HostRuntime) -> Result<(), AllocError> {
+    trees_are_runs();
+    units_are_few();
+    let source = failing_twice(rt.alloc())?;
+    let plan = plan_of(&rt, &[163840], Kind::V2, 16384, 1)?;
+    let (board, mut seat) = Board::open(rt.alloc(), plan.forest(), plan.units().len() as u64)?;
+    let is_told = is_of_fourth(&work(rt.alloc(), &source, &plan, &board, &mut seat));
+    let is_done = gets_none(&board, &mut seat);
+    assert!(rt; Board::room(&seat) == 256);
+    assert!(rt; board.close(seat).least_failed == Some(3));
+    assert!(rt; is_told && is_done);
     Ok(())
 }

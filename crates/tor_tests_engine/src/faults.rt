@@ -1,13 +1,13 @@
 //! Which fault is answered: the first of a source, or that of a file that is missing or has changed.
 
-use crate::shared::{EACH_HOW, EACH_KIND, content, files_of, is_each_fault, is_fault, plan_of};
+use crate::shared::{EACH_HOW, content, files_of, is_each_fault, is_fault, plan_of};
 use std::alloc::{AllocError, Global};
 use std::process::Abort;
 use std::sync::atomic::AtomicU64;
 use std::sync::atomic::Ordering::SeqCst;
-use std::test::Fail;
 use std::thread::Threads;
 use tor_engine::How;
+use tor_plan::Plan;
 use tor_source::{FailSource, MemSource, Source};
 use tor_tree::Kind;
 
@@ -17,7 +17,7 @@ type FaultAt = (u64, Option<u64>, u64);
 /// The lengths of files, their faults, and the one that is answered.
 type Faults = (&'static [u64], &'static [FaultAt], &'static str);
 
-const FAULTS: [Faults; 8] = [
+const FAULTS: &[Faults] = &[
     (
         &[163840],
         &[(0, Some(114688), 9), (0, Some(49157), 5)],
@@ -61,27 +61,44 @@ const FAULTS: [Faults; 8] = [
     ),
 ];
 
+fn failing(alloc: Global, lengths: &[u64], faults: &[FaultAt]) -> Result<FailSource, AllocError> {
+    let faults = Vec::from_slice(alloc, faults)?;
+    Ok(FailSource::new(files_of(alloc, lengths)?, faults))
+}
+
+/// Whether the fault of the planned files is answered, each way to share the units.
+fn is_planned_fault<S: Source, R: AllocGlobal + Abort + Threads + Sync>(
+    rt: &R,
+    source: &S,
+    lengths: &[u64],
+    kind: Kind,
+    wanted: &str,
+) -> bool {
+    match plan_of(rt, lengths, kind, 16384, 1) {
+        Ok(plan) => is_each_fault(rt, source, &plan, wanted),
+        Err(_) => false,
+    }
+}
+
 /// Whether the first fault of a row is answered.
 fn is_first_fault<R: AllocGlobal + Abort + Threads + Sync>(
     rt: &R,
     row: &Faults,
     kind: Kind,
-) -> Result<bool, Fail> {
-    let (lengths, faults, wanted) = *row;
-    let faults = Vec::from_slice(rt.alloc(), faults)?;
-    let source = FailSource::new(files_of(rt.alloc(), lengths)?, faults);
-    let plan = plan_of(rt, lengths, kind, 16384, 1)?;
-    Ok(is_each_fault(rt, &source, &plan, wanted)?)
+) -> bool {
+    match failing(rt.alloc(), row.0, row.1) {
+        Ok(source) => is_planned_fault(rt, &source, row.0, kind, row.2),
+        Err(_) => false,
+    }
 }
 
 #[test]
-fn answers_the_first_fault_in_the_order_of_the_plan(rt: HostRuntime) -> Result<(), Fail> {
-    for row in &FAULTS {
-        for kind in EACH_KIND {
-            assert!(rt; is_first_fault(&rt, row, kind)?);
-        }
+fn answers_the_first_fault_in_the_order_of_the_plan(rt: HostRuntime) {
+    for row in FAULTS {
+        assert!(rt; is_first_fault(&rt, row, Kind::V1));
+        assert!(rt; is_first_fault(&rt, row, Kind::V2));
+        assert!(rt; is_first_fault(&rt, row, Kind::Hybrid));
     }
-    Ok(())
 }
 
 /// A file that others change: how long it is told to be at first, and when it is asked again, and how many bytes it
@@ -134,7 +151,7 @@ const CHANGED: &str = "Changed { file: 0 }";
 
 const MISSING: &str = "Missing { file: 0 }";
 
-const CHANGES: [Change; 8] = [
+const CHANGES: &[Change] = &[
     ((Some(40000), Some(40000)), 40000, 40000, "none", 3),
     ((Some(40000), Some(40000)), 40000, 39999, CHANGED, 0),
     ((Some(40000), Some(40000)), 40000, 0, CHANGED, 0),
@@ -148,11 +165,11 @@ const CHANGES: [Change; 8] = [
 
 fn is_change<R: AllocGlobal + Abort + Threads + Sync>(
     rt: &R,
+    plan: &Plan,
     row: &Change,
     how: How,
-) -> Result<bool, Fail> {
-    let ((first, again), there, planned, wanted, reads) = *row;
-    let plan = plan_of(rt, &[planned], Kind::V2, 16384, 1)?;
+) -> bool {
+    let ((first, again), there, _, wanted, reads) = *row;
     let source = Changing {
         file: 0,
         first,
@@ -161,23 +178,33 @@ fn is_change<R: AllocGlobal + Abort + Threads + Sync>(
         lengths: AtomicU64::new(0),
         reads: AtomicU64::new(0),
     };
-    Ok(is_fault(rt, &source, &plan, how, wanted)? && source.reads.load(SeqCst) == reads)
+    is_fault(rt, &source, plan, how, wanted) && source.reads.load(SeqCst) == reads
+}
+
+/// Whether it is, each way to share the units.
+fn is_each_change<R: AllocGlobal + Abort + Threads + Sync>(rt: &R, row: &Change) -> bool {
+    let Ok(plan) = plan_of(rt, &[row.2], Kind::V2, 16384, 1) else {
+        return false;
+    };
+    for how in EACH_HOW {
+        if !is_change(rt, &plan, row, how) {
+            return false;
+        }
+    }
+    true
 }
 
 #[test]
-fn answers_a_file_that_changes(rt: HostRuntime) -> Result<(), Fail> {
-    for row in &CHANGES {
-        for how in EACH_HOW {
-            assert!(rt; is_change(&rt, row, how)?);
-        }
+fn answers_a_file_that_changes(rt: HostRuntime) {
+    for row in CHANGES {
+        assert!(rt; is_each_change(&rt, row));
     }
-    Ok(())
 }
 
 /// The files, their lengths in the plan, and the fault.
 type Lengths = (&'static [Option<u64>], &'static [u64], &'static str);
 
-const LENGTHS: [Lengths; 5] = [
+const LENGTHS: &[Lengths] = &[
     (
         &[Some(5), Some(6), Some(7)],
         &[5, 7, 8],
@@ -197,31 +224,41 @@ fn file_there(alloc: Global, length: Option<u64>) -> Result<Option<Vec<u8>>, All
     }
 }
 
-/// Files of such contents.
-fn files_there(alloc: Global, lengths: &[Option<u64>]) -> Result<MemSource, AllocError> {
-    let mut files = Vec::new(alloc);
+fn add_contents(
+    alloc: Global,
+    lengths: &[Option<u64>],
+    files: &mut Vec<Option<Vec<u8>>>,
+) -> Result<(), AllocError> {
     for length in lengths {
         files.push(file_there(alloc, *length)?)?;
     }
+    Ok(())
+}
+
+/// Files of such contents.
+fn files_there(alloc: Global, lengths: &[Option<u64>]) -> Result<MemSource, AllocError> {
+    let mut files = Vec::new(alloc);
+    add_contents(alloc, lengths, &mut files)?;
     Ok(MemSource::new(files))
 }
 
+/// Such files, of which the first byte of file 0 fails too.
+fn failing_there(alloc: Global, lengths: &[Option<u64>]) -> Result<FailSource, AllocError> {
+    let faults = vec![in alloc; (0, Some(0), 1)]?;
+    Ok(FailSource::new(files_there(alloc, lengths)?, faults))
+}
+
 /// Whether the fault of a row is answered, and not that of the first byte of its file 0.
-fn is_fault_of_lengths<R: AllocGlobal + Abort + Threads + Sync>(
-    rt: &R,
-    row: &Lengths,
-) -> Result<bool, Fail> {
-    let (lengths, planned, wanted) = *row;
-    let faults = vec![in rt.alloc(); (0, Some(0), 1)]?;
-    let source = FailSource::new(files_there(rt.alloc(), lengths)?, faults);
-    let plan = plan_of(rt, planned, Kind::V2, 16384, 1)?;
-    Ok(is_each_fault(rt, &source, &plan, wanted)?)
+fn is_fault_of_lengths<R: AllocGlobal + Abort + Threads + Sync>(rt: &R, row: &Lengths) -> bool {
+    match failing_there(rt.alloc(), row.0) {
+        Ok(source) => is_planned_fault(rt, &source, row.1, Kind::V2, row.2),
+        Err(_) => false,
+    }
 }
 
 #[test]
-fn compares_lengths_when_all_were_told(rt: HostRuntime) -> Result<(), Fail> {
-    for row in &LENGTHS {
-        assert!(rt; is_fault_of_lengths(&rt, row)?);
+fn compares_lengths_when_all_were_told(rt: HostRuntime) {
+    for row in LENGTHS {
+        assert!(rt; is_fault_of_lengths(&rt, row));
     }
-    Ok(())
 }

@@ -6,10 +6,10 @@ use std::alloc::{AllocError, Global};
 use std::process::Abort;
 use std::sync::atomic::AtomicU64;
 use std::sync::atomic::Ordering::SeqCst;
-use std::test::Fail;
 use std::thread::Threads;
 use tor_engine::{EngineError, How, PieceHash, hash_pieces};
 use tor_merkle::Hash;
+use tor_plan::Plan;
 use tor_source::MemSource;
 use tor_tree::Kind;
 
@@ -75,14 +75,27 @@ const ROWS: &[Row] = &[
     (Kind::Hybrid, &[], &[None, None]),
 ];
 
+fn content(alloc: Global, bytes: &Option<&[u8]>) -> Result<Option<Vec<u8>>, AllocError> {
+    match bytes {
+        Some(bytes) => Ok(Some(Vec::from_slice(alloc, bytes)?)),
+        None => Ok(None),
+    }
+}
+
+fn add_contents(
+    alloc: Global,
+    files: &[Option<&[u8]>],
+    contents: &mut Vec<Option<Vec<u8>>>,
+) -> Result<(), AllocError> {
+    for file in files {
+        contents.push(content(alloc, file)?)?;
+    }
+    Ok(())
+}
+
 fn files_of(alloc: Global, files: &[Option<&[u8]>]) -> Result<MemSource, AllocError> {
     let mut contents = Vec::new(alloc);
-    for file in files {
-        contents.push(match file {
-            Some(bytes) => Some(Vec::from_slice(alloc, bytes)?),
-            None => None,
-        })?;
-    }
+    add_contents(alloc, files, &mut contents)?;
     Ok(MemSource::new(contents))
 }
 
@@ -110,48 +123,64 @@ fn is_root(root: Option<Hash>, wanted: Option<&Hash>) -> bool {
     }
 }
 
-/// Whether these are the hashes, by a number of workers that is tested first.
-fn are_hashes<R: AllocGlobal + Abort + Threads + Sync>(
+fn are_hashes(hashes: &[Option<PieceHash>], wanted: &[Wanted]) -> bool {
+    if hashes.len() != wanted.len() {
+        return false;
+    }
+    for (hash, wanted) in hashes.iter().zip(wanted) {
+        if !is_hash(hash, wanted) {
+            return false;
+        }
+    }
+    true
+}
+
+/// Whether the hashes of a source are those of a row, by a number of workers that is tested first.
+fn is_right<R: AllocGlobal + Abort + Threads + Sync>(
     rt: &R,
+    source: &MemSource,
+    plan: &Plan,
     row: &Row,
     how: How,
-) -> Result<bool, Fail> {
+) -> bool {
     if let How::Halves(workers) | How::Board(workers) = how {
         assert!(rt; workers >= 1 && workers <= 64);
     }
-    let plan = plan_of(rt, &[2, 1], row.0, 16_384, 16)?;
-    let source = files_of(rt.alloc(), row.1)?;
-    match hash_pieces(rt, rt.alloc(), &source, &plan, how) {
-        Ok(hashes) => Ok(
-            hashes.len() == row.2.len()
-                && hashes
-                    .iter()
-                    .zip(row.2)
-                    .all(|(hash, wanted)| is_hash(hash, wanted)),
-        ),
-        Err(_) => Ok(false),
+    match hash_pieces(rt, rt.alloc(), source, plan, how) {
+        Ok(hashes) => are_hashes(&hashes, row.2),
+        Err(_) => false,
     }
 }
 
-/// The index of the first row that has other hashes.
-fn first_wrong<R: AllocGlobal + Abort + Threads + Sync>(
+/// Whether they are, each way to share the units.
+fn is_planned_right<R: AllocGlobal + Abort + Threads + Sync>(
     rt: &R,
-    how: How,
-) -> Result<Option<usize>, Fail> {
-    for (index, row) in ROWS.iter().enumerate() {
-        if !are_hashes(rt, row, how)? {
-            return Ok(Some(index));
+    source: &MemSource,
+    row: &Row,
+) -> bool {
+    let Ok(plan) = plan_of(rt, &[2, 1], row.0, 16_384, 16) else {
+        return false;
+    };
+    for how in EACH_HOW {
+        if !is_right(rt, source, &plan, row, how) {
+            return false;
         }
     }
-    Ok(None)
+    true
+}
+
+fn is_each_right<R: AllocGlobal + Abort + Threads + Sync>(rt: &R, row: &Row) -> bool {
+    match files_of(rt.alloc(), row.1) {
+        Ok(source) => is_planned_right(rt, &source, row),
+        Err(_) => false,
+    }
 }
 
 #[test]
-fn hashes_the_pieces_that_are_there(rt: HostRuntime) -> Result<(), Fail> {
-    for how in EACH_HOW {
-        assert_eq!(rt; first_wrong(&rt, how)?, None);
+fn hashes_the_pieces_that_are_there(rt: HostRuntime) {
+    for row in ROWS {
+        assert!(rt; is_each_right(&rt, row));
     }
-    Ok(())
 }
 
 /// The length of a file of three bytes at first and again, the bytes that it has, whether it was changed, and how often
@@ -175,26 +204,26 @@ const CHANGES: &[Change] = &[
 /// Whether the file that changes, of two, is answered.
 fn is_changed<R: AllocGlobal + Abort + Threads + Sync>(
     rt: &R,
+    plan: &Plan,
     source: &Changing,
     how: How,
-) -> Result<bool, Fail> {
+) -> bool {
     if let How::Halves(workers) | How::Board(workers) = how {
         assert!(rt; workers >= 1 && workers <= 64);
     }
-    let lengths = if source.file == 0 { [3, 0] } else { [0, 3] };
-    let plan = plan_of(rt, &lengths, Kind::V2, 16_384, 16)?;
-    match hash_pieces(rt, rt.alloc(), source, &plan, how) {
-        Err(EngineError::Changed { file }) => Ok(file == source.file),
-        _ => Ok(false),
+    match hash_pieces(rt, rt.alloc(), source, plan, how) {
+        Err(EngineError::Changed { file }) => file == source.file,
+        _ => false,
     }
 }
 
 fn is_change<R: AllocGlobal + Abort + Threads + Sync>(
     rt: &R,
+    plan: &Plan,
     row: &Change,
     file: u64,
     how: How,
-) -> Result<bool, Fail> {
+) -> bool {
     let ((first, again), there, wanted, reads) = *row;
     let source = Changing {
         file,
@@ -204,18 +233,31 @@ fn is_change<R: AllocGlobal + Abort + Threads + Sync>(
         lengths: AtomicU64::new(0),
         reads: AtomicU64::new(0),
     };
-    let changed = is_changed(rt, &source, how)?;
-    Ok(changed == wanted && source.reads.load(SeqCst) == reads)
+    is_changed(rt, plan, &source, how) == wanted && source.reads.load(SeqCst) == reads
+}
+
+/// Whether each row holds of a file, by one worker and by two.
+fn is_each_change<R: AllocGlobal + Abort + Threads + Sync>(
+    rt: &R,
+    lengths: &[u64],
+    file: u64,
+) -> bool {
+    let Ok(plan) = plan_of(rt, lengths, Kind::V2, 16_384, 16) else {
+        return false;
+    };
+    for row in CHANGES {
+        if !is_change(rt, &plan, row, file, How::One)
+            || !is_change(rt, &plan, row, file, How::Halves(2))
+        {
+            return false;
+        }
+    }
+    true
 }
 
 /// The lengths are asked again when all pieces were read.
 #[test]
-fn tells_of_a_file_that_changes(rt: HostRuntime) -> Result<(), Fail> {
-    for row in CHANGES {
-        for file in [0, 1] {
-            assert!(rt; is_change(&rt, row, file, How::One)?);
-            assert!(rt; is_change(&rt, row, file, How::Halves(2))?);
-        }
-    }
-    Ok(())
+fn tells_of_a_file_that_changes(rt: HostRuntime) {
+    assert!(rt; is_each_change(&rt, &[3, 0], 0));
+    assert!(rt; is_each_change(&rt, &[0, 3], 1));
 }

@@ -1,10 +1,10 @@
 //! What is asked of a source: where each read begins and ends, and which of its faults is answered.
 
-use crate::shared::{files_of, is_each_fault, is_fault, plan_of};
+use crate::shared::{files_of, is, is_each_fault, is_fault, plan_of};
+use std::alloc::{AllocError, Global};
 use std::process::Abort;
 use std::sync::atomic::AtomicU64;
 use std::sync::atomic::Ordering::SeqCst;
-use std::test::Fail;
 use std::thread::Threads;
 use tor_engine::{How, hash_told};
 use tor_plan::Plan;
@@ -60,7 +60,7 @@ const LEAST_READ: u64 = 1 << 16;
 /// The length of the file and of a piece, the span, the kind, and how many bytes the largest read asks for.
 type Read = (u64, u64, u32, Kind, u64);
 
-const READ: [Read; 7] = [
+const READ: &[Read] = &[
     (40000, 16384, 1, Kind::V1, 16384),
     (40000, 16384, 2, Kind::V2, 32768),
     (40000, 16384, 1, Kind::Hybrid, 16384),
@@ -76,12 +76,12 @@ const STEPS: [usize; 3] = [1 << 23, 50_000, 9_999];
 
 fn is_read_right<R: AllocGlobal + Abort + Threads + Sync>(
     rt: &R,
+    plan: &Plan,
     row: &Read,
     step: usize,
     how: How,
-) -> Result<bool, Fail> {
-    let (length, piece_length, span, kind, most) = *row;
-    let plan = plan_of(rt, &[length], kind, piece_length, span)?;
+) -> bool {
+    let (length, piece_length, span, _, most) = *row;
     let source = Watched {
         length,
         part: piece_length.saturating_mul(u64::from(span)),
@@ -89,41 +89,75 @@ fn is_read_right<R: AllocGlobal + Abort + Threads + Sync>(
         most: AtomicU64::new(0),
         wrong: AtomicU64::new(0),
     };
-    let is_made = is_fault(rt, &source, &plan, how, "none")?;
-    Ok(is_made && source.wrong.load(SeqCst) == 0 && source.most.load(SeqCst) == most)
+    is_fault(rt, &source, plan, how, "none")
+        && source.wrong.load(SeqCst) == 0
+        && source.most.load(SeqCst) == most
+}
+
+/// Whether it is, by one worker and by two.
+fn is_each_read_right<R: AllocGlobal + Abort + Threads + Sync>(rt: &R, row: &Read) -> bool {
+    let Ok(plan) = plan_of(rt, &[row.0], row.3, row.1, row.2) else {
+        return false;
+    };
+    for step in STEPS {
+        if !is_read_right(rt, &plan, row, step, How::One)
+            || !is_read_right(rt, &plan, row, step, How::Halves(2))
+        {
+            return false;
+        }
+    }
+    true
 }
 
 #[test]
-fn reads_within_parts_and_buffers(rt: HostRuntime) -> Result<(), Fail> {
-    for row in &READ {
-        for step in STEPS {
-            assert!(rt; is_read_right(&rt, row, step, How::One)?);
-            assert!(rt; is_read_right(&rt, row, step, How::Halves(2))?);
-        }
+fn reads_within_parts_and_buffers(rt: HostRuntime) {
+    for row in READ {
+        assert!(rt; is_each_read_right(&rt, row));
     }
-    Ok(())
+}
+
+/// A file of ten blocks, of which this byte fails.
+fn failing_at(alloc: Global, offset: u64) -> Result<FailSource, AllocError> {
+    let faults = vec![in alloc; (0, Some(offset), 5)]?;
+    Ok(FailSource::new(files_of(alloc, &[163840])?, faults))
+}
+
+/// Whether the fault of the source has the text of one at this byte.
+fn is_fault_at<R: AllocGlobal + Abort + Threads + Sync>(
+    rt: &R,
+    source: &FailSource,
+    plan: &Plan,
+    offset: u64,
+) -> bool {
+    match format!(in rt.alloc(); "Read {{ file: 0, start: Some({offset}), fault: 5 }}") {
+        Ok(wanted) => is_each_fault(rt, source, plan, &wanted),
+        Err(_) => false,
+    }
 }
 
 /// Whether the fault of this byte is answered.
-fn is_answered<R: AllocGlobal + Abort + Threads + Sync>(
-    rt: &R,
-    plan: &Plan,
-    offset: u64,
-) -> Result<bool, Fail> {
-    let alloc = rt.alloc();
-    let faults = vec![in alloc; (0, Some(offset), 5)]?;
-    let source = FailSource::new(files_of(alloc, &[163840])?, faults);
-    let wanted = format!(in alloc; "Read {{ file: 0, start: Some({offset}), fault: 5 }}")?;
-    Ok(is_each_fault(rt, &source, plan, &wanted)?)
+fn is_answered<R: AllocGlobal + Abort + Threads + Sync>(rt: &R, plan: &Plan, offset: u64) -> bool {
+    match failing_at(rt.alloc(), offset) {
+        Ok(source) => is_fault_at(rt, &source, plan, offset),
+        Err(_) => false,
+    }
+}
+
+fn is_each_answered<R: AllocGlobal + Abort + Threads + Sync>(rt: &R) -> bool {
+    let Ok(plan) = plan_of(rt, &[163840], Kind::V2, 16384, 1) else {
+        return false;
+    };
+    for turn in 0..40u64 {
+        if !is_answered(rt, &plan, turn.saturating_mul(4096)) {
+            return false;
+        }
+    }
+    true
 }
 
 #[test]
-fn tells_each_byte_that_fails_in_turn(rt: HostRuntime) -> Result<(), Fail> {
-    let plan = plan_of(&rt, &[163840], Kind::V2, 16384, 1)?;
-    for turn in 0..40u64 {
-        assert!(rt; is_answered(&rt, &plan, turn.saturating_mul(4096))?);
-    }
-    Ok(())
+fn tells_each_byte_that_fails_in_turn(rt: HostRuntime) {
+    assert!(rt; is_each_answered(&rt));
 }
 
 /// A file of zeros whose length was told before, and what is told of it when it is asked again.
@@ -154,40 +188,56 @@ impl Source for Again {
     }
 }
 
+/// The plan of a file of 40,000 bytes.
+fn plan_of_40000<R: AllocGlobal + Abort>(rt: &R) -> Result<Plan, AllocError> {
+    plan_of(rt, &[40000], Kind::V2, 16384, 1)
+}
+
+/// Whether a file of as many is hashed, and told to have as many.
+fn is_hashed<R: AllocGlobal + Abort + Threads + Sync>(rt: &R, plan: &Plan) -> bool {
+    let Ok(source) = files_of(rt.alloc(), &[40000]) else {
+        return false;
+    };
+    match hash_told(rt, rt.alloc(), &source, plan, How::Halves(2)) {
+        Ok(told) => told.lengths.as_slice() == [40000u64].as_slice(),
+        Err(_) => false,
+    }
+}
+
 #[test]
-fn hashes_files_whose_lengths_were_told_before(rt: HostRuntime) -> Result<(), Fail> {
-    let alloc = rt.alloc();
-    let plan = plan_of(&rt, &[40000], Kind::V2, 16384, 1)?;
-    let source = files_of(alloc, &[40000])?;
-    let told = hash_told(&rt, alloc, &source, &plan, How::Halves(2))?;
-    assert_eq!(rt; told.lengths.as_slice(), [40000u64].as_slice());
+fn hashes_files_whose_lengths_were_told_before(rt: HostRuntime) -> Result<(), AllocError> {
+    let plan = plan_of_40000(&rt)?;
+    assert!(rt; is_hashed(&rt, &plan));
     Ok(())
 }
 
 /// What is told when it is asked again, and the fault. That a file is missing is told of the first asking alone.
-const AGAIN: [(Result<Option<u64>, u64>, &str); 4] = [
+const AGAIN: &[(Result<Option<u64>, u64>, &str)] = &[
     (Ok(None), "Changed { file: 0 }"),
     (Ok(Some(39999)), "Changed { file: 0 }"),
     (Ok(Some(40001)), "Changed { file: 0 }"),
     (Err(7), "Read { file: 0, start: None, fault: 7 }"),
 ];
 
-/// The fault of such a file.
-fn fault_again<R: AllocGlobal + Abort + Threads + Sync>(
+/// Whether the fault of such a file has this text.
+fn is_fault_again<R: AllocGlobal + Abort + Threads + Sync>(
     rt: &R,
+    plan: &Plan,
     again: Result<Option<u64>, u64>,
-) -> Result<String, Fail> {
+    wanted: &str,
+) -> bool {
     let length = 40000;
-    let plan = plan_of(rt, &[length], Kind::V2, 16384, 1)?;
-    let source = Again { length, again };
-    let error = hash_told(rt, rt.alloc(), &source, &plan, How::One).err();
-    Ok(format!(in rt.alloc(); "{:?}", error.ok_or("sums")?)?)
+    match hash_told(rt, rt.alloc(), &Again { length, again }, plan, How::One) {
+        Ok(_) => false,
+        Err(error) => is(format!(in rt.alloc(); "{error:?}"), wanted),
+    }
 }
 
 #[test]
-fn tells_of_a_file_that_changed_since_it_was_asked(rt: HostRuntime) -> Result<(), Fail> {
+fn tells_of_a_file_that_changed_since_it_was_asked(rt: HostRuntime) -> Result<(), AllocError> {
+    let plan = plan_of_40000(&rt)?;
     for (again, wanted) in AGAIN {
-        assert_eq!(rt; fault_again(&rt, again)?.as_str(), wanted);
+        assert!(rt; is_fault_again(&rt, &plan, *again, wanted));
     }
     Ok(())
 }

@@ -2,12 +2,11 @@
 use crate::folders::{fault, shown};
 use crate::memory::read;
 use crate::shared::path;
-use std::alloc::{Allocator, Global};
+use std::alloc::{AllocError, Allocator, Global};
 use std::fs::{File, Metadata, OpenOptions};
 use std::io;
 use std::io::{Cursor, Read};
 use std::rt::Files;
-use std::test::Fail;
 use tor_source::{FolderSource, ScanFault, Source};
 use tor_tree::FilePath;
 
@@ -148,7 +147,7 @@ fn gives(
 }
 
 #[test]
-fn answers_the_first_fault_in_the_order_of_names(rt: HostRuntime) -> Result<(), Fail> {
+fn answers_the_first_fault_in_the_order_of_names(rt: HostRuntime) -> io::Result<()> {
     for (names, wanted) in SCANS {
         assert!(rt; gives(&rt, "top", names, false, wanted)?);
     }
@@ -158,14 +157,14 @@ fn answers_the_first_fault_in_the_order_of_names(rt: HostRuntime) -> Result<(), 
 const BROKEN: &[&[u8]] = &[b"", b"a file\0", b"a file\0b fi"];
 
 #[test]
-fn tells_a_listing_that_breaks_off(rt: HostRuntime) -> Result<(), Fail> {
+fn tells_a_listing_that_breaks_off(rt: HostRuntime) -> io::Result<()> {
     for names in BROKEN {
         assert!(rt; gives(&rt, "top", names, true, b"F4 System")?);
     }
     Ok(())
 }
 
-fn paths(alloc: Global, texts: &[&str]) -> Result<Vec<FilePath>, Fail> {
+fn paths(alloc: Global, texts: &[&str]) -> Result<Vec<FilePath>, AllocError> {
     let mut paths = Vec::new(alloc);
     for text in texts {
         paths.push(path(alloc, text)?)?;
@@ -173,14 +172,18 @@ fn paths(alloc: Global, texts: &[&str]) -> Result<Vec<FilePath>, Fail> {
     Ok(paths)
 }
 
+fn is_one_below_the_empty_place(rt: &HostRuntime) -> Result<bool, AllocError> {
+    let files = paths(rt.alloc(), &["proc"])?;
+    Ok(FolderSource::at(rt, "", files)?.count() == 1)
+}
+
 // The system of these tests would tell of a FIFO, were it asked.
 #[test]
-fn has_no_file_below_the_empty_place(rt: HostRuntime) -> Result<(), Fail> {
+fn has_no_file_below_the_empty_place(rt: HostRuntime) -> io::Result<()> {
     assert!(rt; gives(&rt, "", b"a file\0", false, b"F4 System")?);
     assert!(rt; matches!(fault(&rt, ""), Some(ScanFault::System)));
     assert!(rt; rt.metadata("").is_err());
-    let files = paths(rt.alloc(), &["proc"])?;
-    assert!(rt; FolderSource::at(&rt, "", files)?.count() == 1);
+    assert!(rt; is_one_below_the_empty_place(&rt)?);
     Ok(())
 }
 
@@ -208,15 +211,19 @@ fn refuses_read(source: &FolderSource<Listed>, file: u64) -> bool {
     }
 }
 
+// A source of such files below `top`.
+fn source_of(rt: &HostRuntime, texts: &[&str]) -> io::Result<FolderSource<Listed>> {
+    let files = paths(rt.alloc(), texts)?;
+    Ok(FolderSource::at(&system_of(rt, b"", false)?, "top", files)?)
+}
+
 // A FIFO is missing, and not opened.
 #[test]
-fn tells_faults_of_the_system(rt: HostRuntime) -> Result<(), Fail> {
-    let files = paths(rt.alloc(), &["fifo", "a file", "hidden"])?;
-    let source = FolderSource::at(&system_of(&rt, b"", false)?, "top", files)?;
+fn tells_faults_of_the_system(rt: HostRuntime) -> io::Result<()> {
+    let source = source_of(&rt, &["fifo", "a file", "hidden"])?;
     assert!(rt; is_missing(&source, 0)?);
     assert!(rt; matches!(source.length(1)?, Some(1..)));
     assert!(rt; refuses_read(&source, 1));
-    assert!(rt; refuses_length(&source, 2));
-    assert!(rt; refuses_read(&source, 2));
+    assert!(rt; refuses_length(&source, 2) && refuses_read(&source, 2));
     Ok(())
 }

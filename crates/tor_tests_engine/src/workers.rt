@@ -1,11 +1,10 @@
 //! How many workers read at once.
 
-use crate::shared::{is_fault, plan_of};
+use crate::shared::{is, is_fault, plan_of};
 use std::alloc::AllocError;
 use std::process::Abort;
 use std::sync::atomic::AtomicU64;
 use std::sync::atomic::Ordering::SeqCst;
-use std::test::Fail;
 use std::thread::{Threads, yield_now};
 use tor_engine::{How, hash_pieces};
 use tor_plan::Plan;
@@ -49,7 +48,7 @@ impl Source for Crowded {
 }
 
 /// How the units are shared, and by how many workers.
-const SHARED: [(How, u64); 9] = [
+const SHARED: &[(How, u64)] = &[
     (How::One, 1),
     (How::Halves(1), 1),
     (How::Halves(2), 2),
@@ -64,25 +63,25 @@ const SHARED: [(How, u64); 9] = [
 /// Whether no more than so many read a file of 16 units at once.
 fn is_never_crowded<R: AllocGlobal + Abort + Threads + Sync>(
     rt: &R,
+    plan: &Plan,
     how: How,
     workers: u64,
-) -> Result<bool, Fail> {
-    let length = 16 * 16384;
-    let plan = plan_of(rt, &[length], Kind::V2, 16384, 1)?;
-    assert_eq!(rt; plan.units().len(), 16);
+) -> bool {
     let source = Crowded {
-        length,
+        length: 16 * 16384,
         workers,
         open: AtomicU64::new(0),
         wrong: AtomicU64::new(0),
     };
-    Ok(is_fault(rt, &source, &plan, how, "none")? && source.wrong.load(SeqCst) == 0)
+    is_fault(rt, &source, plan, how, "none") && source.wrong.load(SeqCst) == 0
 }
 
 #[test]
-fn no_more_workers_read_than_were_asked_for(rt: HostRuntime) -> Result<(), Fail> {
+fn no_more_workers_read_than_were_asked_for(rt: HostRuntime) -> Result<(), AllocError> {
+    let plan = plan_of(&rt, &[16 * 16384], Kind::V2, 16384, 1)?;
+    assert!(rt; plan.units().len() == 16);
     for (how, workers) in SHARED {
-        assert!(rt; is_never_crowded(&rt, how, workers)?);
+        assert!(rt; is_never_crowded(&rt, &plan, *how, *workers));
     }
     Ok(())
 }
@@ -137,7 +136,7 @@ const FEW: u64 = 1000;
 const MANY: u64 = 10_000_000;
 
 /// The workers, how many reads wait for one another, how often each looks for the others, and the fault.
-const MEETINGS: [(How, u64, u64, &str); 10] = [
+const MEETINGS: &[(How, u64, u64, &str)] = &[
     (How::One, 2, FEW, ALONE),
     (How::Halves(1), 2, FEW, ALONE),
     (How::Halves(2), 3, FEW, ALONE),
@@ -161,17 +160,17 @@ fn meeting_of(workers: u64, turns: u64) -> Meeting {
 }
 
 /// Its plan.
-fn plan_of_meeting<R: AllocGlobal + Abort>(rt: &R) -> Result<Plan, Fail> {
+fn plan_of_meeting<R: AllocGlobal + Abort>(rt: &R) -> Result<Plan, AllocError> {
     let plan = plan_of(rt, &[65536], Kind::V2, 16384, 1)?;
-    assert_eq!(rt; plan.units().len(), 4);
+    assert!(rt; plan.units().len() == 4);
     Ok(plan)
 }
 
 #[test]
-fn workers_meet(rt: HostRuntime) -> Result<(), Fail> {
+fn workers_meet(rt: HostRuntime) -> Result<(), AllocError> {
     let plan = plan_of_meeting(&rt)?;
     for (how, workers, turns, wanted) in MEETINGS {
-        assert!(rt; is_fault(&rt, &meeting_of(workers, turns), &plan, how, wanted)?);
+        assert!(rt; is_fault(&rt, &meeting_of(*workers, *turns), &plan, *how, wanted));
     }
     Ok(())
 }
@@ -183,21 +182,21 @@ fn is_fault_of_pieces<R: AllocGlobal + Abort + Threads + Sync>(
     plan: &Plan,
     how: How,
     wanted: &str,
-) -> Result<bool, AllocError> {
+) -> bool {
     if let How::Halves(workers) | How::Board(workers) = how {
         assert!(rt; workers >= 1 && workers <= 64);
     }
     match hash_pieces(rt, rt.alloc(), source, plan, how) {
-        Ok(_) => Ok(wanted == "none"),
-        Err(error) => Ok(format!(in rt.alloc(); "{error:?}")?.as_str() == wanted),
+        Ok(_) => wanted == "none",
+        Err(error) => is(format!(in rt.alloc(); "{error:?}"), wanted),
     }
 }
 
 #[test]
-fn workers_meet_over_pieces(rt: HostRuntime) -> Result<(), Fail> {
+fn workers_meet_over_pieces(rt: HostRuntime) -> Result<(), AllocError> {
     let plan = plan_of_meeting(&rt)?;
     for (how, workers, turns, wanted) in MEETINGS {
-        assert!(rt; is_fault_of_pieces(&rt, &meeting_of(workers, turns), &plan, how, wanted)?);
+        assert!(rt; is_fault_of_pieces(&rt, &meeting_of(*workers, *turns), &plan, *how, wanted));
     }
     Ok(())
 }
