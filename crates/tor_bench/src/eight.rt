@@ -44,15 +44,19 @@ const WAYS: [(&str, Way); 8] = [
 pub fn hashed(rt: &HostRuntime, count: usize) -> Result<()> {
     let bytes = zeros(rt.alloc(), 8 * PIECE)?;
     'ways: for (name, way) in WAYS {
-        let start = Instant::now(rt)?;
-        let mut seen = 0;
-        'times: for _ in 0..count {
-            seen ^= hashed_by(way, &bytes);
-        }
-        let taken = start.elapsed(rt)?.as_micros();
-        println!(rt; "{name} {taken} {seen}")?;
+        timed(rt, &bytes, count, name, way)?;
     }
     Ok(())
+}
+
+fn timed(rt: &HostRuntime, bytes: &[u8], count: usize, name: &str, way: Way) -> Result<()> {
+    let start = Instant::now(rt)?;
+    let mut seen = 0;
+    'times: for _ in 0..count {
+        seen ^= hashed_by(way, bytes);
+    }
+    let taken = start.elapsed(rt)?.as_micros();
+    println!(rt; "{name} {taken} {seen}")
 }
 
 /// The first byte of each hash, joined.

@@ -6,6 +6,7 @@ ghost use Rattle.tor_tree.specs.TidyTree.{HasItsRoot};
 use std::alloc::{AllocError, Global};
 use std::io::Result;
 use std::time::Instant;
+use tor_bencode::Item;
 use tor_merkle::Hash;
 use tor_tree::{FileList, FilePath, Name, NameError, from_item, to_item};
 
@@ -31,23 +32,31 @@ pub fn list(rt: &HostRuntime, count: usize) -> Result<()> {
     println!(rt; "{listed}")
 }
 
+/// A list of so many files, and the microseconds that it takes.
+fn listed(rt: &HostRuntime, count: usize) -> Result<(Option<FileList>, u128)> {
+    let files = files(rt.alloc(), count).unwrap_or(Vec::new(rt.alloc()));
+    let start = Instant::now(rt)?;
+    let list = FileList::build(rt.alloc(), files).ok();
+    Ok((list, start.elapsed(rt)?.as_micros()))
+}
+
+/// Its tree, and the microseconds that it takes.
+fn treed(rt: &HostRuntime, list: &FileList) -> Result<(Item, u128)> {
+    let roots = roots_for(rt.alloc(), list.files())?;
+    let start = Instant::now(rt)?;
+    let tree = to_item(rt.alloc(), list, &roots)?;
+    Ok((tree, start.elapsed(rt)?.as_micros()))
+}
+
 /// Prints how many files there are, and the microseconds that their list, its tree, and reading that take.
 pub fn lists(rt: &HostRuntime, count: usize) -> Result<()> {
-    let alloc = rt.alloc();
-    let Ok(files) = files(alloc, count) else {
+    let (list, built) = listed(rt, count)?;
+    let Some(list) = list else {
         return println!(rt; "0 0 0 0");
     };
+    let (tree, written) = treed(rt, &list)?;
     let start = Instant::now(rt)?;
-    let Ok(list) = FileList::build(alloc, files) else {
-        return println!(rt; "0 0 0 0");
-    };
-    let built = start.elapsed(rt)?.as_micros();
-    let roots = roots_for(alloc, list.files())?;
-    let start = Instant::now(rt)?;
-    let tree = to_item(alloc, &list, &roots)?;
-    let written = start.elapsed(rt)?.as_micros();
-    let start = Instant::now(rt)?;
-    let read = from_item(alloc, &tree).is_ok_and(|files| files.len() == count);
+    let read = from_item(rt.alloc(), &tree).is_ok_and(|files| files.len() == count);
     let taken = start.elapsed(rt)?.as_micros();
     println!(rt; "{count} {built} {written} {taken} {read}")
 }

@@ -25,9 +25,7 @@ use crate::eight::hashed;
 use crate::foreign::{judged, paired};
 use crate::lists::{list, lists, paths};
 use crate::padded::padded;
-use crate::plain::{Hashers, plain, plain_files};
-use sha1::Sha1;
-use sha2::{Digest, Sha256};
+use crate::plain::{plain, plain_files};
 use std::alloc::Global;
 use std::env;
 use std::io::{Error, ErrorKind, Read, Result};
@@ -43,49 +41,51 @@ const MAX_LENGTH: u64 = 1 << 50;
 const MAX_CUT: usize = 1 << 24;
 
 fn main(rt: HostRuntime) -> Result<()> {
-    let alloc = rt.alloc();
-    let words: Vec<String> = env::args(&rt)?.collect(alloc)?;
+    let words: Vec<String> = env::args(&rt)?.collect(rt.alloc())?;
     let [_, mode, word] = words.as_slice() else {
         return Err(Error::from(ErrorKind::InvalidInput));
     };
     let number = word.parse::<usize>().unwrap_or(MAX_CUT);
     match mode.as_str() {
-        "sha1" | "sha256" | "both" => plain(
-            &mut rt.stdin(),
-            &mut zeros(alloc, number.min(MAX_CUT))?,
-            hashers(mode),
-        ),
-        "files-sha1" | "files-sha256" | "files-both" => plain_files(
-            &rt,
-            &mut zeros(alloc, number.min(MAX_CUT))?,
-            hashers(mode),
-        ),
-        "feed" => streamed(
-            alloc,
-            &mut rt.stdin(),
-            &mut zeros(alloc, number.min(MAX_CUT))?,
-        ),
-        "paths" => paths(&rt, number),
-        "list" => list(&rt, number),
-        "lists" => lists(&rt, number),
-        "padded" => padded(&rt, number),
-        "scan" => scanned(&rt, word),
-        "check" => judged(&rt),
-        "pairs" => paired(&rt, number),
-        "hashes" => hashed(&rt, number),
         "board-units" => printed(&rt, alone(&rt, number, false)?),
         "board-tree" => printed(&rt, alone(&rt, number, true)?),
         "board-blocks" => printed(&rt, hashing(&rt, number)?),
         "board-rounds" => printed(&rt, rounds(&rt, number)?),
-        _ => decoded(&rt),
+        mode => timed(&rt, mode, word, number),
     }
 }
 
-fn hashers(mode: &str) -> Hashers {
-    Hashers {
-        sha1: (!mode.ends_with("sha256")).then(|| Sha1::new()),
-        sha256: (!mode.ends_with("sha1")).then(|| Sha256::new()),
+/// What starts no thread.
+fn timed(rt: &HostRuntime, mode: &str, word: &str, number: usize) -> Result<()> {
+    match mode {
+        "sha1" | "sha256" | "both" => input_hashed(rt, mode, number),
+        "files-sha1" | "files-sha256" | "files-both" => files_hashed(rt, mode, number),
+        "feed" => fed(rt, number),
+        "paths" => paths(rt, number),
+        "list" => list(rt, number),
+        "lists" => lists(rt, number),
+        "padded" => padded(rt, number),
+        "scan" => scanned(rt, word),
+        "check" => judged(rt),
+        "pairs" => paired(rt, number),
+        "hashes" => hashed(rt, number),
+        _ => decoded(rt),
     }
+}
+
+fn input_hashed(rt: &HostRuntime, mode: &str, number: usize) -> Result<()> {
+    let mut buffer = zeros(rt.alloc(), number.min(MAX_CUT))?;
+    plain(&mut rt.stdin(), &mut buffer, mode)
+}
+
+fn files_hashed(rt: &HostRuntime, mode: &str, number: usize) -> Result<()> {
+    let mut buffer = zeros(rt.alloc(), number.min(MAX_CUT))?;
+    plain_files(rt, &mut buffer, mode)
+}
+
+fn fed(rt: &HostRuntime, number: usize) -> Result<()> {
+    let mut buffer = zeros(rt.alloc(), number.min(MAX_CUT))?;
+    streamed(rt.alloc(), &mut rt.stdin(), &mut buffer)
 }
 
 fn printed(rt: &HostRuntime, numbers: (u128, u64)) -> Result<()> {
@@ -93,12 +93,16 @@ fn printed(rt: &HostRuntime, numbers: (u128, u64)) -> Result<()> {
     println!(rt; "{first} {second}")
 }
 
-fn scanned(rt: &HostRuntime, folder: &str) -> Result<()> {
-    let start = Instant::now(rt)?;
-    let count = match FolderSource::scan(rt, folder) {
+fn files_below(rt: &HostRuntime, folder: &str) -> usize {
+    match FolderSource::scan(rt, folder) {
         Ok((_source, paths)) => paths.len(),
         Err(_fault) => 0,
-    };
+    }
+}
+
+fn scanned(rt: &HostRuntime, folder: &str) -> Result<()> {
+    let start = Instant::now(rt)?;
+    let count = files_below(rt, folder);
     let taken = start.elapsed(rt)?.as_micros();
     println!(rt; "{count} {taken}")
 }

@@ -15,22 +15,40 @@ const CONTENT_LENGTH: usize = 100;
 /// Prints how many bytes the torrent of so many files has, the microseconds that making it takes, and those that SHA-1
 /// takes over a piece of zeros for each file.
 pub fn padded(rt: &HostRuntime, count: usize) -> Result<()> {
-    let alloc = rt.alloc();
-    let (Ok(head), Ok(files)) = (head(alloc), files(alloc, count)) else {
-        return println!(rt; "0 0 0");
-    };
+    let (length, made) = made(rt, count)?;
+    let hashed = hashed(rt, count)?;
+    println!(rt; "{length} {made} {hashed}")
+}
+
+/// How many bytes the torrent of so many files has, and the microseconds that making it takes.
+fn made(rt: &HostRuntime, count: usize) -> Result<(usize, u128)> {
+    let files = files(rt.alloc(), count).unwrap_or(Vec::new(rt.alloc()));
     let start = Instant::now(rt)?;
-    let length = make_contents(alloc, files, &head).map_or(0, |torrent| torrent.len());
-    let made = start.elapsed(rt)?.as_micros();
-    let piece = zeros(alloc, PIECE_LENGTH as usize)?;
+    let length = length_of(rt.alloc(), files);
+    Ok((length, start.elapsed(rt)?.as_micros()))
+}
+
+/// How many bytes the torrent of files has.
+fn length_of(alloc: Global, files: Vec<(FilePath, Vec<u8>)>) -> usize {
+    let Ok(head) = head(alloc) else {
+        return 0;
+    };
+    match make_contents(alloc, files, &head) {
+        Ok(torrent) => torrent.len(),
+        Err(_) => 0,
+    }
+}
+
+/// The microseconds that SHA-1 takes over so many pieces of zeros.
+fn hashed(rt: &HostRuntime, count: usize) -> Result<u128> {
+    let piece = zeros(rt.alloc(), PIECE_LENGTH as usize)?;
     let start = Instant::now(rt)?;
     let mut hasher = Sha1::new();
     for _ in 0..count {
         hasher.update(&piece);
     }
     let _hash: [u8; 20] = hasher.finalize();
-    let hashed = start.elapsed(rt)?.as_micros();
-    println!(rt; "{length} {made} {hashed}")
+    Ok(start.elapsed(rt)?.as_micros())
 }
 
 fn head(alloc: Global) -> std::result::Result<Head, NameError> {

@@ -6,24 +6,43 @@ use std::io::{Read, Result};
 
 /// The hashes that each part is added to.
 #[derive(Drop)]
-pub struct Hashers {
-    pub sha1: Option<Sha1>,
-    pub sha256: Option<Sha256>,
+struct Hashers {
+    sha1: Option<Sha1>,
+    sha256: Option<Sha256>,
 }
 
-/// Hashes all that the reader has, in reads of the buffer's length.
-pub fn plain<R: Read>(reader: &mut R, buffer: &mut [u8], mut hashers: Hashers) -> Result<()> {
+fn hashers_of(mode: &str) -> Hashers {
+    Hashers {
+        sha1: (!mode.ends_with("sha256")).then(|| Sha1::new()),
+        sha256: (!mode.ends_with("sha1")).then(|| Sha256::new()),
+    }
+}
+
+/// Hashes all that the reader has by the hashes that the mode names, in reads of the buffer's length.
+pub fn plain<R: Read>(reader: &mut R, buffer: &mut [u8], mode: &str) -> Result<()> {
+    let mut hashers = hashers_of(mode);
     add_all(reader, buffer, &mut hashers)?;
     finish(hashers);
     Ok(())
 }
 
-/// Hashes the files whose places standard input has, one a line, as one content.
-pub fn plain_files(rt: &HostRuntime, buffer: &mut [u8], mut hashers: Hashers) -> Result<()> {
+/// The places that standard input has, one a line.
+fn places(rt: &HostRuntime) -> Result<String> {
     let mut places = String::new(rt.alloc());
     rt.stdin().read_to_string(&mut places)?;
+    Ok(places)
+}
+
+fn add_file(rt: &HostRuntime, place: &str, buffer: &mut [u8], hashers: &mut Hashers) -> Result<()> {
+    add_all(&mut fs::open(rt, place)?, buffer, hashers)
+}
+
+/// Hashes the files of these places as one content.
+pub fn plain_files(rt: &HostRuntime, buffer: &mut [u8], mode: &str) -> Result<()> {
+    let places = places(rt)?;
+    let mut hashers = hashers_of(mode);
     for place in places.lines() {
-        add_all(&mut fs::open(rt, place)?, buffer, &mut hashers)?;
+        add_file(rt, place, buffer, &mut hashers)?;
     }
     finish(hashers);
     Ok(())
