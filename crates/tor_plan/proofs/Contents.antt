@@ -1,10 +1,7 @@
 -- The bytes of units, file by file.
-use Rattle.std.proofs.Common.{◌≡◌, ℕ, ◌+◌, ◌<◌, List, [], ◌∷◌}
-use Rattle.std.proofs.Common.{length, map, get_or, drop, arith, refl, ap, ◌∙◌, sym}
-use Rattle.std.proofs.lemmas.List.{get_or-drop, drop-drop}
-use Rattle.std.specs.List.{range_with_len}
-use Rattle.tor_plan.specs.Units.{file_unit, units_of_file}
-use Rattle.tor_plan.proofs.Ranges.{ceil_is}
+use Rattle.tor_plan.proofs.Names.{◌≡◌, ℕ, ◌+◌, ◌<◌, List, [], ◌∷◌, length, map, get_or, drop, arith, refl, ap, ◌∙◌, sym}
+use Rattle.tor_plan.proofs.Names.{get_or-drop, drop-drop, range_with_len, file_unit, units_of_file}
+use Rattle.tor_plan.proofs.Runs.{ceil_is}
 
 abbrev pub File : Type 0
 File = List (List ℕ) × ℕ

@@ -1,18 +1,10 @@
 -- A unit while it is cut.
-use Rattle.std.proofs.Common.{◌≡◌, ◌⊎◌, inl, inr, ℕ, ◌+◌, ◌*◌, ◌<◌, ◌≤◌, max, [], ◌∷◌, ◌++◌, map, arith, ap, ap₂}
-use Rattle.std.proofs.Common.{◌∙◌, sym}
-use Rattle.std.proofs.lemmas.List.FromFn.{map-range_with_len_more}
-use Rattle.std.specs.List.{range_with_len}
-use Rattle.tor_plan.specs.Entries.{empty_unit}
-use Rattle.tor_plan.specs.Pieces.{piece_of_unit, pieces_of_unit, unit_between}
-use Rattle.tor_plan.specs.WithinEntries.{unit_length}
-use Rattle.tor_plan.specs.declared.unit_cut.Stretch.{Stretch}
-use Rattle.tor_plan.specs.declared.unit_cut.UnitCut.{UnitCut}
-use Rattle.tor_plan.specs.declared.units.PlanUnit.{PlanUnit}
-use Rattle.tor_plan.specs.steps.Joined.{joined}
-use Rattle.tor_plan.specs.steps.UnitCut.{stretch_at, HasCut, IsStretchAt}
+use Rattle.tor_plan.proofs.Names.{◌≡◌, ◌⊎◌, inl, inr, ℕ, ◌+◌, ◌*◌, ◌<◌, ◌≤◌, max, [], ◌∷◌, ◌++◌, map, arith, ap, ap₂}
+use Rattle.tor_plan.proofs.Names.{◌∙◌, sym, map-range_with_len_more, range_with_len, empty_unit, piece_of_unit}
+use Rattle.tor_plan.proofs.Names.{pieces_of_unit, unit_between, unit_length, Stretch, UnitCut, PlanUnit, joined}
+use Rattle.tor_plan.proofs.Names.{stretch_at, HasCut, IsStretchAt}
 use Rattle.tor_plan.proofs.PieceCut.{unit_none, unit_all}
-use Rattle.tor_plan.proofs.Ranges.{ceil_is}
+use Rattle.tor_plan.proofs.Runs.{ceil_is}
 
 module _ (old : UnitCut) (unit : PlanUnit) (x : ℕ) (cut : HasCut old unit x) where
   abbrev begin : ℕ

@@ -1,20 +1,10 @@
 -- The units of a file that is cut by itself are the pieces of the file and its padding.
-use Rattle.std.proofs.Common.{◌≡◌, ℕ, ◌+◌, ◌-◌, ◌*◌, ◌<◌, ◌≤◌, cond, leb, min, max, [], ◌∷◌, map, arith, ap, ap₂, ◌∙◌}
-use Rattle.std.proofs.Common.{sym, inl, inr}
-use Rattle.std.proofs.lemmas.Bool.{le-leb, lt-leb, cond-true, cond-false, cases_lt}
-use Rattle.std.proofs.lemmas.Grind.{div_ceil_times}
-use Rattle.std.specs.Int.{div_ceil}
-use Rattle.std.specs.List.{range_with_len}
-use Rattle.tor_plan.specs.Entries.{shared}
-use Rattle.tor_plan.specs.Pieces.{parts_between, piece_of_unit, pieces_of_unit}
-use Rattle.tor_plan.specs.Units.{file_unit, units_of_file}
-use Rattle.tor_plan.specs.WithinEntries.{unit_length}
-use Rattle.tor_plan.specs.declared.units.Part.{Part}
-use Rattle.tor_plan.specs.declared.units.PlanUnit.{PlanUnit}
-use Rattle.tor_plan.specs.steps.Joined.{part_alone}
+use Rattle.tor_plan.proofs.Names.{◌≡◌, ℕ, ◌+◌, ◌-◌, ◌*◌, ◌<◌, ◌≤◌, cond, leb, min, max, [], ◌∷◌, map, arith, ap, ap₂}
+use Rattle.tor_plan.proofs.Names.{◌∙◌, sym, inl, inr, le-leb, lt-leb, cond-true, cond-false, cases_lt, div_ceil_times}
+use Rattle.tor_plan.proofs.Names.{div_ceil, range_with_len, shared, parts_between, piece_of_unit, pieces_of_unit}
+use Rattle.tor_plan.proofs.Names.{file_unit, units_of_file, unit_length, Part, PlanUnit, part_alone}
 use Rattle.tor_plan.proofs.PieceSteps.{no_zeros, part_met}
-use Rattle.tor_plan.proofs.Ranges.{ceil_is}
-use Rattle.tor_plan.proofs.Runs.{range_same}
+use Rattle.tor_plan.proofs.Runs.{ceil_is, range_same}
 use Rattle.tor_plan.proofs.WithinFiles.{run_begins}
 
 module _ (size : ℕ) (pos : 0 < size) (index m tail : ℕ) (fits : (q : ℕ) → m ≤ q * size → m + tail ≤ q * size) where

@@ -1,16 +1,9 @@
 -- The bytes of a unit by their offsets.
-use Rattle.std.proofs.Common.{◌≡◌, ℕ, ◌+◌, ◌-◌, ◌<◌, ◌≤◌, cond, ltb, max, List, [], ◌∷◌, ◌++◌, length}
-use Rattle.std.proofs.Common.{get_or, take, drop, sum_by, refl, arith, ap, ap₂, ◌∙◌, sym, subst, append-nil}
-use Rattle.std.proofs.lemmas.List.{take-append-drop, drop_more}
-use Rattle.std.proofs.lemmas.List.Sums.{sum_by-cons}
-use Rattle.tor_plan.specs.Entries.{after_part, after_zeros, empty_unit, shared}
-use Rattle.tor_plan.specs.Pieces.{parts_between, unit_between}
-use Rattle.tor_plan.specs.WithinEntries.{unit_length}
-use Rattle.tor_plan.specs.declared.units.Part.{Part}
-use Rattle.tor_plan.specs.declared.units.PlanUnit.{PlanUnit}
-use Rattle.tor_plan.specs.steps.Joined.{joined, part_alone, zeros_alone}
-use Rattle.tor_plan.specs.declared.unit_cut.Stretch.TheVariants.{Bytes, Zeros}
-use Rattle.tor_plan.specs.steps.UnitCut.{IsStretchAt}
+use Rattle.tor_plan.proofs.Names.{◌≡◌, ℕ, ◌+◌, ◌-◌, ◌<◌, ◌≤◌, cond, ltb, max, List, [], ◌∷◌, ◌++◌, length, get_or, take}
+use Rattle.tor_plan.proofs.Names.{drop, sum_by, refl, arith, ap, ap₂, ◌∙◌, sym, subst, append-nil, take-append-drop}
+use Rattle.tor_plan.proofs.Names.{drop_more, sum_by-cons, after_part, after_zeros, empty_unit, shared, parts_between}
+use Rattle.tor_plan.proofs.Names.{unit_between, unit_length, Part, PlanUnit, joined, part_alone, zeros_alone, Bytes}
+use Rattle.tor_plan.proofs.Names.{Zeros, IsStretchAt}
 use Rattle.tor_plan.proofs.PieceSteps.{between_none, from, part_met}
 use Rattle.tor_plan.proofs.UnitJoins.{unit_of, zeros_then, file_then, then_nothing, part_length}
 

@@ -1,18 +1,10 @@
 -- The pieces of a unit of whole pieces, and then another.
-use Rattle.std.proofs.Common.{◌≡◌, ℕ, ◌+◌, ◌-◌, ◌*◌, ◌<◌, ◌≤◌, cond, ltb, max, List, [], ◌∷◌, ◌++◌, map, sum_by, refl}
-use Rattle.std.proofs.Common.{arith, ap, ap₂, ◌∙◌, sym, mul-le-mul_right}
-use Rattle.std.proofs.lemmas.Grind.{div_ceil_times}
-use Rattle.std.proofs.lemmas.List.Sums.{sum_by-cons}
-use Rattle.std.specs.Int.{div_ceil}
-use Rattle.std.specs.List.{range_with_len}
-use Rattle.tor_plan.specs.Entries.{after_part, after_zeros, empty_unit, shared}
-use Rattle.tor_plan.specs.Pieces.{parts_between, piece_of_unit, pieces_of_unit, unit_between}
-use Rattle.tor_plan.specs.WithinEntries.{unit_length}
-use Rattle.tor_plan.specs.declared.units.Part.{Part}
-use Rattle.tor_plan.specs.declared.units.PlanUnit.{PlanUnit}
+use Rattle.tor_plan.proofs.Names.{◌≡◌, ℕ, ◌+◌, ◌-◌, ◌*◌, ◌<◌, ◌≤◌, cond, ltb, max, List, [], ◌∷◌, ◌++◌, map, sum_by}
+use Rattle.tor_plan.proofs.Names.{refl, arith, ap, ap₂, ◌∙◌, sym, mul-le-mul_right, div_ceil_times, sum_by-cons}
+use Rattle.tor_plan.proofs.Names.{div_ceil, range_with_len, after_part, after_zeros, empty_unit, shared, parts_between}
+use Rattle.tor_plan.proofs.Names.{piece_of_unit, pieces_of_unit, unit_between, unit_length, Part, PlanUnit}
 use Rattle.tor_plan.proofs.PieceSteps.{between_joined, between_none, from, no_zeros, part_not_met}
-use Rattle.tor_plan.proofs.Ranges.{ceil_is, map_same}
-use Rattle.tor_plan.proofs.Runs.{range-add, range_same}
+use Rattle.tor_plan.proofs.Runs.{ceil_is, map_same, range-add, range_same}
 use Rattle.tor_plan.proofs.UnitJoins.{joined, joined_length, part_length, then_nothing, unit_of, zeros_alone}
 
 module _ (a b : ℕ) where

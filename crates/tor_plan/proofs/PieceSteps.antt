@@ -1,13 +1,8 @@
 -- Parts of a unit, one after another, and the bytes between two offsets.
-use Rattle.std.proofs.Common.{◌≡◌, ℕ, ◌+◌, ◌-◌, ◌<◌, ◌≤◌, max, List, [], ◌∷◌, refl, arith, ap, ◌∙◌}
-use Rattle.std.proofs.Common.{ap₂, cond, ltb, sum_by, sym, zero-add}
-use Rattle.std.proofs.lemmas.List.Sums.{sum_by-cons}
-use Rattle.std.proofs.lemmas.Bool.{lt-ltb, le-ltb, cond-true, cond-false}
-use Rattle.tor_plan.specs.Entries.{after_part, after_zeros, empty_unit, shared}
-use Rattle.tor_plan.specs.Pieces.{parts_between, unit_between}
-use Rattle.tor_plan.specs.WithinEntries.{unit_length}
-use Rattle.tor_plan.specs.declared.units.Part.{Part}
-use Rattle.tor_plan.specs.declared.units.PlanUnit.{PlanUnit}
+use Rattle.tor_plan.proofs.Names.{◌≡◌, ℕ, ◌+◌, ◌-◌, ◌<◌, ◌≤◌, max, List, [], ◌∷◌, refl, arith, ap, ◌∙◌, ap₂, cond, ltb}
+use Rattle.tor_plan.proofs.Names.{sum_by, sym, zero-add, sum_by-cons, lt-ltb, le-ltb, cond-true, cond-false, after_part}
+use Rattle.tor_plan.proofs.Names.{after_zeros, empty_unit, shared, parts_between, unit_between, unit_length, Part}
+use Rattle.tor_plan.proofs.Names.{PlanUnit}
 use Rattle.tor_plan.proofs.UnitJoins.{file_then, joined, part_length, parts_then, unit_of, zeros_alone, zeros_then}
 
 -- the bytes from a to b of a unit that begins at byte at

@@ -1,15 +1,9 @@
 -- The parts of pieces are in the files where those of their units are, and pieces are not too long.
-use Rattle.std.proofs.Common.{◌≡◌, ℕ, ◌+◌, ◌-◌, ◌*◌, min, max, List, [], ◌∷◌, sum_by, arith, ap, ◌∙◌, subst, sym}
-use Rattle.std.proofs.Common.{cond, inl, inr, ltb}
-use Rattle.std.proofs.lemmas.Bool.{cases_lt, cond-false, cond-true, le-ltb, lt-ltb}
-use Rattle.std.proofs.lemmas.List.Elements.{All-nil, All-cons, All-head, All-tail}
-use Rattle.std.proofs.lemmas.List.Sums.{sum_by-cons}
-use Rattle.std.specs.List.{All}
-use Rattle.tor_plan.specs.Entries.{after_part, after_zeros, shared}
-use Rattle.tor_plan.specs.Pieces.{parts_between, piece_of_unit, unit_between}
-use Rattle.tor_plan.specs.WithinEntries.{IsInFile, IsUnitWithin, unit_length}
-use Rattle.tor_plan.specs.declared.units.Part.{Part}
-use Rattle.tor_plan.specs.declared.units.PlanUnit.{PlanUnit}
+use Rattle.tor_plan.proofs.Names.{◌≡◌, ℕ, ◌+◌, ◌-◌, ◌*◌, min, max, List, [], ◌∷◌, sum_by, arith, ap, ◌∙◌, subst, sym}
+use Rattle.tor_plan.proofs.Names.{cond, inl, inr, ltb, cases_lt, cond-false, cond-true, le-ltb, lt-ltb, All-nil}
+use Rattle.tor_plan.proofs.Names.{All-cons, All-head, All-tail, sum_by-cons, All, after_part, after_zeros, shared}
+use Rattle.tor_plan.proofs.Names.{parts_between, piece_of_unit, unit_between, IsInFile, IsUnitWithin, unit_length, Part}
+use Rattle.tor_plan.proofs.Names.{PlanUnit}
 use Rattle.tor_plan.proofs.PieceSteps.{from, part_met, part_not_met, shared-add}
 use Rattle.tor_plan.proofs.UnitJoins.{unit_of, part_length}
 

@@ -1,30 +1,17 @@
 -- The positions that units name, which are those of the files: file by file, byte by byte.
-use Rattle.std.proofs.Common.{◌≡◌, ℕ, zero, suc, ◌+◌, ◌-◌, ◌*◌, ◌<◌, ◌≤◌, min, max, inl, inr, List, [], ◌∷◌, ◌++◌, map}
-use Rattle.std.proofs.Common.{sum_by, arith, refl, ap, ap₂, ◌∙◌, sym, append_assoc, append-nil}
-use Rattle.std.proofs.lemmas.Bool.{cases_lt}
-use Rattle.std.proofs.lemmas.List.FromFn.{map-range_with_len_more}
-use Rattle.std.proofs.lemmas.List.Concat.{flat_map-append}
-use Rattle.std.proofs.lemmas.List.Sums.{sum_by-cons}
-use Rattle.std.specs.Int.{div_ceil}
-use Rattle.std.specs.List.{flat_map, range_with_len}
-use Rattle.tor_tree.specs.declared.kinds.Kind.{Kind}
-use Rattle.tor_tree.specs.declared.kinds.Kind.TheVariants.{V1, V2, Hybrid}
-use Rattle.tor_v1.specs.declared.entry.Entry.{Entry}
-use Rattle.tor_plan.specs.Entries.{entry_units, lengths_of_entries, shared}
-use Rattle.tor_plan.specs.Pieces.{parts_between, piece_of_unit, pieces_of_unit, unit_between}
-use Rattle.tor_plan.specs.Positions.{positions, positions_of_files, positions_of_unit}
-use Rattle.tor_plan.specs.Units.{file_unit, units_of_file}
-use Rattle.tor_plan.specs.WithinEntries.{unit_length}
-use Rattle.tor_plan.specs.declared.units.Part.{Part}
-use Rattle.tor_plan.specs.declared.units.PlanUnit.{PlanUnit}
-use Rattle.tor_plan.specs.steps.Joined.{part_alone}
-use Rattle.tor_plan.specs.steps.Whole.{separate_parts, whole_from, whole_unit}
+use Rattle.tor_plan.proofs.Names.{◌≡◌, ℕ, zero, suc, ◌+◌, ◌-◌, ◌*◌, ◌<◌, ◌≤◌, min, max, inl, inr, List, [], ◌∷◌, ◌++◌}
+use Rattle.tor_plan.proofs.Names.{map, sum_by, arith, refl, ap, ap₂, ◌∙◌, sym, append_assoc, append-nil, cases_lt}
+use Rattle.tor_plan.proofs.Names.{map-range_with_len_more, flat_map-append, sum_by-cons, div_ceil, flat_map}
+use Rattle.tor_plan.proofs.Names.{range_with_len, Kind, V1, Entry, entry_units, lengths_of_entries, shared}
+use Rattle.tor_plan.proofs.Names.{parts_between, piece_of_unit, pieces_of_unit, unit_between, positions}
+use Rattle.tor_plan.proofs.Names.{positions_of_files, positions_of_unit, file_unit, units_of_file, unit_length, Part}
+use Rattle.tor_plan.proofs.Names.{PlanUnit, part_alone, whole_from, whole_unit}
 use Rattle.tor_plan.proofs.FileUnits.{file_pieces}
 use Rattle.tor_plan.proofs.PieceCut.{unit_all, unit_none}
 use Rattle.tor_plan.proofs.PieceSteps.{between_none, part_met, part_not_met}
 use Rattle.tor_plan.proofs.Runs.{runs_are}
 use Rattle.tor_plan.proofs.UnitJoins.{part_length}
-use Rattle.tor_plan.proofs.WholeUnits.{by_whole, parts_of_whole, pieces_of_whole}
+use Rattle.tor_plan.proofs.WholeUnits.{by_whole, parts_of_whole, pieces_of_whole, separate_parts}
 
 no_positions : (index start n : ℕ) → n ≡ 0 → positions index start n ≡ []
 no_positions index start n none = ap (positions index start) none
@@ -176,9 +163,6 @@ pub entry_units_name_each_byte : (kind : Kind) (p span : ℕ) (entries : List En
 entry_units_name_each_byte V1 p span entries pos =
     ap (flat_map positions_of_unit) (sym (pieces_of_whole (span * p) entries))
     ∙ positions_of_pieces (span * p) pos (whole_unit entries) ∙ joined_positions 0 entries
-entry_units_name_each_byte V2 p span entries pos =
-    ap (flat_map positions_of_unit) (sym (parts_of_whole (span * p) entries pos))
-    ∙ separate_positions (span * p) pos 0 entries
-entry_units_name_each_byte Hybrid p span entries pos =
+entry_units_name_each_byte kind p span entries pos =
     ap (flat_map positions_of_unit) (sym (parts_of_whole (span * p) entries pos))
     ∙ separate_positions (span * p) pos 0 entries

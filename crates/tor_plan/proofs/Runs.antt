@@ -1,12 +1,8 @@
--- What is cut every so many bytes, run by run.
-use Rattle.std.proofs.Common.{◌≡◌, ℕ, zero, suc, ◌+◌, ◌*◌, ◌<◌, min, List, [], ◌∷◌, ◌++◌, map}
-use Rattle.std.proofs.Common.{arith, refl, ap}
-use Rattle.std.proofs.Common.{ap₂, ◌∙◌, sym, append_assoc, append-nil}
-use Rattle.std.proofs.lemmas.Grind.{div_ceil_times}
-use Rattle.std.proofs.lemmas.List.Concat.{flat_map-append}
-use Rattle.std.proofs.lemmas.List.FromFn.{map-range_with_len_more}
-use Rattle.std.specs.Int.{div_ceil}
-use Rattle.std.specs.List.{flat_map, range_with_len}
+-- How many runs of so many bytes there are, and what is cut into them, run by run.
+use Rattle.tor_plan.proofs.Names.{◌≡◌, ℕ, zero, suc, ◌+◌, ◌*◌, ◌<◌, min, List, [], ◌∷◌, ◌++◌, map, arith, refl, ap, ap₂}
+use Rattle.tor_plan.proofs.Names.{◌∙◌, sym, append_assoc, append-nil, div_ceil_times, flat_map-append}
+use Rattle.tor_plan.proofs.Names.{map-range_with_len_more, div_ceil, flat_map, range_with_len, ◌≤◌}
+use Rattle.tor_plan.proofs.Names.{lt_of_mul-lt-mul_right}
 
 pub range_same : {X : Type 0} (f g : ℕ → X) (n : ℕ) → ((k : ℕ) → k < n → f k ≡ g k)
     → map f (range_with_len 0 n) ≡ map g (range_with_len 0 n)
@@ -61,13 +57,19 @@ pub flat_map-same : {X Y : Type 0} (f g : X → List Y) → ((x : X) → f x ≡
 flat_map-same f g same [] = refl
 flat_map-same f g same (x ∷ xs) = ap₂ (λ ys zs. ys ++ zs) (same x) (flat_map-same f g same xs)
 
-pub flat_map-twice : {X Y Z : Type 0} (f : Y → List Z) (g : X → List Y) (xs : List X)
-    → flat_map f (flat_map g xs) ≡ flat_map (λ x. flat_map f (g x)) xs
-flat_map-twice f g [] = refl
-flat_map-twice f g (x ∷ xs) =
-    flat_map-append f (g x) (flat_map g xs) ∙ ap (λ zs. flat_map f (g x) ++ zs) (flat_map-twice f g xs)
+-- two numbers of runs that both cover n with less than one run too much
+one_count : (n p q k : ℕ) → n ≤ q * p → q * p < n + p → n ≤ k * p → k * p < n + p → q ≡ k
+one_count n p q k q_low q_high k_low k_high =
+    let less : q < k + 1 = lt_of_mul-lt-mul_right p (omega arith) in
+    let more : k < q + 1 = lt_of_mul-lt-mul_right p (omega arith) in
+    omega arith
 
-pub flat_map-map : {X Y Z : Type 0} (f : Y → List Z) (g : X → Y) (xs : List X)
-    → flat_map f (map g xs) ≡ flat_map (λ x. f (g x)) xs
-flat_map-map f g [] = refl
-flat_map-map f g (x ∷ xs) = ap (λ zs. f (g x) ++ zs) (flat_map-map f g xs)
+-- so many runs cover n, and one fewer do not
+pub ceil_is : (n p k : ℕ) → n ≤ k * p → k * p < n + p → div_ceil n p ≡ k
+ceil_is n p k low high =
+    let bounds = div_ceil_times n p (omega arith) in
+    one_count n p (div_ceil n p) k bounds.0 bounds.1 low high
+
+pub map_same : {X : Type 0} (f g : ℕ → X) → ((k : ℕ) → f k ≡ g k) → (ks : List ℕ) → map f ks ≡ map g ks
+map_same f g same [] = refl
+map_same f g same (k ∷ ks) = ap₂ (λ x xs. x ∷ xs) (same k) (map_same f g same ks)

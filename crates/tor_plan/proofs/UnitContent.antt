@@ -1,23 +1,12 @@
 -- The bytes of a unit, and those of a range of it.
-use Rattle.std.proofs.Common.{◌≡◌, ℕ, ◌+◌, ◌-◌, ◌<◌, min, max, List, [], ◌∷◌, ◌++◌, length, map, get_or, take}
-use Rattle.std.proofs.Common.{drop, sum_by, arith, refl, ap, ap₂, ◌∙◌, sym, append_assoc, append-nil, length-append}
-use Rattle.std.proofs.Common.{length-drop, inl, inr}
-use Rattle.std.proofs.Math.Seq.{take-append-add}
-use Rattle.std.proofs.lemmas.Bool.{cases_lt}
-use Rattle.std.proofs.lemmas.List.{take_min, take_all, drop_all, take-replicate, drop-replicate, drop-append-le}
-use Rattle.std.proofs.lemmas.List.{take-append-le, drop_at, drop-drop, drop-take, take-take, get_or-map, length-map}
-use Rattle.std.proofs.lemmas.List.{length-take-le}
-use Rattle.std.proofs.lemmas.List.Elements.{All-head, All-tail}
-use Rattle.std.proofs.lemmas.List.Sums.{sum_by-cons}
-use Rattle.std.specs.List.{All, flat_map}
-use Rattle.tor_v1.specs.Piece.{zeros}
-use Rattle.tor_v1.proofs.ProvedLaws.{length_of_zeros}
-use Rattle.tor_plan.specs.Content.{part_content, unit_content}
-use Rattle.tor_plan.specs.Entries.{after_part, after_zeros, shared}
-use Rattle.tor_plan.specs.Pieces.{parts_between, unit_between}
-use Rattle.tor_plan.specs.WithinEntries.{IsInFile, unit_length}
-use Rattle.tor_plan.specs.declared.units.Part.{Part}
-use Rattle.tor_plan.specs.declared.units.PlanUnit.{PlanUnit}
+use Rattle.tor_plan.proofs.Names.{◌≡◌, ℕ, ◌+◌, ◌-◌, ◌<◌, min, max, List, [], ◌∷◌, ◌++◌, length, map, get_or, take, drop}
+use Rattle.tor_plan.proofs.Names.{sum_by, arith, refl, ap, ap₂, ◌∙◌, sym, append_assoc, append-nil, length-append}
+use Rattle.tor_plan.proofs.Names.{length-drop, inl, inr, take-append-add, cases_lt, take_min, take_all, drop_all}
+use Rattle.tor_plan.proofs.Names.{take-replicate, drop-replicate, drop-append-le, take-append-le, drop_at, drop-drop}
+use Rattle.tor_plan.proofs.Names.{drop-take, take-take, get_or-map, length-map, length-take-le, All-head, All-tail}
+use Rattle.tor_plan.proofs.Names.{sum_by-cons, All, flat_map, zeros, length_of_zeros, part_content, unit_content}
+use Rattle.tor_plan.proofs.Names.{after_part, after_zeros, shared, parts_between, unit_between, IsInFile, unit_length}
+use Rattle.tor_plan.proofs.Names.{Part, PlanUnit}
 use Rattle.tor_plan.proofs.Empty.{zeros-nil, zeros-add}
 use Rattle.tor_plan.proofs.PieceSteps.{from, part_met, part_not_met}
 use Rattle.tor_plan.proofs.UnitJoins.{part_length, unit_of}

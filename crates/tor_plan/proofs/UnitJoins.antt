@@ -1,12 +1,8 @@
 -- A unit, and then another.
-use Rattle.std.proofs.Common.{◌≡◌, ℕ, ◌+◌, ◌-◌, ◌<◌, Bool, true, false, cond, List, [], ◌∷◌, ◌++◌, length, get_or}
-use Rattle.std.proofs.Common.{set, sum_by, take, arith, refl, ap, ap₂, ◌∙◌, sym, append-nil, zero-add}
-use Rattle.std.proofs.lemmas.List.{take-append-drop, set_at, drop_more, drop_all, length-take-le}
-use Rattle.std.proofs.lemmas.List.Sums.{sum_by-cons}
-use Rattle.tor_plan.specs.Entries.{after_part, after_zeros, empty_unit}
-use Rattle.tor_plan.specs.WithinEntries.{unit_length}
-use Rattle.tor_plan.specs.declared.units.Part.{Part}
-use Rattle.tor_plan.specs.declared.units.PlanUnit.{PlanUnit}
+use Rattle.tor_plan.proofs.Names.{◌≡◌, ℕ, ◌+◌, ◌-◌, ◌<◌, Bool, true, false, cond, List, [], ◌∷◌, ◌++◌, length, get_or}
+use Rattle.tor_plan.proofs.Names.{set, sum_by, take, arith, refl, ap, ap₂, ◌∙◌, sym, append-nil, zero-add}
+use Rattle.tor_plan.proofs.Names.{take-append-drop, set_at, drop_more, drop_all, length-take-le, sum_by-cons}
+use Rattle.tor_plan.proofs.Names.{after_part, after_zeros, empty_unit, unit_length, Part, PlanUnit}
 pub use Rattle.tor_plan.specs.steps.Joined.{joined, parts_then, part_alone, zeros_alone}
 
 abbrev pub with_zeros : Part → ℕ → Part

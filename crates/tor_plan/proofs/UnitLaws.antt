@@ -1,25 +1,14 @@
 -- The pieces of a unit, of those of several units, and what they have together.
-use Rattle.std.proofs.Common.{◌≡◌, ℕ, ◌+◌, ◌-◌, ◌*◌, ◌<◌, ◌≤◌, min, max, List, [], ◌∷◌, ◌++◌, length, map, take, drop}
-use Rattle.std.proofs.Common.{arith, refl, ap, ap₂, ◌∙◌, sym, mul-le-mul_right, lt_of_mul-lt-mul_right}
-use Rattle.std.proofs.Common.{get_or, zero-add}
-use Rattle.std.proofs.Math.Seq.{take-add}
-use Rattle.std.proofs.lemmas.Grind.{div_ceil_times}
-use Rattle.std.proofs.lemmas.List.{length-take-le, take_min, take_all}
-use Rattle.std.proofs.lemmas.List.Concat.{flat_map-append}
-use Rattle.std.proofs.lemmas.List.Elements.{All-nil, All-append, All-head, All-tail}
-use Rattle.std.proofs.lemmas.List.FromFn.{length-map-range_with_len, get_or-map-range_with_len}
-use Rattle.std.specs.Int.{div_ceil}
-use Rattle.std.specs.List.{All, flat_map, range_with_len}
-use Rattle.tor_v1.specs.Piece.{piece_sums}
-use Rattle.tor_v1.proofs.ProvedLaws.{sums_of_joined}
-use Rattle.tor_plan.specs.Content.{unit_content}
-use Rattle.tor_plan.specs.Pieces.{piece_of_unit, pieces_of_unit, unit_between}
-use Rattle.tor_plan.specs.WithinEntries.{IsInFile, IsUnitWithin, unit_length}
-use Rattle.tor_plan.specs.declared.units.PlanUnit.{PlanUnit}
+use Rattle.tor_plan.proofs.Names.{◌≡◌, ℕ, ◌+◌, ◌-◌, ◌*◌, ◌<◌, ◌≤◌, min, max, List, [], ◌∷◌, ◌++◌, length, map, take}
+use Rattle.tor_plan.proofs.Names.{drop, arith, refl, ap, ap₂, ◌∙◌, sym, mul-le-mul_right, lt_of_mul-lt-mul_right}
+use Rattle.tor_plan.proofs.Names.{get_or, zero-add, take-add, div_ceil_times, length-take-le, take_min, take_all}
+use Rattle.tor_plan.proofs.Names.{flat_map-append, All-nil, All-append, All-head, All-tail, length-map-range_with_len}
+use Rattle.tor_plan.proofs.Names.{get_or-map-range_with_len, div_ceil, All, flat_map, range_with_len, piece_sums}
+use Rattle.tor_plan.proofs.Names.{sums_of_joined, unit_content, piece_of_unit, pieces_of_unit, unit_between, IsInFile}
+use Rattle.tor_plan.proofs.Names.{IsUnitWithin, unit_length, PlanUnit}
 use Rattle.tor_plan.proofs.Empty.{sums_nil}
 use Rattle.tor_plan.proofs.PieceWithin.{pieces_are_within_files, unit_between_length}
-use Rattle.tor_plan.proofs.Ranges.{ceil_is}
-use Rattle.tor_plan.proofs.Runs.{range-add, range_same, runs_are}
+use Rattle.tor_plan.proofs.Runs.{ceil_is, range-add, range_same, runs_are}
 use Rattle.tor_plan.proofs.UnitContent.{content_between, length_of_content, AreThere}
 use Rattle.tor_plan.proofs.UnitRanges.{range_of_range}
 use Rattle.tor_plan.proofs.WithinFiles.{all_range, run_begins}
@@ -144,11 +133,11 @@ within_units lengths size pos (unit ∷ units) held =
     (within_units lengths size pos units (All-tail Held unit units held))
 
 -- what all pieces of each unit give is what the units give
-pub each_unit : {Y : Type 0} (f g : PlanUnit → List Y) (size : ℕ) (P : PlanUnit → Type 0)
-    → ((u : PlanUnit) → P u → flat_map f (pieces_of_unit size u) ≡ g u) → (units : List PlanUnit) → All P units
-    → flat_map f (flat_map (pieces_of_unit size) units) ≡ flat_map g units
-each_unit f g n P same [] held = refl
-each_unit f g n P same (unit ∷ units) held =
+pub each_unit : {Y : Type 0} (f : PlanUnit → List Y) (size : ℕ) (P : PlanUnit → Type 0)
+    → ((u : PlanUnit) → P u → flat_map f (pieces_of_unit size u) ≡ f u) → (units : List PlanUnit) → All P units
+    → flat_map f (flat_map (pieces_of_unit size) units) ≡ flat_map f units
+each_unit f n P same [] held = refl
+each_unit f n P same (unit ∷ units) held =
     flat_map-append f (pieces_of_unit n unit) (flat_map (pieces_of_unit n) units)
     ∙ ap₂ (λ xs ys. xs ++ ys) (same unit (All-head P unit units held))
-    (each_unit f g n P same units (All-tail P unit units held))
+    (each_unit f n P same units (All-tail P unit units held))

@@ -1,11 +1,7 @@
 -- The bytes of a range of a unit are a range of the unit.
-use Rattle.std.proofs.Common.{◌≡◌, ℕ, ◌+◌, ◌-◌, ◌<◌, ◌≤◌, cond, ltb, min, max, List, [], ◌∷◌, arith, ap, ap₂, ◌∙◌, sym}
-use Rattle.std.proofs.Common.{inl, inr, zero-add}
-use Rattle.std.proofs.lemmas.Bool.{cases_lt, lt-ltb, le-ltb, cond-true, cond-false}
-use Rattle.tor_plan.specs.Entries.{after_part, after_zeros, shared}
-use Rattle.tor_plan.specs.Pieces.{parts_between, unit_between}
-use Rattle.tor_plan.specs.declared.units.Part.{Part}
-use Rattle.tor_plan.specs.declared.units.PlanUnit.{PlanUnit}
+use Rattle.tor_plan.proofs.Names.{◌≡◌, ℕ, ◌+◌, ◌-◌, ◌<◌, ◌≤◌, cond, ltb, min, max, List, [], ◌∷◌, arith, ap, ap₂, ◌∙◌}
+use Rattle.tor_plan.proofs.Names.{sym, inl, inr, zero-add, cases_lt, lt-ltb, le-ltb, cond-true, cond-false, after_part}
+use Rattle.tor_plan.proofs.Names.{after_zeros, shared, parts_between, unit_between, Part, PlanUnit}
 use Rattle.tor_plan.proofs.PieceSteps.{from, from_first, no_zeros, part_met, part_not_met, shared-add, zeros_twice}
 use Rattle.tor_plan.proofs.UnitJoins.{unit_of, zeros_alone}
 

@@ -1,7 +1,5 @@
 -- some bytes more
-use Rattle.std.proofs.Common.{◌≡◌, ◌+◌, ◌-◌, ◌∙◌, arith, inl, inr, subst}
-use Rattle.std.proofs.lemmas.Bool.{cases_lt}
-use Rattle.tor_plan.specs.steps.UnitCut.{HasCut}
+use Rattle.tor_plan.proofs.Names.{◌≡◌, ◌+◌, ◌-◌, ◌∙◌, arith, inl, inr, subst, cases_lt, HasCut}
 use Rattle.tor_plan.proofs.Cut.{adds_some}
 use Rattle.tor_plan.proofs.unit_cut.UnitCut.add.Goals as goal
 

@@ -1,11 +1,6 @@
 -- one part more, and all
-use Rattle.std.proofs.Common.{◌≡◌, List, ◌+◌, ◌<◌, ◌≤◌, ◌∙◌, arith, ap, length, get_or, subst, sum_by, take, IfOk}
-use Rattle.std.proofs.lemmas.List.{get_or_default, take_all}
-use Rattle.std.proofs.lemmas.List.Sums.{sum_by_more}
-use Rattle.tor_plan.specs.Pieces.{pieces_of_unit}
-use Rattle.tor_plan.specs.declared.units.Part.{Part}
-use Rattle.tor_plan.specs.declared.units.PlanUnit.{PlanUnit}
-use Rattle.tor_plan.specs.steps.UnitCut.{HasCut}
+use Rattle.tor_plan.proofs.Names.{◌≡◌, List, ◌+◌, ◌<◌, ◌≤◌, ◌∙◌, arith, ap, length, get_or, subst, sum_by, take, IfOk}
+use Rattle.tor_plan.proofs.Names.{get_or_default, take_all, sum_by_more, pieces_of_unit, Part, PlanUnit, HasCut}
 use Rattle.tor_plan.proofs.PieceCut.{bytes_of_part, first_zeros, zeros_of_part}
 use Rattle.tor_plan.proofs.UnitJoins.{part_length}
 use Rattle.tor_plan.proofs.units.PlanUnit.pieces.Goals as goal
