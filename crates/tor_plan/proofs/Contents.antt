@@ -26,7 +26,7 @@ from_index contents index m lengths e = from_split contents (drop index contents
 
 module _ (contents : List (List ℕ)) (index m : ℕ) (lengths : List ℕ) (from : AreFrom contents index m lengths) where
   pub here : get_or contents index [] ≡ from.first
-  here = ap (λ n. get_or contents n []) (let e : index ≡ index + 0 = omega arith in e)
+  here = ap (λ n. get_or contents n []) (omega arith)
       ∙ sym (get_or-drop index contents 0 []) ∙ ap (λ xs. get_or xs 0 []) from.split
 
   pub after : drop (index + 1) contents ≡ from.later

@@ -72,8 +72,7 @@ module _ (old : UnitCut) (unit : PlanUnit) (cut : HasCut old unit (unit_length u
       let last : old.begun ≡ all cut.whole = cut.begun
       ∙ sym (unit_all (cut.whole * old.size) (unit_length unit) ((cut.whole + 1) * old.size) unit (omega arith)
       (omega (arith, cut.room))) in
-      ap₂ (λ us u. us ++ u ∷ []) cut.units last
-      ∙ sym (map-range_with_len_more all 0 cut.whole cut.whole (omega arith))
+      ap₂ (λ us u. us ++ u ∷ []) cut.units last ∙ sym (map-range_with_len_more all 0 cut.whole cut.whole (omega arith))
       ∙ ap (λ n. map all (range_with_len 0 n))
       (sym (ceil_is (unit_length unit) old.size (cut.whole + 1) (omega (arith, cut.room))
       (omega (arith, cut.room, less))))

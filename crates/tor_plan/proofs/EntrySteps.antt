@@ -49,8 +49,7 @@ unfolding padding_before_next
 unpadded [] none = refl
 unpadded (entry ∷ entries) none = entry_cases
     (λ e. has_padding (e ∷ entries) ≡ false → padding_before_next (e ∷ entries) ≡ 0)
-    (λ path m others. absurd (true≢false others))
-    (λ path m others. elim (cases_lt 0 m) [
+    (λ path m others. absurd (true≢false others)) (λ path m others. elim (cases_lt 0 m) [
       | inl more ↦ before_some path m entries more
       | inr few ↦ before_empty path m entries (omega (arith, few)) ∙ unpadded entries others
     ]) entry none
@@ -60,7 +59,7 @@ pub whole_with_padding : (p m : ℕ) → 0 < p → (k : ℕ) × (m + padding_len
 whole_with_padding p m pos = elim (cases_eq (m % p) 0) [
   | inl none ↦
       let lack : (p - m % p) % p ≡ 0 =
-      ap (λ r. (p - r) % p) none ∙ ap (λ n. n % p) (let e : p - 0 ≡ p = omega arith in e) ∙ mod_self p in
+      ap (λ r. (p - r) % p) none ∙ ap (λ n. n % p) (omega arith) ∙ mod_self p in
       (m / p, omega (arith, lack, none, div-add-mod' m p))
   | inr part ↦
       let there : 0 < m % p =

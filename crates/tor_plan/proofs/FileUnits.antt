@@ -19,13 +19,11 @@ module _ (size : ℕ) (pos : 0 < size) (index m tail : ℕ) (fits : (q : ℕ) �
   zeros_are k less =
       let next : (k + 1) * size ≡ k * size + size = omega arith in
       elim (cases_lt size (m - k * size)) [
-        | inl more ↦ (let e : shared (k * size) ((k + 1) * size) (0 + m) tail + 0 ≡ 0 = omega (arith, more, next) in e)
+        | inl more ↦ (omega (arith, more, next))
             ∙ sym (cond-false _ _ _ (lt-leb (m - k * size) size more))
         | inr last ↦
             let full = fits (k + 1) (omega (arith, last, next)) in
-            (let e : shared (k * size) ((k + 1) * size) (0 + m) tail + 0 ≡ tail =
-            omega (arith, full, less, last, next) in e)
-            ∙ sym (cond-true _ _ _ (le-leb (m - k * size) size last))
+            (omega (arith, full, less, last, next)) ∙ sym (cond-true _ _ _ (le-leb (m - k * size) size last))
       ]
 
   file_piece : (k : ℕ) → k * size < m → piece_of_unit size (part_alone part) k ≡ file_unit size index m tail k
@@ -36,8 +34,7 @@ module _ (size : ℕ) (pos : 0 < size) (index m tail : ℕ) (fits : (q : ℕ) �
       let next : b ≡ a + size = omega arith in
       no_zeros (shared a b 0 0) (parts_between a b 0 (part ∷ [])) (omega arith)
       ∙ part_met a b 0 part [] (omega (arith, less, next, pos))
-      ∙ ap₂ (λ s n. alone s n (shared a b (0 + m) tail + 0)) (let e : 0 + (max a 0 - 0) ≡ a = omega arith in e)
-      (let e : shared a b 0 m ≡ min (m - a) size = omega (arith, next) in e)
+      ∙ ap₂ (λ s n. alone s n (shared a b (0 + m) tail + 0)) (omega arith) (omega (arith, next))
       ∙ ap (alone a (min (m - a) size)) (zeros_are k less)
 
   pub file_pieces : 0 < m → pieces_of_unit size (part_alone part) ≡ units_of_file size index m tail

@@ -24,8 +24,7 @@ pub lengths_of_files : (layout : Layout) (p : ℕ) (files : List File)
     → lengths_of_entries (v1_entries layout p files) ≡ lengths_of files
 lengths_of_files layout p files =
     sym (map-map (λ file. file.1) (λ (entry : Entry). (entry.path, entry.length))
-    (file_entries (v1_entries layout p files)))
-    ∙ ap lengths_of (facts-v1_entries layout p files)
+    (file_entries (v1_entries layout p files))) ∙ ap lengths_of (facts-v1_entries layout p files)
 
 -- ---- joined files
 
@@ -41,8 +40,7 @@ files_within a b index at (file ∷ files) =
     let others = parts_within a b (index + 1) (at + m) (lengths_of files) in
     elim (cases_lt low high) [
       | inl some ↦ met a b index at file.0 m (map file_entry files) (omega (arith, some))
-          ∙ ap (after_part index (low - at) (high - low)) rest
-          ∙ ap (λ ps. record { zeros = 0; parts = ps ++ others })
+          ∙ ap (after_part index (low - at) (high - low)) rest ∙ ap (λ ps. record { zeros = 0; parts = ps ++ others })
           (sym (cond-true _ _ _ (lt-ltb low high some)))
       | inr none ↦ not_met a b index at file.0 m (map file_entry files) (omega (arith, none)) ∙ rest
           ∙ ap (λ ps. record { zeros = 0; parts = ps ++ others }) (sym (cond-false _ _ _ (le-ltb low high none)))
@@ -81,7 +79,7 @@ before_padded false n entries = sym (zero-add (padding_before_next entries))
 no_padding : (p : ℕ) → padding_length p 0 ≡ 0
 no_padding p =
     let whole : (p - 0 % p) % p ≡ 0 =
-    ap (λ r. (p - r) % p) (zero-mod p) ∙ ap (λ n. n % p) (let e : p - 0 ≡ p = omega arith in e) ∙ mod_self p in
+    ap (λ r. (p - r) % p) (zero-mod p) ∙ ap (λ n. n % p) (omega arith) ∙ mod_self p in
     omega (arith, whole)
 
 no_zeros_after : (p m : ℕ) (later : List File) → m ≡ 0 → zeros_after Hybrid p m later ≡ 0
@@ -109,8 +107,7 @@ pub zeros_are : (p m : ℕ) (files : List File) → zeros_after Hybrid p m files
 zeros_are p m files =
     let n = padding_length p m in
     let b = ltb 0 n && has_bytes files in
-    sym (before_padded b n (aligned_entries p files)
-    ∙ omega (arith, before_aligned p files))
+    sym (before_padded b n (aligned_entries p files) ∙ omega (arith, before_aligned p files))
 
 skips_padded : (size index : ℕ) (b : Bool) (n : ℕ) (entries : List Entry)
     → separate_entry_units size index entries ≡ separate_entry_units size index (padded b n ++ entries)
@@ -151,7 +148,7 @@ zeros_before p m later more =
       | inl some ↦ ap (λ b. sum_by entry_length (padded b n))
           (and_from (ltb 0 n) (has_bytes later) (lt-ltb 0 n some) more) ∙ zero-add n
       | inr none ↦ ap (λ b. sum_by entry_length (padded b n))
-          (and_left (ltb 0 n) (has_bytes later) (le-ltb 0 n none)) ∙ (let e : 0 ≡ n = omega arith in e)
+          (and_left (ltb 0 n) (has_bytes later) (le-ltb 0 n none)) ∙ (omega arith)
     ]
 
 filled_padded : (b : Bool) (n : ℕ) (entries : List Entry)

@@ -11,7 +11,7 @@ use Rattle.tor_plan.proofs.UnitJoins.{unit_of, part_length}
 three_shared : (a b at x y z n : ℕ) → n ≡ x + y + z
     → shared a b at n ≡ shared a b at x + (shared a b (at + x) y + shared a b (at + x + y) z)
 three_shared a b at x y z n is =
-    ap (shared a b at) (let e : n ≡ x + (y + z) = omega (arith, is) in e) ∙ shared-add a b at x (y + z)
+    ap (shared a b at) (omega (arith, is)) ∙ shared-add a b at x (y + z)
     ∙ ap (λ k. shared a b at x + k) (shared-add a b (at + x) y z)
 
 -- a part, or none of no byte, before others
@@ -35,8 +35,7 @@ module _ (a b : ℕ) where
       let rest = parts_between a b (next + part.zeros) parts in
       let y = shared a b next part.zeros in
       meets_length part.file (part.start + (max a at - at)) (shared a b at part.length) (after_zeros y rest)
-      ∙ ap (λ k. shared a b at part.length + k) ((let e : unit_length (after_zeros y rest) ≡ y + unit_length rest =
-      omega arith in e)
+      ∙ ap (λ k. shared a b at part.length + k) ((omega arith)
       ∙ ap (λ k. y + k) (length_between (next + part.zeros) parts))
       ∙ sym (three_shared a b at part.length part.zeros (sum_by part_length parts) (sum_by part_length (part ∷ parts))
       (sum_by-cons part_length part parts))

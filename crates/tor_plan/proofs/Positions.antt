@@ -19,7 +19,7 @@ no_positions index start n none = ap (positions index start) none
 -- a run, and the one that it ends at
 positions-add : (index s n k t : ℕ) → t ≡ s + n → positions index s n ++ positions index t k ≡ positions index s (n + k)
 positions-add index s n zero t is =
-    append-nil (positions index s n) ∙ ap (positions index s) (let e : n ≡ n + 0 = omega arith in e)
+    append-nil (positions index s n) ∙ ap (positions index s) (omega arith)
 positions-add index s n (suc k) t is =
     let at : ℕ → ℕ × ℕ = λ i. (index, i) in
     let last : List (ℕ × ℕ) = (index, s + (n + k)) ∷ [] in
@@ -28,8 +28,7 @@ positions-add index s n (suc k) t is =
     ∙ map-range_with_len_more at t k (s + (n + k)) (omega (arith, is)) in
     ap (λ xs. positions index s n ++ xs) more ∙ sym (append_assoc (positions index s n) (positions index t k) last)
     ∙ ap (λ xs. xs ++ last) (positions-add index s n k t is)
-    ∙ sym (map-range_with_len_more at s (n + k) (s + (n + k)) refl)
-    ∙ ap (positions index s) (let e : n + k + 1 ≡ n + suc k = omega arith in e)
+    ∙ sym (map-range_with_len_more at s (n + k) (s + (n + k)) refl) ∙ ap (positions index s) (omega arith)
 
 -- ---- the pieces of a unit
 
@@ -73,16 +72,13 @@ split_range a b c at (part ∷ parts) le more =
           ∙ ap (λ xs. xs ++ (other ++ others)) (append-nil one) ∙ sym (append_assoc one other others)
           ∙ ap₂ (λ xs ys. xs ++ ys)
           (positions-add part.file start (shared a b at m) (shared b c at m) later (omega (arith, le, beyond))
-          ∙ ap (positions part.file start)
-          (let e : shared a b at m + shared b c at m ≡ shared a c at m = omega (arith, le, more, beyond) in e))
+          ∙ ap (positions part.file start) (omega (arith, le, more, beyond)))
           (sym (ap (λ xs. xs ++ others) none) ∙ rest)
       | inr past ↦
           let none : other ≡ [] = no_positions part.file later (shared b c at m) (omega (arith, past)) in
           ap (λ xs. (one ++ ones) ++ (xs ++ others)) none ∙ append_assoc one ones others
-          ∙ ap₂ (λ n xs. positions part.file start n ++ xs)
-          (let e : shared a b at m ≡ shared a c at m = omega (arith, past, more) in e) rest
-    ]
-    ∙ sym (part_positions a c at part parts)
+          ∙ ap₂ (λ n xs. positions part.file start n ++ xs) (omega (arith, past, more)) rest
+    ] ∙ sym (part_positions a c at part parts)
 
 -- a range that has all parts
 whole_range : (a b at : ℕ) (parts : List Part) → a ≤ at → at + sum_by part_length parts ≤ b
@@ -91,10 +87,8 @@ unfolding parts_between
 whole_range a b at [] from to = refl
 whole_range a b at (part ∷ parts) from to =
     let long = sum_by-cons part_length part parts in
-    part_positions a b at part parts
-    ∙ ap₂ (λ xs ys. xs ++ ys)
-    (ap₂ (positions part.file) (let e : part.start + (max a at - at) ≡ part.start = omega (arith, from) in e)
-    (let e : shared a b at part.length ≡ part.length = omega (arith, from, to, long) in e))
+    part_positions a b at part parts ∙ ap₂ (λ xs ys. xs ++ ys) (ap₂ (positions part.file) (omega (arith, from))
+    (omega (arith, from, to, long)))
     (whole_range a b (at + part.length + part.zeros) parts (omega (arith, from)) (omega (arith, to, long)))
 
 positions_of_pieces : (size : ℕ) → 0 < size → (unit : PlanUnit)
@@ -104,14 +98,12 @@ positions_of_pieces size pos unit =
     let n = unit_length unit in
     runs_are positions_of_unit (piece_of_unit size unit) (λ x. positions_of_unit (unit_between 0 x unit)) n size pos
     (λ k less.
-    split_range 0 (k * size) ((k + 1) * size) unit.zeros unit.parts (omega arith)
-    (let e : k * size ≤ (k + 1) * size = omega arith in e)
+    split_range 0 (k * size) ((k + 1) * size) unit.zeros unit.parts (omega arith) (omega arith)
     ∙ elim (cases_lt n ((k + 1) * size)) [
       | inl past ↦ ap positions_of_unit (unit_all 0 n ((k + 1) * size) unit (omega arith) (omega (arith, past)))
-          ∙ ap (λ x. positions_of_unit (unit_between 0 x unit))
-          (let e : n ≡ min n ((k + 1) * size) = omega (arith, past) in e)
+          ∙ ap (λ x. positions_of_unit (unit_between 0 x unit)) (omega (arith, past))
       | inr within ↦ ap (λ x. positions_of_unit (unit_between 0 x unit))
-          (let e : (k + 1) * size ≡ min n ((k + 1) * size) = omega (arith, within) in e)
+          (omega (arith, within))
     ]) (ap positions_of_unit (unit_none 0 0 unit (omega arith)))
     ∙ whole_range 0 n unit.zeros unit.parts (omega arith) (omega arith)
 

@@ -56,8 +56,7 @@ module _ (kind : Kind) (piece_length span : ℕ) (entries : List Entry) (content
       ≡ joined_content entries contents
   entry_units_are_the_content =
       of_roots kind piece_length span entries some pos laid InFile (unit_content contents)
-      (λ u is. content_of_pieces contents u is (span * piece_length) pos) held
-      ∙ content_of_roots kind contents whole
+      (λ u is. content_of_pieces contents u is (span * piece_length) pos) held ∙ content_of_roots kind contents whole
       (λ not_v1. zeros_of_whole 0 entries ∙ no_zeros_first kind piece_length entries not_v1 laid)
       ∙ content_of_whole contents 0 entries fit
 
@@ -88,8 +87,7 @@ units_are_cut_into_pieces kind piece_length span entries pos some laid =
     let bytes : 0 < span * piece_length = mul-pos some pos in
     of_roots kind piece_length span entries pos bytes laid (λ _. Unit {0}) (pieces_of_unit piece_length)
     (λ u is. pieces_of_pieces piece_length span pos bytes u) (λ _ _ _. tt)
-    ∙ ap (λ n. flat_map (pieces_of_unit n) (roots kind (whole_unit entries)))
-    (let one : piece_length ≡ 1 * piece_length = omega arith in one)
+    ∙ ap (λ n. flat_map (pieces_of_unit n) (roots kind (whole_unit entries))) (omega arith)
     ∙ sym (units_are_pieces kind piece_length 1 entries pos (omega (arith, pos)) laid)
 
 pub pieces_are_so_long : (piece_length k : ℕ) (unit : PlanUnit)
@@ -103,8 +101,7 @@ pub joined_entry_units_are_whole : (piece_length span : ℕ) (entries : List Ent
     → unit_length (get_or (entry_units V1 piece_length span entries) k unit) ≡ span * piece_length
 joined_entry_units_are_whole piece_length span entries k unit pos =
     subst (λ (units : List PlanUnit). k + 1 < length units → unit_length (get_or units k unit) ≡ span * piece_length)
-    (pieces_of_whole (span * piece_length) entries)
-    (whole_piece (span * piece_length) pos (whole_unit entries) k unit)
+    (pieces_of_whole (span * piece_length) entries) (whole_piece (span * piece_length) pos (whole_unit entries) k unit)
 
 pub separate_entry_units_are_whole : (kind : Kind) (piece_length span : ℕ) (entries : List Entry) → kind ≢ V1
     → 0 < span * piece_length

@@ -16,8 +16,7 @@ range_same f g (suc n) same =
 pub range-add : {X : Type 0} (f : ℕ → X) (n m : ℕ)
     → map f (range_with_len 0 n) ++ map (λ k. f (n + k)) (range_with_len 0 m) ≡ map f (range_with_len 0 (n + m))
 range-add f n zero =
-    append-nil (map f (range_with_len 0 n))
-    ∙ ap (λ k. map f (range_with_len 0 k)) (let e : n ≡ n + 0 = omega arith in e)
+    append-nil (map f (range_with_len 0 n)) ∙ ap (λ k. map f (range_with_len 0 k)) (omega arith)
 range-add f n (suc m) =
     let front = map f (range_with_len 0 n) in
     let g : ℕ → _ = λ k. f (n + k) in
@@ -26,13 +25,13 @@ range-add f n (suc m) =
     ∙ sym (append_assoc front (map g (range_with_len 0 m)) (f (n + m) ∷ []))
     ∙ ap (λ xs. xs ++ f (n + m) ∷ []) (range-add f n m)
     ∙ sym (map-range_with_len_more f 0 (n + m) (n + m) (omega arith))
-    ∙ ap (λ k. map f (range_with_len 0 k)) (let e : n + m + 1 ≡ n + suc m = omega arith in e)
+    ∙ ap (λ k. map f (range_with_len 0 k)) (omega arith)
 
 -- where each run adds to what so many bytes give, all runs give what all bytes give
 module _ {X Y : Type 0} (f : X → List Y) (g : ℕ → X) (F : ℕ → List Y) (n size : ℕ) (pos : 0 < size)
     (step : (k : ℕ) → k * size < n → F (k * size) ++ f (g k) ≡ F (min n ((k + 1) * size))) (none : F 0 ≡ []) where
   so_far : (k : ℕ) → k * size < n + size → flat_map f (map g (range_with_len 0 k)) ≡ F (min n (k * size))
-  so_far zero less = sym none ∙ ap F (let e : 0 ≡ min n (0 * size) = omega arith in e)
+  so_far zero less = sym none ∙ ap F (omega arith)
   so_far (suc k) less =
       let more : suc k * size ≡ k * size + size = omega arith in
       let here : k * size < n = omega (arith, less, more) in
@@ -40,15 +39,13 @@ module _ {X Y : Type 0} (f : X → List Y) (g : ℕ → X) (F : ℕ → List Y) 
       ap (λ q. flat_map f (map g (range_with_len 0 q))) (let e : suc k ≡ k + 1 = omega arith in e)
       ∙ ap (flat_map f) (map-range_with_len_more g 0 k k (omega arith))
       ∙ flat_map-append f (map g (range_with_len 0 k)) (g k ∷ []) ∙ ap (λ ys. front ++ ys) (append-nil (f (g k)))
-      ∙ ap (λ ys. ys ++ f (g k)) (so_far k (omega (arith, here)))
-      ∙ ap (λ q. F q ++ f (g k)) (let e : min n (k * size) ≡ k * size = omega (arith, here) in e)
-      ∙ step k here ∙ ap (λ q. F (min n q)) (let e : (k + 1) * size ≡ suc k * size = omega arith in e)
+      ∙ ap (λ ys. ys ++ f (g k)) (so_far k (omega (arith, here))) ∙ ap (λ q. F q ++ f (g k)) (omega (arith, here))
+      ∙ step k here ∙ ap (λ q. F (min n q)) (omega arith)
 
   pub runs_are : flat_map f (map g (range_with_len 0 (div_ceil n size))) ≡ F n
   runs_are =
       let bounds = div_ceil_times n size pos in
-      so_far (div_ceil n size) bounds.1
-      ∙ ap F (let e : min n (div_ceil n size * size) ≡ n = omega (arith, bounds.0) in e)
+      so_far (div_ceil n size) bounds.1 ∙ ap F (omega (arith, bounds.0))
 
 -- ---- of several lists
 

@@ -12,8 +12,7 @@ with_zeros part n = record { file = part.file; start = part.start; length = part
 pub zeros_then : (n : ℕ) (u v : PlanUnit) → joined (after_zeros n u) v ≡ after_zeros n (joined u v)
 zeros_then n u v =
     let rest = parts_then u.parts v in
-    ap (λ k. record { zeros = k; parts = rest.parts })
-    (let e : n + u.zeros + rest.zeros ≡ n + (u.zeros + rest.zeros) = omega arith in e)
+    ap (λ k. record { zeros = k; parts = rest.parts }) (omega arith)
 
 pub file_then : (b : Bool) (file start n : ℕ) (u v : PlanUnit)
     → joined (cond b (after_part file start n u) u) v ≡ cond b (after_part file start n (joined u v)) (joined u v)
@@ -78,8 +77,7 @@ after_last z n len ps last long some is =
     ∙ ap₂ (λ p xs. p ∷ xs) (sym is) (drop_all (k + 1) ps (omega arith))) in
     ap (λ xs. unit_of z (set xs k (with_zeros last n))) split
     ∙ ap (unit_of z) (set_at front last [] (with_zeros last n) k (length-take-le k ps (omega arith)))
-    ∙ sym (then_zeros z n front last)
-    ∙ ap (λ xs. joined (unit_of z xs) (zeros_alone n)) (sym split)
+    ∙ sym (then_zeros z n front last) ∙ ap (λ xs. joined (unit_of z xs) (zeros_alone n)) (sym split)
 
 -- ---- three units
 

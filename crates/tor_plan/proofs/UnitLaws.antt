@@ -24,14 +24,10 @@ module _ (contents : List (List ℕ)) (unit : PlanUnit) (there : AreThere conten
       ≡ take (min (unit_length unit) ((k + 1) * size)) all
   content_step size k =
       let end : k * size + size ≡ (k + 1) * size = omega arith in
-      ap (λ ys. take (k * size) all ++ ys)
-      (content_between contents (k * size) ((k + 1) * size) unit there
-      ∙ ap₂ (λ n j. take n (drop j all)) (let e : (k + 1) * size - max (k * size) 0 ≡ size = omega arith in e)
-      (let e : k * size - 0 ≡ k * size = omega arith in e))
-      ∙ sym (take-add (k * size) size all) ∙ ap (λ n. take n all) end
-      ∙ sym (take_min ((k + 1) * size) all)
-      ∙ ap (λ n. take n all) (let e : min ((k + 1) * size) (length all) ≡ min (unit_length unit) ((k + 1) * size) =
-      omega (arith, length_of_content contents unit there) in e)
+      ap (λ ys. take (k * size) all ++ ys) (content_between contents (k * size) ((k + 1) * size) unit there
+      ∙ ap₂ (λ n j. take n (drop j all)) (omega arith) (omega arith))
+      ∙ sym (take-add (k * size) size all) ∙ ap (λ n. take n all) end ∙ sym (take_min ((k + 1) * size) all)
+      ∙ ap (λ n. take n all) (omega (arith, length_of_content contents unit there))
 
   whole : take (unit_length unit) all ≡ all
   whole = take_all (unit_length unit) all (omega (arith, length_of_content contents unit there))
@@ -48,13 +44,10 @@ module _ (contents : List (List ℕ)) (unit : PlanUnit) (there : AreThere conten
   sums_of_pieces p span some pos =
       let size = span * p in
       runs_are (λ u. piece_sums p (unit_content contents u)) (piece_of_unit size unit)
-      (λ n. piece_sums p (take n all)) (unit_length unit) size pos
-      (λ k less.
+      (λ n. piece_sums p (take n all)) (unit_length unit) size pos (λ k less.
       sym (sums_of_joined p (k * span) (take (k * size) all) (unit_content contents (piece_of_unit size unit k)) some
-      (length-take-le (k * size) all (omega (arith, less, length_of_content contents unit there))
-      ∙ (let e : k * size ≡ k * span * p = omega arith in e)))
-      ∙ ap (piece_sums p) (content_step size k)) (sums_nil p some)
-      ∙ ap (piece_sums p) whole
+      (length-take-le (k * size) all (omega (arith, less, length_of_content contents unit there)) ∙ (omega arith)))
+      ∙ ap (piece_sums p) (content_step size k)) (sums_nil p some) ∙ ap (piece_sums p) whole
 
 -- ---- their pieces
 
@@ -65,10 +58,8 @@ module _ (p span : ℕ) (some : 0 < p) (pos : 0 < span * p) (unit : PlanUnit) wh
   piece_of_piece : (k j : ℕ) → (j + 1) * p ≤ size
       → piece_of_unit p (piece_of_unit size unit k) j ≡ piece_of_unit p unit (k * span + j)
   piece_of_piece k j le =
-      range_of_range (j * p) ((j + 1) * p) (k * size) ((k + 1) * size) unit
-      ∙ ap₂ (λ a b. unit_between a b unit)
-      (let e : k * size + j * p ≡ (k * span + j) * p = omega arith in e)
-      (let e : min ((k + 1) * size) (k * size + (j + 1) * p) ≡ (k * span + j + 1) * p = omega (arith, le) in e)
+      range_of_range (j * p) ((j + 1) * p) (k * size) ((k + 1) * size) unit ∙ ap₂ (λ a b. unit_between a b unit)
+      (omega arith) (omega (arith, le))
 
   -- the pieces of so many bytes, and those of the next unit
   pieces_step : (k : ℕ) → k * size < unit_length unit
@@ -92,8 +83,7 @@ module _ (p span : ℕ) (some : 0 < p) (pos : 0 < span * p) (unit : PlanUnit) wh
       (λ j lt.
       let fits : j < span = lt_of_mul-lt-mul_right p (omega (arith, run_begins n p j some lt)) in
       piece_of_piece k j (mul-le-mul_right {m = j + 1} {n = span} p (omega (arith, fits)))))
-      ∙ range-add (piece_of_unit p unit) (k * span) count
-      ∙ ap (λ q. map (piece_of_unit p unit) (range_with_len 0 q))
+      ∙ range-add (piece_of_unit p unit) (k * span) count ∙ ap (λ q. map (piece_of_unit p unit) (range_with_len 0 q))
       (sym (ceil_is (min (unit_length unit) ((k + 1) * size)) p (k * span + count)
       (omega (arith, split, few.0, less, next)) (omega (arith, split, few.1, less, next))))
 

@@ -44,8 +44,7 @@ content_of_whole contents = by_whole
     (λ index path m entries unit rest fit. zeros_first contents m unit ∙ ap (λ xs. zeros m ++ xs) (rest fit))
     (λ index path m entries unit some rest fit.
     let from = from_index contents index m (lengths_of_entries entries) fit in
-    part_first contents index 0 m unit
-    ∙ ap₂ (λ xs ys. xs ++ ys)
+    part_first contents index 0 m unit ∙ ap₂ (λ xs ys. xs ++ ys)
     (ap (λ xs. take m xs) (here contents index m (lengths_of_entries entries) from)
     ∙ take_all m from.first (omega (arith, from.long)))
     (rest (after_lengths contents index m (lengths_of_entries entries) from)
@@ -72,8 +71,7 @@ separate_whole lengths size pos = by_whole
     All-append (IsFileUnit lengths size) (units_of_file size index m unit.zeros) (separate_parts size unit.parts)
     (all_range (IsFileUnit lengths size) (file_unit size index m unit.zeros) (div_ceil m size)
     (λ k lt. whole_of_file lengths size index m unit.zeros k (lengths_of_entries entries) from
-    (run_begins m size k pos lt)))
-    (rest from.after))
+    (run_begins m size k pos lt))) (rest from.after))
     (λ index path m entries unit few rest e. rest (lengths_from lengths index m (lengths_of_entries entries) e).after)
 
 -- ---- files with their padding
@@ -104,10 +102,8 @@ module _ (p : ℕ) (H : List Entry → Type 0)
               first = refl;
               some = some;
               fills = subst (Fills p m) (sym rest.0) (each path m entries held some);
-            })
-            (rest.1 (next _ entries held)),
-      ))
-      (λ index path m entries unit few rest. (
+            }) (rest.1 (next _ entries held)),
+      )) (λ index path m entries unit few rest. (
         rest.0 ∙ sym (before_empty path m entries (omega (arith, few))),
         λ held. rest.1 (next _ entries held),
       ))
@@ -137,8 +133,7 @@ file_roots : (p span : ℕ) → 0 < p → 0 < span * p → (parts : List Part) �
 file_roots p span some pos [] files = refl
 file_roots p span some pos (part ∷ parts) files =
     let is = All-head (IsWholeFile p) part parts files in
-    ap₂ (λ xs ys. xs ++ ys)
-    (sym (ap (λ s. pieces_of_unit (span * p)
+    ap₂ (λ xs ys. xs ++ ys) (sym (ap (λ s. pieces_of_unit (span * p)
     (part_alone (record { file = part.file; start = s; length = part.length; zeros = part.zeros }))) is.first
     ∙ file_pieces (span * p) pos part.file part.length part.zeros
     (tail_fits p span part.length part.zeros some is.fills) is.some))
@@ -186,8 +181,7 @@ content_of_files contents whole none =
     let others = flat_map (part_content contents) whole.parts in
     flat_map-map (unit_content contents) part_alone whole.parts
     ∙ flat_map-same (λ part. unit_content contents (part_alone part)) (part_content contents) (content_alone contents)
-    whole.parts
-    ∙ sym (ap (λ n. zeros n ++ others) none ∙ ap (λ xs. xs ++ others) zeros-nil)
+    whole.parts ∙ sym (ap (λ n. zeros n ++ others) none ∙ ap (λ xs. xs ++ others) zeros-nil)
 
 -- with trees no padding comes before the first file with bytes
 pub no_zeros_first : (kind : Kind) (p : ℕ) (entries : List Entry) → kind ≢ V1 → IsLaidOut kind p entries
@@ -227,8 +221,7 @@ ended p = by_whole (IsEnded p) (λ index. (refl, (λ none. refl), λ padded. tt)
         ],
         rest.2 padded.1,
       ),
-    ))
-    (λ index path m entries unit few rest. (
+    )) (λ index path m entries unit few rest. (
       rest.0 ∙ sym (before_empty path m entries (omega (arith, few))),
       (λ none. rest.1 (or_parts _ (list_any is_filled entries) none).1),
       λ padded. rest.2 padded.1,

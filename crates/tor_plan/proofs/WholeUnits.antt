@@ -30,16 +30,14 @@ module _ (P : ℕ → List Entry → PlanUnit → Type 0)
   unfolding whole_from bytes
   by_whole index [] = none index
   by_whole index (entry ∷ entries) = entry_cases (λ e. P index (e ∷ entries) (whole_from index (e ∷ entries)))
-      (λ path m. of_padding index path m entries _ (by_whole index entries))
-      (λ path m.
+      (λ path m. of_padding index path m entries _ (by_whole index entries)) (λ path m.
       let later = whole_from (index + 1) entries in
       let rest = by_whole (index + 1) entries in
       elim (cases_lt 0 m) [
         | inl some ↦ subst (P index (file path m ∷ entries))
             (sym (ap (λ b. joined (cond b (bytes index m) empty_unit) later) (lt-ltb 0 m some)
             ∙ ap (λ n. unit_of 0 (record { file = index; start = 0; length = m; zeros = n } ∷ later.parts))
-            (zero-add later.zeros)))
-            (of_some index path m entries later some rest)
+            (zero-add later.zeros))) (of_some index path m entries later some rest)
         | inr few ↦ subst (P index (file path m ∷ entries))
             (sym (ap (λ b. joined (cond b (bytes index m) empty_unit) later) (le-ltb 0 m few) ∙ no_zeros 0 later refl))
             (of_empty index path m entries later few rest)
@@ -54,8 +52,7 @@ whole_length = by_whole (λ index entries unit. unit_length unit ≡ entries_len
       rest,
       sum_by-cons entry_length (file path m) entries,
       sum_by-cons part_length (record { file = index; start = 0; length = m; zeros = unit.zeros }) unit.parts,
-    ))
-    (λ index path m entries unit few rest. omega (arith, rest, few, sum_by-cons entry_length (file path m) entries))
+    )) (λ index path m entries unit few rest. omega (arith, rest, few, sum_by-cons entry_length (file path m) entries))
   where
     entry_length : Entry → ℕ
     entry_length entry = entry.length
@@ -82,23 +79,19 @@ module _ (a b : ℕ) where
       → from a b at (whole_from index entries) ≡ unit_within a b index at entries
   unfolding parts_between unit_within
   range_from = by_whole (λ index entries unit. (at : ℕ) → from a b at unit ≡ unit_within a b index at entries)
-      (λ index at. ap zeros_alone (let e : shared a b at 0 + 0 ≡ 0 = omega arith in e))
-      (λ index path m entries unit rest at.
-      from_zeros a b at m unit
-      ∙ ap (after_zeros (shared a b at m)) (rest (at + m)))
+      (λ index at. ap zeros_alone (omega arith)) (λ index path m entries unit rest at.
+      from_zeros a b at m unit ∙ ap (after_zeros (shared a b at m)) (rest (at + m)))
       (λ index path m entries unit some rest at.
       let part : Part = record { file = index; start = 0; length = m; zeros = unit.zeros } in
       no_zeros (shared a b at 0) (parts_between a b (at + 0) (part ∷ unit.parts)) (omega arith)
-      ∙ ap (λ i. parts_between a b i (part ∷ unit.parts)) (let e : at + 0 ≡ at = omega arith in e)
-      ∙ elim (cases_lt 0 (shared a b at m)) [
+      ∙ ap (λ i. parts_between a b i (part ∷ unit.parts)) (omega arith) ∙ elim (cases_lt 0 (shared a b at m)) [
         | inl more ↦ part_met a b at part unit.parts more
             ∙ ap₂ (λ s u. after_part index s (shared a b at m) u) (zero-add (max a at - at)) (rest (at + m))
             ∙ sym (met a b index at path m entries more)
         | inr few ↦ part_not_met a b at part unit.parts few ∙ rest (at + m)
             ∙ sym (not_met a b index at path m entries few)
-      ])
-      (λ index path m entries unit few rest at.
-      ap (λ i. from a b i unit) (let e : at ≡ at + m = omega (arith, few) in e) ∙ rest (at + m)
+      ]) (λ index path m entries unit few rest at.
+      ap (λ i. from a b i unit) (omega (arith, few)) ∙ rest (at + m)
       ∙ sym (not_met a b index at path m entries (omega (arith, few))))
 
   pub range_of_whole : (entries : List Entry) → unit_between a b (whole_unit entries) ≡ unit_within a b 0 0 entries
@@ -110,8 +103,7 @@ unfolding pieces_of_unit joined_entry_units
 pieces_of_whole size entries =
     let n = div_ceil (entries_length entries) size in
     ap (λ m. map (piece_of_unit size (whole_unit entries)) (range_with_len 0 (div_ceil m size)))
-    (whole_length 0 entries)
-    ∙ map_same (piece_of_unit size (whole_unit entries)) (joined_entry_unit size entries)
+    (whole_length 0 entries) ∙ map_same (piece_of_unit size (whole_unit entries)) (joined_entry_unit size entries)
     (λ k. range_of_whole (k * size) ((k + 1) * size) entries) (range_with_len 0 n)
 
 -- ---- cut each by itself
@@ -129,12 +121,10 @@ separate : (size : ℕ) → 0 < size → (index : ℕ) (entries : List Entry)
     → IsSeparate size index entries (whole_from index entries)
 unfolding padding_before_next separate_entry_units
 separate size pos = by_whole (IsSeparate size) (λ index. (refl, refl))
-    (λ index path m entries unit rest. (ap (λ n. m + n) rest.0, rest.1))
-    (λ index path m entries unit some rest. (
+    (λ index path m entries unit rest. (ap (λ n. m + n) rest.0, rest.1)) (λ index path m entries unit some rest. (
       sym (before_some path m entries some),
       ap₂ (λ n units. units_of_file size index m n ++ units) rest.0 rest.1,
-    ))
-    (λ index path m entries unit few rest.
+    )) (λ index path m entries unit few rest.
     let none : m ≡ 0 = omega (arith, few) in (
       rest.0 ∙ sym (before_empty path m entries none),
       rest.1 ∙ ap (λ units. units ++ separate_entry_units size (index + 1) entries)

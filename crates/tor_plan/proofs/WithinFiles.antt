@@ -28,7 +28,7 @@ pub lengths_from : (lengths : List ℕ) (index m : ℕ) (later : List ℕ) → d
     → AreLengthsFrom lengths index m later
 lengths_from lengths index m later e = record {
   named = omega (arith, length-drop index lengths, ap length e);
-  here = ap (λ n. get_or lengths n 0) (let z : index ≡ index + 0 = omega arith in z)
+  here = ap (λ n. get_or lengths n 0) (omega arith)
       ∙ sym (get_or-drop index lengths 0 0) ∙ ap (λ xs. get_or xs 0 0) e;
   after = sym (drop-drop 1 index lengths) ∙ ap (drop 1) e;
 }

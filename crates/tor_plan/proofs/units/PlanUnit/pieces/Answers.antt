@@ -11,9 +11,7 @@ parts-init c =
     record {
       size = c.in_ok-add.ensures.size ∙ c.new-cut.ensures.size;
       cut = subst (HasCut c.add.new.self unit)
-          (let e : 0 + unit.zeros ≡ unit.zeros + sum_by part_length (take 0 unit.parts) = omega arith in e)
-          (c.in_ok-add.ensures.cut unit 0 (c.new-cut.ensures.cut unit)
-          (first_zeros unit));
+          (omega arith) (c.in_ok-add.ensures.cut unit 0 (c.new-cut.ensures.cut unit) (first_zeros unit));
     }
 
 pub parts-preserved : goal.parts-preserved
@@ -30,8 +28,7 @@ parts-preserved c =
     record {
       size = c.in_ok-add-3.ensures.size ∙ c.in_ok-add-2.ensures.size ∙ c.parts.invariant.size;
       cut = subst (HasCut c.add-in-parts-2.new.self unit)
-          (let e : at + part.length + part.zeros ≡ unit.zeros + sum_by part_length (take (i + 1) unit.parts) =
-          omega (arith, sum_by_more part_length unit.parts i part lt, ap part_length is) in e)
+          (omega (arith, sum_by_more part_length unit.parts i part lt, ap part_length is))
           (c.in_ok-add-3.ensures.cut unit (at + part.length)
           (c.in_ok-add-2.ensures.cut unit at c.parts.invariant.cut (bytes_of_part unit i part lt is))
           (zeros_of_part unit i part lt is));
