@@ -1,20 +1,12 @@
 -- An integer that is read is the one that is spelled, and what is refused has a fault.
-use Rattle.std.proofs.Common.{◌≡◌, ◌≢◌, ℕ, zero, suc, ◌^◌, ◌≤◌, ◌<◌, ℤ, pos, negsuc, List, [], ◌∷◌, ◌++◌, take, Bool}
-use Rattle.std.proofs.Common.{true, false, not, ◌==◌, ◌&&◌, ◌||◌, Option, Some, None, Ok, Err, refl, sym, ap, ap₂, ◌∙◌}
-use Rattle.std.proofs.Common.{arith, rules, inl, inr, ◌⊎◌}
-use Rattle.std.specs.Prelude.{nat_le, nat_lt, FitsSigned}
-use Rattle.std.specs.Char.{is_ascii_digit}
-use Rattle.std.specs.Int.{w64}
-use Rattle.std.specs.List.{list_all, prefix_len}
-use Rattle.std.proofs.lemmas.Bool.{and_parts, false≢true, cases_Bool, le-leb, leb-true, false_from_ne_true}
-use Rattle.std.proofs.lemmas.Bool.Decides.{nat_tests}
-use Rattle.std.proofs.lemmas.Int.{ints}
-use Rattle.std.proofs.lemmas.List.{take_at, drop_at, drop_all}
-use Rattle.tor_bencode.specs.declared.fault.Fault.TheVariants.{Truncated, BadInteger, IntegerRange}
-use Rattle.tor_bencode.specs.Fault.{Runs, is_integer_byte}
-use Rattle.tor_bencode.specs.steps.Reading.{number, is_shortest, is_positive, is_integer, integer_of, negative_of}
-use Rattle.tor_bencode.specs.steps.Reading.{positive_of, in_range, integer_after, integer_at}
-use Rattle.tor_bencode.specs.Spelling.{base_ten, signed_base_ten}
+use Rattle.tor_bencode.proofs.Names.{◌≡◌, ◌≢◌, ℕ, zero, suc, ◌^◌, ◌≤◌, ◌<◌, ℤ, pos, negsuc, List, [], ◌∷◌, ◌++◌, take}
+use Rattle.tor_bencode.proofs.Names.{Bool, true, false, not, ◌==◌, ◌&&◌, ◌||◌, Option, Some, None, Ok, Err, refl, sym}
+use Rattle.tor_bencode.proofs.Names.{ap, ap₂, ◌∙◌, arith, rules, inl, inr, ◌⊎◌, nat_le, nat_lt, FitsSigned}
+use Rattle.tor_bencode.proofs.Names.{is_ascii_digit, w64, list_all, prefix_len, and_parts, false≢true, cases_Bool}
+use Rattle.tor_bencode.proofs.Names.{le-leb, leb-true, false_from_ne_true, nat_tests, ints, take_at, drop_at, drop_all}
+use Rattle.tor_bencode.proofs.Names.{Truncated, BadInteger, IntegerRange, Runs, is_integer_byte, number, is_shortest}
+use Rattle.tor_bencode.proofs.Names.{is_positive, is_integer, integer_of, negative_of, positive_of, in_range}
+use Rattle.tor_bencode.proofs.Names.{integer_after, integer_at, base_ten, signed_base_ten}
 use Rattle.tor_bencode.proofs.Numerals.{digit_range, base_ten-number, number-base_ten, all_digits-base_ten}
 use Rattle.tor_bencode.proofs.Numerals.{is_shortest-base_ten}
 use Rattle.tor_bencode.proofs.Runs.{prefix_len-run, prefix_len-all}

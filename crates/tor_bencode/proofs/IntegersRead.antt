@@ -1,20 +1,11 @@
 -- What is read as an integer is one that is spelled, or has a fault.
-use Rattle.std.proofs.Common.{◌≡◌, ℕ, suc, ◌^◌, ℤ, pos, negsuc, List, [], ◌∷◌, ◌++◌, take, drop, Bool, true, false}
-use Rattle.std.proofs.Common.{cond, ◌==◌, ◌&&◌, Some, None, Ok, Err, refl, sym, ap, ap₂, ◌∙◌, subst, append_assoc}
-use Rattle.std.proofs.Common.{arith, inl, inr}
-use Rattle.std.specs.Prelude.{nat_le, nat_lt, FitsSigned}
-use Rattle.std.specs.Int.{w64}
-use Rattle.std.specs.List.{list_all, prefix_len}
-use Rattle.std.proofs.lemmas.Bool.{and_parts, true≢false, cases_Bool}
-use Rattle.std.proofs.lemmas.Bool.Decides.{nat_tests}
-use Rattle.std.proofs.lemmas.List.{append-nil}
-use Rattle.tor_bencode.specs.Data.{integer}
-use Rattle.tor_bencode.specs.declared.fault.Fault.{Fault}
-use Rattle.tor_bencode.specs.declared.fault.Fault.TheVariants.{Truncated, BadByte, BadInteger, IntegerRange, BadLength}
-use Rattle.tor_bencode.specs.declared.fault.Fault.TheVariants.{KeyNotBytes, KeyOrder, TooDeep, Trailing}
-use Rattle.tor_bencode.specs.Fault.{Runs, is_integer_byte, IsCutInteger, IsBadInteger, IsTooLarge}
-use Rattle.tor_bencode.specs.steps.Reading.{Reading, is_integer, integer_of, in_range, integer_after, integer_at}
-use Rattle.tor_bencode.specs.Spelling.{signed_base_ten, spelling}
+use Rattle.tor_bencode.proofs.Names.{◌≡◌, ℕ, suc, ◌^◌, ℤ, pos, negsuc, List, [], ◌∷◌, ◌++◌, take, drop, Bool, true}
+use Rattle.tor_bencode.proofs.Names.{false, cond, ◌==◌, ◌&&◌, Some, None, Ok, Err, refl, sym, ap, ap₂, ◌∙◌, subst}
+use Rattle.tor_bencode.proofs.Names.{append_assoc, arith, inl, inr, nat_le, nat_lt, FitsSigned, w64, list_all}
+use Rattle.tor_bencode.proofs.Names.{prefix_len, and_parts, true≢false, cases_Bool, nat_tests, append-nil, integer}
+use Rattle.tor_bencode.proofs.Names.{Fault, Truncated, BadInteger, IntegerRange, Runs, is_integer_byte, IsCutInteger}
+use Rattle.tor_bencode.proofs.Names.{IsBadInteger, IsTooLarge, Reading, is_integer, integer_of, in_range, integer_after}
+use Rattle.tor_bencode.proofs.Names.{integer_at, signed_base_ten, spelling}
 use Rattle.tor_bencode.proofs.Runs.{by_test, run_passes, run_stops, run_whole}
 use Rattle.tor_bencode.proofs.Integers.{is_integer-signed, held, integer_of-signed, held-fits, fits_pos, fits_negsuc}
 use Rattle.tor_bencode.proofs.Integers.{signed-run}
@@ -24,12 +15,7 @@ abbrev pub IsBadInt : List ℕ → Fault → List ℕ → Type 0
 IsBadInt bytes Truncated from = IsCutInteger bytes × (from ≡ [])
 IsBadInt bytes BadInteger from = IsBadInteger bytes × (from ≡ bytes)
 IsBadInt bytes IntegerRange from = IsTooLarge bytes × (from ≡ bytes)
-IsBadInt bytes BadByte from = ⊥
-IsBadInt bytes BadLength from = ⊥
-IsBadInt bytes KeyNotBytes from = ⊥
-IsBadInt bytes KeyOrder from = ⊥
-IsBadInt bytes TooDeep from = ⊥
-IsBadInt bytes Trailing from = ⊥
+IsBadInt bytes fault from = ⊥
 
 abbrev pub IntegerIs : List ℕ → Reading ℤ → Type 0
 IntegerIs bytes (Ok x) = FitsSigned w64 x.0 × (bytes ≡ spelling (integer x.0) ++ x.1)

@@ -1,15 +1,9 @@
 -- The order of keys, and what rising keys say of values.
-use Rattle.std.proofs.Common.{◌≡◌, List, [], ◌∷◌, ℕ, true, false, Option, Some, None, Ordering, Less, Equal, Greater}
-use Rattle.std.proofs.Common.{inl, inr, refl, sym, ap, subst, ◌∙◌}
-use Rattle.std.proofs.lemmas.Bool.{cases_Bool}
-use Rattle.std.proofs.lemmas.Slice.Eq.{bytes_eq-Decides}
-use Rattle.std.specs.Cmp.Lexicographic.{slice_cmp, nat_list_cmp_total}
-use Rattle.std.specs.FinMap.{slice_cmp-IsAntisymmetric, nat_cmp-IsAntisymmetric}
-use Rattle.std.specs.Ordering.{nat_cmp, ordering_reverse}
-use Rattle.std.specs.Str.{bytes_eq}
-use Rattle.tor_bencode.specs.Data.{Data, Pairs, no_pairs, pair, keys_of}
-use Rattle.tor_bencode.specs.Find.{value_in}
-use Rattle.tor_bencode.specs.Lawful.{AreRising}
+use Rattle.tor_bencode.proofs.Names.{◌≡◌, List, [], ◌∷◌, ℕ, true, false, Option, Some, None, Ordering, Less, Equal}
+use Rattle.tor_bencode.proofs.Names.{Greater, inl, inr, refl, sym, ap, subst, ◌∙◌, cases_Bool, bytes_eq-Decides}
+use Rattle.tor_bencode.proofs.Names.{slice_cmp, nat_list_cmp_total, slice_cmp-IsAntisymmetric, nat_cmp-IsAntisymmetric}
+use Rattle.tor_bencode.proofs.Names.{nat_cmp, ordering_reverse, bytes_eq, Data, Pairs, no_pairs, pair, keys_of}
+use Rattle.tor_bencode.proofs.Names.{value_in, AreRising}
 
 -- no key comes before itself
 irreflexive : (key : List ℕ) → slice_cmp nat_cmp key key ≡ Less → ⊥

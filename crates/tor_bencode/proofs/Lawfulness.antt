@@ -1,10 +1,7 @@
 -- Lawfulness, one level or one element at a time.
-use Rattle.std.proofs.Common.{◌<◌, ◌-◌, ◌↔◌, ℕ, ℤ, List, arith}
-use Rattle.std.specs.Prelude.{FitsSigned}
-use Rattle.std.specs.Int.{w64}
-use Rattle.tor_bencode.specs.Data.{Data, integer, string, list, dictionary, Items, no_items, item, Pairs, no_pairs}
-use Rattle.tor_bencode.specs.Data.{pair, keys_of}
-use Rattle.tor_bencode.specs.Lawful.{AreRising, IsLawfulWithin, ItemsAreLawfulWithin, PairsAreLawfulWithin}
+use Rattle.tor_bencode.proofs.Names.{◌<◌, ◌-◌, ◌↔◌, ℕ, ℤ, List, arith, FitsSigned, w64, Data, integer, string, list}
+use Rattle.tor_bencode.proofs.Names.{dictionary, Items, no_items, item, Pairs, no_pairs, pair, keys_of, AreRising}
+use Rattle.tor_bencode.proofs.Names.{IsLawfulWithin, ItemsAreLawfulWithin, PairsAreLawfulWithin}
 
 pub lawful-integer : (room : ℕ) (n : ℤ) → FitsSigned w64 n → IsLawfulWithin room (integer n)
 lawful-integer room n fits = record { keys = tt; integers = fits; nesting = omega arith }

@@ -1,9 +1,9 @@
+pub mod Names
 pub mod Views
 pub mod Lawfulness
 pub mod Rising
 pub mod Numerals
 pub mod Loops
-pub mod PairLoops
 pub mod Values
 pub mod Runs
 pub mod Strings
@@ -22,4 +22,3 @@ pub mod SkippedPairs
 pub mod Keys
 pub mod Spans
 pub mod ProvedLaws
-pub mod InOrder

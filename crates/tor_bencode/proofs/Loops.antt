@@ -1,15 +1,14 @@
--- Items read one after the other, as a loop does.
-use Rattle.std.proofs.Common.{◌≡◌, ℕ, zero, suc, ◌-◌, ◌≤◌, ◌<◌, List, [], ◌∷◌, ◌++◌, length, get_or, Some, Result, Ok}
-use Rattle.std.proofs.Common.{Err, true, false, ◌==◌, refl, sym, ap, ap₂, take, drop, ◌∙◌, arith}
-use Rattle.std.proofs.lemmas.Bool.Decides.{nat_tests}
+-- Items and pairs read one after the other, as a loop does.
+use Rattle.tor_bencode.proofs.Names.{◌≡◌, ℕ, zero, suc, ◌-◌, ◌≤◌, ◌<◌, List, [], ◌∷◌, ◌++◌, length, get_or, Some}
+use Rattle.tor_bencode.proofs.Names.{Result, Ok, Err, true, false, ◌==◌, refl, sym, ap, ap₂, take, drop, ◌∙◌, arith}
+use Rattle.tor_bencode.proofs.Names.{nat_tests, view, items_view, Item, Stop, Data, Items, no_items, item, Pairs}
+use Rattle.tor_bencode.proofs.Names.{no_pairs, pair, Fault, ◌>>=◌, Reading, Stops, value_at, value_with, nested_at}
+use Rattle.tor_bencode.proofs.Names.{items_at, Option, cond, Vec, Global, pairs_view, KeyOrder, pairs_at, string_at}
+use Rattle.tor_bencode.proofs.Names.{follows, is_ascii_digit}
 use Rattle.tor_bencode.proofs.Runs.{take_rest}
-use Rattle.tor_bencode.specs.View.{view, items_view}
-use Rattle.tor_bencode.specs.declared.item.Item.{Item}
-use Rattle.tor_bencode.specs.declared.stop.Stop.{Stop}
+use Rattle.tor_bencode.proofs.Numerals.{digit_range}
+use Rattle.tor_bencode.proofs.Spelled.{StartsWithDigit}
 use Rattle.tor_bencode.specs.declared.stop.Stop.TheVariants as stops
-use Rattle.tor_bencode.specs.Data.{Data, Items, no_items, item, Pairs, no_pairs, pair}
-use Rattle.tor_bencode.specs.declared.fault.Fault.{Fault}
-use Rattle.tor_bencode.specs.steps.Reading.{◌>>=◌, Reading, Stops, value_at, value_with, nested_at, items_at}
 
 abbrev pub items_before : Items → Items → Items
 items_before no_items others = others
@@ -94,3 +93,94 @@ pub stops_bind : {A B : Type 0} (stop : Stop) (r : Result A (Fault × List ℕ))
     → Stops stop r → Stops stop (r >>= f)
 stops_bind stops.Memory r f h = tt
 stops_bind (stops.At fault at) r f h = ap (λ x. x >>= f) h
+
+pub pairs_before-assoc : (a b c : Pairs) → pairs_before (pairs_before a b) c ≡ pairs_before a (pairs_before b c)
+pairs_before-assoc no_pairs b c = refl
+pairs_before-assoc (pair key d a) b c = ap (pair key d) (pairs_before-assoc a b c)
+
+pub pairs_before-no_pairs : (a : Pairs) → pairs_before a no_pairs ≡ a
+pairs_before-no_pairs no_pairs = refl
+pairs_before-no_pairs (pair key d a) = ap (pair key d) (pairs_before-no_pairs a)
+
+pub pairs_view-push : (pairs : List (Vec ℕ Global × Item)) (key : Vec ℕ Global) (x : Item)
+    → pairs_view (pairs ++ (key, x) ∷ []) ≡ pairs_before (pairs_view pairs) (pair key.items (view x) no_pairs)
+pairs_view-push [] key x = refl
+pairs_view-push (y ∷ pairs) key x = ap (pair y.0.items (view y.1)) (pairs_view-push pairs key x)
+
+regroup_pairs : (front : Pairs) (key : List ℕ) (d : Data) (read : Reading Pairs)
+    → with_pairs front (read >>= λ x. Ok (pair key d x.0, x.1))
+    ≡ with_pairs (pairs_before front (pair key d no_pairs)) read
+regroup_pairs front key d (Ok x) =
+    ap (λ (pairs : Pairs). Ok (pairs, x.1)) (sym (pairs_before-assoc front (pair key d no_pairs) x.0))
+regroup_pairs front key d (Err e) = refl
+
+-- where a key begins, it is read, and then its value
+abbrev pub after_key : Read → ℕ → Option (List ℕ) → List ℕ → List ℕ × List ℕ → Reading Pairs
+after_key read fuel last bytes key =
+    cond (follows last key.0)
+    (read key.1 >>= λ value. pairs_at read fuel (Some key.0) value.1
+    >>= λ others. Ok (pair key.0 value.0 others.0, others.1)) (Err (KeyOrder, bytes))
+
+pub key_here : (read : Read) (fuel : ℕ) (last : Option (List ℕ)) (bytes : List ℕ) → StartsWithDigit bytes
+    → length bytes ≤ fuel
+    → (less : ℕ) × (suc less ≡ fuel)
+    × (pairs_at read fuel last bytes ≡ (string_at bytes >>= after_key read less last bytes))
+key_here read fuel last [] starts enough = absurd (omega arith)
+key_here read zero last (c ∷ rest) starts enough = absurd (omega arith)
+key_here read (suc fuel) last (c ∷ rest) starts enough =
+    let digit : is_ascii_digit c ≡ true = starts.digit in
+    let range = digit_range c digit in
+    let no_end : (c == 101) ≡ false = grind (arith, nat_tests) in
+    (fuel, refl, rw (no_end, digit) refl)
+
+-- what was read before, and then a key
+module _ (read : Read) (front : Pairs) (fuel : ℕ) (last : Option (List ℕ)) (bytes : List ℕ) (total : Reading Pairs)
+    (starts : StartsWithDigit bytes) (enough : length bytes ≤ fuel)
+    (so_far : with_pairs front (pairs_at read fuel last bytes) ≡ total) where
+  abbrev less : ℕ
+  less = (key_here read fuel last bytes starts enough).0
+
+  after : (r : Reading (List ℕ)) → string_at bytes ≡ r
+      → total ≡ with_pairs front (r >>= after_key read less last bytes)
+  after r e = sym so_far ∙ ap (with_pairs front) ((key_here read fuel last bytes starts enough).2
+      ∙ ap (λ (x : Reading (List ℕ)). x >>= after_key read less last bytes) e)
+
+  pub pairs_stop_key : (stop : Stop) → Stops stop (string_at bytes) → Stops stop total
+  pairs_stop_key stops.Memory h = tt
+  pairs_stop_key (stops.At fault at) h = after (Err (fault, at.now)) h
+
+  module _ (key middle : List ℕ) (named : string_at bytes ≡ Ok (key, middle)) where
+    pub pairs_stop_order : follows last key ≡ false → total ≡ Err (KeyOrder, bytes)
+    pairs_stop_order order = after (Ok (key, middle)) named ∙ rw order refl
+
+    pub pairs_stop_value : (stop : Stop) → follows last key ≡ true → Stops stop (read middle) → Stops stop total
+    pairs_stop_value stops.Memory order h = tt
+    pairs_stop_value (stops.At fault at) order h = after (Ok (key, middle)) named ∙ rw (order, h) refl
+
+    -- one more pair
+    pub pairs_go_on : (d : Data) (rest : List ℕ) → length rest < length bytes → follows last key ≡ true
+        → read middle ≡ Ok (d, rest)
+        → (less : ℕ) × (length rest ≤ less)
+        × (with_pairs (pairs_before front (pair key d no_pairs)) (pairs_at read less (Some key) rest) ≡ total)
+    pairs_go_on d rest shorter order reads =
+        let one : with_pairs front (after_key read less last bytes (key, middle))
+        ≡ with_pairs (pairs_before front (pair key d no_pairs)) (pairs_at read less (Some key) rest) =
+        rw (order, reads) (regroup_pairs front key d (pairs_at read less (Some key) rest)) in (
+          less,
+          omega (arith, (key_here read fuel last bytes starts enough).1),
+          sym (after (Ok (key, middle)) named ∙ one),
+        )
+
+pub pairs_end : (read : Read) (front : Pairs) (fuel : ℕ) (last : Option (List ℕ)) (bytes : List ℕ)
+    (total : Reading Pairs)
+    → 0 < length bytes → get_or bytes 0 0 ≡ 101 → length bytes ≤ fuel
+    → with_pairs front (pairs_at read fuel last bytes) ≡ total
+    → total ≡ Ok (front, take (length bytes - 1) (drop 1 bytes))
+pairs_end read front fuel last [] total some is enough so_far = absurd (omega arith)
+pairs_end read front zero last (c ∷ rest) total some is enough so_far = absurd (omega arith)
+pairs_end read front (suc fuel) last (c ∷ rest) total some is enough so_far =
+    let at_end : (c == 101) ≡ true = grind (arith, nat_tests) in
+    let one : with_pairs front (pairs_at read (suc fuel) last (c ∷ rest)) ≡ Ok (pairs_before front no_pairs, rest) =
+    rw at_end refl in
+    sym so_far ∙ one
+    ∙ ap₂ (λ (pairs : Pairs) (after : List ℕ). Ok (pairs, after)) (pairs_before-no_pairs front) (sym (take_rest c rest))

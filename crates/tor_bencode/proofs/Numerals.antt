@@ -1,21 +1,12 @@
 -- Numbers in base ten: what digits stand for, and the shortest digits of a number.
-use Rattle.std.proofs.Common.{◌≡◌, ℕ, zero, suc, ◌+◌, ◌-◌, ◌*◌, ◌/◌, ◌%◌, ◌^◌, ◌<◌, ◌≤◌, ℤ, pos, negsuc, List, [], ◌∷◌}
-use Rattle.std.proofs.Common.{◌++◌, map, length, get_or, drop, true, not, ◌==◌, refl, sym, ap, ap₂, ◌∙◌, subst}
-use Rattle.std.proofs.Common.{append_assoc, arith, inl, inr}
-use Rattle.std.specs.Prelude.{decimal, FitsSigned}
-use Rattle.std.specs.Char.{is_ascii_digit}
-use Rattle.std.specs.Fmt.{signed_decimal}
-use Rattle.std.specs.Int.{w64}
-use Rattle.std.specs.Int.Digits.{digits_of, number_from_digits_after, AllBelowBase}
-use Rattle.std.specs.List.{list_all}
-use Rattle.std.proofs.lemmas.Bool.{and_parts, false≢true, cases_lt}
-use Rattle.std.proofs.lemmas.Bool.Decides.{nat_tests}
-use Rattle.std.proofs.lemmas.Fmt.{decimal_by_steps}
-use Rattle.std.proofs.lemmas.Int.{ints}
-use Rattle.std.proofs.lemmas.Int.Digits.{digits_of_step, number_digits_of, all_below_base_digits_of, first_digits_of}
-use Rattle.std.proofs.lemmas.List.{map-append, append-nil, drop_more}
-use Rattle.tor_bencode.specs.Spelling.{base_ten, signed_base_ten}
-use Rattle.tor_bencode.specs.steps.Reading.{number, number_after, is_shortest}
+use Rattle.tor_bencode.proofs.Names.{◌≡◌, ℕ, zero, suc, ◌+◌, ◌-◌, ◌*◌, ◌/◌, ◌%◌, ◌^◌, ◌<◌, ◌≤◌, ℤ, pos, negsuc, List}
+use Rattle.tor_bencode.proofs.Names.{[], ◌∷◌, ◌++◌, map, length, get_or, drop, true, not, ◌==◌, refl, sym, ap, ap₂, ◌∙◌}
+use Rattle.tor_bencode.proofs.Names.{subst, append_assoc, arith, inl, inr, decimal, FitsSigned, is_ascii_digit}
+use Rattle.tor_bencode.proofs.Names.{signed_decimal, w64, digits_of, number_from_digits_after, AllBelowBase, list_all}
+use Rattle.tor_bencode.proofs.Names.{and_parts, false≢true, cases_lt, nat_tests, decimal_by_steps, ints, digits_of_step}
+use Rattle.tor_bencode.proofs.Names.{number_digits_of, all_below_base_digits_of, first_digits_of, map-append}
+use Rattle.tor_bencode.proofs.Names.{append-nil, drop_more, base_ten, signed_base_ten, number, number_after}
+use Rattle.tor_bencode.proofs.Names.{is_shortest}
 
 abbrev glyphs : List ℕ → List ℕ
 glyphs = map (λ digit. 48 + digit)

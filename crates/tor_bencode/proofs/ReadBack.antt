@@ -1,23 +1,18 @@
 -- What is spelled is read again, whatever follows it.
-use Rattle.std.proofs.Common.{◌≡◌, ℕ, ◌-◌, ◌≤◌, List, [], ◌∷◌, ◌++◌, length, true, Option, Some, None, Ok}
-use Rattle.std.proofs.Common.{refl, sym, ap, ◌∙◌, append_assoc, arith}
-use Rattle.std.specs.Ordering.{is_lt}
-use Rattle.std.proofs.lemmas.List.{append-nil}
-use Rattle.tor_bencode.specs.Data.{Data, integer, string, list, dictionary, Items, no_items, item, Pairs, no_pairs}
-use Rattle.tor_bencode.specs.Data.{pair, keys_of}
-use Rattle.tor_bencode.specs.Lawful.{AreRising, IsLawfulWithin, ItemsAreLawfulWithin, PairsAreLawfulWithin}
-use Rattle.tor_bencode.specs.steps.Reading.{◌>>=◌, Reading, follows, integer_at, items_at, pairs_at, value_at, whole}
-use Rattle.tor_bencode.specs.steps.Reading.{last_of}
-use Rattle.tor_bencode.specs.Spelling.{signed_base_ten, spelling, string_spelling, items_spelling, pairs_spelling}
+use Rattle.tor_bencode.proofs.Names.{◌≡◌, ℕ, ◌-◌, ◌≤◌, List, [], ◌∷◌, ◌++◌, length, true, Option, Some, None, Ok, refl}
+use Rattle.tor_bencode.proofs.Names.{sym, ap, ◌∙◌, append_assoc, arith, is_lt, append-nil, Data, integer, string, list}
+use Rattle.tor_bencode.proofs.Names.{dictionary, Items, no_items, item, Pairs, no_pairs, pair, keys_of, AreRising}
+use Rattle.tor_bencode.proofs.Names.{IsLawfulWithin, ItemsAreLawfulWithin, PairsAreLawfulWithin, ◌>>=◌, Reading}
+use Rattle.tor_bencode.proofs.Names.{follows, integer_at, items_at, pairs_at, value_at, whole, last_of, signed_base_ten}
+use Rattle.tor_bencode.proofs.Names.{spelling, string_spelling, items_spelling, pairs_spelling}
 use Rattle.tor_bencode.proofs.Integers.{integer_at-spelling}
 use Rattle.tor_bencode.proofs.IntegersRead.{integer_spelled}
 use Rattle.tor_bencode.proofs.Lawfulness.{lawful-list, lawful-dictionary, lawful-item, lawful-pair}
 use Rattle.tor_bencode.proofs.Runs.{take_rest}
 use Rattle.tor_bencode.proofs.Loops.{items_before, pairs_before, with_items, with_pairs, items_before-assoc}
 use Rattle.tor_bencode.proofs.Loops.{items_before-no_items, with_no_items, with_no_pairs, items_go_on, items_end}
-use Rattle.tor_bencode.proofs.PairLoops.{pairs_before-assoc, pairs_before-no_pairs, pairs_go_on, pairs_end}
+use Rattle.tor_bencode.proofs.Loops.{pairs_before-assoc, pairs_before-no_pairs, pairs_go_on, pairs_end}
 use Rattle.tor_bencode.proofs.Values.{value_integer, value_string, value_list, value_dictionary}
-use Rattle.tor_bencode.proofs.Numerals.{digit_range}
 use Rattle.tor_bencode.proofs.Spelled.{string-starts, spelling-starts, shorter-spelling, shorter-string, pair_spelled}
 use Rattle.tor_bencode.proofs.Strings.{string_at-spelling}
 
@@ -65,7 +60,7 @@ mutual
       (omega arith) refl read.1 read.2 in
       let whole_list : items_at (value_at (room - 1)) (length inside) inside ≡ Ok (items, rest) =
       sym (with_no_items _) ∙ end ∙ ap (λ bs. Ok (items, bs)) (take_rest 101 rest) in
-      ap (value_at room) same ∙ value_list room (108 ∷ inside) parts.0 (omega arith) refl
+      ap (value_at room) same ∙ value_list room (108 ∷ inside) (omega arith) parts.0 refl
       ∙ ap (λ bs. items_at (value_at (room - 1)) (length bs) bs >>= λ x. Ok (list x.0, x.1)) (take_rest 108 inside)
       ∙ ap (λ (r : Reading Items). r >>= λ x. Ok (list x.0, x.1)) whole_list
   value_at-spelling (dictionary pairs) room rest lawful =
@@ -82,7 +77,7 @@ mutual
       (omega arith) refl read.1 read.2 in
       let whole_dictionary : pairs_at (value_at (room - 1)) (length inside) None inside ≡ Ok (pairs, rest) =
       sym (with_no_pairs _) ∙ end ∙ ap (λ bs. Ok (pairs, bs)) (take_rest 101 rest) in
-      ap (value_at room) same ∙ value_dictionary room (100 ∷ inside) parts.0 (omega arith) refl
+      ap (value_at room) same ∙ value_dictionary room (100 ∷ inside) (omega arith) parts.0 refl
       ∙ ap (λ bs. pairs_at (value_at (room - 1)) (length bs) None bs >>= λ x. Ok (dictionary x.0, x.1))
       (take_rest 100 inside)
       ∙ ap (λ (r : Reading Pairs). r >>= λ x. Ok (dictionary x.0, x.1)) whole_dictionary
@@ -137,14 +132,12 @@ mutual
       let same : pairs_spelling (pair key d pairs) ++ more
       ≡ string_spelling key ++ (spelling d ++ (pairs_spelling pairs ++ more)) =
       pair_spelled (string_spelling key) (spelling d) (pairs_spelling pairs) more in
-      let starts = string-starts key middle in
-      let range = digit_range _ starts.digit in
       let step =
-      pairs_go_on (value_at room) front fuel last bytes key middle d rest total starts.some range.0 range.1
-      (omega (arith, ap length same))
-      (omega (arith, shorter-string key bytes middle refl, shorter-spelling d middle rest refl))
-      (string_at-spelling key middle) order.0 (value_at-spelling d room rest parts.0)
-      (ap (λ bs. with_pairs front (pairs_at (value_at room) fuel last bs)) (sym same) ∙ so_far) in
+      pairs_go_on (value_at room) front fuel last bytes total (string-starts key middle) (omega (arith, ap length same))
+      (ap (λ bs. with_pairs front (pairs_at (value_at room) fuel last bs)) (sym same) ∙ so_far) key middle
+      (string_at-spelling key middle) d rest
+      (omega (arith, shorter-string key bytes middle refl, shorter-spelling d middle rest refl)) order.0
+      (value_at-spelling d room rest parts.0) in
       let later =
       pairs_at-front pairs room (pairs_before front (pair key d no_pairs))
       (Some key) more step.0 total parts.1 order.1 step.1 step.2 in (

@@ -1,24 +1,15 @@
 -- Bytes with a fault are refused with that fault.
-use Rattle.std.proofs.Common.{◌≡◌, ◌≢◌, ℕ, zero, suc, ◌-◌, ◌≤◌, ◌<◌, List, [], ◌∷◌, ◌++◌, length, get_or, take, drop}
-use Rattle.std.proofs.Common.{false, ◌==◌, Option, Some, None, Ok, Err, refl, sym, ap, ◌∙◌, subst, append_assoc, arith}
-use Rattle.std.proofs.Common.{inl, inr}
-use Rattle.std.specs.Char.{is_ascii_digit}
-use Rattle.std.proofs.lemmas.Bool.Decides.{nat_tests}
-use Rattle.std.proofs.lemmas.Bool.{false_from_ne_true}
-use Rattle.tor_bencode.specs.Data.{Data, Items}
-use Rattle.tor_bencode.specs.Fault.{Begins, BeginsWithDigit, IsCutString, HasBadLength, IsBadValue, IsBadKey}
-use Rattle.tor_bencode.specs.Fault.{IsOutOfOrder}
-use Rattle.tor_bencode.specs.steps.Reading.{◌>>=◌, Reading, follows, string_at, integer_at, items_at, pairs_at}
-use Rattle.tor_bencode.specs.steps.Reading.{value_at}
-use Rattle.tor_bencode.specs.Spelling.{base_ten, signed_base_ten, string_spelling}
-use Rattle.tor_bencode.specs.declared.fault.Fault.{Fault}
-use Rattle.tor_bencode.specs.declared.fault.Fault.TheVariants.{Truncated, BadByte, BadInteger, IntegerRange, BadLength}
-use Rattle.tor_bencode.specs.declared.fault.Fault.TheVariants.{KeyNotBytes, KeyOrder, TooDeep, Trailing}
+use Rattle.tor_bencode.proofs.Names.{◌≡◌, ◌≢◌, ℕ, zero, suc, ◌-◌, ◌≤◌, ◌<◌, List, [], ◌∷◌, ◌++◌, length, get_or, take}
+use Rattle.tor_bencode.proofs.Names.{drop, false, ◌==◌, Option, Some, None, Err, refl, sym, ap, ◌∙◌, subst}
+use Rattle.tor_bencode.proofs.Names.{append_assoc, arith, inl, inr, is_ascii_digit, nat_tests, false_from_ne_true, Data}
+use Rattle.tor_bencode.proofs.Names.{Items, Begins, BeginsWithDigit, IsCutString, HasBadLength, IsBadValue, IsBadKey}
+use Rattle.tor_bencode.proofs.Names.{IsOutOfOrder, ◌>>=◌, Reading, follows, string_at, integer_at, items_at, pairs_at}
+use Rattle.tor_bencode.proofs.Names.{value_at, base_ten, signed_base_ten, string_spelling, Fault, Truncated, BadByte}
+use Rattle.tor_bencode.proofs.Names.{BadInteger, IntegerRange, BadLength, KeyNotBytes, KeyOrder, TooDeep}
 use Rattle.tor_bencode.proofs.Integers.{integer_at-cut, integer_at-bad, integer_at-too_large}
 use Rattle.tor_bencode.proofs.IntegersRead.{integer_spelled}
-use Rattle.tor_bencode.proofs.PairLoops.{after_key, key_here}
+use Rattle.tor_bencode.proofs.Loops.{after_key, key_here}
 use Rattle.tor_bencode.proofs.Values.{value_integer, value_string, value_empty, value_bad, value_too_deep}
-use Rattle.tor_bencode.proofs.Numerals.{digit_range}
 use Rattle.tor_bencode.proofs.Runs.{take_rest}
 use Rattle.tor_bencode.proofs.SoundPairs.{is_lt_is}
 use Rattle.tor_bencode.proofs.Spelled.{base_ten-starts, StartsWithDigit, string-starts}
@@ -90,14 +81,12 @@ bad_value_read room bytes BadLength from (h, at) =
     string_stops room bytes BadLength bytes (digit_starts bytes h.0) (string_bad bytes h)
     ∙ ends_at BadLength bytes from at
 bad_value_read room bytes TooDeep from (none, inl b, at) =
-    value_too_deep room bytes none (omega (arith, ap length b.1)) (inl (ap (λ bs. get_or bs 0 0) b.1))
+    value_too_deep room bytes (omega (arith, ap length b.1)) none (inl (ap (λ bs. get_or bs 0 0) b.1))
     ∙ ends_at TooDeep bytes from at
 bad_value_read room bytes TooDeep from (none, inr b, at) =
-    value_too_deep room bytes none (omega (arith, ap length b.1)) (inr (ap (λ bs. get_or bs 0 0) b.1))
+    value_too_deep room bytes (omega (arith, ap length b.1)) none (inr (ap (λ bs. get_or bs 0 0) b.1))
     ∙ ends_at TooDeep bytes from at
-bad_value_read room bytes KeyNotBytes from h = absurd h
-bad_value_read room bytes KeyOrder from h = absurd h
-bad_value_read room bytes Trailing from h = absurd h
+bad_value_read room bytes fault from h = absurd h
 
 failure_is : (x y : Fault × List ℕ) (r : Reading Data) → r ≡ Err x → r ≡ Err y → x ≡ y
 failure_is x y r e f = cc
@@ -132,25 +121,27 @@ key_stopped : (read : List ℕ → Reading Data) (fuel : ℕ) (last : Option (Li
     (from : List ℕ) → StartsWithDigit bytes → length bytes ≤ fuel
     → string_at bytes ≡ failed fault from → pairs_at read fuel last bytes ≡ failed fault from
 key_stopped read fuel last bytes fault from starts enough h =
-    let range = digit_range (get_or bytes 0 0) starts.digit in
-    let k = key_here read fuel last bytes starts.some range.0 range.1 enough in
+    let k = key_here read fuel last bytes starts enough in
     k.2 ∙ stops (string_at bytes) (after_key read k.0 last bytes) fault from h
 
 not_following : (last : Option (List ℕ)) (key : List ℕ) → IsOutOfOrder last key → follows last key ≡ false
 not_following None key h = absurd h
 not_following (Some last) key h = false_from_ne_true _ (λ e. h (is_lt_is _ e))
 
+-- a key that is spelled is read
+pub key_named : (read : List ℕ → Reading Data) (fuel : ℕ) (last : Option (List ℕ)) (bytes key rest : List ℕ)
+    → bytes ≡ string_spelling key ++ rest → length bytes ≤ fuel
+    → (less : ℕ) × (pairs_at read fuel last bytes ≡ after_key read less last bytes (key, rest))
+key_named read fuel last bytes key rest is enough =
+    let k = key_here read fuel last bytes (subst StartsWithDigit (sym is) (string-starts key rest)) enough in
+    let named = ap string_at is ∙ string_at-spelling key rest in
+    (k.0, k.2 ∙ ap (λ (r : Reading (List ℕ)). r >>= after_key read k.0 last bytes) named)
+
 order_stopped : (read : List ℕ → Reading Data) (fuel : ℕ) (last : Option (List ℕ)) (bytes key rest : List ℕ)
     → bytes ≡ string_spelling key ++ rest → length bytes ≤ fuel → IsOutOfOrder last key
     → pairs_at read fuel last bytes ≡ failed KeyOrder bytes
 order_stopped read fuel last bytes key rest is enough out =
-    let starts = subst StartsWithDigit (sym is) (string-starts key rest) in
-    let range = digit_range (get_or bytes 0 0) starts.digit in
-    let k = key_here read fuel last bytes starts.some range.0 range.1 enough in
-    let named : string_at bytes ≡ Ok (key, rest) = ap string_at is ∙ string_at-spelling key rest in
-    let refused : after_key read k.0 last bytes (key, rest) ≡ failed KeyOrder bytes =
-    rw (not_following last key out) refl in
-    k.2 ∙ ap (λ (r : Reading (List ℕ)). r >>= after_key read k.0 last bytes) named ∙ refused
+    (key_named read fuel last bytes key rest is enough).1 ∙ rw (not_following last key out) refl
 
 pub bad_key_read : (read : List ℕ → Reading Data) (fuel : ℕ) (last : Option (List ℕ)) (bytes : List ℕ) (fault : Fault)
     (from : List ℕ) → length bytes ≤ fuel → IsBadKey last bytes fault from
@@ -169,8 +160,4 @@ bad_key_read read fuel last bytes KeyNotBytes from enough h =
     ∙ ends_at KeyNotBytes (h.0 ∷ h.1) from (h.5 ∙ h.2)
 bad_key_read read fuel last bytes KeyOrder from enough h =
     order_stopped read fuel last bytes h.0 h.1 h.2 enough h.3 ∙ ends_at KeyOrder bytes from h.4
-bad_key_read read fuel last bytes BadByte from enough h = absurd h
-bad_key_read read fuel last bytes BadInteger from enough h = absurd h
-bad_key_read read fuel last bytes IntegerRange from enough h = absurd h
-bad_key_read read fuel last bytes TooDeep from enough h = absurd h
-bad_key_read read fuel last bytes Trailing from enough h = absurd h
+bad_key_read read fuel last bytes fault from enough h = absurd h

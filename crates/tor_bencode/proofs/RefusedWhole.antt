@@ -1,38 +1,25 @@
 -- Bytes with a fault inside are refused with that fault.
-use Rattle.std.proofs.Common.{◌≡◌, ℕ, suc, ◌-◌, ◌≤◌, ◌<◌, List, [], ◌∷◌, ◌++◌, length, get_or, true, Option, Some, None}
-use Rattle.std.proofs.Common.{Ok, Err, refl, sym, ap, ap₂, ◌∙◌, subst, append_assoc, arith, inl, inr, ◌⊎◌}
-use Rattle.tor_bencode.specs.Data.{Data, no_items, Pairs, no_pairs, pair, keys_of}
-use Rattle.tor_bencode.specs.Fault.{IsBadKey, IsFaultIn, at_value, in_list, at_key, in_pair, IsTrailing}
-use Rattle.tor_bencode.specs.Lawful.{AreRising, PairsAreLawfulWithin}
-use Rattle.tor_bencode.specs.steps.Reading.{◌>>=◌, Reading, follows, string_at, items_at, pairs_at, value_at, whole}
-use Rattle.tor_bencode.specs.steps.Reading.{last_of}
-use Rattle.tor_bencode.specs.Spelling.{string_spelling, items_spelling, pairs_spelling}
-use Rattle.tor_bencode.specs.declared.fault.Fault.{Fault}
-use Rattle.tor_bencode.specs.declared.fault.Fault.TheVariants.{Trailing}
+use Rattle.tor_bencode.proofs.Names.{◌≡◌, ℕ, suc, ◌-◌, ◌≤◌, ◌<◌, List, [], ◌∷◌, ◌++◌, length, true, Option, Some, None}
+use Rattle.tor_bencode.proofs.Names.{Err, refl, sym, ap, ap₂, ◌∙◌, subst, append_assoc, arith, inl, inr, ◌⊎◌, Data}
+use Rattle.tor_bencode.proofs.Names.{no_items, Pairs, no_pairs, pair, keys_of, IsBadKey, IsFaultIn, at_value, in_list}
+use Rattle.tor_bencode.proofs.Names.{at_key, in_pair, IsTrailing, AreRising, PairsAreLawfulWithin, ◌>>=◌, Reading}
+use Rattle.tor_bencode.proofs.Names.{follows, items_at, pairs_at, value_at, whole, last_of, string_spelling}
+use Rattle.tor_bencode.proofs.Names.{items_spelling, pairs_spelling, Fault, Trailing}
 use Rattle.tor_bencode.proofs.Loops.{with_items, with_pairs, with_no_items, with_no_pairs}
-use Rattle.tor_bencode.proofs.PairLoops.{after_key, key_here}
 use Rattle.tor_bencode.proofs.Values.{value_list, value_dictionary, value_empty}
-use Rattle.tor_bencode.proofs.Numerals.{digit_range}
 use Rattle.tor_bencode.proofs.ReadBack.{AreRisingAfter, rising_first, last_after, items_at-front, pairs_at-front}
 use Rattle.tor_bencode.proofs.ReadBack.{value_at-spelling}
 use Rattle.tor_bencode.proofs.SoundPairs.{rising_push, rising_none}
 use Rattle.tor_bencode.proofs.SoundValues.{last_key-is}
-use Rattle.tor_bencode.proofs.Spelled.{StartsWithDigit, string-starts}
-use Rattle.tor_bencode.proofs.Strings.{string_at-spelling}
 use Rattle.tor_bencode.proofs.Runs.{take_rest}
-use Rattle.tor_bencode.proofs.Refused.{failed, stops, bad_value_read, items_stopped, bad_key_read}
+use Rattle.tor_bencode.proofs.Refused.{failed, stops, bad_value_read, items_stopped, bad_key_read, key_named}
 
 -- what stops the value of a key stops the pairs
 pair_stopped : (read : List ℕ → Reading Data) (fuel : ℕ) (last : Option (List ℕ)) (bytes key rest : List ℕ)
     (fault : Fault) (from : List ℕ) → bytes ≡ string_spelling key ++ rest → length bytes ≤ fuel
     → follows last key ≡ true → read rest ≡ failed fault from → pairs_at read fuel last bytes ≡ failed fault from
 pair_stopped read fuel last bytes key rest fault from is enough order h =
-    let starts = subst StartsWithDigit (sym is) (string-starts key rest) in
-    let range = digit_range (get_or bytes 0 0) starts.digit in
-    let k = key_here read fuel last bytes starts.some range.0 range.1 enough in
-    let named : string_at bytes ≡ Ok (key, rest) = ap string_at is ∙ string_at-spelling key rest in
-    let refused : after_key read k.0 last bytes (key, rest) ≡ failed fault from = rw (order, h) refl in
-    k.2 ∙ ap (λ (r : Reading (List ℕ)). r >>= after_key read k.0 last bytes) named ∙ refused
+    (key_named read fuel last bytes key rest is enough).1 ∙ rw (order, h) refl
 
 rising_last : (last : Option (List ℕ)) (pairs : Pairs) (key : List ℕ)
     → AreRisingAfter last (keys_of pairs ++ key ∷ [])

@@ -1,10 +1,7 @@
 -- The longest run of bytes that pass a test.
-use Rattle.std.proofs.Common.{◌≡◌, ℕ, List, [], ◌∷◌, ◌++◌, length, take, drop, Bool, true, false, cond, refl, sym, ap}
-use Rattle.std.proofs.Common.{◌∙◌, ◌-◌, arith}
-use Rattle.std.proofs.Math.Numerals.{one-add}
-use Rattle.std.proofs.lemmas.List.{take-append-drop, take_all}
-use Rattle.std.specs.List.{list_all, prefix_len}
-use Rattle.std.proofs.lemmas.Bool.{and_parts}
+use Rattle.tor_bencode.proofs.Names.{◌≡◌, ℕ, List, [], ◌∷◌, ◌++◌, length, take, drop, Bool, true, false, cond, refl}
+use Rattle.tor_bencode.proofs.Names.{sym, ap, ◌∙◌, ◌-◌, arith, one-add, take-append-drop, take_all, list_all}
+use Rattle.tor_bencode.proofs.Names.{prefix_len, and_parts}
 
 -- one of the two, by the test
 pub by_test : {A : Type 0} (b : Bool) (P : A → Type 0) (x y : A) → (b ≡ true → P x) → (b ≡ false → P y) → P (cond b x y)

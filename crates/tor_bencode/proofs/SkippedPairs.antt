@@ -1,30 +1,24 @@
 -- The pairs of the root, one after another, as their values are skipped.
-use Rattle.std.proofs.Common.{◌≡◌, ◌≢◌, ℕ, ◌+◌, ◌-◌, ◌≤◌, List, [], ◌∷◌, ◌++◌, length, get_or, take, drop, true, false}
-use Rattle.std.proofs.Common.{Some, None, Ok, Err, refl, sym, ap, ap₂, ◌∙◌, arith}
-use Rattle.std.specs.Str.{bytes_eq}
-use Rattle.std.proofs.lemmas.List.{append-nil, length-append}
-use Rattle.tor_bencode.specs.Data.{Data, integer, string, list, dictionary, Pairs, no_pairs, pair}
-use Rattle.tor_bencode.specs.Lawful.{IsLawfulWithin, PairsAreLawfulWithin}
-use Rattle.tor_bencode.specs.Span.{span_in, span_of}
-use Rattle.tor_bencode.specs.steps.Reading.{Stops, string_at}
-use Rattle.tor_bencode.specs.Spelling.{spelling, string_spelling, pairs_spelling}
-use Rattle.tor_bencode.specs.declared.fault.Fault.TheVariants.{BadLength}
-use Rattle.tor_bencode.specs.declared.stop.Stop.{Stop}
-use Rattle.tor_bencode.specs.declared.stop.Stop.TheVariants as stops
+use Rattle.tor_bencode.proofs.Names.{◌≡◌, ◌≢◌, ℕ, ◌+◌, ◌-◌, ◌≤◌, List, [], ◌∷◌, ◌++◌, length, get_or, take, drop, true}
+use Rattle.tor_bencode.proofs.Names.{false, Some, None, Ok, Err, refl, sym, ap, ap₂, ◌∙◌, arith, bytes_eq, append-nil}
+use Rattle.tor_bencode.proofs.Names.{length-append, Data, integer, string, list, dictionary, Pairs, no_pairs, pair}
+use Rattle.tor_bencode.proofs.Names.{IsLawfulWithin, PairsAreLawfulWithin, span_in, span_of, Stops, string_at, spelling}
+use Rattle.tor_bencode.proofs.Names.{string_spelling, pairs_spelling, BadLength, Stop}
 use Rattle.tor_bencode.proofs.Lawfulness.{lawful-dictionary, lawful-pair}
 use Rattle.tor_bencode.proofs.Spelled.{pair_spelled}
 use Rattle.tor_bencode.proofs.Strings.{string_at-spelling}
 use Rattle.tor_bencode.proofs.Skips.{read_is, not_both, no_stop, read, tail-is, head-is, string_head}
+use Rattle.tor_bencode.specs.declared.stop.Stop.TheVariants as stops
 
 -- a dictionary that is open holds its pairs
 pub open_pairs : (d : Data) (bytes : List ℕ) → IsLawfulWithin 100 d → bytes ≡ spelling d → get_or bytes 0 0 ≡ 100
     → (pairs : Pairs) × PairsAreLawfulWithin 99 pairs
     × (take (length bytes - 1) (drop 1 bytes) ≡ pairs_spelling pairs ++ 101 ∷ [])
     × ((key : List ℕ) → span_of key d ≡ span_in 1 key pairs)
-open_pairs (integer n) bytes lawful is head = let h = head-is bytes 105 _ is in absurd (omega arith)
+open_pairs (integer n) bytes lawful is head = absurd (omega (arith, head-is bytes 105 _ is, head))
 open_pairs (string s) bytes lawful is head =
-    absurd (string_head s bytes [] 100 (is ∙ sym (append-nil (string_spelling s))) (omega arith) head)
-open_pairs (list items) bytes lawful is head = let h = head-is bytes 108 _ is in absurd (omega arith)
+    absurd (omega (arith, string_head s bytes [] (is ∙ sym (append-nil (string_spelling s))), head))
+open_pairs (list items) bytes lawful is head = absurd (omega (arith, head-is bytes 108 _ is, head))
 open_pairs (dictionary pairs) bytes lawful is head =
     (pairs, ((lawful-dictionary 100 pairs).0 lawful).2, tail-is bytes 100 _ is, λ key. refl)
 

@@ -1,24 +1,18 @@
 -- What follows a value, and what follows values up to their end.
-use Rattle.std.proofs.Common.{◌≡◌, ◌≢◌, ℕ, ◌-◌, ◌≤◌, ◌<◌, List, [], ◌∷◌, ◌++◌, length, get_or, take, drop, true, ◌==◌}
-use Rattle.std.proofs.Common.{Ok, Err, refl, sym, ap, ◌∙◌, subst, append_assoc, arith, inl, inr, ◌⊎◌}
-use Rattle.std.specs.Char.{is_ascii_digit}
-use Rattle.std.proofs.lemmas.Bool.{true≢false, cases_Bool}
-use Rattle.std.proofs.lemmas.Bool.Decides.{nat_tests}
-use Rattle.std.proofs.lemmas.List.{take_all}
-use Rattle.tor_bencode.specs.Data.{Data, integer, string, list, dictionary, Items, no_items, item, Pairs, no_pairs}
-use Rattle.tor_bencode.specs.Data.{pair}
-use Rattle.tor_bencode.specs.Lawful.{IsLawfulWithin, ItemsAreLawfulWithin, PairsAreLawfulWithin}
-use Rattle.tor_bencode.specs.steps.Reading.{◌>>=◌, Reading, Stops, string_at, integer_at, value_at}
-use Rattle.tor_bencode.specs.Spelling.{spelling, string_spelling, items_spelling, pairs_spelling}
-use Rattle.tor_bencode.specs.declared.fault.Fault.{Fault}
-use Rattle.tor_bencode.specs.declared.stop.Stop.{Stop}
-use Rattle.tor_bencode.specs.declared.stop.Stop.TheVariants as stops
+use Rattle.tor_bencode.proofs.Names.{◌≡◌, ◌≢◌, ℕ, ◌-◌, ◌≤◌, ◌<◌, List, [], ◌∷◌, ◌++◌, length, get_or, take, drop, true}
+use Rattle.tor_bencode.proofs.Names.{◌==◌, Ok, Err, refl, sym, ap, ◌∙◌, subst, append_assoc, arith, inl, inr, ◌⊎◌}
+use Rattle.tor_bencode.proofs.Names.{is_ascii_digit, true≢false, cases_Bool, nat_tests, take_all, Data, integer, string}
+use Rattle.tor_bencode.proofs.Names.{list, dictionary, Items, no_items, item, Pairs, no_pairs, pair, IsLawfulWithin}
+use Rattle.tor_bencode.proofs.Names.{ItemsAreLawfulWithin, PairsAreLawfulWithin, ◌>>=◌, Reading, Stops, string_at}
+use Rattle.tor_bencode.proofs.Names.{integer_at, value_at, spelling, string_spelling, items_spelling, pairs_spelling}
+use Rattle.tor_bencode.proofs.Names.{Fault, Stop}
 use Rattle.tor_bencode.proofs.Lawfulness.{lawful-string, lawful-list, lawful-dictionary, lawful-item, lawful-pair}
 use Rattle.tor_bencode.proofs.Lawfulness.{lawful-no_items}
 use Rattle.tor_bencode.proofs.Values.{value_integer, value_string, value_too_deep}
 use Rattle.tor_bencode.proofs.Numerals.{digit_range}
 use Rattle.tor_bencode.proofs.ReadBack.{value_at-spelling}
 use Rattle.tor_bencode.proofs.Spelled.{StartsWithDigit, string-starts, spelling-starts}
+use Rattle.tor_bencode.specs.declared.stop.Stop.TheVariants as stops
 
 abbrev ok : {A : Type 0} → A × List ℕ → Reading A
 ok x = Ok x
@@ -76,7 +70,7 @@ module _ (d : Data) (room : ℕ) (bytes after : List ℕ) (lawful : IsLawfulWith
 
   pub skip_too_deep : room ≡ 0 → (some : 0 < length bytes) → ((get_or bytes 0 0 ≡ 108) ⊎ (get_or bytes 0 0 ≡ 100)) → ⊥
   skip_too_deep none some head =
-      not_both (d, after) _ (value_at room bytes) read (value_too_deep room bytes none some head)
+      not_both (d, after) _ (value_at room bytes) read (value_too_deep room bytes some none head)
 
 -- the keys of pairs are values too
 abbrev pub as_items : Pairs → Items
@@ -97,9 +91,6 @@ as_items-lawful room (pair key d pairs) lawful =
     (lawful-item room (string key) (item d (as_items pairs))).1
     (lawful-string room key, (lawful-item room d (as_items pairs)).1 (parts.0, as_items-lawful room pairs parts.1))
 
-tail : List ℕ → List ℕ
-tail bytes = take (length bytes - 1) (drop 1 bytes)
-
 pub tail-is : (bytes : List ℕ) (c : ℕ) (rest : List ℕ) → bytes ≡ c ∷ rest
     → take (length bytes - 1) (drop 1 bytes) ≡ rest
 tail-is bytes c rest is = ap (λ bs. take (length bs - 1) (drop 1 bs)) is ∙ take_all _ rest (omega arith)
@@ -107,23 +98,18 @@ tail-is bytes c rest is = ap (λ bs. take (length bs - 1) (drop 1 bs)) is ∙ ta
 pub head-is : (bytes : List ℕ) (c : ℕ) (rest : List ℕ) → bytes ≡ c ∷ rest → get_or bytes 0 0 ≡ c
 head-is bytes c rest is = ap (λ bs. get_or bs 0 0) is
 
-pub string_head : (s bytes after : List ℕ) (n : ℕ) → bytes ≡ string_spelling s ++ after → 57 < n
-    → get_or bytes 0 0 ≡ n → ⊥
-string_head s bytes after n is above head =
-    let starts = subst StartsWithDigit (sym is) (string-starts s after) in
-    let range = digit_range (get_or bytes 0 0) starts.digit in absurd (omega arith)
+pub string_head : (s bytes after : List ℕ) → bytes ≡ string_spelling s ++ after
+    → (48 ≤ get_or bytes 0 0) × (get_or bytes 0 0 ≤ 57)
+string_head s bytes after is =
+    digit_range (get_or bytes 0 0) (subst StartsWithDigit (sym is) (string-starts s after)).digit
 
 -- what is open holds values up to its end
 pub opened_values : (d : Data) (room : ℕ) (bytes after : List ℕ) → IsLawfulWithin room d → bytes ≡ spelling d ++ after
     → ((get_or bytes 0 0 ≡ 108) ⊎ (get_or bytes 0 0 ≡ 100))
     → (items : Items) × ItemsAreLawfulWithin (room - 1) items
     × (take (length bytes - 1) (drop 1 bytes) ≡ items_spelling items ++ 101 ∷ after)
-opened_values (integer n) room bytes after lawful is (inl head) = let h = head-is bytes 105 _ is in absurd (omega arith)
-opened_values (integer n) room bytes after lawful is (inr head) = let h = head-is bytes 105 _ is in absurd (omega arith)
-opened_values (string s) room bytes after lawful is (inl head) =
-    absurd (string_head s bytes after 108 is (omega arith) head)
-opened_values (string s) room bytes after lawful is (inr head) =
-    absurd (string_head s bytes after 100 is (omega arith) head)
+opened_values (integer n) room bytes after lawful is head = absurd (omega (arith, head-is bytes 105 _ is, head))
+opened_values (string s) room bytes after lawful is head = absurd (omega (arith, string_head s bytes after is, head))
 opened_values (list items) room bytes after lawful is head = (
   items,
   ((lawful-list room items).0 lawful).1,
@@ -158,9 +144,7 @@ end_after (item d others) rest after is end =
 pub no_head : (d : Data) (bytes after : List ℕ) → bytes ≡ spelling d ++ after → (get_or bytes 0 0 ≢ 105)
     → (get_or bytes 0 0 ≢ 108) → (get_or bytes 0 0 ≢ 100) → (48 ≤ get_or bytes 0 0 → get_or bytes 0 0 ≤ 57 → ⊥) → ⊥
 no_head (integer n) bytes after is i l d digit = i (head-is bytes 105 _ is)
-no_head (string s) bytes after is i l d digit =
-    let starts = subst StartsWithDigit (sym is) (string-starts s after) in
-    let range = digit_range (get_or bytes 0 0) starts.digit in digit range.0 range.1
+no_head (string s) bytes after is i l d digit = let range = string_head s bytes after is in digit range.0 range.1
 no_head (list items) bytes after is i l d digit = l (head-is bytes 108 _ is)
 no_head (dictionary pairs) bytes after is i l d digit = d (head-is bytes 100 _ is)
 

@@ -1,15 +1,8 @@
 -- What is read is spelled so: a value, and items one after another. Where reading stops there is a fault.
-use Rattle.std.proofs.Common.{◌≡◌, ℕ, zero, suc, ◌≤◌, List, [], ◌∷◌, ◌++◌, length, true, ◌==◌, Ok, Err, refl, sym, ap}
-use Rattle.std.proofs.Common.{◌∙◌, append_assoc, arith, inl}
-use Rattle.std.proofs.lemmas.Bool.{true≢false}
-use Rattle.std.proofs.lemmas.Bool.Decides.{nat_tests}
-use Rattle.tor_bencode.specs.Data.{Data, Items, no_items, item}
-use Rattle.tor_bencode.specs.Fault.{Begins, IsFaultIn, at_value}
-use Rattle.tor_bencode.specs.Lawful.{IsLawfulWithin, ItemsAreLawfulWithin}
-use Rattle.tor_bencode.specs.steps.Reading.{◌>>=◌, Reading, items_at}
-use Rattle.tor_bencode.specs.Spelling.{spelling, items_spelling}
-use Rattle.tor_bencode.specs.declared.fault.Fault.{Fault}
-use Rattle.tor_bencode.specs.declared.fault.Fault.TheVariants.{Truncated}
+use Rattle.tor_bencode.proofs.Names.{◌≡◌, ℕ, zero, suc, ◌≤◌, List, [], ◌∷◌, ◌++◌, length, true, ◌==◌, Ok, Err, refl}
+use Rattle.tor_bencode.proofs.Names.{sym, ap, ◌∙◌, append_assoc, arith, inl, true≢false, nat_tests, Data, Items}
+use Rattle.tor_bencode.proofs.Names.{no_items, item, Begins, IsFaultIn, at_value, IsLawfulWithin, ItemsAreLawfulWithin}
+use Rattle.tor_bencode.proofs.Names.{◌>>=◌, Reading, items_at, spelling, items_spelling, Fault, Truncated}
 use Rattle.tor_bencode.proofs.Lawfulness.{lawful-item, lawful-no_items}
 use Rattle.tor_bencode.proofs.Runs.{by_test}
 use Rattle.tor_bencode.proofs.Spelled.{shorter-spelling}

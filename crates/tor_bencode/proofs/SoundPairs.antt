@@ -1,19 +1,11 @@
 -- What is read is spelled so: pairs one after another. Where reading stops there is a fault.
-use Rattle.std.proofs.Common.{◌≡◌, ℕ, zero, suc, ◌≤◌, List, [], ◌∷◌, ◌++◌, length, true, false, cond, ◌==◌, Option}
-use Rattle.std.proofs.Common.{Some, None, Ok, Err, Ordering, Less, Equal, Greater, refl, sym, ap, ◌∙◌, arith, inl, inr}
-use Rattle.std.proofs.Common.{◌⊎◌}
-use Rattle.std.specs.Char.{is_ascii_digit}
-use Rattle.std.specs.Ordering.{is_lt}
-use Rattle.std.proofs.lemmas.Bool.{false≢true, true≢false}
-use Rattle.std.proofs.lemmas.Bool.Decides.{nat_tests}
-use Rattle.tor_bencode.specs.Data.{Data, Pairs, no_pairs, pair, keys_of}
-use Rattle.tor_bencode.specs.Fault.{IsBadKey, IsOutOfOrder, IsFaultIn}
-use Rattle.tor_bencode.specs.Lawful.{IsLawfulWithin, PairsAreLawfulWithin}
-use Rattle.tor_bencode.specs.steps.Reading.{◌>>=◌, Reading, follows, string_at, pairs_at}
-use Rattle.tor_bencode.specs.Spelling.{spelling, string_spelling, pairs_spelling}
-use Rattle.tor_bencode.specs.declared.fault.Fault.{Fault}
-use Rattle.tor_bencode.specs.declared.fault.Fault.TheVariants.{Truncated, BadByte, BadInteger, IntegerRange, BadLength}
-use Rattle.tor_bencode.specs.declared.fault.Fault.TheVariants.{KeyNotBytes, KeyOrder, TooDeep, Trailing}
+use Rattle.tor_bencode.proofs.Names.{◌≡◌, ℕ, zero, suc, ◌≤◌, List, [], ◌∷◌, ◌++◌, length, true, false, cond, ◌==◌}
+use Rattle.tor_bencode.proofs.Names.{Option, Some, None, Ok, Err, Ordering, Less, Equal, Greater, refl, sym, ap, ◌∙◌}
+use Rattle.tor_bencode.proofs.Names.{arith, inl, inr, ◌⊎◌, is_ascii_digit, is_lt, false≢true, true≢false, nat_tests}
+use Rattle.tor_bencode.proofs.Names.{Data, Pairs, no_pairs, pair, keys_of, IsBadKey, IsOutOfOrder, IsFaultIn}
+use Rattle.tor_bencode.proofs.Names.{IsLawfulWithin, PairsAreLawfulWithin, ◌>>=◌, Reading, follows, string_at, pairs_at}
+use Rattle.tor_bencode.proofs.Names.{spelling, string_spelling, pairs_spelling, Fault, Truncated, BadLength}
+use Rattle.tor_bencode.proofs.Names.{KeyNotBytes, KeyOrder}
 use Rattle.tor_bencode.proofs.Lawfulness.{lawful-pair, lawful-no_pairs}
 use Rattle.tor_bencode.proofs.ReadBack.{AreRisingAfter, last_after}
 use Rattle.tor_bencode.proofs.Runs.{by_test}
@@ -57,13 +49,7 @@ bad_key : (last : Option (List ℕ)) (bytes : List ℕ) (fault : Fault) (from : 
     → IsBadKey last bytes fault from
 bad_key last bytes Truncated from h = (inr h.0, h.1)
 bad_key last bytes BadLength from h = h
-bad_key last bytes BadByte from h = h
-bad_key last bytes BadInteger from h = h
-bad_key last bytes IntegerRange from h = h
-bad_key last bytes KeyNotBytes from h = absurd h
-bad_key last bytes KeyOrder from h = absurd h
-bad_key last bytes TooDeep from h = h
-bad_key last bytes Trailing from h = h
+bad_key last bytes fault from h = absurd h
 
 stop_at_key : (room : ℕ) (last : Option (List ℕ)) (bytes : List ℕ) (fault : Fault) (from : List ℕ)
     → IsBadKey last bytes fault from → PairsStop room last bytes fault from

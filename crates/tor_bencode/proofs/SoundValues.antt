@@ -1,14 +1,10 @@
 -- What is read as a value is spelled so, or has a fault.
-use Rattle.std.proofs.Common.{◌≡◌, ℕ, suc, ◌-◌, List, [], ◌∷◌, Some, None, Ok, Err, refl, sym, ap, ◌∙◌, subst}
-use Rattle.std.proofs.Common.{append_assoc, arith, inl, inr}
-use Rattle.tor_bencode.specs.Data.{Data, integer, string, list, dictionary, Items, Pairs, no_pairs, pair}
-use Rattle.tor_bencode.specs.Fault.{IsBadValue, IsBadKey, at_value, in_list, at_key, in_pair, last_key}
-use Rattle.tor_bencode.specs.Lawful.{ItemsAreLawfulWithin, PairsAreLawfulWithin}
-use Rattle.tor_bencode.specs.steps.Reading.{◌>>=◌, Reading}
-use Rattle.tor_bencode.specs.Spelling.{string_spelling, items_spelling, pairs_spelling}
-use Rattle.tor_bencode.specs.declared.fault.Fault.{Fault}
-use Rattle.tor_bencode.specs.declared.fault.Fault.TheVariants.{Truncated, BadByte, BadInteger, IntegerRange, BadLength}
-use Rattle.tor_bencode.specs.declared.fault.Fault.TheVariants.{KeyNotBytes, KeyOrder, TooDeep, Trailing}
+use Rattle.tor_bencode.proofs.Names.{◌≡◌, ℕ, suc, ◌-◌, List, [], ◌∷◌, Some, None, Ok, Err, refl, sym, ap, ◌∙◌, subst}
+use Rattle.tor_bencode.proofs.Names.{append_assoc, arith, inl, inr, Data, integer, string, list, dictionary, Items}
+use Rattle.tor_bencode.proofs.Names.{Pairs, no_pairs, pair, IsBadValue, IsBadKey, at_value, in_list, at_key, in_pair}
+use Rattle.tor_bencode.proofs.Names.{last_key, ItemsAreLawfulWithin, PairsAreLawfulWithin, ◌>>=◌, Reading}
+use Rattle.tor_bencode.proofs.Names.{string_spelling, items_spelling, pairs_spelling, Fault, Truncated, BadInteger}
+use Rattle.tor_bencode.proofs.Names.{IntegerRange, BadLength}
 use Rattle.tor_bencode.proofs.IntegersRead.{IsBadInt, IntegerIs}
 use Rattle.tor_bencode.proofs.Lawfulness.{lawful-integer, lawful-string, lawful-list, lawful-dictionary}
 use Rattle.tor_bencode.proofs.ReadBack.{last_after}
@@ -29,24 +25,13 @@ bad_integer : (room : ℕ) (bytes : List ℕ) (fault : Fault) (from : List ℕ) 
 bad_integer room bytes Truncated from h = (inr (inl h.0), h.1)
 bad_integer room bytes BadInteger from h = h
 bad_integer room bytes IntegerRange from h = h
-bad_integer room bytes BadByte from h = absurd h
-bad_integer room bytes BadLength from h = absurd h
-bad_integer room bytes KeyNotBytes from h = h
-bad_integer room bytes KeyOrder from h = h
-bad_integer room bytes TooDeep from h = absurd h
-bad_integer room bytes Trailing from h = h
+bad_integer room bytes fault from h = absurd h
 
 bad_string : (room : ℕ) (bytes : List ℕ) (fault : Fault) (from : List ℕ) → IsBadString bytes fault from
     → IsBadValue room bytes fault from
 bad_string room bytes Truncated from h = (inr (inr h.0), h.1)
 bad_string room bytes BadLength from h = h
-bad_string room bytes BadByte from h = absurd h
-bad_string room bytes BadInteger from h = absurd h
-bad_string room bytes IntegerRange from h = absurd h
-bad_string room bytes KeyNotBytes from h = h
-bad_string room bytes KeyOrder from h = h
-bad_string room bytes TooDeep from h = absurd h
-bad_string room bytes Trailing from h = h
+bad_string room bytes fault from h = absurd h
 
 pub integer_is : (room : ℕ) (bytes : List ℕ) (r : Reading _) → IntegerIs bytes r
     → ValueIs room bytes (r >>= λ n. Ok (integer n.0, n.1))

@@ -1,14 +1,9 @@
 -- At the span of a key its value is spelled.
-use Rattle.std.proofs.Common.{◌≡◌, ℕ, ◌+◌, ◌-◌, List, ◌++◌, length, take, true, false, ◌↔◌, Option, Some, None, inl}
-use Rattle.std.proofs.Common.{inr, refl, sym, ap, ◌∙◌, subst, arith, append_assoc}
-use Rattle.std.proofs.lemmas.Bool.{cases_Bool}
-use Rattle.std.proofs.lemmas.List.{length-append, drop_at, take_at}
-use Rattle.std.specs.Prelude.{codes}
-use Rattle.std.specs.Str.{bytes_eq}
-use Rattle.tor_bencode.specs.Data.{Data, integer, string, list, dictionary, Pairs, no_pairs, pair}
-use Rattle.tor_bencode.specs.Find.{value_in, value_of}
-use Rattle.tor_bencode.specs.Span.{span_in, span_of, IsSpelledAt}
-use Rattle.tor_bencode.specs.Spelling.{spelling, string_spelling, pairs_spelling}
+use Rattle.tor_bencode.proofs.Names.{◌≡◌, ℕ, ◌+◌, ◌-◌, List, ◌++◌, length, take, true, false, ◌↔◌, Option, Some, None}
+use Rattle.tor_bencode.proofs.Names.{inl, inr, refl, sym, ap, ◌∙◌, subst, arith, append_assoc, cases_Bool}
+use Rattle.tor_bencode.proofs.Names.{length-append, drop_at, take_at, codes, bytes_eq, Data, dictionary, Pairs}
+use Rattle.tor_bencode.proofs.Names.{no_pairs, pair, value_in, value_of, span_in, span_of, IsSpelledAt, spelling}
+use Rattle.tor_bencode.proofs.Names.{string_spelling, pairs_spelling}
 
 -- what stands between a front and a back
 between : (front back : List ℕ) (value : Data) (start end : ℕ) → start ≡ length front
@@ -84,16 +79,11 @@ found_in key (pair k value pairs) back front at start end is e = elim (cases_Boo
 -- at the span of a key its value is spelled
 pub found_at : (key : List ℕ) (d : Data) (start end : ℕ) → span_of key d ≡ Some (start, end)
     → Found key (value_of key d) (spelling d) start end
-found_at key (integer n) start end e = absurd (nowhere (start, end) e)
-found_at key (string text) start end e = absurd (nowhere (start, end) e)
-found_at key (list items) start end e = absurd (nowhere (start, end) e)
 found_at key (dictionary pairs) start end e = found_in key pairs (codes "e") (codes "d") 1 start end refl e
+found_at key d start end e = absurd (nowhere (start, end) e)
 
-some_span : (x : ℕ × ℕ) → Some x ≡ None → ⊥
-some_span x e = cc
-
-some_value : (d : Data) → Some d ≡ None → ⊥
-some_value d e = cc
+some_is_not : {A : Type 0} (x : A) → Some x ≡ None → ⊥
+some_is_not x e = cc
 
 none_in : (key : List ℕ) (pairs : Pairs) (at : ℕ) → (span_in at key pairs ≡ None) ↔ (value_in key pairs ≡ None)
 none_in key no_pairs at = (λ _. refl, λ _. refl)
@@ -102,15 +92,13 @@ none_in key (pair k value pairs) at =
     let others = none_in key pairs end in
     elim (cases_Bool (bytes_eq k key)) [
       | inl t ↦ (
-        λ e. absurd (some_span (at + length (string_spelling k), end) (rw t at e)),
-        λ e. absurd (some_value value (rw t at e)),
+        λ e. absurd (some_is_not (at + length (string_spelling k), end) (rw t at e)),
+        λ e. absurd (some_is_not value (rw t at e)),
       )
       | inr t ↦ (λ e. rw t (others.0 (rw t at e)), λ e. rw t (others.1 (rw t at e)))
     ]
 
 -- a key has a span where it has a value
 pub none_found : (key : List ℕ) (d : Data) → (span_of key d ≡ None) ↔ (value_of key d ≡ None)
-none_found key (integer n) = (λ _. refl, λ _. refl)
-none_found key (string text) = (λ _. refl, λ _. refl)
-none_found key (list items) = (λ _. refl, λ _. refl)
 none_found key (dictionary pairs) = none_in key pairs 1
+none_found key d = (λ _. refl, λ _. refl)

@@ -1,19 +1,18 @@
 -- How spellings begin, and how they are put together.
-use Rattle.std.proofs.Common.{◌≡◌, ◌≢◌, ℕ, ◌<◌, List, [], ◌∷◌, ◌++◌, length, get_or, true, sym, ap, subst, append_assoc}
-use Rattle.std.proofs.Common.{arith}
-use Rattle.std.specs.Char.{is_ascii_digit}
-use Rattle.std.specs.List.{list_all}
-use Rattle.std.proofs.lemmas.Bool.{and_parts, false≢true}
-use Rattle.std.proofs.lemmas.List.{length-append}
-use Rattle.tor_bencode.specs.Data.{Data, integer, string, list, dictionary}
-use Rattle.tor_bencode.specs.steps.Reading.{is_shortest}
-use Rattle.tor_bencode.specs.Spelling.{base_ten, spelling, string_spelling}
-use Rattle.tor_bencode.proofs.Numerals.{digit_range, all_digits-base_ten, is_shortest-base_ten}
+use Rattle.tor_bencode.proofs.Names.{◌≤◌, ◌≡◌, ◌≢◌, ℕ, ◌<◌, List, [], ◌∷◌, ◌++◌, length, get_or, true, sym, ap, subst}
+use Rattle.tor_bencode.proofs.Names.{append_assoc, arith, is_ascii_digit, list_all, and_parts, false≢true}
+use Rattle.tor_bencode.proofs.Names.{length-append, Data, integer, string, list, dictionary, is_shortest, base_ten}
+use Rattle.tor_bencode.proofs.Names.{spelling, string_spelling}
+use Rattle.tor_bencode.proofs.Numerals.{digit_from_range, digit_range, all_digits-base_ten, is_shortest-base_ten}
 
 -- the bytes begin with a digit
 pub record StartsWithDigit (bytes : List ℕ) : Type 0 where
   pub some : 0 < length bytes
   pub digit : is_ascii_digit (get_or bytes 0 0) ≡ true
+
+pub starts_within : (bytes : List ℕ) → 0 < length bytes → 48 ≤ get_or bytes 0 0 → get_or bytes 0 0 ≤ 57
+    → StartsWithDigit bytes
+starts_within bytes some low high = record { some = some; digit = digit_from_range (get_or bytes 0 0) low high }
 
 first_digit : (run rest : List ℕ) → list_all is_ascii_digit run ≡ true → is_shortest run ≡ true
     → StartsWithDigit (run ++ rest)

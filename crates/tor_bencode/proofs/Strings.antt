@@ -1,21 +1,13 @@
 -- A byte string that is read is the one that is spelled, and what is refused has a fault.
-use Rattle.std.proofs.Common.{◌≡◌, ◌≢◌, ℕ, ◌<◌, List, [], ◌∷◌, ◌++◌, length, take, drop, true, false, cond, ◌==◌, ◌&&◌}
-use Rattle.std.proofs.Common.{Ok, Err, refl, sym, ap, ap₂, ◌∙◌, subst, append_assoc, arith, inl, inr, ◌⊎◌}
-use Rattle.std.specs.Prelude.{nat_le}
-use Rattle.std.specs.Char.{is_ascii_digit}
-use Rattle.std.specs.List.{list_all, prefix_len}
-use Rattle.std.proofs.lemmas.Bool.{and_parts, true≢false, cases_Bool, le-leb, false_from_ne_true}
-use Rattle.std.proofs.lemmas.Bool.Decides.{nat_tests}
-use Rattle.std.proofs.lemmas.List.{take_at, drop_at, drop_all, take-append-drop, append-nil, length-append, length-take}
-use Rattle.tor_bencode.specs.declared.fault.Fault.{Fault}
-use Rattle.tor_bencode.specs.declared.fault.Fault.TheVariants.{Truncated, BadByte, BadInteger, IntegerRange, BadLength}
-use Rattle.tor_bencode.specs.declared.fault.Fault.TheVariants.{KeyNotBytes, KeyOrder, TooDeep, Trailing}
-use Rattle.tor_bencode.specs.Fault.{Runs, BeginsWithDigit, IsCutString, HasBadLength}
-use Rattle.tor_bencode.specs.steps.Reading.{Reading, number, is_shortest, string_after, string_at}
-use Rattle.tor_bencode.specs.Spelling.{base_ten, string_spelling}
+use Rattle.tor_bencode.proofs.Names.{◌≡◌, ◌≢◌, ℕ, ◌<◌, List, [], ◌∷◌, ◌++◌, length, take, drop, true, false, cond, ◌==◌}
+use Rattle.tor_bencode.proofs.Names.{◌&&◌, Ok, Err, refl, sym, ap, ap₂, ◌∙◌, subst, append_assoc, arith, inl, inr, ◌⊎◌}
+use Rattle.tor_bencode.proofs.Names.{nat_le, is_ascii_digit, list_all, prefix_len, and_parts, true≢false, cases_Bool}
+use Rattle.tor_bencode.proofs.Names.{le-leb, false_from_ne_true, nat_tests, take_at, drop_at, drop_all}
+use Rattle.tor_bencode.proofs.Names.{take-append-drop, append-nil, length-append, length-take, Fault, Truncated}
+use Rattle.tor_bencode.proofs.Names.{BadLength, Runs, BeginsWithDigit, IsCutString, HasBadLength, Reading, number}
+use Rattle.tor_bencode.proofs.Names.{is_shortest, string_after, string_at, base_ten, string_spelling}
 use Rattle.tor_bencode.proofs.Numerals.{base_ten-number, number-base_ten, all_digits-base_ten, is_shortest-base_ten}
-use Rattle.tor_bencode.proofs.Runs.{by_test, prefix_len-run, prefix_len-all, run_passes, run_stops}
-use Rattle.tor_bencode.proofs.Runs.{run_whole}
+use Rattle.tor_bencode.proofs.Runs.{by_test, prefix_len-run, prefix_len-all, run_passes, run_stops, run_whole}
 
 string_at-run : (run : List ℕ) (c : ℕ) (more : List ℕ) → list_all is_ascii_digit run ≡ true → is_ascii_digit c ≡ false
     → string_at (run ++ c ∷ more) ≡ string_after (run ++ c ∷ more) run (c ∷ more)
@@ -74,13 +66,7 @@ string_at-bad bytes run next more r why =
 abbrev pub IsBadString : List ℕ → Fault → List ℕ → Type 0
 IsBadString bytes Truncated from = IsCutString bytes × (from ≡ [])
 IsBadString bytes BadLength from = HasBadLength bytes × (from ≡ bytes)
-IsBadString bytes BadByte from = ⊥
-IsBadString bytes BadInteger from = ⊥
-IsBadString bytes IntegerRange from = ⊥
-IsBadString bytes KeyNotBytes from = ⊥
-IsBadString bytes KeyOrder from = ⊥
-IsBadString bytes TooDeep from = ⊥
-IsBadString bytes Trailing from = ⊥
+IsBadString bytes fault from = ⊥
 
 abbrev pub StringIs : List ℕ → Reading (List ℕ) → Type 0
 StringIs bytes (Ok x) = bytes ≡ string_spelling x.0 ++ x.1

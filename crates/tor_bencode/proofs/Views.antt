@@ -1,8 +1,6 @@
 -- An item, level by level.
-use Rattle.std.proofs.Common.{◌≡◌, ℕ, ℤ, Vec, Global, rules}
-use Rattle.tor_bencode.specs.Data.{integer, list, dictionary}
-use Rattle.tor_bencode.specs.View.{view, items_view, pairs_view}
-use Rattle.tor_bencode.specs.declared.item.Item.{Item, Int, List as ListItem, Dict, the_lemmas}
+use Rattle.tor_bencode.proofs.Names.{◌≡◌, ℕ, ℤ, Vec, Global, rules, integer, list, dictionary, view, items_view}
+use Rattle.tor_bencode.proofs.Names.{pairs_view, Item, Int, ListItem, Dict, the_lemmas}
 
 pub view-Int : (n : ℤ) → view (Int n) ≡ integer n
 view-Int n = search (rules, the_lemmas)

@@ -1,21 +1,12 @@
 -- All of the bytes: what is read of them is the tree that they spell, or else they have a fault.
-use Rattle.std.proofs.Common.{◌≡◌, ◌≢◌, ℕ, zero, suc, ◌≤◌, List, [], ◌∷◌, ◌++◌, length, true, false, ◌==◌, Option, Some}
-use Rattle.std.proofs.Common.{None, Result, Ok, Err, refl, sym, ap, ◌∙◌, subst, arith, inl, inr, ◌⊎◌}
-use Rattle.std.specs.Prelude.{codes}
-use Rattle.std.specs.Char.{is_ascii_digit}
-use Rattle.std.proofs.lemmas.Bool.{true≢false}
-use Rattle.std.proofs.lemmas.Bool.Decides.{nat_tests}
-use Rattle.std.proofs.lemmas.List.{append-nil, length-append}
-use Rattle.tor_bencode.specs.Data.{Data, integer, list, dictionary}
-use Rattle.tor_bencode.specs.Fault.{IsBadValue, IsBadKey, IsFaultIn, at_value, in_list, at_key, in_pair, IsTrailing}
-use Rattle.tor_bencode.specs.Fault.{last_key}
-use Rattle.tor_bencode.specs.Lawful.{IsLawfulWithin}
-use Rattle.tor_bencode.specs.steps.Reading.{◌>>=◌, Reading, string_at, integer_at, items_at, pairs_at, opened}
-use Rattle.tor_bencode.specs.steps.Reading.{value_with, nested_at, value_at, whole, last_of}
-use Rattle.tor_bencode.specs.Spelling.{spelling, string_spelling, items_spelling, pairs_spelling}
-use Rattle.tor_bencode.specs.declared.fault.Fault.{Fault}
-use Rattle.tor_bencode.specs.declared.fault.Fault.TheVariants.{Truncated, BadByte, BadInteger, IntegerRange, BadLength}
-use Rattle.tor_bencode.specs.declared.fault.Fault.TheVariants.{KeyNotBytes, KeyOrder, TooDeep, Trailing}
+use Rattle.tor_bencode.proofs.Names.{◌≡◌, ◌≢◌, ℕ, zero, suc, ◌≤◌, List, [], ◌∷◌, ◌++◌, length, true, false, ◌==◌}
+use Rattle.tor_bencode.proofs.Names.{Option, Some, None, Result, Ok, Err, refl, sym, ap, ◌∙◌, subst, arith, inl, inr}
+use Rattle.tor_bencode.proofs.Names.{◌⊎◌, codes, is_ascii_digit, true≢false, nat_tests, append-nil, length-append, Data}
+use Rattle.tor_bencode.proofs.Names.{integer, list, dictionary, IsBadValue, IsBadKey, IsFaultIn, at_value, in_list}
+use Rattle.tor_bencode.proofs.Names.{at_key, in_pair, IsTrailing, last_key, IsLawfulWithin, ◌>>=◌, Reading, string_at}
+use Rattle.tor_bencode.proofs.Names.{integer_at, items_at, pairs_at, opened, value_with, nested_at, value_at, whole}
+use Rattle.tor_bencode.proofs.Names.{last_of, spelling, string_spelling, items_spelling, pairs_spelling, Fault}
+use Rattle.tor_bencode.proofs.Names.{Truncated, BadLength, KeyNotBytes, KeyOrder, TooDeep, Trailing}
 use Rattle.tor_bencode.proofs.IntegersRead.{integer_sound}
 use Rattle.tor_bencode.proofs.Runs.{by_test}
 use Rattle.tor_bencode.proofs.Sound.{ValueIs, items_sound}
@@ -26,28 +17,25 @@ use Rattle.tor_bencode.proofs.Strings.{string_sound}
 -- what is read inside is sound too
 abbrev NestedIs : ℕ → Option (List ℕ → Reading Data) → Type 0
 NestedIs zero None = Unit {0}
-NestedIs zero (Some read) = ⊥
-NestedIs (suc room) None = ⊥
 NestedIs (suc room) (Some read) = (bytes : List ℕ) → ValueIs room bytes (read bytes)
+NestedIs room nested = ⊥
 
 list_opened : (room : ℕ) (nested : Option (List ℕ → Reading Data)) → NestedIs room nested → (rest : List ℕ)
     → ValueIs room (108 ∷ rest)
     (opened nested (108 ∷ rest) (λ read. items_at read (length rest) rest) >>= λ items. Ok (list items.0, items.1))
 list_opened zero None sound rest = at_value (refl, inl (rest, refl), refl)
-list_opened zero (Some read) sound rest = absurd sound
-list_opened (suc room) None sound rest = absurd sound
 list_opened (suc room) (Some read) sound rest =
     list_is room rest (items_at read (length rest) rest) (items_sound room read sound (length rest) rest (omega arith))
+list_opened room nested sound rest = absurd sound
 
 dictionary_opened : (room : ℕ) (nested : Option (List ℕ → Reading Data)) → NestedIs room nested → (rest : List ℕ)
     → ValueIs room (100 ∷ rest) (opened nested (100 ∷ rest) (λ read. pairs_at read (length rest) None rest)
     >>= λ pairs. Ok (dictionary pairs.0, pairs.1))
 dictionary_opened zero None sound rest = at_value (refl, inr (rest, refl), refl)
-dictionary_opened zero (Some read) sound rest = absurd sound
-dictionary_opened (suc room) None sound rest = absurd sound
 dictionary_opened (suc room) (Some read) sound rest =
     dictionary_is room rest (pairs_at read (length rest) None rest)
     (pairs_sound room read sound (length rest) None rest (omega arith))
+dictionary_opened room nested sound rest = absurd sound
 
 apart : (c n : ℕ) → (c == n) ≡ false → c ≢ n
 apart c n h e = true≢false (let t : (c == n) ≡ true = grind (arith, nat_tests) in sym t ∙ h)
@@ -106,15 +94,11 @@ whole_sound bytes = whole_is bytes (value_at 100 bytes) (value_sound 100 bytes)
 
 bad_value_within : (room : ℕ) (bytes : List ℕ) (fault : Fault) (from : List ℕ) → IsBadValue room bytes fault from
     → length from ≤ length bytes
-bad_value_within room bytes Truncated from h = omega (arith, ap length h.1)
-bad_value_within room bytes BadByte from h = omega (arith, ap length h.1)
-bad_value_within room bytes BadInteger from h = omega (arith, ap length h.1)
-bad_value_within room bytes IntegerRange from h = omega (arith, ap length h.1)
-bad_value_within room bytes BadLength from h = omega (arith, ap length h.1)
 bad_value_within room bytes TooDeep from h = omega (arith, ap length h.2)
 bad_value_within room bytes KeyNotBytes from h = absurd h
 bad_value_within room bytes KeyOrder from h = absurd h
 bad_value_within room bytes Trailing from h = absurd h
+bad_value_within room bytes fault from h = omega (arith, ap length h.1)
 
 bad_key_within : (last : Option (List ℕ)) (bytes : List ℕ) (fault : Fault) (from : List ℕ)
     → IsBadKey last bytes fault from → length from ≤ length bytes
@@ -122,11 +106,7 @@ bad_key_within last bytes Truncated from h = omega (arith, ap length h.1)
 bad_key_within last bytes BadLength from h = omega (arith, ap length h.1)
 bad_key_within last bytes KeyNotBytes from h = omega (arith, ap length h.5)
 bad_key_within last bytes KeyOrder from h = omega (arith, ap length h.4)
-bad_key_within last bytes BadByte from h = absurd h
-bad_key_within last bytes BadInteger from h = absurd h
-bad_key_within last bytes IntegerRange from h = absurd h
-bad_key_within last bytes TooDeep from h = absurd h
-bad_key_within last bytes Trailing from h = absurd h
+bad_key_within last bytes fault from h = absurd h
 
 rest_within : (front rest bytes : List ℕ) → bytes ≡ front ++ rest → length rest ≤ length bytes
 rest_within front rest bytes is = omega (arith, ap length is, length-append front rest)
@@ -135,23 +115,14 @@ fault_within : (room : ℕ) (bytes : List ℕ) (fault : Fault) (from : List ℕ)
     → length from ≤ length bytes
 fault_within room bytes fault from (at_value h) = bad_value_within room bytes fault from h
 fault_within (suc room) bytes fault from (in_list items rest is lawful no_end inner) =
-    omega (
-      arith,
-      rest_within (codes "l" ++ items_spelling items) rest bytes is,
-      fault_within room rest fault from inner,
-    )
+    let e = rest_within (codes "l" ++ items_spelling items) rest bytes is in
+    omega (arith, e, fault_within room rest fault from inner)
 fault_within (suc room) bytes fault from (at_key pairs rest is rising lawful bad) =
-    omega (
-      arith,
-      rest_within (codes "d" ++ pairs_spelling pairs) rest bytes is,
-      bad_key_within (last_key pairs) rest fault from bad,
-    )
+    let e = rest_within (codes "d" ++ pairs_spelling pairs) rest bytes is in
+    omega (arith, e, bad_key_within (last_key pairs) rest fault from bad)
 fault_within (suc room) bytes fault from (in_pair pairs key rest is rising lawful inner) =
-    omega (
-      arith,
-      rest_within (codes "d" ++ pairs_spelling pairs ++ string_spelling key) rest bytes is,
-      fault_within room rest fault from inner,
-    )
+    let e = rest_within (codes "d" ++ pairs_spelling pairs ++ string_spelling key) rest bytes is in
+    omega (arith, e, fault_within room rest fault from inner)
 
 pub refused_within : (bytes : List ℕ) (fault : Fault) (from : List ℕ)
     → (IsFaultIn 100 bytes fault from ⊎ IsTrailing bytes fault from) → length from ≤ length bytes

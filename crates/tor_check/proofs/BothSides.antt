@@ -1,14 +1,9 @@
 -- The first fault of two sides is the one of the lesser number.
-use Rattle.std.proofs.Common.{◌≡◌, ◌⊎◌, ◌∙◌, ◌||◌, Result, Ok, Err, ⊎_elim, true≢false, Bool, true, false, Option, None}
-use Rattle.std.proofs.Common.{Some, cond}
-use Rattle.std.proofs.Common.{refl, ap, sym, inl, inr, nat_eq}
-use Rattle.std.specs.Prelude.{option_map, nat_le, IfErr, OnOk}
-use Rattle.tor_check.specs.Refusals.{refusal_for}
-use Rattle.tor_check.specs.steps.Judged.{IsFirst}
-use Rattle.tor_check.specs.steps.Sides.{earlier, earlier_refusal, earliest, number_of}
-use Rattle.tor_check.specs.declared.refusal.Refusal.{Refusal}
+use Rattle.tor_check.proofs.Names.{◌≡◌, ◌⊎◌, ◌∙◌, ◌||◌, Result, Ok, Err, ⊎_elim, true≢false, Bool, true, false, Option}
+use Rattle.tor_check.proofs.Names.{None, Some, cond, refl, ap, sym, inl, inr, nat_eq, option_map, nat_le, IfErr, OnOk}
+use Rattle.tor_check.proofs.Names.{refusal_for, IsFirst, earlier, earlier_refusal, earliest, number_of, Refusal}
+use Rattle.tor_check.proofs.Names.{Condition}
 use Rattle.tor_check.specs.declared.refusal.Refusal.TheVariants as refusals
-use Rattle.tor_spec.specs.valid.Conditions.{Condition}
 use Rattle.tor_spec.specs.valid.Conditions as conditions
 
 -- no condition is want of memory

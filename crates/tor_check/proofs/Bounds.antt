@@ -1,34 +1,16 @@
 -- Where no condition of the sides holds their lengths are small.
-use Rattle.std.proofs.Common.{◌≡◌, ℕ, inl, inr, ◌+◌, ◌*◌, ◌<◌, ◌≤◌, ◌^◌, true, false, true≢false, Bool, ◌||◌, List, []}
-use Rattle.std.proofs.Common.{◌∷◌}
-use Rattle.std.proofs.Common.{Option, None, Some, map, cond, sum_by, nat_lt, refl, ap, sym, ◌∙◌, arith, subst}
-use Rattle.std.specs.Prelude.{find}
-use Rattle.std.specs.Int.{div_ceil, next_multiple_of}
-use Rattle.std.specs.List.{All, AllByRecursion, list_any}
-use Rattle.std.proofs.lemmas.Bool.{cases_lt, ltb-false}
-use Rattle.std.proofs.Math.Nat.{mul-le-mul_left, mul-le-mul_right}
-use Rattle.std.proofs.lemmas.Grind.{div_ceil_times}
-use Rattle.std.proofs.lemmas.List.Elements.{All-from_recursion}
-use Rattle.std.proofs.lemmas.List.Sums.{sum_by-le-sum_by, sum_by-cons}
-use Rattle.tor_bencode.specs.Data.{Data}
-use Rattle.tor_check.specs.steps.Listed.{all_listed, first_of_list, list_holds, side_conditions, size_of_listed}
-use Rattle.tor_check.specs.steps.Sides.{earliest, files_if, first_of_both, first_of_tree, list_if, listed_if, tree_holds}
-use Rattle.tor_check.specs.steps.Sides.{tree_if}
-use Rattle.tor_check.specs.declared.listed.Listed.{Listed}
+use Rattle.tor_check.proofs.Names.{◌≡◌, ℕ, inl, inr, ◌+◌, ◌*◌, ◌<◌, ◌≤◌, ◌^◌, true, false, true≢false, Bool, ◌||◌, List}
+use Rattle.tor_check.proofs.Names.{[], ◌∷◌, Option, None, Some, map, cond, sum_by, nat_lt, refl, ap, sym, ◌∙◌, arith}
+use Rattle.tor_check.proofs.Names.{subst, find, div_ceil, next_multiple_of, All, AllByRecursion, list_any, cases_lt}
+use Rattle.tor_check.proofs.Names.{ltb-false, mul-le-mul_left, mul-le-mul_right, div_ceil_times, All-from_recursion}
+use Rattle.tor_check.proofs.Names.{sum_by-le-sum_by, sum_by-cons, Data, all_listed, first_of_list, list_holds}
+use Rattle.tor_check.proofs.Names.{side_conditions, size_of_listed, earliest, files_if, first_of_both, first_of_tree}
+use Rattle.tor_check.proofs.Names.{list_if, listed_if, tree_holds, tree_if, Listed, Condition, pieces_in, side_files}
+use Rattle.tor_check.proofs.Names.{joined_size, without_padding, ListedFile, kind_of, tree_files, tree_of}
+use Rattle.tor_check.proofs.Names.{lengths_too_large, entries_of, file_of, has_v1, has_v2, length_of, MAX_LENGTH}
+use Rattle.tor_check.proofs.Names.{MAX_TOTAL, ROUNDING, TreeFile}
 use Rattle.tor_check.proofs.ListSteps.{any_mapped}
 use Rattle.tor_check.proofs.SideLemmas.{tells_long, tells_size}
-use Rattle.tor_spec.specs.valid.Conditions.{Condition}
-use Rattle.tor_spec.specs.valid.Layers.{pieces_in}
-use Rattle.tor_spec.specs.valid.ListSide.{side_files, joined_size, without_padding, ListedFile}
-use Rattle.tor_spec.specs.valid.Parts.{kind_of}
-use Rattle.tor_spec.specs.valid.TreeSide.{tree_files, tree_of}
-use Rattle.tor_tree.specs.FileList.{lengths_too_large}
-use Rattle.tor_tree.specs.FileTree.{entries_of, file_of}
-use Rattle.tor_tree.specs.Kinds.{has_v1, has_v2}
-use Rattle.tor_tree.specs.Properties.{length_of}
-use Rattle.tor_merkle.specs.declared.TheConstants.{MAX_LENGTH}
-use Rattle.tor_tree.specs.declared.lists.TheConstants.{MAX_TOTAL, ROUNDING}
-use Rattle.tor_tree.specs.declared.tree_file.TreeFile.{TreeFile}
 
 -- what is not found holds of none
 found_in_front : {C : Type 0} (p : C → Bool) (c : C) (cs : List C)

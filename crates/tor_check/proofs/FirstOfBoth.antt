@@ -1,17 +1,9 @@
 -- The first condition of both sides is the earliest of theirs.
-use Rattle.std.proofs.Common.{◌≡◌, ℕ, ◌+◌, ◌≤◌, true, false, Bool, ◌&&◌, ◌||◌, List, [], ◌∷◌}
-use Rattle.std.proofs.Common.{Option, None, Some, cond, refl, ap₂, ◌∙◌, arith, subst}
-use Rattle.std.specs.Prelude.{find, if◌then◌else◌}
-use Rattle.std.specs.List.{AllByRecursion}
-use Rattle.std.proofs.lemmas.Bool.{le-leb, lt-leb}
-use Rattle.tor_bencode.specs.Data.{Data}
-use Rattle.tor_check.specs.Refusals.{refusal_for}
-use Rattle.tor_check.specs.steps.Listed.{list_holds, side_conditions}
-use Rattle.tor_check.specs.steps.Sides.{earliest, first_of_both, first_of_sides, number_of}
-use Rattle.tor_check.specs.steps.Sides.{tree_holds}
-use Rattle.tor_spec.specs.valid.Conditions.{Condition, holds}
-use Rattle.tor_spec.specs.valid.Parts.{info_of, kind_of}
-use Rattle.tor_tree.specs.Kinds.{has_v1, has_v2}
+use Rattle.tor_check.proofs.Names.{◌≡◌, ℕ, ◌+◌, ◌≤◌, true, false, Bool, ◌&&◌, ◌||◌, List, [], ◌∷◌, Option, None, Some}
+use Rattle.tor_check.proofs.Names.{cond, refl, ap₂, ◌∙◌, arith, subst, find, if◌then◌else◌, AllByRecursion, le-leb}
+use Rattle.tor_check.proofs.Names.{lt-leb, Data, refusal_for, list_holds, side_conditions, earliest, first_of_both}
+use Rattle.tor_check.proofs.Names.{first_of_sides, number_of, tree_holds, Condition, holds, info_of, kind_of, has_v1}
+use Rattle.tor_check.proofs.Names.{has_v2}
 
 -- the numbers rise
 abbrev AreNumbered : ℕ → List Condition → Type 0

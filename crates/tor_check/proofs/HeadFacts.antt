@@ -1,20 +1,10 @@
 -- What a head without fault tells of the piece length.
-use Rattle.std.proofs.Common.{◌≡◌, ℕ, ℤ, pos, negsuc, ◌≤◌, true, false, true≢false, Bool, not, ◌&&◌, Option, None, Some}
-use Rattle.std.proofs.Common.{codes, refl, sym, unwrap_or, unsigned_abs}
-use Rattle.std.specs.Prelude.{nat_le}
+use Rattle.tor_check.proofs.Names.{◌≡◌, ℕ, ℤ, pos, negsuc, ◌≤◌, true, false, true≢false, Bool, not, ◌&&◌, Option, None}
+use Rattle.tor_check.proofs.Names.{Some, codes, refl, sym, unwrap_or, unsigned_abs, nat_le, Data, value_of, first_in}
+use Rattle.tor_check.proofs.Names.{head_conditions, IsPieceLength, is_piece_length, holds, is_no_piece_length, info_of}
+use Rattle.tor_check.proofs.Names.{kind_of, piece_length_of, has_v2, as_integer, Kind, max_piece_length}
 use Rattle.std.proofs.lemmas.Bool.{leb-true}
-use Rattle.tor_bencode.specs.Data.{Data}
-use Rattle.tor_bencode.specs.Find.{value_of}
 use Rattle.tor_check.proofs.Bounds.{found_none, first_or}
-use Rattle.tor_check.specs.steps.Judged.{first_in, head_conditions}
-use Rattle.tor_merkle.specs.Layer.{IsPieceLength, is_piece_length}
-use Rattle.tor_spec.specs.valid.Conditions.{holds}
-use Rattle.tor_spec.specs.valid.Heads.{is_no_piece_length}
-use Rattle.tor_spec.specs.valid.Parts.{info_of, kind_of, piece_length_of}
-use Rattle.tor_tree.specs.Kinds.{has_v2}
-use Rattle.tor_tree.specs.Properties.{as_integer}
-use Rattle.tor_tree.specs.declared.kinds.Kind.{Kind}
-use Rattle.tor_v1.specs.Piece.{max_piece_length}
 
 -- a piece length that a torrent of the kind can have
 pub record IsAllowed (kind : Kind) (n : ℕ) : Type 0 where

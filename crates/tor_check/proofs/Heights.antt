@@ -1,12 +1,6 @@
 -- A tree over the pieces of a file has its root at level 36 at most.
-use Rattle.std.proofs.Common.{◌≡◌, ℕ, ◌+◌, ◌<◌, ◌≤◌}
-use Rattle.std.proofs.lemmas.Bool.{cond-true, lt-ltb}
-use Rattle.std.specs.Int.{div_ceil}
-use Rattle.tor_merkle.proofs.ProvedLaws.{proofs_are_low}
-use Rattle.tor_merkle.specs.Layer.{IsPieceLength, piece_level}
-use Rattle.tor_merkle.specs.Proof.{proof_count, proof_level}
-use Rattle.tor_merkle.specs.Subtree.{height}
-use Rattle.tor_merkle.specs.declared.TheConstants.{MAX_LENGTH}
+use Rattle.tor_check.proofs.Names.{◌≡◌, ℕ, ◌+◌, ◌<◌, ◌≤◌, cond-true, lt-ltb, div_ceil, proofs_are_low, IsPieceLength}
+use Rattle.tor_check.proofs.Names.{piece_level, proof_count, proof_level, height, MAX_LENGTH}
 
 -- a file of n bytes, longer than a piece
 pub low_root : (p n count level : ℕ) → IsPieceLength p → n ≤ MAX_LENGTH → p < n → count ≡ div_ceil n p

@@ -1,24 +1,12 @@
 -- What the code tells of a hybrid is what the conditions ask.
-use Rattle.std.proofs.Common.{◌≡◌, ℕ, true, false, true≢false, Bool, map, not, ◌||◌, List, [], None, Some, ap, refl}
-use Rattle.std.proofs.Common.{sym}
-use Rattle.std.specs.Prelude.{option_map, if◌then◌else◌}
-use Rattle.tor_bencode.specs.Data.{Data}
+use Rattle.tor_check.proofs.Names.{◌≡◌, ℕ, true, false, true≢false, Bool, map, not, ◌||◌, List, [], None, Some, ap}
+use Rattle.tor_check.proofs.Names.{refl, sym, option_map, if◌then◌else◌, Data, refusal_for, all_listed, files_from}
+use Rattle.tor_check.proofs.Names.{sized_files, tree_pairs, first_of_alignment, files_if, listed_if, Listed, side_files}
+use Rattle.tor_check.proofs.Names.{without_padding, info_of, kind_of, piece_length_of, alignment, files_differ}
+use Rattle.tor_check.proofs.Names.{has_wrong_tail, is_misaligned_after, same_files, tree_files, entry_of_file}
+use Rattle.tor_check.proofs.Names.{file_of_list, files_of, has_v1, has_v2, Kind, V1, V2, Hybrid, TreeFile}
 use Rattle.tor_check.proofs.SideLemmas.{listed_is_side, sized_in_side}
-use Rattle.tor_check.specs.Refusals.{refusal_for}
-use Rattle.tor_check.specs.steps.Listed.{all_listed, files_from, sized_files, tree_pairs}
-use Rattle.tor_check.specs.steps.Judged.{first_of_alignment}
-use Rattle.tor_check.specs.steps.Sides.{files_if, listed_if}
-use Rattle.tor_check.specs.declared.listed.Listed.{Listed}
 use Rattle.tor_check.specs.declared.refusal.Refusal.TheVariants as refusals
-use Rattle.tor_spec.specs.valid.ListSide.{side_files, without_padding}
-use Rattle.tor_spec.specs.valid.Parts.{info_of, kind_of, piece_length_of}
-use Rattle.tor_spec.specs.valid.SidesAgree.{alignment, files_differ, has_wrong_tail, is_misaligned_after, same_files}
-use Rattle.tor_spec.specs.valid.TreeSide.{tree_files}
-use Rattle.tor_spec.specs.valid.View.{entry_of_file, file_of_list, files_of}
-use Rattle.tor_tree.specs.Kinds.{has_v1, has_v2}
-use Rattle.tor_tree.specs.declared.kinds.Kind.{Kind}
-use Rattle.tor_tree.specs.declared.kinds.Kind.TheVariants.{V1, V2, Hybrid}
-use Rattle.tor_tree.specs.declared.tree_file.TreeFile.{TreeFile}
 
 pub tells_differ : (info : Data) (listed : List Listed) (files : List TreeFile) (answer : Bool)
     → has_v1 (kind_of info) ≡ true → has_v2 (kind_of info) ≡ true → listed ≡ listed_if info → files ≡ files_if info

@@ -1,13 +1,8 @@
 -- What the root of a foreign layer asks: that its hashes are those of the pieces of a file that is not too long.
-use Rattle.std.proofs.Common.{◌≡◌, ℕ, ◌*◌, ◌-◌, ◌^◌, ◌<◌, ◌≤◌, ◌/◌, ◌==◌, true, false, true≢false, Bool, not, ◌&&◌}
-use Rattle.std.proofs.Common.{List, length, refl}
-use Rattle.std.proofs.Common.{nat_lt, replicate, arith, ap, sym, subst, ◌∙◌}
-use Rattle.std.specs.Int.{div_ceil}
-use Rattle.std.proofs.lemmas.Bool.{eqb-true, lt-ltb}
-use Rattle.std.proofs.lemmas.List.{length-replicate}
-use Rattle.tor_merkle.proofs.ProvedLaws.{count_of_piece_roots}
-use Rattle.tor_merkle.specs.Layer.{IsPieceLength, piece_level, piece_roots}
-use Rattle.tor_merkle.specs.declared.TheConstants.{MAX_LENGTH}
+use Rattle.tor_check.proofs.Names.{◌≡◌, ℕ, ◌*◌, ◌-◌, ◌^◌, ◌<◌, ◌≤◌, ◌/◌, ◌==◌, true, false, true≢false, Bool, not, ◌&&◌}
+use Rattle.tor_check.proofs.Names.{List, length, refl, nat_lt, replicate, arith, ap, sym, subst, ◌∙◌, div_ceil}
+use Rattle.tor_check.proofs.Names.{eqb-true, lt-ltb, length-replicate, count_of_piece_roots, IsPieceLength, piece_level}
+use Rattle.tor_check.proofs.Names.{piece_roots, MAX_LENGTH}
 
 -- the law piece_roots_fit_a_layer
 abbrev pub FewPieceRoots : Type 0

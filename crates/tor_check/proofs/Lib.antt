@@ -1,3 +1,4 @@
+pub mod Names
 pub mod MarkLemmas
 pub mod ListSteps
 pub mod PathSteps

@@ -1,33 +1,17 @@
 -- The first fault of the v1 side, from the tests that the code makes.
-use Rattle.std.proofs.Common.{◌≡◌, ℕ, suc, true, false, true≢false, Bool, ◌||◌, ◌==◌, List, [], ◌∷◌, Option, None, Some}
-use Rattle.std.proofs.Common.{length, map}
-use Rattle.std.proofs.Common.{refl, ap, sym, ◌∙◌, cond, arith, codes}
-use Rattle.std.specs.Prelude.{option_map, nat_lt}
-use Rattle.std.specs.List.{list_any}
-use Rattle.std.specs.Option.{option_or}
-use Rattle.std.proofs.lemmas.Bool.{eqb-true}
-use Rattle.tor_bencode.specs.Data.{Data}
+use Rattle.tor_check.proofs.Names.{◌≡◌, ℕ, suc, true, false, true≢false, Bool, ◌||◌, ◌==◌, List, [], ◌∷◌, Option, None}
+use Rattle.tor_check.proofs.Names.{Some, length, map, refl, ap, sym, ◌∙◌, cond, arith, codes, option_map, nat_lt}
+use Rattle.tor_check.proofs.Names.{list_any, option_or, eqb-true, Data, of_list_error, refusal_for, all_listed}
+use Rattle.tor_check.proofs.Names.{first_after_sizes, first_of_list, sized_files, Listed, Refusal, Condition}
+use Rattle.tor_check.proofs.Names.{ListedFile, joined_size, list_duplicate, list_file_and_folder, list_length}
+use Rattle.tor_check.proofs.Names.{list_no_files, list_shape, listed_files, listed_paths, side_files, list_pieces}
+use Rattle.tor_check.proofs.Names.{is_no_sums, list_symlink, side_size, piece_length_of, value_of, div_ceil, lengths_of}
+use Rattle.tor_check.proofs.Names.{lengths_too_large, list_fault, paths_nest, paths_of, paths_repeat, as_string}
+use Rattle.tor_check.proofs.Names.{ListError, MAX_LENGTH, MAX_TOTAL}
 use Rattle.tor_check.proofs.SideLemmas.{listed_is_side, sized_in_side}
-use Rattle.tor_check.specs.Refusals.{of_list_error, refusal_for}
-use Rattle.tor_check.specs.steps.Listed.{all_listed, first_after_sizes, first_of_list, sized_files}
-use Rattle.tor_check.specs.declared.listed.Listed.{Listed}
-use Rattle.tor_check.specs.declared.refusal.Refusal.{Refusal}
 use Rattle.tor_check.specs.declared.refusal.Refusal.TheVariants as refusals
-use Rattle.tor_spec.specs.valid.Conditions.{Condition}
 use Rattle.tor_spec.specs.valid.Conditions as conditions
-use Rattle.tor_spec.specs.valid.ListSide.{ListedFile, joined_size, list_duplicate, list_file_and_folder, list_length}
-use Rattle.tor_spec.specs.valid.ListSide.{list_no_files, list_shape, listed_files, listed_paths, side_files}
-use Rattle.tor_spec.specs.valid.ListSide.{list_pieces}
-use Rattle.tor_spec.specs.valid.ListSide.{is_no_sums, list_symlink, side_size}
-use Rattle.tor_spec.specs.valid.Parts.{piece_length_of}
-use Rattle.tor_bencode.specs.Find.{value_of}
-use Rattle.std.specs.Int.{div_ceil}
-use Rattle.tor_tree.specs.FileList.{lengths_of, lengths_too_large, list_fault, paths_nest, paths_of, paths_repeat}
-use Rattle.tor_tree.specs.Properties.{as_string}
-use Rattle.tor_tree.specs.declared.lists.ListError.{ListError}
 use Rattle.tor_tree.specs.declared.lists.ListError.TheVariants as lists
-use Rattle.tor_merkle.specs.declared.TheConstants.{MAX_LENGTH}
-use Rattle.tor_tree.specs.declared.lists.TheConstants.{MAX_TOTAL}
 
 -- the fault of a list, from four tests of it
 abbrev fault_by : Bool → Bool → Bool → Bool → Option ListError

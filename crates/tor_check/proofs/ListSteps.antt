@@ -1,11 +1,7 @@
 -- One item of a list decides for all of them.
-use Rattle.std.proofs.Common.{◌≡◌, ℕ, ◌<◌, true, false, Bool, List, [], ◌∷◌, ◌+◌, length, map, take, slice_index_or}
-use Rattle.std.proofs.Common.{refl}
-use Rattle.std.specs.List.{list_all, list_any}
-use Rattle.tor_bencode.specs.Data.{Data}
-use Rattle.tor_bencode.specs.View.{view}
-use Rattle.tor_bencode.specs.declared.item.Item.{Item}
-use Rattle.std.proofs.lemmas.List.Folds.{list_all_at, list_all_more, list_all-map, list_any_at, list_any_more}
+use Rattle.tor_check.proofs.Names.{◌≡◌, ℕ, ◌<◌, true, false, Bool, List, [], ◌∷◌, ◌+◌, length, map, take}
+use Rattle.tor_check.proofs.Names.{slice_index_or, refl, list_all, list_any, Data, view, Item, list_all_at}
+use Rattle.tor_check.proofs.Names.{list_all_more, list_all-map, list_any_at, list_any_more}
 
 pub any_mapped : {X Y : Type 0} (p : Y → Bool) (f : X → Y) (xs : List X)
     → list_any p (map f xs) ≡ list_any (λ x. p (f x)) xs

@@ -1,12 +1,7 @@
 -- What is read of a file's dictionary, from its parts.
-use Rattle.std.proofs.Common.{◌≡◌, ℕ, ℤ, true, ◌||◌, cond, List, [], Option, None, Some, is_some, is_none, unwrap_or}
-use Rattle.std.proofs.Common.{codes, refl, ap}
-use Rattle.tor_bencode.specs.Data.{Data}
-use Rattle.tor_bencode.specs.Find.{value_of}
-use Rattle.tor_check.specs.steps.Listed.{marks_in, marks_of}
-use Rattle.tor_spec.specs.valid.ListSide.{letter_p}
-use Rattle.tor_tree.specs.Name.{has_byte}
-use Rattle.tor_tree.specs.Properties.{are_properties, as_integer, as_string, letters_of, letter_l, letter_x, letter_h}
+use Rattle.tor_check.proofs.Names.{◌≡◌, ℕ, ℤ, true, ◌||◌, cond, List, [], Option, None, Some, is_some, is_none}
+use Rattle.tor_check.proofs.Names.{unwrap_or, codes, refl, ap, Data, value_of, marks_in, marks_of, letter_p, has_byte}
+use Rattle.tor_check.proofs.Names.{are_properties, as_integer, as_string, letters_of, letter_l, letter_x, letter_h}
 
 with_attr : (attr : Option Data) (letters : List ℕ) → cond (is_none attr) (Some []) (as_string attr) ≡ Some letters
     → ((is_none attr || is_some (as_string attr)) ≡ true) × (unwrap_or (as_string attr) [] ≡ letters)

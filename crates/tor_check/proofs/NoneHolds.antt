@@ -1,21 +1,14 @@
 -- What holds of no file of a list, and what is found nowhere in a row of conditions.
-use Rattle.std.proofs.Common.{◌≡◌, ℕ, zero, suc, ◌<◌, false, Bool, List, [], ◌∷◌, ◌++◌, map, Option, None, Some, get_or}
-use Rattle.std.proofs.Common.{refl, subst, sym, ◌∙◌}
-use Rattle.std.specs.Prelude.{find, option_map, slice_get}
-use Rattle.std.specs.List.{All, list_any}
-use Rattle.std.proofs.lemmas.List.Elements.{All-from_recursion, All-get_or}
-use Rattle.std.proofs.lemmas.Option.{get_or_from_slice_get, none-some, same_Some, slice_get-map, slice_get_within}
-use Rattle.tor_bencode.specs.Data.{Data}
+use Rattle.tor_check.proofs.Names.{◌≡◌, ℕ, zero, suc, ◌<◌, false, Bool, List, [], ◌∷◌, ◌++◌, map, Option, None, Some}
+use Rattle.tor_check.proofs.Names.{get_or, refl, subst, sym, ◌∙◌, find, option_map, slice_get, All, list_any}
+use Rattle.tor_check.proofs.Names.{All-from_recursion, All-get_or, get_or_from_slice_get, none-some, same_Some}
+use Rattle.tor_check.proofs.Names.{slice_get-map, slice_get_within, Data, alignment_conditions}
+use Rattle.tor_check.proofs.Names.{conditions_before_memory, first_in, head_conditions, layer_conditions}
+use Rattle.tor_check.proofs.Names.{side_conditions, first_of_both, Condition, conditions, holds, refusal_of, info_of}
 use Rattle.tor_check.proofs.Bounds.{first_or, found_none}
 use Rattle.tor_check.proofs.FirstOfBoth.{sides_first}
 use Rattle.tor_check.proofs.Stages.{find_behind, find_front}
-use Rattle.tor_check.specs.steps.Judged.{alignment_conditions, conditions_before_memory, first_in, head_conditions}
-use Rattle.tor_check.specs.steps.Judged.{layer_conditions}
-use Rattle.tor_check.specs.steps.Listed.{side_conditions}
-use Rattle.tor_check.specs.steps.Sides.{first_of_both}
-use Rattle.tor_spec.specs.valid.Conditions.{Condition, conditions, holds, refusal_of}
 use Rattle.tor_spec.specs.valid.Conditions as named
-use Rattle.tor_spec.specs.valid.Parts.{info_of}
 
 -- the condition at an index of the row, counted from V2, does not hold
 pub not_held : (root : Data) → refusal_of root ≡ None → (i : ℕ) → i < 22

@@ -1,13 +1,7 @@
 -- The path of an entry, from its texts.
-use Rattle.std.proofs.Common.{◌≡◌, ◌≢◌, ◌&&◌, ◌==◌, true, false, length, List, [], ◌∷◌, Some, map, refl, ap, ◌∙◌}
-use Rattle.std.specs.List.{list_all}
-use Rattle.std.proofs.lemmas.List.{length-map}
-use Rattle.tor_bencode.specs.Data.{Data, list}
-use Rattle.tor_bencode.specs.View.{items_of, items_view, view}
-use Rattle.tor_bencode.specs.declared.item.Item.{Item}
-use Rattle.tor_check.specs.steps.Listed.{lists_some}
-use Rattle.tor_spec.specs.valid.ListSide.{is_name, is_path, names_of}
-use Rattle.tor_spec.specs.valid.Parts.{items_in, text_of}
+use Rattle.tor_check.proofs.Names.{◌≡◌, ◌≢◌, ◌&&◌, ◌==◌, true, false, length, List, [], ◌∷◌, Some, map, refl, ap, ◌∙◌}
+use Rattle.tor_check.proofs.Names.{list_all, length-map, Data, list, items_of, items_view, view, Item, lists_some}
+use Rattle.tor_check.proofs.Names.{is_name, is_path, names_of, items_in, text_of}
 
 pub same_items : (values : List Data) → items_in (items_of values) ≡ values
 same_items [] = refl

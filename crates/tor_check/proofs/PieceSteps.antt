@@ -1,17 +1,9 @@
 -- What is left to refuse of a file that has a tree, and the proof of a file that has one hash.
-use Rattle.std.proofs.Common.{◌≡◌, ℕ, ◌<◌, ◌≤◌, true, List, [], refl, None, Some, leb-false, leb-true}
-use Rattle.std.proofs.Common.{nat_le, ◌==◌, ◌∙◌, false, Bool, cond, sym}
-use Rattle.std.specs.Prelude.{slice_get, if◌then◌else◌}
-use Rattle.std.proofs.lemmas.Bool.{le-ltb}
-use Rattle.std.proofs.lemmas.Option.{cond_some, none-some}
-use Rattle.std.proofs.lemmas.Slice.Eq.{bytes_eq-Decides}
-use Rattle.tor_check.specs.PieceProofs.{IsPieceProof, piece_refusal}
-use Rattle.tor_check.specs.declared.piece_proofs.PieceError.{PieceError}
+use Rattle.tor_check.proofs.Names.{◌≡◌, ℕ, ◌<◌, ◌≤◌, true, List, [], refl, None, Some, leb-false, leb-true, nat_le}
+use Rattle.tor_check.proofs.Names.{◌==◌, ◌∙◌, false, Bool, cond, sym, slice_get, if◌then◌else◌, le-ltb, cond_some}
+use Rattle.tor_check.proofs.Names.{none-some, bytes_eq-Decides, IsPieceProof, piece_refusal, PieceError, is_proof}
+use Rattle.tor_check.proofs.Names.{proof_count, proof_level, proof_root, height, FileView, View, has_v2}
 use Rattle.tor_check.specs.declared.piece_proofs.PieceError.TheVariants as errors
-use Rattle.tor_merkle.specs.Proof.{is_proof, proof_count, proof_level, proof_root}
-use Rattle.tor_merkle.specs.Subtree.{height}
-use Rattle.tor_spec.specs.valid.View.{FileView, View}
-use Rattle.tor_tree.specs.Kinds.{has_v2}
 
 -- one hash is its own root
 alone : (root : List ℕ) (bottom : ℕ) → is_proof root 1 bottom 0 root [] ≡ true

@@ -1,17 +1,8 @@
 -- What is refused of a tree is refused of its bytes.
-use Rattle.std.proofs.Common.{◌≡◌, ◌∙◌, ◌++◌, ℕ, List, [], ap, inl, inr, refl, subst, sym}
-use Rattle.std.proofs.lemmas.Option.{none-some}
-use Rattle.tor_bencode.proofs.ProvedLaws.{no_spelling_begins_another}
-use Rattle.tor_bencode.specs.Data.{Data}
-use Rattle.tor_bencode.specs.Lawful.{IsLawful}
-use Rattle.tor_bencode.specs.Spelling.{spelling}
+use Rattle.tor_check.proofs.Names.{◌≡◌, ◌∙◌, ◌++◌, ℕ, List, [], ap, inl, inr, refl, subst, sym, none-some}
+use Rattle.tor_check.proofs.Names.{no_spelling_begins_another, Data, IsLawful, spelling, refusal_for, IsFirst}
+use Rattle.tor_check.proofs.Names.{IsRefused, IsRefusedFor, Refusal, Memory, Condition, IsValid, refusal_of}
 use Rattle.tor_check.proofs.Stages.{found}
-use Rattle.tor_check.specs.Refusals.{refusal_for}
-use Rattle.tor_check.specs.steps.Judged.{IsFirst}
-use Rattle.tor_check.specs.Valid.{IsRefused, IsRefusedFor}
-use Rattle.tor_check.specs.declared.refusal.Refusal.{Refusal}
-use Rattle.tor_check.specs.declared.refusal.Refusal.TheVariants.{Memory}
-use Rattle.tor_spec.specs.valid.Conditions.{Condition, IsValid, refusal_of}
 use Rattle.tor_spec.specs.valid.Conditions as conditions
 
 -- the refusal of a condition is answered as such

@@ -1,17 +1,8 @@
 -- The files of a torrent that has a v2 side are in the order of their paths.
-use Rattle.std.proofs.Common.{◌≡◌, ℕ, true, List, [], ◌∷◌, map, Option, None, Some, unwrap_or, codes, ap, refl, subst}
-use Rattle.std.proofs.Common.{sym}
-use Rattle.tor_bencode.proofs.ProvedLaws.{value_has_rising_keys}
-use Rattle.tor_bencode.specs.Data.{Data, dictionary, no_pairs}
-use Rattle.tor_bencode.specs.Find.{value_of}
-use Rattle.tor_bencode.specs.Lawful.{HasRisingKeys}
-use Rattle.tor_check.specs.ValidViews.{HasRisingPaths, IsViewOfValid}
-use Rattle.tor_spec.specs.valid.Parts.{info_of, kind_of, part}
-use Rattle.tor_spec.specs.valid.TreeSide.{tree_files, tree_of}
-use Rattle.tor_spec.specs.valid.View.{FileView, View, file_of_tree, view_of}
-use Rattle.tor_tree.proofs.ProvedLaws.{rising_paths}
-use Rattle.tor_tree.specs.Kinds.{has_v2}
-use Rattle.tor_tree.specs.declared.tree_file.TreeFile.{TreeFile}
+use Rattle.tor_check.proofs.Names.{◌≡◌, ℕ, true, List, [], ◌∷◌, map, Option, None, Some, unwrap_or, codes, ap, refl}
+use Rattle.tor_check.proofs.Names.{subst, sym, value_has_rising_keys, Data, dictionary, no_pairs, value_of}
+use Rattle.tor_check.proofs.Names.{HasRisingKeys, HasRisingPaths, IsViewOfValid, info_of, kind_of, part, tree_files}
+use Rattle.tor_check.proofs.Names.{tree_of, FileView, View, file_of_tree, view_of, rising_paths, has_v2, TreeFile}
 
 -- the keys of a part rise where those of the whole do
 rising_part : (key : List ℕ) (whole : Data) → HasRisingKeys whole → HasRisingKeys (part key whole)

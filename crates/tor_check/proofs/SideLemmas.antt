@@ -1,25 +1,14 @@
 -- What is read of the v1 side is what the conditions speak of.
-use Rattle.std.proofs.Common.{◌≡◌, ℕ, ◌+◌, ◌<◌, true, false, Bool, List, [], ◌∷◌, ◌++◌, length, map, take}
-use Rattle.std.proofs.Common.{Option, None, Some, slice_index_or, refl, ap, sym, ◌∙◌, sum_by, codes, int_lt, pos}
-use Rattle.std.specs.Prelude.{nat_lt, unsigned_abs, if◌then◌else◌}
-use Rattle.std.specs.List.{list_any, cons_option}
-use Rattle.std.proofs.lemmas.List.Elements.{filter_map-append}
-use Rattle.std.proofs.lemmas.List.{append-nil}
-use Rattle.std.proofs.Math.Seq.{take-suc}
-use native.Mathlib.Numerals.{unary_clauses}
-use Rattle.std.proofs.lemmas.List.Sums.{sum_by-cons}
-use Rattle.tor_bencode.specs.Data.{Data}
+use Rattle.tor_check.proofs.Names.{◌≡◌, ℕ, ◌+◌, ◌<◌, true, false, Bool, List, [], ◌∷◌, ◌++◌, length, map, take, Option}
+use Rattle.tor_check.proofs.Names.{None, Some, slice_index_or, refl, ap, sym, ◌∙◌, sum_by, codes, int_lt, pos, nat_lt}
+use Rattle.tor_check.proofs.Names.{unsigned_abs, if◌then◌else◌, list_any, cons_option, filter_map-append, append-nil}
+use Rattle.tor_check.proofs.Names.{take-suc, unary_clauses, sum_by-cons, Data, all_listed, file_of_listed, files_from}
+use Rattle.tor_check.proofs.Names.{listed_entry, listed_single, size_of_listed, sized, sized_files, Listed, Marks}
+use Rattle.tor_check.proofs.Names.{described, entry_file, has_list, joined_size, letter_p, list_length, list_symlink}
+use Rattle.tor_check.proofs.Names.{names_of, side_files, single_file, without_padding, ListedFile, part, has_letter}
+use Rattle.tor_check.proofs.Names.{has_negative_length, letter_l, MAX_LENGTH}
 use Rattle.tor_check.proofs.ListSteps.{any_mapped}
-use Rattle.tor_check.specs.steps.Listed.{all_listed, file_of_listed, files_from, listed_entry, listed_single}
-use Rattle.tor_check.specs.steps.Listed.{size_of_listed, sized, sized_files}
-use Rattle.tor_check.specs.declared.listed.Listed.{Listed}
-use Rattle.tor_check.specs.declared.marks.Marks.{Marks}
-use Rattle.tor_spec.specs.valid.ListSide.{described, entries_of, entry_file, has_list, joined_size}
-use Rattle.tor_spec.specs.valid.ListSide.{letter_p, list_length, list_symlink, names_of, side_files, single_file}
-use Rattle.tor_spec.specs.valid.ListSide.{without_padding, ListedFile}
-use Rattle.tor_spec.specs.valid.Parts.{part}
-use Rattle.tor_tree.specs.Properties.{has_letter, has_negative_length, letter_l}
-use Rattle.tor_merkle.specs.declared.TheConstants.{MAX_LENGTH}
+use Rattle.tor_spec.specs.valid.ListSide.{entries_of}
 
 -- with one more file, and with padding
 sized_append : (files : List Listed) (file : Listed) (found : Option (List (List ℕ) × ℕ)) → sized file ≡ found

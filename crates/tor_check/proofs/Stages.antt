@@ -1,17 +1,9 @@
 -- Conditions that are looked for in stages are looked for in one row.
-use Rattle.std.proofs.Common.{◌≡◌, true, false, Bool, List, [], ◌∷◌, ◌++◌}
-use Rattle.std.proofs.Common.{Option, None, Some, cond, refl, ap, sym, ◌∙◌, inl, inr, subst}
-use Rattle.std.specs.Prelude.{find, option_map}
-use Rattle.tor_bencode.specs.Data.{Data}
+use Rattle.tor_check.proofs.Names.{◌≡◌, true, false, Bool, List, [], ◌∷◌, ◌++◌, Option, None, Some, cond, refl, ap, sym}
+use Rattle.tor_check.proofs.Names.{◌∙◌, inl, inr, subst, find, option_map, Data, refusal_for, IsFirst, first_in}
+use Rattle.tor_check.proofs.Names.{first_of_alignment, head_conditions, layer_conditions, alignment_conditions}
+use Rattle.tor_check.proofs.Names.{side_conditions, first_of_both, Refusal, Condition, holds, refusal_of, info_of}
 use Rattle.tor_check.proofs.FirstOfBoth.{sides_first}
-use Rattle.tor_check.specs.Refusals.{refusal_for}
-use Rattle.tor_check.specs.steps.Judged.{IsFirst, first_in, first_of_alignment, head_conditions, layer_conditions}
-use Rattle.tor_check.specs.steps.Judged.{alignment_conditions}
-use Rattle.tor_check.specs.steps.Listed.{side_conditions}
-use Rattle.tor_check.specs.steps.Sides.{first_of_both}
-use Rattle.tor_check.specs.declared.refusal.Refusal.{Refusal}
-use Rattle.tor_spec.specs.valid.Conditions.{Condition, holds, refusal_of}
-use Rattle.tor_spec.specs.valid.Parts.{info_of}
 
 module _ {C : Type 0} (p : C → Bool) where
   -- what a front has is found, and what it lacks is looked for behind it

@@ -1,10 +1,7 @@
 -- One more file of the v1 side: the last that is filled, and the padding after it.
-use Rattle.std.proofs.Common.{◌≡◌, ℕ, ◌+◌, ◌<◌, true, false, List, [], ◌∷◌, length, take, reverse}
-use Rattle.std.proofs.Common.{slice_index_or, refl}
-use Rattle.std.proofs.lemmas.List.{map-append, reverse-append, take_more}
-use Rattle.tor_check.specs.steps.Listed.{file_of_listed, files_from, size_of_listed}
-use Rattle.tor_check.specs.declared.listed.Listed.{Listed}
-use Rattle.tor_spec.specs.valid.SidesAgree.{is_filled, last_size, tail_size}
+use Rattle.tor_check.proofs.Names.{◌≡◌, ℕ, ◌+◌, ◌<◌, true, false, List, [], ◌∷◌, length, take, reverse, slice_index_or}
+use Rattle.tor_check.proofs.Names.{refl, map-append, reverse-append, take_more, file_of_listed, files_from}
+use Rattle.tor_check.proofs.Names.{size_of_listed, Listed, is_filled, last_size, tail_size}
 
 -- the files so far and one more, from the last on
 turned : (files : List Listed) (i : ℕ) (d : Listed) → i < length files

@@ -1,15 +1,8 @@
 -- The first fault of the v2 side is that of its file tree.
-use Rattle.std.proofs.Common.{◌≡◌, true, false, Bool, Option, None, Some, cond, codes, refl, ap, ◌∙◌}
-use Rattle.std.specs.Prelude.{option_map}
-use Rattle.tor_bencode.specs.Data.{Data}
-use Rattle.tor_bencode.specs.Find.{value_of}
-use Rattle.tor_check.specs.Refusals.{of_tree_fault, refusal_for}
-use Rattle.tor_check.specs.steps.Judged.{Names}
-use Rattle.tor_check.specs.steps.Sides.{first_of_tree}
-use Rattle.tor_spec.specs.valid.Conditions.{Condition}
+use Rattle.tor_check.proofs.Names.{◌≡◌, true, false, Bool, Option, None, Some, cond, codes, refl, ap, ◌∙◌, option_map}
+use Rattle.tor_check.proofs.Names.{Data, value_of, of_tree_fault, refusal_for, Names, first_of_tree, Condition}
+use Rattle.tor_check.proofs.Names.{tree_fault, TreeFault}
 use Rattle.tor_spec.specs.valid.Conditions as conditions
-use Rattle.tor_tree.specs.FileTree.{tree_fault}
-use Rattle.tor_tree.specs.declared.tree_file.TreeFault.{TreeFault}
 use Rattle.tor_tree.specs.declared.tree_file.TreeFault.TheVariants as trees
 
 -- the fault of a tree, and the first condition, from seven tests of it

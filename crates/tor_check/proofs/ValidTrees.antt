@@ -1,37 +1,18 @@
 -- What a tree of which no condition holds has for each file of its v2 side that is not empty.
-use Rattle.std.proofs.Common.{◌≡◌, ℕ, ◌/◌, ◌<◌, ◌≤◌, ◌==◌, true, false, true≢false, Bool, not, ◌&&◌}
-use Rattle.std.proofs.Common.{List, length, map, Option, None, Some, ap, arith, lit<, nat_lt, refl, subst, sym, ◌∙◌}
-use Rattle.std.proofs.Common.{zero, suc, [], drop, is_some, unwrap_or, codes}
-use Rattle.std.specs.Prelude.{slice_get}
-use Rattle.std.specs.Int.{div_ceil}
-use Rattle.std.specs.List.{All}
-use Rattle.std.specs.Simd.{first_chunks}
-use Rattle.std.specs.Str.{bytes_eq}
-use Rattle.std.proofs.lemmas.Bool.{eqb-false, lt-ltb}
-use Rattle.std.proofs.lemmas.Slice.Eq.{bytes_eq-Decides}
-use Rattle.tor_bencode.specs.Data.{Data}
-use Rattle.tor_bencode.specs.Find.{value_of}
+use Rattle.tor_check.proofs.Names.{◌≡◌, ℕ, ◌/◌, ◌<◌, ◌≤◌, ◌==◌, true, false, true≢false, Bool, not, ◌&&◌, List, length}
+use Rattle.tor_check.proofs.Names.{map, Option, None, Some, ap, arith, lit<, nat_lt, refl, subst, sym, ◌∙◌, zero, suc}
+use Rattle.tor_check.proofs.Names.{[], drop, is_some, unwrap_or, codes, slice_get, div_ceil, All, first_chunks}
+use Rattle.tor_check.proofs.Names.{bytes_eq, eqb-false, lt-ltb, bytes_eq-Decides, Data, value_of, HasTree, files_if}
+use Rattle.tor_check.proofs.Names.{IsViewOfValid, IsPieceLength, piece_level, padded_root, refusal_of, has_other_root}
+use Rattle.tor_check.proofs.Names.{is_misshaped, layer_length, layer_of, layer_root, layer_text, layers_of}
+use Rattle.tor_check.proofs.Names.{root_of_file, info_of, kind_of, piece_length_of, tree_files, tree_of, tree_root}
+use Rattle.tor_check.proofs.Names.{FileView, View, file_of_tree, files_of, entries_of, file_of, lacks_root, has_v2}
+use Rattle.tor_check.proofs.Names.{as_integer, is_hash, length_of, pieces_root, MAX_LENGTH, TreeFile}
 use Rattle.tor_check.proofs.Bounds.{small_files}
 use Rattle.tor_check.proofs.HeadFacts.{allowed_by, not_false}
 use Rattle.tor_check.proofs.LayerSteps.{shaped_length}
 use Rattle.tor_check.proofs.ListSteps.{any_mapped}
 use Rattle.tor_check.proofs.NoneHolds.{all_at, mapped_at, no_side_fault, none_at, not_held}
-use Rattle.tor_check.specs.PieceProofs.{HasTree}
-use Rattle.tor_check.specs.steps.Sides.{files_if}
-use Rattle.tor_check.specs.ValidViews.{IsViewOfValid}
-use Rattle.tor_merkle.specs.Layer.{IsPieceLength, piece_level}
-use Rattle.tor_merkle.specs.Stack.{padded_root}
-use Rattle.tor_spec.specs.valid.Conditions.{refusal_of}
-use Rattle.tor_spec.specs.valid.Layers.{has_other_root, is_misshaped, layer_length, layer_of, layer_root, layer_text}
-use Rattle.tor_spec.specs.valid.Layers.{layers_of, root_of_file}
-use Rattle.tor_spec.specs.valid.Parts.{info_of, kind_of, piece_length_of}
-use Rattle.tor_spec.specs.valid.TreeSide.{tree_files, tree_of, tree_root}
-use Rattle.tor_spec.specs.valid.View.{FileView, View, file_of_tree, files_of}
-use Rattle.tor_tree.specs.FileTree.{entries_of, file_of, lacks_root}
-use Rattle.tor_tree.specs.Kinds.{has_v2}
-use Rattle.tor_tree.specs.Properties.{as_integer, is_hash, length_of, pieces_root}
-use Rattle.tor_merkle.specs.declared.TheConstants.{MAX_LENGTH}
-use Rattle.tor_tree.specs.declared.tree_file.TreeFile.{TreeFile}
 
 -- of a side that is there
 of_side : (there fault : Bool) → there ≡ true → (there && fault) ≡ false → fault ≡ false

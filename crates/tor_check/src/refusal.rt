@@ -65,9 +65,10 @@ pub enum Refusal {
 
 impl fmt::Display for Refusal {
     fn fmt<W: fmt::Write>(&self, f: &mut fmt::Formatter<W>) -> fmt::Result {
+        f.write_str(text_of(self))?;
         match self {
-            Refusal::Bencode { fault, offset } => write!(f, "V1 Bencode {fault} at {offset}"),
-            refusal => f.write_str(text_of(refusal)),
+            Refusal::Bencode { fault, offset } => write!(f, " {fault} at {offset}"),
+            _ => Ok(()),
         }
     }
 }

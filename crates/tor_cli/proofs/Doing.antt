@@ -1,7 +1,8 @@
 -- What came of a request, and the status that tells it.
 use Rattle.std.proofs.Common.{◌≡◌, ◌≢◌, ◌⊎◌, inl, inr, sym, subst, ℕ}
 use Rattle.std.specs.Prelude.{IfErr, IfOk, OnOk, Result, Ok, Err}
-use Rattle.tor_cli.specs.Status.{done_of, status_after, status_of}
+use Rattle.tor_cli.specs.Status.{status_of}
+use Rattle.tor_cli.specs.steps.Ending.{done_of, status_after}
 use Rattle.tor_cli.specs.declared.answer.Answer.{Answer}
 use Rattle.tor_cli.specs.declared.answer.Answer.TheVariants.{Yes, No}
 use Rattle.tor_cli.specs.declared.fault.Fault.{Fault}

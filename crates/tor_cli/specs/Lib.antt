@@ -12,3 +12,4 @@ pub mod Status
 pub mod Streams
 pub mod Words
 pub mod Telling
+pub mod steps

@@ -1,5 +1,5 @@
 -- What stops the program: which fault a step's fault is, and the status that the program ends with.
-use Rattle.std.specs.Prelude.{ℕ, Result, Ok, Err}
+use Rattle.std.specs.Prelude.{ℕ}
 use Rattle.tor_check.specs.declared.piece_proofs.PieceError.{PieceError}
 use Rattle.tor_check.specs.declared.piece_proofs.PieceError.TheVariants as pieces
 use Rattle.std.specs.declared.io.Error.{Error}
@@ -13,8 +13,6 @@ use Rattle.tor_source.specs.declared.faults.ScanFault.{ScanFault}
 use Rattle.tor_source.specs.declared.faults.ScanFault.TheVariants as scans
 use Rattle.tor_tree.specs.declared.names.NameError.{NameError}
 use Rattle.tor_tree.specs.declared.names.NameError.TheVariants as names
-use Rattle.tor_cli.specs.declared.answer.Answer.{Answer}
-use Rattle.tor_cli.specs.declared.answer.Answer.TheVariants.{Yes, No}
 use Rattle.tor_source.specs.declared.input.InputFault.{InputFault}
 use Rattle.tor_source.specs.declared.input.InputFault.TheVariants as inputs
 use Rattle.tor_meta.specs.declared.from_input.FromFault.{FromFault}
@@ -104,18 +102,3 @@ status_of Read = 3
 status_of TooLong = 3
 status_of (Write written) = 3
 status_of Resources = 4
-
--- 1 where something was asked, and the answer is no
-abbrev pub status_of_answer : Answer → ℕ
-status_of_answer Yes = 0
-status_of_answer No = 1
-
--- what asks nothing is answered by yes
-abbrev pub done_of : {A : Type 0} → Result A Fault → Result Answer Fault
-done_of (Ok done) = Ok Yes
-done_of (Err fault) = Err fault
-
--- the status after an answer, or after a fault
-abbrev pub status_after : Result Answer Fault → ℕ
-status_after (Ok answer) = status_of_answer answer
-status_after (Err fault) = status_of fault

@@ -1,6 +1,6 @@
 //! What the program answers where no fault stops it.
 ghost use Rattle.std.specs.Prelude.{◌≡◌};
-ghost use Rattle.tor_cli.specs.Status.{status_of_answer};
+ghost use Rattle.tor_cli.specs.steps.Ending.{status_of_answer};
 
 /// What came of a request.
 #[derive(Clone, Copy, Debug, PartialEq, Eq)]

@@ -4,7 +4,7 @@ ghost use Rattle.std.specs.Prelude.{◌≡◌, ◌≢◌, ◌≤◌, ℕ, IfErr,
 ghost use Rattle.std.specs.Io.KnownBytes.{Appends};
 ghost use Rattle.tor_meta.specs.FromInput.{IsFront};
 ghost use Rattle.tor_cli.specs.Request.{Does, DoesAsked, EndsAsked, Stops, StopsAsked};
-ghost use Rattle.tor_cli.specs.Status.{done_of, status_after};
+ghost use Rattle.tor_cli.specs.steps.Ending.{done_of, status_after};
 ghost use Rattle.tor_cli.specs.Streams.{streams};
 ghost use Rattle.tor_cli.specs.declared.answer.Answer.TheVariants.{Yes};
 ghost use Rattle.tor_cli.specs.declared.fault.Fault.TheVariants.{Write as WriteFault};

@@ -7,7 +7,7 @@ use Rattle.sha2.specs.Sha256.{word_at}
 use Rattle.std.proofs.lemmas.Simd.{get_or-chunk, get_or-zip2, get_or-replicate, length-zip2, length-replicate}
 use Rattle.std.proofs.lemmas.Bool.{cases_lt}
 use lib.Lanes.{zip2}
-use Rattle.tor_hashes.specs.Lanes.{window, word_of}
+use Rattle.tor_hashes.specs.steps.Lanes.{window, word_of}
 
 pub lane_zip2 : (f : ℕ → ℕ → ℕ) (xs ys : List ℕ) (n j : ℕ) → length xs ≡ n → length ys ≡ n → j < n
     → slice_index (zip2 f xs ys) j ≡ f (slice_index xs j) (slice_index ys j)

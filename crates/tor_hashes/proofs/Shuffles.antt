@@ -5,8 +5,8 @@ use Rattle.std.specs.Prelude.{if◌then◌else◌, slice_index_or}
 use Rattle.std.specs.Simd.Lanes.{pick_l}
 use Rattle.std.proofs.lemmas.Bool.{cases_lt, le-leb, lt-leb}
 use Rattle.std.proofs.lemmas.List.{get_or_append_left, get_or-append_right}
-use Rattle.tor_hashes.specs.Lanes.{word_of}
-use Rattle.tor_hashes.specs.Shuffles.{of_both, halves_of, pairs_of, singles_of}
+use Rattle.tor_hashes.specs.steps.Lanes.{word_of}
+use Rattle.tor_hashes.specs.steps.Shuffles.{of_both, halves_of, pairs_of, singles_of}
 use Rattle.tor_hashes.proofs.Lanes.{below_eight}
 
 picked : (x y : List ℕ) (p : ℕ) → length x ≡ 8

@@ -5,7 +5,7 @@
 
 ghost use Rattle.std.specs.Prelude.{◌≡◌, ℕ, ◌+◌, ◌*◌, ◌<◌, ◌≤◌, length, slice_index};
 ghost use Rattle.sha2.specs.Sha256.{word_at};
-ghost use Rattle.tor_hashes.specs.Lanes.{window, word_of, block_of, AreWordsOf};
+ghost use Rattle.tor_hashes.specs.steps.Lanes.{window, word_of, block_of, AreWordsOf};
 
 use crate::transposed::transposed;
 use crate::words::Words;

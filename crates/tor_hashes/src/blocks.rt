@@ -2,7 +2,7 @@
 
 ghost use Rattle.std.specs.Prelude.{◌≡◌, ℕ, ◌*◌, ◌<◌, [], drop, take, length, slice_index_or};
 ghost use Rattle.sha2.specs.Sha256.{padding, sha256};
-ghost use Rattle.tor_hashes.specs.Lanes.{window, AreWordsOf};
+ghost use Rattle.tor_hashes.specs.steps.Lanes.{window, AreWordsOf};
 
 use crate::sha256_block::{after_block, after_blocks};
 use crate::sha256_digest::digests;

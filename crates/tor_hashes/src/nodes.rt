@@ -2,7 +2,7 @@
 
 ghost use Rattle.std.specs.Prelude.{◌≡◌, ℕ, ◌+◌, ◌*◌, ◌<◌, ◌≤◌, List, [], drop, take, length, slice_index_or};
 ghost use Rattle.sha2.specs.Sha256.{compress, padding, rounds, schedule, sha256};
-ghost use Rattle.tor_hashes.specs.Lanes.{eight_of};
+ghost use Rattle.tor_hashes.specs.steps.Lanes.{eight_of};
 
 use crate::node_padding::PADDING;
 use crate::sha256_block::{added, after_blocks};

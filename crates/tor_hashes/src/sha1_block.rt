@@ -2,7 +2,7 @@
 
 ghost use Rattle.std.specs.Prelude.{◌≡◌, ℕ, ◌*◌, ◌<◌, ◌≤◌, List, drop, length};
 ghost use Rattle.sha1.specs.Sha1.{add_state, compress, hash_after, initial_hash};
-ghost use Rattle.tor_hashes.specs.Lanes.{five_of, window, AreWordsOf};
+ghost use Rattle.tor_hashes.specs.steps.Lanes.{five_of, window, AreWordsOf};
 
 use crate::block_words::words_of_blocks;
 use crate::sha1_constants::INITIAL;

@@ -2,7 +2,7 @@
 
 ghost use Rattle.std.specs.Prelude.{◌≡◌, ℕ, ◌<◌, [], slice_index_or};
 ghost use Rattle.sha1.specs.Sha1.{digest_bytes};
-ghost use Rattle.tor_hashes.specs.Lanes.{five_of};
+ghost use Rattle.tor_hashes.specs.steps.Lanes.{five_of};
 
 use crate::words::Words;
 

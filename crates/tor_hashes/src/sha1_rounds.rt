@@ -4,7 +4,7 @@
 
 ghost use Rattle.std.specs.Prelude.{◌≡◌, ℕ, ◌+◌, ◌%◌, ◌<◌, ◌≤◌, List, slice_index, slice_set};
 ghost use Rattle.sha1.specs.Sha1.{round, rounds, schedule, window_word, IsRoundsAt, IsWindow};
-ghost use Rattle.tor_hashes.specs.Lanes.{five_of, window};
+ghost use Rattle.tor_hashes.specs.steps.Lanes.{five_of, window};
 
 use crate::sha1_functions::{constant, function};
 use crate::words::{Words, add, rotated_left, same, xor};

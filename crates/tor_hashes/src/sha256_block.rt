@@ -2,7 +2,7 @@
 
 ghost use Rattle.std.specs.Prelude.{◌≡◌, ℕ, ◌*◌, ◌<◌, ◌≤◌, List, drop, length};
 ghost use Rattle.sha2.specs.Sha256.{add_state, compress, hash_after, initial_hash_256};
-ghost use Rattle.tor_hashes.specs.Lanes.{eight_of, window, AreWordsOf};
+ghost use Rattle.tor_hashes.specs.steps.Lanes.{eight_of, window, AreWordsOf};
 
 use crate::block_words::words_of_blocks;
 use crate::sha256_constants::INITIAL;

@@ -2,7 +2,7 @@
 
 ghost use Rattle.std.specs.Prelude.{◌≡◌, ℕ, ◌<◌, [], slice_index_or};
 ghost use Rattle.sha2.specs.Sha256.{digest_bytes};
-ghost use Rattle.tor_hashes.specs.Lanes.{eight_of};
+ghost use Rattle.tor_hashes.specs.steps.Lanes.{eight_of};
 
 use crate::words::Words;
 

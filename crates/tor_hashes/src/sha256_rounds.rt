@@ -4,7 +4,7 @@
 
 ghost use Rattle.std.specs.Prelude.{◌≡◌, ℕ, ◌+◌, ◌*◌, ◌%◌, ◌<◌, ◌≤◌, List, slice_index, slice_set};
 ghost use Rattle.sha2.specs.Sha256.{round, rounds, schedule, window_word, IsRoundsAt, IsWindow};
-ghost use Rattle.tor_hashes.specs.Lanes.{eight_of, window};
+ghost use Rattle.tor_hashes.specs.steps.Lanes.{eight_of, window};
 
 use crate::functions::{ch, maj};
 use crate::sha256_constants::K;

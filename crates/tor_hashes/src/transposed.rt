@@ -4,8 +4,8 @@
 //! half; then neighbours, a word of each pair. Each time one binary digit of a word's lane becomes that of its vector.
 
 ghost use Rattle.std.specs.Prelude.{◌≡◌, ℕ, ◌<◌};
-ghost use Rattle.tor_hashes.specs.Lanes.{word_of};
-ghost use Rattle.tor_hashes.specs.Shuffles.{halves_of, pairs_of, singles_of};
+ghost use Rattle.tor_hashes.specs.steps.Lanes.{word_of};
+ghost use Rattle.tor_hashes.specs.steps.Shuffles.{halves_of, pairs_of, singles_of};
 
 use crate::words::Words;
 

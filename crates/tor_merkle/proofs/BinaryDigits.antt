@@ -1,9 +1,7 @@
 -- The digits of a count in base two, and what one more does to them.
-use Rattle.std.proofs.Common.{◌≡◌, ℕ, suc, ◌+◌, ◌*◌, ◌/◌, ◌%◌, ◌^◌, ◌<◌, ◌≤◌, arith, ap}
-use Rattle.std.proofs.Common.{◌∙◌, sym, pow_pos, pow-add, pow-suc, mul_assoc, inl, inr}
-use Rattle.std.proofs.Math.Nat.{div-div-eq-div-mul, div-eq_of_lt-le, mul-div_cancel, pow-succ'}
-use Rattle.std.proofs.Math.Pow.{pow-lt}
-use Rattle.std.proofs.lemmas.Bool.{cases_lt}
+use Rattle.tor_merkle.proofs.Names.{◌≡◌, ℕ, suc, ◌+◌, ◌*◌, ◌/◌, ◌%◌, ◌^◌, ◌<◌, ◌≤◌, arith, ap, ◌∙◌, sym, pow_pos}
+use Rattle.tor_merkle.proofs.Names.{pow-add, pow-suc, mul_assoc, inl, inr, div-div-eq-div-mul, div-eq_of_lt-le}
+use Rattle.tor_merkle.proofs.Names.{mul-div_cancel, pow-succ', pow-lt, cases_lt}
 
 -- a power within a power
 pub power_within : (a b : ℕ) → 2 ^ a ≤ 2 ^ b → a ≤ b

@@ -1,9 +1,6 @@
 -- How many runs of m there are in n, the last perhaps shorter: run k is one of them exactly where it begins below n.
-use Rattle.std.proofs.Common.{◌≡◌, ℕ, ◌+◌, ◌*◌, ◌<◌, ◌≤◌, arith, inl, inr, le_antisymm}
-use Rattle.std.proofs.Common.{lt_of_mul-lt-mul_right, mul-le-mul_right, mul-pos, mul_assoc}
-use Rattle.std.proofs.lemmas.Bool.{cases_lt}
-use Rattle.std.proofs.lemmas.Grind.{div_ceil_times}
-use Rattle.std.specs.Int.{div_ceil}
+use Rattle.tor_merkle.proofs.Names.{◌≡◌, ℕ, ◌+◌, ◌*◌, ◌<◌, ◌≤◌, arith, inl, inr, le_antisymm, lt_of_mul-lt-mul_right}
+use Rattle.tor_merkle.proofs.Names.{mul-le-mul_right, mul-pos, mul_assoc, cases_lt, div_ceil_times, div_ceil}
 
 -- a run that is there begins below n
 pub below_from_ceil : (n m k : ℕ) → 0 < m → k < div_ceil n m → k * m < n

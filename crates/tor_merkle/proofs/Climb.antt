@@ -1,17 +1,12 @@
 -- Climbing the tree over the leaves of a content, level by level, until one hash is left.
-use Rattle.std.proofs.Common.{◌≡◌, ℕ, ◌+◌, ◌*◌, ◌^◌, ◌<◌, ◌≤◌, List, [], length, get_or, arith}
-use Rattle.std.proofs.Common.{inl, inr, ap, ◌∙◌, sym, pow_pos, mul-le-mul_right, le_antisymm}
-use Rattle.std.proofs.lemmas.Bool.{cases_lt, cond-true, cond-false, lt-leb, le-leb}
-use Rattle.std.proofs.lemmas.List.{get_or_default}
-use Rattle.std.specs.Int.{div_ceil}
-use Rattle.tor_merkle.specs.Block.{leaves}
-use Rattle.tor_merkle.specs.Layer.{pieces_root, piece_layer}
-use Rattle.tor_merkle.specs.Subtree.{zero_subtree, height}
+use Rattle.tor_merkle.proofs.Names.{◌≡◌, ℕ, ◌+◌, ◌*◌, ◌^◌, ◌<◌, ◌≤◌, List, [], length, get_or, arith, inl, inr, ap, ◌∙◌}
+use Rattle.tor_merkle.proofs.Names.{sym, pow_pos, mul-le-mul_right, le_antisymm, cases_lt, cond-true, cond-false}
+use Rattle.tor_merkle.proofs.Names.{lt-leb, le-leb, get_or_default, div_ceil, leaves, pieces_root, piece_layer}
+use Rattle.tor_merkle.proofs.Names.{zero_subtree, height, node, nodes}
 use Rattle.tor_merkle.proofs.Ceil.{below_from_ceil, ceil_from_below, ceil_at_most, ceil_covers}
 use Rattle.tor_merkle.proofs.Content.{length-leaves, pieces_root-node, piece_roots-nodes, longer_than_piece}
 use Rattle.tor_merkle.proofs.Height.{height_least, height_above}
 use Rattle.tor_merkle.proofs.Levels.{length-nodes, get_or-nodes}
-use Rattle.tor_merkle.specs.steps.Node.{node, nodes}
 
 -- the height of the tree over a content
 abbrev pub tree_height : List ℕ → ℕ

@@ -1,12 +1,9 @@
 -- Two different hashes at one index under one root: on the way up, different texts have one hash.
-use Rattle.std.proofs.Common.{◌≡◌, ◌≢◌, ℕ, ◌+◌, ◌/◌, ◌%◌, ◌<◌, ◌≤◌, min, List, [], ◌∷◌, ◌++◌, length, get_or}
-use Rattle.std.proofs.Common.{take, drop, cond, eqb, IsTrue, arith, refl, ap, ap₂, ◌∙◌, sym, inl, inr}
-use Rattle.std.proofs.lemmas.Bool.{and_parts, cases_eq, cond-true, cond-false, eq-eqb, ne_eqb, eqb-true}
-use Rattle.std.proofs.lemmas.List.{take_at, drop_at, drop_all, drop_more}
-use Rattle.std.proofs.lemmas.Slice.Eq.{bytes_eq-Decides}
-use Rattle.sha2.specs.Sha256.{sha256}
-use Rattle.tor_merkle.specs.Proof.{proof_root, is_proof}
-use Rattle.tor_merkle.specs.Subtree.{node_of, height}
+use Rattle.tor_merkle.proofs.Names.{◌≡◌, ◌≢◌, ℕ, ◌+◌, ◌/◌, ◌%◌, ◌<◌, ◌≤◌, min, List, [], ◌∷◌, ◌++◌, length, get_or}
+use Rattle.tor_merkle.proofs.Names.{take, drop, cond, eqb, IsTrue, arith, refl, ap, ap₂, ◌∙◌, sym, inl, inr, and_parts}
+use Rattle.tor_merkle.proofs.Names.{cases_eq, cond-true, cond-false, eq-eqb, ne_eqb, eqb-true, take_at, drop_at}
+use Rattle.tor_merkle.proofs.Names.{drop_all, drop_more, bytes_eq-Decides, sha256, proof_root, is_proof, node_of}
+use Rattle.tor_merkle.proofs.Names.{height}
 use Rattle.tor_merkle.proofs.ProofRoots.{proof_root-none, proof_root-left, proof_root-right}
 
 -- the bytes of a hash and its sibling

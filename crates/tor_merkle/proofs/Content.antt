@@ -1,20 +1,13 @@
 -- The root and the piece layer of a content are nodes of the tree over its leaves.
-use Rattle.std.proofs.Common.{◌≡◌, ℕ, ◌*◌, ◌/◌, ◌^◌, ◌<◌, ◌≤◌, List, [], ◌∷◌, map, length}
-use Rattle.std.proofs.Common.{arith, le_antisymm, le_trans, refl, sym, ap, ap₂, ◌∙◌, pow_pos, mul_assoc, mul_comm}
-use Rattle.std.proofs.Math.Nat.{mul-div_cancel_left}
-use Rattle.std.proofs.lemmas.List.{length-map}
-use Rattle.std.proofs.lemmas.List.FromFn.{length-map-range_with_len}
-use Rattle.std.specs.Int.{div_ceil}
-use Rattle.std.specs.List.{range_with_len}
-use Rattle.sha2.specs.Sha256.{sha256}
-use Rattle.tor_merkle.specs.Block.{run_at, blocks, leaves}
-use Rattle.tor_merkle.specs.Layer.{pieces_root, piece_level, piece_roots, tree_leaves}
-use Rattle.tor_merkle.specs.Subtree.{zero_leaf, zero_subtree, subtree_root, height, padded}
+use Rattle.tor_merkle.proofs.Names.{◌≡◌, ℕ, ◌*◌, ◌/◌, ◌^◌, ◌<◌, ◌≤◌, List, [], ◌∷◌, map, length, arith, le_antisymm}
+use Rattle.tor_merkle.proofs.Names.{le_trans, refl, sym, ap, ap₂, ◌∙◌, pow_pos, mul_assoc, mul_comm}
+use Rattle.tor_merkle.proofs.Names.{mul-div_cancel_left, length-map, length-map-range_with_len, div_ceil}
+use Rattle.tor_merkle.proofs.Names.{range_with_len, sha256, run_at, blocks, leaves, pieces_root, piece_level}
+use Rattle.tor_merkle.proofs.Names.{piece_roots, tree_leaves, zero_leaf, zero_subtree, subtree_root, height, padded}
+use Rattle.tor_merkle.proofs.Names.{node, nodes, padded_subtree}
 use Rattle.tor_merkle.proofs.Ceil.{ceil_at_most, ceil_ceil, ceil_covers, ceil_from_below}
 use Rattle.tor_merkle.proofs.Height.{height_covers, height-pow}
 use Rattle.tor_merkle.proofs.Levels.{map-range_same}
-use Rattle.tor_merkle.specs.steps.Node.{node, nodes}
-use Rattle.tor_merkle.specs.Stack.{padded_subtree}
 use Rattle.tor_merkle.proofs.Node.{subtree_root-padded, subtree_root-leaf_run}
 
 pub length-leaves : (content : List ℕ) → length (leaves content) ≡ div_ceil (length content) 16384

@@ -1,13 +1,8 @@
 -- Eight neighbouring nodes of a tree, and the texts that are hashed to them.
-use Rattle.std.proofs.Common.{◌≡◌, ℕ, zero, suc, ◌+◌, ◌-◌, ◌*◌, ◌^◌, ◌<◌, ◌≤◌, List, [], ◌∷◌, ◌++◌, length}
-use Rattle.std.proofs.Common.{get_or, take, drop, arith, subst, sym, ap, ap₂, ◌∙◌, inl, inr, mul-le-mul_right}
-use Rattle.std.proofs.lemmas.Bool.{cases_lt}
-use Rattle.std.proofs.lemmas.List.{take_at, drop_at, drop-drop, get_or_default}
-use Rattle.std.specs.List.{flat_map}
-use Rattle.sha2.specs.Sha256.{sha256}
-use Rattle.tor_merkle.specs.Stack.{padded_subtree}
-use Rattle.tor_merkle.specs.Subtree.{node_of, zero_subtree}
-use Rattle.tor_merkle.specs.steps.Node.{node}
+use Rattle.tor_merkle.proofs.Names.{◌≡◌, ℕ, zero, suc, ◌+◌, ◌-◌, ◌*◌, ◌^◌, ◌<◌, ◌≤◌, List, [], ◌∷◌, ◌++◌, length}
+use Rattle.tor_merkle.proofs.Names.{get_or, take, drop, arith, subst, sym, ap, ap₂, ◌∙◌, inl, inr, mul-le-mul_right}
+use Rattle.tor_merkle.proofs.Names.{cases_lt, take_at, drop_at, drop-drop, get_or_default, flat_map, sha256}
+use Rattle.tor_merkle.proofs.Names.{padded_subtree, node_of, zero_subtree, node}
 use Rattle.tor_merkle.proofs.Filled.{node-drop, node-over}
 use Rattle.tor_merkle.proofs.Node.{node_past, subtree_root-padded}
 use Rattle.tor_merkle.proofs.RunRoots.{node-take}

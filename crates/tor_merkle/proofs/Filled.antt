@@ -1,16 +1,10 @@
 -- Pieces filled one after another: the leaves of the last, and the nodes of those before it.
-use Rattle.std.proofs.Common.{◌≡◌, ℕ, zero, suc, ◌+◌, ◌-◌, ◌*◌, ◌/◌, ◌^◌, ◌<◌, ◌≤◌, List, [], ◌∷◌, ◌++◌, map}
-use Rattle.std.proofs.Common.{length, get_or, drop, arith, ap, ap₂, ◌∙◌, sym, pow_pos, pow-add, le_antisymm}
-use Rattle.std.proofs.Common.{le_trans, mul-le-mul_right, div-mul-le_self, suc-add, zero-add, length-drop}
-use Rattle.std.proofs.Math.Nat.{lt-div-mul-add, two-pow-succ}
-use Rattle.std.proofs.lemmas.List.{get_or-drop, length_push}
-use Rattle.std.proofs.lemmas.List.FromFn.{map-range_with_len_more, length-map-range_with_len}
-use Rattle.std.specs.Int.{div_ceil}
-use Rattle.std.specs.List.{range_with_len}
-use Rattle.tor_merkle.specs.steps.Node.{node, nodes, first_nodes}
-use Rattle.tor_merkle.specs.steps.Pieces.{filled}
-use Rattle.tor_merkle.specs.Stack.{padded_subtree, padded_root}
-use Rattle.tor_merkle.specs.Subtree.{node_of, zero_leaf, zero_subtree, height}
+use Rattle.tor_merkle.proofs.Names.{◌≡◌, ℕ, zero, suc, ◌+◌, ◌-◌, ◌*◌, ◌/◌, ◌^◌, ◌<◌, ◌≤◌, List, [], ◌∷◌, ◌++◌, map}
+use Rattle.tor_merkle.proofs.Names.{length, get_or, drop, arith, ap, ap₂, ◌∙◌, sym, pow_pos, pow-add, le_antisymm}
+use Rattle.tor_merkle.proofs.Names.{le_trans, mul-le-mul_right, div-mul-le_self, suc-add, zero-add, length-drop}
+use Rattle.tor_merkle.proofs.Names.{lt-div-mul-add, two-pow-succ, get_or-drop, length_push, map-range_with_len_more}
+use Rattle.tor_merkle.proofs.Names.{length-map-range_with_len, div_ceil, range_with_len, node, nodes, first_nodes}
+use Rattle.tor_merkle.proofs.Names.{filled, padded_subtree, padded_root, node_of, zero_leaf, zero_subtree, height}
 use Rattle.tor_merkle.proofs.Ceil.{ceil_from_below, ceil_at_most, ceil_covers}
 use Rattle.tor_merkle.proofs.Height.{height_covers, height_least, height_above}
 use Rattle.tor_merkle.proofs.Levels.{map-range_same, get_or-nodes, length-nodes}

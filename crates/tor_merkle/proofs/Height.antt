@@ -1,10 +1,7 @@
 -- The height of a tree: the least k with n at most 2 ^ k.
-use Rattle.std.proofs.Common.{◌≡◌, ◌⊎◌, ℕ, zero, suc, ◌^◌, ◌<◌, ◌≤◌, leb, arith, inl}
-use Rattle.std.proofs.Common.{inr, leb-true, leb-false, le_antisymm, le_trans, pow_pos, pow_mono}
-use Rattle.std.proofs.Math.Nat.{two-pow-succ}
-use Rattle.std.proofs.Math.Pow.{pow-lt}
-use Rattle.std.proofs.lemmas.Bool.{cases_Bool, cases_lt, cond-true, cond-false}
-use Rattle.tor_merkle.specs.Subtree.{height}
+use Rattle.tor_merkle.proofs.Names.{◌≡◌, ◌⊎◌, ℕ, zero, suc, ◌^◌, ◌<◌, ◌≤◌, leb, arith, inl, inr, leb-true, leb-false}
+use Rattle.tor_merkle.proofs.Names.{le_antisymm, le_trans, pow_pos, pow_mono, two-pow-succ, pow-lt, cases_Bool}
+use Rattle.tor_merkle.proofs.Names.{cases_lt, cond-true, cond-false, height}
 
 -- what one more does to the height
 height_more : (n : ℕ)

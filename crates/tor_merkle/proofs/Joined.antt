@@ -1,18 +1,11 @@
 -- Contents that are joined, the first of which ends with a whole piece: the pieces are those of both.
-use Rattle.std.proofs.Common.{◌≡◌, ℕ, ◌+◌, ◌-◌, ◌*◌, ◌^◌, ◌<◌, ◌≤◌, List, [], ◌++◌, map, length}
-use Rattle.std.proofs.Common.{take, drop, arith, inl, inr, sym, ap, ap₂, ◌∙◌, zero-add, length-append}
-use Rattle.std.proofs.Common.{pow_pos, mul-le-mul_right, le_trans, mul_assoc, mul_comm}
-use Rattle.std.proofs.lemmas.Bool.{cases_lt}
-use Rattle.std.proofs.lemmas.List.{get_or_append_left, get_or-append_right, drop_at, drop-append-le, drop-drop}
-use Rattle.std.proofs.lemmas.List.{length-drop, map-append, take-append-le}
-use Rattle.std.proofs.lemmas.List.FromFn.{length-map-range_with_len, get_or-map-range_with_len, fill_by_all}
-use Rattle.std.specs.Int.{div_ceil}
-use Rattle.std.specs.List.{range_with_len}
-use Rattle.sha2.specs.Sha256.{sha256}
-use Rattle.tor_merkle.specs.Block.{run_at, blocks, leaves}
-use Rattle.tor_merkle.specs.Layer.{piece_roots}
-use Rattle.tor_merkle.specs.steps.Node.{node, nodes}
-use Rattle.tor_merkle.specs.Subtree.{zero_leaf}
+use Rattle.tor_merkle.proofs.Names.{◌≡◌, ℕ, ◌+◌, ◌-◌, ◌*◌, ◌^◌, ◌<◌, ◌≤◌, List, [], ◌++◌, map, length, take, drop}
+use Rattle.tor_merkle.proofs.Names.{arith, inl, inr, sym, ap, ap₂, ◌∙◌, zero-add, length-append, pow_pos}
+use Rattle.tor_merkle.proofs.Names.{mul-le-mul_right, le_trans, mul_assoc, mul_comm, cases_lt, get_or_append_left}
+use Rattle.tor_merkle.proofs.Names.{get_or-append_right, drop_at, drop-append-le, drop-drop, length-drop, map-append}
+use Rattle.tor_merkle.proofs.Names.{take-append-le, length-map-range_with_len, get_or-map-range_with_len, fill_by_all}
+use Rattle.tor_merkle.proofs.Names.{div_ceil, range_with_len, sha256, run_at, blocks, leaves, piece_roots, node, nodes}
+use Rattle.tor_merkle.proofs.Names.{zero_leaf}
 use Rattle.tor_merkle.proofs.Ceil.{ceil_joined, ceil_whole}
 use Rattle.tor_merkle.proofs.Content.{length-leaves, piece_roots-nodes}
 use Rattle.tor_merkle.proofs.Filled.{node-drop}

@@ -1,20 +1,14 @@
 -- What the tree of pieces keeps, through one leaf more and to its end.
-use Rattle.std.proofs.Common.{◌≡◌, ℕ, ◌+◌, ◌-◌, ◌*◌, ◌/◌, ◌^◌, ◌<◌, ◌≤◌, List, [], ◌∷◌, ◌++◌}
-use Rattle.std.proofs.Common.{length, drop, map, arith, ap, ap₂, ◌∙◌, sym, pow_pos, pow-add}
-use Rattle.std.proofs.Common.{lt_of_mul-lt-mul_right, inl, inr, zero-mul}
-use Rattle.std.proofs.lemmas.Bool.{cases_lt}
-use Rattle.std.proofs.lemmas.List.{length_push, drop-append-le, drop_at, drop_all, nil_from_length}
-use Rattle.std.proofs.Math.Nat.{zero-div}
-use Rattle.std.specs.List.{range_with_len}
-use Rattle.std.specs.Int.{div_ceil}
-use Rattle.tor_merkle.specs.steps.Node.{node, nodes, first_nodes}
-use Rattle.tor_merkle.specs.steps.Pieces.{KeepsPieces, EndsPiece, filled}
-use Rattle.tor_merkle.specs.Stack.{Subtrees, padded_subtree}
+use Rattle.tor_merkle.proofs.Names.{◌≡◌, ℕ, ◌+◌, ◌-◌, ◌*◌, ◌/◌, ◌^◌, ◌<◌, ◌≤◌, List, [], ◌∷◌, ◌++◌, length, drop, map}
+use Rattle.tor_merkle.proofs.Names.{arith, ap, ap₂, ◌∙◌, sym, pow_pos, pow-add, lt_of_mul-lt-mul_right, inl, inr}
+use Rattle.tor_merkle.proofs.Names.{zero-mul, cases_lt, length_push, drop-append-le, drop_at, drop_all, nil_from_length}
+use Rattle.tor_merkle.proofs.Names.{zero-div, range_with_len, div_ceil, node, nodes, first_nodes, KeepsPieces}
+use Rattle.tor_merkle.proofs.Names.{EndsPiece, filled, Subtrees, padded_subtree}
 use Rattle.tor_merkle.proofs.Ceil.{ceil_at_most}
 use Rattle.tor_merkle.proofs.Levels.{length-nodes}
 use Rattle.tor_merkle.proofs.Filled.{filled_below, filled_covers, filled_within, length-last_piece, first_nodes_closed}
-use Rattle.tor_merkle.proofs.Filled.{first_nodes-push, filled_full, filled_open, all_filled}
-use Rattle.tor_merkle.proofs.Filled.{first_nodes_all, length-first_nodes, one_piece, more_pieces}
+use Rattle.tor_merkle.proofs.Filled.{first_nodes-push, filled_full, filled_open, all_filled, first_nodes_all}
+use Rattle.tor_merkle.proofs.Filled.{length-first_nodes, one_piece, more_pieces}
 
 module _ (k : ℕ) (leaves : List (List ℕ)) (blocks pieces : Subtrees) (layer : List (List ℕ))
     (keeps : KeepsPieces k leaves blocks pieces layer) where

@@ -1,16 +1,9 @@
 -- The leaves of a content that grows by parts of blocks.
-use Rattle.std.proofs.Common.{◌≡◌, ℕ, ◌+◌, ◌*◌, ◌/◌, ◌%◌, ◌^◌, ◌<◌, ◌≤◌, List, [], ◌∷◌, ◌++◌, map, length}
-use Rattle.std.proofs.Common.{take, drop, arith, refl, ap, ◌∙◌, sym, subst, append_assoc, take-append-drop}
-use Rattle.std.proofs.Common.{length-append, length-take, length-drop, le_antisymm}
-use Rattle.std.proofs.Common.{append-nil}
-use Rattle.std.proofs.lemmas.List.{take-append-le, drop-append-le, take_all, drop_all}
-use Rattle.std.specs.Int.{div_ceil}
-use Rattle.std.specs.List.{range_with_len}
-use Rattle.sha2.specs.Hashers.{Holds256}
-use Rattle.sha2.specs.Sha256.{sha256}
-use Rattle.sha2.specs.declared.Sha256.{Sha256}
-use Rattle.tor_merkle.specs.Block.{run_at, blocks, leaves}
-use Rattle.tor_merkle.specs.steps.Blocks.{KeepsBlocks, in_blocks}
+use Rattle.tor_merkle.proofs.Names.{◌≡◌, ℕ, ◌+◌, ◌*◌, ◌/◌, ◌%◌, ◌^◌, ◌<◌, ◌≤◌, List, [], ◌∷◌, ◌++◌, map, length, take}
+use Rattle.tor_merkle.proofs.Names.{drop, arith, refl, ap, ◌∙◌, sym, subst, append_assoc, take-append-drop}
+use Rattle.tor_merkle.proofs.Names.{length-append, length-take, length-drop, le_antisymm, append-nil, take-append-le}
+use Rattle.tor_merkle.proofs.Names.{drop-append-le, take_all, drop_all, div_ceil, range_with_len, Holds256, sha256}
+use Rattle.tor_merkle.proofs.Names.{Sha256, run_at, blocks, leaves, KeepsBlocks, in_blocks}
 use Rattle.tor_merkle.proofs.Ceil.{ceil_at_most, ceil_from_below, ceil_whole}
 use Rattle.tor_merkle.proofs.Content.{length-leaves, room_of_leaves}
 use Rattle.tor_merkle.proofs.Joined.{leaves-joined}

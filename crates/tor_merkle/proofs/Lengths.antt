@@ -1,12 +1,8 @@
 -- A piece has 16,384 * 2 ^ k bytes, and one hash covers it at level k.
-use Rattle.std.proofs.Common.{◌≡◌, ◌*◌, ◌/◌, ◌^◌, ◌≤◌, ◌↔◌, ℕ, Bool, true, ◌&&◌, leb}
-use Rattle.std.proofs.Common.{IsTrue, arith, refl, ap, ◌∙◌, eqb-true, leb-true}
-use Rattle.std.proofs.Math.Nat.{mul-div_cancel_left}
-use Rattle.std.proofs.lemmas.Bool.{and_parts, le-leb}
-use Rattle.std.specs.Int.{is_power_of_two}
-use Rattle.tor_merkle.specs.Layer.{IsPieceLength, piece_level}
-use Rattle.tor_merkle.specs.Subtree.{height}
-use Rattle.tor_merkle.specs.declared.TheConstants.{MAX_PIECE_LENGTH, MIN_PIECE_LENGTH}
+use Rattle.tor_merkle.proofs.Names.{◌≡◌, ◌*◌, ◌/◌, ◌^◌, ◌≤◌, ◌↔◌, ℕ, Bool, true, ◌&&◌, leb, IsTrue, arith, refl, ap}
+use Rattle.tor_merkle.proofs.Names.{◌∙◌, leb-true, mul-div_cancel_left, and_parts, le-leb, is_power_of_two}
+use Rattle.tor_merkle.proofs.Names.{IsPieceLength, piece_level, height, MAX_PIECE_LENGTH, MIN_PIECE_LENGTH}
+use Rattle.std.proofs.Common.{eqb-true}
 use Rattle.tor_merkle.proofs.Height.{height-pow, height_least}
 use Rattle.tor_merkle.proofs.Power.{power_split}
 

@@ -1,15 +1,9 @@
 -- The levels of the tree over a list of hashes, each as the list of its nodes that do not lie past the end.
-use Rattle.std.proofs.Common.{◌≡◌, ℕ, suc, ◌+◌, ◌*◌, ◌^◌, ◌<◌, ◌≤◌, List, map, length, get_or}
-use Rattle.std.proofs.Common.{arith, refl, sym, ap, ◌∙◌, inl, inr, pow_pos, zero-add}
-use Rattle.std.proofs.Math.Nat.{pow-succ'}
-use Rattle.std.proofs.lemmas.Bool.{cases_lt}
-use Rattle.std.proofs.lemmas.List.{get_or_past}
-use Rattle.std.proofs.lemmas.List.FromFn.{length-map-range_with_len, get_or-map-range_with_len, fill_by_all}
-use Rattle.std.specs.Int.{div_ceil}
-use Rattle.std.specs.List.{range_with_len}
-use Rattle.tor_merkle.specs.Subtree.{node_of, zero_subtree, level_above}
+use Rattle.tor_merkle.proofs.Names.{◌≡◌, ℕ, suc, ◌+◌, ◌*◌, ◌^◌, ◌<◌, ◌≤◌, List, map, length, get_or, arith, refl, sym}
+use Rattle.tor_merkle.proofs.Names.{ap, ◌∙◌, inl, inr, pow_pos, zero-add, pow-succ', cases_lt, get_or_past}
+use Rattle.tor_merkle.proofs.Names.{length-map-range_with_len, get_or-map-range_with_len, fill_by_all, div_ceil}
+use Rattle.tor_merkle.proofs.Names.{range_with_len, node_of, zero_subtree, level_above, node, nodes}
 use Rattle.tor_merkle.proofs.Ceil.{ceil_from_below, ceil_ceil, ceil-one}
-use Rattle.tor_merkle.specs.steps.Node.{node, nodes}
 use Rattle.tor_merkle.proofs.Node.{node_past}
 
 -- lists of the values of two functions are equal where the functions are

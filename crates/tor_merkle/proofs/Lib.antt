@@ -1,3 +1,4 @@
+pub mod Names
 pub mod Ceil
 pub mod Height
 pub mod Node

@@ -1,14 +1,10 @@
 -- The nodes of the tree over a list of hashes: the root of each whole subtree is one of them.
-use Rattle.std.proofs.Common.{◌≡◌, ℕ, zero, suc, ◌+◌, ◌*◌, ◌^◌, ◌-◌, ◌<◌, ◌≤◌, List, ◌++◌, length, get_or, take, drop}
-use Rattle.std.proofs.Common.{replicate, arith, refl, sym, ap, ap₂, ◌∙◌, inl, inr, add-suc, add-zero, zero-mul}
-use Rattle.std.proofs.Math.Nat.{two-pow-succ}
-use Rattle.std.proofs.lemmas.Bool.{cases_lt}
-use Rattle.std.proofs.lemmas.List.{get_or_past, get_or_default, get_or_append_left, get_or-append_right}
-use Rattle.std.proofs.lemmas.List.{get_or-replicate, get_or-take, get_or-drop, take-take, drop-take}
-use Rattle.std.proofs.lemmas.List.{drop-drop, take_all, length-append, length-replicate}
-use Rattle.tor_merkle.specs.Block.{run_at}
-use Rattle.tor_merkle.specs.steps.Node.{node}
-use Rattle.tor_merkle.specs.Subtree.{node_of, zero_leaf, zero_subtree, subtree_root, padded}
+use Rattle.tor_merkle.proofs.Names.{◌≡◌, ℕ, zero, suc, ◌+◌, ◌*◌, ◌^◌, ◌-◌, ◌<◌, ◌≤◌, List, ◌++◌, length, get_or, take}
+use Rattle.tor_merkle.proofs.Names.{drop, replicate, arith, refl, sym, ap, ap₂, ◌∙◌, inl, inr, add-suc, add-zero}
+use Rattle.tor_merkle.proofs.Names.{zero-mul, two-pow-succ, cases_lt, get_or_past, get_or_default, get_or_append_left}
+use Rattle.tor_merkle.proofs.Names.{get_or-append_right, get_or-replicate, get_or-take, get_or-drop, take-take}
+use Rattle.tor_merkle.proofs.Names.{drop-take, drop-drop, take_all, length-append, length-replicate, run_at, node}
+use Rattle.tor_merkle.proofs.Names.{node_of, zero_leaf, zero_subtree, subtree_root, padded}
 
 -- a node wholly past the end
 pub node_past : (base : ℕ) (hashes : List (List ℕ)) (k i : ℕ) → length hashes ≤ i * 2 ^ k

@@ -1,12 +1,7 @@
 -- A number with one bit set is a power of two.
-use Rattle.std.proofs.Common.{◌≡◌, ℕ, suc, ◌-◌, ◌*◌, ◌/◌, ◌%◌, ◌^◌, ◌<◌, ◌≤◌}
-use Rattle.std.proofs.Common.{count_ones, arith, inl, inr, pow-suc, pow-add, ap, ◌∙◌}
-use Rattle.std.proofs.Math.Arith.{bin_ind}
-use Rattle.std.proofs.Math.Nat.{mul-lt-mul_of_pos_left}
-use Rattle.std.proofs.Math.Pow.{pow-lt}
-use Rattle.std.proofs.lemmas.Bool.{cases_eq, cases_lt, cases_order}
-use Rattle.std.proofs.lemmas.Nat.{zero_from_ones}
-use Rattle.std.specs.Int.Count.{ones, ones_step}
+use Rattle.tor_merkle.proofs.Names.{◌≡◌, ℕ, suc, ◌-◌, ◌*◌, ◌/◌, ◌%◌, ◌^◌, ◌<◌, ◌≤◌, count_ones, arith, inl, inr}
+use Rattle.tor_merkle.proofs.Names.{pow-suc, pow-add, ap, ◌∙◌, bin_ind, mul-lt-mul_of_pos_left, pow-lt, cases_eq}
+use Rattle.tor_merkle.proofs.Names.{cases_lt, cases_order, zero_from_ones, ones, ones_step}
 
 one_bit_zero : ones 0 ≡ 1 → (k : ℕ) × (0 ≡ 2 ^ k)
 unfolding ones

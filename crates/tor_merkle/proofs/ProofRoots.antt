@@ -1,12 +1,8 @@
 -- The root that a hash and its siblings name, one level after another, and the tests of the siblings past the end.
-use Rattle.std.proofs.Common.{◌≡◌, ℕ, ◌/◌, ◌%◌, ◌<◌, Bool, true, false, List, [], ◌∷◌, arith, refl, ap, ◌∙◌, zero-add}
-use Rattle.std.proofs.lemmas.Bool.{cond-true, cond-false, eq-eqb, ne_eqb}
-use Rattle.std.proofs.lemmas.List.Folds.{list_all_at}
-use Rattle.std.proofs.lemmas.List.FromFn.{get_or-range_with_len, length-range_with_len}
-use Rattle.std.proofs.lemmas.List.Sums.{list_all-from_AllPass}
-use Rattle.std.specs.List.{list_all, range_with_len}
-use Rattle.tor_merkle.specs.Proof.{proof_root}
-use Rattle.tor_merkle.specs.Subtree.{node_of}
+use Rattle.tor_merkle.proofs.Names.{◌≡◌, ℕ, ◌/◌, ◌%◌, ◌<◌, Bool, true, false, List, [], ◌∷◌, arith, refl, ap, ◌∙◌}
+use Rattle.tor_merkle.proofs.Names.{zero-add, cond-true, cond-false, eq-eqb, ne_eqb, list_all_at, get_or-range_with_len}
+use Rattle.tor_merkle.proofs.Names.{length-range_with_len, list_all-from_AllPass, list_all, range_with_len, proof_root}
+use Rattle.tor_merkle.proofs.Names.{node_of}
 
 pub proof_root-none : (hash : List ℕ) (index : ℕ) → proof_root hash index [] ≡ hash
 unfolding proof_root

@@ -1,38 +1,29 @@
 -- The laws of `src/laws.rt`, for proofs that cite them.
-use Rattle.std.proofs.Common.{◌≡◌, ◌+◌, ◌-◌, ◌*◌, ◌^◌, ◌<◌, ◌≤◌, ◌↔◌, ℕ, IsTrue, List, [], ◌∷◌}
-use Rattle.std.proofs.Common.{◌++◌, length, map, arith, sym, ap, ap₂, ◌∙◌, pow-add, mul_assoc, mul_comm, inl, inr}
-use Rattle.std.proofs.Math.Pow.{pow-lt}
-use Rattle.std.proofs.lemmas.Bool.{cases_lt, cond-true, cond-false, eqb-true, lt-ltb, le-ltb, lt-leb}
-use Rattle.std.specs.Int.{div_ceil, is_power_of_two}
-use Rattle.std.specs.List.{flat_map, range_with_len}
-use Rattle.tor_merkle.specs.Block.{run_at, leaves}
-use Rattle.tor_merkle.specs.Layer.{IsPieceLength, pieces_root, piece_level, piece_roots, piece_layer}
-use Rattle.tor_merkle.specs.Proof.{proof_count, proof_level}
-use Rattle.tor_merkle.specs.Stack.{padded_root, padded_subtree}
-use Rattle.tor_merkle.specs.Subtree.{height}
-use Rattle.tor_merkle.specs.declared.TheConstants.{MAX_LENGTH, MAX_PIECE_LENGTH, MIN_PIECE_LENGTH}
+use Rattle.tor_merkle.proofs.Names.{◌≡◌, ◌+◌, ◌-◌, ◌*◌, ◌^◌, ◌<◌, ◌≤◌, ℕ, List, [], ◌∷◌, ◌++◌, length, map, arith, sym}
+use Rattle.tor_merkle.proofs.Names.{ap, ap₂, ◌∙◌, pow-add, mul_assoc, mul_comm, inl, inr, pow-lt, cases_lt, cond-true}
+use Rattle.tor_merkle.proofs.Names.{cond-false, eqb-true, lt-ltb, le-ltb, lt-leb, div_ceil, flat_map, range_with_len}
+use Rattle.tor_merkle.proofs.Names.{run_at, leaves, IsPieceLength, pieces_root, piece_level, piece_roots, piece_layer}
+use Rattle.tor_merkle.proofs.Names.{proof_count, proof_level, padded_root, padded_subtree, height, MAX_LENGTH}
+use Rattle.tor_merkle.proofs.Names.{MAX_PIECE_LENGTH}
 use Rattle.tor_merkle.proofs.Ceil.{ceil_at_most, ceil_from_below}
 use Rattle.tor_merkle.proofs.Content.{length-piece_roots, longer_than_piece, piece_roots-nodes, only_piece_root}
 use Rattle.tor_merkle.proofs.Filled.{padded_root-nodes}
-pub use Rattle.tor_merkle.proofs.HashLengths.{piece_roots_have_32_bytes, root_has_32_bytes}
-pub use Rattle.tor_merkle.proofs.Height.{height_covers, height_least}
 use Rattle.tor_merkle.proofs.Joined.{piece_roots-joined}
 use Rattle.tor_merkle.proofs.Lengths.{length_bounds, length_split, level_is, level_low}
-pub use Rattle.tor_merkle.proofs.RunRoots.{root_of_halves, root_of_one, root_of_whole}
-pub use Rattle.tor_merkle.proofs.UnitRoots.{root_over_units, subtree_over_pieces}
 use Rattle.tor_merkle.proofs.Units.{roots-units}
 use Rattle.tor_merkle.proofs.Power.{power_from_ones}
 use Rattle.tor_merkle.proofs.Sums.{padded_root-leaves}
-
--- a piece length is a power of two from 16,384 to 2 ^ 30
-pub piece_length_bounds : (n : ℕ)
-    → IsPieceLength n ↔ (IsTrue (is_power_of_two n) × (MIN_PIECE_LENGTH ≤ n) × (n ≤ MAX_PIECE_LENGTH))
-piece_length_bounds = length_bounds
+pub use Rattle.tor_merkle.proofs.HashLengths.{piece_roots_have_32_bytes, root_has_32_bytes}
+pub use Rattle.tor_merkle.proofs.Content.{length-piece_roots as count_of_piece_roots}
+pub use Rattle.tor_merkle.proofs.Lengths.{length_bounds as piece_length_bounds, level_low as piece_levels_are_low}
+pub use Rattle.tor_merkle.proofs.Height.{height_covers, height_least}
+pub use Rattle.tor_merkle.proofs.RunRoots.{root_of_halves, root_of_one, root_of_whole}
+pub use Rattle.tor_merkle.proofs.UnitRoots.{root_over_units, subtree_over_pieces}
 
 -- a piece length is 2 ^ k with k at most 30
 pub piece_lengths_divide_the_greatest : (n : ℕ) → IsPieceLength n → (count : ℕ) × (MAX_PIECE_LENGTH ≡ count * n)
 piece_lengths_divide_the_greatest n allowed =
-    let bounds = (piece_length_bounds n).0 allowed in
+    let bounds = (length_bounds n).0 allowed in
     let power = power_from_ones n (eqb-true _ _ bounds.0) in
     let below : power.0 ≤ 30 = elim (cases_lt 30 power.0) [
       | inl more ↦
@@ -43,13 +34,6 @@ piece_lengths_divide_the_greatest n allowed =
     let split : 2 ^ 30 ≡ 2 ^ (30 - power.0) * 2 ^ power.0 =
     ap (λ k. 2 ^ k) (let e : 30 ≡ 30 - power.0 + power.0 = omega arith in e) ∙ pow-add 2 (30 - power.0) power.0 in
     (2 ^ (30 - power.0), split ∙ ap (λ m. 2 ^ (30 - power.0) * m) (sym power.1))
-
-pub piece_levels_are_low : (n : ℕ) → IsPieceLength n → piece_level n ≤ 16
-piece_levels_are_low = level_low
-
-pub count_of_piece_roots : (content : List ℕ) (piece_length : ℕ)
-    → length (piece_roots content piece_length) ≡ div_ceil (length content) piece_length
-count_of_piece_roots = length-piece_roots
 
 -- where the first content ends with a whole piece
 pub piece_roots_of_joined : (a b : List ℕ) (piece_length k : ℕ) → IsPieceLength piece_length
@@ -99,7 +83,7 @@ pub some_piece_root : (content : List ℕ) (piece_length : ℕ) → IsPieceLengt
     → 0 < length (piece_roots content piece_length)
 some_piece_root content n allowed some =
     let pos : 0 < n = omega (arith, ((length_bounds n).0 allowed).1) in
-    rw count_of_piece_roots (ceil_from_below (length content) n 0 pos (omega (arith, some)))
+    rw length-piece_roots (ceil_from_below (length content) n 0 pos (omega (arith, some)))
 
 few_pieces : (size n : ℕ) → IsPieceLength n → size ≤ MAX_LENGTH → div_ceil size n ≤ 2 ^ (36 - piece_level n)
 few_pieces size n allowed small =
@@ -118,7 +102,7 @@ pub few_piece_roots : (content : List ℕ) (piece_length : ℕ) → IsPieceLengt
     → length content ≤ MAX_LENGTH
     → length (piece_roots content piece_length) ≤ 2 ^ (36 - piece_level piece_length)
 few_piece_roots content n allowed small =
-    rw (count_of_piece_roots content n) (few_pieces (length content) n allowed small)
+    rw (length-piece_roots content n) (few_pieces (length content) n allowed small)
 
 -- the trees of proofs have at most 37 levels in all
 pub proofs_are_low : (size piece_length : ℕ) → IsPieceLength piece_length → size ≤ MAX_LENGTH

@@ -1,12 +1,8 @@
 -- The climb from the last whole subtree that a stack keeps to a root.
-use Rattle.std.proofs.Common.{◌≡◌, ℕ, suc, ◌+◌, ◌-◌, ◌*◌, ◌/◌, ◌%◌, ◌^◌, ◌<◌, ◌≤◌, List, length}
-use Rattle.std.proofs.Common.{get_or, arith, ap, ap₂, ◌∙◌, sym, pow_pos, mul-le-mul_right, inl, inr}
-use Rattle.std.proofs.Math.Nat.{mul-div_cancel, two-pow-succ}
-use Rattle.std.proofs.lemmas.Bool.{cases_eq}
-use Rattle.tor_merkle.specs.steps.Node.{node}
-use Rattle.tor_merkle.specs.steps.Tops.{KeepsTops}
-use Rattle.tor_merkle.specs.Stack.{padded_subtree}
-use Rattle.tor_merkle.specs.Subtree.{node_of, zero_leaf, zero_subtree}
+use Rattle.tor_merkle.proofs.Names.{◌≡◌, ℕ, suc, ◌+◌, ◌-◌, ◌*◌, ◌/◌, ◌%◌, ◌^◌, ◌<◌, ◌≤◌, List, length, get_or, arith}
+use Rattle.tor_merkle.proofs.Names.{ap, ap₂, ◌∙◌, sym, pow_pos, mul-le-mul_right, inl, inr, mul-div_cancel}
+use Rattle.tor_merkle.proofs.Names.{two-pow-succ, cases_eq, node, KeepsTops, padded_subtree, node_of, zero_leaf}
+use Rattle.tor_merkle.proofs.Names.{zero_subtree}
 use Rattle.tor_merkle.proofs.Node.{node_past, subtree_root-padded}
 use Rattle.tor_merkle.proofs.Tops.{top_left}
 

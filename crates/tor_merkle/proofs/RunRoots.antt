@@ -1,12 +1,7 @@
 -- The roots over runs of hashes are nodes of one tree.
-use Rattle.std.proofs.Common.{◌≡◌, ℕ, zero, suc, ◌+◌, ◌*◌, ◌^◌, ◌≤◌, List, length, get_or, take, drop, arith, sym, ap}
-use Rattle.std.proofs.Common.{ap₂, ◌∙◌, add-zero, length-take}
-use Rattle.std.proofs.Math.Nat.{two-pow-succ}
-use Rattle.std.proofs.lemmas.List.{get_or-take}
-use Rattle.tor_merkle.specs.Block.{run_at}
-use Rattle.tor_merkle.specs.Stack.{padded_root, padded_subtree}
-use Rattle.tor_merkle.specs.Subtree.{height, node_of, zero_subtree}
-use Rattle.tor_merkle.specs.steps.Node.{node}
+use Rattle.tor_merkle.proofs.Names.{◌≡◌, ℕ, zero, suc, ◌+◌, ◌*◌, ◌^◌, ◌≤◌, List, length, get_or, take, drop, arith, sym}
+use Rattle.tor_merkle.proofs.Names.{ap, ap₂, ◌∙◌, add-zero, length-take, two-pow-succ, get_or-take, run_at, padded_root}
+use Rattle.tor_merkle.proofs.Names.{padded_subtree, height, node_of, zero_subtree, node}
 use Rattle.tor_merkle.proofs.Filled.{node-drop}
 use Rattle.tor_merkle.proofs.Height.{height_covers}
 use Rattle.tor_merkle.proofs.Node.{subtree_root-padded}

@@ -1,17 +1,8 @@
 -- Runs of eight whole blocks, whose leaves are computed at once.
-use Rattle.std.proofs.Common.{◌≡◌, ℕ, ◌+◌, ◌*◌, ◌/◌, ◌%◌, ◌^◌, ◌<◌, ◌≤◌, List, [], ◌++◌, map, length, get_or}
-use Rattle.std.proofs.Common.{take, drop, arith, ap, ◌∙◌, sym, subst, length-append}
-use Rattle.std.proofs.Common.{mul_comm}
-use Rattle.std.proofs.lemmas.List.{take_all, drop_all}
-use Rattle.std.proofs.lemmas.List.FromFn.{fill_by_all}
-use Rattle.std.proofs.lemmas.Simd.{map-map}
-use Rattle.std.specs.Int.{div_ceil}
-use Rattle.std.specs.List.{range_with_len}
-use Rattle.sha2.specs.Hashers.{Holds256}
-use Rattle.sha2.specs.Sha256.{sha256}
-use Rattle.sha2.specs.declared.Sha256.{Sha256}
-use Rattle.tor_merkle.specs.Block.{run_at, blocks, leaves}
-use Rattle.tor_merkle.specs.steps.Blocks.{KeepsBlocks, in_blocks}
+use Rattle.tor_merkle.proofs.Names.{◌≡◌, ℕ, ◌+◌, ◌*◌, ◌/◌, ◌%◌, ◌^◌, ◌<◌, ◌≤◌, List, [], ◌++◌, map, length, get_or}
+use Rattle.tor_merkle.proofs.Names.{take, drop, arith, ap, ◌∙◌, sym, subst, length-append, mul_comm, take_all, drop_all}
+use Rattle.tor_merkle.proofs.Names.{fill_by_all, map-map, div_ceil, range_with_len, Holds256, sha256, Sha256, run_at}
+use Rattle.tor_merkle.proofs.Names.{blocks, leaves, KeepsBlocks, in_blocks}
 use Rattle.tor_merkle.proofs.Ceil.{ceil_whole}
 use Rattle.tor_merkle.proofs.Content.{room_of_leaves}
 use Rattle.tor_merkle.proofs.Joined.{leaves-joined}

@@ -1,19 +1,14 @@
 -- The siblings on the way from a hash to the root are nodes, and each two nodes of one parent give it.
-use Rattle.std.proofs.Common.{◌≡◌, ℕ, zero, suc, ◌+◌, ◌-◌, ◌*◌, ◌/◌, ◌%◌, ◌^◌, ◌<◌, ◌≤◌, List, map, length}
-use Rattle.std.proofs.Common.{IsTrue, true, get_or, arith, ap, ap₂, ◌∙◌, sym, inl, inr, add-zero}
-use Rattle.std.proofs.Common.{add-one, zero-add, pow-suc, mul-le-mul_right, div-mul-le_self, eqb}
-use Rattle.std.proofs.Math.Nat.{div-div-eq-div-mul}
-use Rattle.std.proofs.lemmas.Bool.{cases_eq, cases_Bool, cond-true, cond-false, cond_both, eq-eqb, ne_eqb}
-use Rattle.std.proofs.lemmas.Bool.{lt-ltb, and_from, or_left, or_right, not_from_false, leb-true}
-use Rattle.std.proofs.lemmas.List.{get_or_default}
-use Rattle.std.proofs.lemmas.List.FromFn.{length-map-range_with_len, get_or-map-range_with_len}
-use Rattle.std.proofs.lemmas.Slice.Eq.{bytes_eq-Decides}
-use Rattle.std.specs.List.{range_with_len}
-use Rattle.tor_merkle.specs.Block.{run_at}
-use Rattle.tor_merkle.specs.Proof.{proof_root, sibling_index, is_past_end, is_zero_past_end, is_proof, siblings_of}
-use Rattle.tor_merkle.specs.Stack.{padded_subtree, padded_root}
-use Rattle.tor_merkle.specs.Subtree.{node_of, zero_leaf, zero_subtree, height}
-use Rattle.tor_merkle.specs.steps.Node.{node}
+use Rattle.tor_merkle.proofs.Names.{◌≡◌, ℕ, zero, suc, ◌+◌, ◌-◌, ◌*◌, ◌/◌, ◌%◌, ◌^◌, ◌<◌, ◌≤◌, List, map, length}
+use Rattle.tor_merkle.proofs.Names.{IsTrue, true, get_or, arith, ap, ap₂, ◌∙◌, sym, inl, inr, add-zero, add-one}
+use Rattle.tor_merkle.proofs.Names.{zero-add, pow-suc, mul-le-mul_right, div-mul-le_self, eqb, div-div-eq-div-mul}
+use Rattle.tor_merkle.proofs.Names.{cases_eq, cases_Bool, cond-true, cond-false, cond_both, eq-eqb, ne_eqb, lt-ltb}
+use Rattle.tor_merkle.proofs.Names.{and_from, or_left, or_right, not_from_false, get_or_default}
+use Rattle.tor_merkle.proofs.Names.{length-map-range_with_len, get_or-map-range_with_len, bytes_eq-Decides}
+use Rattle.tor_merkle.proofs.Names.{range_with_len, run_at, proof_root, sibling_index, is_past_end, is_zero_past_end}
+use Rattle.tor_merkle.proofs.Names.{is_proof, siblings_of, padded_subtree, padded_root, node_of, zero_leaf}
+use Rattle.tor_merkle.proofs.Names.{zero_subtree, height, node}
+use Rattle.std.proofs.lemmas.Bool.{leb-true}
 use Rattle.tor_merkle.proofs.Height.{height_covers}
 use Rattle.tor_merkle.proofs.Node.{node_past, subtree_root-padded}
 use Rattle.tor_merkle.proofs.BinaryDigits.{div_between}

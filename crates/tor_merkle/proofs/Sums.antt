@@ -1,11 +1,7 @@
 -- Root and layer over the leaves are those of the content.
-use Rattle.std.proofs.Common.{◌≡◌, ℕ, ◌*◌, ◌^◌, List, [], cond, length, leb, ◌∙◌, sym, inl, inr}
-use Rattle.std.proofs.lemmas.Bool.{cases_lt, cond-true, cond-false, lt-leb, le-leb}
-use Rattle.tor_merkle.specs.Block.{leaves}
-use Rattle.tor_merkle.specs.Layer.{pieces_root, piece_layer}
-use Rattle.tor_merkle.specs.steps.Node.{nodes}
-use Rattle.tor_merkle.specs.Stack.{padded_root}
-use Rattle.tor_merkle.specs.Subtree.{height}
+use Rattle.tor_merkle.proofs.Names.{◌≡◌, ℕ, ◌*◌, ◌^◌, List, [], cond, length, leb, ◌∙◌, sym, inl, inr, cases_lt}
+use Rattle.tor_merkle.proofs.Names.{cond-true, cond-false, lt-leb, le-leb, leaves, pieces_root, piece_layer, nodes}
+use Rattle.tor_merkle.proofs.Names.{padded_root, height}
 use Rattle.tor_merkle.proofs.Climb.{piece_layer-nodes, piece_layer-none}
 use Rattle.tor_merkle.proofs.Content.{longer_than_piece, pieces_root-node, within_piece}
 use Rattle.tor_merkle.proofs.Height.{height_covers}

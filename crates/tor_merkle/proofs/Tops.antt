@@ -1,12 +1,8 @@
 -- What a stack keeps, through a push and a climb to the root.
-use Rattle.std.proofs.Common.{◌≡◌, ℕ, suc, ◌+◌, ◌-◌, ◌*◌, ◌/◌, ◌%◌, ◌^◌, ◌<◌, ◌≤◌, List, [], ◌∷◌, ◌++◌, length}
-use Rattle.std.proofs.Common.{get_or, set, arith, ap, ap₂, ◌∙◌, sym, pow_pos, inl, inr, div-mul-le_self}
-use Rattle.std.proofs.Common.{get_or-set_same, length-set, get_or-set_other, mul-le-mul_right, le_trans}
-use Rattle.std.proofs.lemmas.Bool.{cases_order}
-use Rattle.std.proofs.lemmas.List.{length_push}
-use Rattle.tor_merkle.specs.steps.Node.{node}
-use Rattle.tor_merkle.specs.steps.Tops.{KeepsTops}
-use Rattle.tor_merkle.specs.Subtree.{node_of, zero_leaf}
+use Rattle.tor_merkle.proofs.Names.{◌≡◌, ℕ, suc, ◌+◌, ◌-◌, ◌*◌, ◌/◌, ◌%◌, ◌^◌, ◌<◌, ◌≤◌, List, [], ◌∷◌, ◌++◌, length}
+use Rattle.tor_merkle.proofs.Names.{get_or, set, arith, ap, ap₂, ◌∙◌, sym, pow_pos, inl, inr, div-mul-le_self}
+use Rattle.tor_merkle.proofs.Names.{get_or-set_same, length-set, get_or-set_other, mul-le-mul_right, le_trans}
+use Rattle.tor_merkle.proofs.Names.{cases_order, length_push, node, KeepsTops, node_of, zero_leaf}
 use Rattle.tor_merkle.proofs.BinaryDigits.{div_between, same_above, none_below, power_within}
 use Rattle.tor_merkle.proofs.Node.{node-append}
 

@@ -1,16 +1,9 @@
 -- The roots of units of 2 ^ k blocks: over their leaves, over the roots of their pieces, and the root over all of them.
-use Rattle.std.proofs.Common.{◌≡◌, ℕ, zero, suc, ◌+◌, ◌*◌, ◌^◌, ◌<◌, ◌≤◌, List, [], ◌∷◌, ◌++◌, map, length, drop}
-use Rattle.std.proofs.Common.{arith, refl, sym, ap, ap₂, ◌∙◌, zero-add, add-one, append-nil, length-take, length-drop}
-use Rattle.std.proofs.Common.{pow_pos, pow-add}
-use Rattle.std.proofs.lemmas.Grind.{flat_map-append}
-use Rattle.std.proofs.lemmas.List.{map_push}
-use Rattle.std.proofs.lemmas.List.FromFn.{map-range_with_len_more}
-use Rattle.std.specs.Int.{div_ceil}
-use Rattle.std.specs.List.{flat_map, range_with_len}
-use Rattle.tor_merkle.specs.Block.{run_at, leaves}
-use Rattle.tor_merkle.specs.Layer.{pieces_root, piece_roots}
-use Rattle.tor_merkle.specs.Stack.{padded_root, padded_subtree}
-use Rattle.tor_merkle.specs.steps.Node.{nodes}
+use Rattle.tor_merkle.proofs.Names.{◌≡◌, ℕ, zero, suc, ◌+◌, ◌*◌, ◌^◌, ◌<◌, ◌≤◌, List, [], ◌∷◌, ◌++◌, map, length, drop}
+use Rattle.tor_merkle.proofs.Names.{arith, refl, sym, ap, ap₂, ◌∙◌, zero-add, add-one, append-nil, length-take}
+use Rattle.tor_merkle.proofs.Names.{length-drop, pow_pos, pow-add, flat_map-append, map_push, map-range_with_len_more}
+use Rattle.tor_merkle.proofs.Names.{div_ceil, flat_map, range_with_len, run_at, leaves, pieces_root, piece_roots}
+use Rattle.tor_merkle.proofs.Names.{padded_root, padded_subtree, nodes}
 use Rattle.tor_merkle.proofs.Ceil.{below_from_ceil, ceil_at_most}
 use Rattle.tor_merkle.proofs.Content.{longer_than_piece, only_piece_root, piece_roots-nodes, within_piece}
 use Rattle.tor_merkle.proofs.Filled.{node-nodes, padded_root-nodes}

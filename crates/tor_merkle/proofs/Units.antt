@@ -1,15 +1,8 @@
 -- A content that is cut into units of whole pieces, the last perhaps shorter: the pieces are those of the units.
-use Rattle.std.proofs.Common.{◌≡◌, ℕ, zero, suc, ◌+◌, ◌*◌, ◌^◌, ◌<◌, ◌≤◌, List, [], ◌∷◌, ◌++◌, map, length}
-use Rattle.std.proofs.Common.{take, arith, sym, ap, ap₂, ◌∙◌, zero-add, append-nil, length-take}
-use Rattle.std.proofs.Common.{add-one, mul_assoc, zero-mul, mul-pos, pow_pos}
-use Rattle.std.proofs.Math.Seq.{take-add}
-use Rattle.std.proofs.lemmas.Grind.{flat_map-append}
-use Rattle.std.proofs.lemmas.List.{nil_from_length, take_all}
-use Rattle.std.proofs.lemmas.List.FromFn.{map-range_with_len_more}
-use Rattle.std.specs.Int.{div_ceil}
-use Rattle.std.specs.List.{flat_map, range_with_len}
-use Rattle.tor_merkle.specs.Block.{run_at}
-use Rattle.tor_merkle.specs.Layer.{piece_roots}
+use Rattle.tor_merkle.proofs.Names.{◌≡◌, ℕ, zero, suc, ◌+◌, ◌*◌, ◌^◌, ◌<◌, ◌≤◌, List, [], ◌∷◌, ◌++◌, map, length, take}
+use Rattle.tor_merkle.proofs.Names.{arith, sym, ap, ap₂, ◌∙◌, zero-add, append-nil, length-take, add-one, mul_assoc}
+use Rattle.tor_merkle.proofs.Names.{zero-mul, mul-pos, pow_pos, take-add, flat_map-append, nil_from_length, take_all}
+use Rattle.tor_merkle.proofs.Names.{map-range_with_len_more, div_ceil, flat_map, range_with_len, run_at, piece_roots}
 use Rattle.tor_merkle.proofs.Ceil.{below_from_ceil, ceil_at_most, ceil_covers}
 use Rattle.tor_merkle.proofs.Content.{length-piece_roots}
 use Rattle.tor_merkle.proofs.Joined.{piece_roots-joined}

@@ -1,12 +1,6 @@
 -- The step by which a walk makes a struct of one field that takes no memory. Assumes `Logic`.
-use Rattle.std.proofs.Common.{List, [], ◌∷◌, refl}
-use seplogic.Ra.Ura.{Ura}
-use mir.Val.{Val, vstruct, vcons, vnil}
-use types.Logic.{Logic}
-use types.Kit.{Goal, Step, step, Item, ‵, ◌$◌, move, fjoin, fpack, feq_i}
-use denote.RattleType.{RattleType, Valss}
-use denote.Steps.{nothing}
-use denote.Struct.Struct.{Struct, within}
+use Rattle.tor_merkle.proofs.Names.{List, [], ◌∷◌, refl, Ura, Val, vstruct, vcons, vnil, Logic, Goal, Step, step, Item}
+use Rattle.tor_merkle.proofs.Names.{‵, ◌$◌, move, fjoin, fpack, feq_i, RattleType, Valss, nothing, Struct, within}
 
 abbrev pub none : Val
 none = vstruct vnil

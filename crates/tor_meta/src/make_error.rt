@@ -53,31 +53,24 @@ pub enum MakeError<F> {
 impl<F> fmt::Display for MakeError<F> {
     fn fmt<W: fmt::Write>(&self, f: &mut fmt::Formatter<W>) -> fmt::Result {
         match self {
+            // The code and the name are its own.
             MakeError::List(fault) => write!(f, "{fault}"),
-            error => f.write_str(text_of(error)),
+            MakeError::PieceLength => f.write_str("M1 PieceLength"),
+            MakeError::Workers => f.write_str("M2 Workers"),
+            MakeError::Span => f.write_str("M3 Span"),
+            MakeError::Path => f.write_str("M4 Path"),
+            MakeError::SingleShape => f.write_str("M5 SingleShape"),
+            MakeError::ReservedPad => f.write_str("Y1 ReservedPad"),
+            MakeError::Read { .. } => f.write_str("E1 Read"),
+            MakeError::Changed { .. } => f.write_str("E2 Changed"),
+            MakeError::Missing { .. } => f.write_str("E3 Missing"),
+            MakeError::Resources => f.write_str("E4 Resources"),
+            MakeError::StreamTooLong { .. } => f.write_str("E5 StreamTooLong"),
         }
     }
 }
 
 impl<F: fmt::Debug + Drop> Error for MakeError<F> {}
-
-// The code and the name; those of a list are its own.
-fn text_of<F>(error: &MakeError<F>) -> &'static str {
-    match error {
-        MakeError::List(_) => "List",
-        MakeError::PieceLength => "M1 PieceLength",
-        MakeError::Workers => "M2 Workers",
-        MakeError::Span => "M3 Span",
-        MakeError::Path => "M4 Path",
-        MakeError::SingleShape => "M5 SingleShape",
-        MakeError::ReservedPad => "Y1 ReservedPad",
-        MakeError::Read { .. } => "E1 Read",
-        MakeError::Changed { .. } => "E2 Changed",
-        MakeError::Missing { .. } => "E3 Missing",
-        MakeError::Resources => "E4 Resources",
-        MakeError::StreamTooLong { .. } => "E5 StreamTooLong",
-    }
-}
 
 impl<F> From<ContentsError> for MakeError<F> {
     ghost from_gives = { λ refusal e. e ≡ of_contents_error refusal };

@@ -1,10 +1,7 @@
 -- The bytes of units, file by file.
-use Rattle.std.proofs.Common.{◌≡◌, ℕ, ◌+◌, ◌<◌, List, [], ◌∷◌}
-use Rattle.std.proofs.Common.{length, map, get_or, drop, arith, refl, ap, ◌∙◌, sym}
-use Rattle.std.proofs.lemmas.List.{get_or-drop, drop-drop}
-use Rattle.std.specs.List.{range_with_len}
-use Rattle.tor_plan.specs.Units.{file_unit, units_of_file}
-use Rattle.tor_plan.proofs.Ranges.{ceil_is}
+use Rattle.tor_plan.proofs.Names.{◌≡◌, ℕ, ◌+◌, ◌<◌, List, [], ◌∷◌, length, map, get_or, drop, arith, refl, ap, ◌∙◌, sym}
+use Rattle.tor_plan.proofs.Names.{get_or-drop, drop-drop, range_with_len, file_unit, units_of_file}
+use Rattle.tor_plan.proofs.Runs.{ceil_is}
 
 abbrev pub File : Type 0
 File = List (List ℕ) × ℕ
@@ -29,7 +26,7 @@ from_index contents index m lengths e = from_split contents (drop index contents
 
 module _ (contents : List (List ℕ)) (index m : ℕ) (lengths : List ℕ) (from : AreFrom contents index m lengths) where
   pub here : get_or contents index [] ≡ from.first
-  here = ap (λ n. get_or contents n []) (let e : index ≡ index + 0 = omega arith in e)
+  here = ap (λ n. get_or contents n []) (omega arith)
       ∙ sym (get_or-drop index contents 0 []) ∙ ap (λ xs. get_or xs 0 []) from.split
 
   pub after : drop (index + 1) contents ≡ from.later

@@ -1,18 +1,10 @@
 -- A unit while it is cut.
-use Rattle.std.proofs.Common.{◌≡◌, ◌⊎◌, inl, inr, ℕ, ◌+◌, ◌*◌, ◌<◌, ◌≤◌, max, [], ◌∷◌, ◌++◌, map, arith, ap, ap₂}
-use Rattle.std.proofs.Common.{◌∙◌, sym}
-use Rattle.std.proofs.lemmas.List.FromFn.{map-range_with_len_more}
-use Rattle.std.specs.List.{range_with_len}
-use Rattle.tor_plan.specs.Entries.{empty_unit}
-use Rattle.tor_plan.specs.Pieces.{piece_of_unit, pieces_of_unit, unit_between}
-use Rattle.tor_plan.specs.WithinEntries.{unit_length}
-use Rattle.tor_plan.specs.declared.unit_cut.Stretch.{Stretch}
-use Rattle.tor_plan.specs.declared.unit_cut.UnitCut.{UnitCut}
-use Rattle.tor_plan.specs.declared.units.PlanUnit.{PlanUnit}
-use Rattle.tor_plan.specs.steps.Joined.{joined}
-use Rattle.tor_plan.specs.steps.UnitCut.{stretch_at, HasCut, IsStretchAt}
+use Rattle.tor_plan.proofs.Names.{◌≡◌, ◌⊎◌, inl, inr, ℕ, ◌+◌, ◌*◌, ◌<◌, ◌≤◌, max, [], ◌∷◌, ◌++◌, map, arith, ap, ap₂}
+use Rattle.tor_plan.proofs.Names.{◌∙◌, sym, map-range_with_len_more, range_with_len, empty_unit, piece_of_unit}
+use Rattle.tor_plan.proofs.Names.{pieces_of_unit, unit_between, unit_length, Stretch, UnitCut, PlanUnit, joined}
+use Rattle.tor_plan.proofs.Names.{stretch_at, HasCut, IsStretchAt}
 use Rattle.tor_plan.proofs.PieceCut.{unit_none, unit_all}
-use Rattle.tor_plan.proofs.Ranges.{ceil_is}
+use Rattle.tor_plan.proofs.Runs.{ceil_is}
 
 module _ (old : UnitCut) (unit : PlanUnit) (x : ℕ) (cut : HasCut old unit x) where
   abbrev begin : ℕ
@@ -80,8 +72,7 @@ module _ (old : UnitCut) (unit : PlanUnit) (cut : HasCut old unit (unit_length u
       let last : old.begun ≡ all cut.whole = cut.begun
       ∙ sym (unit_all (cut.whole * old.size) (unit_length unit) ((cut.whole + 1) * old.size) unit (omega arith)
       (omega (arith, cut.room))) in
-      ap₂ (λ us u. us ++ u ∷ []) cut.units last
-      ∙ sym (map-range_with_len_more all 0 cut.whole cut.whole (omega arith))
+      ap₂ (λ us u. us ++ u ∷ []) cut.units last ∙ sym (map-range_with_len_more all 0 cut.whole cut.whole (omega arith))
       ∙ ap (λ n. map all (range_with_len 0 n))
       (sym (ceil_is (unit_length unit) old.size (cut.whole + 1) (omega (arith, cut.room))
       (omega (arith, cut.room, less))))

@@ -1,9 +1,7 @@
 -- Zeros, and contents of no byte.
-use Rattle.std.proofs.Common.{◌≡◌, ℕ, ◌+◌, ◌*◌, ◌<◌, [], ◌++◌, arith, ap, sym, ◌∙◌}
-use Rattle.std.proofs.lemmas.List.{nil_from_length, replicate-append-replicate}
-use Rattle.tor_v1.specs.Piece.{piece_sums, zeros}
-use Rattle.tor_v1.proofs.ProvedLaws.{length-piece_sums, length_of_zeros}
-use Rattle.tor_plan.proofs.Ranges.{ceil_is}
+use Rattle.tor_plan.proofs.Names.{◌≡◌, ℕ, ◌+◌, ◌*◌, ◌<◌, [], ◌++◌, arith, ap, sym, ◌∙◌, nil_from_length}
+use Rattle.tor_plan.proofs.Names.{replicate-append-replicate, piece_sums, zeros, length-piece_sums, length_of_zeros}
+use Rattle.tor_plan.proofs.Runs.{ceil_is}
 
 pub zeros-nil : zeros 0 ≡ []
 zeros-nil = nil_from_length (zeros 0) (length_of_zeros 0)

@@ -1,11 +1,7 @@
 -- Some entries, and the units that they are cut into.
-use Rattle.std.proofs.Common.{◌≡◌, ℕ, true, false, List, [], ◌∷◌, refl}
-use Rattle.tor_tree.specs.declared.kinds.Kind.TheVariants.{V1, V2, Hybrid}
-use Rattle.tor_v1.specs.declared.entry.Entry.{Entry}
-use Rattle.tor_plan.specs.declared.units.Part.{Part}
-use Rattle.tor_plan.specs.declared.units.PlanUnit.{PlanUnit}
-use Rattle.tor_plan.specs.Entries.{unit_within, joined_entry_units, padding_before_next, separate_entry_units}
-use Rattle.tor_plan.specs.Entries.{entry_units}
+use Rattle.tor_plan.proofs.Names.{◌≡◌, ℕ, true, false, List, [], ◌∷◌, refl, V1, V2, Hybrid, Entry, Part, PlanUnit}
+use Rattle.tor_plan.proofs.Names.{unit_within, joined_entry_units, padding_before_next, separate_entry_units}
+use Rattle.tor_plan.proofs.Names.{entry_units}
 
 abbrev file : ℕ → Entry
 file m = record { path = []; length = m; pad = false }

@@ -1,30 +1,19 @@
--- The plan of a list of files is that of its entries, which are not too long.
-use Rattle.std.proofs.Common.{◌≡◌, ℕ, ◌<◌, ◌≤◌, Bool, true, false, ltb, ◌&&◌, List, [], ◌∷◌, ◌++◌, map, sum_by, arith}
-use Rattle.std.proofs.Common.{ap₂, ◌∙◌, ◌*◌, sym, subst, IsTrue}
-use Rattle.std.proofs.lemmas.List.Elements.{All-map}
-use Rattle.std.proofs.lemmas.List.Sums.{sum_by-append, sum_by-cons, sum_by-le-sum_by}
-use Rattle.std.specs.Int.{is_power_of_two, next_multiple_of}
-use Rattle.std.specs.List.{All}
-use Rattle.tor_tree.specs.FileList.{lengths_of, IsFileList}
-use Rattle.tor_tree.specs.declared.kinds.Kind.{Kind}
-use Rattle.tor_tree.specs.declared.kinds.Kind.TheVariants.{V1, V2, Hybrid}
-use Rattle.tor_merkle.specs.declared.TheConstants.{MAX_LENGTH}
-use Rattle.tor_tree.specs.declared.lists.TheConstants.{MAX_TOTAL, ROUNDING}
-use Rattle.tor_tree.proofs.ProvedLaws.{files_are_small}
-use Rattle.tor_v1.specs.Entries.{file_entry, padding_length, has_bytes, aligned_entries, v1_entries}
-use Rattle.tor_plan.specs.Content.{layout_of}
-use Rattle.tor_plan.specs.Entries.{entries_length}
-use Rattle.tor_plan.specs.EntryList.{IsEntryList}
-use Rattle.tor_plan.specs.Forest.{forest_trees}
-use Rattle.tor_plan.specs.PlanFacts.{plan_of, plan_of_entries, IsPlanPieceLength}
-use Rattle.tor_plan.specs.declared.units.PlanUnit.{PlanUnit}
-use Rattle.tor_plan.specs.steps.Whole.{plan_of_whole, whole_unit}
+-- The plan of a list of files is that of its entries, which are not too long; the plan of all bytes of entries is
+-- theirs.
+use Rattle.tor_plan.proofs.Names.{◌≡◌, ℕ, ◌<◌, ◌≤◌, Bool, true, false, ltb, ◌&&◌, List, [], ◌∷◌, ◌++◌, map, sum_by}
+use Rattle.tor_plan.proofs.Names.{arith, ap, ap₂, ◌∙◌, ◌*◌, sym, subst, IsTrue, All-map, sum_by-append, sum_by-cons}
+use Rattle.tor_plan.proofs.Names.{sum_by-le-sum_by, is_power_of_two, next_multiple_of, All, lengths_of, IsFileList}
+use Rattle.tor_plan.proofs.Names.{Kind, V1, Hybrid, MAX_LENGTH, MAX_TOTAL, ROUNDING, files_are_small, Entry, file_entry}
+use Rattle.tor_plan.proofs.Names.{padding_length, has_bytes, aligned_entries, v1_entries, layout_of, entries_length}
+use Rattle.tor_plan.proofs.Names.{entry_units, lengths_of_entries, IsEntryList, IsLaidOut, forest_trees, plan_of}
+use Rattle.tor_plan.proofs.Names.{plan_of_entries, IsPlan, IsPlanPieceLength, IsSpan, PlanFacts, PlanUnit}
+use Rattle.tor_plan.proofs.Names.{plan_of_whole, whole_unit, whole_units, AreWhole}
 use Rattle.tor_plan.proofs.Contents.{File}
 use Rattle.tor_plan.proofs.FilesAsEntries.{entry_length, padded, entry_units_of_files, length_of_files}
-use Rattle.tor_plan.proofs.FilesAsEntries.{lengths_of_files}
-use Rattle.tor_plan.proofs.FilesLaidOut.{files_laid_out}
-use Rattle.tor_plan.proofs.Sizes.{rounded, total_small}
-use Rattle.tor_plan.proofs.WholeUnits.{plan_is}
+use Rattle.tor_plan.proofs.FilesAsEntries.{lengths_of_files, files_laid_out}
+use Rattle.tor_plan.proofs.Sizes.{rounded, some_bytes, total_small, v1_piece}
+use Rattle.tor_plan.proofs.WholeLaws.{files_are_pieces}
+use Rattle.tor_plan.proofs.WholeUnits.{pieces_of_whole}
 
 abbrev rounded_up : ℕ → ℕ
 rounded_up m = next_multiple_of m ROUNDING
@@ -62,10 +51,9 @@ aligned_total p (file ∷ files) power some le =
 
 total_length : (kind : Kind) (p : ℕ) (files : List File) → IsFileList files → IsPlanPieceLength kind p
     → entries_length (v1_entries (layout_of kind) p files) ≤ MAX_TOTAL
-total_length V1 p files lawful pieces = omega (arith, joined_total files, total_small files lawful)
-total_length V2 p files lawful pieces = omega (arith, joined_total files, total_small files lawful)
 total_length Hybrid p files lawful pieces =
     omega (arith, aligned_total p files pieces.0 (omega (arith, pieces.1)) pieces.2, total_small files lawful)
+total_length kind p files lawful pieces = omega (arith, joined_total files, total_small files lawful)
 
 pub files_are_list : (kind : Kind) (p : ℕ) (files : List File) → IsFileList files → IsPlanPieceLength kind p
     → IsEntryList kind p (v1_entries (layout_of kind) p files)
@@ -76,7 +64,7 @@ files_are_list kind p files lawful pieces = record {
   laid_out = files_laid_out kind p files;
 }
 
-same_plan : (kind : Kind) (p span : ℕ) (files : List File)
+pub same_plan : (kind : Kind) (p span : ℕ) (files : List File)
     → plan_of kind p span files ≡ plan_of_entries kind p span (v1_entries (layout_of kind) p files)
 same_plan kind p span files = ap₂ (λ units lengths. record {
   kind = kind;
@@ -86,11 +74,41 @@ same_plan kind p span files = ap₂ (λ units lengths. record {
   trees = forest_trees kind (span * p) lengths;
 }) (entry_units_of_files kind p span files) (sym (lengths_of_files (layout_of kind) p files))
 
--- the plan of all bytes of the files
-pub plan_of_list : (kind : Kind) (p span : ℕ) (files : List File) (whole : PlanUnit) (lengths : List ℕ)
-    → 0 < span * p → whole ≡ whole_unit (v1_entries (layout_of kind) p files) → lengths ≡ lengths_of files
-    → plan_of_whole kind p span whole lengths ≡ plan_of kind p span files
-plan_of_list kind p span files whole lengths pos bytes long =
-    let entries = v1_entries (layout_of kind) p files in
-    ap₂ (plan_of_whole kind p span) bytes (long ∙ sym (lengths_of_files (layout_of kind) p files))
-    ∙ plan_is kind p span entries pos ∙ sym (same_plan kind p span files)
+-- ---- the plan of all bytes
+
+units_are : (kind : Kind) (p span : ℕ) (entries : List Entry) → 0 < p → 0 < span * p → IsLaidOut kind p entries
+    → whole_units kind (span * p) (whole_unit entries) ≡ entry_units kind p span entries
+units_are V1 p span entries some pos laid = pieces_of_whole (span * p) entries
+units_are kind p span entries some pos laid = sym (files_are_pieces kind p span entries (λ e. cc) some pos laid)
+
+abbrev pub are_whole : {kind : Kind} {p : ℕ} {entries : List Entry} {whole : PlanUnit} {lengths : List ℕ}
+    → IsEntryList kind p entries → whole ≡ whole_unit entries → lengths ≡ lengths_of_entries entries
+    → AreWhole kind p whole lengths
+are_whole is_list bytes files = record { entries = _; is_list = is_list; bytes = bytes; files = files }
+
+pub plan_is : (kind : Kind) (p span : ℕ) (whole : PlanUnit) (lengths : List ℕ) (is : AreWhole kind p whole lengths)
+    → IsSpan span → IsPlanPieceLength kind p
+    → plan_of_whole kind p span whole lengths ≡ plan_of_entries kind p span is.entries
+plan_is kind p span whole lengths is is_span pieces =
+    let made : List PlanUnit → PlanFacts = λ units. record {
+      kind = kind;
+      piece_length = p;
+      units = units;
+      lengths = lengths_of_entries is.entries;
+      trees = forest_trees kind (span * p) (lengths_of_entries is.entries);
+    } in
+    ap₂ (plan_of_whole kind p span) is.bytes is.files
+    ∙ ap made (units_are kind p span is.entries (v1_piece kind p pieces).0 (some_bytes kind p span is_span pieces)
+    is.is_list.laid_out)
+
+pub plan_of_bytes : (plan : PlanFacts) (span : ℕ) (whole : PlanUnit) (lengths : List ℕ)
+    → plan ≡ plan_of_whole plan.kind plan.piece_length span whole lengths → IsSpan span
+    → AreWhole plan.kind plan.piece_length whole lengths → IsPlanPieceLength plan.kind plan.piece_length → IsPlan plan
+plan_of_bytes plan span whole lengths made is_span is pieces = record {
+  span = span;
+  entries = is.entries;
+  is_span = is_span;
+  is_list = is.is_list;
+  pieces = pieces;
+  made = made ∙ plan_is plan.kind plan.piece_length span whole lengths is is_span pieces;
+}

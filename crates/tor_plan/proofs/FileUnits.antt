@@ -1,20 +1,10 @@
 -- The units of a file that is cut by itself are the pieces of the file and its padding.
-use Rattle.std.proofs.Common.{◌≡◌, ℕ, ◌+◌, ◌-◌, ◌*◌, ◌<◌, ◌≤◌, cond, leb, min, max, [], ◌∷◌, map, arith, ap, ap₂, ◌∙◌}
-use Rattle.std.proofs.Common.{sym, inl, inr}
-use Rattle.std.proofs.lemmas.Bool.{le-leb, lt-leb, cond-true, cond-false, cases_lt}
-use Rattle.std.proofs.lemmas.Grind.{div_ceil_times}
-use Rattle.std.specs.Int.{div_ceil}
-use Rattle.std.specs.List.{range_with_len}
-use Rattle.tor_plan.specs.Entries.{shared}
-use Rattle.tor_plan.specs.Pieces.{parts_between, piece_of_unit, pieces_of_unit}
-use Rattle.tor_plan.specs.Units.{file_unit, units_of_file}
-use Rattle.tor_plan.specs.WithinEntries.{unit_length}
-use Rattle.tor_plan.specs.declared.units.Part.{Part}
-use Rattle.tor_plan.specs.declared.units.PlanUnit.{PlanUnit}
-use Rattle.tor_plan.specs.steps.Joined.{part_alone}
+use Rattle.tor_plan.proofs.Names.{◌≡◌, ℕ, ◌+◌, ◌-◌, ◌*◌, ◌<◌, ◌≤◌, cond, leb, min, max, [], ◌∷◌, map, arith, ap, ap₂}
+use Rattle.tor_plan.proofs.Names.{◌∙◌, sym, inl, inr, le-leb, lt-leb, cond-true, cond-false, cases_lt, div_ceil_times}
+use Rattle.tor_plan.proofs.Names.{div_ceil, range_with_len, shared, parts_between, piece_of_unit, pieces_of_unit}
+use Rattle.tor_plan.proofs.Names.{file_unit, units_of_file, unit_length, Part, PlanUnit, part_alone}
 use Rattle.tor_plan.proofs.PieceSteps.{no_zeros, part_met}
-use Rattle.tor_plan.proofs.Ranges.{ceil_is}
-use Rattle.tor_plan.proofs.Runs.{range_same}
+use Rattle.tor_plan.proofs.Runs.{ceil_is, range_same}
 use Rattle.tor_plan.proofs.WithinFiles.{run_begins}
 
 module _ (size : ℕ) (pos : 0 < size) (index m tail : ℕ) (fits : (q : ℕ) → m ≤ q * size → m + tail ≤ q * size) where
@@ -29,13 +19,11 @@ module _ (size : ℕ) (pos : 0 < size) (index m tail : ℕ) (fits : (q : ℕ) �
   zeros_are k less =
       let next : (k + 1) * size ≡ k * size + size = omega arith in
       elim (cases_lt size (m - k * size)) [
-        | inl more ↦ (let e : shared (k * size) ((k + 1) * size) (0 + m) tail + 0 ≡ 0 = omega (arith, more, next) in e)
+        | inl more ↦ (omega (arith, more, next))
             ∙ sym (cond-false _ _ _ (lt-leb (m - k * size) size more))
         | inr last ↦
             let full = fits (k + 1) (omega (arith, last, next)) in
-            (let e : shared (k * size) ((k + 1) * size) (0 + m) tail + 0 ≡ tail =
-            omega (arith, full, less, last, next) in e)
-            ∙ sym (cond-true _ _ _ (le-leb (m - k * size) size last))
+            (omega (arith, full, less, last, next)) ∙ sym (cond-true _ _ _ (le-leb (m - k * size) size last))
       ]
 
   file_piece : (k : ℕ) → k * size < m → piece_of_unit size (part_alone part) k ≡ file_unit size index m tail k
@@ -46,8 +34,7 @@ module _ (size : ℕ) (pos : 0 < size) (index m tail : ℕ) (fits : (q : ℕ) �
       let next : b ≡ a + size = omega arith in
       no_zeros (shared a b 0 0) (parts_between a b 0 (part ∷ [])) (omega arith)
       ∙ part_met a b 0 part [] (omega (arith, less, next, pos))
-      ∙ ap₂ (λ s n. alone s n (shared a b (0 + m) tail + 0)) (let e : 0 + (max a 0 - 0) ≡ a = omega arith in e)
-      (let e : shared a b 0 m ≡ min (m - a) size = omega (arith, next) in e)
+      ∙ ap₂ (λ s n. alone s n (shared a b (0 + m) tail + 0)) (omega arith) (omega (arith, next))
       ∙ ap (alone a (min (m - a) size)) (zeros_are k less)
 
   pub file_pieces : 0 < m → pieces_of_unit size (part_alone part) ≡ units_of_file size index m tail

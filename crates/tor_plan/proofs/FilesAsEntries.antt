@@ -1,30 +1,17 @@
--- Files of a list, cut as the entries that they are in a torrent.
-use Rattle.std.proofs.Common.{◌≡◌, ℕ, ◌+◌, ◌-◌, ◌*◌, ◌%◌, Bool, true, false, cond, ltb, ◌&&◌, min, max, List, []}
-use Rattle.std.proofs.Common.{◌∷◌, ◌++◌, map, sum, sum_by, arith, refl, ap, ap₂, ◌∙◌, sym, inl, inr, zero-add}
-use Rattle.std.proofs.Math.Nat.{zero-mod, mod_self}
-use Rattle.std.proofs.lemmas.Bool.{lt-ltb, le-ltb, cond-true, cond-false, cases_lt}
-use Rattle.std.proofs.lemmas.List.Sums.{sum-map}
-use Rattle.std.proofs.lemmas.Simd.{map-map}
-use Rattle.std.specs.Int.{div_ceil}
-use Rattle.std.specs.List.{range_with_len}
-use Rattle.tor_tree.specs.FileList.{lengths_of}
-use Rattle.tor_tree.specs.declared.kinds.Kind.{Kind}
-use Rattle.tor_tree.specs.declared.kinds.Kind.TheVariants.{V1, V2, Hybrid}
-use Rattle.tor_v1.specs.Content.{file_entries}
-use Rattle.tor_v1.specs.Entries.{file_entry, pad_entry, padding_after, padding_length, has_bytes, aligned_entries}
-use Rattle.tor_v1.specs.Entries.{v1_entries}
-use Rattle.tor_v1.specs.declared.entry.Entry.{Entry}
-use Rattle.tor_v1.specs.declared.layout.Layout.{Layout}
-use Rattle.tor_v1.proofs.ProvedLaws.{facts-v1_entries}
-use Rattle.tor_plan.specs.Content.{layout_of}
-use Rattle.tor_plan.specs.Entries.{after_part, entries_length, entry_units, joined_entry_units, lengths_of_entries}
-use Rattle.tor_plan.specs.Entries.{padding_before_next, separate_entry_units, unit_within}
-use Rattle.tor_plan.specs.Units.{hash_units, joined_unit, joined_units, parts_within, separate_units}
-use Rattle.tor_plan.specs.Units.{units_of_file, zeros_after}
+-- Files of a list, cut as the entries that they are in a torrent, whose padding stands where it belongs.
+use Rattle.tor_plan.proofs.Names.{◌≡◌, ℕ, ◌+◌, ◌-◌, ◌*◌, ◌%◌, Bool, true, false, cond, ltb, ◌&&◌, min, max, List, []}
+use Rattle.tor_plan.proofs.Names.{◌∷◌, ◌++◌, map, sum, sum_by, arith, refl, ap, ap₂, ◌∙◌, sym, inl, inr, zero-add}
+use Rattle.tor_plan.proofs.Names.{zero-mod, mod_self, lt-ltb, le-ltb, cond-true, cond-false, cases_lt, sum-map, map-map}
+use Rattle.tor_plan.proofs.Names.{div_ceil, range_with_len, lengths_of, Kind, V1, V2, Hybrid, file_entries, file_entry}
+use Rattle.tor_plan.proofs.Names.{pad_entry, padding_after, padding_length, has_bytes, aligned_entries, v1_entries}
+use Rattle.tor_plan.proofs.Names.{Entry, Layout, facts-v1_entries, layout_of, after_part, entries_length, entry_units}
+use Rattle.tor_plan.proofs.Names.{joined_entry_units, lengths_of_entries, padding_before_next, separate_entry_units}
+use Rattle.tor_plan.proofs.Names.{unit_within, hash_units, joined_unit, joined_units, parts_within, separate_units}
+use Rattle.tor_plan.proofs.Names.{units_of_file, zeros_after, cases_Bool, and_from, and_left, and_right, or_parts}
+use Rattle.tor_plan.proofs.Names.{or_from, list_any, has_padding, is_filled, ArePadded, IsLaidOut, IsPaddedTo}
 use Rattle.tor_plan.proofs.Contents.{File}
-use Rattle.tor_plan.proofs.EntrySteps.{met, not_met}
-use Rattle.tor_plan.proofs.Ranges.{map_same}
-use Rattle.tor_plan.proofs.Padding.{before_some, before_empty}
+use Rattle.tor_plan.proofs.EntrySteps.{met, not_met, before_some, before_empty}
+use Rattle.tor_plan.proofs.Runs.{map_same}
 
 abbrev pub entry_length : Entry → ℕ
 entry_length entry = entry.length
@@ -37,8 +24,7 @@ pub lengths_of_files : (layout : Layout) (p : ℕ) (files : List File)
     → lengths_of_entries (v1_entries layout p files) ≡ lengths_of files
 lengths_of_files layout p files =
     sym (map-map (λ file. file.1) (λ (entry : Entry). (entry.path, entry.length))
-    (file_entries (v1_entries layout p files)))
-    ∙ ap lengths_of (facts-v1_entries layout p files)
+    (file_entries (v1_entries layout p files))) ∙ ap lengths_of (facts-v1_entries layout p files)
 
 -- ---- joined files
 
@@ -54,8 +40,7 @@ files_within a b index at (file ∷ files) =
     let others = parts_within a b (index + 1) (at + m) (lengths_of files) in
     elim (cases_lt low high) [
       | inl some ↦ met a b index at file.0 m (map file_entry files) (omega (arith, some))
-          ∙ ap (after_part index (low - at) (high - low)) rest
-          ∙ ap (λ ps. record { zeros = 0; parts = ps ++ others })
+          ∙ ap (after_part index (low - at) (high - low)) rest ∙ ap (λ ps. record { zeros = 0; parts = ps ++ others })
           (sym (cond-true _ _ _ (lt-ltb low high some)))
       | inr none ↦ not_met a b index at file.0 m (map file_entry files) (omega (arith, none)) ∙ rest
           ∙ ap (λ ps. record { zeros = 0; parts = ps ++ others }) (sym (cond-false _ _ _ (le-ltb low high none)))
@@ -94,7 +79,7 @@ before_padded false n entries = sym (zero-add (padding_before_next entries))
 no_padding : (p : ℕ) → padding_length p 0 ≡ 0
 no_padding p =
     let whole : (p - 0 % p) % p ≡ 0 =
-    ap (λ r. (p - r) % p) (zero-mod p) ∙ ap (λ n. n % p) (let e : p - 0 ≡ p = omega arith in e) ∙ mod_self p in
+    ap (λ r. (p - r) % p) (zero-mod p) ∙ ap (λ n. n % p) (omega arith) ∙ mod_self p in
     omega (arith, whole)
 
 no_zeros_after : (p m : ℕ) (later : List File) → m ≡ 0 → zeros_after Hybrid p m later ≡ 0
@@ -122,8 +107,7 @@ pub zeros_are : (p m : ℕ) (files : List File) → zeros_after Hybrid p m files
 zeros_are p m files =
     let n = padding_length p m in
     let b = ltb 0 n && has_bytes files in
-    sym (before_padded b n (aligned_entries p files)
-    ∙ omega (arith, before_aligned p files))
+    sym (before_padded b n (aligned_entries p files) ∙ omega (arith, before_aligned p files))
 
 skips_padded : (size index : ℕ) (b : Bool) (n : ℕ) (entries : List Entry)
     → separate_entry_units size index entries ≡ separate_entry_units size index (padded b n ++ entries)
@@ -154,3 +138,63 @@ pub entry_units_of_files : (kind : Kind) (p span : ℕ) (files : List File)
 entry_units_of_files V1 p span files = joined_files (span * p) files
 entry_units_of_files V2 p span files = files_alone p (span * p) 0 files
 entry_units_of_files Hybrid p span files = aligned_files p (span * p) 0 files
+
+-- before files with bytes
+zeros_before : (p m : ℕ) (later : List File) → has_bytes later ≡ true
+    → zeros_after Hybrid p m later ≡ padding_length p m
+zeros_before p m later more =
+    let n = padding_length p m in
+    elim (cases_lt 0 n) [
+      | inl some ↦ ap (λ b. sum_by entry_length (padded b n))
+          (and_from (ltb 0 n) (has_bytes later) (lt-ltb 0 n some) more) ∙ zero-add n
+      | inr none ↦ ap (λ b. sum_by entry_length (padded b n))
+          (and_left (ltb 0 n) (has_bytes later) (le-ltb 0 n none)) ∙ (omega arith)
+    ]
+
+filled_padded : (b : Bool) (n : ℕ) (entries : List Entry)
+    → list_any is_filled (padded b n ++ entries) ≡ list_any is_filled entries
+filled_padded true n entries = refl
+filled_padded false n entries = refl
+
+filled_aligned : (p : ℕ) (files : List File) → has_bytes files ≡ false
+    → list_any is_filled (aligned_entries p files) ≡ false
+unfolding aligned_entries
+filled_aligned p [] none = refl
+filled_aligned p (file ∷ files) none =
+    let n = padding_length p file.1 in
+    let b = ltb 0 n && has_bytes files in
+    let parts = or_parts (ltb 0 file.1) (has_bytes files) none in
+    or_from (ltb 0 file.1) (list_any is_filled (padded b n ++ aligned_entries p files)) parts.0
+    (filled_padded b n (aligned_entries p files) ∙ filled_aligned p files parts.1)
+
+after_padding : (p : ℕ) (b : Bool) (n : ℕ) (entries : List Entry) → ArePadded p entries
+    → ArePadded p (padded b n ++ entries)
+unfolding ArePadded
+after_padding p true n entries padded = ((λ filled. cc), padded)
+after_padding p false n entries padded = padded
+
+aligned_padded : (p : ℕ) (files : List File) → ArePadded p (aligned_entries p files)
+unfolding ArePadded aligned_entries
+aligned_padded p [] = tt
+aligned_padded p (file ∷ files) =
+    let n = padding_length p file.1 in
+    let b = ltb 0 n && has_bytes files in
+    let zeros = zeros_are p file.1 files in
+    let to : IsPaddedTo p file.1 (padded b n ++ aligned_entries p files) = elim (cases_Bool (has_bytes files)) [
+      | inl more ↦ inl (sym zeros ∙ zeros_before p file.1 files more)
+      | inr none ↦ inr (
+        filled_padded b n (aligned_entries p files) ∙ filled_aligned p files none,
+        sym zeros ∙ ap (λ c. sum_by entry_length (padded c n)) (and_right (ltb 0 n) (has_bytes files) none),
+      )
+    ] in
+    ((λ filled. to), after_padding p b n (aligned_entries p files) (aligned_padded p files))
+
+files_unpadded : (files : List File) → has_padding (map file_entry files) ≡ false
+files_unpadded [] = refl
+files_unpadded (file ∷ files) = files_unpadded files
+
+pub files_laid_out : (kind : Kind) (p : ℕ) (files : List File) → IsLaidOut kind p (v1_entries (layout_of kind) p files)
+unfolding IsLaidOut
+files_laid_out V1 p files = tt
+files_laid_out V2 p files = files_unpadded files
+files_laid_out Hybrid p files = (before_aligned p files, aligned_padded p files)

@@ -1,7 +1,6 @@
-pub mod Ranges
+pub mod Names
 pub mod Empty
 pub mod Trees
-pub mod Files
 pub mod Sizes
 pub mod Contents
 pub mod EntryRows
@@ -9,7 +8,6 @@ pub mod EntrySteps
 pub mod UnitJoins
 pub mod Cut
 pub mod FilesAsEntries
-pub mod FilesLaidOut
 pub mod FileSizes
 pub mod WithinFiles
 pub mod Positions
@@ -17,15 +15,12 @@ pub mod PieceRows
 pub mod PieceSteps
 pub mod PieceCut
 pub mod WholeUnits
-pub mod WholeFiles
 pub mod PieceWithin
 pub mod ProvedLaws
-pub mod LowTrees
 pub mod Runs
 pub mod UnitRanges
 pub mod UnitContent
 pub mod UnitLaws
-pub mod Padding
 pub mod FileUnits
 pub mod PieceJoins
 pub mod WholeLaws

@@ -1,16 +1,9 @@
 -- The bytes of a unit by their offsets.
-use Rattle.std.proofs.Common.{◌≡◌, ℕ, ◌+◌, ◌-◌, ◌<◌, ◌≤◌, cond, ltb, max, List, [], ◌∷◌, ◌++◌, length}
-use Rattle.std.proofs.Common.{get_or, take, drop, sum_by, refl, arith, ap, ap₂, ◌∙◌, sym, subst, append-nil}
-use Rattle.std.proofs.lemmas.List.{take-append-drop, drop_more}
-use Rattle.std.proofs.lemmas.List.Sums.{sum_by-cons}
-use Rattle.tor_plan.specs.Entries.{after_part, after_zeros, empty_unit, shared}
-use Rattle.tor_plan.specs.Pieces.{parts_between, unit_between}
-use Rattle.tor_plan.specs.WithinEntries.{unit_length}
-use Rattle.tor_plan.specs.declared.units.Part.{Part}
-use Rattle.tor_plan.specs.declared.units.PlanUnit.{PlanUnit}
-use Rattle.tor_plan.specs.steps.Joined.{joined, part_alone, zeros_alone}
-use Rattle.tor_plan.specs.declared.unit_cut.Stretch.TheVariants.{Bytes, Zeros}
-use Rattle.tor_plan.specs.steps.UnitCut.{IsStretchAt}
+use Rattle.tor_plan.proofs.Names.{◌≡◌, ℕ, ◌+◌, ◌-◌, ◌<◌, ◌≤◌, cond, ltb, max, List, [], ◌∷◌, ◌++◌, length, get_or, take}
+use Rattle.tor_plan.proofs.Names.{drop, sum_by, refl, arith, ap, ap₂, ◌∙◌, sym, subst, append-nil, take-append-drop}
+use Rattle.tor_plan.proofs.Names.{drop_more, sum_by-cons, after_part, after_zeros, empty_unit, shared, parts_between}
+use Rattle.tor_plan.proofs.Names.{unit_between, unit_length, Part, PlanUnit, joined, part_alone, zeros_alone, Bytes}
+use Rattle.tor_plan.proofs.Names.{Zeros, IsStretchAt}
 use Rattle.tor_plan.proofs.PieceSteps.{between_none, from, part_met}
 use Rattle.tor_plan.proofs.UnitJoins.{unit_of, zeros_then, file_then, then_nothing, part_length}
 
@@ -21,8 +14,7 @@ module _ (a x y : ℕ) (rest : List Part) (v : PlanUnit) (le : x ≤ y) where
       → parts_between a y at (before ++ rest) ≡ joined (parts_between a x at (before ++ rest)) v
   unfolding parts_between
   more_parts at q [] is past more =
-      subst (λ (i : ℕ). parts_between a y i rest ≡ joined (parts_between a x i rest) v)
-      (let e : q ≡ at = omega (arith, is) in e) more
+      subst (λ (i : ℕ). parts_between a y i rest ≡ joined (parts_between a x i rest) v) (omega (arith, is)) more
   more_parts at q (part ∷ before) is past more =
       let long = sum_by-cons part_length part before in
       let next = at + part.length + part.zeros in
@@ -31,7 +23,7 @@ module _ (a x y : ℕ) (rest : List Part) (v : PlanUnit) (le : x ≤ y) where
       let others = parts_between a x next (before ++ rest) in
       let later = after_zeros (shared a x (at + part.length) part.zeros) others in
       ap₂ (λ n u. cond (ltb 0 n) (after_part part.file (part.start + (max a at - at)) n u) u)
-      (let e : shared a y at part.length ≡ shared a x at part.length = omega (arith, is, long, past) in e)
+      (omega (arith, is, long, past))
       (ap₂ (λ n u. after_zeros n u) zeros (more_parts next q before (omega (arith, is, long)) past more)
       ∙ sym (zeros_then (shared a x (at + part.length) part.zeros) others v))
       ∙ sym (file_then (ltb 0 (shared a x at part.length)) part.file (part.start + (max a at - at))
@@ -42,25 +34,21 @@ module _ (a x y : ℕ) (rest : List Part) (v : PlanUnit) (le : x ≤ y) where
       → q ≤ x → parts_between a y q rest ≡ joined (parts_between a x q rest) v
       → unit_between a y (unit_of z parts) ≡ joined (unit_between a x (unit_of z parts)) v
   more_of_unit z q before parts split is past more =
-      ap (λ ps. unit_between a y (unit_of z ps)) split
-      ∙ ap₂ (λ n u. after_zeros n u) (let e : shared a y 0 z ≡ shared a x 0 z = omega (arith, is, past) in e)
-      (more_parts z q before is past more)
-      ∙ sym (zeros_then (shared a x 0 z) (parts_between a x z (before ++ rest)) v)
+      ap (λ ps. unit_between a y (unit_of z ps)) split ∙ ap₂ (λ n u. after_zeros n u) (omega (arith, is, past))
+      (more_parts z q before is past more) ∙ sym (zeros_then (shared a x 0 z) (parts_between a x z (before ++ rest)) v)
       ∙ ap (λ ps. joined (unit_between a x (unit_of z ps)) v) (sym split)
 
 pub unit_none : (a b : ℕ) (unit : PlanUnit) → b ≤ a → unit_between a b unit ≡ empty_unit
 unit_none a b unit le =
     ap (after_zeros (shared a b 0 unit.zeros)) (between_none a b unit.zeros unit.parts (omega (arith, le)))
-    ∙ ap zeros_alone (let e : shared a b 0 unit.zeros + 0 ≡ 0 = omega (arith, le) in e)
+    ∙ ap zeros_alone (omega (arith, le))
 
 pub unit_all : (a x y : ℕ) (unit : PlanUnit) → unit_length unit ≤ x → x ≤ y
     → unit_between a y unit ≡ unit_between a x unit
 unfolding parts_between
 unit_all a x y unit past le =
     more_of_unit a x y [] empty_unit le unit.zeros (unit_length unit) unit.parts unit.parts
-    (sym (append-nil unit.parts))
-    (omega arith) past refl
-    ∙ then_nothing (unit_between a x unit)
+    (sym (append-nil unit.parts)) (omega arith) past refl ∙ then_nothing (unit_between a x unit)
 
 -- zeros before all parts
 pub first_zeros : (unit : PlanUnit) → IsStretchAt unit 0 Zeros unit.zeros
@@ -68,9 +56,7 @@ first_zeros unit = λ a i k begun some within.
     let z = unit.zeros in
     let none : (b : ℕ) → b ≤ z → unit_between a b unit ≡ zeros_alone (shared a b 0 z + 0) =
     λ b le. ap (after_zeros (shared a b 0 z)) (between_none a b z unit.parts (omega (arith, le))) in
-    none (0 + i + k) (omega (arith, within))
-    ∙ ap zeros_alone (let e : shared a (0 + i + k) 0 z + 0 ≡ shared a (0 + i) 0 z + 0 + k =
-    omega (arith, begun, within) in e)
+    none (0 + i + k) (omega (arith, within)) ∙ ap zeros_alone (omega (arith, begun, within))
     ∙ sym (ap (λ u. joined u (zeros_alone k)) (none (0 + i) (omega (arith, within))))
 
 -- the part at an index, after those before it
@@ -95,10 +81,9 @@ module _ (unit : PlanUnit) (i : ℕ) (part : Part) (lt : i < length unit.parts)
       let new : Part = record { file = part.file; start = part.start + j; length = k; zeros = 0 } in
       let bytes : shared a (x + k) at part.length ≡ k = omega (arith, begins, within) in
       more_of_unit a x (x + k) (part ∷ later) (part_alone new) (omega arith) unit.zeros at before unit.parts split refl
-      (omega arith)
-      (part_met a (x + k) at part later (omega (arith, bytes, some))
+      (omega arith) (part_met a (x + k) at part later (omega (arith, bytes, some))
       ∙ ap₂ (λ s n. after_part part.file s n (from a (x + k) (at + part.length) (unit_of part.zeros later)))
-      (let e : part.start + (max a at - at) ≡ part.start + j = omega (arith, begins) in e) bytes
+      (omega (arith, begins)) bytes
       ∙ ap (after_part part.file (part.start + j) k) (later_none a (x + k) (omega (arith, within)))
       ∙ sym (ap (λ u. joined u (part_alone new)) (between_none a x at (part ∷ later) (omega (arith, begins))))) where
         later_none : (a b : ℕ) → b ≤ at + part.length
@@ -106,7 +91,7 @@ module _ (unit : PlanUnit) (i : ℕ) (part : Part) (lt : i < length unit.parts)
         later_none a b le =
             ap (after_zeros (shared a b (at + part.length) part.zeros))
             (between_none a b (at + part.length + part.zeros) later (omega (arith, le)))
-            ∙ ap zeros_alone (let e : shared a b (at + part.length) part.zeros + 0 ≡ 0 = omega (arith, le) in e)
+            ∙ ap zeros_alone (omega (arith, le))
 
   pub zeros_of_part : IsStretchAt unit (at + part.length) Zeros part.zeros
   unfolding parts_between
@@ -120,13 +105,9 @@ module _ (unit : PlanUnit) (i : ℕ) (part : Part) (lt : i < length unit.parts)
       λ b le. ap (after_zeros (shared a b end z)) (between_none a b next later (omega (arith, le))) in
       let more : after_zeros (shared a (x + k) end z) (parts_between a (x + k) next later)
       ≡ joined (after_zeros (shared a x end z) (parts_between a x next later)) (zeros_alone k) =
-      rest (x + k) (omega (arith, within))
-      ∙ ap zeros_alone (let e : shared a (x + k) end z + 0 ≡ shared a x end z + 0 + k =
-      omega (arith, begun, within) in e)
+      rest (x + k) (omega (arith, within)) ∙ ap zeros_alone (omega (arith, begun, within))
       ∙ sym (ap (λ u. joined u (zeros_alone k)) (rest x (omega (arith, within)))) in
       more_of_unit a x (x + k) (part ∷ later) (zeros_alone k) (omega arith) unit.zeros at before unit.parts split refl
-      (omega arith)
-      (ap₂ (λ n u. cond (ltb 0 n) (after_part part.file (part.start + (max a at - at)) n u) u)
-      (let e : shared a (x + k) at part.length ≡ shared a x at part.length = omega arith in e) more
-      ∙ sym (file_then (ltb 0 (shared a x at part.length)) part.file (part.start + (max a at - at))
+      (omega arith) (ap₂ (λ n u. cond (ltb 0 n) (after_part part.file (part.start + (max a at - at)) n u) u)
+      (omega arith) more ∙ sym (file_then (ltb 0 (shared a x at part.length)) part.file (part.start + (max a at - at))
       (shared a x at part.length) (after_zeros (shared a x end z) (parts_between a x next later)) (zeros_alone k)))

@@ -1,9 +1,6 @@
 -- Some units, and their pieces.
-use Rattle.std.proofs.Common.{◌≡◌, ℕ, true, false, List, [], ◌∷◌, refl}
-use Rattle.tor_plan.specs.declared.units.Part.{Part}
-use Rattle.tor_plan.specs.declared.units.PlanUnit.{PlanUnit}
-use Rattle.tor_plan.specs.Pieces.{parts_between, pieces_of_unit}
-use Rattle.tor_plan.specs.Present.{is_there}
+use Rattle.tor_plan.proofs.Names.{◌≡◌, ℕ, true, false, List, [], ◌∷◌, refl, Part, PlanUnit, parts_between}
+use Rattle.tor_plan.proofs.Names.{pieces_of_unit, is_there}
 
 abbrev part : ℕ → ℕ → ℕ → ℕ → Part
 part file start n zeros = record { file = file; start = start; length = n; zeros = zeros }

@@ -1,15 +1,9 @@
 -- The parts of pieces are in the files where those of their units are, and pieces are not too long.
-use Rattle.std.proofs.Common.{◌≡◌, ℕ, ◌+◌, ◌-◌, ◌*◌, min, max, List, [], ◌∷◌, sum_by, arith, ap, ◌∙◌, subst, sym}
-use Rattle.std.proofs.Common.{cond, inl, inr, ltb}
-use Rattle.std.proofs.lemmas.Bool.{cases_lt, cond-false, cond-true, le-ltb, lt-ltb}
-use Rattle.std.proofs.lemmas.List.Elements.{All-nil, All-cons, All-head, All-tail}
-use Rattle.std.proofs.lemmas.List.Sums.{sum_by-cons}
-use Rattle.std.specs.List.{All}
-use Rattle.tor_plan.specs.Entries.{after_part, after_zeros, shared}
-use Rattle.tor_plan.specs.Pieces.{parts_between, piece_of_unit, unit_between}
-use Rattle.tor_plan.specs.WithinEntries.{IsInFile, IsUnitWithin, unit_length}
-use Rattle.tor_plan.specs.declared.units.Part.{Part}
-use Rattle.tor_plan.specs.declared.units.PlanUnit.{PlanUnit}
+use Rattle.tor_plan.proofs.Names.{◌≡◌, ℕ, ◌+◌, ◌-◌, ◌*◌, min, max, List, [], ◌∷◌, sum_by, arith, ap, ◌∙◌, subst, sym}
+use Rattle.tor_plan.proofs.Names.{cond, inl, inr, ltb, cases_lt, cond-false, cond-true, le-ltb, lt-ltb, All-nil}
+use Rattle.tor_plan.proofs.Names.{All-cons, All-head, All-tail, sum_by-cons, All, after_part, after_zeros, shared}
+use Rattle.tor_plan.proofs.Names.{parts_between, piece_of_unit, unit_between, IsInFile, IsUnitWithin, unit_length, Part}
+use Rattle.tor_plan.proofs.Names.{PlanUnit}
 use Rattle.tor_plan.proofs.PieceSteps.{from, part_met, part_not_met, shared-add}
 use Rattle.tor_plan.proofs.UnitJoins.{unit_of, part_length}
 
@@ -17,7 +11,7 @@ use Rattle.tor_plan.proofs.UnitJoins.{unit_of, part_length}
 three_shared : (a b at x y z n : ℕ) → n ≡ x + y + z
     → shared a b at n ≡ shared a b at x + (shared a b (at + x) y + shared a b (at + x + y) z)
 three_shared a b at x y z n is =
-    ap (shared a b at) (let e : n ≡ x + (y + z) = omega (arith, is) in e) ∙ shared-add a b at x (y + z)
+    ap (shared a b at) (omega (arith, is)) ∙ shared-add a b at x (y + z)
     ∙ ap (λ k. shared a b at x + k) (shared-add a b (at + x) y z)
 
 -- a part, or none of no byte, before others
@@ -41,8 +35,7 @@ module _ (a b : ℕ) where
       let rest = parts_between a b (next + part.zeros) parts in
       let y = shared a b next part.zeros in
       meets_length part.file (part.start + (max a at - at)) (shared a b at part.length) (after_zeros y rest)
-      ∙ ap (λ k. shared a b at part.length + k) ((let e : unit_length (after_zeros y rest) ≡ y + unit_length rest =
-      omega arith in e)
+      ∙ ap (λ k. shared a b at part.length + k) ((omega arith)
       ∙ ap (λ k. y + k) (length_between (next + part.zeros) parts))
       ∙ sym (three_shared a b at part.length part.zeros (sum_by part_length parts) (sum_by part_length (part ∷ parts))
       (sum_by-cons part_length part parts))

@@ -1,30 +1,17 @@
 -- The positions that units name, which are those of the files: file by file, byte by byte.
-use Rattle.std.proofs.Common.{◌≡◌, ℕ, zero, suc, ◌+◌, ◌-◌, ◌*◌, ◌<◌, ◌≤◌, min, max, inl, inr, List, [], ◌∷◌, ◌++◌, map}
-use Rattle.std.proofs.Common.{sum_by, arith, refl, ap, ap₂, ◌∙◌, sym, append_assoc, append-nil}
-use Rattle.std.proofs.lemmas.Bool.{cases_lt}
-use Rattle.std.proofs.lemmas.List.FromFn.{map-range_with_len_more}
-use Rattle.std.proofs.lemmas.List.Concat.{flat_map-append}
-use Rattle.std.proofs.lemmas.List.Sums.{sum_by-cons}
-use Rattle.std.specs.Int.{div_ceil}
-use Rattle.std.specs.List.{flat_map, range_with_len}
-use Rattle.tor_tree.specs.declared.kinds.Kind.{Kind}
-use Rattle.tor_tree.specs.declared.kinds.Kind.TheVariants.{V1, V2, Hybrid}
-use Rattle.tor_v1.specs.declared.entry.Entry.{Entry}
-use Rattle.tor_plan.specs.Entries.{entry_units, lengths_of_entries, shared}
-use Rattle.tor_plan.specs.Pieces.{parts_between, piece_of_unit, pieces_of_unit, unit_between}
-use Rattle.tor_plan.specs.Positions.{positions, positions_of_files, positions_of_unit}
-use Rattle.tor_plan.specs.Units.{file_unit, units_of_file}
-use Rattle.tor_plan.specs.WithinEntries.{unit_length}
-use Rattle.tor_plan.specs.declared.units.Part.{Part}
-use Rattle.tor_plan.specs.declared.units.PlanUnit.{PlanUnit}
-use Rattle.tor_plan.specs.steps.Joined.{part_alone}
-use Rattle.tor_plan.specs.steps.Whole.{separate_parts, whole_from, whole_unit}
+use Rattle.tor_plan.proofs.Names.{◌≡◌, ℕ, zero, suc, ◌+◌, ◌-◌, ◌*◌, ◌<◌, ◌≤◌, min, max, inl, inr, List, [], ◌∷◌, ◌++◌}
+use Rattle.tor_plan.proofs.Names.{map, sum_by, arith, refl, ap, ap₂, ◌∙◌, sym, append_assoc, append-nil, cases_lt}
+use Rattle.tor_plan.proofs.Names.{map-range_with_len_more, flat_map-append, sum_by-cons, div_ceil, flat_map}
+use Rattle.tor_plan.proofs.Names.{range_with_len, Kind, V1, Entry, entry_units, lengths_of_entries, shared}
+use Rattle.tor_plan.proofs.Names.{parts_between, piece_of_unit, pieces_of_unit, unit_between, positions}
+use Rattle.tor_plan.proofs.Names.{positions_of_files, positions_of_unit, file_unit, units_of_file, unit_length, Part}
+use Rattle.tor_plan.proofs.Names.{PlanUnit, part_alone, whole_from, whole_unit}
 use Rattle.tor_plan.proofs.FileUnits.{file_pieces}
 use Rattle.tor_plan.proofs.PieceCut.{unit_all, unit_none}
 use Rattle.tor_plan.proofs.PieceSteps.{between_none, part_met, part_not_met}
 use Rattle.tor_plan.proofs.Runs.{runs_are}
 use Rattle.tor_plan.proofs.UnitJoins.{part_length}
-use Rattle.tor_plan.proofs.WholeUnits.{by_whole, parts_of_whole, pieces_of_whole}
+use Rattle.tor_plan.proofs.WholeUnits.{by_whole, parts_of_whole, pieces_of_whole, separate_parts}
 
 no_positions : (index start n : ℕ) → n ≡ 0 → positions index start n ≡ []
 no_positions index start n none = ap (positions index start) none
@@ -32,7 +19,7 @@ no_positions index start n none = ap (positions index start) none
 -- a run, and the one that it ends at
 positions-add : (index s n k t : ℕ) → t ≡ s + n → positions index s n ++ positions index t k ≡ positions index s (n + k)
 positions-add index s n zero t is =
-    append-nil (positions index s n) ∙ ap (positions index s) (let e : n ≡ n + 0 = omega arith in e)
+    append-nil (positions index s n) ∙ ap (positions index s) (omega arith)
 positions-add index s n (suc k) t is =
     let at : ℕ → ℕ × ℕ = λ i. (index, i) in
     let last : List (ℕ × ℕ) = (index, s + (n + k)) ∷ [] in
@@ -41,8 +28,7 @@ positions-add index s n (suc k) t is =
     ∙ map-range_with_len_more at t k (s + (n + k)) (omega (arith, is)) in
     ap (λ xs. positions index s n ++ xs) more ∙ sym (append_assoc (positions index s n) (positions index t k) last)
     ∙ ap (λ xs. xs ++ last) (positions-add index s n k t is)
-    ∙ sym (map-range_with_len_more at s (n + k) (s + (n + k)) refl)
-    ∙ ap (positions index s) (let e : n + k + 1 ≡ n + suc k = omega arith in e)
+    ∙ sym (map-range_with_len_more at s (n + k) (s + (n + k)) refl) ∙ ap (positions index s) (omega arith)
 
 -- ---- the pieces of a unit
 
@@ -86,16 +72,13 @@ split_range a b c at (part ∷ parts) le more =
           ∙ ap (λ xs. xs ++ (other ++ others)) (append-nil one) ∙ sym (append_assoc one other others)
           ∙ ap₂ (λ xs ys. xs ++ ys)
           (positions-add part.file start (shared a b at m) (shared b c at m) later (omega (arith, le, beyond))
-          ∙ ap (positions part.file start)
-          (let e : shared a b at m + shared b c at m ≡ shared a c at m = omega (arith, le, more, beyond) in e))
+          ∙ ap (positions part.file start) (omega (arith, le, more, beyond)))
           (sym (ap (λ xs. xs ++ others) none) ∙ rest)
       | inr past ↦
           let none : other ≡ [] = no_positions part.file later (shared b c at m) (omega (arith, past)) in
           ap (λ xs. (one ++ ones) ++ (xs ++ others)) none ∙ append_assoc one ones others
-          ∙ ap₂ (λ n xs. positions part.file start n ++ xs)
-          (let e : shared a b at m ≡ shared a c at m = omega (arith, past, more) in e) rest
-    ]
-    ∙ sym (part_positions a c at part parts)
+          ∙ ap₂ (λ n xs. positions part.file start n ++ xs) (omega (arith, past, more)) rest
+    ] ∙ sym (part_positions a c at part parts)
 
 -- a range that has all parts
 whole_range : (a b at : ℕ) (parts : List Part) → a ≤ at → at + sum_by part_length parts ≤ b
@@ -104,10 +87,8 @@ unfolding parts_between
 whole_range a b at [] from to = refl
 whole_range a b at (part ∷ parts) from to =
     let long = sum_by-cons part_length part parts in
-    part_positions a b at part parts
-    ∙ ap₂ (λ xs ys. xs ++ ys)
-    (ap₂ (positions part.file) (let e : part.start + (max a at - at) ≡ part.start = omega (arith, from) in e)
-    (let e : shared a b at part.length ≡ part.length = omega (arith, from, to, long) in e))
+    part_positions a b at part parts ∙ ap₂ (λ xs ys. xs ++ ys) (ap₂ (positions part.file) (omega (arith, from))
+    (omega (arith, from, to, long)))
     (whole_range a b (at + part.length + part.zeros) parts (omega (arith, from)) (omega (arith, to, long)))
 
 positions_of_pieces : (size : ℕ) → 0 < size → (unit : PlanUnit)
@@ -117,14 +98,12 @@ positions_of_pieces size pos unit =
     let n = unit_length unit in
     runs_are positions_of_unit (piece_of_unit size unit) (λ x. positions_of_unit (unit_between 0 x unit)) n size pos
     (λ k less.
-    split_range 0 (k * size) ((k + 1) * size) unit.zeros unit.parts (omega arith)
-    (let e : k * size ≤ (k + 1) * size = omega arith in e)
+    split_range 0 (k * size) ((k + 1) * size) unit.zeros unit.parts (omega arith) (omega arith)
     ∙ elim (cases_lt n ((k + 1) * size)) [
       | inl past ↦ ap positions_of_unit (unit_all 0 n ((k + 1) * size) unit (omega arith) (omega (arith, past)))
-          ∙ ap (λ x. positions_of_unit (unit_between 0 x unit))
-          (let e : n ≡ min n ((k + 1) * size) = omega (arith, past) in e)
+          ∙ ap (λ x. positions_of_unit (unit_between 0 x unit)) (omega (arith, past))
       | inr within ↦ ap (λ x. positions_of_unit (unit_between 0 x unit))
-          (let e : (k + 1) * size ≡ min n ((k + 1) * size) = omega (arith, within) in e)
+          (omega (arith, within))
     ]) (ap positions_of_unit (unit_none 0 0 unit (omega arith)))
     ∙ whole_range 0 n unit.zeros unit.parts (omega arith) (omega arith)
 
@@ -176,9 +155,6 @@ pub entry_units_name_each_byte : (kind : Kind) (p span : ℕ) (entries : List En
 entry_units_name_each_byte V1 p span entries pos =
     ap (flat_map positions_of_unit) (sym (pieces_of_whole (span * p) entries))
     ∙ positions_of_pieces (span * p) pos (whole_unit entries) ∙ joined_positions 0 entries
-entry_units_name_each_byte V2 p span entries pos =
-    ap (flat_map positions_of_unit) (sym (parts_of_whole (span * p) entries pos))
-    ∙ separate_positions (span * p) pos 0 entries
-entry_units_name_each_byte Hybrid p span entries pos =
+entry_units_name_each_byte kind p span entries pos =
     ap (flat_map positions_of_unit) (sym (parts_of_whole (span * p) entries pos))
     ∙ separate_positions (span * p) pos 0 entries

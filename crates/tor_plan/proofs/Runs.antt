@@ -1,12 +1,8 @@
--- What is cut every so many bytes, run by run.
-use Rattle.std.proofs.Common.{◌≡◌, ℕ, zero, suc, ◌+◌, ◌*◌, ◌<◌, min, List, [], ◌∷◌, ◌++◌, map}
-use Rattle.std.proofs.Common.{arith, refl, ap}
-use Rattle.std.proofs.Common.{ap₂, ◌∙◌, sym, append_assoc, append-nil}
-use Rattle.std.proofs.lemmas.Grind.{div_ceil_times}
-use Rattle.std.proofs.lemmas.List.Concat.{flat_map-append}
-use Rattle.std.proofs.lemmas.List.FromFn.{map-range_with_len_more}
-use Rattle.std.specs.Int.{div_ceil}
-use Rattle.std.specs.List.{flat_map, range_with_len}
+-- How many runs of so many bytes there are, and what is cut into them, run by run.
+use Rattle.tor_plan.proofs.Names.{◌≡◌, ℕ, zero, suc, ◌+◌, ◌*◌, ◌<◌, min, List, [], ◌∷◌, ◌++◌, map, arith, refl, ap, ap₂}
+use Rattle.tor_plan.proofs.Names.{◌∙◌, sym, append_assoc, append-nil, div_ceil_times, flat_map-append}
+use Rattle.tor_plan.proofs.Names.{map-range_with_len_more, div_ceil, flat_map, range_with_len, ◌≤◌}
+use Rattle.tor_plan.proofs.Names.{lt_of_mul-lt-mul_right}
 
 pub range_same : {X : Type 0} (f g : ℕ → X) (n : ℕ) → ((k : ℕ) → k < n → f k ≡ g k)
     → map f (range_with_len 0 n) ≡ map g (range_with_len 0 n)
@@ -20,8 +16,7 @@ range_same f g (suc n) same =
 pub range-add : {X : Type 0} (f : ℕ → X) (n m : ℕ)
     → map f (range_with_len 0 n) ++ map (λ k. f (n + k)) (range_with_len 0 m) ≡ map f (range_with_len 0 (n + m))
 range-add f n zero =
-    append-nil (map f (range_with_len 0 n))
-    ∙ ap (λ k. map f (range_with_len 0 k)) (let e : n ≡ n + 0 = omega arith in e)
+    append-nil (map f (range_with_len 0 n)) ∙ ap (λ k. map f (range_with_len 0 k)) (omega arith)
 range-add f n (suc m) =
     let front = map f (range_with_len 0 n) in
     let g : ℕ → _ = λ k. f (n + k) in
@@ -30,13 +25,13 @@ range-add f n (suc m) =
     ∙ sym (append_assoc front (map g (range_with_len 0 m)) (f (n + m) ∷ []))
     ∙ ap (λ xs. xs ++ f (n + m) ∷ []) (range-add f n m)
     ∙ sym (map-range_with_len_more f 0 (n + m) (n + m) (omega arith))
-    ∙ ap (λ k. map f (range_with_len 0 k)) (let e : n + m + 1 ≡ n + suc m = omega arith in e)
+    ∙ ap (λ k. map f (range_with_len 0 k)) (omega arith)
 
 -- where each run adds to what so many bytes give, all runs give what all bytes give
 module _ {X Y : Type 0} (f : X → List Y) (g : ℕ → X) (F : ℕ → List Y) (n size : ℕ) (pos : 0 < size)
     (step : (k : ℕ) → k * size < n → F (k * size) ++ f (g k) ≡ F (min n ((k + 1) * size))) (none : F 0 ≡ []) where
   so_far : (k : ℕ) → k * size < n + size → flat_map f (map g (range_with_len 0 k)) ≡ F (min n (k * size))
-  so_far zero less = sym none ∙ ap F (let e : 0 ≡ min n (0 * size) = omega arith in e)
+  so_far zero less = sym none ∙ ap F (omega arith)
   so_far (suc k) less =
       let more : suc k * size ≡ k * size + size = omega arith in
       let here : k * size < n = omega (arith, less, more) in
@@ -44,15 +39,13 @@ module _ {X Y : Type 0} (f : X → List Y) (g : ℕ → X) (F : ℕ → List Y) 
       ap (λ q. flat_map f (map g (range_with_len 0 q))) (let e : suc k ≡ k + 1 = omega arith in e)
       ∙ ap (flat_map f) (map-range_with_len_more g 0 k k (omega arith))
       ∙ flat_map-append f (map g (range_with_len 0 k)) (g k ∷ []) ∙ ap (λ ys. front ++ ys) (append-nil (f (g k)))
-      ∙ ap (λ ys. ys ++ f (g k)) (so_far k (omega (arith, here)))
-      ∙ ap (λ q. F q ++ f (g k)) (let e : min n (k * size) ≡ k * size = omega (arith, here) in e)
-      ∙ step k here ∙ ap (λ q. F (min n q)) (let e : (k + 1) * size ≡ suc k * size = omega arith in e)
+      ∙ ap (λ ys. ys ++ f (g k)) (so_far k (omega (arith, here))) ∙ ap (λ q. F q ++ f (g k)) (omega (arith, here))
+      ∙ step k here ∙ ap (λ q. F (min n q)) (omega arith)
 
   pub runs_are : flat_map f (map g (range_with_len 0 (div_ceil n size))) ≡ F n
   runs_are =
       let bounds = div_ceil_times n size pos in
-      so_far (div_ceil n size) bounds.1
-      ∙ ap F (let e : min n (div_ceil n size * size) ≡ n = omega (arith, bounds.0) in e)
+      so_far (div_ceil n size) bounds.1 ∙ ap F (omega (arith, bounds.0))
 
 -- ---- of several lists
 
@@ -61,13 +54,19 @@ pub flat_map-same : {X Y : Type 0} (f g : X → List Y) → ((x : X) → f x ≡
 flat_map-same f g same [] = refl
 flat_map-same f g same (x ∷ xs) = ap₂ (λ ys zs. ys ++ zs) (same x) (flat_map-same f g same xs)
 
-pub flat_map-twice : {X Y Z : Type 0} (f : Y → List Z) (g : X → List Y) (xs : List X)
-    → flat_map f (flat_map g xs) ≡ flat_map (λ x. flat_map f (g x)) xs
-flat_map-twice f g [] = refl
-flat_map-twice f g (x ∷ xs) =
-    flat_map-append f (g x) (flat_map g xs) ∙ ap (λ zs. flat_map f (g x) ++ zs) (flat_map-twice f g xs)
+-- two numbers of runs that both cover n with less than one run too much
+one_count : (n p q k : ℕ) → n ≤ q * p → q * p < n + p → n ≤ k * p → k * p < n + p → q ≡ k
+one_count n p q k q_low q_high k_low k_high =
+    let less : q < k + 1 = lt_of_mul-lt-mul_right p (omega arith) in
+    let more : k < q + 1 = lt_of_mul-lt-mul_right p (omega arith) in
+    omega arith
 
-pub flat_map-map : {X Y Z : Type 0} (f : Y → List Z) (g : X → Y) (xs : List X)
-    → flat_map f (map g xs) ≡ flat_map (λ x. f (g x)) xs
-flat_map-map f g [] = refl
-flat_map-map f g (x ∷ xs) = ap (λ zs. f (g x) ++ zs) (flat_map-map f g xs)
+-- so many runs cover n, and one fewer do not
+pub ceil_is : (n p k : ℕ) → n ≤ k * p → k * p < n + p → div_ceil n p ≡ k
+ceil_is n p k low high =
+    let bounds = div_ceil_times n p (omega arith) in
+    one_count n p (div_ceil n p) k bounds.0 bounds.1 low high
+
+pub map_same : {X : Type 0} (f g : ℕ → X) → ((k : ℕ) → f k ≡ g k) → (ks : List ℕ) → map f ks ≡ map g ks
+map_same f g same [] = refl
+map_same f g same (k ∷ ks) = ap₂ (λ x xs. x ∷ xs) (same k) (map_same f g same ks)

@@ -1,33 +1,15 @@
 -- How many bytes the entries of files have, and how many units.
-use Rattle.std.proofs.Common.{◌≡◌, ℕ, zero, suc, ◌+◌, ◌-◌, ◌*◌, ◌%◌, ◌/◌, ◌^◌, ◌<◌, ◌≤◌, Bool, true, false, ltb, List}
-use Rattle.std.proofs.Common.{[]}
-use Rattle.std.proofs.Common.{◌∷◌, Option, Some, None, IsTrue, cond, sum, sum_by, arith, refl, ap, ◌∙◌, sym, subst}
-use Rattle.std.proofs.Common.{◌⊎◌, inl, inr, mul-le-mul_right, lt_of_mul-lt-mul_right, pow-suc, mul-pos}
-use Rattle.std.proofs.lemmas.Bool.{ltb-false, or_parts, eqb-true, cases_eq, cases_lt}
-use Rattle.std.proofs.Math.Pow.{pow-lt}
-use Rattle.std.proofs.lemmas.Grind.{div_ceil_times}
-use Rattle.std.proofs.lemmas.List.Sums.{sum_by-cons, sum_by-le-sum_by}
-use Rattle.std.proofs.lemmas.Nat.{pow-add, zero_from_ones, ones_le_self}
-use Rattle.std.proofs.Math.Nat.{le-mul_of_pos_right}
-use Rattle.std.specs.Int.{div_ceil, is_power_of_two, next_multiple_of}
-use Rattle.std.specs.Int.RustNames.{count_ones}
-use Rattle.std.specs.List.{list_any}
-use Rattle.std.specs.Option.{option_or}
-use Rattle.tor_tree.specs.FileList.{lengths_of, lengths_fault, lengths_too_large, paths_fault, paths_of, IsFileList}
-use Rattle.tor_tree.specs.declared.kinds.Kind.{Kind}
-use Rattle.tor_tree.specs.declared.kinds.Kind.TheVariants.{V1, V2, Hybrid}
-use Rattle.tor_tree.specs.declared.lists.ListError.{ListError}
-use Rattle.tor_tree.specs.declared.lists.ListError.TheVariants.{TooLarge}
-use Rattle.tor_merkle.specs.declared.TheConstants.{MAX_LENGTH}
-use Rattle.tor_tree.specs.declared.lists.TheConstants.{MAX_TOTAL, ROUNDING}
-use Rattle.tor_v1.specs.Entries.{padding_length}
-use Rattle.tor_v1.specs.Piece.{IsV1PieceLength}
-use Rattle.tor_v1.specs.declared.entry.Entry.{Entry}
-use Rattle.tor_plan.specs.Entries.{entries_length, lengths_of_entries}
-use Rattle.tor_plan.specs.PlanFacts.{IsPlanPieceLength, IsSpan}
-use Rattle.tor_plan.proofs.EntrySteps.{padding, file, entry_cases}
-use Rattle.tor_plan.proofs.Padding.{whole_with_padding}
-use lib.Count.{ones_step}
+use Rattle.tor_plan.proofs.Names.{◌≡◌, ℕ, zero, suc, ◌+◌, ◌-◌, ◌*◌, ◌%◌, ◌/◌, ◌^◌, ◌<◌, ◌≤◌, Bool, true, false, ltb}
+use Rattle.tor_plan.proofs.Names.{List, [], ◌∷◌, Option, Some, None, IsTrue, cond, sum, sum_by, arith, refl, ap, ◌∙◌}
+use Rattle.tor_plan.proofs.Names.{sym, subst, ◌⊎◌, inl, inr, mul-le-mul_right, lt_of_mul-lt-mul_right, pow-suc, mul-pos}
+use Rattle.tor_plan.proofs.Names.{ltb-false, or_parts, eqb-true, cases_eq, cases_lt, pow-lt, div_ceil_times}
+use Rattle.tor_plan.proofs.Names.{sum_by-cons, sum_by-le-sum_by, pow-add, zero_from_ones, ones_le_self}
+use Rattle.tor_plan.proofs.Names.{le-mul_of_pos_right, div_ceil, is_power_of_two, next_multiple_of, count_ones}
+use Rattle.tor_plan.proofs.Names.{list_any, option_or, lengths_of, lengths_fault, lengths_too_large, paths_fault}
+use Rattle.tor_plan.proofs.Names.{paths_of, IsFileList, Kind, V1, V2, Hybrid, ListError, TooLarge, MAX_LENGTH}
+use Rattle.tor_plan.proofs.Names.{MAX_TOTAL, ROUNDING, padding_length, IsV1PieceLength, Entry, entries_length}
+use Rattle.tor_plan.proofs.Names.{lengths_of_entries, IsPlanPieceLength, IsSpan, ones_step}
+use Rattle.tor_plan.proofs.EntrySteps.{padding, file, entry_cases, whole_with_padding}
 
 -- ---- the files of a list
 
@@ -124,8 +106,7 @@ pub piece_of_trees : (kind : Kind) (piece_length : ℕ) → (kind ≡ V2) ⊎ (k
     → IsPlanPieceLength kind piece_length → 16384 ≤ piece_length
 piece_of_trees V1 piece_length (inl is) pieces = cc
 piece_of_trees V1 piece_length (inr is) pieces = cc
-piece_of_trees V2 piece_length is pieces = pieces.1
-piece_of_trees Hybrid piece_length is pieces = pieces.1
+piece_of_trees kind piece_length is pieces = pieces.1
 
 pub whole_blocks : (span piece_length : ℕ) → 1 ≤ span → 16384 ≤ piece_length → 16384 ≤ span * piece_length
 whole_blocks span piece_length some le = omega (arith, mul-le-mul_right {m = 1} {n = span} piece_length some)
@@ -133,8 +114,7 @@ whole_blocks span piece_length some le = omega (arith, mul-le-mul_right {m = 1} 
 -- a piece is not empty, and no unit
 pub v1_piece : (kind : Kind) (piece_length : ℕ) → IsPlanPieceLength kind piece_length → IsV1PieceLength piece_length
 v1_piece V1 piece_length pieces = pieces
-v1_piece V2 piece_length pieces = (omega (arith, pieces.1), pieces.2)
-v1_piece Hybrid piece_length pieces = (omega (arith, pieces.1), pieces.2)
+v1_piece kind piece_length pieces = (omega (arith, pieces.1), pieces.2)
 
 pub some_bytes : (kind : Kind) (piece_length span : ℕ) → IsSpan span → IsPlanPieceLength kind piece_length
     → 0 < span * piece_length

@@ -1,23 +1,12 @@
 -- The bytes of a unit, and those of a range of it.
-use Rattle.std.proofs.Common.{◌≡◌, ℕ, ◌+◌, ◌-◌, ◌<◌, min, max, List, [], ◌∷◌, ◌++◌, length, map, get_or, take}
-use Rattle.std.proofs.Common.{drop, sum_by, arith, refl, ap, ap₂, ◌∙◌, sym, append_assoc, append-nil, length-append}
-use Rattle.std.proofs.Common.{length-drop, inl, inr}
-use Rattle.std.proofs.Math.Seq.{take-append-add}
-use Rattle.std.proofs.lemmas.Bool.{cases_lt}
-use Rattle.std.proofs.lemmas.List.{take_min, take_all, drop_all, take-replicate, drop-replicate, drop-append-le}
-use Rattle.std.proofs.lemmas.List.{take-append-le, drop_at, drop-drop, drop-take, take-take, get_or-map, length-map}
-use Rattle.std.proofs.lemmas.List.{length-take-le}
-use Rattle.std.proofs.lemmas.List.Elements.{All-head, All-tail}
-use Rattle.std.proofs.lemmas.List.Sums.{sum_by-cons}
-use Rattle.std.specs.List.{All, flat_map}
-use Rattle.tor_v1.specs.Piece.{zeros}
-use Rattle.tor_v1.proofs.ProvedLaws.{length_of_zeros}
-use Rattle.tor_plan.specs.Content.{part_content, unit_content}
-use Rattle.tor_plan.specs.Entries.{after_part, after_zeros, shared}
-use Rattle.tor_plan.specs.Pieces.{parts_between, unit_between}
-use Rattle.tor_plan.specs.WithinEntries.{IsInFile, unit_length}
-use Rattle.tor_plan.specs.declared.units.Part.{Part}
-use Rattle.tor_plan.specs.declared.units.PlanUnit.{PlanUnit}
+use Rattle.tor_plan.proofs.Names.{◌≡◌, ℕ, ◌+◌, ◌-◌, ◌<◌, min, max, List, [], ◌∷◌, ◌++◌, length, map, get_or, take, drop}
+use Rattle.tor_plan.proofs.Names.{sum_by, arith, refl, ap, ap₂, ◌∙◌, sym, append_assoc, append-nil, length-append}
+use Rattle.tor_plan.proofs.Names.{length-drop, inl, inr, take-append-add, cases_lt, take_min, take_all, drop_all}
+use Rattle.tor_plan.proofs.Names.{take-replicate, drop-replicate, drop-append-le, take-append-le, drop_at, drop-drop}
+use Rattle.tor_plan.proofs.Names.{drop-take, take-take, get_or-map, length-map, length-take-le, All-head, All-tail}
+use Rattle.tor_plan.proofs.Names.{sum_by-cons, All, flat_map, zeros, length_of_zeros, part_content, unit_content}
+use Rattle.tor_plan.proofs.Names.{after_part, after_zeros, shared, parts_between, unit_between, IsInFile, unit_length}
+use Rattle.tor_plan.proofs.Names.{Part, PlanUnit}
 use Rattle.tor_plan.proofs.Empty.{zeros-nil, zeros-add}
 use Rattle.tor_plan.proofs.PieceSteps.{from, part_met, part_not_met}
 use Rattle.tor_plan.proofs.UnitJoins.{part_length, unit_of}
@@ -26,8 +15,7 @@ use Rattle.tor_plan.proofs.UnitJoins.{part_length, unit_of}
 drop-append : (n : ℕ) (xs ys : List ℕ) → drop n (xs ++ ys) ≡ drop n xs ++ drop (n - length xs) ys
 drop-append n xs ys = elim (cases_lt (length xs) n) [
   | inl more ↦
-      ap (λ k. drop k (xs ++ ys)) (let e : n ≡ length xs + (n - length xs) = omega arith in e)
-      ∙ sym (drop-drop (n - length xs) (length xs) (xs ++ ys))
+      ap (λ k. drop k (xs ++ ys)) (omega arith) ∙ sym (drop-drop (n - length xs) (length xs) (xs ++ ys))
       ∙ ap (drop (n - length xs)) (drop_at xs ys (length xs) refl)
       ∙ ap (λ zs. zs ++ drop (n - length xs) ys) (sym (drop_all n xs (omega arith)))
   | inr le ↦ drop-append-le n xs ys le ∙ ap (λ k. drop n xs ++ drop k ys) (let e : 0 ≡ n - length xs = omega arith in e)
@@ -36,8 +24,7 @@ drop-append n xs ys = elim (cases_lt (length xs) n) [
 take-append : (n : ℕ) (xs ys : List ℕ) → take n (xs ++ ys) ≡ take n xs ++ take (n - length xs) ys
 take-append n xs ys = elim (cases_lt (length xs) n) [
   | inl more ↦
-      ap (λ k. take k (xs ++ ys)) (let e : n ≡ length xs + (n - length xs) = omega arith in e)
-      ∙ take-append-add xs ys (n - length xs)
+      ap (λ k. take k (xs ++ ys)) (omega arith) ∙ take-append-add xs ys (n - length xs)
       ∙ ap (λ zs. zs ++ take (n - length xs) ys) (sym (take_all n xs (omega arith)))
   | inr le ↦ take-append-le n xs ys le
       ∙ sym (ap (λ k. take n xs ++ take k ys) (let e : n - length xs ≡ 0 = omega arith in e) ∙ append-nil (take n xs))
@@ -54,18 +41,14 @@ module _ (a b at m : ℕ) where
       let s = a - at in
       let n = b - max a at in
       ap (take n) (drop-append s xs ys) ∙ take-append n (drop s xs) (drop (s - length xs) ys)
-      ∙ ap (λ zs. take n (drop s xs) ++ zs) (ap₂ (λ j k. take j (drop k ys))
-      (let e : n - length (drop s xs) ≡ b - max a (at + m) = omega (arith, length-drop s xs, long) in e)
-      (let e : s - length xs ≡ a - (at + m) = omega (arith, long) in e))
+      ∙ ap (λ zs. take n (drop s xs) ++ zs) (ap₂ (λ j k. take j (drop k ys)) (omega (arith, length-drop s xs, long))
+      (omega (arith, long)))
 
   between-shared : (xs : List ℕ) → length xs ≡ m → take (shared a b at m) (drop (max a at - at) xs) ≡ between a b at xs
   between-shared xs long =
       let s = a - at in
       let n = b - max a at in
-      ap₂ (λ j k. take j (drop k xs))
-      (let e : shared a b at m ≡ min n (length (drop s xs)) = omega (arith, length-drop s xs, long) in e)
-      (let e : max a at - at ≡ s = omega arith in e)
-      ∙ take_min n (drop s xs)
+      ap₂ (λ j k. take j (drop k xs)) (omega (arith, length-drop s xs, long)) (omega arith) ∙ take_min n (drop s xs)
 
   between-zeros : zeros (shared a b at m) ≡ between a b at (zeros m)
   unfolding zeros
@@ -86,8 +69,7 @@ module _ (contents : List (List ℕ)) where
   part_first index start n unit =
       let bytes = take n (drop start (get_or contents index [])) in
       let others = flat_map (part_content contents) unit.parts in
-      ap (λ xs. xs ++ ((bytes ++ zeros unit.zeros) ++ others)) zeros-nil
-      ∙ append_assoc bytes (zeros unit.zeros) others
+      ap (λ xs. xs ++ ((bytes ++ zeros unit.zeros) ++ others)) zeros-nil ∙ append_assoc bytes (zeros unit.zeros) others
 
   -- ---- where all parts are in their files
 
@@ -102,8 +84,7 @@ module _ (contents : List (List ℕ)) where
       let file = get_or contents part.file [] in
       let named : part.file < length contents = omega (arith, is.named, length-map contents length) in
       let long = get_or-map length contents part.file [] 0 named in
-      length-take-le part.length (drop part.start file)
-      (omega (arith, length-drop part.start file, is.within, long))
+      length-take-le part.length (drop part.start file) (omega (arith, length-drop part.start file, is.within, long))
 
   content_long : (parts : List Part) → AreThere parts
       → length (flat_map (part_content contents) parts) ≡ sum_by part_length parts
@@ -111,8 +92,7 @@ module _ (contents : List (List ℕ)) where
   content_long (part ∷ parts) there =
       let bytes = bytes_of_part part in
       let others = flat_map (part_content contents) parts in
-      length-append (bytes ++ zeros part.zeros) others
-      ∙ omega (
+      length-append (bytes ++ zeros part.zeros) others ∙ omega (
         arith,
         length-append bytes (zeros part.zeros),
         length_of_zeros part.zeros,
@@ -141,8 +121,7 @@ module _ (contents : List (List ℕ)) where
           | inl some ↦ ap (take n) (sym (drop-drop s part.start file))
               ∙ sym (take-take n left (drop s (drop part.start file)) (omega arith))
               ∙ ap (take n) (sym (drop-take s left (drop part.start file)))
-              ∙ ap (λ k. take n (drop s (take k (drop part.start file))))
-              (let e : s + left ≡ part.length = omega (arith, some) in e)
+              ∙ ap (λ k. take n (drop s (take k (drop part.start file)))) (omega (arith, some))
           | inr few ↦
               let none : n ≡ 0 = omega (arith, few) in
               ap (λ k. take k (drop (part.start + s) file)) none
@@ -191,7 +170,5 @@ module _ (contents : List (List ℕ)) where
         → unit_content contents (unit_between a b unit) ≡ between a b 0 (unit_content contents unit)
     content_between unit there =
         zeros_between 0 unit.zeros (parts_between a b unit.zeros unit.parts)
-        (flat_map (part_content contents) unit.parts)
-        (parts_content unit.zeros unit.parts there
-        ∙ ap (λ i. between a b i (flat_map (part_content contents) unit.parts))
-        (let e : unit.zeros ≡ 0 + unit.zeros = omega arith in e))
+        (flat_map (part_content contents) unit.parts) (parts_content unit.zeros unit.parts there
+        ∙ ap (λ i. between a b i (flat_map (part_content contents) unit.parts)) (omega arith))

@@ -1,12 +1,8 @@
 -- A unit, and then another.
-use Rattle.std.proofs.Common.{◌≡◌, ℕ, ◌+◌, ◌-◌, ◌<◌, Bool, true, false, cond, List, [], ◌∷◌, ◌++◌, length, get_or}
-use Rattle.std.proofs.Common.{set, sum_by, take, arith, refl, ap, ap₂, ◌∙◌, sym, append-nil, zero-add}
-use Rattle.std.proofs.lemmas.List.{take-append-drop, set_at, drop_more, drop_all, length-take-le}
-use Rattle.std.proofs.lemmas.List.Sums.{sum_by-cons}
-use Rattle.tor_plan.specs.Entries.{after_part, after_zeros, empty_unit}
-use Rattle.tor_plan.specs.WithinEntries.{unit_length}
-use Rattle.tor_plan.specs.declared.units.Part.{Part}
-use Rattle.tor_plan.specs.declared.units.PlanUnit.{PlanUnit}
+use Rattle.tor_plan.proofs.Names.{◌≡◌, ℕ, ◌+◌, ◌-◌, ◌<◌, Bool, true, false, cond, List, [], ◌∷◌, ◌++◌, length, get_or}
+use Rattle.tor_plan.proofs.Names.{set, sum_by, take, arith, refl, ap, ap₂, ◌∙◌, sym, append-nil, zero-add}
+use Rattle.tor_plan.proofs.Names.{take-append-drop, set_at, drop_more, drop_all, length-take-le, sum_by-cons}
+use Rattle.tor_plan.proofs.Names.{after_part, after_zeros, empty_unit, unit_length, Part, PlanUnit}
 pub use Rattle.tor_plan.specs.steps.Joined.{joined, parts_then, part_alone, zeros_alone}
 
 abbrev pub with_zeros : Part → ℕ → Part
@@ -16,8 +12,7 @@ with_zeros part n = record { file = part.file; start = part.start; length = part
 pub zeros_then : (n : ℕ) (u v : PlanUnit) → joined (after_zeros n u) v ≡ after_zeros n (joined u v)
 zeros_then n u v =
     let rest = parts_then u.parts v in
-    ap (λ k. record { zeros = k; parts = rest.parts })
-    (let e : n + u.zeros + rest.zeros ≡ n + (u.zeros + rest.zeros) = omega arith in e)
+    ap (λ k. record { zeros = k; parts = rest.parts }) (omega arith)
 
 pub file_then : (b : Bool) (file start n : ℕ) (u v : PlanUnit)
     → joined (cond b (after_part file start n u) u) v ≡ cond b (after_part file start n (joined u v)) (joined u v)
@@ -82,8 +77,7 @@ after_last z n len ps last long some is =
     ∙ ap₂ (λ p xs. p ∷ xs) (sym is) (drop_all (k + 1) ps (omega arith))) in
     ap (λ xs. unit_of z (set xs k (with_zeros last n))) split
     ∙ ap (unit_of z) (set_at front last [] (with_zeros last n) k (length-take-le k ps (omega arith)))
-    ∙ sym (then_zeros z n front last)
-    ∙ ap (λ xs. joined (unit_of z xs) (zeros_alone n)) (sym split)
+    ∙ sym (then_zeros z n front last) ∙ ap (λ xs. joined (unit_of z xs) (zeros_alone n)) (sym split)
 
 -- ---- three units
 

@@ -1,25 +1,14 @@
 -- The pieces of a unit, of those of several units, and what they have together.
-use Rattle.std.proofs.Common.{◌≡◌, ℕ, ◌+◌, ◌-◌, ◌*◌, ◌<◌, ◌≤◌, min, max, List, [], ◌∷◌, ◌++◌, length, map, take, drop}
-use Rattle.std.proofs.Common.{arith, refl, ap, ap₂, ◌∙◌, sym, mul-le-mul_right, lt_of_mul-lt-mul_right}
-use Rattle.std.proofs.Common.{get_or, zero-add}
-use Rattle.std.proofs.Math.Seq.{take-add}
-use Rattle.std.proofs.lemmas.Grind.{div_ceil_times}
-use Rattle.std.proofs.lemmas.List.{length-take-le, take_min, take_all}
-use Rattle.std.proofs.lemmas.List.Concat.{flat_map-append}
-use Rattle.std.proofs.lemmas.List.Elements.{All-nil, All-append, All-head, All-tail}
-use Rattle.std.proofs.lemmas.List.FromFn.{length-map-range_with_len, get_or-map-range_with_len}
-use Rattle.std.specs.Int.{div_ceil}
-use Rattle.std.specs.List.{All, flat_map, range_with_len}
-use Rattle.tor_v1.specs.Piece.{piece_sums}
-use Rattle.tor_v1.proofs.ProvedLaws.{sums_of_joined}
-use Rattle.tor_plan.specs.Content.{unit_content}
-use Rattle.tor_plan.specs.Pieces.{piece_of_unit, pieces_of_unit, unit_between}
-use Rattle.tor_plan.specs.WithinEntries.{IsInFile, IsUnitWithin, unit_length}
-use Rattle.tor_plan.specs.declared.units.PlanUnit.{PlanUnit}
+use Rattle.tor_plan.proofs.Names.{◌≡◌, ℕ, ◌+◌, ◌-◌, ◌*◌, ◌<◌, ◌≤◌, min, max, List, [], ◌∷◌, ◌++◌, length, map, take}
+use Rattle.tor_plan.proofs.Names.{drop, arith, refl, ap, ap₂, ◌∙◌, sym, mul-le-mul_right, lt_of_mul-lt-mul_right}
+use Rattle.tor_plan.proofs.Names.{get_or, zero-add, take-add, div_ceil_times, length-take-le, take_min, take_all}
+use Rattle.tor_plan.proofs.Names.{flat_map-append, All-nil, All-append, All-head, All-tail, length-map-range_with_len}
+use Rattle.tor_plan.proofs.Names.{get_or-map-range_with_len, div_ceil, All, flat_map, range_with_len, piece_sums}
+use Rattle.tor_plan.proofs.Names.{sums_of_joined, unit_content, piece_of_unit, pieces_of_unit, unit_between, IsInFile}
+use Rattle.tor_plan.proofs.Names.{IsUnitWithin, unit_length, PlanUnit}
 use Rattle.tor_plan.proofs.Empty.{sums_nil}
 use Rattle.tor_plan.proofs.PieceWithin.{pieces_are_within_files, unit_between_length}
-use Rattle.tor_plan.proofs.Ranges.{ceil_is}
-use Rattle.tor_plan.proofs.Runs.{range-add, range_same, runs_are}
+use Rattle.tor_plan.proofs.Runs.{ceil_is, range-add, range_same, runs_are}
 use Rattle.tor_plan.proofs.UnitContent.{content_between, length_of_content, AreThere}
 use Rattle.tor_plan.proofs.UnitRanges.{range_of_range}
 use Rattle.tor_plan.proofs.WithinFiles.{all_range, run_begins}
@@ -35,14 +24,10 @@ module _ (contents : List (List ℕ)) (unit : PlanUnit) (there : AreThere conten
       ≡ take (min (unit_length unit) ((k + 1) * size)) all
   content_step size k =
       let end : k * size + size ≡ (k + 1) * size = omega arith in
-      ap (λ ys. take (k * size) all ++ ys)
-      (content_between contents (k * size) ((k + 1) * size) unit there
-      ∙ ap₂ (λ n j. take n (drop j all)) (let e : (k + 1) * size - max (k * size) 0 ≡ size = omega arith in e)
-      (let e : k * size - 0 ≡ k * size = omega arith in e))
-      ∙ sym (take-add (k * size) size all) ∙ ap (λ n. take n all) end
-      ∙ sym (take_min ((k + 1) * size) all)
-      ∙ ap (λ n. take n all) (let e : min ((k + 1) * size) (length all) ≡ min (unit_length unit) ((k + 1) * size) =
-      omega (arith, length_of_content contents unit there) in e)
+      ap (λ ys. take (k * size) all ++ ys) (content_between contents (k * size) ((k + 1) * size) unit there
+      ∙ ap₂ (λ n j. take n (drop j all)) (omega arith) (omega arith))
+      ∙ sym (take-add (k * size) size all) ∙ ap (λ n. take n all) end ∙ sym (take_min ((k + 1) * size) all)
+      ∙ ap (λ n. take n all) (omega (arith, length_of_content contents unit there))
 
   whole : take (unit_length unit) all ≡ all
   whole = take_all (unit_length unit) all (omega (arith, length_of_content contents unit there))
@@ -59,13 +44,10 @@ module _ (contents : List (List ℕ)) (unit : PlanUnit) (there : AreThere conten
   sums_of_pieces p span some pos =
       let size = span * p in
       runs_are (λ u. piece_sums p (unit_content contents u)) (piece_of_unit size unit)
-      (λ n. piece_sums p (take n all)) (unit_length unit) size pos
-      (λ k less.
+      (λ n. piece_sums p (take n all)) (unit_length unit) size pos (λ k less.
       sym (sums_of_joined p (k * span) (take (k * size) all) (unit_content contents (piece_of_unit size unit k)) some
-      (length-take-le (k * size) all (omega (arith, less, length_of_content contents unit there))
-      ∙ (let e : k * size ≡ k * span * p = omega arith in e)))
-      ∙ ap (piece_sums p) (content_step size k)) (sums_nil p some)
-      ∙ ap (piece_sums p) whole
+      (length-take-le (k * size) all (omega (arith, less, length_of_content contents unit there)) ∙ (omega arith)))
+      ∙ ap (piece_sums p) (content_step size k)) (sums_nil p some) ∙ ap (piece_sums p) whole
 
 -- ---- their pieces
 
@@ -76,10 +58,8 @@ module _ (p span : ℕ) (some : 0 < p) (pos : 0 < span * p) (unit : PlanUnit) wh
   piece_of_piece : (k j : ℕ) → (j + 1) * p ≤ size
       → piece_of_unit p (piece_of_unit size unit k) j ≡ piece_of_unit p unit (k * span + j)
   piece_of_piece k j le =
-      range_of_range (j * p) ((j + 1) * p) (k * size) ((k + 1) * size) unit
-      ∙ ap₂ (λ a b. unit_between a b unit)
-      (let e : k * size + j * p ≡ (k * span + j) * p = omega arith in e)
-      (let e : min ((k + 1) * size) (k * size + (j + 1) * p) ≡ (k * span + j + 1) * p = omega (arith, le) in e)
+      range_of_range (j * p) ((j + 1) * p) (k * size) ((k + 1) * size) unit ∙ ap₂ (λ a b. unit_between a b unit)
+      (omega arith) (omega (arith, le))
 
   -- the pieces of so many bytes, and those of the next unit
   pieces_step : (k : ℕ) → k * size < unit_length unit
@@ -103,8 +83,7 @@ module _ (p span : ℕ) (some : 0 < p) (pos : 0 < span * p) (unit : PlanUnit) wh
       (λ j lt.
       let fits : j < span = lt_of_mul-lt-mul_right p (omega (arith, run_begins n p j some lt)) in
       piece_of_piece k j (mul-le-mul_right {m = j + 1} {n = span} p (omega (arith, fits)))))
-      ∙ range-add (piece_of_unit p unit) (k * span) count
-      ∙ ap (λ q. map (piece_of_unit p unit) (range_with_len 0 q))
+      ∙ range-add (piece_of_unit p unit) (k * span) count ∙ ap (λ q. map (piece_of_unit p unit) (range_with_len 0 q))
       (sym (ceil_is (min (unit_length unit) ((k + 1) * size)) p (k * span + count)
       (omega (arith, split, few.0, less, next)) (omega (arith, split, few.1, less, next))))
 
@@ -144,11 +123,11 @@ within_units lengths size pos (unit ∷ units) held =
     (within_units lengths size pos units (All-tail Held unit units held))
 
 -- what all pieces of each unit give is what the units give
-pub each_unit : {Y : Type 0} (f g : PlanUnit → List Y) (size : ℕ) (P : PlanUnit → Type 0)
-    → ((u : PlanUnit) → P u → flat_map f (pieces_of_unit size u) ≡ g u) → (units : List PlanUnit) → All P units
-    → flat_map f (flat_map (pieces_of_unit size) units) ≡ flat_map g units
-each_unit f g n P same [] held = refl
-each_unit f g n P same (unit ∷ units) held =
+pub each_unit : {Y : Type 0} (f : PlanUnit → List Y) (size : ℕ) (P : PlanUnit → Type 0)
+    → ((u : PlanUnit) → P u → flat_map f (pieces_of_unit size u) ≡ f u) → (units : List PlanUnit) → All P units
+    → flat_map f (flat_map (pieces_of_unit size) units) ≡ flat_map f units
+each_unit f n P same [] held = refl
+each_unit f n P same (unit ∷ units) held =
     flat_map-append f (pieces_of_unit n unit) (flat_map (pieces_of_unit n) units)
     ∙ ap₂ (λ xs ys. xs ++ ys) (same unit (All-head P unit units held))
-    (each_unit f g n P same units (All-tail P unit units held))
+    (each_unit f n P same units (All-tail P unit units held))

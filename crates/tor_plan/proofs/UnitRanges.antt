@@ -1,11 +1,7 @@
 -- The bytes of a range of a unit are a range of the unit.
-use Rattle.std.proofs.Common.{◌≡◌, ℕ, ◌+◌, ◌-◌, ◌<◌, ◌≤◌, cond, ltb, min, max, List, [], ◌∷◌, arith, ap, ap₂, ◌∙◌, sym}
-use Rattle.std.proofs.Common.{inl, inr, zero-add}
-use Rattle.std.proofs.lemmas.Bool.{cases_lt, lt-ltb, le-ltb, cond-true, cond-false}
-use Rattle.tor_plan.specs.Entries.{after_part, after_zeros, shared}
-use Rattle.tor_plan.specs.Pieces.{parts_between, unit_between}
-use Rattle.tor_plan.specs.declared.units.Part.{Part}
-use Rattle.tor_plan.specs.declared.units.PlanUnit.{PlanUnit}
+use Rattle.tor_plan.proofs.Names.{◌≡◌, ℕ, ◌+◌, ◌-◌, ◌<◌, ◌≤◌, cond, ltb, min, max, List, [], ◌∷◌, arith, ap, ap₂, ◌∙◌}
+use Rattle.tor_plan.proofs.Names.{sym, inl, inr, zero-add, cases_lt, lt-ltb, le-ltb, cond-true, cond-false, after_part}
+use Rattle.tor_plan.proofs.Names.{after_zeros, shared, parts_between, unit_between, Part, PlanUnit}
 use Rattle.tor_plan.proofs.PieceSteps.{from, from_first, no_zeros, part_met, part_not_met, shared-add, zeros_twice}
 use Rattle.tor_plan.proofs.UnitJoins.{unit_of, zeros_alone}
 
@@ -40,11 +36,10 @@ module _ (a b c d : ℕ) where
   shared_same at m =
       let last = min d (at + m) in
       ap (λ n. min b n - max a (begin at)) (begin_next at m) ∙ ap (λ n. n - max a (begin at)) (end_moved b c last)
-      ∙ ap (λ n. n - c - max a (begin at)) (let e : min (c + b) last ≡ min end (at + m) = omega arith in e)
-      ∙ elim (cases_lt d at) [
-        | inl past ↦ ap (λ n. min end (at + m) - c - max a (n - c)) (let e : min d at ≡ d = omega (arith, past) in e)
+      ∙ ap (λ n. n - c - max a (begin at)) (omega arith) ∙ elim (cases_lt d at) [
+        | inl past ↦ ap (λ n. min end (at + m) - c - max a (n - c)) (omega (arith, past))
             ∙ none_left a c d at (min end (at + m)) (omega arith) past
-        | inr le ↦ ap (λ n. min end (at + m) - c - max a (n - c)) (let e : min d at ≡ at = omega (arith, le) in e)
+        | inr le ↦ ap (λ n. min end (at + m) - c - max a (n - c)) (omega (arith, le))
             ∙ begin_moved a c at (min end (at + m))
       ]
 
@@ -53,8 +48,7 @@ module _ (a b c d : ℕ) where
   zeros_step at m unit =
       let n = shared c d at m in
       let e : begin at + (n + unit.zeros) ≡ begin at + n + unit.zeros = omega arith in
-      ap₂ (λ k i. after_zeros k (parts_between a b i unit.parts))
-      (shared-add a b (begin at) n unit.zeros
+      ap₂ (λ k i. after_zeros k (parts_between a b i unit.parts)) (shared-add a b (begin at) n unit.zeros
       ∙ ap₂ (λ k i. k + shared a b i unit.zeros) (shared_same at m) (begin_next at m))
       (e ∙ ap (λ i. i + unit.zeros) (begin_next at m))
       ∙ zeros_twice (shared (c + a) end at m) (shared a b (begin (at + m)) unit.zeros)
@@ -80,14 +74,13 @@ module _ (a b c d : ℕ) where
           zeros = unit.zeros;
         } in
         no_zeros (shared a b (begin at) 0) (parts_between a b (begin at + 0) (part ∷ unit.parts)) (omega arith)
-        ∙ ap (λ i. parts_between a b i (part ∷ unit.parts)) (let e : begin at + 0 ≡ begin at = omega arith in e)
+        ∙ ap (λ i. parts_between a b i (part ∷ unit.parts)) (omega arith)
         ∙ elim (cases_lt 0 (shared (c + a) end at m)) [
           | inl more ↦ part_met a b (begin at) part unit.parts (omega (arith, more, shared_same at m))
               ∙ ap₂ (λ i k. after_part file i k (from a b (begin at + part.length) unit)) (start_is some more)
               (shared_same at m)
               ∙ ap (λ i. after_part file (start + (max (c + a) at - at)) (shared (c + a) end at m) (from a b i unit))
-              (begin_next at m)
-              ∙ sym (cond-true _ _ _ (lt-ltb 0 (shared (c + a) end at m) more))
+              (begin_next at m) ∙ sym (cond-true _ _ _ (lt-ltb 0 (shared (c + a) end at m) more))
           | inr few ↦ part_not_met a b (begin at) part unit.parts (omega (arith, few, shared_same at m))
               ∙ ap (λ i. from a b i unit) (begin_next at m)
               ∙ sym (cond-false _ _ _ (le-ltb 0 (shared (c + a) end at m) few))
@@ -97,14 +90,14 @@ module _ (a b c d : ℕ) where
     part_step = elim (cases_lt 0 (shared c d at m)) [
       | inl some ↦ ap (from a b (begin at)) (cond-true _ _ _ (lt-ltb 0 (shared c d at m) some)) ∙ of_met some
       | inr few ↦ ap (from a b (begin at)) (cond-false _ _ _ (le-ltb 0 (shared c d at m) few))
-          ∙ ap (λ i. from a b i unit) (let e : begin at ≡ begin (at + m) = omega (arith, few) in e)
+          ∙ ap (λ i. from a b i unit) (omega (arith, few))
           ∙ sym (cond-false _ _ _ (le-ltb 0 (shared (c + a) end at m) (omega (arith, few))))
     ]
 
   range_from : (at : ℕ) (parts : List Part)
       → from a b (begin at) (parts_between c d at parts) ≡ parts_between (c + a) end at parts
   unfolding parts_between
-  range_from at [] = ap zeros_alone (let e : shared a b (begin at) 0 + 0 ≡ 0 = omega arith in e)
+  range_from at [] = ap zeros_alone (omega arith)
   range_from at (part ∷ parts) =
       let next = at + part.length in
       part_step at part.file part.start part.length (from c d next (unit_of part.zeros parts))
@@ -114,8 +107,7 @@ module _ (a b c d : ℕ) where
 
   pub range_of_range : (unit : PlanUnit) → unit_between a b (unit_between c d unit) ≡ unit_between (c + a) end unit
   range_of_range unit =
-      from_first a b (unit_between c d unit)
-      ∙ ap (λ i. from a b i (unit_between c d unit)) (let e : 0 ≡ begin 0 = omega arith in e)
+      from_first a b (unit_between c d unit) ∙ ap (λ i. from a b i (unit_between c d unit)) (omega arith)
       ∙ zeros_step 0 unit.zeros (parts_between c d unit.zeros unit.parts)
       ∙ ap (after_zeros (shared (c + a) end 0 unit.zeros))
       (ap (λ i. from a b (begin i) (parts_between c d unit.zeros unit.parts)) (zero-add unit.zeros)

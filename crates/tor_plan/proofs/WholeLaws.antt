@@ -1,41 +1,23 @@
 -- What all bytes of entries are, and the units that are cut of them.
-use Rattle.std.proofs.Common.{◌≡◌, ◌≢◌, ◌⊎◌, ℕ, ◌+◌, ◌*◌, ◌<◌, false, List, [], ◌∷◌, ◌++◌, length, map, drop, get_or}
-use Rattle.std.proofs.Common.{take, arith, refl, ap, ap₂, ◌∙◌, sym, append-nil, inl, inr}
-use Rattle.std.proofs.Common.{subst}
-use Rattle.std.proofs.lemmas.Bool.{lt-ltb, ltb-false, or_parts}
-use Rattle.std.proofs.lemmas.List.{nil_from_length, take_all}
-use Rattle.std.proofs.lemmas.List.Elements.{All-nil, All-cons, All-append, All-head, All-tail}
-use Rattle.std.specs.Int.{div_ceil}
-use Rattle.std.specs.List.{All, flat_map, list_any, range_with_len}
-use Rattle.tor_tree.specs.declared.kinds.Kind.{Kind}
-use Rattle.tor_tree.specs.declared.kinds.Kind.TheVariants.{V1, V2, Hybrid}
-use Rattle.tor_v1.specs.Content.{joined_content}
-use Rattle.tor_v1.specs.Entries.{padding_length}
-use Rattle.tor_v1.specs.Piece.{zeros}
-use Rattle.tor_v1.specs.declared.entry.Entry.{Entry}
-use Rattle.tor_plan.specs.Content.{part_content, unit_content}
-use Rattle.tor_plan.specs.Entries.{after_zeros, empty_unit}
-use Rattle.tor_plan.specs.Entries.{entry_units, lengths_of_entries, padding_before_next}
-use Rattle.tor_plan.specs.EntryList.{has_padding, is_filled, ArePadded, IsLaidOut}
-use Rattle.tor_plan.specs.Pieces.{piece_of_unit, pieces_of_unit}
-use Rattle.tor_plan.specs.Units.{file_unit, units_of_file}
-use Rattle.tor_plan.specs.WithinEntries.{IsInFile, unit_length}
-use Rattle.tor_plan.specs.WithinFiles.{IsFileUnit}
-use Rattle.tor_plan.specs.declared.units.Part.{Part}
-use Rattle.tor_plan.specs.declared.units.PlanUnit.{PlanUnit}
-use Rattle.tor_plan.specs.steps.Joined.{part_alone}
-use Rattle.tor_plan.specs.steps.Whole.{separate_parts, whole_from, whole_unit}
+use Rattle.tor_plan.proofs.Names.{separate_entry_units, ◌≡◌, ◌≢◌, ◌⊎◌, ℕ, ◌+◌, ◌*◌, ◌<◌, false, List, [], ◌∷◌, ◌++◌}
+use Rattle.tor_plan.proofs.Names.{length, map, drop, get_or, take, arith, refl, ap, ap₂, ◌∙◌, sym, append-nil, inl, inr}
+use Rattle.tor_plan.proofs.Names.{subst, lt-ltb, ltb-false, or_parts, nil_from_length, take_all, flat_map-map, All-nil}
+use Rattle.tor_plan.proofs.Names.{All-cons, All-append, All-head, All-tail, div_ceil, All, flat_map, list_any}
+use Rattle.tor_plan.proofs.Names.{range_with_len, Kind, V1, V2, Hybrid, joined_content, padding_length, zeros, Entry}
+use Rattle.tor_plan.proofs.Names.{part_content, unit_content, after_zeros, empty_unit, entry_units, lengths_of_entries}
+use Rattle.tor_plan.proofs.Names.{padding_before_next, has_padding, is_filled, ArePadded, IsLaidOut, piece_of_unit}
+use Rattle.tor_plan.proofs.Names.{pieces_of_unit, file_unit, units_of_file, IsInFile, unit_length, IsFileUnit, Part}
+use Rattle.tor_plan.proofs.Names.{PlanUnit, part_alone, separate_pieces, whole_from, whole_unit}
 use Rattle.tor_plan.proofs.Contents.{after, after_lengths, from_index, here}
-use Rattle.tor_plan.proofs.EntrySteps.{Path, file}
+use Rattle.tor_plan.proofs.EntrySteps.{Path, file, before_empty, before_some, tail_fits, unpadded, whole_with_padding}
+use Rattle.tor_plan.proofs.EntrySteps.{Fills}
 use Rattle.tor_plan.proofs.Empty.{zeros-nil}
 use Rattle.tor_plan.proofs.FileUnits.{file_pieces}
-use Rattle.tor_plan.proofs.Padding.{before_empty, before_some, tail_fits, unpadded, whole_with_padding, Fills}
 use Rattle.tor_plan.proofs.PieceJoins.{pieces_joined}
-use Rattle.tor_plan.proofs.Ranges.{ceil_is}
+use Rattle.tor_plan.proofs.Runs.{ceil_is, flat_map-same}
 use Rattle.tor_plan.proofs.UnitJoins.{parts_first, unit_of}
-use Rattle.tor_plan.proofs.Runs.{flat_map-map, flat_map-same}
 use Rattle.tor_plan.proofs.UnitContent.{part_first, zeros_first}
-use Rattle.tor_plan.proofs.WholeUnits.{by_whole, parts_of_whole, pieces_of_whole}
+use Rattle.tor_plan.proofs.WholeUnits.{by_whole, parts_of_whole, pieces_of_whole, separate_parts}
 use Rattle.tor_plan.proofs.WithinFiles.{all_range, lengths_from, run_begins, whole_of_file}
 
 -- ---- where its parts are, and its bytes
@@ -62,8 +44,7 @@ content_of_whole contents = by_whole
     (λ index path m entries unit rest fit. zeros_first contents m unit ∙ ap (λ xs. zeros m ++ xs) (rest fit))
     (λ index path m entries unit some rest fit.
     let from = from_index contents index m (lengths_of_entries entries) fit in
-    part_first contents index 0 m unit
-    ∙ ap₂ (λ xs ys. xs ++ ys)
+    part_first contents index 0 m unit ∙ ap₂ (λ xs ys. xs ++ ys)
     (ap (λ xs. take m xs) (here contents index m (lengths_of_entries entries) from)
     ∙ take_all m from.first (omega (arith, from.long)))
     (rest (after_lengths contents index m (lengths_of_entries entries) from)
@@ -89,9 +70,8 @@ separate_whole lengths size pos = by_whole
     let from = lengths_from lengths index m (lengths_of_entries entries) e in
     All-append (IsFileUnit lengths size) (units_of_file size index m unit.zeros) (separate_parts size unit.parts)
     (all_range (IsFileUnit lengths size) (file_unit size index m unit.zeros) (div_ceil m size)
-    (λ k lt. whole_of_file lengths 0 size pos index m unit.zeros k (lengths_of_entries entries) from
-    (run_begins m size k pos lt)))
-    (rest from.after))
+    (λ k lt. whole_of_file lengths size index m unit.zeros k (lengths_of_entries entries) from
+    (run_begins m size k pos lt))) (rest from.after))
     (λ index path m entries unit few rest e. rest (lengths_from lengths index m (lengths_of_entries entries) e).after)
 
 -- ---- files with their padding
@@ -122,10 +102,8 @@ module _ (p : ℕ) (H : List Entry → Type 0)
               first = refl;
               some = some;
               fills = subst (Fills p m) (sym rest.0) (each path m entries held some);
-            })
-            (rest.1 (next _ entries held)),
-      ))
-      (λ index path m entries unit few rest. (
+            }) (rest.1 (next _ entries held)),
+      )) (λ index path m entries unit few rest. (
         rest.0 ∙ sym (before_empty path m entries (omega (arith, few))),
         λ held. rest.1 (next _ entries held),
       ))
@@ -151,28 +129,31 @@ roots V1 whole = whole ∷ []
 roots kind whole = map part_alone whole.parts
 
 file_roots : (p span : ℕ) → 0 < p → 0 < span * p → (parts : List Part) → All (IsWholeFile p) parts
-    → separate_parts (span * p) parts ≡ flat_map (pieces_of_unit (span * p)) (map part_alone parts)
+    → separate_parts (span * p) parts ≡ separate_pieces (span * p) parts
 file_roots p span some pos [] files = refl
 file_roots p span some pos (part ∷ parts) files =
     let is = All-head (IsWholeFile p) part parts files in
-    ap₂ (λ xs ys. xs ++ ys)
-    (sym (ap (λ s. pieces_of_unit (span * p)
+    ap₂ (λ xs ys. xs ++ ys) (sym (ap (λ s. pieces_of_unit (span * p)
     (part_alone (record { file = part.file; start = s; length = part.length; zeros = part.zeros }))) is.first
     ∙ file_pieces (span * p) pos part.file part.length part.zeros
     (tail_fits p span part.length part.zeros some is.fills) is.some))
     (file_roots p span some pos parts (All-tail (IsWholeFile p) part parts files))
+
+pub files_are_pieces : (kind : Kind) (p span : ℕ) (entries : List Entry) → kind ≢ V1 → 0 < p → 0 < span * p
+    → IsLaidOut kind p entries
+    → separate_entry_units (span * p) 0 entries ≡ separate_pieces (span * p) (whole_unit entries).parts
+files_are_pieces kind p span entries not_v1 some pos laid =
+    sym (parts_of_whole (span * p) entries pos)
+    ∙ file_roots p span some pos (whole_unit entries).parts (whole_files kind p entries not_v1 laid)
 
 pub units_are_pieces : (kind : Kind) (p span : ℕ) (entries : List Entry) → 0 < p → 0 < span * p
     → IsLaidOut kind p entries
     → entry_units kind p span entries ≡ flat_map (pieces_of_unit (span * p)) (roots kind (whole_unit entries))
 units_are_pieces V1 p span entries some pos laid =
     sym (append-nil (pieces_of_unit (span * p) (whole_unit entries)) ∙ pieces_of_whole (span * p) entries)
-units_are_pieces V2 p span entries some pos laid =
-    sym (parts_of_whole (span * p) entries pos)
-    ∙ file_roots p span some pos (whole_unit entries).parts (whole_files V2 p entries (λ e. cc) laid)
-units_are_pieces Hybrid p span entries some pos laid =
-    sym (parts_of_whole (span * p) entries pos)
-    ∙ file_roots p span some pos (whole_unit entries).parts (whole_files Hybrid p entries (λ e. cc) laid)
+units_are_pieces kind p span entries some pos laid =
+    files_are_pieces kind p span entries (λ e. cc) some pos laid
+    ∙ sym (flat_map-map (pieces_of_unit (span * p)) part_alone (whole_unit entries).parts)
 
 parts_alone : (P : Part → Type 0) (parts : List Part) → All P parts
     → All (λ (u : PlanUnit). All P u.parts) (map part_alone parts)
@@ -185,8 +166,7 @@ pub roots_in : (kind : Kind) (P : Part → Type 0) (whole : PlanUnit) → All P 
     → All (λ (u : PlanUnit). All P u.parts) (roots kind whole)
 roots_in V1 P whole held =
     All-cons (λ (u : PlanUnit). All P u.parts) whole [] held (All-nil (λ (u : PlanUnit). All P u.parts))
-roots_in V2 P whole held = parts_alone P whole.parts held
-roots_in Hybrid P whole held = parts_alone P whole.parts held
+roots_in kind P whole held = parts_alone P whole.parts held
 
 -- ---- their content
 
@@ -201,8 +181,7 @@ content_of_files contents whole none =
     let others = flat_map (part_content contents) whole.parts in
     flat_map-map (unit_content contents) part_alone whole.parts
     ∙ flat_map-same (λ part. unit_content contents (part_alone part)) (part_content contents) (content_alone contents)
-    whole.parts
-    ∙ sym (ap (λ n. zeros n ++ others) none ∙ ap (λ xs. xs ++ others) zeros-nil)
+    whole.parts ∙ sym (ap (λ n. zeros n ++ others) none ∙ ap (λ xs. xs ++ others) zeros-nil)
 
 -- with trees no padding comes before the first file with bytes
 pub no_zeros_first : (kind : Kind) (p : ℕ) (entries : List Entry) → kind ≢ V1 → IsLaidOut kind p entries
@@ -215,8 +194,7 @@ no_zeros_first Hybrid p entries not_v1 laid = laid.0
 pub content_of_roots : (kind : Kind) (contents : List (List ℕ)) (whole : PlanUnit) → (kind ≢ V1 → whole.zeros ≡ 0)
     → flat_map (unit_content contents) (roots kind whole) ≡ unit_content contents whole
 content_of_roots V1 contents whole none = append-nil (unit_content contents whole)
-content_of_roots V2 contents whole none = content_of_files contents whole (none (λ e. cc))
-content_of_roots Hybrid contents whole none = content_of_files contents whole (none (λ e. cc))
+content_of_roots kind contents whole none = content_of_files contents whole (none (λ e. cc))
 
 -- ---- where each file but the last ends with a piece
 
@@ -243,8 +221,7 @@ ended p = by_whole (IsEnded p) (λ index. (refl, (λ none. refl), λ padded. tt)
         ],
         rest.2 padded.1,
       ),
-    ))
-    (λ index path m entries unit few rest. (
+    )) (λ index path m entries unit few rest. (
       rest.0 ∙ sym (before_empty path m entries (omega (arith, few))),
       (λ none. rest.1 (or_parts _ (list_any is_filled entries) none).1),
       λ padded. rest.2 padded.1,

@@ -1,34 +1,17 @@
 -- All bytes of entries as one unit.
-use Rattle.std.proofs.Common.{◌≡◌, ℕ, ◌+◌, ◌-◌, ◌*◌, ◌^◌, ◌<◌, ◌≤◌, true, false, cond, max, List, [], ◌∷◌, ◌++◌, length}
-use Rattle.std.proofs.Common.{get_or, drop, map, arith, refl, ap, ap₂, ◌∙◌, sym, subst, inl, inr, zero-add}
-use Rattle.std.proofs.lemmas.Bool.{lt-ltb, le-ltb, cond-true, cond-false, cases_lt}
-use Rattle.std.proofs.lemmas.List.{drop_more}
-use Rattle.std.proofs.lemmas.List.Elements.{All-nil, All-cons, All-head, All-tail}
-use Rattle.std.proofs.lemmas.List.Sums.{sum_by-cons}
-use Rattle.std.specs.Int.{div_ceil}
-use Rattle.std.specs.List.{All, range_with_len}
-use Rattle.tor_merkle.specs.declared.TheConstants.{MAX_LENGTH}
-use Rattle.tor_tree.specs.declared.kinds.Kind.{Kind}
-use Rattle.tor_tree.specs.declared.kinds.Kind.TheVariants.{V1, V2, Hybrid}
-use Rattle.tor_v1.specs.declared.entry.Entry.{Entry}
-use Rattle.tor_plan.specs.Entries.{after_part, after_zeros, empty_unit, entries_length, entry_units, joined_entry_unit}
-use Rattle.tor_plan.specs.Entries.{joined_entry_units, lengths_of_entries, padding_before_next, separate_entry_units}
-use Rattle.tor_plan.specs.Entries.{shared, unit_within}
-use Rattle.tor_plan.specs.Forest.{forest_trees}
-use Rattle.tor_plan.specs.PlanFacts.{plan_of_entries, IsPlan, IsPlanPieceLength, IsSpan, PlanFacts}
-use Rattle.tor_plan.specs.Pieces.{parts_between, piece_of_unit, pieces_of_unit, unit_between}
-use Rattle.tor_plan.specs.Units.{units_of_file}
-use Rattle.tor_plan.specs.WithinEntries.{unit_length}
-use Rattle.tor_plan.specs.declared.units.Part.{Part}
-use Rattle.tor_plan.specs.declared.units.PlanUnit.{PlanUnit}
-use Rattle.tor_plan.specs.steps.Joined.{file_alone, joined, part_alone, zeros_alone}
-use Rattle.tor_plan.specs.steps.Whole.{plan_of_whole, separate_parts, whole_from, whole_unit, whole_units, AreWhole}
+use Rattle.tor_plan.proofs.Names.{◌≡◌, ℕ, ◌+◌, ◌-◌, ◌*◌, ◌^◌, ◌<◌, ◌≤◌, true, false, cond, max, List, [], ◌∷◌, ◌++◌}
+use Rattle.tor_plan.proofs.Names.{length, get_or, drop, map, arith, refl, ap, ap₂, ◌∙◌, sym, subst, inl, inr, zero-add}
+use Rattle.tor_plan.proofs.Names.{lt-ltb, le-ltb, cond-true, cond-false, cases_lt, drop_more, All-nil, All-cons}
+use Rattle.tor_plan.proofs.Names.{All-head, All-tail, sum_by-cons, div_ceil, All, flat_map, range_with_len, MAX_LENGTH}
+use Rattle.tor_plan.proofs.Names.{Entry, after_part, after_zeros, empty_unit, entries_length, joined_entry_unit}
+use Rattle.tor_plan.proofs.Names.{joined_entry_units, lengths_of_entries, padding_before_next, separate_entry_units}
+use Rattle.tor_plan.proofs.Names.{shared, unit_within, parts_between, piece_of_unit, pieces_of_unit, unit_between}
+use Rattle.tor_plan.proofs.Names.{units_of_file, unit_length, Part, PlanUnit, file_alone, joined, part_alone}
+use Rattle.tor_plan.proofs.Names.{zeros_alone, whole_from, whole_unit}
 use Rattle.tor_plan.proofs.Contents.{no_unit_of_file}
-use Rattle.tor_plan.proofs.EntrySteps.{Path, padding, file, entry_cases, met, not_met}
+use Rattle.tor_plan.proofs.EntrySteps.{Path, padding, file, entry_cases, met, not_met, before_some, before_empty}
 use Rattle.tor_plan.proofs.PieceSteps.{from, from_first, from_zeros, no_zeros, part_met, part_not_met}
-use Rattle.tor_plan.proofs.Ranges.{map_same}
-use Rattle.tor_plan.proofs.Padding.{before_some, before_empty}
-use Rattle.tor_plan.proofs.Sizes.{some_bytes}
+use Rattle.tor_plan.proofs.Runs.{map_same}
 use Rattle.tor_plan.proofs.UnitJoins.{joined_length, joined_twice, part_length, then_nothing, unit_of}
 
 -- what holds of no entry, and then of one more before those of which it holds, holds of all bytes
@@ -47,16 +30,14 @@ module _ (P : ℕ → List Entry → PlanUnit → Type 0)
   unfolding whole_from bytes
   by_whole index [] = none index
   by_whole index (entry ∷ entries) = entry_cases (λ e. P index (e ∷ entries) (whole_from index (e ∷ entries)))
-      (λ path m. of_padding index path m entries _ (by_whole index entries))
-      (λ path m.
+      (λ path m. of_padding index path m entries _ (by_whole index entries)) (λ path m.
       let later = whole_from (index + 1) entries in
       let rest = by_whole (index + 1) entries in
       elim (cases_lt 0 m) [
         | inl some ↦ subst (P index (file path m ∷ entries))
             (sym (ap (λ b. joined (cond b (bytes index m) empty_unit) later) (lt-ltb 0 m some)
             ∙ ap (λ n. unit_of 0 (record { file = index; start = 0; length = m; zeros = n } ∷ later.parts))
-            (zero-add later.zeros)))
-            (of_some index path m entries later some rest)
+            (zero-add later.zeros))) (of_some index path m entries later some rest)
         | inr few ↦ subst (P index (file path m ∷ entries))
             (sym (ap (λ b. joined (cond b (bytes index m) empty_unit) later) (le-ltb 0 m few) ∙ no_zeros 0 later refl))
             (of_empty index path m entries later few rest)
@@ -71,25 +52,25 @@ whole_length = by_whole (λ index entries unit. unit_length unit ≡ entries_len
       rest,
       sum_by-cons entry_length (file path m) entries,
       sum_by-cons part_length (record { file = index; start = 0; length = m; zeros = unit.zeros }) unit.parts,
-    ))
-    (λ index path m entries unit few rest. omega (arith, rest, few, sum_by-cons entry_length (file path m) entries))
+    )) (λ index path m entries unit few rest. omega (arith, rest, few, sum_by-cons entry_length (file path m) entries))
   where
     entry_length : Entry → ℕ
     entry_length entry = entry.length
 
 -- parts of files that are not too long
+abbrev pub IsSmall : Part → Type 0
+IsSmall part = part.start + part.length < 2 ^ 64
+
 pub whole_small : (index : ℕ) (entries : List Entry) → All (λ m. m ≤ MAX_LENGTH) (lengths_of_entries entries)
-    → All (λ (part : Part). part.start + part.length < 2 ^ 64) (whole_from index entries).parts
+    → All IsSmall (whole_from index entries).parts
 whole_small = by_whole
-    (λ index entries unit. All (λ m. m ≤ MAX_LENGTH) (lengths_of_entries entries) → All Small unit.parts)
-    (λ index small. All-nil Small) (λ index path m entries unit rest small. rest small)
-    (λ index path m entries unit some rest small. All-cons Small _ unit.parts
+    (λ index entries unit. All (λ m. m ≤ MAX_LENGTH) (lengths_of_entries entries) → All IsSmall unit.parts)
+    (λ index small. All-nil IsSmall) (λ index path m entries unit rest small. rest small)
+    (λ index path m entries unit some rest small. All-cons IsSmall _ unit.parts
     (omega (arith, All-head (λ n. n ≤ MAX_LENGTH) m (lengths_of_entries entries) small))
     (rest (All-tail (λ n. n ≤ MAX_LENGTH) m (lengths_of_entries entries) small)))
     (λ index path m entries unit few rest small.
-    rest (All-tail (λ n. n ≤ MAX_LENGTH) m (lengths_of_entries entries) small)) where
-      Small : Part → Type 0
-      Small part = part.start + part.length < 2 ^ 64
+    rest (All-tail (λ n. n ≤ MAX_LENGTH) m (lengths_of_entries entries) small))
 
 -- ---- cut as joined entries
 
@@ -98,23 +79,19 @@ module _ (a b : ℕ) where
       → from a b at (whole_from index entries) ≡ unit_within a b index at entries
   unfolding parts_between unit_within
   range_from = by_whole (λ index entries unit. (at : ℕ) → from a b at unit ≡ unit_within a b index at entries)
-      (λ index at. ap zeros_alone (let e : shared a b at 0 + 0 ≡ 0 = omega arith in e))
-      (λ index path m entries unit rest at.
-      from_zeros a b at m unit
-      ∙ ap (after_zeros (shared a b at m)) (rest (at + m)))
+      (λ index at. ap zeros_alone (omega arith)) (λ index path m entries unit rest at.
+      from_zeros a b at m unit ∙ ap (after_zeros (shared a b at m)) (rest (at + m)))
       (λ index path m entries unit some rest at.
       let part : Part = record { file = index; start = 0; length = m; zeros = unit.zeros } in
       no_zeros (shared a b at 0) (parts_between a b (at + 0) (part ∷ unit.parts)) (omega arith)
-      ∙ ap (λ i. parts_between a b i (part ∷ unit.parts)) (let e : at + 0 ≡ at = omega arith in e)
-      ∙ elim (cases_lt 0 (shared a b at m)) [
+      ∙ ap (λ i. parts_between a b i (part ∷ unit.parts)) (omega arith) ∙ elim (cases_lt 0 (shared a b at m)) [
         | inl more ↦ part_met a b at part unit.parts more
             ∙ ap₂ (λ s u. after_part index s (shared a b at m) u) (zero-add (max a at - at)) (rest (at + m))
             ∙ sym (met a b index at path m entries more)
         | inr few ↦ part_not_met a b at part unit.parts few ∙ rest (at + m)
             ∙ sym (not_met a b index at path m entries few)
-      ])
-      (λ index path m entries unit few rest at.
-      ap (λ i. from a b i unit) (let e : at ≡ at + m = omega (arith, few) in e) ∙ rest (at + m)
+      ]) (λ index path m entries unit few rest at.
+      ap (λ i. from a b i unit) (omega (arith, few)) ∙ rest (at + m)
       ∙ sym (not_met a b index at path m entries (omega (arith, few))))
 
   pub range_of_whole : (entries : List Entry) → unit_between a b (whole_unit entries) ≡ unit_within a b 0 0 entries
@@ -126,11 +103,14 @@ unfolding pieces_of_unit joined_entry_units
 pieces_of_whole size entries =
     let n = div_ceil (entries_length entries) size in
     ap (λ m. map (piece_of_unit size (whole_unit entries)) (range_with_len 0 (div_ceil m size)))
-    (whole_length 0 entries)
-    ∙ map_same (piece_of_unit size (whole_unit entries)) (joined_entry_unit size entries)
+    (whole_length 0 entries) ∙ map_same (piece_of_unit size (whole_unit entries)) (joined_entry_unit size entries)
     (λ k. range_of_whole (k * size) ((k + 1) * size) entries) (range_with_len 0 n)
 
 -- ---- cut each by itself
+
+-- the units of each
+abbrev pub separate_parts : ℕ → List Part → List PlanUnit
+separate_parts size parts = flat_map (λ part. units_of_file size part.file part.length part.zeros) parts
 
 abbrev IsSeparate : ℕ → ℕ → List Entry → PlanUnit → Type 0
 IsSeparate size index entries unit =
@@ -141,12 +121,10 @@ separate : (size : ℕ) → 0 < size → (index : ℕ) (entries : List Entry)
     → IsSeparate size index entries (whole_from index entries)
 unfolding padding_before_next separate_entry_units
 separate size pos = by_whole (IsSeparate size) (λ index. (refl, refl))
-    (λ index path m entries unit rest. (ap (λ n. m + n) rest.0, rest.1))
-    (λ index path m entries unit some rest. (
+    (λ index path m entries unit rest. (ap (λ n. m + n) rest.0, rest.1)) (λ index path m entries unit some rest. (
       sym (before_some path m entries some),
       ap₂ (λ n units. units_of_file size index m n ++ units) rest.0 rest.1,
-    ))
-    (λ index path m entries unit few rest.
+    )) (λ index path m entries unit few rest.
     let none : m ≡ 0 = omega (arith, few) in (
       rest.0 ∙ sym (before_empty path m entries none),
       rest.1 ∙ ap (λ units. units ++ separate_entry_units size (index + 1) entries)
@@ -203,33 +181,3 @@ pub past_all : (u whole : PlanUnit) (index : ℕ) (entries : List Entry) → ent
 unfolding whole_from
 past_all u whole index entries none all =
     sym (then_nothing u) ∙ ap (λ es. joined u (whole_from index es)) (sym none) ∙ all
-
--- ---- the plan of all bytes
-
-pub plan_is : (kind : Kind) (p span : ℕ) (entries : List Entry) → 0 < span * p
-    → plan_of_whole kind p span (whole_unit entries) (lengths_of_entries entries) ≡ plan_of_entries kind p span entries
-plan_is kind p span entries pos = ap (λ units. record {
-  kind = kind;
-  piece_length = p;
-  units = units;
-  lengths = lengths_of_entries entries;
-  trees = forest_trees kind (span * p) (lengths_of_entries entries);
-}) (units_are kind) where
-  units_are : (kind : Kind) → whole_units kind (span * p) (whole_unit entries) ≡ entry_units kind p span entries
-  units_are V1 = pieces_of_whole (span * p) entries
-  units_are V2 = parts_of_whole (span * p) entries pos
-  units_are Hybrid = parts_of_whole (span * p) entries pos
-
-pub plan_of_bytes : (plan : PlanFacts) (span : ℕ) (whole : PlanUnit) (lengths : List ℕ)
-    → plan ≡ plan_of_whole plan.kind plan.piece_length span whole lengths → IsSpan span
-    → AreWhole plan.kind plan.piece_length whole lengths → IsPlanPieceLength plan.kind plan.piece_length → IsPlan plan
-plan_of_bytes plan span whole lengths made is_span is pieces = record {
-  span = span;
-  entries = is.entries;
-  is_span = is_span;
-  is_list = is.is_list;
-  pieces = pieces;
-  made = made ∙ ap₂ (plan_of_whole plan.kind plan.piece_length span) is.bytes is.files
-      ∙ plan_is plan.kind plan.piece_length span is.entries
-      (some_bytes plan.kind plan.piece_length span is_span pieces);
-}

@@ -10,7 +10,7 @@ ghost use Rattle.tor_plan.specs.Pieces.{piece_of_unit, pieces_of_unit};
 ghost use Rattle.tor_plan.specs.Positions.{positions_of_files, positions_of_unit};
 ghost use Rattle.tor_plan.specs.Units.{hash_units};
 ghost use Rattle.tor_plan.specs.WithinEntries.{IsInFile, IsUnitWithin, unit_length};
-ghost use Rattle.tor_plan.specs.WithinFiles.{bytes_of, IsFileUnit, IsUnitOf};
+ghost use Rattle.tor_plan.specs.WithinFiles.{IsFileUnit};
 ghost use Rattle.tor_plan.specs.declared.units.PlanUnit.{PlanUnit};
 ghost use Rattle.tor_tree.specs.FileList.{lengths_of};
 ghost use Rattle.tor_tree.specs.declared.kinds.Kind.{Kind};
@@ -27,19 +27,6 @@ pub fn units_are_the_content()
         0 < span * piece_length → AreContentsOfFiles files contents →
         flat_map (unit_content contents) (hash_units kind piece_length span files)
         ≡ cut_content kind piece_length files contents }
-{}
-
-/// The parts of units are in their files, and no unit has more bytes of files than `span` pieces.
-pub fn units_are_within_files()
-    ensures { (kind : Kind) (piece_length span : ℕ) (files : List (List (List ℕ) × ℕ)) → 0 < span → 0 < piece_length →
-        All (IsUnitOf (lengths_of files) piece_length (span * piece_length)) (hash_units kind piece_length span files) }
-{}
-
-/// In version 1 each unit but the last has `span` pieces.
-pub fn joined_units_are_whole()
-    ensures { (piece_length span : ℕ) (files : List (List (List ℕ) × ℕ)) (k : ℕ) (unit : PlanUnit) →
-        0 < span * piece_length → k + 1 < length (hash_units V1 piece_length span files) →
-        bytes_of (slice_index_or (hash_units V1 piece_length span files) k unit) ≡ span * piece_length }
 {}
 
 /// The files of a list are cut as their entries are.

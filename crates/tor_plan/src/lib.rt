@@ -4,8 +4,8 @@
 //! (BEP 3, "info dictionary"). Units are numbered in the order of the list.
 //!
 //! - [`Plan`] (`plans.rt`): the units of a list of files, or of the entries of a torrent, padding among them.
-//!   `whole.rt` makes one unit of all bytes. `unit_cut.rt` cuts a unit every so many bytes, `separate.rt` each file by
-//!   itself.
+//!   `whole.rt` makes one unit of all bytes. `unit_cut.rt` cuts a unit every so many bytes: the whole, or by
+//!   `separate.rt` each file.
 //! - [`PlanUnit`], [`Parts`], [`Part`] (`units.rt`): which bytes a unit has.
 //! - [`Forest`], [`Run`] (`forests.rt`): which units are of one file's tree.
 //! - [`laws`]: what follows from the definitions alone.

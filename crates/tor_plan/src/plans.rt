@@ -1,16 +1,16 @@
 //! The plan of a list of files, or of the entries of a torrent.
 ghost use Rattle.std.specs.Prelude.{◌≡◌, IfOk, map};
-ghost use Rattle.tor_tree.specs.FileList.{lengths_of};
+ghost use Rattle.tor_plan.specs.Content.{layout_of};
 ghost use Rattle.tor_plan.specs.Entries.{lengths_of_entries};
 
 use crate::forests::{Forest, trees_of};
 use crate::separate::cut_each;
 use crate::units::PlanUnit;
-use crate::whole::{whole_of_entries, whole_of_files};
+use crate::whole::whole_of_entries;
 use std::alloc::{AllocError, Global};
 use std::marker::Model;
-use tor_tree::{FileList, FilePath, Kind};
-use tor_v1::Entry;
+use tor_tree::{FileList, Kind};
+use tor_v1::{Entry, Layout, entries_of};
 
 /// How files are cut into units of work for hashing workers. Contracts see what it tells.
 #[derive(Debug, Drop)]
@@ -62,9 +62,8 @@ impl Plan {
         ensures { IfOk result (λ plan. plan ≡ plan_of kind piece_length span list.now) }
     {
         let files = list.files();
-        let whole = whole_of_files(alloc, files, kind, piece_length)?;
-        let lengths = lengths_of(alloc, files)?;
-        Plan::of_whole(alloc, &whole, lengths, kind, piece_length, span)
+        let entries = entries_of(alloc, files, piece_length, layout_of(kind))?;
+        Plan::of_entries(alloc, &entries, kind, piece_length, span)
     }
 
     /// The plan of the entries of a torrent, whose padding is in the units as zeros. Files are those that are no
@@ -155,11 +154,14 @@ impl Plan {
     }
 }
 
-/// The length of each file.
-fn lengths_of(alloc: Global, files: &[(FilePath, u64)]) -> Result<Vec<u64>, AllocError>
-    ensures { IfOk result (λ lengths. lengths.items ≡ lengths_of files.now) }
+/// How files stand in the content that is cut.
+fn layout_of(kind: Kind) -> Layout
+    ensures { result ≡ layout_of kind }
 {
-    files.iter().map(|file| file.1).collect(alloc)
+    match kind {
+        Kind::Hybrid => Layout::Aligned,
+        Kind::V1 | Kind::V2 => Layout::Joined,
+    }
 }
 
 /// The length of each entry that is no padding.

@@ -1,8 +1,8 @@
 //! Files that are cut each by itself, as trees need it.
-ghost use Rattle.std.specs.Prelude.{◌≡◌, ◌<◌, ◌++◌, IfOk, OnOk};
-ghost use Rattle.tor_plan.specs.Units.{units_of_file};
+ghost use Rattle.std.specs.Prelude.{◌≡◌, ◌+◌, ◌<◌, ◌^◌, ◌++◌, All, IfOk, OnOk};
+ghost use Rattle.tor_plan.specs.Pieces.{pieces_of_unit};
 ghost use Rattle.tor_plan.specs.steps.Joined.{part_alone};
-ghost use Rattle.tor_plan.specs.steps.Whole.{separate_parts};
+ghost use Rattle.tor_plan.specs.steps.Whole.{separate_pieces};
 
 use crate::units::{Part, PlanUnit};
 use std::alloc::{AllocError, Global};
@@ -13,40 +13,25 @@ pub(crate) fn cut_each(
     files: &[Part],
     size: u64,
 ) -> Result<Vec<PlanUnit>, AllocError>
-    requires { 0 < size }
-    ensures { IfOk result (λ units. units.items ≡ separate_parts size files.now) }
+    requires some { 0 < size }
+    requires small { All (λ part. part.start + part.length < 2 ^ 64) files.now }
+    ensures { IfOk result (λ units. units.items ≡ separate_pieces size files.now) }
 {
     let mut units = Vec::new(alloc);
     'files: for part in files {
-        cut_file(alloc, &mut units, size, part.file, part.length, part.zeros)?;
+        append(&mut units, cut_file(alloc, *part, size)?)?;
     }
     Ok(units)
 }
 
-// Adds the units of one file, after whose last byte there are zeros.
-fn cut_file(
-    alloc: Global,
-    units: &mut Vec<PlanUnit>,
-    size: u64,
-    file: u64,
-    length: u64,
-    zeros: u64,
-) -> Result<(), AllocError>
-    requires { 0 < size }
-    ensures { OnOk result (units.new.items ≡ units.old.items ++ units_of_file size file length zeros) }
+// The units of one file.
+fn cut_file(alloc: Global, part: Part, size: u64) -> Result<Vec<PlanUnit>, AllocError>
+    requires some { 0 < size }
+    requires small { part.start + part.length < 2 ^ 64 }
+    ensures { IfOk result (λ units. units.items ≡ pieces_of_unit size (part_alone part)) }
 {
-    'units: for number in 0..length.div_ceil(size) {
-        let start = number * size;
-        let left = length - start;
-        let part = Part {
-            file,
-            start,
-            length: left.min(size),
-            zeros: if left <= size { zeros } else { 0 },
-        };
-        units.push(unit_of(alloc, part)?)?;
-    }
-    Ok(())
+    let unit = unit_of(alloc, part)?;
+    unit.pieces(alloc, size)
 }
 
 // The unit of one part.
@@ -56,4 +41,14 @@ fn unit_of(alloc: Global, part: Part) -> Result<PlanUnit, AllocError>
     let mut unit = PlanUnit::empty(alloc);
     unit.add_part(part)?;
     Ok(unit)
+}
+
+// Puts units after others.
+fn append(units: &mut Vec<PlanUnit>, next: Vec<PlanUnit>) -> Result<(), AllocError>
+    ensures { OnOk result (units.new.items ≡ units.old.items ++ next.items) }
+{
+    'units: for unit in next {
+        units.push(unit)?;
+    }
+    Ok(())
 }

@@ -1,12 +1,8 @@
 -- The bytes kept are the bitfield of their bits.
-use Rattle.std.proofs.Common.{◌≡◌, ℕ, zero, suc, ◌+◌, ◌*◌, ◌-◌, ◌/◌, ◌%◌, ◌^◌, ◌<◌}
-use Rattle.std.proofs.Common.{List, Bool, eqb, cond, length, get_or, refl, ap, add-one, ◌∙◌, arith}
-use Rattle.std.proofs.Math.Nat.{div-div-eq-div-mul, pow-suc}
-use Rattle.std.proofs.lemmas.List.FromFn.{fill_by_all}
-use Rattle.std.proofs.lemmas.Nat.Bits.{bit_at-lt}
-use Rattle.std.specs.Int.{bit_at, div_ceil}
-use Rattle.tor_recheck.specs.Bitfield.{bit_of, byte_from, bitfield}
-use Rattle.tor_recheck.specs.steps.Packed.{packed_bit, packed_bits, KeepsBits}
+use Rattle.tor_recheck.proofs.Names.{◌≡◌, ℕ, zero, suc, ◌+◌, ◌*◌, ◌-◌, ◌/◌, ◌%◌, ◌^◌, ◌<◌, List, Bool, eqb, cond}
+use Rattle.tor_recheck.proofs.Names.{length, get_or, refl, ap, add-one, ◌∙◌, arith, div-div-eq-div-mul, pow-suc}
+use Rattle.tor_recheck.proofs.Names.{fill_by_all, bit_at-lt, bit_at, div_ceil, bit_of, byte_from, bitfield, packed_bit}
+use Rattle.tor_recheck.proofs.Names.{packed_bits, KeepsBits}
 use Rattle.tor_recheck.proofs.ReadBack.{read_any, length-packed_bits}
 
 -- a digit tested and read as a number again

@@ -1,11 +1,7 @@
 -- Counting the bits that are set, one by one.
-use Rattle.std.proofs.Common.{◌≡◌, ℕ, ◌+◌, ◌<◌, List, Bool, true, false, length, get_or, take, ap, sym, ◌∙◌}
-use Rattle.std.proofs.lemmas.List.Sums.{count_by_more_yes, count_by_more_no}
-use Rattle.std.proofs.lemmas.Option.{slice_get-get_or}
-use Rattle.std.specs.Option.{option_eq}
-use Rattle.std.specs.Prelude.{Option, Some, slice_get}
-use Rattle.tor_recheck.specs.Bitfield.{set_count}
-use Rattle.std.proofs.Math.Bool.{beq}
+use Rattle.tor_recheck.proofs.Names.{◌≡◌, ℕ, ◌+◌, ◌<◌, List, Bool, true, false, length, get_or, take, ap, sym, ◌∙◌}
+use Rattle.tor_recheck.proofs.Names.{count_by_more_yes, count_by_more_no, slice_get-get_or, option_eq, Option, Some}
+use Rattle.tor_recheck.proofs.Names.{slice_get, set_count, beq}
 
 tested : (b t : Bool) → t ≡ option_eq beq (Some b) (Some true) → b ≡ t
 tested true t is = sym is

@@ -1,29 +1,16 @@
 -- The entries of a torrent have bytes, and files, within the bounds of what can be cut, where no length is too large.
-use Rattle.std.proofs.Common.{◌≡◌, ℕ, ◌≤◌, false, ◌||◌, List, [], ◌∷◌, map, sum_by, nat_lt, refl, arith, ap, ◌∙◌}
-use Rattle.std.proofs.Common.{subst, sum, sym}
-use Rattle.std.specs.Int.{next_multiple_of}
-use Rattle.std.specs.List.{All, AllByRecursion, list_any}
-use Rattle.std.proofs.lemmas.Bool.{ltb-false, or_parts}
-use Rattle.std.proofs.lemmas.List.Elements.{All-from_recursion}
-use Rattle.std.proofs.lemmas.List.Sums.{sum_by-cons, sum_by-le-sum_by}
-use Rattle.tor_bencode.specs.Data.{Data}
-use Rattle.tor_plan.specs.Entries.{entries_length, lengths_of_entries}
-use Rattle.tor_plan.specs.EntryList.{has_padding}
+use Rattle.tor_recheck.proofs.Names.{◌≡◌, ℕ, ◌≤◌, false, ◌||◌, List, [], ◌∷◌, map, sum_by, nat_lt, refl, arith, ap, ◌∙◌}
+use Rattle.tor_recheck.proofs.Names.{subst, sum, sym, next_multiple_of, All, AllByRecursion, list_any, ltb-false}
+use Rattle.tor_recheck.proofs.Names.{or_parts, All-from_recursion, sum_by-cons, sum_by-le-sum_by, Data, entries_length}
+use Rattle.tor_recheck.proofs.Names.{lengths_of_entries, has_padding, joined_size, ListedFile, sizes_too_large}
+use Rattle.tor_recheck.proofs.Names.{without_padding, info_of, tree_files, tree_of, tree_too_large, file_of_tree}
+use Rattle.tor_recheck.proofs.Names.{FileView, lengths_too_large, MAX_LENGTH, MAX_TOTAL, ROUNDING, TreeFile, file_entry}
+use Rattle.tor_recheck.proofs.Names.{Entry}
 use Rattle.tor_recheck.proofs.ListedFiles.{entries_of, joined_entries, lengths_of_listed, size_of}
 use Rattle.tor_recheck.proofs.MerklePieces.{length_of}
 use Rattle.tor_recheck.proofs.PieceSides.{lengths_of_told}
-use Rattle.tor_spec.specs.valid.ListSide.{joined_size, ListedFile, sizes_too_large, without_padding}
-use Rattle.tor_spec.specs.valid.Parts.{info_of}
-use Rattle.tor_spec.specs.valid.TreeSide.{tree_files, tree_of, tree_too_large}
-use Rattle.tor_spec.specs.valid.View.{file_of_tree, FileView}
-use Rattle.tor_tree.specs.FileList.{lengths_too_large}
 use Rattle.tor_tree.specs.FileTree as file_tree
 use Rattle.tor_tree.specs.Properties as properties
-use Rattle.tor_merkle.specs.declared.TheConstants.{MAX_LENGTH}
-use Rattle.tor_tree.specs.declared.lists.TheConstants.{MAX_TOTAL, ROUNDING}
-use Rattle.tor_tree.specs.declared.tree_file.TreeFile.{TreeFile}
-use Rattle.tor_v1.specs.Entries.{file_entry}
-use Rattle.tor_v1.specs.declared.entry.Entry.{Entry}
 
 -- entries of which all is as small as a plan wants it
 pub record AreSmall (entries : List Entry) : Type 0 where

@@ -1,7 +1,6 @@
 -- Entries as padding and files, and the contents of those from an index on.
-use Rattle.std.proofs.Common.{◌≡◌, ℕ, ◌+◌, Bool, true, false, List, [], drop, get_or, arith, ap, ◌∙◌}
-use Rattle.std.proofs.lemmas.List.{drop-drop, get_or-drop}
-use Rattle.tor_v1.specs.declared.entry.Entry.{Entry}
+use Rattle.tor_recheck.proofs.Names.{◌≡◌, ℕ, ◌+◌, Bool, true, false, List, [], drop, get_or, arith, ap, ◌∙◌, drop-drop}
+use Rattle.tor_recheck.proofs.Names.{get_or-drop, Entry}
 
 abbrev pub Path : Type 0
 Path = List (List ℕ)

@@ -1,17 +1,10 @@
 -- The bytes that contents have of a unit, some of which may be missing.
-use Rattle.std.proofs.Common.{◌≡◌, ℕ, zero, suc, ◌+◌, ◌-◌, ◌<◌, ◌≤◌, Bool, true, false, ◌&&◌, leb, min, List}
-use Rattle.std.proofs.Common.{[], ◌∷◌, ◌++◌, map, length, take, drop, replicate, get_or, Option, None, Some, is_some}
-use Rattle.std.proofs.Common.{arith, refl, ap, ap₂, ◌∙◌, sym, inl, inr, append-nil, length-drop}
-use Rattle.std.proofs.lemmas.Bool.{and_from, and_parts, and_right, cases_lt, le-leb, leb-true, lt-leb}
-use Rattle.std.proofs.lemmas.List.{drop_all, take_min}
-use Rattle.std.proofs.lemmas.List.Folds.{list_all-append}
-use Rattle.std.specs.List.{flat_map, list_all}
-use Rattle.tor_plan.specs.Content.{part_content, unit_content}
-use Rattle.tor_plan.specs.declared.units.Part.{Part}
-use Rattle.tor_plan.specs.declared.units.PlanUnit.{PlanUnit}
-use Rattle.tor_plan.specs.Present.{is_part_there, is_there}
-use Rattle.tor_spec.specs.Present.{bytes_in, file_bytes, is_whole}
-use Rattle.tor_v1.specs.Piece.{zeros}
+use Rattle.tor_recheck.proofs.Names.{◌≡◌, ℕ, zero, suc, ◌+◌, ◌-◌, ◌<◌, ◌≤◌, Bool, true, false, ◌&&◌, leb, min, List, []}
+use Rattle.tor_recheck.proofs.Names.{◌∷◌, ◌++◌, map, length, take, drop, replicate, get_or, Option, None, Some, is_some}
+use Rattle.tor_recheck.proofs.Names.{arith, refl, ap, ap₂, ◌∙◌, sym, inl, inr, append-nil, length-drop, and_from}
+use Rattle.tor_recheck.proofs.Names.{and_parts, and_right, cases_lt, le-leb, leb-true, lt-leb, drop_all, take_min}
+use Rattle.tor_recheck.proofs.Names.{list_all-append, flat_map, list_all, part_content, unit_content, Part, PlanUnit}
+use Rattle.tor_recheck.proofs.Names.{is_part_there, is_there, bytes_in, file_bytes, is_whole, zeros}
 
 abbrev pub Found : Type 0
 Found = List (Option ℕ)

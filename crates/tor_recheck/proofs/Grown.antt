@@ -1,9 +1,7 @@
 -- What one more bit is to the bits kept.
-use Rattle.std.proofs.Common.{◌≡◌, ℕ, ◌+◌, List, [], ◌∷◌, ◌++◌, Bool, ap, sym, ◌∙◌, arith}
-use Rattle.std.proofs.lemmas.List.FromFn.{fill_by_all, map-range_with_len_more}
-use Rattle.std.proofs.lemmas.List.FromFn.{get_or-map-range_with_len, length-map-range_with_len}
-use Rattle.std.specs.Prelude.{false}
-use Rattle.tor_recheck.specs.steps.Packed.{packed_bit, packed_bits, Grows}
+use Rattle.tor_recheck.proofs.Names.{◌≡◌, ℕ, ◌+◌, List, [], ◌∷◌, ◌++◌, Bool, ap, sym, ◌∙◌, arith, fill_by_all}
+use Rattle.tor_recheck.proofs.Names.{map-range_with_len_more, get_or-map-range_with_len, length-map-range_with_len}
+use Rattle.tor_recheck.proofs.Names.{false, packed_bit, packed_bits, Grows}
 
 pub bits_more : (old new : List ℕ) (count : ℕ) (bit : Bool) → Grows old new count bit
     → packed_bits new (count + 1) ≡ packed_bits old count ++ bit ∷ []

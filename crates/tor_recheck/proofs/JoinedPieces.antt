@@ -1,19 +1,13 @@
 -- The bytes that contents have of a piece of joined entries.
-use Rattle.std.proofs.Common.{◌≡◌, ℕ, ◌+◌, ◌-◌, ◌*◌, ◌<◌, ◌≤◌, max, List, [], ◌∷◌, ◌++◌, take, drop}
-use Rattle.std.proofs.Common.{get_or, arith, refl, ap, ap₂, ◌∙◌, sym, subst, inl, inr, append_assoc}
-use Rattle.std.proofs.lemmas.Bool.{cases_lt, cond-false, cond-true, le-ltb, lt-ltb}
-use Rattle.std.proofs.lemmas.List.{drop_all, replicate-append-replicate, take_all}
-use Rattle.std.specs.List.{flat_map}
-use Rattle.tor_merkle.specs.Block.{run_at}
-use Rattle.tor_plan.specs.Entries.{after_part, after_zeros, empty_unit, joined_entry_unit, shared, unit_within}
-use Rattle.tor_plan.specs.declared.units.PlanUnit.{PlanUnit}
+use Rattle.tor_recheck.proofs.Names.{◌≡◌, ℕ, ◌+◌, ◌-◌, ◌*◌, ◌<◌, ◌≤◌, max, List, [], ◌∷◌, ◌++◌, take, drop, get_or}
+use Rattle.tor_recheck.proofs.Names.{arith, refl, ap, ap₂, ◌∙◌, sym, subst, inl, inr, append_assoc, cases_lt}
+use Rattle.tor_recheck.proofs.Names.{cond-false, cond-true, le-ltb, lt-ltb, drop_all, replicate-append-replicate}
+use Rattle.tor_recheck.proofs.Names.{take_all, flat_map, run_at, after_part, after_zeros, empty_unit, joined_entry_unit}
+use Rattle.tor_recheck.proofs.Names.{shared, unit_within, PlanUnit, file_bytes, joined_bytes, zeros, Entry}
 use Rattle.tor_recheck.proofs.EntryForms.{Path, padding, file, entry_cases, first_from, others_from}
 use Rattle.tor_recheck.proofs.FoundBytes.{Found, HaveBytes, length-file, no_bytes, part_bytes, there, there_append}
 use Rattle.tor_recheck.proofs.FoundBytes.{unit_bytes}
 use Rattle.tor_recheck.proofs.RangeBytes.{between, between-append, between-file, between-zeros, length-zeros}
-use Rattle.tor_spec.specs.Present.{file_bytes, joined_bytes}
-use Rattle.tor_v1.specs.Piece.{zeros}
-use Rattle.tor_v1.specs.declared.entry.Entry.{Entry}
 
 module _ (contents : List (List ℕ)) where
   zeros_first : (n : ℕ) (unit : PlanUnit)

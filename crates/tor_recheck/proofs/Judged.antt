@@ -1,9 +1,7 @@
 -- Two lists judged element by element, and values for numbers below another.
-use Rattle.std.proofs.Common.{◌≡◌, ℕ, zero, suc, ◌<◌, Bool, true, false, ◌&&◌, List, [], ◌∷◌, ◌++◌, length, map, get_or}
-use Rattle.std.proofs.Common.{arith, refl, ap, ◌∙◌}
-use Rattle.std.proofs.lemmas.Bool.{false≢true, true≢false}
-use Rattle.std.proofs.lemmas.List.FromFn.{fill_by_all, get_or-map-range_with_len, length-map-range_with_len}
-use Rattle.std.specs.List.{range_with_len}
+use Rattle.tor_recheck.proofs.Names.{◌≡◌, ℕ, zero, suc, ◌<◌, Bool, true, false, ◌&&◌, List, [], ◌∷◌, ◌++◌, length, map}
+use Rattle.tor_recheck.proofs.Names.{get_or, arith, refl, ap, ◌∙◌, false≢true, true≢false, fill_by_all}
+use Rattle.tor_recheck.proofs.Names.{get_or-map-range_with_len, length-map-range_with_len, range_with_len}
 
 abbrev pub judged : {X Y : Type 0} → (X → Y → Bool) → List X → List Y → List Bool
 judged f [] ys = []

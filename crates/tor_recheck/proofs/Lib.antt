@@ -1,3 +1,4 @@
+pub mod Names
 pub mod Packed
 pub mod Grown
 pub mod ReadBack

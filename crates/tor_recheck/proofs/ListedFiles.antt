@@ -1,17 +1,10 @@
 -- Files of a v1 side as entries: which are filled, how long they are, and the padding before the next that is filled.
-use Rattle.std.proofs.Common.{◌≡◌, ℕ, ◌+◌, Bool, true, false, List, [], ◌∷◌, ◌++◌, map, sum_by, arith, refl, ap}
-use Rattle.std.proofs.Common.{◌∙◌}
-use Rattle.std.specs.Prelude.{filter}
-use Rattle.std.proofs.lemmas.Bool.{cond-false, cond-true, ltb-false}
-use Rattle.std.proofs.lemmas.List.Elements.{filter-append}
-use Rattle.std.proofs.lemmas.List.Sums.{sum_by-append, sum_by-cons}
-use Rattle.std.specs.Int.{next_multiple_of}
-use Rattle.tor_plan.specs.Entries.{entries_length, lengths_of_entries, padding_before_next}
+use Rattle.tor_recheck.proofs.Names.{◌≡◌, ℕ, ◌+◌, Bool, true, false, List, [], ◌∷◌, ◌++◌, map, sum_by, arith, refl, ap}
+use Rattle.tor_recheck.proofs.Names.{◌∙◌, filter, cond-false, cond-true, ltb-false, filter-append, sum_by-append}
+use Rattle.tor_recheck.proofs.Names.{sum_by-cons, next_multiple_of, entries_length, lengths_of_entries}
+use Rattle.tor_recheck.proofs.Names.{padding_before_next, joined_size, ListedFile, without_padding, aligned_after}
+use Rattle.tor_recheck.proofs.Names.{is_filled, entry_of_file, Entry}
 use Rattle.tor_plan.specs.EntryList as entry_list
-use Rattle.tor_spec.specs.valid.ListSide.{joined_size, ListedFile, without_padding}
-use Rattle.tor_spec.specs.valid.SidesAgree.{aligned_after, is_filled}
-use Rattle.tor_spec.specs.valid.View.{entry_of_file}
-use Rattle.tor_v1.specs.declared.entry.Entry.{Entry}
 
 abbrev pub entries_of : List ListedFile → List Entry
 entries_of files = map entry_of_file files

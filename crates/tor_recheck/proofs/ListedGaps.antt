@@ -1,15 +1,10 @@
 -- Where each filled file of a v1 side begins at a piece of its own, the padding before the next one is known.
-use Rattle.std.proofs.Common.{◌≡◌, ℕ, ◌+◌, eqb, Bool, true, false, not, ◌&&◌, ◌||◌, List, [], ◌∷◌, ◌++◌}
-use Rattle.std.proofs.Common.{arith, refl, ap, ◌∙◌, sym, inl, inr}
-use Rattle.std.proofs.lemmas.Bool.{cases_Bool, eqb-true, not-false, or_parts}
-use Rattle.std.proofs.lemmas.List.Sums.{sum_by-cons}
-use Rattle.std.specs.List.{list_any}
-use Rattle.tor_plan.specs.Entries.{padding_before_next}
+use Rattle.tor_recheck.proofs.Names.{◌≡◌, ℕ, ◌+◌, eqb, Bool, true, false, not, ◌&&◌, ◌||◌, List, [], ◌∷◌, ◌++◌, arith}
+use Rattle.tor_recheck.proofs.Names.{refl, ap, ◌∙◌, sym, inl, inr, cases_Bool, eqb-true, not-false, or_parts}
+use Rattle.tor_recheck.proofs.Names.{sum_by-cons, list_any, padding_before_next, joined_size, ListedFile, aligned_after}
+use Rattle.tor_recheck.proofs.Names.{is_filled, is_misaligned_after, padding_length}
 use Rattle.tor_recheck.proofs.ListedFiles.{aligned_with_filled, aligned_with_other, gap, gap_at_filled, gap_at_other}
 use Rattle.tor_recheck.proofs.ListedFiles.{joined_more, size_of}
-use Rattle.tor_spec.specs.valid.ListSide.{joined_size, ListedFile}
-use Rattle.tor_spec.specs.valid.SidesAgree.{aligned_after, is_filled, is_misaligned_after}
-use Rattle.tor_v1.specs.Entries.{padding_length}
 
 -- some file is filled
 abbrev pub has_filled : List ListedFile → Bool

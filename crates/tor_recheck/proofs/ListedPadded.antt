@@ -1,17 +1,12 @@
 -- The entries of a v1 side whose filled files begin at pieces have their padding where a hybrid torrent has it.
-use Rattle.std.proofs.Common.{◌≡◌, ℕ, true, false, ◌||◌, List, [], ◌∷◌, ◌++◌, arith, refl, ap₂, ◌∙◌, sym, subst}
-use Rattle.std.proofs.Common.{append_assoc, inl, inr}
-use Rattle.std.specs.List.{list_any}
-use Rattle.std.proofs.lemmas.Bool.{cases_Bool}
-use Rattle.tor_plan.specs.EntryList as entry_list
-use Rattle.tor_plan.specs.EntryList.{ArePadded, IsLaidOut, IsPaddedTo}
+use Rattle.tor_recheck.proofs.Names.{◌≡◌, ℕ, true, false, ◌||◌, List, [], ◌∷◌, ◌++◌, arith, refl, ap₂, ◌∙◌, sym, subst}
+use Rattle.tor_recheck.proofs.Names.{append_assoc, inl, inr, list_any, cases_Bool, ArePadded, IsLaidOut, IsPaddedTo}
+use Rattle.tor_recheck.proofs.Names.{ListedFile, has_wrong_tail, is_filled, Hybrid}
 use Rattle.tor_recheck.proofs.ListedFiles.{entries_of, filled_as_entry, gap, size_of_entry}
 use Rattle.tor_recheck.proofs.ListedGaps.{after_filled, has_filled, IsAligned, no_more_filled, others_aligned}
 use Rattle.tor_recheck.proofs.ListedGaps.{to_next_filled}
 use Rattle.tor_recheck.proofs.ListedTails.{behind_last, none_at_all}
-use Rattle.tor_spec.specs.valid.ListSide.{ListedFile}
-use Rattle.tor_spec.specs.valid.SidesAgree.{has_wrong_tail, is_filled}
-use Rattle.tor_tree.specs.declared.kinds.Kind.TheVariants.{Hybrid}
+use Rattle.tor_plan.specs.EntryList as entry_list
 
 filled_entries : (files : List ListedFile) → list_any entry_list.is_filled (entries_of files) ≡ has_filled files
 filled_entries [] = refl

@@ -1,17 +1,12 @@
 -- The padding behind the last filled file of a v1 side, where it is as it is to be.
-use Rattle.std.proofs.Common.{◌≡◌, ℕ, ◌+◌, ◌-◌, ◌%◌, eqb, Bool, true, false, not, ◌||◌, List, [], ◌∷◌, ◌++◌, Option}
-use Rattle.std.proofs.Common.{None, Some, arith, refl, ap, ◌∙◌, sym, inl, inr, ◌⊎◌, reverse, append_assoc, unwrap_or}
-use Rattle.std.specs.Prelude.{find, option_map}
-use Rattle.std.proofs.Math.Nat.{mod_self, zero-mod}
-use Rattle.std.proofs.lemmas.Bool.{cond-false, cond-true, eqb-true, not-false, or_parts}
-use Rattle.std.proofs.lemmas.List.{reverse-append}
-use Rattle.std.proofs.lemmas.List.Sorted.{IsPermutation-reverse, list_any-IsPermutation, sum_by-IsPermutation}
-use Rattle.std.proofs.lemmas.List.Sums.{sum_by-cons}
+use Rattle.tor_recheck.proofs.Names.{◌≡◌, ℕ, ◌+◌, ◌-◌, ◌%◌, eqb, Bool, true, false, not, ◌||◌, List, [], ◌∷◌, ◌++◌}
+use Rattle.tor_recheck.proofs.Names.{Option, None, Some, arith, refl, ap, ◌∙◌, sym, inl, inr, ◌⊎◌, reverse}
+use Rattle.tor_recheck.proofs.Names.{append_assoc, unwrap_or, find, option_map, mod_self, zero-mod, cond-false}
+use Rattle.tor_recheck.proofs.Names.{cond-true, eqb-true, not-false, or_parts, reverse-append, IsPermutation-reverse}
+use Rattle.tor_recheck.proofs.Names.{list_any-IsPermutation, sum_by-IsPermutation, sum_by-cons, joined_size, ListedFile}
+use Rattle.tor_recheck.proofs.Names.{has_wrong_tail, is_filled, last_size, size_before, tail_size, padding_length}
 use Rattle.tor_recheck.proofs.ListedFiles.{size_of}
 use Rattle.tor_recheck.proofs.ListedGaps.{has_filled}
-use Rattle.tor_spec.specs.valid.ListSide.{joined_size, ListedFile}
-use Rattle.tor_spec.specs.valid.SidesAgree.{has_wrong_tail, is_filled, last_size, size_before, tail_size}
-use Rattle.tor_v1.specs.Entries.{padding_length}
 
 -- ---- files that are not filled, and then a filled one
 

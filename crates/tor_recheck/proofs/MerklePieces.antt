@@ -1,28 +1,15 @@
 -- The pieces of a v2 side, and units of files that are cut each by itself.
-use Rattle.std.proofs.Common.{◌≡◌, ℕ, ◌+◌, ◌-◌, ◌*◌, ◌<◌, ◌≤◌, Bool, false, ◌&&◌, leb, min, List, [], ◌∷◌, ◌++◌}
-use Rattle.std.proofs.Common.{length, map, take, drop, get_or, arith, refl, ap, ap₂, ◌∙◌, sym, length-append}
-use Rattle.std.proofs.Common.{length-drop}
-use Rattle.std.proofs.Common.{mul-le-mul_right}
-use Rattle.std.proofs.lemmas.Bool.{leb-true}
-use Rattle.std.proofs.lemmas.Grind.{div_ceil_times}
-use Rattle.std.proofs.lemmas.List.{drop-drop}
-use Rattle.std.proofs.lemmas.List.FromFn.{length-map-range_with_len}
-use Rattle.std.specs.Int.{div_ceil}
-use Rattle.std.specs.List.{flat_map, range_with_len}
-use Rattle.std.specs.Str.{bytes_eq}
-use Rattle.tor_merkle.specs.Block.{run_at}
-use Rattle.tor_plan.specs.Entries.{lengths_of_entries, padding_before_next, separate_entry_units}
-use Rattle.tor_plan.specs.Units.{file_unit, units_of_file}
-use Rattle.tor_plan.specs.declared.units.PlanUnit.{PlanUnit}
-use Rattle.tor_plan.specs.Present.{is_there}
-use Rattle.tor_recheck.specs.Pieces.{hashes_of_file, no_file, piece_root, told_hashes}
+use Rattle.tor_recheck.proofs.Names.{◌≡◌, ℕ, ◌+◌, ◌-◌, ◌*◌, ◌<◌, ◌≤◌, Bool, false, ◌&&◌, leb, min, List, [], ◌∷◌, ◌++◌}
+use Rattle.tor_recheck.proofs.Names.{length, map, take, drop, get_or, arith, refl, ap, ap₂, ◌∙◌, sym, length-append}
+use Rattle.tor_recheck.proofs.Names.{length-drop, mul-le-mul_right, leb-true, div_ceil_times, drop-drop}
+use Rattle.tor_recheck.proofs.Names.{length-map-range_with_len, div_ceil, flat_map, range_with_len, bytes_eq, run_at}
+use Rattle.tor_recheck.proofs.Names.{lengths_of_entries, padding_before_next, separate_entry_units, file_unit}
+use Rattle.tor_recheck.proofs.Names.{units_of_file, PlanUnit, is_there, hashes_of_file, no_file, piece_root}
+use Rattle.tor_recheck.proofs.Names.{told_hashes, bytes_in, file_bytes, is_whole, file_pieces, is_merkle_piece}
+use Rattle.tor_recheck.proofs.Names.{merkle_hash, merkle_pieces, told_hash, FileView, View, Entry}
 use Rattle.tor_recheck.proofs.EntryForms.{Path, file, entry_cases, first_from, first_of, others_from}
 use Rattle.tor_recheck.proofs.FoundBytes.{and_true, bytes_there, file_is_there, last_byte, run-file, whole_file}
 use Rattle.tor_recheck.proofs.Judged.{and_same, get_or-judged, judged, judged-append, judged-map, same_values}
-use Rattle.tor_spec.specs.Present.{bytes_in, file_bytes, is_whole}
-use Rattle.tor_spec.specs.Verified.{file_pieces, is_merkle_piece, merkle_hash, merkle_pieces, told_hash}
-use Rattle.tor_spec.specs.valid.View.{FileView, View}
-use Rattle.tor_v1.specs.declared.entry.Entry.{Entry}
 
 -- run k begins below n
 pub begins_within : (n p k : ℕ) → 0 < p → k < div_ceil n p → k * p < n

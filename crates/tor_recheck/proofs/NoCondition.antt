@@ -1,26 +1,13 @@
 -- What a tree of which no condition holds keeps to: its piece length, its lengths, and the alignment of its files.
-use Rattle.std.proofs.Common.{◌≡◌, ℕ, ℤ, pos, negsuc, ◌<◌, true, false, Bool, not, ◌&&◌, List, [], ◌∷◌, Option, None}
-use Rattle.std.proofs.Common.{Some, arith, codes, cond, find, get_or, lit<, nat_le, refl, unsigned_abs, unwrap_or}
-use Rattle.std.specs.List.{AllByRecursion}
-use Rattle.std.proofs.lemmas.Bool.{and_parts, leb-true, not-false, or_parts}
-use Rattle.std.proofs.lemmas.List.Elements.{All-from_recursion, All-get_or}
-use Rattle.tor_bencode.specs.Data.{Data}
-use Rattle.tor_bencode.specs.Find.{value_of}
-use Rattle.tor_merkle.specs.Layer.{is_piece_length}
-use Rattle.tor_merkle.proofs.ProvedLaws.{piece_length_bounds}
-use Rattle.tor_plan.specs.PlanFacts.{IsPlanPieceLength}
-use Rattle.tor_spec.specs.valid.Conditions.{conditions, holds, refusal_of}
+use Rattle.tor_recheck.proofs.Names.{◌≡◌, ℕ, ℤ, pos, negsuc, ◌<◌, true, false, Bool, not, ◌&&◌, List, [], ◌∷◌, Option}
+use Rattle.tor_recheck.proofs.Names.{None, Some, arith, codes, cond, find, get_or, lit<, nat_le, refl, unsigned_abs}
+use Rattle.tor_recheck.proofs.Names.{unwrap_or, AllByRecursion, and_parts, leb-true, not-false, or_parts}
+use Rattle.tor_recheck.proofs.Names.{All-from_recursion, All-get_or, Data, value_of, is_piece_length}
+use Rattle.tor_recheck.proofs.Names.{piece_length_bounds, IsPlanPieceLength, conditions, holds, refusal_of}
+use Rattle.tor_recheck.proofs.Names.{is_no_piece_length, list_too_large, info_of, kind_of, piece_length_of, alignment}
+use Rattle.tor_recheck.proofs.Names.{files_differ, tree_too_large, has_v1, has_v2, as_integer, Kind, V1, V2, Hybrid}
+use Rattle.tor_recheck.proofs.Names.{IsV1PieceLength, max_piece_length}
 use Rattle.tor_spec.specs.valid.Conditions as named
-use Rattle.tor_spec.specs.valid.Heads.{is_no_piece_length}
-use Rattle.tor_spec.specs.valid.ListSide.{list_too_large}
-use Rattle.tor_spec.specs.valid.Parts.{info_of, kind_of, piece_length_of}
-use Rattle.tor_spec.specs.valid.SidesAgree.{alignment, files_differ}
-use Rattle.tor_spec.specs.valid.TreeSide.{tree_too_large}
-use Rattle.tor_tree.specs.Kinds.{has_v1, has_v2}
-use Rattle.tor_tree.specs.Properties.{as_integer}
-use Rattle.tor_tree.specs.declared.kinds.Kind.{Kind}
-use Rattle.tor_tree.specs.declared.kinds.Kind.TheVariants.{V1, V2, Hybrid}
-use Rattle.tor_v1.specs.Piece.{IsV1PieceLength, max_piece_length}
 
 -- ---- one condition
 

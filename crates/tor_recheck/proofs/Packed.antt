@@ -1,13 +1,7 @@
 -- One bit of packed bytes, where a bit is set in them.
-use Rattle.std.proofs.Common.{◌≡◌, ◌≢◌, ℕ, ◌*◌, ◌-◌, ◌/◌, ◌%◌, ◌^◌, ◌<◌, List, true}
-use Rattle.std.proofs.Common.{eqb, length, get_or, refl, ap, inl, inr, arith, bit_or, w8}
-use Rattle.std.proofs.Math.ListN.{set}
-use Rattle.std.proofs.lemmas.Bool.{cases_eq}
-use Rattle.std.proofs.lemmas.List.{get_or-set_same, get_or-set_other}
-use Rattle.std.proofs.lemmas.Nat.{or_of_8}
-use Rattle.std.proofs.lemmas.Nat.Bits.{bit_at_set_same, bit_at_set_other}
-use Rattle.std.specs.Int.{bit_at}
-use Rattle.tor_recheck.specs.steps.Packed.{packed_bit, AreBytes}
+use Rattle.tor_recheck.proofs.Names.{◌≡◌, ◌≢◌, ℕ, ◌*◌, ◌-◌, ◌/◌, ◌%◌, ◌^◌, ◌<◌, List, true, eqb, length, get_or, refl}
+use Rattle.tor_recheck.proofs.Names.{ap, inl, inr, arith, bit_or, w8, set, cases_eq, get_or-set_same, get_or-set_other}
+use Rattle.tor_recheck.proofs.Names.{or_of_8, bit_at_set_same, bit_at_set_other, bit_at, packed_bit, AreBytes}
 
 -- the bytes with this bit set
 abbrev pub with_bit : List ℕ → ℕ → List ℕ

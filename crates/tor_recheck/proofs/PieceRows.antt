@@ -1,14 +1,8 @@
 -- What a recheck finds is the same by runs and by units: some torrents and contents.
-use Rattle.std.proofs.Common.{◌≡◌, ℕ, Bool, true, false, List, [], ◌∷◌, map, refl, replicate}
-use Rattle.std.specs.Prelude.{None}
-use Rattle.tor_plan.specs.Entries.{joined_entry_units, padding_before_next, separate_entry_units, unit_within}
-use Rattle.tor_recheck.specs.Pieces.{count_of_pieces, pieces_of, right_pieces}
-use Rattle.tor_spec.specs.Verified.{verified_pieces}
-use Rattle.tor_spec.specs.valid.View.{FileView, View}
-use Rattle.tor_tree.specs.declared.kinds.Kind.{Kind}
-use Rattle.tor_tree.specs.declared.kinds.Kind.TheVariants.{V1, V2, Hybrid}
-use Rattle.tor_v1.specs.Piece.{zeros}
-use Rattle.tor_v1.specs.declared.entry.Entry.{Entry}
+use Rattle.tor_recheck.proofs.Names.{◌≡◌, ℕ, Bool, true, false, List, [], ◌∷◌, map, refl, replicate, None}
+use Rattle.tor_recheck.proofs.Names.{joined_entry_units, padding_before_next, separate_entry_units, unit_within}
+use Rattle.tor_recheck.proofs.Names.{count_of_pieces, pieces_of, right_pieces, verified_pieces, FileView, View, Kind}
+use Rattle.tor_recheck.proofs.Names.{V1, V2, Hybrid, zeros, Entry}
 
 abbrev file : ℕ → Entry
 file m = record { path = []; length = m; pad = false }

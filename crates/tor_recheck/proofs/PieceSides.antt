@@ -1,34 +1,16 @@
 -- One piece: what each side of a torrent says of it is the same by runs and by units.
-use Rattle.std.proofs.Common.{◌≡◌, ℕ, ◌*◌, ◌<◌, Bool, true, false, not, ◌&&◌, ◌||◌, List, [], ◌∷◌, length, map}
-use Rattle.std.proofs.Common.{get_or}
-use Rattle.std.proofs.Common.{arith, cond, refl, ap, ap₂, ◌∙◌, sym, subst}
-use Rattle.std.proofs.lemmas.Bool.{false≢true}
-use Rattle.std.proofs.lemmas.List.FromFn.{get_or-map-range_with_len, length-map-range_with_len}
-use Rattle.std.specs.Int.{div_ceil}
-use Rattle.std.specs.Str.{bytes_eq}
-use Rattle.tor_merkle.specs.Block.{run_at}
-use Rattle.tor_plan.specs.Content.{unit_content}
-use Rattle.tor_plan.specs.Entries.{entries_length, entry_units, joined_entry_unit, joined_entry_units}
-use Rattle.tor_plan.specs.Entries.{lengths_of_entries, separate_entry_units}
-use Rattle.tor_plan.specs.EntryList.{IsLaidOut}
-use Rattle.tor_plan.specs.PlanFacts.{IsPlanPieceLength}
-use Rattle.tor_plan.specs.declared.units.PlanUnit.{PlanUnit}
-use Rattle.tor_plan.specs.Present.{is_there}
-use Rattle.tor_recheck.specs.Pieces.{entries_to_cut, has_sha1, IsCut}
-use Rattle.tor_plan.proofs.ProvedLaws.{aligned_pieces_are_joined}
+use Rattle.tor_recheck.proofs.Names.{◌≡◌, ℕ, ◌*◌, ◌<◌, Bool, true, false, not, ◌&&◌, ◌||◌, List, [], ◌∷◌, length, map}
+use Rattle.tor_recheck.proofs.Names.{get_or, arith, cond, refl, ap, ap₂, ◌∙◌, sym, subst, false≢true}
+use Rattle.tor_recheck.proofs.Names.{get_or-map-range_with_len, length-map-range_with_len, div_ceil, bytes_eq, run_at}
+use Rattle.tor_recheck.proofs.Names.{unit_content, entries_length, entry_units, joined_entry_unit, joined_entry_units}
+use Rattle.tor_recheck.proofs.Names.{lengths_of_entries, separate_entry_units, IsLaidOut, IsPlanPieceLength, PlanUnit}
+use Rattle.tor_recheck.proofs.Names.{is_there, entries_to_cut, has_sha1, IsCut, aligned_pieces_are_joined, bytes_in}
+use Rattle.tor_recheck.proofs.Names.{is_whole, joined_bytes, is_sha1_piece, FileView, View, has_v1, has_v2, Kind, V1}
+use Rattle.tor_recheck.proofs.Names.{V2, Hybrid, piece_sums, file_entry, Entry}
 use Rattle.tor_recheck.proofs.FoundBytes.{HaveBytes, bytes_there, unit_bytes, unit_is_there, whole_unit}
 use Rattle.tor_recheck.proofs.JoinedPieces.{joined_unit_bytes, joined_unit_some}
 use Rattle.tor_recheck.proofs.Judged.{and_same}
 use Rattle.tor_recheck.proofs.MerklePieces.{length_of}
-use Rattle.tor_spec.specs.Present.{bytes_in, is_whole, joined_bytes}
-use Rattle.tor_spec.specs.Verified.{is_sha1_piece}
-use Rattle.tor_spec.specs.valid.View.{FileView, View}
-use Rattle.tor_tree.specs.Kinds.{has_v1, has_v2}
-use Rattle.tor_tree.specs.declared.kinds.Kind.{Kind}
-use Rattle.tor_tree.specs.declared.kinds.Kind.TheVariants.{V1, V2, Hybrid}
-use Rattle.tor_v1.specs.Piece.{piece_sums}
-use Rattle.tor_v1.specs.Entries.{file_entry}
-use Rattle.tor_v1.specs.declared.entry.Entry.{Entry}
 
 -- no kind has pieces of no byte
 pub some_piece : (kind : Kind) (p : ℕ) → IsPlanPieceLength kind p → 0 < p

@@ -1,26 +1,15 @@
 -- The proofs of the laws of src/laws.rt.
-use Rattle.std.proofs.Common.{◌≡◌, ℕ, zero, suc, ◌+◌, ◌<◌, true, false, ◌&&◌, List, [], ◌∷◌, length, get_or, arith}
-use Rattle.std.proofs.Common.{refl, ap, ap₂, ◌∙◌, sym, subst, inl, inr, length-append, sum_by}
-use Rattle.std.proofs.lemmas.Bool.{cases_Bool, cond-false, cond-true}
-use Rattle.std.proofs.lemmas.List.FromFn.{fill_by_all, length-map-range_with_len}
-use Rattle.std.proofs.lemmas.List.Sums.{sum_by-cons}
-use Rattle.std.specs.Int.{div_ceil}
-use Rattle.std.specs.List.{flat_map}
-use Rattle.tor_plan.specs.Entries.{empty_unit, entries_length}
-use Rattle.tor_plan.specs.declared.units.PlanUnit.{PlanUnit}
-use Rattle.tor_plan.specs.Present.{is_there}
-use Rattle.tor_recheck.specs.Pieces.{entries_to_cut, has_root, has_sha1, hashes_of_file, is_right}
-use Rattle.tor_recheck.specs.Pieces.{IsCut, pieces_of, right_pieces, told_hashes}
+use Rattle.tor_recheck.proofs.Names.{◌≡◌, ℕ, zero, suc, ◌+◌, ◌<◌, true, false, ◌&&◌, List, [], ◌∷◌, length, get_or}
+use Rattle.tor_recheck.proofs.Names.{arith, refl, ap, ap₂, ◌∙◌, sym, subst, inl, inr, length-append, sum_by, cases_Bool}
+use Rattle.tor_recheck.proofs.Names.{cond-false, cond-true, fill_by_all, length-map-range_with_len, sum_by-cons}
+use Rattle.tor_recheck.proofs.Names.{div_ceil, flat_map, empty_unit, entries_length, PlanUnit, is_there, entries_to_cut}
+use Rattle.tor_recheck.proofs.Names.{has_root, has_sha1, hashes_of_file, is_right, IsCut, pieces_of, right_pieces}
+use Rattle.tor_recheck.proofs.Names.{told_hashes, is_sha1_piece, is_verified, merkle_pieces, told_hash, verified_pieces}
+use Rattle.tor_recheck.proofs.Names.{pieces_in, FileView, View, has_v1, has_v2, Entry}
 use Rattle.tor_recheck.proofs.MerklePieces.{has_hash, length_of, merkle_piece, same_count}
 use Rattle.tor_recheck.proofs.PieceSides.{by_sides, count_of_joined, cut_each, IsRun, other_side, same_lengths}
-use Rattle.tor_recheck.proofs.PieceSides.{same_sha1}
-use Rattle.tor_recheck.proofs.PieceSides.{some_piece, unit_is_run}
+use Rattle.tor_recheck.proofs.PieceSides.{same_sha1, some_piece, unit_is_run}
 pub use Rattle.tor_recheck.proofs.ValidAreCut.{valid_torrents_are_cut}
-use Rattle.tor_spec.specs.Verified.{is_sha1_piece, is_verified, merkle_pieces, told_hash, verified_pieces}
-use Rattle.tor_spec.specs.valid.Layers.{pieces_in}
-use Rattle.tor_spec.specs.valid.View.{FileView, View}
-use Rattle.tor_tree.specs.Kinds.{has_v1, has_v2}
-use Rattle.tor_v1.specs.declared.entry.Entry.{Entry}
 
 -- ---- the number of pieces
 

@@ -1,14 +1,10 @@
 -- The bytes from one offset to another of bytes that may be missing.
-use Rattle.std.proofs.Common.{◌≡◌, ℕ, ◌+◌, ◌-◌, min, max, List, ◌++◌, length, take, drop, Some, arith}
-use Rattle.std.proofs.Common.{refl, ap, ap₂, ◌∙◌, sym, inl, inr, append-nil, length-drop}
-use Rattle.std.proofs.Math.Seq.{take-append-add}
-use Rattle.std.proofs.lemmas.Bool.{cases_lt}
-use Rattle.std.proofs.lemmas.List.{drop_all, drop_at, drop-append-le, drop-drop, drop-map, drop-replicate, length-map}
-use Rattle.std.proofs.lemmas.List.{length-replicate, take_all, take_min, take-append-le, take-map, take-replicate}
-use Rattle.tor_plan.specs.Entries.{shared}
+use Rattle.tor_recheck.proofs.Names.{◌≡◌, ℕ, ◌+◌, ◌-◌, min, max, List, ◌++◌, length, take, drop, Some, arith, refl, ap}
+use Rattle.tor_recheck.proofs.Names.{ap₂, ◌∙◌, sym, inl, inr, append-nil, length-drop, take-append-add, cases_lt}
+use Rattle.tor_recheck.proofs.Names.{drop_all, drop_at, drop-append-le, drop-drop, drop-map, drop-replicate, length-map}
+use Rattle.tor_recheck.proofs.Names.{length-replicate, take_all, take_min, take-append-le, take-map, take-replicate}
+use Rattle.tor_recheck.proofs.Names.{shared, file_bytes, zeros}
 use Rattle.tor_recheck.proofs.FoundBytes.{Found, length-file, part-file, there}
-use Rattle.tor_spec.specs.Present.{file_bytes}
-use Rattle.tor_v1.specs.Piece.{zeros}
 
 -- ---- the rest of two joined lists, and their beginning
 

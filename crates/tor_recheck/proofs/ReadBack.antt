@@ -1,11 +1,8 @@
 -- Reading the bits kept, one by one.
-use Rattle.std.proofs.Common.{◌≡◌, ℕ, ◌<◌, ◌≤◌, List, false, length, get_or, inl, inr, sym, ◌∙◌, arith, refl}
-use Rattle.std.proofs.lemmas.Bool.{cases_lt}
-use Rattle.std.proofs.lemmas.List.FromFn.{get_or-map-range_with_len, length-map-range_with_len}
-use Rattle.std.proofs.lemmas.List.{get_or_past}
-use Rattle.std.proofs.lemmas.Option.{slice_get-get_or, slice_get_past}
-use Rattle.std.specs.Prelude.{slice_get, Some, None}
-use Rattle.tor_recheck.specs.steps.Packed.{packed_bit, packed_bits, KeepsBits}
+use Rattle.tor_recheck.proofs.Names.{◌≡◌, ℕ, ◌<◌, ◌≤◌, List, false, length, get_or, inl, inr, sym, ◌∙◌, arith, refl}
+use Rattle.tor_recheck.proofs.Names.{cases_lt, get_or-map-range_with_len, length-map-range_with_len, get_or_past}
+use Rattle.tor_recheck.proofs.Names.{slice_get-get_or, slice_get_past, slice_get, Some, None, packed_bit, packed_bits}
+use Rattle.tor_recheck.proofs.Names.{KeepsBits}
 
 pub length-packed_bits : (bytes : List ℕ) (count : ℕ) → length (packed_bits bytes count) ≡ count
 length-packed_bits bytes count = length-map-range_with_len (packed_bit bytes) 0 count

@@ -1,18 +1,11 @@
 -- The first fault of the hashing is that of the recheck.
-use Rattle.std.proofs.Common.{◌≡◌, ℕ, [], Option, None, option_map, ap, ap₂, sym, ◌∙◌, inl, inr}
-use Rattle.std.specs.Option.{option_or}
-use Rattle.tor_engine.specs.Contents.{contents_in}
-use Rattle.tor_engine.specs.Fault as engine
-use Rattle.tor_engine.specs.Given.{IsGivenPieces}
-use Rattle.tor_engine.specs.PieceFault.{first_asked_fault, first_piece_fault, pieces_fault}
-use Rattle.tor_engine.specs.declared.errors.EngineError.{EngineError}
-use Rattle.tor_engine.specs.declared.errors.EngineError.TheVariants.{Read, Changed, Missing, Resources, StreamTooLong}
-use Rattle.tor_plan.specs.PlanFacts.{PlanFacts, plan_of_entries}
-use Rattle.tor_recheck.specs.Pieces.{IsCut, entries_to_cut}
-use Rattle.tor_recheck.specs.Recheck.{IsFault, IsGiven, first_fault, of_engine_error}
+use Rattle.tor_recheck.proofs.Names.{◌≡◌, ℕ, [], Option, None, option_map, ap, ap₂, sym, ◌∙◌, inl, inr, option_or}
+use Rattle.tor_recheck.proofs.Names.{contents_in, IsGivenPieces, first_asked_fault, first_piece_fault, pieces_fault}
+use Rattle.tor_recheck.proofs.Names.{EngineError, Read, Changed, Missing, Resources, StreamTooLong, PlanFacts}
+use Rattle.tor_recheck.proofs.Names.{plan_of_entries, IsCut, entries_to_cut, IsFault, IsGiven, first_fault}
+use Rattle.tor_recheck.proofs.Names.{of_engine_error, SourceFacts, View}
 use Rattle.tor_recheck.proofs.Rechecked.{count_is, pieces_are}
-use Rattle.tor_source.specs.Source.{SourceFacts}
-use Rattle.tor_spec.specs.valid.View.{View}
+use Rattle.tor_engine.specs.Fault as engine
 
 module _ {F : Type 0} (facts : SourceFacts F) (view : View) (cut : IsCut view) where
   -- the units that a recheck takes

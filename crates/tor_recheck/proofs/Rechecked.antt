@@ -1,35 +1,19 @@
 -- The hashes of the pieces of a plan, judged by those of the torrent, tell which pieces are there and right.
-use Rattle.std.proofs.Common.{◌≡◌, ℕ, ◌+◌, Bool, true, false, not, ◌&&◌, ◌||◌, cond, List, [], ◌∷◌, length, map}
-use Rattle.std.proofs.Common.{take, drop, get_or, Option, None, Some, refl, ap, ap₂, sym, ◌∙◌, arith, inl, inr}
-use Rattle.std.specs.List.{range_with_len}
-use Rattle.std.specs.Str.{bytes_eq}
-use Rattle.std.proofs.Math.ListN.{get_or-map}
-use Rattle.std.proofs.lemmas.Bool.{cases_lt, le-leb, le-ltb, lt-leb, lt-ltb}
-use Rattle.std.proofs.lemmas.List.{drop-drop, length-map}
-use Rattle.std.proofs.lemmas.List.FromFn.{length-map-range_with_len}
-use Rattle.tor_engine.specs.PieceHashes as engine
-use Rattle.tor_engine.specs.PieceHashes.{hash_if_there, piece_hash, piece_hashes, pieces_of_plan}
-use Rattle.tor_engine.specs.declared.piece_hash.PieceHash.{PieceHash}
-use Rattle.tor_merkle.specs.Block.{leaves, run_at}
-use Rattle.tor_merkle.specs.Layer.{piece_level, pieces_root}
-use Rattle.tor_merkle.specs.Stack.{padded_subtree}
-use Rattle.tor_plan.specs.Content.{unit_content}
-use Rattle.tor_plan.specs.PlanFacts.{PlanFacts, plan_of_entries}
-use Rattle.tor_plan.specs.Present.{is_there}
-use Rattle.tor_plan.specs.declared.units.Part.{Part}
-use Rattle.tor_plan.specs.declared.units.PlanUnit.{PlanUnit}
-use Rattle.tor_plan.proofs.ProvedLaws.{units_are_cut_into_pieces}
-use Rattle.tor_recheck.specs.Pieces.{IsCut, entries_to_cut, is_right, no_file, part_root, piece_root}
-use Rattle.tor_recheck.specs.Pieces.{pieces_of, right_pieces, root_of_parts, told_hashes}
-use Rattle.tor_recheck.specs.steps.Judge.{all_judged, is_found, is_told, judged}
+use Rattle.tor_recheck.proofs.Names.{◌≡◌, ℕ, ◌+◌, Bool, true, false, not, ◌&&◌, ◌||◌, cond, List, [], ◌∷◌, length, map}
+use Rattle.tor_recheck.proofs.Names.{take, drop, get_or, Option, None, Some, refl, ap, ap₂, sym, ◌∙◌, arith, inl, inr}
+use Rattle.tor_recheck.proofs.Names.{range_with_len, bytes_eq, get_or-map, cases_lt, le-leb, le-ltb, lt-leb, lt-ltb}
+use Rattle.tor_recheck.proofs.Names.{drop-drop, length-map, length-map-range_with_len, hash_if_there, piece_hash}
+use Rattle.tor_recheck.proofs.Names.{piece_hashes, pieces_of_plan, PieceHash, leaves, run_at, piece_level, pieces_root}
+use Rattle.tor_recheck.proofs.Names.{padded_subtree, unit_content, PlanFacts, plan_of_entries, is_there, Part, PlanUnit}
+use Rattle.tor_recheck.proofs.Names.{units_are_cut_into_pieces, IsCut, entries_to_cut, is_right, no_file, part_root}
+use Rattle.tor_recheck.proofs.Names.{piece_root, pieces_of, right_pieces, root_of_parts, told_hashes, all_judged}
+use Rattle.tor_recheck.proofs.Names.{is_found, is_told, judged, merkle_hash, verified_pieces, FileView, View, has_v1}
+use Rattle.tor_recheck.proofs.Names.{has_v2, piece_sums}
 use Rattle.tor_recheck.proofs.EntryForms.{first_of}
 use Rattle.tor_recheck.proofs.MerklePieces.{length_of}
 use Rattle.tor_recheck.proofs.PieceSides.{same_lengths, some_piece}
 use Rattle.tor_recheck.proofs.ProvedLaws.{pieces_are_counted, pieces_are_verified_by_units}
-use Rattle.tor_spec.specs.Verified.{merkle_hash, verified_pieces}
-use Rattle.tor_spec.specs.valid.View.{FileView, View}
-use Rattle.tor_tree.specs.Kinds.{has_v1, has_v2}
-use Rattle.tor_v1.specs.Piece.{piece_sums}
+use Rattle.tor_engine.specs.PieceHashes as engine
 
 -- where a torrent has a side, its hash is compared
 told_side : (side : Bool) (hash told : List ℕ)

@@ -1,8 +1,6 @@
 -- Joined SHA-1 taken one after another.
-use Rattle.std.proofs.Common.{◌≡◌, ℕ, ◌+◌, ◌*◌, min, List, length, take, drop, arith, ap, sym, ◌∙◌, inl, inr}
-use Rattle.std.proofs.Math.ListN.{drop_of_length-le}
-use Rattle.std.proofs.lemmas.Bool.{cases_lt}
-use Rattle.std.proofs.lemmas.List.{drop-drop, take_min}
+use Rattle.tor_recheck.proofs.Names.{◌≡◌, ℕ, ◌+◌, ◌*◌, min, List, length, take, drop, arith, ap, sym, ◌∙◌, inl, inr}
+use Rattle.tor_recheck.proofs.Names.{drop_of_length-le, cases_lt, drop-drop, take_min}
 
 module _ (sums : List ℕ) (n : ℕ) where
   pub first_sum : take (min (length sums) n) sums ≡ take n sums

@@ -1,33 +1,17 @@
 -- What a torrent describes of which no condition holds can be cut.
-use Rattle.std.proofs.Common.{◌≡◌, ℕ, ◌+◌, true, false, ◌&&◌, ◌==◌, List, [], ◌∷◌, map, sum_by, None, refl, ap, ap₂}
-use Rattle.std.proofs.Common.{cond, codes, ◌∙◌, sym, unwrap_or}
-use Rattle.std.specs.Int.{div_ceil}
-use Rattle.std.proofs.lemmas.Bool.{and_parts, eqb-true, not-false, or_parts}
-use Rattle.std.proofs.lemmas.List.Sums.{sum_by-cons}
-use Rattle.tor_bencode.specs.Data.{Data}
-use Rattle.tor_bencode.specs.Span.{span_of}
-use Rattle.tor_plan.specs.EntryList.{IsLaidOut}
-use Rattle.tor_recheck.specs.Pieces.{IsCut}
-use Rattle.tor_recheck.proofs.EntryBounds.{lengths_told, no_padding_told, small_listed, small_told}
-use Rattle.tor_recheck.proofs.EntryBounds.{told_files}
+use Rattle.tor_recheck.proofs.Names.{◌≡◌, ℕ, ◌+◌, true, false, ◌&&◌, ◌==◌, List, [], ◌∷◌, map, sum_by, None, refl, ap}
+use Rattle.tor_recheck.proofs.Names.{ap₂, cond, codes, ◌∙◌, sym, unwrap_or, div_ceil, and_parts, eqb-true, not-false}
+use Rattle.tor_recheck.proofs.Names.{or_parts, sum_by-cons, Data, span_of, IsLaidOut, IsCut, refusal_of, pieces_in}
+use Rattle.tor_recheck.proofs.Names.{listed_files, ListedFile, side_files, side_piece_count, info_of, is_private}
+use Rattle.tor_recheck.proofs.Names.{kind_of, name_of, part, piece_length_of, text_of, files_differ, has_wrong_tail}
+use Rattle.tor_recheck.proofs.Names.{is_misaligned_after, listed_by_list, listed_by_tree, same_files, tree_files}
+use Rattle.tor_recheck.proofs.Names.{entry_of_file, file_of_list, file_of_tree, FileView, tree_piece_count, View}
+use Rattle.tor_recheck.proofs.Names.{view_of, has_v1, has_v2, path_eq, Kind, V1, V2, Hybrid, TreeFile}
+use Rattle.tor_recheck.proofs.EntryBounds.{lengths_told, no_padding_told, small_listed, small_told, told_files}
 use Rattle.tor_recheck.proofs.ListedFiles.{joined_entries, lengths_of_listed, size_of}
 use Rattle.tor_recheck.proofs.ListedPadded.{laid_out}
 use Rattle.tor_recheck.proofs.MerklePieces.{length_of}
 use Rattle.tor_recheck.proofs.NoCondition.{IsKept, kept}
-use Rattle.tor_spec.specs.valid.Conditions.{refusal_of}
-use Rattle.tor_spec.specs.valid.Layers.{pieces_in}
-use Rattle.tor_spec.specs.valid.ListSide.{listed_files, ListedFile, side_files, side_piece_count}
-use Rattle.tor_spec.specs.valid.Parts.{info_of, is_private, kind_of, name_of, part, piece_length_of, text_of}
-use Rattle.tor_spec.specs.valid.SidesAgree.{files_differ, has_wrong_tail, is_misaligned_after, listed_by_list}
-use Rattle.tor_spec.specs.valid.SidesAgree.{listed_by_tree, same_files}
-use Rattle.tor_spec.specs.valid.TreeSide.{tree_files}
-use Rattle.tor_spec.specs.valid.View.{entry_of_file, file_of_list, file_of_tree, FileView, tree_piece_count, View}
-use Rattle.tor_spec.specs.valid.View.{view_of}
-use Rattle.tor_tree.specs.Kinds.{has_v1, has_v2}
-use Rattle.tor_tree.specs.Path.{path_eq}
-use Rattle.tor_tree.specs.declared.kinds.Kind.{Kind}
-use Rattle.tor_tree.specs.declared.kinds.Kind.TheVariants.{V1, V2, Hybrid}
-use Rattle.tor_tree.specs.declared.tree_file.TreeFile.{TreeFile}
 
 -- ---- the files of both sides
 

@@ -1,16 +1,8 @@
 -- The entries of files have small lengths, and their padding is less than a piece.
-use Rattle.std.proofs.Common.{◌≡◌, ℕ, ◌<◌, ◌^◌, List, [], ◌∷◌, ◌++◌, map}
-use Rattle.std.proofs.Common.{Bool, true, false, arith}
-use Rattle.std.specs.Prelude.{◌&&◌, nat_lt, if◌then◌else◌}
-use Rattle.std.specs.List.{All, AllByRecursion}
-use Rattle.std.proofs.lemmas.List.Elements.{All-from_recursion, recursion_from_All}
-use Rattle.tor_merkle.proofs.ProvedLaws.{piece_length_bounds}
-use Rattle.tor_merkle.specs.Layer.{IsPieceLength}
-use Rattle.tor_v1.specs.Entries.{aligned_entries, file_entry, has_bytes, pad_entry, padding_after, padding_length}
-use Rattle.tor_v1.specs.Entries.{v1_entries}
-use Rattle.tor_v1.specs.declared.entry.Entry.{Entry}
-use Rattle.tor_v1.specs.declared.layout.Layout.{Layout}
-use Rattle.tor_v1.specs.declared.layout.Layout.TheVariants.{Joined, Aligned}
+use Rattle.tor_spec.proofs.Names.{◌≡◌, ℕ, ◌<◌, ◌^◌, List, [], ◌∷◌, ◌++◌, map, Bool, true, false, arith, ◌&&◌, nat_lt}
+use Rattle.tor_spec.proofs.Names.{if◌then◌else◌, All, AllByRecursion, All-from_recursion, recursion_from_All}
+use Rattle.tor_spec.proofs.Names.{piece_length_bounds, IsPieceLength, aligned_entries, file_entry, has_bytes, pad_entry}
+use Rattle.tor_spec.proofs.Names.{padding_after, padding_length, v1_entries, Entry, Layout, Joined, Aligned}
 
 -- what a file lacks to the next piece is less than a piece
 lack_small : (p m : ℕ) → 0 < p → padding_length p m < p

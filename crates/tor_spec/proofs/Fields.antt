@@ -1,13 +1,9 @@
 -- Dictionaries whose values are there or not are lawful where the keys rise and the values are.
-use Rattle.std.proofs.Common.{◌≡◌, ℕ, suc, ◌≤◌, List, [], ◌∷◌, map, Bool, true, false, Option, None, Some, Ordering}
-use Rattle.std.proofs.Common.{Less, Equal, Greater, refl, ap, ◌∙◌, arith}
-use Rattle.std.specs.List.{AllByRecursion}
-use Rattle.std.specs.Ordering.{match_ordering, ordering_reverse}
-use Rattle.std.specs.Cmp.Lexicographic.{nat_list_cmp_total}
-use Rattle.tor_bencode.specs.Data.{Data, dictionary, Pairs, no_pairs, pair, keys_of}
-use Rattle.tor_bencode.specs.Lawful.{AreRising, IsLawfulWithin, PairsAreLawfulWithin}
-use Rattle.tor_spec.specs.Dictionary.{present, put, when}
-use Rattle.tor_tree.specs.Path.{name_cmp}
+use Rattle.tor_spec.proofs.Names.{◌≡◌, ℕ, suc, ◌≤◌, List, [], ◌∷◌, map, Bool, true, false, Option, None, Some, Ordering}
+use Rattle.tor_spec.proofs.Names.{Less, Equal, Greater, refl, ap, ◌∙◌, arith, AllByRecursion, match_ordering}
+use Rattle.tor_spec.proofs.Names.{ordering_reverse, nat_list_cmp_total, Data, dictionary, Pairs, no_pairs, pair}
+use Rattle.tor_spec.proofs.Names.{keys_of, AreRising, IsLawfulWithin, PairsAreLawfulWithin, present, put, when}
+use Rattle.tor_spec.proofs.Names.{name_cmp}
 
 pub wider : (m n : ℕ) (d : Data) → m ≤ n → IsLawfulWithin m d → IsLawfulWithin n d
 wider m n d le h = record { keys = h.keys; integers = h.integers; nesting = omega (arith, h.nesting) }

@@ -1,31 +1,15 @@
 -- The dictionaries of a torrent are lawful trees.
-use Rattle.std.proofs.Common.{ℕ, ◌+◌, ◌<◌, ◌^◌, List, [], ◌∷◌, map, Option, None, Some}
-use Rattle.std.proofs.Common.{Bool, true, false, arith, rules, refl}
-use Rattle.std.specs.Prelude.{pos, codes, nat_le, not, ◌&&◌, option_map, unwrap_or, if◌then◌else◌}
-use Rattle.std.specs.List.{AllByRecursion}
-use Rattle.std.proofs.lemmas.List.Sums.{sum_by-cons}
-use Rattle.std.proofs.lemmas.List.Elements.{All-from_recursion}
-use Rattle.tor_bencode.specs.Data.{Data, integer, string, list, dictionary, Items, item}
-use Rattle.tor_bencode.specs.Data.{keys_of}
-use Rattle.tor_bencode.specs.Lawful.{IsLawful, IsLawfulWithin, ItemsAreLawfulWithin, PairsAreLawfulWithin, AreRising}
-use Rattle.tor_bencode.specs.View.{items_of}
-use Rattle.tor_spec.specs.Dictionary.{present, put, when}
-use Rattle.tor_spec.specs.Facts.{Facts, listed, roots_in}
-use Rattle.tor_spec.specs.FilesList.{entry_dictionary, files_list, strings}
-use Rattle.tor_spec.specs.InfoDictionary.{info_dictionary, total_size}
-use Rattle.tor_spec.specs.Makeable.{AreMakeable}
-use Rattle.tor_spec.specs.Metainfo.{root_dictionary}
-use Rattle.tor_spec.specs.PieceLayers.{joined, piece_layers}
-use Rattle.tor_spec.specs.Settings.{Settings, layout_of}
-use Rattle.tor_tree.specs.Kinds.{has_v1, has_v2}
+use Rattle.tor_spec.proofs.Names.{ℕ, ◌+◌, ◌<◌, ◌^◌, List, [], ◌∷◌, map, Option, None, Some, Bool, true, false, arith}
+use Rattle.tor_spec.proofs.Names.{rules, refl, pos, codes, nat_le, not, ◌&&◌, option_map, unwrap_or, if◌then◌else◌}
+use Rattle.tor_spec.proofs.Names.{AllByRecursion, sum_by-cons, All-from_recursion, Data, integer, string, list}
+use Rattle.tor_spec.proofs.Names.{dictionary, Items, item, keys_of, IsLawful, IsLawfulWithin, ItemsAreLawfulWithin}
+use Rattle.tor_spec.proofs.Names.{PairsAreLawfulWithin, AreRising, items_of, present, put, when, Facts, listed}
+use Rattle.tor_spec.proofs.Names.{roots_in, entry_dictionary, files_list, strings, info_dictionary, total_size}
+use Rattle.tor_spec.proofs.Names.{AreMakeable, root_dictionary, joined, piece_layers, Settings, layout_of, has_v1}
+use Rattle.tor_spec.proofs.Names.{has_v2, piece_length_bounds, file_tree_is_lawful, file_tree, v1_entries, Entry}
 use Rattle.tor_spec.proofs.EntryLengths.{AreSmall, small_entries}
 use Rattle.tor_spec.proofs.Fields.{IfThere, dictionary_lawful, present_lawful, put_lawful, put_rising, when_there}
 use Rattle.tor_spec.proofs.Fields.{wider}
-use Rattle.tor_merkle.proofs.ProvedLaws.{piece_length_bounds}
-use Rattle.tor_tree.proofs.ProvedLaws.{file_tree_is_lawful}
-use Rattle.tor_tree.specs.WrittenTree.{file_tree}
-use Rattle.tor_v1.specs.Entries.{v1_entries}
-use Rattle.tor_v1.specs.declared.entry.Entry.{Entry}
 
 string_lawful : (n : ℕ) (bytes : List ℕ) → IsLawfulWithin n (string bytes)
 string_lawful n bytes = record { keys = tt; integers = tt; nesting = omega arith }

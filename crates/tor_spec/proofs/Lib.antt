@@ -1,3 +1,4 @@
+pub mod Names
 pub mod Fields
 pub mod EntryLengths
 pub mod LawfulTorrents
@@ -5,17 +6,13 @@ pub mod PutPairs
 pub mod MadeHeads
 pub mod MadeFacts
 pub mod MadeTree
-pub mod MadeFound
 pub mod MadeLayers
 pub mod MadeListEntries
 pub mod MadeListSide
-pub mod MadeListClear
-pub mod MadeListRounding
 pub mod MadeListSizes
 pub mod MadeListPieces
 pub mod MadeListShape
 pub mod MadeList
-pub mod MadeListView
 pub mod MadeSidesAligned
 pub mod MadeSides
 pub mod MadeConditions
@@ -25,8 +22,6 @@ pub mod OwnBytes
 pub mod OwnSums
 pub mod OwnRoots
 pub mod OwnMerkle
-pub mod OwnSha1
-pub mod OwnCount
 pub mod OwnContents
 pub mod ProvedLaws
 pub mod WorkedTrees

@@ -1,41 +1,24 @@
 -- No condition holds of a made torrent.
-use Rattle.std.proofs.Common.{◌≡◌, ℕ, pos, Bool, true, false, true≢false, not, ◌&&◌, ◌||◌, List, map}
-use Rattle.std.proofs.Common.{get_or, find, is_some, None, refl, sym, ap, ◌∙◌, arith, [], ◌∷◌}
-use Rattle.std.specs.List.{All, list_any}
-use Rattle.std.proofs.lemmas.Bool.{and_from, and_right, cond-true, le-leb, not_from_true, or_from}
-use Rattle.std.proofs.lemmas.List.Elements.{All-map}
-use Rattle.std.proofs.lemmas.List.Folds.{list_any_none}
-use Rattle.tor_bencode.specs.Data.{Data, integer, dictionary}
-use Rattle.tor_merkle.proofs.ProvedLaws.{piece_length_bounds}
-use Rattle.tor_merkle.specs.Layer.{IsPieceLength}
-use Rattle.tor_spec.proofs.MadeFound.{layers_found}
+use Rattle.tor_spec.proofs.Names.{◌≡◌, ℕ, pos, Bool, true, false, true≢false, not, ◌&&◌, ◌||◌, List, map, get_or, find}
+use Rattle.tor_spec.proofs.Names.{is_some, None, refl, sym, ap, ◌∙◌, arith, [], ◌∷◌, All, list_any, and_from, and_right}
+use Rattle.tor_spec.proofs.Names.{cond-true, le-leb, not_from_true, or_from, All-map, list_any_none, Data, integer}
+use Rattle.tor_spec.proofs.Names.{dictionary, piece_length_bounds, IsPieceLength, when, Facts, File, AreMade}
+use Rattle.tor_spec.proofs.Names.{facts_of_files, piece_layers, Settings, Condition, conditions, holds, of_both}
+use Rattle.tor_spec.proofs.Names.{of_list, of_tree, refusal_of, Alignment, Duplicate, FileAndFolder, FileLength}
+use Rattle.tor_spec.proofs.Names.{FileShape, FilesDiffer, InfoShape, LayerAbsent, LayerLength, LayerRoot, LayersAbsent}
+use Rattle.tor_spec.proofs.Names.{LengthAndFiles, MetaVersion, MixedNode, Name, NoFiles, PieceLength, PiecesLength}
+use Rattle.tor_spec.proofs.Names.{RootHash, RootShape, Symlink, TooLarge, info_of, is_number, kind_of, piece_length_of}
+use Rattle.tor_spec.proofs.Names.{SidesAgree, alignment, files_differ, tree_files, is_dictionary, has_v1, has_v2, Kind}
+use Rattle.tor_spec.proofs.Names.{V1, V2, Hybrid, TreeFile}
+use Rattle.tor_spec.proofs.MadeView.{layers_found}
 use Rattle.tor_spec.proofs.MadeHeads.{IsInfo, IsRootWith, info_told, kind_told, piece_length_told, plain_file}
 use Rattle.tor_spec.proofs.MadeList.{ListIsValid}
 use Rattle.tor_spec.proofs.MadeLayers.{guarded, has_own_root, lacks_none, well_shaped}
 use Rattle.tor_spec.proofs.MadeTree.{TreeIsValid, made_tree, made_tree_files}
-use Rattle.tor_spec.specs.Dictionary.{when}
-use Rattle.tor_spec.specs.Facts.{Facts, File}
-use Rattle.tor_spec.specs.Made.{AreMade}
-use Rattle.tor_spec.specs.Metainfo.{facts_of_files}
-use Rattle.tor_spec.specs.PieceLayers.{piece_layers}
-use Rattle.tor_spec.specs.Settings.{Settings}
-use Rattle.tor_spec.specs.valid.Conditions.{Condition, conditions, holds, of_both, of_list, of_tree, refusal_of}
-use Rattle.tor_spec.specs.valid.Conditions.{Alignment, Duplicate, FileAndFolder, FileLength, FileShape, FilesDiffer}
-use Rattle.tor_spec.specs.valid.Conditions.{InfoShape, LayerAbsent, LayerLength, LayerRoot, LayersAbsent}
-use Rattle.tor_spec.specs.valid.Conditions.{LengthAndFiles, MetaVersion, MixedNode, Name, NoFiles, PieceLength}
-use Rattle.tor_spec.specs.valid.Conditions.{PiecesLength, RootHash, RootShape, Symlink, TooLarge}
 use Rattle.tor_spec.specs.valid.Heads as heads
 use Rattle.tor_spec.specs.valid.Layers as layers
 use Rattle.tor_spec.specs.valid.ListSide as lists
-use Rattle.tor_spec.specs.valid.Parts.{info_of, is_number, kind_of, piece_length_of}
-use Rattle.tor_spec.specs.valid.SidesAgree.{SidesAgree, alignment, files_differ}
 use Rattle.tor_spec.specs.valid.TreeSide as trees
-use Rattle.tor_spec.specs.valid.TreeSide.{tree_files}
-use Rattle.tor_tree.specs.FileTree.{is_dictionary}
-use Rattle.tor_tree.specs.Kinds.{has_v1, has_v2}
-use Rattle.tor_tree.specs.declared.kinds.Kind.{Kind}
-use Rattle.tor_tree.specs.declared.kinds.Kind.TheVariants.{V1, V2, Hybrid}
-use Rattle.tor_tree.specs.declared.tree_file.TreeFile.{TreeFile}
 
 find_none : {X : Type 0} (p : X → Bool) (xs : List X) → ((x : X) → p x ≡ false) → find p xs ≡ None
 find_none p [] none = refl

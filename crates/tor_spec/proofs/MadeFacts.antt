@@ -1,27 +1,13 @@
 -- What the facts of files that the maker accepts have: a torrent may be made of them, and their roots have 32 bytes.
-use Rattle.std.proofs.Common.{◌≡◌, ℕ, ◌+◌, ◌≤◌, Bool, true, false, true≢false, cond, List, [], ◌∷◌, length, map}
-use Rattle.std.proofs.Common.{nat_lt, Option, None, Some, IfSome, sum_by, refl, sym, ap, ◌∙◌, arith}
-use Rattle.std.specs.Int.{next_multiple_of}
-use Rattle.std.specs.List.{AllByRecursion, AllZip, list_any}
-use Rattle.std.specs.Option.{option_or}
-use Rattle.std.proofs.lemmas.Bool.{ltb-false, or_parts}
-use Rattle.std.proofs.lemmas.List.Elements.{All-map}
-use Rattle.std.proofs.lemmas.List.Sums.{sum_by-cons}
-use Rattle.tor_merkle.proofs.ProvedLaws.{root_has_32_bytes}
-use Rattle.tor_merkle.specs.Layer.{root_of}
+use Rattle.tor_spec.proofs.Names.{◌≡◌, ℕ, ◌+◌, ◌≤◌, Bool, true, false, true≢false, cond, List, [], ◌∷◌, length, map}
+use Rattle.tor_spec.proofs.Names.{nat_lt, Option, None, Some, IfSome, sum_by, refl, sym, ap, ◌∙◌, arith}
+use Rattle.tor_spec.proofs.Names.{next_multiple_of, AllByRecursion, AllZip, list_any, option_or, ltb-false, or_parts}
+use Rattle.tor_spec.proofs.Names.{All-map, sum_by-cons, root_has_32_bytes, root_of, Facts, File, listed, roots_in}
+use Rattle.tor_spec.proofs.Names.{total_size, AreMade, sizes_of, AreMakeable, facts_of_files, Settings}
+use Rattle.tor_spec.proofs.Names.{lists_have_names, IsFileList, lengths_fault, lengths_of, lengths_too_large}
+use Rattle.tor_spec.proofs.Names.{paths_fault, paths_of, HasItsRoot, plain_files, ListError, MAX_LENGTH, MAX_TOTAL}
+use Rattle.tor_spec.proofs.Names.{ROUNDING}
 use Rattle.tor_spec.proofs.MadeHeads.{plain_file}
-use Rattle.tor_spec.specs.Facts.{Facts, File, listed, roots_in}
-use Rattle.tor_spec.specs.InfoDictionary.{total_size}
-use Rattle.tor_spec.specs.Made.{AreMade, sizes_of}
-use Rattle.tor_spec.specs.Makeable.{AreMakeable}
-use Rattle.tor_spec.specs.Metainfo.{facts_of_files}
-use Rattle.tor_spec.specs.Settings.{Settings}
-use Rattle.tor_tree.proofs.ProvedLaws.{lists_have_names}
-use Rattle.tor_tree.specs.FileList.{IsFileList, lengths_fault, lengths_of, lengths_too_large, paths_fault, paths_of}
-use Rattle.tor_tree.specs.TidyTree.{HasItsRoot, plain_files}
-use Rattle.tor_tree.specs.declared.lists.ListError.{ListError}
-use Rattle.tor_merkle.specs.declared.TheConstants.{MAX_LENGTH}
-use Rattle.tor_tree.specs.declared.lists.TheConstants.{MAX_TOTAL, ROUNDING}
 
 pub listed_made : (p : ℕ) (files : List File) → listed (facts_of_files p files) ≡ sizes_of files
 listed_made p [] = refl

@@ -1,29 +1,12 @@
 -- What the keys of a torrent's dictionaries have as their values, and what a reader is told of them.
-use Rattle.std.proofs.Common.{◌≡◌, ℕ, pos, codes, Bool, true, false, cond, not, ◌&&◌, List, [], ◌∷◌, length, map}
-use Rattle.std.proofs.Common.{Option, None, Some, is_none, option_map, refl, ap, subst}
-use Rattle.std.specs.Str.{bytes_eq}
-use Rattle.std.proofs.lemmas.Slice.Eq.{bytes_eq-Decides}
-use Rattle.tor_bencode.proofs.ProvedLaws.{no_value_before_the_first_key}
-use Rattle.tor_bencode.specs.Data.{Data, integer, string, dictionary, keys_of}
-use Rattle.tor_bencode.specs.Find.{value_in, value_of}
-use Rattle.tor_bencode.specs.Lawful.{AreRising}
-use Rattle.tor_merkle.specs.Layer.{root_of}
+use Rattle.tor_spec.proofs.Names.{◌≡◌, ℕ, pos, codes, Bool, true, false, cond, not, ◌&&◌, List, [], ◌∷◌, length, map}
+use Rattle.tor_spec.proofs.Names.{Option, None, Some, is_none, option_map, refl, ap, subst, bytes_eq, bytes_eq-Decides}
+use Rattle.tor_spec.proofs.Names.{no_value_before_the_first_key, Data, integer, string, dictionary, keys_of, value_in}
+use Rattle.tor_spec.proofs.Names.{value_of, AreRising, root_of, present, when, Facts, File, listed, roots_in}
+use Rattle.tor_spec.proofs.Names.{files_list, info_dictionary, total_size, root_dictionary, piece_layers, Settings}
+use Rattle.tor_spec.proofs.Names.{layout_of, info_of, is_number, is_private, kind_of, name_of, piece_length_of}
+use Rattle.tor_spec.proofs.Names.{is_dictionary, has_v1, has_v2, file_tree, Kind, V1, V2, Hybrid, TreeFile, v1_entries}
 use Rattle.tor_spec.proofs.Fields.{keys_above, rising_rest}
-use Rattle.tor_spec.specs.Dictionary.{present, when}
-use Rattle.tor_spec.specs.Facts.{Facts, File, listed, roots_in}
-use Rattle.tor_spec.specs.FilesList.{files_list}
-use Rattle.tor_spec.specs.InfoDictionary.{info_dictionary, total_size}
-use Rattle.tor_spec.specs.Metainfo.{root_dictionary}
-use Rattle.tor_spec.specs.PieceLayers.{piece_layers}
-use Rattle.tor_spec.specs.Settings.{Settings, layout_of}
-use Rattle.tor_spec.specs.valid.Parts.{info_of, is_number, is_private, kind_of, name_of, piece_length_of}
-use Rattle.tor_tree.specs.FileTree.{is_dictionary}
-use Rattle.tor_tree.specs.Kinds.{has_v1, has_v2}
-use Rattle.tor_tree.specs.WrittenTree.{file_tree}
-use Rattle.tor_tree.specs.declared.kinds.Kind.{Kind}
-use Rattle.tor_tree.specs.declared.kinds.Kind.TheVariants.{V1, V2, Hybrid}
-use Rattle.tor_tree.specs.declared.tree_file.TreeFile.{TreeFile}
-use Rattle.tor_v1.specs.Entries.{v1_entries}
 
 -- what the file tree tells of a file
 abbrev pub plain_file : File → TreeFile

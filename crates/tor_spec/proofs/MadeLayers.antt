@@ -1,23 +1,14 @@
 -- The piece layers of a made torrent: no condition on them holds, and they tell each file's layer.
-use Rattle.std.proofs.Common.{◌≡◌, ◌<◌, ◌*◌, ◌/◌, ℕ, Bool, true, false, ◌&&◌, cond, List, [], ◌∷◌, length}
-use Rattle.std.proofs.Common.{nat_lt, Option, Some, is_none, unwrap_or, take, drop, refl, sym, ap, ◌∙◌, arith}
-use Rattle.std.proofs.Common.{length-append}
-use Rattle.std.specs.List.{AllByRecursion}
-use Rattle.std.specs.Simd.{first_chunks}
-use Rattle.std.proofs.Math.Seq.{take-append_seam, drop-append_seam}
-use Rattle.std.proofs.lemmas.Bool.{cond-true, eq-eqb, le-leb, ltb-false, ltb-true, not_from_true}
-use Rattle.std.proofs.lemmas.List.Elements.{recursion_from_All}
-use Rattle.std.proofs.lemmas.Slice.Eq.{bytes_eq-Decides}
-use Rattle.tor_bencode.specs.Data.{Data}
-use Rattle.tor_merkle.proofs.ProvedLaws.{count_of_piece_roots, layer_of_long_content, piece_roots_have_32_bytes}
-use Rattle.tor_merkle.proofs.ProvedLaws.{root_of_long_content}
-use Rattle.tor_merkle.specs.Layer.{IsPieceLength, piece_layer, piece_level, piece_roots, pieces_root, root_of}
-use Rattle.tor_merkle.specs.Stack.{padded_root}
+use Rattle.tor_spec.proofs.Names.{◌≡◌, ◌<◌, ◌*◌, ◌/◌, ℕ, Bool, true, false, ◌&&◌, cond, List, [], ◌∷◌, length, nat_lt}
+use Rattle.tor_spec.proofs.Names.{Option, Some, is_none, unwrap_or, take, drop, refl, sym, ap, ◌∙◌, arith}
+use Rattle.tor_spec.proofs.Names.{length-append, AllByRecursion, first_chunks, take-append_seam, drop-append_seam}
+use Rattle.tor_spec.proofs.Names.{cond-true, eq-eqb, le-leb, ltb-false, ltb-true, not_from_true, recursion_from_All}
+use Rattle.tor_spec.proofs.Names.{bytes_eq-Decides, Data, count_of_piece_roots, layer_of_long_content}
+use Rattle.tor_spec.proofs.Names.{piece_roots_have_32_bytes, root_of_long_content, IsPieceLength, piece_layer}
+use Rattle.tor_spec.proofs.Names.{piece_level, piece_roots, pieces_root, root_of, padded_root, File, joined}
+use Rattle.tor_spec.proofs.Names.{has_other_root, hashes_in, is_long, is_misshaped, lacks_layer, layer_of, layer_text}
+use Rattle.tor_spec.proofs.Names.{pieces_in}
 use Rattle.tor_spec.proofs.MadeHeads.{plain_file}
-use Rattle.tor_spec.specs.Facts.{File}
-use Rattle.tor_spec.specs.PieceLayers.{joined}
-use Rattle.tor_spec.specs.valid.Layers.{has_other_root, hashes_in, is_long, is_misshaped, lacks_layer, layer_of}
-use Rattle.tor_spec.specs.valid.Layers.{layer_text, pieces_in}
 
 abbrev AreHashes : List (List ℕ) → Type 0
 AreHashes hashes = AllByRecursion (λ hash. length hash ≡ 32) hashes

@@ -1,36 +1,20 @@
 -- No condition of the v1 side holds of a made torrent.
-use Rattle.std.proofs.Common.{◌≡◌, ℕ, pos, ◌==◌, Bool, true, false, true≢false, not, List, [], ◌∷◌, map, length, refl}
-use Rattle.std.proofs.Common.{ap, ap₂, ◌∙◌, codes, None, Some}
-use Rattle.std.proofs.lemmas.Bool.{eq-eqb, or_from}
-use Rattle.std.proofs.lemmas.List.Elements.{recursion_from_All}
-use Rattle.std.specs.Int.{div_ceil}
-use Rattle.std.specs.List.{AllByRecursion, list_any}
-use Rattle.tor_bencode.specs.Data.{Data, integer, string}
-use Rattle.tor_bencode.specs.Find.{value_of}
-use Rattle.tor_spec.specs.Dictionary.{when}
-use Rattle.tor_spec.specs.Facts.{File}
-use Rattle.tor_spec.specs.FilesList.{entry_dictionary, files_list}
-use Rattle.tor_spec.specs.Made.{AreMade, sizes_of}
-use Rattle.tor_spec.specs.Metainfo.{facts_of_files, pieces_of_files}
-use Rattle.tor_spec.specs.Settings.{Settings, layout_of}
-use Rattle.tor_spec.specs.valid.ListSide as lists
-use Rattle.tor_spec.specs.valid.ListSide.{ListedFile, described, is_no_entry, is_no_sums, joined_size, listed_paths}
-use Rattle.tor_spec.specs.valid.ListSide.{side_piece_count}
-use Rattle.tor_spec.specs.valid.Parts.{piece_length_of}
+use Rattle.tor_spec.proofs.Names.{◌≡◌, ℕ, pos, ◌==◌, Bool, true, false, true≢false, not, List, [], ◌∷◌, map, length}
+use Rattle.tor_spec.proofs.Names.{refl, ap, ap₂, ◌∙◌, codes, None, Some, eq-eqb, or_from, recursion_from_All, div_ceil}
+use Rattle.tor_spec.proofs.Names.{AllByRecursion, list_any, Data, integer, string, value_of, when, File}
+use Rattle.tor_spec.proofs.Names.{entry_dictionary, files_list, AreMade, sizes_of, facts_of_files, pieces_of_files}
+use Rattle.tor_spec.proofs.Names.{Settings, layout_of, ListedFile, described, is_no_entry, is_no_sums, joined_size}
+use Rattle.tor_spec.proofs.Names.{listed_paths, side_piece_count, piece_length_of, IsFileList, paths_nest, paths_of}
+use Rattle.tor_spec.proofs.Names.{paths_repeat, has_v1, IsFilePath, as_string, has_letter, has_negative_length}
+use Rattle.tor_spec.proofs.Names.{letter_l, file_entry, v1_entries, Entry, Layout}
 use Rattle.tor_spec.proofs.MadeHeads.{IsInfo, piece_length_told}
-use Rattle.tor_spec.proofs.MadeListClear.{is_clear, plain_paths, same_count}
+use Rattle.tor_spec.proofs.MadeListShape.{is_clear, plain_paths, same_count, HasPath, are_entries, no_link, no_negative}
+use Rattle.tor_spec.proofs.MadeListShape.{positive_entries}
 use Rattle.tor_spec.proofs.MadeListEntries.{each_entry, items_back}
 use Rattle.tor_spec.proofs.MadeListPieces.{made_pieces}
-use Rattle.tor_spec.proofs.MadeListShape.{HasPath, are_entries, no_link, no_negative, positive_entries}
 use Rattle.tor_spec.proofs.MadeListSide.{files_value, made_listed, made_side, no_files, size_value}
 use Rattle.tor_spec.proofs.MadeListSizes.{joined_entries, size_of_entries, small_side}
-use Rattle.tor_tree.specs.FileList.{IsFileList, paths_nest, paths_of, paths_repeat}
-use Rattle.tor_tree.specs.Kinds.{has_v1}
-use Rattle.tor_tree.specs.Path.{IsFilePath}
-use Rattle.tor_tree.specs.Properties.{as_string, has_letter, has_negative_length, letter_l}
-use Rattle.tor_v1.specs.Entries.{file_entry, v1_entries}
-use Rattle.tor_v1.specs.declared.entry.Entry.{Entry}
-use Rattle.tor_v1.specs.declared.layout.Layout.{Layout}
+use Rattle.tor_spec.specs.valid.ListSide as lists
 
 abbrev Files : Type 0
 Files = List (List (List ℕ) × ℕ)

@@ -1,19 +1,10 @@
 -- Entries read back from the dictionaries that the maker makes of them.
-use Rattle.std.proofs.Common.{◌≡◌, ℕ, Bool, true, false, List, [], ◌∷◌, ◌++◌, map, refl, ap, ap₂, ◌∙◌, codes}
-use Rattle.std.proofs.Common.{Option, None, Some, is_some, unwrap_or}
-use Rattle.std.specs.Prelude.{◌&&◌, nat_lt, if◌then◌else◌}
-use Rattle.std.specs.List.{AllByRecursion}
-use Rattle.tor_bencode.specs.Data.{Data, dictionary, no_pairs}
-use Rattle.tor_bencode.specs.Find.{value_of}
-use Rattle.tor_bencode.specs.View.{items_of}
-use Rattle.tor_spec.specs.FilesList.{entry_dictionary, files_list, strings}
-use Rattle.tor_spec.specs.valid.ListSide.{ListedFile, entry_file, names_of, side_files, single_file, without_padding}
-use Rattle.tor_spec.specs.valid.Parts.{items_in, items_of_list}
-use Rattle.tor_v1.specs.Entries.{aligned_entries, file_entry, has_bytes, pad_entry, padding_length}
-use Rattle.tor_v1.specs.Entries.{v1_entries}
-use Rattle.tor_v1.specs.declared.entry.Entry.{Entry}
-use Rattle.tor_v1.specs.declared.layout.Layout.{Layout}
-use Rattle.tor_v1.specs.declared.layout.Layout.TheVariants.{Joined, Aligned}
+use Rattle.tor_spec.proofs.Names.{◌≡◌, ℕ, Bool, true, false, List, [], ◌∷◌, ◌++◌, map, refl, ap, ap₂, ◌∙◌, codes}
+use Rattle.tor_spec.proofs.Names.{Option, None, Some, is_some, unwrap_or, ◌&&◌, nat_lt, if◌then◌else◌, AllByRecursion}
+use Rattle.tor_spec.proofs.Names.{Data, dictionary, no_pairs, value_of, items_of, entry_dictionary, files_list, strings}
+use Rattle.tor_spec.proofs.Names.{ListedFile, entry_file, names_of, side_files, single_file, without_padding, items_in}
+use Rattle.tor_spec.proofs.Names.{items_of_list, aligned_entries, file_entry, has_bytes, pad_entry, padding_length}
+use Rattle.tor_spec.proofs.Names.{v1_entries, Entry, Layout, Joined, Aligned}
 
 -- a file without letters
 abbrev pub plain : List (List ℕ) × ℕ → ListedFile

@@ -1,17 +1,10 @@
 -- The pieces of a made torrent are 20 bytes for each piece of its joined files.
-use Rattle.std.proofs.Common.{◌≡◌, ℕ, ◌*◌, List, [], ◌∷◌, map, length, refl, ap, ◌∙◌, sym}
-use Rattle.std.specs.Int.{div_ceil}
-use Rattle.tor_spec.specs.Facts.{File}
-use Rattle.tor_spec.specs.Made.{sizes_of}
-use Rattle.tor_spec.specs.Metainfo.{pieces_of_files}
-use Rattle.tor_spec.specs.Settings.{Settings, layout_of}
+use Rattle.tor_spec.proofs.Names.{◌≡◌, ℕ, ◌*◌, List, [], ◌∷◌, map, length, refl, ap, ◌∙◌, sym, div_ceil, File, sizes_of}
+use Rattle.tor_spec.proofs.Names.{pieces_of_files, Settings, layout_of, facts-v1_entries, length-joined_content}
+use Rattle.tor_spec.proofs.Names.{length-piece_sums, AreContentsOf, file_entries, joined_content, v1_pieces, v1_entries}
+use Rattle.tor_spec.proofs.Names.{Entry, Layout}
 use Rattle.tor_spec.proofs.MadeListSide.{listed_sizes}
 use Rattle.tor_spec.proofs.MadeListSizes.{size_of_entries}
-use Rattle.tor_v1.proofs.ProvedLaws.{facts-v1_entries, length-joined_content, length-piece_sums}
-use Rattle.tor_v1.specs.Content.{AreContentsOf, file_entries, joined_content, v1_pieces}
-use Rattle.tor_v1.specs.Entries.{v1_entries}
-use Rattle.tor_v1.specs.declared.entry.Entry.{Entry}
-use Rattle.tor_v1.specs.declared.layout.Layout.{Layout}
 
 abbrev pub contents_of : List File → List (List ℕ)
 contents_of files = map (λ file. file.content) files

@@ -1,17 +1,13 @@
--- The entries of a made torrent have the shape of entries, no negative length and no letter of a symbolic link.
-use Rattle.std.proofs.Common.{◌≡◌, ◌≢◌, ℕ, pos, Bool, true, false, not, List, [], ◌∷◌, map, refl, ap, ◌∙◌}
-use Rattle.std.proofs.Common.{int_lt, is_none, None, Some, arith}
-use Rattle.std.proofs.lemmas.Bool.{and_from, le-ltb, or_from}
-use Rattle.std.proofs.lemmas.List.Elements.{recursion_from_All}
-use Rattle.std.specs.List.{AllByRecursion, list_all, list_any}
-use Rattle.tor_bencode.specs.Data.{string}
-use Rattle.tor_spec.specs.FilesList.{entry_dictionary, strings}
-use Rattle.tor_spec.specs.valid.ListSide.{are_names, is_name, is_no_entry, is_path}
-use Rattle.tor_spec.proofs.MadeListEntries.{items_back}
-use Rattle.tor_tree.specs.Name.{name_fault}
-use Rattle.tor_tree.specs.Path.{IsFilePath}
-use Rattle.tor_tree.specs.Properties.{has_letter, has_negative_length, letter_l}
-use Rattle.tor_v1.specs.declared.entry.Entry.{Entry}
+-- The entries of a made torrent have the shape of entries, no negative length and no letter of a symbolic link; its v1
+-- side has no fault that the list of its files has not.
+use Rattle.tor_spec.proofs.Names.{◌≡◌, ◌≢◌, ℕ, pos, Bool, true, false, not, List, [], ◌∷◌, map, refl, ap, ◌∙◌, int_lt}
+use Rattle.tor_spec.proofs.Names.{is_none, None, Some, arith, and_from, le-ltb, or_from, recursion_from_All}
+use Rattle.tor_spec.proofs.Names.{AllByRecursion, list_all, list_any, string, entry_dictionary, strings, are_names}
+use Rattle.tor_spec.proofs.Names.{is_name, is_no_entry, is_path, name_fault, IsFilePath, has_letter}
+use Rattle.tor_spec.proofs.Names.{has_negative_length, letter_l, Entry, ◌==◌, cond, length, Option, option_or}
+use Rattle.tor_spec.proofs.Names.{ListedFile, lengths_fault, lengths_of, lengths_too_large, list_fault, paths_fault}
+use Rattle.tor_spec.proofs.Names.{paths_nest, paths_of, paths_repeat}
+use Rattle.tor_spec.proofs.MadeListEntries.{items_back, plain}
 
 all_names : (names : List (List ℕ)) → AllByRecursion (λ name. name_fault name ≡ None) names
     → list_all is_name (map string names) ≡ true
@@ -64,3 +60,44 @@ plain_entry false path n = refl
 pub no_link : (entries : List Entry) → list_any (has_letter letter_l) (map entry_dictionary entries) ≡ false
 no_link [] = refl
 no_link (entry ∷ entries) = or_from _ _ (plain_entry entry.pad entry.path entry.length) (no_link entries)
+
+abbrev Files : Type 0
+Files = List (List (List ℕ) × ℕ)
+
+-- a test that gives a fault is not passed where there is none
+clear : {E : Type 0} (test : Bool) (fault : E) (rest : Option E) → cond test (Some fault) rest ≡ None
+    → (test ≡ false) × (rest ≡ None)
+clear true fault rest h = cc
+clear false fault rest h = (refl, h)
+
+neither : {E : Type 0} (first second : Option E) → option_or first second ≡ None → (first ≡ None) × (second ≡ None)
+neither None second h = (refl, h)
+neither (Some fault) second h = cc
+
+-- none of the faults that a list of files can have
+pub record IsClear (files : Files) : Type 0 where
+  pub some : (length (paths_of files) == 0) ≡ false
+  pub once : paths_repeat (paths_of files) ≡ false
+  pub flat : paths_nest (paths_of files) ≡ false
+  pub small : lengths_too_large (lengths_of files) ≡ false
+
+pub is_clear : (files : Files) → list_fault files ≡ None → IsClear files
+is_clear files faultless =
+    let both = neither (paths_fault (paths_of files)) (lengths_fault (lengths_of files)) faultless in
+    let some = clear (length (paths_of files) == 0) _ _ both.0 in
+    let once = clear (paths_repeat (paths_of files)) _ _ some.1 in
+    let flat = clear (paths_nest (paths_of files)) _ _ once.1 in
+    let small = clear (lengths_too_large (lengths_of files)) _ _ both.1 in
+    record { some = some.0; once = once.0; flat = flat.0; small = small.0 }
+
+pub plain_paths : (files : Files) → map (λ (file : ListedFile). file.path) (map plain files) ≡ paths_of files
+plain_paths [] = refl
+plain_paths (file ∷ files) = ap (λ paths. file.0 ∷ paths) (plain_paths files)
+
+pub plain_lengths : (files : Files) → map (λ (file : ListedFile). file.size) (map plain files) ≡ lengths_of files
+plain_lengths [] = refl
+plain_lengths (file ∷ files) = ap (λ lengths. file.1 ∷ lengths) (plain_lengths files)
+
+pub same_count : (files : Files) → length (map plain files) ≡ length (paths_of files)
+same_count [] = refl
+same_count (file ∷ files) = omega (arith, same_count files)

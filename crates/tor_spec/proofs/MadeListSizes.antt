@@ -1,26 +1,56 @@
--- The lengths of the v1 side of a made torrent are not too large, one by one and together with the padding.
-use Rattle.std.proofs.Common.{◌≡◌, ℕ, ◌+◌, ◌<◌, ◌≤◌, Bool, true, false, cond, ◌&&◌, List, [], ◌∷◌, ◌++◌, map, sum_by}
-use Rattle.std.proofs.Common.{arith, refl, ap, ◌∙◌, sym}
-use Rattle.std.proofs.lemmas.Bool.{le-ltb, ltb-false, or_from, or_parts}
-use Rattle.std.proofs.lemmas.List.Elements.{recursion_from_All}
-use Rattle.std.proofs.lemmas.List.Sums.{sum_by-cons, sum_by-le-sum_by}
-use Rattle.std.specs.Int.{next_multiple_of}
-use Rattle.std.specs.List.{AllByRecursion, list_any}
-use Rattle.std.specs.Prelude.{nat_lt}
-use Rattle.tor_merkle.proofs.ProvedLaws.{piece_length_bounds}
-use Rattle.tor_merkle.specs.Layer.{IsPieceLength}
-use Rattle.tor_spec.specs.valid.ListSide.{ListedFile, joined_size, sizes_too_large}
-use Rattle.tor_spec.proofs.MadeListClear.{IsClear, plain_lengths}
+-- The lengths of the v1 side of a made torrent are not too large, one by one and together with the padding: a length
+-- rounded up to whole pieces is at most what it is rounded up to the greatest pieces.
+use Rattle.tor_spec.proofs.Names.{◌≡◌, ℕ, ◌+◌, ◌<◌, ◌≤◌, Bool, true, false, cond, ◌&&◌, List, [], ◌∷◌, ◌++◌, map}
+use Rattle.tor_spec.proofs.Names.{sum_by, arith, refl, ap, ◌∙◌, sym, le-ltb, ltb-false, or_from, or_parts}
+use Rattle.tor_spec.proofs.Names.{recursion_from_All, sum_by-cons, sum_by-le-sum_by, next_multiple_of, AllByRecursion}
+use Rattle.tor_spec.proofs.Names.{list_any, nat_lt, piece_length_bounds, IsPieceLength, ListedFile, joined_size}
+use Rattle.tor_spec.proofs.Names.{sizes_too_large, files_are_small, IsFileList, lengths_of, lengths_too_large}
+use Rattle.tor_spec.proofs.Names.{MAX_LENGTH, MAX_TOTAL, ROUNDING, aligned_entries, file_entry, has_bytes, pad_entry}
+use Rattle.tor_spec.proofs.Names.{padding_length, v1_entries, Entry, Layout, Joined, Aligned, ◌-◌, ◌*◌, ◌/◌, ◌%◌, inl}
+use Rattle.tor_spec.proofs.Names.{inr, lt_of_mul-lt-mul_right, mod-lt, mul-le-mul_right, mul_assoc, mod-add-div'}
+use Rattle.tor_spec.proofs.Names.{mod-eq_of_lt, mod_self, cases_eq, piece_lengths_divide_the_greatest}
+use Rattle.tor_spec.proofs.MadeListShape.{IsClear, plain_lengths}
 use Rattle.tor_spec.proofs.MadeListEntries.{each_entry, files_of_entries, listed_of}
-use Rattle.tor_spec.proofs.MadeListRounding.{rounded_within}
-use Rattle.tor_tree.proofs.ProvedLaws.{files_are_small}
-use Rattle.tor_tree.specs.FileList.{IsFileList, lengths_of, lengths_too_large}
-use Rattle.tor_merkle.specs.declared.TheConstants.{MAX_LENGTH}
-use Rattle.tor_tree.specs.declared.lists.TheConstants.{MAX_TOTAL, ROUNDING}
-use Rattle.tor_v1.specs.Entries.{aligned_entries, file_entry, has_bytes, pad_entry, padding_length, v1_entries}
-use Rattle.tor_v1.specs.declared.entry.Entry.{Entry}
-use Rattle.tor_v1.specs.declared.layout.Layout.{Layout}
-use Rattle.tor_v1.specs.declared.layout.Layout.TheVariants.{Joined, Aligned}
+
+-- so many pieces
+abbrev Whole : ℕ → ℕ → Type 0
+Whole n p = (q : ℕ) × (n ≡ q * p)
+
+-- ---- the next multiple
+
+abbrev IsNext : ℕ → ℕ → ℕ → Type 0
+IsNext n p next = Whole next p × (n ≤ next) × (next < n + p)
+
+next_is : (n p : ℕ) → 0 < p → IsNext n p (next_multiple_of n p)
+next_is n p some = elim (cases_eq (n % p) 0) [
+  | inl whole ↦
+      let all : p - 0 ≡ p = omega arith in
+      let lack : (p - n % p) % p ≡ 0 = ap (λ r. (p - r) % p) whole ∙ ap (λ r. r % p) all ∙ mod_self p in
+      ((n / p, omega (arith, lack, whole, mod-add-div' n p)), omega arith, omega (arith, lack))
+  | inr part ↦
+      let lack : (p - n % p) % p ≡ p - n % p = mod-eq_of_lt (omega (arith, part)) in
+      let rest : n % p < p = mod-lt n some in
+      ((n / p + 1, omega (arith, lack, rest, mod-add-div' n p)), omega arith, omega (arith, lack, part, rest))
+]
+
+fewer : (p n next other : ℕ) → IsNext n p next → Whole other p → n ≤ other → next ≤ other
+fewer p n next other is whole le =
+    let q = is.0.0 in
+    let r = whole.0 in
+    let less : q < r + 1 = lt_of_mul-lt-mul_right p (omega (arith, is.0.1, is.2, whole.1, le)) in
+    let times : q * p ≤ r * p = mul-le-mul_right p (omega (arith, less)) in
+    omega (arith, times, is.0.1, whole.1)
+
+pub rounded_within : (p : ℕ) → IsPieceLength p → (n : ℕ) → next_multiple_of n p ≤ next_multiple_of n ROUNDING
+rounded_within p allowed n =
+    let bounds = (piece_length_bounds p).0 allowed in
+    let some : 0 < p = omega (arith, bounds.1) in
+    let by : Whole ROUNDING p = piece_lengths_divide_the_greatest p allowed in
+    let upper = next_is n ROUNDING (omega arith) in
+    let whole : next_multiple_of n ROUNDING ≡ upper.0.0 * by.0 * p =
+    upper.0.1 ∙ ap (λ m. upper.0.0 * m) by.1 ∙ sym (mul_assoc upper.0.0 by.0 p) in
+    fewer p n (next_multiple_of n p) (next_multiple_of n ROUNDING) (next_is n p some) (upper.0.0 * by.0, whole)
+    upper.1
 
 -- ---- the sum of all lengths
 

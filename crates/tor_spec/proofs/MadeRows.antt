@@ -1,18 +1,8 @@
 -- The premise of the law on made torrents holds of worked settings and files.
-use Rattle.std.proofs.Common.{◌≡◌, ℕ, ◌<◌, ◌≤◌, Bool, true, false, List, [], ◌∷◌, length, None, refl}
-use Rattle.std.proofs.Common.{codes, arith}
-use Rattle.std.specs.List.{AllByRecursion, Contains}
-use Rattle.std.specs.List.Sorted.{IsStrictlySortedBy}
-use Rattle.std.specs.Str.{is_utf8, chars}
-use Rattle.std.proofs.lemmas.List.Elements.{All-contains, All-from_recursion}
-use lib.Utf8.{encode}
-use lib.Count.{ones}
-use Rattle.tor_spec.specs.Facts.{File}
-use Rattle.tor_spec.specs.Made.{AreMade, sizes_of}
-use Rattle.tor_spec.specs.Settings.{Settings}
-use Rattle.tor_tree.specs.Name.{name_fault}
-use Rattle.tor_tree.specs.Path.{IsFilePath}
-use Rattle.tor_tree.specs.declared.kinds.Kind.{Kind}
+use Rattle.tor_spec.proofs.Names.{◌≡◌, ℕ, ◌<◌, ◌≤◌, Bool, true, false, List, [], ◌∷◌, length, None, refl, codes, arith}
+use Rattle.tor_spec.proofs.Names.{AllByRecursion, Contains, IsStrictlySortedBy, is_utf8, chars, All-contains}
+use Rattle.tor_spec.proofs.Names.{All-from_recursion, encode, ones, File, AreMade, sizes_of, Settings, name_fault}
+use Rattle.tor_spec.proofs.Names.{IsFilePath, Kind}
 
 -- the torrent named a, of pieces of 16,384 bytes
 abbrev settings_of : Kind → Bool → Settings

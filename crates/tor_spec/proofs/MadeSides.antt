@@ -1,29 +1,15 @@
 -- The sides of a made hybrid agree.
-use Rattle.std.proofs.Common.{◌≡◌, ℕ, ◌==◌, Bool, true, false, not, ◌&&◌, ◌||◌, List, [], ◌∷◌, map, length, arith, refl}
-use Rattle.std.proofs.Common.{ap, ap₂, ◌∙◌, Option}
-use Rattle.std.proofs.lemmas.Bool.{and_from, and_right, eq-eqb, or_from}
-use Rattle.std.proofs.lemmas.Cmp.{lists_equiv, nat_list_eq_equiv}
-use Rattle.std.specs.Prelude.{nat_lt, if◌then◌else◌}
-use Rattle.tor_bencode.specs.Data.{Data}
-use Rattle.tor_spec.specs.Facts.{File}
-use Rattle.tor_spec.specs.Made.{AreMade, sizes_of}
-use Rattle.tor_spec.specs.Metainfo.{facts_of_files}
-use Rattle.tor_spec.specs.Settings.{Settings, is_aligned, layout_of}
-use Rattle.tor_spec.specs.valid.ListSide.{ListedFile}
-use Rattle.tor_spec.specs.valid.SidesAgree.{SidesAgree, alignment, files_differ, has_wrong_tail, is_misaligned_after}
-use Rattle.tor_spec.specs.valid.SidesAgree.{last_size, listed_by_list, listed_by_tree, same_files}
-use Rattle.tor_spec.specs.valid.TreeSide.{tree_files}
+use Rattle.tor_spec.proofs.Names.{◌≡◌, ℕ, ◌==◌, Bool, true, false, not, ◌&&◌, ◌||◌, List, [], ◌∷◌, map, length, arith}
+use Rattle.tor_spec.proofs.Names.{refl, ap, ap₂, ◌∙◌, Option, and_from, and_right, eq-eqb, or_from, lists_equiv}
+use Rattle.tor_spec.proofs.Names.{nat_list_eq_equiv, nat_lt, if◌then◌else◌, Data, File, AreMade, sizes_of}
+use Rattle.tor_spec.proofs.Names.{facts_of_files, Settings, is_aligned, layout_of, ListedFile, SidesAgree, alignment}
+use Rattle.tor_spec.proofs.Names.{files_differ, has_wrong_tail, is_misaligned_after, last_size, listed_by_list}
+use Rattle.tor_spec.proofs.Names.{listed_by_tree, same_files, tree_files, has_v1, path_eq, plain_files, Hybrid}
+use Rattle.tor_spec.proofs.Names.{TreeFile, padding_length, v1_entries, Joined, Aligned}
 use Rattle.tor_spec.proofs.MadeHeads.{IsInfo, piece_length_told, plain_file}
 use Rattle.tor_spec.proofs.MadeListEntries.{listed_of, plain}
 use Rattle.tor_spec.proofs.MadeListSide.{layout_of_one, made_listed, made_side}
 use Rattle.tor_spec.proofs.MadeSidesAligned.{all_aligned, right_tail, size_of_last}
-use Rattle.tor_tree.specs.Kinds.{has_v1}
-use Rattle.tor_tree.specs.Path.{path_eq}
-use Rattle.tor_tree.specs.TidyTree.{plain_files}
-use Rattle.tor_tree.specs.declared.kinds.Kind.TheVariants.{Hybrid}
-use Rattle.tor_tree.specs.declared.tree_file.TreeFile.{TreeFile}
-use Rattle.tor_v1.specs.Entries.{padding_length, v1_entries}
-use Rattle.tor_v1.specs.declared.layout.Layout.TheVariants.{Joined, Aligned}
 
 abbrev Files : Type 0
 Files = List (List (List ℕ) × ℕ)

@@ -1,19 +1,12 @@
 -- The files of aligned entries begin where they are to, and no padding comes after the last that is filled.
-use Rattle.std.proofs.Common.{◌≡◌, ℕ, zero, suc, ◌+◌, ◌-◌, ◌%◌, ◌≤◌, ◌==◌, Bool, true, false, not, cond, ◌&&◌, ◌||◌}
-use Rattle.std.proofs.Common.{List, [], ◌∷◌, ◌++◌, map, filter, sum_by, arith, refl, ap, ◌∙◌, sym, inl, inr, zero-add}
-use mathlib.Core.List.{reverse_aux}
-use Rattle.std.proofs.Math.Nat.{mod_self, zero-mod}
-use Rattle.std.proofs.lemmas.Bool.{and_parts, cond-true, eq-eqb, false≢true, lt-ltb, ltb-false, or_cases, or_from}
-use Rattle.std.proofs.lemmas.Bool.{or_left, or_right}
-use Rattle.std.proofs.lemmas.List.Elements.{filter-append}
-use Rattle.std.proofs.lemmas.List.Sums.{sum_by-append, sum_by_push}
-use Rattle.std.specs.Int.{next_multiple_of}
-use Rattle.std.specs.Prelude.{nat_lt}
-use Rattle.tor_spec.specs.valid.ListSide.{ListedFile, joined_size}
-use Rattle.tor_spec.specs.valid.SidesAgree.{aligned_after, has_wrong_tail, is_filled, is_misaligned_after, last_size}
-use Rattle.tor_spec.specs.valid.SidesAgree.{size_before}
+use Rattle.tor_spec.proofs.Names.{◌≡◌, ℕ, zero, suc, ◌+◌, ◌-◌, ◌%◌, ◌≤◌, ◌==◌, Bool, true, false, not, cond, ◌&&◌, ◌||◌}
+use Rattle.tor_spec.proofs.Names.{List, [], ◌∷◌, ◌++◌, map, filter, sum_by, arith, refl, ap, ◌∙◌, sym, inl, inr}
+use Rattle.tor_spec.proofs.Names.{zero-add, reverse_aux, mod_self, zero-mod, and_parts, cond-true, eq-eqb, false≢true}
+use Rattle.tor_spec.proofs.Names.{lt-ltb, ltb-false, or_cases, or_from, or_left, or_right, filter-append, sum_by-append}
+use Rattle.tor_spec.proofs.Names.{sum_by_push, next_multiple_of, nat_lt, ListedFile, joined_size, aligned_after}
+use Rattle.tor_spec.proofs.Names.{has_wrong_tail, is_filled, is_misaligned_after, last_size, size_before}
+use Rattle.tor_spec.proofs.Names.{aligned_entries, has_bytes, pad_entry, padding_length}
 use Rattle.tor_spec.proofs.MadeListEntries.{listed_of, plain}
-use Rattle.tor_v1.specs.Entries.{aligned_entries, has_bytes, pad_entry, padding_length}
 
 abbrev Files : Type 0
 Files = List (List (List ℕ) × ℕ)

@@ -1,22 +1,15 @@
 -- What the maker's definition gives of files that it accepts is a valid torrent, which tells of those files.
-use Rattle.std.proofs.Common.{List, refl, ap}
+use Rattle.tor_spec.proofs.Names.{List, refl, ap, File, info_dictionary, AreMade, IsViewOfMade, facts_of_files}
+use Rattle.tor_spec.proofs.Names.{metainfo, pieces_of_files, root_dictionary, Settings, IsTorrentOf, view_of, has_v2}
 use Rattle.tor_spec.proofs.LawfulTorrents.{torrents_are_lawful}
 use Rattle.tor_spec.proofs.MadeConditions.{made_is_accepted}
 use Rattle.tor_spec.proofs.MadeFacts.{made_is_makeable}
 use Rattle.tor_spec.proofs.MadeHeads.{info_values, root_values}
 use Rattle.tor_spec.proofs.MadeList.{made_list}
-use Rattle.tor_spec.proofs.MadeListView.{entries_shown, listed_shown}
+use Rattle.tor_spec.proofs.MadeListSide.{entries_shown, listed_shown}
 use Rattle.tor_spec.proofs.MadeSides.{made_sides_of_tree}
 use Rattle.tor_spec.proofs.MadeTree.{made_tree_files}
 use Rattle.tor_spec.proofs.MadeView.{made_view}
-use Rattle.tor_spec.specs.Facts.{File}
-use Rattle.tor_spec.specs.InfoDictionary.{info_dictionary}
-use Rattle.tor_spec.specs.Made.{AreMade, IsViewOfMade}
-use Rattle.tor_spec.specs.Metainfo.{facts_of_files, metainfo, pieces_of_files, root_dictionary}
-use Rattle.tor_spec.specs.Settings.{Settings}
-use Rattle.tor_spec.specs.valid.Conditions.{IsTorrentOf}
-use Rattle.tor_spec.specs.valid.View.{view_of}
-use Rattle.tor_tree.specs.Kinds.{has_v2}
 
 pub made_torrents_are_valid : (settings : Settings) (files : List File) → AreMade settings files
     → IsTorrentOf

@@ -1,26 +1,13 @@
 -- The file tree of a made torrent: no condition of the v2 side holds, and it tells the files.
-use Rattle.std.proofs.Common.{◌≡◌, ◌==◌, ℕ, Bool, true, false, not, cond, List, length, map, Option, None, Some}
-use Rattle.std.proofs.Common.{refl, ap, ◌∙◌}
-use Rattle.std.specs.List.{list_any}
-use Rattle.std.proofs.lemmas.List.Elements.{All-from_recursion}
-use Rattle.std.proofs.lemmas.Bool.{cond-true}
-use Rattle.tor_bencode.specs.Data.{Data}
-use Rattle.tor_bencode.specs.Find.{value_of}
+use Rattle.tor_spec.proofs.Names.{◌≡◌, ◌==◌, ℕ, Bool, true, false, not, cond, List, length, map, Option, None, Some}
+use Rattle.tor_spec.proofs.Names.{refl, ap, ◌∙◌, list_any, All-from_recursion, cond-true, Data, value_of, Facts, File}
+use Rattle.tor_spec.proofs.Names.{listed, roots_in, AreMade, facts_of_files, Settings, tree_files, tree_length}
+use Rattle.tor_spec.proofs.Names.{tree_mixed, tree_no_files, tree_of, tree_root, tree_shape, tree_symlink}
+use Rattle.tor_spec.proofs.Names.{tree_too_large, file_tree_of_list, tree_of_list_is_readable, lengths_too_large}
+use Rattle.tor_spec.proofs.Names.{files_of_tree, is_folder, lacks_root, properties_in, tree_fault, tree_mixes, has_v2}
+use Rattle.tor_spec.proofs.Names.{has_letter, has_negative_length, length_of, letter_l, file_tree, codes}
 use Rattle.tor_spec.proofs.MadeFacts.{Is32Bytes, hashed_roots, listed_made, made_is_makeable, plain_made, roots_made}
 use Rattle.tor_spec.proofs.MadeHeads.{IsInfo, plain_file}
-use Rattle.tor_spec.specs.Facts.{Facts, File, listed, roots_in}
-use Rattle.tor_spec.specs.Made.{AreMade}
-use Rattle.tor_spec.specs.Metainfo.{facts_of_files}
-use Rattle.tor_spec.specs.Settings.{Settings}
-use Rattle.tor_spec.specs.valid.TreeSide.{tree_files, tree_length, tree_mixed, tree_no_files, tree_of, tree_root}
-use Rattle.tor_spec.specs.valid.TreeSide.{tree_shape, tree_symlink, tree_too_large}
-use Rattle.tor_tree.proofs.ProvedLaws.{file_tree_of_list, tree_of_list_is_readable}
-use Rattle.tor_tree.specs.FileList.{lengths_too_large}
-use Rattle.tor_tree.specs.FileTree.{files_of_tree, is_folder, lacks_root, properties_in, tree_fault, tree_mixes}
-use Rattle.tor_tree.specs.Kinds.{has_v2}
-use Rattle.tor_tree.specs.Properties.{has_letter, has_negative_length, length_of, letter_l}
-use Rattle.tor_tree.specs.WrittenTree.{file_tree}
-use Rattle.std.proofs.Common.{codes}
 
 -- no condition of the v2 side holds
 pub record TreeIsValid (info : Data) : Type 0 where

@@ -1,29 +1,38 @@
--- What a made torrent tells.
-use Rattle.std.proofs.Common.{◌≡◌, ℕ, codes, Bool, true, false, cond, List, [], ◌∷◌, map, get_or, None}
-use Rattle.std.proofs.Common.{Some, refl, ap, ap₂, ◌∙◌}
-use Rattle.std.specs.List.{AllByRecursion}
-use Rattle.std.proofs.lemmas.Bool.{cond-false, cond-true}
-use Rattle.std.proofs.lemmas.List.Elements.{recursion_from_All}
-use Rattle.tor_bencode.specs.Data.{Data, string, dictionary}
-use Rattle.tor_bencode.specs.Find.{value_of}
-use Rattle.tor_spec.proofs.MadeFound.{layers_found}
+-- What a made torrent tells; a long file of it finds its layer under its root.
+use Rattle.tor_spec.proofs.Names.{◌≡◌, ℕ, codes, Bool, true, false, cond, List, [], ◌∷◌, map, get_or, None, Some, refl}
+use Rattle.tor_spec.proofs.Names.{ap, ap₂, ◌∙◌, AllByRecursion, cond-false, cond-true, recursion_from_All, Data, string}
+use Rattle.tor_spec.proofs.Names.{dictionary, value_of, piece_layer, Facts, File, AreMade, IsViewOfMade, made_file}
+use Rattle.tor_spec.proofs.Names.{sizes_of, facts_of_files, pieces_of_files, piece_layers, Settings, layout_of, is_long}
+use Rattle.tor_spec.proofs.Names.{layer_of, layers_of, listed_files, side_files, info_of, is_private, kind_of, name_of}
+use Rattle.tor_spec.proofs.Names.{part, piece_length_of, text_of, tree_files, FileView, entry_of_file, file_of_list}
+use Rattle.tor_spec.proofs.Names.{file_of_tree, files_of, view_of, has_v1, has_v2, v1_entries, ◌<◌, length, unwrap_or}
+use Rattle.tor_spec.proofs.Names.{arith, All, Contains-get_or, root_of, joined, layer_text, as_string}
 use Rattle.tor_spec.proofs.MadeHeads.{IsInfo, IsRootWith, info_told, kind_told, name_told, piece_length_told}
 use Rattle.tor_spec.proofs.MadeHeads.{plain_file, private_told}
 use Rattle.tor_spec.proofs.MadeLayers.{layer_shown}
 use Rattle.tor_spec.proofs.MadeTree.{made_tree_files}
-use Rattle.tor_merkle.specs.Layer.{piece_layer}
-use Rattle.tor_spec.specs.Facts.{Facts, File}
-use Rattle.tor_spec.specs.Made.{AreMade, IsViewOfMade, made_file, sizes_of}
-use Rattle.tor_spec.specs.Metainfo.{facts_of_files, pieces_of_files}
-use Rattle.tor_spec.specs.PieceLayers.{piece_layers}
-use Rattle.tor_spec.specs.Settings.{Settings, layout_of}
-use Rattle.tor_spec.specs.valid.Layers.{is_long, layer_of, layers_of}
-use Rattle.tor_spec.specs.valid.ListSide.{listed_files, side_files}
-use Rattle.tor_spec.specs.valid.Parts.{info_of, is_private, kind_of, name_of, part, piece_length_of, text_of}
-use Rattle.tor_spec.specs.valid.TreeSide.{tree_files}
-use Rattle.tor_spec.specs.valid.View.{FileView, entry_of_file, file_of_list, file_of_tree, files_of, view_of}
-use Rattle.tor_tree.specs.Kinds.{has_v1, has_v2}
-use Rattle.tor_v1.specs.Entries.{v1_entries}
+use Rattle.tor_spec.proofs.PutPairs.{AgreesAt, key_of, layer_at, text_of as layer_of_file}
+
+same_root : (one other : List ℕ) → 0 < length one → 0 < length other
+    → unwrap_or (root_of one) [] ≡ unwrap_or (root_of other) [] → root_of one ≡ root_of other
+same_root [] other some more e = absurd (omega arith)
+same_root (byte ∷ bytes) [] some more e = absurd (omega arith)
+same_root (byte ∷ bytes) (b ∷ bs) some more e = ap Some e
+
+pub layers_found : (settings : Settings) (files : List File) → AreMade settings files → All (λ file.
+    settings.piece_length < length file.content → layer_text
+    (dictionary (piece_layers settings.piece_length (facts_of_files settings.piece_length files))) (plain_file file)
+    ≡ Some (joined (piece_layer file.content settings.piece_length))) files
+layers_found settings files made k d lt long =
+    let p = settings.piece_length in
+    let one = get_or files k d in
+    let agree : AllByRecursion (AgreesAt p (key_of one) (layer_of_file p one)) files =
+    recursion_from_All (AgreesAt p (key_of one) (layer_of_file p one)) files
+    (λ j e within. λ large same.
+    let other = get_or files j e in
+    ap joined (made.layers other one (Contains-get_or files j e within) (Contains-get_or files k d lt) large long
+    (same_root other.content one.content (omega (arith, large)) (omega (arith, long)) same))) in
+    ap as_string (layer_at p (key_of one) (layer_of_file p one) d files k agree lt long refl)
 
 map_same : {X Y Z : Type 0} (f : Y → Z) (g : X → Y) (h : X → Z) (xs : List X)
     → AllByRecursion (λ x. f (g x) ≡ h x) xs → map f (map g xs) ≡ map h xs

@@ -1,13 +1,8 @@
 -- The bytes of files in their own contents: all are there, and a run of them is the run of the content.
-use Rattle.std.proofs.Common.{◌≡◌, ℕ, zero, suc, ◌-◌, ◌*◌, Bool, true, false, not, cond, List, [], ◌∷◌, ◌++◌, map}
-use Rattle.std.proofs.Common.{length, take, drop, replicate, slice_index_or, Option, None, Some, arith, refl}
-use Rattle.std.proofs.Common.{ap, ap₂, ◌∙◌, take_all, append-nil}
-use Rattle.std.proofs.lemmas.List.{drop-map}
-use Rattle.tor_merkle.specs.Block.{run_at}
-use Rattle.tor_spec.specs.Present.{bytes_in, file_bytes, is_whole, joined_bytes}
-use Rattle.tor_v1.specs.Content.{AreContentsOf, file_entries, joined_content}
-use Rattle.tor_v1.specs.Piece.{zeros}
-use Rattle.tor_v1.specs.declared.entry.Entry.{Entry}
+use Rattle.tor_spec.proofs.Names.{◌≡◌, ℕ, zero, suc, ◌-◌, ◌*◌, Bool, true, false, not, cond, List, [], ◌∷◌, ◌++◌, map}
+use Rattle.tor_spec.proofs.Names.{length, take, drop, replicate, slice_index_or, Option, None, Some, arith, refl, ap}
+use Rattle.tor_spec.proofs.Names.{ap₂, ◌∙◌, take_all, append-nil, drop-map, run_at, bytes_in, file_bytes, is_whole}
+use Rattle.tor_spec.proofs.Names.{joined_bytes, AreContentsOf, file_entries, joined_content, zeros, Entry}
 
 -- bytes that are there
 abbrev pub there : List ℕ → List (Option ℕ)

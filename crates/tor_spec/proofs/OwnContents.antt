@@ -1,30 +1,15 @@
 -- The contents of which a torrent was made verify every piece of it.
-use Rattle.std.proofs.Common.{◌≡◌, ℕ, ◌<◌, Bool, true, false, not, ◌||◌, List, [], length, map, replicate, arith}
-use Rattle.std.proofs.Common.{refl, ap, ap₂, ◌∙◌, sym}
-use Rattle.std.proofs.lemmas.Bool.{and_from, cond-true}
-use Rattle.std.proofs.lemmas.List.{length-replicate}
-use Rattle.std.proofs.lemmas.List.Elements.{All-replicate}
-use Rattle.std.proofs.lemmas.List.FromFn.{fill_by_all}
-use Rattle.std.specs.List.{range_with_len}
-use Rattle.std.specs.Prelude.{slice_index_or}
-use Rattle.tor_merkle.proofs.ProvedLaws.{piece_length_bounds}
+use Rattle.tor_spec.proofs.Names.{◌≡◌, ℕ, ◌<◌, Bool, true, false, not, ◌||◌, List, [], length, map, replicate, arith}
+use Rattle.tor_spec.proofs.Names.{refl, ap, ap₂, ◌∙◌, sym, and_from, cond-true, length-replicate, All-replicate}
+use Rattle.tor_spec.proofs.Names.{fill_by_all, range_with_len, slice_index_or, piece_length_bounds, File, AreMade}
+use Rattle.tor_spec.proofs.Names.{IsViewOfMade, sizes_of, facts_of_files, pieces_of_files, root_dictionary, Settings}
+use Rattle.tor_spec.proofs.Names.{layout_of, is_sha1_piece, is_verified, merkle_pieces, verified_pieces, View, view_of}
+use Rattle.tor_spec.proofs.Names.{has_v1, has_v2, v1_pieces, v1_entries, Entry}
 use Rattle.tor_spec.proofs.MadeListPieces.{contents_fit, contents_of}
-use Rattle.tor_spec.proofs.MadeListSide.{listed_sizes}
-use Rattle.tor_spec.proofs.MadeListView.{viewed}
+use Rattle.tor_spec.proofs.MadeListSide.{listed_sizes, viewed}
 use Rattle.tor_spec.proofs.MadeTorrents.{made_torrents_are_told}
-use Rattle.tor_spec.proofs.OwnCount.{count_shown}
-use Rattle.tor_spec.proofs.OwnMerkle.{own_merkle_pieces, told_file}
-use Rattle.tor_spec.proofs.OwnSha1.{own_sha1_piece}
-use Rattle.tor_spec.specs.Facts.{File}
-use Rattle.tor_spec.specs.Made.{AreMade, IsViewOfMade, sizes_of}
-use Rattle.tor_spec.specs.Metainfo.{facts_of_files, pieces_of_files, root_dictionary}
-use Rattle.tor_spec.specs.Settings.{Settings, layout_of}
-use Rattle.tor_spec.specs.Verified.{is_sha1_piece, is_verified, merkle_pieces, verified_pieces}
-use Rattle.tor_spec.specs.valid.View.{View, view_of}
-use Rattle.tor_tree.specs.Kinds.{has_v1, has_v2}
-use Rattle.tor_v1.specs.Content.{v1_pieces}
-use Rattle.tor_v1.specs.Entries.{v1_entries}
-use Rattle.tor_v1.specs.declared.entry.Entry.{Entry}
+use Rattle.tor_spec.proofs.OwnRoots.{count_shown}
+use Rattle.tor_spec.proofs.OwnMerkle.{own_merkle_pieces, told_file, own_sha1_piece}
 
 where_it_is : (b c : Bool) → (b ≡ true → c ≡ true) → (not b || c) ≡ true
 where_it_is true c so = so refl

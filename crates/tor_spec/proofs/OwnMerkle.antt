@@ -1,26 +1,19 @@
--- The pieces of a v2 side in the torrent's own contents: each has its Merkle hash.
-use Rattle.std.proofs.Common.{◌≡◌, ℕ, ◌+◌, ◌*◌, ◌<◌, ◌≤◌, Bool, true, false, List, [], ◌∷◌, length, map}
-use Rattle.std.proofs.Common.{take, drop, get_or, unwrap_or, arith, refl, ap, ◌∙◌, sym, inl, inr, take_all}
-use Rattle.std.proofs.Common.{lt_of_mul-lt-mul_right, mul-le-mul_right, zero-add}
-use Rattle.std.proofs.lemmas.Bool.{and_from, cases_lt, cond-false, cond-true, le-ltb, lt-ltb}
-use Rattle.std.proofs.lemmas.Grind.{div_ceil_times}
-use Rattle.std.proofs.lemmas.List.Elements.{All-append, All-from_get_or, All-nil}
-use Rattle.std.proofs.lemmas.List.FromFn.{get_or-map-range_with_len, length-map-range_with_len}
-use Rattle.std.proofs.lemmas.Slice.Eq.{bytes_eq-Decides}
-use Rattle.std.specs.Int.{div_ceil}
-use Rattle.std.specs.List.{range_with_len}
-use Rattle.std.specs.Prelude.{All, nat_lt}
-use Rattle.std.specs.Str.{bytes_eq}
-use Rattle.tor_merkle.proofs.ProvedLaws.{layer_of_long_content, piece_length_bounds}
-use Rattle.tor_merkle.specs.Block.{run_at}
-use Rattle.tor_merkle.specs.Layer.{IsPieceLength, piece_layer, pieces_root, root_of}
+-- The pieces in the torrent's own contents: those of a v2 side have their Merkle hashes, those of a v1 side their
+-- SHA-1.
+use Rattle.tor_spec.proofs.Names.{◌≡◌, ℕ, ◌+◌, ◌*◌, ◌<◌, ◌≤◌, Bool, true, false, List, [], ◌∷◌, length, map, take, drop}
+use Rattle.tor_spec.proofs.Names.{get_or, unwrap_or, arith, refl, ap, ◌∙◌, sym, inl, inr, take_all}
+use Rattle.tor_spec.proofs.Names.{lt_of_mul-lt-mul_right, mul-le-mul_right, zero-add, and_from, cases_lt, cond-false}
+use Rattle.tor_spec.proofs.Names.{cond-true, le-ltb, lt-ltb, div_ceil_times, All-append, All-from_get_or, All-nil}
+use Rattle.tor_spec.proofs.Names.{get_or-map-range_with_len, length-map-range_with_len, bytes_eq-Decides, div_ceil}
+use Rattle.tor_spec.proofs.Names.{range_with_len, All, nat_lt, bytes_eq, layer_of_long_content, piece_length_bounds}
+use Rattle.tor_spec.proofs.Names.{run_at, IsPieceLength, piece_layer, pieces_root, root_of, File, bytes_in, file_bytes}
+use Rattle.tor_spec.proofs.Names.{is_whole, file_pieces, is_merkle_piece, merkle_hash, merkle_pieces, told_hash}
+use Rattle.tor_spec.proofs.Names.{FileView, joined_bytes, is_sha1_piece, View, AreContentsOf, joined_content, v1_pieces}
+use Rattle.tor_spec.proofs.Names.{piece_sums}
 use Rattle.tor_spec.proofs.MadeListPieces.{contents_of}
-use Rattle.tor_spec.proofs.OwnBytes.{bytes_there, file_there, run_there, there, whole_there}
+use Rattle.tor_spec.proofs.OwnBytes.{bytes_there, file_there, run_there, there, whole_there, joined_there}
 use Rattle.tor_spec.proofs.OwnRoots.{root_of_piece}
-use Rattle.tor_spec.specs.Facts.{File}
-use Rattle.tor_spec.specs.Present.{bytes_in, file_bytes, is_whole}
-use Rattle.tor_spec.specs.Verified.{file_pieces, is_merkle_piece, merkle_hash, merkle_pieces, told_hash}
-use Rattle.tor_spec.specs.valid.View.{FileView}
+use Rattle.tor_spec.proofs.OwnSums.{sum_of_piece}
 
 pub same_bytes : (xs ys : List ℕ) → xs ≡ ys → bytes_eq xs ys ≡ true
 same_bytes xs ys e = (bytes_eq-Decides xs ys).1 e
@@ -108,3 +101,19 @@ own_merkle_pieces p allowed (file ∷ files) =
     All-append (λ bit. bit ≡ true) (file_pieces p (told_file p file) file.content)
     (merkle_pieces p (map (told_file p) files) (contents_of files))
     (own_file p allowed file) (own_merkle_pieces p allowed files)
+
+pub own_sha1_piece : (view : View) (contents : List (List ℕ)) → 0 < view.piece_length
+    → AreContentsOf view.entries contents → view.pieces ≡ v1_pieces view.piece_length view.entries contents
+    → (i : ℕ) → is_sha1_piece view contents i ≡ true
+unfolding v1_pieces
+own_sha1_piece view contents some fit is i =
+    let p = view.piece_length in
+    let content = joined_content view.entries contents in
+    let piece : run_at p (joined_bytes view.entries contents) i ≡ there (run_at p content i) =
+    ap (λ bytes. run_at p bytes i) (joined_there view.entries contents fit) ∙ run_there p content i in
+    and_from _ _ (ap is_whole piece ∙ whole_there (run_at p content i))
+    (same_bytes _ _
+    (ap (λ bytes. piece_sums p (bytes_in bytes)) piece
+    ∙ ap (piece_sums p) (bytes_there (run_at p content i))
+    ∙ sum_of_piece p some content i
+    ∙ ap (λ sums. run_at 20 sums i) (sym is)))

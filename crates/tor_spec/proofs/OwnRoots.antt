@@ -1,14 +1,14 @@
--- The i-th hash of a content's pieces is the Merkle hash of piece i.
-use Rattle.std.proofs.Common.{◌≡◌, ℕ, ◌+◌, ◌*◌, ◌<◌, ◌≤◌, List, ◌++◌, length, take, drop, get_or}
-use Rattle.std.proofs.Common.{arith, ap, ◌∙◌, sym, inl, inr, take_all, length-drop}
-use Rattle.std.proofs.Common.{take-append-drop, length-take-le, get_or-append-add}
-use Rattle.std.proofs.lemmas.Bool.{cases_lt}
-use Rattle.tor_merkle.proofs.ProvedLaws.{count_of_piece_roots, piece_length_bounds, piece_roots_of_joined}
-use Rattle.tor_merkle.proofs.ProvedLaws.{root_of_short_content}
-use Rattle.std.specs.Int.{div_ceil}
-use Rattle.tor_merkle.specs.Block.{leaves, run_at}
-use Rattle.tor_merkle.specs.Layer.{IsPieceLength, piece_level, piece_roots}
-use Rattle.tor_merkle.specs.Stack.{padded_subtree}
+-- The i-th hash of a content's pieces is the Merkle hash of piece i, and a torrent with a v2 side has as many pieces as
+-- are told of, file by file.
+use Rattle.tor_spec.proofs.Names.{◌≡◌, ℕ, ◌+◌, ◌*◌, ◌<◌, ◌≤◌, List, ◌++◌, length, take, drop, get_or, arith, ap, ◌∙◌}
+use Rattle.tor_spec.proofs.Names.{sym, inl, inr, take_all, length-drop, take-append-drop, length-take-le}
+use Rattle.tor_spec.proofs.Names.{get_or-append-add, cases_lt, count_of_piece_roots, piece_length_bounds}
+use Rattle.tor_spec.proofs.Names.{piece_roots_of_joined, root_of_short_content, div_ceil, leaves, run_at, IsPieceLength}
+use Rattle.tor_spec.proofs.Names.{piece_level, piece_roots, padded_subtree, true, [], ◌∷◌, map, sum_by, slice_index_or}
+use Rattle.tor_spec.proofs.Names.{refl, ap₂, length-append, cond-true, length-map-range_with_len, sum_by-cons, Data}
+use Rattle.tor_spec.proofs.Names.{file_pieces, is_merkle_piece, merkle_pieces, pieces_in, info_of, kind_of}
+use Rattle.tor_spec.proofs.Names.{piece_length_of, tree_files, FileView, file_of_tree, files_of, tree_piece_count}
+use Rattle.tor_spec.proofs.Names.{view_of, has_v2, TreeFile}
 use Rattle.tor_spec.proofs.OwnSums.{ceil_exact}
 
 module _ (p : ℕ) (allowed : IsPieceLength p) (d : List ℕ) where
@@ -50,3 +50,34 @@ module _ (p : ℕ) (allowed : IsPieceLength p) (d : List ℕ) where
       ∙ ap (λ n. get_or (piece_roots x p ++ piece_roots rest p) n d) here
       ∙ get_or-append-add (piece_roots x p) (piece_roots rest p) 0 d
       ∙ first_root rest (omega (arith, length-drop (i * p) xs, begun))
+
+abbrev count_of : ℕ → FileView → ℕ
+count_of p file = pieces_in p file.file.length
+
+count_of_pieces : (p : ℕ) (files : List FileView) (contents : List (List ℕ))
+    → length (merkle_pieces p files contents) ≡ sum_by (count_of p) files
+count_of_pieces p [] contents = refl
+count_of_pieces p (file ∷ files) contents =
+    length-append (file_pieces p file (slice_index_or contents 0 [])) (merkle_pieces p files (drop 1 contents))
+    ∙ ap₂ (λ m n. m + n)
+    (length-map-range_with_len (is_merkle_piece p file (slice_index_or contents 0 [])) 0 (count_of p file))
+    (count_of_pieces p files (drop 1 contents))
+    ∙ sym (sum_by-cons (count_of p) file files)
+
+count_of_tree : (p : ℕ) (root : Data) (files : List TreeFile)
+    → sum_by (count_of p) (map (file_of_tree root) files) ≡ sum_by (λ file. pieces_in p file.length) files
+count_of_tree p root [] = refl
+count_of_tree p root (file ∷ files) =
+    sum_by-cons (count_of p) (file_of_tree root file) (map (file_of_tree root) files)
+    ∙ ap (λ n. pieces_in p file.length + n) (count_of_tree p root files)
+    ∙ sym (sum_by-cons (λ (one : TreeFile). pieces_in p one.length) file files)
+
+pub count_shown : (root : Data) (contents : List (List ℕ)) → has_v2 (view_of root).kind ≡ true
+    → length (merkle_pieces (view_of root).piece_length (view_of root).files contents) ≡ (view_of root).piece_count
+count_shown root contents two =
+    let info = info_of root in
+    let p = piece_length_of info in
+    count_of_pieces p (files_of root) contents
+    ∙ ap (sum_by (count_of p)) (cond-true (has_v2 (kind_of info)) _ _ two)
+    ∙ count_of_tree p root (tree_files info)
+    ∙ sym (cond-true (has_v2 (kind_of info)) (tree_piece_count info) _ two)

@@ -1,14 +1,8 @@
 -- The i-th 20 bytes of the joined SHA-1 of a content's pieces are the SHA-1 of piece i.
-use Rattle.std.proofs.Common.{◌≡◌, ℕ, ◌+◌, ◌*◌, ◌<◌, ◌≤◌, List, [], length, take, drop}
-use Rattle.std.proofs.Common.{arith, ap, ◌∙◌, sym, inl, inr, take_all, take_at, drop_at}
-use Rattle.std.proofs.Common.{take-append-drop, length-take-le, lt_of_mul-lt-mul_right}
-use Rattle.std.proofs.lemmas.Bool.{cases_lt}
-use Rattle.std.proofs.lemmas.Grind.{div_ceil_times}
-use Rattle.std.proofs.lemmas.List.{drop_all, nil_from_length}
-use Rattle.std.specs.Int.{div_ceil}
-use Rattle.tor_merkle.specs.Block.{run_at}
-use Rattle.tor_v1.proofs.ProvedLaws.{length-piece_sums, sums_of_joined}
-use Rattle.tor_v1.specs.Piece.{piece_sums}
+use Rattle.tor_spec.proofs.Names.{◌≡◌, ℕ, ◌+◌, ◌*◌, ◌<◌, ◌≤◌, List, [], length, take, drop, arith, ap, ◌∙◌, sym, inl}
+use Rattle.tor_spec.proofs.Names.{inr, take_all, take_at, drop_at, take-append-drop, length-take-le}
+use Rattle.tor_spec.proofs.Names.{lt_of_mul-lt-mul_right, cases_lt, div_ceil_times, drop_all, nil_from_length, div_ceil}
+use Rattle.tor_spec.proofs.Names.{run_at, length-piece_sums, sums_of_joined, piece_sums}
 
 -- a ceiling is at most any number of pieces that covers
 pub ceil_within : (n p k : ℕ) → 0 < p → n ≤ k * p → div_ceil n p ≤ k

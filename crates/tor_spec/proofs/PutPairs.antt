@@ -1,21 +1,10 @@
 -- The value of a key where one more pair was put where its key belongs, and the layers that are found so.
-use Rattle.std.proofs.Common.{◌≡◌, ◌<◌, ℕ, zero, suc, Bool, true, false, true≢false, cond, List, [], ◌∷◌, length}
-use Rattle.std.proofs.Common.{nat_le, Option, Some, unwrap_or, Ordering, Less, Equal, Greater, refl, sym, ap, ◌∙◌}
-use Rattle.std.proofs.Common.{get_or, arith}
-use Rattle.std.specs.Cmp.Lexicographic.{texts_ties}
-use Rattle.std.specs.List.{AllByRecursion}
-use Rattle.std.specs.Ordering.{is_eq, match_ordering}
-use Rattle.std.specs.Str.{bytes_eq}
-use Rattle.std.proofs.lemmas.Bool.{cond-false, cond-true, leb-false, lt-leb}
-use Rattle.std.proofs.lemmas.Slice.Eq.{bytes_eq-Decides}
-use Rattle.tor_bencode.specs.Data.{Data, string, Pairs, no_pairs, pair}
-use Rattle.tor_bencode.specs.Find.{value_in}
-use Rattle.tor_merkle.specs.Layer.{piece_layer, root_of}
-use Rattle.tor_spec.specs.Dictionary.{put}
-use Rattle.tor_spec.specs.Facts.{File}
-use Rattle.tor_spec.specs.Metainfo.{facts_of_files}
-use Rattle.tor_spec.specs.PieceLayers.{joined, piece_layers}
-use Rattle.tor_tree.specs.Path.{name_cmp}
+use Rattle.tor_spec.proofs.Names.{◌≡◌, ◌<◌, ℕ, zero, suc, Bool, true, false, true≢false, cond, List, [], ◌∷◌, length}
+use Rattle.tor_spec.proofs.Names.{nat_le, Option, Some, unwrap_or, Ordering, Less, Equal, Greater, refl, sym, ap, ◌∙◌}
+use Rattle.tor_spec.proofs.Names.{get_or, arith, texts_ties, AllByRecursion, is_eq, match_ordering, bytes_eq}
+use Rattle.tor_spec.proofs.Names.{cond-false, cond-true, leb-false, lt-leb, bytes_eq-Decides, Data, string, Pairs}
+use Rattle.tor_spec.proofs.Names.{no_pairs, pair, value_in, piece_layer, root_of, put, File, facts_of_files, joined}
+use Rattle.tor_spec.proofs.Names.{piece_layers, name_cmp}
 
 same_test : {X : Type 0} (b c : Bool) (x y z : X) → b ≡ c → cond b x z ≡ cond b x (cond c y z)
 same_test true c x y z e = refl

@@ -1,15 +1,10 @@
 -- The conditions of `specs/valid` computed for worked torrents, written as trees. Hashes that no condition looks at are
 -- any bytes.
-use Rattle.std.proofs.Common.{◌≡◌, ℕ, negsuc, List, [], ◌∷◌, ◌++◌, map, Option, None, Some, refl, codes, replicate}
-use Rattle.std.specs.Str.{is_utf8, chars}
-use lib.Utf8.{encode}
-use lib.Count.{ones}
-use Rattle.tor_bencode.specs.Data.{Data, integer, string}
-use Rattle.tor_spec.specs.valid.Conditions.{refusal_of, Condition}
-use Rattle.tor_spec.specs.valid.Conditions.{RootShape, InfoShape, MetaVersion, PieceLength, Name, LengthAndFiles}
-use Rattle.tor_spec.specs.valid.Conditions.{FileShape, FileLength, Duplicate, FileAndFolder, NoFiles, TooLarge, Symlink}
-use Rattle.tor_spec.specs.valid.Conditions.{PiecesLength, MixedNode, RootHash, LayersAbsent, LayerAbsent, LayerLength}
-use Rattle.tor_spec.specs.valid.Conditions.{FilesDiffer, Alignment}
+use Rattle.tor_spec.proofs.Names.{◌≡◌, ℕ, negsuc, List, [], ◌∷◌, ◌++◌, map, Option, None, Some, refl, codes, replicate}
+use Rattle.tor_spec.proofs.Names.{is_utf8, chars, encode, ones, Data, integer, string, refusal_of, Condition, RootShape}
+use Rattle.tor_spec.proofs.Names.{InfoShape, MetaVersion, PieceLength, Name, LengthAndFiles, FileShape, FileLength}
+use Rattle.tor_spec.proofs.Names.{Duplicate, FileAndFolder, NoFiles, TooLarge, Symlink, PiecesLength, MixedNode}
+use Rattle.tor_spec.proofs.Names.{RootHash, LayersAbsent, LayerAbsent, LayerLength, FilesDiffer, Alignment}
 use Rattle.tor_spec.proofs.WorkedTrees.{dict, number, items, bytes, path, size, attr, file, padding, two}
 
 -- a torrent of BEP 3 alone, with `files`

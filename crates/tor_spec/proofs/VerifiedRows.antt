@@ -1,15 +1,9 @@
 -- Which pieces are verified, computed for worked torrents and contents where no hash decides it.
-use Rattle.std.proofs.Common.{◌≡◌, ℕ, Bool, true, false, List, [], ◌∷◌, ◌++◌, length, map, refl, codes, replicate}
-use Rattle.std.proofs.Common.{take, drop}
-use Rattle.std.specs.List.{range_with_len}
-use Rattle.tor_bencode.specs.Data.{Data}
-use Rattle.tor_merkle.specs.Block.{run_at}
+use Rattle.tor_spec.proofs.Names.{◌≡◌, ℕ, Bool, true, false, List, [], ◌∷◌, ◌++◌, length, map, refl, codes, replicate}
+use Rattle.tor_spec.proofs.Names.{take, drop, range_with_len, Data, run_at, is_whole, joined_bytes, verified_pieces}
+use Rattle.tor_spec.proofs.Names.{view_of, zeros}
 use Rattle.tor_spec.proofs.ValidRows.{hybrid, listed, of_list, properties, treed}
 use Rattle.tor_spec.proofs.WorkedTrees.{bytes, dict, file, items, padding, two}
-use Rattle.tor_spec.specs.Present.{is_whole, joined_bytes}
-use Rattle.tor_spec.specs.Verified.{verified_pieces}
-use Rattle.tor_spec.specs.valid.View.{view_of}
-use Rattle.tor_v1.specs.Piece.{zeros}
 
 abbrev bits : Data → List (List ℕ) → List Bool
 bits torrent contents = verified_pieces (view_of torrent) contents

@@ -1,7 +1,6 @@
 -- Parts of worked torrents, written as trees.
-use Rattle.std.proofs.Common.{ℕ, pos, List, [], ◌∷◌, map, codes, replicate}
-use Rattle.tor_bencode.specs.Data.{Data, integer, string, list, dictionary, Pairs, no_pairs, pair}
-use Rattle.tor_bencode.specs.View.{items_of}
+use Rattle.tor_spec.proofs.Names.{ℕ, pos, List, [], ◌∷◌, map, codes, replicate, Data, integer, string, list, dictionary}
+use Rattle.tor_spec.proofs.Names.{Pairs, no_pairs, pair, items_of}
 
 abbrev pub pairs_from : List (List ℕ × Data) → Pairs
 pairs_from [] = no_pairs

@@ -1,11 +1,6 @@
 -- The file tree that files are put together in is the one tidy tree of their list.
-use Rattle.std.proofs.Common.{ℕ, List, map, Option, ap, ◌∙◌}
-use Rattle.std.specs.List.{AllByRecursion, AllZip}
-use Rattle.tor_tree.specs.FileList.{IsInPathOrder}
-use Rattle.tor_tree.specs.FileTree.{file_of}
-use Rattle.tor_tree.specs.Path.{HasNames}
-use Rattle.tor_tree.specs.TidyTree.{HasItsRoot, IsFileTreeOf}
-use Rattle.tor_tree.specs.WrittenTree.{file_tree, with_properties}
+use Rattle.tor_tree.proofs.Cited.{ℕ, List, map, Option, ap, ◌∙◌, AllByRecursion, AllZip, IsInPathOrder, file_of}
+use Rattle.tor_tree.proofs.Cited.{HasNames, HasItsRoot, IsFileTreeOf, file_tree, with_properties}
 use Rattle.tor_tree.proofs.MadeTree.{made_tidy, made_entries}
 use Rattle.tor_tree.proofs.RisingTree.{made_rising}
 use Rattle.tor_tree.proofs.TreeOfFiles.{one_root_each, paths_with, plain_described, ready_files}

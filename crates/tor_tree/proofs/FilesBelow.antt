@@ -1,17 +1,10 @@
 -- Files with their properties, seen from some names down, a part at a time.
-use Rattle.std.proofs.Common.{Vec, Global, None, inl, inr, zero-add, suc-add, length-drop, ◌-◌, ◌≡◌, ◌≢◌, ℕ, zero, suc}
-use Rattle.std.proofs.Common.{◌+◌, ◌<◌, true, false, List, [], ◌∷◌, ◌++◌, length, get_or, take, drop, map, Option, refl}
-use Rattle.std.proofs.Common.{sym, ap, ◌∙◌, arith}
-use Rattle.std.specs.List.{All, AllByRecursion}
-use Rattle.std.proofs.lemmas.List.{drop-drop, drop_more, drop_all, take_all}
-use Rattle.std.proofs.lemmas.List.Elements.{All-append, recursion_from_All}
-use Rattle.std.proofs.lemmas.Bool.{cases_lt}
-use Rattle.tor_bencode.specs.Data.{Data, dictionary, Pairs, no_pairs, pair}
-use Rattle.tor_bencode.specs.View.{view, pairs_view}
-use Rattle.tor_bencode.specs.declared.item.Item.{Item}
-use Rattle.tor_tree.specs.Name.{name_fault}
-use Rattle.tor_tree.specs.steps.Writing.{below, files_below, has_name_at, is_first}
-use Rattle.tor_tree.specs.WrittenTree.{pairs_of_files}
+use Rattle.tor_tree.proofs.Cited.{Vec, Global, None, inl, inr, zero-add, suc-add, length-drop, ◌-◌, ◌≡◌, ◌≢◌, ℕ, zero}
+use Rattle.tor_tree.proofs.Cited.{suc, ◌+◌, ◌<◌, true, false, List, [], ◌∷◌, ◌++◌, length, get_or, take, drop, map}
+use Rattle.tor_tree.proofs.Cited.{Option, refl, sym, ap, ◌∙◌, arith, All, AllByRecursion, drop-drop, drop_more}
+use Rattle.tor_tree.proofs.Cited.{drop_all, take_all, All-append, recursion_from_All, cases_lt, Data, dictionary, Pairs}
+use Rattle.tor_tree.proofs.Cited.{no_pairs, pair, view, pairs_view, Item, name_fault, below, files_below, has_name_at}
+use Rattle.tor_tree.proofs.Cited.{is_first, pairs_of_files}
 use Rattle.tor_tree.proofs.Groups.{name_own, pair_of_group}
 
 pub take-files_below : (deep n : ℕ) (files : List (List (List ℕ) × ℕ)) (roots : List (Option (List ℕ)))

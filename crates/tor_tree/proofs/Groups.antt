@@ -1,14 +1,8 @@
 -- Files put together in a folder: those in one folder below make its first pair.
-use Rattle.std.proofs.Common.{◌≡◌, ◌≢◌, ℕ, zero, suc, ◌<◌, Bool, true, false, cond, List, [], ◌∷◌, ◌++◌, length, take}
-use Rattle.std.proofs.Common.{drop, map, refl, sym, ap, ◌∙◌, arith}
-use Rattle.std.proofs.lemmas.Bool.{false_from_ne_true}
-use Rattle.std.proofs.lemmas.List.{take-append-drop}
-use Rattle.std.proofs.lemmas.Slice.Eq.{bytes_eq-Decides}
-use Rattle.std.specs.List.{AllByRecursion}
-use Rattle.tor_bencode.specs.Data.{Data, dictionary, Pairs, no_pairs, pair}
-use Rattle.tor_tree.specs.Path.{name_eq}
-use Rattle.tor_tree.specs.steps.Writing.{below, is_first}
-use Rattle.tor_tree.specs.WrittenTree.{pairs_of_files, put_first, put_under, put_inside}
+use Rattle.tor_tree.proofs.Cited.{◌≡◌, ◌≢◌, ℕ, zero, suc, ◌<◌, Bool, true, false, cond, List, [], ◌∷◌, ◌++◌, length}
+use Rattle.tor_tree.proofs.Cited.{take, drop, map, refl, sym, ap, ◌∙◌, arith, false_from_ne_true, take-append-drop}
+use Rattle.tor_tree.proofs.Cited.{bytes_eq-Decides, AllByRecursion, Data, dictionary, Pairs, no_pairs, pair, name_eq}
+use Rattle.tor_tree.proofs.Cited.{below, is_first, pairs_of_files, put_first, put_under, put_inside}
 
 pub name_is : (m n : List ℕ) → name_eq m n ≡ true → m ≡ n
 name_is m n = (bytes_eq-Decides m n).0

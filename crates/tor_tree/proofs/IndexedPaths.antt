@@ -1,14 +1,10 @@
 -- Paths with their indices among those that were handed in, and what stands at those indices.
-use Rattle.std.proofs.Common.{◌≡◌, ℕ, ◌+◌, ◌<◌, List, [], ◌∷◌, length, get_or, map, refl, sym, ap, ◌∙◌, subst, zero-add}
-use Rattle.std.proofs.Common.{arith}
-use Rattle.std.specs.List.{All, enumerate_from, range_with_len}
-use Rattle.std.specs.List.Sorted.{IsPermutation}
-use Rattle.std.proofs.lemmas.List.{get_or-map, length-map}
-use Rattle.std.proofs.lemmas.List.FromFn.{fill_by_all, get_or-enumerate_from, get_or-range_with_len}
-use Rattle.std.proofs.lemmas.List.FromFn.{length-enumerate_from, length-range_with_len}
-use Rattle.std.proofs.lemmas.List.Sorted.{All-permutation, IsPermutation-map, length_permutation}
-use Rattle.tor_tree.specs.FileList.{lengths_fault, lengths_of, paths_fault, paths_of}
-use Rattle.tor_tree.specs.PathList.{AreIndexedPaths, AreIndices, indices_of, with_indices}
+use Rattle.tor_tree.proofs.Cited.{◌≡◌, ℕ, ◌+◌, ◌<◌, List, [], ◌∷◌, length, get_or, map, refl, sym, ap, ◌∙◌, subst}
+use Rattle.tor_tree.proofs.Cited.{zero-add, arith, All, enumerate_from, range_with_len, IsPermutation, get_or-map}
+use Rattle.tor_tree.proofs.Cited.{length-map, fill_by_all, get_or-enumerate_from, get_or-range_with_len}
+use Rattle.tor_tree.proofs.Cited.{length-enumerate_from, length-range_with_len, All-permutation, IsPermutation-map}
+use Rattle.tor_tree.proofs.Cited.{length_permutation, lengths_fault, lengths_of, paths_fault, paths_of, AreIndexedPaths}
+use Rattle.tor_tree.proofs.Cited.{AreIndices, indices_of, with_indices}
 use Rattle.tor_tree.proofs.Permuted.{lengths_fault-permutation, paths_fault-permutation}
 
 -- what stands at the indices, which are all indices of a list, is the list in another order

@@ -1,12 +1,7 @@
 -- Lists that begin with other lists, where lists are ordered element by element, a beginning first.
-use Rattle.std.proofs.Common.{◌≡◌, ◌<◌, Bool, true, ◌&&◌, List, [], ◌∷◌, length, Ordering, Less, Equal, Greater, refl}
-use Rattle.std.proofs.Common.{sym, ap, ◌∙◌, subst, arith}
-use Rattle.std.specs.Cmp.{IsTotalOrder}
-use Rattle.std.specs.Cmp.Lexicographic.{slice_cmp}
-use Rattle.std.specs.Ordering.{eq_by_cmp, is_eq, ordering_then}
-use Rattle.std.specs.List.{starts_with}
-use Rattle.std.proofs.lemmas.Bool.{and_parts, and_from}
-use Rattle.std.proofs.lemmas.Cmp.{alike_right}
+use Rattle.tor_tree.proofs.Cited.{◌≡◌, ◌<◌, Bool, true, ◌&&◌, List, [], ◌∷◌, length, Ordering, Less, Equal, Greater}
+use Rattle.tor_tree.proofs.Cited.{refl, sym, ap, ◌∙◌, subst, arith, IsTotalOrder, slice_cmp, eq_by_cmp, is_eq}
+use Rattle.tor_tree.proofs.Cited.{ordering_then, starts_with, and_parts, and_from, alike_right}
 
 module _ {K : Type 0} {R : K → K → Ordering} (o : IsTotalOrder R) {E : K → K → Bool}
     (ties : (x y : K) → E x y ≡ eq_by_cmp R x y) where

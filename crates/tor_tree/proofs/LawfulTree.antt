@@ -1,13 +1,9 @@
 -- The file tree of files is a lawful tree, two dictionaries deeper than its longest path.
-use Rattle.std.proofs.Common.{ℕ, zero, suc, ◌+◌, ◌<◌, ◌≤◌, ◌^◌, Bool, true, false, cond, List, [], ◌∷◌, length, Option}
-use Rattle.std.proofs.Common.{None, Some, arith, rules}
-use Rattle.std.specs.List.{AllByRecursion}
-use Rattle.tor_bencode.specs.Data.{Data, integer, string, list, dictionary, Pairs, no_pairs, pair}
-use Rattle.tor_bencode.specs.Lawful.{HasSmallIntegers, IsLawfulWithin, PairsHaveSmallIntegers, HasRisingKeys, depth}
-use Rattle.tor_bencode.specs.Lawful.{pairs_depth}
-use Rattle.tor_tree.specs.Path.{name_eq}
-use Rattle.tor_tree.specs.Properties.{properties_for}
-use Rattle.tor_tree.specs.WrittenTree.{file_tree, pairs_of_files, put_first, put_inside, put_under, with_properties}
+use Rattle.tor_tree.proofs.Cited.{ℕ, zero, suc, ◌+◌, ◌<◌, ◌≤◌, ◌^◌, Bool, true, false, cond, List, [], ◌∷◌, length}
+use Rattle.tor_tree.proofs.Cited.{Option, None, Some, arith, rules, AllByRecursion, Data, integer, string, list}
+use Rattle.tor_tree.proofs.Cited.{dictionary, Pairs, no_pairs, pair, HasSmallIntegers, IsLawfulWithin}
+use Rattle.tor_tree.proofs.Cited.{PairsHaveSmallIntegers, HasRisingKeys, depth, pairs_depth, name_eq, properties_for}
+use Rattle.tor_tree.proofs.Cited.{file_tree, pairs_of_files, put_first, put_inside, put_under, with_properties}
 
 module _ (n : ℕ) (put : Pairs → Pairs)
     (deep : (room : ℕ) (pairs : Pairs) → suc n ≤ room → pairs_depth pairs ≤ room → pairs_depth (put pairs) ≤ room) where

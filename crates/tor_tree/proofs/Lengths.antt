@@ -1,15 +1,8 @@
 -- The lengths of files, added one after another, and compared with the most that they may be.
-use Rattle.std.proofs.Common.{◌≡◌, ℕ, ◌+◌, ◌<◌, ◌≤◌, true, false, List, length, get_or, take, map, ◌⊎◌, inl, inr, false}
-use Rattle.std.proofs.Common.{nat_lt, sum_by, sym, ap, ◌∙◌, arith}
-use Rattle.std.specs.Int.{next_multiple_of}
-use Rattle.std.specs.List.{list_any}
-use Rattle.std.proofs.lemmas.Bool.{lt-ltb, le-ltb, or_left, or_right, or_from}
-use Rattle.std.proofs.lemmas.List.{get_or-map, length-map}
-use Rattle.std.proofs.lemmas.List.Folds.{list_any_at, list_any_more}
-use Rattle.std.proofs.lemmas.List.Sums.{sum_by_more, sum_by-take-le}
-use Rattle.tor_tree.specs.FileList.{lengths_too_large}
-use Rattle.tor_merkle.specs.declared.TheConstants.{MAX_LENGTH}
-use Rattle.tor_tree.specs.declared.lists.TheConstants.{MAX_TOTAL, ROUNDING}
+use Rattle.tor_tree.proofs.Cited.{◌≡◌, ℕ, ◌+◌, ◌<◌, ◌≤◌, true, false, List, length, get_or, take, map, ◌⊎◌, inl, inr}
+use Rattle.tor_tree.proofs.Cited.{nat_lt, sum_by, sym, ap, ◌∙◌, arith, next_multiple_of, list_any, lt-ltb, le-ltb}
+use Rattle.tor_tree.proofs.Cited.{or_left, or_right, or_from, get_or-map, length-map, list_any_at, list_any_more}
+use Rattle.tor_tree.proofs.Cited.{sum_by_more, sum_by-take-le, lengths_too_large, MAX_LENGTH, MAX_TOTAL, ROUNDING}
 
 -- a length, rounded up
 abbrev pub rounded : ℕ → ℕ

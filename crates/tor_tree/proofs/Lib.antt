@@ -1,3 +1,4 @@
+pub mod Cited
 pub mod FileTrees
 pub mod FilesBelow
 pub mod Groups

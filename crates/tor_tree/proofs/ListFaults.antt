@@ -1,14 +1,8 @@
 -- What a list of files has that has no fault.
-use Rattle.std.proofs.Common.{◌≡◌, ◌==◌, ℕ, ◌≤◌, false, cond, Bool, true, List, [], ◌∷◌, length, nat_lt, Option, None}
-use Rattle.std.proofs.Common.{Some, refl}
-use Rattle.std.specs.List.{list_any, All, AllByRecursion}
-use Rattle.std.specs.Option.{option_or}
-use Rattle.std.proofs.lemmas.Bool.{or_parts, ltb-false}
-use Rattle.std.proofs.lemmas.List.Elements.{All-from_recursion}
-use Rattle.tor_tree.specs.declared.lists.ListError.{ListError}
-use Rattle.tor_tree.specs.FileList.{lengths_fault, lengths_of, lengths_too_large, list_fault, paths_fault, paths_nest}
-use Rattle.tor_tree.specs.FileList.{paths_of, paths_repeat}
-use Rattle.tor_merkle.specs.declared.TheConstants.{MAX_LENGTH}
+use Rattle.tor_tree.proofs.Cited.{◌≡◌, ◌==◌, ℕ, ◌≤◌, false, cond, Bool, true, List, [], ◌∷◌, length, nat_lt, Option}
+use Rattle.tor_tree.proofs.Cited.{None, Some, refl, list_any, All, AllByRecursion, option_or, or_parts, ltb-false}
+use Rattle.tor_tree.proofs.Cited.{All-from_recursion, ListError, lengths_fault, lengths_of, lengths_too_large}
+use Rattle.tor_tree.proofs.Cited.{list_fault, paths_fault, paths_nest, paths_of, paths_repeat, MAX_LENGTH}
 
 -- a test that gives a fault is not passed where there is none
 pub clear : {E : Type 0} (test : Bool) (fault : E) (rest : Option E) → cond test (Some fault) rest ≡ None

@@ -1,11 +1,8 @@
 -- The tree that files are put together in describes them, and is tidy.
-use Rattle.std.proofs.Common.{◌≡◌, ◌≢◌, ℕ, Bool, true, false, cond, List, [], ◌∷◌, refl, sym, ap, ◌∙◌}
-use Rattle.std.specs.List.{AllByRecursion}
-use Rattle.tor_bencode.specs.Data.{Data, integer, string, list, dictionary, Pairs, no_pairs, pair}
-use Rattle.tor_tree.specs.FileTree.{entries_in}
-use Rattle.tor_tree.specs.Path.{name_eq}
-use Rattle.tor_tree.specs.TidyTree.{AreTidy, IsTidyFile}
-use Rattle.tor_tree.specs.WrittenTree.{pairs_of_files, put_first, put_under, put_inside}
+use Rattle.tor_tree.proofs.Cited.{◌≡◌, ◌≢◌, ℕ, Bool, true, false, cond, List, [], ◌∷◌, refl, sym, ap, ◌∙◌}
+use Rattle.tor_tree.proofs.Cited.{AllByRecursion, Data, integer, string, list, dictionary, Pairs, no_pairs, pair}
+use Rattle.tor_tree.proofs.Cited.{entries_in, name_eq, AreTidy, IsTidyFile, pairs_of_files, put_first, put_under}
+use Rattle.tor_tree.proofs.Cited.{put_inside}
 use Rattle.tor_tree.proofs.Groups.{name_is}
 
 pub put_first-some : (path : List (List ℕ)) (properties : Data) (pairs : Pairs)

@@ -1,10 +1,7 @@
 -- A step of the search for a folder that is a file too.
-use Rattle.std.proofs.Common.{◌≡◌, ◌==◌, ℕ, true, false, suc, ◌||◌, Vec, Global, List, [], ◌∷◌, length, refl, ap, arith}
-use Rattle.std.proofs.lemmas.Bool.{eqb-true}
-use Rattle.tor_bencode.specs.Data.{Data, Pairs, pair, keys_of}
-use Rattle.tor_bencode.specs.View.{pairs_view}
-use Rattle.tor_bencode.specs.declared.item.Item.{Item}
-use Rattle.tor_tree.specs.FileTree.{entries_mix, folder_mixes}
+use Rattle.tor_tree.proofs.Cited.{◌≡◌, ◌==◌, ℕ, true, false, suc, ◌||◌, Vec, Global, List, [], ◌∷◌, length, refl, ap}
+use Rattle.tor_tree.proofs.Cited.{arith, eqb-true, Data, Pairs, pair, keys_of, pairs_view, Item, entries_mix}
+use Rattle.tor_tree.proofs.Cited.{folder_mixes}
 use Rattle.tor_tree.proofs.WalkSteps.{view_dictionary}
 
 pub mix_empty : (key : List ℕ) (value : Data) (pairs : Pairs) → (length key == 0) ≡ true

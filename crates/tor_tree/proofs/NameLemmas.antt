@@ -1,11 +1,8 @@
 -- What is known of a name that has no fault.
-use Rattle.std.proofs.Common.{◌≡◌, ◌==◌, ℕ, Bool, true, false, cond, List, length, Option, Some, None, codes, refl, sym}
-use Rattle.std.proofs.Common.{Result, Ok, Err, is_ok, MatchResult}
-use Rattle.std.specs.Str.{IsUtf8, is_utf8, bytes_eq}
-use Rattle.std.proofs.lemmas.Str.{IsUtf8-from_is_utf8, is_utf8-from_IsUtf8}
-use Rattle.std.proofs.lemmas.Bool.{false_from_ne_true}
-use Rattle.tor_tree.specs.declared.names.NameError.TheVariants.{NotUtf8}
-use Rattle.tor_tree.specs.Name.{name_fault, has_byte, slash}
+use Rattle.tor_tree.proofs.Cited.{◌≡◌, ◌==◌, ℕ, Bool, true, false, cond, List, length, Option, Some, None, codes, refl}
+use Rattle.tor_tree.proofs.Cited.{sym, Result, Ok, Err, is_ok, MatchResult, IsUtf8, is_utf8, bytes_eq}
+use Rattle.tor_tree.proofs.Cited.{IsUtf8-from_is_utf8, is_utf8-from_IsUtf8, false_from_ne_true, NotUtf8, name_fault}
+use Rattle.tor_tree.proofs.Cited.{has_byte, slash}
 
 -- a test that gives a fault is not passed where there is none
 later : {E : Type 0} (test : Bool) (fault : E) (rest : Option E) → cond test (Some fault) rest ≡ None → rest ≡ None

@@ -1,15 +1,9 @@
 -- A tidy tree with rising keys is the one that its entries are put together in.
-use Rattle.std.proofs.Common.{◌≡◌, ◌≢◌, ℕ, true, false, List, [], ◌∷◌, ◌++◌, map, Option, Less, refl, sym, ap, ◌∙◌}
-use Rattle.std.specs.Cmp.Lexicographic.{texts_ties, nat_list_cmp_total}
-use Rattle.std.specs.Ordering.{is_eq}
-use Rattle.std.specs.List.{AllByRecursion}
-use Rattle.tor_bencode.specs.Data.{Data, integer, string, list, dictionary, Pairs, no_pairs, pair, keys_of}
-use Rattle.tor_bencode.specs.Lawful.{AreRising, HasRisingKeys}
-use Rattle.tor_tree.specs.FileTree.{entries_in, entries_of, file_of, under}
-use Rattle.tor_tree.specs.Path.{name_cmp, name_eq}
-use Rattle.tor_tree.specs.TidyTree.{AreTidy, IsTidy, IsTidyFile, IsFileTreeOf}
-use Rattle.tor_tree.specs.steps.Writing.{below, is_first}
-use Rattle.tor_tree.specs.WrittenTree.{pairs_of_files}
+use Rattle.tor_tree.proofs.Cited.{◌≡◌, ◌≢◌, ℕ, true, false, List, [], ◌∷◌, ◌++◌, map, Option, Less, refl, sym, ap, ◌∙◌}
+use Rattle.tor_tree.proofs.Cited.{texts_ties, nat_list_cmp_total, is_eq, AllByRecursion, Data, integer, string, list}
+use Rattle.tor_tree.proofs.Cited.{dictionary, Pairs, no_pairs, pair, keys_of, AreRising, HasRisingKeys, entries_in}
+use Rattle.tor_tree.proofs.Cited.{entries_of, file_of, under, name_cmp, name_eq, AreTidy, IsTidy, IsTidyFile}
+use Rattle.tor_tree.proofs.Cited.{IsFileTreeOf, below, is_first, pairs_of_files}
 use Rattle.tor_tree.proofs.Groups.{name_own, pairs_of_group}
 use Rattle.tor_tree.proofs.RisingTree.{AreRisingPairs, first_in}
 use Rattle.tor_tree.proofs.TreeOfFiles.{plain, plain_file}

@@ -1,19 +1,11 @@
 -- Lists of paths in order: a path that is there twice, or is inside another, is beside it.
-use Rattle.std.proofs.Common.{◌≡◌, ℕ, ◌+◌, ◌<◌, true, false, ◌⊎◌, inl, inr, List, [], length, get_or, count_by, nat_lt}
-use Rattle.std.proofs.Common.{Less, Equal, ap, ◌∙◌, arith}
-use Rattle.std.specs.Cmp.{IsTotalOrder}
-use Rattle.std.specs.Cmp.Lexicographic.{lists_total, lists_ties, nat_list_cmp_total, texts_ties}
-use Rattle.std.specs.Ordering.{eq_by_cmp, is_eq}
-use Rattle.std.specs.List.{AllAdjacentBelow, starts_with, list_any}
-use Rattle.std.specs.List.Sorted.{IsStrictlySortedBy}
-use Rattle.std.proofs.lemmas.Bool.{le-ltb, lt-ltb, ltb-true, and_parts, and_from, both_ways, false_from_ne_true}
-use Rattle.std.proofs.lemmas.Bool.{cases_order}
-use Rattle.std.proofs.lemmas.Cmp.{tied_itself}
-use Rattle.std.proofs.lemmas.List.Folds.{list_any_none, list_any_at}
-use Rattle.std.proofs.lemmas.List.{get_or_default}
-use Rattle.std.proofs.lemmas.Map.Keys.{Less-from_sorted}
-use Rattle.tor_tree.specs.FileList.{paths_repeat, paths_nest, is_inside}
-use Rattle.tor_tree.specs.Path.{name_cmp, name_eq, path_cmp, path_eq}
+use Rattle.tor_tree.proofs.Cited.{◌≡◌, ℕ, ◌+◌, ◌<◌, true, false, ◌⊎◌, inl, inr, List, [], length, get_or, count_by}
+use Rattle.tor_tree.proofs.Cited.{nat_lt, Less, Equal, ap, ◌∙◌, arith, IsTotalOrder, lists_total, lists_ties}
+use Rattle.tor_tree.proofs.Cited.{nat_list_cmp_total, texts_ties, eq_by_cmp, is_eq, AllAdjacentBelow, starts_with}
+use Rattle.tor_tree.proofs.Cited.{list_any, IsStrictlySortedBy, le-ltb, lt-ltb, ltb-true, and_parts, and_from}
+use Rattle.tor_tree.proofs.Cited.{both_ways, false_from_ne_true, cases_order, tied_itself, list_any_none, list_any_at}
+use Rattle.tor_tree.proofs.Cited.{get_or_default, Less-from_sorted, paths_repeat, paths_nest, is_inside, name_cmp}
+use Rattle.tor_tree.proofs.Cited.{name_eq, path_cmp, path_eq}
 use Rattle.tor_tree.proofs.Inside.{after_beginning, longer_than_beginning, beginning_between}
 use Rattle.tor_tree.proofs.Rising.{count_at_most_one, count_of_neighbours}
 

@@ -1,16 +1,10 @@
 -- A list of files has the same fault in every order.
-use Rattle.std.proofs.Common.{◌≡◌, ℕ, Bool, cond, List, [], ◌∷◌, ◌++◌, length, take, drop, subst, count_by, nat_lt}
-use Rattle.std.proofs.Common.{refl, sym, ap, ◌∙◌}
-use Rattle.std.specs.List.{list_any}
-use Rattle.std.specs.List.Sorted.{IsPermutation}
-use Rattle.std.proofs.lemmas.List.Sorted.{IsPermutation-map, list_any-IsPermutation, sum_by-IsPermutation}
-use Rattle.std.proofs.lemmas.List.Sorted.{length_permutation}
-use Rattle.std.proofs.Math.Seq.{take-append_seam}
-use Rattle.tor_tree.specs.FileList.{paths_of, lengths_of, paths_repeat, paths_nest, paths_fault, lengths_fault}
-use Rattle.tor_tree.specs.FileList.{list_fault, is_inside}
-use Rattle.tor_tree.specs.Path.{path_eq}
+use Rattle.tor_tree.proofs.Cited.{◌≡◌, ℕ, Bool, cond, List, [], ◌∷◌, ◌++◌, length, take, drop, subst, count_by, nat_lt}
+use Rattle.tor_tree.proofs.Cited.{refl, sym, ap, ◌∙◌, list_any, IsPermutation, IsPermutation-map}
+use Rattle.tor_tree.proofs.Cited.{list_any-IsPermutation, sum_by-IsPermutation, length_permutation, take-append_seam}
+use Rattle.tor_tree.proofs.Cited.{paths_of, lengths_of, paths_repeat, paths_nest, paths_fault, lengths_fault}
+use Rattle.tor_tree.proofs.Cited.{list_fault, is_inside, path_eq, MAX_LENGTH}
 use Rattle.tor_tree.proofs.Lengths.{rounded}
-use Rattle.tor_merkle.specs.declared.TheConstants.{MAX_LENGTH}
 
 -- tests that agree find the same in a list
 list_any-same : {X : Type 0} (p q : X → Bool) → ((x : X) → p x ≡ q x) → (xs : List X) → list_any p xs ≡ list_any q xs

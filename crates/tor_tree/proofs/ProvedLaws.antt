@@ -1,21 +1,10 @@
 -- The proofs of the laws of src/laws.rt: what the crates above may cite of these proofs.
-use Rattle.std.proofs.Common.{◌≡◌, ◌+◌, ◌<◌, ◌≤◌, ◌≢◌, ◌^◌, ℕ, List, [], Less, None, Option, length, get_or, map, true}
-use Rattle.std.proofs.Common.{arith, IfSome}
-use Rattle.std.specs.Cmp.{IsTotalOrder}
-use Rattle.std.specs.List.{All, AllZip}
-use Rattle.std.specs.List.Sorted.{IsPermutation, IsStrictlySortedBy}
-use Rattle.std.proofs.lemmas.List.Elements.{All-from_recursion, recursion_from_All}
-use Rattle.tor_bencode.specs.Data.{Data}
-use Rattle.tor_bencode.specs.Lawful.{HasRisingKeys, IsLawfulWithin}
-use Rattle.tor_tree.specs.FileList.{IsFileList, IsInPathOrder, is_inside, lengths_fault, paths_fault}
-use Rattle.tor_tree.specs.FileTree.{files_of_tree, tree_fault}
-use Rattle.tor_tree.specs.Name.{name_fault}
-use Rattle.tor_tree.specs.Path.{HasNames, IsFilePath, path_cmp}
-use Rattle.tor_tree.specs.PathList.{AreIndices}
-use Rattle.tor_tree.specs.TidyTree.{AtMostOneTree, HasItsRoot, IsFileTreeOf}
-use Rattle.tor_tree.specs.WrittenTree.{file_tree}
-use Rattle.tor_tree.specs.declared.tree_file.TreeFile.{TreeFile}
-use Rattle.tor_merkle.specs.declared.TheConstants.{MAX_LENGTH}
+use Rattle.tor_tree.proofs.Cited.{◌≡◌, ◌+◌, ◌<◌, ◌≤◌, ◌≢◌, ◌^◌, ℕ, List, [], Less, None, Option, length, get_or, map}
+use Rattle.tor_tree.proofs.Cited.{true, arith, IfSome, IsTotalOrder, All, AllZip, IsPermutation, IsStrictlySortedBy}
+use Rattle.tor_tree.proofs.Cited.{All-from_recursion, recursion_from_All, Data, HasRisingKeys, IsLawfulWithin}
+use Rattle.tor_tree.proofs.Cited.{IsFileList, IsInPathOrder, is_inside, lengths_fault, paths_fault, files_of_tree}
+use Rattle.tor_tree.proofs.Cited.{tree_fault, name_fault, HasNames, IsFilePath, path_cmp, AreIndices, AtMostOneTree}
+use Rattle.tor_tree.proofs.Cited.{HasItsRoot, IsFileTreeOf, file_tree, TreeFile, MAX_LENGTH}
 use Rattle.tor_tree.proofs.FilesBelow.{faultless_named}
 use Rattle.tor_tree.proofs.FileTrees.{made_file_tree}
 use Rattle.tor_tree.proofs.LawfulTree.{lawful_tree}

@@ -1,17 +1,11 @@
 -- The files of a tree without fault: their paths are those of files, and each has a root just where it is not empty.
-use Rattle.std.proofs.Common.{◌≡◌, ◌==◌, ◌&&◌, ◌<◌, ℕ, Bool, true, false, not, List, [], ◌∷◌, ◌++◌, map, length, Option}
-use Rattle.std.proofs.Common.{None, Some, is_none, refl, arith, suc, get_or}
-use Rattle.std.specs.List.{AllByRecursion, AllZip, All, list_any}
-use Rattle.std.proofs.lemmas.Bool.{and_parts, eqb-true, eqb-false, lt-ltb, not-false, or_parts}
-use Rattle.std.proofs.lemmas.List.Elements.{All-from_recursion}
-use Rattle.tor_bencode.specs.Data.{Data, integer, string, list, dictionary, Pairs, no_pairs, pair}
-use Rattle.tor_tree.specs.FileTree.{are_entries, entries_in, entries_of, file_of, files_of_tree, has_empty_key}
-use Rattle.tor_tree.specs.FileTree.{is_folder, lacks_root, tree_fault, tree_mixes, under}
-use Rattle.tor_tree.specs.Name.{name_fault}
-use Rattle.tor_tree.specs.Path.{IsFilePath}
-use Rattle.tor_tree.specs.Properties.{are_properties, is_hash, length_of, pieces_root}
-use Rattle.tor_tree.specs.TidyTree.{HasItsRoot}
-use Rattle.tor_tree.specs.declared.tree_file.TreeFile.{TreeFile}
+use Rattle.tor_tree.proofs.Cited.{◌≡◌, ◌==◌, ◌&&◌, ◌<◌, ℕ, Bool, true, false, not, List, [], ◌∷◌, ◌++◌, map, length}
+use Rattle.tor_tree.proofs.Cited.{Option, None, Some, is_none, refl, arith, suc, get_or, AllByRecursion, AllZip, All}
+use Rattle.tor_tree.proofs.Cited.{list_any, and_parts, eqb-true, eqb-false, lt-ltb, not-false, or_parts}
+use Rattle.tor_tree.proofs.Cited.{All-from_recursion, Data, integer, string, list, dictionary, Pairs, no_pairs, pair}
+use Rattle.tor_tree.proofs.Cited.{are_entries, entries_in, entries_of, file_of, files_of_tree, has_empty_key, is_folder}
+use Rattle.tor_tree.proofs.Cited.{lacks_root, tree_fault, tree_mixes, under, name_fault, IsFilePath, are_properties}
+use Rattle.tor_tree.proofs.Cited.{is_hash, length_of, pieces_root, HasItsRoot, TreeFile}
 use Rattle.tor_tree.proofs.ListFaults.{clear}
 use Rattle.tor_tree.proofs.Shaped.{HaveNames}
 use Rattle.tor_tree.proofs.TreeFaults.{faultless_tree}

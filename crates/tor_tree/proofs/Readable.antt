@@ -1,18 +1,11 @@
 -- The file tree of a list has none of the faults for which a tree is refused.
-use Rattle.std.proofs.Common.{◌≡◌, ◌≢◌, ℕ, suc, zero, ◌+◌, Bool, true, false, ◌&&◌, List, [], ◌∷◌, length, map, Option}
-use Rattle.std.proofs.Common.{None, Some, refl, sym, ap, subst, ◌∙◌, arith}
-use Rattle.std.specs.List.{AllByRecursion, AllZip, list_any}
-use Rattle.std.proofs.lemmas.Bool.{both_ways, false_from_ne_true}
-use Rattle.std.proofs.lemmas.List.{length-map}
-use Rattle.tor_bencode.specs.Data.{Data}
-use Rattle.tor_tree.specs.FileList.{IsFileList, IsInPathOrder, lengths_of, paths_nest, paths_of}
-use Rattle.tor_tree.specs.FileTree.{entries_of, file_of, lacks_root, properties_in, tree_fault}
-use Rattle.tor_tree.specs.Name.{name_fault}
-use Rattle.tor_tree.specs.Properties.{length_of, properties_for}
-use Rattle.tor_tree.specs.TidyTree.{HasItsRoot, IsFileTreeOf, plain_files}
-use Rattle.tor_tree.specs.Path.{HasNames, IsFilePath}
-use Rattle.tor_tree.specs.steps.Writing.{IsRoot}
-use Rattle.tor_tree.specs.declared.tree_file.TreeFile.{TreeFile}
+use Rattle.tor_tree.proofs.Cited.{◌≡◌, ◌≢◌, ℕ, suc, zero, ◌+◌, Bool, true, false, ◌&&◌, List, [], ◌∷◌, length, map}
+use Rattle.tor_tree.proofs.Cited.{Option, None, Some, refl, sym, ap, subst, ◌∙◌, arith, AllByRecursion, AllZip}
+use Rattle.tor_tree.proofs.Cited.{list_any, both_ways, false_from_ne_true, length-map, Data, IsFileList, IsInPathOrder}
+use Rattle.tor_tree.proofs.Cited.{lengths_of, paths_nest, paths_of, entries_of, file_of, lacks_root, properties_in}
+use Rattle.tor_tree.proofs.Cited.{tree_fault, name_fault, length_of, properties_for, HasItsRoot, IsFileTreeOf}
+use Rattle.tor_tree.proofs.Cited.{plain_files, HasNames, IsFilePath, IsRoot, TreeFile, All-from_recursion}
+use Rattle.tor_tree.proofs.Cited.{recursion_from_All}
 use Rattle.tor_tree.proofs.FilesBelow.{faultless_named}
 use Rattle.tor_tree.proofs.ListFaults.{none_inside, not_too_large, some_files}
 use Rattle.tor_tree.proofs.OneTree.{AreTidyFiles, tidy_of}
@@ -20,7 +13,6 @@ use Rattle.tor_tree.proofs.PathLists.{nest_found}
 use Rattle.tor_tree.proofs.Shaped.{HaveNames, no_link, no_negative_length, shaped_folder}
 use Rattle.tor_tree.proofs.TreeOfFiles.{one_root_each, plain, plain_file}
 use Rattle.tor_tree.proofs.Unmixed.{AreApart, HavePaths, apart_from_indices, paths_in, told_paths, unmixed}
-use Rattle.std.proofs.lemmas.List.Elements.{All-from_recursion, recursion_from_All}
 
 told_lengths : (entries : List (List (List ℕ) × Data))
     → map (λ (file : TreeFile). file.length) (map file_of entries) ≡ map length_of (map (λ entry. entry.1) entries)

@@ -1,11 +1,8 @@
 -- Lists whose elements strictly rise: from neighbours to the whole list, and how often one element is there.
-use Rattle.std.proofs.Common.{◌≡◌, ℕ, suc, ◌+◌, ◌<◌, ◌≤◌, Bool, true, false, cond, List, [], ◌∷◌, length, get_or, map}
-use Rattle.std.proofs.Common.{count_by, Ordering, Less, Equal, Greater, refl, ap, ◌∙◌, subst, zero-add, arith}
-use Rattle.std.specs.Cmp.{IsTotalOrder}
-use Rattle.std.specs.Ordering.{eq_by_cmp, is_eq}
-use Rattle.std.specs.List.{AllAdjacentBelow, AllByRecursion}
-use Rattle.std.specs.List.Sorted.{IsStrictlySortedBy}
-use Rattle.std.proofs.lemmas.List.Sums.{sum_by-cons, sum_by-take-drop, sum_by-drop_more}
+use Rattle.tor_tree.proofs.Cited.{◌≡◌, ℕ, suc, ◌+◌, ◌<◌, ◌≤◌, Bool, true, false, cond, List, [], ◌∷◌, length, get_or}
+use Rattle.tor_tree.proofs.Cited.{map, count_by, Ordering, Less, Equal, Greater, refl, ap, ◌∙◌, subst, zero-add, arith}
+use Rattle.tor_tree.proofs.Cited.{IsTotalOrder, eq_by_cmp, is_eq, AllAdjacentBelow, AllByRecursion, IsStrictlySortedBy}
+use Rattle.tor_tree.proofs.Cited.{sum_by-cons, sum_by-take-drop, sum_by-drop_more}
 
 neighbours_tail : {X : Type 0} (R : X → X → Type 0) (x : X) (xs : List X)
     → AllAdjacentBelow R (x ∷ xs) (length (x ∷ xs)) → AllAdjacentBelow R xs (length xs)

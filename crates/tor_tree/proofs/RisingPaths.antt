@@ -1,14 +1,8 @@
 -- The files of a tree whose keys rise are in the order of their paths.
-use Rattle.std.proofs.Common.{◌≡◌, ℕ, List, [], ◌∷◌, ◌++◌, map, Less, refl}
-use Rattle.std.specs.Cmp.Lexicographic.{nat_list_cmp_total}
-use Rattle.std.specs.List.{AllByRecursion}
-use Rattle.std.specs.List.Sorted.{IsStrictlySortedBy}
-use Rattle.std.proofs.lemmas.Cmp.{tied_itself}
-use Rattle.tor_bencode.specs.Data.{Data, integer, string, list, dictionary, Pairs, no_pairs, pair, keys_of}
-use Rattle.tor_bencode.specs.Lawful.{AreRising, HasRisingKeys}
-use Rattle.tor_tree.specs.FileTree.{entries_in, entries_of, files_of_tree, under}
-use Rattle.tor_tree.specs.Path.{name_cmp, path_cmp}
-use Rattle.tor_tree.specs.declared.tree_file.TreeFile.{TreeFile}
+use Rattle.tor_tree.proofs.Cited.{◌≡◌, ℕ, List, [], ◌∷◌, ◌++◌, map, Less, refl, nat_list_cmp_total, AllByRecursion}
+use Rattle.tor_tree.proofs.Cited.{IsStrictlySortedBy, tied_itself, Data, integer, string, list, dictionary, Pairs}
+use Rattle.tor_tree.proofs.Cited.{no_pairs, pair, keys_of, AreRising, HasRisingKeys, entries_in, entries_of}
+use Rattle.tor_tree.proofs.Cited.{files_of_tree, under, name_cmp, path_cmp, TreeFile}
 use Rattle.tor_tree.proofs.OneTree.{rising_rest}
 use Rattle.tor_tree.proofs.RisingTree.{AreRisingPairs}
 use Rattle.tor_tree.proofs.Unmixed.{paths_in, told_paths}

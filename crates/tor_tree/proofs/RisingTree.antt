@@ -1,19 +1,11 @@
 -- The tree of files whose paths rise has rising keys.
-use Rattle.std.proofs.Common.{◌≡◌, ◌≢◌, ℕ, Bool, true, false, cond, List, [], ◌∷◌, ◌++◌, map, Option, None, Some}
-use Rattle.std.proofs.Common.{Ordering, Less, Equal, Greater, refl, sym, ap, ◌∙◌, subst}
-use Rattle.std.specs.Ordering.{ordering_then, is_eq}
-use Rattle.std.specs.Cmp.Lexicographic.{texts_ties, nat_list_cmp_total}
-use Rattle.std.proofs.lemmas.Bool.{both_ways}
-use Rattle.std.proofs.lemmas.Cmp.{tied_itself}
-use Rattle.std.specs.List.{AllByRecursion}
-use Rattle.std.specs.List.Sorted.{IsStrictlySortedBy}
-use Rattle.tor_bencode.specs.Data.{Data, integer, string, list, dictionary, Pairs, no_pairs, pair, keys_of}
-use Rattle.tor_bencode.specs.Lawful.{AreRising, HasRisingKeys, PairsHaveRisingKeys}
-use Rattle.tor_tree.specs.FileTree.{entries_in, entries_of, under}
-use Rattle.tor_tree.specs.Path.{name_cmp, name_eq, path_cmp}
-use Rattle.tor_tree.specs.Properties.{properties_for}
-use Rattle.tor_tree.specs.TidyTree.{AreTidy, IsTidy, IsTidyFile}
-use Rattle.tor_tree.specs.WrittenTree.{pairs_of_files, put_first, put_under, put_inside}
+use Rattle.tor_tree.proofs.Cited.{◌≡◌, ◌≢◌, ℕ, Bool, true, false, cond, List, [], ◌∷◌, ◌++◌, map, Option, None, Some}
+use Rattle.tor_tree.proofs.Cited.{Ordering, Less, Equal, Greater, refl, sym, ap, ◌∙◌, subst, ordering_then, is_eq}
+use Rattle.tor_tree.proofs.Cited.{texts_ties, nat_list_cmp_total, both_ways, tied_itself, AllByRecursion}
+use Rattle.tor_tree.proofs.Cited.{IsStrictlySortedBy, Data, integer, string, list, dictionary, Pairs, no_pairs, pair}
+use Rattle.tor_tree.proofs.Cited.{keys_of, AreRising, HasRisingKeys, PairsHaveRisingKeys, entries_in, entries_of, under}
+use Rattle.tor_tree.proofs.Cited.{name_cmp, name_eq, path_cmp, properties_for, AreTidy, IsTidy, IsTidyFile}
+use Rattle.tor_tree.proofs.Cited.{pairs_of_files, put_first, put_under, put_inside}
 use Rattle.tor_tree.proofs.Groups.{name_is, name_own}
 use Rattle.tor_tree.proofs.MadeTree.{AreReady, made_tidy, made_entries}
 

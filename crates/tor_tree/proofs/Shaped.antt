@@ -1,12 +1,9 @@
 -- A tidy tree whose paths have names has the shape of a file tree.
-use Rattle.std.proofs.Common.{◌≡◌, ℕ, true, false, List, [], ◌∷◌, ◌++◌, map, Option, None, Some, refl, arith}
-use Rattle.std.specs.List.{AllByRecursion, list_any}
-use Rattle.std.proofs.lemmas.Bool.{le-ltb}
-use Rattle.tor_bencode.specs.Data.{Data, integer, string, list, dictionary, Pairs, no_pairs, pair}
-use Rattle.tor_tree.specs.FileTree.{are_entries, entries_in, entries_of, is_folder, under}
-use Rattle.tor_tree.specs.Name.{name_fault}
-use Rattle.tor_tree.specs.Properties.{are_properties, has_letter, has_negative_length, properties_for, letter_l}
-use Rattle.tor_tree.specs.TidyTree.{AreTidy, IsTidy}
+use Rattle.tor_tree.proofs.Cited.{◌≡◌, ℕ, true, false, List, [], ◌∷◌, ◌++◌, map, Option, None, Some, refl, arith}
+use Rattle.tor_tree.proofs.Cited.{AllByRecursion, list_any, le-ltb, Data, integer, string, list, dictionary, Pairs}
+use Rattle.tor_tree.proofs.Cited.{no_pairs, pair, are_entries, entries_in, entries_of, is_folder, under, name_fault}
+use Rattle.tor_tree.proofs.Cited.{are_properties, has_letter, has_negative_length, properties_for, letter_l, AreTidy}
+use Rattle.tor_tree.proofs.Cited.{IsTidy}
 use Rattle.tor_tree.proofs.OneTree.{AreTidyFiles}
 use Rattle.tor_tree.proofs.RisingTree.{first_in}
 

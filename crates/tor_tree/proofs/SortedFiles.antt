@@ -1,13 +1,8 @@
 -- What comparing each file of a sorted list with the next tells of the whole list.
-use Rattle.std.proofs.Common.{◌≡◌, ℕ, ◌+◌, ◌<◌, Bool, true, false, not, List, [], ◌∷◌, length, get_or, Ordering, Less}
-use Rattle.std.proofs.Common.{Equal, Greater, refl, sym, ap, ◌∙◌, arith, IsTrue}
-use Rattle.std.specs.Ordering.{is_lt, ordering_reverse}
-use Rattle.std.specs.List.{IsAllAdjacentAnswer, starts_with}
-use Rattle.std.specs.List.Sorted.{IsSortedByKey}
-use Rattle.std.proofs.lemmas.Bool.{not-true, not-false}
-use Rattle.std.proofs.lemmas.List.{get_or-map, length-map}
-use Rattle.tor_tree.specs.FileList.{paths_of, paths_repeat, paths_nest, IsInPathOrder}
-use Rattle.tor_tree.specs.Path.{name_eq, path_cmp}
+use Rattle.tor_tree.proofs.Cited.{◌≡◌, ℕ, ◌+◌, ◌<◌, Bool, true, false, not, List, [], ◌∷◌, length, get_or, Ordering}
+use Rattle.tor_tree.proofs.Cited.{Less, Equal, Greater, refl, sym, ap, ◌∙◌, arith, IsTrue, is_lt, ordering_reverse}
+use Rattle.tor_tree.proofs.Cited.{IsAllAdjacentAnswer, starts_with, IsSortedByKey, not-true, not-false, get_or-map}
+use Rattle.tor_tree.proofs.Cited.{length-map, paths_of, paths_repeat, paths_nest, IsInPathOrder, name_eq, path_cmp}
 use Rattle.tor_tree.proofs.PathLists.{path_order, repeat_none, repeat_found, nest_none, nest_found}
 use Rattle.tor_tree.proofs.Rising.{rising_from_neighbours}
 

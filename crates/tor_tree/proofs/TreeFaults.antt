@@ -1,19 +1,13 @@
 -- The faults of a tree are those of the entries that were read of it.
-use Rattle.std.proofs.Common.{◌≡◌, ◌==◌, ℕ, pos, Bool, true, false, not, cond, ◌&&◌, List, [], ◌∷◌, ◌++◌, length, map}
-use Rattle.std.proofs.Common.{nat_lt, Option, None, Some, is_none, unwrap_or, unsigned_abs, refl, sym, ap, ◌∙◌, arith}
-use Rattle.std.specs.List.{list_any, All, AllByRecursion}
-use Rattle.std.specs.Prelude.{int_lt, IsSome}
-use Rattle.std.proofs.lemmas.List.{length-map}
-use Rattle.std.proofs.lemmas.Simd.{map-map}
-use Rattle.std.proofs.lemmas.List.Elements.{All-from_recursion}
-use Rattle.std.proofs.lemmas.Bool.{or_parts, lt-ltb, eqb-false, not-false}
-use Rattle.tor_bencode.specs.Data.{Data, integer, string, list, dictionary, Pairs, no_pairs, pair}
-use Rattle.tor_tree.specs.FileList.{lengths_too_large}
-use Rattle.tor_tree.specs.FileTree.{entries_of, entries_in, under, file_of, files_of_tree, has_empty_key, is_folder}
-use Rattle.tor_tree.specs.FileTree.{lacks_root, properties_in, tree_fault, tree_mixes}
-use Rattle.tor_tree.specs.Properties.{has_negative_length, has_letter, length_of, is_hash, pieces_root, letter_l}
-use Rattle.tor_tree.specs.steps.Reading.{entries_fault, entry_at, file_from, hash_of, path_if_any}
-use Rattle.tor_tree.specs.declared.entries.Entry.{Entry}
+use Rattle.tor_tree.proofs.Cited.{◌≡◌, ◌==◌, ℕ, pos, Bool, true, false, not, cond, ◌&&◌, List, [], ◌∷◌, ◌++◌, length}
+use Rattle.tor_tree.proofs.Cited.{map, nat_lt, Option, None, Some, is_none, unwrap_or, unsigned_abs, refl, sym, ap, ◌∙◌}
+use Rattle.tor_tree.proofs.Cited.{arith, list_any, All, AllByRecursion, int_lt, IsSome, length-map, map-map}
+use Rattle.tor_tree.proofs.Cited.{All-from_recursion, or_parts, lt-ltb, eqb-false, not-false, Data, integer, string}
+use Rattle.tor_tree.proofs.Cited.{list, dictionary, Pairs, no_pairs, pair, lengths_too_large, entries_of, entries_in}
+use Rattle.tor_tree.proofs.Cited.{under, file_of, files_of_tree, has_empty_key, is_folder, lacks_root, properties_in}
+use Rattle.tor_tree.proofs.Cited.{tree_fault, tree_mixes, has_negative_length, has_letter, length_of, is_hash}
+use Rattle.tor_tree.proofs.Cited.{pieces_root, letter_l, entries_fault, entry_at, file_from, hash_of, path_if_any}
+use Rattle.tor_tree.proofs.Cited.{Entry}
 use Rattle.tor_tree.proofs.ListFaults.{clear}
 
 -- a test of entries agrees with one of properties

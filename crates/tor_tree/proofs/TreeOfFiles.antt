@@ -1,17 +1,8 @@
 -- The files of a list, with their roots, are what their tree describes.
-use Rattle.std.proofs.Common.{◌≡◌, ◌==◌, ℕ, suc, ◌<◌, Bool, true, false, cond, List, [], ◌∷◌, length, map, Option, None}
-use Rattle.std.proofs.Common.{Some, refl, ap, arith}
-use Rattle.std.specs.List.{AllByRecursion, AllZip}
-use Rattle.std.proofs.lemmas.Bool.{ne_eqb}
-use Rattle.std.proofs.lemmas.List.Elements.{recursion_from_All}
-use Rattle.tor_tree.specs.FileList.{paths_of}
-use Rattle.tor_tree.specs.FileTree.{file_of}
-use Rattle.tor_tree.specs.Properties.{properties_for}
-use Rattle.tor_tree.specs.TidyTree.{HasItsRoot, plain_files}
-use Rattle.tor_tree.specs.declared.tree_file.TreeFile.{TreeFile}
-use Rattle.tor_tree.specs.Path.{HasNames}
-use Rattle.tor_tree.specs.steps.Writing.{files_below}
-use Rattle.tor_tree.specs.WrittenTree.{with_properties}
+use Rattle.tor_tree.proofs.Cited.{◌≡◌, ◌==◌, ℕ, suc, ◌<◌, Bool, true, false, cond, List, [], ◌∷◌, length, map, Option}
+use Rattle.tor_tree.proofs.Cited.{None, Some, refl, ap, arith, AllByRecursion, AllZip, ne_eqb, recursion_from_All}
+use Rattle.tor_tree.proofs.Cited.{paths_of, file_of, properties_for, HasItsRoot, plain_files, TreeFile, HasNames}
+use Rattle.tor_tree.proofs.Cited.{files_below, with_properties}
 use Rattle.tor_tree.proofs.MadeTree.{AreReady}
 
 pub one_root_each : (files : List (List (List ℕ) × ℕ)) (roots : List (Option (List ℕ))) → AllZip HasItsRoot files roots

@@ -1,15 +1,9 @@
 -- A tidy tree with rising keys, none of whose paths begins the next, has no folder that is a file too.
-use Rattle.std.proofs.Common.{◌≡◌, ◌≢◌, ◌==◌, ◌&&◌, ℕ, suc, ◌<◌, false, List, [], ◌∷◌, ◌++◌, length, map, nat_lt}
-use Rattle.std.proofs.Common.{get_or, refl, ap, arith}
-use Rattle.std.specs.List.{AllByRecursion, starts_with}
-use Rattle.std.proofs.lemmas.Bool.{ne_eqb}
-use Rattle.tor_bencode.specs.Data.{Data, integer, string, list, dictionary, Pairs, no_pairs, pair, keys_of}
-use Rattle.tor_bencode.specs.Lawful.{AreRising, HasRisingKeys}
-use Rattle.tor_tree.specs.declared.tree_file.TreeFile.{TreeFile}
-use Rattle.tor_tree.specs.FileTree.{entries_in, entries_of, file_of, entries_mix, folder_mixes, has_empty_key}
-use Rattle.tor_tree.specs.FileTree.{tree_mixes, under}
-use Rattle.tor_tree.specs.Path.{name_eq}
-use Rattle.tor_tree.specs.TidyTree.{AreTidy, IsTidy}
+use Rattle.tor_tree.proofs.Cited.{◌≡◌, ◌≢◌, ◌==◌, ◌&&◌, ℕ, suc, ◌<◌, false, List, [], ◌∷◌, ◌++◌, length, map, nat_lt}
+use Rattle.tor_tree.proofs.Cited.{get_or, refl, ap, arith, AllByRecursion, starts_with, ne_eqb, Data, integer, string}
+use Rattle.tor_tree.proofs.Cited.{list, dictionary, Pairs, no_pairs, pair, keys_of, AreRising, HasRisingKeys, TreeFile}
+use Rattle.tor_tree.proofs.Cited.{entries_in, entries_of, file_of, entries_mix, folder_mixes, has_empty_key, tree_mixes}
+use Rattle.tor_tree.proofs.Cited.{under, name_eq, AreTidy, IsTidy}
 use Rattle.tor_tree.proofs.Groups.{name_own}
 use Rattle.tor_tree.proofs.OneTree.{rising_rest}
 use Rattle.tor_tree.proofs.RisingTree.{AreRisingPairs, first_in}

@@ -1,18 +1,10 @@
 -- A step of the walk through a file tree.
-use Rattle.std.proofs.Common.{◌≡◌, ◌==◌, ◌+◌, ◌<◌, ◌≤◌, ◌&&◌, get_or, drop, is_none, Bool, true, ℕ, false, Vec, Global}
-use Rattle.std.proofs.Common.{List, [], ◌∷◌, ◌++◌, length, map, refl, sym, ap, ◌∙◌, append_assoc, rules, arith, zero}
-use Rattle.std.proofs.Common.{suc}
-use Rattle.std.proofs.lemmas.Bool.{and_parts}
-use Rattle.std.proofs.lemmas.List.{append-nil, drop_more, drop_all, map-append}
-use Rattle.tor_bencode.specs.Data.{Data, dictionary, Pairs, pair, no_pairs}
-use Rattle.tor_bencode.specs.View.{view, pairs_view}
-use Rattle.tor_bencode.specs.declared.item.Item.{Item, Dict, the_lemmas}
-use Rattle.tor_tree.specs.FileTree.{entries_in, entries_of, under, are_entries, is_folder, takes_memory}
-use Rattle.tor_tree.specs.FileTree.{takes_memory_in}
-use Rattle.tor_tree.specs.Name.{name_fault}
-use Rattle.tor_tree.specs.Properties.{are_properties}
-use Rattle.tor_tree.specs.declared.entries.Entry.{Entry}
-use Rattle.tor_tree.specs.steps.Reading.{entry_at, path_if_any, facts_in}
+use Rattle.tor_tree.proofs.Cited.{◌≡◌, ◌==◌, ◌+◌, ◌<◌, ◌≤◌, ◌&&◌, get_or, drop, is_none, Bool, true, ℕ, false, Vec}
+use Rattle.tor_tree.proofs.Cited.{Global, List, [], ◌∷◌, ◌++◌, length, map, refl, sym, ap, ◌∙◌, append_assoc, rules}
+use Rattle.tor_tree.proofs.Cited.{arith, zero, suc, and_parts, append-nil, drop_more, drop_all, map-append, Data}
+use Rattle.tor_tree.proofs.Cited.{dictionary, Pairs, pair, no_pairs, view, pairs_view, Item, Dict, the_lemmas}
+use Rattle.tor_tree.proofs.Cited.{entries_in, entries_of, under, are_entries, is_folder, takes_memory, takes_memory_in}
+use Rattle.tor_tree.proofs.Cited.{name_fault, are_properties, Entry, entry_at, path_if_any, facts_in}
 
 pub view_dictionary : (pairs : Vec (Vec ℕ Global × Item) Global)
     → view (Dict pairs) ≡ dictionary (pairs_view pairs.items)

@@ -60,6 +60,22 @@ pub fn lay_out(
     }
 }
 
+/// The same of files whose paths nobody has to tell from those of padding.
+pub fn entries_of(
+    alloc: Global,
+    files: &[(FilePath, u64)],
+    piece_length: u64,
+    layout: Layout,
+) -> Result<Vec<Entry>, AllocError>
+    requires { IsV1PieceLength piece_length }
+    ensures { IfOk result (λ entries. entries.items ≡ v1_entries layout piece_length files.now) }
+{
+    match layout {
+        Layout::Joined => joined(alloc, files),
+        Layout::Aligned => aligned(alloc, files, piece_length),
+    }
+}
+
 /// Whether only padding may have one of the paths.
 fn any_reserved(files: &[(FilePath, u64)]) -> bool
     ensures { result ≡ list_any (λ file. is_reserved file.0) files.now }
@@ -104,7 +120,7 @@ fn aligned(
 }
 
 /// How many of the files are not empty.
-pub fn count_with_bytes(files: &[(FilePath, u64)]) -> usize
+fn count_with_bytes(files: &[(FilePath, u64)]) -> usize
     ensures { result ≡ count_by (λ file. nat_lt 0 file.1) files.now }
 {
     files.iter().filter(|file| file.1 > 0).count()

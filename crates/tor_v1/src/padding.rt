@@ -10,7 +10,7 @@ use std::alloc::{AllocError, Global};
 use tor_tree::{FilePath, Name, NameError};
 
 /// How many bytes a file of `length` bytes lacks to a whole number of pieces.
-pub fn padding_length(length: u64, piece_length: u64) -> u64
+pub(crate) fn padding_length(length: u64, piece_length: u64) -> u64
     requires { IsV1PieceLength piece_length }
     ensures { result ≡ padding_length piece_length length }
 {

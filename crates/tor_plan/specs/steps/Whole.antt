@@ -9,10 +9,9 @@ use Rattle.tor_plan.specs.EntryList.{IsEntryList}
 use Rattle.tor_plan.specs.Forest.{forest_trees}
 use Rattle.tor_plan.specs.Pieces.{pieces_of_unit}
 use Rattle.tor_plan.specs.PlanFacts.{PlanFacts}
-use Rattle.tor_plan.specs.Units.{units_of_file}
 use Rattle.tor_plan.specs.declared.units.Part.{Part}
 use Rattle.tor_plan.specs.declared.units.PlanUnit.{PlanUnit}
-use Rattle.tor_plan.specs.steps.Joined.{file_alone, joined, zeros_alone}
+use Rattle.tor_plan.specs.steps.Joined.{file_alone, joined, part_alone, zeros_alone}
 
 -- one entry after another; the first file has this index
 unfoldable pub whole_from : ℕ → List Entry → PlanUnit
@@ -25,13 +24,13 @@ abbrev pub whole_unit : List Entry → PlanUnit
 whole_unit entries = whole_from 0 entries
 
 -- whole files cut each by itself, with the zeros after them
-abbrev pub separate_parts : ℕ → List Part → List PlanUnit
-separate_parts size parts = flat_map (λ part. units_of_file size part.file part.length part.zeros) parts
+abbrev pub separate_pieces : ℕ → List Part → List PlanUnit
+separate_pieces size parts = flat_map (λ part. pieces_of_unit size (part_alone part)) parts
 
 -- the whole cut every size bytes: all of it in version 1, else each file by itself
 abbrev pub whole_units : Kind → ℕ → PlanUnit → List PlanUnit
 whole_units V1 size whole = pieces_of_unit size whole
-whole_units kind size whole = separate_parts size whole.parts
+whole_units kind size whole = separate_pieces size whole.parts
 
 -- the plan of a whole of files that have these lengths
 abbrev pub plan_of_whole : Kind → ℕ → ℕ → PlanUnit → List ℕ → PlanFacts

@@ -1,6 +1,4 @@
-use Rattle.std.proofs.Common.{◌≡◌, drop}
-use Rattle.tor_bencode.specs.Find.{value_in}
-use Rattle.tor_bencode.specs.View.{pairs_view}
+use Rattle.tor_bencode.proofs.Names.{◌≡◌, drop, value_in, pairs_view}
 use Rattle.tor_bencode.proofs.lookup.find.Given as goal
 
 -- the value is among the pairs that are left, if it is anywhere

@@ -1,8 +1,5 @@
-use Rattle.std.proofs.Common.{rules}
-use Rattle.std.proofs.lemmas.Fn.{always_returns_same}
-use Rattle.std.specs.Cmp.Lexicographic.{slice_cmp}
-use Rattle.std.specs.Ordering.{nat_cmp}
-use Rattle.tor_bencode.proofs.InOrder.{searched}
+use Rattle.tor_bencode.proofs.Names.{rules, always_returns_same, slice_cmp, nat_cmp}
+use Rattle.tor_bencode.proofs.Rising.{searched}
 use Rattle.tor_bencode.proofs.lookup.index_of_key.Goals as goal
 
 pub returns-clause-found : goal.returns-clause-found

@@ -1,17 +1,13 @@
-use Rattle.std.proofs.Common.{◌≡◌, get_or, Ok, Some, sym, ap, ◌∙◌, subst, arith, inl, inr}
-use Rattle.std.proofs.Common.{ℤ, rules}
-use Rattle.std.proofs.lemmas.Int.{ints}
+use Rattle.tor_bencode.proofs.Names.{◌≡◌, get_or, Ok, Some, sym, ap, ◌∙◌, subst, arith, inl, inr, ℤ, rules, ints, to_z}
+use Rattle.tor_bencode.proofs.Names.{of_z, SFits, err_from_is_err_and, Data, Items, Pairs, pair, no_pairs, integer}
+use Rattle.tor_bencode.proofs.Names.{list, dictionary, ◌>>=◌, Reading, Stops, value_at, items_at, pairs_at, view}
+use Rattle.tor_bencode.proofs.Names.{items_view, pairs_view}
 use mir.Syntax.{w64}
-use mir.Val.{to_z, of_z, SFits}
-use Rattle.std.proofs.lemmas.Result.{err_from_is_err_and}
-use Rattle.tor_bencode.specs.Data.{Data, Items, Pairs, pair, no_pairs, integer, list, dictionary}
-use Rattle.tor_bencode.specs.steps.Reading.{◌>>=◌, Reading, Stops, value_at, items_at, pairs_at}
-use Rattle.tor_bencode.specs.View.{view, items_view, pairs_view}
 use Rattle.tor_bencode.proofs.Loops.{with_items, with_pairs, pairs_before, items_view-push, items_end, items_go_on}
-use Rattle.tor_bencode.proofs.Loops.{stops_bind}
-use Rattle.tor_bencode.proofs.PairLoops.{pairs_view-push, pairs_end, pairs_go_on, pairs_stop_key, pairs_stop_order}
-use Rattle.tor_bencode.proofs.PairLoops.{pairs_stop_value}
+use Rattle.tor_bencode.proofs.Loops.{stops_bind, pairs_view-push, pairs_end, pairs_go_on, pairs_stop_key}
+use Rattle.tor_bencode.proofs.Loops.{pairs_stop_order, pairs_stop_value}
 use Rattle.tor_bencode.proofs.Values.{value_integer, value_list, value_dictionary, value_too_deep}
+use Rattle.tor_bencode.proofs.Spelled.{starts_within}
 use Rattle.tor_bencode.proofs.Views.{view-Int, view-List, view-Dict}
 use Rattle.tor_bencode.proofs.read.+read.Goals as goal
 
@@ -47,36 +43,36 @@ dictionary-returns-in_err-key-clause-read t c =
     let l = c.pairs in
     let p = err_from_is_err_and c.from_residual.result c.from_residual.ensures.1 in
     rw (p.1, p.2)
-    (pairs_stop_key (value_at c.args.room) (pairs_view l.pairs.items) l.invariant.0 _ l.rest.now c.in_err-key.field-0.0
-    _ (omega arith) (omega arith) (omega arith) l.invariant.1 c.in_err-key.ensures.read l.invariant.3)
+    (pairs_stop_key (value_at c.args.room) (pairs_view l.pairs.items) l.invariant.0 _ l.rest.now _
+    (starts_within _ (omega arith) (omega arith) (omega arith)) l.invariant.1 l.invariant.3 c.in_err-key.field-0.0
+    c.in_err-key.ensures.read)
 
 pub dictionary-returns-then-not-follows-clause-read : goal.dictionary-returns-then-not-follows-clause-read
 dictionary-returns-then-not-follows-clause-read t c =
     let l = c.pairs in
-    pairs_stop_order (value_at c.args.room)
-    (pairs_view l.pairs.items) l.invariant.0 _ l.rest.now c.in_ok-key.key.now c.in_ok-key.after.now _ (omega arith)
-    (omega arith) (omega arith) l.invariant.1 c.in_ok-key.ensures.read
-    (sym c.follows.ensures ∙ c.if-not-follows.true) l.invariant.3
+    pairs_stop_order (value_at c.args.room) (pairs_view l.pairs.items) l.invariant.0 _ l.rest.now _
+    (starts_within _ (omega arith) (omega arith) (omega arith)) l.invariant.1 l.invariant.3 c.in_ok-key.key.now
+    c.in_ok-key.after.now c.in_ok-key.ensures.read (sym c.follows.ensures ∙ c.if-not-follows.true)
 
 pub dictionary-returns-in_err-item-clause-read : goal.dictionary-returns-in_err-item-clause-read
 dictionary-returns-in_err-item-clause-read t c =
     let l = c.pairs in
     let p = err_from_is_err_and c.from_residual-in_err-item.result c.from_residual-in_err-item.ensures.1 in
     rw (p.1, p.2)
-    (pairs_stop_value (value_at c.args.room) (pairs_view l.pairs.items) l.invariant.0 _ l.rest.now c.in_ok-key.key.now
-    c.in_ok-key.after.now c.in_err-item.field-0.0 _
-    (omega arith) (omega arith) (omega arith) l.invariant.1 c.in_ok-key.ensures.read
-    (sym c.follows.ensures ∙ c.if-not-follows.false) c.in_err-item.ensures.read l.invariant.3)
+    (pairs_stop_value (value_at c.args.room) (pairs_view l.pairs.items) l.invariant.0 _ l.rest.now _
+    (starts_within _ (omega arith) (omega arith) (omega arith)) l.invariant.1 l.invariant.3 c.in_ok-key.key.now
+    c.in_ok-key.after.now c.in_ok-key.ensures.read c.in_err-item.field-0.0
+    (sym c.follows.ensures ∙ c.if-not-follows.false) c.in_err-item.ensures.read)
 
 pub dictionary-pairs-preserved : goal.dictionary-pairs-preserved
 dictionary-pairs-preserved t c =
     let l = c.pairs in
     let step =
-    pairs_go_on (value_at c.args.room)
-    (pairs_view l.pairs.items) l.invariant.0 _ l.rest.now c.in_ok-key.key.now c.in_ok-key.after.now
-    (view c.in_ok-item.item) c.in_ok-item.after.now _ (omega arith) (omega arith) (omega arith) l.invariant.1
-    (omega (arith, c.in_ok-key.ensures.shorter, c.in_ok-item.ensures.shorter)) c.in_ok-key.ensures.read
-    (sym c.follows.ensures ∙ c.if-not-follows.false) c.in_ok-item.ensures.read l.invariant.3 in
+    pairs_go_on (value_at c.args.room) (pairs_view l.pairs.items) l.invariant.0 _ l.rest.now _
+    (starts_within _ (omega arith) (omega arith) (omega arith)) l.invariant.1 l.invariant.3 c.in_ok-key.key.now
+    c.in_ok-key.after.now c.in_ok-key.ensures.read (view c.in_ok-item.item) c.in_ok-item.after.now
+    (omega (arith, c.in_ok-key.ensures.shorter, c.in_ok-item.ensures.shorter))
+    (sym c.follows.ensures ∙ c.if-not-follows.false) c.in_ok-item.ensures.read in
     let named =
     ap (λ key. pairs_before (pairs_view l.pairs.items) (pair key (view c.in_ok-item.item) no_pairs))
     c.in_ok-from_slice.ensures.items in
@@ -94,11 +90,11 @@ dictionary-pairs-preserved t c =
 
 pub value-returns-then-room-eq0-clause-read : goal.value-returns-then-room-eq0-clause-read
 value-returns-then-room-eq0-clause-read t c =
-    value_too_deep c.args.room c.args.bytes.now c.if-room-eq0.true (omega arith) (inl (omega arith))
+    value_too_deep c.args.room c.args.bytes.now (omega arith) c.if-room-eq0.true (inl (omega arith))
 
 pub value-returns-then-room-eq0-2-clause-read : goal.value-returns-then-room-eq0-2-clause-read
 value-returns-then-room-eq0-2-clause-read t c =
-    value_too_deep c.args.room c.args.bytes.now c.if-room-eq0-2.true (omega arith) (inr (omega arith))
+    value_too_deep c.args.room c.args.bytes.now (omega arith) c.if-room-eq0-2.true (inr (omega arith))
 
 pub value-returns-in_err-items-in-108-clause-read : goal.value-returns-in_err-items-in-108-clause-read
 value-returns-in_err-items-in-108-clause-read t c =

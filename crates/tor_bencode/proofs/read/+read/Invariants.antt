@@ -1,6 +1,5 @@
-use Rattle.std.proofs.Common.{◌≡◌, ◌+◌, ◌*◌, ◌≤◌, ℕ, length, None, option_map}
-use Rattle.tor_bencode.specs.steps.Reading.{value_at, items_at, pairs_at}
-use Rattle.tor_bencode.specs.View.{items_view, pairs_view}
+use Rattle.tor_bencode.proofs.Names.{◌≡◌, ◌+◌, ◌*◌, ◌≤◌, ℕ, length, None, option_map, value_at, items_at, pairs_at}
+use Rattle.tor_bencode.proofs.Names.{items_view, pairs_view}
 use Rattle.tor_bencode.proofs.Loops.{with_items, with_pairs}
 use Rattle.tor_bencode.proofs.read.+read.Given as goal
 

@@ -1,10 +1,6 @@
-use Rattle.std.proofs.Common.{◌≡◌, ℕ, List, Ok, Err, Result, sym, subst, arith}
-use Rattle.tor_bencode.specs.Data.{Data}
-use Rattle.tor_bencode.specs.declared.fault.Fault.{Fault}
-use Rattle.tor_bencode.specs.Lawful.{IsLawful}
-use Rattle.tor_bencode.specs.steps.Reading.{Stops, whole}
-use Rattle.tor_bencode.specs.Spelling.{spelling}
-use Rattle.tor_bencode.specs.View.{view}
+use Rattle.tor_bencode.proofs.Names.{◌≡◌, ℕ, List, Ok, Err, sym, subst, arith, Data, Fault, IsLawful, Stops, whole}
+use Rattle.tor_bencode.proofs.Names.{spelling, view}
+use Rattle.tor_bencode.proofs.ProvedLaws.{never_both}
 use Rattle.tor_bencode.proofs.ReadBack.{whole-spelling}
 use Rattle.tor_bencode.proofs.Whole.{WholeIs, whole_sound, refused_within}
 use Rattle.tor_bencode.proofs.read.decode.Goals as goal
@@ -14,9 +10,6 @@ tree_read bytes d e = subst (WholeIs bytes) e (whole_sound bytes)
 
 fault_read : (bytes : List ℕ) (f : Fault × List ℕ) → whole bytes ≡ Err f → WholeIs bytes (Err f)
 fault_read bytes f e = subst (WholeIs bytes) e (whole_sound bytes)
-
-never_both : (d : Data) (x : Fault × List ℕ) (r : Result Data (Fault × List ℕ)) → r ≡ Ok d → r ≡ Err x → ⊥
-never_both d x r e f = cc
 
 pub known-requires : goal.known-requires
 known-requires c = (tree_read c.args.bytes.now (view c.in-Ok.item) c.in-Ok.ensures.read).0

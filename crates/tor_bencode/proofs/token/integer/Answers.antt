@@ -1,6 +1,4 @@
-use Rattle.std.proofs.Common.{arith}
-use Rattle.std.proofs.lemmas.List.Sums.{prefix_len-le-length}
-use Rattle.tor_bencode.specs.Fault.{is_integer_byte}
+use Rattle.tor_bencode.proofs.Names.{arith, prefix_len-le-length, is_integer_byte}
 use Rattle.tor_bencode.proofs.token.integer.Goals as goal
 
 pub split_at-requires : goal.split_at-requires

@@ -1,5 +1,4 @@
-use Rattle.std.proofs.Common.{◌^◌, arith}
-use Rattle.tor_bencode.specs.steps.Reading.{number}
+use Rattle.tor_bencode.proofs.Names.{◌^◌, arith, number}
 use Rattle.tor_bencode.proofs.Numerals.{too_large}
 use Rattle.tor_bencode.proofs.token.number.Goals as goal
 

@@ -1,5 +1,4 @@
-use Rattle.std.proofs.Common.{◌≡◌, ◌<◌, ◌^◌, drop}
-use Rattle.tor_bencode.specs.steps.Reading.{number, number_after}
+use Rattle.tor_bencode.proofs.Names.{◌≡◌, ◌<◌, ◌^◌, drop, number, number_after}
 use Rattle.tor_bencode.proofs.token.number.Given as goal
 
 abbrev pub invariant-loop-digit : goal.invariant-loop-digit

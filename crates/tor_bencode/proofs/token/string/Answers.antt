@@ -1,6 +1,4 @@
-use Rattle.std.proofs.Common.{arith}
-use Rattle.std.specs.Char.{is_ascii_digit}
-use Rattle.std.proofs.lemmas.List.Sums.{prefix_len-le-length}
+use Rattle.tor_bencode.proofs.Names.{arith, is_ascii_digit, prefix_len-le-length}
 use Rattle.tor_bencode.proofs.token.string.Goals as goal
 
 pub split_at-requires : goal.split_at-requires

@@ -1,12 +1,9 @@
-use Rattle.std.proofs.Common.{◌≡◌, ap, ◌∙◌, sym, subst, arith}
-use Rattle.std.proofs.lemmas.Bool.{false≢true}
-use Rattle.tor_bencode.specs.Data.{dictionary, keys_of}
-use Rattle.tor_bencode.specs.Lawful.{AreRising, IsLawfulWithin}
-use Rattle.tor_bencode.specs.View.{view, pairs_view}
+use Rattle.tor_bencode.proofs.Names.{◌≡◌, ap, ◌∙◌, sym, subst, arith, false≢true, dictionary, keys_of, AreRising}
+use Rattle.tor_bencode.proofs.Names.{IsLawfulWithin, view, pairs_view}
 use Rattle.tor_bencode.proofs.Lawfulness.{lawful-dictionary}
 use Rattle.tor_bencode.proofs.Views.{view-Dict}
-use Rattle.tor_bencode.proofs.tree.+lawful.Goals as goal
 use Rattle.tor_bencode.proofs.tree.+lawful.Goals.{is_lawful-then-room-gt0-2, is_lawful-else-room-gt0-2}
+use Rattle.tor_bencode.proofs.tree.+lawful.Goals as goal
 
 pub is_lawful-returns-else-keys_rise : goal.is_lawful-returns-else-keys_rise
 is_lawful-returns-else-keys_rise t c =

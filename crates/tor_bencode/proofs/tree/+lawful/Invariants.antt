@@ -1,6 +1,4 @@
-use Rattle.std.proofs.Common.{◌↔◌, drop}
-use Rattle.tor_bencode.specs.Lawful.{ItemsAreLawfulWithin, PairsAreLawfulWithin}
-use Rattle.tor_bencode.specs.View.{items_view, pairs_view}
+use Rattle.tor_bencode.proofs.Names.{◌↔◌, drop, ItemsAreLawfulWithin, PairsAreLawfulWithin, items_view, pairs_view}
 use Rattle.tor_bencode.proofs.tree.+lawful.Given as goal
 
 -- all are lawful if those that are left are

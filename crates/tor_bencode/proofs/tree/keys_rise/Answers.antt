@@ -1,5 +1,4 @@
-use Rattle.std.proofs.Common.{◌-◌, ◌+◌, ◌≡◌, drop, refl, sym, ap, ◌∙◌, subst, arith}
-use Rattle.std.proofs.lemmas.Bool.{false≢true}
+use Rattle.tor_bencode.proofs.Names.{◌-◌, ◌+◌, ◌≡◌, drop, refl, sym, ap, ◌∙◌, subst, arith, false≢true}
 use Rattle.tor_bencode.proofs.Rising.{KeysRise, KeysRise-from, KeysRise-last}
 use Rattle.tor_bencode.proofs.tree.keys_rise.Goals as goal
 

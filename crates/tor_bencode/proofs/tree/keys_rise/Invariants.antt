@@ -1,7 +1,4 @@
-use Rattle.std.proofs.Common.{◌-◌, ◌↔◌, drop}
-use Rattle.tor_bencode.specs.Data.{keys_of}
-use Rattle.tor_bencode.specs.Lawful.{AreRising}
-use Rattle.tor_bencode.specs.View.{pairs_view}
+use Rattle.tor_bencode.proofs.Names.{◌-◌, ◌↔◌, drop, keys_of, AreRising, pairs_view}
 use Rattle.tor_bencode.proofs.tree.keys_rise.Given as goal
 
 -- the keys rise if those from the last one on do

@@ -1,14 +1,12 @@
-use Rattle.std.proofs.Common.{◌≡◌, ◌≤◌, length, get_or, ◌∷◌, ap, subst, arith}
-use Rattle.tor_bencode.specs.Lawful.{ItemsAreLawfulWithin}
-use Rattle.tor_bencode.specs.Spelling.{items_spelling}
-use Rattle.std.proofs.lemmas.List.{length-append}
+use Rattle.tor_bencode.proofs.Names.{◌≡◌, ◌≤◌, length, get_or, ◌∷◌, ap, subst, arith, ItemsAreLawfulWithin}
+use Rattle.tor_bencode.proofs.Names.{items_spelling, length-append}
 use Rattle.tor_bencode.proofs.Numerals.{digit_from_range}
 use Rattle.tor_bencode.proofs.Lawfulness.{lawful-item}
 use Rattle.tor_bencode.proofs.Skips.{skip_integer, skip_no_integer, skip_string, skip_no_string, skip_too_deep}
 use Rattle.tor_bencode.proofs.Skips.{opened_values, next_item, end_after, no_head, not_empty, two_heads}
-use Rattle.tor_bencode.proofs.value_span.+skip.Goals as goal
 use Rattle.tor_bencode.proofs.value_span.+skip.Goals.{skip-in_default-via-then-bytes-lt48}
 use Rattle.tor_bencode.proofs.value_span.+skip.Goals.{skip-in_default-via-else-bytes-lt48+else-bytes-lt58}
+use Rattle.tor_bencode.proofs.value_span.+skip.Goals as goal
 
 pub skip-returns-then-room-eq0-clause-skipped : goal.skip-returns-then-room-eq0-clause-skipped
 skip-returns-then-room-eq0-clause-skipped t c =

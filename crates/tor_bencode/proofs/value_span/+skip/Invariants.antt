@@ -1,7 +1,5 @@
-use Rattle.std.proofs.Common.{◌≡◌, ◌+◌, ◌*◌, ◌≤◌, List, ℕ, ◌∷◌, ◌++◌, length}
-use Rattle.tor_bencode.specs.Data.{Items}
-use Rattle.tor_bencode.specs.Lawful.{ItemsAreLawfulWithin}
-use Rattle.tor_bencode.specs.Spelling.{items_spelling}
+use Rattle.tor_bencode.proofs.Names.{◌≡◌, ◌+◌, ◌*◌, ◌≤◌, List, ℕ, ◌∷◌, ◌++◌, length, Items, ItemsAreLawfulWithin}
+use Rattle.tor_bencode.proofs.Names.{items_spelling}
 use Rattle.tor_bencode.proofs.value_span.+skip.Given as goal
 
 abbrev pub decreases-skip : goal.decreases-skip

@@ -1,6 +1,5 @@
-use Rattle.std.proofs.Common.{◌≡◌, ◌-◌, length, take, drop, sym, ap, ◌∙◌, arith}
-use Rattle.std.proofs.lemmas.List.{length-take, length-drop}
-use Rattle.tor_bencode.specs.Span.{span_in}
+use Rattle.tor_bencode.proofs.Names.{◌≡◌, ◌-◌, length, take, drop, sym, ap, ◌∙◌, arith, length-take, length-drop}
+use Rattle.tor_bencode.proofs.Names.{span_in}
 use Rattle.tor_bencode.proofs.SkippedPairs.{open_pairs, next_pair, none_left, span_found, span_later}
 use Rattle.tor_bencode.proofs.value_span.span.Goals as goal
 

@@ -1,8 +1,5 @@
-use Rattle.std.proofs.Common.{◌≡◌, ◌-◌, ◌≤◌, [], ◌∷◌, ◌++◌, length}
-use Rattle.tor_bencode.specs.Data.{Data, Pairs}
-use Rattle.tor_bencode.specs.Lawful.{IsLawful, PairsAreLawfulWithin}
-use Rattle.tor_bencode.specs.Span.{span_in, span_of}
-use Rattle.tor_bencode.specs.Spelling.{spelling, pairs_spelling}
+use Rattle.tor_bencode.proofs.Names.{◌≡◌, ◌-◌, ◌≤◌, [], ◌∷◌, ◌++◌, length, Data, Pairs, IsLawful, PairsAreLawfulWithin}
+use Rattle.tor_bencode.proofs.Names.{span_in, span_of, spelling, pairs_spelling}
 use Rattle.tor_bencode.proofs.value_span.span.Given as goal
 
 -- the span is among the pairs that are left, if it is anywhere

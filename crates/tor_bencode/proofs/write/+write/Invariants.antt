@@ -1,7 +1,4 @@
-use Rattle.std.proofs.Common.{◌≡◌, ◌++◌, drop}
-use Rattle.std.specs.Prelude.{codes}
-use Rattle.tor_bencode.specs.Spelling.{items_spelling, pairs_spelling}
-use Rattle.tor_bencode.specs.View.{items_view, pairs_view}
+use Rattle.tor_bencode.proofs.Names.{◌≡◌, ◌++◌, drop, codes, items_spelling, pairs_spelling, items_view, pairs_view}
 use Rattle.tor_bencode.proofs.write.+write.Given as goal
 
 -- what was written, with the items that are left, is the list but for its end

@@ -1,8 +1,6 @@
-use Rattle.std.proofs.Common.{◌≡◌, ℕ, List, [], ◌∷◌, ◌++◌, ap, ap₂, ◌∙◌, append_assoc, arith}
-use Rattle.std.proofs.lemmas.Int.{ints}
+use Rattle.tor_bencode.proofs.Names.{◌≡◌, ℕ, List, [], ◌∷◌, ◌++◌, ap, ap₂, ◌∙◌, append_assoc, arith, ints, to_z, of_z}
+use Rattle.tor_bencode.proofs.Names.{signed_decimal}
 use mir.Syntax.{w64}
-use mir.Val.{to_z, of_z}
-use Rattle.std.specs.Fmt.{signed_decimal}
 use Rattle.tor_bencode.proofs.Numerals.{signed_base_ten-decimal}
 use Rattle.tor_bencode.proofs.write.write_integer.Goals as goal
 

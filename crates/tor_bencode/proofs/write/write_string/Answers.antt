@@ -1,5 +1,4 @@
-use Rattle.std.proofs.Common.{length, arith}
-use Rattle.std.proofs.lemmas.Grind.{common_steps}
+use Rattle.tor_bencode.proofs.Names.{length, arith, common_steps}
 use Rattle.tor_bencode.proofs.Numerals.{base_ten-decimal}
 use Rattle.tor_bencode.proofs.write.write_string.Goals as goal
 

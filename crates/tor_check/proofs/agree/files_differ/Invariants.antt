@@ -1,7 +1,4 @@
-use Rattle.std.proofs.Common.{◌≡◌, drop}
-use Rattle.std.specs.Slice.Iter.{iter_rest}
-use Rattle.tor_check.specs.steps.Listed.{sized_files, tree_pairs}
-use Rattle.tor_spec.specs.valid.SidesAgree.{same_files}
+use Rattle.tor_check.proofs.Names.{◌≡◌, drop, iter_rest, sized_files, tree_pairs, same_files}
 use Rattle.tor_check.proofs.agree.files_differ.Given as goal
 
 -- the files are the same if those that are left are

@@ -1,9 +1,6 @@
-use Rattle.std.proofs.Common.{◌≡◌, ◌≤◌, ◌+◌, [], drop, sum_by, take}
-use Rattle.tor_check.specs.steps.Listed.{files_from, size_of_listed}
-use Rattle.tor_spec.specs.valid.SidesAgree.{aligned_after, is_misaligned_after}
+use Rattle.tor_check.proofs.Names.{◌≡◌, ◌≤◌, ◌+◌, [], drop, sum_by, take, files_from, size_of_listed, aligned_after}
+use Rattle.tor_check.proofs.Names.{is_misaligned_after, MAX_LENGTH, MAX_TOTAL}
 use Rattle.tor_check.proofs.agree.is_misaligned.Given as goal
-use Rattle.tor_merkle.specs.declared.TheConstants.{MAX_LENGTH}
-use Rattle.tor_tree.specs.declared.lists.TheConstants.{MAX_TOTAL}
 
 -- where the next file begins, and where it is to begin; it is misaligned if one that is left is
 abbrev pub invariant-listed : goal.invariant-listed

@@ -1,9 +1,6 @@
-use Rattle.std.proofs.Common.{◌≡◌, ◌∙◌, true, false, rules}
-use Rattle.tor_bencode.specs.View.{view}
+use Rattle.tor_check.proofs.Names.{◌≡◌, ◌∙◌, true, false, rules, view, kind_of, has_v1, has_v2}
 use Rattle.tor_check.proofs.Bounds.{small_listed}
 use Rattle.tor_check.proofs.Hybrids.{at_differ, at_end, at_alignment, tells_differ, tells_alignment}
-use Rattle.tor_spec.specs.valid.Parts.{kind_of}
-use Rattle.tor_tree.specs.Kinds.{has_v1, has_v2}
 use Rattle.tor_check.proofs.alignment.judge_alignment.Goals as goal
 
 pub lies_elsewhere-requires-clause-small : goal.lies_elsewhere-requires-clause-small

@@ -1,7 +1,4 @@
-use Rattle.std.proofs.Common.{◌≡◌, false, take}
-use Rattle.std.specs.List.{list_any}
-use Rattle.tor_check.specs.steps.Layers.{seen}
-use Rattle.tor_spec.specs.valid.Layers.{has_other_root}
+use Rattle.tor_check.proofs.Names.{◌≡◌, false, take, list_any, seen, has_other_root}
 use Rattle.tor_check.proofs.layers.has_other.Given as goal
 
 -- none of the files so far

@@ -1,4 +1,4 @@
-use Rattle.std.proofs.Common.{arith, length}
+use Rattle.tor_check.proofs.Names.{arith, length}
 use Rattle.tor_check.proofs.LayerSteps.{few_hashes}
 use Rattle.tor_check.proofs.layers.has_other_root.Goals as goal
 

@@ -1,7 +1,5 @@
-use Rattle.std.proofs.Common.{◌∙◌, rules}
-use Rattle.tor_bencode.specs.View.{view}
+use Rattle.tor_check.proofs.Names.{◌∙◌, rules, view, info_of}
 use Rattle.tor_check.proofs.Bounds.{small_files}
-use Rattle.tor_spec.specs.valid.Parts.{info_of}
 use Rattle.tor_check.proofs.layers.judge_layers.Goals as goal
 
 pub has_other-requires-clause-small : goal.has_other-requires-clause-small

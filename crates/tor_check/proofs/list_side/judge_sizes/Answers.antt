@@ -1,5 +1,4 @@
-use Rattle.std.proofs.Common.{true, false, refl, sym, ◌∙◌, inl, inr, ⊎_elim, rules}
-use Rattle.tor_bencode.specs.View.{view}
+use Rattle.tor_check.proofs.Names.{true, false, refl, sym, ◌∙◌, inl, inr, ⊎_elim, rules, view}
 use Rattle.tor_check.proofs.ListDecides.{after_sizes, at_long, at_refusal, at_total, no_list_fault}
 use Rattle.tor_check.proofs.SideLemmas.{tells_long, tells_negative, tells_size}
 use Rattle.tor_check.proofs.list_side.judge_sizes.Goals as goal

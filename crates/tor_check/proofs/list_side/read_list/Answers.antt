@@ -1,5 +1,4 @@
-use Rattle.std.proofs.Common.{true, false, ◌∙◌, inr}
-use Rattle.tor_bencode.specs.View.{view}
+use Rattle.tor_check.proofs.Names.{true, false, ◌∙◌, inr, view}
 use Rattle.tor_check.proofs.ListDecides.{at_end, at_link, at_pieces, tells_pieces}
 use Rattle.tor_check.proofs.SideLemmas.{tells_link}
 use Rattle.tor_check.proofs.list_side.read_list.Goals as goal

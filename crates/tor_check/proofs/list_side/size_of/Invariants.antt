@@ -1,5 +1,4 @@
-use Rattle.std.proofs.Common.{◌≡◌, ◌-◌, ◌^◌, min, sum_by, take}
-use Rattle.tor_check.specs.steps.Listed.{size_of_listed}
+use Rattle.tor_check.proofs.Names.{◌≡◌, ◌-◌, ◌^◌, min, sum_by, take, size_of_listed}
 use Rattle.tor_check.proofs.list_side.size_of.Given as goal
 
 -- the bytes of the files so far, or the greatest number of 64 bits

@@ -1,9 +1,8 @@
-use Rattle.std.proofs.Common.{◌≡◌, ap, arith, rules, sym, ◌∙◌, ◌++◌, ◌∷◌, [], Some, take}
-use Rattle.std.proofs.lemmas.List.{take_all}
+use Rattle.tor_check.proofs.Names.{◌≡◌, ap, arith, rules, sym, ◌∙◌, ◌++◌, ◌∷◌, [], Some, take, take_all, size_of_listed}
+use Rattle.tor_check.proofs.Names.{sized_files}
 use Rattle.tor_check.proofs.SideLemmas.{sized_file, sized_padding}
-use Rattle.tor_check.specs.steps.Listed.{size_of_listed, sized_files}
-use Rattle.tor_check.proofs.list_side.sized_files.Goals as goal
 use Rattle.tor_check.proofs.list_side.sized_files.Goals.{in-Some+in_ok-copy+in_ok-push, in_default}
+use Rattle.tor_check.proofs.list_side.sized_files.Goals as goal
 
 pub files-preserved : goal.files-preserved
 files-preserved c = elim c.match-file.branch [

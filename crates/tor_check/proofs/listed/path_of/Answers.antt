@@ -1,4 +1,4 @@
-use Rattle.std.proofs.Common.{rules, sym, ◌∙◌, inl, inr, ⊎_elim}
+use Rattle.tor_check.proofs.Names.{rules, sym, ◌∙◌, inl, inr, ⊎_elim}
 use Rattle.tor_check.proofs.PathSteps.{is_path_of_names, names_from, no_path_of_others, some_texts}
 use Rattle.tor_check.proofs.listed.path_of.Goals as goal
 

@@ -1,8 +1,4 @@
-use Rattle.std.proofs.Common.{◌≡◌, false, map, take}
-use Rattle.std.specs.List.{list_any}
-use Rattle.tor_bencode.specs.View.{view}
-use Rattle.tor_check.specs.steps.Listed.{listed_entry}
-use Rattle.tor_spec.specs.valid.ListSide.{is_no_entry}
+use Rattle.tor_check.proofs.Names.{◌≡◌, false, map, take, list_any, view, listed_entry, is_no_entry}
 use Rattle.tor_check.proofs.listed.read_entries.Given as goal
 
 -- the entries so far have their shape

@@ -1,5 +1,4 @@
-use Rattle.std.proofs.Common.{map}
-use Rattle.tor_bencode.specs.View.{view}
+use Rattle.tor_check.proofs.Names.{map, view}
 use Rattle.tor_check.proofs.PathSteps.{same_items}
 use Rattle.tor_check.proofs.listed.read_list_of.Goals as goal
 

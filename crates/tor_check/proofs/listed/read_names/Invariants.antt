@@ -1,8 +1,4 @@
-use Rattle.std.proofs.Common.{◌≡◌, true, map, take}
-use Rattle.std.specs.List.{list_all}
-use Rattle.tor_bencode.specs.View.{view}
-use Rattle.tor_spec.specs.valid.ListSide.{is_name}
-use Rattle.tor_spec.specs.valid.Parts.{text_of}
+use Rattle.tor_check.proofs.Names.{◌≡◌, true, map, take, list_all, view, is_name, text_of}
 use Rattle.tor_check.proofs.listed.read_names.Given as goal
 
 -- the texts so far are names

@@ -1,7 +1,4 @@
-use Rattle.std.proofs.Common.{refl, sym}
-use Rattle.std.specs.Int.{w64}
-use Rattle.std.proofs.lemmas.Int.{to_z-of_z}
-use Rattle.tor_bencode.specs.View.{view}
+use Rattle.tor_check.proofs.Names.{refl, sym, w64, to_z-of_z, view}
 use Rattle.tor_check.proofs.MarkLemmas.{marks_from}
 use Rattle.tor_check.proofs.marks.read_marks.Goals as goal
 

@@ -1,12 +1,9 @@
-use Rattle.std.proofs.Common.{◌≡◌, ◌+◌, ◌<◌, ◌≤◌, ◌∙◌, ap, arith, length, rules, subst, sym}
-use Rattle.std.proofs.lemmas.List.FromFn.{length-map-range_with_len}
+use Rattle.tor_check.proofs.Names.{◌≡◌, ◌+◌, ◌<◌, ◌≤◌, ◌∙◌, ap, arith, length, rules, subst, sym}
+use Rattle.tor_check.proofs.Names.{length-map-range_with_len, siblings_of, height, TreeFile}
 use Rattle.tor_check.proofs.Heights.{low_root}
 use Rattle.tor_check.proofs.PieceSteps.{proof_of_root}
-use Rattle.tor_merkle.specs.Proof.{siblings_of}
-use Rattle.tor_merkle.specs.Subtree.{height}
-use Rattle.tor_tree.specs.declared.tree_file.TreeFile.{TreeFile}
-use Rattle.tor_check.proofs.piece_proofs.prove_in_file.Goals as goal
 use Rattle.tor_check.proofs.piece_proofs.prove_in_file.Goals.{After-piece_level}
+use Rattle.tor_check.proofs.piece_proofs.prove_in_file.Goals as goal
 
 pub returns-in-Some-clause-proved : goal.returns-in-Some-clause-proved
 returns-in-Some-clause-proved c =

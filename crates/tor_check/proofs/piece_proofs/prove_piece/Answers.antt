@@ -1,13 +1,9 @@
-use Rattle.std.proofs.Common.{rules, ◌≡◌, ◌≤◌, ◌<◌, ◌∙◌, ap, refl, sym, subst, Err}
-use Rattle.std.specs.Prelude.{slice_get}
-use Rattle.std.proofs.lemmas.Option.{slice_get_read}
+use Rattle.tor_check.proofs.Names.{rules, ◌≡◌, ◌≤◌, ◌<◌, ◌∙◌, ap, refl, sym, subst, Err, slice_get, slice_get_read}
+use Rattle.tor_check.proofs.Names.{HasTree, IsPieceLength, proof_count}
 use Rattle.tor_check.proofs.PieceSteps.{IsFound, index_alone, index_there}
 use Rattle.tor_check.proofs.ValidTrees.{allowed_of_view, tree_of_view}
-use Rattle.tor_check.specs.PieceProofs.{HasTree}
-use Rattle.tor_merkle.specs.Layer.{IsPieceLength}
-use Rattle.tor_merkle.specs.Proof.{proof_count}
-use Rattle.tor_check.proofs.piece_proofs.prove_piece.Goals as goal
 use Rattle.tor_check.proofs.piece_proofs.prove_piece.Goals.{After-piece_length}
+use Rattle.tor_check.proofs.piece_proofs.prove_piece.Goals as goal
 
 found : (c : After-piece_length) → IsFound c.args.torrent.now c.args.file c.in-Some.told.now
 found c = record {

@@ -1,10 +1,6 @@
-use Rattle.std.proofs.Common.{◌≡◌, ap, Err, ⊎_elim}
-use Rattle.tor_bencode.specs.View.{view}
+use Rattle.tor_check.proofs.Names.{◌≡◌, ap, Err, ⊎_elim, view, takes_files, list_if, takes_tree, tree_if, Memory}
+use Rattle.tor_check.proofs.Names.{of_list, of_tree}
 use Rattle.tor_check.proofs.BothSides.{by_list, by_tree, memory_of_either}
-use Rattle.tor_check.specs.steps.Listed.{takes_files}
-use Rattle.tor_check.specs.steps.Sides.{list_if, takes_tree, tree_if}
-use Rattle.tor_check.specs.declared.refusal.Refusal.TheVariants.{Memory}
-use Rattle.tor_spec.specs.valid.Conditions.{of_list, of_tree}
 use Rattle.tor_check.proofs.sides.read_sides.Goals as goal
 
 pub returns-in-Err-tree_of-clause-memory : goal.returns-in-Err-tree_of-clause-memory

@@ -1,9 +1,5 @@
-use Rattle.std.proofs.Common.{◌≡◌, false, ◌∙◌, rules, subst}
-use Rattle.std.specs.Prelude.{IfOk}
-use Rattle.tor_bencode.specs.View.{view}
+use Rattle.tor_check.proofs.Names.{◌≡◌, false, ◌∙◌, rules, subst, IfOk, view, info_of, kind_of, has_v2}
 use Rattle.tor_check.proofs.Hybrids.{files_of_list_alone}
-use Rattle.tor_spec.specs.valid.Parts.{info_of, kind_of}
-use Rattle.tor_tree.specs.Kinds.{has_v2}
 use Rattle.tor_check.proofs.told.files_of.Goals as goal
 
 pub returns-then-not-has_v2 : goal.returns-then-not-has_v2

@@ -1,8 +1,5 @@
-use Rattle.std.proofs.Common.{◌≡◌, true, ◌∙◌, rules}
-use Rattle.tor_bencode.specs.View.{view}
+use Rattle.tor_check.proofs.Names.{◌≡◌, true, ◌∙◌, rules, view, info_of, kind_of, has_v2}
 use Rattle.tor_check.proofs.Bounds.{few_in_files}
-use Rattle.tor_spec.specs.valid.Parts.{info_of, kind_of}
-use Rattle.tor_tree.specs.Kinds.{has_v2}
 use Rattle.tor_check.proofs.told.piece_count.Goals as goal
 
 pub pieces_of_tree-requires-clause-few : goal.pieces_of_tree-requires-clause-few

@@ -1,7 +1,5 @@
-use Rattle.std.proofs.Common.{refl, ◌∙◌}
-use Rattle.tor_bencode.specs.View.{view}
+use Rattle.tor_check.proofs.Names.{refl, ◌∙◌, view, info_of}
 use Rattle.tor_check.proofs.Hybrids.{entries_if}
-use Rattle.tor_spec.specs.valid.Parts.{info_of}
 use Rattle.tor_check.proofs.told.torrent_of.Goals as goal
 
 pub returns : goal.returns

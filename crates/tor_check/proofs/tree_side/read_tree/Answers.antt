@@ -1,9 +1,5 @@
-use Rattle.std.proofs.Common.{◌∙◌, ap, inl, inr, subst, sym, ⊎_elim}
-use Rattle.tor_bencode.specs.View.{view}
+use Rattle.tor_check.proofs.Names.{◌∙◌, ap, inl, inr, subst, sym, ⊎_elim, view, of_tree_fault, Names, first_of_tree}
 use Rattle.tor_check.proofs.TreeDecides.{at_tree_end, at_tree_fault}
-use Rattle.tor_check.specs.Refusals.{of_tree_fault}
-use Rattle.tor_check.specs.steps.Judged.{Names}
-use Rattle.tor_check.specs.steps.Sides.{first_of_tree}
 use Rattle.tor_check.proofs.tree_side.read_tree.Goals as goal
 
 pub returns-in-Ok-clause-accepted : goal.returns-in-Ok-clause-accepted

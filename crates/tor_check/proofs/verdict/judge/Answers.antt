@@ -1,13 +1,9 @@
-use Rattle.std.proofs.Common.{◌≡◌, None, inr, subst}
-use Rattle.tor_bencode.specs.View.{view}
+use Rattle.tor_check.proofs.Names.{◌≡◌, None, inr, subst, view, IsFirst, first_of_alignment, first_of_both, refusal_of}
 use Rattle.tor_check.proofs.HeadFacts.{allowed}
 use Rattle.tor_check.proofs.NoneHolds.{before_memory}
 use Rattle.tor_check.proofs.Stages.{at_end, at_head, at_layers, at_alignment, at_sides}
-use Rattle.tor_check.specs.steps.Judged.{IsFirst, first_of_alignment}
-use Rattle.tor_check.specs.steps.Sides.{first_of_both}
-use Rattle.tor_spec.specs.valid.Conditions.{refusal_of}
-use Rattle.tor_check.proofs.verdict.judge.Goals as goal
 use Rattle.tor_check.proofs.verdict.judge.Goals.{In_default-judge_alignment}
+use Rattle.tor_check.proofs.verdict.judge.Goals as goal
 
 pub returns-in-Err-clause-refused : goal.returns-in-Err-clause-refused
 returns-in-Err-clause-refused c = at_head (view c.args.root.now) c.in-Err.refusal c.in-Err.ensures.refused

@@ -1,8 +1,5 @@
-use Rattle.std.proofs.Common.{subst}
-use Rattle.tor_bencode.specs.View.{view}
+use Rattle.tor_check.proofs.Names.{subst, view, IsFirst, refusal_of}
 use Rattle.tor_check.proofs.Refused.{memory_alone, refused_for}
-use Rattle.tor_check.specs.steps.Judged.{IsFirst}
-use Rattle.tor_spec.specs.valid.Conditions.{refusal_of}
 use Rattle.tor_check.proofs.verdict.validate.Goals as goal
 
 pub returns-clause-refused : goal.returns-clause-refused

@@ -1,6 +1,4 @@
-use Rattle.std.proofs.Common.{◌≡◌, map, take}
-use Rattle.tor_check.specs.steps.Listed.{files_from}
-use Rattle.tor_spec.specs.valid.View.{entry_of_file}
+use Rattle.tor_check.proofs.Names.{◌≡◌, map, take, files_from, entry_of_file}
 use Rattle.tor_check.proofs.views.entries_of.Given as goal
 
 -- the entries so far

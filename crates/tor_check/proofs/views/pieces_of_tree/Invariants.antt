@@ -1,5 +1,4 @@
-use Rattle.std.proofs.Common.{◌≡◌, ◌-◌, ◌^◌, min, sum_by, take}
-use Rattle.tor_spec.specs.valid.Layers.{pieces_in}
+use Rattle.tor_check.proofs.Names.{◌≡◌, ◌-◌, ◌^◌, min, sum_by, take, pieces_in}
 use Rattle.tor_check.proofs.views.pieces_of_tree.Given as goal
 
 -- the pieces of the files so far, or the greatest number of 64 bits

@@ -1,7 +1,4 @@
-use Rattle.std.proofs.Common.{◌≡◌, map, take}
-use Rattle.tor_check.specs.steps.Listed.{files_from}
-use Rattle.tor_spec.specs.valid.ListSide.{without_padding}
-use Rattle.tor_spec.specs.valid.View.{file_of_list}
+use Rattle.tor_check.proofs.Names.{◌≡◌, map, take, files_from, without_padding, file_of_list}
 use Rattle.tor_check.proofs.views.views_of_list.Given as goal
 
 -- the files so far

@@ -1,6 +1,4 @@
-use Rattle.std.proofs.Common.{◌≡◌, map}
-use Rattle.tor_check.specs.steps.Layers.{seen}
-use Rattle.tor_check.specs.steps.Views.{viewed}
+use Rattle.tor_check.proofs.Names.{◌≡◌, map, seen, viewed}
 use Rattle.tor_check.proofs.views.views_of_tree.Given as goal
 
 -- the files so far, each with its layer

@@ -1,6 +1,6 @@
 use Rattle.std.proofs.Common.{◌≡◌, ℕ, ◌+◌, ◌*◌, arith, ap, ◌∙◌}
 use Rattle.sha2.specs.Sha256.{word_at}
-use Rattle.tor_hashes.specs.Lanes.{word_of}
+use Rattle.tor_hashes.specs.steps.Lanes.{word_of}
 use Rattle.tor_hashes.proofs.Lanes.{below_eight}
 use Rattle.tor_hashes.proofs.block_words.eight_of_each.Goals as goal
 

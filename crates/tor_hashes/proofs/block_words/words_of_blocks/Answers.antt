@@ -1,6 +1,6 @@
 use Rattle.std.proofs.Common.{◌≡◌, ℕ, ◌+◌, ◌*◌, ◌<◌, ◌≤◌, length, refl, sym, ap, ◌∙◌, arith}
 use Rattle.sha2.specs.Sha256.{word_at}
-use Rattle.tor_hashes.specs.Lanes.{word_of}
+use Rattle.tor_hashes.specs.steps.Lanes.{word_of}
 use Rattle.tor_hashes.proofs.Lanes.{words_of_halves, word_of_block}
 use Rattle.tor_hashes.proofs.block_words.words_of_blocks.Goals as goal
 

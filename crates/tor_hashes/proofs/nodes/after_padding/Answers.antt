@@ -1,6 +1,6 @@
 use Rattle.std.proofs.Common.{refl, ap, ◌∙◌}
 use Rattle.sha2.specs.Sha256.{add_state, compress, rounds}
-use Rattle.tor_hashes.specs.Lanes.{eight_of}
+use Rattle.tor_hashes.specs.steps.Lanes.{eight_of}
 use Rattle.tor_hashes.proofs.nodes.after_padding.Goals as goal
 
 pub returns : goal.returns

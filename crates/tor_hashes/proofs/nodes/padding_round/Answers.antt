@@ -1,5 +1,5 @@
 use Rattle.sha2.specs.Sha256.{first_words, padding, schedule}
-use Rattle.tor_hashes.specs.Lanes.{eight_of}
+use Rattle.tor_hashes.specs.steps.Lanes.{eight_of}
 use Rattle.tor_hashes.proofs.PaddingSha256.{one_round_more}
 use Rattle.tor_hashes.proofs.nodes.padding_round.Goals as goal
 

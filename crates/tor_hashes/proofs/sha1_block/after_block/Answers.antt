@@ -1,7 +1,7 @@
 use Rattle.std.proofs.Common.{ap, ◌∙◌, refl}
 use Rattle.sha1.specs.Sha1.{add_state, compress, rounds}
 use Rattle.sha1.proofs.Schedule.{IsWindow_first}
-use Rattle.tor_hashes.specs.Lanes.{five_of, window}
+use Rattle.tor_hashes.specs.steps.Lanes.{five_of, window}
 use Rattle.tor_hashes.proofs.sha1_block.after_block.Goals as goal
 
 pub returns : goal.returns

@@ -1,6 +1,6 @@
 use Rattle.std.proofs.Common.{◌∙◌, ◌<◌, slice_index, sym, arith}
 use Rattle.sha1.proofs.Schedule.{rounds_first, round_constant_choose, round_fn_choose}
-use Rattle.tor_hashes.specs.Lanes.{five_of, window}
+use Rattle.tor_hashes.specs.steps.Lanes.{five_of, window}
 use Rattle.tor_hashes.proofs.Lanes.{word_of_window}
 use Rattle.tor_hashes.proofs.sha1_rounds.first_round.Goals as goal
 

@@ -1,6 +1,6 @@
 use Rattle.std.proofs.Common.{◌∙◌, ap, arith}
 use Rattle.sha1.proofs.Schedule.{rounds_window}
-use Rattle.tor_hashes.specs.Lanes.{five_of, window}
+use Rattle.tor_hashes.specs.steps.Lanes.{five_of, window}
 use Rattle.tor_hashes.proofs.Lanes.{window_set}
 use Rattle.tor_hashes.proofs.sha1_rounds.next_round.Goals as goal
 

@@ -1,7 +1,7 @@
 use Rattle.std.proofs.Common.{ap, ◌∙◌, refl}
 use Rattle.sha2.specs.Sha256.{add_state, compress, rounds}
 use Rattle.sha2.proofs.Schedule256.{IsWindow_first}
-use Rattle.tor_hashes.specs.Lanes.{eight_of, window}
+use Rattle.tor_hashes.specs.steps.Lanes.{eight_of, window}
 use Rattle.tor_hashes.proofs.sha256_block.after_block.Goals as goal
 
 pub returns : goal.returns

@@ -2,7 +2,7 @@ use Rattle.std.proofs.Common.{◌≡◌, ℕ, List, ◌*◌, drop, take, ap, ◌
 use Rattle.std.proofs.lemmas.List.{drop-drop}
 use Rattle.sha2.specs.Sha256.{hash_after, initial_hash_256}
 use Rattle.sha2.proofs.Absorbing256.{hash_after_next}
-use Rattle.tor_hashes.specs.Lanes.{block_of}
+use Rattle.tor_hashes.specs.steps.Lanes.{block_of}
 use Rattle.tor_hashes.proofs.sha256_block.after_blocks.Goals as goal
 
 pub blocks-2-init : goal.blocks-2-init

@@ -1,7 +1,7 @@
 use Rattle.std.proofs.Common.{refl, sym, arith}
 use Rattle.sha2.proofs.Schedule256.{rounds_first}
-use Rattle.tor_hashes.specs.Lanes.{eight_of}
-use Rattle.tor_hashes.specs.Lanes.{window}
+use Rattle.tor_hashes.specs.steps.Lanes.{eight_of}
+use Rattle.tor_hashes.specs.steps.Lanes.{window}
 use Rattle.tor_hashes.proofs.Lanes.{word_of_window}
 use Rattle.tor_hashes.proofs.sha256_rounds.first_round.Goals as goal
 

@@ -1,6 +1,6 @@
 use Rattle.std.proofs.Common.{◌∙◌, ap, arith, refl}
 use Rattle.sha2.proofs.Schedule256.{rounds_window}
-use Rattle.tor_hashes.specs.Lanes.{eight_of, window}
+use Rattle.tor_hashes.specs.steps.Lanes.{eight_of, window}
 use Rattle.tor_hashes.proofs.Lanes.{window_set}
 use Rattle.tor_hashes.proofs.sha256_rounds.next_round.Goals as goal
 

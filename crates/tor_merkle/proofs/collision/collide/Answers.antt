@@ -1,11 +1,6 @@
 -- a level at which two nodes become one, a level at which they do not, and the end
-use Rattle.std.proofs.Common.{ap, ◌∙◌, sym}
-use Rattle.std.proofs.lemmas.Bool.{both_ways}
-use Rattle.std.proofs.lemmas.List.{length_push}
-use Rattle.std.proofs.lemmas.Slice.Eq.{bytes_eq-Decides}
-use Rattle.std.proofs.lemmas.Slice.Zip.{zip_turn, zip_end}
-use Rattle.std.specs.Iterator.Adapters.{zip_first, zip_second}
-use Rattle.std.specs.Slice.Iter.{iter_rest}
+use Rattle.tor_merkle.proofs.Names.{ap, ◌∙◌, sym, both_ways, length_push, bytes_eq-Decides, zip_turn, zip_end}
+use Rattle.tor_merkle.proofs.Names.{zip_first, zip_second, iter_rest}
 use Rattle.tor_merkle.proofs.Collisions.{walk_begins, walk_goes_up, texts_apart, walks_meet}
 use Rattle.tor_merkle.proofs.collision.collide.Goals as goal
 

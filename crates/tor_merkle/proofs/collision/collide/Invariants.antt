@@ -1,5 +1,5 @@
 -- the nodes so far lead to the same roots, and differ where the hashes do
-use Rattle.std.proofs.Common.{◌≢◌, length}
+use Rattle.tor_merkle.proofs.Names.{◌≢◌, length}
 use Rattle.tor_merkle.proofs.Collisions.{IsWalk}
 use Rattle.tor_merkle.proofs.collision.collide.Given as goal
 

@@ -1,6 +1,5 @@
 -- the powers below the height are too small, and no other is
-use Rattle.std.proofs.Common.{◌≡◌, ◌*◌, ◌%◌, ◌^◌, arith, le_antisymm}
-use Rattle.std.proofs.lemmas.Nat.{one_shl}
+use Rattle.tor_merkle.proofs.Names.{◌≡◌, ◌*◌, ◌%◌, ◌^◌, arith, le_antisymm, one_shl}
 use Rattle.tor_merkle.proofs.Height.{height_least, height_above}
 use Rattle.tor_merkle.proofs.digits.height_of.Goals as goal
 

@@ -1,6 +1,5 @@
 -- every lower power is too small
-use Rattle.std.proofs.Common.{◌-◌, ◌≤◌}
-use Rattle.tor_merkle.specs.Subtree.{height}
+use Rattle.tor_merkle.proofs.Names.{◌-◌, ◌≤◌, height}
 use Rattle.tor_merkle.proofs.digits.height_of.Given as goal
 
 abbrev pub invariant-higher : goal.invariant-higher

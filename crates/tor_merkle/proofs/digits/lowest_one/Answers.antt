@@ -1,6 +1,6 @@
 -- one digit more that is 0
-use Rattle.std.proofs.Common.{◌≡◌, ◌*◌, ◌/◌, ◌^◌, arith, ap, ◌∙◌, sym, add-one, mul_assoc, mul-le-mul_right}
-use Rattle.std.proofs.Math.Nat.{pow-succ'}
+use Rattle.tor_merkle.proofs.Names.{◌≡◌, ◌*◌, ◌/◌, ◌^◌, arith, ap, ◌∙◌, sym, add-one, mul_assoc, mul-le-mul_right}
+use Rattle.tor_merkle.proofs.Names.{pow-succ'}
 use Rattle.tor_merkle.proofs.BinaryDigits.{power_within}
 use Rattle.tor_merkle.proofs.digits.lowest_one.Goals as goal
 

@@ -1,5 +1,5 @@
 -- the digits below this one are 0
-use Rattle.std.proofs.Common.{◌≡◌, ◌*◌, ◌^◌, ◌<◌}
+use Rattle.tor_merkle.proofs.Names.{◌≡◌, ◌*◌, ◌^◌, ◌<◌}
 use Rattle.tor_merkle.proofs.digits.lowest_one.Given as goal
 
 abbrev pub invariant-zeros : goal.invariant-zeros

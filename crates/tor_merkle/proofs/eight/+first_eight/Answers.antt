@@ -1,11 +1,6 @@
 -- the hashes themselves, those that eight nodes cover, and more
-use Rattle.std.proofs.Common.{◌≡◌, ℕ, suc, ◌+◌, ◌-◌, ◌*◌, ◌%◌, ◌^◌, ◌≤◌, length, take, drop, replicate, []}
-use Rattle.std.proofs.Common.{arith, ap, ◌∙◌, pow_mono}
-use Rattle.std.proofs.Math.Nat.{two-pow-succ}
-use Rattle.std.proofs.lemmas.List.{get_or-replicate}
-use Rattle.std.proofs.lemmas.Nat.{one_shl}
-use Rattle.tor_merkle.specs.Subtree.{zero_subtree}
-use Rattle.tor_merkle.specs.steps.Node.{node}
+use Rattle.tor_merkle.proofs.Names.{◌≡◌, ℕ, suc, ◌+◌, ◌-◌, ◌*◌, ◌%◌, ◌^◌, ◌≤◌, length, take, drop, replicate, [], arith}
+use Rattle.tor_merkle.proofs.Names.{ap, ◌∙◌, pow_mono, two-pow-succ, get_or-replicate, one_shl, zero_subtree, node}
 use Rattle.tor_merkle.proofs.EightNodes.{eight_above, first_of_front, next_of_back, next_past}
 use Rattle.tor_merkle.proofs.eight.+first_eight.Goals as goal
 

@@ -1,7 +1,6 @@
 -- each node is the hash of the text of its children
-use Rattle.std.proofs.Common.{rules, ◌≡◌, ℕ, ◌+◌, ◌*◌, List, [], ◌∷◌, length, get_or, arith, refl, ap, ◌∙◌}
-use Rattle.sha2.specs.Sha256.{sha256}
-use Rattle.tor_merkle.specs.Subtree.{node_of}
+use Rattle.tor_merkle.proofs.Names.{rules, ◌≡◌, ℕ, ◌+◌, ◌*◌, List, [], ◌∷◌, length, get_or, arith, refl, ap, ◌∙◌}
+use Rattle.tor_merkle.proofs.Names.{sha256, node_of}
 use Rattle.tor_merkle.proofs.EightNodes.{below_four, below_eight, hashes_of_texts}
 use Rattle.tor_merkle.proofs.eight.nodes_over.Goals as goal
 

@@ -1,14 +1,11 @@
 -- a level that fails, one that passes, and the end
-use Rattle.std.proofs.Common.{[], length, get_or, arith, ap, ap₂, ◌∙◌, sym, below_more}
-use Rattle.std.proofs.lemmas.Bool.{not-true, not-false, not_from_true, not_from_false, or_from, or_left, or_right}
-use Rattle.std.proofs.lemmas.List.{get_or_default}
-use Rattle.std.specs.Str.{bytes_eq}
-use Rattle.tor_merkle.specs.Proof.{is_zero_past_end}
-use Rattle.tor_merkle.specs.Subtree.{zero_leaf}
+use Rattle.tor_merkle.proofs.Names.{[], length, get_or, arith, ap, ap₂, ◌∙◌, sym, below_more, not-true, not-false}
+use Rattle.tor_merkle.proofs.Names.{not_from_true, not_from_false, or_from, or_left, or_right, get_or_default, bytes_eq}
+use Rattle.tor_merkle.proofs.Names.{is_zero_past_end, zero_leaf}
 use Rattle.tor_merkle.proofs.ProofRoots.{all_below, one_below}
-use Rattle.tor_merkle.proofs.judge.has_zeros_past_end.Goals as goal
 use Rattle.tor_merkle.proofs.judge.has_zeros_past_end.Goals.{else-is_past_end-via-then-is_past_end+else-ne}
 use Rattle.tor_merkle.proofs.judge.has_zeros_past_end.Goals.{else-is_past_end-via-else-is_past_end}
+use Rattle.tor_merkle.proofs.judge.has_zeros_past_end.Goals as goal
 
 pub returns-then-ne : goal.returns-then-ne
 returns-then-ne c =

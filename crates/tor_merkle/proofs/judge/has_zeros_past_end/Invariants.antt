@@ -1,6 +1,5 @@
 -- the levels so far passed
-use Rattle.std.proofs.Common.{◌≡◌, ℕ, ◌<◌, true}
-use Rattle.tor_merkle.specs.Proof.{is_zero_past_end}
+use Rattle.tor_merkle.proofs.Names.{◌≡◌, ℕ, ◌<◌, true, is_zero_past_end}
 use Rattle.tor_merkle.proofs.judge.has_zeros_past_end.Given as goal
 
 abbrev pub invariant-siblings : goal.invariant-siblings

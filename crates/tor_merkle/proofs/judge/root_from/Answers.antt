@@ -1,10 +1,8 @@
 -- one sibling more, and the last
-use Rattle.std.proofs.Common.{◌+◌, ◌/◌, [], drop, get_or, ap, ◌∙◌, sym}
-use Rattle.std.proofs.lemmas.List.{at_drop_more, at_drop_all}
-use Rattle.tor_merkle.specs.Proof.{proof_root}
+use Rattle.tor_merkle.proofs.Names.{◌+◌, ◌/◌, [], drop, get_or, ap, ◌∙◌, sym, at_drop_more, at_drop_all, proof_root}
 use Rattle.tor_merkle.proofs.ProofRoots.{proof_root-none, proof_root-left, proof_root-right}
-use Rattle.tor_merkle.proofs.judge.root_from.Goals as goal
 use Rattle.tor_merkle.proofs.judge.root_from.Goals.{then-node_index-eq0, else-node_index-eq0}
+use Rattle.tor_merkle.proofs.judge.root_from.Goals as goal
 
 pub siblings-preserved : goal.siblings-preserved
 siblings-preserved c =

@@ -1,6 +1,5 @@
 -- the rest of the siblings leads to the same root
-use Rattle.std.proofs.Common.{◌≡◌, drop}
-use Rattle.tor_merkle.specs.Proof.{proof_root}
+use Rattle.tor_merkle.proofs.Names.{◌≡◌, drop, proof_root}
 use Rattle.tor_merkle.proofs.judge.root_from.Given as goal
 
 abbrev pub invariant-siblings : goal.invariant-siblings

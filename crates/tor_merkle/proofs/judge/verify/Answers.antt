@@ -1,5 +1,5 @@
 -- a tree of at most 2 ^ 36 leaves
-use Rattle.std.proofs.Common.{arith}
+use Rattle.tor_merkle.proofs.Names.{arith}
 use Rattle.tor_merkle.proofs.Height.{low_height}
 use Rattle.tor_merkle.proofs.judge.verify.Goals as goal
 

@@ -1,6 +1,5 @@
 -- the height of a tree over at most 2 ^ (36 - level) hashes
-use Rattle.std.proofs.Common.{◌-◌, length, arith, ap, ◌∙◌, pow_mono, le_trans}
-use Rattle.tor_merkle.specs.Stack.{padded_root, padded_subtree}
+use Rattle.tor_merkle.proofs.Names.{◌-◌, length, arith, ap, ◌∙◌, pow_mono, le_trans, padded_root, padded_subtree}
 use Rattle.tor_merkle.proofs.Height.{height_least, height_covers}
 use Rattle.tor_merkle.proofs.layer.layer_root.Goals as goal
 

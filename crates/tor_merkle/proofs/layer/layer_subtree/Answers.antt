@@ -1,7 +1,7 @@
 -- 2^height subtrees of the level fit below the top, and sixteen hashes have a tree of four levels
-use Rattle.std.proofs.Common.{◌≡◌, ◌+◌, ◌-◌, ◌*◌, ◌^◌, ◌≤◌, arith, ap, ap₂, ◌∙◌, le_trans, pow-add}
+use Rattle.tor_merkle.proofs.Names.{◌≡◌, ◌+◌, ◌-◌, ◌*◌, ◌^◌, ◌≤◌, arith, ap, ap₂, ◌∙◌, le_trans, pow-add}
+use Rattle.tor_merkle.proofs.Names.{padded_subtree}
 use Rattle.std.proofs.Math.Pow.{pow_mono}
-use Rattle.tor_merkle.specs.Stack.{padded_subtree}
 use Rattle.tor_merkle.proofs.BinaryDigits.{power_within}
 use Rattle.tor_merkle.proofs.EightNodes.{root_over_eight}
 use Rattle.tor_merkle.proofs.layer.layer_subtree.Goals as goal

@@ -1,5 +1,5 @@
 -- the stack has the hashes so far
-use Rattle.std.proofs.Common.{◌≡◌, take}
+use Rattle.tor_merkle.proofs.Names.{◌≡◌, take}
 use Rattle.tor_merkle.proofs.layer.stack_of.Given as goal
 
 abbrev pub invariant-pushes : goal.invariant-pushes

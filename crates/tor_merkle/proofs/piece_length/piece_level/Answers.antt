@@ -1,5 +1,5 @@
 -- a piece has at most 2 ^ 16 blocks
-use Rattle.std.proofs.Common.{arith}
+use Rattle.tor_merkle.proofs.Names.{arith}
 use Rattle.tor_merkle.proofs.Lengths.{level_low}
 use Rattle.tor_merkle.proofs.piece_length.piece_level.Goals as goal
 

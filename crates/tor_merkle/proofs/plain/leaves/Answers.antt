@@ -1,12 +1,7 @@
 -- one more leaf is that of the next block
-use Rattle.std.proofs.Common.{◌≡◌, ℕ, ◌+◌, ◌-◌, ◌*◌, min, List, [], ◌∷◌, ◌++◌, map}
-use Rattle.std.proofs.Common.{length, take, drop, ap, ap₂, ◌∙◌, sym, zero-add}
-use Rattle.std.proofs.Math.Nat.{min_comm}
-use Rattle.std.proofs.lemmas.List.{map_push, take_rest, take_min}
-use Rattle.std.proofs.lemmas.List.FromFn.{map-range_with_len_more}
-use Rattle.std.specs.List.{range_with_len}
-use Rattle.sha2.specs.Sha256.{sha256}
-use Rattle.tor_merkle.specs.Block.{run_at}
+use Rattle.tor_merkle.proofs.Names.{◌≡◌, ℕ, ◌+◌, ◌-◌, ◌*◌, min, List, [], ◌∷◌, ◌++◌, map, length, take, drop, ap, ap₂}
+use Rattle.tor_merkle.proofs.Names.{◌∙◌, sym, zero-add, min_comm, map_push, take_rest, take_min}
+use Rattle.tor_merkle.proofs.Names.{map-range_with_len_more, range_with_len, sha256, run_at}
 use Rattle.tor_merkle.proofs.plain.leaves.Goals as goal
 
 leaves_more : (content : List ℕ) (size i : ℕ) → map sha256 (map (run_at size content) (range_with_len 0 (i + 1)))

@@ -1,8 +1,5 @@
 -- after i steps the list has the leaves of the first i blocks
-use Rattle.std.proofs.Common.{◌≡◌, map}
-use Rattle.std.specs.List.{range_with_len}
-use Rattle.sha2.specs.Sha256.{sha256}
-use Rattle.tor_merkle.specs.Block.{run_at}
+use Rattle.tor_merkle.proofs.Names.{◌≡◌, map, range_with_len, sha256, run_at}
 use Rattle.tor_merkle.proofs.plain.leaves.Given as goal
 
 abbrev pub invariant-loop-i : goal.invariant-loop-i

@@ -1,11 +1,7 @@
 -- one more node is that of the next two hashes
-use Rattle.std.proofs.Common.{◌≡◌, ℕ, ◌+◌, ◌*◌, ◌<◌, Option, Some, None, option_map, unwrap_or, Bor, List, []}
-use Rattle.std.proofs.Common.{◌∷◌, ◌++◌, map, length, get_or, arith, refl, ap, ap₂, ◌∙◌, sym, zero-add, le_refl}
-use Rattle.std.proofs.lemmas.List.{get_or_default}
-use Rattle.std.proofs.lemmas.List.FromFn.{map-range_with_len_more}
-use Rattle.std.specs.Int.{div_ceil}
-use Rattle.std.specs.List.{range_with_len}
-use Rattle.tor_merkle.specs.Subtree.{node_of}
+use Rattle.tor_merkle.proofs.Names.{◌≡◌, ℕ, ◌+◌, ◌*◌, ◌<◌, Option, Some, None, option_map, unwrap_or, Bor, List, []}
+use Rattle.tor_merkle.proofs.Names.{◌∷◌, ◌++◌, map, length, get_or, arith, refl, ap, ap₂, ◌∙◌, sym, zero-add, le_refl}
+use Rattle.tor_merkle.proofs.Names.{get_or_default, map-range_with_len_more, div_ceil, range_with_len, node_of}
 use Rattle.tor_merkle.proofs.Ceil.{below_from_ceil}
 use Rattle.tor_merkle.proofs.plain.level_above.Goals as goal
 

@@ -1,7 +1,5 @@
 -- after i steps the list has the first i nodes of the level above
-use Rattle.std.proofs.Common.{◌≡◌, ◌+◌, ◌*◌, map, get_or}
-use Rattle.std.specs.List.{range_with_len}
-use Rattle.tor_merkle.specs.Subtree.{node_of}
+use Rattle.tor_merkle.proofs.Names.{◌≡◌, ◌+◌, ◌*◌, map, get_or, range_with_len, node_of}
 use Rattle.tor_merkle.proofs.plain.level_above.Given as goal
 
 abbrev pub invariant-loop-i : goal.invariant-loop-i

@@ -1,17 +1,14 @@
 -- one level more, and the last
-use Rattle.std.proofs.Common.{◌≡◌, ℕ, ◌+◌, ◌*◌, ◌^◌, length, arith, refl, ap, ap₂, ◌∙◌, sym}
-use Rattle.std.proofs.Common.{le_antisymm, inl, inr, zero-add, add-one, mul_assoc, pow-suc}
-use Rattle.tor_merkle.specs.Layer.{piece_layer}
-use Rattle.tor_merkle.specs.Block.{leaves}
-use Rattle.tor_merkle.specs.Subtree as S
-use Rattle.std.proofs.lemmas.Bool.{eqb-false, cases_lt}
+use Rattle.tor_merkle.proofs.Names.{◌≡◌, ℕ, ◌+◌, ◌*◌, ◌^◌, length, arith, refl, ap, ap₂, ◌∙◌, sym, le_antisymm, inl}
+use Rattle.tor_merkle.proofs.Names.{inr, zero-add, add-one, mul_assoc, pow-suc, piece_layer, leaves, eqb-false}
+use Rattle.tor_merkle.proofs.Names.{cases_lt, nodes}
 use Rattle.tor_merkle.proofs.Climb.{covers_less, more_levels, last_level, height_small, some_node, top_hash, layer_met}
-use Rattle.tor_merkle.specs.steps.Node.{nodes}
 use Rattle.tor_merkle.proofs.Levels.{nodes-zero, level_above-nodes}
 use Rattle.tor_merkle.proofs.Lengths.{length_split}
 use Rattle.tor_merkle.proofs.Power.{same_power}
-use Rattle.tor_merkle.proofs.plain.whole.Goals as goal
 use Rattle.tor_merkle.proofs.plain.whole.Goals.{then-width-piece_length, else-width-piece_length}
+use Rattle.tor_merkle.specs.Subtree as S
+use Rattle.tor_merkle.proofs.plain.whole.Goals as goal
 
 pub levels-init : goal.levels-init
 levels-init c = record {

@@ -1,8 +1,5 @@
 -- the hashes are the nodes of the level, and the layer is there once the level of a piece is passed
-use Rattle.std.proofs.Common.{◌≡◌, ℕ, ◌-◌, ◌*◌, ◌^◌, ◌<◌, ◌≤◌, [], length}
-use Rattle.tor_merkle.specs.Block.{leaves}
-use Rattle.tor_merkle.specs.Subtree.{height}
-use Rattle.tor_merkle.specs.steps.Node.{nodes}
+use Rattle.tor_merkle.proofs.Names.{◌≡◌, ℕ, ◌-◌, ◌*◌, ◌^◌, ◌<◌, ◌≤◌, [], length, leaves, height, nodes}
 use Rattle.tor_merkle.proofs.plain.whole.Given as goal
 
 abbrev pub invariant-levels : goal.invariant-levels

@@ -1,11 +1,7 @@
 -- each level of the tree has one sibling
-use Rattle.std.proofs.Common.{ℕ, ◌^◌, ◌≤◌, List, [], ◌∷◌, ◌++◌, length, get_or, IsTrue, subst}
-use Rattle.std.proofs.Common.{arith, ap, ap₂, ◌∙◌, sym, zero-add, pow_mono}
-use Rattle.std.proofs.lemmas.List.FromFn.{map-range_with_len_more}
-use Rattle.tor_merkle.specs.Block.{run_at}
-use Rattle.tor_merkle.specs.Proof.{is_proof, sibling_index}
-use Rattle.tor_merkle.specs.Stack.{padded_root, padded_subtree}
-use Rattle.tor_merkle.specs.Subtree.{zero_leaf}
+use Rattle.tor_merkle.proofs.Names.{ℕ, ◌^◌, ◌≤◌, List, [], ◌∷◌, ◌++◌, length, get_or, IsTrue, subst, arith, ap, ap₂}
+use Rattle.tor_merkle.proofs.Names.{◌∙◌, sym, zero-add, pow_mono, map-range_with_len_more, run_at, is_proof}
+use Rattle.tor_merkle.proofs.Names.{sibling_index, padded_root, padded_subtree, zero_leaf}
 use Rattle.tor_merkle.proofs.Height.{low_height}
 use Rattle.tor_merkle.proofs.Siblings.{sibling_near, siblings_all, siblings_accepted}
 use Rattle.tor_merkle.proofs.proof.prove.Goals as goal

@@ -1,9 +1,5 @@
 -- the siblings of the levels so far
-use Rattle.std.proofs.Common.{◌≡◌, ◌^◌, map}
-use Rattle.std.specs.List.{range_with_len}
-use Rattle.tor_merkle.specs.Block.{run_at}
-use Rattle.tor_merkle.specs.Proof.{sibling_index}
-use Rattle.tor_merkle.specs.Stack.{padded_subtree}
+use Rattle.tor_merkle.proofs.Names.{◌≡◌, ◌^◌, map, range_with_len, run_at, sibling_index, padded_subtree}
 use Rattle.tor_merkle.proofs.proof.prove.Given as goal
 
 abbrev pub invariant-levels : goal.invariant-levels

@@ -1,6 +1,5 @@
 -- a run past the end, and one that begins before it
-use Rattle.std.proofs.Common.{◌≡◌, ◌*◌, ◌%◌, ◌^◌, arith, ap, ◌∙◌, sym}
-use Rattle.std.proofs.lemmas.Nat.{one_shl}
+use Rattle.tor_merkle.proofs.Names.{◌≡◌, ◌*◌, ◌%◌, ◌^◌, arith, ap, ◌∙◌, sym, one_shl}
 use Rattle.tor_merkle.proofs.Siblings.{run-past}
 use Rattle.tor_merkle.proofs.proof.root_of_run.Goals as goal
 

@@ -1,11 +1,8 @@
 -- each file: a tree where it has several units
-use Rattle.std.proofs.Common.{◌+◌, ◌/◌, ◌++◌, drop, get_or, arith, ap, ap₂, ◌∙◌}
-use Rattle.std.proofs.lemmas.List.Sums.{sum_by_more}
-use Rattle.std.specs.Int.{div_ceil}
-use Rattle.tor_plan.specs.Forest.{trees_from}
+use Rattle.tor_plan.proofs.Names.{◌+◌, ◌/◌, ◌++◌, drop, get_or, arith, ap, ap₂, ◌∙◌, sum_by_more, div_ceil, trees_from}
 use Rattle.tor_plan.proofs.Trees.{log2_is, one_tree, no_tree, trees-end}
-use Rattle.tor_plan.proofs.forests.trees_of.Goals as goal
 use Rattle.tor_plan.proofs.forests.trees_of.Goals.{then-count-gt1+in_ok-push, else-count-gt1}
+use Rattle.tor_plan.proofs.forests.trees_of.Goals as goal
 
 pub files-preserved : goal.files-preserved
 files-preserved c =

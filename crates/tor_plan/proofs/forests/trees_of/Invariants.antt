@@ -1,6 +1,4 @@
-use Rattle.std.proofs.Common.{◌≡◌, ◌++◌, drop, take, sum_by}
-use Rattle.std.specs.Int.{div_ceil}
-use Rattle.tor_plan.specs.Forest.{trees_from}
+use Rattle.tor_plan.proofs.Names.{◌≡◌, ◌++◌, drop, take, sum_by, div_ceil, trees_from}
 use Rattle.tor_plan.proofs.forests.trees_of.Given as goal
 
 abbrev pub invariant-files : goal.invariant-files

@@ -1,4 +1,4 @@
-use Rattle.tor_plan.specs.Content.{layout_of}
+use Rattle.tor_plan.proofs.Names.{layout_of}
 use Rattle.tor_plan.proofs.ProvedLaws.{entry_units_of_files, files_laid_out, lengths_of_files}
 use Rattle.tor_plan.proofs.laws.files_are_cut_as_entries.Goals as goal
 

@@ -1,7 +1,5 @@
 -- a file without bytes
-use Rattle.std.proofs.Common.{ap, ◌∙◌, sym}
-use Rattle.std.proofs.lemmas.Bool.{le-ltb, cond-false}
-use Rattle.tor_plan.specs.steps.Joined.{joined}
+use Rattle.tor_plan.proofs.Names.{ap, ◌∙◌, sym, le-ltb, cond-false, joined}
 use Rattle.tor_plan.proofs.UnitJoins.{then_nothing}
 use Rattle.tor_plan.proofs.whole.add_file.Goals as goal
 

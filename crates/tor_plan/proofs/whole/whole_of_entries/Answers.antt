@@ -1,11 +1,8 @@
 -- padding fits in; one entry more, and all
-use Rattle.std.proofs.Common.{◌+◌, arith, ap, ◌∙◌, drop}
-use Rattle.std.proofs.lemmas.List.{drop_all}
-use Rattle.tor_plan.specs.steps.Joined.{joined}
-use Rattle.tor_plan.specs.steps.Whole.{whole_from, whole_unit}
+use Rattle.tor_plan.proofs.Names.{◌+◌, arith, ap, ◌∙◌, drop, drop_all, joined, whole_from, whole_unit}
 use Rattle.tor_plan.proofs.WholeUnits.{next_padding, past_all, past_file, past_padding, whole_length, zeros_fit}
-use Rattle.tor_plan.proofs.whole.whole_of_entries.Goals as goal
 use Rattle.tor_plan.proofs.whole.whole_of_entries.Goals.{then-entry, else-entry+in_ok-add_file}
+use Rattle.tor_plan.proofs.whole.whole_of_entries.Goals as goal
 
 pub add_zeros-requires : goal.add_zeros-requires
 add_zeros-requires c =

@@ -1,7 +1,5 @@
 -- the entries so far, and those that are left
-use Rattle.std.proofs.Common.{◌≡◌, ◌≤◌, drop}
-use Rattle.tor_plan.specs.steps.Joined.{joined}
-use Rattle.tor_plan.specs.steps.Whole.{whole_from, whole_unit}
+use Rattle.tor_plan.proofs.Names.{◌≡◌, ◌≤◌, drop, joined, whole_from, whole_unit}
 use Rattle.tor_plan.proofs.whole.whole_of_entries.Given as goal
 
 abbrev pub invariant-entries : goal.invariant-entries

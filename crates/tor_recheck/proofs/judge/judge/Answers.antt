@@ -1,8 +1,6 @@
 -- one piece after the other
-use Rattle.std.proofs.Common.{[], ◌∷◌, ◌++◌, drop, take, get_or, None, zero-add}
-use Rattle.std.proofs.Common.{ap, ap₂, sym, ◌∙◌}
-use Rattle.std.proofs.lemmas.List.FromFn.{map-range_with_len_more}
-use Rattle.tor_recheck.specs.steps.Judge.{is_found, judged, texts_of}
+use Rattle.tor_recheck.proofs.Names.{[], ◌∷◌, ◌++◌, drop, take, get_or, None, zero-add, ap, ap₂, sym, ◌∙◌}
+use Rattle.tor_recheck.proofs.Names.{map-range_with_len_more, is_found, judged, texts_of}
 use Rattle.tor_recheck.proofs.Sums.{first_sum, later_sums, next_sums}
 use Rattle.tor_recheck.proofs.judge.judge.Goals as goal
 

@@ -1,7 +1,5 @@
 -- the pieces so far were judged, and the SHA-1 of the others are left
-use Rattle.std.proofs.Common.{◌≡◌, ◌*◌, drop, map}
-use Rattle.std.specs.List.{range_with_len}
-use Rattle.tor_recheck.specs.steps.Judge.{judged}
+use Rattle.tor_recheck.proofs.Names.{◌≡◌, ◌*◌, drop, map, range_with_len, judged}
 use Rattle.tor_recheck.proofs.judge.judge.Given as goal
 
 abbrev pub invariant-pieces : goal.invariant-pieces

@@ -1,10 +1,7 @@
 -- sixteen pieces are a span, and what was told is what the torrent has
-use Rattle.std.proofs.Common.{◌≡◌, ◌∙◌, ℕ, IfOk, refl, arith, subst, sym, ap, ap₂}
-use Rattle.tor_plan.specs.EntryList.{IsEntryList}
-use Rattle.tor_plan.specs.PlanFacts.{plan_of_entries, IsPlanPieceLength, PlanFacts}
-use Rattle.tor_tree.specs.declared.kinds.Kind.{Kind}
+use Rattle.tor_recheck.proofs.Names.{◌≡◌, ◌∙◌, ℕ, IfOk, refl, arith, subst, sym, ap, ap₂, IsEntryList, plan_of_entries}
+use Rattle.tor_recheck.proofs.Names.{IsPlanPieceLength, PlanFacts, Kind, ones}
 use Rattle.tor_recheck.proofs.rechecking.cut_entries.Goals as goal
-use lib.Count.{ones}
 
 pub of_entries-requires : goal.of_entries-requires
 unfolding ones

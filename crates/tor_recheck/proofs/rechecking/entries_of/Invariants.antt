@@ -1,6 +1,5 @@
 -- the entries of the files so far
-use Rattle.std.proofs.Common.{◌≡◌, map, take}
-use Rattle.tor_v1.specs.Entries.{file_entry}
+use Rattle.tor_recheck.proofs.Names.{◌≡◌, map, take, file_entry}
 use Rattle.tor_recheck.proofs.rechecking.entries_of.Given as goal
 
 abbrev pub invariant-files : goal.invariant-files

@@ -1,11 +1,6 @@
 -- what is cut are the torrent's entries, or its files where it has no v1 side
-use Rattle.std.proofs.Common.{◌∙◌, map, subst, sym, ap}
-use Rattle.std.proofs.lemmas.Bool.{cond-true, cond-false}
-use Rattle.tor_check.specs.ValidViews.{IsViewOfValid}
-use Rattle.tor_recheck.specs.Pieces.{IsCut}
-use Rattle.tor_spec.specs.valid.View.{View}
-use Rattle.tor_tree.specs.Kinds.{has_v1}
-use Rattle.tor_v1.specs.Entries.{file_entry}
+use Rattle.tor_recheck.proofs.Names.{◌∙◌, map, subst, sym, ap, cond-true, cond-false, IsViewOfValid, IsCut, View}
+use Rattle.tor_recheck.proofs.Names.{has_v1, file_entry}
 use Rattle.tor_recheck.proofs.ProvedLaws.{valid_torrents_are_cut}
 use Rattle.tor_recheck.proofs.rechecking.plan_of.Goals as goal
 

@@ -1,16 +1,10 @@
 -- the plan, the hashes, and what they are judged to be
-use Rattle.std.proofs.Common.{[], ℕ, length, ap, subst, sym, ◌∙◌}
-use Rattle.tor_engine.specs.Contents.{contents_in}
-use Rattle.tor_engine.specs.Fault as engine
-use Rattle.tor_engine.specs.Given.{IsGivenPieces}
-use Rattle.tor_engine.specs.PieceFault.{first_piece_fault}
-use Rattle.tor_engine.specs.PieceHashes.{piece_hashes, pieces_of_plan}
-use Rattle.tor_plan.specs.PlanFacts.{PlanFacts, plan_of_entries}
-use Rattle.tor_recheck.specs.Pieces.{entries_to_cut}
-use Rattle.tor_recheck.specs.Recheck.{IsFault, IsGiven, first_fault}
-use Rattle.tor_recheck.specs.steps.Judge.{all_judged}
+use Rattle.tor_recheck.proofs.Names.{[], ℕ, length, ap, subst, sym, ◌∙◌, contents_in, IsGivenPieces, first_piece_fault}
+use Rattle.tor_recheck.proofs.Names.{piece_hashes, pieces_of_plan, PlanFacts, plan_of_entries, entries_to_cut, IsFault}
+use Rattle.tor_recheck.proofs.Names.{IsGiven, first_fault, all_judged}
 use Rattle.tor_recheck.proofs.RecheckFaults.{given_of, no_fault, same_fault}
 use Rattle.tor_recheck.proofs.Rechecked.{count_is, count_of_judged, judged_is_verified}
+use Rattle.tor_engine.specs.Fault as engine
 use Rattle.tor_recheck.proofs.rechecking.recheck.Goals as goal
 
 pub returns-in-Err-clause-found : goal.returns-in-Err-clause-found

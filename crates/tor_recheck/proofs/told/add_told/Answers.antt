@@ -1,10 +1,6 @@
 -- one piece after the other
-use Rattle.std.proofs.Common.{[], ◌∷◌, ◌++◌, map, unwrap_or, zero-add, append_assoc, ap, sym, ◌∙◌}
-use Rattle.std.specs.List.{range_with_len}
-use Rattle.std.proofs.lemmas.List.{map-append}
-use Rattle.std.proofs.lemmas.List.FromFn.{map-range_with_len_more}
-use Rattle.tor_recheck.specs.steps.Judge.{texts_of}
-use Rattle.tor_spec.specs.Verified.{told_hash}
+use Rattle.tor_recheck.proofs.Names.{[], ◌∷◌, ◌++◌, map, unwrap_or, zero-add, append_assoc, ap, sym, ◌∙◌}
+use Rattle.tor_recheck.proofs.Names.{range_with_len, map-append, map-range_with_len_more, texts_of, told_hash}
 use Rattle.tor_recheck.proofs.told.add_told.Goals as goal
 
 pub pieces-preserved : goal.pieces-preserved

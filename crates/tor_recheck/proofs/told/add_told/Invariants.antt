@@ -1,8 +1,5 @@
 -- the hashes of the pieces so far stand after the others
-use Rattle.std.proofs.Common.{◌≡◌, ◌++◌, map}
-use Rattle.std.specs.List.{range_with_len}
-use Rattle.tor_recheck.specs.steps.Judge.{texts_of}
-use Rattle.tor_spec.specs.Verified.{told_hash}
+use Rattle.tor_recheck.proofs.Names.{◌≡◌, ◌++◌, map, range_with_len, texts_of, told_hash}
 use Rattle.tor_recheck.proofs.told.add_told.Given as goal
 
 abbrev pub invariant-pieces : goal.invariant-pieces

@@ -1,11 +1,7 @@
 -- a piece has bytes; one file more, and all
-use Rattle.std.proofs.Common.{◌<◌, ◌++◌, ◌∷◌, [], ap, sym, subst, take, ◌∙◌}
-use Rattle.std.proofs.lemmas.List.{flat_map_more, take_all, take_more}
-use Rattle.std.specs.List.{flat_map}
-use Rattle.tor_recheck.specs.Pieces.{hashes_of_file}
-use Rattle.tor_recheck.specs.steps.Judge.{texts_of}
+use Rattle.tor_recheck.proofs.Names.{◌<◌, ◌++◌, ◌∷◌, [], ap, sym, subst, take, ◌∙◌, flat_map_more, take_all, take_more}
+use Rattle.tor_recheck.proofs.Names.{flat_map, hashes_of_file, texts_of, View}
 use Rattle.tor_recheck.proofs.NoCondition.{some_bytes}
-use Rattle.tor_spec.specs.valid.View.{View}
 use Rattle.tor_recheck.proofs.told.told_hashes.Goals as goal
 
 pub add_told-requires : goal.add_told-requires

@@ -1,8 +1,5 @@
 -- the hashes of the files so far
-use Rattle.std.proofs.Common.{◌≡◌, take}
-use Rattle.std.specs.List.{flat_map}
-use Rattle.tor_recheck.specs.Pieces.{hashes_of_file}
-use Rattle.tor_recheck.specs.steps.Judge.{texts_of}
+use Rattle.tor_recheck.proofs.Names.{◌≡◌, take, flat_map, hashes_of_file, texts_of}
 use Rattle.tor_recheck.proofs.told.told_hashes.Given as goal
 
 abbrev pub invariant-files : goal.invariant-files

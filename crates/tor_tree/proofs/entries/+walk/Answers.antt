@@ -1,9 +1,5 @@
-use Rattle.std.proofs.Common.{◌≡◌, ◌∙◌, true, false, ap, subst, inl, inr, ⊎_elim, arith, Err}
-use Rattle.std.proofs.lemmas.Result.{err_from_is_err_and}
-use Rattle.tor_bencode.specs.Data.{pair, no_pairs}
-use Rattle.tor_bencode.specs.View.{view}
-use Rattle.tor_tree.specs.FileTree.{are_entries, takes_memory_in}
-use Rattle.tor_tree.specs.declared.tree_file.TreeFault.TheVariants.{Memory}
+use Rattle.tor_tree.proofs.Cited.{◌≡◌, ◌∙◌, true, false, ap, subst, inl, inr, ⊎_elim, arith, Err, err_from_is_err_and}
+use Rattle.tor_tree.proofs.Cited.{pair, no_pairs, view, are_entries, takes_memory_in, Memory}
 use Rattle.tor_tree.proofs.WalkSteps.{added_to_end, entries_go_on, first_shaped, not_shaped, shape_goes_on}
 use Rattle.tor_tree.proofs.WalkSteps.{shaped_takes, shaped_to_end, taken_here}
 use Rattle.tor_tree.proofs.entries.+walk.Goals as goal

@@ -1,7 +1,5 @@
-use Rattle.std.proofs.Common.{◌≡◌, ◌<◌, ◌++◌, true, map, drop}
-use Rattle.tor_bencode.specs.View.{pairs_view}
-use Rattle.tor_tree.specs.FileTree.{are_entries, entries_in, takes_memory_in}
-use Rattle.tor_tree.specs.steps.Reading.{entry_at}
+use Rattle.tor_tree.proofs.Cited.{◌≡◌, ◌<◌, ◌++◌, true, map, drop, pairs_view, are_entries, entries_in, takes_memory_in}
+use Rattle.tor_tree.proofs.Cited.{entry_at}
 use Rattle.tor_tree.proofs.entries.+walk.Given as goal
 
 -- the files of the pairs that are left are still to be added, the tree has its shape if what is left has, and the first

@@ -1,4 +1,4 @@
-use Rattle.std.proofs.Common.{◌+◌, arith, ◌∙◌, ap, sym}
+use Rattle.tor_tree.proofs.Cited.{◌+◌, arith, ◌∙◌, ap, sym}
 use Rattle.tor_tree.proofs.Lengths.{rounded, too_large_here, sum_with, none_over_with}
 use Rattle.tor_tree.proofs.lists.is_too_large.Goals as goal
 

@@ -1,6 +1,4 @@
-use Rattle.std.proofs.Common.{◌≡◌, drop}
-use Rattle.tor_bencode.specs.View.{pairs_view}
-use Rattle.tor_tree.specs.FileTree.{entries_mix}
+use Rattle.tor_tree.proofs.Cited.{◌≡◌, drop, pairs_view, entries_mix}
 use Rattle.tor_tree.proofs.mixed.+mixes.Given as goal
 
 -- such a folder is among the pairs that are left, if it is anywhere

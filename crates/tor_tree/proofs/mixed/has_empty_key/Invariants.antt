@@ -1,6 +1,4 @@
-use Rattle.std.proofs.Common.{◌≡◌, drop}
-use Rattle.tor_bencode.specs.View.{pairs_view}
-use Rattle.tor_tree.specs.FileTree.{has_empty_key}
+use Rattle.tor_tree.proofs.Cited.{◌≡◌, drop, pairs_view, has_empty_key}
 use Rattle.tor_tree.proofs.mixed.has_empty_key.Given as goal
 
 -- the empty key is among the pairs that are left, if it is anywhere

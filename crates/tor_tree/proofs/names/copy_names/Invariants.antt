@@ -1,4 +1,4 @@
-use Rattle.std.proofs.Common.{◌≡◌, take}
+use Rattle.tor_tree.proofs.Cited.{◌≡◌, take}
 use Rattle.tor_tree.proofs.names.copy_names.Given as goal
 
 abbrev pub invariant-loop-name : goal.invariant-loop-name

@@ -1,7 +1,4 @@
-use Rattle.std.proofs.Common.{◌≡◌, None, sym, take, arith}
-use Rattle.std.proofs.lemmas.List.{take_all}
-use Rattle.std.proofs.lemmas.List.Elements.{All-more, All-same}
-use Rattle.tor_tree.specs.Name.{name_fault}
+use Rattle.tor_tree.proofs.Cited.{◌≡◌, None, sym, take, arith, take_all, All-more, All-same, name_fault}
 use Rattle.tor_tree.proofs.names.each_is_name.Goals as goal
 
 pub loop-name-preserved : goal.loop-name-preserved

@@ -1,5 +1,5 @@
-use Rattle.std.proofs.Common.{◌≡◌, All, None, take}
-use Rattle.tor_tree.specs.Name.{name_fault}
+use Rattle.tor_tree.proofs.Cited.{◌≡◌, None, take, name_fault}
+use Rattle.std.proofs.Common.{All}
 use Rattle.tor_tree.proofs.names.each_is_name.Given as goal
 
 abbrev pub invariant-loop-name : goal.invariant-loop-name

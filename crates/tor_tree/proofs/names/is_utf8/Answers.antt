@@ -1,4 +1,4 @@
-use Rattle.std.proofs.Common.{◌∙◌}
+use Rattle.tor_tree.proofs.Cited.{◌∙◌}
 use Rattle.tor_tree.proofs.NameLemmas.{is_ok-utf8}
 use Rattle.tor_tree.proofs.names.is_utf8.Goals as goal
 

@@ -1,7 +1,4 @@
-use Rattle.std.proofs.Common.{◌≡◌, rules, not}
-use Rattle.std.specs.List.{starts_with}
-use Rattle.std.proofs.lemmas.List.Sorted.{answers_always}
-use Rattle.tor_tree.specs.Path.{name_eq}
+use Rattle.tor_tree.proofs.Cited.{◌≡◌, rules, not, starts_with, answers_always, name_eq}
 use Rattle.tor_tree.proofs.SortedFiles.{nest_answer}
 use Rattle.tor_tree.proofs.path_faults.nests.Goals as goal
 

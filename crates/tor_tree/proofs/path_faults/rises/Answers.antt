@@ -1,7 +1,4 @@
-use Rattle.std.proofs.Common.{◌≡◌, rules}
-use Rattle.std.specs.Ordering.{is_lt}
-use Rattle.std.proofs.lemmas.List.Sorted.{answers_always}
-use Rattle.tor_tree.specs.Path.{path_cmp}
+use Rattle.tor_tree.proofs.Cited.{◌≡◌, rules, is_lt, answers_always, path_cmp}
 use Rattle.tor_tree.proofs.SortedFiles.{repeat_answer, rising_answer}
 use Rattle.tor_tree.proofs.path_faults.rises.Goals as goal
 

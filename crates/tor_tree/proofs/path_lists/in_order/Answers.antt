@@ -1,4 +1,4 @@
-use Rattle.std.proofs.Common.{refl, arith}
+use Rattle.tor_tree.proofs.Cited.{refl, arith}
 use Rattle.tor_tree.proofs.Permuted.{permutation-written_back}
 use Rattle.tor_tree.proofs.path_lists.in_order.Goals as goal
 

@@ -1,4 +1,4 @@
-use Rattle.std.proofs.Common.{◌≡◌, map, slice_index}
+use Rattle.tor_tree.proofs.Cited.{◌≡◌, map, slice_index}
 use Rattle.tor_tree.proofs.path_lists.split.Given as goal
 
 abbrev pub invariant-loop-path : goal.invariant-loop-path

@@ -1,7 +1,4 @@
-use Rattle.std.proofs.Common.{sym, take, arith}
-use Rattle.std.proofs.lemmas.List.{take_all}
-use Rattle.std.proofs.lemmas.List.Elements.{All-more, All-same}
-use Rattle.tor_tree.specs.Path.{IsFilePath}
+use Rattle.tor_tree.proofs.Cited.{sym, take, arith, take_all, All-more, All-same, IsFilePath}
 use Rattle.tor_tree.proofs.paths.each_is_path.Goals as goal
 
 pub loop-path-preserved : goal.loop-path-preserved

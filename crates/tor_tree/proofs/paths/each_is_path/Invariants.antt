@@ -1,5 +1,5 @@
-use Rattle.std.proofs.Common.{All, take}
-use Rattle.tor_tree.specs.Path.{IsFilePath}
+use Rattle.tor_tree.proofs.Cited.{take, IsFilePath}
+use Rattle.std.proofs.Common.{All}
 use Rattle.tor_tree.proofs.paths.each_is_path.Given as goal
 
 abbrev pub invariant-loop-path : goal.invariant-loop-path

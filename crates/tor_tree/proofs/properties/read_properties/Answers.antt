@@ -1,7 +1,4 @@
-use Rattle.std.proofs.Common.{refl, sym}
-use Rattle.std.specs.Int.{w64}
-use Rattle.std.proofs.lemmas.Int.{to_z-of_z}
-use Rattle.tor_bencode.specs.View.{view}
+use Rattle.tor_tree.proofs.Cited.{refl, sym, w64, to_z-of_z, view}
 use Rattle.tor_tree.proofs.PropertyLemmas.{facts_from}
 use Rattle.tor_tree.proofs.properties.read_properties.Goals as goal
 

@@ -1,5 +1,4 @@
-use Rattle.std.proofs.Common.{◌≡◌, map}
-use Rattle.tor_tree.specs.steps.Reading.{file_from}
+use Rattle.tor_tree.proofs.Cited.{◌≡◌, map, file_from}
 use Rattle.tor_tree.proofs.read_tree.files_of.Given as goal
 
 abbrev pub invariant-loop-path : goal.invariant-loop-path

@@ -1,8 +1,4 @@
-use Rattle.std.proofs.Common.{◌≡◌, ◌∙◌, sym, map, [], inl}
-use Rattle.std.proofs.lemmas.Result.{IfOk-weaker}
-use Rattle.tor_bencode.specs.View.{view}
-use Rattle.tor_tree.specs.FileTree.{entries_of}
-use Rattle.tor_tree.specs.steps.Reading.{entry_at}
+use Rattle.tor_tree.proofs.Cited.{◌≡◌, ◌∙◌, sym, map, [], inl, IfOk-weaker, view, entries_of, entry_at}
 use Rattle.tor_tree.proofs.TreeFaults.{fault_told, tree_faultless, paths_told, files_told}
 use Rattle.tor_tree.proofs.read_tree.from_item.Goals as goal
 

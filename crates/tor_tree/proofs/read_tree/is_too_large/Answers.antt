@@ -1,6 +1,5 @@
-use Rattle.std.proofs.Common.{◌≡◌, ◌+◌, ◌∙◌, ap, sym, unsigned_abs, arith, rules}
+use Rattle.tor_tree.proofs.Cited.{◌≡◌, ◌+◌, ◌∙◌, ap, sym, unsigned_abs, arith, rules, Entry}
 use Rattle.tor_tree.proofs.Lengths.{rounded, too_large_here, sum_with, none_over_with}
-use Rattle.tor_tree.specs.declared.entries.Entry.{Entry}
 use Rattle.tor_tree.proofs.read_tree.is_too_large.Goals as goal
 
 pub returns-in-None : goal.returns-in-None

@@ -1,9 +1,6 @@
-use Rattle.std.proofs.Common.{◌≡◌, ◌≤◌, false, nat_lt, sum_by, take, map, unsigned_abs}
-use Rattle.std.specs.Int.{next_multiple_of}
-use Rattle.std.specs.List.{list_any}
+use Rattle.tor_tree.proofs.Cited.{◌≡◌, ◌≤◌, false, nat_lt, sum_by, take, map, unsigned_abs, next_multiple_of, list_any}
+use Rattle.tor_tree.proofs.Cited.{MAX_LENGTH, MAX_TOTAL, ROUNDING}
 use Rattle.tor_tree.proofs.read_tree.is_too_large.Given as goal
-use Rattle.tor_merkle.specs.declared.TheConstants.{MAX_LENGTH}
-use Rattle.tor_tree.specs.declared.lists.TheConstants.{MAX_TOTAL, ROUNDING}
 
 abbrev pub invariant-loop-entry : goal.invariant-loop-entry
 invariant-loop-entry l =

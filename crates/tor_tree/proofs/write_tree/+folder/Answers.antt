@@ -1,10 +1,6 @@
-use Rattle.std.proofs.Common.{◌≡◌, ◌≢◌, ◌<◌, ◌≤◌, [], true, inl, inr, length, drop, take, sym, ap, ◌∙◌, arith}
-use Rattle.std.proofs.Common.{length-drop}
-use Rattle.std.proofs.lemmas.Bool.{both_ways, cases_lt}
-use Rattle.std.proofs.lemmas.List.{drop_all, take_all}
-use Rattle.std.proofs.lemmas.List.Elements.{All-same}
-use Rattle.tor_bencode.specs.View.{view, pairs_view}
-use Rattle.tor_tree.specs.steps.Writing.{IsRoot, has_name_at, files_below}
+use Rattle.tor_tree.proofs.Cited.{◌≡◌, ◌≢◌, ◌<◌, ◌≤◌, [], true, inl, inr, length, drop, take, sym, ap, ◌∙◌, arith}
+use Rattle.tor_tree.proofs.Cited.{length-drop, both_ways, cases_lt, drop_all, take_all, All-same, view, pairs_view}
+use Rattle.tor_tree.proofs.Cited.{IsRoot, has_name_at, files_below}
 use Rattle.tor_tree.proofs.FilesBelow.{all_to, faultless_named, first_has, followed_by, followed_by-none}
 use Rattle.tor_tree.proofs.FilesBelow.{followed_by-push, group_made, length-files_below, next_made, to_end}
 use Rattle.tor_tree.proofs.WalkSteps.{view_dictionary}

@@ -1,7 +1,6 @@
-use Rattle.std.proofs.Common.{◌≡◌, ◌≤◌, ◌+◌, ◌-◌, ◌*◌, ◌^◌, All, length, take, drop}
-use Rattle.tor_bencode.specs.View.{pairs_view}
-use Rattle.tor_tree.specs.steps.Writing.{IsRoot, files_below}
-use Rattle.tor_tree.specs.WrittenTree.{pairs_of_files}
+use Rattle.tor_tree.proofs.Cited.{◌≡◌, ◌≤◌, ◌+◌, ◌-◌, ◌*◌, ◌^◌, length, take, drop, pairs_view, IsRoot, files_below}
+use Rattle.tor_tree.proofs.Cited.{pairs_of_files}
+use Rattle.std.proofs.Common.{All}
 use Rattle.tor_tree.proofs.FilesBelow.{followed_by}
 use Rattle.tor_tree.proofs.write_tree.+folder.Given as goal
 

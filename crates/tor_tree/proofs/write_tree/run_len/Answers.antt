@@ -1,6 +1,4 @@
-use Rattle.std.proofs.Common.{◌≡◌, true, sym, ◌∙◌, arith}
-use Rattle.std.proofs.lemmas.List.Elements.{All-more}
-use Rattle.tor_tree.specs.steps.Writing.{has_name_at}
+use Rattle.tor_tree.proofs.Cited.{◌≡◌, true, sym, ◌∙◌, arith, All-more, has_name_at}
 use Rattle.tor_tree.proofs.write_tree.run_len.Goals as goal
 
 pub loop-i-preserved : goal.loop-i-preserved

@@ -1,5 +1,5 @@
-use Rattle.std.proofs.Common.{◌≡◌, true, All, take}
-use Rattle.tor_tree.specs.steps.Writing.{has_name_at}
+use Rattle.tor_tree.proofs.Cited.{◌≡◌, true, take, has_name_at}
+use Rattle.std.proofs.Common.{All}
 use Rattle.tor_tree.proofs.write_tree.run_len.Given as goal
 
 abbrev pub invariant-loop-i : goal.invariant-loop-i

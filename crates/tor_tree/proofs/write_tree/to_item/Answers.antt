@@ -1,5 +1,4 @@
-use Rattle.std.proofs.Common.{refl}
-use Rattle.std.proofs.lemmas.List.Elements.{recursion_from_All}
+use Rattle.tor_tree.proofs.Cited.{refl, recursion_from_All}
 use Rattle.tor_tree.proofs.FileTrees.{made_file_tree}
 use Rattle.tor_tree.proofs.ListFaults.{small_files}
 use Rattle.tor_tree.proofs.Readable.{all_named, readable}

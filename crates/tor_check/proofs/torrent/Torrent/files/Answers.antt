@@ -1,6 +1,5 @@
-use Rattle.std.proofs.Common.{rules}
+use Rattle.tor_check.proofs.Names.{rules, IsViewOfValid}
 use Rattle.tor_check.proofs.RisingFiles.{rising_of_view}
-use Rattle.tor_check.specs.ValidViews.{IsViewOfValid}
 use Rattle.tor_check.proofs.torrent.Torrent.files.Goals as goal
 
 pub returns-clause-rising : goal.returns-clause-rising

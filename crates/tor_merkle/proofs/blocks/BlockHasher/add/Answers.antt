@@ -1,8 +1,8 @@
 -- a part that ends its block, and one that does not
-use Rattle.std.proofs.Common.{◌+◌, ◌%◌, ◌≤◌, [], ◌∷◌, ◌++◌, length, arith, ap, ◌∙◌}
+use Rattle.tor_merkle.proofs.Names.{◌+◌, ◌%◌, ◌≤◌, [], ◌∷◌, ◌++◌, length, arith, ap, ◌∙◌}
 use Rattle.tor_merkle.proofs.Leaves.{done_small, done_room, adds_open, adds_full}
-use Rattle.tor_merkle.proofs.blocks.BlockHasher.add.Goals as goal
 use Rattle.tor_merkle.proofs.blocks.BlockHasher.add.Goals.{then-self-eq0, else-self-eq0}
+use Rattle.tor_merkle.proofs.blocks.BlockHasher.add.Goals as goal
 
 pub push-requires-clause-small : goal.push-requires-clause-small
 push-requires-clause-small c =

@@ -1,5 +1,5 @@
 -- eight leaves at once, where no block is begun
-use Rattle.std.proofs.Common.{◌++◌, arith, ap, ◌∙◌}
+use Rattle.tor_merkle.proofs.Names.{◌++◌, arith, ap, ◌∙◌}
 use Rattle.tor_merkle.proofs.Runs.{leaves-run, run_small, run_room, adds_run}
 use Rattle.tor_merkle.proofs.blocks.BlockHasher.add_run.Goals as goal
 

@@ -1,8 +1,6 @@
 -- each part and each run is within what is fed
-use Rattle.std.proofs.Common.{ℕ, ◌+◌, ◌*◌, ◌^◌, ◌≤◌, length, arith, sym, ap, le_trans, length-append}
-use Rattle.std.proofs.Common.{pow_pos}
-use Rattle.std.proofs.lemmas.Bool.{eqb-false}
-use Rattle.std.specs.Int.{div_ceil}
+use Rattle.tor_merkle.proofs.Names.{ℕ, ◌+◌, ◌*◌, ◌^◌, ◌≤◌, length, arith, sym, ap, le_trans, length-append, pow_pos}
+use Rattle.tor_merkle.proofs.Names.{eqb-false, div_ceil}
 use Rattle.tor_merkle.proofs.Ceil.{ceil_mono}
 use Rattle.tor_merkle.proofs.blocks.BlockHasher.feed.Goals as goal
 

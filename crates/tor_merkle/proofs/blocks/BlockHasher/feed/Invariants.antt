@@ -1,5 +1,5 @@
 -- the bytes fed and the rest are what has to be fed in all
-use Rattle.std.proofs.Common.{◌≡◌, ◌≤◌, ◌++◌, length}
+use Rattle.tor_merkle.proofs.Names.{◌≡◌, ◌≤◌, ◌++◌, length}
 use Rattle.tor_merkle.proofs.blocks.BlockHasher.feed.Given as goal
 
 abbrev pub invariant-parts : goal.invariant-parts

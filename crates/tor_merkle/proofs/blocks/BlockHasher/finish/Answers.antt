@@ -1,7 +1,5 @@
 -- root and layer of the tree over all leaves
-use Rattle.std.proofs.Common.{◌^◌, [], cond, leb, length, arith, ap, ap₂, ◌∙◌, le_trans}
-use Rattle.tor_merkle.specs.steps.Node.{nodes}
-use Rattle.tor_merkle.specs.Stack.{padded_root}
+use Rattle.tor_merkle.proofs.Names.{◌^◌, [], cond, leb, length, arith, ap, ap₂, ◌∙◌, le_trans, nodes, padded_root}
 use Rattle.tor_merkle.proofs.Ceil.{ceil_from_below}
 use Rattle.tor_merkle.proofs.Content.{count-pieces, length-leaves}
 use Rattle.tor_merkle.proofs.Sums.{padded_root-leaves, nodes-piece_layer}

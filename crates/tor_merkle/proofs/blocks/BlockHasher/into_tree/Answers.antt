@@ -1,6 +1,5 @@
 -- the last block, whole or short
-use Rattle.std.proofs.Common.{[], ◌∷◌, ◌++◌, length, arith, ap, ◌∙◌, add-zero}
-use Rattle.tor_merkle.specs.Block.{leaves}
+use Rattle.tor_merkle.proofs.Names.{[], ◌∷◌, ◌++◌, length, arith, ap, ◌∙◌, add-zero, leaves}
 use Rattle.tor_merkle.proofs.Leaves.{done_small, done_room, leaves-whole, leaves-short}
 use Rattle.tor_merkle.proofs.blocks.BlockHasher.into_tree.Goals as goal
 

@@ -1,6 +1,5 @@
 -- the hashes of the pieces of the tree over all leaves
-use Rattle.std.proofs.Common.{ap₂, ◌∙◌, sym, le_trans}
-use Rattle.tor_merkle.specs.steps.Node.{nodes}
+use Rattle.tor_merkle.proofs.Names.{ap₂, ◌∙◌, sym, le_trans, nodes}
 use Rattle.tor_merkle.proofs.Content.{count-pieces, piece_roots-nodes}
 use Rattle.tor_merkle.proofs.blocks.BlockHasher.piece_roots.Goals as goal
 

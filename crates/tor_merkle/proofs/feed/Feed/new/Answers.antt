@@ -1,5 +1,5 @@
 -- the level of a piece of 16,384 * 2 ^ k bytes
-use Rattle.std.proofs.Common.{◌*◌, ◌^◌, length, arith, ap, ◌∙◌, sym}
+use Rattle.tor_merkle.proofs.Names.{◌*◌, ◌^◌, length, arith, ap, ◌∙◌, sym}
 use Rattle.tor_merkle.proofs.Ceil.{ceil_at_most}
 use Rattle.tor_merkle.proofs.Lengths.{length_bounds, length_split, level_is}
 use Rattle.tor_merkle.proofs.feed.Feed.new.Goals as goal

@@ -1,8 +1,6 @@
 -- one piece, or the last of more
-use Rattle.std.proofs.Common.{◌^◌, [], ◌∷◌, ◌++◌, length, arith, refl, ap, ap₂, ◌∙◌, sym}
-use Rattle.std.proofs.lemmas.Bool.{cond-true, cond-false, lt-leb, le-leb, false≢true}
-use Rattle.tor_merkle.specs.steps.Node.{nodes}
-use Rattle.tor_merkle.specs.Stack.{padded_root, padded_subtree}
+use Rattle.tor_merkle.proofs.Names.{◌^◌, [], ◌∷◌, ◌++◌, length, arith, refl, ap, ap₂, ◌∙◌, sym, cond-true, cond-false}
+use Rattle.tor_merkle.proofs.Names.{lt-leb, le-leb, false≢true, nodes, padded_root, padded_subtree}
 use Rattle.tor_merkle.proofs.Filled.{padded_root-nodes}
 use Rattle.tor_merkle.proofs.Keeps.{ends_piece, only_piece, pieces_more, pieces_all}
 use Rattle.tor_merkle.proofs.pieces.PieceTree.finish.Goals as goal

@@ -1,8 +1,5 @@
 -- the last piece is closed, where there is one
-use Rattle.std.proofs.Common.{[], ◌∷◌, ◌++◌, arith, refl, ap, ◌∙◌}
-use Rattle.std.proofs.lemmas.Bool.{false≢true}
-use Rattle.tor_merkle.specs.steps.Node.{nodes}
-use Rattle.tor_merkle.specs.Stack.{padded_subtree}
+use Rattle.tor_merkle.proofs.Names.{[], ◌∷◌, ◌++◌, arith, refl, ap, ◌∙◌, false≢true, nodes, padded_subtree}
 use Rattle.tor_merkle.proofs.Keeps.{some_leaf, ends_piece, no_piece, pieces_all}
 use Rattle.tor_merkle.proofs.pieces.PieceTree.piece_roots.Goals as goal
 

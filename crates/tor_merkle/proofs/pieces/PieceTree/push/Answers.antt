@@ -1,9 +1,8 @@
 -- a leaf that opens a piece, and one that does not
-use Rattle.std.proofs.Common.{◌≡◌, ◌*◌, ◌%◌, ◌^◌, [], ◌∷◌, ◌++◌, arith, ap, ◌∙◌, sym, pow_pos}
-use Rattle.std.proofs.lemmas.Nat.{one_shl}
+use Rattle.tor_merkle.proofs.Names.{◌≡◌, ◌*◌, ◌%◌, ◌^◌, [], ◌∷◌, ◌++◌, arith, ap, ◌∙◌, sym, pow_pos, one_shl}
 use Rattle.tor_merkle.proofs.Keeps.{leaves_some, ends_piece, keeps_open, keeps_closed}
-use Rattle.tor_merkle.proofs.pieces.PieceTree.push.Goals as goal
 use Rattle.tor_merkle.proofs.pieces.PieceTree.push.Goals.{then-len-self, else-len-self}
+use Rattle.tor_merkle.proofs.pieces.PieceTree.push.Goals as goal
 
 pub close_piece-requires : goal.close_piece-requires
 close_piece-requires c =

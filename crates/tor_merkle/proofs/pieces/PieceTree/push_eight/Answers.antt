@@ -1,5 +1,5 @@
 -- each leaf is one of those for whose pieces there is room
-use Rattle.std.proofs.Common.{◌+◌, ◌^◌, length, arith, ap, le_trans, pow_pos, length-append, length-take}
+use Rattle.tor_merkle.proofs.Names.{◌+◌, ◌^◌, length, arith, ap, le_trans, pow_pos, length-append, length-take}
 use Rattle.tor_merkle.proofs.Ceil.{ceil_mono}
 use Rattle.tor_merkle.proofs.pieces.PieceTree.push_eight.Goals as goal
 

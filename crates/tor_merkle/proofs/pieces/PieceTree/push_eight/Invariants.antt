@@ -1,5 +1,5 @@
 -- the leaves of the slice that came so far were added
-use Rattle.std.proofs.Common.{◌≡◌, ◌≤◌, ◌++◌, take}
+use Rattle.tor_merkle.proofs.Names.{◌≡◌, ◌≤◌, ◌++◌, take}
 use Rattle.tor_merkle.proofs.pieces.PieceTree.push_eight.Given as goal
 
 abbrev pub invariant-leaves : goal.invariant-leaves

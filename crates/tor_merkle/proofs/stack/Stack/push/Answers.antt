@@ -1,10 +1,7 @@
 -- a carry, and the digit at which the carries end
-use Rattle.std.proofs.Common.{◌≡◌, ℕ, ◌+◌, ◌*◌, ◌/◌, ◌^◌, List, [], ◌∷◌, ◌++◌, arith}
-use Rattle.std.proofs.Common.{ap, ap₂, ◌∙◌, sym, add-one, mul_assoc, length}
-use Rattle.std.proofs.Math.Nat.{pow-succ'}
-use Rattle.std.proofs.lemmas.List.{get_or_default, get_or_push}
-use Rattle.tor_merkle.specs.steps.Node.{node}
-use Rattle.tor_merkle.specs.Subtree.{node_of, zero_leaf, zero_subtree}
+use Rattle.tor_merkle.proofs.Names.{◌≡◌, ℕ, ◌+◌, ◌*◌, ◌/◌, ◌^◌, List, [], ◌∷◌, ◌++◌, arith, ap, ap₂, ◌∙◌, sym, add-one}
+use Rattle.tor_merkle.proofs.Names.{mul_assoc, length, pow-succ', get_or_default, get_or_push, node, node_of, zero_leaf}
+use Rattle.tor_merkle.proofs.Names.{zero_subtree}
 use Rattle.tor_merkle.proofs.Tops.{carry, pushed, digit_below}
 use Rattle.tor_merkle.proofs.stack.Stack.push.Goals as goal
 

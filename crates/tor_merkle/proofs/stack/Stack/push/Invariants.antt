@@ -1,6 +1,5 @@
 -- the digits so far were 1, and the top is the root of all hashes that they count and the new one
-use Rattle.std.proofs.Common.{◌≡◌, ◌+◌, ◌-◌, ◌*◌, ◌^◌, ◌<◌, ◌≤◌}
-use Rattle.tor_merkle.specs.steps.Node.{node}
+use Rattle.tor_merkle.proofs.Names.{◌≡◌, ◌+◌, ◌-◌, ◌*◌, ◌^◌, ◌<◌, ◌≤◌, node}
 use Rattle.tor_merkle.proofs.stack.Stack.push.Given as goal
 
 abbrev pub invariant-carries : goal.invariant-carries

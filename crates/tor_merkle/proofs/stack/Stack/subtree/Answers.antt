@@ -1,13 +1,10 @@
 -- the climb, from the lowest digit that is 1
-use Rattle.std.proofs.Common.{◌≡◌, ℕ, ◌-◌, ◌*◌, ◌%◌, ◌^◌, ◌<◌, ◌≤◌, [], length}
-use Rattle.std.proofs.Common.{get_or, arith, ap, ◌∙◌, add-one, mul-le-mul_right}
-use Rattle.std.proofs.lemmas.List.{get_or_default}
-use Rattle.tor_merkle.specs.Stack.{padded_subtree}
-use Rattle.tor_merkle.specs.Subtree.{node_of, zero_leaf}
+use Rattle.tor_merkle.proofs.Names.{◌≡◌, ℕ, ◌-◌, ◌*◌, ◌%◌, ◌^◌, ◌<◌, ◌≤◌, [], length, get_or, arith, ap, ◌∙◌, add-one}
+use Rattle.tor_merkle.proofs.Names.{mul-le-mul_right, get_or_default, padded_subtree, node_of, zero_leaf}
 use Rattle.tor_merkle.proofs.BinaryDigits.{power_within}
 use Rattle.tor_merkle.proofs.Root.{last_whole, last_left, last_right, last_root}
-use Rattle.tor_merkle.proofs.stack.Stack.subtree.Goals as goal
 use Rattle.tor_merkle.proofs.stack.Stack.subtree.Goals.{then-index-eq1, else-index-eq1}
+use Rattle.tor_merkle.proofs.stack.Stack.subtree.Goals as goal
 
 -- a power of two that divides a count is at most the count
 lowest_within : (count odd digit most : ℕ) → count ≡ odd * 2 ^ digit → odd % 2 ≡ 1 → count ≤ 2 ^ most → digit ≤ most

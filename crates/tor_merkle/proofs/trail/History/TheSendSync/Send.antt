@@ -1,6 +1,5 @@
 -- A history owns nothing, so it may go to another thread.
-use denote.RattleType.{RattleType}
-use denote.Param.Send.{IsSend, owning_send, sendable}
+use Rattle.tor_merkle.proofs.Names.{RattleType, IsSend, owning_send, sendable}
 use Rattle.tor_merkle.specs.contracts.trail.History.{the_row, the_type}
 
 pub send : (T : RattleType) → IsSend T → IsSend (the_row T)

@@ -1,11 +1,9 @@
 -- parts are not too long; the units are few, and whole blocks; the plan is that of the entries
-use Rattle.std.proofs.Common.{rules, ◌*◌, ◌+◌, ◌^◌, ◌<◌, ◌≤◌, sum_by, arith, subst, sym, List, ℕ, ◌∙◌, inl, inr}
-use Rattle.std.specs.Int.{div_ceil}
-use Rattle.std.specs.List.{All}
-use Rattle.tor_plan.specs.declared.units.Part.{Part}
-use Rattle.tor_plan.specs.declared.units.PlanUnit.{PlanUnit}
-use Rattle.tor_plan.proofs.Sizes.{few_units, piece_of_trees, some_bytes, whole_blocks}
-use Rattle.tor_plan.proofs.WholeUnits.{plan_of_bytes, whole_small}
+use Rattle.tor_plan.proofs.Names.{rules, ◌*◌, ◌^◌, ◌<◌, ◌≤◌, sum_by, arith, ap, subst, sym, List, ℕ, ◌∙◌, inl, inr}
+use Rattle.tor_plan.proofs.Names.{div_ceil, All, PlanUnit}
+use Rattle.tor_plan.proofs.FileSizes.{plan_of_bytes}
+use Rattle.tor_plan.proofs.Sizes.{few_units, piece_of_trees, whole_blocks}
+use Rattle.tor_plan.proofs.WholeUnits.{whole_small, IsSmall}
 use Rattle.tor_plan.proofs.plans.Plan.of_whole.Goals as goal
 
 pub trees_of-requires : goal.trees_of-requires
@@ -25,15 +23,16 @@ trees_of-requires c =
           (omega (arith, few_units is.entries size is.is_list.total (omega (arith, whole))));
     }
 
-pub pieces-requires : goal.pieces-requires
-pieces-requires c =
+pub cut_each-requires-clause-small : goal.cut_each-requires-clause-small
+cut_each-requires-clause-small c =
     let is = c.requires.entries in
-    record {
-      some = subst (λ (n : ℕ). 0 < n * c.args.piece_length) (sym c.from.ensures)
-          (some_bytes c.args.kind c.args.piece_length c.args.span c.requires.span c.requires.pieces);
-      small = subst (λ (u : PlanUnit). All (λ (part : Part). part.start + part.length < 2 ^ 64) u.parts) (sym is.bytes)
-          (whole_small 0 is.entries is.is_list.files);
-    }
+    subst (All IsSmall) (sym (c.as_slice.ensures ∙ ap (λ (u : PlanUnit). u.parts) is.bytes))
+    (whole_small 0 is.entries is.is_list.files)
+
+pub pieces-requires-clause-small : goal.pieces-requires-clause-small
+pieces-requires-clause-small c =
+    let is = c.requires.entries in
+    subst (λ (u : PlanUnit). All IsSmall u.parts) (sym is.bytes) (whole_small 0 is.entries is.is_list.files)
 
 pub invariant_of-result : goal.invariant_of-result
 invariant_of-result c =

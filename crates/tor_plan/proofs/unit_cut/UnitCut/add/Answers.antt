@@ -1,7 +1,5 @@
 -- some bytes more
-use Rattle.std.proofs.Common.{◌≡◌, ◌+◌, ◌-◌, ◌∙◌, arith, inl, inr, subst}
-use Rattle.std.proofs.lemmas.Bool.{cases_lt}
-use Rattle.tor_plan.specs.steps.UnitCut.{HasCut}
+use Rattle.tor_plan.proofs.Names.{◌≡◌, ◌+◌, ◌-◌, ◌∙◌, arith, inl, inr, subst, cases_lt, HasCut}
 use Rattle.tor_plan.proofs.Cut.{adds_some}
 use Rattle.tor_plan.proofs.unit_cut.UnitCut.add.Goals as goal
 
@@ -20,14 +18,11 @@ stretch-preserved c =
         | inr le ↦ inr (inl (omega (arith, c.min-count.ensures, c.in_ok-room.ensures.room, le, less)))
       ];
       cut = λ unit at cut is. subst (HasCut c.add_some.new.self unit)
-          (let e : at + done + n ≡ at + (done + n) = omega arith in e)
-          (adds_some c.room.new.self unit at c.args.length done n c.args.stretch
-          (c.in_ok-room.ensures.cut unit (at + done) (old.cut unit at cut is)) is
-          (elim old.begins [
+          (omega arith) (adds_some c.room.new.self unit at c.args.length done n c.args.stretch
+          (c.in_ok-room.ensures.cut unit (at + done) (old.cut unit at cut is)) is (elim old.begins [
             | inl first ↦ inl first
             | inr (inl end) ↦ absurd (omega (arith, end, less))
             | inr (inr full) ↦ inr (c.in_ok-room.ensures.fresh full)
-          ])
-          (omega (arith, c.min-count.ensures, c.in_ok-room.ensures.room, less))
+          ]) (omega (arith, c.min-count.ensures, c.in_ok-room.ensures.room, less))
           (omega (arith, c.min-count.ensures, less)) c.add_some.new.self added.size added.units added.begun added.room);
     }

@@ -1,7 +1,5 @@
 -- so many bytes were added; what is left of them begins with them or with a unit
-use Rattle.std.proofs.Common.{◌≡◌, ◌⊎◌, ℕ, ◌+◌, ◌-◌, ◌≤◌}
-use Rattle.tor_plan.specs.declared.units.PlanUnit.{PlanUnit}
-use Rattle.tor_plan.specs.steps.UnitCut.{HasCut, IsStretchAt}
+use Rattle.tor_plan.proofs.Names.{◌≡◌, ◌⊎◌, ℕ, ◌+◌, ◌-◌, ◌≤◌, PlanUnit, HasCut, IsStretchAt}
 use Rattle.tor_plan.proofs.unit_cut.UnitCut.add.Given as goal
 
 abbrev pub invariant-stretch : goal.invariant-stretch

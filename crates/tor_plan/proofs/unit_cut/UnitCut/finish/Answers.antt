@@ -1,8 +1,8 @@
 -- with a last unit that is begun, and without
-use Rattle.std.proofs.Common.{arith, ap, ◌∙◌}
+use Rattle.tor_plan.proofs.Names.{arith, ap, ◌∙◌}
 use Rattle.tor_plan.proofs.Cut.{ends_full, ends_short}
-use Rattle.tor_plan.proofs.unit_cut.UnitCut.finish.Goals as goal
 use Rattle.tor_plan.proofs.unit_cut.UnitCut.finish.Goals.{then-room-size+in_ok-push, else-room-size}
+use Rattle.tor_plan.proofs.unit_cut.UnitCut.finish.Goals as goal
 
 pub returns : goal.returns
 returns c = λ unit cut.

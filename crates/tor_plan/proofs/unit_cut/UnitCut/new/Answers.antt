@@ -1,5 +1,5 @@
 -- nothing was cut
-use Rattle.std.proofs.Common.{refl}
+use Rattle.tor_plan.proofs.Names.{refl}
 use Rattle.tor_plan.proofs.Cut.{cut_none}
 use Rattle.tor_plan.proofs.unit_cut.UnitCut.new.Goals as goal
 

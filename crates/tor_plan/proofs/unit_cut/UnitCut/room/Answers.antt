@@ -1,10 +1,8 @@
 -- with a full unit, and without
-use Rattle.std.proofs.Common.{◌++◌, ◌∷◌, [], ap, ◌∙◌, sym, subst}
-use Rattle.tor_plan.specs.declared.unit_cut.UnitCut.{UnitCut}
-use Rattle.tor_plan.specs.steps.UnitCut.{HasCut}
+use Rattle.tor_plan.proofs.Names.{◌++◌, ◌∷◌, [], ap, ◌∙◌, sym, subst, UnitCut, HasCut}
 use Rattle.tor_plan.proofs.Cut.{cut_full}
-use Rattle.tor_plan.proofs.unit_cut.UnitCut.room.Goals as goal
 use Rattle.tor_plan.proofs.unit_cut.UnitCut.room.Goals.{then-self-eq0+in_ok-push, else-self-eq0}
+use Rattle.tor_plan.proofs.unit_cut.UnitCut.room.Goals as goal
 
 pub returns-clause-cut : goal.returns-clause-cut
 returns-clause-cut c = λ unit x cut.

@@ -1,6 +1,5 @@
 -- the part is the last
-use Rattle.std.proofs.Common.{ap, ◌∙◌, sym}
-use Rattle.tor_plan.specs.steps.Joined.{joined, part_alone}
+use Rattle.tor_plan.proofs.Names.{ap, ◌∙◌, sym, joined, part_alone}
 use Rattle.tor_plan.proofs.UnitJoins.{then_part, unit_of}
 use Rattle.tor_plan.proofs.units.PlanUnit.add_part.Goals as goal
 

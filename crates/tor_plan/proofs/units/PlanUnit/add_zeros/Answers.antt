@@ -1,6 +1,5 @@
 -- after the last part
-use Rattle.std.proofs.Common.{ap, refl, ◌∙◌}
-use Rattle.tor_plan.specs.steps.Joined.{joined, zeros_alone}
+use Rattle.tor_plan.proofs.Names.{ap, refl, ◌∙◌, joined, zeros_alone}
 use Rattle.tor_plan.proofs.UnitJoins.{after_last}
 use Rattle.tor_plan.proofs.units.PlanUnit.add_zeros.Goals as goal
 

@@ -1,11 +1,6 @@
 -- one part more, and all
-use Rattle.std.proofs.Common.{◌≡◌, List, ◌+◌, ◌<◌, ◌≤◌, ◌∙◌, arith, ap, length, get_or, subst, sum_by, take, IfOk}
-use Rattle.std.proofs.lemmas.List.{get_or_default, take_all}
-use Rattle.std.proofs.lemmas.List.Sums.{sum_by_more}
-use Rattle.tor_plan.specs.Pieces.{pieces_of_unit}
-use Rattle.tor_plan.specs.declared.units.Part.{Part}
-use Rattle.tor_plan.specs.declared.units.PlanUnit.{PlanUnit}
-use Rattle.tor_plan.specs.steps.UnitCut.{HasCut}
+use Rattle.tor_plan.proofs.Names.{◌≡◌, List, ◌+◌, ◌<◌, ◌≤◌, ◌∙◌, arith, ap, length, get_or, subst, sum_by, take, IfOk}
+use Rattle.tor_plan.proofs.Names.{get_or_default, take_all, sum_by_more, pieces_of_unit, Part, PlanUnit, HasCut}
 use Rattle.tor_plan.proofs.PieceCut.{bytes_of_part, first_zeros, zeros_of_part}
 use Rattle.tor_plan.proofs.UnitJoins.{part_length}
 use Rattle.tor_plan.proofs.units.PlanUnit.pieces.Goals as goal
@@ -16,9 +11,7 @@ parts-init c =
     record {
       size = c.in_ok-add.ensures.size ∙ c.new-cut.ensures.size;
       cut = subst (HasCut c.add.new.self unit)
-          (let e : 0 + unit.zeros ≡ unit.zeros + sum_by part_length (take 0 unit.parts) = omega arith in e)
-          (c.in_ok-add.ensures.cut unit 0 (c.new-cut.ensures.cut unit)
-          (first_zeros unit));
+          (omega arith) (c.in_ok-add.ensures.cut unit 0 (c.new-cut.ensures.cut unit) (first_zeros unit));
     }
 
 pub parts-preserved : goal.parts-preserved
@@ -35,8 +28,7 @@ parts-preserved c =
     record {
       size = c.in_ok-add-3.ensures.size ∙ c.in_ok-add-2.ensures.size ∙ c.parts.invariant.size;
       cut = subst (HasCut c.add-in-parts-2.new.self unit)
-          (let e : at + part.length + part.zeros ≡ unit.zeros + sum_by part_length (take (i + 1) unit.parts) =
-          omega (arith, sum_by_more part_length unit.parts i part lt, ap part_length is) in e)
+          (omega (arith, sum_by_more part_length unit.parts i part lt, ap part_length is))
           (c.in_ok-add-3.ensures.cut unit (at + part.length)
           (c.in_ok-add-2.ensures.cut unit at c.parts.invariant.cut (bytes_of_part unit i part lt is))
           (zeros_of_part unit i part lt is));

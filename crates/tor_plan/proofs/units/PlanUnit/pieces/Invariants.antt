@@ -1,6 +1,5 @@
 -- so many parts were added, with the zeros after them
-use Rattle.std.proofs.Common.{◌≡◌, ◌+◌, sum_by, take}
-use Rattle.tor_plan.specs.steps.UnitCut.{HasCut}
+use Rattle.tor_plan.proofs.Names.{◌≡◌, ◌+◌, sum_by, take, HasCut}
 use Rattle.tor_plan.proofs.UnitJoins.{part_length}
 use Rattle.tor_plan.proofs.units.PlanUnit.pieces.Given as goal
 

@@ -1,10 +1,8 @@
-use Rattle.std.proofs.Common.{◌∙◌, ◌<◌, ◌≤◌, Bool, List, ap, sym, length, arith}
-use Rattle.std.proofs.lemmas.List.{take_all}
-use Rattle.tor_recheck.specs.Bitfield.{set_count}
+use Rattle.tor_recheck.proofs.Names.{◌∙◌, ◌<◌, ◌≤◌, Bool, List, ap, sym, length, arith, take_all, set_count}
 use Rattle.tor_recheck.proofs.Counted.{test_tells, one_more, none_more}
 use Rattle.tor_recheck.proofs.ReadBack.{length-packed_bits}
-use Rattle.tor_recheck.proofs.bits.Bits.count_set.Goals as goal
 use Rattle.tor_recheck.proofs.bits.Bits.count_set.Goals.{then-eq, else-eq}
+use Rattle.tor_recheck.proofs.bits.Bits.count_set.Goals as goal
 
 pub pieces-preserved : goal.pieces-preserved
 pieces-preserved c =

@@ -1,5 +1,4 @@
-use Rattle.std.proofs.Common.{◌≡◌, take}
-use Rattle.tor_recheck.specs.Bitfield.{set_count}
+use Rattle.tor_recheck.proofs.Names.{◌≡◌, take, set_count}
 use Rattle.tor_recheck.proofs.bits.Bits.count_set.Given as goal
 
 abbrev pub invariant-pieces : goal.invariant-pieces

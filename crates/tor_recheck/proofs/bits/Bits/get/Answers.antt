@@ -1,6 +1,5 @@
-use Rattle.std.proofs.Common.{◌≡◌, sym, ◌∙◌, ◌/◌, ◌-◌, ◌%◌, ◌<◌, refl, length, get_or, arith}
-use Rattle.std.proofs.lemmas.Grind.{get_or_default_zero}
-use Rattle.std.proofs.lemmas.Nat.Bits.{shr_and_one}
+use Rattle.tor_recheck.proofs.Names.{◌≡◌, sym, ◌∙◌, ◌/◌, ◌-◌, ◌%◌, ◌<◌, refl, length, get_or, arith}
+use Rattle.tor_recheck.proofs.Names.{get_or_default_zero, shr_and_one}
 use Rattle.tor_recheck.proofs.ReadBack.{read_within, read_past}
 use Rattle.tor_recheck.proofs.bits.Bits.get.Goals as goal
 

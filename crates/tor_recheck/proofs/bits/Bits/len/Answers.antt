@@ -1,4 +1,4 @@
-use Rattle.std.proofs.Common.{sym}
+use Rattle.tor_recheck.proofs.Names.{sym}
 use Rattle.tor_recheck.proofs.ReadBack.{length-packed_bits}
 use Rattle.tor_recheck.proofs.bits.Bits.len.Goals as goal
 

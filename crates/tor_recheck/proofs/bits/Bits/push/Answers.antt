@@ -1,4 +1,4 @@
-use Rattle.std.proofs.Common.{◌∙◌, ap, List, Bool, ◌++◌, ◌∷◌, []}
+use Rattle.tor_recheck.proofs.Names.{◌∙◌, ap, List, Bool, ◌++◌, ◌∷◌, []}
 use Rattle.tor_recheck.proofs.Grown.{bits_more}
 use Rattle.tor_recheck.proofs.bits.Bits.push.Goals as goal
 

@@ -1,6 +1,4 @@
-use Rattle.std.proofs.Common.{inl, sym, ◌∙◌, arith}
-use Rattle.std.specs.List.Sorted.{IsPermutation}
-use Rattle.std.proofs.lemmas.Result.{IfOk-weaker, IfErr-weaker}
+use Rattle.tor_tree.proofs.Cited.{inl, sym, ◌∙◌, arith, IsPermutation, IfOk-weaker, IfErr-weaker}
 use Rattle.tor_tree.proofs.ListFaults.{fault_of_lengths, fault_of_paths}
 use Rattle.tor_tree.proofs.Permuted.{list_fault-permutation, permutation-written_back}
 use Rattle.tor_tree.proofs.lists.FileList.build.Goals as goal

@@ -1,5 +1,4 @@
-use Rattle.std.proofs.Common.{◌≡◌, false, sym, ◌∙◌, refl}
-use Rattle.tor_tree.specs.FileList.{lengths_of, lengths_too_large}
+use Rattle.tor_tree.proofs.Cited.{◌≡◌, false, sym, ◌∙◌, refl, lengths_of, lengths_too_large}
 use Rattle.tor_tree.proofs.ListFaults.{fault_of_lengths}
 use Rattle.tor_tree.proofs.lists.FileList.of_sorted.Goals as goal
 

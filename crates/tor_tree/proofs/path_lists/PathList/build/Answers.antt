@@ -1,5 +1,4 @@
-use Rattle.std.proofs.Common.{inl, sym, ◌∙◌, arith}
-use Rattle.std.proofs.lemmas.Bool.{eqb-false}
+use Rattle.tor_tree.proofs.Cited.{inl, sym, ◌∙◌, arith, eqb-false}
 use Rattle.tor_tree.proofs.IndexedPaths.{indexed_count, indexed_fault, indexed_paths}
 use Rattle.tor_tree.proofs.path_lists.PathList.build.Goals as goal
 

@@ -1,6 +1,4 @@
-use Rattle.std.proofs.Common.{◌≡◌, inl, sym, ◌∙◌}
-use Rattle.std.proofs.lemmas.Result.{err_from_is_err_and}
-use Rattle.tor_tree.specs.FileList.{lengths_fault, lengths_of}
+use Rattle.tor_tree.proofs.Cited.{◌≡◌, inl, sym, ◌∙◌, err_from_is_err_and, lengths_fault, lengths_of}
 use Rattle.tor_tree.proofs.IndexedPaths.{lengths_indexed, indices_within, same_paths}
 use Rattle.tor_tree.proofs.path_lists.PathList.with_lengths.Goals as goal
 

@@ -1,4 +1,4 @@
--- What two vectors of eight words exchange.
+-- What two vectors of eight words exchange. Only private clauses cite this.
 use Rattle.std.specs.Prelude.{ℕ, ◌-◌, List, [], ◌∷◌, map, nat_lt, slice_index, if◌then◌else◌}
 
 -- the words at these indices, of the first vector from 0 on, and of the second from 8 on
