@@ -5,12 +5,11 @@ use Rattle.tor_board.proofs.Names.{none, some, ℕ_discrete, get_elem?, set_else
 use Rattle.tor_board.proofs.Names.{climbed, met, other_slot, IsSide, KeepsTree, climbing, out, IsRoot, WasGiven, middle}
 use Rattle.tor_board.proofs.Names.{ready, slot_of, word_of, joining, rested, only, Tree, View}
 use Rattle.tor_board.proofs.Sums.{total-set, only-same, only-other, only_le, term_le}
-use Rattle.tor_board.proofs.Rising.{split_one, rooted_at, rises_ready, ready_from, ready_grown}
+use Rattle.tor_board.proofs.Rising.{split_one, rooted_at, rises_ready, ready_from, ready_grown, Lands, goal_of, lands}
 use Rattle.tor_board.proofs.Trees.{alone_there, empty_home, node_word, node_flow, node_once, ready_node, side_of}
 use Rattle.tor_board.proofs.Trees.{split_positive, node_inside, zero_more, side_once}
-use Rattle.tor_board.proofs.Counting.{joined_same, IsBelow, node_above, word_above, above_slot, one_more, own_side}
-use Rattle.tor_board.proofs.Counting.{word_now, word_else, same_halves, counted}
-use Rattle.tor_board.proofs.Risen.{Lands, goal_of, lands}
+use Rattle.tor_board.proofs.Finding.{joined_same, IsBelow, node_above, word_above, above_slot, one_more, own_side}
+use Rattle.tor_board.proofs.Finding.{word_now, word_else, same_halves, counted}
 use Rattle.tor_board.proofs.Steps.{SeatStep, keeps_step, put_home, old_seat, seat_rooted, outs, weight, gave}
 use Rattle.tor_board.proofs.Resting.{bare, cleared, comes_home}
 
@@ -23,8 +22,11 @@ module _ {words : List ℕ} {homes : List (Opt (List ℕ))} {views : List View} 
       omega (arith, ap kept.arrived below.slot)
 
   pub found_few : get_or words (word_above c) 0 < 2
-  found_few = let once = node_once kept c.level (c.index / 2) (1 - c.index % 2) (omega arith) below.inside in
-      omega (arith, found_other)
+  found_few = omega (
+    arith,
+    found_other,
+    node_once kept c.level (c.index / 2) (1 - c.index % 2) (omega arith) below.inside,
+  )
 
 pub met_left : (side : ℕ) (a b : List ℕ) → side ≡ 0 → met side a b ≡ node_of a b
 met_left side a b e = ap (λ x. cond x (node_of a b) (node_of b a)) (eq-eqb side 0 e)
@@ -116,15 +118,6 @@ module _ {words : List ℕ} {homes : List (Opt (List ℕ))} {views : List View} 
         below.inside in
         omega (arith, found)
 
-    above_own : above_slot c ≢ c.slot
-    above_own e = omega (arith, ap (λ (s : ℕ). climbing s views) e, above_empty.0, alone.0)
-
-    other_above : other ≢ above_slot c
-    other_above e = omega (arith, ap kept.arrived e, found, above_empty.1)
-
-    other_own : other ≢ c.slot
-    other_own e = omega (arith, ap kept.arrived e, found, alone.2)
-
     -- and climbs on
     joined : (x : List ℕ) → IsRoot (WasGiven views) c.tree c.level (2 * (c.index / 2) + (1 - c.index % 2)) x
         → KeepsTree c.tree (one_more words (word_above c))
@@ -200,9 +193,10 @@ module _ {words : List ℕ} {homes : List (Opt (List ℕ))} {views : List View} 
         let q = kept.home (above_slot c) up.0 up.1 above_side
         (empty_home kept (above_slot c) up.0 up.1 above_side above_unready) in
         let homes1 : List (Opt (List ℕ)) = set homes c.slot (some c.hash) in
-        let z = set_else homes c.slot (above_slot c) (some c.hash) above_own ∙ q.1 in
-        let x = set_else homes1 (above_slot c) other none other_above
-        ∙ (set_else homes c.slot other (some c.hash) other_own ∙ h.1) in
+        let z = set_else homes c.slot (above_slot c) (some c.hash)
+        (λ e. omega (arith, ap (λ (s : ℕ). climbing s views) e, above_empty.0, alone.0)) ∙ q.1 in
+        let x = set_else homes1 (above_slot c) other none (λ e. omega (arith, ap kept.arrived e, found, above_empty.1))
+        ∙ (set_else homes c.slot other (some c.hash) (λ e. omega (arith, ap kept.arrived e, found, alone.2)) ∙ h.1) in
         (h.0, q.0, z, x, joined h.0 (h.2 (sym found ∙ one)))
 
   pub arrived_tree : Arrived words homes v c (set views id)

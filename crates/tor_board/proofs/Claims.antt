@@ -1,8 +1,8 @@
 -- The part of the rule on claims and failures: what it says of one seat, and how one seat's change keeps it.
-use Rattle.tor_board.proofs.Names.{List, [], ap, arith, inl, inr, min, refl, set, sym, true, ℕ, ⊎_elim, ◌+◌, ◌<◌, ◌^◌}
-use Rattle.tor_board.proofs.Names.{◌∙◌, ◌∷◌, ◌≡◌, ◌≢◌, ◌≤◌, ◌⊎◌, dite, some, dec_le, ℕ_discrete, get_elem?, GivenUnit}
-use Rattle.tor_board.proofs.Names.{units_of, KeepsClaims, nobody, IsLeastOf, failures, named, spent, stopped, below}
-use Rattle.tor_board.proofs.Names.{only, times, total, View}
+use Rattle.tor_board.proofs.Names.{List, [], ap, arith, inl, inr, min, refl, set, sym, true, ℕ, ◌+◌, ◌<◌, ◌^◌, ◌∙◌, ◌∷◌}
+use Rattle.tor_board.proofs.Names.{◌≡◌, ◌≢◌, ◌≤◌, ◌⊎◌, dite, some, ℕ_discrete, get_elem?, GivenUnit, units_of}
+use Rattle.tor_board.proofs.Names.{KeepsClaims, nobody, IsLeastOf, failures, named, spent, stopped, below, only, times}
+use Rattle.tor_board.proofs.Names.{total, View}
 use Rattle.tor_board.proofs.Sums.{cond_le, total-set, set_all, total_le, term_le, below-only, only-same, alone}
 use Rattle.tor_board.proofs.Sums.{total-map}
 
@@ -19,16 +19,16 @@ module _ {units claims least : ℕ} {views : List View} (k : KeepsClaims units c
     (at : get_elem? views id ≡ some v) where
   -- a unit that a seat names was claimed
   pub named_below : (u : ℕ) → 0 < named (only u) v → (u < claims) × (u < units)
-  named_below u has =
-      let part = term_le (named (only u)) views id v at in let all = k.once (only u) in
-      let bound = below-only u (min claims units) in
-      dite (dec_le (min claims units) u) (λ (h : min claims units ≤ u). let z = bound.1 h in omega arith)
-      (λ h. (omega arith, omega arith))
+  named_below u has = grind (
+    arith,
+    term_le (named (only u)) views id v at,
+    k.once (only u),
+    below-only u (min claims units),
+  )
 
   -- no seat has failed a unit below the least
   pub least_le : (u : ℕ) → 0 < failures (only u) v → least ≤ u
-  least_le u has = let part = term_le (failures (only u)) views id v at in
-      dite (dec_le least u) (λ h. h) (λ h. let z = k.spared u (omega arith) in omega arith)
+  least_le u has = grind (arith, term_le (failures (only u)) views id v at, k.spared u)
 
   -- and none while the least is nobody
   pub none_failed : units ≤ 2 ^ 62 → least ≡ nobody → v.failed ≡ []
@@ -51,8 +51,8 @@ module _ {units claims least : ℕ} {views : List View} (k : KeepsClaims units c
       → (w.done ≡ true → (v.done ≡ true) ⊎ ((least' < nobody) ⊎ (units ≤ claims')))
       → KeepsClaims units claims' least' (set views id w)
   changed least' spared attained lower more done =
-      let still : (least < nobody) ⊎ (units ≤ claims) → (least' < nobody) ⊎ (units ≤ claims') = λ t. ⊎_elim
-      (λ (h : least < nobody). inl (omega arith)) (λ (h : units ≤ claims). inr (omega arith)) t in
+      let still : (least < nobody) ⊎ (units ≤ claims) → (least' < nobody) ⊎ (units ≤ claims')
+      = λ t. elim t [ inl h ↦ inl (omega arith) | inr h ↦ inr (omega arith) ] in
       record {
         once = λ f. omega (arith, total-set (named f) views id v w at, k.once f, names f);
         rooms = omega (arith, total-set (λ (u : View). u.room) views id v w at, k.rooms);
@@ -64,7 +64,7 @@ module _ {units claims least : ℕ} {views : List View} (k : KeepsClaims units c
         most = omega (arith, k.most);
         why = set_all (λ (u : View). u.done ≡ true → (least' < nobody) ⊎ (units ≤ claims')) views id w
             (λ i u e yes. still (k.why i u e yes))
-            (λ yes. ⊎_elim (λ (was : v.done ≡ true). still (k.why id v at was)) (λ now. now) (done yes));
+            (λ yes. elim (done yes) [ inl was ↦ still (k.why id v at was) | inr now ↦ now ]);
       }
 
   -- the failed units of the seat stay, and so does the least
@@ -97,13 +97,9 @@ module _ {units claims least : ℕ} {views : List View} (k : KeepsClaims units c
       let given = total-map (only u) (λ (g : GivenUnit). g.unit) v.given in
       omega (arith, k.once (only u), k.spared u under, ap (total (only u)) held) in
       dite (ℕ_discrete least nobody)
-      (λ none.
-      let over : units ≤ claims = ⊎_elim
-      (λ (y : v.done ≡ true). ⊎_elim (λ (h : least < nobody). omega arith) (λ (h : units ≤ claims). h)
-      (k.why id v at y))
-      (λ (n : v.failed ≢ []). absurd (n (none_failed k id v at small none)))
-      done in
-      end (omega (arith, none_is none)) (omega (arith, none_is none)))
-      (λ ne.
-      let has = least_failed ne in let low = named_below k id v at least (omega (arith, has.0)) in
+      (λ none. let over : units ≤ claims = elim done [
+        | inl y ↦ elim (k.why id v at y) [ inl h ↦ omega arith | inr h ↦ h ]
+        | inr n ↦ absurd (n (none_failed k id v at small none))
+      ] in end (omega (arith, none_is none)) (omega (arith, none_is none)))
+      (λ ne. let has = least_failed ne in let low = named_below k id v at least (omega (arith, has.0)) in
       end (omega (arith, some_is ne)) (omega (arith, some_is ne)))

@@ -2,27 +2,23 @@
 use Rattle.tor_board.proofs.Names.{Bool, List, None, Some, [], ap, arith, cond, eq-eqb, get_or, inl, inr, length}
 use Rattle.tor_board.proofs.Names.{ne_eqb, refl, set, subst, suc, sym, true, ℕ, ◌%◌, ◌*◌, ◌+◌, ◌-◌, ◌/◌, ◌<◌, ◌==◌, ◌^◌}
 use Rattle.tor_board.proofs.Names.{◌∙◌, ◌∷◌, ◌≡◌, ◌≤◌, dite, ℕ_discrete, at_map, State, Climb, way_in, way_of}
-use Rattle.tor_board.proofs.Names.{topped_desk, IsGivenSide, IsStep, Machine, arrive, beside, hand, hands, meets, rests}
-use Rattle.tor_board.proofs.Names.{seal, seals, side_of_way, times_arrived, top_root, IsAtTop, Seated, arrived_from}
-use Rattle.tor_board.proofs.Names.{gave_told, sealed_from, climb_from, climbed, met, other_slot, IsSide, KeepsTree}
-use Rattle.tor_board.proofs.Names.{climbing, climbs_to, least_of, runs_of, IsShape, IsTreeOf, IsChange, IsEvent}
-use Rattle.tor_board.proofs.Names.{has_unit, middle, ready, slot_at, slot_of, times_given, word_of, desk_of, handed}
-use Rattle.tor_board.proofs.Names.{joining, rested, topped, only, Shape, Tree, View}
-use Rattle.tor_merkle.specs.Subtree.{height}
-use Rattle.tor_board.specs.Climb.{run_of}
-use Rattle.tor_board.proofs.Finding.{apart, same_tree, some_height, top_node}
-use Rattle.tor_board.proofs.Arriving.{found_other, found_few}
-use Rattle.tor_board.proofs.Counting.{IsBelow, word_above, own_side, counted, joined_same, word_else}
+use Rattle.tor_board.proofs.Names.{IsGivenSide, IsStep, Machine, arrive, hand, hands, meets, rests, seal, seals}
+use Rattle.tor_board.proofs.Names.{times_arrived, top_root, IsAtTop, Seated, arrived_from, gave_told, sealed_from}
+use Rattle.tor_board.proofs.Names.{climb_from, climbed, met, other_slot, IsSide, KeepsTree, climbing, climbs_to}
+use Rattle.tor_board.proofs.Names.{least_of, runs_of, IsShape, IsTreeOf, IsChange, IsEvent, has_unit, middle, ready}
+use Rattle.tor_board.proofs.Names.{slot_at, slot_of, times_given, word_of, desk_of, handed, joining, rested, topped}
+use Rattle.tor_board.proofs.Names.{only, Shape, Tree, View}
+use Rattle.tor_board.proofs.{Arriving.found_other, Arriving.found_few, Going.held_ungiven, Running.ready_given}
+use Rattle.tor_board.proofs.{Running.top_is, Steps.climbs, Steps.gave, Sums.only-same, Sums.only-other}
+use Rattle.tor_board.proofs.Finding.{apart, same_tree, some_height, top_node, IsBelow, word_above, own_side, counted}
+use Rattle.tor_board.proofs.Finding.{joined_same, word_else}
 use Rattle.tor_board.proofs.Trees.{has_unit-true, alone_there, ready_node, side_of, side_in, node_inside, node_flow}
 use Rattle.tor_board.proofs.Trees.{node_word, node_once}
-use Rattle.tor_board.proofs.Begins.{held_ungiven}
-use Rattle.tor_board.proofs.Sides.{other_side, same_side, next_of}
-use Rattle.tor_board.proofs.Risen.{goal_of, lands}
-use Rattle.tor_board.proofs.Rising.{rises_ready, side_low, not_top, place_one, side_one}
-use Rattle.tor_board.proofs.Running.{ready_given, top_is}
-use Rattle.tor_board.proofs.Shown.{Moment, New, place_of, event, moved, unarrived, on_first}
-use Rattle.tor_board.proofs.Steps.{climbs, gave}
-use Rattle.tor_board.proofs.Sums.{only-same, only-other}
+use Rattle.tor_board.proofs.Lawful.{other_side, same_side, next_of}
+use Rattle.tor_board.proofs.Rising.{goal_of, lands, rises_ready, side_low, not_top, place_one, side_one}
+use Rattle.tor_board.proofs.Shown.{Moment, New, place_of, event, moved, unarrived, on_first, as_told}
+use Rattle.tor_board.specs.{Climb.run_of, Desks.topped as topped_desk, Machine.beside, Machine.side_of as side_of_way}
+use Rattle.tor_merkle.specs.Subtree.{height}
 
 module _ {shape : Shape} {m : Machine} {s s' : State (List ℕ) View} {id : ℕ} {v : View}
     (now : Moment shape m s s' id v) {words_count slots_count : ℕ}
@@ -147,11 +143,8 @@ module _ {shape : Shape} {m : Machine} {s s' : State (List ℕ) View} {id : ℕ}
         → IsChange s (word_above c) ((found + 1) % 2 ^ 64) id after.0 s' → IsEvent shape m id arrive s'
     arrives_so some_room has after t change =
         let few = found_few c tree below alone.2 in let big : (found + 1) % 2 ^ 64 ≡ found + 1 = omega arith in
-        let known : (w : View) (l : List (ℕ × List ℕ)) → after ≡ (w, l) → IsChange s (word_above c) (found + 1) id w s'
-        = λ w l e. subst (λ (x : ℕ). IsChange s (word_above c) x id w s') big
-        (subst (λ (x : Seated). IsChange s (word_above c) ((found + 1) % 2 ^ 64) id x.0 s') e change) in
         dite (ℕ_discrete found 0)
-        (λ e. arrived_event (rested v) (known (rested v) [] (t.1 e)) (λ u. omega arith)
+        (λ e. arrived_event (rested v) (as_told now _ (t.1 e) big change) (λ u. omega arith)
         (λ t is k i side two inside one. omega arith)
         (rests (way_of c) some_room (ap way_in in_climb) near given_here none_here (found_beside ∙ e)))
         (λ ne.
@@ -161,7 +154,7 @@ module _ {shape : Shape} {m : Machine} {s s' : State (List ℕ) View} {id : ℕ}
         let covers = node_inside c.level (c.index / 2) c.tree.count near in
         let next = next_of c.tree tree.some_unit tree.tall (shaped.fits c.tree is).least (suc c.level) (c.index / 2)
         below.low covers (met (c.index % 2) c.hash r.0) ((other_slot c, r.0) ∷ []) in
-        arrived_event w (known w ((other_slot c, r.0) ∷ ((climbed c r.0).slot, r.1) ∷ []) r.2)
+        arrived_event w (as_told now _ r.2 big change)
         (λ u. omega (arith, joined_same (λ g. only u g.unit) (λ x h a b. refl) v.given))
         (not_ready c.tree is (suc c.level) (c.index / 2) (met (c.index % 2) c.hash r.0) ((other_slot c, r.0) ∷ [])
         below.low covers none)
@@ -177,7 +170,7 @@ module _ {shape : Shape} {m : Machine} {s s' : State (List ℕ) View} {id : ℕ}
       let among = has_unit-true t u in_tree in let i : ℕ = u - t.first in
       let unit : u ≡ t.first + (u - t.first) = omega (arith, among.0) in
       let c : Climb = climb_from t 0 i hash [] in let w : View = handed v u hash (Some c) in
-      let changed : IsChange s 0 k id w s' = subst (λ (x : Seated). IsChange s 0 k id x.0 s') told.0.1 change in
+      let changed : IsChange s 0 k id w s' = as_told now _ told.0.1 refl change in
       let ungiven : ready t s.words s.views 0 i ≡ 0 = ap (λ (x : ℕ). times_given x s.views) (sym unit)
       ∙ held_ungiven now.kept.claims id v now.at u told.3 in
       let covers : i * 2 ^ 0 < t.count = omega (arith, among.0, among.1) in
@@ -208,7 +201,7 @@ module _ {shape : Shape} {m : Machine} {s s' : State (List ℕ) View} {id : ℕ}
       let k : ℕ = get_or s.words 0 0 in let tree = now.kept.trees c.tree is in
       let w : View = topped v c.tree.number c.hash in
       let top : IsSide c.tree c.slot c.tree.height 0 = inr (high.2, refl, refl) in
-      let changed : IsChange s 0 k id w s' = subst (λ (x : Seated). IsChange s 0 k id x.0 s') t change in
+      let changed : IsChange s 0 k id w s' = as_told now _ t refl change in
       let none : (u : Tree) → IsTreeOf shape u → (n side : ℕ) → side < 2 → 0 < n → n < u.count
       → climbs (slot_of u n side) v ≡ 0 = λ u is' n side two pos h. ap (climbs_to (slot_of u n side)) in_climb
       ∙ only-other (slot_of u n side) c.slot (λ e. dite (ℕ_discrete c.tree.number u.number)

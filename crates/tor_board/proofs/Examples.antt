@@ -1,14 +1,15 @@
 -- The worked runs are legal, and what is no event is none.
-use Rattle.tor_board.proofs.Names.{List, Some, [], arith, inl, inr, leb, leb-true, ltb, refl, suc, true, zero, ℕ, ◌*◌}
-use Rattle.tor_board.proofs.Names.{◌+◌, ◌<◌, ◌^◌, ◌∷◌, ◌≡◌, ◌≢◌, ◌≤◌, Run, Desk, Way, IsExcluded, end, events, forest}
-use Rattle.tor_board.proofs.Names.{left, right, rising_end, rising_events, three_units, way_to, IsGivenSide, IsLegalRun}
-use Rattle.tor_board.proofs.Names.{IsStep, Machine, arrive, begins, claim, claims, ends, fail, fails, goes_on, hand}
-use Rattle.tor_board.proofs.Names.{hands, join, joins, look, looks, meets, rests, seal, seals, sees, side_of, split}
-use Rattle.tor_board.proofs.Names.{splits, start, times_arrived, ltb-true}
-use Rattle.tor_merkle.specs.Subtree.{height}
+use Rattle.tor_board.proofs.Names.{List, Some, [], arith, inl, inr, ltb, refl, suc, true, zero, ℕ, ◌*◌, ◌+◌, ◌<◌, ◌^◌}
+use Rattle.tor_board.proofs.Names.{◌∷◌, ◌≡◌, ◌≤◌, Run, Desk, Way, IsGivenSide, IsLegalRun, IsStep, Machine, arrive}
+use Rattle.tor_board.proofs.Names.{begins, claim, claims, ends, fail, fails, goes_on, hand, hands, join, joins, look}
+use Rattle.tor_board.proofs.Names.{looks, meets, rests, seal, seals, sees, side_of, split, splits, start, times_arrived}
+use Rattle.tor_board.proofs.Names.{◌≢◌}
 use Rattle.tor_board.proofs.Trees.{by_sides}
-use Rattle.tor_board.specs.Desks.{first}
-use Rattle.tor_board.specs.Machine.{times_given}
+use Rattle.tor_board.specs.{Desks.first, Machine.times_given}
+use Rattle.tor_board.specs.Examples.{IsExcluded, end, events, forest, left, right, rising_end, rising_events}
+use Rattle.tor_board.specs.Examples.{three_units, way_to}
+use Rattle.{tor_merkle.specs.Subtree.height, std.proofs.Common.leb, std.proofs.Common.leb-true}
+use borrow.Author.Tests.{ltb-true}
 
 -- what numbers show by themselves
 at_most : {a b : ℕ} → leb a b ≡ true → a ≤ b

@@ -1,14 +1,55 @@
 -- What every run of the machine keeps, and what makes it lawful.
-use Rattle.tor_board.proofs.Names.{List, None, Option, Some, [], ap, arith, cond, get_or, inl, inr, length, min, refl}
-use Rattle.tor_board.proofs.Names.{suc, sym, zero, ℕ, ⊎_elim, ◌*◌, ◌+◌, ◌<◌, ◌∙◌, ◌∷◌, ◌≡◌, ◌≤◌, dite, some}
+use Rattle.tor_board.proofs.Names.{Bool, List, [], arith, cond, false, inl, inr, subst, true, ℕ, ◌*◌, ◌+◌, ◌/◌, ◌<◌}
+use Rattle.tor_board.proofs.Names.{◌^◌, ◌∙◌, ◌∷◌, ◌≡◌, ◌≤◌, ◌⊎◌, dite, way_of, Side, times_arrived, climb_from, middle}
+use Rattle.tor_board.proofs.Names.{Tree, None, Option, Some, get_or, length, min, refl, suc, sym, zero, some}
 use Rattle.tor_board.proofs.Names.{some-ne-none, dec_le, get_elem?, Run, Desk, GivenUnit, Way, names, Every}
-use Rattle.tor_board.proofs.Names.{IsLawfulState, IsLeastFailed, IsNodeSide, Machine, Side, is_given_side, lesser}
-use Rattle.tor_board.proofs.Names.{start, times_arrived, times_failed, below, only, times, total}
-use Rattle.tor_board.proofs.Sides.{side_at, at_node}
-use Rattle.tor_board.proofs.Sums.{cond_le, snoc_all, total_le, only-same, only-other, below-test, below_more}
-use Rattle.tor_board.proofs.Sums.{below-only}
+use Rattle.tor_board.proofs.Names.{IsLeastFailed, IsNodeSide, Machine, is_given_side, lesser, start, times_failed}
+use Rattle.tor_board.proofs.Names.{below, only, times, total}
+use Rattle.tor_board.proofs.{Sums.cond_le, Sums.snoc_all, Sums.total_le, Sums.only-same, Sums.only-other}
+use Rattle.tor_board.proofs.{Sums.below-test, Sums.below_more, Sums.below-only, Rising.goal_of, Rising.lands}
 use Rattle.tor_board.specs.Desks.{first}
-use Rattle.tor_board.specs.Machine.{times_given}
+use Rattle.tor_board.specs.Machine.{times_given, IsNext, arrivals_at, is_side, IsLawfulState}
+use Rattle.tor_merkle.specs.Subtree.{height}
+
+-- ---- sides of nodes: which one a side is, and how often a node's arrived
+
+abbrev pub bit : Bool → ℕ
+bit b = cond b 1 0
+
+abbrev pub side_at : ℕ → ℕ → ℕ → Side
+side_at n k j = record { tree = n; level = k; index = j }
+
+pub same_side : (a b : Side) → a.tree ≡ b.tree → a.level ≡ b.level → a.index ≡ b.index → is_side a b ≡ true
+same_side a b e f g = grind arith
+
+pub either_side : (a b : Side) → ((a.tree ≡ b.tree) × (a.level ≡ b.level) × (a.index ≡ b.index)) ⊎ (is_side a b ≡ false)
+either_side a b = grind arith
+
+pub other_side : (a b : Side) → (a.tree ≡ b.tree → a.level ≡ b.level → a.index ≡ b.index → ⊥) → is_side a b ≡ false
+other_side a b ne = elim (either_side a b) [ inl r ↦ absurd (ne r.0 r.1 r.2) | inr f ↦ f ]
+
+-- a node's arrivals are those of its sides
+pub at_node : (n k i : ℕ) (sides : List Side)
+    → arrivals_at sides n k i
+    ≤ times_arrived (side_at n k (2 * i)) sides + times_arrived (side_at n k (2 * i + 1)) sides
+at_node n k i [] = omega arith
+at_node n k i (s ∷ ss) = grind (arith, at_node n k i ss)
+
+-- where a hash rises to is the next side of a node, or the top
+pub next_of : (t : Tree) → 0 < t.count → t.count ≤ 2 ^ t.height → t.height ≡ height t.count → (l i : ℕ) → l ≤ t.height
+    → i * 2 ^ l < t.count → (hash : List ℕ) (spare : List (ℕ × List ℕ))
+    → IsNext (way_of (climb_from t l i hash spare)) l i
+next_of t some_unit tall least l i low inside hash spare =
+    let up = lands t some_unit tall l i low inside in let p : ℕ × ℕ = goal_of t l i in (
+      up.0,
+      elim up.1 [
+        | inl q ↦ let half : q.0 ≡ p.1 / 2 = omega (arith, q.2, q.5) in
+            inl (subst (λ (x : ℕ). middle p.0 x < t.count) half q.3)
+        | inr q ↦ inr (q.1 ∙ least, q.2)
+      ],
+    )
+
+-- ---- what every run keeps
 
 abbrev pub gave : ℕ → Desk → ℕ
 gave u d = total (λ (g : GivenUnit). only u g.unit) d.given
@@ -32,12 +73,10 @@ there (x ∷ xs) zero d h = refl
 there (x ∷ xs) (suc i) d h = there xs i d (omega arith)
 
 pub mark_more : (units made u : ℕ) → made < units → mark units (made + 1) u ≡ mark units made u + only u made
-mark_more units made u h =
-    let a : min made units ≡ made = omega arith in
-    let b : min (made + 1) units ≡ made + 1 = omega arith in rw (a, b) (below_more (only u) made)
+mark_more units made u h = grind (arith, below_more (only u) made)
 
 pub mark_past : (units made u : ℕ) → units ≤ made → mark units (made + 1) u ≡ mark units made u
-mark_past units made u h = let e : min (made + 1) units ≡ min made units = omega arith in ap (below (only u)) e
+mark_past units made u h = grind arith
 
 -- what every run keeps
 abbrev pub ClimbOk : List Run → Option Way → Type 0
@@ -91,29 +130,28 @@ begins_good units forest = record {
 
 pub still_given : (before after : List Desk) → ((u : ℕ) → times_given u before ≤ times_given u after)
     → (run : Run) (k j x : ℕ) → is_given_side before run k j x → is_given_side after run k j x
-still_given before after more run k j x s = ⊎_elim (λ e. inl e)
-    (λ p. inr (p.0, λ i low high inside. let one = p.1 i low high inside in omega (arith, more (run.first + i)))) s
+still_given before after more run k j x (inl e) = inl e
+still_given before after more run k j x (inr p)
+    = inr (p.0, λ i low high inside. omega (arith, p.1 i low high inside, more (run.first + i)))
 
 pub least_same : (least : Option ℕ) (before after : List Desk)
     → ((u : ℕ) → times_failed u after ≡ times_failed u before) → IsLeastFailed least before → IsLeastFailed least after
-least_same least before after same l = ⊎_elim
-    (λ p. inl (p.0, λ u. same u ∙ p.1 u))
-    (λ p. inr (p.0, p.1, omega (arith, p.2, same p.0), λ x h. same x ∙ p.3 x h))
-    l
+least_same least before after same (inl p) = inl (p.0, λ u. same u ∙ p.1 u)
+least_same least before after same (inr p) = inr (p.0, p.1, omega (arith, p.2, same p.0), λ x h. same x ∙ p.3 x h)
 
 -- once a unit more has failed
 pub fewest : (before after : List Desk) (u : ℕ) → ((x : ℕ) → times_failed x after ≡ times_failed x before + only x u)
     → (l : Option ℕ) → IsLeastFailed l before → IsLeastFailed (Some (lesser l u)) after
-fewest before after u now l f = ⊎_elim
-    (λ (p : (l ≡ None) × ((x : ℕ) → times_failed x before ≡ 0)).
-    let spared : (x : ℕ) → x < u → times_failed x after ≡ 0
-    = λ x h. omega (arith, now x, p.1 x, only-other x u (λ e. omega arith)) in
-    rw p.0 (inr (u, refl, omega (arith, now u, only-same u), spared)))
-    (λ (p : (y : ℕ) × (l ≡ Some y) × (0 < times_failed y before) × ((x : ℕ) → x < y → times_failed x before ≡ 0)).
+fewest before after u now l (inl p) = rw p.0 (inr (
+  u,
+  refl,
+  omega (arith, now u, only-same u),
+  λ x h. omega (arith, now x, p.1 x, only-other x u (λ e. omega arith)),
+))
+fewest before after u now l (inr p) =
     let one : 0 < times_failed (min p.0 u) after = dite (dec_le p.0 u)
     (λ le. let is : min p.0 u ≡ p.0 = omega arith in rw is (omega (arith, now p.0, p.2)))
     (λ gt. let is : min p.0 u ≡ u = omega arith in rw is (omega (arith, now u, only-same u))) in
     let spared : (x : ℕ) → x < min p.0 u → times_failed x after ≡ 0
     = λ x h. omega (arith, now x, p.3 x (omega arith), only-other x u (λ e. omega arith)) in
-    rw p.1 (inr (min p.0 u, refl, one, spared)))
-    f
+    rw p.1 (inr (min p.0 u, refl, one, spared))

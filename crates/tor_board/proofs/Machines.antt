@@ -1,19 +1,18 @@
 -- The machine alone: every legal run ends lawful.
-use Rattle.tor_board.proofs.Names.{Bool, List, None, Option, Some, [], ap, arith, cond, false, get_or, get_or-set_other}
-use Rattle.tor_board.proofs.Names.{inr, length, length-set, refl, set, subst, sym, ℕ, ⊎_elim, ◌++◌, ◌+◌, ◌-◌, ◌/◌, ◌<◌}
-use Rattle.tor_board.proofs.Names.{◌∙◌, ◌∷◌, ◌≡◌, ◌≤◌, some, some-injective, get_elem?, Run, Desk, GivenUnit, Way}
-use Rattle.tor_board.proofs.Names.{finished, names, spent_desk, Event, Every, IsGivenSide, IsLawfulState, IsLeastFailed}
-use Rattle.tor_board.proofs.Names.{IsLegalRun, IsNodeSide, IsStep, Machine, Side, begins, claims, ends, fails, goes_on}
-use Rattle.tor_board.proofs.Names.{hands, is_given_side, is_side, joins, lesser, looks, meets, rests, seals, sees}
-use Rattle.tor_board.proofs.Names.{side_of, splits, times_arrived, times_failed, top_root, only, times, total}
-use Rattle.tor_board.proofs.Sides.{bit, side_at, same_side, either_side}
-use Rattle.tor_board.proofs.Seats.{stopped_parts, stopped_both}
-use Rattle.tor_board.proofs.Counting.{joined_same}
+use Rattle.tor_board.proofs.Names.{Bool, List, None, Option, Some, [], ap, arith, cond, get_or, get_or-set_other, inr}
+use Rattle.tor_board.proofs.Names.{length, length-set, refl, set, subst, sym, ℕ, ◌++◌, ◌+◌, ◌-◌, ◌/◌, ◌<◌, ◌∙◌, ◌∷◌}
+use Rattle.tor_board.proofs.Names.{◌≡◌, ◌≤◌, some, some-injective, get_elem?, Run, Desk, GivenUnit, Way, finished}
+use Rattle.tor_board.proofs.Names.{names, spent_desk, Event, Every, IsGivenSide, IsLeastFailed, IsLegalRun, IsNodeSide}
+use Rattle.tor_board.proofs.Names.{IsStep, Machine, Side, begins, claims, ends, fails, goes_on, hands, is_given_side}
+use Rattle.tor_board.proofs.Names.{joins, lesser, looks, meets, rests, seals, sees, side_of, splits, times_arrived}
+use Rattle.tor_board.proofs.Names.{times_failed, top_root, only, times, total, inl}
+use Rattle.tor_board.proofs.{Seats.stopped_parts, Seats.stopped_both, Finding.joined_same}
+use Rattle.tor_board.proofs.Lawful.{bit, side_at, same_side, either_side, gave, failures, mark, stopped, stopped_le}
+use Rattle.tor_board.proofs.Lawful.{there, mark_more, mark_past, ClimbOk, IsWhole, AllOk, begins_good, still_given}
+use Rattle.tor_board.proofs.Lawful.{least_same, fewest, Good}
 use Rattle.tor_board.proofs.Sums.{set_all, snoc_all, total-set, total-append, total-without}
 use Rattle.tor_board.specs.Desks.{looking, holding, handed, rested, joining, topped, failing, keeping, fresh, both}
 use Rattle.tor_board.specs.Machine.{times_given}
-use Rattle.tor_board.proofs.Lawful.{gave, failures, mark, stopped, stopped_le, there, mark_more, mark_past, ClimbOk}
-use Rattle.tor_board.proofs.Lawful.{IsWhole, AllOk, lawful, begins_good, still_given, least_same, fewest, Good}
 
 module _ (units : ℕ) (forest : List Run) (m : Machine) (good : Good units forest m) where
   -- seats that are two or one, and together what they were
@@ -91,17 +90,14 @@ module _ (units : ℕ) (forest : List Run) (m : Machine) (good : Good units fore
         let still : (x y : ℕ) → y ≡ x → is_given_side m.desks run k j x → is_given_side (set m.desks seat d) run k j y
         = λ x y e s. subst (is_given_side (set m.desks seat d) run k j) (sym e)
         (still_given m.desks (set m.desks seat d) (λ u. omega (arith, part (gave u) d, same u)) run k j x s) in
-        ⊎_elim
-        (λ (e : (w.tree ≡ n) × (w.level ≡ k) × (w.index ≡ j)).
-        let tree : w.run ≡ run = some-injective w.run run (sym mine ∙ (ap (get_elem? forest) e.0 ∙ is)) in
-        let again : times_arrived side m.arrived ≡ 0 = rw (sym e.0, sym e.1, sym e.2) first' in
-        let here : is_given_side m.desks run k j 1 = inr (refl, rw (sym tree, sym e.1, sym e.2) given) in
-        still 1 (times_arrived side (side_of w ∷ m.arrived))
-        (omega (arith, ap bit (same_side (side_of w) side e.0 e.1 e.2))) here)
-        (λ (none : is_side (side_of w) side ≡ false).
-        still (times_arrived side m.arrived) (times_arrived side (side_of w ∷ m.arrived)) (omega (arith, ap bit none))
-        (good.whole n run is k j))
-        (either_side (side_of w) side)
+        elim (either_side (side_of w) side) [
+          | inl e ↦
+              let tree : w.run ≡ run = some-injective w.run run (sym mine ∙ (ap (get_elem? forest) e.0 ∙ is)) in
+              let again : times_arrived side m.arrived ≡ 0 = rw (sym e.0, sym e.1, sym e.2) first' in
+              let here : is_given_side m.desks run k j 1 = inr (refl, rw (sym tree, sym e.1, sym e.2) given) in
+              still 1 _ (omega (arith, ap bit (same_side (side_of w) side e.0 e.1 e.2))) here
+          | inr none ↦ still (times_arrived side m.arrived) _ (omega (arith, ap bit none)) (good.whole n run is k j)
+        ]
 
     tree_of : (w : Way) → old.climb ≡ Some w → get_elem? forest w.tree ≡ some w.run
     tree_of w is = subst (λ (x : Option Way). ClimbOk forest x) is old_ok
@@ -186,12 +182,8 @@ module _ (units : ℕ) (forest : List Run) (m : Machine) (good : Good units fore
         (λ u. omega (arith, two' (gave u), given u)) (omega (arith, two' (λ (d : Desk). d.arrivals)))
         (set_all (λ (d : Desk). ClimbOk forest d.climb) l other spent_desk (set_ok d old_ok) tt)
 
-run_good : (units : ℕ) (forest : List Run) (events : List (ℕ × Event)) (m : Machine) → IsLegalRun units forest events m
-    → Good units forest m
+pub run_good : (units : ℕ) (forest : List Run) (events : List (ℕ × Event)) (m : Machine)
+    → IsLegalRun units forest events m → Good units forest m
 run_good units forest events m (begins) = begins_good units forest
 run_good units forest events m (goes_on before m' n seat e run here step)
     = step_good units forest m' (run_good units forest before m' run) seat here e n step
-
-pub every_run_lawful : (units : ℕ) (forest : List Run) (events : List (ℕ × Event)) (m : Machine)
-    → IsLegalRun units forest events m → IsLawfulState units forest m
-every_run_lawful units forest events m run = lawful units forest m (run_good units forest events m run)

@@ -1,16 +1,15 @@
 -- The shape of a new board, and the rule at its start.
 use Rattle.tor_board.proofs.Names.{List, [], ap, arith, drop, get_or, get_or-set_other, get_or-set_same, length}
 use Rattle.tor_board.proofs.Names.{length-set, map, min, refl, replicate, set, subst, suc, sym, zero, ℕ, ◌*◌, ◌+◌, ◌-◌}
-use Rattle.tor_board.proofs.Names.{◌/◌, ◌<◌, ◌^◌, ◌∙◌, ◌∷◌, ◌≡◌, ◌≢◌, ◌≤◌, pow_mono, at_drop_more, length-map}
-use Rattle.tor_board.proofs.Names.{length-replicate, dite, some, some-injective, some-ne-none, dec_le, get_elem?}
-use Rattle.tor_board.proofs.Names.{some_there, opening, height_covers, Run, IsKnown, Keeps, KeepsTree, nobody, run_of}
+use Rattle.tor_board.proofs.Names.{◌/◌, ◌<◌, ◌^◌, ◌∙◌, ◌∷◌, ◌≡◌, ◌≢◌, ◌≤◌, pow_mono, dite, some, some-injective}
+use Rattle.tor_board.proofs.Names.{some-ne-none, dec_le, get_elem?, Run, IsKnown, Keeps, KeepsTree, nobody, run_of}
 use Rattle.tor_board.proofs.Names.{Fits, IsShape, IsTreeOf, middle, ready, word_of, first, below, total, Shape, Tree}
 use Rattle.tor_board.proofs.Names.{View, units_in}
-use Rattle.tor_merkle.specs.Subtree.{height}
-use Rattle.tor_plan.specs.Forest.{AreRuns}
+use Rattle.tor_board.proofs.{Finding.words-set, Trees.ready_node, Trees.ready_chain, Trees.side_in}
 use Rattle.tor_board.specs.steps.Row.{trees_from}
-use Rattle.tor_board.proofs.Counting.{words-set}
-use Rattle.tor_board.proofs.Trees.{ready_node, ready_chain, side_in}
+use Rattle.{tor_merkle.specs.Subtree.height, tor_plan.specs.Forest.AreRuns, atomic_table.proofs.Lists.some_there}
+use Rattle.{atomic_table.specs.Table.opening, tor_merkle.proofs.ProvedLaws.height_covers}
+use Rattle.std.proofs.lemmas.List.{at_drop_more, length-map, length-replicate}
 
 -- a run's tree of that height
 abbrev pub laid : ℕ → ℕ → Run → ℕ → Tree
@@ -130,9 +129,6 @@ module _ (shape : Shape) (places : ℕ) (is_shape : IsShape (2 + places) (2 * pl
       (λ gt. ready_node t words views k i (omega arith)
       ∙ ap (λ (x : ℕ). x / 2) (word_zero (word_of t (middle k i)) (λ e. omega arith)))
 
-  homes_long : length (map some slots) ≡ 2 * places
-  homes_long = length-map slots some ∙ long
-
   start_tree : (t : Tree) → IsTreeOf shape t → KeepsTree t words (map some slots) views
   start_tree t is =
       let f = is_shape.fits t is in let some_unit : 0 < t.count = omega (arith, f.several) in
@@ -141,7 +137,7 @@ module _ (shape : Shape) (places : ℕ) (is_shape : IsShape (2 + places) (2 * pl
         some_unit = some_unit;
         tall = f.tall;
         long = omega (arith, f.long, words_long);
-        wide = omega (arith, f.wide, homes_long);
+        wide = omega (arith, f.wide, length-map slots some, long);
         once = λ i h. omega arith;
         word = λ m pos h. word_zero (word_of t m) (λ e. omega arith);
         flow = λ s k j side. sym (ready_zero t k j);
@@ -207,8 +203,7 @@ unfolding trees_from
 no_tree number offset = refl
 
 pub low_count : (run : Run) → run.level + height run.count ≤ 36 → run.count ≤ 2 ^ 36
-low_count run low = let le : height run.count ≤ 36 = omega arith in
-    let a : 2 ^ height run.count ≤ 2 ^ 36 = pow_mono le in omega (arith, height_covers run.count)
+low_count run low = grind (arith, height_covers run.count, pow_mono)
 
 pub few_places : (units from offset : ℕ) (runs : List Run) → AreRuns units from runs → offset ≤ from → from ≤ units
     → offset + units_in runs ≤ units

@@ -1,9 +1,8 @@
 -- One slot after another is taken, and the trees whose root's slots they are.
-use Rattle.tor_board.proofs.Names.{Bool, List, None, Option, [], ap, arith, false, get_or, get_or-set_other}
-use Rattle.tor_board.proofs.Names.{get_or-set_same, length, refl, set, suc, true, zero, ℕ, ◌*◌, ◌+◌, ◌<◌, ◌∙◌, ◌∷◌, ◌≡◌}
-use Rattle.tor_board.proofs.Names.{◌≢◌, ◌≤◌, dite, some, ℕ_discrete, get_elem?, IsLeft, IsShape, slot_of, Shape, Tree}
-use Rattle.tor_board.proofs.Sums.{within}
-use Rattle.tor_board.proofs.Finding.{at_number, in_order, same_at}
+use Rattle.tor_board.proofs.Names.{Bool, List, None, Option, [], arith, false, get_or, get_or-set_other}
+use Rattle.tor_board.proofs.Names.{get_or-set_same, length, refl, set, suc, zero, ℕ, ◌*◌, ◌+◌, ◌<◌, ◌∷◌, ◌≡◌, ◌≢◌, ◌≤◌}
+use Rattle.tor_board.proofs.Names.{dite, some, ℕ_discrete, get_elem?, IsLeft, IsShape, slot_of, Shape, Tree}
+use Rattle.tor_board.proofs.Finding.{at_number, in_order, not_before, same_at}
 
 off_here : (l : List Bool) (i : ℕ) → get_or (set l i false) i false ≡ false
 off_here [] i = refl
@@ -12,14 +11,7 @@ off_here (x ∷ l) (suc i) = off_here l i
 
 pub taken_more : (l : List Bool) (slot : ℕ) → ((k : ℕ) → k < slot → get_or l k false ≡ false) → (k : ℕ) → k < slot + 1
     → get_or (set l slot false) k false ≡ false
-taken_more l slot taken k h = dite (ℕ_discrete k slot)
-    (λ e. rw e (off_here l slot))
-    (λ ne. get_or-set_other l slot k false false (λ e. ne e) ∙ taken k (omega arith))
-
-pub rest_less : (l : List Bool) (slot end : ℕ) → ((k : ℕ) → slot ≤ k → k < end → get_or l k false ≡ true) → (k : ℕ)
-    → slot + 1 ≤ k → k < end → get_or (set l slot false) k false ≡ true
-rest_less l slot end rest k low h = get_or-set_other l slot k false false (λ e. omega arith)
-    ∙ rest k (omega arith) h
+taken_more l slot taken k h = grind (arith, off_here l slot, get_or-set_other l slot k false false, taken k)
 
 module _ {words slots : ℕ} {shape : Shape} (shaped : IsShape words slots shape) (slot next : ℕ)
     (later : (k : ℕ) (t : Tree) → get_elem? shape.trees.items k ≡ some t → next ≤ k → slot ≤ 2 * t.offset) where
@@ -30,18 +22,9 @@ module _ {words slots : ℕ} {shape : Shape} (shaped : IsShape words slots shape
 
   pub later_miss : (u : Tree) → get_elem? shape.trees.items next ≡ some u → slot_of u 0 0 ≢ slot → (k : ℕ) (t : Tree)
       → get_elem? shape.trees.items k ≡ some t → next ≤ k → slot + 1 ≤ 2 * t.offset
-  later_miss u e ne k t f le =
-      let low : slot ≤ 2 * u.offset = later next u e (omega arith) in
-      let past : slot + 1 ≤ 2 * u.offset
-      = dite (ℕ_discrete slot (2 * u.offset)) (λ is. absurd (ne (omega arith))) (λ other. omega arith) in
-      dite (ℕ_discrete k next)
-      (λ is. let same : t ≡ u = same_at shaped k next t u f e is in
-      omega (arith, ap (λ (x : Tree). x.offset) same))
-      (λ other. let o = (in_order shaped next k u t e f (omega arith)).1 in omega arith)
-
-  pub later_none : length shape.trees.items ≤ next → (k : ℕ) (t : Tree) → get_elem? shape.trees.items k ≡ some t
-      → next ≤ k → slot + 1 ≤ 2 * t.offset
-  later_none end k t f le = omega (arith, within shape.trees.items k t f)
+  later_miss u e ne k t f le = let o = (not_before shaped next k u t e f le).1 in
+      dite (ℕ_discrete slot (2 * u.offset)) (λ is. absurd (ne (omega arith)))
+      (λ other. omega (arith, later next u e (omega arith)))
 
   -- the root of the next tree is put in
   pub done_next : (ws : List ℕ) (xs : List (List ℕ)) (roots : List (Option (List ℕ))) (root : Option (List ℕ))

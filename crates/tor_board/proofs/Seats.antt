@@ -1,27 +1,20 @@
 -- Splitting and joining seats keeps the rule.
-use Rattle.tor_board.proofs.Names.{Bool, List, None, Option, [], ap, arith, cond, false, inl, inr, refl, set, sym, true}
-use Rattle.tor_board.proofs.Names.{ℕ, ⊎_elim, ◌++◌, ◌+◌, ◌-◌, ◌/◌, ◌<◌, ◌||◌, ◌∙◌, ◌∷◌, ◌≡◌, ◌≢◌, ◌≤◌, ◌⊎◌, some}
-use Rattle.tor_board.proofs.Names.{get_elem?, set_else, State, Climb, GivenUnit, IsKnown, Keeps, KeepsClaims, climbs_to}
-use Rattle.tor_board.proofs.Names.{has_out, nobody, IsRoot, WasGiven, has_unit, joined_in, both, failures, fresh}
-use Rattle.tor_board.proofs.Names.{keeping, named, spent, stopped, only, total, Shape, View}
-use Rattle.tor_board.proofs.Elsewhere.{unmoved}
-use Rattle.tor_board.proofs.Steps.{SeatRooted, seat_more, seat_rooted}
-use Rattle.tor_board.proofs.Sums.{total-set, total-append, set_all, snoc_all}
-use Rattle.tor_board.proofs.Trees.{told_append}
+use Rattle.tor_board.proofs.Names.{Bool, List, None, Option, [], ap, arith, cond, inl, inr, refl, set, sym, true, ℕ}
+use Rattle.tor_board.proofs.Names.{◌++◌, ◌+◌, ◌-◌, ◌/◌, ◌<◌, ◌||◌, ◌∙◌, ◌∷◌, ◌≡◌, ◌≢◌, ◌≤◌, ◌⊎◌, some, get_elem?}
+use Rattle.tor_board.proofs.Names.{set_else, State, Climb, GivenUnit, IsKnown, Keeps, KeepsClaims, climbs_to, has_out}
+use Rattle.tor_board.proofs.Names.{nobody, IsRoot, WasGiven, has_unit, joined_in, both, failures, fresh, keeping, named}
+use Rattle.tor_board.proofs.Names.{spent, stopped, only, total, Shape, View}
+use Rattle.tor_board.proofs.{Sums.total-set, Sums.total-append, Sums.set_all, Sums.snoc_all, Trees.told_append}
+use Rattle.tor_board.proofs.Steps.{unmoved, SeatRooted, seat_more, seat_rooted}
 
 pub stopped_parts : (b : Bool) (a c n : ℕ) → a + c ≡ n → cond b a 0 + cond b c 0 ≡ cond b n 0
-stopped_parts true a c n e = e
-stopped_parts false a c n e = refl
+stopped_parts b a c n e = grind arith
 
 pub stopped_both : (b c : Bool) (n m : ℕ) → cond b n 0 + cond c m 0 ≤ cond (b || c) (n + m) 0
-stopped_both true true n m = omega arith
-stopped_both true false n m = omega arith
-stopped_both false true n m = omega arith
-stopped_both false false n m = omega arith
+stopped_both b c n m = grind arith
 
 either_done : (b c : Bool) → (b || c) ≡ true → (b ≡ true) ⊎ (c ≡ true)
-either_done true c e = inl refl
-either_done false c e = inr e
+either_done b c e = grind arith
 
 -- ---- a seat is split
 
@@ -112,7 +105,7 @@ module _ (shape : Shape) {s : State (List ℕ) View} (kept : Keeps shape s) (id 
         attained = λ h. omega (arith, fails least, k.attained h);
         most = k.most;
         why = join_all (λ (u : View). u.done ≡ true → (least < nobody) ⊎ (units ≤ claims)) k.why
-            (λ yes. ⊎_elim (k.why id v at) (k.why other w before) (either_done v.done w.done yes))
+            (λ yes. elim (either_done v.done w.done yes) [ inl y ↦ k.why id v at y | inr y ↦ k.why other w before y ])
             (λ yes. cc);
       }
 

@@ -1,13 +1,14 @@
 -- What the machine shows of a step of one seat.
-use Rattle.tor_board.proofs.Names.{List, None, Option, Some, ap, arith, get_or, get_or-set_other, get_or-set_same}
-use Rattle.tor_board.proofs.Names.{length, refl, set, subst, sym, ℕ, ◌*◌, ◌+◌, ◌<◌, ◌∙◌, ◌≡◌, ◌≢◌, ◌≤◌, map-set, dite}
-use Rattle.tor_board.proofs.Names.{some, ℕ_discrete, get_elem?, at_map, State, Climb, Desk, spent_desk, Event, IsStep}
-use Rattle.tor_board.proofs.Names.{Machine, Side, desk_at, times_arrived, Keeps, climbing, climbs_to, least_of, runs_of}
+use Rattle.tor_board.proofs.Names.{List, None, Option, Some, ap, arith, get_or, get_or-set_other, get_or-set_same, refl}
+use Rattle.tor_board.proofs.Names.{set, subst, sym, ℕ, ◌*◌, ◌+◌, ◌<◌, ◌∙◌, ◌≡◌, ◌≢◌, ◌≤◌, map-set, dite, some}
+use Rattle.tor_board.proofs.Names.{ℕ_discrete, get_elem?, at_map, State, Climb, Desk, spent_desk, Event, IsStep}
+use Rattle.tor_board.proofs.Names.{Machine, Side, times_arrived, Keeps, climbing, climbs_to, least_of, runs_of}
 use Rattle.tor_board.proofs.Names.{IsTreeOf, IsChange, IsEvent, Shows, middle, ready, slot_of, word_of, desk_of}
-use Rattle.tor_board.proofs.Names.{desks_of, total, Shape, Tree, View}
-use Rattle.tor_board.proofs.Steps.{climbs, gave}
-use Rattle.tor_board.proofs.Sums.{total-set, term_le, only_le, within, read}
+use Rattle.tor_board.proofs.Names.{desks_of, total, Shape, Tree, View, Seated}
+use Rattle.tor_board.proofs.{Steps.climbs, Steps.gave, Sums.total-set, Sums.term_le, Sums.only_le, Sums.read}
 use Rattle.tor_board.proofs.Trees.{by_sides, node_flow, node_word, split_positive, ready_more, side_of, side_covers}
+use Rattle.tor_board.specs.Machine.{desk_at}
+use Rattle.std.proofs.Common.{subst₂}
 
 abbrev pub place_of : Tree → ℕ → ℕ → Side
 place_of t k j = record { tree = t.number; level = k; index = j }
@@ -25,11 +26,8 @@ pub record Moment (shape : Shape) (m : Machine) (s s' : State (List ℕ) View) (
 
 module _ {shape : Shape} {m : Machine} {s s' : State (List ℕ) View} {id : ℕ} {v : View}
     (now : Moment shape m s s' id v) where
-  shown : get_elem? m.desks id ≡ some (desk_of v)
+  pub shown : get_elem? m.desks id ≡ some (desk_of v)
   shown = rw now.shows.desks (at_map desk_of s.views id v now.at)
-
-  pub inside_desks : id < length m.desks
-  inside_desks = within m.desks id (desk_of v) shown
 
   abbrev pub Sides : List Side → Type 0
   Sides arrived = (t : Tree) → IsTreeOf shape t → (k i side : ℕ) → side < 2 → middle k i < t.count
@@ -40,6 +38,11 @@ module _ {shape : Shape} {m : Machine} {s s' : State (List ℕ) View} {id : ℕ}
   abbrev pub New : Option Climb → Type 0
   New c = (t : Tree) → IsTreeOf shape t → (k i side : ℕ) → side < 2 → middle k i < t.count
       → climbs_to (slot_of t (middle k i) side) c ≡ 1 → ready t s.words s.views k (2 * i + side) ≡ 0
+
+  -- what a step told of the seat is what it knows
+  pub as_told : (i : ℕ) {n n' : ℕ} {after : Seated} {w : View} {slots : List (ℕ × List ℕ)} → after ≡ (w, slots)
+      → n ≡ n' → IsChange s i n id after.0 s' → IsChange s i n' id w s'
+  as_told i e same change = subst₂ (λ (x : ℕ) (a : Seated). IsChange s i x id a.0 s') same e change
 
   pub as_seat : {e : Event} {n : Machine} → IsStep shape.units (runs_of shape) m id (desk_of v) e n
       → IsStep shape.units (runs_of shape) m id (desk_at m id) e n

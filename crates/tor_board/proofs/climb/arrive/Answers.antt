@@ -1,11 +1,11 @@
 use Rattle.tor_board.proofs.Names.{[], ap, arith, sym, ℕ, ◌%◌, ◌-◌, ◌∙◌, ◌∷◌, ◌≡◌, turned, Seated, climbed, met}
-use Rattle.tor_board.proofs.Names.{other_slot, slot_of, joining, climb_at}
-use Rattle.tor_board.proofs.Arriving.{met_left, met_right}
-use Rattle.tor_board.proofs.climb.arrive.Goals.{then-index-eq0, else-index-eq0}
-use Rattle.tor_board.proofs.Arrivals.{arrives}
-use Rattle.tor_board.proofs.Risen.{split_fits, split_small}
-use Rattle.tor_board.proofs.Meets.{tree_facts, below_of, covers_of, node_place, next_of, walked, turned_seat}
+use Rattle.tor_board.proofs.Names.{slot_of, joining, climb_at, rules, ◌++◌, Some, inr, suc, climb_from, other_slot, ◌+◌}
+use Rattle.tor_board.proofs.Names.{◌/◌, List, refl}
+use Rattle.tor_board.proofs.{Arriving.met_left, Arriving.met_right, Arrivals.arrives, Arrivals.other_in}
+use Rattle.tor_board.proofs.{Rising.split_fits, Rising.split_small, Finding.head_more}
+use Rattle.tor_board.proofs.Meets.{tree_facts, below_of, covers_of, node_place, next_of, climbs_on, turned_seat}
 use Rattle.tor_board.proofs.Meets.{stored_seat, above_at, at_slot}
+use Rattle.tor_board.proofs.climb.arrive.Goals.{then-index-eq0, else-index-eq0}
 use Rattle.tor_board.proofs.climb.arrive.Goals as goal
 
 pub middle-node-requires : goal.middle-node-requires
@@ -60,35 +60,34 @@ exchange-requires c =
     r.0 _ _ next.level next.index ∙ sym c.slot_at.ensures in
     (c.turn.ensures.0 ∙ (c.fetch_add-found.ensures.0 ∙ c.requires.table), (r.1, at_slot q.1 a))
 
-pub returns-clause-second : goal.returns-clause-second
-returns-clause-second c =
-    let spot = c.args.spot in let cl = c.requires.climbs in let one = (c.fetch_add-found.ensures.2.0 _ cl.is).0 in
-    let r = one.2 (omega (arith, one.0, c.if-found-eq0.false)) in
-    let q = turned_seat r.2 c.slot_mut.ensures.value c.turn.ensures.2 in
-    let w = stored_seat q.1 (c.turn-2.ensures.2 ∙ ap (λ (m : Seated). (m.0, turned m.1)) c.exchange.ensures.3) in
-    (climbed (climb_at c.args.tree.now spot.level spot.index spot.hash cl.spare) r.0, ap (λ (m : Seated). m.0) w)
-
-pub returns-clause-low : goal.returns-clause-low
-returns-clause-low c =
-    let p = next_of (c.requires.shape.fits c.args.tree.now c.requires.tree) c.requires.climbs c.requires.below _ _
-    c.risen-next.ensures.level c.risen-next.ensures.index in (omega (arith, p.3), p.1)
-
-pub returns-clause-climbs : goal.returns-clause-climbs
-returns-clause-climbs c =
+pub returns : goal.returns
+returns c =
     let spot = c.args.spot in let cl = c.requires.climbs in let next = c.risen-next.ensures in
+    let fits = c.requires.shape.fits c.args.tree.now c.requires.tree in
     let one = (c.fetch_add-found.ensures.2.0 _ cl.is).0 in let r = one.2 (omega (arith, one.0, c.if-found-eq0.false)) in
     let q = turned_seat r.2 c.slot_mut.ensures.value c.turn.ensures.2 in
     let w = stored_seat q.1 (c.turn-2.ensures.2 ∙ ap (λ (m : Seated). (m.0, turned m.1)) c.exchange.ensures.3) in
+    let t = c.args.tree.now in let at = climb_at t spot.level spot.index spot.hash cl.spare in
+    let up = climbed at r.0 in let same : suc spot.level ≡ spot.level + 1 = omega arith in
+    let p = next_of fits cl c.requires.below _ _ next.level next.index in
     let joins : c.if-index-eq0.joined ≡ met (spot.index % 2) spot.hash r.0 = elim c.if-index-eq0.branch [
       | then-index-eq0 v ↦ rw (v.joined-is, v.pair-joined.ensures, q.0)
           (sym (met_left (spot.index % 2) spot.hash r.0 v.if-index-eq0.true))
       | else-index-eq0 v ↦ rw (v.joined-is, v.pair-joined-else-index-eq0.ensures, q.0)
           (sym (met_right (spot.index % 2) spot.hash r.0 v.if-index-eq0.false))
     ] in
-    walked (c.requires.shape.fits c.args.tree.now c.requires.tree) cl c.requires.below r.0 c.if-index-eq0.joined joins
-    _ _ next.level next.index c.risen-next.result.hash next.hash c.turn-2.new.self.me
-    (w ∙ ap (λ (k : ℕ). (
-      joining c.args.seat.now.me.0 (climbed (climb_at c.args.tree.now spot.level spot.index spot.hash cl.spare) r.0),
-      (other_slot (climb_at c.args.tree.now spot.level spot.index spot.hash cl.spare), r.0)
-          ∷ (k, c.risen-next.result.hash) ∷ [],
-    )) c.slot_at.ensures)
+    record {
+      table = search rules;
+      first = tt;
+      low = (omega (arith, p.3), p.1);
+      climbs = climbs_on fits (spot.level + 1) (spot.index / 2) (omega (arith, c.requires.below))
+          (node_place fits cl c.requires.below) c.if-index-eq0.joined up.spare _ _ next.level next.index
+          c.risen-next.result.hash next.hash (joining c.args.seat.now.me.0 up)
+          (ap (λ (l : ℕ). Some (climb_from t l (spot.index / 2) (met (spot.index % 2) spot.hash r.0) up.spare)) same
+          ∙ ap (λ (h : List ℕ). Some (climb_from t (spot.level + 1) (spot.index / 2) h up.spare)) (sym joins))
+          (head_more t c.args.seat.now.me.0.given cl.giving)
+          (inr (other_slot at, r.0, refl, other_in at (below_of fits cl c.requires.below))) c.turn-2.new.self.me (w
+          ∙ ap (λ (k : ℕ). (joining c.args.seat.now.me.0 up, up.spare ++ (k, c.risen-next.result.hash) ∷ []))
+          c.slot_at.ensures);
+      second = (up, ap (λ (m : Seated). m.0) w);
+    }

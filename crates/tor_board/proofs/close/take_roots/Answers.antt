@@ -1,10 +1,11 @@
-use Rattle.tor_board.proofs.Names.{Global, List, None, Option, Some, Vec, ap, arith, false, get_or, get_or-set_other}
-use Rattle.tor_board.proofs.Names.{inl, inr, length, length-set, refl, set, sym, true, ℕ, ◌*◌, ◌+◌, ◌-◌, ◌<◌, ◌∙◌, ◌≡◌}
-use Rattle.tor_board.proofs.Names.{◌≤◌, slots_filled, slots_items, slots_len, some, some-injective, get_elem?}
-use Rattle.tor_board.proofs.Names.{set-get_or, IsLeft, middle, slot_of, word_of, Tree}
-use Rattle.tor_board.proofs.Meets.{tree_facts}
+use Rattle.tor_board.proofs.Names.{List, None, Option, Some, ap, arith, false, get_or, get_or-set_other, inl, inr}
+use Rattle.tor_board.proofs.Names.{length, length-set, refl, set, sym, true, ℕ, ◌*◌, ◌+◌, ◌-◌, ◌<◌, ◌∙◌, ◌≡◌, ◌≤◌}
+use Rattle.tor_board.proofs.Names.{slots_filled, slots_items, slots_len, some, some-injective, get_elem?, set-get_or}
+use Rattle.tor_board.proofs.Names.{IsLeft, middle, slot_of, word_of, Tree}
+use Rattle.tor_board.proofs.{Meets.tree_facts, Sums.within}
 use Rattle.tor_board.proofs.Finding.{some_height, top_node, top_fits, top_word, tree_there}
-use Rattle.tor_board.proofs.Roots.{taken_more, rest_less, later_match, later_miss, later_none, done_next}
+use Rattle.tor_board.proofs.Roots.{taken_more, later_match, later_miss, done_next}
+use Rattle.std.proofs.Common.{Global, Vec}
 use Rattle.tor_board.proofs.close.take_roots.Goals.{then-next-len+then-side_slot-slot, then-word-ge2, else-word-ge2}
 use Rattle.tor_board.proofs.close.take_roots.Goals.{else-next-len, else-next-len-via-then-next-len+else-side_slot-slot}
 use Rattle.tor_board.proofs.close.take_roots.Goals.{else-next-len-via-else-next-len}
@@ -51,7 +52,8 @@ slots-preserved c =
     let filled = slots_filled c.slots.ended.slots in
     let rest : (k : ℕ) → slot + 1 ≤ k → k < slots_len c.take-hash.new.self.slots
     → get_or (slots_filled c.take-hash.new.self.slots) k false ≡ true
-    = λ k low h. rw o.1 (rest_less filled slot (slots_len c.slots.ended.slots) i.rest k low (omega (arith, o.2))) in
+    = λ k low h. rw o.1 (get_or-set_other filled slot k false false (λ e. omega arith)
+    ∙ i.rest k (omega arith) (omega (arith, o.2))) in
     let taken : (k : ℕ) → k < slot + 1 → get_or (slots_filled c.take-hash.new.self.slots) k false ≡ false
     = λ k h. rw o.1 (taken_more filled slot i.taken k h) in
     elim c.if-next-len.branch [
@@ -110,8 +112,8 @@ slots-preserved c =
                 (omega (arith, w'.if-next-len.true, c.len.ensures)) w'.index.ensures in
                 later_miss c.requires.shape slot next i.later w'.index.result.now there.0
                 (λ e. w'.if-side_slot-slot.false (w'.side_slot.ensures ∙ e))
-            | else-next-len-via-else-next-len w' ↦ later_none c.requires.shape slot next i.later
-                (omega (arith, w'.if-next-len.false, c.len.ensures))
+            | else-next-len-via-else-next-len w' ↦ λ k x e le.
+                omega (arith, within trees k x e, w'.if-next-len.false, c.len.ensures)
           ] in
           record {
             rest = rest;

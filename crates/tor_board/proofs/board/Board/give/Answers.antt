@@ -1,6 +1,5 @@
 use Rattle.tor_board.proofs.Names.{ap, arith, subst, ◌∙◌, Seated, IsTreeOf, desk_of, Shape}
-use Rattle.tor_board.proofs.Finding.{levels_of}
-use Rattle.tor_board.proofs.Joins.{after_alone, given_after, in_no_run}
+use Rattle.tor_board.proofs.{Finding.levels_of, Meets.after_alone, Meets.given_after, Meets.in_no_run}
 use Rattle.tor_board.proofs.board.Board.give.Goals as goal
 
 pub hand_alone-requires-clause-alone : goal.hand_alone-requires-clause-alone

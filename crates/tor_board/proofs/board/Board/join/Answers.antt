@@ -1,7 +1,6 @@
 use Rattle.tor_board.proofs.Names.{ap, arith, rules, sym, ◌||◌, ◌∙◌, ◌≡◌, Seated, both}
+use Rattle.tor_board.proofs.{Moves.merges, Seats.join_keeps}
 use Rattle.tor_board.proofs.board.Board.join.Goals.{then-done, else-done}
-use Rattle.tor_board.proofs.Moves.{merges}
-use Rattle.tor_board.proofs.Seats.{join_keeps}
 use Rattle.tor_board.proofs.board.Board.join.Goals as goal
 
 pub join_seat-requires : goal.join_seat-requires

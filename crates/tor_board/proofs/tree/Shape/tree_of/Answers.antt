@@ -1,6 +1,5 @@
 use Rattle.tor_board.proofs.Names.{arith, ◌-◌}
-use Rattle.tor_board.proofs.Sums.{within}
-use Rattle.tor_board.proofs.Finding.{before, after, none_has, tree_there}
+use Rattle.tor_board.proofs.{Sums.within, Finding.not_before, Finding.none_has, Finding.tree_there}
 use Rattle.tor_board.proofs.tree.Shape.tree_of.Goals as goal
 
 pub halves-init : goal.halves-init
@@ -18,7 +17,7 @@ halves-preserved-then-index-unit c =
     record {
       order = omega (arith, c.halves-test.true);
       end = i.end;
-      before = before shaped _ _ _ there.0 c.if-index-unit.true;
+      before = λ k t e h. omega (arith, (not_before shaped k _ t _ e there.0 (omega arith)).0, c.if-index-unit.true);
       after = i.after;
     }
 
@@ -30,7 +29,7 @@ halves-preserved c =
       order = omega (arith, c.halves-test.true);
       end = omega (arith, i.end, c.halves-test.true);
       before = i.before;
-      after = after shaped _ _ _ there.0 (omega (arith, c.if-index-unit.false));
+      after = λ k t e h. omega (arith, (not_before shaped _ k _ t there.0 e h).0, c.if-index-unit.false);
     }
 
 pub overflow_sub-unit : goal.overflow_sub-unit

@@ -1,6 +1,6 @@
 use Rattle.tor_board.proofs.Names.{ap, arith, false, le-ltb, lt-ltb, sym, true, ℕ, ◌+◌, ◌-◌, ◌/◌, ◌<◌, ◌∙◌, ◌≤◌}
 use Rattle.tor_board.proofs.Names.{node_of, raised, middle}
-use Rattle.tor_board.proofs.Risen.{split_fits, up_covers, fork}
+use Rattle.tor_board.proofs.Rising.{split_fits, up_covers, fork}
 use Rattle.tor_board.proofs.tree.Tree.risen.Goals as goal
 
 pub middle-requires : goal.middle-requires
