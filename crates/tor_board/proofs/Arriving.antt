@@ -18,8 +18,7 @@ module _ {words : List ℕ} {homes : List (Opt (List ℕ))} {views : List View} 
   -- those that came before a hash came from the other side
   pub found_other : get_or words (word_above c) 0
       ≡ kept.arrived (slot_of c.tree (middle c.level (c.index / 2)) (1 - c.index % 2))
-  found_other = let w = node_word kept c.level (c.index / 2) (c.index % 2) (omega arith) below.inside in
-      omega (arith, ap kept.arrived below.slot)
+  found_other = grind (arith, node_word kept c.level (c.index / 2) (c.index % 2), ap kept.arrived below.slot)
 
   pub found_few : get_or words (word_above c) 0 < 2
   found_few = omega (
@@ -75,8 +74,7 @@ module _ {words : List ℕ} {homes : List (Opt (List ℕ))} {views : List View} 
   found = found_other c kept below alone.2
 
   not_top : only (slot_of c.tree 0 0) c.slot ≡ 0
-  not_top = only-other (slot_of c.tree 0 0) c.slot
-      (λ e. omega (arith, below.slot, split_positive c.level (c.index / 2)))
+  not_top = grind (arith, below.slot, split_positive c.level (c.index / 2))
 
   first : n ≡ 0 → KeepsTree c.tree (one_more words (word_above c)) (set homes c.slot (some c.hash))
       (set views id (rested v))
@@ -104,8 +102,7 @@ module _ {words : List ℕ} {homes : List (Opt (List ℕ))} {views : List View} 
     above_unready = rises_ready c.tree words views landed.0.0 (suc c.level) (c.index / 2) up.0 up.1 landed.0.1 ∙ unready
 
     above_empty : (climbing (above_slot c) views ≡ 0) × (kept.arrived (above_slot c) ≡ 0)
-    above_empty = let f = kept.flow (above_slot c) up.0 up.1 above_side in
-        (omega (arith, above_unready), omega (arith, above_unready))
+    above_empty = grind (arith, kept.flow (above_slot c) up.0 up.1 above_side, above_unready)
 
     other_side : IsSide c.tree other c.level (2 * (c.index / 2) + (1 - c.index % 2))
     other_side = side_of c.tree c.level (c.index / 2) (1 - c.index % 2) (omega arith) below.inside

@@ -77,10 +77,7 @@ module _ {shape : Shape} {m : Machine} {s s' : State (List ℕ) View} {id : ℕ}
     side_times : (b j : ℕ) → b < 2 → j ≡ 2 * (c.index / 2) + b
         → times_arrived (place_of c.tree c.level j) m.arrived
         ≡ tree.arrived (slot_of c.tree (middle c.level (c.index / 2)) b)
-    side_times b j two e = subst (λ (x : ℕ). times_arrived (place_of c.tree c.level x) m.arrived
-        ≡ tree.arrived (slot_of c.tree (middle c.level (c.index / 2)) b)) (sym e) (
-        let d = now.shows.sides c.tree is c.level (c.index / 2) b two near in
-        let f = node_flow tree c.level (c.index / 2) b two near in omega arith)
+    side_times b j two e = grind arith
 
     none_here : times_arrived (side_of_way (way_of c)) m.arrived ≡ 0
     none_here = side_times (c.index % 2) c.index (omega arith) (omega arith)
@@ -186,13 +183,12 @@ module _ {shape : Shape} {m : Machine} {s s' : State (List ℕ) View} {id : ℕ}
   -- ---- a seal
   top_met : (t : Tree) → IsTreeOf shape t → 2 ≤ get_or s.words (word_of t (middle (t.height - 1) 0)) 0
       → (side : ℕ) → side < 2 → times_arrived (place_of t (t.height - 1) side) m.arrived ≡ 1
-  top_met t is two side low =
-      let tree = now.kept.trees t is in let k : ℕ = t.height - 1 in let inside = top_node shaped t is in
-      let e : 2 * 0 + side ≡ side = omega arith in
-      subst (λ (x : ℕ). times_arrived (place_of t k x) m.arrived ≡ 1) e (
-      let d = node_word tree k 0 side low inside in let f = node_once tree k 0 side low inside in
-      let g = node_once tree k 0 (1 - side) (omega arith) inside in
-      let h = now.shows.sides t is k 0 side low inside in let p = node_flow tree k 0 side low inside in omega arith)
+  top_met t is two side low = grind (arith, now.kept.trees t is, t.height - 1, top_node shaped t is,
+      node_word (now.kept.trees t is) (t.height - 1) 0 side low (top_node shaped t is),
+      node_once (now.kept.trees t is) (t.height - 1) 0 side low (top_node shaped t is),
+      node_once (now.kept.trees t is) (t.height - 1) 0 (1 - side),
+      now.shows.sides t is (t.height - 1) 0 side low (top_node shaped t is),
+      node_flow (now.kept.trees t is) (t.height - 1) 0 side low (top_node shaped t is))
 
   pub seals_so : 0 < v.room → (c : Climb) → v.climb ≡ Some c → IsTreeOf shape c.tree → IsAtTop c
       → (has : List (ℕ × List ℕ)) (after : Seated) → sealed_from c (v, has) after

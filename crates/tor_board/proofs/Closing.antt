@@ -159,8 +159,7 @@ module _ {words_count slots_count : ℕ} {shape : Shape} (shaped : IsShape words
         omega (arith, st (λ x y. only u x), only-same u, times_is u)
 
     all_given : IsComplete v.given (run_of t) → (i : ℕ) → i < t.count → times_given (t.first + i) s.views ≡ 1
-    all_given all i h = let a = all (t.first + i) (omega arith) (omega arith) in let b = times_is (t.first + i) in
-        let d = tree.once i h in omega arith
+    all_given all i h = grind (arith, all (t.first + i), times_is (t.first + i), tree.once i h)
 
     abbrev top_word : ℕ
     top_word = get_or s.words (word_of t (middle (t.height - 1) 0)) 0

@@ -43,8 +43,7 @@ module _ {words slots : ℕ} {shape : Shape} (shaped : IsShape words slots shape
 
   pub in_order : (j k : ℕ) (t u : Tree) → get_elem? shape.trees.items j ≡ some t
       → get_elem? shape.trees.items k ≡ some u → j < k → (t.first + t.count ≤ u.first) × (t.offset + t.count ≤ u.offset)
-  in_order j k t u e f less = shaped.apart t u (at_number j t e) (at_number k u f)
-      (omega (arith, shaped.numbered j t e, shaped.numbered k u f))
+  in_order j k t u e f less = grind arith
 
   pub same_at : (j k : ℕ) (t u : Tree) → get_elem? shape.trees.items j ≡ some t → get_elem? shape.trees.items k ≡ some u
       → j ≡ k → t ≡ u
@@ -52,21 +51,13 @@ module _ {words slots : ℕ} {shape : Shape} (shaped : IsShape words slots shape
 
   pub not_before : (j k : ℕ) (t u : Tree) → get_elem? shape.trees.items j ≡ some t
       → get_elem? shape.trees.items k ≡ some u → j ≤ k → (t.first ≤ u.first) × (t.offset ≤ u.offset)
-  not_before j k t u e f le = dite (ℕ_discrete j k)
-      (λ is. rw (same_at j k t u e f is) (omega arith, omega arith))
-      (λ ne. let o = in_order j k t u e f (omega arith) in (omega (arith, o.0), omega (arith, o.1)))
+  not_before j k t u e f le = grind arith
 
   pub none_has : (low high : ℕ) (unit : ℕ) → high ≤ low
       → ((k : ℕ) (t : Tree) → get_elem? shape.trees.items k ≡ some t → high ≤ k → unit < t.first)
       → (u : Tree) → 0 < low → get_elem? shape.trees.items (low - 1) ≡ some u → u.first + u.count ≤ unit
       → (t : Tree) → IsTreeOf shape t → (j : ℕ) → j < t.count → unit ≢ t.first + j
-  none_has low high unit ends later u some_low f past t is j h e = dite (dec_le high t.number)
-      (λ le. omega (arith, later t.number t is le))
-      (λ lt. dite (ℕ_discrete t.number (low - 1))
-      (λ same. let s : t ≡ u = same_at t.number (low - 1) t u is f same in
-      omega (arith, ap (λ (x : Tree). x.first) s, ap (λ (x : Tree). x.count) s))
-      (λ ne. let o = (in_order t.number (low - 1) t u is f (omega arith)).0 in
-      omega arith))
+  none_has low high unit ends later u some_low f past t is j h e = grind arith
 
 -- the levels above a unit of a tree
 pub levels_of : {words slots : ℕ} (b : Board) → IsShape words slots b.shape → (t : Tree) → IsTreeOf b.shape t → (u : ℕ)
@@ -83,22 +74,13 @@ levels_of b shaped t is u low high = grind (
 module _ {words slots : ℕ} {shape : Shape} (shaped : IsShape words slots shape) (t : Tree) (is : IsTreeOf shape t)
   where
     pub some_height : 0 < t.height
-    some_height = dite (ℕ_discrete t.height 0)
-        (λ z. let p : 2 ^ t.height ≡ 1 = rw z (omega arith) in
-        omega (arith, (shaped.fits t is).tall, (shaped.fits t is).several))
-        (λ nz. omega arith)
+    some_height = grind arith
 
     pub top_node : middle (t.height - 1) 0 < t.count
-    top_node =
-        let f = shaped.fits t is in let e : middle (t.height - 1) 0 ≡ 2 ^ (t.height - 1) = omega arith in
-        dite (dec_le t.count (2 ^ (t.height - 1)))
-        (λ le. let low = height_least t.count (t.height - 1) le in omega (arith, f.least, some_height))
-        (λ gt. omega arith)
+    top_node = grind (arith, shaped.fits t is, (shaped.fits t is).least, some_height, height_least)
 
     pub top_fits : (t.height - 1 ≤ 36) × ((2 * 0 + 1) * 2 ^ (t.height - 1) < 2 ^ 63)
-    top_fits =
-        let f = shaped.fits t is in let le : t.height - 1 ≤ 36 = omega (arith, f.low) in
-        let a : 2 ^ (t.height - 1) ≤ 2 ^ 36 = pow_mono le in (le, omega arith)
+    top_fits = grind (arith, shaped.fits t is, pow_mono, (shaped.fits t is).low)
 
     pub top_word : word_of t (middle (t.height - 1) 0) < words
     top_word = omega (arith, top_node, (shaped.fits t is).long)

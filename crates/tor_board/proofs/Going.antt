@@ -77,13 +77,7 @@ touched t l k y there x out_ = set_else l k x y (λ e. out_ (rw e there))
 -- only those slots are out with a climb
 pub climb_within : (t : Tree) (c : Climb) → IsIn t c.slot
     → ((c.spare ≡ []) ⊎ ((o : ℕ) × (y : List ℕ) × (c.spare ≡ (o, y) ∷ []) × IsIn t o)) → IsWithin t (Some c)
-climb_within t c here spare x out_ =
-    let a : only x c.slot ≡ 0 = only-other x c.slot (λ e. out_ (rw (sym e) here)) in
-    elim spare [
-      | inl e ↦ omega (arith, ap (total (λ (p : ℕ × List ℕ). only x p.0)) e)
-      | inr r ↦ let b = only-other x r.0 (λ e. out_ (rw (sym e) r.3)) in
-          omega (arith, ap (total (λ (p : ℕ × List ℕ). only x p.0)) r.2)
-    ]
+climb_within t c here spare x out_ = grind arith
 
 -- the homes, once what was left over is back: the tree's alone change
 pub returned_homes : (c : Climb) (homes : List (Opt (List ℕ))) → AtMostOneSpare c

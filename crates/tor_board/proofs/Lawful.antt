@@ -1,12 +1,11 @@
 -- What every run of the machine keeps, and what makes it lawful.
-use Rattle.tor_board.proofs.Names.{Bool, List, [], arith, cond, false, inl, inr, subst, true, ℕ, ◌*◌, ◌+◌, ◌/◌, ◌<◌}
-use Rattle.tor_board.proofs.Names.{◌^◌, ◌∙◌, ◌∷◌, ◌≡◌, ◌≤◌, ◌⊎◌, dite, way_of, Side, times_arrived, climb_from, middle}
-use Rattle.tor_board.proofs.Names.{Tree, None, Option, Some, get_or, length, min, refl, suc, sym, zero, some}
-use Rattle.tor_board.proofs.Names.{some-ne-none, dec_le, get_elem?, Run, Desk, GivenUnit, Way, names, Every}
-use Rattle.tor_board.proofs.Names.{IsLeastFailed, IsNodeSide, Machine, is_given_side, lesser, start, times_failed}
-use Rattle.tor_board.proofs.Names.{below, only, times, total}
-use Rattle.tor_board.proofs.{Sums.cond_le, Sums.snoc_all, Sums.total_le, Sums.only-same, Sums.only-other}
-use Rattle.tor_board.proofs.{Sums.below-test, Sums.below_more, Sums.below-only, Rising.goal_of, Rising.lands}
+use Rattle.tor_board.proofs.Names.{Bool, List, [], arith, cond, false, inl, inr, true, ℕ, ◌*◌, ◌+◌, ◌<◌, ◌^◌, ◌∙◌, ◌∷◌}
+use Rattle.tor_board.proofs.Names.{◌≡◌, ◌≤◌, ◌⊎◌, way_of, Side, times_arrived, climb_from, Tree, None, Option, Some}
+use Rattle.tor_board.proofs.Names.{get_or, length, min, refl, suc, sym, zero, some, some-ne-none, get_elem?, Run, Desk}
+use Rattle.tor_board.proofs.Names.{GivenUnit, Way, names, Every, IsLeastFailed, IsNodeSide, Machine, is_given_side}
+use Rattle.tor_board.proofs.Names.{lesser, start, times_failed, below, only, times, total}
+use Rattle.tor_board.proofs.Sums.{cond_le, snoc_all, total_le, below-test, below_more, below-only}
+use Rattle.tor_board.proofs.Rising.{goal_of, lands}
 use Rattle.tor_board.specs.Desks.{first}
 use Rattle.tor_board.specs.Machine.{times_given, IsNext, arrivals_at, is_side, IsLawfulState}
 use Rattle.tor_merkle.specs.Subtree.{height}
@@ -39,15 +38,8 @@ at_node n k i (s ∷ ss) = grind (arith, at_node n k i ss)
 pub next_of : (t : Tree) → 0 < t.count → t.count ≤ 2 ^ t.height → t.height ≡ height t.count → (l i : ℕ) → l ≤ t.height
     → i * 2 ^ l < t.count → (hash : List ℕ) (spare : List (ℕ × List ℕ))
     → IsNext (way_of (climb_from t l i hash spare)) l i
-next_of t some_unit tall least l i low inside hash spare =
-    let up = lands t some_unit tall l i low inside in let p : ℕ × ℕ = goal_of t l i in (
-      up.0,
-      elim up.1 [
-        | inl q ↦ let half : q.0 ≡ p.1 / 2 = omega (arith, q.2, q.5) in
-            inl (subst (λ (x : ℕ). middle p.0 x < t.count) half q.3)
-        | inr q ↦ inr (q.1 ∙ least, q.2)
-      ],
-    )
+next_of t some_unit tall least l i low inside hash spare
+    = grind (arith, lands t some_unit tall l i low inside, goal_of t l i)
 
 -- ---- what every run keeps
 
@@ -131,8 +123,7 @@ begins_good units forest = record {
 pub still_given : (before after : List Desk) → ((u : ℕ) → times_given u before ≤ times_given u after)
     → (run : Run) (k j x : ℕ) → is_given_side before run k j x → is_given_side after run k j x
 still_given before after more run k j x (inl e) = inl e
-still_given before after more run k j x (inr p)
-    = inr (p.0, λ i low high inside. omega (arith, p.1 i low high inside, more (run.first + i)))
+still_given before after more run k j x (inr p) = grind arith
 
 pub least_same : (least : Option ℕ) (before after : List Desk)
     → ((u : ℕ) → times_failed u after ≡ times_failed u before) → IsLeastFailed least before → IsLeastFailed least after
@@ -142,16 +133,5 @@ least_same least before after same (inr p) = inr (p.0, p.1, omega (arith, p.2, s
 -- once a unit more has failed
 pub fewest : (before after : List Desk) (u : ℕ) → ((x : ℕ) → times_failed x after ≡ times_failed x before + only x u)
     → (l : Option ℕ) → IsLeastFailed l before → IsLeastFailed (Some (lesser l u)) after
-fewest before after u now l (inl p) = rw p.0 (inr (
-  u,
-  refl,
-  omega (arith, now u, only-same u),
-  λ x h. omega (arith, now x, p.1 x, only-other x u (λ e. omega arith)),
-))
-fewest before after u now l (inr p) =
-    let one : 0 < times_failed (min p.0 u) after = dite (dec_le p.0 u)
-    (λ le. let is : min p.0 u ≡ p.0 = omega arith in rw is (omega (arith, now p.0, p.2)))
-    (λ gt. let is : min p.0 u ≡ u = omega arith in rw is (omega (arith, now u, only-same u))) in
-    let spared : (x : ℕ) → x < min p.0 u → times_failed x after ≡ 0
-    = λ x h. omega (arith, now x, p.3 x (omega arith), only-other x u (λ e. omega arith)) in
-    rw p.1 (inr (min p.0 u, refl, one, spared))
+fewest before after u now l (inl p) = grind arith
+fewest before after u now l (inr p) = grind arith

@@ -1,15 +1,14 @@
 -- The machine alone: every legal run ends lawful.
-use Rattle.tor_board.proofs.Names.{Bool, List, None, Option, Some, [], ap, arith, cond, get_or, get_or-set_other, inr}
+use Rattle.tor_board.proofs.Names.{Bool, List, None, Option, Some, [], ap, arith, cond, get_or, get_or-set_other}
 use Rattle.tor_board.proofs.Names.{length, length-set, refl, set, subst, sym, ℕ, ◌++◌, ◌+◌, ◌-◌, ◌/◌, ◌<◌, ◌∙◌, ◌∷◌}
 use Rattle.tor_board.proofs.Names.{◌≡◌, ◌≤◌, some, some-injective, get_elem?, Run, Desk, GivenUnit, Way, finished}
 use Rattle.tor_board.proofs.Names.{names, spent_desk, Event, Every, IsGivenSide, IsLeastFailed, IsLegalRun, IsNodeSide}
-use Rattle.tor_board.proofs.Names.{IsStep, Machine, Side, begins, claims, ends, fails, goes_on, hands, is_given_side}
-use Rattle.tor_board.proofs.Names.{joins, lesser, looks, meets, rests, seals, sees, side_of, splits, times_arrived}
-use Rattle.tor_board.proofs.Names.{times_failed, top_root, only, times, total, inl}
+use Rattle.tor_board.proofs.Names.{IsStep, Machine, Side, begins, claims, ends, fails, goes_on, hands, joins, lesser}
+use Rattle.tor_board.proofs.Names.{looks, meets, rests, seals, sees, side_of, splits, times_arrived, times_failed}
+use Rattle.tor_board.proofs.Names.{top_root, only, times, total}
 use Rattle.tor_board.proofs.{Seats.stopped_parts, Seats.stopped_both, Finding.joined_same}
-use Rattle.tor_board.proofs.Lawful.{bit, side_at, same_side, either_side, gave, failures, mark, stopped, stopped_le}
-use Rattle.tor_board.proofs.Lawful.{there, mark_more, mark_past, ClimbOk, IsWhole, AllOk, begins_good, still_given}
-use Rattle.tor_board.proofs.Lawful.{least_same, fewest, Good}
+use Rattle.tor_board.proofs.Lawful.{side_at, gave, failures, mark, stopped, stopped_le, there, mark_more, mark_past}
+use Rattle.tor_board.proofs.Lawful.{ClimbOk, IsWhole, AllOk, begins_good, still_given, least_same, fewest, Good}
 use Rattle.tor_board.proofs.Sums.{set_all, snoc_all, total-set, total-append, total-without}
 use Rattle.tor_board.specs.Desks.{looking, holding, handed, rested, joining, topped, failing, keeping, fresh, both}
 use Rattle.tor_board.specs.Machine.{times_given}
@@ -73,31 +72,16 @@ module _ (units : ℕ) (forest : List Run) (m : Machine) (good : Good units fore
     }
 
     same_least : (d : Desk) → d.failed ≡ old.failed → IsLeastFailed m.least (set m.desks seat d)
-    same_least d same = least_same m.least m.desks (set m.desks seat d)
-        (λ u. omega (arith, part (failures u) d, ap (λ l. times u l) same)) good.least
+    same_least d same = grind (arith, part)
 
     same_whole : (d : Desk) → ((u : ℕ) → gave u old ≤ gave u d) → IsWhole forest (set m.desks seat d) m.arrived
-    same_whole d more n run is k j = still_given m.desks (set m.desks seat d)
-        (λ u. omega (arith, part (gave u) d, more u)) run k j (times_arrived (side_at n k j) m.arrived)
-        (good.whole n run is k j)
+    same_whole d more n run is k j = grind (arith, part, more)
 
     -- once a side more arrived, all of whose units were given
     more_whole : (d : Desk) → ((u : ℕ) → gave u old ≡ gave u d) → (w : Way) → get_elem? forest w.tree ≡ some w.run
         → IsGivenSide m.desks w.run w.level w.index → times_arrived (side_of w) m.arrived ≡ 0
         → IsWhole forest (set m.desks seat d) (side_of w ∷ m.arrived)
-    more_whole d same w mine given first' n run is k j =
-        let side : Side = side_at n k j in
-        let still : (x y : ℕ) → y ≡ x → is_given_side m.desks run k j x → is_given_side (set m.desks seat d) run k j y
-        = λ x y e s. subst (is_given_side (set m.desks seat d) run k j) (sym e)
-        (still_given m.desks (set m.desks seat d) (λ u. omega (arith, part (gave u) d, same u)) run k j x s) in
-        elim (either_side (side_of w) side) [
-          | inl e ↦
-              let tree : w.run ≡ run = some-injective w.run run (sym mine ∙ (ap (get_elem? forest) e.0 ∙ is)) in
-              let again : times_arrived side m.arrived ≡ 0 = rw (sym e.0, sym e.1, sym e.2) first' in
-              let here : is_given_side m.desks run k j 1 = inr (refl, rw (sym tree, sym e.1, sym e.2) given) in
-              still 1 _ (omega (arith, ap bit (same_side (side_of w) side e.0 e.1 e.2))) here
-          | inr none ↦ still (times_arrived side m.arrived) _ (omega (arith, ap bit none)) (good.whole n run is k j)
-        ]
+    more_whole d same w mine given first' n run is k j = grind (arith, side_at n k j, some-injective, part, same)
 
     tree_of : (w : Way) → old.climb ≡ Some w → get_elem? forest w.tree ≡ some w.run
     tree_of w is = subst (λ (x : Option Way). ClimbOk forest x) is old_ok

@@ -5,9 +5,8 @@ use Rattle.tor_board.proofs.Names.{climb_from, climbed, raised, IsSide, Fits, Is
 use Rattle.tor_board.proofs.Names.{Tree, View, AtMostOneSpare, IsClimbing, LastGiveIsIn, climb_at, IsLow, None, Option}
 use Rattle.tor_board.proofs.Names.{add-zero, true, ◌≢◌, some, get_elem?, at_map, Run, GivenUnit, in_run, run_of}
 use Rattle.tor_board.proofs.Names.{has_unit, desk_of, Board, joined_view}
-use Rattle.tor_board.proofs.{Finding.IsBelow, Finding.at_number, Sums.mapped}
-use Rattle.tor_board.proofs.Trees.{has_unit-within, node_inside, side_covers, has_unit-true}
-use Rattle.tor_board.proofs.Rising.{side_low, not_top, goal_of, lands, slot_side}
+use Rattle.tor_board.proofs.{Finding.IsBelow, Finding.at_number, Sums.mapped, Trees.node_inside, Trees.side_covers}
+use Rattle.tor_board.proofs.{Trees.has_unit-true, Rising.side_low, Rising.goal_of, Rising.lands, Rising.slot_side}
 use Rattle.tor_board.specs.{Desks.after_give, Desks.told, Seats.IsClimbOf, Seats.forest_of}
 use Rattle.tor_board.specs.steps.Climbing.{joined_by, rested_view, topped_view}
 use Rattle.std.specs.Prelude.{IfSome, MatchOption}
@@ -69,10 +68,7 @@ module _ {units words slots : ℕ} {t : Tree} (fits : Fits units words slots t) 
     }
 
     pub top_of : t.height ≤ level → IsAtTop (climb_at t level index hash cl.spare)
-    top_of high = elim cl.side [
-      | inl p ↦ absurd (not_top t fits.tall level p.0 (omega (arith, covers_of.0)) p.3)
-      | inr p ↦ (p.1, p.2, p.0)
-    ]
+    top_of high = grind (arith, covers_of.0)
 
     -- a node, one level up
     pub node_place : level < t.height → index / 2 * 2 ^ (level + 1) < t.count
@@ -87,8 +83,7 @@ module _ {units words slots : ℕ} {t : Tree} (fits : Fits units words slots t) 
   pub above_at : (level index : ℕ) (hash : List ℕ) (spare : List (ℕ × List ℕ)) (x : List ℕ) (up next : ℕ)
       → up ≡ (goal_of t (level + 1) (index / 2)).0 → next ≡ (goal_of t (level + 1) (index / 2)).1
       → (climbed (climb_at t level index hash spare) x).slot ≡ slot_at t up next
-  above_at level index hash spare x up next up_is next_is = let e : suc level ≡ level + 1 = omega arith in
-      ap (λ (l : ℕ). slot_at t (goal_of t l (index / 2)).0 (goal_of t l (index / 2)).1) e ∙ rw (up_is, next_is) refl
+  above_at level index hash spare x up next up_is next_is = grind arith
 
 -- ---- the slots that a seat has, as it reads one and writes the other
 
@@ -152,11 +147,8 @@ given_after b t of None j levels low few number v v' m u hash c from to is told 
     let shown = ap (λ (n : Seated). desk_of n.0) told
     ∙ (ap (λ (w : View). desk_of (rested_view j w).0) is ∙ after_rested j v u hash (Some c)) in
     (j + 1, shown, omega arith, (omega arith, λ n run there inside. refl))
-given_after b t of (Some top) j levels low few number v v' m u hash c from to is told =
-    let shown = ap (λ (n : Seated). desk_of n.0) told
-    ∙ (ap (λ (w : View). desk_of (topped_view j top w).0) is ∙ after_topped j top v u hash (Some c)) in
-    let there = ap (get_elem? (forest_of b)) number ∙ at_map run_of b.shape.trees.items t.number t of in
-    (j, shown, omega arith, (refl, (run_of t, there, has_unit-within t u from to)))
+given_after b t of (Some top) j levels low few number v v' m u hash c from to is told
+    = grind (arith, ap (get_elem? (forest_of b)) number ∙ at_map run_of b.shape.trees.items t.number t of)
 
 -- a unit of no tree is in no run of the forest
 pub in_no_run : {words slots : ℕ} (b : Board) → IsShape words slots b.shape → (u : ℕ)

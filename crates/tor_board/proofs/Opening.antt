@@ -209,6 +209,5 @@ pub few_places : (units from offset : ℕ) (runs : List Run) → AreRuns units f
     → offset + units_in runs ≤ units
 unfolding AreRuns
 few_places units from offset [] are le small = omega arith
-few_places units from offset (run ∷ runs) are le small = let r
-    = few_places units (run.first + run.count) (offset + run.count) runs are.4 (omega (arith, are.0)) are.2 in
-    omega arith
+few_places units from offset (run ∷ runs) are le small
+    = grind (arith, few_places units (run.first + run.count) (offset + run.count) runs are.4, are.0)

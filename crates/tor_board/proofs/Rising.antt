@@ -23,14 +23,12 @@ half x y e = omega arith
 
 pub split_one : (k i l j : ℕ) → middle k i ≡ middle l j → (k ≡ l) × (i ≡ j)
 split_one zero i zero j e = (refl, omega (arith, split_zero i, split_zero j))
-split_one zero i (suc l) j e = let a = split_suc l j in let b = split_zero i in
-    let p : 2 * i + 1 ≡ middle l j * 2 = sym b ∙ (e ∙ a) in omega arith
+split_one zero i (suc l) j e = grind (arith, split_suc l j, split_zero i, sym (split_zero i) ∙ (e ∙ (split_suc l j)))
 split_one (suc k) i zero j e = let a = split_suc k i in let b = split_zero j in
     let p : 2 * j + 1 ≡ middle k i * 2 = sym b ∙ (sym e ∙ a) in omega arith
-split_one (suc k) i (suc l) j e =
-    let p : middle k i * 2 ≡ middle l j * 2 = sym (split_suc k i) ∙ (e ∙ split_suc l j) in
-    let x : ℕ = middle k i in let y : ℕ = middle l j in let q : x ≡ y = half x y p in
-    let r = split_one k i l j q in (ap suc r.0, r.1)
+split_one (suc k) i (suc l) j e = grind (arith, sym (split_suc k i) ∙ (e ∙ split_suc l j), middle k i, middle l j,
+    half (middle k i) (middle l j) (sym (split_suc k i) ∙ (e ∙ split_suc l j)),
+    split_one k i l j (half (middle k i) (middle l j) (sym (split_suc k i) ∙ (e ∙ split_suc l j))))
 
 same_part : (o x y a b : ℕ) → a < 2 → b < 2 → 2 * (o + x) + a ≡ 2 * (o + y) + b → x ≡ y
 same_part o x y a b h l e = omega arith
@@ -70,15 +68,13 @@ low_split : (k i : ℕ) → 2 ^ k ≤ middle k i
 low_split k i = let p : 1 * 2 ^ k ≤ (2 * i + 1) * 2 ^ k = mul-le-mul_right (2 ^ k) (omega arith) in omega arith
 
 pub side_low : (t : Tree) → t.count ≤ 2 ^ t.height → (slot k j : ℕ) → IsSide t slot k j → k ≤ t.height
-side_low t tall slot k j (inl p) = dite (dec_le k t.height) (λ le. le) (λ gt. let up : t.height ≤ k = omega arith in
-    let a : 2 ^ t.height ≤ 2 ^ k = pow_mono up in omega (arith, low_split k p.0, p.3))
+side_low t tall slot k j (inl p) = grind (arith, pow_mono, low_split k p.0, p.3)
 side_low t tall slot k j (inr p) = omega (arith, p.1)
 
 -- from a side nothing rises
 stays : (t : Tree) → t.count ≤ 2 ^ t.height → (slot l i d k j slot' : ℕ) → IsSide t slot l i
     → Rises t.count (suc d) l i k j → IsSide t slot' k j → ⊥
-stays t tall slot l i d k j slot' (inl p) r end = let even : p.0 ≡ r.0 = omega (arith, p.2, p.5, r.1) in
-    let near : middle l r.0 < t.count = rw (sym even) p.3 in omega (arith, r.2)
+stays t tall slot l i d k j slot' (inl p) r end = grind (arith, p.2, p.5, r.1, r.2)
 stays t tall slot l i d k j slot' (inr p) r end
     = omega (arith, p.1, rises_up t d (suc l) r.0 k j r.3, side_low t tall slot' k j end)
 
@@ -94,15 +90,12 @@ rises_one t tall (suc d) (suc e) l i k j k' j' slot slot' a b p q =
     rises_one t tall d e (suc l) a.0 k j k' j' slot slot' a.3 (rw same b.3) p q
 
 pub not_top : (t : Tree) → t.count ≤ 2 ^ t.height → (k i : ℕ) → k ≡ t.height → middle k i < t.count → ⊥
-not_top t tall k i e h = let a : 2 ^ k ≡ 2 ^ t.height = ap (λ (x : ℕ). 2 ^ x) e in
-    omega (arith, low_split k i)
+not_top t tall k i e h = grind arith
 
 -- a spot has one slot
 pub place_one : (t : Tree) → t.count ≤ 2 ^ t.height → (slot slot' k j : ℕ) → IsSide t slot k j → IsSide t slot' k j
     → slot ≡ slot'
-place_one t tall slot slot' k j (inl p) (inl q) =
-    let s : p.0 ≡ q.0 = omega (arith, p.2, q.2, p.5, q.5) in let e : p.1 ≡ q.1 = omega (arith, p.2, q.2, p.5, q.5) in
-    p.4 ∙ (λ n. slot_of t (middle k (s n)) (e n)) ∙ sym q.4
+place_one t tall slot slot' k j (inl p) (inl q) = grind arith
 place_one t tall slot slot' k j (inl p) (inr q) = absurd (not_top t tall k p.0 q.1 p.3)
 place_one t tall slot slot' k j (inr p) (inl q) = absurd (not_top t tall k q.0 p.1 q.3)
 place_one t tall slot slot' k j (inr p) (inr q) = p.0 ∙ sym q.0
@@ -148,8 +141,7 @@ ready_grown t tall words words' views views' l i above k1 j1 steps side rise non
 pub fork : (t : Tree) (d d' l l' i : ℕ) (b : Bool) → d ≡ suc d' → l' ≡ suc l → ltb (middle l (i / 2)) t.count ≡ b
     → (risen t d l i ≡ cond b (l, i) (risen t d' l' (i / 2))) × ((hash : List ℕ) → raised t d l i hash
     ≡ cond b hash (raised t d' l' (i / 2) (node_of hash (zero_subtree (t.level + l)))))
-fork t d d' l l' i b e f is = let place = ap (λ b. cond b (l, i) (risen t d' (suc l) (i / 2))) is in rw (e, f)
-    (place, λ hash. ap (λ b. cond b hash (raised t d' (suc l) (i / 2) (node_of hash (zero_subtree (t.level + l))))) is)
+fork t d d' l l' i b e f is = grind arith
 
 -- a spot with a unit and no neighbour is a left one
 same_split : (l i : ℕ) → i % 2 ≡ 1 → middle l (i / 2) ≡ i * 2 ^ l
@@ -184,8 +176,7 @@ Lands t d l i p =
 module _ (t : Tree) (some_unit : 0 < t.count) (tall : t.count ≤ 2 ^ t.height) where
   top_place : (i : ℕ) → i * 2 ^ t.height < t.count → i ≡ 0
   top_place zero h = refl
-  top_place (suc i) h = let e : suc i * 2 ^ t.height ≡ 2 ^ t.height + i * 2 ^ t.height = omega arith in
-      omega arith
+  top_place (suc i) h = grind arith
 
   slot_top : (l i : ℕ) → l ≡ t.height → slot_at t l i ≡ slot_of t 0 0
   slot_top l i e = ap (λ b. cond b (slot_of t 0 0) (slot_of t (middle l (i / 2)) (i % 2))) (eq-eqb l t.height e)
@@ -231,8 +222,7 @@ low_count t low = grind (arith, pow_mono)
 
 pub split_small : (t : Tree) → IsLow t → (l i : ℕ) → l ≤ t.height → i * 2 ^ l < t.count
     → (2 * (i / 2) + 1) * 2 ^ l < 2 ^ 37
-split_small t low l i le h = let small : l ≤ 36 = omega (arith, low.1) in
-    let a : 2 ^ l ≤ 2 ^ 36 = pow_mono small in omega (arith, low_count t low, next_place i (2 ^ l))
+split_small t low l i le h = grind (arith, pow_mono, low.1, low_count t low, next_place i (2 ^ l))
 
 pub split_fits : (t : Tree) → IsLow t → (l i : ℕ) → l ≤ t.height → i * 2 ^ l < t.count → (l ≤ 36)
     × ((2 * (i / 2) + 1) * 2 ^ l < 2 ^ 63)
@@ -240,6 +230,4 @@ split_fits t low l i le h = (omega (arith, low.1), omega (arith, split_small t l
 
 -- one level up
 pub up_covers : (t : Tree) (l i : ℕ) → i * 2 ^ l < t.count → t.count ≤ middle l (i / 2) → i / 2 * 2 ^ (l + 1) < t.count
-up_covers t l i h le = let e : suc l ≡ l + 1 = omega arith in
-    let f : i / 2 * 2 ^ suc l ≡ i / 2 * 2 ^ (l + 1) = ap (λ (x : ℕ). i / 2 * 2 ^ x) e in
-    omega (arith, half_place l i (even_place t l i h le))
+up_covers t l i h le = grind (arith, half_place l i (even_place t l i h le))

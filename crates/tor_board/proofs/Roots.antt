@@ -2,7 +2,7 @@
 use Rattle.tor_board.proofs.Names.{Bool, List, None, Option, [], arith, false, get_or, get_or-set_other}
 use Rattle.tor_board.proofs.Names.{get_or-set_same, length, refl, set, suc, zero, ℕ, ◌*◌, ◌+◌, ◌<◌, ◌∷◌, ◌≡◌, ◌≢◌, ◌≤◌}
 use Rattle.tor_board.proofs.Names.{dite, some, ℕ_discrete, get_elem?, IsLeft, IsShape, slot_of, Shape, Tree}
-use Rattle.tor_board.proofs.Finding.{at_number, in_order, not_before, same_at}
+use Rattle.tor_board.proofs.Finding.{same_at}
 
 off_here : (l : List Bool) (i : ℕ) → get_or (set l i false) i false ≡ false
 off_here [] i = refl
@@ -17,14 +17,11 @@ module _ {words slots : ℕ} {shape : Shape} (shaped : IsShape words slots shape
     (later : (k : ℕ) (t : Tree) → get_elem? shape.trees.items k ≡ some t → next ≤ k → slot ≤ 2 * t.offset) where
   pub later_match : (u : Tree) → get_elem? shape.trees.items next ≡ some u → slot_of u 0 0 ≡ slot → (k : ℕ) (t : Tree)
       → get_elem? shape.trees.items k ≡ some t → next + 1 ≤ k → slot + 1 ≤ 2 * t.offset
-  later_match u e here k t f le = let o = (in_order shaped next k u t e f (omega arith)).1 in
-      let s = (shaped.fits u (at_number shaped next u e)).several in omega arith
+  later_match u e here k t f le = grind arith
 
   pub later_miss : (u : Tree) → get_elem? shape.trees.items next ≡ some u → slot_of u 0 0 ≢ slot → (k : ℕ) (t : Tree)
       → get_elem? shape.trees.items k ≡ some t → next ≤ k → slot + 1 ≤ 2 * t.offset
-  later_miss u e ne k t f le = let o = (not_before shaped next k u t e f le).1 in
-      dite (ℕ_discrete slot (2 * u.offset)) (λ is. absurd (ne (omega arith)))
-      (λ other. omega (arith, later next u e (omega arith)))
+  later_miss u e ne k t f le = grind arith
 
   -- the root of the next tree is put in
   pub done_next : (ws : List ℕ) (xs : List (List ℕ)) (roots : List (Option (List ℕ))) (root : Option (List ℕ))

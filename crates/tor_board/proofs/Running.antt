@@ -136,14 +136,7 @@ module _ {shape : Shape} {s : State (List ℕ) View} (kept : Keeps shape s) wher
       → (k i : ℕ) → middle k i < run.count
       → (left : ℕ) × (right : ℕ) × is_given_side (desks_of s.views) run k (2 * i) left
       × is_given_side (desks_of s.views) run k (2 * i + 1) right × (arrivals_in shape s.words n k i ≤ left + right)
-  nodes shaped n run e k i near =
-      let t = tree_at shaped n run e in
-      let g = node_given (kept.trees t.0 t.1) k i (omega (arith, ap (λ (r : Run). r.count) t.3)) in
-      let word : arrivals_in shape s.words n k i ≡ get_or s.words (word_of t.0 (middle k i)) 0
-      = ap (λ (o : ℕ). get_or s.words (2 + o + middle k i) 0) t.4 in
-      let left = subst (λ (r : Run). is_given_side (desks_of s.views) r k (2 * i) g.0) t.3 g.2 in
-      let right = subst (λ (r : Run). is_given_side (desks_of s.views) r k (2 * i + 1) g.1) t.3 g.3 in
-      (g.0, g.1, left, right, omega (arith, g.4))
+  nodes shaped n run e k i near = grind (arith, tree_at shaped n run e, node_given)
 
   pub running : {words slots : ℕ} → IsShape words slots shape → IsRunning shape s
   running shaped = record {

@@ -1,12 +1,11 @@
 -- What the machine shows of a step of one seat.
 use Rattle.tor_board.proofs.Names.{List, None, Option, Some, ap, arith, get_or, get_or-set_other, get_or-set_same, refl}
-use Rattle.tor_board.proofs.Names.{set, subst, sym, ℕ, ◌*◌, ◌+◌, ◌<◌, ◌∙◌, ◌≡◌, ◌≢◌, ◌≤◌, map-set, dite, some}
-use Rattle.tor_board.proofs.Names.{ℕ_discrete, get_elem?, at_map, State, Climb, Desk, spent_desk, Event, IsStep}
-use Rattle.tor_board.proofs.Names.{Machine, Side, times_arrived, Keeps, climbing, climbs_to, least_of, runs_of}
-use Rattle.tor_board.proofs.Names.{IsTreeOf, IsChange, IsEvent, Shows, middle, ready, slot_of, word_of, desk_of}
-use Rattle.tor_board.proofs.Names.{desks_of, total, Shape, Tree, View, Seated}
+use Rattle.tor_board.proofs.Names.{set, subst, sym, ℕ, ◌*◌, ◌+◌, ◌<◌, ◌∙◌, ◌≡◌, ◌≢◌, ◌≤◌, map-set, some, get_elem?}
+use Rattle.tor_board.proofs.Names.{at_map, State, Climb, Desk, spent_desk, Event, IsStep, Machine, Side, times_arrived}
+use Rattle.tor_board.proofs.Names.{Keeps, climbing, climbs_to, least_of, runs_of, IsTreeOf, IsChange, IsEvent, Shows}
+use Rattle.tor_board.proofs.Names.{middle, ready, slot_of, word_of, desk_of, desks_of, total, Shape, Tree, View, Seated}
 use Rattle.tor_board.proofs.{Steps.climbs, Steps.gave, Sums.total-set, Sums.term_le, Sums.only_le, Sums.read}
-use Rattle.tor_board.proofs.Trees.{by_sides, node_flow, node_word, split_positive, ready_more, side_of, side_covers}
+use Rattle.tor_board.proofs.Trees.{node_flow, node_word, split_positive, ready_more}
 use Rattle.tor_board.specs.Machine.{desk_at}
 use Rattle.std.proofs.Common.{subst₂}
 
@@ -71,40 +70,27 @@ module _ {shape : Shape} {m : Machine} {s s' : State (List ℕ) View} {id : ℕ}
     no_less : (t : Tree) (is : IsTreeOf shape t) (k i side : ℕ) → side < 2 → middle k i < t.count
         → (now.kept.trees t is).arrived (slot_of t (middle k i) side) + climbs (slot_of t (middle k i) side) v
         ≤ (now.kept'.trees t is).arrived (slot_of t (middle k i) side)
-    no_less t is k i side two near =
-        let slot : ℕ = slot_of t (middle k i) side in let tree = now.kept.trees t is in
-        let a = node_flow tree k i side two near in let b = node_flow (now.kept'.trees t is) k i side two near in
-        let more = ready_more t s.words s'.words s.views s'.views (λ n pos h. omega (arith, sum t is n pos h))
-        (λ j h. omega (arith, part (gave (t.first + j)), gives (t.first + j))) k (2 * i + side)
-        (side_covers t tree.some_unit slot k (2 * i + side) (side_of t k i side two near)) in
-        let c = part (climbs slot) in
-        dite (ℕ_discrete (climbs slot w) 0)
-        (λ none. omega arith)
-        (λ some_. let one : climbs slot w ≡ 1 = omega (arith, climbs_once slot w.climb) in
-        omega (arith, new t is k i side two near one, term_le (climbs slot) s.views id v now.at))
+    no_less t is k i side two near = grind (arith, slot_of t (middle k i) side, now.kept.trees t is,
+        node_flow (now.kept.trees t is) k i side two near, node_flow (now.kept'.trees t is) k i side two near,
+        part (climbs (slot_of t (middle k i) side)), climbs_once (slot_of t (middle k i) side) w.climb,
+        new t is k i side two near, term_le (climbs (slot_of t (middle k i) side)) s.views id v now.at, ready_more, sum,
+        part, gives, new)
 
     arrived_now : (t : Tree) (is : IsTreeOf shape t) (k i side : ℕ) → side < 2 → middle k i < t.count
         → (now.kept'.trees t is).arrived (slot_of t (middle k i) side)
         ≡ (now.kept.trees t is).arrived (slot_of t (middle k i) side) + climbs (slot_of t (middle k i) side) v
-    arrived_now t is k i side two near =
-        let l = no_less t is k i 0 (omega arith) near in let r = no_less t is k i 1 (omega arith) near in
-        let before = node_word (now.kept.trees t is) k i 0 (omega arith) near in
-        let after = node_word (now.kept'.trees t is) k i 0 (omega arith) near in
-        let grown = sum t is (middle k i) (split_positive k i) near in
-        by_sides (λ (b : ℕ). (now.kept'.trees t is).arrived (slot_of t (middle k i) b)
-        ≡ (now.kept.trees t is).arrived (slot_of t (middle k i) b) + climbs (slot_of t (middle k i) b) v)
-        (omega arith) (omega arith) side two
+    arrived_now t is k i side two near = grind (arith, no_less t is k i 0, no_less t is k i 1,
+        node_word (now.kept.trees t is) k i 0, node_word (now.kept'.trees t is) k i 0,
+        sum t is (middle k i) (split_positive k i) near)
 
     pub moved : (arrived : List Side)
         → ((t : Tree) → IsTreeOf shape t → (k i side : ℕ) → side < 2 → middle k i < t.count
         → times_arrived (place_of t k (2 * i + side)) arrived
         ≡ times_arrived (place_of t k (2 * i + side)) m.arrived + climbs (slot_of t (middle k i) side) v)
         → Sides arrived
-    moved arrived times t is k i side two near =
-        let a = node_flow (now.kept.trees t is) k i side two near in
-        let b = node_flow (now.kept'.trees t is) k i side two near in
-        let shown = now.shows.sides t is k i side two near in
-        omega (arith, shown, times t is k i side two near, arrived_now t is k i side two near)
+    moved arrived times t is k i side two near = grind (arith, node_flow (now.kept.trees t is) k i side two near,
+        node_flow (now.kept'.trees t is) k i side two near, now.shows.sides t is k i side two near,
+        (now.shows.sides t is k i side two near), times t is k i side two near, arrived_now t is k i side two near)
 
   -- of a step on the first word, or the second: no word but that one changes
   module _ (i n : ℕ) (low : i < 2) (w : View) (change : IsChange s i n id w s') where

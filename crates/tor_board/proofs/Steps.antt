@@ -1,7 +1,7 @@
 -- A step keeps the rule of a tree where it shows what it changes of it; a tree of which it touches nothing keeps it.
 use Rattle.tor_board.proofs.Names.{List, None, Option, Some, [], arith, get_or, length, refl, set, subst, sym, ℕ, ◌+◌}
-use Rattle.tor_board.proofs.Names.{◌/◌, ◌<◌, ◌∙◌, ◌∷◌, ◌≡◌, ◌≢◌, ◌≤◌, dite, Opt, some, ℕ_discrete, get_elem?, Act}
-use Rattle.tor_board.proofs.Names.{State, carried_after, Climb, GivenUnit, Seated, IsSide, Keeps, KeepsTree, TopsAre}
+use Rattle.tor_board.proofs.Names.{◌/◌, ◌<◌, ◌∷◌, ◌≡◌, ◌≢◌, ◌≤◌, dite, Opt, some, ℕ_discrete, get_elem?, Act, State}
+use Rattle.tor_board.proofs.Names.{carried_after, Climb, GivenUnit, Seated, IsSide, Keeps, KeepsTree, TopsAre}
 use Rattle.tor_board.proofs.Names.{climbs_to, has_out, out, tops_of, IsRoot, WasGiven, ready, slot_of, times_given}
 use Rattle.tor_board.proofs.Names.{word_of, only, total, Shape, Tree, View, IsIn}
 use Rattle.tor_board.proofs.Sums.{set_all, total-set, only-same}
@@ -148,8 +148,7 @@ module _ {t : Tree} {words : List ℕ} {homes : List (Opt (List ℕ))} {views : 
   pub old_home : (homes' : List (Opt (List ℕ))) (grow : ℕ → ℕ) (s k j : ℕ) → IsSide t s k j → out s views ≡ 0
       → get_elem? homes' s ≡ get_elem? homes s → grow s ≡ 0
       → IsHome homes' s (λ hash. kept.arrived s + grow s ≡ 1 → IsRoot (WasGiven views) t k j hash)
-  old_home homes' grow s k j is none same still = let h = kept.home s k j is none in
-      (h.0, same ∙ h.1, λ yes. h.2 (omega arith))
+  old_home homes' grow s k j is none same still = grind (arith, kept.home s k j is none)
 
   -- or to which it brings a hash
   pub put_home : (homes' : List (Opt (List ℕ))) (grow : ℕ → ℕ) (put : ℕ) (hash : List ℕ)

@@ -82,8 +82,7 @@ only-other u x n = grind arith
 
 pub below-only : (u n : ℕ) → (below (only u) n ≤ 1) × (n ≤ u → below (only u) n ≡ 0) × (u < n → below (only u) n ≡ 1)
 below-only u zero = (omega arith, (λ _. refl), λ h. omega arith)
-below-only u (suc n) = let before = below-only u n in
-    (grind (arith, before), (λ h. grind (arith, before)), λ h. grind (arith, before))
+below-only u (suc n) = grind (arith, below-only u n, (below-only u n))
 
 -- of the numbers below n there is that one where it is less
 pub below-test : (u n : ℕ) → below (only u) n ≡ cond (ltb u n) 1 0

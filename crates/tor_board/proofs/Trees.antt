@@ -1,9 +1,8 @@
 -- Facts on trees that any step uses.
-use Rattle.tor_board.proofs.Names.{List, Some, [], ap, arith, get_or, inl, inr, mul-le-mul_right, refl, subst, suc, sym}
-use Rattle.tor_board.proofs.Names.{true, zero, ℕ, ◌*◌, ◌++◌, ◌+◌, ◌-◌, ◌/◌, ◌<◌, ◌^◌, ◌∙◌, ◌∷◌, ◌≡◌, ◌≤◌, pow-suc, dite}
-use Rattle.tor_board.proofs.Names.{Opt, some, dec_le, get_elem?, Climb, IsSide, KeepsTree, TopsAre, climbing, climbs_to}
-use Rattle.tor_board.proofs.Names.{out, IsRoot, has_unit, middle, ready, slot_of, times_given, word_of, Tree, View}
-use Rattle.tor_board.proofs.Names.{IsIn}
+use Rattle.tor_board.proofs.Names.{List, Some, [], ap, arith, get_or, inl, inr, mul-le-mul_right, refl, suc, sym, true}
+use Rattle.tor_board.proofs.Names.{zero, ℕ, ◌*◌, ◌++◌, ◌+◌, ◌-◌, ◌/◌, ◌<◌, ◌^◌, ◌∙◌, ◌∷◌, ◌≡◌, ◌≤◌, pow-suc, dite, Opt}
+use Rattle.tor_board.proofs.Names.{some, dec_le, get_elem?, Climb, IsSide, KeepsTree, TopsAre, climbing, climbs_to, out}
+use Rattle.tor_board.proofs.Names.{IsRoot, has_unit, middle, ready, slot_of, times_given, word_of, Tree, View, IsIn}
 use Rattle.tor_board.proofs.Sums.{only-same, term_le}
 use Rattle.std.proofs.lemmas.Nat.{pow_pos}
 
@@ -31,8 +30,7 @@ pub side_of : (t : Tree) (k i side : ℕ) → side < 2 → middle k i < t.count
 side_of t k i side two inside = inl (i, side, two, inside, refl, refl)
 
 pub side_inside : (k i side n : ℕ) → side < 2 → middle k i < n → (2 * i + side) * 2 ^ k < n
-side_inside k i side n two inside = let p : (2 * i + side) * 2 ^ k ≤ (2 * i + 1) * 2 ^ k
-    = mul-le-mul_right (2 ^ k) (omega arith) in omega arith
+side_inside k i side n two inside = grind arith
 
 -- a node stands over units
 pub node_inside : (k i n : ℕ) → middle k i < n → i * 2 ^ suc k < n
@@ -91,9 +89,8 @@ module _ {t : Tree} {words : List ℕ} {homes : List (Opt (List ℕ))} {views : 
   pub node_ready : (k i : ℕ) → middle k i < t.count → climbing (slot_of t (middle k i) 0) views
       + climbing (slot_of t (middle k i) 1) views + get_or words (word_of t (middle k i)) 0
       ≡ ready t words views k (2 * i) + ready t words views k (2 * i + 1)
-  node_ready k i near =
-      let left = node_flow k i 0 (omega arith) near in let right = node_flow k i 1 (omega arith) near in
-      omega (arith, ap (ready t words views k) (zero_more (2 * i)), kept.word (middle k i) (split_positive k i) near)
+  node_ready k i near = grind (arith, node_flow k i 0, node_flow k i 1, ap (ready t words views k) (zero_more (2 * i)),
+      kept.word (middle k i) (split_positive k i) near)
 
   -- nothing is ready twice
   pub ready_once : (k i : ℕ) → i * 2 ^ k < t.count → ready t words views k i ≤ 1
@@ -112,10 +109,7 @@ module _ {t : Tree} {words : List ℕ} {homes : List (Opt (List ℕ))} {views : 
   -- a node's word counts what arrived at that side and at the other
   pub node_word : (k i side : ℕ) → side < 2 → middle k i < t.count → get_or words (word_of t (middle k i)) 0
       ≡ kept.arrived (slot_of t (middle k i) side) + kept.arrived (slot_of t (middle k i) (1 - side))
-  node_word k i side two near = let sum = kept.word (middle k i) (split_positive k i) near in
-      by_sides (λ (b : ℕ). get_or words (word_of t (middle k i)) 0
-      ≡ kept.arrived (slot_of t (middle k i) b) + kept.arrived (slot_of t (middle k i) (1 - b)))
-      (omega arith) (omega arith) side two
+  node_word k i side two near = grind (arith, kept.word (middle k i) (split_positive k i) near)
 
   pub node_once : (k i side : ℕ) → side < 2 → middle k i < t.count → kept.arrived (slot_of t (middle k i) side) ≤ 1
   node_once k i side two near
@@ -125,21 +119,14 @@ module _ {t : Tree} {words : List ℕ} {homes : List (Opt (List ℕ))} {views : 
   pub alone_there : (id : ℕ) (v : View) (c : Climb) → get_elem? views id ≡ some v → v.climb ≡ Some c
       → (k j : ℕ) → IsSide t c.slot k j
       → (climbing c.slot views ≡ 1) × (ready t words views k j ≡ 1) × (kept.arrived c.slot ≡ 0)
-  alone_there id v c at in_climb k j is =
-      let f = kept.flow c.slot k j is in let r = side_once c.slot k j is in
-      let mine = term_le (λ (u : View). climbs_to c.slot u.climb) views id v at in
-      let one : climbs_to c.slot v.climb ≡ 1 = ap (climbs_to c.slot) in_climb ∙ only-same c.slot in
-      (omega arith, omega arith, omega arith)
+  alone_there id v c at in_climb k j is = grind (arith, kept.flow c.slot k j is, side_once c.slot k j is,
+      ap (climbs_to c.slot) in_climb ∙ only-same c.slot, term_le)
 
   -- a slot to which nothing has come is at home
   pub empty_home : (slot k j : ℕ) → IsSide t slot k j → ready t words views k j ≡ 0 → out slot views ≡ 0
-  empty_home slot k j (inl p) none = let o = kept.outs (middle k p.0) p.1 p.2 (split_positive k p.0) p.3 in
-      let z : ready t words views k (2 * p.0 + p.1) ≡ 0 = subst (λ (x : ℕ). ready t words views k x ≡ 0) p.5 none in
-      let f = node_flow k p.0 p.1 p.2 p.3 in let w = node_word k p.0 p.1 p.2 p.3 in
-      let once = node_once k p.0 (1 - p.1) (omega (arith, p.2)) p.3 in rw p.4 (omega arith)
-  empty_home slot k j (inr p) none =
-      let z : climbing (slot_of t 0 0) views ≡ 0 = rw (sym p.0) (omega (arith, kept.flow slot k j (inr p))) in
-      rw p.0 (omega (arith, kept.out_top))
+  empty_home slot k j (inl p) none = grind (arith, kept.outs (middle k p.0) p.1 p.2 (split_positive k p.0) p.3,
+      node_flow k p.0 p.1 p.2 p.3, node_word k p.0 p.1 p.2 p.3, node_once k p.0 (1 - p.1), p.2)
+  empty_home slot k j (inr p) none = grind (arith, kept.flow slot k j (inr p), kept.out_top)
 
 -- what was told stays so
 pub told_more : (number : ℕ) (P Q : List ℕ → Type 0) → ((hash : List ℕ) → P hash → Q hash) → (tops : List (ℕ × List ℕ))
