@@ -1,15 +1,15 @@
 -- An arrival at a node: one more in its word, and what comes of it.
-use Rattle.tor_board.proofs.Names.{List, ap, arith, cond, eq-eqb, get_or, inl, inr, length, length-set, ne_eqb, refl}
-use Rattle.tor_board.proofs.Names.{set, suc, sym, zero, ℕ, ◌%◌, ◌*◌, ◌+◌, ◌-◌, ◌/◌, ◌<◌, ◌∙◌, ◌≡◌, ◌≢◌, ◌⊎◌, dite, Opt}
-use Rattle.tor_board.proofs.Names.{none, some, ℕ_discrete, get_elem?, set_else, set_here, node_of, Climb, GivenUnit}
-use Rattle.tor_board.proofs.Names.{climbed, met, other_slot, IsSide, KeepsTree, climbing, out, IsRoot, WasGiven, middle}
-use Rattle.tor_board.proofs.Names.{ready, slot_of, word_of, joining, rested, only, Tree, View}
+use Rattle.tor_board.proofs.Names.{List, ap, arith, get_or, inl, inr, length, length-set, refl, set, suc, sym, zero, ℕ}
+use Rattle.tor_board.proofs.Names.{◌%◌, ◌*◌, ◌+◌, ◌-◌, ◌/◌, ◌<◌, ◌∙◌, ◌≡◌, ◌≢◌, ◌⊎◌, dite, Opt, none, some, ℕ_discrete}
+use Rattle.tor_board.proofs.Names.{get_elem?, set_else, set_here, Climb, climbed, met, other_slot, IsSide, KeepsTree}
+use Rattle.tor_board.proofs.Names.{climbing, out, IsRoot, WasGiven, middle, ready, slot_of, word_of, joining, rested}
+use Rattle.tor_board.proofs.Names.{only, Tree, View}
 use Rattle.tor_board.proofs.Sums.{total-set, only-same, only-other, only_le, term_le}
 use Rattle.tor_board.proofs.Rising.{split_one, rooted_at, rises_ready, ready_from, ready_grown, Lands, goal_of, lands}
 use Rattle.tor_board.proofs.Trees.{alone_there, empty_home, node_word, node_flow, node_once, ready_node, side_of}
 use Rattle.tor_board.proofs.Trees.{split_positive, node_inside, zero_more, side_once}
-use Rattle.tor_board.proofs.Finding.{joined_same, IsBelow, node_above, word_above, above_slot, one_more, own_side}
-use Rattle.tor_board.proofs.Finding.{word_now, word_else, same_halves, counted}
+use Rattle.tor_board.proofs.Finding.{IsBelow, node_above, word_above, above_slot, one_more, own_side, word_now}
+use Rattle.tor_board.proofs.Finding.{word_else, same_halves, counted}
 use Rattle.tor_board.proofs.Steps.{SeatStep, keeps_step, put_home, old_seat, seat_rooted, outs, weight, gave}
 use Rattle.tor_board.proofs.Resting.{bare, cleared, comes_home}
 
@@ -26,12 +26,6 @@ module _ {words : List ℕ} {homes : List (Opt (List ℕ))} {views : List View} 
     found_other,
     node_once kept c.level (c.index / 2) (1 - c.index % 2) (omega arith) below.inside,
   )
-
-pub met_left : (side : ℕ) (a b : List ℕ) → side ≡ 0 → met side a b ≡ node_of a b
-met_left side a b e = ap (λ x. cond x (node_of a b) (node_of b a)) (eq-eqb side 0 e)
-
-pub met_right : (side : ℕ) (a b : List ℕ) → side ≢ 0 → met side a b ≡ node_of b a
-met_right side a b ne = ap (λ x. cond x (node_of a b) (node_of b a)) (ne_eqb side 0 ne)
 
 met_root : (t : Tree) (G : ℕ → List ℕ → Type 0) (k i side : ℕ) (a b : List ℕ) → side < 2
     → IsRoot G t k (2 * i + side) a → IsRoot G t k (2 * i + (1 - side)) b → IsRoot G t (suc k) i (met side a b)
@@ -127,8 +121,7 @@ module _ {words : List ℕ} {homes : List (Opt (List ℕ))} {views : List View} 
         let homes2 : List (Opt (List ℕ)) = set homes1 (above_slot c) none in
         let homes3 : List (Opt (List ℕ)) = set homes2 other none in let has = seat_rooted kept id (bare v c) at in
         let now = word_now c below words long in let sum = λ (g : View → ℕ). total-set g views id (bare v c) w at in
-        let given : (f : ℕ → List ℕ → ℕ) → weight f w ≡ weight f v
-        = λ f. joined_same (λ (g : GivenUnit). f g.unit g.hash) (λ u h a b. refl) v.given in
+        let given : (f : ℕ → List ℕ → ℕ) → weight f w ≡ weight f v = λ f. grind arith in
         let same : (u : ℕ) → gave u w ≡ gave u v = λ u. given (λ y h. only u y) in
         let two : c.index % 2 < 2 = omega arith in
         let root = landed.3 (WasGiven views) (met (c.index % 2) c.hash x)
@@ -140,8 +133,7 @@ module _ {words : List ℕ} {homes : List (Opt (List ℕ))} {views : List View} 
         (λ k j near. dite (ℕ_discrete (middle k j) (node_above c))
         (λ e. let q = split_one c.level (c.index / 2) k j (sym e) in inr (ap suc q.0, q.1))
         (λ ne. inl (word_else c below words long (word_of t (middle k j)) (λ e. ne (omega arith))))) in
-        let full : ready t words' vs (suc c.level) (c.index / 2) ≡ 1
-        = omega (arith, ready_node t words' vs c.level (c.index / 2) below.inside) in
+        let full : ready t words' vs (suc c.level) (c.index / 2) ≡ 1 = grind arith in
         let step : SeatStep t words words' homes homes3 views kept.arrived id (bare v c) w (λ s. only s c.slot)
         = record {
           sum = sum;
@@ -160,8 +152,7 @@ module _ {words : List ℕ} {homes : List (Opt (List ℕ))} {views : List View} 
               omega (arith, only_le (slot_of t m side) other))
               (λ ne. let l = word_else c below words long (word_of t m) (λ e. ne (omega arith)) in
               omega (arith, only-other (slot_of t m side) other (λ e. ne (omega arith))));
-          out_top = let pos = split_positive c.level (c.index / 2) in
-              omega (arith, only-other (slot_of t 0 0) other (λ e. omega arith));
+          out_top = grind (arith, split_positive c.level (c.index / 2));
           home = λ s k j is none_out.
               let mine = term_le (outs s) views id (bare v c) at in let all = sum (outs s) in
               let not_other : s ≢ other = λ e. let o : only s other ≡ 1 = rw e (only-same other) in

@@ -19,12 +19,7 @@ module _ {units claims least : ℕ} {views : List View} (k : KeepsClaims units c
     (at : get_elem? views id ≡ some v) where
   -- a unit that a seat names was claimed
   pub named_below : (u : ℕ) → 0 < named (only u) v → (u < claims) × (u < units)
-  named_below u has = grind (
-    arith,
-    term_le (named (only u)) views id v at,
-    k.once (only u),
-    below-only u (min claims units),
-  )
+  named_below u has = grind (arith, term_le (named (only u)) views id v at, below-only u (min claims units))
 
   -- no seat has failed a unit below the least
   pub least_le : (u : ℕ) → 0 < failures (only u) v → least ≤ u
@@ -51,8 +46,7 @@ module _ {units claims least : ℕ} {views : List View} (k : KeepsClaims units c
       → (w.done ≡ true → (v.done ≡ true) ⊎ ((least' < nobody) ⊎ (units ≤ claims')))
       → KeepsClaims units claims' least' (set views id w)
   changed least' spared attained lower more done =
-      let still : (least < nobody) ⊎ (units ≤ claims) → (least' < nobody) ⊎ (units ≤ claims')
-      = λ t. elim t [ inl h ↦ inl (omega arith) | inr h ↦ inr (omega arith) ] in
+      let still : (least < nobody) ⊎ (units ≤ claims) → (least' < nobody) ⊎ (units ≤ claims') = λ t. grind arith in
       record {
         once = λ f. omega (arith, total-set (named f) views id v w at, k.once f, names f);
         rooms = omega (arith, total-set (λ (u : View). u.room) views id v w at, k.rooms);

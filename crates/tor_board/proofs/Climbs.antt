@@ -1,13 +1,12 @@
 -- A step of a climb is the event of its name.
-use Rattle.tor_board.proofs.Names.{Bool, List, None, Some, [], ap, arith, cond, eq-eqb, get_or, inl, inr, length}
-use Rattle.tor_board.proofs.Names.{ne_eqb, refl, set, subst, suc, sym, true, ℕ, ◌%◌, ◌*◌, ◌+◌, ◌-◌, ◌/◌, ◌<◌, ◌==◌, ◌^◌}
-use Rattle.tor_board.proofs.Names.{◌∙◌, ◌∷◌, ◌≡◌, ◌≤◌, dite, ℕ_discrete, at_map, State, Climb, way_in, way_of}
-use Rattle.tor_board.proofs.Names.{IsGivenSide, IsStep, Machine, arrive, hand, hands, meets, rests, seal, seals}
-use Rattle.tor_board.proofs.Names.{times_arrived, top_root, IsAtTop, Seated, arrived_from, gave_told, sealed_from}
-use Rattle.tor_board.proofs.Names.{climb_from, climbed, met, other_slot, IsSide, KeepsTree, climbing, climbs_to}
-use Rattle.tor_board.proofs.Names.{least_of, runs_of, IsShape, IsTreeOf, IsChange, IsEvent, has_unit, middle, ready}
-use Rattle.tor_board.proofs.Names.{slot_at, slot_of, times_given, word_of, desk_of, handed, joining, rested, topped}
-use Rattle.tor_board.proofs.Names.{only, Shape, Tree, View}
+use Rattle.tor_board.proofs.Names.{Bool, List, None, Some, [], ap, arith, cond, get_or, inr, length, refl, set, subst}
+use Rattle.tor_board.proofs.Names.{suc, sym, true, ℕ, ◌%◌, ◌*◌, ◌+◌, ◌-◌, ◌/◌, ◌<◌, ◌==◌, ◌^◌, ◌∙◌, ◌∷◌, ◌≡◌, ◌≤◌, dite}
+use Rattle.tor_board.proofs.Names.{ℕ_discrete, at_map, State, Climb, way_in, way_of, IsGivenSide, IsStep, Machine}
+use Rattle.tor_board.proofs.Names.{arrive, hand, hands, meets, rests, seal, seals, times_arrived, top_root, IsAtTop}
+use Rattle.tor_board.proofs.Names.{Seated, arrived_from, gave_told, sealed_from, climb_from, climbed, met, other_slot}
+use Rattle.tor_board.proofs.Names.{IsSide, KeepsTree, climbing, climbs_to, least_of, runs_of, IsShape, IsTreeOf}
+use Rattle.tor_board.proofs.Names.{IsChange, IsEvent, has_unit, middle, ready, slot_at, slot_of, times_given, word_of}
+use Rattle.tor_board.proofs.Names.{desk_of, handed, joining, rested, topped, only, Shape, Tree, View}
 use Rattle.tor_board.proofs.{Arriving.found_other, Arriving.found_few, Going.held_ungiven, Running.ready_given}
 use Rattle.tor_board.proofs.{Running.top_is, Steps.climbs, Steps.gave, Sums.only-same, Sums.only-other}
 use Rattle.tor_board.proofs.Finding.{apart, same_tree, some_height, top_node, IsBelow, word_above, own_side, counted}
@@ -15,7 +14,7 @@ use Rattle.tor_board.proofs.Finding.{joined_same, word_else}
 use Rattle.tor_board.proofs.Trees.{has_unit-true, alone_there, ready_node, side_of, side_in, node_inside, node_flow}
 use Rattle.tor_board.proofs.Trees.{node_word, node_once}
 use Rattle.tor_board.proofs.Lawful.{other_side, same_side, next_of}
-use Rattle.tor_board.proofs.Rising.{goal_of, lands, rises_ready, side_low, not_top, place_one, side_one}
+use Rattle.tor_board.proofs.Rising.{goal_of, lands, rises_ready, side_low, place_one, side_one}
 use Rattle.tor_board.proofs.Shown.{Moment, New, place_of, event, moved, unarrived, on_first, as_told}
 use Rattle.tor_board.specs.{Climb.run_of, Desks.topped as topped_desk, Machine.beside, Machine.side_of as side_of_way}
 use Rattle.tor_merkle.specs.Subtree.{height}
@@ -59,14 +58,12 @@ module _ {shape : Shape} {m : Machine} {s s' : State (List ℕ) View} {id : ℕ}
 
     below : IsBelow c
     below =
-        let own : IsSide c.tree c.slot c.level c.index
-        = inl (c.index / 2, c.index % 2, omega arith, near, slot_is, omega arith) in
+        let own : IsSide c.tree c.slot c.level c.index = grind arith in
         let le = side_low c.tree tree.tall c.slot c.level c.index own in
         record {
           slot = slot_is;
           inside = near;
-          low = dite (ℕ_discrete c.level c.tree.height)
-              (λ e. absurd (not_top c.tree tree.tall c.level (c.index / 2) e near)) (λ ne. omega arith);
+          low = grind arith;
         }
 
     alone : (climbing c.slot s.views ≡ 1) × (ready c.tree s.words s.views c.level c.index ≡ 1)
@@ -86,9 +83,7 @@ module _ {shape : Shape} {m : Machine} {s s' : State (List ℕ) View} {id : ℕ}
     found_beside : times_arrived (beside (side_of_way (way_of c))) m.arrived ≡ found
     found_beside =
         let place : cond (c.index % 2 == 0) (c.index + 1) (2 * (c.index / 2)) ≡ 2 * (c.index / 2) + (1 - c.index % 2)
-        = dite (ℕ_discrete (c.index % 2) 0)
-        (λ e. ap (λ b. cond b (c.index + 1) (2 * (c.index / 2))) (eq-eqb (c.index % 2) 0 e) ∙ omega arith)
-        (λ ne. ap (λ b. cond b (c.index + 1) (2 * (c.index / 2))) (ne_eqb (c.index % 2) 0 ne) ∙ omega arith) in
+        = grind arith in
         side_times (1 - c.index % 2) (cond (c.index % 2 == 0) (c.index + 1) (2 * (c.index / 2))) (omega arith) place
         ∙ sym (found_other c tree below alone.2)
 
@@ -146,8 +141,7 @@ module _ {shape : Shape} {m : Machine} {s s' : State (List ℕ) View} {id : ℕ}
         (rests (way_of c) some_room (ap way_in in_climb) near given_here none_here (found_beside ∙ e)))
         (λ ne.
         let one : found ≡ 1 = omega arith in let r = t.2 one in let w : View = joining v (climbed c r.0) in
-        let none : ready c.tree s.words s.views (suc c.level) (c.index / 2) ≡ 0
-        = omega (arith, ready_node c.tree s.words s.views c.level (c.index / 2) near) in
+        let none : ready c.tree s.words s.views (suc c.level) (c.index / 2) ≡ 0 = grind arith in
         let covers = node_inside c.level (c.index / 2) c.tree.count near in
         let next = next_of c.tree tree.some_unit tree.tall (shaped.fits c.tree is).least (suc c.level) (c.index / 2)
         below.low covers (met (c.index % 2) c.hash r.0) ((other_slot c, r.0) ∷ []) in
@@ -183,12 +177,12 @@ module _ {shape : Shape} {m : Machine} {s s' : State (List ℕ) View} {id : ℕ}
   -- ---- a seal
   top_met : (t : Tree) → IsTreeOf shape t → 2 ≤ get_or s.words (word_of t (middle (t.height - 1) 0)) 0
       → (side : ℕ) → side < 2 → times_arrived (place_of t (t.height - 1) side) m.arrived ≡ 1
-  top_met t is two side low = grind (arith, now.kept.trees t is, t.height - 1, top_node shaped t is,
-      node_word (now.kept.trees t is) (t.height - 1) 0 side low (top_node shaped t is),
-      node_once (now.kept.trees t is) (t.height - 1) 0 side low (top_node shaped t is),
-      node_once (now.kept.trees t is) (t.height - 1) 0 (1 - side),
-      now.shows.sides t is (t.height - 1) 0 side low (top_node shaped t is),
-      node_flow (now.kept.trees t is) (t.height - 1) 0 side low (top_node shaped t is))
+  top_met t is two side low = let a = top_node shaped t is in
+      let b = node_word (now.kept.trees t is) (t.height - 1) 0 side low (top_node shaped t is) in
+      let d = node_once (now.kept.trees t is) (t.height - 1) 0 side low (top_node shaped t is) in
+      let e = node_once (now.kept.trees t is) (t.height - 1) 0 (1 - side) in
+      let f = now.shows.sides t is (t.height - 1) 0 side low (top_node shaped t is) in
+      grind (arith, node_flow (now.kept.trees t is) (t.height - 1) 0 side low (top_node shaped t is))
 
   pub seals_so : 0 < v.room → (c : Climb) → v.climb ≡ Some c → IsTreeOf shape c.tree → IsAtTop c
       → (has : List (ℕ × List ℕ)) (after : Seated) → sealed_from c (v, has) after
@@ -207,8 +201,7 @@ module _ {shape : Shape} {m : Machine} {s s' : State (List ℕ) View} {id : ℕ}
       (side_in c.tree tree.some_unit c.slot c.tree.height 0 top) (omega arith, omega arith)))) in
       let alone = alone_there tree id v c now.at in_climb c.tree.height 0 top in
       let tall : c.tree.height ≡ suc (c.tree.height - 1) = omega (arith, some_height shaped c.tree is) in
-      let full : ready c.tree s.words s.views (suc (c.tree.height - 1)) 0 ≡ 1
-      = subst (λ (x : ℕ). ready c.tree s.words s.views x 0 ≡ 1) tall alone.1 in
+      let full : ready c.tree s.words s.views (suc (c.tree.height - 1)) 0 ≡ 1 = grind arith in
       let node = ready_node c.tree s.words s.views (c.tree.height - 1) 0 (top_node shaped c.tree is) in
       let met' = top_met c.tree is (omega arith) in
       let least_is : c.tree.height ≡ height c.tree.count = (shaped.fits c.tree is).least in

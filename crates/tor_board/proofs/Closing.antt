@@ -43,13 +43,8 @@ weights_le u h (g ∷ gs) = omega (arith, weights_le u h gs, chosen_le u h g.uni
 hash_is : (u : ℕ) (h : List ℕ) (given : List GivenUnit) → total (λ (g : GivenUnit). only u g.unit) given ≤ 1
     → 0 < total (λ (g : GivenUnit). chosen u h g.unit g.hash) given → h ≡ hash_of given u
 hash_is u h [] once some_weight = absurd (omega arith)
-hash_is u h (g ∷ gs) once some_weight = grind (
-  arith,
-  chosen_is u h g.unit g.hash,
-  chosen_le u h g.unit g.hash,
-  weights_le u h gs,
-  hash_is u h gs,
-)
+hash_is u h (g ∷ gs) once some_weight =
+    grind (arith, chosen_is u h g.unit g.hash, chosen_le u h g.unit g.hash, weights_le u h gs, hash_is u h gs)
 
 -- all units below a spot were given
 pub all_stand : (t : Tree) (G : ℕ → List ℕ → Type 0) (k j : ℕ) (hash : List ℕ) → IsRoot G t k j hash → (i : ℕ)

@@ -5,7 +5,7 @@ use Rattle.tor_board.proofs.Names.{run_of, IsShape, IsTreeOf, has_unit, middle, 
 use Rattle.tor_board.proofs.Names.{[], get_or-set_other, get_or-set_same, inl, refl, set, suc, zero, ◌%◌, ◌/◌, ◌∷◌}
 use Rattle.tor_board.proofs.Names.{Climb, GivenUnit, joined_more, climbed, IsSide, joined_in, pairs, slot_of, below}
 use Rattle.tor_board.proofs.Names.{only, total, LastGiveIsIn}
-use Rattle.tor_board.proofs.{Trees.has_unit-within, Trees.has_unit-true, Sums.term_le, Sums.total-map}
+use Rattle.tor_board.proofs.Sums.{term_le, total-map}
 use Rattle.tor_board.specs.{Results.in_run, Seats.levels_above}
 use Rattle.{tor_merkle.specs.Subtree.height, atomic_table.proofs.Lists.at_index}
 use Rattle.tor_merkle.proofs.ProvedLaws.{height_least}
@@ -41,10 +41,6 @@ module _ {words slots : ℕ} {shape : Shape} (shaped : IsShape words slots shape
       → (get_elem? shape.trees.items k ≡ some t) × IsTreeOf shape t
   tree_there k t inside is = let e = at_index shape.trees.items k t inside is in (e, at_number k t e)
 
-  pub in_order : (j k : ℕ) (t u : Tree) → get_elem? shape.trees.items j ≡ some t
-      → get_elem? shape.trees.items k ≡ some u → j < k → (t.first + t.count ≤ u.first) × (t.offset + t.count ≤ u.offset)
-  in_order j k t u e f less = grind arith
-
   pub same_at : (j k : ℕ) (t u : Tree) → get_elem? shape.trees.items j ≡ some t → get_elem? shape.trees.items k ≡ some u
       → j ≡ k → t ≡ u
   same_at j k t u e f same = some-injective t u (sym e ∙ (ap (get_elem? shape.trees.items) same ∙ f))
@@ -62,13 +58,9 @@ module _ {words slots : ℕ} {shape : Shape} (shaped : IsShape words slots shape
 -- the levels above a unit of a tree
 pub levels_of : {words slots : ℕ} (b : Board) → IsShape words slots b.shape → (t : Tree) → IsTreeOf b.shape t → (u : ℕ)
     → t.first ≤ u → u < t.first + t.count → t.height ≤ levels_above b u
-levels_of b shaped t is u low high = grind (
-  arith,
-  (shaped.fits t is).least,
-  has_unit-within t u low high,
-  total-map (λ (run : Run). cond (in_run run u) (height run.count) 0) run_of b.shape.trees.items,
-  term_le (λ (x : Tree). cond (has_unit x u) (height x.count) 0) b.shape.trees.items t.number t is,
-)
+levels_of b shaped t is u low high =
+    let a = total-map (λ (run : Run). cond (in_run run u) (height run.count) 0) run_of b.shape.trees.items in
+    grind (arith, term_le (λ (x : Tree). cond (has_unit x u) (height x.count) 0) b.shape.trees.items t.number t is)
 
 -- the highest node of a tree
 module _ {words slots : ℕ} {shape : Shape} (shaped : IsShape words slots shape) (t : Tree) (is : IsTreeOf shape t)
@@ -170,12 +162,7 @@ joined_head t given h = rw h.2 (grind (arith, h.3))
 
 pub joined_else : (t u : Tree) → Apart u t → (given : List GivenUnit) → LastGiveIsIn t given
     → joined_in u (joined_more given) ≡ joined_in u given
-joined_else t u a given h = rw h.2 (grind (
-  arith,
-  has_unit-true t h.0.unit h.3,
-  has_unit-true u h.0.unit,
-  a.units (h.0.unit - u.first) (h.0.unit - t.first),
-))
+joined_else t u a given h = rw h.2 (grind (arith, a.units (h.0.unit - u.first) (h.0.unit - t.first)))
 
 pub head_more : (t : Tree) (given : List GivenUnit) → LastGiveIsIn t given → LastGiveIsIn t (joined_more given)
 head_more t given h = (record h.0 { joined = h.0.joined + 1 }, h.1, ap joined_more h.2, h.3)

@@ -41,16 +41,14 @@ module _ {words_count slots_count : ℕ} {shape : Shape} (shaped : IsShape words
       → Keeps shape record { words = words'; homes = homes'; views = set s.views id w }
   moved_tree words' homes' w now main same_words longer same_homes wider tops told arrivals joins joins_else v_in w_in
       more same claims =
-      let first_two : (k : ℕ) → k < 2 → get_or words' k 0 ≡ get_or s.words k 0
-      = λ k low. same_words k (λ m pos h e. omega arith) in
+      let first_two : (k : ℕ) → k < 2 → get_or words' k 0 ≡ get_or s.words k 0 = λ k low. grind arith in
       let sum = λ (g : View → ℕ). total-set g s.views id v w at in
       record {
         small = kept.small;
         known = set_all (λ (u : View). 0 < u.room → IsKnown shape u) s.views id w kept.known now;
         long = omega (arith, kept.long);
         unused = λ j big free. same_words j (λ m pos h. free t is m pos h) ∙ kept.unused j big free;
-        arrivals = let a = first_two 0 (omega arith) in let b = first_two 1 (omega arith) in
-            omega (arith, kept.arrivals, sum (λ (x : View). x.arrivals));
+        arrivals = grind arith;
         joins = λ u there. dite (ℕ_discrete u.number t.number)
             (λ e. rw (sym (same_tree shape t u is there (sym e)))
             (omega (arith, kept.joins t is, sum (λ (y : View). joined_in t y.given))))

@@ -6,8 +6,7 @@ use Rattle.tor_board.proofs.Names.{GivenUnit, Way, names, Every, IsLeastFailed, 
 use Rattle.tor_board.proofs.Names.{lesser, start, times_failed, below, only, times, total}
 use Rattle.tor_board.proofs.Sums.{cond_le, snoc_all, total_le, below-test, below_more, below-only}
 use Rattle.tor_board.proofs.Rising.{goal_of, lands}
-use Rattle.tor_board.specs.Desks.{first}
-use Rattle.tor_board.specs.Machine.{times_given, IsNext, arrivals_at, is_side, IsLawfulState}
+use Rattle.tor_board.specs.{Desks.first, Machine.IsNext, Machine.arrivals_at, Machine.is_side, Machine.IsLawfulState}
 use Rattle.tor_merkle.specs.Subtree.{height}
 
 -- ---- sides of nodes: which one a side is, and how often a node's arrived
@@ -119,11 +118,6 @@ begins_good units forest = record {
   climbs = snoc_all (λ (d : Desk). ClimbOk forest d.climb) [] first (λ j d e. absurd (some-ne-none d (sym e))) tt;
   real = tt;
 }
-
-pub still_given : (before after : List Desk) → ((u : ℕ) → times_given u before ≤ times_given u after)
-    → (run : Run) (k j x : ℕ) → is_given_side before run k j x → is_given_side after run k j x
-still_given before after more run k j x (inl e) = inl e
-still_given before after more run k j x (inr p) = grind arith
 
 pub least_same : (least : Option ℕ) (before after : List Desk)
     → ((u : ℕ) → times_failed u after ≡ times_failed u before) → IsLeastFailed least before → IsLeastFailed least after

@@ -8,7 +8,7 @@ use Rattle.tor_board.proofs.Names.{looks, meets, rests, seals, sees, side_of, sp
 use Rattle.tor_board.proofs.Names.{top_root, only, times, total}
 use Rattle.tor_board.proofs.{Seats.stopped_parts, Seats.stopped_both, Finding.joined_same}
 use Rattle.tor_board.proofs.Lawful.{side_at, gave, failures, mark, stopped, stopped_le, there, mark_more, mark_past}
-use Rattle.tor_board.proofs.Lawful.{ClimbOk, IsWhole, AllOk, begins_good, still_given, least_same, fewest, Good}
+use Rattle.tor_board.proofs.Lawful.{ClimbOk, IsWhole, AllOk, begins_good, least_same, fewest, Good}
 use Rattle.tor_board.proofs.Sums.{set_all, snoc_all, total-set, total-append, total-without}
 use Rattle.tor_board.specs.Desks.{looking, holding, handed, rested, joining, topped, failing, keeping, fresh, both}
 use Rattle.tor_board.specs.Machine.{times_given}
@@ -29,8 +29,7 @@ module _ (units : ℕ) (forest : List Run) (m : Machine) (good : Good units fore
     bounded = omega (arith, good.bounded);
     rooms = rooms ∙ good.rooms;
     least = least_same m.least m.desks desks fails' good.least;
-    whole = λ n run is k j. still_given m.desks desks gives run k j (times_arrived (side_at n k j) m.arrived)
-        (good.whole n run is k j);
+    whole = λ n run is k j. grind arith;
     arrivals = good.arrivals ∙ sym arrivals;
     climbs = climbs;
     real = good.real;

@@ -1,10 +1,10 @@
 -- Where a climbing seat stands, where it stands after an arrival, and what a give shows.
-use Rattle.tor_board.proofs.Names.{List, Some, [], ap, arith, get_or, inl, inr, refl, subst, suc, sym, ℕ, ◌*◌, ◌++◌}
-use Rattle.tor_board.proofs.Names.{◌+◌, ◌-◌, ◌/◌, ◌<◌, ◌^◌, ◌∙◌, ◌∷◌, ◌≡◌, ◌≤◌, rest, turned, Climb, IsAtTop, Seated}
-use Rattle.tor_board.proofs.Names.{climb_from, climbed, raised, IsSide, Fits, IsShape, IsTreeOf, slot_at, handed, Shape}
-use Rattle.tor_board.proofs.Names.{Tree, View, AtMostOneSpare, IsClimbing, LastGiveIsIn, climb_at, IsLow, None, Option}
-use Rattle.tor_board.proofs.Names.{add-zero, true, ◌≢◌, some, get_elem?, at_map, Run, GivenUnit, in_run, run_of}
-use Rattle.tor_board.proofs.Names.{has_unit, desk_of, Board, joined_view}
+use Rattle.tor_board.proofs.Names.{List, Some, [], ap, arith, get_or, refl, subst, suc, sym, ℕ, ◌*◌, ◌++◌, ◌+◌, ◌-◌}
+use Rattle.tor_board.proofs.Names.{◌/◌, ◌<◌, ◌^◌, ◌∙◌, ◌∷◌, ◌≡◌, ◌≤◌, rest, turned, Climb, IsAtTop, Seated, climb_from}
+use Rattle.tor_board.proofs.Names.{climbed, raised, IsSide, Fits, IsShape, IsTreeOf, slot_at, handed, Shape, Tree, View}
+use Rattle.tor_board.proofs.Names.{AtMostOneSpare, IsClimbing, LastGiveIsIn, climb_at, IsLow, None, Option, add-zero}
+use Rattle.tor_board.proofs.Names.{true, ◌≢◌, some, get_elem?, at_map, Run, GivenUnit, in_run, run_of, has_unit}
+use Rattle.tor_board.proofs.Names.{desk_of, Board, joined_view}
 use Rattle.tor_board.proofs.{Finding.IsBelow, Finding.at_number, Sums.mapped, Trees.node_inside, Trees.side_covers}
 use Rattle.tor_board.proofs.{Trees.has_unit-true, Rising.side_low, Rising.goal_of, Rising.lands, Rising.slot_side}
 use Rattle.tor_board.specs.{Desks.after_give, Desks.told, Seats.IsClimbOf, Seats.forest_of}
@@ -60,10 +60,7 @@ module _ {units words slots : ℕ} {t : Tree} (fits : Fits units words slots t) 
     pub below_of : level < t.height → IsBelow (climb_at t level index hash cl.spare)
     below_of low = record {
       slot = slot_side t some_unit fits.tall level index (λ e. omega arith);
-      inside = elim cl.side [
-        | inl p ↦ let e : index / 2 ≡ p.0 = omega (arith, p.2, p.5) in rw e p.3
-        | inr p ↦ omega (arith, p.1)
-      ];
+      inside = grind arith;
       low = low;
     }
 
@@ -123,17 +120,6 @@ after_rested j v u hash c =
       given = record { unit = u; hash = hash; joined = e i } ∷ v.given;
       arrivals = a i;
     }
-
-after_topped : (j : ℕ) (top : ℕ × List ℕ) (v : View) (u : ℕ) (hash : List ℕ) (c : Option Climb)
-    → desk_of (topped_view j top (handed v u hash c)).0 ≡ after_give (desk_of v) u hash j j (Some top)
-after_topped j top v u hash c = let e : 0 + j ≡ j = omega arith in
-    λ i. record (after_give (desk_of v) u hash j j (Some top)) {
-      given = record { unit = u; hash = hash; joined = e i } ∷ v.given;
-    }
-
-pub after_alone : (v : View) (u : ℕ) (hash : List ℕ)
-    → desk_of (handed v u hash None) ≡ after_give (desk_of v) u hash 0 0 None
-after_alone v u hash = λ i. record (after_give (desk_of v) u hash 0 0 None) { arrivals = sym (add-zero v.arrivals) i }
 
 -- what a climb told of the seat, as one fact
 pub given_after : (b : Board) (t : Tree) → IsTreeOf b.shape t → (top : Option (ℕ × List ℕ)) (j levels : ℕ)

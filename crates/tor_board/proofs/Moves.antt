@@ -1,12 +1,12 @@
 -- Each step on the first two words keeps the rule.
 use Rattle.tor_board.proofs.Names.{List, None, ap, arith, get_or, get_or-set_other, get_or-set_same, length-set, refl}
-use Rattle.tor_board.proofs.Names.{set, subst, sym, ℕ, ◌+◌, ◌/◌, ◌<◌, ◌∙◌, ◌≡◌, ◌≤◌, some, get_elem?, State, ClimbsIn}
+use Rattle.tor_board.proofs.Names.{set, subst, sym, ℕ, ◌+◌, ◌<◌, ◌∙◌, ◌≡◌, ◌≤◌, some, get_elem?, State, ClimbsIn}
 use Rattle.tor_board.proofs.Names.{IsKnown, Keeps, KeepsClaims, has_out, tops_of, IsTreeOf, WasGiven, joined_in}
 use Rattle.tor_board.proofs.Names.{word_of, Shape, Tree, View, Bool, cond, false, inl, inr, min, true, ◌%◌, ◌^◌, ◌∷◌}
 use Rattle.tor_board.proofs.Names.{◌≢◌, ◌⊎◌, dite, none, dec_le, ℕ_discrete, set_again, Allows, step, IsFree, Seated}
 use Rattle.tor_board.proofs.Names.{claimed, gave_told, looked, nobody, failing, failures, handed, named, stopped, below}
 use Rattle.tor_board.proofs.Names.{only, times, total}
-use Rattle.tor_board.proofs.{Trees.by_sides, Finding.words-set, Finding.pairs_same, Finding.not_joined}
+use Rattle.tor_board.proofs.{Trees.by_sides, Finding.words-set}
 use Rattle.tor_board.proofs.Sums.{total-set, set_all, term_le, below-only, below_more, only-same, only-other}
 use Rattle.tor_board.proofs.Sums.{total-without}
 use Rattle.tor_board.proofs.Steps.{weight, gave, seat_rooted, IsAway, unmoved_seat, away_rooted, Does}
@@ -49,10 +49,8 @@ module _ {shape : Shape} {s : State (List ℕ) View} (kept : Keeps shape s) (id 
         known = set_all (λ (u : View). 0 < u.room → IsKnown shape u) s.views id w kept.known (λ some_room.
             let known = kept.known id v at (omega (arith, alike.4)) in
             (alike.3 ∙ known.0, subst (ClimbsIn shape) (sym alike.0) tt));
-        arrivals = let f = words-set s.words i n (omega (arith, kept.long)) in let p = kept.arrivals in
-            omega (arith, sum (λ (x : View). x.arrivals), alike.2);
-        joins = λ t is. let z = kept.joins t is in let o = sum (λ (x : View). joined_in t x.given) in
-            omega (arith, gives.0 t, pairs_same t s.words (set s.words i n) (λ m h. ap (λ (x : ℕ). x / 2) (far t m)));
+        arrivals = grind (arith, words-set s.words i n, kept.arrivals, kept.long, alike.2);
+        joins = λ t is. grind (arith, kept.joins t is, gives.0 t);
         trees = λ t is. let tree = kept.trees t is in
             let w_away : IsAway t w.climb = λ x h. ap (has_out x) alike.0 in
             unmoved_seat tree (set s.words i n) s.homes (λ m h. far t m) (omega (arith, length-set s.words i n))
@@ -146,8 +144,7 @@ hands_alone shape slots id m u hash some_room idle has alone s kept homes at sma
     let n : ℕ = get_or s.words 0 0 in let w : View = handed m.0 u hash None in
     let other = λ (t : Tree) (is : IsTreeOf shape t) (j : ℕ) (h : j < t.count).
     only-other (t.first + j) u (alone t is j h) in
-    let gives : GivesAlone shape m.0 w
-    = ((λ t. omega (arith, not_joined t u)), (λ f. omega arith), λ t is j h. omega (arith, other t is j h)) in
+    let gives : GivesAlone shape m.0 w = grind arith in
     stays shape s id 0 n m (gave_told None u hash (step slots 0 0 0 none) m n) w
     (steady_first kept id m.0 at idle n w (refl, refl, refl, refl, refl) gives
     (steady kept.claims id m.0 at some_room n w (λ f. omega (arith, total-without f u m.0.held has)) refl

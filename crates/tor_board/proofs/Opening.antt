@@ -5,7 +5,7 @@ use Rattle.tor_board.proofs.Names.{◌/◌, ◌<◌, ◌^◌, ◌∙◌, ◌∷�
 use Rattle.tor_board.proofs.Names.{some-ne-none, dec_le, get_elem?, Run, IsKnown, Keeps, KeepsTree, nobody, run_of}
 use Rattle.tor_board.proofs.Names.{Fits, IsShape, IsTreeOf, middle, ready, word_of, first, below, total, Shape, Tree}
 use Rattle.tor_board.proofs.Names.{View, units_in}
-use Rattle.tor_board.proofs.{Finding.words-set, Trees.ready_node, Trees.ready_chain, Trees.side_in}
+use Rattle.tor_board.proofs.Trees.{ready_node, ready_chain}
 use Rattle.tor_board.specs.steps.Row.{trees_from}
 use Rattle.{tor_merkle.specs.Subtree.height, tor_plan.specs.Forest.AreRuns, atomic_table.proofs.Lists.some_there}
 use Rattle.{atomic_table.specs.Table.opening, tor_merkle.proofs.ProvedLaws.height_covers}
@@ -143,9 +143,7 @@ module _ (shape : Shape) (places : ℕ) (is_shape : IsShape (2 + places) (2 * pl
         flow = λ s k j side. sym (ready_zero t k j);
         outs = λ m side two pos h. omega arith;
         out_top = omega arith;
-        home = λ s k j side none_out.
-            let inside = side_in t some_unit s k j side in
-            let q = some_there slots s (omega (arith, inside.1, f.wide)) in (q.0, q.1, λ yes. absurd (omega arith));
+        home = λ s k j side none_out. grind (arith, some_there slots s);
         climb = λ id v c k j e climbs to. cc (ap (λ (x : View). x.climb) (the_first id v e));
         left = λ id v c o y k j e climbs sp to. cc (ap (λ (x : View). x.climb) (the_first id v e));
         tops = refl;
@@ -169,9 +167,7 @@ module _ (shape : Shape) (places : ℕ) (is_shape : IsShape (2 + places) (2 * pl
     });
     trees = start_tree;
     known = λ id v e some_room. subst (IsKnown shape) (the_first id v e) (refl, tt);
-    arrivals = let a = ap (total (λ (x : ℕ). x)) words_are in
-        let b = words-set (zeros (2 + places)) 1 nobody two_words in let d = zero_sum (2 + places) in
-        let g = zero_at (2 + places) 1 in omega (arith, word_zero 0 (λ e. omega arith), word_one);
+    arrivals = grind (arith, zero_sum (2 + places), word_one);
     joins = λ t is. sym (below_none (λ m. get_or words (word_of t (m + 1)) 0 / 2) (t.count - 1)
         (λ m. ap (λ (x : ℕ). x / 2) (word_zero (word_of t (m + 1)) (λ e. omega arith))));
   }

@@ -27,8 +27,7 @@ module _ {words : List ℕ} {homes : List (Opt (List ℕ))} {views : List View} 
       → KeepsTree c.tree words (set homes o (some z)) (set views id (bare v c))
   puts_back o z one inside =
       let has = seat_rooted kept id v at in
-      let roots : ClimbRooted (WasGiven views) c.tree (Some c)
-      = subst (ClimbRooted (WasGiven views) c.tree) in_climb has.0 in
+      let roots : ClimbRooted (WasGiven views) c.tree (Some c) = grind arith in
       let had : (s : ℕ) → (climbs s v ≡ only s c.slot) × (outs s v ≡ only s c.slot + only s o)
       = λ s. let left = ap (total (λ (p : ℕ × List ℕ). only s p.0)) one in
       (ap (climbs_to s) in_climb, omega (arith, ap (has_out s) in_climb)) in
@@ -114,8 +113,7 @@ module _ {words : List ℕ} {homes : List (Opt (List ℕ))} {views : List View} 
   sealed_tree here =
       let top : IsSide c.tree c.slot c.tree.height 0 = inr (here, refl, refl) in
       let has = seat_rooted kept id (bare v c) at in
-      let own : only (slot_of c.tree 0 0) c.slot ≡ 1
-      = ap (only (slot_of c.tree 0 0)) here ∙ only-same (slot_of c.tree 0 0) in
+      let own : only (slot_of c.tree 0 0) c.slot ≡ 1 = grind arith in
       comes_home c.tree.height 0 top words v.arrivals ((c.tree.number, c.hash) ∷ v.tops) (omega arith) (λ m. refl)
       (λ m pos. let a = only-other (slot_of c.tree m 0) c.slot (λ e. omega arith) in
       let b = only-other (slot_of c.tree m 1) c.slot (λ e. omega arith) in omega arith)
@@ -142,8 +140,7 @@ module _ {t : Tree} {words : List ℕ} {homes : List (Opt (List ℕ))} {views : 
       let up = lands t kept.some_unit kept.tall 0 i (omega arith) covers in
       let sum : (g : View → ℕ) → total g vs + g v ≡ total g views + g w = λ g. total-set g views id v w at in
       let unready : ready t words views 0 i ≡ 0 = ap (λ (x : ℕ). times_given x views) unit ∙ ungiven in
-      let full : ready t words vs 0 i ≡ 1 = ap (λ (x : ℕ). times_given x vs) unit
-      ∙ omega (arith, sum (gave u), only-same u) in
+      let full : ready t words vs 0 i ≡ 1 = grind arith in
       let above = rises_ready t words views up.0.0 0 i c.level c.index up.0.1 ∙ unready in
       let h = kept.home c.slot c.level c.index up.1 (empty_home kept c.slot c.level c.index up.1 above) in
       let else_ : (n : ℕ) → i ≢ n → times_given (t.first + n) vs ≡ times_given (t.first + n) views

@@ -2,12 +2,13 @@
 use Rattle.tor_board.proofs.Names.{List, ap, arith, get_or, inl, inr, mul-le-mul_right, refl, suc, sym, zero, ℕ, ◌*◌}
 use Rattle.tor_board.proofs.Names.{◌+◌, ◌<◌, ◌^◌, ◌∙◌, ◌≡◌, ◌≤◌, ◌⊎◌, pow-suc, pow_mono, dite, dec_le, ℕ_discrete}
 use Rattle.tor_board.proofs.Names.{IsSide, IsRoot, middle, ready, slot_of, times_given, word_of, only, Tree, View, Bool}
-use Rattle.tor_board.proofs.Names.{add-zero, cond, eq-eqb, false, le-ltb, lt-ltb, ltb, ne_eqb, subst, true, ◌%◌, ◌-◌}
-use Rattle.tor_board.proofs.Names.{◌/◌, ◌≢◌, node_of, raised, risen, slot_at, IsLow}
+use Rattle.tor_board.proofs.Names.{add-zero, cond, false, le-ltb, lt-ltb, ltb, subst, true, ◌%◌, ◌-◌, ◌/◌, ◌≢◌, node_of}
+use Rattle.tor_board.proofs.Names.{raised, risen, slot_at, IsLow}
 use Rattle.tor_board.proofs.Trees.{ready_node, ready_chain, split_positive, twice}
 use Rattle.tor_board.proofs.Sums.{only-same, only-other}
 use Rattle.tor_board.specs.Rising.{Rises}
-use Rattle.{tor_merkle.specs.Subtree.zero_subtree, std.proofs.Common.add-suc}
+use Rattle.tor_merkle.specs.Subtree.{zero_subtree}
+use Rattle.std.proofs.Common.{add-suc, eq-eqb, ne_eqb}
 
 halved : (i p : ℕ) → (2 * i + 1) * (p * 2) ≡ (2 * i + 1) * p * 2
 halved i p = omega arith
@@ -26,9 +27,8 @@ split_one zero i zero j e = (refl, omega (arith, split_zero i, split_zero j))
 split_one zero i (suc l) j e = grind (arith, split_suc l j, split_zero i, sym (split_zero i) ∙ (e ∙ (split_suc l j)))
 split_one (suc k) i zero j e = let a = split_suc k i in let b = split_zero j in
     let p : 2 * j + 1 ≡ middle k i * 2 = sym b ∙ (sym e ∙ a) in omega arith
-split_one (suc k) i (suc l) j e = grind (arith, sym (split_suc k i) ∙ (e ∙ split_suc l j), middle k i, middle l j,
-    half (middle k i) (middle l j) (sym (split_suc k i) ∙ (e ∙ split_suc l j)),
-    split_one k i l j (half (middle k i) (middle l j) (sym (split_suc k i) ∙ (e ∙ split_suc l j))))
+split_one (suc k) i (suc l) j e =
+    grind (arith, split_one k i l j (half (middle k i) (middle l j) (sym (split_suc k i) ∙ (e ∙ split_suc l j))))
 
 same_part : (o x y a b : ℕ) → a < 2 → b < 2 → 2 * (o + x) + a ≡ 2 * (o + y) + b → x ≡ y
 same_part o x y a b h l e = omega arith

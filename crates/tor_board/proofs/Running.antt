@@ -103,9 +103,9 @@ module _ {shape : Shape} {s : State (List ℕ) View} (kept : Keeps shape s) wher
     word = k.word;
     once = arrived_once k;
     given = arrived_given k;
-    home = λ slot l j side one none. let h = k.home slot l j side none in
-        let e = spot_root s.views all all_weight given_once t l j h.0 (h.2 one) in
-        h.1 ∙ ap (λ (x : List ℕ). some (some x)) e;
+    home = λ slot l j side one none.
+        let h = k.home slot l j side none in
+        grind (arith, spot_root s.views all all_weight given_once t l j h.0 (h.2 one));
     sealed = k.tops;
   }
 

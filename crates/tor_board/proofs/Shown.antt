@@ -1,20 +1,16 @@
 -- What the machine shows of a step of one seat.
-use Rattle.tor_board.proofs.Names.{List, None, Option, Some, ap, arith, get_or, get_or-set_other, get_or-set_same, refl}
-use Rattle.tor_board.proofs.Names.{set, subst, sym, ℕ, ◌*◌, ◌+◌, ◌<◌, ◌∙◌, ◌≡◌, ◌≢◌, ◌≤◌, map-set, some, get_elem?}
-use Rattle.tor_board.proofs.Names.{at_map, State, Climb, Desk, spent_desk, Event, IsStep, Machine, Side, times_arrived}
-use Rattle.tor_board.proofs.Names.{Keeps, climbing, climbs_to, least_of, runs_of, IsTreeOf, IsChange, IsEvent, Shows}
-use Rattle.tor_board.proofs.Names.{middle, ready, slot_of, word_of, desk_of, desks_of, total, Shape, Tree, View, Seated}
-use Rattle.tor_board.proofs.{Steps.climbs, Steps.gave, Sums.total-set, Sums.term_le, Sums.only_le, Sums.read}
+use Rattle.tor_board.proofs.Names.{List, None, Option, ap, arith, get_or, get_or-set_other, get_or-set_same, refl, set}
+use Rattle.tor_board.proofs.Names.{subst, sym, ℕ, ◌*◌, ◌+◌, ◌<◌, ◌∙◌, ◌≡◌, ◌≢◌, ◌≤◌, map-set, some, get_elem?, at_map}
+use Rattle.tor_board.proofs.Names.{State, Climb, Desk, spent_desk, Event, IsStep, Machine, Side, times_arrived, Keeps}
+use Rattle.tor_board.proofs.Names.{climbing, climbs_to, least_of, runs_of, IsTreeOf, IsChange, IsEvent, Shows, middle}
+use Rattle.tor_board.proofs.Names.{ready, slot_of, word_of, desk_of, desks_of, total, Shape, Tree, View, Seated}
+use Rattle.tor_board.proofs.{Steps.climbs, Steps.gave, Sums.total-set, Sums.term_le, Sums.read}
 use Rattle.tor_board.proofs.Trees.{node_flow, node_word, split_positive, ready_more}
 use Rattle.tor_board.specs.Machine.{desk_at}
 use Rattle.std.proofs.Common.{subst₂}
 
 abbrev pub place_of : Tree → ℕ → ℕ → Side
 place_of t k j = record { tree = t.number; level = k; index = j }
-
-climbs_once : (slot : ℕ) (c : Option Climb) → climbs_to slot c ≤ 1
-climbs_once slot None = omega arith
-climbs_once slot (Some c) = only_le slot c.slot
 
 -- a seat that knows v takes a step, between two states that keep the rule, from where the machine stands
 pub record Moment (shape : Shape) (m : Machine) (s s' : State (List ℕ) View) (id : ℕ) (v : View) : Type 0 where
@@ -70,27 +66,23 @@ module _ {shape : Shape} {m : Machine} {s s' : State (List ℕ) View} {id : ℕ}
     no_less : (t : Tree) (is : IsTreeOf shape t) (k i side : ℕ) → side < 2 → middle k i < t.count
         → (now.kept.trees t is).arrived (slot_of t (middle k i) side) + climbs (slot_of t (middle k i) side) v
         ≤ (now.kept'.trees t is).arrived (slot_of t (middle k i) side)
-    no_less t is k i side two near = grind (arith, slot_of t (middle k i) side, now.kept.trees t is,
-        node_flow (now.kept.trees t is) k i side two near, node_flow (now.kept'.trees t is) k i side two near,
-        part (climbs (slot_of t (middle k i) side)), climbs_once (slot_of t (middle k i) side) w.climb,
-        new t is k i side two near, term_le (climbs (slot_of t (middle k i) side)) s.views id v now.at, ready_more, sum,
-        part, gives, new)
+    no_less t is k i side two near = let a = node_flow (now.kept.trees t is) k i side two near in
+        let b = node_flow (now.kept'.trees t is) k i side two near in
+        grind (arith, term_le (climbs (slot_of t (middle k i) side)) s.views id v now.at, ready_more, part)
 
     arrived_now : (t : Tree) (is : IsTreeOf shape t) (k i side : ℕ) → side < 2 → middle k i < t.count
         → (now.kept'.trees t is).arrived (slot_of t (middle k i) side)
         ≡ (now.kept.trees t is).arrived (slot_of t (middle k i) side) + climbs (slot_of t (middle k i) side) v
-    arrived_now t is k i side two near = grind (arith, no_less t is k i 0, no_less t is k i 1,
-        node_word (now.kept.trees t is) k i 0, node_word (now.kept'.trees t is) k i 0,
-        sum t is (middle k i) (split_positive k i) near)
+    arrived_now t is k i side two near = let a = no_less t is k i 0 in let b = no_less t is k i 1 in
+        let d = node_word (now.kept.trees t is) k i 0 in
+        grind (arith, node_word (now.kept'.trees t is) k i 0, sum t is (middle k i) (split_positive k i) near)
 
     pub moved : (arrived : List Side)
         → ((t : Tree) → IsTreeOf shape t → (k i side : ℕ) → side < 2 → middle k i < t.count
         → times_arrived (place_of t k (2 * i + side)) arrived
         ≡ times_arrived (place_of t k (2 * i + side)) m.arrived + climbs (slot_of t (middle k i) side) v)
         → Sides arrived
-    moved arrived times t is k i side two near = grind (arith, node_flow (now.kept.trees t is) k i side two near,
-        node_flow (now.kept'.trees t is) k i side two near, now.shows.sides t is k i side two near,
-        (now.shows.sides t is k i side two near), times t is k i side two near, arrived_now t is k i side two near)
+    moved arrived times t is k i side two near = grind (arith, arrived_now t is k i side two near)
 
   -- of a step on the first word, or the second: no word but that one changes
   module _ (i n : ℕ) (low : i < 2) (w : View) (change : IsChange s i n id w s') where

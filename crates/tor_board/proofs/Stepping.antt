@@ -12,7 +12,7 @@ use Rattle.tor_board.proofs.{Claims.few_claims, Claims.named_below, Seats.split_
 use Rattle.tor_board.proofs.{Steps.gave, Sums.total-append, Sums.within, Sums.read, Running.tree_at, Running.some_least}
 use Rattle.tor_board.proofs.{Running.no_least, Climbs.arrives_so, Climbs.hands_tree, Climbs.seals_so}
 use Rattle.tor_board.proofs.Shown.{Sides, Moment, as_seat, quiet, on_first, on_second, as_told, shown}
-use Rattle.tor_board.proofs.Trees.{ready_same, side_of, side_covers, node_flow, node_word}
+use Rattle.tor_board.proofs.Trees.{ready_same, side_of, side_covers, node_word}
 use Rattle.tor_board.specs.{Views.finished, Views.holding, Views.looking, Machine.IsStart, Plays.failed}
 use Rattle.tor_board.specs.Stepping.{IsBoardStep, IsHistory, IsRunOf, opened, stepped}
 use Rattle.std.proofs.lemmas.List.{map-append}
@@ -156,10 +156,7 @@ begins_so shape s kept none_claimed none_failed zeros views = record {
   claims = sym none_claimed;
   least = sym (no_least (get_or s.words 1 0) (omega arith));
   desks = ap desks_of (sym views);
-  sides = λ t is k i side two near.
-      let still : climbing (slot_of t (middle k i) side) s.views ≡ 0 = rw views refl in
-      let z = zeros (word_of t (middle k i)) (omega arith) in let tree = kept.trees t is in
-      omega (arith, node_word tree k i side two near, node_flow tree k i side two near);
+  sides = λ t is k i side two near. grind (arith, node_word (kept.trees t is) k i side two near);
 }
 
 -- what happened to a board keeps the rule, and is a legal run

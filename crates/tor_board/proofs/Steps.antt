@@ -108,16 +108,12 @@ keeps_step {t = t} {views = views} {views' = views'} {less = less} {more = more}
       once = step.once;
       word = λ m pos h. omega (arith, kept.word m pos h, step.word m pos h);
       flow = λ s k j is. omega (arith, kept.flow s k j is, step.flow s k j is, step.sum (climbs s));
-      outs = λ m side two pos h. let s : ℕ = slot_of t m side in
-          let a = kept.outs m side two pos h in let b = step.sides_out m side two pos h in
-          omega (arith, step.sum (climbs s), step.sum (outs s));
-      out_top = let s : ℕ = slot_of t 0 0 in
-          omega (arith, kept.out_top, step.out_top, step.sum (climbs s), step.sum (outs s));
+      outs = λ m side two pos h. grind (arith, step.sides_out m side two pos h);
+      out_top = grind arith;
       home = λ s k j is none. let h = step.home s k j is none in
           (h.0, h.1, λ yes. root_more t (WasGiven views) (WasGiven views') stand k j h.0 (h.2 yes));
       climb = λ id v c k j e is to. (subst (ClimbRooted (WasGiven views') t) is (step.seats stand id v e).0).0 k j to;
-      left = λ id v c o x k j e is one to. subst (SpareRooted (WasGiven views') t) one
-          (subst (ClimbRooted (WasGiven views') t) is (step.seats stand id v e).0).1 k j to;
+      left = λ id v c o x k j e is one to. grind arith;
       tops = omega (arith, kept.tops, step.tops, step.sum (tops_at t));
       told = λ id v e. (step.seats stand id v e).1;
     }

@@ -1,9 +1,9 @@
 -- Facts on trees that any step uses.
 use Rattle.tor_board.proofs.Names.{List, Some, [], ap, arith, get_or, inl, inr, mul-le-mul_right, refl, suc, sym, true}
 use Rattle.tor_board.proofs.Names.{zero, ℕ, ◌*◌, ◌++◌, ◌+◌, ◌-◌, ◌/◌, ◌<◌, ◌^◌, ◌∙◌, ◌∷◌, ◌≡◌, ◌≤◌, pow-suc, dite, Opt}
-use Rattle.tor_board.proofs.Names.{some, dec_le, get_elem?, Climb, IsSide, KeepsTree, TopsAre, climbing, climbs_to, out}
-use Rattle.tor_board.proofs.Names.{IsRoot, has_unit, middle, ready, slot_of, times_given, word_of, Tree, View, IsIn}
-use Rattle.tor_board.proofs.Sums.{only-same, term_le}
+use Rattle.tor_board.proofs.Names.{some, dec_le, get_elem?, Climb, IsSide, KeepsTree, TopsAre, climbing, out, IsRoot}
+use Rattle.tor_board.proofs.Names.{has_unit, middle, ready, slot_of, times_given, word_of, Tree, View, IsIn}
+use Rattle.tor_board.proofs.Sums.{term_le}
 use Rattle.std.proofs.lemmas.Nat.{pow_pos}
 
 pub by_sides : (P : ℕ → Type 0) → P 0 → P 1 → (side : ℕ) → side < 2 → P side
@@ -89,8 +89,7 @@ module _ {t : Tree} {words : List ℕ} {homes : List (Opt (List ℕ))} {views : 
   pub node_ready : (k i : ℕ) → middle k i < t.count → climbing (slot_of t (middle k i) 0) views
       + climbing (slot_of t (middle k i) 1) views + get_or words (word_of t (middle k i)) 0
       ≡ ready t words views k (2 * i) + ready t words views k (2 * i + 1)
-  node_ready k i near = grind (arith, node_flow k i 0, node_flow k i 1, ap (ready t words views k) (zero_more (2 * i)),
-      kept.word (middle k i) (split_positive k i) near)
+  node_ready k i near = grind (arith, kept.word (middle k i) (split_positive k i) near)
 
   -- nothing is ready twice
   pub ready_once : (k i : ℕ) → i * 2 ^ k < t.count → ready t words views k i ≤ 1
@@ -119,13 +118,12 @@ module _ {t : Tree} {words : List ℕ} {homes : List (Opt (List ℕ))} {views : 
   pub alone_there : (id : ℕ) (v : View) (c : Climb) → get_elem? views id ≡ some v → v.climb ≡ Some c
       → (k j : ℕ) → IsSide t c.slot k j
       → (climbing c.slot views ≡ 1) × (ready t words views k j ≡ 1) × (kept.arrived c.slot ≡ 0)
-  alone_there id v c at in_climb k j is = grind (arith, kept.flow c.slot k j is, side_once c.slot k j is,
-      ap (climbs_to c.slot) in_climb ∙ only-same c.slot, term_le)
+  alone_there id v c at in_climb k j is = grind (arith, kept.flow c.slot k j is, side_once c.slot k j is, term_le)
 
   -- a slot to which nothing has come is at home
   pub empty_home : (slot k j : ℕ) → IsSide t slot k j → ready t words views k j ≡ 0 → out slot views ≡ 0
-  empty_home slot k j (inl p) none = grind (arith, kept.outs (middle k p.0) p.1 p.2 (split_positive k p.0) p.3,
-      node_flow k p.0 p.1 p.2 p.3, node_word k p.0 p.1 p.2 p.3, node_once k p.0 (1 - p.1), p.2)
+  empty_home slot k j (inl p) none = let a = kept.outs (middle k p.0) p.1 p.2 (split_positive k p.0) p.3 in
+      grind (arith, node_word k p.0 p.1 p.2 p.3, node_once k p.0 (1 - p.1))
   empty_home slot k j (inr p) none = grind (arith, kept.flow slot k j (inr p), kept.out_top)
 
 -- what was told stays so

@@ -1,17 +1,14 @@
 use Rattle.tor_board.proofs.Names.{[], ap, arith, refl, ◌-◌, ◌∙◌, ◌∷◌, rest, Seated, climb_from, Some, inl, handed}
-use Rattle.tor_board.proofs.{Meets.lands_at, Meets.climbs_on, Meets.at_slot, Trees.has_unit-within}
+use Rattle.tor_board.proofs.{Meets.lands_at, Meets.climbs_on, Trees.has_unit-within}
 use Rattle.tor_board.proofs.climb.begin.Goals as goal
 
 pub slot_at-requires-clause-within : goal.slot_at-requires-clause-within
 slot_at-requires-clause-within c =
-    let t = c.requires.tree in
-    let p = lands_at (c.requires.shape.fits c.args.tree.now t.0) 0 (c.args.unit - c.args.tree.now.first) (omega arith)
-    (omega (arith, t.1, t.2)) _ _ c.risen-spot.ensures.level c.risen-spot.ensures.index in (p.1, p.2)
+    let fits = c.requires.shape.fits c.args.tree.now c.requires.tree.0 in
+    grind (arith, lands_at fits 0 (c.args.unit - c.args.tree.now.first))
 
 pub exchange-requires : goal.exchange-requires
-exchange-requires c =
-    let h = c.hand_in.ensures in let spot = c.risen-spot.ensures in let place = c.slot_at.ensures in
-    (h.table ∙ c.requires.table, (h.given.0, at_slot h.given.1 (rw (place, spot.level, spot.index) refl)))
+exchange-requires c = grind arith
 
 pub returns : goal.returns
 returns c =

@@ -65,13 +65,10 @@ slots-preserved c =
           let same : u ≡ t = some-injective u t (sym there.0 ∙ there2.0) in
           let here : slot_of u 0 0 ≡ slot = sym w.side_slot.ensures ∙ w.if-side_slot-slot.true in
           let words_are = o.3 ∙ i.words in
-          let index : w.word.result ≡ word_of t (middle (t.height - 1) 0)
-          = w.word.ensures ∙ ap (word_of t) w.middle.ensures in
+          let index : w.word.result ≡ word_of t (middle (t.height - 1) 0) = grind arith in
           let found : get_elem? ws (word_of t (middle (t.height - 1) 0)) ≡ some w.word-then-side_slot-slot.result
           = (λ j. get_elem? (slots_items (sym words_are j)) (sym index j)) ∙ w.word-then-side_slot-slot.ensures in
-          let value : get_elem? xs (slot_of t 0 0) ≡ some c.take-hash.result
-          = (λ j. get_elem? (sym i.items j) ((ap (λ (x : Tree). slot_of x 0 0) (sym same) ∙ here) j))
-          ∙ c.take-hash.ensures.value in
+          let value : get_elem? xs (slot_of t 0 0) ≡ some c.take-hash.result = grind arith in
           let last : c.if-next-len.next ≡ next + 1 = w.next-is in
           let later = later_match c.requires.shape slot next i.later u there.0 here in
           let roots = c.slots.roots.items in
@@ -102,8 +99,7 @@ slots-preserved c =
             count = rw (put.1, length-set roots next put.0) i.count;
           }
       | else-next-len w ↦
-          let roots_are : c.if-next-len.roots.items ≡ c.slots.roots.items
-          = ap (λ (v : Vec (Option (List ℕ)) Global). v.items) w.roots-is in
+          let roots_are : c.if-next-len.roots.items ≡ c.slots.roots.items = grind arith in
           let last : c.if-next-len.next ≡ next = w.next-is in
           let later : (k : ℕ) (x : Tree) → get_elem? trees k ≡ some x → next ≤ k → slot + 1 ≤ 2 * x.offset
           = elim w.else-next-len.branch [

@@ -1,4 +1,4 @@
-use Rattle.tor_board.proofs.Names.{List, [], ap, arith, drop, get_or, sym, ℕ, ◌++◌, ◌+◌, ◌∙◌, ◌∷◌, ◌≡◌, Run, Tree}
+use Rattle.tor_board.proofs.Names.{List, [], ap, arith, drop, get_or, sym, ◌++◌, ◌+◌, ◌∙◌, ◌∷◌, ◌≡◌, Run, Tree}
 use Rattle.tor_board.proofs.Names.{units_in}
 use Rattle.tor_board.proofs.Opening.{next_run, no_run, laid, tree_there, no_tree, low_count}
 use Rattle.tor_board.specs.steps.Row.{trees_from}
@@ -24,8 +24,7 @@ runs-preserved c =
     let run : Run = get_or runs k no_run in let rest = drop (k + 1) runs in
     let r = next_run c.args.units i.rest.0 runs k c.runs-test.true i.rest.3 in
     let tree : Tree = laid n o run (height run.count) in
-    let pushed : c.push.new.self.items ≡ before ++ tree ∷ [] = c.in_ok-push.ensures.items
-    ∙ ap (λ (h : ℕ). before ++ laid n o run h ∷ []) c.height_of.ensures in
+    let pushed : c.push.new.self.items ≡ before ++ tree ∷ [] = grind arith in
     record {
       trees = let joined = append_assoc before (tree ∷ []) (trees_from (n + 1) (o + run.count) rest) in
           rw (pushed, joined, sym (tree_there n o run rest), sym r.0) i.trees;

@@ -1,5 +1,5 @@
-use Rattle.tor_board.proofs.Names.{ap, arith, subst, ◌∙◌, Seated, IsTreeOf, desk_of, Shape}
-use Rattle.tor_board.proofs.{Finding.levels_of, Meets.after_alone, Meets.given_after, Meets.in_no_run}
+use Rattle.tor_board.proofs.Names.{arith, subst, IsTreeOf, Shape}
+use Rattle.tor_board.proofs.{Finding.levels_of, Meets.given_after, Meets.in_no_run}
 use Rattle.tor_board.proofs.board.Board.give.Goals as goal
 
 pub hand_alone-requires-clause-alone : goal.hand_alone-requires-clause-alone
@@ -17,8 +17,4 @@ returns-clause-given c =
 
 pub returns-in_default-clause-given : goal.returns-in_default-clause-given
 returns-in_default-clause-given c =
-    let board = c.args.self.now in
-    let shown = ap (λ (m : Seated). desk_of m.0) c.hand_alone.ensures.given
-    ∙ after_alone c.args.seat.now.inner.me.0 c.args.job.number c.args.hash in
-    let none = in_no_run board board.shaped c.args.job.number c.in_default.ensures.none in
-    (0, shown, omega arith, (omega arith, λ n run there inside. absurd (none n run there inside)))
+    grind (arith, in_no_run (c.args.self.now) (c.args.self.now).shaped c.args.job.number c.in_default.ensures.none)

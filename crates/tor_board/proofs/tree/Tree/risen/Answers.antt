@@ -1,5 +1,4 @@
-use Rattle.tor_board.proofs.Names.{ap, arith, false, le-ltb, lt-ltb, sym, true, ℕ, ◌+◌, ◌-◌, ◌/◌, ◌<◌, ◌∙◌, ◌≤◌}
-use Rattle.tor_board.proofs.Names.{node_of, raised, middle}
+use Rattle.tor_board.proofs.Names.{ap, arith, false, le-ltb, lt-ltb, sym, true, ℕ, ◌+◌, ◌-◌, ◌/◌, ◌<◌, ◌∙◌, ◌≤◌, middle}
 use Rattle.tor_board.proofs.Rising.{split_fits, up_covers, fork}
 use Rattle.tor_board.proofs.tree.Tree.risen.Goals as goal
 
@@ -17,8 +16,7 @@ levels-preserved c =
       within = up_covers t s.level s.index i.within past;
       level = ap (λ (p : ℕ × ℕ). p.0) (sym step.0) ∙ i.level;
       index = ap (λ (p : ℕ × ℕ). p.1) (sym step.0) ∙ i.index;
-      hash = ap (raised t (t.height - (s.level + 1)) (s.level + 1) (s.index / 2)) (c.pair.ensures
-          ∙ ap (node_of s.hash) c.zero.ensures) ∙ sym (step.1 s.hash) ∙ i.hash;
+      hash = grind arith;
     }
 
 pub returns-else-middle-self : goal.returns-else-middle-self
