@@ -150,8 +150,7 @@ module _ {words : List ℕ} {homes : List (Opt (List ℕ))} {views : List View} 
               let a : get_or words' (word_of t m) 0 ≡ 2 = rw e (omega arith) in
               let b : get_or words (word_of t m) 0 ≡ 1 = rw e one in
               omega (arith, only_le (slot_of t m side) other))
-              (λ ne. let l = word_else c below words long (word_of t m) (λ e. ne (omega arith)) in
-              omega (arith, only-other (slot_of t m side) other (λ e. ne (omega arith))));
+              (λ ne. grind (arith, word_else, only-other));
           out_top = grind (arith, split_positive c.level (c.index / 2));
           home = λ s k j is none_out.
               let mine = term_le (outs s) views id (bare v c) at in let all = sum (outs s) in

@@ -95,5 +95,4 @@ module _ {units claims least : ℕ} {views : List View} (k : KeepsClaims units c
         | inl y ↦ elim (k.why id v at y) [ inl h ↦ omega arith | inr h ↦ h ]
         | inr n ↦ absurd (n (none_failed k id v at small none))
       ] in end (omega (arith, none_is none)) (omega (arith, none_is none)))
-      (λ ne. let has = least_failed ne in let low = named_below k id v at least (omega (arith, has.0)) in
-      end (omega (arith, some_is ne)) (omega (arith, some_is ne)))
+      (λ ne. grind (arith, least_failed ne, named_below k id v at least, (least_failed ne).0, some_is ne))

@@ -9,10 +9,10 @@ use Rattle.tor_board.proofs.Names.{IsChange, IsEvent, has_unit, middle, ready, s
 use Rattle.tor_board.proofs.Names.{desk_of, handed, joining, rested, topped, only, Shape, Tree, View}
 use Rattle.tor_board.proofs.{Arriving.found_other, Arriving.found_few, Going.held_ungiven, Running.ready_given}
 use Rattle.tor_board.proofs.{Running.top_is, Steps.climbs, Steps.gave, Sums.only-same, Sums.only-other}
-use Rattle.tor_board.proofs.Finding.{apart, same_tree, some_height, top_node, IsBelow, word_above, own_side, counted}
+use Rattle.tor_board.proofs.Finding.{same_tree, some_height, top_node, IsBelow, word_above, own_side, counted}
 use Rattle.tor_board.proofs.Finding.{joined_same, word_else}
-use Rattle.tor_board.proofs.Trees.{has_unit-true, alone_there, ready_node, side_of, side_in, node_inside, node_flow}
-use Rattle.tor_board.proofs.Trees.{node_word, node_once}
+use Rattle.tor_board.proofs.Trees.{has_unit-true, alone_there, ready_node, side_of, node_inside, node_flow, node_word}
+use Rattle.tor_board.proofs.Trees.{node_once}
 use Rattle.tor_board.proofs.Lawful.{other_side, same_side, next_of}
 use Rattle.tor_board.proofs.Rising.{goal_of, lands, rises_ready, side_low, place_one, side_one}
 use Rattle.tor_board.proofs.Shown.{Moment, New, place_of, event, moved, unarrived, on_first, as_told}
@@ -28,8 +28,7 @@ module _ {shape : Shape} {m : Machine} {s s' : State (List ℕ) View} {id : ℕ}
   same_spot t u is is' slot k j l n a b = dite (ℕ_discrete t.number u.number)
       (λ e. let same = same_tree shape t u is is' e in
       let q = side_one t slot k j l n a (subst (λ (x : Tree). IsSide x slot l n) (sym same) b) in (same, q.0, q.1))
-      (λ ne. absurd ((apart shaped t u is is' ne).slots slot (side_in t (now.kept.trees t is).some_unit slot k j a)
-      (side_in u (now.kept.trees u is').some_unit slot l n b)))
+      (λ ne. grind arith)
 
   -- nothing has come yet to where a spot rises that is not ready
   not_ready : (t : Tree) → IsTreeOf shape t → (l j : ℕ) (hash : List ℕ) (spare : List (ℕ × List ℕ)) → l ≤ t.height
@@ -195,10 +194,8 @@ module _ {shape : Shape} {m : Machine} {s s' : State (List ℕ) View} {id : ℕ}
       let none : (u : Tree) → IsTreeOf shape u → (n side : ℕ) → side < 2 → 0 < n → n < u.count
       → climbs (slot_of u n side) v ≡ 0 = λ u is' n side two pos h. ap (climbs_to (slot_of u n side)) in_climb
       ∙ only-other (slot_of u n side) c.slot (λ e. dite (ℕ_discrete c.tree.number u.number)
-      (λ same. let offs = ap (λ (r : Tree). r.offset) (same_tree shape c.tree u is is' same) in
-      omega (arith, high.2))
-      (λ ne. absurd ((apart shaped c.tree u is is' ne).slots c.slot
-      (side_in c.tree tree.some_unit c.slot c.tree.height 0 top) (omega arith, omega arith)))) in
+      (λ same. grind arith)
+      (λ ne. grind arith)) in
       let alone = alone_there tree id v c now.at in_climb c.tree.height 0 top in
       let tall : c.tree.height ≡ suc (c.tree.height - 1) = omega (arith, some_height shaped c.tree is) in
       let full : ready c.tree s.words s.views (suc (c.tree.height - 1)) 0 ≡ 1 = grind arith in

@@ -2,10 +2,10 @@
 use Rattle.tor_board.proofs.Names.{List, [], ap, arith, cond, get_or, length, refl, suc, sym, zero, ℕ, ◌*◌, ◌+◌, ◌<◌}
 use Rattle.tor_board.proofs.Names.{◌==◌, ◌^◌, ◌∙◌, ◌∷◌, ◌≡◌, ◌≤◌, dite, dec_le, ℕ_discrete, node_of, GivenUnit, IsRoot}
 use Rattle.tor_board.proofs.Names.{WasGiven, only, total, Tree, View, None, Option, Some, inr, min, subst, ◌%◌, ◌-◌}
-use Rattle.tor_board.proofs.Names.{◌/◌, Opt, some, some-injective, get_elem?, State, units_of, IsLeft, IsTreeEnd}
-use Rattle.tor_board.proofs.Names.{IsSide, Keeps, KeepsTree, climbing, climbs_to, has_out, out, tops_of, run_of}
-use Rattle.tor_board.proofs.Names.{IsShape, IsTreeOf, joined_in, middle, ready, slot_of, times_given, word_of, named}
-use Rattle.tor_board.proofs.Names.{spent, below, times, Shape, inl}
+use Rattle.tor_board.proofs.Names.{◌/◌, Opt, some, get_elem?, State, units_of, IsLeft, IsTreeEnd, IsSide, Keeps}
+use Rattle.tor_board.proofs.Names.{KeepsTree, climbing, climbs_to, has_out, out, tops_of, run_of, IsShape, IsTreeOf}
+use Rattle.tor_board.proofs.Names.{joined_in, middle, ready, slot_of, times_given, word_of, named, spent, below, times}
+use Rattle.tor_board.proofs.Names.{Shape, inl}
 use Rattle.tor_board.proofs.{Steps.weight, Steps.gave, Steps.tops_at, Finding.below_same, Finding.some_height}
 use Rattle.tor_board.proofs.{Finding.top_node, Claims.only_one, Rising.split_suc, Rising.split_zero}
 use Rattle.tor_board.proofs.Sums.{only-same, below-only, total-map, read}
@@ -211,9 +211,7 @@ module _ {words_count slots_count : ℕ} {shape : Shape} (shaped : IsShape words
       let n : ℕ = left.0 in let i : ℕ = word_of t (middle (t.height - 1) 0) in
       let word : get_or s.words i 0 ≡ n = ap (λ (l : List ℕ). get_or l i 0) same ∙ read ws i n 0 left.1 in
       elim left.2 [
-        | inl r ↦ let e = end_some t is (omega (arith, r.0)) in
-            let x_is : e.0 ≡ r.1.0 = some-injective e.0 r.1.0 (sym (homes (slot_of t 0 0) e.0 e.1) ∙ r.1.1) in
-            subst (IsTreeEnd v.given v.tops t.number (run_of t)) (sym (r.1.2 ∙ ap Some (sym x_is))) e.2
+        | inl r ↦ grind (arith, end_some t is, r.0)
         | inr r ↦
             subst (IsTreeEnd v.given v.tops t.number (run_of t)) (sym r.1) (end_none t is (omega (arith, r.0)))
       ]

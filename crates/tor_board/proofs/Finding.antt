@@ -128,8 +128,7 @@ below_same f g (suc n) same = omega (arith, below_same f g n (λ m h. same m (om
 below_once : (f g : ℕ → ℕ) (k n : ℕ) → k < n → f k ≡ g k + 1 → ((m : ℕ) → m ≢ k → f m ≡ g m) → below f n ≡ below g n + 1
 below_once f g k zero h here else_ = omega arith
 below_once f g k (suc n) h here else_ = dite (ℕ_discrete k n)
-    (λ e. let same = below_same f g n (λ m lt. else_ m (λ is. omega arith)) in
-    let top : f n ≡ g n + 1 = rw (sym e) here in omega arith)
+    (λ e. grind (arith, below_same))
     (λ ne. omega (arith, below_once f g k n (omega arith) here else_, else_ n (λ is. ne (sym is))))
 
 pub pairs_same : (t : Tree) (words words' : List ℕ)

@@ -50,8 +50,7 @@ module _ {words_count slots_count : ℕ} {shape : Shape} (shaped : IsShape words
         unused = λ j big free. same_words j (λ m pos h. free t is m pos h) ∙ kept.unused j big free;
         arrivals = grind arith;
         joins = λ u there. dite (ℕ_discrete u.number t.number)
-            (λ e. rw (sym (same_tree shape t u is there (sym e)))
-            (omega (arith, kept.joins t is, sum (λ (y : View). joined_in t y.given))))
+            (λ e. grind arith)
             (λ ne. let a = apart shaped u t there is ne in
             let same_pairs = pairs_same u s.words words'
             (λ m h. ap (λ (x : ℕ). x / 2) (same_words (word_of u m) (λ n pos k. a.words m n h k))) in

@@ -7,8 +7,7 @@ use Rattle.tor_board.proofs.Names.{◌≢◌, ◌⊎◌, dite, none, dec_le, ℕ
 use Rattle.tor_board.proofs.Names.{claimed, gave_told, looked, nobody, failing, failures, handed, named, stopped, below}
 use Rattle.tor_board.proofs.Names.{only, times, total}
 use Rattle.tor_board.proofs.{Trees.by_sides, Finding.words-set}
-use Rattle.tor_board.proofs.Sums.{total-set, set_all, term_le, below-only, below_more, only-same, only-other}
-use Rattle.tor_board.proofs.Sums.{total-without}
+use Rattle.tor_board.proofs.Sums.{total-set, set_all, term_le, below-only, below_more, only-other, total-without}
 use Rattle.tor_board.proofs.Steps.{weight, gave, seat_rooted, IsAway, unmoved_seat, away_rooted, Does}
 use Rattle.tor_board.proofs.Claims.{changed, steady, none_failed, few_claims, stopped_le}
 use Rattle.tor_board.specs.Plays.{failed, merged}
@@ -130,8 +129,7 @@ claims shape slots id m some_room idle not_done saw of s kept homes at small =
     let unnamed : named (only n) m.0 ≡ 0 = let z = (below-only n (min n units)).1 (omega arith) in
     omega (arith, term_le (named (only n)) s.views id m.0 at, k.once (only n)) in
     change (n ∷ m.0.held) m.0.done
-    (λ f. let e : min n units ≡ n = omega arith in let e' : min (n + 1) units ≡ n + 1 = omega arith in
-    rw (e, e') (omega (arith, below_more f n)))
+    (λ f. grind (arith, below_more f n))
     (λ t t' h e. omega arith) (λ e. inl e)
     ((λ h. (refl, unnamed)), (λ h. absurd (omega arith)), refl, free, not_done, saw))
 
@@ -164,9 +162,7 @@ fails shape slots id m u some_room idle has s kept homes at small =
     (changed k id m.0 at some_room c w (λ f. omega (arith, total-without f u m.0.held has)) refl
     (λ t t' h e. omega arith) (min least u)
     (λ x h. omega (arith, grown x, k.spared x (omega arith), only-other x u (λ e. omega arith)))
-    (λ h. dite (dec_le least u)
-    (λ le. let e : min least u ≡ least = omega arith in rw e (omega (arith, grown least, k.attained (omega arith))))
-    (λ gt. let e : min least u ≡ u = omega arith in rw e (omega (arith, grown u, only-same u))))
+    (λ h. grind arith)
     (omega arith) (omega arith) (λ e. inl e)))
     (refl, refl, (some_room, idle), has)
 

@@ -115,8 +115,7 @@ module _ {words : List ℕ} {homes : List (Opt (List ℕ))} {views : List View} 
       let has = seat_rooted kept id (bare v c) at in
       let own : only (slot_of c.tree 0 0) c.slot ≡ 1 = grind arith in
       comes_home c.tree.height 0 top words v.arrivals ((c.tree.number, c.hash) ∷ v.tops) (omega arith) (λ m. refl)
-      (λ m pos. let a = only-other (slot_of c.tree m 0) c.slot (λ e. omega arith) in
-      let b = only-other (slot_of c.tree m 1) c.slot (λ e. omega arith) in omega arith)
+      (λ m pos. grind arith)
       (omega (arith, only-same c.tree.number)) ((λ e. has.0.0 c.tree.height 0 top), has.1)
 
 -- ---- a unit is handed in

@@ -2,10 +2,9 @@
 use Rattle.tor_board.proofs.Names.{List, ap, arith, get_or, inl, inr, mul-le-mul_right, refl, suc, sym, zero, ℕ, ◌*◌}
 use Rattle.tor_board.proofs.Names.{◌+◌, ◌<◌, ◌^◌, ◌∙◌, ◌≡◌, ◌≤◌, ◌⊎◌, pow-suc, pow_mono, dite, dec_le, ℕ_discrete}
 use Rattle.tor_board.proofs.Names.{IsSide, IsRoot, middle, ready, slot_of, times_given, word_of, only, Tree, View, Bool}
-use Rattle.tor_board.proofs.Names.{add-zero, cond, false, le-ltb, lt-ltb, ltb, subst, true, ◌%◌, ◌-◌, ◌/◌, ◌≢◌, node_of}
-use Rattle.tor_board.proofs.Names.{raised, risen, slot_at, IsLow}
-use Rattle.tor_board.proofs.Trees.{ready_node, ready_chain, split_positive, twice}
-use Rattle.tor_board.proofs.Sums.{only-same, only-other}
+use Rattle.tor_board.proofs.Names.{add-zero, cond, false, le-ltb, ltb, subst, ◌%◌, ◌-◌, ◌/◌, ◌≢◌, node_of, raised}
+use Rattle.tor_board.proofs.Names.{risen, slot_at, IsLow}
+use Rattle.tor_board.proofs.{Trees.ready_chain, Trees.split_positive, Trees.twice, Sums.only-same, Sums.only-other}
 use Rattle.tor_board.specs.Rising.{Rises}
 use Rattle.tor_merkle.specs.Subtree.{zero_subtree}
 use Rattle.std.proofs.Common.{add-suc, eq-eqb, ne_eqb}
@@ -112,10 +111,7 @@ ready_from t words words' views views' l i given same (suc k) j = dite (dec_le t
       | inl e ↦ inl (ready_chain t words' views' k j le ∙ (e ∙ sym (ready_chain t words views k j le)))
       | inr r ↦ inr (suc r.0, rises_more t r.0 l i k j r.1 le)
     ])
-    (λ gt. let in_ : middle k j < t.count = omega arith in elim (same k j in_) [
-      | inl e ↦ inl (omega (arith, ready_node t words' views' k j in_, ready_node t words views k j in_))
-      | inr r ↦ inr (0, r)
-    ])
+    (λ gt. grind arith)
 
 -- of the sides, only that one to which it rises is readied with it
 pub ready_grown : (t : Tree) → t.count ≤ 2 ^ t.height → (words words' : List ℕ) (views views' : List View)
@@ -200,15 +196,7 @@ module _ (t : Tree) (some_unit : 0 < t.count) (tall : t.count ≤ 2 ^ t.height) 
         λ G hash is. let left = subst (λ (x : ℕ). IsRoot G t l x hash) even is in rw (on.1 hash)
             (r.3 G (node_of hash z) (hash, z, left, past_root G t l (2 * (i / 2) + 1) le, refl)),
       ))
-      (λ gt. let in_ : middle l (i / 2) < t.count = omega arith in
-      let slot = slot_side l i (λ e. omega arith) in
-      let end = fork t (suc d) d l (suc l) i true refl refl (lt-ltb (middle l (i / 2)) t.count in_) in
-      subst (Lands t (suc d) l i) (sym end.0) (
-        (0, (refl, refl)),
-        inl (i / 2, i % 2, omega arith, in_, slot, omega arith),
-        omega arith,
-        λ G hash is. rw (end.1 hash) is,
-      ))
+      (λ gt. grind arith)
 
   pub lands : (l i : ℕ) → l ≤ t.height → i * 2 ^ l < t.count → Lands t (t.height - l) l i (goal_of t l i)
   lands l i low covers = risen_lands (t.height - l) l i (omega arith) covers

@@ -58,11 +58,8 @@ module _ {shape : Shape} {m : Machine} {s s' : State (List ℕ) View} {id : ℕ}
       let near = named_below now.kept.claims id v now.at u (omega (arith, told.3)) in
       let small : u < nobody = omega (arith, near.1, now.kept.small) in
       let least : Some (lesser m.least u) ≡ least_of (min n u) = dite (ℕ_discrete n nobody)
-      (λ e. let low : min n u ≡ u = omega arith in
-      ap (λ o. Some (lesser o u)) (now.shows.least ∙ no_least n (omega arith))
-      ∙ (sym (some_least u small) ∙ ap least_of (sym low)))
-      (λ ne. ap (λ o. Some (lesser o u)) (now.shows.least ∙ some_least n (omega (arith, now.kept.claims.most)))
-      ∙ sym (some_least (min n u) (omega arith))) in
+      (λ e. grind arith)
+      (λ ne. grind arith) in
       on_second now (fail u) (min n u) (Some (lesser m.least u)) (failing v u) (as_told now _ told.0 refl change)
       idle idle (λ x. omega arith) least (fails u told.2.0 (ap way_in idle) told.3)
 

@@ -1,7 +1,7 @@
-use Rattle.tor_board.proofs.Names.{List, None, Option, Some, ap, arith, false, get_or, get_or-set_other, inl, inr}
-use Rattle.tor_board.proofs.Names.{length, length-set, refl, set, sym, true, ℕ, ◌*◌, ◌+◌, ◌-◌, ◌<◌, ◌∙◌, ◌≡◌, ◌≤◌}
-use Rattle.tor_board.proofs.Names.{slots_filled, slots_items, slots_len, some, some-injective, get_elem?, set-get_or}
-use Rattle.tor_board.proofs.Names.{IsLeft, middle, slot_of, word_of, Tree}
+use Rattle.tor_board.proofs.Names.{List, None, Option, ap, arith, false, get_or, get_or-set_other, inr, length}
+use Rattle.tor_board.proofs.Names.{length-set, set, sym, true, ℕ, ◌*◌, ◌+◌, ◌-◌, ◌<◌, ◌∙◌, ◌≡◌, ◌≤◌, slots_filled}
+use Rattle.tor_board.proofs.Names.{slots_items, slots_len, some, some-injective, get_elem?, set-get_or, IsLeft, middle}
+use Rattle.tor_board.proofs.Names.{slot_of, word_of, Tree}
 use Rattle.tor_board.proofs.{Meets.tree_facts, Sums.within}
 use Rattle.tor_board.proofs.Finding.{some_height, top_node, top_fits, top_word, tree_there}
 use Rattle.tor_board.proofs.Roots.{taken_more, later_match, later_miss, done_next}
@@ -74,10 +74,7 @@ slots-preserved c =
           let roots = c.slots.roots.items in
           let put : (root : Option (List ℕ)) × (c.if-next-len.roots.items ≡ set roots next root) × IsLeft ws xs t root
           = elim w.if-word-ge2.branch [
-            | then-word-ge2 w' ↦
-                let is = ap (λ (v : Vec (Option (List ℕ)) Global). v.items) (w.roots-is ∙ w'.roots-is) in
-                let x = c.take-hash.result in let two = w'.if-word-ge2.true in
-                (Some x, is, (w.word-then-side_slot-slot.result, found, inl (two, (x, value, refl))))
+            | then-word-ge2 w' ↦ grind arith
             | else-word-ge2 w' ↦
                 let is = ap (λ (v : Vec (Option (List ℕ)) Global). v.items) (w.roots-is ∙ w'.roots-is)
                 ∙ sym (set-get_or roots next None) in
