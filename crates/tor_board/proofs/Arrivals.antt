@@ -52,8 +52,7 @@ module _ {words_count slots_count : ℕ} {shape : Shape} (shaped : IsShape words
       → ((f : ℕ → List ℕ → ℕ) → total (λ (g : GivenUnit). f g.unit g.hash) given ≡ weight f v)
       → joined_in c.tree given + pairs c.tree s.words
       ≡ joined_in c.tree v.given + pairs c.tree (one_more s.words (word_above c))
-      → ((u : Tree) → Apart u c.tree → joined_in u given ≡ joined_in u v.given)
-      → Keeps shape record {
+      → ((u : Tree) → Apart u c.tree → joined_in u given ≡ joined_in u v.given) → Keeps shape record {
         words = set s.words (word_above c) ((n + 1) % 2 ^ 64);
         homes = homes';
         views = set s.views id (went v given climb);
@@ -73,8 +72,7 @@ module _ {words_count slots_count : ℕ} {shape : Shape} (shaped : IsShape words
   -- the step, and what it tells
   arrives_all : Does shape s (put_back s.homes c.spare) id (word_above c) ((n + 1) % 2 ^ 64) ((c.slot, c.hash) ∷ [])
       (arrived_from c (v, []) n)
-  arrives_all =
-      let t : Tree = c.tree in let words' : List ℕ = one_more s.words (word_above c) in
+  arrives_all = let t : Tree = c.tree in let words' : List ℕ = one_more s.words (word_above c) in
       let h0 : List (Opt (List ℕ)) = put_back s.homes c.spare in
       let h1 : List (Opt (List ℕ)) = set h0 c.slot (some c.hash) in let back = returned_homes c s.homes spare in
       let h1_else : (x : ℕ) → (IsIn t x → ⊥) → get_elem? h1 x ≡ get_elem? s.homes x
@@ -84,8 +82,7 @@ module _ {words_count slots_count : ℕ} {shape : Shape} (shaped : IsShape words
       let after = subst (λ (after : View → List View). Arrived s.words h0 v c after)
       (λ i w. set-set s.views id (bare v c) w i)
       (arrived_tree c (returned c (kept.trees t is) id v at in_climb spare) id v
-      (set_here s.views id (bare v c) (within s.views id v at)) below) in
-      let now = word_now c below s.words long in
+      (set_here s.views id (bare v c) (within s.views id v at)) below) in let now = word_now c below s.words long in
       elim after [
         | inl r ↦ let same = pairs_same t s.words words' (λ m h. same_halves c below s.words long r.0 m) in
             let whole = moved v.given None h1 (omega (arith, r.0)) tt (λ x o. refl) r.1 h1_else h1_long (λ f. refl)

@@ -35,8 +35,7 @@ met_root t G k i (suc (suc n)) a b two x y = absurd (omega arith)
 
 -- what a second arrival makes of its tree, where `after` has what all seats know, once this one knows that
 abbrev pub Met : List ℕ → List (Opt (List ℕ)) → View → Climb → (View → List View) → Type 0
-Met words homes v c after =
-    let homes' = set homes c.slot (some c.hash) in
+Met words homes v c after = let homes' = set homes c.slot (some c.hash) in
     (x : List ℕ) × (z : List ℕ) × (get_elem? homes' (above_slot c) ≡ some (some z))
     × (get_elem? (set homes' (above_slot c) none) (other_slot c) ≡ some (some x))
     × KeepsTree c.tree (one_more words (word_above c)) (set (set homes' (above_slot c) none) (other_slot c) none)
@@ -44,8 +43,7 @@ Met words homes v c after =
 
 -- and any
 abbrev pub Arrived : List ℕ → List (Opt (List ℕ)) → View → Climb → (View → List View) → Type 0
-Arrived words homes v c after =
-    ((get_or words (word_above c) 0 ≡ 0)
+Arrived words homes v c after = ((get_or words (word_above c) 0 ≡ 0)
     × KeepsTree c.tree (one_more words (word_above c)) (set homes c.slot (some c.hash)) (after (rested v)))
     ⊎ ((get_or words (word_above c) 0 ≡ 1) × Met words homes v c after)
 
@@ -102,12 +100,10 @@ module _ {words : List ℕ} {homes : List (Opt (List ℕ))} {views : List View} 
     other_side = side_of c.tree c.level (c.index / 2) (1 - c.index % 2) (omega arith) below.inside
 
     other_out : out other views ≡ 0
-    other_out =
-        let flow = node_flow kept c.level (c.index / 2) (1 - c.index % 2) (omega arith) below.inside in
+    other_out = let flow = node_flow kept c.level (c.index / 2) (1 - c.index % 2) (omega arith) below.inside in
         let once = side_once kept other c.level (2 * (c.index / 2) + (1 - c.index % 2)) other_side in
         let o = kept.outs (node_above c) (1 - c.index % 2) (omega arith) (split_positive c.level (c.index / 2))
-        below.inside in
-        omega (arith, found)
+        below.inside in omega (arith, found)
 
     -- and climbs on
     joined : (x : List ℕ) → IsRoot (WasGiven views) c.tree c.level (2 * (c.index / 2) + (1 - c.index % 2)) x
@@ -123,8 +119,7 @@ module _ {words : List ℕ} {homes : List (Opt (List ℕ))} {views : List View} 
         let now = word_now c below words long in let sum = λ (g : View → ℕ). total-set g views id (bare v c) w at in
         let given : (f : ℕ → List ℕ → ℕ) → weight f w ≡ weight f v = λ f. grind arith in
         let same : (u : ℕ) → gave u w ≡ gave u v = λ u. given (λ y h. only u y) in
-        let two : c.index % 2 < 2 = omega arith in
-        let root = landed.3 (WasGiven views) (met (c.index % 2) c.hash x)
+        let two : c.index % 2 < 2 = omega arith in let root = landed.3 (WasGiven views) (met (c.index % 2) c.hash x)
         (met_root t (WasGiven views) c.level (c.index / 2) (c.index % 2) c.hash x two
         (has.0.0 c.level (2 * (c.index / 2) + c.index % 2)
         (inl (c.index / 2, c.index % 2, two, below.inside, below.slot, refl))) x_root) in
@@ -145,20 +140,12 @@ module _ {words : List ℕ} {homes : List (Opt (List ℕ))} {views : List View} 
           word = λ m pos h. counted c below words long t m;
           flow = λ s k j is. let more = ready_grown t kept.tall words words' views vs (suc c.level) (c.index / 2)
               (above_slot c) up.0 up.1 landed.0.0 above_side landed.0.1 unready full grown s k j is in omega arith;
-          sides_out = λ m side two pos h. dite (ℕ_discrete m (node_above c))
-              (λ e.
-              let a : get_or words' (word_of t m) 0 ≡ 2 = rw e (omega arith) in
-              let b : get_or words (word_of t m) 0 ≡ 1 = rw e one in
-              omega (arith, only_le (slot_of t m side) other))
-              (λ ne. grind (arith, word_else, only-other));
+          sides_out = λ m side two pos h. grind (arith, only_le (slot_of t m side) other, word_else, only-other);
           out_top = grind (arith, split_positive c.level (c.index / 2));
-          home = λ s k j is none_out.
-              let mine = term_le (outs s) views id (bare v c) at in let all = sum (outs s) in
-              let not_other : s ≢ other = λ e. let o : only s other ≡ 1 = rw e (only-same other) in
-              omega arith in
+          home = λ s k j is none_out. let mine = term_le (outs s) views id (bare v c) at in let all = sum (outs s) in
+              let not_other : s ≢ other = λ e. let o : only s other ≡ 1 = rw e (only-same other) in omega arith in
               let not_above : s ≢ above_slot c = λ e.
-              let o : only s (above_slot c) ≡ 1 = rw e (only-same (above_slot c)) in
-              omega arith in
+              let o : only s (above_slot c) ≡ 1 = rw e (only-same (above_slot c)) in omega arith in
               let through : get_elem? homes3 s ≡ get_elem? homes1 s = set_else homes2 other s none not_other
               ∙ set_else homes1 (above_slot c) s none not_above in
               put_home kept homes3 (λ y. only y c.slot) c.slot c.hash has.0.0 s k j is
@@ -171,12 +158,10 @@ module _ {words : List ℕ} {homes : List (Opt (List ℕ))} {views : List View} 
               let b = rooted_at (WasGiven views) t other c.level j x other_side x_root in
               old_seat kept id w ((a, b), has.1);
           tops = omega (arith, not_top);
-        } in
-        keeps_step kept step
+        } in keeps_step kept step
 
     second : Met words homes v c (set views id)
-    second =
-        let h = kept.home other c.level (2 * (c.index / 2) + (1 - c.index % 2)) other_side other_out in
+    second = let h = kept.home other c.level (2 * (c.index / 2) + (1 - c.index % 2)) other_side other_out in
         let q = kept.home (above_slot c) up.0 up.1 above_side
         (empty_home kept (above_slot c) up.0 up.1 above_side above_unready) in
         let homes1 : List (Opt (List ℕ)) = set homes c.slot (some c.hash) in
@@ -188,5 +173,4 @@ module _ {words : List ℕ} {homes : List (Opt (List ℕ))} {views : List View} 
 
   pub arrived_tree : Arrived words homes v c (set views id)
   arrived_tree = dite (ℕ_discrete n 0) (λ none_there. inl (none_there, first none_there))
-      (λ some_there. let one : n ≡ 1 = omega (arith, found_few c kept below alone.2) in
-      inr (one, second one))
+      (λ some_there. let one : n ≡ 1 = omega (arith, found_few c kept below alone.2) in inr (one, second one))

@@ -30,8 +30,7 @@ module _ {units claims least : ℕ} {views : List View} (k : KeepsClaims units c
   none_failed small none = by_list v.failed refl where
     by_list : (xs : List ℕ) → v.failed ≡ xs → v.failed ≡ []
     by_list [] is = is
-    by_list (x ∷ xs) is =
-        let one : 0 < failures (only x) v = omega (arith, ap (total (only x)) is, only-same x) in
+    by_list (x ∷ xs) is = let one : 0 < failures (only x) v = omega (arith, ap (total (only x)) is, only-same x) in
         let low = least_le x one in let near = named_below x (omega arith) in absurd (omega arith)
 
 module _ {units claims least : ℕ} {views : List View} (k : KeepsClaims units claims least views) (id : ℕ) (v : View)
@@ -41,8 +40,7 @@ module _ {units claims least : ℕ} {views : List View} (k : KeepsClaims units c
     (bound : (s s' : ℕ) → claims ≤ units + s → s' + stopped v ≡ s + stopped w → claims' ≤ units + s') where
   -- the words and the seat change, and no other view does
   pub changed : (least' : ℕ) → ((u : ℕ) → u < least' → total (failures (only u)) (set views id w) ≡ 0)
-      → (least' < nobody → 0 < total (failures (only least')) (set views id w))
-      → least' ≤ least → claims ≤ claims'
+      → (least' < nobody → 0 < total (failures (only least')) (set views id w)) → least' ≤ least → claims ≤ claims'
       → (w.done ≡ true → (v.done ≡ true) ⊎ ((least' < nobody) ⊎ (units ≤ claims')))
       → KeepsClaims units claims' least' (set views id w)
   changed least' spared attained lower more done =
@@ -89,8 +87,7 @@ module _ {units claims least : ℕ} {views : List View} (k : KeepsClaims units c
       let one = only_one (named (only u)) refl in let part = term_le (failures (only u)) views id v at in
       let here = (below-only u (min claims units)).2 inside in
       let given = total-map (only u) (λ (g : GivenUnit). g.unit) v.given in
-      omega (arith, k.once (only u), k.spared u under, ap (total (only u)) held) in
-      dite (ℕ_discrete least nobody)
+      omega (arith, k.once (only u), k.spared u under, ap (total (only u)) held) in dite (ℕ_discrete least nobody)
       (λ none. let over : units ≤ claims = elim done [
         | inl y ↦ elim (k.why id v at y) [ inl h ↦ omega arith | inr h ↦ h ]
         | inr n ↦ absurd (n (none_failed k id v at small none))

@@ -32,12 +32,10 @@ module _ {shape : Shape} {m : Machine} {s s' : State (List ℕ) View} {id : ℕ}
 
   -- nothing has come yet to where a spot rises that is not ready
   not_ready : (t : Tree) → IsTreeOf shape t → (l j : ℕ) (hash : List ℕ) (spare : List (ℕ × List ℕ)) → l ≤ t.height
-      → j * 2 ^ l < t.count → ready t s.words s.views l j ≡ 0
-      → New now (Some (climb_from t l j hash spare))
+      → j * 2 ^ l < t.count → ready t s.words s.views l j ≡ 0 → New now (Some (climb_from t l j hash spare))
   not_ready t is l j hash spare low inside none u is' k i side two near one =
       let p : ℕ × ℕ = goal_of t l j in let tree = now.kept.trees t is in
-      let up = lands t tree.some_unit tree.tall l j low inside in
-      let z : ready t s.words s.views p.0 p.1 ≡ 0
+      let up = lands t tree.some_unit tree.tall l j low inside in let z : ready t s.words s.views p.0 p.1 ≡ 0
       = rises_ready t s.words s.views up.0.0 l j p.0 p.1 up.0.1 ∙ none in
       dite (ℕ_discrete (slot_at t p.0 p.1) (slot_of u (middle k i) side))
       (λ e. let q = same_spot t u is is' (slot_of u (middle k i) side) p.0 p.1 k (2 * i + side)
@@ -56,10 +54,8 @@ module _ {shape : Shape} {m : Machine} {s s' : State (List ℕ) View} {id : ℕ}
     found = get_or s.words (word_above c) 0
 
     below : IsBelow c
-    below =
-        let own : IsSide c.tree c.slot c.level c.index = grind arith in
-        let le = side_low c.tree tree.tall c.slot c.level c.index own in
-        record {
+    below = let own : IsSide c.tree c.slot c.level c.index = grind arith in
+        let le = side_low c.tree tree.tall c.slot c.level c.index own in record {
           slot = slot_is;
           inside = near;
           low = grind arith;
@@ -70,14 +66,12 @@ module _ {shape : Shape} {m : Machine} {s s' : State (List ℕ) View} {id : ℕ}
     alone = alone_there tree id v c now.at in_climb c.level c.index (own_side c below)
 
     -- how often a side of this node has arrived, by the machine
-    side_times : (b j : ℕ) → b < 2 → j ≡ 2 * (c.index / 2) + b
-        → times_arrived (place_of c.tree c.level j) m.arrived
+    side_times : (b j : ℕ) → b < 2 → j ≡ 2 * (c.index / 2) + b → times_arrived (place_of c.tree c.level j) m.arrived
         ≡ tree.arrived (slot_of c.tree (middle c.level (c.index / 2)) b)
     side_times b j two e = grind arith
 
     none_here : times_arrived (side_of_way (way_of c)) m.arrived ≡ 0
-    none_here = side_times (c.index % 2) c.index (omega arith) (omega arith)
-        ∙ (ap tree.arrived (sym slot_is) ∙ alone.2)
+    none_here = side_times (c.index % 2) c.index (omega arith) (omega arith) ∙ (ap tree.arrived (sym slot_is) ∙ alone.2)
 
     found_beside : times_arrived (beside (side_of_way (way_of c))) m.arrived ≡ found
     found_beside =
@@ -93,22 +87,18 @@ module _ {shape : Shape} {m : Machine} {s s' : State (List ℕ) View} {id : ℕ}
     timed : (t : Tree) → IsTreeOf shape t → (k i side : ℕ) → side < 2 → middle k i < t.count
         → times_arrived (place_of t k (2 * i + side)) (side_of_way (way_of c) ∷ m.arrived)
         ≡ times_arrived (place_of t k (2 * i + side)) m.arrived + climbs (slot_of t (middle k i) side) v
-    timed t is' k i side two inside =
-        let slot : ℕ = slot_of t (middle k i) side in let own = own_side c below in
+    timed t is' k i side two inside = let slot : ℕ = slot_of t (middle k i) side in let own = own_side c below in
         let there = side_of t k i side two inside in
-        let mine : climbs slot v ≡ only slot c.slot = ap (climbs_to slot) in_climb in
-        dite (ℕ_discrete c.slot slot)
+        let mine : climbs slot v ≡ only slot c.slot = ap (climbs_to slot) in_climb in dite (ℕ_discrete c.slot slot)
         (λ e. let q = same_spot c.tree t is is' slot c.level c.index k (2 * i + side)
         (subst (λ (x : ℕ). IsSide c.tree x c.level c.index) e own) there in
         let bit = ap (λ (b : Bool). cond {A = ℕ} b 1 0) (same_side (side_of_way (way_of c))
         (place_of t k (2 * i + side)) (ap (λ (r : Tree). r.number) q.0) q.1 q.2) in
-        let one : only slot c.slot ≡ 1 = rw e (only-same slot) in
-        omega arith)
+        let one : only slot c.slot ≡ 1 = rw e (only-same slot) in omega arith)
         (λ ne. let bit = ap (λ (b : Bool). cond {A = ℕ} b 1 0)
         (other_side (side_of_way (way_of c)) (place_of t k (2 * i + side)) (λ e f g. ne
         (let same : c.tree ≡ t = same_tree shape c.tree t is is' e in
-        place_one c.tree tree.tall c.slot slot c.level c.index own
-        (rw (same, f, g) there)))) in
+        place_one c.tree tree.tall c.slot slot c.level c.index own (rw (same, f, g) there)))) in
         omega (arith, only-other slot c.slot ne))
 
     -- where the word has one more, so has the machine
@@ -116,8 +106,7 @@ module _ {shape : Shape} {m : Machine} {s s' : State (List ℕ) View} {id : ℕ}
         → New now w.climb → IsStep shape.units (runs_of shape) m id (desk_of v) arrive
         (record m { arrived = side_of_way (way_of c) ∷ m.arrived; desks = set m.desks id (desk_of w) })
         → IsEvent shape m id arrive s'
-    arrived_event w change gives new step =
-        let long : word_above c < length s.words = omega (arith, tree.long) in
+    arrived_event w change gives new step = let long : word_above c < length s.words = omega (arith, tree.long) in
         let far : (k : ℕ) → k < 2 → get_or s'.words k 0 ≡ get_or s.words k 0
         = λ k low. rw change.0 (word_else c below s.words long k (λ e. omega arith)) in
         let sum : (t : Tree) → IsTreeOf shape t → (n : ℕ) → 0 < n → n < t.count → get_or s'.words (word_of t n) 0
@@ -134,11 +123,9 @@ module _ {shape : Shape} {m : Machine} {s s' : State (List ℕ) View} {id : ℕ}
         → IsChange s (word_above c) ((found + 1) % 2 ^ 64) id after.0 s' → IsEvent shape m id arrive s'
     arrives_so some_room has after t change =
         let few = found_few c tree below alone.2 in let big : (found + 1) % 2 ^ 64 ≡ found + 1 = omega arith in
-        dite (ℕ_discrete found 0)
-        (λ e. arrived_event (rested v) (as_told now _ (t.1 e) big change) (λ u. omega arith)
+        dite (ℕ_discrete found 0) (λ e. arrived_event (rested v) (as_told now _ (t.1 e) big change) (λ u. omega arith)
         (λ t is k i side two inside one. omega arith)
-        (rests (way_of c) some_room (ap way_in in_climb) near given_here none_here (found_beside ∙ e)))
-        (λ ne.
+        (rests (way_of c) some_room (ap way_in in_climb) near given_here none_here (found_beside ∙ e))) (λ ne.
         let one : found ≡ 1 = omega arith in let r = t.2 one in let w : View = joining v (climbed c r.0) in
         let none : ready c.tree s.words s.views (suc c.level) (c.index / 2) ≡ 0 = grind arith in
         let covers = node_inside c.level (c.index / 2) c.tree.count near in
@@ -168,8 +155,7 @@ module _ {shape : Shape} {m : Machine} {s s' : State (List ℕ) View} {id : ℕ}
       on_first now (hand u hash) k m.claims w (desk_of w) changed
       (unarrived now 0 k (omega arith) w changed (λ x. omega arith)
       (not_ready t is 0 i hash [] (omega arith) covers ungiven)
-      (λ t is n side two pos h. ap (climbs_to (slot_of t n side)) idle))
-      now.shows.claims refl
+      (λ t is n side two pos h. ap (climbs_to (slot_of t n side)) idle)) now.shows.claims refl
       (hands u hash (Some (way_of c)) told.2.0 (ap way_in idle) told.3
       (at_map run_of shape.trees.items t.number t is, in_tree, next))
 
@@ -193,10 +179,8 @@ module _ {shape : Shape} {m : Machine} {s s' : State (List ℕ) View} {id : ℕ}
       let changed : IsChange s 0 k id w s' = as_told now _ t refl change in
       let none : (u : Tree) → IsTreeOf shape u → (n side : ℕ) → side < 2 → 0 < n → n < u.count
       → climbs (slot_of u n side) v ≡ 0 = λ u is' n side two pos h. ap (climbs_to (slot_of u n side)) in_climb
-      ∙ only-other (slot_of u n side) c.slot (λ e. dite (ℕ_discrete c.tree.number u.number)
-      (λ same. grind arith)
-      (λ ne. grind arith)) in
-      let alone = alone_there tree id v c now.at in_climb c.tree.height 0 top in
+      ∙ only-other (slot_of u n side) c.slot (λ e. dite (ℕ_discrete c.tree.number u.number) (λ same. grind arith)
+      (λ ne. grind arith)) in let alone = alone_there tree id v c now.at in_climb c.tree.height 0 top in
       let tall : c.tree.height ≡ suc (c.tree.height - 1) = omega (arith, some_height shaped c.tree is) in
       let full : ready c.tree s.words s.views (suc (c.tree.height - 1)) 0 ≡ 1 = grind arith in
       let node = ready_node c.tree s.words s.views (c.tree.height - 1) 0 (top_node shaped c.tree is) in
@@ -205,8 +189,7 @@ module _ {shape : Shape} {m : Machine} {s s' : State (List ℕ) View} {id : ℕ}
       let root : c.hash ≡ top_root m.desks (run_of c.tree) = rw now.shows.desks
       (top_is now.kept c.tree least_is c.hash (tree.climb id v c c.tree.height 0 now.at in_climb top)) in
       on_first now seal k m.claims w (topped_desk (desk_of v) c.tree.number (top_root m.desks (run_of c.tree))) changed
-      (unarrived now 0 k (omega arith) w changed (λ x. omega arith)
-      (λ t is k i side two near one. omega arith) none)
+      (unarrived now 0 k (omega arith) w changed (λ x. omega arith) (λ t is k i side two near one. omega arith) none)
       now.shows.claims (ap (topped_desk (desk_of v) c.tree.number) (sym root))
       (seals (way_of c) some_room (ap way_in in_climb) (high.0 ∙ least_is, high.1)
       (λ side two. rw high.0 (met' side two)))

@@ -53,8 +53,7 @@ all_stand t G zero j hash root i inside low high = elim root [
   | inl r ↦ let e : i ≡ j = omega arith in (hash, rw e r.1)
   | inr r ↦ absurd (omega (arith, r.0))
 ]
-all_stand t G (suc k) j hash root i inside low high =
-    let a = twice k j in let b = twice k (j + 1) in
+all_stand t G (suc k) j hash root i inside low high = let a = twice k j in let b = twice k (j + 1) in
     let e : 2 * (j + 1) ≡ 2 * j + 1 + 1 = omega arith in let c = ap (λ (x : ℕ). x * 2 ^ k) e in
     dite (dec_le ((2 * j + 1) * 2 ^ k) i)
     (λ right. all_stand t G k (2 * j + 1) root.1 root.3 i inside right (omega arith))
@@ -90,8 +89,7 @@ module _ (views : List View) (given : List GivenUnit)
   -- and that of the whole tree is that over all of them
   pub whole_root : t.height ≡ height t.count → (hash : List ℕ) → IsRoot (WasGiven views) t t.height 0 hash
       → hash ≡ padded_root t.level hashes
-  whole_root high hash root =
-      let e : t.height ≡ height (length hashes) = high ∙ ap height (sym long) in
+  whole_root high hash root = let e : t.height ≡ height (length hashes) = high ∙ ap height (sym long) in
       spot_root t.height 0 hash root
       ∙ (ap (λ (k : ℕ). padded_subtree k t.level (run_at (2 ^ k) hashes 0)) e ∙ root_of_whole t.level hashes)
 
@@ -113,8 +111,7 @@ complete {t = t} {words = words} {views = views} kept still all (suc k) j h =
 -- each number is the middle of a spot
 split_found : (fuel m : ℕ) → m ≤ fuel → 0 < m → (k : ℕ) × (i : ℕ) × (m ≡ middle k i)
 split_found zero m few pos = absurd (omega arith)
-split_found (suc fuel) m few pos = dite (ℕ_discrete (m % 2) 1)
-    (λ odd. (0, m / 2, omega (arith, split_zero (m / 2))))
+split_found (suc fuel) m few pos = dite (ℕ_discrete (m % 2) 1) (λ odd. (0, m / 2, omega (arith, split_zero (m / 2))))
     (λ even. let r = split_found fuel (m / 2) (omega arith) (omega arith) in
     (suc r.0, r.1, omega (arith, split_suc r.0 r.1, r.2)))
 
@@ -146,8 +143,7 @@ module _ {words_count slots_count : ℕ} {shape : Shape} (shaped : IsShape words
     times_is u = the_only (gave u) refl ∙ sym (total-map (only u) (λ (g : GivenUnit). g.unit) v.given)
 
     complete_is : (hash : List ℕ) → IsRoot (WasGiven s.views) t t.height 0 hash → IsComplete v.given (run_of t)
-    complete_is hash root u low high =
-        let i : ℕ = u - t.first in let e : t.first + i ≡ u = omega arith in
+    complete_is hash root u low high = let i : ℕ = u - t.first in let e : t.first + i ≡ u = omega arith in
         let r = all_stand t (WasGiven s.views) t.height 0 hash root i (omega arith) (omega arith)
         (omega (arith, tree.tall)) in
         let st : WasGiven s.views u r.0 = subst (λ (x : ℕ). WasGiven s.views x r.0) e r.1 in
@@ -180,14 +176,12 @@ module _ {words_count slots_count : ℕ} {shape : Shape} (shaped : IsShape words
         let inside : middle r.0 r.1 < t.count = omega (arith, r.2) in
         let one = complete tree still (all_given all) (suc r.0) r.1 (node_inside r.0 r.1 t.count inside) in
         ap (λ (x : ℕ). get_or s.words (word_of t x) 0 / 2) r.2
-        ∙ (sym (ready_node t s.words s.views r.0 r.1 inside) ∙ one))
-        ∙ below_ones (t.count - 1)))
+        ∙ (sym (ready_node t s.words s.views r.0 r.1 inside) ∙ one)) ∙ below_ones (t.count - 1)))
 
     -- two came to the highest node
     end_some : 2 ≤ top_word → (hash : List ℕ) × (get_elem? s.homes (slot_of t 0 0) ≡ some (some hash))
         × IsTreeEnd v.given v.tops t.number (run_of t) (Some hash)
-    end_some both =
-        let once = ready_once tree t.height 0 (omega (arith, (shaped.fits t is).several)) in
+    end_some both = let once = ready_once tree t.height 0 (omega (arith, (shaped.fits t is).several)) in
         let one : top_word / 2 ≡ 1 = omega (arith, ready_top) in
         let h = tree.home (slot_of t 0 0) t.height 0 top_side (none_out (slot_of t 0 0)) in
         let root = h.2 (arrived_top ∙ one) in
@@ -207,11 +201,8 @@ module _ {words_count slots_count : ℕ} {shape : Shape} (shaped : IsShape words
       → ((k : ℕ) (y : List ℕ) → get_elem? s.homes k ≡ some (some y) → get_elem? xs k ≡ some y)
       → (t : Tree) → IsTreeOf shape t → (root : Option (List ℕ)) → IsLeft ws xs t root
       → IsTreeEnd v.given v.tops t.number (run_of t) root
-  end_of ws xs same homes t is root left =
-      let n : ℕ = left.0 in let i : ℕ = word_of t (middle (t.height - 1) 0) in
-      let word : get_or s.words i 0 ≡ n = ap (λ (l : List ℕ). get_or l i 0) same ∙ read ws i n 0 left.1 in
-      elim left.2 [
+  end_of ws xs same homes t is root left = let n : ℕ = left.0 in let i : ℕ = word_of t (middle (t.height - 1) 0) in
+      let word : get_or s.words i 0 ≡ n = ap (λ (l : List ℕ). get_or l i 0) same ∙ read ws i n 0 left.1 in elim left.2 [
         | inl r ↦ grind (arith, end_some t is, r.0)
-        | inr r ↦
-            subst (IsTreeEnd v.given v.tops t.number (run_of t)) (sym r.1) (end_none t is (omega (arith, r.0)))
+        | inr r ↦ subst (IsTreeEnd v.given v.tops t.number (run_of t)) (sym r.1) (end_none t is (omega (arith, r.0)))
       ]

@@ -1,12 +1,12 @@
 -- The trees of a shape: which one has a unit, and what is counted at their nodes.
 use Rattle.tor_board.proofs.Names.{ap, arith, cond, get_or, length, subst, sym, ℕ, ◌*◌, ◌+◌, ◌-◌, ◌<◌, ◌^◌, ◌∙◌, ◌≡◌}
-use Rattle.tor_board.proofs.Names.{◌≢◌, ◌≤◌, pow_mono, dite, some, some-injective, dec_le, ℕ_discrete, get_elem?, Run}
-use Rattle.tor_board.proofs.Names.{run_of, IsShape, IsTreeOf, has_unit, middle, word_of, Board, Shape, Tree, IsIn, List}
-use Rattle.tor_board.proofs.Names.{[], get_or-set_other, get_or-set_same, inl, refl, set, suc, zero, ◌%◌, ◌/◌, ◌∷◌}
-use Rattle.tor_board.proofs.Names.{Climb, GivenUnit, joined_more, climbed, IsSide, joined_in, pairs, slot_of, below}
-use Rattle.tor_board.proofs.Names.{only, total, LastGiveIsIn}
+use Rattle.tor_board.proofs.Names.{◌≢◌, ◌≤◌, pow_mono, dite, some, some-injective, dec_le, get_elem?, IsShape, IsTreeOf}
+use Rattle.tor_board.proofs.Names.{has_unit, middle, word_of, Board, Shape, Tree, IsIn, List, [], get_or-set_other}
+use Rattle.tor_board.proofs.Names.{get_or-set_same, inl, refl, set, suc, zero, ◌%◌, ◌/◌, ◌∷◌, Climb, GivenUnit}
+use Rattle.tor_board.proofs.Names.{joined_more, climbed, IsSide, joined_in, pairs, slot_of, below, only, total}
+use Rattle.tor_board.proofs.Names.{LastGiveIsIn}
 use Rattle.tor_board.proofs.Sums.{term_le, total-map}
-use Rattle.tor_board.specs.{Results.in_run, Seats.levels_above}
+use Rattle.tor_board.specs.Seats.{levels_above}
 use Rattle.{tor_merkle.specs.Subtree.height, atomic_table.proofs.Lists.at_index}
 use Rattle.tor_merkle.proofs.ProvedLaws.{height_least}
 
@@ -25,8 +25,7 @@ apart shaped t u is is' ne = dite (dec_le u.number t.number)
       slots = λ s h k. omega (arith, a.1, h.0, k.1);
       words = λ m n h k e. omega (arith, a.1);
       units = λ m n h k e. omega (arith, a.0);
-    })
-    (λ gt. let a = shaped.apart t u is is' (omega arith) in record {
+    }) (λ gt. let a = shaped.apart t u is is' (omega arith) in record {
       slots = λ s h k. omega (arith, a.1, h.1, k.0);
       words = λ m n h k e. omega (arith, a.1);
       units = λ m n h k e. omega (arith, a.0);
@@ -58,24 +57,21 @@ module _ {words slots : ℕ} {shape : Shape} (shaped : IsShape words slots shape
 -- the levels above a unit of a tree
 pub levels_of : {words slots : ℕ} (b : Board) → IsShape words slots b.shape → (t : Tree) → IsTreeOf b.shape t → (u : ℕ)
     → t.first ≤ u → u < t.first + t.count → t.height ≤ levels_above b u
-levels_of b shaped t is u low high =
-    let a = total-map (λ (run : Run). cond (in_run run u) (height run.count) 0) run_of b.shape.trees.items in
-    grind (arith, term_le (λ (x : Tree). cond (has_unit x u) (height x.count) 0) b.shape.trees.items t.number t is)
+levels_of b shaped t is u low high = grind (arith, total-map, term_le)
 
 -- the highest node of a tree
-module _ {words slots : ℕ} {shape : Shape} (shaped : IsShape words slots shape) (t : Tree) (is : IsTreeOf shape t)
-  where
-    pub some_height : 0 < t.height
-    some_height = grind arith
+module _ {words slots : ℕ} {shape : Shape} (shaped : IsShape words slots shape) (t : Tree) (is : IsTreeOf shape t) where
+  pub some_height : 0 < t.height
+  some_height = grind arith
 
-    pub top_node : middle (t.height - 1) 0 < t.count
-    top_node = grind (arith, shaped.fits t is, (shaped.fits t is).least, some_height, height_least)
+  pub top_node : middle (t.height - 1) 0 < t.count
+  top_node = grind (arith, shaped.fits t is, (shaped.fits t is).least, some_height, height_least)
 
-    pub top_fits : (t.height - 1 ≤ 36) × ((2 * 0 + 1) * 2 ^ (t.height - 1) < 2 ^ 63)
-    top_fits = grind (arith, shaped.fits t is, pow_mono, (shaped.fits t is).low)
+  pub top_fits : (t.height - 1 ≤ 36) × ((2 * 0 + 1) * 2 ^ (t.height - 1) < 2 ^ 63)
+  top_fits = grind (arith, shaped.fits t is, pow_mono, (shaped.fits t is).low)
 
-    pub top_word : word_of t (middle (t.height - 1) 0) < words
-    top_word = omega (arith, top_node, (shaped.fits t is).long)
+  pub top_word : word_of t (middle (t.height - 1) 0) < words
+  top_word = omega (arith, top_node, (shaped.fits t is).long)
 
 -- ---- how many gives came second, and how many arrived
 
@@ -127,9 +123,7 @@ below_same f g (suc n) same = omega (arith, below_same f g n (λ m h. same m (om
 
 below_once : (f g : ℕ → ℕ) (k n : ℕ) → k < n → f k ≡ g k + 1 → ((m : ℕ) → m ≢ k → f m ≡ g m) → below f n ≡ below g n + 1
 below_once f g k zero h here else_ = omega arith
-below_once f g k (suc n) h here else_ = dite (ℕ_discrete k n)
-    (λ e. grind (arith, below_same))
-    (λ ne. omega (arith, below_once f g k n (omega arith) here else_, else_ n (λ is. ne (sym is))))
+below_once f g k (suc n) h here else_ = grind (arith, below_same, below_once f g k n)
 
 pub pairs_same : (t : Tree) (words words' : List ℕ)
     → ((m : ℕ) → m < t.count → get_or words' (word_of t m) 0 / 2 ≡ get_or words (word_of t m) 0 / 2)
@@ -142,11 +136,9 @@ pub pairs_once : (t : Tree) (words words' : List ℕ) (k : ℕ) → 0 < k → k 
     → get_or words' (word_of t k) 0 / 2 ≡ get_or words (word_of t k) 0 / 2 + 1
     → ((m : ℕ) → m ≢ k → get_or words' (word_of t m) 0 / 2 ≡ get_or words (word_of t m) 0 / 2)
     → pairs t words' ≡ pairs t words + 1
-pairs_once t words words' k pos inside here else_ =
-    let e : k - 1 + 1 ≡ k = omega arith in
+pairs_once t words words' k pos inside here else_ = let e : k - 1 + 1 ≡ k = omega arith in
     below_once (λ m. get_or words' (word_of t (m + 1)) 0 / 2) (λ m. get_or words (word_of t (m + 1)) 0 / 2) (k - 1)
-    (t.count - 1) (omega (arith, inside))
-    (rw e here) (λ m ne. else_ (m + 1) (λ is. ne (omega arith)))
+    (t.count - 1) (omega (arith, inside)) (rw e here) (λ m ne. else_ (m + 1) (λ is. ne (omega arith)))
 
 -- a sum of words of which one changes
 pub words-set : (ws : List ℕ) (i n : ℕ) → i < length ws
@@ -170,8 +162,7 @@ pub not_joined : (t : Tree) (u : ℕ) → ◌≡◌ {A = ℕ} (cond (has_unit t 
 not_joined t u = grind arith
 
 -- what does not see how often a give came second
-pub joined_same : (f : GivenUnit → ℕ)
-    → ((u : ℕ) (h : List ℕ) (a b : ℕ)
+pub joined_same : (f : GivenUnit → ℕ) → ((u : ℕ) (h : List ℕ) (a b : ℕ)
     → f (record { unit = u; hash = h; joined = a }) ≡ f (record { unit = u; hash = h; joined = b }))
     → (gs : List GivenUnit) → total f (joined_more gs) ≡ total f gs
 joined_same f same [] = refl

@@ -22,19 +22,16 @@ module _ {words_count slots_count : ℕ} {shape : Shape} (shaped : IsShape words
     {s : State (List ℕ) View} (kept : Keeps shape s) (id : ℕ) (v : View) (at : get_elem? s.views id ≡ some v) (t : Tree)
     (is : IsTreeOf shape t) where
   -- the step touches that tree alone
-  pub moved_tree : (words' : List ℕ) (homes' : List (Opt (List ℕ))) (w : View)
-      → (0 < w.room → IsKnown shape w)
+  pub moved_tree : (words' : List ℕ) (homes' : List (Opt (List ℕ))) (w : View) → (0 < w.room → IsKnown shape w)
       → KeepsTree t words' homes' (set s.views id w)
       → ((k : ℕ) → ((m : ℕ) → 0 < m → m < t.count → k ≢ word_of t m) → get_or words' k 0 ≡ get_or s.words k 0)
-      → length s.words ≤ length words'
-      → ((x : ℕ) → (IsIn t x → ⊥) → get_elem? homes' x ≡ get_elem? s.homes x)
+      → length s.words ≤ length words' → ((x : ℕ) → (IsIn t x → ⊥) → get_elem? homes' x ≡ get_elem? s.homes x)
       → length s.homes ≤ length homes'
       → ((number : ℕ) → number ≢ t.number → tops_of number w.tops ≡ tops_of number v.tops)
       → ((number : ℕ) (P : List ℕ → Type 0) → number ≢ t.number → TopsAre number P v.tops → TopsAre number P w.tops)
       → total (λ (x : ℕ). x) words' + v.arrivals ≡ total (λ (x : ℕ). x) s.words + w.arrivals
       → joined_in t w.given + pairs t s.words ≡ joined_in t v.given + pairs t words'
-      → ((u : Tree) → Apart u t → joined_in u w.given ≡ joined_in u v.given)
-      → IsWithin t v.climb → IsWithin t w.climb
+      → ((u : Tree) → Apart u t → joined_in u w.given ≡ joined_in u v.given) → IsWithin t v.climb → IsWithin t w.climb
       → ((f : ℕ → List ℕ → ℕ) → weight f v ≤ weight f w)
       → ((u : ℕ) → ((m : ℕ) → m < t.count → u ≢ t.first + m) → gave u w ≡ gave u v)
       → KeepsClaims shape.units (get_or s.words 0 0) (get_or s.words 1 0) (set s.views id w)
@@ -42,17 +39,14 @@ module _ {words_count slots_count : ℕ} {shape : Shape} (shaped : IsShape words
   moved_tree words' homes' w now main same_words longer same_homes wider tops told arrivals joins joins_else v_in w_in
       more same claims =
       let first_two : (k : ℕ) → k < 2 → get_or words' k 0 ≡ get_or s.words k 0 = λ k low. grind arith in
-      let sum = λ (g : View → ℕ). total-set g s.views id v w at in
-      record {
+      let sum = λ (g : View → ℕ). total-set g s.views id v w at in record {
         small = kept.small;
         known = set_all (λ (u : View). 0 < u.room → IsKnown shape u) s.views id w kept.known now;
         long = omega (arith, kept.long);
         unused = λ j big free. same_words j (λ m pos h. free t is m pos h) ∙ kept.unused j big free;
         arrivals = grind arith;
-        joins = λ u there. dite (ℕ_discrete u.number t.number)
-            (λ e. grind arith)
-            (λ ne. let a = apart shaped u t there is ne in
-            let same_pairs = pairs_same u s.words words'
+        joins = λ u there. dite (ℕ_discrete u.number t.number) (λ e. grind arith)
+            (λ ne. let a = apart shaped u t there is ne in let same_pairs = pairs_same u s.words words'
             (λ m h. ap (λ (x : ℕ). x / 2) (same_words (word_of u m) (λ n pos k. a.words m n h k))) in
             omega (arith, kept.joins u there, sum (λ (x : View). joined_in u x.given), joins_else u a));
         claims = rw (first_two 0 (omega arith), first_two 1 (omega arith)) claims;
@@ -80,11 +74,9 @@ climb_within t c here spare x out_ = grind arith
 pub returned_homes : (c : Climb) (homes : List (Opt (List ℕ))) → AtMostOneSpare c
     → ((x : ℕ) → (IsIn c.tree x → ⊥) → get_elem? (put_back homes c.spare) x ≡ get_elem? homes x)
     × (length (put_back homes c.spare) ≡ length homes)
-returned_homes c homes spare =
-    let Same : List (ℕ × List ℕ) → Type 0
+returned_homes c homes spare = let Same : List (ℕ × List ℕ) → Type 0
     = λ l. ((x : ℕ) → (IsIn c.tree x → ⊥) → get_elem? (put_back homes l) x ≡ get_elem? homes x)
-    × (length (put_back homes l) ≡ length homes) in
-    elim spare [
+    × (length (put_back homes l) ≡ length homes) in elim spare [
       | inl e ↦ subst Same (sym e) ((λ x o. refl), refl)
       | inr p ↦ subst Same (sym p.2) (touched c.tree homes p.0 (some p.1) p.3, length-set homes p.0 (some p.1))
     ]
@@ -98,8 +90,7 @@ of_climb P v c is p d e = let same : c ≡ d = cc in subst P same p
 pub with_spare : (shape : Shape) (s : State (List ℕ) View) (id i f : ℕ) (c : Climb) (held : List (ℕ × List ℕ))
     (P : Seated → Type 0) → held ≡ c.spare ++ (c.slot, c.hash) ∷ [] → AtMostOneSpare c
     → Does shape s (put_back s.homes c.spare) id i f ((c.slot, c.hash) ∷ []) P → Does shape s s.homes id i f held P
-with_spare shape s id i f c held P carried spare done =
-    let own : List (ℕ × List ℕ) = (c.slot, c.hash) ∷ [] in
+with_spare shape s id i f c held P carried spare done = let own : List (ℕ × List ℕ) = (c.slot, c.hash) ∷ [] in
     let Before : List (ℕ × List ℕ) → Type 0 = λ l. Does shape s (put_back s.homes l) id i f own P in
     let Goal : List (ℕ × List ℕ) → Type 0 = λ l. Does shape s s.homes id i f l P in
     let held_is = λ (l : List (ℕ × List ℕ)) (e : c.spare ≡ l). carried ∙ ap (λ (l : List (ℕ × List ℕ)). l ++ own) e in
@@ -123,8 +114,7 @@ held_ungiven {units = units} {claims = claims} {views = views} k id v at u has =
 
 module _ {words_count slots_count : ℕ} {shape : Shape} (shaped : IsShape words_count slots_count shape) where
   pub hands : (slots id : ℕ) (m : Seated) (t : Tree) (u : ℕ) (hash : List ℕ) → 0 < m.0.room → m.0.climb ≡ None
-      → m.1 ≡ [] → 0 < times u m.0.held
-      → IsTreeOf shape t → t.first ≤ u → u < t.first + t.count
+      → m.1 ≡ [] → 0 < times u m.0.held → IsTreeOf shape t → t.first ≤ u → u < t.first + t.count
       → Allows (Keeps shape) slots id m 0 (λ n. n) (gave_told (Some t) u hash (step slots 0 0 0 none) m)
   hands slots id m t u hash some_room idle empty has is low high s kept homes at small =
       let v : View = m.0 in let n : ℕ = get_or s.words 0 0 in let tree = kept.trees t is in
@@ -141,8 +131,7 @@ module _ {words_count slots_count : ℕ} {shape : Shape} (shaped : IsShape words
       (λ x o. ap (has_out x) idle) (climb_within t c slot_in (inl refl)) (λ f. omega arith)
       (λ x o. omega (arith, only-other x u (λ e. o (u - t.first) (omega arith) (omega arith))))
       (steady kept.claims id v at some_room n w (λ f. omega (arith, total-without f u v.held has)) refl
-      (λ t t' h e. omega arith) refl (omega arith) (λ e. inl e))) in
-      let Goal : List (ℕ × List ℕ) → Type 0
+      (λ t t' h e. omega arith) refl (omega arith) (λ e. inl e))) in let Goal : List (ℕ × List ℕ) → Type 0
       = λ l. Does shape s s.homes id 0 n l (gave_told (Some t) u hash (step slots 0 0 0 none) (v, l) n) in
       subst Goal (sym empty) (w, takes c.slot taken.0, taken.1, whole, ((taken.0, refl), refl, (some_room, idle), has))
 

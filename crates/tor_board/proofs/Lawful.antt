@@ -27,8 +27,7 @@ pub other_side : (a b : Side) → (a.tree ≡ b.tree → a.level ≡ b.level →
 other_side a b ne = elim (either_side a b) [ inl r ↦ absurd (ne r.0 r.1 r.2) | inr f ↦ f ]
 
 -- a node's arrivals are those of its sides
-pub at_node : (n k i : ℕ) (sides : List Side)
-    → arrivals_at sides n k i
+pub at_node : (n k i : ℕ) (sides : List Side) → arrivals_at sides n k i
     ≤ times_arrived (side_at n k (2 * i)) sides + times_arrived (side_at n k (2 * i + 1)) sides
 at_node n k i [] = omega arith
 at_node n k i (s ∷ ss) = grind (arith, at_node n k i ss)
@@ -98,8 +97,7 @@ lawful units forest m g = (
     named = λ u. g.named u ∙ below-test u (min m.claims units);
     few = omega (arith, g.bounded, g.rooms, total_le stopped (λ (d : Desk). d.room) m.desks stopped_le);
     failed = g.least;
-    nodes = λ n run is k i inside.
-        let l = times_arrived (side_at n k (2 * i)) m.arrived in
+    nodes = λ n run is k i inside. let l = times_arrived (side_at n k (2 * i)) m.arrived in
         let r = times_arrived (side_at n k (2 * i + 1)) m.arrived in
         (l, r, g.whole n run is k (2 * i), g.whole n run is k (2 * i + 1), at_node n k i m.arrived);
     seats = g.arrivals;

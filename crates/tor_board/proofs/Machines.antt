@@ -15,14 +15,12 @@ use Rattle.tor_board.specs.Machine.{times_given}
 
 module _ (units : ℕ) (forest : List Run) (m : Machine) (good : Good units forest m) where
   -- seats that are two or one, and together what they were
-  shared : (desks : List Desk)
-      → ((u : ℕ) → total (names u) desks ≡ total (names u) m.desks)
+  shared : (desks : List Desk) → ((u : ℕ) → total (names u) desks ≡ total (names u) m.desks)
       → total stopped m.desks ≤ total stopped desks
       → total (λ (d : Desk). d.room) desks ≡ total (λ (d : Desk). d.room) m.desks
       → ((u : ℕ) → times_failed u desks ≡ times_failed u m.desks)
       → ((u : ℕ) → times_given u m.desks ≤ times_given u desks)
-      → total (λ (d : Desk). d.arrivals) desks ≡ total (λ (d : Desk). d.arrivals) m.desks
-      → AllOk forest desks
+      → total (λ (d : Desk). d.arrivals) desks ≡ total (λ (d : Desk). d.arrivals) m.desks → AllOk forest desks
       → Good units forest (record m { desks = desks })
   shared desks named stop rooms fails' gives arrivals climbs = record {
     named = λ u. named u ∙ good.named u;
@@ -50,13 +48,10 @@ module _ (units : ℕ) (forest : List Run) (m : Machine) (good : Good units fore
     set_ok d ok = set_all (λ (d : Desk). ClimbOk forest d.climb) m.desks seat d good.climbs ok
 
     changed : (made : ℕ) (least : Option ℕ) (arrived : List Side) (d : Desk)
-        → ((u : ℕ) → names u d + mark units m.claims u ≡ names u old + mark units made u)
-        → d.room ≡ old.room
+        → ((u : ℕ) → names u d + mark units m.claims u ≡ names u old + mark units made u) → d.room ≡ old.room
         → ((s s' : ℕ) → m.claims ≤ units + s → s' + stopped old ≡ s + stopped d → made ≤ units + s')
-        → IsLeastFailed least (set m.desks seat d)
-        → IsWhole forest (set m.desks seat d) arrived
-        → length arrived + old.arrivals ≡ length m.arrived + d.arrivals
-        → ClimbOk forest d.climb
+        → IsLeastFailed least (set m.desks seat d) → IsWhole forest (set m.desks seat d) arrived
+        → length arrived + old.arrivals ≡ length m.arrived + d.arrivals → ClimbOk forest d.climb
         → Every (IsNodeSide forest) arrived
         → Good units forest (record { claims = made; least = least; arrived = arrived; desks = set m.desks seat d })
     changed made least arrived d named room bound failed whole arrivals climb real = record {
@@ -87,8 +82,7 @@ module _ (units : ℕ) (forest : List Run) (m : Machine) (good : Good units fore
 
     -- of an event that claims nothing
     quiet : (least : Option ℕ) (arrived : List Side) (d : Desk) → ((u : ℕ) → names u d ≡ names u old)
-        → d.room ≡ old.room → stopped old ≤ stopped d
-        → IsLeastFailed least (set m.desks seat d)
+        → d.room ≡ old.room → stopped old ≤ stopped d → IsLeastFailed least (set m.desks seat d)
         → IsWhole forest (set m.desks seat d) arrived
         → length arrived + old.arrivals ≡ length m.arrived + d.arrivals → ClimbOk forest d.climb
         → Every (IsNodeSide forest) arrived
@@ -119,8 +113,7 @@ module _ (units : ℕ) (forest : List Run) (m : Machine) (good : Good units fore
     step_good e n (ends some_room idle busy saw past) = let d : Desk = finished old in
         let idle' : stopped old ≡ 0 = ap (λ (b : Bool). cond b old.room 0) busy in
         changed (m.claims + 1) m.least m.arrived d (λ u. omega (arith, mark_past units m.claims u past)) refl
-        (λ s s' le e. omega arith) (same_least d refl) (same_whole d (λ u. omega arith)) refl
-        old_ok good.real
+        (λ s s' le e. omega arith) (same_least d refl) (same_whole d (λ u. omega arith)) refl old_ok good.real
     step_good e n (hands u hash None some_room idle has begin) = handed_good u hash None has tt
     step_good e n (hands u hash (Some w) some_room idle has begin) = handed_good u hash (Some w) has begin.0
     step_good e n (rests w some_room is near given first' beside) =
@@ -140,8 +133,7 @@ module _ (units : ℕ) (forest : List Run) (m : Machine) (good : Good units fore
         (omega arith)
         (fewest m.desks (set m.desks seat d) u (λ x. omega (arith, part (failures x) d)) m.least good.least)
         (same_whole d (λ u. omega arith)) refl old_ok good.real
-    step_good e n (splits two idle) =
-        let d : Desk = keeping old in let f : Desk = fresh old in
+    step_good e n (splits two idle) = let d : Desk = keeping old in let f : Desk = fresh old in
         let two' : (g : Desk → ℕ) → total g (set m.desks seat d ++ f ∷ []) + g old ≡ total g m.desks + g d + g f
         = λ g. omega (arith, part g d, total-append g (set m.desks seat d) (f ∷ [])) in
         let parts = stopped_parts old.done (old.room - old.room / 2) (old.room / 2) old.room (omega arith) in
@@ -152,13 +144,11 @@ module _ (units : ℕ) (forest : List Run) (m : Machine) (good : Good units fore
     step_good e n (joins other w some_room idle some_room' idle' apart inside is) =
         let d : Desk = both old w in let l : List Desk = set m.desks seat d in
         let at_other : get_elem? l other ≡ some w = there l other spent_desk (omega (arith, length-set m.desks seat d))
-        ∙ ap some (get_or-set_other m.desks seat other d spent_desk apart ∙ is) in
-        let two' : (g : Desk → ℕ)
+        ∙ ap some (get_or-set_other m.desks seat other d spent_desk apart ∙ is) in let two' : (g : Desk → ℕ)
         → total g (set l other spent_desk) + g w + g old ≡ total g m.desks + g d + g spent_desk
         = λ g. omega (arith, part g d, total-set g l other w spent_desk at_other) in
         let given = λ (u : ℕ). total-append (λ (g : GivenUnit). only u g.unit) old.given w.given in
-        let failed = λ (u : ℕ). total-append (only u) old.failed w.failed in
-        shared (set l other spent_desk)
+        let failed = λ (u : ℕ). total-append (only u) old.failed w.failed in shared (set l other spent_desk)
         (λ u. omega (arith, two' (names u), total-append (only u) old.held w.held, given u, failed u))
         (omega (arith, two' stopped, stopped_both old.done w.done old.room w.room))
         (omega (arith, two' (λ (d : Desk). d.room))) (λ u. omega (arith, two' (failures u), failed u))

@@ -85,8 +85,7 @@ module _ {units words slots : ℕ} {t : Tree} (fits : Fits units words slots t) 
 -- ---- the slots that a seat has, as it reads one and writes the other
 
 pub turned_seat : {m m' : Seated} {v : View} {o a s : ℕ} {x z y : List ℕ}
-    → IsSeat m v ((o, x) ∷ (a, z) ∷ []) → m.1 ≡ (s, y) ∷ rest m.1
-    → IsSeat m' m.0 (turned ((s, y) ∷ rest m.1))
+    → IsSeat m v ((o, x) ∷ (a, z) ∷ []) → m.1 ≡ (s, y) ∷ rest m.1 → IsSeat m' m.0 (turned ((s, y) ∷ rest m.1))
     → (y ≡ x) × IsSeat m' v ((a, z) ∷ (o, x) ∷ [])
 turned_seat {m = m} {s = s} {y = y} e seen turns =
     let same = ap (λ (l : List (ℕ × List ℕ)). (get_or l 0 (s, y)).1) (sym seen ∙ ap (λ (n : Seated). n.1) e) in
@@ -123,11 +122,9 @@ after_rested j v u hash c =
 
 -- what a climb told of the seat, as one fact
 pub given_after : (b : Board) (t : Tree) → IsTreeOf b.shape t → (top : Option (ℕ × List ℕ)) (j levels : ℕ)
-    → t.height ≤ levels → MatchOption top (j + 1 ≤ t.height) (λ _. j ≤ t.height)
-    → IfSome top (λ p. p.0 ≡ t.number)
+    → t.height ≤ levels → MatchOption top (j + 1 ≤ t.height) (λ _. j ≤ t.height) → IfSome top (λ p. p.0 ≡ t.number)
     → (v v' : View) (m : Seated) (u : ℕ) (hash : List ℕ) (c : Climb) → t.first ≤ u → u < t.first + t.count
-    → v' ≡ handed v u hash (Some c)
-    → MatchOption top (m ≡ rested_view j v') (λ t. m ≡ topped_view j t v')
+    → v' ≡ handed v u hash (Some c) → MatchOption top (m ≡ rested_view j v') (λ t. m ≡ topped_view j t v')
     → (x : ℕ) × (desk_of m.0 ≡ after_give (desk_of v) u hash j x top) × (x ≤ levels) × IsClimbOf b u j x top
 given_after b t of None j levels low few number v v' m u hash c from to is told =
     let shown = ap (λ (n : Seated). desk_of n.0) told
@@ -140,9 +137,7 @@ given_after b t of (Some top) j levels low few number v v' m u hash c from to is
 pub in_no_run : {words slots : ℕ} (b : Board) → IsShape words slots b.shape → (u : ℕ)
     → ((t : Tree) → IsTreeOf b.shape t → (j : ℕ) → j < t.count → u ≢ t.first + j)
     → (n : ℕ) (run : Run) → get_elem? (forest_of b) n ≡ some run → in_run run u ≡ true → ⊥
-in_no_run b shaped u none n run there inside =
-    let m = mapped run_of b.shape.trees.items n run there in
+in_no_run b shaped u none n run there inside = let m = mapped run_of b.shape.trees.items n run there in
     let has : has_unit m.0 u ≡ true = ap (λ (r : Run). in_run r u) m.2 ∙ inside in
-    let among = has_unit-true m.0 u has in
-    none m.0 (at_number shaped n m.0 m.1) (u - m.0.first)
+    let among = has_unit-true m.0 u has in none m.0 (at_number shaped n m.0 m.1) (u - m.0.first)
     (omega (arith, among.0, among.1)) (omega (arith, among.0))

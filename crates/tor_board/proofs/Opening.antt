@@ -38,12 +38,10 @@ at units number offset from end (run ∷ runs) are le fit zero t e =
       behind = omega (arith, are.0);
       long = omega arith;
       wide = omega arith;
-    } in
-    rw (sym (some-injective _ t e)) (fits, omega arith, are.0, omega arith)
+    } in rw (sym (some-injective _ t e)) (fits, omega arith, are.0, omega arith)
 at units number offset from end (run ∷ runs) are le fit (suc k) t e =
     let r = at units (number + 1) (offset + run.count) (run.first + run.count) end runs are.4 (omega (arith, are.0))
-    (omega arith) k t e in
-    (r.0, omega (arith, r.1), omega (arith, are.0, r.2), omega (arith, r.3))
+    (omega arith) k t e in (r.0, omega (arith, r.1), omega (arith, are.0, r.2), omega (arith, r.3))
 
 apart : (units number offset from end : ℕ) (runs : List Run) → AreRuns units from runs → offset ≤ from
     → offset + units_in runs ≤ end → (j k : ℕ) (t u : Tree) → get_elem? (trees_from number offset runs) j ≡ some t
@@ -54,8 +52,7 @@ apart units number offset from end [] are le fit j k t u e f less = absurd (some
 apart units number offset from end (run ∷ runs) are le fit j zero t u e f less = omega arith
 apart units number offset from end (run ∷ runs) are le fit zero (suc k) t u e f less =
     let r = at units (number + 1) (offset + run.count) (run.first + run.count) end runs are.4 (omega (arith, are.0))
-    (omega arith) k u f in
-    rw (sym (some-injective _ t e)) (r.2, r.3)
+    (omega arith) k u f in rw (sym (some-injective _ t e)) (r.2, r.3)
 apart units number offset from end (run ∷ runs) are le fit (suc j) (suc k) t u e f less
     = apart units (number + 1) (offset + run.count) (run.first + run.count) end runs are.4 (omega (arith, are.0))
     (omega arith) j k t u e f (omega arith)
@@ -72,8 +69,7 @@ shaped units runs are small shape units_is trees_is =
     let list : (k : ℕ) (t : Tree) → get_elem? shape.trees.items k ≡ some t → get_elem? (trees_from 0 0 runs) k ≡ some t
     = λ k t e. ap (λ (l : List Tree). get_elem? l k) (sym trees_is) ∙ e in
     let there = λ (k : ℕ) (t : Tree) (e : get_elem? shape.trees.items k ≡ some t).
-    at units 0 0 0 (units_in runs) runs are (omega arith) (omega arith) k t (list k t e) in
-    record {
+    at units 0 0 0 (units_in runs) runs are (omega arith) (omega arith) k t (list k t e) in record {
       small = omega arith;
       two = omega arith;
       numbered = λ k t e. omega (arith, (there k t e).1);
@@ -130,25 +126,23 @@ module _ (shape : Shape) (places : ℕ) (is_shape : IsShape (2 + places) (2 * pl
       ∙ ap (λ (x : ℕ). x / 2) (word_zero (word_of t (middle k i)) (λ e. omega arith)))
 
   start_tree : (t : Tree) → IsTreeOf shape t → KeepsTree t words (map some slots) views
-  start_tree t is =
-      let f = is_shape.fits t is in let some_unit : 0 < t.count = omega (arith, f.several) in
-      record {
-        arrived = λ _. 0;
-        some_unit = some_unit;
-        tall = f.tall;
-        long = omega (arith, f.long, words_long);
-        wide = omega (arith, f.wide, length-map slots some, long);
-        once = λ i h. omega arith;
-        word = λ m pos h. word_zero (word_of t m) (λ e. omega arith);
-        flow = λ s k j side. sym (ready_zero t k j);
-        outs = λ m side two pos h. omega arith;
-        out_top = omega arith;
-        home = λ s k j side none_out. grind (arith, some_there slots s);
-        climb = λ id v c k j e climbs to. cc (ap (λ (x : View). x.climb) (the_first id v e));
-        left = λ id v c o y k j e climbs sp to. cc (ap (λ (x : View). x.climb) (the_first id v e));
-        tops = refl;
-        told = λ id v e. rw (sym (the_first id v e)) tt;
-      }
+  start_tree t is = let f = is_shape.fits t is in let some_unit : 0 < t.count = omega (arith, f.several) in record {
+    arrived = λ _. 0;
+    some_unit = some_unit;
+    tall = f.tall;
+    long = omega (arith, f.long, words_long);
+    wide = omega (arith, f.wide, length-map slots some, long);
+    once = λ i h. omega arith;
+    word = λ m pos h. word_zero (word_of t m) (λ e. omega arith);
+    flow = λ s k j side. sym (ready_zero t k j);
+    outs = λ m side two pos h. omega arith;
+    out_top = omega arith;
+    home = λ s k j side none_out. grind (arith, some_there slots s);
+    climb = λ id v c k j e climbs to. cc (ap (λ (x : View). x.climb) (the_first id v e));
+    left = λ id v c o y k j e climbs sp to. cc (ap (λ (x : View). x.climb) (the_first id v e));
+    tops = refl;
+    told = λ id v e. rw (sym (the_first id v e)) tt;
+  }
 
   pub opens : Keeps shape (opening words slots (first shape.units))
   opens = record {
@@ -180,8 +174,7 @@ no_run = record { first = 0; count = 0; level = 0 }
 -- the next run, and what it makes of the trees
 pub next_run : (units from : ℕ) (runs : List Run) (i : ℕ) → i < length runs → AreRuns units from (drop i runs)
     → (drop i runs ≡ get_or runs i no_run ∷ drop (i + 1) runs)
-    × ((get_or runs i no_run).level + height (get_or runs i no_run).count ≤ 36)
-    × (from ≤ (get_or runs i no_run).first)
+    × ((get_or runs i no_run).level + height (get_or runs i no_run).count ≤ 36) × (from ≤ (get_or runs i no_run).first)
     × ((get_or runs i no_run).first + (get_or runs i no_run).count ≤ units)
     × AreRuns units ((get_or runs i no_run).first + (get_or runs i no_run).count) (drop (i + 1) runs)
 unfolding AreRuns

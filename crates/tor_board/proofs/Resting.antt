@@ -25,8 +25,7 @@ module _ {words : List ℕ} {homes : List (Opt (List ℕ))} {views : List View} 
     (in_climb : v.climb ≡ Some c) where
   puts_back : (o : ℕ) (z : List ℕ) → c.spare ≡ (o, z) ∷ [] → o < length homes
       → KeepsTree c.tree words (set homes o (some z)) (set views id (bare v c))
-  puts_back o z one inside =
-      let has = seat_rooted kept id v at in
+  puts_back o z one inside = let has = seat_rooted kept id v at in
       let roots : ClimbRooted (WasGiven views) c.tree (Some c) = grind arith in
       let had : (s : ℕ) → (climbs s v ≡ only s c.slot) × (outs s v ≡ only s c.slot + only s o)
       = λ s. let left = ap (total (λ (p : ℕ × List ℕ). only s p.0)) one in
@@ -47,20 +46,16 @@ module _ {words : List ℕ} {homes : List (Opt (List ℕ))} {views : List View} 
         out_top = let e = had (slot_of c.tree 0 0) in omega (arith, e.0, e.1);
         home = λ s k j is none. put_home kept (set homes o (some z)) (λ x. 0) o z
             (subst (SpareRooted (WasGiven views) c.tree) one roots.1) s k j is
-            (λ e. rw e (set_here homes o (some z) inside))
-            (λ ne. let away = only-other s o (λ e. ne (sym e)) in
+            (λ e. rw e (set_here homes o (some z) inside)) (λ ne. let away = only-other s o (λ e. ne (sym e)) in
             (omega (arith, sum (outs s), (had s).1), set_else homes o s (some z) ne, refl));
         seats = old_seat kept id (bare v c) ((roots.0, tt), has.1);
         tops = omega arith;
-      } in
-      keeps_step kept step
+      } in keeps_step kept step
 
   -- of a climb with at most one slot left over
   pub returned : AtMostOneSpare c → KeepsTree c.tree words (put_back homes c.spare) (set views id (bare v c))
-  returned spare =
-      let After : List (ℕ × List ℕ) → Type 0
-      = λ l. KeepsTree c.tree words (put_back homes l) (set views id (bare v c)) in
-      elim spare [
+  returned spare = let After : List (ℕ × List ℕ) → Type 0
+      = λ l. KeepsTree c.tree words (put_back homes l) (set views id (bare v c)) in elim spare [
         | inl e ↦ let is : Some (cleared c) ≡ v.climb
             = ap (λ (l : List (ℕ × List ℕ)). Some (record c { spare = l })) (sym e) ∙ sym in_climb in
             let same : bare v c ≡ v = λ i. record v { climb = is i } in
@@ -85,8 +80,7 @@ module _ {words : List ℕ} {homes : List (Opt (List ℕ))} {views : List View} 
       let has = seat_rooted kept id (bare v c) at in let in_ = side_in c.tree kept.some_unit c.slot k1 j1 own in
       let sum = λ (g : View → ℕ). total-set g views id (bare v c) w at in
       let step : SeatStep c.tree words words' homes (set homes c.slot (some c.hash)) views kept.arrived id (bare v c) w
-      (λ s. only s c.slot)
-      = record {
+      (λ s. only s c.slot) = record {
         sum = sum;
         long = longer;
         wide = omega (arith, length-set homes c.slot (some c.hash));
@@ -99,24 +93,19 @@ module _ {words : List ℕ} {homes : List (Opt (List ℕ))} {views : List View} 
         sides_out = λ m side two pos h. omega (arith, halves m);
         out_top = omega arith;
         home = λ s k j is none. put_home kept (set homes c.slot (some c.hash)) (λ x. only x c.slot) c.slot c.hash
-            has.0.0 s k j is
-            (λ e. rw e (set_here homes c.slot (some c.hash) (omega (arith, in_.1, kept.wide))))
+            has.0.0 s k j is (λ e. rw e (set_here homes c.slot (some c.hash) (omega (arith, in_.1, kept.wide))))
             (λ ne. let z = only-other s c.slot (λ e. ne (sym e)) in
             (omega (arith, sum (outs s)), set_else homes c.slot s (some c.hash) ne, z));
         seats = old_seat kept id w (tt, told);
         tops = topped_once;
-      } in
-      keeps_step kept step
+      } in keeps_step kept step
 
   pub sealed_tree : c.slot ≡ slot_of c.tree 0 0
       → KeepsTree c.tree words (set homes c.slot (some c.hash)) (set views id (topped v c.tree.number c.hash))
-  sealed_tree here =
-      let top : IsSide c.tree c.slot c.tree.height 0 = inr (here, refl, refl) in
-      let has = seat_rooted kept id (bare v c) at in
-      let own : only (slot_of c.tree 0 0) c.slot ≡ 1 = grind arith in
+  sealed_tree here = let top : IsSide c.tree c.slot c.tree.height 0 = inr (here, refl, refl) in
+      let has = seat_rooted kept id (bare v c) at in let own : only (slot_of c.tree 0 0) c.slot ≡ 1 = grind arith in
       comes_home c.tree.height 0 top words v.arrivals ((c.tree.number, c.hash) ∷ v.tops) (omega arith) (λ m. refl)
-      (λ m pos. grind arith)
-      (omega (arith, only-same c.tree.number)) ((λ e. has.0.0 c.tree.height 0 top), has.1)
+      (λ m pos. grind arith) (omega (arith, only-same c.tree.number)) ((λ e. has.0.0 c.tree.height 0 top), has.1)
 
 -- ---- a unit is handed in
 
@@ -162,12 +151,10 @@ module _ {t : Tree} {words : List ℕ} {homes : List (Opt (List ℕ))} {views : 
         sides_out = λ m side two pos h. omega (arith, ap (climbs_to (slot_of t m side)) idle);
         out_top = omega (arith, ap (climbs_to (slot_of t 0 0)) idle);
         home = λ s k j is none_out. let all = sum (outs s) in let mine = ap (has_out s) idle in
-            let apart : s ≢ c.slot = λ e. let o : only s c.slot ≡ 1 = rw e (only-same c.slot) in
-            omega arith in
+            let apart : s ≢ c.slot = λ e. let o : only s c.slot ≡ 1 = rw e (only-same c.slot) in omega arith in
             old_home kept (set homes c.slot none) (λ x. 0) s k j is (omega arith)
             (set_else homes c.slot s none apart) refl;
         seats = λ stand. let had = seat_more t (WasGiven views) (WasGiven vs) stand v (seat_rooted kept id v at) in
             new_seat kept id w ((rooted_at (WasGiven vs) t c.slot c.level c.index c.hash up.1 root, tt), had.1) stand;
         tops = omega arith;
-      } in
-      (h.0, h.1, keeps_step kept step)
+      } in (h.0, h.1, keeps_step kept step)

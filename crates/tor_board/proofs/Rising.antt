@@ -34,8 +34,7 @@ same_part o x y a b h l e = omega arith
 
 -- a slot is that of one spot
 pub side_one : (t : Tree) (slot k j l n : ℕ) → IsSide t slot k j → IsSide t slot l n → (k ≡ l) × (j ≡ n)
-side_one t slot k j l n (inl p) (inl q) =
-    let x : ℕ = middle k p.0 in let y : ℕ = middle l q.0 in
+side_one t slot k j l n (inl p) (inl q) = let x : ℕ = middle k p.0 in let y : ℕ = middle l q.0 in
     let s : x ≡ y = same_part t.offset x y p.1 q.1 p.2 q.2 (sym p.4 ∙ q.4) in
     let r = split_one k p.0 l q.0 s in (r.0, omega (arith, p.5, q.5, r.1))
 side_one t slot k j l n (inl p) (inr q) = omega (arith, p.4, q.0, split_positive k p.0)
@@ -84,8 +83,7 @@ rises_one t tall zero (suc e) l i k j k' j' slot slot' a b p q
     = absurd (stays t tall slot l i e k' j' slot' (rw (a.0, a.1) p) b q)
 rises_one t tall (suc d) zero l i k j k' j' slot slot' a b p q
     = absurd (stays t tall slot' l i d k j slot (rw (b.0, b.1) q) a p)
-rises_one t tall (suc d) (suc e) l i k j k' j' slot slot' a b p q =
-    let same : a.0 ≡ b.0 = omega (arith, a.1, b.1) in
+rises_one t tall (suc d) (suc e) l i k j k' j' slot slot' a b p q = let same : a.0 ≡ b.0 = omega (arith, a.1, b.1) in
     rises_one t tall d e (suc l) a.0 k j k' j' slot slot' a.3 (rw same b.3) p q
 
 pub not_top : (t : Tree) → t.count ≤ 2 ^ t.height → (k i : ℕ) → k ≡ t.height → middle k i < t.count → ⊥
@@ -110,8 +108,7 @@ ready_from t words words' views views' l i given same (suc k) j = dite (dec_le t
     (λ le. elim (ready_from t words words' views views' l i given same k (2 * j)) [
       | inl e ↦ inl (ready_chain t words' views' k j le ∙ (e ∙ sym (ready_chain t words views k j le)))
       | inr r ↦ inr (suc r.0, rises_more t r.0 l i k j r.1 le)
-    ])
-    (λ gt. grind arith)
+    ]) (λ gt. grind arith)
 
 -- of the sides, only that one to which it rises is readied with it
 pub ready_grown : (t : Tree) → t.count ≤ 2 ^ t.height → (words words' : List ℕ) (views views' : List View)
@@ -120,12 +117,10 @@ pub ready_grown : (t : Tree) → t.count ≤ 2 ^ t.height → (words words' : Li
     → ((k j : ℕ) → (ready t words' views' k j ≡ ready t words views k j) ⊎ ((d : ℕ) × Rises t.count d l i k j))
     → (slot k j : ℕ) → IsSide t slot k j → ready t words' views' k j ≡ ready t words views k j + only slot above
 ready_grown t tall words words' views views' l i above k1 j1 steps side rise none one grown slot k j is
-    = dite (ℕ_discrete slot above)
-    (λ e. let q = side_one t above k j k1 j1 (rw (sym e) is) side in
+    = dite (ℕ_discrete slot above) (λ e. let q = side_one t above k j k1 j1 (rw (sym e) is) side in
     let a = rises_ready t words views steps l i k1 j1 rise in
     let b = rises_ready t words' views' steps l i k1 j1 rise in let o : only slot above ≡ 1 = rw e (only-same above) in
-    rw (q.0, q.1) (omega arith))
-    (λ ne. let z = only-other slot above (λ e. ne (sym e)) in elim (grown k j) [
+    rw (q.0, q.1) (omega arith)) (λ ne. let z = only-other slot above (λ e. ne (sym e)) in elim (grown k j) [
       | inl e ↦ omega arith
       | inr r ↦ let q = rises_one t tall r.0 steps l i k j k1 j1 slot above r.1 rise is side in
           absurd (ne (place_one t tall slot above k1 j1 (rw (sym q.0, sym q.1) is) side))
@@ -165,8 +160,7 @@ goal_of t l i = risen t (t.height - l) l i
 
 -- a hash rises there, which is a side at or above its spot, and it is then the root there
 abbrev pub Lands : Tree → ℕ → ℕ → ℕ → ℕ × ℕ → Type 1
-Lands t d l i p =
-    ((steps : ℕ) × Rises t.count steps l i p.0 p.1) × IsSide t (slot_at t p.0 p.1) p.0 p.1 × (l ≤ p.0)
+Lands t d l i p = ((steps : ℕ) × Rises t.count steps l i p.0 p.1) × IsSide t (slot_at t p.0 p.1) p.0 p.1 × (l ≤ p.0)
     × ((G : ℕ → List ℕ → Type 0) (hash : List ℕ) → IsRoot G t l i hash → IsRoot G t p.0 p.1 (raised t d l i hash))
 
 module _ (t : Tree) (some_unit : 0 < t.count) (tall : t.count ≤ 2 ^ t.height) where
@@ -184,8 +178,7 @@ module _ (t : Tree) (some_unit : 0 < t.count) (tall : t.count ≤ 2 ^ t.height) 
   risen_lands zero l i top h =
       let e : l ≡ t.height = omega arith in let place = top_place i (subst (λ (x : ℕ). i * 2 ^ x < t.count) e h) in
       ((0, (refl, refl)), inr (slot_top l i e, e, place), omega arith, λ G hash is. is)
-  risen_lands (suc d) l i top h = dite (dec_le t.count (middle l (i / 2)))
-      (λ le.
+  risen_lands (suc d) l i top h = dite (dec_le t.count (middle l (i / 2))) (λ le.
       let even = even_place t l i h le in let z : List ℕ = zero_subtree (t.level + l) in
       let r = risen_lands d (suc l) (i / 2) (omega arith) (omega (arith, half_place l i even)) in
       let on = fork t (suc d) d l (suc l) i false refl refl (le-ltb (middle l (i / 2)) t.count le) in
@@ -195,8 +188,7 @@ module _ (t : Tree) (some_unit : 0 < t.count) (tall : t.count ≤ 2 ^ t.height) 
         omega (arith, r.2),
         λ G hash is. let left = subst (λ (x : ℕ). IsRoot G t l x hash) even is in rw (on.1 hash)
             (r.3 G (node_of hash z) (hash, z, left, past_root G t l (2 * (i / 2) + 1) le, refl)),
-      ))
-      (λ gt. grind arith)
+      )) (λ gt. grind arith)
 
   pub lands : (l i : ℕ) → l ≤ t.height → i * 2 ^ l < t.count → Lands t (t.height - l) l i (goal_of t l i)
   lands l i low covers = risen_lands (t.height - l) l i (omega arith) covers

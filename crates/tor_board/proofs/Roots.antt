@@ -27,11 +27,9 @@ module _ {words slots : ℕ} {shape : Shape} (shaped : IsShape words slots shape
   pub done_next : (ws : List ℕ) (xs : List (List ℕ)) (roots : List (Option (List ℕ))) (root : Option (List ℕ))
       (u : Tree) → get_elem? shape.trees.items next ≡ some u → next < length roots
       → ((k : ℕ) (t : Tree) → get_elem? shape.trees.items k ≡ some t → k < next → IsLeft ws xs t (get_or roots k None))
-      → IsLeft ws xs u root
-      → (k : ℕ) (t : Tree) → get_elem? shape.trees.items k ≡ some t → k < next + 1
+      → IsLeft ws xs u root → (k : ℕ) (t : Tree) → get_elem? shape.trees.items k ≡ some t → k < next + 1
       → IsLeft ws xs t (get_or (set roots next root) k None)
-  done_next ws xs roots root u e inside done left k t f h = dite (ℕ_discrete k next)
-      (λ is.
+  done_next ws xs roots root u e inside done left k t f h = dite (ℕ_discrete k next) (λ is.
       let same : t ≡ u = same_at shaped k next t u f e is in
       let here : get_or (set roots next root) k None ≡ root = rw is (get_or-set_same roots next root None inside) in
       rw (same, here) left)

@@ -33,8 +33,7 @@ module _ {units made least : ℕ} {views : List View} (k : KeepsClaims units mad
     least_is : IsLeastFailed (least_of least) (desks_of views)
     least_is = dite (dec_le nobody least)
         (λ le. let none : (u : ℕ) → times_failed u (desks_of views) ≡ 0 = λ u. shown_failed u ∙ dite (dec_le least u)
-        (λ h. none_past u (omega arith)) (λ h. k.spared u (omega arith)) in
-        inl (no_least least le, none))
+        (λ h. none_past u (omega arith)) (λ h. k.spared u (omega arith)) in inl (no_least least le, none))
         (λ gt. let h : least < nobody = omega arith in
         let spared = λ (x : ℕ) (lt : x < least). shown_failed x ∙ k.spared x lt in
         inr (least, some_least least h, omega (arith, k.attained h, shown_failed least), spared))
@@ -46,13 +45,11 @@ module _ {t : Tree} {words : List ℕ} {homes : List (Opt (List ℕ))} {views : 
   ready_given zero j some_ready i low high inside = let e : i ≡ j = omega arith in
       let shown = total-map (λ (d : Desk). total (λ (g : GivenUnit). only (t.first + j) g.unit) d.given) desk_of views
       in rw e (omega arith)
-  ready_given (suc k) j some_ready i low high inside =
-      let a = twice k j in let b = twice k (j + 1) in
+  ready_given (suc k) j some_ready i low high inside = let a = twice k j in let b = twice k (j + 1) in
       let e : 2 * (j + 1) ≡ 2 * j + 1 + 1 = omega arith in let c = ap (λ (x : ℕ). x * 2 ^ k) e in
       dite (dec_le t.count (middle k j))
       (λ le. ready_given k (2 * j) (omega (arith, ready_chain t words views k j le)) i
-      (omega arith) (omega arith) inside)
-      (λ gt. let near : middle k j < t.count = omega arith in
+      (omega arith) (omega arith) inside) (λ gt. let near : middle k j < t.count = omega arith in
       let node = ready_node t words views k j near in let sum = node_ready kept k j near in
       let l = ready_once kept k (2 * j) (omega arith) in let r = ready_once kept k (2 * j + 1) near in
       dite (dec_le ((2 * j + 1) * 2 ^ k) i)
@@ -72,8 +69,7 @@ module _ {t : Tree} {words : List ℕ} {homes : List (Opt (List ℕ))} {views : 
       → (left : ℕ) × (right : ℕ) × is_given_side (desks_of views) (run_of t) k (2 * i) left
       × is_given_side (desks_of views) (run_of t) k (2 * i + 1) right
       × (get_or words (word_of t (middle k i)) 0 ≤ left + right)
-  node_given k i near =
-      let l : ℕ = slot_of t (middle k i) 0 in let r : ℕ = slot_of t (middle k i) 1 in
+  node_given k i near = let l : ℕ = slot_of t (middle k i) 0 in let r : ℕ = slot_of t (middle k i) 1 in
       let left = subst (λ (x : ℕ). is_given_side (desks_of views) (run_of t) k x (kept.arrived l))
       (sym (zero_more (2 * i))) (side_given l k (2 * i + 0) (side_of t k i 0 (omega arith) near)) in
       let right = side_given r k (2 * i + 1) (side_of t k i 1 (omega arith) near) in
@@ -103,8 +99,7 @@ module _ {shape : Shape} {s : State (List ℕ) View} (kept : Keeps shape s) wher
     word = k.word;
     once = arrived_once k;
     given = arrived_given k;
-    home = λ slot l j side one none.
-        let h = k.home slot l j side none in
+    home = λ slot l j side one none. let h = k.home slot l j side none in
         grind (arith, spot_root s.views all all_weight given_once t l j h.0 (h.2 one));
     sealed = k.tops;
   }

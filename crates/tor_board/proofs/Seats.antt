@@ -93,13 +93,11 @@ module _ (shape : Shape) {s : State (List ℕ) View} (kept : Keeps shape s) (id 
       → KeepsClaims units claims least join_views
   join_claims {units = units} {claims = claims} {least = least} k =
       let fails : (u : ℕ) → total (failures (only u)) join_views ≡ total (failures (only u)) s.views
-      = λ u. omega (arith, join_sum (failures (only u)), total-append (only u) v.failed w.failed) in
-      record {
+      = λ u. omega (arith, join_sum (failures (only u)), total-append (only u) v.failed w.failed) in record {
         once = λ f. let a = join_sum (named f) in let b = k.once f in let d = total-append f v.held w.held in
             omega (arith, total-append (λ (g : GivenUnit). f g.unit) v.given w.given, total-append f v.failed w.failed);
         rooms = omega (arith, join_sum (λ (u : View). u.room), k.rooms);
-        gone = join_all (λ (u : View). u.room ≡ 0 → u ≡ spent) k.gone (λ none. absurd (omega arith))
-            (λ none. refl);
+        gone = join_all (λ (u : View). u.room ≡ 0 → u ≡ spent) k.gone (λ none. absurd (omega arith)) (λ none. refl);
         bounded = omega (arith, join_sum stopped, k.bounded, stopped_both v.done w.done v.room w.room);
         spared = λ u h. omega (arith, fails u, k.spared u h);
         attained = λ h. omega (arith, fails least, k.attained h);
@@ -110,29 +108,27 @@ module _ (shape : Shape) {s : State (List ℕ) View} (kept : Keeps shape s) (id 
       }
 
   pub join_keeps : Keeps shape record { words = s.words; homes = s.homes; views = join_views }
-  join_keeps =
-      let no_climb : (f : Option Climb → ℕ) → f None ≡ 0 → f w.climb ≡ 0 = λ f z. ap f idle' ∙ z in
-      record {
-        small = kept.small;
-        long = kept.long;
-        unused = kept.unused;
-        known = join_all (λ (u : View). 0 < u.room → IsKnown shape u) kept.known (λ _. kept.known id v at some_room)
-            (λ y. omega arith);
-        arrivals = omega (arith, kept.arrivals, join_sum (λ (u : View). u.arrivals));
-        joins = λ t is. let a = kept.joins t is in let b = join_sum (λ (u : View). joined_in t u.given) in
-            omega (arith, total-append (λ (g : GivenUnit). cond (has_unit t g.unit) g.joined 0) v.given w.given);
-        claims = join_claims kept.claims;
-        trees = λ t is. let tree = kept.trees t is in
-            unmoved tree s.words s.homes (λ m h. refl) (omega arith) (λ x h. refl) (omega arith) join_views
-            (λ g. g w + g v) (λ g. g (both v w) + g spent) join_sum
-            (λ f. omega (arith, total-append (λ (g : GivenUnit). f g.unit g.hash) v.given w.given))
-            (λ j h. omega (arith, total-append (λ (g : GivenUnit). only (t.first + j) g.unit) v.given w.given))
-            (λ x h. (omega (arith, no_climb (climbs_to x) refl), omega (arith, no_climb (has_out x) refl)))
-            (omega (arith, total-append (λ (p : ℕ × List ℕ). only t.number p.0) v.tops w.tops))
-            (λ stand. let old = λ (u : View) (has : SeatRooted (WasGiven s.views) t u).
-            seat_more t (WasGiven s.views) (WasGiven join_views) stand u has in
-            let mine = old v (seat_rooted tree id v at) in let theirs = old w (seat_rooted tree other w before) in
-            join_all (SeatRooted (WasGiven join_views) t) (λ j u e. old u (seat_rooted tree j u e))
-            (mine.0, told_append t.number (IsRoot (WasGiven join_views) t t.height 0) v.tops w.tops mine.1 theirs.1)
-            (tt, tt));
-      }
+  join_keeps = let no_climb : (f : Option Climb → ℕ) → f None ≡ 0 → f w.climb ≡ 0 = λ f z. ap f idle' ∙ z in record {
+    small = kept.small;
+    long = kept.long;
+    unused = kept.unused;
+    known = join_all (λ (u : View). 0 < u.room → IsKnown shape u) kept.known (λ _. kept.known id v at some_room)
+        (λ y. omega arith);
+    arrivals = omega (arith, kept.arrivals, join_sum (λ (u : View). u.arrivals));
+    joins = λ t is. let a = kept.joins t is in let b = join_sum (λ (u : View). joined_in t u.given) in
+        omega (arith, total-append (λ (g : GivenUnit). cond (has_unit t g.unit) g.joined 0) v.given w.given);
+    claims = join_claims kept.claims;
+    trees = λ t is. let tree = kept.trees t is in
+        unmoved tree s.words s.homes (λ m h. refl) (omega arith) (λ x h. refl) (omega arith) join_views
+        (λ g. g w + g v) (λ g. g (both v w) + g spent) join_sum
+        (λ f. omega (arith, total-append (λ (g : GivenUnit). f g.unit g.hash) v.given w.given))
+        (λ j h. omega (arith, total-append (λ (g : GivenUnit). only (t.first + j) g.unit) v.given w.given))
+        (λ x h. (omega (arith, no_climb (climbs_to x) refl), omega (arith, no_climb (has_out x) refl)))
+        (omega (arith, total-append (λ (p : ℕ × List ℕ). only t.number p.0) v.tops w.tops))
+        (λ stand. let old = λ (u : View) (has : SeatRooted (WasGiven s.views) t u).
+        seat_more t (WasGiven s.views) (WasGiven join_views) stand u has in
+        let mine = old v (seat_rooted tree id v at) in let theirs = old w (seat_rooted tree other w before) in
+        join_all (SeatRooted (WasGiven join_views) t) (λ j u e. old u (seat_rooted tree j u e))
+        (mine.0, told_append t.number (IsRoot (WasGiven join_views) t t.height 0) v.tops w.tops mine.1 theirs.1)
+        (tt, tt));
+  }

@@ -50,14 +50,12 @@ module _ {shape : Shape} {m : Machine} {s s' : State (List ℕ) View} {id : ℕ}
       (record { claims = made; least = least; arrived = arrived; desks = set m.desks id d })
       → d ≡ desk_of w → made ≡ get_or s'.words 0 0 → least ≡ least_of (get_or s'.words 1 0)
       → s'.views ≡ set s.views id w → Sides arrived → IsEvent shape m id e s'
-  event e made least arrived w d step is c l views sides =
-      let desks = (λ i. set (now.shows.desks i) id (is i))
+  event e made least arrived w d step is c l views sides = let desks = (λ i. set (now.shows.desks i) id (is i))
       ∙ (sym (map-set desk_of s.views id w) ∙ ap desks_of (sym views)) in
       (_, as_seat step, record { claims = c; least = l; desks = desks; sides = sides })
 
   -- one seat's climb may end and another begin
-  module _ (w : View) (views : s'.views ≡ set s.views id w) (gives : (u : ℕ) → gave u v ≤ gave u w)
-      (new : New w.climb)
+  module _ (w : View) (views : s'.views ≡ set s.views id w) (gives : (u : ℕ) → gave u v ≤ gave u w) (new : New w.climb)
       (sum : (t : Tree) → IsTreeOf shape t → (n : ℕ) → 0 < n → n < t.count → get_or s'.words (word_of t n) 0
       ≡ get_or s.words (word_of t n) 0 + (climbs (slot_of t n 0) v + climbs (slot_of t n 1) v)) where
     part : (g : View → ℕ) → total g s'.views + g v ≡ total g s.views + g w
@@ -95,8 +93,7 @@ module _ {shape : Shape} {m : Machine} {s s' : State (List ℕ) View} {id : ℕ}
     -- where no side arrives
     pub unarrived : ((u : ℕ) → gave u v ≤ gave u w) → New w.climb
         → ((t : Tree) → IsTreeOf shape t → (n side : ℕ) → side < 2 → 0 < n → n < t.count
-        → climbs (slot_of t n side) v ≡ 0)
-        → Sides m.arrived
+        → climbs (slot_of t n side) v ≡ 0) → Sides m.arrived
     unarrived gives new none = moved w change.1 gives new
         (λ t is x pos h. let a = other_word (word_of t x) (λ e. omega arith) in
         let b = none t is x 0 (omega arith) pos h in let d = none t is x 1 (omega arith) pos h in omega arith)
@@ -114,14 +111,12 @@ module _ {shape : Shape} {m : Machine} {s s' : State (List ℕ) View} {id : ℕ}
       → IsEvent shape m id e s'
   on_first e n made w d change sides is d_is step = event e made m.least m.arrived w d step d_is
       (is ∙ sym (this_word 0 n (omega arith) w change))
-      (now.shows.least ∙ ap least_of (sym (other_word 0 n (omega arith) w change 1 (λ e. omega arith))))
-      change.1 sides
+      (now.shows.least ∙ ap least_of (sym (other_word 0 n (omega arith) w change 1 (λ e. omega arith)))) change.1 sides
 
   pub on_second : (e : Event) (n : ℕ) (least : Option ℕ) (w : View) → IsChange s 1 n id w s' → v.climb ≡ None
       → w.climb ≡ None → ((u : ℕ) → gave u v ≤ gave u w) → least ≡ least_of n
       → IsStep shape.units (runs_of shape) m id (desk_of v) e
-      (record m { least = least; desks = set m.desks id (desk_of w) })
-      → IsEvent shape m id e s'
+      (record m { least = least; desks = set m.desks id (desk_of w) }) → IsEvent shape m id e s'
   on_second e n least w change idle idle' gives is step = event e m.claims least m.arrived w (desk_of w) step refl
       (now.shows.claims ∙ sym (other_word 1 n (omega arith) w change 0 (λ e. omega arith)))
       (is ∙ ap least_of (sym (this_word 1 n (omega arith) w change))) change.1

@@ -24,8 +24,7 @@ module _ {shape : Shape} {m : Machine} {s s' : State (List ℕ) View} {id : ℕ}
     (now : Moment shape m s s' id v) where
   pub looks_so : (has : List (ℕ × List ℕ)) (after : Seated) (st : _) → looked st (v, has) (get_or s.words 1 0) after
       → IsChange s 1 (get_or s.words 1 0) id after.0 s' → IsEvent shape m id look s'
-  looks_so has after st told change =
-      let n : ℕ = get_or s.words 1 0 in let idle : v.climb ≡ None = told.3.1 in
+  looks_so has after st told change = let n : ℕ = get_or s.words 1 0 in let idle : v.climb ≡ None = told.3.1 in
       dite (ℕ_discrete n nobody)
       (λ e. on_second now look n m.least (looking v) (as_told now _ (told.0 e).0 refl change) idle idle
       (λ u. omega arith) now.shows.least
@@ -40,16 +39,14 @@ module _ {shape : Shape} {m : Machine} {s s' : State (List ℕ) View} {id : ℕ}
       let n : ℕ = get_or s.words 0 0 in let idle : v.climb ≡ None = told.3.1 in let made = now.shows.claims in
       let of : v.units ≡ shape.units = (now.kept.known id v now.at told.3.0).0 in
       let big : (n + 1) % 2 ^ 64 ≡ n + 1 = omega (arith, few_claims now.kept.claims, now.kept.small) in
-      dite (dec_le shape.units n)
-      (λ past. let c = as_told now _ (told.1 (omega arith)) big change in
+      dite (dec_le shape.units n) (λ past. let c = as_told now _ (told.1 (omega arith)) big change in
       on_first now claim (n + 1) (m.claims + 1) (finished v) (desk_of (finished v)) c
       (quiet now 0 (n + 1) (omega arith) (finished v) c idle idle (λ u. omega arith)) (omega arith) refl
       (ends told.3.0 (ap way_in idle) told.4 told.5 (omega arith)))
       (λ more. let c = as_told now _ (told.0 (omega arith)).0 big change in
       on_first now claim (n + 1) (m.claims + 1) (holding v n) (desk_of (holding v m.claims)) c
       (quiet now 0 (n + 1) (omega arith) (holding v n) c idle idle (λ u. omega arith)) (omega arith)
-      (ap (λ (x : ℕ). desk_of (holding v x)) made)
-      (claims told.3.0 (ap way_in idle) told.4 told.5 (omega arith)))
+      (ap (λ (x : ℕ). desk_of (holding v x)) made) (claims told.3.0 (ap way_in idle) told.4 told.5 (omega arith)))
 
   pub fails_so : (has : List (ℕ × List ℕ)) (after : Seated) (st : _) → failed st (v, has) (get_or s.words 1 0) after
       → IsChange s 1 (min (get_or s.words 1 0) st.first) id after.0 s' → IsEvent shape m id (fail st.first) s'
@@ -57,8 +54,7 @@ module _ {shape : Shape} {m : Machine} {s s' : State (List ℕ) View} {id : ℕ}
       let u : ℕ = st.first in let n : ℕ = get_or s.words 1 0 in let idle : v.climb ≡ None = told.2.1 in
       let near = named_below now.kept.claims id v now.at u (omega (arith, told.3)) in
       let small : u < nobody = omega (arith, near.1, now.kept.small) in
-      let least : Some (lesser m.least u) ≡ least_of (min n u) = dite (ℕ_discrete n nobody)
-      (λ e. grind arith)
+      let least : Some (lesser m.least u) ≡ least_of (min n u) = dite (ℕ_discrete n nobody) (λ e. grind arith)
       (λ ne. grind arith) in
       on_second now (fail u) (min n u) (Some (lesser m.least u)) (failing v u) (as_told now _ told.0 refl change)
       idle idle (λ x. omega arith) least (fails u told.2.0 (ap way_in idle) told.3)
@@ -72,16 +68,14 @@ module _ {shape : Shape} {m : Machine} {s s' : State (List ℕ) View} {id : ℕ}
       let k : ℕ = get_or s.words 0 0 in let idle : v.climb ≡ None = told.2.1 in let w : View = handed v u hash None in
       let c = as_told now _ told.0 refl change in
       let in_none : IsStart (runs_of shape) u None = λ n run e. let t = tree_at now.kept shaped n run e in
-      sym (ap (λ (r : Run). in_run r u) t.3) ∙ none t.0 t.1 in
-      on_first now (hand u hash) k m.claims w (desk_of w) c
+      sym (ap (λ (r : Run). in_run r u) t.3) ∙ none t.0 t.1 in on_first now (hand u hash) k m.claims w (desk_of w) c
       (quiet now 0 k (omega arith) w c idle refl (λ x. omega arith)) now.shows.claims refl
       (hands u hash None told.2.0 (ap way_in idle) told.3 in_none)
 
   -- ---- seats are split and joined
   reseated : (e : Event) (desks : List Desk)
       → IsStep shape.units (runs_of shape) m id (desk_of v) e (record m { desks = desks })
-      → s'.words ≡ s.words → desks ≡ desks_of s'.views
-      → ((slot : ℕ) → climbing slot s'.views ≡ climbing slot s.views)
+      → s'.words ≡ s.words → desks ≡ desks_of s'.views → ((slot : ℕ) → climbing slot s'.views ≡ climbing slot s.views)
       → ((u : ℕ) → times_given u s'.views ≡ times_given u s.views) → IsEvent shape m id e s'
   reseated e desks step words is still gives =
       let claims = now.shows.claims ∙ ap (λ (l : List ℕ). get_or l 0 0) (sym words) in
@@ -90,8 +84,7 @@ module _ {shape : Shape} {m : Machine} {s s' : State (List ℕ) View} {id : ℕ}
       let covers = side_covers t (now.kept.trees t is).some_unit slot k (2 * i + side) (side_of t k i side two near) in
       let same = ready_same t s.words s'.words s.views s'.views
       (λ x pos h. ap (λ (l : List ℕ). get_or l (word_of t x) 0 / 2) words) (λ j h. gives (t.first + j))
-      k (2 * i + side) covers in
-      omega (arith, still slot, now.shows.sides t is k i side two near) in
+      k (2 * i + side) covers in omega (arith, still slot, now.shows.sides t is k i side two near) in
       (_, as_seat now step, record { claims = claims; least = least; desks = is; sides = sides })
 
   pub splits_so : 2 ≤ v.room → v.climb ≡ None → s'.words ≡ s.words
@@ -116,8 +109,7 @@ module _ {shape : Shape} {m : Machine} {s s' : State (List ℕ) View} {id : ℕ}
       let b = map-set desk_of s.views id (both v w) in
       reseated (join other) _ (joins other (desk_of w) free.0 (ap way_in free.1) free'.0 (ap way_in free'.1) apart
       (within m.desks other (desk_of w) there) (read m.desks other (desk_of w) spent_desk there)) words
-      (rw (now.shows.desks, views, a, b) refl)
-      (λ slot. omega (arith, sum (climbs slot), ap (climbs_to slot) free'.1))
+      (rw (now.shows.desks, views, a, b) refl) (λ slot. omega (arith, sum (climbs slot), ap (climbs_to slot) free'.1))
       (λ u. omega (arith, sum (gave u), total-append (λ (g : GivenUnit). only u g.unit) v.given w.given))
 
 -- ---- each step, and a history
@@ -134,8 +126,7 @@ each_step {s = s} now shaped has e (board.begins st after s'' u hash t is in_tre
 each_step {shape = shape} {s = s} {s' = s'} {id = id} {v = v} now shaped has e (board.arrives st after n told change) =
     let c : Climb = told.2 in let in_climb = told.3 in let here = told.0 c in_climb in let node = here.1 in
     let is : IsTreeOf shape c.tree = subst (ClimbsIn shape) in_climb (now.kept.known id v now.at told.1).1 in
-    arrives_so now shaped c in_climb is node.0 node.1 told.1 has after (rw (sym node.2) here.0)
-    (rw (sym node.2) change)
+    arrives_so now shaped c in_climb is node.0 node.1 told.1 has after (rw (sym node.2) here.0) (rw (sym node.2) change)
 each_step {shape = shape} {id = id} {v = v} now shaped has e (board.seals st after s'' told change) =
     let c : Climb = told.3 in let in_climb = told.4 in let here = told.0 c in_climb in
     let is : IsTreeOf shape c.tree = subst (ClimbsIn shape) in_climb (now.kept.known id v now.at told.2).1 in
@@ -167,8 +158,7 @@ pub history_runs : (words slots : ℕ) (shape : Shape) → IsShape words slots s
 history_runs words slots shape shaped events s (opened s'' kept none_claimed none_failed zeros views)
     = (start, begins, begins_so shape s kept none_claimed none_failed zeros views)
 history_runs words slots shape shaped events s (stepped before s' s'' id v has e past at step kept) =
-    let r = history_runs words slots shape shaped before s' past in
-    let now : Moment shape r.0 s' s id v
+    let r = history_runs words slots shape shaped before s' past in let now : Moment shape r.0 s' s id v
     = record { kept = history_keeps shape before s' past; kept' = kept; shows = r.2; at = at } in
     let n = each_step now shaped has e step in
     (n.0, goes_on before r.0 n.0 id e r.1 (within r.0.desks id (desk_of v) (shown now)) n.1, n.2)

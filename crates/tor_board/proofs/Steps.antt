@@ -98,8 +98,7 @@ pub keeps_step : {t : Tree} {words words' : List ℕ} {homes homes' : List (Opt 
     → TreeStep t words words' homes homes' views views' kept.arrived less more grow → KeepsTree t words' homes' views'
 keeps_step {t = t} {views = views} {views' = views'} {less = less} {more = more} {grow = grow} kept step =
     let stand : (u : ℕ) (x : List ℕ) → WasGiven views u x → WasGiven views' u x
-    = λ u x s f. omega (arith, step.sum (weight f), step.given f, s f) in
-    record {
+    = λ u x s f. omega (arith, step.sum (weight f), step.given f, s f) in record {
       arrived = λ s. kept.arrived s + grow s;
       some_unit = kept.some_unit;
       tall = kept.tall;
@@ -161,8 +160,7 @@ module _ {t : Tree} {words : List ℕ} {homes : List (Opt (List ℕ))} {views : 
 -- a view and an act of the seat, where those are at home and it has these slots, by which the rule stays and P is told
 abbrev pub Does : Shape → State (List ℕ) View → List (Opt (List ℕ)) → ℕ → ℕ → ℕ → List (ℕ × List ℕ)
     → (Seated → Type 0) → Type 0
-Does shape s homes id i f slots P =
-    (w : View) × (a : Act (List ℕ)) × Valid homes slots a
+Does shape s homes id i f slots P = (w : View) × (a : Act (List ℕ)) × Valid homes slots a
     × Keeps shape record { words = set s.words i f; homes = homes_after homes slots a; views = set s.views id w }
     × P (w, carried_after slots a)
 
@@ -203,14 +201,12 @@ module _ {t : Tree} {words : List ℕ} {homes : List (Opt (List ℕ))} {views : 
       → ((f : ℕ → List ℕ → ℕ) → less (weight f) ≤ more (weight f))
       → ((j : ℕ) → j < t.count → more (gave (t.first + j)) ≡ less (gave (t.first + j)))
       → ((s : ℕ) → IsIn t s → (more (climbs s) ≡ less (climbs s)) × (more (outs s) ≡ less (outs s)))
-      → more (tops_at t) ≡ less (tops_at t)
-      → (((u : ℕ) (x : List ℕ) → WasGiven views u x → WasGiven views' u x)
+      → more (tops_at t) ≡ less (tops_at t) → (((u : ℕ) (x : List ℕ) → WasGiven views u x → WasGiven views' u x)
       → (j : ℕ) (u : View) → get_elem? views' j ≡ some u → SeatRooted (WasGiven views') t u)
       → KeepsTree t words' homes' views'
   unmoved views' less more sum given gives still tops seats =
       let slot_in : (m side : ℕ) → side < 2 → m < t.count → IsIn t (slot_of t m side)
-      = λ m side two h. (omega arith, omega arith) in
-      keeps_step kept record {
+      = λ m side two h. (omega arith, omega arith) in keeps_step kept record {
         sum = sum;
         long = longer;
         wide = wider;
@@ -240,5 +236,4 @@ module _ {t : Tree} {words : List ℕ} {homes : List (Opt (List ℕ))} {views : 
   unmoved_seat id v w at tops has v_away w_away more same =
       unmoved (set views id w) (λ g. g v) (λ g. g w) (λ g. total-set g views id v w at) more same
       (λ s is. let a = away_climbs t v.climb v_away s is in let b = away_climbs t w.climb w_away s is in
-      (omega arith, omega (arith, v_away s is, w_away s is)))
-      tops (old_seat kept id w has)
+      (omega arith, omega (arith, v_away s is, w_away s is))) tops (old_seat kept id w has)

@@ -44,8 +44,7 @@ total-map f h (x ∷ xs) = omega (arith, total-map f h xs)
 
 -- what holds of each item, once one is another, or there is one more
 pub set_all : {A : Type 0} (P : A → Type 0) (l : List A) (id : ℕ) (w : A)
-    → ((j : ℕ) (u : A) → get_elem? l j ≡ some u → P u) → P w
-    → (j : ℕ) (u : A) → get_elem? (set l id w) j ≡ some u → P u
+    → ((j : ℕ) (u : A) → get_elem? l j ≡ some u → P u) → P w → (j : ℕ) (u : A) → get_elem? (set l id w) j ≡ some u → P u
 set_all P l id w all now j u e = elim (at_set l id j w u e) [ inl r ↦ subst P r.1 now | inr r ↦ all j u r.1 ]
 
 pub snoc_all : {A : Type 0} (P : A → Type 0) (l : List A) (w : A)

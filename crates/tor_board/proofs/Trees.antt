@@ -61,8 +61,7 @@ ready_more t words words' views views' more given (suc k) i h = let below : 2 * 
     in dite (dec_le t.count (middle k i))
     (λ le. let less = ready_more t words words' views views' more given k (2 * i) below in
     omega (arith, ready_chain t words views k i le, ready_chain t words' views' k i le))
-    (λ gt. let in_ : middle k i < t.count = omega arith in
-    let a = more (middle k i) (split_positive k i) in_ in
+    (λ gt. let in_ : middle k i < t.count = omega arith in let a = more (middle k i) (split_positive k i) in_ in
     omega (arith, ready_node t words views k i in_, ready_node t words' views' k i in_))
 
 pub ready_same : (t : Tree) (words words' : List ℕ) (views views' : List View)

@@ -18,8 +18,7 @@ fetch_add-found-requires c =
     let below = below_of fits cl c.requires.below in (
       c.requires.table,
       omega (arith, c.word.ensures, c.middle-node.ensures, below.inside, fits.long),
-      rw (c.word.ensures, c.middle-node.ensures)
-          (arrives c.requires.shape _ _ _
+      rw (c.word.ensures, c.middle-node.ensures) (arrives c.requires.shape _ _ _
           (climb_at c.args.tree.now c.args.spot.level c.args.spot.index c.args.spot.hash cl.spare) cl.is cl.carried
           c.requires.tree below cl.left c.requires.room cl.giving),
     )
@@ -41,8 +40,7 @@ slot_at-requires-clause-within c =
     grind (arith, next_of fits c.requires.climbs c.requires.below _ _ next.level next.index)
 
 pub exchange-requires : goal.exchange-requires
-exchange-requires c =
-    let spot = c.args.spot in let cl = c.requires.climbs in let next = c.risen-next.ensures in
+exchange-requires c = let spot = c.args.spot in let cl = c.requires.climbs in let next = c.risen-next.ensures in
     let one = (c.fetch_add-found.ensures.2.0 _ cl.is).0 in let r = one.2 (omega (arith, one.0, c.if-found-eq0.false)) in
     let q = turned_seat r.2 c.slot_mut.ensures.value c.turn.ensures.2 in
     let a = above_at (c.requires.shape.fits c.args.tree.now c.requires.tree) spot.level spot.index spot.hash cl.spare
@@ -50,8 +48,7 @@ exchange-requires c =
     (c.turn.ensures.0 ∙ (c.fetch_add-found.ensures.0 ∙ c.requires.table), (r.1, at_slot q.1 a))
 
 pub returns : goal.returns
-returns c =
-    let spot = c.args.spot in let cl = c.requires.climbs in let next = c.risen-next.ensures in
+returns c = let spot = c.args.spot in let cl = c.requires.climbs in let next = c.risen-next.ensures in
     let fits = c.requires.shape.fits c.args.tree.now c.requires.tree in
     let one = (c.fetch_add-found.ensures.2.0 _ cl.is).0 in let r = one.2 (omega (arith, one.0, c.if-found-eq0.false)) in
     let q = turned_seat r.2 c.slot_mut.ensures.value c.turn.ensures.2 in
@@ -59,8 +56,7 @@ returns c =
     let t = c.args.tree.now in let at = climb_at t spot.level spot.index spot.hash cl.spare in
     let up = climbed at r.0 in let same : suc spot.level ≡ spot.level + 1 = omega arith in
     let p = next_of fits cl c.requires.below _ _ next.level next.index in
-    let joins : c.if-index-eq0.joined ≡ met (spot.index % 2) spot.hash r.0 = grind arith in
-    record {
+    let joins : c.if-index-eq0.joined ≡ met (spot.index % 2) spot.hash r.0 = grind arith in record {
       table = search rules;
       first = tt;
       low = (omega (arith, p.3), p.1);

@@ -3,20 +3,17 @@ use Rattle.tor_board.proofs.{Meets.lands_at, Meets.climbs_on, Trees.has_unit-wit
 use Rattle.tor_board.proofs.climb.begin.Goals as goal
 
 pub slot_at-requires-clause-within : goal.slot_at-requires-clause-within
-slot_at-requires-clause-within c =
-    let fits = c.requires.shape.fits c.args.tree.now c.requires.tree.0 in
+slot_at-requires-clause-within c = let fits = c.requires.shape.fits c.args.tree.now c.requires.tree.0 in
     grind (arith, lands_at fits 0 (c.args.unit - c.args.tree.now.first))
 
 pub exchange-requires : goal.exchange-requires
 exchange-requires c = grind arith
 
 pub returns : goal.returns
-returns c =
-    let t = c.requires.tree in let spot = c.risen-spot.ensures in let given = c.hand_in.ensures.given.1 in
+returns c = let t = c.requires.tree in let spot = c.risen-spot.ensures in let given = c.hand_in.ensures.given.1 in
     let fits = c.requires.shape.fits c.args.tree.now t.0 in let i = c.args.unit - c.args.tree.now.first in
     let u = c.args.unit in let hash = c.args.hash.now in let v = c.args.seat.now.me.0 in
-    let start = climb_from c.args.tree.now 0 i hash [] in
-    record {
+    let start = climb_from c.args.tree.now 0 i hash [] in record {
       table = c.exchange.ensures.0 ∙ c.hand_in.ensures.table;
       low = (lands_at fits 0 i (omega arith) (omega (arith, t.1, t.2)) _ _ spot.level spot.index).1;
       climbs = climbs_on fits 0 i (omega arith) (omega (arith, t.1, t.2)) hash [] _ _ spot.level spot.index _ spot.hash

@@ -17,20 +17,15 @@ side_slot-requires c =
     ((tree_facts c.requires.shape _ there.1).1, omega arith, omega arith)
 
 pub overflow_sub-tree : goal.overflow_sub-tree
-overflow_sub-tree c =
-    let there = tree_there c.requires.shape _ _ (omega (arith, c.if-next-len.true, c.len.ensures))
-    c.index-then-side_slot-slot.ensures in
-    omega (arith, some_height c.requires.shape _ there.1)
+overflow_sub-tree c = let there = tree_there c.requires.shape _ _ (omega (arith, c.if-next-len.true, c.len.ensures))
+    c.index-then-side_slot-slot.ensures in omega (arith, some_height c.requires.shape _ there.1)
 
 pub middle-requires : goal.middle-requires
-middle-requires c =
-    let there = tree_there c.requires.shape _ _ (omega (arith, c.if-next-len.true, c.len.ensures))
-    c.index-then-side_slot-slot.ensures in
-    top_fits c.requires.shape _ there.1
+middle-requires c = let there = tree_there c.requires.shape _ _ (omega (arith, c.if-next-len.true, c.len.ensures))
+    c.index-then-side_slot-slot.ensures in top_fits c.requires.shape _ there.1
 
 pub word-requires : goal.word-requires
-word-requires c =
-    let there = tree_there c.requires.shape _ _ (omega (arith, c.if-next-len.true, c.len.ensures))
+word-requires c = let there = tree_there c.requires.shape _ _ (omega (arith, c.if-next-len.true, c.len.ensures))
     c.index-then-side_slot-slot.ensures in
     let top = top_node c.requires.shape _ there.1 in let fits = c.requires.shape.fits _ there.1 in
     let facts = tree_facts c.requires.shape _ there.1 in
@@ -39,14 +34,12 @@ word-requires c =
 pub word-requires-then-side_slot-slot : goal.word-requires-then-side_slot-slot
 word-requires-then-side_slot-slot c =
     let there = tree_there c.requires.shape _ _ (omega (arith, c.if-next-len.true, c.len.ensures))
-    c.index-then-side_slot-slot.ensures in
-    let same = c.take-hash.ensures.others.3 ∙ c.slots.invariant.words in
+    c.index-then-side_slot-slot.ensures in let same = c.take-hash.ensures.others.3 ∙ c.slots.invariant.words in
     let top = top_word c.requires.shape _ there.1 in
     (rw (same, c.word.ensures, c.middle.ensures) top, rw same c.requires.full.0)
 
 pub slots-preserved : goal.slots-preserved
-slots-preserved c =
-    let i = c.slots.invariant in let o = c.take-hash.ensures.others in
+slots-preserved c = let i = c.slots.invariant in let o = c.take-hash.ensures.others in
     let slot = c.slots.slot in let next = c.slots.next in let trees = c.args.shape.now.trees.items in
     let ws = slots_items c.args.ended.now.words in let xs = slots_items c.args.ended.now.slots in
     let filled = slots_filled c.slots.ended.slots in
@@ -55,8 +48,7 @@ slots-preserved c =
     = λ k low h. rw o.1 (get_or-set_other filled slot k false false (λ e. omega arith)
     ∙ i.rest k (omega arith) (omega (arith, o.2))) in
     let taken : (k : ℕ) → k < slot + 1 → get_or (slots_filled c.take-hash.new.self.slots) k false ≡ false
-    = λ k h. rw o.1 (taken_more filled slot i.taken k h) in
-    elim c.if-next-len.branch [
+    = λ k h. rw o.1 (taken_more filled slot i.taken k h) in elim c.if-next-len.branch [
       | then-next-len+then-side_slot-slot w ↦
           let less : next < length trees = omega (arith, w.if-next-len.true, c.len.ensures) in
           let u = w.index.result.now in let t = w.index-then-side_slot-slot.result.now in
@@ -75,13 +67,11 @@ slots-preserved c =
           let put : (root : Option (List ℕ)) × (c.if-next-len.roots.items ≡ set roots next root) × IsLeft ws xs t root
           = elim w.if-word-ge2.branch [
             | then-word-ge2 w' ↦ grind arith
-            | else-word-ge2 w' ↦
-                let is = ap (λ (v : Vec (Option (List ℕ)) Global). v.items) (w.roots-is ∙ w'.roots-is)
+            | else-word-ge2 w' ↦ let is = ap (λ (v : Vec (Option (List ℕ)) Global). v.items) (w.roots-is ∙ w'.roots-is)
                 ∙ sym (set-get_or roots next None) in
                 let none = i.empty next (omega arith) in let few = w'.if-word-ge2.false in
                 (get_or roots next None, is, (w.word-then-side_slot-slot.result, found, inr (omega (arith, few), none)))
-          ] in
-          record {
+          ] in record {
             rest = rest;
             taken = taken;
             items = o.0 ∙ i.items;
@@ -95,8 +85,7 @@ slots-preserved c =
                 (i.empty k (omega arith));
             count = rw (put.1, length-set roots next put.0) i.count;
           }
-      | else-next-len w ↦
-          let roots_are : c.if-next-len.roots.items ≡ c.slots.roots.items = grind arith in
+      | else-next-len w ↦ let roots_are : c.if-next-len.roots.items ≡ c.slots.roots.items = grind arith in
           let last : c.if-next-len.next ≡ next = w.next-is in
           let later : (k : ℕ) (x : Tree) → get_elem? trees k ≡ some x → next ≤ k → slot + 1 ≤ 2 * x.offset
           = elim w.else-next-len.branch [
@@ -107,8 +96,7 @@ slots-preserved c =
                 (λ e. w'.if-side_slot-slot.false (w'.side_slot.ensures ∙ e))
             | else-next-len-via-else-next-len w' ↦ λ k x e le.
                 omega (arith, within trees k x e, w'.if-next-len.false, c.len.ensures)
-          ] in
-          record {
+          ] in record {
             rest = rest;
             taken = taken;
             items = o.0 ∙ i.items;

@@ -7,8 +7,7 @@ hand_alone-requires-clause-alone c
     = λ t is j h. c.in_default.ensures.none t (subst (λ (s : Shape). IsTreeOf s t) c.args.self.now.sized is) j h
 
 pub returns-clause-given : goal.returns-clause-given
-returns-clause-given c =
-    let t = c.in-Some.tree in let some = c.in-Some.ensures.some in
+returns-clause-given c = let t = c.in-Some.tree in let some = c.in-Some.ensures.some in
     let levels = levels_of c.args.self.now c.args.self.now.shaped t some.0 c.args.job.number some.1 some.2 in
     given_after c.args.self.now t some.0 c.climb.result.top c.climb.result.joined _ levels c.climb.ensures.few
     c.climb.ensures.number c.args.seat.now.inner.me.0 c.begin-start.new.seat.me.0 c.climb.new.seat.me
