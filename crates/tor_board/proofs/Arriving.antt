@@ -4,7 +4,7 @@ use Rattle.tor_board.proofs.Names.{◌%◌, ◌*◌, ◌+◌, ◌-◌, ◌/◌, 
 use Rattle.tor_board.proofs.Names.{get_elem?, set_else, set_here, Climb, climbed, met, other_slot, IsSide, KeepsTree}
 use Rattle.tor_board.proofs.Names.{climbing, out, IsRoot, WasGiven, middle, ready, slot_of, word_of, joining, rested}
 use Rattle.tor_board.proofs.Names.{only, Tree, View}
-use Rattle.tor_board.proofs.Sums.{total-set, only-same, only-other, only_le, term_le}
+use Rattle.tor_board.proofs.Sums.{total-set, only-same, only-other, term_le}
 use Rattle.tor_board.proofs.Rising.{split_one, rooted_at, rises_ready, ready_from, ready_grown, Lands, goal_of, lands}
 use Rattle.tor_board.proofs.Trees.{alone_there, empty_home, node_word, node_flow, node_once, ready_node, side_of}
 use Rattle.tor_board.proofs.Trees.{split_positive, node_inside, zero_more, side_once}
@@ -140,7 +140,7 @@ module _ {words : List ℕ} {homes : List (Opt (List ℕ))} {views : List View} 
           word = λ m pos h. counted c below words long t m;
           flow = λ s k j is. let more = ready_grown t kept.tall words words' views vs (suc c.level) (c.index / 2)
               (above_slot c) up.0 up.1 landed.0.0 above_side landed.0.1 unready full grown s k j is in omega arith;
-          sides_out = λ m side two pos h. grind (arith, only_le (slot_of t m side) other, word_else, only-other);
+          sides_out = λ m side two pos h. grind (arith, word_else, only-other);
           out_top = grind (arith, split_positive c.level (c.index / 2));
           home = λ s k j is none_out. let mine = term_le (outs s) views id (bare v c) at in let all = sum (outs s) in
               let not_other : s ≢ other = λ e. let o : only s other ≡ 1 = rw e (only-same other) in omega arith in

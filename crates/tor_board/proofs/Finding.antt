@@ -1,10 +1,9 @@
 -- The trees of a shape: which one has a unit, and what is counted at their nodes.
-use Rattle.tor_board.proofs.Names.{ap, arith, cond, get_or, length, subst, sym, ℕ, ◌*◌, ◌+◌, ◌-◌, ◌<◌, ◌^◌, ◌∙◌, ◌≡◌}
-use Rattle.tor_board.proofs.Names.{◌≢◌, ◌≤◌, pow_mono, dite, some, some-injective, dec_le, get_elem?, IsShape, IsTreeOf}
-use Rattle.tor_board.proofs.Names.{has_unit, middle, word_of, Board, Shape, Tree, IsIn, List, [], get_or-set_other}
-use Rattle.tor_board.proofs.Names.{get_or-set_same, inl, refl, set, suc, zero, ◌%◌, ◌/◌, ◌∷◌, Climb, GivenUnit}
-use Rattle.tor_board.proofs.Names.{joined_more, climbed, IsSide, joined_in, pairs, slot_of, below, only, total}
-use Rattle.tor_board.proofs.Names.{LastGiveIsIn}
+use Rattle.tor_board.proofs.Names.{ap, arith, cond, get_or, length, subst, sym, ℕ, ◌+◌, ◌-◌, ◌<◌, ◌∙◌, ◌≡◌, ◌≢◌, ◌≤◌}
+use Rattle.tor_board.proofs.Names.{dite, some, some-injective, dec_le, get_elem?, IsShape, IsTreeOf, has_unit, middle}
+use Rattle.tor_board.proofs.Names.{word_of, Board, Shape, Tree, IsIn, List, [], get_or-set_other, get_or-set_same, inl}
+use Rattle.tor_board.proofs.Names.{refl, set, suc, zero, ◌%◌, ◌/◌, ◌∷◌, Climb, GivenUnit, joined_more, climbed, IsSide}
+use Rattle.tor_board.proofs.Names.{joined_in, pairs, slot_of, below, only, total, LastGiveIsIn}
 use Rattle.tor_board.proofs.Sums.{term_le, total-map}
 use Rattle.tor_board.specs.Seats.{levels_above}
 use Rattle.{tor_merkle.specs.Subtree.height, atomic_table.proofs.Lists.at_index}
@@ -66,9 +65,6 @@ module _ {words slots : ℕ} {shape : Shape} (shaped : IsShape words slots shape
 
   pub top_node : middle (t.height - 1) 0 < t.count
   top_node = grind (arith, shaped.fits t is, (shaped.fits t is).least, some_height, height_least)
-
-  pub top_fits : (t.height - 1 ≤ 36) × ((2 * 0 + 1) * 2 ^ (t.height - 1) < 2 ^ 63)
-  top_fits = grind (arith, shaped.fits t is, pow_mono, (shaped.fits t is).low)
 
   pub top_word : word_of t (middle (t.height - 1) 0) < words
   top_word = omega (arith, top_node, (shaped.fits t is).long)

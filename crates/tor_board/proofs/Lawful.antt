@@ -1,10 +1,10 @@
 -- What every run of the machine keeps, and what makes it lawful.
 use Rattle.tor_board.proofs.Names.{Bool, List, [], arith, cond, false, inl, inr, true, ℕ, ◌*◌, ◌+◌, ◌<◌, ◌^◌, ◌∙◌, ◌∷◌}
-use Rattle.tor_board.proofs.Names.{◌≡◌, ◌≤◌, ◌⊎◌, way_of, Side, times_arrived, climb_from, Tree, None, Option, Some}
-use Rattle.tor_board.proofs.Names.{get_or, length, min, refl, suc, sym, zero, some, some-ne-none, get_elem?, Run, Desk}
+use Rattle.tor_board.proofs.Names.{◌≡◌, ◌≤◌, way_of, Side, times_arrived, climb_from, Tree, None, Option, Some, get_or}
+use Rattle.tor_board.proofs.Names.{length, min, refl, suc, sym, zero, some, some-ne-none, get_elem?, Run, Desk}
 use Rattle.tor_board.proofs.Names.{GivenUnit, Way, names, Every, IsLeastFailed, IsNodeSide, Machine, is_given_side}
 use Rattle.tor_board.proofs.Names.{lesser, start, times_failed, below, only, times, total}
-use Rattle.tor_board.proofs.Sums.{cond_le, snoc_all, total_le, below-test, below_more, below-only}
+use Rattle.tor_board.proofs.Sums.{cond_le, snoc_all, total_le, below-test, below-only}
 use Rattle.tor_board.proofs.Rising.{goal_of, lands}
 use Rattle.tor_board.specs.{Desks.first, Machine.IsNext, Machine.arrivals_at, Machine.is_side, Machine.IsLawfulState}
 use Rattle.tor_merkle.specs.Subtree.{height}
@@ -20,11 +20,8 @@ side_at n k j = record { tree = n; level = k; index = j }
 pub same_side : (a b : Side) → a.tree ≡ b.tree → a.level ≡ b.level → a.index ≡ b.index → is_side a b ≡ true
 same_side a b e f g = grind arith
 
-pub either_side : (a b : Side) → ((a.tree ≡ b.tree) × (a.level ≡ b.level) × (a.index ≡ b.index)) ⊎ (is_side a b ≡ false)
-either_side a b = grind arith
-
 pub other_side : (a b : Side) → (a.tree ≡ b.tree → a.level ≡ b.level → a.index ≡ b.index → ⊥) → is_side a b ≡ false
-other_side a b ne = elim (either_side a b) [ inl r ↦ absurd (ne r.0 r.1 r.2) | inr f ↦ f ]
+other_side a b ne = grind arith
 
 -- a node's arrivals are those of its sides
 pub at_node : (n k i : ℕ) (sides : List Side) → arrivals_at sides n k i
@@ -61,12 +58,6 @@ pub there : {X : Type 0} (l : List X) (i : ℕ) (d : X) → i < length l → get
 there [] i d h = absurd (omega arith)
 there (x ∷ xs) zero d h = refl
 there (x ∷ xs) (suc i) d h = there xs i d (omega arith)
-
-pub mark_more : (units made u : ℕ) → made < units → mark units (made + 1) u ≡ mark units made u + only u made
-mark_more units made u h = grind (arith, below_more (only u) made)
-
-pub mark_past : (units made u : ℕ) → units ≤ made → mark units (made + 1) u ≡ mark units made u
-mark_past units made u h = grind arith
 
 -- what every run keeps
 abbrev pub ClimbOk : List Run → Option Way → Type 0

@@ -7,9 +7,9 @@ use Rattle.tor_board.proofs.Names.{IsStep, Machine, Side, begins, claims, ends, 
 use Rattle.tor_board.proofs.Names.{looks, meets, rests, seals, sees, side_of, splits, times_arrived, times_failed}
 use Rattle.tor_board.proofs.Names.{top_root, only, times, total}
 use Rattle.tor_board.proofs.{Seats.stopped_parts, Seats.stopped_both, Finding.joined_same}
-use Rattle.tor_board.proofs.Lawful.{side_at, gave, failures, mark, stopped, stopped_le, there, mark_more, mark_past}
-use Rattle.tor_board.proofs.Lawful.{ClimbOk, IsWhole, AllOk, begins_good, least_same, fewest, Good}
-use Rattle.tor_board.proofs.Sums.{set_all, snoc_all, total-set, total-append, total-without}
+use Rattle.tor_board.proofs.Sums.{below_more, set_all, snoc_all, total-set, total-append, total-without}
+use Rattle.tor_board.proofs.Lawful.{side_at, gave, failures, mark, stopped, stopped_le, there, ClimbOk, IsWhole, AllOk}
+use Rattle.tor_board.proofs.Lawful.{begins_good, least_same, fewest, Good}
 use Rattle.tor_board.specs.Desks.{looking, holding, handed, rested, joining, topped, failing, keeping, fresh, both}
 use Rattle.tor_board.specs.Machine.{times_given}
 
@@ -108,11 +108,11 @@ module _ (units : ℕ) (forest : List Run) (m : Machine) (good : Good units fore
     step_good e n (sees u some_room idle busy is)
         = calm (finished old) (λ u. refl) refl (stopped_le old) refl (λ u. omega arith) refl old_ok
     step_good e n (claims some_room idle busy saw more) = let d : Desk = holding old m.claims in
-        changed (m.claims + 1) m.least m.arrived d (λ u. omega (arith, mark_more units m.claims u more)) refl
+        changed (m.claims + 1) m.least m.arrived d (λ u. grind (arith, below_more (only u) m.claims)) refl
         (λ s s' le e. omega arith) (same_least d refl) (same_whole d (λ u. omega arith)) refl old_ok good.real
     step_good e n (ends some_room idle busy saw past) = let d : Desk = finished old in
         let idle' : stopped old ≡ 0 = ap (λ (b : Bool). cond b old.room 0) busy in
-        changed (m.claims + 1) m.least m.arrived d (λ u. omega (arith, mark_past units m.claims u past)) refl
+        changed (m.claims + 1) m.least m.arrived d (λ u. grind arith) refl
         (λ s s' le e. omega arith) (same_least d refl) (same_whole d (λ u. omega arith)) refl old_ok good.real
     step_good e n (hands u hash None some_room idle has begin) = handed_good u hash None has tt
     step_good e n (hands u hash (Some w) some_room idle has begin) = handed_good u hash (Some w) has begin.0

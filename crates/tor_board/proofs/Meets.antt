@@ -1,12 +1,12 @@
 -- Where a climbing seat stands, where it stands after an arrival, and what a give shows.
 use Rattle.tor_board.proofs.Names.{List, Some, [], ap, arith, get_or, refl, subst, suc, sym, ℕ, ◌*◌, ◌++◌, ◌+◌, ◌-◌}
 use Rattle.tor_board.proofs.Names.{◌/◌, ◌<◌, ◌^◌, ◌∙◌, ◌∷◌, ◌≡◌, ◌≤◌, rest, turned, Climb, IsAtTop, Seated, climb_from}
-use Rattle.tor_board.proofs.Names.{climbed, raised, IsSide, Fits, IsShape, IsTreeOf, slot_at, handed, Shape, Tree, View}
+use Rattle.tor_board.proofs.Names.{raised, IsSide, Fits, IsShape, IsTreeOf, slot_at, handed, Shape, Tree, View}
 use Rattle.tor_board.proofs.Names.{AtMostOneSpare, IsClimbing, LastGiveIsIn, climb_at, IsLow, None, Option, add-zero}
 use Rattle.tor_board.proofs.Names.{true, ◌≢◌, some, get_elem?, at_map, Run, GivenUnit, in_run, run_of, has_unit}
 use Rattle.tor_board.proofs.Names.{desk_of, Board, joined_view}
 use Rattle.tor_board.proofs.{Finding.IsBelow, Finding.at_number, Sums.mapped, Trees.node_inside, Trees.side_covers}
-use Rattle.tor_board.proofs.{Trees.has_unit-true, Rising.side_low, Rising.goal_of, Rising.lands, Rising.slot_side}
+use Rattle.tor_board.proofs.{Trees.has_unit-true, Rising.side_low, Rising.goal_of, Rising.lands}
 use Rattle.tor_board.specs.{Desks.after_give, Desks.told, Seats.IsClimbOf, Seats.forest_of}
 use Rattle.tor_board.specs.steps.Climbing.{joined_by, rested_view, topped_view}
 use Rattle.std.specs.Prelude.{IfSome, MatchOption}
@@ -59,7 +59,7 @@ module _ {units words slots : ℕ} {t : Tree} (fits : Fits units words slots t) 
 
     pub below_of : level < t.height → IsBelow (climb_at t level index hash cl.spare)
     below_of low = record {
-      slot = slot_side t some_unit fits.tall level index (λ e. omega arith);
+      slot = grind arith;
       inside = grind arith;
       low = low;
     }
@@ -76,11 +76,6 @@ module _ {units words slots : ℕ} {t : Tree} (fits : Fits units words slots t) 
         → next ≡ (goal_of t (level + 1) (index / 2)).1
         → IsSide t (slot_at t up next) up next × (up ≤ t.height) × (next * 2 ^ up < t.count) × (level + 1 ≤ up)
     next_of low = lands_at (level + 1) (index / 2) (omega arith) (node_place low)
-
-  pub above_at : (level index : ℕ) (hash : List ℕ) (spare : List (ℕ × List ℕ)) (x : List ℕ) (up next : ℕ)
-      → up ≡ (goal_of t (level + 1) (index / 2)).0 → next ≡ (goal_of t (level + 1) (index / 2)).1
-      → (climbed (climb_at t level index hash spare) x).slot ≡ slot_at t up next
-  above_at level index hash spare x up next up_is next_is = grind arith
 
 -- ---- the slots that a seat has, as it reads one and writes the other
 

@@ -99,14 +99,12 @@ below_none f (suc n) none = omega (arith, below_none f n none, none n)
 module _ (shape : Shape) (places : ℕ) (is_shape : IsShape (2 + places) (2 * places) shape) (words : List ℕ)
     (words_are : words ≡ set (zeros (2 + places)) 1 nobody)
     (slots : List (List ℕ)) (long : length slots ≡ 2 * places) where
-  two_words : 1 < length (zeros (2 + places))
-  two_words = omega (arith, length-replicate {A = ℕ} (2 + places) 0)
-
   word_zero : (k : ℕ) → k ≢ 1 → get_or words k 0 ≡ 0
   word_zero k ne = rw (words_are, get_or-set_other (zeros (2 + places)) 1 k nobody 0 ne) (zero_at (2 + places) k)
 
   word_one : get_or words 1 0 ≡ nobody
-  word_one = rw words_are (get_or-set_same (zeros (2 + places)) 1 nobody 0 two_words)
+  word_one = rw words_are (get_or-set_same (zeros (2 + places)) 1 nobody 0
+      (omega (arith, length-replicate {A = ℕ} (2 + places) 0)))
 
   words_long : length words ≡ 2 + places
   words_long = rw (words_are, length-set (zeros (2 + places)) 1 nobody) (length-replicate {A = ℕ} (2 + places) 0)

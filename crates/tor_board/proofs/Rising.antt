@@ -1,13 +1,12 @@
 -- Which spot a middle names, where a hash rises to, and what it is there.
 use Rattle.tor_board.proofs.Names.{List, ap, arith, get_or, inl, inr, mul-le-mul_right, refl, suc, sym, zero, ℕ, ◌*◌}
 use Rattle.tor_board.proofs.Names.{◌+◌, ◌<◌, ◌^◌, ◌∙◌, ◌≡◌, ◌≤◌, ◌⊎◌, pow-suc, pow_mono, dite, dec_le, ℕ_discrete}
-use Rattle.tor_board.proofs.Names.{IsSide, IsRoot, middle, ready, slot_of, times_given, word_of, only, Tree, View, Bool}
-use Rattle.tor_board.proofs.Names.{add-zero, cond, false, le-ltb, ltb, subst, ◌%◌, ◌-◌, ◌/◌, ◌≢◌, node_of, raised}
-use Rattle.tor_board.proofs.Names.{risen, slot_at, IsLow}
+use Rattle.tor_board.proofs.Names.{IsSide, IsRoot, middle, ready, times_given, word_of, only, Tree, View, Bool}
+use Rattle.tor_board.proofs.Names.{add-zero, cond, false, le-ltb, ltb, subst, ◌%◌, ◌-◌, ◌/◌, node_of, raised, risen}
+use Rattle.tor_board.proofs.Names.{slot_at, IsLow}
 use Rattle.tor_board.proofs.{Trees.ready_chain, Trees.split_positive, Trees.twice, Sums.only-same, Sums.only-other}
 use Rattle.tor_board.specs.Rising.{Rises}
-use Rattle.tor_merkle.specs.Subtree.{zero_subtree}
-use Rattle.std.proofs.Common.{add-suc, eq-eqb, ne_eqb}
+use Rattle.{tor_merkle.specs.Subtree.zero_subtree, std.proofs.Common.add-suc}
 
 halved : (i p : ℕ) → (2 * i + 1) * (p * 2) ≡ (2 * i + 1) * p * 2
 halved i p = omega arith
@@ -168,16 +167,10 @@ module _ (t : Tree) (some_unit : 0 < t.count) (tall : t.count ≤ 2 ^ t.height) 
   top_place zero h = refl
   top_place (suc i) h = grind arith
 
-  slot_top : (l i : ℕ) → l ≡ t.height → slot_at t l i ≡ slot_of t 0 0
-  slot_top l i e = ap (λ b. cond b (slot_of t 0 0) (slot_of t (middle l (i / 2)) (i % 2))) (eq-eqb l t.height e)
-
-  pub slot_side : (l i : ℕ) → l ≢ t.height → slot_at t l i ≡ slot_of t (middle l (i / 2)) (i % 2)
-  slot_side l i ne = ap (λ b. cond b (slot_of t 0 0) (slot_of t (middle l (i / 2)) (i % 2))) (ne_eqb l t.height ne)
-
   risen_lands : (d l i : ℕ) → l + d ≡ t.height → i * 2 ^ l < t.count → Lands t d l i (risen t d l i)
   risen_lands zero l i top h =
       let e : l ≡ t.height = omega arith in let place = top_place i (subst (λ (x : ℕ). i * 2 ^ x < t.count) e h) in
-      ((0, (refl, refl)), inr (slot_top l i e, e, place), omega arith, λ G hash is. is)
+      ((0, (refl, refl)), inr (grind arith, e, place), omega arith, λ G hash is. is)
   risen_lands (suc d) l i top h = dite (dec_le t.count (middle l (i / 2))) (λ le.
       let even = even_place t l i h le in let z : List ℕ = zero_subtree (t.level + l) in
       let r = risen_lands d (suc l) (i / 2) (omega arith) (omega (arith, half_place l i even)) in

@@ -1,9 +1,9 @@
 -- Splitting and joining seats keeps the rule.
-use Rattle.tor_board.proofs.Names.{Bool, List, None, Option, [], ap, arith, cond, inl, inr, refl, set, sym, true, ℕ}
-use Rattle.tor_board.proofs.Names.{◌++◌, ◌+◌, ◌-◌, ◌/◌, ◌<◌, ◌||◌, ◌∙◌, ◌∷◌, ◌≡◌, ◌≢◌, ◌≤◌, ◌⊎◌, some, get_elem?}
-use Rattle.tor_board.proofs.Names.{set_else, State, Climb, GivenUnit, IsKnown, Keeps, KeepsClaims, climbs_to, has_out}
-use Rattle.tor_board.proofs.Names.{nobody, IsRoot, WasGiven, has_unit, joined_in, both, failures, fresh, keeping, named}
-use Rattle.tor_board.proofs.Names.{spent, stopped, only, total, Shape, View}
+use Rattle.tor_board.proofs.Names.{Bool, List, None, Option, [], ap, arith, cond, refl, set, sym, true, ℕ, ◌++◌, ◌+◌}
+use Rattle.tor_board.proofs.Names.{◌-◌, ◌/◌, ◌<◌, ◌||◌, ◌∙◌, ◌∷◌, ◌≡◌, ◌≢◌, ◌≤◌, ◌⊎◌, some, get_elem?, set_else, State}
+use Rattle.tor_board.proofs.Names.{Climb, GivenUnit, IsKnown, Keeps, KeepsClaims, climbs_to, has_out, nobody, IsRoot}
+use Rattle.tor_board.proofs.Names.{WasGiven, has_unit, joined_in, both, failures, fresh, keeping, named, spent, stopped}
+use Rattle.tor_board.proofs.Names.{only, total, Shape, View}
 use Rattle.tor_board.proofs.{Sums.total-set, Sums.total-append, Sums.set_all, Sums.snoc_all, Trees.told_append}
 use Rattle.tor_board.proofs.Steps.{unmoved, SeatRooted, seat_more, seat_rooted}
 
@@ -12,9 +12,6 @@ stopped_parts b a c n e = grind arith
 
 pub stopped_both : (b c : Bool) (n m : ℕ) → cond b n 0 + cond c m 0 ≤ cond (b || c) (n + m) 0
 stopped_both b c n m = grind arith
-
-either_done : (b c : Bool) → (b || c) ≡ true → (b ≡ true) ⊎ (c ≡ true)
-either_done b c e = grind arith
 
 -- ---- a seat is split
 
@@ -103,8 +100,7 @@ module _ (shape : Shape) {s : State (List ℕ) View} (kept : Keeps shape s) (id 
         attained = λ h. omega (arith, fails least, k.attained h);
         most = k.most;
         why = join_all (λ (u : View). u.done ≡ true → (least < nobody) ⊎ (units ≤ claims)) k.why
-            (λ yes. elim (either_done v.done w.done yes) [ inl y ↦ k.why id v at y | inr y ↦ k.why other w before y ])
-            (λ yes. cc);
+            (λ yes. grind (arith, k.why id v at, k.why other w before)) (λ yes. cc);
       }
 
   pub join_keeps : Keeps shape record { words = s.words; homes = s.homes; views = join_views }

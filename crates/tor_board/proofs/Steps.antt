@@ -170,12 +170,8 @@ Does shape s homes id i f slots P = (w : View) × (a : Act (List ℕ)) × Valid 
 abbrev pub IsAway : Tree → Option Climb → Type 0
 IsAway t c = (s : ℕ) → IsIn t s → has_out s c ≡ 0
 
-climbs_le : (s : ℕ) (c : Option Climb) → climbs_to s c ≤ has_out s c
-climbs_le s None = omega arith
-climbs_le s (Some c) = omega arith
-
 pub away_climbs : (t : Tree) (c : Option Climb) → IsAway t c → (s : ℕ) → IsIn t s → climbs_to s c ≡ 0
-away_climbs t c away s is = omega (arith, climbs_le s c, away s is)
+away_climbs t c away s is = grind (arith, away s is)
 
 pub away_rooted : (G : ℕ → List ℕ → Type 0) (t : Tree) → 0 < t.count → (c : Option Climb) → IsAway t c
     → ClimbRooted G t c

@@ -93,6 +93,3 @@ total-without f u (x ∷ xs) has = dite (ℕ_discrete x u) (λ e. grind arith) (
 
 pub cond_le : (b : Bool) (n : ℕ) → cond b n 0 ≤ n
 cond_le b n = grind arith
-
-pub only_le : (u x : ℕ) → only u x ≤ 1
-only_le u x = cond_le (x == u) 1

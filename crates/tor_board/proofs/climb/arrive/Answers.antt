@@ -1,8 +1,7 @@
 use Rattle.tor_board.proofs.Names.{[], ap, arith, sym, ℕ, ◌%◌, ◌∙◌, ◌∷◌, ◌≡◌, turned, Seated, climbed, met, joining}
 use Rattle.tor_board.proofs.Names.{climb_at, rules, ◌++◌, Some, inr, suc, climb_from, other_slot, ◌+◌, ◌/◌, List, refl}
 use Rattle.tor_board.proofs.{Arrivals.arrives, Arrivals.other_in, Finding.head_more}
-use Rattle.tor_board.proofs.Meets.{below_of, node_place, next_of, climbs_on, turned_seat, stored_seat, above_at}
-use Rattle.tor_board.proofs.Meets.{at_slot}
+use Rattle.tor_board.proofs.Meets.{below_of, node_place, next_of, climbs_on, turned_seat, stored_seat, at_slot}
 use Rattle.tor_board.proofs.climb.arrive.Goals.{then-index-eq0, else-index-eq0}
 use Rattle.tor_board.proofs.climb.arrive.Goals as goal
 
@@ -43,8 +42,8 @@ pub exchange-requires : goal.exchange-requires
 exchange-requires c = let spot = c.args.spot in let cl = c.requires.climbs in let next = c.risen-next.ensures in
     let one = (c.fetch_add-found.ensures.2.0 _ cl.is).0 in let r = one.2 (omega (arith, one.0, c.if-found-eq0.false)) in
     let q = turned_seat r.2 c.slot_mut.ensures.value c.turn.ensures.2 in
-    let a = above_at (c.requires.shape.fits c.args.tree.now c.requires.tree) spot.level spot.index spot.hash cl.spare
-    r.0 _ _ next.level next.index ∙ sym c.slot_at.ensures in
+    let up = climbed (climb_at c.args.tree.now spot.level spot.index spot.hash cl.spare) r.0 in
+    let a : up.slot ≡ c.slot_at.result = grind arith in
     (c.turn.ensures.0 ∙ (c.fetch_add-found.ensures.0 ∙ c.requires.table), (r.1, at_slot q.1 a))
 
 pub returns : goal.returns

@@ -1,10 +1,9 @@
-use Rattle.tor_board.proofs.Names.{List, None, Option, ap, arith, false, get_or, get_or-set_other, inr, length}
-use Rattle.tor_board.proofs.Names.{length-set, set, sym, true, ℕ, ◌*◌, ◌+◌, ◌-◌, ◌<◌, ◌∙◌, ◌≡◌, ◌≤◌, slots_filled}
-use Rattle.tor_board.proofs.Names.{slots_items, slots_len, some, some-injective, get_elem?, set-get_or, IsLeft, middle}
-use Rattle.tor_board.proofs.Names.{slot_of, word_of, Tree}
-use Rattle.tor_board.proofs.{Meets.tree_facts, Sums.within}
-use Rattle.tor_board.proofs.Finding.{some_height, top_node, top_fits, top_word, tree_there}
-use Rattle.tor_board.proofs.Roots.{taken_more, later_match, later_miss, done_next}
+use Rattle.tor_board.proofs.Names.{pow_mono, List, None, Option, ap, arith, false, get_or, get_or-set_other, inr}
+use Rattle.tor_board.proofs.Names.{length, length-set, set, sym, true, ℕ, ◌*◌, ◌+◌, ◌-◌, ◌<◌, ◌∙◌, ◌≡◌, ◌≤◌}
+use Rattle.tor_board.proofs.Names.{slots_filled, slots_items, slots_len, some, some-injective, get_elem?, set-get_or}
+use Rattle.tor_board.proofs.Names.{IsLeft, middle, slot_of, word_of, Tree}
+use Rattle.tor_board.proofs.{Meets.tree_facts, Sums.within, Finding.some_height, Finding.top_node, Finding.top_word}
+use Rattle.tor_board.proofs.{Finding.tree_there, Roots.taken_more, Roots.later_match, Roots.later_miss, Roots.done_next}
 use Rattle.std.proofs.Common.{Global, Vec}
 use Rattle.tor_board.proofs.close.take_roots.Goals.{then-next-len+then-side_slot-slot, then-word-ge2, else-word-ge2}
 use Rattle.tor_board.proofs.close.take_roots.Goals.{else-next-len, else-next-len-via-then-next-len+else-side_slot-slot}
@@ -22,7 +21,7 @@ overflow_sub-tree c = let there = tree_there c.requires.shape _ _ (omega (arith,
 
 pub middle-requires : goal.middle-requires
 middle-requires c = let there = tree_there c.requires.shape _ _ (omega (arith, c.if-next-len.true, c.len.ensures))
-    c.index-then-side_slot-slot.ensures in top_fits c.requires.shape _ there.1
+    c.index-then-side_slot-slot.ensures in grind (arith, c.requires.shape.fits _ there.1, pow_mono)
 
 pub word-requires : goal.word-requires
 word-requires c = let there = tree_there c.requires.shape _ _ (omega (arith, c.if-next-len.true, c.len.ensures))
