@@ -6,7 +6,7 @@ use Rattle.tor_board.proofs.Names.{gives, put_back, step, takes, Climb, GivenUni
 use Rattle.tor_board.proofs.Names.{climbed, other_slot, ClimbsIn, Keeps, KeepsTree, has_out, IsShape, IsTreeOf}
 use Rattle.tor_board.proofs.Names.{joined_in, pairs, slot_of, word_of, joining, rested, only, total, Shape, Tree, View}
 use Rattle.tor_board.proofs.Names.{AtMostOneSpare, LastGiveIsIn, IsIn}
-use Rattle.tor_board.proofs.{Sums.within, Claims.steady, Rising.lands, Steps.weight, Steps.Does, Resting.bare}
+use Rattle.tor_board.proofs.{Sums.within, Moves.steady, Rising.lands, Steps.weight, Steps.Does, Resting.bare}
 use Rattle.tor_board.proofs.{Resting.returned, Arriving.Arrived, Arriving.arrived_tree}
 use Rattle.tor_board.proofs.Finding.{pairs_same, pairs_once, words-set, joined_head, joined_else, joined_same, IsBelow}
 use Rattle.tor_board.proofs.Finding.{node_above, word_above, above_slot, one_more, word_now, word_else, same_halves}

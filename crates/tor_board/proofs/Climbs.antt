@@ -13,7 +13,7 @@ use Rattle.tor_board.proofs.Finding.{same_tree, some_height, top_node, IsBelow, 
 use Rattle.tor_board.proofs.Finding.{joined_same, word_else}
 use Rattle.tor_board.proofs.Trees.{has_unit-true, alone_there, ready_node, side_of, node_inside, node_flow, node_word}
 use Rattle.tor_board.proofs.Trees.{node_once}
-use Rattle.tor_board.proofs.Lawful.{other_side, same_side, next_of}
+use Rattle.tor_board.proofs.Machines.{other_side, same_side, next_of}
 use Rattle.tor_board.proofs.Rising.{goal_of, lands, rises_ready, side_low, place_one, side_one}
 use Rattle.tor_board.proofs.Shown.{Moment, New, place_of, event, moved, unarrived, on_first, as_told}
 use Rattle.tor_board.specs.{Climb.run_of, Desks.topped as topped_desk, Machine.beside, Machine.side_of as side_of_way}

@@ -7,7 +7,7 @@ use Rattle.tor_board.proofs.Names.{KeepsTree, climbing, climbs_to, has_out, out,
 use Rattle.tor_board.proofs.Names.{joined_in, middle, ready, slot_of, times_given, word_of, named, spent, below, times}
 use Rattle.tor_board.proofs.Names.{Shape, inl}
 use Rattle.tor_board.proofs.{Steps.weight, Steps.gave, Steps.tops_at, Finding.below_same, Finding.some_height}
-use Rattle.tor_board.proofs.{Finding.top_node, Claims.only_one, Rising.split_suc, Rising.split_zero}
+use Rattle.tor_board.proofs.{Finding.top_node, Moves.only_one, Rising.split_suc, Rising.split_zero}
 use Rattle.tor_board.proofs.Sums.{only-same, below-only, total-map, read}
 use Rattle.tor_board.proofs.Trees.{twice, ready_node, ready_chain, ready_once, node_ready, told_more, node_inside}
 use Rattle.tor_board.specs.Results.{IsComplete, hash_of, joined_of, unit_hashes}

@@ -7,7 +7,7 @@ use Rattle.tor_board.proofs.Names.{joined_in, pairs, word_of, only, total, Shape
 use Rattle.tor_board.proofs.Names.{None, inl, min, set-set, ◌-◌, none, set-get_or, set_here, Allows, step, takes}
 use Rattle.tor_board.proofs.Names.{IsAtTop, gave_told, sealed_from, climb_from, times_given, handed, named, topped}
 use Rattle.tor_board.proofs.Names.{times, inr}
-use Rattle.tor_board.proofs.{Claims.steady, Trees.side_in, Rising.lands}
+use Rattle.tor_board.proofs.{Moves.steady, Trees.side_in, Rising.lands}
 use Rattle.tor_board.proofs.Sums.{only-other, total-set, set_all, below-only, total-without, total_le, within}
 use Rattle.tor_board.proofs.Finding.{pairs_same, Apart, apart, same_tree, not_joined}
 use Rattle.tor_board.proofs.Steps.{unmoved_seat, away_rooted, weight, gave, Does}

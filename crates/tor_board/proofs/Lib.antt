@@ -2,7 +2,6 @@ pub mod Names
 pub mod Sums
 pub mod Trees
 pub mod Rising
-pub mod Claims
 pub mod Steps
 pub mod Moves
 pub mod Seats
@@ -12,10 +11,8 @@ pub mod Going
 pub mod Arrivals
 pub mod Meets
 pub mod Finding
-pub mod Roots
 pub mod Closing
 pub mod Opening
-pub mod Lawful
 pub mod Machines
 pub mod Running
 pub mod Shown

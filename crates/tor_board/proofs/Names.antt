@@ -21,11 +21,10 @@ pub use Rattle.tor_plan.specs.declared.forests.Run.{Run}
 pub use Rattle.tor_board.specs.Climb.{Climb, way_in, way_of}
 pub use Rattle.tor_board.specs.Desks.{Desk, GivenUnit, Way, finished, in_run, joined_more, names, spent as spent_desk}
 pub use Rattle.tor_board.specs.Desks.{units_of}
-pub use Rattle.tor_board.specs.Machine.{Event, Every, IsGivenSide, IsLeastFailed, IsLegalRun, IsNodeSide, IsStep}
-pub use Rattle.tor_board.specs.Machine.{Machine, Side, arrive, begins, claim, claims, ends, fail, fails, goes_on, hand}
-pub use Rattle.tor_board.specs.Machine.{hands, is_given_side, join, joins, lesser, look, looks, meets, rests, seal}
-pub use Rattle.tor_board.specs.Machine.{seals, sees, side_of, split, splits, start, times_arrived, times_failed}
-pub use Rattle.tor_board.specs.Machine.{top_root}
+pub use Rattle.tor_board.specs.Machine.{Event, IsGivenSide, IsLeastFailed, IsLegalRun, IsStep, Machine, Side, arrive}
+pub use Rattle.tor_board.specs.Machine.{begins, claim, claims, ends, fail, fails, goes_on, hand, hands, is_given_side}
+pub use Rattle.tor_board.specs.Machine.{join, joins, lesser, look, looks, meets, rests, seal, seals, sees, side_of}
+pub use Rattle.tor_board.specs.Machine.{split, splits, start, times_arrived, times_failed, top_root}
 pub use Rattle.tor_board.specs.Plays.{IsAtTop, IsFree, Seated, arrived_from, claimed, gave as gave_told, looked}
 pub use Rattle.tor_board.specs.Plays.{sealed_from}
 pub use Rattle.tor_board.specs.Results.{IsLeft, IsTreeEnd}

@@ -6,7 +6,7 @@ use Rattle.tor_board.proofs.Names.{GivenUnit, names, IsGivenSide, IsLeastFailed,
 use Rattle.tor_board.proofs.Names.{IsSide, Keeps, KeepsClaims, KeepsTree, nobody, least_of, runs_of, IsShape, IsTreeOf}
 use Rattle.tor_board.proofs.Names.{IsRoot, WasGiven, middle, ready, slot_of, word_of, desk_of, desks_of, failures}
 use Rattle.tor_board.proofs.Names.{named, only, times, total, Shape, Tree, View}
-use Rattle.tor_board.proofs.{Claims.few_claims, Finding.at_number, Closing.spot_root, Closing.whole_root, Steps.weight}
+use Rattle.tor_board.proofs.{Moves.few_claims, Finding.at_number, Closing.spot_root, Closing.whole_root, Steps.weight}
 use Rattle.tor_board.proofs.{Steps.gave, Sums.below-only, Sums.total_le, Sums.total-append, Sums.total-map, Sums.mapped}
 use Rattle.tor_board.proofs.{Sums.below-test, Trees.arrived_once, Trees.ready_node, Trees.ready_chain, Trees.ready_once}
 use Rattle.tor_board.proofs.{Trees.node_ready, Trees.node_word, Trees.side_of, Trees.twice, Trees.zero_more}

@@ -8,7 +8,7 @@ use Rattle.tor_board.proofs.Names.{gave_told, looked, climbing, climbs_to, nobod
 use Rattle.tor_board.proofs.Names.{IsChange, IsEvent, has_unit, middle, slot_of, times_given, word_of, both, desk_of}
 use Rattle.tor_board.proofs.Names.{desks_of, failing, fresh, handed, keeping, spent, only, total, Shape, Tree, View}
 use Rattle.tor_board.proofs.Names.{Climb, begins, goes_on, start, ClimbsIn, Keeps, Shows, first}
-use Rattle.tor_board.proofs.{Claims.few_claims, Claims.named_below, Seats.split_sum, Seats.join_sum, Steps.climbs}
+use Rattle.tor_board.proofs.{Moves.few_claims, Moves.named_below, Seats.split_sum, Seats.join_sum, Steps.climbs}
 use Rattle.tor_board.proofs.{Steps.gave, Sums.total-append, Sums.within, Sums.read, Running.tree_at, Running.some_least}
 use Rattle.tor_board.proofs.{Running.no_least, Climbs.arrives_so, Climbs.hands_tree, Climbs.seals_so}
 use Rattle.tor_board.proofs.Shown.{Sides, Moment, as_seat, quiet, on_first, on_second, as_told, shown}

@@ -1,6 +1,6 @@
 -- Sums over lists of which one item changes, and what holds of each item.
 use Rattle.tor_board.proofs.Names.{Bool, List, [], ap, arith, cond, get_or, length, ltb, map, refl, set, subst, suc}
-use Rattle.tor_board.proofs.Names.{sym, zero, ℕ, ◌++◌, ◌+◌, ◌<◌, ◌==◌, ◌∷◌, ◌≡◌, ◌≢◌, ◌≤◌, dite, some, some-injective}
+use Rattle.tor_board.proofs.Names.{sym, zero, ℕ, ◌++◌, ◌+◌, ◌<◌, ◌∷◌, ◌≡◌, ◌≢◌, ◌≤◌, dite, some, some-injective}
 use Rattle.tor_board.proofs.Names.{some-ne-none, ℕ_discrete, get_elem?, below, only, times, total, inl, inr}
 use Rattle.tor_board.specs.Weights.{without}
 use Rattle.atomic_table.proofs.Lists.{at_set, at_snoc}

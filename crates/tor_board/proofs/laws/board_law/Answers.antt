@@ -1,4 +1,4 @@
-use Rattle.tor_board.proofs.{Machines.run_good, Lawful.lawful, Claims.few_claims, Running.running}
+use Rattle.tor_board.proofs.{Machines.run_good, Machines.lawful, Moves.few_claims, Running.running}
 use Rattle.tor_board.proofs.Stepping.{each_step, history_runs}
 use Rattle.tor_board.proofs.laws.board_law.Goals as goal
 

@@ -1,7 +1,7 @@
 use Rattle.tor_board.proofs.Names.{None, ap, get_or, subst, sym, ℕ, ◌∙◌, ◌≡◌, Run, IsTreeEnd, Keeps, IsLeastOf, run_of}
 use Rattle.tor_board.proofs.Names.{Shape}
 use Rattle.tor_board.proofs.{Closing.end_of, Sums.mapped, Sums.read, Finding.at_number}
-use Rattle.tor_board.proofs.Claims.{least_failed, all_given, none_failed}
+use Rattle.tor_board.proofs.Moves.{least_failed, all_given, none_failed}
 use Rattle.tor_board.specs.Seats.{knows}
 use Rattle.std.proofs.Common.{subst₂}
 use Rattle.tor_board.proofs.board.Board.close.Goals.{then-least, else-least}
