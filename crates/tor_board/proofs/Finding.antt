@@ -6,8 +6,7 @@ use Rattle.tor_board.proofs.Names.{refl, set, suc, zero, ◌%◌, ◌/◌, ◌�
 use Rattle.tor_board.proofs.Names.{joined_in, pairs, slot_of, below, only, total, LastGiveIsIn}
 use Rattle.tor_board.proofs.Sums.{term_le, total-map}
 use Rattle.tor_board.specs.Seats.{levels_above}
-use Rattle.{tor_merkle.specs.Subtree.height, atomic_table.proofs.Lists.at_index}
-use Rattle.tor_merkle.proofs.ProvedLaws.{height_least}
+use Rattle.{atomic_table.proofs.Lists.at_index, tor_merkle.proofs.ProvedLaws.height_least}
 
 pub record Apart (t u : Tree) : Type 0 where
   pub slots : (s : ℕ) → IsIn t s → IsIn u s → ⊥
