@@ -1,9 +1,9 @@
 -- The trees of a shape: which one has a unit, and what is counted at their nodes.
 use Rattle.tor_board.proofs.Names.{ap, arith, cond, get_or, length, subst, sym, ℕ, ◌+◌, ◌-◌, ◌<◌, ◌∙◌, ◌≡◌, ◌≢◌, ◌≤◌}
-use Rattle.tor_board.proofs.Names.{dite, some, some-injective, dec_le, get_elem?, IsShape, IsTreeOf, has_unit, middle}
-use Rattle.tor_board.proofs.Names.{word_of, Board, Shape, Tree, IsIn, List, [], get_or-set_other, get_or-set_same, inl}
-use Rattle.tor_board.proofs.Names.{refl, set, suc, zero, ◌%◌, ◌/◌, ◌∷◌, Climb, GivenUnit, joined_more, climbed, IsSide}
-use Rattle.tor_board.proofs.Names.{joined_in, pairs, slot_of, below, only, total, LastGiveIsIn}
+use Rattle.tor_board.proofs.Names.{some, some-injective, get_elem?, IsShape, IsTreeOf, has_unit, middle, word_of, Board}
+use Rattle.tor_board.proofs.Names.{Shape, Tree, IsIn, List, [], get_or-set_other, get_or-set_same, inl, refl, set, suc}
+use Rattle.tor_board.proofs.Names.{zero, ◌%◌, ◌/◌, ◌∷◌, Climb, GivenUnit, joined_more, climbed, IsSide, joined_in}
+use Rattle.tor_board.proofs.Names.{pairs, slot_of, below, only, total, LastGiveIsIn}
 use Rattle.tor_board.proofs.Sums.{term_le, total-map}
 use Rattle.tor_board.specs.Seats.{levels_above}
 use Rattle.{atomic_table.proofs.Lists.at_index, tor_merkle.proofs.ProvedLaws.height_least}
@@ -18,16 +18,11 @@ same_tree shape t u is is' e = some-injective t u (sym is ∙ (ap (get_elem? sha
 
 pub apart : {words slots : ℕ} {shape : Shape} → IsShape words slots shape → (t u : Tree) → IsTreeOf shape t
     → IsTreeOf shape u → t.number ≢ u.number → Apart t u
-apart shaped t u is is' ne = dite (dec_le u.number t.number)
-    (λ le. let a = shaped.apart u t is' is (omega arith) in record {
-      slots = λ s h k. omega (arith, a.1, h.0, k.1);
-      words = λ m n h k e. omega (arith, a.1);
-      units = λ m n h k e. omega (arith, a.0);
-    }) (λ gt. let a = shaped.apart t u is is' (omega arith) in record {
-      slots = λ s h k. omega (arith, a.1, h.1, k.0);
-      words = λ m n h k e. omega (arith, a.1);
-      units = λ m n h k e. omega (arith, a.0);
-    })
+apart shaped t u is is' ne = record {
+  slots = λ s h k. grind (arith, shaped.apart t u is is', shaped.apart u t is' is);
+  words = λ m n h k e. grind (arith, shaped.apart t u is is', shaped.apart u t is' is);
+  units = λ m n h k e. grind (arith, shaped.apart t u is is', shaped.apart u t is' is);
+}
 
 -- the last one that begins at or before a unit has it, if any has
 module _ {words slots : ℕ} {shape : Shape} (shaped : IsShape words slots shape) where
