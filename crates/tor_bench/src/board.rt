@@ -7,40 +7,74 @@ use std::alloc::{AllocError, Global};
 use std::io::Result;
 use std::thread::{Threads, join};
 use std::time::{Clock, Instant};
-use tor_board::{Board, Seat};
+use tor_board::{Board, Given, Seat};
 use tor_merkle::{BLOCK_LENGTH, Hash, leaf};
 use tor_plan::{Forest, Run};
 
-/// How many units the boards have that are worked a thousand times.
+/// How many units the boards of `round` have, a multiple of 64.
 const UNITS: u64 = 1_000_000;
 
-/// How many blocks are hashed by `blocks`.
+/// How many blocks are hashed by `hashing`.
 const BLOCKS: u64 = 50_000;
 
-/// What seats did: how many units, the sum of their numbers, at how many nodes they came second, how many tops.
-#[derive(Clone, Copy, PartialEq)]
+/// What seats did: how many units, at how many nodes they came second, how many tops they told, and a bit for each
+/// unit that they had, where marks are kept.
+#[derive(Drop)]
 struct Work {
     units: u64,
-    numbers: u64,
     joined: u64,
     tops: u64,
+    marks: Vec<u64>,
 }
 
-const NOTHING: Work = Work {
-    units: 0,
-    numbers: 0,
-    joined: 0,
-    tops: 0,
-};
+/// Marks for so many times 64 units, none of them set. Without memory there are none, and no unit is marked.
+fn no_marks(alloc: Global, words: usize) -> Vec<u64> {
+    match vec![in alloc; 0; words] {
+        Ok(marks) => marks,
+        Err(_error) => Vec::new(alloc),
+    }
+}
 
 impl Work {
-    fn and(self, other: Work) -> Work {
-        Work {
-            units: self.units.wrapping_add(other.units),
-            numbers: self.numbers.wrapping_add(other.numbers),
-            joined: self.joined.wrapping_add(other.joined),
-            tops: self.tops.wrapping_add(other.tops),
+    /// A unit more.
+    fn note(&mut self, unit: u64, given: &Given) {
+        self.units = self.units.wrapping_add(1);
+        self.joined = self.joined.wrapping_add(given.joined as u64);
+        self.tops = self.tops.wrapping_add(given.top.is_some() as u64);
+        if let Some(word) = self.marks.get_mut((unit / 64) as usize) {
+            *word |= 1 << (unit % 64);
         }
+    }
+
+    /// The work of both.
+    fn and(self, other: Work) -> Work {
+        let Work {
+            units,
+            joined,
+            tops,
+            mut marks,
+        } = self;
+        let mut more = other.marks.iter();
+        'words: for word in marks.iter_mut() {
+            if let Some(bits) = more.next() {
+                *word |= *bits;
+            }
+        }
+        Work {
+            units: units.wrapping_add(other.units),
+            joined: joined.wrapping_add(other.joined),
+            tops: tops.wrapping_add(other.tops),
+            marks,
+        }
+    }
+
+    /// How many units are marked.
+    fn marked(&self) -> u64 {
+        let mut count: u64 = 0;
+        'words: for word in self.marks.iter() {
+            count = count.wrapping_add(word.count_ones() as u64);
+        }
+        count
     }
 }
 
@@ -66,15 +100,20 @@ fn opened(
     Board::open(alloc, &Forest { trees: one }, units)
 }
 
-/// One seat's work, with the hashing of a block for each unit, or none.
-fn worked(board: &Board, seat: Seat, hashing: bool) -> (Seat, Work)
+/// One seat's work, with the hashing of a block for each unit, or none, and marks for so many times 64 units.
+fn worked(alloc: Global, board: &Board, seat: Seat, hashing: bool, words: usize) -> (Seat, Work)
     requires { IsSeatOf board.now seat }
     ensures mine { IsSeatOf board.now result.0 }
     ensures room { (knows result.0).room ≡ (knows seat).room }
 {
     let block = [7; BLOCK_LENGTH];
     let mut seat = seat;
-    let mut done = NOTHING;
+    let mut done = Work {
+        units: 0,
+        joined: 0,
+        tops: 0,
+        marks: no_marks(alloc, words),
+    };
     'units: for _ in 0..u64::MAX {
         let Some(job) = board.claim(&mut seat) else {
             break;
@@ -82,12 +121,7 @@ fn worked(board: &Board, seat: Seat, hashing: bool) -> (Seat, Work)
         let number = job.number();
         let hash: Hash = if hashing { leaf(&block) } else { [7; 32] };
         let given = board.give(&mut seat, job, hash);
-        done = done.and(Work {
-            units: 1,
-            numbers: number,
-            joined: given.joined as u64,
-            tops: given.top.is_some() as u64,
-        });
+        done.note(number, &given);
     }
     (seat, done)
 }
@@ -106,9 +140,11 @@ fn together(board: &Board, one: (Seat, Work), other: (Seat, Work)) -> (Seat, Wor
 /// The work of so many threads.
 fn shared<R: Threads + Sync>(
     rt: &R,
+    alloc: Global,
     board: &Board,
     seat: Seat,
     hashing: bool,
+    words: usize,
     workers: u32,
 ) -> (Seat, Work)
     requires { IsSeatOf board.now seat }
@@ -116,10 +152,10 @@ fn shared<R: Threads + Sync>(
     ensures room { (knows result.0).room ≡ (knows seat).room }
 {
     if workers < 2 {
-        return worked(board, seat, hashing);
+        return worked(alloc, board, seat, hashing, words);
     }
     match board.split(seat) {
-        Err((seat, _error)) => worked(board, seat, hashing),
+        Err((seat, _error)) => worked(alloc, board, seat, hashing, words),
         Ok((one, other)) => {
             let fewer = workers / 2;
             let rest = workers - fewer;
@@ -129,12 +165,12 @@ fn shared<R: Threads + Sync>(
                     requires { IsSync R.row × IsSeatOf board.now one }
                     ensures mine { IsSeatOf board.entry.now result.0 }
                     ensures room { (knows result.0).room ≡ (knows one).room }
-                { shared(rt, board, one, hashing, fewer) },
+                { shared(rt, alloc, board, one, hashing, words, fewer) },
                 move || -> (Seat, Work)
                     requires { IsSync R.row × IsSeatOf board.now other }
                     ensures mine { IsSeatOf board.entry.now result.0 }
                     ensures room { (knows result.0).room ≡ (knows other).room }
-                { shared(rt, board, other, hashing, rest) },
+                { shared(rt, alloc, board, other, hashing, words, rest) },
             );
             together(board, first, second)
         }
@@ -147,13 +183,15 @@ fn timed<R: AllocGlobal + Clock + Threads + Sync>(
     units: u64,
     in_tree: bool,
     hashing: bool,
+    words: usize,
     workers: u32,
 ) -> Result<(u128, Work)>
     requires { units ≤ 2 ^ 30 }
 {
-    let (board, seat) = opened(rt.alloc(), units, in_tree)?;
+    let alloc = rt.alloc();
+    let (board, seat) = opened(alloc, units, in_tree)?;
     let start = Instant::now(rt);
-    let (seat, done) = shared(rt, &board, seat, hashing, workers);
+    let (seat, done) = shared(rt, alloc, &board, seat, hashing, words, workers);
     let taken = start.and_then(|start| start.elapsed(rt));
     let _closed = board.close(seat);
     Ok((taken?.as_micros(), done))
@@ -165,7 +203,7 @@ pub fn alone<R: AllocGlobal + Clock + Threads + Sync>(
     units: usize,
     in_tree: bool,
 ) -> Result<(u128, u64)> {
-    let (taken, done) = timed(rt, (units as u64).min(1 << 30), in_tree, false, 1)?;
+    let (taken, done) = timed(rt, (units as u64).min(1 << 30), in_tree, false, 0, 1)?;
     Ok((taken, done.units))
 }
 
@@ -174,29 +212,30 @@ pub fn hashing<R: AllocGlobal + Clock + Threads + Sync>(
     rt: &R,
     workers: usize,
 ) -> Result<(u128, u64)> {
-    let (taken, done) = timed(rt, BLOCKS, true, true, workers.min(256) as u32)?;
+    let (taken, done) = timed(rt, BLOCKS, true, true, 0, workers.min(256) as u32)?;
     Ok((taken, done.units))
 }
 
-/// The microseconds of a thousand boards worked by so many threads, and how often something was wrong.
-pub fn rounds<R: AllocGlobal + Clock + Threads + Sync>(
-    rt: &R,
-    workers: usize,
-) -> Result<(u128, u64)> {
-    let right = Work {
-        units: UNITS,
-        numbers: UNITS * (UNITS - 1) / 2,
-        joined: UNITS - 1,
-        tops: 1,
-    };
-    let mut wrong: u64 = 0;
-    let mut all: u128 = 0;
-    'rounds: for _ in 0..1000 {
-        let (taken, done) = timed(rt, UNITS, true, false, workers.min(256) as u32)?;
-        all = all.saturating_add(taken);
-        if done != right {
-            wrong = wrong.saturating_add(1);
-        }
-    }
-    Ok((all, wrong))
+/// A board of a million units of one tree, as it was worked by so many threads.
+#[derive(Clone, Copy)]
+pub struct Tally {
+    pub taken: u128,
+    pub units: u64,
+    pub marked: u64,
+    pub joined: u64,
+    pub tops: u64,
+}
+
+/// Works such a board: the microseconds, how many units were given, how many different ones, at how many nodes gives
+/// came second, and how many told a root.
+pub fn round<R: AllocGlobal + Clock + Threads + Sync>(rt: &R, workers: usize) -> Result<Tally> {
+    let words = (UNITS / 64) as usize;
+    let (taken, done) = timed(rt, UNITS, true, false, words, workers.min(256) as u32)?;
+    Ok(Tally {
+        taken,
+        units: done.units,
+        marked: done.marked(),
+        joined: done.joined,
+        tops: done.tops,
+    })
 }

@@ -7,10 +7,10 @@
 //! COUNT` makes a hybrid of so many small files; `scan FOLDER` lists a folder. `check 1` judges standard input, and
 //! `pairs COUNT` joins so many hashes; `hashes COUNT` hashes so many times 2 MiB, message by message and by eight.
 //! `board-units COUNT` has one seat of a board claim and give so many units, `board-tree COUNT` units of one tree;
-//! `board-blocks WORKERS` has so many threads hash a block for each unit, and `board-rounds WORKERS` counts what is
-//! wrong in a thousand boards. `decode`, `lists`, `padded`, `scan`, `check`, `pairs`, `hashes` and those of boards
-//! print microseconds. Lists are in `lists.rt`, the hybrid in `padded.rt`, the hashes over all in `plain.rt`, the
-//! judging in `foreign.rt`, the hashing by eight in `eight.rt`, boards in `board.rt`.
+//! `board-blocks WORKERS` has so many threads hash a block for each unit, and `board-round WORKERS` tells of a board of
+//! a million units what so many threads did. `decode`, `lists`, `padded`, `scan`, `check`, `pairs`, `hashes` and those
+//! of boards print microseconds. Lists are in `lists.rt`, the hybrid in `padded.rt`, the hashes over all in `plain.rt`,
+//! the judging in `foreign.rt`, the hashing by eight in `eight.rt`, boards in `board.rt`.
 #![tactic(auto)]
 
 mod board;
@@ -20,7 +20,7 @@ mod lists;
 mod padded;
 mod plain;
 
-use crate::board::{alone, hashing, rounds};
+use crate::board::{Tally, alone, hashing, round};
 use crate::eight::hashed;
 use crate::foreign::{judged, paired};
 use crate::lists::{list, lists, paths};
@@ -50,7 +50,7 @@ fn main(rt: HostRuntime) -> Result<()> {
         "board-units" => printed(&rt, alone(&rt, number, false)?),
         "board-tree" => printed(&rt, alone(&rt, number, true)?),
         "board-blocks" => printed(&rt, hashing(&rt, number)?),
-        "board-rounds" => printed(&rt, rounds(&rt, number)?),
+        "board-round" => told(&rt, round(&rt, number)?),
         mode => timed(&rt, mode, word, number),
     }
 }
@@ -91,6 +91,17 @@ fn fed(rt: &HostRuntime, number: usize) -> Result<()> {
 fn printed(rt: &HostRuntime, numbers: (u128, u64)) -> Result<()> {
     let (first, second) = numbers;
     println!(rt; "{first} {second}")
+}
+
+fn told(rt: &HostRuntime, round: Tally) -> Result<()> {
+    let Tally {
+        taken,
+        units,
+        marked,
+        joined,
+        tops,
+    } = round;
+    println!(rt; "{taken} {units} {marked} {joined} {tops}")
 }
 
 fn files_below(rt: &HostRuntime, folder: &str) -> usize {

@@ -1,22 +1,19 @@
 -- An arrival keeps the whole rule: what was left over from the node below goes home first.
 use Rattle.tor_board.proofs.Names.{List, None, Option, Some, [], ap, arith, get_or, inl, inr, length, length-set, refl}
-use Rattle.tor_board.proofs.Names.{set, set-set, subst, suc, ℕ, ⊎_elim, ◌%◌, ◌++◌, ◌+◌, ◌-◌, ◌/◌, ◌<◌, ◌^◌, ◌∙◌, ◌∷◌}
-use Rattle.tor_board.proofs.Names.{◌≡◌, ◌≤◌, Opt, none, some, get_elem?, set_here, Act, Allows, State, carried_after}
-use Rattle.tor_board.proofs.Names.{chain, gives, put_back, step, takes, Climb, GivenUnit, joined_more, IsAtNode, Seated}
-use Rattle.tor_board.proofs.Names.{arrived, arrived_from, climbed, other_slot, ClimbsIn, Keeps, KeepsTree, has_out}
-use Rattle.tor_board.proofs.Names.{IsShape, IsTreeOf, joined_in, pairs, slot_of, word_of, joining, rested, only, total}
-use Rattle.tor_board.proofs.Names.{Shape, Tree, View, AtMostOneSpare, LastGiveIsIn, IsIn}
-use Rattle.tor_board.proofs.Sums.{within}
-use Rattle.tor_board.proofs.Counting.{pairs_same, pairs_once, words-set, joined_head, joined_else, joined_same, IsBelow}
-use Rattle.tor_board.proofs.Counting.{node_above, word_above, above_slot, one_more, word_now, word_else, same_halves}
-use Rattle.tor_board.proofs.Claims.{steady}
+use Rattle.tor_board.proofs.Names.{set, set-set, subst, suc, ℕ, ◌%◌, ◌++◌, ◌+◌, ◌-◌, ◌/◌, ◌<◌, ◌^◌, ◌∙◌, ◌∷◌, ◌≡◌, ◌≤◌}
+use Rattle.tor_board.proofs.Names.{Opt, none, some, get_elem?, set_here, Act, Allows, State, carried_after, chain}
+use Rattle.tor_board.proofs.Names.{gives, put_back, step, takes, Climb, GivenUnit, joined_more, Seated, arrived_from}
+use Rattle.tor_board.proofs.Names.{climbed, other_slot, ClimbsIn, Keeps, KeepsTree, has_out, IsShape, IsTreeOf}
+use Rattle.tor_board.proofs.Names.{joined_in, pairs, slot_of, word_of, joining, rested, only, total, Shape, Tree, View}
+use Rattle.tor_board.proofs.Names.{AtMostOneSpare, LastGiveIsIn, IsIn}
+use Rattle.tor_board.proofs.{Sums.within, Moves.steady, Rising.lands, Steps.weight, Steps.Does, Resting.bare}
+use Rattle.tor_board.proofs.{Resting.returned, Arriving.Arrived, Arriving.arrived_tree}
+use Rattle.tor_board.proofs.Finding.{pairs_same, pairs_once, words-set, joined_head, joined_else, joined_same, IsBelow}
+use Rattle.tor_board.proofs.Finding.{node_above, word_above, above_slot, one_more, word_now, word_else, same_halves}
 use Rattle.tor_board.proofs.Finding.{Apart}
 use Rattle.tor_board.proofs.Trees.{node_inside, split_positive, side_in}
-use Rattle.tor_board.proofs.Risen.{lands}
-use Rattle.tor_board.proofs.Steps.{weight, Does}
-use Rattle.tor_board.proofs.Resting.{bare, returned}
-use Rattle.tor_board.proofs.Arriving.{Arrived, arrived_tree, Met}
 use Rattle.tor_board.proofs.Going.{IsWithin, moved_tree, touched, climb_within, returned_homes, with_spare, of_climb}
+use Rattle.tor_board.specs.Plays.{IsAtNode, arrived}
 
 -- which slots are a tree's
 slot_in : (t : Tree) (n side : ℕ) → side < 2 → n < t.count → IsIn t (slot_of t n side)
@@ -55,8 +52,7 @@ module _ {words_count slots_count : ℕ} {shape : Shape} (shaped : IsShape words
       → ((f : ℕ → List ℕ → ℕ) → total (λ (g : GivenUnit). f g.unit g.hash) given ≡ weight f v)
       → joined_in c.tree given + pairs c.tree s.words
       ≡ joined_in c.tree v.given + pairs c.tree (one_more s.words (word_above c))
-      → ((u : Tree) → Apart u c.tree → joined_in u given ≡ joined_in u v.given)
-      → Keeps shape record {
+      → ((u : Tree) → Apart u c.tree → joined_in u given ≡ joined_in u v.given) → Keeps shape record {
         words = set s.words (word_above c) ((n + 1) % 2 ^ 64);
         homes = homes';
         views = set s.views id (went v given climb);
@@ -76,8 +72,7 @@ module _ {words_count slots_count : ℕ} {shape : Shape} (shaped : IsShape words
   -- the step, and what it tells
   arrives_all : Does shape s (put_back s.homes c.spare) id (word_above c) ((n + 1) % 2 ^ 64) ((c.slot, c.hash) ∷ [])
       (arrived_from c (v, []) n)
-  arrives_all =
-      let t : Tree = c.tree in let words' : List ℕ = one_more s.words (word_above c) in
+  arrives_all = let t : Tree = c.tree in let words' : List ℕ = one_more s.words (word_above c) in
       let h0 : List (Opt (List ℕ)) = put_back s.homes c.spare in
       let h1 : List (Opt (List ℕ)) = set h0 c.slot (some c.hash) in let back = returned_homes c s.homes spare in
       let h1_else : (x : ℕ) → (IsIn t x → ⊥) → get_elem? h1 x ≡ get_elem? s.homes x
@@ -87,30 +82,32 @@ module _ {words_count slots_count : ℕ} {shape : Shape} (shaped : IsShape words
       let after = subst (λ (after : View → List View). Arrived s.words h0 v c after)
       (λ i w. set-set s.views id (bare v c) w i)
       (arrived_tree c (returned c (kept.trees t is) id v at in_climb spare) id v
-      (set_here s.views id (bare v c) (within s.views id v at)) below) in
-      let now = word_now c below s.words long in
-      ⊎_elim
-      (λ (r : (n ≡ 0) × KeepsTree t words' h1 (set s.views id (rested v))).
-      let whole = moved v.given None h1 (omega (arith, r.0)) tt (λ x o. refl) r.1 h1_else h1_long (λ f. refl)
-      (omega (arith, pairs_same t s.words words' (λ m h. same_halves c below s.words long r.0 m))) (λ u a. refl) in
-      (rested v, gives, tt, whole, (omega (arith, r.0), (λ e. refl), λ e. absurd (omega (arith, r.0)))))
-      (λ (r : (n ≡ 1) × Met s.words h0 v c (set s.views id)).
-      let up : Climb = climbed c r.1.0 in let h2 : List (Opt (List ℕ)) = set h1 (above_slot c) none in
-      let act : Act (List ℕ) = chain gives (chain (takes (above_slot c) r.1.1) (takes (other_slot c) r.1.0)) in
-      let head' = joined_head t v.given head in
-      let pairs = pairs_once t s.words words' (node_above c) (split_positive c.level (c.index / 2)) below.inside
-      (omega (arith, r.0)) (λ m ne. ap (λ (x : ℕ). x / 2)
-      (word_else c below s.words long (word_of t m) (λ e. ne (omega arith)))) in
-      let whole = moved (joined_more v.given) (Some up) (set h2 (other_slot c) none) (omega (arith, r.0)) is
-      (climb_within t up above_in (inr (other_slot c, r.1.0, refl, other_in c below))) r.1.4
-      (λ x o. touched t h2 (other_slot c) none (other_in c below) x o
-      ∙ (touched t h1 (above_slot c) none above_in x o ∙ h1_else x o))
-      (omega (arith, length-set h1 (above_slot c) none, length-set h2 (other_slot c) none))
-      (λ f. joined_same (λ (g : GivenUnit). f g.unit g.hash) (λ u h a b. refl) v.given)
-      (omega (arith, pairs)) (λ u a. joined_else t u a v.given head) in
-      let two : n < 2 = omega (arith, r.0) in let not_first : n ≡ 0 → ⊥ = λ e. omega (arith, r.0) in
-      (joining v up, act, (tt, (r.1.2, r.1.3)), whole, (two, (λ e. absurd (not_first e)), λ e. (r.1.0, r.1.1, refl))))
-      after
+      (set_here s.views id (bare v c) (within s.views id v at)) below) in let now = word_now c below s.words long in
+      elim after [
+        | inl r ↦ let same = pairs_same t s.words words' (λ m h. same_halves c below s.words long r.0 m) in
+            let whole = moved v.given None h1 (omega (arith, r.0)) tt (λ x o. refl) r.1 h1_else h1_long (λ f. refl)
+            (omega (arith, same)) (λ u a. refl) in
+            (rested v, gives, tt, whole, (omega (arith, r.0), (λ e. refl), λ e. absurd (omega (arith, r.0))))
+        | inr r ↦ let up : Climb = climbed c r.1.0 in let h2 : List (Opt (List ℕ)) = set h1 (above_slot c) none in
+            let act : Act (List ℕ) = chain gives (chain (takes (above_slot c) r.1.1) (takes (other_slot c) r.1.0)) in
+            let head' = joined_head t v.given head in
+            let pairs = pairs_once t s.words words' (node_above c) (split_positive c.level (c.index / 2)) below.inside
+            (omega (arith, r.0)) (λ m ne. ap (λ (x : ℕ). x / 2)
+            (word_else c below s.words long (word_of t m) (λ e. ne (omega arith)))) in
+            let whole = moved (joined_more v.given) (Some up) (set h2 (other_slot c) none) (omega (arith, r.0)) is
+            (climb_within t up above_in (inr (other_slot c, r.1.0, refl, other_in c below))) r.1.4
+            (λ x o. touched t h2 (other_slot c) none (other_in c below) x o
+            ∙ (touched t h1 (above_slot c) none above_in x o ∙ h1_else x o))
+            (omega (arith, length-set h1 (above_slot c) none, length-set h2 (other_slot c) none))
+            (λ f. joined_same (λ (g : GivenUnit). f g.unit g.hash) (λ u h a b. refl) v.given)
+            (omega (arith, pairs)) (λ u a. joined_else t u a v.given head) in (
+              joining v up,
+              act,
+              (tt, (r.1.2, r.1.3)),
+              whole,
+              (omega (arith, r.0), (λ e. absurd (omega (arith, r.0))), λ e. (r.1.0, r.1.1, refl)),
+            )
+      ]
 
 pub arrives : {words_count slots_count : ℕ} {shape : Shape} → IsShape words_count slots_count shape
     → (slots id : ℕ) (m : Seated) (c : Climb) → m.0.climb ≡ Some c → m.1 ≡ c.spare ++ (c.slot, c.hash) ∷ []

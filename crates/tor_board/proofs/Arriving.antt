@@ -1,16 +1,15 @@
 -- An arrival at a node: one more in its word, and what comes of it.
-use Rattle.tor_board.proofs.Names.{List, ap, arith, cond, eq-eqb, get_or, inl, inr, length, length-set, ne_eqb, refl}
-use Rattle.tor_board.proofs.Names.{set, suc, sym, zero, ℕ, ◌%◌, ◌*◌, ◌+◌, ◌-◌, ◌/◌, ◌<◌, ◌∙◌, ◌≡◌, ◌≢◌, ◌⊎◌, dite, Opt}
-use Rattle.tor_board.proofs.Names.{none, some, ℕ_discrete, get_elem?, set_else, set_here, node_of, Climb, GivenUnit}
-use Rattle.tor_board.proofs.Names.{climbed, met, other_slot, IsSide, KeepsTree, climbing, out, IsRoot, WasGiven, middle}
-use Rattle.tor_board.proofs.Names.{ready, slot_of, word_of, joining, rested, only, Tree, View}
-use Rattle.tor_board.proofs.Sums.{total-set, only-same, only-other, only_le, term_le}
-use Rattle.tor_board.proofs.Rising.{split_one, rooted_at, rises_ready, ready_from, ready_grown}
+use Rattle.tor_board.proofs.Names.{List, ap, arith, get_or, inl, inr, length, length-set, refl, set, suc, sym, zero, ℕ}
+use Rattle.tor_board.proofs.Names.{◌%◌, ◌*◌, ◌+◌, ◌-◌, ◌/◌, ◌<◌, ◌∙◌, ◌≡◌, ◌≢◌, ◌⊎◌, dite, Opt, none, some, ℕ_discrete}
+use Rattle.tor_board.proofs.Names.{get_elem?, set_else, set_here, Climb, climbed, met, other_slot, IsSide, KeepsTree}
+use Rattle.tor_board.proofs.Names.{climbing, out, IsRoot, WasGiven, middle, ready, slot_of, word_of, joining, rested}
+use Rattle.tor_board.proofs.Names.{only, Tree, View}
+use Rattle.tor_board.proofs.Sums.{total-set, only-same, only-other, term_le}
+use Rattle.tor_board.proofs.Rising.{split_one, rooted_at, rises_ready, ready_from, ready_grown, Lands, goal_of, lands}
 use Rattle.tor_board.proofs.Trees.{alone_there, empty_home, node_word, node_flow, node_once, ready_node, side_of}
 use Rattle.tor_board.proofs.Trees.{split_positive, node_inside, zero_more, side_once}
-use Rattle.tor_board.proofs.Counting.{joined_same, IsBelow, node_above, word_above, above_slot, one_more, own_side}
-use Rattle.tor_board.proofs.Counting.{word_now, word_else, same_halves, counted}
-use Rattle.tor_board.proofs.Risen.{Lands, goal_of, lands}
+use Rattle.tor_board.proofs.Finding.{IsBelow, node_above, word_above, above_slot, one_more, own_side, word_now}
+use Rattle.tor_board.proofs.Finding.{word_else, same_halves, counted}
 use Rattle.tor_board.proofs.Steps.{SeatStep, keeps_step, put_home, old_seat, seat_rooted, outs, weight, gave}
 use Rattle.tor_board.proofs.Resting.{bare, cleared, comes_home}
 
@@ -19,18 +18,14 @@ module _ {words : List ℕ} {homes : List (Opt (List ℕ))} {views : List View} 
   -- those that came before a hash came from the other side
   pub found_other : get_or words (word_above c) 0
       ≡ kept.arrived (slot_of c.tree (middle c.level (c.index / 2)) (1 - c.index % 2))
-  found_other = let w = node_word kept c.level (c.index / 2) (c.index % 2) (omega arith) below.inside in
-      omega (arith, ap kept.arrived below.slot)
+  found_other = grind (arith, node_word kept c.level (c.index / 2) (c.index % 2), ap kept.arrived below.slot)
 
   pub found_few : get_or words (word_above c) 0 < 2
-  found_few = let once = node_once kept c.level (c.index / 2) (1 - c.index % 2) (omega arith) below.inside in
-      omega (arith, found_other)
-
-pub met_left : (side : ℕ) (a b : List ℕ) → side ≡ 0 → met side a b ≡ node_of a b
-met_left side a b e = ap (λ x. cond x (node_of a b) (node_of b a)) (eq-eqb side 0 e)
-
-pub met_right : (side : ℕ) (a b : List ℕ) → side ≢ 0 → met side a b ≡ node_of b a
-met_right side a b ne = ap (λ x. cond x (node_of a b) (node_of b a)) (ne_eqb side 0 ne)
+  found_few = omega (
+    arith,
+    found_other,
+    node_once kept c.level (c.index / 2) (1 - c.index % 2) (omega arith) below.inside,
+  )
 
 met_root : (t : Tree) (G : ℕ → List ℕ → Type 0) (k i side : ℕ) (a b : List ℕ) → side < 2
     → IsRoot G t k (2 * i + side) a → IsRoot G t k (2 * i + (1 - side)) b → IsRoot G t (suc k) i (met side a b)
@@ -40,8 +35,7 @@ met_root t G k i (suc (suc n)) a b two x y = absurd (omega arith)
 
 -- what a second arrival makes of its tree, where `after` has what all seats know, once this one knows that
 abbrev pub Met : List ℕ → List (Opt (List ℕ)) → View → Climb → (View → List View) → Type 0
-Met words homes v c after =
-    let homes' = set homes c.slot (some c.hash) in
+Met words homes v c after = let homes' = set homes c.slot (some c.hash) in
     (x : List ℕ) × (z : List ℕ) × (get_elem? homes' (above_slot c) ≡ some (some z))
     × (get_elem? (set homes' (above_slot c) none) (other_slot c) ≡ some (some x))
     × KeepsTree c.tree (one_more words (word_above c)) (set (set homes' (above_slot c) none) (other_slot c) none)
@@ -49,8 +43,7 @@ Met words homes v c after =
 
 -- and any
 abbrev pub Arrived : List ℕ → List (Opt (List ℕ)) → View → Climb → (View → List View) → Type 0
-Arrived words homes v c after =
-    ((get_or words (word_above c) 0 ≡ 0)
+Arrived words homes v c after = ((get_or words (word_above c) 0 ≡ 0)
     × KeepsTree c.tree (one_more words (word_above c)) (set homes c.slot (some c.hash)) (after (rested v)))
     ⊎ ((get_or words (word_above c) 0 ≡ 1) × Met words homes v c after)
 
@@ -73,8 +66,7 @@ module _ {words : List ℕ} {homes : List (Opt (List ℕ))} {views : List View} 
   found = found_other c kept below alone.2
 
   not_top : only (slot_of c.tree 0 0) c.slot ≡ 0
-  not_top = only-other (slot_of c.tree 0 0) c.slot
-      (λ e. omega (arith, below.slot, split_positive c.level (c.index / 2)))
+  not_top = grind (arith, below.slot, split_positive c.level (c.index / 2))
 
   first : n ≡ 0 → KeepsTree c.tree (one_more words (word_above c)) (set homes c.slot (some c.hash))
       (set views id (rested v))
@@ -102,28 +94,16 @@ module _ {words : List ℕ} {homes : List (Opt (List ℕ))} {views : List View} 
     above_unready = rises_ready c.tree words views landed.0.0 (suc c.level) (c.index / 2) up.0 up.1 landed.0.1 ∙ unready
 
     above_empty : (climbing (above_slot c) views ≡ 0) × (kept.arrived (above_slot c) ≡ 0)
-    above_empty = let f = kept.flow (above_slot c) up.0 up.1 above_side in
-        (omega (arith, above_unready), omega (arith, above_unready))
+    above_empty = grind (arith, kept.flow (above_slot c) up.0 up.1 above_side, above_unready)
 
     other_side : IsSide c.tree other c.level (2 * (c.index / 2) + (1 - c.index % 2))
     other_side = side_of c.tree c.level (c.index / 2) (1 - c.index % 2) (omega arith) below.inside
 
     other_out : out other views ≡ 0
-    other_out =
-        let flow = node_flow kept c.level (c.index / 2) (1 - c.index % 2) (omega arith) below.inside in
+    other_out = let flow = node_flow kept c.level (c.index / 2) (1 - c.index % 2) (omega arith) below.inside in
         let once = side_once kept other c.level (2 * (c.index / 2) + (1 - c.index % 2)) other_side in
         let o = kept.outs (node_above c) (1 - c.index % 2) (omega arith) (split_positive c.level (c.index / 2))
-        below.inside in
-        omega (arith, found)
-
-    above_own : above_slot c ≢ c.slot
-    above_own e = omega (arith, ap (λ (s : ℕ). climbing s views) e, above_empty.0, alone.0)
-
-    other_above : other ≢ above_slot c
-    other_above e = omega (arith, ap kept.arrived e, found, above_empty.1)
-
-    other_own : other ≢ c.slot
-    other_own e = omega (arith, ap kept.arrived e, found, alone.2)
+        below.inside in omega (arith, found)
 
     -- and climbs on
     joined : (x : List ℕ) → IsRoot (WasGiven views) c.tree c.level (2 * (c.index / 2) + (1 - c.index % 2)) x
@@ -137,11 +117,9 @@ module _ {words : List ℕ} {homes : List (Opt (List ℕ))} {views : List View} 
         let homes2 : List (Opt (List ℕ)) = set homes1 (above_slot c) none in
         let homes3 : List (Opt (List ℕ)) = set homes2 other none in let has = seat_rooted kept id (bare v c) at in
         let now = word_now c below words long in let sum = λ (g : View → ℕ). total-set g views id (bare v c) w at in
-        let given : (f : ℕ → List ℕ → ℕ) → weight f w ≡ weight f v
-        = λ f. joined_same (λ (g : GivenUnit). f g.unit g.hash) (λ u h a b. refl) v.given in
+        let given : (f : ℕ → List ℕ → ℕ) → weight f w ≡ weight f v = λ f. grind arith in
         let same : (u : ℕ) → gave u w ≡ gave u v = λ u. given (λ y h. only u y) in
-        let two : c.index % 2 < 2 = omega arith in
-        let root = landed.3 (WasGiven views) (met (c.index % 2) c.hash x)
+        let two : c.index % 2 < 2 = omega arith in let root = landed.3 (WasGiven views) (met (c.index % 2) c.hash x)
         (met_root t (WasGiven views) c.level (c.index / 2) (c.index % 2) c.hash x two
         (has.0.0 c.level (2 * (c.index / 2) + c.index % 2)
         (inl (c.index / 2, c.index % 2, two, below.inside, below.slot, refl))) x_root) in
@@ -150,8 +128,7 @@ module _ {words : List ℕ} {homes : List (Opt (List ℕ))} {views : List View} 
         (λ k j near. dite (ℕ_discrete (middle k j) (node_above c))
         (λ e. let q = split_one c.level (c.index / 2) k j (sym e) in inr (ap suc q.0, q.1))
         (λ ne. inl (word_else c below words long (word_of t (middle k j)) (λ e. ne (omega arith))))) in
-        let full : ready t words' vs (suc c.level) (c.index / 2) ≡ 1
-        = omega (arith, ready_node t words' vs c.level (c.index / 2) below.inside) in
+        let full : ready t words' vs (suc c.level) (c.index / 2) ≡ 1 = grind arith in
         let step : SeatStep t words words' homes homes3 views kept.arrived id (bare v c) w (λ s. only s c.slot)
         = record {
           sum = sum;
@@ -163,22 +140,12 @@ module _ {words : List ℕ} {homes : List (Opt (List ℕ))} {views : List View} 
           word = λ m pos h. counted c below words long t m;
           flow = λ s k j is. let more = ready_grown t kept.tall words words' views vs (suc c.level) (c.index / 2)
               (above_slot c) up.0 up.1 landed.0.0 above_side landed.0.1 unready full grown s k j is in omega arith;
-          sides_out = λ m side two pos h. dite (ℕ_discrete m (node_above c))
-              (λ e.
-              let a : get_or words' (word_of t m) 0 ≡ 2 = rw e (omega arith) in
-              let b : get_or words (word_of t m) 0 ≡ 1 = rw e one in
-              omega (arith, only_le (slot_of t m side) other))
-              (λ ne. let l = word_else c below words long (word_of t m) (λ e. ne (omega arith)) in
-              omega (arith, only-other (slot_of t m side) other (λ e. ne (omega arith))));
-          out_top = let pos = split_positive c.level (c.index / 2) in
-              omega (arith, only-other (slot_of t 0 0) other (λ e. omega arith));
-          home = λ s k j is none_out.
-              let mine = term_le (outs s) views id (bare v c) at in let all = sum (outs s) in
-              let not_other : s ≢ other = λ e. let o : only s other ≡ 1 = rw e (only-same other) in
-              omega arith in
+          sides_out = λ m side two pos h. grind (arith, word_else, only-other);
+          out_top = grind (arith, split_positive c.level (c.index / 2));
+          home = λ s k j is none_out. let mine = term_le (outs s) views id (bare v c) at in let all = sum (outs s) in
+              let not_other : s ≢ other = λ e. let o : only s other ≡ 1 = rw e (only-same other) in omega arith in
               let not_above : s ≢ above_slot c = λ e.
-              let o : only s (above_slot c) ≡ 1 = rw e (only-same (above_slot c)) in
-              omega arith in
+              let o : only s (above_slot c) ≡ 1 = rw e (only-same (above_slot c)) in omega arith in
               let through : get_elem? homes3 s ≡ get_elem? homes1 s = set_else homes2 other s none not_other
               ∙ set_else homes1 (above_slot c) s none not_above in
               put_home kept homes3 (λ y. only y c.slot) c.slot c.hash has.0.0 s k j is
@@ -191,21 +158,19 @@ module _ {words : List ℕ} {homes : List (Opt (List ℕ))} {views : List View} 
               let b = rooted_at (WasGiven views) t other c.level j x other_side x_root in
               old_seat kept id w ((a, b), has.1);
           tops = omega (arith, not_top);
-        } in
-        keeps_step kept step
+        } in keeps_step kept step
 
     second : Met words homes v c (set views id)
-    second =
-        let h = kept.home other c.level (2 * (c.index / 2) + (1 - c.index % 2)) other_side other_out in
+    second = let h = kept.home other c.level (2 * (c.index / 2) + (1 - c.index % 2)) other_side other_out in
         let q = kept.home (above_slot c) up.0 up.1 above_side
         (empty_home kept (above_slot c) up.0 up.1 above_side above_unready) in
         let homes1 : List (Opt (List ℕ)) = set homes c.slot (some c.hash) in
-        let z = set_else homes c.slot (above_slot c) (some c.hash) above_own ∙ q.1 in
-        let x = set_else homes1 (above_slot c) other none other_above
-        ∙ (set_else homes c.slot other (some c.hash) other_own ∙ h.1) in
+        let z = set_else homes c.slot (above_slot c) (some c.hash)
+        (λ e. omega (arith, ap (λ (s : ℕ). climbing s views) e, above_empty.0, alone.0)) ∙ q.1 in
+        let x = set_else homes1 (above_slot c) other none (λ e. omega (arith, ap kept.arrived e, found, above_empty.1))
+        ∙ (set_else homes c.slot other (some c.hash) (λ e. omega (arith, ap kept.arrived e, found, alone.2)) ∙ h.1) in
         (h.0, q.0, z, x, joined h.0 (h.2 (sym found ∙ one)))
 
   pub arrived_tree : Arrived words homes v c (set views id)
   arrived_tree = dite (ℕ_discrete n 0) (λ none_there. inl (none_there, first none_there))
-      (λ some_there. let one : n ≡ 1 = omega (arith, found_few c kept below alone.2) in
-      inr (one, second one))
+      (λ some_there. let one : n ≡ 1 = omega (arith, found_few c kept below alone.2) in inr (one, second one))

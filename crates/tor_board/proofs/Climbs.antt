@@ -1,28 +1,23 @@
 -- A step of a climb is the event of its name.
-use Rattle.tor_board.proofs.Names.{Bool, List, None, Some, [], ap, arith, cond, eq-eqb, get_or, inl, inr, length}
-use Rattle.tor_board.proofs.Names.{ne_eqb, refl, set, subst, suc, sym, true, ℕ, ◌%◌, ◌*◌, ◌+◌, ◌-◌, ◌/◌, ◌<◌, ◌==◌, ◌^◌}
-use Rattle.tor_board.proofs.Names.{◌∙◌, ◌∷◌, ◌≡◌, ◌≤◌, dite, ℕ_discrete, at_map, State, Climb, way_in, way_of}
-use Rattle.tor_board.proofs.Names.{topped_desk, IsGivenSide, IsStep, Machine, arrive, beside, hand, hands, meets, rests}
-use Rattle.tor_board.proofs.Names.{seal, seals, side_of_way, times_arrived, top_root, IsAtTop, Seated, arrived_from}
-use Rattle.tor_board.proofs.Names.{gave_told, sealed_from, climb_from, climbed, met, other_slot, IsSide, KeepsTree}
-use Rattle.tor_board.proofs.Names.{climbing, climbs_to, least_of, runs_of, IsShape, IsTreeOf, IsChange, IsEvent}
-use Rattle.tor_board.proofs.Names.{has_unit, middle, ready, slot_at, slot_of, times_given, word_of, desk_of, handed}
-use Rattle.tor_board.proofs.Names.{joining, rested, topped, only, Shape, Tree, View}
+use Rattle.tor_board.proofs.Names.{Bool, List, None, Some, [], ap, arith, cond, get_or, inr, length, refl, set, subst}
+use Rattle.tor_board.proofs.Names.{suc, sym, true, ℕ, ◌%◌, ◌*◌, ◌+◌, ◌-◌, ◌/◌, ◌<◌, ◌==◌, ◌^◌, ◌∙◌, ◌∷◌, ◌≡◌, ◌≤◌, dite}
+use Rattle.tor_board.proofs.Names.{ℕ_discrete, at_map, State, Climb, way_in, way_of, IsGivenSide, IsStep, Machine}
+use Rattle.tor_board.proofs.Names.{arrive, hand, hands, meets, rests, seal, seals, times_arrived, top_root, IsAtTop}
+use Rattle.tor_board.proofs.Names.{Seated, arrived_from, gave_told, sealed_from, climb_from, climbed, met, other_slot}
+use Rattle.tor_board.proofs.Names.{IsSide, KeepsTree, climbing, climbs_to, least_of, runs_of, IsShape, IsTreeOf}
+use Rattle.tor_board.proofs.Names.{IsChange, IsEvent, has_unit, middle, ready, slot_at, slot_of, times_given, word_of}
+use Rattle.tor_board.proofs.Names.{desk_of, handed, joining, rested, topped, only, Shape, Tree, View}
+use Rattle.tor_board.proofs.{Arriving.found_other, Arriving.found_few, Going.held_ungiven, Running.ready_given}
+use Rattle.tor_board.proofs.{Running.top_is, Steps.climbs, Steps.gave, Sums.only-same, Sums.only-other}
+use Rattle.tor_board.proofs.Finding.{same_tree, some_height, top_node, IsBelow, word_above, own_side, counted}
+use Rattle.tor_board.proofs.Finding.{joined_same, word_else}
+use Rattle.tor_board.proofs.Trees.{has_unit-true, alone_there, ready_node, side_of, node_inside, node_flow, node_word}
+use Rattle.tor_board.proofs.Trees.{node_once}
+use Rattle.tor_board.proofs.Machines.{other_side, same_side, next_of}
+use Rattle.tor_board.proofs.Rising.{goal_of, lands, rises_ready, side_low, place_one, side_one}
+use Rattle.tor_board.proofs.Shown.{Moment, New, place_of, event, moved, unarrived, on_first, as_told}
+use Rattle.tor_board.specs.{Climb.run_of, Desks.topped as topped_desk, Machine.beside, Machine.side_of as side_of_way}
 use Rattle.tor_merkle.specs.Subtree.{height}
-use Rattle.tor_board.specs.Climb.{run_of}
-use Rattle.tor_board.proofs.Finding.{apart, same_tree, some_height, top_node}
-use Rattle.tor_board.proofs.Arriving.{found_other, found_few}
-use Rattle.tor_board.proofs.Counting.{IsBelow, word_above, own_side, counted, joined_same, word_else}
-use Rattle.tor_board.proofs.Trees.{has_unit-true, alone_there, ready_node, side_of, side_in, node_inside, node_flow}
-use Rattle.tor_board.proofs.Trees.{node_word, node_once}
-use Rattle.tor_board.proofs.Begins.{held_ungiven}
-use Rattle.tor_board.proofs.Sides.{other_side, same_side, next_of}
-use Rattle.tor_board.proofs.Risen.{goal_of, lands}
-use Rattle.tor_board.proofs.Rising.{rises_ready, side_low, not_top, place_one, side_one}
-use Rattle.tor_board.proofs.Running.{ready_given, top_is}
-use Rattle.tor_board.proofs.Shown.{Moment, New, place_of, event, moved, unarrived, on_first}
-use Rattle.tor_board.proofs.Steps.{climbs, gave}
-use Rattle.tor_board.proofs.Sums.{only-same, only-other}
 
 module _ {shape : Shape} {m : Machine} {s s' : State (List ℕ) View} {id : ℕ} {v : View}
     (now : Moment shape m s s' id v) {words_count slots_count : ℕ}
@@ -33,17 +28,14 @@ module _ {shape : Shape} {m : Machine} {s s' : State (List ℕ) View} {id : ℕ}
   same_spot t u is is' slot k j l n a b = dite (ℕ_discrete t.number u.number)
       (λ e. let same = same_tree shape t u is is' e in
       let q = side_one t slot k j l n a (subst (λ (x : Tree). IsSide x slot l n) (sym same) b) in (same, q.0, q.1))
-      (λ ne. absurd ((apart shaped t u is is' ne).slots slot (side_in t (now.kept.trees t is).some_unit slot k j a)
-      (side_in u (now.kept.trees u is').some_unit slot l n b)))
+      (λ ne. grind arith)
 
   -- nothing has come yet to where a spot rises that is not ready
   not_ready : (t : Tree) → IsTreeOf shape t → (l j : ℕ) (hash : List ℕ) (spare : List (ℕ × List ℕ)) → l ≤ t.height
-      → j * 2 ^ l < t.count → ready t s.words s.views l j ≡ 0
-      → New now (Some (climb_from t l j hash spare))
+      → j * 2 ^ l < t.count → ready t s.words s.views l j ≡ 0 → New now (Some (climb_from t l j hash spare))
   not_ready t is l j hash spare low inside none u is' k i side two near one =
       let p : ℕ × ℕ = goal_of t l j in let tree = now.kept.trees t is in
-      let up = lands t tree.some_unit tree.tall l j low inside in
-      let z : ready t s.words s.views p.0 p.1 ≡ 0
+      let up = lands t tree.some_unit tree.tall l j low inside in let z : ready t s.words s.views p.0 p.1 ≡ 0
       = rises_ready t s.words s.views up.0.0 l j p.0 p.1 up.0.1 ∙ none in
       dite (ℕ_discrete (slot_at t p.0 p.1) (slot_of u (middle k i) side))
       (λ e. let q = same_spot t u is is' (slot_of u (middle k i) side) p.0 p.1 k (2 * i + side)
@@ -62,15 +54,11 @@ module _ {shape : Shape} {m : Machine} {s s' : State (List ℕ) View} {id : ℕ}
     found = get_or s.words (word_above c) 0
 
     below : IsBelow c
-    below =
-        let own : IsSide c.tree c.slot c.level c.index
-        = inl (c.index / 2, c.index % 2, omega arith, near, slot_is, omega arith) in
-        let le = side_low c.tree tree.tall c.slot c.level c.index own in
-        record {
+    below = let own : IsSide c.tree c.slot c.level c.index = grind arith in
+        let le = side_low c.tree tree.tall c.slot c.level c.index own in record {
           slot = slot_is;
           inside = near;
-          low = dite (ℕ_discrete c.level c.tree.height)
-              (λ e. absurd (not_top c.tree tree.tall c.level (c.index / 2) e near)) (λ ne. omega arith);
+          low = grind arith;
         }
 
     alone : (climbing c.slot s.views ≡ 1) × (ready c.tree s.words s.views c.level c.index ≡ 1)
@@ -78,24 +66,17 @@ module _ {shape : Shape} {m : Machine} {s s' : State (List ℕ) View} {id : ℕ}
     alone = alone_there tree id v c now.at in_climb c.level c.index (own_side c below)
 
     -- how often a side of this node has arrived, by the machine
-    side_times : (b j : ℕ) → b < 2 → j ≡ 2 * (c.index / 2) + b
-        → times_arrived (place_of c.tree c.level j) m.arrived
+    side_times : (b j : ℕ) → b < 2 → j ≡ 2 * (c.index / 2) + b → times_arrived (place_of c.tree c.level j) m.arrived
         ≡ tree.arrived (slot_of c.tree (middle c.level (c.index / 2)) b)
-    side_times b j two e = subst (λ (x : ℕ). times_arrived (place_of c.tree c.level x) m.arrived
-        ≡ tree.arrived (slot_of c.tree (middle c.level (c.index / 2)) b)) (sym e) (
-        let d = now.shows.sides c.tree is c.level (c.index / 2) b two near in
-        let f = node_flow tree c.level (c.index / 2) b two near in omega arith)
+    side_times b j two e = grind arith
 
     none_here : times_arrived (side_of_way (way_of c)) m.arrived ≡ 0
-    none_here = side_times (c.index % 2) c.index (omega arith) (omega arith)
-        ∙ (ap tree.arrived (sym slot_is) ∙ alone.2)
+    none_here = side_times (c.index % 2) c.index (omega arith) (omega arith) ∙ (ap tree.arrived (sym slot_is) ∙ alone.2)
 
     found_beside : times_arrived (beside (side_of_way (way_of c))) m.arrived ≡ found
     found_beside =
         let place : cond (c.index % 2 == 0) (c.index + 1) (2 * (c.index / 2)) ≡ 2 * (c.index / 2) + (1 - c.index % 2)
-        = dite (ℕ_discrete (c.index % 2) 0)
-        (λ e. ap (λ b. cond b (c.index + 1) (2 * (c.index / 2))) (eq-eqb (c.index % 2) 0 e) ∙ omega arith)
-        (λ ne. ap (λ b. cond b (c.index + 1) (2 * (c.index / 2))) (ne_eqb (c.index % 2) 0 ne) ∙ omega arith) in
+        = grind arith in
         side_times (1 - c.index % 2) (cond (c.index % 2 == 0) (c.index + 1) (2 * (c.index / 2))) (omega arith) place
         ∙ sym (found_other c tree below alone.2)
 
@@ -106,22 +87,18 @@ module _ {shape : Shape} {m : Machine} {s s' : State (List ℕ) View} {id : ℕ}
     timed : (t : Tree) → IsTreeOf shape t → (k i side : ℕ) → side < 2 → middle k i < t.count
         → times_arrived (place_of t k (2 * i + side)) (side_of_way (way_of c) ∷ m.arrived)
         ≡ times_arrived (place_of t k (2 * i + side)) m.arrived + climbs (slot_of t (middle k i) side) v
-    timed t is' k i side two inside =
-        let slot : ℕ = slot_of t (middle k i) side in let own = own_side c below in
+    timed t is' k i side two inside = let slot : ℕ = slot_of t (middle k i) side in let own = own_side c below in
         let there = side_of t k i side two inside in
-        let mine : climbs slot v ≡ only slot c.slot = ap (climbs_to slot) in_climb in
-        dite (ℕ_discrete c.slot slot)
+        let mine : climbs slot v ≡ only slot c.slot = ap (climbs_to slot) in_climb in dite (ℕ_discrete c.slot slot)
         (λ e. let q = same_spot c.tree t is is' slot c.level c.index k (2 * i + side)
         (subst (λ (x : ℕ). IsSide c.tree x c.level c.index) e own) there in
         let bit = ap (λ (b : Bool). cond {A = ℕ} b 1 0) (same_side (side_of_way (way_of c))
         (place_of t k (2 * i + side)) (ap (λ (r : Tree). r.number) q.0) q.1 q.2) in
-        let one : only slot c.slot ≡ 1 = rw e (only-same slot) in
-        omega arith)
+        let one : only slot c.slot ≡ 1 = rw e (only-same slot) in omega arith)
         (λ ne. let bit = ap (λ (b : Bool). cond {A = ℕ} b 1 0)
         (other_side (side_of_way (way_of c)) (place_of t k (2 * i + side)) (λ e f g. ne
         (let same : c.tree ≡ t = same_tree shape c.tree t is is' e in
-        place_one c.tree tree.tall c.slot slot c.level c.index own
-        (rw (same, f, g) there)))) in
+        place_one c.tree tree.tall c.slot slot c.level c.index own (rw (same, f, g) there)))) in
         omega (arith, only-other slot c.slot ne))
 
     -- where the word has one more, so has the machine
@@ -129,8 +106,7 @@ module _ {shape : Shape} {m : Machine} {s s' : State (List ℕ) View} {id : ℕ}
         → New now w.climb → IsStep shape.units (runs_of shape) m id (desk_of v) arrive
         (record m { arrived = side_of_way (way_of c) ∷ m.arrived; desks = set m.desks id (desk_of w) })
         → IsEvent shape m id arrive s'
-    arrived_event w change gives new step =
-        let long : word_above c < length s.words = omega (arith, tree.long) in
+    arrived_event w change gives new step = let long : word_above c < length s.words = omega (arith, tree.long) in
         let far : (k : ℕ) → k < 2 → get_or s'.words k 0 ≡ get_or s.words k 0
         = λ k low. rw change.0 (word_else c below s.words long k (λ e. omega arith)) in
         let sum : (t : Tree) → IsTreeOf shape t → (n : ℕ) → 0 < n → n < t.count → get_or s'.words (word_of t n) 0
@@ -147,21 +123,15 @@ module _ {shape : Shape} {m : Machine} {s s' : State (List ℕ) View} {id : ℕ}
         → IsChange s (word_above c) ((found + 1) % 2 ^ 64) id after.0 s' → IsEvent shape m id arrive s'
     arrives_so some_room has after t change =
         let few = found_few c tree below alone.2 in let big : (found + 1) % 2 ^ 64 ≡ found + 1 = omega arith in
-        let known : (w : View) (l : List (ℕ × List ℕ)) → after ≡ (w, l) → IsChange s (word_above c) (found + 1) id w s'
-        = λ w l e. subst (λ (x : ℕ). IsChange s (word_above c) x id w s') big
-        (subst (λ (x : Seated). IsChange s (word_above c) ((found + 1) % 2 ^ 64) id x.0 s') e change) in
-        dite (ℕ_discrete found 0)
-        (λ e. arrived_event (rested v) (known (rested v) [] (t.1 e)) (λ u. omega arith)
+        dite (ℕ_discrete found 0) (λ e. arrived_event (rested v) (as_told now _ (t.1 e) big change) (λ u. omega arith)
         (λ t is k i side two inside one. omega arith)
-        (rests (way_of c) some_room (ap way_in in_climb) near given_here none_here (found_beside ∙ e)))
-        (λ ne.
+        (rests (way_of c) some_room (ap way_in in_climb) near given_here none_here (found_beside ∙ e))) (λ ne.
         let one : found ≡ 1 = omega arith in let r = t.2 one in let w : View = joining v (climbed c r.0) in
-        let none : ready c.tree s.words s.views (suc c.level) (c.index / 2) ≡ 0
-        = omega (arith, ready_node c.tree s.words s.views c.level (c.index / 2) near) in
+        let none : ready c.tree s.words s.views (suc c.level) (c.index / 2) ≡ 0 = grind arith in
         let covers = node_inside c.level (c.index / 2) c.tree.count near in
         let next = next_of c.tree tree.some_unit tree.tall (shaped.fits c.tree is).least (suc c.level) (c.index / 2)
         below.low covers (met (c.index % 2) c.hash r.0) ((other_slot c, r.0) ∷ []) in
-        arrived_event w (known w ((other_slot c, r.0) ∷ ((climbed c r.0).slot, r.1) ∷ []) r.2)
+        arrived_event w (as_told now _ r.2 big change)
         (λ u. omega (arith, joined_same (λ g. only u g.unit) (λ x h a b. refl) v.given))
         (not_ready c.tree is (suc c.level) (c.index / 2) (met (c.index % 2) c.hash r.0) ((other_slot c, r.0) ∷ [])
         below.low covers none)
@@ -177,7 +147,7 @@ module _ {shape : Shape} {m : Machine} {s s' : State (List ℕ) View} {id : ℕ}
       let among = has_unit-true t u in_tree in let i : ℕ = u - t.first in
       let unit : u ≡ t.first + (u - t.first) = omega (arith, among.0) in
       let c : Climb = climb_from t 0 i hash [] in let w : View = handed v u hash (Some c) in
-      let changed : IsChange s 0 k id w s' = subst (λ (x : Seated). IsChange s 0 k id x.0 s') told.0.1 change in
+      let changed : IsChange s 0 k id w s' = as_told now _ told.0.1 refl change in
       let ungiven : ready t s.words s.views 0 i ≡ 0 = ap (λ (x : ℕ). times_given x s.views) (sym unit)
       ∙ held_ungiven now.kept.claims id v now.at u told.3 in
       let covers : i * 2 ^ 0 < t.count = omega (arith, among.0, among.1) in
@@ -185,21 +155,19 @@ module _ {shape : Shape} {m : Machine} {s s' : State (List ℕ) View} {id : ℕ}
       on_first now (hand u hash) k m.claims w (desk_of w) changed
       (unarrived now 0 k (omega arith) w changed (λ x. omega arith)
       (not_ready t is 0 i hash [] (omega arith) covers ungiven)
-      (λ t is n side two pos h. ap (climbs_to (slot_of t n side)) idle))
-      now.shows.claims refl
+      (λ t is n side two pos h. ap (climbs_to (slot_of t n side)) idle)) now.shows.claims refl
       (hands u hash (Some (way_of c)) told.2.0 (ap way_in idle) told.3
       (at_map run_of shape.trees.items t.number t is, in_tree, next))
 
   -- ---- a seal
   top_met : (t : Tree) → IsTreeOf shape t → 2 ≤ get_or s.words (word_of t (middle (t.height - 1) 0)) 0
       → (side : ℕ) → side < 2 → times_arrived (place_of t (t.height - 1) side) m.arrived ≡ 1
-  top_met t is two side low =
-      let tree = now.kept.trees t is in let k : ℕ = t.height - 1 in let inside = top_node shaped t is in
-      let e : 2 * 0 + side ≡ side = omega arith in
-      subst (λ (x : ℕ). times_arrived (place_of t k x) m.arrived ≡ 1) e (
-      let d = node_word tree k 0 side low inside in let f = node_once tree k 0 side low inside in
-      let g = node_once tree k 0 (1 - side) (omega arith) inside in
-      let h = now.shows.sides t is k 0 side low inside in let p = node_flow tree k 0 side low inside in omega arith)
+  top_met t is two side low = let a = top_node shaped t is in
+      let b = node_word (now.kept.trees t is) (t.height - 1) 0 side low (top_node shaped t is) in
+      let d = node_once (now.kept.trees t is) (t.height - 1) 0 side low (top_node shaped t is) in
+      let e = node_once (now.kept.trees t is) (t.height - 1) 0 (1 - side) in
+      let f = now.shows.sides t is (t.height - 1) 0 side low (top_node shaped t is) in
+      grind (arith, node_flow (now.kept.trees t is) (t.height - 1) 0 side low (top_node shaped t is))
 
   pub seals_so : 0 < v.room → (c : Climb) → v.climb ≡ Some c → IsTreeOf shape c.tree → IsAtTop c
       → (has : List (ℕ × List ℕ)) (after : Seated) → sealed_from c (v, has) after
@@ -208,26 +176,20 @@ module _ {shape : Shape} {m : Machine} {s s' : State (List ℕ) View} {id : ℕ}
       let k : ℕ = get_or s.words 0 0 in let tree = now.kept.trees c.tree is in
       let w : View = topped v c.tree.number c.hash in
       let top : IsSide c.tree c.slot c.tree.height 0 = inr (high.2, refl, refl) in
-      let changed : IsChange s 0 k id w s' = subst (λ (x : Seated). IsChange s 0 k id x.0 s') t change in
+      let changed : IsChange s 0 k id w s' = as_told now _ t refl change in
       let none : (u : Tree) → IsTreeOf shape u → (n side : ℕ) → side < 2 → 0 < n → n < u.count
       → climbs (slot_of u n side) v ≡ 0 = λ u is' n side two pos h. ap (climbs_to (slot_of u n side)) in_climb
-      ∙ only-other (slot_of u n side) c.slot (λ e. dite (ℕ_discrete c.tree.number u.number)
-      (λ same. let offs = ap (λ (r : Tree). r.offset) (same_tree shape c.tree u is is' same) in
-      omega (arith, high.2))
-      (λ ne. absurd ((apart shaped c.tree u is is' ne).slots c.slot
-      (side_in c.tree tree.some_unit c.slot c.tree.height 0 top) (omega arith, omega arith)))) in
-      let alone = alone_there tree id v c now.at in_climb c.tree.height 0 top in
+      ∙ only-other (slot_of u n side) c.slot (λ e. dite (ℕ_discrete c.tree.number u.number) (λ same. grind arith)
+      (λ ne. grind arith)) in let alone = alone_there tree id v c now.at in_climb c.tree.height 0 top in
       let tall : c.tree.height ≡ suc (c.tree.height - 1) = omega (arith, some_height shaped c.tree is) in
-      let full : ready c.tree s.words s.views (suc (c.tree.height - 1)) 0 ≡ 1
-      = subst (λ (x : ℕ). ready c.tree s.words s.views x 0 ≡ 1) tall alone.1 in
+      let full : ready c.tree s.words s.views (suc (c.tree.height - 1)) 0 ≡ 1 = grind arith in
       let node = ready_node c.tree s.words s.views (c.tree.height - 1) 0 (top_node shaped c.tree is) in
       let met' = top_met c.tree is (omega arith) in
       let least_is : c.tree.height ≡ height c.tree.count = (shaped.fits c.tree is).least in
       let root : c.hash ≡ top_root m.desks (run_of c.tree) = rw now.shows.desks
       (top_is now.kept c.tree least_is c.hash (tree.climb id v c c.tree.height 0 now.at in_climb top)) in
       on_first now seal k m.claims w (topped_desk (desk_of v) c.tree.number (top_root m.desks (run_of c.tree))) changed
-      (unarrived now 0 k (omega arith) w changed (λ x. omega arith)
-      (λ t is k i side two near one. omega arith) none)
+      (unarrived now 0 k (omega arith) w changed (λ x. omega arith) (λ t is k i side two near one. omega arith) none)
       now.shows.claims (ap (topped_desk (desk_of v) c.tree.number) (sym root))
       (seals (way_of c) some_room (ap way_in in_climb) (high.0 ∙ least_is, high.1)
       (λ side two. rw high.0 (met' side two)))

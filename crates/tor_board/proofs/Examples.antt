@@ -1,14 +1,15 @@
 -- The worked runs are legal, and what is no event is none.
-use Rattle.tor_board.proofs.Names.{List, Some, [], arith, inl, inr, leb, leb-true, ltb, refl, suc, true, zero, ℕ, ◌*◌}
-use Rattle.tor_board.proofs.Names.{◌+◌, ◌<◌, ◌^◌, ◌∷◌, ◌≡◌, ◌≢◌, ◌≤◌, Run, Desk, Way, IsExcluded, end, events, forest}
-use Rattle.tor_board.proofs.Names.{left, right, rising_end, rising_events, three_units, way_to, IsGivenSide, IsLegalRun}
-use Rattle.tor_board.proofs.Names.{IsStep, Machine, arrive, begins, claim, claims, ends, fail, fails, goes_on, hand}
-use Rattle.tor_board.proofs.Names.{hands, join, joins, look, looks, meets, rests, seal, seals, sees, side_of, split}
-use Rattle.tor_board.proofs.Names.{splits, start, times_arrived, ltb-true}
-use Rattle.tor_merkle.specs.Subtree.{height}
+use Rattle.tor_board.proofs.Names.{List, Some, [], arith, inl, inr, ltb, refl, suc, true, zero, ℕ, ◌*◌, ◌+◌, ◌<◌, ◌^◌}
+use Rattle.tor_board.proofs.Names.{◌∷◌, ◌≡◌, ◌≤◌, Run, Desk, Way, IsGivenSide, IsLegalRun, IsStep, Machine, arrive}
+use Rattle.tor_board.proofs.Names.{begins, claim, claims, ends, fail, fails, goes_on, hand, hands, join, joins, look}
+use Rattle.tor_board.proofs.Names.{looks, meets, rests, seal, seals, sees, side_of, split, splits, start, times_arrived}
+use Rattle.tor_board.proofs.Names.{◌≢◌}
 use Rattle.tor_board.proofs.Trees.{by_sides}
-use Rattle.tor_board.specs.Desks.{first}
-use Rattle.tor_board.specs.Machine.{times_given}
+use Rattle.tor_board.specs.{Desks.first, Machine.times_given}
+use Rattle.tor_board.specs.Examples.{IsExcluded, end, events, forest, left, right, rising_end, rising_events}
+use Rattle.tor_board.specs.Examples.{three_units, way_to}
+use Rattle.{tor_merkle.specs.Subtree.height, std.proofs.Common.leb, std.proofs.Common.leb-true}
+use borrow.Author.Tests.{ltb-true}
 
 -- what numbers show by themselves
 at_most : {a b : ℕ} → leb a b ≡ true → a ≤ b
@@ -34,8 +35,7 @@ abbrev top : Way
 top = record left { level = 1 }
 
 pub worked : (a b : List ℕ) → IsLegalRun 3 forest (events a b) (end a b)
-worked a b =
-    let r0 : IsLegalRun 3 forest [] start = begins in
+worked a b = let r0 : IsLegalRun 3 forest [] start = begins in
     let r1 = goes_on [] _ _ 0 look r0 (less refl) (looks (less refl) refl refl refl) in
     let r2 = goes_on _ _ _ 0 claim r1 (less refl) (claims (less refl) refl refl refl (less refl)) in
     let r3 = goes_on _ _ _ 0 split r2 (less refl) (splits (at_most refl) refl) in
@@ -64,8 +64,7 @@ unfolding height
 three_high = refl
 
 -- its left side is given once units 0 and 1 are
-left_given : (desks : List Desk) → 0 < times_given 0 desks → 0 < times_given 1 desks
-    → IsGivenSide desks three_units 1 0
+left_given : (desks : List Desk) → 0 < times_given 0 desks → 0 < times_given 1 desks → IsGivenSide desks three_units 1 0
 left_given desks a b zero low high inside = a
 left_given desks a b (suc zero) low high inside = b
 left_given desks a b (suc (suc n)) low high inside = omega arith
@@ -74,8 +73,7 @@ at_two : (i : ℕ) → 1 * 2 ^ 1 ≤ i → i < 3 → i ≡ 2
 at_two i low inside = omega arith
 
 pub risen : (a b c : List ℕ) → IsLegalRun 3 (three_units ∷ []) (rising_events a b c) (rising_end a b c)
-risen a b c =
-    let r0 : IsLegalRun 3 (three_units ∷ []) [] start = begins in
+risen a b c = let r0 : IsLegalRun 3 (three_units ∷ []) [] start = begins in
     let r1 = goes_on [] _ _ 0 look r0 (less refl) (looks (less refl) refl refl refl) in
     let r2 = goes_on _ _ _ 0 claim r1 (less refl) (claims (less refl) refl refl refl (less refl)) in
     let r3 = goes_on _ _ _ 0 look r2 (less refl) (looks (less refl) refl refl refl) in
@@ -88,23 +86,18 @@ risen a b c =
     (λ i low high inside. rw (at_zero i high) (less refl)) refl refl) in
     let r9 = goes_on _ _ _ 0 (hand 1 b) r8 (less refl)
     (hands 1 b (Some (way_to 0 1)) (less refl) refl (less refl) (refl, refl, ((0, (refl, refl)), inl (less refl)))) in
-    let r10 = goes_on _ _ _ 0 arrive r9 (less refl)
-    (meets (way_to 0 1) (way_to 1 0) (less refl) refl (less refl)
+    let r10 = goes_on _ _ _ 0 arrive r9 (less refl) (meets (way_to 0 1) (way_to 1 0) (less refl) refl (less refl)
     (λ i low high inside. rw (at_one i low high) (less refl)) refl refl refl refl
-    ((0, (refl, refl)), inl (less refl))) in
-    let both_given : Desk = record first {
+    ((0, (refl, refl)), inl (less refl))) in let both_given : Desk = record first {
       held = 2 ∷ [];
       given = record { unit = 1; hash = b; joined = 1 } ∷ record { unit = 0; hash = a; joined = 0 } ∷ [];
       arrivals = 2;
       climb = Some (way_to 1 0);
-    } in
-    let r11 = goes_on _ _ _ 0 arrive r10 (less refl) (rests (way_to 1 0) (less refl) refl (less refl)
+    } in let r11 = goes_on _ _ _ 0 arrive r10 (less refl) (rests (way_to 1 0) (less refl) refl (less refl)
     (left_given (both_given ∷ []) (less refl) (less refl)) refl refl) in
-    let r12 = goes_on _ _ _ 0 (hand 2 c) r11 (less refl)
-    (hands 2 c (Some (way_to 1 1)) (less refl) refl (less refl)
+    let r12 = goes_on _ _ _ 0 (hand 2 c) r11 (less refl) (hands 2 c (Some (way_to 1 1)) (less refl) refl (less refl)
     (refl, refl, ((1, (1, refl, at_most refl, (refl, refl))), inl (less refl)))) in
-    let r13 = goes_on _ _ _ 0 arrive r12 (less refl)
-    (meets (way_to 1 1) (way_to 2 0) (less refl) refl (less refl)
+    let r13 = goes_on _ _ _ 0 arrive r12 (less refl) (meets (way_to 1 1) (way_to 2 0) (less refl) refl (less refl)
     (λ i low high inside. rw (at_two i low inside) (less refl)) refl refl refl refl
     ((0, (refl, refl)), inr (three_high, refl))) in
     goes_on _ _ _ 0 seal r13 (less refl) (seals (way_to 2 0) (less refl) refl (three_high, refl)

@@ -1,15 +1,18 @@
--- A step of a climb keeps the whole rule.
+-- A step of a climb keeps the whole rule, among them a hand and a seal.
 use Rattle.tor_board.proofs.Names.{List, Option, Some, [], ap, arith, get_or, length, length-set, refl, set, subst, sym}
-use Rattle.tor_board.proofs.Names.{ℕ, ⊎_elim, ◌++◌, ◌+◌, ◌/◌, ◌<◌, ◌∙◌, ◌∷◌, ◌≡◌, ◌≢◌, ◌≤◌, ◌⊎◌, dite, Opt, some}
-use Rattle.tor_board.proofs.Names.{ℕ_discrete, get_elem?, set_else, State, chain, gives, put_back, Climb, Seated}
-use Rattle.tor_board.proofs.Names.{IsKnown, Keeps, KeepsClaims, KeepsTree, TopsAre, has_out, tops_of, IsShape, IsTreeOf}
-use Rattle.tor_board.proofs.Names.{WasGiven, joined_in, pairs, word_of, only, total, Shape, Tree, View, AtMostOneSpare}
-use Rattle.tor_board.proofs.Names.{IsIn}
-use Rattle.tor_board.proofs.Sums.{only-other, total-set, set_all}
-use Rattle.tor_board.proofs.Counting.{pairs_same}
-use Rattle.tor_board.proofs.Elsewhere.{unmoved_seat, away_rooted}
-use Rattle.tor_board.proofs.Finding.{Apart, apart, same_tree}
-use Rattle.tor_board.proofs.Steps.{weight, gave, Does}
+use Rattle.tor_board.proofs.Names.{ℕ, ◌++◌, ◌+◌, ◌/◌, ◌<◌, ◌∙◌, ◌∷◌, ◌≡◌, ◌≢◌, ◌≤◌, ◌⊎◌, dite, Opt, some, ℕ_discrete}
+use Rattle.tor_board.proofs.Names.{get_elem?, set_else, State, chain, gives, put_back, Climb, Seated, IsKnown, Keeps}
+use Rattle.tor_board.proofs.Names.{KeepsClaims, KeepsTree, TopsAre, has_out, tops_of, IsShape, IsTreeOf, WasGiven}
+use Rattle.tor_board.proofs.Names.{joined_in, pairs, word_of, only, total, Shape, Tree, View, AtMostOneSpare, IsIn}
+use Rattle.tor_board.proofs.Names.{None, inl, min, set-set, ◌-◌, none, set-get_or, set_here, Allows, step, takes}
+use Rattle.tor_board.proofs.Names.{IsAtTop, gave_told, sealed_from, climb_from, times_given, handed, named, topped}
+use Rattle.tor_board.proofs.Names.{times, inr}
+use Rattle.tor_board.proofs.{Moves.steady, Trees.side_in, Rising.lands}
+use Rattle.tor_board.proofs.Sums.{only-other, total-set, set_all, below-only, total-without, total_le, within}
+use Rattle.tor_board.proofs.Finding.{pairs_same, Apart, apart, same_tree, not_joined}
+use Rattle.tor_board.proofs.Steps.{unmoved_seat, away_rooted, weight, gave, Does}
+use Rattle.tor_board.proofs.Resting.{bare, returned, sealed_tree, handed_over}
+use Rattle.tor_board.specs.Plays.{sealed}
 
 -- no slot but the tree's is out with that climb
 abbrev pub IsWithin : Tree → Option Climb → Type 0
@@ -19,40 +22,31 @@ module _ {words_count slots_count : ℕ} {shape : Shape} (shaped : IsShape words
     {s : State (List ℕ) View} (kept : Keeps shape s) (id : ℕ) (v : View) (at : get_elem? s.views id ≡ some v) (t : Tree)
     (is : IsTreeOf shape t) where
   -- the step touches that tree alone
-  pub moved_tree : (words' : List ℕ) (homes' : List (Opt (List ℕ))) (w : View)
-      → (0 < w.room → IsKnown shape w)
+  pub moved_tree : (words' : List ℕ) (homes' : List (Opt (List ℕ))) (w : View) → (0 < w.room → IsKnown shape w)
       → KeepsTree t words' homes' (set s.views id w)
       → ((k : ℕ) → ((m : ℕ) → 0 < m → m < t.count → k ≢ word_of t m) → get_or words' k 0 ≡ get_or s.words k 0)
-      → length s.words ≤ length words'
-      → ((x : ℕ) → (IsIn t x → ⊥) → get_elem? homes' x ≡ get_elem? s.homes x)
+      → length s.words ≤ length words' → ((x : ℕ) → (IsIn t x → ⊥) → get_elem? homes' x ≡ get_elem? s.homes x)
       → length s.homes ≤ length homes'
       → ((number : ℕ) → number ≢ t.number → tops_of number w.tops ≡ tops_of number v.tops)
       → ((number : ℕ) (P : List ℕ → Type 0) → number ≢ t.number → TopsAre number P v.tops → TopsAre number P w.tops)
       → total (λ (x : ℕ). x) words' + v.arrivals ≡ total (λ (x : ℕ). x) s.words + w.arrivals
       → joined_in t w.given + pairs t s.words ≡ joined_in t v.given + pairs t words'
-      → ((u : Tree) → Apart u t → joined_in u w.given ≡ joined_in u v.given)
-      → IsWithin t v.climb → IsWithin t w.climb
+      → ((u : Tree) → Apart u t → joined_in u w.given ≡ joined_in u v.given) → IsWithin t v.climb → IsWithin t w.climb
       → ((f : ℕ → List ℕ → ℕ) → weight f v ≤ weight f w)
       → ((u : ℕ) → ((m : ℕ) → m < t.count → u ≢ t.first + m) → gave u w ≡ gave u v)
       → KeepsClaims shape.units (get_or s.words 0 0) (get_or s.words 1 0) (set s.views id w)
       → Keeps shape record { words = words'; homes = homes'; views = set s.views id w }
   moved_tree words' homes' w now main same_words longer same_homes wider tops told arrivals joins joins_else v_in w_in
       more same claims =
-      let first_two : (k : ℕ) → k < 2 → get_or words' k 0 ≡ get_or s.words k 0
-      = λ k low. same_words k (λ m pos h e. omega arith) in
-      let sum = λ (g : View → ℕ). total-set g s.views id v w at in
-      record {
+      let first_two : (k : ℕ) → k < 2 → get_or words' k 0 ≡ get_or s.words k 0 = λ k low. grind arith in
+      let sum = λ (g : View → ℕ). total-set g s.views id v w at in record {
         small = kept.small;
         known = set_all (λ (u : View). 0 < u.room → IsKnown shape u) s.views id w kept.known now;
         long = omega (arith, kept.long);
         unused = λ j big free. same_words j (λ m pos h. free t is m pos h) ∙ kept.unused j big free;
-        arrivals = let a = first_two 0 (omega arith) in let b = first_two 1 (omega arith) in
-            omega (arith, kept.arrivals, sum (λ (x : View). x.arrivals));
-        joins = λ u there. dite (ℕ_discrete u.number t.number)
-            (λ e. rw (sym (same_tree shape t u is there (sym e)))
-            (omega (arith, kept.joins t is, sum (λ (y : View). joined_in t y.given))))
-            (λ ne. let a = apart shaped u t there is ne in
-            let same_pairs = pairs_same u s.words words'
+        arrivals = grind arith;
+        joins = λ u there. dite (ℕ_discrete u.number t.number) (λ e. grind arith)
+            (λ ne. let a = apart shaped u t there is ne in let same_pairs = pairs_same u s.words words'
             (λ m h. ap (λ (x : ℕ). x / 2) (same_words (word_of u m) (λ n pos k. a.words m n h k))) in
             omega (arith, kept.joins u there, sum (λ (x : View). joined_in u x.given), joins_else u a));
         claims = rw (first_two 0 (omega arith), first_two 1 (omega arith)) claims;
@@ -74,28 +68,18 @@ touched t l k y there x out_ = set_else l k x y (λ e. out_ (rw e there))
 -- only those slots are out with a climb
 pub climb_within : (t : Tree) (c : Climb) → IsIn t c.slot
     → ((c.spare ≡ []) ⊎ ((o : ℕ) × (y : List ℕ) × (c.spare ≡ (o, y) ∷ []) × IsIn t o)) → IsWithin t (Some c)
-climb_within t c here spare x out_ =
-    let a : only x c.slot ≡ 0 = only-other x c.slot (λ e. out_ (rw (sym e) here)) in
-    ⊎_elim
-    (λ (e : c.spare ≡ []). omega (arith, ap (total (λ (p : ℕ × List ℕ). only x p.0)) e))
-    (λ (r : (o : ℕ) × (y : List ℕ) × (c.spare ≡ (o, y) ∷ []) × IsIn t o).
-    let b = only-other x r.0 (λ e. out_ (rw (sym e) r.3)) in
-    omega (arith, ap (total (λ (p : ℕ × List ℕ). only x p.0)) r.2))
-    spare
+climb_within t c here spare x out_ = grind arith
 
 -- the homes, once what was left over is back: the tree's alone change
 pub returned_homes : (c : Climb) (homes : List (Opt (List ℕ))) → AtMostOneSpare c
     → ((x : ℕ) → (IsIn c.tree x → ⊥) → get_elem? (put_back homes c.spare) x ≡ get_elem? homes x)
     × (length (put_back homes c.spare) ≡ length homes)
-returned_homes c homes spare =
-    let Same : List (ℕ × List ℕ) → Type 0
+returned_homes c homes spare = let Same : List (ℕ × List ℕ) → Type 0
     = λ l. ((x : ℕ) → (IsIn c.tree x → ⊥) → get_elem? (put_back homes l) x ≡ get_elem? homes x)
-    × (length (put_back homes l) ≡ length homes) in
-    ⊎_elim
-    (λ (e : c.spare ≡ []). subst Same (sym e) ((λ x o. refl), refl))
-    (λ (p : (o : ℕ) × (y : List ℕ) × (c.spare ≡ (o, y) ∷ []) × IsIn c.tree o).
-    subst Same (sym p.2) (touched c.tree homes p.0 (some p.1) p.3, length-set homes p.0 (some p.1)))
-    spare
+    × (length (put_back homes l) ≡ length homes) in elim spare [
+      | inl e ↦ subst Same (sym e) ((λ x o. refl), refl)
+      | inr p ↦ subst Same (sym p.2) (touched c.tree homes p.0 (some p.1) p.3, length-set homes p.0 (some p.1))
+    ]
 
 -- what is so of the seat's climb, said of any
 pub of_climb : (P : Climb → Type 0) (v : View) (c : Climb) → v.climb ≡ Some c → P c
@@ -106,13 +90,74 @@ of_climb P v c is p d e = let same : c ≡ d = cc in subst P same p
 pub with_spare : (shape : Shape) (s : State (List ℕ) View) (id i f : ℕ) (c : Climb) (held : List (ℕ × List ℕ))
     (P : Seated → Type 0) → held ≡ c.spare ++ (c.slot, c.hash) ∷ [] → AtMostOneSpare c
     → Does shape s (put_back s.homes c.spare) id i f ((c.slot, c.hash) ∷ []) P → Does shape s s.homes id i f held P
-with_spare shape s id i f c held P carried spare done =
-    let own : List (ℕ × List ℕ) = (c.slot, c.hash) ∷ [] in
+with_spare shape s id i f c held P carried spare done = let own : List (ℕ × List ℕ) = (c.slot, c.hash) ∷ [] in
     let Before : List (ℕ × List ℕ) → Type 0 = λ l. Does shape s (put_back s.homes l) id i f own P in
     let Goal : List (ℕ × List ℕ) → Type 0 = λ l. Does shape s s.homes id i f l P in
     let held_is = λ (l : List (ℕ × List ℕ)) (e : c.spare ≡ l). carried ∙ ap (λ (l : List (ℕ × List ℕ)). l ++ own) e in
-    ⊎_elim
-    (λ (e : c.spare ≡ []). subst Goal (sym (held_is [] e)) (subst Before e done))
-    (λ (p : (o : ℕ) × (y : List ℕ) × (c.spare ≡ (o, y) ∷ []) × IsIn c.tree o). let r = subst Before p.2 done in
-    subst Goal (sym (held_is ((p.0, p.1) ∷ []) p.2)) (r.0, chain gives r.1, (tt, r.2), r.3, r.4))
-    spare
+    elim spare [
+      | inl e ↦ subst Goal (sym (held_is [] e)) (subst Before e done)
+      | inr p ↦ let r = subst Before p.2 done in
+          subst Goal (sym (held_is ((p.0, p.1) ∷ []) p.2)) (r.0, chain gives r.1, (tt, r.2), r.3, r.4)
+    ]
+
+-- ---- a hand and a seal
+
+-- a unit that a seat holds was never given
+pub held_ungiven : {units claims least : ℕ} {views : List View} → KeepsClaims units claims least views
+    → (id : ℕ) (v : View) → get_elem? views id ≡ some v → (u : ℕ) → 0 < times u v.held → times_given u views ≡ 0
+held_ungiven {units = units} {claims = claims} {views = views} k id v at u has =
+    -- as if it held none
+    let w : View = record v { held = [] } in
+    let rest = total_le (gave u) (named (only u)) (set views id w) (λ (x : View). omega arith) in
+    let b = (below-only u (min claims units)).0 in let d = k.once (only u) in
+    let g = total-set (gave u) views id v w at in let h = total-set (named (only u)) views id v w at in omega arith
+
+module _ {words_count slots_count : ℕ} {shape : Shape} (shaped : IsShape words_count slots_count shape) where
+  pub hands : (slots id : ℕ) (m : Seated) (t : Tree) (u : ℕ) (hash : List ℕ) → 0 < m.0.room → m.0.climb ≡ None
+      → m.1 ≡ [] → 0 < times u m.0.held → IsTreeOf shape t → t.first ≤ u → u < t.first + t.count
+      → Allows (Keeps shape) slots id m 0 (λ n. n) (gave_told (Some t) u hash (step slots 0 0 0 none) m)
+  hands slots id m t u hash some_room idle empty has is low high s kept homes at small =
+      let v : View = m.0 in let n : ℕ = get_or s.words 0 0 in let tree = kept.trees t is in
+      let c : Climb = climb_from t 0 (u - t.first) hash [] in let w : View = handed v u hash (Some c) in
+      let taken = handed_over tree id v at idle u hash low high (held_ungiven kept.claims id v at u has) in
+      let up = lands t tree.some_unit tree.tall 0 (u - t.first) (omega arith) (omega arith) in
+      let slot_in = side_in t tree.some_unit c.slot c.level c.index up.1 in
+      let h1 : List (Opt (List ℕ)) = set s.homes c.slot none in
+      let whole : Keeps shape record { words = set s.words 0 n; homes = h1; views = set s.views id w }
+      = rw (set-get_or s.words 0 0) (moved_tree shaped kept id v at t is s.words h1 w
+      (λ y. ((kept.known id v at y).0, is)) taken.2 (λ x o. refl) (omega arith)
+      (touched t s.homes c.slot none slot_in) (omega (arith, length-set s.homes c.slot none)) (λ k ne. refl)
+      (λ k P ne are. are) (omega arith) (omega (arith, not_joined t u)) (λ x a. omega (arith, not_joined x u))
+      (λ x o. ap (has_out x) idle) (climb_within t c slot_in (inl refl)) (λ f. omega arith)
+      (λ x o. omega (arith, only-other x u (λ e. o (u - t.first) (omega arith) (omega arith))))
+      (steady kept.claims id v at some_room n w (λ f. omega (arith, total-without f u v.held has)) refl
+      (λ t t' h e. omega arith) refl (omega arith) (λ e. inl e))) in let Goal : List (ℕ × List ℕ) → Type 0
+      = λ l. Does shape s s.homes id 0 n l (gave_told (Some t) u hash (step slots 0 0 0 none) (v, l) n) in
+      subst Goal (sym empty) (w, takes c.slot taken.0, taken.1, whole, ((taken.0, refl), refl, (some_room, idle), has))
+
+  pub seals : (slots id : ℕ) (m : Seated) (c : Climb) → m.0.climb ≡ Some c → m.1 ≡ c.spare ++ (c.slot, c.hash) ∷ []
+      → IsTreeOf shape c.tree → IsAtTop c → AtMostOneSpare c → 0 < m.0.room
+      → Allows (Keeps shape) slots id m 0 (λ n. n) (sealed (step slots 0 0 0 none) m)
+  seals slots id m c in_climb carried is top spare some_room s kept homes at small =
+      let v : View = m.0 in let n : ℕ = get_or s.words 0 0 in let t : Tree = c.tree in let tree = kept.trees t is in
+      let w : View = topped v t.number c.hash in
+      let slot_in : IsIn t c.slot = rw top.2 (omega arith, omega (arith, tree.some_unit)) in
+      let h0 : List (Opt (List ℕ)) = put_back s.homes c.spare in
+      let h1 : List (Opt (List ℕ)) = set h0 c.slot (some c.hash) in let back = returned_homes c s.homes spare in
+      let main : KeepsTree t s.words h1 (set s.views id w)
+      = rw (sym (set-set s.views id (bare v c) w)) (sealed_tree c (returned c tree id v at in_climb spare) id v
+      (set_here s.views id (bare v c) (within s.views id v at)) top.2) in
+      let whole : Keeps shape record { words = set s.words 0 n; homes = h1; views = set s.views id w }
+      = rw (set-get_or s.words 0 0) (moved_tree shaped kept id v at t is s.words h1 w
+      (λ y. ((kept.known id v at y).0, tt)) main (λ x o. refl) (omega arith)
+      (λ x o. touched t h0 c.slot (some c.hash) slot_in x o ∙ back.0 x o)
+      (omega (arith, back.1, length-set h0 c.slot (some c.hash)))
+      (λ k ne. omega (arith, only-other k t.number (λ e. ne (sym e)))) (λ k P ne are. ((λ e. absurd (ne (sym e))), are))
+      (omega arith) (omega arith) (λ x a. refl)
+      (λ x o. ap (has_out x) in_climb ∙ climb_within t c slot_in spare x o) (λ x o. refl) (λ f. omega arith)
+      (λ u o. refl)
+      (steady kept.claims id v at some_room n w (λ f. refl) refl (λ t t' h e. omega arith) refl (omega arith)
+      (λ e. inl e))) in
+      let each = of_climb (λ (x : Climb). sealed_from x m (w, []) × IsAtTop x) v c in_climb (refl, top) in
+      with_spare shape s id 0 n c m.1 (sealed (step slots 0 0 0 none) m n) carried spare
+      (w, gives, tt, whole, (each, refl, some_room, c, in_climb))

@@ -1,38 +1,147 @@
 -- The machine alone: every legal run ends lawful.
-use Rattle.tor_board.proofs.Names.{Bool, List, None, Option, Some, [], ap, arith, cond, false, get_or, get_or-set_other}
-use Rattle.tor_board.proofs.Names.{inr, length, length-set, refl, set, subst, sym, ℕ, ⊎_elim, ◌++◌, ◌+◌, ◌-◌, ◌/◌, ◌<◌}
-use Rattle.tor_board.proofs.Names.{◌∙◌, ◌∷◌, ◌≡◌, ◌≤◌, some, some-injective, get_elem?, Run, Desk, GivenUnit, Way}
-use Rattle.tor_board.proofs.Names.{finished, names, spent_desk, Event, Every, IsGivenSide, IsLawfulState, IsLeastFailed}
-use Rattle.tor_board.proofs.Names.{IsLegalRun, IsNodeSide, IsStep, Machine, Side, begins, claims, ends, fails, goes_on}
-use Rattle.tor_board.proofs.Names.{hands, is_given_side, is_side, joins, lesser, looks, meets, rests, seals, sees}
-use Rattle.tor_board.proofs.Names.{side_of, splits, times_arrived, times_failed, top_root, only, times, total}
-use Rattle.tor_board.proofs.Sides.{bit, side_at, same_side, either_side}
-use Rattle.tor_board.proofs.Seats.{stopped_parts, stopped_both}
-use Rattle.tor_board.proofs.Counting.{joined_same}
-use Rattle.tor_board.proofs.Sums.{set_all, snoc_all, total-set, total-append, total-without}
-use Rattle.tor_board.specs.Desks.{looking, holding, handed, rested, joining, topped, failing, keeping, fresh, both}
-use Rattle.tor_board.specs.Machine.{times_given}
-use Rattle.tor_board.proofs.Lawful.{gave, failures, mark, stopped, stopped_le, there, mark_more, mark_past, ClimbOk}
-use Rattle.tor_board.proofs.Lawful.{IsWhole, AllOk, lawful, begins_good, still_given, least_same, fewest, Good}
+use Rattle.tor_board.proofs.Names.{Bool, List, [], arith, cond, false, inl, inr, true, ℕ, ◌*◌, ◌+◌, ◌<◌, ◌^◌, ◌∙◌, ◌∷◌}
+use Rattle.tor_board.proofs.Names.{◌≡◌, ◌≤◌, way_of, Side, times_arrived, climb_from, Tree, None, Option, Some, get_or}
+use Rattle.tor_board.proofs.Names.{length, min, refl, suc, sym, zero, some, some-ne-none, get_elem?, Run, Desk}
+use Rattle.tor_board.proofs.Names.{GivenUnit, Way, names, IsLeastFailed, Machine, is_given_side, lesser, start}
+use Rattle.tor_board.proofs.Names.{times_failed, below, only, times, total, ap, get_or-set_other, length-set, set}
+use Rattle.tor_board.proofs.Names.{subst, ◌++◌, ◌-◌, ◌/◌, some-injective, finished, spent_desk, Event, IsGivenSide}
+use Rattle.tor_board.proofs.Names.{IsLegalRun, IsStep, begins, claims, ends, fails, goes_on, hands, joins, looks, meets}
+use Rattle.tor_board.proofs.Names.{rests, seals, sees, side_of, splits, top_root}
+use Rattle.tor_board.proofs.{Rising.goal_of, Rising.lands, Seats.stopped_parts, Seats.stopped_both, Finding.joined_same}
+use Rattle.tor_board.proofs.Sums.{cond_le, snoc_all, total_le, below-test, below-only, below_more, set_all, total-set}
+use Rattle.tor_board.proofs.Sums.{total-append, total-without}
+use Rattle.tor_board.specs.Desks.{first, looking, holding, handed, rested, joining, topped, failing, keeping, fresh}
+use Rattle.tor_board.specs.Desks.{both}
+use Rattle.tor_board.specs.Machine.{IsNext, arrivals_at, is_side, IsLawfulState, times_given, Every, IsNodeSide}
+use Rattle.tor_merkle.specs.Subtree.{height}
+
+-- ---- sides of nodes: which one a side is, and how often a node's arrived
+
+abbrev pub bit : Bool → ℕ
+bit b = cond b 1 0
+
+abbrev pub side_at : ℕ → ℕ → ℕ → Side
+side_at n k j = record { tree = n; level = k; index = j }
+
+pub same_side : (a b : Side) → a.tree ≡ b.tree → a.level ≡ b.level → a.index ≡ b.index → is_side a b ≡ true
+same_side a b e f g = grind arith
+
+pub other_side : (a b : Side) → (a.tree ≡ b.tree → a.level ≡ b.level → a.index ≡ b.index → ⊥) → is_side a b ≡ false
+other_side a b ne = grind arith
+
+-- a node's arrivals are those of its sides
+pub at_node : (n k i : ℕ) (sides : List Side) → arrivals_at sides n k i
+    ≤ times_arrived (side_at n k (2 * i)) sides + times_arrived (side_at n k (2 * i + 1)) sides
+at_node n k i [] = omega arith
+at_node n k i (s ∷ ss) = grind (arith, at_node n k i ss)
+
+-- where a hash rises to is the next side of a node, or the top
+pub next_of : (t : Tree) → 0 < t.count → t.count ≤ 2 ^ t.height → t.height ≡ height t.count → (l i : ℕ) → l ≤ t.height
+    → i * 2 ^ l < t.count → (hash : List ℕ) (spare : List (ℕ × List ℕ))
+    → IsNext (way_of (climb_from t l i hash spare)) l i
+next_of t some_unit tall least l i low inside hash spare
+    = grind (arith, lands t some_unit tall l i low inside, goal_of t l i)
+
+-- ---- what every run keeps
+
+abbrev pub gave : ℕ → Desk → ℕ
+gave u d = total (λ (g : GivenUnit). only u g.unit) d.given
+
+abbrev pub failures : ℕ → Desk → ℕ
+failures u d = times u d.failed
+
+abbrev pub mark : ℕ → ℕ → ℕ → ℕ
+mark units made u = below (only u) (min made units)
+
+-- the room of a seat that is done
+abbrev pub stopped : Desk → ℕ
+stopped d = cond d.done d.room 0
+
+pub stopped_le : (d : Desk) → stopped d ≤ d.room
+stopped_le d = cond_le d.done d.room
+
+pub there : {X : Type 0} (l : List X) (i : ℕ) (d : X) → i < length l → get_elem? l i ≡ some (get_or l i d)
+there [] i d h = absurd (omega arith)
+there (x ∷ xs) zero d h = refl
+there (x ∷ xs) (suc i) d h = there xs i d (omega arith)
+
+-- what every run keeps
+abbrev pub ClimbOk : List Run → Option Way → Type 0
+ClimbOk forest None = Unit {0}
+ClimbOk forest (Some w) = get_elem? forest w.tree ≡ some w.run
+
+abbrev pub AllOk : List Run → List Desk → Type 0
+AllOk forest desks = (j : ℕ) (d : Desk) → get_elem? desks j ≡ some d → ClimbOk forest d.climb
+
+-- where a side arrived, all its units were given
+abbrev pub IsWhole : List Run → List Desk → List Side → Type 0
+IsWhole forest desks arrived = (n : ℕ) (run : Run) → get_elem? forest n ≡ some run → (k j : ℕ)
+    → is_given_side desks run k j (times_arrived (side_at n k j) arrived)
+
+pub record Good (units : ℕ) (forest : List Run) (m : Machine) : Type 0 where
+  pub named : (u : ℕ) → total (names u) m.desks ≡ mark units m.claims u
+  pub bounded : m.claims ≤ units + total stopped m.desks
+  pub rooms : total (λ (d : Desk). d.room) m.desks ≡ 256
+  pub least : IsLeastFailed m.least m.desks
+  pub whole : IsWhole forest m.desks m.arrived
+  pub arrivals : length m.arrived ≡ total (λ (d : Desk). d.arrivals) m.desks
+  pub climbs : AllOk forest m.desks
+  pub real : Every (IsNodeSide forest) m.arrived
+
+pub lawful : (units : ℕ) (forest : List Run) (m : Machine) → Good units forest m → IsLawfulState units forest m
+lawful units forest m g = (
+  record {
+    named = λ u. g.named u ∙ below-test u (min m.claims units);
+    few = omega (arith, g.bounded, g.rooms, total_le stopped (λ (d : Desk). d.room) m.desks stopped_le);
+    failed = g.least;
+    nodes = λ n run is k i inside. let l = times_arrived (side_at n k (2 * i)) m.arrived in
+        let r = times_arrived (side_at n k (2 * i + 1)) m.arrived in
+        (l, r, g.whole n run is k (2 * i), g.whole n run is k (2 * i + 1), at_node n k i m.arrived);
+    seats = g.arrivals;
+  },
+  g.real,
+)
+
+pub begins_good : (units : ℕ) (forest : List Run) → Good units forest start
+begins_good units forest = record {
+  named = λ u. omega (arith, (below-only u (min 0 units)).1 (omega arith));
+  bounded = omega arith;
+  rooms = refl;
+  least = inl (refl, λ u. refl);
+  whole = λ n run is k j. inl refl;
+  arrivals = refl;
+  climbs = snoc_all (λ (d : Desk). ClimbOk forest d.climb) [] first (λ j d e. absurd (some-ne-none d (sym e))) tt;
+  real = tt;
+}
+
+pub least_same : (least : Option ℕ) (before after : List Desk)
+    → ((u : ℕ) → times_failed u after ≡ times_failed u before) → IsLeastFailed least before → IsLeastFailed least after
+least_same least before after same (inl p) = inl (p.0, λ u. same u ∙ p.1 u)
+least_same least before after same (inr p) = inr (p.0, p.1, omega (arith, p.2, same p.0), λ x h. same x ∙ p.3 x h)
+
+-- once a unit more has failed
+pub fewest : (before after : List Desk) (u : ℕ) → ((x : ℕ) → times_failed x after ≡ times_failed x before + only x u)
+    → (l : Option ℕ) → IsLeastFailed l before → IsLeastFailed (Some (lesser l u)) after
+fewest before after u now l (inl p) = grind arith
+fewest before after u now l (inr p) = grind arith
+
+-- ---- an event keeps that
 
 module _ (units : ℕ) (forest : List Run) (m : Machine) (good : Good units forest m) where
   -- seats that are two or one, and together what they were
-  shared : (desks : List Desk)
-      → ((u : ℕ) → total (names u) desks ≡ total (names u) m.desks)
+  shared : (desks : List Desk) → ((u : ℕ) → total (names u) desks ≡ total (names u) m.desks)
       → total stopped m.desks ≤ total stopped desks
       → total (λ (d : Desk). d.room) desks ≡ total (λ (d : Desk). d.room) m.desks
       → ((u : ℕ) → times_failed u desks ≡ times_failed u m.desks)
       → ((u : ℕ) → times_given u m.desks ≤ times_given u desks)
-      → total (λ (d : Desk). d.arrivals) desks ≡ total (λ (d : Desk). d.arrivals) m.desks
-      → AllOk forest desks
+      → total (λ (d : Desk). d.arrivals) desks ≡ total (λ (d : Desk). d.arrivals) m.desks → AllOk forest desks
       → Good units forest (record m { desks = desks })
   shared desks named stop rooms fails' gives arrivals climbs = record {
     named = λ u. named u ∙ good.named u;
     bounded = omega (arith, good.bounded);
     rooms = rooms ∙ good.rooms;
     least = least_same m.least m.desks desks fails' good.least;
-    whole = λ n run is k j. still_given m.desks desks gives run k j (times_arrived (side_at n k j) m.arrived)
-        (good.whole n run is k j);
+    whole = λ n run is k j. grind arith;
     arrivals = good.arrivals ∙ sym arrivals;
     climbs = climbs;
     real = good.real;
@@ -53,13 +162,10 @@ module _ (units : ℕ) (forest : List Run) (m : Machine) (good : Good units fore
     set_ok d ok = set_all (λ (d : Desk). ClimbOk forest d.climb) m.desks seat d good.climbs ok
 
     changed : (made : ℕ) (least : Option ℕ) (arrived : List Side) (d : Desk)
-        → ((u : ℕ) → names u d + mark units m.claims u ≡ names u old + mark units made u)
-        → d.room ≡ old.room
+        → ((u : ℕ) → names u d + mark units m.claims u ≡ names u old + mark units made u) → d.room ≡ old.room
         → ((s s' : ℕ) → m.claims ≤ units + s → s' + stopped old ≡ s + stopped d → made ≤ units + s')
-        → IsLeastFailed least (set m.desks seat d)
-        → IsWhole forest (set m.desks seat d) arrived
-        → length arrived + old.arrivals ≡ length m.arrived + d.arrivals
-        → ClimbOk forest d.climb
+        → IsLeastFailed least (set m.desks seat d) → IsWhole forest (set m.desks seat d) arrived
+        → length arrived + old.arrivals ≡ length m.arrived + d.arrivals → ClimbOk forest d.climb
         → Every (IsNodeSide forest) arrived
         → Good units forest (record { claims = made; least = least; arrived = arrived; desks = set m.desks seat d })
     changed made least arrived d named room bound failed whole arrivals climb real = record {
@@ -74,42 +180,23 @@ module _ (units : ℕ) (forest : List Run) (m : Machine) (good : Good units fore
     }
 
     same_least : (d : Desk) → d.failed ≡ old.failed → IsLeastFailed m.least (set m.desks seat d)
-    same_least d same = least_same m.least m.desks (set m.desks seat d)
-        (λ u. omega (arith, part (failures u) d, ap (λ l. times u l) same)) good.least
+    same_least d same = grind (arith, part)
 
     same_whole : (d : Desk) → ((u : ℕ) → gave u old ≤ gave u d) → IsWhole forest (set m.desks seat d) m.arrived
-    same_whole d more n run is k j = still_given m.desks (set m.desks seat d)
-        (λ u. omega (arith, part (gave u) d, more u)) run k j (times_arrived (side_at n k j) m.arrived)
-        (good.whole n run is k j)
+    same_whole d more n run is k j = grind (arith, part, more)
 
     -- once a side more arrived, all of whose units were given
     more_whole : (d : Desk) → ((u : ℕ) → gave u old ≡ gave u d) → (w : Way) → get_elem? forest w.tree ≡ some w.run
         → IsGivenSide m.desks w.run w.level w.index → times_arrived (side_of w) m.arrived ≡ 0
         → IsWhole forest (set m.desks seat d) (side_of w ∷ m.arrived)
-    more_whole d same w mine given first' n run is k j =
-        let side : Side = side_at n k j in
-        let still : (x y : ℕ) → y ≡ x → is_given_side m.desks run k j x → is_given_side (set m.desks seat d) run k j y
-        = λ x y e s. subst (is_given_side (set m.desks seat d) run k j) (sym e)
-        (still_given m.desks (set m.desks seat d) (λ u. omega (arith, part (gave u) d, same u)) run k j x s) in
-        ⊎_elim
-        (λ (e : (w.tree ≡ n) × (w.level ≡ k) × (w.index ≡ j)).
-        let tree : w.run ≡ run = some-injective w.run run (sym mine ∙ (ap (get_elem? forest) e.0 ∙ is)) in
-        let again : times_arrived side m.arrived ≡ 0 = rw (sym e.0, sym e.1, sym e.2) first' in
-        let here : is_given_side m.desks run k j 1 = inr (refl, rw (sym tree, sym e.1, sym e.2) given) in
-        still 1 (times_arrived side (side_of w ∷ m.arrived))
-        (omega (arith, ap bit (same_side (side_of w) side e.0 e.1 e.2))) here)
-        (λ (none : is_side (side_of w) side ≡ false).
-        still (times_arrived side m.arrived) (times_arrived side (side_of w ∷ m.arrived)) (omega (arith, ap bit none))
-        (good.whole n run is k j))
-        (either_side (side_of w) side)
+    more_whole d same w mine given first' n run is k j = grind (arith, side_at n k j, some-injective, part, same)
 
     tree_of : (w : Way) → old.climb ≡ Some w → get_elem? forest w.tree ≡ some w.run
     tree_of w is = subst (λ (x : Option Way). ClimbOk forest x) is old_ok
 
     -- of an event that claims nothing
     quiet : (least : Option ℕ) (arrived : List Side) (d : Desk) → ((u : ℕ) → names u d ≡ names u old)
-        → d.room ≡ old.room → stopped old ≤ stopped d
-        → IsLeastFailed least (set m.desks seat d)
+        → d.room ≡ old.room → stopped old ≤ stopped d → IsLeastFailed least (set m.desks seat d)
         → IsWhole forest (set m.desks seat d) arrived
         → length arrived + old.arrivals ≡ length m.arrived + d.arrivals → ClimbOk forest d.climb
         → Every (IsNodeSide forest) arrived
@@ -135,13 +222,12 @@ module _ (units : ℕ) (forest : List Run) (m : Machine) (good : Good units fore
     step_good e n (sees u some_room idle busy is)
         = calm (finished old) (λ u. refl) refl (stopped_le old) refl (λ u. omega arith) refl old_ok
     step_good e n (claims some_room idle busy saw more) = let d : Desk = holding old m.claims in
-        changed (m.claims + 1) m.least m.arrived d (λ u. omega (arith, mark_more units m.claims u more)) refl
+        changed (m.claims + 1) m.least m.arrived d (λ u. grind (arith, below_more (only u) m.claims)) refl
         (λ s s' le e. omega arith) (same_least d refl) (same_whole d (λ u. omega arith)) refl old_ok good.real
     step_good e n (ends some_room idle busy saw past) = let d : Desk = finished old in
         let idle' : stopped old ≡ 0 = ap (λ (b : Bool). cond b old.room 0) busy in
-        changed (m.claims + 1) m.least m.arrived d (λ u. omega (arith, mark_past units m.claims u past)) refl
-        (λ s s' le e. omega arith) (same_least d refl) (same_whole d (λ u. omega arith)) refl
-        old_ok good.real
+        changed (m.claims + 1) m.least m.arrived d (λ u. grind arith) refl
+        (λ s s' le e. omega arith) (same_least d refl) (same_whole d (λ u. omega arith)) refl old_ok good.real
     step_good e n (hands u hash None some_room idle has begin) = handed_good u hash None has tt
     step_good e n (hands u hash (Some w) some_room idle has begin) = handed_good u hash (Some w) has begin.0
     step_good e n (rests w some_room is near given first' beside) =
@@ -161,8 +247,7 @@ module _ (units : ℕ) (forest : List Run) (m : Machine) (good : Good units fore
         (omega arith)
         (fewest m.desks (set m.desks seat d) u (λ x. omega (arith, part (failures x) d)) m.least good.least)
         (same_whole d (λ u. omega arith)) refl old_ok good.real
-    step_good e n (splits two idle) =
-        let d : Desk = keeping old in let f : Desk = fresh old in
+    step_good e n (splits two idle) = let d : Desk = keeping old in let f : Desk = fresh old in
         let two' : (g : Desk → ℕ) → total g (set m.desks seat d ++ f ∷ []) + g old ≡ total g m.desks + g d + g f
         = λ g. omega (arith, part g d, total-append g (set m.desks seat d) (f ∷ [])) in
         let parts = stopped_parts old.done (old.room - old.room / 2) (old.room / 2) old.room (omega arith) in
@@ -173,25 +258,19 @@ module _ (units : ℕ) (forest : List Run) (m : Machine) (good : Good units fore
     step_good e n (joins other w some_room idle some_room' idle' apart inside is) =
         let d : Desk = both old w in let l : List Desk = set m.desks seat d in
         let at_other : get_elem? l other ≡ some w = there l other spent_desk (omega (arith, length-set m.desks seat d))
-        ∙ ap some (get_or-set_other m.desks seat other d spent_desk apart ∙ is) in
-        let two' : (g : Desk → ℕ)
+        ∙ ap some (get_or-set_other m.desks seat other d spent_desk apart ∙ is) in let two' : (g : Desk → ℕ)
         → total g (set l other spent_desk) + g w + g old ≡ total g m.desks + g d + g spent_desk
         = λ g. omega (arith, part g d, total-set g l other w spent_desk at_other) in
         let given = λ (u : ℕ). total-append (λ (g : GivenUnit). only u g.unit) old.given w.given in
-        let failed = λ (u : ℕ). total-append (only u) old.failed w.failed in
-        shared (set l other spent_desk)
+        let failed = λ (u : ℕ). total-append (only u) old.failed w.failed in shared (set l other spent_desk)
         (λ u. omega (arith, two' (names u), total-append (only u) old.held w.held, given u, failed u))
         (omega (arith, two' stopped, stopped_both old.done w.done old.room w.room))
         (omega (arith, two' (λ (d : Desk). d.room))) (λ u. omega (arith, two' (failures u), failed u))
         (λ u. omega (arith, two' (gave u), given u)) (omega (arith, two' (λ (d : Desk). d.arrivals)))
         (set_all (λ (d : Desk). ClimbOk forest d.climb) l other spent_desk (set_ok d old_ok) tt)
 
-run_good : (units : ℕ) (forest : List Run) (events : List (ℕ × Event)) (m : Machine) → IsLegalRun units forest events m
-    → Good units forest m
+pub run_good : (units : ℕ) (forest : List Run) (events : List (ℕ × Event)) (m : Machine)
+    → IsLegalRun units forest events m → Good units forest m
 run_good units forest events m (begins) = begins_good units forest
 run_good units forest events m (goes_on before m' n seat e run here step)
     = step_good units forest m' (run_good units forest before m' run) seat here e n step
-
-pub every_run_lawful : (units : ℕ) (forest : List Run) (events : List (ℕ × Event)) (m : Machine)
-    → IsLegalRun units forest events m → IsLawfulState units forest m
-every_run_lawful units forest events m run = lawful units forest m (run_good units forest events m run)

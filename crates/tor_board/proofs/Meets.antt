@@ -1,14 +1,15 @@
--- Where a climbing seat stands, and where it stands after an arrival.
-use Rattle.tor_board.proofs.Names.{List, Some, [], ap, arith, get_or, inl, inr, refl, subst, suc, sym, ℕ, ⊎_elim, ◌%◌}
-use Rattle.tor_board.proofs.Names.{◌*◌, ◌++◌, ◌+◌, ◌-◌, ◌/◌, ◌<◌, ◌^◌, ◌∙◌, ◌∷◌, ◌≡◌, ◌≤◌, rest, turned, Climb, IsAtTop}
-use Rattle.tor_board.proofs.Names.{Seated, climb_from, climbed, met, other_slot, raised, IsNodeSlot, IsSide, IsTopSlot}
-use Rattle.tor_board.proofs.Names.{Fits, IsShape, IsTreeOf, slot_at, handed, joining, Shape, Tree, View, AtMostOneSpare}
-use Rattle.tor_board.proofs.Names.{IsClimbing, LastGiveIsIn, climb_at, IsLow}
-use Rattle.tor_board.proofs.Counting.{head_more, IsBelow}
-use Rattle.tor_board.proofs.Trees.{has_unit-within, node_inside, side_covers}
-use Rattle.tor_board.proofs.Rising.{side_low, not_top}
-use Rattle.tor_board.proofs.Risen.{goal_of, lands, slot_side}
-use Rattle.tor_board.proofs.Arrivals.{other_in}
+-- Where a climbing seat stands, where it stands after an arrival, and what a give shows.
+use Rattle.tor_board.proofs.Names.{List, Some, [], ap, arith, get_or, refl, subst, suc, sym, ℕ, ◌*◌, ◌++◌, ◌+◌, ◌-◌}
+use Rattle.tor_board.proofs.Names.{◌/◌, ◌<◌, ◌^◌, ◌∙◌, ◌∷◌, ◌≡◌, ◌≤◌, rest, turned, Climb, IsAtTop, Seated, climb_from}
+use Rattle.tor_board.proofs.Names.{raised, IsSide, Fits, IsShape, IsTreeOf, slot_at, handed, Shape, Tree, View}
+use Rattle.tor_board.proofs.Names.{AtMostOneSpare, IsClimbing, LastGiveIsIn, climb_at, IsLow, None, Option, add-zero}
+use Rattle.tor_board.proofs.Names.{true, ◌≢◌, some, get_elem?, at_map, Run, GivenUnit, in_run, run_of, has_unit}
+use Rattle.tor_board.proofs.Names.{desk_of, Board, joined_view}
+use Rattle.tor_board.proofs.{Finding.IsBelow, Finding.at_number, Sums.mapped, Trees.node_inside, Trees.side_covers}
+use Rattle.tor_board.proofs.{Trees.has_unit-true, Rising.side_low, Rising.goal_of, Rising.lands}
+use Rattle.tor_board.specs.{Desks.after_give, Desks.told, Seats.IsClimbOf, Seats.forest_of}
+use Rattle.tor_board.specs.steps.Climbing.{joined_by, rested_view, topped_view}
+use Rattle.std.specs.Prelude.{IfSome, MatchOption}
 
 -- the seat knows v, and has those slots
 abbrev IsSeat : Seated → View → List (ℕ × List ℕ) → Type 0
@@ -34,8 +35,9 @@ module _ {units words slots : ℕ} {t : Tree} (fits : Fits units words slots t) 
       (side, side_low t fits.tall slot up next side, covered, omega (arith, goal.2))
 
   -- and the seat climbs there
-  climbs_on : (l i : ℕ) → l ≤ t.height → i * 2 ^ l < t.count → (hash : List ℕ) (spare : List (ℕ × List ℕ)) (up next : ℕ)
-      → up ≡ (goal_of t l i).0 → next ≡ (goal_of t l i).1 → (top : List ℕ) → top ≡ raised t (t.height - l) l i hash
+  pub climbs_on : (l i : ℕ) → l ≤ t.height → i * 2 ^ l < t.count → (hash : List ℕ) (spare : List (ℕ × List ℕ))
+      → (up next : ℕ) → up ≡ (goal_of t l i).0 → next ≡ (goal_of t l i).1
+      → (top : List ℕ) → top ≡ raised t (t.height - l) l i hash
       → (v : View) → v.climb ≡ Some (climb_from t l i hash spare) → LastGiveIsIn t v.given
       → AtMostOneSpare (climb_at t up next top spare) → (m : Seated)
       → IsSeat m v (spare ++ (slot_at t up next, top) ∷ []) → IsClimbing t up next top m
@@ -57,21 +59,13 @@ module _ {units words slots : ℕ} {t : Tree} (fits : Fits units words slots t) 
 
     pub below_of : level < t.height → IsBelow (climb_at t level index hash cl.spare)
     below_of low = record {
-      slot = slot_side t some_unit fits.tall level index (λ e. omega arith);
-      inside = ⊎_elim
-          (λ (p : IsNodeSlot t (slot_at t level index) level index).
-          let e : index / 2 ≡ p.0 = omega (arith, p.2, p.5) in rw e p.3)
-          (λ (p : IsTopSlot t (slot_at t level index) level index). omega (arith, p.1))
-          cl.side;
+      slot = grind arith;
+      inside = grind arith;
       low = low;
     }
 
     pub top_of : t.height ≤ level → IsAtTop (climb_at t level index hash cl.spare)
-    top_of high = ⊎_elim
-        (λ (p : IsNodeSlot t (slot_at t level index) level index).
-        absurd (not_top t fits.tall level p.0 (omega (arith, covers_of.0)) p.3))
-        (λ (p : IsTopSlot t (slot_at t level index) level index). (p.1, p.2, p.0))
-        cl.side
+    top_of high = grind (arith, covers_of.0)
 
     -- a node, one level up
     pub node_place : level < t.height → index / 2 * 2 ^ (level + 1) < t.count
@@ -83,44 +77,10 @@ module _ {units words slots : ℕ} {t : Tree} (fits : Fits units words slots t) 
         → IsSide t (slot_at t up next) up next × (up ≤ t.height) × (next * 2 ^ up < t.count) × (level + 1 ≤ up)
     next_of low = lands_at (level + 1) (index / 2) (omega arith) (node_place low)
 
-    -- the seat after a second arrival
-    pub walked : (low : level < t.height) (x joined : List ℕ) → joined ≡ met (index % 2) hash x
-        → (up next : ℕ) → up ≡ (goal_of t (level + 1) (index / 2)).0 → next ≡ (goal_of t (level + 1) (index / 2)).1
-        → (top : List ℕ) → top ≡ raised t (t.height - (level + 1)) (level + 1) (index / 2) joined → (m' : Seated)
-        → IsSeat m' (joining m.0 (climbed (climb_at t level index hash cl.spare) x))
-        ((other_slot (climb_at t level index hash cl.spare), x) ∷ (slot_at t up next, top) ∷ [])
-        → IsClimbing t up next top m'
-    walked low x joined joins up next up_is next_is top top_is m' e =
-        let c : Climb = climb_at t level index hash cl.spare in
-        let spare : List (ℕ × List ℕ) = (other_slot c, x) ∷ [] in let same : suc level ≡ level + 1 = omega arith in
-        climbs_on (level + 1) (index / 2) (omega arith) (node_place low) joined spare up next up_is next_is top
-        top_is (joining m.0 (climbed c x))
-        (ap (λ (l : ℕ). Some (climb_from t l (index / 2) (met (index % 2) hash x) spare)) same
-        ∙ ap (λ (h : List ℕ). Some (climb_from t (level + 1) (index / 2) h spare)) (sym joins))
-        (head_more t m.0.given cl.giving) (inr (other_slot c, x, refl, other_in c (below_of low))) m' e
-
-  pub above_at : (level index : ℕ) (hash : List ℕ) (spare : List (ℕ × List ℕ)) (x : List ℕ) (up next : ℕ)
-      → up ≡ (goal_of t (level + 1) (index / 2)).0 → next ≡ (goal_of t (level + 1) (index / 2)).1
-      → (climbed (climb_at t level index hash spare) x).slot ≡ slot_at t up next
-  above_at level index hash spare x up next up_is next_is = let e : suc level ≡ level + 1 = omega arith in
-      ap (λ (l : ℕ). slot_at t (goal_of t l (index / 2)).0 (goal_of t l (index / 2)).1) e ∙ rw (up_is, next_is) refl
-
-  -- where a climb begins
-  pub begun : (u : ℕ) → t.first ≤ u → u < t.first + t.count → (level index : ℕ)
-      → level ≡ (goal_of t 0 (u - t.first)).0 → index ≡ (goal_of t 0 (u - t.first)).1 → (hash top : List ℕ)
-      → top ≡ raised t (t.height - 0) 0 (u - t.first) hash → (v : View) (m : Seated)
-      → IsSeat m (handed v u hash (Some (climb_from t 0 (u - t.first) hash []))) ((slot_at t level index, top) ∷ [])
-      → IsClimbing t level index top m
-  begun u from to level index level_is index_is hash top top_is v m e =
-      climbs_on 0 (u - t.first) (omega arith) (omega arith) hash [] level index level_is index_is top top_is
-      (handed v u hash (Some (climb_from t 0 (u - t.first) hash []))) refl
-      (record { unit = u; hash = hash; joined = 0 }, v.given, refl, has_unit-within t u from to) (inl refl) m e
-
 -- ---- the slots that a seat has, as it reads one and writes the other
 
 pub turned_seat : {m m' : Seated} {v : View} {o a s : ℕ} {x z y : List ℕ}
-    → IsSeat m v ((o, x) ∷ (a, z) ∷ []) → m.1 ≡ (s, y) ∷ rest m.1
-    → IsSeat m' m.0 (turned ((s, y) ∷ rest m.1))
+    → IsSeat m v ((o, x) ∷ (a, z) ∷ []) → m.1 ≡ (s, y) ∷ rest m.1 → IsSeat m' m.0 (turned ((s, y) ∷ rest m.1))
     → (y ≡ x) × IsSeat m' v ((a, z) ∷ (o, x) ∷ [])
 turned_seat {m = m} {s = s} {y = y} e seen turns =
     let same = ap (λ (l : List (ℕ × List ℕ)). (get_or l 0 (s, y)).1) (sym seen ∙ ap (λ (n : Seated). n.1) e) in
@@ -135,3 +95,44 @@ stored_seat {k = k} {top = top} e stored = stored ∙ ap (λ (n : Seated). (n.0,
 pub at_slot : {m : Seated} {v : View} {a k : ℕ} {z : List ℕ} {l : List (ℕ × List ℕ)}
     → IsSeat m v ((a, z) ∷ l) → a ≡ k → m.1 ≡ (k, z) ∷ rest m.1
 at_slot {z = z} e same = ap (λ (n : Seated). n.1) e ∙ (λ i. (same i, z) ∷ rest (sym e i).1)
+
+-- ---- second arrivals, counted
+
+by_zero : (gs : List GivenUnit) → gs ≡ joined_by 0 gs
+by_zero [] = refl
+by_zero (g ∷ gs) = λ i. record g { joined = sym (add-zero g.joined) i } ∷ gs
+
+pub joined_none : (v : View) → v ≡ joined_view 0 v v.climb
+joined_none v = λ i. record v { given = by_zero v.given i; arrivals = sym (add-zero v.arrivals) i }
+
+-- what a seat shows after a give that came first to a node, told a top, or was of a unit of no tree
+after_rested : (j : ℕ) (v : View) (u : ℕ) (hash : List ℕ) (c : Option Climb)
+    → desk_of (rested_view j (handed v u hash c)).0 ≡ after_give (desk_of v) u hash j (j + 1) None
+after_rested j v u hash c =
+    let e : 0 + j ≡ j = omega arith in let a : v.arrivals + j + 1 ≡ v.arrivals + (j + 1) = omega arith in
+    λ i. record (after_give (desk_of v) u hash j (j + 1) None) {
+      given = record { unit = u; hash = hash; joined = e i } ∷ v.given;
+      arrivals = a i;
+    }
+
+-- what a climb told of the seat, as one fact
+pub given_after : (b : Board) (t : Tree) → IsTreeOf b.shape t → (top : Option (ℕ × List ℕ)) (j levels : ℕ)
+    → t.height ≤ levels → MatchOption top (j + 1 ≤ t.height) (λ _. j ≤ t.height) → IfSome top (λ p. p.0 ≡ t.number)
+    → (v v' : View) (m : Seated) (u : ℕ) (hash : List ℕ) (c : Climb) → t.first ≤ u → u < t.first + t.count
+    → v' ≡ handed v u hash (Some c) → MatchOption top (m ≡ rested_view j v') (λ t. m ≡ topped_view j t v')
+    → (x : ℕ) × (desk_of m.0 ≡ after_give (desk_of v) u hash j x top) × (x ≤ levels) × IsClimbOf b u j x top
+given_after b t of None j levels low few number v v' m u hash c from to is told =
+    let shown = ap (λ (n : Seated). desk_of n.0) told
+    ∙ (ap (λ (w : View). desk_of (rested_view j w).0) is ∙ after_rested j v u hash (Some c)) in
+    (j + 1, shown, omega arith, (omega arith, λ n run there inside. refl))
+given_after b t of (Some top) j levels low few number v v' m u hash c from to is told
+    = grind (arith, ap (get_elem? (forest_of b)) number ∙ at_map run_of b.shape.trees.items t.number t of)
+
+-- a unit of no tree is in no run of the forest
+pub in_no_run : {words slots : ℕ} (b : Board) → IsShape words slots b.shape → (u : ℕ)
+    → ((t : Tree) → IsTreeOf b.shape t → (j : ℕ) → j < t.count → u ≢ t.first + j)
+    → (n : ℕ) (run : Run) → get_elem? (forest_of b) n ≡ some run → in_run run u ≡ true → ⊥
+in_no_run b shaped u none n run there inside = let m = mapped run_of b.shape.trees.items n run there in
+    let has : has_unit m.0 u ≡ true = ap (λ (r : Run). in_run r u) m.2 ∙ inside in
+    let among = has_unit-true m.0 u has in none m.0 (at_number shaped n m.0 m.1) (u - m.0.first)
+    (omega (arith, among.0, among.1)) (omega (arith, among.0))

@@ -1,16 +1,15 @@
 -- The shape of a new board, and the rule at its start.
 use Rattle.tor_board.proofs.Names.{List, [], ap, arith, drop, get_or, get_or-set_other, get_or-set_same, length}
 use Rattle.tor_board.proofs.Names.{length-set, map, min, refl, replicate, set, subst, suc, sym, zero, ℕ, ◌*◌, ◌+◌, ◌-◌}
-use Rattle.tor_board.proofs.Names.{◌/◌, ◌<◌, ◌^◌, ◌∙◌, ◌∷◌, ◌≡◌, ◌≢◌, ◌≤◌, pow_mono, at_drop_more, length-map}
-use Rattle.tor_board.proofs.Names.{length-replicate, dite, some, some-injective, some-ne-none, dec_le, get_elem?}
-use Rattle.tor_board.proofs.Names.{some_there, opening, height_covers, Run, IsKnown, Keeps, KeepsTree, nobody, run_of}
+use Rattle.tor_board.proofs.Names.{◌/◌, ◌<◌, ◌^◌, ◌∙◌, ◌∷◌, ◌≡◌, ◌≢◌, ◌≤◌, pow_mono, dite, some, some-injective}
+use Rattle.tor_board.proofs.Names.{some-ne-none, dec_le, get_elem?, Run, IsKnown, Keeps, KeepsTree, nobody, run_of}
 use Rattle.tor_board.proofs.Names.{Fits, IsShape, IsTreeOf, middle, ready, word_of, first, below, total, Shape, Tree}
 use Rattle.tor_board.proofs.Names.{View, units_in}
-use Rattle.tor_merkle.specs.Subtree.{height}
-use Rattle.tor_plan.specs.Forest.{AreRuns}
+use Rattle.tor_board.proofs.Trees.{ready_node, ready_chain}
 use Rattle.tor_board.specs.steps.Row.{trees_from}
-use Rattle.tor_board.proofs.Counting.{words-set}
-use Rattle.tor_board.proofs.Trees.{ready_node, ready_chain, side_in}
+use Rattle.{tor_merkle.specs.Subtree.height, tor_plan.specs.Forest.AreRuns, atomic_table.proofs.Lists.some_there}
+use Rattle.{atomic_table.specs.Table.opening, tor_merkle.proofs.ProvedLaws.height_covers}
+use Rattle.std.proofs.lemmas.List.{at_drop_more, length-map, length-replicate}
 
 -- a run's tree of that height
 abbrev pub laid : ℕ → ℕ → Run → ℕ → Tree
@@ -39,12 +38,10 @@ at units number offset from end (run ∷ runs) are le fit zero t e =
       behind = omega (arith, are.0);
       long = omega arith;
       wide = omega arith;
-    } in
-    rw (sym (some-injective _ t e)) (fits, omega arith, are.0, omega arith)
+    } in rw (sym (some-injective _ t e)) (fits, omega arith, are.0, omega arith)
 at units number offset from end (run ∷ runs) are le fit (suc k) t e =
     let r = at units (number + 1) (offset + run.count) (run.first + run.count) end runs are.4 (omega (arith, are.0))
-    (omega arith) k t e in
-    (r.0, omega (arith, r.1), omega (arith, are.0, r.2), omega (arith, r.3))
+    (omega arith) k t e in (r.0, omega (arith, r.1), omega (arith, are.0, r.2), omega (arith, r.3))
 
 apart : (units number offset from end : ℕ) (runs : List Run) → AreRuns units from runs → offset ≤ from
     → offset + units_in runs ≤ end → (j k : ℕ) (t u : Tree) → get_elem? (trees_from number offset runs) j ≡ some t
@@ -55,8 +52,7 @@ apart units number offset from end [] are le fit j k t u e f less = absurd (some
 apart units number offset from end (run ∷ runs) are le fit j zero t u e f less = omega arith
 apart units number offset from end (run ∷ runs) are le fit zero (suc k) t u e f less =
     let r = at units (number + 1) (offset + run.count) (run.first + run.count) end runs are.4 (omega (arith, are.0))
-    (omega arith) k u f in
-    rw (sym (some-injective _ t e)) (r.2, r.3)
+    (omega arith) k u f in rw (sym (some-injective _ t e)) (r.2, r.3)
 apart units number offset from end (run ∷ runs) are le fit (suc j) (suc k) t u e f less
     = apart units (number + 1) (offset + run.count) (run.first + run.count) end runs are.4 (omega (arith, are.0))
     (omega arith) j k t u e f (omega arith)
@@ -73,8 +69,7 @@ shaped units runs are small shape units_is trees_is =
     let list : (k : ℕ) (t : Tree) → get_elem? shape.trees.items k ≡ some t → get_elem? (trees_from 0 0 runs) k ≡ some t
     = λ k t e. ap (λ (l : List Tree). get_elem? l k) (sym trees_is) ∙ e in
     let there = λ (k : ℕ) (t : Tree) (e : get_elem? shape.trees.items k ≡ some t).
-    at units 0 0 0 (units_in runs) runs are (omega arith) (omega arith) k t (list k t e) in
-    record {
+    at units 0 0 0 (units_in runs) runs are (omega arith) (omega arith) k t (list k t e) in record {
       small = omega arith;
       two = omega arith;
       numbered = λ k t e. omega (arith, (there k t e).1);
@@ -104,14 +99,12 @@ below_none f (suc n) none = omega (arith, below_none f n none, none n)
 module _ (shape : Shape) (places : ℕ) (is_shape : IsShape (2 + places) (2 * places) shape) (words : List ℕ)
     (words_are : words ≡ set (zeros (2 + places)) 1 nobody)
     (slots : List (List ℕ)) (long : length slots ≡ 2 * places) where
-  two_words : 1 < length (zeros (2 + places))
-  two_words = omega (arith, length-replicate {A = ℕ} (2 + places) 0)
-
   word_zero : (k : ℕ) → k ≢ 1 → get_or words k 0 ≡ 0
   word_zero k ne = rw (words_are, get_or-set_other (zeros (2 + places)) 1 k nobody 0 ne) (zero_at (2 + places) k)
 
   word_one : get_or words 1 0 ≡ nobody
-  word_one = rw words_are (get_or-set_same (zeros (2 + places)) 1 nobody 0 two_words)
+  word_one = rw words_are (get_or-set_same (zeros (2 + places)) 1 nobody 0
+      (omega (arith, length-replicate {A = ℕ} (2 + places) 0)))
 
   words_long : length words ≡ 2 + places
   words_long = rw (words_are, length-set (zeros (2 + places)) 1 nobody) (length-replicate {A = ℕ} (2 + places) 0)
@@ -130,31 +123,24 @@ module _ (shape : Shape) (places : ℕ) (is_shape : IsShape (2 + places) (2 * pl
       (λ gt. ready_node t words views k i (omega arith)
       ∙ ap (λ (x : ℕ). x / 2) (word_zero (word_of t (middle k i)) (λ e. omega arith)))
 
-  homes_long : length (map some slots) ≡ 2 * places
-  homes_long = length-map slots some ∙ long
-
   start_tree : (t : Tree) → IsTreeOf shape t → KeepsTree t words (map some slots) views
-  start_tree t is =
-      let f = is_shape.fits t is in let some_unit : 0 < t.count = omega (arith, f.several) in
-      record {
-        arrived = λ _. 0;
-        some_unit = some_unit;
-        tall = f.tall;
-        long = omega (arith, f.long, words_long);
-        wide = omega (arith, f.wide, homes_long);
-        once = λ i h. omega arith;
-        word = λ m pos h. word_zero (word_of t m) (λ e. omega arith);
-        flow = λ s k j side. sym (ready_zero t k j);
-        outs = λ m side two pos h. omega arith;
-        out_top = omega arith;
-        home = λ s k j side none_out.
-            let inside = side_in t some_unit s k j side in
-            let q = some_there slots s (omega (arith, inside.1, f.wide)) in (q.0, q.1, λ yes. absurd (omega arith));
-        climb = λ id v c k j e climbs to. cc (ap (λ (x : View). x.climb) (the_first id v e));
-        left = λ id v c o y k j e climbs sp to. cc (ap (λ (x : View). x.climb) (the_first id v e));
-        tops = refl;
-        told = λ id v e. rw (sym (the_first id v e)) tt;
-      }
+  start_tree t is = let f = is_shape.fits t is in let some_unit : 0 < t.count = omega (arith, f.several) in record {
+    arrived = λ _. 0;
+    some_unit = some_unit;
+    tall = f.tall;
+    long = omega (arith, f.long, words_long);
+    wide = omega (arith, f.wide, length-map slots some, long);
+    once = λ i h. omega arith;
+    word = λ m pos h. word_zero (word_of t m) (λ e. omega arith);
+    flow = λ s k j side. sym (ready_zero t k j);
+    outs = λ m side two pos h. omega arith;
+    out_top = omega arith;
+    home = λ s k j side none_out. grind (arith, some_there slots s);
+    climb = λ id v c k j e climbs to. cc (ap (λ (x : View). x.climb) (the_first id v e));
+    left = λ id v c o y k j e climbs sp to. cc (ap (λ (x : View). x.climb) (the_first id v e));
+    tops = refl;
+    told = λ id v e. rw (sym (the_first id v e)) tt;
+  }
 
   pub opens : Keeps shape (opening words slots (first shape.units))
   opens = record {
@@ -173,9 +159,7 @@ module _ (shape : Shape) (places : ℕ) (is_shape : IsShape (2 + places) (2 * pl
     });
     trees = start_tree;
     known = λ id v e some_room. subst (IsKnown shape) (the_first id v e) (refl, tt);
-    arrivals = let a = ap (total (λ (x : ℕ). x)) words_are in
-        let b = words-set (zeros (2 + places)) 1 nobody two_words in let d = zero_sum (2 + places) in
-        let g = zero_at (2 + places) 1 in omega (arith, word_zero 0 (λ e. omega arith), word_one);
+    arrivals = grind (arith, zero_sum (2 + places), word_one);
     joins = λ t is. sym (below_none (λ m. get_or words (word_of t (m + 1)) 0 / 2) (t.count - 1)
         (λ m. ap (λ (x : ℕ). x / 2) (word_zero (word_of t (m + 1)) (λ e. omega arith))));
   }
@@ -188,8 +172,7 @@ no_run = record { first = 0; count = 0; level = 0 }
 -- the next run, and what it makes of the trees
 pub next_run : (units from : ℕ) (runs : List Run) (i : ℕ) → i < length runs → AreRuns units from (drop i runs)
     → (drop i runs ≡ get_or runs i no_run ∷ drop (i + 1) runs)
-    × ((get_or runs i no_run).level + height (get_or runs i no_run).count ≤ 36)
-    × (from ≤ (get_or runs i no_run).first)
+    × ((get_or runs i no_run).level + height (get_or runs i no_run).count ≤ 36) × (from ≤ (get_or runs i no_run).first)
     × ((get_or runs i no_run).first + (get_or runs i no_run).count ≤ units)
     × AreRuns units ((get_or runs i no_run).first + (get_or runs i no_run).count) (drop (i + 1) runs)
 unfolding AreRuns
@@ -207,13 +190,11 @@ unfolding trees_from
 no_tree number offset = refl
 
 pub low_count : (run : Run) → run.level + height run.count ≤ 36 → run.count ≤ 2 ^ 36
-low_count run low = let le : height run.count ≤ 36 = omega arith in
-    let a : 2 ^ height run.count ≤ 2 ^ 36 = pow_mono le in omega (arith, height_covers run.count)
+low_count run low = grind (arith, height_covers run.count, pow_mono)
 
 pub few_places : (units from offset : ℕ) (runs : List Run) → AreRuns units from runs → offset ≤ from → from ≤ units
     → offset + units_in runs ≤ units
 unfolding AreRuns
 few_places units from offset [] are le small = omega arith
-few_places units from offset (run ∷ runs) are le small = let r
-    = few_places units (run.first + run.count) (offset + run.count) runs are.4 (omega (arith, are.0)) are.2 in
-    omega arith
+few_places units from offset (run ∷ runs) are le small
+    = grind (arith, few_places units (run.first + run.count) (offset + run.count) runs are.4, are.0)

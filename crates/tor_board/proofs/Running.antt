@@ -1,24 +1,21 @@
 -- The rule makes the words, the slots and the views lawful.
-use Rattle.tor_board.proofs.Names.{List, None, Some, [], ap, arith, cond, drop, get_or, inl, inr, le-ltb, length}
-use Rattle.tor_board.proofs.Names.{lt-ltb, ltb, min, refl, subst, suc, sym, zero, ℕ, ◌*◌, ◌+◌, ◌<◌, ◌^◌, ◌∙◌, ◌∷◌, ◌≡◌}
-use Rattle.tor_board.proofs.Names.{◌≤◌, dite, Opt, some, some-injective, some-ne-none, dec_le, ℕ_discrete, get_elem?}
-use Rattle.tor_board.proofs.Names.{State, Run, Desk, GivenUnit, names, IsGivenSide, IsLeastFailed, all_given}
-use Rattle.tor_board.proofs.Names.{is_given_side, times_failed, top_root, IsSide, Keeps, KeepsClaims, KeepsTree, nobody}
-use Rattle.tor_board.proofs.Names.{IsRunning, IsTreeLawful, arrivals_in, least_of, offset_at, runs_of, IsShape}
-use Rattle.tor_board.proofs.Names.{IsTreeOf, IsRoot, WasGiven, middle, ready, slot_of, word_of, desk_of, desks_of}
-use Rattle.tor_board.proofs.Names.{failures, named, only, times, total, Shape, Tree, View}
+use Rattle.tor_board.proofs.Names.{List, None, Some, [], ap, arith, cond, drop, get_or, inl, inr, le-ltb, length, min}
+use Rattle.tor_board.proofs.Names.{refl, subst, suc, sym, zero, ℕ, ◌*◌, ◌+◌, ◌<◌, ◌^◌, ◌∙◌, ◌∷◌, ◌≡◌, ◌≤◌, dite, Opt}
+use Rattle.tor_board.proofs.Names.{some, some-injective, some-ne-none, dec_le, ℕ_discrete, get_elem?, State, Run, Desk}
+use Rattle.tor_board.proofs.Names.{GivenUnit, names, IsGivenSide, IsLeastFailed, is_given_side, times_failed, top_root}
+use Rattle.tor_board.proofs.Names.{IsSide, Keeps, KeepsClaims, KeepsTree, nobody, least_of, runs_of, IsShape, IsTreeOf}
+use Rattle.tor_board.proofs.Names.{IsRoot, WasGiven, middle, ready, slot_of, word_of, desk_of, desks_of, failures}
+use Rattle.tor_board.proofs.Names.{named, only, times, total, Shape, Tree, View}
+use Rattle.tor_board.proofs.{Moves.few_claims, Finding.at_number, Closing.spot_root, Closing.whole_root, Steps.weight}
+use Rattle.tor_board.proofs.{Steps.gave, Sums.below-only, Sums.total_le, Sums.total-append, Sums.total-map, Sums.mapped}
+use Rattle.tor_board.proofs.{Sums.below-test, Trees.arrived_once, Trees.ready_node, Trees.ready_chain, Trees.ready_once}
+use Rattle.tor_board.proofs.{Trees.node_ready, Trees.node_word, Trees.side_of, Trees.twice, Trees.zero_more}
+use Rattle.tor_board.specs.{Climb.run_of, Machine.all_given}
+use Rattle.tor_board.specs.Running.{IsRunning, IsTreeLawful, arrivals_in, offset_at}
 use Rattle.tor_merkle.specs.Subtree.{height}
-use Rattle.tor_board.specs.Climb.{run_of}
-use Rattle.tor_board.proofs.Claims.{few_claims}
-use Rattle.tor_board.proofs.Finding.{at_number}
-use Rattle.tor_board.proofs.Hashes.{spot_root, whole_root}
-use Rattle.tor_board.proofs.Steps.{weight, gave}
-use Rattle.tor_board.proofs.Sums.{below-only, total_le, total-append, total-map, mapped, below-test}
-use Rattle.tor_board.proofs.Trees.{arrived_once, ready_node, ready_chain, node_word, node_flow, node_once, side_of}
-use Rattle.tor_board.proofs.Trees.{twice, zero_more}
 
 pub some_least : (x : ℕ) → x < nobody → least_of x ≡ Some x
-some_least x h = ap (λ b. cond b (Some x) None) (lt-ltb x nobody h)
+some_least x h = grind arith
 
 pub no_least : (x : ℕ) → nobody ≤ x → least_of x ≡ None
 no_least x h = ap (λ b. cond b (Some x) None) (le-ltb x nobody h)
@@ -26,9 +23,6 @@ no_least x h = ap (λ b. cond b (Some x) None) (le-ltb x nobody h)
 -- the claims and the failures
 module _ {units made least : ℕ} {views : List View} (k : KeepsClaims units made least views) (small : units ≤ 2 ^ 62)
   where
-    named_once : (u : ℕ) → total (names u) (desks_of views) ≡ cond (ltb u (min made units)) 1 0
-    named_once u = total-map (names u) desk_of views ∙ (k.once (only u) ∙ below-test u (min made units))
-
     shown_failed : (u : ℕ) → times_failed u (desks_of views) ≡ total (failures (only u)) views
     shown_failed u = total-map (λ (d : Desk). times u d.failed) desk_of views
 
@@ -39,8 +33,7 @@ module _ {units made least : ℕ} {views : List View} (k : KeepsClaims units mad
     least_is : IsLeastFailed (least_of least) (desks_of views)
     least_is = dite (dec_le nobody least)
         (λ le. let none : (u : ℕ) → times_failed u (desks_of views) ≡ 0 = λ u. shown_failed u ∙ dite (dec_le least u)
-        (λ h. none_past u (omega arith)) (λ h. k.spared u (omega arith)) in
-        inl (no_least least le, none))
+        (λ h. none_past u (omega arith)) (λ h. k.spared u (omega arith)) in inl (no_least least le, none))
         (λ gt. let h : least < nobody = omega arith in
         let spared = λ (x : ℕ) (lt : x < least). shown_failed x ∙ k.spared x lt in
         inr (least, some_least least h, omega (arith, k.attained h, shown_failed least), spared))
@@ -52,23 +45,16 @@ module _ {t : Tree} {words : List ℕ} {homes : List (Opt (List ℕ))} {views : 
   ready_given zero j some_ready i low high inside = let e : i ≡ j = omega arith in
       let shown = total-map (λ (d : Desk). total (λ (g : GivenUnit). only (t.first + j) g.unit) d.given) desk_of views
       in rw e (omega arith)
-  ready_given (suc k) j some_ready i low high inside =
-      let a = twice k j in let b = twice k (j + 1) in
+  ready_given (suc k) j some_ready i low high inside = let a = twice k j in let b = twice k (j + 1) in
       let e : 2 * (j + 1) ≡ 2 * j + 1 + 1 = omega arith in let c = ap (λ (x : ℕ). x * 2 ^ k) e in
       dite (dec_le t.count (middle k j))
       (λ le. ready_given k (2 * j) (omega (arith, ready_chain t words views k j le)) i
-      (omega arith) (omega arith) inside)
-      (λ gt.
-      let near : middle k j < t.count = omega arith in
-      let node = ready_node t words views k j near in let sum = node_word kept k j 0 (omega arith) near in
-      let l = node_flow kept k j 0 (omega arith) near in let r = node_flow kept k j 1 (omega arith) near in
-      let l1 = node_once kept k j 0 (omega arith) near in let r1 = node_once kept k j 1 (omega arith) near in
-      let lr : 0 < ready t words views k (2 * j + 0) = omega arith in
-      let rr : 0 < ready t words views k (2 * j + 1) = omega arith in
+      (omega arith) (omega arith) inside) (λ gt. let near : middle k j < t.count = omega arith in
+      let node = ready_node t words views k j near in let sum = node_ready kept k j near in
+      let l = ready_once kept k (2 * j) (omega arith) in let r = ready_once kept k (2 * j + 1) near in
       dite (dec_le ((2 * j + 1) * 2 ^ k) i)
-      (λ right. ready_given k (2 * j + 1) rr i right (omega arith) inside)
-      (λ left. ready_given k (2 * j) (subst (λ (x : ℕ). 0 < ready t words views k x) (sym (zero_more (2 * j))) lr) i
-      (omega arith) (omega arith) inside))
+      (λ right. ready_given k (2 * j + 1) (omega arith) i right (omega arith) inside)
+      (λ left. ready_given k (2 * j) (omega arith) i (omega arith) (omega arith) inside))
 
   arrived_given : (slot k j : ℕ) → IsSide t slot k j → kept.arrived slot ≡ 1
       → IsGivenSide (desks_of views) (run_of t) k j
@@ -83,8 +69,7 @@ module _ {t : Tree} {words : List ℕ} {homes : List (Opt (List ℕ))} {views : 
       → (left : ℕ) × (right : ℕ) × is_given_side (desks_of views) (run_of t) k (2 * i) left
       × is_given_side (desks_of views) (run_of t) k (2 * i + 1) right
       × (get_or words (word_of t (middle k i)) 0 ≤ left + right)
-  node_given k i near =
-      let l : ℕ = slot_of t (middle k i) 0 in let r : ℕ = slot_of t (middle k i) 1 in
+  node_given k i near = let l : ℕ = slot_of t (middle k i) 0 in let r : ℕ = slot_of t (middle k i) 1 in
       let left = subst (λ (x : ℕ). is_given_side (desks_of views) (run_of t) k x (kept.arrived l))
       (sym (zero_more (2 * i))) (side_given l k (2 * i + 0) (side_of t k i 0 (omega arith) near)) in
       let right = side_given r k (2 * i + 1) (side_of t k i 1 (omega arith) near) in
@@ -115,8 +100,7 @@ module _ {shape : Shape} {s : State (List ℕ) View} (kept : Keeps shape s) wher
     once = arrived_once k;
     given = arrived_given k;
     home = λ slot l j side one none. let h = k.home slot l j side none in
-        let e = spot_root s.views all all_weight given_once t l j h.0 (h.2 one) in
-        h.1 ∙ ap (λ (x : List ℕ). some (some x)) e;
+        grind (arith, spot_root s.views all all_weight given_once t l j h.0 (h.2 one));
     sealed = k.tops;
   }
 
@@ -147,19 +131,12 @@ module _ {shape : Shape} {s : State (List ℕ) View} (kept : Keeps shape s) wher
       → (k i : ℕ) → middle k i < run.count
       → (left : ℕ) × (right : ℕ) × is_given_side (desks_of s.views) run k (2 * i) left
       × is_given_side (desks_of s.views) run k (2 * i + 1) right × (arrivals_in shape s.words n k i ≤ left + right)
-  nodes shaped n run e k i near =
-      let t = tree_at shaped n run e in
-      let g = node_given (kept.trees t.0 t.1) k i (omega (arith, ap (λ (r : Run). r.count) t.3)) in
-      let word : arrivals_in shape s.words n k i ≡ get_or s.words (word_of t.0 (middle k i)) 0
-      = ap (λ (o : ℕ). get_or s.words (2 + o + middle k i) 0) t.4 in
-      let left = subst (λ (r : Run). is_given_side (desks_of s.views) r k (2 * i) g.0) t.3 g.2 in
-      let right = subst (λ (r : Run). is_given_side (desks_of s.views) r k (2 * i + 1) g.1) t.3 g.3 in
-      (g.0, g.1, left, right, omega (arith, g.4))
+  nodes shaped n run e k i near = grind (arith, tree_at shaped n run e, node_given)
 
   pub running : {words slots : ℕ} → IsShape words slots shape → IsRunning shape s
   running shaped = record {
     lawful = record {
-      named = named_once kept.claims kept.small;
+      named = λ u. total-map (names u) desk_of s.views ∙ (kept.claims.once (only u) ∙ below-test u _);
       few = few_claims kept.claims;
       failed = least_is kept.claims kept.small;
       nodes = nodes shaped;

@@ -1,27 +1,17 @@
 -- Splitting and joining seats keeps the rule.
-use Rattle.tor_board.proofs.Names.{Bool, List, None, Option, [], ap, arith, cond, false, inl, inr, refl, set, sym, true}
-use Rattle.tor_board.proofs.Names.{ℕ, ⊎_elim, ◌++◌, ◌+◌, ◌-◌, ◌/◌, ◌<◌, ◌||◌, ◌∙◌, ◌∷◌, ◌≡◌, ◌≢◌, ◌≤◌, ◌⊎◌, some}
-use Rattle.tor_board.proofs.Names.{get_elem?, set_else, State, Climb, GivenUnit, IsKnown, Keeps, KeepsClaims, climbs_to}
-use Rattle.tor_board.proofs.Names.{has_out, nobody, IsRoot, WasGiven, has_unit, joined_in, both, failures, fresh}
-use Rattle.tor_board.proofs.Names.{keeping, named, spent, stopped, only, total, Shape, View}
-use Rattle.tor_board.proofs.Elsewhere.{unmoved}
-use Rattle.tor_board.proofs.Steps.{SeatRooted, seat_more, seat_rooted}
-use Rattle.tor_board.proofs.Sums.{total-set, total-append, set_all, snoc_all}
-use Rattle.tor_board.proofs.Trees.{told_append}
+use Rattle.tor_board.proofs.Names.{Bool, List, None, Option, [], ap, arith, cond, refl, set, sym, true, ℕ, ◌++◌, ◌+◌}
+use Rattle.tor_board.proofs.Names.{◌-◌, ◌/◌, ◌<◌, ◌||◌, ◌∙◌, ◌∷◌, ◌≡◌, ◌≢◌, ◌≤◌, ◌⊎◌, some, get_elem?, set_else, State}
+use Rattle.tor_board.proofs.Names.{Climb, GivenUnit, IsKnown, Keeps, KeepsClaims, climbs_to, has_out, nobody, IsRoot}
+use Rattle.tor_board.proofs.Names.{WasGiven, has_unit, joined_in, both, failures, fresh, keeping, named, spent, stopped}
+use Rattle.tor_board.proofs.Names.{only, total, Shape, View}
+use Rattle.tor_board.proofs.{Sums.total-set, Sums.total-append, Sums.set_all, Sums.snoc_all, Trees.told_append}
+use Rattle.tor_board.proofs.Steps.{unmoved, SeatRooted, seat_more, seat_rooted}
 
 pub stopped_parts : (b : Bool) (a c n : ℕ) → a + c ≡ n → cond b a 0 + cond b c 0 ≡ cond b n 0
-stopped_parts true a c n e = e
-stopped_parts false a c n e = refl
+stopped_parts b a c n e = grind arith
 
 pub stopped_both : (b c : Bool) (n m : ℕ) → cond b n 0 + cond c m 0 ≤ cond (b || c) (n + m) 0
-stopped_both true true n m = omega arith
-stopped_both true false n m = omega arith
-stopped_both false true n m = omega arith
-stopped_both false false n m = omega arith
-
-either_done : (b c : Bool) → (b || c) ≡ true → (b ≡ true) ⊎ (c ≡ true)
-either_done true c e = inl refl
-either_done false c e = inr e
+stopped_both b c n m = grind arith
 
 -- ---- a seat is split
 
@@ -100,46 +90,41 @@ module _ (shape : Shape) {s : State (List ℕ) View} (kept : Keeps shape s) (id 
       → KeepsClaims units claims least join_views
   join_claims {units = units} {claims = claims} {least = least} k =
       let fails : (u : ℕ) → total (failures (only u)) join_views ≡ total (failures (only u)) s.views
-      = λ u. omega (arith, join_sum (failures (only u)), total-append (only u) v.failed w.failed) in
-      record {
+      = λ u. omega (arith, join_sum (failures (only u)), total-append (only u) v.failed w.failed) in record {
         once = λ f. let a = join_sum (named f) in let b = k.once f in let d = total-append f v.held w.held in
             omega (arith, total-append (λ (g : GivenUnit). f g.unit) v.given w.given, total-append f v.failed w.failed);
         rooms = omega (arith, join_sum (λ (u : View). u.room), k.rooms);
-        gone = join_all (λ (u : View). u.room ≡ 0 → u ≡ spent) k.gone (λ none. absurd (omega arith))
-            (λ none. refl);
+        gone = join_all (λ (u : View). u.room ≡ 0 → u ≡ spent) k.gone (λ none. absurd (omega arith)) (λ none. refl);
         bounded = omega (arith, join_sum stopped, k.bounded, stopped_both v.done w.done v.room w.room);
         spared = λ u h. omega (arith, fails u, k.spared u h);
         attained = λ h. omega (arith, fails least, k.attained h);
         most = k.most;
         why = join_all (λ (u : View). u.done ≡ true → (least < nobody) ⊎ (units ≤ claims)) k.why
-            (λ yes. ⊎_elim (k.why id v at) (k.why other w before) (either_done v.done w.done yes))
-            (λ yes. cc);
+            (λ yes. grind (arith, k.why id v at, k.why other w before)) (λ yes. cc);
       }
 
   pub join_keeps : Keeps shape record { words = s.words; homes = s.homes; views = join_views }
-  join_keeps =
-      let no_climb : (f : Option Climb → ℕ) → f None ≡ 0 → f w.climb ≡ 0 = λ f z. ap f idle' ∙ z in
-      record {
-        small = kept.small;
-        long = kept.long;
-        unused = kept.unused;
-        known = join_all (λ (u : View). 0 < u.room → IsKnown shape u) kept.known (λ _. kept.known id v at some_room)
-            (λ y. omega arith);
-        arrivals = omega (arith, kept.arrivals, join_sum (λ (u : View). u.arrivals));
-        joins = λ t is. let a = kept.joins t is in let b = join_sum (λ (u : View). joined_in t u.given) in
-            omega (arith, total-append (λ (g : GivenUnit). cond (has_unit t g.unit) g.joined 0) v.given w.given);
-        claims = join_claims kept.claims;
-        trees = λ t is. let tree = kept.trees t is in
-            unmoved tree s.words s.homes (λ m h. refl) (omega arith) (λ x h. refl) (omega arith) join_views
-            (λ g. g w + g v) (λ g. g (both v w) + g spent) join_sum
-            (λ f. omega (arith, total-append (λ (g : GivenUnit). f g.unit g.hash) v.given w.given))
-            (λ j h. omega (arith, total-append (λ (g : GivenUnit). only (t.first + j) g.unit) v.given w.given))
-            (λ x h. (omega (arith, no_climb (climbs_to x) refl), omega (arith, no_climb (has_out x) refl)))
-            (omega (arith, total-append (λ (p : ℕ × List ℕ). only t.number p.0) v.tops w.tops))
-            (λ stand. let old = λ (u : View) (has : SeatRooted (WasGiven s.views) t u).
-            seat_more t (WasGiven s.views) (WasGiven join_views) stand u has in
-            let mine = old v (seat_rooted tree id v at) in let theirs = old w (seat_rooted tree other w before) in
-            join_all (SeatRooted (WasGiven join_views) t) (λ j u e. old u (seat_rooted tree j u e))
-            (mine.0, told_append t.number (IsRoot (WasGiven join_views) t t.height 0) v.tops w.tops mine.1 theirs.1)
-            (tt, tt));
-      }
+  join_keeps = let no_climb : (f : Option Climb → ℕ) → f None ≡ 0 → f w.climb ≡ 0 = λ f z. ap f idle' ∙ z in record {
+    small = kept.small;
+    long = kept.long;
+    unused = kept.unused;
+    known = join_all (λ (u : View). 0 < u.room → IsKnown shape u) kept.known (λ _. kept.known id v at some_room)
+        (λ y. omega arith);
+    arrivals = omega (arith, kept.arrivals, join_sum (λ (u : View). u.arrivals));
+    joins = λ t is. let a = kept.joins t is in let b = join_sum (λ (u : View). joined_in t u.given) in
+        omega (arith, total-append (λ (g : GivenUnit). cond (has_unit t g.unit) g.joined 0) v.given w.given);
+    claims = join_claims kept.claims;
+    trees = λ t is. let tree = kept.trees t is in
+        unmoved tree s.words s.homes (λ m h. refl) (omega arith) (λ x h. refl) (omega arith) join_views
+        (λ g. g w + g v) (λ g. g (both v w) + g spent) join_sum
+        (λ f. omega (arith, total-append (λ (g : GivenUnit). f g.unit g.hash) v.given w.given))
+        (λ j h. omega (arith, total-append (λ (g : GivenUnit). only (t.first + j) g.unit) v.given w.given))
+        (λ x h. (omega (arith, no_climb (climbs_to x) refl), omega (arith, no_climb (has_out x) refl)))
+        (omega (arith, total-append (λ (p : ℕ × List ℕ). only t.number p.0) v.tops w.tops))
+        (λ stand. let old = λ (u : View) (has : SeatRooted (WasGiven s.views) t u).
+        seat_more t (WasGiven s.views) (WasGiven join_views) stand u has in
+        let mine = old v (seat_rooted tree id v at) in let theirs = old w (seat_rooted tree other w before) in
+        join_all (SeatRooted (WasGiven join_views) t) (λ j u e. old u (seat_rooted tree j u e))
+        (mine.0, told_append t.number (IsRoot (WasGiven join_views) t t.height 0) v.tops w.tops mine.1 theirs.1)
+        (tt, tt));
+  }

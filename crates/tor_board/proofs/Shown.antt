@@ -1,20 +1,16 @@
 -- What the machine shows of a step of one seat.
-use Rattle.tor_board.proofs.Names.{List, None, Option, Some, ap, arith, get_or, get_or-set_other, get_or-set_same}
-use Rattle.tor_board.proofs.Names.{length, refl, set, subst, sym, ℕ, ◌*◌, ◌+◌, ◌<◌, ◌∙◌, ◌≡◌, ◌≢◌, ◌≤◌, map-set, dite}
-use Rattle.tor_board.proofs.Names.{some, ℕ_discrete, get_elem?, at_map, State, Climb, Desk, spent_desk, Event, IsStep}
-use Rattle.tor_board.proofs.Names.{Machine, Side, desk_at, times_arrived, Keeps, climbing, climbs_to, least_of, runs_of}
-use Rattle.tor_board.proofs.Names.{IsTreeOf, IsChange, IsEvent, Shows, middle, ready, slot_of, word_of, desk_of}
-use Rattle.tor_board.proofs.Names.{desks_of, total, Shape, Tree, View}
-use Rattle.tor_board.proofs.Steps.{climbs, gave}
-use Rattle.tor_board.proofs.Sums.{total-set, term_le, only_le, within, read}
-use Rattle.tor_board.proofs.Trees.{by_sides, node_flow, node_word, split_positive, ready_more, side_of, side_covers}
+use Rattle.tor_board.proofs.Names.{List, None, Option, ap, arith, get_or, get_or-set_other, get_or-set_same, refl, set}
+use Rattle.tor_board.proofs.Names.{subst, sym, ℕ, ◌*◌, ◌+◌, ◌<◌, ◌∙◌, ◌≡◌, ◌≢◌, ◌≤◌, map-set, some, get_elem?, at_map}
+use Rattle.tor_board.proofs.Names.{State, Climb, Desk, spent_desk, Event, IsStep, Machine, Side, times_arrived, Keeps}
+use Rattle.tor_board.proofs.Names.{climbing, climbs_to, least_of, runs_of, IsTreeOf, IsChange, IsEvent, Shows, middle}
+use Rattle.tor_board.proofs.Names.{ready, slot_of, word_of, desk_of, desks_of, total, Shape, Tree, View, Seated}
+use Rattle.tor_board.proofs.{Steps.climbs, Steps.gave, Sums.total-set, Sums.term_le, Sums.read}
+use Rattle.tor_board.proofs.Trees.{node_flow, node_word, split_positive, ready_more}
+use Rattle.tor_board.specs.Machine.{desk_at}
+use Rattle.std.proofs.Common.{subst₂}
 
 abbrev pub place_of : Tree → ℕ → ℕ → Side
 place_of t k j = record { tree = t.number; level = k; index = j }
-
-climbs_once : (slot : ℕ) (c : Option Climb) → climbs_to slot c ≤ 1
-climbs_once slot None = omega arith
-climbs_once slot (Some c) = only_le slot c.slot
 
 -- a seat that knows v takes a step, between two states that keep the rule, from where the machine stands
 pub record Moment (shape : Shape) (m : Machine) (s s' : State (List ℕ) View) (id : ℕ) (v : View) : Type 0 where
@@ -25,11 +21,8 @@ pub record Moment (shape : Shape) (m : Machine) (s s' : State (List ℕ) View) (
 
 module _ {shape : Shape} {m : Machine} {s s' : State (List ℕ) View} {id : ℕ} {v : View}
     (now : Moment shape m s s' id v) where
-  shown : get_elem? m.desks id ≡ some (desk_of v)
+  pub shown : get_elem? m.desks id ≡ some (desk_of v)
   shown = rw now.shows.desks (at_map desk_of s.views id v now.at)
-
-  pub inside_desks : id < length m.desks
-  inside_desks = within m.desks id (desk_of v) shown
 
   abbrev pub Sides : List Side → Type 0
   Sides arrived = (t : Tree) → IsTreeOf shape t → (k i side : ℕ) → side < 2 → middle k i < t.count
@@ -40,6 +33,11 @@ module _ {shape : Shape} {m : Machine} {s s' : State (List ℕ) View} {id : ℕ}
   abbrev pub New : Option Climb → Type 0
   New c = (t : Tree) → IsTreeOf shape t → (k i side : ℕ) → side < 2 → middle k i < t.count
       → climbs_to (slot_of t (middle k i) side) c ≡ 1 → ready t s.words s.views k (2 * i + side) ≡ 0
+
+  -- what a step told of the seat is what it knows
+  pub as_told : (i : ℕ) {n n' : ℕ} {after : Seated} {w : View} {slots : List (ℕ × List ℕ)} → after ≡ (w, slots)
+      → n ≡ n' → IsChange s i n id after.0 s' → IsChange s i n' id w s'
+  as_told i e same change = subst₂ (λ (x : ℕ) (a : Seated). IsChange s i x id a.0 s') same e change
 
   pub as_seat : {e : Event} {n : Machine} → IsStep shape.units (runs_of shape) m id (desk_of v) e n
       → IsStep shape.units (runs_of shape) m id (desk_at m id) e n
@@ -52,14 +50,12 @@ module _ {shape : Shape} {m : Machine} {s s' : State (List ℕ) View} {id : ℕ}
       (record { claims = made; least = least; arrived = arrived; desks = set m.desks id d })
       → d ≡ desk_of w → made ≡ get_or s'.words 0 0 → least ≡ least_of (get_or s'.words 1 0)
       → s'.views ≡ set s.views id w → Sides arrived → IsEvent shape m id e s'
-  event e made least arrived w d step is c l views sides =
-      let desks = (λ i. set (now.shows.desks i) id (is i))
+  event e made least arrived w d step is c l views sides = let desks = (λ i. set (now.shows.desks i) id (is i))
       ∙ (sym (map-set desk_of s.views id w) ∙ ap desks_of (sym views)) in
       (_, as_seat step, record { claims = c; least = l; desks = desks; sides = sides })
 
   -- one seat's climb may end and another begin
-  module _ (w : View) (views : s'.views ≡ set s.views id w) (gives : (u : ℕ) → gave u v ≤ gave u w)
-      (new : New w.climb)
+  module _ (w : View) (views : s'.views ≡ set s.views id w) (gives : (u : ℕ) → gave u v ≤ gave u w) (new : New w.climb)
       (sum : (t : Tree) → IsTreeOf shape t → (n : ℕ) → 0 < n → n < t.count → get_or s'.words (word_of t n) 0
       ≡ get_or s.words (word_of t n) 0 + (climbs (slot_of t n 0) v + climbs (slot_of t n 1) v)) where
     part : (g : View → ℕ) → total g s'.views + g v ≡ total g s.views + g w
@@ -68,40 +64,23 @@ module _ {shape : Shape} {m : Machine} {s s' : State (List ℕ) View} {id : ℕ}
     no_less : (t : Tree) (is : IsTreeOf shape t) (k i side : ℕ) → side < 2 → middle k i < t.count
         → (now.kept.trees t is).arrived (slot_of t (middle k i) side) + climbs (slot_of t (middle k i) side) v
         ≤ (now.kept'.trees t is).arrived (slot_of t (middle k i) side)
-    no_less t is k i side two near =
-        let slot : ℕ = slot_of t (middle k i) side in let tree = now.kept.trees t is in
-        let a = node_flow tree k i side two near in let b = node_flow (now.kept'.trees t is) k i side two near in
-        let more = ready_more t s.words s'.words s.views s'.views (λ n pos h. omega (arith, sum t is n pos h))
-        (λ j h. omega (arith, part (gave (t.first + j)), gives (t.first + j))) k (2 * i + side)
-        (side_covers t tree.some_unit slot k (2 * i + side) (side_of t k i side two near)) in
-        let c = part (climbs slot) in
-        dite (ℕ_discrete (climbs slot w) 0)
-        (λ none. omega arith)
-        (λ some_. let one : climbs slot w ≡ 1 = omega (arith, climbs_once slot w.climb) in
-        omega (arith, new t is k i side two near one, term_le (climbs slot) s.views id v now.at))
+    no_less t is k i side two near = let a = node_flow (now.kept.trees t is) k i side two near in
+        let b = node_flow (now.kept'.trees t is) k i side two near in
+        grind (arith, term_le (climbs (slot_of t (middle k i) side)) s.views id v now.at, ready_more, part)
 
     arrived_now : (t : Tree) (is : IsTreeOf shape t) (k i side : ℕ) → side < 2 → middle k i < t.count
         → (now.kept'.trees t is).arrived (slot_of t (middle k i) side)
         ≡ (now.kept.trees t is).arrived (slot_of t (middle k i) side) + climbs (slot_of t (middle k i) side) v
-    arrived_now t is k i side two near =
-        let l = no_less t is k i 0 (omega arith) near in let r = no_less t is k i 1 (omega arith) near in
-        let before = node_word (now.kept.trees t is) k i 0 (omega arith) near in
-        let after = node_word (now.kept'.trees t is) k i 0 (omega arith) near in
-        let grown = sum t is (middle k i) (split_positive k i) near in
-        by_sides (λ (b : ℕ). (now.kept'.trees t is).arrived (slot_of t (middle k i) b)
-        ≡ (now.kept.trees t is).arrived (slot_of t (middle k i) b) + climbs (slot_of t (middle k i) b) v)
-        (omega arith) (omega arith) side two
+    arrived_now t is k i side two near = let a = no_less t is k i 0 in let b = no_less t is k i 1 in
+        let d = node_word (now.kept.trees t is) k i 0 in
+        grind (arith, node_word (now.kept'.trees t is) k i 0, sum t is (middle k i) (split_positive k i) near)
 
     pub moved : (arrived : List Side)
         → ((t : Tree) → IsTreeOf shape t → (k i side : ℕ) → side < 2 → middle k i < t.count
         → times_arrived (place_of t k (2 * i + side)) arrived
         ≡ times_arrived (place_of t k (2 * i + side)) m.arrived + climbs (slot_of t (middle k i) side) v)
         → Sides arrived
-    moved arrived times t is k i side two near =
-        let a = node_flow (now.kept.trees t is) k i side two near in
-        let b = node_flow (now.kept'.trees t is) k i side two near in
-        let shown = now.shows.sides t is k i side two near in
-        omega (arith, shown, times t is k i side two near, arrived_now t is k i side two near)
+    moved arrived times t is k i side two near = grind (arith, arrived_now t is k i side two near)
 
   -- of a step on the first word, or the second: no word but that one changes
   module _ (i n : ℕ) (low : i < 2) (w : View) (change : IsChange s i n id w s') where
@@ -114,8 +93,7 @@ module _ {shape : Shape} {m : Machine} {s s' : State (List ℕ) View} {id : ℕ}
     -- where no side arrives
     pub unarrived : ((u : ℕ) → gave u v ≤ gave u w) → New w.climb
         → ((t : Tree) → IsTreeOf shape t → (n side : ℕ) → side < 2 → 0 < n → n < t.count
-        → climbs (slot_of t n side) v ≡ 0)
-        → Sides m.arrived
+        → climbs (slot_of t n side) v ≡ 0) → Sides m.arrived
     unarrived gives new none = moved w change.1 gives new
         (λ t is x pos h. let a = other_word (word_of t x) (λ e. omega arith) in
         let b = none t is x 0 (omega arith) pos h in let d = none t is x 1 (omega arith) pos h in omega arith)
@@ -133,14 +111,12 @@ module _ {shape : Shape} {m : Machine} {s s' : State (List ℕ) View} {id : ℕ}
       → IsEvent shape m id e s'
   on_first e n made w d change sides is d_is step = event e made m.least m.arrived w d step d_is
       (is ∙ sym (this_word 0 n (omega arith) w change))
-      (now.shows.least ∙ ap least_of (sym (other_word 0 n (omega arith) w change 1 (λ e. omega arith))))
-      change.1 sides
+      (now.shows.least ∙ ap least_of (sym (other_word 0 n (omega arith) w change 1 (λ e. omega arith)))) change.1 sides
 
   pub on_second : (e : Event) (n : ℕ) (least : Option ℕ) (w : View) → IsChange s 1 n id w s' → v.climb ≡ None
       → w.climb ≡ None → ((u : ℕ) → gave u v ≤ gave u w) → least ≡ least_of n
       → IsStep shape.units (runs_of shape) m id (desk_of v) e
-      (record m { least = least; desks = set m.desks id (desk_of w) })
-      → IsEvent shape m id e s'
+      (record m { least = least; desks = set m.desks id (desk_of w) }) → IsEvent shape m id e s'
   on_second e n least w change idle idle' gives is step = event e m.claims least m.arrived w (desk_of w) step refl
       (now.shows.claims ∙ sym (other_word 1 n (omega arith) w change 0 (λ e. omega arith)))
       (is ∙ ap least_of (sym (this_word 1 n (omega arith) w change))) change.1

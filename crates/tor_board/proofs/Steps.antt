@@ -1,11 +1,13 @@
--- A step keeps the rule of a tree where it shows what it changes of it.
+-- A step keeps the rule of a tree where it shows what it changes of it; a tree of which it touches nothing keeps it.
 use Rattle.tor_board.proofs.Names.{List, None, Option, Some, [], arith, get_or, length, refl, set, subst, sym, ℕ, ◌+◌}
-use Rattle.tor_board.proofs.Names.{◌/◌, ◌<◌, ◌∙◌, ◌∷◌, ◌≡◌, ◌≢◌, ◌≤◌, dite, Opt, some, ℕ_discrete, get_elem?, Act}
-use Rattle.tor_board.proofs.Names.{State, Valid, carried_after, homes_after, Climb, GivenUnit, Seated, IsHome, IsSide}
-use Rattle.tor_board.proofs.Names.{Keeps, KeepsTree, TopsAre, climbs_to, has_out, out, tops_of, IsRoot, WasGiven, ready}
-use Rattle.tor_board.proofs.Names.{slot_of, times_given, word_of, only, total, Shape, Tree, View}
-use Rattle.tor_board.proofs.Sums.{set_all}
-use Rattle.tor_board.proofs.Trees.{told_more, root_more}
+use Rattle.tor_board.proofs.Names.{◌/◌, ◌<◌, ◌∷◌, ◌≡◌, ◌≢◌, ◌≤◌, dite, Opt, some, ℕ_discrete, get_elem?, Act, State}
+use Rattle.tor_board.proofs.Names.{carried_after, Climb, GivenUnit, Seated, IsSide, Keeps, KeepsTree, TopsAre}
+use Rattle.tor_board.proofs.Names.{climbs_to, has_out, out, tops_of, IsRoot, WasGiven, ready, slot_of, times_given}
+use Rattle.tor_board.proofs.Names.{word_of, only, total, Shape, Tree, View, IsIn}
+use Rattle.tor_board.proofs.Sums.{set_all, total-set, only-same}
+use Rattle.tor_board.proofs.Trees.{told_more, root_more, ready_same, side_in, side_covers}
+use Rattle.tor_board.specs.Rule.{IsHome}
+use Rattle.atomic_table.specs.Table.{Valid, homes_after}
 
 -- what a seat adds to the sums of the rule
 abbrev pub climbs : ℕ → View → ℕ
@@ -96,8 +98,7 @@ pub keeps_step : {t : Tree} {words words' : List ℕ} {homes homes' : List (Opt 
     → TreeStep t words words' homes homes' views views' kept.arrived less more grow → KeepsTree t words' homes' views'
 keeps_step {t = t} {views = views} {views' = views'} {less = less} {more = more} {grow = grow} kept step =
     let stand : (u : ℕ) (x : List ℕ) → WasGiven views u x → WasGiven views' u x
-    = λ u x s f. omega (arith, step.sum (weight f), step.given f, s f) in
-    record {
+    = λ u x s f. omega (arith, step.sum (weight f), step.given f, s f) in record {
       arrived = λ s. kept.arrived s + grow s;
       some_unit = kept.some_unit;
       tall = kept.tall;
@@ -106,16 +107,12 @@ keeps_step {t = t} {views = views} {views' = views'} {less = less} {more = more}
       once = step.once;
       word = λ m pos h. omega (arith, kept.word m pos h, step.word m pos h);
       flow = λ s k j is. omega (arith, kept.flow s k j is, step.flow s k j is, step.sum (climbs s));
-      outs = λ m side two pos h. let s : ℕ = slot_of t m side in
-          let a = kept.outs m side two pos h in let b = step.sides_out m side two pos h in
-          omega (arith, step.sum (climbs s), step.sum (outs s));
-      out_top = let s : ℕ = slot_of t 0 0 in
-          omega (arith, kept.out_top, step.out_top, step.sum (climbs s), step.sum (outs s));
+      outs = λ m side two pos h. grind (arith, step.sides_out m side two pos h);
+      out_top = grind arith;
       home = λ s k j is none. let h = step.home s k j is none in
           (h.0, h.1, λ yes. root_more t (WasGiven views) (WasGiven views') stand k j h.0 (h.2 yes));
       climb = λ id v c k j e is to. (subst (ClimbRooted (WasGiven views') t) is (step.seats stand id v e).0).0 k j to;
-      left = λ id v c o x k j e is one to. subst (SpareRooted (WasGiven views') t) one
-          (subst (ClimbRooted (WasGiven views') t) is (step.seats stand id v e).0).1 k j to;
+      left = λ id v c o x k j e is one to. grind arith;
       tops = omega (arith, kept.tops, step.tops, step.sum (tops_at t));
       told = λ id v e. (step.seats stand id v e).1;
     }
@@ -146,8 +143,7 @@ module _ {t : Tree} {words : List ℕ} {homes : List (Opt (List ℕ))} {views : 
   pub old_home : (homes' : List (Opt (List ℕ))) (grow : ℕ → ℕ) (s k j : ℕ) → IsSide t s k j → out s views ≡ 0
       → get_elem? homes' s ≡ get_elem? homes s → grow s ≡ 0
       → IsHome homes' s (λ hash. kept.arrived s + grow s ≡ 1 → IsRoot (WasGiven views) t k j hash)
-  old_home homes' grow s k j is none same still = let h = kept.home s k j is none in
-      (h.0, same ∙ h.1, λ yes. h.2 (omega arith))
+  old_home homes' grow s k j is none same still = grind (arith, kept.home s k j is none)
 
   -- or to which it brings a hash
   pub put_home : (homes' : List (Opt (List ℕ))) (grow : ℕ → ℕ) (put : ℕ) (hash : List ℕ)
@@ -164,7 +160,76 @@ module _ {t : Tree} {words : List ℕ} {homes : List (Opt (List ℕ))} {views : 
 -- a view and an act of the seat, where those are at home and it has these slots, by which the rule stays and P is told
 abbrev pub Does : Shape → State (List ℕ) View → List (Opt (List ℕ)) → ℕ → ℕ → ℕ → List (ℕ × List ℕ)
     → (Seated → Type 0) → Type 0
-Does shape s homes id i f slots P =
-    (w : View) × (a : Act (List ℕ)) × Valid homes slots a
+Does shape s homes id i f slots P = (w : View) × (a : Act (List ℕ)) × Valid homes slots a
     × Keeps shape record { words = set s.words i f; homes = homes_after homes slots a; views = set s.views id w }
     × P (w, carried_after slots a)
+
+-- ---- a tree of which a step touches nothing
+
+-- no slot of the tree is out with that climb
+abbrev pub IsAway : Tree → Option Climb → Type 0
+IsAway t c = (s : ℕ) → IsIn t s → has_out s c ≡ 0
+
+pub away_climbs : (t : Tree) (c : Option Climb) → IsAway t c → (s : ℕ) → IsIn t s → climbs_to s c ≡ 0
+away_climbs t c away s is = grind (arith, away s is)
+
+pub away_rooted : (G : ℕ → List ℕ → Type 0) (t : Tree) → 0 < t.count → (c : Option Climb) → IsAway t c
+    → ClimbRooted G t c
+away_rooted G t some_unit None away = tt
+away_rooted G t some_unit (Some c) away = (
+  (λ k j to. absurd (omega (arith, away c.slot (side_in t some_unit c.slot k j to), only-same c.slot))),
+  spare c.spare (λ s is. omega (arith, away s is)),
+) where
+  spare : (l : List (ℕ × List ℕ)) → ((s : ℕ) → IsIn t s → total (λ (p : ℕ × List ℕ). only s p.0) l ≡ 0)
+      → SpareRooted G t l
+  spare [] none = tt
+  spare (x ∷ []) none = λ k j to. absurd (omega (arith, none x.0 (side_in t some_unit x.0 k j to), only-same x.0))
+  spare (x ∷ (y ∷ l)) none = tt
+
+module _ {t : Tree} {words : List ℕ} {homes : List (Opt (List ℕ))} {views : List View}
+    (kept : KeepsTree t words homes views) (words' : List ℕ) (homes' : List (Opt (List ℕ)))
+    (same_words : (m : ℕ) → m < t.count → get_or words' (word_of t m) 0 ≡ get_or words (word_of t m) 0)
+    (longer : length words ≤ length words')
+    (same_homes : (s : ℕ) → IsIn t s → get_elem? homes' s ≡ get_elem? homes s)
+    (wider : length homes ≤ length homes') where
+  pub unmoved : (views' : List View) (less more : (View → ℕ) → ℕ)
+      → ((g : View → ℕ) → total g views' + less g ≡ total g views + more g)
+      → ((f : ℕ → List ℕ → ℕ) → less (weight f) ≤ more (weight f))
+      → ((j : ℕ) → j < t.count → more (gave (t.first + j)) ≡ less (gave (t.first + j)))
+      → ((s : ℕ) → IsIn t s → (more (climbs s) ≡ less (climbs s)) × (more (outs s) ≡ less (outs s)))
+      → more (tops_at t) ≡ less (tops_at t) → (((u : ℕ) (x : List ℕ) → WasGiven views u x → WasGiven views' u x)
+      → (j : ℕ) (u : View) → get_elem? views' j ≡ some u → SeatRooted (WasGiven views') t u)
+      → KeepsTree t words' homes' views'
+  unmoved views' less more sum given gives still tops seats =
+      let slot_in : (m side : ℕ) → side < 2 → m < t.count → IsIn t (slot_of t m side)
+      = λ m side two h. (omega arith, omega arith) in keeps_step kept record {
+        sum = sum;
+        long = longer;
+        wide = wider;
+        given = given;
+        once = λ j h. omega (arith, sum (gave (t.first + j)), gives j h, kept.once j h);
+        word = λ m pos h. omega (arith, same_words m h);
+        flow = λ s k j is. let e = still s (side_in t kept.some_unit s k j is) in
+            let same = ready_same t words words' views views' (λ m pos h. omega (arith, same_words m h))
+            (λ i h. omega (arith, sum (gave (t.first + i)), gives i h)) k j (side_covers t kept.some_unit s k j is) in
+            omega (arith, e.0);
+        sides_out = λ m side two pos h. let e = still (slot_of t m side) (slot_in m side two h) in
+            omega (arith, e.0, e.1, same_words m h);
+        out_top = let e = still (slot_of t 0 0) (slot_in 0 0 (omega arith) kept.some_unit) in omega (arith, e.0, e.1);
+        home = λ s k j is none. let in_ = side_in t kept.some_unit s k j is in
+            old_home kept homes' (λ x. 0) s k j is (omega (arith, (still s in_).1, sum (outs s)))
+            (same_homes s in_) refl;
+        seats = seats;
+        tops = omega arith;
+      }
+
+  -- one seat changes, of which the tree knows nothing
+  pub unmoved_seat : (id : ℕ) (v w : View) → get_elem? views id ≡ some v → tops_at t w ≡ tops_at t v
+      → SeatRooted (WasGiven views) t w → IsAway t v.climb → IsAway t w.climb
+      → ((f : ℕ → List ℕ → ℕ) → weight f v ≤ weight f w)
+      → ((j : ℕ) → j < t.count → gave (t.first + j) w ≡ gave (t.first + j) v)
+      → KeepsTree t words' homes' (set views id w)
+  unmoved_seat id v w at tops has v_away w_away more same =
+      unmoved (set views id w) (λ g. g v) (λ g. g w) (λ g. total-set g views id v w at) more same
+      (λ s is. let a = away_climbs t v.climb v_away s is in let b = away_climbs t w.climb w_away s is in
+      (omega arith, omega (arith, v_away s is, w_away s is))) tops (old_seat kept id w has)

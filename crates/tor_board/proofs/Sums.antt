@@ -1,8 +1,9 @@
 -- Sums over lists of which one item changes, and what holds of each item.
-use Rattle.tor_board.proofs.Names.{Bool, List, [], ap, arith, cond, eq-eqb, false, get_or, le-ltb, length, lt-ltb, ltb}
-use Rattle.tor_board.proofs.Names.{map, ne_eqb, refl, set, subst, suc, sym, true, zero, ℕ, ⊎_elim, ◌++◌, ◌+◌, ◌<◌, ◌==◌}
-use Rattle.tor_board.proofs.Names.{◌∙◌, ◌∷◌, ◌≡◌, ◌≢◌, ◌≤◌, dite, some, some-injective, some-ne-none, dec_le}
-use Rattle.tor_board.proofs.Names.{ℕ_discrete, get_elem?, at_set, at_snoc, below, only, times, total, without}
+use Rattle.tor_board.proofs.Names.{Bool, List, [], ap, arith, cond, get_or, length, ltb, map, refl, set, subst, suc}
+use Rattle.tor_board.proofs.Names.{sym, zero, ℕ, ◌++◌, ◌+◌, ◌<◌, ◌∷◌, ◌≡◌, ◌≢◌, ◌≤◌, dite, some, some-injective}
+use Rattle.tor_board.proofs.Names.{some-ne-none, ℕ_discrete, get_elem?, below, only, times, total, inl, inr}
+use Rattle.tor_board.specs.Weights.{without}
+use Rattle.atomic_table.proofs.Lists.{at_set, at_snoc}
 
 module _ {A : Type 0} (g : A → ℕ) where
   pub total-append : (l m : List A) → total g (l ++ m) ≡ total g l + total g m
@@ -43,16 +44,13 @@ total-map f h (x ∷ xs) = omega (arith, total-map f h xs)
 
 -- what holds of each item, once one is another, or there is one more
 pub set_all : {A : Type 0} (P : A → Type 0) (l : List A) (id : ℕ) (w : A)
-    → ((j : ℕ) (u : A) → get_elem? l j ≡ some u → P u) → P w
-    → (j : ℕ) (u : A) → get_elem? (set l id w) j ≡ some u → P u
-set_all P l id w all now j u e = ⊎_elim (λ (r : (j ≡ id) × (w ≡ u)). subst P r.1 now)
-    (λ (r : (j ≢ id) × (get_elem? l j ≡ some u)). all j u r.1) (at_set l id j w u e)
+    → ((j : ℕ) (u : A) → get_elem? l j ≡ some u → P u) → P w → (j : ℕ) (u : A) → get_elem? (set l id w) j ≡ some u → P u
+set_all P l id w all now j u e = elim (at_set l id j w u e) [ inl r ↦ subst P r.1 now | inr r ↦ all j u r.1 ]
 
 pub snoc_all : {A : Type 0} (P : A → Type 0) (l : List A) (w : A)
     → ((j : ℕ) (u : A) → get_elem? l j ≡ some u → P u) → P w
     → (j : ℕ) (u : A) → get_elem? (l ++ w ∷ []) j ≡ some u → P u
-snoc_all P l w all now j u e = ⊎_elim (λ (r : get_elem? l j ≡ some u). all j u r) (λ (r : w ≡ u). subst P r now)
-    (at_snoc l w u j e)
+snoc_all P l w all now j u e = elim (at_snoc l w u j e) [ inl r ↦ all j u r | inr r ↦ subst P r now ]
 
 pub within : {X : Type 0} (l : List X) (j : ℕ) (x : X) → get_elem? l j ≡ some x → j < length l
 within [] j x e = absurd (some-ne-none x (sym e))
@@ -76,39 +74,22 @@ pub below_more : (f : ℕ → ℕ) (n : ℕ) → below f (n + 1) ≡ below f n +
 below_more f n = let e : n + 1 ≡ suc n = omega arith in ap (below f) e
 
 pub only-same : (u : ℕ) → only u u ≡ 1
-only-same u = ap (λ b. cond b 1 0) (eq-eqb u u refl)
+only-same u = grind arith
 
 pub only-other : (u x : ℕ) → x ≢ u → only u x ≡ 0
-only-other u x n = ap (λ b. cond b 1 0) (ne_eqb x u n)
+only-other u x n = grind arith
 
 pub below-only : (u n : ℕ) → (below (only u) n ≤ 1) × (n ≤ u → below (only u) n ≡ 0) × (u < n → below (only u) n ≡ 1)
 below-only u zero = (omega arith, (λ _. refl), λ h. omega arith)
-below-only u (suc n) =
-    let before = below-only u n in
-    dite (ℕ_discrete n u)
-    (λ e. let here : only u n ≡ 1 = ap (λ b. cond b 1 0) (eq-eqb n u e) in let none-yet = before.1 (omega arith) in
-    (omega arith, (λ h. omega arith), λ h. omega arith))
-    (λ ne. let here : only u n ≡ 0 = only-other u n ne in let none = before.1 in let one = before.2 in
-    (omega (arith, before.0), (λ h. omega (arith, none (omega arith))), λ h. omega (arith, one (omega arith))))
+below-only u (suc n) = grind (arith, below-only u n, (below-only u n))
 
 -- of the numbers below n there is that one where it is less
 pub below-test : (u n : ℕ) → below (only u) n ≡ cond (ltb u n) 1 0
-below-test u n = dite (dec_le n u)
-    (λ le. (below-only u n).1 le ∙ ap (λ b. cond {A = ℕ} b 1 0) (sym (le-ltb u n le)))
-    (λ gt. let h : u < n = omega arith in
-    (below-only u n).2 h ∙ ap (λ b. cond {A = ℕ} b 1 0) (sym (lt-ltb u n h)))
+below-test u n = grind (arith, below-only u n)
 
 pub total-without : (f : ℕ → ℕ) (u : ℕ) (xs : List ℕ) → 0 < times u xs → total f (without u xs) + f u ≡ total f xs
 total-without f u [] has = omega arith
-total-without f u (x ∷ xs) has = dite (ℕ_discrete x u)
-    (λ e. let first : without u (x ∷ xs) ≡ xs = ap (λ b. cond b xs (x ∷ without u xs)) (eq-eqb x u e) in
-    omega (arith, ap (total f) first, ap f e))
-    (λ ne. let later : without u (x ∷ xs) ≡ x ∷ without u xs = ap (λ b. cond b xs (x ∷ without u xs)) (ne_eqb x u ne) in
-    omega (arith, ap (total f) later, total-without f u xs (omega (arith, only-other u x ne))))
+total-without f u (x ∷ xs) has = dite (ℕ_discrete x u) (λ e. grind arith) (λ ne. grind (arith, total-without f u xs))
 
 pub cond_le : (b : Bool) (n : ℕ) → cond b n 0 ≤ n
-cond_le true n = omega arith
-cond_le false n = omega arith
-
-pub only_le : (u x : ℕ) → only u x ≤ 1
-only_le u x = cond_le (x == u) 1
+cond_le b n = grind arith

@@ -1,23 +1,15 @@
-use Rattle.tor_board.proofs.Names.{[], ap, arith, sym, ℕ, ◌%◌, ◌-◌, ◌∙◌, ◌∷◌, ◌≡◌, turned, Seated, climbed, met}
-use Rattle.tor_board.proofs.Names.{other_slot, slot_of, joining, climb_at}
-use Rattle.tor_board.proofs.Arriving.{met_left, met_right}
+use Rattle.tor_board.proofs.Names.{[], ap, arith, sym, ℕ, ◌%◌, ◌∙◌, ◌∷◌, ◌≡◌, turned, Seated, climbed, met, joining}
+use Rattle.tor_board.proofs.Names.{climb_at, rules, ◌++◌, Some, inr, suc, climb_from, other_slot, ◌+◌, ◌/◌, List, refl}
+use Rattle.tor_board.proofs.{Arrivals.arrives, Arrivals.other_in, Finding.head_more}
+use Rattle.tor_board.proofs.Meets.{below_of, node_place, next_of, climbs_on, turned_seat, stored_seat, at_slot}
 use Rattle.tor_board.proofs.climb.arrive.Goals.{then-index-eq0, else-index-eq0}
-use Rattle.tor_board.proofs.Arrivals.{arrives}
-use Rattle.tor_board.proofs.Risen.{split_fits, split_small}
-use Rattle.tor_board.proofs.Meets.{tree_facts, below_of, covers_of, node_place, next_of, walked, turned_seat}
-use Rattle.tor_board.proofs.Meets.{stored_seat, above_at, at_slot}
 use Rattle.tor_board.proofs.climb.arrive.Goals as goal
 
 pub middle-node-requires : goal.middle-node-requires
-middle-node-requires c =
-    let t = c.requires.tree in let covers = covers_of (c.requires.shape.fits c.args.tree.now t) c.requires.climbs in
-    split_fits c.args.tree.now (tree_facts c.requires.shape c.args.tree.now t).0 _ _ covers.0 covers.1
+middle-node-requires c = grind arith
 
 pub word-requires : goal.word-requires
-word-requires c =
-    let t = c.requires.tree in let covers = covers_of (c.requires.shape.fits c.args.tree.now t) c.requires.climbs in
-    let f = tree_facts c.requires.shape c.args.tree.now t in
-    (f.1, omega (arith, c.middle-node.ensures, split_small c.args.tree.now f.0 _ _ covers.0 covers.1))
+word-requires c = grind arith
 
 pub fetch_add-found-requires : goal.fetch_add-found-requires
 fetch_add-found-requires c =
@@ -25,8 +17,7 @@ fetch_add-found-requires c =
     let below = below_of fits cl c.requires.below in (
       c.requires.table,
       omega (arith, c.word.ensures, c.middle-node.ensures, below.inside, fits.long),
-      rw (c.word.ensures, c.middle-node.ensures)
-          (arrives c.requires.shape _ _ _
+      rw (c.word.ensures, c.middle-node.ensures) (arrives c.requires.shape _ _ _
           (climb_at c.args.tree.now c.args.spot.level c.args.spot.index c.args.spot.hash cl.spare) cl.is cl.carried
           c.requires.tree below cl.left c.requires.room cl.giving),
     )
@@ -35,12 +26,8 @@ pub returns-then-found-eq0-clause-first : goal.returns-then-found-eq0-clause-fir
 returns-then-found-eq0-clause-first c = (c.fetch_add-found.ensures.2.0 _ c.requires.climbs.is).0.1 c.if-found-eq0.true
 
 pub slot_mut-requires : goal.slot_mut-requires
-slot_mut-requires c =
-    let one = (c.fetch_add-found.ensures.2.0 _ c.requires.climbs.is).0 in
-    let r = one.2 (omega (arith, one.0, c.if-found-eq0.false)) in
-    let other = c.side_slot.ensures
-    ∙ ap (λ (k : ℕ). slot_of c.args.tree.now k (1 - c.args.spot.index % 2)) c.middle-node.ensures in
-    (c.fetch_add-found.ensures.0 ∙ c.requires.table, (r.0, at_slot r.2 (sym other)))
+slot_mut-requires c = let a = ((c.fetch_add-found.ensures.2.0 _ c.requires.climbs.is).0).2 in
+    grind (arith, ((c.fetch_add-found.ensures.2.0 _ c.requires.climbs.is).0).0)
 
 pub risen-next-requires-clause-within : goal.risen-next-requires-clause-within
 risen-next-requires-clause-within c = let fits = c.requires.shape.fits c.args.tree.now c.requires.tree in
@@ -48,47 +35,38 @@ risen-next-requires-clause-within c = let fits = c.requires.shape.fits c.args.tr
 
 pub slot_at-requires-clause-within : goal.slot_at-requires-clause-within
 slot_at-requires-clause-within c =
-    let p = next_of (c.requires.shape.fits c.args.tree.now c.requires.tree) c.requires.climbs c.requires.below _ _
-    c.risen-next.ensures.level c.risen-next.ensures.index in (p.1, p.2)
+    let fits = c.requires.shape.fits c.args.tree.now c.requires.tree in let next = c.risen-next.ensures in
+    grind (arith, next_of fits c.requires.climbs c.requires.below _ _ next.level next.index)
 
 pub exchange-requires : goal.exchange-requires
-exchange-requires c =
-    let spot = c.args.spot in let cl = c.requires.climbs in let next = c.risen-next.ensures in
+exchange-requires c = let spot = c.args.spot in let cl = c.requires.climbs in let next = c.risen-next.ensures in
     let one = (c.fetch_add-found.ensures.2.0 _ cl.is).0 in let r = one.2 (omega (arith, one.0, c.if-found-eq0.false)) in
     let q = turned_seat r.2 c.slot_mut.ensures.value c.turn.ensures.2 in
-    let a = above_at (c.requires.shape.fits c.args.tree.now c.requires.tree) spot.level spot.index spot.hash cl.spare
-    r.0 _ _ next.level next.index ∙ sym c.slot_at.ensures in
+    let up = climbed (climb_at c.args.tree.now spot.level spot.index spot.hash cl.spare) r.0 in
+    let a : up.slot ≡ c.slot_at.result = grind arith in
     (c.turn.ensures.0 ∙ (c.fetch_add-found.ensures.0 ∙ c.requires.table), (r.1, at_slot q.1 a))
 
-pub returns-clause-second : goal.returns-clause-second
-returns-clause-second c =
-    let spot = c.args.spot in let cl = c.requires.climbs in let one = (c.fetch_add-found.ensures.2.0 _ cl.is).0 in
-    let r = one.2 (omega (arith, one.0, c.if-found-eq0.false)) in
-    let q = turned_seat r.2 c.slot_mut.ensures.value c.turn.ensures.2 in
-    let w = stored_seat q.1 (c.turn-2.ensures.2 ∙ ap (λ (m : Seated). (m.0, turned m.1)) c.exchange.ensures.3) in
-    (climbed (climb_at c.args.tree.now spot.level spot.index spot.hash cl.spare) r.0, ap (λ (m : Seated). m.0) w)
-
-pub returns-clause-low : goal.returns-clause-low
-returns-clause-low c =
-    let p = next_of (c.requires.shape.fits c.args.tree.now c.requires.tree) c.requires.climbs c.requires.below _ _
-    c.risen-next.ensures.level c.risen-next.ensures.index in (omega (arith, p.3), p.1)
-
-pub returns-clause-climbs : goal.returns-clause-climbs
-returns-clause-climbs c =
-    let spot = c.args.spot in let cl = c.requires.climbs in let next = c.risen-next.ensures in
+pub returns : goal.returns
+returns c = let spot = c.args.spot in let cl = c.requires.climbs in let next = c.risen-next.ensures in
+    let fits = c.requires.shape.fits c.args.tree.now c.requires.tree in
     let one = (c.fetch_add-found.ensures.2.0 _ cl.is).0 in let r = one.2 (omega (arith, one.0, c.if-found-eq0.false)) in
     let q = turned_seat r.2 c.slot_mut.ensures.value c.turn.ensures.2 in
     let w = stored_seat q.1 (c.turn-2.ensures.2 ∙ ap (λ (m : Seated). (m.0, turned m.1)) c.exchange.ensures.3) in
-    let joins : c.if-index-eq0.joined ≡ met (spot.index % 2) spot.hash r.0 = elim c.if-index-eq0.branch [
-      | then-index-eq0 v ↦ rw (v.joined-is, v.pair-joined.ensures, q.0)
-          (sym (met_left (spot.index % 2) spot.hash r.0 v.if-index-eq0.true))
-      | else-index-eq0 v ↦ rw (v.joined-is, v.pair-joined-else-index-eq0.ensures, q.0)
-          (sym (met_right (spot.index % 2) spot.hash r.0 v.if-index-eq0.false))
-    ] in
-    walked (c.requires.shape.fits c.args.tree.now c.requires.tree) cl c.requires.below r.0 c.if-index-eq0.joined joins
-    _ _ next.level next.index c.risen-next.result.hash next.hash c.turn-2.new.self.me
-    (w ∙ ap (λ (k : ℕ). (
-      joining c.args.seat.now.me.0 (climbed (climb_at c.args.tree.now spot.level spot.index spot.hash cl.spare) r.0),
-      (other_slot (climb_at c.args.tree.now spot.level spot.index spot.hash cl.spare), r.0)
-          ∷ (k, c.risen-next.result.hash) ∷ [],
-    )) c.slot_at.ensures)
+    let t = c.args.tree.now in let at = climb_at t spot.level spot.index spot.hash cl.spare in
+    let up = climbed at r.0 in let same : suc spot.level ≡ spot.level + 1 = omega arith in
+    let p = next_of fits cl c.requires.below _ _ next.level next.index in
+    let joins : c.if-index-eq0.joined ≡ met (spot.index % 2) spot.hash r.0 = grind arith in record {
+      table = search rules;
+      first = tt;
+      low = (omega (arith, p.3), p.1);
+      climbs = climbs_on fits (spot.level + 1) (spot.index / 2) (omega (arith, c.requires.below))
+          (node_place fits cl c.requires.below) c.if-index-eq0.joined up.spare _ _ next.level next.index
+          c.risen-next.result.hash next.hash (joining c.args.seat.now.me.0 up)
+          (ap (λ (l : ℕ). Some (climb_from t l (spot.index / 2) (met (spot.index % 2) spot.hash r.0) up.spare)) same
+          ∙ ap (λ (h : List ℕ). Some (climb_from t (spot.level + 1) (spot.index / 2) h up.spare)) (sym joins))
+          (head_more t c.args.seat.now.me.0.given cl.giving)
+          (inr (other_slot at, r.0, refl, other_in at (below_of fits cl c.requires.below))) c.turn-2.new.self.me (w
+          ∙ ap (λ (k : ℕ). (joining c.args.seat.now.me.0 up, up.spare ++ (k, c.risen-next.result.hash) ∷ []))
+          c.slot_at.ensures);
+      second = (up, ap (λ (m : Seated). m.0) w);
+    }

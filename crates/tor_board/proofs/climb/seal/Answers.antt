@@ -1,11 +1,9 @@
 use Rattle.tor_board.proofs.Names.{arith, climb_at}
-use Rattle.tor_board.proofs.Begins.{seals}
-use Rattle.tor_board.proofs.Meets.{top_of}
+use Rattle.tor_board.proofs.{Going.seals, Meets.top_of}
 use Rattle.tor_board.proofs.climb.seal.Goals as goal
 
 pub load-requires : goal.load-requires
-load-requires c =
-    let cl = c.requires.climbs in let spot = c.args._spot.now in
+load-requires c = let cl = c.requires.climbs in let spot = c.args._spot.now in
     let top = top_of (c.requires.shape.fits c.args._tree.now c.requires.tree) cl c.requires.top in (
       c.requires.table,
       omega (arith, c.requires.shape.two),

@@ -1,5 +1,5 @@
 use Rattle.tor_board.proofs.Names.{arith, refl}
-use Rattle.tor_board.proofs.Joins.{joined_none}
+use Rattle.tor_board.proofs.Meets.{joined_none}
 use Rattle.tor_board.proofs.give.climb.Goals as goal
 
 pub nodes-init : goal.nodes-init

@@ -1,6 +1,4 @@
-use Rattle.tor_board.proofs.Machines.{every_run_lawful}
-use Rattle.tor_board.proofs.Claims.{few_claims}
-use Rattle.tor_board.proofs.Running.{running}
+use Rattle.tor_board.proofs.{Machines.run_good, Machines.lawful, Moves.few_claims, Running.running}
 use Rattle.tor_board.proofs.Stepping.{each_step, history_runs}
 use Rattle.tor_board.proofs.laws.board_law.Goals as goal
 
@@ -12,5 +10,5 @@ returns c = record {
   events = λ words slots shape shaped m s s' kept kept' shows id v has e at step. each_step
       (record { kept = kept; kept' = kept'; shows = shows; at = at }) shaped has e step;
   history = history_runs;
-  runs = every_run_lawful;
+  runs = λ units forest events m run. lawful units forest m (run_good units forest events m run);
 }

@@ -1,31 +1,27 @@
-use Rattle.tor_board.proofs.Names.{List, [], ap, arith, drop, get_or, sym, ℕ, ◌++◌, ◌+◌, ◌∙◌, ◌∷◌, ◌≡◌, append-nil}
-use Rattle.tor_board.proofs.Names.{append_assoc, at_drop_all, Run, Tree, units_in}
-use Rattle.tor_merkle.specs.Subtree.{height}
-use Rattle.tor_board.specs.steps.Row.{trees_from}
+use Rattle.tor_board.proofs.Names.{List, [], ap, arith, drop, get_or, sym, ◌++◌, ◌+◌, ◌∙◌, ◌∷◌, ◌≡◌, Run, Tree}
+use Rattle.tor_board.proofs.Names.{units_in}
 use Rattle.tor_board.proofs.Opening.{next_run, no_run, laid, tree_there, no_tree, low_count}
+use Rattle.tor_board.specs.steps.Row.{trees_from}
+use Rattle.tor_merkle.specs.Subtree.{height}
+use Rattle.std.proofs.lemmas.List.{append-nil, append_assoc, at_drop_all}
 use Rattle.tor_board.proofs.open.trees_of.Goals as goal
 
 pub height_of-requires : goal.height_of-requires
-height_of-requires c = let i = c.runs.invariant in
-    low_count (get_or c.args.runs.now c.runs.run-index no_run)
+height_of-requires c = let i = c.runs.invariant in low_count (get_or c.args.runs.now c.runs.run-index no_run)
     (next_run c.args.units i.rest.0 c.args.runs.now c.runs.run-index c.runs-test.true i.rest.3).1
 
 pub overflow_add-offset : goal.overflow_add-offset
-overflow_add-offset c =
-    let i = c.runs.invariant in
+overflow_add-offset c = let i = c.runs.invariant in
     let r = next_run c.args.units i.rest.0 c.args.runs.now c.runs.run-index c.runs-test.true i.rest.3 in
     omega (arith, r.2, r.3, i.rest.1, c.requires.units)
 
 pub runs-preserved : goal.runs-preserved
-runs-preserved c =
-    let runs = c.args.runs.now in let i = c.runs.invariant in let k = c.runs.run-index in
+runs-preserved c = let runs = c.args.runs.now in let i = c.runs.invariant in let k = c.runs.run-index in
     let n = c.runs.number in let o = c.runs.offset in let before = c.runs.trees.items in
     let run : Run = get_or runs k no_run in let rest = drop (k + 1) runs in
     let r = next_run c.args.units i.rest.0 runs k c.runs-test.true i.rest.3 in
     let tree : Tree = laid n o run (height run.count) in
-    let pushed : c.push.new.self.items ≡ before ++ tree ∷ [] = c.in_ok-push.ensures.items
-    ∙ ap (λ (h : ℕ). before ++ laid n o run h ∷ []) c.height_of.ensures in
-    record {
+    let pushed : c.push.new.self.items ≡ before ++ tree ∷ [] = grind arith in record {
       trees = let joined = append_assoc before (tree ∷ []) (trees_from (n + 1) (o + run.count) rest) in
           rw (pushed, joined, sym (tree_there n o run rest), sym r.0) i.trees;
       units_in_trees = omega (arith, i.units_in_trees, ap units_in r.0);
@@ -34,8 +30,7 @@ runs-preserved c =
     }
 
 pub returns-clause-trees : goal.returns-clause-trees
-returns-clause-trees c =
-    let i = c.runs.invariant in let before = c.runs.trees.items in
+returns-clause-trees c = let i = c.runs.invariant in let before = c.runs.trees.items in
     let end = at_drop_all (λ (l : List Run). l) c.args.runs.now c.runs.run-index c.runs-test.false in
     sym (append-nil before) ∙ (ap (λ (l : List Tree). before ++ l)
     (sym (ap (trees_from c.runs.number c.runs.offset) end ∙ no_tree c.runs.number c.runs.offset)) ∙ i.trees)

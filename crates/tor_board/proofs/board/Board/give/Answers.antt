@@ -1,6 +1,5 @@
-use Rattle.tor_board.proofs.Names.{ap, arith, subst, ◌∙◌, Seated, IsTreeOf, desk_of, Shape}
-use Rattle.tor_board.proofs.Finding.{levels_of}
-use Rattle.tor_board.proofs.Joins.{after_alone, given_after, in_no_run}
+use Rattle.tor_board.proofs.Names.{arith, subst, IsTreeOf, Shape}
+use Rattle.tor_board.proofs.{Finding.levels_of, Meets.given_after, Meets.in_no_run}
 use Rattle.tor_board.proofs.board.Board.give.Goals as goal
 
 pub hand_alone-requires-clause-alone : goal.hand_alone-requires-clause-alone
@@ -8,8 +7,7 @@ hand_alone-requires-clause-alone c
     = λ t is j h. c.in_default.ensures.none t (subst (λ (s : Shape). IsTreeOf s t) c.args.self.now.sized is) j h
 
 pub returns-clause-given : goal.returns-clause-given
-returns-clause-given c =
-    let t = c.in-Some.tree in let some = c.in-Some.ensures.some in
+returns-clause-given c = let t = c.in-Some.tree in let some = c.in-Some.ensures.some in
     let levels = levels_of c.args.self.now c.args.self.now.shaped t some.0 c.args.job.number some.1 some.2 in
     given_after c.args.self.now t some.0 c.climb.result.top c.climb.result.joined _ levels c.climb.ensures.few
     c.climb.ensures.number c.args.seat.now.inner.me.0 c.begin-start.new.seat.me.0 c.climb.new.seat.me
@@ -18,8 +16,4 @@ returns-clause-given c =
 
 pub returns-in_default-clause-given : goal.returns-in_default-clause-given
 returns-in_default-clause-given c =
-    let board = c.args.self.now in
-    let shown = ap (λ (m : Seated). desk_of m.0) c.hand_alone.ensures.given
-    ∙ after_alone c.args.seat.now.inner.me.0 c.args.job.number c.args.hash in
-    let none = in_no_run board board.shaped c.args.job.number c.in_default.ensures.none in
-    (0, shown, omega arith, (omega arith, λ n run there inside. absurd (none n run there inside)))
+    grind (arith, in_no_run (c.args.self.now) (c.args.self.now).shaped c.args.job.number c.in_default.ensures.none)
