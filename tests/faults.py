@@ -63,16 +63,19 @@ def test_of_make(program, folder):
              for error in ['EIO', 'EAGAIN', 'EINTR', 'ETIMEDOUT', 'EISDIR']]
     rows += [(f'openat:error={error}:when=1', 'E1 Read file 1 at 0')
              for error in ['EACCES', 'EMFILE', 'ENOENT', 'ETIMEDOUT']]
-    rows += [('pread64:retval=0:when=1', 'E2 Changed file 1'), ('statx:error=ENOENT:when=3', 'E2 Changed file 1'),
-             ('statx:error=ENOENT:when=4', 'E2 Changed file 1')]
+    rows += [('pread64:retval=0:when=1', 'E2 Changed file 1'), ('statx:error=ENOENT:when=3', 'E2 Changed file 1')]
     rows += [(f'statx:error={error}:when=1', 'F4 System')
              for error in ['EIO', 'EACCES', 'ENOENT', 'ETIMEDOUT', 'EINTR']]
+    # Calls are counted for each thread. Of several workers the calling thread may read no byte of the file, and then
+    # asks for its length again at its third call.
+    again = [('statx:error=ENOENT:when=4', 'E2 Changed file 1')]
     for how in [[], ['--how', 'halves', '--workers', '2', '--span', '1'], ['--kind', 'v1'], ['--kind', 'hybrid'],
                 ['--how', 'board', '--workers', '2', '--span', '1']]:
         out = folder / 'out'
         out.write_bytes(b'old')
         words = ['make', '--name', 'f', *how, '--out', out, files]
-        expect_faults(program, folder, words, files / 'b', rows if not how else rows[7:])
+        shown = rows if not how else rows[7:]
+        expect_faults(program, folder, words, files / 'b', shown if '--workers' in how else shown + again)
         expect_equal('the old file', b'old', out.read_bytes())
     words = ['make', '--name', 'f', files]
     expect_faults(program, folder, words, files, [
@@ -90,8 +93,9 @@ def test_of_recheck(program, folder):
     rows += [(f'pread64:error={error}:when=1', 'C1 Read file 1 at 0')
              for error in ['EIO', 'EAGAIN', 'EINTR', 'ETIMEDOUT']]
     rows += [(f'openat:error={error}:when=1', 'C1 Read file 1 at 0') for error in ['EACCES', 'EMFILE', 'ENOENT']]
+    # Whichever worker reads the file: calls are counted for each thread.
     rows += [('pread64:retval=0:when=1', 'C2 Changed file 1'), ('statx:error=ENOENT:when=2', 'C2 Changed file 1'),
-             ('statx:error=ENOENT:when=3', 'C2 Changed file 1')]
+             ('statx:error=ENOENT:when=2+', 'C2 Changed file 1')]
     expect_faults(program, folder, ['recheck', torrent, files], files / 'b', rows)
     told, _ = traced(program, ['recheck', torrent, files], files / 'b', ['statx:error=ENOENT'], folder / 'log')
     expect_told(['recheck'], done(b'pieces 1 of 2\nbits 80\n', 1), told)

@@ -5,12 +5,10 @@ use Rattle.std.proofs.Math.Seq.{drop-append_seam, take-append_seam}
 use Rattle.std.proofs.lemmas.List.{drop-map, drop_more, length-append, length-map, take-map}
 use Rattle.std.proofs.lemmas.List.Concat.{flat_map-cons}
 use Rattle.std.proofs.lemmas.List.Elements.{All-from_recursion}
-use Rattle.std.specs.Int.{div_ceil}
 use Rattle.std.specs.List.{flat_map}
 use Rattle.tor_engine.specs.declared.unit_sums.UnitSums.{UnitSums}
-use Rattle.tor_engine.specs.steps.Hashes.{IsCut, Node, nodes_of_file}
+use Rattle.tor_engine.specs.steps.Hashes.{IsCut, Node}
 use Rattle.tor_engine.specs.steps.Run.{node_in}
-use Rattle.tor_engine.proofs.FileNodes.{count_of_nodes}
 
 -- one file of those that are cut
 pub one_cut : (p size : ℕ) (level : Option ℕ) (lengths : List ℕ) (i m : ℕ) → i < length lengths
@@ -26,35 +24,27 @@ one_cut p size level lengths i m there is cut = record {
       (omega (arith, short, is), tt);
 }
 
-module _ (p size : ℕ) (level : Option ℕ) (contents : List (List ℕ)) (i : ℕ) (there : i < length contents)
-    (cut : IsCut p size level (length (get_or contents i []) ∷ [])) (units : List UnitSums)
-    (is : map node_in units ≡ flat_map (nodes_of_file p size level) (drop i contents)) where
+-- the nodes of contents, one after the other: those of one of them, and of the later ones
+module _ (f : List ℕ → List Node) (contents : List (List ℕ)) (i : ℕ) (there : i < length contents)
+    (units : List UnitSums) (is : map node_in units ≡ flat_map f (drop i contents)) where
   abbrev own : List Node
-  own = nodes_of_file p size level (get_or contents i [])
+  own = f (get_or contents i [])
 
   abbrev later : List Node
-  later = flat_map (nodes_of_file p size level) (drop (i + 1) contents)
+  later = flat_map f (drop (i + 1) contents)
 
   all : map node_in units ≡ own ++ later
-  all = is ∙ ap (flat_map (nodes_of_file p size level)) (drop_more contents i [] there)
-      ∙ flat_map-cons (nodes_of_file p size level) (get_or contents i []) (drop (i + 1) contents)
+  all = is ∙ ap (flat_map f) (drop_more contents i [] there) ∙ flat_map-cons f (get_or contents i []) (drop (i + 1) contents)
 
-  abbrev IsCount : ℕ → Type 0
-  IsCount n = n ≡ div_ceil (length (get_or contents i [])) size
-
-  many : (n : ℕ) → IsCount n → n ≡ length own
-  many n counted = counted ∙ sym (count_of_nodes p size level (get_or contents i []) cut)
-
-  pub own_nodes : (n : ℕ) → IsCount n → map node_in (take n units) ≡ own
-  own_nodes n counted =
-      sym (take-map node_in n units) ∙ ap (take n) all ∙ ap (λ k. take k (own ++ later)) (many n counted)
+  pub own_nodes : (n : ℕ) → n ≡ length own → map node_in (take n units) ≡ own
+  own_nodes n many =
+      sym (take-map node_in n units) ∙ ap (take n) all ∙ ap (λ k. take k (own ++ later)) many
       ∙ take-append_seam own later
 
-  pub later_nodes : (n : ℕ) → IsCount n → map node_in (drop n units) ≡ later
-  later_nodes n counted =
-      sym (drop-map node_in n units) ∙ ap (drop n) all ∙ ap (λ k. drop k (own ++ later)) (many n counted)
+  pub later_nodes : (n : ℕ) → n ≡ length own → map node_in (drop n units) ≡ later
+  later_nodes n many =
+      sym (drop-map node_in n units) ∙ ap (drop n) all ∙ ap (λ k. drop k (own ++ later)) many
       ∙ drop-append_seam own later
 
-  pub enough_nodes : (n : ℕ) → IsCount n → n ≤ length units
-  enough_nodes n counted =
-      omega (arith, many n counted, length-map units node_in, ap length all, length-append own later)
+  pub enough_nodes : (n : ℕ) → n ≡ length own → n ≤ length units
+  enough_nodes n many = omega (arith, many, length-map units node_in, ap length all, length-append own later)

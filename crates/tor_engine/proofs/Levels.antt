@@ -33,7 +33,7 @@ power : (n : ℕ) → IsTrue (is_power_of_two n) → (k : ℕ) × (n ≡ 2 ^ k)
 power n one = bin_ind (λ m. ones m ≡ 1 → (k : ℕ) × (m ≡ 2 ^ k)) one_bit_zero one_bit_more n (eqb-true _ _ one)
 
 -- the exponents are in order where the powers are
-exponents : (a b : ℕ) → 2 ^ a ≤ 2 ^ b → a ≤ b
+pub exponents : (a b : ℕ) → 2 ^ a ≤ 2 ^ b → a ≤ b
 exponents a b le = elim (cases_lt b a) [
   | inl more ↦ absurd (omega (arith, pow-lt more, le))
   | inr within ↦ within

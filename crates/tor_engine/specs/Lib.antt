@@ -6,6 +6,7 @@ pub mod How
 pub mod PieceFault
 pub mod PieceHashes
 pub mod Shares
+pub mod Streams
 pub mod Sums
 pub mod UnitNodes
 pub mod steps

@@ -1,6 +1,9 @@
 pub mod Asked
+pub mod ChunkNodes
+pub mod Cuts
 pub mod Each
 pub mod Failing
+pub mod Fed
 pub mod Given
 pub mod Hashes
 pub mod Pieces
@@ -8,6 +11,7 @@ pub mod Places
 pub mod ReadBytes
 pub mod Reads
 pub mod Roots
+pub mod StreamWorkers
 pub mod Taken
 pub mod Room
 pub mod Run

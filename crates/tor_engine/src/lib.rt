@@ -19,6 +19,10 @@
 //! - [`hash_pieces`] (`pieces.rt`): what each piece hashes to ([`PieceHash`], `piece_hash.rt`), of files that may be
 //!   cut short or missing: `asked.rt` asks for their lengths, `present.rt` tells what is there by these, and
 //!   `piece_work.rt` hashes the pieces of a unit.
+//! - [`hash_streams`] (`streams.rt`): what readers sum up to that are read once and in order. `cutter.rt` reads them and
+//!   puts chunks into a lane, whose workers (`stream_worker.rt`) take and hash them (`chunk_sums.rt`); `stream_sums.rt`
+//!   puts together what these sum up to. [`Gate`] (`gate.rt`): what tests have workers pass. [`lane`], [`Feeder`],
+//!   [`Taker`], [`Chunk`] are those of `tor_lane`.
 //! - [`laws`] (`laws.rt`): a law over the definition of the first fault, and the limits of workers and buffers.
 //!
 //! ```rust
@@ -31,10 +35,13 @@
 #![tactic(auto)]
 
 mod asked;
+mod chunk_sums;
+mod cutter;
 mod engine;
 mod errors;
 mod failure;
 mod file_bytes;
+mod gate;
 mod halves;
 mod hasher;
 mod how;
@@ -53,6 +60,9 @@ mod room;
 mod roots;
 mod seats;
 mod shares;
+mod stream_sums;
+mod stream_worker;
+mod streams;
 mod sum_work;
 mod sums;
 mod taken;
@@ -66,11 +76,14 @@ mod worker;
 
 pub use engine::{hash_all, hash_told};
 pub use errors::EngineError;
+pub use gate::Gate;
 pub use hasher::{ContentHasher, Hashed};
 pub use how::{How, MAX_WORKERS};
 pub use lengths::ask_lengths;
 pub use piece_hash::PieceHash;
 pub use pieces::hash_pieces;
 pub use shares::{Share, work};
+pub use streams::{MAX_UNIT_LENGTH, hash_streams, hash_streams_with};
 pub use sums::Sums;
+pub use tor_lane::{Chunk, Feeder, Taker, lane, lane_law};
 pub use unit_sums::UnitSums;

@@ -71,7 +71,10 @@ pub(crate) fn sums_of_units(
 }
 
 /// No root and no hash of a layer for each of so many files.
-fn no_trees(alloc: Global, count: usize) -> Result<(Vec<Option<Hash>>, Vec<Vec<Hash>>), AllocError>
+pub(crate) fn no_trees(
+    alloc: Global,
+    count: usize,
+) -> Result<(Vec<Option<Hash>>, Vec<Vec<Hash>>), AllocError>
     ensures roots { IfOk result (λ trees. trees.0.items ≡ replicate count None) }
     ensures layers { IfOk result (λ trees. lists_of trees.1.items ≡ replicate count []) }
 {

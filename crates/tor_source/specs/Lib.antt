@@ -1,4 +1,5 @@
 pub mod Faults
+pub mod Filling
 pub mod Input
 pub mod Listing
 pub mod Places

@@ -1,5 +1,5 @@
 //! Where the system has the files below a folder, or a file by itself.
-ghost use Rattle.std.specs.Prelude.{◌≡◌, ◌<◌, ◌≤◌, ◌∷◌, [], Err, None, Ok, IfErr, IfOk, false, length, map};
+ghost use Rattle.std.specs.Prelude.{◌≡◌, ◌<◌, ◌≤◌, ◌∷◌, [], Err, None, Ok, IfErr, IfOk, false, length, map, vec_len};
 ghost use Rattle.std.specs.List.{All};
 ghost use Rattle.std.specs.List.Sorted.{IsStrictlySortedBy};
 ghost use Rattle.std.specs.IoError.{error_kind};
@@ -10,6 +10,7 @@ ghost use Rattle.tor_tree.specs.declared.paths.TheConstants.{MAX_NAMES};
 ghost use Rattle.tor_tree.specs.Path.{path_cmp};
 
 use crate::faults::ScanFault;
+use crate::lazy::LazyFile;
 use crate::places::place_of;
 use crate::regular;
 use crate::source::Source;
@@ -90,6 +91,18 @@ impl<R: Files + AllocGlobal + Clone + Drop> FolderSource<R> {
             rt: rt.clone()?,
             places,
         })
+    }
+
+    /// A reader of each file, to be read once and in order.
+    pub fn readers(&self) -> Result<Vec<LazyFile<R>>, AllocError>
+        ensures { IfOk result (λ readers. vec_len readers ≡ length self.now) }
+    {
+        let mut readers = Vec::with_capacity(self.rt.alloc(), self.places.len())?;
+        'places: for place in &self.places {
+            let place = String::from_str(self.rt.alloc(), place)?;
+            readers.push(LazyFile::new(self.rt.clone()?, place))?;
+        }
+        Ok(readers)
     }
 
     /// How many files there are.

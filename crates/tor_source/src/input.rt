@@ -5,6 +5,7 @@ ghost use Rattle.tor_source.specs.Input.{ReadsWhole, ReadsAll, ReadsSome, EndsIn
 ghost use Rattle.tor_source.specs.declared.input.InputFault.TheVariants.{Memory};
 
 use crate::buffer::zeros;
+use crate::filling::{FillFault, fill};
 use crate::intake::{Dropped, Intake};
 use std::alloc::{AllocError, Global};
 use std::io::Read;
@@ -67,7 +68,7 @@ pub fn read_parts<R: Read, I: Intake>(
     let buffer = memory.as_mut_slice();
     let mut left = limit;
     'parts: loop {
-        let count = match fill(reader, buffer, left) {
+        let count = match fill_part(reader, buffer, left) {
             Ok(count) => count,
             Err(fault) => return Err(fault),
         };
@@ -82,9 +83,8 @@ pub fn read_parts<R: Read, I: Intake>(
     }
 }
 
-/// Reads until the buffer is full or the reader is at its end, and tells how many bytes came; they stand at the front
-/// of the buffer.
-fn fill<R: Read>(reader: &mut R, buffer: &mut [u8], room: u64) -> Result<usize, InputFault>
+/// Fills the buffer, and tells how many bytes came; they stand at its front.
+fn fill_part<R: Read>(reader: &mut R, buffer: &mut [u8], room: u64) -> Result<usize, InputFault>
     ensures buffer_stays { length buffer.new ≡ length buffer.old }
     ensures within { IfOk result (λ count. (count ≤ length buffer.old) × (count ≤ room)) }
     ensures given { IfOk result (λ count.
@@ -93,36 +93,10 @@ fn fill<R: Read>(reader: &mut R, buffer: &mut [u8], room: u64) -> Result<usize, 
     ensures err { IfErr result (λ fault.
         ReadsSome (R.remaining reader.old) (R.remaining reader.new) (EndsInput room fault)) }
 {
-    let mut filled = 0;
-    'reads: while filled < buffer.len() {
-        let (_, rest) = buffer.split_at_mut(filled);
-        let count = match read_part(reader, rest, room - filled as u64) {
-            Ok(count) => count,
-            Err(fault) => return Err(fault),
-        };
-        filled += count;
-        if count == 0 {
-            return Ok(filled);
-        }
-    }
-    Ok(filled)
-}
-
-/// Reads once, and tells how many bytes came; they stand at the front of the buffer.
-fn read_part<R: Read>(reader: &mut R, buffer: &mut [u8], room: u64) -> Result<usize, InputFault>
-    requires { 0 < length buffer.old }
-    ensures buffer_stays { length buffer.new ≡ length buffer.old }
-    ensures within { IfOk result (λ count. (count ≤ length buffer.old) × (count ≤ room)) }
-    ensures given { IfOk result (λ count.
-        Consumes (R.remaining reader.old) (R.remaining reader.new) (take count buffer.new)) }
-    ensures end { IfOk result (λ count. count ≡ 0 → IsAtEnd (R.remaining reader.new)) }
-    ensures err { IfErr result (λ fault.
-        ReadsSome (R.remaining reader.old) (R.remaining reader.new) (EndsInput room fault)) }
-{
-    match reader.read(buffer) {
-        Ok(count) if count as u64 > room => Err(InputFault::TooLong),
+    match fill(reader, buffer, room) {
         Ok(count) => Ok(count),
-        Err(_) => Err(InputFault::Read),
+        Err(FillFault::Read { .. }) => Err(InputFault::Read),
+        Err(FillFault::TooLong) => Err(InputFault::TooLong),
     }
 }
 

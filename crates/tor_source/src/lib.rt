@@ -17,10 +17,11 @@
 //! - [`FolderSource`] (`folder.rt`): the files below a folder, or a file by itself, as the system has them.
 //! - [`MemSource`] (`memory.rt`), [`FailSource`] (`failing.rt`), [`ShortSource`] (`short.rt`): files in memory, with
 //!   faults at chosen offsets, or read in small steps.
+//! - [`LazyFile`] (`lazy.rt`): a file of the system that is read once and in order.
 //! - [`ScanFault`] (`faults.rt`): why a folder's files are no list.
 //! - [`read_parts`], [`read_limited`], [`drop_input`] (`input.rt`): what a reader has, handed on, kept, or dropped, or
-//!   the [`InputFault`] that ended it. [`Intake`] (`intake.rt`): what takes the parts. [`zeros`] (`buffer.rt`): room
-//!   to read into.
+//!   the [`InputFault`] that ended it. [`Intake`] (`intake.rt`): what takes the parts. [`fill`] (`filling.rt`): a
+//!   buffer filled from a reader, or the [`FillFault`]; [`zeros`] (`buffer.rt`): room to read into.
 //! - [`laws`] (`laws.rt`): laws over the sources in memory, and the limits of an input.
 //!
 //! `walk.rt` finds the files below a folder, `listing.rt` the names in one; `places.rt` joins places and names, and
@@ -30,10 +31,12 @@
 mod buffer;
 mod failing;
 mod faults;
+mod filling;
 mod folder;
 mod input;
 mod intake;
 pub mod laws;
+mod lazy;
 mod listing;
 mod memory;
 mod places;
@@ -45,9 +48,11 @@ mod walk;
 pub use buffer::zeros;
 pub use failing::FailSource;
 pub use faults::ScanFault;
+pub use filling::{FillFault, fill};
 pub use folder::FolderSource;
 pub use input::{InputFault, MAX_INPUT_LENGTH, drop_input, read_limited, read_parts};
 pub use intake::{Dropped, Intake};
+pub use lazy::LazyFile;
 pub use memory::MemSource;
 pub use short::ShortSource;
 pub use source::Source;

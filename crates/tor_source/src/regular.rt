@@ -37,6 +37,15 @@ where
     }
 }
 
+/// The regular file at a place, opened to be read. What is none is not opened: to open a FIFO would wait.
+pub(crate) fn open_at<R: Files>(rt: &R, place: &str) -> io::Result<R::File> {
+    if rt.metadata(place)?.is_file() {
+        fs::open(rt, place)
+    } else {
+        Err(io::Error::from(io::ErrorKind::InvalidInput))
+    }
+}
+
 // What the system tells of the regular file at a place. A place that leads through a file has nothing.
 fn file_at<R: Files>(rt: &R, place: &str) -> io::Result<Option<Metadata>>
     ensures found { IfOk result (λ found. IfSome found (λ metadata. IsFile (file_type metadata))) }

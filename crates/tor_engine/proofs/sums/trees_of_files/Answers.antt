@@ -8,10 +8,11 @@ use Rattle.std.specs.Int.{div_ceil}
 use Rattle.tor_merkle.specs.Layer.{piece_layer, root_of}
 use Rattle.tor_plan.specs.Forest.{trees_from}
 use Rattle.tor_engine.specs.Sums.{lists_of}
+use Rattle.tor_engine.specs.steps.Hashes.{nodes_of_file}
 use Rattle.tor_engine.specs.steps.Roots.{roots_of_trees}
 use Rattle.tor_engine.specs.steps.Run.{node_in}
 use Rattle.tor_engine.proofs.ByFile.{enough_nodes, later_nodes, one_cut, own_nodes}
-use Rattle.tor_engine.proofs.FileNodes.{units_counted}
+use Rattle.tor_engine.proofs.FileNodes.{count_of_nodes, units_counted}
 use Rattle.tor_engine.proofs.TreeRoots.{layer_of_own, next_root}
 use Rattle.tor_engine.proofs.sums.trees_of_files.Goals as goal
 
@@ -38,12 +39,15 @@ files-preserved c = λ p size contents long cut all trees.
     units_counted p size (length content) c.count_of_units-count.result level one
     (λ k at. c.count_of_units-count.ensures.several k at ∙ ap (λ n. div_ceil n (16384 * 2 ^ k)) same)
     (λ none. c.count_of_units-count.ensures.one none ∙ ap (min 1) same) in
-    let enough = enough_nodes p size level contents i there one rest before.rest _ counted in
+    let f = nodes_of_file p size level in
+    let many : div_ceil (length content) size ≡ length (f content) =
+    sym (count_of_nodes p size level content one) in
+    let enough = enough_nodes f contents i there rest before.rest _ (counted ∙ many) in
     let n : c.min.result ≡ div_ceil (length content) size = omega (arith, c.min.ensures, counted, enough) in
     let own = c.split_at.ensures.front ∙ ap (λ k. take k rest) n
     ∙ ap (take (div_ceil (length content) size)) before.left in
     let nodes = ap (map node_in) c.split_at.ensures.front
-    ∙ own_nodes p size level contents i there one rest before.rest c.min.result n in
+    ∙ own_nodes f contents i there rest before.rest c.min.result (n ∙ many) in
     let tops = before.tops ∙ ap (λ ls. roots_of_trees (map (λ unit. unit.hash) units)
     (trees_from size before.before ls))
     (drop_more lengths i 0 c.files-test.true
@@ -58,7 +62,7 @@ files-preserved c = λ p size contents long cut all trees.
           ∙ ap (drop (div_ceil (length content) size)) before.left
           ∙ drop-drop (div_ceil (length content) size) before.before units;
       rest = ap (map node_in) c.split_at.ensures.back
-          ∙ later_nodes p size level contents i there one rest before.rest c.min.result n;
+          ∙ later_nodes f contents i there rest before.rest c.min.result (n ∙ many);
       tops = next.1;
       roots = c.in_ok-push.ensures.items
           ∙ map_next root_of contents c.files.roots.items c.root_of_file-root.result.0 i there before.roots next.0;

@@ -1,7 +1,7 @@
 -- What came so far stands at the front of the buffer, and is within the room.
 use Rattle.std.proofs.Common.{length, ◌-◌, ◌≡◌, ◌≤◌, take}
 use Rattle.std.specs.Io.KnownBytes.{Consumes}
-use Rattle.tor_source.proofs.input.fill.Given as goal
+use Rattle.tor_source.proofs.filling.fill.Given as goal
 
 abbrev pub invariant-reads : goal.invariant-reads
 invariant-reads g l = record {

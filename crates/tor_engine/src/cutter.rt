@@ -1,0 +1,309 @@
+//! Readers read one after the other, and cut into chunks for a lane.
+ghost use Rattle.std.specs.Prelude.{◌≡◌, ◌+◌, ◌-◌, ◌<◌, ◌≤◌, ◌++◌, ◌∷◌, [], ℕ, List, Option, None, IfErr, IfOk, OnOk};
+ghost use Rattle.std.specs.Prelude.{length, map, slice_index_or, take, vec_len};
+ghost use Rattle.std.specs.Io.KnownBytes.{Consumes, IsAtEnd};
+ghost use Rattle.tor_lane.specs.Lane.{FeedsLaneOf, IsEnded, IsOpen, put_by};
+ghost use Rattle.tor_merkle.specs.declared.TheConstants.{MAX_LENGTH};
+ghost use Rattle.tor_plan.specs.PlanFacts.{IsPlanPieceLength};
+ghost use Rattle.tor_source.specs.Filling.{EndsFill};
+ghost use Rattle.tor_source.specs.Input.{ReadsSome};
+ghost use Rattle.tor_engine.specs.Streams.{GivesWhole, IsFaultOfReaders};
+ghost use Rattle.tor_engine.specs.steps.Cuts.{zeros_between};
+
+use crate::errors::EngineError;
+use std::alloc::{AllocError, Global};
+use std::io::{self, Read};
+use std::sync::Wait;
+use tor_lane::{Chunk, Feeder};
+use tor_merkle::MAX_LENGTH;
+use tor_source::{FillFault, fill, zeros};
+use tor_tree::Kind;
+
+/// Cuts what is read into chunks, and puts them into a lane. The last chunk of a content is held back until it is known
+/// whether a later content has a byte, since padding goes between two of them alone.
+#[derive(Drop)]
+pub(crate) struct Cutter {
+    pub(crate) feeder: Feeder,
+    // As long as a unit; its front waits to be cut.
+    buffer: Vec<u8>,
+    filled: usize,
+    // The last chunk that was cut, and the zeros that follow it where another one comes.
+    held: Option<Chunk>,
+    zeros: u64,
+    // The number of the next chunk.
+    next: u64,
+}
+
+impl Cutter {
+    ghost use Rattle.tor_engine.specs.steps.Cuts.{CutsMore, HasCut, HasPut, IsCutOff, IsReady, PutsContents};
+    ghost use Rattle.tor_engine.specs.steps.Cuts.{PutsHeld};
+    ghost use Rattle.tor_tree.specs.declared.kinds.Kind.{Kind};
+
+    /// For units of `size` bytes, into a lane to which nothing was put.
+    pub(crate) fn new(alloc: Global, feeder: Feeder, size: usize) -> Result<Cutter, AllocError>
+        requires some { 0 < size }
+        requires open { IsOpen feeder × (put_by feeder ≡ []) }
+        ensures ready { (kind : Kind) (piece_length : ℕ) → IfOk result (IsReady kind piece_length size []) }
+        ensures feeder { IfOk result (λ cutter. cutter.feeder ≡ feeder) }
+    {
+        let buffer = zeros(alloc, size)?;
+        Ok(Cutter {
+            feeder,
+            buffer,
+            filled: 0,
+            held: None,
+            zeros: 0,
+            next: 0,
+        })
+    }
+
+    /// Reads all readers to their ends, one after the other, puts all chunks, and answers how long each content is.
+    pub(crate) fn read_all<R: Read + Drop, T: Wait>(
+        &mut self,
+        rt: &T,
+        alloc: Global,
+        kind: Kind,
+        piece_length: u64,
+        readers: Vec<R>,
+    ) -> Result<Vec<u64>, EngineError<io::Error>>
+        requires pieces { IsPlanPieceLength kind piece_length }
+        requires ready { (size : ℕ) × (0 < size) × IsReady kind piece_length size [] self.old }
+        ensures put { (size : ℕ) → 0 < size → IsReady kind piece_length size [] self.old → IfOk result (λ lengths.
+            PutsContents kind piece_length size (map R.remaining readers.items) lengths.items
+            (put_by self.new.feeder)) }
+        ensures lane { FeedsLaneOf self.old.feeder self.new.feeder × IsOpen self.new.feeder }
+        ensures fault { IfErr result (IsFaultOfReaders (map R.remaining readers.items)) }
+    {
+        let mut lengths = Vec::with_capacity(alloc, readers.len())?;
+        'readers: for reader in readers {
+            let file = lengths.len() as u64;
+            match self.read_whole(rt, alloc, kind, piece_length, file, reader) {
+                Ok(length) => lengths.push(length)?,
+                Err(error) => return Err(error),
+            }
+        }
+        self.put_rest(rt, alloc)?;
+        Ok(lengths)
+    }
+
+    /// Puts the marks at which the takers stop.
+    pub(crate) fn end<T: Wait>(&mut self, rt: &T)
+        requires { IsOpen self.old.feeder }
+        ensures ended { IsEnded self.new.feeder }
+        ensures put { put_by self.new.feeder ≡ put_by self.old.feeder }
+        ensures lane { FeedsLaneOf self.old.feeder self.new.feeder }
+    {
+        self.feeder.end(rt);
+    }
+
+    /// Reads one reader to its end, and answers how long its content is.
+    fn read_whole<R: Read + Drop, T: Wait>(
+        &mut self,
+        rt: &T,
+        alloc: Global,
+        kind: Kind,
+        piece_length: u64,
+        file: u64,
+        reader: R,
+    ) -> Result<u64, EngineError<io::Error>>
+        requires pieces { IsPlanPieceLength kind piece_length }
+        requires ready { (size : ℕ) × (contents : List (List ℕ)) × (0 < size)
+            × IsReady kind piece_length size contents self.old }
+        ensures read { IfOk result (λ count. (content : List ℕ) × GivesWhole (R.remaining reader) content
+            × (length content ≡ count) × (count ≤ MAX_LENGTH)
+            × ((size : ℕ) (contents : List (List ℕ)) → 0 < size → IsReady kind piece_length size contents self.old →
+            IsReady kind piece_length size (contents ++ content ∷ []) self.new)) }
+        ensures lane { FeedsLaneOf self.old.feeder self.new.feeder × IsOpen self.new.feeder }
+        ensures fault { (known : List (Option (List ℕ))) → file < length known →
+            slice_index_or known file None ≡ R.remaining reader → IfErr result (IsFaultOfReaders known) }
+    {
+        let mut reader = reader;
+        let mut count = 0;
+        'chunks: loop {
+            match self.fill(&mut reader, MAX_LENGTH - count) {
+                Ok(came) => count += came as u64,
+                Err(fault) => return Err(error_of(fault, file, count)),
+            }
+            // It is at its end.
+            if self.filled < self.buffer.len() {
+                self.end_content(rt, alloc, kind, piece_length, count)?;
+                return Ok(count);
+            }
+            self.cut(rt, alloc)?;
+        }
+    }
+
+    // Reads until the buffer is full or the reader is at its end, and tells how many bytes came.
+    fn fill<R: Read>(&mut self, reader: &mut R, room: u64) -> Result<usize, FillFault>
+        requires { self.old.filled ≤ vec_len self.old.buffer }
+        ensures feeder { self.new.feeder ≡ self.old.feeder }
+        ensures kept { (self.new.held ≡ self.old.held) × (self.new.zeros ≡ self.old.zeros)
+            × (self.new.next ≡ self.old.next) × (vec_len self.new.buffer ≡ vec_len self.old.buffer) }
+        ensures came { IfOk result (λ count. (bytes : List ℕ)
+            × Consumes (R.remaining reader.old) (R.remaining reader.new) bytes
+            × (length bytes ≡ count) × (count ≤ room) × (self.new.filled ≡ self.old.filled + count)
+            × (self.new.filled ≤ vec_len self.new.buffer)
+            × (take self.new.filled self.new.buffer.items ≡ take self.old.filled self.old.buffer.items ++ bytes)) }
+        ensures end { IfOk result (λ _. self.new.filled < vec_len self.new.buffer →
+            IsAtEnd (R.remaining reader.new)) }
+        ensures fault { IfErr result (λ fault.
+            ReadsSome (R.remaining reader.old) (R.remaining reader.new) (EndsFill room fault)) }
+    {
+        match fill_from(self.filled, &mut self.buffer, reader, room) {
+            Ok(count) => {
+                self.filled += count;
+                Ok(count)
+            }
+            Err(fault) => Err(fault),
+        }
+    }
+
+    // Cuts what waits in the buffer, and puts what was held before.
+    fn cut<T: Wait>(&mut self, rt: &T, alloc: Global) -> Result<(), AllocError>
+        requires within { self.old.filled ≤ vec_len self.old.buffer }
+        requires open { IsOpen self.old.feeder }
+        ensures cut { OnOk result (CutsMore self.old self.new) }
+        ensures lane { FeedsLaneOf self.old.feeder self.new.feeder × IsOpen self.new.feeder }
+    {
+        let (waiting, _) = self.buffer.as_slice().split_at(self.filled);
+        let bytes = Vec::from_slice(alloc, waiting)?;
+        let unit = self.next;
+        // There is no room for the sums of so many units.
+        let Some(next) = unit.checked_add(1) else {
+            return Err(AllocError);
+        };
+        self.put_held(rt, self.zeros);
+        let zeros = 0;
+        self.held = Some(Chunk { unit, bytes, zeros });
+        self.zeros = 0;
+        self.filled = 0;
+        self.next = next;
+        Ok(())
+    }
+
+    // Puts what is held, with so many zeros after it.
+    fn put_held<T: Wait>(&mut self, rt: &T, zeros: u64)
+        requires { IsOpen self.old.feeder }
+        ensures put { PutsHeld zeros self.old self.new }
+        ensures lane { FeedsLaneOf self.old.feeder self.new.feeder × IsOpen self.new.feeder }
+    {
+        if let Some(mut chunk) = self.held.take() {
+            chunk.zeros = zeros;
+            self.feeder.put(rt, chunk);
+        }
+    }
+
+    // Ends a content of so many bytes: where each is cut by itself, what waits of it is its last chunk.
+    fn end_content<T: Wait>(
+        &mut self,
+        rt: &T,
+        alloc: Global,
+        kind: Kind,
+        piece_length: u64,
+        count: u64,
+    ) -> Result<(), AllocError>
+        requires pieces { IsPlanPieceLength kind piece_length }
+        requires small { count ≤ MAX_LENGTH }
+        requires room { self.old.filled < vec_len self.old.buffer }
+        requires open { IsOpen self.old.feeder }
+        ensures ended { (size : ℕ) (contents : List (List ℕ)) (content : List ℕ) → 0 < size →
+            HasCut kind piece_length size contents content self.old → length content ≡ count →
+            OnOk result (IsReady kind piece_length size (contents ++ content ∷ []) self.new) }
+        ensures lane { FeedsLaneOf self.old.feeder self.new.feeder × IsOpen self.new.feeder }
+    {
+        if !kind.has_v2() {
+            return Ok(());
+        }
+        if count == 0 {
+            return Ok(());
+        }
+        self.cut_rest(rt, alloc)?;
+        self.zeros = zeros_between(kind, piece_length, count);
+        Ok(())
+    }
+
+    // Cuts what waits, if anything does.
+    fn cut_rest<T: Wait>(&mut self, rt: &T, alloc: Global) -> Result<(), AllocError>
+        requires within { self.old.filled ≤ vec_len self.old.buffer }
+        requires open { IsOpen self.old.feeder }
+        ensures cut { (kind : Kind) (piece_length size : ℕ) (contents : List (List ℕ)) (current : List ℕ) → 0 < size →
+            HasCut kind piece_length size contents current self.old →
+            OnOk result (IsCutOff kind piece_length size contents current self.new) }
+        ensures lane { FeedsLaneOf self.old.feeder self.new.feeder × IsOpen self.new.feeder }
+    {
+        if self.filled == 0 {
+            return Ok(());
+        }
+        self.cut(rt, alloc)?;
+        Ok(())
+    }
+
+    // Puts what waits, and what is held then: no byte comes any more.
+    fn put_rest<T: Wait>(&mut self, rt: &T, alloc: Global) -> Result<(), AllocError>
+        requires within { self.old.filled ≤ vec_len self.old.buffer }
+        requires open { IsOpen self.old.feeder }
+        ensures put { (kind : Kind) (piece_length size : ℕ) (contents : List (List ℕ)) → 0 < size →
+            HasCut kind piece_length size contents [] self.old →
+            OnOk result (HasPut kind piece_length size contents (put_by self.new.feeder)) }
+        ensures lane { FeedsLaneOf self.old.feeder self.new.feeder × IsOpen self.new.feeder }
+    {
+        self.cut_rest(rt, alloc)?;
+        self.put_held(rt, 0);
+        Ok(())
+    }
+}
+
+/// Fills a buffer from an offset on, and tells how many bytes came; they stand from there on.
+fn fill_from<R: Read>(
+    filled: usize,
+    buffer: &mut [u8],
+    reader: &mut R,
+    room: u64,
+) -> Result<usize, FillFault>
+    requires { filled ≤ length buffer.old }
+    ensures buffer_stays { length buffer.new ≡ length buffer.old }
+    ensures came { IfOk result (λ count. (bytes : List ℕ)
+        × Consumes (R.remaining reader.old) (R.remaining reader.new) bytes
+        × (length bytes ≡ count) × (count ≤ room) × (filled + count ≤ length buffer.old)
+        × (take (filled + count) buffer.new ≡ take filled buffer.old ++ bytes)) }
+    ensures end { IfOk result (λ count. filled + count < length buffer.old → IsAtEnd (R.remaining reader.new)) }
+    ensures fault { IfErr result (λ fault.
+        ReadsSome (R.remaining reader.old) (R.remaining reader.new) (EndsFill room fault)) }
+{
+    let (_, rest) = buffer.split_at_mut(filled);
+    match fill(reader, rest, room) {
+        Ok(count) => Ok(count),
+        Err(fault) => Err(fault),
+    }
+}
+
+/// What is answered where a reader, of which so many bytes came before, was not read on.
+fn error_of(fault: FillFault, file: u64, before: u64) -> EngineError<io::Error>
+    requires small { before ≤ MAX_LENGTH }
+    requires within { (bytes : List ℕ) × EndsFill (MAX_LENGTH - before) fault bytes }
+    ensures { (known : List (Option (List ℕ))) (earlier : List ℕ) (left after : Option (List ℕ)) →
+        file < length known → length earlier ≡ before →
+        Consumes (slice_index_or known file None) left earlier →
+        ReadsSome left after (EndsFill (MAX_LENGTH - before) fault) → IsFaultOfReaders known result }
+{
+    match fault {
+        FillFault::Read { count, fault } => EngineError::Read {
+            file,
+            start: Some(before + count as u64),
+            fault,
+        },
+        FillFault::TooLong => EngineError::StreamTooLong { file },
+    }
+}
+
+/// How many zeros follow a content of so many bytes, where some byte of a later one follows.
+fn zeros_between(kind: Kind, piece_length: u64, count: u64) -> u64
+    requires pieces { IsPlanPieceLength kind piece_length }
+    requires small { count ≤ MAX_LENGTH }
+    ensures { result ≡ zeros_between kind piece_length count }
+{
+    match kind {
+        Kind::Hybrid => count.next_multiple_of(piece_length) - count,
+        _ => 0,
+    }
+}

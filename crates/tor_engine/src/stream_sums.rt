@@ -1,0 +1,183 @@
+//! What the contents of readers sum up to, from what their chunks do.
+ghost use Rattle.std.specs.Prelude.{◌≡◌, ◌*◌, ◌^◌, ◌<◌, ◌≤◌, ℕ, List, None, Some, IfOk, length, map};
+ghost use Rattle.tor_merkle.specs.Block.{leaves};
+ghost use Rattle.tor_merkle.specs.Layer.{IsPieceLength, piece_layer, piece_roots, pieces_root, root_of};
+ghost use Rattle.tor_merkle.specs.declared.TheConstants.{BLOCK_LENGTH};
+ghost use Rattle.tor_merkle.specs.Stack.{padded_subtree};
+ghost use Rattle.tor_plan.specs.PlanFacts.{IsPlanPieceLength};
+ghost use Rattle.tor_engine.specs.Streams.{AreSumsOfContents, IsStreamCut};
+ghost use Rattle.tor_engine.specs.Sums.{lists_of};
+ghost use Rattle.tor_engine.specs.UnitNodes.{node_over};
+ghost use Rattle.tor_engine.specs.steps.ChunkNodes.{AreNodesOf, AreNodesOfOne, IsRunNode, SumUpCuts};
+ghost use Rattle.tor_engine.specs.steps.Run.{HasRoomAt};
+
+use crate::joined::{append, pieces_of_units};
+use crate::sums::{Sums, no_trees};
+use crate::unit_sums::UnitSums;
+use std::alloc::{AllocError, Global};
+use tor_merkle::{BLOCK_LENGTH, Hash, Stack, height_of, layer_subtree, piece_level};
+use tor_tree::Kind;
+
+/// What contents of these lengths sum up to, from what their chunks of `size` bytes do, in order.
+pub(crate) fn sums_of_chunks(
+    alloc: Global,
+    kind: Kind,
+    piece_length: u64,
+    size: u64,
+    lengths: Vec<u64>,
+    chunks: &[UnitSums],
+) -> Result<Sums, AllocError>
+    requires cut { (span : ℕ) × IsStreamCut kind piece_length span × (size ≡ span * piece_length) }
+    requires chunks { (contents : List (List ℕ)) × SumUpCuts kind piece_length size contents lengths.items chunks.now }
+    ensures { (contents : List (List ℕ)) → SumUpCuts kind piece_length size contents lengths.items chunks.now →
+        IfOk result (AreSumsOfContents kind piece_length contents) }
+{
+    let pieces = pieces_of_units(alloc, chunks)?;
+    let (roots, layers) = if kind.has_v2() {
+        trees_of_contents(alloc, piece_length, size, &lengths, chunks)?
+    } else {
+        no_trees(alloc, lengths.len())?
+    };
+    Ok(Sums {
+        lengths,
+        roots,
+        layers,
+        pieces,
+    })
+}
+
+/// The root and the layer of each content.
+fn trees_of_contents(
+    alloc: Global,
+    piece_length: u64,
+    size: u64,
+    lengths: &[u64],
+    chunks: &[UnitSums],
+) -> Result<(Vec<Option<Hash>>, Vec<Vec<Hash>>), AllocError>
+    requires pieces { IsPieceLength piece_length × IsPieceLength size }
+    requires cut { (span : ℕ) × (0 < span) × (size ≡ span * piece_length) }
+    requires chunks { (contents : List (List ℕ)) × AreNodesOf piece_length size contents lengths.now chunks.now }
+    ensures { (contents : List (List ℕ)) → AreNodesOf piece_length size contents lengths.now chunks.now →
+        IfOk result (λ trees. (trees.0.items ≡ map root_of contents)
+        × (lists_of trees.1.items ≡ map (λ content. piece_layer content piece_length) contents)) }
+{
+    let mut roots = Vec::with_capacity(alloc, lengths.len())?;
+    let mut layers = Vec::with_capacity(alloc, lengths.len())?;
+    let mut rest = chunks;
+    'contents: for length in lengths {
+        let count = length.div_ceil(size) as usize;
+        let (own, later) = rest.split_at(count.min(rest.len()));
+        let (root, layer) = tree_of_content(alloc, piece_length, size, *length, own)?;
+        roots.push(root)?;
+        layers.push(layer)?;
+        rest = later;
+    }
+    Ok((roots, layers))
+}
+
+/// The root and the layer of one content.
+fn tree_of_content(
+    alloc: Global,
+    piece_length: u64,
+    size: u64,
+    length: u64,
+    own: &[UnitSums],
+) -> Result<(Option<Hash>, Vec<Hash>), AllocError>
+    requires pieces { IsPieceLength piece_length × IsPieceLength size }
+    requires cut { (span : ℕ) × (0 < span) × (size ≡ span * piece_length) }
+    requires own { (content : List ℕ) × AreNodesOfOne piece_length size content length own.now }
+    ensures { (content : List ℕ) → AreNodesOfOne piece_length size content length own.now →
+        IfOk result (λ tree. (tree.0 ≡ root_of content) × (tree.1.items ≡ piece_layer content piece_length)) }
+{
+    if length > size {
+        let (root, layer) = tree_of_chunks(alloc, piece_length, size, length, own)?;
+        return Ok((Some(root), layer));
+    }
+    if own.len() == 0 {
+        return Ok((None, Vec::new(alloc)));
+    }
+    let one = &own[0];
+    let layer = Vec::from_slice(alloc, &one.layer)?;
+    Ok((Some(one.hash), layer))
+}
+
+/// The root and the layer of a content of several chunks.
+fn tree_of_chunks(
+    alloc: Global,
+    piece_length: u64,
+    size: u64,
+    length: u64,
+    own: &[UnitSums],
+) -> Result<(Hash, Vec<Hash>), AllocError>
+    requires pieces { IsPieceLength piece_length × IsPieceLength size }
+    requires cut { (span : ℕ) × (0 < span) × (size ≡ span * piece_length) }
+    requires several { size < length }
+    requires own { (content : List ℕ) × AreNodesOfOne piece_length size content length own.now }
+    ensures { (content : List ℕ) → AreNodesOfOne piece_length size content length own.now →
+        IfOk result (λ tree. (tree.0 ≡ pieces_root content) × (tree.1.items ≡ piece_layer content piece_length)) }
+{
+    let level = piece_level(size);
+    let mut stack = Stack::new(level);
+    let mut layer = Vec::new(alloc);
+    let mut left = length;
+    'chunks: for one in own {
+        let count = left.min(size);
+        let (hash, hashes) = node_in_tree(alloc, piece_length, level, count, one)?;
+        stack.push(hash);
+        append(&mut layer, hashes)?;
+        left -= count;
+    }
+    Ok((stack.root(), layer))
+}
+
+/// The node that a chunk of so many bytes has at a level of a longer content's tree, and its hashes in the layer.
+fn node_in_tree(
+    alloc: Global,
+    piece_length: u64,
+    level: u32,
+    count: u64,
+    one: &UnitSums,
+) -> Result<(Hash, Vec<Hash>), AllocError>
+    requires pieces { IsPieceLength piece_length }
+    requires room { HasRoomAt piece_length count level }
+    requires one { (run : List ℕ) × IsRunNode piece_length count run one.now }
+    ensures { (run : List ℕ) → IsRunNode piece_length count run one.now →
+        IfOk result (λ node. (node.0, node.1.items) ≡ node_over piece_length (Some level) run) }
+{
+    let below = piece_level(piece_length);
+    let layer = layer_of_chunk(alloc, piece_length, count, one)?;
+    let hash = layer_subtree(&layer, below, level - below);
+    Ok((hash, layer))
+}
+
+/// The hashes that a chunk of so many bytes has in the layer of a longer content.
+fn layer_of_chunk(
+    alloc: Global,
+    piece_length: u64,
+    count: u64,
+    one: &UnitSums,
+) -> Result<Vec<Hash>, AllocError>
+    requires pieces { IsPieceLength piece_length }
+    requires one { (run : List ℕ) × IsRunNode piece_length count run one.now }
+    ensures { (run : List ℕ) → IsRunNode piece_length count run one.now →
+        IfOk result (λ layer. layer.items ≡ piece_roots run piece_length) }
+{
+    if count > piece_length {
+        let layer = Vec::from_slice(alloc, &one.layer)?;
+        return Ok(layer);
+    }
+    let root = widened(&one.hash, count, piece_level(piece_length));
+    Ok(vec![in alloc; root]?)
+}
+
+/// The root of a content of so many bytes, widened by zero leaves to a level.
+fn widened(root: &Hash, count: u64, level: u32) -> Hash
+    requires level { level ≤ 16 }
+    requires some { 0 < count }
+    requires room { count ≤ BLOCK_LENGTH * 2 ^ level }
+    ensures { (content : List ℕ) → length content ≡ count → root.now ≡ pieces_root content →
+        result ≡ padded_subtree level 0 (leaves content) }
+{
+    let height = height_of(count.div_ceil(BLOCK_LENGTH as u64));
+    layer_subtree(&[*root], height, level - height)
+}

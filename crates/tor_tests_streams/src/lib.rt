@@ -1,0 +1,20 @@
+//! The tests of what `tor_engine` does with readers that are read once and in order, in a crate of their own: a crate
+//! with tests is proved twice, and that library is large.
+//!
+//! - `rows.rt`: the sums of small contents, by each number of workers and each cutting of the reads.
+//! - `trees.rt`: roots and layers of contents of several units.
+//! - `faults.rt`: readers that fail; `meets.rt`: how many workers hash at once.
+//!
+//! `shared.rt` has the readers, and how they are hashed.
+#![tactic(auto)]
+
+#[cfg(test)]
+mod faults;
+#[cfg(test)]
+mod meets;
+#[cfg(test)]
+mod rows;
+#[cfg(test)]
+mod shared;
+#[cfg(test)]
+mod trees;
