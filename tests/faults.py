@@ -6,7 +6,7 @@ import re
 import shutil
 import subprocess
 
-from rows import ABC
+from rows import ABC, FOLDER_HYBRID
 from support import Failure, Skipped, Told, done, expect_equal, expect_told, refused
 
 READ = re.compile(r'pread64\(\d+, .*?, (\d+), (\d+)\) += (-?\d+)')
@@ -86,8 +86,7 @@ def test_of_make(program, folder):
 def test_of_recheck(program, folder):
     files = lay_out(folder)
     torrent = folder / 'torrent'
-    torrent.write_bytes(subprocess.run([program, 'make', '--name', 'f', '--kind', 'hybrid', files], check=True,
-                                       capture_output=True).stdout)
+    torrent.write_bytes(FOLDER_HYBRID)
     rows = [(f'statx:error={error}:when=1', 'C1 Read file 1 at length')
             for error in ['EIO', 'EACCES', 'ETIMEDOUT', 'EAGAIN', 'EINTR', 'ELOOP']]
     rows += [(f'pread64:error={error}:when=1', 'C1 Read file 1 at 0')
@@ -188,8 +187,7 @@ def test_pieces_that_are_not_there_are_not_read(program, folder):
     """Of a hybrid of two files, one is too short: not a byte of it is read."""
     files = lay_out(folder)
     torrent = folder / 'torrent'
-    made = subprocess.run([program, 'make', '--name', 'f', '--kind', 'hybrid', files], check=True, capture_output=True)
-    torrent.write_bytes(made.stdout)
+    torrent.write_bytes(FOLDER_HYBRID)
     (files / 'a').write_bytes(b'a')
     told, log = traced(program, ['recheck', torrent, files], files / 'a', [], folder / 'log')
     expect_told(['recheck'], done(b'pieces 1 of 2\nbits 40\n', 1), told)

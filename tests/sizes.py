@@ -289,16 +289,17 @@ def test_padding_over_1_mib(program, folder):
 
 
 def test_64_workers(program, folder):
-    """Of random bytes, by every span: the torrent is the same."""
+    """Of random bytes, in every way of several workers, by every span: the torrent is the same."""
     content = random.Random(6).randbytes((24 << 20) + 321)
     path = folder / 'f'
     path.write_bytes(content)
     for kind in ['v1', 'v2', 'hybrid']:
         wanted = make([((b'f',), content)], order(kind, True))
-        for workers, span in [(64, 1), (64, 16), (63, 4), (33, 1024), (5, 2)]:
-            words = ['make', '--name', 'f', '--kind', kind, '--piece-length', str(BLOCK), '--how', 'halves',
-                     '--workers', str(workers), '--span', str(span), str(path)]
-            expect(program, words, done(wanted))
+        for how in ['halves', 'board']:
+            for workers, span in [(64, 1), (64, 16), (63, 4), (33, 1024), (5, 2)]:
+                words = ['make', '--name', 'f', '--kind', kind, '--piece-length', str(BLOCK), '--how', how,
+                         '--workers', str(workers), '--span', str(span), str(path)]
+                expect(program, words, done(wanted))
 
 
 def test_lengths_past_32_bits(program, folder):
