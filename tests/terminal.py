@@ -8,7 +8,7 @@ import tempfile
 import time
 import tty
 
-from reference import sha256
+from reference import judge, sha256, view_files
 from rows import ABC
 from sizes import ZERO_LEAF, blocks_of, v2_of
 from support import Failure, Skipped, Told, done, expect, expect_equal
@@ -172,6 +172,49 @@ def test_of_a_folder_by_workers(program, folder):
     parts, told = watch(program, ['make', '--name', 'f', '--how', 'halves', '--workers', '3', str(place)])
     expect_equal('status', 0, told.status)
     check_lines(parts, told.err, sum(sizes), ERASED)
+
+
+def test_of_streams(program, folder):
+    """The line has the bytes of all files, though no length is asked to read them."""
+    place = folder / 'files'
+    place.mkdir()
+    sizes = [1 << 30, 0, 3, (1 << 30) + 1]
+    for i, size in enumerate(sizes):
+        sparse(place, size, str(i))
+    parts, told = watch(program, ['make', '--name', 'f', '--how', 'streams', '--workers', '2', str(place)])
+    check_lines(parts, told.err, sum(sizes), ERASED)
+    expect_equal('status', 0, told.status)
+
+
+def test_of_a_stream_that_cannot_be_read_on(program, folder):
+    """A file that goes away before its turn: the line is gone before the fault is told, and no torrent is made."""
+    place = folder / 'files'
+    place.mkdir()
+    size = 6 << 30
+    sparse(place, size, 'a')
+    (place / 'b').write_bytes(b'five5')
+    words = ['make', '--name', 'f', '--how', 'streams', '--workers', '2', str(place)]
+    parts, told = watch(program, words, meanwhile=(place / 'b').unlink)
+    expect_equal('status and output', (3, b''), (told.status, told.out))
+    check_lines(parts, told.err, size + 5, ERASED + b'tor: E1 Read file 1 at 0\n')
+
+
+def test_of_a_stream_that_shrinks_or_grows(program, folder):
+    """It is just what was read, though the line tells of the length that it had first."""
+    size = 4 << 30
+    words = ['make', '--name', 'f', '--piece-length', '1048576', '--how', 'streams', '--workers', '2']
+    path = sparse(folder, size)
+    parts, told = watch(program, [*words, path], meanwhile=lambda: os.truncate(path, 5))
+    expect_equal('status', 0, told.status)
+    check_lines(parts, told.err, size, ERASED)
+    length = view_files(judge(told.out))[0].length
+    expect_equal(f'the torrent of the {length} bytes that were read', True,
+                 0 < length <= size and told.out == torrent_of_zeros(length, 1 << 20))
+    path = sparse(folder, size)
+    _, told = watch(program, [*words, path], meanwhile=lambda: os.truncate(path, size + 12345))
+    expect_equal('status', 0, told.status)
+    expect_equal('the torrent of a file that has grown', True,
+                 told.out == torrent_of_zeros(size + 12345, 1 << 20))
 
 
 def test_only_on_standard_error(program, folder):
