@@ -145,10 +145,11 @@ def expect_read_once(words, calls, lengths):
     expect_equal(f'{words}: the turns of files', list(lengths), [name for name, _ in turns])
     for name, turn in turns:
         reads = [call for call in turn if call.name == 'read']
+        small = [call for call in reads if call.asked < 65536 and call.came > 3]
+        if small:
+            raise Failure(f'{words}\nwanted  of {name} at least 65536 at a time\ncame    {small[:9]}')
         expect_equal(f'{words}: calls upon {name}', ['statx', 'openat', *['read'] * len(reads), 'close'],
                      [call.name for call in turn])
-        if [call for call in reads if call.asked < 65536 and call.came > 3]:
-            raise Failure(f'{words}\nwanted  of {name} at least 65536 at a time\ncame    {reads}')
         expect_equal(f'{words}: bytes of {name}, and of its last read', (lengths[name], 0),
                      (sum(call.came for call in reads), reads[-1].came))
 
