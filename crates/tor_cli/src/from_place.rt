@@ -150,9 +150,8 @@ fn counted_readers<'a>(
         progress.ask_lengths(&found.source);
     }
     let files = found.source.readers()?;
-    let mut readers = Vec::with_capacity(alloc, files.len())?;
-    'files: for reader in files {
-        readers.push(CountedReader { reader, progress })?;
-    }
-    Ok(readers)
+    files
+        .into_iter()
+        .map(|reader| CountedReader { reader, progress })
+        .collect(alloc)
 }

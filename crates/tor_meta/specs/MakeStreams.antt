@@ -53,10 +53,10 @@ stream_refusal order paths =
 abbrev pub files_with : ListOf (ListOf (ListOf ℕ)) → ListOf (ListOf ℕ) → ListOf File
 files_with paths contents = map (λ file. record { path = file.0; content = file.1 }) (zip paths contents)
 
--- the bytes are the torrent of what readers give, each to its end
+-- the bytes are the torrent of what readers give, each to its end, which is not too large together
 abbrev pub IsMadeOfReaders : Settings → ListOf (ListOf (ListOf ℕ)) → ListOf (Option (ListOf ℕ)) → ListOf ℕ → Type 0
 IsMadeOfReaders settings paths known bytes =
-    (contents : ListOf (ListOf ℕ)) × GiveContents known contents
+    (contents : ListOf (ListOf ℕ)) × GiveContents known contents × (lengths_fault (map length contents) ≡ None)
     × (bytes ≡ metainfo settings (files_with paths contents))
 
 -- what is answered of readers they gave: a fault of one, after as many bytes as it gave, or more bytes than a file may

@@ -155,6 +155,7 @@ fn with_lengths(
     requires { length lengths.now ≡ length paths }
     ensures list { (names : List (List (List ℕ))) → paths ≡ with_indices names →
         IfOk result (λ list. list ≡ zip names lengths.now) }
+    ensures accepted { OnOk result (lengths_fault lengths.now ≡ None) }
     ensures refused { IfErr result (λ refusal. (refusal ≡ ContentsError.Memory)
         ⊎ ((refusal ≡ ContentsError.List ListError.TooLarge) × (lengths_fault lengths.now ≡ Some ListError.TooLarge))) }
 {

@@ -1,25 +1,17 @@
 -- what was read, in the order of the paths
-use Rattle.std.proofs.Common.{◌≡◌, ◌∙◌, ℕ, List, Option, None, Some, inl, inr, length, map, get_or, ap, sym, subst}
+use Rattle.std.proofs.Common.{◌≡◌, ◌∙◌, Some, length, map, ap, sym, subst}
 use Rattle.std.proofs.lemmas.List.{length-map}
-use Rattle.std.specs.List.{zip}
 use Rattle.std.specs.declared.io.Error.{Error}
-use Rattle.tor_engine.specs.Streams.{AreSumsOfContents, GiveContents, GivesWhole}
+use Rattle.tor_engine.specs.Streams.{GivesWhole}
 use Rattle.tor_meta.specs.Contents.{files_of}
-use Rattle.tor_meta.specs.Head.{settings_of}
-use Rattle.tor_meta.specs.MakeError.{of_contents_error}
-use Rattle.tor_meta.specs.MakeStreams.{IsGivenByReaders, files_with}
+use Rattle.tor_meta.specs.MakeStreams.{IsGivenByReaders}
 use Rattle.tor_meta.specs.Order.{settings_of_order}
-use Rattle.tor_meta.specs.steps.Sums.{IsJudged, SumUp}
-use Rattle.tor_meta.specs.Refusal.{paths_refusal}
 use Rattle.tor_meta.proofs.ContentSteps.{have_trees}
-use Rattle.tor_meta.proofs.Made.{judged_list}
 use Rattle.tor_meta.proofs.Refused.{given_by_readers_or_not, stream_numbers, stream_paths, stream_rising}
 use Rattle.tor_meta.proofs.RisingPaths.{sorted_from_rising}
-use Rattle.tor_meta.proofs.StreamSums.{files_listed, given_large, known_long, lengths_read, listed, made_in_order}
-use Rattle.tor_meta.proofs.StreamSums.{plan_pieces, sum_up}
+use Rattle.tor_meta.proofs.StreamSums.{given_large, known_long, lengths_read, listed, made_in_order, plan_pieces}
 use Rattle.tor_spec.specs.Metainfo.{metainfo}
-use Rattle.tor_spec.specs.Settings.{Settings}
-use Rattle.tor_tree.specs.FileList.{IsFileList, lengths_of}
+use Rattle.tor_tree.specs.FileList.{lengths_fault}
 use Rattle.tor_meta.proofs.from_streams.make_streams.Goals as goal
 
 pub returns-in-Err-clause-gave : goal.returns-in-Err-clause-gave
@@ -127,6 +119,9 @@ returns-clause-whole g c =
     let list = c.in-Ok-with_lengths.list in (
       summed.contents,
       summed.given,
+      ap lengths_fault (sym (c.deref.ensures.value
+          ∙ lengths_read order.kind order.piece_length summed.contents c.in-Ok-read.sums summed.sums_up))
+          ∙ c.in-Ok-with_lengths.ensures.accepted,
       c.in_ok-bytes.ensures.made summed.contents is.fit is.up
           ∙ ap (λ settings. metainfo settings (files_of list summed.contents)) c.in_ok-head.ensures
           ∙ ap (metainfo (settings_of_order order)) is.files,
