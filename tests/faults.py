@@ -2,18 +2,26 @@
 
 What the program asks is looked at too: which bytes it reads, how many at once, and what it asks before it refuses.
 """
+import itertools
+import os
 import re
 import shutil
 import subprocess
+from collections import namedtuple
 
-from rows import ABC
+from reference import BLOCK, Order, make
+from rows import ABC, FOLDER_HYBRID
 from support import Failure, Skipped, Told, done, expect_equal, expect_told, refused
 
 READ = re.compile(r'pread64\(\d+, .*?, (\d+), (\d+)\) += (-?\d+)')
+# A call upon a file, which is named by its place, or by its descriptor, behind which `strace -y` tells the place.
+CALL = re.compile(r'^(\w+)\((?:AT_FDCWD(?:<[^>]*>)?, "([^"]*)"|\d+<([^>]*)>).*?(?:, (\d+))?\) += (-?\d+)', re.M)
+Call = namedtuple('Call', 'name file asked came')
 
 
 def traced(program, words, place, inject, log, data=b'', trace='all'):
-    """Runs the program with a fault in the calls upon one place: what came, and the log of such calls."""
+    """Runs the program with a fault in the calls upon one place, or upon any in a list: what came, and the log of such
+    calls."""
     strace = shutil.which('strace')
     if not strace:
         raise Skipped('it needs strace')
@@ -21,7 +29,10 @@ def traced(program, words, place, inject, log, data=b'', trace='all'):
         old.unlink()
     # Each thread has a log of its own, so that no line of one is cut by another's.
     command = [strace, '-qq', '-ff', '-s', '8', '-o', str(log), '-e', f'trace={trace}']
-    command += ['-P', str(place)] if place else []
+    if isinstance(place, list):
+        command += ['-y'] + [word for one in place for word in ('-P', str(one))]
+    else:
+        command += ['-P', str(place)]
     for one in inject:
         command += ['-e', f'inject={one}']
     done_run = subprocess.run(command + [program, *map(str, words)], input=data, capture_output=True, timeout=100,
@@ -83,11 +94,115 @@ def test_of_make(program, folder):
         ('getdents64:error=EIO:when=2', 'F4 System')])
 
 
+def test_of_streams(program, folder):
+    """A file that is read once is opened when its turn comes: what cannot be, and what cannot be read, is told with how
+    much of it came."""
+    files = lay_out(folder)
+    rows = [(f'statx:error={error}:when=1', 'F4 System') for error in ['EIO', 'EACCES', 'ENOENT']]
+    rows += [(f'statx:error={error}:when=2', 'E1 Read file 1 at 0')
+             for error in ['EIO', 'EACCES', 'ENOENT', 'ENOTDIR', 'ETIMEDOUT', 'EINTR', 'ELOOP']]
+    rows += [(f'openat:error={error}:when=1', 'E1 Read file 1 at 0')
+             for error in ['EACCES', 'EMFILE', 'ENOENT', 'ETIMEDOUT']]
+    rows += [(f'read:error={error}:when={when}', f'E1 Read file 1 at {when - 1}')
+             for error in ['EIO', 'EAGAIN', 'EINTR', 'ETIMEDOUT', 'EISDIR'] for when in [1, 2]]
+    for more in [[], ['--workers', '2', '--span', '1'], ['--kind', 'v1'], ['--kind', 'hybrid', '--workers', '64']]:
+        out = folder / 'out'
+        out.write_bytes(b'old')
+        words = ['make', '--name', 'f', '--how', 'streams', *more, '--out', out, files]
+        expect_faults(program, folder, words, files / 'b', rows)
+        expect_equal('the old file', b'old', out.read_bytes())
+
+
+def test_a_file_that_shrinks_is_what_was_read(program, folder):
+    """Of a stream no length is asked first: a file whose first read gives nothing is empty."""
+    files = lay_out(folder)
+    words = ['make', '--name', 'f', '--piece-length', str(BLOCK), '--how', 'streams', str(files), '--kind']
+    for kind in ['v1', 'v2', 'hybrid']:
+        for empty in ['a', 'b']:
+            told, _ = traced(program, [*words, kind], files / empty, ['read:retval=0:when=1'], folder / 'log')
+            contents = [((name.encode(),), data * (name != empty)) for name, data in [('a', b'ab'), ('b', b'c')]]
+            wanted = make(contents, Order(kind, False, b'f', BLOCK, None, False, 'streams', 1, 16))
+            expect_told([*words, kind], done(wanted), told, f'where {empty} has shrunk\n')
+
+
+def calls_upon(folder):
+    """The calls of each thread that asked something of the files: a list for each such thread."""
+    threads = []
+    for log in folder.glob('log*'):
+        found = CALL.findall(log.read_text(errors='replace'))
+        if found:
+            threads.append([Call(name, os.path.basename(place or opened), int(asked or 0), int(came))
+                            for name, place, opened, asked, came in found])
+    return threads
+
+
+def expect_read_once(words, calls, lengths):
+    """That these files were found, and then file after file opened, each byte of it read once, at least 64 KiB at a
+    time where there are so many, and closed. The one question before it is opened is what it is."""
+    expect_equal(f'{words}: what is asked to find the files', [('statx', name) for name in lengths],
+                 [(call.name, call.file) for call in calls[:len(lengths)]])
+    turns = [(name, list(turn)) for name, turn in itertools.groupby(calls[len(lengths):], lambda call: call.file)]
+    expect_equal(f'{words}: the turns of files', list(lengths), [name for name, _ in turns])
+    for name, turn in turns:
+        reads = [call for call in turn if call.name == 'read']
+        expect_equal(f'{words}: calls upon {name}', ['statx', 'openat', *['read'] * len(reads), 'close'],
+                     [call.name for call in turn])
+        if [call for call in reads if call.asked < 65536 and call.came > 3]:
+            raise Failure(f'{words}\nwanted  of {name} at least 65536 at a time\ncame    {reads}')
+        expect_equal(f'{words}: bytes of {name}, and of its last read', (lengths[name], 0),
+                     (sum(call.came for call in reads), reads[-1].came))
+
+
+def expect_streams(program, folder, lengths, path):
+    """Makes torrents of these files by workers behind a stream, whose calls upon them are looked at."""
+    for more in [[], ['--kind', 'v1'], ['--kind', 'hybrid'], ['--workers', '3', '--span', '1']]:
+        words = ['make', '--name', 'f', '--how', 'streams', *more, str(path)]
+        places = [path] if path.is_file() else [path / name for name in lengths]
+        told, _ = traced(program, words, places, [], folder / 'log')
+        expect_equal(f'{words}: status', 0, told.status)
+        threads = calls_upon(folder)
+        expect_equal(f'{words}: threads that read', 1, len(threads))
+        expect_read_once(words, threads[0], lengths)
+
+
+def test_reads_of_a_stream(program, folder):
+    (folder / 'large').write_bytes(bytes(5 << 20) + b'end')
+    expect_streams(program, folder, {'large': (5 << 20) + 3}, folder / 'large')
+
+
+def test_streams_are_read_in_order(program, folder):
+    """By one thread, whatever the number of workers: at most one file is open, and none is read twice."""
+    lengths = {'a': 2, 'b': 0, 'c': (5 << 20) + 3, 'd': 1, 'e': 400_000}
+    files = folder / 'files'
+    files.mkdir()
+    for name, length in lengths.items():
+        (files / name).write_bytes(bytes(length))
+    expect_streams(program, folder, lengths, files)
+
+
+def test_a_fault_ends_a_stream(program, folder):
+    """It is told with the bytes that came; nothing is read after it, and no later file is opened."""
+    files = folder / 'files'
+    files.mkdir()
+    for name, length in [('a', 2), ('b', 400_000), ('c', 1)]:
+        (files / name).write_bytes(bytes(length))
+    places = [files / name for name in 'abc']
+    # Two reads of a: its bytes, and its end. In version 1 its bytes stand before those of b in one unit.
+    for kind, start in [('v1', 2 * 65536 - 2), ('v2', 2 * 65536), ('hybrid', 2 * 65536)]:
+        for workers in ['1', '2', '64']:
+            words = ['make', '--name', 'f', '--kind', kind, '--piece-length', str(BLOCK), '--span', '4', '--how',
+                     'streams', '--workers', workers, str(files)]
+            told, _ = traced(program, words, places, ['read:error=EIO:when=5'], folder / 'log')
+            expect_told(words, refused(f'E1 Read file 1 at {start}', 3), told)
+            calls = [(call.name, call.file) for thread in calls_upon(folder) for call in thread]
+            wanted = [('statx', 'b'), ('openat', 'b'), *[('read', 'b')] * 3, ('close', 'b')]
+            expect_equal(f'{words}: the last calls', wanted, calls[-6:])
+
+
 def test_of_recheck(program, folder):
     files = lay_out(folder)
     torrent = folder / 'torrent'
-    torrent.write_bytes(subprocess.run([program, 'make', '--name', 'f', '--kind', 'hybrid', files], check=True,
-                                       capture_output=True).stdout)
+    torrent.write_bytes(FOLDER_HYBRID)
     rows = [(f'statx:error={error}:when=1', 'C1 Read file 1 at length')
             for error in ['EIO', 'EACCES', 'ETIMEDOUT', 'EAGAIN', 'EINTR', 'ELOOP']]
     rows += [(f'pread64:error={error}:when=1', 'C1 Read file 1 at 0')
@@ -171,7 +286,8 @@ def test_what_is_asked_before_a_refusal(program, folder):
     """A refusal of the order comes before a file's length is asked: it is asked once, as it is found."""
     files = lay_out(folder)
     for words in [['--piece-length', '5'], ['--how', 'halves', '--workers', '65'], ['--span', '3'],
-                  ['--how', 'board', '--workers', '65']]:
+                  ['--how', 'board', '--workers', '65'], ['--how', 'streams', '--workers', '65'],
+                  ['--how', 'streams', '--piece-length', '1073741824']]:
         words = ['make', '--name', 'f', *words, files]
         _, log = traced(program, words, files / 'a', [], folder / 'log')
         expect_equal(f'{words}: calls upon a file', 1, len(log.splitlines()))
@@ -188,8 +304,7 @@ def test_pieces_that_are_not_there_are_not_read(program, folder):
     """Of a hybrid of two files, one is too short: not a byte of it is read."""
     files = lay_out(folder)
     torrent = folder / 'torrent'
-    made = subprocess.run([program, 'make', '--name', 'f', '--kind', 'hybrid', files], check=True, capture_output=True)
-    torrent.write_bytes(made.stdout)
+    torrent.write_bytes(FOLDER_HYBRID)
     (files / 'a').write_bytes(b'a')
     told, log = traced(program, ['recheck', torrent, files], files / 'a', [], folder / 'log')
     expect_told(['recheck'], done(b'pieces 1 of 2\nbits 40\n', 1), told)

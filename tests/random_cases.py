@@ -17,6 +17,9 @@ NAMES = ['a', 'b', 'c', 'A', 'a-b', 'a b', ' a ', '-x', '.a', '...', 'é', '中�
          '\x1b[0m', 'a.', '%', '\u00c5', 'A\u030a', 'z' * 255, '\u00ff', '~', '*', '"', "'", '0', '00', '10', '9',
          'pad', 'piece layers']
 KINDS = ['v1', 'v2', 'hybrid']
+HOWS = ['one', 'halves', 'board', 'streams']
+# The longest unit of a stream that is not refused.
+MOST_HELD = 1 << 25
 
 
 def run_cases(program, folder, seed, seconds):
@@ -145,13 +148,15 @@ def random_order(rng, single):
         workers = rng.choice([0, 65, 100, (1 << 32) - 1])
     if rng.random() < 0.04:
         span = rng.choice([0, 3, 1025, 2048, (1 << 32) - 1])
-    kind = rng.choice(KINDS)
+    kind, how = rng.choice(KINDS), rng.choice(HOWS)
     if kind == 'hybrid' and not single and piece_length == 1 << 30:
         # Each file would have padding of a GiB.
         piece_length = 1 << 22
+    if how == 'streams' and MOST_HELD < span * piece_length <= reference.MAX_UNIT_LENGTH:
+        # Units are held whole, and several cases run side by side.
+        piece_length, span = BLOCK, 1024
     announce = rng.choice([None, None, b'', b'http://t/', 'http://ü/ a'.encode(), b'x' * 3000])
-    return Order(kind, single, name, piece_length, announce, rng.random() < 0.3,
-                 rng.choice(['one', 'halves', 'board']), workers, span)
+    return Order(kind, single, name, piece_length, announce, rng.random() < 0.3, how, workers, span)
 
 
 def words_of(rng, order, *arguments):
@@ -234,7 +239,9 @@ def case_of_input(rng, program, place):
     """Standard input is made into a torrent."""
     order = random_order(rng, True)
     data = random_content(rng, random_length(rng, min(order.piece_length, 1 << 20), 5 << 20), [])
-    wanted = made([((order.name,), data)], order)
+    # Nothing of it goes through a stream, so that its units may be longer.
+    judged = order._replace(how='board') if order.how == 'streams' else order
+    wanted = made([((order.name,), data)], judged)
     torrent = make_out(rng, program, place, words_of(rng, order), wanted, data)
     if torrent is not None:
         tell(rng, program, place, torrent)

@@ -10,6 +10,7 @@ from functools import cached_property
 
 BLOCK = 16384
 MAX_PIECE_LENGTH = 1 << 30
+MAX_UNIT_LENGTH = 1 << 30
 MAX_FILE_LENGTH = 1 << 50
 MAX_TOTAL = 1 << 62
 MAX_NESTING = 100
@@ -246,6 +247,9 @@ def order_fault(order, paths):
     if order.how != 'one' and not 1 <= order.workers <= 64:
         return 'M2'
     if not is_power(order.span, 1, 1024):
+        return 'M3'
+    # A unit that goes through a stream is held whole.
+    if order.how == 'streams' and order.span * order.piece_length > MAX_UNIT_LENGTH:
         return 'M3'
     if not paths:
         return 'L4'

@@ -65,30 +65,67 @@ def test_v2_over_4_gib(program, folder):
     """Made and rechecked in pieces of 1 MiB: 4,097 of them, the last beyond 32 bits."""
     path = sparse(folder / 'f', LENGTH, MARKS)
     text, _, _ = v2_of(LENGTH, blocks_of(LENGTH, MARKS, ZERO_LEAF, sha256), 1 << 20)
-    words = ['make', '--name', 'f', '--piece-length', str(1 << 20), '--how', 'halves', '--workers', '2']
+    words = ['make', '--name', 'f', '--piece-length', str(1 << 20), '--workers', '2', '--how']
     torrent = folder / 'torrent'
-    expect(program, [*words, '--out', str(torrent), path], done())
-    expect_equal('the torrent', True, torrent.read_bytes() == text)
+    for how in ['halves', 'streams']:
+        expect(program, [*words, how, '--out', str(torrent), path], done())
+        expect_equal(f'the torrent by {how}', True, torrent.read_bytes() == text)
     # The byte past 32 bits is turned: its piece alone is wrong.
     sparse(folder / 'f', LENGTH, MARKS[:4] + [(4 * GIB + 20000, b'hiGh'), MARKS[5]])
     expect(program, ['recheck', str(torrent), path], done(b'pieces 4096 of 4097\nbits ' + b'ff' * 512 + b'00\n', 1))
 
 
+AFTER = b'after it'
+
+
+def pair_over_4_gib(kind):
+    """The torrent of a folder of such a file and a short one after it, in pieces of a block: 262,147 of the first."""
+    info = {b'name': b'f', b'piece length': BLOCK}
+    root = {b'info': info}
+    if kind != 'v1':
+        layer = blocks_of(LENGTH, MARKS, ZERO_LEAF, sha256)
+        info[b'meta version'] = 2
+        info[b'file tree'] = {b'a': {b'': {b'length': LENGTH, b'pieces root': root_of(layer)}},
+                              b'b': {b'': {b'length': len(AFTER), b'pieces root': sha256(AFTER)}}}
+        root[b'piece layers'] = {root_of(layer): b''.join(layer)}
+    if kind != 'v2':
+        lacking = -LENGTH % BLOCK if kind == 'hybrid' else 0
+        padding = {b'attr': b'p', b'length': lacking, b'path': [b'.pad', b'%d' % lacking]}
+        info[b'files'] = [{b'length': LENGTH, b'path': [b'a']}] + [padding] * (lacking > 0) \
+            + [{b'length': len(AFTER), b'path': [b'b']}]
+        start = LENGTH + lacking
+        info[b'pieces'] = b''.join(blocks_of(start + len(AFTER), MARKS + [(start, AFTER)], ZERO_PIECE, sha1))
+    return encode(root)
+
+
+def lay_out_pair(place):
+    place.mkdir()
+    sparse(place / 'a', LENGTH, MARKS)
+    (place / 'b').write_bytes(AFTER)
+
+
 def test_v1_over_4_gib(program, folder):
     """A folder whose first file ends beyond 32 bits, in 262,147 pieces and as many units."""
     place = folder / 'files'
-    place.mkdir()
-    sparse(place / 'a', LENGTH, MARKS)
-    (place / 'b').write_bytes(b'after it')
-    whole = blocks_of(LENGTH + 8, MARKS + [(LENGTH, b'after it')], ZERO_PIECE, sha1)
-    info = {b'files': [{b'length': LENGTH, b'path': [b'a']}, {b'length': 8, b'path': [b'b']}], b'name': b'f',
-            b'piece length': BLOCK, b'pieces': b''.join(whole)}
+    lay_out_pair(place)
     torrent = folder / 'torrent'
     words = ['make', '--name', 'f', '--kind', 'v1', '--piece-length', str(BLOCK), '--span', '1', '--how', 'halves',
              '--workers', '2', '--out', str(torrent), str(place)]
     expect(program, words, done())
-    expect_equal('the torrent', True, torrent.read_bytes() == encode({b'info': info}))
+    expect_equal('the torrent', True, torrent.read_bytes() == pair_over_4_gib('v1'))
     expect(program, ['check', str(torrent)], wanted_lines(torrent.read_bytes()))
+
+
+def test_streams_over_4_gib(program, folder):
+    """The same folder read once, of each kind, in units of one piece, of 16, and of 1,024."""
+    place = folder / 'files'
+    lay_out_pair(place)
+    torrent = folder / 'torrent'
+    for kind, span in [('v1', 1), ('v2', 16), ('hybrid', 1024)]:
+        words = ['make', '--name', 'f', '--kind', kind, '--piece-length', str(BLOCK), '--span', str(span),
+                 '--how', 'streams', '--workers', '3', '--out', str(torrent), str(place)]
+        expect(program, words, done())
+        expect_equal(f'the {kind} torrent', True, torrent.read_bytes() == pair_over_4_gib(kind))
 
 
 def test_recheck_past_262144_pieces(program, folder):
@@ -167,6 +204,26 @@ def test_pieces_of_1_gib(program, folder):
     expect(program, ['recheck', str(torrent), path], done(b'pieces 1 of 2\nbits 80\n', 1))
 
 
+def free_memory():
+    """How many bytes of memory the system has left."""
+    with open('/proc/meminfo', encoding='ascii') as file:
+        return next(int(line.split()[1]) << 10 for line in file if line.startswith('MemAvailable'))
+
+
+def test_units_of_1_gib(program, folder):
+    """The largest units of a stream, of one piece and of 1,024, which are held whole; larger ones are refused."""
+    if free_memory() < 5 * GIB:
+        raise Skipped('it needs 5 GiB of memory')
+    length, marks = GIB + 1, [(GIB - 1, b'xy')]
+    path = sparse(folder / 'f', length, marks)
+    blocks = blocks_of(length, marks, ZERO_LEAF, sha256)
+    words = ['make', '--name', 'f', '--how', 'streams', '--piece-length']
+    for p, span in [(GIB, 1), (1 << 20, 1024)]:
+        expect(program, [*words, str(p), '--span', str(span), path], done(v2_of(length, blocks, p)[0]))
+    for p, span in [(GIB, 2), (GIB, 16), (GIB, 1024), (1 << 21, 1024), (1 << 29, 4)]:
+        expect(program, [*words, str(p), '--span', str(span), path], refused('M3 Span'))
+
+
 def crowd(count):
     """Paths of so many files in a few folders, some under names of 255 bytes."""
     paths = [(b'%06d' % i,) if i % 7 else (b'%06d' % i + b'n' * 249,) for i in range(count - 100)]
@@ -187,11 +244,11 @@ def test_folder_of_70000_names(program, folder):
         with open(os.path.join(os.fsencode(place), *path), 'wb') as file:
             file.write(content)
     torrent = folder / 'torrent'
-    words = ['make', '--name', 'f', '--kind', 'hybrid', '--piece-length', str(BLOCK), '--how', 'halves',
-             '--workers', '2']
+    words = ['make', '--name', 'f', '--kind', 'hybrid', '--piece-length', str(BLOCK), '--workers', '2', '--how']
     wanted = make(files, order('hybrid', False))
-    expect(program, [*words, '--out', str(torrent), str(place)], done())
-    expect_equal('the torrent', True, torrent.read_bytes() == wanted)
+    for how in ['halves', 'streams']:
+        expect(program, [*words, how, '--out', str(torrent), str(place)], done())
+        expect_equal(f'the torrent by {how}', True, torrent.read_bytes() == wanted)
     lines = reference.recheck_lines([True] * 70)
     expect(program, ['recheck', str(torrent), str(place)], done(lines))
     expect(program, ['check', str(torrent)], wanted_lines(wanted))
@@ -271,7 +328,7 @@ def test_padding_over_1_mib(program, folder):
         (place / name.decode()).write_bytes(content)
     torrent = folder / 'torrent'
     wanted = make(files, order('hybrid', False, 1 << 22))
-    for how in ['one', 'halves']:
+    for how in ['one', 'halves', 'board', 'streams']:
         words = ['make', '--name', 'f', '--kind', 'hybrid', '--piece-length', str(1 << 22), '--how', how,
                  '--workers', '3']
         expect(program, [*words, str(place)], done(wanted))
@@ -289,16 +346,17 @@ def test_padding_over_1_mib(program, folder):
 
 
 def test_64_workers(program, folder):
-    """Of random bytes, by every span: the torrent is the same."""
+    """Of random bytes, in every way of several workers, by every span: the torrent is the same."""
     content = random.Random(6).randbytes((24 << 20) + 321)
     path = folder / 'f'
     path.write_bytes(content)
     for kind in ['v1', 'v2', 'hybrid']:
         wanted = make([((b'f',), content)], order(kind, True))
-        for workers, span in [(64, 1), (64, 16), (63, 4), (33, 1024), (5, 2)]:
-            words = ['make', '--name', 'f', '--kind', kind, '--piece-length', str(BLOCK), '--how', 'halves',
-                     '--workers', str(workers), '--span', str(span), str(path)]
-            expect(program, words, done(wanted))
+        for how in ['halves', 'board', 'streams']:
+            for workers, span in [(64, 1), (64, 16), (63, 4), (33, 1024), (5, 2)]:
+                words = ['make', '--name', 'f', '--kind', kind, '--piece-length', str(BLOCK), '--how', how,
+                         '--workers', str(workers), '--span', str(span), str(path)]
+                expect(program, words, done(wanted))
 
 
 def test_lengths_past_32_bits(program, folder):
@@ -352,10 +410,10 @@ def test_lengths_about_powers_of_two(program, folder):
         for length in [(1 << power) - 1, 1 << power, (1 << power) + 1]:
             content = rng.randbytes(length)
             place.write_bytes(content)
-            for kind in ['v1', 'v2']:
+            for kind, how in [('v1', 'one'), ('v2', 'one'), ('v1', 'streams'), ('v2', 'streams')]:
                 wanted = make([((b'f',), content)], order(kind, True))
-                expect(program, ['make', '--name', 'f', '--kind', kind, '--piece-length', str(BLOCK), str(place)],
-                       done(wanted))
+                words = ['make', '--name', 'f', '--kind', kind, '--piece-length', str(BLOCK), '--how', how, str(place)]
+                expect(program, words, done(wanted))
             text = torrent_of_length(length)
             expect_equal('the torrent\'s length', length, len(text))
             torrent.write_bytes(text)

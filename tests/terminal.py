@@ -8,7 +8,10 @@ import tempfile
 import time
 import tty
 
-from support import Failure, Skipped, Told, done, expect, expect_equal, run
+from reference import judge, sha256, view_files
+from rows import ABC
+from sizes import ZERO_LEAF, blocks_of, v2_of
+from support import Failure, Skipped, Told, done, expect, expect_equal
 
 UNITS = {'B': 1, 'KiB': 1 << 10, 'MiB': 1 << 20, 'GiB': 1 << 30, 'TiB': 1 << 40}
 AMOUNT = rb'(?:(\d+) B|(\d+\.\d) (KiB|MiB|GiB|TiB))'
@@ -136,17 +139,22 @@ def sparse(folder, size, name='sparse'):
 SIZE = (2 << 30) + 12345
 
 
+def torrent_of_zeros(size, piece_length):
+    """The v2 torrent of one file f of so many zeros."""
+    return v2_of(size, blocks_of(size, [], ZERO_LEAF, sha256), piece_length)[0]
+
+
 def test_make_and_recheck_show_it(program, folder):
     path = sparse(folder, SIZE)
-    words = ['make', '--name', 'a', '--piece-length', '1048576', path]
-    quiet = run(program, words)
-    expect_equal('status and standard error without a terminal', (0, b''), (quiet.status, quiet.err))
+    words = ['make', '--name', 'f', '--piece-length', '1048576', path]
+    made = torrent_of_zeros(SIZE, 1 << 20)
+    expect(program, words, done(made), note='without a terminal\n')
     parts, told = watch(program, words)
     expect_equal('status', 0, told.status)
-    expect_equal('the torrent on standard output', quiet.out, told.out)
+    expect_equal('the torrent on standard output', True, told.out == made)
     check_lines(parts, told.err, SIZE, ERASED)
     torrent = folder / 'torrent'
-    torrent.write_bytes(quiet.out)
+    torrent.write_bytes(made)
     words = ['recheck', str(torrent), path]
     wanted = b'pieces 2049 of 2049\nbits ' + b'ff' * 256 + b'80\n'
     parts, told = watch(program, words)
@@ -166,12 +174,55 @@ def test_of_a_folder_by_workers(program, folder):
     check_lines(parts, told.err, sum(sizes), ERASED)
 
 
+def test_of_streams(program, folder):
+    """The line has the bytes of all files, though no length is asked to read them."""
+    place = folder / 'files'
+    place.mkdir()
+    sizes = [1 << 30, 0, 3, (1 << 30) + 1]
+    for i, size in enumerate(sizes):
+        sparse(place, size, str(i))
+    parts, told = watch(program, ['make', '--name', 'f', '--how', 'streams', '--workers', '2', str(place)])
+    check_lines(parts, told.err, sum(sizes), ERASED)
+    expect_equal('status', 0, told.status)
+
+
+def test_of_a_stream_that_cannot_be_read_on(program, folder):
+    """A file that goes away before its turn: the line is gone before the fault is told, and no torrent is made."""
+    place = folder / 'files'
+    place.mkdir()
+    size = 6 << 30
+    sparse(place, size, 'a')
+    (place / 'b').write_bytes(b'five5')
+    words = ['make', '--name', 'f', '--how', 'streams', '--workers', '2', str(place)]
+    parts, told = watch(program, words, meanwhile=(place / 'b').unlink)
+    expect_equal('status and output', (3, b''), (told.status, told.out))
+    check_lines(parts, told.err, size + 5, ERASED + b'tor: E1 Read file 1 at 0\n')
+
+
+def test_of_a_stream_that_shrinks_or_grows(program, folder):
+    """It is just what was read, though the line tells of the length that it had first."""
+    size = 4 << 30
+    words = ['make', '--name', 'f', '--piece-length', '1048576', '--how', 'streams', '--workers', '2']
+    path = sparse(folder, size)
+    parts, told = watch(program, [*words, path], meanwhile=lambda: os.truncate(path, 5))
+    expect_equal('status', 0, told.status)
+    check_lines(parts, told.err, size, ERASED)
+    length = view_files(judge(told.out))[0].length
+    expect_equal(f'the torrent of the {length} bytes that were read', True,
+                 0 < length <= size and told.out == torrent_of_zeros(length, 1 << 20))
+    path = sparse(folder, size)
+    _, told = watch(program, [*words, path], meanwhile=lambda: os.truncate(path, size + 12345))
+    expect_equal('status', 0, told.status)
+    expect_equal('the torrent of a file that has grown', True,
+                 told.out == torrent_of_zeros(size + 12345, 1 << 20))
+
+
 def test_only_on_standard_error(program, folder):
     """Not a byte comes where the input and the output are terminals, and standard error is none."""
     path = sparse(folder, 1 << 30)
-    wanted = run(program, ['make', '--name', 'a', path]).out
-    for words, torrent in [(['make', '--name', 'a', path], wanted),
-                           (['make', '--name', 'a', '--out', str(folder / 't'), path], b'')]:
+    made = torrent_of_zeros(1 << 30, 1 << 20)
+    for more, torrent in [([], made), (['--out', str(folder / 't')], b'')]:
+        words = ['make', '--name', 'f', '--piece-length', '1048576', *more, path]
         master, slave = terminal()
         err = open(folder / 'err', 'wb')
         child = subprocess.Popen([program, *words], stdin=slave, stdout=slave, stderr=err)
@@ -225,7 +276,7 @@ def test_nothing_is_shown_of_short_work(program, folder):
     """A file that is read at once, standard input, and the other commands: a fault's line comes alone."""
     (folder / 'abc').write_bytes(b'abc')
     torrent = folder / 'torrent'
-    torrent.write_bytes(run(program, ['make', '--name', 'a', str(folder / 'abc')]).out)
+    torrent.write_bytes(ABC)
     for words, status, line in [(['make', '--name', 'a', str(folder / 'abc')], 0, b''),
                                 (['make', '--name', '..', str(folder / 'abc')], 1, b'tor: N3 DotDot\n'),
                                 (['check', str(torrent)], 0, b''), (['magnet', str(torrent)], 0, b''),

@@ -13,7 +13,7 @@ _tor_options() {
 _tor_value() {
     case $1 in
         --kind) echo 'v1 v2 hybrid' ;;
-        --how) echo 'one halves board' ;;
+        --how) echo 'one halves board streams' ;;
         --out) echo files ;;
         --name | --piece-length | --announce | --workers | --span) echo any ;;
     esac

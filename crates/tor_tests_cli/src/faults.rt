@@ -62,6 +62,13 @@ fn tells_each_fault_of_a_file_in_its_line(rt: HostRuntime) {
     assert!(rt; is_made(alloc, MakeError::Resources, 4, "out of resources"));
 }
 
+#[test]
+fn tells_each_refusal_of_paths_in_its_line(rt: HostRuntime) {
+    let alloc = rt.alloc();
+    assert!(rt; is_made(alloc, MakeError::Path, 1, "M4 Path"));
+    assert!(rt; is_made(alloc, MakeError::SingleShape, 1, "M5 SingleShape"));
+}
+
 // That a fault of a scan has this status and this line.
 fn is_scanned(alloc: Global, fault: ScanFault, status: u8, line: &str) -> bool {
     is_printed(alloc, Fault::from(fault), status, line)

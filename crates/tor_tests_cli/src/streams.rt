@@ -2,6 +2,7 @@
 use crate::execute::execute_over;
 use std::alloc::Global;
 use std::io::{Error, ErrorKind, Read, Result, Write};
+use std::sync::Wait;
 use std::thread::Threads;
 
 // The torrent of the content `abc` under the name `a`, piece length 16,384. The hash is the SHA-256 of `abc`.
@@ -72,7 +73,7 @@ fn narrow_writer(alloc: Global, step: usize, room: usize, faults: bool) -> Narro
 }
 
 // That the program over the input `abc` has this status, writes these bytes and tells this line.
-fn is_written<T: Threads + Sync>(
+fn is_written<T: Threads + Wait + Sync>(
     rt: &T,
     system: &HostRuntime,
     mut out: Narrow,
@@ -86,7 +87,7 @@ fn is_written<T: Threads + Sync>(
 }
 
 // That the program over the reader has the status of a fault of it, writes nothing and tells this line.
-fn is_stopped<T: Threads + Sync, R: Read>(
+fn is_stopped<T: Threads + Wait + Sync, R: Read>(
     rt: &T,
     system: &HostRuntime,
     words: &[&str],
