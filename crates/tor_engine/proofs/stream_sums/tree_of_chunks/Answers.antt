@@ -21,7 +21,7 @@ pub chunks-init : goal.chunks-init
 chunks-init c = record {
   level = c.new-stack.ensures.level;
   left = omega arith;
-  so_far = λ content are. (c.new-stack.ensures.empty, c.new-layer.ensures.items);
+  so_far = λ content are. (c.new-stack.ensures.empty, c.in_ok-layer.ensures.items);
 }
 
 pub node_in_tree-requires-clause-room : goal.node_in_tree-requires-clause-room
