@@ -65,7 +65,7 @@ pub lawful : (units : ℕ) (forest : List Run) (m : Machine) → Good units fore
 lawful units forest m g = (
   record {
     named = λ u. g.named u ∙ below-test u (min m.claims units);
-    few = omega (arith, g.bounded, g.rooms, total_le stopped (λ (d : Desk). d.room) m.desks (λ d. cond_le d.done d.room));
+    few = omega (arith, g.bounded, g.rooms, total_le stopped (λ (d : Desk). d.room) m.desks (λ d. cond_le d.done _));
     failed = g.least;
     nodes = λ n run is k i inside. let l = times_arrived (side_at n k (2 * i)) m.arrived in
         let r = times_arrived (side_at n k (2 * i + 1)) m.arrived in

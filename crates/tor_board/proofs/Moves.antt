@@ -78,8 +78,8 @@ pub calm : {units claims least : ℕ} {views : List View} → KeepsClaims units 
     → KeepsClaims units claims least (set views id w)
 calm {claims = claims} k id v at some_room w names same =
     let still : stopped w ≡ stopped v = λ i. cond (same.2 i) (same.0 i) 0 in
-    steady k id v at some_room claims w (λ f. omega (arith, names f)) same.0 (λ t t' h e. omega arith) same.1 (omega arith)
-    (λ e. inl (sym same.2 ∙ e))
+    steady k id v at some_room claims w (λ f. omega (arith, names f)) same.0 (λ t t' h e. omega arith) same.1
+    (omega arith) (λ e. inl (sym same.2 ∙ e))
 
 module _ {units claims least : ℕ} {views : List View} (k : KeepsClaims units claims least views) (id : ℕ) (v : View)
     (at : get_elem? views id ≡ some v) (whole : v.room ≡ 256) where

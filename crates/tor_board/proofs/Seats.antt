@@ -93,8 +93,8 @@ module _ (shape : Shape) {s : State (List ℕ) View} (kept : Keeps shape s) (id 
         omega (arith, total-append (λ (g : GivenUnit). cond (has_unit t g.unit) g.joined 0) v.given w.given);
     claims = let k = kept.claims in let least : ℕ = get_or s.words 1 0 in
         let more = λ (u : ℕ). total-append (only u) v.failed w.failed in record {
-          once = λ f. let a = join_sum (named f) in let b = k.once f in let d = total-append f v.held w.held in
-              omega (arith, total-append (λ (g : GivenUnit). f g.unit) v.given w.given, total-append f v.failed w.failed);
+          once = λ f. let a = total-append f v.held w.held in let b = total-append f v.failed w.failed in
+              omega (arith, join_sum (named f), k.once f, total-append (λ (g : GivenUnit). f g.unit) v.given w.given);
           rooms = omega (arith, join_sum (λ (u : View). u.room), k.rooms);
           gone = join_all (λ (u : View). u.room ≡ 0 → u ≡ spent) k.gone (λ none. absurd (omega arith)) (λ none. refl);
           bounded = omega (arith, join_sum stopped, k.bounded, stopped_both v.done w.done v.room w.room);
