@@ -6,8 +6,6 @@ use Rattle.std.specs.Option.{option_or}
 use Rattle.std.specs.Ordering.{is_lt}
 use Rattle.tor_engine.specs.Streams.{GiveContents, GivesSome, IsFaultOfReaders}
 use Rattle.tor_engine.specs.declared.errors.EngineError.TheVariants as engine
-use Rattle.tor_engine.specs.declared.how.How.{How}
-use Rattle.tor_engine.specs.declared.how.How.TheVariants.{One, Halves, Board}
 use Rattle.tor_engine.specs.declared.streams.TheConstants.{MAX_UNIT_LENGTH}
 use Rattle.tor_meta.specs.Make.{numbers_refusal}
 use Rattle.tor_meta.specs.MakeError.{of_contents_error}
@@ -29,12 +27,6 @@ abbrev pub are_rising : ListOf (ListOf (ListOf ℕ)) → Bool
 are_rising [] = true
 are_rising (path ∷ []) = true
 are_rising (path ∷ next ∷ paths) = is_lt (path_cmp path next) && are_rising (next ∷ paths)
-
--- the workers that hash what is read
-abbrev pub workers_of : How → ℕ
-workers_of One = 1
-workers_of (Halves workers) = workers
-workers_of (Board workers) = workers
 
 -- what needs no path: M1, M2, M3, for which a unit of over 2^30 bytes is refused too
 abbrev pub stream_numbers_refusal : {F : Type 0} → Order → Option (MakeError F)

@@ -1,15 +1,13 @@
 //! The torrent of readers that are read once.
-ghost use Rattle.std.specs.Prelude.{◌≡◌, ◌⊎◌, ◌<◌, ◌≤◌, None, Some, IfErr, IfOk, OnOk, List, ℕ, length, map, vec_len};
+ghost use Rattle.std.specs.Prelude.{◌≡◌, ◌⊎◌, None, Some, IfErr, IfOk, OnOk, List, ℕ, length, map, vec_len};
 ghost use Rattle.std.specs.List.{zip};
 ghost use Rattle.std.specs.declared.io.Error.{Error};
-ghost use Rattle.tor_engine.specs.How.{IsHow};
-ghost use Rattle.tor_engine.specs.declared.how.TheConstants.{MAX_WORKERS};
 ghost use Rattle.tor_meta.specs.Contents.{IsMadeOfSome};
 ghost use Rattle.tor_meta.specs.Hashes.{HasInfo};
 ghost use Rattle.tor_meta.specs.Head.{settings_of};
 ghost use Rattle.tor_meta.specs.Make.{IsOwn};
 ghost use Rattle.tor_meta.specs.MakeStreams.{IsGivenByReaders, IsMadeOfReaders, are_rising, files_with};
-ghost use Rattle.tor_meta.specs.MakeStreams.{stream_numbers_refusal, stream_refusal, workers_of};
+ghost use Rattle.tor_meta.specs.MakeStreams.{stream_numbers_refusal, stream_refusal};
 ghost use Rattle.tor_meta.specs.Order.{settings_of_order};
 ghost use Rattle.tor_meta.specs.Refusal.{ordered_refusal};
 ghost use Rattle.tor_meta.specs.declared.make_error.MakeError.{MakeError};
@@ -31,7 +29,7 @@ use std::alloc::Global;
 use std::io::{self, Read};
 use std::sync::Wait;
 use std::thread::Threads;
-use tor_engine::{How, MAX_UNIT_LENGTH, hash_streams};
+use tor_engine::{MAX_UNIT_LENGTH, hash_streams};
 use tor_merkle::laws::piece_length_bounds;
 use tor_tree::{FileList, FilePath, PathList};
 
@@ -70,7 +68,7 @@ pub fn make_streams<R: Read + Drop, T: Threads + Wait + Sync>(
         Ok(paths) => paths,
         Err(error) => return Err(error),
     };
-    let workers = workers_of(order.how);
+    let workers = order.how.workers();
     let read = hash_streams(rt, alloc, readers, order.kind, order.piece_length, order.span, workers);
     let sums = match read {
         Ok(sums) => sums,
@@ -82,17 +80,6 @@ pub fn make_streams<R: Read + Drop, T: Threads + Wait + Sync>(
     };
     let bytes = torrent_of_sums(alloc, &head, &list, &sums)?;
     Ok(bytes)
-}
-
-/// The workers that hash what is read.
-fn workers_of(how: How) -> u32
-    ensures value { result ≡ workers_of how }
-    ensures allowed { IsHow how → (1 ≤ result) × (result ≤ MAX_WORKERS) }
-{
-    match how {
-        How::One => 1,
-        How::Halves(workers) | How::Board(workers) => workers,
-    }
 }
 
 /// The paths, where no torrent is refused for them or for the order.

@@ -31,7 +31,7 @@ hash_streams-read-requires-clause-cut g c κs within =
 
 pub hash_streams-read-requires-clause-workers : goal.hash_streams-read-requires-clause-workers
 hash_streams-read-requires-clause-workers g c κs within =
-    c.workers_of-workers.ensures.allowed (stream_numbers c.args.order.now c.args.paths.now c.in-Ok.ensures.accepted).1
+    c.workers-workers.ensures.allowed (stream_numbers c.args.order.now c.args.paths.now c.in-Ok.ensures.accepted).1
 
 pub with_lengths-requires : goal.with_lengths-requires
 with_lengths-requires g c =
