@@ -2,14 +2,14 @@
 //!
 //! Over standard input: `sha1 CUT`, `sha256 CUT` and `both CUT` hash it by those hashes over all, each in reads of CUT
 //! bytes; `files-sha1 CUT`, `files-sha256 CUT` and `files-both CUT` hash the files whose places it has, one a line;
-//! `decode 1` reads it as bencode. `paths COUNT` makes so many paths, `list COUNT` a list of them too, and `lists COUNT`
-//! writes its tree and reads that back; `scan FOLDER` lists a folder. `check 1` judges standard input, and `pairs COUNT`
-//! joins so many hashes; `hashes COUNT` hashes so many times 2 MiB, message by message and by eight. `board-units COUNT`
-//! has one seat of a board claim and give so many units, `board-tree COUNT` units of one tree; `board-blocks WORKERS`
-//! has so many threads hash a block for each unit, and `board-round WORKERS` tells of a board of a million units what so
-//! many threads did. `decode`, `lists`, `scan`, `check`, `pairs`, `hashes` and those of boards print microseconds. Lists
-//! are in `lists.rt`, the hashes over all in `plain.rt`, the judging in `foreign.rt`, the hashing by eight in `eight.rt`,
-//! boards in `board.rt`.
+//! `decode 1` reads it as bencode. `paths COUNT` makes so many paths, `list COUNT` a list of them too, and `lists
+//! COUNT` writes its tree and reads that back; `scan FOLDER` lists a folder. `check 1` judges standard input, and
+//! `pairs COUNT` joins so many hashes; `hashes COUNT` hashes so many times 2 MiB, message by message and by eight.
+//! `board-units COUNT` has one seat of a board claim and give so many units, `board-tree COUNT` units of one tree;
+//! `board-blocks WORKERS` has so many threads hash a block for each unit, and `board-round WORKERS` tells of a board of
+//! a million units what so many threads did. `decode`, `lists`, `scan`, `check`, `pairs`, `hashes` and those of boards
+//! print microseconds. Lists are in `lists.rt`, the hashes over all in `plain.rt`, the judging in `foreign.rt`, the
+//! hashing by eight in `eight.rt`, boards in `board.rt`.
 #![tactic(auto)]
 
 mod board;

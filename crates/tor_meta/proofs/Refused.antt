@@ -193,16 +193,17 @@ how_allowed (Board workers) h =
     (leb-true 1 workers parts.0, leb-true workers MAX_WORKERS parts.1)
 
 -- what is known where no torrent of readers is refused
-module _ {F : Type 0} (order : Order) (paths : List (List (List ℕ))) (accepted : stream_refusal {F = F} order paths ≡ None)
-    where
+module _ {F : Type 0} (order : Order) (paths : List (List (List ℕ)))
+    (accepted : stream_refusal {F = F} order paths ≡ None) where
   abbrev too_large : MakeError F
   too_large = Span
 
   numbers_none : (numbers_refusal {F = F} order ≡ None)
       × (nat_le (order.span * order.piece_length) MAX_UNIT_LENGTH ≡ true)
   numbers_none =
-      let both = both_none (numbers_refusal {F = F} order) _ (both_none (stream_numbers_refusal {F = F} order) _ accepted).0
-      in (both.0, small (nat_le (order.span * order.piece_length) MAX_UNIT_LENGTH) both.1)
+      let numbers = both_none (stream_numbers_refusal {F = F} order) _ accepted in
+      let both = both_none (numbers_refusal {F = F} order) _ numbers.0 in
+      (both.0, small (nat_le (order.span * order.piece_length) MAX_UNIT_LENGTH) both.1)
     where
       small : (b : Bool) → cond b None (Some too_large) ≡ None → b ≡ true
       small true h = refl
@@ -231,7 +232,8 @@ module _ {F : Type 0} (order : Order) (paths : List (List (List ℕ))) (accepted
 
   pub stream_paths : paths_refusal (settings_of_order order) paths ≡ None
   stream_paths =
-      let shape = mapped_none (of_contents_error {F = F}) (shape_refusal (settings_of_order order) paths) after_numbers.0 in
-      let ordered = mapped_none (of_contents_error {F = F}) (ordered_refusal (settings_of_order order) paths)
+      let settings = settings_of_order order in
+      let shape = mapped_none (of_contents_error {F = F}) (shape_refusal settings paths) after_numbers.0 in
+      let ordered = mapped_none (of_contents_error {F = F}) (ordered_refusal settings paths)
       (cleared {X = MakeError F} _ NotSorted _ after_numbers.1).1 in
       rw shape ordered

@@ -1,5 +1,6 @@
 -- Paths that rise, and that putting them in order leaves them where they are.
-use Rattle.std.proofs.Common.{◌≡◌, ℕ, zero, suc, ◌+◌, ◌<◌, ◌≤◌, ◌&&◌, Bool, true, false, List, [], ◌∷◌, length, map, get_or}
+use Rattle.std.proofs.Common.{◌≡◌, ℕ, zero, suc, ◌+◌, ◌<◌, ◌≤◌, ◌&&◌, Bool, true, false, List, [], ◌∷◌, length, map}
+use Rattle.std.proofs.Common.{get_or}
 use Rattle.std.proofs.Common.{arith, refl, sym, ap, ap₂, subst, ◌∙◌, inl, inr, zero-add}
 use Rattle.std.specs.List.{All, AllByRecursion, IsAllAdjacentAnswer, enumerate_from, range_with_len}
 use Rattle.std.specs.List.Sorted.{IsStrictlySortedBy}
@@ -113,13 +114,13 @@ module _ (paths : Paths) (rising : IsStrictlySortedBy path_cmp paths) where
       → entry.1 < length paths → path_cmp entry.0 next.0 ≡ Less → entry.1 < next.1
   later_index entry next here there within less = elim (cases_order entry.1 next.1) [
     | inl same ↦ absurd (never_below_itself entry.0
-      (subst (λ (path : List (List ℕ)). path_cmp entry.0 path ≡ Less)
-      (sym there ∙ ap (λ k. get_or paths k []) (sym same) ∙ here) less))
+        (subst (λ (path : List (List ℕ)). path_cmp entry.0 path ≡ Less)
+        (sym there ∙ ap (λ k. get_or paths k []) (sym same) ∙ here) less))
     | inr (inl before) ↦ before
     | inr (inr after) ↦
-      let above = Less-from_sorted path_cmp paths next.1 entry.1 [] rising after within in
-      let back : path_cmp next.0 entry.0 ≡ Less = rw (← here, ← there) above in
-      absurd (never_below_itself entry.0 (paths_in_order.trans entry.0 next.0 entry.0 less back))
+        let above = Less-from_sorted path_cmp paths next.1 entry.1 [] rising after within in
+        let back : path_cmp next.0 entry.0 ≡ Less = rw (← here, ← there) above in
+        absurd (never_below_itself entry.0 (paths_in_order.trans entry.0 next.0 entry.0 less back))
   ]
 
   abbrev AreFound : Entries → Type 0

@@ -42,7 +42,8 @@ pub lengths_read : (kind : Kind) (p : ℕ) (contents : List (List ℕ)) (sums : 
     → AreSumsOfContents kind p contents sums → sums.lengths.items ≡ map length contents
 lengths_read kind p contents sums up =
     (up (map (λ content. ([], length content)) contents)
-    (sym (map-map (λ (file : List (List ℕ) × ℕ). file.1) (λ (content : List ℕ). ([], length content)) contents))).lengths
+    (sym (map-map (λ (file : List (List ℕ) × ℕ). file.1) (λ (content : List ℕ). ([], length content))
+    contents))).lengths
 
 -- the files of paths with the lengths of contents
 pub files_listed : (paths : Paths) (contents : List (List ℕ)) → length contents ≡ length paths
@@ -58,11 +59,13 @@ files_listed (path ∷ paths) (content ∷ contents) same =
 pub paired : (paths : Paths) (lengths : List ℕ) → length lengths ≡ length paths
     → map (λ (entry : List (List ℕ) × ℕ). (entry.0, get_or lengths entry.1 0)) (with_indices paths) ≡ zip paths lengths
 paired paths lengths same =
-    map-map (λ (entry : List (List ℕ) × ℕ). (entry.0, get_or lengths entry.1 0)) (λ p. (p.1, p.0)) (enumerate_from 0 paths)
+    map-map (λ (entry : List (List ℕ) × ℕ). (entry.0, get_or lengths entry.1 0)) (λ p. (p.1, p.0))
+    (enumerate_from 0 paths)
     ∙ from 0 paths lengths lengths same (λ k. ap (λ j. get_or lengths j 0) (zero_plus k))
   where
     zero_plus : (k : ℕ) → 0 + k ≡ k
     zero_plus k = omega arith
+
     from : (a : ℕ) (ps : Paths) (ns all : List ℕ) → length ns ≡ length ps
         → ((k : ℕ) → get_or all (a + k) 0 ≡ get_or ns k 0)
         → map (λ (p : ℕ × List (List ℕ)). (p.1, get_or all p.0 0)) (enumerate_from a ps) ≡ zip ps ns
@@ -84,9 +87,11 @@ sum_up head paths contents sums many judged up =
     let same = lengths_read head.kind head.piece_length contents sums up in
     let long : length sums.lengths.items ≡ length paths = ap length same ∙ length-map contents length ∙ many in
     let fit : map length contents ≡ lengths_of (zip paths sums.lengths.items) =
-    sym same ∙ sym (seconds-zip paths sums.lengths.items long) in
-    (fit, sums_of_files head (zip paths sums.lengths.items) contents sums judged
-    (up (zip paths sums.lengths.items) fit))
+    sym same ∙ sym (seconds-zip paths sums.lengths.items long) in (
+      fit,
+      sums_of_files head (zip paths sums.lengths.items) contents sums judged
+          (up (zip paths sums.lengths.items) fit),
+    )
 
 pub known_long : {A B : Type 0} (R : A → B → Type 0) (xs : List A) (ys : List B) (n : ℕ) → length xs ≡ n
     → AllZip R xs ys → length ys ≡ n
@@ -123,7 +128,8 @@ pub listed : (head : Head) (settings : Settings) (paths : Paths) (entries list :
 listed head settings paths entries list lengths sums contents of_head accepted indexed same is are lawful many up =
     let up_head = subst (λ (s : Settings). AreSumsOfContents s.kind s.piece_length contents sums) (sym of_head) up in
     let long : length lengths ≡ length paths =
-    ap length (is ∙ lengths_read head.kind head.piece_length contents sums up_head) ∙ length-map contents length ∙ many in
+    ap length (is ∙ lengths_read head.kind head.piece_length contents sums up_head)
+    ∙ length-map contents length ∙ many in
     let judged = judged_list head paths lengths entries list indexed
     (subst (λ (s : Settings). paths_refusal s paths ≡ None) (sym of_head) accepted)
     (are ∙ sym (paired paths lengths long)

@@ -69,7 +69,15 @@ pub fn make_streams<R: Read + Drop, T: Threads + Wait + Sync>(
         Err(error) => return Err(error),
     };
     let workers = order.how.workers();
-    let read = hash_streams(rt, alloc, readers, order.kind, order.piece_length, order.span, workers);
+    let read = hash_streams(
+        rt,
+        alloc,
+        readers,
+        order.kind,
+        order.piece_length,
+        order.span,
+        workers,
+    );
     let sums = match read {
         Ok(sums) => sums,
         Err(error) => return Err(MakeError::from(error)),
@@ -134,11 +142,7 @@ fn are_rising(paths: &[FilePath]) -> bool
 }
 
 /// The list of the files that have these paths and lengths, in the same order.
-fn with_lengths(
-    alloc: Global,
-    paths: PathList,
-    lengths: &[u64],
-) -> Result<FileList, ContentsError>
+fn with_lengths(alloc: Global, paths: PathList, lengths: &[u64]) -> Result<FileList, ContentsError>
     requires { length lengths.now ≡ length paths }
     ensures list { (names : List (List (List ℕ))) → paths ≡ with_indices names →
         IfOk result (λ list. list ≡ zip names lengths.now) }

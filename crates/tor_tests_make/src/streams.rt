@@ -198,7 +198,11 @@ type Refusal = (Row, u32, How);
 const LARGE: Shape = (Kind::V2, false, 1 << 30, "f");
 
 const REFUSED: &[Refusal] = &[
-    (((Kind::V2, false, 16383, "f"), "b a", b"M1 PieceLength"), 3, How::Board(0)),
+    (
+        ((Kind::V2, false, 16383, "f"), "b a", b"M1 PieceLength"),
+        3,
+        How::Board(0),
+    ),
     ((V2, "b a", b"M2 Workers"), 3, How::Board(0)),
     ((V2, "b a", b"M2 Workers"), 3, How::Halves(65)),
     ((V2, "b a", b"M3 Span"), 3, How::Board(64)),
@@ -225,9 +229,7 @@ fn is_refused<R: AllocGlobal + Abort + Threads + Wait + Sync>(rt: &R, refusal: &
     let asked = AtomicU64::new(0);
     match made(rt, &row, way, &asked) {
         Ok(_) => false,
-        Err(error) => {
-            is(format!(in rt.alloc(); "{error}"), row.2) && asked.load(SeqCst) == 0
-        }
+        Err(error) => { is(format!(in rt.alloc(); "{error}"), row.2) && asked.load(SeqCst) == 0 }
     }
 }
 
@@ -251,11 +253,13 @@ fn is_told<R: AllocGlobal + Abort + Threads + Wait + Sync>(
         how,
     };
     match made(rt, &(HYBRID, "a=abc b=d", b""), way, &AtomicU64::new(0)) {
-        Err(MakeError::Read {
-            file: 0,
-            start: Some(3),
-            fault,
-        }) => fault.kind() == kind,
+        Err(
+            MakeError::Read {
+                file: 0,
+                start: Some(3),
+                fault,
+            },
+        ) => fault.kind() == kind,
         _ => false,
     }
 }

@@ -1,5 +1,6 @@
 -- one chunk more
-use Rattle.std.proofs.Common.{◌≡◌, ◌+◌, ◌-◌, ◌*◌, ◌^◌, ◌<◌, ◌≤◌, ◌++◌, ◌∷◌, [], ℕ, List, length, map, take, min, arith, refl, ap, ap₂, sym}
+use Rattle.std.proofs.Common.{◌≡◌, ◌+◌, ◌-◌, ◌*◌, ◌^◌, ◌<◌, ◌≤◌, ◌++◌, ◌∷◌, [], ℕ, List, length, map, take, min, arith}
+use Rattle.std.proofs.Common.{refl, ap, ap₂, sym}
 use Rattle.std.proofs.Common.{◌∙◌, append-nil, subst, zero-mul}
 use Rattle.std.proofs.lemmas.Grind.{div_ceil_times, flat_map-append}
 use Rattle.std.proofs.lemmas.List.{length-map, length-take, map-append, take_all}
