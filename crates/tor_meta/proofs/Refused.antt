@@ -192,32 +192,32 @@ how_allowed (Board workers) h =
     let parts = and_parts (nat_le 1 workers) (nat_le workers MAX_WORKERS) h in
     (leb-true 1 workers parts.0, leb-true workers MAX_WORKERS parts.1)
 
--- what is known where no torrent of readers is refused
-module _ {F : Type 0} (order : Order) (paths : List (List (List ℕ)))
-    (accepted : stream_refusal {F = F} order paths ≡ None) where
+-- what is known where no number is refused of a torrent of readers
+module _ {F : Type 0} (order : Order) (accepted : stream_numbers_refusal {F = F} order ≡ None) where
   abbrev too_large : MakeError F
   too_large = Span
 
-  numbers_none : (numbers_refusal {F = F} order ≡ None)
-      × (nat_le (order.span * order.piece_length) MAX_UNIT_LENGTH ≡ true)
-  numbers_none =
-      let numbers = both_none (stream_numbers_refusal {F = F} order) _ accepted in
-      let both = both_none (numbers_refusal {F = F} order) _ numbers.0 in
-      (both.0, small (nat_le (order.span * order.piece_length) MAX_UNIT_LENGTH) both.1)
+  pub stream_numbers : (is_piece_length order.piece_length ≡ true) × IsHow order.how × IsSpan order.span
+      × (order.span * order.piece_length ≤ MAX_UNIT_LENGTH)
+  stream_numbers =
+      let both = both_none (numbers_refusal {F = F} order) _ accepted in
+      let numbers = numbers_of {F = F} order both.0 in (
+        numbers.0,
+        how_allowed order.how numbers.1,
+        numbers.2,
+        leb-true (order.span * order.piece_length) MAX_UNIT_LENGTH
+            (small (nat_le (order.span * order.piece_length) MAX_UNIT_LENGTH) both.1),
+      )
     where
       small : (b : Bool) → cond b None (Some too_large) ≡ None → b ≡ true
       small true h = refl
       small false h = cc
 
-  pub stream_numbers : (is_piece_length order.piece_length ≡ true) × IsHow order.how × IsSpan order.span
-      × (order.span * order.piece_length ≤ MAX_UNIT_LENGTH)
-  stream_numbers =
-      let numbers = numbers_of {F = F} order numbers_none.0 in (
-        numbers.0,
-        how_allowed order.how numbers.1,
-        numbers.2,
-        leb-true (order.span * order.piece_length) MAX_UNIT_LENGTH numbers_none.1,
-      )
+-- and where no torrent of readers is refused
+module _ {F : Type 0} (order : Order) (paths : List (List (List ℕ)))
+    (accepted : stream_refusal {F = F} order paths ≡ None) where
+  pub accepted_numbers : stream_numbers_refusal {F = F} order ≡ None
+  accepted_numbers = (both_none (stream_numbers_refusal {F = F} order) _ accepted).0
 
   abbrev unsorted : MakeError F
   unsorted = NotSorted

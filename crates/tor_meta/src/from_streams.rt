@@ -2,6 +2,7 @@
 ghost use Rattle.std.specs.Prelude.{◌≡◌, ◌⊎◌, None, Some, IfErr, IfOk, OnOk, List, ℕ, length, map, vec_len};
 ghost use Rattle.std.specs.List.{zip};
 ghost use Rattle.std.specs.declared.io.Error.{Error};
+ghost use Rattle.tor_engine.specs.Streams.{AreSumsOfContents, AreSumsOfReaders, IsFaultOfReaders};
 ghost use Rattle.tor_meta.specs.Contents.{IsMadeOfSome};
 ghost use Rattle.tor_meta.specs.Hashes.{HasInfo};
 ghost use Rattle.tor_meta.specs.Head.{settings_of};
@@ -29,7 +30,7 @@ use std::alloc::Global;
 use std::io::{self, Read};
 use std::sync::Wait;
 use std::thread::Threads;
-use tor_engine::{MAX_UNIT_LENGTH, hash_streams};
+use tor_engine::{EngineError, MAX_UNIT_LENGTH, Sums, hash_streams};
 use tor_merkle::laws::piece_length_bounds;
 use tor_tree::{FileList, FilePath, PathList};
 
@@ -62,23 +63,12 @@ pub fn make_streams<R: Read + Drop, T: Threads + Wait + Sync>(
     ensures only { IfErr result (IsOwn (stream_refusal order.now paths.now)) }
     ensures gave { IfErr result (IsGivenByReaders (map R.remaining readers.items)) }
 {
-    piece_length_bounds();
     let head = order.head(alloc)?;
     let paths = match judge(alloc, order, &head, paths) {
         Ok(paths) => paths,
         Err(error) => return Err(error),
     };
-    let workers = order.how.workers();
-    let read = hash_streams(
-        rt,
-        alloc,
-        readers,
-        order.kind,
-        order.piece_length,
-        order.span,
-        workers,
-    );
-    let sums = match read {
+    let sums = match sums_of(rt, alloc, readers, order) {
         Ok(sums) => sums,
         Err(error) => return Err(MakeError::from(error)),
     };
@@ -88,6 +78,33 @@ pub fn make_streams<R: Read + Drop, T: Threads + Wait + Sync>(
     };
     let bytes = torrent_of_sums(alloc, &head, &list, &sums)?;
     Ok(bytes)
+}
+
+/// What the contents of the readers sum up to.
+fn sums_of<R: Read + Drop, T: Threads + Wait + Sync>(
+    rt: &T,
+    alloc: Global,
+    readers: Vec<R>,
+    order: &Order,
+) -> Result<Sums, EngineError<io::Error>>
+    requires accepted { stream_numbers_refusal {F = Error} order.now ≡ None }
+    ensures summed { IfOk result
+        (AreSumsOfReaders order.now.kind order.now.piece_length (map R.remaining readers.items)) }
+    ensures told { (contents : List (List ℕ)) → map R.remaining readers.items ≡ map Some contents →
+        IfOk result (AreSumsOfContents order.now.kind order.now.piece_length contents) }
+    ensures fault { IfErr result (IsFaultOfReaders (map R.remaining readers.items)) }
+{
+    piece_length_bounds();
+    let workers = order.how.workers();
+    hash_streams(
+        rt,
+        alloc,
+        readers,
+        order.kind,
+        order.piece_length,
+        order.span,
+        workers,
+    )
 }
 
 /// The paths, where no torrent is refused for them or for the order.
