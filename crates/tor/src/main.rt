@@ -13,6 +13,7 @@ use std::alloc::{AllocError, Global};
 use std::env;
 use std::io::{ErrorKind, IsTerminal, Read, Write};
 use std::process::ExitCode;
+use std::sync::Wait;
 use std::thread::Threads;
 use tor_cli::execute::execute;
 use tor_cli::fault::Fault;
@@ -67,7 +68,7 @@ fn texts_of<'a>(alloc: Global, words: &'a [String]) -> Result<Vec<&'a str>, Allo
 }
 
 /// Executes the program over these words and streams: its status is the process's.
-fn execute_over<T: Threads + Sync, R: Read, W: Write, E: Write>(
+fn execute_over<T: Threads + Wait + Sync, R: Read, W: Write, E: Write>(
     rt: &T,
     system: &HostRuntime,
     words: &[&str],

@@ -1,42 +1,33 @@
 //! What the scripts of `bench/` time.
 //!
-//! Over standard input: `feed CUT` hashes it by the streamed tree, in pieces of 256 KiB, and `sha1 CUT`, `sha256 CUT`
-//! and `both CUT` by those hashes over all, each in reads of CUT bytes; `files-sha1 CUT`, `files-sha256 CUT` and
-//! `files-both CUT` hash the files whose places it has, one a line; `decode 1` reads it as bencode. `paths COUNT` makes
-//! so many paths, `list COUNT` a list of them too, and `lists COUNT` writes its tree and reads that back; `padded
-//! COUNT` makes a hybrid of so many small files; `scan FOLDER` lists a folder. `check 1` judges standard input, and
+//! Over standard input: `sha1 CUT`, `sha256 CUT` and `both CUT` hash it by those hashes over all, each in reads of CUT
+//! bytes; `files-sha1 CUT`, `files-sha256 CUT` and `files-both CUT` hash the files whose places it has, one a line;
+//! `decode 1` reads it as bencode. `paths COUNT` makes so many paths, `list COUNT` a list of them too, and `lists
+//! COUNT` writes its tree and reads that back; `scan FOLDER` lists a folder. `check 1` judges standard input, and
 //! `pairs COUNT` joins so many hashes; `hashes COUNT` hashes so many times 2 MiB, message by message and by eight.
 //! `board-units COUNT` has one seat of a board claim and give so many units, `board-tree COUNT` units of one tree;
 //! `board-blocks WORKERS` has so many threads hash a block for each unit, and `board-round WORKERS` tells of a board of
-//! a million units what so many threads did. `decode`, `lists`, `padded`, `scan`, `check`, `pairs`, `hashes` and those
-//! of boards print microseconds. Lists are in `lists.rt`, the hybrid in `padded.rt`, the hashes over all in `plain.rt`,
-//! the judging in `foreign.rt`, the hashing by eight in `eight.rt`, boards in `board.rt`.
+//! a million units what so many threads did. `decode`, `lists`, `scan`, `check`, `pairs`, `hashes` and those of boards
+//! print microseconds. Lists are in `lists.rt`, the hashes over all in `plain.rt`, the judging in `foreign.rt`, the
+//! hashing by eight in `eight.rt`, boards in `board.rt`.
 #![tactic(auto)]
 
 mod board;
 mod eight;
 mod foreign;
 mod lists;
-mod padded;
 mod plain;
 
 use crate::board::{Tally, alone, hashing, round};
 use crate::eight::hashed;
 use crate::foreign::{judged, paired};
 use crate::lists::{list, lists, paths};
-use crate::padded::padded;
 use crate::plain::{plain, plain_files};
-use std::alloc::Global;
 use std::env;
 use std::io::{Error, ErrorKind, Read, Result};
 use std::time::Instant;
 use tor_bencode::decode;
-use tor_merkle::Feed;
 use tor_source::{FolderSource, zeros};
-
-const PIECE_LENGTH: u64 = 262_144;
-
-const MAX_LENGTH: u64 = 1 << 50;
 
 const MAX_CUT: usize = 1 << 24;
 
@@ -60,11 +51,9 @@ fn timed(rt: &HostRuntime, mode: &str, word: &str, number: usize) -> Result<()> 
     match mode {
         "sha1" | "sha256" | "both" => input_hashed(rt, mode, number),
         "files-sha1" | "files-sha256" | "files-both" => files_hashed(rt, mode, number),
-        "feed" => fed(rt, number),
         "paths" => paths(rt, number),
         "list" => list(rt, number),
         "lists" => lists(rt, number),
-        "padded" => padded(rt, number),
         "scan" => scanned(rt, word),
         "check" => judged(rt),
         "pairs" => paired(rt, number),
@@ -81,11 +70,6 @@ fn input_hashed(rt: &HostRuntime, mode: &str, number: usize) -> Result<()> {
 fn files_hashed(rt: &HostRuntime, mode: &str, number: usize) -> Result<()> {
     let mut buffer = zeros(rt.alloc(), number.min(MAX_CUT))?;
     plain_files(rt, &mut buffer, mode)
-}
-
-fn fed(rt: &HostRuntime, number: usize) -> Result<()> {
-    let mut buffer = zeros(rt.alloc(), number.min(MAX_CUT))?;
-    streamed(rt.alloc(), &mut rt.stdin(), &mut buffer)
 }
 
 fn printed(rt: &HostRuntime, numbers: (u128, u64)) -> Result<()> {
@@ -125,19 +109,4 @@ fn decoded(rt: &HostRuntime) -> Result<()> {
     let decodes = decode(rt.alloc(), &bytes).is_ok();
     let taken = start.elapsed(rt)?.as_micros();
     println!(rt; "{decodes} {taken}")
-}
-
-fn streamed<R: Read>(alloc: Global, reader: &mut R, buffer: &mut [u8]) -> Result<()> {
-    let mut feed = Feed::new(alloc, PIECE_LENGTH);
-    let mut room = MAX_LENGTH;
-    'reads: for _ in 0..u64::MAX {
-        let count = reader.read(buffer)?;
-        if count == 0 || count as u64 > room {
-            break;
-        }
-        feed.feed(&buffer[..count])?;
-        room -= count as u64;
-    }
-    let _sums = feed.finish();
-    Ok(())
 }

@@ -1,18 +1,16 @@
 -- An arrival keeps the whole rule: what was left over from the node below goes home first.
-use Rattle.tor_board.proofs.Names.{List, None, Option, Some, [], ap, arith, get_or, inl, inr, length, length-set, refl}
-use Rattle.tor_board.proofs.Names.{set, set-set, subst, suc, ℕ, ◌%◌, ◌++◌, ◌+◌, ◌-◌, ◌/◌, ◌<◌, ◌^◌, ◌∙◌, ◌∷◌, ◌≡◌, ◌≤◌}
-use Rattle.tor_board.proofs.Names.{Opt, none, some, get_elem?, set_here, Act, Allows, State, carried_after, chain}
-use Rattle.tor_board.proofs.Names.{gives, put_back, step, takes, Climb, GivenUnit, joined_more, Seated, arrived_from}
-use Rattle.tor_board.proofs.Names.{climbed, other_slot, ClimbsIn, Keeps, KeepsTree, has_out, IsShape, IsTreeOf}
-use Rattle.tor_board.proofs.Names.{joined_in, pairs, slot_of, word_of, joining, rested, only, total, Shape, Tree, View}
-use Rattle.tor_board.proofs.Names.{AtMostOneSpare, LastGiveIsIn, IsIn}
-use Rattle.tor_board.proofs.{Sums.within, Moves.steady, Rising.lands, Steps.weight, Steps.Does, Resting.bare}
-use Rattle.tor_board.proofs.{Resting.returned, Arriving.Arrived, Arriving.arrived_tree}
-use Rattle.tor_board.proofs.Finding.{pairs_same, pairs_once, words-set, joined_head, joined_else, joined_same, IsBelow}
-use Rattle.tor_board.proofs.Finding.{node_above, word_above, above_slot, one_more, word_now, word_else, same_halves}
-use Rattle.tor_board.proofs.Finding.{Apart}
-use Rattle.tor_board.proofs.Trees.{node_inside, split_positive, side_in}
-use Rattle.tor_board.proofs.Going.{IsWithin, moved_tree, touched, climb_within, returned_homes, with_spare, of_climb}
+use Rattle.tor_board.proofs.{Arriving.{Arrived, arrived_tree}, Finding.{Apart, IsBelow, above_slot, joined_else}}
+use Rattle.tor_board.proofs.Finding.{joined_head, joined_same, node_above, one_more, pairs_once, pairs_same}
+use Rattle.tor_board.proofs.{Finding.{same_halves, word_above, word_else, word_now, words-set}, Going.IsWithin}
+use Rattle.tor_board.proofs.Going.{climb_within, moved_tree, of_climb, returned_homes, touched, with_spare}
+use Rattle.tor_board.proofs.{Moves.calm, Names.{Act, Allows, AtMostOneSpare, Climb, ClimbsIn, GivenUnit, IsIn, IsShape}}
+use Rattle.tor_board.proofs.Names.{IsTreeOf, Keeps, KeepsTree, LastGiveIsIn, List, None, Opt, Option, Seated, Shape}
+use Rattle.tor_board.proofs.Names.{Some, State, Tree, View, [], ap, arith, arrived_from, carried_after, chain, climbed}
+use Rattle.tor_board.proofs.Names.{get_elem?, get_or, gives, has_out, inl, inr, joined_in, joined_more, joining, length}
+use Rattle.tor_board.proofs.Names.{length-set, none, only, other_slot, pairs, put_back, refl, rested, set, set-set}
+use Rattle.tor_board.proofs.Names.{set_here, slot_of, some, step, subst, suc, takes, total, word_of, ℕ, ◌%◌, ◌++◌, ◌+◌}
+use Rattle.tor_board.proofs.{Names.{◌-◌, ◌/◌, ◌<◌, ◌^◌, ◌∙◌, ◌∷◌, ◌≡◌, ◌≤◌}, Resting.{bare, returned}, Rising.lands}
+use Rattle.tor_board.proofs.{Steps.{Does, weight}, Sums.within, Trees.{node_inside, side_in, split_positive}}
 use Rattle.tor_board.specs.Plays.{IsAtNode, arrived}
 
 -- which slots are a tree's
@@ -66,8 +64,7 @@ module _ {words_count slots_count : ℕ} {shape : Shape} (shaped : IsShape words
       (omega (arith, length-set s.words (word_above c) (n + 1))) homes_else wider (λ k ne. refl) (λ k P ne are. are)
       (omega (arith, words-set s.words (word_above c) (n + 1) long)) joins joins_else v_in w_in
       (λ f. omega (arith, same f)) (λ u o. same (λ y h. only u y))
-      (steady kept.claims id v at some_room (get_or s.words 0 0) w (λ f. omega (arith, same (λ y h. f y))) refl
-      (λ t t' h e. omega arith) refl (omega arith) (λ e. inl e)))
+      (calm kept.claims id v at some_room w (λ f. omega (arith, same (λ y h. f y))) (refl, refl, refl)))
 
   -- the step, and what it tells
   arrives_all : Does shape s (put_back s.homes c.spare) id (word_above c) ((n + 1) % 2 ^ 64) ((c.slot, c.hash) ∷ [])

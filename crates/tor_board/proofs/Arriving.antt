@@ -1,17 +1,16 @@
 -- An arrival at a node: one more in its word, and what comes of it.
-use Rattle.tor_board.proofs.Names.{List, ap, arith, get_or, inl, inr, length, length-set, refl, set, suc, sym, zero, ℕ}
-use Rattle.tor_board.proofs.Names.{◌%◌, ◌*◌, ◌+◌, ◌-◌, ◌/◌, ◌<◌, ◌∙◌, ◌≡◌, ◌≢◌, ◌⊎◌, dite, Opt, none, some, ℕ_discrete}
-use Rattle.tor_board.proofs.Names.{get_elem?, set_else, set_here, Climb, climbed, met, other_slot, IsSide, KeepsTree}
-use Rattle.tor_board.proofs.Names.{climbing, out, IsRoot, WasGiven, middle, ready, slot_of, word_of, joining, rested}
-use Rattle.tor_board.proofs.Names.{only, Tree, View}
-use Rattle.tor_board.proofs.Sums.{total-set, only-same, only-other, term_le}
-use Rattle.tor_board.proofs.Rising.{split_one, rooted_at, rises_ready, ready_from, ready_grown, Lands, goal_of, lands}
-use Rattle.tor_board.proofs.Trees.{alone_there, empty_home, node_word, node_flow, node_once, ready_node, side_of}
-use Rattle.tor_board.proofs.Trees.{split_positive, node_inside, zero_more, side_once}
-use Rattle.tor_board.proofs.Finding.{IsBelow, node_above, word_above, above_slot, one_more, own_side, word_now}
-use Rattle.tor_board.proofs.Finding.{word_else, same_halves, counted}
-use Rattle.tor_board.proofs.Steps.{SeatStep, keeps_step, put_home, old_seat, seat_rooted, outs, weight, gave}
-use Rattle.tor_board.proofs.Resting.{bare, cleared, comes_home}
+use Rattle.tor_board.proofs.Finding.{IsBelow, above_slot, counted, node_above, one_more, own_side, same_halves}
+use Rattle.tor_board.proofs.{Finding.{word_above, word_else, word_now}, Names.{Climb, IsRoot, IsSide, KeepsTree, List}}
+use Rattle.tor_board.proofs.Names.{Opt, Tree, View, WasGiven, [], ap, arith, climbed, climbing, dite, get_elem?, get_or}
+use Rattle.tor_board.proofs.Names.{inl, inr, joining, length, length-set, met, middle, none, only, other_slot, out}
+use Rattle.tor_board.proofs.Names.{ready, refl, rested, set, set_else, set_here, slot_of, some, suc, sym, word_of, zero}
+use Rattle.tor_board.proofs.{Names.{ℕ, ℕ_discrete, ◌%◌, ◌*◌, ◌+◌, ◌-◌, ◌/◌, ◌<◌, ◌∙◌, ◌∷◌, ◌≡◌, ◌≢◌, ◌⊎◌}, Resting.bare}
+use Rattle.tor_board.proofs.{Resting.{cleared, comes_home}, Rising.{Lands, goal_of, lands, ready_from, ready_grown}}
+use Rattle.tor_board.proofs.{Rising.{rises_ready, rooted_at, split_one}, Steps.{SeatStep, SpareRooted, gave}}
+use Rattle.tor_board.proofs.{Steps.{keeps_step, old_seat, outs, put_home, seat_rooted, weight}, Sums.only-other}
+use Rattle.tor_board.proofs.{Sums.{only-same, term_le, total-set}, Trees.{alone_there, empty_home, node_flow}}
+use Rattle.tor_board.proofs.Trees.{node_inside, node_once, node_word, ready_node, side_of, side_once, split_positive}
+use Rattle.tor_board.proofs.Trees.{zero_more}
 
 module _ {words : List ℕ} {homes : List (Opt (List ℕ))} {views : List View} (c : Climb)
     (kept : KeepsTree c.tree words homes views) (below : IsBelow c) (unarrived : kept.arrived c.slot ≡ 0) where
@@ -156,7 +155,8 @@ module _ {words : List ℕ} {homes : List (Opt (List ℕ))} {views : List View} 
           seats = let a = rooted_at (WasGiven views) t (above_slot c) up.0 up.1 (climbed c x).hash above_side root in
               let j : ℕ = 2 * (c.index / 2) + (1 - c.index % 2) in
               let b = rooted_at (WasGiven views) t other c.level j x other_side x_root in
-              old_seat kept id w ((a, b), has.1);
+              let left : SpareRooted (WasGiven views) t ((other, x) ∷ []) = λ o hash e. grind (arith, b) in
+              old_seat kept id w ((a, left), has.1);
           tops = omega (arith, not_top);
         } in keeps_step kept step
 

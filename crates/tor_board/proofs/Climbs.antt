@@ -1,23 +1,33 @@
 -- A step of a climb is the event of its name.
-use Rattle.tor_board.proofs.Names.{Bool, List, None, Some, [], ap, arith, cond, get_or, inr, length, refl, set, subst}
-use Rattle.tor_board.proofs.Names.{suc, sym, true, ℕ, ◌%◌, ◌*◌, ◌+◌, ◌-◌, ◌/◌, ◌<◌, ◌==◌, ◌^◌, ◌∙◌, ◌∷◌, ◌≡◌, ◌≤◌, dite}
-use Rattle.tor_board.proofs.Names.{ℕ_discrete, at_map, State, Climb, way_in, way_of, IsGivenSide, IsStep, Machine}
-use Rattle.tor_board.proofs.Names.{arrive, hand, hands, meets, rests, seal, seals, times_arrived, top_root, IsAtTop}
-use Rattle.tor_board.proofs.Names.{Seated, arrived_from, gave_told, sealed_from, climb_from, climbed, met, other_slot}
-use Rattle.tor_board.proofs.Names.{IsSide, KeepsTree, climbing, climbs_to, least_of, runs_of, IsShape, IsTreeOf}
-use Rattle.tor_board.proofs.Names.{IsChange, IsEvent, has_unit, middle, ready, slot_at, slot_of, times_given, word_of}
-use Rattle.tor_board.proofs.Names.{desk_of, handed, joining, rested, topped, only, Shape, Tree, View}
-use Rattle.tor_board.proofs.{Arriving.found_other, Arriving.found_few, Going.held_ungiven, Running.ready_given}
-use Rattle.tor_board.proofs.{Running.top_is, Steps.climbs, Steps.gave, Sums.only-same, Sums.only-other}
-use Rattle.tor_board.proofs.Finding.{same_tree, some_height, top_node, IsBelow, word_above, own_side, counted}
-use Rattle.tor_board.proofs.Finding.{joined_same, word_else}
-use Rattle.tor_board.proofs.Trees.{has_unit-true, alone_there, ready_node, side_of, node_inside, node_flow, node_word}
-use Rattle.tor_board.proofs.Trees.{node_once}
-use Rattle.tor_board.proofs.Machines.{other_side, same_side, next_of}
-use Rattle.tor_board.proofs.Rising.{goal_of, lands, rises_ready, side_low, place_one, side_one}
-use Rattle.tor_board.proofs.Shown.{Moment, New, place_of, event, moved, unarrived, on_first, as_told}
-use Rattle.tor_board.specs.{Climb.run_of, Desks.topped as topped_desk, Machine.beside, Machine.side_of as side_of_way}
-use Rattle.tor_merkle.specs.Subtree.{height}
+use Rattle.tor_board.proofs.{Arriving.{found_few, found_other}, Finding.{IsBelow, counted, joined_same, own_side}}
+use Rattle.tor_board.proofs.{Finding.{same_tree, some_height, top_node, word_above, word_else}, Going.held_ungiven}
+use Rattle.tor_board.proofs.Names.{Bool, Climb, IsAtTop, IsChange, IsEvent, IsGivenSide, IsShape, IsSide, IsStep}
+use Rattle.tor_board.proofs.Names.{IsTreeOf, KeepsTree, List, Machine, None, Seated, Shape, Side, Some, State, Tree}
+use Rattle.tor_board.proofs.Names.{View, [], ap, arith, arrive, arrived_from, at_map, climb_from, climbed, climbing}
+use Rattle.tor_board.proofs.Names.{climbs_to, cond, desk_of, dite, false, gave_told, get_or, hand, handed, hands}
+use Rattle.tor_board.proofs.Names.{has_unit, inr, joining, least_of, length, meets, met, middle, only, other_slot}
+use Rattle.tor_board.proofs.Names.{ready, refl, rested, rests, runs_of, seal, sealed_from, seals, set, slot_at, slot_of}
+use Rattle.tor_board.proofs.Names.{subst, suc, sym, times_arrived, times_given, top_root, topped, true, way_in, way_of}
+use Rattle.tor_board.proofs.Names.{word_of, ℕ, ℕ_discrete, ◌%◌, ◌*◌, ◌+◌, ◌-◌, ◌/◌, ◌<◌, ◌==◌, ◌^◌, ◌∙◌, ◌∷◌, ◌≡◌, ◌≤◌}
+use Rattle.tor_board.proofs.{Rising.{goal_of, lands, place_one, rises_ready, side_low, side_one}, Running.ready_given}
+use Rattle.tor_board.proofs.{Running.top_is, Shown.{Moment, New, as_told, event, moved, on_first, place_of, unarrived}}
+use Rattle.tor_board.proofs.{Steps.{climbs, gave}, Sums.{only-other, only-same}, Trees.{alone_there, has_unit-true}}
+use Rattle.tor_board.proofs.Trees.{node_flow, node_inside, node_once, node_word, ready_node, side_of}
+use Rattle.tor_board.specs.{Climb.run_of, Desks.topped as topped_desk, Machine.{IsNext, beside, is_side}}
+use Rattle.{tor_board.specs.Machine.side_of as side_of_way, tor_merkle.specs.Subtree.height}
+
+same_side : (a b : Side) → a.tree ≡ b.tree → a.level ≡ b.level → a.index ≡ b.index → is_side a b ≡ true
+same_side a b e f g = grind arith
+
+other_side : (a b : Side) → (a.tree ≡ b.tree → a.level ≡ b.level → a.index ≡ b.index → ⊥) → is_side a b ≡ false
+other_side a b ne = grind arith
+
+-- where a hash rises to is the next side of a node, or the top
+next_of : (t : Tree) → 0 < t.count → t.count ≤ 2 ^ t.height → t.height ≡ height t.count → (l i : ℕ) → l ≤ t.height
+    → i * 2 ^ l < t.count → (hash : List ℕ) (spare : List (ℕ × List ℕ))
+    → IsNext (way_of (climb_from t l i hash spare)) l i
+next_of t some_unit tall least l i low inside hash spare
+    = grind (arith, lands t some_unit tall l i low inside, goal_of t l i)
 
 module _ {shape : Shape} {m : Machine} {s s' : State (List ℕ) View} {id : ℕ} {v : View}
     (now : Moment shape m s s' id v) {words_count slots_count : ℕ}

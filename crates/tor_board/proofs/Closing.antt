@@ -1,21 +1,19 @@
 -- The roots over given hashes by the definition of tor_merkle, and those of the trees once all seats are one.
-use Rattle.tor_board.proofs.Names.{List, [], ap, arith, cond, get_or, length, refl, suc, sym, zero, ℕ, ◌*◌, ◌+◌, ◌<◌}
-use Rattle.tor_board.proofs.Names.{◌==◌, ◌^◌, ◌∙◌, ◌∷◌, ◌≡◌, ◌≤◌, dite, dec_le, ℕ_discrete, node_of, GivenUnit, IsRoot}
-use Rattle.tor_board.proofs.Names.{WasGiven, only, total, Tree, View, None, Option, Some, inr, min, subst, ◌%◌, ◌-◌}
-use Rattle.tor_board.proofs.Names.{◌/◌, Opt, some, get_elem?, State, units_of, IsLeft, IsTreeEnd, IsSide, Keeps}
-use Rattle.tor_board.proofs.Names.{KeepsTree, climbing, climbs_to, has_out, out, tops_of, run_of, IsShape, IsTreeOf}
-use Rattle.tor_board.proofs.Names.{joined_in, middle, ready, slot_of, times_given, word_of, named, spent, below, times}
-use Rattle.tor_board.proofs.Names.{Shape, inl}
-use Rattle.tor_board.proofs.{Steps.weight, Steps.gave, Steps.tops_at, Finding.below_same, Finding.some_height}
-use Rattle.tor_board.proofs.{Finding.top_node, Moves.only_one, Rising.split_suc, Rising.split_zero}
-use Rattle.tor_board.proofs.Sums.{only-same, below-only, total-map, read}
-use Rattle.tor_board.proofs.Trees.{twice, ready_node, ready_chain, ready_once, node_ready, told_more, node_inside}
+use Rattle.std.proofs.{Common.ap₂, lemmas.List.get_or_past, lemmas.List.FromFn.get_or-map-range_with_len}
+use Rattle.std.proofs.lemmas.{List.FromFn.length-map-range_with_len, Slice.Eq.bytes_eq-Decides}
+use Rattle.{std.specs.Str.bytes_eq, tor_board.proofs.Finding.{below_same, some_height, top_node}}
+use Rattle.tor_board.proofs.{Moves.only_one, Names.{GivenUnit, IsLeft, IsRoot, IsShape, IsSide, IsTreeEnd, IsTreeOf}}
+use Rattle.tor_board.proofs.Names.{Keeps, KeepsTree, List, None, Opt, Option, Shape, Some, State, Tree, View, WasGiven}
+use Rattle.tor_board.proofs.Names.{[], ap, arith, below, climbing, climbs_to, cond, dec_le, dite, get_elem?, get_or}
+use Rattle.tor_board.proofs.Names.{has_out, inl, inr, joined_in, length, middle, min, named, node_of, only, out, ready}
+use Rattle.tor_board.proofs.Names.{refl, run_of, slot_of, some, spent, subst, suc, sym, times, times_given, tops_of}
+use Rattle.tor_board.proofs.Names.{total, units_of, word_of, zero, ℕ, ℕ_discrete, ◌%◌, ◌*◌, ◌+◌, ◌-◌, ◌/◌, ◌<◌, ◌==◌}
+use Rattle.tor_board.proofs.{Names.{◌^◌, ◌∙◌, ◌∷◌, ◌≡◌, ◌≤◌}, Rising.{split_suc, split_zero}, Steps.{gave, tops_at}}
+use Rattle.tor_board.proofs.{Steps.weight, Sums.{below-only, only-same, read, total-map}, Trees.node_inside}
+use Rattle.tor_board.proofs.Trees.{node_ready, ready_chain, ready_node, ready_once, told_more, twice}
 use Rattle.tor_board.specs.Results.{IsComplete, hash_of, joined_of, unit_hashes}
-use Rattle.{tor_merkle.specs.Subtree.zero_subtree, tor_merkle.specs.Subtree.height, std.proofs.lemmas.List.get_or_past}
-use Rattle.{std.proofs.lemmas.Slice.Eq.bytes_eq-Decides, std.specs.Str.bytes_eq, tor_merkle.specs.Block.run_at}
-use Rattle.{tor_merkle.specs.Stack.padded_root, tor_merkle.specs.Stack.padded_subtree, std.proofs.Common.ap₂}
-use Rattle.std.proofs.lemmas.List.FromFn.{get_or-map-range_with_len, length-map-range_with_len}
-use Rattle.tor_merkle.proofs.ProvedLaws.{root_of_halves, root_of_one, root_of_whole}
+use Rattle.tor_merkle.{proofs.ProvedLaws.{root_of_halves, root_of_one, root_of_whole}, specs.Block.run_at}
+use Rattle.tor_merkle.specs.{Stack.{padded_root, padded_subtree}, Subtree.{height, zero_subtree}}
 
 -- ---- the hash of a unit that was given once, and the roots over such hashes
 

@@ -1,14 +1,12 @@
 -- The worked runs are legal, and what is no event is none.
-use Rattle.tor_board.proofs.Names.{List, Some, [], arith, inl, inr, ltb, refl, suc, true, zero, ℕ, ◌*◌, ◌+◌, ◌<◌, ◌^◌}
-use Rattle.tor_board.proofs.Names.{◌∷◌, ◌≡◌, ◌≤◌, Run, Desk, Way, IsGivenSide, IsLegalRun, IsStep, Machine, arrive}
-use Rattle.tor_board.proofs.Names.{begins, claim, claims, ends, fail, fails, goes_on, hand, hands, join, joins, look}
-use Rattle.tor_board.proofs.Names.{looks, meets, rests, seal, seals, sees, side_of, split, splits, start, times_arrived}
-use Rattle.tor_board.proofs.Names.{◌≢◌}
-use Rattle.tor_board.proofs.Trees.{by_sides}
-use Rattle.tor_board.specs.{Desks.first, Machine.times_given}
+use Rattle.{std.proofs.Common.{leb, leb-true}, tor_board.proofs.Names.{Desk, IsGivenSide, IsLegalRun, IsStep, List}}
+use Rattle.tor_board.proofs.Names.{Machine, Run, Some, Way, [], arith, arrive, begins, claim, claims, ends, fail, fails}
+use Rattle.tor_board.proofs.Names.{goes_on, hand, hands, inl, inr, join, joins, look, looks, ltb, meets, refl, rests}
+use Rattle.tor_board.proofs.Names.{seal, seals, sees, side_of, split, splits, start, suc, times_arrived, true, zero, ℕ}
+use Rattle.tor_board.{proofs.Names.{◌*◌, ◌+◌, ◌<◌, ◌^◌, ◌∷◌, ◌≡◌, ◌≢◌, ◌≤◌}, proofs.Trees.by_sides, specs.Desks.first}
 use Rattle.tor_board.specs.Examples.{IsExcluded, end, events, forest, left, right, rising_end, rising_events}
-use Rattle.tor_board.specs.Examples.{three_units, way_to}
-use Rattle.{tor_merkle.specs.Subtree.height, std.proofs.Common.leb, std.proofs.Common.leb-true}
+use Rattle.tor_board.specs.{Examples.{three_units, way_to}, Machine.times_given}
+use Rattle.tor_merkle.specs.Subtree.{height}
 use borrow.Author.Tests.{ltb-true}
 
 -- what numbers show by themselves

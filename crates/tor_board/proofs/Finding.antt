@@ -1,12 +1,11 @@
 -- The trees of a shape: which one has a unit, and what is counted at their nodes.
-use Rattle.tor_board.proofs.Names.{ap, arith, cond, get_or, length, subst, sym, ℕ, ◌+◌, ◌-◌, ◌<◌, ◌∙◌, ◌≡◌, ◌≢◌, ◌≤◌}
-use Rattle.tor_board.proofs.Names.{some, some-injective, get_elem?, IsShape, IsTreeOf, has_unit, middle, word_of, Board}
-use Rattle.tor_board.proofs.Names.{Shape, Tree, IsIn, List, [], get_or-set_other, get_or-set_same, inl, refl, set, suc}
-use Rattle.tor_board.proofs.Names.{zero, ◌%◌, ◌/◌, ◌∷◌, Climb, GivenUnit, joined_more, climbed, IsSide, joined_in}
-use Rattle.tor_board.proofs.Names.{pairs, slot_of, below, only, total, LastGiveIsIn}
-use Rattle.tor_board.proofs.Sums.{term_le, total-map}
-use Rattle.tor_board.specs.Seats.{levels_above}
-use Rattle.{atomic_table.proofs.Lists.at_index, tor_merkle.proofs.ProvedLaws.height_least}
+use Rattle.{atomic_table.proofs.Lists.at_index, tor_board.proofs.Names.{Board, Climb, GivenUnit, IsIn, IsShape, IsSide}}
+use Rattle.tor_board.proofs.Names.{IsTreeOf, LastGiveIsIn, List, Shape, Tree, [], ap, arith, below, climbed, cond}
+use Rattle.tor_board.proofs.Names.{get_elem?, get_or, get_or-set_other, get_or-set_same, has_unit, inl, joined_in}
+use Rattle.tor_board.proofs.Names.{joined_more, length, middle, only, pairs, refl, set, slot_of, some, some-injective}
+use Rattle.tor_board.proofs.Names.{subst, suc, sym, total, word_of, zero, ℕ, ◌%◌, ◌+◌, ◌-◌, ◌/◌, ◌<◌, ◌∙◌, ◌∷◌, ◌≡◌}
+use Rattle.tor_board.{proofs.Names.{◌≢◌, ◌≤◌}, proofs.Sums.{term_le, total-map}, specs.Seats.levels_above}
+use Rattle.tor_merkle.proofs.ProvedLaws.{height_least}
 
 pub record Apart (t u : Tree) : Type 0 where
   pub slots : (s : ℕ) → IsIn t s → IsIn u s → ⊥

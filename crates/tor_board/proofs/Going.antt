@@ -1,17 +1,15 @@
 -- A step of a climb keeps the whole rule, among them a hand and a seal.
-use Rattle.tor_board.proofs.Names.{List, Option, Some, [], ap, arith, get_or, length, length-set, refl, set, subst, sym}
-use Rattle.tor_board.proofs.Names.{ℕ, ◌++◌, ◌+◌, ◌/◌, ◌<◌, ◌∙◌, ◌∷◌, ◌≡◌, ◌≢◌, ◌≤◌, ◌⊎◌, dite, Opt, some, ℕ_discrete}
-use Rattle.tor_board.proofs.Names.{get_elem?, set_else, State, chain, gives, put_back, Climb, Seated, IsKnown, Keeps}
-use Rattle.tor_board.proofs.Names.{KeepsClaims, KeepsTree, TopsAre, has_out, tops_of, IsShape, IsTreeOf, WasGiven}
-use Rattle.tor_board.proofs.Names.{joined_in, pairs, word_of, only, total, Shape, Tree, View, AtMostOneSpare, IsIn}
-use Rattle.tor_board.proofs.Names.{None, inl, min, set-set, ◌-◌, none, set-get_or, set_here, Allows, step, takes}
-use Rattle.tor_board.proofs.Names.{IsAtTop, gave_told, sealed_from, climb_from, times_given, handed, named, topped}
-use Rattle.tor_board.proofs.Names.{times, inr}
-use Rattle.tor_board.proofs.{Moves.steady, Trees.side_in, Rising.lands}
-use Rattle.tor_board.proofs.Sums.{only-other, total-set, set_all, below-only, total-without, total_le, within}
-use Rattle.tor_board.proofs.Finding.{pairs_same, Apart, apart, same_tree, not_joined}
-use Rattle.tor_board.proofs.Steps.{unmoved_seat, away_rooted, weight, gave, Does}
-use Rattle.tor_board.proofs.Resting.{bare, returned, sealed_tree, handed_over}
+use Rattle.tor_board.proofs.{Finding.{Apart, apart, not_joined, pairs_same, same_tree}, Moves.calm, Names.Allows}
+use Rattle.tor_board.proofs.Names.{AtMostOneSpare, Climb, IsAtTop, IsIn, IsKnown, IsShape, IsTreeOf, Keeps, KeepsClaims}
+use Rattle.tor_board.proofs.Names.{KeepsTree, List, None, Opt, Option, Seated, Shape, Some, State, TopsAre, Tree, View}
+use Rattle.tor_board.proofs.Names.{WasGiven, [], ap, arith, chain, climb_from, dite, gave_told, get_elem?, get_or}
+use Rattle.tor_board.proofs.Names.{gives, handed, has_out, inl, inr, joined_in, length, length-set, min, named, none}
+use Rattle.tor_board.proofs.Names.{only, pairs, put_back, refl, sealed_from, set, set-get_or, set-set, set_else}
+use Rattle.tor_board.proofs.Names.{set_here, some, step, subst, sym, takes, times, times_given, topped, tops_of, total}
+use Rattle.tor_board.proofs.Names.{word_of, ℕ, ℕ_discrete, ◌++◌, ◌+◌, ◌-◌, ◌/◌, ◌<◌, ◌∙◌, ◌∷◌, ◌≡◌, ◌≢◌, ◌≤◌, ◌⊎◌}
+use Rattle.tor_board.proofs.{Resting.{bare, handed_over, returned, sealed_tree}, Rising.lands, Steps.Does}
+use Rattle.tor_board.proofs.{Steps.{away_rooted, gave, unmoved_seat, weight}, Sums.{below-only, only-other, set_all}}
+use Rattle.tor_board.proofs.{Sums.{total-set, total-without, total_le, within}, Trees.side_in}
 use Rattle.tor_board.specs.Plays.{sealed}
 
 -- no slot but the tree's is out with that climb
@@ -130,8 +128,8 @@ module _ {words_count slots_count : ℕ} {shape : Shape} (shaped : IsShape words
       (λ k P ne are. are) (omega arith) (omega (arith, not_joined t u)) (λ x a. omega (arith, not_joined x u))
       (λ x o. ap (has_out x) idle) (climb_within t c slot_in (inl refl)) (λ f. omega arith)
       (λ x o. omega (arith, only-other x u (λ e. o (u - t.first) (omega arith) (omega arith))))
-      (steady kept.claims id v at some_room n w (λ f. omega (arith, total-without f u v.held has)) refl
-      (λ t t' h e. omega arith) refl (omega arith) (λ e. inl e))) in let Goal : List (ℕ × List ℕ) → Type 0
+      (calm kept.claims id v at some_room w (λ f. omega (arith, total-without f u v.held has)) (refl, refl, refl))) in
+      let Goal : List (ℕ × List ℕ) → Type 0
       = λ l. Does shape s s.homes id 0 n l (gave_told (Some t) u hash (step slots 0 0 0 none) (v, l) n) in
       subst Goal (sym empty) (w, takes c.slot taken.0, taken.1, whole, ((taken.0, refl), refl, (some_room, idle), has))
 
@@ -155,9 +153,7 @@ module _ {words_count slots_count : ℕ} {shape : Shape} (shaped : IsShape words
       (λ k ne. omega (arith, only-other k t.number (λ e. ne (sym e)))) (λ k P ne are. ((λ e. absurd (ne (sym e))), are))
       (omega arith) (omega arith) (λ x a. refl)
       (λ x o. ap (has_out x) in_climb ∙ climb_within t c slot_in spare x o) (λ x o. refl) (λ f. omega arith)
-      (λ u o. refl)
-      (steady kept.claims id v at some_room n w (λ f. refl) refl (λ t t' h e. omega arith) refl (omega arith)
-      (λ e. inl e))) in
+      (λ u o. refl) (calm kept.claims id v at some_room w (λ f. refl) (refl, refl, refl))) in
       let each = of_climb (λ (x : Climb). sealed_from x m (w, []) × IsAtTop x) v c in_climb (refl, top) in
       with_spare shape s id 0 n c m.1 (sealed (step slots 0 0 0 none) m n) carried spare
       (w, gives, tt, whole, (each, refl, some_room, c, in_climb))

@@ -1,48 +1,26 @@
 -- The machine alone: every legal run ends lawful.
-use Rattle.tor_board.proofs.Names.{Bool, List, [], arith, cond, false, inl, inr, true, ℕ, ◌*◌, ◌+◌, ◌<◌, ◌^◌, ◌∙◌, ◌∷◌}
-use Rattle.tor_board.proofs.Names.{◌≡◌, ◌≤◌, way_of, Side, times_arrived, climb_from, Tree, None, Option, Some, get_or}
-use Rattle.tor_board.proofs.Names.{length, min, refl, suc, sym, zero, some, some-ne-none, get_elem?, Run, Desk}
-use Rattle.tor_board.proofs.Names.{GivenUnit, Way, names, IsLeastFailed, Machine, is_given_side, lesser, start}
-use Rattle.tor_board.proofs.Names.{times_failed, below, only, times, total, ap, get_or-set_other, length-set, set}
-use Rattle.tor_board.proofs.Names.{subst, ◌++◌, ◌-◌, ◌/◌, some-injective, finished, spent_desk, Event, IsGivenSide}
-use Rattle.tor_board.proofs.Names.{IsLegalRun, IsStep, begins, claims, ends, fails, goes_on, hands, joins, looks, meets}
-use Rattle.tor_board.proofs.Names.{rests, seals, sees, side_of, splits, top_root}
-use Rattle.tor_board.proofs.{Rising.goal_of, Rising.lands, Seats.stopped_parts, Seats.stopped_both, Finding.joined_same}
-use Rattle.tor_board.proofs.Sums.{cond_le, snoc_all, total_le, below-test, below-only, below_more, set_all, total-set}
-use Rattle.tor_board.proofs.Sums.{total-append, total-without}
-use Rattle.tor_board.specs.Desks.{first, looking, holding, handed, rested, joining, topped, failing, keeping, fresh}
-use Rattle.tor_board.specs.Desks.{both}
-use Rattle.tor_board.specs.Machine.{IsNext, arrivals_at, is_side, IsLawfulState, times_given, Every, IsNodeSide}
-use Rattle.tor_merkle.specs.Subtree.{height}
-
--- ---- sides of nodes: which one a side is, and how often a node's arrived
-
-abbrev pub bit : Bool → ℕ
-bit b = cond b 1 0
+use Rattle.{atomic_table.proofs.Lists.at_index, std.proofs.lemmas.List.get_or_default}
+use Rattle.tor_board.proofs.{Finding.joined_same, Names.{Bool, Desk, Event, GivenUnit, IsGivenSide, IsLeastFailed}}
+use Rattle.tor_board.proofs.Names.{IsLegalRun, IsStep, List, Machine, None, Option, Run, Side, Some, Way, [], ap, arith}
+use Rattle.tor_board.proofs.Names.{begins, below, claims, cond, ends, fails, finished, get_elem?, get_or}
+use Rattle.tor_board.proofs.Names.{get_or-set_other, goes_on, hands, inl, inr, is_given_side, joins, length, length-set}
+use Rattle.tor_board.proofs.Names.{lesser, looks, meets, min, names, only, refl, rests, seals, sees, set, side_of, some}
+use Rattle.tor_board.proofs.Names.{some-injective, some-ne-none, spent_desk, splits, start, subst, sym, times}
+use Rattle.tor_board.proofs.Names.{times_arrived, times_failed, top_root, total, ℕ, ◌*◌, ◌++◌, ◌+◌, ◌-◌, ◌/◌, ◌<◌, ◌∙◌}
+use Rattle.tor_board.proofs.{Names.{◌∷◌, ◌≡◌, ◌≤◌}, Seats.{stopped_both, stopped_parts}, Sums.{below-only, below-test}}
+use Rattle.tor_board.proofs.Sums.{below_more, cond_le, set_all, snoc_all, total-append, total-set, total-without}
+use Rattle.tor_board.{proofs.Sums.total_le, specs.Desks.{both, failing, first, fresh, handed, holding, joining}}
+use Rattle.tor_board.specs.{Desks.{keeping, looking, rested, topped}, Machine.{Every, IsLawfulState, IsNodeSide}}
+use Rattle.tor_board.specs.Machine.{arrivals_at, times_given}
 
 abbrev pub side_at : ℕ → ℕ → ℕ → Side
 side_at n k j = record { tree = n; level = k; index = j }
-
-pub same_side : (a b : Side) → a.tree ≡ b.tree → a.level ≡ b.level → a.index ≡ b.index → is_side a b ≡ true
-same_side a b e f g = grind arith
-
-pub other_side : (a b : Side) → (a.tree ≡ b.tree → a.level ≡ b.level → a.index ≡ b.index → ⊥) → is_side a b ≡ false
-other_side a b ne = grind arith
 
 -- a node's arrivals are those of its sides
 pub at_node : (n k i : ℕ) (sides : List Side) → arrivals_at sides n k i
     ≤ times_arrived (side_at n k (2 * i)) sides + times_arrived (side_at n k (2 * i + 1)) sides
 at_node n k i [] = omega arith
 at_node n k i (s ∷ ss) = grind (arith, at_node n k i ss)
-
--- where a hash rises to is the next side of a node, or the top
-pub next_of : (t : Tree) → 0 < t.count → t.count ≤ 2 ^ t.height → t.height ≡ height t.count → (l i : ℕ) → l ≤ t.height
-    → i * 2 ^ l < t.count → (hash : List ℕ) (spare : List (ℕ × List ℕ))
-    → IsNext (way_of (climb_from t l i hash spare)) l i
-next_of t some_unit tall least l i low inside hash spare
-    = grind (arith, lands t some_unit tall l i low inside, goal_of t l i)
-
--- ---- what every run keeps
 
 abbrev pub gave : ℕ → Desk → ℕ
 gave u d = total (λ (g : GivenUnit). only u g.unit) d.given
@@ -57,13 +35,8 @@ mark units made u = below (only u) (min made units)
 abbrev pub stopped : Desk → ℕ
 stopped d = cond d.done d.room 0
 
-pub stopped_le : (d : Desk) → stopped d ≤ d.room
-stopped_le d = cond_le d.done d.room
-
 pub there : {X : Type 0} (l : List X) (i : ℕ) (d : X) → i < length l → get_elem? l i ≡ some (get_or l i d)
-there [] i d h = absurd (omega arith)
-there (x ∷ xs) zero d h = refl
-there (x ∷ xs) (suc i) d h = there xs i d (omega arith)
+there l i d h = at_index l i (get_or l i d) h (get_or_default l i d (get_or l i d) h)
 
 -- what every run keeps
 abbrev pub ClimbOk : List Run → Option Way → Type 0
@@ -92,7 +65,7 @@ pub lawful : (units : ℕ) (forest : List Run) (m : Machine) → Good units fore
 lawful units forest m g = (
   record {
     named = λ u. g.named u ∙ below-test u (min m.claims units);
-    few = omega (arith, g.bounded, g.rooms, total_le stopped (λ (d : Desk). d.room) m.desks stopped_le);
+    few = omega (arith, g.bounded, g.rooms, total_le stopped (λ (d : Desk). d.room) m.desks (λ d. cond_le d.done _));
     failed = g.least;
     nodes = λ n run is k i inside. let l = times_arrived (side_at n k (2 * i)) m.arrived in
         let r = times_arrived (side_at n k (2 * i + 1)) m.arrived in
@@ -220,7 +193,7 @@ module _ (units : ℕ) (forest : List Run) (m : Machine) (good : Good units fore
     step_good e n (looks some_room idle busy none)
         = calm (looking old) (λ u. refl) refl (omega arith) refl (λ u. omega arith) refl old_ok
     step_good e n (sees u some_room idle busy is)
-        = calm (finished old) (λ u. refl) refl (stopped_le old) refl (λ u. omega arith) refl old_ok
+        = calm (finished old) (λ u. refl) refl (cond_le old.done old.room) refl (λ u. omega arith) refl old_ok
     step_good e n (claims some_room idle busy saw more) = let d : Desk = holding old m.claims in
         changed (m.claims + 1) m.least m.arrived d (λ u. grind (arith, below_more (only u) m.claims)) refl
         (λ s s' le e. omega arith) (same_least d refl) (same_whole d (λ u. omega arith)) refl old_ok good.real

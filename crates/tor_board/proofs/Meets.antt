@@ -1,15 +1,13 @@
 -- Where a climbing seat stands, where it stands after an arrival, and what a give shows.
-use Rattle.tor_board.proofs.Names.{List, Some, [], ap, arith, get_or, refl, subst, suc, sym, ℕ, ◌*◌, ◌++◌, ◌+◌, ◌-◌}
-use Rattle.tor_board.proofs.Names.{◌/◌, ◌<◌, ◌^◌, ◌∙◌, ◌∷◌, ◌≡◌, ◌≤◌, rest, turned, Climb, IsAtTop, Seated, climb_from}
-use Rattle.tor_board.proofs.Names.{raised, IsSide, Fits, IsShape, IsTreeOf, slot_at, handed, Shape, Tree, View}
-use Rattle.tor_board.proofs.Names.{AtMostOneSpare, IsClimbing, LastGiveIsIn, climb_at, IsLow, None, Option, add-zero}
-use Rattle.tor_board.proofs.Names.{true, ◌≢◌, some, get_elem?, at_map, Run, GivenUnit, in_run, run_of, has_unit}
-use Rattle.tor_board.proofs.Names.{desk_of, Board, joined_view}
-use Rattle.tor_board.proofs.{Finding.IsBelow, Finding.at_number, Sums.mapped, Trees.node_inside, Trees.side_covers}
-use Rattle.tor_board.proofs.{Trees.has_unit-true, Rising.side_low, Rising.goal_of, Rising.lands}
-use Rattle.tor_board.specs.{Desks.after_give, Desks.told, Seats.IsClimbOf, Seats.forest_of}
-use Rattle.tor_board.specs.steps.Climbing.{joined_by, rested_view, topped_view}
-use Rattle.std.specs.Prelude.{IfSome, MatchOption}
+use Rattle.{std.specs.Prelude.{IfSome, MatchOption}, tor_board.proofs.Finding.{IsBelow, at_number}}
+use Rattle.tor_board.proofs.Names.{AtMostOneSpare, Board, Climb, Fits, GivenUnit, IsAtTop, IsClimbing, IsLow, IsShape}
+use Rattle.tor_board.proofs.Names.{IsSide, IsTreeOf, LastGiveIsIn, List, None, Option, Run, Seated, Shape, Some, Tree}
+use Rattle.tor_board.proofs.Names.{View, [], add-zero, ap, arith, at_map, climb_at, climb_from, desk_of, get_elem?}
+use Rattle.tor_board.proofs.Names.{get_or, handed, has_unit, in_run, joined_view, raised, refl, rest, run_of, slot_at}
+use Rattle.tor_board.proofs.Names.{some, subst, suc, sym, true, turned, ℕ, ◌*◌, ◌++◌, ◌+◌, ◌-◌, ◌/◌, ◌<◌, ◌^◌, ◌∙◌, ◌∷◌}
+use Rattle.tor_board.proofs.{Names.{◌≡◌, ◌≢◌, ◌≤◌}, Rising.{goal_of, lands, side_low}, Sums.mapped, Trees.has_unit-true}
+use Rattle.tor_board.{proofs.Trees.{node_inside, side_covers}, specs.Desks.{after_give, told}, specs.Seats.IsClimbOf}
+use Rattle.tor_board.specs.{Seats.forest_of, steps.Climbing.{joined_by, rested_view, topped_view}}
 
 -- the seat knows v, and has those slots
 abbrev IsSeat : Seated → View → List (ℕ × List ℕ) → Type 0

@@ -1,26 +1,21 @@
 -- Claims and failures: the part of the rule on them, and each step on the first two words, which keeps the whole.
-use Rattle.tor_board.proofs.Names.{List, [], ap, arith, inl, inr, min, refl, set, sym, true, ℕ, ◌+◌, ◌<◌, ◌^◌, ◌∙◌, ◌∷◌}
-use Rattle.tor_board.proofs.Names.{◌≡◌, ◌≢◌, ◌≤◌, ◌⊎◌, dite, some, ℕ_discrete, get_elem?, GivenUnit, units_of}
-use Rattle.tor_board.proofs.Names.{KeepsClaims, nobody, IsLeastOf, failures, named, spent, stopped, below, only, times}
-use Rattle.tor_board.proofs.Names.{total, View, None, get_or, get_or-set_other, get_or-set_same, length-set, subst}
-use Rattle.tor_board.proofs.Names.{State, ClimbsIn, IsKnown, Keeps, has_out, tops_of, IsTreeOf, WasGiven, joined_in}
-use Rattle.tor_board.proofs.Names.{word_of, Shape, Tree, Bool, cond, false, ◌%◌, none, dec_le, set_again, Allows, step}
-use Rattle.tor_board.proofs.Names.{IsFree, Seated, claimed, gave_told, looked, failing, handed}
-use Rattle.tor_board.proofs.{Trees.by_sides, Finding.words-set}
-use Rattle.tor_board.proofs.Sums.{cond_le, total-set, set_all, total_le, term_le, below-only, only-same, alone}
-use Rattle.tor_board.proofs.Sums.{total-map, below_more, only-other, total-without}
-use Rattle.tor_board.proofs.Steps.{weight, gave, seat_rooted, IsAway, unmoved_seat, away_rooted, Does}
-use Rattle.tor_board.specs.Plays.{failed, merged}
-use Rattle.atomic_table.specs.Table.{keeps}
-
-pub stopped_le : (v : View) → stopped v ≤ v.room
-stopped_le v = cond_le v.done v.room
+use Rattle.{atomic_table.specs.Table.keeps, tor_board.proofs.Finding.words-set, tor_board.proofs.Names.{Allows, Bool}}
+use Rattle.tor_board.proofs.Names.{ClimbsIn, GivenUnit, IsFree, IsKnown, IsLeastOf, IsTreeOf, Keeps, KeepsClaims, List}
+use Rattle.tor_board.proofs.Names.{None, Seated, Shape, State, Tree, View, WasGiven, [], ap, arith, below, claimed}
+use Rattle.tor_board.proofs.Names.{cond, dec_le, dite, failing, failures, false, gave_told, get_elem?, get_or}
+use Rattle.tor_board.proofs.Names.{get_or-set_other, get_or-set_same, handed, has_out, inl, inr, joined_in, length-set}
+use Rattle.tor_board.proofs.Names.{looked, min, named, nobody, none, only, refl, set, set_again, some, spent, step}
+use Rattle.tor_board.proofs.Names.{stopped, subst, sym, times, tops_of, total, true, units_of, word_of, ℕ, ℕ_discrete}
+use Rattle.tor_board.proofs.{Names.{◌%◌, ◌+◌, ◌<◌, ◌^◌, ◌∙◌, ◌∷◌, ◌≡◌, ◌≢◌, ◌≤◌, ◌⊎◌}, Steps.{Does, IsAway}}
+use Rattle.tor_board.proofs.{Steps.{away_rooted, gave, seat_rooted, unmoved_seat, weight}, Sums.{alone, below-only}}
+use Rattle.tor_board.proofs.Sums.{below_more, cond_le, only-other, only-same, set_all, term_le, total-map, total-set}
+use Rattle.tor_board.{proofs.Sums.{total-without, total_le}, proofs.Trees.by_sides, specs.Plays.{failed, merged}}
 
 -- the claims are at most 256 more than the units
 pub few_claims : {units claims least : ℕ} {views : List View} → KeepsClaims units claims least views
     → claims ≤ units + 256
 few_claims {views = views} k
-    = omega (arith, k.bounded, k.rooms, total_le stopped (λ (v : View). v.room) views stopped_le)
+    = omega (arith, k.bounded, k.rooms, total_le stopped (λ (v : View). v.room) views (λ u. cond_le u.done u.room))
 
 module _ {units claims least : ℕ} {views : List View} (k : KeepsClaims units claims least views) (id : ℕ) (v : View)
     (at : get_elem? views id ≡ some v) where
@@ -76,6 +71,16 @@ module _ {units claims least : ℕ} {views : List View} (k : KeepsClaims units c
       changed least (λ u h. omega (arith, moved u, k.spared u h))
       (λ h. omega (arith, moved least, k.attained h)) (omega arith) more done
 
+-- no unit is claimed or failed, and the seat has its room and is done as before
+pub calm : {units claims least : ℕ} {views : List View} → KeepsClaims units claims least views → (id : ℕ) (v : View)
+    → get_elem? views id ≡ some v → 0 < v.room → (w : View) → ((f : ℕ → ℕ) → named f w ≡ named f v)
+    → (w.room ≡ v.room) × (w.failed ≡ v.failed) × (w.done ≡ v.done)
+    → KeepsClaims units claims least (set views id w)
+calm {claims = claims} k id v at some_room w names same =
+    let still : stopped w ≡ stopped v = λ i. cond (same.2 i) (same.0 i) 0 in
+    steady k id v at some_room claims w (λ f. omega (arith, names f)) same.0 (λ t t' h e. omega arith) same.1
+    (omega arith) (λ e. inl (sym same.2 ∙ e))
+
 module _ {units claims least : ℕ} {views : List View} (k : KeepsClaims units claims least views) (id : ℕ) (v : View)
     (at : get_elem? views id ≡ some v) (whole : v.room ≡ 256) where
   -- the others have nothing
@@ -103,22 +108,22 @@ module _ {units claims least : ℕ} {views : List View} (k : KeepsClaims units c
 
 -- ---- the rule of every tree, where the seat is in no climb
 
--- the seat is in no climb, and its room, arrivals and tops stay
-abbrev pub IsAlike : View → View → Type 0
-IsAlike v w = (w.climb ≡ None) × (w.tops ≡ v.tops) × (w.arrivals ≡ v.arrivals) × (w.units ≡ v.units) × (w.room ≡ v.room)
-
--- it gives none of the trees' units
-abbrev pub GivesAlone : Shape → View → View → Type 0
-GivesAlone shape v w = ((t : Tree) → joined_in t w.given ≡ joined_in t v.given)
+-- it is in no climb, its room, arrivals and tops stay, and it gives none of the trees' units
+abbrev pub IsAlike : Shape → View → View → Type 0
+IsAlike shape v w = (w.climb ≡ None) × (w.tops ≡ v.tops) × (w.arrivals ≡ v.arrivals) × (w.units ≡ v.units)
+    × (w.room ≡ v.room) × ((t : Tree) → joined_in t w.given ≡ joined_in t v.given)
     × ((f : ℕ → List ℕ → ℕ) → weight f v ≤ weight f w)
     × ((t : Tree) → IsTreeOf shape t → (j : ℕ) → j < t.count → gave (t.first + j) w ≡ gave (t.first + j) v)
 
+alike : (shape : Shape) (v : View) → v.climb ≡ None → IsAlike shape v v
+alike shape v idle = (idle, refl, refl, refl, refl, (λ t. refl), (λ f. omega arith), λ t is j h. refl)
+
 module _ {shape : Shape} {s : State (List ℕ) View} (kept : Keeps shape s) (id : ℕ) (v : View)
     (at : get_elem? s.views id ≡ some v) (idle : v.climb ≡ None) where
-  steady_all : (i n : ℕ) → i < 2 → (w : View) → IsAlike v w → GivesAlone shape v w
+  steady_all : (i n : ℕ) → i < 2 → (w : View) → IsAlike shape v w
       → KeepsClaims shape.units (get_or (set s.words i n) 0 0) (get_or (set s.words i n) 1 0) (set s.views id w)
       → Keeps shape record { words = set s.words i n; homes = s.homes; views = set s.views id w }
-  steady_all i n low w alike gives claims = let sum = λ (g : View → ℕ). total-set g s.views id v w at in
+  steady_all i n low w like claims = let sum = λ (g : View → ℕ). total-set g s.views id v w at in
       let far : (t : Tree) (m : ℕ) → get_or (set s.words i n) (word_of t m) 0 ≡ get_or s.words (word_of t m) 0
       = λ t m. get_or-set_other s.words i (word_of t m) n 0 (λ e. omega arith) in
       let first_two = by_sides (λ (b : ℕ). get_or (set s.words b n) 0 0 + get_or (set s.words b n) 1 0
@@ -132,38 +137,32 @@ module _ {shape : Shape} {s : State (List ℕ) View} (kept : Keeps shape s) (id 
         unused = λ j big free. rw (get_or-set_other s.words i j n 0 (λ e. omega arith)) (kept.unused j big free);
         claims = claims;
         known = set_all (λ (u : View). 0 < u.room → IsKnown shape u) s.views id w kept.known (λ some_room.
-            let known = kept.known id v at (omega (arith, alike.4)) in
-            (alike.3 ∙ known.0, subst (ClimbsIn shape) (sym alike.0) tt));
-        arrivals = grind (arith, words-set s.words i n, kept.arrivals, kept.long, alike.2);
-        joins = λ t is. grind (arith, kept.joins t is, gives.0 t);
-        trees = λ t is. let tree = kept.trees t is in let w_away : IsAway t w.climb = λ x h. ap (has_out x) alike.0 in
+            let known = kept.known id v at (omega (arith, like.4)) in
+            (like.3 ∙ known.0, subst (ClimbsIn shape) (sym like.0) tt));
+        arrivals = grind (arith, words-set s.words i n, kept.arrivals, kept.long, like.2);
+        joins = λ t is. grind (arith, kept.joins t is, like.5 t);
+        trees = λ t is. let tree = kept.trees t is in let w_away : IsAway t w.climb = λ x h. ap (has_out x) like.0 in
             unmoved_seat tree (set s.words i n) s.homes (λ m h. far t m) (omega (arith, length-set s.words i n))
-            (λ x h. refl) (omega arith) id v w at (ap (tops_of t.number) alike.1)
-            (away_rooted (WasGiven s.views) t tree.some_unit w.climb w_away, rw alike.1 (seat_rooted tree id v at).1)
-            (λ x h. ap (has_out x) idle) w_away gives.1 (gives.2 t is);
+            (λ x h. refl) (omega arith) id v w at (ap (tops_of t.number) like.1)
+            (away_rooted (WasGiven s.views) t tree.some_unit w.climb w_away, rw like.1 (seat_rooted tree id v at).1)
+            (λ x h. ap (has_out x) idle) w_away like.6 (like.7 t is);
       }
 
   -- the first word becomes n, or the second
-  pub steady_first : (n : ℕ) (w : View) → IsAlike v w → GivesAlone shape v w
+  pub steady_first : (n : ℕ) (w : View) → IsAlike shape v w
       → KeepsClaims shape.units n (get_or s.words 1 0) (set s.views id w)
       → Keeps shape record { words = set s.words 0 n; homes = s.homes; views = set s.views id w }
-  steady_first n w alike gives claims = steady_all 0 n (omega arith) w alike gives
+  steady_first n w like claims = steady_all 0 n (omega arith) w like
       (let here = get_or-set_same s.words 0 n 0 (omega (arith, kept.long)) in
       rw (here, get_or-set_other s.words 0 1 n 0 (omega arith)) claims)
 
-  pub steady_second : (n : ℕ) (w : View) → IsAlike v w → GivesAlone shape v w
+  pub steady_second : (n : ℕ) (w : View) → IsAlike shape v w
       → KeepsClaims shape.units (get_or s.words 0 0) n (set s.views id w)
       → Keeps shape record { words = set s.words 1 n; homes = s.homes; views = set s.views id w }
-  steady_second n w alike gives claims = steady_all 1 n (omega arith) w alike gives
+  steady_second n w like claims = steady_all 1 n (omega arith) w like
       (rw (get_or-set_same s.words 1 n 0 kept.long, get_or-set_other s.words 1 0 n 0 (omega arith)) claims)
 
 -- ---- the steps
-
--- a step that moves no slot
-stays : (shape : Shape) (s : State (List ℕ) View) (id i n : ℕ) (m : Seated) (P : Seated → Type 0) (w : View)
-    → Keeps shape record { words = set s.words i n; homes = s.homes; views = set s.views id w } → P (w, m.1)
-    → Does shape s s.homes id i n m.1 P
-stays shape s id i n m P w whole told = (w, keeps, tt, whole, told)
 
 pub looks : (shape : Shape) (slots id : ℕ) (m : Seated) → 0 < m.0.room → m.0.climb ≡ None → m.0.done ≡ false
     → Allows (Keeps shape) slots id m 1 (λ n. n) (looked (step slots 1 0 0 none) m)
@@ -173,13 +172,12 @@ looks shape slots id m some_room idle not_done s kept homes at small =
     → (d ≡ true → (m.0.done ≡ true) ⊎ ((n < nobody) ⊎ (shape.units ≤ c)))
     → looked (step slots 1 0 0 none) m n (record m.0 { done = d; looked = l }, m.1)
     → Does shape s s.homes id 1 n m.1 (looked (step slots 1 0 0 none) m n)
-    = λ d l room why. let w : View = record m.0 { done = d; looked = l } in
-    stays shape s id 1 n m (looked (step slots 1 0 0 none) m n) w (steady_second kept id m.0 at idle n w
-    (idle, refl, refl, refl, refl) ((λ t. refl), (λ f. omega arith), λ t is j h. refl)
-    (steady k id m.0 at some_room c w (λ f. refl) refl (λ t t' h e. omega arith) refl (omega arith) why)) in
+    = λ d l room why told. let w : View = record m.0 { done = d; looked = l } in
+    let claims = steady k id m.0 at some_room c w (λ f. refl) refl (λ t t' h e. omega arith) refl (omega arith) why in
+    (w, keeps, tt, steady_second kept id m.0 at idle n w (alike shape m.0 idle) claims, told) in
     dite (ℕ_discrete n nobody) (λ none-yet. change m.0.done true (omega arith) (λ e. inl e)
     ((λ e. (refl, none_failed k id m.0 at kept.small e)), (λ ne. absurd (ne none-yet)), refl, free, not_done))
-    (λ some-failed. change true false (stopped_le m.0) (λ e. inr (inl (omega (arith, k.most))))
+    (λ some-failed. change true false (cond_le m.0.done m.0.room) (λ e. inr (inl (omega (arith, k.most))))
     ((λ e. absurd (some-failed e)), (λ ne. refl), refl, free, not_done))
 
 pub claims : (shape : Shape) (slots id : ℕ) (m : Seated) → 0 < m.0.room → m.0.climb ≡ None → m.0.done ≡ false
@@ -195,11 +193,9 @@ claims shape slots id m some_room idle not_done saw of s kept homes at small =
     → (d ≡ true → (m.0.done ≡ true) ⊎ ((get_or s.words 1 0 < nobody) ⊎ (units ≤ n + 1)))
     → claimed (step slots 0 1 0 none) m n (record m.0 { held = held; done = d; looked = false }, m.1)
     → Does shape s s.homes id 0 ((n + 1) % 2 ^ 64) m.1 (claimed (step slots 0 1 0 none) m n)
-    = λ held d names bound why. let w : View = record m.0 { held = held; done = d; looked = false } in
-    stays shape s id 0 ((n + 1) % 2 ^ 64) m (claimed (step slots 0 1 0 none) m n) w (rw next
-    (steady_first kept id m.0 at idle (n + 1) w (idle, refl, refl, refl, refl)
-    ((λ t. refl), (λ f. omega arith), λ t is j h. refl)
-    (steady k id m.0 at some_room (n + 1) w (λ f. omega (arith, names f)) refl bound refl (omega arith) why))) in
+    = λ held d names bound why told. let w : View = record m.0 { held = held; done = d; looked = false } in
+    let claims = steady k id m.0 at some_room (n + 1) w (λ f. omega (arith, names f)) refl bound refl (omega arith) why
+    in (w, keeps, tt, rw next (steady_first kept id m.0 at idle (n + 1) w (alike shape m.0 idle) claims), told) in
     dite (dec_le units n) (λ over. change m.0.held true
     (λ f. let e : min n units ≡ units = omega arith in let e' : min (n + 1) units ≡ units = omega arith in
     rw (e, e') refl) (λ t t' h e. omega arith) (λ e. inr (inr (omega arith)))
@@ -216,11 +212,10 @@ pub hands_alone : (shape : Shape) (slots id : ℕ) (m : Seated) (u : ℕ) (hash 
 hands_alone shape slots id m u hash some_room idle has alone s kept homes at small =
     let n : ℕ = get_or s.words 0 0 in let w : View = handed m.0 u hash None in
     let other = λ (t : Tree) (is : IsTreeOf shape t) (j : ℕ) (h : j < t.count).
-    only-other (t.first + j) u (alone t is j h) in let gives : GivesAlone shape m.0 w = grind arith in
-    stays shape s id 0 n m (gave_told None u hash (step slots 0 0 0 none) m n) w
-    (steady_first kept id m.0 at idle n w (refl, refl, refl, refl, refl) gives
-    (steady kept.claims id m.0 at some_room n w (λ f. omega (arith, total-without f u m.0.held has)) refl
-    (λ t t' h e. omega arith) refl (omega arith) (λ e. inl e))) (refl, refl, (some_room, idle), has)
+    only-other (t.first + j) u (alone t is j h) in let like : IsAlike shape m.0 w = grind arith in
+    let whole = steady_first kept id m.0 at idle n w like
+    (calm kept.claims id m.0 at some_room w (λ f. omega (arith, total-without f u m.0.held has)) (refl, refl, refl)) in
+    (w, keeps, tt, whole, (refl, refl, (some_room, idle), has))
 
 pub fails : (shape : Shape) (slots id : ℕ) (m : Seated) (u : ℕ) → 0 < m.0.room → m.0.climb ≡ None → 0 < times u m.0.held
     → Allows (Keeps shape) slots id m 1 (λ n. min n u) (failed (step slots 1 u 0 none) m)
@@ -229,20 +224,17 @@ fails shape slots id m u some_room idle has s kept homes at small =
     let w : View = failing m.0 u in
     let grown : (x : ℕ) → total (failures (only x)) (set s.views id w) ≡ total (failures (only x)) s.views + only x u
     = λ x. omega (arith, total-set (failures (only x)) s.views id m.0 w at) in
-    stays shape s id 1 (min least u) m (failed (step slots 1 u 0 none) m least) w
-    (steady_second kept id m.0 at idle (min least u) w (idle, refl, refl, refl, refl)
-    ((λ t. refl), (λ f. omega arith), λ t is j h. refl)
-    (changed k id m.0 at some_room c w (λ f. omega (arith, total-without f u m.0.held has)) refl
+    let claims = changed k id m.0 at some_room c w (λ f. omega (arith, total-without f u m.0.held has)) refl
     (λ t t' h e. omega arith) (min least u)
     (λ x h. omega (arith, grown x, k.spared x (omega arith), only-other x u (λ e. omega arith))) (λ h. grind arith)
-    (omega arith) (omega arith) (λ e. inl e))) (refl, refl, (some_room, idle), has)
+    (omega arith) (omega arith) (λ e. inl e) in
+    let whole = steady_second kept id m.0 at idle (min least u) w (alike shape m.0 idle) claims in
+    (w, keeps, tt, whole, (refl, refl, (some_room, idle), has))
 
 pub merges : (shape : Shape) (slots id : ℕ) (m : Seated) → m.0.climb ≡ None
     → Allows (Keeps shape) slots id m 0 (λ n. n) (merged (step slots 0 0 0 none) m)
 merges shape slots id m idle s kept homes at small = let n : ℕ = get_or s.words 0 0 in let k = kept.claims in
-    let once : (u : ℕ) → named (only u) m.0 ≤ 1 = λ u. let a = (below-only u (min n shape.units)).0 in
+    let one : (u : ℕ) → named (only u) m.0 ≤ 1 = λ u. let a = (below-only u (min n shape.units)).0 in
     let b = term_le (named (only u)) s.views id m.0 at in omega (arith, k.once (only u)) in
-    stays shape s id 0 n m (merged (step slots 0 0 0 none) m n) m.0
-    (steady_first kept id m.0 at idle n m.0 (idle, refl, refl, refl, refl)
-    ((λ t. refl), (λ f. omega arith), λ t is j h. refl) (rw (set_again s.views id m.0 at) k))
-    (refl, refl, omega (arith, term_le (λ (v : View). v.room) s.views id m.0 at, k.rooms), once)
+    let whole = steady_first kept id m.0 at idle n m.0 (alike shape m.0 idle) (rw (set_again s.views id m.0 at) k) in
+    (m.0, keeps, tt, whole, (refl, refl, omega (arith, term_le (λ (v : View). v.room) s.views id m.0 at, k.rooms), one))

@@ -1,15 +1,13 @@
 -- The shape of a new board, and the rule at its start.
-use Rattle.tor_board.proofs.Names.{List, [], ap, arith, drop, get_or, get_or-set_other, get_or-set_same, length}
-use Rattle.tor_board.proofs.Names.{length-set, map, min, refl, replicate, set, subst, suc, sym, zero, ℕ, ◌*◌, ◌+◌, ◌-◌}
-use Rattle.tor_board.proofs.Names.{◌/◌, ◌<◌, ◌^◌, ◌∙◌, ◌∷◌, ◌≡◌, ◌≢◌, ◌≤◌, pow_mono, dite, some, some-injective}
-use Rattle.tor_board.proofs.Names.{some-ne-none, dec_le, get_elem?, Run, IsKnown, Keeps, KeepsTree, nobody, run_of}
-use Rattle.tor_board.proofs.Names.{Fits, IsShape, IsTreeOf, middle, ready, word_of, first, below, total, Shape, Tree}
-use Rattle.tor_board.proofs.Names.{View, units_in}
-use Rattle.tor_board.proofs.Trees.{ready_node, ready_chain}
-use Rattle.tor_board.specs.steps.Row.{trees_from}
-use Rattle.{tor_merkle.specs.Subtree.height, tor_plan.specs.Forest.AreRuns, atomic_table.proofs.Lists.some_there}
-use Rattle.{atomic_table.specs.Table.opening, tor_merkle.proofs.ProvedLaws.height_covers}
-use Rattle.std.proofs.lemmas.List.{at_drop_more, length-map, length-replicate}
+use Rattle.{atomic_table.proofs.Lists.some_there, atomic_table.specs.Table.opening, std.proofs.lemmas.List.at_drop_more}
+use Rattle.{std.proofs.lemmas.List.{length-map, length-replicate}, tor_board.proofs.Names.{Fits, IsKnown, IsShape}}
+use Rattle.tor_board.proofs.Names.{IsTreeOf, Keeps, KeepsTree, List, Run, Shape, Tree, View, [], ap, arith, below}
+use Rattle.tor_board.proofs.Names.{dec_le, dite, drop, first, get_elem?, get_or, get_or-set_other, get_or-set_same}
+use Rattle.tor_board.proofs.Names.{length, length-set, map, middle, min, nobody, pow_mono, ready, refl, replicate}
+use Rattle.tor_board.proofs.Names.{run_of, set, some, some-injective, some-ne-none, subst, suc, sym, total, units_in}
+use Rattle.tor_board.proofs.Names.{word_of, zero, ℕ, ◌*◌, ◌+◌, ◌-◌, ◌/◌, ◌<◌, ◌^◌, ◌∙◌, ◌∷◌, ◌≡◌, ◌≢◌, ◌≤◌}
+use Rattle.tor_board.{proofs.Trees.{ready_chain, ready_node}, specs.steps.Row.trees_from}
+use Rattle.{tor_merkle.proofs.ProvedLaws.height_covers, tor_merkle.specs.Subtree.height, tor_plan.specs.Forest.AreRuns}
 
 -- a run's tree of that height
 abbrev pub laid : ℕ → ℕ → Run → ℕ → Tree

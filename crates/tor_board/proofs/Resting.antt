@@ -1,15 +1,13 @@
 -- A slot goes home, or is taken for a unit that is handed in: that keeps the rule of its tree.
-use Rattle.tor_board.proofs.Names.{List, None, Some, [], ap, arith, get_or, inr, length, length-set, refl, set, subst}
-use Rattle.tor_board.proofs.Names.{sym, ℕ, ◌+◌, ◌/◌, ◌<◌, ◌∙◌, ◌∷◌, ◌≡◌, ◌≤◌, Opt, some, get_elem?, set_again, set_else}
-use Rattle.tor_board.proofs.Names.{set_here, put_back, Climb, IsSide, KeepsTree, TopsAre, climbs_to, has_out, tops_of}
-use Rattle.tor_board.proofs.Names.{IsRoot, WasGiven, slot_of, word_of, topped, only, total, View, AtMostOneSpare, inl}
-use Rattle.tor_board.proofs.Names.{◌*◌, ◌-◌, ◌^◌, ◌≢◌, dite, none, ℕ_discrete, climb_from, ready, times_given, handed}
-use Rattle.tor_board.proofs.Names.{Tree}
-use Rattle.tor_board.proofs.Sums.{total-set, only-same, only-other}
-use Rattle.tor_board.proofs.Trees.{ready_same, side_covers, side_in, empty_home}
-use Rattle.tor_board.proofs.Steps.{SeatStep, keeps_step, put_home, old_seat, seat_rooted, outs, gave, tops_at}
-use Rattle.tor_board.proofs.Steps.{ClimbRooted, SpareRooted, climbs, old_home, new_seat, seat_more, weight}
-use Rattle.tor_board.proofs.Rising.{rooted_at, rises_ready, ready_from, ready_grown, lands}
+use Rattle.tor_board.proofs.Names.{AtMostOneSpare, Climb, IsRoot, IsSide, KeepsTree, List, None, Opt, Some, TopsAre}
+use Rattle.tor_board.proofs.Names.{Tree, View, WasGiven, [], ap, arith, climb_from, climbs_to, dite, get_elem?, get_or}
+use Rattle.tor_board.proofs.Names.{handed, has_out, inl, inr, length, length-set, none, only, put_back, ready, refl}
+use Rattle.tor_board.proofs.Names.{set, set_again, set_else, set_here, slot_of, some, subst, sym, times_given, topped}
+use Rattle.tor_board.proofs.Names.{tops_of, total, word_of, ℕ, ℕ_discrete, ◌*◌, ◌+◌, ◌-◌, ◌/◌, ◌<◌, ◌^◌, ◌∙◌, ◌∷◌, ◌≡◌}
+use Rattle.tor_board.proofs.{Names.{◌≢◌, ◌≤◌}, Rising.{lands, ready_from, ready_grown, rises_ready, rooted_at}}
+use Rattle.tor_board.proofs.Steps.{ClimbRooted, SeatStep, climbs, gave, keeps_step, new_seat, old_home, old_seat, outs}
+use Rattle.tor_board.proofs.{Steps.{put_home, seat_more, seat_rooted, tops_at, weight}, Sums.{only-other, only-same}}
+use Rattle.tor_board.proofs.{Sums.total-set, Trees.{empty_home, ready_same, side_covers, side_in}}
 
 -- ---- a slot that was left over, and a hash that comes to rest
 
@@ -45,10 +43,10 @@ module _ {words : List ℕ} {homes : List (Opt (List ℕ))} {views : List View} 
         sides_out = λ m side two pos h. let e = had (slot_of c.tree m side) in omega (arith, e.0, e.1);
         out_top = let e = had (slot_of c.tree 0 0) in omega (arith, e.0, e.1);
         home = λ s k j is none. put_home kept (set homes o (some z)) (λ x. 0) o z
-            (subst (SpareRooted (WasGiven views) c.tree) one roots.1) s k j is
+            (roots.1 o z one) s k j is
             (λ e. rw e (set_here homes o (some z) inside)) (λ ne. let away = only-other s o (λ e. ne (sym e)) in
             (omega (arith, sum (outs s), (had s).1), set_else homes o s (some z) ne, refl));
-        seats = old_seat kept id (bare v c) ((roots.0, tt), has.1);
+        seats = old_seat kept id (bare v c) ((roots.0, λ o hash e. cc), has.1);
         tops = omega arith;
       } in keeps_step kept step
 
@@ -155,6 +153,7 @@ module _ {t : Tree} {words : List ℕ} {homes : List (Opt (List ℕ))} {views : 
             old_home kept (set homes c.slot none) (λ x. 0) s k j is (omega arith)
             (set_else homes c.slot s none apart) refl;
         seats = λ stand. let had = seat_more t (WasGiven views) (WasGiven vs) stand v (seat_rooted kept id v at) in
-            new_seat kept id w ((rooted_at (WasGiven vs) t c.slot c.level c.index c.hash up.1 root, tt), had.1) stand;
+            let own = rooted_at (WasGiven vs) t c.slot c.level c.index c.hash up.1 root in
+            new_seat kept id w ((own, λ o hash e. cc), had.1) stand;
         tops = omega arith;
       } in (h.0, h.1, keeps_step kept step)

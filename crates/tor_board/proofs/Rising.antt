@@ -1,12 +1,11 @@
 -- Which spot a middle names, where a hash rises to, and what it is there.
-use Rattle.tor_board.proofs.Names.{List, ap, arith, get_or, inl, inr, mul-le-mul_right, refl, suc, sym, zero, ℕ, ◌*◌}
-use Rattle.tor_board.proofs.Names.{◌+◌, ◌<◌, ◌^◌, ◌∙◌, ◌≡◌, ◌≤◌, ◌⊎◌, pow-suc, pow_mono, dite, dec_le, ℕ_discrete}
-use Rattle.tor_board.proofs.Names.{IsSide, IsRoot, middle, ready, times_given, word_of, only, Tree, View, Bool}
-use Rattle.tor_board.proofs.Names.{add-zero, cond, false, le-ltb, ltb, subst, ◌%◌, ◌-◌, ◌/◌, node_of, raised, risen}
-use Rattle.tor_board.proofs.Names.{slot_at, IsLow}
-use Rattle.tor_board.proofs.{Trees.ready_chain, Trees.split_positive, Trees.twice, Sums.only-same, Sums.only-other}
-use Rattle.tor_board.specs.Rising.{Rises}
-use Rattle.{tor_merkle.specs.Subtree.zero_subtree, std.proofs.Common.add-suc}
+use Rattle.{std.proofs.Common.add-suc, tor_board.proofs.Names.{Bool, IsLow, IsRoot, IsSide, List, Tree, View, add-zero}}
+use Rattle.tor_board.proofs.Names.{ap, arith, cond, dec_le, dite, false, get_or, inl, inr, le-ltb, ltb, middle}
+use Rattle.tor_board.proofs.Names.{mul-le-mul_right, node_of, only, pow-suc, pow_mono, raised, ready, refl, risen}
+use Rattle.tor_board.proofs.Names.{slot_at, subst, suc, sym, times_given, word_of, zero, ℕ, ℕ_discrete, ◌%◌, ◌*◌, ◌+◌}
+use Rattle.tor_board.proofs.{Names.{◌-◌, ◌/◌, ◌<◌, ◌^◌, ◌∙◌, ◌≡◌, ◌≤◌, ◌⊎◌}, Sums.{only-other, only-same}}
+use Rattle.tor_board.{proofs.Trees.{ready_chain, split_positive, twice}, specs.Rising.Rises}
+use Rattle.tor_merkle.specs.Subtree.{zero_subtree}
 
 halved : (i p : ℕ) → (2 * i + 1) * (p * 2) ≡ (2 * i + 1) * p * 2
 halved i p = omega arith

@@ -1,18 +1,16 @@
 -- The rule makes the words, the slots and the views lawful.
-use Rattle.tor_board.proofs.Names.{List, None, Some, [], ap, arith, cond, drop, get_or, inl, inr, le-ltb, length, min}
-use Rattle.tor_board.proofs.Names.{refl, subst, suc, sym, zero, ℕ, ◌*◌, ◌+◌, ◌<◌, ◌^◌, ◌∙◌, ◌∷◌, ◌≡◌, ◌≤◌, dite, Opt}
-use Rattle.tor_board.proofs.Names.{some, some-injective, some-ne-none, dec_le, ℕ_discrete, get_elem?, State, Run, Desk}
-use Rattle.tor_board.proofs.Names.{GivenUnit, names, IsGivenSide, IsLeastFailed, is_given_side, times_failed, top_root}
-use Rattle.tor_board.proofs.Names.{IsSide, Keeps, KeepsClaims, KeepsTree, nobody, least_of, runs_of, IsShape, IsTreeOf}
-use Rattle.tor_board.proofs.Names.{IsRoot, WasGiven, middle, ready, slot_of, word_of, desk_of, desks_of, failures}
-use Rattle.tor_board.proofs.Names.{named, only, times, total, Shape, Tree, View}
-use Rattle.tor_board.proofs.{Moves.few_claims, Finding.at_number, Closing.spot_root, Closing.whole_root, Steps.weight}
-use Rattle.tor_board.proofs.{Steps.gave, Sums.below-only, Sums.total_le, Sums.total-append, Sums.total-map, Sums.mapped}
-use Rattle.tor_board.proofs.{Sums.below-test, Trees.arrived_once, Trees.ready_node, Trees.ready_chain, Trees.ready_once}
-use Rattle.tor_board.proofs.{Trees.node_ready, Trees.node_word, Trees.side_of, Trees.twice, Trees.zero_more}
-use Rattle.tor_board.specs.{Climb.run_of, Machine.all_given}
-use Rattle.tor_board.specs.Running.{IsRunning, IsTreeLawful, arrivals_in, offset_at}
-use Rattle.tor_merkle.specs.Subtree.{height}
+use Rattle.tor_board.proofs.{Closing.{spot_root, whole_root}, Finding.at_number, Moves.few_claims, Names.Desk}
+use Rattle.tor_board.proofs.Names.{GivenUnit, IsGivenSide, IsLeastFailed, IsRoot, IsShape, IsSide, IsTreeOf, Keeps}
+use Rattle.tor_board.proofs.Names.{KeepsClaims, KeepsTree, List, None, Opt, Run, Shape, Some, State, Tree, View}
+use Rattle.tor_board.proofs.Names.{WasGiven, [], ap, arith, cond, dec_le, desk_of, desks_of, dite, drop, failures}
+use Rattle.tor_board.proofs.Names.{get_elem?, get_or, inl, inr, is_given_side, le-ltb, least_of, length, middle, min}
+use Rattle.tor_board.proofs.Names.{named, names, nobody, only, ready, refl, runs_of, slot_of, some, some-injective}
+use Rattle.tor_board.proofs.Names.{some-ne-none, subst, suc, sym, times, times_failed, top_root, total, word_of, zero}
+use Rattle.tor_board.proofs.{Names.{ℕ, ℕ_discrete, ◌*◌, ◌+◌, ◌<◌, ◌^◌, ◌∙◌, ◌∷◌, ◌≡◌, ◌≤◌}, Steps.{gave, weight}}
+use Rattle.tor_board.proofs.Sums.{below-only, below-test, mapped, total-append, total-map, total_le}
+use Rattle.tor_board.proofs.Trees.{arrived_once, node_ready, node_word, ready_chain, ready_node, ready_once, side_of}
+use Rattle.tor_board.{proofs.Trees.{twice, zero_more}, specs.Climb.run_of, specs.Machine.all_given}
+use Rattle.{tor_board.specs.Running.{IsRunning, IsTreeLawful, arrivals_in, offset_at}, tor_merkle.specs.Subtree.height}
 
 pub some_least : (x : ℕ) → x < nobody → least_of x ≡ Some x
 some_least x h = grind arith

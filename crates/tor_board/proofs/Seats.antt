@@ -1,11 +1,10 @@
 -- Splitting and joining seats keeps the rule.
-use Rattle.tor_board.proofs.Names.{Bool, List, None, Option, [], ap, arith, cond, refl, set, sym, true, ℕ, ◌++◌, ◌+◌}
-use Rattle.tor_board.proofs.Names.{◌-◌, ◌/◌, ◌<◌, ◌||◌, ◌∙◌, ◌∷◌, ◌≡◌, ◌≢◌, ◌≤◌, ◌⊎◌, some, get_elem?, set_else, State}
-use Rattle.tor_board.proofs.Names.{Climb, GivenUnit, IsKnown, Keeps, KeepsClaims, climbs_to, has_out, nobody, IsRoot}
-use Rattle.tor_board.proofs.Names.{WasGiven, has_unit, joined_in, both, failures, fresh, keeping, named, spent, stopped}
-use Rattle.tor_board.proofs.Names.{only, total, Shape, View}
-use Rattle.tor_board.proofs.{Sums.total-set, Sums.total-append, Sums.set_all, Sums.snoc_all, Trees.told_append}
-use Rattle.tor_board.proofs.Steps.{unmoved, SeatRooted, seat_more, seat_rooted}
+use Rattle.tor_board.proofs.Names.{Bool, GivenUnit, IsKnown, IsRoot, Keeps, List, None, Shape, State, View, WasGiven}
+use Rattle.tor_board.proofs.Names.{[], ap, arith, both, climbs_to, cond, failures, fresh, get_elem?, get_or, has_out}
+use Rattle.tor_board.proofs.Names.{has_unit, joined_in, keeping, named, nobody, only, refl, set, set_else, some, spent}
+use Rattle.tor_board.proofs.Names.{stopped, sym, total, true, ℕ, ◌++◌, ◌+◌, ◌-◌, ◌/◌, ◌<◌, ◌||◌, ◌∙◌, ◌∷◌, ◌≡◌, ◌≢◌}
+use Rattle.tor_board.proofs.{Names.{◌≤◌, ◌⊎◌}, Steps.{SeatRooted, seat_more, seat_rooted, unmoved}, Sums.set_all}
+use Rattle.tor_board.proofs.{Sums.{snoc_all, total-append, total-set}, Trees.told_append}
 
 pub stopped_parts : (b : Bool) (a c n : ℕ) → a + c ≡ n → cond b a 0 + cond b c 0 ≡ cond b n 0
 stopped_parts b a c n e = grind arith
@@ -29,22 +28,6 @@ module _ (shape : Shape) {s : State (List ℕ) View} (kept : Keeps shape s) (id 
   split_all P all mine new
       = snoc_all P (set s.views id (keeping v)) (fresh v) (set_all P s.views id (keeping v) all mine) new
 
-  split_claims : {units claims least : ℕ} → KeepsClaims units claims least s.views
-      → KeepsClaims units claims least split_views
-  split_claims {units = units} {claims = claims} {least = least} k = record {
-    once = λ f. omega (arith, split_sum (named f), k.once f);
-    rooms = omega (arith, split_sum (λ (u : View). u.room), k.rooms);
-    gone = split_all (λ (u : View). u.room ≡ 0 → u ≡ spent) k.gone (λ none. absurd (omega arith))
-        (λ none. absurd (omega arith));
-    bounded = let a = split_sum stopped in let b = k.bounded in
-        let d = stopped_parts v.done (v.room - v.room / 2) (v.room / 2) v.room (omega arith) in omega arith;
-    spared = λ u h. omega (arith, split_sum (failures (only u)), k.spared u h);
-    attained = λ h. omega (arith, split_sum (failures (only least)), k.attained h);
-    most = k.most;
-    why = split_all (λ (u : View). u.done ≡ true → (least < nobody) ⊎ (units ≤ claims)) k.why (k.why id v at)
-        (k.why id v at);
-  }
-
   pub split_keeps : Keeps shape record { words = s.words; homes = s.homes; views = split_views }
   split_keeps = record {
     small = kept.small;
@@ -54,7 +37,19 @@ module _ (shape : Shape) {s : State (List ℕ) View} (kept : Keeps shape s) (id 
         split_all (λ (u : View). 0 < u.room → IsKnown shape u) kept.known (λ _. mine) (λ _. (mine.0, tt));
     arrivals = omega (arith, kept.arrivals, split_sum (λ (u : View). u.arrivals));
     joins = λ t is. omega (arith, kept.joins t is, split_sum (λ (u : View). joined_in t u.given));
-    claims = split_claims kept.claims;
+    claims = let k = kept.claims in let least : ℕ = get_or s.words 1 0 in record {
+      once = λ f. omega (arith, split_sum (named f), k.once f);
+      rooms = omega (arith, split_sum (λ (u : View). u.room), k.rooms);
+      gone = split_all (λ (u : View). u.room ≡ 0 → u ≡ spent) k.gone (λ none. absurd (omega arith))
+          (λ none. absurd (omega arith));
+      bounded = let d = stopped_parts v.done (v.room - v.room / 2) (v.room / 2) v.room (omega arith) in
+          omega (arith, split_sum stopped, k.bounded);
+      spared = λ u h. omega (arith, split_sum (failures (only u)), k.spared u h);
+      attained = λ h. omega (arith, split_sum (failures (only least)), k.attained h);
+      most = k.most;
+      why = split_all (λ (u : View). u.done ≡ true → (least < nobody) ⊎ (shape.units ≤ get_or s.words 0 0))
+          k.why (k.why id v at) (k.why id v at);
+    };
     trees = λ t is. let tree = kept.trees t is in
         unmoved tree s.words s.homes (λ m h. refl) (omega arith) (λ x h. refl) (omega arith) split_views (λ g. g v)
         (λ g. g (keeping v) + g (fresh v)) split_sum (λ f. omega arith) (λ j h. omega arith)
@@ -86,25 +81,8 @@ module _ (shape : Shape) {s : State (List ℕ) View} (kept : Keeps shape s) (id 
   before : get_elem? s.views other ≡ some w
   before = sym (set_else s.views id other (both v w) apart) ∙ there
 
-  join_claims : {units claims least : ℕ} → KeepsClaims units claims least s.views
-      → KeepsClaims units claims least join_views
-  join_claims {units = units} {claims = claims} {least = least} k =
-      let fails : (u : ℕ) → total (failures (only u)) join_views ≡ total (failures (only u)) s.views
-      = λ u. omega (arith, join_sum (failures (only u)), total-append (only u) v.failed w.failed) in record {
-        once = λ f. let a = join_sum (named f) in let b = k.once f in let d = total-append f v.held w.held in
-            omega (arith, total-append (λ (g : GivenUnit). f g.unit) v.given w.given, total-append f v.failed w.failed);
-        rooms = omega (arith, join_sum (λ (u : View). u.room), k.rooms);
-        gone = join_all (λ (u : View). u.room ≡ 0 → u ≡ spent) k.gone (λ none. absurd (omega arith)) (λ none. refl);
-        bounded = omega (arith, join_sum stopped, k.bounded, stopped_both v.done w.done v.room w.room);
-        spared = λ u h. omega (arith, fails u, k.spared u h);
-        attained = λ h. omega (arith, fails least, k.attained h);
-        most = k.most;
-        why = join_all (λ (u : View). u.done ≡ true → (least < nobody) ⊎ (units ≤ claims)) k.why
-            (λ yes. grind (arith, k.why id v at, k.why other w before)) (λ yes. cc);
-      }
-
   pub join_keeps : Keeps shape record { words = s.words; homes = s.homes; views = join_views }
-  join_keeps = let no_climb : (f : Option Climb → ℕ) → f None ≡ 0 → f w.climb ≡ 0 = λ f z. ap f idle' ∙ z in record {
+  join_keeps = record {
     small = kept.small;
     long = kept.long;
     unused = kept.unused;
@@ -113,13 +91,25 @@ module _ (shape : Shape) {s : State (List ℕ) View} (kept : Keeps shape s) (id 
     arrivals = omega (arith, kept.arrivals, join_sum (λ (u : View). u.arrivals));
     joins = λ t is. let a = kept.joins t is in let b = join_sum (λ (u : View). joined_in t u.given) in
         omega (arith, total-append (λ (g : GivenUnit). cond (has_unit t g.unit) g.joined 0) v.given w.given);
-    claims = join_claims kept.claims;
+    claims = let k = kept.claims in let least : ℕ = get_or s.words 1 0 in
+        let more = λ (u : ℕ). total-append (only u) v.failed w.failed in record {
+          once = λ f. let a = total-append f v.held w.held in let b = total-append f v.failed w.failed in
+              omega (arith, join_sum (named f), k.once f, total-append (λ (g : GivenUnit). f g.unit) v.given w.given);
+          rooms = omega (arith, join_sum (λ (u : View). u.room), k.rooms);
+          gone = join_all (λ (u : View). u.room ≡ 0 → u ≡ spent) k.gone (λ none. absurd (omega arith)) (λ none. refl);
+          bounded = omega (arith, join_sum stopped, k.bounded, stopped_both v.done w.done v.room w.room);
+          spared = λ u h. omega (arith, join_sum (failures (only u)), more u, k.spared u h);
+          attained = λ h. omega (arith, join_sum (failures (only least)), more least, k.attained h);
+          most = k.most;
+          why = join_all (λ (u : View). u.done ≡ true → (least < nobody) ⊎ (shape.units ≤ get_or s.words 0 0))
+              k.why (λ yes. grind (arith, k.why id v at, k.why other w before)) (λ yes. cc);
+        };
     trees = λ t is. let tree = kept.trees t is in
         unmoved tree s.words s.homes (λ m h. refl) (omega arith) (λ x h. refl) (omega arith) join_views
         (λ g. g w + g v) (λ g. g (both v w) + g spent) join_sum
         (λ f. omega (arith, total-append (λ (g : GivenUnit). f g.unit g.hash) v.given w.given))
         (λ j h. omega (arith, total-append (λ (g : GivenUnit). only (t.first + j) g.unit) v.given w.given))
-        (λ x h. (omega (arith, no_climb (climbs_to x) refl), omega (arith, no_climb (has_out x) refl)))
+        (λ x h. (omega (arith, ap (climbs_to x) idle'), omega (arith, ap (has_out x) idle')))
         (omega (arith, total-append (λ (p : ℕ × List ℕ). only t.number p.0) v.tops w.tops))
         (λ stand. let old = λ (u : View) (has : SeatRooted (WasGiven s.views) t u).
         seat_more t (WasGiven s.views) (WasGiven join_views) stand u has in

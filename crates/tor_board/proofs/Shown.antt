@@ -1,13 +1,12 @@
 -- What the machine shows of a step of one seat.
-use Rattle.tor_board.proofs.Names.{List, None, Option, ap, arith, get_or, get_or-set_other, get_or-set_same, refl, set}
-use Rattle.tor_board.proofs.Names.{subst, sym, ℕ, ◌*◌, ◌+◌, ◌<◌, ◌∙◌, ◌≡◌, ◌≢◌, ◌≤◌, map-set, some, get_elem?, at_map}
-use Rattle.tor_board.proofs.Names.{State, Climb, Desk, spent_desk, Event, IsStep, Machine, Side, times_arrived, Keeps}
-use Rattle.tor_board.proofs.Names.{climbing, climbs_to, least_of, runs_of, IsTreeOf, IsChange, IsEvent, Shows, middle}
-use Rattle.tor_board.proofs.Names.{ready, slot_of, word_of, desk_of, desks_of, total, Shape, Tree, View, Seated}
-use Rattle.tor_board.proofs.{Steps.climbs, Steps.gave, Sums.total-set, Sums.term_le, Sums.read}
-use Rattle.tor_board.proofs.Trees.{node_flow, node_word, split_positive, ready_more}
+use Rattle.{std.proofs.Common.subst₂, tor_board.proofs.Names.{Climb, Desk, Event, IsChange, IsEvent, IsStep, IsTreeOf}}
+use Rattle.tor_board.proofs.Names.{Keeps, List, Machine, None, Option, Seated, Shape, Shows, Side, State, Tree, View}
+use Rattle.tor_board.proofs.Names.{ap, arith, at_map, climbing, climbs_to, desk_of, desks_of, get_elem?, get_or}
+use Rattle.tor_board.proofs.Names.{get_or-set_other, get_or-set_same, least_of, map-set, middle, ready, refl, runs_of}
+use Rattle.tor_board.proofs.Names.{set, slot_of, some, spent_desk, subst, sym, times_arrived, total, word_of, ℕ, ◌*◌}
+use Rattle.tor_board.proofs.{Names.{◌+◌, ◌<◌, ◌∙◌, ◌≡◌, ◌≢◌, ◌≤◌}, Steps.{climbs, gave}, Sums.{read, term_le}}
+use Rattle.tor_board.proofs.{Sums.total-set, Trees.{node_flow, node_word, ready_more, split_positive}}
 use Rattle.tor_board.specs.Machine.{desk_at}
-use Rattle.std.proofs.Common.{subst₂}
 
 abbrev pub place_of : Tree → ℕ → ℕ → Side
 place_of t k j = record { tree = t.number; level = k; index = j }

@@ -1,21 +1,20 @@
 -- Each step of the board is the event of its name, and what happened to it a legal run.
-use Rattle.tor_board.proofs.Names.{List, None, Some, [], ap, arith, false, get_or, min, refl, set, subst, sym, ℕ, ◌%◌}
-use Rattle.tor_board.proofs.Names.{◌*◌, ◌++◌, ◌+◌, ◌/◌, ◌<◌, ◌^◌, ◌∙◌, ◌∷◌, ◌≡◌, ◌≢◌, ◌≤◌, map-set, dite, some, dec_le}
-use Rattle.tor_board.proofs.Names.{ℕ_discrete, get_elem?, at_map, set_else, State, Run, way_in, Desk, GivenUnit, in_run}
-use Rattle.tor_board.proofs.Names.{spent_desk, Event, IsStep, Machine, claim, claims, ends, fail, fails, hand, hands}
-use Rattle.tor_board.proofs.Names.{join, joins, lesser, look, looks, sees, split, splits, IsFree, Seated, claimed}
-use Rattle.tor_board.proofs.Names.{gave_told, looked, climbing, climbs_to, nobody, least_of, runs_of, IsShape, IsTreeOf}
-use Rattle.tor_board.proofs.Names.{IsChange, IsEvent, has_unit, middle, slot_of, times_given, word_of, both, desk_of}
-use Rattle.tor_board.proofs.Names.{desks_of, failing, fresh, handed, keeping, spent, only, total, Shape, Tree, View}
-use Rattle.tor_board.proofs.Names.{Climb, begins, goes_on, start, ClimbsIn, Keeps, Shows, first}
-use Rattle.tor_board.proofs.{Moves.few_claims, Moves.named_below, Seats.split_sum, Seats.join_sum, Steps.climbs}
-use Rattle.tor_board.proofs.{Steps.gave, Sums.total-append, Sums.within, Sums.read, Running.tree_at, Running.some_least}
-use Rattle.tor_board.proofs.{Running.no_least, Climbs.arrives_so, Climbs.hands_tree, Climbs.seals_so}
-use Rattle.tor_board.proofs.Shown.{Sides, Moment, as_seat, quiet, on_first, on_second, as_told, shown}
-use Rattle.tor_board.proofs.Trees.{ready_same, side_of, side_covers, node_word}
-use Rattle.tor_board.specs.{Views.finished, Views.holding, Views.looking, Machine.IsStart, Plays.failed}
-use Rattle.tor_board.specs.Stepping.{IsBoardStep, IsHistory, IsRunOf, opened, stepped}
-use Rattle.std.proofs.lemmas.List.{map-append}
+use Rattle.{std.proofs.lemmas.List.map-append, tor_board.proofs.Climbs.{arrives_so, hands_tree, seals_so}}
+use Rattle.tor_board.proofs.{Moves.{few_claims, named_below}, Names.{Climb, ClimbsIn, Desk, Event, GivenUnit, IsChange}}
+use Rattle.tor_board.proofs.Names.{IsEvent, IsFree, IsShape, IsStep, IsTreeOf, Keeps, List, Machine, None, Run, Seated}
+use Rattle.tor_board.proofs.Names.{Shape, Shows, Some, State, Tree, View, [], ap, arith, at_map, begins, both, claim}
+use Rattle.tor_board.proofs.Names.{claimed, claims, climbing, climbs_to, dec_le, desk_of, desks_of, dite, ends, fail}
+use Rattle.tor_board.proofs.Names.{failing, fails, false, first, fresh, gave_told, get_elem?, get_or, goes_on, hand}
+use Rattle.tor_board.proofs.Names.{handed, hands, has_unit, in_run, join, joins, keeping, least_of, lesser, look}
+use Rattle.tor_board.proofs.Names.{looked, looks, map-set, middle, min, nobody, only, refl, runs_of, sees, set}
+use Rattle.tor_board.proofs.Names.{set_else, slot_of, some, spent, spent_desk, split, splits, start, subst, sym}
+use Rattle.tor_board.proofs.Names.{times_given, total, way_in, word_of, ℕ, ℕ_discrete, ◌%◌, ◌*◌, ◌++◌, ◌+◌, ◌/◌, ◌<◌}
+use Rattle.tor_board.proofs.{Names.{◌^◌, ◌∙◌, ◌∷◌, ◌≡◌, ◌≢◌, ◌≤◌}, Running.{no_least, some_least, tree_at}}
+use Rattle.tor_board.proofs.{Seats.{join_sum, split_sum}, Shown.{Moment, Sides, as_seat, as_told, on_first, on_second}}
+use Rattle.tor_board.proofs.{Shown.{quiet, shown}, Steps.{climbs, gave}, Sums.{read, total-append, within}}
+use Rattle.tor_board.{proofs.Trees.{node_word, ready_same, side_covers, side_of}, specs.Machine.IsStart}
+use Rattle.tor_board.specs.{Plays.failed, Stepping.{IsBoardStep, IsHistory, IsRunOf, opened, stepped}, Views.finished}
+use Rattle.tor_board.specs.Views.{holding, looking}
 use Rattle.tor_board.specs.Stepping as board
 
 -- ---- a step of a seat in no climb

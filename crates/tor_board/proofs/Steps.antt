@@ -1,13 +1,11 @@
 -- A step keeps the rule of a tree where it shows what it changes of it; a tree of which it touches nothing keeps it.
-use Rattle.tor_board.proofs.Names.{List, None, Option, Some, [], arith, get_or, length, refl, set, subst, sym, ℕ, ◌+◌}
-use Rattle.tor_board.proofs.Names.{◌/◌, ◌<◌, ◌∷◌, ◌≡◌, ◌≢◌, ◌≤◌, dite, Opt, some, ℕ_discrete, get_elem?, Act, State}
-use Rattle.tor_board.proofs.Names.{carried_after, Climb, GivenUnit, Seated, IsSide, Keeps, KeepsTree, TopsAre}
-use Rattle.tor_board.proofs.Names.{climbs_to, has_out, out, tops_of, IsRoot, WasGiven, ready, slot_of, times_given}
-use Rattle.tor_board.proofs.Names.{word_of, only, total, Shape, Tree, View, IsIn}
-use Rattle.tor_board.proofs.Sums.{set_all, total-set, only-same}
-use Rattle.tor_board.proofs.Trees.{told_more, root_more, ready_same, side_in, side_covers}
-use Rattle.tor_board.specs.Rule.{IsHome}
-use Rattle.atomic_table.specs.Table.{Valid, homes_after}
+use Rattle.{atomic_table.specs.Table.{Valid, homes_after}, tor_board.proofs.Names.{Act, Climb, GivenUnit, IsIn, IsRoot}}
+use Rattle.tor_board.proofs.Names.{IsSide, Keeps, KeepsTree, List, None, Opt, Option, Seated, Shape, Some, State}
+use Rattle.tor_board.proofs.Names.{TopsAre, Tree, View, WasGiven, [], ap, arith, carried_after, climbs_to, dite}
+use Rattle.tor_board.proofs.Names.{get_elem?, get_or, has_out, length, only, out, ready, refl, set, slot_of, some}
+use Rattle.tor_board.proofs.Names.{subst, sym, times_given, tops_of, total, word_of, ℕ, ℕ_discrete, ◌+◌, ◌/◌, ◌<◌, ◌∷◌}
+use Rattle.tor_board.proofs.{Names.{◌≡◌, ◌≢◌, ◌≤◌}, Sums.{only-same, set_all, total-set}, Trees.{ready_same, root_more}}
+use Rattle.tor_board.{proofs.Trees.{side_covers, side_in, told_more}, specs.Rule.IsHome}
 
 -- what a seat adds to the sums of the rule
 abbrev pub climbs : ℕ → View → ℕ
@@ -31,9 +29,7 @@ abbrev pub Rooted : (ℕ → List ℕ → Type 0) → Tree → ℕ → List ℕ 
 Rooted G t slot hash = (k j : ℕ) → IsSide t slot k j → IsRoot G t k j hash
 
 abbrev pub SpareRooted : (ℕ → List ℕ → Type 0) → Tree → List (ℕ × List ℕ) → Type 0
-SpareRooted G t [] = Unit {0}
-SpareRooted G t (x ∷ []) = Rooted G t x.0 x.1
-SpareRooted G t (x ∷ (y ∷ l)) = Unit {0}
+SpareRooted G t l = (o : ℕ) (hash : List ℕ) → l ≡ (o, hash) ∷ [] → Rooted G t o hash
 
 abbrev pub ClimbRooted : (ℕ → List ℕ → Type 0) → Tree → Option Climb → Type 0
 ClimbRooted G t None = Unit {0}
@@ -43,14 +39,10 @@ abbrev pub SeatRooted : (ℕ → List ℕ → Type 0) → Tree → View → Type
 SeatRooted G t v = ClimbRooted G t v.climb × TopsAre t.number (IsRoot G t t.height 0) v.tops
 
 module _ (t : Tree) (G H : ℕ → List ℕ → Type 0) (more : (u : ℕ) (x : List ℕ) → G u x → H u x) where
-  spare_more : (l : List (ℕ × List ℕ)) → SpareRooted G t l → SpareRooted H t l
-  spare_more [] has = tt
-  spare_more (x ∷ []) has = λ k j to. root_more t G H more k j x.1 (has k j to)
-  spare_more (x ∷ (y ∷ l)) has = tt
-
   climb_more : (c : Option Climb) → ClimbRooted G t c → ClimbRooted H t c
   climb_more None has = tt
-  climb_more (Some c) has = ((λ k j to. root_more t G H more k j c.hash (has.0 k j to)), spare_more c.spare has.1)
+  climb_more (Some c) has = let stays = root_more t G H more in
+      ((λ k j to. stays k j c.hash (has.0 k j to)), λ o hash e k j to. stays k j hash (has.1 o hash e k j to))
 
   pub seat_more : (v : View) → SeatRooted G t v → SeatRooted H t v
   seat_more v has = (climb_more v.climb has.0, told_more t.number _ _ (root_more t G H more t.height 0) v.tops has.1)
@@ -59,14 +51,10 @@ module _ {t : Tree} {words : List ℕ} {homes : List (Opt (List ℕ))} {views : 
     (kept : KeepsTree t words homes views) where
   pub seat_rooted : (id : ℕ) (v : View) → get_elem? views id ≡ some v → SeatRooted (WasGiven views) t v
   seat_rooted id v at = (climb v.climb refl, kept.told id v at) where
-    spare : (c : Climb) → v.climb ≡ Some c → (l : List (ℕ × List ℕ)) → c.spare ≡ l → SpareRooted (WasGiven views) t l
-    spare c is [] e = tt
-    spare c is (x ∷ []) e = λ k j to. kept.left id v c x.0 x.1 k j at is e to
-    spare c is (x ∷ (y ∷ l)) e = tt
-
     climb : (o : Option Climb) → v.climb ≡ o → ClimbRooted (WasGiven views) t o
     climb None is = tt
-    climb (Some c) is = ((λ k j to. kept.climb id v c k j at is to), spare c is c.spare refl)
+    climb (Some c) is
+        = ((λ k j to. kept.climb id v c k j at is to), λ o hash e k j to. kept.left id v c o hash k j at is e to)
 
 -- ---- the step
 
@@ -112,7 +100,8 @@ keeps_step {t = t} {views = views} {views' = views'} {less = less} {more = more}
       home = λ s k j is none. let h = step.home s k j is none in
           (h.0, h.1, λ yes. root_more t (WasGiven views) (WasGiven views') stand k j h.0 (h.2 yes));
       climb = λ id v c k j e is to. (subst (ClimbRooted (WasGiven views') t) is (step.seats stand id v e).0).0 k j to;
-      left = λ id v c o x k j e is one to. grind arith;
+      left = λ id v c o x k j e is one.
+          (subst (ClimbRooted (WasGiven views') t) is (step.seats stand id v e).0).1 o x one k j;
       tops = omega (arith, kept.tops, step.tops, step.sum (tops_at t));
       told = λ id v e. (step.seats stand id v e).1;
     }
@@ -178,13 +167,9 @@ pub away_rooted : (G : ℕ → List ℕ → Type 0) (t : Tree) → 0 < t.count �
 away_rooted G t some_unit None away = tt
 away_rooted G t some_unit (Some c) away = (
   (λ k j to. absurd (omega (arith, away c.slot (side_in t some_unit c.slot k j to), only-same c.slot))),
-  spare c.spare (λ s is. omega (arith, away s is)),
-) where
-  spare : (l : List (ℕ × List ℕ)) → ((s : ℕ) → IsIn t s → total (λ (p : ℕ × List ℕ). only s p.0) l ≡ 0)
-      → SpareRooted G t l
-  spare [] none = tt
-  spare (x ∷ []) none = λ k j to. absurd (omega (arith, none x.0 (side_in t some_unit x.0 k j to), only-same x.0))
-  spare (x ∷ (y ∷ l)) none = tt
+  λ o hash e k j to. let one = ap (λ (l : List (ℕ × List ℕ)). total (λ (p : ℕ × List ℕ). only o p.0) l) e in
+      absurd (omega (arith, away o (side_in t some_unit o k j to), only-same o)),
+)
 
 module _ {t : Tree} {words : List ℕ} {homes : List (Opt (List ℕ))} {views : List View}
     (kept : KeepsTree t words homes views) (words' : List ℕ) (homes' : List (Opt (List ℕ)))

@@ -1,9 +1,8 @@
 -- Sums over lists of which one item changes, and what holds of each item.
-use Rattle.tor_board.proofs.Names.{Bool, List, [], ap, arith, cond, get_or, length, ltb, map, refl, set, subst, suc}
-use Rattle.tor_board.proofs.Names.{sym, zero, ℕ, ◌++◌, ◌+◌, ◌<◌, ◌∷◌, ◌≡◌, ◌≢◌, ◌≤◌, dite, some, some-injective}
-use Rattle.tor_board.proofs.Names.{some-ne-none, ℕ_discrete, get_elem?, below, only, times, total, inl, inr}
-use Rattle.tor_board.specs.Weights.{without}
-use Rattle.atomic_table.proofs.Lists.{at_set, at_snoc}
+use Rattle.{atomic_table.proofs.Lists.{at_set, at_snoc}, tor_board.proofs.Names.{Bool, List, [], ap, arith, below}}
+use Rattle.tor_board.proofs.Names.{cond, dite, get_elem?, get_or, inl, inr, length, ltb, map, only, refl, set, some}
+use Rattle.tor_board.proofs.Names.{some-injective, some-ne-none, subst, suc, sym, times, total, zero, ℕ, ℕ_discrete}
+use Rattle.tor_board.{proofs.Names.{◌++◌, ◌+◌, ◌<◌, ◌∷◌, ◌≡◌, ◌≢◌, ◌≤◌}, specs.Weights.without}
 
 module _ {A : Type 0} (g : A → ℕ) where
   pub total-append : (l m : List A) → total g (l ++ m) ≡ total g l + total g m

@@ -1,10 +1,9 @@
 -- Facts on trees that any step uses.
-use Rattle.tor_board.proofs.Names.{List, Some, [], ap, arith, get_or, inl, inr, mul-le-mul_right, refl, suc, sym, true}
-use Rattle.tor_board.proofs.Names.{zero, ℕ, ◌*◌, ◌++◌, ◌+◌, ◌-◌, ◌/◌, ◌<◌, ◌^◌, ◌∙◌, ◌∷◌, ◌≡◌, ◌≤◌, pow-suc, dite, Opt}
-use Rattle.tor_board.proofs.Names.{some, dec_le, get_elem?, Climb, IsSide, KeepsTree, TopsAre, climbing, out, IsRoot}
-use Rattle.tor_board.proofs.Names.{has_unit, middle, ready, slot_of, times_given, word_of, Tree, View, IsIn}
-use Rattle.tor_board.proofs.Sums.{term_le}
-use Rattle.std.proofs.lemmas.Nat.{pow_pos}
+use Rattle.{std.proofs.lemmas.Nat.pow_pos, tor_board.proofs.Names.{Climb, IsIn, IsRoot, IsSide, KeepsTree, List, Opt}}
+use Rattle.tor_board.proofs.Names.{Some, TopsAre, Tree, View, [], ap, arith, climbing, dec_le, dite, get_elem?, get_or}
+use Rattle.tor_board.proofs.Names.{has_unit, inl, inr, middle, mul-le-mul_right, out, pow-suc, ready, refl, slot_of}
+use Rattle.tor_board.proofs.Names.{some, suc, sym, times_given, true, word_of, zero, ℕ, ◌*◌, ◌++◌, ◌+◌, ◌-◌, ◌/◌, ◌<◌}
+use Rattle.tor_board.proofs.{Names.{◌^◌, ◌∙◌, ◌∷◌, ◌≡◌, ◌≤◌}, Sums.term_le}
 
 pub by_sides : (P : ℕ → Type 0) → P 0 → P 1 → (side : ℕ) → side < 2 → P side
 by_sides P a b zero two = a

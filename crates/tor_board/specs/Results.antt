@@ -1,13 +1,9 @@
 -- What a board tells in the end, from what was given.
-use Rattle.std.specs.Prelude.{◌≡◌, ℕ, ◌+◌, ◌-◌, ◌<◌, ◌≤◌, ◌⊎◌, List, cond, Option, None, Some}
+use Rattle.std.specs.Prelude.{◌≡◌, ℕ, ◌+◌, ◌-◌, ◌<◌, ◌≤◌, List, cond, Option, None, Some}
 use Rattle.tor_merkle.specs.Stack.{padded_root}
 use Rattle.tor_plan.specs.declared.forests.Run.{Run}
 pub use Rattle.tor_board.specs.Desks.{hash_of, unit_hashes, in_run}
 use Rattle.tor_board.specs.Desks.{GivenUnit, units_of}
-use Rattle.tor_board.specs.Trees.{middle, word_of, slot_of}
-use Rattle.tor_board.specs.declared.tree.Tree.{Tree}
-use mathlib.Core.Option.{some}
-use lib.ListN.{get_elem?}
 use Rattle.tor_board.specs.Rule.{tops_of, TopsAre}
 use Rattle.tor_board.specs.Weights.{total, times}
 
@@ -27,10 +23,3 @@ IsTreeEnd given tops k run (Some root) =
     IsComplete given run × (root ≡ padded_root run.level (unit_hashes given run))
     × (tops_of k tops ≡ 1) × TopsAre k (λ hash. hash ≡ root) tops
     × (joined_of given run ≡ run.count - 1)
-
--- of the words and the slots' values: the root is that in the tree's slot where two came to the highest node, else none
-abbrev pub IsLeft : List ℕ → List (List ℕ) → Tree → Option (List ℕ) → Type 0
-IsLeft words slots t root =
-    (n : ℕ) × (get_elem? words (word_of t (middle (t.height - 1) 0)) ≡ some n)
-    × (((2 ≤ n) × ((x : List ℕ) × (get_elem? slots (slot_of t 0 0) ≡ some x) × (root ≡ Some x)))
-    ⊎ ((n < 2) × (root ≡ None)))

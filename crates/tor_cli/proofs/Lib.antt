@@ -12,3 +12,4 @@ pub mod Rechecking
 pub mod Siblings
 pub mod Sizes
 pub mod Stops
+pub mod StreamFaults

@@ -1,18 +1,18 @@
 -- Which fault of the program a step's fault is, and where it stopped.
 use Rattle.std.proofs.Common.{◌≡◌, ◌≢◌, ◌⊎◌, ◌<◌, ◌∙◌, inl, inr, refl, sym, ap, subst}
-use Rattle.std.proofs.Common.{Bool, true, false, ℕ, List, length, None, Some}
+use Rattle.std.proofs.Common.{Bool, true, false, ℕ, List, length, Option, None, Some, Result, Ok, Err, IfErr}
 use Rattle.std.specs.Io.KnownBytes.{Keeps}
 use Rattle.std.specs.declared.io.Error.{Error}
 use Rattle.tor_meta.specs.declared.make_error.MakeError.{MakeError}
 use Rattle.tor_meta.specs.declared.make_error.MakeError.TheVariants as makes
 use Rattle.tor_meta.specs.declared.order.Order.{Order}
-use Rattle.tor_meta.specs.Make.{IsGivenTo, IsOwn, make_refusal}
+use Rattle.tor_meta.specs.Make.{IsOwn}
 use Rattle.tor_source.specs.declared.faults.ScanFault.{ScanFault}
 use Rattle.tor_source.specs.declared.faults.ScanFault.TheVariants as scans
 use Rattle.tor_tree.specs.Name.{name_fault}
 use Rattle.tor_source.specs.Input.{EndsInput, ReadsSome}
 use Rattle.tor_meta.specs.FromInput.{MakesOf, MakesPart, StopsReading, refusal_of, torrent_of}
-use Rattle.tor_cli.specs.Place.{IsFileEnd, IsFileFault, IsFileSize}
+use Rattle.tor_cli.specs.Place.{IsGivenBy, refusal_by}
 use Rattle.tor_cli.specs.Request.{IsOrder, IsOrderOf, IsRefusedFirst, SendsFront, StopsFinding, StopsInput, StopsPlace}
 use Rattle.tor_cli.specs.Request.{file_of}
 use Rattle.tor_cli.specs.Streams.{IsUntouched, Streams}
@@ -40,6 +40,7 @@ kept_or_memory makes.Workers = inl (refl, refl)
 kept_or_memory makes.Span = inl (refl, refl)
 kept_or_memory makes.Path = inl (refl, refl)
 kept_or_memory makes.SingleShape = inl (refl, refl)
+kept_or_memory makes.NotSorted = inl (refl, refl)
 kept_or_memory (makes.List fault) = inl (refl, refl)
 kept_or_memory makes.ReservedPad = inl (refl, refl)
 kept_or_memory (makes.Read file start fault) = inl (refl, refl)
@@ -57,6 +58,13 @@ is_refused order error other (inr memory) = let bad : true ≡ false = sym (ap i
 is_no_memory : (error : MakeError Error) → is_memory error ≡ false → error ≢ makes.Resources
 unfolding is_memory
 is_no_memory error other = λ same. let bad : true ≡ false = sym (ap is_memory same) ∙ other in cc
+
+-- what is answered of each refusal is so of the one that there is
+pub refused_first : {A : Type 0} (first : Option (MakeError Error)) (result : Result A (MakeError Error))
+    → ((refusal : MakeError Error) → first ≡ Some refusal
+    → IfErr result (λ error. (error ≡ makes.Resources) ⊎ (error ≡ refusal))) → IfErr result (IsRefusedFirst first)
+refused_first first (Ok bytes) given = tt
+refused_first first (Err error) given = given
 
 module _ (options : MakeOptions) (s : Streams) where
   stops_input : (fault : InputFault) → ReadsSome s.reader s.reader' (EndsInput MAX_INPUT_LENGTH fault)
@@ -117,8 +125,8 @@ module _ (options : MakeOptions) (s : Streams) where
 
 -- an error of making is of the order and the paths
 pub finding_make : (options : MakeOptions) (order : Order) (paths : List (List (List ℕ))) (error : MakeError Error)
-    → IsOrderOf options order paths → IsOwn (make_refusal order paths) error → IsRefusedFirst order paths error
-    → IsGivenTo (IsFileFault (length paths)) (IsFileSize (length paths)) IsFileEnd (length paths) error
+    → IsOrderOf options order paths → IsOwn (refusal_by options.way order paths) error
+    → IsRefusedFirst (refusal_by options.way order paths) error → IsGivenBy options.way (length paths) error
     → StopsFinding options (of_make_error error)
 finding_make options order paths error is own first gave = elim (kept_or_memory error) [
   | inl kept ↦ rw kept.1 (order, paths, is, own, first, gave, is_no_memory error kept.0)

@@ -43,7 +43,7 @@ how_option hows = record (option_of (codes "how")) { parser = Some hows; default
 
 -- one of the words for a way to share the hashing
 abbrev pub AreHows : ValueParser → Type 0
-AreHows = AreWords (codes "one" ∷ codes "halves" ∷ codes "board" ∷ [])
+AreHows = AreWords (codes "one" ∷ codes "halves" ∷ codes "board" ∷ codes "streams" ∷ [])
 
 -- numbers of 32 bits
 abbrev pub workers_option : Rule

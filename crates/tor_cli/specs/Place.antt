@@ -1,11 +1,18 @@
--- The files at a place of the system, and the faults that they may have.
-use Rattle.std.specs.Prelude.{◌≡◌, ◌≤◌, ◌<◌, ◌∷◌, [], ℕ, Bool, true, false, List, length, Option, None}
+-- The files at a place of the system, the faults that they may have, and when no torrent is made of them.
+use Rattle.std.specs.Prelude.{◌≡◌, ◌≤◌, ◌<◌, ◌∷◌, [], ℕ, Bool, true, false, List, length, Option, None, Some}
 use Rattle.std.specs.IoError.{error_kind}
 use Rattle.std.specs.List.{All}
 use Rattle.std.specs.List.Sorted.{IsStrictlySortedBy}
 use Rattle.std.specs.declared.io.Error.{Error}
+use Rattle.tor_meta.specs.Make.{IsGivenTo, make_refusal}
+use Rattle.tor_meta.specs.MakeStreams.{stream_refusal}
+use Rattle.tor_meta.specs.declared.make_error.MakeError.{MakeError}
+use Rattle.tor_meta.specs.declared.make_error.MakeError.TheVariants.{Read, Changed, Missing, StreamTooLong}
+use Rattle.tor_meta.specs.declared.order.Order.{Order}
 use Rattle.tor_source.specs.Faults.{is_absence}
 use Rattle.tor_tree.specs.Path.{path_cmp}
+use Rattle.tor_cli.specs.declared.way.Way.{Way}
+use Rattle.tor_cli.specs.declared.way.Way.TheVariants.{Shared, Streams}
 
 -- the path of one file is the torrent's name; those below a folder rise, and have at most 64 names
 abbrev pub AreFound : List ℕ → Bool → List (List (List ℕ)) → Type 0
@@ -23,3 +30,22 @@ IsFileSize count file size = count ≤ file → size ≡ None
 -- a read can end at any offset of any file
 abbrev pub IsFileEnd : ℕ → ℕ → Type 0
 IsFileEnd file start = Unit {0}
+
+-- why an order is refused before a byte is read; for streams there are more reasons
+abbrev pub refusal_by : Way → Order → List (List (List ℕ)) → Option (MakeError Error)
+refusal_by (Shared how) order paths = make_refusal order paths
+refusal_by (Streams workers) order paths = stream_refusal order paths
+
+-- what is answered where so many files are read once: a fault of one after some bytes, or that one has too many
+abbrev pub IsStreamFault : ℕ → MakeError Error → Type 0
+IsStreamFault count (Read file None fault) = ⊥
+IsStreamFault count (Read file (Some start) fault) = file < count
+IsStreamFault count (Changed file) = ⊥
+IsStreamFault count (Missing file) = ⊥
+IsStreamFault count (StreamTooLong file) = file < count
+IsStreamFault count other = Unit {0}
+
+-- what is answered of so many files they gave or told
+abbrev pub IsGivenBy : Way → ℕ → MakeError Error → Type 0
+IsGivenBy (Shared how) count error = IsGivenTo (IsFileFault count) (IsFileSize count) IsFileEnd count error
+IsGivenBy (Streams workers) count error = IsStreamFault count error

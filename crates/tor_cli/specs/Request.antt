@@ -4,7 +4,7 @@ use Rattle.std.specs.Prelude.{string_bytes}
 use Rattle.std.specs.Io.KnownBytes.{Appends, Keeps}
 use Rattle.std.specs.declared.io.Error.{Error}
 use Rattle.tor_meta.specs.Contents.{IsMadeOfSome}
-use Rattle.tor_meta.specs.Make.{IsGivenTo, IsOwn, make_refusal}
+use Rattle.tor_meta.specs.Make.{IsOwn}
 use Rattle.tor_meta.specs.Order.{settings_of_order}
 use Rattle.tor_meta.specs.declared.make_error.MakeError.{MakeError}
 use Rattle.tor_meta.specs.declared.make_error.MakeError.TheVariants as makes
@@ -15,13 +15,14 @@ use Rattle.tor_tree.specs.Name.{name_fault}
 use Rattle.tor_cli.specs.Foreign.{DoesTell, StopsTelling}
 use Rattle.tor_source.specs.Input.{ReadsAll, ReadsSome, EndsInput}
 use Rattle.tor_meta.specs.FromInput.{IsFront, MakesOf, refusal_of}
-use Rattle.tor_cli.specs.Place.{AreFound, IsFileEnd, IsFileFault, IsFileSize}
+use Rattle.tor_cli.specs.Place.{AreFound, IsGivenBy, refusal_by}
 use Rattle.tor_cli.specs.Proving.{DoesProve, DoesVerify, StopsProving, StopsVerifying}
 use Rattle.tor_cli.specs.Recheck.{DoesRecheck, StopsRechecking}
 use Rattle.tor_cli.specs.Status.{status_of}
 use Rattle.tor_cli.specs.Streams.{IsUntouched, Streams}
 use Rattle.tor_cli.specs.Telling.{lines_of}
-use Rattle.tor_cli.specs.Words.{Asks, IsOfWords}
+use Rattle.tor_cli.specs.Words.{Asks, IsOfWords, how_of}
+use Rattle.tor_cli.specs.declared.way.Way.{Way}
 use Rattle.tor_source.specs.declared.input.TheConstants.{MAX_INPUT_LENGTH}
 use Rattle.tor_source.specs.declared.input.InputFault.{InputFault}
 use Rattle.tor_source.specs.declared.input.InputFault.TheVariants as inputs
@@ -50,7 +51,7 @@ settings_of_options options single = record {
 -- the order that the options ask for
 pub record IsOrder (options : MakeOptions) (single : Bool) (order : Order) : Type 0 where
   pub settings : settings_of_order order ≡ settings_of_options options single
-  pub how : order.how ≡ options.how
+  pub how : order.how ≡ how_of options.way
   pub span : order.span ≡ options.span
 
 -- the file that the torrent goes to, if it is not the writer
@@ -108,11 +109,11 @@ pub record IsOrderOf (options : MakeOptions) (order : Order) (paths : List (List
 -- that order is not refused for those paths, and the bytes are its torrent of some files that have them
 abbrev pub IsTorrentAt : MakeOptions → List ℕ → Type 0
 IsTorrentAt options torrent = (order : Order) × (paths : List (List (List ℕ))) × IsOrderOf options order paths
-    × (make_refusal {F = Error} order paths ≡ None) × IsMadeOfSome (settings_of_order order) paths torrent
+    × (refusal_by options.way order paths ≡ None) × IsMadeOfSome (settings_of_order order) paths torrent
 
--- where the order is refused for the paths, no fault of a file stops it before the refusal
-abbrev pub IsRefusedFirst : Order → List (List (List ℕ)) → MakeError Error → Type 0
-IsRefusedFirst order paths error = (refusal : MakeError Error) → make_refusal order paths ≡ Some refusal
+-- where there is a refusal, no fault of a file stops it before that
+abbrev pub IsRefusedFirst : Option (MakeError Error) → MakeError Error → Type 0
+IsRefusedFirst first error = (refusal : MakeError Error) → first ≡ Some refusal
     → (error ≡ makes.Resources) ⊎ (error ≡ refusal)
 
 -- why there is no torrent of the files at a place
@@ -120,9 +121,8 @@ abbrev pub StopsFinding : MakeOptions → Fault → Type 0
 StopsFinding options (Name fault) = name_fault options.name.now ≡ Some fault
 StopsFinding options (Scan fault) = (name_fault options.name.now ≡ None) × (fault ≢ scans.Memory)
 StopsFinding options (Make error) = (order : Order) × (paths : List (List (List ℕ))) × IsOrderOf options order paths
-    × IsOwn (make_refusal order paths) error × IsRefusedFirst order paths error
-    × IsGivenTo (IsFileFault (length paths)) (IsFileSize (length paths)) IsFileEnd (length paths) error
-    × (error ≢ makes.Resources)
+    × IsOwn (refusal_by options.way order paths) error × IsRefusedFirst (refusal_by options.way order paths) error
+    × IsGivenBy options.way (length paths) error × (error ≢ makes.Resources)
 StopsFinding options Resources = Unit {0}
 StopsFinding options other = ⊥
 

@@ -18,6 +18,8 @@ use Rattle.tor_cli.specs.declared.options.MakeOptions.{MakeOptions}
 use Rattle.tor_cli.specs.declared.proof_words.ProveOptions.{ProveOptions}
 use Rattle.tor_cli.specs.declared.proof_words.VerifyOptions.{VerifyOptions}
 use Rattle.tor_cli.specs.declared.recheck_words.RecheckOptions.{RecheckOptions}
+use Rattle.tor_cli.specs.declared.way.Way.{Way}
+use Rattle.tor_cli.specs.declared.way.Way.TheVariants.{Shared, Streams}
 
 -- the word for a kind
 abbrev pub word_of : Kind → List ℕ
@@ -25,17 +27,24 @@ word_of V1 = codes "v1"
 word_of V2 = codes "v2"
 word_of Hybrid = codes "hybrid"
 
--- the word for a way to share the hashing
-abbrev pub how_word : How → List ℕ
-how_word One = codes "one"
-how_word (Halves workers) = codes "halves"
-how_word (Board workers) = codes "board"
+-- the word for a way to hash
+abbrev pub way_word : Way → List ℕ
+way_word (Shared One) = codes "one"
+way_word (Shared (Halves workers)) = codes "halves"
+way_word (Shared (Board workers)) = codes "board"
+way_word (Streams workers) = codes "streams"
 
 -- it has this number of workers; one worker takes no notice of a number
-abbrev pub HasWorkers : How → ℕ → Type 0
-HasWorkers One number = Unit {0}
-HasWorkers (Halves workers) number = workers ≡ number
-HasWorkers (Board workers) number = workers ≡ number
+abbrev pub HasWorkers : Way → ℕ → Type 0
+HasWorkers (Shared One) number = Unit {0}
+HasWorkers (Shared (Halves workers)) number = workers ≡ number
+HasWorkers (Shared (Board workers)) number = workers ≡ number
+HasWorkers (Streams workers) number = workers ≡ number
+
+-- the workers of an order: behind a stream they are as many as at a board
+abbrev pub how_of : Way → How
+how_of (Shared how) = how
+how_of (Streams workers) = Board workers
 
 -- the text is a number in decimal digits, of which this holds
 abbrev pub IsNumber : List ℕ → (ℕ → Type 0) → Type 0
@@ -50,8 +59,8 @@ pub record AreOptionsIn (rows : List Row) (options : MakeOptions) : Type 0 where
   pub announce : first_of (codes "announce") rows ≡ option_map (λ url. url.now) options.announce
   pub is_private : one_of (codes "private") rows ≡ Some (codes "true") → options.is_private ≡ true
   pub is_public : one_of (codes "private") rows ≡ Some (codes "false") → options.is_private ≡ false
-  pub how : first_of (codes "how") rows ≡ Some (how_word options.how)
-  pub workers : (text : List ℕ) → one_of (codes "workers") rows ≡ Some text → IsNumber text (HasWorkers options.how)
+  pub way : first_of (codes "how") rows ≡ Some (way_word options.way)
+  pub workers : (text : List ℕ) → one_of (codes "workers") rows ≡ Some text → IsNumber text (HasWorkers options.way)
   pub span : (text : List ℕ) → one_of (codes "span") rows ≡ Some text → IsNumber text (λ number. options.span ≡ number)
   pub out : first_of (codes "out") rows ≡ option_map (λ place. place.now) options.out
   pub place : first_of (codes "path") rows ≡ option_map (λ place. place.now) options.place

@@ -1,19 +1,23 @@
 //! From a file or a folder of the system to the torrent of it.
-ghost use Rattle.std.specs.Prelude.{◌≡◌, IfErr, IfOk, None, OnOk, length, true};
+ghost use Rattle.std.specs.Prelude.{◌≡◌, IfErr, IfOk, None, OnOk, length, true, vec_len};
 ghost use Rattle.std.specs.declared.io.Error.{Error};
 ghost use Rattle.tor_meta.specs.Contents.{IsMadeOfSome};
 ghost use Rattle.tor_meta.specs.Make.{IsGivenTo, IsOwn, make_refusal};
+ghost use Rattle.tor_meta.specs.MakeStreams.{stream_refusal};
 ghost use Rattle.tor_meta.specs.Order.{settings_of_order};
-ghost use Rattle.tor_cli.specs.Place.{AreFound, IsFileEnd, IsFileFault, IsFileSize};
+ghost use Rattle.tor_cli.specs.Place.{AreFound, IsFileEnd, IsFileFault, IsFileSize, IsGivenBy, IsStreamFault};
+ghost use Rattle.tor_cli.specs.Place.{refusal_by};
 ghost use Rattle.tor_cli.specs.Request.{IsRefusedFirst};
 
-use crate::progress::{Counting, Progress};
+use crate::progress::{CountedReader, Counting, Progress};
+use crate::way::Way;
 use std::alloc::{AllocError, Global};
 use std::io;
 use std::rt::Files;
+use std::sync::Wait;
 use std::thread::Threads;
-use tor_meta::{MakeError, Order, make};
-use tor_source::{FolderSource, ScanFault};
+use tor_meta::{MakeError, Order, make, make_streams};
+use tor_source::{FolderSource, LazyFile, ScanFault};
 use tor_tree::{FilePath, Name};
 
 /// The files at a place: file i of the source has path i.
@@ -59,7 +63,30 @@ fn one_file(system: &HostRuntime, place: &str, name: &Name) -> Result<Found, All
 }
 
 /// The torrent of the files that were found. The progress that is shown meanwhile is erased at the end.
-pub fn torrent_of<T: Threads + Sync>(
+pub fn torrent_of<T: Threads + Wait + Sync>(
+    rt: &T,
+    alloc: Global,
+    way: Way,
+    found: &Found,
+    order: &Order,
+    progress: Option<Progress>,
+) -> Result<Vec<u8>, MakeError<io::Error>>
+    requires { length found.now.source ≡ length found.now.paths.items }
+    ensures whole { IfOk result
+        (λ bytes. IsMadeOfSome (settings_of_order order.now) found.now.paths.items bytes.items) }
+    ensures accepted { OnOk result (refusal_by way order.now found.now.paths.items ≡ None) }
+    ensures refused { IfErr result (IsRefusedFirst (refusal_by way order.now found.now.paths.items)) }
+    ensures only { IfErr result (IsOwn (refusal_by way order.now found.now.paths.items)) }
+    ensures gave { IfErr result (IsGivenBy way (length found.now.paths.items)) }
+{
+    match way {
+        Way::Shared(_) => by_sharing(rt, alloc, found, order, progress),
+        Way::Streams(_) => by_streams(rt, alloc, found, order, progress),
+    }
+}
+
+/// The same by workers that read the files.
+fn by_sharing<T: Threads + Sync>(
     rt: &T,
     alloc: Global,
     found: &Found,
@@ -70,7 +97,7 @@ pub fn torrent_of<T: Threads + Sync>(
     ensures whole { IfOk result
         (λ bytes. IsMadeOfSome (settings_of_order order.now) found.now.paths.items bytes.items) }
     ensures accepted { OnOk result (make_refusal {F = Error} order.now found.now.paths.items ≡ None) }
-    ensures refused { IfErr result (IsRefusedFirst order.now found.now.paths.items) }
+    ensures refused { IfErr result (IsRefusedFirst (make_refusal order.now found.now.paths.items)) }
     ensures only { IfErr result (IsOwn (make_refusal order.now found.now.paths.items)) }
     ensures gave { let count = length found.now.paths.items in
         IfErr result (IsGivenTo (IsFileFault count) (IsFileSize count) IsFileEnd count) }
@@ -85,4 +112,46 @@ pub fn torrent_of<T: Threads + Sync>(
         progress.erase();
     }
     answer
+}
+
+/// The same by workers behind the calling thread, which reads file after file.
+fn by_streams<T: Threads + Wait + Sync>(
+    rt: &T,
+    alloc: Global,
+    found: &Found,
+    order: &Order,
+    progress: Option<Progress>,
+) -> Result<Vec<u8>, MakeError<io::Error>>
+    requires { length found.now.source ≡ length found.now.paths.items }
+    ensures whole { IfOk result
+        (λ bytes. IsMadeOfSome (settings_of_order order.now) found.now.paths.items bytes.items) }
+    ensures accepted { OnOk result (stream_refusal {F = Error} order.now found.now.paths.items ≡ None) }
+    ensures refused { IfErr result (IsRefusedFirst (stream_refusal order.now found.now.paths.items)) }
+    ensures only { IfErr result (IsOwn (stream_refusal order.now found.now.paths.items)) }
+    ensures gave { IfErr result (IsStreamFault (length found.now.paths.items)) }
+{
+    let readers = counted_readers(alloc, found, &progress)?;
+    let answer = make_streams(rt, alloc, readers, &found.paths, order);
+    if let Some(progress) = &progress {
+        progress.erase();
+    }
+    answer
+}
+
+/// A reader of each file; what is read of it is counted, where that is to be shown.
+fn counted_readers<'a>(
+    alloc: Global,
+    found: &Found,
+    progress: &'a Option<Progress>,
+) -> Result<Vec<CountedReader<'a, LazyFile<HostRuntime>>>, AllocError>
+    ensures { IfOk result (λ readers. vec_len readers ≡ length found.now.source) }
+{
+    if let Some(progress) = progress {
+        progress.ask_lengths(&found.source);
+    }
+    let files = found.source.readers()?;
+    files
+        .into_iter()
+        .map(|reader| CountedReader { reader, progress })
+        .collect(alloc)
 }

@@ -3,7 +3,8 @@
 //!
 //! - `execute.rt`: the whole program.
 //! - `command.rt`: what the words ask for.
-//! - `make_command.rt`: the command `make`; `make_words.rt`: its words; `options.rt`: what they ask for.
+//! - `make_command.rt`: the command `make`; `make_words.rt`: its words; `options.rt`: what they ask for;
+//!   `way.rt`: who hashes.
 //! - `from_place.rt`: the torrent of a file or a folder. `out_file.rt`: the file that a torrent goes to.
 //!   `progress.rt`: how far the reading is, shown on a terminal; `progress_line.rt`: the line; `watch.rt`: the time
 //!   that has gone.
@@ -48,3 +49,4 @@ mod telling;
 mod torrent_words;
 mod verify_command;
 mod watch;
+mod way;

@@ -11,8 +11,10 @@ use crate::from_place::{files_at, torrent_of};
 use crate::options::MakeOptions;
 use crate::out_file::{send, write_file};
 use crate::progress::Progress;
+use crate::way::how_of;
 use std::alloc::{AllocError, Global};
 use std::io::{Read, Write};
+use std::sync::Wait;
 use std::thread::Threads;
 use tor_meta::{Order, make_from, torrent_from};
 use tor_source::drop_input;
@@ -20,7 +22,7 @@ use tor_tree::{Name, NameError};
 
 /// Makes the torrent of one file, whose content the reader has, or of the files at a place of the system. The first of
 /// these faults is answered: of the reader, the name, the place, the other options, the files, the writer.
-pub fn make<T: Threads + Sync, R: Read, W: Write>(
+pub fn make<T: Threads + Wait + Sync, R: Read, W: Write>(
     rt: &T,
     system: &HostRuntime,
     options: &MakeOptions<'_>,
@@ -69,7 +71,7 @@ fn make_of_input<R: Read, W: Write>(
 }
 
 /// Makes the torrent of the file or the folder at a place of the system.
-fn make_of_place<T: Threads + Sync, W: Write>(
+fn make_of_place<T: Threads + Wait + Sync, W: Write>(
     rt: &T,
     system: &HostRuntime,
     options: &MakeOptions<'_>,
@@ -87,7 +89,7 @@ fn make_of_place<T: Threads + Sync, W: Write>(
 }
 
 /// The torrent of the file or the folder at a place of the system.
-fn torrent_at<T: Threads + Sync>(
+fn torrent_at<T: Threads + Wait + Sync>(
     rt: &T,
     system: &HostRuntime,
     options: &MakeOptions<'_>,
@@ -106,7 +108,7 @@ fn torrent_at<T: Threads + Sync>(
         true => Progress::start(system, found.paths.len()),
         false => None,
     };
-    Ok(torrent_of(rt, alloc, &found, &order, progress)?)
+    Ok(torrent_of(rt, alloc, options.way, &found, &order, progress)?)
 }
 
 /// The order that the options ask for, of one file.
@@ -150,6 +152,6 @@ fn order_of(
         announce,
         is_private: options.is_private,
         span: options.span,
-        how: options.how,
+        how: how_of(options.way),
     })
 }

@@ -13,7 +13,7 @@ const KINDS: [&str; 3] = ["v1", "v2", "hybrid"];
 
 const DEFAULT_KIND: &str = "v2";
 
-const HOWS: [&str; 3] = ["one", "halves", "board"];
+const HOWS: [&str; 4] = ["one", "halves", "board", "streams"];
 
 const DEFAULT_HOW: &str = "one";
 
@@ -125,7 +125,9 @@ fn how_option<'a>(alloc: Global) -> Arg<'a>
         .value_name("HOW")
         .value_parser(HOWS.as_slice())
         .default_value(DEFAULT_HOW)
-        .help("Who hashes the files of PATH: one worker, or several, by halves or at a board")
+        .help(
+            "Who hashes the files of PATH: one worker, or several, by halves, at a board or behind a stream",
+        )
 }
 
 fn workers_option<'a>(alloc: Global) -> Arg<'a>
@@ -137,7 +139,9 @@ fn workers_option<'a>(alloc: Global) -> Arg<'a>
         .value_name("N")
         .value_parser(value_parser!(u32))
         .default_value(DEFAULT_WORKERS)
-        .help("How many workers share the hashing, by halves or at a board: from 1 to 64")
+        .help(
+            "How many workers share the hashing, by halves, at a board or behind a stream: from 1 to 64",
+        )
 }
 
 fn span_option<'a>(alloc: Global) -> Arg<'a>

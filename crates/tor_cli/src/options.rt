@@ -1,10 +1,11 @@
 //! What the words of `tor make` ask for.
 ghost use Rattle.clap.specs.Words.{found_of, rows_of};
 ghost use Rattle.std.specs.Prelude.{◌≡◌, IfSome, Some};
-ghost use Rattle.tor_engine.specs.declared.how.How.{How};
 ghost use Rattle.tor_tree.specs.declared.kinds.Kind.{Kind};
-ghost use Rattle.tor_cli.specs.Words.{AreOptionsIn, HasWorkers, how_word, word_of};
+ghost use Rattle.tor_cli.specs.Words.{AreOptionsIn, HasWorkers, way_word, word_of};
+ghost use Rattle.tor_cli.specs.declared.way.Way.{Way};
 
+use crate::way::Way;
 use clap::ArgMatches;
 use tor_engine::How;
 use tor_tree::Kind;
@@ -19,8 +20,8 @@ pub struct MakeOptions<'a> {
     /// The tracker's URL.
     pub announce: Option<&'a str>,
     pub is_private: bool,
-    /// The workers that share the hashing of files.
-    pub how: How,
+    /// Who hashes files.
+    pub way: Way,
     /// The pieces that a worker hashes as one unit of work.
     pub span: u32,
     /// The file that the torrent goes to; standard output where there is none.
@@ -39,7 +40,7 @@ pub fn make_options<'a>(matches: &ArgMatches<'a>) -> Option<MakeOptions<'a>>
         piece_length: matches.get_one::<u64>("piece-length")?,
         announce: matches.get_str("announce"),
         is_private: matches.get_flag("private"),
-        how: how_of(matches.get_str("how")?, matches.get_one::<u32>("workers")?)?,
+        way: way_of(matches.get_str("how")?, matches.get_one::<u32>("workers")?)?,
         span: matches.get_one::<u32>("span")?,
         out: matches.get_str("out"),
         place: matches.get_str("path"),
@@ -59,14 +60,15 @@ fn kind_of(word: &str) -> Option<Kind>
 }
 
 /// One worker takes no notice of the number of workers.
-fn how_of(word: &str, workers: u32) -> Option<How>
-    ensures value { IfSome result (λ how. (how_word how ≡ word.now) × HasWorkers how workers) }
-    ensures each { (how : How) → word.now ≡ how_word how → HasWorkers how workers → result ≡ Some how }
+fn way_of(word: &str, workers: u32) -> Option<Way>
+    ensures value { IfSome result (λ way. (way_word way ≡ word.now) × HasWorkers way workers) }
+    ensures each { (way : Way) → word.now ≡ way_word way → HasWorkers way workers → result ≡ Some way }
 {
     match word {
-        "one" => Some(How::One),
-        "halves" => Some(How::Halves(workers)),
-        "board" => Some(How::Board(workers)),
+        "one" => Some(Way::Shared(How::One)),
+        "halves" => Some(Way::Shared(How::Halves(workers))),
+        "board" => Some(Way::Shared(How::Board(workers))),
+        "streams" => Some(Way::Streams(workers)),
         _ => None,
     }
 }

@@ -4,7 +4,7 @@ ghost use Rattle.std.specs.Prelude.{◌≡◌};
 use crate::progress_line::progress_line;
 use crate::watch::Watch;
 use std::alloc::Global;
-use std::io::Eprint;
+use std::io::{self, Eprint, Read};
 use std::rt::Stderr;
 use std::sync::atomic::AtomicU64;
 use std::sync::atomic::Ordering::SeqCst;
@@ -44,6 +44,15 @@ impl Progress {
             read: AtomicU64::new(0),
             last: AtomicU64::new(0),
         })
+    }
+
+    /// Asks the files of a source, where they are read in another way, how long they are.
+    pub fn ask_lengths<S: Source>(&self, source: &S) {
+        for file in 0..self.files {
+            if let Ok(Some(length)) = source.length(file) {
+                self.count_length(length);
+            }
+        }
     }
 
     fn count_length(&self, length: u64) {
@@ -94,6 +103,25 @@ pub struct Counting<'a, S: Source> {
     /// The files of the torrent that is rechecked, past whose lengths nothing is read; none where one is made.
     pub files: &'a [ViewFile],
     pub progress: Option<Progress>,
+}
+
+/// A reader; what is read of it is counted, where that is to be shown.
+#[derive(Drop)]
+pub struct CountedReader<'a, R: Read> {
+    pub reader: R,
+    pub progress: &'a Option<Progress>,
+}
+
+impl<'a, R: Read> Read for CountedReader<'a, R> {
+    ghost remaining = { λ counted. R.remaining counted.reader };
+
+    fn read(&mut self, buf: &mut [u8]) -> io::Result<usize> {
+        let answer = self.reader.read(buf);
+        if let (Some(progress), Ok(count)) = (self.progress, &answer) {
+            progress.count_read(*count as u64);
+        }
+        answer
+    }
 }
 
 /// How many bytes are read at most of a file that has so many.

@@ -34,7 +34,8 @@ module _ (f : List ℕ → List Node) (contents : List (List ℕ)) (i : ℕ) (th
   later = flat_map f (drop (i + 1) contents)
 
   all : map node_in units ≡ own ++ later
-  all = is ∙ ap (flat_map f) (drop_more contents i [] there) ∙ flat_map-cons f (get_or contents i []) (drop (i + 1) contents)
+  all = is ∙ ap (flat_map f) (drop_more contents i [] there)
+      ∙ flat_map-cons f (get_or contents i []) (drop (i + 1) contents)
 
   pub own_nodes : (n : ℕ) → n ≡ length own → map node_in (take n units) ≡ own
   own_nodes n many =

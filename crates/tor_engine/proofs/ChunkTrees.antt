@@ -1,7 +1,9 @@
 -- The tree of a content, from the nodes that its chunks have each by itself.
-use Rattle.std.proofs.Common.{◌≡◌, ◌⊎◌, ℕ, zero, suc, ◌+◌, ◌-◌, ◌*◌, ◌^◌, ◌<◌, ◌≤◌, Bool, true, false, cond, List, [], ◌∷◌}
+use Rattle.std.proofs.Common.{◌≡◌, ◌⊎◌, ℕ, zero, suc, ◌+◌, ◌-◌, ◌*◌, ◌^◌, ◌<◌, ◌≤◌, Bool, true, false, cond, List, []}
+use Rattle.std.proofs.Common.{◌∷◌}
 use Rattle.std.proofs.Common.{◌++◌, length, map, take, drop, get_or, Option, None, Some, arith, refl, ap, ap₂, ◌∙◌, sym}
-use Rattle.std.proofs.Common.{subst, append-nil, inl, inr, length-append, length-drop, length-take, min, mul-le-mul_right}
+use Rattle.std.proofs.Common.{subst, append-nil, inl, inr, length-append, length-drop, length-take, min}
+use Rattle.std.proofs.Common.{mul-le-mul_right}
 use Rattle.std.proofs.Common.{le_antisymm, zero-mul, pow-add, pow-suc, pow_pos, ◌/◌}
 use Rattle.std.proofs.Math.Nat.{pow-le-pow_right}
 use Rattle.std.proofs.lemmas.Bool.{eq-eqb}

@@ -1,5 +1,6 @@
 -- Runs of a content, the zeros after the last of them, and the chunk that is held.
-use Rattle.std.proofs.Common.{◌≡◌, ℕ, zero, suc, ◌+◌, ◌*◌, ◌<◌, ◌≤◌, List, [], ◌∷◌, ◌++◌, length, map, Option, None, Some}
+use Rattle.std.proofs.Common.{◌≡◌, ℕ, zero, suc, ◌+◌, ◌*◌, ◌<◌, ◌≤◌, List, [], ◌∷◌, ◌++◌, length, map, Option, None}
+use Rattle.std.proofs.Common.{Some}
 use Rattle.std.proofs.Common.{arith, refl, ap, ◌∙◌, sym, subst, length-append}
 use Rattle.std.specs.List.{flat_map, range_with_len}
 use Rattle.tor_lane.specs.declared.chunk.Chunk.{Chunk}

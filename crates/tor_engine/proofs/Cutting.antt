@@ -1,5 +1,6 @@
 -- What is cut while bytes come, where a content ends, and where all end.
-use Rattle.std.proofs.Common.{◌≡◌, ℕ, zero, suc, ◌+◌, ◌*◌, ◌<◌, ◌≤◌, Bool, true, false, cond, List, [], ◌∷◌, ◌++◌, length}
+use Rattle.std.proofs.Common.{◌≡◌, ℕ, zero, suc, ◌+◌, ◌*◌, ◌<◌, ◌≤◌, Bool, true, false, cond, List, [], ◌∷◌, ◌++◌}
+use Rattle.std.proofs.Common.{length}
 use Rattle.std.proofs.Common.{map, take, Option, None, Some, arith, refl, ap, ◌∙◌, sym, subst, append_assoc, append-nil}
 use Rattle.std.proofs.Common.{ap₂, zero-mul, length-append, length-take, vec_len}
 use Rattle.std.proofs.lemmas.Grind.{flat_map-append, div_ceil_times}
@@ -16,7 +17,8 @@ use Rattle.tor_tree.specs.declared.kinds.Kind.{Kind}
 use Rattle.tor_v1.specs.Piece.{pieces_of}
 use Rattle.tor_engine.proofs.PieceRuns.{pieces_nil}
 use Rattle.tor_engine.specs.declared.cutter.Cutter.{Cutter}
-use Rattle.tor_engine.specs.steps.Cuts.{Cut, CutsMore, HasCut, HasPut, IsCutOff, PutsHeld, bare_cuts, closed_cuts, cut_of}
+use Rattle.tor_engine.specs.steps.Cuts.{Cut, CutsMore, HasCut, HasPut, IsCutOff, PutsHeld, bare_cuts, closed_cuts}
+use Rattle.tor_engine.specs.steps.Cuts.{cut_of}
 use Rattle.tor_engine.specs.steps.Cuts.{cuts_held, cuts_of_content, ending_in, open_text, runs_of, stream_cuts}
 use Rattle.tor_engine.specs.steps.Cuts.{units_held, units_of, zeros_between}
 use Rattle.tor_engine.proofs.CutLists.{held_closes, held_ends, range_more, runs_more}
@@ -209,7 +211,8 @@ module _ (kind : Kind) (p size : ℕ) (some : 0 < size) where
         filled = omega (arith, filled, off.filled);
         cut = [];
         whole = (0, none_of size);
-        text = ap (λ n. take n new.buffer.items) (filled ∙ off.filled) ∙ sym (open_with_trees (contents ++ content ∷ []) [] trees);
+        text = ap (λ n. take n new.buffer.items) (filled ∙ off.filled)
+            ∙ sym (open_with_trees (contents ++ content ∷ []) [] trees);
         cuts = ap (λ f. map cut_of (put_by f) ++ cuts_held new.held new.zeros) feeder
             ∙ ap (λ h. map cut_of (put_by old.feeder) ++ cuts_held h new.zeros) held
             ∙ ap (λ n. map cut_of (put_by old.feeder) ++ cuts_held old.held n) zeros ∙ closes

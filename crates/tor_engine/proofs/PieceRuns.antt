@@ -1,6 +1,8 @@
 -- Copies, to be replaced by the laws of tor_v1 and tor_plan.
-use Rattle.std.proofs.Common.{◌≡◌, ℕ, zero, suc, ◌+◌, ◌-◌, ◌*◌, ◌/◌, ◌%◌, ◌<◌, ◌≤◌, List, [], ◌∷◌, ◌++◌, length, map, take, drop}
-use Rattle.std.proofs.Common.{arith, refl, ap, ap₂, ◌∙◌, sym, append_assoc, append-nil, length-append, length-drop, inl, inr}
+use Rattle.std.proofs.Common.{◌≡◌, ℕ, zero, suc, ◌+◌, ◌-◌, ◌*◌, ◌/◌, ◌%◌, ◌<◌, ◌≤◌, List, [], ◌∷◌, ◌++◌, length, map}
+use Rattle.std.proofs.Common.{take, drop}
+use Rattle.std.proofs.Common.{arith, refl, ap, ap₂, ◌∙◌, sym, append_assoc, append-nil, length-append, length-drop, inl}
+use Rattle.std.proofs.Common.{inr}
 use Rattle.std.proofs.Common.{lt_of_mul-lt-mul_right}
 use Rattle.std.proofs.Math.Nat.{mod_self, mod-eq_of_lt, mod-lt, zero-mod}
 use Rattle.std.proofs.Math.Seq.{drop-append-add}

@@ -1,5 +1,6 @@
 -- Readers that were read one after the other.
-use Rattle.std.proofs.Common.{◌≡◌, ◌<◌, ◌+◌, ℕ, List, [], ◌∷◌, ◌++◌, length, map, get_or, Option, None, Some, arith, refl}
+use Rattle.std.proofs.Common.{◌≡◌, ◌<◌, ◌+◌, ℕ, List, [], ◌∷◌, ◌++◌, length, map, get_or, Option, None, Some, arith}
+use Rattle.std.proofs.Common.{refl}
 use Rattle.std.proofs.Common.{ap, ap₂, sym, ◌∙◌, subst, append-nil, length-append}
 use Rattle.std.proofs.lemmas.List.{get_or-append-add, get_or-map, length-map, map-append}
 use Rattle.std.specs.Io.KnownBytes.{Consumes, IsAtEnd}
@@ -30,7 +31,8 @@ module _ {X : Type 0} (known : X → Option (List ℕ)) where
       → n ≡ length front → (n < length (map known all)) × (get_or (map known all) n None ≡ known reader)
   at_number front reader rest all is n counted =
       let place : get_or (front ++ reader ∷ rest) n reader ≡ reader =
-      ap (λ k. get_or (front ++ reader ∷ rest) k reader) (counted ∙ (let e : length front ≡ length front + 0 = omega arith in e))
+      ap (λ k. get_or (front ++ reader ∷ rest) k reader)
+      (counted ∙ (let e : length front ≡ length front + 0 = omega arith in e))
       ∙ get_or-append-add front (reader ∷ rest) 0 reader in
       let within : n < length all = omega (arith, counted, ap length is, length-append front (reader ∷ rest)) in (
         omega (arith, within, length-map all known),

@@ -54,7 +54,8 @@ joined_runs z run (next ∷ runs) =
 module _ (size : ℕ) (some : 0 < size) where
   -- runs are put together again
   from_run : (content : List ℕ) (a n : ℕ)
-      → flat_map (λ r. r) (map (slice_chunk content size) (range_with_len a n)) ≡ take (n * size) (drop (a * size) content)
+      → flat_map (λ r. r) (map (slice_chunk content size) (range_with_len a n))
+      ≡ take (n * size) (drop (a * size) content)
   from_run content a zero =
       ap (λ k. take k (drop (a * size) content)) (let e : 0 ≡ 0 * size = omega arith in e)
   from_run content a (suc n) =

@@ -1,5 +1,6 @@
 -- The SHA-1 of the pieces of chunks are those of what the chunks have together.
-use Rattle.std.proofs.Common.{◌≡◌, ◌⊎◌, ℕ, zero, suc, ◌+◌, ◌-◌, ◌*◌, ◌<◌, ◌≤◌, Bool, true, false, cond, List, [], ◌∷◌, ◌++◌}
+use Rattle.std.proofs.Common.{◌≡◌, ◌⊎◌, ℕ, zero, suc, ◌+◌, ◌-◌, ◌*◌, ◌<◌, ◌≤◌, Bool, true, false, cond, List, [], ◌∷◌}
+use Rattle.std.proofs.Common.{◌++◌}
 use Rattle.std.proofs.Common.{length, map, take, drop, arith, refl, ap, ap₂, ◌∙◌, sym, subst, append-nil, sum_by}
 use Rattle.std.proofs.Common.{length-append, length-drop, inl, inr, mul-le-mul_right, mul-pos}
 use Rattle.std.proofs.lemmas.Grind.{div_ceil_times}

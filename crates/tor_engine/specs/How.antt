@@ -1,5 +1,5 @@
 -- By how many workers files are hashed.
-use Rattle.std.specs.Prelude.{◌≤◌, Bool, true, ◌&&◌, nat_le}
+use Rattle.std.specs.Prelude.{◌≤◌, ℕ, Bool, true, ◌&&◌, nat_le}
 use Rattle.tor_engine.specs.declared.how.How.{How}
 use Rattle.tor_engine.specs.declared.how.How.TheVariants.{One, Halves, Board}
 use Rattle.tor_engine.specs.declared.how.TheConstants.{MAX_WORKERS}
@@ -14,3 +14,9 @@ abbrev pub IsHow : How → Type 0
 IsHow One = Unit {0}
 IsHow (Halves workers) = (1 ≤ workers) × (workers ≤ MAX_WORKERS)
 IsHow (Board workers) = (1 ≤ workers) × (workers ≤ MAX_WORKERS)
+
+-- how many workers there are
+abbrev pub workers_of : How → ℕ
+workers_of One = 1
+workers_of (Halves workers) = workers
+workers_of (Board workers) = workers

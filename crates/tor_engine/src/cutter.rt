@@ -158,21 +158,21 @@ impl Cutter {
         }
     }
 
-    // Cuts what waits in the buffer, and puts what was held before.
+    // Puts what was held before, and cuts what waits in the buffer; so not both are held beside it.
     fn cut<T: Wait>(&mut self, rt: &T, alloc: Global) -> Result<(), AllocError>
         requires within { self.old.filled ≤ vec_len self.old.buffer }
         requires open { IsOpen self.old.feeder }
         ensures cut { OnOk result (CutsMore self.old self.new) }
         ensures lane { FeedsLaneOf self.old.feeder self.new.feeder × IsOpen self.new.feeder }
     {
-        let (waiting, _) = self.buffer.as_slice().split_at(self.filled);
-        let bytes = Vec::from_slice(alloc, waiting)?;
         let unit = self.next;
         // There is no room for the sums of so many units.
         let Some(next) = unit.checked_add(1) else {
             return Err(AllocError);
         };
         self.put_held(rt, self.zeros);
+        let (waiting, _) = self.buffer.as_slice().split_at(self.filled);
+        let bytes = Vec::from_slice(alloc, waiting)?;
         let zeros = 0;
         self.held = Some(Chunk { unit, bytes, zeros });
         self.zeros = 0;

@@ -1,5 +1,6 @@
 //! By how many workers files are hashed.
-ghost use Rattle.std.specs.Prelude.{◌≡◌, ◌↔◌, IsTrue};
+ghost use Rattle.std.specs.Prelude.{◌≡◌, ◌≤◌, ◌↔◌, IsTrue};
+ghost use Rattle.tor_engine.specs.declared.how.TheConstants.{MAX_WORKERS};
 
 /// The most workers that may share the hashing.
 pub const MAX_WORKERS: u32 = 64;
@@ -16,7 +17,7 @@ pub enum How {
 }
 
 impl How {
-    ghost use Rattle.tor_engine.specs.How.{IsHow, is_how};
+    ghost use Rattle.tor_engine.specs.How.{IsHow, is_how, workers_of};
 
     /// Whether so many workers may share the hashing.
     pub fn is_allowed(self) -> bool
@@ -26,6 +27,17 @@ impl How {
         match self {
             How::One => true,
             How::Halves(workers) | How::Board(workers) => 1 <= workers && workers <= MAX_WORKERS,
+        }
+    }
+
+    /// How many workers share the hashing; `One` is one.
+    pub fn workers(self) -> u32
+        ensures value { result ≡ workers_of self }
+        ensures allowed { IsHow self → (1 ≤ result) × (result ≤ MAX_WORKERS) }
+    {
+        match self {
+            How::One => 1,
+            How::Halves(workers) | How::Board(workers) => workers,
         }
     }
 }

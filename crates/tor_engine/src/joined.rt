@@ -8,10 +8,11 @@ use crate::unit_sums::UnitSums;
 use std::alloc::{AllocError, Global};
 use tor_merkle::Hash;
 
-/// Puts the items of one vector after those of another.
+/// Puts the items of one vector after those of another. Memory is asked for once, and for no more than both need.
 pub(crate) fn append<T: Drop>(items: &mut Vec<T>, next: Vec<T>) -> Result<(), AllocError>
     ensures { OnOk result (items.new.items ≡ items.old.items ++ next.items) }
 {
+    items.reserve_exact(next.len())?;
     'items: for item in next {
         items.push(item)?;
     }

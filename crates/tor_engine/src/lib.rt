@@ -19,11 +19,11 @@
 //! - [`hash_pieces`] (`pieces.rt`): what each piece hashes to ([`PieceHash`], `piece_hash.rt`), of files that may be
 //!   cut short or missing: `asked.rt` asks for their lengths, `present.rt` tells what is there by these, and
 //!   `piece_work.rt` hashes the pieces of a unit.
-//! - [`hash_streams`] (`streams.rt`): what readers sum up to that are read once and in order. `cutter.rt` reads them and
-//!   puts chunks into a lane, whose workers (`stream_worker.rt`) take and hash them (`chunk_sums.rt`); `stream_sums.rt`
-//!   puts together what these sum up to. [`Gate`] (`gate.rt`): what tests have workers pass. [`lane`], [`Feeder`],
-//!   [`Taker`], [`Chunk`] are those of `tor_lane`.
-//! - [`laws`] (`laws.rt`): a law over the definition of the first fault, and the limits of workers and buffers.
+//! - [`hash_streams`] (`streams.rt`): what readers sum up to that are read once and in order. `cutter.rt` reads them
+//!   and puts chunks into a lane, whose workers (`stream_worker.rt`) take and hash them (`chunk_sums.rt`);
+//!   `stream_sums.rt` puts together what these sum up to. [`Gate`] (`gate.rt`): what tests have workers pass. [`lane`],
+//!   [`Feeder`], [`Taker`], [`Chunk`] are those of `tor_lane`.
+//! - [`laws`] (`laws.rt`): a law over the definition of the first fault, and the limits of workers, buffers and units.
 //!
 //! ```rust
 //! use tor_engine::{How, hash_all};

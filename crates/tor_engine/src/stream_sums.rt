@@ -118,7 +118,7 @@ fn tree_of_chunks(
 {
     let level = piece_level(size);
     let mut stack = Stack::new(level);
-    let mut layer = Vec::new(alloc);
+    let mut layer = Vec::with_capacity(alloc, length.div_ceil(piece_length) as usize)?;
     let mut left = length;
     'chunks: for one in own {
         let count = left.min(size);

@@ -10,6 +10,8 @@ pub mod OneFile
 pub mod Judged
 pub mod Refused
 pub mod FromSource
+pub mod RisingPaths
+pub mod StreamSums
 pub mod GivenFiles
 pub mod ByteFaults
 pub mod SourceFaults

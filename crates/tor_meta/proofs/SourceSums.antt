@@ -1,11 +1,11 @@
 -- What a source's files sum up to, as a plan of them has it and as a head asks for it.
 use Rattle.std.proofs.Common.{◌≡◌, ℕ, ◌*◌, ◌<◌, ◌≤◌, Bool, true, false, List, [], ◌∷◌, length}
-use Rattle.std.proofs.Common.{map, nat_lt, option_map, Option, None, Some, refl, ap, ◌∙◌, arith, ◌↔◌, IsTrue}
+use Rattle.std.proofs.Common.{map, nat_lt, option_map, Option, None, Some, refl, ap, subst, ◌∙◌, arith, ◌↔◌, IsTrue}
 use Rattle.std.proofs.Common.{mul-le-mul_right}
 use Rattle.std.specs.Int.{is_power_of_two}
 use Rattle.std.specs.List.{flat_map}
 use Rattle.std.proofs.lemmas.Bool.{and_right}
-use Rattle.tor_engine.specs.Sums.{AreSumsOfPlan, plan_content}
+use Rattle.tor_engine.specs.Sums.{AreSumsOf, AreSumsOfPlan, plan_content}
 use Rattle.tor_engine.specs.declared.sums.Sums.{Sums as Hashed}
 use Rattle.tor_merkle.specs.Layer.{IsPieceLength, root_of as merkle_root}
 use Rattle.tor_merkle.specs.declared.TheConstants.{MAX_PIECE_LENGTH, MIN_PIECE_LENGTH}
@@ -74,20 +74,27 @@ same_entries head files one = by_kind head.kind head.single one
     by_kind Hybrid false one = refl
     by_kind Hybrid true one = one_entry head.piece_length files (one refl)
 
-pub sums_up : (head : Head) (span : ℕ) (files : List (List (List ℕ)
-    × ℕ)) (contents : List (List ℕ)) (hashed : Hashed) → IsJudged head files →
-    plan_content (plan_of head.kind head.piece_length span files) contents
-    ≡ cut_content head.kind head.piece_length files contents →
-    AreSumsOfPlan (plan_of head.kind head.piece_length span files) contents hashed →
-    SumUp head files contents hashed
+pub sums_of_files : (head : Head) (files : List (List (List ℕ) × ℕ)) (contents : List (List ℕ)) (hashed : Hashed)
+    → IsJudged head files
+    → AreSumsOf head.kind head.piece_length contents (cut_content head.kind head.piece_length files contents) hashed
+    → SumUp head files contents hashed
 unfolding v1_pieces
-sums_up head span files contents hashed judged law sums = record {
+sums_of_files head files contents hashed judged sums = record {
   roots = λ e. let there = same_v2 head.kind e in (rw there at sums.roots) ∙ same_roots contents;
   layers = λ e. let there = same_v2 head.kind e in rw there at sums.layers;
   pieces = λ e. let there = same_v1 head.kind e in
-      (rw there at sums.pieces) ∙ ap (piece_sums head.piece_length) (law
-      ∙ ap (λ entries. joined_content entries contents) (same_entries head files judged.one));
+      (rw there at sums.pieces) ∙ ap (piece_sums head.piece_length)
+      (ap (λ entries. joined_content entries contents) (same_entries head files judged.one));
 }
+
+sums_up : (head : Head) (span : ℕ) (files : List (List (List ℕ) × ℕ)) (contents : List (List ℕ)) (hashed : Hashed)
+    → IsJudged head files
+    → plan_content (plan_of head.kind head.piece_length span files) contents
+    ≡ cut_content head.kind head.piece_length files contents
+    → AreSumsOfPlan (plan_of head.kind head.piece_length span files) contents hashed → SumUp head files contents hashed
+sums_up head span files contents hashed judged law sums =
+    sums_of_files head files contents hashed judged
+    (subst (λ (joined : List ℕ). AreSumsOf head.kind head.piece_length contents joined hashed) law sums)
 
 -- of a plan of the files
 pub from_plan : (head : Head) (span : ℕ) (files : List (List (List ℕ) × ℕ)) (hashed : Hashed) (plan : PlanFacts)

@@ -2,6 +2,7 @@ pub mod Head
 pub mod Order
 pub mod MakeError
 pub mod Make
+pub mod MakeStreams
 pub mod ListRefusal
 pub mod Refusal
 pub mod Contents

@@ -37,12 +37,15 @@ shape_refusal settings paths =
     if list_any is_long paths then Some Path else (
     if settings.single && not (is_only settings.name paths) then Some SingleShape else None))
 
--- what is known before any length: those, then the faults of paths, then Y1
-abbrev pub paths_refusal : Settings → ListOf (ListOf (ListOf ℕ)) → Option ContentsError
-paths_refusal settings paths =
-    option_or (shape_refusal settings paths) (
+-- what is found once the paths are in order: their faults, then Y1
+abbrev pub ordered_refusal : Settings → ListOf (ListOf (ListOf ℕ)) → Option ContentsError
+ordered_refusal settings paths =
     option_or (option_map List (paths_fault paths)) (
-    if is_aligned settings.kind settings.single && list_any is_reserved paths then Some ReservedPad else None))
+    if is_aligned settings.kind settings.single && list_any is_reserved paths then Some ReservedPad else None)
+
+-- what is known before any length
+abbrev pub paths_refusal : Settings → ListOf (ListOf (ListOf ℕ)) → Option ContentsError
+paths_refusal settings paths = option_or (shape_refusal settings paths) (ordered_refusal settings paths)
 
 -- and then the fault of lengths
 abbrev pub contents_refusal : Settings → ListOf File → Option ContentsError

@@ -98,7 +98,7 @@ fn judge<F>(
 }
 
 /// The same paths again.
-fn copies(alloc: Global, paths: &[FilePath]) -> Result<Vec<FilePath>, AllocError>
+pub(crate) fn copies(alloc: Global, paths: &[FilePath]) -> Result<Vec<FilePath>, AllocError>
     ensures { IfOk result (λ copies. copies.items ≡ paths.now) }
 {
     let mut copies = Vec::with_capacity(alloc, paths.len())?;

@@ -3,7 +3,7 @@ ghost use Rattle.std.specs.Prelude.{◌≡◌, ◌⊎◌, ◌&&◌, not, Some, N
 ghost use Rattle.std.specs.List.{list_any};
 ghost use Rattle.tor_meta.specs.declared.refusals.ContentsError.{ContentsError};
 ghost use Rattle.tor_meta.specs.Head.{settings_of};
-ghost use Rattle.tor_meta.specs.Refusal.{is_long, is_name, is_only, paths_refusal, shape_refusal};
+ghost use Rattle.tor_meta.specs.Refusal.{is_long, is_name, is_only, ordered_refusal, paths_refusal, shape_refusal};
 ghost use Rattle.tor_spec.specs.Settings.{is_aligned};
 ghost use Rattle.tor_tree.specs.PathList.{AreIndexedPaths, IsPathList};
 ghost use Rattle.tor_v1.specs.Reserved.{is_reserved};
@@ -33,6 +33,21 @@ pub(crate) fn judge_paths(
     if let Some(refusal) = refusal_of_shape(head, &paths) {
         return Err(refusal);
     }
+    put_in_order(alloc, head, paths)
+}
+
+/// The same, of paths that are not refused for what needs no order of them.
+pub(crate) fn put_in_order(
+    alloc: Global,
+    head: &Head,
+    paths: Vec<FilePath>,
+) -> Result<PathList, ContentsError>
+    ensures indexed { IfOk result (AreIndexedPaths paths.items) }
+    ensures lawful { IfOk result IsPathList }
+    ensures accepted { OnOk result (ordered_refusal (settings_of head.now) paths.items ≡ None) }
+    ensures refused { IfErr result (λ refusal.
+        (ordered_refusal (settings_of head.now) paths.items ≡ Some refusal) ⊎ (refusal ≡ ContentsError.Memory)) }
+{
     let reserved = head.is_aligned() && any_reserved(&paths);
     let list = PathList::build(alloc, paths)?;
     if reserved {
@@ -42,7 +57,7 @@ pub(crate) fn judge_paths(
 }
 
 /// The first refusal for what needs no order of the paths.
-fn refusal_of_shape(head: &Head, paths: &[FilePath]) -> Option<ContentsError>
+pub(crate) fn refusal_of_shape(head: &Head, paths: &[FilePath]) -> Option<ContentsError>
     ensures { result ≡ shape_refusal (settings_of head.now) paths.now }
 {
     if !is_piece_length(head.piece_length) {

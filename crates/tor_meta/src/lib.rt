@@ -9,6 +9,7 @@
 //! - [`make`] (`from_source.rt`): the torrent of the files of a source, as an [`Order`] (`order.rt`) says, or the first
 //!   [`MakeError`] (`make_error.rt`). `indexed_files.rt` puts a source's files into another order; `listed_files.rt`
 //!   makes the torrent of a list of files whose bytes a source gives.
+//! - [`make_streams`] (`from_streams.rt`): the torrent of readers that are read once, in the order of their paths.
 //! - [`ContentsError`] (`refusals.rt`): why there is no torrent of files in memory.
 //! - `sums.rt`: the Merkle trees and the SHA-1 of the pieces, as far as a kind asks for them.
 //! - `torrent.rt`: from files and sums to bytes, by `info.rt`, `layers.rt` and `items.rt`.
@@ -33,6 +34,7 @@ mod fed;
 mod fed_intake;
 mod from_input;
 mod from_source;
+mod from_streams;
 mod hashes;
 mod head;
 mod indexed_files;
@@ -54,6 +56,7 @@ pub use contents::make_contents;
 pub use fed::{FedSums, refusal_of_one};
 pub use from_input::{FromFault, make_from, torrent_from};
 pub use from_source::make;
+pub use from_streams::make_streams;
 pub use hashes::{Hashes, info_hashes, magnet};
 pub use head::Head;
 pub use make_error::MakeError;

@@ -92,7 +92,7 @@ fn sums_of_listed<S: Source, R: Threads + Sync>(
 }
 
 /// The bytes of the torrent of the files that have these sums.
-fn torrent_of_sums(
+pub(crate) fn torrent_of_sums(
     alloc: Global,
     head: &Head,
     list: &FileList,

@@ -26,6 +26,8 @@ pub enum MakeError<F> {
     Path,
     /// A single file is asked for, and there is not exactly one path that is the torrent's name.
     SingleShape,
+    /// Readers are read in the order of their paths, and a path is not below the next.
+    NotSorted,
     List(ListError),
     /// In a hybrid of a folder some path begins with `.pad`.
     ReservedPad,
@@ -60,6 +62,7 @@ impl<F> fmt::Display for MakeError<F> {
             MakeError::Span => f.write_str("M3 Span"),
             MakeError::Path => f.write_str("M4 Path"),
             MakeError::SingleShape => f.write_str("M5 SingleShape"),
+            MakeError::NotSorted => f.write_str("M6 NotSorted"),
             MakeError::ReservedPad => f.write_str("Y1 ReservedPad"),
             MakeError::Read { .. } => f.write_str("E1 Read"),
             MakeError::Changed { .. } => f.write_str("E2 Changed"),

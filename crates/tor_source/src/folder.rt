@@ -95,7 +95,8 @@ impl<R: Files + AllocGlobal + Clone + Drop> FolderSource<R> {
 
     /// A reader of each file, to be read once and in order.
     pub fn readers(&self) -> Result<Vec<LazyFile<R>>, AllocError>
-        ensures { IfOk result (λ readers. vec_len readers ≡ length self.now) }
+        ensures each { IfOk result (λ readers. readers.items ≡ self.now) }
+        ensures count { IfOk result (λ readers. vec_len readers ≡ length self.now) }
     {
         let mut readers = Vec::with_capacity(self.rt.alloc(), self.places.len())?;
         'places: for place in &self.places {

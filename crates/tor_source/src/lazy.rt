@@ -1,13 +1,16 @@
 //! Files of the system that are read once and in order.
+ghost use Rattle.std.specs.Prelude.{◌≡◌};
 ghost use Rattle.std.specs.Io.{ReadsAtMost};
 ghost use Rattle.std.specs.Io.KnownBytes.{ReadConsumes};
+ghost use Rattle.std.specs.String.{string_bytes};
 
 use crate::regular;
 use std::io::{self, ErrorKind, Read};
+use std::marker::Model;
 use std::rt::Files;
 
 /// The file at a place, which is opened at its first read. It is given up at its end, from which on it gives no byte,
-/// and at a fault, after which each read is one.
+/// and at a fault, after which each read is one. Contracts see its place.
 #[derive(Drop)]
 pub struct LazyFile<R: Files> {
     rt: R,
@@ -23,8 +26,20 @@ enum State<F> {
     Failed,
 }
 
+impl<R: Files> Model for LazyFile<R> {
+    ghost use Rattle.std.specs.Prelude.{ℕ, List};
+    ghost use Rattle.std.specs.String.{string_bytes};
+
+    ghost Value = { List ℕ };
+
+    ghost view = { λ file. string_bytes file.place };
+}
+
 impl<R: Files> LazyFile<R> {
-    pub(crate) fn new(rt: R, place: String) -> LazyFile<R> {
+    /// The file at this place, of which nothing was read.
+    pub(crate) fn new(rt: R, place: String) -> LazyFile<R>
+        ensures { result ≡ string_bytes place }
+    {
         LazyFile {
             rt,
             place,

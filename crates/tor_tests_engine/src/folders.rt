@@ -8,7 +8,7 @@ use tor_source::{FolderSource, ScanFault, Source};
 use tor_tree::FilePath;
 
 // A new folder below the system's folder for temporary files.
-fn new_folder(rt: &HostRuntime, name: &str) -> io::Result<String> {
+pub(crate) fn new_folder(rt: &HostRuntime, name: &str) -> io::Result<String> {
     let id = process::id(rt.process());
     let temporary = env::temp_dir(rt)?;
     let place = format!(in rt.alloc(); "{}/tor_source-{name}-{id}", temporary.display())?;
@@ -17,7 +17,7 @@ fn new_folder(rt: &HostRuntime, name: &str) -> io::Result<String> {
     Ok(place)
 }
 
-fn below(alloc: Global, folder: &str, name: &str) -> Result<String, AllocError> {
+pub(crate) fn below(alloc: Global, folder: &str, name: &str) -> Result<String, AllocError> {
     format!(in alloc; "{folder}/{name}")
 }
 
@@ -35,11 +35,11 @@ pub(crate) fn shown(alloc: Global, paths: &[FilePath]) -> Result<Vec<u8>, AllocE
 }
 
 // Makes an empty file below a folder.
-fn add_file(rt: &HostRuntime, folder: &str, name: &str) -> io::Result<()> {
+pub(crate) fn add_file(rt: &HostRuntime, folder: &str, name: &str) -> io::Result<()> {
     fs::write(rt, below(rt.alloc(), folder, name)?.as_str(), "")
 }
 
-fn add_folder(rt: &HostRuntime, folder: &str, name: &str) -> io::Result<()> {
+pub(crate) fn add_folder(rt: &HostRuntime, folder: &str, name: &str) -> io::Result<()> {
     rt.create_dir(&below(rt.alloc(), folder, name)?)
 }
 
@@ -199,7 +199,7 @@ fn folder_of_a_file(rt: &HostRuntime) -> io::Result<String> {
 }
 
 // The files of these paths below a folder.
-fn files_at(
+pub(crate) fn files_at(
     rt: &HostRuntime,
     folder: &str,
     texts: &[&str],

@@ -3,6 +3,7 @@
 //!
 //! - `memory.rt`: what sources in memory answer.
 //! - `folders.rt`: scans and reads of real folders; `systems.rt`: of a system that has what no test can make.
+//!   `readers.rt`: files that are read once and in order.
 //! - `faults.rt`: which fault a hash of files answers; `reads.rt`: what is asked of a source; `workers.rt`: how many
 //!   workers read at once; `board.rt`: workers that share a board.
 //! - `sums.rt`: roots, layers and pieces of files; `pieces.rt`: hashes of single pieces.
@@ -20,6 +21,8 @@ mod folders;
 mod memory;
 #[cfg(test)]
 mod pieces;
+#[cfg(test)]
+mod readers;
 #[cfg(test)]
 mod reads;
 #[cfg(test)]

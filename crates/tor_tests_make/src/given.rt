@@ -106,11 +106,16 @@ fn add_contents(
     Ok(())
 }
 
-/// Their contents. A file without one is missing.
-pub(crate) fn source(alloc: Global, given: &str) -> Result<MemSource, AllocError> {
+/// Their contents; a file without one has none.
+pub(crate) fn contents(alloc: Global, given: &str) -> Result<Vec<Option<Vec<u8>>>, AllocError> {
     let mut contents = Vec::new(alloc);
     add_contents(alloc, given, &mut contents)?;
-    Ok(MemSource::new(contents))
+    Ok(contents)
+}
+
+/// A source of them. A file without one is missing.
+pub(crate) fn source(alloc: Global, given: &str) -> Result<MemSource, AllocError> {
+    Ok(MemSource::new(contents(alloc, given)?))
 }
 
 fn file(alloc: Global, given: &str) -> Result<(FilePath, Vec<u8>), AllocError> {

@@ -164,8 +164,8 @@ impl Source for Tells {
     }
 }
 
-/// What is asked for, the files and what is answered; the span and the workers; the length that is told of each file,
-/// and whether the source is asked.
+/// What is asked for, the files and what is answered; the span and the workers, who stand for each way to share the
+/// units where they are allowed; the length that is told of each file, and whether the source is asked.
 type Told = (Row, (u32, How), u64, bool);
 
 /// The folder `f`, in pieces of 16,384 bytes.
@@ -182,7 +182,9 @@ const V2_OF_A: Shape = (Kind::V2, true, 16384, "a");
 const HYBRID_OF_A: Shape = (Kind::Hybrid, true, 16384, "a");
 
 const REFUSED: &[Told] = &[
+    ((SHORT, "a", b"PieceLength"), (1, How::One), 5, false),
     ((SHORT, "a", b"PieceLength"), (3, How::Halves(0)), 5, false),
+    ((SHORT, "a", b"PieceLength"), (3, How::Board(65)), 5, false),
     ((V2, "a", b"Workers"), (3, How::Halves(0)), 5, false),
     ((V2, "a", b"Workers"), (3, How::Halves(65)), 5, false),
     ((V2, "a", b"Workers"), (3, How::Board(0)), 5, false),
@@ -201,13 +203,13 @@ const REFUSED: &[Told] = &[
     ((HYBRID, ".pad/1", b"ReservedPad"), (1, How::One), 5, false),
 ];
 
-fn is_told<R: AllocGlobal + Threads + Sync>(rt: &R, told: &Told) -> bool {
+fn is_told<R: AllocGlobal + Threads + Sync>(rt: &R, told: &Told, how: How) -> bool {
     let (row, numbers, length, is_asked) = *told;
     let Ok((mut order, paths)) = asked(rt.alloc(), &row.0, row.1) else {
         return false;
     };
     order.span = numbers.0;
-    order.how = numbers.1;
+    order.how = how;
     let source = Tells {
         length,
         asked: AtomicU64::new(0),
@@ -216,10 +218,24 @@ fn is_told<R: AllocGlobal + Threads + Sync>(rt: &R, told: &Told) -> bool {
     is_answered && (source.asked.load(SeqCst) > 0) == is_asked
 }
 
+/// Whether a row holds, each way to share the units where that of the row is allowed.
+fn is_each_told<R: AllocGlobal + Threads + Sync>(rt: &R, told: &Told) -> bool {
+    let (_, (_, how), _, _) = *told;
+    if !how.is_allowed() {
+        return is_told(rt, told, how);
+    }
+    for how in EACH_HOW {
+        if !is_told(rt, told, how) {
+            return false;
+        }
+    }
+    true
+}
+
 #[test]
 fn refuses_orders_and_paths_before_the_source_is_asked(rt: HostRuntime) {
     for row in REFUSED {
-        assert!(rt; is_told(&rt, row));
+        assert!(rt; is_each_told(&rt, row));
     }
 }
 
@@ -311,7 +327,7 @@ const LENGTHS: &[Told] = &[
 #[test]
 fn refuses_lengths_that_are_too_large(rt: HostRuntime) {
     for row in LENGTHS {
-        assert!(rt; is_told(&rt, row));
+        assert!(rt; is_each_told(&rt, row));
     }
 }
 

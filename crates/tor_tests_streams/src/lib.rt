@@ -2,7 +2,7 @@
 //! with tests is proved twice, and that library is large.
 //!
 //! - `rows.rt`: the sums of small contents, by each number of workers and each cutting of the reads.
-//! - `trees.rt`: roots and layers of contents of several units.
+//! - `trees.rt`: roots and layers of contents of several units; `megabytes.rt`: the sums of larger ones.
 //! - `faults.rt`: readers that fail; `meets.rt`: how many workers hash at once.
 //!
 //! `shared.rt` has the readers, and how they are hashed.
@@ -12,6 +12,8 @@
 mod faults;
 #[cfg(test)]
 mod meets;
+#[cfg(test)]
+mod megabytes;
 #[cfg(test)]
 mod rows;
 #[cfg(test)]

@@ -1,5 +1,6 @@
 -- How the contents of readers are cut into chunks. Only private clauses cite these.
-use Rattle.std.specs.Prelude.{◌≡◌, ◌*◌, ◌+◌, ◌<◌, ◌≤◌, ℕ, List, [], ◌∷◌, ◌++◌, length, map, take, Option, None, Some, vec_len}
+use Rattle.std.specs.Prelude.{◌≡◌, ◌*◌, ◌+◌, ◌<◌, ◌≤◌, ℕ, List, [], ◌∷◌, ◌++◌, length, map, take, Option, None, Some}
+use Rattle.std.specs.Prelude.{vec_len}
 use Rattle.std.specs.Prelude.{if◌then◌else◌}
 use Rattle.std.specs.List.{AllByRecursion, flat_map, range_with_len}
 use Rattle.tor_lane.specs.Lane.{IsOpen, put_by}

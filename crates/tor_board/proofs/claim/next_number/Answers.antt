@@ -1,5 +1,4 @@
-use Rattle.tor_board.proofs.Names.{arith}
-use Rattle.tor_board.proofs.Moves.{claims}
+use Rattle.tor_board.proofs.{Moves.claims, Names.arith}
 use Rattle.tor_board.proofs.claim.next_number.Goals as goal
 
 pub fetch_add-requires : goal.fetch_add-requires

@@ -1,5 +1,4 @@
-use Rattle.tor_board.proofs.Names.{arith}
-use Rattle.tor_board.proofs.Moves.{looks}
+use Rattle.tor_board.proofs.{Moves.looks, Names.arith}
 use Rattle.tor_board.proofs.claim.sees_failure.Goals as goal
 
 pub load-requires : goal.load-requires

@@ -1,5 +1,4 @@
-use Rattle.tor_board.proofs.Names.{arith}
-use Rattle.tor_board.proofs.Moves.{hands_alone}
+use Rattle.tor_board.proofs.{Moves.hands_alone, Names.arith}
 use Rattle.tor_board.proofs.climb.hand_alone.Goals as goal
 
 pub load-requires : goal.load-requires

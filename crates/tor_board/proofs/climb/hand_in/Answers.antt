@@ -1,5 +1,4 @@
-use Rattle.tor_board.proofs.Names.{arith}
-use Rattle.tor_board.proofs.Going.{hands}
+use Rattle.tor_board.proofs.{Going.hands, Names.arith}
 use Rattle.tor_board.proofs.climb.hand_in.Goals as goal
 
 pub load-requires : goal.load-requires

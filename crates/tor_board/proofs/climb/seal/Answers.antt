@@ -1,5 +1,4 @@
-use Rattle.tor_board.proofs.Names.{arith, climb_at}
-use Rattle.tor_board.proofs.{Going.seals, Meets.top_of}
+use Rattle.tor_board.proofs.{Going.seals, Meets.top_of, Names.{arith, climb_at}}
 use Rattle.tor_board.proofs.climb.seal.Goals as goal
 
 pub load-requires : goal.load-requires

@@ -1,15 +1,13 @@
 -- One slot after another is taken, and the trees whose root's slots they are.
-use Rattle.tor_board.proofs.Names.{Bool, List, None, Option, [], arith, false, get_or, get_or-set_other}
-use Rattle.tor_board.proofs.Names.{get_or-set_same, length, refl, set, suc, zero, ℕ, ◌*◌, ◌+◌, ◌<◌, ◌∷◌, ◌≡◌, ◌≢◌, ◌≤◌}
-use Rattle.tor_board.proofs.Names.{dite, some, ℕ_discrete, get_elem?, IsLeft, IsShape, slot_of, Shape, Tree, pow_mono}
-use Rattle.tor_board.proofs.Names.{ap, inr, length-set, sym, true, ◌-◌, ◌∙◌, slots_filled, slots_items, slots_len}
-use Rattle.tor_board.proofs.Names.{some-injective, set-get_or, middle, word_of}
-use Rattle.tor_board.proofs.{Meets.tree_facts, Sums.within}
-use Rattle.tor_board.proofs.Finding.{same_at, some_height, top_node, top_word, tree_there}
-use Rattle.std.proofs.Common.{Global, Vec}
-use Rattle.tor_board.proofs.close.take_roots.Goals.{then-next-len+then-side_slot-slot, then-word-ge2, else-word-ge2}
-use Rattle.tor_board.proofs.close.take_roots.Goals.{else-next-len, else-next-len-via-then-next-len+else-side_slot-slot}
-use Rattle.tor_board.proofs.close.take_roots.Goals.{else-next-len-via-else-next-len}
+use Rattle.{std.proofs.Common.{Global, Vec}, tor_board.proofs.Finding.{same_at, some_height, top_node, top_word}}
+use Rattle.tor_board.proofs.{Finding.tree_there, Meets.tree_facts, Names.{Bool, IsLeft, IsShape, List, None, Option}}
+use Rattle.tor_board.proofs.Names.{Shape, Tree, [], ap, arith, dite, false, get_elem?, get_or, get_or-set_other}
+use Rattle.tor_board.proofs.Names.{get_or-set_same, inr, length, length-set, middle, pow_mono, refl, set, set-get_or}
+use Rattle.tor_board.proofs.Names.{slot_of, slots_filled, slots_items, slots_len, some, some-injective, suc, sym, true}
+use Rattle.tor_board.proofs.Names.{word_of, zero, ℕ, ℕ_discrete, ◌*◌, ◌+◌, ◌-◌, ◌<◌, ◌∙◌, ◌∷◌, ◌≡◌, ◌≢◌, ◌≤◌}
+use Rattle.tor_board.proofs.{Sums.within, close.take_roots.Goals.{else-next-len, else-next-len-via-else-next-len}}
+use Rattle.tor_board.proofs.close.take_roots.Goals.{else-next-len-via-then-next-len+else-side_slot-slot, else-word-ge2}
+use Rattle.tor_board.proofs.close.take_roots.Goals.{then-next-len+then-side_slot-slot, then-word-ge2}
 use Rattle.tor_board.proofs.close.take_roots.Goals as goal
 
 off_here : (l : List Bool) (i : ℕ) → get_or (set l i false) i false ≡ false

@@ -1,7 +1,6 @@
 -- the slots so far are taken, and the roots of the trees whose slots they are are there
-use Rattle.tor_board.proofs.Names.{None, false, get_or, length, ℕ, ◌*◌, ◌<◌, ◌≡◌, ◌≤◌, slots_filled, slots_items}
-use Rattle.tor_board.proofs.Names.{slots_len, some, get_elem?, IsLeft, Tree}
-use Rattle.std.specs.Mem.Slots.Ownership.{Filled}
+use Rattle.{std.specs.Mem.Slots.Ownership.Filled, tor_board.proofs.Names.{IsLeft, None, Tree, false, get_elem?, get_or}}
+use Rattle.tor_board.proofs.Names.{length, slots_filled, slots_items, slots_len, some, ℕ, ◌*◌, ◌<◌, ◌≡◌, ◌≤◌}
 use Rattle.tor_board.proofs.close.take_roots.Given as goal
 
 abbrev pub invariant-slots : goal.invariant-slots

@@ -1,5 +1,4 @@
-use Rattle.tor_board.proofs.Names.{arith, refl}
-use Rattle.tor_board.proofs.Meets.{joined_none}
+use Rattle.tor_board.proofs.{Meets.joined_none, Names.{arith, refl}}
 use Rattle.tor_board.proofs.give.climb.Goals as goal
 
 pub nodes-init : goal.nodes-init

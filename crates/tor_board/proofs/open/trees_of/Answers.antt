@@ -1,9 +1,7 @@
-use Rattle.tor_board.proofs.Names.{List, [], ap, arith, drop, get_or, sym, ◌++◌, ◌+◌, ◌∙◌, ◌∷◌, ◌≡◌, Run, Tree}
-use Rattle.tor_board.proofs.Names.{units_in}
-use Rattle.tor_board.proofs.Opening.{next_run, no_run, laid, tree_there, no_tree, low_count}
-use Rattle.tor_board.specs.steps.Row.{trees_from}
+use Rattle.{std.proofs.lemmas.List.{append-nil, append_assoc, at_drop_all}, tor_board.proofs.Names.{List, Run, Tree}}
+use Rattle.tor_board.proofs.{Names.{[], ap, arith, drop, get_or, sym, units_in, ◌++◌, ◌+◌, ◌∙◌, ◌∷◌, ◌≡◌}, Opening.laid}
+use Rattle.tor_board.{proofs.Opening.{low_count, next_run, no_run, no_tree, tree_there}, specs.steps.Row.trees_from}
 use Rattle.tor_merkle.specs.Subtree.{height}
-use Rattle.std.proofs.lemmas.List.{append-nil, append_assoc, at_drop_all}
 use Rattle.tor_board.proofs.open.trees_of.Goals as goal
 
 pub height_of-requires : goal.height_of-requires

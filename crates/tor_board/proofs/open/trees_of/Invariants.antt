@@ -1,6 +1,5 @@
 -- the trees so far, and those of the runs that are left
-use Rattle.tor_board.proofs.Names.{drop, ℕ, ◌++◌, ◌+◌, ◌≡◌, ◌≤◌, units_in}
-use Rattle.tor_board.specs.steps.Row.{trees_from}
+use Rattle.tor_board.{proofs.Names.{drop, units_in, ℕ, ◌++◌, ◌+◌, ◌≡◌, ◌≤◌}, specs.steps.Row.trees_from}
 use Rattle.tor_plan.specs.Forest.{AreRuns}
 use Rattle.tor_board.proofs.open.trees_of.Given as goal
 

@@ -21,13 +21,13 @@ returns c =
       announce = sym (first_value-rows found (codes "announce")) ∙ sym c.get_str-3.ensures;
       is_private = λ is. c.get_flag.ensures.value (one_text-rows found (codes "private") ∙ is);
       is_public = λ is. c.get_flag.ensures.other (one_text-rows found (codes "private") ∙ is);
-      how =
+      way =
           found_text found (codes "how") c.get_str-4.result c.in_ok-get_str-3.field-0 c.get_str-4.ensures
           (search rules)
-          ∙ ap Some (sym c.in_ok-how_of.ensures.value.0);
+          ∙ ap Some (sym c.in_ok-way_of.ensures.value.0);
       workers = λ text is.
           let read = c.in_ok-get_one-2.ensures.value text (one_text-rows found (codes "workers") ∙ is) in
-          (read.0.0.0, rw (← read.0.1) c.in_ok-how_of.ensures.value.1);
+          (read.0.0.0, rw (← read.0.1) c.in_ok-way_of.ensures.value.1);
       span = λ text is.
           let read = c.in_ok-get_one-3.ensures.value text (one_text-rows found (codes "span") ∙ is) in
           (read.0.0.0, read.0.1);

@@ -13,5 +13,6 @@ returns c =
     let all = c.in_ok-feed_zeros.ensures.fed kind p c.as_slice-bytes.result.now c.as_slice-bytes.result.now fed in
     let are = rw c.as_slice-bytes.ensures.value at (c.finish.ensures kind p _ _ all) in
     facts_are kind p c.args.chunk.now.unit n bytes
-    (λ none. c.if-length-eq0.false (ap length (c.as_slice-bytes.ensures.value ∙ none))) c.finish.result c.new.result are c.new.ensures.unit
+    (λ none. c.if-length-eq0.false (ap length (c.as_slice-bytes.ensures.value ∙ none))) c.finish.result c.new.result
+    are c.new.ensures.unit
     c.new.ensures.node c.new.ensures.bare c.new.ensures.pieces

@@ -1,5 +1,6 @@
 -- the trees of the contents, and the pieces of what they are joined to
-use Rattle.std.proofs.Common.{◌≡◌, ◌<◌, ◌≤◌, ◌*◌, ℕ, Bool, true, false, cond, List, [], ◌∷◌, None, map, length, replicate, arith}
+use Rattle.std.proofs.Common.{◌≡◌, ◌<◌, ◌≤◌, ◌*◌, ℕ, Bool, true, false, cond, List, [], ◌∷◌, None, map, length}
+use Rattle.std.proofs.Common.{replicate, arith}
 use Rattle.std.proofs.Common.{refl, ap, subst, ◌∙◌, sym, mul-pos}
 use Rattle.std.proofs.lemmas.List.{length-map}
 use Rattle.std.proofs.lemmas.List.Folds.{flat_map-map}
@@ -13,7 +14,8 @@ use Rattle.tor_engine.proofs.ChunkTrees.{nodes_of_stream, some_length, unit_allo
 use Rattle.tor_engine.proofs.FileHashes.{allowed_with_trees, some_piece}
 use Rattle.tor_engine.proofs.StreamPieces.{pieces_of_stream}
 use Rattle.tor_engine.proofs.stream_sums.sums_of_chunks.Goals as goal
-use Rattle.tor_engine.proofs.stream_sums.sums_of_chunks.Goals.{then-has_v2+in_ok-trees_of_contents, else-has_v2+in_ok-roots}
+use Rattle.tor_engine.proofs.stream_sums.sums_of_chunks.Goals.{then-has_v2+in_ok-trees_of_contents}
+use Rattle.tor_engine.proofs.stream_sums.sums_of_chunks.Goals.{else-has_v2+in_ok-roots}
 
 -- the same for each element
 all_same : {X Y : Type 0} (y : Y) (xs : List X) → replicate (length xs) y ≡ map (λ x. y) xs

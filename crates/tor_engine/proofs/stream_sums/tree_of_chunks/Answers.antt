@@ -1,5 +1,6 @@
 -- one chunk more
-use Rattle.std.proofs.Common.{◌≡◌, ◌+◌, ◌-◌, ◌*◌, ◌^◌, ◌<◌, ◌≤◌, ◌++◌, ◌∷◌, [], ℕ, List, length, map, take, min, arith, refl, ap, ap₂, sym}
+use Rattle.std.proofs.Common.{◌≡◌, ◌+◌, ◌-◌, ◌*◌, ◌^◌, ◌<◌, ◌≤◌, ◌++◌, ◌∷◌, [], ℕ, List, length, map, take, min, arith}
+use Rattle.std.proofs.Common.{refl, ap, ap₂, sym}
 use Rattle.std.proofs.Common.{◌∙◌, append-nil, subst, zero-mul}
 use Rattle.std.proofs.lemmas.Grind.{div_ceil_times, flat_map-append}
 use Rattle.std.proofs.lemmas.List.{length-map, length-take, map-append, take_all}
@@ -21,7 +22,7 @@ pub chunks-init : goal.chunks-init
 chunks-init c = record {
   level = c.new-stack.ensures.level;
   left = omega arith;
-  so_far = λ content are. (c.new-stack.ensures.empty, c.new-layer.ensures.items);
+  so_far = λ content are. (c.new-stack.ensures.empty, c.in_ok-layer.ensures.items);
 }
 
 pub node_in_tree-requires-clause-room : goal.node_in_tree-requires-clause-room

@@ -28,8 +28,13 @@ takers-preserved c =
           let one = (all_back P c.takers.yielded (taker ∷ []) all).0 in
           subst (λ ws. AllByRecursion (IsWorkerOf kind p feeder) ws) (sym push)
           (all_joined (IsWorkerOf kind p feeder) c.takers.workers.items _
-          (before.each kind p feeder (all_front P c.takers.yielded (taker ∷ []) all))
-          (record { taker = one.0; sums = λ _. ap (map facts_of) c.new.ensures.items ∙ ap (map (facts_of_chunk kind p)) (sym one.1) }, tt));
+          (before.each kind p feeder (all_front P c.takers.yielded (taker ∷ []) all)) (
+            record {
+              taker = one.0;
+              sums = λ _. ap (map facts_of) c.new.ensures.items ∙ ap (map (facts_of_chunk kind p)) (sym one.1);
+            },
+            tt,
+          ));
     }
 
 pub returns-clause-workers : goal.returns-clause-workers

@@ -1,5 +1,6 @@
 -- from the lane's first state to the sums
-use Rattle.std.proofs.Common.{◌≡◌, ◌∙◌, ◌<◌, ◌*◌, ℕ, List, map, Some, Result, IfErr, IfOk, Vec, Global, sym, subst, arith, mul-pos, rules}
+use Rattle.std.proofs.Common.{◌≡◌, ◌∙◌, ◌<◌, ◌*◌, ℕ, List, map, Some, Result, IfErr, IfOk, Vec, Global, sym, subst}
+use Rattle.std.proofs.Common.{arith, mul-pos, rules}
 use Rattle.std.proofs.lemmas.List.Sorted.{IsNonDecreasingBy-from_sort_by_key}
 use Rattle.std.specs.List.{flat_map}
 use Rattle.tor_lane.specs.Lane.{put_by, taken_by}

@@ -1,10 +1,7 @@
-use Rattle.tor_board.proofs.Names.{None, ap, get_or, subst, sym, ℕ, ◌∙◌, ◌≡◌, Run, IsTreeEnd, Keeps, IsLeastOf, run_of}
-use Rattle.tor_board.proofs.Names.{Shape}
-use Rattle.tor_board.proofs.{Closing.end_of, Sums.mapped, Sums.read, Finding.at_number}
-use Rattle.tor_board.proofs.Moves.{least_failed, all_given, none_failed}
-use Rattle.tor_board.specs.Seats.{knows}
-use Rattle.std.proofs.Common.{subst₂}
-use Rattle.tor_board.proofs.board.Board.close.Goals.{then-least, else-least}
+use Rattle.{std.proofs.Common.subst₂, tor_board.proofs.Closing.end_of, tor_board.proofs.Finding.at_number}
+use Rattle.tor_board.proofs.{Moves.{all_given, least_failed, none_failed}, Names.{IsLeastOf, IsTreeEnd, Keeps, None}}
+use Rattle.tor_board.proofs.{Names.{Run, Shape, ap, get_or, run_of, subst, sym, ℕ, ◌∙◌, ◌≡◌}, Sums.{mapped, read}}
+use Rattle.tor_board.{proofs.board.Board.close.Goals.{else-least, then-least}, specs.Seats.knows}
 use Rattle.tor_board.proofs.board.Board.close.Goals as goal
 
 pub returns-clause-roots : goal.returns-clause-roots

@@ -1,5 +1,4 @@
-use Rattle.tor_board.proofs.Names.{arith}
-use Rattle.tor_board.proofs.Moves.{fails}
+use Rattle.tor_board.proofs.{Moves.fails, Names.arith}
 use Rattle.tor_board.proofs.board.Board.fail.Goals as goal
 
 pub fetch_min-requires : goal.fetch_min-requires

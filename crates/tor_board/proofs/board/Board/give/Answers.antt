@@ -1,5 +1,4 @@
-use Rattle.tor_board.proofs.Names.{arith, subst, IsTreeOf, Shape}
-use Rattle.tor_board.proofs.{Finding.levels_of, Meets.given_after, Meets.in_no_run}
+use Rattle.tor_board.proofs.{Finding.levels_of, Meets.{given_after, in_no_run}, Names.{IsTreeOf, Shape, arith, subst}}
 use Rattle.tor_board.proofs.board.Board.give.Goals as goal
 
 pub hand_alone-requires-clause-alone : goal.hand_alone-requires-clause-alone

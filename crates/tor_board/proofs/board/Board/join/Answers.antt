@@ -1,6 +1,5 @@
-use Rattle.tor_board.proofs.Names.{ap, arith, rules, ◌||◌, ◌∙◌, ◌≡◌, Seated, both}
-use Rattle.tor_board.proofs.{Moves.merges, Seats.join_keeps}
-use Rattle.tor_board.proofs.board.Board.join.Goals.{then-done, else-done}
+use Rattle.tor_board.proofs.{Moves.merges, Names.{Seated, ap, arith, both, rules, ◌||◌, ◌∙◌, ◌≡◌}, Seats.join_keeps}
+use Rattle.tor_board.proofs.board.Board.join.Goals.{else-done, then-done}
 use Rattle.tor_board.proofs.board.Board.join.Goals as goal
 
 pub join_seat-requires : goal.join_seat-requires

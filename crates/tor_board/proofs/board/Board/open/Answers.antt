@@ -1,7 +1,6 @@
-use Rattle.tor_board.proofs.Names.{List, None, Option, ap, arith, length, refl, replicate, rules, set, subst, sym, ℕ}
-use Rattle.tor_board.proofs.Names.{◌*◌, ◌+◌, ◌∙◌, ◌≡◌, Shape, units_in}
-use Rattle.tor_board.proofs.Opening.{shaped, opens, runs_back, few_places}
-use Rattle.tor_plan.specs.Forest.{AreRuns}
+use Rattle.tor_board.proofs.Names.{List, None, Option, Shape, ap, arith, length, refl, replicate, rules, set, subst}
+use Rattle.tor_board.proofs.{Names.{sym, units_in, ℕ, ◌*◌, ◌+◌, ◌∙◌, ◌≡◌}, Opening.{few_places, opens, runs_back}}
+use Rattle.{tor_board.proofs.Opening.shaped, tor_plan.specs.Forest.AreRuns}
 use Rattle.tor_board.proofs.board.Board.open.Goals as goal
 
 abbrev zero_word : ℕ

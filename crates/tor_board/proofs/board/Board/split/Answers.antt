@@ -1,5 +1,4 @@
-use Rattle.tor_board.proofs.Names.{arith}
-use Rattle.tor_board.proofs.Seats.{split_keeps}
+use Rattle.tor_board.proofs.{Names.arith, Seats.split_keeps}
 use Rattle.tor_board.proofs.board.Board.split.Goals as goal
 
 pub split_seat-other-requires : goal.split_seat-other-requires

@@ -1,5 +1,4 @@
-use Rattle.tor_board.proofs.Names.{arith, ◌-◌}
-use Rattle.tor_board.proofs.{Sums.within, Finding.not_before, Finding.none_has, Finding.tree_there}
+use Rattle.tor_board.proofs.{Finding.{none_has, not_before, tree_there}, Names.{arith, ◌-◌}, Sums.within}
 use Rattle.tor_board.proofs.tree.Shape.tree_of.Goals as goal
 
 pub halves-init : goal.halves-init

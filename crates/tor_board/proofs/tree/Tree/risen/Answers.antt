@@ -1,6 +1,5 @@
-use Rattle.tor_board.proofs.Names.{ap, arith, false, le-ltb, sym, true, ℕ, ◌+◌, ◌-◌, ◌/◌, ◌<◌, ◌∙◌, ◌≤◌, middle}
-use Rattle.tor_board.proofs.Rising.{split_fits, up_covers, fork}
-use Rattle.std.proofs.Common.{lt-ltb}
+use Rattle.{std.proofs.Common.lt-ltb, tor_board.proofs.Names.{ap, arith, false, le-ltb, middle, sym, true, ℕ, ◌+◌, ◌-◌}}
+use Rattle.tor_board.proofs.{Names.{◌/◌, ◌<◌, ◌∙◌, ◌≤◌}, Rising.{fork, split_fits, up_covers}}
 use Rattle.tor_board.proofs.tree.Tree.risen.Goals as goal
 
 pub middle-requires : goal.middle-requires

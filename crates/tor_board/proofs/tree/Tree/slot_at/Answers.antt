@@ -1,5 +1,4 @@
-use Rattle.tor_board.proofs.Names.{arith}
-use Rattle.tor_board.proofs.Rising.{split_fits, split_small}
+use Rattle.tor_board.proofs.{Names.arith, Rising.{split_fits, split_small}}
 use Rattle.tor_board.proofs.tree.Tree.slot_at.Goals as goal
 
 pub middle-requires : goal.middle-requires

@@ -1,5 +1,6 @@
 -- the reader's content is what came until it was at its end
-use Rattle.std.proofs.Common.{◌≡◌, ◌+◌, ◌++◌, ◌≤◌, ◌<◌, ◌^◌, ℕ, List, [], Option, arith, refl, ap, sym, ◌∙◌, subst, length}
+use Rattle.std.proofs.Common.{◌≡◌, ◌+◌, ◌++◌, ◌≤◌, ◌<◌, ◌^◌, ℕ, List, [], Option, arith, refl, ap, sym, ◌∙◌, subst}
+use Rattle.std.proofs.Common.{length}
 use Rattle.std.proofs.Common.{length-append, vec_len}
 use Rattle.std.specs.Io.KnownBytes.{Consumes}
 use Rattle.std.proofs.KnownBytes.{Consumes-nil, Consumes-trans}
@@ -68,7 +69,8 @@ chunks-preserved g c =
           let has_more = bytes_came c.args.kind c.args.piece_length size some contents before.bytes came.0 c.chunks.self
           c.fill.new.self (before.cut size contents some has) c.fill.ensures.feeder kept.0 kept.1 kept.2 kept.3
           came.5 came.6 in
-          let whole : c.fill.new.self.filled ≡ size = omega (arith, came.5, c.if-self-len.false, full, has_more.buffer) in
+          let whole : c.fill.new.self.filled ≡ size =
+          omega (arith, came.5, c.if-self-len.false, full, has_more.buffer) in
           cut_whole c.args.kind c.args.piece_length size some contents (before.bytes ++ came.0) c.fill.new.self
           c.cut.new.self has_more more c.in_ok-cut.ensures.lane.1 (omega (arith, whole, some)) whole;
       lane = lanes_join c.args.self.now.feeder c.chunks.self.feeder c.fill.new.self.feeder c.cut.new.self.feeder

@@ -1,0 +1,24 @@
+//! Who hashes the files of PATH.
+ghost use Rattle.std.specs.Prelude.{◌≡◌};
+ghost use Rattle.tor_cli.specs.Words.{how_of};
+
+use tor_engine::How;
+
+/// Who hashes the files of PATH.
+#[derive(Clone, Copy)]
+pub enum Way {
+    /// Workers that read what they hash.
+    Shared(How),
+    /// So many workers, behind one thread that reads file after file for them.
+    Streams(u32),
+}
+
+/// The workers of an order.
+pub fn how_of(way: Way) -> How
+    ensures { result ≡ how_of way }
+{
+    match way {
+        Way::Shared(how) => how,
+        Way::Streams(workers) => How::Board(workers),
+    }
+}

@@ -1,0 +1,64 @@
+-- The torrent of readers that are read once: what it is of, and why it is not made.
+use Rattle.std.specs.Prelude.{◌≡◌, ◌*◌, ℕ, Bool, true, ◌&&◌, not, nat_le, List as ListOf, [], ◌∷◌, length, map}
+use Rattle.std.specs.Prelude.{Option, None, Some, option_map, if◌then◌else◌}
+use Rattle.std.specs.List.{zip}
+use Rattle.std.specs.Option.{option_or}
+use Rattle.std.specs.Ordering.{is_lt}
+use Rattle.tor_engine.specs.Streams.{GiveContents, GivesSome, IsFaultOfReaders}
+use Rattle.tor_engine.specs.declared.errors.EngineError.TheVariants as engine
+use Rattle.tor_engine.specs.declared.streams.TheConstants.{MAX_UNIT_LENGTH}
+use Rattle.tor_meta.specs.Make.{numbers_refusal}
+use Rattle.tor_meta.specs.MakeError.{of_contents_error}
+use Rattle.tor_meta.specs.Order.{settings_of_order}
+use Rattle.tor_meta.specs.Refusal.{ordered_refusal, shape_refusal}
+use Rattle.tor_meta.specs.declared.make_error.MakeError.{MakeError}
+use Rattle.tor_meta.specs.declared.make_error.MakeError.TheVariants.{Span, NotSorted, List, Read, StreamTooLong}
+use Rattle.tor_meta.specs.declared.make_error.MakeError.TheVariants.{Changed, Missing}
+use Rattle.tor_meta.specs.declared.order.Order.{Order}
+use Rattle.tor_spec.specs.Facts.{File}
+use Rattle.tor_spec.specs.Metainfo.{metainfo}
+use Rattle.tor_spec.specs.Settings.{Settings}
+use Rattle.tor_tree.specs.FileList.{lengths_fault}
+use Rattle.tor_tree.specs.Path.{path_cmp}
+use Rattle.tor_tree.specs.declared.lists.ListError.TheVariants.{TooLarge}
+
+-- each path is below the next
+abbrev pub are_rising : ListOf (ListOf (ListOf ℕ)) → Bool
+are_rising [] = true
+are_rising (path ∷ []) = true
+are_rising (path ∷ next ∷ paths) = is_lt (path_cmp path next) && are_rising (next ∷ paths)
+
+-- what needs no path: M1, M2, M3, for which a unit of over 2^30 bytes is refused too
+abbrev pub stream_numbers_refusal : {F : Type 0} → Order → Option (MakeError F)
+stream_numbers_refusal order = option_or (numbers_refusal order) (
+    if nat_le (order.span * order.piece_length) MAX_UNIT_LENGTH then None else Some Span)
+
+-- what is known before a byte is read: those, M4, M5, then M6, then the other refusals of paths, to Y1
+abbrev pub stream_refusal : {F : Type 0} → Order → ListOf (ListOf (ListOf ℕ)) → Option (MakeError F)
+stream_refusal order paths =
+    option_or (stream_numbers_refusal order) (
+    option_or (option_map of_contents_error (shape_refusal (settings_of_order order) paths)) (
+    if not (are_rising paths) then Some NotSorted else (
+    option_map of_contents_error (ordered_refusal (settings_of_order order) paths))))
+
+-- file i has the i-th path and the i-th content
+abbrev pub files_with : ListOf (ListOf (ListOf ℕ)) → ListOf (ListOf ℕ) → ListOf File
+files_with paths contents = map (λ file. record { path = file.0; content = file.1 }) (zip paths contents)
+
+-- the bytes are the torrent of what readers give, each to its end, which is not too large together
+abbrev pub IsMadeOfReaders : Settings → ListOf (ListOf (ListOf ℕ)) → ListOf (Option (ListOf ℕ)) → ListOf ℕ → Type 0
+IsMadeOfReaders settings paths known bytes =
+    (contents : ListOf (ListOf ℕ)) × GiveContents known contents × (lengths_fault (map length contents) ≡ None)
+    × (bytes ≡ metainfo settings (files_with paths contents))
+
+-- what is answered of readers they gave: a fault of one, after as many bytes as it gave, or more bytes than a file may
+-- have, or contents that are too large together; nothing is asked of them but bytes
+abbrev pub IsGivenByReaders : {F : Type 0} → ListOf (Option (ListOf ℕ)) → MakeError F → Type 0
+IsGivenByReaders known (Read file start fault) = IsFaultOfReaders known (engine.Read file start fault)
+IsGivenByReaders known (Changed file) = ⊥
+IsGivenByReaders known (Missing file) = ⊥
+IsGivenByReaders {F} known (StreamTooLong file) = IsFaultOfReaders {F = F} known (engine.StreamTooLong file)
+IsGivenByReaders known (List TooLarge) =
+    (contents : ListOf (ListOf ℕ)) × GiveContents known contents
+    × (lengths_fault (map length contents) ≡ Some TooLarge)
+IsGivenByReaders known other = Unit {0}

@@ -1,0 +1,174 @@
+//! The torrent of readers that are read once.
+ghost use Rattle.std.specs.Prelude.{◌≡◌, ◌⊎◌, None, Some, IfErr, IfOk, OnOk, List, ℕ, length, map, vec_len};
+ghost use Rattle.std.specs.List.{zip};
+ghost use Rattle.std.specs.declared.io.Error.{Error};
+ghost use Rattle.tor_engine.specs.Streams.{AreSumsOfContents, AreSumsOfReaders, IsFaultOfReaders};
+ghost use Rattle.tor_meta.specs.Contents.{IsMadeOfSome};
+ghost use Rattle.tor_meta.specs.Hashes.{HasInfo};
+ghost use Rattle.tor_meta.specs.Head.{settings_of};
+ghost use Rattle.tor_meta.specs.Make.{IsOwn};
+ghost use Rattle.tor_meta.specs.MakeStreams.{IsGivenByReaders, IsMadeOfReaders, are_rising, files_with};
+ghost use Rattle.tor_meta.specs.MakeStreams.{stream_numbers_refusal, stream_refusal};
+ghost use Rattle.tor_meta.specs.Order.{settings_of_order};
+ghost use Rattle.tor_meta.specs.Refusal.{ordered_refusal};
+ghost use Rattle.tor_meta.specs.declared.make_error.MakeError.{MakeError};
+ghost use Rattle.tor_meta.specs.declared.refusals.ContentsError.{ContentsError};
+ghost use Rattle.tor_meta.specs.declared.make_error.MakeError.TheVariants.{Resources};
+ghost use Rattle.tor_spec.specs.Metainfo.{metainfo};
+ghost use Rattle.tor_tree.specs.FileList.{lengths_fault};
+ghost use Rattle.tor_tree.specs.PathList.{AreIndexedPaths, IsPathList, with_indices};
+ghost use Rattle.tor_tree.specs.declared.lists.ListError.{ListError};
+
+use crate::from_source::copies;
+use crate::head::Head;
+use crate::judge::{put_in_order, refusal_of_shape};
+use crate::listed_files::torrent_of_sums;
+use crate::make_error::MakeError;
+use crate::order::{Order, refusal_of_numbers};
+use crate::refusals::ContentsError;
+use std::alloc::Global;
+use std::io::{self, Read};
+use std::sync::Wait;
+use std::thread::Threads;
+use tor_engine::{EngineError, MAX_UNIT_LENGTH, Sums, hash_streams};
+use tor_merkle::laws::piece_length_bounds;
+use tor_tree::{FileList, FilePath, PathList};
+
+/// The bytes of the torrent of what readers give: reader i has path i, and each path is below the next. The readers are
+/// read once, one after the other, each to its end, by the calling thread; so many workers as the order's `how` says
+/// hash what was read. Nothing is read where the order or the paths are refused.
+///
+/// # Errors
+///
+/// A refusal of the order or the paths, the first that holds: those of [`make`](crate::make), with `Span` also for
+/// units of more than 2^30 bytes, and `NotSorted` after `SingleShape`. Then `Read`, after so many bytes of a reader, or
+/// `StreamTooLong`; and last `TooLarge` of a list, where all were read. `Resources` at any place.
+pub fn make_streams<R: Read + Drop, T: Threads + Wait + Sync>(
+    rt: &T,
+    alloc: Global,
+    readers: Vec<R>,
+    paths: &[FilePath],
+    order: &Order,
+) -> Result<Vec<u8>, MakeError<io::Error>>
+    requires { vec_len readers ≡ length paths.now }
+    ensures made { (contents : List (List ℕ)) → map R.remaining readers.items ≡ map Some contents →
+        IfOk result (λ bytes. bytes.items ≡ metainfo (settings_of_order order.now) (files_with paths.now contents)) }
+    ensures whole { IfOk result (λ bytes.
+        IsMadeOfReaders (settings_of_order order.now) paths.now (map R.remaining readers.items) bytes.items) }
+    ensures some { IfOk result (λ bytes. IsMadeOfSome (settings_of_order order.now) paths.now bytes.items) }
+    ensures info { IfOk result (λ bytes. HasInfo bytes.items) }
+    ensures accepted { OnOk result (stream_refusal {F = Error} order.now paths.now ≡ None) }
+    ensures refused { (refusal : MakeError Error) → stream_refusal order.now paths.now ≡ Some refusal →
+        IfErr result (λ error. (error ≡ Resources) ⊎ (error ≡ refusal)) }
+    ensures only { IfErr result (IsOwn (stream_refusal order.now paths.now)) }
+    ensures gave { IfErr result (IsGivenByReaders (map R.remaining readers.items)) }
+{
+    let head = order.head(alloc)?;
+    let paths = match judge(alloc, order, &head, paths) {
+        Ok(paths) => paths,
+        Err(error) => return Err(error),
+    };
+    let sums = match sums_of(rt, alloc, readers, order) {
+        Ok(sums) => sums,
+        Err(error) => return Err(MakeError::from(error)),
+    };
+    let list = match with_lengths(alloc, paths, &sums.lengths) {
+        Ok(list) => list,
+        Err(refusal) => return Err(MakeError::from(refusal)),
+    };
+    let bytes = torrent_of_sums(alloc, &head, &list, &sums)?;
+    Ok(bytes)
+}
+
+/// What the contents of the readers sum up to.
+fn sums_of<R: Read + Drop, T: Threads + Wait + Sync>(
+    rt: &T,
+    alloc: Global,
+    readers: Vec<R>,
+    order: &Order,
+) -> Result<Sums, EngineError<io::Error>>
+    requires accepted { stream_numbers_refusal {F = Error} order.now ≡ None }
+    ensures summed { IfOk result
+        (AreSumsOfReaders order.now.kind order.now.piece_length (map R.remaining readers.items)) }
+    ensures told { (contents : List (List ℕ)) → map R.remaining readers.items ≡ map Some contents →
+        IfOk result (AreSumsOfContents order.now.kind order.now.piece_length contents) }
+    ensures fault { IfErr result (IsFaultOfReaders (map R.remaining readers.items)) }
+{
+    piece_length_bounds();
+    let workers = order.how.workers();
+    hash_streams(
+        rt,
+        alloc,
+        readers,
+        order.kind,
+        order.piece_length,
+        order.span,
+        workers,
+    )
+}
+
+/// The paths, where no torrent is refused for them or for the order.
+fn judge(
+    alloc: Global,
+    order: &Order,
+    head: &Head,
+    paths: &[FilePath],
+) -> Result<PathList, MakeError<io::Error>>
+    requires { settings_of head.now ≡ settings_of_order order.now }
+    ensures same { IfOk result (λ list. list ≡ with_indices paths.now) }
+    ensures indexed { IfOk result (AreIndexedPaths paths.now) }
+    ensures lawful { IfOk result IsPathList }
+    ensures accepted { OnOk result (stream_refusal {F = Error} order.now paths.now ≡ None) }
+    ensures refused { IfErr result
+        (λ error. (error ≡ Resources) ⊎ (stream_refusal order.now paths.now ≡ Some error)) }
+{
+    if let Some(refusal) = refusal_of_stream_numbers(order) {
+        return Err(refusal);
+    }
+    if let Some(refusal) = refusal_of_shape(head, paths) {
+        return Err(MakeError::from(refusal));
+    }
+    if !are_rising(paths) {
+        return Err(MakeError::NotSorted);
+    }
+    let copies = copies(alloc, paths)?;
+    match put_in_order(alloc, head, copies) {
+        Ok(paths) => Ok(paths),
+        Err(refusal) => Err(MakeError::from(refusal)),
+    }
+}
+
+/// The first refusal for what needs no path.
+fn refusal_of_stream_numbers(order: &Order) -> Option<MakeError<io::Error>>
+    ensures { result ≡ stream_numbers_refusal order.now }
+{
+    if let Some(refusal) = refusal_of_numbers(order) {
+        return Some(refusal);
+    }
+    if order.span as u64 * order.piece_length <= MAX_UNIT_LENGTH {
+        return None;
+    }
+    Some(MakeError::Span)
+}
+
+/// Whether each path is below the next.
+fn are_rising(paths: &[FilePath]) -> bool
+    ensures { result ≡ are_rising paths.now }
+{
+    paths.is_sorted_by(|path, next| *path < *next)
+}
+
+/// The list of the files that have these paths and lengths, in the same order.
+fn with_lengths(alloc: Global, paths: PathList, lengths: &[u64]) -> Result<FileList, ContentsError>
+    requires { length lengths.now ≡ length paths }
+    ensures list { (names : List (List (List ℕ))) → paths ≡ with_indices names →
+        IfOk result (λ list. list ≡ zip names lengths.now) }
+    ensures accepted { OnOk result (lengths_fault lengths.now ≡ None) }
+    ensures refused { IfErr result (λ refusal. (refusal ≡ ContentsError.Memory)
+        ⊎ ((refusal ≡ ContentsError.List ListError.TooLarge) × (lengths_fault lengths.now ≡ Some ListError.TooLarge))) }
+{
+    match paths.with_lengths(alloc, lengths) {
+        Ok((list, _)) => Ok(list),
+        Err(fault) => Err(ContentsError::from(fault)),
+    }
+}

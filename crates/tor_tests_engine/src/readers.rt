@@ -1,0 +1,123 @@
+//! Files of real folders that are read once and in order.
+use crate::folders::{add_file, add_folder, below, files_at, new_folder};
+use std::fs;
+use std::io::{self, ErrorKind, Read};
+use std::rt::Files;
+use tor_source::LazyFile;
+
+fn write(rt: &HostRuntime, folder: &str, name: &str, text: &str) -> io::Result<()> {
+    fs::write(rt, below(rt.alloc(), folder, name)?.as_str(), text)
+}
+
+/// What a read of at most four bytes gives, or the kind of its fault.
+type Given = Result<&'static [u8], ErrorKind>;
+
+fn is_given(reader: &mut LazyFile<HostRuntime>, wanted: &Given) -> bool {
+    let mut buffer = [0; 4];
+    match (reader.read(&mut buffer), wanted) {
+        (Ok(count), Ok(bytes)) => {
+            let (front, _) = buffer.split_at(count.min(4));
+            front == *bytes
+        }
+        (Err(fault), Err(kind)) => fault.kind() == *kind,
+        _ => false,
+    }
+}
+
+fn are_given(reader: &mut LazyFile<HostRuntime>, wanted: &[Given]) -> bool {
+    for given in wanted {
+        if !is_given(reader, given) {
+            return false;
+        }
+    }
+    true
+}
+
+// A new folder with a file `a` of six bytes, an empty file `b`, a file `c` of three bytes, and a folder `d`.
+fn folder_of_files(rt: &HostRuntime) -> io::Result<String> {
+    let folder = new_folder(rt, "readers")?;
+    add_folder(rt, &folder, "d")?;
+    add_file(rt, &folder, "b")?;
+    write(rt, &folder, "a", "abcdef")?;
+    write(rt, &folder, "c", "xyz")?;
+    Ok(folder)
+}
+
+const PATHS: &[&str] = &["a", "b", "missing", "c", "d", "a/c"];
+
+/// What each of these gives, one read after the other.
+const GIVEN: &[&[Given]] = &[
+    &[Ok(b"abcd"), Ok(b"ef"), Ok(b""), Ok(b"")],
+    &[Ok(b""), Ok(b"")],
+    &[
+        Err(ErrorKind::NotFound),
+        Err(ErrorKind::Other),
+        Err(ErrorKind::Other),
+    ],
+    &[Ok(b"xyz"), Ok(b""), Ok(b"")],
+    &[Err(ErrorKind::InvalidInput), Err(ErrorKind::Other)],
+    &[Err(ErrorKind::NotADirectory), Err(ErrorKind::Other)],
+];
+
+fn are_each_given(readers: &mut [LazyFile<HostRuntime>]) -> bool {
+    let count = readers.len();
+    for (reader, wanted) in readers.iter_mut().zip(GIVEN.iter()) {
+        if !are_given(reader, wanted) {
+            return false;
+        }
+    }
+    count == GIVEN.len()
+}
+
+#[test]
+fn readers_give_the_bytes_of_their_files_and_then_no_more(rt: HostRuntime) -> io::Result<()> {
+    let folder = folder_of_files(&rt)?;
+    let mut readers = files_at(&rt, &folder, PATHS)?.readers()?;
+    assert!(rt; are_each_given(&mut readers));
+    rt.remove_dir_all(rt.alloc(), &folder)
+}
+
+// Whether a file is opened at the first read, and given up at its end, though it grows then.
+fn is_given_up_at_its_end(
+    rt: &HostRuntime,
+    folder: &str,
+    reader: &mut LazyFile<HostRuntime>,
+) -> io::Result<bool> {
+    write(rt, folder, "a", "ab")?;
+    let is_read = are_given(reader, &[Ok(b"ab"), Ok(b"")]);
+    write(rt, folder, "a", "abcdef")?;
+    Ok(is_read && is_given(reader, &Ok(b"")))
+}
+
+// Whether a file is given up at its first fault, though it is there then.
+fn is_given_up_at_a_fault(
+    rt: &HostRuntime,
+    folder: &str,
+    reader: &mut LazyFile<HostRuntime>,
+) -> io::Result<bool> {
+    let is_refused = is_given(reader, &Err(ErrorKind::NotFound));
+    write(rt, folder, "b", "ab")?;
+    Ok(is_refused && is_given(reader, &Err(ErrorKind::Other)))
+}
+
+// Whether the two files, which are not there, are given up so.
+fn are_given_up(
+    rt: &HostRuntime,
+    folder: &str,
+    readers: &mut [LazyFile<HostRuntime>],
+) -> io::Result<bool> {
+    match readers {
+        [one, other] => Ok(
+            is_given_up_at_its_end(rt, folder, one)? && is_given_up_at_a_fault(rt, folder, other)?,
+        ),
+        _ => Ok(false),
+    }
+}
+
+#[test]
+fn readers_open_a_file_once(rt: HostRuntime) -> io::Result<()> {
+    let folder = new_folder(&rt, "once")?;
+    let mut readers = files_at(&rt, &folder, &["a", "b"])?.readers()?;
+    assert!(rt; are_given_up(&rt, &folder, &mut readers)?);
+    rt.remove_dir_all(rt.alloc(), &folder)
+}
