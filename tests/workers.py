@@ -40,11 +40,11 @@ def watch(program, words):
     return most, sum(ticks > 0 for ticks in worked.values()), (child.returncode, err)
 
 
-def expect_threads(program, folder, kind, rows):
-    """For each way and number of workers so many threads at once."""
+def expect_threads(program, folder, kind, size, rows):
+    """For each way and number of workers so many threads at once, over a file of so many bytes."""
     path = str(folder / 'sparse')
     with open(path, 'wb') as file:
-        file.truncate(SIZE)
+        file.truncate(size)
     wrong = []
     for how, workers, wanted in rows:
         words = ['make', '--name', 'a', '--kind', kind, '--how', how, '--workers', str(workers), path]
@@ -60,14 +60,14 @@ def expect_threads(program, folder, kind, rows):
 
 
 def test_as_many_as_asked_for(program, folder):
-    expect_threads(program, folder, 'v1', [
+    expect_threads(program, folder, 'v1', SIZE, [
         ('one', 8, 1), ('halves', 1, 1), ('halves', 2, 2), ('halves', 3, 3), ('halves', 7, 7), ('halves', 64, 64),
         ('board', 1, 1), ('board', 2, 2), ('board', 7, 7), ('board', 64, 64)])
 
 
 def test_one_more_that_reads_a_stream(program, folder):
     """Of a hybrid, since all workers have to work where the one that reads is faster than each of them."""
-    expect_threads(program, folder, 'hybrid', [
+    expect_threads(program, folder, 'hybrid', SIZE // 3, [
         ('streams', 1, 2), ('streams', 2, 3), ('streams', 7, 8), ('streams', 64, 65)])
 
 
