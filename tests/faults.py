@@ -230,7 +230,8 @@ def test_of_inputs(program, folder):
                                       ('read', 'EINTR', 2), ('read', 'EAGAIN', 2), ('read', 'ETIMEDOUT', 1),
                                       ('openat', 'EACCES', 1), ('openat', 'EMFILE', 1)]])
     for words in [['--name', 'a'], ['--name', '..'], ['--name', 'a', '--piece-length', '5'],
-                  ['--name', 'a', '--out', folder / 'o']]:
+                  ['--name', 'a', '--out', folder / 'o'], ['--name', 'a', '--how', 'streams', '--workers', '3'],
+                  ['--name', 'a', '--how', 'streams', '--kind', 'hybrid', '--out', folder / 'o']]:
         for inject in ['read:error=EIO:when=2', 'read:error=EINTR:when=1', 'read:error=EINTR:when=2']:
             with open(torrent, 'rb') as data:
                 told = told_of_input(program, ['make', *words], torrent, inject, folder / 'log', data)

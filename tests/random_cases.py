@@ -239,7 +239,7 @@ def case_of_input(rng, program, place):
     """Standard input is made into a torrent."""
     order = random_order(rng, True)
     data = random_content(rng, random_length(rng, min(order.piece_length, 1 << 20), 5 << 20), [])
-    # Nothing of it goes through a stream, so that its units may be longer.
+    # A unit that is too long for a stream is not refused: what comes then does not go through one.
     judged = order._replace(how='board') if order.how == 'streams' else order
     wanted = made([((order.name,), data)], judged)
     torrent = make_out(rng, program, place, words_of(rng, order), wanted, data)

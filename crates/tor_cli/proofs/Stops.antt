@@ -88,24 +88,19 @@ module _ (options : MakeOptions) (s : Streams) where
   stops_reading order named is (Make error) given keeps = stops_make order named is error given keeps
   stops_reading order named is (Write fault) given keeps = absurd given
 
-  pub stops_part : (order : Order) → name_fault options.name.now ≡ None → IsOrder options true order
-      → (fault : FromFault) → file_of options ≡ None
-      → MakesPart order s.reader s.reader' s.writer s.writer' fault → StopsInput options s (of_step_fault fault)
-  stops_part order named is (Input fault) none (given, keeps) = stops_input fault given keeps
-  stops_part order named is (Make error) none (given, keeps) = stops_make order named is error given keeps
-  stops_part order named is (Write fault) none (content, front) = (named, (order, is, (content, rw none front)))
-
-  -- so many bytes of the torrent went to a file
-  pub stops_file : (order : Order) → name_fault options.name.now ≡ None → IsOrder options true order
-      → (place : List ℕ) → file_of options ≡ Some place → s.writer' ≡ s.writer
+  -- so many bytes of the torrent went out
+  pub stops_sent : (order : Order) → name_fault options.name.now ≡ None → IsOrder options true order
       → (torrent : List ℕ) → ((content : List ℕ) × MakesOf order s.reader s.reader' (λ bytes. torrent ≡ bytes) content)
-      → (written : ℕ) → (0 < length torrent → written < length torrent) → StopsInput options s (faults.Write written)
-  stops_file order named is place some kept torrent (content, made) written front =
+      → (written : ℕ) → (0 < length torrent → SendsFront (file_of options) s.writer s.writer' written torrent)
+      → StopsInput options s (faults.Write written)
+  stops_sent order named is torrent (content, made) written front =
       let long : 0 < length torrent = subst (λ t. 0 < length t) (sym made.torrent) (has_bytes _ _) in
-      let part : written < length (torrent_of order content) =
-      subst (λ t. written < length t) made.torrent (front long) in
       let sent : MakesOf order s.reader s.reader' (SendsFront (file_of options) s.writer s.writer' written) content =
-      record { read = made.read; accepted = made.accepted; torrent = rw some (part, kept) } in
+      record {
+        read = made.read;
+        accepted = made.accepted;
+        torrent = subst (SendsFront (file_of options) s.writer s.writer' written) made.torrent (front long);
+      } in
       (named, (order, is, (content, sent)))
 
   -- a fault that comes before anything was written

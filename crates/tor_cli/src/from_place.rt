@@ -1,5 +1,5 @@
 //! From a file or a folder of the system to the torrent of it.
-ghost use Rattle.std.specs.Prelude.{◌≡◌, IfErr, IfOk, None, OnOk, length, true, vec_len};
+ghost use Rattle.std.specs.Prelude.{◌≡◌, IfErr, IfOk, None, OnOk, length, map, true, vec_len};
 ghost use Rattle.std.specs.declared.io.Error.{Error};
 ghost use Rattle.tor_meta.specs.Contents.{IsMadeOfSome};
 ghost use Rattle.tor_meta.specs.Make.{IsGivenTo, IsOwn, make_refusal};
@@ -138,13 +138,14 @@ fn by_streams<T: Threads + Wait + Sync>(
     answer
 }
 
-/// A reader of each file; what is read of it is counted, where that is to be shown.
+/// A reader of each file, in their order; what is read of it is counted, where that is to be shown.
 fn counted_readers<'a>(
     alloc: Global,
     found: &Found,
     progress: &'a Option<Progress>,
 ) -> Result<Vec<CountedReader<'a, LazyFile<HostRuntime>>>, AllocError>
-    ensures { IfOk result (λ readers. vec_len readers ≡ length found.now.source) }
+    ensures each { IfOk result (λ readers. map (λ counted. counted.reader) readers.items ≡ found.now.source) }
+    ensures count { IfOk result (λ readers. vec_len readers ≡ length found.now.source) }
 {
     if let Some(progress) = progress {
         progress.ask_lengths(&found.source);

@@ -1,5 +1,6 @@
 //! `tor make`: its doing.
 ghost use Rattle.std.specs.Prelude.{◌≡◌, ◌⊎◌, ◌<◌, ℕ, List, Option, IfErr, IfOk, OnOk, None, Some, length, true};
+ghost use Rattle.tor_meta.specs.FromInput.{MakesOf, StopsReading};
 ghost use Rattle.tor_tree.specs.Name.{name_fault};
 ghost use Rattle.tor_tree.specs.declared.names.NameError.TheVariants.{Memory};
 ghost use Rattle.tor_cli.specs.Request.{DoesInput, DoesMake, DoesPlace, IsOrder, IsTorrentAt, StopsFinding};
@@ -9,14 +10,14 @@ ghost use Rattle.tor_cli.specs.Streams.{streams, writing};
 use crate::fault::Fault;
 use crate::from_place::{files_at, torrent_of};
 use crate::options::MakeOptions;
-use crate::out_file::{send, write_file};
+use crate::out_file::send;
 use crate::progress::Progress;
-use crate::way::how_of;
+use crate::way::{Way, how_of};
 use std::alloc::{AllocError, Global};
 use std::io::{Read, Write};
 use std::sync::Wait;
 use std::thread::Threads;
-use tor_meta::{Order, make_from, torrent_from};
+use tor_meta::{FromFault, Order, torrent_by_streams, torrent_from};
 use tor_source::drop_input;
 use tor_tree::{Name, NameError};
 
@@ -37,12 +38,13 @@ pub fn make<T: Threads + Wait + Sync, R: Read, W: Write>(
 {
     match options.place {
         Some(place) => make_of_place(rt, system, options, place, out, shows_progress),
-        None => make_of_input(system, options, reader, out),
+        None => make_of_input(rt, system, options, reader, out),
     }
 }
 
 /// Makes the torrent of what the reader has.
-fn make_of_input<R: Read, W: Write>(
+fn make_of_input<T: Threads + Wait + Sync, R: Read, W: Write>(
+    rt: &T,
     system: &HostRuntime,
     options: &MakeOptions<'_>,
     reader: &mut R,
@@ -61,12 +63,25 @@ fn make_of_input<R: Read, W: Write>(
             return Err(Fault::from(fault));
         }
     };
-    match options.out {
-        None => Ok(make_from(alloc, reader, out, &order)?),
-        Some(place) => {
-            let torrent = torrent_from(alloc, reader, &order)?;
-            Ok(write_file(system, place, &torrent)?)
-        }
+    let torrent = torrent_of_input(rt, alloc, options.way, reader, &order)?;
+    Ok(send(system, out, options.out, &torrent)?)
+}
+
+/// The torrent of what the reader has.
+fn torrent_of_input<T: Threads + Wait + Sync, R: Read>(
+    rt: &T,
+    alloc: Global,
+    way: Way,
+    reader: &mut R,
+    order: &Order,
+) -> Result<Vec<u8>, FromFault>
+    ensures made { IfOk result (λ torrent. (content : List ℕ) × MakesOf order.now
+        (R.remaining reader.old) (R.remaining reader.new) (λ bytes. torrent.items ≡ bytes) content) }
+    ensures stopped { IfErr result (StopsReading order.now (R.remaining reader.old) (R.remaining reader.new)) }
+{
+    match way {
+        Way::Shared(_) => torrent_from(alloc, reader, order),
+        Way::Streams(_) => torrent_by_streams(rt, alloc, reader, order),
     }
 }
 

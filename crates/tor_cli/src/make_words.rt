@@ -126,7 +126,7 @@ fn how_option<'a>(alloc: Global) -> Arg<'a>
         .value_parser(HOWS.as_slice())
         .default_value(DEFAULT_HOW)
         .help(
-            "Who hashes the files of PATH: one worker, or several, by halves, at a board or behind a stream",
+            "Who hashes: one worker, or several, by halves, at a board or behind a stream",
         )
 }
 

@@ -1,10 +1,10 @@
-//! Who hashes the files of PATH.
+//! Who hashes.
 ghost use Rattle.std.specs.Prelude.{◌≡◌};
 ghost use Rattle.tor_cli.specs.Words.{how_of};
 
 use tor_engine::How;
 
-/// Who hashes the files of PATH.
+/// Who hashes.
 #[derive(Clone, Copy)]
 pub enum Way {
     /// Workers that read what they hash.

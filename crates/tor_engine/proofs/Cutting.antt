@@ -124,7 +124,7 @@ module _ (kind : Kind) (p size : ℕ) (some : 0 < size) where
     pub cut_off : Off contents current new
     cut_off = record {
       filled = more.filled;
-      buffer = ap vec_len more.buffer ∙ has.buffer;
+      buffer = more.buffer ∙ has.buffer;
       cuts = cuts_now ∙ ap (λ text. closed_cuts kind p size contents ++ bare_cuts (runs_of size text)) has.text;
       units = units_now;
       opened = still;
@@ -134,7 +134,7 @@ module _ (kind : Kind) (p size : ℕ) (some : 0 < size) where
     -- a whole unit
     pub cut_whole : old.filled ≡ size → Has contents current new
     cut_whole whole = record {
-      buffer = ap vec_len more.buffer ∙ has.buffer;
+      buffer = more.buffer ∙ has.buffer;
       filled = omega (arith, more.filled);
       cut = has.cut ++ run;
       whole = (suc has.whole.0, length-append has.cut run ∙ omega (arith, has.whole.1, long, whole));

@@ -1,12 +1,15 @@
 -- Readers that were read one after the other.
 use Rattle.std.proofs.Common.{◌≡◌, ◌<◌, ◌+◌, ℕ, List, [], ◌∷◌, ◌++◌, length, map, get_or, Option, None, Some, arith}
-use Rattle.std.proofs.Common.{refl}
+use Rattle.std.proofs.Common.{◌≤◌, refl, take}
 use Rattle.std.proofs.Common.{ap, ap₂, sym, ◌∙◌, subst, append-nil, length-append}
+use Rattle.std.proofs.Math.Seq.{take-append_seam}
 use Rattle.std.proofs.lemmas.List.{get_or-append-add, get_or-map, length-map, map-append}
 use Rattle.std.specs.Io.KnownBytes.{Consumes, IsAtEnd}
-use Rattle.std.specs.List.{AllZip}
+use Rattle.std.specs.List.{AllByRecursion, AllZip}
 use Rattle.tor_tree.specs.declared.kinds.Kind.{Kind}
-use Rattle.tor_engine.specs.Streams.{AreSumsOfContents, AreSumsOfReaders, GiveContents, GivesWhole}
+use Rattle.tor_merkle.specs.declared.TheConstants.{MAX_LENGTH}
+use Rattle.tor_engine.specs.Streams.{AreSumsOfContents, AreSumsOfReaders, GiveContents, GivesSome, GivesWhole}
+use Rattle.tor_engine.specs.Streams.{ReadsUpTo}
 use Rattle.tor_engine.specs.declared.sums.Sums.{Sums}
 
 zip_more : {A B : Type 0} (R : A → B → Type 0) (xs : List A) (ys : List B) (x : A) (y : B) → AllZip R xs ys → R x y
@@ -38,6 +41,24 @@ module _ {X : Type 0} (known : X → Option (List ℕ)) where
         omega (arith, within, length-map all known),
         get_or-map known all n reader None within ∙ ap (λ xs. known (get_or xs n reader)) (sym is) ∙ ap known place,
       )
+
+  -- it gave these bytes, where those before it gave their contents
+  pub read_up_to : (front : List X) (reader : X) (rest all : List X) → front ++ reader ∷ rest ≡ all → (n : ℕ)
+      → n ≡ length front → (contents : List (List ℕ)) → GiveContents (map known front) contents
+      → AllByRecursion (λ content. length content ≤ MAX_LENGTH) contents → (bytes : List ℕ)
+      → GivesSome (known reader) bytes → ReadsUpTo (map known all) n bytes
+  read_up_to front reader rest all is n counted contents given small bytes came =
+      let at = at_number front reader rest all is n counted in record {
+        is_there = at.0;
+        came = subst (λ (k : Option (List ℕ)). GivesSome k bytes) (sym at.1) came;
+        contents = contents;
+        before = subst (λ (ks : List (Option (List ℕ))). GiveContents ks contents)
+            (sym (ap₂ (λ k xs. take k (map known xs)) counted (sym is)
+            ∙ ap (take (length front)) (map-append known front (reader ∷ rest))
+            ∙ ap (λ k. take k (map known front ++ map known (reader ∷ rest))) (sym (length-map front known))
+            ∙ take-append_seam (map known front) (map known (reader ∷ rest)))) given;
+        small = small;
+      }
 
 -- readers whose bytes are known give these
 pub told_contents : (contents given : List (List ℕ)) → GiveContents (map Some contents) given → given ≡ contents

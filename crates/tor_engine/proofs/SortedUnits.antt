@@ -152,8 +152,8 @@ module _ {X : Type 0} (number : X → ℕ) (xs ys : List X) (moved : IsPermutati
 
 -- ---- what was made of chunks
 
-module _ (kind : Kind) (p size : ℕ) (known : List (Option (List ℕ))) (lengths : List ℕ) (put taken : List Chunk)
-    (sums sorted : List UnitSums) (puts : PutsContents kind p size known lengths put)
+module _ (kind : Kind) (p size : ℕ) (contents : List (List ℕ)) (lengths : List ℕ) (put taken : List Chunk)
+    (sums sorted : List UnitSums) (puts : PutsContents kind p size contents lengths put)
     (settled : IsPermutation put taken) (made : map facts_of sums ≡ map (facts_of_chunk kind p) taken)
     (moved : IsPermutation sums sorted) (up : IsNonDecreasingBy (λ (one : UnitSums). one.unit) sorted) where
   facts_in_order : map facts_of sorted ≡ map (facts_of_chunk kind p) put
@@ -168,7 +168,7 @@ module _ (kind : Kind) (p size : ℕ) (known : List (Option (List ℕ))) (length
       ∙ ap (range_with_len 0) (sym (length-map put (facts_of_chunk kind p))))
       (up_of_map facts_of number sorted up)
 
-  pub sum_up_cuts : SumUpCuts kind p size puts.contents lengths sorted
+  pub sum_up_cuts : SumUpCuts kind p size contents lengths sorted
   sum_up_cuts =
       let node = λ (facts : SumsFacts). facts.1 in
       let own = λ (facts : SumsFacts). facts.2 in

@@ -1,5 +1,5 @@
 -- Readers that are read to their ends, one after the other, and what their bytes sum up to.
-use Rattle.std.specs.Prelude.{◌≡◌, ◌*◌, ◌<◌, ◌≤◌, ℕ, List, length, slice_index_or, Option, None, Some}
+use Rattle.std.specs.Prelude.{◌≡◌, ◌*◌, ◌<◌, ◌≤◌, ℕ, List, length, slice_index_or, take, Option, None, Some}
 use Rattle.std.specs.Io.KnownBytes.{Consumes, IsAtEnd}
 use Rattle.std.specs.List.{AllByRecursion, AllZip}
 use Rattle.tor_merkle.specs.declared.TheConstants.{MAX_LENGTH}
@@ -44,16 +44,22 @@ pub record AreSumsOfReaders (kind : Kind) (piece_length : ℕ) (known : List (Op
   pub small : AllByRecursion (λ content. length content ≤ MAX_LENGTH) contents
   pub sums_up : AreSumsOfContents kind piece_length contents sums
 
--- where readers are read: a fault is one of a reader, after as many bytes as it gave; one that is too long gave more
--- bytes than a file may have
+-- the reader of this number gave these bytes, and each before it gave a content, to its end
+pub record ReadsUpTo (known : List (Option (List ℕ))) (file : ℕ) (bytes : List ℕ) : Type 0 where
+  pub is_there : file < length known
+  pub came : GivesSome (slice_index_or known file None) bytes
+  pub contents : List (List ℕ)
+  pub before : GiveContents (take file known) contents
+  pub small : AllByRecursion (λ content. length content ≤ MAX_LENGTH) contents
+
+-- where readers are read: a fault is one of the first reader that has one, after as many bytes as it gave; one that is
+-- too long gave more bytes than a file may have
 abbrev pub IsFaultOfReaders : {F : Type 0} → List (Option (List ℕ)) → EngineError F → Type 0
 IsFaultOfReaders known (Read file None fault) = ⊥
 IsFaultOfReaders known (Read file (Some start) fault) =
-    (bytes : List ℕ) × GivesSome (slice_index_or known file None) bytes × (length bytes ≡ start)
-    × (file < length known)
+    (bytes : List ℕ) × ReadsUpTo known file bytes × (length bytes ≡ start)
 IsFaultOfReaders known (Changed file) = ⊥
 IsFaultOfReaders known (Missing file) = ⊥
 IsFaultOfReaders known Resources = Unit {0}
 IsFaultOfReaders known (StreamTooLong file) =
-    (bytes : List ℕ) × GivesSome (slice_index_or known file None) bytes × (MAX_LENGTH < length bytes)
-    × (file < length known)
+    (bytes : List ℕ) × ReadsUpTo known file bytes × (MAX_LENGTH < length bytes)

@@ -1,29 +1,42 @@
 //! Readers read one after the other, and cut into chunks for a lane.
-ghost use Rattle.std.specs.Prelude.{◌≡◌, ◌+◌, ◌-◌, ◌<◌, ◌≤◌, ◌++◌, ◌∷◌, [], ℕ, List, Option, None, IfErr, IfOk, OnOk};
-ghost use Rattle.std.specs.Prelude.{length, map, slice_index_or, take, vec_len};
+ghost use Rattle.std.specs.Prelude.{◌≡◌, ◌+◌, ◌^◌, ◌<◌, ◌≤◌, ◌++◌, ◌∷◌, [], ℕ, List, None, IfErr, IfOk, OnOk};
+ghost use Rattle.std.specs.Prelude.{length, take, vec_len};
 ghost use Rattle.std.specs.Io.KnownBytes.{Consumes, IsAtEnd};
 ghost use Rattle.tor_lane.specs.Lane.{FeedsLaneOf, IsEnded, IsOpen, put_by};
 ghost use Rattle.tor_merkle.specs.declared.TheConstants.{MAX_LENGTH};
 ghost use Rattle.tor_plan.specs.PlanFacts.{IsPlanPieceLength};
 ghost use Rattle.tor_source.specs.Filling.{EndsFill};
-ghost use Rattle.tor_source.specs.Input.{ReadsSome};
-ghost use Rattle.tor_engine.specs.Streams.{GivesWhole, IsFaultOfReaders};
-ghost use Rattle.tor_engine.specs.steps.Cuts.{zeros_between};
+ghost use Rattle.tor_source.specs.Input.{ReadsSome, ReadsWhole};
+ghost use Rattle.tor_engine.specs.declared.cutter.Stop.TheVariants.{Refused};
+ghost use Rattle.tor_engine.specs.steps.Cuts.{EndsReading, zeros_between};
 
-use crate::errors::EngineError;
+use crate::spares::Spares;
 use std::alloc::{AllocError, Global};
 use std::io::{self, Read};
+use std::mem;
 use std::sync::Wait;
 use tor_lane::{Chunk, Feeder};
 use tor_merkle::MAX_LENGTH;
 use tor_source::{FillFault, fill, zeros};
 use tor_tree::Kind;
 
+/// Why a reader was not read to its end.
+#[derive(Drop)]
+pub(crate) enum Stop {
+    /// It had a fault, after so many bytes; an interrupted read is one.
+    Read { start: u64, fault: io::Error },
+    /// More bytes came than the limit allows.
+    TooLong,
+    /// Memory was refused.
+    Refused,
+}
+
 /// Cuts what is read into chunks, and puts them into a lane. The last chunk of a content is held back until it is known
 /// whether a later content has a byte, since padding goes between two of them alone.
 #[derive(Drop)]
 pub(crate) struct Cutter {
     pub(crate) feeder: Feeder,
+    spares: Spares,
     // As long as a unit; its front waits to be cut.
     buffer: Vec<u8>,
     filled: usize,
@@ -35,12 +48,16 @@ pub(crate) struct Cutter {
 }
 
 impl Cutter {
-    ghost use Rattle.tor_engine.specs.steps.Cuts.{CutsMore, HasCut, HasPut, IsCutOff, IsReady, PutsContents};
-    ghost use Rattle.tor_engine.specs.steps.Cuts.{PutsHeld};
+    ghost use Rattle.tor_engine.specs.steps.Cuts.{CutsMore, HasCut, HasPut, IsCutOff, IsReady, PutsHeld};
     ghost use Rattle.tor_tree.specs.declared.kinds.Kind.{Kind};
 
     /// For units of `size` bytes, into a lane to which nothing was put.
-    pub(crate) fn new(alloc: Global, feeder: Feeder, size: usize) -> Result<Cutter, AllocError>
+    pub(crate) fn new(
+        alloc: Global,
+        feeder: Feeder,
+        spares: Spares,
+        size: usize,
+    ) -> Result<Cutter, AllocError>
         requires some { 0 < size }
         requires open { IsOpen feeder × (put_by feeder ≡ []) }
         ensures ready { (kind : Kind) (piece_length : ℕ) → IfOk result (IsReady kind piece_length size []) }
@@ -49,41 +66,13 @@ impl Cutter {
         let buffer = zeros(alloc, size)?;
         Ok(Cutter {
             feeder,
+            spares,
             buffer,
             filled: 0,
             held: None,
             zeros: 0,
             next: 0,
         })
-    }
-
-    /// Reads all readers to their ends, one after the other, puts all chunks, and answers how long each content is.
-    pub(crate) fn read_all<R: Read + Drop, T: Wait>(
-        &mut self,
-        rt: &T,
-        alloc: Global,
-        kind: Kind,
-        piece_length: u64,
-        readers: Vec<R>,
-    ) -> Result<Vec<u64>, EngineError<io::Error>>
-        requires pieces { IsPlanPieceLength kind piece_length }
-        requires ready { (size : ℕ) × (0 < size) × IsReady kind piece_length size [] self.old }
-        ensures put { (size : ℕ) → 0 < size → IsReady kind piece_length size [] self.old → IfOk result (λ lengths.
-            PutsContents kind piece_length size (map R.remaining readers.items) lengths.items
-            (put_by self.new.feeder)) }
-        ensures lane { FeedsLaneOf self.old.feeder self.new.feeder × IsOpen self.new.feeder }
-        ensures fault { IfErr result (IsFaultOfReaders (map R.remaining readers.items)) }
-    {
-        let mut lengths = Vec::with_capacity(alloc, readers.len())?;
-        'readers: for reader in readers {
-            let file = lengths.len() as u64;
-            match self.read_whole(rt, alloc, kind, piece_length, file, reader) {
-                Ok(length) => lengths.push(length)?,
-                Err(error) => return Err(error),
-            }
-        }
-        self.put_rest(rt, alloc)?;
-        Ok(lengths)
     }
 
     /// Puts the marks at which the takers stop.
@@ -96,33 +85,34 @@ impl Cutter {
         self.feeder.end(rt);
     }
 
-    /// Reads one reader to its end, and answers how long its content is.
-    fn read_whole<R: Read + Drop, T: Wait>(
+    /// Reads a reader to its end, of which no more than `limit` bytes may come, and answers how long its content is.
+    pub(crate) fn read_whole<R: Read, T: Wait>(
         &mut self,
         rt: &T,
         alloc: Global,
         kind: Kind,
         piece_length: u64,
-        file: u64,
-        reader: R,
-    ) -> Result<u64, EngineError<io::Error>>
+        limit: u64,
+        reader: &mut R,
+    ) -> Result<u64, Stop>
         requires pieces { IsPlanPieceLength kind piece_length }
+        requires small { limit ≤ MAX_LENGTH }
         requires ready { (size : ℕ) × (contents : List (List ℕ)) × (0 < size)
             × IsReady kind piece_length size contents self.old }
-        ensures read { IfOk result (λ count. (content : List ℕ) × GivesWhole (R.remaining reader) content
-            × (length content ≡ count) × (count ≤ MAX_LENGTH)
+        ensures read { IfOk result (λ count. (content : List ℕ)
+            × ReadsWhole (R.remaining reader.old) (R.remaining reader.new) content
+            × (length content ≡ count) × (count ≤ limit)
             × ((size : ℕ) (contents : List (List ℕ)) → 0 < size → IsReady kind piece_length size contents self.old →
             IsReady kind piece_length size (contents ++ content ∷ []) self.new)) }
         ensures lane { FeedsLaneOf self.old.feeder self.new.feeder × IsOpen self.new.feeder }
-        ensures fault { (known : List (Option (List ℕ))) → file < length known →
-            slice_index_or known file None ≡ R.remaining reader → IfErr result (IsFaultOfReaders known) }
+        ensures stopped { IfErr result (λ stop.
+            ReadsSome (R.remaining reader.old) (R.remaining reader.new) (EndsReading limit stop)) }
     {
-        let mut reader = reader;
         let mut count = 0;
         'chunks: loop {
-            match self.fill(&mut reader, MAX_LENGTH - count) {
+            match self.fill(reader, limit - count) {
                 Ok(came) => count += came as u64,
-                Err(fault) => return Err(error_of(fault, file, count)),
+                Err(fault) => return Err(stopped(count, fault)),
             }
             // It is at its end.
             if self.filled < self.buffer.len() {
@@ -171,14 +161,29 @@ impl Cutter {
             return Err(AllocError);
         };
         self.put_held(rt, self.zeros);
-        let (waiting, _) = self.buffer.as_slice().split_at(self.filled);
-        let bytes = Vec::from_slice(alloc, waiting)?;
+        let bytes = self.take_waiting(rt, alloc)?;
         let zeros = 0;
         self.held = Some(Chunk { unit, bytes, zeros });
         self.zeros = 0;
         self.filled = 0;
         self.next = next;
         Ok(())
+    }
+
+    // What waits. A buffer that is full is handed over as it is, in exchange for another.
+    fn take_waiting<T: Wait>(&mut self, rt: &T, alloc: Global) -> Result<Vec<u8>, AllocError>
+        requires within { self.old.filled ≤ vec_len self.old.buffer }
+        ensures bytes { IfOk result (λ bytes. bytes.items ≡ take self.old.filled self.old.buffer.items) }
+        ensures length { vec_len self.new.buffer ≡ vec_len self.old.buffer }
+        ensures kept { (self.new.feeder ≡ self.old.feeder) × (self.new.held ≡ self.old.held)
+            × (self.new.zeros ≡ self.old.zeros) × (self.new.next ≡ self.old.next) }
+    {
+        if self.filled < self.buffer.len() {
+            let (waiting, _) = self.buffer.as_slice().split_at(self.filled);
+            return Vec::from_slice(alloc, waiting);
+        }
+        let other = self.spares.another(rt, alloc, self.buffer.len())?;
+        Ok(mem::replace(&mut self.buffer, other))
     }
 
     // Puts what is held, with so many zeros after it.
@@ -238,8 +243,8 @@ impl Cutter {
         Ok(())
     }
 
-    // Puts what waits, and what is held then: no byte comes any more.
-    fn put_rest<T: Wait>(&mut self, rt: &T, alloc: Global) -> Result<(), AllocError>
+    /// Puts what waits, and what is held then: no byte comes any more.
+    pub(crate) fn put_rest<T: Wait>(&mut self, rt: &T, alloc: Global) -> Result<(), AllocError>
         requires within { self.old.filled ≤ vec_len self.old.buffer }
         requires open { IsOpen self.old.feeder }
         ensures put { (kind : Kind) (piece_length size : ℕ) (contents : List (List ℕ)) → 0 < size →
@@ -277,22 +282,18 @@ fn fill_from<R: Read>(
     }
 }
 
-/// What is answered where a reader, of which so many bytes came before, was not read on.
-fn error_of(fault: FillFault, file: u64, before: u64) -> EngineError<io::Error>
-    requires small { before ≤ MAX_LENGTH }
-    requires within { (bytes : List ℕ) × EndsFill (MAX_LENGTH - before) fault bytes }
-    ensures { (known : List (Option (List ℕ))) (earlier : List ℕ) (left after : Option (List ℕ)) →
-        file < length known → length earlier ≡ before →
-        Consumes (slice_index_or known file None) left earlier →
-        ReadsSome left after (EndsFill (MAX_LENGTH - before) fault) → IsFaultOfReaders known result }
+/// Why a reader was not read on, of which so many bytes came before.
+fn stopped(before: u64, fault: FillFault) -> Stop
+    requires { (left : ℕ) × (bytes : List ℕ) × (before + left < 2 ^ 64) × EndsFill left fault bytes }
+    ensures { (left : ℕ) (earlier bytes : List ℕ) → length earlier ≡ before → EndsFill left fault bytes →
+        EndsReading (before + left) result (earlier ++ bytes) }
 {
     match fault {
-        FillFault::Read { count, fault } => EngineError::Read {
-            file,
-            start: Some(before + count as u64),
+        FillFault::Read { count, fault } => Stop::Read {
+            start: before + count as u64,
             fault,
         },
-        FillFault::TooLong => EngineError::StreamTooLong { file },
+        FillFault::TooLong => Stop::TooLong,
     }
 }
 
@@ -305,5 +306,13 @@ fn zeros_between(kind: Kind, piece_length: u64, count: u64) -> u64
     match kind {
         Kind::Hybrid => count.next_multiple_of(piece_length) - count,
         _ => 0,
+    }
+}
+
+impl From<AllocError> for Stop {
+    ghost from_gives = { λ _ stop. stop ≡ Refused };
+
+    fn from(_error: AllocError) -> Stop {
+        Stop::Refused
     }
 }

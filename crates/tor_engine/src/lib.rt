@@ -19,9 +19,11 @@
 //! - [`hash_pieces`] (`pieces.rt`): what each piece hashes to ([`PieceHash`], `piece_hash.rt`), of files that may be
 //!   cut short or missing: `asked.rt` asks for their lengths, `present.rt` tells what is there by these, and
 //!   `piece_work.rt` hashes the pieces of a unit.
-//! - [`hash_streams`] (`streams.rt`): what readers sum up to that are read once and in order. `cutter.rt` reads them
-//!   and puts chunks into a lane, whose workers (`stream_worker.rt`) take and hash them (`chunk_sums.rt`);
-//!   `stream_sums.rt` puts together what these sum up to. [`Gate`] (`gate.rt`): what tests have workers pass. [`lane`],
+//! - [`hash_streams`] (`streams.rt`): what readers sum up to that are read once and in order; [`hash_input`]
+//!   (`input.rt`): what one reader does, within the limit of an input. `text.rt` says what is read so. `feeding.rt`
+//!   reads in the calling thread: `cutter.rt` puts chunks into a lane, whose workers (`stream_worker.rt`) take and hash
+//!   them (`chunk_sums.rt`), and give their buffers back (`spares.rt`); `stream_sums.rt` puts together what these sum
+//!   up to. [`Gate`] (`gate.rt`): what tests have workers pass. [`lane`],
 //!   [`Feeder`], [`Taker`], [`Chunk`] are those of `tor_lane`.
 //! - [`laws`] (`laws.rt`): a law over the definition of the first fault, and the limits of workers, buffers and units.
 //!
@@ -40,11 +42,13 @@ mod cutter;
 mod engine;
 mod errors;
 mod failure;
+mod feeding;
 mod file_bytes;
 mod gate;
 mod halves;
 mod hasher;
 mod how;
+mod input;
 mod items;
 mod joined;
 pub mod laws;
@@ -60,6 +64,7 @@ mod room;
 mod roots;
 mod seats;
 mod shares;
+mod spares;
 mod stream_sums;
 mod stream_worker;
 mod streams;
@@ -67,6 +72,7 @@ mod sum_work;
 mod sums;
 mod taken;
 mod taking;
+mod text;
 mod turn;
 mod unit_hash;
 mod unit_sums;
@@ -79,6 +85,7 @@ pub use errors::EngineError;
 pub use gate::Gate;
 pub use hasher::{ContentHasher, Hashed};
 pub use how::{How, MAX_WORKERS};
+pub use input::hash_input;
 pub use lengths::ask_lengths;
 pub use piece_hash::PieceHash;
 pub use pieces::hash_pieces;

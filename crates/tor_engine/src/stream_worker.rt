@@ -1,16 +1,17 @@
 //! The workers of a lane: each hashes the chunks that it takes.
-ghost use Rattle.std.specs.Prelude.{◌≡◌, [], ℕ, All, IfOk, map, vec_len};
-ghost use Rattle.std.specs.List.{AllByRecursion, flat_map};
+ghost use Rattle.std.specs.Prelude.{◌≡◌, [], ℕ, IfOk, vec_len};
+ghost use Rattle.std.specs.List.{AllByRecursion};
 ghost use Rattle.std.specs.Thread.{IsSync};
-ghost use Rattle.tor_lane.specs.Lane.{IsAtMark, IsTakerOf, taken_by};
+ghost use Rattle.tor_lane.specs.Lane.{IsTakerOf, taken_by};
 ghost use Rattle.tor_lane.specs.declared.feeder.Feeder.{Feeder};
 ghost use Rattle.tor_plan.specs.PlanFacts.{IsPlanPieceLength};
 ghost use Rattle.tor_engine.specs.steps.Cuts.{facts_of, facts_of_chunk};
-ghost use Rattle.tor_engine.specs.steps.StreamWorkers.{IsDoneOf, IsWorkerOf, TookAll};
+ghost use Rattle.tor_engine.specs.steps.StreamWorkers.{AreDone, AreParted, IsDoneOf, IsWorkerOf, TookAll};
 
 use crate::chunk_sums::sum_chunk;
 use crate::gate::Gate;
 use crate::joined::append;
+use crate::spares::GiveBack;
 use crate::unit_sums::UnitSums;
 use std::alloc::{AllocError, Global};
 use std::sync::Wait;
@@ -22,6 +23,7 @@ use tor_tree::Kind;
 #[derive(Drop)]
 pub(crate) struct StreamWorker {
     taker: Taker,
+    give_back: GiveBack,
     sums: Vec<UnitSums>,
     // Memory was refused: what it takes then is let go, so that the feeder does not wait for ever.
     is_refused: bool,
@@ -49,6 +51,7 @@ impl StreamWorker {
                 Some(chunk) => {
                     gate.enter(chunk.unit);
                     self.add(alloc, kind, piece_length, &chunk);
+                    self.give_back.give(rt, chunk.bytes);
                 }
                 None => return,
             }
@@ -80,6 +83,7 @@ impl StreamWorker {
 pub(crate) fn stream_workers(
     alloc: Global,
     takers: Vec<Taker>,
+    give_back: &GiveBack,
 ) -> Result<Vec<StreamWorker>, AllocError>
     ensures workers { (kind : Kind) (piece_length : ℕ) (feeder : Feeder) →
         AllByRecursion (λ taker. IsTakerOf feeder taker × (taken_by taker ≡ [])) takers.items →
@@ -88,8 +92,10 @@ pub(crate) fn stream_workers(
 {
     let mut workers = Vec::with_capacity(alloc, takers.len())?;
     'takers: for taker in takers {
+        let give_back = give_back.again()?;
         workers.push(StreamWorker {
             taker,
+            give_back,
             sums: Vec::new(alloc),
             is_refused: false,
         })?;
@@ -136,14 +142,8 @@ pub(crate) fn parted(
     alloc: Global,
     workers: Vec<StreamWorker>,
 ) -> Result<(Vec<Taker>, Vec<UnitSums>), AllocError>
-    ensures takers { (kind : Kind) (piece_length : ℕ) (feeder : Feeder) →
-        AllByRecursion (IsDoneOf kind piece_length feeder) workers.items →
-        IfOk result (λ parts. All (λ t. IsTakerOf feeder t × IsAtMark t) parts.0.items) }
-    ensures all { IfOk result (λ parts. vec_len parts.0 ≡ vec_len workers) }
-    ensures sums { (kind : Kind) (piece_length : ℕ) (feeder : Feeder) →
-        AllByRecursion (IsDoneOf kind piece_length feeder) workers.items →
-        IfOk result (λ parts. map facts_of parts.1.items
-        ≡ map (facts_of_chunk kind piece_length) (flat_map taken_by parts.0.items)) }
+    ensures { (kind : Kind) (piece_length : ℕ) (feeder : Feeder) → AreDone kind piece_length feeder workers.items →
+        IfOk result (λ parts. AreParted kind piece_length feeder parts.0.items parts.1.items) }
 {
     let mut takers = Vec::with_capacity(alloc, workers.len())?;
     let mut all = Vec::new(alloc);
@@ -152,6 +152,7 @@ pub(crate) fn parted(
             taker,
             sums,
             is_refused,
+            ..
         } = worker;
         if is_refused {
             return Err(AllocError);

@@ -1,28 +1,23 @@
 //! Readers that are read once and in order, hashed by several workers.
-ghost use Rattle.std.specs.Prelude.{◌≡◌, ◌<◌, ◌≤◌, [], ℕ, List, Some, IfErr, IfOk, map};
-ghost use Rattle.std.specs.Thread.{IsSync};
-ghost use Rattle.tor_lane.specs.declared.feeder.Feeder.{Feeder};
-ghost use Rattle.tor_plan.specs.PlanFacts.{IsPlanPieceLength};
+ghost use Rattle.std.specs.Prelude.{◌≡◌, ◌*◌, ◌≤◌, ℕ, List, Some, IfErr, IfOk, map};
+ghost use Rattle.tor_lane.specs.Lane.{IsEnded, put_by};
 ghost use Rattle.tor_engine.specs.Streams.{AreSumsOfContents, AreSumsOfReaders, IsFaultOfReaders, IsStreamCut};
-ghost use Rattle.tor_engine.specs.declared.errors.EngineError.TheVariants.{Resources};
 ghost use Rattle.tor_engine.specs.declared.how.TheConstants.{MAX_WORKERS};
-ghost use Rattle.tor_engine.specs.steps.Cuts.{IsReady};
-ghost use Rattle.tor_engine.specs.steps.Fed.{IsFed};
-ghost use Rattle.tor_engine.specs.steps.StreamWorkers.{AreDone, AreWorkers};
+ghost use Rattle.tor_engine.specs.steps.Cuts.{PutsContents};
+ghost use Rattle.tor_engine.specs.steps.StreamWorkers.{AreParted};
 
-use crate::cutter::Cutter;
 use crate::errors::EngineError;
+use crate::feeding::{Fed, feed_readers, open};
 use crate::gate::{Gate, OpenGate};
 use crate::stream_sums::sums_of_chunks;
-use crate::stream_worker::{StreamWorker, parted, stream_workers, take_by_halves};
+use crate::stream_worker::parted;
 use crate::sums::Sums;
-use std::alloc::Global;
+use crate::unit_sums::UnitSums;
+use std::alloc::{AllocError, Global};
 use std::io::{self, Read};
-use std::snapshot::Snapshot;
 use std::sync::Wait;
-use std::thread;
-use std::thread::{Promise, Threads};
-use tor_lane::{Feeder, lane};
+use std::thread::Threads;
+use tor_lane::{Feeder, Taker};
 use tor_tree::Kind;
 
 /// The most bytes of a unit that goes through a lane.
@@ -83,19 +78,8 @@ pub fn hash_streams_with<G: Gate + Sync, R: Read + Drop, T: Threads + Wait + Syn
     ensures fault { IfErr result (IsFaultOfReaders (map R.remaining readers.items)) }
 {
     let size = piece_length * span as u64;
-    let (feeder, takers) = lane(alloc, workers)?;
-    let workers = stream_workers(alloc, takers)?;
-    let cutter = Cutter::new(alloc, feeder, size as usize)?;
-    let fed = feed_workers(
-        gate,
-        rt,
-        alloc,
-        readers,
-        kind,
-        piece_length,
-        cutter,
-        workers,
-    )?;
+    let (cutter, workers) = open(alloc, size, workers)?;
+    let fed = feed_readers(gate, rt, alloc, readers, kind, piece_length, cutter, workers)?;
     let Fed {
         read,
         feeder,
@@ -106,111 +90,32 @@ pub fn hash_streams_with<G: Gate + Sync, R: Read + Drop, T: Threads + Wait + Syn
         Ok(lengths) => lengths,
         Err(error) => return Err(error),
     };
-    feeder.settle(takers);
-    let mut sums = sums;
-    sums.sort_unstable_by_key(|one| one.unit);
-    let sums = sums_of_chunks(alloc, kind, piece_length, size, lengths, &sums)?;
+    let sums = sums_of_taken(alloc, kind, piece_length, size, lengths, feeder, takers, sums)?;
     Ok(sums)
 }
 
-/// What the workers' thread answers: all workers of the feeder's lane, each at its mark.
-#[derive(Drop)]
-struct Workers {
-    feeder: Snapshot<Feeder>,
+/// What the contents that were put in chunks of `size` bytes sum up to, from what was made of all that was taken.
+pub(crate) fn sums_of_taken(
+    alloc: Global,
     kind: Kind,
     piece_length: u64,
-}
-
-impl Promise<Vec<StreamWorker>> for Workers {
-    ghost use Rattle.tor_engine.specs.steps.StreamWorkers.{AreDone};
-
-    ghost kept_by = { λ p workers. AreDone p.kind p.piece_length p.feeder.value workers.items };
-}
-
-/// What the two threads leave: the lengths of the contents, or the fault of a reader; the feeder of the lane; its
-/// workers.
-#[derive(Drop)]
-struct Fed {
-    read: Result<Vec<u64>, EngineError<io::Error>>,
+    size: u64,
+    lengths: Vec<u64>,
     feeder: Feeder,
-    workers: Vec<StreamWorker>,
-}
-
-/// Reads all readers in this thread, while another one has the workers take what is put. Where that thread is refused,
-/// nothing is read.
-fn feed_workers<G: Gate + Sync, R: Read + Drop, T: Threads + Wait + Sync>(
-    gate: &G,
-    rt: &T,
-    alloc: Global,
-    readers: Vec<R>,
-    kind: Kind,
-    piece_length: u64,
-    cutter: Cutter,
-    workers: Vec<StreamWorker>,
-) -> Result<Fed, EngineError<io::Error>>
-    requires pieces { IsPlanPieceLength kind piece_length }
-    requires ready { (size : ℕ) × (0 < size) × IsReady kind piece_length size [] cutter }
-    requires workers { AreWorkers kind piece_length cutter.feeder workers.items }
-    ensures fed { (size : ℕ) → 0 < size → IsReady kind piece_length size [] cutter →
-        IfOk result (IsFed kind piece_length size (map R.remaining readers.items)) }
-    ensures refused { IfErr result (λ error. error ≡ Resources) }
+    takers: Vec<Taker>,
+    sums: Vec<UnitSums>,
+) -> Result<Sums, AllocError>
+    requires cut { (span : ℕ) × IsStreamCut kind piece_length span × (size ≡ span * piece_length) }
+    requires ended { IsEnded feeder }
+    requires parted { AreParted kind piece_length feeder takers.items sums.items }
+    requires put { (contents : List (List ℕ))
+        × PutsContents kind piece_length size contents lengths.items (put_by feeder) }
+    ensures { (contents : List (List ℕ)) →
+        PutsContents kind piece_length size contents lengths.items (put_by feeder) →
+        IfOk result (AreSumsOfContents kind piece_length contents) }
 {
-    let mut cutter = cutter;
-    thread::scope(
-        thread::scope_env(),
-        rt,
-        |scope| -> Result<Fed, EngineError<io::Error>>
-            requires { IsSync T.row × IsSync G.row × IsPlanPieceLength kind piece_length
-                × ((size : ℕ) × (0 < size) × IsReady kind piece_length size [] cutter)
-                × AreWorkers kind piece_length cutter.feeder workers.items }
-            ensures { ((size : ℕ) → 0 < size → IsReady kind piece_length size [] cutter →
-                IfOk result (IsFed kind piece_length size (map R.remaining readers.items)))
-                × IfErr result (λ error. error ≡ Resources) }
-        {
-            let promise = Workers {
-                feeder: Snapshot::of(&cutter.feeder),
-                kind,
-                piece_length,
-            };
-            match scope.spawn_with(
-                promise,
-                move || -> Vec<StreamWorker>
-                    requires { IsSync T.row × IsSync G.row × IsPlanPieceLength kind piece_length }
-                    ensures { (feeder : Feeder) → AreWorkers kind piece_length feeder workers.items →
-                        AreDone kind piece_length feeder result.items }
-                { take_all(rt, gate, alloc, kind, piece_length, workers) },
-            ) {
-                Ok(handle) => {
-                    let read = cutter.read_all(rt, alloc, kind, piece_length, readers);
-                    cutter.end(rt);
-                    let workers = handle.join(rt);
-                    let Cutter { feeder, .. } = cutter;
-                    Ok(Fed {
-                        read,
-                        feeder,
-                        workers,
-                    })
-                }
-                Err(_) => Err(EngineError::Resources),
-            }
-        },
-    )
-}
-
-/// Has all workers take until their marks, and gives them back.
-fn take_all<G: Gate + Sync, T: Threads + Wait + Sync>(
-    rt: &T,
-    gate: &G,
-    alloc: Global,
-    kind: Kind,
-    piece_length: u64,
-    workers: Vec<StreamWorker>,
-) -> Vec<StreamWorker>
-    requires { IsPlanPieceLength kind piece_length }
-    ensures { (feeder : Feeder) → AreWorkers kind piece_length feeder workers.items →
-        AreDone kind piece_length feeder result.items }
-{
-    let mut workers = workers;
-    take_by_halves(rt, gate, alloc, kind, piece_length, workers.as_mut_slice());
-    workers
+    feeder.settle(takers);
+    let mut sums = sums;
+    sums.sort_unstable_by_key(|one| one.unit);
+    sums_of_chunks(alloc, kind, piece_length, size, lengths, &sums)
 }

@@ -1,6 +1,6 @@
 -- One file that lies at the top, and its content.
 use Rattle.std.proofs.Common.{◌≡◌, ℕ, zero, suc, ◌<◌, Bool, true, false, ◌&&◌, cond, List, [], ◌∷◌, length}
-use Rattle.std.proofs.Common.{get_or, nat_lt, refl, sym, ap, ◌∙◌, arith}
+use Rattle.std.proofs.Common.{None, get_or, nat_lt, refl, sym, ap, ◌∙◌, arith}
 use Rattle.std.specs.List.{All}
 use Rattle.std.specs.List.Sorted.{IsPermutation}
 use Rattle.std.proofs.lemmas.List.{append-nil}
@@ -9,7 +9,11 @@ use Rattle.tor_meta.specs.Fed.{SumsOfOne}
 use Rattle.tor_meta.specs.Head.{settings_of}
 use Rattle.tor_meta.specs.steps.Sums.{SumUp}
 use Rattle.tor_meta.specs.declared.head.Head.{Head}
+use Rattle.tor_engine.specs.Streams.{AreSumsOfContents}
 use Rattle.tor_engine.specs.declared.sums.Sums.{Sums}
+use Rattle.tor_merkle.specs.Layer.{piece_layer, root_of}
+use Rattle.tor_plan.specs.Content.{cut_content, layout_of as plan_layout}
+use Rattle.tor_tree.specs.declared.kinds.Kind.{Kind}
 use Rattle.tor_spec.specs.Settings.{layout_of}
 use Rattle.tor_v1.specs.Content.{joined_content, v1_pieces}
 use Rattle.tor_v1.specs.Entries.{aligned_entries, file_entry, has_bytes, pad_entry, padding_after, padding_length}
@@ -64,3 +68,17 @@ sum_up_one head file bytes sums one = record {
   layers = one.layers;
   pieces = λ e. one.pieces e ∙ sym (pieces_of_one (layout_of (settings_of head)) head.piece_length file bytes);
 }
+
+-- and the sums of one content are those of one file
+pub sums_of_one : (kind : Kind) (p : ℕ) (content : List ℕ) (sums : Sums)
+    → AreSumsOfContents kind p (content ∷ []) sums → SumsOfOne kind p content sums
+unfolding v1_pieces
+sums_of_one kind p content sums up =
+    let file : List (List ℕ) × ℕ = ([], length content) in
+    let are = up (file ∷ []) refl in record {
+      roots = λ e. are.roots ∙ ap (λ b. cond b (root_of content) None ∷ []) e;
+      layers = λ e. are.layers ∙ ap (λ b. cond b (piece_layer content p) [] ∷ []) e;
+      pieces = λ e. are.pieces
+          ∙ ap (λ b. cond b (piece_sums p (cut_content kind p (file ∷ []) (content ∷ []))) []) e
+          ∙ pieces_of_one (plan_layout kind) p file content;
+    }

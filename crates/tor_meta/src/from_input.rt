@@ -1,16 +1,24 @@
 //! From a reader to the torrent of what it has, in a writer.
-ghost use Rattle.std.specs.Prelude.{◌≡◌, List, ℕ, IfErr, IfOk, OnOk};
+ghost use Rattle.std.specs.Prelude.{◌≡◌, ◌∷◌, [], List, ℕ, None, IfErr, IfOk, OnOk};
+ghost use Rattle.tor_meta.specs.FromInput.{MakesOf, MakesPart, MakesWhole, StopsReading, refusal_of};
+ghost use Rattle.tor_meta.specs.Head.{settings_of};
+ghost use Rattle.tor_meta.specs.Order.{settings_of_order};
+ghost use Rattle.tor_meta.specs.Refusal.{paths_refusal};
 ghost use Rattle.tor_meta.specs.declared.make_error.MakeError.TheVariants.{Resources};
-ghost use Rattle.tor_meta.specs.FromInput.{MakesOf, MakesPart, MakesWhole, StopsReading};
 ghost use Rattle.tor_meta.specs.declared.from_input.FromFault.TheVariants.{Input, Make, Write};
 
 use crate::fed::FedSums;
+use crate::head::Head;
 use crate::make_error::MakeError;
-use crate::making::make_fed;
+use crate::making::{make_fed, make_summed};
 use crate::order::Order;
 use crate::output::{WriteFault, write_out};
 use std::alloc::{AllocError, Global};
 use std::io;
+use std::sync::Wait;
+use std::thread::Threads;
+use tor_engine::{MAX_UNIT_LENGTH, hash_input};
+use tor_merkle::laws::piece_length_bounds;
 use tor_source::{InputFault, MAX_INPUT_LENGTH, drop_input, read_parts};
 
 /// Why no whole torrent was written.
@@ -51,14 +59,58 @@ pub fn torrent_from<R: io::Read>(
         (R.remaining reader.old) (R.remaining reader.new) (λ bytes. torrent.items ≡ bytes) content) }
     ensures stopped { IfErr result (StopsReading order.now (R.remaining reader.old) (R.remaining reader.new)) }
 {
+    let head = head_for(alloc, reader, order)?;
+    let mut fed = FedSums::new(alloc, &head);
+    read_parts(alloc, reader, MAX_INPUT_LENGTH, &mut fed)?;
+    Ok(make_fed(alloc, &head, fed)?)
+}
+
+/// The same torrent, while as many workers as the order's `how` says hash what the caller's thread reads. Where a unit
+/// is too long for a stream, the caller's thread hashes too.
+pub fn torrent_by_streams<R: io::Read, T: Threads + Wait + Sync>(
+    rt: &T,
+    alloc: Global,
+    reader: &mut R,
+    order: &Order,
+) -> Result<Vec<u8>, FromFault>
+    ensures made { IfOk result (λ torrent. (content : List ℕ) × MakesOf order.now
+        (R.remaining reader.old) (R.remaining reader.new) (λ bytes. torrent.items ≡ bytes) content) }
+    ensures stopped { IfErr result (StopsReading order.now (R.remaining reader.old) (R.remaining reader.new)) }
+{
+    if (order.span as u64).saturating_mul(order.piece_length) > MAX_UNIT_LENGTH {
+        return torrent_from(alloc, reader, order);
+    }
+    let head = head_for(alloc, reader, order)?;
+    piece_length_bounds();
+    let workers = order.how.workers();
+    let sums = hash_input(
+        rt,
+        alloc,
+        reader,
+        order.kind,
+        order.piece_length,
+        order.span,
+        workers,
+    )?;
+    let count = sums.lengths[0];
+    Ok(make_summed(alloc, &head, count, &sums)?)
+}
+
+/// The head of the torrent of one content. Where the order is refused, all of the content is read before that is told,
+/// so that a fault of the reader comes first.
+fn head_for<R: io::Read>(
+    alloc: Global,
+    reader: &mut R,
+    order: &Order,
+) -> Result<Head, FromFault>
+    ensures settings { IfOk result (λ head. settings_of head ≡ settings_of_order order.now) }
+    ensures lawful { IfOk result (λ head. paths_refusal (settings_of head) ((head.name ∷ []) ∷ []) ≡ None) }
+    ensures accepted { OnOk result ((refusal_of order.now ≡ None) × (reader.new ≡ reader.old)) }
+    ensures stopped { IfErr result (StopsReading order.now (R.remaining reader.old) (R.remaining reader.new)) }
+{
     match order.head_of_one(alloc) {
-        Ok(head) => {
-            let mut fed = FedSums::new(alloc, &head);
-            read_parts(alloc, reader, MAX_INPUT_LENGTH, &mut fed)?;
-            Ok(make_fed(alloc, &head, fed)?)
-        }
+        Ok(head) => Ok(head),
         Err(refusal) => {
-            // A fault of the reader is answered before what is wrong with the order.
             drop_input(alloc, reader)?;
             Err(FromFault::Make(refusal))
         }

@@ -5,7 +5,8 @@
 //! - [`make_contents`] (`contents.rt`): the torrent of files whose contents lie in memory.
 //! - [`FedSums`] (`fed.rt`) and [`make_fed`] (`making.rt`): the torrent of one content that is fed in parts.
 //! - [`make_from`], [`torrent_from`] (`from_input.rt`): the torrent of what a reader has, in a writer or as bytes, or
-//!   the [`FromFault`] for which there is none; `fed_intake.rt` takes the parts that are read.
+//!   the [`FromFault`] for which there is none; `fed_intake.rt` takes the parts that are read. [`torrent_by_streams`]:
+//!   the same by workers behind the reader.
 //! - [`make`] (`from_source.rt`): the torrent of the files of a source, as an [`Order`] (`order.rt`) says, or the first
 //!   [`MakeError`] (`make_error.rt`). `indexed_files.rt` puts a source's files into another order; `listed_files.rt`
 //!   makes the torrent of a list of files whose bytes a source gives.
@@ -54,7 +55,7 @@ mod torrent;
 
 pub use contents::make_contents;
 pub use fed::{FedSums, refusal_of_one};
-pub use from_input::{FromFault, make_from, torrent_from};
+pub use from_input::{FromFault, make_from, torrent_by_streams, torrent_from};
 pub use from_source::make;
 pub use from_streams::make_streams;
 pub use hashes::{Hashes, info_hashes, magnet};

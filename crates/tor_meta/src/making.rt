@@ -1,7 +1,7 @@
-//! The torrent of one content that was fed.
-ghost use Rattle.std.specs.Prelude.{◌≡◌, ◌≤◌, ◌∷◌, [], ℕ, List, None, IfOk};
+//! The torrent of one content that was read.
+ghost use Rattle.std.specs.Prelude.{◌≡◌, ◌≤◌, ◌∷◌, [], ℕ, List, None, IfOk, length};
 ghost use Rattle.tor_merkle.specs.declared.TheConstants.{MAX_LENGTH};
-ghost use Rattle.tor_meta.specs.Fed.{HasFed};
+ghost use Rattle.tor_meta.specs.Fed.{HasFed, SumsOfOne};
 ghost use Rattle.tor_meta.specs.Hashes.{HasInfo};
 ghost use Rattle.tor_meta.specs.Head.{settings_of};
 ghost use Rattle.tor_meta.specs.Refusal.{paths_refusal};
@@ -12,6 +12,7 @@ use crate::fed::FedSums;
 use crate::head::Head;
 use crate::torrent::torrent_bytes;
 use std::alloc::{AllocError, Global};
+use tor_engine::Sums;
 use tor_merkle::laws::piece_length_bounds;
 use tor_tree::{FileList, FilePath, ListError, Name};
 
@@ -23,9 +24,29 @@ pub fn make_fed(alloc: Global, head: &Head, fed: FedSums) -> Result<Vec<u8>, All
         IfOk result (λ torrent. torrent.items ≡ metainfo (settings_of head.now) (only head.now.name bytes)) }
     ensures info { IfOk result (λ torrent. HasInfo torrent.items) }
 {
-    let list = list_of_one(alloc, &head.name, fed.count())?;
+    let count = fed.count();
     let sums = fed.finish(alloc)?;
-    let bytes = torrent_bytes(alloc, head, &list, &sums)?;
+    make_summed(alloc, head, count, &sums)
+}
+
+/// The bytes of the torrent of the one file that has the torrent's name, so many bytes, and these sums.
+pub(crate) fn make_summed(
+    alloc: Global,
+    head: &Head,
+    count: u64,
+    sums: &Sums,
+) -> Result<Vec<u8>, AllocError>
+    requires accepted { paths_refusal (settings_of head.now) ((head.now.name ∷ []) ∷ []) ≡ None }
+    requires small { count ≤ MAX_LENGTH }
+    requires summed { (bytes : List ℕ) × (length bytes ≡ count)
+        × SumsOfOne head.now.kind head.now.piece_length bytes sums.now }
+    ensures made { (bytes : List ℕ) → length bytes ≡ count →
+        SumsOfOne head.now.kind head.now.piece_length bytes sums.now →
+        IfOk result (λ torrent. torrent.items ≡ metainfo (settings_of head.now) (only head.now.name bytes)) }
+    ensures info { IfOk result (λ torrent. HasInfo torrent.items) }
+{
+    let list = list_of_one(alloc, &head.name, count)?;
+    let bytes = torrent_bytes(alloc, head, &list, sums)?;
     Ok(bytes)
 }
 

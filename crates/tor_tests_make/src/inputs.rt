@@ -1,9 +1,10 @@
 //! Readers that give all, few bytes a read, or a fault, and what comes of them.
 use crate::contents::ABC;
 use crate::sources::order;
-use std::alloc::Global;
-use std::io::{Error, ErrorKind, Read, Result};
-use tor_meta::{FromFault, MakeError, Order, make_from};
+use std::alloc::{AllocError, Global};
+use std::io::{self, Error, ErrorKind, Read};
+use tor_engine::How;
+use tor_meta::{FromFault, MakeError, Order, make_from, torrent_by_streams};
 use tor_source::{InputFault, drop_input, read_limited};
 use tor_tree::Kind;
 
@@ -12,7 +13,7 @@ use tor_tree::Kind;
 struct Faulting<'a>(&'a [u8]);
 
 impl Read for Faulting<'_> {
-    fn read(&mut self, buf: &mut [u8]) -> Result<usize> {
+    fn read(&mut self, buf: &mut [u8]) -> io::Result<usize> {
         if self.0.is_empty() {
             return Err(Error::from(ErrorKind::Interrupted));
         }
@@ -28,7 +29,7 @@ struct Steps<'a> {
 }
 
 impl Read for Steps<'_> {
-    fn read(&mut self, buf: &mut [u8]) -> Result<usize> {
+    fn read(&mut self, buf: &mut [u8]) -> io::Result<usize> {
         let count = self.step.min(buf.len());
         let (front, _) = buf.split_at_mut(count);
         self.bytes.read(front)
@@ -115,4 +116,40 @@ fn is_refused(alloc: Global) -> bool {
 #[test]
 fn reads_all_before_it_refuses(rt: HostRuntime) {
     assert!(rt; is_refused(rt.alloc()));
+}
+
+// Whether the torrent of `abc` is made by so many workers behind a reader that gives at most `step` bytes a read.
+fn is_made_by_streams(rt: &HostRuntime, step: usize, workers: u32) -> Result<bool, AllocError> {
+    let mut order = order(rt.alloc(), &(Kind::V2, true, 16384, "a"))?;
+    order.how = How::Board(workers);
+    let mut reader = Steps {
+        bytes: b"abc",
+        step,
+    };
+    match torrent_by_streams(rt, rt.alloc(), &mut reader, &order) {
+        Ok(torrent) => Ok(torrent.as_slice() == ABC),
+        Err(_) => Ok(false),
+    }
+}
+
+#[test]
+fn makes_the_same_torrent_by_workers_behind_the_reader(rt: HostRuntime) {
+    for (step, workers) in [(1, 1), (2, 2), (7, 64)] {
+        assert!(rt; is_made_by_streams(&rt, step, workers) == Ok(true));
+    }
+}
+
+// What a reader that faults is told as where workers are behind it.
+fn fault_behind(rt: &HostRuntime) -> Result<Option<InputFault>, AllocError> {
+    let order = order(rt.alloc(), &(Kind::V2, true, 16384, "a"))?;
+    let mut reader = Faulting(b"abc");
+    match torrent_by_streams(rt, rt.alloc(), &mut reader, &order) {
+        Err(FromFault::Input(fault)) => Ok(Some(fault)),
+        _ => Ok(None),
+    }
+}
+
+#[test]
+fn tells_a_fault_of_its_reader_to_workers(rt: HostRuntime) {
+    assert!(rt; fault_behind(&rt) == Ok(Some(InputFault::Read)));
 }

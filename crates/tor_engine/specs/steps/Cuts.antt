@@ -12,9 +12,10 @@ use Rattle.tor_tree.specs.declared.kinds.Kind.TheVariants.{V1, V2, Hybrid}
 use Rattle.tor_v1.specs.Entries.{padding_length}
 use Rattle.tor_v1.specs.Piece.{piece_sums, pieces_of, zeros}
 use Rattle.tor_engine.specs.Shares.{bare_node, node_in}
-use Rattle.tor_engine.specs.Streams.{GiveContents}
 use Rattle.tor_engine.specs.UnitNodes.{Node, node_over}
 use Rattle.tor_engine.specs.declared.cutter.Cutter.{Cutter}
+use Rattle.tor_engine.specs.declared.cutter.Stop.{Stop}
+use Rattle.tor_engine.specs.declared.cutter.Stop.TheVariants.{Read, Refused, TooLong}
 use Rattle.tor_engine.specs.declared.unit_sums.UnitSums.{UnitSums}
 
 -- the bytes of a chunk, and how many zeros follow them
@@ -111,7 +112,7 @@ pub record IsCutOff (kind : Kind) (piece_length size : ℕ) (contents : List (Li
 -- one chunk more was cut, of what waited; no zeros are known to follow it
 pub record CutsMore (old new : Cutter) : Type 0 where
   pub filled : new.filled ≡ 0
-  pub buffer : new.buffer ≡ old.buffer
+  pub buffer : vec_len new.buffer ≡ vec_len old.buffer
   pub cuts : map cut_of (put_by new.feeder) ++ cuts_held new.held new.zeros
       ≡ (map cut_of (put_by old.feeder) ++ cuts_held old.held old.zeros)
       ++ (take old.filled old.buffer.items, 0) ∷ []
@@ -119,6 +120,12 @@ pub record CutsMore (old new : Cutter) : Type 0 where
       ≡ (units_of (put_by old.feeder) ++ units_held old.held) ++ old.next ∷ []
   pub next : new.next ≡ old.next + 1
   pub begun : new.held ≡ None → put_by new.feeder ≡ []
+
+-- what came of a reader that was not read to its end
+abbrev pub EndsReading : ℕ → Stop → List ℕ → Type 0
+EndsReading limit (Read start fault) bytes = (length bytes ≡ start) × (length bytes ≤ limit)
+EndsReading limit TooLong bytes = limit < length bytes
+EndsReading limit Refused bytes = length bytes ≤ limit
 
 -- what was held was put, with so many zeros after it
 pub record PutsHeld (count : ℕ) (old new : Cutter) : Type 0 where
@@ -134,11 +141,9 @@ pub record HasPut (kind : Kind) (piece_length size : ℕ) (contents : List (List
   pub cuts : map cut_of put ≡ stream_cuts kind piece_length size contents
   pub units : units_of put ≡ range_with_len 0 (length put)
 
--- the readers gave their contents, and these were cut and put
-pub record PutsContents (kind : Kind) (piece_length size : ℕ) (known : List (Option (List ℕ))) (lengths : List ℕ)
+-- the contents have these lengths, none too long, and were cut and put
+pub record PutsContents (kind : Kind) (piece_length size : ℕ) (contents : List (List ℕ)) (lengths : List ℕ)
     (put : List Chunk) : Type 0 where
-  pub contents : List (List ℕ)
-  pub given : GiveContents known contents
   pub small : AllByRecursion (λ content. length content ≤ MAX_LENGTH) contents
   pub counted : map length contents ≡ lengths
   pub cut : HasPut kind piece_length size contents put

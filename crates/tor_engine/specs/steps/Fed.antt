@@ -1,16 +1,27 @@
 -- What the threads of a lane leave. Only private clauses cite these.
-use Rattle.std.specs.Prelude.{ℕ, List, Option, IfErr, IfOk}
+use Rattle.std.specs.Prelude.{◌≡◌, [], ◌∷◌, ℕ, List, IfErr, IfOk, Option}
 use Rattle.tor_lane.specs.Lane.{IsEnded, put_by}
+use Rattle.tor_source.specs.Input.{EndsInput, ReadsAll, ReadsSome}
+use Rattle.tor_source.specs.declared.input.InputFault.{InputFault}
+use Rattle.tor_source.specs.declared.input.TheConstants.{MAX_INPUT_LENGTH}
 use Rattle.tor_tree.specs.declared.kinds.Kind.{Kind}
-use Rattle.tor_engine.specs.Streams.{IsFaultOfReaders}
-use Rattle.tor_engine.specs.declared.streams.Fed.{Fed}
+use Rattle.tor_engine.specs.declared.feeding.Fed.{Fed}
 use Rattle.tor_engine.specs.steps.Cuts.{PutsContents}
 use Rattle.tor_engine.specs.steps.StreamWorkers.{AreDone}
 
--- all workers are done, and all that was read was put, or a reader had a fault
-pub record IsFed (kind : Kind) (piece_length size : ℕ) (known : List (Option (List ℕ))) (fed : Fed) : Type 0 where
+-- a reader gave this one content, within the limit of an input, and has no more
+abbrev pub GivesInput : Option (List ℕ) → Option (List ℕ) → List (List ℕ) → Type 0
+GivesInput old new contents = (content : List ℕ) × (contents ≡ content ∷ []) × ReadsAll old new content
+
+-- it was read until this fault
+abbrev pub StopsInput : Option (List ℕ) → Option (List ℕ) → InputFault → Type 0
+StopsInput old new fault = ReadsSome old new (EndsInput MAX_INPUT_LENGTH fault)
+
+-- all workers are done, and contents of which this holds were put, or what was read ended in such a fault
+pub record IsFed {F : Type 0} (kind : Kind) (piece_length size : ℕ) (Gives : List (List ℕ) → Type 0)
+    (Stops : F → Type 0) (fed : Fed F) : Type 0 where
   pub done : AreDone kind piece_length fed.feeder fed.workers.items
   pub ended : IsEnded fed.feeder
-  pub put : IfOk fed.read (λ lengths.
-      PutsContents kind piece_length size known lengths.items (put_by fed.feeder))
-  pub fault : IfErr fed.read (IsFaultOfReaders known)
+  pub put : IfOk fed.read (λ lengths. (contents : List (List ℕ)) × Gives contents
+      × PutsContents kind piece_length size contents lengths.items (put_by fed.feeder))
+  pub stopped : IfErr fed.read Stops

@@ -17,5 +17,5 @@ pub returns-clause-gave : goal.returns-clause-gave
 returns-clause-gave g c =
     let readers = c.in_ok-readers.readers in
     stream_fault _ (length c.args.found.now.paths.items)
-    (length-map readers.items _ ∙ sym readers.ok.0 ∙ c.in_ok-readers.ensures ∙ c.requires)
+    (length-map readers.items _ ∙ sym readers.ok.0 ∙ c.in_ok-readers.ensures.count ∙ c.requires)
     c.make_streams-answer.result c.make_streams-answer.ensures.gave

@@ -40,30 +40,17 @@ workers-preserved c =
           );
     }
 
-pub returns-clause-takers : goal.returns-clause-takers
-returns-clause-takers c = λ kind p feeder all.
+pub returns : goal.returns
+returns c = λ kind p feeder are.
     let before = c.workers.invariant in
     let empty : into_iter_items c.workers.worker-iterator ≡ [] =
     nil_from_length _ (sym before.left ∙ c.in-None.ensures.steps.0) in
     let whole : c.workers.yielded ≡ c.args.workers.items =
     sym (append-nil c.workers.yielded) ∙ ap (λ xs. c.workers.yielded ++ xs) (sym empty) ∙ before.items in
-    All-from_recursion _ _ (before.done kind p feeder
-    (subst (λ ws. AllByRecursion (IsDoneOf kind p feeder) ws) (sym whole) all)).0
-
-pub returns-clause-all : goal.returns-clause-all
-returns-clause-all c =
-    let before = c.workers.invariant in
-    let empty : into_iter_items c.workers.worker-iterator ≡ [] =
-    nil_from_length _ (sym before.left ∙ c.in-None.ensures.steps.0) in
-    let whole : c.workers.yielded ≡ c.args.workers.items =
-    sym (append-nil c.workers.yielded) ∙ ap (λ xs. c.workers.yielded ++ xs) (sym empty) ∙ before.items in
-    c.workers.takers.ok.0 ∙ before.count ∙ ap length whole ∙ sym c.args.workers.ok.0
-
-pub returns-clause-sums : goal.returns-clause-sums
-returns-clause-sums c = λ kind p feeder all.
-    let before = c.workers.invariant in
-    let empty : into_iter_items c.workers.worker-iterator ≡ [] =
-    nil_from_length _ (sym before.left ∙ c.in-None.ensures.steps.0) in
-    let whole : c.workers.yielded ≡ c.args.workers.items =
-    sym (append-nil c.workers.yielded) ∙ ap (λ xs. c.workers.yielded ++ xs) (sym empty) ∙ before.items in
-    (before.done kind p feeder (subst (λ ws. AllByRecursion (IsDoneOf kind p feeder) ws) (sym whole) all)).1
+    let done = before.done kind p feeder
+    (subst (λ ws. AllByRecursion (IsDoneOf kind p feeder) ws) (sym whole) are.each) in
+    record {
+      each = All-from_recursion _ _ done.0;
+      all = before.count ∙ ap length whole ∙ are.all;
+      summed = done.1;
+    }

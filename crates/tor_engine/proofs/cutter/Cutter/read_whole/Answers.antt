@@ -1,9 +1,11 @@
 -- the reader's content is what came until it was at its end
-use Rattle.std.proofs.Common.{◌≡◌, ◌+◌, ◌++◌, ◌≤◌, ◌<◌, ◌^◌, ℕ, List, [], Option, arith, refl, ap, sym, ◌∙◌, subst}
+use Rattle.std.proofs.Common.{◌≡◌, ◌+◌, ◌-◌, ◌++◌, ◌≤◌, ◌<◌, ◌^◌, ℕ, List, [], Option, arith, refl, ap, sym, ◌∙◌, subst}
 use Rattle.std.proofs.Common.{length}
 use Rattle.std.proofs.Common.{length-append, vec_len}
 use Rattle.std.specs.Io.KnownBytes.{Consumes}
 use Rattle.std.proofs.KnownBytes.{Consumes-nil, Consumes-trans}
+use Rattle.std.proofs.lemmas.Result.{err_from_is_err_and}
+use Rattle.tor_engine.specs.steps.Cuts.{EndsReading}
 use Rattle.tor_engine.proofs.Cutting.{bytes_came, cut_whole, lanes_join}
 use Rattle.tor_engine.proofs.cutter.Cutter.read_whole.Goals as goal
 
@@ -13,20 +15,35 @@ chunks-init g c =
       bytes = [];
       counted = refl;
       small = omega arith;
-      came = Consumes-nil (g.R.Read.remaining c.args.reader);
+      came = Consumes-nil (g.R.Read.remaining c.args.reader.now);
       room = omega (arith, ready.room, ready.has.buffer);
       cut = λ size contents some has. has;
       lane = (refl, refl);
       opened = ready.has.opened;
     }
 
-pub returns-in-Err-clause-fault : goal.returns-in-Err-clause-fault
-returns-in-Err-clause-fault g c = λ known there is.
+pub stopped-requires : goal.stopped-requires
+stopped-requires g c =
+    let more = c.in-Err.ensures.fault in
+    (
+      c.args.limit - c.chunks.count,
+      more.0,
+      omega (arith, c.chunks.invariant.small, c.requires.small),
+      more.2,
+    )
+
+pub returns-in-Err-clause-stopped : goal.returns-in-Err-clause-stopped
+returns-in-Err-clause-stopped g c =
     let remaining = g.R.Read.remaining in
     let before = c.chunks.invariant in
-    c.error_of.ensures known before.bytes (remaining c.chunks.reader) (remaining c.fill.new.reader) there before.counted
-    (subst (λ (k : Option (List ℕ)). Consumes k (remaining c.chunks.reader) before.bytes) (sym is) before.came)
-    c.in-Err.ensures.fault
+    let more = c.in-Err.ensures.fault in
+    let room : c.chunks.count + (c.args.limit - c.chunks.count) ≡ c.args.limit = omega (arith, before.small) in (
+      before.bytes ++ more.0,
+      Consumes-trans (remaining c.args.reader.now) (remaining c.chunks.reader) (remaining c.fill.new.reader)
+          before.bytes more.0 before.came more.1,
+      subst (λ (n : ℕ). EndsReading n c.stopped.result (before.bytes ++ more.0)) room
+          (c.stopped.ensures (c.args.limit - c.chunks.count) before.bytes more.0 before.counted more.2),
+    )
 
 pub returns-then-self-len-clause-read : goal.returns-then-self-len-clause-read
 returns-then-self-len-clause-read g c =
@@ -36,12 +53,11 @@ returns-then-self-len-clause-read g c =
     let kept = c.fill.ensures.kept in
     let long = length-append before.bytes came.0 ∙ omega (arith, before.counted, came.2) in (
       before.bytes ++ came.0,
-      (
-        remaining c.fill.new.reader,
-        Consumes-trans (remaining c.args.reader) (remaining c.chunks.reader) (remaining c.fill.new.reader)
-            before.bytes came.0 before.came came.1,
-        c.in-Ok.ensures.end (omega (arith, c.if-self-len.true, c.len.ensures)),
-      ),
+      record {
+        given = Consumes-trans (remaining c.args.reader.now) (remaining c.chunks.reader) (remaining c.fill.new.reader)
+            before.bytes came.0 before.came came.1;
+        end = c.in-Ok.ensures.end (omega (arith, c.if-self-len.true, c.len.ensures));
+      },
       long,
       omega (arith, came.3, before.small),
       λ size contents some ready.
@@ -49,6 +65,32 @@ returns-then-self-len-clause-read g c =
           (bytes_came c.args.kind c.args.piece_length size some contents before.bytes came.0 c.chunks.self
           c.fill.new.self (before.cut size contents some ready.has) c.fill.ensures.feeder kept.0 kept.1 kept.2 kept.3
           came.5 came.6) long,
+    )
+
+pub returns-in_err-end_content-clause-stopped : goal.returns-in_err-end_content-clause-stopped
+returns-in_err-end_content-clause-stopped g c =
+    let p = err_from_is_err_and c.from_residual.result c.from_residual.ensures.1 in
+    let remaining = g.R.Read.remaining in
+    let before = c.chunks.invariant in
+    let came = c.in-Ok.ensures.came in
+    rw (p.1, p.2) (
+      before.bytes ++ came.0,
+      Consumes-trans (remaining c.args.reader.now) (remaining c.chunks.reader) (remaining c.fill.new.reader)
+          before.bytes came.0 before.came came.1,
+      omega (arith, length-append before.bytes came.0, before.counted, came.2, came.3, before.small),
+    )
+
+pub returns-in_err-cut-clause-stopped : goal.returns-in_err-cut-clause-stopped
+returns-in_err-cut-clause-stopped g c =
+    let p = err_from_is_err_and c.from_residual-in_err-cut.result c.from_residual-in_err-cut.ensures.1 in
+    let remaining = g.R.Read.remaining in
+    let before = c.chunks.invariant in
+    let came = c.in-Ok.ensures.came in
+    rw (p.1, p.2) (
+      before.bytes ++ came.0,
+      Consumes-trans (remaining c.args.reader.now) (remaining c.chunks.reader) (remaining c.fill.new.reader)
+          before.bytes came.0 before.came came.1,
+      omega (arith, length-append before.bytes came.0, before.counted, came.2, came.3, before.small),
     )
 
 pub chunks-preserved : goal.chunks-preserved
@@ -62,9 +104,9 @@ chunks-preserved g c =
       bytes = before.bytes ++ came.0;
       counted = length-append before.bytes came.0 ∙ omega (arith, before.counted, came.2);
       small = omega (arith, came.3, before.small);
-      came = Consumes-trans (remaining c.args.reader) (remaining c.chunks.reader) (remaining c.fill.new.reader)
+      came = Consumes-trans (remaining c.args.reader.now) (remaining c.chunks.reader) (remaining c.fill.new.reader)
           before.bytes came.0 before.came came.1;
-      room = omega (arith, more.filled, ap vec_len more.buffer, kept.3, before.room);
+      room = omega (arith, more.filled, more.buffer, kept.3, before.room);
       cut = λ size contents some has.
           let has_more = bytes_came c.args.kind c.args.piece_length size some contents before.bytes came.0 c.chunks.self
           c.fill.new.self (before.cut size contents some has) c.fill.ensures.feeder kept.0 kept.1 kept.2 kept.3

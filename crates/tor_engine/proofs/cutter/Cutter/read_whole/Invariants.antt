@@ -1,5 +1,5 @@
 -- what came so far of the reader, which is to come to its end
-use Rattle.std.proofs.Common.{◌≡◌, ◌-◌, ◌^◌, ◌<◌, ◌≤◌, ℕ, List, [], length, vec_len}
+use Rattle.std.proofs.Common.{◌≡◌, ◌-◌, ◌<◌, ◌≤◌, ℕ, List, [], length, vec_len}
 use Rattle.std.specs.Io.KnownBytes.{Consumes}
 use Rattle.tor_lane.specs.Lane.{FeedsLaneOf, IsOpen}
 use Rattle.tor_engine.specs.steps.Cuts.{HasCut}
@@ -9,7 +9,7 @@ abbrev pub invariant-chunks : goal.invariant-chunks
 invariant-chunks g l = record {
   bytes : List ℕ;
   counted : length bytes ≡ l.count;
-  small : l.count ≤ 2 ^ 50;
+  small : l.count ≤ l.limit;
   came : Consumes (g.R.Read.remaining l.fn.reader) (g.R.Read.remaining l.reader) bytes;
   room : l.self.filled < vec_len l.self.buffer;
   cut : (size : ℕ) (contents : List (List ℕ)) → 0 < size → HasCut l.kind l.piece_length size contents [] l.fn.self →
@@ -19,4 +19,4 @@ invariant-chunks g l = record {
 }
 
 abbrev pub decreases-chunks : goal.decreases-chunks
-decreases-chunks g l = 2 ^ 50 - l.count
+decreases-chunks g l = l.limit - l.count

@@ -2,7 +2,7 @@ use Rattle.std.proofs.Common.{◌≡◌, ◌∙◌, List, length, ap, subst, sym
 use Rattle.std.specs.List.{AllByRecursion}
 use Rattle.tor_engine.specs.steps.StreamWorkers.{AreDone, IsWorkerOf}
 use Rattle.tor_engine.proofs.StreamWorkers.{written_whole}
-use Rattle.tor_engine.proofs.streams.take_all.Goals as goal
+use Rattle.tor_engine.proofs.feeding.take_all.Goals as goal
 
 pub returns : goal.returns
 returns g c = λ feeder are.

@@ -1,7 +1,6 @@
 -- the contents of all readers
 use Rattle.std.proofs.Common.{◌≡◌, ◌+◌, ◌++◌, ◌∷◌, ◌≤◌, ℕ, List, [], length, map, arith, refl, ap, ap₂, sym, subst, ◌∙◌}
-use Rattle.std.proofs.Common.{rules}
-use Rattle.std.proofs.Common.{◌^◌, append_assoc, append-nil, length-append}
+use Rattle.std.proofs.Common.{◌^◌, append_assoc, append-nil, length-append, rules}
 use Rattle.std.specs.List.{AllByRecursion, AllZip}
 use Rattle.std.specs.Vec.Iter.{into_iter_items}
 use Rattle.std.proofs.lemmas.List.{map-append, nil_from_length, length-map}
@@ -9,8 +8,8 @@ use Rattle.std.proofs.lemmas.Slice.Zip.{AllZip-long}
 use Rattle.tor_engine.specs.Streams.{GivesWhole}
 use Rattle.tor_engine.proofs.Cutting.{lanes_join}
 use Rattle.tor_engine.proofs.StreamWorkers.{all_joined}
-use Rattle.tor_engine.proofs.Readers.{at_number, contents_more}
-use Rattle.tor_engine.proofs.cutter.Cutter.read_all.Goals as goal
+use Rattle.tor_engine.proofs.Readers.{contents_more, read_up_to}
+use Rattle.tor_engine.proofs.text.read_each.Goals as goal
 
 pub readers-init : goal.readers-init
 readers-init g c =
@@ -42,13 +41,13 @@ readers-preserved g c =
       left = let was = before.left in let gone = steps.1 in let short = ap length steps.0 in omega arith;
       contents = before.contents ++ content ∷ [];
       given = contents_more g.R.Read.remaining c.readers.yielded c.in-Some.reader before.contents content before.given
-          read.1;
+          (g.R.Read.remaining c.read_whole.new.reader, read.1.given, read.1.end);
       small = all_joined (λ (one : List ℕ). length one ≤ 2 ^ 50) before.contents (content ∷ []) before.small
           (omega (arith, read.2, read.3), tt);
       counted = map-append length before.contents (content ∷ [])
           ∙ ap₂ (λ xs n. xs ++ n ∷ []) before.counted read.2 ∙ sym c.in_ok-push-in-Ok.ensures.items;
       cut = λ size some is. read.4 size before.contents some (before.cut size some is);
-      lane = lanes_join c.args.self.now.feeder c.readers.self.feeder c.readers.self.feeder
+      lane = lanes_join c.args.cutter.now.feeder c.readers.cutter.feeder c.readers.cutter.feeder
           c.read_whole.new.self.feeder before.lane refl c.read_whole.ensures.lane.0;
       opened = c.read_whole.ensures.lane.1;
     }
@@ -56,14 +55,16 @@ readers-preserved g c =
 pub returns-in-Err-clause-fault : goal.returns-in-Err-clause-fault
 returns-in-Err-clause-fault g c =
     let before = c.readers.invariant in
-    let at = at_number g.R.Read.remaining c.readers.yielded c.in-Some.reader (into_iter_items c.next.new.self)
-    c.args.readers.items (ap (λ xs. c.readers.yielded ++ xs) (sym c.in-Some.ensures.steps.0) ∙ before.items)
-    c.len-file.result
-    (c.len-file.ensures ∙ c.readers.lengths.ok.0 ∙ ap length (sym before.counted)
+    let came = c.in-Err.ensures.stopped in
+    let whole = ap (λ xs. c.readers.yielded ++ xs) (sym c.in-Some.ensures.steps.0) ∙ before.items in
+    let counted = c.len-file.ensures ∙ c.readers.lengths.ok.0 ∙ ap length (sym before.counted)
     ∙ length-map before.contents length
     ∙ AllZip-long GivesWhole (map g.R.Read.remaining c.readers.yielded) before.contents before.given
-    ∙ length-map c.readers.yielded g.R.Read.remaining) in
-    c.in-Err.ensures.fault (map g.R.Read.remaining c.args.readers.items) at.0 at.1
+    ∙ length-map c.readers.yielded g.R.Read.remaining in
+    c.error_of.ensures (map g.R.Read.remaining c.args.readers.items) came.0
+    (read_up_to g.R.Read.remaining c.readers.yielded c.in-Some.reader (into_iter_items c.next.new.self)
+    c.args.readers.items whole c.len-file.result counted before.contents before.given before.small came.0
+    (g.R.Read.remaining c.read_whole.new.reader, came.1)) came.2
 
 pub put_rest-requires-clause-within : goal.put_rest-requires-clause-within
 put_rest-requires-clause-within g c =
@@ -77,12 +78,13 @@ returns-clause-put g c = λ size some ready.
     let empty : into_iter_items c.readers.reader-iterator ≡ [] =
     nil_from_length _ (sym before.left ∙ c.in-None.ensures.steps.0) in
     let all : c.readers.yielded ≡ c.args.readers.items =
-    sym (append-nil c.readers.yielded) ∙ ap (λ xs. c.readers.yielded ++ xs) (sym empty) ∙ before.items in
-    record {
-      contents = before.contents;
-      given = subst (λ rs. AllZip GivesWhole (map g.R.Read.remaining rs) before.contents) all before.given;
-      small = before.small;
-      counted = before.counted;
-      cut = c.in_ok-put_rest.ensures.put c.args.kind c.args.piece_length size before.contents some
-          (before.cut size some ready).has;
-    }
+    sym (append-nil c.readers.yielded) ∙ ap (λ xs. c.readers.yielded ++ xs) (sym empty) ∙ before.items in (
+      before.contents,
+      subst (λ rs. AllZip GivesWhole (map g.R.Read.remaining rs) before.contents) all before.given,
+      record {
+        small = before.small;
+        counted = before.counted;
+        cut = c.in_ok-put_rest.ensures.put c.args.kind c.args.piece_length size before.contents some
+            (before.cut size some ready).has;
+      },
+    )

@@ -5,7 +5,7 @@ use Rattle.std.specs.Vec.Iter.{into_iter_items, into_iter_len}
 use Rattle.tor_lane.specs.Lane.{FeedsLaneOf, IsOpen}
 use Rattle.tor_engine.specs.Streams.{GiveContents}
 use Rattle.tor_engine.specs.steps.Cuts.{IsReady}
-use Rattle.tor_engine.proofs.cutter.Cutter.read_all.Given as goal
+use Rattle.tor_engine.proofs.text.read_each.Given as goal
 
 abbrev pub invariant-readers : goal.invariant-readers
 invariant-readers g l = record {
@@ -15,8 +15,8 @@ invariant-readers g l = record {
   given : GiveContents (map g.R.Read.remaining l.yielded) contents;
   small : AllByRecursion (λ content. length content ≤ 2 ^ 50) contents;
   counted : map length contents ≡ l.lengths.items;
-  cut : (size : ℕ) → 0 < size → IsReady l.kind l.piece_length size [] l.fn.self →
-      IsReady l.kind l.piece_length size contents l.self;
-  lane : FeedsLaneOf l.fn.self.feeder l.self.feeder;
-  opened : IsOpen l.self.feeder;
+  cut : (size : ℕ) → 0 < size → IsReady l.kind l.piece_length size [] l.fn.cutter →
+      IsReady l.kind l.piece_length size contents l.cutter;
+  lane : FeedsLaneOf l.fn.cutter.feeder l.cutter.feeder;
+  opened : IsOpen l.cutter.feeder;
 }
