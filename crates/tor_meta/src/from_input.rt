@@ -67,7 +67,7 @@ pub fn torrent_from<R: io::Read>(
 
 /// The same torrent, while as many workers as the order's `how` says hash what the caller's thread reads. Where a unit
 /// is too long for a stream, the caller's thread hashes too.
-pub fn torrent_by_streams<R: io::Read, T: Threads + Wait + Sync>(
+pub fn torrent_by_streams<R: io::Read, T: Threads + Wait + Sync + Send + Clone + Drop + 'static>(
     rt: &T,
     alloc: Global,
     reader: &mut R,
