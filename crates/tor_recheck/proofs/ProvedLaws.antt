@@ -75,7 +75,7 @@ module _ (view : View) (contents : List (List ℕ)) where
         (unit_is_run contents view.kind p entries one (some_piece view.kind p cut.pieces) cut.entries.laid_out k unit
         lt))
 
-    by_merkle : has_v2 view.kind ≡ true → (is_there contents piece && has_root view contents k piece)
+    pub by_merkle : has_v2 view.kind ≡ true → (is_there contents piece && has_root view contents k piece)
         ≡ get_or (merkle_pieces p view.files contents) k false
     by_merkle two =
         let entries = entries_to_cut view in
