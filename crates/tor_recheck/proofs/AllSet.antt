@@ -1,5 +1,6 @@
 -- A file that is not empty is whole where its pieces hold, and all such files are where all pieces are there and right.
-use Rattle.tor_recheck.proofs.Names.{◌≡◌, ◌↔◌, ℕ, ◌-◌, ◌<◌, ◌≤◌, Bool, true, false, not, ◌&&◌, ◌||◌, List, [], length, map}
+use Rattle.tor_recheck.proofs.Names.{◌≡◌, ◌↔◌, ℕ, ◌-◌, ◌<◌, ◌≤◌, Bool, true, false, not, ◌&&◌, ◌||◌, List, [], length}
+use Rattle.tor_recheck.proofs.Names.{map}
 use Rattle.tor_recheck.proofs.Names.{get_or, Option, None, Some, refl, ap, subst, sym, ◌∙◌, arith, inl, inr, option_map}
 use Rattle.tor_recheck.proofs.Names.{unwrap_or, and_parts, cases_Bool, cond-false, cond-true}
 use Rattle.tor_recheck.proofs.Names.{get_or-map, get_or-map-range_with_len, bytes_eq, run_at, file_spans, found_at}
@@ -89,8 +90,11 @@ module _ (view : View) (files : List (Option (List ℕ))) (cut : IsCut view) whe
         λ all.
             let enough : span.length ≤ length (unwrap_or file []) =
             subst (λ (bytes : List ℕ). span.length ≤ length bytes) content (bytes_are_there view there cut i all) in
-            both.1 (subst (λ (one : Option ℕ). AreThere one span.length) (sym size)
-            (there_of file span.length filled enough), all),
+            both.1 (
+              subst (λ (one : Option ℕ). AreThere one span.length) (sym size)
+                  (there_of file span.length filled enough),
+              all,
+            ),
       )
 
   pub all_are_whole : ((k : ℕ) → k < view.piece_count → get_or (verified_pieces view there) k false ≡ true)

@@ -9,9 +9,6 @@ use Rattle.tor_recheck.specs.declared.files.FileState.TheVariants as state
 
 -- ---- bits that are set
 
-bit_value : Bool → ℕ
-bit_value bit = cond bit 1 0
-
 one_more : (bit : Bool) (bits : List Bool) → set_count (bit ∷ bits) ≡ cond bit 1 0 + set_count bits
 one_more bit bits = sum_by-cons (λ (one : Bool). cond one 1 0) bit bits
 
@@ -95,7 +92,7 @@ module _ (held : List Bool) (span : FileSpan) where
         omega arith,
         omega (arith, below),
         sym (get_or-map-range_with_len (λ n. get_or held n false) span.first (span.after - span.first) one.at
-        (span.first + one.at) false below (omega arith)) ∙ one.unset,
+            (span.first + one.at) false below (omega arith)) ∙ one.unset,
       )
 
   pub less_where_fails : OneFails held span → set_count bits < span.after - span.first

@@ -164,8 +164,14 @@ module _ (p : ℕ) (some : 0 < p) where
               (omega (arith, length-file m content, filled))
               ∙ last_is_none m content less in
               let within : start + m - 1 < length found =
-              omega (arith, length-append before (file_bytes m content ++ rest),
-              length-append (file_bytes m content) rest, length-file m content, long, filled) in
+              omega (
+                arith,
+                length-append before (file_bytes m content ++ rest),
+                length-append (file_bytes m content) rest,
+                length-file m content,
+                long,
+                filled,
+              ) in
               absurd (false≢true (sym (lacks_one found last.at (start + m - 1) (omega (arith, last.begun, filled))
               (omega (arith, last.ended, filled)) within none) ∙ whole))
           | inr enough ↦ enough
@@ -198,25 +204,26 @@ module _ (p : ℕ) (some : 0 < p) where
       (moved before here (joined_bytes entries contents) (get_or (joined_spans p (start + m) entries) i no_span)
       whole))
       (λ path m whole. file_or_later m i (there_in_entries entries) whole) entry all where
-    length-zeros : (m : ℕ) → length (map Some (zeros m)) ≡ m
-    length-zeros m = length-map (replicate m 0) Some ∙ length-replicate m 0
-    file_or_later : (m i : ℕ) → ((contents : List (List ℕ)) (before : Found) (start i : ℕ) → length before ≡ start
-        → AreWhole (λ k. is_whole (run_at p (before ++ joined_bytes entries contents) k))
-        (get_or (joined_spans p start entries) i no_span)
-        → (get_or (joined_spans p start entries) i no_span).length ≤ length (get_or contents i []))
-        → AreWhole (λ k. is_whole (run_at p (before ++ (file_bytes m (get_or contents 0 [])
-        ++ joined_bytes entries (drop 1 contents))) k))
-        (get_or (joined_span p start m ∷ joined_spans p (start + m) entries) i no_span)
-        → (get_or (joined_span p start m ∷ joined_spans p (start + m) entries) i no_span).length
-        ≤ length (get_or contents i [])
-    file_or_later m zero later whole =
-        first_in_entries before (joined_bytes entries (drop 1 contents)) start m (get_or contents 0 []) long whole
-    file_or_later m (suc i) later whole =
-        let here = file_bytes m (get_or contents 0 []) in
-        subst (λ content. (get_or (joined_spans p (start + m) entries) i no_span).length ≤ length content)
-        (get_or-drop 1 contents i [] ∙ ap (λ n. get_or contents n []) (let e : 1 + i ≡ suc i = omega arith in e))
-        (later (drop 1 contents) (before ++ here) (start + m) i
-        (length-append before here ∙ ap (λ n. length before + n) (length-file m (get_or contents 0 []))
-        ∙ ap (λ n. n + m) long)
-        (moved before here (joined_bytes entries (drop 1 contents))
-        (get_or (joined_spans p (start + m) entries) i no_span) whole))
+        length-zeros : (m : ℕ) → length (map Some (zeros m)) ≡ m
+        length-zeros m = length-map (replicate m 0) Some ∙ length-replicate m 0
+
+        file_or_later : (m i : ℕ) → ((contents : List (List ℕ)) (before : Found) (start i : ℕ) → length before ≡ start
+            → AreWhole (λ k. is_whole (run_at p (before ++ joined_bytes entries contents) k))
+            (get_or (joined_spans p start entries) i no_span)
+            → (get_or (joined_spans p start entries) i no_span).length ≤ length (get_or contents i []))
+            → AreWhole (λ k. is_whole (run_at p (before ++ (file_bytes m (get_or contents 0 [])
+            ++ joined_bytes entries (drop 1 contents))) k))
+            (get_or (joined_span p start m ∷ joined_spans p (start + m) entries) i no_span)
+            → (get_or (joined_span p start m ∷ joined_spans p (start + m) entries) i no_span).length
+            ≤ length (get_or contents i [])
+        file_or_later m zero later whole =
+            first_in_entries before (joined_bytes entries (drop 1 contents)) start m (get_or contents 0 []) long whole
+        file_or_later m (suc i) later whole =
+            let here = file_bytes m (get_or contents 0 []) in
+            subst (λ content. (get_or (joined_spans p (start + m) entries) i no_span).length ≤ length content)
+            (get_or-drop 1 contents i [] ∙ ap (λ n. get_or contents n []) (let e : 1 + i ≡ suc i = omega arith in e))
+            (later (drop 1 contents) (before ++ here) (start + m) i
+            (length-append before here ∙ ap (λ n. length before + n) (length-file m (get_or contents 0 []))
+            ∙ ap (λ n. n + m) long)
+            (moved before here (joined_bytes entries (drop 1 contents))
+            (get_or (joined_spans p (start + m) entries) i no_span) whole))

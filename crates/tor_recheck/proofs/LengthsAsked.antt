@@ -3,7 +3,7 @@ use Rattle.tor_recheck.proofs.Names.{◌≡◌, ℕ, zero, suc, ◌+◌, ◌<◌
 use Rattle.tor_recheck.proofs.Names.{Some, arith, refl, ap, ap₂, sym, subst, ◌∙◌, inl, inr, zero-add, cases_lt}
 use Rattle.tor_recheck.proofs.Names.{option_map, get_or_append_left, get_or_push, length_push, map-range_with_len_more}
 use Rattle.tor_recheck.proofs.Names.{range_with_len, option_or, first_asked_fault, first_of, asked_fault, lengths_told}
-use Rattle.tor_recheck.proofs.Names.{HasTold, EngineError, Read, first_fault, of_engine_error, SourceFacts, told_length}
+use Rattle.tor_recheck.proofs.Names.{HasTold, Read, SourceFacts, told_length}
 use Rattle.tor_recheck.proofs.Names.{unless_fault, View, Bool, map, length-map, length-map-range_with_len}
 use Rattle.tor_recheck.proofs.Names.{get_or-map-range_with_len, FileFound, file_spans, files_found, found_at}
 use Rattle.std.proofs.lemmas.List as lists
@@ -43,14 +43,6 @@ module _ {F : Type 0} (facts : SourceFacts F) where
       (ap (asked_fault facts) (let e : file ≡ 0 + file = omega arith in e)
       ∙ none_at (asked_fault facts) 0 count file lt none)
 
-  unmapped : (o : Option (EngineError F)) → option_map of_engine_error o ≡ None → o ≡ None
-  unmapped None none = refl
-  unmapped (Some error) none = cc
-
-  -- where a recheck meets no fault, no length fails
-  pub none_asked : (view : View) → first_fault facts view ≡ None → first_asked_fault facts (length view.files) ≡ None
-  none_asked view none = (neither _ _ (unmapped _ none)).0
-
   -- ---- one more
 
   told_is : (o : Option F) (size told : Option ℕ) → unless_fault o size ≡ Ok told → told ≡ size
@@ -76,8 +68,8 @@ has_told_more told sizes size before one file lt = elim (cases_lt file (length s
 ]
 
 -- what is told of the files has these lengths
-pub lengths_kept : (view : View) (lengths : List (Option ℕ)) (held : List Bool) → length lengths ≡ length (file_spans view)
-    → map (λ file. file.there) (files_found view lengths held) ≡ lengths
+pub lengths_kept : (view : View) (lengths : List (Option ℕ)) (held : List Bool)
+    → length lengths ≡ length (file_spans view) → map (λ file. file.there) (files_found view lengths held) ≡ lengths
 lengths_kept view lengths held same =
     let found = found_at (file_spans view) lengths held in
     let n = length (file_spans view) in

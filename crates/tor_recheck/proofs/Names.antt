@@ -1,7 +1,8 @@
 -- The names that the proofs cite, passed on from one place. Declares nothing.
 pub use Rattle.std.proofs.Common.{Bool, IfOk, List, None, Option, Some, [], add-one, ap, append-nil, append_assoc, ap₂}
 pub use Rattle.std.proofs.Common.{arith, bit_or, codes, cond, drop, eqb, false, find, get_or, inl, inr, is_some, leb}
-pub use Rattle.std.proofs.Common.{length, length-append, length-drop, lit<, ltb, map, max, min, mul-le-mul_right, nat_le}
+pub use Rattle.std.proofs.Common.{length, length-append, length-drop, lit<, ltb, map, max, min, mul-le-mul_right}
+pub use Rattle.std.proofs.Common.{nat_le}
 pub use Rattle.std.proofs.Common.{nat_lt, negsuc, not, option_map, pos, refl, replicate, reverse, subst, suc, sum}
 pub use Rattle.std.proofs.Common.{sum_by, sym, take, true, unsigned_abs, unwrap_or, w8, zero, zero-add, ℕ, ℤ, ◌%◌, ◌&&◌}
 pub use Rattle.std.proofs.Common.{◌*◌, ◌++◌, ◌+◌, ◌-◌, ◌/◌, ◌<◌, ◌==◌, ◌^◌, ◌||◌, ◌↔◌, ◌∙◌, ◌∷◌, ◌≡◌, ◌≢◌, ◌≤◌, ◌⊎◌}
@@ -43,7 +44,8 @@ pub use Rattle.tor_check.specs.ValidViews.{IsViewOfValid}
 pub use Rattle.tor_engine.specs.Contents.{contents_in}
 unfoldable pub use Rattle.tor_engine.specs.Fault.{first_of}
 pub use Rattle.tor_engine.specs.Given.{HasTold, IsGivenPieces}
-pub use Rattle.tor_engine.specs.PieceFault.{asked_fault, first_asked_fault, first_piece_fault, lengths_told, pieces_fault}
+pub use Rattle.tor_engine.specs.PieceFault.{asked_fault, first_asked_fault, first_piece_fault, lengths_told}
+pub use Rattle.tor_engine.specs.PieceFault.{pieces_fault}
 pub use Rattle.tor_engine.specs.PieceHashes.{hash_if_there, piece_hash, piece_hashes, pieces_of_plan}
 pub use Rattle.tor_engine.specs.declared.errors.EngineError.{EngineError}
 pub use Rattle.tor_engine.specs.declared.errors.EngineError.TheVariants.{Changed, Missing, Read, Resources}
@@ -78,7 +80,6 @@ pub use Rattle.tor_recheck.specs.Pieces.{told_hashes}
 unfoldable pub use Rattle.tor_recheck.specs.Pieces.{right_pieces}
 pub use Rattle.tor_recheck.specs.Recheck.{IsFault, IsGiven, first_fault, of_engine_error}
 pub use Rattle.tor_recheck.specs.declared.files.FileFound.{FileFound}
-pub use Rattle.tor_recheck.specs.declared.files.FileState.{FileState}
 pub use Rattle.tor_recheck.specs.declared.files.FileState.TheVariants.{Bad, Short, Whole}
 pub use Rattle.tor_recheck.specs.declared.spans.FileSpan.{FileSpan}
 pub use Rattle.tor_recheck.specs.steps.Hashes.{hashes_in}

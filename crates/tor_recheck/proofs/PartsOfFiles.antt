@@ -64,23 +64,23 @@ module _ (p k : ℕ) (some : 0 < p) where
       ≡ in_span (get_or (joined_spans p at (e ∷ entries)) j no_span) k)
       (λ path m. joined_have entries index (at + m) j)
       (λ path m. of_file m j (λ i. joined_have entries (index + 1) (at + m) i)) entry where
-    of_file : (m j : ℕ) → ((i : ℕ) → has_bytes_of (index + 1 + i) (unit (index + 1) (at + m) entries)
-        ≡ in_span (get_or (joined_spans p (at + m) entries) i no_span) k)
-        → has_bytes_of (index + j) (perhaps_part (nat_lt 0 (shared (k * p) ((k + 1) * p) at m)) index
-        (max (k * p) at - at) (shared (k * p) ((k + 1) * p) at m) (unit (index + 1) (at + m) entries))
-        ≡ in_span (get_or (joined_span p at m ∷ joined_spans p (at + m) entries) j no_span) k
-    of_file m zero later =
-        let n = shared (k * p) ((k + 1) * p) at m in
-        part_of_this (nat_lt 0 n) index (max (k * p) at - at) n (index + 0) (unit (index + 1) (at + m) entries)
-        (omega arith) (none_before entries (index + 1) (at + m) (index + 0) (omega arith))
-        ∙ shares p k some at m
-    of_file m (suc i) later =
-        let n = shared (k * p) ((k + 1) * p) at m in
-        part_of_other (nat_lt 0 n) index (max (k * p) at - at) n (index + suc i) (unit (index + 1) (at + m) entries)
-        (λ same. omega (arith, same))
-        ∙ ap (λ (other : ℕ). has_bytes_of other (unit (index + 1) (at + m) entries))
-        (let e : index + suc i ≡ index + 1 + i = omega arith in e)
-        ∙ later i
+        of_file : (m j : ℕ) → ((i : ℕ) → has_bytes_of (index + 1 + i) (unit (index + 1) (at + m) entries)
+            ≡ in_span (get_or (joined_spans p (at + m) entries) i no_span) k)
+            → has_bytes_of (index + j) (perhaps_part (nat_lt 0 (shared (k * p) ((k + 1) * p) at m)) index
+            (max (k * p) at - at) (shared (k * p) ((k + 1) * p) at m) (unit (index + 1) (at + m) entries))
+            ≡ in_span (get_or (joined_span p at m ∷ joined_spans p (at + m) entries) j no_span) k
+        of_file m zero later =
+            let n = shared (k * p) ((k + 1) * p) at m in
+            part_of_this (nat_lt 0 n) index (max (k * p) at - at) n (index + 0) (unit (index + 1) (at + m) entries)
+            (omega arith) (none_before entries (index + 1) (at + m) (index + 0) (omega arith))
+            ∙ shares p k some at m
+        of_file m (suc i) later =
+            let n = shared (k * p) ((k + 1) * p) at m in
+            part_of_other (nat_lt 0 n) index (max (k * p) at - at) n (index + suc i) (unit (index + 1) (at + m) entries)
+            (λ same. omega (arith, same))
+            ∙ ap (λ (other : ℕ). has_bytes_of other (unit (index + 1) (at + m) entries))
+            (let e : index + suc i ≡ index + 1 + i = omega arith in e)
+            ∙ later i
 
 -- ---- units of files that are cut each by itself
 
@@ -175,17 +175,17 @@ module _ (p : ℕ) (some : 0 < p) where
       → HasEach index first (e ∷ entries) files)
       (λ path m same. apart_have entries files index first same)
       (λ path m same. by_files path m files same (apart_have entries)) entry lengths where
-    by_files : (path : Path) (m : ℕ) (some_files : List FileView)
-        → m ∷ lengths_of_entries entries ≡ map length_of some_files
-        → ((later : List FileView) (index first : ℕ) → lengths_of_entries entries ≡ map length_of later
-        → HasEach index first entries later)
-        → HasEach index first (file path m ∷ entries) some_files
-    by_files path m [] same rest = cc
-    by_files path m (told ∷ later) same rest =
-        let long : m ≡ length_of told = cc in
-        let others : lengths_of_entries entries ≡ map length_of later = cc in
-        of_file index first m path entries told later long
-        (rest later (index + 1) (first + pieces_in p (length_of told)) others)
+        by_files : (path : Path) (m : ℕ) (some_files : List FileView)
+            → m ∷ lengths_of_entries entries ≡ map length_of some_files
+            → ((later : List FileView) (index first : ℕ) → lengths_of_entries entries ≡ map length_of later
+            → HasEach index first entries later)
+            → HasEach index first (file path m ∷ entries) some_files
+        by_files path m [] same rest = cc
+        by_files path m (told ∷ later) same rest =
+            let long : m ≡ length_of told = cc in
+            let others : lengths_of_entries entries ≡ map length_of later = cc in
+            of_file index first m path entries told later long
+            (rest later (index + 1) (first + pieces_in p (length_of told)) others)
 
 -- ---- all pieces
 

@@ -114,10 +114,11 @@ within_tree p first (told ∷ files) i =
     (λ k. subst (λ n. (get_or (tree_spans p after files) k no_span).after ≤ n)
     (same first (pieces_in p (length_of told)) (count_of_files p files) (count_of_files p (told ∷ files)) all)
     (within_tree p after files k)) i where
-  add : (a b c d : ℕ) → d ≡ b + c → a + b ≤ a + d
-  add a b c d all = omega (arith, all)
-  same : (a b c d : ℕ) → d ≡ b + c → a + b + c ≡ a + d
-  same a b c d all = omega (arith, all)
+      add : (a b c d : ℕ) → d ≡ b + c → a + b ≤ a + d
+      add a b c d all = omega (arith, all)
+
+      same : (a b c d : ℕ) → d ≡ b + c → a + b + c ≡ a + d
+      same a b c d all = omega (arith, all)
 
 within_span : (p start n total : ℕ) → 0 < p → start + n ≤ total → (joined_span p start n).after ≤ div_ceil total p
 within_span p start n total some le = elim (cases_lt 0 n) [

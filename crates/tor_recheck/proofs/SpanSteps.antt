@@ -39,8 +39,8 @@ joined_step p start i entries entry done more all lt here before is =
 
 pub tree_step : (p first i : ℕ) (files : List FileView) (told : FileView) (done more all : List FileSpan)
     → i < length files → told ≡ get_or files i told → done ++ tree_spans p first (drop i files) ≡ all
-    → more ≡ done ++ record { length = length_of told; first = first; after = first + pieces_in p (length_of told) } ∷ []
-    → more ++ tree_spans p (first + pieces_in p (length_of told)) (drop (i + 1) files) ≡ all
+    → more ≡ done
+    ++ record { length = length_of told; first = first; after = first + pieces_in p (length_of told) } ∷ [] → more ++ tree_spans p (first + pieces_in p (length_of told)) (drop (i + 1) files) ≡ all
 tree_step p first i files told done more all lt here before is =
     let after = first + pieces_in p (length_of told) in
     let rest = tree_spans p after (drop (i + 1) files) in
@@ -71,8 +71,8 @@ pieces_left p first i total files told lt here before =
     ∙ sum_by-cons (λ (one : FileView). pieces_in p one.file.length) told (drop (i + 1) files) in
     add_left first (pieces_in p (length_of told)) (count_of_files p (drop (i + 1) files)) total
     (count_of_files p (drop i files)) before left where
-  add_left : (a b c d e : ℕ) → a + e ≡ d → e ≡ b + c → a + b + c ≡ d
-  add_left a b c d e whole parts = omega (arith, whole, parts)
+      add_left : (a b c d e : ℕ) → a + e ≡ d → e ≡ b + c → a + b + c ≡ d
+      add_left a b c d e whole parts = omega (arith, whole, parts)
 
 -- ---- how many there are
 
@@ -125,8 +125,8 @@ few_pieces p some (told ∷ files) =
     let bytes = sum_by-cons (λ (m : ℕ). m) (length_of told) (map length_of files) in
     both (pieces_in p (length_of told)) (length_of told) (count_of_files p files) (sum (map length_of files))
     _ _ pieces bytes (few_runs (length_of told) p some) (few_pieces p some files) where
-  both : (a b c d x y : ℕ) → x ≡ a + c → y ≡ b + d → a ≤ b → c ≤ d → x ≤ y
-  both a b c d x y one other le more = omega (arith, one, other, le, more)
+      both : (a b c d x y : ℕ) → x ≡ a + c → y ≡ b + d → a ≤ b → c ≤ d → x ≤ y
+      both a b c d x y one other le more = omega (arith, one, other, le, more)
 
 bytes_of_files : (entries : List Entry) → sum (lengths_of_entries entries) ≤ entries_length entries
 bytes_of_files [] = omega arith
@@ -143,8 +143,13 @@ bytes_of_files (entry ∷ entries) =
 pub few_of_cut : (view : View) → IsCut view → count_of_files view.piece_length view.files ≤ MAX_TOTAL
 few_of_cut view cut =
     let entries = entries_to_cut view in
-    omega (arith, few_pieces view.piece_length (some_piece view.kind view.piece_length cut.pieces) view.files,
-    ap sum (same_lengths view cut), bytes_of_files entries, cut.entries.total)
+    omega (
+      arith,
+      few_pieces view.piece_length (some_piece view.kind view.piece_length cut.pieces) view.files,
+      ap sum (same_lengths view cut),
+      bytes_of_files entries,
+      cut.entries.total,
+    )
 
 pub total_of_cut : (view : View) → IsCut view → has_v2 view.kind ≡ false → entries_length view.entries ≤ MAX_TOTAL
 total_of_cut view cut none =

@@ -1,6 +1,7 @@
 -- What a torrent describes of which no condition holds can be cut.
 use Rattle.tor_recheck.proofs.Names.{◌≡◌, ℕ, ◌+◌, true, false, ◌&&◌, ◌==◌, List, [], ◌∷◌, map, sum_by, None, refl, ap}
-use Rattle.tor_recheck.proofs.Names.{ap₂, cond, codes, ◌∙◌, subst, sym, unwrap_or, IsViewOfValid, div_ceil, and_parts, eqb-true, not-false}
+use Rattle.tor_recheck.proofs.Names.{ap₂, cond, codes, ◌∙◌, subst, sym, unwrap_or, IsViewOfValid, div_ceil, and_parts}
+use Rattle.tor_recheck.proofs.Names.{eqb-true, not-false}
 use Rattle.tor_recheck.proofs.Names.{or_parts, sum_by-cons, Data, span_of, IsLaidOut, IsCut, refusal_of, pieces_in}
 use Rattle.tor_recheck.proofs.Names.{listed_files, ListedFile, side_files, side_piece_count, info_of, is_private}
 use Rattle.tor_recheck.proofs.Names.{kind_of, name_of, part, piece_length_of, text_of, files_differ, has_wrong_tail}

@@ -14,7 +14,8 @@ files-preserved c =
     ∙ ap₂ (λ files file. files ++ file ∷ []) c.files.invariant
     (c.file_found.ensures
     ∙ ap₂ (λ all there. file_found held (get_or all i no_span) there) spans c.length_at.ensures)
-    ∙ sym (map-range_with_len_more (found_at (file_spans c.args.torrent.now) c.args.lengths.now held) 0 i i (zero-add i))
+    ∙ sym (map-range_with_len_more (found_at (file_spans c.args.torrent.now) c.args.lengths.now held) 0 i i
+    (zero-add i))
 
 pub returns : goal.returns
 returns c =

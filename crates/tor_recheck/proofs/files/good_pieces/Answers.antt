@@ -17,7 +17,8 @@ pieces-preserved c =
     let tested = bit_tested held i c.get.result c.eq.result c.get.ensures c.eq.ensures in
     elim c.if-eq.branch [
       | then-eq w ↦ record {
-        counted = one_piece_more held first i good c.if-eq.good true le before.counted (tested ∙ w.if-eq.true) w.good-is;
+        counted = one_piece_more held first i good c.if-eq.good true le before.counted (tested ∙ w.if-eq.true)
+            w.good-is;
         few = omega (arith, w.good-is, before.few, le);
         within = omega (arith, lt);
       }

@@ -4,4 +4,5 @@ use Rattle.tor_recheck.proofs.laws.empty_files_are_whole.Goals as goal
 
 pub returns : goal.returns
 returns c = λ view lengths held file cut empty.
-    empty_is held (get_or (file_spans view) file no_span) (get_or lengths file None) (empty_has_none view file cut) empty
+    empty_is held (get_or (file_spans view) file no_span) (get_or lengths file None) (empty_has_none view file cut)
+    empty

@@ -1,5 +1,6 @@
 -- one file after the other
-use Rattle.tor_recheck.proofs.Names.{◌∙◌, ◌+◌, ap, arith, inr, length, length_push, subst, sym, List, Option, ℕ, HasTold}
+use Rattle.tor_recheck.proofs.Names.{◌∙◌, ◌+◌, ap, arith, inr, length, length_push, subst, sym, List, Option, ℕ}
+use Rattle.tor_recheck.proofs.Names.{HasTold}
 use Rattle.tor_recheck.proofs.LengthsAsked.{fails_asked, has_told_more, told_more}
 use Rattle.tor_recheck.proofs.lengths.lengths_of.Goals as goal
 

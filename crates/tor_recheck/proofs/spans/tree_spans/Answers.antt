@@ -1,5 +1,6 @@
 -- one file after the other
-use Rattle.tor_recheck.proofs.Names.{◌≡◌, ℕ, ◌+◌, ◌∙◌, ◌∷◌, ◌++◌, [], ap, ap₂, subst, sym, arith, append-nil, drop, drop_all}
+use Rattle.tor_recheck.proofs.Names.{◌≡◌, ℕ, ◌+◌, ◌∙◌, ◌∷◌, ◌++◌, [], ap, ap₂, subst, sym, arith, append-nil, drop}
+use Rattle.tor_recheck.proofs.Names.{drop_all}
 use Rattle.tor_recheck.proofs.Names.{div_ceil, tree_spans, TreeFile}
 use Rattle.tor_recheck.proofs.SpanSteps.{count_of_files, pieces_left, tree_step}
 use Rattle.tor_recheck.proofs.spans.tree_spans.Goals as goal
