@@ -36,9 +36,9 @@ pub struct FileFound {
 }
 
 /// What is told of each file of the torrent, in its order, padding not counted: by the pieces that hold, as the side
-/// tells that knows whose bytes they have, and by the length of each file there, none where it is missing. A piece of
-/// version 1 that has bytes of several files counts for each of them. Of a file that is longer than the torrent says
-/// the bytes past that are not looked at.
+/// tells that knows whose bytes they have, and by the length of each file there, none where it is missing; one of which
+/// no length is handed in is missing too. A piece of version 1 that has bytes of several files counts for each of them.
+/// Of a file that is longer than the torrent says the bytes past that are not looked at.
 pub fn files_of(
     alloc: Global,
     torrent: &Torrent,

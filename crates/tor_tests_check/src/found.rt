@@ -19,6 +19,17 @@ type Row = (
     &'static [&'static str],
 );
 
+/// In version 1 `abc`, an empty file and `de`, in pieces of two bytes: the second has bytes of the first file and of the
+/// last.
+const CROSSING: &[&[u8]] = &[
+    b"d4:infod5:filesld6:lengthi3e4:pathl1:aeed6:lengthi0e4:pathl1:beed6:lengthi2e4:pathl1:ceee4:name1:f\
+12:piece lengthi2e6:pieces60:",
+    b"\xda\x23\x61\x4e\x02\x46\x9a\x0d\x7c\x7b\xd1\xbd\xab\x5c\x9c\x47\x4b\x19\x04\xdc",
+    b"\x03\x47\x78\x19\x8a\x04\x5c\x1e\xd8\x0b\xe2\x71\xcd\xd0\x29\xb7\x68\x74\xf6\xfc",
+    b"\x58\xe6\xb3\xa4\x14\xa1\xe0\x90\xdf\xc6\x02\x9a\xdd\x0f\x35\x55\xcc\xba\x12\x7f",
+    b"ee",
+];
+
 const ROWS: &[Row] = &[
     (
         OF_BOTH,
@@ -63,6 +74,43 @@ const ROWS: &[Row] = &[
     // It ends where a piece ends.
     (NINE, &[Some(b"abcdefgh")], &["Short 8/9 Some(8)/9"]),
     (NINE, &[Some(b"abcdXfghi")], &["Bad 8/9 Some(9)/9"]),
+    (
+        CROSSING,
+        &[Some(b"abc"), Some(b""), Some(b"de")],
+        &[
+            "Whole 2/2 Some(3)/3",
+            "Whole 0/0 Some(0)/0",
+            "Whole 2/2 Some(2)/2",
+        ],
+    ),
+    (
+        CROSSING,
+        &[Some(b"abX"), None, Some(b"de")],
+        &[
+            "Bad 1/2 Some(3)/3",
+            "Missing 0/0 None/0",
+            "Bad 1/2 Some(2)/2",
+        ],
+    ),
+    (
+        CROSSING,
+        &[Some(b"abc"), Some(b""), Some(b"dX")],
+        &[
+            "Whole 2/2 Some(3)/3",
+            "Whole 0/0 Some(0)/0",
+            "Bad 1/2 Some(2)/2",
+        ],
+    ),
+    // It ends where a piece ends.
+    (
+        CROSSING,
+        &[Some(b"ab"), Some(b""), Some(b"de")],
+        &[
+            "Short 1/2 Some(2)/3",
+            "Whole 0/0 Some(0)/0",
+            "Bad 1/2 Some(2)/2",
+        ],
+    ),
     // Padding is no file, and none of its pieces has bytes of the file after it.
     (PADDED, &[None], &["Missing 0/1 None/1"]),
     (PADDED, &[Some(b"x")], &["Whole 1/1 Some(1)/1"]),
