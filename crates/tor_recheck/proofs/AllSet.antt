@@ -13,7 +13,7 @@ use Rattle.tor_recheck.proofs.HeldLaws.{verified_hold}
 use Rattle.tor_recheck.proofs.PieceSides.{other_side, some_piece}
 use Rattle.tor_recheck.proofs.SpanBounds.{spans_are_within}
 
-first_of_sides : (one two x y : Bool) → one ≡ true → ((not one || x) && (not two || y)) ≡ true → x ≡ true
+pub first_of_sides : (one two x y : Bool) → one ≡ true → ((not one || x) && (not two || y)) ≡ true → x ≡ true
 first_of_sides true two x y some both = (and_parts x (not two || y) both).0
 first_of_sides false two x y some both = cc
 

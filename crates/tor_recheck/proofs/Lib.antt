@@ -33,4 +33,5 @@ pub mod FilesThere
 pub mod AllSet
 pub mod SpanBytes
 pub mod PartsOfFiles
+pub mod MissingFiles
 pub mod Sums

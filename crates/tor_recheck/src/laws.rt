@@ -86,6 +86,26 @@ pub fn files_are_whole_by_their_pieces()
         (held_pieces view (map (λ one. unwrap_or one []) files)) file).state ≡ Whole }
 {}
 
+/// A piece that holds has bytes of each file in whose span it is. So a file that shares a piece with one that is missing
+/// is bad, though all its bytes are there.
+pub fn files_are_bad_beside_missing_ones()
+    ensures bytes { (view : View) (contents : List (List ℕ)) → IsCut view → (file piece : ℕ) →
+        (slice_index_or (file_spans view) file no_span).first ≤ piece →
+        piece < (slice_index_or (file_spans view) file no_span).after →
+        slice_index_or (held_pieces view contents) piece false ≡ true →
+        0 < length (slice_index_or contents file []) }
+    ensures bad { (view : View) (files : List (Option (List ℕ))) → IsCut view → (file other piece : ℕ) →
+        (slice_index_or (file_spans view) file no_span).first ≤ piece →
+        piece < (slice_index_or (file_spans view) file no_span).after →
+        (slice_index_or (file_spans view) other no_span).first ≤ piece →
+        piece < (slice_index_or (file_spans view) other no_span).after →
+        slice_index_or files other None ≡ None →
+        AreThere (slice_index_or (map (option_map length) files) file None)
+        (slice_index_or (file_spans view) file no_span).length →
+        (found_at (file_spans view) (map (option_map length) files)
+        (held_pieces view (map (λ one. unwrap_or one []) files)) file).state ≡ Bad }
+{}
+
 /// There is one span for each file, no piece in it is past the last one, and it has just the pieces that have bytes of
 /// the file.
 pub fn spans_are_of_pieces()
