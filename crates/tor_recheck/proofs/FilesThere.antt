@@ -2,7 +2,7 @@
 use Rattle.tor_recheck.proofs.Names.{◌≡◌, ℕ, zero, suc, ◌+◌, ◌-◌, ◌*◌, ◌/◌, ◌<◌, ◌≤◌, Bool, true, false, min, List, []}
 use Rattle.tor_recheck.proofs.Names.{◌∷◌, ◌++◌, length, map, take, drop, replicate, get_or, None, Some, is_some, nat_lt}
 use Rattle.tor_recheck.proofs.Names.{arith, refl, ap, subst, sym, ◌∙◌, inl, inr, append_assoc, false≢true, and_parts}
-use Rattle.tor_recheck.proofs.Names.{cases_lt, cond-true, leb-true, lt-ltb, div_below, div_ceil_times}
+use Rattle.tor_recheck.proofs.Names.{cases_lt, cond-true, leb-true, lt-ltb, div_below, div_ceil_times, tree_span}
 use Rattle.tor_recheck.proofs.Names.{get_or-append_right, get_or-drop, get_or-replicate, get_or-take}
 use Rattle.tor_recheck.proofs.Names.{get_or_append_left, length-append, length-drop, length-map, length-replicate}
 use Rattle.tor_recheck.proofs.Names.{length-take, list_all_at, get_or-map-range_with_len, length-map-range_with_len}
@@ -85,7 +85,7 @@ module _ (p : ℕ) (some : 0 < p) where
   later_spans base first le [] i = λ k low high. absurd (omega (arith, high))
   later_spans base first le (told ∷ files) i =
       let after = first + pieces_in p (length_of told) in
-      each_more (BeginsAt base) (record { length = length_of told; first = first; after = after })
+      each_more (BeginsAt base) (tree_span p first (length_of told))
       (tree_spans p after files) (λ k low high. omega (arith, le, low))
       (λ j. later_spans base after (omega (arith, le)) files j) i
 

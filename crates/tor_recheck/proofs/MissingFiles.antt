@@ -1,6 +1,8 @@
 -- A piece that holds has bytes of each file in whose span it is.
-use Rattle.tor_recheck.proofs.Names.{◌≡◌, ℕ, ◌+◌, ◌*◌, ◌<◌, ◌≤◌, ◌==◌, Bool, true, false, List, [], ◌∷◌, length, map, get_or}
-use Rattle.tor_recheck.proofs.Names.{Option, None, ap, subst, sym, ◌∙◌, arith, inl, inr, option_map, unwrap_or, false≢true}
+use Rattle.tor_recheck.proofs.Names.{◌≡◌, ℕ, ◌+◌, ◌*◌, ◌<◌, ◌≤◌, ◌==◌, Bool, true, false, List, [], ◌∷◌, length, map}
+use Rattle.tor_recheck.proofs.Names.{get_or}
+use Rattle.tor_recheck.proofs.Names.{Option, None, ap, subst, sym, ◌∙◌, arith, inl, inr, option_map, unwrap_or}
+use Rattle.tor_recheck.proofs.Names.{false≢true}
 use Rattle.tor_recheck.proofs.Names.{and_parts, cases_Bool, cond-false, cond-true, eqb-true, leb-true, All, All-get_or}
 use Rattle.tor_recheck.proofs.Names.{get_or-map, get_or-map-range_with_len, list_all, list_any, empty_unit}
 use Rattle.tor_recheck.proofs.Names.{lengths_of_entries, Part, is_part_there, is_there, entries_to_cut}

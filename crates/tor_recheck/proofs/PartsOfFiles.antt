@@ -3,11 +3,11 @@ use Rattle.tor_recheck.proofs.Names.{◌≡◌, ◌↔◌, ℕ, zero, suc, ◌+�
 use Rattle.tor_recheck.proofs.Names.{cond, List, [], ◌∷◌, ◌++◌, get_or, map, max, nat_lt, arith, refl, ap, sym}
 use Rattle.tor_recheck.proofs.Names.{◌∙◌, inl, inr, cases_lt, cond-false, cond-true, eq-eqb, ne_eqb, div_ceil}
 use Rattle.tor_recheck.proofs.Names.{after_part, get_or-append_right, get_or_append_left, get_or-map-range_with_len}
-use Rattle.tor_recheck.proofs.Names.{length-map-range_with_len, empty_unit, entries_length, entry_units}
+use Rattle.tor_recheck.proofs.Names.{length-map-range_with_len, empty_unit, entries_length, entry_units, tree_span}
 use Rattle.tor_recheck.proofs.Names.{joined_entry_unit, joined_entry_units, lengths_of_entries, padding_before_next}
 use Rattle.tor_recheck.proofs.Names.{separate_entry_units, shared, unit_within, file_unit, units_of_file, PlanUnit}
 use Rattle.tor_recheck.proofs.Names.{entries_to_cut, IsCut, pieces_of, file_spans, has_bytes_of, joined_span}
-use Rattle.tor_recheck.proofs.Names.{joined_spans, no_span, tree_spans, FileSpan, pieces_in, FileView, View, has_v1}
+use Rattle.tor_recheck.proofs.Names.{joined_spans, no_span, tree_spans, pieces_in, FileView, View, has_v1}
 use Rattle.tor_recheck.proofs.Names.{has_v2, Kind, V1, V2, Hybrid, Entry}
 use Rattle.tor_recheck.proofs.EntryForms.{Path, entry_cases, file}
 use Rattle.tor_recheck.proofs.FilesThere.{later_spans}
@@ -132,7 +132,7 @@ module _ (p : ℕ) (some : 0 < p) where
       let tail = padding_before_next entries in
       let later = separate_entry_units p (index + 1) entries in
       let c = pieces_in p (length_of told) in
-      let span : FileSpan = record { length = length_of told; first = first; after = first + c } in
+      let span = tree_span p first (length_of told) in
       let same : div_ceil m p ≡ c = ap (λ n. div_ceil n p) long in
       elim (cases_lt k (div_ceil m p)) [
         | inl here ↦

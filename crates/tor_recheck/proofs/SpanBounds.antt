@@ -1,6 +1,6 @@
 -- The spans of files: no piece of an empty file, and none past the last one.
 use Rattle.tor_recheck.proofs.Names.{◌≡◌, ◌≢◌, ◌↔◌, ℕ, zero, suc, ◌+◌, ◌*◌, ◌/◌, ◌<◌, ◌≤◌, Bool, true, false, List, []}
-use Rattle.tor_recheck.proofs.Names.{◌∷◌, get_or, Option, None, Some, arith, refl, subst, ◌∙◌, sym, inl, inr}
+use Rattle.tor_recheck.proofs.Names.{◌∷◌, get_or, Option, None, Some, arith, refl, subst, ◌∙◌, sym, inl, inr, tree_span}
 use Rattle.tor_recheck.proofs.Names.{cases_Bool, cases_lt, cond-false, cond-true, div_ceil_times, le-ltb, lt-ltb}
 use Rattle.tor_recheck.proofs.Names.{nat_lt, mul-le-mul_right, sum_by-cons, div_ceil, entries_length, file_found}
 use Rattle.tor_recheck.proofs.Names.{file_spans, joined_span, joined_spans, no_span, tree_spans, AreThere, FileSpan}
@@ -42,7 +42,7 @@ empty_in_tree : (p first : ℕ) → 0 < p → (files : List FileView) (i : ℕ)
 empty_in_tree p first some [] i = λ empty. omega arith
 empty_in_tree p first some (told ∷ files) i =
     let after = first + pieces_in p (length_of told) in
-    each_more HasNone (record { length = length_of told; first = first; after = after }) (tree_spans p after files)
+    each_more HasNone (tree_span p first (length_of told)) (tree_spans p after files)
     (λ empty. omega (arith, few_runs (length_of told) p some, empty))
     (λ k. empty_in_tree p after some files k) i
 
@@ -109,7 +109,7 @@ within_tree p first (told ∷ files) i =
     let after = first + pieces_in p (length_of told) in
     let all = sum_by-cons (λ (one : FileView). pieces_in p one.file.length) told files in
     each_more (λ span. span.after ≤ first + count_of_files p (told ∷ files))
-    (record { length = length_of told; first = first; after = after }) (tree_spans p after files)
+    (tree_span p first (length_of told)) (tree_spans p after files)
     (add first (pieces_in p (length_of told)) (count_of_files p files) (count_of_files p (told ∷ files)) all)
     (λ k. subst (λ n. (get_or (tree_spans p after files) k no_span).after ≤ n)
     (same first (pieces_in p (length_of told)) (count_of_files p files) (count_of_files p (told ∷ files)) all)

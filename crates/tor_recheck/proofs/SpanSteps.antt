@@ -1,7 +1,7 @@
 -- The spans of files: one more, how many there are, and that no number in them is too large.
 use Rattle.tor_recheck.proofs.Names.{◌≡◌, ℕ, ◌+◌, ◌*◌, ◌<◌, ◌≤◌, false, List, [], ◌∷◌, ◌++◌, length, drop, get_or, map}
 use Rattle.tor_recheck.proofs.Names.{arith, refl, ap, ◌∙◌, sym, subst, inl, inr, append_assoc, sum, sum_by, cases_Bool}
-use Rattle.tor_recheck.proofs.Names.{cases_lt, cond-false, cond-true, div_ceil_times, drop_more, length-map}
+use Rattle.tor_recheck.proofs.Names.{cases_lt, cond-false, cond-true, div_ceil_times, drop_more, length-map, tree_span}
 use Rattle.tor_recheck.proofs.Names.{mul-le-mul_right, sum_by-cons, div_ceil, entries_length, lengths_of_entries}
 use Rattle.tor_recheck.proofs.Names.{entries_to_cut, IsCut, FileSpan, file_spans, joined_spans, tree_spans}
 use Rattle.tor_recheck.proofs.Names.{span_of_entry, pieces_in, FileView, View, has_v1, has_v2, MAX_TOTAL, Entry, suc}
@@ -39,14 +39,12 @@ joined_step p start i entries entry done more all lt here before is =
 
 pub tree_step : (p first i : ℕ) (files : List FileView) (told : FileView) (done more all : List FileSpan)
     → i < length files → told ≡ get_or files i told → done ++ tree_spans p first (drop i files) ≡ all
-    → more ≡ done
-    ++ record { length = length_of told; first = first; after = first + pieces_in p (length_of told) } ∷ [] → more ++ tree_spans p (first + pieces_in p (length_of told)) (drop (i + 1) files) ≡ all
+    → more ≡ done ++ tree_span p first (length_of told) ∷ []
+    → more ++ tree_spans p (first + pieces_in p (length_of told)) (drop (i + 1) files) ≡ all
 tree_step p first i files told done more all lt here before is =
-    let after = first + pieces_in p (length_of told) in
-    let rest = tree_spans p after (drop (i + 1) files) in
-    let span : FileSpan = record { length = length_of told; first = first; after = after } in
+    let rest = tree_spans p (first + pieces_in p (length_of told)) (drop (i + 1) files) in
     ap (λ spans. spans ++ rest) is
-    ∙ append_assoc done (span ∷ []) rest
+    ∙ append_assoc done (tree_span p first (length_of told) ∷ []) rest
     ∙ ap (λ left. done ++ tree_spans p first left) (sym (left_from files i told lt here))
     ∙ before
 

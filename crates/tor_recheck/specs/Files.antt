@@ -41,12 +41,15 @@ joined_spans p start (entry ∷ entries) =
     if entry.pad then joined_spans p (start + entry.length) entries
     else joined_span p start entry.length ∷ joined_spans p (start + entry.length) entries
 
--- of each file where pieces are numbered file by file, the first of these from `first` on
+-- of a file of n bytes with pieces of its own, from this one on
+abbrev pub tree_span : ℕ → ℕ → ℕ → FileSpan
+tree_span p first n = record { length = n; first = first; after = first + pieces_in p n }
+
+-- of each file where pieces are numbered file by file, those of the first from `first` on
 abbrev pub tree_spans : ℕ → ℕ → List FileView → List FileSpan
 tree_spans p first [] = []
 tree_spans p first (told ∷ files) =
-    record { length = told.file.length; first = first; after = first + pieces_in p told.file.length }
-    ∷ tree_spans p (first + pieces_in p told.file.length) files
+    tree_span p first told.file.length ∷ tree_spans p (first + pieces_in p told.file.length) files
 
 -- of each file of a torrent, in its order, without padding
 abbrev pub file_spans : View → List FileSpan

@@ -86,8 +86,8 @@ pub fn files_are_whole_by_their_pieces()
         (held_pieces view (map (λ one. unwrap_or one []) files)) file).state ≡ Whole }
 {}
 
-/// A piece that holds has bytes of each file in whose span it is. So a file that shares a piece with one that is missing
-/// is bad, though all its bytes are there.
+/// A piece that holds has bytes of each file in whose span it is. So a file that shares a piece with one which is
+/// missing is bad, though all its bytes are there.
 pub fn files_are_bad_beside_missing_ones()
     ensures bytes { (view : View) (contents : List (List ℕ)) → IsCut view → (file piece : ℕ) →
         (slice_index_or (file_spans view) file no_span).first ≤ piece →
