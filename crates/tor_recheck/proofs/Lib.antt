@@ -22,4 +22,16 @@ pub mod ValidAreCut
 pub mod ProvedLaws
 pub mod RecheckFaults
 pub mod Rechecked
+pub mod FileBits
+pub mod HeldPieces
+pub mod LengthsAsked
+pub mod SpanSteps
+pub mod FileStates
+pub mod HeldLaws
+pub mod SpanBounds
+pub mod FilesThere
+pub mod AllSet
+pub mod SpanBytes
+pub mod PartsOfFiles
+pub mod MissingFiles
 pub mod Sums

@@ -1,31 +1,35 @@
 -- The names that the proofs cite, passed on from one place. Declares nothing.
 pub use Rattle.std.proofs.Common.{Bool, IfOk, List, None, Option, Some, [], add-one, ap, append-nil, append_assoc, ap₂}
 pub use Rattle.std.proofs.Common.{arith, bit_or, codes, cond, drop, eqb, false, find, get_or, inl, inr, is_some, leb}
-pub use Rattle.std.proofs.Common.{length, length-append, length-drop, lit<, map, max, min, mul-le-mul_right, nat_le}
+pub use Rattle.std.proofs.Common.{length, length-append, length-drop, lit<, ltb, map, max, min, mul-le-mul_right}
+pub use Rattle.std.proofs.Common.{nat_le}
 pub use Rattle.std.proofs.Common.{nat_lt, negsuc, not, option_map, pos, refl, replicate, reverse, subst, suc, sum}
 pub use Rattle.std.proofs.Common.{sum_by, sym, take, true, unsigned_abs, unwrap_or, w8, zero, zero-add, ℕ, ℤ, ◌%◌, ◌&&◌}
-pub use Rattle.std.proofs.Common.{◌*◌, ◌++◌, ◌+◌, ◌-◌, ◌/◌, ◌<◌, ◌==◌, ◌^◌, ◌||◌, ◌∙◌, ◌∷◌, ◌≡◌, ◌≢◌, ◌≤◌, ◌⊎◌}
+pub use Rattle.std.proofs.Common.{◌*◌, ◌++◌, ◌+◌, ◌-◌, ◌/◌, ◌<◌, ◌==◌, ◌^◌, ◌||◌, ◌↔◌, ◌∙◌, ◌∷◌, ◌≡◌, ◌≢◌, ◌≤◌, ◌⊎◌}
 pub use Rattle.std.proofs.Math.Bool.{beq}
 pub use Rattle.std.proofs.Math.ListN.{drop_of_length-le, get_or-map, set}
 pub use Rattle.std.proofs.Math.Nat.{div-div-eq-div-mul, mod_self, pow-suc, zero-mod}
 pub use Rattle.std.proofs.Math.Seq.{take-append-add}
 pub use Rattle.std.proofs.lemmas.Bool.{and_from, and_parts, and_right, cases_Bool, cases_eq, cases_lt, cond-false}
 pub use Rattle.std.proofs.lemmas.Bool.{cond-true, eqb-true, false≢true, le-leb, le-ltb, leb-true, lt-leb, lt-ltb}
-pub use Rattle.std.proofs.lemmas.Bool.{ltb-false, not-false, or_parts, true≢false}
+pub use Rattle.std.proofs.lemmas.Bool.{and_left, eq-eqb, ltb-false, ltb-true, ne_eqb, not-false, or_parts, true≢false}
 pub use Rattle.std.proofs.lemmas.Grind.{div_ceil_times, get_or_default_zero}
 pub use Rattle.std.proofs.lemmas.List.{drop-append-le, drop-drop, drop-map, drop-replicate, drop_all, drop_at}
+pub use Rattle.std.proofs.lemmas.List.{get_or-append_right, get_or-replicate, get_or-take, length-take}
 pub use Rattle.std.proofs.lemmas.List.{flat_map_more, get_or-drop, get_or-set_other, get_or-set_same, get_or_past}
-pub use Rattle.std.proofs.lemmas.List.{length-map, length-replicate, map-append, replicate-append-replicate}
+pub use Rattle.std.proofs.lemmas.List.{drop_more, get_or_append_left, get_or_push, length-map, length-replicate}
+pub use Rattle.std.proofs.lemmas.List.{length_push, map-append, replicate-append-replicate}
 pub use Rattle.std.proofs.lemmas.List.{reverse-append, take-append-le, take-map, take-replicate, take_all, take_min}
 pub use Rattle.std.proofs.lemmas.List.{take_more}
 pub use Rattle.std.proofs.lemmas.List.Elements.{All-from_recursion, All-get_or, filter-append}
-pub use Rattle.std.proofs.lemmas.List.Folds.{list_all-append}
+pub use Rattle.std.proofs.lemmas.List.Folds.{list_all-append, list_all_at}
 pub use Rattle.std.proofs.lemmas.List.FromFn.{fill_by_all, get_or-map-range_with_len, length-map-range_with_len}
-pub use Rattle.std.proofs.lemmas.List.FromFn.{map-range_with_len_more}
+pub use Rattle.std.proofs.lemmas.List.FromFn.{map-range_with_len_more, sum_by-map-range_with_len_more}
 pub use Rattle.std.proofs.lemmas.List.Sorted.{IsPermutation-reverse, list_any-IsPermutation, sum_by-IsPermutation}
+pub use Rattle.std.proofs.lemmas.List.Sums.{count_by-le-length}
 pub use Rattle.std.proofs.lemmas.List.Sums.{count_by_more_no, count_by_more_yes, sum_by-append, sum_by-cons}
 pub use Rattle.std.proofs.lemmas.List.Sums.{sum_by-le-sum_by}
-pub use Rattle.std.proofs.lemmas.Nat.{or_of_8}
+pub use Rattle.std.proofs.lemmas.Nat.{div_below, le-div, or_of_8}
 pub use Rattle.std.proofs.lemmas.Nat.Bits.{bit_at-lt, bit_at_set_other, bit_at_set_same, shr_and_one}
 pub use Rattle.std.proofs.lemmas.Option.{slice_get-get_or, slice_get_past}
 pub use Rattle.std.specs.Int.{bit_at, div_ceil, next_multiple_of}
@@ -38,8 +42,10 @@ pub use Rattle.tor_bencode.specs.Find.{value_of}
 pub use Rattle.tor_bencode.specs.Span.{span_of}
 pub use Rattle.tor_check.specs.ValidViews.{IsViewOfValid}
 pub use Rattle.tor_engine.specs.Contents.{contents_in}
-pub use Rattle.tor_engine.specs.Given.{IsGivenPieces}
-pub use Rattle.tor_engine.specs.PieceFault.{first_asked_fault, first_piece_fault, pieces_fault}
+unfoldable pub use Rattle.tor_engine.specs.Fault.{first_of}
+pub use Rattle.tor_engine.specs.Given.{HasTold, IsGivenPieces}
+pub use Rattle.tor_engine.specs.PieceFault.{asked_fault, first_asked_fault, first_piece_fault, lengths_told}
+pub use Rattle.tor_engine.specs.PieceFault.{pieces_fault}
 pub use Rattle.tor_engine.specs.PieceHashes.{hash_if_there, piece_hash, piece_hashes, pieces_of_plan}
 pub use Rattle.tor_engine.specs.declared.errors.EngineError.{EngineError}
 pub use Rattle.tor_engine.specs.declared.errors.EngineError.TheVariants.{Changed, Missing, Read, Resources}
@@ -64,14 +70,24 @@ pub use Rattle.tor_plan.specs.Units.{file_unit, units_of_file}
 pub use Rattle.tor_plan.specs.declared.units.Part.{Part}
 pub use Rattle.tor_plan.specs.declared.units.PlanUnit.{PlanUnit}
 pub use Rattle.tor_recheck.specs.Bitfield.{bit_of, bitfield, byte_from, set_count}
+pub use Rattle.tor_recheck.specs.Files.{AllHold, AreFewer, AreThere, OneFails}
+pub use Rattle.tor_recheck.specs.Files.{file_found, file_spans, files_found, found_at, has_bytes_of, held_pieces}
+pub use Rattle.tor_recheck.specs.Files.{joined_span, tree_span}
+pub use Rattle.tor_recheck.specs.Files.{joined_spans, no_span, pieces_of_file, state_of, tree_spans}
 pub use Rattle.tor_recheck.specs.Pieces.{IsCut, count_of_pieces, entries_to_cut, has_root, has_sha1, hashes_of_file}
 pub use Rattle.tor_recheck.specs.Pieces.{is_right, no_file, part_root, piece_root, pieces_of, root_of_parts}
 pub use Rattle.tor_recheck.specs.Pieces.{told_hashes}
 unfoldable pub use Rattle.tor_recheck.specs.Pieces.{right_pieces}
 pub use Rattle.tor_recheck.specs.Recheck.{IsFault, IsGiven, first_fault, of_engine_error}
-pub use Rattle.tor_recheck.specs.steps.Judge.{all_judged, is_found, is_told, judged, texts_of}
+pub use Rattle.tor_recheck.specs.declared.files.FileFound.{FileFound}
+pub use Rattle.tor_recheck.specs.declared.files.FileState.TheVariants.{Bad, Short, Whole}
+pub use Rattle.tor_recheck.specs.declared.spans.FileSpan.{FileSpan}
+pub use Rattle.tor_recheck.specs.steps.Hashes.{hashes_in}
+pub use Rattle.tor_recheck.specs.steps.Judge.{all_held, all_judged, all_merkle_judged, is_found, is_merkle_found}
+pub use Rattle.tor_recheck.specs.steps.Judge.{is_told, judged, merkle_judged, texts_of}
 pub use Rattle.tor_recheck.specs.steps.Packed.{AreBytes, Grows, KeepsBits, packed_bit, packed_bits}
-pub use Rattle.tor_source.specs.Source.{SourceFacts}
+pub use Rattle.tor_recheck.specs.steps.Spans.{span_of_entry}
+pub use Rattle.tor_source.specs.Source.{SourceFacts, told_length, unless_fault}
 pub use Rattle.tor_spec.specs.Present.{bytes_in, file_bytes, is_whole, joined_bytes}
 pub use Rattle.tor_spec.specs.Verified.{file_pieces, is_merkle_piece, is_sha1_piece, is_verified, merkle_hash}
 pub use Rattle.tor_spec.specs.Verified.{merkle_pieces, told_hash, verified_pieces}

@@ -65,7 +65,7 @@ module _ (view : View) (contents : List (List ℕ)) where
     abbrev piece : PlanUnit
     piece = get_or (pieces_of view) k unit
 
-    by_sha1 : has_v1 view.kind ≡ true
+    pub by_sha1 : has_v1 view.kind ≡ true
         → (is_there contents piece && has_sha1 view contents k piece) ≡ is_sha1_piece view contents k
     by_sha1 one =
         let entries = entries_to_cut view in
@@ -75,7 +75,7 @@ module _ (view : View) (contents : List (List ℕ)) where
         (unit_is_run contents view.kind p entries one (some_piece view.kind p cut.pieces) cut.entries.laid_out k unit
         lt))
 
-    by_merkle : has_v2 view.kind ≡ true → (is_there contents piece && has_root view contents k piece)
+    pub by_merkle : has_v2 view.kind ≡ true → (is_there contents piece && has_root view contents k piece)
         ≡ get_or (merkle_pieces p view.files contents) k false
     by_merkle two =
         let entries = entries_to_cut view in

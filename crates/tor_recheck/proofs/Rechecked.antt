@@ -12,11 +12,11 @@ use Rattle.tor_recheck.proofs.Names.{has_v2, piece_sums}
 use Rattle.tor_recheck.proofs.EntryForms.{first_of}
 use Rattle.tor_recheck.proofs.MerklePieces.{length_of}
 use Rattle.tor_recheck.proofs.PieceSides.{same_lengths, some_piece}
-use Rattle.tor_recheck.proofs.ProvedLaws.{pieces_are_counted, pieces_are_verified_by_units}
+use Rattle.tor_recheck.proofs.ProvedLaws.{pieces_are_verified_by_units}
 use Rattle.tor_engine.specs.PieceHashes as engine
 
 -- where a torrent has a side, its hash is compared
-told_side : (side : Bool) (hash told : List ℕ)
+pub told_side : (side : Bool) (hash told : List ℕ)
     → is_told (cond side (Some hash) None) told ≡ (not side || bytes_eq hash told)
 told_side true hash told = refl
 told_side false hash told = refl
@@ -53,7 +53,7 @@ module _ (view : View) (contents : List (List ℕ)) (cut : IsCut view) where
       ∙ ap (λ size. engine.merkle_hash view.piece_length size bytes) (get_or-map length_of view.files part.file no_file)
       ∙ same_hash view.piece_length (get_or view.files part.file no_file) bytes
 
-  same_root : (parts : List Part) → engine.hash_of_parts plan contents parts ≡ root_of_parts view contents parts
+  pub same_root : (parts : List Part) → engine.hash_of_parts plan contents parts ≡ root_of_parts view contents parts
   same_root [] = refl
   same_root (part ∷ parts) = same_part part
 
@@ -97,9 +97,6 @@ module _ (view : View) (contents : List (List ℕ)) (cut : IsCut view) where
       ∙ sym (pieces_are_verified_by_units view contents cut)
 
 -- one bit for each piece
-pub count_of_judged : (view : View) → IsCut view → (hashes : List (Option PieceHash))
-    → length hashes ≡ length (pieces_of_plan (plan_of_entries view.kind view.piece_length 16 (entries_to_cut view)))
-    → length (all_judged view hashes) ≡ view.piece_count
-count_of_judged view cut hashes each =
-    length-map-range_with_len (judged view hashes) 0 (length hashes)
-    ∙ each ∙ ap length (pieces_are view [] cut) ∙ pieces_are_counted view cut
+pub count_of_judged : (view : View) (hashes : List (Option PieceHash))
+    → length (all_judged view hashes) ≡ length hashes
+count_of_judged view hashes = length-map-range_with_len (judged view hashes) 0 (length hashes)

@@ -1,6 +1,7 @@
 -- What a torrent describes of which no condition holds can be cut.
 use Rattle.tor_recheck.proofs.Names.{◌≡◌, ℕ, ◌+◌, true, false, ◌&&◌, ◌==◌, List, [], ◌∷◌, map, sum_by, None, refl, ap}
-use Rattle.tor_recheck.proofs.Names.{ap₂, cond, codes, ◌∙◌, sym, unwrap_or, div_ceil, and_parts, eqb-true, not-false}
+use Rattle.tor_recheck.proofs.Names.{ap₂, cond, codes, ◌∙◌, subst, sym, unwrap_or, IsViewOfValid, div_ceil, and_parts}
+use Rattle.tor_recheck.proofs.Names.{eqb-true, not-false}
 use Rattle.tor_recheck.proofs.Names.{or_parts, sum_by-cons, Data, span_of, IsLaidOut, IsCut, refusal_of, pieces_in}
 use Rattle.tor_recheck.proofs.Names.{listed_files, ListedFile, side_files, side_piece_count, info_of, is_private}
 use Rattle.tor_recheck.proofs.Names.{kind_of, name_of, part, piece_length_of, text_of, files_differ, has_wrong_tail}
@@ -139,3 +140,6 @@ module _ (root : Data) where
 
 pub valid_torrents_are_cut : (root : Data) → refusal_of root ≡ None → IsCut (view_of root)
 valid_torrents_are_cut root none = cut_as root (kind_of (info_of root)) (kept root none)
+
+pub cut_of : (view : View) → IsViewOfValid view → IsCut view
+cut_of view valid = subst IsCut (sym valid.described) (valid_torrents_are_cut valid.tree valid.accepted)

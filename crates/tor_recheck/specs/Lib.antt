@@ -1,4 +1,5 @@
 pub mod Bitfield
+pub mod Files
 pub mod Pieces
 pub mod Recheck
 pub mod steps

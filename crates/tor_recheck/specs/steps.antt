@@ -1,2 +1,4 @@
+pub mod Hashes
 pub mod Judge
 pub mod Packed
+pub mod Spans

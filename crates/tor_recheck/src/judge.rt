@@ -1,7 +1,8 @@
 //! The hashes of pieces judged by those of a torrent.
 ghost use Rattle.std.specs.Prelude.{◌≡◌, [], IfOk, map, unwrap_or};
 ghost use Rattle.std.specs.Str.{bytes_eq};
-ghost use Rattle.tor_recheck.specs.steps.Judge.{all_judged, is_found, is_told};
+ghost use Rattle.tor_recheck.specs.steps.Judge.{all_held, all_judged, all_merkle_judged, is_found, is_merkle_found};
+ghost use Rattle.tor_recheck.specs.steps.Judge.{is_told};
 
 use crate::bits::Bits;
 use crate::told::{root_at, told_hashes};
@@ -30,6 +31,47 @@ pub(crate) fn judge(
         sums = later;
     }
     Ok(bits)
+}
+
+/// For each piece whether it holds by the side that tells whose bytes it has: by version 2 where the torrent has it.
+pub(crate) fn judge_held(
+    alloc: Global,
+    torrent: &Torrent,
+    hashes: &[Option<PieceHash>],
+) -> Result<Bits, AllocError>
+    ensures { IfOk result (λ held. held ≡ all_held torrent.now hashes.now) }
+{
+    if torrent.kind().has_v2() {
+        judge_merkle(alloc, torrent, hashes)
+    } else {
+        judge(alloc, torrent, hashes)
+    }
+}
+
+/// For each piece whether it is there, and has its Merkle hash.
+fn judge_merkle(
+    alloc: Global,
+    torrent: &Torrent,
+    hashes: &[Option<PieceHash>],
+) -> Result<Bits, AllocError>
+    ensures { IfOk result (λ held. held ≡ all_merkle_judged torrent.now hashes.now) }
+{
+    let told = told_hashes(alloc, torrent)?;
+    let mut held = Bits::with_capacity(alloc, hashes.len() as u64)?;
+    'pieces: for (index, hash) in hashes.iter().enumerate() {
+        held.push(is_merkle_found(hash, root_at(&told, index)))?;
+    }
+    Ok(held)
+}
+
+/// Whether a piece is there, and has this Merkle hash where it has any.
+fn is_merkle_found(hash: &Option<PieceHash>, root: Option<Hash>) -> bool
+    ensures { result ≡ is_merkle_found hash.now (unwrap_or root []) }
+{
+    match hash {
+        Some(hash) => is_root(&hash.v2, root),
+        None => false,
+    }
 }
 
 /// Whether a piece is there, and has these hashes where it has any.

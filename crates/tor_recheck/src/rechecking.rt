@@ -1,11 +1,12 @@
 //! A torrent's pieces looked for in the files of a source.
-ghost use Rattle.std.specs.Prelude.{◌≡◌, ◌≢◌, None, Err, IfErr, IfOk, MatchResult, length, map};
+ghost use Rattle.std.specs.Prelude.{◌≡◌, ◌≢◌, None, Err, IfErr, IfOk, MatchResult, OnOk, length, map};
 ghost use Rattle.tor_engine.specs.Contents.{contents_in};
 ghost use Rattle.tor_engine.specs.How.{IsHow};
 ghost use Rattle.tor_plan.specs.PlanFacts.{plan_of_entries};
 ghost use Rattle.tor_recheck.specs.Pieces.{IsCut, entries_to_cut};
 ghost use Rattle.tor_recheck.specs.Recheck.{IsFault, IsGiven, first_fault};
 ghost use Rattle.tor_recheck.specs.declared.errors.RecheckError.TheVariants.{Workers};
+ghost use Rattle.tor_recheck.specs.steps.Hashes.{hashes_in};
 ghost use Rattle.tor_source.specs.Source.{SourceFacts};
 ghost use Rattle.tor_recheck.specs.declared.rechecking.TheConstants.{SPAN};
 ghost use Rattle.tor_spec.specs.Verified.{verified_pieces};
@@ -17,7 +18,7 @@ use crate::judge::judge;
 use std::alloc::{AllocError, Global};
 use std::thread::Threads;
 use tor_check::{Torrent, ViewFile};
-use tor_engine::{How, hash_pieces};
+use tor_engine::{How, PieceHash, hash_pieces};
 use tor_plan::Plan;
 use tor_source::Source;
 use tor_v1::Entry;
@@ -48,16 +49,42 @@ pub fn recheck<S: Source, R: Threads + Sync>(
     ensures gave { IfErr result
         (IsGiven (S.gave source.now) (S.told source.now) (S.ended source.now) (length torrent.now.files)) }
 {
+    let hashes = match hashes_of(rt, alloc, source, torrent, how) {
+        Ok(hashes) => hashes,
+        Err(error) => return Err(error),
+    };
+    let bits = judge(alloc, torrent, &hashes)?;
+    Ok(bits)
+}
+
+/// What each piece hashes to, and none where some byte of it is not there.
+pub(crate) fn hashes_of<S: Source, R: Threads + Sync>(
+    rt: &R,
+    alloc: Global,
+    source: &S,
+    torrent: &Torrent,
+    how: How,
+) -> Result<Vec<Option<PieceHash>>, RecheckError<S::Fault>>
+    ensures workers { (IsHow how → ⊥) → result ≡ Err Workers }
+    ensures hashed { IsHow how → (facts : SourceFacts S.Fault) → S.is_steady source.now facts →
+        MatchResult result
+        (λ hashes. (hashes.items ≡ hashes_in torrent.now (contents_in facts (length torrent.now.files)))
+        × (first_fault facts torrent.now ≡ None))
+        (IsFault (first_fault facts torrent.now)) }
+    ensures counted { IfOk result (λ hashes. length hashes.items ≡ torrent.now.piece_count) }
+    ensures cut { OnOk result (IsCut torrent.now) }
+    ensures allowed { IsHow how → IfErr result (λ error. error ≢ Workers) }
+    ensures gave { IfErr result
+        (IsGiven (S.gave source.now) (S.told source.now) (S.ended source.now) (length torrent.now.files)) }
+{
     if !how.is_allowed() {
         return Err(RecheckError::Workers);
     }
     let plan = plan_of(alloc, torrent)?;
-    let hashes = match hash_pieces(rt, alloc, source, &plan, how) {
-        Ok(hashes) => hashes,
-        Err(error) => return Err(error.into()),
-    };
-    let bits = judge(alloc, torrent, &hashes)?;
-    Ok(bits)
+    match hash_pieces(rt, alloc, source, &plan, how) {
+        Ok(hashes) => Ok(hashes),
+        Err(error) => Err(error.into()),
+    }
 }
 
 /// The units of the torrent's entries, or of its files where it has no v1 side.

@@ -3,12 +3,14 @@
 //!
 //! Of tor_check: `verdicts.rt`, `worked.rt`, `order.rt` (which bytes are torrents, and of two faults the first),
 //! `lenient.rt` (what other makers may write), `hybrids.rt`, `layers.rt`, `pieces.rt` (proofs of pieces). `telling.rt`
-//! and `layered.rt` have what these share. Of tor_recheck: `bits.rt`, `rechecks.rt`, and `meetings.rt`:
-//! whether its workers work at once.
+//! and `layered.rt` have what these share. Of tor_recheck: `bits.rt`, `rechecks.rt`, `found.rt` (what is
+//! told of files), and `meetings.rt`: whether its workers work at once.
 #![tactic(auto)]
 
 #[cfg(test)]
 mod bits;
+#[cfg(test)]
+mod found;
 #[cfg(test)]
 mod hybrids;
 #[cfg(test)]

@@ -62,31 +62,33 @@ d6:lengthi1e4:pathl1:beee12:meta versioni2e4:name1:f12:piece lengthi16384e6:piec
 
 const END: &[u8] = b"e12:piece layersdee";
 
-const OF_BOTH: &[&[u8]] = &[HYBRID, ROOT_A, THEN_B, ROOT_B, THEN_LIST, SUM_A, SUM_B, END];
+pub(crate) const OF_BOTH: &[&[u8]] = &[
+    HYBRID, ROOT_A, THEN_B, ROOT_B, THEN_LIST, SUM_A, SUM_B, END,
+];
 
-const OF_OTHER_SUM: &[&[u8]] = &[
+pub(crate) const OF_OTHER_SUM: &[&[u8]] = &[
     HYBRID, ROOT_A, THEN_B, ROOT_B, THEN_LIST, OTHER_SUM, SUM_B, END,
 ];
 
-const OF_OTHER_ROOT: &[&[u8]] = &[
+pub(crate) const OF_OTHER_ROOT: &[&[u8]] = &[
     HYBRID, OTHER_ROOT, THEN_B, ROOT_B, THEN_LIST, SUM_A, SUM_B, END,
 ];
 
 /// The same files in version 1: one piece runs across the end of the first.
-const JOINED: &[&[u8]] = &[
+pub(crate) const JOINED: &[&[u8]] = &[
     b"d4:infod5:filesld6:lengthi2e4:pathl1:aeed6:lengthi1e4:pathl1:beee4:name1:f\
 12:piece lengthi16384e6:pieces20:",
     b"\xa9\x99\x3e\x36\x47\x06\x81\x6a\xba\x3e\x25\x71\x78\x50\xc2\x6c\x9c\xd0\xd8\x9d",
     b"ee",
 ];
 
-const EMPTY: &[&[u8]] = &[
+pub(crate) const EMPTY: &[&[u8]] = &[
     b"d4:infod9:file treed1:ad0:d6:lengthi0eeee12:meta versioni2e4:name1:a\
 12:piece lengthi16384ee12:piece layersdee",
 ];
 
 /// `abcdefghi` in pieces of one byte.
-const NINE: &[&[u8]] = &[
+pub(crate) const NINE: &[&[u8]] = &[
     b"d4:infod6:lengthi9e4:name1:a12:piece lengthi1e6:pieces180:",
     b"\x86\xf7\xe4\x37\xfa\xa5\xa7\xfc\xe1\x5d\x1d\xdc\xb9\xea\xea\xea\x37\x76\x67\xb8",
     b"\xe9\xd7\x1f\x5e\xe7\xc9\x2d\x6d\xc9\xe9\x2f\xfd\xad\x17\xb8\xbd\x49\x41\x8f\x98",
@@ -105,7 +107,7 @@ const ZEROS: &[u8] = b"\x89\x72\x56\xb6\x70\x9e\x1a\x4d\xa9\xda\
 \xba\x92\xb6\xbd\xe3\x9c\xcf\xcc\xd8\xc1";
 
 /// Seventeen pieces of padding, and then a file of one byte.
-const PADDED: &[&[u8]] = &[
+pub(crate) const PADDED: &[&[u8]] = &[
     b"d4:infod5:filesld4:attr1:p6:lengthi278528e4:pathl4:.pad6:278528eed6:lengthi1e4:pathl1:aeee4:name1:f\
 12:piece lengthi16384e6:pieces360:",
     ZEROS,
@@ -196,7 +198,7 @@ fn add_contents(
     Ok(())
 }
 
-fn files_of(alloc: Global, files: &[Option<&[u8]>]) -> Result<MemSource, AllocError> {
+pub(crate) fn files_of(alloc: Global, files: &[Option<&[u8]>]) -> Result<MemSource, AllocError> {
     let mut contents = Vec::new(alloc);
     add_contents(alloc, files, &mut contents)?;
     Ok(MemSource::new(contents))

@@ -1,12 +1,13 @@
 -- How the hashes of pieces are judged by those of a torrent. Only private clauses cite these.
 use Rattle.std.specs.Prelude.{ℕ, Bool, true, false, ◌&&◌, List, [], length, map, slice_index_or, Option, None, Some}
-use Rattle.std.specs.Prelude.{unwrap_or}
+use Rattle.std.specs.Prelude.{unwrap_or, if◌then◌else◌}
 use Rattle.std.specs.List.{range_with_len}
 use Rattle.std.specs.Str.{bytes_eq}
 use Rattle.tor_engine.specs.declared.piece_hash.PieceHash.{PieceHash}
 use Rattle.tor_merkle.specs.Block.{run_at}
 use Rattle.tor_recheck.specs.Pieces.{told_hashes}
 use Rattle.tor_spec.specs.valid.View.{View}
+use Rattle.tor_tree.specs.Kinds.{has_v2}
 
 -- hashes as their bytes, none where there is no hash
 abbrev pub texts_of : List (Option (List ℕ)) → List (List ℕ)
@@ -29,3 +30,19 @@ judged view hashes i = is_found (slice_index_or hashes i None) (run_at 20 view.p
 
 abbrev pub all_judged : View → List (Option PieceHash) → List Bool
 all_judged view hashes = map (judged view hashes) (range_with_len 0 (length hashes))
+
+-- the piece is there, and its Merkle hash is this
+abbrev pub is_merkle_found : Option PieceHash → List ℕ → Bool
+is_merkle_found None root = false
+is_merkle_found (Some hash) root = is_told hash.v2 root
+
+abbrev pub merkle_judged : View → List (Option PieceHash) → ℕ → Bool
+merkle_judged view hashes i = is_merkle_found (slice_index_or hashes i None) (slice_index_or (told_hashes view) i [])
+
+-- each piece by version 2 alone
+abbrev pub all_merkle_judged : View → List (Option PieceHash) → List Bool
+all_merkle_judged view hashes = map (merkle_judged view hashes) (range_with_len 0 (length hashes))
+
+-- each piece by the side that tells whose bytes it has
+abbrev pub all_held : View → List (Option PieceHash) → List Bool
+all_held view hashes = if has_v2 view.kind then all_merkle_judged view hashes else all_judged view hashes

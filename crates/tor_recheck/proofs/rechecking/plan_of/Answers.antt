@@ -1,11 +1,7 @@
 -- what is cut are the torrent's entries, or its files where it has no v1 side
-use Rattle.tor_recheck.proofs.Names.{◌∙◌, map, subst, sym, ap, cond-true, cond-false, IsViewOfValid, IsCut, View}
-use Rattle.tor_recheck.proofs.Names.{has_v1, file_entry}
-use Rattle.tor_recheck.proofs.ProvedLaws.{valid_torrents_are_cut}
+use Rattle.tor_recheck.proofs.Names.{◌∙◌, map, sym, ap, cond-true, cond-false, has_v1, file_entry}
+use Rattle.tor_recheck.proofs.ValidAreCut.{cut_of}
 use Rattle.tor_recheck.proofs.rechecking.plan_of.Goals as goal
-
-cut_of : (view : View) → IsViewOfValid view → IsCut view
-cut_of view valid = subst IsCut (sym valid.described) (valid_torrents_are_cut valid.tree valid.accepted)
 
 pub cut_entries-requires : goal.cut_entries-requires
 cut_entries-requires c = record {

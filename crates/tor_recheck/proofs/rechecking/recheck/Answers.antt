@@ -1,53 +1,22 @@
--- the plan, the hashes, and what they are judged to be
-use Rattle.tor_recheck.proofs.Names.{[], ℕ, length, ap, subst, sym, ◌∙◌, contents_in, IsGivenPieces, first_piece_fault}
-use Rattle.tor_recheck.proofs.Names.{piece_hashes, pieces_of_plan, PlanFacts, plan_of_entries, entries_to_cut, IsFault}
-use Rattle.tor_recheck.proofs.Names.{IsGiven, first_fault, all_judged}
-use Rattle.tor_recheck.proofs.RecheckFaults.{given_of, no_fault, same_fault}
-use Rattle.tor_recheck.proofs.Rechecked.{count_is, count_of_judged, judged_is_verified}
-use Rattle.tor_engine.specs.Fault as engine
+-- the hashes, and what they are judged to be
+use Rattle.tor_recheck.proofs.Names.{◌∙◌, ap, length, contents_in, all_judged}
+use Rattle.tor_recheck.proofs.Rechecked.{count_of_judged, judged_is_verified}
 use Rattle.tor_recheck.proofs.rechecking.recheck.Goals as goal
-
-pub returns-in-Err-clause-found : goal.returns-in-Err-clause-found
-returns-in-Err-clause-found g c = λ how facts steady.
-    let view = c.args.torrent.now in
-    let fault = c.in-Err.ensures.hashed facts steady in
-    let planned = subst (λ (plan : PlanFacts). engine.IsFault (first_piece_fault facts plan) c.in-Err.error)
-    c.in_ok-plan.ensures.planned fault in
-    subst (λ error. IsFault (first_fault facts view) error) (sym c.into.ensures)
-    (same_fault facts view c.in_ok-plan.ensures.cut c.in-Err.error planned)
 
 pub returns-clause-found : goal.returns-clause-found
 returns-clause-found g c = λ how facts steady.
     let view = c.args.torrent.now in
-    let cut = c.in_ok-plan.ensures.cut in
-    let planned = c.in_ok-plan.ensures.planned in
-    let plan = plan_of_entries view.kind view.piece_length 16 (entries_to_cut view) in
-    let hashed = c.in-Ok.ensures.hashed facts steady in
-    let hashes = hashed.0
-    ∙ ap (λ (p : PlanFacts). piece_hashes p (contents_in facts (length p.lengths))) planned
-    ∙ ap (λ n. piece_hashes plan (contents_in facts n)) (count_is view [] cut) in (
+    let hashed = c.in-Ok.ensures.hashed how facts steady in (
       c.in_ok-bits.ensures
           ∙ ap (all_judged view) c.deref.ensures.value
-          ∙ judged_is_verified view (contents_in facts (length view.files)) cut c.in-Ok.hashes.items hashes,
-      no_fault facts view cut (sym (ap (first_piece_fault facts) planned) ∙ hashed.1),
+          ∙ judged_is_verified view (contents_in facts (length view.files)) c.in-Ok.ensures.cut c.in-Ok.hashes.items
+          hashed.0,
+      hashed.1,
     )
 
 pub returns-clause-counted : goal.returns-clause-counted
 returns-clause-counted g c =
     let view = c.args.torrent.now in
-    let cut = c.in_ok-plan.ensures.cut in
     ap length (c.in_ok-bits.ensures ∙ ap (all_judged view) c.deref.ensures.value)
-    ∙ count_of_judged view cut c.in-Ok.hashes.items
-    (c.in-Ok.ensures.counted ∙ ap (λ (p : PlanFacts). length (pieces_of_plan p)) c.in_ok-plan.ensures.planned)
-
-pub returns-in-Err-clause-gave : goal.returns-in-Err-clause-gave
-returns-in-Err-clause-gave g c =
-    let view = c.args.torrent.now in
-    let cut = c.in_ok-plan.ensures.cut in
-    let count = ap (λ (p : PlanFacts). length p.lengths) c.in_ok-plan.ensures.planned ∙ count_is view [] cut in
-    let gave = g.S.Source.gave c.args.source.now in
-    let told = g.S.Source.told c.args.source.now in
-    let ended = g.S.Source.ended c.args.source.now in
-    subst (λ error. IsGiven gave told ended (length view.files) error) (sym c.into.ensures)
-    (given_of gave told ended (length view.files) c.in-Err.error
-    (subst (λ (n : ℕ). IsGivenPieces gave told ended n c.in-Err.error) count c.in-Err.ensures.gave))
+    ∙ count_of_judged view c.in-Ok.hashes.items
+    ∙ c.in-Ok.ensures.counted

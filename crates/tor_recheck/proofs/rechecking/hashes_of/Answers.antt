@@ -1,0 +1,52 @@
+-- the plan, and what its pieces hash to
+use Rattle.tor_recheck.proofs.Names.{[], ℕ, length, ap, subst, sym, ◌∙◌, contents_in, IsGivenPieces, first_piece_fault}
+use Rattle.tor_recheck.proofs.Names.{piece_hashes, pieces_of_plan, PlanFacts, plan_of_entries, entries_to_cut, IsFault}
+use Rattle.tor_recheck.proofs.Names.{IsGiven, first_fault}
+use Rattle.tor_recheck.proofs.ProvedLaws.{pieces_are_counted}
+use Rattle.tor_recheck.proofs.RecheckFaults.{given_of, no_fault, same_fault}
+use Rattle.tor_recheck.proofs.Rechecked.{count_is, pieces_are}
+use Rattle.tor_engine.specs.Fault as engine
+use Rattle.tor_recheck.proofs.rechecking.hashes_of.Goals as goal
+
+pub returns-clause-hashed : goal.returns-clause-hashed
+returns-clause-hashed g c = λ how facts steady.
+    let view = c.args.torrent.now in
+    let fault = c.in-Err.ensures.hashed facts steady in
+    let planned = subst (λ (plan : PlanFacts). engine.IsFault (first_piece_fault facts plan) c.in-Err.error)
+    c.in_ok-plan.ensures.planned fault in
+    subst (λ error. IsFault (first_fault facts view) error) (sym c.into.ensures)
+    (same_fault facts view c.in_ok-plan.ensures.cut c.in-Err.error planned)
+
+pub returns-in-Ok-clause-hashed : goal.returns-in-Ok-clause-hashed
+returns-in-Ok-clause-hashed g c = λ how facts steady.
+    let view = c.args.torrent.now in
+    let cut = c.in_ok-plan.ensures.cut in
+    let planned = c.in_ok-plan.ensures.planned in
+    let plan = plan_of_entries view.kind view.piece_length 16 (entries_to_cut view) in
+    let hashed = c.in-Ok.ensures.hashed facts steady in (
+      hashed.0
+          ∙ ap (λ (p : PlanFacts). piece_hashes p (contents_in facts (length p.lengths))) planned
+          ∙ ap (λ n. piece_hashes plan (contents_in facts n)) (count_is view [] cut),
+      no_fault facts view cut (sym (ap (first_piece_fault facts) planned) ∙ hashed.1),
+    )
+
+pub returns-in-Ok-clause-counted : goal.returns-in-Ok-clause-counted
+returns-in-Ok-clause-counted g c =
+    let view = c.args.torrent.now in
+    let cut = c.in_ok-plan.ensures.cut in
+    c.in-Ok.ensures.counted
+    ∙ ap (λ (p : PlanFacts). length (pieces_of_plan p)) c.in_ok-plan.ensures.planned
+    ∙ ap length (pieces_are view [] cut)
+    ∙ pieces_are_counted view cut
+
+pub returns-clause-gave : goal.returns-clause-gave
+returns-clause-gave g c =
+    let view = c.args.torrent.now in
+    let cut = c.in_ok-plan.ensures.cut in
+    let count = ap (λ (p : PlanFacts). length p.lengths) c.in_ok-plan.ensures.planned ∙ count_is view [] cut in
+    let gave = g.S.Source.gave c.args.source.now in
+    let told = g.S.Source.told c.args.source.now in
+    let ended = g.S.Source.ended c.args.source.now in
+    subst (λ error. IsGiven gave told ended (length view.files) error) (sym c.into.ensures)
+    (given_of gave told ended (length view.files) c.in-Err.error
+    (subst (λ (n : ℕ). IsGivenPieces gave told ended n c.in-Err.error) count c.in-Err.ensures.gave))

@@ -1,0 +1,72 @@
+//! A torrent's files looked for in a source.
+ghost use Rattle.std.specs.Prelude.{◌≡◌, ◌≢◌, None, Err, IfErr, IfOk, MatchResult, length, map};
+ghost use Rattle.tor_engine.specs.Contents.{contents_in};
+ghost use Rattle.tor_engine.specs.Given.{HasTold};
+ghost use Rattle.tor_engine.specs.How.{IsHow};
+ghost use Rattle.tor_engine.specs.PieceFault.{lengths_told};
+ghost use Rattle.tor_recheck.specs.Files.{files_found, held_pieces};
+ghost use Rattle.tor_recheck.specs.Recheck.{IsFault, IsGiven, first_fault};
+ghost use Rattle.tor_recheck.specs.declared.errors.RecheckError.TheVariants.{Workers};
+ghost use Rattle.tor_source.specs.Source.{SourceFacts};
+ghost use Rattle.tor_spec.specs.Verified.{verified_pieces};
+
+use crate::bits::Bits;
+use crate::errors::RecheckError;
+use crate::files::{FileFound, files_of};
+use crate::judge::{judge, judge_held};
+use crate::lengths::lengths_of;
+use crate::rechecking::hashes_of;
+use std::alloc::Global;
+use std::thread::Threads;
+use tor_check::Torrent;
+use tor_engine::How;
+use tor_source::Source;
+
+/// What is told of a torrent's pieces and of its files.
+#[derive(Drop)]
+pub struct Findings {
+    /// Which pieces are there and right, as `recheck` tells.
+    pub bits: Bits,
+    /// Each file, in the torrent's order, padding not counted.
+    pub files: Vec<FileFound>,
+}
+
+/// Which pieces of the torrent are there and right, as [`recheck`](crate::recheck) tells, and which of its files: by
+/// version 2 where the torrent has it, so that a piece of a hybrid whose SHA-1 alone departs leaves its file whole. The
+/// lengths that are told of the files are asked once more, after all that `recheck` asks and reads. Refusals and faults
+/// are those of `recheck`.
+pub fn recheck_files<S: Source, R: Threads + Sync>(
+    rt: &R,
+    alloc: Global,
+    source: &S,
+    torrent: &Torrent,
+    how: How,
+) -> Result<Findings, RecheckError<S::Fault>>
+    ensures workers { (IsHow how → ⊥) → result ≡ Err Workers }
+    ensures found { IsHow how → (facts : SourceFacts S.Fault) → S.is_steady source.now facts →
+        MatchResult result
+        (λ told. (told.bits ≡ verified_pieces torrent.now (contents_in facts (length torrent.now.files)))
+        × (told.files.items ≡ files_found torrent.now (lengths_told facts (length torrent.now.files))
+        (held_pieces torrent.now (contents_in facts (length torrent.now.files))))
+        × (first_fault facts torrent.now ≡ None))
+        (IsFault (first_fault facts torrent.now)) }
+    ensures counted { IfOk result (λ told. (length told.bits ≡ torrent.now.piece_count)
+        × (length told.files.items ≡ length torrent.now.files)) }
+    ensures told { IfOk result (λ told. HasTold (S.told source.now) (map (λ file. file.there) told.files.items)) }
+    ensures allowed { IsHow how → IfErr result (λ error. error ≢ Workers) }
+    ensures gave { IfErr result
+        (IsGiven (S.gave source.now) (S.told source.now) (S.ended source.now) (length torrent.now.files)) }
+{
+    let hashes = match hashes_of(rt, alloc, source, torrent, how) {
+        Ok(hashes) => hashes,
+        Err(error) => return Err(error),
+    };
+    let lengths = match lengths_of(alloc, source, torrent.files().len()) {
+        Ok(lengths) => lengths,
+        Err(error) => return Err(error),
+    };
+    let bits = judge(alloc, torrent, &hashes)?;
+    let held = judge_held(alloc, torrent, &hashes)?;
+    let files = files_of(alloc, torrent, &held, &lengths)?;
+    Ok(Findings { bits, files })
+}
