@@ -38,13 +38,12 @@ pub fn make<T: Threads + Wait + Sync, R: Read, W: Write>(
 {
     match options.place {
         Some(place) => make_of_place(rt, system, options, place, out, shows_progress),
-        None => make_of_input(rt, system, options, reader, out),
+        None => make_of_input(system, options, reader, out),
     }
 }
 
 /// Makes the torrent of what the reader has.
-fn make_of_input<T: Threads + Wait + Sync, R: Read, W: Write>(
-    rt: &T,
+fn make_of_input<R: Read, W: Write>(
     system: &HostRuntime,
     options: &MakeOptions<'_>,
     reader: &mut R,
@@ -63,14 +62,13 @@ fn make_of_input<T: Threads + Wait + Sync, R: Read, W: Write>(
             return Err(Fault::from(fault));
         }
     };
-    let torrent = torrent_of_input(rt, alloc, options.way, reader, &order)?;
+    let torrent = torrent_of_input(system, options.way, reader, &order)?;
     Ok(send(system, out, options.out, &torrent)?)
 }
 
 /// The torrent of what the reader has.
-fn torrent_of_input<T: Threads + Wait + Sync, R: Read>(
-    rt: &T,
-    alloc: Global,
+fn torrent_of_input<R: Read>(
+    system: &HostRuntime,
     way: Way,
     reader: &mut R,
     order: &Order,
@@ -79,9 +77,10 @@ fn torrent_of_input<T: Threads + Wait + Sync, R: Read>(
         (R.remaining reader.old) (R.remaining reader.new) (λ bytes. torrent.items ≡ bytes) content) }
     ensures stopped { IfErr result (StopsReading order.now (R.remaining reader.old) (R.remaining reader.new)) }
 {
+    let alloc = system.alloc();
     match way {
         Way::Shared(_) => torrent_from(alloc, reader, order),
-        Way::Streams(_) => torrent_by_streams(rt, alloc, reader, order),
+        Way::Streams(_) => torrent_by_streams(system, alloc, reader, order),
     }
 }
 
