@@ -18,13 +18,13 @@ of_readers known count same makes.NotSorted given = tt
 of_readers known count same (makes.List fault) given = tt
 of_readers known count same makes.ReservedPad given = tt
 of_readers known count same (makes.Read file None fault) given = given
-of_readers known count same (makes.Read file (Some start) fault) (bytes, gives, long, within) =
-    subst (λ n. file < n) same within
+of_readers known count same (makes.Read file (Some start) fault) (bytes, up_to, long) =
+    subst (λ n. file < n) same up_to.is_there
 of_readers known count same (makes.Changed file) given = given
 of_readers known count same (makes.Missing file) given = given
 of_readers known count same makes.Resources given = tt
-of_readers known count same (makes.StreamTooLong file) (bytes, gives, long, within) =
-    subst (λ n. file < n) same within
+of_readers known count same (makes.StreamTooLong file) (bytes, up_to, long) =
+    subst (λ n. file < n) same up_to.is_there
 
 pub stream_fault : {A : Type 0} (known : List (Option (List ℕ))) (count : ℕ) → length known ≡ count
     → (result : Result A (MakeError Error)) → IfErr result (IsGivenByReaders known)

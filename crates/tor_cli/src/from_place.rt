@@ -151,8 +151,9 @@ fn counted_readers<'a>(
         progress.ask_lengths(&found.source);
     }
     let files = found.source.readers()?;
-    files
-        .into_iter()
-        .map(|reader| CountedReader { reader, progress })
-        .collect(alloc)
+    let mut readers = Vec::with_capacity(alloc, files.len())?;
+    'files: for reader in files {
+        readers.push(CountedReader { reader, progress })?;
+    }
+    Ok(readers)
 }

@@ -23,7 +23,7 @@ use tor_tree::{Name, NameError};
 
 /// Makes the torrent of one file, whose content the reader has, or of the files at a place of the system. The first of
 /// these faults is answered: of the reader, the name, the place, the other options, the files, the writer.
-pub fn make<T: Threads + Wait + Sync, R: Read, W: Write>(
+pub fn make<T: Threads + Wait + Sync + Send + Clone + Drop + 'static, R: Read, W: Write>(
     rt: &T,
     system: &HostRuntime,
     options: &MakeOptions<'_>,
@@ -38,12 +38,13 @@ pub fn make<T: Threads + Wait + Sync, R: Read, W: Write>(
 {
     match options.place {
         Some(place) => make_of_place(rt, system, options, place, out, shows_progress),
-        None => make_of_input(system, options, reader, out),
+        None => make_of_input(rt, system, options, reader, out),
     }
 }
 
 /// Makes the torrent of what the reader has.
-fn make_of_input<R: Read, W: Write>(
+fn make_of_input<T: Threads + Wait + Sync + Send + Clone + Drop + 'static, R: Read, W: Write>(
+    rt: &T,
     system: &HostRuntime,
     options: &MakeOptions<'_>,
     reader: &mut R,
@@ -62,13 +63,14 @@ fn make_of_input<R: Read, W: Write>(
             return Err(Fault::from(fault));
         }
     };
-    let torrent = torrent_of_input(system, options.way, reader, &order)?;
+    let torrent = torrent_of_input(rt, alloc, options.way, reader, &order)?;
     Ok(send(system, out, options.out, &torrent)?)
 }
 
 /// The torrent of what the reader has.
-fn torrent_of_input<R: Read>(
-    system: &HostRuntime,
+fn torrent_of_input<T: Threads + Wait + Sync + Send + Clone + Drop + 'static, R: Read>(
+    rt: &T,
+    alloc: Global,
     way: Way,
     reader: &mut R,
     order: &Order,
@@ -77,10 +79,9 @@ fn torrent_of_input<R: Read>(
         (R.remaining reader.old) (R.remaining reader.new) (λ bytes. torrent.items ≡ bytes) content) }
     ensures stopped { IfErr result (StopsReading order.now (R.remaining reader.old) (R.remaining reader.new)) }
 {
-    let alloc = system.alloc();
     match way {
         Way::Shared(_) => torrent_from(alloc, reader, order),
-        Way::Streams(_) => torrent_by_streams(system, alloc, reader, order),
+        Way::Streams(_) => torrent_by_streams(rt, alloc, reader, order),
     }
 }
 

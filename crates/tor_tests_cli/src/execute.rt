@@ -5,7 +5,7 @@ use std::thread::Threads;
 use tor_cli::execute::execute;
 
 // Executes `tor` with these words over a reader and a writer: the status, and what it prints on standard error.
-pub fn execute_over<T: Threads + Wait + Sync, R: Read, W: Write>(
+pub fn execute_over<T: Threads + Wait + Sync + Send + Clone + Drop + 'static, R: Read, W: Write>(
     rt: &T,
     system: &HostRuntime,
     words: &[&str],

@@ -73,7 +73,7 @@ fn narrow_writer(alloc: Global, step: usize, room: usize, faults: bool) -> Narro
 }
 
 // That the program over the input `abc` has this status, writes these bytes and tells this line.
-fn is_written<T: Threads + Wait + Sync>(
+fn is_written<T: Threads + Wait + Sync + Send + Clone + Drop + 'static>(
     rt: &T,
     system: &HostRuntime,
     mut out: Narrow,
@@ -87,7 +87,7 @@ fn is_written<T: Threads + Wait + Sync>(
 }
 
 // That the program over the reader has the status of a fault of it, writes nothing and tells this line.
-fn is_stopped<T: Threads + Wait + Sync, R: Read>(
+fn is_stopped<T: Threads + Wait + Sync + Send + Clone + Drop + 'static, R: Read>(
     rt: &T,
     system: &HostRuntime,
     words: &[&str],
