@@ -3,6 +3,8 @@ use crate::contents::ABC;
 use crate::sources::order;
 use std::alloc::{AllocError, Global};
 use std::io::{self, Error, ErrorKind, Read};
+use std::sync::Wait;
+use std::thread::Threads;
 use tor_engine::How;
 use tor_meta::{FromFault, MakeError, Order, make_from, torrent_by_streams};
 use tor_source::{InputFault, drop_input, read_limited};
@@ -119,14 +121,19 @@ fn reads_all_before_it_refuses(rt: HostRuntime) {
 }
 
 // Whether the torrent of `abc` is made by so many workers behind a reader that gives at most `step` bytes a read.
-fn is_made_by_streams(rt: &HostRuntime, step: usize, workers: u32) -> Result<bool, AllocError> {
-    let mut order = order(rt.alloc(), &(Kind::V2, true, 16384, "a"))?;
+fn is_made_by_streams<T: Threads + Wait + Sync + Send + Clone + Drop + 'static>(
+    rt: &T,
+    alloc: Global,
+    step: usize,
+    workers: u32,
+) -> Result<bool, AllocError> {
+    let mut order = order(alloc, &(Kind::V2, true, 16384, "a"))?;
     order.how = How::Board(workers);
     let mut reader = Steps {
         bytes: b"abc",
         step,
     };
-    match torrent_by_streams(rt, rt.alloc(), &mut reader, &order) {
+    match torrent_by_streams(rt, alloc, &mut reader, &order) {
         Ok(torrent) => Ok(torrent.as_slice() == ABC),
         Err(_) => Ok(false),
     }
@@ -135,15 +142,18 @@ fn is_made_by_streams(rt: &HostRuntime, step: usize, workers: u32) -> Result<boo
 #[test]
 fn makes_the_same_torrent_by_workers_behind_the_reader(rt: HostRuntime) {
     for (step, workers) in [(1, 1), (2, 2), (7, 64)] {
-        assert!(rt; is_made_by_streams(&rt, step, workers) == Ok(true));
+        assert!(rt; is_made_by_streams(&rt, rt.alloc(), step, workers) == Ok(true));
     }
 }
 
 // What a reader that faults is told as where workers are behind it.
-fn fault_behind(rt: &HostRuntime) -> Result<Option<InputFault>, AllocError> {
-    let order = order(rt.alloc(), &(Kind::V2, true, 16384, "a"))?;
+fn fault_behind<T: Threads + Wait + Sync + Send + Clone + Drop + 'static>(
+    rt: &T,
+    alloc: Global,
+) -> Result<Option<InputFault>, AllocError> {
+    let order = order(alloc, &(Kind::V2, true, 16384, "a"))?;
     let mut reader = Faulting(b"abc");
-    match torrent_by_streams(rt, rt.alloc(), &mut reader, &order) {
+    match torrent_by_streams(rt, alloc, &mut reader, &order) {
         Err(FromFault::Input(fault)) => Ok(Some(fault)),
         _ => Ok(None),
     }
@@ -151,5 +161,5 @@ fn fault_behind(rt: &HostRuntime) -> Result<Option<InputFault>, AllocError> {
 
 #[test]
 fn tells_a_fault_of_its_reader_to_workers(rt: HostRuntime) {
-    assert!(rt; fault_behind(&rt) == Ok(Some(InputFault::Read)));
+    assert!(rt; fault_behind(&rt, rt.alloc()) == Ok(Some(InputFault::Read)));
 }
