@@ -1,13 +1,11 @@
 //! What sources in memory answer, each called through the trait.
-use std::alloc::{AllocError, Global};
-use tor_source::{FailSource, MemSource, ShortSource, Source};
+use crate::faults::{FaultAt, failing_with};
+use crate::shared::files_with;
+use std::alloc::AllocError;
+use tor_source::{ShortSource, Source};
 
 // File 0 has six bytes, file 1 is missing, file 2 is empty.
-fn files(alloc: Global) -> Result<MemSource, AllocError> {
-    let bytes = Vec::from_slice(alloc, b"abcdef")?;
-    let files = vec![in alloc; Some(bytes), None, Some(Vec::new(alloc))]?;
-    Ok(MemSource::new(files))
-}
+const FILES: &[Option<&[u8]>] = &[Some(b"abcdef"), None, Some(b"")];
 
 // Whether this is the length of a file, or the fault of its length.
 fn is_told<S: Source<Fault = u64>>(
@@ -66,7 +64,7 @@ const READS: &[Row] = &[
 
 #[test]
 fn memory_gives_what_is_there(rt: HostRuntime) -> Result<(), AllocError> {
-    let source = files(rt.alloc())?;
+    let source = files_with(rt.alloc(), FILES)?;
     for (file, length) in LENGTHS {
         assert!(rt; is_told(&source, *file, Ok(*length)));
     }
@@ -77,7 +75,7 @@ fn memory_gives_what_is_there(rt: HostRuntime) -> Result<(), AllocError> {
 }
 
 // Of two faults at one offset the first counts, and none at a byte that the file does not have.
-const FAULTS: &[(u64, Option<u64>, u64)] = &[
+const FAULTS: &[FaultAt] = &[
     (0, Some(4), 1),
     (0, Some(3), 5),
     (0, Some(3), 9),
@@ -107,14 +105,9 @@ const FAULTS_OF_READS: &[(u64, u64, Result<&[u8], u64>)] = &[
     (3, 0, Ok(b"")),
 ];
 
-fn failing(alloc: Global) -> Result<FailSource, AllocError> {
-    let faults = Vec::from_slice(alloc, FAULTS)?;
-    Ok(FailSource::new(files(alloc)?, faults))
-}
-
 #[test]
 fn faults_stand_at_their_offsets(rt: HostRuntime) -> Result<(), AllocError> {
-    let source = failing(rt.alloc())?;
+    let source = failing_with(rt.alloc(), FILES, FAULTS)?;
     for (file, wanted) in FAULTS_OF_LENGTHS {
         assert!(rt; is_told(&source, *file, *wanted));
     }
@@ -129,7 +122,7 @@ const SHORT: &[(u64, usize, &[u8])] = &[(0, 6, b"ab"), (3, 6, b"de"), (5, 6, b"f
 
 #[test]
 fn short_reads_have_at_most_a_step(rt: HostRuntime) -> Result<(), AllocError> {
-    let source = ShortSource::new(files(rt.alloc())?, 2);
+    let source = ShortSource::new(files_with(rt.alloc(), FILES)?, 2);
     assert!(rt; is_told(&source, 0, Ok(Some(6))));
     for (start, room, bytes) in SHORT {
         assert!(rt; is_read(&source, 0, *start, *room, Ok(*bytes)));

@@ -1,10 +1,8 @@
 //! The hashes of the pieces of `ab` and `c`; the hashes are of Python's hashlib.
 
-use crate::faults::Changing;
-use crate::shared::{EACH_HOW, plan_of};
-use std::alloc::{AllocError, Global};
+use crate::faults::{Changing, file_that_changes};
+use crate::shared::{EACH_HOW, allowed, files_with, plan_of};
 use std::process::Abort;
-use std::sync::atomic::AtomicU64;
 use std::sync::atomic::Ordering::SeqCst;
 use std::thread::Threads;
 use tor_engine::{EngineError, How, PieceHash, hash_pieces};
@@ -75,30 +73,6 @@ const ROWS: &[Row] = &[
     (Kind::Hybrid, &[], &[None, None]),
 ];
 
-fn content(alloc: Global, bytes: &Option<&[u8]>) -> Result<Option<Vec<u8>>, AllocError> {
-    match bytes {
-        Some(bytes) => Ok(Some(Vec::from_slice(alloc, bytes)?)),
-        None => Ok(None),
-    }
-}
-
-fn add_contents(
-    alloc: Global,
-    files: &[Option<&[u8]>],
-    contents: &mut Vec<Option<Vec<u8>>>,
-) -> Result<(), AllocError> {
-    for file in files {
-        contents.push(content(alloc, file)?)?;
-    }
-    Ok(())
-}
-
-fn files_of(alloc: Global, files: &[Option<&[u8]>]) -> Result<MemSource, AllocError> {
-    let mut contents = Vec::new(alloc);
-    add_contents(alloc, files, &mut contents)?;
-    Ok(MemSource::new(contents))
-}
-
 fn is_hash(hash: &Option<PieceHash>, wanted: &Wanted) -> bool {
     match (hash, wanted) {
         (Some(hash), Some(wanted)) => is_sum(hash.v1, wanted.0) && is_root(hash.v2, wanted.1),
@@ -143,10 +117,7 @@ fn is_right<R: AllocGlobal + Abort + Threads + Sync>(
     row: &Row,
     how: How,
 ) -> bool {
-    if let How::Halves(workers) | How::Board(workers) = how {
-        assert!(rt; workers >= 1 && workers <= 64);
-    }
-    match hash_pieces(rt, rt.alloc(), source, plan, how) {
+    match hash_pieces(rt, rt.alloc(), source, plan, allowed(rt, how)) {
         Ok(hashes) => are_hashes(&hashes, row.2),
         Err(_) => false,
     }
@@ -162,7 +133,7 @@ fn is_planned_right<R: AllocGlobal + Abort + Threads + Sync>(
         return false;
     };
     for how in EACH_HOW {
-        if !is_right(rt, source, &plan, row, how) {
+        if !is_right(rt, source, &plan, row, *how) {
             return false;
         }
     }
@@ -170,7 +141,7 @@ fn is_planned_right<R: AllocGlobal + Abort + Threads + Sync>(
 }
 
 fn is_each_right<R: AllocGlobal + Abort + Threads + Sync>(rt: &R, row: &Row) -> bool {
-    match files_of(rt.alloc(), row.1) {
+    match files_with(rt.alloc(), row.1) {
         Ok(source) => is_planned_right(rt, &source, row),
         Err(_) => false,
     }
@@ -208,10 +179,7 @@ fn is_changed<R: AllocGlobal + Abort + Threads + Sync>(
     source: &Changing,
     how: How,
 ) -> bool {
-    if let How::Halves(workers) | How::Board(workers) = how {
-        assert!(rt; workers >= 1 && workers <= 64);
-    }
-    match hash_pieces(rt, rt.alloc(), source, plan, how) {
+    match hash_pieces(rt, rt.alloc(), source, plan, allowed(rt, how)) {
         Err(EngineError::Changed { file }) => file == source.file,
         _ => false,
     }
@@ -225,14 +193,7 @@ fn is_change<R: AllocGlobal + Abort + Threads + Sync>(
     how: How,
 ) -> bool {
     let ((first, again), there, wanted, reads) = *row;
-    let source = Changing {
-        file,
-        first,
-        again,
-        there,
-        lengths: AtomicU64::new(0),
-        reads: AtomicU64::new(0),
-    };
+    let source = file_that_changes(file, Ok(first), again, there);
     is_changed(rt, plan, &source, how) == wanted && source.reads.load(SeqCst) == reads
 }
 

@@ -1,11 +1,11 @@
 //! How many workers read at once.
 
-use crate::shared::{is, is_fault, plan_of};
+use crate::shared::{allowed, comes_to, is, is_fault, plan_of};
 use std::alloc::AllocError;
 use std::process::Abort;
 use std::sync::atomic::AtomicU64;
 use std::sync::atomic::Ordering::SeqCst;
-use std::thread::{Threads, yield_now};
+use std::thread::Threads;
 use tor_engine::{How, hash_pieces};
 use tor_plan::Plan;
 use tor_source::Source;
@@ -39,9 +39,8 @@ impl Source for Crowded {
         if self.open.fetch_add(1, SeqCst) >= self.workers {
             self.wrong.fetch_add(1, SeqCst);
         }
-        for _ in 0..1000 {
-            yield_now();
-        }
+        // No count comes to so many.
+        comes_to(&self.open, u64::MAX, 1000);
         self.open.fetch_sub(1, SeqCst);
         Ok(buffer.len())
     }
@@ -88,17 +87,20 @@ fn no_more_workers_read_than_were_asked_for(rt: HostRuntime) -> Result<(), Alloc
 
 /// Too few others read.
 #[derive(Debug, Drop)]
-struct Alone;
+pub(crate) struct Alone;
 
-/// A file of zeros, whose reads wait until so many have begun. These are of as many workers, since one that waits
-/// begins no other.
+/// A file of zeros, whose reads below an offset wait until so many have begun. One that waits begins no other, and so
+/// those that meet are of as many workers.
 #[derive(Drop)]
-struct Meeting {
+pub(crate) struct Meeting {
     length: u64,
-    workers: u64,
+    /// Reads from here on wait for no other.
+    end: u64,
+    many: u64,
     /// How often a read looks for the others.
     turns: u64,
     begun: AtomicU64,
+    pub(crate) bytes: AtomicU64,
 }
 
 impl Source for Meeting {
@@ -116,22 +118,46 @@ impl Source for Meeting {
         Ok(Some(self.length))
     }
 
-    fn read_at(&self, _file: u64, _start: u64, buffer: &mut [u8]) -> Result<usize, Alone> {
+    fn read_at(&self, _file: u64, start: u64, buffer: &mut [u8]) -> Result<usize, Alone> {
+        self.bytes.fetch_add(buffer.len() as u64, SeqCst);
         self.begun.fetch_add(1, SeqCst);
-        for _ in 0..self.turns {
-            if self.begun.load(SeqCst) >= self.workers {
-                return Ok(buffer.len());
-            }
-            yield_now();
+        if start >= self.end || comes_to(&self.begun, self.many, self.turns) {
+            return Ok(buffer.len());
         }
         Err(Alone)
     }
 }
 
-const ALONE: &str = "Read { file: 0, start: Some(0), fault: Alone }";
+/// A file of so many bytes, whose reads below an offset wait for so many, and look for them so often.
+pub(crate) fn reads_that_meet(length: u64, end: u64, many: u64, turns: u64) -> Meeting {
+    Meeting {
+        length,
+        end,
+        many,
+        turns,
+        begun: AtomicU64::new(0),
+        bytes: AtomicU64::new(0),
+    }
+}
+
+/// Whether the fault of its pieces has this text; `none` where they have hashes.
+pub(crate) fn is_fault_of_pieces<R: AllocGlobal + Abort + Threads + Sync>(
+    rt: &R,
+    source: &Meeting,
+    plan: &Plan,
+    how: How,
+    wanted: &str,
+) -> bool {
+    match hash_pieces(rt, rt.alloc(), source, plan, allowed(rt, how)) {
+        Ok(_) => wanted == "none",
+        Err(error) => is(format!(in rt.alloc(); "{error:?}"), wanted),
+    }
+}
+
+pub(crate) const ALONE: &str = "Read { file: 0, start: Some(0), fault: Alone }";
 
 /// How often a read looks for others that do not come, and for others that do.
-const FEW: u64 = 1000;
+pub(crate) const FEW: u64 = 1000;
 
 const MANY: u64 = 10_000_000;
 
@@ -151,12 +177,7 @@ const MEETINGS: &[(How, u64, u64, &str)] = &[
 
 /// A file of four units whose reads meet.
 fn meeting_of(workers: u64, turns: u64) -> Meeting {
-    Meeting {
-        length: 65536,
-        workers,
-        turns,
-        begun: AtomicU64::new(0),
-    }
+    reads_that_meet(65536, u64::MAX, workers, turns)
 }
 
 /// Its plan.
@@ -173,23 +194,6 @@ fn workers_meet(rt: HostRuntime) -> Result<(), AllocError> {
         assert!(rt; is_fault(&rt, &meeting_of(*workers, *turns), &plan, *how, wanted));
     }
     Ok(())
-}
-
-/// Whether the fault of the pieces has this text; `none` where they have hashes.
-fn is_fault_of_pieces<R: AllocGlobal + Abort + Threads + Sync>(
-    rt: &R,
-    source: &Meeting,
-    plan: &Plan,
-    how: How,
-    wanted: &str,
-) -> bool {
-    if let How::Halves(workers) | How::Board(workers) = how {
-        assert!(rt; workers >= 1 && workers <= 64);
-    }
-    match hash_pieces(rt, rt.alloc(), source, plan, how) {
-        Ok(_) => wanted == "none",
-        Err(error) => is(format!(in rt.alloc(); "{error:?}"), wanted),
-    }
 }
 
 #[test]
