@@ -3,9 +3,9 @@ ghost use Rattle.std.specs.Prelude.{◌≡◌, [], length};
 ghost use Rattle.std.specs.Thread.{IsSync};
 ghost use Rattle.tor_board.specs.Seats.{IsSeatOf, forest_of, knows, unit_count};
 
-use crate::faults::failing;
+use crate::faults::{FaultAt, failing};
 use crate::shared::{comes_to, is_fault, plan_of};
-use crate::workers::{ALONE, Alone, FEW, Meeting, is_fault_of_pieces, reads_that_meet};
+use crate::workers::{ALONE, Alone, FEW, MANY, Meeting, Row, are_met, reads_that_meet};
 use std::alloc::AllocError;
 use std::process::Abort;
 use std::sync::atomic::AtomicU64;
@@ -18,60 +18,32 @@ use tor_plan::laws::{trees_are_runs, units_are_few};
 use tor_source::{FailSource, Source};
 use tor_tree::Kind;
 
+/// Of eight units of one block.
 const LENGTH: u64 = 8 * 16384;
 
-/// A file of zeros, eight units of one block, whose first read waits until a read of each other unit has begun.
-fn waiting_for(turns: u64) -> Meeting {
-    reads_that_meet(LENGTH, 1, 8, turns)
+/// The first read waits until a read of each other unit has begun. Where the units are dealt out beforehand, some wait
+/// behind the first.
+const ROWS: &[Row] = &[
+    (How::One, 8, FEW, ALONE),
+    (How::Halves(2), 8, FEW, ALONE),
+    (How::Board(1), 8, FEW, ALONE),
+    (How::Board(2), 8, MANY, "none"),
+    (How::Board(5), 8, MANY, "none"),
+];
+
+#[test]
+fn board_shares(rt: HostRuntime) {
+    assert!(rt; are_met(&rt, LENGTH, 1, ROWS, false));
 }
 
-/// How often the first read looks for others that come.
-const MANY: u64 = 100_000_000;
-
-/// The workers, how often the first read looks for the others, and the fault. Where the units are dealt out
-/// beforehand, some wait behind the first.
-const ROWS: &[(How, u64, &str)] = &[
-    (How::One, FEW, ALONE),
-    (How::Halves(2), FEW, ALONE),
-    (How::Board(1), FEW, ALONE),
-    (How::Board(2), MANY, "none"),
-    (How::Board(5), MANY, "none"),
-];
+#[test]
+fn board_shares_over_pieces(rt: HostRuntime) {
+    assert!(rt; are_met(&rt, LENGTH, 1, ROWS, true));
+}
 
 /// The plan of the eight units.
 fn plan_of_eight<R: AllocGlobal + Abort>(rt: &R) -> Result<Plan, AllocError> {
-    let plan = plan_of(rt, &[LENGTH], Kind::V2, 16384, 1)?;
-    assert!(rt; plan.units().len() == 8);
-    Ok(plan)
-}
-
-/// Whether a row holds, and each byte is read once.
-fn is_shared<R: AllocGlobal + Abort + Threads + Sync>(
-    rt: &R,
-    plan: &Plan,
-    row: &(How, u64, &str),
-) -> bool {
-    let source = waiting_for(row.1);
-    let is_told = is_fault(rt, &source, plan, row.0, row.2);
-    is_told && (row.2 != "none" || source.bytes.load(SeqCst) == LENGTH)
-}
-
-#[test]
-fn board_shares(rt: HostRuntime) -> Result<(), AllocError> {
-    let plan = plan_of_eight(&rt)?;
-    for row in ROWS {
-        assert!(rt; is_shared(&rt, &plan, row));
-    }
-    Ok(())
-}
-
-#[test]
-fn board_shares_over_pieces(rt: HostRuntime) -> Result<(), AllocError> {
-    let plan = plan_of_eight(&rt)?;
-    for (how, turns, wanted) in ROWS {
-        assert!(rt; is_fault_of_pieces(&rt, &waiting_for(*turns), &plan, *how, wanted));
-    }
-    Ok(())
+    plan_of(rt, &[LENGTH], Kind::V2, 16384, 1)
 }
 
 /// What one worker did.
@@ -180,8 +152,7 @@ fn is_shared_by_two<R: AllocGlobal + Abort + Threads + Sync>(
 ) -> bool {
     trees_are_runs();
     units_are_few();
-    let Ok((board, seat)) = Board::open(rt.alloc(), plan.forest(), plan.units().len() as u64)
-    else {
+    let Ok((board, seat)) = Board::open(rt.alloc(), plan.forest(), plan.units().len() as u64) else {
         return false;
     };
     let ((first, one), (second, other)) = work_by_two(rt, source, plan, &board, seat);
@@ -194,7 +165,7 @@ fn is_shared_by_two<R: AllocGlobal + Abort + Threads + Sync>(
 #[test]
 fn board_shares_callers_threads(rt: HostRuntime) -> Result<(), AllocError> {
     let plan = plan_of_eight(&rt)?;
-    let source = waiting_for(MANY);
+    let source = reads_that_meet(LENGTH, 1, 8, MANY);
     assert!(rt; is_shared_by_two(&rt, &source, &plan));
     assert!(rt; source.bytes.load(SeqCst) == LENGTH);
     Ok(())
@@ -303,13 +274,11 @@ fn tells_the_fourth<R: AllocGlobal + Abort>(rt: &R, source: &FailSource, plan: &
 }
 
 /// Of ten units the seventh fails, and the fourth.
+const TWICE: &[FaultAt] = &[(0, Some(114688), 9), (0, Some(49157), 5)];
+
 #[test]
 fn a_worker_tells_the_unit_that_it_failed(rt: HostRuntime) -> Result<(), AllocError> {
-    let source = failing(
-        rt.alloc(),
-        &[163840],
-        &[(0, Some(114688), 9), (0, Some(49157), 5)],
-    )?;
+    let source = failing(rt.alloc(), &[163840], TWICE)?;
     let plan = plan_of(&rt, &[163840], Kind::V2, 16384, 1)?;
     assert!(rt; tells_the_fourth(&rt, &source, &plan));
     Ok(())

@@ -226,7 +226,11 @@ fn answers_a_file_that_changes(rt: HostRuntime) {
 }
 
 /// The files, their lengths in the plan, and the fault.
-type Lengths = (&'static [Option<&'static [u8]>], &'static [u64], &'static str);
+type Lengths = (
+    &'static [Option<&'static [u8]>],
+    &'static [u64],
+    &'static str,
+);
 
 const FIVE: Option<&[u8]> = Some(b"12345");
 

@@ -1,7 +1,7 @@
 //! What is asked of a source: where each read begins and ends, and which of its faults is answered.
 
 use crate::faults::{failing, file_that_changes};
-use crate::shared::{files_of, is, is_each_fault, is_fault, plan_of};
+use crate::shared::{files_of, is_each_fault, is_fault, is_told, plan_of};
 use std::alloc::AllocError;
 use std::process::Abort;
 use std::sync::atomic::AtomicU64;
@@ -178,7 +178,8 @@ fn hashes_files_whose_lengths_were_told_before(rt: HostRuntime) -> Result<(), Al
     Ok(())
 }
 
-/// What is told of a file of zeros, whose length was told before, when it is asked again, and the fault. That a file is missing is told of the first asking alone.
+/// What is told of a file of zeros, whose length was told before, when it is asked again, and the fault. That a file
+/// is missing is told of the first asking alone.
 const AGAIN: &[(Result<Option<u64>, u64>, &str)] = &[
     (Ok(None), "Changed { file: 0 }"),
     (Ok(Some(39999)), "Changed { file: 0 }"),
@@ -196,7 +197,7 @@ fn is_fault_again<R: AllocGlobal + Abort + Threads + Sync>(
     let source = file_that_changes(0, again, None, 40000);
     match hash_told(rt, rt.alloc(), &source, plan, How::One) {
         Ok(_) => false,
-        Err(error) => is(format!(in rt.alloc(); "{error:?}"), wanted),
+        Err(fault) => is_told(rt.alloc(), &fault, wanted),
     }
 }
 

@@ -2,6 +2,7 @@
 ghost use Rattle.tor_engine.specs.How.{IsHow};
 
 use std::alloc::{AllocError, Global};
+use std::fmt::Debug;
 use std::process::Abort;
 use std::sync::atomic::AtomicU64;
 use std::sync::atomic::Ordering::SeqCst;
@@ -44,10 +45,14 @@ pub(crate) fn path(alloc: Global, text: &str) -> Result<FilePath, AllocError> {
     FilePath::new(names).ok_or(AllocError)
 }
 
-/// The path `000` of the first file, `001` of the second, and so on.
+/// The paths of files, of which no table has more.
+const PATHS: &[&str] = &["000", "001", "002"];
+
 fn path_at(alloc: Global, index: usize) -> Result<FilePath, AllocError> {
-    let text = format!(in alloc; "{index:03}")?;
-    path(alloc, &text)
+    match PATHS.get(index) {
+        Some(text) => path(alloc, text),
+        None => Err(AllocError),
+    }
 }
 
 fn add_files(
@@ -65,7 +70,10 @@ fn add_files(
 fn list_of(alloc: Global, lengths: &[u64]) -> Result<FileList, AllocError> {
     let mut files = Vec::new(alloc);
     add_files(alloc, lengths, &mut files)?;
-    FileList::build(alloc, files).ok().ok_or(AllocError)
+    match FileList::build(alloc, files) {
+        Ok(list) => Ok(list),
+        Err(_) => Err(AllocError),
+    }
 }
 
 /// A plan of files with these lengths, whose piece length and span are tested first.
@@ -165,6 +173,11 @@ pub(crate) fn is(text: Result<String, AllocError>, wanted: &str) -> bool {
     }
 }
 
+/// Whether a fault has this text.
+pub(crate) fn is_told<F: Debug>(alloc: Global, fault: &EngineError<F>, wanted: &str) -> bool {
+    is(format!(in alloc; "{fault:?}"), wanted)
+}
+
 /// Whether the fault of the files has this text; `none` where they have sums.
 pub(crate) fn is_fault<S: Source, R: AllocGlobal + Abort + Threads + Sync>(
     rt: &R,
@@ -175,7 +188,7 @@ pub(crate) fn is_fault<S: Source, R: AllocGlobal + Abort + Threads + Sync>(
 ) -> bool {
     match hash_by(rt, source, plan, how) {
         Ok(_) => wanted == "none",
-        Err(error) => is(format!(in rt.alloc(); "{error:?}"), wanted),
+        Err(fault) => is_told(rt.alloc(), &fault, wanted),
     }
 }
 

@@ -1,6 +1,6 @@
 //! How many workers read at once.
 
-use crate::shared::{allowed, comes_to, is, is_fault, plan_of};
+use crate::shared::{allowed, comes_to, is_fault, is_told, plan_of};
 use std::alloc::AllocError;
 use std::process::Abort;
 use std::sync::atomic::AtomicU64;
@@ -150,7 +150,7 @@ pub(crate) fn is_fault_of_pieces<R: AllocGlobal + Abort + Threads + Sync>(
 ) -> bool {
     match hash_pieces(rt, rt.alloc(), source, plan, allowed(rt, how)) {
         Ok(_) => wanted == "none",
-        Err(error) => is(format!(in rt.alloc(); "{error:?}"), wanted),
+        Err(fault) => is_told(rt.alloc(), &fault, wanted),
     }
 }
 
@@ -159,10 +159,47 @@ pub(crate) const ALONE: &str = "Read { file: 0, start: Some(0), fault: Alone }";
 /// How often a read looks for others that do not come, and for others that do.
 pub(crate) const FEW: u64 = 1000;
 
-const MANY: u64 = 10_000_000;
+pub(crate) const MANY: u64 = 100_000_000;
 
-/// The workers, how many reads wait for one another, how often each looks for the others, and the fault.
-const MEETINGS: &[(How, u64, u64, &str)] = &[
+/// How the units are shared, how many reads wait for one another, how often each looks for the others, and the fault.
+pub(crate) type Row = (How, u64, u64, &'static str);
+
+/// Whether reads below an offset of a file meet so, and each byte is read once where they do.
+fn is_met<R: AllocGlobal + Abort + Threads + Sync>(
+    rt: &R,
+    plan: &Plan,
+    source: &Meeting,
+    row: &Row,
+    over_pieces: bool,
+) -> bool {
+    let is_right = match over_pieces {
+        true => is_fault_of_pieces(rt, source, plan, row.0, row.3),
+        false => is_fault(rt, source, plan, row.0, row.3),
+    };
+    is_right && (row.3 != "none" || source.bytes.load(SeqCst) == source.length)
+}
+
+/// Whether they do in each row, where the file has units of one block.
+pub(crate) fn are_met<R: AllocGlobal + Abort + Threads + Sync>(
+    rt: &R,
+    length: u64,
+    end: u64,
+    rows: &[Row],
+    over_pieces: bool,
+) -> bool {
+    let Ok(plan) = plan_of(rt, &[length], Kind::V2, 16384, 1) else {
+        return false;
+    };
+    for row in rows {
+        let source = reads_that_meet(length, end, row.1, row.2);
+        if !is_met(rt, &plan, &source, row, over_pieces) {
+            return false;
+        }
+    }
+    plan.units().len() as u64 == length / 16384
+}
+
+const MEETINGS: &[Row] = &[
     (How::One, 2, FEW, ALONE),
     (How::Halves(1), 2, FEW, ALONE),
     (How::Halves(2), 3, FEW, ALONE),
@@ -175,32 +212,13 @@ const MEETINGS: &[(How, u64, u64, &str)] = &[
     (How::Board(4), 4, MANY, "none"),
 ];
 
-/// A file of four units whose reads meet.
-fn meeting_of(workers: u64, turns: u64) -> Meeting {
-    reads_that_meet(65536, u64::MAX, workers, turns)
-}
-
-/// Its plan.
-fn plan_of_meeting<R: AllocGlobal + Abort>(rt: &R) -> Result<Plan, AllocError> {
-    let plan = plan_of(rt, &[65536], Kind::V2, 16384, 1)?;
-    assert!(rt; plan.units().len() == 4);
-    Ok(plan)
+/// All reads of a file of four units meet.
+#[test]
+fn workers_meet(rt: HostRuntime) {
+    assert!(rt; are_met(&rt, 65536, u64::MAX, MEETINGS, false));
 }
 
 #[test]
-fn workers_meet(rt: HostRuntime) -> Result<(), AllocError> {
-    let plan = plan_of_meeting(&rt)?;
-    for (how, workers, turns, wanted) in MEETINGS {
-        assert!(rt; is_fault(&rt, &meeting_of(*workers, *turns), &plan, *how, wanted));
-    }
-    Ok(())
-}
-
-#[test]
-fn workers_meet_over_pieces(rt: HostRuntime) -> Result<(), AllocError> {
-    let plan = plan_of_meeting(&rt)?;
-    for (how, workers, turns, wanted) in MEETINGS {
-        assert!(rt; is_fault_of_pieces(&rt, &meeting_of(*workers, *turns), &plan, *how, wanted));
-    }
-    Ok(())
+fn workers_meet_over_pieces(rt: HostRuntime) {
+    assert!(rt; are_met(&rt, 65536, u64::MAX, MEETINGS, true));
 }
