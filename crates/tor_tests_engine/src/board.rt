@@ -5,7 +5,7 @@ ghost use Rattle.tor_board.specs.Seats.{IsSeatOf, forest_of, knows, unit_count};
 
 use crate::faults::{FaultAt, failing};
 use crate::shared::{comes_to, is_fault, plan_of};
-use crate::workers::{ALONE, Alone, FEW, MANY, Meeting, Row, are_met, reads_that_meet};
+use crate::workers::{ALONE, Alone, FEW, Gathering, MANY, Meeting, Row, meet, reads_that_meet};
 use std::alloc::AllocError;
 use std::process::Abort;
 use std::sync::atomic::AtomicU64;
@@ -31,14 +31,28 @@ const ROWS: &[Row] = &[
     (How::Board(5), 8, MANY, "none"),
 ];
 
+const OF_EIGHT: Gathering = Gathering {
+    length: LENGTH,
+    end: 1,
+    over_pieces: false,
+    rows: ROWS,
+};
+
 #[test]
 fn board_shares(rt: HostRuntime) {
-    assert!(rt; are_met(&rt, LENGTH, 1, ROWS, false));
+    assert!(rt; meet(&rt, &OF_EIGHT));
 }
+
+const PIECES_OF_EIGHT: Gathering = Gathering {
+    length: LENGTH,
+    end: 1,
+    over_pieces: true,
+    rows: ROWS,
+};
 
 #[test]
 fn board_shares_over_pieces(rt: HostRuntime) {
-    assert!(rt; are_met(&rt, LENGTH, 1, ROWS, true));
+    assert!(rt; meet(&rt, &PIECES_OF_EIGHT));
 }
 
 /// The plan of the eight units.

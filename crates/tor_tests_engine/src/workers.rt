@@ -164,39 +164,44 @@ pub(crate) const MANY: u64 = 100_000_000;
 /// How the units are shared, how many reads wait for one another, how often each looks for the others, and the fault.
 pub(crate) type Row = (How, u64, u64, &'static str);
 
-/// Whether reads below an offset of a file meet so, and each byte is read once where they do.
+/// A length, an offset, whether its pieces are hashed alone, and rows that hold of such a file.
+pub(crate) struct Gathering {
+    pub(crate) length: u64,
+    pub(crate) end: u64,
+    pub(crate) over_pieces: bool,
+    pub(crate) rows: &'static [Row],
+}
+
+/// Whether reads below the offset meet so, and each byte is read once where they do.
 fn is_met<R: AllocGlobal + Abort + Threads + Sync>(
     rt: &R,
     plan: &Plan,
-    source: &Meeting,
+    of: &Gathering,
     row: &Row,
-    over_pieces: bool,
 ) -> bool {
-    let is_right = match over_pieces {
-        true => is_fault_of_pieces(rt, source, plan, row.0, row.3),
-        false => is_fault(rt, source, plan, row.0, row.3),
+    let source = reads_that_meet(of.length, of.end, row.1, row.2);
+    let is_right = match of.over_pieces {
+        true => is_fault_of_pieces(rt, &source, plan, row.0, row.3),
+        false => is_fault(rt, &source, plan, row.0, row.3),
     };
-    is_right && (row.3 != "none" || source.bytes.load(SeqCst) == source.length)
+    is_right && (row.3 != "none" || source.bytes.load(SeqCst) == of.length)
 }
 
-/// Whether they do in each row, where the file has units of one block.
-pub(crate) fn are_met<R: AllocGlobal + Abort + Threads + Sync>(
-    rt: &R,
-    length: u64,
-    end: u64,
-    rows: &[Row],
-    over_pieces: bool,
-) -> bool {
-    let Ok(plan) = plan_of(rt, &[length], Kind::V2, 16384, 1) else {
-        return false;
-    };
-    for row in rows {
-        let source = reads_that_meet(length, end, row.1, row.2);
-        if !is_met(rt, &plan, &source, row, over_pieces) {
+fn are_met<R: AllocGlobal + Abort + Threads + Sync>(rt: &R, plan: &Plan, of: &Gathering) -> bool {
+    for row in of.rows {
+        if !is_met(rt, plan, of, row) {
             return false;
         }
     }
-    plan.units().len() as u64 == length / 16384
+    true
+}
+
+/// Whether they do in each row, where the file has units of one block.
+pub(crate) fn meet<R: AllocGlobal + Abort + Threads + Sync>(rt: &R, of: &Gathering) -> bool {
+    match plan_of(rt, &[of.length], Kind::V2, 16384, 1) {
+        Ok(plan) => plan.units().len() as u64 == of.length / 16384 && are_met(rt, &plan, of),
+        Err(_) => false,
+    }
 }
 
 const MEETINGS: &[Row] = &[
@@ -213,12 +218,26 @@ const MEETINGS: &[Row] = &[
 ];
 
 /// All reads of a file of four units meet.
+const OF_FOUR: Gathering = Gathering {
+    length: 65536,
+    end: u64::MAX,
+    over_pieces: false,
+    rows: MEETINGS,
+};
+
 #[test]
 fn workers_meet(rt: HostRuntime) {
-    assert!(rt; are_met(&rt, 65536, u64::MAX, MEETINGS, false));
+    assert!(rt; meet(&rt, &OF_FOUR));
 }
+
+const PIECES_OF_FOUR: Gathering = Gathering {
+    length: 65536,
+    end: u64::MAX,
+    over_pieces: true,
+    rows: MEETINGS,
+};
 
 #[test]
 fn workers_meet_over_pieces(rt: HostRuntime) {
-    assert!(rt; are_met(&rt, 65536, u64::MAX, MEETINGS, true));
+    assert!(rt; meet(&rt, &PIECES_OF_FOUR));
 }
