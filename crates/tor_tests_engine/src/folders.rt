@@ -169,7 +169,8 @@ fn deepen(rt: &HostRuntime, place: &mut String, count: usize) -> io::Result<()> 
     Ok(())
 }
 
-// Whether a scan finds no fault of a file in at most 63 folders, each in the one before, and that it is too deep in more.
+// Whether a scan finds no fault of a file in at most 63 folders, each in the one before, and in more that it is too
+// deep.
 fn takes_file_in(rt: &HostRuntime, folder: &str, count: usize) -> io::Result<bool> {
     let mut place = String::from_str(rt.alloc(), folder)?;
     deepen(rt, &mut place, count)?;
