@@ -1,5 +1,5 @@
 -- Proofs that the hash of a piece stands in the tree of its file (BEP 52, "piece layers").
-use Rattle.std.specs.Prelude.{◌≡◌, ◌==◌, ℕ, not, ◌||◌, List, length, nat_le, slice_get, slice_index_or}
+use Rattle.std.specs.Prelude.{◌≡◌, ◌==◌, ℕ, not, ◌||◌, List, nat_le, slice_get, slice_index_or}
 use Rattle.std.specs.Prelude.{IsTrue, Option, None, Some, if◌then◌else◌}
 use Rattle.tor_merkle.specs.Proof.{is_proof, proof_count, proof_level}
 use Rattle.tor_merkle.specs.Subtree.{zero_leaf}

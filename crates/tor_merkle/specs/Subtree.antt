@@ -1,5 +1,5 @@
 -- Trees of SHA-256 hashes in which each node has two children (BEP 52, "pieces root"). A hash is a list of 32 bytes.
-use Rattle.std.specs.Prelude.{ℕ, zero, suc, ◌+◌, ◌^◌, ◌-◌, List, ◌++◌, length}
+use Rattle.std.specs.Prelude.{ℕ, zero, suc, ◌^◌, ◌-◌, List, ◌++◌, length}
 use Rattle.std.specs.Prelude.{take, drop, replicate, slice_index_or, nat_le, if◌then◌else◌}
 use Rattle.sha2.specs.Sha256.{sha256}
 
