@@ -65,11 +65,11 @@ def test_v2_over_4_gib(program, folder):
     """Made and rechecked in pieces of 1 MiB: 4,097 of them, the last beyond 32 bits."""
     path = sparse(folder / 'f', LENGTH, MARKS)
     text, _, _ = v2_of(LENGTH, blocks_of(LENGTH, MARKS, ZERO_LEAF, sha256), 1 << 20)
-    words = ['make', '--name', 'f', '--piece-length', str(1 << 20), '--workers', '2', '--how']
     torrent = folder / 'torrent'
-    for how in ['halves', 'streams']:
-        expect(program, [*words, how, '--out', str(torrent), path], done())
-        expect_equal(f'the torrent by {how}', True, torrent.read_bytes() == text)
+    words = ['make', '--name', 'f', '--piece-length', str(1 << 20), '--how', 'halves', '--workers', '2', '--out',
+             str(torrent), path]
+    expect(program, words, done())
+    expect_equal('the torrent', True, torrent.read_bytes() == text)
     # The byte past 32 bits is turned: its piece alone is wrong.
     sparse(folder / 'f', LENGTH, MARKS[:4] + [(4 * GIB + 20000, b'hiGh'), MARKS[5]])
     expect(program, ['recheck', str(torrent), path], done(b'pieces 4096 of 4097\nbits ' + b'ff' * 512 + b'00\n', 1))
@@ -78,54 +78,61 @@ def test_v2_over_4_gib(program, folder):
 AFTER = b'after it'
 
 
-def pair_over_4_gib(kind):
-    """The torrent of a folder of such a file and a short one after it, in pieces of a block: 262,147 of the first."""
+def marks_in(length):
+    """Those that a file of so many bytes has room for, the last at its end."""
+    return [mark for mark in MARKS[:-1] if mark[0] < length - 10] + [(length - 1, b'z')]
+
+
+def pair_of(kind, length):
+    """The torrent of a folder of such a file of so many bytes and a short one after it, in pieces of a block."""
+    marks = marks_in(length)
     info = {b'name': b'f', b'piece length': BLOCK}
     root = {b'info': info}
     if kind != 'v1':
-        layer = blocks_of(LENGTH, MARKS, ZERO_LEAF, sha256)
+        layer = blocks_of(length, marks, ZERO_LEAF, sha256)
         info[b'meta version'] = 2
-        info[b'file tree'] = {b'a': {b'': {b'length': LENGTH, b'pieces root': root_of(layer)}},
+        info[b'file tree'] = {b'a': {b'': {b'length': length, b'pieces root': root_of(layer)}},
                               b'b': {b'': {b'length': len(AFTER), b'pieces root': sha256(AFTER)}}}
         root[b'piece layers'] = {root_of(layer): b''.join(layer)}
     if kind != 'v2':
-        lacking = -LENGTH % BLOCK if kind == 'hybrid' else 0
+        lacking = -length % BLOCK if kind == 'hybrid' else 0
         padding = {b'attr': b'p', b'length': lacking, b'path': [b'.pad', b'%d' % lacking]}
-        info[b'files'] = [{b'length': LENGTH, b'path': [b'a']}] + [padding] * (lacking > 0) \
+        info[b'files'] = [{b'length': length, b'path': [b'a']}] + [padding] * (lacking > 0) \
             + [{b'length': len(AFTER), b'path': [b'b']}]
-        start = LENGTH + lacking
-        info[b'pieces'] = b''.join(blocks_of(start + len(AFTER), MARKS + [(start, AFTER)], ZERO_PIECE, sha1))
+        start = length + lacking
+        info[b'pieces'] = b''.join(blocks_of(start + len(AFTER), marks + [(start, AFTER)], ZERO_PIECE, sha1))
     return encode(root)
 
 
-def lay_out_pair(place):
-    place.mkdir()
-    sparse(place / 'a', LENGTH, MARKS)
+def lay_out_pair(place, length):
+    place.mkdir(exist_ok=True)
+    sparse(place / 'a', length, marks_in(length))
     (place / 'b').write_bytes(AFTER)
 
 
 def test_v1_over_4_gib(program, folder):
     """A folder whose first file ends beyond 32 bits, in 262,147 pieces and as many units."""
     place = folder / 'files'
-    lay_out_pair(place)
+    lay_out_pair(place, LENGTH)
     torrent = folder / 'torrent'
     words = ['make', '--name', 'f', '--kind', 'v1', '--piece-length', str(BLOCK), '--span', '1', '--how', 'halves',
              '--workers', '2', '--out', str(torrent), str(place)]
     expect(program, words, done())
-    expect_equal('the torrent', True, torrent.read_bytes() == pair_over_4_gib('v1'))
+    expect_equal('the torrent', True, torrent.read_bytes() == pair_of('v1', LENGTH))
     expect(program, ['check', str(torrent)], wanted_lines(torrent.read_bytes()))
 
 
 def test_streams_over_4_gib(program, folder):
-    """The same folder read once, of each kind, in units of one piece, of 16, and of 1,024."""
+    """Such a folder read once: as v1 past 32 bits in units of one piece, and of the other kinds in units of 16, and of
+    1,024."""
     place = folder / 'files'
-    lay_out_pair(place)
     torrent = folder / 'torrent'
-    for kind, span in [('v1', 1), ('v2', 16), ('hybrid', 1024)]:
+    for kind, span, length in [('v1', 1, LENGTH), ('v2', 16, GIB // 2 + 40000), ('hybrid', 1024, GIB // 2 + 40000)]:
+        lay_out_pair(place, length)
         words = ['make', '--name', 'f', '--kind', kind, '--piece-length', str(BLOCK), '--span', str(span),
                  '--how', 'streams', '--workers', '3', '--out', str(torrent), str(place)]
         expect(program, words, done())
-        expect_equal(f'the {kind} torrent', True, torrent.read_bytes() == pair_over_4_gib(kind))
+        expect_equal(f'the {kind} torrent', True, torrent.read_bytes() == pair_of(kind, length))
 
 
 def test_recheck_past_262144_pieces(program, folder):

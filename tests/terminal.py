@@ -1,5 +1,6 @@
 """The line of progress, which a terminal at standard error shows, and nothing else does."""
 import os
+import random
 import re
 import select
 import signal
@@ -29,13 +30,18 @@ def terminal():
     return master, slave
 
 
+def on_one_processor():
+    """For a process that begins: several workers then take as long as one, so that lines come of a smaller file too."""
+    os.sched_setaffinity(0, {random.choice(sorted(os.sched_getaffinity(0)))})
+
+
 def watch(program, words, meanwhile=None, lines=None, **streams):
-    """Runs the program with a terminal at standard error: what came there, part by part with its time, and the run.
-    After so many lines it is stopped; `meanwhile` is done once, after the first."""
+    """Runs the program with a terminal at standard error, on one processor: what came there, part by part with its
+    time, and the run. After so many lines it is stopped; `meanwhile` is done once, after the first."""
     master, slave = terminal()
     start = time.monotonic()
     output = tempfile.TemporaryFile()
-    child = subprocess.Popen([program, *words], stderr=slave, stdout=output, **streams)
+    child = subprocess.Popen([program, *words], stderr=slave, stdout=output, preexec_fn=on_one_processor, **streams)
     os.close(slave)
     parts = []
     while True:
@@ -136,7 +142,7 @@ def sparse(folder, size, name='sparse'):
     return str(place)
 
 
-SIZE = (2 << 30) + 12345
+SIZE = (1 << 30) + 12345
 
 
 def torrent_of_zeros(size, piece_length):
@@ -156,7 +162,7 @@ def test_make_and_recheck_show_it(program, folder):
     torrent = folder / 'torrent'
     torrent.write_bytes(made)
     words = ['recheck', str(torrent), path]
-    wanted = b'pieces 2049 of 2049\nbits ' + b'ff' * 256 + b'80\n'
+    wanted = b'pieces 1025 of 1025\nbits ' + b'ff' * 128 + b'80\n'
     parts, told = watch(program, words)
     expect_equal('status and output', (0, wanted), (told.status, told.out))
     check_lines(parts, told.err, SIZE, ERASED)
@@ -166,7 +172,7 @@ def test_make_and_recheck_show_it(program, folder):
 def test_of_a_folder_by_workers(program, folder):
     place = folder / 'files'
     place.mkdir()
-    sizes = [1 << 30, 0, 3, (1 << 30) + 1]
+    sizes = [1 << 29, 0, 3, (1 << 29) + 1]
     for i, size in enumerate(sizes):
         sparse(place, size, str(i))
     parts, told = watch(program, ['make', '--name', 'f', '--how', 'halves', '--workers', '3', str(place)])
@@ -178,7 +184,7 @@ def test_of_streams(program, folder):
     """The line has the bytes of all files, though no length is asked to read them."""
     place = folder / 'files'
     place.mkdir()
-    sizes = [1 << 30, 0, 3, (1 << 30) + 1]
+    sizes = [1 << 29, 0, 3, (1 << 29) + 1]
     for i, size in enumerate(sizes):
         sparse(place, size, str(i))
     parts, told = watch(program, ['make', '--name', 'f', '--how', 'streams', '--workers', '2', str(place)])
@@ -190,7 +196,7 @@ def test_of_a_stream_that_cannot_be_read_on(program, folder):
     """A file that goes away before its turn: the line is gone before the fault is told, and no torrent is made."""
     place = folder / 'files'
     place.mkdir()
-    size = 6 << 30
+    size = 1 << 30
     sparse(place, size, 'a')
     (place / 'b').write_bytes(b'five5')
     words = ['make', '--name', 'f', '--how', 'streams', '--workers', '2', str(place)]
@@ -201,7 +207,7 @@ def test_of_a_stream_that_cannot_be_read_on(program, folder):
 
 def test_of_a_stream_that_shrinks_or_grows(program, folder):
     """It is just what was read, though the line tells of the length that it had first."""
-    size = 4 << 30
+    size = 1 << 30
     words = ['make', '--name', 'f', '--piece-length', '1048576', '--how', 'streams', '--workers', '2']
     path = sparse(folder, size)
     parts, told = watch(program, [*words, path], meanwhile=lambda: os.truncate(path, 5))
@@ -263,13 +269,13 @@ def test_recheck_of_a_cut_file(program, folder):
 
 def test_recheck_of_a_longer_file(program, folder):
     """Of a file nothing is read past the torrent's length, and no more is shown."""
-    path = sparse(folder, 9 << 30)
+    path = sparse(folder, 5 << 30)
     torrent = folder / 'torrent'
-    torrent.write_bytes(b'd4:infod6:lengthi%de4:name1:a12:piece lengthi1073741824e6:pieces60:' % (3 << 30)
+    torrent.write_bytes(b'd4:infod6:lengthi%de4:name1:a12:piece lengthi536870912e6:pieces60:' % (3 << 29)
                         + bytes(60) + b'ee')
     parts, told = watch(program, ['recheck', str(torrent), path])
     expect_equal('status and output', (1, b'pieces 0 of 3\nbits 00\n'), (told.status, told.out))
-    check_lines(parts, told.err, 3 << 30, ERASED)
+    check_lines(parts, told.err, 3 << 29, ERASED)
 
 
 def test_nothing_is_shown_of_short_work(program, folder):

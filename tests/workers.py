@@ -5,8 +5,9 @@ import time
 
 from reference import encode, sha1
 from support import Failure, expect_equal
+from terminal import sparse
 
-SIZE = 3 << 30
+SIZE = 1 << 30
 PIECE_LENGTH = 1 << 18
 
 
@@ -40,13 +41,11 @@ def watch(program, words):
     return most, sum(ticks > 0 for ticks in worked.values()), (child.returncode, err)
 
 
-def expect_threads(program, folder, kind, size, rows):
-    """For each way and number of workers so many threads at once, over a file of so many bytes."""
-    path = str(folder / 'sparse')
-    with open(path, 'wb') as file:
-        file.truncate(size)
+def expect_threads(program, folder, kind, rows):
+    """For each way and number of workers so many threads at once, over a file of zeros of so many bytes."""
     wrong = []
-    for how, workers, wanted in rows:
+    for how, workers, wanted, size in rows:
+        path = sparse(folder, size)
         words = ['make', '--name', 'a', '--kind', kind, '--how', how, '--workers', str(workers), path]
         most, worked, ended = watch(program, words)
         # The first of many workers can be done before the last begins.
@@ -60,25 +59,26 @@ def expect_threads(program, folder, kind, size, rows):
 
 
 def test_as_many_as_asked_for(program, folder):
-    expect_threads(program, folder, 'v1', SIZE, [
-        ('one', 8, 1), ('halves', 1, 1), ('halves', 2, 2), ('halves', 3, 3), ('halves', 7, 7), ('halves', 64, 64),
-        ('board', 1, 1), ('board', 2, 2), ('board', 7, 7), ('board', 64, 64)])
+    few, many = SIZE // 2, 2 * SIZE
+    expect_threads(program, folder, 'v1', [
+        ('one', 8, 1, few), ('halves', 1, 1, few), ('halves', 2, 2, few), ('halves', 3, 3, few), ('halves', 7, 7, SIZE),
+        ('halves', 64, 64, many), ('board', 1, 1, few), ('board', 2, 2, few), ('board', 7, 7, SIZE),
+        ('board', 64, 64, many)])
 
 
 def test_one_more_that_reads_a_stream(program, folder):
     """Of a hybrid, since all workers have to work where the one that reads is faster than each of them."""
-    expect_threads(program, folder, 'hybrid', SIZE // 3, [
-        ('streams', 1, 2), ('streams', 2, 3), ('streams', 7, 8), ('streams', 64, 65)])
+    few, many = SIZE // 4, SIZE // 2
+    expect_threads(program, folder, 'hybrid', [
+        ('streams', 1, 2, few), ('streams', 2, 3, few), ('streams', 7, 8, many), ('streams', 64, 65, many)])
 
 
 def test_a_recheck_has_four(program, folder):
-    path, torrent = folder / 'sparse', folder / 'torrent'
-    with open(path, 'wb') as file:
-        file.truncate(SIZE)
+    path, torrent = sparse(folder, SIZE), folder / 'torrent'
     pieces = sha1(bytes(PIECE_LENGTH)) * (SIZE // PIECE_LENGTH)
     torrent.write_bytes(encode({b'info': {b'length': SIZE, b'name': b'sparse', b'piece length': PIECE_LENGTH,
                                           b'pieces': pieces}}))
-    most, worked, ended = watch(program, ['recheck', str(torrent), str(path)])
+    most, worked, ended = watch(program, ['recheck', str(torrent), path])
     if (most, worked) != (4, 4):
         raise Failure(f'a recheck\nwanted  4 threads, all of which work\ncame    {most}, of which {worked} worked')
     expect_equal('status and standard error', (0, b''), ended)

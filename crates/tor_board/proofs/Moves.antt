@@ -9,7 +9,8 @@ use Rattle.tor_board.proofs.Names.{stopped, subst, sym, times, tops_of, total, t
 use Rattle.tor_board.proofs.{Names.{◌%◌, ◌+◌, ◌<◌, ◌^◌, ◌∙◌, ◌∷◌, ◌≡◌, ◌≢◌, ◌≤◌, ◌⊎◌}, Steps.{Does, IsAway}}
 use Rattle.tor_board.proofs.{Steps.{away_rooted, gave, seat_rooted, unmoved_seat, weight}, Sums.{alone, below-only}}
 use Rattle.tor_board.proofs.Sums.{below_more, cond_le, only-other, only-same, set_all, term_le, total-map, total-set}
-use Rattle.tor_board.{proofs.Sums.{total-without, total_le}, proofs.Trees.by_sides, specs.Plays.{failed, merged}}
+use Rattle.tor_board.{proofs.Sums.{total-without, total_le}, proofs.Trees.by_sides, specs.Plays.failed}
+use Rattle.tor_board.specs.steps.Merging.{merged}
 
 -- the claims are at most 256 more than the units
 pub few_claims : {units claims least : ℕ} {views : List View} → KeepsClaims units claims least views

@@ -79,7 +79,3 @@ sealed st m n after =
 
 abbrev pub failed : Tells
 failed st m n after = (after ≡ (failing m.0 st.first, m.1)) × (st.word ≡ 1) × IsFree m.0 × Has m.0.held st.first
-
--- the seat has at most the whole room, and no unit stands twice among those that it names
-abbrev pub merged : Tells
-merged st m n after = (st.word ≡ 0) × (after ≡ m) × (m.0.room ≤ 256) × ((u : ℕ) → named (only u) m.0 ≤ 1)

@@ -69,7 +69,7 @@ impl Play<Hash, View> for Fail {
 pub struct Merge;
 
 impl Play<Hash, View> for Merge {
-    ghost use Rattle.tor_board.specs.Plays.{merged};
+    ghost use Rattle.tor_board.specs.steps.Merging.{merged};
 
     ghost then = { merged };
 }

@@ -34,7 +34,7 @@ pub use Rattle.tor_bencode.specs.Lawful.{HasRisingKeys, IsLawful}
 pub use Rattle.tor_bencode.specs.Spelling.{spelling}
 pub use Rattle.tor_bencode.specs.View.{items_of, items_view, view}
 pub use Rattle.tor_bencode.specs.declared.item.Item.{Item}
-pub use Rattle.tor_check.specs.PieceProofs.{HasTree, IsPieceProof, piece_refusal}
+pub use Rattle.tor_check.specs.PieceProofs.{IsPieceProof, piece_refusal}
 pub use Rattle.tor_check.specs.Refusals.{of_list_error, of_tree_fault, refusal_for}
 pub use Rattle.tor_check.specs.Valid.{IsRefused, IsRefusedFor}
 pub use Rattle.tor_check.specs.ValidViews.{HasRisingPaths, IsViewOfValid}
@@ -50,6 +50,7 @@ pub use Rattle.tor_check.specs.steps.Listed.{all_listed, file_of_listed, files_f
 pub use Rattle.tor_check.specs.steps.Listed.{list_holds, listed_entry, listed_single, lists_some, marks_in, marks_of}
 pub use Rattle.tor_check.specs.steps.Listed.{side_conditions, size_of_listed, sized, sized_files, takes_files}
 pub use Rattle.tor_check.specs.steps.Listed.{tree_pairs}
+pub use Rattle.tor_check.specs.steps.PieceProofs.{HasTree}
 pub use Rattle.tor_check.specs.steps.Sides.{earlier, earlier_refusal, earliest, files_if, first_of_both, first_of_sides}
 pub use Rattle.tor_check.specs.steps.Sides.{first_of_tree, list_if, listed_if, number_of, takes_tree, tree_holds}
 pub use Rattle.tor_check.specs.steps.Sides.{tree_if}

@@ -1,12 +1,8 @@
 -- Proofs that the hash of a piece stands in the tree of its file (BEP 52, "piece layers").
-use Rattle.std.specs.Prelude.{◌≡◌, ◌<◌, ◌≤◌, ◌==◌, ℕ, not, ◌||◌, List, length, nat_le, slice_get, slice_index_or}
-use Rattle.std.specs.Prelude.{IsTrue, Option, None, Some, IsSome, if◌then◌else◌}
-use Rattle.std.specs.Int.{div_ceil}
-use Rattle.tor_merkle.specs.Layer.{piece_level}
+use Rattle.std.specs.Prelude.{◌≡◌, ◌==◌, ℕ, not, ◌||◌, List, nat_le, slice_get, slice_index_or}
+use Rattle.std.specs.Prelude.{IsTrue, Option, None, Some, if◌then◌else◌}
 use Rattle.tor_merkle.specs.Proof.{is_proof, proof_count, proof_level}
-use Rattle.tor_merkle.specs.Stack.{padded_root}
 use Rattle.tor_merkle.specs.Subtree.{zero_leaf}
-use Rattle.tor_merkle.specs.declared.TheConstants.{MAX_LENGTH}
 use Rattle.tor_check.specs.declared.piece_proofs.PieceError.{PieceError}
 use Rattle.tor_check.specs.declared.piece_proofs.PieceError.TheVariants as errors
 use Rattle.tor_spec.specs.valid.Layers.{is_long, root_of_file}
@@ -37,11 +33,3 @@ pub record IsPieceProof (piece_length : ℕ) (told : FileView) (index : ℕ) (ha
   pub of_piece : hash ≡ piece_hash piece_length told index
   pub proof : IsTrue (is_proof (root_of_file told.file) (proof_count told.file.length piece_length)
       (proof_level told.file.length piece_length) index hash siblings)
-
--- a file of a v2 side that is not empty: it has a root, which is that of its layer, if it is longer than a piece
-pub record HasTree (piece_length : ℕ) (told : FileView) : Type 0 where
-  pub small : told.file.length ≤ MAX_LENGTH
-  pub root : IsSome told.file.root
-  pub pieces : piece_length < told.file.length → length told.layer ≡ div_ceil told.file.length piece_length
-  pub joined : piece_length < told.file.length
-      → padded_root (piece_level piece_length) told.layer ≡ root_of_file told.file

@@ -1,8 +1,9 @@
 //! Proofs that the hash of a piece stands in the tree of its file (BEP 52, "piece layers").
 ghost use Rattle.std.specs.Prelude.{◌≡◌, ◌<◌, ◌≤◌, None, Err, IfErr, IfOk, IsSomeAnd, length, slice_get};
 ghost use Rattle.std.specs.Option.{ForSome};
-ghost use Rattle.tor_check.specs.PieceProofs.{HasTree, IsPieceProof, piece_refusal};
+ghost use Rattle.tor_check.specs.PieceProofs.{IsPieceProof, piece_refusal};
 ghost use Rattle.tor_check.specs.declared.piece_proofs.PieceError.TheVariants.{Index, Memory};
+ghost use Rattle.tor_check.specs.steps.PieceProofs.{HasTree};
 ghost use Rattle.tor_merkle.specs.Layer.{IsPieceLength};
 ghost use Rattle.tor_merkle.specs.Proof.{proof_count};
 

@@ -1,6 +1,7 @@
 -- One lane of a vector that was computed lane by lane.
 use Rattle.std.proofs.Common.{◌≡◌, ℕ, zero, suc, ◌+◌, ◌-◌, ◌*◌, ◌/◌, ◌%◌, ◌^◌, ◌<◌, ◌≤◌, take, drop}
-use Rattle.std.proofs.Common.{List, [], ◌∷◌, length, slice_index, slice_index_or, slice_set, bit_or, inl, inr, subst, arith, refl, ap, ◌∙◌}
+use Rattle.std.proofs.Common.{List, [], ◌∷◌, length, slice_index, slice_index_or, slice_set, bit_or, inl, inr, subst}
+use Rattle.std.proofs.Common.{arith, refl, ap, ◌∙◌}
 use Rattle.std.specs.Prelude.{replicate}
 use Rattle.std.specs.Int.{w32, rotate_left, rotate_right}
 use Rattle.sha2.specs.Sha256.{word_at}

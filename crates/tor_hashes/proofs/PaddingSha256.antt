@@ -1,5 +1,6 @@
 -- SHA-256: the block that ends a message of whole blocks.
-use Rattle.std.proofs.Common.{◌≡◌, ℕ, ◌+◌, ◌*◌, ◌/◌, ◌≤◌, take, drop, List, ◌++◌, length-append, length, slice_index, arith, refl, sym, ap, ◌∙◌}
+use Rattle.std.proofs.Common.{◌≡◌, ℕ, ◌+◌, ◌*◌, ◌/◌, ◌≤◌, take, drop, List, ◌++◌, length-append, length, slice_index}
+use Rattle.std.proofs.Common.{arith, refl, sym, ap, ◌∙◌}
 use Rattle.sha2.specs.Sha256.{hash_after, compress, final_hash, padding, rounds, round, round_constants}
 use Rattle.sha2.proofs.Absorbing256.{hash_after-append, hash_after_next}
 use Rattle.sha2.proofs.Schedule256.{rounds_next}

@@ -52,11 +52,12 @@ unfoldable pub use Rattle.tor_merkle.specs.Proof.{proof_root, siblings_of}
 pub use Rattle.tor_merkle.specs.Stack.{Subtrees, padded_subtree}
 unfoldable pub use Rattle.tor_merkle.specs.Stack.{padded_root}
 pub use Rattle.tor_merkle.specs.Subtree.{padded}
-unfoldable pub use Rattle.tor_merkle.specs.Subtree.{height, level_above, node_of, subtree_root, zero_leaf, zero_subtree}
+unfoldable pub use Rattle.tor_merkle.specs.Subtree.{height, node_of, subtree_root, zero_leaf, zero_subtree}
 pub use Rattle.tor_merkle.specs.declared.TheConstants.{MAX_LENGTH, MAX_PIECE_LENGTH, MIN_PIECE_LENGTH}
 pub use Rattle.tor_merkle.specs.steps.Blocks.{KeepsBlocks, in_blocks}
 unfoldable pub use Rattle.tor_merkle.specs.steps.Node.{first_nodes, node, nodes}
 pub use Rattle.tor_merkle.specs.steps.Pieces.{EndsPiece, KeepsPieces, filled}
+unfoldable pub use Rattle.tor_merkle.specs.steps.Plain.{level_above}
 pub use Rattle.tor_merkle.specs.steps.Tops.{KeepsTops}
 pub use borrow.Rule.Slice.PartMut.{put_mid}
 pub use denote.Param.Send.{IsSend, owning_send, sendable}

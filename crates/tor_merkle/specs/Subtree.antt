@@ -1,8 +1,6 @@
 -- Trees of SHA-256 hashes in which each node has two children (BEP 52, "pieces root"). A hash is a list of 32 bytes.
-use Rattle.std.specs.Prelude.{ℕ, zero, suc, ◌+◌, ◌*◌, ◌^◌, ◌-◌, List, ◌++◌, length, map}
+use Rattle.std.specs.Prelude.{ℕ, zero, suc, ◌^◌, ◌-◌, List, ◌++◌, length}
 use Rattle.std.specs.Prelude.{take, drop, replicate, slice_index_or, nat_le, if◌then◌else◌}
-use Rattle.std.specs.Int.{div_ceil}
-use Rattle.std.specs.List.{range_with_len}
 use Rattle.sha2.specs.Sha256.{sha256}
 
 -- an inner node: the hash of its children's 64 bytes
@@ -32,9 +30,3 @@ height (suc n) = if nat_le (suc n) (2 ^ height n) then height n else suc (height
 -- the hashes, followed by the same padding hash up to 2 ^ k of them
 abbrev pub padded : ℕ → List ℕ → List (List ℕ) → List (List ℕ)
 padded k padding hashes = hashes ++ replicate (2 ^ k - length hashes) padding
-
--- the hashes of the level above: the node of each two, where the padding hash stands for a missing last one
-unfoldable pub level_above : List ℕ → List (List ℕ) → List (List ℕ)
-level_above padding hashes =
-    map (λ i. node_of (slice_index_or hashes (2 * i) padding) (slice_index_or hashes (2 * i + 1) padding))
-    (range_with_len 0 (div_ceil (length hashes) 2))

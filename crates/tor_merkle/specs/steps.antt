@@ -2,3 +2,4 @@ pub mod Tops
 pub mod Pieces
 pub mod Blocks
 pub mod Node
+pub mod Plain

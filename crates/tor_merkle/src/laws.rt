@@ -9,6 +9,7 @@ ghost use Rattle.tor_merkle.specs.Layer.{IsPieceLength, pieces_root, piece_level
 ghost use Rattle.tor_merkle.specs.Proof.{proof_count, proof_level};
 ghost use Rattle.tor_merkle.specs.Stack.{padded_root, padded_subtree};
 ghost use Rattle.tor_merkle.specs.Subtree.{height, node_of, zero_subtree};
+ghost use Rattle.tor_merkle.specs.declared.layer.TheConstants.{MANY};
 
 use crate::{BLOCK_LENGTH, MAX_LENGTH, MAX_PIECE_LENGTH, MIN_PIECE_LENGTH};
 
@@ -122,4 +123,9 @@ pub fn lengths_of_blocks_and_pieces()
     ensures shortest { MIN_PIECE_LENGTH ≡ 16384 }
     ensures longest { MAX_PIECE_LENGTH ≡ 2 ^ 30 }
     ensures file { MAX_LENGTH ≡ 2 ^ 50 }
+{}
+
+/// From so many hashes on a root is joined eight nodes at a time.
+pub fn least_joined_by_eight()
+    ensures { MANY ≡ 16 }
 {}

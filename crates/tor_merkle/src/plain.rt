@@ -4,7 +4,7 @@
 ghost use Rattle.std.specs.Prelude.{◌≡◌, ◌^◌, ◌≤◌, ◌↔◌, [], length, IfOk, IsOk, IsNone, IfSome};
 ghost use Rattle.tor_merkle.specs.Block.{leaves};
 ghost use Rattle.tor_merkle.specs.Layer.{IsPieceLength, pieces_root, piece_layer};
-ghost use Rattle.tor_merkle.specs.Subtree.{level_above};
+ghost use Rattle.tor_merkle.specs.steps.Plain.{level_above};
 
 use crate::hash::{Hash, leaf, pair, zero};
 use crate::{BLOCK_LENGTH, MAX_LENGTH};
@@ -63,7 +63,7 @@ fn leaves(alloc: Global, content: &[u8]) -> Result<Vec<Hash>, AllocError>
 }
 
 // The hashes of the level above `hashes`, where `padding` stands for a missing last one.
-#[tactic(auto, unfolding(crate::specs::Subtree::level_above))]
+#[tactic(auto, unfolding(crate::specs::steps::Plain::level_above))]
 fn level_above(alloc: Global, hashes: &[Hash], padding: &Hash) -> Result<Vec<Hash>, AllocError>
     ensures { IfOk result (λ above. above.items ≡ level_above padding.now hashes.now) }
 {

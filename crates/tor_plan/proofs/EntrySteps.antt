@@ -1,9 +1,8 @@
 -- Entries, one after another, and the padding after a file.
 use Rattle.tor_plan.proofs.Names.{◌≡◌, ℕ, ◌+◌, ◌-◌, ◌<◌, ◌≤◌, Bool, true, false, max, List, ◌∷◌, lt-ltb, le-ltb}
-use Rattle.tor_plan.proofs.Names.{cond-true, cond-false, Entry, after_part, shared, unit_within, ◌⊎◌, ◌*◌, ◌/◌, ◌%◌, []}
-use Rattle.tor_plan.proofs.Names.{arith, refl, ap, ◌∙◌, inl, inr, mul-le-mul_right, lt_of_mul-lt-mul_right, mod_self}
-use Rattle.tor_plan.proofs.Names.{mod-eq_of_lt, mod-lt, div-add-mod', cases_lt, cases_eq, true≢false, padding_length}
-use Rattle.tor_plan.proofs.Names.{padding_before_next, has_padding}
+use Rattle.tor_plan.proofs.Names.{cond-true, cond-false, Entry, after_part, shared, unit_within, ◌⊎◌, ◌*◌, [], arith}
+use Rattle.tor_plan.proofs.Names.{refl, ◌∙◌, inl, inr, mul-le-mul_right, lt_of_mul-lt-mul_right, cases_lt, true≢false}
+use Rattle.tor_plan.proofs.Names.{padding_length, padding_before_next, has_padding, whole_with_padding}
 
 abbrev pub Path : Type 0
 Path = List (List ℕ)
@@ -53,20 +52,6 @@ unpadded (entry ∷ entries) none = entry_cases
       | inl more ↦ before_some path m entries more
       | inr few ↦ before_empty path m entries (omega (arith, few)) ∙ unpadded entries others
     ]) entry none
-
--- a length and what it lacks are whole pieces
-pub whole_with_padding : (p m : ℕ) → 0 < p → (k : ℕ) × (m + padding_length p m ≡ k * p)
-whole_with_padding p m pos = elim (cases_eq (m % p) 0) [
-  | inl none ↦
-      let lack : (p - m % p) % p ≡ 0 =
-      ap (λ r. (p - r) % p) none ∙ ap (λ n. n % p) (omega arith) ∙ mod_self p in
-      (m / p, omega (arith, lack, none, div-add-mod' m p))
-  | inr part ↦
-      let there : 0 < m % p =
-      elim (cases_lt 0 (m % p)) [ inl more ↦ more | inr le ↦ absurd (part (omega (arith, le))) ] in
-      let lack : (p - m % p) % p ≡ p - m % p = mod-eq_of_lt (omega (arith, there, pos)) in
-      (m / p + 1, omega (arith, lack, div-add-mod' m p, mod-lt m pos))
-]
 
 -- none, or what m bytes lack to a whole piece
 abbrev pub Fills : ℕ → ℕ → ℕ → Type 0

@@ -1,5 +1,5 @@
 -- The units of a file that is cut by itself are the pieces of the file and its padding.
-use Rattle.tor_plan.proofs.Names.{◌≡◌, ℕ, ◌+◌, ◌-◌, ◌*◌, ◌<◌, ◌≤◌, cond, leb, min, max, [], ◌∷◌, map, arith, ap, ap₂}
+use Rattle.tor_plan.proofs.Names.{◌≡◌, ℕ, ◌+◌, ◌-◌, ◌*◌, ◌<◌, ◌≤◌, cond, leb, min, [], ◌∷◌, map, arith, ap, ap₂}
 use Rattle.tor_plan.proofs.Names.{◌∙◌, sym, inl, inr, le-leb, lt-leb, cond-true, cond-false, cases_lt, div_ceil_times}
 use Rattle.tor_plan.proofs.Names.{div_ceil, range_with_len, shared, parts_between, piece_of_unit, pieces_of_unit}
 use Rattle.tor_plan.proofs.Names.{file_unit, units_of_file, unit_length, Part, PlanUnit, part_alone}

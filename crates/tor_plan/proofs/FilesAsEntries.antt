@@ -1,14 +1,15 @@
 -- Files of a list, cut as the entries that they are in a torrent, whose padding stands where it belongs.
-use Rattle.tor_plan.proofs.Names.{◌≡◌, ℕ, ◌+◌, ◌-◌, ◌*◌, ◌%◌, Bool, true, false, cond, ltb, ◌&&◌, min, max, List, []}
-use Rattle.tor_plan.proofs.Names.{◌∷◌, ◌++◌, map, sum, sum_by, arith, refl, ap, ap₂, ◌∙◌, sym, inl, inr, zero-add}
-use Rattle.tor_plan.proofs.Names.{zero-mod, mod_self, lt-ltb, le-ltb, cond-true, cond-false, cases_lt, sum-map, map-map}
-use Rattle.tor_plan.proofs.Names.{div_ceil, range_with_len, lengths_of, Kind, V1, V2, Hybrid, file_entries, file_entry}
-use Rattle.tor_plan.proofs.Names.{pad_entry, padding_after, padding_length, has_bytes, aligned_entries, v1_entries}
-use Rattle.tor_plan.proofs.Names.{Entry, Layout, facts-v1_entries, layout_of, after_part, entries_length, entry_units}
+use Rattle.tor_plan.proofs.Names.{◌≡◌, ℕ, ◌+◌, ◌-◌, ◌*◌, Bool, true, false, cond, ltb, ◌&&◌, min, max, List, [], ◌∷◌}
+use Rattle.tor_plan.proofs.Names.{◌++◌, map, sum, sum_by, arith, refl, ap, ap₂, ◌∙◌, sym, inl, inr, zero-add, lt-ltb}
+use Rattle.tor_plan.proofs.Names.{le-ltb, cond-true, cond-false, cases_lt, sum-map, map-map, div_ceil, range_with_len}
+use Rattle.tor_plan.proofs.Names.{lengths_of, Kind, V1, V2, Hybrid, file_entries, file_entry, pad_entry, padding_after}
+use Rattle.tor_plan.proofs.Names.{padding_length, has_bytes, aligned_entries, v1_entries, Entry, Layout}
+use Rattle.tor_plan.proofs.Names.{facts-v1_entries, layout_of, after_part, entries_length, entry_units}
 use Rattle.tor_plan.proofs.Names.{joined_entry_units, lengths_of_entries, padding_before_next, separate_entry_units}
 use Rattle.tor_plan.proofs.Names.{unit_within, hash_units, joined_unit, joined_units, parts_within, separate_units}
 use Rattle.tor_plan.proofs.Names.{units_of_file, zeros_after, cases_Bool, and_from, and_left, and_right, or_parts}
 use Rattle.tor_plan.proofs.Names.{or_from, list_any, has_padding, is_filled, ArePadded, IsLaidOut, IsPaddedTo}
+use Rattle.tor_plan.proofs.Names.{no_padding}
 use Rattle.tor_plan.proofs.Contents.{File}
 use Rattle.tor_plan.proofs.EntrySteps.{met, not_met, before_some, before_empty}
 use Rattle.tor_plan.proofs.Runs.{map_same}
@@ -74,13 +75,6 @@ before_padded : (b : Bool) (n : ℕ) (entries : List Entry) → padding_before_n
 unfolding padding_before_next
 before_padded true n entries = ap (λ k. k + padding_before_next entries) (sym (zero-add n))
 before_padded false n entries = sym (zero-add (padding_before_next entries))
-
--- no byte lacks none
-no_padding : (p : ℕ) → padding_length p 0 ≡ 0
-no_padding p =
-    let whole : (p - 0 % p) % p ≡ 0 =
-    ap (λ r. (p - r) % p) (zero-mod p) ∙ ap (λ n. n % p) (omega arith) ∙ mod_self p in
-    omega (arith, whole)
 
 no_zeros_after : (p m : ℕ) (later : List File) → m ≡ 0 → zeros_after Hybrid p m later ≡ 0
 no_zeros_after p m later none =

@@ -24,3 +24,4 @@ pub mod UnitLaws
 pub mod FileUnits
 pub mod PieceJoins
 pub mod WholeLaws
+pub mod AlignedPieces

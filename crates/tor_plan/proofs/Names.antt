@@ -5,7 +5,7 @@ pub use Rattle.std.proofs.Common.{length-append, length-drop, lt_of_mul-lt-mul_r
 pub use Rattle.std.proofs.Common.{mul-le-mul_right, mul-pos, mul_assoc, mul_comm, pow-add, pow-suc, refl, rules, set}
 pub use Rattle.std.proofs.Common.{subst, suc, sum, sum_by, sym, take, true, zero, zero-add, ℕ, ◌%◌, ◌&&◌, ◌*◌, ◌++◌}
 pub use Rattle.std.proofs.Common.{◌+◌, ◌-◌, ◌/◌, ◌<◌, ◌^◌, ◌∙◌, ◌∷◌, ◌≡◌, ◌≢◌, ◌≤◌, ◌⊎◌}
-pub use Rattle.std.proofs.Math.Nat.{le-mul_of_pos_right, mod-eq_of_lt, mod-lt, mod_self, zero-mod}
+pub use Rattle.std.proofs.Math.Nat.{le-mul_of_pos_right}
 pub use Rattle.std.proofs.Math.Pow.{pow-lt}
 pub use Rattle.std.proofs.Math.Seq.{take-add, take-append-add}
 pub use Rattle.std.proofs.lemmas.Bool.{and_from, and_left, and_right, cases_Bool, cases_eq, cases_lt, cases_order}
@@ -22,7 +22,7 @@ pub use Rattle.std.proofs.lemmas.List.Folds.{flat_map-map}
 pub use Rattle.std.proofs.lemmas.List.FromFn.{get_or-map-range_with_len, length-map-range_with_len}
 pub use Rattle.std.proofs.lemmas.List.FromFn.{length-range_with_len, map-range_with_len_more}
 pub use Rattle.std.proofs.lemmas.List.Sums.{sum-map, sum_by-append, sum_by-cons, sum_by-le-sum_by, sum_by_more}
-pub use Rattle.std.proofs.lemmas.Nat.{div-add-mod', ones_le_self, zero_from_ones}
+pub use Rattle.std.proofs.lemmas.Nat.{ones_le_self, zero_from_ones}
 pub use Rattle.std.proofs.lemmas.Simd.{map-map}
 pub use Rattle.std.specs.Int.{div_ceil, is_power_of_two, next_multiple_of}
 pub use Rattle.std.specs.Int.RustNames.{count_ones}
@@ -67,7 +67,8 @@ pub use Rattle.tor_tree.specs.declared.kinds.Kind.TheVariants.{Hybrid, V1, V2}
 pub use Rattle.tor_tree.specs.declared.lists.ListError.{ListError}
 pub use Rattle.tor_tree.specs.declared.lists.ListError.TheVariants.{TooLarge}
 pub use Rattle.tor_tree.specs.declared.lists.TheConstants.{MAX_TOTAL, ROUNDING}
-pub use Rattle.tor_v1.proofs.ProvedLaws.{facts-v1_entries, length-piece_sums, length_of_zeros, sums_of_joined}
+pub use Rattle.tor_v1.proofs.ProvedLaws.{facts-v1_entries, length-piece_sums, length_of_zeros, no_padding}
+pub use Rattle.tor_v1.proofs.ProvedLaws.{sums_of_joined, whole_with_padding}
 pub use Rattle.tor_v1.specs.Content.{AreContentsOf, file_entries}
 unfoldable pub use Rattle.tor_v1.specs.Content.{joined_content}
 pub use Rattle.tor_v1.specs.Entries.{file_entry, has_bytes, pad_entry, padding_after, padding_length, v1_entries}

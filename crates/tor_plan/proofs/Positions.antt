@@ -1,5 +1,5 @@
 -- The positions that units name, which are those of the files: file by file, byte by byte.
-use Rattle.tor_plan.proofs.Names.{◌≡◌, ℕ, zero, suc, ◌+◌, ◌-◌, ◌*◌, ◌<◌, ◌≤◌, min, max, inl, inr, List, [], ◌∷◌, ◌++◌}
+use Rattle.tor_plan.proofs.Names.{◌≡◌, ℕ, zero, suc, ◌+◌, ◌-◌, ◌*◌, ◌<◌, ◌≤◌, max, inl, inr, List, [], ◌∷◌, ◌++◌}
 use Rattle.tor_plan.proofs.Names.{map, sum_by, arith, refl, ap, ap₂, ◌∙◌, sym, append_assoc, append-nil, cases_lt}
 use Rattle.tor_plan.proofs.Names.{map-range_with_len_more, flat_map-append, sum_by-cons, div_ceil, flat_map}
 use Rattle.tor_plan.proofs.Names.{range_with_len, Kind, V1, Entry, entry_units, lengths_of_entries, shared}

@@ -16,7 +16,7 @@ pub use Rattle.tor_plan.proofs.FilesAsEntries.{files_laid_out}
 pub use Rattle.tor_plan.proofs.Trees.{trees_are_runs, units_are_few}
 pub use Rattle.tor_plan.proofs.PieceWithin.{pieces_are_within_files}
 pub use Rattle.tor_plan.proofs.Positions.{entry_units_name_each_byte}
-pub use Rattle.tor_plan.proofs.WholeLaws.{aligned_pieces_are_joined}
+pub use Rattle.tor_plan.proofs.AlignedPieces.{aligned_pieces_are_joined}
 
 some_piece : (span piece_length : ℕ) → 0 < span * piece_length → 0 < piece_length
 some_piece span piece_length pos = elim (eq-zero-or-pos piece_length) [

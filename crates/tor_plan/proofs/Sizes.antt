@@ -8,8 +8,8 @@ use Rattle.tor_plan.proofs.Names.{le-mul_of_pos_right, div_ceil, is_power_of_two
 use Rattle.tor_plan.proofs.Names.{list_any, option_or, lengths_of, lengths_fault, lengths_too_large, paths_fault}
 use Rattle.tor_plan.proofs.Names.{paths_of, IsFileList, Kind, V1, V2, Hybrid, ListError, TooLarge, MAX_LENGTH}
 use Rattle.tor_plan.proofs.Names.{MAX_TOTAL, ROUNDING, padding_length, IsV1PieceLength, Entry, entries_length}
-use Rattle.tor_plan.proofs.Names.{lengths_of_entries, IsPlanPieceLength, IsSpan, ones_step}
-use Rattle.tor_plan.proofs.EntrySteps.{padding, file, entry_cases, whole_with_padding}
+use Rattle.tor_plan.proofs.Names.{lengths_of_entries, IsPlanPieceLength, IsSpan, ones_step, whole_with_padding}
+use Rattle.tor_plan.proofs.EntrySteps.{padding, file, entry_cases}
 
 -- ---- the files of a list
 

@@ -1,5 +1,5 @@
 -- The bytes of a unit, and those of a range of it.
-use Rattle.tor_plan.proofs.Names.{◌≡◌, ℕ, ◌+◌, ◌-◌, ◌<◌, min, max, List, [], ◌∷◌, ◌++◌, length, map, get_or, take, drop}
+use Rattle.tor_plan.proofs.Names.{◌≡◌, ℕ, ◌+◌, ◌-◌, ◌<◌, max, List, [], ◌∷◌, ◌++◌, length, map, get_or, take, drop}
 use Rattle.tor_plan.proofs.Names.{sum_by, arith, refl, ap, ap₂, ◌∙◌, sym, append_assoc, append-nil, length-append}
 use Rattle.tor_plan.proofs.Names.{length-drop, inl, inr, take-append-add, cases_lt, take_min, take_all, drop_all}
 use Rattle.tor_plan.proofs.Names.{take-replicate, drop-replicate, drop-append-le, take-append-le, drop_at, drop-drop}

@@ -1,5 +1,5 @@
 -- The pieces of a unit, of those of several units, and what they have together.
-use Rattle.tor_plan.proofs.Names.{◌≡◌, ℕ, ◌+◌, ◌-◌, ◌*◌, ◌<◌, ◌≤◌, min, max, List, [], ◌∷◌, ◌++◌, length, map, take}
+use Rattle.tor_plan.proofs.Names.{◌≡◌, ℕ, ◌+◌, ◌-◌, ◌*◌, ◌<◌, ◌≤◌, min, List, [], ◌∷◌, ◌++◌, length, map, take}
 use Rattle.tor_plan.proofs.Names.{drop, arith, refl, ap, ap₂, ◌∙◌, sym, mul-le-mul_right, lt_of_mul-lt-mul_right}
 use Rattle.tor_plan.proofs.Names.{get_or, zero-add, take-add, div_ceil_times, length-take-le, take_min, take_all}
 use Rattle.tor_plan.proofs.Names.{flat_map-append, All-nil, All-append, All-head, All-tail, length-map-range_with_len}

@@ -7,7 +7,7 @@ use Rattle.std.proofs.lemmas.Bool.{lt-ltb}
 use Rattle.std.specs.Io.KnownBytes.{IsAtEnd}
 use Rattle.std.specs.Io.BufRead.{DropsThrough, drop_through, first_piece, strip_last, take_through}
 use Rattle.std.specs.List.{filter}
-use Rattle.tor_source.specs.Listing.{is_listed, names_in, pieces}
+use Rattle.tor_source.specs.steps.Listing.{is_listed, names_in, pieces}
 
 cond_cons : {X : Type 0} (b : Bool) (x : X) (ys zs : List X) → cond b (x ∷ ys) (x ∷ zs) ≡ x ∷ cond b ys zs
 cond_cons true x ys zs = refl

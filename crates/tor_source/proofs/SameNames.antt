@@ -10,7 +10,7 @@ use Rattle.std.specs.Ordering.{on}
 use Rattle.std.proofs.lemmas.Bool.{and_parts, eqb-true}
 use Rattle.std.proofs.lemmas.List.Kept.{Any-dedup, Contains-from_dedup}
 use Rattle.std.proofs.lemmas.List.Sorted.{Contains-permutation, IsPermutation-sym}
-use Rattle.tor_source.specs.Listing.{HasSameNames, names_in}
+use Rattle.tor_source.specs.steps.Listing.{HasSameNames, names_in}
 
 abbrev Name : Type 0
 Name = Vec ℕ Global

@@ -1,7 +1,6 @@
 pub mod Faults
 pub mod Filling
 pub mod Input
-pub mod Listing
 pub mod Places
 pub mod Source
 pub mod Sources

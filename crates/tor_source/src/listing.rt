@@ -1,7 +1,7 @@
 //! The names in one folder.
 ghost use Rattle.std.specs.Prelude.{◌≡◌, IfOk, IfSome, map, vec_items};
 ghost use Rattle.std.specs.List.Sorted.{IsStrictlySortedBy};
-ghost use Rattle.tor_source.specs.Listing.{HasSameNames, is_listed, names_in};
+ghost use Rattle.tor_source.specs.steps.Listing.{HasSameNames, is_listed, names_in};
 ghost use Rattle.tor_tree.specs.Path.{name_cmp};
 
 use crate::faults::ScanFault;

@@ -1,6 +1,6 @@
 //! Which fault is answered: the first of a source, or that of a file that is missing or has changed.
 
-use crate::shared::{EACH_HOW, content, files_of, is_each_fault, is_fault, plan_of};
+use crate::shared::{EACH_HOW, files_of, files_with, is_each_fault, is_fault, plan_of};
 use std::alloc::{AllocError, Global};
 use std::process::Abort;
 use std::sync::atomic::AtomicU64;
@@ -8,11 +8,11 @@ use std::sync::atomic::Ordering::SeqCst;
 use std::thread::Threads;
 use tor_engine::How;
 use tor_plan::Plan;
-use tor_source::{FailSource, MemSource, Source};
+use tor_source::{FailSource, Source};
 use tor_tree::Kind;
 
 /// A fault of a file: for its length, or at a byte; and its number.
-type FaultAt = (u64, Option<u64>, u64);
+pub(crate) type FaultAt = (u64, Option<u64>, u64);
 
 /// The lengths of files, their faults, and the one that is answered.
 type Faults = (&'static [u64], &'static [FaultAt], &'static str);
@@ -61,9 +61,24 @@ const FAULTS: &[Faults] = &[
     ),
 ];
 
-fn failing(alloc: Global, lengths: &[u64], faults: &[FaultAt]) -> Result<FailSource, AllocError> {
+/// Files with these lengths, and faults at them.
+pub(crate) fn failing(
+    alloc: Global,
+    lengths: &[u64],
+    faults: &[FaultAt],
+) -> Result<FailSource, AllocError> {
     let faults = Vec::from_slice(alloc, faults)?;
     Ok(FailSource::new(files_of(alloc, lengths)?, faults))
+}
+
+/// The same of files of these contents.
+pub(crate) fn failing_with(
+    alloc: Global,
+    contents: &[Option<&[u8]>],
+    faults: &[FaultAt],
+) -> Result<FailSource, AllocError> {
+    let faults = Vec::from_slice(alloc, faults)?;
+    Ok(FailSource::new(files_with(alloc, contents)?, faults))
 }
 
 /// Whether the fault of the planned files is answered, each way to share the units.
@@ -106,7 +121,7 @@ fn answers_the_first_fault_in_the_order_of_the_plan(rt: HostRuntime) {
 #[derive(Drop)]
 pub(crate) struct Changing {
     pub(crate) file: u64,
-    pub(crate) first: Option<u64>,
+    pub(crate) first: Result<Option<u64>, u64>,
     pub(crate) again: Option<u64>,
     pub(crate) there: u64,
     pub(crate) lengths: AtomicU64,
@@ -129,7 +144,7 @@ impl Source for Changing {
             return Ok(Some(0));
         }
         match self.lengths.fetch_add(1, SeqCst) {
-            0 => Ok(self.first),
+            0 => self.first,
             _ => Ok(self.again),
         }
     }
@@ -141,6 +156,22 @@ impl Source for Changing {
         }
         let left = self.there.saturating_sub(start) as usize;
         Ok(left.min(buffer.len()))
+    }
+}
+
+pub(crate) fn file_that_changes(
+    file: u64,
+    first: Result<Option<u64>, u64>,
+    again: Option<u64>,
+    there: u64,
+) -> Changing {
+    Changing {
+        file,
+        first,
+        again,
+        there,
+        lengths: AtomicU64::new(0),
+        reads: AtomicU64::new(0),
     }
 }
 
@@ -170,14 +201,7 @@ fn is_change<R: AllocGlobal + Abort + Threads + Sync>(
     how: How,
 ) -> bool {
     let ((first, again), there, _, wanted, reads) = *row;
-    let source = Changing {
-        file: 0,
-        first,
-        again,
-        there,
-        lengths: AtomicU64::new(0),
-        reads: AtomicU64::new(0),
-    };
+    let source = file_that_changes(0, Ok(first), again, there);
     is_fault(rt, &source, plan, how, wanted) && source.reads.load(SeqCst) == reads
 }
 
@@ -187,7 +211,7 @@ fn is_each_change<R: AllocGlobal + Abort + Threads + Sync>(rt: &R, row: &Change)
         return false;
     };
     for how in EACH_HOW {
-        if !is_change(rt, &plan, row, how) {
+        if !is_change(rt, &plan, row, *how) {
             return false;
         }
     }
@@ -202,55 +226,29 @@ fn answers_a_file_that_changes(rt: HostRuntime) {
 }
 
 /// The files, their lengths in the plan, and the fault.
-type Lengths = (&'static [Option<u64>], &'static [u64], &'static str);
+type Lengths = (
+    &'static [Option<&'static [u8]>],
+    &'static [u64],
+    &'static str,
+);
+
+const FIVE: Option<&[u8]> = Some(b"12345");
+
+const SIX: Option<&[u8]> = Some(b"123456");
+
+const SEVEN: Option<&[u8]> = Some(b"1234567");
 
 const LENGTHS: &[Lengths] = &[
-    (
-        &[Some(5), Some(6), Some(7)],
-        &[5, 7, 8],
-        "Changed { file: 1 }",
-    ),
-    (&[Some(5), Some(6)], &[6, 5], "Changed { file: 0 }"),
-    (&[Some(5), Some(0)], &[5, 1], "Changed { file: 1 }"),
-    (&[Some(5), None], &[5, 0], "Missing { file: 1 }"),
-    (&[Some(5), None], &[6, 0], "Missing { file: 1 }"),
+    (&[FIVE, SIX, SEVEN], &[5, 7, 8], "Changed { file: 1 }"),
+    (&[FIVE, SIX], &[6, 5], "Changed { file: 0 }"),
+    (&[FIVE, Some(b"")], &[5, 1], "Changed { file: 1 }"),
+    (&[FIVE, None], &[5, 0], "Missing { file: 1 }"),
+    (&[FIVE, None], &[6, 0], "Missing { file: 1 }"),
 ];
-
-/// A content of this length; None stands for a missing file.
-fn file_there(alloc: Global, length: Option<u64>) -> Result<Option<Vec<u8>>, AllocError> {
-    match length {
-        Some(length) => Ok(Some(content(alloc, length)?)),
-        None => Ok(None),
-    }
-}
-
-fn add_contents(
-    alloc: Global,
-    lengths: &[Option<u64>],
-    files: &mut Vec<Option<Vec<u8>>>,
-) -> Result<(), AllocError> {
-    for length in lengths {
-        files.push(file_there(alloc, *length)?)?;
-    }
-    Ok(())
-}
-
-/// Files of such contents.
-fn files_there(alloc: Global, lengths: &[Option<u64>]) -> Result<MemSource, AllocError> {
-    let mut files = Vec::new(alloc);
-    add_contents(alloc, lengths, &mut files)?;
-    Ok(MemSource::new(files))
-}
-
-/// Such files, of which the first byte of file 0 fails too.
-fn failing_there(alloc: Global, lengths: &[Option<u64>]) -> Result<FailSource, AllocError> {
-    let faults = vec![in alloc; (0, Some(0), 1)]?;
-    Ok(FailSource::new(files_there(alloc, lengths)?, faults))
-}
 
 /// Whether the fault of a row is answered, and not that of the first byte of its file 0.
 fn is_fault_of_lengths<R: AllocGlobal + Abort + Threads + Sync>(rt: &R, row: &Lengths) -> bool {
-    match failing_there(rt.alloc(), row.0) {
+    match failing_with(rt.alloc(), row.0, &[(0, Some(0), 1)]) {
         Ok(source) => is_planned_fault(rt, &source, row.1, Kind::V2, row.2),
         Err(_) => false,
     }

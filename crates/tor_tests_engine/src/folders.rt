@@ -1,5 +1,6 @@
 //! Scans and reads of real folders.
 use crate::memory::read;
+use crate::readers::{are_opened_once, gives_each};
 use crate::shared::path;
 use std::alloc::{AllocError, Global};
 use std::rt::Files;
@@ -8,7 +9,7 @@ use tor_source::{FolderSource, ScanFault, Source};
 use tor_tree::FilePath;
 
 // A new folder below the system's folder for temporary files.
-pub(crate) fn new_folder(rt: &HostRuntime, name: &str) -> io::Result<String> {
+fn new_folder(rt: &HostRuntime, name: &str) -> io::Result<String> {
     let id = process::id(rt.process());
     let temporary = env::temp_dir(rt)?;
     let place = format!(in rt.alloc(); "{}/tor_source-{name}-{id}", temporary.display())?;
@@ -21,8 +22,54 @@ pub(crate) fn below(alloc: Global, folder: &str, name: &str) -> Result<String, A
     format!(in alloc; "{folder}/{name}")
 }
 
+/// What is made in a new folder, and found there.
+#[derive(Clone, Copy)]
+pub(crate) enum Case {
+    /// Files and folders, one of them empty.
+    Order,
+    /// A file, and a link to it.
+    Link,
+    /// A file in so many folders, each in the one before.
+    Names(usize),
+    /// As many folders with no file.
+    Empty(usize),
+    /// 5,001 files, more than are read at once.
+    Many,
+    /// Regular files, and what is none, read at offsets.
+    Reads,
+    /// The same read once and in order.
+    Readers,
+    /// Files that change after they were opened.
+    Opened,
+}
+
+fn holds_in(rt: &HostRuntime, folder: &str, case: Case) -> io::Result<bool> {
+    match case {
+        Case::Order => lists_in_order(rt, folder),
+        Case::Link => refuses_file_and_link(rt, folder, &below(rt.alloc(), folder, "b")?),
+        Case::Names(count) => takes_file_in(rt, folder, count),
+        Case::Empty(count) => is_nothing_in(rt, folder, count),
+        Case::Many => lists_many(rt, folder),
+        Case::Reads => reads_regular_files(rt, folder),
+        Case::Readers => gives_each(rt, folder),
+        Case::Opened => are_opened_once(rt, folder),
+    }
+}
+
+fn holds_in_new(rt: &HostRuntime, name: &str, case: Case) -> io::Result<bool> {
+    let folder = new_folder(rt, name)?;
+    let holds = holds_in(rt, &folder, case)?;
+    rt.remove_dir_all(rt.alloc(), &folder)?;
+    Ok(holds)
+}
+
+/// Whether a case holds in a new folder, with this in its name.
+pub(crate) fn holds(rt: &HostRuntime, name: &str, case: Case) -> bool {
+    matches!(holds_in_new(rt, name, case), Ok(true))
+}
+
 // The names of each path joined by slashes, and a space after each path.
-pub(crate) fn shown(alloc: Global, paths: &[FilePath]) -> Result<Vec<u8>, AllocError> {
+fn shown(alloc: Global, paths: &[FilePath]) -> Result<Vec<u8>, AllocError> {
     let mut text = Vec::new(alloc);
     for path in paths {
         for name in path.names() {
@@ -43,36 +90,47 @@ pub(crate) fn add_folder(rt: &HostRuntime, folder: &str, name: &str) -> io::Resu
     rt.create_dir(&below(rt.alloc(), folder, name)?)
 }
 
-// A new folder with files and folders in it, one of them empty.
-fn small_folder(rt: &HostRuntime) -> io::Result<String> {
-    let folder = new_folder(rt, "order")?;
-    add_folder(rt, &folder, "a")?;
-    add_folder(rt, &folder, "d")?;
-    for name in ["b", "a-b", "a/c", ".e"] {
-        add_file(rt, &folder, name)?;
+pub(crate) fn is_shown(alloc: Global, paths: &[FilePath], wanted: &[u8]) -> bool {
+    match shown(alloc, paths) {
+        Ok(text) => text.as_slice() == wanted,
+        Err(_) => false,
     }
-    Ok(folder)
 }
 
-fn is_shown(alloc: Global, paths: &[FilePath], wanted: &[u8]) -> Result<bool, AllocError> {
-    Ok(shown(alloc, paths)?.as_slice() == wanted)
+// Whether there are so many files where the system is told of their paths.
+fn is_counted(rt: &HostRuntime, folder: &str, paths: Vec<FilePath>, count: usize) -> bool {
+    match FolderSource::at(rt, folder, paths) {
+        Ok(source) => source.count() == count,
+        Err(_) => false,
+    }
 }
 
 // Whether a scan of a folder finds so many files, with these paths; and as many where it is told of them.
-fn has_files(rt: &HostRuntime, folder: &str, count: usize, wanted: &[u8]) -> io::Result<bool> {
-    let Ok((source, paths)) = FolderSource::scan(rt, folder) else {
-        return Ok(false);
-    };
-    let is_right = source.count() == count && is_shown(rt.alloc(), &paths, wanted)?;
-    Ok(is_right && paths.len() == count && FolderSource::at(rt, folder, paths)?.count() == count)
+fn has_files(rt: &HostRuntime, folder: &str, count: usize, wanted: &[u8]) -> bool {
+    match FolderSource::scan(rt, folder) {
+        Ok((source, paths)) => {
+            let is_found = source.count() == count && is_shown(rt.alloc(), &paths, wanted);
+            is_counted(rt, folder, paths, count) && is_found
+        }
+        Err(_) => false,
+    }
+}
+
+const NAMES: &[&str] = &["b", "a-b", "a/c", ".e"];
+
+fn lists_in_order(rt: &HostRuntime, folder: &str) -> io::Result<bool> {
+    add_folder(rt, folder, "a")?;
+    add_folder(rt, folder, "d")?;
+    for name in NAMES {
+        add_file(rt, folder, name)?;
+    }
+    let is_single = FolderSource::single(rt, folder)?.count() == 1;
+    Ok(is_single && has_files(rt, folder, 4, b"/.e /a/c /a-b /b "))
 }
 
 #[test]
-fn lists_files_in_the_order_of_their_paths(rt: HostRuntime) -> io::Result<()> {
-    let folder = small_folder(&rt)?;
-    assert!(rt; has_files(&rt, &folder, 4, b"/.e /a/c /a-b /b ")?);
-    assert!(rt; FolderSource::single(&rt, &folder)?.count() == 1);
-    rt.remove_dir_all(rt.alloc(), &folder)
+fn lists_files_in_the_order_of_their_paths(rt: HostRuntime) {
+    assert!(rt; holds(&rt, "order", Case::Order));
 }
 
 pub(crate) fn fault(rt: &HostRuntime, path: &str) -> Option<ScanFault> {
@@ -96,16 +154,10 @@ fn refuses_file_and_link(rt: &HostRuntime, folder: &str, file: &str) -> io::Resu
     Ok(is_refused && is_refused_again && is_not_regular(rt, folder))
 }
 
-fn refuses_link(rt: &HostRuntime, folder: &str) -> io::Result<bool> {
-    refuses_file_and_link(rt, folder, &below(rt.alloc(), folder, "b")?)
-}
-
 #[test]
-fn refuses_what_is_no_file_and_no_folder(rt: HostRuntime) -> io::Result<()> {
+fn refuses_what_is_no_file_and_no_folder(rt: HostRuntime) {
     assert!(rt; is_not_regular(&rt, "/dev/null"));
-    let folder = new_folder(&rt, "link")?;
-    assert!(rt; refuses_link(&rt, &folder)?);
-    rt.remove_dir_all(rt.alloc(), &folder)
+    assert!(rt; holds(&rt, "link", Case::Link));
 }
 
 // Makes so many folders named n in a folder, each in the one before, and adds their names to its place.
@@ -117,44 +169,38 @@ fn deepen(rt: &HostRuntime, place: &mut String, count: usize) -> io::Result<()> 
     Ok(())
 }
 
-// Makes a file in so many folders, each in the one before, below a folder; whether a scan then finds no fault.
+// Whether a scan finds no fault of a file in at most 63 folders, each in the one before, and in more that it is too
+// deep.
 fn takes_file_in(rt: &HostRuntime, folder: &str, count: usize) -> io::Result<bool> {
     let mut place = String::from_str(rt.alloc(), folder)?;
     deepen(rt, &mut place, count)?;
     add_file(rt, &place, "f")?;
-    Ok(fault(rt, folder).is_none())
-}
-
-fn is_too_deep(rt: &HostRuntime, folder: &str) -> bool {
-    matches!(fault(rt, folder), Some(ScanFault::TooDeep))
-}
-
-#[test]
-fn takes_a_file_of_64_names(rt: HostRuntime) -> io::Result<()> {
-    let folder = new_folder(&rt, "64")?;
-    assert!(rt; takes_file_in(&rt, &folder, 63)?);
-    rt.remove_dir_all(rt.alloc(), &folder)
+    Ok(match fault(rt, folder) {
+        None => count <= 63,
+        Some(ScanFault::TooDeep) => count > 63,
+        Some(_) => false,
+    })
 }
 
 #[test]
-fn refuses_a_file_of_more_than_64_names(rt: HostRuntime) -> io::Result<()> {
-    let folder = new_folder(&rt, "deep")?;
-    assert!(rt; !takes_file_in(&rt, &folder, 64)?);
-    assert!(rt; is_too_deep(&rt, &folder));
-    rt.remove_dir_all(rt.alloc(), &folder)
+fn takes_a_file_of_64_names(rt: HostRuntime) {
+    assert!(rt; holds(&rt, "64", Case::Names(63)));
+}
+
+#[test]
+fn refuses_a_file_of_more_than_64_names(rt: HostRuntime) {
+    assert!(rt; holds(&rt, "deep", Case::Names(64)));
 }
 
 fn is_nothing_in(rt: &HostRuntime, folder: &str, count: usize) -> io::Result<bool> {
     let mut place = String::from_str(rt.alloc(), folder)?;
     deepen(rt, &mut place, count)?;
-    has_files(rt, folder, 0, b"")
+    Ok(has_files(rt, folder, 0, b""))
 }
 
 #[test]
-fn finds_nothing_in_65_empty_folders_inside_one_another(rt: HostRuntime) -> io::Result<()> {
-    let folder = new_folder(&rt, "nested")?;
-    assert!(rt; is_nothing_in(&rt, &folder, 65)?);
-    rt.remove_dir_all(rt.alloc(), &folder)
+fn finds_nothing_in_65_empty_folders_inside_one_another(rt: HostRuntime) {
+    assert!(rt; holds(&rt, "nested", Case::Empty(65)));
 }
 
 // Makes a file with a number in its name, and adds its path to those that are shown.
@@ -178,36 +224,36 @@ fn lists_many(rt: &HostRuntime, folder: &str) -> io::Result<bool> {
     for number in 10000..15001u32 {
         add_numbered(rt, folder, number, &mut wanted)?;
     }
-    has_files(rt, folder, 5001, &wanted)
+    Ok(has_files(rt, folder, 5001, &wanted))
 }
 
 #[test]
-fn lists_a_folder_of_many_names(rt: HostRuntime) -> io::Result<()> {
-    let folder = new_folder(&rt, "many")?;
-    assert!(rt; lists_many(&rt, &folder)?);
-    rt.remove_dir_all(rt.alloc(), &folder)
+fn lists_a_folder_of_many_names(rt: HostRuntime) {
+    assert!(rt; holds(&rt, "many", Case::Many));
 }
 
-// A new folder with a file `a` of six bytes, a folder `d` and a link `l` to the file.
-fn folder_of_a_file(rt: &HostRuntime) -> io::Result<String> {
-    let folder = new_folder(rt, "reads")?;
-    add_folder(rt, &folder, "d")?;
-    let file = below(rt.alloc(), &folder, "a")?;
-    fs::write(rt, file.as_str(), "abcdef")?;
-    rt.symlink(&file, &below(rt.alloc(), &folder, "l")?)?;
-    Ok(folder)
+// Makes a file `a` of six bytes, a folder `d` and a link `l` to the file.
+fn add_file_and_link(rt: &HostRuntime, folder: &str, file: &str) -> io::Result<()> {
+    add_folder(rt, folder, "d")?;
+    fs::write(rt, file, "abcdef")?;
+    rt.symlink(file, &below(rt.alloc(), folder, "l")?)
 }
 
-// The files of these paths below a folder.
-pub(crate) fn files_at(
-    rt: &HostRuntime,
+fn add_paths(alloc: Global, texts: &[&str], paths: &mut Vec<FilePath>) -> Result<(), AllocError> {
+    for text in texts {
+        paths.push(path(alloc, text)?)?;
+    }
+    Ok(())
+}
+
+// The files of these paths below a folder of a system.
+pub(crate) fn files_at<R: Files + AllocGlobal + Clone + Drop>(
+    rt: &R,
     folder: &str,
     texts: &[&str],
-) -> Result<FolderSource<HostRuntime>, AllocError> {
+) -> Result<FolderSource<R>, AllocError> {
     let mut files = Vec::new(rt.alloc());
-    for text in texts {
-        files.push(path(rt.alloc(), text)?)?;
-    }
+    add_paths(rt.alloc(), texts, &mut files)?;
     FolderSource::at(rt, folder, files)
 }
 
@@ -236,41 +282,53 @@ const READS: &[Row] = &[
     (5, 0, 3, b""),
 ];
 
-fn is_read(source: &FolderSource<HostRuntime>, row: &Row) -> io::Result<bool> {
+fn is_read(source: &FolderSource<HostRuntime>, row: &Row) -> bool {
     let mut buffer = [0; 9];
     let (buffer, _) = buffer.split_at_mut(row.2.min(9));
-    Ok(read(source, row.0, row.1, buffer)? == row.3)
+    match read(source, row.0, row.1, buffer) {
+        Ok(bytes) => bytes == row.3,
+        Err(_) => false,
+    }
 }
 
-fn are_lengths_told(source: &FolderSource<HostRuntime>) -> io::Result<bool> {
+fn is_long(source: &FolderSource<HostRuntime>, file: u64, wanted: Option<u64>) -> bool {
+    match source.length(file) {
+        Ok(length) => length == wanted,
+        Err(_) => false,
+    }
+}
+
+fn are_lengths_told(source: &FolderSource<HostRuntime>) -> bool {
     for (file, length) in LENGTHS {
-        if source.length(*file)? != *length {
-            return Ok(false);
+        if !is_long(source, *file, *length) {
+            return false;
         }
     }
-    Ok(true)
+    true
 }
 
-fn are_read(source: &FolderSource<HostRuntime>) -> io::Result<bool> {
+fn are_read(source: &FolderSource<HostRuntime>) -> bool {
     for row in READS {
-        if !is_read(source, row)? {
-            return Ok(false);
+        if !is_read(source, row) {
+            return false;
         }
     }
-    Ok(true)
+    true
 }
 
-// Whether the file is missing once it is removed.
-fn is_gone(source: &FolderSource<HostRuntime>) -> io::Result<bool> {
-    Ok(source.length(0)?.is_none() && is_read(source, &(0, 0, 3, b""))?)
+const FILES: &[&str] = &["a", "missing", "d", "a/c", "l"];
+
+// Whether each is read so, and the first is missing once it is removed.
+fn reads_regular_files(rt: &HostRuntime, folder: &str) -> io::Result<bool> {
+    let file = below(rt.alloc(), folder, "a")?;
+    add_file_and_link(rt, folder, &file)?;
+    let source = files_at(rt, folder, FILES)?;
+    let is_right = are_lengths_told(&source) && are_read(&source);
+    rt.remove_file(&file)?;
+    Ok(is_right && is_long(&source, 0, None) && is_read(&source, &(0, 0, 3, b"")))
 }
 
 #[test]
-fn reads_regular_files_alone(rt: HostRuntime) -> io::Result<()> {
-    let folder = folder_of_a_file(&rt)?;
-    let source = files_at(&rt, &folder, &["a", "missing", "d", "a/c", "l"])?;
-    assert!(rt; are_lengths_told(&source)? && are_read(&source)?);
-    rt.remove_dir_all(rt.alloc(), &folder)?;
-    assert!(rt; is_gone(&source)?);
-    Ok(())
+fn reads_regular_files_alone(rt: HostRuntime) {
+    assert!(rt; holds(&rt, "reads", Case::Reads));
 }

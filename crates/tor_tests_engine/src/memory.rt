@@ -1,22 +1,10 @@
 //! What sources in memory answer, each called through the trait.
-use std::alloc::{AllocError, Global};
-use tor_source::{FailSource, MemSource, ShortSource, Source};
+use crate::faults::{FaultAt, failing_with};
+use crate::shared::files_with;
+use tor_source::{ShortSource, Source};
 
 // File 0 has six bytes, file 1 is missing, file 2 is empty.
-fn files(alloc: Global) -> Result<MemSource, AllocError> {
-    let bytes = Vec::from_slice(alloc, b"abcdef")?;
-    let files = vec![in alloc; Some(bytes), None, Some(Vec::new(alloc))]?;
-    Ok(MemSource::new(files))
-}
-
-// Whether this is the length of a file, or the fault of its length.
-fn is_told<S: Source<Fault = u64>>(
-    source: &S,
-    file: u64,
-    wanted: Result<Option<u64>, u64>,
-) -> bool {
-    source.length(file) == wanted
-}
+const FILES: &[Option<&[u8]>] = &[Some(b"abcdef"), None, Some(b"")];
 
 /// The bytes that one read gives.
 pub(crate) fn read<'a, S: Source>(
@@ -29,55 +17,70 @@ pub(crate) fn read<'a, S: Source>(
     Ok(&buffer[..count])
 }
 
-// Whether one read from an offset on, into a buffer with so much room, at most six bytes, gives these bytes or this
-// fault.
-fn is_read<S: Source<Fault = u64>>(
-    source: &S,
-    file: u64,
-    start: u64,
-    room: usize,
-    wanted: Result<&[u8], u64>,
-) -> bool {
+/// A file, and its length, or the fault of its length.
+type Length = (u64, Result<Option<u64>, u64>);
+
+/// File, start, room, at most six bytes, and what a read gives: bytes, or a fault.
+type Row = (u64, u64, usize, Result<&'static [u8], u64>);
+
+fn are_told<S: Source<Fault = u64>>(source: &S, rows: &[Length]) -> bool {
+    for row in rows {
+        if source.length(row.0) != row.1 {
+            return false;
+        }
+    }
+    true
+}
+
+fn is_read<S: Source<Fault = u64>>(source: &S, row: &Row) -> bool {
     let mut buffer = [0; 6];
-    let (buffer, _) = buffer.split_at_mut(room.min(6));
-    match (read(source, file, start, buffer), wanted) {
+    let (buffer, _) = buffer.split_at_mut(row.2.min(6));
+    match (read(source, row.0, row.1, buffer), row.3) {
         (Ok(bytes), Ok(wanted)) => bytes == wanted,
         (Err(fault), Err(wanted)) => fault == wanted,
         _ => false,
     }
 }
 
-const LENGTHS: &[(u64, Option<u64>)] = &[(0, Some(6)), (1, None), (2, Some(0)), (3, None)];
+fn are_read<S: Source<Fault = u64>>(source: &S, rows: &[Row]) -> bool {
+    for row in rows {
+        if !is_read(source, row) {
+            return false;
+        }
+    }
+    true
+}
 
-/// File, start, room, and the bytes.
-type Row = (u64, u64, usize, &'static [u8]);
+const LENGTHS: &[Length] = &[
+    (0, Ok(Some(6))),
+    (1, Ok(None)),
+    (2, Ok(Some(0))),
+    (3, Ok(None)),
+];
 
 const READS: &[Row] = &[
-    (0, 0, 6, b"abcdef"),
-    (0, 1, 3, b"bcd"),
-    (0, 4, 3, b"ef"),
-    (0, 6, 3, b""),
-    (0, u64::MAX, 3, b""),
-    (0, 2, 0, b""),
-    (1, 0, 3, b""),
-    (2, 0, 3, b""),
-    (3, 0, 3, b""),
+    (0, 0, 6, Ok(b"abcdef")),
+    (0, 1, 3, Ok(b"bcd")),
+    (0, 4, 3, Ok(b"ef")),
+    (0, 6, 3, Ok(b"")),
+    (0, u64::MAX, 3, Ok(b"")),
+    (0, 2, 0, Ok(b"")),
+    (1, 0, 3, Ok(b"")),
+    (2, 0, 3, Ok(b"")),
+    (3, 0, 3, Ok(b"")),
 ];
 
 #[test]
-fn memory_gives_what_is_there(rt: HostRuntime) -> Result<(), AllocError> {
-    let source = files(rt.alloc())?;
-    for (file, length) in LENGTHS {
-        assert!(rt; is_told(&source, *file, Ok(*length)));
-    }
-    for (file, start, room, bytes) in READS {
-        assert!(rt; is_read(&source, *file, *start, *room, Ok(*bytes)));
-    }
-    Ok(())
+fn memory_gives_what_is_there(rt: HostRuntime) {
+    let is_right = match files_with(rt.alloc(), FILES) {
+        Ok(source) => are_told(&source, LENGTHS) && are_read(&source, READS),
+        Err(_) => false,
+    };
+    assert!(rt; is_right);
 }
 
 // Of two faults at one offset the first counts, and none at a byte that the file does not have.
-const FAULTS: &[(u64, Option<u64>, u64)] = &[
+const FAULTS: &[FaultAt] = &[
     (0, Some(4), 1),
     (0, Some(3), 5),
     (0, Some(3), 9),
@@ -88,51 +91,46 @@ const FAULTS: &[(u64, Option<u64>, u64)] = &[
     (2, None, 6),
 ];
 
-const FAULTS_OF_LENGTHS: &[(u64, Result<Option<u64>, u64>)] = &[
-    (0, Ok(Some(6))),
-    (1, Err(3)),
-    (2, Err(4)),
-    (3, Ok(None)),
+const FAULTS_OF_LENGTHS: &[Length] = &[(0, Ok(Some(6))), (1, Err(3)), (2, Err(4)), (3, Ok(None))];
+
+const FAULTS_OF_READS: &[Row] = &[
+    (0, 0, 6, Ok(b"abc")),
+    (0, 2, 6, Ok(b"c")),
+    (0, 3, 6, Err(5)),
+    (0, 4, 6, Err(1)),
+    (0, 5, 6, Ok(b"f")),
+    (0, 6, 6, Ok(b"")),
+    (1, 0, 6, Ok(b"")),
+    (2, 0, 6, Ok(b"")),
+    (3, 0, 6, Ok(b"")),
 ];
 
-const FAULTS_OF_READS: &[(u64, u64, Result<&[u8], u64>)] = &[
-    (0, 0, Ok(b"abc")),
-    (0, 2, Ok(b"c")),
-    (0, 3, Err(5)),
-    (0, 4, Err(1)),
-    (0, 5, Ok(b"f")),
-    (0, 6, Ok(b"")),
-    (1, 0, Ok(b"")),
-    (2, 0, Ok(b"")),
-    (3, 0, Ok(b"")),
+#[test]
+fn faults_stand_at_their_offsets(rt: HostRuntime) {
+    let is_right = match failing_with(rt.alloc(), FILES, FAULTS) {
+        Ok(source) => are_told(&source, FAULTS_OF_LENGTHS) && are_read(&source, FAULTS_OF_READS),
+        Err(_) => false,
+    };
+    assert!(rt; is_right);
+}
+
+/// A read gives two bytes at most.
+const SHORT: &[Row] = &[
+    (0, 0, 6, Ok(b"ab")),
+    (0, 3, 6, Ok(b"de")),
+    (0, 5, 6, Ok(b"f")),
+    (0, 1, 1, Ok(b"b")),
 ];
 
-fn failing(alloc: Global) -> Result<FailSource, AllocError> {
-    let faults = Vec::from_slice(alloc, FAULTS)?;
-    Ok(FailSource::new(files(alloc)?, faults))
+fn is_short(source: &ShortSource) -> bool {
+    are_told(source, &[(0, Ok(Some(6)))]) && are_read(source, SHORT)
 }
 
 #[test]
-fn faults_stand_at_their_offsets(rt: HostRuntime) -> Result<(), AllocError> {
-    let source = failing(rt.alloc())?;
-    for (file, wanted) in FAULTS_OF_LENGTHS {
-        assert!(rt; is_told(&source, *file, *wanted));
-    }
-    for (file, start, wanted) in FAULTS_OF_READS {
-        assert!(rt; is_read(&source, *file, *start, 6, *wanted));
-    }
-    Ok(())
-}
-
-/// Start, room, and the bytes of file 0, of which a read gives two at most.
-const SHORT: &[(u64, usize, &[u8])] = &[(0, 6, b"ab"), (3, 6, b"de"), (5, 6, b"f"), (1, 1, b"b")];
-
-#[test]
-fn short_reads_have_at_most_a_step(rt: HostRuntime) -> Result<(), AllocError> {
-    let source = ShortSource::new(files(rt.alloc())?, 2);
-    assert!(rt; is_told(&source, 0, Ok(Some(6))));
-    for (start, room, bytes) in SHORT {
-        assert!(rt; is_read(&source, 0, *start, *room, Ok(*bytes)));
-    }
-    Ok(())
+fn short_reads_have_at_most_a_step(rt: HostRuntime) {
+    let is_right = match files_with(rt.alloc(), FILES) {
+        Ok(source) => is_short(&ShortSource::new(source, 2)),
+        Err(_) => false,
+    };
+    assert!(rt; is_right);
 }

@@ -1,10 +1,8 @@
 //! The hashes of the pieces of `ab` and `c`; the hashes are of Python's hashlib.
 
-use crate::faults::Changing;
-use crate::shared::{EACH_HOW, plan_of};
-use std::alloc::{AllocError, Global};
+use crate::faults::{Changing, file_that_changes};
+use crate::shared::{EACH_HOW, allowed, files_with, plan_of};
 use std::process::Abort;
-use std::sync::atomic::AtomicU64;
 use std::sync::atomic::Ordering::SeqCst;
 use std::thread::Threads;
 use tor_engine::{EngineError, How, PieceHash, hash_pieces};
@@ -14,126 +12,67 @@ use tor_source::MemSource;
 use tor_tree::Kind;
 
 /// The SHA-256 of `ab`, and of `c`.
-const ROOT_A: &[u8; 32] = b"\xfb\x8e\x20\xfc\x2e\x4c\x3f\x24\x8c\x60\xc3\x9b\xd6\x52\xf3\xc1\
+const ROOT_A: Hash = *b"\xfb\x8e\x20\xfc\x2e\x4c\x3f\x24\x8c\x60\xc3\x9b\xd6\x52\xf3\xc1\
 \x34\x72\x98\xbb\x97\x7b\x8b\x4d\x59\x03\xb8\x50\x55\x62\x06\x03";
 
-const ROOT_B: &[u8; 32] = b"\x2e\x7d\x2c\x03\xa9\x50\x7a\xe2\x65\xec\xf5\xb5\x35\x68\x85\xa5\
+const ROOT_B: Hash = *b"\x2e\x7d\x2c\x03\xa9\x50\x7a\xe2\x65\xec\xf5\xb5\x35\x68\x85\xa5\
 \x33\x93\xa2\x02\x9d\x24\x13\x94\x99\x72\x65\xa1\xa2\x5a\xef\xc6";
 
 /// The SHA-1 of `abc`, of `ab` and zeros up to 16,384 bytes, and of `c`.
-const SUM: &[u8; 20] = b"\xa9\x99\x3e\x36\x47\x06\x81\x6a\xba\x3e\
+const SUM: [u8; 20] = *b"\xa9\x99\x3e\x36\x47\x06\x81\x6a\xba\x3e\
 \x25\x71\x78\x50\xc2\x6c\x9c\xd0\xd8\x9d";
 
-const SUM_A: &[u8; 20] = b"\xcb\x25\xce\xe0\xc9\xee\x3f\xc5\x74\x13\
+const SUM_A: [u8; 20] = *b"\xcb\x25\xce\xe0\xc9\xee\x3f\xc5\x74\x13\
 \xe4\x72\xac\xdb\x19\x13\x86\xed\xb6\x12";
 
-const SUM_B: &[u8; 20] = b"\x84\xa5\x16\x84\x1b\xa7\x7a\x5b\x46\x48\
+const SUM_B: [u8; 20] = *b"\x84\xa5\x16\x84\x1b\xa7\x7a\x5b\x46\x48\
 \xde\x2c\xd0\xdf\xcb\x30\xea\x46\xdb\xb4";
 
-/// The SHA-1 and the root of a piece; none of one that is not there.
-type Wanted = Option<(Option<&'static [u8; 20]>, Option<&'static [u8; 32]>)>;
+/// The hashes of a piece: as V1, as V2 of each file, and as a hybrid of each.
+const JOINED: Option<PieceHash> = Some(PieceHash {
+    v1: Some(SUM),
+    v2: None,
+});
 
-/// A kind, the contents that are there of files of two bytes and one, and the hashes of the pieces.
-type Row = (Kind, &'static [Option<&'static [u8]>], &'static [Wanted]);
+const A: Option<PieceHash> = Some(PieceHash {
+    v1: None,
+    v2: Some(ROOT_A),
+});
+
+const B: Option<PieceHash> = Some(PieceHash {
+    v1: None,
+    v2: Some(ROOT_B),
+});
+
+const BOTH_A: Option<PieceHash> = Some(PieceHash {
+    v1: Some(SUM_A),
+    v2: Some(ROOT_A),
+});
+
+const BOTH_B: Option<PieceHash> = Some(PieceHash {
+    v1: Some(SUM_B),
+    v2: Some(ROOT_B),
+});
+
+/// A kind, the contents that are there of files of two bytes and one, and the hashes of the pieces, none of one that is
+/// not there.
+type Row = (
+    Kind,
+    &'static [Option<&'static [u8]>],
+    &'static [Option<PieceHash>],
+);
 
 const ROWS: &[Row] = &[
-    (
-        Kind::V1,
-        &[Some(b"ab"), Some(b"c")],
-        &[Some((Some(SUM), None))],
-    ),
-    (
-        Kind::V1,
-        &[Some(b"abx"), Some(b"cx")],
-        &[Some((Some(SUM), None))],
-    ),
+    (Kind::V1, &[Some(b"ab"), Some(b"c")], &[JOINED]),
+    (Kind::V1, &[Some(b"abx"), Some(b"cx")], &[JOINED]),
     (Kind::V1, &[Some(b"ab"), None], &[None]),
     (Kind::V1, &[Some(b"a"), Some(b"c")], &[None]),
-    (
-        Kind::V2,
-        &[Some(b"ab"), Some(b"c")],
-        &[Some((None, Some(ROOT_A))), Some((None, Some(ROOT_B)))],
-    ),
-    (
-        Kind::V2,
-        &[None, Some(b"c")],
-        &[None, Some((None, Some(ROOT_B)))],
-    ),
-    (
-        Kind::Hybrid,
-        &[Some(b"ab"), Some(b"c")],
-        &[
-            Some((Some(SUM_A), Some(ROOT_A))),
-            Some((Some(SUM_B), Some(ROOT_B))),
-        ],
-    ),
-    (
-        Kind::Hybrid,
-        &[Some(b"ab")],
-        &[Some((Some(SUM_A), Some(ROOT_A))), None],
-    ),
+    (Kind::V2, &[Some(b"ab"), Some(b"c")], &[A, B]),
+    (Kind::V2, &[None, Some(b"c")], &[None, B]),
+    (Kind::Hybrid, &[Some(b"ab"), Some(b"c")], &[BOTH_A, BOTH_B]),
+    (Kind::Hybrid, &[Some(b"ab")], &[BOTH_A, None]),
     (Kind::Hybrid, &[], &[None, None]),
 ];
-
-fn content(alloc: Global, bytes: &Option<&[u8]>) -> Result<Option<Vec<u8>>, AllocError> {
-    match bytes {
-        Some(bytes) => Ok(Some(Vec::from_slice(alloc, bytes)?)),
-        None => Ok(None),
-    }
-}
-
-fn add_contents(
-    alloc: Global,
-    files: &[Option<&[u8]>],
-    contents: &mut Vec<Option<Vec<u8>>>,
-) -> Result<(), AllocError> {
-    for file in files {
-        contents.push(content(alloc, file)?)?;
-    }
-    Ok(())
-}
-
-fn files_of(alloc: Global, files: &[Option<&[u8]>]) -> Result<MemSource, AllocError> {
-    let mut contents = Vec::new(alloc);
-    add_contents(alloc, files, &mut contents)?;
-    Ok(MemSource::new(contents))
-}
-
-fn is_hash(hash: &Option<PieceHash>, wanted: &Wanted) -> bool {
-    match (hash, wanted) {
-        (Some(hash), Some(wanted)) => is_sum(hash.v1, wanted.0) && is_root(hash.v2, wanted.1),
-        (None, None) => true,
-        _ => false,
-    }
-}
-
-fn is_sum(sum: Option<[u8; 20]>, wanted: Option<&[u8; 20]>) -> bool {
-    match (sum, wanted) {
-        (Some(sum), Some(wanted)) => sum == *wanted,
-        (None, None) => true,
-        _ => false,
-    }
-}
-
-fn is_root(root: Option<Hash>, wanted: Option<&Hash>) -> bool {
-    match (root, wanted) {
-        (Some(root), Some(wanted)) => root == *wanted,
-        (None, None) => true,
-        _ => false,
-    }
-}
-
-fn are_hashes(hashes: &[Option<PieceHash>], wanted: &[Wanted]) -> bool {
-    if hashes.len() != wanted.len() {
-        return false;
-    }
-    for (hash, wanted) in hashes.iter().zip(wanted) {
-        if !is_hash(hash, wanted) {
-            return false;
-        }
-    }
-    true
-}
 
 /// Whether the hashes of a source are those of a row, by a number of workers that is tested first.
 fn is_right<R: AllocGlobal + Abort + Threads + Sync>(
@@ -143,11 +82,8 @@ fn is_right<R: AllocGlobal + Abort + Threads + Sync>(
     row: &Row,
     how: How,
 ) -> bool {
-    if let How::Halves(workers) | How::Board(workers) = how {
-        assert!(rt; workers >= 1 && workers <= 64);
-    }
-    match hash_pieces(rt, rt.alloc(), source, plan, how) {
-        Ok(hashes) => are_hashes(&hashes, row.2),
+    match hash_pieces(rt, rt.alloc(), source, plan, allowed(rt, how)) {
+        Ok(hashes) => hashes.as_slice() == row.2,
         Err(_) => false,
     }
 }
@@ -162,7 +98,7 @@ fn is_planned_right<R: AllocGlobal + Abort + Threads + Sync>(
         return false;
     };
     for how in EACH_HOW {
-        if !is_right(rt, source, &plan, row, how) {
+        if !is_right(rt, source, &plan, row, *how) {
             return false;
         }
     }
@@ -170,7 +106,7 @@ fn is_planned_right<R: AllocGlobal + Abort + Threads + Sync>(
 }
 
 fn is_each_right<R: AllocGlobal + Abort + Threads + Sync>(rt: &R, row: &Row) -> bool {
-    match files_of(rt.alloc(), row.1) {
+    match files_with(rt.alloc(), row.1) {
         Ok(source) => is_planned_right(rt, &source, row),
         Err(_) => false,
     }
@@ -208,10 +144,7 @@ fn is_changed<R: AllocGlobal + Abort + Threads + Sync>(
     source: &Changing,
     how: How,
 ) -> bool {
-    if let How::Halves(workers) | How::Board(workers) = how {
-        assert!(rt; workers >= 1 && workers <= 64);
-    }
-    match hash_pieces(rt, rt.alloc(), source, plan, how) {
+    match hash_pieces(rt, rt.alloc(), source, plan, allowed(rt, how)) {
         Err(EngineError::Changed { file }) => file == source.file,
         _ => false,
     }
@@ -225,14 +158,7 @@ fn is_change<R: AllocGlobal + Abort + Threads + Sync>(
     how: How,
 ) -> bool {
     let ((first, again), there, wanted, reads) = *row;
-    let source = Changing {
-        file,
-        first,
-        again,
-        there,
-        lengths: AtomicU64::new(0),
-        reads: AtomicU64::new(0),
-    };
+    let source = file_that_changes(file, Ok(first), again, there);
     is_changed(rt, plan, &source, how) == wanted && source.reads.load(SeqCst) == reads
 }
 

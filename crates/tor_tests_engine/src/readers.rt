@@ -1,8 +1,7 @@
 //! Files of real folders that are read once and in order.
-use crate::folders::{add_file, add_folder, below, files_at, new_folder};
+use crate::folders::{Case, add_file, add_folder, below, files_at, holds};
 use std::fs;
 use std::io::{self, ErrorKind, Read};
-use std::rt::Files;
 use tor_source::LazyFile;
 
 fn write(rt: &HostRuntime, folder: &str, name: &str, text: &str) -> io::Result<()> {
@@ -33,48 +32,57 @@ fn are_given(reader: &mut LazyFile<HostRuntime>, wanted: &[Given]) -> bool {
     true
 }
 
-// A new folder with a file `a` of six bytes, an empty file `b`, a file `c` of three bytes, and a folder `d`.
-fn folder_of_files(rt: &HostRuntime) -> io::Result<String> {
-    let folder = new_folder(rt, "readers")?;
-    add_folder(rt, &folder, "d")?;
-    add_file(rt, &folder, "b")?;
-    write(rt, &folder, "a", "abcdef")?;
-    write(rt, &folder, "c", "xyz")?;
-    Ok(folder)
+// Makes a file `a` of six bytes, an empty file `b`, a file `c` of three bytes, and a folder `d`.
+fn add_files(rt: &HostRuntime, folder: &str) -> io::Result<()> {
+    add_folder(rt, folder, "d")?;
+    add_file(rt, folder, "b")?;
+    write(rt, folder, "a", "abcdef")?;
+    write(rt, folder, "c", "xyz")
 }
 
+/// The files, and what each gives, one read after the other.
 const PATHS: &[&str] = &["a", "b", "missing", "c", "d", "a/c"];
 
-/// What each of these gives, one read after the other.
-const GIVEN: &[&[Given]] = &[
-    &[Ok(b"abcd"), Ok(b"ef"), Ok(b""), Ok(b"")],
-    &[Ok(b""), Ok(b"")],
-    &[
-        Err(ErrorKind::NotFound),
-        Err(ErrorKind::Other),
-        Err(ErrorKind::Other),
-    ],
-    &[Ok(b"xyz"), Ok(b""), Ok(b"")],
-    &[Err(ErrorKind::InvalidInput), Err(ErrorKind::Other)],
-    &[Err(ErrorKind::NotADirectory), Err(ErrorKind::Other)],
+const OF_A: &[Given] = &[Ok(b"abcd"), Ok(b"ef"), Ok(b""), Ok(b"")];
+
+const OF_B: &[Given] = &[Ok(b""), Ok(b"")];
+
+const OF_MISSING: &[Given] = &[
+    Err(ErrorKind::NotFound),
+    Err(ErrorKind::Other),
+    Err(ErrorKind::Other),
 ];
 
+const OF_C: &[Given] = &[Ok(b"xyz"), Ok(b""), Ok(b"")];
+
+const OF_D: &[Given] = &[Err(ErrorKind::InvalidInput), Err(ErrorKind::Other)];
+
+const OF_A_C: &[Given] = &[Err(ErrorKind::NotADirectory), Err(ErrorKind::Other)];
+
 fn are_each_given(readers: &mut [LazyFile<HostRuntime>]) -> bool {
-    let count = readers.len();
-    for (reader, wanted) in readers.iter_mut().zip(GIVEN.iter()) {
-        if !are_given(reader, wanted) {
-            return false;
+    match readers {
+        [a, b, missing, c, d, inside] => {
+            are_given(a, OF_A)
+                && are_given(b, OF_B)
+                && are_given(missing, OF_MISSING)
+                && are_given(c, OF_C)
+                && are_given(d, OF_D)
+                && are_given(inside, OF_A_C)
         }
+        _ => false,
     }
-    count == GIVEN.len()
+}
+
+/// Whether the files of a new folder give their bytes, and then no more.
+pub(crate) fn gives_each(rt: &HostRuntime, folder: &str) -> io::Result<bool> {
+    add_files(rt, folder)?;
+    let mut readers = files_at(rt, folder, PATHS)?.readers()?;
+    Ok(are_each_given(&mut readers))
 }
 
 #[test]
-fn readers_give_the_bytes_of_their_files_and_then_no_more(rt: HostRuntime) -> io::Result<()> {
-    let folder = folder_of_files(&rt)?;
-    let mut readers = files_at(&rt, &folder, PATHS)?.readers()?;
-    assert!(rt; are_each_given(&mut readers));
-    rt.remove_dir_all(rt.alloc(), &folder)
+fn readers_give_the_bytes_of_their_files_and_then_no_more(rt: HostRuntime) {
+    assert!(rt; holds(&rt, "readers", Case::Readers));
 }
 
 // Whether a file is opened at the first read, and given up at its end, though it grows then.
@@ -114,10 +122,13 @@ fn are_given_up(
     }
 }
 
+/// Whether two files of a new folder are opened once.
+pub(crate) fn are_opened_once(rt: &HostRuntime, folder: &str) -> io::Result<bool> {
+    let mut readers = files_at(rt, folder, &["a", "b"])?.readers()?;
+    are_given_up(rt, folder, &mut readers)
+}
+
 #[test]
-fn readers_open_a_file_once(rt: HostRuntime) -> io::Result<()> {
-    let folder = new_folder(&rt, "once")?;
-    let mut readers = files_at(&rt, &folder, &["a", "b"])?.readers()?;
-    assert!(rt; are_given_up(&rt, &folder, &mut readers)?);
-    rt.remove_dir_all(rt.alloc(), &folder)
+fn readers_open_a_file_once(rt: HostRuntime) {
+    assert!(rt; holds(&rt, "once", Case::Opened));
 }

@@ -1,7 +1,8 @@
 //! What is asked of a source: where each read begins and ends, and which of its faults is answered.
 
-use crate::shared::{files_of, is, is_each_fault, is_fault, plan_of};
-use std::alloc::{AllocError, Global};
+use crate::faults::{failing, file_that_changes};
+use crate::shared::{files_of, is_each_fault, is_fault, is_told, plan_of};
+use std::alloc::AllocError;
 use std::process::Abort;
 use std::sync::atomic::AtomicU64;
 use std::sync::atomic::Ordering::SeqCst;
@@ -116,12 +117,6 @@ fn reads_within_parts_and_buffers(rt: HostRuntime) {
     }
 }
 
-/// A file of ten blocks, of which this byte fails.
-fn failing_at(alloc: Global, offset: u64) -> Result<FailSource, AllocError> {
-    let faults = vec![in alloc; (0, Some(offset), 5)]?;
-    Ok(FailSource::new(files_of(alloc, &[163840])?, faults))
-}
-
 /// Whether the fault of the source has the text of one at this byte.
 fn is_fault_at<R: AllocGlobal + Abort + Threads + Sync>(
     rt: &R,
@@ -135,9 +130,9 @@ fn is_fault_at<R: AllocGlobal + Abort + Threads + Sync>(
     }
 }
 
-/// Whether the fault of this byte is answered.
+/// Whether the fault of this byte of ten blocks is answered.
 fn is_answered<R: AllocGlobal + Abort + Threads + Sync>(rt: &R, plan: &Plan, offset: u64) -> bool {
-    match failing_at(rt.alloc(), offset) {
+    match failing(rt.alloc(), &[163840], &[(0, Some(offset), 5)]) {
         Ok(source) => is_fault_at(rt, &source, plan, offset),
         Err(_) => false,
     }
@@ -158,34 +153,6 @@ fn is_each_answered<R: AllocGlobal + Abort + Threads + Sync>(rt: &R) -> bool {
 #[test]
 fn tells_each_byte_that_fails_in_turn(rt: HostRuntime) {
     assert!(rt; is_each_answered(&rt));
-}
-
-/// A file of zeros whose length was told before, and what is told of it when it is asked again.
-#[derive(Drop)]
-struct Again {
-    length: u64,
-    again: Result<Option<u64>, u64>,
-}
-
-impl Source for Again {
-    type Fault = u64;
-
-    ghost is_steady = { λ _ _. ⊥ };
-
-    ghost gave = { λ _ _ _ _. Unit {0} };
-
-    ghost told = { λ _ _ _. Unit {0} };
-
-    ghost ended = { λ _ _ _. Unit {0} };
-
-    fn length(&self, _file: u64) -> Result<Option<u64>, u64> {
-        self.again
-    }
-
-    fn read_at(&self, _file: u64, start: u64, buffer: &mut [u8]) -> Result<usize, u64> {
-        let left = self.length.saturating_sub(start) as usize;
-        Ok(left.min(buffer.len()))
-    }
 }
 
 /// The plan of a file of 40,000 bytes.
@@ -211,7 +178,8 @@ fn hashes_files_whose_lengths_were_told_before(rt: HostRuntime) -> Result<(), Al
     Ok(())
 }
 
-/// What is told when it is asked again, and the fault. That a file is missing is told of the first asking alone.
+/// What is told of a file of zeros, whose length was told before, when it is asked again, and the fault. That a file
+/// is missing is told of the first asking alone.
 const AGAIN: &[(Result<Option<u64>, u64>, &str)] = &[
     (Ok(None), "Changed { file: 0 }"),
     (Ok(Some(39999)), "Changed { file: 0 }"),
@@ -226,10 +194,10 @@ fn is_fault_again<R: AllocGlobal + Abort + Threads + Sync>(
     again: Result<Option<u64>, u64>,
     wanted: &str,
 ) -> bool {
-    let length = 40000;
-    match hash_told(rt, rt.alloc(), &Again { length, again }, plan, How::One) {
+    let source = file_that_changes(0, again, None, 40000);
+    match hash_told(rt, rt.alloc(), &source, plan, How::One) {
         Ok(_) => false,
-        Err(error) => is(format!(in rt.alloc(); "{error:?}"), wanted),
+        Err(fault) => is_told(rt.alloc(), &fault, wanted),
     }
 }
 

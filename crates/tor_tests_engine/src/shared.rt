@@ -1,15 +1,19 @@
-//! What the tests share: paths, contents, plans, and how files are hashed.
+//! What the tests share: paths, contents, plans, how files are hashed, and how a read waits for others.
+ghost use Rattle.tor_engine.specs.How.{IsHow};
 
 use std::alloc::{AllocError, Global};
+use std::fmt::Debug;
 use std::process::Abort;
-use std::thread::Threads;
+use std::sync::atomic::AtomicU64;
+use std::sync::atomic::Ordering::SeqCst;
+use std::thread::{Threads, yield_now};
 use tor_engine::{EngineError, How, Sums, hash_all};
 use tor_plan::Plan;
 use tor_source::{MemSource, Source};
 use tor_tree::{FileList, FilePath, Kind, Name};
 
 /// Each way to share the units.
-pub(crate) const EACH_HOW: [How; 7] = [
+pub(crate) const EACH_HOW: &[How] = &[
     How::One,
     How::Halves(1),
     How::Halves(2),
@@ -18,8 +22,6 @@ pub(crate) const EACH_HOW: [How; 7] = [
     How::Board(2),
     How::Board(64),
 ];
-
-pub(crate) const EACH_KIND: [Kind; 3] = [Kind::V1, Kind::V2, Kind::Hybrid];
 
 /// A name. That a text is none, which none of the tables has, is told as want of memory.
 fn name(alloc: Global, text: &str) -> Result<Name, AllocError> {
@@ -43,10 +45,14 @@ pub(crate) fn path(alloc: Global, text: &str) -> Result<FilePath, AllocError> {
     FilePath::new(names).ok_or(AllocError)
 }
 
-/// The path `000` of the first file, `001` of the second, and so on.
+/// The paths of files, of which no table has more.
+const PATHS: &[&str] = &["000", "001", "002"];
+
 fn path_at(alloc: Global, index: usize) -> Result<FilePath, AllocError> {
-    let text = format!(in alloc; "{index:03}")?;
-    path(alloc, &text)
+    match PATHS.get(index) {
+        Some(text) => path(alloc, text),
+        None => Err(AllocError),
+    }
 }
 
 fn add_files(
@@ -64,7 +70,10 @@ fn add_files(
 fn list_of(alloc: Global, lengths: &[u64]) -> Result<FileList, AllocError> {
     let mut files = Vec::new(alloc);
     add_files(alloc, lengths, &mut files)?;
-    FileList::build(alloc, files).ok().ok_or(AllocError)
+    match FileList::build(alloc, files) {
+        Ok(list) => Ok(list),
+        Err(_) => Err(AllocError),
+    }
 }
 
 /// A plan of files with these lengths, whose piece length and span are tested first.
@@ -90,7 +99,7 @@ fn add_counted(bytes: &mut Vec<u8>, length: u64) -> Result<(), AllocError> {
 }
 
 /// A content whose byte i is i % 251.
-pub(crate) fn content(alloc: Global, length: u64) -> Result<Vec<u8>, AllocError> {
+fn content(alloc: Global, length: u64) -> Result<Vec<u8>, AllocError> {
     let mut bytes = Vec::new(alloc);
     add_counted(&mut bytes, length)?;
     Ok(bytes)
@@ -114,6 +123,38 @@ pub(crate) fn files_of(alloc: Global, lengths: &[u64]) -> Result<MemSource, Allo
     Ok(MemSource::new(files))
 }
 
+fn add_given(
+    alloc: Global,
+    contents: &[Option<&[u8]>],
+    files: &mut Vec<Option<Vec<u8>>>,
+) -> Result<(), AllocError> {
+    for content in contents {
+        files.push(match content {
+            Some(bytes) => Some(Vec::from_slice(alloc, bytes)?),
+            None => None,
+        })?;
+    }
+    Ok(())
+}
+
+/// Files of these contents; None stands for a missing one.
+pub(crate) fn files_with(
+    alloc: Global,
+    contents: &[Option<&[u8]>],
+) -> Result<MemSource, AllocError> {
+    let mut files = Vec::new(alloc);
+    add_given(alloc, contents, &mut files)?;
+    Ok(MemSource::new(files))
+}
+
+/// A number of workers, which is tested.
+pub(crate) fn allowed<R: Abort>(rt: &R, how: How) -> How
+    ensures { IsHow result }
+{
+    assert!(rt; how.is_allowed());
+    how
+}
+
 /// All files hashed, by a number of workers that is tested first.
 pub(crate) fn hash_by<S: Source, R: AllocGlobal + Abort + Threads + Sync>(
     rt: &R,
@@ -121,10 +162,7 @@ pub(crate) fn hash_by<S: Source, R: AllocGlobal + Abort + Threads + Sync>(
     plan: &Plan,
     how: How,
 ) -> Result<Sums, EngineError<S::Fault>> {
-    if let How::Halves(workers) | How::Board(workers) = how {
-        assert!(rt; workers >= 1 && workers <= 64);
-    }
-    hash_all(rt, rt.alloc(), source, plan, how)
+    hash_all(rt, rt.alloc(), source, plan, allowed(rt, how))
 }
 
 /// Whether there is a text, and this.
@@ -133,6 +171,11 @@ pub(crate) fn is(text: Result<String, AllocError>, wanted: &str) -> bool {
         Ok(text) => text.as_str() == wanted,
         Err(_) => false,
     }
+}
+
+/// Whether a fault has this text.
+pub(crate) fn is_told<F: Debug>(alloc: Global, fault: &EngineError<F>, wanted: &str) -> bool {
+    is(format!(in alloc; "{fault:?}"), wanted)
 }
 
 /// Whether the fault of the files has this text; `none` where they have sums.
@@ -145,7 +188,7 @@ pub(crate) fn is_fault<S: Source, R: AllocGlobal + Abort + Threads + Sync>(
 ) -> bool {
     match hash_by(rt, source, plan, how) {
         Ok(_) => wanted == "none",
-        Err(error) => is(format!(in rt.alloc(); "{error:?}"), wanted),
+        Err(fault) => is_told(rt.alloc(), &fault, wanted),
     }
 }
 
@@ -157,9 +200,20 @@ pub(crate) fn is_each_fault<S: Source, R: AllocGlobal + Abort + Threads + Sync>(
     wanted: &str,
 ) -> bool {
     for how in EACH_HOW {
-        if !is_fault(rt, source, plan, how, wanted) {
+        if !is_fault(rt, source, plan, *how, wanted) {
             return false;
         }
     }
     true
+}
+
+/// Whether a count comes to so many, where it is looked at so often.
+pub(crate) fn comes_to(count: &AtomicU64, many: u64, turns: u64) -> bool {
+    for _ in 0..turns {
+        if count.load(SeqCst) >= many {
+            return true;
+        }
+        yield_now();
+    }
+    false
 }

@@ -1,13 +1,13 @@
 //! The sums of rows worked out from BEP 3 and BEP 52; each hash in hexadecimal is of Python's hashlib.
 
-use crate::shared::{EACH_HOW, files_of, hash_by, plan_of};
+use crate::shared::{EACH_HOW, files_of, files_with, hash_by, plan_of};
 use std::alloc::{AllocError, Global};
 use std::process::Abort;
 use std::thread::Threads;
 use tor_engine::{How, Sums};
 use tor_merkle::Hash;
 use tor_plan::Plan;
-use tor_source::{MemSource, ShortSource, Source};
+use tor_source::{ShortSource, Source};
 use tor_tree::Kind;
 
 /// What sums are to be, file by file.
@@ -60,7 +60,7 @@ fn has_each_sums<S: Source, R: AllocGlobal + Abort + Threads + Sync>(
     wanted: &Wanted,
 ) -> bool {
     for how in EACH_HOW {
-        if !has_sums(rt, source, plan, how, wanted) {
+        if !has_sums(rt, source, plan, *how, wanted) {
             return false;
         }
     }
@@ -124,12 +124,8 @@ const SMALL: &[Row] = &[
 
 /// Files of `ab`, of nothing and of `c`, of which no read gives more than so many bytes.
 fn small_files(alloc: Global, step: usize) -> Result<ShortSource, AllocError> {
-    let contents = vec![in alloc;
-        Some(Vec::from_slice(alloc, b"ab")?),
-        Some(Vec::new(alloc)),
-        Some(Vec::from_slice(alloc, b"c")?),
-    ]?;
-    Ok(ShortSource::new(MemSource::new(contents), step.max(1)))
+    let files = files_with(alloc, &[Some(b"ab"), Some(b""), Some(b"c")])?;
+    Ok(ShortSource::new(files, step.max(1)))
 }
 
 /// Whether the sums of a source are those of a row, with so many pieces a unit.
@@ -286,94 +282,75 @@ fn sums_up_files_of_several_units(rt: HostRuntime) {
     }
 }
 
-/// A file of one block, with one piece a unit and with two, as in the rows that follow.
-const ONE_BLOCK: Row = (
-    Kind::V2,
-    16384,
-    &[1, 2],
-    Wanted {
-        lengths: &[16384],
-        roots: &[Some(L0)],
-        layers: &[&[]],
-        pieces: b"",
-    },
-);
+/// The trees of one file, with one piece a unit and with two.
+const TREES: &[Row] = &[
+    // A file of one block.
+    (
+        Kind::V2,
+        16384,
+        &[1, 2],
+        Wanted {
+            lengths: &[16384],
+            roots: &[Some(L0)],
+            layers: &[&[]],
+            pieces: b"",
+        },
+    ),
+    // Of a block and a byte.
+    (
+        Kind::V2,
+        16384,
+        &[1, 2],
+        Wanted {
+            lengths: &[16385],
+            roots: &[Some(PAST_A_BLOCK)],
+            layers: &[&[L0, LAST_OF_ONE]],
+            pieces: b"",
+        },
+    ),
+    // Of one piece of two blocks.
+    (
+        Kind::V2,
+        32768,
+        &[1, 2],
+        Wanted {
+            lengths: &[32768],
+            roots: &[Some(OF_TWO_BLOCKS)],
+            layers: &[&[]],
+            pieces: b"",
+        },
+    ),
+    // Of three blocks.
+    (
+        Kind::V2,
+        16384,
+        &[1, 2],
+        Wanted {
+            lengths: &[49152],
+            roots: &[Some(OF_THREE_BLOCKS)],
+            layers: &[&[L0, L1, L2]],
+            pieces: b"",
+        },
+    ),
+    // Of five blocks, two blocks a piece.
+    (
+        Kind::V2,
+        32768,
+        &[1, 2],
+        Wanted {
+            lengths: &[81920],
+            roots: &[Some(OF_FIVE_BLOCKS)],
+            layers: &[&[OF_TWO_BLOCKS, P1, P2]],
+            pieces: b"",
+        },
+    ),
+];
 
 #[test]
-fn builds_the_tree_of_one_block(rt: HostRuntime) {
-    assert!(rt; are_sums(&rt, &ONE_BLOCK));
-}
-
-/// Of a block and a byte.
-const BLOCK_AND_BYTE: Row = (
-    Kind::V2,
-    16384,
-    &[1, 2],
-    Wanted {
-        lengths: &[16385],
-        roots: &[Some(PAST_A_BLOCK)],
-        layers: &[&[L0, LAST_OF_ONE]],
-        pieces: b"",
-    },
-);
-
-#[test]
-fn builds_the_tree_past_a_block(rt: HostRuntime) {
-    assert!(rt; are_sums(&rt, &BLOCK_AND_BYTE));
-}
-
-/// Of one piece of two blocks.
-const ONE_PIECE: Row = (
-    Kind::V2,
-    32768,
-    &[1, 2],
-    Wanted {
-        lengths: &[32768],
-        roots: &[Some(OF_TWO_BLOCKS)],
-        layers: &[&[]],
-        pieces: b"",
-    },
-);
-
-#[test]
-fn builds_the_tree_of_one_piece_of_two_blocks(rt: HostRuntime) {
-    assert!(rt; are_sums(&rt, &ONE_PIECE));
-}
-
-/// Of three blocks.
-const THREE_BLOCKS: Row = (
-    Kind::V2,
-    16384,
-    &[1, 2],
-    Wanted {
-        lengths: &[49152],
-        roots: &[Some(OF_THREE_BLOCKS)],
-        layers: &[&[L0, L1, L2]],
-        pieces: b"",
-    },
-);
-
-#[test]
-fn builds_the_tree_of_three_blocks(rt: HostRuntime) {
-    assert!(rt; are_sums(&rt, &THREE_BLOCKS));
-}
-
-/// Of five blocks, two blocks a piece.
-const THREE_PIECES: Row = (
-    Kind::V2,
-    32768,
-    &[1, 2],
-    Wanted {
-        lengths: &[81920],
-        roots: &[Some(OF_FIVE_BLOCKS)],
-        layers: &[&[OF_TWO_BLOCKS, P1, P2]],
-        pieces: b"",
-    },
-);
-
-#[test]
-fn builds_the_tree_of_three_pieces_of_two_blocks(rt: HostRuntime) {
-    assert!(rt; are_sums(&rt, &THREE_PIECES));
+fn builds_the_tree_of_a_file(rt: HostRuntime) {
+    for row in TREES {
+        assert!(rt; are_sums(&rt, row));
+    }
 }
 
 /// The root of a content of seventeen blocks and a byte, the hash of each block, and the SHA-1 of each.

@@ -1,14 +1,12 @@
 //! Scans and reads of a system that has what no test can make.
-use crate::folders::{fault, shown};
-use crate::memory::read;
-use crate::shared::path;
-use std::alloc::{AllocError, Allocator, Global};
+use crate::folders::{fault, files_at, is_shown};
+use crate::shared::is;
+use std::alloc::{Allocator, Global};
 use std::fs::{File, Metadata, OpenOptions};
 use std::io;
 use std::io::{Cursor, Read};
 use std::rt::Files;
 use tor_source::{FolderSource, ScanFault, Source};
-use tor_tree::FilePath;
 
 // A system that has what no test can make: in its folder `top` are these names, each ended by a zero byte. A name that
 // ends in `file` is a file that may not be opened, in `folder` an empty folder, in `locked` a folder that may not be
@@ -114,83 +112,68 @@ fn system_of(rt: &HostRuntime, names: &[u8], breaks: bool) -> io::Result<Listed>
     })
 }
 
-// What a scan of this path gives where `top` has these names: its paths, or why there are none.
-fn scan_text(rt: &HostRuntime, path: &str, names: &[u8], breaks: bool) -> io::Result<Vec<u8>> {
-    let alloc = rt.alloc();
-    match FolderSource::scan(&system_of(rt, names, breaks)?, path) {
-        Ok((_source, paths)) => Ok(shown(alloc, &paths)?),
-        Err(fault) => Ok(format!(in alloc; "{fault}")?.into_bytes()),
+// Whether a scan of this path finds the paths that are shown so, or has the fault that is told so.
+fn is_scan(system: &Listed, path: &str, wanted: &str) -> bool {
+    let alloc = system.alloc();
+    match FolderSource::scan(system, path) {
+        Ok((_source, paths)) => is_shown(alloc, &paths, wanted.as_bytes()),
+        Err(fault) => is(format!(in alloc; "{fault}"), wanted),
     }
 }
 
-const SCANS: &[(&[u8], &[u8])] = &[
-    (b"\xff\0a file\0", b"F1 NotUtf8"),
-    (b"\xff\0fifo\0", b"F2 NotRegular"),
-    (b"fifo\0a locked\0", b"F4 System"),
+const SCANS: &[(&[u8], &str)] = &[
+    (b"\xff\0a file\0", "F1 NotUtf8"),
+    (b"\xff\0fifo\0", "F2 NotRegular"),
+    (b"fifo\0a locked\0", "F4 System"),
     (
         b"b file\0..\0a file\0.\0a folder\0b file\0",
-        b"/a file /b file ",
+        "/a file /b file ",
     ),
-    (b".file\0...file\0\0..file\0", b"/...file /..file /.file "),
-    (b"a file\0b file", b"/a file /b file "),
-    (b"", b""),
+    (b".file\0...file\0\0..file\0", "/...file /..file /.file "),
+    (b"a file\0b file", "/a file /b file "),
+    (b"", ""),
 ];
 
-fn gives(
-    rt: &HostRuntime,
-    path: &str,
-    names: &[u8],
-    breaks: bool,
-    wanted: &[u8],
-) -> io::Result<bool> {
-    Ok(scan_text(rt, path, names, breaks)?.as_slice() == wanted)
+// Whether that is so where `top` has these names.
+fn gives(rt: &HostRuntime, path: &str, names: &[u8], breaks: bool, wanted: &str) -> bool {
+    match system_of(rt, names, breaks) {
+        Ok(system) => is_scan(&system, path, wanted),
+        Err(_) => false,
+    }
 }
 
 #[test]
-fn answers_the_first_fault_in_the_order_of_names(rt: HostRuntime) -> io::Result<()> {
+fn answers_the_first_fault_in_the_order_of_names(rt: HostRuntime) {
     for (names, wanted) in SCANS {
-        assert!(rt; gives(&rt, "top", names, false, wanted)?);
+        assert!(rt; gives(&rt, "top", names, false, wanted));
     }
-    Ok(())
 }
 
 const BROKEN: &[&[u8]] = &[b"", b"a file\0", b"a file\0b fi"];
 
 #[test]
-fn tells_a_listing_that_breaks_off(rt: HostRuntime) -> io::Result<()> {
+fn tells_a_listing_that_breaks_off(rt: HostRuntime) {
     for names in BROKEN {
-        assert!(rt; gives(&rt, "top", names, true, b"F4 System")?);
+        assert!(rt; gives(&rt, "top", names, true, "F4 System"));
     }
-    Ok(())
 }
 
-fn paths(alloc: Global, texts: &[&str]) -> Result<Vec<FilePath>, AllocError> {
-    let mut paths = Vec::new(alloc);
-    for text in texts {
-        paths.push(path(alloc, text)?)?;
-    }
-    Ok(paths)
-}
-
-fn is_one_below_the_empty_place(rt: &HostRuntime) -> Result<bool, AllocError> {
-    let files = paths(rt.alloc(), &["proc"])?;
-    Ok(FolderSource::at(rt, "", files)?.count() == 1)
+fn is_one_below_the_empty_place(rt: &HostRuntime) -> bool {
+    matches!(files_at(rt, "", &["proc"]), Ok(source) if source.count() == 1)
 }
 
 // The system of these tests would tell of a FIFO, were it asked.
 #[test]
-fn has_no_file_below_the_empty_place(rt: HostRuntime) -> io::Result<()> {
-    assert!(rt; gives(&rt, "", b"a file\0", false, b"F4 System")?);
+fn has_no_file_below_the_empty_place(rt: HostRuntime) {
+    assert!(rt; gives(&rt, "", b"a file\0", false, "F4 System"));
     assert!(rt; matches!(fault(&rt, ""), Some(ScanFault::System)));
     assert!(rt; rt.metadata("").is_err());
-    assert!(rt; is_one_below_the_empty_place(&rt)?);
-    Ok(())
+    assert!(rt; is_one_below_the_empty_place(&rt));
 }
 
 // Whether a file is missing: no length is told, and a read gives nothing.
-fn is_missing(source: &FolderSource<Listed>, file: u64) -> io::Result<bool> {
-    let length = source.length(file)?;
-    Ok(length.is_none() && read(source, file, 0, &mut [0; 3])?.is_empty())
+fn is_missing(source: &FolderSource<Listed>, file: u64) -> bool {
+    matches!(source.length(file), Ok(None)) && matches!(source.read_at(file, 0, &mut [0; 3]), Ok(0))
 }
 
 fn is_refused(fault: &io::Error) -> bool {
@@ -211,19 +194,20 @@ fn refuses_read(source: &FolderSource<Listed>, file: u64) -> bool {
     }
 }
 
-// A source of such files below `top`.
-fn source_of(rt: &HostRuntime, texts: &[&str]) -> io::Result<FolderSource<Listed>> {
-    let files = paths(rt.alloc(), texts)?;
-    Ok(FolderSource::at(&system_of(rt, b"", false)?, "top", files)?)
+// Whether a FIFO, a file that may not be opened, and one of which nothing is told are so.
+fn are_told(source: &FolderSource<Listed>) -> bool {
+    is_missing(source, 0)
+        && matches!(source.length(1), Ok(Some(1..)))
+        && refuses_read(source, 1)
+        && refuses_length(source, 2)
+        && refuses_read(source, 2)
 }
 
 // A FIFO is missing, and not opened.
 #[test]
 fn tells_faults_of_the_system(rt: HostRuntime) -> io::Result<()> {
-    let source = source_of(&rt, &["fifo", "a file", "hidden"])?;
-    assert!(rt; is_missing(&source, 0)?);
-    assert!(rt; matches!(source.length(1)?, Some(1..)));
-    assert!(rt; refuses_read(&source, 1));
-    assert!(rt; refuses_length(&source, 2) && refuses_read(&source, 2));
+    let system = system_of(&rt, b"", false)?;
+    let source = files_at(&system, "top", &["fifo", "a file", "hidden"])?;
+    assert!(rt; are_told(&source));
     Ok(())
 }

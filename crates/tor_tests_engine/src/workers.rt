@@ -1,11 +1,11 @@
 //! How many workers read at once.
 
-use crate::shared::{is, is_fault, plan_of};
+use crate::shared::{allowed, comes_to, is_fault, is_told, plan_of};
 use std::alloc::AllocError;
 use std::process::Abort;
 use std::sync::atomic::AtomicU64;
 use std::sync::atomic::Ordering::SeqCst;
-use std::thread::{Threads, yield_now};
+use std::thread::Threads;
 use tor_engine::{How, hash_pieces};
 use tor_plan::Plan;
 use tor_source::Source;
@@ -39,9 +39,8 @@ impl Source for Crowded {
         if self.open.fetch_add(1, SeqCst) >= self.workers {
             self.wrong.fetch_add(1, SeqCst);
         }
-        for _ in 0..1000 {
-            yield_now();
-        }
+        // No count comes to so many.
+        comes_to(&self.open, u64::MAX, 1000);
         self.open.fetch_sub(1, SeqCst);
         Ok(buffer.len())
     }
@@ -88,17 +87,20 @@ fn no_more_workers_read_than_were_asked_for(rt: HostRuntime) -> Result<(), Alloc
 
 /// Too few others read.
 #[derive(Debug, Drop)]
-struct Alone;
+pub(crate) struct Alone;
 
-/// A file of zeros, whose reads wait until so many have begun. These are of as many workers, since one that waits
-/// begins no other.
+/// A file of zeros, whose reads below an offset wait until so many have begun. One that waits begins no other, and so
+/// those that meet are of as many workers.
 #[derive(Drop)]
-struct Meeting {
+pub(crate) struct Meeting {
     length: u64,
-    workers: u64,
+    /// Reads from here on wait for no other.
+    end: u64,
+    many: u64,
     /// How often a read looks for the others.
     turns: u64,
     begun: AtomicU64,
+    pub(crate) bytes: AtomicU64,
 }
 
 impl Source for Meeting {
@@ -116,27 +118,93 @@ impl Source for Meeting {
         Ok(Some(self.length))
     }
 
-    fn read_at(&self, _file: u64, _start: u64, buffer: &mut [u8]) -> Result<usize, Alone> {
+    fn read_at(&self, _file: u64, start: u64, buffer: &mut [u8]) -> Result<usize, Alone> {
+        self.bytes.fetch_add(buffer.len() as u64, SeqCst);
         self.begun.fetch_add(1, SeqCst);
-        for _ in 0..self.turns {
-            if self.begun.load(SeqCst) >= self.workers {
-                return Ok(buffer.len());
-            }
-            yield_now();
+        if start >= self.end || comes_to(&self.begun, self.many, self.turns) {
+            return Ok(buffer.len());
         }
         Err(Alone)
     }
 }
 
-const ALONE: &str = "Read { file: 0, start: Some(0), fault: Alone }";
+/// A file of so many bytes, whose reads below an offset wait for so many, and look for them so often.
+pub(crate) fn reads_that_meet(length: u64, end: u64, many: u64, turns: u64) -> Meeting {
+    Meeting {
+        length,
+        end,
+        many,
+        turns,
+        begun: AtomicU64::new(0),
+        bytes: AtomicU64::new(0),
+    }
+}
+
+/// Whether the fault of its pieces has this text; `none` where they have hashes.
+pub(crate) fn is_fault_of_pieces<R: AllocGlobal + Abort + Threads + Sync>(
+    rt: &R,
+    source: &Meeting,
+    plan: &Plan,
+    how: How,
+    wanted: &str,
+) -> bool {
+    match hash_pieces(rt, rt.alloc(), source, plan, allowed(rt, how)) {
+        Ok(_) => wanted == "none",
+        Err(fault) => is_told(rt.alloc(), &fault, wanted),
+    }
+}
+
+pub(crate) const ALONE: &str = "Read { file: 0, start: Some(0), fault: Alone }";
 
 /// How often a read looks for others that do not come, and for others that do.
-const FEW: u64 = 1000;
+pub(crate) const FEW: u64 = 1000;
 
-const MANY: u64 = 10_000_000;
+pub(crate) const MANY: u64 = 100_000_000;
 
-/// The workers, how many reads wait for one another, how often each looks for the others, and the fault.
-const MEETINGS: &[(How, u64, u64, &str)] = &[
+/// How the units are shared, how many reads wait for one another, how often each looks for the others, and the fault.
+pub(crate) type Row = (How, u64, u64, &'static str);
+
+/// A length, an offset, whether its pieces are hashed alone, and rows that hold of such a file.
+pub(crate) struct Gathering {
+    pub(crate) length: u64,
+    pub(crate) end: u64,
+    pub(crate) over_pieces: bool,
+    pub(crate) rows: &'static [Row],
+}
+
+/// Whether reads below the offset meet so, and each byte is read once where they do.
+fn is_met<R: AllocGlobal + Abort + Threads + Sync>(
+    rt: &R,
+    plan: &Plan,
+    of: &Gathering,
+    row: &Row,
+) -> bool {
+    let source = reads_that_meet(of.length, of.end, row.1, row.2);
+    let is_right = match of.over_pieces {
+        true => is_fault_of_pieces(rt, &source, plan, row.0, row.3),
+        false => is_fault(rt, &source, plan, row.0, row.3),
+    };
+    is_right && (row.3 != "none" || source.bytes.load(SeqCst) == of.length)
+}
+
+fn are_met<R: AllocGlobal + Abort + Threads + Sync>(rt: &R, plan: &Plan, of: &Gathering) -> bool {
+    for row in of.rows {
+        if !is_met(rt, plan, of, row) {
+            return false;
+        }
+    }
+    true
+}
+
+/// Whether they do in each row, where the file has units of one block.
+pub(crate) fn meet<R: AllocGlobal + Abort + Threads + Sync>(rt: &R, of: &Gathering) -> bool {
+    match plan_of(rt, &[of.length], Kind::V2, 16384, 1) {
+        Ok(plan) => plan.units().len() as u64 == of.length / 16384 && are_met(rt, &plan, of),
+        Err(_) => false,
+    }
+}
+
+const MEETINGS: &[Row] = &[
     (How::One, 2, FEW, ALONE),
     (How::Halves(1), 2, FEW, ALONE),
     (How::Halves(2), 3, FEW, ALONE),
@@ -149,54 +217,27 @@ const MEETINGS: &[(How, u64, u64, &str)] = &[
     (How::Board(4), 4, MANY, "none"),
 ];
 
-/// A file of four units whose reads meet.
-fn meeting_of(workers: u64, turns: u64) -> Meeting {
-    Meeting {
-        length: 65536,
-        workers,
-        turns,
-        begun: AtomicU64::new(0),
-    }
-}
-
-/// Its plan.
-fn plan_of_meeting<R: AllocGlobal + Abort>(rt: &R) -> Result<Plan, AllocError> {
-    let plan = plan_of(rt, &[65536], Kind::V2, 16384, 1)?;
-    assert!(rt; plan.units().len() == 4);
-    Ok(plan)
-}
+/// All reads of a file of four units meet.
+const OF_FOUR: Gathering = Gathering {
+    length: 65536,
+    end: u64::MAX,
+    over_pieces: false,
+    rows: MEETINGS,
+};
 
 #[test]
-fn workers_meet(rt: HostRuntime) -> Result<(), AllocError> {
-    let plan = plan_of_meeting(&rt)?;
-    for (how, workers, turns, wanted) in MEETINGS {
-        assert!(rt; is_fault(&rt, &meeting_of(*workers, *turns), &plan, *how, wanted));
-    }
-    Ok(())
+fn workers_meet(rt: HostRuntime) {
+    assert!(rt; meet(&rt, &OF_FOUR));
 }
 
-/// Whether the fault of the pieces has this text; `none` where they have hashes.
-fn is_fault_of_pieces<R: AllocGlobal + Abort + Threads + Sync>(
-    rt: &R,
-    source: &Meeting,
-    plan: &Plan,
-    how: How,
-    wanted: &str,
-) -> bool {
-    if let How::Halves(workers) | How::Board(workers) = how {
-        assert!(rt; workers >= 1 && workers <= 64);
-    }
-    match hash_pieces(rt, rt.alloc(), source, plan, how) {
-        Ok(_) => wanted == "none",
-        Err(error) => is(format!(in rt.alloc(); "{error:?}"), wanted),
-    }
-}
+const PIECES_OF_FOUR: Gathering = Gathering {
+    length: 65536,
+    end: u64::MAX,
+    over_pieces: true,
+    rows: MEETINGS,
+};
 
 #[test]
-fn workers_meet_over_pieces(rt: HostRuntime) -> Result<(), AllocError> {
-    let plan = plan_of_meeting(&rt)?;
-    for (how, workers, turns, wanted) in MEETINGS {
-        assert!(rt; is_fault_of_pieces(&rt, &meeting_of(*workers, *turns), &plan, *how, wanted));
-    }
-    Ok(())
+fn workers_meet_over_pieces(rt: HostRuntime) {
+    assert!(rt; meet(&rt, &PIECES_OF_FOUR));
 }

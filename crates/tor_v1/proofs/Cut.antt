@@ -41,12 +41,12 @@ module _ (p : ℕ) (pos : 0 < p) where
       (λ i. ap (take p) (ap (λ n. drop n (x ++ ys)) (let e : (i + 1) * p ≡ length x + i * p = omega (arith, whole) in e)
       ∙ drop-append-add x ys (i * p))))
 
-  pieces_nil : pieces_of p [] ≡ []
+  pub pieces_nil : pieces_of p [] ≡ []
   unfolding pieces_of
   pieces_nil = ap (λ n. map (slice_chunk [] p) (range_with_len 0 n)) (ceil_is 0 p 0 (omega arith) (omega arith))
 
   -- so many whole pieces, and what comes after them
-  pieces-append : (k : ℕ) (xs ys : List ℕ) → length xs ≡ k * p
+  pub pieces-append : (k : ℕ) (xs ys : List ℕ) → length xs ≡ k * p
       → pieces_of p (xs ++ ys) ≡ pieces_of p xs ++ pieces_of p ys
   pieces-append zero xs ys whole =
       let none = nil_from_length xs (omega (arith, whole)) in
@@ -73,7 +73,7 @@ pub piece_sums-nil : (p : ℕ) → 0 < p → piece_sums p [] ≡ []
 unfolding piece_sums
 piece_sums-nil p pos = ap (flat_map sha1) (pieces_nil p pos)
 
-one_piece : (p : ℕ) (xs : List ℕ) → 0 < length xs → length xs ≤ p → pieces_of p xs ≡ xs ∷ []
+pub one_piece : (p : ℕ) (xs : List ℕ) → 0 < length xs → length xs ≤ p → pieces_of p xs ≡ xs ∷ []
 unfolding pieces_of
 one_piece p xs some short =
     ap (λ n. map (slice_chunk xs p) (range_with_len 0 n)) (ceil_is (length xs) p 1 (omega arith) (omega arith))

@@ -6,3 +6,4 @@ pub mod RunSums
 pub mod ProvedLaws
 pub mod Names
 pub mod Aligned
+pub mod Padded

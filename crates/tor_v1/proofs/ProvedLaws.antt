@@ -16,6 +16,8 @@ use Rattle.tor_v1.proofs.Zeros.{length-zeros}
 use Rattle.tor_v1.specs.declared.entry.Entry.{Entry}
 use Rattle.tor_v1.specs.declared.layout.Layout.{Layout}
 use Rattle.tor_v1.specs.declared.layout.Layout.TheVariants.{Joined, Aligned}
+pub use Rattle.tor_v1.proofs.Cut.{one_piece, piece_sums-nil, pieces-append, pieces_nil}
+pub use Rattle.tor_v1.proofs.Padded.{no_padding, whole_with_padding}
 
 -- ---- the sums of pieces
 
@@ -53,10 +55,10 @@ files_with_bytes files = has_bytes-count files
 abbrev facts : Entry → List (List ℕ) × ℕ
 facts entry = (entry.path, entry.length)
 
-no_padding : (b : Bool) (n : ℕ) (entries : List Entry)
+no_more_files : (b : Bool) (n : ℕ) (entries : List Entry)
     → file_entries (cond b (pad_entry n ∷ []) [] ++ entries) ≡ file_entries entries
-no_padding true n entries = refl
-no_padding false n entries = refl
+no_more_files true n entries = refl
+no_more_files false n entries = refl
 
 joined_files : (files : List (List (List ℕ) × ℕ)) → map facts (file_entries (map file_entry files)) ≡ files
 joined_files [] = refl
@@ -67,7 +69,7 @@ aligned_files : (piece_length : ℕ) (files : List (List (List ℕ) × ℕ))
 unfolding aligned_entries
 aligned_files piece_length [] = refl
 aligned_files piece_length (file ∷ files) =
-    ap (λ xs. file ∷ map facts xs) (no_padding _ _ (aligned_entries piece_length files))
+    ap (λ xs. file ∷ map facts xs) (no_more_files _ _ (aligned_entries piece_length files))
     ∙ ap (λ xs. file ∷ xs) (aligned_files piece_length files)
 
 pub facts-v1_entries : (layout : Layout) (piece_length : ℕ) (files : List (List (List ℕ) × ℕ))

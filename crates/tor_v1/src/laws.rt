@@ -1,11 +1,13 @@
 //! Laws over the definitions, as contracts of functions that do nothing.
-ghost use Rattle.std.specs.Prelude.{◌≡◌, ◌<◌, ℕ, ◌*◌, List, ◌++◌, count_by, length, map, nat_lt, sum_by};
+ghost use Rattle.std.specs.Prelude.{◌≡◌, ◌<◌, ◌≤◌, ℕ, ◌+◌, ◌*◌, ◌^◌, List, [], ◌∷◌, ◌++◌, count_by, length, map};
+ghost use Rattle.std.specs.Prelude.{nat_lt, sum_by};
 ghost use Rattle.std.specs.Int.{div_ceil};
 ghost use Rattle.tor_v1.specs.Content.{file_entries, AreContentsOf, joined_content};
-ghost use Rattle.tor_v1.specs.Entries.{has_bytes, v1_entries};
-ghost use Rattle.tor_v1.specs.Piece.{piece_sums, zeros};
+ghost use Rattle.tor_v1.specs.Entries.{has_bytes, padding_length, v1_entries};
+ghost use Rattle.tor_v1.specs.Piece.{piece_sums, pieces_of, zeros};
 ghost use Rattle.tor_v1.specs.declared.entry.Entry.{Entry};
 ghost use Rattle.tor_v1.specs.declared.layout.Layout.{Layout};
+ghost use Rattle.tor_v1.specs.declared.runs.TheConstants.{MAX_PIECE_IN_RUN};
 
 /// Each piece of a content has 20 bytes of its sums.
 pub fn length_of_sums()
@@ -18,6 +20,21 @@ pub fn sums_of_joined()
     ensures { (piece_length count : ℕ) (whole rest : List ℕ) → 0 < piece_length →
         length whole ≡ count * piece_length →
         piece_sums piece_length (whole ++ rest) ≡ piece_sums piece_length whole ++ piece_sums piece_length rest }
+{}
+
+/// No piece is in two contents of which the first has whole pieces: the pieces of the joined contents are theirs.
+pub fn pieces_of_joined()
+    ensures { (piece_length count : ℕ) (whole rest : List ℕ) → 0 < piece_length →
+        length whole ≡ count * piece_length →
+        pieces_of piece_length (whole ++ rest) ≡ pieces_of piece_length whole ++ pieces_of piece_length rest }
+{}
+
+/// No byte has a piece, and so none has a sum; a content of at most one piece is that piece.
+pub fn pieces_of_few_bytes()
+    ensures none { (piece_length : ℕ) → 0 < piece_length → pieces_of piece_length [] ≡ [] }
+    ensures no_sums { (piece_length : ℕ) → 0 < piece_length → piece_sums piece_length [] ≡ [] }
+    ensures one { (piece_length : ℕ) (content : List ℕ) → 0 < length content → length content ≤ piece_length →
+        pieces_of piece_length content ≡ content ∷ [] }
 {}
 
 /// So many zeros are so long.
@@ -41,4 +58,16 @@ pub fn entries_of_files()
 pub fn length_of_content()
     ensures { (entries : List Entry) (contents : List (List ℕ)) → AreContentsOf entries contents →
         length (joined_content entries contents) ≡ sum_by (λ entry. entry.length) entries }
+{}
+
+/// A file and what it lacks are whole pieces; a file of no byte lacks none.
+pub fn padding_fills_pieces()
+    ensures whole { (piece_length size : ℕ) → 0 < piece_length →
+        (count : ℕ) × (size + padding_length piece_length size ≡ count * piece_length) }
+    ensures none { (piece_length : ℕ) → padding_length piece_length 0 ≡ 0 }
+{}
+
+/// The most bytes of a piece that is hashed with seven others.
+pub fn limit_of_pieces_in_runs()
+    ensures { MAX_PIECE_IN_RUN ≡ 2 ^ 20 }
 {}

@@ -3,20 +3,15 @@ use Rattle.std.specs.Prelude.{ℕ, Bool, false, not, ◌&&◌, List, [], ◌∷�
 use Rattle.std.specs.Prelude.{◌==◌, is_none, length, unsigned_abs}
 use Rattle.std.specs.Prelude.{Option, None, Some, unwrap_or, if◌then◌else◌}
 use Rattle.tor_bencode.specs.Data.{Data}
-use Rattle.tor_bencode.specs.Find.{value_of}
 use Rattle.tor_spec.specs.valid.Conditions.{Condition}
 use Rattle.tor_spec.specs.valid.Conditions as conditions
 use Rattle.tor_spec.specs.valid.ListSide.{ListedFile, entries_of, has_list, letter_p, names_of}
 use Rattle.tor_spec.specs.valid.ListSide.{list_duplicate, list_file_and_folder, list_length, list_no_files}
 use Rattle.tor_spec.specs.valid.ListSide.{list_pieces, list_shape, list_symlink, list_too_large}
 use Rattle.tor_spec.specs.valid.Parts.{is_list, items_of_list, name_of, part}
-use Rattle.tor_tree.specs.Properties.{are_properties, as_string, has_letter, letter_h, letter_l, letter_x}
+use Rattle.tor_tree.specs.Properties.{are_properties, has_letter, letter_h, letter_l, letter_x}
 use Rattle.tor_tree.specs.Properties.{signed_length}
 use Rattle.tor_tree.specs.declared.tree_file.TreeFile.{TreeFile}
-use Rattle.tor_tree.specs.declared.lists.ListError.{ListError}
-use Rattle.tor_tree.specs.declared.lists.ListError.TheVariants as lists
-use Rattle.tor_check.specs.declared.refusal.Refusal.{Refusal}
-use Rattle.tor_check.specs.declared.refusal.Refusal.TheVariants as refusals
 use Rattle.tor_check.specs.declared.listed.Listed.{Listed}
 use Rattle.tor_check.specs.declared.marks.Marks.{Marks}
 

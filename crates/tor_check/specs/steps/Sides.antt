@@ -17,8 +17,6 @@ use Rattle.tor_spec.specs.valid.TreeSide.{tree_files, tree_length, tree_mixed, t
 use Rattle.tor_spec.specs.valid.TreeSide.{tree_of, tree_symlink, tree_too_large}
 use Rattle.tor_tree.specs.FileTree.{takes_memory}
 use Rattle.tor_tree.specs.Kinds.{has_v1, has_v2}
-use Rattle.tor_tree.specs.declared.tree_file.TreeFault.{TreeFault}
-use Rattle.tor_tree.specs.declared.tree_file.TreeFault.TheVariants as trees
 
 -- the condition holds of the v2 side
 abbrev pub tree_holds : Data → Condition → Bool

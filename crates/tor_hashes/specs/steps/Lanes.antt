@@ -1,6 +1,7 @@
 -- Eight messages side by side: each word is a vector, which has a word of message j at index j. Only private clauses
 -- cite this.
-use Rattle.std.specs.Prelude.{◌≡◌, ℕ, ◌+◌, ◌*◌, ◌<◌, List, [], ◌∷◌, drop, length, map, slice_index, slice_index_or, take}
+use Rattle.std.specs.Prelude.{◌≡◌, ℕ, ◌+◌, ◌*◌, ◌<◌, List, [], ◌∷◌, drop, length, map, slice_index, slice_index_or}
+use Rattle.std.specs.Prelude.{take}
 use Rattle.sha2.specs.Sha256.{word_at}
 
 -- word k of message j

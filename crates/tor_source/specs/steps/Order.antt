@@ -5,7 +5,7 @@ use Rattle.std.specs.List.Sorted.{IsStrictlySortedBy}
 use Rattle.std.specs.String.{string_bytes}
 use Rattle.std.specs.declared.cmp.Ordering.TheVariants.{Less}
 use Rattle.tor_tree.specs.Path.{path_cmp}
-use Rattle.tor_source.specs.Listing.{HasSameNames, names_in}
+use Rattle.tor_source.specs.steps.Listing.{HasSameNames, names_in}
 use Rattle.tor_source.specs.Places.{place_below}
 use Rattle.tor_source.specs.declared.walk.Entry.{Entry}
 use Rattle.tor_source.specs.declared.walk.Found.{Found}

@@ -8,6 +8,7 @@ use Rattle.tor_merkle.proofs.Lengths.{length_split}
 use Rattle.tor_merkle.proofs.Power.{same_power}
 use Rattle.tor_merkle.proofs.plain.whole.Goals.{then-width-piece_length, else-width-piece_length}
 use Rattle.tor_merkle.specs.Subtree as S
+use Rattle.tor_merkle.specs.steps.Plain as P
 use Rattle.tor_merkle.proofs.plain.whole.Goals as goal
 
 pub levels-init : goal.levels-init
@@ -45,7 +46,7 @@ levels-preserved c =
     let content = c.args.content.now in
     let above =
     c.in_ok-above.ensures
-    ∙ ap₂ S.level_above (c.zero.ensures ∙ ap S.zero_subtree (sym (zero-add level)))
+    ∙ ap₂ P.level_above (c.zero.ensures ∙ ap S.zero_subtree (sym (zero-add level)))
     (c.deref.ensures.value ∙ c.levels.invariant.hashes)
     ∙ level_above-nodes 0 (leaves content) level
     ∙ ap (nodes 0 (leaves content)) (sym (add-one level)) in

@@ -2,7 +2,7 @@ use Rattle.std.proofs.Common.{◌≡◌, false, true, map, sym, ◌∙◌, appen
 use Rattle.std.specs.Prelude.{vec_items}
 use Rattle.std.specs.Io.Iter.{split_byte, split_known_bytes}
 use Rattle.std.proofs.lemmas.List.{map_push}
-use Rattle.tor_source.specs.Listing.{is_listed}
+use Rattle.tor_source.specs.steps.Listing.{is_listed}
 use Rattle.tor_source.proofs.Pieces.{read_all, read_more, read_none}
 use Rattle.tor_source.proofs.listing.names_of.Goals as goal
 

@@ -1,5 +1,5 @@
 -- the entries are those of the files, and their plan that of the files
-use Rattle.tor_plan.proofs.Names.{◌≡◌, ◌∙◌, ap, ap₂, subst, sym, List, IfOk, v1_entries, Layout, layout_of, IsEntryList}
+use Rattle.tor_plan.proofs.Names.{◌≡◌, ◌∙◌, ap, ap₂, subst, sym, List, IfOk, v1_entries, Layout, IsEntryList}
 use Rattle.tor_plan.proofs.Names.{plan_of_entries, PlanFacts}
 use Rattle.tor_plan.proofs.Contents.{File}
 use Rattle.tor_plan.proofs.FileSizes.{files_are_list, same_plan}

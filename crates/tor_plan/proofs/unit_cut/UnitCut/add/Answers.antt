@@ -1,5 +1,5 @@
 -- some bytes more
-use Rattle.tor_plan.proofs.Names.{◌≡◌, ◌+◌, ◌-◌, ◌∙◌, arith, inl, inr, subst, cases_lt, HasCut}
+use Rattle.tor_plan.proofs.Names.{◌+◌, ◌-◌, ◌∙◌, arith, inl, inr, subst, cases_lt, HasCut}
 use Rattle.tor_plan.proofs.Cut.{adds_some}
 use Rattle.tor_plan.proofs.unit_cut.UnitCut.add.Goals as goal
 

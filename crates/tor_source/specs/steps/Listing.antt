@@ -1,4 +1,5 @@
--- The names in a folder, as the system lists them: one after the other, each ended by a zero byte.
+-- The names in a folder, as the system lists them: one after the other, each ended by a zero byte. Only private clauses
+-- cite this.
 use Rattle.std.specs.Prelude.{ℕ, Bool, not, ◌||◌, ◌==◌, List, [], ◌∷◌, length, codes, if◌then◌else◌}
 use Rattle.std.specs.List.{Contains, filter}
 use Rattle.std.specs.Str.{bytes_eq}
