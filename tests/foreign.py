@@ -7,7 +7,8 @@ import copy
 
 import reference
 from reference import BLOCK, Order, Refused, decode, encode, judge, make
-from support import Failure, Told, done, expect, refused
+from refuser import Refuser
+from support import Failure, Told, done, expect, expect_told, refused
 
 GONE = object()
 BIG = 1 << 50
@@ -318,16 +319,21 @@ def test_padding_alone(program, folder):
 
 
 def test_fronts_and_turned_bits(program, folder):
-    """Each front of a hybrid is truncated at its end; of each with one bit turned the reference tells the same."""
+    """Each front of a hybrid is truncated at its end; of each with one bit turned the reference tells the same, and one
+    that is accepted is the spelling of its tree."""
     text = make([((b'a',), b'ab'), ((b'b',), b'c')], Order('hybrid', False, b'f', BLOCK, None, False, 'one', 1, 16))
     for count in range(len(text)):
         expect_torrent(program, folder, text[:count], f'V1 Bencode B1 Truncated at {count}', f'the first {count}')
-    place = folder / 'torrent'
-    for bit in range(0, 8 * len(text), 7):
+    runs, place = Refuser(program, folder, library=''), folder / 'torrent'
+    words = ['check', str(place)]
+    for bit in range(8 * len(text)):
         turned = bytearray(text)
         turned[bit // 8] ^= 1 << bit % 8
         place.write_bytes(turned)
-        expect(program, ['check', str(place)], wanted_lines(bytes(turned)), note=f'bit {bit} turned\n')
+        wanted = wanted_lines(bytes(turned))
+        expect_told(words, wanted, Told(*runs.run(words)[:3]), f'bit {bit} turned\n')
+        if wanted.status == 0 and encode(decode(bytes(turned))) != turned:
+            raise Failure(f'bit {bit} turned: accepted, and no spelling of a tree')
 
 
 def test_nesting(program, folder):
