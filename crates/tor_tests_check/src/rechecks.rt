@@ -62,7 +62,9 @@ d6:lengthi1e4:pathl1:beee12:meta versioni2e4:name1:f12:piece lengthi16384e6:piec
 
 const END: &[u8] = b"e12:piece layersdee";
 
-const OF_BOTH: &[&[u8]] = &[HYBRID, ROOT_A, THEN_B, ROOT_B, THEN_LIST, SUM_A, SUM_B, END];
+pub(crate) const OF_BOTH: &[&[u8]] = &[
+    HYBRID, ROOT_A, THEN_B, ROOT_B, THEN_LIST, SUM_A, SUM_B, END,
+];
 
 const OF_OTHER_SUM: &[&[u8]] = &[
     HYBRID, ROOT_A, THEN_B, ROOT_B, THEN_LIST, OTHER_SUM, SUM_B, END,
