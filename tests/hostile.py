@@ -14,8 +14,9 @@ from support import Failure, refused, shown
 
 # Longer than any torrent here.
 OLD = b'old ' * 1000
-CONTENTS = [((b'a',), b'ab'), ((b'b', b'c'), bytes(range(250)) * 160), ((b'b', b'd'), b''), ((b'e',), b'c')]
-LONG = CONTENTS[1][1]
+# Thirteen pieces: more than the lane of two workers has room for.
+LONG = bytes(range(250)) * 800
+CONTENTS = [((b'a',), b'ab'), ((b'b', b'c'), LONG), ((b'b', b'd'), b''), ((b'e',), b'c')]
 WAYS = [('one', 1), ('halves', 2), ('board', 2), ('streams', 2)]
 KINDS = ['v1', 'v2', 'hybrid']
 

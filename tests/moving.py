@@ -66,7 +66,7 @@ def folder_as_file(folder):
 MOVES = [Move('the folder is removed', removed, '[0-3]'), Move('a file is removed', file_removed),
          Move('a file is emptied', emptied), Move('a file is cut', cut), Move('a file grows', grown),
          Move('a file becomes a folder', as_folder), Move('a file becomes a link to itself', as_link),
-         # It waits where it has asked what a file is, and then opens what has become a FIFO.
+         # Who has asked what a file is, and then opens what has become a FIFO, waits until somebody writes into it.
          Move('a file becomes a FIFO', as_fifo, kinds='s'), Move('a folder becomes a file', folder_as_file, '[12]')]
 
 
@@ -177,10 +177,14 @@ def sweep_recheck(refuser, folder, kind, move):
 def sweeps(refuser, folder):
     """All there are: the words of each, the move, and what to call."""
     for move in MOVES:
+        # Of several that read, one may be about to open the file while a call of another is held.
+        is_for_one = move.act is as_fifo
         for kind in KINDS:
             for way in WAYS:
-                yield f'make {kind}, {way[0]}', move, lambda: sweep_make(refuser, folder, kind, way, move)
-            yield f'recheck {kind}', move, lambda: sweep_recheck(refuser, folder, kind, move)
+                if not is_for_one or way[0] in ('one', 'streams'):
+                    yield f'make {kind}, {way[0]}', move, lambda: sweep_make(refuser, folder, kind, way, move)
+            if not is_for_one:
+                yield f'recheck {kind}', move, lambda: sweep_recheck(refuser, folder, kind, move)
 
 
 def test_a_file_that_is_cut(program, folder):
