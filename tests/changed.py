@@ -12,7 +12,8 @@ from reference import decode, encode, judge
 from refuser import Meet
 from support import Failure, Told, shown
 
-# The address space of a run. A torrent here has at most some 100 KB.
+# The address space of a run, in which the C library has one arena, since each takes 64 MB of it. A torrent here has at
+# most some 100 KB.
 ROOM = 100_000 << 10
 # Bytes of a torrent's files up to which the reference tells the bits too.
 FEW = 1 << 22
@@ -127,7 +128,7 @@ def try_text(refuser, place, folder, text, rechecks):
 def expect(refuser, words, text, is_right, note):
     told = Told(*refuser.run(words, Meet(room=ROOM))[:3])
     if not is_right(told):
-        raise Failure(f'tor {words[0]} of {text[:3000]!r} ({len(text)} bytes)\n{note}\ncame    {shown(told)}')
+        raise Failure(f'tor {words[0]} of {bytes(text[:300])!r} ({len(text)} bytes)\n{note}\ncame    {shown(told)}')
 
 
 def is_recheck(torrent, folder, told):

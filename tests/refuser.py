@@ -17,7 +17,7 @@ from support import Failure, Skipped, shown_words
 TIME_LIMIT = 60
 ALL_LATER = 1 << 40
 # Descriptors of the program: on which it tells the calls that were met, and from which it is let go on.
-TOLD, GO = 9, 8
+TOLD, GO = 99, 98
 
 # Which calls are met, as refuser.c says: the kinds that count, the first and the last of them, what meets them, the
 # error of those that are refused, the most bytes of a write, and those of the address space.
@@ -69,6 +69,8 @@ class Refuser:
             'REFUSER_LAST': str(meet.last), 'REFUSER_DOES': meet.does, 'REFUSER_ERROR': str(meet.error),
             'REFUSER_MOST': str(meet.most), 'REFUSER_ROOM': str(meet.room), 'REFUSER_TOLD': str(TOLD),
             'REFUSER_GO': str(GO)}
+        if meet.room:
+            environment['MALLOC_ARENA_MAX'] = '1'
         return os.posix_spawn(self.program, [self.program, *words], environment, file_actions=files)
 
     def each(self, words, meet, given=os.devnull, act=None, before=lambda: None):
