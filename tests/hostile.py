@@ -262,8 +262,10 @@ def test_memory_in_turn(program, folder):
     """Each request for memory is refused in turn: of a hybrid that is judged, made each way, and rechecked."""
     lay_out(folder)
     refuser = Refuser(program, folder)
-    cases = [case for case in torrent_cases(folder) if case.torrent == folder / 'hybrid.torrent']
-    for case in cases + [make_case(folder, 'hybrid', way, False, None) for way in WAYS]:
+    torrent = folder / 'hybrid.torrent'
+    check = Case(['check', torrent], right_of(reference.check_lines(judge(torrent.read_bytes()))), torrent=torrent)
+    made = [make_case(folder, 'hybrid', way, False, None) for way in WAYS]
+    for case in [check, recheck_case(folder, 'hybrid', False), *made]:
         sweep(refuser, case, 'm')
 
 
