@@ -7,7 +7,8 @@ import copy
 
 import reference
 from reference import BLOCK, Order, Refused, decode, encode, judge, make
-from support import Failure, Told, done, expect, refused
+from refuser import Refuser
+from support import Failure, Told, done, expect, expect_told, refused
 
 GONE = object()
 BIG = 1 << 50
@@ -317,17 +318,27 @@ def test_padding_alone(program, folder):
         expect_torrent(program, folder, encode(with_one), 'V23 Alignment', f'a byte at {place}')
 
 
-def test_fronts_and_turned_bits(program, folder):
-    """Each front of a hybrid is truncated at its end; of each with one bit turned the reference tells the same."""
+def test_fronts_and_turned_bits(program, folder, step=7):
+    """Each front of a hybrid is truncated at its end; where one bit is turned the reference tells the same, and what is
+    accepted is the spelling of its tree. Here it is every seventh bit; bench/changed turns each."""
     text = make([((b'a',), b'ab'), ((b'b',), b'c')], Order('hybrid', False, b'f', BLOCK, None, False, 'one', 1, 16))
+    runs, place = Refuser(program, folder, library=''), folder / 'torrent'
     for count in range(len(text)):
-        expect_torrent(program, folder, text[:count], f'V1 Bencode B1 Truncated at {count}', f'the first {count}')
-    place = folder / 'torrent'
-    for bit in range(0, 8 * len(text), 7):
+        expect_told_of(runs, place, text[:count], refused(f'V1 Bencode B1 Truncated at {count}'), f'the first {count}')
+    for bit in range(0, 8 * len(text), step):
         turned = bytearray(text)
         turned[bit // 8] ^= 1 << bit % 8
-        place.write_bytes(turned)
-        expect(program, ['check', str(place)], wanted_lines(bytes(turned)), note=f'bit {bit} turned\n')
+        wanted = wanted_lines(bytes(turned))
+        expect_told_of(runs, place, turned, wanted, f'bit {bit} turned')
+        if wanted.status == 0 and encode(decode(bytes(turned))) != turned:
+            raise Failure(f'bit {bit} turned: accepted, and no spelling of a tree')
+
+
+def expect_told_of(runs, place, text, wanted, note):
+    """That `check` tells this of the bytes, in a run that takes little time."""
+    place.write_bytes(text)
+    words = ['check', str(place)]
+    expect_told(words, wanted, Told(*runs.run(words)[:3]), f'{note}\n')
 
 
 def test_nesting(program, folder):

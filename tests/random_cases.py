@@ -11,7 +11,8 @@ import traceback
 import reference
 from foreign import wanted_lines
 from reference import BLOCK, Order, Refused, decode, encode, judge, make
-from support import Failure, Told, done, expect, expect_equal, refused
+from refuser import Refuser
+from support import Failure, Skipped, Told, done, expect, expect_equal, refused
 
 NAMES = ['a', 'b', 'c', 'A', 'a-b', 'a b', ' a ', '-x', '.a', '...', 'é', '中文', '\n', 'x\ty', '\x7f', 'a\\b', '𝄞',
          '\x1b[0m', 'a.', '%', '\u00c5', 'A\u030a', 'z' * 255, '\u00ff', '~', '*', '"', "'", '0', '00', '10', '9',
@@ -39,10 +40,12 @@ def failure_of(program, folder, case):
     place = folder / 'case'
     place.mkdir()
     rng = random.Random(case)
-    kind = rng.choices([case_of_path, case_of_input, case_of_foreign, case_of_bytes, case_of_proof],
-                       [10, 3, 12, 4, 2])[0]
+    kind = rng.choices([case_of_path, case_of_input, case_of_foreign, case_of_bytes, case_of_proof, case_of_changed],
+                       [10, 3, 12, 4, 2, 2])[0]
     try:
         kind(rng, program, place)
+        return None
+    except Skipped:
         return None
     except Failure as failure:
         return f'case {case}, {kind.__name__}\n{failure}'
@@ -510,6 +513,17 @@ def case_of_bytes(rng, program, place):
                 del changed[max(at, 1):]
         file.write_bytes(changed)
         expect(program, ['check', str(file)], wanted_lines(bytes(changed)), note=f'{bytes(changed)[:2000]!r}\n')
+
+
+def case_of_changed(rng, program, place):
+    """A torrent changed in each of twenty ways, judged and rechecked in little memory."""
+    import changed
+    content = place / 'content'
+    changed.lay_out(content)
+    refuser = Refuser(program, place.parent)
+    text = changed.lawful(rng)
+    for _ in range(20):
+        changed.try_text(refuser, place / 'torrent', content, changed.changed(rng, text), rng.random() < 0.2)
 
 
 def case_of_proof(rng, program, place):

@@ -2,9 +2,9 @@
 //! more for them.
 //!
 //! Of tor_check: `verdicts.rt`, `worked.rt`, `order.rt` (which bytes are torrents, and of two faults the first),
-//! `lenient.rt` (what other makers may write), `hybrids.rt`, `layers.rt`, `pieces.rt` (proofs of pieces). `telling.rt`
-//! and `layered.rt` have what these share. Of tor_recheck: `bits.rt`, `rechecks.rt`, `found.rt` (what is
-//! told of files), and `meetings.rt`: whether its workers work at once.
+//! `lenient.rt` (what other makers may write), `turned.rt` (one bit is another), `hybrids.rt`, `layers.rt`, `pieces.rt`
+//! (proofs of pieces). `telling.rt` and `layered.rt` have what these share. Of tor_recheck: `bits.rt`, `rechecks.rt`,
+//! `found.rt` (what is told of files), and `meetings.rt`: whether its workers work at once.
 #![tactic(auto)]
 
 #[cfg(test)]
@@ -29,6 +29,8 @@ mod pieces;
 mod rechecks;
 #[cfg(test)]
 mod telling;
+#[cfg(test)]
+mod turned;
 #[cfg(test)]
 mod verdicts;
 #[cfg(test)]

@@ -65,16 +65,6 @@ const EIGHT: &[u8] =
     b"--------------------------------------------------------------------------------\
 --------------------------------------------------------------------------------";
 
-/// A torrent of a file of 32 pieces, which are two units.
-const OF_TWO_UNITS: &[&[u8]] = &[
-    b"d4:infod6:lengthi32e4:name1:a12:piece lengthi1e6:pieces640:",
-    EIGHT,
-    EIGHT,
-    EIGHT,
-    EIGHT,
-    b"ee",
-];
-
 /// A torrent of a file of 64 pieces, which are four units.
 const OF_FOUR_UNITS: &[&[u8]] = &[
     b"d4:infod6:lengthi64e4:name1:a12:piece lengthi1e6:pieces1280:",
@@ -163,7 +153,7 @@ const MEETINGS: &[Row] = &[
 
 #[test]
 fn recheck_meets(rt: HostRuntime) {
-    assert!(rt; each_meets(&rt, OF_TWO_UNITS, 32, false, MEETINGS));
+    assert!(rt; each_meets(&rt, OF_FOUR_UNITS, 64, false, MEETINGS));
 }
 
 /// The first read waits for those of the other three units. Where the units are dealt out beforehand, one waits behind
@@ -189,5 +179,5 @@ const OUTSIDE: &[Row] = &[
 
 #[test]
 fn judges_workers_before_it_asks_a_length(rt: HostRuntime) {
-    assert!(rt; each_meets(&rt, OF_TWO_UNITS, 32, false, OUTSIDE));
+    assert!(rt; each_meets(&rt, OF_FOUR_UNITS, 64, false, OUTSIDE));
 }

@@ -290,21 +290,36 @@ fn failing(alloc: Global, row: &Fault) -> Result<FailSource, AllocError> {
     Ok(FailSource::new(source(alloc, row.0)?, faults))
 }
 
-/// Whether a row holds for a kind, each way to share the units.
-fn is_fault<R: AllocGlobal + Threads + Sync>(rt: &R, row: &Fault, shape: Shape) -> bool {
+/// Whether a row holds for a kind, with so many pieces a unit, each way to share the units.
+fn is_fault<R: AllocGlobal + Threads + Sync>(rt: &R, row: &Fault, shape: Shape, span: u32) -> bool {
     match failing(rt.alloc(), row) {
-        Ok(source) => is_each_made(rt, &source, &(shape, row.0, row.3), 1),
+        Ok(source) => is_each_made(rt, &source, &(shape, row.0, row.3), span),
         Err(_) => false,
     }
+}
+
+fn is_fault_of_each_kind<R: AllocGlobal + Threads + Sync>(rt: &R, row: &Fault, span: u32) -> bool {
+    is_fault(rt, row, V1, span) && is_fault(rt, row, V2, span) && is_fault(rt, row, HYBRID, span)
 }
 
 #[test]
 fn tells_faults_under_the_numbers_handed_in(rt: HostRuntime) {
     for row in FAULTS {
-        assert!(rt; is_fault(&rt, row, V1));
-        assert!(rt; is_fault(&rt, row, V2));
-        assert!(rt; is_fault(&rt, row, HYBRID));
+        assert!(rt; is_fault_of_each_kind(&rt, row, 1));
     }
+}
+
+/// Two bytes of one unit of four pieces.
+const IN_ONE_UNIT: &Fault = &(
+    "a=#40000",
+    (0, Some(20000), 1),
+    (0, Some(17000), 2),
+    b"Read { file: 0, start: Some(17000), fault: 2 }",
+);
+
+#[test]
+fn tells_the_first_byte_that_fails_in_a_unit(rt: HostRuntime) {
+    assert!(rt; is_fault_of_each_kind(&rt, IN_ONE_UNIT, 4));
 }
 
 /// The length that is told of a file with no bytes, and what is answered.

@@ -1,0 +1,276 @@
+"""What the program answers where it is refused memory, threads, or what it asks of the system, or is killed.
+
+Each call of a run is refused in turn by refuser.py. bench/hostile does so with every command; here is what it judges
+by, and a part of it that takes seconds.
+"""
+import os
+import re
+from collections import namedtuple
+
+import reference
+from reference import BLOCK, Order, judge
+from refuser import ALL_LATER, Meet, Refuser
+from support import Failure, refused, shown
+
+# Longer than any torrent here.
+OLD = b'old ' * 1000
+# Thirteen pieces: more than the lane of two workers has room for.
+LONG = bytes(range(250)) * 800
+CONTENTS = [((b'a',), b'ab'), ((b'b', b'c'), LONG), ((b'b', b'd'), b''), ((b'e',), b'c')]
+WAYS = [('one', 1), ('halves', 2), ('board', 2), ('streams', 2)]
+KINDS = ['v1', 'v2', 'hybrid']
+
+# How a run ends: what it has for a status, prints, and leaves in the file of --out.
+Answer = namedtuple('Answer', 'status out err kept')
+
+
+class Case:
+    """A run: its words, the right answer, the file that is its input, and what the places are that it asks for."""
+
+    def __init__(self, words, right, given=os.devnull, path=None, files=(), torrent=None, out=None):
+        self.words, self.given, self.path, self.torrent, self.out = [*map(str, words)], str(given), path, torrent, out
+        # What a recheck answers where no file is there.
+        self.absent = None
+        self.numbers = {str(place): number for number, place in enumerate(files)}
+        self.is_stream = 'streams' in self.words
+        self.right = Answer(right.status, b'' if out else right.out, right.err, OLD if out else None)
+        if out and right.status == 0:
+            self.right = self.right._replace(kept=right.out)
+        if out:
+            self.words += ['--out', str(out)]
+
+    def lay_out(self):
+        if self.out:
+            self.out.write_bytes(OLD)
+
+    def came(self, ended):
+        return Answer(ended.status, ended.out, ended.err, self.out.read_bytes() if self.out else None)
+
+    def refusal(self, line, status):
+        return Answer(status, b'', b'tor: ' + line.encode() + b'\n', OLD if self.out else None)
+
+    def told(self):
+        return ' '.join(os.path.basename(word) if word.startswith('/') else word for word in self.words)
+
+
+# What there is to run.
+
+def lay_out(place):
+    """The files that the cases are about."""
+    for path, content in CONTENTS:
+        target = place / 'folder' / os.fsdecode(b'/'.join(path))
+        target.parent.mkdir(parents=True, exist_ok=True)
+        target.write_bytes(content)
+    (place / 'file').write_bytes(LONG)
+    for kind in KINDS:
+        (place / f'{kind}.torrent').write_bytes(torrent_of(kind, False))
+        (place / f'{kind}-file.torrent').write_bytes(torrent_of(kind, True))
+    (place / 'no.torrent').write_bytes(torrent_of('v2', True)[:-1])
+    (place / 'proof').write_bytes(reference.prove(judge(torrent_of('v2', True)), 0, 1))
+
+
+def torrent_of(kind, single):
+    contents = [((b'f',), LONG)] if single else CONTENTS
+    return reference.make(contents, Order(kind, single, b'f', BLOCK, None, False, 'one', 1, 1))
+
+
+def content_of(place, single):
+    """PATH, and the files in their order."""
+    if single:
+        return place / 'file', [place / 'file']
+    return place / 'folder', [place / 'folder' / os.fsdecode(b'/'.join(path)) for path, _ in CONTENTS]
+
+
+def make_case(place, kind, way, single, out):
+    path, files = content_of(place, single)
+    words = ['make', '--name', 'f', '--kind', kind, '--piece-length', BLOCK, '--span', 1, '--how', way[0],
+             '--workers', way[1], path]
+    return Case(words, right_of(torrent_of(kind, single)), path=path, files=files, out=out)
+
+
+def input_case(place, kind, out):
+    words = ['make', '--name', 'f', '--kind', kind, '--piece-length', BLOCK]
+    return Case(words, right_of(torrent_of(kind, True)), given=place / 'file', out=out)
+
+
+def right_of(out, status=0):
+    return Answer(status, out, b'', None)
+
+
+def make_cases(place):
+    for out in [None, place / 'out']:
+        for kind in KINDS:
+            yield input_case(place, kind, out)
+            for way in WAYS:
+                yield make_case(place, kind, way, False, out)
+                yield make_case(place, kind, way, True, out)
+        words = ['make', '--name', 'f', '--span', 3]
+        yield Case(words, refused('M3 Span'), given=place / 'file', out=out)
+        yield Case([*words, place / 'folder'], refused('M3 Span'), path=place / 'folder', out=out)
+
+
+def recheck_case(place, kind, single):
+    path, files = content_of(place, single)
+    torrent = place / (f'{kind}-file.torrent' if single else f'{kind}.torrent')
+    contents = [LONG] if single else [content for _, content in CONTENTS]
+    marks = reference.marks_of(judge(torrent.read_bytes()), contents)
+    case = Case(['recheck', torrent, path], right_of(reference.recheck_lines(marks)), path=path, files=files,
+                torrent=torrent)
+    case.absent = right_of(reference.recheck_lines([False] * len(marks)), 1)
+    return case
+
+
+def torrent_cases(place):
+    for kind in KINDS:
+        torrent = place / f'{kind}.torrent'
+        view = judge(torrent.read_bytes())
+        yield Case(['check', torrent], right_of(reference.check_lines(view)), torrent=torrent)
+        yield Case(['magnet', torrent], right_of(reference.magnet(view)), torrent=torrent)
+        if kind != 'v1':
+            yield Case(['prove', torrent, 1, 2], right_of(reference.prove(view, 1, 2)), torrent=torrent)
+        yield recheck_case(place, kind, False)
+        yield recheck_case(place, kind, True)
+    torrent = place / 'no.torrent'
+    yield Case(['check', torrent], refused(f'V1 Bencode B1 Truncated at {torrent.stat().st_size}'), torrent=torrent)
+    root = reference.root_of(reference.leaves(LONG)).hex()
+    for length, right in [(len(LONG), right_of(b'yes\n')), (2 * BLOCK, right_of(b'no\n', 1))]:
+        yield Case(['verify', root, length, BLOCK, place / 'proof'], right, torrent=place / 'proof')
+
+
+def other_cases(place):
+    """Words that are refused or only shown, and as many workers as there may be."""
+    given = place / 'file'
+    yield Case(['make', '--name', '..'], refused('N3 DotDot'), given=given)
+    yield Case(['make', '--foo'], refused("unexpected argument '--foo'; see 'tor make --help'", 2), given=given)
+    yield Case(['--version'], right_of(b'tor 0.1.0\n'))
+    for how in ['halves', 'board', 'streams']:
+        yield make_case(place, 'v2', (how, 64), False, None)
+
+
+# What is right where calls are refused.
+
+def fault_of(case, kinds, ended):
+    """What is wrong with how a run ended some of whose calls were refused; None where nothing is."""
+    came = case.came(ended)
+    if 'm' in kinds or 't' in kinds:
+        is_right = came == case.right or (came == case.refusal('out of resources', 4)
+                                          and ('m' in kinds or case.is_stream))
+    elif 'w' in kinds:
+        is_right = is_cut(case, came, ended.met)
+    else:
+        is_right = any(is_told(case, met, came) for met in ended.met) or is_of_path(case, ended.met, came)
+    return None if is_right else f'{difference(case, came)}\nrefused {ended.met[:9]}'
+
+
+def difference(case, came):
+    return f'run     {case.told()}\nwanted  {answer_shown(case.right)}\ncame    {answer_shown(came)}'
+
+
+def answer_shown(answer):
+    kept = '' if answer.kept is None else f'\n  --out has {len(answer.kept)} bytes: {answer.kept[:20]!r} ..'
+    return shown(answer) + kept
+
+
+def is_told(case, met, came):
+    """Whether what came names this call, and nothing was written."""
+    return any(re.fullmatch(re.escape(b'tor: ') + line + b'\n', came.err) for line in lines_of(case, met)) \
+        and came == Answer(3, b'', came.err, OLD if case.out else None)
+
+
+def is_of_path(case, met, came):
+    """Of a folder it is asked again what it is, as it is listed. In a recheck a PATH of which the system does not tell
+    what it is counts as a folder, so that a file there is missing."""
+    if len(met) > 1 or met[0].kind != 's' or met[0].place != str(case.path):
+        return False
+    return came == (case.right if os.path.isdir(case.path) else case.absent)
+
+
+def lines_of(case, met):
+    """What may be told of a call that was refused."""
+    place = met.place.rstrip('/')
+    number = case.numbers.get(place)
+    if place == str(case.out):
+        return [b'write fault after 0 bytes']
+    if place in (case.given, str(case.torrent)):
+        return [b'read fault']
+    lines = [] if case.words[0] == 'recheck' or met.kind == 'r' else [b'F4 System']
+    if number is not None:
+        code = b'C1' if case.words[0] == 'recheck' else b'E1'
+        starts = b'%d' % met.offset if met.kind == 'r' else b'0' if case.is_stream else rb'(length|[0-9]+)'
+        lines.append(b'%s Read file %d at %s' % (code, number, starts))
+    return lines
+
+
+def is_cut(case, came, met):
+    """Whether a front was written whose length is told; on standard error a front of a line may be."""
+    if not all(one.file == 2 for one in met):
+        whole, front = (case.right.kept, came.kept) if case.out else (case.right.out, came.out)
+        line = b'tor: write fault after %d bytes\n' % len(front)
+        is_front = len(front) < len(whole) and whole.startswith(front) and not (case.out and came.out)
+        return came.status == 3 and is_front and (came.err == line or (len(met) > 1 and line.startswith(came.err)))
+    return came._replace(err=b'') == case.right._replace(err=b'') and case.right.err.startswith(came.err)
+
+
+def fault_of_killed(case, ended, refuser, fronts):
+    """What is wrong with what a killed run left; a front of a torrent is none. `fronts` has those that were judged."""
+    came = case.came(ended)
+    whole = case.right.kept if case.out else case.right.out
+    left = came.kept if case.out else came.out
+    is_right = came.status == -9 and case.right.err.startswith(came.err) and (left == OLD or whole.startswith(left))
+    if is_right and case.out and left not in (OLD, whole) and left not in fronts:
+        fronts.add(left)
+        told = refuser.run(['check', str(case.out)])
+        is_right = (told.status, told.out, told.err) == refused(f'V1 Bencode B1 Truncated at {len(left)}')
+    return None if is_right else f'{difference(case, came)}\nkilled  {ended.met}'
+
+
+def sweep(refuser, case, kinds, follow=False):
+    """Refuses each call of these kinds in turn, with all that follow where it is asked for: how many runs there were,
+    and how many did not end as they do with nothing refused."""
+    meet = Meet(kinds, last=ALL_LATER if follow else 0, most=16 if 'w' in kinds else 0)
+    count = named = 0
+    for ended in refuser.each(case.words, meet, case.given, before=case.lay_out):
+        count += 1
+        named += case.came(ended) != case.right
+        fault = fault_of(case, kinds, ended)
+        if fault:
+            raise Failure(fault)
+    expect_right(refuser, case)
+    return count, named
+
+
+def expect_right(refuser, case):
+    """With nothing refused it ends as it has to."""
+    case.lay_out()
+    came = case.came(refuser.run(case.words, given=case.given))
+    if came != case.right:
+        raise Failure(difference(case, came))
+
+
+def sweep_killed(refuser, case):
+    """Kills the run at each of its calls in turn: how many there were."""
+    count, fronts = 0, set()
+    for ended in refuser.each(case.words, Meet('mtsolrw', does='kill', most=16), case.given, before=case.lay_out):
+        count += 1
+        fault = fault_of_killed(case, ended, refuser, fronts)
+        if fault:
+            raise Failure(fault)
+    return count
+
+
+def test_memory_in_turn(program, folder):
+    """Each request for memory is refused in turn: of a hybrid that is judged, made each way, and rechecked."""
+    lay_out(folder)
+    refuser = Refuser(program, folder)
+    torrent = folder / 'hybrid.torrent'
+    check = Case(['check', torrent], right_of(reference.check_lines(judge(torrent.read_bytes()))), torrent=torrent)
+    made = [make_case(folder, 'hybrid', way, False, None) for way in WAYS]
+    for case in [check, recheck_case(folder, 'hybrid', False), *made]:
+        sweep(refuser, case, 'm')
+
+
+def test_killed_while_it_writes(program, folder):
+    """What --out has is the old file, or a front of the torrent."""
+    lay_out(folder)
+    refuser = Refuser(program, folder)
+    sweep_killed(refuser, input_case(folder, 'v2', folder / 'out'))

@@ -1,0 +1,196 @@
+"""What the program answers where files move while it reads them.
+
+Each call that asks something of the files is held in turn, and meanwhile a file is removed, cut, grown, or becomes
+something else, or the whole folder goes. What comes has to be the torrent, or the bits, of what was there before or of
+what is there then, or the fault of that file. bench/hostile tries all; tests/run a part of it that takes seconds.
+"""
+import os
+import re
+import shutil
+from collections import namedtuple
+
+import reference
+from hostile import BLOCK, CONTENTS, KINDS, LONG, WAYS, torrent_of
+from reference import Order, Refused, decode, judge
+from refuser import Meet, Refuser
+from support import Failure, done, refused, shown_words
+
+# The file that moves, which is file 1: its place below the folder.
+MOVED = 'b/c'
+# What is done with the folder or its file: its name, the numbers of the files whose faults may be told, and which kinds
+# of calls are held.
+Move = namedtuple('Move', 'name act numbers kinds', defaults=('1', 'solr'))
+
+
+def removed(folder):
+    shutil.rmtree(folder)
+
+
+def file_removed(folder):
+    (folder / MOVED).unlink()
+
+
+def emptied(folder):
+    os.truncate(folder / MOVED, 0)
+
+
+def cut(folder):
+    os.truncate(folder / MOVED, 20_000)
+
+
+def grown(folder):
+    with open(folder / MOVED, 'ab') as file:
+        file.write(b'more')
+
+
+def as_folder(folder):
+    (folder / MOVED).unlink()
+    (folder / MOVED).mkdir()
+
+
+def as_link(folder):
+    (folder / MOVED).unlink()
+    (folder / MOVED).symlink_to('c')
+
+
+def as_fifo(folder):
+    (folder / MOVED).unlink()
+    os.mkfifo(folder / MOVED)
+
+
+def folder_as_file(folder):
+    shutil.rmtree(folder / 'b')
+    (folder / 'b').write_bytes(b'file')
+
+
+MOVES = [Move('the folder is removed', removed, '[0-3]'), Move('a file is removed', file_removed),
+         Move('a file is emptied', emptied), Move('a file is cut', cut), Move('a file grows', grown),
+         Move('a file becomes a folder', as_folder), Move('a file becomes a link to itself', as_link),
+         # Who has asked what a file is, and then opens what has become a FIFO, waits until somebody writes into it.
+         Move('a file becomes a FIFO', as_fifo, kinds='s'), Move('a folder becomes a file', folder_as_file, '[12]')]
+
+
+def lay_out(folder):
+    shutil.rmtree(folder, ignore_errors=True)
+    for path, content in CONTENTS:
+        target = folder / os.fsdecode(b'/'.join(path))
+        target.parent.mkdir(parents=True, exist_ok=True)
+        target.write_bytes(content)
+
+
+def found(folder):
+    """The files that are there."""
+    files = []
+    for top, _, names in os.walk(folder):
+        for name in names:
+            place = os.path.join(top, name)
+            if os.path.isfile(place) and not os.path.islink(place):
+                with open(place, 'rb') as file:
+                    files.append((tuple(os.fsencode(os.path.relpath(place, folder)).split(b'/')), file.read()))
+    return sorted(files)
+
+
+def answer_of(kind, files):
+    """What `make` answers of these files."""
+    try:
+        return done(reference.make(files, Order(kind, False, b'f', BLOCK, None, False, 'one', 1, 1)))
+    except Refused as refusal:
+        return refused(refusal.line)
+
+
+def states(after):
+    """The files that there were, that there are, and that there were in between where a folder became a file. A folder
+    that is removed while it is open is listed as an empty one."""
+    return [CONTENTS, after, [(path, data) for path, data in CONTENTS if path in dict(after)]]
+
+
+def fronts_of(kind, out, length):
+    """What is answered of the same files, where of the one that moves so many bytes were read as the output tells: a
+    front of what it was, of at least this length. Of a stream that is right too."""
+    for listed in reference.Torrent(decode(out)).tree_files if kind == 'v2' else []:
+        if listed[0] == tuple(MOVED.encode().split(b'/')):
+            length = max(length, listed[1][b'length'])
+    entries = [] if kind == 'v2' else decode(out)[b'info'][b'files']
+    for entry in entries:
+        if entry[b'path'] == MOVED.encode().split(b'/'):
+            length = max(length, entry[b'length'])
+    return answer_of(kind, [(path, data[:length] if data is LONG else data) for path, data in CONTENTS])
+
+
+def fault_of_make(kind, way, move, came, after):
+    """What is wrong with an answer of `make`; None where nothing is."""
+    wanted = [answer_of(kind, files) for files in states(after)]
+    if came.status == 0 and way == 'streams' and move.act in (cut, emptied):
+        wanted.append(fronts_of(kind, came.out, 20_000 if move.act is cut else 0))
+    if came[:3] in wanted:
+        return None
+    line = rb'tor: (F4 System|E1 Read file %b at (length|[0-9]+)|E2 Changed file %b|E3 Missing file %b)\n' % (
+        (move.numbers.encode(),) * 3)
+    is_told = re.fullmatch(line, came.err) and came.status == 3
+    is_refused = came.status == 1 and came.err == b'tor: F2 NotRegular\n' and move.act in (as_link, as_fifo)
+    return None if (is_told or is_refused) and not came.out else 'another answer'
+
+
+def fault_of_recheck(torrent, move, came, after):
+    if came.status in (0, 1) and not came.err:
+        wanted = []
+        for files in states(after):
+            there = dict(files)
+            marks = reference.marks_of(torrent, [there.get(path) for path, _ in CONTENTS])
+            wanted.append((reference.recheck_lines(marks), 0 if all(marks) else 1))
+        return None if (came.out, came.status) in wanted else 'other bits'
+    line = rb'tor: (C1 Read file %b at (length|[0-9]+)|C2 Changed file %b)\n' % ((move.numbers.encode(),) * 2)
+    return None if re.fullmatch(line, came.err) and came.status == 3 and not came.out else 'another fault'
+
+
+def make_words(folder, kind, way):
+    return ['make', '--name', 'f', '--kind', kind, '--piece-length', str(BLOCK), '--span', '1', '--how', way[0],
+            '--workers', str(way[1]), str(folder)]
+
+
+def sweep(refuser, folder, words, move, fault_of):
+    """Does it while each call is held in turn: how many there were, and how many ended with a fault."""
+    count = told = 0
+    for came in refuser.each(words, Meet(move.kinds, does='hold'), act=lambda met: move.act(folder),
+                             before=lambda: lay_out(folder)):
+        count += 1
+        told += came.status > 1
+        fault = fault_of(came, found(folder))
+        if fault:
+            raise Failure(f'run     {shown_words(words)}\n{move.name}, at {came.met}: {fault}\ncame    {came[:3]}')
+    return count, told
+
+
+def sweep_make(refuser, folder, kind, way, move):
+    return sweep(refuser, folder, make_words(folder, kind, way), move,
+                 lambda came, after: fault_of_make(kind, way[0], move, came, after))
+
+
+def sweep_recheck(refuser, folder, kind, move):
+    text = torrent_of(kind, False)
+    place = folder.with_name('torrent')
+    place.write_bytes(text)
+    return sweep(refuser, folder, ['recheck', str(place), str(folder)], move,
+                 lambda came, after: fault_of_recheck(judge(text), move, came, after))
+
+
+def sweeps(refuser, folder):
+    """All there are: the words of each, the move, and what to call."""
+    for move in MOVES:
+        # Of several that read, one may be about to open the file while a call of another is held.
+        is_for_one = move.act is as_fifo
+        for kind in KINDS:
+            for way in WAYS:
+                if not is_for_one or way[0] in ('one', 'streams'):
+                    yield f'make {kind}, {way[0]}', move, lambda: sweep_make(refuser, folder, kind, way, move)
+            if not is_for_one:
+                yield f'recheck {kind}', move, lambda: sweep_recheck(refuser, folder, kind, move)
+
+
+def test_a_file_that_is_cut(program, folder):
+    """A file is cut at each moment in turn, while a torrent is made of its folder or the folder is rechecked."""
+    refuser = Refuser(program, folder)
+    move = next(move for move in MOVES if move.act is cut)
+    for way in [('board', 2), ('streams', 2)]:
+        sweep_make(refuser, folder / 'f', 'v2', way, move)
+    sweep_recheck(refuser, folder / 'f', 'v2', move)
