@@ -68,7 +68,12 @@ fn texts_of<'a>(alloc: Global, words: &'a [String]) -> Result<Vec<&'a str>, Allo
 }
 
 /// Executes the program over these words and streams: its status is the process's.
-fn execute_over<T: Threads + Wait + Sync + Send + Clone + Drop + 'static, R: Read, W: Write, E: Write>(
+fn execute_over<
+    T: Threads + Wait + Sync + Send + Clone + Drop + 'static,
+    R: Read,
+    W: Write,
+    E: Write,
+>(
     rt: &T,
     system: &HostRuntime,
     words: &[&str],

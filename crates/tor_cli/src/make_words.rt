@@ -125,9 +125,7 @@ fn how_option<'a>(alloc: Global) -> Arg<'a>
         .value_name("HOW")
         .value_parser(HOWS.as_slice())
         .default_value(DEFAULT_HOW)
-        .help(
-            "Who hashes: one worker, or several, by halves, at a board or behind a stream",
-        )
+        .help("Who hashes: one worker, or several, by halves, at a board or behind a stream")
 }
 
 fn workers_option<'a>(alloc: Global) -> Arg<'a>

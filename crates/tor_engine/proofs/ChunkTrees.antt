@@ -25,7 +25,7 @@ use Rattle.tor_plan.specs.Forest.{unit_level}
 use Rattle.tor_plan.specs.PlanFacts.{IsSpan}
 use Rattle.tor_tree.specs.Kinds.{has_v2}
 use Rattle.tor_tree.specs.declared.kinds.Kind.{Kind}
-use Rattle.tor_engine.proofs.PieceRuns.{pieces_nil}
+use Rattle.tor_v1.proofs.ProvedLaws.{pieces_nil}
 use Rattle.tor_v1.specs.Piece.{pieces_of}
 use Rattle.tor_engine.specs.Shares.{bare_node, node_in}
 use Rattle.tor_engine.specs.UnitNodes.{Node, node_over}

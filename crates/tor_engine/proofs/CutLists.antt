@@ -4,7 +4,7 @@ use Rattle.std.proofs.Common.{Some}
 use Rattle.std.proofs.Common.{arith, refl, ap, ◌∙◌, sym, subst, length-append}
 use Rattle.std.specs.List.{flat_map, range_with_len}
 use Rattle.tor_lane.specs.declared.chunk.Chunk.{Chunk}
-use Rattle.tor_engine.proofs.PieceRuns.{one_piece, pieces-append}
+use Rattle.tor_v1.proofs.ProvedLaws.{one_piece, pieces-append}
 use Rattle.tor_engine.specs.steps.Cuts.{Cut, bare_cuts, cuts_held, ending_in, runs_of}
 
 -- one run more, whole or not

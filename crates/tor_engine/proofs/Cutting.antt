@@ -15,7 +15,7 @@ use Rattle.tor_lane.specs.declared.chunk.Chunk.{Chunk}
 use Rattle.tor_tree.specs.Kinds.{has_v2}
 use Rattle.tor_tree.specs.declared.kinds.Kind.{Kind}
 use Rattle.tor_v1.specs.Piece.{pieces_of}
-use Rattle.tor_engine.proofs.PieceRuns.{pieces_nil}
+use Rattle.tor_v1.proofs.ProvedLaws.{pieces_nil}
 use Rattle.tor_engine.specs.declared.cutter.Cutter.{Cutter}
 use Rattle.tor_engine.specs.steps.Cuts.{Cut, CutsMore, HasCut, HasPut, IsCutOff, PutsHeld, bare_cuts, closed_cuts}
 use Rattle.tor_engine.specs.steps.Cuts.{cut_of}

@@ -23,7 +23,6 @@ pub mod PartBytes
 pub mod PartReads
 pub mod Parts
 pub mod PartsInside
-pub mod PieceRuns
 pub mod PlanFaults
 pub mod PlanLevels
 pub mod PlanPieces

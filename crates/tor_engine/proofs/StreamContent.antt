@@ -10,13 +10,13 @@ use Rattle.std.proofs.lemmas.List.{drop-drop, length-take-le, nil_from_length, t
 use Rattle.std.specs.Fork.{slice_chunk}
 use Rattle.std.specs.Int.{div_ceil}
 use Rattle.std.specs.List.{flat_map, list_any, range_with_len}
-use Rattle.tor_engine.proofs.PieceRuns.{no_padding}
+use Rattle.tor_v1.proofs.ProvedLaws.{no_padding}
 use Rattle.tor_plan.specs.Content.{AreContentsOfFiles, cut_content}
 use Rattle.tor_tree.specs.Kinds.{has_v1, has_v2}
 use Rattle.tor_tree.specs.declared.kinds.Kind.{Kind}
 use Rattle.tor_tree.specs.declared.kinds.Kind.TheVariants.{V1, V2, Hybrid}
 use Rattle.tor_v1.proofs.ProvedLaws.{sums_of_joined}
-use Rattle.tor_engine.proofs.PieceRuns.{piece_sums-nil, pieces_nil}
+use Rattle.tor_v1.proofs.ProvedLaws.{piece_sums-nil, pieces_nil}
 use Rattle.tor_v1.specs.Content.{joined_content}
 use Rattle.tor_v1.specs.Entries.{aligned_entries, file_entry, has_bytes, pad_entry, padding_after, padding_length}
 use Rattle.tor_v1.specs.Piece.{piece_sums, pieces_of, zeros}

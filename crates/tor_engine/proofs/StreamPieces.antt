@@ -8,13 +8,13 @@ use Rattle.std.proofs.lemmas.List.{length-take-le}
 use Rattle.std.specs.Fork.{slice_chunk}
 use Rattle.std.specs.Int.{div_ceil}
 use Rattle.std.specs.List.{AllByRecursion, flat_map, range_with_len}
-use Rattle.tor_engine.proofs.PieceRuns.{whole_with_padding}
+use Rattle.tor_v1.proofs.ProvedLaws.{whole_with_padding}
 use Rattle.tor_tree.specs.declared.kinds.Kind.{Kind}
 use Rattle.tor_tree.specs.declared.kinds.Kind.TheVariants.{V1, V2, Hybrid}
 use Rattle.tor_plan.specs.Content.{AreContentsOfFiles, cut_content}
 use Rattle.tor_tree.specs.Kinds.{has_v1}
 use Rattle.tor_v1.proofs.ProvedLaws.{sums_of_joined}
-use Rattle.tor_engine.proofs.PieceRuns.{piece_sums-nil, pieces_nil}
+use Rattle.tor_v1.proofs.ProvedLaws.{piece_sums-nil, pieces_nil}
 use Rattle.tor_v1.specs.Entries.{padding_length}
 use Rattle.tor_v1.specs.Piece.{piece_sums, pieces_of, zeros}
 use Rattle.tor_engine.specs.steps.Cuts.{Cut, bare_cuts, cuts_of_content, ending_in, open_text, pieces_of_cut}

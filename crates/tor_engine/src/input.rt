@@ -54,6 +54,15 @@ pub fn hash_input<R: Read, T: Threads + Wait + Sync + Send + Clone + Drop + 'sta
         Err(fault) => return Err(fault),
     };
     let (takers, sums) = parted(alloc, workers)?;
-    let sums = sums_of_taken(alloc, kind, piece_length, size, lengths, feeder, takers, sums)?;
+    let sums = sums_of_taken(
+        alloc,
+        kind,
+        piece_length,
+        size,
+        lengths,
+        feeder,
+        takers,
+        sums,
+    )?;
     Ok(sums)
 }

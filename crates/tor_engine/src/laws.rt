@@ -8,7 +8,6 @@ ghost use Rattle.tor_tree.specs.declared.kinds.Kind.{Kind};
 ghost use Rattle.tor_engine.specs.declared.how.TheConstants.{MAX_WORKERS};
 ghost use Rattle.tor_engine.specs.declared.room.TheConstants.{BATCH, LEAST_ASKED, MOST_HELD};
 ghost use Rattle.tor_engine.specs.declared.streams.TheConstants.{MAX_UNIT_LENGTH};
-ghost use Rattle.tor_v1.specs.declared.runs.TheConstants.{MAX_PIECE_IN_RUN};
 
 /// The first byte that fails in the order of the units is the first in the order of the files, however they are cut.
 pub fn first_fault_of_units<F>()
@@ -33,9 +32,4 @@ pub fn limits_of_buffers()
 /// The most bytes of a unit that goes through a lane.
 pub fn limit_of_units()
     ensures { MAX_UNIT_LENGTH ≡ 2 ^ 30 }
-{}
-
-/// The most bytes of a piece of version 1 that is hashed with seven others, of which a batch has a multiple of eight.
-pub fn limit_of_pieces_in_runs()
-    ensures { MAX_PIECE_IN_RUN ≡ 2 ^ 20 }
 {}

@@ -79,7 +79,16 @@ pub fn hash_streams_with<G: Gate + Sync, R: Read + Drop, T: Threads + Wait + Syn
 {
     let size = piece_length * span as u64;
     let (cutter, workers) = open(alloc, size, workers)?;
-    let fed = feed_readers(gate, rt, alloc, readers, kind, piece_length, cutter, workers)?;
+    let fed = feed_readers(
+        gate,
+        rt,
+        alloc,
+        readers,
+        kind,
+        piece_length,
+        cutter,
+        workers,
+    )?;
     let Fed {
         read,
         feeder,
@@ -90,7 +99,16 @@ pub fn hash_streams_with<G: Gate + Sync, R: Read + Drop, T: Threads + Wait + Syn
         Ok(lengths) => lengths,
         Err(error) => return Err(error),
     };
-    let sums = sums_of_taken(alloc, kind, piece_length, size, lengths, feeder, takers, sums)?;
+    let sums = sums_of_taken(
+        alloc,
+        kind,
+        piece_length,
+        size,
+        lengths,
+        feeder,
+        takers,
+        sums,
+    )?;
     Ok(sums)
 }
 

@@ -198,7 +198,6 @@ order_numbers {F} order paths accepted =
     let numbers = numbers_of {F = F} order (both_none (numbers_refusal {F = F} order) _ accepted).0 in
     (numbers.0, how_allowed order.how numbers.1, numbers.2)
 
-
 -- what is known where no number is refused of a torrent of readers
 module _ {F : Type 0} (order : Order) (accepted : stream_numbers_refusal {F = F} order ≡ None) where
   abbrev too_large : MakeError F

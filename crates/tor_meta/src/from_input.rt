@@ -98,11 +98,7 @@ pub fn torrent_by_streams<R: io::Read, T: Threads + Wait + Sync + Send + Clone +
 
 /// The head of the torrent of one content. Where the order is refused, all of the content is read before that is told,
 /// so that a fault of the reader comes first.
-fn head_for<R: io::Read>(
-    alloc: Global,
-    reader: &mut R,
-    order: &Order,
-) -> Result<Head, FromFault>
+fn head_for<R: io::Read>(alloc: Global, reader: &mut R, order: &Order) -> Result<Head, FromFault>
     ensures settings { IfOk result (λ head. settings_of head ≡ settings_of_order order.now) }
     ensures lawful { IfOk result (λ head. paths_refusal (settings_of head) ((head.name ∷ []) ∷ []) ≡ None) }
     ensures accepted { OnOk result ((refusal_of order.now ≡ None) × (reader.new ≡ reader.old)) }

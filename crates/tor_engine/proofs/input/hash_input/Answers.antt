@@ -110,6 +110,9 @@ returns-clause-summed g c =
     let some : 0 < p * c.args.span = mul-pos (some_piece kind p cut.pieces) (omega (arith, cut.is_span.1)) in
     let fed = c.in_ok-fed.ensures.fed (p * c.args.span) some (c.in_ok-cutter.ensures.ready kind p) in
     let put = subst (λ read. IfOk read (λ lengths. (contents : List (List ℕ)) × GivesInput (g.R.Read.remaining c.args.reader.now) (g.R.Read.remaining c.feed_input.new.reader) contents
-    × PutsContents kind p (p * c.args.span) contents lengths.items (put_by c.in_ok-fed.fed.feeder))) c.in-Ok.is fed.put in
-    (put.1.0, put.1.2, subst (λ (cs : List (List ℕ)). AreSumsOfContents kind p cs c.in_ok-sums.sums) put.1.1
-    (c.in_ok-sums.ensures put.0 put.2))
+    × PutsContents kind p (p * c.args.span) contents lengths.items (put_by c.in_ok-fed.fed.feeder))) c.in-Ok.is fed.put in (
+      put.1.0,
+      put.1.2,
+      subst (λ (cs : List (List ℕ)). AreSumsOfContents kind p cs c.in_ok-sums.sums) put.1.1
+          (c.in_ok-sums.ensures put.0 put.2),
+    )

@@ -24,8 +24,7 @@ chunks-init g c =
 
 pub stopped-requires : goal.stopped-requires
 stopped-requires g c =
-    let more = c.in-Err.ensures.fault in
-    (
+    let more = c.in-Err.ensures.fault in (
       c.args.limit - c.chunks.count,
       more.0,
       omega (arith, c.chunks.invariant.small, c.requires.small),
