@@ -170,7 +170,8 @@ impl Cutter {
         Ok(())
     }
 
-    // What waits. A buffer that is full is handed over as it is, in exchange for another.
+    // What waits. A buffer that is full is handed over as it is, in exchange for another; for what is copied instead, one
+    // that was given back is let go, so that no more is held.
     fn take_waiting<T: Wait>(&mut self, rt: &T, alloc: Global) -> Result<Vec<u8>, AllocError>
         requires within { self.old.filled ≤ vec_len self.old.buffer }
         ensures bytes { IfOk result (λ bytes. bytes.items ≡ take self.old.filled self.old.buffer.items) }
@@ -179,6 +180,7 @@ impl Cutter {
             × (self.new.zeros ≡ self.old.zeros) × (self.new.next ≡ self.old.next) }
     {
         if self.filled < self.buffer.len() {
+            self.spares.let_one_go(rt);
             let (waiting, _) = self.buffer.as_slice().split_at(self.filled);
             return Vec::from_slice(alloc, waiting);
         }

@@ -39,6 +39,11 @@ impl Spares {
             _ => zeros(alloc, length),
         }
     }
+
+    /// Lets one go, where there is one, so that no more is held than without them.
+    pub(crate) fn let_one_go<T: Wait>(&self, rt: &T) {
+        let _ = self.from.try_recv(rt);
+    }
 }
 
 impl GiveBack {
