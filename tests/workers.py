@@ -24,9 +24,10 @@ def threads(pid):
     return found
 
 
-def watch(program, words):
+def watch(program, words, given=os.devnull):
     """The most threads at once, how many of them worked, and how the program ended: its status and standard error."""
-    child = subprocess.Popen([program, *words], stdout=subprocess.DEVNULL, stderr=subprocess.PIPE)
+    with open(given, 'rb') as data:
+        child = subprocess.Popen([program, *words], stdin=data, stdout=subprocess.DEVNULL, stderr=subprocess.PIPE)
     most, worked = 0, {}
     while child.poll() is None:
         try:
@@ -41,13 +42,14 @@ def watch(program, words):
     return most, sum(ticks > 0 for ticks in worked.values()), (child.returncode, err)
 
 
-def expect_threads(program, folder, kind, rows):
-    """For each way and number of workers so many threads at once, over a file of zeros of so many bytes."""
+def expect_threads(program, folder, kind, rows, is_input=False):
+    """For each way and number of workers so many threads at once, over a file of zeros of so many bytes, or over that as
+    standard input."""
     wrong = []
     for how, workers, wanted, size in rows:
         path = sparse(folder, size)
-        words = ['make', '--name', 'a', '--kind', kind, '--how', how, '--workers', str(workers), path]
-        most, worked, ended = watch(program, words)
+        words = ['make', '--name', 'a', '--kind', kind, '--how', how, '--workers', str(workers)]
+        most, worked, ended = watch(program, words, path) if is_input else watch(program, [*words, path])
         # The first of many workers can be done before the last begins.
         if not wanted * 3 / 4 <= most <= wanted or worked > wanted or worked < min(wanted, 5):
             wrong.append(f'{how}, {workers} workers\nwanted  {wanted} threads at once, most of which work\n'
@@ -71,6 +73,12 @@ def test_one_more_that_reads_a_stream(program, folder):
     few, many = SIZE // 4, SIZE // 2
     expect_threads(program, folder, 'hybrid', [
         ('streams', 1, 2, few), ('streams', 2, 3, few), ('streams', 7, 8, many), ('streams', 64, 65, many)])
+
+
+def test_behind_standard_input(program, folder):
+    few = SIZE // 4
+    expect_threads(program, folder, 'hybrid', [
+        ('streams', 1, 2, few), ('streams', 3, 4, few), ('one', 3, 1, few), ('board', 3, 1, few)], True)
 
 
 def test_a_recheck_has_four(program, folder):
