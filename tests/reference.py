@@ -49,28 +49,13 @@ class BadBencode(Exception):
 # Bencode (BEP 3, "bencoding"). A tree is an int, bytes, a list, or a dict whose keys rise as they stand in it.
 
 def encode(item):
-    parts = []
-    spell(item, parts)
-    return b''.join(parts)
-
-
-def spell(item, parts):
+    if isinstance(item, bytes):
+        return b'%d:%b' % (len(item), item)
     if isinstance(item, int):
-        parts.append(b'i%de' % item)
-    elif isinstance(item, bytes):
-        parts.append(b'%d:' % len(item))
-        parts.append(item)
-    elif isinstance(item, list):
-        parts.append(b'l')
-        for value in item:
-            spell(value, parts)
-        parts.append(b'e')
-    else:
-        parts.append(b'd')
-        for key in sorted(item):
-            spell(key, parts)
-            spell(item[key], parts)
-        parts.append(b'e')
+        return b'i%de' % item
+    if isinstance(item, list):
+        return b'l%be' % b''.join([encode(value) for value in item])
+    return b'd%be' % b''.join([b'%d:%b%b' % (len(key), key, encode(item[key])) for key in sorted(item)])
 
 
 def decode(text):
@@ -82,12 +67,12 @@ def decode(text):
 
 def read_value(text, at, nesting):
     first = text[at:at + 1]
-    if first == b'':
-        raise BadBencode('B1', len(text))
-    if first == b'i':
-        return read_integer(text, at)
     if first.isdigit():
         return read_bytes(text, at)
+    if first == b'i':
+        return read_integer(text, at)
+    if first == b'':
+        raise BadBencode('B1', len(text))
     if first not in (b'l', b'd'):
         raise BadBencode('B2', at)
     if nesting == MAX_NESTING:
@@ -361,6 +346,10 @@ class Torrent:
         return self.info[b'piece length']
 
     @cached_property
+    def info_bytes(self):
+        return encode(self.info)
+
+    @cached_property
     def entries(self):
         """Of the v1 side: path, length, and whether it is padding."""
         if not self.has_list:
@@ -626,12 +615,15 @@ def count_pieces(torrent):
     return sum(piece_count(file.length, torrent.piece_length) for file in view_files(torrent))
 
 
+SHOWN = [b'\\x%02x' % byte if byte < 32 or byte in (127, 92) else bytes([byte]) for byte in range(256)]
+
+
 def escaped(name):
-    return b''.join(b'\\x%02x' % byte if byte < 32 or byte in (127, 92) else bytes([byte]) for byte in name)
+    return b''.join([SHOWN[byte] for byte in name])
 
 
 def info_hashes(torrent):
-    info = encode(torrent.info)
+    info = torrent.info_bytes
     return (sha1(info).hex().encode() if torrent.has_list else None,
             sha256(info).hex().encode() if torrent.has_tree else None)
 

@@ -123,11 +123,11 @@ def test_v1_over_4_gib(program, folder):
 
 
 def test_streams_over_4_gib(program, folder):
-    """Such a folder read once: as v1 past 32 bits in units of one piece, and of the other kinds in units of 16, and of
-    1,024."""
+    """Such a folder read once: as v1 past 32 bits in units of eight pieces, and of the other kinds in units of 16, and
+    of 1,024."""
     place = folder / 'files'
     torrent = folder / 'torrent'
-    for kind, span, length in [('v1', 1, LENGTH), ('v2', 16, GIB // 2 + 40000), ('hybrid', 1024, GIB // 2 + 40000)]:
+    for kind, span, length in [('v1', 8, LENGTH), ('v2', 16, GIB // 2 + 40000), ('hybrid', 1024, GIB // 2 + 40000)]:
         lay_out_pair(place, length)
         words = ['make', '--name', 'f', '--kind', kind, '--piece-length', str(BLOCK), '--span', str(span),
                  '--how', 'streams', '--workers', '3', '--out', str(torrent), str(place)]

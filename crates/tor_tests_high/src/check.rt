@@ -1,0 +1,16 @@
+//! The tests of `tor_check`.
+//!
+//! `verdicts.rt`, `worked.rt`, `order.rt`: which bytes are torrents, and of two faults the first; `lenient.rt`: what
+//! other makers may write; `turned.rt`: one bit is another; `hybrids.rt`, `layers.rt`, `pieces.rt`: proofs of pieces.
+//! `telling.rt` and `layered.rt` have what these share.
+
+mod hybrids;
+pub mod layered;
+pub mod layers;
+mod lenient;
+mod order;
+mod pieces;
+pub mod telling;
+mod turned;
+pub mod verdicts;
+mod worked;
