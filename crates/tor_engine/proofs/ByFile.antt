@@ -1,8 +1,8 @@
 -- The units of all files, cut file by file.
-use Rattle.std.proofs.Common.{◌≡◌, ◌<◌, ◌≤◌, ℕ, ◌+◌, List, [], ◌∷◌, ◌++◌, length, map, take, drop, get_or, Option}
-use Rattle.std.proofs.Common.{ap, sym, ◌∙◌, arith}
+use Rattle.std.proofs.Common.{◌≡◌, ◌<◌, ◌≤◌, ℕ, ◌+◌, List, [], ◌∷◌, ◌++◌, length, map, take, drop, get_or, Option, ap}
+use Rattle.std.proofs.Common.{sym, ◌∙◌, arith}
 use Rattle.std.proofs.Math.Seq.{drop-append_seam, take-append_seam}
-use Rattle.std.proofs.lemmas.List.{drop-map, drop_more, length-append, length-map, take-map}
+use Rattle.std.proofs.lemmas.List.{drop-map, drop_more, length-append, length-map, map_more, take-map}
 use Rattle.std.proofs.lemmas.List.Concat.{flat_map-cons}
 use Rattle.std.proofs.lemmas.List.Elements.{All-from_recursion}
 use Rattle.std.specs.List.{flat_map}
@@ -23,6 +23,11 @@ one_cut p size level lengths i m there is cut = record {
       let short = All-from_recursion (λ n. n ≤ size) lengths (cut.alone none) i 0 there in
       (omega (arith, short, is), tt);
 }
+
+-- a function of each file, one more
+pub map_next : {Y : Type 0} (f : List ℕ → Y) (xs : List (List ℕ)) (ys : List Y) (y : Y) (i : ℕ) → i < length xs
+    → ys ≡ map f (take i xs) → y ≡ f (get_or xs i []) → ys ++ y ∷ [] ≡ map f (take (i + 1) xs)
+map_next f xs ys y i there all one = rw (all, one) (sym (map_more f xs i [] there))
 
 -- the nodes of contents, one after the other: those of one of them, and of the later ones
 module _ (f : List ℕ → List Node) (contents : List (List ℕ)) (i : ℕ) (there : i < length contents)

@@ -1,6 +1,6 @@
 -- How often a number stands in a list, and what stands in one.
-use Rattle.std.proofs.Common.{◌≡◌, ℕ, ◌+◌, List, [], ◌∷◌, ◌++◌, map, reverse, cond, false, inl, inr, refl}
-use Rattle.std.proofs.Common.{ap, sym, subst, ◌∙◌, arith, eqb}
+use Rattle.std.proofs.Common.{◌≡◌, ℕ, ◌+◌, List, [], ◌∷◌, ◌++◌, map, reverse, cond, false, inl, inr, refl, ap, sym}
+use Rattle.std.proofs.Common.{subst, ◌∙◌, arith, eqb}
 use Rattle.std.proofs.lemmas.Bool.{eq-eqb, ne_eqb, cases_eq}
 use Rattle.std.proofs.lemmas.List.{reverse-append}
 use Rattle.std.specs.List.{AllByRecursion}
@@ -69,6 +69,17 @@ pub each_more : {A : Type 0} (P Q : A → Type 0) (list : List A) → ((a : A) �
     → AllByRecursion Q list
 each_more P Q [] more is = tt
 each_more P Q (a ∷ list) more is = (more a is.0, each_more P Q list more is.1)
+
+-- and of two facts
+pub each_with : {A : Type 0} (P Q R : A → Type 0) (list : List A) → ((a : A) → P a → Q a → R a)
+    → AllByRecursion P list → AllByRecursion Q list → AllByRecursion R list
+each_with P Q R [] more is also = tt
+each_with P Q R (a ∷ list) more is also = (more a is.0 also.0, each_with P Q R list more is.1 also.1)
+
+pub each_mapped : {A B : Type 0} (f : A → B) (P : B → Type 0) (list : List A) → AllByRecursion (λ a. P (f a)) list
+    → AllByRecursion P (map f list)
+each_mapped f P [] is = tt
+each_mapped f P (a ∷ list) is = (is.0, each_mapped f P list is.1)
 
 pub each_append : {A : Type 0} (P : A → Type 0) (list next : List A) → AllByRecursion P list → AllByRecursion P next
     → AllByRecursion P (list ++ next)

@@ -1,33 +1,20 @@
--- The joined content of the chunks of contents is that of their files, and so are the SHA-1 of its pieces.
-use Rattle.std.proofs.Common.{◌≡◌, ◌⊎◌, ℕ, zero, suc, ◌+◌, ◌-◌, ◌*◌, ◌<◌, ◌≤◌, Bool, true, false, cond, ◌&&◌, ◌||◌, ltb}
-use Rattle.std.proofs.Common.{List, [], ◌∷◌, ◌++◌, length, map, take, drop, arith, refl, ap, ap₂, ◌∙◌, sym, subst}
-use Rattle.std.proofs.Common.{append_assoc, append-nil, length-append, length-take, length-drop, inl, inr}
-use Rattle.std.proofs.Common.{mul-le-mul_right, mul-pos}
+-- The joined content of the chunks of contents.
+use Rattle.std.proofs.Common.{◌≡◌, ◌⊎◌, ℕ, zero, suc, ◌+◌, ◌-◌, ◌*◌, ◌<◌, Bool, true, false, cond, ◌||◌, ltb, List, []}
+use Rattle.std.proofs.Common.{◌∷◌, ◌++◌, length, map, take, drop, arith, refl, ap, ap₂, ◌∙◌, sym, append_assoc}
+use Rattle.std.proofs.Common.{append-nil, inl, inr}
 use Rattle.std.proofs.Math.Seq.{take-add}
-use Rattle.std.proofs.lemmas.Bool.{cases_lt, lt-ltb, le-ltb}
+use Rattle.std.proofs.lemmas.Bool.{lt-ltb}
 use Rattle.std.proofs.lemmas.Grind.{div_ceil_times, flat_map-append}
-use Rattle.std.proofs.lemmas.List.{drop-drop, length-take-le, nil_from_length, take_all}
+use Rattle.std.proofs.lemmas.List.{drop-drop, take_all}
 use Rattle.std.specs.Fork.{slice_chunk}
 use Rattle.std.specs.Int.{div_ceil}
 use Rattle.std.specs.List.{flat_map, list_any, range_with_len}
-use Rattle.tor_v1.proofs.ProvedLaws.{no_padding}
-use Rattle.tor_plan.specs.Content.{AreContentsOfFiles, cut_content}
-use Rattle.tor_tree.specs.Kinds.{has_v1, has_v2}
-use Rattle.tor_tree.specs.declared.kinds.Kind.{Kind}
-use Rattle.tor_tree.specs.declared.kinds.Kind.TheVariants.{V1, V2, Hybrid}
-use Rattle.tor_v1.proofs.ProvedLaws.{sums_of_joined}
-use Rattle.tor_v1.proofs.ProvedLaws.{piece_sums-nil, pieces_nil}
-use Rattle.tor_v1.specs.Content.{joined_content}
-use Rattle.tor_v1.specs.Entries.{aligned_entries, file_entry, has_bytes, pad_entry, padding_after, padding_length}
-use Rattle.tor_v1.specs.Piece.{piece_sums, pieces_of, zeros}
-use Rattle.tor_v1.specs.declared.entry.Entry.{Entry}
+use Rattle.tor_v1.proofs.ProvedLaws.{no_padding, pieces_nil}
+use Rattle.tor_tree.specs.declared.kinds.Kind.TheVariants.{V1, Hybrid}
+use Rattle.tor_v1.specs.Entries.{padding_length}
+use Rattle.tor_v1.specs.Piece.{pieces_of, zeros}
 use Rattle.tor_engine.specs.steps.Cuts.{Cut, bare_cuts, cuts_of_content, ending_in, runs_of, stream_cuts}
-use Rattle.tor_engine.specs.steps.Cuts.{pieces_of_cut, zeros_between}
 use Rattle.tor_engine.proofs.CutLists.{ending_after, ending_twice}
-use Rattle.tor_engine.proofs.Zeros.{length_with_zeros}
-
-abbrev File : Type 0
-File = List (List ℕ) × ℕ
 
 -- the bytes of a chunk, and the zeros after them
 abbrev pub text_of : Cut → List ℕ
@@ -36,7 +23,7 @@ text_of cut = cut.0 ++ zeros cut.1
 abbrev pub joined_cuts : List Cut → List ℕ
 joined_cuts cuts = flat_map text_of cuts
 
-no_zeros : zeros 0 ≡ []
+pub no_zeros : zeros 0 ≡ []
 unfolding zeros
 no_zeros = refl
 
@@ -89,6 +76,12 @@ module _ (size : ℕ) (some : 0 < size) where
       by_runs [] is =
           let none : [] ≡ byte ∷ bytes = sym (ap (flat_map (λ r. r)) is) ∙ joined_again (byte ∷ bytes) in absurd cc
 
+  pub some_run : (content : List ℕ) → 0 < length content → HasRun content
+  some_run content more = elim (runs_cases content) [
+    | inl none ↦ absurd (omega (arith, more, ap length none))
+    | inr filled ↦ filled.1
+  ]
+
   content_with : (z : ℕ) (content : List ℕ) → HasRun content
       → joined_cuts (ending_in z (bare_cuts (runs_of size content))) ≡ content ++ zeros z
   content_with z content (run, (runs, is)) =
@@ -110,14 +103,14 @@ module _ (size : ℕ) (some : 0 < size) where
   -- ---- in a hybrid
 
   module _ (p : ℕ) (pos : 0 < p) where
-    abbrev own_cuts : List ℕ → List Cut
+    abbrev pub own_cuts : List ℕ → List Cut
     own_cuts content = cuts_of_content Hybrid p size content
 
     abbrev some_byte : List (List ℕ) → Bool
     some_byte contents = list_any (λ content. ltb 0 (length content)) contents
 
     -- contents, and the padding between those that have bytes
-    abbrev padded_text : List (List ℕ) → List ℕ
+    abbrev pub padded_text : List (List ℕ) → List ℕ
     padded_text [] = []
     padded_text (content ∷ later) =
         content ++ (zeros (cond (some_byte later) (padding_length p (length content)) 0) ++ padded_text later)
@@ -200,69 +193,3 @@ module _ (size : ℕ) (some : 0 < size) where
         same_if : (b : Bool) {n : ℕ} → n ≡ 0 → cond b n 0 ≡ 0
         same_if true none = none
         same_if false none = refl
-
--- ---- the content of the files' entries
-
--- files one after the other
-joined_files : (files : List File) (contents : List (List ℕ)) → AreContentsOfFiles files contents
-    → joined_content (map file_entry files) contents ≡ flat_map (λ content. content) contents
-unfolding joined_content
-joined_files [] [] fit = refl
-joined_files [] (content ∷ contents) fit = cc
-joined_files (file ∷ files) [] fit = cc
-joined_files (file ∷ files) (content ∷ contents) fit =
-    let rest : AreContentsOfFiles files contents = cc in ap (λ xs. content ++ xs) (joined_files files contents rest)
-
--- some file has a byte where its content has
-same_bytes : (files : List File) (contents : List (List ℕ)) → AreContentsOfFiles files contents
-    → has_bytes files ≡ list_any (λ content. ltb 0 (length content)) contents
-same_bytes [] [] fit = refl
-same_bytes [] (content ∷ contents) fit = cc
-same_bytes (file ∷ files) [] fit = cc
-same_bytes (file ∷ files) (content ∷ contents) fit =
-    let first : length content ≡ file.1 = cc in
-    let rest : AreContentsOfFiles files contents = cc in
-    ap₂ (λ n b. ltb 0 n || b) (sym first) (same_bytes files contents rest)
-
--- the padding after a file, where it lacks so many bytes
-padding_first : (n : ℕ) (b : Bool) (entries : List Entry) (contents : List (List ℕ))
-    → joined_content (cond (ltb 0 n && b) (pad_entry n ∷ []) [] ++ entries) contents
-    ≡ zeros (cond b n 0) ++ joined_content entries contents
-unfolding joined_content
-padding_first zero true entries contents = ap (λ xs. xs ++ joined_content entries contents) (sym no_zeros)
-padding_first zero false entries contents = ap (λ xs. xs ++ joined_content entries contents) (sym no_zeros)
-padding_first (suc n) b entries contents =
-    ap (λ t. joined_content (cond (t && b) (pad_entry (suc n) ∷ []) [] ++ entries) contents)
-    (lt-ltb 0 (suc n) (omega arith)) ∙ lacks_some b
-  where
-    lacks_some : (b : Bool) → joined_content (cond (true && b) (pad_entry (suc n) ∷ []) [] ++ entries) contents
-        ≡ zeros (cond b (suc n) 0) ++ joined_content entries contents
-    lacks_some true = refl
-    lacks_some false = ap (λ xs. xs ++ joined_content entries contents) (sym no_zeros)
-
-module _ (size p : ℕ) (some : 0 < size) (pos : 0 < p) where
-  aligned_text : (files : List File) (contents : List (List ℕ)) → AreContentsOfFiles files contents
-      → joined_content (aligned_entries p files) contents ≡ padded_text size some p pos contents
-  unfolding joined_content aligned_entries
-  aligned_text [] [] fit = refl
-  aligned_text [] (content ∷ contents) fit = cc
-  aligned_text (file ∷ files) [] fit = cc
-  aligned_text (file ∷ files) (content ∷ contents) fit =
-      let first : length content ≡ file.1 = cc in
-      let rest : AreContentsOfFiles files contents = cc in
-      ap (λ xs. content ++ xs)
-      (padding_first (padding_length p file.1) (has_bytes files) (aligned_entries p files) contents
-      ∙ ap₂ (λ n xs. zeros n ++ xs)
-      (ap₂ (λ b n. cond b (padding_length p n) 0) (same_bytes files contents rest) (sym first))
-      (aligned_text files contents rest))
-
-  -- what the chunks have together, where the kind has SHA-1 of pieces
-  pub stream_text : (kind : Kind) (files : List File) (contents : List (List ℕ)) → AreContentsOfFiles files contents
-      → has_v1 kind ≡ true → joined_cuts (stream_cuts kind p size contents) ≡ cut_content kind p files contents
-  stream_text V1 files contents fit pieces = cuts_of_v1 size some p contents ∙ sym (joined_files files contents fit)
-  stream_text V2 files contents fit pieces = cc
-  stream_text Hybrid files contents fit pieces =
-      ap (λ rs. joined_cuts (ending_in 0 (flat_map (own_cuts size some p pos) contents ++ bare_cuts rs)))
-      (pieces_nil size some)
-      ∙ ap (λ xs. joined_cuts (ending_in 0 xs)) (append-nil _) ∙ own_text size some p pos contents
-      ∙ sym (aligned_text files contents fit)

@@ -1,26 +1,23 @@
 -- The SHA-1 of the pieces of chunks are those of what the chunks have together.
-use Rattle.std.proofs.Common.{◌≡◌, ◌⊎◌, ℕ, zero, suc, ◌+◌, ◌-◌, ◌*◌, ◌<◌, ◌≤◌, Bool, true, false, cond, List, [], ◌∷◌}
-use Rattle.std.proofs.Common.{◌++◌}
-use Rattle.std.proofs.Common.{length, map, take, drop, arith, refl, ap, ap₂, ◌∙◌, sym, subst, append-nil, sum_by}
-use Rattle.std.proofs.Common.{length-append, length-drop, inl, inr, mul-le-mul_right, mul-pos}
+use Rattle.std.proofs.Common.{◌≡◌, ℕ, zero, suc, ◌+◌, ◌-◌, ◌*◌, ◌<◌, ◌≤◌, Bool, true, false, cond, List, [], ◌∷◌, ◌++◌}
+use Rattle.std.proofs.Common.{length, map, drop, arith, refl, ap, ◌∙◌, sym, subst, append-nil, length-append}
+use Rattle.std.proofs.Common.{length-drop, mul-le-mul_right}
 use Rattle.std.proofs.lemmas.Grind.{div_ceil_times}
 use Rattle.std.proofs.lemmas.List.{length-take-le}
 use Rattle.std.specs.Fork.{slice_chunk}
 use Rattle.std.specs.Int.{div_ceil}
 use Rattle.std.specs.List.{AllByRecursion, flat_map, range_with_len}
-use Rattle.tor_v1.proofs.ProvedLaws.{whole_with_padding}
+use Rattle.tor_v1.proofs.ProvedLaws.{whole_with_padding, sums_of_joined, piece_sums-nil, pieces_nil}
 use Rattle.tor_tree.specs.declared.kinds.Kind.{Kind}
 use Rattle.tor_tree.specs.declared.kinds.Kind.TheVariants.{V1, V2, Hybrid}
 use Rattle.tor_plan.specs.Content.{AreContentsOfFiles, cut_content}
 use Rattle.tor_tree.specs.Kinds.{has_v1}
-use Rattle.tor_v1.proofs.ProvedLaws.{sums_of_joined}
-use Rattle.tor_v1.proofs.ProvedLaws.{piece_sums-nil, pieces_nil}
 use Rattle.tor_v1.specs.Entries.{padding_length}
-use Rattle.tor_v1.specs.Piece.{piece_sums, pieces_of, zeros}
-use Rattle.tor_engine.specs.steps.Cuts.{Cut, bare_cuts, cuts_of_content, ending_in, open_text, pieces_of_cut}
-use Rattle.tor_engine.specs.steps.Cuts.{runs_of, stream_cuts}
-use Rattle.tor_engine.proofs.CutLists.{ending_twice}
-use Rattle.tor_engine.proofs.StreamContent.{joined_again, joined_cuts, stream_text, text_of}
+use Rattle.tor_v1.specs.Piece.{piece_sums, pieces_of}
+use Rattle.tor_engine.specs.steps.Cuts.{Cut, bare_cuts, cuts_of_content, ending_in, open_text, pieces_of_cut, runs_of}
+use Rattle.tor_engine.specs.steps.Cuts.{stream_cuts}
+use Rattle.tor_engine.proofs.FilesContent.{stream_text}
+use Rattle.tor_engine.proofs.StreamContent.{joined_again, joined_cuts, text_of}
 use Rattle.tor_engine.proofs.Zeros.{length_with_zeros}
 
 module _ (p : ℕ) where

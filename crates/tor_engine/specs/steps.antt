@@ -7,12 +7,12 @@ pub mod Fed
 pub mod Given
 pub mod Hashes
 pub mod Pieces
-pub mod Places
 pub mod ReadBytes
 pub mod Reads
+pub mod Room
 pub mod Roots
+pub mod Run
 pub mod StreamWorkers
 pub mod Taken
-pub mod Room
-pub mod Run
+pub mod Trees
 pub mod Worker

@@ -1,5 +1,5 @@
 //! Readers read one after the other, and cut into chunks for a lane.
-ghost use Rattle.std.specs.Prelude.{◌≡◌, ◌+◌, ◌^◌, ◌<◌, ◌≤◌, ◌++◌, ◌∷◌, [], ℕ, List, None, IfErr, IfOk, OnOk};
+ghost use Rattle.std.specs.Prelude.{◌≡◌, ◌+◌, ◌<◌, ◌≤◌, ◌++◌, ◌∷◌, [], ℕ, List, None, IfErr, IfOk, OnOk};
 ghost use Rattle.std.specs.Prelude.{length, take, vec_len};
 ghost use Rattle.std.specs.Io.KnownBytes.{Consumes, IsAtEnd};
 ghost use Rattle.tor_lane.specs.Lane.{FeedsLaneOf, IsEnded, IsOpen, put_by};
@@ -7,29 +7,18 @@ ghost use Rattle.tor_merkle.specs.declared.TheConstants.{MAX_LENGTH};
 ghost use Rattle.tor_plan.specs.PlanFacts.{IsPlanPieceLength};
 ghost use Rattle.tor_source.specs.Filling.{EndsFill};
 ghost use Rattle.tor_source.specs.Input.{ReadsSome, ReadsWhole};
-ghost use Rattle.tor_engine.specs.declared.cutter.Stop.TheVariants.{Refused};
 ghost use Rattle.tor_engine.specs.steps.Cuts.{EndsReading, zeros_between};
 
+use crate::filling::{Stop, fill_from, stopped};
+use crate::padding::zeros_between;
 use crate::spares::Spares;
 use std::alloc::{AllocError, Global};
-use std::io::{self, Read};
+use std::io::Read;
 use std::mem;
 use std::sync::Wait;
 use tor_lane::{Chunk, Feeder};
-use tor_merkle::MAX_LENGTH;
-use tor_source::{FillFault, fill, zeros};
+use tor_source::{FillFault, zeros};
 use tor_tree::Kind;
-
-/// Why a reader was not read to its end.
-#[derive(Drop)]
-pub(crate) enum Stop {
-    /// It had a fault, after so many bytes; an interrupted read is one.
-    Read { start: u64, fault: io::Error },
-    /// More bytes came than the limit allows.
-    TooLong,
-    /// Memory was refused.
-    Refused,
-}
 
 /// Cuts what is read into chunks, and puts them into a lane. The last chunk of a content is held back until it is known
 /// whether a later content has a byte, since padding goes between two of them alone.
@@ -170,8 +159,8 @@ impl Cutter {
         Ok(())
     }
 
-    // What waits. A buffer that is full is handed over as it is, in exchange for another; for what is copied instead, one
-    // that was given back is let go, so that no more is held.
+    // What waits. A buffer that is full is handed over as it is, in exchange for another; for what is copied instead,
+    // one that was given back is let go, so that no more is held.
     fn take_waiting<T: Wait>(&mut self, rt: &T, alloc: Global) -> Result<Vec<u8>, AllocError>
         requires within { self.old.filled ≤ vec_len self.old.buffer }
         ensures bytes { IfOk result (λ bytes. bytes.items ≡ take self.old.filled self.old.buffer.items) }
@@ -257,64 +246,5 @@ impl Cutter {
         self.cut_rest(rt, alloc)?;
         self.put_held(rt, 0);
         Ok(())
-    }
-}
-
-/// Fills a buffer from an offset on, and tells how many bytes came; they stand from there on.
-fn fill_from<R: Read>(
-    filled: usize,
-    buffer: &mut [u8],
-    reader: &mut R,
-    room: u64,
-) -> Result<usize, FillFault>
-    requires { filled ≤ length buffer.old }
-    ensures buffer_stays { length buffer.new ≡ length buffer.old }
-    ensures came { IfOk result (λ count. (bytes : List ℕ)
-        × Consumes (R.remaining reader.old) (R.remaining reader.new) bytes
-        × (length bytes ≡ count) × (count ≤ room) × (filled + count ≤ length buffer.old)
-        × (take (filled + count) buffer.new ≡ take filled buffer.old ++ bytes)) }
-    ensures end { IfOk result (λ count. filled + count < length buffer.old → IsAtEnd (R.remaining reader.new)) }
-    ensures fault { IfErr result (λ fault.
-        ReadsSome (R.remaining reader.old) (R.remaining reader.new) (EndsFill room fault)) }
-{
-    let (_, rest) = buffer.split_at_mut(filled);
-    match fill(reader, rest, room) {
-        Ok(count) => Ok(count),
-        Err(fault) => Err(fault),
-    }
-}
-
-/// Why a reader was not read on, of which so many bytes came before.
-fn stopped(before: u64, fault: FillFault) -> Stop
-    requires { (left : ℕ) × (bytes : List ℕ) × (before + left < 2 ^ 64) × EndsFill left fault bytes }
-    ensures { (left : ℕ) (earlier bytes : List ℕ) → length earlier ≡ before → EndsFill left fault bytes →
-        EndsReading (before + left) result (earlier ++ bytes) }
-{
-    match fault {
-        FillFault::Read { count, fault } => Stop::Read {
-            start: before + count as u64,
-            fault,
-        },
-        FillFault::TooLong => Stop::TooLong,
-    }
-}
-
-/// How many zeros follow a content of so many bytes, where some byte of a later one follows.
-fn zeros_between(kind: Kind, piece_length: u64, count: u64) -> u64
-    requires pieces { IsPlanPieceLength kind piece_length }
-    requires small { count ≤ MAX_LENGTH }
-    ensures { result ≡ zeros_between kind piece_length count }
-{
-    match kind {
-        Kind::Hybrid => count.next_multiple_of(piece_length) - count,
-        _ => 0,
-    }
-}
-
-impl From<AllocError> for Stop {
-    ghost from_gives = { λ _ stop. stop ≡ Refused };
-
-    fn from(_error: AllocError) -> Stop {
-        Stop::Refused
     }
 }

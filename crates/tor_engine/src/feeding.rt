@@ -3,7 +3,7 @@ ghost use Rattle.std.specs.Prelude.{◌≡◌, ◌*◌, ◌<◌, ◌≤◌, [], 
 ghost use Rattle.std.specs.Thread.{IsSync};
 ghost use Rattle.tor_lane.specs.declared.feeder.Feeder.{Feeder};
 ghost use Rattle.tor_plan.specs.PlanFacts.{IsPlanPieceLength};
-ghost use Rattle.tor_engine.specs.Streams.{GiveContents, IsFaultOfReaders, IsStreamCut};
+ghost use Rattle.tor_engine.specs.Streams.{GiveContents, IsFaultOfReaders};
 ghost use Rattle.tor_engine.specs.steps.Cuts.{IsReady};
 ghost use Rattle.tor_engine.specs.steps.Fed.{GivesInput, IsFed, StopsInput};
 ghost use Rattle.tor_engine.specs.steps.StreamWorkers.{AreDone, AreWorkers};
@@ -12,9 +12,9 @@ ghost use Rattle.tor_tree.specs.declared.kinds.Kind.{Kind};
 use crate::cutter::Cutter;
 use crate::errors::EngineError;
 use crate::gate::{Gate, OpenGate};
+use crate::read_streams::{read_each, read_input};
 use crate::spares::pool;
 use crate::stream_worker::{StreamWorker, stream_workers, take_by_halves};
-use crate::text::{read_each, read_input};
 use std::alloc::{AllocError, Global};
 use std::io::{self, Read};
 use std::snapshot::Snapshot;
@@ -32,6 +32,19 @@ pub(crate) struct Fed<F> {
     pub(crate) read: Result<Vec<u64>, F>,
     pub(crate) feeder: Feeder,
     pub(crate) workers: Vec<StreamWorker>,
+}
+
+impl<F> Fed<F> {
+    fn new(read: Result<Vec<u64>, F>, cutter: Cutter, workers: Vec<StreamWorker>) -> Fed<F>
+        ensures { result ≡ record { read = read; feeder = cutter.feeder; workers = workers } }
+    {
+        let Cutter { feeder, .. } = cutter;
+        Fed {
+            read,
+            feeder,
+            workers,
+        }
+    }
 }
 
 /// A cutter of units of `size` bytes over a new lane, and so many workers that take them.
@@ -115,12 +128,7 @@ pub(crate) fn feed_readers<G: Gate + Sync, R: Read + Drop, T: Threads + Wait + S
                     let read = read_each(rt, alloc, kind, piece_length, readers, &mut cutter);
                     cutter.end(rt);
                     let workers = handle.join(rt);
-                    let Cutter { feeder, .. } = cutter;
-                    Ok(Fed {
-                        read,
-                        feeder,
-                        workers,
-                    })
+                    Ok(Fed::new(read, cutter, workers))
                 }
                 Err(_) => Err(AllocError),
             }
@@ -167,12 +175,7 @@ pub(crate) fn feed_input<R: Read, T: Threads + Wait + Sync + Send + Clone + Drop
             let read = read_input(rt, alloc, kind, piece_length, reader, &mut cutter);
             cutter.end(rt);
             let workers = handle.join(rt);
-            let Cutter { feeder, .. } = cutter;
-            Ok(Fed {
-                read,
-                feeder,
-                workers,
-            })
+            Ok(Fed::new(read, cutter, workers))
         }
         Err(_) => Err(AllocError),
     }

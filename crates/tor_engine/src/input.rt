@@ -5,9 +5,8 @@ ghost use Rattle.tor_source.specs.declared.input.TheConstants.{MAX_INPUT_LENGTH}
 ghost use Rattle.tor_engine.specs.Streams.{AreSumsOfContents, IsStreamCut};
 ghost use Rattle.tor_engine.specs.declared.how.TheConstants.{MAX_WORKERS};
 
-use crate::feeding::{Fed, feed_input, open};
-use crate::stream_worker::parted;
-use crate::streams::sums_of_taken;
+use crate::fed_sums::sums_of_fed;
+use crate::feeding::{feed_input, open};
 use crate::sums::Sums;
 use std::alloc::Global;
 use std::io::Read;
@@ -44,25 +43,6 @@ pub fn hash_input<R: Read, T: Threads + Wait + Sync + Send + Clone + Drop + 'sta
     let size = piece_length * span as u64;
     let (cutter, workers) = open(alloc, size, workers)?;
     let fed = feed_input(rt, alloc, reader, kind, piece_length, cutter, workers)?;
-    let Fed {
-        read,
-        feeder,
-        workers,
-    } = fed;
-    let lengths = match read {
-        Ok(lengths) => lengths,
-        Err(fault) => return Err(fault),
-    };
-    let (takers, sums) = parted(alloc, workers)?;
-    let sums = sums_of_taken(
-        alloc,
-        kind,
-        piece_length,
-        size,
-        lengths,
-        feeder,
-        takers,
-        sums,
-    )?;
-    Ok(sums)
+    let summed = sums_of_fed(alloc, kind, piece_length, size, fed)?;
+    summed
 }

@@ -7,8 +7,8 @@
 //! - [`ContentHasher`] (`hasher.rt`): what a content hashes to, while its bytes come ([`Hashed`]).
 //! - `units.rt` has the units of a plan hashed by one worker or by several. `halves.rt` shares work among workers,
 //!   whatever work it is. `turn.rt` so deals the units out beforehand, and each worker takes its own one after the
-//!   other; `seats.rt` gives each worker a seat at a board (`on_board.rt`), from which it claims one unit after the
-//!   other (`taking.rt`, `taken.rt`), and `placed.rt` puts what they took in the order of the units. `failure.rt` tells
+//!   other; `seats.rt` gives each worker a seat at a board, from which it claims one unit after the other
+//!   (`taking.rt`, `taken.rt`), and `on_board.rt` puts what they took in the order of the units. `failure.rt` tells
 //!   which of two faults is answered, `roots.rt` the roots of trees where no board does. `unit_work.rt` says what a
 //!   worker does with a unit.
 //! - [`work`] (`shares.rt`): one worker at a board, for callers with threads of their own.
@@ -20,11 +20,11 @@
 //!   cut short or missing: `asked.rt` asks for their lengths, `present.rt` tells what is there by these, and
 //!   `piece_work.rt` hashes the pieces of a unit.
 //! - [`hash_streams`] (`streams.rt`): what readers sum up to that are read once and in order; [`hash_input`]
-//!   (`input.rt`): what one reader does, within the limit of an input. `text.rt` says what is read so. `feeding.rt`
-//!   reads in the calling thread: `cutter.rt` puts chunks into a lane, whose workers (`stream_worker.rt`) take and hash
-//!   them (`chunk_sums.rt`), and give their buffers back (`spares.rt`); `stream_sums.rt` puts together what these sum
-//!   up to. [`Gate`] (`gate.rt`): what tests have workers pass. [`lane`],
-//!   [`Feeder`], [`Taker`], [`Chunk`] are those of `tor_lane`.
+//!   (`input.rt`): what one reader does, within the limit of an input. `feeding.rt` reads in the calling thread:
+//!   `read_streams.rt` goes to the end of each reader, and `cutter.rt` puts chunks into a lane, by `filling.rt` and
+//!   `padding.rt`. Its workers (`stream_worker.rt`) take and hash them (`chunk_sums.rt`), and give their buffers back
+//!   (`spares.rt`); `fed_sums.rt` and `stream_sums.rt` put together what these sum up to. [`Gate`] (`gate.rt`): what
+//!   tests have workers pass. [`lane`], [`Feeder`], [`Taker`], [`Chunk`] are those of `tor_lane`.
 //! - [`laws`] (`laws.rt`): a law over the definition of the first fault, and the limits of workers, buffers and units.
 //!
 //! ```rust
@@ -42,8 +42,10 @@ mod cutter;
 mod engine;
 mod errors;
 mod failure;
+mod fed_sums;
 mod feeding;
 mod file_bytes;
+mod filling;
 mod gate;
 mod halves;
 mod hasher;
@@ -54,11 +56,12 @@ mod joined;
 pub mod laws;
 mod lengths;
 mod on_board;
+mod padding;
 mod piece_hash;
 mod piece_work;
 mod pieces;
-mod placed;
 mod present;
+mod read_streams;
 mod reading;
 mod room;
 mod roots;
@@ -72,7 +75,6 @@ mod sum_work;
 mod sums;
 mod taken;
 mod taking;
-mod text;
 mod turn;
 mod unit_hash;
 mod unit_sums;

@@ -1,5 +1,6 @@
 //! Units hashed by workers that share a board.
-ghost use Rattle.std.specs.Prelude.{◌≡◌, ◌≤◌, ◌^◌, None, All, IfErr, IfOk, MatchResult, length, map};
+ghost use Rattle.std.specs.Prelude.{◌≡◌, ◌≤◌, ◌^◌, None, All, IfErr, IfOk, IsPermutation, MatchResult, length, map};
+ghost use Rattle.std.specs.List.Sorted.{IsNonDecreasingBy};
 ghost use Rattle.tor_plan.specs.Forest.{AreRuns};
 ghost use Rattle.tor_source.specs.Source.{SourceFacts};
 ghost use Rattle.tor_engine.specs.Fault.{IsFault, first_of};
@@ -8,7 +9,6 @@ ghost use Rattle.tor_engine.specs.steps.Roots.{roots_of_trees};
 
 use crate::errors::EngineError;
 use crate::halves::by_halves;
-use crate::placed::placed;
 use crate::seats::SeatShare;
 use crate::unit_work::UnitWork;
 use std::thread::Threads;
@@ -55,9 +55,19 @@ where
     let closed = board.close(seat);
     match result {
         Ok(taken) => {
-            let sums = placed(work, units.len(), taken.sums)?;
+            let sums = in_order(work, taken.sums);
             Ok((sums, closed.roots))
         }
         Err(failure) => Err(failure.error),
     }
+}
+
+/// The same sums in the order of the numbers of their units.
+fn in_order<W: UnitWork>(work: &W, sums: Vec<W::Sums>) -> Vec<W::Sums>
+    ensures same { IsPermutation sums.items result.items }
+    ensures sorted { IsNonDecreasingBy (W.number_in work.now) result.items }
+{
+    let mut sums = sums;
+    sums.sort_unstable_by_key(|one| work.number_of(one));
+    sums
 }

@@ -1,40 +1,29 @@
 //! The pieces of units hashed, those that are wholly there.
-ghost use Rattle.std.specs.Prelude.{◌≡◌, ◌≢◌, ◌≤◌, ◌↔◌, true, [], ℕ, All, IsTrue, List, None, Some};
-ghost use Rattle.std.specs.Prelude.{IfErr, IfOk, MatchResult, length, replicate, if◌then◌else◌};
-ghost use Rattle.std.specs.List.{flat_map};
-ghost use Rattle.tor_plan.specs.Content.{unit_content};
+ghost use Rattle.std.specs.Prelude.{◌≡◌, ◌↔◌, true, [], ℕ, All, IsTrue, List, None, Some};
+ghost use Rattle.std.specs.Prelude.{IfErr, IfOk, MatchResult, length, replicate};
 ghost use Rattle.tor_plan.specs.PlanFacts.{IsPlan};
 ghost use Rattle.tor_plan.specs.Present.{is_there};
 ghost use Rattle.tor_plan.specs.WithinEntries.{IsInFile};
-ghost use Rattle.tor_tree.specs.Kinds.{has_v2};
 ghost use Rattle.tor_source.specs.Source.{SourceFacts};
 ghost use Rattle.tor_engine.specs.Contents.{contents_in};
 ghost use Rattle.tor_engine.specs.Fault.{IsFault, unit_fault};
-ghost use Rattle.tor_engine.specs.Hasher.{AreHashesOf, IsTreeOf};
 ghost use Rattle.tor_engine.specs.PieceFault.{piece_fault};
-ghost use Rattle.tor_engine.specs.PieceHashes.{hash_if_there, hash_of_parts, merkle_hash, piece_hash};
+ghost use Rattle.tor_engine.specs.PieceHashes.{hash_if_there, piece_hash};
 ghost use Rattle.tor_engine.specs.steps.Given.{IsGivenRead, lengths_of_sizes};
-ghost use Rattle.tor_engine.specs.steps.Hashes.{bytes_of_part};
-ghost use Rattle.tor_engine.specs.steps.Pieces.{HasPieces, unit_pieces_fault};
 ghost use Rattle.tor_engine.specs.steps.Pieces.{AreTold, HashesPieces, IsPaddingSum, IsPiece, IsUnitToHash};
-ghost use Rattle.tor_engine.specs.steps.Reads.{HasParts};
-ghost use Rattle.tor_engine.specs.steps.Run.{IsUnitOf};
+ghost use Rattle.tor_engine.specs.steps.Pieces.{unit_pieces_fault};
 ghost use Rattle.tor_engine.specs.steps.Worker.{IsFresh};
 
 use crate::errors::EngineError;
 use crate::file_bytes::FileBytes;
-use crate::hasher::Hashed;
-use crate::items::item_at;
-use crate::piece_hash::PieceHash;
+use crate::piece_hash::{PieceHash, hashes_of_piece};
 use crate::present::is_there;
 use crate::unit_hash::hash_unit;
 use crate::unit_work::UnitWork;
 use crate::worker::WorkerSums;
 use std::alloc::{AllocError, Global};
-use tor_merkle::laws::root_of_short_content;
-use tor_merkle::{Feed, Hash};
+use tor_merkle::Hash;
 use tor_plan::{Plan, PlanUnit};
-use tor_v1::laws::length_of_sums;
 
 /// What is known before units are read.
 #[derive(Drop)]
@@ -206,50 +195,4 @@ fn hash_piece<S: FileBytes>(
         Ok(hashed) => Ok(hashes_of_piece(plan, piece, hashed)),
         Err(error) => Err(error),
     }
-}
-
-/// The hashes of a piece, on each side that has one.
-fn hashes_of_piece(plan: &Plan, piece: &PlanUnit, hashed: Hashed) -> PieceHash
-    requires { IsPiece plan.now piece.now }
-    ensures { (contents : List (List ℕ)) → is_there contents piece.now ≡ true →
-        AreHashesOf plan.now.kind plan.now.piece_length (flat_map (bytes_of_part contents) piece.now.parts)
-        (unit_content contents piece.now) hashed → result ≡ piece_hash plan.now contents piece.now }
-{
-    length_of_sums();
-    let Hashed { tree, pieces } = hashed;
-    let (sums, _) = pieces.as_chunks::<20>();
-    PieceHash {
-        v1: item_at(sums, 0),
-        v2: merkle_hash_of_piece(plan, piece, tree),
-    }
-}
-
-/// The Merkle hash of a piece, from the tree over its bytes.
-fn merkle_hash_of_piece(plan: &Plan, piece: &PlanUnit, tree: Option<Feed>) -> Option<Hash>
-    requires { IsPiece plan.now piece.now }
-    ensures { (contents : List (List ℕ)) → HasPieces plan.now.piece_length contents piece.now.parts →
-        IsTreeOf plan.now.kind plan.now.piece_length (flat_map (bytes_of_part contents) piece.now.parts) tree →
-        result ≡ (if has_v2 plan.now.kind then Some (hash_of_parts plan.now contents piece.now.parts) else None) }
-{
-    let Some(tree) = tree else {
-        return None;
-    };
-    let Some(part) = piece.parts.as_slice().first() else {
-        return None;
-    };
-    merkle_hash(tree, plan.lengths()[part.file as usize])
-}
-
-/// That of the bytes of a tree, a piece of a file that has `size` bytes.
-fn merkle_hash(tree: Feed, size: u64) -> Option<Hash>
-    ensures { tree.bytes ≢ [] → length tree.bytes ≤ tree.piece_length →
-        result ≡ Some (merkle_hash tree.piece_length size tree.bytes) }
-{
-    root_of_short_content();
-    if size > tree.piece_length() {
-        return item_at(&tree.piece_roots(), 0);
-    }
-    let sums = tree.finish()?;
-    let root = sums.0;
-    Some(root)
 }

@@ -1,21 +1,20 @@
 //! What the contents of readers sum up to, from what their chunks do.
-ghost use Rattle.std.specs.Prelude.{◌≡◌, ◌*◌, ◌^◌, ◌<◌, ◌≤◌, ℕ, List, None, Some, IfOk, length, map};
+ghost use Rattle.std.specs.Prelude.{◌≡◌, ◌*◌, ◌^◌, ◌<◌, ◌≤◌, ℕ, List, Some, IfOk, length};
 ghost use Rattle.tor_merkle.specs.Block.{leaves};
 ghost use Rattle.tor_merkle.specs.Layer.{IsPieceLength, piece_layer, piece_roots, pieces_root, root_of};
 ghost use Rattle.tor_merkle.specs.declared.TheConstants.{BLOCK_LENGTH};
 ghost use Rattle.tor_merkle.specs.Stack.{padded_subtree};
-ghost use Rattle.tor_plan.specs.PlanFacts.{IsPlanPieceLength};
 ghost use Rattle.tor_engine.specs.Streams.{AreSumsOfContents, IsStreamCut};
-ghost use Rattle.tor_engine.specs.Sums.{lists_of};
 ghost use Rattle.tor_engine.specs.UnitNodes.{node_over};
 ghost use Rattle.tor_engine.specs.steps.ChunkNodes.{AreNodesOf, AreNodesOfOne, IsRunNode, SumUpCuts};
 ghost use Rattle.tor_engine.specs.steps.Run.{HasRoomAt};
+ghost use Rattle.tor_engine.specs.steps.Trees.{AreTrees, AreTreesOf};
 
-use crate::joined::{append, pieces_of_units};
-use crate::sums::{Sums, no_trees};
-use crate::unit_sums::UnitSums;
+use crate::joined::append;
+use crate::sums::{Sums, Trees, sums_with};
+use crate::unit_sums::{UnitSums, node_over_pieces};
 use std::alloc::{AllocError, Global};
-use tor_merkle::{BLOCK_LENGTH, Hash, Stack, height_of, layer_subtree, piece_level};
+use tor_merkle::{BLOCK_LENGTH, Hash, height_of, layer_root, layer_subtree, piece_level};
 use tor_tree::Kind;
 
 /// What contents of these lengths sum up to, from what their chunks of `size` bytes do, in order.
@@ -32,18 +31,29 @@ pub(crate) fn sums_of_chunks(
     ensures { (contents : List (List ℕ)) → SumUpCuts kind piece_length size contents lengths.items chunks.now →
         IfOk result (AreSumsOfContents kind piece_length contents) }
 {
-    let pieces = pieces_of_units(alloc, chunks)?;
-    let (roots, layers) = if kind.has_v2() {
-        trees_of_contents(alloc, piece_length, size, &lengths, chunks)?
-    } else {
-        no_trees(alloc, lengths.len())?
-    };
-    Ok(Sums {
-        lengths,
-        roots,
-        layers,
-        pieces,
-    })
+    let trees = trees_of_stream(alloc, kind, piece_length, size, &lengths, chunks)?;
+    sums_with(alloc, lengths, chunks, trees)
+}
+
+/// The trees of contents, where the kind has them.
+fn trees_of_stream(
+    alloc: Global,
+    kind: Kind,
+    piece_length: u64,
+    size: u64,
+    lengths: &[u64],
+    chunks: &[UnitSums],
+) -> Result<Option<Trees>, AllocError>
+    requires cut { (span : ℕ) × IsStreamCut kind piece_length span × (size ≡ span * piece_length) }
+    requires chunks { (contents : List (List ℕ)) × SumUpCuts kind piece_length size contents lengths.now chunks.now }
+    ensures { (contents : List (List ℕ)) → SumUpCuts kind piece_length size contents lengths.now chunks.now →
+        IfOk result (AreTreesOf kind piece_length contents) }
+{
+    if !kind.has_v2() {
+        return Ok(None);
+    }
+    let trees = trees_of_contents(alloc, piece_length, size, lengths, chunks)?;
+    Ok(Some(trees))
 }
 
 /// The root and the layer of each content.
@@ -53,13 +63,12 @@ fn trees_of_contents(
     size: u64,
     lengths: &[u64],
     chunks: &[UnitSums],
-) -> Result<(Vec<Option<Hash>>, Vec<Vec<Hash>>), AllocError>
+) -> Result<Trees, AllocError>
     requires pieces { IsPieceLength piece_length × IsPieceLength size }
     requires cut { (span : ℕ) × (0 < span) × (size ≡ span * piece_length) }
     requires chunks { (contents : List (List ℕ)) × AreNodesOf piece_length size contents lengths.now chunks.now }
     ensures { (contents : List (List ℕ)) → AreNodesOf piece_length size contents lengths.now chunks.now →
-        IfOk result (λ trees. (trees.0.items ≡ map root_of contents)
-        × (lists_of trees.1.items ≡ map (λ content. piece_layer content piece_length) contents)) }
+        IfOk result (AreTrees piece_length contents) }
 {
     let mut roots = Vec::with_capacity(alloc, lengths.len())?;
     let mut layers = Vec::with_capacity(alloc, lengths.len())?;
@@ -72,7 +81,7 @@ fn trees_of_contents(
         layers.push(layer)?;
         rest = later;
     }
-    Ok((roots, layers))
+    Ok(Trees { roots, layers })
 }
 
 /// The root and the layer of one content.
@@ -117,17 +126,17 @@ fn tree_of_chunks(
         IfOk result (λ tree. (tree.0 ≡ pieces_root content) × (tree.1.items ≡ piece_layer content piece_length)) }
 {
     let level = piece_level(size);
-    let mut stack = Stack::new(level);
+    let mut hashes = Vec::with_capacity(alloc, own.len())?;
     let mut layer = Vec::with_capacity(alloc, length.div_ceil(piece_length) as usize)?;
     let mut left = length;
     'chunks: for one in own {
         let count = left.min(size);
-        let (hash, hashes) = node_in_tree(alloc, piece_length, level, count, one)?;
-        stack.push(hash);
-        append(&mut layer, hashes)?;
+        let (hash, below) = node_in_tree(alloc, piece_length, level, count, one)?;
+        hashes.push(hash)?;
+        append(&mut layer, below)?;
         left -= count;
     }
-    Ok((stack.root(), layer))
+    Ok((layer_root(&hashes, level), layer))
 }
 
 /// The node that a chunk of so many bytes has at a level of a longer content's tree, and its hashes in the layer.
@@ -144,10 +153,8 @@ fn node_in_tree(
     ensures { (run : List ℕ) → IsRunNode piece_length count run one.now →
         IfOk result (λ node. (node.0, node.1.items) ≡ node_over piece_length (Some level) run) }
 {
-    let below = piece_level(piece_length);
     let layer = layer_of_chunk(alloc, piece_length, count, one)?;
-    let hash = layer_subtree(&layer, below, level - below);
-    Ok((hash, layer))
+    Ok(node_over_pieces(piece_length, level, layer))
 }
 
 /// The hashes that a chunk of so many bytes has in the layer of a longer content.

@@ -1,6 +1,6 @@
 //! The workers of a lane: each hashes the chunks that it takes.
 ghost use Rattle.std.specs.Prelude.{◌≡◌, [], ℕ, IfOk, vec_len};
-ghost use Rattle.std.specs.List.{AllByRecursion};
+ghost use Rattle.std.specs.List.{AllByRecursion, list_any};
 ghost use Rattle.std.specs.Thread.{IsSync};
 ghost use Rattle.tor_lane.specs.Lane.{IsTakerOf, taken_by};
 ghost use Rattle.tor_lane.specs.declared.feeder.Feeder.{Feeder};
@@ -134,6 +134,13 @@ pub(crate) fn take_by_halves<G: Gate + Sync, R: Threads + Wait + Sync>(
             ensures { TookAll kind piece_length back.entry.now back.exit.now }
         { take_by_halves(rt, gate, alloc, kind, piece_length, back) },
     );
+}
+
+/// Whether memory was refused to one of them.
+pub(crate) fn any_refused(workers: &[StreamWorker]) -> bool
+    ensures { result ≡ list_any (λ worker. worker.is_refused) workers.now }
+{
+    workers.iter().any(|worker| worker.is_refused)
 }
 
 /// The takers of workers, and what all of them made of what these took; where memory was refused to a worker, it is

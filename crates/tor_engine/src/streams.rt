@@ -1,23 +1,18 @@
 //! Readers that are read once and in order, hashed by several workers.
 ghost use Rattle.std.specs.Prelude.{◌≡◌, ◌*◌, ◌≤◌, ℕ, List, Some, IfErr, IfOk, map};
-ghost use Rattle.tor_lane.specs.Lane.{IsEnded, put_by};
 ghost use Rattle.tor_engine.specs.Streams.{AreSumsOfContents, AreSumsOfReaders, IsFaultOfReaders, IsStreamCut};
 ghost use Rattle.tor_engine.specs.declared.how.TheConstants.{MAX_WORKERS};
-ghost use Rattle.tor_engine.specs.steps.Cuts.{PutsContents};
-ghost use Rattle.tor_engine.specs.steps.StreamWorkers.{AreParted};
 
 use crate::errors::EngineError;
-use crate::feeding::{Fed, feed_readers, open};
+use crate::fed_sums::sums_of_fed;
+use crate::feeding::{feed_readers, open};
 use crate::gate::{Gate, OpenGate};
-use crate::stream_sums::sums_of_chunks;
-use crate::stream_worker::parted;
+use crate::stream_worker::any_refused;
 use crate::sums::Sums;
-use crate::unit_sums::UnitSums;
-use std::alloc::{AllocError, Global};
+use std::alloc::Global;
 use std::io::{self, Read};
 use std::sync::Wait;
 use std::thread::Threads;
-use tor_lane::{Feeder, Taker};
 use tor_tree::Kind;
 
 /// The most bytes of a unit that goes through a lane.
@@ -89,51 +84,9 @@ pub fn hash_streams_with<G: Gate + Sync, R: Read + Drop, T: Threads + Wait + Syn
         cutter,
         workers,
     )?;
-    let Fed {
-        read,
-        feeder,
-        workers,
-    } = fed;
-    let (takers, sums) = parted(alloc, workers)?;
-    let lengths = match read {
-        Ok(lengths) => lengths,
-        Err(error) => return Err(error),
-    };
-    let sums = sums_of_taken(
-        alloc,
-        kind,
-        piece_length,
-        size,
-        lengths,
-        feeder,
-        takers,
-        sums,
-    )?;
-    Ok(sums)
-}
-
-/// What the contents that were put in chunks of `size` bytes sum up to, from what was made of all that was taken.
-pub(crate) fn sums_of_taken(
-    alloc: Global,
-    kind: Kind,
-    piece_length: u64,
-    size: u64,
-    lengths: Vec<u64>,
-    feeder: Feeder,
-    takers: Vec<Taker>,
-    sums: Vec<UnitSums>,
-) -> Result<Sums, AllocError>
-    requires cut { (span : ℕ) × IsStreamCut kind piece_length span × (size ≡ span * piece_length) }
-    requires ended { IsEnded feeder }
-    requires parted { AreParted kind piece_length feeder takers.items sums.items }
-    requires put { (contents : List (List ℕ))
-        × PutsContents kind piece_length size contents lengths.items (put_by feeder) }
-    ensures { (contents : List (List ℕ)) →
-        PutsContents kind piece_length size contents lengths.items (put_by feeder) →
-        IfOk result (AreSumsOfContents kind piece_length contents) }
-{
-    feeder.settle(takers);
-    let mut sums = sums;
-    sums.sort_unstable_by_key(|one| one.unit);
-    sums_of_chunks(alloc, kind, piece_length, size, lengths, &sums)
+    if any_refused(&fed.workers) {
+        return Err(EngineError::Resources);
+    }
+    let summed = sums_of_fed(alloc, kind, piece_length, size, fed)?;
+    summed
 }

@@ -1,6 +1,6 @@
 //! What the files of a plan sum up to.
 ghost use Rattle.std.specs.Prelude.{◌≡◌, ◌-◌, ◌*◌, ◌^◌, ◌<◌, ◌≤◌, [], ◌∷◌, All, IfOk, List, ℕ, None, Option, Some};
-ghost use Rattle.std.specs.Prelude.{length, map, min, replicate, slice_index_or};
+ghost use Rattle.std.specs.Prelude.{length, map, min, replicate, slice_index_or, true, if◌then◌else◌};
 ghost use Rattle.std.specs.Int.{div_ceil};
 ghost use Rattle.std.specs.List.{flat_map};
 ghost use Rattle.std.specs.Option.{ForSome};
@@ -8,17 +8,28 @@ ghost use Rattle.tor_merkle.specs.Layer.{piece_layer, root_of};
 ghost use Rattle.tor_merkle.specs.declared.TheConstants.{BLOCK_LENGTH, MAX_LENGTH};
 ghost use Rattle.tor_plan.specs.Forest.{trees_from};
 ghost use Rattle.tor_plan.specs.PlanFacts.{IsPlan};
-ghost use Rattle.tor_engine.specs.Sums.{AreSumsOfPlan, lists_of};
+ghost use Rattle.tor_engine.specs.Sums.{AreSumsOf, AreSumsOfPlan, lists_of};
 ghost use Rattle.tor_engine.specs.declared.unit_sums.UnitSums.{UnitSums};
-ghost use Rattle.tor_engine.specs.steps.Hashes.{IsCut, nodes_of_file};
+ghost use Rattle.tor_engine.specs.steps.Hashes.{IsCut, level_of, nodes_of_file, nodes_of_unit};
 ghost use Rattle.tor_engine.specs.steps.Roots.{roots_of_trees};
 ghost use Rattle.tor_engine.specs.steps.Run.{AreSumsOfUnits, node_in};
+ghost use Rattle.tor_engine.specs.steps.Trees.{AreTrees, AreTreesOf};
+ghost use Rattle.tor_tree.specs.Kinds.{has_v1, has_v2};
+ghost use Rattle.tor_tree.specs.declared.kinds.Kind.{Kind};
+ghost use Rattle.tor_v1.specs.Piece.{piece_sums};
 
 use crate::joined::{layer_of_units, pieces_of_units};
 use crate::unit_sums::{UnitSums, level_of};
 use std::alloc::{AllocError, Global};
 use tor_merkle::{BLOCK_LENGTH, Hash};
 use tor_plan::Plan;
+
+/// The root and the layer of each file, in their order.
+#[derive(Drop)]
+pub(crate) struct Trees {
+    pub(crate) roots: Vec<Option<Hash>>,
+    pub(crate) layers: Vec<Vec<Hash>>,
+}
 
 /// What files sum up to, file by file in the order of the plan.
 #[derive(Debug, Drop)]
@@ -49,19 +60,26 @@ pub(crate) fn sums_of_units(
         (flat_map (λ unit. unit.pieces.items) units.now) →
         IfOk result (AreSumsOfPlan plan.now contents) }
 {
-    let pieces = pieces_of_units(alloc, units)?;
     let lengths = Vec::from_slice(alloc, plan.lengths())?;
-    let (roots, layers) = if plan.kind().has_v2() {
-        trees_of_files(
-            alloc,
-            &lengths,
-            level_of(&plan.forest().trees),
-            units,
-            roots,
-        )?
-    } else {
-        no_trees(alloc, lengths.len())?
-    };
+    let trees = trees_of_plan(alloc, plan, &lengths, units, roots)?;
+    sums_with(alloc, lengths, units, trees)
+}
+
+/// What files of these lengths sum up to, from what all their units do, and from their trees, where the kind has them.
+pub(crate) fn sums_with(
+    alloc: Global,
+    lengths: Vec<u64>,
+    units: &[UnitSums],
+    trees: Option<Trees>,
+) -> Result<Sums, AllocError>
+    ensures { (kind : Kind) (piece_length : ℕ) (contents : List (List ℕ)) (joined : List ℕ) →
+        map length contents ≡ lengths.items → AreTreesOf kind piece_length contents trees →
+        flat_map (λ unit. unit.pieces.items) units.now
+        ≡ (if has_v1 kind then piece_sums piece_length joined else []) →
+        IfOk result (AreSumsOf kind piece_length contents joined) }
+{
+    let pieces = pieces_of_units(alloc, units)?;
+    let Trees { roots, layers } = trees_or_none(alloc, lengths.len(), trees)?;
     Ok(Sums {
         lengths,
         roots,
@@ -70,13 +88,24 @@ pub(crate) fn sums_of_units(
     })
 }
 
+/// The trees of so many files, or no root and no hash of a layer for each.
+fn trees_or_none(alloc: Global, count: usize, trees: Option<Trees>) -> Result<Trees, AllocError>
+    ensures { (kind : Kind) (piece_length : ℕ) (contents : List (List ℕ)) → length contents ≡ count →
+        AreTreesOf kind piece_length contents trees → IfOk result (λ all.
+        (all.roots.items ≡ map (λ content. if has_v2 kind then root_of content else None) contents)
+        × (lists_of all.layers.items
+        ≡ map (λ content. if has_v2 kind then piece_layer content piece_length else []) contents)) }
+{
+    match trees {
+        Some(trees) => Ok(trees),
+        None => no_trees(alloc, count),
+    }
+}
+
 /// No root and no hash of a layer for each of so many files.
-pub(crate) fn no_trees(
-    alloc: Global,
-    count: usize,
-) -> Result<(Vec<Option<Hash>>, Vec<Vec<Hash>>), AllocError>
-    ensures roots { IfOk result (λ trees. trees.0.items ≡ replicate count None) }
-    ensures layers { IfOk result (λ trees. lists_of trees.1.items ≡ replicate count []) }
+fn no_trees(alloc: Global, count: usize) -> Result<Trees, AllocError>
+    ensures roots { IfOk result (λ trees. trees.roots.items ≡ replicate count None) }
+    ensures layers { IfOk result (λ trees. lists_of trees.layers.items ≡ replicate count []) }
 {
     let mut roots = Vec::with_capacity(alloc, count)?;
     let mut layers = Vec::with_capacity(alloc, count)?;
@@ -84,7 +113,31 @@ pub(crate) fn no_trees(
         roots.push(None)?;
         layers.push(Vec::new(alloc))?;
     }
-    Ok((roots, layers))
+    Ok(Trees { roots, layers })
+}
+
+/// The trees of the files of a plan, where its kind has them.
+fn trees_of_plan(
+    alloc: Global,
+    plan: &Plan,
+    lengths: &[u64],
+    units: &[UnitSums],
+    tops: &[Option<Hash>],
+) -> Result<Option<Trees>, AllocError>
+    requires planned { IsPlan plan.now }
+    requires lengths { lengths.now ≡ plan.now.lengths }
+    requires tops { tops.now ≡ roots_of_trees (map (λ unit. unit.hash) units.now) plan.now.trees }
+    ensures { (contents : List (List ℕ)) → map length contents ≡ plan.now.lengths →
+        (has_v2 plan.now.kind ≡ true → map node_in units.now
+        ≡ flat_map (nodes_of_unit plan.now.piece_length (level_of plan.now.trees) contents) plan.now.units) →
+        IfOk result (AreTreesOf plan.now.kind plan.now.piece_length contents) }
+{
+    if !plan.kind().has_v2() {
+        return Ok(None);
+    }
+    let level = level_of(&plan.forest().trees);
+    let trees = trees_of_files(alloc, lengths, level, units, tops)?;
+    Ok(Some(trees))
 }
 
 /// The root and the layer of each file, from what the units of all files sum up to, and the roots of the trees over
@@ -95,15 +148,14 @@ fn trees_of_files(
     level: Option<u32>,
     units: &[UnitSums],
     tops: &[Option<Hash>],
-) -> Result<(Vec<Option<Hash>>, Vec<Vec<Hash>>), AllocError>
+) -> Result<Trees, AllocError>
     requires low { ForSome level (λ k. k ≤ 36) }
     requires small { All (λ size. size ≤ MAX_LENGTH) lengths.now }
     ensures { (piece_length size : ℕ) (contents : List (List ℕ)) → map length contents ≡ lengths.now →
         IsCut piece_length size level lengths.now →
         map node_in units.now ≡ flat_map (nodes_of_file piece_length size level) contents →
         tops.now ≡ roots_of_trees (map (λ unit. unit.hash) units.now) (trees_from size 0 lengths.now) →
-        IfOk result (λ trees. (trees.0.items ≡ map root_of contents)
-        × (lists_of trees.1.items ≡ map (λ content. piece_layer content piece_length) contents)) }
+        IfOk result (AreTrees piece_length contents) }
 {
     let mut roots = Vec::with_capacity(alloc, lengths.len())?;
     let mut layers = Vec::with_capacity(alloc, lengths.len())?;
@@ -116,7 +168,7 @@ fn trees_of_files(
         layers.push(layer_of_units(alloc, own)?)?;
         (rest, tops) = (later, more);
     }
-    Ok((roots, layers))
+    Ok(Trees { roots, layers })
 }
 
 /// How many units a file has, of which several stand at the level.

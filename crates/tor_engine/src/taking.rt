@@ -1,5 +1,6 @@
 //! Units that one worker claims at a board, one after the other.
 ghost use Rattle.std.specs.Prelude.{◌≡◌, ◌<◌, All, IfErr, IfOk, MatchResult, OnOk, length};
+ghost use Rattle.std.specs.Option.{ForSome};
 ghost use Rattle.tor_board.specs.Desks.{Has, failing};
 ghost use Rattle.tor_board.specs.Seats.{IsSeatOf, knows, unit_count};
 ghost use Rattle.tor_source.specs.Source.{SourceFacts};
@@ -12,6 +13,7 @@ use crate::failure::Failure;
 use crate::taken::Taken;
 use crate::unit_work::UnitWork;
 use crate::worker::WorkerSums;
+use std::alloc::AllocError;
 use tor_board::{Board, Job, Seat};
 use tor_plan::PlanUnit;
 
@@ -32,17 +34,8 @@ pub(crate) fn take_units<W: UnitWork>(
         (W.fault work.now) (W.gave work.now) units.now (knows seat.old) (knows seat.new) result }
 {
     let mut taken = Taken::new(work.alloc());
-    let Some(job) = board.claim(seat) else {
-        return Ok(taken);
-    };
-    let mut worker = match work.begin() {
-        Ok(worker) => worker,
-        Err(_) => return Err(give_up(board, seat, job, EngineError::Resources)),
-    };
-    match take_unit(work, units, board, seat, job, &mut worker, &mut taken) {
-        Ok(()) => {}
-        Err(failure) => return Err(failure),
-    }
+    // A worker begins with the first unit that is claimed: before it there is none to fail where memory is refused.
+    let mut worker = None;
     'claims: while let Some(job) = board.claim(seat) {
         match take_unit(work, units, board, seat, job, &mut worker, &mut taken) {
             Ok(()) => {}
@@ -59,16 +52,16 @@ fn take_unit<W: UnitWork>(
     board: &Board,
     seat: &mut Seat,
     job: Job,
-    worker: &mut WorkerSums,
+    worker: &mut Option<WorkerSums>,
     taken: &mut Taken<W::Sums>,
 ) -> Result<(), Failure<W::Fault>>
     requires begin { W.may_begin work.now }
     requires units { All (W.may_hash work.now) units.now }
-    requires fresh { IsFresh (W.plan work.now) worker.old }
+    requires fresh { ForSome worker.old (IsFresh (W.plan work.now)) }
     requires board { IsSeatOf board.now seat.old }
     requires job { Has (knows seat.old).held job.number × (job.number < length units.now) }
     ensures board { IsSeatOf board.now seat.new }
-    ensures fresh { OnOk result (IsFresh (W.plan work.now) worker.new) }
+    ensures fresh { OnOk result (ForSome worker.new (IsFresh (W.plan work.now))) }
     ensures given { OnOk result (GivesUnit (W.number_in work.now) (W.hash_in work.now) (W.sums_up work.now)
         units.now job.number (knows seat.old) (knows seat.new) taken.old taken.new) }
     ensures failed { IfErr result (λ failure. (failure.unit ≡ job.number)
@@ -89,19 +82,19 @@ fn take_unit<W: UnitWork>(
     }
 }
 
-/// Hashes one unit, for which there is room then among those that were taken.
+/// Hashes one unit, for which there is room then among those that were taken; the first one begins.
 fn hash_claimed<W: UnitWork>(
     work: &W,
     units: &[PlanUnit],
     number: u64,
-    worker: &mut WorkerSums,
+    worker: &mut Option<WorkerSums>,
     taken: &mut Taken<W::Sums>,
 ) -> Result<W::Sums, EngineError<W::Fault>>
     requires begin { W.may_begin work.now }
     requires units { All (W.may_hash work.now) units.now }
-    requires fresh { IsFresh (W.plan work.now) worker.old }
+    requires fresh { ForSome worker.old (IsFresh (W.plan work.now)) }
     requires number { number < length units.now }
-    ensures fresh { IfOk result (λ _. IsFresh (W.plan work.now) worker.new) }
+    ensures fresh { IfOk result (λ _. ForSome worker.new (IsFresh (W.plan work.now))) }
     ensures room { IfOk result (λ _. HasRoom taken.new) }
     ensures kept { (taken.new.sums.items ≡ taken.old.sums.items) × (taken.new.tops.items ≡ taken.old.tops.items) }
     ensures summed { IfOk result (W.sums_up work.now (unit_at units.now number)) }
@@ -111,8 +104,26 @@ fn hash_claimed<W: UnitWork>(
         (IsFault (W.fault work.now facts (unit_at units.now number))) }
     ensures gave { IfErr result (W.gave work.now) }
 {
+    let mut own = begun(work, worker.take())?;
     taken.reserve()?;
-    work.hash(number, &units[number as usize], worker)
+    let sums = match work.hash(number, &units[number as usize], &mut own) {
+        Ok(sums) => sums,
+        Err(error) => return Err(error),
+    };
+    *worker = Some(own);
+    Ok(sums)
+}
+
+/// A worker that has begun: this one, or where there is none a new one.
+fn begun<W: UnitWork>(work: &W, worker: Option<WorkerSums>) -> Result<WorkerSums, AllocError>
+    requires begin { W.may_begin work.now }
+    requires fresh { ForSome worker (IsFresh (W.plan work.now)) }
+    ensures { IfOk result (IsFresh (W.plan work.now)) }
+{
+    match worker {
+        Some(worker) => Ok(worker),
+        None => work.begin(),
+    }
 }
 
 /// Fails a unit at the board, and tells why.

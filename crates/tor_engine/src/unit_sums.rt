@@ -1,7 +1,8 @@
 //! What one unit sums up to in its file.
-ghost use Rattle.std.specs.Prelude.{◌≡◌, ◌≢◌, ◌∷◌, [], ℕ, All, IsSomeAnd, List, None, Some, IfErr, IfOk, MatchResult};
-ghost use Rattle.std.specs.Prelude.{length, slice_index_or};
+ghost use Rattle.std.specs.Prelude.{◌≡◌, ◌≢◌, ◌<◌, ◌∷◌, [], ℕ, All, IsSomeAnd, List, None, Some, IfErr};
+ghost use Rattle.std.specs.Prelude.{IfOk, MatchResult, length, slice_index_or};
 ghost use Rattle.std.specs.Option.{ForSome};
+ghost use Rattle.tor_merkle.specs.Layer.{IsPieceLength, piece_roots};
 ghost use Rattle.tor_plan.specs.PlanFacts.{IsPlan};
 ghost use Rattle.tor_plan.specs.WithinEntries.{IsInFile};
 ghost use Rattle.tor_plan.specs.declared.units.Part.{Part};
@@ -19,7 +20,7 @@ use crate::hasher::Hashed;
 use crate::unit_hash::hash_unit;
 use crate::worker::WorkerSums;
 use std::alloc::Global;
-use tor_merkle::laws::{count_of_piece_roots, piece_roots_fit_a_layer, subtrees_over_pieces};
+use tor_merkle::laws::piece_roots_fit_a_layer;
 use tor_merkle::{Feed, Hash, layer_subtree, piece_level};
 use tor_plan::{Plan, PlanUnit, Run};
 
@@ -83,16 +84,28 @@ fn node_at(tree: Feed, level: u32) -> Option<(Hash, Vec<Hash>)>
     ensures { tree.bytes ≢ [] → IsSomeAnd result (λ node.
         (node.0, node.1.items) ≡ node_over tree.piece_length (Some level) tree.bytes) }
 {
-    count_of_piece_roots();
     piece_roots_fit_a_layer();
-    subtrees_over_pieces();
-    let below = piece_level(tree.piece_length());
+    let piece_length = tree.piece_length();
     let layer = tree.piece_roots();
     if layer.is_empty() {
         return None;
     }
+    Some(node_over_pieces(piece_length, level, layer))
+}
+
+/// The node over bytes whose pieces have these roots, at a level of a higher tree, and the roots.
+pub(crate) fn node_over_pieces(piece_length: u64, level: u32, layer: Vec<Hash>) -> (Hash, Vec<Hash>)
+    requires pieces { IsPieceLength piece_length }
+    requires some { 0 < length layer.items }
+    requires room { (bytes : List ℕ) × HasRoomAt piece_length (length bytes) level
+        × (layer.items ≡ piece_roots bytes piece_length) }
+    ensures { (bytes : List ℕ) → HasRoomAt piece_length (length bytes) level →
+        layer.items ≡ piece_roots bytes piece_length →
+        (result.0, result.1.items) ≡ node_over piece_length (Some level) bytes }
+{
+    let below = piece_level(piece_length);
     let hash = layer_subtree(&layer, below, level - below);
-    Some((hash, layer))
+    (hash, layer)
 }
 
 /// The level of the units of files that have several.

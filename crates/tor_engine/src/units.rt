@@ -9,7 +9,7 @@ ghost use Rattle.tor_engine.specs.steps.Roots.{roots_of_trees};
 use crate::errors::EngineError;
 use crate::how::How;
 use crate::on_board::hash_on_board;
-use crate::roots::roots_of_trees;
+use crate::roots::{hashes_of, roots_of_trees};
 use crate::turn::hash_by_halves;
 use crate::unit_work::UnitWork;
 use std::thread::Threads;
@@ -48,7 +48,8 @@ where
                 Ok(sums) => sums,
                 Err(error) => return Err(error),
             };
-            let roots = roots_of_trees(work, &forest.trees, &sums)?;
+            let hashes = hashes_of(work, &sums)?;
+            let roots = roots_of_trees(work.alloc(), &forest.trees, &hashes)?;
             Ok((sums, roots))
         }
     }

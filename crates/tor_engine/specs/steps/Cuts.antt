@@ -14,8 +14,8 @@ use Rattle.tor_v1.specs.Piece.{piece_sums, pieces_of, zeros}
 use Rattle.tor_engine.specs.Shares.{bare_node, node_in}
 use Rattle.tor_engine.specs.UnitNodes.{Node, node_over}
 use Rattle.tor_engine.specs.declared.cutter.Cutter.{Cutter}
-use Rattle.tor_engine.specs.declared.cutter.Stop.{Stop}
-use Rattle.tor_engine.specs.declared.cutter.Stop.TheVariants.{Read, Refused, TooLong}
+use Rattle.tor_engine.specs.declared.filling.Stop.{Stop}
+use Rattle.tor_engine.specs.declared.filling.Stop.TheVariants.{Read, Refused, TooLong}
 use Rattle.tor_engine.specs.declared.unit_sums.UnitSums.{UnitSums}
 
 -- the bytes of a chunk, and how many zeros follow them

@@ -1,13 +1,10 @@
--- the workers end at their marks, which come after all that was put
-use Rattle.std.proofs.Common.{◌∙◌, sym, subst, List, ℕ, IfOk}
-use Rattle.tor_lane.specs.Lane.{FeedsLaneOf}
-use Rattle.tor_lane.specs.declared.chunk.Chunk.{Chunk}
+-- the workers end at their marks
+use Rattle.std.proofs.Common.{sym, subst, refl}
 use Rattle.tor_lane.specs.declared.feeder.Feeder.{Feeder}
 use Rattle.tor_engine.specs.declared.feeding.Workers.{Workers}
-use Rattle.tor_engine.specs.steps.Cuts.{PutsContents}
-use Rattle.tor_engine.specs.steps.Fed.{GivesInput}
+use Rattle.tor_engine.specs.steps.Fed.{GivesInput, IsFed, StopsInput}
 use Rattle.tor_engine.specs.steps.StreamWorkers.{AreDone}
-use Rattle.tor_engine.proofs.StreamWorkers.{same_lane}
+use Rattle.tor_engine.proofs.FedLanes.{is_fed}
 use Rattle.tor_engine.proofs.feeding.feed_input.Goals as goal
 
 pub spawn_with-requires-clause-keeps : goal.spawn_with-requires-clause-keeps
@@ -19,19 +16,13 @@ pub returns-in-Ok-clause-fed : goal.returns-in-Ok-clause-fed
 returns-in-Ok-clause-fed g c = λ size some ready.
     let kind = c.args.kind in
     let p = c.args.piece_length in
-    let remaining = g.R.Read.remaining in
+    let old = g.R.Read.remaining c.args.reader.now in
+    let new = g.R.Read.remaining c.read_input-read.new.reader in
     let read = c.read_input-read.ensures in
-    let first = read.lane.0 in
-    let then = c.end.ensures.lane in
-    let lane : FeedsLaneOf c.args.cutter.feeder c.end.new.self.feeder = (then.0 ∙ first.0, then.1 ∙ first.1) in
-    record {
-      done = same_lane kind p c.args.cutter.feeder c.end.new.self.feeder lane c.join-workers.result.items
-          (subst (λ (f : Feeder). AreDone kind p f c.join-workers.result.items) c.of.ensures
-          (subst (λ (q : Workers). AreDone q.kind q.piece_length q.feeder.value c.join-workers.result.items)
-          c.in-Ok.ensures.ok c.join-workers.ensures));
-      ended = c.end.ensures.ended;
-      put = subst (λ (put : List Chunk). IfOk c.read_input-read.result (λ lengths. (contents : List (List ℕ))
-          × GivesInput (remaining c.args.reader.now) (remaining c.read_input-read.new.reader) contents
-          × PutsContents kind p size contents lengths.items put)) (sym c.end.ensures.put) (read.put size some ready);
-      stopped = read.stopped;
-    }
+    let done = subst (λ (f : Feeder). AreDone kind p f c.join-workers.result.items) c.of.ensures
+    (subst (λ (q : Workers). AreDone q.kind q.piece_length q.feeder.value c.join-workers.result.items)
+    c.in-Ok.ensures.ok c.join-workers.ensures) in
+    subst (IsFed kind p size (GivesInput old new) (StopsInput old new)) (sym c.new.ensures)
+    (is_fed kind p size (GivesInput old new) (StopsInput old new) c.args.cutter.feeder
+    c.read_input-read.new.cutter.feeder c.end.new.self.feeder _ read.lane.0 c.end.ensures.lane c.end.ensures.ended
+    c.end.ensures.put refl done (read.put size some ready) read.stopped)

@@ -8,79 +8,38 @@ use Rattle.tor_plan.specs.declared.forests.Run.{Run}
 use Rattle.tor_engine.specs.declared.failure.Failure.{Failure}
 use Rattle.tor_engine.specs.declared.taken.Taken.{Taken}
 use Rattle.tor_engine.specs.steps.Taken.{AnswersSeat}
-use Rattle.tor_engine.proofs.BoardEnd.{each_taken, faultless, least_fault, roots_there, summed}
+use Rattle.tor_engine.proofs.BoardEnd.{faultless, least_fault, roots_there, summed}
 use Rattle.tor_engine.proofs.on_board.hash_on_board.Goals as goal
 
-pub placed-requires-clause-each : goal.placed-requires-clause-each
-placed-requires-clause-each g c =
+pub returns-in-Ok : goal.returns-in-Ok
+returns-in-Ok g c =
     let w = g.W.UnitWork in
     let work = c.args.work.now in
     let units = c.args.units.now in
+    let old = knows c.in_ok-board.seat in
+    let new = knows c.by_halves-seated.result.seat in
+    let least = c.close-closed.result.least_failed in
+    let ends = c.close-closed.ensures in
+    let placed = c.in_order-sums.result.items in
+    let order = c.in_order-sums.ensures in
     let bare = ap (λ (d : Desk). d.given) c.in_ok-board.ensures.seat.1 in
-    let all = subst (λ (n : ℕ). IsAllGiven n (knows c.by_halves-seated.result.seat) c.close-closed.result.least_failed)
-    c.in_ok-board.ensures.board.0 c.close-closed.ensures.all in
+    let all = subst (λ (n : ℕ). IsAllGiven n new least) c.in_ok-board.ensures.board.0 ends.all in
     let answers = subst (λ (r : Result (Taken g.row.W-Sums.Denot) (Failure g.row.W-Fault.Denot)).
     AnswersSeat (w.number_in work) (w.hash_in work) (w.sums_up work) (w.is_steady work) (w.fault work) (w.gave work)
-    units (knows c.in_ok-board.seat) (knows c.by_halves-seated.result.seat) r) c.in-Ok.is c.by_halves-seated.ensures.2
-    in
-    each_taken (w.number_in work) (w.hash_in work) (w.sums_up work) (w.is_steady work) (w.fault work) (w.gave work)
-    units (knows c.in_ok-board.seat) (knows c.by_halves-seated.result.seat) bare c.close-closed.result.least_failed
-    c.close-closed.ensures.least all c.in-Ok.taken answers
-
-pub returns-in_ok-sums-in-Ok-clause-summed : goal.returns-in_ok-sums-in-Ok-clause-summed
-returns-in_ok-sums-in-Ok-clause-summed g c =
-    let w = g.W.UnitWork in
-    let work = c.args.work.now in
-    let units = c.args.units.now in
-    let bare = ap (λ (d : Desk). d.given) c.in_ok-board.ensures.seat.1 in
-    let all = subst (λ (n : ℕ). IsAllGiven n (knows c.by_halves-seated.result.seat) c.close-closed.result.least_failed)
-    c.in_ok-board.ensures.board.0 c.close-closed.ensures.all in
-    let answers = subst (λ (r : Result (Taken g.row.W-Sums.Denot) (Failure g.row.W-Fault.Denot)).
-    AnswersSeat (w.number_in work) (w.hash_in work) (w.sums_up work) (w.is_steady work) (w.fault work) (w.gave work)
-    units (knows c.in_ok-board.seat) (knows c.by_halves-seated.result.seat) r) c.in-Ok.is c.by_halves-seated.ensures.2
-    in
-    summed (w.number_in work) (w.hash_in work) (w.sums_up work) (w.is_steady work) (w.fault work) (w.gave work)
-    units (knows c.in_ok-board.seat) (knows c.by_halves-seated.result.seat) bare c.close-closed.result.least_failed
-    c.close-closed.ensures.least all c.in-Ok.taken answers c.in_ok-sums-in-Ok.sums.items
-    c.in_ok-sums-in-Ok.ensures.numbers
-    c.in_ok-sums-in-Ok.ensures.among
-
-pub returns-in_ok-sums-in-Ok-clause-roots : goal.returns-in_ok-sums-in-Ok-clause-roots
-returns-in_ok-sums-in-Ok-clause-roots g c =
-    let w = g.W.UnitWork in
-    let work = c.args.work.now in
-    let units = c.args.units.now in
-    let bare = ap (λ (d : Desk). d.given) c.in_ok-board.ensures.seat.1 in
-    let all = subst (λ (n : ℕ). IsAllGiven n (knows c.by_halves-seated.result.seat) c.close-closed.result.least_failed)
-    c.in_ok-board.ensures.board.0 c.close-closed.ensures.all in
-    let answers = subst (λ (r : Result (Taken g.row.W-Sums.Denot) (Failure g.row.W-Fault.Denot)).
-    AnswersSeat (w.number_in work) (w.hash_in work) (w.sums_up work) (w.is_steady work) (w.fault work) (w.gave work)
-    units (knows c.in_ok-board.seat) (knows c.by_halves-seated.result.seat) r) c.in-Ok.is c.by_halves-seated.ensures.2
-    in
+    units old new r) c.in-Ok.is c.by_halves-seated.ensures.2 in
     let forest = c.in_ok-board.ensures.board.1 in
-    roots_there (w.number_in work) (w.hash_in work) (w.sums_up work) (w.is_steady work) (w.fault work) (w.gave work)
-    units (knows c.in_ok-board.seat) (knows c.by_halves-seated.result.seat) bare c.close-closed.result.least_failed
-    c.close-closed.ensures.least all c.in-Ok.taken answers c.in_ok-sums-in-Ok.sums.items
-    c.in_ok-sums-in-Ok.ensures.numbers
-    c.in_ok-sums-in-Ok.ensures.among c.args.forest.now.trees.items c.close-closed.result.roots.items c.requires.runs
-    (c.close-closed.ensures.count ∙ ap length forest)
-    (λ k run is. c.close-closed.ensures.roots k run (ap (λ (runs : List Run). get_elem? runs k) forest ∙ is))
-
-pub returns-in_ok-sums-in-Ok-clause-fault : goal.returns-in_ok-sums-in-Ok-clause-fault
-returns-in_ok-sums-in-Ok-clause-fault g c =
-    let w = g.W.UnitWork in
-    let work = c.args.work.now in
-    let units = c.args.units.now in
-    let bare = ap (λ (d : Desk). d.given) c.in_ok-board.ensures.seat.1 in
-    let all = subst (λ (n : ℕ). IsAllGiven n (knows c.by_halves-seated.result.seat) c.close-closed.result.least_failed)
-    c.in_ok-board.ensures.board.0 c.close-closed.ensures.all in
-    let answers = subst (λ (r : Result (Taken g.row.W-Sums.Denot) (Failure g.row.W-Fault.Denot)).
-    AnswersSeat (w.number_in work) (w.hash_in work) (w.sums_up work) (w.is_steady work) (w.fault work) (w.gave work)
-    units (knows c.in_ok-board.seat) (knows c.by_halves-seated.result.seat) r) c.in-Ok.is c.by_halves-seated.ensures.2
-    in
-    faultless (w.number_in work) (w.hash_in work) (w.sums_up work) (w.is_steady work) (w.fault work) (w.gave work)
-    units (knows c.in_ok-board.seat) (knows c.by_halves-seated.result.seat) bare c.close-closed.result.least_failed
-    c.close-closed.ensures.least all c.in-Ok.taken answers
+    record {
+      summed = summed (w.number_in work) (w.hash_in work) (w.sums_up work) (w.is_steady work) (w.fault work)
+          (w.gave work) units old new bare least ends.least all c.in-Ok.taken answers placed order.same order.sorted;
+      roots = roots_there (w.number_in work) (w.hash_in work) (w.sums_up work) (w.is_steady work) (w.fault work)
+          (w.gave work) units old new bare least ends.least all c.in-Ok.taken answers placed order.same order.sorted
+          c.args.forest.now.trees.items c.close-closed.result.roots.items c.requires.runs
+          (ends.count ∙ ap length forest)
+          (λ k run is. ends.roots k run (ap (λ (runs : List Run). get_elem? runs k) forest ∙ is));
+      fault = faultless (w.number_in work) (w.hash_in work) (w.sums_up work) (w.is_steady work) (w.fault work)
+          (w.gave work) units old new bare least ends.least all c.in-Ok.taken answers;
+      gave = tt;
+    }
 
 pub returns-in-Err-clause-fault : goal.returns-in-Err-clause-fault
 returns-in-Err-clause-fault g c =

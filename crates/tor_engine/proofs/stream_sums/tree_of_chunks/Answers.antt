@@ -1,7 +1,6 @@
 -- one chunk more
 use Rattle.std.proofs.Common.{◌≡◌, ◌+◌, ◌-◌, ◌*◌, ◌^◌, ◌<◌, ◌≤◌, ◌++◌, ◌∷◌, [], ℕ, List, length, map, take, min, arith}
-use Rattle.std.proofs.Common.{refl, ap, ap₂, sym}
-use Rattle.std.proofs.Common.{◌∙◌, append-nil, subst, zero-mul}
+use Rattle.std.proofs.Common.{ap, ap₂, sym, ◌∙◌, append-nil, subst, zero-mul}
 use Rattle.std.proofs.lemmas.Grind.{div_ceil_times, flat_map-append}
 use Rattle.std.proofs.lemmas.List.{length-map, length-take, map-append, take_all}
 use Rattle.std.specs.Fork.{slice_chunk}
@@ -13,16 +12,15 @@ use Rattle.tor_merkle.specs.Stack.{padded_root, padded_subtree}
 use Rattle.tor_engine.specs.declared.unit_sums.UnitSums.{UnitSums}
 use Rattle.tor_engine.specs.steps.ChunkNodes.{IsRunNode}
 use Rattle.tor_engine.specs.steps.Cuts.{runs_of}
-use Rattle.tor_engine.proofs.ChunkTrees.{count_of_runs, few_chunks, layer_of_runs, levels_rise, many}
-use Rattle.tor_engine.proofs.ChunkTrees.{root_of_runs, run_node, runs_next, some_length}
+use Rattle.tor_engine.proofs.ChunkTrees.{count_of_runs, few_chunks, layer_of_runs, levels_rise, many, root_of_runs}
+use Rattle.tor_engine.proofs.ChunkTrees.{run_node, runs_next, some_length}
 use Rattle.tor_engine.proofs.Levels.{piece_at_level}
 use Rattle.tor_engine.proofs.stream_sums.tree_of_chunks.Goals as goal
 
 pub chunks-init : goal.chunks-init
 chunks-init c = record {
-  level = c.new-stack.ensures.level;
   left = omega arith;
-  so_far = λ content are. (c.new-stack.ensures.empty, c.in_ok-layer.ensures.items);
+  so_far = λ content are. (c.in_ok-hashes.ensures.items, c.in_ok-layer.ensures.items);
 }
 
 pub node_in_tree-requires-clause-room : goal.node_in_tree-requires-clause-room
@@ -52,28 +50,6 @@ node_in_tree-requires-clause-one c =
           c.chunks-test.true c.one-item.result c.min-count.result counted),
     )
 
-pub push-requires : goal.push-requires
-push-requires c =
-    let size = c.args.size in
-    let content = c.requires.own.0 in
-    let are = c.requires.own.1 in
-    let some = some_length size c.requires.pieces.1 in
-    let pushed = ap length (c.chunks.invariant.so_far content are).0 in
-    let all = many c.args.piece_length size some content c.args.own.now are.nodes 0 in
-    let few = few_chunks size (length content) c.requires.pieces.1 (omega (arith, are.small, are.counted)) in
-    subst (λ (k : ℕ). length c.chunks.stack.hashes < 2 ^ (36 - k))
-    (sym (c.chunks.invariant.level ∙ c.piece_level-level.ensures.value))
-    (omega (
-      arith,
-      pushed,
-      length-map (take c.chunks.one-index (runs_of size content))
-          (λ run. padded_subtree c.piece_level-level.result 0 (leaves run)),
-      length-take c.chunks.one-index (runs_of size content),
-      all,
-      few,
-      c.chunks-test.true,
-    ))
-
 pub chunks-preserved : goal.chunks-preserved
 chunks-preserved c =
     let p = c.args.piece_length in
@@ -82,7 +58,6 @@ chunks-preserved c =
     let next : (i + 1) * size ≡ i * size + size = omega arith in
     let f = λ (run : List ℕ). padded_subtree c.piece_level-level.result 0 (leaves run) in
     let g = λ (run : List ℕ). piece_roots run p in record {
-      level = c.push.ensures.level ∙ c.chunks.invariant.level;
       left = omega (arith, c.min-count.ensures, c.chunks.invariant.left, next);
       so_far = λ content are.
           let some = some_length size c.requires.pieces.1 in
@@ -97,7 +72,7 @@ chunks-preserved c =
           let node = c.in_ok-hash.ensures run is in
           let more = runs_next p size some content c.args.own.now are.nodes i c.chunks-test.true in
           let front = take i (runs_of size content) in (
-            c.push.ensures.hashes ∙ ap₂ (λ xs x. xs ++ x ∷ []) before.0 (ap (λ n. n.0) node)
+            c.in_ok-push.ensures.items ∙ ap₂ (λ xs x. xs ++ x ∷ []) before.0 (ap (λ n. n.0) node)
                 ∙ sym (map-append f front (run ∷ [])) ∙ ap (map f) (sym more),
             c.in_ok-append.ensures ∙ ap₂ (λ xs ys. xs ++ ys) before.1 (ap (λ n. n.1) node)
                 ∙ ap (λ xs. flat_map g front ++ xs) (sym (append-nil (g run)))
@@ -105,8 +80,8 @@ chunks-preserved c =
           );
     }
 
-pub root-requires : goal.root-requires
-root-requires c =
+pub layer_root-requires-clause-some : goal.layer_root-requires-clause-some
+layer_root-requires-clause-some c =
     let size = c.args.size in
     let content = c.requires.own.0 in
     let are = c.requires.own.1 in
@@ -118,7 +93,7 @@ root-requires c =
     omega (arith, bounds.0, zero, c.requires.several, are.counted) in
     omega (
       arith,
-      ap length (c.chunks.invariant.so_far content are).0,
+      ap length (c.deref.ensures.value ∙ (c.chunks.invariant.so_far content are).0),
       length-map (take c.chunks.one-index (runs_of size content))
           (λ run. padded_subtree c.piece_level-level.result 0 (leaves run)),
       length-take c.chunks.one-index (runs_of size content),
@@ -127,6 +102,23 @@ root-requires c =
       none,
       c.chunks-test.false,
     )
+
+pub layer_root-requires-clause-small : goal.layer_root-requires-clause-small
+layer_root-requires-clause-small c =
+    let size = c.args.size in
+    let content = c.requires.own.0 in
+    let are = c.requires.own.1 in
+    let few = few_chunks size (length content) c.requires.pieces.1 (omega (arith, are.small, are.counted)) in
+    subst (λ (k : ℕ). length c.deref.result.now ≤ 2 ^ (36 - k)) (sym c.piece_level-level.ensures.value)
+    (omega (
+      arith,
+      ap length (c.deref.ensures.value ∙ (c.chunks.invariant.so_far content are).0),
+      length-map (take c.chunks.one-index (runs_of size content))
+          (λ run. padded_subtree c.piece_level-level.result 0 (leaves run)),
+      length-take c.chunks.one-index (runs_of size content),
+      count_of_runs size content,
+      few,
+    ))
 
 pub returns : goal.returns
 returns c = λ content are.
@@ -143,9 +135,9 @@ returns c = λ content are.
     let at : size ≡ 16384 * 2 ^ level =
     piece_at_level size c.requires.pieces.1 ∙ ap (λ k. 16384 * 2 ^ k) (sym c.piece_level-level.ensures.value) in
     let long : size < length content = omega (arith, c.requires.several, are.counted) in (
-      c.root.ensures
-          ∙ ap₂ padded_root c.chunks.invariant.level
-          (so_far.0 ∙ ap (map (λ run. padded_subtree level 0 (leaves run))) whole)
+      c.layer_root.ensures
+          ∙ ap (padded_root level)
+          (c.deref.ensures.value ∙ so_far.0 ∙ ap (map (λ run. padded_subtree level 0 (leaves run))) whole)
           ∙ sym (root_of_runs p size span level content c.requires.pieces.0 c.requires.cut.1 c.requires.cut.2 at long),
       so_far.1 ∙ ap (flat_map (λ run. piece_roots run p)) whole
           ∙ layer_of_runs p size span level content c.requires.pieces.0 c.requires.cut.1 c.requires.cut.2 at long,

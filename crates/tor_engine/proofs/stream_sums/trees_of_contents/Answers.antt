@@ -1,24 +1,18 @@
 -- one content more
-use Rattle.std.proofs.Common.{◌≡◌, ◌<◌, ◌≤◌, ◌+◌, ◌^◌, ◌++◌, ◌∷◌, [], ℕ, List, length, map, take, drop, get_or, None}
-use Rattle.std.proofs.Common.{min, arith, refl, ap, sym}
+use Rattle.std.proofs.Common.{◌≡◌, ◌<◌, ◌≤◌, ◌^◌, [], ℕ, List, length, map, take, get_or, None, min, arith, ap, sym}
 use Rattle.std.proofs.Common.{◌∙◌, subst}
-use Rattle.std.proofs.lemmas.List.{drop-map, get_or-map, length-map, map-append, map_more, take_all, drop-drop}
+use Rattle.std.proofs.lemmas.List.{get_or-map, length-map, map-append, take_all}
 use Rattle.std.proofs.lemmas.List.Elements.{All-from_recursion}
 use Rattle.std.specs.Int.{div_ceil}
 use Rattle.tor_merkle.specs.Layer.{piece_layer, root_of}
 use Rattle.tor_engine.specs.Shares.{node_in}
 use Rattle.tor_engine.specs.Sums.{lists_of}
 use Rattle.tor_engine.specs.UnitNodes.{node_over}
-use Rattle.tor_engine.specs.steps.ChunkNodes.{AreNodesOf, AreNodesOfOne, nodes_alone}
+use Rattle.tor_engine.specs.steps.ChunkNodes.{AreNodesOfOne, nodes_alone}
 use Rattle.tor_engine.specs.steps.Cuts.{runs_of}
-use Rattle.tor_engine.proofs.ByFile.{enough_nodes, later_nodes, own_nodes}
+use Rattle.tor_engine.proofs.ByFile.{enough_nodes, later_nodes, map_next, own_nodes}
 use Rattle.tor_engine.proofs.ChunkTrees.{count_of_runs}
 use Rattle.tor_engine.proofs.stream_sums.trees_of_contents.Goals as goal
-
--- a function of each content, one more
-map_next : {Y : Type 0} (f : List ℕ → Y) (xs : List (List ℕ)) (ys : List Y) (y : Y) (i : ℕ) → i < length xs
-    → ys ≡ map f (take i xs) → y ≡ f (get_or xs i []) → ys ++ y ∷ [] ≡ map f (take (i + 1) xs)
-map_next f xs ys y i there all one = rw (all, one) (sym (map_more f xs i [] there))
 
 pub contents-init : goal.contents-init
 contents-init c = λ contents are. record {
@@ -96,7 +90,8 @@ returns c = λ contents are.
     let before = c.contents.invariant contents are in
     let all : take c.contents.length-index contents ≡ contents =
     take_all c.contents.length-index contents
-    (omega (arith, c.contents-test.false, ap length are.counted, length-map contents length)) in (
-      before.roots ∙ ap (map root_of) all,
-      before.layers ∙ ap (map (λ content. piece_layer content c.args.piece_length)) all,
-    )
+    (omega (arith, c.contents-test.false, ap length are.counted, length-map contents length)) in
+    record {
+      roots = before.roots ∙ ap (map root_of) all;
+      layers = before.layers ∙ ap (map (λ content. piece_layer content c.args.piece_length)) all;
+    }

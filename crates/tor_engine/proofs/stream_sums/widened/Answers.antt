@@ -1,9 +1,9 @@
 -- the root over a tree of as many blocks as the bytes need
-use Rattle.std.proofs.Common.{◌≡◌, ◌≤◌, ◌-◌, ◌^◌, ℕ, List, arith, ap, ap₂, ◌∙◌, ◌∷◌, [], pow_pos}
+use Rattle.std.proofs.Common.{◌≤◌, ◌-◌, ◌^◌, ℕ, List, arith, ap, ap₂, ◌∙◌, ◌∷◌, [], pow_pos}
 use Rattle.std.proofs.Math.Nat.{pow-le-pow_right}
 use Rattle.tor_merkle.specs.Stack.{padded_subtree}
 use Rattle.tor_merkle.specs.Subtree.{height}
-use Rattle.tor_engine.proofs.ChunkTrees.{above_low, count_widened, few_leaves}
+use Rattle.tor_engine.proofs.WidenedRoots.{above_low, count_widened, few_leaves}
 use Rattle.tor_engine.proofs.stream_sums.widened.Goals as goal
 
 pub height_of-height-requires : goal.height_of-height-requires

@@ -1,87 +1,83 @@
 -- from what was read to the sums
-use Rattle.std.proofs.Common.{◌≡◌, ◌<◌, ◌*◌, ℕ, List, map, IfErr, IfOk, arith, mul-pos, subst}
-use Rattle.tor_lane.specs.Lane.{put_by}
-use Rattle.tor_engine.specs.Streams.{AreSumsOfReaders, GiveContents, IsFaultOfReaders}
-use Rattle.tor_engine.specs.steps.Cuts.{PutsContents}
-use Rattle.tor_engine.proofs.FileHashes.{some_piece}
+use Rattle.std.proofs.Common.{◌≡◌, ◌*◌, ℕ, List, Option, Some, map, Result, Ok, Err, IfOk, IfErr, mul_comm}
+use Rattle.std.specs.Prelude.{MatchResult}
+use Rattle.tor_tree.specs.declared.kinds.Kind.{Kind}
+use Rattle.tor_engine.specs.Streams.{AreSumsOfContents, AreSumsOfReaders, GiveContents, IsFaultOfReaders}
+use Rattle.tor_engine.specs.declared.errors.EngineError.{EngineError}
+use Rattle.tor_engine.specs.declared.sums.Sums.{Sums}
+use Rattle.tor_engine.proofs.FedLanes.{SumUp, answers, some_unit, was_put}
 use Rattle.tor_engine.proofs.Readers.{told_sums}
 use Rattle.tor_engine.proofs.streams.hash_streams_with.Goals as goal
 
+summed_up : (kind : Kind) (p : ℕ) (known : List (Option (List ℕ))) (sums : Sums)
+    → SumUp kind p (GiveContents known) sums → AreSumsOfReaders kind p known sums
+summed_up kind p known sums is = record { contents = is.0; given = is.1; small = is.2; sums_up = is.3 }
+
+module _ {F : Type 0} (kind : Kind) (p : ℕ) (known : List (Option (List ℕ))) where
+  abbrev Answers : Result Sums (EngineError F) → Type 0
+  Answers answer = MatchResult answer (SumUp kind p (GiveContents known)) (IsFaultOfReaders known)
+
+  summed : (answer : Result Sums (EngineError F)) → Answers answer → IfOk answer (AreSumsOfReaders kind p known)
+  summed (Ok sums) is = summed_up kind p known sums is
+  summed (Err fault) is = tt
+
+  told : (contents : List (List ℕ)) → known ≡ map Some contents → (answer : Result Sums (EngineError F))
+      → Answers answer → IfOk answer (AreSumsOfContents kind p contents)
+  told contents same (Ok sums) is = told_sums kind p known sums (summed_up kind p known sums is) contents same
+  told contents same (Err fault) is = tt
+
+  stopped : (answer : Result Sums (EngineError F)) → Answers answer → IfErr answer (IsFaultOfReaders known)
+  stopped (Ok sums) is = tt
+  stopped (Err fault) is = is
+
 pub open-requires-clause-some : goal.open-requires-clause-some
-open-requires-clause-some g c =
-    let kind = c.args.kind in
-    let p = c.args.piece_length in
-    let cut = c.requires.cut in
-    let some : 0 < p * c.args.span = mul-pos (some_piece kind p cut.pieces) (omega (arith, cut.is_span.1)) in
-    some
+open-requires-clause-some g c = some_unit c.args.kind c.args.piece_length c.args.span c.requires.cut
 
 pub feed_readers-requires-clause-ready : goal.feed_readers-requires-clause-ready
 feed_readers-requires-clause-ready g c κs within =
     let kind = c.args.kind in
     let p = c.args.piece_length in
-    let cut = c.requires.cut in
-    let some : 0 < p * c.args.span = mul-pos (some_piece kind p cut.pieces) (omega (arith, cut.is_span.1)) in
-    (p * c.args.span, some, c.in_ok-cutter.ensures.ready kind p)
+    (p * c.args.span, some_unit kind p c.args.span c.requires.cut, c.in_ok-cutter.ensures.ready kind p)
 
 pub feed_readers-requires-clause-workers : goal.feed_readers-requires-clause-workers
 feed_readers-requires-clause-workers g c κs within = c.in_ok-cutter.ensures.workers c.args.kind c.args.piece_length
 
-pub sums_of_taken-requires-clause-ended : goal.sums_of_taken-requires-clause-ended
-sums_of_taken-requires-clause-ended g c =
-    let kind = c.args.kind in
-    let p = c.args.piece_length in
-    let cut = c.requires.cut in
-    let some : 0 < p * c.args.span = mul-pos (some_piece kind p cut.pieces) (omega (arith, cut.is_span.1)) in
-    let fed = c.in_ok-fed.ensures (p * c.args.span) some (c.in_ok-cutter.ensures.ready kind p) in
-    fed.ended
+pub sums_of_fed-requires-clause-cut : goal.sums_of_fed-requires-clause-cut
+sums_of_fed-requires-clause-cut g c = (c.args.span, c.requires.cut, mul_comm c.args.piece_length c.args.span)
 
-pub sums_of_taken-requires-clause-parted : goal.sums_of_taken-requires-clause-parted
-sums_of_taken-requires-clause-parted g c =
+pub sums_of_fed-requires-clause-ended : goal.sums_of_fed-requires-clause-ended
+sums_of_fed-requires-clause-ended g c =
     let kind = c.args.kind in
     let p = c.args.piece_length in
-    let cut = c.requires.cut in
-    let some : 0 < p * c.args.span = mul-pos (some_piece kind p cut.pieces) (omega (arith, cut.is_span.1)) in
-    let fed = c.in_ok-fed.ensures (p * c.args.span) some (c.in_ok-cutter.ensures.ready kind p) in
-    c.in_ok-takers.ensures kind p c.in_ok-fed.fed.feeder fed.done
+    let some = some_unit kind p c.args.span c.requires.cut in
+    (c.in_ok-fed.ensures (p * c.args.span) some (c.in_ok-cutter.ensures.ready kind p)).ended
 
-pub sums_of_taken-requires-clause-put : goal.sums_of_taken-requires-clause-put
-sums_of_taken-requires-clause-put g c =
+pub sums_of_fed-requires-clause-done : goal.sums_of_fed-requires-clause-done
+sums_of_fed-requires-clause-done g c =
     let kind = c.args.kind in
     let p = c.args.piece_length in
-    let cut = c.requires.cut in
-    let some : 0 < p * c.args.span = mul-pos (some_piece kind p cut.pieces) (omega (arith, cut.is_span.1)) in
-    let fed = c.in_ok-fed.ensures (p * c.args.span) some (c.in_ok-cutter.ensures.ready kind p) in
-    let put = subst (λ read. IfOk read (λ lengths. (contents : List (List ℕ)) × GiveContents (map g.R.Read.remaining c.args.readers.items) contents
-    × PutsContents kind p (p * c.args.span) contents lengths.items (put_by c.in_ok-fed.fed.feeder))) c.in-Ok.is fed.put in
-    (put.0, put.2)
+    let some = some_unit kind p c.args.span c.requires.cut in
+    (c.in_ok-fed.ensures (p * c.args.span) some (c.in_ok-cutter.ensures.ready kind p)).done
 
-pub returns-in-Err-clause-fault : goal.returns-in-Err-clause-fault
-returns-in-Err-clause-fault g c =
+pub sums_of_fed-requires-clause-put : goal.sums_of_fed-requires-clause-put
+sums_of_fed-requires-clause-put g c =
     let kind = c.args.kind in
     let p = c.args.piece_length in
-    let cut = c.requires.cut in
-    let some : 0 < p * c.args.span = mul-pos (some_piece kind p cut.pieces) (omega (arith, cut.is_span.1)) in
-    let fed = c.in_ok-fed.ensures (p * c.args.span) some (c.in_ok-cutter.ensures.ready kind p) in
-    subst (λ read. IfErr read (IsFaultOfReaders (map g.R.Read.remaining c.args.readers.items))) c.in-Err.is fed.stopped
+    let some = some_unit kind p c.args.span c.requires.cut in
+    was_put kind p (p * c.args.span) _ _ c.in_ok-fed.fed
+    (c.in_ok-fed.ensures (p * c.args.span) some (c.in_ok-cutter.ensures.ready kind p))
 
 pub returns : goal.returns
 returns g c =
     let kind = c.args.kind in
     let p = c.args.piece_length in
-    let cut = c.requires.cut in
-    let some : 0 < p * c.args.span = mul-pos (some_piece kind p cut.pieces) (omega (arith, cut.is_span.1)) in
-    let fed = c.in_ok-fed.ensures (p * c.args.span) some (c.in_ok-cutter.ensures.ready kind p) in
-    let put = subst (λ read. IfOk read (λ lengths. (contents : List (List ℕ)) × GiveContents (map g.R.Read.remaining c.args.readers.items) contents
-    × PutsContents kind p (p * c.args.span) contents lengths.items (put_by c.in_ok-fed.fed.feeder))) c.in-Ok.is fed.put in
+    let some = some_unit kind p c.args.span c.requires.cut in
     let known = map g.R.Read.remaining c.args.readers.items in
-    let summed : AreSumsOfReaders kind p known c.in_ok-sums.sums = record {
-      contents = put.0;
-      given = put.1;
-      small = put.2.small;
-      sums_up = c.in_ok-sums.ensures put.0 put.2;
-    } in
+    let fed = c.in_ok-fed.ensures (p * c.args.span) some (c.in_ok-cutter.ensures.ready kind p) in
+    let is = answers kind p (p * c.args.span) _ _ c.in_ok-fed.fed fed c.in_ok-summed.summed
+    c.in_ok-summed.ensures.summed in
     record {
-      summed = summed;
-      told = λ contents is. told_sums kind p known c.in_ok-sums.sums summed contents is;
-      fault = tt;
+      summed = summed kind p known c.in_ok-summed.summed is;
+      told = λ contents same. told kind p known contents same c.in_ok-summed.summed is;
+      fault = stopped kind p known c.in_ok-summed.summed is;
     }

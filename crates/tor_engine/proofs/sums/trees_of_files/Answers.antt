@@ -1,9 +1,7 @@
 -- one file more
-use Rattle.std.proofs.Common.{◌≡◌, ◌<◌, ℕ, ◌+◌, ◌*◌, ◌^◌, min, List, [], ◌∷◌, ◌++◌, length, map, take, drop, get_or}
-use Rattle.std.proofs.Common.{arith}
-use Rattle.std.proofs.Common.{ap, sym}
+use Rattle.std.proofs.Common.{◌≡◌, ◌<◌, ◌+◌, ◌*◌, ◌^◌, min, [], ◌∷◌, length, map, take, drop, get_or, arith, ap, sym}
 use Rattle.std.proofs.Common.{◌∙◌}
-use Rattle.std.proofs.lemmas.List.{drop-drop, drop_more, get_or-map, length-map, map-append, map_more}
+use Rattle.std.proofs.lemmas.List.{drop-drop, drop_more, get_or-map, length-map, map-append}
 use Rattle.std.specs.Int.{div_ceil}
 use Rattle.tor_merkle.specs.Layer.{piece_layer, root_of}
 use Rattle.tor_plan.specs.Forest.{trees_from}
@@ -11,15 +9,10 @@ use Rattle.tor_engine.specs.Sums.{lists_of}
 use Rattle.tor_engine.specs.steps.Hashes.{nodes_of_file}
 use Rattle.tor_engine.specs.steps.Roots.{roots_of_trees}
 use Rattle.tor_engine.specs.steps.Run.{node_in}
-use Rattle.tor_engine.proofs.ByFile.{enough_nodes, later_nodes, one_cut, own_nodes}
+use Rattle.tor_engine.proofs.ByFile.{enough_nodes, later_nodes, map_next, one_cut, own_nodes}
 use Rattle.tor_engine.proofs.FileNodes.{count_of_nodes, units_counted}
 use Rattle.tor_engine.proofs.TreeRoots.{layer_of_own, next_root}
 use Rattle.tor_engine.proofs.sums.trees_of_files.Goals as goal
-
--- a function of each file, one more
-map_next : {Y : Type 0} (f : List ℕ → Y) (xs : List (List ℕ)) (ys : List Y) (y : Y) (i : ℕ) → i < length xs
-    → ys ≡ map f (take i xs) → y ≡ f (get_or xs i []) → ys ++ y ∷ [] ≡ map f (take (i + 1) xs)
-map_next f xs ys y i there all one = rw (all, one) (sym (map_more f xs i [] there))
 
 pub files-preserved : goal.files-preserved
 files-preserved c = λ p size contents long cut all trees.

@@ -1,5 +1,6 @@
 -- what was taken so far
 use Rattle.std.proofs.Common.{◌+◌, ◌-◌, length}
+use Rattle.std.specs.Option.{ForSome}
 use Rattle.tor_board.specs.Seats.{IsSeatOf, knows}
 use Rattle.tor_engine.specs.steps.Worker.{IsFresh}
 use Rattle.tor_engine.proofs.ClaimedUnits.{IsTaking}
@@ -9,7 +10,7 @@ abbrev pub invariant-claims : goal.invariant-claims
 invariant-claims g l =
     let w = g.W.UnitWork in record {
       board : IsSeatOf l.board l.seat;
-      fresh : IsFresh (w.plan l.work) l.worker;
+      fresh : ForSome l.worker (IsFresh (w.plan l.work));
       taking : IsTaking (w.number_in l.work) (w.hash_in l.work) (w.sums_up l.work) (w.is_steady l.work)
           (w.fault l.work) (w.gave l.work) l.units (knows l.fn.seat) (knows l.seat) l.taken;
     }

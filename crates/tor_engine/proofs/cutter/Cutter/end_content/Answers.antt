@@ -1,7 +1,7 @@
 -- the content is closed
 use Rattle.std.proofs.Common.{◌≡◌, true, false, arith, refl, ap, sym, ◌∙◌}
 use Rattle.tor_engine.specs.steps.Cuts.{zeros_between}
-use Rattle.tor_engine.proofs.Cutting.{content_ends, content_stays}
+use Rattle.tor_engine.proofs.CutEnds.{content_ends, content_stays}
 use Rattle.tor_engine.proofs.cutter.Cutter.end_content.Goals as goal
 
 pub returns-then-not-has_v2-clause-ended : goal.returns-then-not-has_v2-clause-ended

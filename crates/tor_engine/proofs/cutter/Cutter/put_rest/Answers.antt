@@ -1,6 +1,6 @@
 -- all was put
 use Rattle.std.proofs.Common.{[]}
-use Rattle.tor_engine.proofs.Cutting.{all_end}
+use Rattle.tor_engine.proofs.CutEnds.{all_end}
 use Rattle.tor_engine.proofs.cutter.Cutter.put_rest.Goals as goal
 
 pub returns-clause-put : goal.returns-clause-put
