@@ -270,20 +270,27 @@ def recheck(rng, program, place, text, contents, content, single):
     torrent = judge(text)
     file = place / 'torrent'
     file.write_bytes(text)
-    expect_marks(program, file, content, torrent, contents)
+    expect_found(rng, program, file, content, torrent, contents)
     paths = [None] if single else [os.path.join(os.fsencode(content), *file.path)
                                    for file in reference.view_files(torrent)]
     contents = list(contents)
     for _ in range(rng.randint(1, 3)):
         i = rng.randrange(len(paths))
         contents[i] = damage(rng, os.fsencode(content) if single else paths[i], contents[i])
-    expect_marks(program, file, content, torrent, contents)
+    expect_found(rng, program, file, content, torrent, contents)
 
 
-def expect_marks(program, file, content, torrent, contents):
+def expect_found(rng, program, file, content, torrent, contents):
+    """The pieces that are told, and with some options the files; by some number of workers."""
     marks = reference.marks_of(torrent, contents)
-    wanted = done(reference.recheck_lines(marks), 0 if all(marks) else 1)
-    expect(program, ['recheck', str(file), str(content)], wanted)
+    status, lines = 0 if all(marks) else 1, reference.recheck_lines(marks)
+    found = reference.files_found(torrent, contents)
+    bad = reference.not_whole(found)
+    options, out = rng.choice([([], lines), (['--files'], lines + reference.found_lines(found)),
+                               (['--bad'], lines + reference.found_lines(bad)),
+                               (['--bad', '--null'], reference.ended_paths(file.path for file in bad))])
+    workers = rng.choice([[], [], ['--workers', str(rng.randint(1, 64))], ['--workers', 'auto']])
+    expect(program, ['recheck', *options, *workers, str(file), str(content)], done(out, status))
 
 
 def damage(rng, path, content):

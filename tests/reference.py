@@ -706,6 +706,58 @@ def recheck_lines(marks):
     return b'pieces %d of %d\nbits %s\n' % (sum(marks), len(marks), bits.hex().encode())
 
 
+# Which pieces have bytes of a file, and what is told of it.
+
+def spans_of(torrent):
+    """The numbers of the pieces that have bytes of each file, in the torrent's order."""
+    spans, p, start = [], torrent.piece_length, 0
+    if torrent.has_tree:
+        for file in view_files(torrent):
+            count = piece_count(file.length, p)
+            spans.append(range(start, start + count))
+            start += count
+        return spans
+    for _, length, is_padding in torrent.entries:
+        if not is_padding:
+            spans.append(range(start // p, (start + length - 1) // p + 1) if length else range(0))
+        start += length
+    return spans
+
+
+FileFound = namedtuple('FileFound', 'state good pieces there told path')
+
+
+def files_found(torrent, contents):
+    """What is told of each file; where there is a tree, by the tree alone."""
+    marks = (tree_marks if torrent.has_tree else list_marks)(torrent, contents)
+    found = []
+    for file, span, content in zip(view_files(torrent), spans_of(torrent), contents, strict=True):
+        good = sum(marks[i] for i in span)
+        there = None if content is None else len(content)
+        state = ('missing' if there is None else 'short' if there < file.length else 'bad' if good < len(span)
+                 else 'whole')
+        found.append(FileFound(state, good, len(span), there, file.length, file.path))
+    return found
+
+
+def found_line(found):
+    there = b'-' if found.there is None else b'%d' % found.there
+    return b'%s %d %d %s %d %s\n' % (found.state.encode(), found.good, found.pieces, there, found.told,
+                                     b'/'.join(escaped(name) for name in found.path))
+
+
+def found_lines(found):
+    return b''.join(found_line(file) for file in found)
+
+
+def not_whole(found):
+    return [file for file in found if file.state != 'whole']
+
+
+def ended_paths(paths):
+    return b''.join(b'/'.join(path) + b'\0' for path in paths)
+
+
 # Proofs of pieces.
 
 def prove(torrent, number, index):

@@ -3,6 +3,7 @@ bytes, so that their hashes are known without hashing all of them."""
 import hashlib
 import os
 import random
+import subprocess
 
 import reference
 from foreign import wanted_lines
@@ -282,6 +283,40 @@ def test_folder_of_12000_files(program, folder):
     view = reference.view_files(judge(wanted))
     marks = [file.path != (b'7', b'7') for file in view]
     expect(program, ['recheck', str(torrent), str(place)], done(reference.recheck_lines(marks), 1))
+
+
+def test_three_of_200000_files(program, folder):
+    """Three of so many are damaged, and are fetched again by a line of shell."""
+    place, copy = folder / 'files', folder / 'damaged'
+    files = [((b'%d' % (i // 1000), b'%d' % (i % 1000)), b'%d' % i) for i in range(200_000)]
+    for i in range(200):
+        (place / str(i)).mkdir(parents=True)
+    for (above, name), content in files:
+        (place / above.decode() / name.decode()).write_bytes(content)
+    torrent = folder / 'torrent'
+    torrent.write_bytes(make(files, order('v2', False)))
+    subprocess.run(['cp', '-al', place, copy], check=True)
+    for name, damaged in [('0/0', b'1'), ('77/7', b''), ('199/999', None)]:
+        (copy / name).unlink()
+        if damaged is not None:
+            (copy / name).write_bytes(damaged)
+    told = judge(torrent.read_bytes())
+    contents = {path: content for path, content in files}
+    contents |= {(b'0', b'0'): b'1', (b'77', b'7'): b'', (b'199', b'999'): None}
+    inside = [contents[tuple(file.path)] for file in reference.view_files(told)]
+    found = reference.files_found(told, inside)
+    lines = reference.recheck_lines(reference.marks_of(told, inside))
+    bad = reference.not_whole(found)
+    expect_equal('the damaged ones', [b'0/0', b'199/999', b'77/7'], [b'/'.join(file.path) for file in bad])
+    words = [str(torrent), str(copy)]
+    expect(program, ['recheck', '--files', *words], done(lines + reference.found_lines(found), 1))
+    expect(program, ['recheck', '--bad', *words], done(lines + reference.found_lines(bad), 1))
+    fetch = f"cd {place}; {program} recheck --bad --null {' '.join(words)} | xargs -0 cp --parents -t {copy} --"
+    subprocess.run(['bash', '-c', fetch], check=True)
+    expect(program, ['recheck', *words], done(reference.recheck_lines([True] * 200_000)))
+    expect(program, ['recheck', '--bad', '--null', *words], done())
+    expect(program, ['check', '--null', str(torrent)],
+           done(reference.ended_paths(file.path for file in reference.view_files(told))))
 
 
 def test_foreign_torrents_of_110000_entries(program, folder):

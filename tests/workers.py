@@ -81,12 +81,38 @@ def test_behind_standard_input(program, folder):
         ('streams', 1, 2, few), ('streams', 3, 4, few), ('one', 3, 1, few), ('board', 3, 1, few)], True)
 
 
-def test_a_recheck_has_four(program, folder):
+def torrent_of_zeros(folder):
+    """The words of a recheck of a file of zeros."""
     path, torrent = sparse(folder, SIZE), folder / 'torrent'
     pieces = sha1(bytes(PIECE_LENGTH)) * (SIZE // PIECE_LENGTH)
     torrent.write_bytes(encode({b'info': {b'length': SIZE, b'name': b'sparse', b'piece length': PIECE_LENGTH,
                                           b'pieces': pieces}}))
-    most, worked, ended = watch(program, ['recheck', str(torrent), path])
-    if (most, worked) != (4, 4):
-        raise Failure(f'a recheck\nwanted  4 threads, all of which work\ncame    {most}, of which {worked} worked')
-    expect_equal('status and standard error', (0, b''), ended)
+    return [str(torrent), path]
+
+
+def test_a_recheck_has_four(program, folder):
+    """Where no number is given; and as many as are asked for."""
+    words = torrent_of_zeros(folder)
+    for options, wanted in [([], 4), (['--files'], 4), (['--workers', '1'], 1), (['--workers=7'], 7)]:
+        most, worked, ended = watch(program, ['recheck', *options, *words])
+        if (most, worked) != (wanted, wanted):
+            raise Failure(f'a recheck {options}\nwanted  {wanted} threads, all of which work\n'
+                          f'came    {most}, of which {worked} worked')
+        expect_equal('status and standard error', (0, b''), ended)
+
+
+def test_as_many_as_processors(program, folder):
+    """`auto` is as many workers as the program may use processors; without a file to share, and with one, nothing."""
+    processors = sorted(os.sched_getaffinity(0))
+    torrent, path = torrent_of_zeros(folder)
+    for wanted in sorted({1, 2, len(processors)} & set(range(1, len(processors) + 1))):
+        for words, most in [(['recheck', '--workers', 'auto', torrent, path], wanted),
+                            (['make', '--name', 'a', '--how', 'board', '--workers', 'auto', path], wanted),
+                            (['make', '--name', 'a', '--how', 'halves', '--workers=auto', path], wanted),
+                            (['make', '--name', 'a', '--how', 'streams', '--workers', 'auto', path], wanted + 1),
+                            (['make', '--name', 'a', '--how', 'one', '--workers', 'auto', path], 1)]:
+            few = ','.join(map(str, processors[:wanted]))
+            came, _, ended = watch('taskset', ['-c', few, program, *words])
+            if came != most:
+                raise Failure(f'{" ".join(words)}, on {wanted} processors\nwanted  {most} threads\ncame    {came}')
+            expect_equal('status and standard error', (0, b''), ended)

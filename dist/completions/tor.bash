@@ -5,17 +5,20 @@ _tor_options() {
     case $1 in
         '') echo '-h --help -V --version' ;;
         make) echo '--name --piece-length --kind --announce --private --how --workers --span --out -h --help' ;;
+        check) echo '--null -h --help' ;;
+        recheck) echo '--files --bad --null --workers -h --help' ;;
         *) echo '-h --help' ;;
     esac
 }
 
-# What an option of make has for a value: words, `files`, or `any`. Nothing where it has none.
+# What an option has for a value: words, `files`, or `any`. Nothing where it has none.
 _tor_value() {
     case $1 in
         --kind) echo 'v1 v2 hybrid' ;;
         --how) echo 'one halves board streams' ;;
         --out) echo files ;;
-        --name | --piece-length | --announce | --workers | --span) echo any ;;
+        --workers) echo auto ;;
+        --name | --piece-length | --announce | --span) echo any ;;
     esac
 }
 
@@ -46,7 +49,7 @@ _tor() {
             continue
         elif [[ -n $option ]]; then
             option=''
-        elif [[ $command == make && -n $(_tor_value "$before") ]]; then
+        elif [[ -n $command && -n $(_tor_value "$before") ]]; then
             option=$before
         elif [[ $before == -* ]]; then
             continue

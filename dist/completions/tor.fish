@@ -25,10 +25,16 @@ complete -c tor -n '__fish_seen_subcommand_from make' -l kind -x -a 'v1 v2 hybri
 complete -c tor -n '__fish_seen_subcommand_from make' -l announce -x -d 'the URL of the tracker'
 complete -c tor -n '__fish_seen_subcommand_from make' -l private -d 'peers are to come from the tracker alone'
 complete -c tor -n '__fish_seen_subcommand_from make' -l how -x -a 'one halves board streams' -d 'who hashes the files'
-complete -c tor -n '__fish_seen_subcommand_from make' -l workers -x -d 'how many workers share the hashing'
+complete -c tor -n '__fish_seen_subcommand_from make' -l workers -x -a auto -d 'how many workers share the hashing'
 complete -c tor -n '__fish_seen_subcommand_from make' -l span -x -d 'pieces that a worker takes at a time'
 complete -c tor -n '__fish_seen_subcommand_from make' -l out -r -F -d 'the file that the torrent goes to'
 complete -c tor -n '__fish_seen_subcommand_from make' -F
+
+complete -c tor -n '__fish_seen_subcommand_from check' -l null -d 'paths alone, each ended by a zero byte'
+complete -c tor -n '__fish_seen_subcommand_from recheck' -l files -d 'tell of each file'
+complete -c tor -n '__fish_seen_subcommand_from recheck' -l bad -d 'tell of each file that is not whole'
+complete -c tor -n '__fish_seen_subcommand_from recheck' -l null -d 'with --bad, paths alone, each ended by a zero byte'
+complete -c tor -n '__fish_seen_subcommand_from recheck' -l workers -x -a auto -d 'how many workers hash'
 
 complete -c tor -n '__tor_at check 2' -F
 complete -c tor -n '__tor_at magnet 2' -F

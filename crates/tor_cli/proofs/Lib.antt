@@ -1,3 +1,4 @@
+pub mod BoundFlags
 pub mod Doing
 pub mod Escapes
 pub mod FoundTexts
@@ -5,6 +6,7 @@ pub mod HashDigits
 pub mod Judging
 pub mod Lines
 pub mod Numerals
+pub mod Pairs
 pub mod PathTexts
 pub mod PlainLines
 pub mod Proofs

@@ -1,5 +1,5 @@
 -- The command line, as the kit's `clap` has one: options that are told apart by their names.
-use Rattle.std.specs.Prelude.{◌≡◌, ℕ, pos, true, List, [], ◌∷◌, map, Some, codes}
+use Rattle.std.specs.Prelude.{◌≡◌, ℕ, pos, true, false, List, [], ◌∷◌, map, Some, codes}
 use Rattle.clap.specs.Words.{App, Rule, new_app, new_rule, with_rule, with_subcommand}
 use Rattle.clap.specs.Simple.{on_top}
 use Rattle.clap.specs.declared.builder.action.ArgAction.TheVariants.{SetTrue}
@@ -35,8 +35,12 @@ AreKinds = AreWords (codes "v1" ∷ codes "v2" ∷ codes "hybrid" ∷ [])
 abbrev pub announce_option : Rule
 announce_option = option_of (codes "announce")
 
+-- an option without a value
+abbrev pub flag_of : List ℕ → Rule
+flag_of name = record (new_rule name) { long = Some name; action = Some SetTrue }
+
 abbrev pub private_option : Rule
-private_option = record (new_rule (codes "private")) { long = Some (codes "private"); action = Some SetTrue }
+private_option = flag_of (codes "private")
 
 abbrev pub how_option : ValueParser → Rule
 how_option hows = record (option_of (codes "how")) { parser = Some hows; defaults = codes "one" ∷ [] }
@@ -45,13 +49,11 @@ how_option hows = record (option_of (codes "how")) { parser = Some hows; default
 abbrev pub AreHows : ValueParser → Type 0
 AreHows = AreWords (codes "one" ∷ codes "halves" ∷ codes "board" ∷ codes "streams" ∷ [])
 
--- numbers of 32 bits
-abbrev pub workers_option : Rule
-workers_option = record (option_of (codes "workers")) {
-  parser = Some (Signed (pos 0) (pos 4294967295));
-  defaults = codes "1" ∷ [];
-}
+-- a number of workers, or `auto`
+abbrev pub workers_option : List ℕ → Rule
+workers_option default = record (option_of (codes "workers")) { defaults = default ∷ [] }
 
+-- a number of 32 bits
 abbrev pub span_option : Rule
 span_option = record (option_of (codes "span")) {
   parser = Some (Signed (pos 0) (pos 4294967295));
@@ -77,7 +79,7 @@ with_torrent kinds app = with_rules app
 -- who hashes, where the torrent goes, and where the files are
 abbrev pub with_ways : ValueParser → App → App
 with_ways hows app = with_rules app
-    (how_option hows ∷ workers_option ∷ span_option ∷ out_option ∷ path_argument ∷ [])
+    (how_option hows ∷ workers_option (codes "1") ∷ span_option ∷ out_option ∷ path_argument ∷ [])
 
 abbrev pub make_app : ValueParser → ValueParser → App
 make_app kinds hows = with_ways hows (with_torrent kinds (new_app (codes "make")))
@@ -103,8 +105,17 @@ verify_app = with_rules (new_app (codes "verify"))
     (argument_of (codes "root") 1 ∷ argument_of (codes "length") 2 ∷ argument_of (codes "piece-length") 3
     ∷ argument_of (codes "proof") 4 ∷ [])
 
+abbrev pub check_app : App
+check_app = with_rules (new_app (codes "check")) (flag_of (codes "null") ∷ argument_of (codes "file") 1 ∷ [])
+
+-- an option without a value that stands beside another alone
+abbrev pub flag_beside : List ℕ → Rule
+flag_beside name = record (flag_of name) { is_free = false }
+
 abbrev pub recheck_app : App
-recheck_app = with_rules (new_app (codes "recheck")) (argument_of (codes "file") 1 ∷ argument_of (codes "path") 2 ∷ [])
+recheck_app = with_rules (new_app (codes "recheck"))
+    (flag_of (codes "files") ∷ flag_of (codes "bad") ∷ flag_beside (codes "null") ∷ workers_option (codes "4")
+    ∷ argument_of (codes "file") 1 ∷ argument_of (codes "path") 2 ∷ [])
 
 abbrev pub with_commands : App → List App → App
 with_commands app [] = app
@@ -115,5 +126,5 @@ abbrev pub tor_app : ValueParser → ValueParser → App
 tor_app kinds hows =
     with_commands
     (on_top (λ shape. record shape { has_version = true; subcommand_required = true }) (new_app (codes "tor")))
-    (make_app kinds hows ∷ file_app (codes "check") ∷ file_app (codes "magnet") ∷ prove_app ∷ verify_app
+    (make_app kinds hows ∷ check_app ∷ file_app (codes "magnet") ∷ prove_app ∷ verify_app
     ∷ recheck_app ∷ [])

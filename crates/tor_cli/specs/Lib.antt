@@ -1,6 +1,7 @@
 pub mod CommandLine
 pub mod Escape
 pub mod Foreign
+pub mod FoundFiles
 pub mod Place
 pub mod ProgressLine
 pub mod ProofText

@@ -1,13 +1,16 @@
--- What the program prints of the pieces of a torrent: which are there and right. No contract says which bytes a file
--- of the system has, so a clause speaks of some bytes, those that the program took for FILE's, and of some bits, those
--- that were answered of the torrent's pieces, one for each.
+-- What the program prints of the pieces and the files of a torrent: which are there and right. No contract says which
+-- bytes a file of the system has, so a clause speaks of some bytes, those that the program took for FILE's, of some
+-- bits, those that were answered of the torrent's pieces, one for each, and of what was answered of each file.
 use Rattle.std.specs.Prelude.{◌≡◌, ◌≢◌, ◌⊎◌, ◌==◌, ℕ, Bool, List, [], ◌∷◌, ◌++◌, length, map, decimal, codes}
 use Rattle.std.specs.Io.KnownBytes.{Appends}
 use Rattle.std.specs.declared.io.Error.{Error}
 use Rattle.hex.specs.Hex.{encode_lower}
 use Rattle.tor_check.specs.Valid.{IsTold}
+use Rattle.tor_engine.specs.How.{IsHow}
+use Rattle.tor_engine.specs.declared.how.How.TheVariants.{Board}
 use Rattle.tor_recheck.specs.Bitfield.{bitfield, set_count}
 use Rattle.tor_recheck.specs.Recheck.{IsGiven}
+use Rattle.tor_recheck.specs.declared.files.FileFound.{FileFound}
 use Rattle.tor_recheck.specs.declared.errors.RecheckError.{RecheckError}
 use Rattle.tor_recheck.specs.declared.errors.RecheckError.TheVariants as rechecks
 use Rattle.tor_source.specs.Places.{place_of}
@@ -15,12 +18,16 @@ use Rattle.tor_source.specs.declared.faults.ScanFault.{ScanFault}
 use Rattle.tor_source.specs.declared.faults.ScanFault.TheVariants as scans
 use Rattle.tor_spec.specs.valid.View.{View}
 use Rattle.tor_cli.specs.Foreign.{IsNoTorrent, OfSome}
+use Rattle.tor_cli.specs.FoundFiles.{told_of_files}
 use Rattle.tor_meta.specs.FromInput.{IsFront}
 use Rattle.tor_cli.specs.Place.{IsFileEnd, IsFileFault, IsFileSize}
 use Rattle.tor_cli.specs.Proving.{answer_of}
 use Rattle.tor_cli.specs.Streams.{IsUntouched, Streams}
 use Rattle.tor_cli.specs.declared.answer.Answer.{Answer}
 use Rattle.tor_cli.specs.declared.fault.Fault.{Fault}
+use Rattle.tor_cli.specs.declared.listing.Listing.{Listing}
+use Rattle.tor_cli.specs.declared.listing.Listing.TheVariants.{Pieces, BadPaths}
+use Rattle.tor_cli.specs.declared.recheck_words.RecheckOptions.{RecheckOptions}
 use Rattle.tor_cli.specs.declared.fault.Fault.TheVariants.{Scan, Refused, Recheck, Read, TooLong, Write, Resources}
 
 -- how many pieces are there and right, of how many, and a line with the digits of the bitfield
@@ -34,10 +41,25 @@ recheck_text bits =
 abbrev pub recheck_answer : List Bool → Answer
 recheck_answer bits = answer_of (set_count bits == length bits)
 
--- this is printed of these bits
-pub record IsReport (bits : List Bool) (text : List ℕ) (answer : Answer) : Type 0 where
-  pub printed : text ≡ recheck_text bits
+-- the same; nothing where paths alone are asked for
+abbrev pub pieces_text : Listing → List Bool → List ℕ
+pieces_text BadPaths bits = []
+pieces_text other bits = recheck_text bits
+
+-- what is told of the pieces, and then of the files
+abbrev pub report_text : Listing → View → List Bool → List FileFound → List ℕ
+report_text listing view bits found = pieces_text listing bits ++ told_of_files listing found view.files
+
+-- this is printed of these bits and these files
+pub record IsReport (listing : Listing) (view : View) (bits : List Bool) (found : List FileFound) (text : List ℕ)
+    (answer : Answer) : Type 0 where
+  pub printed : text ≡ report_text listing view bits found
   pub answered : answer ≡ recheck_answer bits
+
+-- of each file is told, where any is listed
+abbrev pub IsOfEach : Listing → View → List FileFound → Type 0
+IsOfEach Pieces view found = found ≡ []
+IsOfEach other view found = length found ≡ length view.files
 
 -- where the torrent's files are looked for: its one file at the place itself, or each below the place
 abbrev pub ArePlaces : List ℕ → View → List (List ℕ) → Type 0
@@ -50,44 +72,56 @@ IsNoPlace view scans.System = length view.files ≢ 1
 IsNoPlace view scans.Memory = Unit {0}
 IsNoPlace view other = ⊥
 
--- the bytes are a torrent, and this is printed of some bits, one for each of its pieces
-pub record IsRechecked (bytes text : List ℕ) (answer : Answer) : Type 0 where
-  pub view : View
-  pub torrent : IsTold bytes view
+-- this is printed of some bits, one for each piece, and of something told of each file, where any is listed
+pub record IsReportOn (listing : Listing) (view : View) (text : List ℕ) (answer : Answer) : Type 0 where
   pub bits : List Bool
   pub each : length bits ≡ view.piece_count
-  pub report : IsReport bits text answer
+  pub found : List FileFound
+  pub every : IsOfEach listing view found
+  pub report : IsReport listing view bits found text answer
 
--- a fault of a file that the torrent has, or want of workers or of memory
-abbrev pub IsRecheckFault : View → RecheckError Error → Type 0
-IsRecheckFault view error =
+-- the bytes are a torrent, and this is printed of it
+pub record IsRechecked (options : RecheckOptions) (bytes text : List ℕ) (answer : Answer) : Type 0 where
+  pub view : View
+  pub torrent : IsTold bytes view
+  pub allowed : IsHow (Board options.workers)
+  pub report : IsReportOn options.listing view text answer
+
+-- a fault of a file that the torrent has; or no worker, or too many
+abbrev pub IsRecheckFault : RecheckOptions → View → RecheckError Error → Type 0
+IsRecheckFault options view error =
     IsGiven (IsFileFault (length view.files)) (IsFileSize (length view.files)) IsFileEnd (length view.files) error
-    × (error ≢ rechecks.Workers) × (error ≢ rechecks.Resources)
+    × (IsHow (Board options.workers) → error ≢ rechecks.Workers) × (error ≢ rechecks.Resources)
 
 -- why nothing is printed of the bytes
-abbrev pub IsNotRechecked : List ℕ → Fault → Type 0
-IsNotRechecked bytes (Refused refusal) = IsNoTorrent bytes (Refused refusal)
-IsNotRechecked bytes (Scan fault) = (view : View) × IsTold bytes view × IsNoPlace view fault × (fault ≢ scans.Memory)
-IsNotRechecked bytes (Recheck error) = (view : View) × IsTold bytes view × IsRecheckFault view error
-IsNotRechecked bytes Resources = Unit {0}
-IsNotRechecked bytes other = ⊥
+abbrev pub IsNotRechecked : RecheckOptions → List ℕ → Fault → Type 0
+IsNotRechecked options bytes (Refused refusal) = IsNoTorrent bytes (Refused refusal)
+IsNotRechecked options bytes (Scan fault) =
+    (view : View) × IsTold bytes view × IsNoPlace view fault × (fault ≢ scans.Memory)
+IsNotRechecked options bytes (Recheck error) = (view : View) × IsTold bytes view × IsRecheckFault options view error
+IsNotRechecked options bytes Resources = Unit {0}
+IsNotRechecked options bytes other = ⊥
 
 -- a torrent was rechecked, with this answer; of the text this holds
-abbrev pub RechecksSome : Answer → (List ℕ → Type 0) → Type 0
-RechecksSome answer Holds = OfSome (λ bytes. (text : List ℕ) × IsRechecked bytes text answer × Holds text)
+abbrev pub RechecksSome : RecheckOptions → Answer → (List ℕ → Type 0) → Type 0
+RechecksSome options answer Holds =
+    OfSome (λ bytes. (text : List ℕ) × IsRechecked options bytes text answer × Holds text)
 
 -- the text, and nothing else, was written
-abbrev pub DoesRecheck : Answer → Streams → Type 0
-DoesRecheck answer s = (s.reader' ≡ s.reader) × RechecksSome answer (Appends s.writer s.writer')
+abbrev pub DoesRecheck : RecheckOptions → Answer → Streams → Type 0
+DoesRecheck options answer s = (s.reader' ≡ s.reader) × RechecksSome options answer (Appends s.writer s.writer')
 
 -- where this fault stopped it
-abbrev pub StopsRechecking : Streams → Fault → Type 0
-StopsRechecking s (Refused refusal) = OfSome (λ bytes. IsNotRechecked bytes (Refused refusal)) × IsUntouched s
-StopsRechecking s (Scan fault) = OfSome (λ bytes. IsNotRechecked bytes (Scan fault)) × IsUntouched s
-StopsRechecking s (Recheck error) = OfSome (λ bytes. IsNotRechecked bytes (Recheck error)) × IsUntouched s
-StopsRechecking s Read = IsUntouched s
-StopsRechecking s TooLong = IsUntouched s
-StopsRechecking s (Write written) = (s.reader' ≡ s.reader)
-    × ((answer : Answer) × RechecksSome answer (IsFront s.writer s.writer' written))
-StopsRechecking s Resources = IsUntouched s
-StopsRechecking s other = ⊥
+abbrev pub StopsRechecking : RecheckOptions → Streams → Fault → Type 0
+StopsRechecking options s (Refused refusal) =
+    OfSome (λ bytes. IsNotRechecked options bytes (Refused refusal)) × IsUntouched s
+StopsRechecking options s (Scan fault) =
+    OfSome (λ bytes. IsNotRechecked options bytes (Scan fault)) × IsUntouched s
+StopsRechecking options s (Recheck error) =
+    OfSome (λ bytes. IsNotRechecked options bytes (Recheck error)) × IsUntouched s
+StopsRechecking options s Read = IsUntouched s
+StopsRechecking options s TooLong = IsUntouched s
+StopsRechecking options s (Write written) = (s.reader' ≡ s.reader)
+    × ((answer : Answer) × RechecksSome options answer (IsFront s.writer s.writer' written))
+StopsRechecking options s Resources = IsUntouched s
+StopsRechecking options s other = ⊥

@@ -22,7 +22,6 @@ use Rattle.tor_cli.specs.Status.{status_of}
 use Rattle.tor_cli.specs.Streams.{IsUntouched, Streams}
 use Rattle.tor_cli.specs.Telling.{lines_of}
 use Rattle.tor_cli.specs.Words.{Asks, IsOfWords, how_of}
-use Rattle.tor_cli.specs.declared.way.Way.{Way}
 use Rattle.tor_source.specs.declared.input.TheConstants.{MAX_INPUT_LENGTH}
 use Rattle.tor_source.specs.declared.input.InputFault.{InputFault}
 use Rattle.tor_source.specs.declared.input.InputFault.TheVariants as inputs
@@ -32,7 +31,7 @@ use Rattle.tor_cli.specs.declared.answer.Answer.{Answer}
 use Rattle.tor_cli.specs.declared.answer.Answer.TheVariants.{Yes, No}
 use Rattle.tor_cli.specs.declared.command.Request.TheVariants.{Show, Make as ToMake, Check, Magnet, Prove, Verify}
 use Rattle.tor_cli.specs.declared.command.Request.TheVariants.{Recheck as ToRecheck}
-use Rattle.tor_cli.specs.declared.telling.Telling.TheVariants.{Lines, Link}
+use Rattle.tor_cli.specs.declared.telling.Telling.TheVariants.{Link}
 use Rattle.tor_cli.specs.declared.fault.Fault.{Fault}
 use Rattle.tor_cli.specs.declared.fault.Fault.TheVariants.{Usage, Name, Scan, Make, Refused, Piece, Recheck, Argument}
 use Rattle.tor_cli.specs.declared.fault.Fault.TheVariants.{Read, TooLong, Write, Resources}
@@ -157,17 +156,17 @@ StopsMake options s fault = StopsFrom (option_map (λ place. place.now) options.
 abbrev pub IsDone : Request → Streams → Type 0
 IsDone (Show text) s = (s.reader' ≡ s.reader) × Appends s.writer s.writer' (string_bytes text)
 IsDone (ToMake options) s = DoesMake options s
-IsDone (Check torrent) s = DoesTell (lines_of Lines) s
+IsDone (Check options) s = DoesTell (lines_of options.telling) s
 IsDone (Magnet torrent) s = DoesTell (lines_of Link) s
 IsDone (Prove options) s = DoesProve options s
 IsDone (Verify options) s = DoesVerify options Yes s
-IsDone (ToRecheck options) s = DoesRecheck Yes s
+IsDone (ToRecheck options) s = DoesRecheck options Yes s
 
 -- it was done with this answer; only a question is ever answered by no
 abbrev pub Does : Request → Answer → Streams → Type 0
 Does request Yes s = IsDone request s
 Does (Verify options) No s = DoesVerify options No s
-Does (ToRecheck options) No s = DoesRecheck No s
+Does (ToRecheck options) No s = DoesRecheck options No s
 Does request No s = ⊥
 
 -- where this fault stopped it
@@ -176,11 +175,11 @@ Stops (Show text) s (Write written) =
     (s.reader' ≡ s.reader) × IsFront s.writer s.writer' written (string_bytes text)
 Stops (Show text) s other = ⊥
 Stops (ToMake options) s fault = StopsMake options s fault
-Stops (Check torrent) s fault = StopsTelling (lines_of Lines) s fault
+Stops (Check options) s fault = StopsTelling (lines_of options.telling) s fault
 Stops (Magnet torrent) s fault = StopsTelling (lines_of Link) s fault
 Stops (Prove options) s fault = StopsProving options s fault
 Stops (Verify options) s fault = StopsVerifying options s fault
-Stops (ToRecheck options) s fault = StopsRechecking s fault
+Stops (ToRecheck options) s fault = StopsRechecking options s fault
 
 -- what the words ask for was done with this answer
 abbrev pub DoesAsked : List (List ℕ) → Streams → Answer → Type 0

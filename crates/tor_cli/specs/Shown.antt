@@ -1,5 +1,5 @@
 -- The lines that tell of a torrent.
-use Rattle.std.specs.Prelude.{ℕ, List, [], ◌++◌, length, flat_map, decimal, codes, Option, None, Some}
+use Rattle.std.specs.Prelude.{ℕ, List, [], ◌∷◌, ◌++◌, length, flat_map, decimal, codes, Option, None, Some}
 use Rattle.std.specs.List.{join_by}
 use Rattle.hex.specs.Hex.{encode_lower}
 use Rattle.tor_meta.specs.Hashes.{magnet_link}
@@ -12,6 +12,10 @@ use Rattle.tor_cli.specs.Words.{word_of}
 -- the names of a path, a slash between each two
 abbrev pub path_text : List (List ℕ) → List ℕ
 path_text names = join_by (λ name. name) (codes "/") names
+
+-- the path of a file as it is, and a zero byte, which no path has
+abbrev pub ended_path : TreeFile → List ℕ
+ended_path file = path_text file.path ++ 0 ∷ []
 
 -- the line of a file: its length and its path
 abbrev pub file_line : TreeFile → List ℕ
@@ -39,6 +43,10 @@ hash_lines hashes = hash_line (codes "btih ") hashes.v1 ++ hash_line (codes "btm
 abbrev pub check_lines : View → Hashes → List ℕ
 check_lines view hashes =
     head_lines view ++ (flat_map (λ shown. file_line shown.file) view.files ++ hash_lines hashes)
+
+-- what `tor check --null` prints: the paths of the files in their order, each ended
+abbrev pub ended_paths : View → List ℕ
+ended_paths view = flat_map (λ shown. ended_path shown.file) view.files
 
 -- the line of `tor magnet`
 abbrev pub magnet_line : Hashes → List ℕ

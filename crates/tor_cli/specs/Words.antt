@@ -1,7 +1,8 @@
 -- What the words of the command line ask for.
-use Rattle.std.specs.Prelude.{◌≡◌, ℕ, true, false, List, ◌++◌, Option, Some, option_map, codes, string_bytes}
+use Rattle.std.specs.Prelude.{◌≡◌, ◌⊎◌, ◌≤◌, ℕ, Bool, true, false, List, ◌++◌, Option, Some, option_map, codes, string_bytes}
 use Rattle.std.specs.Borrow.{Bor}
 use Rattle.std.specs.Str.Parse.{IsNumeral, digits_value, without_leading_plus}
+use Rattle.clap.specs.Values.{bool_text}
 use Rattle.clap.specs.Words.{Row, first_of, one_of, subcommand_of, subcommand_rows_of}
 use Rattle.clap.specs.declared.builder.value_parser.ValueParser.{ValueParser}
 use Rattle.clap.specs.declared.parser.matches.ArgMatches.{ArgMatches}
@@ -9,15 +10,21 @@ use Rattle.tor_tree.specs.declared.kinds.Kind.{Kind}
 use Rattle.tor_tree.specs.declared.kinds.Kind.TheVariants.{V1, V2, Hybrid}
 use Rattle.tor_engine.specs.declared.how.How.{How}
 use Rattle.tor_engine.specs.declared.how.How.TheVariants.{One, Halves, Board}
+use Rattle.tor_engine.specs.declared.how.TheConstants.{MAX_WORKERS}
 use Rattle.tor_cli.specs.CommandLine.{AreHows, AreKinds, tor_app}
+use Rattle.tor_cli.specs.declared.check_words.CheckOptions.{CheckOptions}
 use Rattle.tor_cli.specs.declared.command.Request.{Request}
 use Rattle.tor_cli.specs.declared.command.Request.TheVariants.{Show, Make, Check, Magnet, Prove, Verify, Recheck}
 use Rattle.tor_cli.specs.declared.fault.Fault.{Fault}
 use Rattle.tor_cli.specs.declared.fault.Fault.TheVariants.{Usage, Resources}
+use Rattle.tor_cli.specs.declared.listing.Listing.{Listing}
+use Rattle.tor_cli.specs.declared.listing.Listing.TheVariants.{Pieces, Files, BadFiles, BadPaths}
 use Rattle.tor_cli.specs.declared.options.MakeOptions.{MakeOptions}
 use Rattle.tor_cli.specs.declared.proof_words.ProveOptions.{ProveOptions}
 use Rattle.tor_cli.specs.declared.proof_words.VerifyOptions.{VerifyOptions}
 use Rattle.tor_cli.specs.declared.recheck_words.RecheckOptions.{RecheckOptions}
+use Rattle.tor_cli.specs.declared.telling.Telling.{Telling}
+use Rattle.tor_cli.specs.declared.telling.Telling.TheVariants.{Lines, Paths}
 use Rattle.tor_cli.specs.declared.way.Way.{Way}
 use Rattle.tor_cli.specs.declared.way.Way.TheVariants.{Shared, Streams}
 
@@ -50,6 +57,17 @@ how_of (Streams workers) = Board workers
 abbrev pub IsNumber : List ℕ → (ℕ → Type 0) → Type 0
 IsNumber text Holds = IsNumeral 10 (without_leading_plus text) × Holds (digits_value 10 (without_leading_plus text))
 
+-- a word asks for this number of workers: it is the number, or `auto`, of which no contract says how many processors
+-- there are
+abbrev pub AreWorkers : List ℕ → ℕ → Type 0
+AreWorkers text workers =
+    IsNumber text (λ number. workers ≡ number) ⊎ ((text ≡ codes "auto") × (1 ≤ workers) × (workers ≤ MAX_WORKERS))
+
+-- the option `--workers` asks for a number of which this holds
+abbrev pub IsWorkersIn : List Row → (ℕ → Type 0) → Type 0
+IsWorkersIn rows Holds = (text : List ℕ) × (workers : ℕ) × (first_of (codes "workers") rows ≡ Some text)
+    × AreWorkers text workers × Holds workers
+
 -- the values of the options, by their names
 pub record AreOptionsIn (rows : List Row) (options : MakeOptions) : Type 0 where
   pub kind : first_of (codes "kind") rows ≡ Some (word_of options.kind)
@@ -60,10 +78,24 @@ pub record AreOptionsIn (rows : List Row) (options : MakeOptions) : Type 0 where
   pub is_private : one_of (codes "private") rows ≡ Some (codes "true") → options.is_private ≡ true
   pub is_public : one_of (codes "private") rows ≡ Some (codes "false") → options.is_private ≡ false
   pub way : first_of (codes "how") rows ≡ Some (way_word options.way)
-  pub workers : (text : List ℕ) → one_of (codes "workers") rows ≡ Some text → IsNumber text (HasWorkers options.way)
+  pub workers : IsWorkersIn rows (HasWorkers options.way)
   pub span : (text : List ℕ) → one_of (codes "span") rows ≡ Some text → IsNumber text (λ number. options.span ≡ number)
   pub out : first_of (codes "out") rows ≡ option_map (λ place. place.now) options.out
   pub place : first_of (codes "path") rows ≡ option_map (λ place. place.now) options.place
+
+-- the flag was given, or not
+abbrev pub IsFlag : List Row → List ℕ → Bool → Type 0
+IsFlag rows name given = one_of name rows ≡ Some (bool_text given)
+
+-- what is told of a torrent, where `--null` is given or not
+abbrev pub telling_of : Bool → Telling
+telling_of true = Paths
+telling_of false = Lines
+
+-- the torrent that is judged, and what is told of it
+pub record IsCheckIn (options : CheckOptions) (rows : List Row) : Type 0 where
+  pub torrent : first_of (codes "file") rows ≡ Some options.torrent.now
+  pub telling : (null : Bool) → IsFlag rows (codes "null") null → options.telling ≡ telling_of null
 
 -- the file of a command over one torrent
 abbrev pub IsFileIn : Bor (List ℕ) → List Row → Type 0
@@ -84,10 +116,20 @@ pub record IsProofIn (options : VerifyOptions) (rows : List Row) : Type 0 where
   pub piece_length : first_of (codes "piece-length") rows ≡ Some options.piece_length.now
   pub proof : first_of (codes "proof") rows ≡ Some options.proof.now
 
--- the torrent that is rechecked, and where its files are looked for
+-- which files are listed, where `--files`, `--bad` and `--null` are each given or not
+abbrev pub listing_of : Bool → Bool → Bool → Listing
+listing_of files true true = BadPaths
+listing_of files true false = BadFiles
+listing_of true false null = Files
+listing_of false false null = Pieces
+
+-- the torrent that is rechecked, where its files are looked for, which are listed, and by how many workers
 pub record IsRecheckIn (options : RecheckOptions) (rows : List Row) : Type 0 where
   pub torrent : first_of (codes "file") rows ≡ Some options.torrent.now
   pub place : first_of (codes "path") rows ≡ Some options.place.now
+  pub listing : (files bad null : Bool) → IsFlag rows (codes "files") files → IsFlag rows (codes "bad") bad
+      → IsFlag rows (codes "null") null → options.listing ≡ listing_of files bad null
+  pub workers : IsWorkersIn rows (λ workers. options.workers ≡ workers)
 
 -- this command was found, with rows of which this holds
 abbrev pub HasRows : Option (List ℕ × List Row) → List ℕ → (List Row → Type 0) → Type 0
@@ -98,7 +140,7 @@ abbrev pub IsFoundIn : ArgMatches → Request → Type 0
 IsFoundIn matches (Show text) = Unit {0}
 IsFoundIn matches (Make options) =
     HasRows (subcommand_rows_of matches) (codes "make") (λ rows. AreOptionsIn rows options)
-IsFoundIn matches (Check torrent) = HasRows (subcommand_rows_of matches) (codes "check") (IsFileIn torrent)
+IsFoundIn matches (Check options) = HasRows (subcommand_rows_of matches) (codes "check") (IsCheckIn options)
 IsFoundIn matches (Magnet torrent) = HasRows (subcommand_rows_of matches) (codes "magnet") (IsFileIn torrent)
 IsFoundIn matches (Prove options) = HasRows (subcommand_rows_of matches) (codes "prove") (IsPieceIn options)
 IsFoundIn matches (Verify options) = HasRows (subcommand_rows_of matches) (codes "verify") (IsProofIn options)
@@ -113,7 +155,7 @@ HasCommand words command Holds = (kinds hows : ValueParser) × AreKinds kinds ×
 abbrev pub Asks : List (List ℕ) → Request → Type 0
 Asks words (Show text) = Unit {0}
 Asks words (Make options) = HasCommand words (codes "make") (λ rows. AreOptionsIn rows options)
-Asks words (Check torrent) = HasCommand words (codes "check") (IsFileIn torrent)
+Asks words (Check options) = HasCommand words (codes "check") (IsCheckIn options)
 Asks words (Magnet torrent) = HasCommand words (codes "magnet") (IsFileIn torrent)
 Asks words (Prove options) = HasCommand words (codes "prove") (IsPieceIn options)
 Asks words (Verify options) = HasCommand words (codes "verify") (IsProofIn options)

@@ -6,6 +6,7 @@ ghost use Rattle.std.specs.Prelude.{◌≡◌, IfErr, IfOk, IfSome};
 ghost use Rattle.tor_cli.specs.CommandLine.{AreHows, AreKinds, tor_app};
 ghost use Rattle.tor_cli.specs.Words.{Asks, IsFoundIn, IsOfWords};
 
+use crate::check_words::{CheckOptions, check_command, check_options};
 use crate::escape::escaped;
 use crate::fault::Fault;
 use crate::make_words::make_command;
@@ -15,13 +16,13 @@ use crate::proof_words::{
 };
 use crate::recheck_words::{RecheckOptions, recheck_command, recheck_options};
 use crate::torrent_words::{file_command, file_of};
+use crate::workers::workers_fault;
 use clap::error::ErrorKind;
 use clap::{ArgMatches, Command};
 use std::alloc::{AllocError, Global};
+use std::thread::Threads;
 
-// What the help says of these commands.
-const CHECK: &str = "Tells what a torrent describes, or why a file is none";
-
+// What the help says of this command.
 const MAGNET: &str = "Prints the magnet link of a torrent";
 
 /// What the words ask for.
@@ -30,8 +31,8 @@ pub enum Request<'a> {
     /// To print a text: help, or the version.
     Show(String),
     Make(MakeOptions<'a>),
-    /// To tell what the torrent in this file describes.
-    Check(&'a str),
+    /// To tell what a torrent describes.
+    Check(CheckOptions<'a>),
     /// To print the magnet link of the torrent in this file.
     Magnet(&'a str),
     /// To print the proof of a piece.
@@ -43,12 +44,16 @@ pub enum Request<'a> {
 }
 
 /// Reads the words, of which the first is the program's name.
-pub fn read_words<'a>(alloc: Global, words: &'a [&'a str]) -> Result<Request<'a>, Fault>
+pub fn read_words<'a, T: Threads>(
+    rt: &T,
+    alloc: Global,
+    words: &'a [&'a str],
+) -> Result<Request<'a>, Fault>
     ensures asked { IfOk result (Asks (texts words.entry.now)) }
     ensures refused { IfErr result IsOfWords }
 {
     match tor_command(alloc)?.try_get_matches_from(words) {
-        Ok(matches) => request_of(alloc, &matches),
+        Ok(matches) => request_of(rt, alloc, &matches),
         Err(error) if error.kind() == ErrorKind::OutOfMemory => Err(Fault::Resources),
         Err(error) if error.use_stderr() => Err(usage_fault(alloc, words)?),
         Err(error) => Ok(Request::Show(format!(in alloc; "{error}")?)),
@@ -65,41 +70,62 @@ fn tor_command<'a>(alloc: Global) -> Result<Command<'a>, AllocError>
         .subcommand_required(true)
         .bin_name("tor")?
         .subcommand(make_command(alloc)?)?
-        .subcommand(file_command(alloc, "check", CHECK)?)?
+        .subcommand(check_command(alloc)?)?
         .subcommand(file_command(alloc, "magnet", MAGNET)?)?
         .subcommand(prove_command(alloc)?)?
         .subcommand(verify_command(alloc)?)?
         .subcommand(recheck_command(alloc)?)
 }
 
-fn request_of<'a>(alloc: Global, matches: &ArgMatches<'a>) -> Result<Request<'a>, Fault>
+fn request_of<'a, T: Threads>(
+    rt: &T,
+    alloc: Global,
+    matches: &ArgMatches<'a>,
+) -> Result<Request<'a>, Fault>
     ensures asked { IfOk result (IsFoundIn matches.now) }
     ensures refused { IfErr result IsOfWords }
 {
-    match request_in(matches) {
+    match request_in(rt, matches) {
         Some(request) => Ok(request),
-        None => Err(Fault::usage(alloc, "no command", "tor")?),
+        None => Err(unread(alloc, matches)?),
     }
 }
 
+/// What is wrong with words that `clap` let through: their number of workers.
+fn unread(alloc: Global, matches: &ArgMatches<'_>) -> Result<Fault, AllocError>
+    ensures { IfOk result IsOfWords }
+{
+    if let Some(word) = workers_word(matches, "make") {
+        return workers_fault(alloc, word, "tor make");
+    }
+    if let Some(word) = workers_word(matches, "recheck") {
+        return workers_fault(alloc, word, "tor recheck");
+    }
+    Fault::usage(alloc, "no command", "tor")
+}
+
+fn workers_word<'a>(matches: &ArgMatches<'a>, command: &str) -> Option<&'a str> {
+    matches.subcommand_matches(command)?.get_str("workers")
+}
+
 /// The request of the command that was found; none where `clap` let through words that are none.
-fn request_in<'a>(matches: &ArgMatches<'a>) -> Option<Request<'a>>
+fn request_in<'a, T: Threads>(rt: &T, matches: &ArgMatches<'a>) -> Option<Request<'a>>
     ensures { IfSome result (IsFoundIn matches.now) }
 {
     if let Some(make) = matches.subcommand_matches("make") {
-        return Some(Request::Make(make_options(make)?));
+        return Some(Request::Make(make_options(rt, make)?));
     }
     if let Some(check) = matches.subcommand_matches("check") {
-        return Some(Request::Check(file_of(check)?));
+        return Some(Request::Check(check_options(check)?));
     }
     if let Some(magnet) = matches.subcommand_matches("magnet") {
         return Some(Request::Magnet(file_of(magnet)?));
     }
-    request_of_pieces(matches)
+    request_of_pieces(rt, matches)
 }
 
 /// The same of the commands over single pieces.
-fn request_of_pieces<'a>(matches: &ArgMatches<'a>) -> Option<Request<'a>>
+fn request_of_pieces<'a, T: Threads>(rt: &T, matches: &ArgMatches<'a>) -> Option<Request<'a>>
     ensures { IfSome result (IsFoundIn matches.now) }
 {
     if let Some(prove) = matches.subcommand_matches("prove") {
@@ -109,7 +135,7 @@ fn request_of_pieces<'a>(matches: &ArgMatches<'a>) -> Option<Request<'a>>
         return Some(Request::Verify(verify_options(verify)?));
     }
     if let Some(recheck) = matches.subcommand_matches("recheck") {
-        return Some(Request::Recheck(recheck_options(recheck)?));
+        return Some(Request::Recheck(recheck_options(rt, recheck)?));
     }
     None
 }

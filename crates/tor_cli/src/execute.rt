@@ -63,7 +63,7 @@ fn answer<T: Threads + Wait + Sync + Send + Clone + Drop + 'static, R: Read, W: 
     ensures stopped { IfErr result (StopsAsked (texts words.entry.now)
         (streams (R.remaining reader.old) (R.remaining reader.new) (W.contents out.old) (W.contents out.new))) }
 {
-    let request = read_words(system.alloc(), words)?;
+    let request = read_words(rt, system.alloc(), words)?;
     perform(rt, system, &request, reader, out, shows_progress)
 }
 
@@ -84,7 +84,12 @@ fn perform<T: Threads + Wait + Sync + Send + Clone + Drop + 'static, R: Read, W:
     match request {
         Request::Show(text) => done(show(text, out)),
         Request::Make(options) => done(make(rt, system, options, reader, out, shows_progress)),
-        Request::Check(torrent) => done(tell_torrent(system, torrent, Telling::Lines, out)),
+        Request::Check(options) => done(tell_torrent(
+            system,
+            options.torrent,
+            options.telling,
+            out,
+        )),
         Request::Magnet(torrent) => done(tell_torrent(system, torrent, Telling::Link, out)),
         Request::Prove(options) => done(prove(system, options, out)),
         Request::Verify(options) => verify(system, options, out),

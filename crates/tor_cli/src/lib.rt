@@ -4,22 +4,24 @@
 //! - `execute.rt`: the whole program.
 //! - `command.rt`: what the words ask for.
 //! - `make_command.rt`: the command `make`; `make_words.rt`: its words; `options.rt`: what they ask for;
-//!   `way.rt`: who hashes.
+//!   `way.rt`: who hashes; `workers.rt`: how many do.
 //! - `from_place.rt`: the torrent of a file or a folder. `out_file.rt`: the file that a torrent goes to.
 //!   `progress.rt`: how far the reading is, shown on a terminal; `progress_line.rt`: the line; `watch.rt`: the time
 //!   that has gone.
-//! - `telling.rt`: the commands `check` and `magnet`; `torrent_words.rt`: the words of both. `foreign.rt`: the torrent
-//!   in a file, judged; `shown.rt`: the lines that tell of it.
+//! - `telling.rt`: the commands `check` and `magnet`; `check_words.rt`, `torrent_words.rt`: their words. `foreign.rt`:
+//!   the torrent in a file, judged; `shown.rt`: the lines that tell of it.
 //! - `prove_command.rt`: the command `prove`; `verify_command.rt`: the command `verify`; `proof_words.rt`: their words;
 //!   `claim.rt`: what those of `verify` claim; `proof_text.rt`: a proof as a text, both ways; `numbers.rt` and
 //!   `digits.rt`: numbers and hashes in texts. `answer.rt`: yes and no.
-//! - `recheck_command.rt`: the command `recheck`; `recheck_words.rt`: its words; `recheck_source.rt`: where the files
-//!   of the torrent are looked for; `recheck_text.rt`: what is printed of their pieces.
+//! - `recheck_command.rt`: the command `recheck`; `recheck_words.rt`: its words; `listing.rt`: which files it lists;
+//!   `recheck_source.rt`: where the files of the torrent are looked for; `recheck_text.rt`: what is printed of their
+//!   pieces; `found_text.rt`: and of the files.
 //! - `fault.rt`: what stops the program, its line and its status; `fault_of.rt`: which step's fault it is. `escape.rt`:
 //!   the user's text in such a line. `laws.rt`: that it has no control byte there.
 #![tactic(auto)]
 
 mod answer;
+mod check_words;
 mod claim;
 mod command;
 mod digits;
@@ -28,8 +30,10 @@ pub mod execute;
 pub mod fault;
 mod fault_of;
 mod foreign;
+mod found_text;
 mod from_place;
 pub mod laws;
+mod listing;
 mod make_command;
 mod make_words;
 mod numbers;
@@ -50,3 +54,4 @@ mod torrent_words;
 mod verify_command;
 mod watch;
 mod way;
+mod workers;

@@ -4,8 +4,9 @@ ghost use Rattle.clap.specs.declared.builder.value_parser.ValueParser.{ValuePars
 ghost use Rattle.std.specs.Prelude.{◌≡◌, IfOk, false};
 ghost use Rattle.tor_cli.specs.CommandLine.{AreHows, AreKinds, announce_option, how_option, kind_option, make_app};
 ghost use Rattle.tor_cli.specs.CommandLine.{name_option, out_option, path_argument, piece_length_option};
-ghost use Rattle.tor_cli.specs.CommandLine.{private_option, span_option, with_torrent, with_ways, workers_option};
+ghost use Rattle.tor_cli.specs.CommandLine.{private_option, span_option, with_torrent, with_ways};
 
+use crate::torrent_words::workers_option;
 use clap::{Arg, ArgAction, Command, value_parser};
 use std::alloc::{AllocError, Global};
 
@@ -20,6 +21,9 @@ const DEFAULT_HOW: &str = "one";
 const DEFAULT_PIECE_LENGTH: &str = "262144";
 
 const DEFAULT_WORKERS: &str = "1";
+
+const WORKERS: &str =
+    "How many workers share the hashing, by halves, at a board or behind a stream: from 1 to 64, or auto";
 
 const DEFAULT_SPAN: &str = "16";
 
@@ -55,7 +59,7 @@ fn add_ways<'a>(alloc: Global, command: Command<'a>) -> Result<Command<'a>, Allo
 {
     command
         .arg(how_option(alloc))?
-        .arg(workers_option(alloc))?
+        .arg(workers_option(alloc, DEFAULT_WORKERS, WORKERS))?
         .arg(span_option(alloc))?
         .arg(out_option(alloc))?
         .arg(path_argument(alloc))
@@ -126,20 +130,6 @@ fn how_option<'a>(alloc: Global) -> Arg<'a>
         .value_parser(HOWS.as_slice())
         .default_value(DEFAULT_HOW)
         .help("Who hashes: one worker, or several, by halves, at a board or behind a stream")
-}
-
-fn workers_option<'a>(alloc: Global) -> Arg<'a>
-    ensures rule { rule_of result ≡ workers_option }
-    ensures local { result.global ≡ false }
-{
-    Arg::new(alloc, "workers")
-        .long("workers")
-        .value_name("N")
-        .value_parser(value_parser!(u32))
-        .default_value(DEFAULT_WORKERS)
-        .help(
-            "How many workers share the hashing, by halves, at a board or behind a stream: from 1 to 64",
-        )
 }
 
 fn span_option<'a>(alloc: Global) -> Arg<'a>

@@ -6,7 +6,9 @@ ghost use Rattle.tor_cli.specs.Words.{AreOptionsIn, HasWorkers, way_word, word_o
 ghost use Rattle.tor_cli.specs.declared.way.Way.{Way};
 
 use crate::way::Way;
+use crate::workers::workers_of;
 use clap::ArgMatches;
+use std::thread::Threads;
 use tor_engine::How;
 use tor_tree::Kind;
 
@@ -30,8 +32,9 @@ pub struct MakeOptions<'a> {
     pub place: Option<&'a str>,
 }
 
-/// The options that stand in the words; none where `clap` let through words that give no option its value.
-pub fn make_options<'a>(matches: &ArgMatches<'a>) -> Option<MakeOptions<'a>>
+/// The options that stand in the words; none where `clap` let through words that give no option its value, as a number
+/// of workers that is none.
+pub fn make_options<'a, T: Threads>(rt: &T, matches: &ArgMatches<'a>) -> Option<MakeOptions<'a>>
     ensures { IfSome result (AreOptionsIn (rows_of (found_of matches.now))) }
 {
     Some(MakeOptions {
@@ -40,7 +43,10 @@ pub fn make_options<'a>(matches: &ArgMatches<'a>) -> Option<MakeOptions<'a>>
         piece_length: matches.get_one::<u64>("piece-length")?,
         announce: matches.get_str("announce"),
         is_private: matches.get_flag("private"),
-        way: way_of(matches.get_str("how")?, matches.get_one::<u32>("workers")?)?,
+        way: way_of(
+            matches.get_str("how")?,
+            workers_of(rt, matches.get_str("workers")?)?,
+        )?,
         span: matches.get_one::<u32>("span")?,
         out: matches.get_str("out"),
         place: matches.get_str("path"),

@@ -15,8 +15,8 @@ use std::thread::Threads;
 use tor_check::validate;
 use tor_meta::write_out;
 
-/// Writes which pieces are there and right; the answer is yes where all are. Nothing is looked for, nor written, before
-/// the torrent was judged.
+/// Writes which pieces are there and right, and which files, if any are listed; the answer is yes where all pieces are.
+/// Nothing is looked for, nor written, before the torrent was judged.
 pub fn recheck<T: Threads + Sync, W: Write>(
     rt: &T,
     system: &HostRuntime,
@@ -24,33 +24,34 @@ pub fn recheck<T: Threads + Sync, W: Write>(
     out: &mut W,
     shows_progress: bool,
 ) -> Result<Answer, Fault>
-    ensures answered { (reader : Option (List ℕ)) → IfOk result (λ answer. DoesRecheck answer (writing reader
-        (W.contents out.old) (W.contents out.new))) }
-    ensures stopped { (reader : Option (List ℕ)) → IfErr result (StopsRechecking (writing reader
+    ensures answered { (reader : Option (List ℕ)) → IfOk result (λ answer. DoesRecheck options.now answer
+        (writing reader (W.contents out.old) (W.contents out.new))) }
+    ensures stopped { (reader : Option (List ℕ)) → IfErr result (StopsRechecking options.now (writing reader
         (W.contents out.old) (W.contents out.new))) }
 {
     let bytes = read_file(system.alloc(), system, options.torrent)?;
-    let report = report_at(rt, system, &bytes, options.place, shows_progress)?;
+    let report = report_at(rt, system, &bytes, options, shows_progress)?;
     write_out(out, report.text.as_bytes())?;
     Ok(report.answer)
 }
 
-/// What is printed of the torrent that the bytes are, by what the system has at a place.
+/// What is printed of the torrent that the bytes are, by what the system has at the place.
 fn report_at<T: Threads + Sync>(
     rt: &T,
     system: &HostRuntime,
     bytes: &[u8],
-    place: &str,
+    options: &RecheckOptions<'_>,
     shows_progress: bool,
 ) -> Result<Report, Fault>
-    ensures rechecked { IfOk result (λ report. IsRechecked bytes.now (string_bytes report.text) report.answer) }
-    ensures stopped { IfErr result (IsNotRechecked bytes.now) }
+    ensures rechecked { IfOk result
+        (λ report. IsRechecked options.now bytes.now (string_bytes report.text) report.answer) }
+    ensures stopped { IfErr result (IsNotRechecked options.now bytes.now) }
 {
     let torrent = match validate(system.alloc(), bytes) {
         Ok(torrent) => torrent,
         Err(refusal) => return Err(Fault::from(refusal)),
     };
-    let source = match source_at(system, place, &torrent) {
+    let source = match source_at(system, options.place, &torrent) {
         Ok(source) => source,
         Err(fault) => return Err(Fault::from(fault)),
     };
@@ -58,7 +59,7 @@ fn report_at<T: Threads + Sync>(
         true => Progress::start(system, torrent.files().len()),
         false => None,
     };
-    match counted_report(rt, system.alloc(), &source, &torrent, progress) {
+    match counted_report(rt, system.alloc(), &source, &torrent, options, progress) {
         Ok(report) => Ok(report),
         Err(error) => Err(Fault::from(error)),
     }

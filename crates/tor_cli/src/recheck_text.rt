@@ -1,47 +1,62 @@
-//! The lines that tell which pieces of a torrent a source has.
-ghost use Rattle.std.specs.Prelude.{◌≡◌, ◌≢◌, List, Bool, IfErr, IfOk, MatchResult, None, length, string_bytes};
-ghost use Rattle.tor_cli.specs.Recheck.{IsReport, recheck_answer, recheck_text};
+//! What tells which pieces of a torrent a source has, and which of its files.
+ghost use Rattle.std.specs.Prelude.{◌≡◌, ◌≢◌, IfErr, IfOk, OnOk, MatchResult, None, length, string_bytes};
+ghost use Rattle.tor_cli.specs.FoundFiles.{listed};
+ghost use Rattle.tor_cli.specs.Recheck.{IsOfEach, IsReport, IsReportOn, pieces_text, recheck_answer, recheck_text};
 ghost use Rattle.tor_engine.specs.Contents.{contents_in};
+ghost use Rattle.tor_engine.specs.How.{IsHow};
+ghost use Rattle.tor_engine.specs.PieceFault.{lengths_told};
+ghost use Rattle.tor_engine.specs.declared.how.How.TheVariants.{Board};
+ghost use Rattle.tor_recheck.specs.Files.{files_found, held_pieces};
 ghost use Rattle.tor_recheck.specs.Recheck.{IsFault, IsGiven, first_fault};
 ghost use Rattle.tor_recheck.specs.declared.errors.RecheckError.TheVariants.{Workers};
 ghost use Rattle.tor_source.specs.Source.{SourceFacts};
 ghost use Rattle.tor_spec.specs.Verified.{verified_pieces};
 
 use crate::answer::Answer;
+use crate::found_text::push_files;
+use crate::listing::Listing;
 use crate::progress::{Counting, Progress};
+use crate::recheck_words::RecheckOptions;
 use hex::encode;
 use std::alloc::{AllocError, Global};
 use std::thread::Threads;
 use tor_check::Torrent;
 use tor_engine::How;
-use tor_recheck::{Bits, RecheckError, recheck};
+use tor_recheck::{Bits, Findings, RecheckError, recheck, recheck_files};
 use tor_source::Source;
 
 /// What is printed of a recheck.
 #[derive(Drop)]
 pub struct Report {
-    /// Two lines: how many pieces are there and right, of how many; and the bitfield.
+    /// Two lines: how many pieces are there and right, of how many; and the bitfield. Below them the files that are
+    /// listed; or the paths of the bad ones alone.
     pub text: String,
-    /// Whether all are.
+    /// Whether all pieces are there and right.
     pub answer: Answer,
 }
 
-/// What is printed of the torrent's pieces in a source. The progress that is shown meanwhile is erased at the end.
+/// What is printed of the torrent's pieces and files in a source. The progress that is shown meanwhile is erased at the
+/// end.
 pub fn counted_report<S: Source, T: Threads + Sync>(
     rt: &T,
     alloc: Global,
     source: &S,
     torrent: &Torrent,
+    options: &RecheckOptions<'_>,
     progress: Option<Progress>,
 ) -> Result<Report, RecheckError<S::Fault>>
-    ensures reported { IfOk result (λ report. (bits : List Bool) × (length bits ≡ torrent.now.piece_count)
-        × IsReport bits (string_bytes report.text) report.answer) }
-    ensures found { (facts : SourceFacts S.Fault) → S.is_steady source.now facts →
+    ensures reported { IfOk result
+        (λ report. IsReportOn options.now.listing torrent.now (string_bytes report.text) report.answer) }
+    ensures found { IsHow (Board options.now.workers) → (facts : SourceFacts S.Fault) → S.is_steady source.now facts →
         MatchResult result
-        (λ report. IsReport (verified_pieces torrent.now (contents_in facts (length torrent.now.files)))
+        (λ report. IsReport options.now.listing torrent.now
+        (verified_pieces torrent.now (contents_in facts (length torrent.now.files)))
+        (listed options.now.listing (files_found torrent.now (lengths_told facts (length torrent.now.files))
+        (held_pieces torrent.now (contents_in facts (length torrent.now.files)))))
         (string_bytes report.text) report.answer × (first_fault facts torrent.now ≡ None))
         (IsFault (first_fault facts torrent.now)) }
-    ensures allowed { IfErr result (λ error. error ≢ Workers) }
+    ensures workers { OnOk result (IsHow (Board options.now.workers)) }
+    ensures allowed { IsHow (Board options.now.workers) → IfErr result (λ error. error ≢ Workers) }
     ensures gave { IfErr result
         (IsGiven (S.gave source.now) (S.told source.now) (S.ended source.now) (length torrent.now.files)) }
 {
@@ -50,23 +65,79 @@ pub fn counted_report<S: Source, T: Threads + Sync>(
         files: torrent.files(),
         progress,
     };
-    let rechecked = recheck(rt, alloc, &counting, torrent, How::Board(4));
+    let rechecked = findings_of(rt, alloc, &counting, torrent, options);
     if let Some(progress) = &counting.progress {
         progress.erase();
     }
     match rechecked {
-        Ok(bits) => Ok(report_on(alloc, &bits)?),
+        Ok(findings) => Ok(report_on(alloc, torrent, options.listing, &findings)?),
         Err(error) => Err(error),
     }
 }
 
-fn report_on(alloc: Global, bits: &Bits) -> Result<Report, AllocError>
-    ensures { IfOk result (λ report. IsReport bits.now (string_bytes report.text) report.answer) }
+/// What a source has of the torrent's pieces, and of its files where any is listed.
+fn findings_of<S: Source, T: Threads + Sync>(
+    rt: &T,
+    alloc: Global,
+    source: &S,
+    torrent: &Torrent,
+    options: &RecheckOptions<'_>,
+) -> Result<Findings, RecheckError<S::Fault>>
+    ensures counted { IfOk result (λ told. (length told.bits ≡ torrent.now.piece_count)
+        × IsOfEach options.now.listing torrent.now told.files.items) }
+    ensures found { IsHow (Board options.now.workers) → (facts : SourceFacts S.Fault) → S.is_steady source.now facts →
+        MatchResult result
+        (λ told. (told.bits ≡ verified_pieces torrent.now (contents_in facts (length torrent.now.files)))
+        × (told.files.items ≡ listed options.now.listing (files_found torrent.now
+        (lengths_told facts (length torrent.now.files))
+        (held_pieces torrent.now (contents_in facts (length torrent.now.files)))))
+        × (first_fault facts torrent.now ≡ None))
+        (IsFault (first_fault facts torrent.now)) }
+    ensures workers { OnOk result (IsHow (Board options.now.workers)) }
+    ensures allowed { IsHow (Board options.now.workers) → IfErr result (λ error. error ≢ Workers) }
+    ensures gave { IfErr result
+        (IsGiven (S.gave source.now) (S.told source.now) (S.ended source.now) (length torrent.now.files)) }
 {
+    let how = How::Board(options.workers);
+    match options.listing {
+        Listing::Pieces => match recheck(rt, alloc, source, torrent, how) {
+            Ok(bits) => Ok(Findings {
+                bits,
+                files: Vec::new(alloc),
+            }),
+            Err(error) => Err(error),
+        },
+        Listing::Files => recheck_files(rt, alloc, source, torrent, how),
+        Listing::BadFiles => recheck_files(rt, alloc, source, torrent, how),
+        Listing::BadPaths => recheck_files(rt, alloc, source, torrent, how),
+    }
+}
+
+fn report_on(
+    alloc: Global,
+    torrent: &Torrent,
+    listing: Listing,
+    findings: &Findings,
+) -> Result<Report, AllocError>
+    ensures { IfOk result (λ report. IsReport listing torrent.now findings.now.bits findings.now.files.items
+        (string_bytes report.text) report.answer) }
+{
+    let mut text = pieces_text(alloc, listing, &findings.bits)?;
+    push_files(alloc, &mut text, listing, &findings.files, torrent.files())?;
     Ok(Report {
-        text: text_of(alloc, bits)?,
-        answer: answer_of(bits),
+        text,
+        answer: answer_of(&findings.bits),
     })
+}
+
+/// What is printed of the pieces: nothing where paths alone are asked for.
+fn pieces_text(alloc: Global, listing: Listing, bits: &Bits) -> Result<String, AllocError>
+    ensures { IfOk result (λ text. string_bytes text ≡ pieces_text listing bits.now) }
+{
+    match listing {
+        Listing::BadPaths => Ok(String::new(alloc)),
+        _ => text_of(alloc, bits),
+    }
 }
 
 fn text_of(alloc: Global, bits: &Bits) -> Result<String, AllocError>

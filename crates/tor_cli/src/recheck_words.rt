@@ -4,17 +4,23 @@ ghost use Rattle.std.specs.Prelude.{◌≡◌, IfOk, IfSome};
 ghost use Rattle.tor_cli.specs.CommandLine.{recheck_app};
 ghost use Rattle.tor_cli.specs.Words.{IsRecheckIn};
 
-use crate::torrent_words::argument_of;
+use crate::listing::{Listing, listing_of};
+use crate::torrent_words::{argument_of, flag_beside, flag_of, workers_option};
+use crate::workers::workers_of;
 use clap::{ArgMatches, Command};
 use std::alloc::{AllocError, Global};
+use std::thread::Threads;
 
-/// Which torrent is rechecked, and against what.
+/// Which torrent is rechecked, against what, and what is printed of it.
 #[derive(Clone, Copy)]
 pub struct RecheckOptions<'a> {
     /// The file with the torrent.
     pub torrent: &'a str,
     /// The file or folder that has the torrent's files.
     pub place: &'a str,
+    pub listing: Listing,
+    /// How many workers hash.
+    pub workers: u32,
 }
 
 /// The command `recheck`.
@@ -23,18 +29,42 @@ pub fn recheck_command<'a>(alloc: Global) -> Result<Command<'a>, AllocError>
 {
     Command::new(alloc, "recheck")
         .about("Tells which pieces of a torrent are there and right")
+        .arg(flag_of(alloc, "files", FILES))?
+        .arg(flag_of(alloc, "bad", BAD))?
+        .arg(flag_beside(alloc, "null", "bad", NULL)?)?
+        .arg(workers_option(alloc, DEFAULT_WORKERS, WORKERS))?
         .arg(argument_of(alloc, "file", 1, "FILE", "The file with the torrent"))?
         .arg(argument_of(alloc, "path", 2, "PATH", PATH))
 }
 
+const FILES: &str = "Tells of each file too: whether it is whole, bad, short or missing";
+
+const BAD: &str = "Tells of each file that is not whole";
+
+const NULL: &str = "With --bad, prints the paths of these files alone, each ended by a zero byte";
+
+const DEFAULT_WORKERS: &str = "4";
+
+const WORKERS: &str = "How many workers hash: from 1 to 64, or auto";
+
 const PATH: &str = "The file or folder that has the torrent's files";
 
-/// What is to be rechecked, of the words; none where `clap` let through words that have none.
-pub fn recheck_options<'a>(matches: &ArgMatches<'a>) -> Option<RecheckOptions<'a>>
+/// What is to be rechecked, of the words; none where `clap` let through words that have none, as a number of workers
+/// that is none.
+pub fn recheck_options<'a, T: Threads>(
+    rt: &T,
+    matches: &ArgMatches<'a>,
+) -> Option<RecheckOptions<'a>>
     ensures { IfSome result (λ options. IsRecheckIn options (rows_of (found_of matches.now))) }
 {
     Some(RecheckOptions {
         torrent: matches.get_str("file")?,
         place: matches.get_str("path")?,
+        listing: listing_of(
+            matches.get_flag("files"),
+            matches.get_flag("bad"),
+            matches.get_flag("null"),
+        ),
+        workers: workers_of(rt, matches.get_str("workers")?)?,
     })
 }

@@ -1,7 +1,8 @@
 //! The lines that tell of a torrent.
 ghost use Rattle.hex.specs.Hex.{encode_lower};
 ghost use Rattle.std.specs.Prelude.{◌≡◌, ◌++◌, IfOk, OnOk, codes, string_bytes};
-ghost use Rattle.tor_cli.specs.Shown.{check_lines, file_line, hash_lines, head_lines, magnet_line, path_text};
+ghost use Rattle.tor_cli.specs.Shown.{check_lines, ended_path, ended_paths, file_line, hash_lines, head_lines};
+ghost use Rattle.tor_cli.specs.Shown.{magnet_line, path_text};
 ghost use Rattle.tor_meta.specs.Hashes.{HasHash};
 ghost use Rattle.tor_cli.specs.Words.{word_of};
 
@@ -23,6 +24,26 @@ pub fn check_lines(alloc: Global, torrent: &Torrent, hashes: &Hashes) -> Result<
     }
     push_hashes(alloc, &mut lines, hashes)?;
     Ok(lines)
+}
+
+/// The paths of the files in the torrent's order, as they are, each ended by a zero byte.
+pub fn ended_paths(alloc: Global, torrent: &Torrent) -> Result<String, AllocError>
+    ensures { IfOk result (λ paths. string_bytes paths ≡ ended_paths torrent.now) }
+{
+    let mut paths = String::new(alloc);
+    for shown in torrent.files() {
+        push_path(alloc, &mut paths, shown.file())?;
+    }
+    Ok(paths)
+}
+
+/// The path of a file as it is, and a zero byte.
+pub fn push_path(alloc: Global, text: &mut String, file: &TreeFile) -> Result<(), AllocError>
+    ensures { OnOk result (string_bytes text.new ≡ string_bytes text.old ++ ended_path file.now) }
+{
+    let path = path_text(alloc, &file.path)?;
+    text.push_str(&path)?;
+    text.push('\0')
 }
 
 /// The magnet link.
@@ -68,7 +89,7 @@ fn push_file(alloc: Global, lines: &mut String, file: &TreeFile) -> Result<(), A
 }
 
 /// The names of a path, a slash between each two.
-fn path_text(alloc: Global, path: &FilePath) -> Result<String, AllocError>
+pub fn path_text(alloc: Global, path: &FilePath) -> Result<String, AllocError>
     ensures { IfOk result (λ text. string_bytes text ≡ path_text path.now) }
 {
     let mut names = Vec::with_capacity(alloc, path.names().len())?;

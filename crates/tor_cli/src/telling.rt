@@ -6,7 +6,7 @@ ghost use Rattle.tor_cli.specs.Telling.{lines_of};
 
 use crate::fault::Fault;
 use crate::foreign::{judge, read_file};
-use crate::shown::{check_lines, magnet_line};
+use crate::shown::{check_lines, ended_paths, magnet_line};
 use std::alloc::Global;
 use std::io::Write;
 use tor_meta::write_out;
@@ -18,6 +18,8 @@ pub enum Telling {
     Lines,
     /// Its magnet link.
     Link,
+    /// The paths of its files.
+    Paths,
 }
 
 /// Writes this of the torrent in the file `place`. Nothing is written before it was judged.
@@ -38,7 +40,7 @@ pub fn tell_torrent<W: Write>(
     Ok(write_out(out, lines.as_bytes())?)
 }
 
-/// The lines that tell this of the torrent that the bytes are.
+/// The text that tells this of the torrent that the bytes are.
 fn lines_of(alloc: Global, bytes: &[u8], telling: Telling) -> Result<String, Fault>
     ensures printed { IfOk result (λ lines. AreLinesOf (lines_of telling) bytes.now (string_bytes lines)) }
     ensures stopped { IfErr result (IsNoTorrent bytes.now) }
@@ -47,5 +49,6 @@ fn lines_of(alloc: Global, bytes: &[u8], telling: Telling) -> Result<String, Fau
     Ok(match telling {
         Telling::Lines => check_lines(alloc, &judged.torrent, &judged.hashes)?,
         Telling::Link => magnet_line(alloc, &judged.hashes)?,
+        Telling::Paths => ended_paths(alloc, &judged.torrent)?,
     })
 }

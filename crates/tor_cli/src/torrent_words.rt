@@ -1,10 +1,10 @@
-//! The words of the commands over one torrent: `tor check FILE` and `tor magnet FILE`.
+//! The words of `tor magnet FILE`, and those of which several commands have some.
 ghost use Rattle.clap.specs.Words.{app_of, found_of, rows_of, rule_of};
 ghost use Rattle.std.specs.Prelude.{◌≡◌, IfOk, IfSome, false};
-ghost use Rattle.tor_cli.specs.CommandLine.{argument_of, file_app};
+ghost use Rattle.tor_cli.specs.CommandLine.{argument_of, file_app, flag_beside, flag_of, workers_option};
 ghost use Rattle.tor_cli.specs.Words.{IsFileIn};
 
-use clap::{Arg, ArgMatches, Command};
+use clap::{Arg, ArgAction, ArgMatches, Command};
 use std::alloc::{AllocError, Global};
 
 /// The command of this name, of which the help tells so much.
@@ -46,5 +46,41 @@ pub fn argument_of<'a>(
         .index(number)
         .value_name(shown)
         .required(true)
+        .help(help)
+}
+
+/// An option without a value.
+pub fn flag_of<'a>(alloc: Global, name: &'a str, help: &'a str) -> Arg<'a>
+    ensures rule { rule_of result ≡ flag_of name.now }
+    ensures local { result.global ≡ false }
+{
+    Arg::new(alloc, name)
+        .long(name)
+        .action(ArgAction::SetTrue)
+        .help(help)
+}
+
+/// An option without a value that stands beside another one alone.
+pub fn flag_beside<'a>(
+    alloc: Global,
+    name: &'a str,
+    other: &'a str,
+    help: &'a str,
+) -> Result<Arg<'a>, AllocError>
+    ensures rule { IfOk result (λ flag. rule_of flag ≡ flag_beside name.now) }
+    ensures local { IfOk result (λ flag. flag.global ≡ false) }
+{
+    flag_of(alloc, name, help).requires_arg(other)
+}
+
+/// The option that says how many workers hash, and how many where it is not given.
+pub fn workers_option<'a>(alloc: Global, default: &'a str, help: &'a str) -> Arg<'a>
+    ensures rule { rule_of result ≡ workers_option default.now }
+    ensures local { result.global ≡ false }
+{
+    Arg::new(alloc, "workers")
+        .long("workers")
+        .value_name("N")
+        .default_value(default)
         .help(help)
 }

@@ -20,14 +20,14 @@ module _ (matches : ArgMatches) (words : List (List ℕ)) (kinds hows : ValuePar
   asked : (request : Request) → IsFoundIn matches request → Asks words request
   asked (Show text) found = tt
   asked (Make options) found = has _ _ found
-  asked (Check torrent) found = has _ _ found
+  asked (Check options) found = has _ _ found
   asked (Magnet torrent) found = has _ _ found
   asked (Prove options) found = has _ _ found
   asked (Verify options) found = has _ _ found
   asked (Recheck options) found = has _ _ found
 
 pub returns-in-Ok-clause-asked : goal.returns-in-Ok-clause-asked
-returns-in-Ok-clause-asked c =
+returns-in-Ok-clause-asked g c =
     let words = texts c.args.words.now in
     let (kinds, hows, are, ways, is) = c.in_ok-tor_command.ensures in
     let (rows, sub) = c.in-Ok.ensures.matches (ap is_simple is) in

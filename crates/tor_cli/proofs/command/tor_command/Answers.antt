@@ -27,8 +27,8 @@ returns c =
     ∙ ap (on_top (λ shape. record shape { subcommand_required = true })) described in
     let top = ap app_of_fields c.in_ok-bin_name.ensures.0 ∙ wanting in
     let (kinds, hows, are, ways, is) = c.in_ok-make_command.ensures in
-    let is_check = c.in_ok-file_command.ensures in
-    let is_magnet = c.in_ok-file_command-2.ensures in
+    let is_check = c.in_ok-check_command.ensures in
+    let is_magnet = c.in_ok-file_command.ensures in
     let making =
     c.in_ok-subcommand.ensures.shape (third _ _ _ _ (ap (λ (app : App). app.top.is_plain) is))
     ∙ ap₂ with_subcommand top (ap (λ (app : App). app.top) is) in

@@ -6,7 +6,7 @@ use Rattle.tor_cli.proofs.FoundTexts.{found_text}
 use Rattle.tor_cli.proofs.options.make_options.Goals as goal
 
 pub returns : goal.returns
-returns c =
+returns g c =
     let found = found_of c.args.matches.now in
     record {
       kind =
@@ -25,12 +25,17 @@ returns c =
           found_text found (codes "how") c.get_str-4.result c.in_ok-get_str-3.field-0 c.get_str-4.ensures
           (search rules)
           ∙ ap Some (sym c.in_ok-way_of.ensures.value.0);
-      workers = λ text is.
-          let read = c.in_ok-get_one-2.ensures.value text (one_text-rows found (codes "workers") ∙ is) in
-          (read.0.0.0, rw (← read.0.1) c.in_ok-way_of.ensures.value.1);
+      workers = (
+        c.in_ok-get_str-4.field-0.now,
+        c.in_ok-workers_of.field-0,
+        found_text found (codes "workers") c.get_str-5.result c.in_ok-get_str-4.field-0 c.get_str-5.ensures
+            (search rules),
+        c.in_ok-workers_of.ensures,
+        c.in_ok-way_of.ensures.value.1,
+      );
       span = λ text is.
-          let read = c.in_ok-get_one-3.ensures.value text (one_text-rows found (codes "span") ∙ is) in
+          let read = c.in_ok-get_one-2.ensures.value text (one_text-rows found (codes "span") ∙ is) in
           (read.0.0.0, read.0.1);
-      out = sym (first_value-rows found (codes "out")) ∙ sym c.get_str-5.ensures;
-      place = sym (first_value-rows found (codes "path")) ∙ sym c.get_str-6.ensures;
+      out = sym (first_value-rows found (codes "out")) ∙ sym c.get_str-6.ensures;
+      place = sym (first_value-rows found (codes "path")) ∙ sym c.get_str-7.ensures;
     }

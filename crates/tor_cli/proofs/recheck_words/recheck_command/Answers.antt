@@ -8,8 +8,16 @@ use Rattle.tor_cli.proofs.recheck_words.recheck_command.Goals as goal
 pub returns : goal.returns
 returns c =
     let begun = ap app_of_fields c.about.ensures ∙ c.new.ensures.app in
+    let listing = c.in_ok-arg.ensures.shape c.flag_of.ensures.local ∙ ap₂ with_rule begun c.flag_of.ensures.rule in
+    let narrowed =
+    c.in_ok-arg-2.ensures.shape c.flag_of-2.ensures.local ∙ ap₂ with_rule listing c.flag_of-2.ensures.rule in
+    let ended =
+    c.in_ok-arg-3.ensures.shape c.in_ok-flag_beside.ensures.local
+    ∙ ap₂ with_rule narrowed c.in_ok-flag_beside.ensures.rule in
+    let shared =
+    c.in_ok-arg-4.ensures.shape c.workers_option.ensures.local ∙ ap₂ with_rule ended c.workers_option.ensures.rule in
     let filed =
-    c.in_ok-arg.ensures.shape c.argument_of.ensures.local ∙ ap₂ with_rule begun c.argument_of.ensures.rule in
-    IfOk-weaker c.arg-2.result _ _
+    c.in_ok-arg-5.ensures.shape c.argument_of.ensures.local ∙ ap₂ with_rule shared c.argument_of.ensures.rule in
+    IfOk-weaker c.arg-6.result _ _
     (λ command added. added.shape c.argument_of-2.ensures.local ∙ ap₂ with_rule filed c.argument_of-2.ensures.rule)
-    c.arg-2.ensures
+    c.arg-6.ensures

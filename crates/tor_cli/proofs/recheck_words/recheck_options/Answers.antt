@@ -1,11 +1,11 @@
 -- What the getters give are the values in the rows.
-use Rattle.std.proofs.Common.{rules, codes}
+use Rattle.std.proofs.Common.{rules, codes, ◌∙◌, refl}
 use Rattle.clap.specs.Words.{found_of}
-use Rattle.tor_cli.proofs.FoundTexts.{found_text}
+use Rattle.tor_cli.proofs.FoundTexts.{found_flag, found_text}
 use Rattle.tor_cli.proofs.recheck_words.recheck_options.Goals as goal
 
 pub returns : goal.returns
-returns c =
+returns g c =
     let found = found_of c.args.matches.now in
     record {
       torrent =
@@ -13,4 +13,23 @@ returns c =
       place =
           found_text found (codes "path") c.get_str-2.result c.in_ok-get_str-2.field-0 c.get_str-2.ensures
           (search rules);
+      listing = λ files bad null is_files is_bad is_null.
+          let same_files =
+          found_flag found (codes "files") c.get_flag.result files c.get_flag.ensures.value c.get_flag.ensures.other
+          is_files in
+          let same_bad =
+          found_flag found (codes "bad") c.get_flag-2.result bad c.get_flag-2.ensures.value
+          c.get_flag-2.ensures.other is_bad in
+          let same_null =
+          found_flag found (codes "null") c.get_flag-3.result null c.get_flag-3.ensures.value
+          c.get_flag-3.ensures.other is_null in
+          c.listing_of.ensures ∙ rw (same_files, same_bad, same_null) refl;
+      workers = (
+        c.in_ok-get_str-3.field-0.now,
+        c.in_ok-workers_of.field-0,
+        found_text found (codes "workers") c.get_str-3.result c.in_ok-get_str-3.field-0 c.get_str-3.ensures
+            (search rules),
+        c.in_ok-workers_of.ensures,
+        refl,
+      );
     }

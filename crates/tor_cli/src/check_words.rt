@@ -1,0 +1,50 @@
+//! The words of `tor check FILE`.
+ghost use Rattle.clap.specs.Words.{app_of, found_of, rows_of};
+ghost use Rattle.std.specs.Prelude.{◌≡◌, IfOk, IfSome};
+ghost use Rattle.tor_cli.specs.CommandLine.{check_app};
+ghost use Rattle.tor_cli.specs.Words.{IsCheckIn, telling_of};
+
+use crate::telling::Telling;
+use crate::torrent_words::{argument_of, flag_of};
+use clap::{ArgMatches, Command};
+use std::alloc::{AllocError, Global};
+
+/// Which torrent is judged, and what is told of it.
+#[derive(Clone, Copy)]
+pub struct CheckOptions<'a> {
+    /// The file with the torrent.
+    pub torrent: &'a str,
+    pub telling: Telling,
+}
+
+/// The command `check`.
+pub fn check_command<'a>(alloc: Global) -> Result<Command<'a>, AllocError>
+    ensures { IfOk result (λ command. app_of command ≡ check_app) }
+{
+    Command::new(alloc, "check")
+        .about("Tells what a torrent describes, or why a file is none")
+        .arg(flag_of(alloc, "null", NULL))?
+        .arg(argument_of(alloc, "file", 1, "FILE", "The file with the torrent"))
+}
+
+const NULL: &str = "Prints the paths of the files alone, each ended by a zero byte";
+
+/// What is to be told, of the words; none where `clap` let through words that have none.
+pub fn check_options<'a>(matches: &ArgMatches<'a>) -> Option<CheckOptions<'a>>
+    ensures { IfSome result (λ options. IsCheckIn options (rows_of (found_of matches.now))) }
+{
+    Some(CheckOptions {
+        torrent: matches.get_str("file")?,
+        telling: telling_of(matches.get_flag("null")),
+    })
+}
+
+/// What the flag `--null` asks for.
+fn telling_of(null: bool) -> Telling
+    ensures { result ≡ telling_of null }
+{
+    match null {
+        true => Telling::Paths,
+        false => Telling::Lines,
+    }
+}

@@ -1,0 +1,54 @@
+//! How many workers a word asks for.
+ghost use Rattle.std.specs.Prelude.{◌≡◌, ◌≤◌, IfOk, IfSome};
+ghost use Rattle.tor_cli.specs.Words.{AreWorkers, IsNumber, IsUsage};
+ghost use Rattle.tor_engine.specs.declared.how.TheConstants.{MAX_WORKERS};
+
+use crate::escape::escaped;
+use crate::fault::Fault;
+use std::alloc::{AllocError, Global};
+use std::thread::{Threads, available_parallelism};
+use tor_engine::MAX_WORKERS;
+
+/// How many workers the word asks for: for `auto` as many as there are processors, from 1 to 64; else its number, which
+/// has 32 bits. None where it is no such word.
+pub fn workers_of<T: Threads>(rt: &T, word: &str) -> Option<u32>
+    ensures { IfSome result (AreWorkers word.now) }
+{
+    match word {
+        "auto" => Some(processors(rt)),
+        _ => number_of(word),
+    }
+}
+
+/// The number that the word is.
+fn number_of(word: &str) -> Option<u32>
+    ensures { IfSome result (λ number. IsNumber word.now (λ value. number ≡ value)) }
+{
+    match word.parse::<u32>() {
+        Ok(number) => Some(number),
+        Err(_) => None,
+    }
+}
+
+/// How many processors there are for this program, from 1 to 64; one where the system does not tell.
+fn processors<T: Threads>(rt: &T) -> u32
+    ensures { (1 ≤ result) × (result ≤ MAX_WORKERS) }
+{
+    match available_parallelism(rt) {
+        Ok(count) => count.get().min(MAX_WORKERS as usize) as u32,
+        Err(_) => 1,
+    }
+}
+
+/// What is wrong with a word that asks for no number of workers, as `clap` says it of a number.
+pub fn workers_fault(alloc: Global, word: &str, command: &str) -> Result<Fault, AllocError>
+    ensures { IfOk result (IsUsage command.now) }
+{
+    let printed = escaped(alloc, word)?;
+    let reason = match word.parse::<i64>() {
+        Ok(_) => format!(in alloc; "{printed} is not in 0..=4294967295")?,
+        Err(error) => format!(in alloc; "{error}")?,
+    };
+    let text = format!(in alloc; "invalid value '{printed}' for '--workers <N>': {reason}")?;
+    Fault::usage(alloc, &text, command)
+}
