@@ -159,7 +159,8 @@ def random_order(rng, single):
         # Units are held whole, and several cases run side by side.
         piece_length, span = BLOCK, 1024
     announce = rng.choice([None, None, b'', b'http://t/', 'http://ü/ a'.encode(), b'x' * 3000])
-    return Order(kind, single, name, piece_length, announce, rng.random() < 0.3, how, workers, span)
+    return Order(kind, single, name, piece_length, announce, rng.random() < 0.3, how, workers, span,
+                 rng.random() < 0.3)
 
 
 def words_of(rng, order, *arguments):
@@ -179,6 +180,8 @@ def words_of(rng, order, *arguments):
             words.append([b'--' + option.encode(), value])
     if order.is_private:
         words.append([b'--private'])
+    if order.tail:
+        words.append([b'--tail'])
     rng.shuffle(words)
     return [b'make'] + [word for pair in words for word in pair]
 

@@ -222,7 +222,8 @@ def is_power(number, least, most):
 
 # Making.
 
-Order = namedtuple('Order', 'kind single name piece_length announce is_private how workers span')
+Order = namedtuple('Order', 'kind single name piece_length announce is_private how workers span tail',
+                   defaults=(False,))
 
 
 def order_fault(order, paths):
@@ -267,7 +268,7 @@ def info_of(files, order):
         info[b'file tree'] = tree_of(files)
     if order.kind != 'v2':
         is_aligned = order.kind == 'hybrid' and not order.single
-        entries = entries_of(files, order.piece_length, is_aligned)
+        entries = entries_of(files, order.piece_length, is_aligned, order.tail)
         joined = b''.join(bytes(length) if content is None else content for _, length, content in entries)
         info[b'pieces'] = b''.join(sha1(joined[at:at + order.piece_length])
                                    for at in range(0, len(joined), order.piece_length))
@@ -298,14 +299,14 @@ def layers_of(files, piece_length):
     return layers
 
 
-def entries_of(files, piece_length, is_aligned):
+def entries_of(files, piece_length, is_aligned, has_tail):
     """Path, length and content of each entry of `files`; padding (BEP 47) has no content."""
     last = max((i for i, (_, content) in enumerate(files) if content), default=-1)
     entries = []
     for i, (path, content) in enumerate(files):
         entries.append((path, len(content), content))
         lacking = rounded(len(content), piece_length) - len(content)
-        if is_aligned and lacking and i < last:
+        if is_aligned and lacking and (i < last or has_tail):
             entries.append(((b'.pad', b'%d' % lacking), lacking, None))
     return entries
 

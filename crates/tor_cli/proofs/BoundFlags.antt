@@ -1,6 +1,6 @@
 -- A flag that wants another argument is not free.
-use Rattle.std.proofs.Common.{◌≡◌, ◌∙◌, ap, ap₂, refl, arith, Bool, true, false, not, ◌&&◌, ◌==◌, ℕ, ◌+◌, List, [], ◌∷◌, ◌++◌}
-use Rattle.std.proofs.Common.{length, Bor}
+use Rattle.std.proofs.Common.{◌≡◌, ◌∙◌, ap, ap₂, refl, arith, Bool, true, false, not, ◌&&◌, ◌==◌, ℕ, ◌+◌, List, []}
+use Rattle.std.proofs.Common.{◌∷◌, ◌++◌, length, Bor}
 use Rattle.std.proofs.lemmas.Bool.{ne_eqb}
 use Rattle.std.proofs.lemmas.List.{length_push}
 use Rattle.clap.specs.Adds.{AddsRequirements}
@@ -20,7 +20,8 @@ none_left xs x = ap (λ (n : ℕ). n == 0) (length_push xs x) ∙ ne_eqb (length
 pub beside : (name : List ℕ) (old new : Arg) (x : ArgPredicate × Bor (List ℕ)) → rule_of old ≡ flag_of name
     → AddsRequirements old new (x ∷ []) → rule_of new ≡ flag_beside name
 beside name old new x same adds =
-    let needed = ap (λ (ys : List (ArgPredicate × Bor (List ℕ))). length ys == 0) adds.1 ∙ none_left old.needs.items x in
+    let needed =
+    ap (λ (ys : List (ArgPredicate × Bor (List ℕ))). length ys == 0) adds.1 ∙ none_left old.needs.items x in
     let bound : is_free_arg (record old { needs = new.needs }) ≡ false
     = third (not old.exclusive) (length old.conflicts.items == 0) (length new.needs.items == 0) _ needed in
     ap rule_of adds.0 ∙ ap₂ (λ (rule : Rule) (free : Bool). record rule { is_free = free }) same bound

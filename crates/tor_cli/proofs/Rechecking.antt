@@ -32,14 +32,16 @@ module _ (options : RecheckOptions) (bytes : List ℕ) (view : View) (told : IsT
   -- a file of the torrent had a fault, or memory was refused
   pub not_rechecked : (error : RecheckError Error)
       → IsGiven (IsFileFault (length view.files)) (IsFileSize (length view.files)) IsFileEnd (length view.files) error
-      → (IsHow (Board options.workers) → error ≢ rechecks.Workers) → IsNotRechecked options bytes (of_recheck_error error)
+      → (IsHow (Board options.workers) → error ≢ rechecks.Workers)
+      → IsNotRechecked options bytes (of_recheck_error error)
   not_rechecked (rechecks.Read file start fault) given other = (view, told, (given, other, λ same. cc))
   not_rechecked (rechecks.Changed file) given other = (view, told, (given, other, λ same. cc))
   not_rechecked rechecks.Resources given other = tt
   not_rechecked rechecks.Workers given other = (view, told, (given, other, λ same. cc))
 
 -- a refusal is answered as it is, and want of memory is none
-pub not_judged : (options : RecheckOptions) (bytes : List ℕ) (fault : Fault) → IsNoTorrent bytes fault → IsNotRechecked options bytes fault
+pub not_judged : (options : RecheckOptions) (bytes : List ℕ) (fault : Fault) → IsNoTorrent bytes fault
+    → IsNotRechecked options bytes fault
 not_judged options bytes (faults.Usage line) why = absurd why
 not_judged options bytes (faults.Name fault) why = absurd why
 not_judged options bytes (faults.Scan fault) why = absurd why

@@ -42,6 +42,9 @@ flag_of name = record (new_rule name) { long = Some name; action = Some SetTrue 
 abbrev pub private_option : Rule
 private_option = flag_of (codes "private")
 
+abbrev pub tail_option : Rule
+tail_option = flag_of (codes "tail")
+
 abbrev pub how_option : ValueParser → Rule
 how_option hows = record (option_of (codes "how")) { parser = Some hows; defaults = codes "one" ∷ [] }
 
@@ -74,7 +77,7 @@ with_rules app (rule ∷ rules) = with_rules (with_rule app rule) rules
 -- what the torrent is to have, beside its files
 abbrev pub with_torrent : ValueParser → App → App
 with_torrent kinds app = with_rules app
-    (name_option ∷ piece_length_option ∷ kind_option kinds ∷ announce_option ∷ private_option ∷ [])
+    (name_option ∷ piece_length_option ∷ kind_option kinds ∷ announce_option ∷ private_option ∷ tail_option ∷ [])
 
 -- who hashes, where the torrent goes, and where the files are
 abbrev pub with_ways : ValueParser → App → App

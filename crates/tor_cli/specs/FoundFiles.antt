@@ -24,8 +24,8 @@ abbrev pub length_text : Option ℕ → List ℕ
 length_text None = codes "-"
 length_text (Some length) = decimal length
 
--- the line of a file: its state, how many of its pieces hold, of how many, its length there and as the torrent says, and
--- its path
+-- the line of a file: its state, how many of its pieces hold, of how many, its length there and as the torrent says,
+-- and its path
 abbrev pub found_line : FileFound → TreeFile → List ℕ
 found_line found file =
     state_word found.state ++ (codes " " ++ (decimal found.good ++ (codes " " ++ (decimal found.pieces

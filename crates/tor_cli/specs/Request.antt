@@ -45,6 +45,7 @@ settings_of_options options single = record {
   piece_length = options.piece_length;
   announce = option_map (λ url. url.now) options.announce;
   is_private = options.is_private;
+  tail = options.tail;
 }
 
 -- the order that the options ask for

@@ -1,5 +1,6 @@
 -- What the words of the command line ask for.
-use Rattle.std.specs.Prelude.{◌≡◌, ◌⊎◌, ◌≤◌, ℕ, Bool, true, false, List, ◌++◌, Option, Some, option_map, codes, string_bytes}
+use Rattle.std.specs.Prelude.{◌≡◌, ◌⊎◌, ◌≤◌, ℕ, Bool, true, false, List, ◌++◌, Option, Some, option_map, codes}
+use Rattle.std.specs.Prelude.{string_bytes}
 use Rattle.std.specs.Borrow.{Bor}
 use Rattle.std.specs.Str.Parse.{IsNumeral, digits_value, without_leading_plus}
 use Rattle.clap.specs.Values.{bool_text}
@@ -68,6 +69,10 @@ abbrev pub IsWorkersIn : List Row → (ℕ → Type 0) → Type 0
 IsWorkersIn rows Holds = (text : List ℕ) × (workers : ℕ) × (first_of (codes "workers") rows ≡ Some text)
     × AreWorkers text workers × Holds workers
 
+-- the flag was given, or not
+abbrev pub IsFlag : List Row → List ℕ → Bool → Type 0
+IsFlag rows name given = one_of name rows ≡ Some (bool_text given)
+
 -- the values of the options, by their names
 pub record AreOptionsIn (rows : List Row) (options : MakeOptions) : Type 0 where
   pub kind : first_of (codes "kind") rows ≡ Some (word_of options.kind)
@@ -77,15 +82,12 @@ pub record AreOptionsIn (rows : List Row) (options : MakeOptions) : Type 0 where
   pub announce : first_of (codes "announce") rows ≡ option_map (λ url. url.now) options.announce
   pub is_private : one_of (codes "private") rows ≡ Some (codes "true") → options.is_private ≡ true
   pub is_public : one_of (codes "private") rows ≡ Some (codes "false") → options.is_private ≡ false
+  pub tail : (given : Bool) → IsFlag rows (codes "tail") given → options.tail ≡ given
   pub way : first_of (codes "how") rows ≡ Some (way_word options.way)
   pub workers : IsWorkersIn rows (HasWorkers options.way)
   pub span : (text : List ℕ) → one_of (codes "span") rows ≡ Some text → IsNumber text (λ number. options.span ≡ number)
   pub out : first_of (codes "out") rows ≡ option_map (λ place. place.now) options.out
   pub place : first_of (codes "path") rows ≡ option_map (λ place. place.now) options.place
-
--- the flag was given, or not
-abbrev pub IsFlag : List Row → List ℕ → Bool → Type 0
-IsFlag rows name given = one_of name rows ≡ Some (bool_text given)
 
 -- what is told of a torrent, where `--null` is given or not
 abbrev pub telling_of : Bool → Telling

@@ -166,6 +166,7 @@ fn order_of(
         piece_length: options.piece_length,
         announce,
         is_private: options.is_private,
+        tail: options.tail,
         span: options.span,
         how: how_of(options.way),
     })

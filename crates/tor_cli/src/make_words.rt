@@ -6,13 +6,15 @@ ghost use Rattle.tor_cli.specs.CommandLine.{AreHows, AreKinds, announce_option, 
 ghost use Rattle.tor_cli.specs.CommandLine.{name_option, out_option, path_argument, piece_length_option};
 ghost use Rattle.tor_cli.specs.CommandLine.{private_option, span_option, with_torrent, with_ways};
 
-use crate::torrent_words::workers_option;
+use crate::torrent_words::{flag_of, workers_option};
 use clap::{Arg, ArgAction, Command, value_parser};
 use std::alloc::{AllocError, Global};
 
 const KINDS: [&str; 3] = ["v1", "v2", "hybrid"];
 
 const DEFAULT_KIND: &str = "v2";
+
+const TAIL: &str = "Pads the last file of a hybrid folder too";
 
 const HOWS: [&str; 4] = ["one", "halves", "board", "streams"];
 
@@ -49,7 +51,8 @@ fn add_torrent<'a>(alloc: Global, command: Command<'a>) -> Result<Command<'a>, A
         .arg(piece_length_option(alloc))?
         .arg(kind_option(alloc))?
         .arg(announce_option(alloc))?
-        .arg(private_option(alloc))
+        .arg(private_option(alloc))?
+        .arg(flag_of(alloc, "tail", TAIL))
 }
 
 // Who hashes, where the torrent goes, and where the files are.

@@ -22,6 +22,8 @@ pub struct MakeOptions<'a> {
     /// The tracker's URL.
     pub announce: Option<&'a str>,
     pub is_private: bool,
+    /// Of a hybrid of files in a folder the last that is not empty has padding too.
+    pub tail: bool,
     /// Who hashes files.
     pub way: Way,
     /// The pieces that a worker hashes as one unit of work.
@@ -43,6 +45,7 @@ pub fn make_options<'a, T: Threads>(rt: &T, matches: &ArgMatches<'a>) -> Option<
         piece_length: matches.get_one::<u64>("piece-length")?,
         announce: matches.get_str("announce"),
         is_private: matches.get_flag("private"),
+        tail: matches.get_flag("tail"),
         way: way_of(
             matches.get_str("how")?,
             workers_of(rt, matches.get_str("workers")?)?,

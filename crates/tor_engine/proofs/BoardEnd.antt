@@ -6,6 +6,9 @@ use lib.ListN.{get_elem?}
 use Rattle.std.proofs.lemmas.List.{drop-map, take-map}
 use Rattle.std.specs.Prelude.{MatchOption, unwrap_or}
 use Rattle.std.specs.List.{AllByRecursion, range_with_len}
+use Rattle.std.specs.List.Sorted.{IsNonDecreasingBy}
+use Rattle.std.proofs.ByRecursion.{all_shuffled}
+use Rattle.std.proofs.lemmas.List.Sorted.{IsPermutation-map}
 use Rattle.tor_board.specs.Desks.{Desk, GivenUnit, hash_of, unit_hashes, units_of}
 use Rattle.tor_board.specs.Results.{IsComplete, IsTreeEnd}
 use Rattle.tor_board.specs.Seats.{IsAllGiven, IsLeastOf}
@@ -24,9 +27,6 @@ use Rattle.tor_engine.specs.steps.Roots.{root_of_run, roots_of_trees}
 use Rattle.tor_engine.specs.steps.Taken.{AnswersSeat, IsIn, IsSumOf, given_pairs, pair_in, unit_at}
 use Rattle.tor_engine.proofs.Counts.{each_mapped, each_more, each_with}
 use Rattle.tor_engine.proofs.SortedNumbers.{in_range, times_moved, up_of_map}
-use Rattle.std.specs.List.Sorted.{IsNonDecreasingBy}
-use Rattle.std.proofs.ByRecursion.{all_shuffled}
-use Rattle.std.proofs.lemmas.List.Sorted.{IsPermutation-map}
 use Rattle.tor_engine.proofs.RunRoots.{IsRun, runs_are}
 use Rattle.tor_engine.proofs.GivenUnits.{each_in_place, each_root, first_found, hash_given, hashes_in_place}
 use Rattle.tor_engine.proofs.GivenUnits.{holds_of_given, none_found, part_of_range, run_at}

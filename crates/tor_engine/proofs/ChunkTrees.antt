@@ -1,5 +1,6 @@
 -- The tree of a content, from the nodes that its chunks have each by itself.
-use Rattle.std.proofs.Common.{◌≡◌, ℕ, suc, ◌+◌, ◌-◌, ◌*◌, ◌^◌, ◌<◌, ◌≤◌, true, cond, List, [], ◌∷◌, ◌++◌, length, map}
+use Rattle.std.proofs.Common.{◌≡◌, ℕ, suc, ◌+◌, ◌-◌, ◌*◌, ◌^◌, ◌<◌, ◌≤◌, Bool, true, false, cond, List, [], ◌∷◌, ◌++◌}
+use Rattle.std.proofs.Common.{length, map}
 use Rattle.std.proofs.Common.{take, drop, get_or, None, Some, arith, refl, ap, ap₂, ◌∙◌, sym, subst, append-nil}
 use Rattle.std.proofs.Common.{length-drop, length-take, min, mul-le-mul_right, zero-mul}
 use Rattle.std.proofs.lemmas.Grind.{div_ceil_times}
@@ -8,6 +9,7 @@ use Rattle.std.proofs.lemmas.List.FromFn.{get_or-map-range_with_len, length-map-
 use Rattle.std.specs.Fork.{slice_chunk}
 use Rattle.std.specs.Int.{div_ceil}
 use Rattle.std.specs.List.{flat_map, range_with_len}
+use Rattle.std.proofs.lemmas.List.Elements.{All-from_recursion}
 use Rattle.tor_merkle.specs.Block.{leaves}
 use Rattle.tor_merkle.specs.Layer.{IsPieceLength, piece_layer, piece_level, piece_roots, pieces_root, root_of}
 use Rattle.tor_merkle.specs.Stack.{padded_root, padded_subtree}
@@ -22,11 +24,12 @@ use Rattle.tor_v1.specs.Piece.{pieces_of}
 use Rattle.tor_engine.specs.Shares.{bare_node, node_in}
 use Rattle.tor_engine.specs.UnitNodes.{node_over}
 use Rattle.tor_engine.specs.declared.unit_sums.UnitSums.{UnitSums}
-use Rattle.tor_engine.specs.steps.ChunkNodes.{IsRunNode, nodes_alone}
-use Rattle.tor_engine.specs.steps.Cuts.{Cut, bare_cuts, closed_cuts, cuts_of_content, ending_in, node_of_bytes}
+use Rattle.tor_engine.specs.steps.ChunkNodes.{AreNodesOf, AreNodesOfOne, IsRunNode, nodes_alone}
+use Rattle.tor_engine.specs.steps.Cuts.{Cut, bare_cuts, cuts_before_end, cuts_of_content, ending_in, node_of_bytes}
 use Rattle.tor_engine.specs.steps.Cuts.{open_text, runs_of, stream_cuts, zeros_between}
 use Rattle.tor_engine.proofs.Levels.{exponents, few_below, piece_at_level, unit_at_level}
 use Rattle.tor_engine.proofs.WidenedRoots.{blocks_allowed}
+use Rattle.tor_engine.proofs.ByFile.{enough_nodes, own_nodes}
 
 -- ---- the bytes of all chunks
 
@@ -54,10 +57,17 @@ module _ {X : Type 0} (f : List ℕ → X) where
         ∙ bare_bytes (runs_of size content))
         (own_bytes contents)
 
-    pub bytes_of_stream : (contents : List (List ℕ)) → map (λ cut. f cut.0) (stream_cuts kind p size contents)
+    -- a tail is none of them
+    bytes_before_end : (tail : Bool) (cuts : List Cut)
+        → map (λ cut. f cut.0) (cond tail cuts (ending_in 0 cuts)) ≡ map (λ cut. f cut.0) cuts
+    bytes_before_end true cuts = refl
+    bytes_before_end false cuts = same_bytes 0 cuts
+
+    pub bytes_of_stream : (tail : Bool) (contents : List (List ℕ))
+        → map (λ cut. f cut.0) (stream_cuts kind tail p size contents)
         ≡ flat_map (λ content. map f (runs_of size content)) contents
-    bytes_of_stream contents =
-        same_bytes 0 (closed_cuts kind p size contents ++ bare_cuts (runs_of size (open_text kind contents [])))
+    bytes_of_stream tail contents =
+        bytes_before_end tail (cuts_before_end kind p size contents)
         ∙ ap₂ (λ xs ys. map (λ (cut : Cut). f cut.0) (xs ++ bare_cuts (runs_of size ys)))
         (ap (λ b. cond b (flat_map (cuts_of_content kind p size) contents) []) trees)
         (ap (λ b. cond b [] (flat_map (λ content. content) contents ++ [])) trees)
@@ -66,11 +76,11 @@ module _ {X : Type 0} (f : List ℕ → X) where
         ∙ ap (map (λ (cut : Cut). f cut.0)) (append-nil _) ∙ own_bytes contents
 
 -- the nodes of all chunks, where the kind has trees
-pub nodes_of_stream : (kind : Kind) (p size : ℕ) (some : 0 < size) (trees : has_v2 kind ≡ true)
-    (contents : List (List ℕ)) → map (λ cut. node_of_bytes kind p cut.0) (stream_cuts kind p size contents)
+pub nodes_of_stream : (kind : Kind) (tail : Bool) (p size : ℕ) (some : 0 < size) (trees : has_v2 kind ≡ true)
+    (contents : List (List ℕ)) → map (λ cut. node_of_bytes kind p cut.0) (stream_cuts kind tail p size contents)
     ≡ flat_map (nodes_alone p size) contents
-nodes_of_stream kind p size some trees contents =
-    bytes_of_stream (node_of_bytes kind p) kind p size some trees contents
+nodes_of_stream kind tail p size some trees contents =
+    bytes_of_stream (node_of_bytes kind p) kind p size some trees tail contents
     ∙ ap (λ b. flat_map (λ content. map (λ bytes. cond b (node_over p None bytes) bare_node) (runs_of size content))
     contents) trees
 
@@ -147,6 +157,34 @@ module _ (p size : ℕ) (some : 0 < size) (content : List ℕ) (own : List UnitS
         let inside : i < length (runs_of size content) = omega (arith, there, many, count_of_runs size content) in
         take_more (runs_of size content) i [] inside
         ∙ ap (λ r. take i (runs_of size content) ++ r ∷ []) (run_is size content i [] inside)
+
+-- the chunks of one content, of those that are left
+module _ (p size : ℕ) (contents : List (List ℕ)) (lengths : List ℕ) (chunks left : List UnitSums) (i : ℕ)
+    (are : AreNodesOf p size contents lengths chunks) (listed : i < length lengths)
+    (is : map node_in left ≡ flat_map (nodes_alone p size) (drop i contents)) (n : ℕ)
+    (count : n ≡ min (div_ceil (get_or lengths i 0) size) (length left)) where
+  abbrev content_at : List ℕ
+  content_at = get_or contents i []
+
+  pub content_there : i < length contents
+  content_there = omega (arith, listed, ap length are.counted, length-map contents length)
+
+  same_length : get_or lengths i 0 ≡ length content_at
+  same_length = ap (λ xs. get_or xs i 0) (sym are.counted) ∙ get_or-map length contents i [] 0 content_there
+
+  pub all_own : n ≡ length (nodes_alone p size content_at)
+  all_own =
+      let counted = ap (λ m. div_ceil m size) same_length ∙ sym (count_of_runs size content_at)
+      ∙ sym (length-map (runs_of size content_at) (node_over p None)) in
+      omega (arith, count, counted, enough_nodes (nodes_alone p size) contents i content_there left is _ counted)
+
+  pub own_chunks : AreNodesOfOne p size content_at (get_or lengths i 0) (take n left)
+  own_chunks = record {
+    counted = sym same_length;
+    small = subst (λ (m : ℕ). m ≤ 2 ^ 50) (sym same_length)
+        (All-from_recursion (λ (one : List ℕ). length one ≤ 2 ^ 50) contents are.small i [] content_there);
+    nodes = own_nodes (nodes_alone p size) contents i content_there left is n all_own;
+  }
 
 -- how many chunks a content may have
 pub few_chunks : (size : ℕ) (count : ℕ) → IsPieceLength size → count ≤ 2 ^ 50

@@ -11,8 +11,8 @@ use Rattle.tor_tree.specs.declared.kinds.Kind.{Kind}
 use Rattle.tor_v1.proofs.ProvedLaws.{pieces_nil}
 use Rattle.tor_engine.specs.declared.cutter.Cutter.{Cutter}
 use Rattle.tor_engine.specs.steps.Cuts.{HasCut, HasPut, IsCutOff, PutsHeld, bare_cuts, closed_cuts, cut_of, cuts_held}
-use Rattle.tor_engine.specs.steps.Cuts.{cuts_of_content, ending_in, open_text, runs_of, units_held, units_of}
-use Rattle.tor_engine.specs.steps.Cuts.{zeros_between}
+use Rattle.tor_engine.specs.steps.Cuts.{cuts_of_content, ending_in, open_text, runs_of, stream_cuts, units_held}
+use Rattle.tor_engine.specs.steps.Cuts.{units_of, zeros_between}
 use Rattle.tor_engine.proofs.CutLists.{held_closes, held_ends}
 use Rattle.tor_engine.proofs.Cutting.{none_of}
 use Rattle.tor_engine.proofs.StreamContent.{some_run}
@@ -137,12 +137,19 @@ module _ (kind : Kind) (p size : ℕ) (some : 0 < size) where
 
   -- ---- where all end
 
-  pub all_end : (contents : List (List ℕ)) (old new : Cutter) → Off contents [] old → PutsHeld 0 old new
-      → HasPut kind p size contents (put_by new.feeder)
-  all_end contents old new off puts = record {
-    cuts = puts.cuts
-        ∙ held_ends (map cut_of (put_by old.feeder)) old.held 0 old.zeros (λ none. ap (map cut_of) (off.begun none))
-        ∙ ap (ending_in 0) off.cuts;
+  -- with the zeros that were to follow what is held, or with none
+  end_cuts : (tail : Bool) (contents : List (List ℕ)) (old : Cutter) → Off contents [] old
+      → map cut_of (put_by old.feeder) ++ cuts_held old.held (cond tail old.zeros 0)
+      ≡ stream_cuts kind tail p size contents
+  end_cuts true contents old off = off.cuts
+  end_cuts false contents old off =
+      held_ends (map cut_of (put_by old.feeder)) old.held 0 old.zeros (λ none. ap (map cut_of) (off.begun none))
+      ∙ ap (ending_in 0) off.cuts
+
+  pub all_end : (tail : Bool) (contents : List (List ℕ)) (old new : Cutter) → Off contents [] old
+      → PutsHeld (cond tail old.zeros 0) old new → HasPut kind tail p size contents (put_by new.feeder)
+  all_end tail contents old new off puts = record {
+    cuts = puts.cuts ∙ end_cuts tail contents old off;
     units =
         let all = puts.units ∙ off.units in
         all ∙ ap (range_with_len 0) (sym (length-range_with_len 0 old.next) ∙ sym (ap length all)

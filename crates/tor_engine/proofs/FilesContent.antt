@@ -19,7 +19,7 @@ abbrev File : Type 0
 File = List (List ℕ) × ℕ
 
 -- files one after the other
-joined_files : (files : List File) (contents : List (List ℕ)) → AreContentsOfFiles files contents
+pub joined_files : (files : List File) (contents : List (List ℕ)) → AreContentsOfFiles files contents
     → joined_content (map file_entry files) contents ≡ flat_map (λ content. content) contents
 unfolding joined_content
 joined_files [] [] fit = refl
@@ -40,7 +40,7 @@ same_bytes (file ∷ files) (content ∷ contents) fit =
     ap₂ (λ n b. ltb 0 n || b) (sym first) (same_bytes files contents rest)
 
 -- the padding after a file, where it lacks so many bytes
-padding_first : (n : ℕ) (b : Bool) (entries : List Entry) (contents : List (List ℕ))
+pub padding_first : (n : ℕ) (b : Bool) (entries : List Entry) (contents : List (List ℕ))
     → joined_content (cond (ltb 0 n && b) (pad_entry n ∷ []) [] ++ entries) contents
     ≡ zeros (cond b n 0) ++ joined_content entries contents
 unfolding joined_content
@@ -57,7 +57,7 @@ padding_first (suc n) b entries contents =
 
 module _ (size p : ℕ) (some : 0 < size) (pos : 0 < p) where
   aligned_text : (files : List File) (contents : List (List ℕ)) → AreContentsOfFiles files contents
-      → joined_content (aligned_entries p files) contents ≡ padded_text size some p pos contents
+      → joined_content (aligned_entries false p files) contents ≡ padded_text size some p pos contents
   unfolding joined_content aligned_entries
   aligned_text [] [] fit = refl
   aligned_text [] (content ∷ contents) fit = cc
@@ -66,14 +66,15 @@ module _ (size p : ℕ) (some : 0 < size) (pos : 0 < p) where
       let first : length content ≡ file.1 = cc in
       let rest : AreContentsOfFiles files contents = cc in
       ap (λ xs. content ++ xs)
-      (padding_first (padding_length p file.1) (has_bytes files) (aligned_entries p files) contents
+      (padding_first (padding_length p file.1) (has_bytes files) (aligned_entries false p files) contents
       ∙ ap₂ (λ n xs. zeros n ++ xs)
       (ap₂ (λ b n. cond b (padding_length p n) 0) (same_bytes files contents rest) (sym first))
       (aligned_text files contents rest))
 
   -- what the chunks have together, where the kind has SHA-1 of pieces
   pub stream_text : (kind : Kind) (files : List File) (contents : List (List ℕ)) → AreContentsOfFiles files contents
-      → has_v1 kind ≡ true → joined_cuts (stream_cuts kind p size contents) ≡ cut_content kind p files contents
+      → has_v1 kind ≡ true
+      → joined_cuts (stream_cuts kind false p size contents) ≡ cut_content kind false p files contents
   stream_text V1 files contents fit pieces = cuts_of_v1 size some p contents ∙ sym (joined_files files contents fit)
   stream_text V2 files contents fit pieces = cc
   stream_text Hybrid files contents fit pieces =

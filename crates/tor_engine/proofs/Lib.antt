@@ -42,6 +42,7 @@ pub mod SortedNumbers
 pub mod SortedUnits
 pub mod StreamContent
 pub mod StreamPieces
+pub mod StreamTail
 pub mod StreamWorkers
 pub mod Told
 pub mod ToldContents

@@ -1,5 +1,5 @@
 -- The first position that fails, in the order of the units and in that of the files.
-use Rattle.std.proofs.Common.{◌≡◌, ℕ, ◌+◌, ◌*◌, ◌<◌, List, [], ◌∷◌, map, Option, refl, ap, ap₂, sym, ◌∙◌}
+use Rattle.std.proofs.Common.{◌≡◌, ℕ, ◌+◌, ◌*◌, ◌<◌, false, List, [], ◌∷◌, map, Option, refl, ap, ap₂, sym, ◌∙◌}
 use Rattle.std.specs.List.{enumerate_from, flat_map, range_with_len}
 use Rattle.std.specs.Option.{option_or}
 use Rattle.tor_engine.specs.Fault.{byte_fault, file_fault, first_byte_fault, first_of, part_fault, unit_fault}
@@ -65,5 +65,5 @@ module _ {F : Type 0} (facts : SourceFacts F) where
       → units_fault facts (hash_units kind p span files) ≡ first_byte_fault facts (lengths_of files)
   fault_of_units kind p span files pos =
       ap (units_fault facts) (entry_units_of_files kind p span files)
-      ∙ fault_of_entries kind p span (v1_entries (layout_of kind) p files) pos
-      ∙ ap (first_byte_fault facts) (lengths_of_files (layout_of kind) p files)
+      ∙ fault_of_entries kind p span (v1_entries (layout_of kind false) p files) pos
+      ∙ ap (first_byte_fault facts) (lengths_of_files (layout_of kind false) p files)

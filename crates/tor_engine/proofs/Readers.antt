@@ -1,6 +1,6 @@
 -- Readers that were read one after the other.
-use Rattle.std.proofs.Common.{◌≡◌, ◌<◌, ◌+◌, ℕ, List, [], ◌∷◌, ◌++◌, length, map, get_or, Option, None, Some, arith}
-use Rattle.std.proofs.Common.{◌≤◌, refl, take}
+use Rattle.std.proofs.Common.{◌≡◌, Bool, ◌<◌, ◌+◌, ℕ, List, [], ◌∷◌, ◌++◌, length, map, get_or, Option, None, Some}
+use Rattle.std.proofs.Common.{◌≤◌, arith, refl, take}
 use Rattle.std.proofs.Common.{ap, ap₂, sym, ◌∙◌, subst, append-nil, length-append}
 use Rattle.std.proofs.Math.Seq.{take-append_seam}
 use Rattle.std.proofs.lemmas.List.{get_or-append-add, get_or-map, length-map, map-append}
@@ -73,10 +73,10 @@ told_contents (content ∷ contents) (one ∷ given) all =
     whole (Some rest) gave end = sym (gave ∙ ap (λ xs. one ++ xs) end ∙ append-nil one)
 
 -- so what they sum up to is what these do
-pub told_sums : (kind : Kind) (p : ℕ) (known : List (Option (List ℕ))) (sums : Sums)
-    → AreSumsOfReaders kind p known sums → (contents : List (List ℕ)) → known ≡ map Some contents
-    → AreSumsOfContents kind p contents sums
-told_sums kind p known sums are contents is =
-    subst (λ (xs : List (List ℕ)). AreSumsOfContents kind p xs sums)
+pub told_sums : (kind : Kind) (tail : Bool) (p : ℕ) (known : List (Option (List ℕ))) (sums : Sums)
+    → AreSumsOfReaders kind tail p known sums → (contents : List (List ℕ)) → known ≡ map Some contents
+    → AreSumsOfContents kind tail p contents sums
+told_sums kind tail p known sums are contents is =
+    subst (λ (xs : List (List ℕ)). AreSumsOfContents kind tail p xs sums)
     (told_contents contents are.contents (subst (λ (ks : List (Option (List ℕ))). GiveContents ks are.contents) is
     are.given)) are.sums_up

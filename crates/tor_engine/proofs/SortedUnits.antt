@@ -1,19 +1,19 @@
 -- What was made of chunks, in any order, put in the order of their numbers.
-use Rattle.std.proofs.Common.{◌≡◌, ℕ, ◌+◌, ◌<◌, List, [], ◌∷◌, length, map, get_or, arith, refl, ap, ◌∙◌, sym, subst}
-use Rattle.std.proofs.Common.{IsPermutation}
+use Rattle.std.proofs.Common.{◌≡◌, ℕ, ◌+◌, ◌<◌, Bool, List, [], ◌∷◌, length, map, get_or, arith, refl, ap, ◌∙◌, sym}
+use Rattle.std.proofs.Common.{subst, IsPermutation}
 use Rattle.std.proofs.lemmas.List.{ext_get_or, get_or-map, get_or_default, length-map, nil_from_length}
 use Rattle.std.proofs.lemmas.Simd.{map-map}
 use Rattle.std.proofs.lemmas.List.FromFn.{get_or-range_with_len}
 use Rattle.std.proofs.lemmas.List.Sorted.{Contains-permutation, IsPermutation-map, IsPermutation-sym}
 use Rattle.std.proofs.lemmas.List.Sorted.{IsPermutation-trans, length_permutation}
 use Rattle.std.specs.List.{range_with_len}
+use Rattle.std.specs.List.Sorted.{IsNonDecreasingBy}
 use Rattle.tor_lane.specs.declared.chunk.Chunk.{Chunk}
 use Rattle.tor_tree.specs.declared.kinds.Kind.{Kind}
 use Rattle.tor_engine.specs.declared.unit_sums.UnitSums.{UnitSums}
 use Rattle.tor_engine.specs.steps.ChunkNodes.{SumUpCuts}
 use Rattle.tor_engine.specs.steps.Cuts.{Cut, PutsContents, SumsFacts, cut_of, facts_of, facts_of_chunk, node_of_bytes}
 use Rattle.tor_engine.specs.steps.Cuts.{pieces_of_cut}
-use Rattle.std.specs.List.Sorted.{IsNonDecreasingBy}
 use Rattle.tor_engine.proofs.SortedNumbers.{sorted_range, up_of_map}
 
 -- ---- values under such numbers
@@ -56,8 +56,8 @@ module _ {X : Type 0} (number : X → ℕ) (xs ys : List X) (moved : IsPermutati
 
 -- ---- what was made of chunks
 
-module _ (kind : Kind) (p size : ℕ) (contents : List (List ℕ)) (lengths : List ℕ) (put taken : List Chunk)
-    (sums sorted : List UnitSums) (puts : PutsContents kind p size contents lengths put)
+module _ (kind : Kind) (tail : Bool) (p size : ℕ) (contents : List (List ℕ)) (lengths : List ℕ)
+    (put taken : List Chunk) (sums sorted : List UnitSums) (puts : PutsContents kind tail p size contents lengths put)
     (settled : IsPermutation put taken) (made : map facts_of sums ≡ map (facts_of_chunk kind p) taken)
     (moved : IsPermutation sums sorted) (up : IsNonDecreasingBy (λ (one : UnitSums). one.unit) sorted) where
   facts_in_order : map facts_of sorted ≡ map (facts_of_chunk kind p) put
@@ -72,7 +72,7 @@ module _ (kind : Kind) (p size : ℕ) (contents : List (List ℕ)) (lengths : Li
       ∙ ap (range_with_len 0) (sym (length-map put (facts_of_chunk kind p))))
       (up_of_map number facts_of sorted up)
 
-  pub sum_up_cuts : SumUpCuts kind p size contents lengths sorted
+  pub sum_up_cuts : SumUpCuts kind tail p size contents lengths sorted
   sum_up_cuts =
       let node = λ (facts : SumsFacts). facts.1 in
       let own = λ (facts : SumsFacts). facts.2 in

@@ -82,7 +82,7 @@ module _ (size : ℕ) (some : 0 < size) where
     | inr filled ↦ filled.1
   ]
 
-  content_with : (z : ℕ) (content : List ℕ) → HasRun content
+  pub content_with : (z : ℕ) (content : List ℕ) → HasRun content
       → joined_cuts (ending_in z (bare_cuts (runs_of size content))) ≡ content ++ zeros z
   content_with z content (run, (runs, is)) =
       ap (λ rs. joined_cuts (ending_in z (bare_cuts rs))) is ∙ joined_runs z run runs
@@ -90,7 +90,7 @@ module _ (size : ℕ) (some : 0 < size) where
 
   -- in version 1
   pub cuts_of_v1 : (p : ℕ) (contents : List (List ℕ))
-      → joined_cuts (stream_cuts V1 p size contents) ≡ flat_map (λ content. content) contents
+      → joined_cuts (stream_cuts V1 false p size contents) ≡ flat_map (λ content. content) contents
   cuts_of_v1 p contents =
       let text = flat_map (λ content. content) contents in
       ap (λ xs. joined_cuts (ending_in 0 (bare_cuts (runs_of size xs)))) (append-nil text)

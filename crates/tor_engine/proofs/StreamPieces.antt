@@ -16,8 +16,8 @@ use Rattle.tor_v1.specs.Entries.{padding_length}
 use Rattle.tor_v1.specs.Piece.{piece_sums, pieces_of}
 use Rattle.tor_engine.specs.steps.Cuts.{Cut, bare_cuts, cuts_of_content, ending_in, open_text, pieces_of_cut, runs_of}
 use Rattle.tor_engine.specs.steps.Cuts.{stream_cuts}
-use Rattle.tor_engine.proofs.FilesContent.{stream_text}
 use Rattle.tor_engine.proofs.StreamContent.{joined_again, joined_cuts, text_of}
+use Rattle.tor_engine.proofs.StreamTail.{stream_text}
 use Rattle.tor_engine.proofs.Zeros.{length_with_zeros}
 
 module _ (p : ℕ) where
@@ -126,36 +126,41 @@ module _ (p : ℕ) where
     all_whole pos (content ∷ contents) =
         all_after (cuts_of_content Hybrid p size content) _ (own_whole pos content) (all_whole pos contents)
 
-    pub stream_whole : (pos : 0 < p) (kind : Kind) (contents : List (List ℕ)) → has_v1 kind ≡ true
-        → AreWhole (stream_cuts kind p size contents)
-    stream_whole pos V1 contents pieces =
-        ending_whole 0 _ (bare_whole (runs_of size (open_text V1 contents [])) (full_runs _))
-    stream_whole pos V2 contents pieces = cc
-    stream_whole pos Hybrid contents pieces =
-        ending_whole 0 _ (but_the_last _ (all_after _ (bare_cuts (runs_of size [])) (all_whole pos contents)
+    -- with a tail or without
+    end_whole : (tail : Bool) (cuts : List Cut) → AreWhole cuts → AreWhole (cond tail cuts (ending_in 0 cuts))
+    end_whole true cuts whole = whole
+    end_whole false cuts whole = ending_whole 0 cuts whole
+
+    pub stream_whole : (pos : 0 < p) (kind : Kind) (tail : Bool) (contents : List (List ℕ)) → has_v1 kind ≡ true
+        → AreWhole (stream_cuts kind tail p size contents)
+    stream_whole pos V1 tail contents pieces =
+        end_whole tail _ (bare_whole (runs_of size (open_text V1 contents [])) (full_runs _))
+    stream_whole pos V2 tail contents pieces = cc
+    stream_whole pos Hybrid tail contents pieces =
+        end_whole tail _ (but_the_last _ (all_after _ (bare_cuts (runs_of size [])) (all_whole pos contents)
         (subst (λ (runs : List (List ℕ)). AllByRecursion IsWhole (bare_cuts runs)) (sym (pieces_nil size some)) tt)))
 
 -- those of all chunks, where the kind has them
-pub pieces_of_stream : (kind : Kind) (p size span : ℕ) (some : 0 < size) (is : size ≡ span * p) (pos : 0 < p)
-    (files : List (List (List ℕ) × ℕ)) (contents : List (List ℕ)) → AreContentsOfFiles files contents
-    → flat_map (pieces_of_cut kind p) (stream_cuts kind p size contents)
-    ≡ cond (has_v1 kind) (piece_sums p (cut_content kind p files contents)) []
-pieces_of_stream kind p size span some is pos files contents fit = by_kind (has_v1 kind) refl
+pub pieces_of_stream : (kind : Kind) (tail : Bool) (p size span : ℕ) (some : 0 < size) (is : size ≡ span * p)
+    (pos : 0 < p) (files : List (List (List ℕ) × ℕ)) (contents : List (List ℕ)) → AreContentsOfFiles files contents
+    → flat_map (pieces_of_cut kind p) (stream_cuts kind tail p size contents)
+    ≡ cond (has_v1 kind) (piece_sums p (cut_content kind tail p files contents)) []
+pieces_of_stream kind tail p size span some is pos files contents fit = by_kind (has_v1 kind) refl
   where
     none_of_all : (cuts : List Cut) → flat_map {A = ℕ} (λ (cut : Cut). []) cuts ≡ []
     none_of_all [] = refl
     none_of_all (cut ∷ cuts) = none_of_all cuts
 
-    by_kind : (b : Bool) → has_v1 kind ≡ b → flat_map (pieces_of_cut kind p) (stream_cuts kind p size contents)
-        ≡ cond (has_v1 kind) (piece_sums p (cut_content kind p files contents)) []
+    by_kind : (b : Bool) → has_v1 kind ≡ b → flat_map (pieces_of_cut kind p) (stream_cuts kind tail p size contents)
+        ≡ cond (has_v1 kind) (piece_sums p (cut_content kind tail p files contents)) []
     by_kind true pieces =
-        let cuts = stream_cuts kind p size contents in
+        let cuts = stream_cuts kind tail p size contents in
         ap (λ b. flat_map (λ (cut : Cut). cond b (piece_sums p (text_of cut)) []) cuts) pieces
-        ∙ sums_of_cuts p pos cuts (stream_whole p size span some is pos kind contents pieces)
-        ∙ ap (piece_sums p) (stream_text size p some pos kind files contents fit pieces)
-        ∙ sym (ap (λ b. cond b (piece_sums p (cut_content kind p files contents)) []) pieces)
+        ∙ sums_of_cuts p pos cuts (stream_whole p size span some is pos kind tail contents pieces)
+        ∙ ap (piece_sums p) (stream_text size p some pos kind tail files contents fit pieces)
+        ∙ sym (ap (λ b. cond b (piece_sums p (cut_content kind tail p files contents)) []) pieces)
     by_kind false none =
-        let cuts = stream_cuts kind p size contents in
+        let cuts = stream_cuts kind tail p size contents in
         ap (λ b. flat_map (λ (cut : Cut). cond b (piece_sums p (text_of cut)) []) cuts) none
         ∙ none_of_all cuts
-        ∙ sym (ap (λ b. cond b (piece_sums p (cut_content kind p files contents)) []) none)
+        ∙ sym (ap (λ b. cond b (piece_sums p (cut_content kind tail p files contents)) []) none)

@@ -1,5 +1,5 @@
 -- Readers that are read to their ends, one after the other, and what their bytes sum up to.
-use Rattle.std.specs.Prelude.{◌≡◌, ◌*◌, ◌<◌, ◌≤◌, ℕ, List, length, slice_index_or, take, Option, None, Some}
+use Rattle.std.specs.Prelude.{◌≡◌, ◌*◌, ◌<◌, ◌≤◌, ℕ, Bool, List, length, slice_index_or, take, Option, None, Some}
 use Rattle.std.specs.Io.KnownBytes.{Consumes, IsAtEnd}
 use Rattle.std.specs.List.{AllByRecursion, AllZip}
 use Rattle.tor_merkle.specs.declared.TheConstants.{MAX_LENGTH}
@@ -30,19 +30,19 @@ GivesWhole known content = (left : Option (List ℕ)) × Consumes known left con
 abbrev pub GiveContents : List (Option (List ℕ)) → List (List ℕ) → Type 0
 GiveContents known contents = AllZip GivesWhole known contents
 
--- the sums of contents, whatever the paths of their files
-abbrev pub AreSumsOfContents : Kind → ℕ → List (List ℕ) → Sums → Type 0
-AreSumsOfContents kind piece_length contents sums =
+-- the sums of contents, whatever the paths of their files; with a tail the last of a hybrid is padded too
+abbrev pub AreSumsOfContents : Kind → Bool → ℕ → List (List ℕ) → Sums → Type 0
+AreSumsOfContents kind tail piece_length contents sums =
     (files : List (List (List ℕ) × ℕ)) → AreContentsOfFiles files contents
-    → AreSumsOf kind piece_length contents (cut_content kind piece_length files contents) sums
+    → AreSumsOf kind piece_length contents (cut_content kind tail piece_length files contents) sums
 
 -- the sums of what readers give; none of them gives more than a file may have
-pub record AreSumsOfReaders (kind : Kind) (piece_length : ℕ) (known : List (Option (List ℕ))) (sums : Sums)
-    : Type 0 where
+pub record AreSumsOfReaders (kind : Kind) (tail : Bool) (piece_length : ℕ) (known : List (Option (List ℕ)))
+    (sums : Sums) : Type 0 where
   pub contents : List (List ℕ)
   pub given : GiveContents known contents
   pub small : AllByRecursion (λ content. length content ≤ MAX_LENGTH) contents
-  pub sums_up : AreSumsOfContents kind piece_length contents sums
+  pub sums_up : AreSumsOfContents kind tail piece_length contents sums
 
 -- the reader of this number gave these bytes, and each before it gave a content, to its end
 pub record ReadsUpTo (known : List (Option (List ℕ))) (file : ℕ) (bytes : List ℕ) : Type 0 where

@@ -21,7 +21,7 @@ use tor_source::{FillFault, zeros};
 use tor_tree::Kind;
 
 /// Cuts what is read into chunks, and puts them into a lane. The last chunk of a content is held back until it is known
-/// whether a later content has a byte, since padding goes between two of them alone.
+/// whether a later content has a byte, since padding goes between two of them, and after the last only as a tail.
 #[derive(Drop)]
 pub(crate) struct Cutter {
     pub(crate) feeder: Feeder,
@@ -234,17 +234,23 @@ impl Cutter {
         Ok(())
     }
 
-    /// Puts what waits, and what is held then: no byte comes any more.
-    pub(crate) fn put_rest<T: Wait>(&mut self, rt: &T, alloc: Global) -> Result<(), AllocError>
+    /// Puts what waits, and what is held then: no byte comes any more. With a tail the zeros that were to follow it do.
+    pub(crate) fn put_rest<T: Wait>(
+        &mut self,
+        rt: &T,
+        alloc: Global,
+        tail: bool,
+    ) -> Result<(), AllocError>
         requires within { self.old.filled ≤ vec_len self.old.buffer }
         requires open { IsOpen self.old.feeder }
         ensures put { (kind : Kind) (piece_length size : ℕ) (contents : List (List ℕ)) → 0 < size →
             HasCut kind piece_length size contents [] self.old →
-            OnOk result (HasPut kind piece_length size contents (put_by self.new.feeder)) }
+            OnOk result (HasPut kind tail piece_length size contents (put_by self.new.feeder)) }
         ensures lane { FeedsLaneOf self.old.feeder self.new.feeder × IsOpen self.new.feeder }
     {
         self.cut_rest(rt, alloc)?;
-        self.put_held(rt, 0);
+        let zeros = if tail { self.zeros } else { 0 };
+        self.put_held(rt, zeros);
         Ok(())
     }
 }

@@ -1,5 +1,5 @@
 //! What contents sum up to that went through a lane.
-ghost use Rattle.std.specs.Prelude.{◌≡◌, ◌*◌, ℕ, List, Err, IfErr, IfOk, IsOk, IsOkAnd, MatchResult};
+ghost use Rattle.std.specs.Prelude.{◌≡◌, ◌*◌, ℕ, Bool, List, Err, IfErr, IfOk, IsOk, IsOkAnd, MatchResult};
 ghost use Rattle.tor_lane.specs.Lane.{IsEnded, put_by};
 ghost use Rattle.tor_engine.specs.Streams.{AreSumsOfContents, IsStreamCut};
 ghost use Rattle.tor_engine.specs.steps.Cuts.{PutsContents};
@@ -26,12 +26,12 @@ pub(crate) fn sums_of_fed<F: Drop>(
     requires cut { (span : ℕ) × IsStreamCut kind piece_length span × (size ≡ span * piece_length) }
     requires ended { IsEnded fed.feeder }
     requires done { AreDone kind piece_length fed.feeder fed.workers.items }
-    requires put { IfOk fed.read (λ lengths. (contents : List (List ℕ))
-        × PutsContents kind piece_length size contents lengths.items (put_by fed.feeder)) }
+    requires put { IfOk fed.read (λ lengths. (tail : Bool) × (contents : List (List ℕ))
+        × PutsContents kind tail piece_length size contents lengths.items (put_by fed.feeder)) }
     ensures summed { IfOk result (λ answer. MatchResult answer
-        (λ sums. IsOkAnd fed.read (λ lengths. (contents : List (List ℕ)) →
-        PutsContents kind piece_length size contents lengths.items (put_by fed.feeder) →
-        AreSumsOfContents kind piece_length contents sums))
+        (λ sums. IsOkAnd fed.read (λ lengths. (tail : Bool) (contents : List (List ℕ)) →
+        PutsContents kind tail piece_length size contents lengths.items (put_by fed.feeder) →
+        AreSumsOfContents kind tail piece_length contents sums))
         (λ fault. fed.read ≡ Err fault)) }
     ensures memory { IfErr result (λ _. IsOk fed.read) }
 {
@@ -72,11 +72,11 @@ fn sums_of_taken(
     requires cut { (span : ℕ) × IsStreamCut kind piece_length span × (size ≡ span * piece_length) }
     requires ended { IsEnded feeder }
     requires parted { AreParted kind piece_length feeder takers.items sums.items }
-    requires put { (contents : List (List ℕ))
-        × PutsContents kind piece_length size contents lengths.items (put_by feeder) }
-    ensures { (contents : List (List ℕ)) →
-        PutsContents kind piece_length size contents lengths.items (put_by feeder) →
-        IfOk result (AreSumsOfContents kind piece_length contents) }
+    requires put { (tail : Bool) × (contents : List (List ℕ))
+        × PutsContents kind tail piece_length size contents lengths.items (put_by feeder) }
+    ensures { (tail : Bool) (contents : List (List ℕ)) →
+        PutsContents kind tail piece_length size contents lengths.items (put_by feeder) →
+        IfOk result (AreSumsOfContents kind tail piece_length contents) }
 {
     feeder.settle(takers);
     let mut sums = sums;

@@ -89,6 +89,7 @@ pub(crate) fn feed_readers<G: Gate + Sync, R: Read + Drop, T: Threads + Wait + S
     readers: Vec<R>,
     kind: Kind,
     piece_length: u64,
+    tail: bool,
     cutter: Cutter,
     workers: Vec<StreamWorker>,
 ) -> Result<Fed<EngineError<io::Error>>, AllocError>
@@ -96,7 +97,7 @@ pub(crate) fn feed_readers<G: Gate + Sync, R: Read + Drop, T: Threads + Wait + S
     requires ready { (size : ℕ) × (0 < size) × IsReady kind piece_length size [] cutter }
     requires workers { AreWorkers kind piece_length cutter.feeder workers.items }
     ensures { (size : ℕ) → 0 < size → IsReady kind piece_length size [] cutter →
-        IfOk result (IsFed kind piece_length size (GiveContents (map R.remaining readers.items))
+        IfOk result (IsFed kind tail piece_length size (GiveContents (map R.remaining readers.items))
         (IsFaultOfReaders (map R.remaining readers.items))) }
 {
     let mut cutter = cutter;
@@ -108,7 +109,7 @@ pub(crate) fn feed_readers<G: Gate + Sync, R: Read + Drop, T: Threads + Wait + S
                 × ((size : ℕ) × (0 < size) × IsReady kind piece_length size [] cutter)
                 × AreWorkers kind piece_length cutter.feeder workers.items }
             ensures { (size : ℕ) → 0 < size → IsReady kind piece_length size [] cutter →
-                IfOk result (IsFed kind piece_length size (GiveContents (map R.remaining readers.items))
+                IfOk result (IsFed kind tail piece_length size (GiveContents (map R.remaining readers.items))
                 (IsFaultOfReaders (map R.remaining readers.items))) }
         {
             let promise = Workers {
@@ -125,7 +126,7 @@ pub(crate) fn feed_readers<G: Gate + Sync, R: Read + Drop, T: Threads + Wait + S
                 { take_all(rt, gate, alloc, kind, piece_length, workers) },
             ) {
                 Ok(handle) => {
-                    let read = read_each(rt, alloc, kind, piece_length, readers, &mut cutter);
+                    let read = read_each(rt, alloc, kind, piece_length, tail, readers, &mut cutter);
                     cutter.end(rt);
                     let workers = handle.join(rt);
                     Ok(Fed::new(read, cutter, workers))
@@ -144,6 +145,7 @@ pub(crate) fn feed_input<R: Read, T: Threads + Wait + Sync + Send + Clone + Drop
     reader: &mut R,
     kind: Kind,
     piece_length: u64,
+    tail: bool,
     cutter: Cutter,
     workers: Vec<StreamWorker>,
 ) -> Result<Fed<InputFault>, AllocError>
@@ -151,7 +153,7 @@ pub(crate) fn feed_input<R: Read, T: Threads + Wait + Sync + Send + Clone + Drop
     requires ready { (size : ℕ) × (0 < size) × IsReady kind piece_length size [] cutter }
     requires workers { AreWorkers kind piece_length cutter.feeder workers.items }
     ensures fed { (size : ℕ) → 0 < size → IsReady kind piece_length size [] cutter →
-        IfOk result (IsFed kind piece_length size (GivesInput (R.remaining reader.old) (R.remaining reader.new))
+        IfOk result (IsFed kind tail piece_length size (GivesInput (R.remaining reader.old) (R.remaining reader.new))
         (StopsInput (R.remaining reader.old) (R.remaining reader.new))) }
     ensures untouched { IfErr result (λ _. reader.new ≡ reader.old) }
 {
@@ -172,7 +174,7 @@ pub(crate) fn feed_input<R: Read, T: Threads + Wait + Sync + Send + Clone + Drop
         { take_all(&own, &OpenGate, alloc, kind, piece_length, workers) },
     ) {
         Ok(handle) => {
-            let read = read_input(rt, alloc, kind, piece_length, reader, &mut cutter);
+            let read = read_input(rt, alloc, kind, piece_length, tail, reader, &mut cutter);
             cutter.end(rt);
             let workers = handle.join(rt);
             Ok(Fed::new(read, cutter, workers))

@@ -31,18 +31,28 @@ pub fn hash_input<R: Read, T: Threads + Wait + Sync + Send + Clone + Drop + 'sta
     piece_length: u64,
     span: u32,
     workers: u32,
+    tail: bool,
 ) -> Result<Sums, InputFault>
     requires cut { IsStreamCut kind piece_length span }
     requires workers { (1 ≤ workers) × (workers ≤ MAX_WORKERS) }
     ensures summed { IfOk result (λ sums. (content : List ℕ)
         × ReadsAll (R.remaining reader.old) (R.remaining reader.new) content
-        × AreSumsOfContents kind piece_length (content ∷ []) sums) }
+        × AreSumsOfContents kind tail piece_length (content ∷ []) sums) }
     ensures stopped { IfErr result (λ fault.
         ReadsSome (R.remaining reader.old) (R.remaining reader.new) (EndsInput MAX_INPUT_LENGTH fault)) }
 {
     let size = piece_length * span as u64;
     let (cutter, workers) = open(alloc, size, workers)?;
-    let fed = feed_input(rt, alloc, reader, kind, piece_length, cutter, workers)?;
+    let fed = feed_input(
+        rt,
+        alloc,
+        reader,
+        kind,
+        piece_length,
+        tail,
+        cutter,
+        workers,
+    )?;
     let summed = sums_of_fed(alloc, kind, piece_length, size, fed)?;
     summed
 }

@@ -24,6 +24,7 @@ pub(crate) fn read_each<R: Read + Drop, T: Wait>(
     alloc: Global,
     kind: Kind,
     piece_length: u64,
+    tail: bool,
     readers: Vec<R>,
     cutter: &mut Cutter,
 ) -> Result<Vec<u64>, EngineError<io::Error>>
@@ -31,7 +32,7 @@ pub(crate) fn read_each<R: Read + Drop, T: Wait>(
     requires ready { (size : ℕ) × (0 < size) × IsReady kind piece_length size [] cutter.old }
     ensures put { (size : ℕ) → 0 < size → IsReady kind piece_length size [] cutter.old → IfOk result (λ lengths.
         (contents : List (List ℕ)) × GiveContents (map R.remaining readers.items) contents
-        × PutsContents kind piece_length size contents lengths.items (put_by cutter.new.feeder)) }
+        × PutsContents kind tail piece_length size contents lengths.items (put_by cutter.new.feeder)) }
     ensures lane { FeedsLaneOf cutter.old.feeder cutter.new.feeder × IsOpen cutter.new.feeder }
     ensures fault { IfErr result (IsFaultOfReaders (map R.remaining readers.items)) }
 {
@@ -44,7 +45,7 @@ pub(crate) fn read_each<R: Read + Drop, T: Wait>(
             Err(stop) => return Err(error_of(stop, file)),
         }
     }
-    cutter.put_rest(rt, alloc)?;
+    cutter.put_rest(rt, alloc, tail)?;
     Ok(lengths)
 }
 
@@ -70,6 +71,7 @@ pub(crate) fn read_input<R: Read, T: Wait>(
     alloc: Global,
     kind: Kind,
     piece_length: u64,
+    tail: bool,
     reader: &mut R,
     cutter: &mut Cutter,
 ) -> Result<Vec<u64>, InputFault>
@@ -77,13 +79,13 @@ pub(crate) fn read_input<R: Read, T: Wait>(
     requires ready { (size : ℕ) × (0 < size) × IsReady kind piece_length size [] cutter.old }
     ensures put { (size : ℕ) → 0 < size → IsReady kind piece_length size [] cutter.old → IfOk result (λ lengths.
         (contents : List (List ℕ)) × GivesInput (R.remaining reader.old) (R.remaining reader.new) contents
-        × PutsContents kind piece_length size contents lengths.items (put_by cutter.new.feeder)) }
+        × PutsContents kind tail piece_length size contents lengths.items (put_by cutter.new.feeder)) }
     ensures lane { FeedsLaneOf cutter.old.feeder cutter.new.feeder × IsOpen cutter.new.feeder }
     ensures stopped { IfErr result (StopsInput (R.remaining reader.old) (R.remaining reader.new)) }
 {
     match cutter.read_whole(rt, alloc, kind, piece_length, MAX_INPUT_LENGTH, reader) {
         Ok(length) => {
-            cutter.put_rest(rt, alloc)?;
+            cutter.put_rest(rt, alloc, tail)?;
             Ok(only(alloc, length)?)
         }
         Err(stop) => Err(fault_of(stop)),

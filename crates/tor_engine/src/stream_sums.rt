@@ -1,5 +1,5 @@
 //! What the contents of readers sum up to, from what their chunks do.
-ghost use Rattle.std.specs.Prelude.{◌≡◌, ◌*◌, ◌^◌, ◌<◌, ◌≤◌, ℕ, List, Some, IfOk, length};
+ghost use Rattle.std.specs.Prelude.{◌≡◌, ◌*◌, ◌^◌, ◌<◌, ◌≤◌, ℕ, Bool, List, Some, IfOk, length};
 ghost use Rattle.tor_merkle.specs.Block.{leaves};
 ghost use Rattle.tor_merkle.specs.Layer.{IsPieceLength, piece_layer, piece_roots, pieces_root, root_of};
 ghost use Rattle.tor_merkle.specs.declared.TheConstants.{BLOCK_LENGTH};
@@ -27,9 +27,11 @@ pub(crate) fn sums_of_chunks(
     chunks: &[UnitSums],
 ) -> Result<Sums, AllocError>
     requires cut { (span : ℕ) × IsStreamCut kind piece_length span × (size ≡ span * piece_length) }
-    requires chunks { (contents : List (List ℕ)) × SumUpCuts kind piece_length size contents lengths.items chunks.now }
-    ensures { (contents : List (List ℕ)) → SumUpCuts kind piece_length size contents lengths.items chunks.now →
-        IfOk result (AreSumsOfContents kind piece_length contents) }
+    requires chunks { (tail : Bool) × (contents : List (List ℕ))
+        × SumUpCuts kind tail piece_length size contents lengths.items chunks.now }
+    ensures { (tail : Bool) (contents : List (List ℕ)) →
+        SumUpCuts kind tail piece_length size contents lengths.items chunks.now →
+        IfOk result (AreSumsOfContents kind tail piece_length contents) }
 {
     let trees = trees_of_stream(alloc, kind, piece_length, size, &lengths, chunks)?;
     sums_with(alloc, lengths, chunks, trees)
@@ -45,8 +47,10 @@ fn trees_of_stream(
     chunks: &[UnitSums],
 ) -> Result<Option<Trees>, AllocError>
     requires cut { (span : ℕ) × IsStreamCut kind piece_length span × (size ≡ span * piece_length) }
-    requires chunks { (contents : List (List ℕ)) × SumUpCuts kind piece_length size contents lengths.now chunks.now }
-    ensures { (contents : List (List ℕ)) → SumUpCuts kind piece_length size contents lengths.now chunks.now →
+    requires chunks { (tail : Bool) × (contents : List (List ℕ))
+        × SumUpCuts kind tail piece_length size contents lengths.now chunks.now }
+    ensures { (tail : Bool) (contents : List (List ℕ)) →
+        SumUpCuts kind tail piece_length size contents lengths.now chunks.now →
         IfOk result (AreTreesOf kind piece_length contents) }
 {
     if !kind.has_v2() {

@@ -20,7 +20,8 @@ pub const MAX_UNIT_LENGTH: u64 = 1 << 30;
 
 /// What the contents of readers sum up to, each of which is read once, to its end, one after the other. The calling
 /// thread reads, and puts units of `span` pieces into a channel that holds at most two for each worker; so many
-/// workers, from 1 to 64, take and hash them.
+/// workers, from 1 to 64, take and hash them. In a hybrid zeros fill the last piece of each content that a byte of a
+/// later one follows, and with a tail that of the last content with bytes too.
 ///
 /// # Errors
 ///
@@ -34,12 +35,13 @@ pub fn hash_streams<R: Read + Drop, T: Threads + Wait + Sync>(
     piece_length: u64,
     span: u32,
     workers: u32,
+    tail: bool,
 ) -> Result<Sums, EngineError<io::Error>>
     requires cut { IsStreamCut kind piece_length span }
     requires workers { (1 ≤ workers) × (workers ≤ MAX_WORKERS) }
-    ensures summed { IfOk result (AreSumsOfReaders kind piece_length (map R.remaining readers.items)) }
+    ensures summed { IfOk result (AreSumsOfReaders kind tail piece_length (map R.remaining readers.items)) }
     ensures told { (contents : List (List ℕ)) → map R.remaining readers.items ≡ map Some contents →
-        IfOk result (AreSumsOfContents kind piece_length contents) }
+        IfOk result (AreSumsOfContents kind tail piece_length contents) }
     ensures fault { IfErr result (IsFaultOfReaders (map R.remaining readers.items)) }
 {
     hash_streams_with(
@@ -51,6 +53,7 @@ pub fn hash_streams<R: Read + Drop, T: Threads + Wait + Sync>(
         piece_length,
         span,
         workers,
+        tail,
     )
 }
 
@@ -64,12 +67,13 @@ pub fn hash_streams_with<G: Gate + Sync, R: Read + Drop, T: Threads + Wait + Syn
     piece_length: u64,
     span: u32,
     workers: u32,
+    tail: bool,
 ) -> Result<Sums, EngineError<io::Error>>
     requires cut { IsStreamCut kind piece_length span }
     requires workers { (1 ≤ workers) × (workers ≤ MAX_WORKERS) }
-    ensures summed { IfOk result (AreSumsOfReaders kind piece_length (map R.remaining readers.items)) }
+    ensures summed { IfOk result (AreSumsOfReaders kind tail piece_length (map R.remaining readers.items)) }
     ensures told { (contents : List (List ℕ)) → map R.remaining readers.items ≡ map Some contents →
-        IfOk result (AreSumsOfContents kind piece_length contents) }
+        IfOk result (AreSumsOfContents kind tail piece_length contents) }
     ensures fault { IfErr result (IsFaultOfReaders (map R.remaining readers.items)) }
 {
     let size = piece_length * span as u64;
@@ -81,6 +85,7 @@ pub fn hash_streams_with<G: Gate + Sync, R: Read + Drop, T: Threads + Wait + Syn
         readers,
         kind,
         piece_length,
+        tail,
         cutter,
         workers,
     )?;

@@ -12,11 +12,12 @@ use Rattle.tor_meta.specs.Refusal.{is_long, is_only, paths_refusal, shape_refusa
 use Rattle.tor_meta.specs.steps.Sums.{IsJudged}
 use Rattle.tor_meta.specs.declared.head.Head.{Head}
 use Rattle.tor_tree.specs.declared.paths.TheConstants.{MAX_NAMES}
-use Rattle.tor_spec.specs.Settings.{is_aligned}
+use Rattle.tor_merkle.specs.Layer.{IsPieceLength}
+use Rattle.tor_spec.specs.Settings.{Settings, is_aligned}
 use Rattle.tor_tree.specs.FileList.{IsFileList}
 use Rattle.tor_tree.specs.PathList.{AreIndexedPaths}
 use Rattle.tor_v1.specs.Reserved.{is_reserved, takes_reserved}
-use Rattle.tor_v1.specs.declared.layout.Layout.TheVariants.{Joined, Aligned}
+use Rattle.tor_v1.specs.declared.layout.Layout.TheVariants.{Joined, Aligned, AlignedTail}
 
 pub both_none : {X : Type 0} (a b : Option X) → option_or a b ≡ None → (a ≡ None) × (b ≡ None)
 both_none None b h = (refl, h)
@@ -64,11 +65,20 @@ one_path name [] h = cc
 one_path name (path ∷ []) h = refl
 one_path name (path ∷ other ∷ paths) h = cc
 
-not_reserved : (aligned : Bool) (files : List (List (List ℕ) × ℕ))
+not_reserved : (aligned tail : Bool) (files : List (List (List ℕ) × ℕ))
     → (aligned ≡ true → list_any (λ file. is_reserved file.0) files ≡ false)
-    → takes_reserved (cond aligned Aligned Joined) files ≡ false
-not_reserved true files h = h refl
-not_reserved false files h = refl
+    → takes_reserved (cond aligned (cond tail AlignedTail Aligned) Joined) files ≡ false
+not_reserved true true files h = h refl
+not_reserved true false files h = h refl
+not_reserved false tail files h = refl
+
+-- a torrent that is not refused has pieces that are allowed
+pub piece_allowed : (settings : Settings) (paths : List (List (List ℕ))) → paths_refusal settings paths ≡ None
+    → IsPieceLength settings.piece_length
+piece_allowed settings paths accepted =
+    allowed (is_piece_length settings.piece_length)
+    (cleared (not (is_piece_length settings.piece_length)) _ _
+    (both_none (shape_refusal settings paths) _ accepted).0).0
 
 pub judged : (head : Head) (paths : List (List (List ℕ))) (lengths : ℕ → ℕ) (entries : List (List (List ℕ) × ℕ))
     → AreIndexedPaths paths entries → paths_refusal (settings_of head) paths ≡ None
@@ -95,7 +105,7 @@ judged head paths lengths entries indexed accepted is_list =
           ∙ one_path head.name paths
           (allowed (is_only head.name paths) (second_of head.single (not (is_only head.name paths)) third.0 e)));
       free =
-          not_reserved (is_aligned head.kind head.single) files
+          not_reserved (is_aligned head.kind head.single) head.tail files
           (λ e. none_of (λ (file : List (List ℕ) × ℕ). is_reserved file.0) files
           (of_files is_reserved refl paths lengths entries found
           (second_of (is_aligned head.kind head.single) (list_any is_reserved paths) reserved.0 e)));

@@ -1,12 +1,14 @@
 -- One file that lies at the top, and its content.
-use Rattle.std.proofs.Common.{◌≡◌, ℕ, zero, suc, ◌<◌, Bool, true, false, ◌&&◌, cond, List, [], ◌∷◌, length}
+use Rattle.std.proofs.Common.{◌≡◌, ℕ, zero, suc, ◌<◌, Bool, true, false, not, ◌&&◌, cond, List, [], ◌∷◌, ◌++◌, length}
 use Rattle.std.proofs.Common.{None, get_or, nat_lt, refl, sym, ap, ◌∙◌, arith}
 use Rattle.std.specs.List.{All}
 use Rattle.std.specs.List.Sorted.{IsPermutation}
+use Rattle.std.proofs.lemmas.Bool.{lt-ltb}
 use Rattle.std.proofs.lemmas.List.{append-nil}
 use Rattle.std.proofs.lemmas.List.Sorted.{All-permutation, length_permutation}
-use Rattle.tor_meta.specs.Fed.{SumsOfOne}
+use Rattle.tor_meta.specs.Fed.{SumsOfOne, tail_length}
 use Rattle.tor_meta.specs.Head.{settings_of}
+use Rattle.tor_meta.specs.Order.{has_tail}
 use Rattle.tor_meta.specs.steps.Sums.{SumUp}
 use Rattle.tor_meta.specs.declared.head.Head.{Head}
 use Rattle.tor_engine.specs.Streams.{AreSumsOfContents}
@@ -14,13 +16,14 @@ use Rattle.tor_engine.specs.declared.sums.Sums.{Sums}
 use Rattle.tor_merkle.specs.Layer.{piece_layer, root_of}
 use Rattle.tor_plan.specs.Content.{cut_content, layout_of as plan_layout}
 use Rattle.tor_tree.specs.declared.kinds.Kind.{Kind}
-use Rattle.tor_spec.specs.Settings.{layout_of}
+use Rattle.tor_tree.specs.declared.kinds.Kind.TheVariants.{V1, V2, Hybrid}
+use Rattle.tor_spec.specs.Settings.{Settings, is_aligned, layout_of}
 use Rattle.tor_v1.specs.Content.{joined_content, v1_pieces}
-use Rattle.tor_v1.specs.Entries.{aligned_entries, file_entry, has_bytes, pad_entry, padding_after, padding_length}
+use Rattle.tor_v1.specs.Entries.{aligned_entries, has_bytes, pad_entry, padding_after, padding_length}
 use Rattle.tor_v1.specs.Entries.{v1_entries}
-use Rattle.tor_v1.specs.Piece.{piece_sums}
+use Rattle.tor_v1.specs.Piece.{piece_sums, zeros}
 use Rattle.tor_v1.specs.declared.layout.Layout.{Layout}
-use Rattle.tor_v1.specs.declared.layout.Layout.TheVariants.{Joined, Aligned}
+use Rattle.tor_v1.specs.declared.layout.Layout.TheVariants.{Joined, Aligned, AlignedTail}
 
 -- a list that has the elements of one with one element
 pub only_one : {X : Type 0} (x : X) (xs : List X) → IsPermutation (x ∷ []) xs → xs ≡ x ∷ []
@@ -37,48 +40,82 @@ only_one {X = X} x xs moved =
     from_length (y ∷ []) e all = ap (λ z. z ∷ []) (all 0 y (omega arith))
     from_length (y ∷ z ∷ ys) e all = absurd (omega arith)
 
-no_padding : (p m : ℕ) → padding_after p m [] ≡ []
+no_zeros : zeros 0 ≡ []
+unfolding zeros
+no_zeros = refl
+
+no_padding : (p m : ℕ) → joined_content (padding_after false p m [] ++ []) [] ≡ zeros 0
+unfolding joined_content
 no_padding p m = by_test (nat_lt 0 (padding_length p m))
   where
-    by_test : (b : Bool) → cond (b && has_bytes []) (pad_entry (padding_length p m) ∷ []) [] ≡ []
-    by_test true = refl
-    by_test false = refl
+    by_test : (b : Bool)
+        → joined_content (cond (b && has_bytes []) (pad_entry (padding_length p m) ∷ []) [] ++ []) [] ≡ zeros 0
+    by_test true = sym no_zeros
+    by_test false = sym no_zeros
 
-one_entry : (layout : Layout) (p : ℕ) (file : List (List ℕ) × ℕ)
-    → v1_entries layout p (file ∷ []) ≡ file_entry file ∷ []
-unfolding aligned_entries
-one_entry Joined p file = refl
-one_entry Aligned p file = rw (no_padding p file.1) refl
-
-one_content : (file : List (List ℕ) × ℕ) (bytes : List ℕ) → joined_content (file_entry file ∷ []) (bytes ∷ []) ≡ bytes
+its_padding : (p m : ℕ) → joined_content (padding_after true p m [] ++ []) [] ≡ zeros (padding_length p m)
 unfolding joined_content
-one_content file bytes = append-nil bytes
+its_padding p m = by_length (padding_length p m)
+  where
+    by_length : (n : ℕ) → joined_content (cond (nat_lt 0 n && true) (pad_entry n ∷ []) [] ++ []) [] ≡ zeros n
+    by_length zero = sym no_zeros
+    by_length (suc n) =
+        ap (λ b. joined_content (cond (b && true) (pad_entry (suc n) ∷ []) [] ++ []) [])
+        (lt-ltb 0 (suc n) (omega arith)) ∙ append-nil (zeros (suc n))
+
+-- the content of one file, and its tail
+one_content : (layout : Layout) (p : ℕ) (file : List (List ℕ) × ℕ) (bytes : List ℕ)
+    → joined_content (v1_entries layout p (file ∷ [])) (bytes ∷ []) ≡ bytes ++ zeros (tail_length layout p file.1)
+unfolding joined_content aligned_entries
+one_content Joined p file bytes = ap (λ xs. bytes ++ xs) (sym no_zeros)
+one_content Aligned p file bytes = ap (λ xs. bytes ++ xs) (no_padding p file.1)
+one_content AlignedTail p file bytes = ap (λ xs. bytes ++ xs) (its_padding p file.1)
 
 -- the sums of one file are those of its content
 pub pieces_of_one : (layout : Layout) (p : ℕ) (file : List (List ℕ) × ℕ) (bytes : List ℕ)
-    → v1_pieces p (v1_entries layout p (file ∷ [])) (bytes ∷ []) ≡ piece_sums p bytes
+    → v1_pieces p (v1_entries layout p (file ∷ [])) (bytes ∷ [])
+    ≡ piece_sums p (bytes ++ zeros (tail_length layout p file.1))
 unfolding v1_pieces
-pieces_of_one layout p file bytes =
-    ap (piece_sums p) (ap (λ es. joined_content es (bytes ∷ [])) (one_entry layout p file) ∙ one_content file bytes)
+pieces_of_one layout p file bytes = ap (piece_sums p) (one_content layout p file bytes)
 
 pub sum_up_one : (head : Head) (file : List (List ℕ) × ℕ) (bytes : List ℕ) (sums : Sums)
-    → SumsOfOne head.kind head.piece_length bytes sums → SumUp head (file ∷ []) (bytes ∷ []) sums
+    → SumsOfOne head.kind head.piece_length bytes
+    (tail_length (layout_of (settings_of head)) head.piece_length file.1) sums
+    → SumUp head (file ∷ []) (bytes ∷ []) sums
 sum_up_one head file bytes sums one = record {
   roots = one.roots;
   layers = one.layers;
   pieces = λ e. one.pieces e ∙ sym (pieces_of_one (layout_of (settings_of head)) head.piece_length file bytes);
 }
 
+-- streams are laid out as the torrent
+same_tail : (settings : Settings) (p m : ℕ)
+    → tail_length (plan_layout settings.kind (has_tail settings)) p m ≡ tail_length (layout_of settings) p m
+same_tail settings p m = by_kind settings.kind settings.single settings.tail
+  where
+    by_kind : (kind : Kind) (single tail : Bool) → tail_length (plan_layout kind (not single && tail)) p m
+        ≡ tail_length (cond (is_aligned kind single) (cond tail AlignedTail Aligned) Joined) p m
+    by_kind V1 single tail = refl
+    by_kind V2 single tail = refl
+    by_kind Hybrid true tail = refl
+    by_kind Hybrid false true = refl
+    by_kind Hybrid false false = refl
+
 -- and the sums of one content are those of one file
-pub sums_of_one : (kind : Kind) (p : ℕ) (content : List ℕ) (sums : Sums)
-    → AreSumsOfContents kind p (content ∷ []) sums → SumsOfOne kind p content sums
+pub sums_of_one : (settings : Settings) (content : List ℕ) (sums : Sums)
+    → AreSumsOfContents settings.kind (has_tail settings) settings.piece_length (content ∷ []) sums
+    → SumsOfOne settings.kind settings.piece_length content
+    (tail_length (layout_of settings) settings.piece_length (length content)) sums
 unfolding v1_pieces
-sums_of_one kind p content sums up =
+sums_of_one settings content sums up =
+    let kind = settings.kind in
+    let p = settings.piece_length in
     let file : List (List ℕ) × ℕ = ([], length content) in
     let are = up (file ∷ []) refl in record {
       roots = λ e. are.roots ∙ ap (λ b. cond b (root_of content) None ∷ []) e;
       layers = λ e. are.layers ∙ ap (λ b. cond b (piece_layer content p) [] ∷ []) e;
       pieces = λ e. are.pieces
-          ∙ ap (λ b. cond b (piece_sums p (cut_content kind p (file ∷ []) (content ∷ []))) []) e
-          ∙ pieces_of_one (plan_layout kind) p file content;
+          ∙ ap (λ b. cond b (piece_sums p (cut_content kind (has_tail settings) p (file ∷ []) (content ∷ []))) []) e
+          ∙ pieces_of_one (plan_layout kind (has_tail settings)) p file content
+          ∙ ap (λ n. piece_sums p (content ++ zeros n)) (same_tail settings p (length content));
     }

@@ -192,7 +192,8 @@ how_allowed (Board workers) h =
     let parts = and_parts (nat_le 1 workers) (nat_le workers MAX_WORKERS) h in
     (leb-true 1 workers parts.0, leb-true workers MAX_WORKERS parts.1)
 
-pub order_numbers : {F : Type 0} (order : Order) (paths : List (List (List ℕ))) → make_refusal {F = F} order paths ≡ None
+pub order_numbers : {F : Type 0} (order : Order) (paths : List (List (List ℕ)))
+    → make_refusal {F = F} order paths ≡ None
     → (is_piece_length order.piece_length ≡ true) × IsHow order.how × IsSpan order.span
 order_numbers {F} order paths accepted =
     let numbers = numbers_of {F = F} order (both_none (numbers_refusal {F = F} order) _ accepted).0 in

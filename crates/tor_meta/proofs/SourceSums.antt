@@ -1,30 +1,30 @@
 -- What a source's files sum up to, as a plan of them has it and as a head asks for it.
-use Rattle.std.proofs.Common.{◌≡◌, ℕ, ◌*◌, ◌<◌, ◌≤◌, Bool, true, false, List, [], ◌∷◌, length}
-use Rattle.std.proofs.Common.{map, nat_lt, option_map, Option, None, Some, refl, ap, subst, ◌∙◌, arith, ◌↔◌, IsTrue}
-use Rattle.std.proofs.Common.{mul-le-mul_right}
-use Rattle.std.specs.Int.{is_power_of_two}
+use Rattle.std.proofs.Common.{◌≡◌, ℕ, Bool, true, false, not, cond, ◌&&◌, List, [], ◌∷◌, length}
+use Rattle.std.proofs.Common.{map, nat_lt, option_map, Option, None, Some, refl, ap, subst, sym, ◌∙◌, arith}
 use Rattle.std.specs.List.{flat_map}
 use Rattle.std.proofs.lemmas.Bool.{and_right}
 use Rattle.tor_engine.specs.Sums.{AreSumsOf, AreSumsOfPlan, plan_content}
 use Rattle.tor_engine.specs.declared.sums.Sums.{Sums as Hashed}
-use Rattle.tor_merkle.specs.Layer.{IsPieceLength, root_of as merkle_root}
-use Rattle.tor_merkle.specs.declared.TheConstants.{MAX_PIECE_LENGTH, MIN_PIECE_LENGTH}
+use Rattle.tor_merkle.specs.Layer.{root_of as merkle_root}
 use Rattle.tor_meta.specs.Head.{settings_of}
-use Rattle.tor_meta.specs.steps.Sums.{IsJudged, SumUp}
+use Rattle.tor_meta.specs.Order.{has_tail}
+use Rattle.tor_meta.specs.steps.Sums.{IsJudged, IsPlanOf, SumUp}
 use Rattle.tor_meta.specs.declared.head.Head.{Head}
-use Rattle.tor_plan.specs.Content.{AreContentsOfFiles, cut_content, layout_of as plan_layout, unit_content}
-use Rattle.tor_plan.specs.PlanFacts.{PlanFacts, plan_of}
-use Rattle.tor_plan.specs.Units.{hash_units}
+use Rattle.tor_plan.specs.Content.{cut_content, layout_of as plan_layout, unit_content}
+use Rattle.tor_plan.specs.Entries.{entry_units, lengths_of_entries}
+use Rattle.tor_plan.specs.EntryList.{IsEntryList}
+use Rattle.tor_plan.specs.PlanFacts.{PlanFacts, plan_of_entries}
 use Rattle.tor_merkle.specs.Layer.{root_of}
-use Rattle.tor_spec.specs.Settings.{layout_of}
+use Rattle.tor_spec.specs.Settings.{is_aligned, layout_of}
 use Rattle.tor_tree.specs.Kinds.{has_v1, has_v2}
 use Rattle.tor_tree.specs.FileList.{lengths_of}
 use Rattle.tor_tree.specs.Kinds.{has_v1 as kind_has_v1, has_v2 as kind_has_v2}
 use Rattle.tor_tree.specs.declared.kinds.Kind.{Kind}
 use Rattle.tor_tree.specs.declared.kinds.Kind.TheVariants.{V1, V2, Hybrid}
-use Rattle.tor_v1.specs.Content.{joined_content, v1_pieces}
+use Rattle.tor_v1.specs.Content.{AreContentsOf, joined_content, v1_pieces}
 use Rattle.tor_v1.specs.Entries.{aligned_entries, file_entry, v1_entries}
-use Rattle.tor_v1.specs.Piece.{piece_sums}
+use Rattle.tor_v1.specs.declared.entry.Entry.{Entry}
+use Rattle.tor_v1.specs.declared.layout.Layout.TheVariants.{Joined, Aligned, AlignedTail}
 
 pub mapped_none : {X Y : Type 0} (f : X → Y) (a : Option X) → option_map f a ≡ None → a ≡ None
 mapped_none f None h = refl
@@ -47,69 +47,88 @@ same_v1 Hybrid h = refl
 
 -- one file has no padding
 one_entry : (p : ℕ) (files : List (List (List ℕ) × ℕ)) → length files ≡ 1 →
-    aligned_entries p files ≡ map file_entry files
+    aligned_entries false p files ≡ map file_entry files
 unfolding aligned_entries
 one_entry p [] h = cc
 one_entry p (file ∷ other ∷ files) h = absurd (omega (arith, h))
 one_entry p (file ∷ []) h = rw (and_right (nat_lt 0 _) false refl) refl
 
 same_entries : (head : Head) (files : List (List (List ℕ) × ℕ)) → (head.single ≡ true → length files ≡ 1) →
-    v1_entries (plan_layout head.kind) head.piece_length files
+    v1_entries (plan_layout head.kind (has_tail (settings_of head))) head.piece_length files
     ≡ v1_entries (layout_of (settings_of head)) head.piece_length files
-same_entries head files one = by_kind head.kind head.single one
+same_entries head files one = by_kind head.kind head.single head.tail one
   where
-    by_kind : (kind : Kind) (single : Bool) → (single ≡ true → length files ≡ 1) →
-        v1_entries (plan_layout kind) head.piece_length files
-        ≡ v1_entries (layout_of (record {
-          kind = kind;
-          single = single;
-          name = head.name;
-          piece_length =
-              head.piece_length;
-          announce = None;
-          is_private = head.is_private;
-        })) head.piece_length files
-    by_kind V1 single one = refl
-    by_kind V2 single one = refl
-    by_kind Hybrid false one = refl
-    by_kind Hybrid true one = one_entry head.piece_length files (one refl)
+    by_kind : (kind : Kind) (single tail : Bool) → (single ≡ true → length files ≡ 1) →
+        v1_entries (plan_layout kind (not single && tail)) head.piece_length files
+        ≡ v1_entries (cond (is_aligned kind single) (cond tail AlignedTail Aligned) Joined) head.piece_length files
+    by_kind V1 single tail one = refl
+    by_kind V2 single tail one = refl
+    by_kind Hybrid false false one = refl
+    by_kind Hybrid false true one = refl
+    by_kind Hybrid true tail one = one_entry head.piece_length files (one refl)
+
+-- of the entries that the torrent has
+sums_of_entries : (head : Head) (files : List (List (List ℕ) × ℕ)) (contents : List (List ℕ)) (hashed : Hashed)
+    → AreSumsOf head.kind head.piece_length contents
+    (joined_content (v1_entries (layout_of (settings_of head)) head.piece_length files) contents) hashed
+    → SumUp head files contents hashed
+unfolding v1_pieces
+sums_of_entries head files contents hashed sums = record {
+  roots = λ e. let there = same_v2 head.kind e in (rw there at sums.roots) ∙ same_roots contents;
+  layers = λ e. let there = same_v2 head.kind e in rw there at sums.layers;
+  pieces = λ e. let there = same_v1 head.kind e in rw there at sums.pieces;
+}
 
 pub sums_of_files : (head : Head) (files : List (List (List ℕ) × ℕ)) (contents : List (List ℕ)) (hashed : Hashed)
     → IsJudged head files
-    → AreSumsOf head.kind head.piece_length contents (cut_content head.kind head.piece_length files contents) hashed
+    → AreSumsOf head.kind head.piece_length contents
+    (cut_content head.kind (has_tail (settings_of head)) head.piece_length files contents) hashed
     → SumUp head files contents hashed
-unfolding v1_pieces
-sums_of_files head files contents hashed judged sums = record {
-  roots = λ e. let there = same_v2 head.kind e in (rw there at sums.roots) ∙ same_roots contents;
-  layers = λ e. let there = same_v2 head.kind e in rw there at sums.layers;
-  pieces = λ e. let there = same_v1 head.kind e in
-      (rw there at sums.pieces) ∙ ap (piece_sums head.piece_length)
-      (ap (λ entries. joined_content entries contents) (same_entries head files judged.one));
+sums_of_files head files contents hashed judged sums =
+    sums_of_entries head files contents hashed
+    (subst (λ (entries : List Entry). AreSumsOf head.kind head.piece_length contents (joined_content entries contents)
+    hashed) (same_entries head files judged.one) sums)
+
+-- ---- a plan of those entries
+
+abbrev entries_for : Head → List (List (List ℕ) × ℕ) → List Entry
+entries_for head files = v1_entries (layout_of (settings_of head)) head.piece_length files
+
+abbrev entries_by_plan : Head → List (List (List ℕ) × ℕ) → List Entry
+entries_by_plan head files =
+    v1_entries (plan_layout head.kind (has_tail (settings_of head))) head.piece_length files
+
+pub can_plan : (head : Head) (files : List (List (List ℕ) × ℕ)) (entries : List Entry) → IsJudged head files
+    → entries ≡ entries_for head files → IsEntryList head.kind head.piece_length (entries_by_plan head files)
+    → IsEntryList head.kind head.piece_length entries
+can_plan head files entries judged are listed =
+    subst (IsEntryList head.kind head.piece_length) (same_entries head files judged.one ∙ sym are) listed
+
+pub plan_is : (head : Head) (span : ℕ) (files : List (List (List ℕ) × ℕ)) (entries : List Entry) (plan : PlanFacts)
+    → IsJudged head files → entries ≡ entries_for head files
+    → lengths_of_entries (entries_by_plan head files) ≡ lengths_of files
+    → ((contents : List (List ℕ)) → AreContentsOf entries contents
+    → flat_map (unit_content contents) (entry_units head.kind head.piece_length span entries)
+    ≡ joined_content entries contents)
+    → plan ≡ plan_of_entries head.kind head.piece_length span entries → IsPlanOf head files plan
+plan_is head span files entries plan judged are lengths law made = record {
+  kind = ap (λ plan. plan.kind) made;
+  piece_length = ap (λ plan. plan.piece_length) made;
+  lengths = ap (λ plan. plan.lengths) made
+      ∙ ap lengths_of_entries (are ∙ sym (same_entries head files judged.one)) ∙ lengths;
+  content = λ contents fit. ap (λ plan. plan_content plan contents) made
+      ∙ law contents (fit ∙ ap (λ plan. plan.lengths) made) ∙ ap (λ es. joined_content es contents) are;
 }
 
-sums_up : (head : Head) (span : ℕ) (files : List (List (List ℕ) × ℕ)) (contents : List (List ℕ)) (hashed : Hashed)
-    → IsJudged head files
-    → plan_content (plan_of head.kind head.piece_length span files) contents
-    ≡ cut_content head.kind head.piece_length files contents
-    → AreSumsOfPlan (plan_of head.kind head.piece_length span files) contents hashed → SumUp head files contents hashed
-sums_up head span files contents hashed judged law sums =
-    sums_of_files head files contents hashed judged
-    (subst (λ (joined : List ℕ). AreSumsOf head.kind head.piece_length contents joined hashed) law sums)
-
--- of a plan of the files
-pub from_plan : (head : Head) (span : ℕ) (files : List (List (List ℕ) × ℕ)) (hashed : Hashed) (plan : PlanFacts)
-    (contents : List (List ℕ)) → plan ≡ plan_of head.kind head.piece_length span files → IsJudged head files → 1 ≤ span
-    → ((n : ℕ) → IsPieceLength n ↔ (IsTrue (is_power_of_two n) × (MIN_PIECE_LENGTH ≤ n) × (n ≤ MAX_PIECE_LENGTH)))
-    → ((kind : Kind) (p : ℕ) (contents : List (List ℕ)) → 0 < span * p → AreContentsOfFiles files contents →
-    flat_map (unit_content contents) (hash_units kind p span files) ≡ cut_content kind p files contents)
-    → map length contents ≡ plan.lengths → AreSumsOfPlan plan contents hashed
-    → (map length contents ≡ lengths_of files)
-    × SumUp head files contents hashed
-from_plan head span files hashed plan contents made judged some bounds law fit sums =
-    let same : map length contents ≡ lengths_of files = fit ∙ ap (λ plan. plan.lengths) made in
-    let long = (bounds head.piece_length).0 judged.piece_length in
-    let positive : 0 < span * head.piece_length = omega (arith, long.1, mul-le-mul_right head.piece_length some) in (
-      same,
-      sums_up head span files contents hashed judged (law head.kind head.piece_length contents positive same)
-          (rw made at sums),
+-- its sums are those that the head asks for
+pub from_plan : (head : Head) (files : List (List (List ℕ) × ℕ)) (hashed : Hashed) (plan : PlanFacts)
+    (contents : List (List ℕ)) → IsPlanOf head files plan → map length contents ≡ plan.lengths
+    → AreSumsOfPlan plan contents hashed → (map length contents ≡ lengths_of files) × SumUp head files contents hashed
+from_plan head files hashed plan contents is fit sums =
+    let by_head : AreSumsOf head.kind head.piece_length contents (plan_content plan contents) hashed =
+    rw (is.kind, is.piece_length) at sums in (
+      fit ∙ is.lengths,
+      sums_of_entries head files contents hashed
+          (subst (λ (joined : List ℕ). AreSumsOf head.kind head.piece_length contents joined hashed)
+          (is.content contents fit) by_head),
     )

@@ -1,21 +1,21 @@
 -- What readers give, as a head and a list of files ask for it.
-use Rattle.std.proofs.Common.{◌≡◌, ℕ, zero, suc, ◌+◌, ◌<◌, ◌≤◌, List, [], ◌∷◌, length, map, get_or, Option, None, Some}
-use Rattle.std.proofs.Common.{arith, refl, sym, ap, ap₂, subst, ◌∙◌, ◌⊎◌, inl, inr, IsTrue}
+use Rattle.std.proofs.Common.{◌≡◌, ℕ, zero, suc, ◌+◌, ◌≤◌, List, [], ◌∷◌, length, map, get_or, Option, None}
+use Rattle.std.proofs.Common.{Some, arith, refl, sym, ap, ap₂, subst, ◌∙◌, ◌⊎◌, inl, inr, IsTrue}
 use Rattle.std.specs.Int.{is_power_of_two}
 use Rattle.std.specs.List.Sorted.{IsPermutation, IsStrictlySortedBy}
 use Rattle.std.proofs.lemmas.List.Sorted.{IsPermutation-refl}
-use Rattle.std.specs.Io.KnownBytes.{Consumes, IsAtEnd}
 use Rattle.std.specs.List.{AllZip, enumerate_from, zip}
 use Rattle.std.proofs.lemmas.List.{length-map}
 use Rattle.std.proofs.lemmas.Simd.{map-map}
-use Rattle.std.proofs.lemmas.Slice.Zip.{AllZip-long, firsts-zip, seconds-zip}
-use Rattle.tor_engine.specs.Streams.{AreSumsOfContents, AreSumsOfReaders, GiveContents, GivesWhole}
+use Rattle.std.proofs.lemmas.Slice.Zip.{AllZip-long, seconds-zip}
+use Rattle.tor_engine.specs.Streams.{AreSumsOfContents, GiveContents}
 use Rattle.tor_engine.specs.declared.sums.Sums.{Sums}
 use Rattle.tor_merkle.specs.declared.TheConstants.{MAX_PIECE_LENGTH, MIN_PIECE_LENGTH}
 use Rattle.tor_meta.specs.Contents.{IsMadeOfSome, files_of}
 use Rattle.tor_meta.specs.MakeError.{of_contents_error}
 use Rattle.tor_meta.specs.MakeStreams.{IsGivenByReaders, files_with}
 use Rattle.tor_meta.specs.Head.{settings_of}
+use Rattle.tor_meta.specs.Order.{has_tail}
 use Rattle.tor_meta.specs.Refusal.{paths_refusal}
 use Rattle.tor_meta.specs.steps.Sums.{IsJudged, SumUp}
 use Rattle.tor_meta.specs.declared.head.Head.{Head}
@@ -37,10 +37,14 @@ use Rattle.tor_tree.specs.declared.lists.ListError.TheVariants.{TooLarge}
 abbrev Paths : Type 0
 Paths = List (List (List ℕ))
 
+abbrev AreSumsOfSettings : Settings → List (List ℕ) → Sums → Type 0
+AreSumsOfSettings settings contents sums =
+    AreSumsOfContents settings.kind (has_tail settings) settings.piece_length contents sums
+
 -- sums of contents have their lengths
-pub lengths_read : (kind : Kind) (p : ℕ) (contents : List (List ℕ)) (sums : Sums)
-    → AreSumsOfContents kind p contents sums → sums.lengths.items ≡ map length contents
-lengths_read kind p contents sums up =
+pub lengths_read : (settings : Settings) (contents : List (List ℕ)) (sums : Sums)
+    → AreSumsOfSettings settings contents sums → sums.lengths.items ≡ map length contents
+lengths_read settings contents sums up =
     (up (map (λ content. ([], length content)) contents)
     (sym (map-map (λ (file : List (List ℕ) × ℕ). file.1) (λ (content : List ℕ). ([], length content))
     contents))).lengths
@@ -78,13 +82,17 @@ paired paths lengths same =
         let next : a + 1 + k ≡ a + suc k = omega arith in ap (λ j. get_or all j 0) next ∙ at (suc k)) in
         ap₂ (λ m files. (path, m) ∷ files) first rest
 
+-- what readers give is summed up as a head asks for it
+abbrev AreSumsOfHead : Head → List (List ℕ) → Sums → Type 0
+AreSumsOfHead head contents sums = AreSumsOfSettings (settings_of head) contents sums
+
 -- the sums of what readers give, for a list of the files that have it
 pub sum_up : (head : Head) (paths : Paths) (contents : List (List ℕ)) (sums : Sums) → length contents ≡ length paths
-    → IsJudged head (zip paths sums.lengths.items) → AreSumsOfContents head.kind head.piece_length contents sums
+    → IsJudged head (zip paths sums.lengths.items) → AreSumsOfHead head contents sums
     → (map length contents ≡ lengths_of (zip paths sums.lengths.items))
     × SumUp head (zip paths sums.lengths.items) contents sums
 sum_up head paths contents sums many judged up =
-    let same = lengths_read head.kind head.piece_length contents sums up in
+    let same = lengths_read (settings_of head) contents sums up in
     let long : length sums.lengths.items ≡ length paths = ap length same ∙ length-map contents length ∙ many in
     let fit : map length contents ≡ lengths_of (zip paths sums.lengths.items) =
     sym same ∙ sym (seconds-zip paths sums.lengths.items long) in (
@@ -100,14 +108,14 @@ known_long R xs ys n same each = AllZip-long R xs ys each ∙ same
 -- the same of a list that has these paths and lengths
 pub summed_list : (head : Head) (paths : Paths) (list : List (List (List ℕ) × ℕ)) (lengths : List ℕ) (sums : Sums)
     (contents : List (List ℕ)) → lengths ≡ sums.lengths.items → list ≡ zip paths lengths → IsJudged head list
-    → length contents ≡ length paths → AreSumsOfContents head.kind head.piece_length contents sums
+    → length contents ≡ length paths → AreSumsOfHead head contents sums
     → (map length contents ≡ lengths_of list) × SumUp head list contents sums
     × (files_of list contents ≡ files_with paths contents)
 summed_list head paths list lengths sums contents is are judged many up =
     let same : list ≡ zip paths sums.lengths.items = are ∙ ap (zip paths) is in
     let both = sum_up head paths contents sums many (subst (IsJudged head) same judged) up in
     let listed : files_of (zip paths sums.lengths.items) contents ≡ files_with paths contents =
-    ap (λ ns. files_of (zip paths ns) contents) (lengths_read head.kind head.piece_length contents sums up)
+    ap (λ ns. files_of (zip paths ns) contents) (lengths_read (settings_of head) contents sums up)
     ∙ files_listed paths contents many in
     subst (λ (l : List (List (List ℕ) × ℕ)). (map length contents ≡ lengths_of l) × SumUp head l contents sums
     × (files_of l contents ≡ files_with paths contents)) (sym same) (both.0, both.1, listed)
@@ -124,11 +132,11 @@ pub listed : (head : Head) (settings : Settings) (paths : Paths) (entries list :
     (lengths : List ℕ) (sums : Sums) (contents : List (List ℕ)) → settings_of head ≡ settings
     → paths_refusal settings paths ≡ None → AreIndexedPaths paths entries → entries ≡ with_indices paths
     → lengths ≡ sums.lengths.items → list ≡ zip paths lengths → IsFileList list → length contents ≡ length paths
-    → AreSumsOfContents settings.kind settings.piece_length contents sums → IsListed head paths list sums contents
+    → AreSumsOfSettings settings contents sums → IsListed head paths list sums contents
 listed head settings paths entries list lengths sums contents of_head accepted indexed same is are lawful many up =
-    let up_head = subst (λ (s : Settings). AreSumsOfContents s.kind s.piece_length contents sums) (sym of_head) up in
+    let up_head = subst (λ (s : Settings). AreSumsOfSettings s contents sums) (sym of_head) up in
     let long : length lengths ≡ length paths =
-    ap length (is ∙ lengths_read head.kind head.piece_length contents sums up_head)
+    ap length (is ∙ lengths_read (settings_of head) contents sums up_head)
     ∙ length-map contents length ∙ many in
     let judged = judged_list head paths lengths entries list indexed
     (subst (λ (s : Settings). paths_refusal s paths ≡ None) (sym of_head) accepted)

@@ -11,4 +11,5 @@ settings_of head = record {
   piece_length = head.piece_length;
   announce = option_map (λ url. url.items) head.announce;
   is_private = head.is_private;
+  tail = head.tail;
 }

@@ -1,5 +1,5 @@
 -- The settings that an order stands for, and the spans that it may have.
-use Rattle.std.specs.Prelude.{ℕ, Bool, ◌&&◌, nat_le, option_map}
+use Rattle.std.specs.Prelude.{ℕ, Bool, ◌&&◌, not, nat_le, option_map}
 use Rattle.std.specs.Int.{is_power_of_two}
 use Rattle.tor_meta.specs.declared.order.Order.{Order}
 use Rattle.tor_meta.specs.declared.order.TheConstants.{MAX_SPAN}
@@ -13,7 +13,12 @@ settings_of_order order = record {
   piece_length = order.piece_length;
   announce = option_map (λ url. url.items) order.announce;
   is_private = order.is_private;
+  tail = order.tail;
 }
+
+-- where files are aligned, these settings ask for a tail: one file by itself has none
+abbrev pub has_tail : Settings → Bool
+has_tail settings = not settings.single && settings.tail
 
 -- a power of two from 1 to 1,024
 abbrev pub is_span : ℕ → Bool

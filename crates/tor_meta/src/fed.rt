@@ -74,12 +74,14 @@ impl FedSums {
         self.count
     }
 
-    /// What they sum up to, as a list of one file.
-    pub(crate) fn finish(self, alloc: Global) -> Result<Sums, AllocError>
+    /// What they sum up to, as a list of one file, after which so many zeros come.
+    pub(crate) fn finish(self, alloc: Global, tail: u64) -> Result<Sums, AllocError>
         ensures { (kind : Kind) (piece_length : ℕ) (bytes : List ℕ) → HasFed self kind piece_length bytes →
-            IfOk result (SumsOfOne kind piece_length bytes) }
+            IfOk result (SumsOfOne kind piece_length bytes tail) }
     {
         let FedSums { count, hasher } = self;
+        let mut hasher = hasher;
+        hasher.feed_zeros(tail)?;
         let Hashed { tree, pieces } = hasher.finish(alloc);
         let (roots, layers) = trees_of(alloc, tree)?;
         Ok(Sums {

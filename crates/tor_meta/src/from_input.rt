@@ -91,6 +91,7 @@ pub fn torrent_by_streams<R: io::Read, T: Threads + Wait + Sync + Send + Clone +
         order.piece_length,
         order.span,
         workers,
+        order.has_tail(),
     )?;
     let count = sums.lengths[0];
     Ok(make_summed(alloc, &head, count, &sums)?)

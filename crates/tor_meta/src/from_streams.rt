@@ -9,7 +9,7 @@ ghost use Rattle.tor_meta.specs.Head.{settings_of};
 ghost use Rattle.tor_meta.specs.Make.{IsOwn};
 ghost use Rattle.tor_meta.specs.MakeStreams.{IsGivenByReaders, IsMadeOfReaders, are_rising, files_with};
 ghost use Rattle.tor_meta.specs.MakeStreams.{stream_numbers_refusal, stream_refusal};
-ghost use Rattle.tor_meta.specs.Order.{settings_of_order};
+ghost use Rattle.tor_meta.specs.Order.{has_tail, settings_of_order};
 ghost use Rattle.tor_meta.specs.Refusal.{ordered_refusal};
 ghost use Rattle.tor_meta.specs.declared.make_error.MakeError.{MakeError};
 ghost use Rattle.tor_meta.specs.declared.refusals.ContentsError.{ContentsError};
@@ -89,9 +89,11 @@ fn sums_of<R: Read + Drop, T: Threads + Wait + Sync>(
 ) -> Result<Sums, EngineError<io::Error>>
     requires accepted { stream_numbers_refusal {F = Error} order.now ≡ None }
     ensures summed { IfOk result
-        (AreSumsOfReaders order.now.kind order.now.piece_length (map R.remaining readers.items)) }
+        (AreSumsOfReaders order.now.kind (has_tail (settings_of_order order.now)) order.now.piece_length
+        (map R.remaining readers.items)) }
     ensures told { (contents : List (List ℕ)) → map R.remaining readers.items ≡ map Some contents →
-        IfOk result (AreSumsOfContents order.now.kind order.now.piece_length contents) }
+        IfOk result (AreSumsOfContents order.now.kind (has_tail (settings_of_order order.now)) order.now.piece_length
+        contents) }
     ensures fault { IfErr result (IsFaultOfReaders (map R.remaining readers.items)) }
 {
     piece_length_bounds();
@@ -104,6 +106,7 @@ fn sums_of<R: Read + Drop, T: Threads + Wait + Sync>(
         order.piece_length,
         order.span,
         workers,
+        order.has_tail(),
     )
 }
 

@@ -1,8 +1,12 @@
 //! What a torrent is made with, beside its files.
-ghost use Rattle.std.specs.Prelude.{◌≡◌};
+ghost use Rattle.std.specs.Prelude.{◌≡◌, ◌≤◌};
+ghost use Rattle.tor_merkle.specs.Layer.{IsPieceLength};
+ghost use Rattle.tor_merkle.specs.declared.TheConstants.{MAX_LENGTH};
 ghost use Rattle.tor_spec.specs.Settings.{is_aligned, layout_of};
+ghost use Rattle.tor_meta.specs.Fed.{tail_length};
 ghost use Rattle.tor_meta.specs.Head.{settings_of};
 
+use tor_merkle::laws::piece_length_bounds;
 use tor_tree::{Kind, Name};
 use tor_v1::Layout;
 
@@ -20,6 +24,8 @@ pub struct Head {
     pub announce: Option<Vec<u8>>,
     /// `private` (BEP 27).
     pub is_private: bool,
+    /// Of a hybrid of files in a folder the last that is not empty has padding too (BEP 47, "padding files").
+    pub tail: bool,
 }
 
 impl Head {
@@ -34,10 +40,26 @@ impl Head {
     pub(crate) fn layout(&self) -> Layout
         ensures { result ≡ layout_of (settings_of self.now) }
     {
-        if self.is_aligned() {
-            Layout::Aligned
+        if !self.is_aligned() {
+            return Layout::Joined;
+        }
+        if self.tail {
+            Layout::AlignedTail
         } else {
-            Layout::Joined
+            Layout::Aligned
+        }
+    }
+
+    /// How many zeros follow one content of so many bytes.
+    pub(crate) fn tail_length(&self, count: u64) -> u64
+        requires piece { IsPieceLength self.now.piece_length }
+        requires small { count ≤ MAX_LENGTH }
+        ensures { result ≡ tail_length (layout_of (settings_of self.now)) self.now.piece_length count }
+    {
+        piece_length_bounds();
+        match self.layout() {
+            Layout::AlignedTail => count.next_multiple_of(self.piece_length) - count,
+            Layout::Joined | Layout::Aligned => 0,
         }
     }
 }

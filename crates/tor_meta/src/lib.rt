@@ -25,7 +25,9 @@
 //! let name = Name::new(alloc, b"a")?;
 //! let path = FilePath::new(vec![in alloc; name.copy(alloc)?]?).ok_or("no name")?;
 //! let files = vec![in alloc; (path, Vec::from_slice(alloc, b"abc")?)]?;
-//! let head = Head { kind: Kind::V2, single: true, name, piece_length: 16384, announce: None, is_private: false };
+//! let head = Head {
+//!     kind: Kind::V2, single: true, name, piece_length: 16384, announce: None, is_private: false, tail: false,
+//! };
 //! assert_eq!(rt; make_contents(alloc, files, &head)?.len(), 158);
 //! ```
 #![tactic(auto)]

@@ -7,20 +7,21 @@ ghost use Rattle.tor_engine.specs.How.{IsHow};
 ghost use Rattle.tor_meta.specs.Contents.{files_of};
 ghost use Rattle.tor_meta.specs.Hashes.{HasInfo};
 ghost use Rattle.tor_meta.specs.Head.{settings_of};
-ghost use Rattle.tor_meta.specs.steps.Sums.{HaveTrees, IsJudged, SumUp, SumUpSome};
+ghost use Rattle.tor_meta.specs.steps.Sums.{HaveTrees, IsJudged, IsPlanOf, SumUp, SumUpSome};
 ghost use Rattle.tor_plan.specs.PlanFacts.{IsSpan};
 ghost use Rattle.tor_source.specs.Source.{SourceFacts};
 ghost use Rattle.tor_spec.specs.Metainfo.{metainfo};
 ghost use Rattle.tor_tree.specs.FileList.{lengths_of};
 
 use crate::head::Head;
+use crate::info::entries;
 use crate::torrent::torrent_bytes;
 use std::alloc::{AllocError, Global};
 use std::thread::Threads;
 use tor_engine::{EngineError, How, Sums, hash_told};
 use tor_merkle::laws::piece_length_bounds;
 use tor_plan::Plan;
-use tor_plan::laws::units_are_the_content;
+use tor_plan::laws::{entry_units_are_the_content, files_are_cut_as_entries};
 use tor_source::Source;
 use tor_tree::FileList;
 
@@ -81,14 +82,31 @@ fn sums_of_listed<S: Source, R: Threads + Sync>(
     ensures gave { IfErr result
         (IsGivenNotMissing (S.gave source.now) (S.told source.now) (S.ended source.now) (lengths_of list.now)) }
 {
-    piece_length_bounds();
-    units_are_the_content();
-    let plan = Plan::new(alloc, list, head.kind, head.piece_length, span)?;
+    let plan = plan_of_listed(alloc, list, head, span)?;
     let sums = match hash_told(rt, alloc, source, &plan, how) {
         Ok(sums) => sums,
         Err(error) => return Err(error),
     };
     Ok(sums)
+}
+
+/// The plan of the entries that the torrent has.
+fn plan_of_listed(
+    alloc: Global,
+    list: &FileList,
+    head: &Head,
+    span: u32,
+) -> Result<Plan, AllocError>
+    requires judged { IsJudged head.now list.now }
+    requires span { IsSpan span }
+    ensures { IfOk result (IsPlanOf head.now list.now) }
+{
+    piece_length_bounds();
+    files_are_cut_as_entries();
+    entry_units_are_the_content();
+    let entries = entries(alloc, head, list)?;
+    let plan = Plan::of_entries(alloc, &entries, head.kind, head.piece_length, span)?;
+    Ok(plan)
 }
 
 /// The bytes of the torrent of the files that have these sums.

@@ -1,11 +1,12 @@
 //! The torrent of one content that was read.
 ghost use Rattle.std.specs.Prelude.{◌≡◌, ◌≤◌, ◌∷◌, [], ℕ, List, None, IfOk, length};
 ghost use Rattle.tor_merkle.specs.declared.TheConstants.{MAX_LENGTH};
-ghost use Rattle.tor_meta.specs.Fed.{HasFed, SumsOfOne};
+ghost use Rattle.tor_meta.specs.Fed.{HasFed, SumsOfOne, tail_length};
 ghost use Rattle.tor_meta.specs.Hashes.{HasInfo};
 ghost use Rattle.tor_meta.specs.Head.{settings_of};
 ghost use Rattle.tor_meta.specs.Refusal.{paths_refusal};
 ghost use Rattle.tor_spec.specs.Metainfo.{metainfo, only};
+ghost use Rattle.tor_spec.specs.Settings.{layout_of};
 ghost use Rattle.tor_tree.specs.FileList.{IsFileList};
 
 use crate::fed::FedSums;
@@ -25,7 +26,7 @@ pub fn make_fed(alloc: Global, head: &Head, fed: FedSums) -> Result<Vec<u8>, All
     ensures info { IfOk result (λ torrent. HasInfo torrent.items) }
 {
     let count = fed.count();
-    let sums = fed.finish(alloc)?;
+    let sums = fed.finish(alloc, head.tail_length(count))?;
     make_summed(alloc, head, count, &sums)
 }
 
@@ -38,10 +39,11 @@ pub(crate) fn make_summed(
 ) -> Result<Vec<u8>, AllocError>
     requires accepted { paths_refusal (settings_of head.now) ((head.now.name ∷ []) ∷ []) ≡ None }
     requires small { count ≤ MAX_LENGTH }
-    requires summed { (bytes : List ℕ) × (length bytes ≡ count)
-        × SumsOfOne head.now.kind head.now.piece_length bytes sums.now }
+    requires summed { (bytes : List ℕ) × (length bytes ≡ count) × SumsOfOne head.now.kind head.now.piece_length bytes
+        (tail_length (layout_of (settings_of head.now)) head.now.piece_length count) sums.now }
     ensures made { (bytes : List ℕ) → length bytes ≡ count →
-        SumsOfOne head.now.kind head.now.piece_length bytes sums.now →
+        SumsOfOne head.now.kind head.now.piece_length bytes
+        (tail_length (layout_of (settings_of head.now)) head.now.piece_length count) sums.now →
         IfOk result (λ torrent. torrent.items ≡ metainfo (settings_of head.now) (only head.now.name bytes)) }
     ensures info { IfOk result (λ torrent. HasInfo torrent.items) }
 {

@@ -2,7 +2,7 @@
 ghost use Rattle.std.specs.Prelude.{◌≡◌, ◌⊎◌, ◌∷◌, [], Err, IfErr, IfOk, None, OnOk, Some, option_map, vec_items};
 ghost use Rattle.tor_meta.specs.Head.{settings_of};
 ghost use Rattle.tor_meta.specs.Make.{make_refusal, numbers_refusal};
-ghost use Rattle.tor_meta.specs.Order.{is_span, settings_of_order};
+ghost use Rattle.tor_meta.specs.Order.{has_tail, is_span, settings_of_order};
 ghost use Rattle.tor_meta.specs.Refusal.{paths_refusal};
 ghost use Rattle.tor_meta.specs.declared.make_error.MakeError.{MakeError};
 ghost use Rattle.tor_meta.specs.declared.make_error.MakeError.TheVariants.{Resources};
@@ -32,6 +32,8 @@ pub struct Order {
     pub announce: Option<Vec<u8>>,
     /// `private` (BEP 27).
     pub is_private: bool,
+    /// Of a hybrid of files in a folder the last that is not empty has padding too (BEP 47, "padding files").
+    pub tail: bool,
     /// The pieces that a worker hashes as one unit of work.
     pub span: u32,
     /// The workers that share the units.
@@ -52,7 +54,15 @@ impl Order {
             piece_length: self.piece_length,
             announce,
             is_private: self.is_private,
+            tail: self.tail,
         })
+    }
+
+    /// Whether streams of a hybrid end with padding.
+    pub(crate) fn has_tail(&self) -> bool
+        ensures { result ≡ has_tail (settings_of_order self.now) }
+    {
+        !self.single && self.tail
     }
 
     /// The same for a torrent of one content under the order's name, or the first refusal; those that need no path take

@@ -1,6 +1,7 @@
 -- The plan of a list of files is that of its entries, which are not too long; the plan of all bytes of entries is
 -- theirs.
-use Rattle.tor_plan.proofs.Names.{◌≡◌, ℕ, ◌<◌, ◌≤◌, Bool, true, false, ltb, ◌&&◌, List, [], ◌∷◌, ◌++◌, map, sum_by}
+use Rattle.tor_plan.proofs.Names.{◌≡◌, ℕ, ◌<◌, ◌≤◌, Bool, true, false, ltb, ◌&&◌, ◌||◌, List, [], ◌∷◌, ◌++◌, map}
+use Rattle.tor_plan.proofs.Names.{sum_by}
 use Rattle.tor_plan.proofs.Names.{arith, ap, ap₂, ◌∙◌, ◌*◌, sym, subst, IsTrue, All-map, sum_by-append, sum_by-cons}
 use Rattle.tor_plan.proofs.Names.{sum_by-le-sum_by, is_power_of_two, next_multiple_of, All, lengths_of, IsFileList}
 use Rattle.tor_plan.proofs.Names.{Kind, V1, Hybrid, MAX_LENGTH, MAX_TOTAL, ROUNDING, files_are_small, Entry, file_entry}
@@ -30,49 +31,51 @@ padded_length : (b : Bool) (n : ℕ) → sum_by entry_length (padded b n) ≤ n
 padded_length true n = omega arith
 padded_length false n = omega arith
 
-aligned_total : (p : ℕ) (files : List File) → IsTrue (is_power_of_two p) → 0 < p → p ≤ ROUNDING
-    → entries_length (aligned_entries p files) ≤ sum_by rounded_up (lengths_of files)
+aligned_total : (tail : Bool) (p : ℕ) (files : List File) → IsTrue (is_power_of_two p) → 0 < p → p ≤ ROUNDING
+    → entries_length (aligned_entries tail p files) ≤ sum_by rounded_up (lengths_of files)
 unfolding aligned_entries
-aligned_total p [] power some le = omega arith
-aligned_total p (file ∷ files) power some le =
+aligned_total tail p [] power some le = omega arith
+aligned_total tail p (file ∷ files) power some le =
     let m = file.1 in
     let n = padding_length p m in
-    let tail = padded (ltb 0 n && has_bytes files) n in
-    let others = aligned_entries p files in
+    let b = ltb 0 n && (tail || has_bytes files) in
+    let others = aligned_entries tail p files in
     omega (
       arith,
-      sum_by-cons entry_length (file_entry file) (tail ++ others),
-      sum_by-append entry_length tail others,
-      padded_length (ltb 0 n && has_bytes files) n,
+      sum_by-cons entry_length (file_entry file) (padded b n ++ others),
+      sum_by-append entry_length (padded b n) others,
+      padded_length b n,
       rounded p m power some le,
-      aligned_total p files power some le,
+      aligned_total tail p files power some le,
       sum_by-cons rounded_up m (lengths_of files),
     )
 
-total_length : (kind : Kind) (p : ℕ) (files : List File) → IsFileList files → IsPlanPieceLength kind p
-    → entries_length (v1_entries (layout_of kind) p files) ≤ MAX_TOTAL
-total_length Hybrid p files lawful pieces =
-    omega (arith, aligned_total p files pieces.0 (omega (arith, pieces.1)) pieces.2, total_small files lawful)
-total_length kind p files lawful pieces = omega (arith, joined_total files, total_small files lawful)
+total_length : (kind : Kind) (tail : Bool) (p : ℕ) (files : List File) → IsFileList files → IsPlanPieceLength kind p
+    → entries_length (v1_entries (layout_of kind tail) p files) ≤ MAX_TOTAL
+total_length Hybrid false p files lawful pieces =
+    omega (arith, aligned_total false p files pieces.0 (omega (arith, pieces.1)) pieces.2, total_small files lawful)
+total_length Hybrid true p files lawful pieces =
+    omega (arith, aligned_total true p files pieces.0 (omega (arith, pieces.1)) pieces.2, total_small files lawful)
+total_length kind tail p files lawful pieces = omega (arith, joined_total files, total_small files lawful)
 
-pub files_are_list : (kind : Kind) (p : ℕ) (files : List File) → IsFileList files → IsPlanPieceLength kind p
-    → IsEntryList kind p (v1_entries (layout_of kind) p files)
-files_are_list kind p files lawful pieces = record {
-  total = total_length kind p files lawful pieces;
-  files = subst (All (λ m. m ≤ MAX_LENGTH)) (sym (lengths_of_files (layout_of kind) p files))
+pub files_are_list : (kind : Kind) (tail : Bool) (p : ℕ) (files : List File) → IsFileList files
+    → IsPlanPieceLength kind p → IsEntryList kind p (v1_entries (layout_of kind tail) p files)
+files_are_list kind tail p files lawful pieces = record {
+  total = total_length kind tail p files lawful pieces;
+  files = subst (All (λ m. m ≤ MAX_LENGTH)) (sym (lengths_of_files (layout_of kind tail) p files))
       (All-map (λ m. m ≤ MAX_LENGTH) (λ (file : File). file.1) files (files_are_small files lawful));
-  laid_out = files_laid_out kind p files;
+  laid_out = files_laid_out kind tail p files;
 }
 
 pub same_plan : (kind : Kind) (p span : ℕ) (files : List File)
-    → plan_of kind p span files ≡ plan_of_entries kind p span (v1_entries (layout_of kind) p files)
+    → plan_of kind p span files ≡ plan_of_entries kind p span (v1_entries (layout_of kind false) p files)
 same_plan kind p span files = ap₂ (λ units lengths. record {
   kind = kind;
   piece_length = p;
   units = units;
   lengths = lengths;
   trees = forest_trees kind (span * p) lengths;
-}) (entry_units_of_files kind p span files) (sym (lengths_of_files (layout_of kind) p files))
+}) (entry_units_of_files kind p span files) (sym (lengths_of_files (layout_of kind false) p files))
 
 -- ---- the plan of all bytes
 

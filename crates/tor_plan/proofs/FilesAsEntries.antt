@@ -1,5 +1,6 @@
 -- Files of a list, cut as the entries that they are in a torrent, whose padding stands where it belongs.
-use Rattle.tor_plan.proofs.Names.{◌≡◌, ℕ, ◌+◌, ◌-◌, ◌*◌, Bool, true, false, cond, ltb, ◌&&◌, min, max, List, [], ◌∷◌}
+use Rattle.tor_plan.proofs.Names.{◌≡◌, ℕ, ◌+◌, ◌-◌, ◌*◌, Bool, true, false, cond, ltb, ◌&&◌, ◌||◌, min, max, List, []}
+use Rattle.tor_plan.proofs.Names.{◌∷◌}
 use Rattle.tor_plan.proofs.Names.{◌++◌, map, sum, sum_by, arith, refl, ap, ap₂, ◌∙◌, sym, inl, inr, zero-add, lt-ltb}
 use Rattle.tor_plan.proofs.Names.{le-ltb, cond-true, cond-false, cases_lt, sum-map, map-map, div_ceil, range_with_len}
 use Rattle.tor_plan.proofs.Names.{lengths_of, Kind, V1, V2, Hybrid, file_entries, file_entry, pad_entry, padding_after}
@@ -7,7 +8,7 @@ use Rattle.tor_plan.proofs.Names.{padding_length, has_bytes, aligned_entries, v1
 use Rattle.tor_plan.proofs.Names.{facts-v1_entries, layout_of, after_part, entries_length, entry_units}
 use Rattle.tor_plan.proofs.Names.{joined_entry_units, lengths_of_entries, padding_before_next, separate_entry_units}
 use Rattle.tor_plan.proofs.Names.{unit_within, hash_units, joined_unit, joined_units, parts_within, separate_units}
-use Rattle.tor_plan.proofs.Names.{units_of_file, zeros_after, cases_Bool, and_from, and_left, and_right, or_parts}
+use Rattle.tor_plan.proofs.Names.{units_of_file, cases_Bool, and_from, and_left, and_right, or_parts}
 use Rattle.tor_plan.proofs.Names.{or_from, list_any, has_padding, is_filled, ArePadded, IsLaidOut, IsPaddedTo}
 use Rattle.tor_plan.proofs.Names.{no_padding}
 use Rattle.tor_plan.proofs.Contents.{File}
@@ -76,32 +77,36 @@ unfolding padding_before_next
 before_padded true n entries = ap (λ k. k + padding_before_next entries) (sym (zero-add n))
 before_padded false n entries = sym (zero-add (padding_before_next entries))
 
-no_zeros_after : (p m : ℕ) (later : List File) → m ≡ 0 → zeros_after Hybrid p m later ≡ 0
-no_zeros_after p m later none =
-    ap (λ n. sum_by entry_length (padded (ltb 0 n && has_bytes later) n)) (ap (padding_length p) none ∙ no_padding p)
+-- the zeros after a file of m bytes
+abbrev zeros_of : Bool → ℕ → ℕ → List File → ℕ
+zeros_of tail p m later = sum_by entry_length (padding_after tail p m later)
 
-pub before_aligned : (p : ℕ) (files : List File) → padding_before_next (aligned_entries p files) ≡ 0
+no_zeros_of : (tail : Bool) (p m : ℕ) (later : List File) → m ≡ 0 → zeros_of tail p m later ≡ 0
+no_zeros_of tail p m later none =
+    ap (λ n. sum_by entry_length (padded (ltb 0 n && (tail || has_bytes later)) n))
+    (ap (padding_length p) none ∙ no_padding p)
+
+pub before_aligned : (tail : Bool) (p : ℕ) (files : List File) → padding_before_next (aligned_entries tail p files) ≡ 0
 unfolding aligned_entries padding_before_next
-before_aligned p [] = refl
-before_aligned p (file ∷ files) =
+before_aligned tail p [] = refl
+before_aligned tail p (file ∷ files) =
     let n = padding_length p file.1 in
-    let others = aligned_entries p files in
-    let b = ltb 0 n && has_bytes files in
+    let others = aligned_entries tail p files in
+    let b = ltb 0 n && (tail || has_bytes files) in
     elim (cases_lt 0 file.1) [
       | inl some ↦ before_some file.0 file.1 (padded b n ++ others) some
       | inr few ↦
           let none : file.1 ≡ 0 = omega (arith, few) in
           before_empty file.0 file.1 (padded b n ++ others) none ∙ before_padded b n others
-          ∙ ap₂ (λ x y. x + y) (no_zeros_after p file.1 files none) (before_aligned p files)
+          ∙ ap₂ (λ x y. x + y) (no_zeros_of tail p file.1 files none) (before_aligned tail p files)
     ]
 
--- the zeros after a file of a hybrid torrent
-pub zeros_are : (p m : ℕ) (files : List File) → zeros_after Hybrid p m files
-    ≡ padding_before_next (padding_after p m files ++ aligned_entries p files)
-zeros_are p m files =
+pub zeros_are : (tail : Bool) (p m : ℕ) (files : List File) → zeros_of tail p m files
+    ≡ padding_before_next (padding_after tail p m files ++ aligned_entries tail p files)
+zeros_are tail p m files =
     let n = padding_length p m in
-    let b = ltb 0 n && has_bytes files in
-    sym (before_padded b n (aligned_entries p files) ∙ omega (arith, before_aligned p files))
+    let b = ltb 0 n && (tail || has_bytes files) in
+    sym (before_padded b n (aligned_entries tail p files) ∙ omega (arith, before_aligned tail p files))
 
 skips_padded : (size index : ℕ) (b : Bool) (n : ℕ) (entries : List Entry)
     → separate_entry_units size index entries ≡ separate_entry_units size index (padded b n ++ entries)
@@ -118,31 +123,31 @@ files_alone p size index (file ∷ files) =
     (files_alone p size (index + 1) files)
 
 aligned_files : (p size index : ℕ) (files : List File)
-    → separate_units Hybrid p size index files ≡ separate_entry_units size index (aligned_entries p files)
+    → separate_units Hybrid p size index files ≡ separate_entry_units size index (aligned_entries false p files)
 unfolding separate_units separate_entry_units aligned_entries
 aligned_files p size index [] = refl
 aligned_files p size index (file ∷ files) =
     let n = padding_length p file.1 in
-    ap₂ (λ tail units. units_of_file size index file.1 tail ++ units) (zeros_are p file.1 files)
+    ap₂ (λ tail units. units_of_file size index file.1 tail ++ units) (zeros_are false p file.1 files)
     (aligned_files p size (index + 1) files
-    ∙ skips_padded size (index + 1) (ltb 0 n && has_bytes files) n (aligned_entries p files))
+    ∙ skips_padded size (index + 1) (ltb 0 n && has_bytes files) n (aligned_entries false p files))
 
 pub entry_units_of_files : (kind : Kind) (p span : ℕ) (files : List File)
-    → hash_units kind p span files ≡ entry_units kind p span (v1_entries (layout_of kind) p files)
+    → hash_units kind p span files ≡ entry_units kind p span (v1_entries (layout_of kind false) p files)
 entry_units_of_files V1 p span files = joined_files (span * p) files
 entry_units_of_files V2 p span files = files_alone p (span * p) 0 files
 entry_units_of_files Hybrid p span files = aligned_files p (span * p) 0 files
 
--- before files with bytes
-zeros_before : (p m : ℕ) (later : List File) → has_bytes later ≡ true
-    → zeros_after Hybrid p m later ≡ padding_length p m
-zeros_before p m later more =
+-- before files with bytes, or the end where a tail stands there
+zeros_before : (tail : Bool) (p m : ℕ) (later : List File) → (tail || has_bytes later) ≡ true
+    → zeros_of tail p m later ≡ padding_length p m
+zeros_before tail p m later more =
     let n = padding_length p m in
     elim (cases_lt 0 n) [
       | inl some ↦ ap (λ b. sum_by entry_length (padded b n))
-          (and_from (ltb 0 n) (has_bytes later) (lt-ltb 0 n some) more) ∙ zero-add n
+          (and_from (ltb 0 n) (tail || has_bytes later) (lt-ltb 0 n some) more) ∙ zero-add n
       | inr none ↦ ap (λ b. sum_by entry_length (padded b n))
-          (and_left (ltb 0 n) (has_bytes later) (le-ltb 0 n none)) ∙ (omega arith)
+          (and_left (ltb 0 n) (tail || has_bytes later) (le-ltb 0 n none)) ∙ (omega arith)
     ]
 
 filled_padded : (b : Bool) (n : ℕ) (entries : List Entry)
@@ -150,16 +155,16 @@ filled_padded : (b : Bool) (n : ℕ) (entries : List Entry)
 filled_padded true n entries = refl
 filled_padded false n entries = refl
 
-filled_aligned : (p : ℕ) (files : List File) → has_bytes files ≡ false
-    → list_any is_filled (aligned_entries p files) ≡ false
+filled_aligned : (tail : Bool) (p : ℕ) (files : List File) → has_bytes files ≡ false
+    → list_any is_filled (aligned_entries tail p files) ≡ false
 unfolding aligned_entries
-filled_aligned p [] none = refl
-filled_aligned p (file ∷ files) none =
+filled_aligned tail p [] none = refl
+filled_aligned tail p (file ∷ files) none =
     let n = padding_length p file.1 in
-    let b = ltb 0 n && has_bytes files in
+    let b = ltb 0 n && (tail || has_bytes files) in
     let parts = or_parts (ltb 0 file.1) (has_bytes files) none in
-    or_from (ltb 0 file.1) (list_any is_filled (padded b n ++ aligned_entries p files)) parts.0
-    (filled_padded b n (aligned_entries p files) ∙ filled_aligned p files parts.1)
+    or_from (ltb 0 file.1) (list_any is_filled (padded b n ++ aligned_entries tail p files)) parts.0
+    (filled_padded b n (aligned_entries tail p files) ∙ filled_aligned tail p files parts.1)
 
 after_padding : (p : ℕ) (b : Bool) (n : ℕ) (entries : List Entry) → ArePadded p entries
     → ArePadded p (padded b n ++ entries)
@@ -167,28 +172,32 @@ unfolding ArePadded
 after_padding p true n entries padded = ((λ filled. cc), padded)
 after_padding p false n entries padded = padded
 
-aligned_padded : (p : ℕ) (files : List File) → ArePadded p (aligned_entries p files)
+aligned_padded : (tail : Bool) (p : ℕ) (files : List File) → ArePadded p (aligned_entries tail p files)
 unfolding ArePadded aligned_entries
-aligned_padded p [] = tt
-aligned_padded p (file ∷ files) =
+aligned_padded tail p [] = tt
+aligned_padded tail p (file ∷ files) =
     let n = padding_length p file.1 in
-    let b = ltb 0 n && has_bytes files in
-    let zeros = zeros_are p file.1 files in
-    let to : IsPaddedTo p file.1 (padded b n ++ aligned_entries p files) = elim (cases_Bool (has_bytes files)) [
-      | inl more ↦ inl (sym zeros ∙ zeros_before p file.1 files more)
+    let more = tail || has_bytes files in
+    let b = ltb 0 n && more in
+    let zeros = zeros_are tail p file.1 files in
+    let to : IsPaddedTo p file.1 (padded b n ++ aligned_entries tail p files) = elim (cases_Bool more) [
+      | inl some ↦ inl (sym zeros ∙ zeros_before tail p file.1 files some)
       | inr none ↦ inr (
-        filled_padded b n (aligned_entries p files) ∙ filled_aligned p files none,
-        sym zeros ∙ ap (λ c. sum_by entry_length (padded c n)) (and_right (ltb 0 n) (has_bytes files) none),
+        filled_padded b n (aligned_entries tail p files)
+            ∙ filled_aligned tail p files (or_parts tail (has_bytes files) none).1,
+        sym zeros ∙ ap (λ c. sum_by entry_length (padded c n)) (and_right (ltb 0 n) more none),
       )
     ] in
-    ((λ filled. to), after_padding p b n (aligned_entries p files) (aligned_padded p files))
+    ((λ filled. to), after_padding p b n (aligned_entries tail p files) (aligned_padded tail p files))
 
 files_unpadded : (files : List File) → has_padding (map file_entry files) ≡ false
 files_unpadded [] = refl
 files_unpadded (file ∷ files) = files_unpadded files
 
-pub files_laid_out : (kind : Kind) (p : ℕ) (files : List File) → IsLaidOut kind p (v1_entries (layout_of kind) p files)
+pub files_laid_out : (kind : Kind) (tail : Bool) (p : ℕ) (files : List File)
+    → IsLaidOut kind p (v1_entries (layout_of kind tail) p files)
 unfolding IsLaidOut
-files_laid_out V1 p files = tt
-files_laid_out V2 p files = files_unpadded files
-files_laid_out Hybrid p files = (before_aligned p files, aligned_padded p files)
+files_laid_out V1 tail p files = tt
+files_laid_out V2 tail p files = files_unpadded files
+files_laid_out Hybrid false p files = (before_aligned false p files, aligned_padded false p files)
+files_laid_out Hybrid true p files = (before_aligned true p files, aligned_padded true p files)

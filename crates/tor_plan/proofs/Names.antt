@@ -4,7 +4,7 @@ pub use Rattle.std.proofs.Common.{arith, cond, drop, eq-zero-or-pos, false, get_
 pub use Rattle.std.proofs.Common.{length-append, length-drop, lt_of_mul-lt-mul_right, ltb, map, max, min}
 pub use Rattle.std.proofs.Common.{mul-le-mul_right, mul-pos, mul_assoc, mul_comm, pow-add, pow-suc, refl, rules, set}
 pub use Rattle.std.proofs.Common.{subst, suc, sum, sum_by, sym, take, true, zero, zero-add, ℕ, ◌%◌, ◌&&◌, ◌*◌, ◌++◌}
-pub use Rattle.std.proofs.Common.{◌+◌, ◌-◌, ◌/◌, ◌<◌, ◌^◌, ◌∙◌, ◌∷◌, ◌≡◌, ◌≢◌, ◌≤◌, ◌⊎◌}
+pub use Rattle.std.proofs.Common.{◌+◌, ◌-◌, ◌/◌, ◌<◌, ◌^◌, ◌∙◌, ◌∷◌, ◌||◌, ◌≡◌, ◌≢◌, ◌≤◌, ◌⊎◌}
 pub use Rattle.std.proofs.Math.Nat.{le-mul_of_pos_right}
 pub use Rattle.std.proofs.Math.Pow.{pow-lt}
 pub use Rattle.std.proofs.Math.Seq.{take-add, take-append-add}

@@ -1,6 +1,8 @@
 -- The proofs of the laws of src/laws.rt.
-use Rattle.tor_plan.proofs.Names.{◌≡◌, ◌≢◌, ℕ, ◌+◌, ◌-◌, ◌*◌, ◌<◌, min, List, length, get_or, refl, arith, ap, ◌∙◌, sym}
-use Rattle.tor_plan.proofs.Names.{subst, map, inl, inr, append-nil, eq-zero-or-pos, mul-pos, All, flat_map, Kind, V1}
+use Rattle.tor_plan.proofs.Names.{◌≡◌, ◌≢◌, ℕ, ◌+◌, ◌-◌, ◌*◌, ◌<◌, false, min, List, length, get_or, refl, arith, ap}
+use Rattle.tor_plan.proofs.Names.{◌∙◌}
+use Rattle.tor_plan.proofs.Names.{sym, subst, map, inl, inr, append-nil, eq-zero-or-pos, mul-pos, All, flat_map, Kind}
+use Rattle.tor_plan.proofs.Names.{V1}
 use Rattle.tor_plan.proofs.Names.{V2, Hybrid, AreContentsOf, joined_content, v1_entries, piece_sums, Entry}
 use Rattle.tor_plan.proofs.Names.{AreContentsOfFiles, cut_content, layout_of, unit_content, entry_units}
 use Rattle.tor_plan.proofs.Names.{lengths_of_entries, IsLaidOut, piece_of_unit, pieces_of_unit, hash_units, IsInFile}
@@ -144,8 +146,9 @@ pieces_are_in_entry_units Hybrid piece_length span entries contents not_v2 some 
 pub units_are_the_content : (kind : Kind) (piece_length span : ℕ) (files : List (List (List ℕ) × ℕ))
     (contents : List (List ℕ)) → 0 < span * piece_length → AreContentsOfFiles files contents
     → flat_map (unit_content contents) (hash_units kind piece_length span files)
-    ≡ cut_content kind piece_length files contents
+    ≡ cut_content kind false piece_length files contents
 units_are_the_content kind piece_length span files contents pos fit =
     ap (flat_map (unit_content contents)) (entry_units_of_files kind piece_length span files)
-    ∙ entry_units_are_the_content kind piece_length span (v1_entries (layout_of kind) piece_length files) contents pos
-    (files_laid_out kind piece_length files) (fit ∙ sym (lengths_of_files (layout_of kind) piece_length files))
+    ∙ entry_units_are_the_content kind piece_length span (v1_entries (layout_of kind false) piece_length files) contents
+    pos (files_laid_out kind false piece_length files)
+    (fit ∙ sym (lengths_of_files (layout_of kind false) piece_length files))

@@ -1,5 +1,5 @@
 -- Which bytes the units of a plan have, where the files have these contents.
-use Rattle.std.specs.Prelude.{◌≡◌, ℕ, List, [], ◌++◌, length, map, take, drop, slice_index_or}
+use Rattle.std.specs.Prelude.{◌≡◌, ℕ, Bool, true, false, List, [], ◌++◌, length, map, take, drop, slice_index_or}
 use Rattle.std.specs.List.{flat_map}
 use Rattle.tor_tree.specs.FileList.{lengths_of}
 use Rattle.tor_tree.specs.declared.kinds.Kind.{Kind}
@@ -8,7 +8,7 @@ use Rattle.tor_v1.specs.Content.{joined_content}
 use Rattle.tor_v1.specs.Entries.{v1_entries}
 use Rattle.tor_v1.specs.Piece.{zeros}
 use Rattle.tor_v1.specs.declared.layout.Layout.{Layout}
-use Rattle.tor_v1.specs.declared.layout.Layout.TheVariants.{Joined, Aligned}
+use Rattle.tor_v1.specs.declared.layout.Layout.TheVariants.{Joined, Aligned, AlignedTail}
 use Rattle.tor_plan.specs.declared.units.Part.{Part}
 use Rattle.tor_plan.specs.declared.units.PlanUnit.{PlanUnit}
 
@@ -25,11 +25,13 @@ part_content contents part =
 abbrev pub unit_content : List (List ℕ) → PlanUnit → List ℕ
 unit_content contents unit = zeros unit.zeros ++ flat_map (part_content contents) unit.parts
 
--- in a hybrid torrent with padding between the files, else directly after one another
-abbrev pub layout_of : Kind → Layout
-layout_of Hybrid = Aligned
-layout_of _ = Joined
+-- in a hybrid torrent with padding between the files, and with a tail after the last; else directly after one another
+abbrev pub layout_of : Kind → Bool → Layout
+layout_of Hybrid false = Aligned
+layout_of Hybrid true = AlignedTail
+layout_of _ tail = Joined
 
 -- the content that the units cut: that of the files' entries
-abbrev pub cut_content : Kind → ℕ → List (List (List ℕ) × ℕ) → List (List ℕ) → List ℕ
-cut_content kind piece_length files contents = joined_content (v1_entries (layout_of kind) piece_length files) contents
+abbrev pub cut_content : Kind → Bool → ℕ → List (List (List ℕ) × ℕ) → List (List ℕ) → List ℕ
+cut_content kind tail piece_length files contents =
+    joined_content (v1_entries (layout_of kind tail) piece_length files) contents

@@ -1,6 +1,6 @@
 -- How a list of files is cut into units of work. A file is a pair of a path and a length in bytes; it is named by its
 -- index in the list.
-use Rattle.std.specs.Prelude.{ℕ, ◌+◌, ◌-◌, ◌*◌, min, max, nat_lt, nat_le, List, [], ◌∷◌, ◌++◌, map, sum_by}
+use Rattle.std.specs.Prelude.{ℕ, ◌+◌, ◌-◌, ◌*◌, false, min, max, nat_lt, nat_le, List, [], ◌∷◌, ◌++◌, map, sum_by}
 use Rattle.std.specs.Prelude.{if◌then◌else◌}
 use Rattle.std.specs.Int.{div_ceil}
 use Rattle.std.specs.List.{sum, range_with_len}
@@ -29,7 +29,7 @@ units_of_file size file m zeros = map (file_unit size file m zeros) (range_with_
 
 -- the zeros after a file of m bytes that later files follow: in a hybrid torrent the padding that its entry has
 abbrev pub zeros_after : Kind → ℕ → ℕ → List (List (List ℕ) × ℕ) → ℕ
-zeros_after Hybrid piece_length m later = sum_by (λ entry. entry.length) (padding_after piece_length m later)
+zeros_after Hybrid piece_length m later = sum_by (λ entry. entry.length) (padding_after false piece_length m later)
 zeros_after _ piece_length m later = 0
 
 -- each file cut by itself; the first has this index

@@ -1,18 +1,19 @@
 //! Laws over the definitions, as contracts of functions that do nothing.
-ghost use Rattle.std.specs.Prelude.{◌≡◌, ◌≢◌, ℕ, ◌+◌, ◌-◌, ◌*◌, ◌^◌, ◌<◌, ◌≤◌, min, All, List, length, slice_index_or};
+ghost use Rattle.std.specs.Prelude.{◌≡◌, ◌≢◌, ℕ, ◌+◌, ◌-◌, ◌*◌, ◌^◌, ◌<◌, ◌≤◌, Bool, false, min, All, List, length};
+ghost use Rattle.std.specs.Prelude.{slice_index_or};
 ghost use Rattle.std.specs.List.{flat_map};
 ghost use Rattle.tor_plan.specs.Content.{AreContentsOfFiles, cut_content, layout_of, unit_content};
 ghost use Rattle.tor_plan.specs.Entries.{entry_units, lengths_of_entries};
-ghost use Rattle.tor_plan.specs.EntryList.{IsLaidOut};
+ghost use Rattle.tor_plan.specs.EntryList.{IsEntryList, IsLaidOut};
 ghost use Rattle.tor_plan.specs.Forest.{AreRuns};
-ghost use Rattle.tor_plan.specs.PlanFacts.{IsPlan, PlanFacts};
+ghost use Rattle.tor_plan.specs.PlanFacts.{IsPlan, IsPlanPieceLength, PlanFacts};
 ghost use Rattle.tor_plan.specs.Pieces.{piece_of_unit, pieces_of_unit};
 ghost use Rattle.tor_plan.specs.Positions.{positions_of_files, positions_of_unit};
 ghost use Rattle.tor_plan.specs.Units.{hash_units};
 ghost use Rattle.tor_plan.specs.WithinEntries.{IsInFile, IsUnitWithin, unit_length};
 ghost use Rattle.tor_plan.specs.WithinFiles.{IsFileUnit};
 ghost use Rattle.tor_plan.specs.declared.units.PlanUnit.{PlanUnit};
-ghost use Rattle.tor_tree.specs.FileList.{lengths_of};
+ghost use Rattle.tor_tree.specs.FileList.{IsFileList, lengths_of};
 ghost use Rattle.tor_tree.specs.declared.kinds.Kind.{Kind};
 ghost use Rattle.tor_tree.specs.declared.kinds.Kind.TheVariants.{V1, V2, Hybrid};
 ghost use Rattle.tor_v1.specs.Content.{AreContentsOf, joined_content};
@@ -26,18 +27,21 @@ pub fn units_are_the_content()
     ensures { (kind : Kind) (piece_length span : ℕ) (files : List (List (List ℕ) × ℕ)) (contents : List (List ℕ)) →
         0 < span * piece_length → AreContentsOfFiles files contents →
         flat_map (unit_content contents) (hash_units kind piece_length span files)
-        ≡ cut_content kind piece_length files contents }
+        ≡ cut_content kind false piece_length files contents }
 {}
 
-/// The files of a list are cut as their entries are.
+/// The files of a list are cut as their entries are. Those may have a tail, and a plan can be made of them.
 pub fn files_are_cut_as_entries()
     ensures units { (kind : Kind) (piece_length span : ℕ) (files : List (List (List ℕ) × ℕ)) →
         hash_units kind piece_length span files
-        ≡ entry_units kind piece_length span (v1_entries (layout_of kind) piece_length files) }
-    ensures lengths { (kind : Kind) (piece_length : ℕ) (files : List (List (List ℕ) × ℕ)) →
-        lengths_of_entries (v1_entries (layout_of kind) piece_length files) ≡ lengths_of files }
-    ensures laid_out { (kind : Kind) (piece_length : ℕ) (files : List (List (List ℕ) × ℕ)) →
-        IsLaidOut kind piece_length (v1_entries (layout_of kind) piece_length files) }
+        ≡ entry_units kind piece_length span (v1_entries (layout_of kind false) piece_length files) }
+    ensures lengths { (kind : Kind) (tail : Bool) (piece_length : ℕ) (files : List (List (List ℕ) × ℕ)) →
+        lengths_of_entries (v1_entries (layout_of kind tail) piece_length files) ≡ lengths_of files }
+    ensures laid_out { (kind : Kind) (tail : Bool) (piece_length : ℕ) (files : List (List (List ℕ) × ℕ)) →
+        IsLaidOut kind piece_length (v1_entries (layout_of kind tail) piece_length files) }
+    ensures listed { (kind : Kind) (tail : Bool) (piece_length : ℕ) (files : List (List (List ℕ) × ℕ)) →
+        IsFileList files → IsPlanPieceLength kind piece_length →
+        IsEntryList kind piece_length (v1_entries (layout_of kind tail) piece_length files) }
 {}
 
 /// The units have each byte of each entry once, in order: together they are the content of the entries.

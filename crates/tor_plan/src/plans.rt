@@ -1,5 +1,5 @@
 //! The plan of a list of files, or of the entries of a torrent.
-ghost use Rattle.std.specs.Prelude.{◌≡◌, IfOk, map};
+ghost use Rattle.std.specs.Prelude.{◌≡◌, false, IfOk, map};
 ghost use Rattle.tor_plan.specs.Content.{layout_of};
 ghost use Rattle.tor_plan.specs.Entries.{lengths_of_entries};
 
@@ -156,7 +156,7 @@ impl Plan {
 
 /// How files stand in the content that is cut.
 fn layout_of(kind: Kind) -> Layout
-    ensures { result ≡ layout_of kind }
+    ensures { result ≡ layout_of kind false }
 {
     match kind {
         Kind::Hybrid => Layout::Aligned,

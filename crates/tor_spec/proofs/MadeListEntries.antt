@@ -1,10 +1,11 @@
 -- Entries read back from the dictionaries that the maker makes of them.
 use Rattle.tor_spec.proofs.Names.{◌≡◌, ℕ, Bool, true, false, List, [], ◌∷◌, ◌++◌, map, refl, ap, ap₂, ◌∙◌, codes}
-use Rattle.tor_spec.proofs.Names.{Option, None, Some, is_some, unwrap_or, ◌&&◌, nat_lt, if◌then◌else◌, AllByRecursion}
+use Rattle.tor_spec.proofs.Names.{Option, None, Some, is_some, unwrap_or, ◌&&◌, ◌||◌, nat_lt, if◌then◌else◌}
+use Rattle.tor_spec.proofs.Names.{AllByRecursion}
 use Rattle.tor_spec.proofs.Names.{Data, dictionary, no_pairs, value_of, items_of, entry_dictionary, files_list, strings}
 use Rattle.tor_spec.proofs.Names.{ListedFile, entry_file, names_of, side_files, single_file, without_padding, items_in}
 use Rattle.tor_spec.proofs.Names.{items_of_list, aligned_entries, file_entry, has_bytes, pad_entry, padding_length}
-use Rattle.tor_spec.proofs.Names.{v1_entries, Entry, Layout, Joined, Aligned}
+use Rattle.tor_spec.proofs.Names.{v1_entries, Entry, Layout, Joined, Aligned, AlignedTail}
 
 -- a file without letters
 abbrev pub plain : List (List ℕ) × ℕ → ListedFile
@@ -66,18 +67,19 @@ no_padding : (b : Bool) (n : ℕ) (entries : List Entry)
 no_padding true n entries = refl
 no_padding false n entries = refl
 
-files_aligned : (p : ℕ) (files : List (List (List ℕ) × ℕ))
-    → without_padding (map listed_of (aligned_entries p files)) ≡ map plain files
+files_aligned : (tail : Bool) (p : ℕ) (files : List (List (List ℕ) × ℕ))
+    → without_padding (map listed_of (aligned_entries tail p files)) ≡ map plain files
 unfolding aligned_entries
-files_aligned p [] = refl
-files_aligned p (file ∷ files) =
-    ap (λ xs. plain file ∷ xs) (no_padding (nat_lt 0 (padding_length p file.1) && has_bytes files)
-    (padding_length p file.1) (aligned_entries p files) ∙ files_aligned p files)
+files_aligned tail p [] = refl
+files_aligned tail p (file ∷ files) =
+    ap (λ xs. plain file ∷ xs) (no_padding (nat_lt 0 (padding_length p file.1) && (tail || has_bytes files))
+    (padding_length p file.1) (aligned_entries tail p files) ∙ files_aligned tail p files)
 
 pub files_of_entries : (layout : Layout) (p : ℕ) (files : List (List (List ℕ) × ℕ))
     → without_padding (map listed_of (v1_entries layout p files)) ≡ map plain files
 files_of_entries Joined p files = files_joined files
-files_of_entries Aligned p files = files_aligned p files
+files_of_entries Aligned p files = files_aligned false p files
+files_of_entries AlignedTail p files = files_aligned true p files
 
 -- what holds of the entry of each file, and of all padding, holds of each entry
 module _ (P : Entry → Type 0) (p : ℕ) (pads : (m : ℕ) → P (pad_entry (padding_length p m))) where
@@ -91,17 +93,18 @@ module _ (P : Entry → Type 0) (p : ℕ) (pads : (m : ℕ) → P (pad_entry (pa
   all_after true m entries h = (pads m, h)
   all_after false m entries h = h
 
-  all_aligned : (files : List (List (List ℕ) × ℕ)) → AllByRecursion (λ file. P (file_entry file)) files
-      → AllByRecursion P (aligned_entries p files)
+  all_aligned : (tail : Bool) (files : List (List (List ℕ) × ℕ)) → AllByRecursion (λ file. P (file_entry file)) files
+      → AllByRecursion P (aligned_entries tail p files)
   unfolding aligned_entries
-  all_aligned [] h = tt
-  all_aligned (file ∷ files) h = (
+  all_aligned tail [] h = tt
+  all_aligned tail (file ∷ files) h = (
     h.0,
-    all_after (nat_lt 0 (padding_length p file.1) && has_bytes files) file.1 (aligned_entries p files)
-        (all_aligned files h.1),
+    all_after (nat_lt 0 (padding_length p file.1) && (tail || has_bytes files)) file.1 (aligned_entries tail p files)
+        (all_aligned tail files h.1),
   )
 
   pub each_entry : (layout : Layout) (files : List (List (List ℕ) × ℕ))
       → AllByRecursion (λ file. P (file_entry file)) files → AllByRecursion P (v1_entries layout p files)
   each_entry Joined files h = all_joined files h
-  each_entry Aligned files h = all_aligned files h
+  each_entry Aligned files h = all_aligned false files h
+  each_entry AlignedTail files h = all_aligned true files h

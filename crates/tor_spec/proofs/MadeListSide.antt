@@ -5,20 +5,22 @@ use Rattle.tor_spec.proofs.Names.{and_right, if◌then◌else◌, Data, integer,
 use Rattle.tor_spec.proofs.Names.{total_size, AreMade, sizes_of, facts_of_files, Settings, is_aligned, layout_of}
 use Rattle.tor_spec.proofs.Names.{ListedFile, listed_files, side_files, single_file, without_padding, name_of, has_v1}
 use Rattle.tor_spec.proofs.Names.{has_byte, as_integer, as_string, letter_h, letter_x, Kind, V1, V2, Hybrid, file_entry}
-use Rattle.tor_spec.proofs.Names.{v1_entries, Joined, Aligned, true≢false, AllByRecursion, piece_layer, root_of}
+use Rattle.tor_spec.proofs.Names.{v1_entries, Layout, Joined, Aligned, AlignedTail, true≢false, AllByRecursion}
+use Rattle.tor_spec.proofs.Names.{piece_layer, root_of}
 use Rattle.tor_spec.proofs.Names.{made_file, FileView, entry_of_file, file_of_list, has_v2, Entry}
 use Rattle.tor_spec.proofs.MadeHeads.{IsInfo, name_told}
 use Rattle.tor_spec.proofs.MadeListEntries.{files_of_entries, listed_of, plain, side_of_list, side_of_one, each_entry}
 
-not_aligned : (kind : Kind) → (if is_aligned kind true then Aligned else Joined) ≡ Joined
-not_aligned V1 = refl
-not_aligned V2 = refl
-not_aligned Hybrid = refl
+not_aligned : (kind : Kind) (layout : Layout) → (if is_aligned kind true then layout else Joined) ≡ Joined
+not_aligned V1 layout = refl
+not_aligned V2 layout = refl
+not_aligned Hybrid layout = refl
 
 -- one file by itself is not aligned
 pub layout_of_one : (settings : Settings) → settings.single ≡ true → layout_of settings ≡ Joined
 layout_of_one settings single =
-    ap (λ one. if is_aligned settings.kind one then Aligned else Joined) single ∙ not_aligned settings.kind
+    let aligned : Layout = if settings.tail then AlignedTail else Aligned in
+    ap (λ one. if is_aligned settings.kind one then aligned else Joined) single ∙ not_aligned settings.kind aligned
 
 pub listed_sizes : (p : ℕ) (files : List File) → listed (facts_of_files p files) ≡ sizes_of files
 listed_sizes p [] = refl

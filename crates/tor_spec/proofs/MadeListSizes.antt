@@ -1,13 +1,15 @@
 -- The lengths of the v1 side of a made torrent are not too large, one by one and together with the padding: a length
 -- rounded up to whole pieces is at most what it is rounded up to the greatest pieces.
-use Rattle.tor_spec.proofs.Names.{◌≡◌, ℕ, ◌+◌, ◌<◌, ◌≤◌, Bool, true, false, cond, ◌&&◌, List, [], ◌∷◌, ◌++◌, map}
+use Rattle.tor_spec.proofs.Names.{◌≡◌, ℕ, ◌+◌, ◌<◌, ◌≤◌, Bool, true, false, cond, ◌&&◌, ◌||◌, List, [], ◌∷◌, ◌++◌, map}
 use Rattle.tor_spec.proofs.Names.{sum_by, arith, refl, ap, ◌∙◌, sym, le-ltb, ltb-false, or_from, or_parts}
 use Rattle.tor_spec.proofs.Names.{recursion_from_All, sum_by-cons, sum_by-le-sum_by, next_multiple_of, AllByRecursion}
 use Rattle.tor_spec.proofs.Names.{list_any, nat_lt, piece_length_bounds, IsPieceLength, ListedFile, joined_size}
 use Rattle.tor_spec.proofs.Names.{sizes_too_large, files_are_small, IsFileList, lengths_of, lengths_too_large}
 use Rattle.tor_spec.proofs.Names.{MAX_LENGTH, MAX_TOTAL, ROUNDING, aligned_entries, file_entry, has_bytes, pad_entry}
-use Rattle.tor_spec.proofs.Names.{padding_length, v1_entries, Entry, Layout, Joined, Aligned, ◌-◌, ◌*◌, ◌/◌, ◌%◌, inl}
-use Rattle.tor_spec.proofs.Names.{inr, lt_of_mul-lt-mul_right, mod-lt, mul-le-mul_right, mul_assoc, mod-add-div'}
+use Rattle.tor_spec.proofs.Names.{padding_length, v1_entries, Entry, Layout, Joined, Aligned, AlignedTail, ◌-◌, ◌*◌}
+use Rattle.tor_spec.proofs.Names.{◌/◌}
+use Rattle.tor_spec.proofs.Names.{◌%◌, inl, inr, lt_of_mul-lt-mul_right, mod-lt, mul-le-mul_right, mul_assoc}
+use Rattle.tor_spec.proofs.Names.{mod-add-div'}
 use Rattle.tor_spec.proofs.Names.{mod-eq_of_lt, mod_self, cases_eq, piece_lengths_divide_the_greatest}
 use Rattle.tor_spec.proofs.MadeListShape.{IsClear, plain_lengths}
 use Rattle.tor_spec.proofs.MadeListEntries.{each_entry, files_of_entries, listed_of}
@@ -77,15 +79,16 @@ with_padding p m true entries =
     omega (arith, sum_by-cons (λ (one : Entry). one.length) (pad_entry (padding_length p m)) entries)
 with_padding p m false entries = omega arith
 
-size_of_aligned : (p : ℕ) (files : Files) → size_of_entries (aligned_entries p files) ≤ rounded_size p files
+size_of_aligned : (tail : Bool) (p : ℕ) (files : Files)
+    → size_of_entries (aligned_entries tail p files) ≤ rounded_size p files
 unfolding aligned_entries
-size_of_aligned p [] = omega arith
-size_of_aligned p (file ∷ files) =
-    let b = nat_lt 0 (padding_length p file.1) && has_bytes files in
-    let pads = with_padding p file.1 b (aligned_entries p files) in
-    let more = size_of_aligned p files in
+size_of_aligned tail p [] = omega arith
+size_of_aligned tail p (file ∷ files) =
+    let b = nat_lt 0 (padding_length p file.1) && (tail || has_bytes files) in
+    let pads = with_padding p file.1 b (aligned_entries tail p files) in
+    let more = size_of_aligned tail p files in
     let first = sum_by-cons (λ (one : Entry). one.length) (file_entry file)
-    (cond b (pad_entry (padding_length p file.1) ∷ []) [] ++ aligned_entries p files) in
+    (cond b (pad_entry (padding_length p file.1) ∷ []) [] ++ aligned_entries tail p files) in
     let sizes = sum_by-cons (λ (one : List (List ℕ) × ℕ). next_multiple_of one.1 p) file files in
     omega (arith, pads, more, first, sizes)
 
@@ -118,7 +121,8 @@ size_within layout p files allowed =
   where
     by_layout : (layout : Layout) → size_of_entries (v1_entries layout p files) ≤ rounded_size p files
     by_layout Joined = size_of_joined p files
-    by_layout Aligned = size_of_aligned p files
+    by_layout Aligned = size_of_aligned false p files
+    by_layout AlignedTail = size_of_aligned true p files
 
 -- ---- one by one, and together
 

@@ -13,6 +13,7 @@ settings_of kind single = record {
   piece_length = 16384;
   announce = None;
   is_private = false;
+  tail = true;
 }
 
 -- the one file a; a file in a folder, and a file after it

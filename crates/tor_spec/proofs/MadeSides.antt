@@ -5,7 +5,7 @@ use Rattle.tor_spec.proofs.Names.{nat_list_eq_equiv, nat_lt, if◌then◌else◌
 use Rattle.tor_spec.proofs.Names.{facts_of_files, Settings, is_aligned, layout_of, ListedFile, SidesAgree, alignment}
 use Rattle.tor_spec.proofs.Names.{files_differ, has_wrong_tail, is_misaligned_after, last_size, listed_by_list}
 use Rattle.tor_spec.proofs.Names.{listed_by_tree, same_files, tree_files, has_v1, path_eq, plain_files, Hybrid}
-use Rattle.tor_spec.proofs.Names.{TreeFile, padding_length, v1_entries, Joined, Aligned}
+use Rattle.tor_spec.proofs.Names.{TreeFile, padding_length, v1_entries, Layout, Joined, Aligned, AlignedTail}
 use Rattle.tor_spec.proofs.MadeHeads.{IsInfo, piece_length_told, plain_file}
 use Rattle.tor_spec.proofs.MadeListEntries.{listed_of, plain}
 use Rattle.tor_spec.proofs.MadeListSide.{layout_of_one, made_listed, made_side}
@@ -63,14 +63,23 @@ module _ (settings : Settings) (files : List File) (pieces : List ℕ) (info : D
       (map listed_of (v1_entries layout settings.piece_length (sizes_of files)))) (layout_of_one settings e)
       ∙ one_aligned settings.piece_length files settings.name (made.single e)
   sides_aligned false e =
-      let aligned : layout_of settings ≡ Aligned =
-      ap₂ (λ kind single. if is_aligned kind single then Aligned else Joined) hybrid e in
+      let tailed : Layout = if settings.tail then AlignedTail else Aligned in
+      let aligned : layout_of settings ≡ tailed =
+      ap₂ (λ kind single. if is_aligned kind single then tailed else Joined) hybrid e in
       ap (λ layout. is_misaligned_after settings.piece_length []
       (map listed_of (v1_entries layout settings.piece_length (sizes_of files)))
       || has_wrong_tail settings.piece_length
       (map listed_of (v1_entries layout settings.piece_length (sizes_of files)))) aligned
-      ∙ or_from _ _ (all_aligned settings.piece_length (sizes_of files) [] (λ some. refl))
-      (right_tail settings.piece_length (sizes_of files))
+      ∙ by_tail settings.tail
+    where
+      by_tail : (tail : Bool) → AreAligned settings.piece_length
+          (map listed_of (v1_entries (if tail then AlignedTail else Aligned) settings.piece_length (sizes_of files)))
+      by_tail true =
+          or_from _ _ (all_aligned true settings.piece_length (sizes_of files) [] (λ some. refl))
+          (right_tail true settings.piece_length (sizes_of files))
+      by_tail false =
+          or_from _ _ (all_aligned false settings.piece_length (sizes_of files) [] (λ some. refl))
+          (right_tail false settings.piece_length (sizes_of files))
 
   made_aligned : alignment info ≡ false
   made_aligned =

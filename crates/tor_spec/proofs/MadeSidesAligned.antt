@@ -5,7 +5,8 @@ use Rattle.tor_spec.proofs.Names.{zero-add, reverse_aux, mod_self, zero-mod, and
 use Rattle.tor_spec.proofs.Names.{lt-ltb, ltb-false, or_cases, or_from, or_left, or_right, filter-append, sum_by-append}
 use Rattle.tor_spec.proofs.Names.{sum_by_push, next_multiple_of, nat_lt, ListedFile, joined_size, aligned_after}
 use Rattle.tor_spec.proofs.Names.{has_wrong_tail, is_filled, is_misaligned_after, last_size, size_before}
-use Rattle.tor_spec.proofs.Names.{aligned_entries, has_bytes, pad_entry, padding_length}
+use Rattle.tor_spec.proofs.Names.{aligned_entries, has_bytes, no_padding, pad_entry, padding_length, tail_size, find}
+use Rattle.tor_spec.proofs.Names.{option_map, unwrap_or, Some}
 use Rattle.tor_spec.proofs.MadeListEntries.{listed_of, plain}
 
 abbrev Files : Type 0
@@ -71,12 +72,13 @@ meets_padded p file files earlier meets more =
     (joined_push earlier (plain file)) (joined_push front pad) (aligned_push p earlier (plain file))
     (aligned_push p front pad)
 
-meets_file : (p : ℕ) (file : List (List ℕ) × ℕ) (files : Files) (earlier : List ListedFile)
-    → (nat_lt 0 (padding_length p file.1) && has_bytes files) ≡ false → Meets p earlier (file ∷ files)
+meets_file : (tail : Bool) (p : ℕ) (file : List (List ℕ) × ℕ) (files : Files) (earlier : List ListedFile)
+    → (nat_lt 0 (padding_length p file.1) && (tail || has_bytes files)) ≡ false → Meets p earlier (file ∷ files)
     → Meets p (earlier ++ plain file ∷ []) files
-meets_file p file files earlier none meets more =
+meets_file tail p file files earlier none meets more =
     let whole = ltb-false 0 (padding_length p file.1)
-    (left_out (nat_lt 0 (padding_length p file.1)) (has_bytes files) none more) in
+    (left_out (nat_lt 0 (padding_length p file.1)) (tail || has_bytes files) none
+    (or_right tail (has_bytes files) more)) in
     after_file file.1 (next_multiple_of file.1 p) _ (joined_size earlier) _ (aligned_after p earlier) _ (omega arith)
     whole (rounded p file.1) (meets (or_right (nat_lt 0 file.1) (has_bytes files) more))
     (joined_push earlier (plain file)) (aligned_push p earlier (plain file))
@@ -85,27 +87,27 @@ meets_file p file files earlier none meets more =
     left_out true y e there = sym there ∙ e
     left_out false y e there = refl
 
-goes_on : (p : ℕ) (file : List (List ℕ) × ℕ) (files : Files) (earlier : List ListedFile) (b : Bool)
-    → (nat_lt 0 (padding_length p file.1) && has_bytes files) ≡ b → Meets p earlier (file ∷ files)
+goes_on : (tail : Bool) (p : ℕ) (file : List (List ℕ) × ℕ) (files : Files) (earlier : List ListedFile) (b : Bool)
+    → (nat_lt 0 (padding_length p file.1) && (tail || has_bytes files)) ≡ b → Meets p earlier (file ∷ files)
     → ((front : List ListedFile) → Meets p front files
-    → is_misaligned_after p front (map listed_of (aligned_entries p files)) ≡ false)
+    → is_misaligned_after p front (map listed_of (aligned_entries tail p files)) ≡ false)
     → is_misaligned_after p (earlier ++ plain file ∷ [])
-    (map listed_of (cond b (pad_entry (padding_length p file.1) ∷ []) [] ++ aligned_entries p files)) ≡ false
-goes_on p file files earlier true is meets rest =
+    (map listed_of (cond b (pad_entry (padding_length p file.1) ∷ []) [] ++ aligned_entries tail p files)) ≡ false
+goes_on tail p file files earlier true is meets rest =
     rest ((earlier ++ plain file ∷ []) ++ padding (padding_length p file.1) ∷ [])
     (meets_padded p file files earlier meets)
-goes_on p file files earlier false is meets rest =
-    rest (earlier ++ plain file ∷ []) (meets_file p file files earlier is meets)
+goes_on tail p file files earlier false is meets rest =
+    rest (earlier ++ plain file ∷ []) (meets_file tail p file files earlier is meets)
 
-pub all_aligned : (p : ℕ) (files : Files) (earlier : List ListedFile) → Meets p earlier files
-    → is_misaligned_after p earlier (map listed_of (aligned_entries p files)) ≡ false
+pub all_aligned : (tail : Bool) (p : ℕ) (files : Files) (earlier : List ListedFile) → Meets p earlier files
+    → is_misaligned_after p earlier (map listed_of (aligned_entries tail p files)) ≡ false
 unfolding aligned_entries
-all_aligned p [] earlier meets = refl
-all_aligned p (file ∷ files) earlier meets =
+all_aligned tail p [] earlier meets = refl
+all_aligned tail p (file ∷ files) earlier meets =
     or_from _ _
     (begins (nat_lt 0 file.1) (joined_size earlier) (aligned_after p earlier)
     (λ e. meets (or_left (nat_lt 0 file.1) (has_bytes files) e)))
-    (goes_on p file files earlier _ refl meets (all_aligned p files))
+    (goes_on tail p file files earlier _ refl meets (all_aligned tail p files))
 
 -- ---- what comes after the last that is filled
 
@@ -122,13 +124,13 @@ NoTail side some after first =
 
 abbrev HasNoTail : ℕ → Files → List ListedFile → Type 0
 HasNoTail p files after =
-    (has_bytes files ≡ true → size_before (reverse_aux (map listed_of (aligned_entries p files)) after) ≡ 0)
-    × (size_before after ≡ 0 → size_before (reverse_aux (map listed_of (aligned_entries p files)) after) ≡ 0)
+    (has_bytes files ≡ true → size_before (reverse_aux (map listed_of (aligned_entries false p files)) after) ≡ 0)
+    × (size_before after ≡ 0 → size_before (reverse_aux (map listed_of (aligned_entries false p files)) after) ≡ 0)
 
 turned : (p : ℕ) (file : List (List ℕ) × ℕ) (files : Files) (after : List ListedFile) (b : Bool)
     → (nat_lt 0 (padding_length p file.1) && has_bytes files) ≡ b
     → ((later : List ListedFile) → HasNoTail p files later)
-    → NoTail (map listed_of (cond b (pad_entry (padding_length p file.1) ∷ []) [] ++ aligned_entries p files))
+    → NoTail (map listed_of (cond b (pad_entry (padding_length p file.1) ∷ []) [] ++ aligned_entries false p files))
     (nat_lt 0 file.1 || has_bytes files) after (plain file)
 turned p file files after true is rest =
     let more = (and_parts (nat_lt 0 (padding_length p file.1)) (has_bytes files) is).1 in
@@ -148,7 +150,67 @@ unfolding aligned_entries
 no_tail p [] after = (λ e. absurd (false≢true e), λ e. e)
 no_tail p (file ∷ files) after = turned p file files after _ refl (no_tail p files)
 
-pub right_tail : (p : ℕ) (files : Files) → has_wrong_tail p (map listed_of (aligned_entries p files)) ≡ false
-right_tail p files =
-    ap (λ n. not (n == 0 || n == padding_length p (last_size (map listed_of (aligned_entries p files)))))
+-- ---- what comes there with a tail
+
+-- of a side turned round: how many bytes the first filled file has
+abbrev first_size : List ListedFile → ℕ
+first_size files = unwrap_or (option_map (λ file. file.size) (find is_filled files)) 0
+
+-- what comes before it is what it lacks
+abbrev HasTail : ℕ → List ListedFile → Type 0
+HasTail p side = size_before side ≡ padding_length p (first_size side)
+
+abbrev size_or : Bool → ListedFile → List ListedFile → ℕ
+size_or b file after = unwrap_or (option_map (λ one. one.size) (cond b (Some file) (find is_filled after))) 0
+
+tail_of_file : (p : ℕ) (file : ListedFile) (after : List ListedFile) (b : Bool) → HasTail p after
+    → (b ≡ true → padding_length p file.size ≡ 0) → (b ≡ false → file.size ≡ 0)
+    → cond b 0 (size_before after + file.size) ≡ padding_length p (size_or b file after)
+tail_of_file p file after true has whole none = sym (whole refl)
+tail_of_file p file after false has whole none = omega (arith, none refl) ∙ has
+
+tail_of_padding : (p : ℕ) (file : ListedFile) (after : List ListedFile) (b : Bool) → b ≡ true
+    → cond b 0 (size_before after + file.size) + padding_length p file.size
+    ≡ padding_length p (size_or b file after)
+tail_of_padding p file after true is = zero-add (padding_length p file.size)
+tail_of_padding p file after false is = absurd (false≢true is)
+
+tail_goes_on : (p : ℕ) (file : List (List ℕ) × ℕ) (files : Files) (after : List ListedFile) (b : Bool)
+    → (nat_lt 0 (padding_length p file.1) && true) ≡ b → HasTail p after
+    → ((later : List ListedFile) → HasTail p later
+    → HasTail p (reverse_aux (map listed_of (aligned_entries true p files)) later))
+    → HasTail p (reverse_aux
+    (map listed_of (cond b (pad_entry (padding_length p file.1) ∷ []) [] ++ aligned_entries true p files))
+    (plain file ∷ after))
+tail_goes_on p file files after true is has rest =
+    let lacks = (and_parts (nat_lt 0 (padding_length p file.1)) true is).0 in
+    rest (padding (padding_length p file.1) ∷ plain file ∷ after)
+    (tail_of_padding p (plain file) after (nat_lt 0 file.1) (filled file.1 lacks))
+  where
+    filled : (m : ℕ) → nat_lt 0 (padding_length p m) ≡ true → nat_lt 0 m ≡ true
+    filled zero lacks = sym (ap (nat_lt 0) (no_padding p)) ∙ lacks
+    filled (suc m) lacks = lt-ltb 0 (suc m) (omega arith)
+tail_goes_on p file files after false is has rest =
+    rest (plain file ∷ after) (tail_of_file p (plain file) after (nat_lt 0 file.1) has
+    (λ e. zero_from (padding_length p file.1) is) (λ e. zero_from file.1 (ap (λ b. b && true) e)))
+  where
+    zero_from : (n : ℕ) → (nat_lt 0 n && true) ≡ false → n ≡ 0
+    zero_from zero e = refl
+    zero_from (suc n) e = absurd (false≢true (sym e ∙ ap (λ b. b && true) (lt-ltb 0 (suc n) (omega arith))))
+
+with_tail : (p : ℕ) (files : Files) (after : List ListedFile) → HasTail p after
+    → HasTail p (reverse_aux (map listed_of (aligned_entries true p files)) after)
+unfolding aligned_entries
+with_tail p [] after has = has
+with_tail p (file ∷ files) after has = tail_goes_on p file files after _ refl has (with_tail p files)
+
+pub right_tail : (tail : Bool) (p : ℕ) (files : Files)
+    → has_wrong_tail p (map listed_of (aligned_entries tail p files)) ≡ false
+right_tail false p files =
+    ap (λ n. not (n == 0 || n == padding_length p (last_size (map listed_of (aligned_entries false p files)))))
     ((no_tail p files []).1 refl)
+right_tail true p files =
+    let side = map listed_of (aligned_entries true p files) in
+    let n = padding_length p (last_size side) in
+    ap not (or_right (tail_size side == 0) (tail_size side == n)
+    (eq-eqb (tail_size side) n (with_tail p files [] (sym (no_padding p)))))

@@ -76,7 +76,7 @@ pub use Rattle.tor_spec.specs.valid.Parts.{info_of, is_number, is_private, items
 pub use Rattle.tor_spec.specs.valid.Parts.{part, piece_length_of, text_of}
 pub use Rattle.tor_spec.specs.valid.SidesAgree.{SidesAgree, aligned_after, alignment, files_differ, has_wrong_tail}
 pub use Rattle.tor_spec.specs.valid.SidesAgree.{is_filled, is_misaligned_after, last_size, listed_by_list}
-pub use Rattle.tor_spec.specs.valid.SidesAgree.{listed_by_tree, same_files, size_before}
+pub use Rattle.tor_spec.specs.valid.SidesAgree.{listed_by_tree, same_files, size_before, tail_size}
 pub use Rattle.tor_spec.specs.valid.TreeSide.{tree_files, tree_length, tree_mixed, tree_no_files, tree_of, tree_root}
 pub use Rattle.tor_spec.specs.valid.TreeSide.{tree_shape, tree_symlink, tree_too_large}
 pub use Rattle.tor_spec.specs.valid.View.{FileView, View, entry_of_file, file_of_list, file_of_tree, files_of}
@@ -99,7 +99,8 @@ pub use Rattle.tor_tree.specs.declared.kinds.Kind.TheVariants.{Hybrid, V1, V2}
 pub use Rattle.tor_tree.specs.declared.lists.ListError.{ListError}
 pub use Rattle.tor_tree.specs.declared.lists.TheConstants.{MAX_TOTAL, ROUNDING}
 pub use Rattle.tor_tree.specs.declared.tree_file.TreeFile.{TreeFile}
-pub use Rattle.tor_v1.proofs.ProvedLaws.{facts-v1_entries, length-joined_content, length-piece_sums, sums_of_joined}
+pub use Rattle.tor_v1.proofs.ProvedLaws.{facts-v1_entries, length-joined_content, length-piece_sums, no_padding}
+pub use Rattle.tor_v1.proofs.ProvedLaws.{sums_of_joined}
 pub use Rattle.tor_v1.specs.Content.{AreContentsOf, file_entries}
 unfoldable pub use Rattle.tor_v1.specs.Content.{joined_content, v1_pieces}
 pub use Rattle.tor_v1.specs.Entries.{file_entry, has_bytes, pad_entry, padding_after, padding_length, v1_entries}
@@ -108,7 +109,7 @@ pub use Rattle.tor_v1.specs.Piece.{piece_sums}
 unfoldable pub use Rattle.tor_v1.specs.Piece.{zeros}
 pub use Rattle.tor_v1.specs.declared.entry.Entry.{Entry}
 pub use Rattle.tor_v1.specs.declared.layout.Layout.{Layout}
-pub use Rattle.tor_v1.specs.declared.layout.Layout.TheVariants.{Aligned, Joined}
+pub use Rattle.tor_v1.specs.declared.layout.Layout.TheVariants.{Aligned, AlignedTail, Joined}
 unfoldable pub use lib.Count.{ones}
 unfoldable pub use lib.Utf8.{encode}
 pub use mathlib.Core.List.{reverse_aux}

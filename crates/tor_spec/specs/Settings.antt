@@ -3,9 +3,10 @@ use Rattle.std.specs.Prelude.{ℕ, Bool, false, not, List, Option, if◌then◌e
 use Rattle.tor_tree.specs.declared.kinds.Kind.{Kind}
 use Rattle.tor_tree.specs.declared.kinds.Kind.TheVariants.{V1, V2, Hybrid}
 use Rattle.tor_v1.specs.declared.layout.Layout.{Layout}
-use Rattle.tor_v1.specs.declared.layout.Layout.TheVariants.{Joined, Aligned}
+use Rattle.tor_v1.specs.declared.layout.Layout.TheVariants.{Joined, Aligned, AlignedTail}
 
--- `single`: it is of one file, which has the torrent's name, and `info` has its `length` instead of `files`
+-- `single`: it is of one file, which has the torrent's name, and `info` has its `length` instead of `files`. `tail`:
+-- where files are aligned, the last with bytes has its padding too
 pub record Settings : Type 0 where
   pub kind : Kind
   pub single : Bool
@@ -13,6 +14,7 @@ pub record Settings : Type 0 where
   pub piece_length : ℕ
   pub announce : Option (List ℕ)
   pub is_private : Bool
+  pub tail : Bool
 
 -- its files are aligned to pieces in the list of BEP 3 (BEP 52, "Upgrade Path"); one file by itself is so as it is
 abbrev pub is_aligned : Kind → Bool → Bool
@@ -21,4 +23,5 @@ is_aligned V2 single = false
 is_aligned Hybrid single = not single
 
 abbrev pub layout_of : Settings → Layout
-layout_of settings = if is_aligned settings.kind settings.single then Aligned else Joined
+layout_of settings =
+    if is_aligned settings.kind settings.single then (if settings.tail then AlignedTail else Aligned) else Joined

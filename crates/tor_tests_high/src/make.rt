@@ -1,8 +1,9 @@
 //! The tests of `tor_meta`.
 //!
 //! `contents.rt` and `larger.rt`: torrents of files in memory, info hashes, links, writing out. `sources.rt` and
-//! `layers.rt`: torrents of the files of a source; `streams.rt`: of readers. `workers.rt`: that workers meet.
-//! `inputs.rt`: inputs of tor_source, and the torrent of one. `given.rt` has files that are given as texts.
+//! `layers.rt`: torrents of the files of a source; `streams.rt`: of readers; `tail.rt`: those whose last file is
+//! padded. `workers.rt`: that workers meet. `inputs.rt`: inputs of tor_source, and the torrent of one. `given.rt` has
+//! files that are given as texts.
 
 mod contents;
 mod given;
@@ -11,4 +12,5 @@ mod larger;
 mod layers;
 mod sources;
 mod streams;
+mod tail;
 mod workers;

@@ -59,6 +59,24 @@ const ROWS: &[Row] = &[
     ),
     (&[("a", 0), ("b", 0)], Layout::Aligned, "a:0 b:0 "),
     (&[(".pad/1", 2), ("b", 1)], Layout::Joined, ".pad/1:2 b:1 "),
+    (
+        &[("a", 2), ("b", 1)],
+        Layout::AlignedTail,
+        "a:2 .pad/16382=16382 b:1 .pad/16383=16383 ",
+    ),
+    (
+        &[("a", 2), ("b", 1), ("c", 0)],
+        Layout::AlignedTail,
+        "a:2 .pad/16382=16382 b:1 .pad/16383=16383 c:0 ",
+    ),
+    (&[("a", 2)], Layout::AlignedTail, "a:2 .pad/16382=16382 "),
+    (
+        &[("a", 2), ("b", 16384)],
+        Layout::AlignedTail,
+        "a:2 .pad/16382=16382 b:16384 ",
+    ),
+    (&[("a", 0), ("b", 0)], Layout::AlignedTail, "a:0 b:0 "),
+    (&[(".pad/1", 16384)], Layout::AlignedTail, "Y1 ReservedPad"),
 ];
 
 // What files give: their entries, or why they have none.

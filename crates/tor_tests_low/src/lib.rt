@@ -1,5 +1,5 @@
-//! The tests of `tor_bencode`, `tor_hashes`, `tor_merkle`, `tor_tree`, `tor_v1` and `tor_plan`, in a crate of their own:
-//! a crate with tests is proved twice, and these libraries are large.
+//! The tests of `tor_bencode`, `tor_hashes`, `tor_merkle`, `tor_tree`, `tor_v1` and `tor_plan`, in a crate of their
+//! own: a crate with tests is proved twice, and these libraries are large.
 //!
 //! - `bencode.rt`: trees spelled and read back, and what is refused.
 //! - `hashes.rt`: SHA-256 and SHA-1 of eight messages.

@@ -15,7 +15,7 @@ use Rattle.tor_v1.proofs.Cut.{sums-append}
 use Rattle.tor_v1.proofs.Zeros.{length-zeros}
 use Rattle.tor_v1.specs.declared.entry.Entry.{Entry}
 use Rattle.tor_v1.specs.declared.layout.Layout.{Layout}
-use Rattle.tor_v1.specs.declared.layout.Layout.TheVariants.{Joined, Aligned}
+use Rattle.tor_v1.specs.declared.layout.Layout.TheVariants.{Joined, Aligned, AlignedTail}
 pub use Rattle.tor_v1.proofs.Cut.{one_piece, piece_sums-nil, pieces-append, pieces_nil}
 pub use Rattle.tor_v1.proofs.Padded.{no_padding, whole_with_padding}
 
@@ -64,18 +64,19 @@ joined_files : (files : List (List (List ℕ) × ℕ)) → map facts (file_entri
 joined_files [] = refl
 joined_files (file ∷ files) = ap (λ xs. file ∷ xs) (joined_files files)
 
-aligned_files : (piece_length : ℕ) (files : List (List (List ℕ) × ℕ))
-    → map facts (file_entries (aligned_entries piece_length files)) ≡ files
+aligned_files : (tail : Bool) (piece_length : ℕ) (files : List (List (List ℕ) × ℕ))
+    → map facts (file_entries (aligned_entries tail piece_length files)) ≡ files
 unfolding aligned_entries
-aligned_files piece_length [] = refl
-aligned_files piece_length (file ∷ files) =
-    ap (λ xs. file ∷ map facts xs) (no_more_files _ _ (aligned_entries piece_length files))
-    ∙ ap (λ xs. file ∷ xs) (aligned_files piece_length files)
+aligned_files tail piece_length [] = refl
+aligned_files tail piece_length (file ∷ files) =
+    ap (λ xs. file ∷ map facts xs) (no_more_files _ _ (aligned_entries tail piece_length files))
+    ∙ ap (λ xs. file ∷ xs) (aligned_files tail piece_length files)
 
 pub facts-v1_entries : (layout : Layout) (piece_length : ℕ) (files : List (List (List ℕ) × ℕ))
     → map facts (file_entries (v1_entries layout piece_length files)) ≡ files
 facts-v1_entries Joined piece_length files = joined_files files
-facts-v1_entries Aligned piece_length files = aligned_files piece_length files
+facts-v1_entries Aligned piece_length files = aligned_files false piece_length files
+facts-v1_entries AlignedTail piece_length files = aligned_files true piece_length files
 
 -- ---- the content of entries
 

@@ -1,12 +1,12 @@
 -- The `files` list of a version 1 torrent (BEP 3, "info dictionary"), and its padding (BEP 47, "padding files").
 -- A file is a pair of a path and a length in bytes.
-use Rattle.std.specs.Prelude.{ℕ, ◌-◌, Bool, true, false, ◌&&◌, nat_lt, List, [], ◌∷◌, ◌++◌, map, codes, decimal}
-use Rattle.std.specs.Prelude.{if◌then◌else◌}
+use Rattle.std.specs.Prelude.{ℕ, ◌-◌, Bool, true, false, ◌&&◌, ◌||◌, nat_lt, List, [], ◌∷◌, ◌++◌, map, codes}
+use Rattle.std.specs.Prelude.{decimal, if◌then◌else◌}
 use Rattle.std.specs.Int.{next_multiple_of}
 use Rattle.std.specs.List.{list_any}
 use Rattle.tor_v1.specs.declared.entry.Entry.{Entry}
 use Rattle.tor_v1.specs.declared.layout.Layout.{Layout}
-use Rattle.tor_v1.specs.declared.layout.Layout.TheVariants.{Joined, Aligned}
+use Rattle.tor_v1.specs.declared.layout.Layout.TheVariants.{Joined, Aligned, AlignedTail}
 
 -- the entry of a file
 abbrev pub file_entry : List (List ℕ) × ℕ → Entry
@@ -25,19 +25,20 @@ abbrev pub padding_length : ℕ → ℕ → ℕ
 padding_length piece_length m = next_multiple_of m piece_length - m
 
 -- directly after a file of m bytes that later files follow: what it lacks, where it lacks any and a later file is not
--- empty
-abbrev pub padding_after : ℕ → ℕ → List (List (List ℕ) × ℕ) → List Entry
-padding_after piece_length m later =
-    if nat_lt 0 (padding_length piece_length m) && has_bytes later
+-- empty; with a tail also where none is
+abbrev pub padding_after : Bool → ℕ → ℕ → List (List (List ℕ) × ℕ) → List Entry
+padding_after tail piece_length m later =
+    if nat_lt 0 (padding_length piece_length m) && (tail || has_bytes later)
     then pad_entry (padding_length piece_length m) ∷ [] else []
 
 -- each file, and its padding directly after it
-unfoldable pub aligned_entries : ℕ → List (List (List ℕ) × ℕ) → List Entry
-aligned_entries piece_length [] = []
-aligned_entries piece_length (file ∷ later) =
-    file_entry file ∷ padding_after piece_length file.1 later ++ aligned_entries piece_length later
+unfoldable pub aligned_entries : Bool → ℕ → List (List (List ℕ) × ℕ) → List Entry
+aligned_entries tail piece_length [] = []
+aligned_entries tail piece_length (file ∷ later) =
+    file_entry file ∷ padding_after tail piece_length file.1 later ++ aligned_entries tail piece_length later
 
 -- the entries of a list of files, in its order
 abbrev pub v1_entries : Layout → ℕ → List (List (List ℕ) × ℕ) → List Entry
 v1_entries Joined piece_length files = map file_entry files
-v1_entries Aligned piece_length files = aligned_entries piece_length files
+v1_entries Aligned piece_length files = aligned_entries false piece_length files
+v1_entries AlignedTail piece_length files = aligned_entries true piece_length files

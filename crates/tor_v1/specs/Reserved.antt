@@ -3,7 +3,7 @@ use Rattle.std.specs.Prelude.{ℕ, Bool, false, List, [], ◌∷◌, codes}
 use Rattle.std.specs.List.{list_any}
 use Rattle.std.specs.Str.{bytes_eq}
 use Rattle.tor_v1.specs.declared.layout.Layout.{Layout}
-use Rattle.tor_v1.specs.declared.layout.Layout.TheVariants.{Joined, Aligned}
+use Rattle.tor_v1.specs.declared.layout.Layout.TheVariants.{Joined, Aligned, AlignedTail}
 
 -- the first name is .pad
 abbrev pub is_reserved : List (List ℕ) → Bool
@@ -14,3 +14,4 @@ is_reserved (first ∷ names) = bytes_eq first (codes ".pad")
 abbrev pub takes_reserved : Layout → List (List (List ℕ) × ℕ) → Bool
 takes_reserved Joined files = false
 takes_reserved Aligned files = list_any (λ file. is_reserved file.0) files
+takes_reserved AlignedTail files = list_any (λ file. is_reserved file.0) files

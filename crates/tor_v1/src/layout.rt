@@ -1,5 +1,5 @@
-//! The entries of a list of files, in one of two layouts.
-ghost use Rattle.std.specs.Prelude.{◌≡◌, ◌↔◌, Err, IfOk, IsTrue, map, count_by, nat_lt};
+//! The entries of a list of files, in one of three layouts.
+ghost use Rattle.std.specs.Prelude.{◌≡◌, ◌↔◌, ◌&&◌, ◌||◌, Err, IfOk, IsTrue, map, count_by, nat_lt};
 ghost use Rattle.std.specs.List.{list_any};
 ghost use Rattle.tor_v1.specs.Entries.{aligned_entries, file_entry, v1_entries};
 ghost use Rattle.tor_v1.specs.Piece.{IsV1PieceLength};
@@ -20,6 +20,8 @@ pub enum Layout {
     /// Each that is not empty at the beginning of a piece, with padding directly after each that ends inside one and
     /// has a later file with bytes.
     Aligned,
+    /// The same, and the last file with bytes has padding too where it ends inside a piece.
+    AlignedTail,
 }
 
 /// Why files have no entries.
@@ -55,8 +57,9 @@ pub fn lay_out(
     let files = list.files();
     match layout {
         Layout::Joined => Ok(joined(alloc, files)?),
-        Layout::Aligned if any_reserved(files) => Err(LayoutError::ReservedPad),
-        Layout::Aligned => Ok(aligned(alloc, files, piece_length)?),
+        _ if any_reserved(files) => Err(LayoutError::ReservedPad),
+        Layout::Aligned => Ok(aligned(alloc, files, piece_length, false)?),
+        Layout::AlignedTail => Ok(aligned(alloc, files, piece_length, true)?),
     }
 }
 
@@ -72,7 +75,8 @@ pub fn entries_of(
 {
     match layout {
         Layout::Joined => joined(alloc, files),
-        Layout::Aligned => aligned(alloc, files, piece_length),
+        Layout::Aligned => aligned(alloc, files, piece_length, false),
+        Layout::AlignedTail => aligned(alloc, files, piece_length, true),
     }
 }
 
@@ -94,14 +98,15 @@ fn joined(alloc: Global, files: &[(FilePath, u64)]) -> Result<Vec<Entry>, AllocE
     Ok(entries)
 }
 
-/// An entry for each file, and padding after each that needs it.
+/// An entry for each file, and padding after each that needs it: with a tail also after the last with bytes.
 fn aligned(
     alloc: Global,
     files: &[(FilePath, u64)],
     piece_length: u64,
+    tail: bool,
 ) -> Result<Vec<Entry>, AllocError>
     requires { IsV1PieceLength piece_length }
-    ensures { IfOk result (λ entries. entries.items ≡ aligned_entries piece_length files.now) }
+    ensures { IfOk result (λ entries. entries.items ≡ aligned_entries tail piece_length files.now) }
 {
     // How many files with bytes are still to come.
     let mut later = count_with_bytes(files);
@@ -112,11 +117,18 @@ fn aligned(
             later -= 1;
         }
         let lack = padding_length(*length, piece_length);
-        if later > 0 && lack > 0 {
+        if is_padded(lack, later, tail) {
             entries.push(pad_entry(alloc, lack)?)?;
         }
     }
     Ok(entries)
+}
+
+/// Whether padding follows a file that lacks so many bytes, where so many later ones are not empty.
+fn is_padded(lack: u64, later: usize, tail: bool) -> bool
+    ensures { result ≡ (nat_lt 0 lack && (tail || nat_lt 0 later)) }
+{
+    lack > 0 && (tail || later > 0)
 }
 
 /// How many of the files are not empty.

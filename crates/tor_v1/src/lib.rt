@@ -2,8 +2,8 @@
 //! hybrid one (BEP 47, "padding files"), and the SHA-1 of its pieces.
 //!
 //! - [`Entry`] (`entry.rt`): an entry of the list, a file or padding; [`is_reserved`]: a path only padding may have.
-//! - [`lay_out`] (`layout.rt`): the entries of a list of files, in one of two layouts; [`entries_of`] makes them of any
-//!   paths. `padding.rt` makes the padding, [`pad_entry`] is one.
+//! - [`lay_out`] (`layout.rt`): the entries of a list of files, in one of three layouts; [`entries_of`] makes them of
+//!   any paths. `padding.rt` makes the padding, [`pad_entry`] is one.
 //! - [`PieceSums`] (`sums.rt`): the SHA-1 of each piece of a content that is fed in parts.
 //!   `runs.rt` has eight pieces hashed at once.
 //! - [`laws`]: what follows from the definitions alone.

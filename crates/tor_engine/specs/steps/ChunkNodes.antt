@@ -1,5 +1,5 @@
 -- The nodes of chunks, each as if it were alone in its file. Only private clauses cite these.
-use Rattle.std.specs.Prelude.{◌≡◌, ◌<◌, ◌≤◌, ℕ, List, length, map, None}
+use Rattle.std.specs.Prelude.{◌≡◌, ◌<◌, ◌≤◌, ℕ, Bool, List, length, map, None}
 use Rattle.std.specs.List.{AllByRecursion, flat_map}
 use Rattle.tor_merkle.specs.declared.TheConstants.{MAX_LENGTH}
 use Rattle.tor_tree.specs.declared.kinds.Kind.{Kind}
@@ -31,11 +31,11 @@ pub record AreNodesOf (piece_length size : ℕ) (contents : List (List ℕ)) (le
   pub nodes : map node_in chunks ≡ flat_map (nodes_alone piece_length size) contents
 
 -- these are the nodes of all chunks of contents, where the kind has trees, and the SHA-1 of their pieces
-pub record SumUpCuts (kind : Kind) (piece_length size : ℕ) (contents : List (List ℕ)) (lengths : List ℕ)
-    (chunks : List UnitSums) : Type 0 where
+pub record SumUpCuts (kind : Kind) (tail : Bool) (piece_length size : ℕ) (contents : List (List ℕ))
+    (lengths : List ℕ) (chunks : List UnitSums) : Type 0 where
   pub counted : map length contents ≡ lengths
   pub small : AllByRecursion (λ content. length content ≤ MAX_LENGTH) contents
   pub nodes : map node_in chunks
-      ≡ map (λ cut. node_of_bytes kind piece_length cut.0) (stream_cuts kind piece_length size contents)
+      ≡ map (λ cut. node_of_bytes kind piece_length cut.0) (stream_cuts kind tail piece_length size contents)
   pub pieces : map (λ sums. sums.pieces.items) chunks
-      ≡ map (pieces_of_cut kind piece_length) (stream_cuts kind piece_length size contents)
+      ≡ map (pieces_of_cut kind piece_length) (stream_cuts kind tail piece_length size contents)

@@ -1,6 +1,6 @@
 -- How the contents of readers are cut into chunks. Only private clauses cite these.
-use Rattle.std.specs.Prelude.{◌≡◌, ◌*◌, ◌+◌, ◌<◌, ◌≤◌, ℕ, List, [], ◌∷◌, ◌++◌, length, map, take, Option, None, Some}
-use Rattle.std.specs.Prelude.{vec_len}
+use Rattle.std.specs.Prelude.{◌≡◌, ◌*◌, ◌+◌, ◌<◌, ◌≤◌, ℕ, Bool, List, [], ◌∷◌, ◌++◌, length, map, take, Option, None}
+use Rattle.std.specs.Prelude.{Some, vec_len}
 use Rattle.std.specs.Prelude.{if◌then◌else◌}
 use Rattle.std.specs.List.{AllByRecursion, flat_map, range_with_len}
 use Rattle.tor_lane.specs.Lane.{IsOpen, put_by}
@@ -59,10 +59,16 @@ abbrev pub open_text : Kind → List (List ℕ) → List ℕ → List ℕ
 open_text kind contents current =
     if has_v2 kind then current else flat_map (λ content. content) contents ++ current
 
--- the chunks of contents: no zeros follow the last
-abbrev pub stream_cuts : Kind → ℕ → ℕ → List (List ℕ) → List Cut
-stream_cuts kind piece_length size contents =
-    ending_in 0 (closed_cuts kind piece_length size contents ++ bare_cuts (runs_of size (open_text kind contents [])))
+-- the chunks of contents before it is known that none follows
+abbrev pub cuts_before_end : Kind → ℕ → ℕ → List (List ℕ) → List Cut
+cuts_before_end kind piece_length size contents =
+    closed_cuts kind piece_length size contents ++ bare_cuts (runs_of size (open_text kind contents []))
+
+-- the chunks of contents: but for a tail no zeros follow the last
+abbrev pub stream_cuts : Kind → Bool → ℕ → ℕ → List (List ℕ) → List Cut
+stream_cuts kind tail piece_length size contents =
+    if tail then cuts_before_end kind piece_length size contents
+    else ending_in 0 (cuts_before_end kind piece_length size contents)
 
 -- the chunk that is held, with the zeros that follow it where some byte of a later content comes
 abbrev pub cuts_held : Option Chunk → ℕ → List Cut
@@ -137,16 +143,17 @@ pub record PutsHeld (count : ℕ) (old new : Cutter) : Type 0 where
   pub next : new.next ≡ old.next
 
 -- all contents were cut and put
-pub record HasPut (kind : Kind) (piece_length size : ℕ) (contents : List (List ℕ)) (put : List Chunk) : Type 0 where
-  pub cuts : map cut_of put ≡ stream_cuts kind piece_length size contents
+pub record HasPut (kind : Kind) (tail : Bool) (piece_length size : ℕ) (contents : List (List ℕ)) (put : List Chunk)
+    : Type 0 where
+  pub cuts : map cut_of put ≡ stream_cuts kind tail piece_length size contents
   pub units : units_of put ≡ range_with_len 0 (length put)
 
 -- the contents have these lengths, none too long, and were cut and put
-pub record PutsContents (kind : Kind) (piece_length size : ℕ) (contents : List (List ℕ)) (lengths : List ℕ)
-    (put : List Chunk) : Type 0 where
+pub record PutsContents (kind : Kind) (tail : Bool) (piece_length size : ℕ) (contents : List (List ℕ))
+    (lengths : List ℕ) (put : List Chunk) : Type 0 where
   pub small : AllByRecursion (λ content. length content ≤ MAX_LENGTH) contents
   pub counted : map length contents ≡ lengths
-  pub cut : HasPut kind piece_length size contents put
+  pub cut : HasPut kind tail piece_length size contents put
 
 -- ---- what chunks sum up to
 

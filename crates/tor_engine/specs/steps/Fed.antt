@@ -1,5 +1,5 @@
 -- What the threads of a lane leave. Only private clauses cite these.
-use Rattle.std.specs.Prelude.{◌≡◌, [], ◌∷◌, ℕ, List, IfErr, IfOk, Option}
+use Rattle.std.specs.Prelude.{◌≡◌, [], ◌∷◌, ℕ, Bool, List, IfErr, IfOk, Option}
 use Rattle.tor_lane.specs.Lane.{IsEnded, put_by}
 use Rattle.tor_source.specs.Input.{EndsInput, ReadsAll, ReadsSome}
 use Rattle.tor_source.specs.declared.input.InputFault.{InputFault}
@@ -18,10 +18,10 @@ abbrev pub StopsInput : Option (List ℕ) → Option (List ℕ) → InputFault �
 StopsInput old new fault = ReadsSome old new (EndsInput MAX_INPUT_LENGTH fault)
 
 -- all workers are done, and contents of which this holds were put, or what was read ended in such a fault
-pub record IsFed {F : Type 0} (kind : Kind) (piece_length size : ℕ) (Gives : List (List ℕ) → Type 0)
+pub record IsFed {F : Type 0} (kind : Kind) (tail : Bool) (piece_length size : ℕ) (Gives : List (List ℕ) → Type 0)
     (Stops : F → Type 0) (fed : Fed F) : Type 0 where
   pub done : AreDone kind piece_length fed.feeder fed.workers.items
   pub ended : IsEnded fed.feeder
   pub put : IfOk fed.read (λ lengths. (contents : List (List ℕ)) × Gives contents
-      × PutsContents kind piece_length size contents lengths.items (put_by fed.feeder))
+      × PutsContents kind tail piece_length size contents lengths.items (put_by fed.feeder))
   pub stopped : IfErr fed.read Stops

@@ -3,7 +3,7 @@ use Rattle.std.specs.Prelude.{◌≡◌, ◌≤◌, ℕ, true, false, All, List,
 use Rattle.std.specs.List.{AllZip}
 use Rattle.tor_merkle.specs.Layer.{IsPieceLength, piece_layer}
 use Rattle.tor_meta.specs.Head.{settings_of}
-use Rattle.tor_engine.specs.Sums.{lists_of}
+use Rattle.tor_engine.specs.Sums.{lists_of, plan_content}
 use Rattle.tor_meta.specs.declared.head.Head.{Head}
 use Rattle.tor_tree.specs.declared.paths.TheConstants.{MAX_NAMES}
 use Rattle.tor_engine.specs.declared.sums.Sums.{Sums}
@@ -13,7 +13,8 @@ use Rattle.tor_spec.specs.Settings.{layout_of}
 use Rattle.tor_tree.specs.Kinds.{has_v1, has_v2}
 use Rattle.tor_tree.specs.FileList.{IsFileList, lengths_of}
 use Rattle.tor_tree.specs.TidyTree.{HasItsRoot}
-use Rattle.tor_v1.specs.Content.{v1_pieces}
+use Rattle.tor_plan.specs.PlanFacts.{PlanFacts}
+use Rattle.tor_v1.specs.Content.{joined_content, v1_pieces}
 use Rattle.tor_v1.specs.Entries.{v1_entries}
 use Rattle.tor_v1.specs.Reserved.{takes_reserved}
 
@@ -46,6 +47,14 @@ pub record SumUp (head : Head) (files : List (List (List ℕ) × ℕ)) (contents
   pub pieces : has_v1 head.kind ≡ true
       → sums.pieces.items
       ≡ v1_pieces head.piece_length (v1_entries (layout_of (settings_of head)) head.piece_length files) contents
+
+-- the plan is one of the files, and its units are the content of the torrent's entries
+pub record IsPlanOf (head : Head) (files : List (List (List ℕ) × ℕ)) (plan : PlanFacts) : Type 0 where
+  pub kind : plan.kind ≡ head.kind
+  pub piece_length : plan.piece_length ≡ head.piece_length
+  pub lengths : plan.lengths ≡ lengths_of files
+  pub content : (contents : List (List ℕ)) → map length contents ≡ plan.lengths → plan_content plan contents
+      ≡ joined_content (v1_entries (layout_of (settings_of head)) head.piece_length files) contents
 
 -- they are those of some contents, which have the lengths of the files
 abbrev pub SumUpSome : Head → List (List (List ℕ) × ℕ) → Sums → Type 0

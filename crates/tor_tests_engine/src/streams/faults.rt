@@ -34,6 +34,7 @@ fn is_told<R: AllocGlobal + Abort + Threads + Wait + Sync>(
         piece_length: 16384,
         span: 1,
         workers,
+        tail: false,
     };
     match failing(rt.alloc(), kind) {
         Ok(readers) => match hash_by(rt, readers, way) {

@@ -45,6 +45,7 @@ fn hash_past<R: AllocGlobal + Abort + Threads + Wait + Sync>(
         piece_length,
         span,
         workers,
+        tail,
     } = way;
     assert!(rt; piece_length.is_power_of_two());
     assert!(rt; piece_length >= 16384 && piece_length <= 1 << 30);
@@ -60,6 +61,7 @@ fn hash_past<R: AllocGlobal + Abort + Threads + Wait + Sync>(
         piece_length,
         span,
         workers,
+        tail,
     )
 }
 
@@ -81,6 +83,7 @@ fn meet<R: AllocGlobal + Abort + Threads + Wait + Sync>(
         piece_length: 16384,
         span: 1,
         workers,
+        tail: false,
     };
     assert!(rt; hash_past(rt, &gate, readers, way).is_ok());
     Ok((gate.missed.load(SeqCst), gate.begun.load(SeqCst)))

@@ -72,6 +72,7 @@ fn has_sums<R: AllocGlobal + Abort + Threads + Wait + Sync>(
         piece_length: 1 << 20,
         span,
         workers,
+        tail: false,
     };
     match readers_of(rt.alloc(), contents, 65536) {
         Ok(readers) => match hash_by(rt, readers, way) {

@@ -81,6 +81,7 @@ pub(crate) struct Way {
     pub(crate) piece_length: u64,
     pub(crate) span: u32,
     pub(crate) workers: u32,
+    pub(crate) tail: bool,
 }
 
 /// Readers hashed in a way whose numbers are tested first.
@@ -94,13 +95,23 @@ pub(crate) fn hash_by<R: AllocGlobal + Abort + Threads + Wait + Sync>(
         piece_length,
         span,
         workers,
+        tail,
     } = way;
     assert!(rt; piece_length.is_power_of_two());
     assert!(rt; piece_length >= 16384 && piece_length <= 1 << 30);
     assert!(rt; span.is_power_of_two() && span >= 1 && span <= 1024);
     assert!(rt; span as u64 * piece_length <= 1 << 30);
     assert!(rt; workers >= 1 && workers <= 64);
-    hash_streams(rt, rt.alloc(), readers, kind, piece_length, span, workers)
+    hash_streams(
+        rt,
+        rt.alloc(),
+        readers,
+        kind,
+        piece_length,
+        span,
+        workers,
+        tail,
+    )
 }
 
 fn add_counted(bytes: &mut Vec<u8>, length: u64) -> Result<(), AllocError> {

@@ -67,6 +67,7 @@ fn has_its_tree<R: AllocGlobal + Abort + Threads + Wait + Sync>(
         piece_length: 16384,
         span,
         workers,
+        tail: false,
     };
     match readers_of(rt.alloc(), &[b"", bytes, b"ab"], 5000) {
         Ok(readers) => match hash_by(rt, readers, way) {
@@ -107,6 +108,7 @@ fn has_whole_pieces<R: AllocGlobal + Abort + Threads + Wait + Sync>(
         piece_length: 32768,
         span,
         workers: 2,
+        tail: false,
     };
     match readers_of(rt.alloc(), &[bytes], 65536) {
         Ok(readers) => match hash_by(rt, readers, way) {

@@ -59,11 +59,12 @@ pub(crate) fn head(alloc: Global, shape: &Shape) -> Result<Head, AllocError> {
         piece_length,
         announce: None,
         is_private: false,
+        tail: false,
     })
 }
 
 /// The torrent of contents, or why there is none.
-fn answer(
+pub(crate) fn made_of(
     alloc: Global,
     files: Vec<(FilePath, Vec<u8>)>,
     head: &Head,
@@ -77,7 +78,7 @@ fn answer(
 /// The same of files given as a text.
 pub(crate) fn made(alloc: Global, shape: &Shape, given: &str) -> Result<Vec<u8>, AllocError> {
     let head = head(alloc, shape)?;
-    answer(alloc, files(alloc, given)?, &head)
+    made_of(alloc, files(alloc, given)?, &head)
 }
 
 /// Whether a row holds; `made` stands for any torrent.
@@ -164,12 +165,13 @@ fn tracked_head(alloc: Global) -> Result<Head, AllocError> {
         piece_length: 16384,
         announce: Some(url),
         is_private: true,
+        tail: false,
     })
 }
 
 fn is_tracked(alloc: Global, head: &Head) -> bool {
     match files(alloc, "a=abc") {
-        Ok(files) => are(answer(alloc, files, head), TRACKED),
+        Ok(files) => are(made_of(alloc, files, head), TRACKED),
         Err(_) => false,
     }
 }

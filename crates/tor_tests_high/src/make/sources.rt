@@ -32,6 +32,7 @@ pub(crate) fn order(alloc: Global, shape: &Shape) -> Result<Order, AllocError> {
         piece_length,
         announce: None,
         is_private: false,
+        tail: false,
         span: 1,
         how: How::One,
     })
@@ -62,7 +63,7 @@ fn is_answer<S: Source, R: AllocGlobal + Threads + Sync>(
 }
 
 /// Whether it is, each way to share the units.
-fn is_each_answer<S: Source, R: AllocGlobal + Threads + Sync>(
+pub(crate) fn is_each_answer<S: Source, R: AllocGlobal + Threads + Sync>(
     rt: &R,
     source: &S,
     paths: &[FilePath],

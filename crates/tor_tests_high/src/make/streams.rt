@@ -51,6 +51,7 @@ struct Way {
     fault: Option<ErrorKind>,
     span: u32,
     how: How,
+    tail: bool,
 }
 
 fn add_readers<'a>(
@@ -81,6 +82,7 @@ fn order(alloc: Global, shape: &Shape, way: Way) -> Result<Order, AllocError> {
         piece_length,
         announce: None,
         is_private: false,
+        tail: way.tail,
         span: way.span,
         how: way.how,
     })
@@ -129,13 +131,19 @@ fn is_made<R: AllocGlobal + Abort + Threads + Wait + Sync>(rt: &R, row: &Row, wa
     }
 }
 
-fn is_made_each_way<R: AllocGlobal + Abort + Threads + Wait + Sync>(rt: &R, row: &Row) -> bool {
+/// Whether a row is made each way, with a tail or without.
+pub(crate) fn is_made_each_way<R: AllocGlobal + Abort + Threads + Wait + Sync>(
+    rt: &R,
+    row: &Row,
+    tail: bool,
+) -> bool {
     for (step, how) in WAYS {
         let way = Way {
             step: *step,
             fault: None,
             span: 2,
             how: *how,
+            tail,
         };
         if !is_made(rt, row, way) {
             return false;
@@ -188,7 +196,7 @@ const MADE: &[Row] = &[
 #[test]
 fn makes_torrents_of_readers_however_they_are_read(rt: HostRuntime) {
     for row in MADE {
-        assert!(rt; is_made_each_way(&rt, row));
+        assert!(rt; is_made_each_way(&rt, row, false));
     }
 }
 
@@ -225,6 +233,7 @@ fn is_refused<R: AllocGlobal + Abort + Threads + Wait + Sync>(rt: &R, refusal: &
         fault: Some(ErrorKind::Other),
         span,
         how,
+        tail: false,
     };
     let asked = AtomicU64::new(0);
     match made(rt, &row, way, &asked) {
@@ -251,6 +260,7 @@ fn is_told<R: AllocGlobal + Abort + Threads + Wait + Sync>(
         fault: Some(kind),
         span: 1,
         how,
+        tail: false,
     };
     match made(rt, &(HYBRID, "a=abc b=d", b""), way, &AtomicU64::new(0)) {
         Err(

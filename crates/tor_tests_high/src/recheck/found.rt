@@ -19,8 +19,8 @@ type Row = (
     &'static [&'static str],
 );
 
-/// In version 1 `abc`, an empty file and `de`, in pieces of two bytes: the second has bytes of the first file and of the
-/// last.
+/// In version 1 `abc`, an empty file and `de`, in pieces of two bytes: the second has bytes of the first file and of
+/// the last.
 const CROSSING: &[&[u8]] = &[
     b"d4:infod5:filesld6:lengthi3e4:pathl1:aeed6:lengthi0e4:pathl1:beed6:lengthi2e4:pathl1:ceee4:name1:f\
 12:piece lengthi2e6:pieces60:",

@@ -16,9 +16,12 @@ returns c =
     let announced =
     c.in_ok-arg-4.ensures.shape c.announce_option.ensures.local
     ∙ ap₂ with_rule sorted c.announce_option.ensures.rule in
-    IfOk-weaker c.arg-5.result _ _
+    let private =
+    c.in_ok-arg-5.ensures.shape c.private_option.ensures.local
+    ∙ ap₂ with_rule announced c.private_option.ensures.rule in
+    IfOk-weaker c.arg-6.result _ _
     (λ command added. (
       kinds,
       are,
-      added.shape c.private_option.ensures.local ∙ ap₂ with_rule announced c.private_option.ensures.rule,
-    )) c.arg-5.ensures
+      added.shape c.flag_of.ensures.local ∙ ap₂ with_rule private c.flag_of.ensures.rule,
+    )) c.arg-6.ensures

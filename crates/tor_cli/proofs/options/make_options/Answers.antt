@@ -2,7 +2,7 @@
 use Rattle.std.proofs.Common.{rules, ◌∙◌, ap, sym, Some, codes}
 use Rattle.clap.specs.Words.{found_of}
 use Rattle.clap.proofs.WalkLemmas.{first_value-rows, one_text-rows}
-use Rattle.tor_cli.proofs.FoundTexts.{found_text}
+use Rattle.tor_cli.proofs.FoundTexts.{found_flag, found_text}
 use Rattle.tor_cli.proofs.options.make_options.Goals as goal
 
 pub returns : goal.returns
@@ -21,6 +21,9 @@ returns g c =
       announce = sym (first_value-rows found (codes "announce")) ∙ sym c.get_str-3.ensures;
       is_private = λ is. c.get_flag.ensures.value (one_text-rows found (codes "private") ∙ is);
       is_public = λ is. c.get_flag.ensures.other (one_text-rows found (codes "private") ∙ is);
+      tail = λ given is.
+          found_flag found (codes "tail") c.get_flag-2.result given c.get_flag-2.ensures.value
+          c.get_flag-2.ensures.other is;
       way =
           found_text found (codes "how") c.get_str-4.result c.in_ok-get_str-3.field-0 c.get_str-4.ensures
           (search rules)

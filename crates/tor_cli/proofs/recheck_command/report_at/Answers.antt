@@ -11,7 +11,8 @@ pub returns-in-Err-clause-stopped : goal.returns-in-Err-clause-stopped
 returns-in-Err-clause-stopped g c =
     let bytes = c.args.bytes.now in
     rw c.from.ensures
-    (not_judged c.args.options.now bytes (of_refusal c.in-Err.refusal) (no_torrent bytes c.in-Err.refusal c.in-Err.ensures.refused))
+    (not_judged c.args.options.now bytes (of_refusal c.in-Err.refusal)
+    (no_torrent bytes c.in-Err.refusal c.in-Err.ensures.refused))
 
 pub returns-in-Err-source_at-clause-stopped : goal.returns-in-Err-source_at-clause-stopped
 returns-in-Err-source_at-clause-stopped g c =

@@ -22,7 +22,7 @@ returns-in-Ok-clause-fed g c = λ size some ready.
     let done = subst (λ (f : Feeder). AreDone kind p f c.join-workers.result.items) c.of.ensures
     (subst (λ (q : Workers). AreDone q.kind q.piece_length q.feeder.value c.join-workers.result.items)
     c.in-Ok.ensures.ok c.join-workers.ensures) in
-    subst (IsFed kind p size (GivesInput old new) (StopsInput old new)) (sym c.new.ensures)
-    (is_fed kind p size (GivesInput old new) (StopsInput old new) c.args.cutter.feeder
+    subst (IsFed kind c.args.tail p size (GivesInput old new) (StopsInput old new)) (sym c.new.ensures)
+    (is_fed kind c.args.tail p size (GivesInput old new) (StopsInput old new) c.args.cutter.feeder
     c.read_input-read.new.cutter.feeder c.end.new.self.feeder _ read.lane.0 c.end.ensures.lane c.end.ensures.ended
     c.end.ensures.put refl done (read.put size some ready) read.stopped)

@@ -1,5 +1,5 @@
 -- from what was read to the sums
-use Rattle.std.proofs.Common.{◌*◌, ◌∷◌, [], ℕ, List, Option, Result, Ok, Err, IfOk, IfErr, arith, mul_comm, subst}
+use Rattle.std.proofs.Common.{◌*◌, ◌∷◌, [], ℕ, Bool, List, Option, Result, Ok, Err, IfOk, IfErr, arith, mul_comm, subst}
 use Rattle.std.specs.Prelude.{MatchResult}
 use Rattle.std.proofs.KnownBytes.{Consumes-nil}
 use Rattle.std.proofs.lemmas.Result.{err_from_is_err_and}
@@ -13,18 +13,20 @@ use Rattle.tor_engine.proofs.FedLanes.{SumUp, answers, some_unit, was_given, was
 use Rattle.tor_engine.proofs.input.hash_input.Goals as goal
 
 -- the one content that an input gave
-of_one : (kind : Kind) (p : ℕ) (old new : Option (List ℕ)) (answer : Result Sums InputFault)
-    → MatchResult answer (SumUp kind p (GivesInput old new)) (StopsInput old new)
-    → IfOk answer (λ sums. (content : List ℕ) × ReadsAll old new content × AreSumsOfContents kind p (content ∷ []) sums)
-of_one kind p old new (Ok sums) is =
+of_one : (kind : Kind) (tail : Bool) (p : ℕ) (old new : Option (List ℕ)) (answer : Result Sums InputFault)
+    → MatchResult answer (SumUp kind tail p (GivesInput old new)) (StopsInput old new)
+    → IfOk answer (λ sums. (content : List ℕ) × ReadsAll old new content
+    × AreSumsOfContents kind tail p (content ∷ []) sums)
+of_one kind tail p old new (Ok sums) is =
     let given = is.1 in
-    (given.0, given.2, subst (λ (cs : List (List ℕ)). AreSumsOfContents kind p cs sums) given.1 is.3)
-of_one kind p old new (Err fault) is = tt
+    (given.0, given.2, subst (λ (cs : List (List ℕ)). AreSumsOfContents kind tail p cs sums) given.1 is.3)
+of_one kind tail p old new (Err fault) is = tt
 
-stopped : (kind : Kind) (p : ℕ) (old new : Option (List ℕ)) (answer : Result Sums InputFault)
-    → MatchResult answer (SumUp kind p (GivesInput old new)) (StopsInput old new) → IfErr answer (StopsInput old new)
-stopped kind p old new (Ok sums) is = tt
-stopped kind p old new (Err fault) is = is
+stopped : (kind : Kind) (tail : Bool) (p : ℕ) (old new : Option (List ℕ)) (answer : Result Sums InputFault)
+    → MatchResult answer (SumUp kind tail p (GivesInput old new)) (StopsInput old new)
+    → IfErr answer (StopsInput old new)
+stopped kind tail p old new (Ok sums) is = tt
+stopped kind tail p old new (Err fault) is = is
 
 pub open-requires-clause-some : goal.open-requires-clause-some
 open-requires-clause-some g c = some_unit c.args.kind c.args.piece_length c.args.span c.requires.cut
@@ -60,7 +62,7 @@ sums_of_fed-requires-clause-put g c =
     let kind = c.args.kind in
     let p = c.args.piece_length in
     let some = some_unit kind p c.args.span c.requires.cut in
-    was_put kind p (p * c.args.span) _ _ c.in_ok-fed.fed
+    was_put kind c.args.tail p (p * c.args.span) _ _ c.in_ok-fed.fed
     (c.in_ok-fed.ensures.fed (p * c.args.span) some (c.in_ok-cutter.ensures.ready kind p))
 
 pub returns-in_err-cutter-clause-stopped : goal.returns-in_err-cutter-clause-stopped
@@ -80,7 +82,7 @@ returns-in_err-summed-clause-stopped g c =
     let p = c.args.piece_length in
     let some = some_unit kind p c.args.span c.requires.cut in
     let fed = c.in_ok-fed.ensures.fed (p * c.args.span) some (c.in_ok-cutter.ensures.ready kind p) in
-    let given = was_given kind p (p * c.args.span) _ _ c.in_ok-fed.fed fed c.in_err-summed.ensures.memory in
+    let given = was_given kind c.args.tail p (p * c.args.span) _ _ c.in_ok-fed.fed fed c.in_err-summed.ensures.memory in
     let is = err_from_is_err_and c.from_residual-in_err-summed.result c.from_residual-in_err-summed.ensures.1 in
     rw (is.1, is.2) (given.1.0, given.1.2.0.given, given.1.2.1)
 
@@ -90,9 +92,9 @@ returns g c =
     let p = c.args.piece_length in
     let some = some_unit kind p c.args.span c.requires.cut in
     let fed = c.in_ok-fed.ensures.fed (p * c.args.span) some (c.in_ok-cutter.ensures.ready kind p) in
-    let is = answers kind p (p * c.args.span) _ _ c.in_ok-fed.fed fed c.in_ok-summed.summed
+    let is = answers kind c.args.tail p (p * c.args.span) _ _ c.in_ok-fed.fed fed c.in_ok-summed.summed
     c.in_ok-summed.ensures.summed in
     record {
-      summed = of_one kind p _ _ c.in_ok-summed.summed is;
-      stopped = stopped kind p _ _ c.in_ok-summed.summed is;
+      summed = of_one kind c.args.tail p _ _ c.in_ok-summed.summed is;
+      stopped = stopped kind c.args.tail p _ _ c.in_ok-summed.summed is;
     }

@@ -26,8 +26,9 @@ trees_of_contents-requires-clause-chunks c =
     let kind = c.args.kind in
     let p = c.args.piece_length in
     let cut = c.requires.cut.1 in
-    let contents = c.requires.chunks.0 in
-    let are = c.requires.chunks.1 in
+    let tail = c.requires.chunks.0 in
+    let contents = c.requires.chunks.1 in
+    let are = c.requires.chunks.2 in
     let trees : has_v2 kind ≡ true = cc in
     let unit = subst IsPieceLength (sym c.requires.cut.2)
     (unit_allowed p c.requires.cut.0 (allowed_with_trees kind p cut.pieces trees) cut.is_span
@@ -36,12 +37,12 @@ trees_of_contents-requires-clause-chunks c =
       record {
         counted = are.counted;
         small = are.small;
-        nodes = are.nodes ∙ nodes_of_stream kind p c.args.size (some_length c.args.size unit) trees contents;
+        nodes = are.nodes ∙ nodes_of_stream kind tail p c.args.size (some_length c.args.size unit) trees contents;
       },
     )
 
 pub returns : goal.returns
-returns c = λ contents are.
+returns c = λ tail contents are.
     let kind = c.args.kind in
     let p = c.args.piece_length in
     let cut = c.requires.cut.1 in
@@ -53,6 +54,6 @@ returns c = λ contents are.
       c.in_ok-trees.ensures contents (record {
         counted = are.counted;
         small = are.small;
-        nodes = are.nodes ∙ nodes_of_stream kind p c.args.size (some_length c.args.size unit) trees contents;
+        nodes = are.nodes ∙ nodes_of_stream kind tail p c.args.size (some_length c.args.size unit) trees contents;
       }),
     )

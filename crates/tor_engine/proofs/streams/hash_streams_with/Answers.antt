@@ -1,5 +1,5 @@
 -- from what was read to the sums
-use Rattle.std.proofs.Common.{◌≡◌, ◌*◌, ℕ, List, Option, Some, map, Result, Ok, Err, IfOk, IfErr, mul_comm}
+use Rattle.std.proofs.Common.{◌≡◌, ◌*◌, ℕ, Bool, List, Option, Some, map, Result, Ok, Err, IfOk, IfErr, mul_comm}
 use Rattle.std.specs.Prelude.{MatchResult}
 use Rattle.tor_tree.specs.declared.kinds.Kind.{Kind}
 use Rattle.tor_engine.specs.Streams.{AreSumsOfContents, AreSumsOfReaders, GiveContents, IsFaultOfReaders}
@@ -9,21 +9,21 @@ use Rattle.tor_engine.proofs.FedLanes.{SumUp, answers, some_unit, was_put}
 use Rattle.tor_engine.proofs.Readers.{told_sums}
 use Rattle.tor_engine.proofs.streams.hash_streams_with.Goals as goal
 
-summed_up : (kind : Kind) (p : ℕ) (known : List (Option (List ℕ))) (sums : Sums)
-    → SumUp kind p (GiveContents known) sums → AreSumsOfReaders kind p known sums
-summed_up kind p known sums is = record { contents = is.0; given = is.1; small = is.2; sums_up = is.3 }
+summed_up : (kind : Kind) (tail : Bool) (p : ℕ) (known : List (Option (List ℕ))) (sums : Sums)
+    → SumUp kind tail p (GiveContents known) sums → AreSumsOfReaders kind tail p known sums
+summed_up kind tail p known sums is = record { contents = is.0; given = is.1; small = is.2; sums_up = is.3 }
 
-module _ {F : Type 0} (kind : Kind) (p : ℕ) (known : List (Option (List ℕ))) where
+module _ {F : Type 0} (kind : Kind) (tail : Bool) (p : ℕ) (known : List (Option (List ℕ))) where
   abbrev Answers : Result Sums (EngineError F) → Type 0
-  Answers answer = MatchResult answer (SumUp kind p (GiveContents known)) (IsFaultOfReaders known)
+  Answers answer = MatchResult answer (SumUp kind tail p (GiveContents known)) (IsFaultOfReaders known)
 
-  summed : (answer : Result Sums (EngineError F)) → Answers answer → IfOk answer (AreSumsOfReaders kind p known)
-  summed (Ok sums) is = summed_up kind p known sums is
+  summed : (answer : Result Sums (EngineError F)) → Answers answer → IfOk answer (AreSumsOfReaders kind tail p known)
+  summed (Ok sums) is = summed_up kind tail p known sums is
   summed (Err fault) is = tt
 
   told : (contents : List (List ℕ)) → known ≡ map Some contents → (answer : Result Sums (EngineError F))
-      → Answers answer → IfOk answer (AreSumsOfContents kind p contents)
-  told contents same (Ok sums) is = told_sums kind p known sums (summed_up kind p known sums is) contents same
+      → Answers answer → IfOk answer (AreSumsOfContents kind tail p contents)
+  told contents same (Ok sums) is = told_sums kind tail p known sums (summed_up kind tail p known sums is) contents same
   told contents same (Err fault) is = tt
 
   stopped : (answer : Result Sums (EngineError F)) → Answers answer → IfErr answer (IsFaultOfReaders known)
@@ -64,7 +64,7 @@ sums_of_fed-requires-clause-put g c =
     let kind = c.args.kind in
     let p = c.args.piece_length in
     let some = some_unit kind p c.args.span c.requires.cut in
-    was_put kind p (p * c.args.span) _ _ c.in_ok-fed.fed
+    was_put kind c.args.tail p (p * c.args.span) _ _ c.in_ok-fed.fed
     (c.in_ok-fed.ensures (p * c.args.span) some (c.in_ok-cutter.ensures.ready kind p))
 
 pub returns : goal.returns
@@ -74,10 +74,10 @@ returns g c =
     let some = some_unit kind p c.args.span c.requires.cut in
     let known = map g.R.Read.remaining c.args.readers.items in
     let fed = c.in_ok-fed.ensures (p * c.args.span) some (c.in_ok-cutter.ensures.ready kind p) in
-    let is = answers kind p (p * c.args.span) _ _ c.in_ok-fed.fed fed c.in_ok-summed.summed
+    let is = answers kind c.args.tail p (p * c.args.span) _ _ c.in_ok-fed.fed fed c.in_ok-summed.summed
     c.in_ok-summed.ensures.summed in
     record {
-      summed = summed kind p known c.in_ok-summed.summed is;
-      told = λ contents same. told kind p known contents same c.in_ok-summed.summed is;
-      fault = stopped kind p known c.in_ok-summed.summed is;
+      summed = summed kind c.args.tail p known c.in_ok-summed.summed is;
+      told = λ contents same. told kind c.args.tail p known contents same c.in_ok-summed.summed is;
+      fault = stopped kind c.args.tail p known c.in_ok-summed.summed is;
     }

@@ -1,10 +1,12 @@
 -- The sums are those of what was read.
-use Rattle.std.proofs.Common.{◌≡◌, ◌∙◌, List, ℕ, [], ◌∷◌, ap, arith, get_or, length, subst, sym}
+use Rattle.std.proofs.Common.{◌≡◌, ◌∙◌, Bool, ℕ, [], ◌∷◌, ap, arith, get_or, length, subst, sym}
 use Rattle.std.specs.declared.io.Error.{Error}
-use Rattle.tor_meta.specs.Fed.{SumsOfOne}
+use Rattle.tor_engine.specs.Streams.{AreSumsOfContents}
+use Rattle.tor_meta.specs.Fed.{SumsOfOne, tail_length}
+use Rattle.tor_meta.specs.Order.{settings_of_order}
 use Rattle.tor_source.specs.Input.{ReadsWhole}
 use Rattle.tor_spec.specs.Metainfo.{metainfo, only}
-use Rattle.tor_spec.specs.Settings.{Settings}
+use Rattle.tor_spec.specs.Settings.{Settings, layout_of}
 use Rattle.tor_meta.proofs.OneFile.{sums_of_one}
 use Rattle.tor_meta.proofs.Refused.{order_numbers}
 use Rattle.tor_meta.proofs.StreamSums.{lengths_read, plan_pieces}
@@ -30,15 +32,19 @@ pub index-count-requires : goal.index-count-requires
 index-count-requires g c =
     let order = c.args.order.now in
     let summed = c.in_ok-sums.ensures.summed in
-    let long = ap length (lengths_read order.kind order.piece_length (summed.0 ∷ []) c.in_ok-sums.sums summed.2) in
+    let up = subst (λ (b : Bool). AreSumsOfContents order.kind b order.piece_length (summed.0 ∷ []) c.in_ok-sums.sums)
+    c.has_tail.ensures summed.2 in
+    let long = ap length (lengths_read (settings_of_order order) (summed.0 ∷ []) c.in_ok-sums.sums up) in
     omega (arith, long, c.in_ok-sums.sums.lengths.ok.0)
 
 pub make_summed-requires-clause-small : goal.make_summed-requires-clause-small
 make_summed-requires-clause-small g c =
     let order = c.args.order.now in
     let summed = c.in_ok-sums.ensures.summed in
+    let up = subst (λ (b : Bool). AreSumsOfContents order.kind b order.piece_length (summed.0 ∷ []) c.in_ok-sums.sums)
+    c.has_tail.ensures summed.2 in
     let content = summed.0 in
-    let read = lengths_read order.kind order.piece_length (content ∷ []) c.in_ok-sums.sums summed.2 in
+    let read = lengths_read (settings_of_order order) (content ∷ []) c.in_ok-sums.sums up in
     let count : c.index-count.result.now ≡ length content =
     c.index-count.ensures ∙ ap (λ xs. get_or xs 0 c.index-count.result.now) read in
     omega (arith, count, summed.1.1)
@@ -47,13 +53,18 @@ pub make_summed-requires-clause-summed : goal.make_summed-requires-clause-summed
 make_summed-requires-clause-summed g c =
     let order = c.args.order.now in
     let summed = c.in_ok-sums.ensures.summed in
+    let up = subst (λ (b : Bool). AreSumsOfContents order.kind b order.piece_length (summed.0 ∷ []) c.in_ok-sums.sums)
+    c.has_tail.ensures summed.2 in
     let content = summed.0 in
-    let read = lengths_read order.kind order.piece_length (content ∷ []) c.in_ok-sums.sums summed.2 in
+    let read = lengths_read (settings_of_order order) (content ∷ []) c.in_ok-sums.sums up in
     let count : c.index-count.result.now ≡ length content =
     c.index-count.ensures ∙ ap (λ xs. get_or xs 0 c.index-count.result.now) read in
     let settings = c.in_ok-head.ensures.settings in
-    let one = subst (λ (s : Settings). SumsOfOne s.kind s.piece_length content c.in_ok-sums.sums) (sym settings)
-    (sums_of_one order.kind order.piece_length content c.in_ok-sums.sums summed.2) in
+    let one = subst (λ (s : Settings). SumsOfOne s.kind s.piece_length content
+    (tail_length (layout_of s) s.piece_length c.index-count.result.now) c.in_ok-sums.sums) (sym settings)
+    (subst (λ (n : ℕ). SumsOfOne order.kind order.piece_length content
+    (tail_length (layout_of (settings_of_order order)) order.piece_length n) c.in_ok-sums.sums) (sym count)
+    (sums_of_one (settings_of_order order) content c.in_ok-sums.sums up)) in
     (content, sym count, one)
 
 pub returns-clause-made : goal.returns-clause-made
@@ -61,13 +72,18 @@ returns-clause-made g c =
     let remaining = g.R.Read.remaining in
     let order = c.args.order.now in
     let summed = c.in_ok-sums.ensures.summed in
+    let up = subst (λ (b : Bool). AreSumsOfContents order.kind b order.piece_length (summed.0 ∷ []) c.in_ok-sums.sums)
+    c.has_tail.ensures summed.2 in
     let content = summed.0 in
-    let read = lengths_read order.kind order.piece_length (content ∷ []) c.in_ok-sums.sums summed.2 in
+    let read = lengths_read (settings_of_order order) (content ∷ []) c.in_ok-sums.sums up in
     let count : c.index-count.result.now ≡ length content =
     c.index-count.ensures ∙ ap (λ xs. get_or xs 0 c.index-count.result.now) read in
     let settings = c.in_ok-head.ensures.settings in
-    let one = subst (λ (s : Settings). SumsOfOne s.kind s.piece_length content c.in_ok-sums.sums) (sym settings)
-    (sums_of_one order.kind order.piece_length content c.in_ok-sums.sums summed.2) in
+    let one = subst (λ (s : Settings). SumsOfOne s.kind s.piece_length content
+    (tail_length (layout_of s) s.piece_length c.index-count.result.now) c.in_ok-sums.sums) (sym settings)
+    (subst (λ (n : ℕ). SumsOfOne order.kind order.piece_length content
+    (tail_length (layout_of (settings_of_order order)) order.piece_length n) c.in_ok-sums.sums) (sym count)
+    (sums_of_one (settings_of_order order) content c.in_ok-sums.sums up)) in
     let accepted = c.in_ok-head.ensures.accepted in (
       content,
       record {

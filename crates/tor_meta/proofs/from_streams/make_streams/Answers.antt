@@ -32,7 +32,7 @@ with_lengths-requires g c =
     let many = known_long GivesWhole known summed.contents (length c.args.paths.now)
     (length-map readers.items g.R.Read.remaining ∙ sym readers.ok.0 ∙ c.requires) summed.given in
     ap length (c.deref.ensures.value
-    ∙ lengths_read head.kind head.piece_length summed.contents c.in-Ok-sums_of.sums summed.sums_up)
+    ∙ lengths_read (settings_of_order head) summed.contents c.in-Ok-sums_of.sums summed.sums_up)
     ∙ length-map summed.contents length ∙ many ∙ sym c.in-Ok.ensures.indexed.one_each
 
 pub returns-in-Err-with_lengths-clause-gave : goal.returns-in-Err-with_lengths-clause-gave
@@ -43,7 +43,7 @@ returns-in-Err-with_lengths-clause-gave g c =
     subst (IsGivenByReaders known) (sym c.from-in-Err-with_lengths.ensures)
     (given_large Error known summed.contents c.deref.result.now c.in-Err-with_lengths.refusal summed.given
     (c.deref.ensures.value
-    ∙ lengths_read order.kind order.piece_length summed.contents c.in-Ok-sums_of.sums summed.sums_up)
+    ∙ lengths_read (settings_of_order order) summed.contents c.in-Ok-sums_of.sums summed.sums_up)
     c.in-Err-with_lengths.ensures.refused)
 
 pub torrent_of_sums-requires-clause-judged : goal.torrent_of_sums-requires-clause-judged
@@ -110,7 +110,7 @@ returns-clause-whole g c =
       summed.contents,
       summed.given,
       ap lengths_fault (sym (c.deref.ensures.value
-          ∙ lengths_read order.kind order.piece_length summed.contents c.in-Ok-sums_of.sums summed.sums_up))
+          ∙ lengths_read (settings_of_order order) summed.contents c.in-Ok-sums_of.sums summed.sums_up))
           ∙ c.in-Ok-with_lengths.ensures.accepted,
       c.in_ok-bytes.ensures.made summed.contents is.fit is.up
           ∙ ap (λ settings. metainfo settings (files_of list summed.contents)) c.in_ok-head.ensures

@@ -11,19 +11,17 @@ use Rattle.tor_meta.proofs.listed_files.sums_of_listed.Goals as goal
 
 pub returns-in-Err-clause-steady : goal.returns-in-Err-clause-steady
 returns-in-Err-clause-steady g c = λ facts steady none.
-    let plan = c.in_ok-plan.ensures in
-    elim (c.in-Err.ensures.summed facts steady (ap (λ plan. first_length_fault facts plan.lengths) plan ∙ none)) [
+    let lengths = c.in_ok-plan.ensures.lengths in
+    elim (c.in-Err.ensures.summed facts steady (ap (first_length_fault facts) lengths ∙ none)) [
       | inl memory ↦ inl memory
-      | inr fault ↦ inr (sym (ap (λ plan. first_byte_fault facts plan.lengths) plan) ∙ fault)
+      | inr fault ↦ inr (sym (ap (first_byte_fault facts) lengths) ∙ fault)
     ]
 
 pub returns-clause-whole : goal.returns-clause-whole
 returns-clause-whole g c =
-    let list = c.args.list.now in
     let whole = c.in-Ok.ensures.whole in
-    let both = from_plan c.args.head.now c.args.span list c.in-Ok.sums c.in_ok-plan.plan whole.0 c.in_ok-plan.ensures
-    c.requires.judged c.requires.span.1 c.piece_length_bounds.ensures
-    (λ kind p contents. c.units_are_the_content.ensures kind p c.args.span list contents) whole.1 whole.2 in
+    let both = from_plan c.args.head.now c.args.list.now c.in-Ok.sums c.in_ok-plan.plan whole.0 c.in_ok-plan.ensures
+    whole.1 whole.2 in
     (whole.0, both.0, both.1)
 
 pub returns-clause-steady : goal.returns-clause-steady
@@ -33,21 +31,17 @@ returns-clause-steady g c = λ facts steady none.
     let plan = c.in_ok-plan.plan in
     let is = c.in_ok-plan.ensures in
     let whole = c.in-Ok.ensures.whole in
-    let told = c.in-Ok.ensures.summed facts steady (ap (λ plan. first_length_fault facts plan.lengths) is ∙ none) in
+    let told = c.in-Ok.ensures.summed facts steady (ap (first_length_fault facts) is.lengths ∙ none) in
     let fit = sym told.0.lengths ∙ whole.2.lengths ∙ whole.1 in
-    let both = from_plan head c.args.span list c.in-Ok.sums plan (contents_in facts (length plan.lengths)) is
-    c.requires.judged c.requires.span.1 c.piece_length_bounds.ensures
-    (λ kind p contents. c.units_are_the_content.ensures kind p c.args.span list contents) fit told.0 in
-    let count : length plan.lengths ≡ length list = ap (λ plan. length plan.lengths) is
-    ∙ length-map list (λ file. file.1) in
+    let both = from_plan head list c.in-Ok.sums plan (contents_in facts (length plan.lengths)) is fit told.0 in
+    let count : length plan.lengths ≡ length list = ap length is.lengths ∙ length-map list (λ file. file.1) in
     let there = subst (λ (n : ℕ). (map length (contents_in facts n) ≡ lengths_of list)
     × SumUp head list (contents_in facts n) c.in-Ok.sums) count both in
-    (there.0, there.1, sym (ap (λ plan. first_byte_fault facts plan.lengths) is) ∙ told.1)
+    (there.0, there.1, sym (ap (first_byte_fault facts) is.lengths) ∙ told.1)
 
 pub returns-in-Err-clause-gave : goal.returns-in-Err-clause-gave
 returns-in-Err-clause-gave g c =
     let source = c.args.source.now in
     subst (λ (lengths : List ℕ).
     IsGivenNotMissing (g.S.Source.gave source) (g.S.Source.told source) (g.S.Source.ended source) lengths
-    c.in-Err.error)
-    (ap (λ plan. plan.lengths) c.in_ok-plan.ensures) c.in-Err.ensures.gave
+    c.in-Err.error) c.in_ok-plan.ensures.lengths c.in-Err.ensures.gave

@@ -1,5 +1,5 @@
 -- the entries are those of the files, and their plan that of the files
-use Rattle.tor_plan.proofs.Names.{◌≡◌, ◌∙◌, ap, ap₂, subst, sym, List, IfOk, v1_entries, Layout, IsEntryList}
+use Rattle.tor_plan.proofs.Names.{◌≡◌, ◌∙◌, false, ap, ap₂, subst, sym, List, IfOk, v1_entries, Layout, IsEntryList}
 use Rattle.tor_plan.proofs.Names.{plan_of_entries, PlanFacts}
 use Rattle.tor_plan.proofs.Contents.{File}
 use Rattle.tor_plan.proofs.FileSizes.{files_are_list, same_plan}
@@ -15,7 +15,7 @@ of_entries-requires-clause-entries c =
     let p = c.args.piece_length in
     subst (IsEntryList kind p) (sym (c.deref.ensures.value ∙ c.in_ok-entries.ensures
     ∙ ap₂ (λ (l : Layout) (fs : List File). v1_entries l p fs) c.layout_of.ensures c.files-files.ensures.value))
-    (files_are_list kind p c.args.list.now c.files-files.ensures.lawful c.requires.pieces)
+    (files_are_list kind false p c.args.list.now c.files-files.ensures.lawful c.requires.pieces)
 
 pub returns : goal.returns
 returns c =

@@ -22,7 +22,7 @@ returns-in-Ok g c = λ size some ready.
     let done = subst (λ (f : Feeder). AreDone kind p f c.join-workers.result.items) c.of.ensures
     (subst (λ (q : Workers). AreDone q.kind q.piece_length q.feeder.value c.join-workers.result.items)
     c.in-Ok.ensures.ok c.join-workers.ensures) in
-    subst (IsFed kind p size (GiveContents known) (IsFaultOfReaders known)) (sym c.new.ensures)
-    (is_fed kind p size (GiveContents known) (IsFaultOfReaders known) c.captures.cutter.feeder
+    subst (IsFed kind c.captures.tail p size (GiveContents known) (IsFaultOfReaders known)) (sym c.new.ensures)
+    (is_fed kind c.captures.tail p size (GiveContents known) (IsFaultOfReaders known) c.captures.cutter.feeder
     c.read_each-read.new.cutter.feeder c.end.new.self.feeder _ read.lane.0 c.end.ensures.lane c.end.ensures.ended
     c.end.ensures.put refl done (read.put size some ready) read.fault)
