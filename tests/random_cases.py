@@ -2,8 +2,10 @@
 
 A case comes from its number alone, which is told where it fails: tests/run --case NUMBER tries no other.
 """
+import json
 import os
 import random
+import re
 import shutil
 import time
 import traceback
@@ -12,7 +14,7 @@ import reference
 from foreign import wanted_lines
 from reference import BLOCK, Order, Refused, decode, encode, judge, make
 from refuser import Refuser
-from support import Failure, Skipped, Told, done, expect, expect_equal, refused
+from support import Failure, Skipped, Told, done, expect, expect_equal, refused, run
 
 NAMES = ['a', 'b', 'c', 'A', 'a-b', 'a b', ' a ', '-x', '.a', '...', 'é', '中文', '\n', 'x\ty', '\x7f', 'a\\b', '𝄞',
          '\x1b[0m', 'a.', '%', '\u00c5', 'A\u030a', 'z' * 255, '\u00ff', '~', '*', '"', "'", '0', '00', '10', '9',
@@ -257,7 +259,12 @@ def tell(rng, program, place, text):
     """`check`, `magnet`, and a proof of some piece."""
     file = place / 'torrent'
     file.write_bytes(text)
-    expect(program, ['check', str(file)], wanted_lines(text))
+    wanted = wanted_lines(text)
+    expect(program, ['check', str(file)], wanted)
+    if wanted.status == 0:
+        expect_record(program, ['check', '--json', str(file)], reference.check_record(judge(text)))
+    else:
+        expect(program, ['check', '--json', str(file)], wanted)
     expect(program, ['magnet', str(file)], wanted_lines(text, 'magnet'))
     number = rng.randrange(4)
     index = rng.choice([0, 0, 1, 2, 3, rng.randrange(40)])
@@ -294,6 +301,22 @@ def expect_found(rng, program, file, content, torrent, contents):
                                (['--bad', '--null'], reference.ended_paths(file.path for file in bad))])
     workers = rng.choice([[], [], ['--workers', str(rng.randint(1, 64))], ['--workers', 'auto']])
     expect(program, ['recheck', *options, *workers, str(file), str(content)], done(out, status))
+    options, files = rng.choice([([], None), (['--files'], found), (['--bad'], bad)])
+    expect_record(program, ['recheck', '--json', *options, str(file), str(content)],
+                  reference.recheck_record(marks, files), status)
+
+
+def expect_record(program, words, wanted, status=0):
+    """One object on one line, without a space."""
+    told = run(program, words)
+    try:
+        came = json.loads(told.out)
+    except ValueError as error:
+        raise Failure(f'run     {words}\nwanted  JSON\ncame    {told}: {error}') from None
+    expect_equal(f'{words}', (status, b'', wanted), (told.status, told.err, came))
+    bare = re.sub(rb'"(?:[^"\\]|\\.)*"', b'""', told.out)
+    expect_equal(f'{words}: a line without a space', (1, False), (told.out.count(b'\n'), b' ' in bare))
+    expect_equal(f'{words}: the names rise', True, list(came) == sorted(came))
 
 
 def damage(rng, path, content):

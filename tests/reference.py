@@ -759,6 +759,28 @@ def ended_paths(paths):
     return b''.join(b'/'.join(path) + b'\0' for path in paths)
 
 
+# What is told to programs, as what JSON has for it.
+
+def path_record(path):
+    return [name.decode() for name in path]
+
+
+def check_record(torrent):
+    v1, v2 = info_hashes(torrent)
+    files = [{'length': file.length, 'path': path_record(file.path)} for file in view_files(torrent)]
+    return {'kind': torrent.kind, 'name': torrent.info[b'name'].decode(), 'piece_length': torrent.piece_length,
+            'pieces': count_pieces(torrent), 'files': files, 'btih': v1 and v1.decode(),
+            'btmh': v2 and '1220' + v2.decode()}
+
+
+def recheck_record(marks, found):
+    """Without files where None is found."""
+    files = found and [{'state': file.state, 'good': file.good, 'pieces': file.pieces, 'there': file.there,
+                        'told': file.told, 'path': path_record(file.path)} for file in found]
+    return {'good': sum(marks), 'pieces': len(marks), 'bits': recheck_lines(marks).split()[-1].decode()
+            if marks else '', 'files': files}
+
+
 # Proofs of pieces.
 
 def prove(torrent, number, index):

@@ -5,8 +5,8 @@ _tor_options() {
     case $1 in
         '') echo '-h --help -V --version' ;;
         make) echo '--name --piece-length --kind --announce --private --tail --how --workers --span --out -h --help' ;;
-        check) echo '--null -h --help' ;;
-        recheck) echo '--files --bad --null --workers -h --help' ;;
+        check) echo '--null --json -h --help' ;;
+        recheck) echo '--files --bad --null --json --workers -h --help' ;;
         *) echo '-h --help' ;;
     esac
 }

@@ -32,9 +32,11 @@ complete -c tor -n '__fish_seen_subcommand_from make' -l out -r -F -d 'the file 
 complete -c tor -n '__fish_seen_subcommand_from make' -F
 
 complete -c tor -n '__fish_seen_subcommand_from check' -l null -d 'paths alone, each ended by a zero byte'
+complete -c tor -n '__fish_seen_subcommand_from check' -l json -d 'one object of JSON'
 complete -c tor -n '__fish_seen_subcommand_from recheck' -l files -d 'tell of each file'
 complete -c tor -n '__fish_seen_subcommand_from recheck' -l bad -d 'tell of each file that is not whole'
 complete -c tor -n '__fish_seen_subcommand_from recheck' -l null -d 'with --bad, paths alone, each ended by a zero byte'
+complete -c tor -n '__fish_seen_subcommand_from recheck' -l json -d 'one object of JSON'
 complete -c tor -n '__fish_seen_subcommand_from recheck' -l workers -x -a auto -d 'how many workers hash'
 
 complete -c tor -n '__tor_at check 2' -F

@@ -1,13 +1,13 @@
--- A flag that wants another argument is not free.
+-- A flag that wants another argument, or does not stand beside one, is not free.
 use Rattle.std.proofs.Common.{◌≡◌, ◌∙◌, ap, ap₂, refl, arith, Bool, true, false, not, ◌&&◌, ◌==◌, ℕ, ◌+◌, List, []}
 use Rattle.std.proofs.Common.{◌∷◌, ◌++◌, length, Bor}
 use Rattle.std.proofs.lemmas.Bool.{ne_eqb}
 use Rattle.std.proofs.lemmas.List.{length_push}
-use Rattle.clap.specs.Adds.{AddsRequirements}
+use Rattle.clap.specs.Adds.{AddsConflicts, AddsRequirements}
 use Rattle.clap.specs.Walk.{Rule, is_free_arg, rule_of}
 use Rattle.clap.specs.declared.builder.arg.Arg.{Arg}
 use Rattle.clap.specs.declared.builder.arg.ArgPredicate.{ArgPredicate}
-use Rattle.tor_cli.specs.CommandLine.{flag_beside, flag_of}
+use Rattle.tor_cli.specs.CommandLine.{flag_bound, flag_of}
 
 third : (a b c d : Bool) → c ≡ false → (a && (b && (c && d))) ≡ false
 third true true c d off = ap (λ (e : Bool). e && d) off
@@ -18,10 +18,23 @@ none_left : {X : Type 0} (xs : List X) (x : X) → (length (xs ++ x ∷ []) == 0
 none_left xs x = ap (λ (n : ℕ). n == 0) (length_push xs x) ∙ ne_eqb (length xs + 1) 0 (λ same. omega (arith, same))
 
 pub beside : (name : List ℕ) (old new : Arg) (x : ArgPredicate × Bor (List ℕ)) → rule_of old ≡ flag_of name
-    → AddsRequirements old new (x ∷ []) → rule_of new ≡ flag_beside name
+    → AddsRequirements old new (x ∷ []) → rule_of new ≡ flag_bound name
 beside name old new x same adds =
     let needed =
     ap (λ (ys : List (ArgPredicate × Bor (List ℕ))). length ys == 0) adds.1 ∙ none_left old.needs.items x in
     let bound : is_free_arg (record old { needs = new.needs }) ≡ false
     = third (not old.exclusive) (length old.conflicts.items == 0) (length new.needs.items == 0) _ needed in
+    ap rule_of adds.0 ∙ ap₂ (λ (rule : Rule) (free : Bool). record rule { is_free = free }) same bound
+
+second : (a b c : Bool) → b ≡ false → (a && (b && c)) ≡ false
+second true b c off = ap (λ (e : Bool). e && c) off
+second false b c off = refl
+
+pub without : (name : List ℕ) (old new : Arg) (other : Bor (List ℕ)) → rule_of old ≡ flag_of name
+    → AddsConflicts old new (other ∷ []) → rule_of new ≡ flag_bound name
+without name old new other same adds =
+    let conflicting =
+    ap (λ (ys : List (Bor (List ℕ))). length ys == 0) adds.1 ∙ none_left old.conflicts.items other in
+    let bound : is_free_arg (record old { conflicts = new.conflicts }) ≡ false
+    = second (not old.exclusive) (length new.conflicts.items == 0) _ conflicting in
     ap rule_of adds.0 ∙ ap₂ (λ (rule : Rule) (free : Bool). record rule { is_free = free }) same bound

@@ -15,3 +15,4 @@ pub mod Siblings
 pub mod Sizes
 pub mod Stops
 pub mod StreamFaults
+pub mod WithoutFloats

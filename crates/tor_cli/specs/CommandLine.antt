@@ -108,17 +108,18 @@ verify_app = with_rules (new_app (codes "verify"))
     (argument_of (codes "root") 1 ∷ argument_of (codes "length") 2 ∷ argument_of (codes "piece-length") 3
     ∷ argument_of (codes "proof") 4 ∷ [])
 
-abbrev pub check_app : App
-check_app = with_rules (new_app (codes "check")) (flag_of (codes "null") ∷ argument_of (codes "file") 1 ∷ [])
+-- an option without a value that stands beside another alone, or never beside another
+abbrev pub flag_bound : List ℕ → Rule
+flag_bound name = record (flag_of name) { is_free = false }
 
--- an option without a value that stands beside another alone
-abbrev pub flag_beside : List ℕ → Rule
-flag_beside name = record (flag_of name) { is_free = false }
+abbrev pub check_app : App
+check_app = with_rules (new_app (codes "check"))
+    (flag_of (codes "null") ∷ flag_bound (codes "json") ∷ argument_of (codes "file") 1 ∷ [])
 
 abbrev pub recheck_app : App
 recheck_app = with_rules (new_app (codes "recheck"))
-    (flag_of (codes "files") ∷ flag_of (codes "bad") ∷ flag_beside (codes "null") ∷ workers_option (codes "4")
-    ∷ argument_of (codes "file") 1 ∷ argument_of (codes "path") 2 ∷ [])
+    (flag_of (codes "files") ∷ flag_of (codes "bad") ∷ flag_bound (codes "null") ∷ flag_bound (codes "json")
+    ∷ workers_option (codes "4") ∷ argument_of (codes "file") 1 ∷ argument_of (codes "path") 2 ∷ [])
 
 abbrev pub with_commands : App → List App → App
 with_commands app [] = app

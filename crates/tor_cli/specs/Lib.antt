@@ -7,6 +7,7 @@ pub mod ProgressLine
 pub mod ProofText
 pub mod Proving
 pub mod Recheck
+pub mod Records
 pub mod Request
 pub mod Shown
 pub mod Status

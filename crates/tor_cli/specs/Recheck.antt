@@ -22,9 +22,12 @@ use Rattle.tor_cli.specs.FoundFiles.{told_of_files}
 use Rattle.tor_meta.specs.FromInput.{IsFront}
 use Rattle.tor_cli.specs.Place.{IsFileEnd, IsFileFault, IsFileSize}
 use Rattle.tor_cli.specs.Proving.{answer_of}
+use Rattle.tor_cli.specs.Records.{recheck_line}
 use Rattle.tor_cli.specs.Streams.{IsUntouched, Streams}
 use Rattle.tor_cli.specs.declared.answer.Answer.{Answer}
 use Rattle.tor_cli.specs.declared.fault.Fault.{Fault}
+use Rattle.tor_cli.specs.declared.listing.Form.{Form}
+use Rattle.tor_cli.specs.declared.listing.Form.TheVariants.{Json, Text}
 use Rattle.tor_cli.specs.declared.listing.Listing.{Listing}
 use Rattle.tor_cli.specs.declared.listing.Listing.TheVariants.{Pieces, BadPaths}
 use Rattle.tor_cli.specs.declared.recheck_words.RecheckOptions.{RecheckOptions}
@@ -46,14 +49,15 @@ abbrev pub pieces_text : Listing → List Bool → List ℕ
 pieces_text BadPaths bits = []
 pieces_text other bits = recheck_text bits
 
--- what is told of the pieces, and then of the files
-abbrev pub report_text : Listing → View → List Bool → List FileFound → List ℕ
-report_text listing view bits found = pieces_text listing bits ++ told_of_files listing found view.files
+-- what is told of the pieces, and then of the files; or the record of both
+abbrev pub report_text : Form → Listing → View → List Bool → List FileFound → List ℕ
+report_text Text listing view bits found = pieces_text listing bits ++ told_of_files listing found view.files
+report_text Json listing view bits found = recheck_line listing view bits found
 
 -- this is printed of these bits and these files
-pub record IsReport (listing : Listing) (view : View) (bits : List Bool) (found : List FileFound) (text : List ℕ)
-    (answer : Answer) : Type 0 where
-  pub printed : text ≡ report_text listing view bits found
+pub record IsReport (options : RecheckOptions) (view : View) (bits : List Bool) (found : List FileFound)
+    (text : List ℕ) (answer : Answer) : Type 0 where
+  pub printed : text ≡ report_text options.form options.listing view bits found
   pub answered : answer ≡ recheck_answer bits
 
 -- of each file is told, where any is listed
@@ -73,19 +77,19 @@ IsNoPlace view scans.Memory = Unit {0}
 IsNoPlace view other = ⊥
 
 -- this is printed of some bits, one for each piece, and of something told of each file, where any is listed
-pub record IsReportOn (listing : Listing) (view : View) (text : List ℕ) (answer : Answer) : Type 0 where
+pub record IsReportOn (options : RecheckOptions) (view : View) (text : List ℕ) (answer : Answer) : Type 0 where
   pub bits : List Bool
   pub each : length bits ≡ view.piece_count
   pub found : List FileFound
-  pub every : IsOfEach listing view found
-  pub report : IsReport listing view bits found text answer
+  pub every : IsOfEach options.listing view found
+  pub report : IsReport options view bits found text answer
 
 -- the bytes are a torrent, and this is printed of it
 pub record IsRechecked (options : RecheckOptions) (bytes text : List ℕ) (answer : Answer) : Type 0 where
   pub view : View
   pub torrent : IsTold bytes view
   pub allowed : IsHow (Board options.workers)
-  pub report : IsReportOn options.listing view text answer
+  pub report : IsReportOn options view text answer
 
 -- a fault of a file that the torrent has; or no worker, or too many
 abbrev pub IsRecheckFault : RecheckOptions → View → RecheckError Error → Type 0

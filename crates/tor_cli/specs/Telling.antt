@@ -2,12 +2,14 @@
 use Rattle.std.specs.Prelude.{ℕ, List}
 use Rattle.tor_meta.specs.declared.hashes.Hashes.{Hashes}
 use Rattle.tor_spec.specs.valid.View.{View}
+use Rattle.tor_cli.specs.Records.{check_line}
 use Rattle.tor_cli.specs.Shown.{check_lines, ended_paths, magnet_line}
 use Rattle.tor_cli.specs.declared.telling.Telling.{Telling}
-use Rattle.tor_cli.specs.declared.telling.Telling.TheVariants.{Lines, Link, Paths}
+use Rattle.tor_cli.specs.declared.telling.Telling.TheVariants.{Lines, Link, Paths, Record}
 
 -- its text, from what it describes and its info hashes
 abbrev pub lines_of : Telling → View → Hashes → List ℕ
 lines_of Lines view hashes = check_lines view hashes
 lines_of Link view hashes = magnet_line hashes
 lines_of Paths view hashes = ended_paths view
+lines_of Record view hashes = check_line view hashes

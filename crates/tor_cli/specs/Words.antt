@@ -18,6 +18,8 @@ use Rattle.tor_cli.specs.declared.command.Request.{Request}
 use Rattle.tor_cli.specs.declared.command.Request.TheVariants.{Show, Make, Check, Magnet, Prove, Verify, Recheck}
 use Rattle.tor_cli.specs.declared.fault.Fault.{Fault}
 use Rattle.tor_cli.specs.declared.fault.Fault.TheVariants.{Usage, Resources}
+use Rattle.tor_cli.specs.declared.listing.Form.{Form}
+use Rattle.tor_cli.specs.declared.listing.Form.TheVariants.{Json, Text}
 use Rattle.tor_cli.specs.declared.listing.Listing.{Listing}
 use Rattle.tor_cli.specs.declared.listing.Listing.TheVariants.{Pieces, Files, BadFiles, BadPaths}
 use Rattle.tor_cli.specs.declared.options.MakeOptions.{MakeOptions}
@@ -25,7 +27,7 @@ use Rattle.tor_cli.specs.declared.proof_words.ProveOptions.{ProveOptions}
 use Rattle.tor_cli.specs.declared.proof_words.VerifyOptions.{VerifyOptions}
 use Rattle.tor_cli.specs.declared.recheck_words.RecheckOptions.{RecheckOptions}
 use Rattle.tor_cli.specs.declared.telling.Telling.{Telling}
-use Rattle.tor_cli.specs.declared.telling.Telling.TheVariants.{Lines, Paths}
+use Rattle.tor_cli.specs.declared.telling.Telling.TheVariants.{Lines, Paths, Record}
 use Rattle.tor_cli.specs.declared.way.Way.{Way}
 use Rattle.tor_cli.specs.declared.way.Way.TheVariants.{Shared, Streams}
 
@@ -89,15 +91,17 @@ pub record AreOptionsIn (rows : List Row) (options : MakeOptions) : Type 0 where
   pub out : first_of (codes "out") rows ≡ option_map (λ place. place.now) options.out
   pub place : first_of (codes "path") rows ≡ option_map (λ place. place.now) options.place
 
--- what is told of a torrent, where `--null` is given or not
-abbrev pub telling_of : Bool → Telling
-telling_of true = Paths
-telling_of false = Lines
+-- what is told of a torrent, where `--null` and `--json` are each given or not
+abbrev pub telling_of : Bool → Bool → Telling
+telling_of null true = Record
+telling_of true false = Paths
+telling_of false false = Lines
 
 -- the torrent that is judged, and what is told of it
 pub record IsCheckIn (options : CheckOptions) (rows : List Row) : Type 0 where
   pub torrent : first_of (codes "file") rows ≡ Some options.torrent.now
-  pub telling : (null : Bool) → IsFlag rows (codes "null") null → options.telling ≡ telling_of null
+  pub telling : (null json : Bool) → IsFlag rows (codes "null") null → IsFlag rows (codes "json") json
+      → options.telling ≡ telling_of null json
 
 -- the file of a command over one torrent
 abbrev pub IsFileIn : Bor (List ℕ) → List Row → Type 0
@@ -125,12 +129,19 @@ listing_of files true false = BadFiles
 listing_of true false null = Files
 listing_of false false null = Pieces
 
--- the torrent that is rechecked, where its files are looked for, which are listed, and by how many workers
+-- for whom a recheck answers, where `--json` is given or not
+abbrev pub form_of : Bool → Form
+form_of true = Json
+form_of false = Text
+
+-- the torrent that is rechecked, where its files are looked for, which are listed, in which form, and by how many
+-- workers
 pub record IsRecheckIn (options : RecheckOptions) (rows : List Row) : Type 0 where
   pub torrent : first_of (codes "file") rows ≡ Some options.torrent.now
   pub place : first_of (codes "path") rows ≡ Some options.place.now
   pub listing : (files bad null : Bool) → IsFlag rows (codes "files") files → IsFlag rows (codes "bad") bad
       → IsFlag rows (codes "null") null → options.listing ≡ listing_of files bad null
+  pub form : (json : Bool) → IsFlag rows (codes "json") json → options.form ≡ form_of json
   pub workers : IsWorkersIn rows (λ workers. options.workers ≡ workers)
 
 -- this command was found, with rows of which this holds

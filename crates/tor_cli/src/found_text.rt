@@ -47,7 +47,7 @@ fn push_file(
     }
 }
 
-fn is_whole(state: FileState) -> bool
+pub fn is_whole(state: FileState) -> bool
     ensures { result ≡ is_whole state }
 {
     matches!(state, FileState::Whole)
@@ -72,7 +72,7 @@ fn push_line(
 }
 
 /// The word for a state.
-fn state_word(state: FileState) -> &'static str
+pub fn state_word(state: FileState) -> &'static str
     ensures { result.now ≡ state_word state }
 {
     match state {

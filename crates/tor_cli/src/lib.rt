@@ -9,18 +9,19 @@
 //!   `progress.rt`: how far the reading is, shown on a terminal; `progress_line.rt`: the line; `watch.rt`: the time
 //!   that has gone.
 //! - `telling.rt`: the commands `check` and `magnet`; `check_words.rt`, `torrent_words.rt`: their words. `foreign.rt`:
-//!   the torrent in a file, judged; `shown.rt`: the lines that tell of it.
+//!   the torrent in a file, judged; `shown.rt`: the lines that tell of it; `check_record.rt`: the same as JSON.
 //! - `prove_command.rt`: the command `prove`; `verify_command.rt`: the command `verify`; `proof_words.rt`: their words;
 //!   `claim.rt`: what those of `verify` claim; `proof_text.rt`: a proof as a text, both ways; `numbers.rt` and
 //!   `digits.rt`: numbers and hashes in texts. `answer.rt`: yes and no.
 //! - `recheck_command.rt`: the command `recheck`; `recheck_words.rt`: its words; `listing.rt`: which files it lists;
 //!   `recheck_source.rt`: where the files of the torrent are looked for; `recheck_text.rt`: what is printed of their
-//!   pieces; `found_text.rt`: and of the files.
+//!   pieces; `found_text.rt`: and of the files; `recheck_record.rt`: the same as JSON; `json.rt`: what both have of it.
 //! - `fault.rt`: what stops the program, its line and its status; `fault_of.rt`: which step's fault it is. `escape.rt`:
 //!   the user's text in such a line. `laws.rt`: that it has no control byte there.
 #![tactic(auto)]
 
 mod answer;
+mod check_record;
 mod check_words;
 mod claim;
 mod command;
@@ -32,6 +33,7 @@ mod fault_of;
 mod foreign;
 mod found_text;
 mod from_place;
+mod json;
 pub mod laws;
 mod listing;
 mod make_command;
@@ -45,6 +47,7 @@ pub mod proof_text;
 mod proof_words;
 mod prove_command;
 mod recheck_command;
+mod recheck_record;
 mod recheck_source;
 mod recheck_text;
 mod recheck_words;

@@ -1,6 +1,6 @@
-//! Which files of a torrent a recheck lists.
+//! Which files of a torrent a recheck lists, and in which form.
 ghost use Rattle.std.specs.Prelude.{◌≡◌};
-ghost use Rattle.tor_cli.specs.Words.{listing_of};
+ghost use Rattle.tor_cli.specs.Words.{form_of, listing_of};
 
 /// What is printed of the torrent's files, beside its pieces.
 #[derive(Clone, Copy, Debug, PartialEq, Eq)]
@@ -13,6 +13,25 @@ pub enum Listing {
     BadFiles,
     /// Of each that is not whole its path, and nothing else is printed.
     BadPaths,
+}
+
+/// For whom a recheck answers.
+#[derive(Clone, Copy, Debug, PartialEq, Eq)]
+pub enum Form {
+    /// For people, and for tools that go line by line.
+    Text,
+    /// For programs: one object of JSON (RFC 8259).
+    Json,
+}
+
+/// The form that the flag `--json` asks for.
+pub fn form_of(json: bool) -> Form
+    ensures { result ≡ form_of json }
+{
+    match json {
+        true => Form::Json,
+        false => Form::Text,
+    }
 }
 
 /// The listing that these flags ask for: `--files`; `--bad`, which leaves the whole files out; and `--null`, which

@@ -2,6 +2,8 @@
 ghost use Rattle.std.specs.Prelude.{◌≡◌, ◌≢◌, IfErr, IfOk, OnOk, MatchResult, None, length, string_bytes};
 ghost use Rattle.tor_cli.specs.FoundFiles.{listed};
 ghost use Rattle.tor_cli.specs.Recheck.{IsOfEach, IsReport, IsReportOn, pieces_text, recheck_answer, recheck_text};
+ghost use Rattle.tor_cli.specs.Recheck.{report_text};
+ghost use Rattle.tor_cli.specs.declared.listing.Form.TheVariants.{Text};
 ghost use Rattle.tor_engine.specs.Contents.{contents_in};
 ghost use Rattle.tor_engine.specs.How.{IsHow};
 ghost use Rattle.tor_engine.specs.PieceFault.{lengths_told};
@@ -14,8 +16,9 @@ ghost use Rattle.tor_spec.specs.Verified.{verified_pieces};
 
 use crate::answer::Answer;
 use crate::found_text::push_files;
-use crate::listing::Listing;
+use crate::listing::{Form, Listing};
 use crate::progress::{Counting, Progress};
+use crate::recheck_record::recheck_line;
 use crate::recheck_words::RecheckOptions;
 use hex::encode;
 use std::alloc::{AllocError, Global};
@@ -29,7 +32,7 @@ use tor_source::Source;
 #[derive(Drop)]
 pub struct Report {
     /// Two lines: how many pieces are there and right, of how many; and the bitfield. Below them the files that are
-    /// listed; or the paths of the bad ones alone.
+    /// listed. Or the paths of the bad ones alone; or one line of JSON.
     pub text: String,
     /// Whether all pieces are there and right.
     pub answer: Answer,
@@ -46,10 +49,10 @@ pub fn counted_report<S: Source, T: Threads + Sync>(
     progress: Option<Progress>,
 ) -> Result<Report, RecheckError<S::Fault>>
     ensures reported { IfOk result
-        (λ report. IsReportOn options.now.listing torrent.now (string_bytes report.text) report.answer) }
+        (λ report. IsReportOn options.now torrent.now (string_bytes report.text) report.answer) }
     ensures found { IsHow (Board options.now.workers) → (facts : SourceFacts S.Fault) → S.is_steady source.now facts →
         MatchResult result
-        (λ report. IsReport options.now.listing torrent.now
+        (λ report. IsReport options.now torrent.now
         (verified_pieces torrent.now (contents_in facts (length torrent.now.files)))
         (listed options.now.listing (files_found torrent.now (lengths_told facts (length torrent.now.files))
         (held_pieces torrent.now (contents_in facts (length torrent.now.files)))))
@@ -70,7 +73,7 @@ pub fn counted_report<S: Source, T: Threads + Sync>(
         progress.erase();
     }
     match rechecked {
-        Ok(findings) => Ok(report_on(alloc, torrent, options.listing, &findings)?),
+        Ok(findings) => Ok(report_on(alloc, torrent, options, &findings)?),
         Err(error) => Err(error),
     }
 }
@@ -116,18 +119,35 @@ fn findings_of<S: Source, T: Threads + Sync>(
 fn report_on(
     alloc: Global,
     torrent: &Torrent,
-    listing: Listing,
+    options: &RecheckOptions<'_>,
     findings: &Findings,
 ) -> Result<Report, AllocError>
-    ensures { IfOk result (λ report. IsReport listing torrent.now findings.now.bits findings.now.files.items
+    ensures { IfOk result (λ report. IsReport options.now torrent.now findings.now.bits findings.now.files.items
         (string_bytes report.text) report.answer) }
 {
-    let mut text = pieces_text(alloc, listing, &findings.bits)?;
-    push_files(alloc, &mut text, listing, &findings.files, torrent.files())?;
+    let text = match options.form {
+        Form::Text => lines_of(alloc, torrent, options.listing, findings)?,
+        Form::Json => recheck_line(alloc, torrent, options.listing, findings)?,
+    };
     Ok(Report {
         text,
         answer: answer_of(&findings.bits),
     })
+}
+
+/// The pieces, and then the files.
+fn lines_of(
+    alloc: Global,
+    torrent: &Torrent,
+    listing: Listing,
+    findings: &Findings,
+) -> Result<String, AllocError>
+    ensures { IfOk result (λ lines. string_bytes lines
+        ≡ report_text Text listing torrent.now findings.now.bits findings.now.files.items) }
+{
+    let mut lines = pieces_text(alloc, listing, &findings.bits)?;
+    push_files(alloc, &mut lines, listing, &findings.files, torrent.files())?;
+    Ok(lines)
 }
 
 /// What is printed of the pieces: nothing where paths alone are asked for.

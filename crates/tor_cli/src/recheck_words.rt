@@ -4,8 +4,8 @@ ghost use Rattle.std.specs.Prelude.{◌≡◌, IfOk, IfSome};
 ghost use Rattle.tor_cli.specs.CommandLine.{recheck_app};
 ghost use Rattle.tor_cli.specs.Words.{IsRecheckIn};
 
-use crate::listing::{Listing, listing_of};
-use crate::torrent_words::{argument_of, flag_beside, flag_of, workers_option};
+use crate::listing::{Form, Listing, form_of, listing_of};
+use crate::torrent_words::{argument_of, flag_beside, flag_of, flag_without, workers_option};
 use crate::workers::workers_of;
 use clap::{ArgMatches, Command};
 use std::alloc::{AllocError, Global};
@@ -19,6 +19,7 @@ pub struct RecheckOptions<'a> {
     /// The file or folder that has the torrent's files.
     pub place: &'a str,
     pub listing: Listing,
+    pub form: Form,
     /// How many workers hash.
     pub workers: u32,
 }
@@ -32,6 +33,7 @@ pub fn recheck_command<'a>(alloc: Global) -> Result<Command<'a>, AllocError>
         .arg(flag_of(alloc, "files", FILES))?
         .arg(flag_of(alloc, "bad", BAD))?
         .arg(flag_beside(alloc, "null", "bad", NULL)?)?
+        .arg(flag_without(alloc, "json", "null", JSON)?)?
         .arg(workers_option(alloc, DEFAULT_WORKERS, WORKERS))?
         .arg(argument_of(alloc, "file", 1, "FILE", "The file with the torrent"))?
         .arg(argument_of(alloc, "path", 2, "PATH", PATH))
@@ -42,6 +44,8 @@ const FILES: &str = "Tells of each file too: whether it is whole, bad, short or 
 const BAD: &str = "Tells of each file that is not whole";
 
 const NULL: &str = "With --bad, prints the paths of these files alone, each ended by a zero byte";
+
+const JSON: &str = "Prints the same as one object of JSON";
 
 const DEFAULT_WORKERS: &str = "4";
 
@@ -65,6 +69,7 @@ pub fn recheck_options<'a, T: Threads>(
             matches.get_flag("bad"),
             matches.get_flag("null"),
         ),
+        form: form_of(matches.get_flag("json")),
         workers: workers_of(rt, matches.get_str("workers")?)?,
     })
 }

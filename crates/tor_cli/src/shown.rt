@@ -70,7 +70,7 @@ fn head_lines(alloc: Global, torrent: &Torrent) -> Result<String, AllocError>
 }
 
 /// The word for a kind.
-fn word_of(kind: Kind) -> &'static str
+pub fn word_of(kind: Kind) -> &'static str
     ensures { result.now ≡ word_of kind }
 {
     match kind {

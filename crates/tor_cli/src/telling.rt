@@ -4,6 +4,7 @@ ghost use Rattle.tor_cli.specs.Foreign.{AreLinesOf, DoesTell, IsNoTorrent, Stops
 ghost use Rattle.tor_cli.specs.Streams.{writing};
 ghost use Rattle.tor_cli.specs.Telling.{lines_of};
 
+use crate::check_record::check_line;
 use crate::fault::Fault;
 use crate::foreign::{judge, read_file};
 use crate::shown::{check_lines, ended_paths, magnet_line};
@@ -20,6 +21,8 @@ pub enum Telling {
     Link,
     /// The paths of its files.
     Paths,
+    /// All that it describes, as JSON.
+    Record,
 }
 
 /// Writes this of the torrent in the file `place`. Nothing is written before it was judged.
@@ -50,5 +53,6 @@ fn lines_of(alloc: Global, bytes: &[u8], telling: Telling) -> Result<String, Fau
         Telling::Lines => check_lines(alloc, &judged.torrent, &judged.hashes)?,
         Telling::Link => magnet_line(alloc, &judged.hashes)?,
         Telling::Paths => ended_paths(alloc, &judged.torrent)?,
+        Telling::Record => check_line(alloc, &judged.torrent, &judged.hashes)?,
     })
 }

@@ -1,7 +1,7 @@
 //! The words of `tor magnet FILE`, and those of which several commands have some.
 ghost use Rattle.clap.specs.Words.{app_of, found_of, rows_of, rule_of};
 ghost use Rattle.std.specs.Prelude.{◌≡◌, IfOk, IfSome, false};
-ghost use Rattle.tor_cli.specs.CommandLine.{argument_of, file_app, flag_beside, flag_of, workers_option};
+ghost use Rattle.tor_cli.specs.CommandLine.{argument_of, file_app, flag_bound, flag_of, workers_option};
 ghost use Rattle.tor_cli.specs.Words.{IsFileIn};
 
 use clap::{Arg, ArgAction, ArgMatches, Command};
@@ -67,10 +67,23 @@ pub fn flag_beside<'a>(
     other: &'a str,
     help: &'a str,
 ) -> Result<Arg<'a>, AllocError>
-    ensures rule { IfOk result (λ flag. rule_of flag ≡ flag_beside name.now) }
+    ensures rule { IfOk result (λ flag. rule_of flag ≡ flag_bound name.now) }
     ensures local { IfOk result (λ flag. flag.global ≡ false) }
 {
     flag_of(alloc, name, help).requires_arg(other)
+}
+
+/// An option without a value that does not stand beside another one.
+pub fn flag_without<'a>(
+    alloc: Global,
+    name: &'a str,
+    other: &'a str,
+    help: &'a str,
+) -> Result<Arg<'a>, AllocError>
+    ensures rule { IfOk result (λ flag. rule_of flag ≡ flag_bound name.now) }
+    ensures local { IfOk result (λ flag. flag.global ≡ false) }
+{
+    flag_of(alloc, name, help).conflicts_with(other)
 }
 
 /// The option that says how many workers hash, and how many where it is not given.

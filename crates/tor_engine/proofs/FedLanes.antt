@@ -29,61 +29,61 @@ SumUp kind tail p Gives sums =
     × AreSumsOfContents kind tail p contents sums
 
 module _ {F : Type 0} (kind : Kind) (tail : Bool) (p size : ℕ) (Gives : List (List ℕ) → Type 0) (Stops : F → Type 0)
-    where
-  -- the marks come after all that was put
-  pub is_fed : (first mid ended : Feeder) (fed : Fed F) → FeedsLaneOf first mid → FeedsLaneOf mid ended
-      → IsEnded ended → put_by ended ≡ put_by mid → fed.feeder ≡ ended → AreDone kind p first fed.workers.items
-      → IfOk fed.read (λ lengths. (contents : List (List ℕ)) × Gives contents
-      × PutsContents kind tail p size contents lengths.items (put_by mid))
-      → IfErr fed.read Stops → IsFed kind tail p size Gives Stops fed
-  is_fed first mid ended fed lane later is_end put same done read stops = record {
-    done = same_lane kind p first fed.feeder
-        (subst (FeedsLaneOf first) (sym same) (later.0 ∙ lane.0, later.1 ∙ lane.1)) fed.workers.items done;
-    ended = subst IsEnded (sym same) is_end;
-    put = subst (λ (chunks : List Chunk). IfOk fed.read (λ lengths. (contents : List (List ℕ)) × Gives contents
-        × PutsContents kind tail p size contents lengths.items chunks)) (sym put ∙ ap put_by (sym same)) read;
-    stopped = stops;
-  }
+  where
+    -- the marks come after all that was put
+    pub is_fed : (first mid ended : Feeder) (fed : Fed F) → FeedsLaneOf first mid → FeedsLaneOf mid ended
+        → IsEnded ended → put_by ended ≡ put_by mid → fed.feeder ≡ ended → AreDone kind p first fed.workers.items
+        → IfOk fed.read (λ lengths. (contents : List (List ℕ)) × Gives contents
+        × PutsContents kind tail p size contents lengths.items (put_by mid))
+        → IfErr fed.read Stops → IsFed kind tail p size Gives Stops fed
+    is_fed first mid ended fed lane later is_end put same done read stops = record {
+      done = same_lane kind p first fed.feeder
+          (subst (FeedsLaneOf first) (sym same) (later.0 ∙ lane.0, later.1 ∙ lane.1)) fed.workers.items done;
+      ended = subst IsEnded (sym same) is_end;
+      put = subst (λ (chunks : List Chunk). IfOk fed.read (λ lengths. (contents : List (List ℕ)) × Gives contents
+          × PutsContents kind tail p size contents lengths.items chunks)) (sym put ∙ ap put_by (sym same)) read;
+      stopped = stops;
+    }
 
-  module _ (fed : Fed F) (is : IsFed kind tail p size Gives Stops fed) where
-    abbrev Put : List (List ℕ) → Vec ℕ Global → Type 0
-    Put contents lengths = PutsContents kind tail p size contents lengths.items (put_by fed.feeder)
+    module _ (fed : Fed F) (is : IsFed kind tail p size Gives Stops fed) where
+      abbrev Put : List (List ℕ) → Vec ℕ Global → Type 0
+      Put contents lengths = PutsContents kind tail p size contents lengths.items (put_by fed.feeder)
 
-    pub was_put : IfOk fed.read (λ lengths. (tail : Bool) × (contents : List (List ℕ))
-        × PutsContents kind tail p size contents lengths.items (put_by fed.feeder))
-    was_put = by_read fed.read is.put
-      where
-        by_read : (read : Result (Vec ℕ Global) F)
-            → IfOk read (λ lengths. (contents : List (List ℕ)) × Gives contents × Put contents lengths)
-            → IfOk read (λ lengths. (tail : Bool) × (contents : List (List ℕ))
-            × PutsContents kind tail p size contents lengths.items (put_by fed.feeder))
-        by_read (Ok lengths) put = (tail, put.0, put.2)
-        by_read (Err fault) put = tt
+      pub was_put : IfOk fed.read (λ lengths. (tail : Bool) × (contents : List (List ℕ))
+          × PutsContents kind tail p size contents lengths.items (put_by fed.feeder))
+      was_put = by_read fed.read is.put
+        where
+          by_read : (read : Result (Vec ℕ Global) F)
+              → IfOk read (λ lengths. (contents : List (List ℕ)) × Gives contents × Put contents lengths)
+              → IfOk read (λ lengths. (tail : Bool) × (contents : List (List ℕ))
+              × PutsContents kind tail p size contents lengths.items (put_by fed.feeder))
+          by_read (Ok lengths) put = (tail, put.0, put.2)
+          by_read (Err fault) put = tt
 
-    pub was_given : IsOk fed.read → (contents : List (List ℕ)) × Gives contents
-        × AllByRecursion (λ content. length content ≤ MAX_LENGTH) contents
-    was_given = by_read fed.read is.put
-      where
-        by_read : (read : Result (Vec ℕ Global) F)
-            → IfOk read (λ lengths. (contents : List (List ℕ)) × Gives contents × Put contents lengths)
-            → IsOk read → (contents : List (List ℕ)) × Gives contents
-            × AllByRecursion (λ content. length content ≤ MAX_LENGTH) contents
-        by_read (Ok lengths) put all = (put.0, put.1, put.2.small)
-        by_read (Err fault) put all = cc
+      pub was_given : IsOk fed.read → (contents : List (List ℕ)) × Gives contents
+          × AllByRecursion (λ content. length content ≤ MAX_LENGTH) contents
+      was_given = by_read fed.read is.put
+        where
+          by_read : (read : Result (Vec ℕ Global) F)
+              → IfOk read (λ lengths. (contents : List (List ℕ)) × Gives contents × Put contents lengths)
+              → IsOk read → (contents : List (List ℕ)) × Gives contents
+              × AllByRecursion (λ content. length content ≤ MAX_LENGTH) contents
+          by_read (Ok lengths) put all = (put.0, put.1, put.2.small)
+          by_read (Err fault) put all = cc
 
-    pub answers : (answer : Result Sums F)
-        → MatchResult answer (λ sums. IsOkAnd fed.read (λ lengths. (tail : Bool) (contents : List (List ℕ))
-        → PutsContents kind tail p size contents lengths.items (put_by fed.feeder)
-        → AreSumsOfContents kind tail p contents sums)) (λ fault. fed.read ≡ Err fault)
-        → MatchResult answer (SumUp kind tail p Gives) Stops
-    answers (Err fault) same = subst (λ (read : Result (Vec ℕ Global) F). IfErr read Stops) same is.stopped
-    answers (Ok sums) summed = by_read fed.read is.put summed
-      where
-        by_read : (read : Result (Vec ℕ Global) F)
-            → IfOk read (λ lengths. (contents : List (List ℕ)) × Gives contents × Put contents lengths)
-            → IsOkAnd read (λ lengths. (tail : Bool) (contents : List (List ℕ))
-            → PutsContents kind tail p size contents lengths.items (put_by fed.feeder)
-            → AreSumsOfContents kind tail p contents sums)
-            → SumUp kind tail p Gives sums
-        by_read (Ok lengths) put summed = (put.0, put.1, put.2.small, summed tail put.0 put.2)
-        by_read (Err fault) put summed = absurd summed
+      pub answers : (answer : Result Sums F)
+          → MatchResult answer (λ sums. IsOkAnd fed.read (λ lengths. (tail : Bool) (contents : List (List ℕ))
+          → PutsContents kind tail p size contents lengths.items (put_by fed.feeder)
+          → AreSumsOfContents kind tail p contents sums)) (λ fault. fed.read ≡ Err fault)
+          → MatchResult answer (SumUp kind tail p Gives) Stops
+      answers (Err fault) same = subst (λ (read : Result (Vec ℕ Global) F). IfErr read Stops) same is.stopped
+      answers (Ok sums) summed = by_read fed.read is.put summed
+        where
+          by_read : (read : Result (Vec ℕ Global) F)
+              → IfOk read (λ lengths. (contents : List (List ℕ)) × Gives contents × Put contents lengths)
+              → IsOkAnd read (λ lengths. (tail : Bool) (contents : List (List ℕ))
+              → PutsContents kind tail p size contents lengths.items (put_by fed.feeder)
+              → AreSumsOfContents kind tail p contents sums)
+              → SumUp kind tail p Gives sums
+          by_read (Ok lengths) put summed = (put.0, put.1, put.2.small, summed tail put.0 put.2)
+          by_read (Err fault) put summed = absurd summed

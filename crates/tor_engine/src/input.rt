@@ -43,16 +43,7 @@ pub fn hash_input<R: Read, T: Threads + Wait + Sync + Send + Clone + Drop + 'sta
 {
     let size = piece_length * span as u64;
     let (cutter, workers) = open(alloc, size, workers)?;
-    let fed = feed_input(
-        rt,
-        alloc,
-        reader,
-        kind,
-        piece_length,
-        tail,
-        cutter,
-        workers,
-    )?;
+    let fed = feed_input(rt, alloc, reader, kind, piece_length, tail, cutter, workers)?;
     let summed = sums_of_fed(alloc, kind, piece_length, size, fed)?;
     summed
 }

@@ -1,6 +1,6 @@
 //! A torrent with each of its bits turned.
-use crate::recheck::rechecks::OF_BOTH;
 use crate::check::telling::joined;
+use crate::recheck::rechecks::OF_BOTH;
 use std::alloc::{AllocError, Global};
 use tor_bencode::{decode, encode};
 use tor_check::validate;

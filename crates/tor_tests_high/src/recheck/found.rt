@@ -1,9 +1,9 @@
 //! What a recheck tells of the files of a torrent.
 
+use crate::check::telling::is;
 use crate::recheck::rechecks::{
     EMPTY, JOINED, NINE, OF_BOTH, OF_OTHER_ROOT, OF_OTHER_SUM, PADDED, files_of, torrent_of,
 };
-use crate::check::telling::is;
 use std::alloc::Global;
 use std::thread::Threads;
 use tor_check::Torrent;

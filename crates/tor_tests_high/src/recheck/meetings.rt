@@ -1,7 +1,7 @@
 //! Whether the workers of a recheck work at once, and what is asked of a source before they are judged.
 
-use crate::recheck::rechecks::torrent_of;
 use crate::check::telling::is;
+use crate::recheck::rechecks::torrent_of;
 use std::sync::atomic::AtomicU64;
 use std::sync::atomic::Ordering::SeqCst;
 use std::thread::{Threads, yield_now};

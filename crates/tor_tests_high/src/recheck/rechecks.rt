@@ -1,7 +1,7 @@
 //! Torrents rechecked against files in memory. The hashes are of Python's hashlib.
 
-use crate::recheck::bits::{are_read_back, is_hex};
 use crate::check::telling::{is, joined};
+use crate::recheck::bits::{are_read_back, is_hex};
 use std::alloc::{AllocError, Global};
 use std::sync::atomic::AtomicU64;
 use std::sync::atomic::Ordering::SeqCst;

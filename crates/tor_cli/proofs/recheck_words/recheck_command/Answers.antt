@@ -14,10 +14,13 @@ returns c =
     let ended =
     c.in_ok-arg-3.ensures.shape c.in_ok-flag_beside.ensures.local
     ∙ ap₂ with_rule narrowed c.in_ok-flag_beside.ensures.rule in
+    let formed =
+    c.in_ok-arg-4.ensures.shape c.in_ok-flag_without.ensures.local
+    ∙ ap₂ with_rule ended c.in_ok-flag_without.ensures.rule in
     let shared =
-    c.in_ok-arg-4.ensures.shape c.workers_option.ensures.local ∙ ap₂ with_rule ended c.workers_option.ensures.rule in
+    c.in_ok-arg-5.ensures.shape c.workers_option.ensures.local ∙ ap₂ with_rule formed c.workers_option.ensures.rule in
     let filed =
-    c.in_ok-arg-5.ensures.shape c.argument_of.ensures.local ∙ ap₂ with_rule shared c.argument_of.ensures.rule in
-    IfOk-weaker c.arg-6.result _ _
+    c.in_ok-arg-6.ensures.shape c.argument_of.ensures.local ∙ ap₂ with_rule shared c.argument_of.ensures.rule in
+    IfOk-weaker c.arg-7.result _ _
     (λ command added. added.shape c.argument_of-2.ensures.local ∙ ap₂ with_rule filed c.argument_of-2.ensures.rule)
-    c.arg-6.ensures
+    c.arg-7.ensures

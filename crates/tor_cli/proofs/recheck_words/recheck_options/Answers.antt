@@ -24,6 +24,11 @@ returns g c =
           found_flag found (codes "null") c.get_flag-3.result null c.get_flag-3.ensures.value
           c.get_flag-3.ensures.other is_null in
           c.listing_of.ensures ∙ rw (same_files, same_bad, same_null) refl;
+      form = λ json is_json.
+          let same =
+          found_flag found (codes "json") c.get_flag-4.result json c.get_flag-4.ensures.value
+          c.get_flag-4.ensures.other is_json in
+          c.form_of.ensures ∙ rw same refl;
       workers = (
         c.in_ok-get_str-3.field-0.now,
         c.in_ok-workers_of.field-0,
