@@ -212,7 +212,8 @@ def test_of_recheck(program, folder):
     # Whichever worker reads the file: calls are counted for each thread.
     rows += [('pread64:retval=0:when=1', 'C2 Changed file 1'), ('statx:error=ENOENT:when=2', 'C2 Changed file 1'),
              ('statx:error=ENOENT:when=2+', 'C2 Changed file 1')]
-    expect_faults(program, folder, ['recheck', torrent, files], files / 'b', rows)
+    for options in [[], ['--files'], ['--bad', '--null'], ['--bad', '--json']]:
+        expect_faults(program, folder, ['recheck', *options, torrent, files], files / 'b', rows)
     told, _ = traced(program, ['recheck', torrent, files], files / 'b', ['statx:error=ENOENT'], folder / 'log')
     expect_told(['recheck'], done(b'pieces 1 of 2\nbits 80\n', 1), told)
 

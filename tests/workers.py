@@ -93,7 +93,8 @@ def torrent_of_zeros(folder):
 def test_a_recheck_has_four(program, folder):
     """Where no number is given; and as many as are asked for."""
     words = torrent_of_zeros(folder)
-    for options, wanted in [([], 4), (['--files'], 4), (['--workers', '1'], 1), (['--workers=7'], 7)]:
+    for options, wanted in [([], 4), (['--files'], 4), (['--workers', '1'], 1), (['--workers=7'], 7),
+                            (['--bad', '--workers=6'], 6)]:
         most, worked, ended = watch(program, ['recheck', *options, *words])
         if (most, worked) != (wanted, wanted):
             raise Failure(f'a recheck {options}\nwanted  {wanted} threads, all of which work\n'
