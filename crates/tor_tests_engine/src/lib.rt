@@ -1,14 +1,12 @@
-//! The tests of `tor_source`, `tor_board`, `tor_lane` and `tor_engine`, in a crate of their own: a crate with tests is
-//! proved twice, and these libraries are large.
+//! The tests of `tor_source` and `tor_engine`, in a crate of their own: a crate with tests is proved twice, and these
+//! libraries are large. `tor_tests_streams` has those of readers that are read once and in order.
 //!
 //! - `memory.rt`: what sources in memory answer.
 //! - `folders.rt`: scans and reads of real folders; `systems.rt`: of a system that has what no test can make.
 //!   `readers.rt`: files that are read once and in order.
-//! - `seats`: of `tor_board`; `lane`: of `tor_lane`.
 //! - `faults.rt`: which fault a hash of files answers; `reads.rt`: what is asked of a source; `workers.rt`: how many
 //!   workers read at once; `board.rt`: workers that share a board.
 //! - `sums.rt`: roots, layers and pieces of files; `pieces.rt`: hashes of single pieces.
-//! - `streams`: what is hashed of readers that are read once and in order.
 //!
 //! `shared.rt` has paths, contents, plans, and how files are hashed.
 #![tactic(auto)]
@@ -20,8 +18,6 @@ mod faults;
 #[cfg(test)]
 mod folders;
 #[cfg(test)]
-mod lane;
-#[cfg(test)]
 mod memory;
 #[cfg(test)]
 mod pieces;
@@ -30,11 +26,7 @@ mod readers;
 #[cfg(test)]
 mod reads;
 #[cfg(test)]
-mod seats;
-#[cfg(test)]
 mod shared;
-#[cfg(test)]
-mod streams;
 #[cfg(test)]
 mod sums;
 #[cfg(test)]

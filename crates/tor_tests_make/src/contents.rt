@@ -1,7 +1,7 @@
 //! Torrents of contents in memory, whose bytes were worked out by hand from BEP 3, BEP 47 and BEP 52; each hash in
 //! hexadecimal is of Python's hashlib.
 
-use crate::make::given::{Row, Shape, are, files, is, name, repeated};
+use crate::given::{Row, Shape, are, files, is, name, repeated};
 use std::alloc::{AllocError, Global};
 use std::io::{self, Error, ErrorKind, Write};
 use tor_meta::{Hashes, Head, magnet, make_contents, write_out};

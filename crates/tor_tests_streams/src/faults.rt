@@ -1,6 +1,6 @@
 //! Readers that fail: which one, and after how many bytes.
 
-use crate::streams::shared::{Parts, Way, hash_by, reader};
+use crate::shared::{Parts, Way, hash_by, reader};
 use std::alloc::{AllocError, Global};
 use std::io::ErrorKind;
 use std::process::Abort;

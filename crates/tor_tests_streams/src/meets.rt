@@ -1,6 +1,6 @@
 //! How many workers hash at once.
 
-use crate::streams::shared::{Parts, Way, content, readers_of};
+use crate::shared::{Parts, Way, content, readers_of};
 use std::alloc::AllocError;
 use std::io;
 use std::process::Abort;

@@ -1,8 +1,8 @@
 //! Torrents of readers that are read once, by each number of workers and each cutting of the reads, and why there is
 //! none.
 
-use crate::make::contents::{ABC, EMPTY_HYBRID, EMPTY_V1, EMPTY_V2, FOLDER_HYBRID, FOLDER_V1};
-use crate::make::given::{Row, Shape, contents, is, name, paths};
+use crate::contents::{ABC, EMPTY_HYBRID, EMPTY_V1, EMPTY_V2, FOLDER_HYBRID, FOLDER_V1};
+use crate::given::{Row, Shape, contents, is, name, paths};
 use std::alloc::{AllocError, Global};
 use std::io::{self, ErrorKind, Read};
 use std::process::Abort;

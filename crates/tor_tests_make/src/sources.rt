@@ -1,7 +1,7 @@
 //! Torrents of the files of a source, and why there is none.
 
-use crate::make::contents::{ABC, EMPTY_HYBRID, EMPTY_V1, EMPTY_V2, FOLDER_HYBRID, FOLDER_V1};
-use crate::make::given::{Row, Shape, is, name, paths, source};
+use crate::contents::{ABC, EMPTY_HYBRID, EMPTY_V1, EMPTY_V2, FOLDER_HYBRID, FOLDER_V1};
+use crate::given::{Row, Shape, is, name, paths, source};
 use std::alloc::{AllocError, Global};
 use std::sync::atomic::AtomicU64;
 use std::sync::atomic::Ordering::SeqCst;

@@ -1,6 +1,6 @@
 //! Roots and layers of contents of several units.
 
-use crate::streams::shared::{Way, content, hash_by, readers_of};
+use crate::shared::{Way, content, hash_by, readers_of};
 use std::alloc::AllocError;
 use std::process::Abort;
 use std::sync::Wait;

@@ -1,6 +1,6 @@
 //! Readers that give all, few bytes a read, or a fault, and what comes of them.
-use crate::make::contents::ABC;
-use crate::make::sources::order;
+use crate::contents::ABC;
+use crate::sources::order;
 use std::alloc::{AllocError, Global};
 use std::io::{self, Error, ErrorKind, Read};
 use std::sync::Wait;

@@ -1,6 +1,6 @@
 //! The sums of small contents, by each number of workers and each cutting of the reads. Hashes are of Python's hashlib.
 
-use crate::streams::shared::{Way, hash_by, readers_of};
+use crate::shared::{Way, hash_by, readers_of};
 use std::process::Abort;
 use std::sync::Wait;
 use std::thread::Threads;

@@ -1,6 +1,6 @@
 //! That as many workers hash as an order asks for.
 
-use crate::make::sources::asked;
+use crate::sources::asked;
 use std::sync::atomic::AtomicU64;
 use std::sync::atomic::Ordering::SeqCst;
 use std::thread::{Threads, yield_now};

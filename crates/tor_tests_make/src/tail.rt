@@ -1,10 +1,10 @@
 //! Torrents whose last file with bytes has padding too (BEP 47, "padding files"), worked out by hand; each hash in
 //! hexadecimal is of Python's hashlib.
 
-use crate::make::contents::{ABC, FOLDER_V1, head, made_of};
-use crate::make::given::{Row, files, source};
-use crate::make::sources::{asked, is_each_answer, order};
-use crate::make::streams::is_made_each_way;
+use crate::contents::{ABC, FOLDER_V1, head, made_of};
+use crate::given::{Row, files, source};
+use crate::sources::{asked, is_each_answer, order};
+use crate::streams::is_made_each_way;
 use std::alloc::{AllocError, Global};
 use std::process::Abort;
 use std::sync::Wait;

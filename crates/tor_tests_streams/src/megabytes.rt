@@ -1,6 +1,6 @@
 //! The sums of contents of several megabytes. Hashes are of Python's hashlib.
 
-use crate::streams::shared::{Way, content, hash_by, readers_of};
+use crate::shared::{Way, content, hash_by, readers_of};
 use std::alloc::AllocError;
 use std::process::Abort;
 use std::sync::Wait;

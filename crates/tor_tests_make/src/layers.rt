@@ -1,8 +1,8 @@
 //! Torrents of the files of a source whose lists, roots and layers were worked out from BEP 3 and BEP 52; each hash in
 //! hexadecimal is of Python's hashlib.
 
-use crate::make::given::Row;
-use crate::make::sources::{is_made_at_once, is_made_in_steps};
+use crate::given::Row;
+use crate::sources::{is_made_at_once, is_made_in_steps};
 use std::thread::Threads;
 use tor_tree::Kind;
 
