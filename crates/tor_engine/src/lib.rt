@@ -17,8 +17,8 @@
 //!   hashed (`room.rt`) and the hashes of what came before (`hasher.rt`). `unit_sums.rt` tells what that sums up to in
 //!   the unit's files, and `joined.rt` puts together what units give.
 //! - [`hash_pieces`] (`pieces.rt`): what each piece hashes to ([`PieceHash`], `piece_hash.rt`), of files that may be
-//!   cut short or missing: `asked.rt` asks for their lengths, `present.rt` tells what is there by these, and
-//!   `piece_work.rt` hashes the pieces of a unit.
+//!   cut short or missing; [`find_pieces`] tells their lengths too. `asked.rt` asks for these, `present.rt` tells what
+//!   is there by them, and `piece_work.rt` hashes the pieces of a unit.
 //! - [`hash_streams`] (`streams.rt`): what readers sum up to that are read once and in order; [`hash_input`]
 //!   (`input.rt`): what one reader does, within the limit of an input. `feeding.rt` reads in the calling thread:
 //!   `read_streams.rt` goes to the end of each reader, and `cutter.rt` puts chunks into a lane, by `filling.rt` and
@@ -90,7 +90,7 @@ pub use how::{How, MAX_WORKERS};
 pub use input::hash_input;
 pub use lengths::ask_lengths;
 pub use piece_hash::PieceHash;
-pub use pieces::hash_pieces;
+pub use pieces::{FoundPieces, find_pieces, hash_pieces};
 pub use shares::{Share, work};
 pub use streams::{MAX_UNIT_LENGTH, hash_streams, hash_streams_with};
 pub use sums::Sums;

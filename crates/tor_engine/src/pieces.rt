@@ -1,10 +1,10 @@
-//! The pieces of a plan hashed, of files that may be cut short or missing.
+//! The pieces of a plan hashed, of files that may be cut short or missing, and the lengths of these files.
 ghost use Rattle.std.specs.Prelude.{◌≡◌, None, IfErr, IfOk, IsSome, MatchResult, OnOk, length, nat_le};
 ghost use Rattle.std.specs.List.{list_any};
 ghost use Rattle.tor_source.specs.Source.{SourceFacts};
 ghost use Rattle.tor_engine.specs.Contents.{contents_in};
 ghost use Rattle.tor_engine.specs.Fault.{IsFault};
-ghost use Rattle.tor_engine.specs.Given.{IsGivenPieces};
+ghost use Rattle.tor_engine.specs.Given.{HasTold, IsGivenPieces};
 ghost use Rattle.tor_engine.specs.How.{IsHow};
 ghost use Rattle.tor_engine.specs.PieceFault.{first_asked_fault, first_piece_fault, lengths_told};
 ghost use Rattle.tor_engine.specs.PieceHashes.{piece_hashes, pieces_of_plan};
@@ -26,6 +26,15 @@ use tor_plan::{Forest, Part, Plan, PlanUnit};
 use tor_source::Source;
 use tor_v1::PieceSums;
 use tor_v1::laws::length_of_sums;
+
+/// What pieces hash to, and the lengths by which they were there.
+#[derive(Drop)]
+pub struct FoundPieces {
+    /// What each piece of the plan hashes to, in their order, and none where some byte of it is not there.
+    pub hashes: Vec<Option<PieceHash>>,
+    /// The length in bytes of each file of the plan, in their order, and none of one that is missing.
+    pub lengths: Vec<Option<u64>>,
+}
 
 /// What each piece of the plan hashes to, in their order, and none where some byte of it is not there: file i of the
 /// plan is file i of the source, which may be missing, or have another length. First every length is asked, in the
@@ -49,6 +58,34 @@ pub fn hash_pieces<S: Source, R: Threads + Sync>(
     ensures gave { IfErr result (IsGivenPieces (S.gave source.now) (S.told source.now) (S.ended source.now)
         (length plan.now.lengths)) }
 {
+    match find_pieces(rt, alloc, source, plan, how) {
+        Ok(found) => Ok(found.hashes),
+        Err(error) => Err(error),
+    }
+}
+
+/// The same, and the lengths that were told of the files, by which their pieces were there. Of a source that is not
+/// steady too, each of these was told when it was asked first, and again after all was read.
+pub fn find_pieces<S: Source, R: Threads + Sync>(
+    rt: &R,
+    alloc: Global,
+    source: &S,
+    plan: &Plan,
+    how: How,
+) -> Result<FoundPieces, EngineError<S::Fault>>
+    requires { IsHow how }
+    ensures hashed { (facts : SourceFacts S.Fault) → S.is_steady source.now facts →
+        MatchResult result
+        (λ found. (found.hashes.items ≡ piece_hashes plan.now (contents_in facts (length plan.now.lengths)))
+        × (found.lengths.items ≡ lengths_told facts (length plan.now.lengths))
+        × (first_piece_fault facts plan.now ≡ None))
+        (IsFault (first_piece_fault facts plan.now)) }
+    ensures told { IfOk result (λ found. HasTold (S.told source.now) found.lengths.items) }
+    ensures counted { IfOk result (λ found. (length found.hashes.items ≡ length (pieces_of_plan plan.now))
+        × (length found.lengths.items ≡ length plan.now.lengths)) }
+    ensures gave { IfErr result (IsGivenPieces (S.gave source.now) (S.told source.now) (S.ended source.now)
+        (length plan.now.lengths)) }
+{
     let lengths = match ask_each(alloc, source, plan.lengths().len()) {
         Ok(lengths) => lengths,
         Err(error) => return Err(error),
@@ -58,7 +95,13 @@ pub fn hash_pieces<S: Source, R: Threads + Sync>(
         lengths,
         padding_sum,
     };
-    hash_known(rt, alloc, source, plan, &known, how)
+    match hash_known(rt, alloc, source, plan, &known, how) {
+        Ok(hashes) => Ok(FoundPieces {
+            hashes,
+            lengths: known.lengths,
+        }),
+        Err(error) => Err(error),
+    }
 }
 
 /// The hashes of the pieces, where the lengths of all files were told: those pieces are read that are wholly there, and

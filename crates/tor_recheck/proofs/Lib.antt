@@ -24,7 +24,7 @@ pub mod RecheckFaults
 pub mod Rechecked
 pub mod FileBits
 pub mod HeldPieces
-pub mod LengthsAsked
+pub mod FoundLengths
 pub mod SpanSteps
 pub mod FileStates
 pub mod HeldLaws

@@ -13,8 +13,8 @@
 //! - [`recheck`] (`rechecking.rt`): a bit for each piece of a torrent, or a [`RecheckError`] (`errors.rt`). `told.rt`
 //!   has the hashes that the torrent gives, by which `judge.rt` judges those of the files.
 //! - [`recheck_files`] (`rechecking_files.rt`): the same bits, and what is told of each file ([`FileFound`],
-//!   [`FileState`]), as [`files_of`] (`files.rt`) tells it by the pieces that hold and by the lengths that are there
-//!   (`lengths.rt`). `spans.rt` has which pieces have bytes of a file.
+//!   [`FileState`]), as [`files_of`] (`files.rt`) tells it by the pieces that hold and by the lengths that are there.
+//!   `spans.rt` has which pieces have bytes of a file.
 //! - [`Bits`] (`bits.rt`): one bit a piece, piece 0 first, and as the bitfield of BEP 3 ("peer messages").
 //! - [`laws`]: what follows from the definitions alone.
 #![tactic(auto)]
@@ -24,7 +24,6 @@ mod errors;
 mod files;
 mod judge;
 pub mod laws;
-mod lengths;
 mod rechecking;
 mod rechecking_files;
 mod spans;

@@ -1,7 +1,9 @@
 //! A torrent's pieces looked for in the files of a source.
 ghost use Rattle.std.specs.Prelude.{◌≡◌, ◌≢◌, None, Err, IfErr, IfOk, MatchResult, OnOk, length, map};
 ghost use Rattle.tor_engine.specs.Contents.{contents_in};
+ghost use Rattle.tor_engine.specs.Given.{HasTold};
 ghost use Rattle.tor_engine.specs.How.{IsHow};
+ghost use Rattle.tor_engine.specs.PieceFault.{lengths_told};
 ghost use Rattle.tor_plan.specs.PlanFacts.{plan_of_entries};
 ghost use Rattle.tor_recheck.specs.Pieces.{IsCut, entries_to_cut};
 ghost use Rattle.tor_recheck.specs.Recheck.{IsFault, IsGiven, first_fault};
@@ -18,7 +20,7 @@ use crate::judge::judge;
 use std::alloc::{AllocError, Global};
 use std::thread::Threads;
 use tor_check::{Torrent, ViewFile};
-use tor_engine::{How, PieceHash, hash_pieces};
+use tor_engine::{FoundPieces, How, find_pieces};
 use tor_plan::Plan;
 use tor_source::Source;
 use tor_v1::Entry;
@@ -49,29 +51,33 @@ pub fn recheck<S: Source, R: Threads + Sync>(
     ensures gave { IfErr result
         (IsGiven (S.gave source.now) (S.told source.now) (S.ended source.now) (length torrent.now.files)) }
 {
-    let hashes = match hashes_of(rt, alloc, source, torrent, how) {
-        Ok(hashes) => hashes,
+    let found = match found_in(rt, alloc, source, torrent, how) {
+        Ok(found) => found,
         Err(error) => return Err(error),
     };
-    let bits = judge(alloc, torrent, &hashes)?;
+    let bits = judge(alloc, torrent, &found.hashes)?;
     Ok(bits)
 }
 
-/// What each piece hashes to, and none where some byte of it is not there.
-pub(crate) fn hashes_of<S: Source, R: Threads + Sync>(
+/// What each piece hashes to, and none where some byte of it is not there; and the lengths by which that is known, of
+/// the torrent's files in their order.
+pub(crate) fn found_in<S: Source, R: Threads + Sync>(
     rt: &R,
     alloc: Global,
     source: &S,
     torrent: &Torrent,
     how: How,
-) -> Result<Vec<Option<PieceHash>>, RecheckError<S::Fault>>
+) -> Result<FoundPieces, RecheckError<S::Fault>>
     ensures workers { (IsHow how → ⊥) → result ≡ Err Workers }
     ensures hashed { IsHow how → (facts : SourceFacts S.Fault) → S.is_steady source.now facts →
         MatchResult result
-        (λ hashes. (hashes.items ≡ hashes_in torrent.now (contents_in facts (length torrent.now.files)))
+        (λ found. (found.hashes.items ≡ hashes_in torrent.now (contents_in facts (length torrent.now.files)))
+        × (found.lengths.items ≡ lengths_told facts (length torrent.now.files))
         × (first_fault facts torrent.now ≡ None))
         (IsFault (first_fault facts torrent.now)) }
-    ensures counted { IfOk result (λ hashes. length hashes.items ≡ torrent.now.piece_count) }
+    ensures told { IfOk result (λ found. HasTold (S.told source.now) found.lengths.items) }
+    ensures counted { IfOk result (λ found. (length found.hashes.items ≡ torrent.now.piece_count)
+        × (length found.lengths.items ≡ length torrent.now.files)) }
     ensures cut { OnOk result (IsCut torrent.now) }
     ensures allowed { IsHow how → IfErr result (λ error. error ≢ Workers) }
     ensures gave { IfErr result
@@ -81,8 +87,8 @@ pub(crate) fn hashes_of<S: Source, R: Threads + Sync>(
         return Err(RecheckError::Workers);
     }
     let plan = plan_of(alloc, torrent)?;
-    match hash_pieces(rt, alloc, source, &plan, how) {
-        Ok(hashes) => Ok(hashes),
+    match find_pieces(rt, alloc, source, &plan, how) {
+        Ok(found) => Ok(found),
         Err(error) => Err(error.into()),
     }
 }

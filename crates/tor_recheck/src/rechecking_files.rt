@@ -14,8 +14,7 @@ use crate::bits::Bits;
 use crate::errors::RecheckError;
 use crate::files::{FileFound, files_of};
 use crate::judge::{judge, judge_held};
-use crate::lengths::lengths_of;
-use crate::rechecking::hashes_of;
+use crate::rechecking::found_in;
 use std::alloc::Global;
 use std::thread::Threads;
 use tor_check::Torrent;
@@ -32,9 +31,9 @@ pub struct Findings {
 }
 
 /// Which pieces of the torrent are there and right, as [`recheck`](crate::recheck) tells, and which of its files: by
-/// version 2 where the torrent has it, so that a piece of a hybrid whose SHA-1 alone departs leaves its file whole. The
-/// lengths that are told of the files are asked once more, after all that `recheck` asks and reads. Refusals and faults
-/// are those of `recheck`.
+/// version 2 where the torrent has it, so that a piece of a hybrid whose SHA-1 alone departs leaves its file whole. It
+/// asks and reads what `recheck` does: the lengths that are told of the files are those by which their pieces were
+/// there. Refusals and faults are those of `recheck`.
 pub fn recheck_files<S: Source, R: Threads + Sync>(
     rt: &R,
     alloc: Global,
@@ -57,16 +56,12 @@ pub fn recheck_files<S: Source, R: Threads + Sync>(
     ensures gave { IfErr result
         (IsGiven (S.gave source.now) (S.told source.now) (S.ended source.now) (length torrent.now.files)) }
 {
-    let hashes = match hashes_of(rt, alloc, source, torrent, how) {
-        Ok(hashes) => hashes,
+    let found = match found_in(rt, alloc, source, torrent, how) {
+        Ok(found) => found,
         Err(error) => return Err(error),
     };
-    let lengths = match lengths_of(alloc, source, torrent.files().len()) {
-        Ok(lengths) => lengths,
-        Err(error) => return Err(error),
-    };
-    let bits = judge(alloc, torrent, &hashes)?;
-    let held = judge_held(alloc, torrent, &hashes)?;
-    let files = files_of(alloc, torrent, &held, &lengths)?;
+    let bits = judge(alloc, torrent, &found.hashes)?;
+    let held = judge_held(alloc, torrent, &found.hashes)?;
+    let files = files_of(alloc, torrent, &held, &found.lengths)?;
     Ok(Findings { bits, files })
 }

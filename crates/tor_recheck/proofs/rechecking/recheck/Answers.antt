@@ -6,17 +6,17 @@ use Rattle.tor_recheck.proofs.rechecking.recheck.Goals as goal
 pub returns-clause-found : goal.returns-clause-found
 returns-clause-found g c = λ how facts steady.
     let view = c.args.torrent.now in
-    let hashed = c.in-Ok.ensures.hashed how facts steady in (
+    let found = c.in-Ok.ensures.hashed how facts steady in (
       c.in_ok-bits.ensures
           ∙ ap (all_judged view) c.deref.ensures.value
-          ∙ judged_is_verified view (contents_in facts (length view.files)) c.in-Ok.ensures.cut c.in-Ok.hashes.items
-          hashed.0,
-      hashed.1,
+          ∙ judged_is_verified view (contents_in facts (length view.files)) c.in-Ok.ensures.cut c.in-Ok.found.hashes.items
+          found.0,
+      found.1.1,
     )
 
 pub returns-clause-counted : goal.returns-clause-counted
 returns-clause-counted g c =
     let view = c.args.torrent.now in
     ap length (c.in_ok-bits.ensures ∙ ap (all_judged view) c.deref.ensures.value)
-    ∙ count_of_judged view c.in-Ok.hashes.items
-    ∙ c.in-Ok.ensures.counted
+    ∙ count_of_judged view c.in-Ok.found.hashes.items
+    ∙ c.in-Ok.ensures.counted.0

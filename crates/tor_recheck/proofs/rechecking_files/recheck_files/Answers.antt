@@ -1,8 +1,8 @@
 -- the hashes, the lengths, and what these tell of the files
 use Rattle.tor_recheck.proofs.Names.{◌≡◌, ◌∙◌, ℕ, List, Option, ap, ap₂, length, map, subst, sym, contents_in, all_held}
-use Rattle.tor_recheck.proofs.Names.{all_judged, file_spans, files_found, lengths_told, FileFound, FileView, HasTold}
+use Rattle.tor_recheck.proofs.Names.{all_judged, file_spans, files_found, FileFound, HasTold}
 use Rattle.tor_recheck.proofs.HeldPieces.{judged_is_held}
-use Rattle.tor_recheck.proofs.LengthsAsked.{lengths_kept}
+use Rattle.tor_recheck.proofs.FoundLengths.{lengths_kept}
 use Rattle.tor_recheck.proofs.Rechecked.{count_of_judged, judged_is_verified}
 use Rattle.tor_recheck.proofs.SpanSteps.{spans_are_counted}
 use Rattle.tor_recheck.proofs.rechecking_files.recheck_files.Goals as goal
@@ -12,38 +12,34 @@ returns-clause-found g c = λ how facts steady.
     let view = c.args.torrent.now in
     let cut = c.in-Ok.ensures.cut in
     let contents = contents_in facts (length view.files) in
-    let hashes = c.in-Ok.hashes.items in
-    let hashed = c.in-Ok.ensures.hashed how facts steady in
+    let hashes = c.in-Ok.found.hashes.items in
+    let found = c.in-Ok.ensures.hashed how facts steady in
     let bits = c.in_ok-bits.ensures
     ∙ ap (all_judged view) c.deref.ensures.value
-    ∙ judged_is_verified view contents cut hashes hashed.0 in
+    ∙ judged_is_verified view contents cut hashes found.0 in
     let held = c.in_ok-held.ensures
     ∙ ap (all_held view) c.deref-2.ensures.value
-    ∙ judged_is_held view contents cut hashes hashed.0 in
-    let lengths = c.deref-3.ensures.value
-    ∙ c.in-Ok-lengths_of.ensures.steady facts steady
-    ∙ ap (λ (files : List FileView). lengths_told facts (length files)) c.files.ensures.value in
-    (bits, c.in_ok-files.ensures.found ∙ ap₂ (files_found view) lengths held, hashed.1)
+    ∙ judged_is_held view contents cut hashes found.0 in
+    let lengths = c.deref-3.ensures.value ∙ found.1.0 in
+    (bits, c.in_ok-files.ensures.found ∙ ap₂ (files_found view) lengths held, found.1.1)
 
 pub returns-clause-counted : goal.returns-clause-counted
 returns-clause-counted g c =
     let view = c.args.torrent.now in (
       ap length (c.in_ok-bits.ensures ∙ ap (all_judged view) c.deref.ensures.value)
-          ∙ count_of_judged view c.in-Ok.hashes.items
-          ∙ c.in-Ok.ensures.counted,
+          ∙ count_of_judged view c.in-Ok.found.hashes.items
+          ∙ c.in-Ok.ensures.counted.0,
       c.in_ok-files.ensures.counted,
     )
 
 pub returns-clause-told : goal.returns-clause-told
 returns-clause-told g c =
     let view = c.args.torrent.now in
-    let lengths = c.in-Ok-lengths_of.lengths.items in
+    let lengths = c.in-Ok.found.lengths.items in
     let count : length lengths ≡ length (file_spans view) =
-    c.in-Ok-lengths_of.ensures.counted
-    ∙ ap length c.files.ensures.value
-    ∙ sym (spans_are_counted view c.in-Ok.ensures.cut) in
+    c.in-Ok.ensures.counted.1 ∙ sym (spans_are_counted view c.in-Ok.ensures.cut) in
     let told = ap (map (λ (file : FileFound). file.there)) (c.in_ok-files.ensures.found
     ∙ ap (λ (sizes : List (Option ℕ)). files_found view sizes c.in_ok-held.held) c.deref-3.ensures.value)
     ∙ lengths_kept view lengths c.in_ok-held.held count in
     subst (λ (sizes : List (Option ℕ)). HasTold (g.S.Source.told c.args.source.now) sizes) (sym told)
-    c.in-Ok-lengths_of.ensures.told
+    c.in-Ok.ensures.told

@@ -1,12 +1,18 @@
--- the plan, and what its pieces hash to
+-- the plan, what its pieces hash to, and the lengths of its files
 use Rattle.tor_recheck.proofs.Names.{[], ℕ, length, ap, subst, sym, ◌∙◌, contents_in, IsGivenPieces, first_piece_fault}
 use Rattle.tor_recheck.proofs.Names.{piece_hashes, pieces_of_plan, PlanFacts, plan_of_entries, entries_to_cut, IsFault}
-use Rattle.tor_recheck.proofs.Names.{IsGiven, first_fault}
+use Rattle.tor_recheck.proofs.Names.{◌≡◌, IsCut, IsGiven, View, first_fault, lengths_told}
 use Rattle.tor_recheck.proofs.ProvedLaws.{pieces_are_counted}
 use Rattle.tor_recheck.proofs.RecheckFaults.{given_of, no_fault, same_fault}
 use Rattle.tor_recheck.proofs.Rechecked.{count_is, pieces_are}
 use Rattle.tor_engine.specs.Fault as engine
-use Rattle.tor_recheck.proofs.rechecking.hashes_of.Goals as goal
+use Rattle.tor_recheck.proofs.rechecking.found_in.Goals as goal
+
+-- the plan has the files of the torrent
+count_of_plan : {plan : PlanFacts} (view : View) (cut : IsCut view)
+    → plan ≡ plan_of_entries view.kind view.piece_length 16 (entries_to_cut view)
+    → length plan.lengths ≡ length view.files
+count_of_plan view cut planned = ap (λ (p : PlanFacts). length p.lengths) planned ∙ count_is view [] cut
 
 pub returns-clause-hashed : goal.returns-clause-hashed
 returns-clause-hashed g c = λ how facts steady.
@@ -23,27 +29,31 @@ returns-in-Ok-clause-hashed g c = λ how facts steady.
     let cut = c.in_ok-plan.ensures.cut in
     let planned = c.in_ok-plan.ensures.planned in
     let plan = plan_of_entries view.kind view.piece_length 16 (entries_to_cut view) in
-    let hashed = c.in-Ok.ensures.hashed facts steady in (
-      hashed.0
+    let found = c.in-Ok.ensures.hashed facts steady in (
+      found.0
           ∙ ap (λ (p : PlanFacts). piece_hashes p (contents_in facts (length p.lengths))) planned
           ∙ ap (λ n. piece_hashes plan (contents_in facts n)) (count_is view [] cut),
-      no_fault facts view cut (sym (ap (first_piece_fault facts) planned) ∙ hashed.1),
+      found.1.0 ∙ ap (lengths_told facts) (count_of_plan view cut planned),
+      no_fault facts view cut (sym (ap (first_piece_fault facts) planned) ∙ found.1.1),
     )
 
 pub returns-in-Ok-clause-counted : goal.returns-in-Ok-clause-counted
 returns-in-Ok-clause-counted g c =
     let view = c.args.torrent.now in
     let cut = c.in_ok-plan.ensures.cut in
-    c.in-Ok.ensures.counted
-    ∙ ap (λ (p : PlanFacts). length (pieces_of_plan p)) c.in_ok-plan.ensures.planned
-    ∙ ap length (pieces_are view [] cut)
-    ∙ pieces_are_counted view cut
+    let planned = c.in_ok-plan.ensures.planned in (
+      c.in-Ok.ensures.counted.0
+          ∙ ap (λ (p : PlanFacts). length (pieces_of_plan p)) planned
+          ∙ ap length (pieces_are view [] cut)
+          ∙ pieces_are_counted view cut,
+      c.in-Ok.ensures.counted.1 ∙ count_of_plan view cut planned,
+    )
 
 pub returns-clause-gave : goal.returns-clause-gave
 returns-clause-gave g c =
     let view = c.args.torrent.now in
     let cut = c.in_ok-plan.ensures.cut in
-    let count = ap (λ (p : PlanFacts). length p.lengths) c.in_ok-plan.ensures.planned ∙ count_is view [] cut in
+    let count = count_of_plan view cut c.in_ok-plan.ensures.planned in
     let gave = g.S.Source.gave c.args.source.now in
     let told = g.S.Source.told c.args.source.now in
     let ended = g.S.Source.ended c.args.source.now in

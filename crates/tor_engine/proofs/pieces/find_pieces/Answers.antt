@@ -2,7 +2,7 @@
 use Rattle.std.proofs.Common.{length, ap, sym, ◌∙◌}
 use Rattle.tor_engine.specs.PieceFault.{first_asked_fault, lengths_told}
 use Rattle.tor_engine.proofs.GivenAnswers.{pieces_answer}
-use Rattle.tor_engine.proofs.pieces.hash_pieces.Goals as goal
+use Rattle.tor_engine.proofs.pieces.find_pieces.Goals as goal
 
 pub hash_known-requires-clause-counted : goal.hash_known-requires-clause-counted
 hash_known-requires-clause-counted g c = λ κs lives. c.in-Ok.ensures.counted ∙ ap length c.lengths.ensures
