@@ -1,5 +1,5 @@
-//! The tests of what `tor_engine` makes of readers that are read once and in order, in a crate of their own: a crate with
-//! tests is proved twice.
+//! The tests of what `tor_engine` makes of readers that are read once and in order, in a crate of their own: a crate
+//! with tests is proved twice.
 //!
 //! - `rows.rt`: the sums of small contents, by each number of workers and each cutting of the reads.
 //! - `trees.rt`: roots and layers of contents of several units; `megabytes.rt`: the sums of larger ones.

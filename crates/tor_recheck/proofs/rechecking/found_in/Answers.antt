@@ -33,8 +33,8 @@ returns-in-Ok-clause-hashed g c = λ how facts steady.
       found.0
           ∙ ap (λ (p : PlanFacts). piece_hashes p (contents_in facts (length p.lengths))) planned
           ∙ ap (λ n. piece_hashes plan (contents_in facts n)) (count_is view [] cut),
-      found.1.0 ∙ ap (lengths_told facts) (count_of_plan view cut planned),
-      no_fault facts view cut (sym (ap (first_piece_fault facts) planned) ∙ found.1.1),
+      found.1 ∙ ap (lengths_told facts) (count_of_plan view cut planned),
+      no_fault facts view cut (sym (ap (first_piece_fault facts) planned) ∙ found.2),
     )
 
 pub returns-in-Ok-clause-counted : goal.returns-in-Ok-clause-counted

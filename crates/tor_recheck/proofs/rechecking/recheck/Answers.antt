@@ -11,7 +11,7 @@ returns-clause-found g c = λ how facts steady.
           ∙ ap (all_judged view) c.deref.ensures.value
           ∙ judged_is_verified view (contents_in facts (length view.files)) c.in-Ok.ensures.cut c.in-Ok.found.hashes.items
           found.0,
-      found.1.1,
+      found.2,
     )
 
 pub returns-clause-counted : goal.returns-clause-counted

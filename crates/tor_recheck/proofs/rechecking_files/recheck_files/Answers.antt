@@ -20,8 +20,8 @@ returns-clause-found g c = λ how facts steady.
     let held = c.in_ok-held.ensures
     ∙ ap (all_held view) c.deref-2.ensures.value
     ∙ judged_is_held view contents cut hashes found.0 in
-    let lengths = c.deref-3.ensures.value ∙ found.1.0 in
-    (bits, c.in_ok-files.ensures.found ∙ ap₂ (files_found view) lengths held, found.1.1)
+    let lengths = c.deref-3.ensures.value ∙ found.1 in
+    (bits, c.in_ok-files.ensures.found ∙ ap₂ (files_found view) lengths held, found.2)
 
 pub returns-clause-counted : goal.returns-clause-counted
 returns-clause-counted g c =
