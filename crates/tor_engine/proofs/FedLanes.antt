@@ -1,5 +1,5 @@
 -- What the threads of a lane leave, and what it sums up to.
-use Rattle.std.proofs.Common.{◌≡◌, ◌<◌, ◌≤◌, ◌*◌, ◌∙◌, ℕ, Bool, List, length, Result, Ok, Err, IfOk, Vec, arith, ap}
+use Rattle.std.proofs.Common.{◌≡◌, ◌<◌, ◌≤◌, ◌*◌, ◌∙◌, ℕ, Bool, List, length, Result, Ok, Err, IfOk, Vec, arith}
 use Rattle.std.proofs.Common.{mul-pos, subst, sym}
 use Rattle.std.specs.Prelude.{IfErr, IsOk, IsOkAnd, MatchResult}
 use Rattle.std.specs.List.{AllByRecursion}
@@ -31,18 +31,20 @@ SumUp kind tail p Gives sums =
 module _ {F : Type 0} (kind : Kind) (tail : Bool) (p size : ℕ) (Gives : List (List ℕ) → Type 0) (Stops : F → Type 0)
   where
     -- the marks come after all that was put
-    pub is_fed : (first mid ended : Feeder) (fed : Fed F) → FeedsLaneOf first mid → FeedsLaneOf mid ended
-        → IsEnded ended → put_by ended ≡ put_by mid → fed.feeder ≡ ended → AreDone kind p first fed.workers.items
-        → IfOk fed.read (λ lengths. (contents : List (List ℕ)) × Gives contents
+    pub is_fed : (first mid : Feeder) (read : Result (Vec ℕ Global) F) (fed : Fed F) → FeedsLaneOf first mid
+        → FeedsLaneOf mid fed.feeder → IsEnded fed.feeder → put_by fed.feeder ≡ put_by mid → fed.read ≡ read
+        → AreDone kind p first fed.workers.items
+        → IfOk read (λ lengths. (contents : List (List ℕ)) × Gives contents
         × PutsContents kind tail p size contents lengths.items (put_by mid))
-        → IfErr fed.read Stops → IsFed kind tail p size Gives Stops fed
-    is_fed first mid ended fed lane later is_end put same done read stops = record {
-      done = same_lane kind p first fed.feeder
-          (subst (FeedsLaneOf first) (sym same) (later.0 ∙ lane.0, later.1 ∙ lane.1)) fed.workers.items done;
-      ended = subst IsEnded (sym same) is_end;
-      put = subst (λ (chunks : List Chunk). IfOk fed.read (λ lengths. (contents : List (List ℕ)) × Gives contents
-          × PutsContents kind tail p size contents lengths.items chunks)) (sym put ∙ ap put_by (sym same)) read;
-      stopped = stops;
+        → IfErr read Stops → IsFed kind tail p size Gives Stops fed
+    is_fed first mid read fed lane later is_end put same done reads stops = record {
+      done = same_lane kind p first fed.feeder (later.0 ∙ lane.0, later.1 ∙ lane.1) fed.workers.items done;
+      ended = is_end;
+      put = subst (λ (r : Result (Vec ℕ Global) F). IfOk r (λ lengths. (contents : List (List ℕ)) × Gives contents
+          × PutsContents kind tail p size contents lengths.items (put_by fed.feeder))) (sym same)
+          (subst (λ (chunks : List Chunk). IfOk read (λ lengths. (contents : List (List ℕ)) × Gives contents
+          × PutsContents kind tail p size contents lengths.items chunks)) (sym put) reads);
+      stopped = subst (λ (r : Result (Vec ℕ Global) F). IfErr r Stops) (sym same) stops;
     }
 
     module _ (fed : Fed F) (is : IsFed kind tail p size Gives Stops fed) where

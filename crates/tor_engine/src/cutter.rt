@@ -2,7 +2,7 @@
 ghost use Rattle.std.specs.Prelude.{◌≡◌, ◌+◌, ◌<◌, ◌≤◌, ◌++◌, ◌∷◌, [], ℕ, List, None, IfErr, IfOk, OnOk};
 ghost use Rattle.std.specs.Prelude.{length, take, vec_len};
 ghost use Rattle.std.specs.Io.KnownBytes.{Consumes, IsAtEnd};
-ghost use Rattle.tor_lane.specs.Lane.{FeedsLaneOf, IsEnded, IsOpen, put_by};
+ghost use Rattle.tor_lane.specs.Lane.{FeedsLaneOf, IsOpen, put_by};
 ghost use Rattle.tor_merkle.specs.declared.TheConstants.{MAX_LENGTH};
 ghost use Rattle.tor_plan.specs.PlanFacts.{IsPlanPieceLength};
 ghost use Rattle.tor_source.specs.Filling.{EndsFill};
@@ -62,16 +62,6 @@ impl Cutter {
             zeros: 0,
             next: 0,
         })
-    }
-
-    /// Puts the marks at which the takers stop.
-    pub(crate) fn end<T: Wait>(&mut self, rt: &T)
-        requires { IsOpen self.old.feeder }
-        ensures ended { IsEnded self.new.feeder }
-        ensures put { put_by self.new.feeder ≡ put_by self.old.feeder }
-        ensures lane { FeedsLaneOf self.old.feeder self.new.feeder }
-    {
-        self.feeder.end(rt);
     }
 
     /// Reads a reader to its end, of which no more than `limit` bytes may come, and answers how long its content is.

@@ -1,6 +1,7 @@
 //! A lane whose feeder reads in the calling thread, while its workers take and hash in others.
 ghost use Rattle.std.specs.Prelude.{◌≡◌, ◌*◌, ◌<◌, ◌≤◌, [], ℕ, IfErr, IfOk, map};
 ghost use Rattle.std.specs.Thread.{IsSync};
+ghost use Rattle.tor_lane.specs.Lane.{FeedsLaneOf, IsEnded, IsOpen, put_by};
 ghost use Rattle.tor_lane.specs.declared.feeder.Feeder.{Feeder};
 ghost use Rattle.tor_plan.specs.PlanFacts.{IsPlanPieceLength};
 ghost use Rattle.tor_engine.specs.Streams.{GiveContents, IsFaultOfReaders};
@@ -20,7 +21,7 @@ use std::io::{self, Read};
 use std::snapshot::Snapshot;
 use std::sync::Wait;
 use std::thread;
-use std::thread::{Promise, Threads};
+use std::thread::{Promise, PromisedHandle, Threads};
 use tor_lane::{Feeder, lane};
 use tor_source::InputFault;
 use tor_tree::Kind;
@@ -32,19 +33,6 @@ pub(crate) struct Fed<F> {
     pub(crate) read: Result<Vec<u64>, F>,
     pub(crate) feeder: Feeder,
     pub(crate) workers: Vec<StreamWorker>,
-}
-
-impl<F> Fed<F> {
-    fn new(read: Result<Vec<u64>, F>, cutter: Cutter, workers: Vec<StreamWorker>) -> Fed<F>
-        ensures { result ≡ record { read = read; feeder = cutter.feeder; workers = workers } }
-    {
-        let Cutter { feeder, .. } = cutter;
-        Fed {
-            read,
-            feeder,
-            workers,
-        }
-    }
 }
 
 /// A cutter of units of `size` bytes over a new lane, and so many workers that take them.
@@ -72,6 +60,19 @@ struct Workers {
     feeder: Snapshot<Feeder>,
     kind: Kind,
     piece_length: u64,
+}
+
+impl Workers {
+    fn of(cutter: &Cutter, kind: Kind, piece_length: u64) -> Workers
+        ensures { let told : Kind × ℕ × Feeder = (result.kind, result.piece_length, result.feeder.value) in
+            told ≡ (kind, piece_length, cutter.now.feeder) }
+    {
+        Workers {
+            feeder: Snapshot::of(&cutter.feeder),
+            kind,
+            piece_length,
+        }
+    }
 }
 
 impl Promise<Vec<StreamWorker>> for Workers {
@@ -112,11 +113,7 @@ pub(crate) fn feed_readers<G: Gate + Sync, R: Read + Drop, T: Threads + Wait + S
                 IfOk result (IsFed kind tail piece_length size (GiveContents (map R.remaining readers.items))
                 (IsFaultOfReaders (map R.remaining readers.items))) }
         {
-            let promise = Workers {
-                feeder: Snapshot::of(&cutter.feeder),
-                kind,
-                piece_length,
-            };
+            let promise = Workers::of(&cutter, kind, piece_length);
             match scope.spawn_with(
                 promise,
                 move || -> Vec<StreamWorker>
@@ -127,9 +124,7 @@ pub(crate) fn feed_readers<G: Gate + Sync, R: Read + Drop, T: Threads + Wait + S
             ) {
                 Ok(handle) => {
                     let read = read_each(rt, alloc, kind, piece_length, tail, readers, &mut cutter);
-                    cutter.end(rt);
-                    let workers = handle.join(rt);
-                    Ok(Fed::new(read, cutter, workers))
+                    Ok(ended(rt, read, cutter, handle))
                 }
                 Err(_) => Err(AllocError),
             }
@@ -159,11 +154,7 @@ pub(crate) fn feed_input<R: Read, T: Threads + Wait + Sync + Send + Clone + Drop
 {
     let mut cutter = cutter;
     let own = rt.clone()?;
-    let promise = Workers {
-        feeder: Snapshot::of(&cutter.feeder),
-        kind,
-        piece_length,
-    };
+    let promise = Workers::of(&cutter, kind, piece_length);
     match thread::spawn_with(
         rt,
         promise,
@@ -175,11 +166,34 @@ pub(crate) fn feed_input<R: Read, T: Threads + Wait + Sync + Send + Clone + Drop
     ) {
         Ok(handle) => {
             let read = read_input(rt, alloc, kind, piece_length, tail, reader, &mut cutter);
-            cutter.end(rt);
-            let workers = handle.join(rt);
-            Ok(Fed::new(read, cutter, workers))
+            Ok(ended(rt, read, cutter, handle))
         }
         Err(_) => Err(AllocError),
+    }
+}
+
+/// Puts the marks after what was read, and waits for the workers' thread.
+fn ended<F, T: Threads + Wait>(
+    rt: &T,
+    read: Result<Vec<u64>, F>,
+    cutter: Cutter,
+    handle: PromisedHandle<Vec<StreamWorker>, Workers>,
+) -> Fed<F>
+    requires { IsOpen cutter.feeder }
+    ensures read { result.read ≡ read }
+    ensures ended { IsEnded result.feeder }
+    ensures put { put_by result.feeder ≡ put_by cutter.feeder }
+    ensures lane { FeedsLaneOf cutter.feeder result.feeder }
+    ensures done { AreDone handle.promise.kind handle.promise.piece_length handle.promise.feeder.value
+        result.workers.items }
+{
+    let Cutter { mut feeder, .. } = cutter;
+    feeder.end(rt);
+    let workers = handle.join(rt);
+    Fed {
+        read,
+        feeder,
+        workers,
     }
 }
 

@@ -1,4 +1,4 @@
-use Rattle.std.proofs.Common.{◌≡◌, ◌∙◌, List, length, ap, subst, sym}
+use Rattle.std.proofs.Common.{◌∙◌, length, ap, subst, sym}
 use Rattle.std.specs.List.{AllByRecursion}
 use Rattle.tor_engine.specs.steps.StreamWorkers.{AreDone, IsWorkerOf}
 use Rattle.tor_engine.proofs.StreamWorkers.{written_whole}

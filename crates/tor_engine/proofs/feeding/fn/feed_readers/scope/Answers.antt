@@ -1,16 +1,16 @@
 -- the workers end at their marks
-use Rattle.std.proofs.Common.{map, sym, subst, refl}
+use Rattle.std.proofs.Common.{ℕ, map, sym, subst}
 use Rattle.tor_lane.specs.declared.feeder.Feeder.{Feeder}
+use Rattle.tor_tree.specs.declared.kinds.Kind.{Kind}
 use Rattle.tor_engine.specs.declared.feeding.Workers.{Workers}
 use Rattle.tor_engine.specs.Streams.{GiveContents, IsFaultOfReaders}
-use Rattle.tor_engine.specs.steps.Fed.{IsFed}
 use Rattle.tor_engine.specs.steps.StreamWorkers.{AreDone}
 use Rattle.tor_engine.proofs.FedLanes.{is_fed}
 use Rattle.tor_engine.proofs.feeding.fn.feed_readers.scope.Goals as goal
 
 pub spawn_with-requires-clause-keeps : goal.spawn_with-requires-clause-keeps
 spawn_with-requires-clause-keeps g c κs within = λ r done.
-    subst (λ (f : Feeder). AreDone c.captures.kind c.captures.piece_length f r.items) (sym c.of.ensures)
+    subst (λ (q : Kind × ℕ × Feeder). AreDone q.0 q.1 q.2 r.items) (sym c.of-promise.ensures)
     (done c.captures.cutter.feeder c.requires.4)
 
 pub returns-in-Ok : goal.returns-in-Ok
@@ -19,10 +19,10 @@ returns-in-Ok g c = λ size some ready.
     let p = c.captures.piece_length in
     let known = map g.R.Read.remaining c.captures.readers.items in
     let read = c.read_each-read.ensures in
-    let done = subst (λ (f : Feeder). AreDone kind p f c.join-workers.result.items) c.of.ensures
-    (subst (λ (q : Workers). AreDone q.kind q.piece_length q.feeder.value c.join-workers.result.items)
-    c.in-Ok.ensures.ok c.join-workers.ensures) in
-    subst (IsFed kind c.captures.tail p size (GiveContents known) (IsFaultOfReaders known)) (sym c.new.ensures)
-    (is_fed kind c.captures.tail p size (GiveContents known) (IsFaultOfReaders known) c.captures.cutter.feeder
-    c.read_each-read.new.cutter.feeder c.end.new.self.feeder _ read.lane.0 c.end.ensures.lane c.end.ensures.ended
-    c.end.ensures.put refl done (read.put size some ready) read.fault)
+    let end = c.ended.ensures in
+    let done = subst (λ (q : Kind × ℕ × Feeder). AreDone q.0 q.1 q.2 c.ended.result.workers.items) c.of-promise.ensures
+    (subst (λ (q : Workers). AreDone q.kind q.piece_length q.feeder.value c.ended.result.workers.items)
+    c.in-Ok.ensures.ok end.done) in
+    is_fed kind c.captures.tail p size (GiveContents known) (IsFaultOfReaders known) c.captures.cutter.feeder
+    c.read_each-read.new.cutter.feeder _ c.ended.result read.lane.0 end.lane end.ended end.put end.read done
+    (read.put size some ready) read.fault
