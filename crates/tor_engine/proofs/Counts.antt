@@ -18,8 +18,11 @@ times_reverse u (x ∷ xs) =
     let parts = ap (times u) split ∙ times_append u (reverse xs) (x ∷ []) in
     omega (arith, parts, times_reverse u xs)
 
-only_itself : (u x : ℕ) → x ≡ u → only u x ≡ 1
+pub only_itself : (u x : ℕ) → x ≡ u → only u x ≡ 1
 only_itself u x is = ap (λ b. cond b 1 0) (eq-eqb x u is)
+
+pub only_other : (u x : ℕ) → (x ≡ u → ⊥) → only u x ≡ 0
+only_other u x other = ap (λ b. cond b 1 0) (ne_eqb x u other)
 
 -- a number that does not stand there departs from each that does
 pub none_of : (u : ℕ) (xs : List ℕ) → times u xs ≡ 0 → AllByRecursion (λ x. eqb u x ≡ false) xs

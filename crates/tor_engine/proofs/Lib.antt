@@ -22,11 +22,13 @@ pub mod GivenInOrder
 pub mod GivenUnits
 pub mod Levels
 pub mod NodesByUnit
+pub mod Numbers
 pub mod OnePiece
 pub mod PartBytes
 pub mod PartReads
 pub mod Parts
 pub mod PartsInside
+pub mod Placing
 pub mod PlanFaults
 pub mod PlanLevels
 pub mod PlanPieces
@@ -38,7 +40,6 @@ pub mod Readers
 pub mod RunRoots
 pub mod Runs
 pub mod SeatAnswers
-pub mod SortedNumbers
 pub mod SortedUnits
 pub mod StreamContent
 pub mod StreamPieces

@@ -6,6 +6,7 @@ ghost use Rattle.tor_engine.specs.steps.Cuts.{PutsContents};
 ghost use Rattle.tor_engine.specs.steps.StreamWorkers.{AreDone, AreParted};
 
 use crate::feeding::Fed;
+use crate::places::put_in_order;
 use crate::stream_sums::sums_of_chunks;
 use crate::stream_worker::parted;
 use crate::sums::Sums;
@@ -79,7 +80,6 @@ fn sums_of_taken(
         IfOk result (AreSumsOfContents kind tail piece_length contents) }
 {
     feeder.settle(takers);
-    let mut sums = sums;
-    sums.sort_unstable_by_key(|one| one.unit);
+    let sums = put_in_order(sums, |one| one.unit);
     sums_of_chunks(alloc, kind, piece_length, size, lengths, &sums)
 }

@@ -8,9 +8,9 @@
 //! - `units.rt` has the units of a plan hashed by one worker or by several. `halves.rt` shares work among workers,
 //!   whatever work it is. `turn.rt` so deals the units out beforehand, and each worker takes its own one after the
 //!   other; `seats.rt` gives each worker a seat at a board, from which it claims one unit after the other
-//!   (`taking.rt`, `taken.rt`), and `on_board.rt` puts what they took in the order of the units. `failure.rt` tells
-//!   which of two faults is answered, `roots.rt` the roots of trees where no board does. `unit_work.rt` says what a
-//!   worker does with a unit.
+//!   (`taking.rt`, `taken.rt`), and `on_board.rt` puts what they took in the order of the units (`places.rt`).
+//!   `failure.rt` tells which of two faults is answered, `roots.rt` the roots of trees where no board does.
+//!   `unit_work.rt` says what a worker does with a unit.
 //! - [`work`] (`shares.rt`): one worker at a board, for callers with threads of their own.
 //! - `sum_work.rt` does it for the sums of files. `unit_hash.rt` reads a unit and hashes it by itself, whatever files
 //!   it is of: `reading.rt` has one part read of the source (`file_bytes.rt`), `worker.rt` holds what was read and not
@@ -60,6 +60,7 @@ mod padding;
 mod piece_hash;
 mod piece_work;
 mod pieces;
+mod places;
 mod present;
 mod read_streams;
 mod reading;

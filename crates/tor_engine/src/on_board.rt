@@ -1,14 +1,16 @@
 //! Units hashed by workers that share a board.
 ghost use Rattle.std.specs.Prelude.{◌≡◌, ◌≤◌, ◌^◌, None, All, IfErr, IfOk, IsPermutation, MatchResult, length, map};
-ghost use Rattle.std.specs.List.Sorted.{IsNonDecreasingBy};
+ghost use Rattle.std.specs.List.{range_with_len};
 ghost use Rattle.tor_plan.specs.Forest.{AreRuns};
 ghost use Rattle.tor_source.specs.Source.{SourceFacts};
 ghost use Rattle.tor_engine.specs.Fault.{IsFault, first_of};
 ghost use Rattle.tor_engine.specs.steps.Each.{SumUpEach};
+ghost use Rattle.tor_engine.specs.steps.Places.{AreNumbers};
 ghost use Rattle.tor_engine.specs.steps.Roots.{roots_of_trees};
 
 use crate::errors::EngineError;
 use crate::halves::by_halves;
+use crate::places::put_in_order;
 use crate::seats::SeatShare;
 use crate::unit_work::UnitWork;
 use std::thread::Threads;
@@ -65,9 +67,8 @@ where
 /// The same sums in the order of the numbers of their units.
 fn in_order<W: UnitWork>(work: &W, sums: Vec<W::Sums>) -> Vec<W::Sums>
     ensures same { IsPermutation sums.items result.items }
-    ensures sorted { IsNonDecreasingBy (W.number_in work.now) result.items }
+    ensures placed { AreNumbers (map (W.number_in work.now) sums.items) →
+        map (W.number_in work.now) result.items ≡ range_with_len 0 (length sums.items) }
 {
-    let mut sums = sums;
-    sums.sort_unstable_by_key(|one| work.number_of(one));
-    sums
+    put_in_order(sums, |one| work.number_of(one))
 }

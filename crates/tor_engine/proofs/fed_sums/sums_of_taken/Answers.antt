@@ -1,6 +1,5 @@
--- what was taken is what was put, and the sort puts it in order
-use Rattle.std.proofs.Common.{List, sym, subst, rules}
-use Rattle.std.proofs.lemmas.List.Sorted.{IsNonDecreasingBy-from_sort_by_key}
+-- what was taken is what was put, and is put in order
+use Rattle.std.proofs.Common.{◌≡◌, List, ap, sym, subst, rules, ◌∙◌}
 use Rattle.std.specs.List.{flat_map}
 use Rattle.tor_lane.specs.Lane.{put_by, taken_by}
 use Rattle.tor_engine.specs.declared.unit_sums.UnitSums.{UnitSums}
@@ -17,10 +16,13 @@ sums_of_chunks-requires-clause-chunks c =
           c.args.lengths.items sums) (sym c.deref.ensures.value)
           (sum_up_cuts c.args.kind put.0 c.args.piece_length c.args.size put.1 c.args.lengths.items
           (put_by c.args.feeder)
-          (flat_map taken_by c.args.takers.items) c.args.sums.items c.sort_unstable_by_key.new.self.items put.2
-          c.settle.ensures c.requires.parted.summed c.sort_unstable_by_key.ensures.permutation
-          (IsNonDecreasingBy-from_sort_by_key (λ (one : UnitSums). one.unit) _ c.sort_unstable_by_key.ensures.sorted
-          (λ a r f called. search rules))),
+          (flat_map taken_by c.args.takers.items) c.args.sums.items c.put_in_order-sums.result.items put.2
+          c.settle.ensures c.requires.parted.summed c.put_in_order-sums.ensures.same
+          (c.put_in_order-sums.ensures.placed (λ (one : UnitSums). one.unit)
+          (λ one n called.
+          let met = called.says.met in
+          let own : n ≡ called.shown.now.unit = search rules in
+          own ∙ ap (λ (sums : UnitSums). sums.unit) called.shows))),
     )
 
 pub returns : goal.returns
@@ -29,7 +31,10 @@ returns c = λ tail contents puts.
     (subst (λ (sums : List UnitSums). SumUpCuts c.args.kind tail c.args.piece_length c.args.size contents
     c.args.lengths.items sums) (sym c.deref.ensures.value)
     (sum_up_cuts c.args.kind tail c.args.piece_length c.args.size contents c.args.lengths.items (put_by c.args.feeder)
-    (flat_map taken_by c.args.takers.items) c.args.sums.items c.sort_unstable_by_key.new.self.items puts
-    c.settle.ensures c.requires.parted.summed c.sort_unstable_by_key.ensures.permutation
-    (IsNonDecreasingBy-from_sort_by_key (λ (one : UnitSums). one.unit) _ c.sort_unstable_by_key.ensures.sorted
-    (λ a r f called. search rules))))
+    (flat_map taken_by c.args.takers.items) c.args.sums.items c.put_in_order-sums.result.items puts
+    c.settle.ensures c.requires.parted.summed c.put_in_order-sums.ensures.same
+    (c.put_in_order-sums.ensures.placed (λ (one : UnitSums). one.unit)
+    (λ one n called.
+    let met = called.says.met in
+    let own : n ≡ called.shown.now.unit = search rules in
+    own ∙ ap (λ (sums : UnitSums). sums.unit) called.shows))))

@@ -30,9 +30,9 @@ returns-in-Ok g c =
     let forest = c.in_ok-board.ensures.board.1 in
     record {
       summed = summed (w.number_in work) (w.hash_in work) (w.sums_up work) (w.is_steady work) (w.fault work)
-          (w.gave work) units old new bare least ends.least all c.in-Ok.taken answers placed order.same order.sorted;
+          (w.gave work) units old new bare least ends.least all c.in-Ok.taken answers placed order.same order.placed;
       roots = roots_there (w.number_in work) (w.hash_in work) (w.sums_up work) (w.is_steady work) (w.fault work)
-          (w.gave work) units old new bare least ends.least all c.in-Ok.taken answers placed order.same order.sorted
+          (w.gave work) units old new bare least ends.least all c.in-Ok.taken answers placed order.same order.placed
           c.args.forest.now.trees.items c.close-closed.result.roots.items c.requires.runs
           (ends.count ∙ ap length forest)
           (λ k run is. ends.roots k run (ap (λ (runs : List Run). get_elem? runs k) forest ∙ is));

@@ -1,8 +1,12 @@
-use Rattle.std.proofs.Common.{rules}
-use Rattle.std.proofs.lemmas.List.Sorted.{IsNonDecreasingBy-from_sort_by_key}
+-- the closure gives the number
+use Rattle.std.proofs.Common.{◌≡◌, ap, rules, ◌∙◌}
 use Rattle.tor_engine.proofs.on_board.in_order.Goals as goal
 
-pub returns-clause-sorted : goal.returns-clause-sorted
-returns-clause-sorted g c =
-    IsNonDecreasingBy-from_sort_by_key (g.W.UnitWork.number_in c.args.work.now) _ c.sort_unstable_by_key.ensures.sorted
-    (λ a r f called. search rules)
+pub returns-clause-placed : goal.returns-clause-placed
+returns-clause-placed g c =
+    let number = g.W.UnitWork.number_in c.args.work.now in
+    c.put_in_order.ensures.placed number
+    (λ one n called.
+    let met = called.says.met in
+    let own : n ≡ number called.shown.now = search rules in
+    own ∙ ap number called.shows)
