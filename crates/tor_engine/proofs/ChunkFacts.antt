@@ -1,5 +1,5 @@
 -- What one chunk sums up to, from what its bytes hash to.
-use Rattle.std.proofs.Common.{◌≡◌, ◌≢◌, ℕ, Bool, true, false, cond, List, [], ◌++◌, Option, None, Some, refl, ap, ap₂}
+use Rattle.std.proofs.Common.{◌≡◌, ◌≢◌, ℕ, Bool, true, false, cond, List, [], ◌++◌, None, Some, refl, ap, ap₂}
 use Rattle.std.proofs.Common.{◌∙◌, sym}
 use Rattle.std.specs.Option.{ForSome}
 use Rattle.tor_merkle.specs.Feeding.{Feeding}

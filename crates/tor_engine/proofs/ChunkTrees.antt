@@ -26,7 +26,7 @@ use Rattle.tor_engine.specs.UnitNodes.{node_over}
 use Rattle.tor_engine.specs.declared.unit_sums.UnitSums.{UnitSums}
 use Rattle.tor_engine.specs.steps.ChunkNodes.{AreNodesOf, AreNodesOfOne, IsRunNode, nodes_alone}
 use Rattle.tor_engine.specs.steps.Cuts.{Cut, bare_cuts, cuts_before_end, cuts_of_content, ending_in, node_of_bytes}
-use Rattle.tor_engine.specs.steps.Cuts.{open_text, runs_of, stream_cuts, zeros_between}
+use Rattle.tor_engine.specs.steps.Cuts.{runs_of, stream_cuts, zeros_between}
 use Rattle.tor_engine.proofs.Levels.{exponents, few_below, piece_at_level, unit_at_level}
 use Rattle.tor_engine.proofs.WidenedRoots.{blocks_allowed}
 use Rattle.tor_engine.proofs.ByFile.{enough_nodes, own_nodes}

@@ -1,8 +1,8 @@
 -- Runs of a content, the zeros after the last of them, and the chunk that is held.
-use Rattle.std.proofs.Common.{◌≡◌, ℕ, zero, suc, ◌+◌, ◌*◌, ◌<◌, ◌≤◌, List, [], ◌∷◌, ◌++◌, length, map, Option, None}
+use Rattle.std.proofs.Common.{◌≡◌, ℕ, zero, suc, ◌+◌, ◌*◌, ◌<◌, ◌≤◌, List, [], ◌∷◌, ◌++◌, length, Option, None}
 use Rattle.std.proofs.Common.{Some}
-use Rattle.std.proofs.Common.{arith, refl, ap, ◌∙◌, sym, subst, length-append}
-use Rattle.std.specs.List.{flat_map, range_with_len}
+use Rattle.std.proofs.Common.{arith, refl, ap, ◌∙◌, sym}
+use Rattle.std.specs.List.{range_with_len}
 use Rattle.tor_lane.specs.declared.chunk.Chunk.{Chunk}
 use Rattle.tor_v1.proofs.ProvedLaws.{one_piece, pieces-append}
 use Rattle.tor_engine.specs.steps.Cuts.{Cut, bare_cuts, cuts_held, ending_in, runs_of}

@@ -1,5 +1,5 @@
 -- What is cut while bytes come.
-use Rattle.std.proofs.Common.{◌≡◌, ℕ, suc, ◌+◌, ◌*◌, ◌<◌, ◌≤◌, Bool, true, false, cond, List, [], ◌∷◌, ◌++◌, length}
+use Rattle.std.proofs.Common.{◌≡◌, ℕ, suc, ◌*◌, ◌<◌, ◌≤◌, Bool, true, false, cond, List, [], ◌∷◌, ◌++◌, length}
 use Rattle.std.proofs.Common.{map, take, None, arith, refl, ap, ◌∙◌, sym, subst, append_assoc, append-nil, ap₂}
 use Rattle.std.proofs.Common.{length-append, length-take, vec_len}
 use Rattle.std.proofs.lemmas.List.{map-append}

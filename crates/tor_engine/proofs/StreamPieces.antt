@@ -1,5 +1,5 @@
 -- The SHA-1 of the pieces of chunks are those of what the chunks have together.
-use Rattle.std.proofs.Common.{◌≡◌, ℕ, zero, suc, ◌+◌, ◌-◌, ◌*◌, ◌<◌, ◌≤◌, Bool, true, false, cond, List, [], ◌∷◌, ◌++◌}
+use Rattle.std.proofs.Common.{◌≡◌, ℕ, zero, suc, ◌+◌, ◌*◌, ◌<◌, ◌≤◌, Bool, true, false, cond, List, [], ◌∷◌, ◌++◌}
 use Rattle.std.proofs.Common.{length, map, drop, arith, refl, ap, ◌∙◌, sym, subst, append-nil, length-append}
 use Rattle.std.proofs.Common.{length-drop, mul-le-mul_right}
 use Rattle.std.proofs.lemmas.Grind.{div_ceil_times}

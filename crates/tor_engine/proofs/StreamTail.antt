@@ -1,5 +1,5 @@
 -- The joined content of the chunks of contents, with a tail and without.
-use Rattle.std.proofs.Common.{◌≡◌, ℕ, ◌<◌, Bool, true, false, List, [], ◌∷◌, ◌++◌, length, map, refl, ap, ap₂, ◌∙◌}
+use Rattle.std.proofs.Common.{◌≡◌, ℕ, ◌<◌, Bool, true, false, List, [], ◌∷◌, ◌++◌, length, refl, ap, ap₂, ◌∙◌}
 use Rattle.std.proofs.Common.{sym, append_assoc, append-nil, inl, inr}
 use Rattle.std.proofs.lemmas.Grind.{flat_map-append}
 use Rattle.std.specs.List.{flat_map}
@@ -11,8 +11,8 @@ use Rattle.tor_v1.proofs.ProvedLaws.{no_padding, pieces_nil}
 use Rattle.tor_v1.specs.Content.{joined_content}
 use Rattle.tor_v1.specs.Entries.{aligned_entries, padding_length}
 use Rattle.tor_v1.specs.Piece.{zeros}
-use Rattle.tor_engine.specs.steps.Cuts.{Cut, bare_cuts, cuts_of_content, ending_in, runs_of, stream_cuts}
-use Rattle.tor_engine.proofs.FilesContent.{joined_files, padding_first, stream_text as text_without}
+use Rattle.tor_engine.specs.steps.Cuts.{bare_cuts, cuts_of_content, ending_in, stream_cuts}
+use Rattle.tor_engine.proofs.FilesContent.{padding_first, stream_text as text_without}
 use Rattle.tor_engine.proofs.StreamContent.{content_with, joined_cuts, no_zeros, runs_cases, text_of}
 
 abbrev File : Type 0

@@ -4,8 +4,7 @@ use Rattle.std.proofs.Common.{append-nil, length-append, refl, subst, take, drop
 use Rattle.std.specs.Prelude.{All}
 use Rattle.std.proofs.lemmas.List.{drop_all, map-append, take_all}
 use Rattle.std.proofs.lemmas.List.Elements.{recursion_from_All}
-use Rattle.std.proofs.lemmas.Grind.{flat_map-append}
-use Rattle.std.specs.List.{AllByRecursion, flat_map}
+use Rattle.std.specs.List.{AllByRecursion}
 use Rattle.tor_lane.specs.Lane.{FeedsLaneOf, IsAtMark, IsTakerOf, TakesFromLaneOf, taken_by}
 use Rattle.tor_lane.specs.declared.chunk.Chunk.{Chunk}
 use Rattle.tor_lane.specs.declared.feeder.Feeder.{Feeder}
@@ -14,7 +13,7 @@ use Rattle.tor_tree.specs.declared.kinds.Kind.{Kind}
 use Rattle.tor_engine.specs.declared.stream_worker.StreamWorker.{StreamWorker}
 use Rattle.tor_engine.specs.declared.unit_sums.UnitSums.{UnitSums}
 use Rattle.tor_engine.specs.steps.Cuts.{facts_of, facts_of_chunk}
-use Rattle.tor_engine.specs.steps.StreamWorkers.{AreDone, AreWorkers, IsDoneOf, IsWorkerOf, TookAll}
+use Rattle.tor_engine.specs.steps.StreamWorkers.{AreDone, IsDoneOf, IsWorkerOf, TookAll}
 
 -- ---- lists
 

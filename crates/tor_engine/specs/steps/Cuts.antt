@@ -8,7 +8,7 @@ use Rattle.tor_lane.specs.declared.chunk.Chunk.{Chunk}
 use Rattle.tor_merkle.specs.declared.TheConstants.{MAX_LENGTH}
 use Rattle.tor_tree.specs.Kinds.{has_v1, has_v2}
 use Rattle.tor_tree.specs.declared.kinds.Kind.{Kind}
-use Rattle.tor_tree.specs.declared.kinds.Kind.TheVariants.{V1, V2, Hybrid}
+use Rattle.tor_tree.specs.declared.kinds.Kind.TheVariants.{Hybrid}
 use Rattle.tor_v1.specs.Entries.{padding_length}
 use Rattle.tor_v1.specs.Piece.{piece_sums, pieces_of, zeros}
 use Rattle.tor_engine.specs.Shares.{bare_node, node_in}

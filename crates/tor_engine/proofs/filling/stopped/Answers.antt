@@ -1,5 +1,5 @@
 -- the bytes that came before, and those of the last read
-use Rattle.std.proofs.Common.{◌++◌, arith, length-append, ◌∙◌}
+use Rattle.std.proofs.Common.{arith, length-append, ◌∙◌}
 use Rattle.tor_engine.proofs.filling.stopped.Goals as goal
 
 pub returns-in-Read : goal.returns-in-Read

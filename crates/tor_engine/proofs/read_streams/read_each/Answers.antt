@@ -1,5 +1,5 @@
 -- the contents of all readers
-use Rattle.std.proofs.Common.{◌≡◌, ◌+◌, ◌++◌, ◌∷◌, ◌≤◌, ℕ, List, [], length, map, arith, refl, ap, ap₂, sym, subst}
+use Rattle.std.proofs.Common.{◌≡◌, ◌++◌, ◌∷◌, ◌≤◌, ℕ, List, [], length, map, arith, refl, ap, ap₂, sym, subst}
 use Rattle.std.proofs.Common.{◌∙◌, ◌^◌, append_assoc, append-nil, rules}
 use Rattle.std.specs.List.{AllZip}
 use Rattle.std.specs.Vec.Iter.{into_iter_items}

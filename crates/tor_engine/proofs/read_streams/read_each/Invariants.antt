@@ -1,5 +1,5 @@
 -- what the readers so far gave was cut
-use Rattle.std.proofs.Common.{◌≡◌, ◌≤◌, ◌++◌, ◌^◌, ◌+◌, ◌<◌, ℕ, List, [], length, map}
+use Rattle.std.proofs.Common.{◌≡◌, ◌≤◌, ◌++◌, ◌^◌, ◌<◌, ℕ, List, [], length, map}
 use Rattle.std.specs.List.{AllByRecursion}
 use Rattle.std.specs.Vec.Iter.{into_iter_items, into_iter_len}
 use Rattle.tor_lane.specs.Lane.{FeedsLaneOf, IsOpen}

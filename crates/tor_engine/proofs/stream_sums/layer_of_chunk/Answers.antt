@@ -1,5 +1,5 @@
 -- the layer as it is, or the root widened to a piece
-use Rattle.std.proofs.Common.{◌≡◌, ◌≤◌, ◌*◌, ◌^◌, ◌∷◌, [], arith, ap, sym, ◌∙◌, subst, ℕ}
+use Rattle.std.proofs.Common.{◌≤◌, ◌*◌, ◌^◌, ◌∷◌, [], arith, ap, sym, ◌∙◌, subst, ℕ}
 use Rattle.tor_merkle.specs.Block.{leaves}
 use Rattle.tor_merkle.specs.Stack.{padded_subtree}
 use Rattle.tor_merkle.proofs.ProvedLaws.{layer_of_long_content, root_of_short_content}

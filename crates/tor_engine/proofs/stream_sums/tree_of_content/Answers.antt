@@ -1,5 +1,5 @@
 -- several chunks, none, or one
-use Rattle.std.proofs.Common.{◌≡◌, ◌≤◌, ◌*◌, ◌∷◌, [], length, arith, ap, sym, ◌∙◌, Some, zero-mul}
+use Rattle.std.proofs.Common.{◌≡◌, ◌≤◌, ◌*◌, length, arith, ap, sym, ◌∙◌, Some, zero-mul}
 use Rattle.std.proofs.lemmas.Grind.{div_ceil_times}
 use Rattle.std.specs.Int.{div_ceil}
 use Rattle.tor_engine.proofs.FileNodes.{empty_tree}

@@ -1,5 +1,5 @@
 -- one worker, or two halves of them
-use Rattle.std.proofs.Common.{◌≡◌, ◌++◌, List, sym, subst, ap₂, ◌∙◌, rules}
+use Rattle.std.proofs.Common.{◌++◌, List, subst, ap₂, ◌∙◌, rules}
 use Rattle.std.proofs.lemmas.List.{length-set, take-append-drop}
 use Rattle.tor_engine.specs.declared.stream_worker.StreamWorker.{StreamWorker}
 use Rattle.tor_engine.specs.steps.StreamWorkers.{IsDoneOf, IsWorkerOf, TookAll}

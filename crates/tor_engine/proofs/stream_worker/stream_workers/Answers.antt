@@ -1,12 +1,11 @@
 -- one taker more
-use Rattle.std.proofs.Common.{◌≡◌, ◌++◌, ◌∷◌, [], ℕ, List, length, map, arith, ap, sym, subst, ◌∙◌, rules}
+use Rattle.std.proofs.Common.{◌≡◌, ◌++◌, ◌∷◌, [], length, map, arith, ap, sym, subst, ◌∙◌}
 use Rattle.std.proofs.Common.{append_assoc, append-nil, length-append}
 use Rattle.std.specs.List.{AllByRecursion}
 use Rattle.std.specs.Vec.Iter.{into_iter_items}
 use Rattle.std.proofs.lemmas.List.{nil_from_length}
 use Rattle.tor_lane.specs.Lane.{IsTakerOf, taken_by}
 use Rattle.tor_lane.specs.declared.taker.Taker.{Taker}
-use Rattle.tor_engine.specs.declared.stream_worker.StreamWorker.{StreamWorker}
 use Rattle.tor_engine.specs.steps.Cuts.{facts_of, facts_of_chunk}
 use Rattle.tor_engine.specs.steps.StreamWorkers.{IsWorkerOf}
 use Rattle.tor_engine.proofs.StreamWorkers.{all_back, all_front, all_joined}

@@ -1,8 +1,6 @@
 -- the reader's content is what came until it was at its end
-use Rattle.std.proofs.Common.{◌≡◌, ◌+◌, ◌-◌, ◌++◌, ◌≤◌, ◌<◌, ◌^◌, ℕ, List, [], Option, arith, refl, ap, sym, ◌∙◌, subst}
-use Rattle.std.proofs.Common.{length}
-use Rattle.std.proofs.Common.{length-append, vec_len}
-use Rattle.std.specs.Io.KnownBytes.{Consumes}
+use Rattle.std.proofs.Common.{◌≡◌, ◌+◌, ◌-◌, ◌++◌, ℕ, [], arith, refl, ◌∙◌, subst}
+use Rattle.std.proofs.Common.{length-append}
 use Rattle.std.proofs.KnownBytes.{Consumes-nil, Consumes-trans}
 use Rattle.std.proofs.lemmas.Result.{err_from_is_err_and}
 use Rattle.tor_engine.specs.steps.Cuts.{EndsReading}
