@@ -3,26 +3,37 @@
 `check` has to answer each as the reference does, and what it accepts has to be the spelling of its tree. `recheck` has
 to answer with a bit for each piece of what was accepted, and as `check` of what was not. bench/changed tries millions.
 """
+import marshal
 import re
+from collections import namedtuple
+from functools import lru_cache
 
 import random_cases
 import reference
-from foreign import BASES, wanted_lines
-from reference import decode, encode, judge
-from refuser import Meet
-from support import Failure, Told, shown
+from foreign import BASES
+from reference import Refused, decode, encode, judge
+from support import Failure, done, refused, shown
 
-# The address space of a run, in which the C library has one arena, since each takes 64 MB of it. A torrent here has at
-# most some 100 KB.
+# The address space of a process. A torrent here has at most some 100 KB.
 ROOM = 100_000 << 10
-# Bytes of a torrent's files up to which the reference tells the bits too.
-FEW = 1 << 22
+# Bytes of a torrent's files, and pieces, up to which the reference tells the bits too.
+FEW_BYTES, FEW_PIECES = 1 << 22, 2000
+# What `check` has to tell of a text, and the torrent that it is, None where it is none.
+Answer = namedtuple('Answer', 'lines torrent')
 NUMBER = re.compile(rb'[0-9]+')
 NUMBERS = [b'', b'0', b'00', b'-1', b'1', b'16384', b'16383', b'32768', b'1073741824', b'1125899906842624',
            b'1125899906842625', b'4611686018427387904', b'9223372036854775807', b'9223372036854775808',
            b'18446744073709551616', b'99999999999999999999']
 PARTS = [b'i', b'e', b'0', b'9', b'-', b':', b'l', b'd', b'de', b'le', b'0:', b'i0e', b'1:a', b'd0:d6:lengthi0eee',
          b'6:lengthi1e', b'4:attr1:p', b'4:attr1:l', b'4:pathl1:ae', b'\0', b'\xff']
+
+
+class Departs(Failure):
+    """The answer to a text is not the one that it has to be."""
+
+    def __init__(self, failure, text):
+        super().__init__(failure)
+        self.text = text
 
 
 def spot(rng, text, most=64):
@@ -76,11 +87,17 @@ def change_number(rng, text):
 CHANGES = [turn, turn, put, cut_out, cut_off, double, move, change_number, change_number]
 
 
+@lru_cache(maxsize=1)
+def packed(text):
+    """Its tree, in a form of which a copy is soon made."""
+    return marshal.dumps(decode(text))
+
+
 def changed(rng, text):
     """The torrent with some bytes changed, or some places of its tree."""
     count = rng.choice([1, 1, 1, 2, 3, 8])
     if rng.random() < 0.5:
-        root = decode(text)
+        root = marshal.loads(packed(text))
         for _ in range(count):
             random_cases.change(rng, root)
         return encode(root)
@@ -107,28 +124,51 @@ def lay_out(folder):
         (folder / name).write_bytes(content)
 
 
-def try_text(refuser, place, folder, text, rechecks):
-    """Judges a text, and rechecks by it: the code of the condition that held, or `accepted`."""
-    place.write_bytes(text)
-    wanted = wanted_lines(text)
-    expect(refuser, ['check', str(place)], text, lambda told: told == wanted, f'wanted  {shown(wanted)}')
-    if wanted.status == 0:
-        if encode(decode(text)) != text:
-            raise Failure(f'accepted, and no spelling of a tree: {text!r}')
+def judged(text):
+    """The answer to a text."""
+    try:
         torrent = judge(text)
-        expect(refuser, ['recheck', str(place), str(folder)], text, lambda told: is_recheck(torrent, folder, told),
-               'wanted  a bit for each piece')
-        return 'accepted'
-    if rechecks:
-        expect(refuser, ['recheck', str(place), str(folder)], text, lambda told: told == wanted,
-               f'wanted  {shown(wanted)}')
-    return wanted.err.split()[1].decode()
+    except Refused as refusal:
+        return Answer(refused(refusal.line), None)
+    if encode(torrent.root) != text:
+        raise Failure(f'the reference takes for a torrent what is no spelling of a tree: {text!r}')
+    return Answer(done(reference.check_lines(torrent)), torrent)
 
 
-def expect(refuser, words, text, is_right, note):
-    told = Told(*refuser.run(words, Meet(room=ROOM))[:3])
-    if not is_right(told):
-        raise Failure(f'tor {words[0]} of {bytes(text[:300])!r} ({len(text)} bytes)\n{note}\ncame    {shown(told)}')
+def try_texts(again, folder, texts, rechecks):
+    """Judges texts, and rechecks by those that are torrents and by those that are named: of each text the code of the
+    condition that held, or `accepted`."""
+    answers = [judged(text) for text in texts]
+    expect(again, ['check'], texts, answers, is_check)
+    chosen = [i for i, answer in enumerate(answers) if answer.torrent or rechecks[i]]
+    expect(again, ['recheck', str(folder)], [texts[i] for i in chosen], [answers[i] for i in chosen],
+           lambda answer, told: is_recheck(answer.torrent, folder, told) if answer.torrent else is_check(answer, told))
+    return ['accepted' if answer.torrent else answer.lines.err.split()[1].decode() for answer in answers]
+
+
+def is_check(answer, told):
+    return told == answer.lines
+
+
+def expect(again, words, texts, answers, is_right):
+    """Runs a command on each of these texts. Where one departs it is run alone, and told as it departs there, or that
+    it departs after others only."""
+    came = again.run(words[0], texts, *words[1:])
+    for text, answer, told in zip(texts, answers, came.told):
+        if not is_right(answer, told):
+            alone(again, words, text, answer, is_right, shown(told))
+    if came.fault:
+        at = min(len(came.told), len(texts) - 1)
+        alone(again, words, texts[at], answers[at], is_right, came.fault)
+
+
+def alone(again, words, text, answer, is_right, beside_others):
+    came = again.run(words[0], [text], *words[1:])
+    here = came.fault or shown(came.told[0])
+    if not came.fault and is_right(answer, came.told[0]):
+        here = f'right alone; after others in one process {beside_others}'
+    wanted = 'a bit for each piece' if answer.torrent and words[0] == 'recheck' else shown(answer.lines)
+    raise Departs(f'tor {words[0]} of {text[:300]!r} ({len(text)} bytes)\nwanted  {wanted}\ncame    {here}', text)
 
 
 def is_recheck(torrent, folder, told):
@@ -145,10 +185,33 @@ def is_recheck(torrent, folder, told):
 
 def are_marks(torrent, folder, told):
     lengths = [length for _, length, _ in torrent.entries] + [file.length for file in reference.view_files(torrent)]
-    if sum(lengths) > FEW:
-        return True
-    contents = [content_at(folder, file.path) for file in reference.view_files(torrent)]
-    return told.out == reference.recheck_lines(reference.marks_of(torrent, contents))
+    is_long = sum(lengths) > FEW_BYTES or reference.count_pieces(torrent) > FEW_PIECES
+    return is_long or told.out == lines_of(ByPieces(torrent), folder)
+
+
+class ByPieces:
+    """A torrent, equal to others that have the same pieces of the same files."""
+
+    def __init__(self, torrent):
+        self.torrent = torrent
+        files = [tuple(file) for file in reference.view_files(torrent)]
+        decides = torrent.kind, torrent.piece_length, torrent.entries, torrent.info.get(b'pieces'), files
+        # In version 2 of the format equal values have equal bytes.
+        self.key = marshal.dumps(decides, 2)
+
+    def __eq__(self, other):
+        return self.key == other.key
+
+    def __hash__(self):
+        return hash(self.key)
+
+
+# Many changes of one torrent leave its pieces as they are.
+@lru_cache(maxsize=64)
+def lines_of(by_pieces, folder):
+    """What a recheck tells."""
+    contents = [content_at(folder, file.path) for file in reference.view_files(by_pieces.torrent)]
+    return reference.recheck_lines(reference.marks_of(by_pieces.torrent, contents))
 
 
 def content_at(folder, path):

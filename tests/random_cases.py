@@ -11,9 +11,9 @@ import time
 import traceback
 
 import reference
+from again import Again
 from foreign import wanted_lines
 from reference import BLOCK, Order, Refused, decode, encode, judge, make
-from refuser import Refuser
 from support import Failure, Skipped, Told, done, expect, expect_equal, refused, run
 
 NAMES = ['a', 'b', 'c', 'A', 'a-b', 'a b', ' a ', '-x', '.a', '...', 'é', '中文', '\n', 'x\ty', '\x7f', 'a\\b', '𝄞',
@@ -553,10 +553,9 @@ def case_of_changed(rng, program, place):
     import changed
     content = place / 'content'
     changed.lay_out(content)
-    refuser = Refuser(program, place.parent)
     text = changed.lawful(rng)
-    for _ in range(20):
-        changed.try_text(refuser, place / 'torrent', content, changed.changed(rng, text), rng.random() < 0.2)
+    texts = [changed.changed(rng, text) for _ in range(20)]
+    changed.try_texts(Again(program, place.parent, changed.ROOM), content, texts, [rng.random() < 0.2 for _ in texts])
 
 
 def case_of_proof(rng, program, place):

@@ -9,7 +9,6 @@
    REFUSER_DOES    r refuse, h hold, k kill
    REFUSER_ERROR   the error of a call of the system that is refused
    REFUSER_MOST    the most bytes that one call writes; 0 for as many as it is asked for
-   REFUSER_ROOM    the most bytes of its address space; 0 for no such limit
    REFUSER_TOLD    the descriptor on which each call that is met is told in a line: its kind, its descriptor, the offset
                    where it is known, and its file
    REFUSER_GO      the descriptor from which one byte is read for each call that is held */
@@ -24,7 +23,6 @@
 #include <stdio.h>
 #include <stdlib.h>
 #include <string.h>
-#include <sys/resource.h>
 #include <sys/stat.h>
 #include <sys/syscall.h>
 #include <unistd.h>
@@ -57,8 +55,6 @@ __attribute__((constructor)) static void begin(void) {
     error = number("REFUSER_ERROR");
     does = getenv("REFUSER_DOES") ? getenv("REFUSER_DOES")[0] : 'r';
     kinds = getenv("REFUSER_KINDS") ? getenv("REFUSER_KINDS") : "";
-    struct rlimit room = {number("REFUSER_ROOM"), RLIM_INFINITY};
-    if (room.rlim_cur && setrlimit(RLIMIT_AS, &room)) abort();
     calls = 0;
 }
 

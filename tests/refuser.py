@@ -20,8 +20,8 @@ ALL_LATER = 1 << 40
 TOLD, GO = 99, 98
 
 # Which calls are met, as refuser.c says: the kinds that count, the first and the last of them, what meets them, the
-# error of those that are refused, the most bytes of a write, and those of the address space.
-Meet = namedtuple('Meet', 'kinds first last does error most room', defaults=('', 0, 0, 'refuse', errno.EIO, 0, 0))
+# error of those that are refused, and the most bytes of a write.
+Meet = namedtuple('Meet', 'kinds first last does error most', defaults=('', 0, 0, 'refuse', errno.EIO, 0))
 # A call that was met.
 Met = namedtuple('Met', 'kind file offset place')
 # How a run ended: its status (-9 where it was killed), its output, and the calls that were met.
@@ -67,10 +67,7 @@ class Refuser:
         environment = {
             'LD_PRELOAD': self.library, 'REFUSER_KINDS': meet.kinds, 'REFUSER_FIRST': str(meet.first),
             'REFUSER_LAST': str(meet.last), 'REFUSER_DOES': meet.does, 'REFUSER_ERROR': str(meet.error),
-            'REFUSER_MOST': str(meet.most), 'REFUSER_ROOM': str(meet.room), 'REFUSER_TOLD': str(TOLD),
-            'REFUSER_GO': str(GO)}
-        if meet.room:
-            environment['MALLOC_ARENA_MAX'] = '1'
+            'REFUSER_MOST': str(meet.most), 'REFUSER_TOLD': str(TOLD), 'REFUSER_GO': str(GO)}
         return os.posix_spawn(self.program, [self.program, *words], environment, file_actions=files)
 
     def each(self, words, meet, given=os.devnull, act=None, before=lambda: None):
@@ -86,14 +83,14 @@ class Refuser:
             first += 1
 
 
-def built(folder):
-    """The library, which is made where it is not yet there."""
-    library = folder / 'refuser.so'
+def built(folder, name='refuser'):
+    """A library, which is made of its source here where it is not yet there."""
+    library = folder / f'{name}.so'
     compiler = shutil.which('cc')
     if not compiler:
         raise Skipped('it needs a C compiler, cc')
     if not library.exists():
-        source = Path(__file__).with_name('refuser.c')
+        source = Path(__file__).with_name(f'{name}.c')
         subprocess.run([compiler, '-O1', '-shared', '-fPIC', '-o', library, source], check=True)
     return str(library)
 
