@@ -304,15 +304,26 @@ def test_what_is_asked_before_a_refusal(program, folder):
 
 
 def test_pieces_that_are_not_there_are_not_read(program, folder):
-    """Of a hybrid of two files, one is too short: not a byte of it is read."""
+    """Of a hybrid of two files, one is too short: not a byte of it is read; nor past its end where it is too long."""
     files = lay_out(folder)
     torrent = folder / 'torrent'
     torrent.write_bytes(FOLDER_HYBRID)
-    (files / 'a').write_bytes(b'a')
-    told, log = traced(program, ['recheck', torrent, files], files / 'a', [], folder / 'log')
-    expect_told(['recheck'], done(b'pieces 1 of 2\nbits 40\n', 1), told)
-    expect_equal('reads', [], READ.findall(log))
-    (files / 'a').write_bytes(b'ab' + bytes(100_000))
-    told, log = traced(program, ['recheck', torrent, files], files / 'a', [], folder / 'log')
-    expect_told(['recheck'], done(b'pieces 2 of 2\nbits c0\n'), told)
-    expect_equal('the bytes that were read', [('2', '0', '2')], READ.findall(log))
+    some, all_lines = b'pieces 1 of 2\nbits 40\n', b'pieces 2 of 2\nbits c0\n'
+    short, there = b'short 0 1 1 2 a\n', b'whole 1 1 1 1 b\n'
+    for options, out in [([], some), (['--files'], some + short + there), (['--bad'], some + short),
+                         (['--bad', '--null'], b'a\0')]:
+        (files / 'a').write_bytes(b'a')
+        expect_reads(program, folder, ['recheck', *options, torrent, files], done(out, 1), [])
+    for options, out in [([], all_lines), (['--files'], all_lines + b'whole 1 1 100002 2 a\n' + there)]:
+        (files / 'a').write_bytes(b'ab' + bytes(100_000))
+        expect_reads(program, folder, ['recheck', *options, torrent, files], done(out), [('2', '0', '2')])
+    (files / 'a').unlink()
+    missing = b'missing 0 1 - 2 a\n'
+    expect_reads(program, folder, ['recheck', '--files', torrent, files], done(some + missing + there, 1), [])
+
+
+def expect_reads(program, folder, words, wanted, reads):
+    """What a recheck tells, and the bytes that it asks of the first file: how many, from where, and how many came."""
+    told, log = traced(program, words, folder / 'f' / 'a', [], folder / 'log')
+    expect_told(list(map(str, words)), wanted, told)
+    expect_equal(f'{words}: reads', reads, READ.findall(log))

@@ -46,6 +46,9 @@ class Refuser:
         status = wait(words, child)
         if not act:
             met = [read_met(line) for line in Path(self.told).read_bytes().splitlines()]
+        return self.ended(status, met)
+
+    def ended(self, status, met):
         return Ended(status, Path(self.out).read_bytes(), Path(self.err).read_bytes(), met)
 
     def start(self, words, meet, given):

@@ -73,7 +73,8 @@ def test_v2_over_4_gib(program, folder):
     expect_equal('the torrent', True, torrent.read_bytes() == text)
     # The byte past 32 bits is turned: its piece alone is wrong.
     sparse(folder / 'f', LENGTH, MARKS[:4] + [(4 * GIB + 20000, b'hiGh'), MARKS[5]])
-    expect(program, ['recheck', str(torrent), path], done(b'pieces 4096 of 4097\nbits ' + b'ff' * 512 + b'00\n', 1))
+    lines = b'pieces 4096 of 4097\nbits ' + b'ff' * 512 + b'00\nbad 4096 4097 %d %d f\n' % (LENGTH, LENGTH)
+    expect(program, ['recheck', '--files', str(torrent), path], done(lines, 1))
 
 
 AFTER = b'after it'
@@ -385,6 +386,29 @@ def test_padding_over_1_mib(program, folder):
         torrent.write_bytes(encode({b'info': info}))
         marks = [True] * -(-len(joined) // p)
         expect(program, ['recheck', str(torrent), str(place)], done(reference.recheck_lines(marks)))
+
+
+def test_tail_over_8_mib(program, folder):
+    """Of a hybrid in pieces of 16 MiB: the last file with bytes has padding of nearly as much, or of 12 MiB behind a
+    piece of its own; made each way, judged and rechecked."""
+    piece_length = 16 << 20
+    place, torrent = folder / 'files', folder / 'torrent'
+    place.mkdir()
+    (place / 'a').write_bytes(b'ab')
+    (place / 'z').write_bytes(b'')
+    for last in [5, (20 << 20) + 1]:
+        sparse(place / 'b', last, [(last - 1, b'x')])
+        files = [((b'a',), b'ab'), ((b'b',), bytes(last - 1) + b'x'), ((b'z',), b'')]
+        pieces = 1 + -(-last // piece_length)
+        for tail in [True, False]:
+            wanted = make(files, order('hybrid', False, piece_length)._replace(tail=tail))
+            for how, workers in [('one', 1), ('halves', 2), ('board', 3), ('streams', 2)] if tail else [('board', 2)]:
+                words = ['make', '--name', 'f', '--kind', 'hybrid', '--piece-length', str(piece_length), '--how', how,
+                         '--workers', str(workers), '--span', '1', *['--tail'] * tail, str(place)]
+                expect(program, words, done(wanted))
+            torrent.write_bytes(wanted)
+            expect(program, ['check', str(torrent)], wanted_lines(wanted))
+            expect(program, ['recheck', str(torrent), str(place)], done(reference.recheck_lines([True] * pieces)))
 
 
 def test_64_workers(program, folder):

@@ -1,9 +1,13 @@
-"""How many workers there are: threads of the program while it reads a large file."""
+"""How many workers there are: threads of the program while it reads a large file, and reads that it waits for at once.
+"""
 import os
+import select
 import subprocess
 import time
 
-from reference import encode, sha1
+import reference
+from reference import BLOCK, encode, sha1
+from refuser import ALL_LATER, TIME_LIMIT, Meet, Refuser, read_met, wait
 from support import Failure, expect_equal
 from terminal import sparse
 
@@ -43,8 +47,8 @@ def watch(program, words, given=os.devnull):
 
 
 def expect_threads(program, folder, kind, rows, is_input=False):
-    """For each way and number of workers so many threads at once, over a file of zeros of so many bytes, or over that as
-    standard input."""
+    """For each way and number of workers so many threads at once, over a file of zeros of so many bytes, or over that
+    as standard input."""
     wrong = []
     for how, workers, wanted, size in rows:
         path = sparse(folder, size)
@@ -100,6 +104,55 @@ def test_a_recheck_has_four(program, folder):
             raise Failure(f'a recheck {options}\nwanted  {wanted} threads, all of which work\n'
                           f'came    {most}, of which {worked} worked')
         expect_equal('status and standard error', (0, b''), ended)
+
+
+def reads_at_once(refuser, words, torrent, wanted):
+    """How many reads of the files wait at once where each of them is held, so that each worker waits in its first; and
+    how the run ends once all are let go."""
+    child, go, told = refuser.start(words, Meet('r', 1, ALL_LATER, 'hold'), os.devnull)
+    count, rest = 0, b''
+    try:
+        # Once there are as many as are wanted, another one has some time to come.
+        while select.select([told], [], [], TIME_LIMIT if count < wanted else 0.3)[0]:
+            part = os.read(told, 1 << 16)
+            if not part:
+                break
+            *lines, rest = (rest + part).split(b'\n')
+            for met in map(read_met, lines):
+                if met.place == torrent:
+                    os.write(go, b'g')
+                else:
+                    count += 1
+        os.write(go, bytes(1 << 15))
+        while select.select([told], [], [], TIME_LIMIT)[0] and os.read(told, 1 << 16):
+            pass
+    finally:
+        os.close(told)
+        os.close(go)
+    return count, refuser.ended(wait(words, child), [])
+
+
+def test_a_recheck_reads_by_as_many_as_asked_for(program, folder):
+    """Of 200 units, and of three, of which there are no more to be read at once."""
+    refuser, torrent = Refuser(program, folder), str(folder / 'torrent')
+    for units, rows in [
+            (200, [(['--workers', '16', '--files', '--bad'], 16), (['--workers', '64'], 64), ([], 4), (['--files'], 4),
+                   (['--workers=64', '--json', '--files'], 64), (['--bad', '--null', '--workers=17'], 17),
+                   (['--workers', '1', '--files'], 1)]),
+            (3, [(['--workers', '64', '--files'], 3), (['--workers', '2'], 2)])]:
+        pieces = units * 16
+        path = sparse(folder, pieces * BLOCK)
+        with open(torrent, 'wb') as file:
+            file.write(encode({b'info': {b'length': pieces * BLOCK, b'name': b'sparse', b'piece length': BLOCK,
+                                         b'pieces': sha1(bytes(BLOCK)) * pieces}}))
+        for options, wanted in rows:
+            count, ended = reads_at_once(refuser, ['recheck', *options, torrent, path], torrent, wanted)
+            if count != wanted:
+                raise Failure(f'a recheck {options} of {units} units\nwanted  {wanted} workers that read at once\n'
+                              f'came    {count}')
+            expect_equal(f'a recheck {options}: status and standard error', (0, b''), (ended.status, ended.err))
+            if options in ([], ['--workers', '64']):
+                expect_equal(f'a recheck {options}', reference.recheck_lines([True] * pieces), ended.out)
 
 
 def test_as_many_as_processors(program, folder):
