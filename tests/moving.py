@@ -131,16 +131,35 @@ def fault_of_make(kind, way, move, came, after):
     return None if (is_told or is_refused) and not came.out else 'another answer'
 
 
-def fault_of_recheck(torrent, move, came, after):
+def fault_of_recheck(torrent, has_files, move, came, after):
+    """What is wrong with an answer of `recheck`: the bits are of one state, and so is the length that is told of each
+    file, which may be a later one than that of the bits."""
     if came.status in (0, 1) and not came.err:
-        wanted = []
-        for files in states(after):
-            there = dict(files)
-            marks = reference.marks_of(torrent, [there.get(path) for path, _ in CONTENTS])
-            wanted.append((reference.recheck_lines(marks), 0 if all(marks) else 1))
-        return None if (came.out, came.status) in wanted else 'other bits'
+        contents = [[dict(files).get(path) for path, _ in CONTENTS] for files in states(after)]
+        lines = came.out.splitlines(keepends=True)
+        told, found = (b''.join(lines[:2]), came.status), lines[2:]
+        by_bits = [read for read in contents if answer_of_recheck(torrent, read) == told]
+        if not by_bits:
+            return 'other bits'
+        if not has_files:
+            return None if not found else 'files that nobody asked for'
+        return None if any(are_found(torrent, read, contents, found) for read in by_bits) else 'other files'
     line = rb'tor: (C1 Read file %b at (length|[0-9]+)|C2 Changed file %b)\n' % ((move.numbers.encode(),) * 2)
     return None if re.fullmatch(line, came.err) and came.status == 3 and not came.out else 'another fault'
+
+
+def answer_of_recheck(torrent, contents):
+    marks = reference.marks_of(torrent, contents)
+    return reference.recheck_lines(marks), 0 if all(marks) else 1
+
+
+def are_found(torrent, read, contents, lines):
+    """Whether the line of each file is that of what was read, with the length that it has in one of the states."""
+    wanted = []
+    for there in contents:
+        lengths = [None if content is None else len(content) for content in there]
+        wanted.append([reference.found_line(found) for found in reference.files_by_lengths(torrent, read, lengths)])
+    return len(lines) == len(read) and all(line in of_file for line, of_file in zip(lines, zip(*wanted)))
 
 
 def make_words(folder, kind, way):
@@ -166,12 +185,12 @@ def sweep_make(refuser, folder, kind, way, move):
                  lambda came, after: fault_of_make(kind, way[0], move, came, after))
 
 
-def sweep_recheck(refuser, folder, kind, move):
+def sweep_recheck(refuser, folder, kind, move, has_files):
     text = torrent_of(kind, False)
     place = folder.with_name('torrent')
     place.write_bytes(text)
-    return sweep(refuser, folder, ['recheck', str(place), str(folder)], move,
-                 lambda came, after: fault_of_recheck(judge(text), move, came, after))
+    return sweep(refuser, folder, ['recheck', *['--files'] * has_files, str(place), str(folder)], move,
+                 lambda came, after: fault_of_recheck(judge(text), has_files, move, came, after))
 
 
 def sweeps(refuser, folder):
@@ -184,7 +203,8 @@ def sweeps(refuser, folder):
                 if not is_for_one or way[0] in ('one', 'streams'):
                     yield f'make {kind}, {way[0]}', move, lambda: sweep_make(refuser, folder, kind, way, move)
             if not is_for_one:
-                yield f'recheck {kind}', move, lambda: sweep_recheck(refuser, folder, kind, move)
+                yield f'recheck {kind}', move, lambda: sweep_recheck(refuser, folder, kind, move, False)
+                yield f'recheck --files {kind}', move, lambda: sweep_recheck(refuser, folder, kind, move, True)
 
 
 def test_a_file_that_is_cut(program, folder):
@@ -193,4 +213,5 @@ def test_a_file_that_is_cut(program, folder):
     move = next(move for move in MOVES if move.act is cut)
     for way in [('board', 2), ('streams', 2)]:
         sweep_make(refuser, folder / 'f', 'v2', way, move)
-    sweep_recheck(refuser, folder / 'f', 'v2', move)
+    for kind, has_files in [('v2', False), ('v2', True), ('v1', True), ('hybrid', True)]:
+        sweep_recheck(refuser, folder / 'f', kind, move, has_files)
