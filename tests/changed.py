@@ -184,7 +184,7 @@ def is_recheck(torrent, folder, told):
 
 
 def are_marks(torrent, folder, told):
-    lengths = [length for _, length, _ in torrent.entries] + [file.length for file in reference.view_files(torrent)]
+    lengths = [length for _, length, _ in torrent.entries] + [file.length for file in torrent.files]
     is_long = sum(lengths) > FEW_BYTES or reference.count_pieces(torrent) > FEW_PIECES
     return is_long or told.out == lines_of(ByPieces(torrent), folder)
 
@@ -194,7 +194,7 @@ class ByPieces:
 
     def __init__(self, torrent):
         self.torrent = torrent
-        files = [tuple(file) for file in reference.view_files(torrent)]
+        files = [tuple(file) for file in torrent.files]
         decides = torrent.kind, torrent.piece_length, torrent.entries, torrent.info.get(b'pieces'), files
         # In version 2 of the format equal values have equal bytes.
         self.key = marshal.dumps(decides, 2)
@@ -210,7 +210,7 @@ class ByPieces:
 @lru_cache(maxsize=64)
 def lines_of(by_pieces, folder):
     """What a recheck tells."""
-    contents = [content_at(folder, file.path) for file in reference.view_files(by_pieces.torrent)]
+    contents = [content_at(folder, file.path) for file in by_pieces.torrent.files]
     return reference.recheck_lines(reference.marks_of(by_pieces.torrent, contents))
 
 

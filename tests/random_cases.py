@@ -282,7 +282,7 @@ def recheck(rng, program, place, text, contents, content, single):
     file.write_bytes(text)
     expect_found(rng, program, file, content, torrent, contents)
     paths = [None] if single else [os.path.join(os.fsencode(content), *file.path)
-                                   for file in reference.view_files(torrent)]
+                                   for file in torrent.files]
     contents = list(contents)
     for _ in range(rng.randint(1, 3)):
         i = rng.randrange(len(paths))
@@ -357,7 +357,7 @@ def case_of_foreign(rng, program, place):
     torrent = judge_or_fail(text)
     tell(rng, program, place, text)
     content = place / 'content'
-    files = [(file.path, data) for file, data in zip(reference.view_files(torrent), contents)]
+    files = [(file.path, data) for file, data in zip(torrent.files, contents)]
     if order.single:
         content.write_bytes(contents[0])
     else:
@@ -564,7 +564,7 @@ def case_of_proof(rng, program, place):
     data = random_content(rng, random_length(rng, p, 1 << 20) or 1, [])
     text = make([((b'a',), data)], Order('v2', True, b'a', p, None, False, 'one', 1, 16))
     torrent = judge_or_fail(text)
-    root = reference.view_files(torrent)[0].root.hex()
+    root = torrent.files[0].root.hex()
     (place / 'torrent').write_bytes(text)
     index = rng.randrange(reference.piece_count(len(data), p))
     proof = reference.prove(torrent, 0, index)

@@ -119,7 +119,7 @@ def test_paths_over_4000_bytes(program, folder):
         torrent, text = folder / 'torrent', torrent_of(listed)
         torrent.write_bytes(text)
         view = judge(text)
-        paths = reference.ended_paths(file.path for file in reference.view_files(view))
+        paths = reference.ended_paths(file.path for file in view.files)
         expect(program, ['check', '--null', str(torrent)], done(paths))
         expect_record(program, ['check', '--json', str(torrent)], reference.check_record(view))
     # Of a longer place the system does not tell what is there.

@@ -383,6 +383,19 @@ class Torrent:
         return told + [properties[b'length'] for _, properties in self.tree_files]
 
     @cached_property
+    def files(self):
+        """The files that the torrent describes, each with its root and layer where there is a tree."""
+        if not self.has_tree:
+            return [ViewFile(path, length, None, []) for path, length in self.listed]
+        files = []
+        for path, properties in self.tree_files:
+            length = properties[b'length']
+            root = properties[b'pieces root'] if length else None
+            layer = hashes_in(self.root[b'piece layers'][root]) if length > self.piece_length else []
+            files.append(ViewFile(path, length, root, layer))
+        return files
+
+    @cached_property
     def long_files(self):
         return [p for _, p in self.tree_files if p[b'length'] > self.piece_length]
 
@@ -598,22 +611,10 @@ def judge(text):
 ViewFile = namedtuple('ViewFile', 'path length root layer')
 
 
-def view_files(torrent):
-    if not torrent.has_tree:
-        return [ViewFile(path, length, None, []) for path, length in torrent.listed]
-    files = []
-    for path, properties in torrent.tree_files:
-        length = properties[b'length']
-        root = properties[b'pieces root'] if length else None
-        layer = hashes_in(torrent.root[b'piece layers'][root]) if length > torrent.piece_length else []
-        files.append(ViewFile(path, length, root, layer))
-    return files
-
-
 def count_pieces(torrent):
     if not torrent.has_tree:
         return len(torrent.info[b'pieces']) // 20
-    return sum(piece_count(file.length, torrent.piece_length) for file in view_files(torrent))
+    return sum(piece_count(file.length, torrent.piece_length) for file in torrent.files)
 
 
 SHOWN = [b'\\x%02x' % byte if byte < 32 or byte in (127, 92) else bytes([byte]) for byte in range(256)]
@@ -630,7 +631,7 @@ def info_hashes(torrent):
 
 
 def check_lines(torrent):
-    files = view_files(torrent)
+    files = torrent.files
     lines = [b'kind ' + torrent.kind.encode(), b'name ' + escaped(torrent.info[b'name']),
              b'piece length %d' % torrent.piece_length, b'pieces %d' % count_pieces(torrent), b'files %d' % len(files)]
     lines += [b'%d %s' % (file.length, b'/'.join(escaped(name) for name in file.path)) for file in files]
@@ -682,7 +683,7 @@ def list_marks(torrent, contents):
 
 def tree_marks(torrent, contents):
     marks, p = [], torrent.piece_length
-    for file, content in zip(view_files(torrent), contents):
+    for file, content in zip(torrent.files, contents):
         wanted = file.layer or [file.root]
         for i in range(piece_count(file.length, p)):
             end = min((i + 1) * p, file.length)
@@ -713,7 +714,7 @@ def spans_of(torrent):
     """The numbers of the pieces that have bytes of each file, in the torrent's order."""
     spans, p, start = [], torrent.piece_length, 0
     if torrent.has_tree:
-        for file in view_files(torrent):
+        for file in torrent.files:
             count = piece_count(file.length, p)
             spans.append(range(start, start + count))
             start += count
@@ -737,7 +738,7 @@ def files_by_lengths(torrent, contents, lengths):
     """The same where other lengths are told than those of the contents."""
     marks = (tree_marks if torrent.has_tree else list_marks)(torrent, contents)
     found = []
-    for file, span, there in zip(view_files(torrent), spans_of(torrent), lengths, strict=True):
+    for file, span, there in zip(torrent.files, spans_of(torrent), lengths, strict=True):
         good = sum(marks[i] for i in span)
         state = ('missing' if there is None else 'short' if there < file.length else 'bad' if good < len(span)
                  else 'whole')
@@ -771,7 +772,7 @@ def path_record(path):
 
 def check_record(torrent):
     v1, v2 = info_hashes(torrent)
-    files = [{'length': file.length, 'path': path_record(file.path)} for file in view_files(torrent)]
+    files = [{'length': file.length, 'path': path_record(file.path)} for file in torrent.files]
     return {'kind': torrent.kind, 'name': torrent.info[b'name'].decode(), 'piece_length': torrent.piece_length,
             'pieces': count_pieces(torrent), 'files': files, 'btih': v1 and v1.decode(),
             'btmh': v2 and '1220' + v2.decode()}
@@ -789,7 +790,7 @@ def recheck_record(marks, found):
 
 def prove(torrent, number, index):
     """The text of the proof of a piece of a file."""
-    files = view_files(torrent)
+    files = torrent.files
     if number >= len(files):
         raise Refused('P1')
     file = files[number]

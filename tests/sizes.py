@@ -270,8 +270,9 @@ def test_folder_of_12000_files(program, folder):
     place = folder / 'files'
     for i in range(120):
         (place / str(i)).mkdir(parents=True)
-    for (above, name), content in files:
-        (place / above.decode() / name.decode()).write_bytes(content)
+    for path, content in files:
+        with open(os.path.join(os.fsencode(place), *path), 'wb', buffering=0) as file:
+            file.write(content)
     torrent = folder / 'torrent'
     for kind in ['v2', 'hybrid']:
         wanted = make(files, order(kind, False))
@@ -281,7 +282,7 @@ def test_folder_of_12000_files(program, folder):
     lines = reference.recheck_lines([True] * 12_000)
     expect(program, ['recheck', str(torrent), str(place)], done(lines))
     (place / '7' / '7').unlink()
-    view = reference.view_files(judge(wanted))
+    view = judge(wanted).files
     marks = [file.path != (b'7', b'7') for file in view]
     expect(program, ['recheck', str(torrent), str(place)], done(reference.recheck_lines(marks), 1))
 
@@ -292,8 +293,9 @@ def test_three_of_200000_files(program, folder):
     files = [((b'%d' % (i // 1000), b'%d' % (i % 1000)), b'%d' % i) for i in range(200_000)]
     for i in range(200):
         (place / str(i)).mkdir(parents=True)
-    for (above, name), content in files:
-        (place / above.decode() / name.decode()).write_bytes(content)
+    for path, content in files:
+        with open(os.path.join(os.fsencode(place), *path), 'wb', buffering=0) as file:
+            file.write(content)
     torrent = folder / 'torrent'
     torrent.write_bytes(make(files, order('v2', False)))
     subprocess.run(['cp', '-al', place, copy], check=True)
@@ -304,7 +306,7 @@ def test_three_of_200000_files(program, folder):
     told = judge(torrent.read_bytes())
     contents = {path: content for path, content in files}
     contents |= {(b'0', b'0'): b'1', (b'77', b'7'): b'', (b'199', b'999'): None}
-    inside = [contents[tuple(file.path)] for file in reference.view_files(told)]
+    inside = [contents[tuple(file.path)] for file in told.files]
     found = reference.files_found(told, inside)
     lines = reference.recheck_lines(reference.marks_of(told, inside))
     bad = reference.not_whole(found)
@@ -317,7 +319,7 @@ def test_three_of_200000_files(program, folder):
     expect(program, ['recheck', *words], done(reference.recheck_lines([True] * 200_000)))
     expect(program, ['recheck', '--bad', '--null', *words], done())
     expect(program, ['check', '--null', str(torrent)],
-           done(reference.ended_paths(file.path for file in reference.view_files(told))))
+           done(reference.ended_paths(file.path for file in told.files)))
 
 
 def test_foreign_torrents_of_110000_entries(program, folder):

@@ -9,7 +9,7 @@ import tempfile
 import time
 import tty
 
-from reference import judge, sha256, view_files
+from reference import judge, sha256
 from rows import ABC
 from sizes import ZERO_LEAF, blocks_of, v2_of
 from support import Failure, Skipped, Told, done, expect, expect_equal
@@ -213,7 +213,7 @@ def test_of_a_stream_that_shrinks_or_grows(program, folder):
     parts, told = watch(program, [*words, path], meanwhile=lambda: os.truncate(path, 5))
     expect_equal('status', 0, told.status)
     check_lines(parts, told.err, size, ERASED)
-    length = view_files(judge(told.out))[0].length
+    length = judge(told.out).files[0].length
     expect_equal(f'the torrent of the {length} bytes that were read', True,
                  0 < length <= size and told.out == torrent_of_zeros(length, 1 << 20))
     path = sparse(folder, size)
