@@ -1,6 +1,5 @@
 -- Files whose contents lie in memory.
-use Rattle.std.specs.Borrow.{Bor}
-use Rattle.std.specs.Prelude.{◌≡◌, ℕ, List, [], map, Vec, slice_index_or}
+use Rattle.std.specs.Prelude.{◌≡◌, ℕ, List, map, Vec}
 use Rattle.std.specs.declared.alloc.Global.{Global}
 use Rattle.std.specs.List.{zip}
 use Rattle.std.specs.List.Sorted.{IsPermutation, IsStrictlySortedBy}
@@ -25,12 +24,6 @@ IsMadeOfSome settings paths bytes =
     (sorted : List File) × IsPermutation paths (map (λ file. file.path) sorted)
     × IsStrictlySortedBy path_cmp (map (λ file. file.path) sorted) × (bytes ≡ metainfo settings sorted)
 
--- for private clauses: contents that are borrowed, those at indices, and files of a list with their contents
-abbrev pub bytes_of : List (Bor (List ℕ)) → List (List ℕ)
-bytes_of contents = map (λ content. content.now) contents
-
-abbrev pub contents_at : List (Vec ℕ Global) → List ℕ → List (List ℕ)
-contents_at contents indices = map (λ index. slice_index_or (map (λ content. content.items) contents) index []) indices
-
+-- for private clauses: files of a list with their contents
 abbrev pub files_of : List (List (List ℕ) × ℕ) → List (List ℕ) → List File
 files_of files contents = map (λ file. record { path = file.0.0; content = file.1 }) (zip files contents)

@@ -1,15 +1,9 @@
 -- A content that is fed in parts.
-use Rattle.std.specs.Prelude.{◌≡◌, ℕ, true, List, [], ◌∷◌, ◌++◌, length}
+use Rattle.std.specs.Prelude.{◌≡◌, ℕ, List, ◌++◌, length}
 use Rattle.tor_meta.specs.declared.fed.FedSums.{FedSums}
-use Rattle.tor_merkle.specs.Layer.{piece_layer}
 use Rattle.tor_engine.specs.Hasher.{HasFedContent, IsLeft}
-use Rattle.tor_engine.specs.Sums.{lists_of}
-use Rattle.tor_engine.specs.declared.sums.Sums.{Sums}
-use Rattle.tor_merkle.specs.Layer.{root_of}
-use Rattle.tor_tree.specs.Kinds.{has_v1, has_v2}
 use Rattle.tor_tree.specs.declared.kinds.Kind.{Kind}
 use Rattle.tor_v1.specs.Entries.{padding_length}
-use Rattle.tor_v1.specs.Piece.{piece_sums, zeros}
 use Rattle.tor_v1.specs.declared.layout.Layout.{Layout}
 use Rattle.tor_v1.specs.declared.layout.Layout.TheVariants.{AlignedTail}
 
@@ -39,9 +33,3 @@ Leaves old new part =
 abbrev pub tail_length : Layout → ℕ → ℕ → ℕ
 tail_length AlignedTail piece_length m = padding_length piece_length m
 tail_length _ piece_length m = 0
-
--- the sums of one file of these bytes, and so many zeros after them
-pub record SumsOfOne (kind : Kind) (piece_length : ℕ) (bytes : List ℕ) (tail : ℕ) (sums : Sums) : Type 0 where
-  pub roots : has_v2 kind ≡ true → sums.roots.items ≡ root_of bytes ∷ []
-  pub layers : has_v2 kind ≡ true → lists_of sums.layers.items ≡ piece_layer bytes piece_length ∷ []
-  pub pieces : has_v1 kind ≡ true → sums.pieces.items ≡ piece_sums piece_length (bytes ++ zeros tail)

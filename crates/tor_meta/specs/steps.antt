@@ -1,3 +1,4 @@
+pub mod Contents
 pub mod Fields
 pub mod IndexedFiles
 pub mod Layers

@@ -29,7 +29,8 @@ pub struct FedSums {
 }
 
 impl FedSums {
-    ghost use Rattle.tor_meta.specs.Fed.{Feeds, HasFed, Leaves, SumsOfOne, count_of};
+    ghost use Rattle.tor_meta.specs.Fed.{Feeds, HasFed, Leaves, count_of};
+    ghost use Rattle.tor_meta.specs.steps.Sums.{SumsOfOne};
     ghost use Rattle.tor_tree.specs.declared.kinds.Kind.{Kind};
 
     /// Sums of no byte.

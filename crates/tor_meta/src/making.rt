@@ -1,7 +1,8 @@
 //! The torrent of one content that was read.
 ghost use Rattle.std.specs.Prelude.{◌≡◌, ◌≤◌, ◌∷◌, [], ℕ, List, None, IfOk, length};
 ghost use Rattle.tor_merkle.specs.declared.TheConstants.{MAX_LENGTH};
-ghost use Rattle.tor_meta.specs.Fed.{HasFed, SumsOfOne, tail_length};
+ghost use Rattle.tor_meta.specs.Fed.{HasFed, tail_length};
+ghost use Rattle.tor_meta.specs.steps.Sums.{SumsOfOne};
 ghost use Rattle.tor_meta.specs.Hashes.{HasInfo};
 ghost use Rattle.tor_meta.specs.Head.{settings_of};
 ghost use Rattle.tor_meta.specs.Refusal.{paths_refusal};

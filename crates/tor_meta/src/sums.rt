@@ -3,7 +3,7 @@ ghost use Rattle.std.specs.Prelude.{◌≡◌, ◌≤◌, ◌<◌, ◌^◌, All,
 ghost use Rattle.tor_merkle.specs.Layer.{IsPieceLength, piece_layer};
 ghost use Rattle.tor_merkle.specs.declared.TheConstants.{MAX_LENGTH};
 ghost use Rattle.tor_engine.specs.Sums.{lists_of};
-ghost use Rattle.tor_meta.specs.Contents.{bytes_of};
+ghost use Rattle.tor_meta.specs.steps.Contents.{bytes_of};
 ghost use Rattle.tor_merkle.specs.Layer.{root_of};
 ghost use Rattle.tor_v1.specs.Content.{v1_pieces};
 ghost use Rattle.tor_v1.specs.Piece.{IsV1PieceLength, max_piece_length};

@@ -1,5 +1,5 @@
 -- Sums that a torrent can be made of, and the facts that they tell.
-use Rattle.std.specs.Prelude.{◌≡◌, ◌≤◌, ℕ, true, false, All, List, length, map}
+use Rattle.std.specs.Prelude.{◌≡◌, ◌≤◌, ℕ, true, false, All, List, [], ◌∷◌, ◌++◌, length, map}
 use Rattle.std.specs.List.{AllZip}
 use Rattle.tor_merkle.specs.Layer.{IsPieceLength, piece_layer}
 use Rattle.tor_meta.specs.Head.{settings_of}
@@ -11,11 +11,13 @@ use Rattle.tor_spec.specs.Facts.{Facts, listed, layers_in, roots_in}
 use Rattle.tor_merkle.specs.Layer.{root_of}
 use Rattle.tor_spec.specs.Settings.{layout_of}
 use Rattle.tor_tree.specs.Kinds.{has_v1, has_v2}
+use Rattle.tor_tree.specs.declared.kinds.Kind.{Kind}
 use Rattle.tor_tree.specs.FileList.{IsFileList, lengths_of}
 use Rattle.tor_tree.specs.TidyTree.{HasItsRoot}
 use Rattle.tor_plan.specs.PlanFacts.{PlanFacts}
 use Rattle.tor_v1.specs.Content.{joined_content, v1_pieces}
 use Rattle.tor_v1.specs.Entries.{v1_entries}
+use Rattle.tor_v1.specs.Piece.{piece_sums, zeros}
 use Rattle.tor_v1.specs.Reserved.{takes_reserved}
 
 -- a list of files, of which no torrent is refused for the head or the paths
@@ -60,3 +62,9 @@ pub record IsPlanOf (head : Head) (files : List (List (List ℕ) × ℕ)) (plan 
 abbrev pub SumUpSome : Head → List (List (List ℕ) × ℕ) → Sums → Type 0
 SumUpSome head files sums =
     (contents : List (List ℕ)) × (map length contents ≡ lengths_of files) × SumUp head files contents sums
+
+-- the sums of one file of these bytes, and so many zeros after them
+pub record SumsOfOne (kind : Kind) (piece_length : ℕ) (bytes : List ℕ) (tail : ℕ) (sums : Sums) : Type 0 where
+  pub roots : has_v2 kind ≡ true → sums.roots.items ≡ root_of bytes ∷ []
+  pub layers : has_v2 kind ≡ true → lists_of sums.layers.items ≡ piece_layer bytes piece_length ∷ []
+  pub pieces : has_v1 kind ≡ true → sums.pieces.items ≡ piece_sums piece_length (bytes ++ zeros tail)

@@ -1,5 +1,5 @@
 use Rattle.std.proofs.Common.{◌≡◌, take}
-use Rattle.tor_meta.specs.Contents.{bytes_of, contents_at}
+use Rattle.tor_meta.specs.steps.Contents.{bytes_of, contents_at}
 use Rattle.tor_meta.proofs.contents.in_order.Given as goal
 
 abbrev pub invariant-loop-index : goal.invariant-loop-index

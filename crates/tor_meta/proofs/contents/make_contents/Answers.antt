@@ -1,6 +1,6 @@
 -- The files in the order of their paths, with their contents, are those that were handed in.
 use Rattle.std.proofs.Common.{◌∙◌, ap, refl}
-use Rattle.tor_meta.specs.Contents.{bytes_of}
+use Rattle.tor_meta.specs.steps.Contents.{bytes_of}
 use Rattle.tor_meta.specs.Head.{settings_of}
 use Rattle.tor_meta.proofs.Made.{accepted_all, contents_listed, judged_list, lengths_in, made_of, refused_lengths}
 use Rattle.tor_meta.proofs.Made.{refused_paths, within}

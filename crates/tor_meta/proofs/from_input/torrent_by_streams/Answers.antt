@@ -2,7 +2,8 @@
 use Rattle.std.proofs.Common.{◌≡◌, ◌∙◌, Bool, ℕ, [], ◌∷◌, ap, arith, get_or, length, subst, sym}
 use Rattle.std.specs.declared.io.Error.{Error}
 use Rattle.tor_engine.specs.Streams.{AreSumsOfContents}
-use Rattle.tor_meta.specs.Fed.{SumsOfOne, tail_length}
+use Rattle.tor_meta.specs.Fed.{tail_length}
+use Rattle.tor_meta.specs.steps.Sums.{SumsOfOne}
 use Rattle.tor_meta.specs.Order.{settings_of_order}
 use Rattle.tor_source.specs.Input.{ReadsWhole}
 use Rattle.tor_spec.specs.Metainfo.{metainfo, only}

@@ -1,6 +1,6 @@
 -- the sums are those of what was fed, and of the tail after it
 use Rattle.std.proofs.Common.{◌∙◌, ℕ, [], ◌∷◌, subst, sym}
-use Rattle.tor_meta.specs.Fed.{SumsOfOne}
+use Rattle.tor_meta.specs.steps.Sums.{SumsOfOne}
 use Rattle.tor_meta.specs.Head.{settings_of}
 use Rattle.tor_meta.proofs.Judged.{piece_allowed}
 use Rattle.tor_meta.proofs.making.make_fed.Goals as goal

@@ -1,7 +1,7 @@
 -- One more entry of the content.
 use Rattle.std.proofs.Common.{◌∙◌, ◌++◌, ap}
 use Rattle.std.specs.Slice.Iter.{iter_rest}
-use Rattle.tor_meta.specs.Contents.{bytes_of}
+use Rattle.tor_meta.specs.steps.Contents.{bytes_of}
 use Rattle.tor_v1.specs.Content.{joined_content, v1_pieces}
 use Rattle.tor_v1.specs.Piece.{piece_sums, zeros}
 use Rattle.tor_meta.proofs.SumSteps.{all_fed, left_next, left_none, left_padding, no_items}

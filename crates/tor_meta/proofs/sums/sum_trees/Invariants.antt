@@ -1,7 +1,7 @@
 -- The roots and layers so far are those of the contents so far.
 use Rattle.std.proofs.Common.{◌≡◌, map, take}
 use Rattle.tor_merkle.specs.Layer.{piece_layer}
-use Rattle.tor_meta.specs.Contents.{bytes_of}
+use Rattle.tor_meta.specs.steps.Contents.{bytes_of}
 use Rattle.tor_engine.specs.Sums.{lists_of}
 use Rattle.tor_merkle.specs.Layer.{root_of}
 use Rattle.tor_meta.proofs.sums.sum_trees.Given as goal
