@@ -9,7 +9,6 @@ use Rattle.std.proofs.lemmas.List.FromFn.{get_or-map-range_with_len, length-map-
 use Rattle.std.specs.Fork.{slice_chunk}
 use Rattle.std.specs.Int.{div_ceil}
 use Rattle.std.specs.List.{flat_map, range_with_len}
-use Rattle.std.proofs.lemmas.List.Elements.{All-from_recursion}
 use Rattle.tor_merkle.specs.Block.{leaves}
 use Rattle.tor_merkle.specs.Layer.{IsPieceLength, piece_layer, piece_level, piece_roots, pieces_root, root_of}
 use Rattle.tor_merkle.specs.Stack.{padded_root, padded_subtree}
@@ -29,7 +28,7 @@ use Rattle.tor_engine.specs.steps.Cuts.{Cut, bare_cuts, cuts_before_end, cuts_of
 use Rattle.tor_engine.specs.steps.Cuts.{runs_of, stream_cuts, zeros_between}
 use Rattle.tor_engine.proofs.Levels.{exponents, few_below, piece_at_level, unit_at_level}
 use Rattle.tor_engine.proofs.WidenedRoots.{blocks_allowed}
-use Rattle.tor_engine.proofs.ByFile.{enough_nodes, own_nodes}
+use Rattle.tor_engine.proofs.ByFile.{enough_nodes, later_nodes, own_nodes}
 
 -- ---- the bytes of all chunks
 
@@ -158,32 +157,38 @@ module _ (p size : ℕ) (some : 0 < size) (content : List ℕ) (own : List UnitS
         take_more (runs_of size content) i [] inside
         ∙ ap (λ r. take i (runs_of size content) ++ r ∷ []) (run_is size content i [] inside)
 
--- the chunks of one content, of those that are left
-module _ (p size : ℕ) (contents : List (List ℕ)) (lengths : List ℕ) (chunks left : List UnitSums) (i : ℕ)
-    (are : AreNodesOf p size contents lengths chunks) (listed : i < length lengths)
-    (is : map node_in left ≡ flat_map (nodes_alone p size) (drop i contents)) (n : ℕ)
-    (count : n ≡ min (div_ceil (get_or lengths i 0) size) (length left)) where
-  abbrev content_at : List ℕ
-  content_at = get_or contents i []
+-- where there is a length there is a content
+pub first_content : (p size : ℕ) (contents : List (List ℕ)) (m : ℕ) (lengths : List ℕ) (left : List UnitSums)
+    → AreNodesOf p size contents (m ∷ lengths) left
+    → (content : List ℕ) × (later : List (List ℕ)) × AreNodesOf p size (content ∷ later) (m ∷ lengths) left
+first_content p size [] m lengths left are = let none = ap length are.counted in absurd (omega (arith, none))
+first_content p size (content ∷ later) m lengths left are = (content, later, are)
 
-  pub content_there : i < length contents
-  content_there = omega (arith, listed, ap length are.counted, length-map contents length)
+-- the chunks of the first content, and of the later ones
+module _ (p size : ℕ) (content : List ℕ) (contents : List (List ℕ)) (m : ℕ) (lengths : List ℕ)
+    (left : List UnitSums) (are : AreNodesOf p size (content ∷ contents) (m ∷ lengths) left) (n : ℕ)
+    (count : n ≡ min (div_ceil m size) (length left)) where
+  same_length : m ≡ length content
+  same_length = ap (λ xs. get_or xs 0 0) (sym are.counted)
 
-  same_length : get_or lengths i 0 ≡ length content_at
-  same_length = ap (λ xs. get_or xs i 0) (sym are.counted) ∙ get_or-map length contents i [] 0 content_there
-
-  pub all_own : n ≡ length (nodes_alone p size content_at)
+  all_own : n ≡ length (nodes_alone p size content)
   all_own =
-      let counted = ap (λ m. div_ceil m size) same_length ∙ sym (count_of_runs size content_at)
-      ∙ sym (length-map (runs_of size content_at) (node_over p None)) in
-      omega (arith, count, counted, enough_nodes (nodes_alone p size) contents i content_there left is _ counted)
+      let counted = ap (λ m. div_ceil m size) same_length ∙ sym (count_of_runs size content)
+      ∙ sym (length-map (runs_of size content) (node_over p None)) in
+      omega (arith, count, counted, enough_nodes (nodes_alone p size) content contents left are.nodes _ counted)
 
-  pub own_chunks : AreNodesOfOne p size content_at (get_or lengths i 0) (take n left)
+  pub own_chunks : AreNodesOfOne p size content m (take n left)
   own_chunks = record {
     counted = sym same_length;
-    small = subst (λ (m : ℕ). m ≤ 2 ^ 50) (sym same_length)
-        (All-from_recursion (λ (one : List ℕ). length one ≤ 2 ^ 50) contents are.small i [] content_there);
-    nodes = own_nodes (nodes_alone p size) contents i content_there left is n all_own;
+    small = subst (λ (m : ℕ). m ≤ 2 ^ 50) (sym same_length) are.small.0;
+    nodes = own_nodes (nodes_alone p size) content contents left are.nodes n all_own;
+  }
+
+  pub later_chunks : AreNodesOf p size contents lengths (drop n left)
+  later_chunks = record {
+    counted = ap (drop 1) are.counted;
+    small = are.small.1;
+    nodes = later_nodes (nodes_alone p size) content contents left are.nodes n all_own;
   }
 
 -- how many chunks a content may have

@@ -15,7 +15,7 @@
 //! - `sum_work.rt` does it for the sums of files. `unit_hash.rt` reads a unit and hashes it by itself, whatever files
 //!   it is of: `reading.rt` has one part read of the source (`file_bytes.rt`), `worker.rt` holds what was read and not
 //!   hashed (`room.rt`) and the hashes of what came before (`hasher.rt`). `unit_sums.rt` tells what that sums up to in
-//!   the unit's files, and `joined.rt` puts together what units give.
+//!   the unit's files, `joined.rt` puts together what units give, and `trees.rt` goes from one file to the next.
 //! - [`hash_pieces`] (`pieces.rt`): what each piece hashes to ([`PieceHash`], `piece_hash.rt`), of files that may be
 //!   cut short or missing; [`find_pieces`] tells their lengths too. `asked.rt` asks for these, `present.rt` tells what
 //!   is there by them, and `piece_work.rt` hashes the pieces of a unit.
@@ -76,6 +76,7 @@ mod sum_work;
 mod sums;
 mod taken;
 mod taking;
+mod trees;
 mod turn;
 mod unit_hash;
 mod unit_sums;

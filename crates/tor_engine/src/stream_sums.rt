@@ -1,5 +1,5 @@
 //! What the contents of readers sum up to, from what their chunks do.
-ghost use Rattle.std.specs.Prelude.{◌≡◌, ◌*◌, ◌^◌, ◌<◌, ◌≤◌, ℕ, Bool, List, Some, IfOk, length};
+ghost use Rattle.std.specs.Prelude.{◌≡◌, ◌*◌, ◌^◌, ◌<◌, ◌≤◌, ℕ, Bool, List, Some, IfOk, length, map};
 ghost use Rattle.tor_merkle.specs.Block.{leaves};
 ghost use Rattle.tor_merkle.specs.Layer.{IsPieceLength, piece_layer, piece_roots, pieces_root, root_of};
 ghost use Rattle.tor_merkle.specs.declared.TheConstants.{BLOCK_LENGTH};
@@ -8,10 +8,11 @@ ghost use Rattle.tor_engine.specs.Streams.{AreSumsOfContents, IsStreamCut};
 ghost use Rattle.tor_engine.specs.UnitNodes.{node_over};
 ghost use Rattle.tor_engine.specs.steps.ChunkNodes.{AreNodesOf, AreNodesOfOne, IsRunNode, SumUpCuts};
 ghost use Rattle.tor_engine.specs.steps.Run.{HasRoomAt};
-ghost use Rattle.tor_engine.specs.steps.Trees.{AreTrees, AreTreesOf};
+ghost use Rattle.tor_engine.specs.steps.Trees.{AreTreesOf};
 
 use crate::joined::append;
-use crate::sums::{Sums, Trees, sums_with};
+use crate::sums::{Sums, sums_with};
+use crate::trees::{FileTrees, Trees, trees_of};
 use crate::unit_sums::{UnitSums, node_over_pieces};
 use std::alloc::{AllocError, Global};
 use tor_merkle::{BLOCK_LENGTH, Hash, height_of, layer_root, layer_subtree, piece_level};
@@ -56,36 +57,38 @@ fn trees_of_stream(
     if !kind.has_v2() {
         return Ok(None);
     }
-    let trees = trees_of_contents(alloc, piece_length, size, lengths, chunks)?;
+    let contents = ChunkTrees {
+        piece_length,
+        size,
+        rest: chunks,
+    };
+    let trees = trees_of(alloc, lengths, contents)?;
     Ok(Some(trees))
 }
 
-/// The root and the layer of each content.
-fn trees_of_contents(
-    alloc: Global,
+/// The contents that are left: what their chunks of `size` bytes sum up to.
+#[derive(Drop)]
+struct ChunkTrees<'a> {
     piece_length: u64,
     size: u64,
-    lengths: &[u64],
-    chunks: &[UnitSums],
-) -> Result<Trees, AllocError>
-    requires pieces { IsPieceLength piece_length × IsPieceLength size }
-    requires cut { (span : ℕ) × (0 < span) × (size ≡ span * piece_length) }
-    requires chunks { (contents : List (List ℕ)) × AreNodesOf piece_length size contents lengths.now chunks.now }
-    ensures { (contents : List (List ℕ)) → AreNodesOf piece_length size contents lengths.now chunks.now →
-        IfOk result (AreTrees piece_length contents) }
-{
-    let mut roots = Vec::with_capacity(alloc, lengths.len())?;
-    let mut layers = Vec::with_capacity(alloc, lengths.len())?;
-    let mut rest = chunks;
-    'contents: for length in lengths {
-        let count = length.div_ceil(size) as usize;
-        let (own, later) = rest.split_at(count.min(rest.len()));
-        let (root, layer) = tree_of_content(alloc, piece_length, size, *length, own)?;
-        roots.push(root)?;
-        layers.push(layer)?;
-        rest = later;
+    rest: &'a [UnitSums],
+}
+
+impl<'a> FileTrees for ChunkTrees<'a> {
+    ghost may_tell = { λ chunks lengths. IsPieceLength chunks.piece_length × IsPieceLength chunks.size
+        × ((span : ℕ) × (0 < span) × (chunks.size ≡ span * chunks.piece_length))
+        × ((contents : List (List ℕ)) × AreNodesOf chunks.piece_length chunks.size contents lengths chunks.rest.now) };
+
+    ghost are_of = { λ chunks piece_length contents. (piece_length ≡ chunks.piece_length)
+        × AreNodesOf chunks.piece_length chunks.size contents (map length contents) chunks.rest.now };
+
+    fn next(&mut self, alloc: Global, size: u64) -> Result<(Option<Hash>, Vec<Hash>), AllocError> {
+        let count = size.div_ceil(self.size) as usize;
+        let (own, later) = self.rest.split_at(count.min(self.rest.len()));
+        self.rest = later;
+        let tree = tree_of_content(alloc, self.piece_length, self.size, size, own)?;
+        Ok(tree)
     }
-    Ok(Trees { roots, layers })
 }
 
 /// The root and the layer of one content.

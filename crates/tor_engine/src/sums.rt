@@ -1,35 +1,28 @@
 //! What the files of a plan sum up to.
-ghost use Rattle.std.specs.Prelude.{◌≡◌, ◌-◌, ◌*◌, ◌^◌, ◌<◌, ◌≤◌, [], ◌∷◌, All, IfOk, List, ℕ, None, Option, Some};
+ghost use Rattle.std.specs.Prelude.{◌≡◌, ◌-◌, ◌*◌, ◌^◌, ◌<◌, ◌≤◌, [], ◌∷◌, IfOk, List, ℕ, None, Option, Some};
 ghost use Rattle.std.specs.Prelude.{length, map, min, replicate, slice_index_or, true, if◌then◌else◌};
 ghost use Rattle.std.specs.Int.{div_ceil};
-ghost use Rattle.std.specs.List.{flat_map};
+ghost use Rattle.std.specs.List.{AllByRecursion, flat_map};
 ghost use Rattle.std.specs.Option.{ForSome};
 ghost use Rattle.tor_merkle.specs.Layer.{piece_layer, root_of};
 ghost use Rattle.tor_merkle.specs.declared.TheConstants.{BLOCK_LENGTH, MAX_LENGTH};
-ghost use Rattle.tor_plan.specs.Forest.{trees_from};
 ghost use Rattle.tor_plan.specs.PlanFacts.{IsPlan};
 ghost use Rattle.tor_engine.specs.Sums.{AreSumsOf, AreSumsOfPlan, lists_of};
 ghost use Rattle.tor_engine.specs.declared.unit_sums.UnitSums.{UnitSums};
-ghost use Rattle.tor_engine.specs.steps.Hashes.{IsCut, level_of, nodes_of_file, nodes_of_unit};
+ghost use Rattle.tor_engine.specs.steps.Hashes.{level_of, nodes_of_unit};
 ghost use Rattle.tor_engine.specs.steps.Roots.{roots_of_trees};
 ghost use Rattle.tor_engine.specs.steps.Run.{AreSumsOfUnits, node_in};
-ghost use Rattle.tor_engine.specs.steps.Trees.{AreTrees, AreTreesOf};
+ghost use Rattle.tor_engine.specs.steps.Trees.{AreLeftInPlan, AreTreesOf};
 ghost use Rattle.tor_tree.specs.Kinds.{has_v1, has_v2};
 ghost use Rattle.tor_tree.specs.declared.kinds.Kind.{Kind};
 ghost use Rattle.tor_v1.specs.Piece.{piece_sums};
 
 use crate::joined::{layer_of_units, pieces_of_units};
+use crate::trees::{FileTrees, Trees, trees_of};
 use crate::unit_sums::{UnitSums, level_of};
 use std::alloc::{AllocError, Global};
 use tor_merkle::{BLOCK_LENGTH, Hash};
 use tor_plan::Plan;
-
-/// The root and the layer of each file, in their order.
-#[derive(Drop)]
-pub(crate) struct Trees {
-    pub(crate) roots: Vec<Option<Hash>>,
-    pub(crate) layers: Vec<Vec<Hash>>,
-}
 
 /// What files sum up to, file by file in the order of the plan.
 #[derive(Debug, Drop)]
@@ -135,40 +128,40 @@ fn trees_of_plan(
     if !plan.kind().has_v2() {
         return Ok(None);
     }
-    let level = level_of(&plan.forest().trees);
-    let trees = trees_of_files(alloc, lengths, level, units, tops)?;
+    let files = PlannedTrees {
+        level: level_of(&plan.forest().trees),
+        rest: units,
+        tops,
+    };
+    let trees = trees_of(alloc, lengths, files)?;
     Ok(Some(trees))
 }
 
-/// The root and the layer of each file, from what the units of all files sum up to, and the roots of the trees over
-/// them.
-fn trees_of_files(
-    alloc: Global,
-    lengths: &[u64],
+/// The files of a plan that are left: what their units sum up to, of which several stand at the level, and the roots of
+/// the trees over them.
+#[derive(Drop)]
+struct PlannedTrees<'a> {
     level: Option<u32>,
-    units: &[UnitSums],
-    tops: &[Option<Hash>],
-) -> Result<Trees, AllocError>
-    requires low { ForSome level (λ k. k ≤ 36) }
-    requires small { All (λ size. size ≤ MAX_LENGTH) lengths.now }
-    ensures { (piece_length size : ℕ) (contents : List (List ℕ)) → map length contents ≡ lengths.now →
-        IsCut piece_length size level lengths.now →
-        map node_in units.now ≡ flat_map (nodes_of_file piece_length size level) contents →
-        tops.now ≡ roots_of_trees (map (λ unit. unit.hash) units.now) (trees_from size 0 lengths.now) →
-        IfOk result (AreTrees piece_length contents) }
-{
-    let mut roots = Vec::with_capacity(alloc, lengths.len())?;
-    let mut layers = Vec::with_capacity(alloc, lengths.len())?;
-    let (mut rest, mut tops) = (units, tops);
-    'files: for size in lengths {
-        let count = count_of_units(*size, level) as usize;
-        let (own, later) = rest.split_at(count.min(rest.len()));
-        let (root, more) = root_of_file(own, tops);
-        roots.push(root)?;
-        layers.push(layer_of_units(alloc, own)?)?;
-        (rest, tops) = (later, more);
+    rest: &'a [UnitSums],
+    tops: &'a [Option<Hash>],
+}
+
+impl<'a> FileTrees for PlannedTrees<'a> {
+    ghost may_tell = { λ files sizes.
+        ForSome files.level (λ k. k ≤ 36) × AllByRecursion (λ size. size ≤ MAX_LENGTH) sizes };
+
+    ghost are_of = { λ files piece_length contents.
+        AreLeftInPlan files.level piece_length contents files.rest.now files.tops.now };
+
+    fn next(&mut self, alloc: Global, size: u64) -> Result<(Option<Hash>, Vec<Hash>), AllocError> {
+        let count = count_of_units(size, self.level) as usize;
+        let (own, later) = self.rest.split_at(count.min(self.rest.len()));
+        let (root, tops) = root_of_file(own, self.tops);
+        self.rest = later;
+        self.tops = tops;
+        let layer = layer_of_units(alloc, own)?;
+        Ok((root, layer))
     }
-    Ok(Trees { roots, layers })
 }
 
 /// How many units a file has, of which several stand at the level.

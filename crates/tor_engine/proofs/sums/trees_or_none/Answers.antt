@@ -5,7 +5,7 @@ use Rattle.tor_merkle.specs.Layer.{piece_layer, root_of}
 use Rattle.tor_tree.specs.Kinds.{has_v2}
 use Rattle.tor_tree.specs.declared.kinds.Kind.{Kind}
 use Rattle.tor_engine.specs.Sums.{lists_of}
-use Rattle.tor_engine.specs.declared.sums.Trees.{Trees}
+use Rattle.tor_engine.specs.declared.trees.Trees.{Trees}
 use Rattle.tor_engine.specs.steps.Trees.{AreTreesOf}
 use Rattle.tor_engine.proofs.sums.trees_or_none.Goals as goal
 
