@@ -1,10 +1,11 @@
 -- What workers did at a board, when it is closed.
 use Rattle.std.proofs.Common.{◌≡◌, ◌<◌, ◌≤◌, ℕ, ◌+◌, List, [], ◌++◌, length, map, take, drop, get_or, Option, None}
-use Rattle.std.proofs.Common.{Some, Ok, Err, inl, inr, refl, ap, sym, subst, ◌∙◌, arith, append-nil, IsPermutation}
+use Rattle.std.proofs.Common.{Some, Ok, Err, Vec, inl, inr, refl, ap, sym, subst, ◌∙◌, arith, append-nil, IsPermutation}
 use mathlib.Core.Option.{some}
 use lib.ListN.{get_elem?}
 use Rattle.std.proofs.lemmas.List.{drop-map, length-map, take-map}
 use Rattle.std.specs.Prelude.{MatchOption, unwrap_or}
+use Rattle.std.specs.declared.alloc.Global.{Global}
 use Rattle.std.specs.List.{AllByRecursion, range_with_len}
 use Rattle.std.proofs.ByRecursion.{all_shuffled}
 use Rattle.tor_board.specs.Desks.{Desk, GivenUnit, hash_of, unit_hashes, units_of}
@@ -19,7 +20,6 @@ use Rattle.tor_source.specs.Source.{SourceFacts}
 use Rattle.tor_engine.specs.Fault.{IsFault, first_of}
 use Rattle.tor_engine.specs.declared.errors.EngineError.{EngineError}
 use Rattle.tor_engine.specs.declared.failure.Failure.{Failure}
-use Rattle.tor_engine.specs.declared.taken.Taken.{Taken}
 use Rattle.tor_engine.specs.steps.Each.{SumUpEach}
 use Rattle.tor_engine.specs.steps.Places.{AreNumbers}
 use Rattle.tor_engine.specs.steps.Roots.{root_of_run, roots_of_trees}
@@ -37,8 +37,8 @@ module _ {F A : Type 0} (number_in : A → ℕ) (hash_in : A → List ℕ) (sums
     (all : IsAllGiven (length units) new least) where
   -- ---- none failed
 
-  module _ (taken : Taken A)
-      (answers : AnswersSeat number_in hash_in sums_up is_steady fault may_be units old new (Ok taken)) where
+  module _ (sums : Vec A Global)
+      (answers : AnswersSeat number_in hash_in sums_up is_steady fault may_be units old new (Ok sums)) where
     abbrev news : List GivenUnit
     news = answers.news
 
@@ -61,20 +61,20 @@ module _ {F A : Type 0} (number_in : A → ℕ) (hash_in : A → List ℕ) (sums
         (λ u below. holds_of_given (λ u. fault facts (unit_at units u) ≡ None) news
         (answers.has.faultless facts steady) u (omega (arith, once u below)))
 
-    module _ (placed : List A) (moved : IsPermutation taken.sums.items placed)
-        (ordered : AreNumbers (map number_in taken.sums.items)
-        → map number_in placed ≡ range_with_len 0 (length taken.sums.items)) where
+    module _ (placed : List A) (moved : IsPermutation sums.items placed)
+        (ordered : AreNumbers (map number_in sums.items)
+        → map number_in placed ≡ range_with_len 0 (length sums.items)) where
       summed_up : AllByRecursion (IsSumOf number_in sums_up units) placed
-      summed_up = all_shuffled (IsSumOf number_in sums_up units) taken.sums.items placed moved answers.took.3
+      summed_up = all_shuffled (IsSumOf number_in sums_up units) sums.items placed moved answers.took.3
 
       numbers : map number_in placed ≡ range_with_len 0 (length units)
       numbers =
-          let are = numbers_of_counts (length units) (map number_in taken.sums.items)
-          (each_mapped number_in (λ u. u < length units) taken.sums.items
-          (each_more (IsSumOf number_in sums_up units) (λ one. number_in one < length units) taken.sums.items
+          let are = numbers_of_counts (length units) (map number_in sums.items)
+          (each_mapped number_in (λ u. u < length units) sums.items
+          (each_more (IsSumOf number_in sums_up units) (λ one. number_in one < length units) sums.items
           (λ one is. is.0) answers.took.3))
           (λ u below. answers.took.2.counted u ∙ once u below) in
-          ordered are.1 ∙ ap (range_with_len 0) (sym (length-map taken.sums.items number_in) ∙ are.0)
+          ordered are.1 ∙ ap (range_with_len 0) (sym (length-map sums.items number_in) ∙ are.0)
 
       pub summed : SumUpEach sums_up units placed
       summed =
@@ -90,7 +90,7 @@ module _ {F A : Type 0} (number_in : A → ℕ) (hash_in : A → List ℕ) (sums
           (IsSumOf number_in sums_up units) (λ one. hash_of news (number_in one) ≡ hash_in one) placed
           (λ one there is. hash_given (number_in one) (hash_in one) news there
           (let number = is.0 in omega (arith, once (number_in one) number)))
-          (all_shuffled (λ one. IsIn (given_pairs news) (pair_in number_in hash_in one)) taken.sums.items placed moved
+          (all_shuffled (λ one. IsIn (given_pairs news) (pair_in number_in hash_in one)) sums.items placed moved
           answers.took.2.hashes) summed_up)
           ∙ ap (map (hash_of news)) numbers
 

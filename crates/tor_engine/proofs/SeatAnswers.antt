@@ -1,7 +1,8 @@
 -- What workers did from one seat, and from two that are joined.
 use Rattle.std.proofs.Common.{◌≡◌, ◌⊎◌, ◌<◌, ◌≤◌, ℕ, ◌+◌, ◌-◌, ◌/◌, List, [], ◌++◌, length, Option, None, Some, Result}
-use Rattle.std.proofs.Common.{Ok, Err, inl, inr, ap, ap₂, sym, subst, ◌∙◌, arith, ◌||◌, append-nil}
+use Rattle.std.proofs.Common.{Ok, Err, Vec, inl, inr, ap, ap₂, sym, subst, ◌∙◌, arith, ◌||◌, append-nil}
 use Rattle.std.proofs.lemmas.List.{append_assoc}
+use Rattle.std.specs.declared.alloc.Global.{Global}
 use Rattle.std.specs.List.{AllByRecursion}
 use Rattle.tor_board.specs.Desks.{Desk, GivenUnit, both, fresh, keeping}
 use Rattle.tor_board.specs.Seats.{IsLeastOf}
@@ -11,45 +12,49 @@ use Rattle.tor_engine.specs.declared.errors.EngineError.{EngineError}
 use Rattle.tor_engine.specs.declared.errors.EngineError.TheVariants.{Resources}
 use Rattle.tor_engine.specs.declared.failure.Failure.{Failure}
 use Rattle.tor_engine.specs.declared.taken.Taken.{Taken}
-use Rattle.tor_engine.specs.steps.Taken.{AnswersSeat, AreJoined, AreOfGiven, HasGiven, IsSumOf, TakesUnits, unit_at}
+use Rattle.tor_engine.specs.steps.Failing.{AreJoined}
+use Rattle.tor_engine.specs.steps.Taken.{AnswersSeat, AreOfGiven, AreSumsOfTaken, HasGiven, IsSumOf, TakesUnits, unit_at}
 use Rattle.tor_engine.proofs.Counts.{each_append}
 use Rattle.tor_engine.proofs.GivenInOrder.{both_of_given, least_of_both, least_of_one, least_of_second, of_given}
 
 module _ {F A : Type 0} (number_in : A → ℕ) (hash_in : A → List ℕ) (sums_up : PlanUnit → A → Type 0)
     (is_steady : SourceFacts F → Type 0) (fault : SourceFacts F → PlanUnit → Option (EngineError F))
     (may_be : EngineError F → Type 0) (units : List PlanUnit) where
-  abbrev Answers : Desk → Desk → Result (Taken A) (Failure F) → Type 0
+  abbrev Answers : Desk → Desk → Result (Vec A Global) (Failure F) → Type 0
   Answers old new result = AnswersSeat number_in hash_in sums_up is_steady fault may_be units old new result
 
   -- one worker
-  pub seat_answers : (old new : Desk) (result : Result (Taken A) (Failure F))
-      → TakesUnits number_in hash_in sums_up is_steady fault may_be units old new result → Answers old new result
-  seat_answers old new (Ok taken) takes = record {
-    news = takes.news;
-    has = takes.has;
-    took = (
-      takes.took.0,
-      takes.took.1,
-      of_given number_in hash_in takes.news taken.sums.items takes.took.2.order,
-      takes.took.2.summed,
-    );
-    steady = λ facts steady. _;
-    gave = _;
-  }
-  seat_answers old new (Err failure) takes = record {
-    news = takes.news;
-    has = takes.has;
-    took = _;
-    steady = λ facts steady. elim (takes.steady facts steady) [
-      | inl memory ↦ inl memory
-      | inr is ↦ inr (
-        subst (λ (xs : List ℕ). IsLeastOf xs failure.unit) (sym takes.failed.0) (least_of_one failure.unit),
-        takes.failed.1,
-        is,
-      )
-    ];
-    gave = takes.gave;
-  }
+  pub seat_answers : (old new : Desk) (taken : Result (Taken A) (Failure F)) (result : Result (Vec A Global) (Failure F))
+      → AreSumsOfTaken taken result
+      → TakesUnits number_in hash_in sums_up is_steady fault may_be units old new taken → Answers old new result
+  seat_answers old new (Ok taken) result is takes =
+      subst (λ (r : Result (Vec A Global) (Failure F)). Answers old new r) (sym is) (record {
+        news = takes.news;
+        has = takes.has;
+        took = (
+          takes.took.0,
+          takes.took.1,
+          of_given number_in hash_in takes.news taken.sums.items takes.took.2.order,
+          takes.took.2.summed,
+        );
+        steady = λ facts steady. _;
+        gave = _;
+      })
+  seat_answers old new (Err failure) result is takes =
+      subst (λ (r : Result (Vec A Global) (Failure F)). Answers old new r) (sym is) (record {
+        news = takes.news;
+        has = takes.has;
+        took = _;
+        steady = λ facts steady. elim (takes.steady facts steady) [
+          | inl memory ↦ inl memory
+          | inr is ↦ inr (
+            subst (λ (xs : List ℕ). IsLeastOf xs failure.unit) (sym takes.failed.0) (least_of_one failure.unit),
+            takes.failed.1,
+            is,
+          )
+        ];
+        gave = takes.gave;
+      })
 
   module _ (old one_old other_old new one_new other_new : Desk) (kept : one_old ≡ keeping old)
       (made : other_old ≡ fresh old) (bare : old.given ≡ []) (joined : new ≡ both one_new other_new) where
@@ -78,34 +83,34 @@ module _ {F A : Type 0} (number_in : A → ℕ) (hash_in : A → List ℕ) (sums
     failed_both : new.failed ≡ one_new.failed ++ other_new.failed
     failed_both = ap (λ (d : Desk). d.failed) joined
 
-    pub seats_answer : (one other result : Result (Taken A) (Failure F)) → Answers one_old one_new one
+    pub seats_answer : (one other result : Result (Vec A Global) (Failure F)) → Answers one_old one_new one
         → Answers other_old other_new other → AreJoined one other result
         → ((failure : Failure F) → failure.error ≡ Resources → may_be failure.error) → Answers old new result
-    seats_answer (Ok taken) (Ok next) (Ok all) first second is may = record {
+    seats_answer (Ok sums) (Ok next) (Ok all) first second is may = record {
       news = first.news ++ second.news;
       has = given_both first.news second.news first.has second.has;
       took = (
         ap (λ (d : Desk). d.done) joined ∙ ap (λ b. b || other_new.done) first.took.0,
         failed_both ∙ ap₂ (λ xs ys. xs ++ ys) first.took.1 second.took.1,
         subst (AreOfGiven number_in hash_in (first.news ++ second.news)) (sym is)
-            (both_of_given number_in hash_in first.news second.news taken.sums.items next.sums.items first.took.2
+            (both_of_given number_in hash_in first.news second.news sums.items next.items first.took.2
             second.took.2),
         subst (AllByRecursion (IsSumOf number_in sums_up units)) (sym is)
-            (each_append (IsSumOf number_in sums_up units) taken.sums.items next.sums.items first.took.3
+            (each_append (IsSumOf number_in sums_up units) sums.items next.items first.took.3
             second.took.3),
       );
       steady = λ facts steady. _;
       gave = _;
     }
-    seats_answer (Ok taken) (Ok next) (Err failure) first second is may = record {
+    seats_answer (Ok sums) (Ok next) (Err failure) first second is may = record {
       news = first.news ++ second.news;
       has = given_both first.news second.news first.has second.has;
       took = _;
       steady = λ facts steady. inl is;
       gave = may failure is;
     }
-    seats_answer (Ok taken) (Err failure) result first second is may =
-        subst (λ (r : Result (Taken A) (Failure F)). Answers old new r) (sym is) (record {
+    seats_answer (Ok sums) (Err failure) result first second is may =
+        subst (λ (r : Result (Vec A Global) (Failure F)). Answers old new r) (sym is) (record {
           news = first.news ++ second.news;
           has = given_both first.news second.news first.has second.has;
           took = _;
@@ -121,7 +126,7 @@ module _ {F A : Type 0} (number_in : A → ℕ) (hash_in : A → List ℕ) (sums
           gave = second.gave;
         })
     seats_answer (Err failure) (Ok next) result first second is may =
-        subst (λ (r : Result (Taken A) (Failure F)). Answers old new r) (sym is) (record {
+        subst (λ (r : Result (Vec A Global) (Failure F)). Answers old new r) (sym is) (record {
           news = first.news ++ second.news;
           has = given_both first.news second.news first.has second.has;
           took = _;

@@ -1,20 +1,25 @@
 -- What workers answer for units, and for two halves of them.
-use Rattle.std.proofs.Common.{◌≡◌, ◌⊎◌, ℕ, ◌+◌, List, ◌++◌, length, min, Option, Result, Ok, Err, inl, inr}
-use Rattle.std.proofs.Common.{ap, refl, sym, subst, ◌∙◌}
+use Rattle.std.proofs.Common.{◌≡◌, ◌⊎◌, ℕ, ◌+◌, List, ◌++◌, Vec, length, min, Option, Result, Ok, Err, inl, inr}
+use Rattle.std.proofs.Common.{refl, sym, subst, ◌∙◌}
 use Rattle.std.specs.Prelude.{IsErrAnd}
+use Rattle.std.specs.declared.alloc.Global.{Global}
 use Rattle.tor_plan.specs.declared.units.PlanUnit.{PlanUnit}
 use Rattle.tor_source.specs.Source.{SourceFacts}
 use Rattle.tor_engine.specs.declared.errors.EngineError.{EngineError}
 use Rattle.tor_engine.specs.declared.errors.EngineError.TheVariants.{Resources}
 use Rattle.tor_engine.specs.declared.failure.Failure.{Failure}
-use Rattle.tor_engine.specs.steps.Failing.{AnswersUnits, AreBoth, IsFailure}
+use Rattle.tor_engine.specs.steps.Failing.{AnswersUnits, AreJoined, IsFailure}
 use Rattle.tor_engine.proofs.Failing.{both_fail, first_fails, second_decides}
 
-module _ {W F A : Type 0} (sums_up : W → List PlanUnit → A → Type 0) (is_steady : W → SourceFacts F → Type 0)
+module _ {W F X : Type 0} (sums_up : W → List PlanUnit → List X → Type 0) (is_steady : W → SourceFacts F → Type 0)
     (fault : W → SourceFacts F → PlanUnit → Option (EngineError F)) (may_be : W → EngineError F → Type 0) where
+  abbrev A : Type 0
+  A = Vec X Global
+
   abbrev Answers : W → ℕ → List PlanUnit → Result A (Failure F) → Type 0
   Answers work n units result =
-      AnswersUnits (sums_up work) (is_steady work) (fault work) (may_be work) n units result
+      AnswersUnits (λ units sums. sums_up work units sums.items) (is_steady work) (fault work) (may_be work) n units
+      result
 
   -- resources were refused
   pub refused : (work : W) (n : ℕ) (units : List PlanUnit) (result : Result A (Failure F))
@@ -25,7 +30,9 @@ module _ {W F A : Type 0} (sums_up : W → List PlanUnit → A → Type 0) (is_s
 
   module _ (work first second : W) (n m k : ℕ) (all xs ys : List PlanUnit)
       (halves : first ≡ work × second ≡ work × all ≡ xs ++ ys × m ≡ n × k ≡ n + length xs)
-      (r s : Result A (Failure F)) (is_one : Answers first m xs r) (is_other : Answers second k ys s) where
+      (r s : Result A (Failure F)) (is_one : Answers first m xs r) (is_other : Answers second k ys s)
+      (append : (w : W) (us vs : List PlanUnit) (ones others : List X) → sums_up w us ones → sums_up w vs others
+      → sums_up w (us ++ vs) (ones ++ others)) where
     one : (answer : Result A (Failure F)) → r ≡ answer → Answers work n xs answer
     one answer is =
         subst (λ (w : W). Answers w n xs answer) halves.0
@@ -41,13 +48,14 @@ module _ {W F A : Type 0} (sums_up : W → List PlanUnit → A → Type 0) (is_s
     whole : (answer : Result A (Failure F)) → Answers work n (xs ++ ys) answer → Answers work n all answer
     whole answer = subst (λ (units : List PlanUnit). Answers work n units answer) (sym halves.2)
 
-    pub both_answer : (sums next both : A) → r ≡ Ok sums → s ≡ Ok next
-        → (sums_up work xs sums → sums_up work ys next → sums_up work (xs ++ ys) both) → Answers work n all (Ok both)
-    both_answer sums next both is_sums is_next summed =
+    both_answer : (sums next both : A) → r ≡ Ok sums → s ≡ Ok next → both.items ≡ sums.items ++ next.items
+        → Answers work n all (Ok both)
+    both_answer sums next both is_sums is_next is_both =
         let before = one (Ok sums) is_sums in
         let after = other (Ok next) is_next in
         whole (Ok both) (record {
-          summed = summed before.summed after.summed;
+          summed = subst (sums_up work (xs ++ ys)) (sym is_both)
+              (append work xs ys sums.items next.items before.summed after.summed);
           steady = λ facts steady.
               second_decides (fault work facts) n xs ys (before.steady facts steady) ∙ after.steady facts steady;
           gave = _;
@@ -94,29 +102,19 @@ module _ {W F A : Type 0} (sums_up : W → List PlanUnit → A → Type 0) (is_s
           ];
         })
 
-    -- both answered
-    pub are_both : (sums next : A) → AreBoth r s (Ok (sums, next)) → (r ≡ Ok sums) × (s ≡ Ok next)
-    are_both sums next = by_cases r s refl refl
+    -- both answered, or one stopped
+    pub joined_answers : (result : Result A (Failure F)) → AreJoined r s result → may_be work Resources
+        → Answers work n all result
+    joined_answers answer is_joined may = by_cases r s answer refl refl is_joined
       where
-        by_cases : (a b : Result A (Failure F)) → r ≡ a → s ≡ b → AreBoth a b (Ok (sums, next))
-            → (r ≡ Ok sums) × (s ≡ Ok next)
-        by_cases (Ok x) (Ok y) is_first is_second both =
-            let same : ◌≡◌ {A = A × A} (x, y) (sums, next) = cc in
-            (is_first ∙ ap Ok (ap (λ p. p.0) same), is_second ∙ ap Ok (ap (λ p. p.1) same))
-        by_cases (Ok x) (Err g) is_first is_second both = cc
-        by_cases (Err f) (Ok y) is_first is_second both = cc
-        by_cases (Err f) (Err g) is_first is_second both = absurd both
-
-    -- one stopped
-    pub one_stopped : (failure : Failure F) → AreBoth r s (Err failure) → Answers work n all (Err failure)
-    one_stopped failure = by_cases r s refl refl
-      where
-        by_cases : (a b : Result A (Failure F)) → r ≡ a → s ≡ b → AreBoth a b (Err failure)
-            → Answers work n all (Err failure)
-        by_cases (Ok x) (Ok y) is_first is_second both = cc
-        by_cases (Ok x) (Err g) is_first is_second both = second_answers x failure is_first
-            (is_second ∙ ap Err (let e : g ≡ failure = cc in e))
-        by_cases (Err f) (Ok y) is_first is_second both =
-            first_answers failure (is_first ∙ ap Err (let e : f ≡ failure = cc in e))
-        by_cases (Err f) (Err g) is_first is_second both =
-            least_answers f g failure is_first is_second both.either both.resources both.lesser
+        by_cases : (a b result : Result A (Failure F)) → r ≡ a → s ≡ b → AreJoined a b result
+            → Answers work n all result
+        by_cases (Ok x) (Ok y) (Ok both) is_first is_second is = both_answer x y both is_first is_second is
+        by_cases (Ok x) (Ok y) (Err f) is_first is_second is = refused work n all (Err f) is may
+        by_cases (Ok x) (Err g) result is_first is_second is =
+            subst (λ (t : Result A (Failure F)). Answers work n all t) (sym is) (second_answers x g is_first is_second)
+        by_cases (Err f) (Ok y) result is_first is_second is =
+            subst (λ (t : Result A (Failure F)). Answers work n all t) (sym is) (first_answers f is_first)
+        by_cases (Err f) (Err g) (Ok both) is_first is_second is = absurd is
+        by_cases (Err f) (Err g) (Err least) is_first is_second is =
+            least_answers f g least is_first is_second is.either is.resources is.lesser

@@ -1,7 +1,9 @@
 //! What units give, joined in their order.
 ghost use Rattle.std.specs.Prelude.{◌≡◌, ◌++◌, IfOk, OnOk};
 ghost use Rattle.std.specs.List.{flat_map};
+ghost use Rattle.tor_engine.specs.steps.Failing.{AreJoined};
 
+use crate::failure::{Failure, both};
 use crate::piece_hash::PieceHash;
 use crate::piece_work::UnitPieces;
 use crate::unit_sums::UnitSums;
@@ -17,6 +19,22 @@ pub(crate) fn append<T: Drop>(items: &mut Vec<T>, next: Vec<T>) -> Result<(), Al
         items.push(item)?;
     }
     Ok(())
+}
+
+/// What two workers answer together: the items of one after those of the other, or why one stopped.
+pub(crate) fn both_joined<T: Drop, F: Drop>(
+    one: Result<Vec<T>, Failure<F>>,
+    other: Result<Vec<T>, Failure<F>>,
+) -> Result<Vec<T>, Failure<F>>
+    ensures { AreJoined one other result }
+{
+    match both(one, other) {
+        Ok((mut items, next)) => {
+            append(&mut items, next)?;
+            Ok(items)
+        }
+        Err(failure) => Err(failure),
+    }
 }
 
 /// The hashes of the pieces of all units, one after the other.

@@ -56,8 +56,8 @@ where
     let (seat, result) = (seated.seat, seated.result);
     let closed = board.close(seat);
     match result {
-        Ok(taken) => {
-            let sums = in_order(work, taken.sums);
+        Ok(sums) => {
+            let sums = in_order(work, sums);
             Ok((sums, closed.roots))
         }
         Err(failure) => Err(failure.error),

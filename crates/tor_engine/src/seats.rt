@@ -2,11 +2,11 @@
 ghost use Rattle.std.specs.Prelude.{◌≡◌, [], All, length};
 ghost use Rattle.tor_board.specs.Desks.{fresh, keeping};
 ghost use Rattle.tor_board.specs.Seats.{IsSeatOf, knows, unit_count};
-ghost use Rattle.tor_engine.specs.steps.Taken.{AnswersSeat, AreJoined, IsIdle};
+ghost use Rattle.tor_engine.specs.steps.Taken.{AnswersSeat, AreSumsOfTaken, IsIdle};
 
-use crate::failure::{Failure, both};
+use crate::failure::Failure;
 use crate::halves::Divisible;
-use crate::joined::append;
+use crate::joined::both_joined;
 use crate::taken::Taken;
 use crate::taking::take_units;
 use crate::unit_work::UnitWork;
@@ -22,12 +22,12 @@ pub(crate) struct SeatShare<'a, W> {
     pub(crate) seat: Seat,
 }
 
-/// The seat when its workers have ended, and what they took, or why one stopped.
+/// The seat when its workers have ended, and what the units that they took sum up to, or why one stopped.
 #[derive(Drop)]
 pub(crate) struct Seated<'a, T, F> {
     pub(crate) board: &'a Board,
     pub(crate) seat: Seat,
-    pub(crate) result: Result<Taken<T>, Failure<F>>,
+    pub(crate) result: Result<Vec<T>, Failure<F>>,
 }
 
 impl<'a, W: UnitWork + Sync> Divisible for SeatShare<'a, W>
@@ -90,11 +90,11 @@ where
             board,
             mut seat,
         } = self;
-        let result = take_units(work, units, board, &mut seat);
+        let taken = take_units(work, units, board, &mut seat);
         Seated {
             board,
             seat,
-            result,
+            result: sums_of(taken),
         }
     }
 
@@ -106,24 +106,17 @@ where
         Seated {
             board,
             seat: board.join(one.seat, other.seat),
-            result: joined(one.result, other.result),
+            result: both_joined(one.result, other.result),
         }
     }
 }
 
-/// What two workers took, or why one of them stopped.
-fn joined<T: Drop, F: Drop>(
-    one: Result<Taken<T>, Failure<F>>,
-    other: Result<Taken<T>, Failure<F>>,
-) -> Result<Taken<T>, Failure<F>>
-    ensures { AreJoined one other result }
+/// What the units that a worker took sum up to. The board has the roots, so that the tops are of no more use.
+fn sums_of<T: Drop, F>(taken: Result<Taken<T>, Failure<F>>) -> Result<Vec<T>, Failure<F>>
+    ensures { AreSumsOfTaken taken result }
 {
-    match both(one, other) {
-        Ok((mut taken, next)) => {
-            // The board has the roots, so that the tops are of no more use.
-            append(&mut taken.sums, next.sums)?;
-            Ok(taken)
-        }
+    match taken {
+        Ok(taken) => Ok(taken.sums),
         Err(failure) => Err(failure),
     }
 }

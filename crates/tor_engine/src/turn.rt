@@ -7,9 +7,9 @@ ghost use Rattle.tor_engine.specs.steps.Each.{SumUpEach};
 ghost use Rattle.tor_engine.specs.steps.Failing.{AnswersUnits};
 
 use crate::errors::EngineError;
-use crate::failure::{Failure, both};
+use crate::failure::Failure;
 use crate::halves::{Divisible, by_halves};
-use crate::joined::append;
+use crate::joined::both_joined;
 use crate::unit_work::UnitWork;
 use std::thread::Threads;
 use tor_plan::PlanUnit;
@@ -98,13 +98,7 @@ where
         one: Result<Vec<W::Sums>, Failure<W::Fault>>,
         other: Result<Vec<W::Sums>, Failure<W::Fault>>,
     ) -> Result<Vec<W::Sums>, Failure<W::Fault>> {
-        match both(one, other) {
-            Ok((mut sums, next)) => {
-                append(&mut sums, next)?;
-                Ok(sums)
-            }
-            Err(failure) => Err(failure),
-        }
+        both_joined(one, other)
     }
 }
 

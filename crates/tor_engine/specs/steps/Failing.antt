@@ -1,6 +1,7 @@
 -- The first of numbered units that fails. Only private clauses cite these.
-use Rattle.std.specs.Prelude.{◌≡◌, ◌⊎◌, ℕ, List, Option, None, Result, IfErr, IfOk, MatchResult, Some, option_map, min}
-use Rattle.std.specs.Prelude.{Ok, Err, IsErrAnd}
+use Rattle.std.specs.Prelude.{◌≡◌, ◌⊎◌, ◌++◌, ℕ, List, Option, None, Result, IfErr, IfOk, MatchResult, Some, option_map, min}
+use Rattle.std.specs.Prelude.{Ok, Err, IsErrAnd, Vec}
+use Rattle.std.specs.declared.alloc.Global.{Global}
 use Rattle.std.specs.List.{enumerate_from}
 use Rattle.tor_plan.specs.declared.units.PlanUnit.{PlanUnit}
 use Rattle.tor_source.specs.Source.{SourceFacts}
@@ -44,3 +45,12 @@ AreBoth (Ok one) (Ok other) result = result ≡ Ok (one, other)
 AreBoth (Ok one) (Err failure) result = result ≡ Err failure
 AreBoth (Err failure) (Ok other) result = result ≡ Err failure
 AreBoth (Err failure) (Err later) result = IsErrAnd result (IsLesser failure later)
+
+-- the same of lists: the items of one after those of the other, or why one stopped
+abbrev pub AreJoined : {F A : Type 0} → Result (Vec A Global) (Failure F) → Result (Vec A Global) (Failure F)
+    → Result (Vec A Global) (Failure F) → Type 0
+AreJoined (Ok one) (Ok other) result =
+    MatchResult result (λ joined. joined.items ≡ one.items ++ other.items) (λ failure. failure.error ≡ Resources)
+AreJoined (Ok one) (Err failure) result = result ≡ Err failure
+AreJoined (Err failure) (Ok other) result = result ≡ Err failure
+AreJoined (Err failure) (Err later) result = IsErrAnd result (IsLesser failure later)

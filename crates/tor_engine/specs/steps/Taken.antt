@@ -1,7 +1,8 @@
 -- What workers did with units that they claimed at a board. Only private clauses cite these.
 use Rattle.std.specs.Prelude.{◌≡◌, ◌⊎◌, ◌<◌, ◌+◌, ◌≤◌, ℕ, true, List, [], ◌∷◌, ◌++◌, map, reverse, length, Option}
-use Rattle.std.specs.Prelude.{None, Result, Ok, Err, IfErr, IfOk, IsErrAnd, MatchResult, Some}
+use Rattle.std.specs.Prelude.{None, Result, Ok, Err, IfErr, IfOk, Some, Vec}
 use Rattle.std.specs.Prelude.{vec_capacity, vec_len}
+use Rattle.std.specs.declared.alloc.Global.{Global}
 use Rattle.std.specs.List.{AllByRecursion}
 use Rattle.tor_board.specs.Desks.{Desk, GivenUnit, after_give, told, units_of}
 use Rattle.tor_board.specs.Seats.{IsLeastOf}
@@ -13,7 +14,6 @@ use Rattle.tor_engine.specs.declared.errors.EngineError.{EngineError}
 use Rattle.tor_engine.specs.declared.errors.EngineError.TheVariants.{Resources}
 use Rattle.tor_engine.specs.declared.failure.Failure.{Failure}
 use Rattle.tor_engine.specs.declared.taken.Taken.{Taken}
-use Rattle.tor_engine.specs.steps.Failing.{IsLesser}
 pub use Rattle.tor_engine.specs.Shares.{given_pairs, unit_at}
 
 -- one more unit and its top can be kept
@@ -94,24 +94,18 @@ pub record AreOfGiven {A : Type 0} (number_in : A → ℕ) (hash_in : A → List
 -- answered
 pub record AnswersSeat {F A : Type 0} (number_in : A → ℕ) (hash_in : A → List ℕ) (sums_up : PlanUnit → A → Type 0)
     (is_steady : SourceFacts F → Type 0) (fault : SourceFacts F → PlanUnit → Option (EngineError F))
-    (may_be : EngineError F → Type 0) (units : List PlanUnit) (old new : Desk) (result : Result (Taken A) (Failure F))
+    (may_be : EngineError F → Type 0) (units : List PlanUnit) (old new : Desk) (result : Result (Vec A Global) (Failure F))
     : Type 0 where
   pub news : List GivenUnit
   pub has : HasGiven is_steady fault units old new news
-  pub took : IfOk result (λ taken. (new.done ≡ true) × (new.failed ≡ [])
-      × AreOfGiven number_in hash_in news taken.sums.items
-      × AllByRecursion (IsSumOf number_in sums_up units) taken.sums.items)
+  pub took : IfOk result (λ sums. (new.done ≡ true) × (new.failed ≡ []) × AreOfGiven number_in hash_in news sums.items
+      × AllByRecursion (IsSumOf number_in sums_up units) sums.items)
   pub steady : (facts : SourceFacts F) → is_steady facts →
       IfErr result (λ failure. (failure.error ≡ Resources) ⊎ (IsLeastOf new.failed failure.unit
       × (failure.unit < length units) × (fault facts (unit_at units failure.unit) ≡ Some failure.error)))
   pub gave : IfErr result (λ failure. may_be failure.error)
 
--- what two workers took, put together, or why one of them stopped
-abbrev pub AreJoined : {F A : Type 0} → Result (Taken A) (Failure F) → Result (Taken A) (Failure F)
-    → Result (Taken A) (Failure F) → Type 0
-AreJoined (Ok one) (Ok other) result =
-    MatchResult result (λ both. both.sums.items ≡ one.sums.items ++ other.sums.items)
-    (λ failure. failure.error ≡ Resources)
-AreJoined (Ok one) (Err failure) result = result ≡ Err failure
-AreJoined (Err failure) (Ok other) result = result ≡ Err failure
-AreJoined (Err failure) (Err later) result = IsErrAnd result (IsLesser failure later)
+-- the sums alone of what was taken
+abbrev pub AreSumsOfTaken : {F A : Type 0} → Result (Taken A) (Failure F) → Result (Vec A Global) (Failure F) → Type 0
+AreSumsOfTaken (Ok taken) result = result ≡ Ok taken.sums
+AreSumsOfTaken (Err failure) result = result ≡ Err failure

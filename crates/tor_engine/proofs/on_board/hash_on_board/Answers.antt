@@ -1,12 +1,12 @@
 -- what the board had when it was closed
 use Rattle.std.proofs.Common.{ℕ, List, ap, length, subst, ◌∙◌}
 use lib.ListN.{get_elem?}
-use Rattle.std.specs.Prelude.{Result}
+use Rattle.std.specs.Prelude.{Result, Vec}
+use Rattle.std.specs.declared.alloc.Global.{Global}
 use Rattle.tor_board.specs.Desks.{Desk}
 use Rattle.tor_board.specs.Seats.{IsAllGiven, knows}
 use Rattle.tor_plan.specs.declared.forests.Run.{Run}
 use Rattle.tor_engine.specs.declared.failure.Failure.{Failure}
-use Rattle.tor_engine.specs.declared.taken.Taken.{Taken}
 use Rattle.tor_engine.specs.steps.Taken.{AnswersSeat}
 use Rattle.tor_engine.proofs.BoardEnd.{faultless, least_fault, roots_there, summed}
 use Rattle.tor_engine.proofs.on_board.hash_on_board.Goals as goal
@@ -24,20 +24,20 @@ returns-in-Ok g c =
     let order = c.in_order-sums.ensures in
     let bare = ap (λ (d : Desk). d.given) c.in_ok-board.ensures.seat.1 in
     let all = subst (λ (n : ℕ). IsAllGiven n new least) c.in_ok-board.ensures.board.0 ends.all in
-    let answers = subst (λ (r : Result (Taken g.row.W-Sums.Denot) (Failure g.row.W-Fault.Denot)).
+    let answers = subst (λ (r : Result (Vec g.row.W-Sums.Denot Global) (Failure g.row.W-Fault.Denot)).
     AnswersSeat (w.number_in work) (w.hash_in work) (w.sums_up work) (w.is_steady work) (w.fault work) (w.gave work)
     units old new r) c.in-Ok.is c.by_halves-seated.ensures.2 in
     let forest = c.in_ok-board.ensures.board.1 in
     record {
       summed = summed (w.number_in work) (w.hash_in work) (w.sums_up work) (w.is_steady work) (w.fault work)
-          (w.gave work) units old new bare least ends.least all c.in-Ok.taken answers placed order.same order.placed;
+          (w.gave work) units old new bare least ends.least all c.in-Ok.sums answers placed order.same order.placed;
       roots = roots_there (w.number_in work) (w.hash_in work) (w.sums_up work) (w.is_steady work) (w.fault work)
-          (w.gave work) units old new bare least ends.least all c.in-Ok.taken answers placed order.same order.placed
+          (w.gave work) units old new bare least ends.least all c.in-Ok.sums answers placed order.same order.placed
           c.args.forest.now.trees.items c.close-closed.result.roots.items c.requires.runs
           (ends.count ∙ ap length forest)
           (λ k run is. ends.roots k run (ap (λ (runs : List Run). get_elem? runs k) forest ∙ is));
       fault = faultless (w.number_in work) (w.hash_in work) (w.sums_up work) (w.is_steady work) (w.fault work)
-          (w.gave work) units old new bare least ends.least all c.in-Ok.taken answers;
+          (w.gave work) units old new bare least ends.least all c.in-Ok.sums answers;
       gave = tt;
     }
 
@@ -49,7 +49,7 @@ returns-in-Err-clause-fault g c =
     let bare = ap (λ (d : Desk). d.given) c.in_ok-board.ensures.seat.1 in
     let all = subst (λ (n : ℕ). IsAllGiven n (knows c.by_halves-seated.result.seat) c.close-closed.result.least_failed)
     c.in_ok-board.ensures.board.0 c.close-closed.ensures.all in
-    let answers = subst (λ (r : Result (Taken g.row.W-Sums.Denot) (Failure g.row.W-Fault.Denot)).
+    let answers = subst (λ (r : Result (Vec g.row.W-Sums.Denot Global) (Failure g.row.W-Fault.Denot)).
     AnswersSeat (w.number_in work) (w.hash_in work) (w.sums_up work) (w.is_steady work) (w.fault work) (w.gave work)
     units (knows c.in_ok-board.seat) (knows c.by_halves-seated.result.seat) r) c.in-Err.is c.by_halves-seated.ensures.2
     in

@@ -13,7 +13,7 @@ use Rattle.tor_engine.proofs.turn.hash_in_turn.Goals as goal
 pub returns-in_err-worker : goal.returns-in_err-worker
 returns-in_err-worker g c =
     let w = g.W.UnitWork in
-    refused (λ work units sums. SumUpEach (w.sums_up work) units sums.items)
+    refused (λ work units sums. SumUpEach (w.sums_up work) units sums)
     w.is_steady w.fault w.gave c.args.work.now c.args.first c.args.units.now c.from_residual.result
     c.from_residual.ensures.1 (g.met.W.UnitWork.may_refuse c.args.work.now)
 
@@ -40,7 +40,7 @@ returns-in-Err g c = record {
 pub returns-in_err-push : goal.returns-in_err-push
 returns-in_err-push g c =
     let w = g.W.UnitWork in
-    refused (λ work units sums. SumUpEach (w.sums_up work) units sums.items)
+    refused (λ work units sums. SumUpEach (w.sums_up work) units sums)
     w.is_steady w.fault w.gave c.args.work.now c.args.first c.args.units.now
     c.from_residual-in_err-push.result c.from_residual-in_err-push.ensures.1
     (g.met.W.UnitWork.may_refuse c.args.work.now)

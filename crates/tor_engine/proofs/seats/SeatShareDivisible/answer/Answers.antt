@@ -8,9 +8,10 @@ pub returns : goal.returns
 returns g c =
     let w = g.W.UnitWork in
     let work = c.args.self.work.now in
-    let taken = c.take_units-result in (
+    let taken = c.take_units-taken in (
       refl,
       taken.ensures.board,
       seat_answers (w.number_in work) (w.hash_in work) (w.sums_up work) (w.is_steady work) (w.fault work) (w.gave work)
-          c.args.self.units.now (knows c.args.self.seat) (knows taken.new.seat) taken.result taken.ensures.taken,
+          c.args.self.units.now (knows c.args.self.seat) (knows taken.new.seat) taken.result c.sums_of.result
+          c.sums_of.ensures taken.ensures.taken,
     )

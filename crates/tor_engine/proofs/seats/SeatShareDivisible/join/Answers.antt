@@ -30,6 +30,6 @@ returns g c = λ whole first second halves one other.
           units (knows whole.seat) (knows first.seat) (knows second.seat) (knows c.join.result) (knows c.args.one.seat)
           (knows c.args.other.seat) halves.6 halves.7 halves.8 c.join.ensures.seat.1 c.args.one.result
           c.args.other.result
-          c.joined.result first_answers second_answers c.joined.ensures
+          c.both_joined.result first_answers second_answers c.both_joined.ensures
           (λ failure is. subst (w.gave work) (sym is) (g.met.W.UnitWork.may_refuse work)),
     )
