@@ -136,8 +136,8 @@ def judged(text):
 
 
 def try_texts(again, folder, texts, rechecks):
-    """Judges texts, and rechecks by those that are torrents and by those that are named: of each text the code of the
-    condition that held, or `accepted`."""
+    """Judges texts, and rechecks by those that are torrents, and by others where `rechecks` says so: of each text the
+    code of the condition that held, or `accepted`."""
     answers = [judged(text) for text in texts]
     expect(again, ['check'], texts, answers, is_check)
     chosen = [i for i, answer in enumerate(answers) if answer.torrent or rechecks[i]]
