@@ -7,7 +7,7 @@ import subprocess
 import reference
 from random_cases import expect_record
 from reference import BLOCK, encode, judge, sha1
-from sizes import GIB, ZERO_PIECE, sparse, v2_of
+from sizes import GIB, ZERO_PIECE, sparse
 from support import Failure, done, expect, expect_equal, refused
 
 MIB = 1 << 20
