@@ -144,7 +144,12 @@ module _ (steps place own : ℕ) (ns ms : List ℕ) (has : HasGone steps place n
 -- ---- from the first step to the last
 
 pub begins : (ns : List ℕ) → AreNumbers ns → HasGone 0 0 ns
-begins ns are = record { are = are; before = λ k lt. absurd (omega (arith, lt)); within = omega arith; many = omega arith }
+begins ns are = record {
+  are = are;
+  before = λ k lt. absurd (omega (arith, lt));
+  within = omega arith;
+  many = omega arith;
+}
 
 pub ends : (place : ℕ) (ns : List ℕ) → HasGone (2 * length ns) place ns → ns ≡ range_with_len 0 (length ns)
 ends place ns has =

@@ -13,7 +13,8 @@ use Rattle.tor_engine.specs.declared.errors.EngineError.TheVariants.{Resources}
 use Rattle.tor_engine.specs.declared.failure.Failure.{Failure}
 use Rattle.tor_engine.specs.declared.taken.Taken.{Taken}
 use Rattle.tor_engine.specs.steps.Failing.{AreJoined}
-use Rattle.tor_engine.specs.steps.Taken.{AnswersSeat, AreOfGiven, AreSumsOfTaken, HasGiven, IsSumOf, TakesUnits, unit_at}
+use Rattle.tor_engine.specs.steps.Taken.{AnswersSeat, AreOfGiven, AreSumsOfTaken, HasGiven, IsSumOf, TakesUnits}
+use Rattle.tor_engine.specs.steps.Taken.{unit_at}
 use Rattle.tor_engine.proofs.Counts.{each_append}
 use Rattle.tor_engine.proofs.GivenInOrder.{both_of_given, least_of_both, least_of_one, least_of_second, of_given}
 
@@ -24,8 +25,8 @@ module _ {F A : Type 0} (number_in : A → ℕ) (hash_in : A → List ℕ) (sums
   Answers old new result = AnswersSeat number_in hash_in sums_up is_steady fault may_be units old new result
 
   -- one worker
-  pub seat_answers : (old new : Desk) (taken : Result (Taken A) (Failure F)) (result : Result (Vec A Global) (Failure F))
-      → AreSumsOfTaken taken result
+  pub seat_answers : (old new : Desk) (taken : Result (Taken A) (Failure F))
+      (result : Result (Vec A Global) (Failure F)) → AreSumsOfTaken taken result
       → TakesUnits number_in hash_in sums_up is_steady fault may_be units old new taken → Answers old new result
   seat_answers old new (Ok taken) result is takes =
       subst (λ (r : Result (Vec A Global) (Failure F)). Answers old new r) (sym is) (record {

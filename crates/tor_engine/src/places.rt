@@ -16,8 +16,8 @@ pub(crate) fn put_in_order<T, F: Fn(&T) -> u64>(items: Vec<T>, number_of: F) -> 
     items
 }
 
-/// Puts each item at the place of its number. It takes no memory, and time linear in the items: a step brings an item to
-/// its place, or goes on to the next one, and there are no more than two steps for each item.
+/// Puts each item at the place of its number. It takes no memory, and time linear in the items: a step brings an item
+/// to its place, or goes on to the next one, and there are no more than two steps for each item.
 fn put_in_place<T, F: Fn(&T) -> u64>(items: &mut [T], number_of: F)
     requires { F.IsAlwaysCallable number_of }
     ensures same { IsPermutation items.old items.new }

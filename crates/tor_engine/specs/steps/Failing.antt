@@ -1,6 +1,6 @@
 -- The first of numbered units that fails. Only private clauses cite these.
-use Rattle.std.specs.Prelude.{◌≡◌, ◌⊎◌, ◌++◌, ℕ, List, Option, None, Result, IfErr, IfOk, MatchResult, Some, option_map, min}
-use Rattle.std.specs.Prelude.{Ok, Err, IsErrAnd, Vec}
+use Rattle.std.specs.Prelude.{◌≡◌, ◌⊎◌, ◌++◌, ℕ, List, Option, None, Result, IfErr, IfOk, MatchResult, Some, min}
+use Rattle.std.specs.Prelude.{option_map, Ok, Err, IsErrAnd, Vec}
 use Rattle.std.specs.declared.alloc.Global.{Global}
 use Rattle.std.specs.List.{enumerate_from}
 use Rattle.tor_plan.specs.declared.units.PlanUnit.{PlanUnit}

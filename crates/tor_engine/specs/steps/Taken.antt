@@ -94,8 +94,8 @@ pub record AreOfGiven {A : Type 0} (number_in : A → ℕ) (hash_in : A → List
 -- answered
 pub record AnswersSeat {F A : Type 0} (number_in : A → ℕ) (hash_in : A → List ℕ) (sums_up : PlanUnit → A → Type 0)
     (is_steady : SourceFacts F → Type 0) (fault : SourceFacts F → PlanUnit → Option (EngineError F))
-    (may_be : EngineError F → Type 0) (units : List PlanUnit) (old new : Desk) (result : Result (Vec A Global) (Failure F))
-    : Type 0 where
+    (may_be : EngineError F → Type 0) (units : List PlanUnit) (old new : Desk)
+    (result : Result (Vec A Global) (Failure F)) : Type 0 where
   pub news : List GivenUnit
   pub has : HasGiven is_steady fault units old new news
   pub took : IfOk result (λ sums. (new.done ≡ true) × (new.failed ≡ []) × AreOfGiven number_in hash_in news sums.items
