@@ -4,7 +4,7 @@
 _tor_options() {
     case $1 in
         '') echo '-h --help -V --version' ;;
-        make) echo '--name --piece-length --kind --announce --private --tail --how --workers --span --out -h --help' ;;
+        make) echo '--name --piece-length --kind --announce --private --tail --how --workers --span --check-after --out -h --help' ;;
         check) echo '--null --json -h --help' ;;
         recheck) echo '--files --bad --null --json --workers -h --help' ;;
         *) echo '-h --help' ;;

@@ -28,6 +28,7 @@ complete -c tor -n '__fish_seen_subcommand_from make' -l tail -d 'pads the last 
 complete -c tor -n '__fish_seen_subcommand_from make' -l how -x -a 'one halves board streams' -d 'who hashes the files'
 complete -c tor -n '__fish_seen_subcommand_from make' -l workers -x -a auto -d 'how many workers share the hashing'
 complete -c tor -n '__fish_seen_subcommand_from make' -l span -x -d 'pieces that a worker takes at a time'
+complete -c tor -n '__fish_seen_subcommand_from make' -l check-after -d 'only if PATH still has each piece'
 complete -c tor -n '__fish_seen_subcommand_from make' -l out -r -F -d 'the file that the torrent goes to'
 complete -c tor -n '__fish_seen_subcommand_from make' -F
 

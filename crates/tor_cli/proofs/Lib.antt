@@ -1,4 +1,5 @@
 pub mod BoundFlags
+pub mod CheckAfter
 pub mod Doing
 pub mod Escapes
 pub mod FoundTexts

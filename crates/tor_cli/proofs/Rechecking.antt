@@ -14,15 +14,14 @@ use Rattle.tor_source.specs.declared.faults.ScanFault.TheVariants as scans
 use Rattle.tor_spec.specs.valid.View.{View}
 use Rattle.tor_cli.specs.Foreign.{IsNoTorrent}
 use Rattle.tor_cli.specs.Place.{IsFileEnd, IsFileFault, IsFileSize}
-use Rattle.tor_cli.specs.Recheck.{ArePlaces, IsNoPlace, IsNotRechecked}
+use Rattle.tor_cli.specs.Recheck.{ArePlaces, IsNoPlace, IsNotPlaced, IsNotRechecked}
 use Rattle.tor_cli.specs.Status.{of_recheck_error, of_scan_fault}
-use Rattle.tor_cli.specs.declared.recheck_words.RecheckOptions.{RecheckOptions}
 use Rattle.tor_cli.specs.declared.fault.Fault.{Fault}
 use Rattle.tor_cli.specs.declared.fault.Fault.TheVariants as faults
 
-module _ (options : RecheckOptions) (bytes : List ℕ) (view : View) (told : IsTold bytes view) where
+module _ (bytes : List ℕ) (view : View) (told : IsTold bytes view) where
   -- the place is refused, or memory was
-  pub not_placed : (fault : ScanFault) → IsNoPlace view fault → IsNotRechecked options bytes (of_scan_fault fault)
+  pub not_placed : (fault : ScanFault) → IsNoPlace view fault → IsNotPlaced bytes (of_scan_fault fault)
   not_placed scans.NotUtf8 why = absurd why
   not_placed scans.NotRegular why = absurd why
   not_placed scans.TooDeep why = absurd why
@@ -30,30 +29,46 @@ module _ (options : RecheckOptions) (bytes : List ℕ) (view : View) (told : IsT
   not_placed scans.Memory why = tt
 
   -- a file of the torrent had a fault, or memory was refused
-  pub not_rechecked : (error : RecheckError Error)
+  pub not_rechecked : (workers : ℕ) (error : RecheckError Error)
       → IsGiven (IsFileFault (length view.files)) (IsFileSize (length view.files)) IsFileEnd (length view.files) error
-      → (IsHow (Board options.workers) → error ≢ rechecks.Workers)
-      → IsNotRechecked options bytes (of_recheck_error error)
-  not_rechecked (rechecks.Read file start fault) given other = (view, told, (given, other, λ same. cc))
-  not_rechecked (rechecks.Changed file) given other = (view, told, (given, other, λ same. cc))
-  not_rechecked rechecks.Resources given other = tt
-  not_rechecked rechecks.Workers given other = (view, told, (given, other, λ same. cc))
+      → (IsHow (Board workers) → error ≢ rechecks.Workers) → IsNotRechecked workers bytes (of_recheck_error error)
+  not_rechecked workers (rechecks.Read file start fault) given other = (view, told, (given, other, λ same. cc))
+  not_rechecked workers (rechecks.Changed file) given other = (view, told, (given, other, λ same. cc))
+  not_rechecked workers rechecks.Resources given other = tt
+  not_rechecked workers rechecks.Workers given other = (view, told, (given, other, λ same. cc))
 
 -- a refusal is answered as it is, and want of memory is none
-pub not_judged : (options : RecheckOptions) (bytes : List ℕ) (fault : Fault) → IsNoTorrent bytes fault
-    → IsNotRechecked options bytes fault
-not_judged options bytes (faults.Usage line) why = absurd why
-not_judged options bytes (faults.Name fault) why = absurd why
-not_judged options bytes (faults.Scan fault) why = absurd why
-not_judged options bytes (faults.Make error) why = absurd why
-not_judged options bytes (faults.Refused refusal) why = why
-not_judged options bytes (faults.Piece error) why = absurd why
-not_judged options bytes (faults.Recheck error) why = absurd why
-not_judged options bytes (faults.Argument fault) why = absurd why
-not_judged options bytes faults.Read why = absurd why
-not_judged options bytes faults.TooLong why = absurd why
-not_judged options bytes (faults.Write written) why = absurd why
-not_judged options bytes faults.Resources why = tt
+pub not_judged : (bytes : List ℕ) (fault : Fault) → IsNoTorrent bytes fault → IsNotPlaced bytes fault
+not_judged bytes (faults.Usage line) why = absurd why
+not_judged bytes (faults.Name fault) why = absurd why
+not_judged bytes (faults.Scan fault) why = absurd why
+not_judged bytes (faults.Make error) why = absurd why
+not_judged bytes (faults.Refused refusal) why = why
+not_judged bytes (faults.Piece error) why = absurd why
+not_judged bytes (faults.Recheck error) why = absurd why
+not_judged bytes (faults.NotAsMade good pieces) why = absurd why
+not_judged bytes (faults.Argument fault) why = absurd why
+not_judged bytes faults.Read why = absurd why
+not_judged bytes faults.TooLong why = absurd why
+not_judged bytes (faults.Write written) why = absurd why
+not_judged bytes faults.Resources why = tt
+
+-- what is not placed is not rechecked
+pub unplaced : (workers : ℕ) (bytes : List ℕ) (fault : Fault) → IsNotPlaced bytes fault
+    → IsNotRechecked workers bytes fault
+unplaced workers bytes (faults.Usage line) why = why
+unplaced workers bytes (faults.Name fault) why = why
+unplaced workers bytes (faults.Scan fault) why = why
+unplaced workers bytes (faults.Make error) why = why
+unplaced workers bytes (faults.Refused refusal) why = why
+unplaced workers bytes (faults.Piece error) why = why
+unplaced workers bytes (faults.Recheck error) why = absurd why
+unplaced workers bytes (faults.NotAsMade good pieces) why = why
+unplaced workers bytes (faults.Argument fault) why = why
+unplaced workers bytes faults.Read why = why
+unplaced workers bytes faults.TooLong why = why
+unplaced workers bytes (faults.Write written) why = why
+unplaced workers bytes faults.Resources why = why
 
 -- there are as many places as the torrent has files
 pub places_count : (place : List ℕ) (view : View) (places : List (List ℕ)) → ArePlaces place view places

@@ -14,7 +14,7 @@ use Rattle.tor_source.specs.Input.{EndsInput, ReadsSome}
 use Rattle.tor_meta.specs.FromInput.{MakesOf, MakesPart, StopsReading, refusal_of, torrent_of}
 use Rattle.tor_cli.specs.Place.{IsGivenBy, refusal_by}
 use Rattle.tor_cli.specs.Request.{IsOrder, IsOrderOf, IsRefusedFirst, SendsFront, StopsFinding, StopsInput, StopsPlace}
-use Rattle.tor_cli.specs.Request.{file_of}
+use Rattle.tor_cli.specs.Request.{StopsSending, file_of}
 use Rattle.tor_cli.specs.Streams.{IsUntouched, Streams}
 use Rattle.tor_cli.specs.Status.{of_input_fault, of_make_error, of_scan_fault, of_step_fault}
 use Rattle.tor_source.specs.declared.input.TheConstants.{MAX_INPUT_LENGTH}
@@ -104,19 +104,24 @@ module _ (options : MakeOptions) (s : Streams) where
       (named, (order, is, (content, sent)))
 
   -- a fault that comes before anything was written
-  pub stops_finding : (fault : Fault) → StopsFinding options fault → IsUntouched s → StopsPlace options s fault
-  stops_finding (faults.Usage line) why untouched = absurd why
-  stops_finding (faults.Name fault) why untouched = (why, untouched)
-  stops_finding (faults.Scan fault) why untouched = (why, untouched)
-  stops_finding (faults.Make error) why untouched = (why, untouched)
-  stops_finding (faults.Refused refusal) why untouched = absurd why
-  stops_finding (faults.Piece error) why untouched = absurd why
-  stops_finding (faults.Recheck error) why untouched = absurd why
-  stops_finding (faults.Argument fault) why untouched = absurd why
-  stops_finding faults.Read why untouched = absurd why
-  stops_finding faults.TooLong why untouched = absurd why
-  stops_finding (faults.Write written) why untouched = absurd why
-  stops_finding faults.Resources why untouched = (why, untouched)
+  pub stops_sending : (fault : Fault) → StopsSending options fault → IsUntouched s → StopsPlace options s fault
+  stops_sending (faults.Usage line) why untouched = (why, untouched)
+  stops_sending (faults.Name fault) why untouched = (why, untouched)
+  stops_sending (faults.Scan fault) why untouched = (why, untouched)
+  stops_sending (faults.Make error) why untouched = (why, untouched)
+  stops_sending (faults.Refused refusal) why untouched = (why, untouched)
+  stops_sending (faults.Piece error) why untouched = (why, untouched)
+  stops_sending (faults.Recheck error) why untouched = (why, untouched)
+  stops_sending (faults.NotAsMade good pieces) why untouched = (why, untouched)
+  stops_sending (faults.Argument fault) why untouched = (why, untouched)
+  stops_sending faults.Read why untouched = (why, untouched)
+  stops_sending faults.TooLong why untouched = (why, untouched)
+  stops_sending (faults.Write written) why untouched = absurd (no_write why)
+    where
+      no_write : StopsSending options (faults.Write written) → ⊥
+      no_write (inl made) = made
+      no_write (inr kept) = kept.1.2
+  stops_sending faults.Resources why untouched = (why, untouched)
 
 -- an error of making is of the order and the paths
 pub finding_make : (options : MakeOptions) (order : Order) (paths : List (List (List ℕ))) (error : MakeError Error)

@@ -79,10 +79,15 @@ abbrev pub with_torrent : ValueParser → App → App
 with_torrent kinds app = with_rules app
     (name_option ∷ piece_length_option ∷ kind_option kinds ∷ announce_option ∷ private_option ∷ tail_option ∷ [])
 
--- who hashes, where the torrent goes, and where the files are
+-- an option without a value that stands beside another alone, or never beside another
+abbrev pub flag_bound : List ℕ → Rule
+flag_bound name = record (flag_of name) { is_free = false }
+
+-- who hashes, whether the files are looked at once more, where the torrent goes, and where the files are
 abbrev pub with_ways : ValueParser → App → App
 with_ways hows app = with_rules app
-    (how_option hows ∷ workers_option (codes "1") ∷ span_option ∷ out_option ∷ path_argument ∷ [])
+    (how_option hows ∷ workers_option (codes "1") ∷ span_option ∷ flag_bound (codes "check-after") ∷ out_option
+    ∷ path_argument ∷ [])
 
 abbrev pub make_app : ValueParser → ValueParser → App
 make_app kinds hows = with_ways hows (with_torrent kinds (new_app (codes "make")))
@@ -107,10 +112,6 @@ abbrev pub verify_app : App
 verify_app = with_rules (new_app (codes "verify"))
     (argument_of (codes "root") 1 ∷ argument_of (codes "length") 2 ∷ argument_of (codes "piece-length") 3
     ∷ argument_of (codes "proof") 4 ∷ [])
-
--- an option without a value that stands beside another alone, or never beside another
-abbrev pub flag_bound : List ℕ → Rule
-flag_bound name = record (flag_of name) { is_free = false }
 
 abbrev pub check_app : App
 check_app = with_rules (new_app (codes "check"))

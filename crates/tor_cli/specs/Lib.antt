@@ -1,3 +1,4 @@
+pub mod CheckAfter
 pub mod CommandLine
 pub mod Escape
 pub mod Foreign

@@ -92,19 +92,22 @@ pub record IsRechecked (options : RecheckOptions) (bytes text : List ℕ) (answe
   pub report : IsReportOn options view text answer
 
 -- a fault of a file that the torrent has; or no worker, or too many
-abbrev pub IsRecheckFault : RecheckOptions → View → RecheckError Error → Type 0
-IsRecheckFault options view error =
+abbrev pub IsRecheckFault : ℕ → View → RecheckError Error → Type 0
+IsRecheckFault workers view error =
     IsGiven (IsFileFault (length view.files)) (IsFileSize (length view.files)) IsFileEnd (length view.files) error
-    × (IsHow (Board options.workers) → error ≢ rechecks.Workers) × (error ≢ rechecks.Resources)
+    × (IsHow (Board workers) → error ≢ rechecks.Workers) × (error ≢ rechecks.Resources)
 
--- why nothing is printed of the bytes
-abbrev pub IsNotRechecked : RecheckOptions → List ℕ → Fault → Type 0
-IsNotRechecked options bytes (Refused refusal) = IsNoTorrent bytes (Refused refusal)
-IsNotRechecked options bytes (Scan fault) =
-    (view : View) × IsTold bytes view × IsNoPlace view fault × (fault ≢ scans.Memory)
-IsNotRechecked options bytes (Recheck error) = (view : View) × IsTold bytes view × IsRecheckFault options view error
-IsNotRechecked options bytes Resources = Unit {0}
-IsNotRechecked options bytes other = ⊥
+-- why the bytes are no torrent whose files are looked for
+abbrev pub IsNotPlaced : List ℕ → Fault → Type 0
+IsNotPlaced bytes (Refused refusal) = IsNoTorrent bytes (Refused refusal)
+IsNotPlaced bytes (Scan fault) = (view : View) × IsTold bytes view × IsNoPlace view fault × (fault ≢ scans.Memory)
+IsNotPlaced bytes Resources = Unit {0}
+IsNotPlaced bytes other = ⊥
+
+-- why it is not told which of its pieces are there and right, by so many workers
+abbrev pub IsNotRechecked : ℕ → List ℕ → Fault → Type 0
+IsNotRechecked workers bytes (Recheck error) = (view : View) × IsTold bytes view × IsRecheckFault workers view error
+IsNotRechecked workers bytes other = IsNotPlaced bytes other
 
 -- a torrent was rechecked, with this answer; of the text this holds
 abbrev pub RechecksSome : RecheckOptions → Answer → (List ℕ → Type 0) → Type 0
@@ -118,11 +121,11 @@ DoesRecheck options answer s = (s.reader' ≡ s.reader) × RechecksSome options 
 -- where this fault stopped it
 abbrev pub StopsRechecking : RecheckOptions → Streams → Fault → Type 0
 StopsRechecking options s (Refused refusal) =
-    OfSome (λ bytes. IsNotRechecked options bytes (Refused refusal)) × IsUntouched s
+    OfSome (λ bytes. IsNotRechecked options.workers bytes (Refused refusal)) × IsUntouched s
 StopsRechecking options s (Scan fault) =
-    OfSome (λ bytes. IsNotRechecked options bytes (Scan fault)) × IsUntouched s
+    OfSome (λ bytes. IsNotRechecked options.workers bytes (Scan fault)) × IsUntouched s
 StopsRechecking options s (Recheck error) =
-    OfSome (λ bytes. IsNotRechecked options bytes (Recheck error)) × IsUntouched s
+    OfSome (λ bytes. IsNotRechecked options.workers bytes (Recheck error)) × IsUntouched s
 StopsRechecking options s Read = IsUntouched s
 StopsRechecking options s TooLong = IsUntouched s
 StopsRechecking options s (Write written) = (s.reader' ≡ s.reader)

@@ -3,6 +3,7 @@ use Rattle.std.specs.Prelude.{◌≡◌, ◌≢◌, ◌⊎◌, ◌<◌, ℕ, Boo
 use Rattle.std.specs.Prelude.{string_bytes}
 use Rattle.std.specs.Io.KnownBytes.{Appends, Keeps}
 use Rattle.std.specs.declared.io.Error.{Error}
+use Rattle.tor_engine.specs.How.{workers_of}
 use Rattle.tor_meta.specs.Contents.{IsMadeOfSome}
 use Rattle.tor_meta.specs.Make.{IsOwn}
 use Rattle.tor_meta.specs.Order.{settings_of_order}
@@ -12,6 +13,7 @@ use Rattle.tor_meta.specs.declared.order.Order.{Order}
 use Rattle.tor_source.specs.declared.faults.ScanFault.TheVariants as scans
 use Rattle.tor_spec.specs.Settings.{Settings}
 use Rattle.tor_tree.specs.Name.{name_fault}
+use Rattle.tor_cli.specs.CheckAfter.{IsAsMade, IsNotAsMade}
 use Rattle.tor_cli.specs.Foreign.{DoesTell, StopsTelling}
 use Rattle.tor_source.specs.Input.{ReadsAll, ReadsSome, EndsInput}
 use Rattle.tor_meta.specs.FromInput.{IsFront, MakesOf, refusal_of}
@@ -34,7 +36,7 @@ use Rattle.tor_cli.specs.declared.command.Request.TheVariants.{Recheck as ToRech
 use Rattle.tor_cli.specs.declared.telling.Telling.TheVariants.{Link}
 use Rattle.tor_cli.specs.declared.fault.Fault.{Fault}
 use Rattle.tor_cli.specs.declared.fault.Fault.TheVariants.{Usage, Name, Scan, Make, Refused, Piece, Recheck, Argument}
-use Rattle.tor_cli.specs.declared.fault.Fault.TheVariants.{Read, TooLong, Write, Resources}
+use Rattle.tor_cli.specs.declared.fault.Fault.TheVariants.{NotAsMade, Read, TooLong, Write, Resources}
 
 -- the settings of the torrent that the options ask for, of one file or of a folder
 abbrev pub settings_of_options : MakeOptions → Bool → Settings
@@ -89,6 +91,7 @@ StopsInput options s (Scan fault) = ⊥
 StopsInput options s (Refused refusal) = ⊥
 StopsInput options s (Piece error) = ⊥
 StopsInput options s (Recheck error) = ⊥
+StopsInput options s (NotAsMade good pieces) = ⊥
 StopsInput options s (Argument fault) = ⊥
 StopsInput options s (Make error) = (name_fault options.name.now ≡ None)
     × ((order : Order) × IsOrder options true order × (refusal_of order ≡ Some error)) × OnlyReads s
@@ -126,17 +129,28 @@ StopsFinding options (Make error) = (order : Order) × (paths : List (List (List
 StopsFinding options Resources = Unit {0}
 StopsFinding options other = ⊥
 
+-- it may go out: where that is asked for, each of its pieces was found there and right afterwards
+abbrev pub IsTorrentToSend : MakeOptions → List ℕ → Type 0
+IsTorrentToSend options torrent = IsTorrentAt options torrent
+    × (options.check_after ≡ true → IsAsMade torrent)
+
+-- why none goes out: there is none; or it was asked for its pieces, and not all were found
+abbrev pub StopsSending : MakeOptions → Fault → Type 0
+StopsSending options fault = StopsFinding options fault
+    ⊎ ((options.check_after ≡ true) × ((torrent : List ℕ) × IsTorrentAt options torrent
+    × IsNotAsMade (workers_of (how_of options.way)) torrent fault))
+
 -- a torrent was made of the files at a place, of which no contract says what they hold
 abbrev pub DoesPlace : MakeOptions → Streams → Type 0
 DoesPlace options s = (s.reader' ≡ s.reader)
-    × ((torrent : List ℕ) × IsTorrentAt options torrent × Sends (file_of options) s.writer s.writer' torrent)
+    × ((torrent : List ℕ) × IsTorrentToSend options torrent × Sends (file_of options) s.writer s.writer' torrent)
 
 -- where this fault stopped it
 abbrev pub StopsPlace : MakeOptions → Streams → Fault → Type 0
 StopsPlace options s (Write written) = (s.reader' ≡ s.reader)
-    × ((torrent : List ℕ) × IsTorrentAt options torrent
+    × ((torrent : List ℕ) × IsTorrentToSend options torrent
     × SendsFront (file_of options) s.writer s.writer' written torrent)
-StopsPlace options s fault = StopsFinding options fault × IsUntouched s
+StopsPlace options s fault = StopsSending options fault × IsUntouched s
 
 -- of the reader, or of the files at a place
 abbrev pub DoesFrom : Option (List ℕ) → MakeOptions → Streams → Type 0

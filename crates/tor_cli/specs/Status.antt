@@ -19,7 +19,7 @@ use Rattle.tor_meta.specs.declared.from_input.FromFault.{FromFault}
 use Rattle.tor_meta.specs.declared.from_input.FromFault.TheVariants as steps
 use Rattle.tor_cli.specs.declared.fault.Fault.{Fault}
 use Rattle.tor_cli.specs.declared.fault.Fault.TheVariants.{Usage, Name, Scan, Make, Refused, Piece, Recheck, Argument}
-use Rattle.tor_cli.specs.declared.fault.Fault.TheVariants.{Read, TooLong, Write, Resources}
+use Rattle.tor_cli.specs.declared.fault.Fault.TheVariants.{NotAsMade, Read, TooLong, Write, Resources}
 
 abbrev pub of_input_fault : InputFault → Fault
 of_input_fault inputs.Read = Read
@@ -97,6 +97,7 @@ status_of (Make error) = status_of_make error
 status_of (Refused refusal) = status_of_refusal refusal
 status_of (Piece error) = status_of_piece error
 status_of (Recheck error) = status_of_recheck error
+status_of (NotAsMade good pieces) = 1
 status_of (Argument fault) = 1
 status_of Read = 3
 status_of TooLong = 3

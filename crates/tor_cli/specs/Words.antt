@@ -88,6 +88,7 @@ pub record AreOptionsIn (rows : List Row) (options : MakeOptions) : Type 0 where
   pub way : first_of (codes "how") rows ≡ Some (way_word options.way)
   pub workers : IsWorkersIn rows (HasWorkers options.way)
   pub span : (text : List ℕ) → one_of (codes "span") rows ≡ Some text → IsNumber text (λ number. options.span ≡ number)
+  pub check_after : (given : Bool) → IsFlag rows (codes "check-after") given → options.check_after ≡ given
   pub out : first_of (codes "out") rows ≡ option_map (λ place. place.now) options.out
   pub place : first_of (codes "path") rows ≡ option_map (λ place. place.now) options.place
 

@@ -30,6 +30,8 @@ pub enum Fault {
     Piece(PieceError),
     /// A file of the torrent was not read, or did not stay as long as it was told to be.
     Recheck(RecheckError<io::Error>),
+    /// The files do not have each piece of the torrent that was made of them: so many have, of so many.
+    NotAsMade { good: u64, pieces: u64 },
     /// An argument of `verify` is none of its kind.
     Argument(ArgumentFault),
     /// Standard input, or FILE, was not read whole.
@@ -78,6 +80,7 @@ impl Fault {
             Fault::Refused(refusal) => status_of_refusal(refusal),
             Fault::Piece(error) => status_of_piece(error),
             Fault::Recheck(error) => status_of_recheck(error),
+            Fault::NotAsMade { .. } => 1,
             Fault::Argument(_) => 1,
             Fault::Read | Fault::TooLong | Fault::Write(_) => 3,
             Fault::Resources => 4,
@@ -151,6 +154,9 @@ impl fmt::Display for Fault {
             Fault::Refused(refusal) => write!(f, "{refusal}"),
             Fault::Piece(error) => write!(f, "{error}"),
             Fault::Recheck(error) => write_recheck_error(error, f),
+            Fault::NotAsMade { good, pieces } => {
+                write!(f, "not as made: {good} of {pieces} pieces")
+            }
             Fault::Argument(fault) => write!(f, "{fault}"),
             Fault::Read => f.write_str("read fault"),
             Fault::TooLong => f.write_str("input too long"),

@@ -9,7 +9,7 @@ ghost use Rattle.tor_cli.specs.Place.{AreFound, IsFileEnd, IsFileFault, IsFileSi
 ghost use Rattle.tor_cli.specs.Place.{refusal_by};
 ghost use Rattle.tor_cli.specs.Request.{IsRefusedFirst};
 
-use crate::progress::{CountedReader, Counting, Progress};
+use crate::progress::{CountedReader, Counting, Progress, erase};
 use crate::way::Way;
 use std::alloc::{AllocError, Global};
 use std::io;
@@ -69,7 +69,7 @@ pub fn torrent_of<T: Threads + Wait + Sync>(
     way: Way,
     found: &Found,
     order: &Order,
-    progress: Option<Progress>,
+    progress: &Option<Progress>,
 ) -> Result<Vec<u8>, MakeError<io::Error>>
     requires { length found.now.source ≡ length found.now.paths.items }
     ensures whole { IfOk result
@@ -91,7 +91,7 @@ fn by_sharing<T: Threads + Sync>(
     alloc: Global,
     found: &Found,
     order: &Order,
-    progress: Option<Progress>,
+    progress: &Option<Progress>,
 ) -> Result<Vec<u8>, MakeError<io::Error>>
     requires { length found.now.source ≡ length found.now.paths.items }
     ensures whole { IfOk result
@@ -108,9 +108,7 @@ fn by_sharing<T: Threads + Sync>(
         progress,
     };
     let answer = make(rt, alloc, &counting, &found.paths, order);
-    if let Some(progress) = &counting.progress {
-        progress.erase();
-    }
+    erase(progress);
     answer
 }
 
@@ -120,7 +118,7 @@ fn by_streams<T: Threads + Wait + Sync>(
     alloc: Global,
     found: &Found,
     order: &Order,
-    progress: Option<Progress>,
+    progress: &Option<Progress>,
 ) -> Result<Vec<u8>, MakeError<io::Error>>
     requires { length found.now.source ≡ length found.now.paths.items }
     ensures whole { IfOk result
@@ -130,11 +128,9 @@ fn by_streams<T: Threads + Wait + Sync>(
     ensures only { IfErr result (IsOwn (stream_refusal order.now found.now.paths.items)) }
     ensures gave { IfErr result (IsStreamFault (length found.now.paths.items)) }
 {
-    let readers = counted_readers(alloc, found, &progress)?;
+    let readers = counted_readers(alloc, found, progress)?;
     let answer = make_streams(rt, alloc, readers, &found.paths, order);
-    if let Some(progress) = &progress {
-        progress.erase();
-    }
+    erase(progress);
     answer
 }
 

@@ -5,7 +5,8 @@
 //! - `command.rt`: what the words ask for.
 //! - `make_command.rt`: the command `make`; `make_words.rt`: its words; `options.rt`: what they ask for;
 //!   `way.rt`: who hashes; `workers.rt`: how many do.
-//! - `from_place.rt`: the torrent of a file or a folder. `out_file.rt`: the file that a torrent goes to.
+//! - `from_place.rt`: the torrent of a file or a folder. `check_after.rt`: whether its files have each piece of it
+//!   afterwards; `piece_counts.rt`: how many a source has. `out_file.rt`: the file that a torrent goes to.
 //!   `progress.rt`: how far the reading is, shown on a terminal; `progress_line.rt`: the line; `watch.rt`: the time
 //!   that has gone.
 //! - `telling.rt`: the commands `check` and `magnet`; `check_words.rt`, `torrent_words.rt`: their words. `foreign.rt`:
@@ -21,6 +22,7 @@
 #![tactic(auto)]
 
 mod answer;
+mod check_after;
 mod check_record;
 mod check_words;
 mod claim;
@@ -41,6 +43,7 @@ mod make_words;
 mod numbers;
 mod options;
 mod out_file;
+pub mod piece_counts;
 mod progress;
 pub mod progress_line;
 pub mod proof_text;

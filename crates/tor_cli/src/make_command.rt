@@ -3,10 +3,11 @@ ghost use Rattle.std.specs.Prelude.{◌≡◌, ◌⊎◌, ◌<◌, ℕ, List, Op
 ghost use Rattle.tor_meta.specs.FromInput.{MakesOf, StopsReading};
 ghost use Rattle.tor_tree.specs.Name.{name_fault};
 ghost use Rattle.tor_tree.specs.declared.names.NameError.TheVariants.{Memory};
-ghost use Rattle.tor_cli.specs.Request.{DoesInput, DoesMake, DoesPlace, IsOrder, IsTorrentAt, StopsFinding};
-ghost use Rattle.tor_cli.specs.Request.{StopsInput, StopsMake, StopsPlace};
+ghost use Rattle.tor_cli.specs.Request.{DoesInput, DoesMake, DoesPlace, IsOrder, IsTorrentAt, IsTorrentToSend};
+ghost use Rattle.tor_cli.specs.Request.{StopsFinding, StopsInput, StopsMake, StopsPlace, StopsSending};
 ghost use Rattle.tor_cli.specs.Streams.{streams, writing};
 
+use crate::check_after::check_after;
 use crate::fault::Fault;
 use crate::from_place::{files_at, torrent_of};
 use crate::options::MakeOptions;
@@ -99,8 +100,30 @@ fn make_of_place<T: Threads + Wait + Sync, W: Write>(
     ensures stopped { (reader : Option (List ℕ)) → IfErr result (StopsPlace options.now (writing reader
         (W.contents out.old) (W.contents out.new))) }
 {
-    let torrent = torrent_at(rt, system, options, place, shows_progress)?;
+    let torrent = torrent_to_send(rt, system, options, place, shows_progress)?;
     Ok(send(system, out, options.out, &torrent)?)
+}
+
+/// The torrent of the file or the folder at a place of the system, where it may go out: with `--check-after` only where
+/// the place has each piece of it afterwards.
+fn torrent_to_send<T: Threads + Wait + Sync>(
+    rt: &T,
+    system: &HostRuntime,
+    options: &MakeOptions<'_>,
+    place: &str,
+    shows_progress: bool,
+) -> Result<Vec<u8>, Fault>
+    ensures made { IfOk result (λ torrent. IsTorrentToSend options.now torrent.items) }
+    ensures some { IfOk result (λ torrent. 0 < length torrent.items) }
+    ensures stopped { IfErr result (StopsSending options.now) }
+{
+    let torrent = torrent_at(rt, system, options, place, shows_progress)?;
+    if !options.check_after {
+        return Ok(torrent);
+    }
+    let workers = how_of(options.way).workers();
+    check_after(rt, system, place, &torrent, workers, shows_progress)?;
+    Ok(torrent)
 }
 
 /// The torrent of the file or the folder at a place of the system.
@@ -119,11 +142,8 @@ fn torrent_at<T: Threads + Wait + Sync>(
     let name = name_of(alloc, options)?;
     let found = files_at(system, place, &name)?;
     let order = order_of(alloc, options, name, found.single)?;
-    let progress = match shows_progress {
-        true => Progress::start(system, found.paths.len()),
-        false => None,
-    };
-    Ok(torrent_of(rt, alloc, options.way, &found, &order, progress)?)
+    let progress = Progress::shown(system, found.paths.len(), shows_progress);
+    Ok(torrent_of(rt, alloc, options.way, &found, &order, &progress)?)
 }
 
 /// The order that the options ask for, of one file.

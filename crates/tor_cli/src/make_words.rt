@@ -6,7 +6,7 @@ ghost use Rattle.tor_cli.specs.CommandLine.{AreHows, AreKinds, announce_option, 
 ghost use Rattle.tor_cli.specs.CommandLine.{name_option, out_option, path_argument, piece_length_option};
 ghost use Rattle.tor_cli.specs.CommandLine.{private_option, span_option, with_torrent, with_ways};
 
-use crate::torrent_words::{flag_of, workers_option};
+use crate::torrent_words::{flag_beside, flag_of, workers_option};
 use clap::{Arg, ArgAction, Command, value_parser};
 use std::alloc::{AllocError, Global};
 
@@ -28,6 +28,8 @@ const WORKERS: &str =
     "How many workers share the hashing, by halves, at a board or behind a stream: from 1 to 64, or auto";
 
 const DEFAULT_SPAN: &str = "16";
+
+const CHECK_AFTER: &str = "Writes the torrent only if PATH still has each piece of it";
 
 /// The command `make`.
 pub fn make_command<'a>(alloc: Global) -> Result<Command<'a>, AllocError>
@@ -64,6 +66,7 @@ fn add_ways<'a>(alloc: Global, command: Command<'a>) -> Result<Command<'a>, Allo
         .arg(how_option(alloc))?
         .arg(workers_option(alloc, DEFAULT_WORKERS, WORKERS))?
         .arg(span_option(alloc))?
+        .arg(flag_beside(alloc, "check-after", "path", CHECK_AFTER)?)?
         .arg(out_option(alloc))?
         .arg(path_argument(alloc))
 }

@@ -28,6 +28,8 @@ pub struct MakeOptions<'a> {
     pub way: Way,
     /// The pieces that a worker hashes as one unit of work.
     pub span: u32,
+    /// It goes out only where the files still have each piece of it afterwards.
+    pub check_after: bool,
     /// The file that the torrent goes to; standard output where there is none.
     pub out: Option<&'a str>,
     /// The file or folder that it is made of; standard input where there is none.
@@ -51,6 +53,7 @@ pub fn make_options<'a, T: Threads>(rt: &T, matches: &ArgMatches<'a>) -> Option<
             workers_of(rt, matches.get_str("workers")?)?,
         )?,
         span: matches.get_one::<u32>("span")?,
+        check_after: matches.get_flag("check-after"),
         out: matches.get_str("out"),
         place: matches.get_str("path"),
     })

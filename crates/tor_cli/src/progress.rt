@@ -32,8 +32,11 @@ pub struct Progress {
 }
 
 impl Progress {
-    /// Of so many files, from now on; none where the clock does not tell the time.
-    pub fn start(system: &HostRuntime, files: usize) -> Option<Progress> {
+    /// Of so many files, from now on, where it is to be shown; none where the clock does not tell the time.
+    pub fn shown(system: &HostRuntime, files: usize, shows: bool) -> Option<Progress> {
+        if !shows {
+            return None;
+        }
         Some(Progress {
             line: system.stderr(),
             watch: Watch::start(system)?,
@@ -88,11 +91,17 @@ impl Progress {
         }
     }
 
-    /// Erases the line, where one was printed.
-    pub fn erase(&self) {
+    fn erase(&self) {
         if self.last.load(SeqCst) > 0 {
             let _ = self.line.eprint("\r\x1b[K");
         }
+    }
+}
+
+/// Erases the line, where one was printed.
+pub fn erase(progress: &Option<Progress>) {
+    if let Some(progress) = progress {
+        progress.erase();
     }
 }
 
@@ -102,7 +111,7 @@ pub struct Counting<'a, S: Source> {
     pub source: &'a S,
     /// The files of the torrent that is rechecked, past whose lengths nothing is read; none where one is made.
     pub files: &'a [ViewFile],
-    pub progress: Option<Progress>,
+    pub progress: &'a Option<Progress>,
 }
 
 /// A reader; what is read of it is counted, where that is to be shown.
@@ -145,7 +154,7 @@ impl<'a, S: Source> Source for Counting<'a, S> {
 
     fn length(&self, file: u64) -> Result<Option<u64>, S::Fault> {
         let answer = self.source.length(file);
-        if let (Some(progress), Ok(length)) = (&self.progress, &answer) {
+        if let (Some(progress), Ok(length)) = (self.progress, &answer) {
             progress.count_length(length_to_read(self.files, file, length.unwrap_or(0)));
         }
         answer
@@ -153,7 +162,7 @@ impl<'a, S: Source> Source for Counting<'a, S> {
 
     fn read_at(&self, file: u64, start: u64, buffer: &mut [u8]) -> Result<usize, S::Fault> {
         let answer = self.source.read_at(file, start, buffer);
-        if let (Some(progress), Ok(count)) = (&self.progress, &answer) {
+        if let (Some(progress), Ok(count)) = (self.progress, &answer) {
             progress.count_read(*count as u64);
         }
         answer

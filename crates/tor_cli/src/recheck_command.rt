@@ -7,12 +7,11 @@ use crate::answer::Answer;
 use crate::fault::Fault;
 use crate::foreign::read_file;
 use crate::progress::Progress;
-use crate::recheck_source::source_at;
+use crate::recheck_source::placed_at;
 use crate::recheck_text::{Report, counted_report};
 use crate::recheck_words::RecheckOptions;
 use std::io::Write;
 use std::thread::Threads;
-use tor_check::validate;
 use tor_meta::write_out;
 
 /// Writes which pieces are there and right, and which files, if any are listed; the answer is yes where all pieces are.
@@ -45,21 +44,22 @@ fn report_at<T: Threads + Sync>(
 ) -> Result<Report, Fault>
     ensures rechecked { IfOk result
         (λ report. IsRechecked options.now bytes.now (string_bytes report.text) report.answer) }
-    ensures stopped { IfErr result (IsNotRechecked options.now bytes.now) }
+    ensures stopped { IfErr result (IsNotRechecked options.now.workers bytes.now) }
 {
-    let torrent = match validate(system.alloc(), bytes) {
-        Ok(torrent) => torrent,
-        Err(refusal) => return Err(Fault::from(refusal)),
+    let placed = match placed_at(system, options.place, bytes) {
+        Ok(placed) => placed,
+        Err(fault) => return Err(fault),
     };
-    let source = match source_at(system, options.place, &torrent) {
-        Ok(source) => source,
-        Err(fault) => return Err(Fault::from(fault)),
-    };
-    let progress = match shows_progress {
-        true => Progress::start(system, torrent.files().len()),
-        false => None,
-    };
-    match counted_report(rt, system.alloc(), &source, &torrent, options, progress) {
+    let torrent = &placed.torrent;
+    let progress = Progress::shown(system, torrent.files().len(), shows_progress);
+    match counted_report(
+        rt,
+        system.alloc(),
+        &placed.source,
+        torrent,
+        options,
+        &progress,
+    ) {
         Ok(report) => Ok(report),
         Err(error) => Err(Fault::from(error)),
     }

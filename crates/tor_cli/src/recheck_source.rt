@@ -1,17 +1,42 @@
 //! Where the system has the files of a torrent.
 ghost use Rattle.std.specs.Prelude.{◌≡◌, IfErr, IfOk, map};
-ghost use Rattle.tor_cli.specs.Recheck.{ArePlaces, IsNoPlace};
+ghost use Rattle.tor_check.specs.Valid.{IsTold};
+ghost use Rattle.tor_cli.specs.Recheck.{ArePlaces, IsNoPlace, IsNotPlaced};
 
+use crate::fault::Fault;
 use std::alloc::{AllocError, Global};
 use std::io::ErrorKind;
 use std::rt::Files;
-use tor_check::{Torrent, ViewFile};
+use tor_check::{Torrent, ViewFile, validate};
 use tor_source::{FolderSource, ScanFault};
 use tor_tree::FilePath;
 
+/// A torrent, and where its files are looked for.
+#[derive(Drop)]
+pub struct Placed {
+    pub torrent: Torrent,
+    pub source: FolderSource<HostRuntime>,
+}
+
+/// The torrent that the bytes are, and its files at a place, at which nothing is looked before the torrent was judged.
+pub fn placed_at(system: &HostRuntime, place: &str, bytes: &[u8]) -> Result<Placed, Fault>
+    ensures told { IfOk result (λ placed. IsTold bytes.now placed.torrent) }
+    ensures placed { IfOk result (λ placed. ArePlaces place.now placed.torrent placed.source) }
+    ensures stopped { IfErr result (IsNotPlaced bytes.now) }
+{
+    let torrent = match validate(system.alloc(), bytes) {
+        Ok(torrent) => torrent,
+        Err(refusal) => return Err(Fault::from(refusal)),
+    };
+    match source_at(system, place, &torrent) {
+        Ok(source) => Ok(Placed { torrent, source }),
+        Err(fault) => Err(Fault::from(fault)),
+    }
+}
+
 /// The torrent's files at a place: the file there, which only a torrent of one file can have, or those below the folder
 /// there, whether they are there or not. A link at the place itself is followed.
-pub fn source_at(
+fn source_at(
     system: &HostRuntime,
     place: &str,
     torrent: &Torrent,

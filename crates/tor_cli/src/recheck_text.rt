@@ -17,7 +17,7 @@ ghost use Rattle.tor_spec.specs.Verified.{verified_pieces};
 use crate::answer::Answer;
 use crate::found_text::push_files;
 use crate::listing::{Form, Listing};
-use crate::progress::{Counting, Progress};
+use crate::progress::{Counting, Progress, erase};
 use crate::recheck_record::recheck_line;
 use crate::recheck_words::RecheckOptions;
 use hex::encode;
@@ -46,7 +46,7 @@ pub fn counted_report<S: Source, T: Threads + Sync>(
     source: &S,
     torrent: &Torrent,
     options: &RecheckOptions<'_>,
-    progress: Option<Progress>,
+    progress: &Option<Progress>,
 ) -> Result<Report, RecheckError<S::Fault>>
     ensures reported { IfOk result
         (λ report. IsReportOn options.now torrent.now (string_bytes report.text) report.answer) }
@@ -69,9 +69,7 @@ pub fn counted_report<S: Source, T: Threads + Sync>(
         progress,
     };
     let rechecked = findings_of(rt, alloc, &counting, torrent, options);
-    if let Some(progress) = &counting.progress {
-        progress.erase();
-    }
+    erase(progress);
     match rechecked {
         Ok(findings) => Ok(report_on(alloc, torrent, options, &findings)?),
         Err(error) => Err(error),

@@ -83,6 +83,12 @@ fn tells_each_fault_of_a_scan_in_its_line(rt: HostRuntime) {
     assert!(rt; is_scanned(alloc, ScanFault::Memory, 4, "out of resources"));
 }
 
+#[test]
+fn tells_how_many_pieces_are_as_they_were_made(rt: HostRuntime) {
+    let fault = Fault::NotAsMade { good: 1, pieces: 2 };
+    assert!(rt; is_printed(rt.alloc(), fault, 1, "not as made: 1 of 2 pieces"));
+}
+
 // A read of a file that is rechecked, which is refused.
 fn read_again(file: u64, start: Option<u64>) -> RecheckError<io::Error> {
     let fault = io::Error::from(io::ErrorKind::PermissionDenied);

@@ -3,6 +3,7 @@
 //!
 //! - `faults.rt`: the line and the status of each fault.
 //! - `streams.rt`: the program over readers and writers that fault; `execute.rt`: over any.
+//! - `piece_counts.rt`: a file that has changed since its torrent was made.
 //! - `proof_texts.rt`: proofs as texts, both ways. `progress_lines.rt`: the line of progress.
 #![tactic(auto)]
 
@@ -10,6 +11,8 @@
 mod execute;
 #[cfg(test)]
 mod faults;
+#[cfg(test)]
+mod piece_counts;
 #[cfg(test)]
 mod progress_lines;
 #[cfg(test)]

@@ -13,11 +13,14 @@ returns c =
     ∙ ap₂ with_rule shared c.workers_option.ensures.rule in
     let spanned =
     c.in_ok-arg-3.ensures.shape c.span_option.ensures.local ∙ ap₂ with_rule counted c.span_option.ensures.rule in
+    let checked =
+    c.in_ok-arg-4.ensures.shape c.in_ok-flag_beside.ensures.local
+    ∙ ap₂ with_rule spanned c.in_ok-flag_beside.ensures.rule in
     let sent =
-    c.in_ok-arg-4.ensures.shape c.out_option.ensures.local ∙ ap₂ with_rule spanned c.out_option.ensures.rule in
-    IfOk-weaker c.arg-5.result _ _
+    c.in_ok-arg-5.ensures.shape c.out_option.ensures.local ∙ ap₂ with_rule checked c.out_option.ensures.rule in
+    IfOk-weaker c.arg-6.result _ _
     (λ command added. (
       hows,
       ways,
       added.shape c.path_argument.ensures.local ∙ ap₂ with_rule sent c.path_argument.ensures.rule,
-    )) c.arg-5.ensures
+    )) c.arg-6.ensures

@@ -39,6 +39,9 @@ returns g c =
       span = λ text is.
           let read = c.in_ok-get_one-2.ensures.value text (one_text-rows found (codes "span") ∙ is) in
           (read.0.0.0, read.0.1);
+      check_after = λ given is.
+          found_flag found (codes "check-after") c.get_flag-3.result given c.get_flag-3.ensures.value
+          c.get_flag-3.ensures.other is;
       out = sym (first_value-rows found (codes "out")) ∙ sym c.get_str-6.ensures;
       place = sym (first_value-rows found (codes "path")) ∙ sym c.get_str-7.ensures;
     }

@@ -1,0 +1,29 @@
+-- The pieces were counted, or it is told why they were not.
+use Rattle.tor_cli.specs.Status.{of_recheck_error}
+use Rattle.tor_cli.proofs.CheckAfter.{as_made, not_as_made, not_kept}
+use Rattle.tor_cli.proofs.Rechecking.{not_rechecked, places_count}
+use Rattle.tor_cli.proofs.check_after.check_after.Goals as goal
+
+pub counted_pieces-requires-after_bounds : goal.counted_pieces-requires-after_bounds
+counted_pieces-requires-after_bounds g c κs within =
+    places_count c.args.place.now c.in-Ok.placed.torrent c.in-Ok.placed.source c.in-Ok.ensures.placed
+
+pub returns-in-Ok-counted_pieces-clause-kept : goal.returns-in-Ok-counted_pieces-clause-kept
+returns-in-Ok-counted_pieces-clause-kept g c =
+    as_made c.args.bytes.now c.in-Ok.placed.torrent c.in-Ok-counted_pieces.counts c.in-Ok.ensures.told
+    c.in-Ok-counted_pieces.ensures.counted c.all_good.result c.all_good.ensures.kept
+
+pub returns-in-Ok-counted_pieces-clause-stopped : goal.returns-in-Ok-counted_pieces-clause-stopped
+returns-in-Ok-counted_pieces-clause-stopped g c =
+    not_as_made c.args.bytes.now c.in-Ok.placed.torrent c.in-Ok-counted_pieces.counts c.in-Ok.ensures.told
+    c.in-Ok-counted_pieces.ensures.counted c.args.workers c.all_good.result c.all_good.ensures.refused
+
+pub returns-clause-stopped : goal.returns-clause-stopped
+returns-clause-stopped g c =
+    let bytes = c.args.bytes.now in
+    let workers = c.args.workers in
+    let error = c.in-Err-counted_pieces.error in
+    let why = c.in-Err-counted_pieces.ensures in
+    rw c.from.ensures
+    (not_kept workers bytes (of_recheck_error error)
+    (not_rechecked bytes c.in-Ok.placed.torrent c.in-Ok.ensures.told workers error why.gave why.allowed))
