@@ -1,7 +1,9 @@
 -- Which fault of the program a fault of a recheck is.
-use Rattle.std.proofs.Common.{◌≡◌, ◌≢◌, ◌∙◌, ℕ, List, length, map, ap, inl, inr, sym}
+use Rattle.std.proofs.Common.{◌≡◌, ◌≢◌, ◌∙◌, ℕ, Bool, true, false, cond, List, length, map, Option, None, Some}
+use Rattle.std.proofs.Common.{ap, inl, inr, sym}
 use Rattle.std.proofs.lemmas.List.{length-map}
 use Rattle.std.specs.declared.io.Error.{Error}
+use Rattle.std.specs.declared.io.ErrorKind.{ErrorKind}
 use Rattle.tor_check.specs.Valid.{IsTold}
 use Rattle.tor_engine.specs.How.{IsHow}
 use Rattle.tor_engine.specs.declared.how.How.TheVariants.{Board}
@@ -14,10 +16,26 @@ use Rattle.tor_source.specs.declared.faults.ScanFault.TheVariants as scans
 use Rattle.tor_spec.specs.valid.View.{View}
 use Rattle.tor_cli.specs.Foreign.{IsNoTorrent}
 use Rattle.tor_cli.specs.Place.{IsFileEnd, IsFileFault, IsFileSize}
-use Rattle.tor_cli.specs.Recheck.{ArePlaces, IsNoPlace, IsNotPlaced, IsNotRechecked}
+use Rattle.tor_cli.specs.Recheck.{ArePlaces, IsNoPlace, IsNotPlaced, IsNotRechecked, place_fault}
 use Rattle.tor_cli.specs.Status.{of_recheck_error, of_scan_fault}
 use Rattle.tor_cli.specs.declared.fault.Fault.{Fault}
 use Rattle.tor_cli.specs.declared.fault.Fault.TheVariants as faults
+
+module _ (kind : ErrorKind) where
+  -- a fault of the place is want of memory or the system's
+  no_other : (fault : ScanFault) → (Some scans.Memory ≡ Some fault → ⊥) → (Some scans.System ≡ Some fault → ⊥)
+      → (memory told : Bool) → cond memory (Some scans.Memory) (cond told (Some scans.System) None) ≡ Some fault → ⊥
+  no_other fault no_memory no_system true told e = no_memory e
+  no_other fault no_memory no_system false true e = no_system e
+  no_other fault no_memory no_system false false e = absurd cc
+
+  pub no_place : (view : View) (fault : ScanFault) → place_fault kind (length view.files) ≡ Some fault
+      → IsNoPlace view fault
+  no_place view scans.NotUtf8 e = absurd (no_other scans.NotUtf8 (λ a. absurd cc) (λ a. absurd cc) _ _ e)
+  no_place view scans.NotRegular e = absurd (no_other scans.NotRegular (λ a. absurd cc) (λ a. absurd cc) _ _ e)
+  no_place view scans.TooDeep e = absurd (no_other scans.TooDeep (λ a. absurd cc) (λ a. absurd cc) _ _ e)
+  no_place view scans.System e = inr (kind, e)
+  no_place view scans.Memory e = tt
 
 module _ (bytes : List ℕ) (view : View) (told : IsTold bytes view) where
   -- the place is refused, or memory was

@@ -1,9 +1,12 @@
 -- What the program prints of the pieces and the files of a torrent: which are there and right. No contract says which
 -- bytes a file of the system has, so a clause speaks of some bytes, those that the program took for FILE's, of some
 -- bits, those that were answered of the torrent's pieces, one for each, and of what was answered of each file.
-use Rattle.std.specs.Prelude.{◌≡◌, ◌≢◌, ◌⊎◌, ◌==◌, ℕ, Bool, List, [], ◌∷◌, ◌++◌, length, map, decimal, codes}
+use Rattle.std.specs.Prelude.{◌≡◌, ◌≢◌, ◌⊎◌, ◌==◌, ◌&&◌, ℕ, Bool, true, false, not, List, [], ◌∷◌, ◌++◌, length, map}
+use Rattle.std.specs.Prelude.{Option, None, Some, decimal, codes, if◌then◌else◌}
 use Rattle.std.specs.Io.KnownBytes.{Appends}
 use Rattle.std.specs.declared.io.Error.{Error}
+use Rattle.std.specs.declared.io.ErrorKind.{ErrorKind}
+use Rattle.std.specs.declared.io.ErrorKind.TheVariants.{OutOfMemory}
 use Rattle.hex.specs.Hex.{encode_lower}
 use Rattle.tor_check.specs.Valid.{IsTold}
 use Rattle.tor_engine.specs.How.{IsHow}
@@ -13,6 +16,7 @@ use Rattle.tor_recheck.specs.Recheck.{IsGiven}
 use Rattle.tor_recheck.specs.declared.files.FileFound.{FileFound}
 use Rattle.tor_recheck.specs.declared.errors.RecheckError.{RecheckError}
 use Rattle.tor_recheck.specs.declared.errors.RecheckError.TheVariants as rechecks
+use Rattle.tor_source.specs.Faults.{is_absence}
 use Rattle.tor_source.specs.Places.{place_of}
 use Rattle.tor_source.specs.declared.faults.ScanFault.{ScanFault}
 use Rattle.tor_source.specs.declared.faults.ScanFault.TheVariants as scans
@@ -70,9 +74,21 @@ abbrev pub ArePlaces : List ℕ → View → List (List ℕ) → Type 0
 ArePlaces place view places = ((length view.files ≡ 1) × (places ≡ place ∷ []))
     ⊎ (places ≡ map (place_of place) (map (λ told. told.file.path) view.files))
 
--- why they are not: a file by itself is not what a torrent of several files has; or memory was refused
+abbrev pub is_memory : ErrorKind → Bool
+is_memory OutOfMemory = true
+is_memory _ = false
+
+-- what is told of a fault of the place itself, where so many files are looked for there: want of memory; and where one
+-- file is, which might be there, each fault but that nothing is there
+abbrev pub place_fault : ErrorKind → ℕ → Option ScanFault
+place_fault kind files = if is_memory kind then Some scans.Memory
+    else if (files == 1) && not (is_absence kind) then Some scans.System else None
+
+-- why they are not: a file by itself is not what a torrent of several files has; or there was a fault of the place; or
+-- memory was refused
 abbrev pub IsNoPlace : View → ScanFault → Type 0
-IsNoPlace view scans.System = length view.files ≢ 1
+IsNoPlace view scans.System = (length view.files ≢ 1)
+    ⊎ ((kind : ErrorKind) × (place_fault kind (length view.files) ≡ Some scans.System))
 IsNoPlace view scans.Memory = Unit {0}
 IsNoPlace view other = ⊥
 

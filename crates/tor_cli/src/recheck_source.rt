@@ -1,7 +1,9 @@
 //! Where the system has the files of a torrent.
 ghost use Rattle.std.specs.Prelude.{◌≡◌, IfErr, IfOk, map};
 ghost use Rattle.tor_check.specs.Valid.{IsTold};
-ghost use Rattle.tor_cli.specs.Recheck.{ArePlaces, IsNoPlace, IsNotPlaced};
+ghost use Rattle.tor_cli.specs.Recheck.{ArePlaces, IsNoPlace, IsNotPlaced, is_memory, place_fault};
+ghost use Rattle.tor_source.specs.Faults.{is_absence};
+ghost use Rattle.tor_source.specs.Places.{place_of};
 
 use crate::fault::Fault;
 use std::alloc::{AllocError, Global};
@@ -35,7 +37,8 @@ pub fn placed_at(system: &HostRuntime, place: &str, bytes: &[u8]) -> Result<Plac
 }
 
 /// The torrent's files at a place: the file there, which only a torrent of one file can have, or those below the folder
-/// there, whether they are there or not. A link at the place itself is followed.
+/// there, whether they are there or not. A link at the place itself is followed. Where the system does not tell what is
+/// there, a torrent of one file might have it there, and it is a fault; of others each file is asked for by itself.
 fn source_at(
     system: &HostRuntime,
     place: &str,
@@ -50,12 +53,50 @@ fn source_at(
             [_] => Ok(FolderSource::single(system, place)?),
             _ => Err(ScanFault::System),
         },
-        Err(error) if error.kind() == ErrorKind::OutOfMemory => Err(ScanFault::Memory),
-        _ => {
-            let paths = paths_of(system.alloc(), files)?;
-            Ok(FolderSource::at(system, place, paths)?)
-        }
+        Ok(_) => Ok(files_below(system, place, files)?),
+        Err(error) => match place_fault(error.kind(), files.len()) {
+            Some(fault) => Err(fault),
+            None => Ok(files_below(system, place, files)?),
+        },
     }
+}
+
+fn files_below(
+    system: &HostRuntime,
+    place: &str,
+    files: &[ViewFile],
+) -> Result<FolderSource<HostRuntime>, AllocError>
+    ensures { IfOk result
+        (λ source. source ≡ map (place_of place.now) (map (λ told. told.file.path) files.now)) }
+{
+    let paths = paths_of(system.alloc(), files)?;
+    FolderSource::at(system, place, paths)
+}
+
+/// What is told of a fault of the place itself, by its kind, where so many files are looked for there.
+fn place_fault(kind: ErrorKind, files: usize) -> Option<ScanFault>
+    ensures { result ≡ place_fault kind files }
+{
+    if is_memory(kind) {
+        return Some(ScanFault::Memory);
+    }
+    if files == 1 && !is_absence(kind) {
+        return Some(ScanFault::System);
+    }
+    None
+}
+
+fn is_memory(kind: ErrorKind) -> bool
+    ensures { result ≡ is_memory kind }
+{
+    matches!(kind, ErrorKind::OutOfMemory)
+}
+
+/// Whether a fault of this kind says that nothing is there.
+fn is_absence(kind: ErrorKind) -> bool
+    ensures { result ≡ is_absence kind }
+{
+    matches!(kind, ErrorKind::NotFound | ErrorKind::NotADirectory)
 }
 
 fn paths_of(alloc: Global, files: &[ViewFile]) -> Result<Vec<FilePath>, AllocError>
