@@ -1,5 +1,6 @@
 -- Which fault of the program a fault of a recheck is.
 use Rattle.std.proofs.Common.{◌≡◌, ◌≢◌, ◌∙◌, ℕ, Bool, true, false, cond, List, length, map, Option, None, Some}
+use Rattle.std.specs.Prelude.{Result, Err}
 use Rattle.std.proofs.Common.{ap, inl, inr, sym}
 use Rattle.std.proofs.lemmas.List.{length-map}
 use Rattle.std.specs.declared.io.Error.{Error}
@@ -49,11 +50,13 @@ module _ (bytes : List ℕ) (view : View) (told : IsTold bytes view) where
   -- a file of the torrent had a fault, or memory was refused
   pub not_rechecked : (workers : ℕ) (error : RecheckError Error)
       → IsGiven (IsFileFault (length view.files)) (IsFileSize (length view.files)) IsFileEnd (length view.files) error
-      → (IsHow (Board workers) → error ≢ rechecks.Workers) → IsNotRechecked workers bytes (of_recheck_error error)
-  not_rechecked workers (rechecks.Read file start fault) given other = (view, told, (given, other, λ same. cc))
-  not_rechecked workers (rechecks.Changed file) given other = (view, told, (given, other, λ same. cc))
-  not_rechecked workers rechecks.Resources given other = tt
-  not_rechecked workers rechecks.Workers given other = (view, told, (given, other, λ same. cc))
+      → (IsHow (Board workers) → error ≢ rechecks.Workers) → ((IsHow (Board workers) → ⊥) → error ≡ rechecks.Workers)
+      → IsNotRechecked workers bytes (of_recheck_error error)
+  not_rechecked workers (rechecks.Read file start fault) given other only =
+      (view, told, (given, other, only, λ same. cc))
+  not_rechecked workers (rechecks.Changed file) given other only = (view, told, (given, other, only, λ same. cc))
+  not_rechecked workers rechecks.Resources given other only = tt
+  not_rechecked workers rechecks.Workers given other only = (view, told, (given, other, only, λ same. cc))
 
 -- a refusal is answered as it is, and want of memory is none
 pub not_judged : (bytes : List ℕ) (fault : Fault) → IsNoTorrent bytes fault → IsNotPlaced bytes fault
@@ -87,6 +90,11 @@ unplaced workers bytes faults.Read why = why
 unplaced workers bytes faults.TooLong why = why
 unplaced workers bytes (faults.Write written) why = why
 unplaced workers bytes faults.Resources why = why
+
+-- the error that is answered is the one that there is
+pub err_is : {A E : Type 0} (error other : E) (result : Result A E) → result ≡ Err error → result ≡ Err other
+    → error ≡ other
+err_is error other result is same = cc
 
 -- there are as many places as the torrent has files
 pub places_count : (place : List ℕ) (view : View) (places : List (List ℕ)) → ArePlaces place view places

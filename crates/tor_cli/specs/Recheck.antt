@@ -107,11 +107,12 @@ pub record IsRechecked (options : RecheckOptions) (bytes text : List ℕ) (answe
   pub allowed : IsHow (Board options.workers)
   pub report : IsReportOn options view text answer
 
--- a fault of a file that the torrent has; or no worker, or too many
+-- a fault of a file that the torrent has; or, exactly where there is no worker or too many, that
 abbrev pub IsRecheckFault : ℕ → View → RecheckError Error → Type 0
 IsRecheckFault workers view error =
     IsGiven (IsFileFault (length view.files)) (IsFileSize (length view.files)) IsFileEnd (length view.files) error
-    × (IsHow (Board workers) → error ≢ rechecks.Workers) × (error ≢ rechecks.Resources)
+    × (IsHow (Board workers) → error ≢ rechecks.Workers) × ((IsHow (Board workers) → ⊥) → error ≡ rechecks.Workers)
+    × (error ≢ rechecks.Resources)
 
 -- why the bytes are no torrent whose files are looked for
 abbrev pub IsNotPlaced : List ℕ → Fault → Type 0

@@ -1,5 +1,5 @@
 //! `tor make --check-after`: whether its files have each piece of a torrent that was just made of them.
-ghost use Rattle.std.specs.Prelude.{◌≡◌, ◌≢◌, IfErr, IfOk, OnOk, length};
+ghost use Rattle.std.specs.Prelude.{◌≡◌, ◌≢◌, Err, IfErr, IfOk, OnOk, length};
 ghost use Rattle.std.specs.declared.io.Error.{Error};
 ghost use Rattle.tor_cli.specs.CheckAfter.{AreCounted, IsAsMade, IsNotAsMade};
 ghost use Rattle.tor_cli.specs.Place.{IsFileEnd, IsFileFault, IsFileSize};
@@ -50,6 +50,7 @@ fn counted_pieces<T: Threads + Sync>(
 ) -> Result<PieceCounts, RecheckError<io::Error>>
     requires { length placed.now.source ≡ length placed.now.torrent.files }
     ensures counted { IfOk result (AreCounted placed.now.torrent) }
+    ensures refused { (IsHow (Board workers) → ⊥) → result ≡ Err Workers }
     ensures allowed { IsHow (Board workers) → IfErr result (λ error. error ≢ Workers) }
     ensures gave { let count = length placed.now.torrent.files in
         IfErr result (IsGiven (IsFileFault count) (IsFileSize count) IsFileEnd count) }

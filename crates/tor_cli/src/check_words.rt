@@ -5,7 +5,7 @@ ghost use Rattle.tor_cli.specs.CommandLine.{check_app};
 ghost use Rattle.tor_cli.specs.Words.{IsCheckIn, telling_of};
 
 use crate::telling::Telling;
-use crate::torrent_words::{argument_of, flag_of, flag_without};
+use crate::torrent_words::{argument_of, flag_of, json_option};
 use clap::{ArgMatches, Command};
 use std::alloc::{AllocError, Global};
 
@@ -24,13 +24,11 @@ pub fn check_command<'a>(alloc: Global) -> Result<Command<'a>, AllocError>
     Command::new(alloc, "check")
         .about("Tells what a torrent describes, or why a file is none")
         .arg(flag_of(alloc, "null", NULL))?
-        .arg(flag_without(alloc, "json", "null", JSON)?)?
+        .arg(json_option(alloc)?)?
         .arg(argument_of(alloc, "file", 1, "FILE", "The file with the torrent"))
 }
 
 const NULL: &str = "Prints the paths of the files alone, each ended by a zero byte";
-
-const JSON: &str = "Prints the same as one object of JSON";
 
 /// What is to be told, of the words; none where `clap` let through words that have none.
 pub fn check_options<'a>(matches: &ArgMatches<'a>) -> Option<CheckOptions<'a>>

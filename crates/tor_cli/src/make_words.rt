@@ -1,10 +1,12 @@
 //! The words of `tor make`: its options, and what they may have for a value.
 ghost use Rattle.clap.specs.Words.{app_of, rule_of};
 ghost use Rattle.clap.specs.declared.builder.value_parser.ValueParser.{ValueParser};
-ghost use Rattle.std.specs.Prelude.{◌≡◌, IfOk, false};
-ghost use Rattle.tor_cli.specs.CommandLine.{AreHows, AreKinds, announce_option, how_option, kind_option, make_app};
+ghost use Rattle.std.specs.Prelude.{◌≡◌, ◌∷◌, [], IfOk, codes, false};
+ghost use Rattle.tor_cli.specs.CommandLine.{AreHows, AreKinds, announce_option, flag_bound, how_option};
+ghost use Rattle.tor_cli.specs.CommandLine.{kind_option, make_app};
 ghost use Rattle.tor_cli.specs.CommandLine.{name_option, out_option, path_argument, piece_length_option};
 ghost use Rattle.tor_cli.specs.CommandLine.{private_option, span_option, with_torrent, with_ways};
+ghost use Rattle.tor_cli.specs.steps.Bound.{wanted_by};
 
 use crate::torrent_words::{flag_beside, flag_of, workers_option};
 use clap::{Arg, ArgAction, Command, value_parser};
@@ -66,7 +68,7 @@ fn add_ways<'a>(alloc: Global, command: Command<'a>) -> Result<Command<'a>, Allo
         .arg(how_option(alloc))?
         .arg(workers_option(alloc, DEFAULT_WORKERS, WORKERS))?
         .arg(span_option(alloc))?
-        .arg(flag_beside(alloc, "check-after", "path", CHECK_AFTER)?)?
+        .arg(check_after_option(alloc)?)?
         .arg(out_option(alloc))?
         .arg(path_argument(alloc))
 }
@@ -148,6 +150,14 @@ fn span_option<'a>(alloc: Global) -> Arg<'a>
         .value_parser(value_parser!(u32))
         .default_value(DEFAULT_SPAN)
         .help("Pieces that a worker takes at a time: a power of two from 1 to 1024")
+}
+
+fn check_after_option<'a>(alloc: Global) -> Result<Arg<'a>, AllocError>
+    ensures rule { IfOk result (λ flag. rule_of flag ≡ flag_bound (codes "check-after")) }
+    ensures local { IfOk result (λ flag. flag.global ≡ false) }
+    ensures other { IfOk result (λ flag. wanted_by flag ≡ codes "path" ∷ []) }
+{
+    flag_beside(alloc, "check-after", "path", CHECK_AFTER)
 }
 
 fn out_option<'a>(alloc: Global) -> Arg<'a>

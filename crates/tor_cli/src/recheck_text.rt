@@ -1,5 +1,5 @@
 //! What tells which pieces of a torrent a source has, and which of its files.
-ghost use Rattle.std.specs.Prelude.{◌≡◌, ◌≢◌, IfErr, IfOk, OnOk, MatchResult, None, length, string_bytes};
+ghost use Rattle.std.specs.Prelude.{◌≡◌, ◌≢◌, Err, IfErr, IfOk, OnOk, MatchResult, None, length, string_bytes};
 ghost use Rattle.tor_cli.specs.FoundFiles.{listed};
 ghost use Rattle.tor_cli.specs.Recheck.{IsOfEach, IsReport, IsReportOn, pieces_text, recheck_answer, recheck_text};
 ghost use Rattle.tor_cli.specs.Recheck.{report_text};
@@ -58,6 +58,7 @@ pub fn counted_report<S: Source, T: Threads + Sync>(
         (held_pieces torrent.now (contents_in facts (length torrent.now.files)))))
         (string_bytes report.text) report.answer × (first_fault facts torrent.now ≡ None))
         (IsFault (first_fault facts torrent.now)) }
+    ensures refused { (IsHow (Board options.now.workers) → ⊥) → result ≡ Err Workers }
     ensures workers { OnOk result (IsHow (Board options.now.workers)) }
     ensures allowed { IsHow (Board options.now.workers) → IfErr result (λ error. error ≢ Workers) }
     ensures gave { IfErr result
@@ -94,6 +95,7 @@ fn findings_of<S: Source, T: Threads + Sync>(
         (held_pieces torrent.now (contents_in facts (length torrent.now.files)))))
         × (first_fault facts torrent.now ≡ None))
         (IsFault (first_fault facts torrent.now)) }
+    ensures refused { (IsHow (Board options.now.workers) → ⊥) → result ≡ Err Workers }
     ensures workers { OnOk result (IsHow (Board options.now.workers)) }
     ensures allowed { IsHow (Board options.now.workers) → IfErr result (λ error. error ≢ Workers) }
     ensures gave { IfErr result

@@ -1,13 +1,14 @@
 //! The words of `tor recheck FILE PATH`.
-ghost use Rattle.clap.specs.Words.{app_of, found_of, rows_of};
-ghost use Rattle.std.specs.Prelude.{◌≡◌, IfOk, IfSome};
-ghost use Rattle.tor_cli.specs.CommandLine.{recheck_app};
+ghost use Rattle.clap.specs.Words.{app_of, found_of, rows_of, rule_of};
+ghost use Rattle.std.specs.Prelude.{◌≡◌, ◌∷◌, [], IfOk, IfSome, codes, false};
+ghost use Rattle.tor_cli.specs.CommandLine.{flag_bound, recheck_app};
 ghost use Rattle.tor_cli.specs.Words.{IsRecheckIn};
+ghost use Rattle.tor_cli.specs.steps.Bound.{wanted_by};
 
 use crate::listing::{Form, Listing, form_of, listing_of};
-use crate::torrent_words::{argument_of, flag_beside, flag_of, flag_without, workers_option};
+use crate::torrent_words::{argument_of, flag_beside, flag_of, json_option, workers_option};
 use crate::workers::workers_of;
-use clap::{ArgMatches, Command};
+use clap::{Arg, ArgMatches, Command};
 use std::alloc::{AllocError, Global};
 use std::thread::Threads;
 
@@ -32,11 +33,19 @@ pub fn recheck_command<'a>(alloc: Global) -> Result<Command<'a>, AllocError>
         .about("Tells which pieces of a torrent are there and right")
         .arg(flag_of(alloc, "files", FILES))?
         .arg(flag_of(alloc, "bad", BAD))?
-        .arg(flag_beside(alloc, "null", "bad", NULL)?)?
-        .arg(flag_without(alloc, "json", "null", JSON)?)?
+        .arg(null_option(alloc)?)?
+        .arg(json_option(alloc)?)?
         .arg(workers_option(alloc, DEFAULT_WORKERS, WORKERS))?
         .arg(argument_of(alloc, "file", 1, "FILE", "The file with the torrent"))?
         .arg(argument_of(alloc, "path", 2, "PATH", PATH))
+}
+
+fn null_option<'a>(alloc: Global) -> Result<Arg<'a>, AllocError>
+    ensures rule { IfOk result (λ flag. rule_of flag ≡ flag_bound (codes "null")) }
+    ensures local { IfOk result (λ flag. flag.global ≡ false) }
+    ensures other { IfOk result (λ flag. wanted_by flag ≡ codes "bad" ∷ []) }
+{
+    flag_beside(alloc, "null", "bad", NULL)
 }
 
 const FILES: &str = "Tells of each file too: whether it is whole, bad, short or missing";
@@ -44,8 +53,6 @@ const FILES: &str = "Tells of each file too: whether it is whole, bad, short or 
 const BAD: &str = "Tells of each file that is not whole";
 
 const NULL: &str = "With --bad, prints the paths of these files alone, each ended by a zero byte";
-
-const JSON: &str = "Prints the same as one object of JSON";
 
 const DEFAULT_WORKERS: &str = "4";
 

@@ -1,8 +1,9 @@
 //! The words of `tor magnet FILE`, and those of which several commands have some.
 ghost use Rattle.clap.specs.Words.{app_of, found_of, rows_of, rule_of};
-ghost use Rattle.std.specs.Prelude.{◌≡◌, IfOk, IfSome, false};
+ghost use Rattle.std.specs.Prelude.{◌≡◌, ◌∷◌, [], IfOk, IfSome, codes, false};
 ghost use Rattle.tor_cli.specs.CommandLine.{argument_of, file_app, flag_bound, flag_of, workers_option};
 ghost use Rattle.tor_cli.specs.Words.{IsFileIn};
+ghost use Rattle.tor_cli.specs.steps.Bound.{shut_out_by, wanted_by};
 
 use clap::{Arg, ArgAction, ArgMatches, Command};
 use std::alloc::{AllocError, Global};
@@ -69,12 +70,13 @@ pub fn flag_beside<'a>(
 ) -> Result<Arg<'a>, AllocError>
     ensures rule { IfOk result (λ flag. rule_of flag ≡ flag_bound name.now) }
     ensures local { IfOk result (λ flag. flag.global ≡ false) }
+    ensures other { IfOk result (λ flag. wanted_by flag ≡ other.now ∷ []) }
 {
     flag_of(alloc, name, help).requires_arg(other)
 }
 
 /// An option without a value that does not stand beside another one.
-pub fn flag_without<'a>(
+fn flag_without<'a>(
     alloc: Global,
     name: &'a str,
     other: &'a str,
@@ -82,9 +84,21 @@ pub fn flag_without<'a>(
 ) -> Result<Arg<'a>, AllocError>
     ensures rule { IfOk result (λ flag. rule_of flag ≡ flag_bound name.now) }
     ensures local { IfOk result (λ flag. flag.global ≡ false) }
+    ensures other { IfOk result (λ flag. shut_out_by flag ≡ other.now ∷ []) }
 {
     flag_of(alloc, name, help).conflicts_with(other)
 }
+
+/// The option that asks for JSON.
+pub fn json_option<'a>(alloc: Global) -> Result<Arg<'a>, AllocError>
+    ensures rule { IfOk result (λ flag. rule_of flag ≡ flag_bound (codes "json")) }
+    ensures local { IfOk result (λ flag. flag.global ≡ false) }
+    ensures other { IfOk result (λ flag. shut_out_by flag ≡ codes "null" ∷ []) }
+{
+    flag_without(alloc, "json", "null", JSON)
+}
+
+const JSON: &str = "Prints all that the lines tell, as one object of JSON";
 
 /// The option that says how many workers hash, and how many where it is not given.
 pub fn workers_option<'a>(alloc: Global, default: &'a str, help: &'a str) -> Arg<'a>

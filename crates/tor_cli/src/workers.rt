@@ -1,5 +1,5 @@
 //! How many workers a word asks for.
-ghost use Rattle.std.specs.Prelude.{◌≡◌, ◌≤◌, IfOk, IfSome};
+ghost use Rattle.std.specs.Prelude.{◌≡◌, ◌≤◌, ◌<◌, ◌^◌, ℕ, IfOk, IfSome, IsSome, Some, codes, min};
 ghost use Rattle.tor_cli.specs.Words.{AreWorkers, IsNumber, IsUsage};
 ghost use Rattle.tor_engine.specs.declared.how.TheConstants.{MAX_WORKERS};
 
@@ -12,7 +12,10 @@ use tor_engine::MAX_WORKERS;
 /// How many workers the word asks for: for `auto` as many as there are processors, from 1 to 64; else its number, which
 /// has 32 bits. None where it is no such word.
 pub fn workers_of<T: Threads>(rt: &T, word: &str) -> Option<u32>
-    ensures { IfSome result (AreWorkers word.now) }
+    ensures value { IfSome result (AreWorkers word.now) }
+    ensures each { (number : ℕ) → IsNumber word.now (λ value. number ≡ value) → number < 2 ^ 32 →
+        result ≡ Some number }
+    ensures auto { word.now ≡ codes "auto" → IsSome result }
 {
     match word {
         "auto" => Some(processors(rt)),
@@ -22,7 +25,9 @@ pub fn workers_of<T: Threads>(rt: &T, word: &str) -> Option<u32>
 
 /// The number that the word is.
 fn number_of(word: &str) -> Option<u32>
-    ensures { IfSome result (λ number. IsNumber word.now (λ value. number ≡ value)) }
+    ensures value { IfSome result (λ number. IsNumber word.now (λ value. number ≡ value)) }
+    ensures each { (number : ℕ) → IsNumber word.now (λ value. number ≡ value) → number < 2 ^ 32 →
+        result ≡ Some number }
 {
     match word.parse::<u32>() {
         Ok(number) => Some(number),
@@ -35,9 +40,16 @@ fn processors<T: Threads>(rt: &T) -> u32
     ensures { (1 ≤ result) × (result ≤ MAX_WORKERS) }
 {
     match available_parallelism(rt) {
-        Ok(count) => count.get().min(MAX_WORKERS as usize) as u32,
+        Ok(count) => at_most_all(count.get()),
         Err(_) => 1,
     }
+}
+
+/// As many workers as processors, but no more than there may be.
+fn at_most_all(processors: usize) -> u32
+    ensures { result ≡ min processors MAX_WORKERS }
+{
+    processors.min(MAX_WORKERS as usize) as u32
 }
 
 /// What is wrong with a word that asks for no number of workers, as `clap` says it of a number.

@@ -1,7 +1,8 @@
 -- The pieces were counted, or it is told why they were not.
+use Rattle.tor_recheck.specs.declared.errors.RecheckError.TheVariants.{Workers}
 use Rattle.tor_cli.specs.Status.{of_recheck_error}
 use Rattle.tor_cli.proofs.CheckAfter.{as_made, not_as_made, not_kept}
-use Rattle.tor_cli.proofs.Rechecking.{not_rechecked, places_count}
+use Rattle.tor_cli.proofs.Rechecking.{err_is, not_rechecked, places_count}
 use Rattle.tor_cli.proofs.check_after.check_after.Goals as goal
 
 pub counted_pieces-requires-after_bounds : goal.counted_pieces-requires-after_bounds
@@ -26,4 +27,5 @@ returns-clause-stopped g c =
     let why = c.in-Err-counted_pieces.ensures in
     rw c.from.ensures
     (not_kept workers bytes (of_recheck_error error)
-    (not_rechecked bytes c.in-Ok.placed.torrent c.in-Ok.ensures.told workers error why.gave why.allowed))
+    (not_rechecked bytes c.in-Ok.placed.torrent c.in-Ok.ensures.told workers error why.gave why.allowed
+    (λ none. err_is error Workers _ c.in-Err-counted_pieces.is (c.counted_pieces.ensures.refused none))))

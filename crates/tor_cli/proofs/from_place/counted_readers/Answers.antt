@@ -1,12 +1,13 @@
 -- one more is counted
-use Rattle.std.proofs.Common.{◌≡◌, ◌++◌, ◌∷◌, ◌∙◌, [], append-nil, append_assoc, ap, ap₂, arith, length, map, rules, sym}
+use Rattle.std.proofs.Common.{◌≡◌, ◌++◌, ◌∷◌, ◌∙◌, [], append-nil, append_assoc, ap, arith, length, map, rules, sym}
 use Rattle.std.specs.Vec.Iter.{into_iter_items}
 use Rattle.std.proofs.lemmas.List.{length-map, map-append, nil_from_length}
 use Rattle.tor_cli.proofs.from_place.counted_readers.Goals as goal
 
 pub files-init : goal.files-init
 files-init c =
-    let whole : into_iter_items c.into_iter-reader-iterator.result ≡ c.in_ok-files.files.items = search rules in record {
+    let whole : into_iter_items c.into_iter-reader-iterator.result ≡ c.in_ok-files.files.items = search rules in
+    record {
       items = whole ∙ c.in_ok-files.ensures.each;
       left = search rules;
       same = ap (map (λ counted. counted.reader)) c.in_ok-readers.ensures.items;

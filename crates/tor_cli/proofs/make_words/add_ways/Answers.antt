@@ -14,8 +14,8 @@ returns c =
     let spanned =
     c.in_ok-arg-3.ensures.shape c.span_option.ensures.local ∙ ap₂ with_rule counted c.span_option.ensures.rule in
     let checked =
-    c.in_ok-arg-4.ensures.shape c.in_ok-flag_beside.ensures.local
-    ∙ ap₂ with_rule spanned c.in_ok-flag_beside.ensures.rule in
+    c.in_ok-arg-4.ensures.shape c.in_ok-check_after_option.ensures.local
+    ∙ ap₂ with_rule spanned c.in_ok-check_after_option.ensures.rule in
     let sent =
     c.in_ok-arg-5.ensures.shape c.out_option.ensures.local ∙ ap₂ with_rule checked c.out_option.ensures.rule in
     IfOk-weaker c.arg-6.result _ _

@@ -33,7 +33,7 @@ returns g c =
         c.in_ok-workers_of.field-0,
         found_text found (codes "workers") c.get_str-5.result c.in_ok-get_str-4.field-0 c.get_str-5.ensures
             (search rules),
-        c.in_ok-workers_of.ensures,
+        c.in_ok-workers_of.ensures.value,
         c.in_ok-way_of.ensures.value.1,
       );
       span = λ text is.

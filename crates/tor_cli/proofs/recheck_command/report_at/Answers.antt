@@ -1,8 +1,9 @@
 -- Why nothing is printed is that of the torrent that was judged, and of as many places as it has files.
 use Rattle.std.proofs.Common.{ℕ, length, subst}
 use Rattle.tor_recheck.specs.Recheck.{IsGiven}
+use Rattle.tor_recheck.specs.declared.errors.RecheckError.TheVariants.{Workers}
 use Rattle.tor_cli.specs.Place.{IsFileEnd, IsFileFault, IsFileSize}
-use Rattle.tor_cli.proofs.Rechecking.{not_rechecked, places_count, unplaced}
+use Rattle.tor_cli.proofs.Rechecking.{err_is, not_rechecked, places_count, unplaced}
 use Rattle.tor_cli.proofs.recheck_command.report_at.Goals as goal
 
 pub returns-in-Err-clause-stopped : goal.returns-in-Err-clause-stopped
@@ -19,4 +20,5 @@ returns-clause-stopped g c =
     (not_rechecked c.args.bytes.now view c.in-Ok.ensures.told c.args.options.now.workers error
     (subst (λ (n : ℕ). IsGiven (IsFileFault n) (IsFileSize n) IsFileEnd (length view.files) error) count
     c.in-Err-counted_report.ensures.gave)
-    c.in-Err-counted_report.ensures.allowed)
+    c.in-Err-counted_report.ensures.allowed
+    (λ none. err_is error Workers _ c.in-Err-counted_report.is (c.counted_report.ensures.refused none)))

@@ -12,11 +12,11 @@ returns c =
     let narrowed =
     c.in_ok-arg-2.ensures.shape c.flag_of-2.ensures.local ∙ ap₂ with_rule listing c.flag_of-2.ensures.rule in
     let ended =
-    c.in_ok-arg-3.ensures.shape c.in_ok-flag_beside.ensures.local
-    ∙ ap₂ with_rule narrowed c.in_ok-flag_beside.ensures.rule in
+    c.in_ok-arg-3.ensures.shape c.in_ok-null_option.ensures.local
+    ∙ ap₂ with_rule narrowed c.in_ok-null_option.ensures.rule in
     let formed =
-    c.in_ok-arg-4.ensures.shape c.in_ok-flag_without.ensures.local
-    ∙ ap₂ with_rule ended c.in_ok-flag_without.ensures.rule in
+    c.in_ok-arg-4.ensures.shape c.in_ok-json_option.ensures.local
+    ∙ ap₂ with_rule ended c.in_ok-json_option.ensures.rule in
     let shared =
     c.in_ok-arg-5.ensures.shape c.workers_option.ensures.local ∙ ap₂ with_rule formed c.workers_option.ensures.rule in
     let filed =

@@ -34,7 +34,7 @@ returns g c =
         c.in_ok-workers_of.field-0,
         found_text found (codes "workers") c.get_str-3.result c.in_ok-get_str-3.field-0 c.get_str-3.ensures
             (search rules),
-        c.in_ok-workers_of.ensures,
+        c.in_ok-workers_of.ensures.value,
         refl,
       );
     }

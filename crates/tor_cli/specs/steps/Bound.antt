@@ -1,0 +1,12 @@
+-- Beside which other arguments an argument stands alone, and beside which it never does. Only private clauses cite
+-- this.
+use Rattle.std.specs.Prelude.{ℕ, List, map}
+use Rattle.clap.specs.declared.builder.arg.Arg.{Arg}
+
+-- the names of those that it wants
+abbrev pub wanted_by : Arg → List (List ℕ)
+wanted_by arg = map (λ want. want.1.now) arg.needs.items
+
+-- the names of those that it shuts out
+abbrev pub shut_out_by : Arg → List (List ℕ)
+shut_out_by arg = map (λ other. other.now) arg.conflicts.items
