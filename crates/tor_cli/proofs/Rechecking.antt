@@ -17,8 +17,9 @@ use Rattle.tor_source.specs.declared.faults.ScanFault.TheVariants as scans
 use Rattle.tor_spec.specs.valid.View.{View}
 use Rattle.tor_cli.specs.Foreign.{IsNoTorrent}
 use Rattle.tor_cli.specs.Place.{IsFileEnd, IsFileFault, IsFileSize}
-use Rattle.tor_cli.specs.Recheck.{ArePlaces, IsNoPlace, IsNotPlaced, IsNotRechecked, place_fault}
+use Rattle.tor_cli.specs.Recheck.{IsNoPlace, IsNotPlaced, IsNotRechecked, place_fault}
 use Rattle.tor_cli.specs.Status.{of_recheck_error, of_scan_fault}
+use Rattle.tor_cli.specs.steps.Places.{ArePlaces}
 use Rattle.tor_cli.specs.declared.fault.Fault.{Fault}
 use Rattle.tor_cli.specs.declared.fault.Fault.TheVariants as faults
 

@@ -118,12 +118,6 @@ abbrev pub IsNoProof : List ℕ → Type 0
 IsNoProof bytes = (index : ℕ) (hash : List ℕ) (siblings : List (List ℕ)) → IsProof index hash siblings
     → proof_text index hash siblings ≡ bytes → ⊥
 
--- why the bytes have no answer
-abbrev pub IsNotAnswered : List ℕ → Fault → Type 0
-IsNotAnswered bytes (Argument arguments.Proof) = IsNoProof bytes
-IsNotAnswered bytes Resources = Unit {0}
-IsNotAnswered bytes other = ⊥
-
 -- the line of an answer
 abbrev pub answer_line : Answer → List ℕ
 answer_line Yes = codes "yes\n"

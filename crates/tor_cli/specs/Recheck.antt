@@ -1,7 +1,7 @@
 -- What the program prints of the pieces and the files of a torrent: which are there and right. No contract says which
 -- bytes a file of the system has, so a clause speaks of some bytes, those that the program took for FILE's, of some
 -- bits, those that were answered of the torrent's pieces, one for each, and of what was answered of each file.
-use Rattle.std.specs.Prelude.{◌≡◌, ◌≢◌, ◌⊎◌, ◌==◌, ◌&&◌, ℕ, Bool, true, false, not, List, [], ◌∷◌, ◌++◌, length, map}
+use Rattle.std.specs.Prelude.{◌≡◌, ◌≢◌, ◌⊎◌, ◌==◌, ◌&&◌, ℕ, Bool, true, false, not, List, [], ◌++◌, length}
 use Rattle.std.specs.Prelude.{Option, None, Some, decimal, codes, if◌then◌else◌}
 use Rattle.std.specs.Io.KnownBytes.{Appends}
 use Rattle.std.specs.declared.io.Error.{Error}
@@ -17,7 +17,6 @@ use Rattle.tor_recheck.specs.declared.files.FileFound.{FileFound}
 use Rattle.tor_recheck.specs.declared.errors.RecheckError.{RecheckError}
 use Rattle.tor_recheck.specs.declared.errors.RecheckError.TheVariants as rechecks
 use Rattle.tor_source.specs.Faults.{is_absence}
-use Rattle.tor_source.specs.Places.{place_of}
 use Rattle.tor_source.specs.declared.faults.ScanFault.{ScanFault}
 use Rattle.tor_source.specs.declared.faults.ScanFault.TheVariants as scans
 use Rattle.tor_spec.specs.valid.View.{View}
@@ -68,11 +67,6 @@ pub record IsReport (options : RecheckOptions) (view : View) (bits : List Bool) 
 abbrev pub IsOfEach : Listing → View → List FileFound → Type 0
 IsOfEach Pieces view found = found ≡ []
 IsOfEach other view found = length found ≡ length view.files
-
--- where the torrent's files are looked for: its one file at the place itself, or each below the place
-abbrev pub ArePlaces : List ℕ → View → List (List ℕ) → Type 0
-ArePlaces place view places = ((length view.files ≡ 1) × (places ≡ place ∷ []))
-    ⊎ (places ≡ map (place_of place) (map (λ told. told.file.path) view.files))
 
 abbrev pub is_memory : ErrorKind → Bool
 is_memory OutOfMemory = true

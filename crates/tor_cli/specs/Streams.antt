@@ -17,10 +17,6 @@ streams reader reader' writer writer' = record {
   writer' = writer';
 }
 
--- where nothing is read: what the reader has, and what stood in the writer, and stands there
-abbrev pub writing : Option (List ℕ) → Option (List ℕ) → Option (List ℕ) → Streams
-writing reader writer writer' = streams reader reader writer writer'
-
 -- nothing was read, and nothing was written
 abbrev pub IsUntouched : Streams → Type 0
 IsUntouched s = (s.reader' ≡ s.reader) × (s.writer' ≡ s.writer)

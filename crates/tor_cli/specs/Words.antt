@@ -4,9 +4,8 @@ use Rattle.std.specs.Prelude.{string_bytes}
 use Rattle.std.specs.Borrow.{Bor}
 use Rattle.std.specs.Str.Parse.{IsNumeral, digits_value, without_leading_plus}
 use Rattle.clap.specs.Values.{bool_text}
-use Rattle.clap.specs.Words.{Row, first_of, one_of, subcommand_of, subcommand_rows_of}
+use Rattle.clap.specs.Words.{Row, first_of, one_of, subcommand_of}
 use Rattle.clap.specs.declared.builder.value_parser.ValueParser.{ValueParser}
-use Rattle.clap.specs.declared.parser.matches.ArgMatches.{ArgMatches}
 use Rattle.tor_tree.specs.declared.kinds.Kind.{Kind}
 use Rattle.tor_tree.specs.declared.kinds.Kind.TheVariants.{V1, V2, Hybrid}
 use Rattle.tor_engine.specs.declared.how.How.{How}
@@ -148,17 +147,6 @@ pub record IsRecheckIn (options : RecheckOptions) (rows : List Row) : Type 0 whe
 -- this command was found, with rows of which this holds
 abbrev pub HasRows : Option (List ℕ × List Row) → List ℕ → (List Row → Type 0) → Type 0
 HasRows found command Holds = (rows : List Row) × (found ≡ Some (command, rows)) × Holds rows
-
--- the request is what a parse found
-abbrev pub IsFoundIn : ArgMatches → Request → Type 0
-IsFoundIn matches (Show text) = Unit {0}
-IsFoundIn matches (Make options) =
-    HasRows (subcommand_rows_of matches) (codes "make") (λ rows. AreOptionsIn rows options)
-IsFoundIn matches (Check options) = HasRows (subcommand_rows_of matches) (codes "check") (IsCheckIn options)
-IsFoundIn matches (Magnet torrent) = HasRows (subcommand_rows_of matches) (codes "magnet") (IsFileIn torrent)
-IsFoundIn matches (Prove options) = HasRows (subcommand_rows_of matches) (codes "prove") (IsPieceIn options)
-IsFoundIn matches (Verify options) = HasRows (subcommand_rows_of matches) (codes "verify") (IsProofIn options)
-IsFoundIn matches (Recheck options) = HasRows (subcommand_rows_of matches) (codes "recheck") (IsRecheckIn options)
 
 -- the words have this command, with rows of which this holds
 abbrev pub HasCommand : List (List ℕ) → List ℕ → (List Row → Type 0) → Type 0

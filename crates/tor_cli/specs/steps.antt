@@ -1,2 +1,6 @@
+pub mod Answering
 pub mod Bound
 pub mod Ending
+pub mod Found
+pub mod Places
+pub mod Writing

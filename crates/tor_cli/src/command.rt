@@ -4,7 +4,8 @@ ghost use Rattle.clap.specs.Words.{app_of};
 ghost use Rattle.clap.specs.declared.builder.value_parser.ValueParser.{ValueParser};
 ghost use Rattle.std.specs.Prelude.{◌≡◌, IfErr, IfOk, IfSome};
 ghost use Rattle.tor_cli.specs.CommandLine.{AreHows, AreKinds, tor_app};
-ghost use Rattle.tor_cli.specs.Words.{Asks, IsFoundIn, IsOfWords};
+ghost use Rattle.tor_cli.specs.Words.{Asks, IsOfWords};
+ghost use Rattle.tor_cli.specs.steps.Found.{IsFoundIn};
 
 use crate::check_words::{CheckOptions, check_command, check_options};
 use crate::escape::escaped;

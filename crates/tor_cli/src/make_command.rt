@@ -5,7 +5,8 @@ ghost use Rattle.tor_tree.specs.Name.{name_fault};
 ghost use Rattle.tor_tree.specs.declared.names.NameError.TheVariants.{Memory};
 ghost use Rattle.tor_cli.specs.Request.{DoesInput, DoesMake, DoesPlace, IsOrder, IsTorrentAt, IsTorrentToSend};
 ghost use Rattle.tor_cli.specs.Request.{StopsFinding, StopsInput, StopsMake, StopsPlace, StopsSending};
-ghost use Rattle.tor_cli.specs.Streams.{streams, writing};
+ghost use Rattle.tor_cli.specs.Streams.{streams};
+ghost use Rattle.tor_cli.specs.steps.Writing.{writing};
 
 use crate::check_after::check_after;
 use crate::fault::Fault;

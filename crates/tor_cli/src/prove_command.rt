@@ -1,7 +1,7 @@
 //! `tor prove`: the proof of one piece of the torrent in a file.
 ghost use Rattle.std.specs.Prelude.{ℕ, List, Option, IfErr, IfOk, OnOk, string_bytes};
 ghost use Rattle.tor_cli.specs.Proving.{DoesProve, IsNotProved, IsProofOf, StopsProving};
-ghost use Rattle.tor_cli.specs.Streams.{writing};
+ghost use Rattle.tor_cli.specs.steps.Writing.{writing};
 
 use crate::fault::Fault;
 use crate::foreign::read_file;

@@ -1,7 +1,7 @@
 //! `tor recheck`: which pieces of the torrent in a file are there and right.
 ghost use Rattle.std.specs.Prelude.{ℕ, List, Option, IfErr, IfOk, string_bytes};
 ghost use Rattle.tor_cli.specs.Recheck.{DoesRecheck, IsNotRechecked, IsRechecked, StopsRechecking};
-ghost use Rattle.tor_cli.specs.Streams.{writing};
+ghost use Rattle.tor_cli.specs.steps.Writing.{writing};
 
 use crate::answer::Answer;
 use crate::fault::Fault;

@@ -1,7 +1,8 @@
 //! Where the system has the files of a torrent.
 ghost use Rattle.std.specs.Prelude.{◌≡◌, IfErr, IfOk, map};
 ghost use Rattle.tor_check.specs.Valid.{IsTold};
-ghost use Rattle.tor_cli.specs.Recheck.{ArePlaces, IsNoPlace, IsNotPlaced, is_memory, place_fault};
+ghost use Rattle.tor_cli.specs.Recheck.{IsNoPlace, IsNotPlaced, is_memory, place_fault};
+ghost use Rattle.tor_cli.specs.steps.Places.{ArePlaces};
 ghost use Rattle.tor_source.specs.Faults.{is_absence};
 ghost use Rattle.tor_source.specs.Places.{place_of};
 

@@ -1,8 +1,8 @@
 //! `tor check` and `tor magnet`: what is printed of the torrent in a file.
 ghost use Rattle.std.specs.Prelude.{ℕ, List, Option, IfErr, IfOk, OnOk, string_bytes};
 ghost use Rattle.tor_cli.specs.Foreign.{AreLinesOf, DoesTell, IsNoTorrent, StopsTelling};
-ghost use Rattle.tor_cli.specs.Streams.{writing};
 ghost use Rattle.tor_cli.specs.Telling.{lines_of};
+ghost use Rattle.tor_cli.specs.steps.Writing.{writing};
 
 use crate::check_record::check_line;
 use crate::fault::Fault;

@@ -1,9 +1,10 @@
 //! `tor verify`: whether the proof in a file holds.
 ghost use Rattle.std.specs.Prelude.{◌≡◌, ◌≤◌, ℕ, List, Option, IfErr, IfOk};
-ghost use Rattle.tor_cli.specs.Proving.{DoesVerify, IsAnswered, IsNotAnswered, StopsVerifying, answer_line};
+ghost use Rattle.tor_cli.specs.Proving.{DoesVerify, IsAnswered, StopsVerifying, answer_line};
 ghost use Rattle.tor_merkle.specs.Layer.{IsPieceLength};
 ghost use Rattle.tor_merkle.specs.declared.TheConstants.{MAX_LENGTH};
-ghost use Rattle.tor_cli.specs.Streams.{writing};
+ghost use Rattle.tor_cli.specs.steps.Answering.{IsNotAnswered};
+ghost use Rattle.tor_cli.specs.steps.Writing.{writing};
 
 use crate::answer::Answer;
 use crate::claim::{ArgumentFault, Claim, claim_of};

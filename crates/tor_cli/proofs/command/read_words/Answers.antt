@@ -6,7 +6,8 @@ use Rattle.clap.specs.Words.{App, Row, is_simple, subcommand_of, subcommand_rows
 use Rattle.clap.specs.declared.builder.value_parser.ValueParser.{ValueParser}
 use Rattle.clap.specs.declared.parser.matches.ArgMatches.{ArgMatches}
 use Rattle.tor_cli.specs.CommandLine.{AreHows, AreKinds, tor_app}
-use Rattle.tor_cli.specs.Words.{Asks, HasCommand, HasRows, IsFoundIn}
+use Rattle.tor_cli.specs.Words.{Asks, HasCommand, HasRows}
+use Rattle.tor_cli.specs.steps.Found.{IsFoundIn}
 use Rattle.tor_cli.specs.declared.command.Request.{Request}
 use Rattle.tor_cli.specs.declared.command.Request.TheVariants.{Show, Make, Check, Magnet, Prove, Verify, Recheck}
 use Rattle.tor_cli.proofs.command.read_words.Goals as goal
