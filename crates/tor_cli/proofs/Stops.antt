@@ -11,7 +11,7 @@ use Rattle.tor_source.specs.declared.faults.ScanFault.{ScanFault}
 use Rattle.tor_source.specs.declared.faults.ScanFault.TheVariants as scans
 use Rattle.tor_tree.specs.Name.{name_fault}
 use Rattle.tor_source.specs.Input.{EndsInput, ReadsSome}
-use Rattle.tor_meta.specs.FromInput.{MakesOf, MakesPart, StopsReading, refusal_of, torrent_of}
+use Rattle.tor_meta.specs.FromInput.{MakesOf, StopsReading, refusal_of}
 use Rattle.tor_cli.specs.Place.{IsGivenBy, refusal_by}
 use Rattle.tor_cli.specs.Request.{IsOrder, IsOrderOf, IsRefusedFirst, SendsFront, StopsFinding, StopsInput, StopsPlace}
 use Rattle.tor_cli.specs.Request.{StopsSending, file_of}

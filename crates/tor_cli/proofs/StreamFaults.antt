@@ -4,7 +4,6 @@ use Rattle.std.specs.declared.io.Error.{Error}
 use Rattle.tor_meta.specs.MakeStreams.{IsGivenByReaders}
 use Rattle.tor_meta.specs.declared.make_error.MakeError.{MakeError}
 use Rattle.tor_meta.specs.declared.make_error.MakeError.TheVariants as makes
-use Rattle.tor_tree.specs.declared.lists.ListError.TheVariants as lists
 use Rattle.tor_cli.specs.Place.{IsStreamFault}
 
 of_readers : (known : List (Option (List ℕ))) (count : ℕ) → length known ≡ count → (error : MakeError Error)

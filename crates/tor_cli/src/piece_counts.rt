@@ -1,5 +1,5 @@
 //! How many pieces of a torrent a source has.
-ghost use Rattle.std.specs.Prelude.{◌≡◌, ◌≢◌, Err, IfErr, IfOk, MatchResult, None, OnOk, length};
+ghost use Rattle.std.specs.Prelude.{◌≡◌, ◌≢◌, Err, IfErr, IfOk, MatchResult, None, length};
 ghost use Rattle.tor_cli.specs.CheckAfter.{AreCounted, counts_of};
 ghost use Rattle.tor_engine.specs.Contents.{contents_in};
 ghost use Rattle.tor_engine.specs.How.{IsHow};

@@ -9,7 +9,7 @@ use tor_meta::{Order, make};
 use tor_source::Source;
 use tor_tree::{FilePath, Kind, Name};
 
-// A file of two pieces of 16 KiB: zeros, but that the bytes of the second are as the mark is.
+// A file of two pieces of 16 KiB: zeros, and ones in the second once there is a mark.
 #[derive(Drop)]
 struct Marked {
     mark: AtomicU64,
@@ -35,12 +35,14 @@ impl Source for Marked {
     }
 
     fn read_at(&self, _file: u64, start: u64, buffer: &mut [u8]) -> Result<usize, NoFault> {
-        let (byte, end) = match start < 16384 {
-            true => (0, 16384),
-            false => (self.mark.load(SeqCst) as u8, 32768),
+        let (is_second, end) = if start < 16384 {
+            (false, 16384usize)
+        } else {
+            (true, 32768usize)
         };
+        let is_marked = is_second && self.mark.load(SeqCst) > 0;
         let count = buffer.len().min(end.saturating_sub(start as usize));
-        buffer[..count].fill(byte);
+        buffer[..count].fill(if is_marked { 1 } else { 0 });
         Ok(count)
     }
 }

@@ -1,5 +1,5 @@
 -- Each option adds its rule.
-use Rattle.std.proofs.Common.{ap, ap₂, refl, ◌∙◌}
+use Rattle.std.proofs.Common.{ap₂, refl, ◌∙◌}
 use Rattle.std.proofs.lemmas.Result.{IfOk-weaker}
 use Rattle.clap.specs.Words.{with_rule}
 use Rattle.tor_cli.proofs.make_words.add_torrent.Goals as goal
