@@ -2,7 +2,7 @@ use Rattle.std.proofs.Common.{◌≡◌, ◌≤◌, ℕ, [], ◌∷◌, arith, s
 use Rattle.std.specs.Result.{IfOk}
 use Rattle.tor_merkle.proofs.ProvedLaws.{height_least}
 use Rattle.tor_plan.specs.Forest.{AreRuns}
-use Rattle.tor_tests_engine.proofs.seats.shared.one_tree.Goals as goal
+use Rattle.tor_tests_board.proofs.seats.shared.one_tree.Goals as goal
 
 runs_of_one : (count level : ℕ) → 2 ≤ count → count ≤ 128 → level ≤ 2
     → AreRuns count 0 (record { first = 0; count = count; level = level } ∷ [])

@@ -1,6 +1,6 @@
 use Rattle.std.proofs.Common.{◌≤◌, ◌^◌, ◌-◌, ℕ, arith}
 use Rattle.std.proofs.Math.Pow.{pow_mono}
-use Rattle.tor_tests_engine.proofs.seats.shared.root_over.Goals as goal
+use Rattle.tor_tests_board.proofs.seats.shared.root_over.Goals as goal
 
 small : (level : ℕ) → level ≤ 2 → 128 ≤ 2 ^ (36 - level)
 small level low = let e : 7 ≤ 36 - level = omega (arith, low) in let p : 2 ^ 7 ≤ 2 ^ (36 - level) = pow_mono e in

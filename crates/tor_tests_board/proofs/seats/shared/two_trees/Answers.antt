@@ -3,7 +3,7 @@ use Rattle.std.specs.Result.{IfOk}
 use Rattle.tor_merkle.proofs.ProvedLaws.{height_least}
 use Rattle.tor_plan.specs.declared.forests.Run.{Run}
 use Rattle.tor_plan.specs.Forest.{AreRuns}
-use Rattle.tor_tests_engine.proofs.seats.shared.two_trees.Goals as goal
+use Rattle.tor_tests_board.proofs.seats.shared.two_trees.Goals as goal
 
 abbrev runs : ℕ → ℕ → ℕ → List Run
 runs alone one two = record { first = alone; count = one; level = 0 }
