@@ -9,8 +9,8 @@ returns-clause-found g c = λ how facts steady.
     let found = c.in-Ok.ensures.hashed how facts steady in (
       c.in_ok-bits.ensures
           ∙ ap (all_judged view) c.deref.ensures.value
-          ∙ judged_is_verified view (contents_in facts (length view.files)) c.in-Ok.ensures.cut c.in-Ok.found.hashes.items
-          found.0,
+          ∙ judged_is_verified view (contents_in facts (length view.files)) c.in-Ok.ensures.cut
+          c.in-Ok.found.hashes.items found.0,
       found.2,
     )
 
