@@ -132,18 +132,18 @@ def fault_of_make(kind, way, move, came, after):
 
 
 def fault_of_recheck(torrent, has_files, move, came, after):
-    """What is wrong with an answer of `recheck`: the bits are of one state, and so is the length that is told of each
-    file, which may be a later one than that of the bits."""
+    """What is wrong with an answer of `recheck`: the bits and what is told of the files are of one state."""
     if came.status in (0, 1) and not came.err:
         contents = [[dict(files).get(path) for path, _ in CONTENTS] for files in states(after)]
         lines = came.out.splitlines(keepends=True)
         told, found = (b''.join(lines[:2]), came.status), lines[2:]
-        by_bits = [read for read in contents if answer_of_recheck(torrent, read) == told]
-        if not by_bits:
+        wanted = [read for read in contents if answer_of_recheck(torrent, read) == told]
+        if not wanted:
             return 'other bits'
         if not has_files:
             return None if not found else 'files that nobody asked for'
-        return None if any(are_found(torrent, read, contents, found) for read in by_bits) else 'other files'
+        of_states = [list(map(reference.found_line, reference.files_found(torrent, read))) for read in wanted]
+        return None if found in of_states else 'other files'
     line = rb'tor: (C1 Read file %b at (length|[0-9]+)|C2 Changed file %b)\n' % ((move.numbers.encode(),) * 2)
     return None if re.fullmatch(line, came.err) and came.status == 3 and not came.out else 'another fault'
 
@@ -151,15 +151,6 @@ def fault_of_recheck(torrent, has_files, move, came, after):
 def answer_of_recheck(torrent, contents):
     marks = reference.marks_of(torrent, contents)
     return reference.recheck_lines(marks), 0 if all(marks) else 1
-
-
-def are_found(torrent, read, contents, lines):
-    """Whether the line of each file is that of what was read, with the length that it has in one of the states."""
-    wanted = []
-    for there in contents:
-        lengths = [None if content is None else len(content) for content in there]
-        wanted.append([reference.found_line(found) for found in reference.files_by_lengths(torrent, read, lengths)])
-    return len(lines) == len(read) and all(line in of_file for line, of_file in zip(lines, zip(*wanted)))
 
 
 def make_words(folder, kind, way):

@@ -731,15 +731,11 @@ FileFound = namedtuple('FileFound', 'state good pieces there told path')
 
 def files_found(torrent, contents):
     """What is told of each file; where there is a tree, by the tree alone."""
-    return files_by_lengths(torrent, contents, [None if content is None else len(content) for content in contents])
-
-
-def files_by_lengths(torrent, contents, lengths):
-    """The same where other lengths are told than those of the contents."""
     marks = (tree_marks if torrent.has_tree else list_marks)(torrent, contents)
     found = []
-    for file, span, there in zip(torrent.files, spans_of(torrent), lengths, strict=True):
+    for file, span, content in zip(torrent.files, spans_of(torrent), contents, strict=True):
         good = sum(marks[i] for i in span)
+        there = None if content is None else len(content)
         state = ('missing' if there is None else 'short' if there < file.length else 'bad' if good < len(span)
                  else 'whole')
         found.append(FileFound(state, good, len(span), there, file.length, file.path))
