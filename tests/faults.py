@@ -218,6 +218,38 @@ def test_of_recheck(program, folder):
     expect_told(['recheck'], done(b'pieces 1 of 2\nbits 80\n', 1), told)
 
 
+def test_of_recheck_of_one_file(program, folder):
+    """The system is asked first what PATH is, which may be the file or a folder: where it does not tell, that is its
+    fault, but where nothing is there the file is missing."""
+    path, torrent = folder / 'abc', folder / 'torrent'
+    path.write_bytes(b'abc')
+    torrent.write_bytes(ABC)
+    errors = ['EIO', 'EACCES', 'ETIMEDOUT', 'EINTR', 'ELOOP']
+    rows = [(f'statx:error={error}:when=1', 'F4 System') for error in errors]
+    rows += [(f'statx:error={error}:when=2', 'C1 Read file 0 at length') for error in errors]
+    rows += [('pread64:error=EIO:when=1', 'C1 Read file 0 at 0'), ('pread64:retval=0:when=1', 'C2 Changed file 0')]
+    for options in [[], ['--files', '--json']]:
+        expect_faults(program, folder, ['recheck', *options, torrent, path], path, rows)
+    for error in ['ENOENT', 'ENOTDIR']:
+        told, _ = traced(program, ['recheck', torrent, path], path, [f'statx:error={error}:when=1'], folder / 'log')
+        expect_told(['recheck'], done(b'pieces 0 of 1\nbits 00\n', 1), told, f'with {error}\n')
+
+
+def test_of_check_after(program, folder):
+    """What the system does not tell when the files are looked at once more is told as a recheck tells it; nothing goes
+    out, and an old file stays."""
+    path, out = folder / 'abc', folder / 'out'
+    path.write_bytes(b'abc')
+    out.write_bytes(b'old')
+    words = ['make', '--name', 'a', '--piece-length', str(BLOCK), '--workers', '1', '--check-after', '--out', out, path]
+    expect_faults(program, folder, words, path, [
+        ('pread64:error=EIO:when=1', 'E1 Read file 0 at 0'), ('pread64:error=EIO:when=2', 'C1 Read file 0 at 0'),
+        ('pread64:retval=0:when=2', 'C2 Changed file 0')])
+    told, _ = traced(program, words, path, ['statx:error=ENOENT:when=6+'], folder / 'log')
+    expect_told([str(word) for word in words], refused('not as made: 0 of 1 pieces'), told)
+    expect_equal('the old file', b'old', out.read_bytes())
+
+
 def test_of_inputs(program, folder):
     """A torrent, a proof or standard input that cannot be read to its end: an interrupted read is a fault too."""
     torrent = folder / 'torrent'

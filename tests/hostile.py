@@ -29,8 +29,6 @@ class Case:
 
     def __init__(self, words, right, given=os.devnull, path=None, files=(), torrent=None, out=None):
         self.words, self.given, self.path, self.torrent, self.out = [*map(str, words)], str(given), path, torrent, out
-        # What a recheck answers where no file is there.
-        self.absent = None
         self.numbers = {str(place): number for number, place in enumerate(files)}
         self.is_stream = 'streams' in self.words
         self.right = Answer(right.status, b'' if out else right.out, right.err, OLD if out else None)
@@ -114,10 +112,8 @@ def recheck_case(place, kind, single):
     torrent = place / (f'{kind}-file.torrent' if single else f'{kind}.torrent')
     contents = [LONG] if single else [content for _, content in CONTENTS]
     marks = reference.marks_of(judge(torrent.read_bytes()), contents)
-    case = Case(['recheck', torrent, path], right_of(reference.recheck_lines(marks)), path=path, files=files,
+    return Case(['recheck', torrent, path], right_of(reference.recheck_lines(marks)), path=path, files=files,
                 torrent=torrent)
-    case.absent = right_of(reference.recheck_lines([False] * len(marks)), 1)
-    return case
 
 
 def torrent_cases(place):
@@ -178,11 +174,11 @@ def is_told(case, met, came):
 
 
 def is_of_path(case, met, came):
-    """Of a folder it is asked again what it is, as it is listed. In a recheck a PATH of which the system does not tell
-    what it is counts as a folder, so that a file there is missing."""
+    """Of a folder it is asked again what it is, as it is listed. In a recheck of several files a PATH of which the system
+    does not tell what it is counts as a folder."""
     if len(met) > 1 or met[0].kind != 's' or met[0].place != str(case.path):
         return False
-    return came == (case.right if os.path.isdir(case.path) else case.absent)
+    return os.path.isdir(case.path) and came == case.right
 
 
 def lines_of(case, met):
@@ -193,7 +189,8 @@ def lines_of(case, met):
         return [b'write fault after 0 bytes']
     if place in (case.given, str(case.torrent)):
         return [b'read fault']
-    lines = [] if case.words[0] == 'recheck' or met.kind == 'r' else [b'F4 System']
+    is_recheck_below = case.words[0] == 'recheck' and os.path.isdir(case.path)
+    lines = [] if is_recheck_below or met.kind == 'r' else [b'F4 System']
     if number is not None:
         code = b'C1' if case.words[0] == 'recheck' else b'E1'
         starts = b'%d' % met.offset if met.kind == 'r' else b'0' if case.is_stream else rb'(length|[0-9]+)'
