@@ -2,7 +2,8 @@
 
 Each call that asks something of the files is held in turn, and meanwhile a file is removed, cut, grown, or becomes
 something else, or the whole folder goes. What comes has to be the torrent, or the bits, of what was there before or of
-what is there then, or the fault of that file. bench/hostile tries all; tests/run a part of it that takes seconds.
+what is there then, or the fault of that file. With `--check-after` a torrent goes out only where its files have each
+piece of it afterwards. bench/hostile tries all; tests/run a part of it that takes seconds.
 """
 import os
 import re
@@ -10,13 +11,15 @@ import shutil
 from collections import namedtuple
 
 import reference
-from hostile import BLOCK, CONTENTS, KINDS, LONG, WAYS, torrent_of
+from hostile import BLOCK, CONTENTS, KINDS, LONG, OLD, WAYS, torrent_of
 from reference import Order, Refused, decode, judge
-from refuser import Meet, Refuser
+from refuser import ALL_LATER, Meet, Refuser
 from support import Failure, done, refused, shown_words
 
 # The file that moves, which is file 1: its place below the folder.
 MOVED = 'b/c'
+# As long as what it has, and of other bytes throughout.
+OTHER = LONG[1:] + LONG[:1]
 # What is done with the folder or its file: its name, the numbers of the files whose faults may be told, and which kinds
 # of calls are held.
 Move = namedtuple('Move', 'name act numbers kinds', defaults=('1', 'solr'))
@@ -41,6 +44,11 @@ def cut(folder):
 def grown(folder):
     with open(folder / MOVED, 'ab') as file:
         file.write(b'more')
+
+
+def rewritten(folder):
+    with open(folder / MOVED, 'r+b') as file:
+        file.write(OTHER)
 
 
 def as_folder(folder):
@@ -68,6 +76,8 @@ MOVES = [Move('the folder is removed', removed, '[0-3]'), Move('a file is remove
          Move('a file becomes a folder', as_folder), Move('a file becomes a link to itself', as_link),
          # Who has asked what a file is, and then opens what has become a FIFO, waits until somebody writes into it.
          Move('a file becomes a FIFO', as_fifo, kinds='s'), Move('a folder becomes a file', folder_as_file, '[12]')]
+# Only where it is looked for again does what comes tell of a file that stays as long as it is.
+REWRITTEN = Move('a file is rewritten', rewritten)
 
 
 def lay_out(folder):
@@ -153,19 +163,56 @@ def answer_of_recheck(torrent, contents):
     return reference.recheck_lines(marks), 0 if all(marks) else 1
 
 
+def fault_of_after(kind, move, is_first, came, after):
+    """What is wrong with an answer of `make --check-after` of files that moved while they were read first, or again."""
+    answers = [answer_of(kind, files) for files in states(after)]
+    if came.status == 0:
+        if came[:3] not in (answers if is_first else answers[:1]):
+            return 'another torrent'
+        return None if not is_first or has_all(came.out, after) else 'a torrent whose pieces are not there'
+    if came.out:
+        return 'a fault, and something went out'
+    counts = re.fullmatch(rb'tor: not as made: ([0-9]+) of ([0-9]+) pieces\n', came.err)
+    if counts and came.status == 1:
+        torrents = [judge(answer.out) for answer in answers if answer.status == 0]
+        return None if are_counts(*map(int, counts.groups()), torrents, after) else 'other counts'
+    line = rb'tor: (F4 System|[CE]1 Read file %b at (length|[0-9]+)|[CE]2 Changed file %b|E3 Missing file %b)\n' % (
+        (move.numbers.encode(),) * 3)
+    is_told = re.fullmatch(line, came.err) and came.status == 3
+    is_refused = came.status == 1 and came.err == b'tor: F2 NotRegular\n' and move.act in (as_link, as_fifo)
+    return None if is_told or is_refused or came[:3] in answers else 'another fault'
+
+
+def has_all(text, files):
+    """Whether these files have each piece of a torrent."""
+    return all(marks_of(judge(text), files))
+
+
+def marks_of(torrent, files):
+    return reference.marks_of(torrent, [dict(files).get(file.path) for file in torrent.files])
+
+
+def are_counts(good, pieces, torrents, after):
+    """Whether so many of so many pieces may be right: those of the files that stayed are, and not all."""
+    stayed = [file for file in CONTENTS if file in after]
+    marks = [marks_of(torrent, stayed) for torrent in torrents]
+    return min(map(sum, marks)) <= good < pieces and min(map(len, marks)) <= pieces <= max(map(len, marks))
+
+
 def make_words(folder, kind, way):
     return ['make', '--name', 'f', '--kind', kind, '--piece-length', str(BLOCK), '--span', '1', '--how', way[0],
             '--workers', str(way[1]), str(folder)]
 
 
 def sweep(refuser, folder, words, move, fault_of):
-    """Does it while each call is held in turn: how many there were, and how many ended with a fault."""
+    """Does it while each call is held in turn: how many there were, and how many ended with a fault. `fault_of` judges
+    how a run ended, by the files that there are then and the number of the call."""
     count = told = 0
     for came in refuser.each(words, Meet(move.kinds, does='hold'), act=lambda met: move.act(folder),
                              before=lambda: lay_out(folder)):
         count += 1
-        told += came.status > 1
-        fault = fault_of(came, found(folder))
+        told += came.status > 1 or b'not as made' in came.err
+        fault = fault_of(came, found(folder), count)
         if fault:
             raise Failure(f'run     {shown_words(words)}\n{move.name}, at {came.met}: {fault}\ncame    {came[:3]}')
     return count, told
@@ -173,7 +220,25 @@ def sweep(refuser, folder, words, move, fault_of):
 
 def sweep_make(refuser, folder, kind, way, move):
     return sweep(refuser, folder, make_words(folder, kind, way), move,
-                 lambda came, after: fault_of_make(kind, way[0], move, came, after))
+                 lambda came, after, _: fault_of_make(kind, way[0], move, came, after))
+
+
+def sweep_after(refuser, folder, kind, way, move, has_out):
+    """Of `make --check-after`; with `--out` an old file is there, and stays where nothing goes out."""
+    words, out = make_words(folder, kind, way), folder.with_name('out')
+    lay_out(folder)
+    first_calls = len(refuser.run(words, Meet(move.kinds, 1, ALL_LATER, 'tell')).met)
+    out.write_bytes(OLD)
+
+    def fault_of(came, after, call):
+        if has_out:
+            kept = out.read_bytes()
+            out.write_bytes(OLD)
+            if came.out:
+                return 'something on standard output'
+            came = came._replace(out=b'' if kept == OLD else kept)
+        return fault_of_after(kind, move, call <= first_calls, came, after)
+    return sweep(refuser, folder, [*words, '--check-after', *['--out', str(out)] * has_out], move, fault_of)
 
 
 def sweep_recheck(refuser, folder, kind, move, has_files):
@@ -181,11 +246,16 @@ def sweep_recheck(refuser, folder, kind, move, has_files):
     place = folder.with_name('torrent')
     place.write_bytes(text)
     return sweep(refuser, folder, ['recheck', *['--files'] * has_files, str(place), str(folder)], move,
-                 lambda came, after: fault_of_recheck(judge(text), has_files, move, came, after))
+                 lambda came, after, _: fault_of_recheck(judge(text), has_files, move, came, after))
 
 
 def sweeps(refuser, folder):
     """All there are: the words of each, the move, and what to call."""
+    yield from sweeps_of_one_pass(refuser, folder)
+    yield from sweeps_of_two_passes(refuser, folder)
+
+
+def sweeps_of_one_pass(refuser, folder):
     for move in MOVES:
         # Of several that read, one may be about to open the file while a call of another is held.
         is_for_one = move.act is as_fifo
@@ -198,6 +268,16 @@ def sweeps(refuser, folder):
                 yield f'recheck --files {kind}', move, lambda: sweep_recheck(refuser, folder, kind, move, True)
 
 
+def sweeps_of_two_passes(refuser, folder):
+    for move in [*MOVES, REWRITTEN]:
+        for kind in KINDS:
+            # In the second pass several read where one did behind streams.
+            for way in WAYS[:1] if move.act is as_fifo else WAYS:
+                for has_out in [False, True]:
+                    what = f'make --check-after {kind}, {way[0]}' + ', --out' * has_out
+                    yield what, move, lambda: sweep_after(refuser, folder, kind, way, move, has_out)
+
+
 def test_a_file_that_is_cut(program, folder):
     """A file is cut at each moment in turn, while a torrent is made of its folder or the folder is rechecked."""
     refuser = Refuser(program, folder)
@@ -206,3 +286,15 @@ def test_a_file_that_is_cut(program, folder):
         sweep_make(refuser, folder / 'f', 'v2', way, move)
     for kind, has_files in [('v2', False), ('v2', True), ('v1', True), ('hybrid', True)]:
         sweep_recheck(refuser, folder / 'f', kind, move, has_files)
+
+
+def test_a_file_that_moves_before_it_is_checked_after(program, folder):
+    """A file is rewritten, cut, removed or grown at each moment in turn, while a torrent is made of its folder and then
+    looked for there."""
+    refuser = Refuser(program, folder)
+    move_of = {move.act: move for move in [*MOVES, REWRITTEN]}
+    for act, kind, way, has_out in [
+            (rewritten, 'v2', ('one', 1), True), (rewritten, 'v1', ('board', 2), False),
+            (rewritten, 'hybrid', ('streams', 2), True), (cut, 'v2', ('streams', 2), False),
+            (file_removed, 'v1', ('halves', 2), True), (grown, 'v2', ('streams', 2), False)]:
+        sweep_after(refuser, folder / 'f', kind, way, move_of[act], has_out)

@@ -6,7 +6,7 @@
                    l listing a folder, r reading, w writing
    REFUSER_FIRST   the first that is met, counted from 1; 0 for none
    REFUSER_LAST    the last
-   REFUSER_DOES    r refuse, h hold, k kill
+   REFUSER_DOES    r refuse, h hold, k kill, t tell alone
    REFUSER_ERROR   the error of a call of the system that is refused
    REFUSER_MOST    the most bytes that one call writes; 0 for as many as it is asked for
    REFUSER_TOLD    the descriptor on which each call that is met is told in a line: its kind, its descriptor, the offset
