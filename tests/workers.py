@@ -106,10 +106,10 @@ def test_a_recheck_has_four(program, folder):
         expect_equal('status and standard error', (0, b''), ended)
 
 
-def reads_at_once(refuser, words, torrent, wanted):
+def reads_at_once(refuser, words, torrent, wanted, first=1):
     """How many reads of the files wait at once where each of them is held, so that each worker waits in its first; and
-    how the run ends once all are let go."""
-    child, go, told = refuser.start(words, Meet('r', 1, ALL_LATER, 'hold'), os.devnull)
+    how the run ends once all are let go. Reads before the first that is held are made at once."""
+    child, go, told = refuser.start(words, Meet('r', first, ALL_LATER, 'hold'), os.devnull)
     count, rest = 0, b''
     try:
         # Once there are as many as are wanted, another one has some time to come.
@@ -153,6 +153,29 @@ def test_a_recheck_reads_by_as_many_as_asked_for(program, folder):
             expect_equal(f'a recheck {options}: status and standard error', (0, b''), (ended.status, ended.err))
             if options in ([], ['--workers', '64']):
                 expect_equal(f'a recheck {options}', reference.recheck_lines([True] * pieces), ended.out)
+
+
+def test_check_after_reads_by_as_many_as_made_it(program, folder):
+    """Of 200 units, and of three: a recheck has 16 pieces in a unit, whatever the span."""
+    refuser = Refuser(program, folder)
+    for units, rows in [(200, [('board', 16, 16), ('one', 8, 1), ('halves', 3, 3), ('streams', 5, 5), ('board', 64, 64),
+                               ('board', 1, 1)]),
+                        (3, [('board', 64, 3), ('streams', 2, 2)])]:
+        pieces = units * 16
+        path = sparse(folder, pieces * BLOCK)
+        torrent = encode({b'info': {b'length': pieces * BLOCK, b'name': b'sparse', b'piece length': BLOCK,
+                                    b'pieces': sha1(bytes(BLOCK)) * pieces}})
+        for how, workers, wanted in rows:
+            words = ['make', '--name', 'sparse', '--kind', 'v1', '--piece-length', str(BLOCK), '--how', how,
+                     '--workers', str(workers), path]
+            made = refuser.run(words, Meet('r', 1, ALL_LATER, 'tell'))
+            count, ended = reads_at_once(refuser, [*words, '--check-after'], None, wanted, len(made.met) + 1)
+            if count != wanted:
+                raise Failure(f'--check-after, {how} of {workers} workers, {units} units\n'
+                              f'wanted  {wanted} workers that read at once afterwards\ncame    {count}')
+            for run in [made, ended]:
+                expect_equal(f'{how} of {workers} workers: status, output and standard error', (0, torrent, b''),
+                             run[:3])
 
 
 def test_as_many_as_processors(program, folder):
