@@ -180,6 +180,35 @@ def test_of_a_folder_by_workers(program, folder):
     check_lines(parts, told.err, sum(sizes), ERASED)
 
 
+def passes_of(parts):
+    """What came of each pass, which ends as its line is erased, and of what follows the last; the times of each are
+    counted from the end of the one before."""
+    passes, begun = [[]], 0.0
+    for at, part in parts:
+        *fronts, rest = part.split(ERASED)
+        for front in fronts:
+            passes[-1].append((at - begun, front + ERASED))
+            passes.append([])
+            begun = at
+        if rest:
+            passes[-1].append((at - begun, rest))
+    return passes
+
+
+def test_of_both_passes_of_check_after(program, folder):
+    """The line counts from 0 again where the files are looked at once more, and is erased after each pass."""
+    path = sparse(folder, SIZE)
+    made = torrent_of_zeros(SIZE, 1 << 20)
+    for more in [[], ['--how', 'streams', '--workers', '2']]:
+        words = ['make', '--name', 'f', '--piece-length', '1048576', '--check-after', *more, path]
+        parts, told = watch(program, words)
+        expect_equal(f'{words}: status, and whether the torrent comes', (0, True), (told.status, told.out == made))
+        *passes, rest = passes_of(parts)
+        expect_equal(f'{words}: passes that show it, and what follows', (2, []), (len(passes), rest))
+        for lines in passes:
+            check_lines(lines, b''.join(part for _, part in lines), SIZE, ERASED)
+
+
 def test_of_streams(program, folder):
     """The line has the bytes of all files, though no length is asked to read them."""
     place = folder / 'files'
