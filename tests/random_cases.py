@@ -221,7 +221,8 @@ def case_of_path(rng, program, place):
         for _ in range(rng.choice([0, 0, 0, 1, 3])):
             (content / f'no file {rng.randrange(9)}' / 'below').mkdir(parents=True, exist_ok=True)
     wanted = made(files, order)
-    words = words_of(rng, order, os.fsencode(content))
+    # Of files that stay as they are it changes nothing.
+    words = words_of(rng, order, os.fsencode(content), *[b'--check-after'] * (rng.random() < 0.3))
     torrent = make_out(rng, program, place, words, wanted, b'not read')
     if torrent is not None:
         tell(rng, program, place, torrent)
