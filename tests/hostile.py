@@ -31,6 +31,7 @@ class Case:
         self.words, self.given, self.path, self.torrent, self.out = [*map(str, words)], str(given), path, torrent, out
         self.numbers = {str(place): number for number, place in enumerate(files)}
         self.is_stream = 'streams' in self.words
+        self.is_read_twice = '--check-after' in self.words
         self.right = Answer(right.status, b'' if out else right.out, right.err, OLD if out else None)
         if out and right.status == 0:
             self.right = self.right._replace(kept=right.out)
@@ -86,6 +87,13 @@ def make_case(place, kind, way, single, out):
     return Case(words, right_of(torrent_of(kind, single)), path=path, files=files, out=out)
 
 
+def after_case(place, kind, way, single, out):
+    """The same, of files that are looked at once more."""
+    made = make_case(place, kind, way, single, None)
+    path, files = content_of(place, single)
+    return Case([*made.words, '--check-after'], made.right, path=path, files=files, out=out)
+
+
 def input_case(place, kind, out):
     words = ['make', '--name', 'f', '--kind', kind, '--piece-length', BLOCK]
     return Case(words, right_of(torrent_of(kind, True)), given=place / 'file', out=out)
@@ -102,6 +110,9 @@ def make_cases(place):
             for way in WAYS:
                 yield make_case(place, kind, way, False, out)
                 yield make_case(place, kind, way, True, out)
+        for kind, way in [('v1', ('streams', 2)), ('hybrid', ('board', 2))]:
+            yield after_case(place, kind, way, False, out)
+            yield after_case(place, kind, way, True, out)
         words = ['make', '--name', 'f', '--span', 3]
         yield Case(words, refused('M3 Span'), given=place / 'file', out=out)
         yield Case([*words, place / 'folder'], refused('M3 Span'), path=place / 'folder', out=out)
@@ -192,10 +203,15 @@ def lines_of(case, met):
     is_recheck_below = case.words[0] == 'recheck' and os.path.isdir(case.path)
     lines = [] if is_recheck_below or met.kind == 'r' else [b'F4 System']
     if number is not None:
-        code = b'C1' if case.words[0] == 'recheck' else b'E1'
-        starts = b'%d' % met.offset if met.kind == 'r' else b'0' if case.is_stream else rb'(length|[0-9]+)'
-        lines.append(b'%s Read file %d at %s' % (code, number, starts))
+        lines += [b'%s Read file %d at %s' % (code, number, starts) for code, starts in codes_of(case, met)]
     return lines
+
+
+def codes_of(case, met):
+    """The codes of a file that is not read, and where."""
+    starts = b'%d' % met.offset if met.kind == 'r' else rb'(length|[0-9]+)'
+    codes = [(b'E1', b'0' if case.is_stream and met.kind != 'r' else starts), (b'C1', starts)]
+    return codes[1:] if case.words[0] == 'recheck' else codes if case.is_read_twice else codes[:1]
 
 
 def is_cut(case, came, met):
@@ -264,6 +280,16 @@ def test_memory_in_turn(program, folder):
     made = [make_case(folder, 'hybrid', way, False, None) for way in WAYS]
     for case in [check, recheck_case(folder, 'hybrid', False), *made]:
         sweep(refuser, case, 'm')
+
+
+def test_of_files_that_are_looked_at_once_more(program, folder):
+    """Each call upon the files is refused in turn, and each thread."""
+    lay_out(folder)
+    refuser = Refuser(program, folder)
+    for case in [after_case(folder, 'v1', ('streams', 2), False, folder / 'out'),
+                 after_case(folder, 'hybrid', ('board', 2), True, None)]:
+        for kinds in 'solrt':
+            sweep(refuser, case, kinds)
 
 
 def test_killed_while_it_writes(program, folder):
