@@ -185,8 +185,8 @@ def is_told(case, met, came):
 
 
 def is_of_path(case, met, came):
-    """Of a folder it is asked again what it is, as it is listed. In a recheck of several files a PATH of which the system
-    does not tell what it is counts as a folder."""
+    """Of a folder it is asked again what it is, as it is listed. Where several files are looked for below a PATH of
+    which the system does not tell what it is, it counts as a folder."""
     if len(met) > 1 or met[0].kind != 's' or met[0].place != str(case.path):
         return False
     return os.path.isdir(case.path) and came == case.right

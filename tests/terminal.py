@@ -196,17 +196,21 @@ def passes_of(parts):
 
 
 def test_of_both_passes_of_check_after(program, folder):
-    """The line counts from 0 again where the files are looked at once more, and is erased after each pass."""
+    """The line counts from 0 again where the files are looked at once more, and is erased after each pass. The input is
+    a terminal too, as where the command is typed."""
     path = sparse(folder, SIZE)
     made = torrent_of_zeros(SIZE, 1 << 20)
+    typed, keyboard = terminal()
     for more in [[], ['--how', 'streams', '--workers', '2']]:
         words = ['make', '--name', 'f', '--piece-length', '1048576', '--check-after', *more, path]
-        parts, told = watch(program, words)
+        parts, told = watch(program, words, stdin=keyboard)
         expect_equal(f'{words}: status, and whether the torrent comes', (0, True), (told.status, told.out == made))
         *passes, rest = passes_of(parts)
         expect_equal(f'{words}: passes that show it, and what follows', (2, []), (len(passes), rest))
         for lines in passes:
             check_lines(lines, b''.join(part for _, part in lines), SIZE, ERASED)
+    os.close(typed)
+    os.close(keyboard)
 
 
 def test_of_streams(program, folder):
