@@ -5,6 +5,7 @@ something else, or the whole folder goes. What comes has to be the torrent, or t
 what is there then, or the fault of that file. With `--check-after` a torrent goes out only where its files have each
 piece of it afterwards. bench/hostile tries all; tests/run a part of it that takes seconds.
 """
+import functools
 import os
 import re
 import shutil
@@ -97,11 +98,12 @@ def found(folder):
             if os.path.isfile(place) and not os.path.islink(place):
                 with open(place, 'rb') as file:
                     files.append((tuple(os.fsencode(os.path.relpath(place, folder)).split(b'/')), file.read()))
-    return sorted(files)
+    return tuple(sorted(files))
 
 
+@functools.cache
 def answer_of(kind, files):
-    """What `make` answers of these files."""
+    """What `make` answers of these files. There are few, each asked about at many calls."""
     try:
         return done(reference.make(files, Order(kind, False, b'f', BLOCK, None, False, 'one', 1, 1)))
     except Refused as refusal:
@@ -111,7 +113,7 @@ def answer_of(kind, files):
 def states(after):
     """The files that there were, that there are, and that there were in between where a folder became a file. A folder
     that is removed while it is open is listed as an empty one."""
-    return [CONTENTS, after, [(path, data) for path, data in CONTENTS if path in dict(after)]]
+    return [tuple(CONTENTS), after, tuple((path, data) for path, data in CONTENTS if path in dict(after))]
 
 
 def fronts_of(kind, out, length):
@@ -124,7 +126,7 @@ def fronts_of(kind, out, length):
     for entry in entries:
         if entry[b'path'] == MOVED.encode().split(b'/'):
             length = max(length, entry[b'length'])
-    return answer_of(kind, [(path, data[:length] if data is LONG else data) for path, data in CONTENTS])
+    return answer_of(kind, tuple((path, data[:length] if data is LONG else data) for path, data in CONTENTS))
 
 
 def fault_of_make(kind, way, move, came, after):
@@ -169,12 +171,12 @@ def fault_of_after(kind, move, is_first, came, after):
     if came.status == 0:
         if came[:3] not in (answers if is_first else answers[:1]):
             return 'another torrent'
-        return None if not is_first or has_all(came.out, after) else 'a torrent whose pieces are not there'
+        return None if not is_first or all(marks_of(came.out, after)) else 'a torrent whose pieces are not there'
     if came.out:
         return 'a fault, and something went out'
     counts = re.fullmatch(rb'tor: not as made: ([0-9]+) of ([0-9]+) pieces\n', came.err)
     if counts and came.status == 1:
-        torrents = [judge(answer.out) for answer in answers if answer.status == 0]
+        torrents = [answer.out for answer in answers if answer.status == 0]
         return None if are_counts(*map(int, counts.groups()), torrents, after) else 'other counts'
     line = rb'tor: (F4 System|[CE]1 Read file %b at (length|[0-9]+)|[CE]2 Changed file %b|E3 Missing file %b)\n' % (
         (move.numbers.encode(),) * 3)
@@ -183,18 +185,16 @@ def fault_of_after(kind, move, is_first, came, after):
     return None if is_told or is_refused or came[:3] in answers else 'another fault'
 
 
-def has_all(text, files):
-    """Whether these files have each piece of a torrent."""
-    return all(marks_of(judge(text), files))
-
-
-def marks_of(torrent, files):
+@functools.cache
+def marks_of(text, files):
+    """Which pieces of a torrent these files have."""
+    torrent = judge(text)
     return reference.marks_of(torrent, [dict(files).get(file.path) for file in torrent.files])
 
 
 def are_counts(good, pieces, torrents, after):
     """Whether so many of so many pieces may be right: those of the files that stayed are, and not all."""
-    stayed = [file for file in CONTENTS if file in after]
+    stayed = tuple(file for file in CONTENTS if file in after)
     marks = [marks_of(torrent, stayed) for torrent in torrents]
     return min(map(sum, marks)) <= good < pieces and min(map(len, marks)) <= pieces <= max(map(len, marks))
 
@@ -294,7 +294,7 @@ def test_a_file_that_moves_before_it_is_checked_after(program, folder):
     refuser = Refuser(program, folder)
     move_of = {move.act: move for move in [*MOVES, REWRITTEN]}
     for act, kind, way, has_out in [
-            (rewritten, 'v2', ('one', 1), True), (rewritten, 'v1', ('board', 2), False),
-            (rewritten, 'hybrid', ('streams', 2), True), (cut, 'v2', ('streams', 2), False),
-            (file_removed, 'v1', ('halves', 2), True), (grown, 'v2', ('streams', 2), False)]:
+            (rewritten, 'v2', ('one', 1), True), (rewritten, 'hybrid', ('board', 2), False),
+            (cut, 'v2', ('streams', 2), True), (file_removed, 'v1', ('halves', 2), True),
+            (grown, 'v2', ('streams', 2), False)]:
         sweep_after(refuser, folder / 'f', kind, way, move_of[act], has_out)
