@@ -30,6 +30,7 @@ is_no_memory conditions.LayerLength = refl
 is_no_memory conditions.LayerRoot = refl
 is_no_memory conditions.FilesDiffer = refl
 is_no_memory conditions.Alignment = refl
+is_no_memory conditions.AttrDiffer = refl
 
 second_memory : (b : Bool) → cond b refusals.Memory refusals.Memory ≡ refusals.Memory
 second_memory true = refl

@@ -72,15 +72,19 @@ pub use Rattle.tor_spec.specs.valid.ListSide.{list_file_and_folder, list_length,
 pub use Rattle.tor_spec.specs.valid.ListSide.{list_symlink, listed_files, listed_paths, names_of, side_files, side_size}
 pub use Rattle.tor_spec.specs.valid.ListSide.{single_file, without_padding}
 pub use Rattle.tor_spec.specs.valid.Parts.{info_of, items_in, kind_of, part, piece_length_of, text_of}
-pub use Rattle.tor_spec.specs.valid.SidesAgree.{aligned_after, alignment, files_differ, has_wrong_tail, is_filled}
-pub use Rattle.tor_spec.specs.valid.SidesAgree.{is_misaligned_after, last_size, same_files, tail_size}
+pub use Rattle.tor_spec.specs.valid.SidesAgree.{aligned_after, alignment, attr_differs, files_differ, has_wrong_tail}
+pub use Rattle.tor_spec.specs.valid.SidesAgree.{is_filled, is_misaligned_after, last_size, letters_differ, same_files}
+pub use Rattle.tor_spec.specs.valid.SidesAgree.{some_letters_differ, tail_size}
 pub use Rattle.tor_spec.specs.valid.TreeSide.{tree_files, tree_of, tree_root}
 pub use Rattle.tor_spec.specs.valid.View.{FileView, View, entry_of_file, file_of_list, file_of_tree, files_of, view_of}
+pub use Rattle.tor_spec.specs.valid.View.{files_of_both, lettered, with_letters}
+pub use Rattle.tor_spec.proofs.ProvedLaws.{lettered_case, lettered_none, map_lettered}
 pub use Rattle.tor_tree.proofs.ProvedLaws.{rising_paths}
 pub use Rattle.tor_tree.specs.FileList.{lengths_of, lengths_too_large, list_fault, paths_nest, paths_of, paths_repeat}
 pub use Rattle.tor_tree.specs.FileTree.{entries_of, file_of, lacks_root, tree_fault}
 pub use Rattle.tor_tree.specs.Kinds.{has_v1, has_v2}
 pub use Rattle.tor_tree.specs.Name.{has_byte}
+pub use Rattle.tor_tree.specs.Properties.{has_attr}
 pub use Rattle.tor_tree.specs.Properties.{are_properties, as_integer, as_string, has_letter, has_negative_length}
 pub use Rattle.tor_tree.specs.Properties.{is_hash, length_of, letter_h, letter_l, letter_x, letters_of, pieces_root}
 pub use Rattle.tor_tree.specs.declared.kinds.Kind.{Kind}

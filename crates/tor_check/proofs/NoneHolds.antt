@@ -11,7 +11,7 @@ use Rattle.tor_check.proofs.Stages.{find_behind, find_front}
 use Rattle.tor_spec.specs.valid.Conditions as named
 
 -- the condition at an index of the row, counted from V2, does not hold
-pub not_held : (root : Data) → refusal_of root ≡ None → (i : ℕ) → i < 22
+pub not_held : (root : Data) → refusal_of root ≡ None → (i : ℕ) → i < 23
     → holds root (get_or conditions i named.RootShape) ≡ false
 not_held root none i within =
     All-get_or (λ c. holds root c ≡ false) conditions i named.RootShape within

@@ -30,6 +30,7 @@ of_condition bytes conditions.LayerLength refused = refused
 of_condition bytes conditions.LayerRoot refused = refused
 of_condition bytes conditions.FilesDiffer refused = refused
 of_condition bytes conditions.Alignment refused = refused
+of_condition bytes conditions.AttrDiffer refused = refused
 
 pub refused_for : (bytes : List ℕ) (root : Data) (refusal : Refusal) → IsLawful root → bytes ≡ spelling root
     → IsFirst (refusal_of root) refusal → IsRefusedFor bytes refusal

@@ -2,7 +2,8 @@
 use Rattle.tor_check.proofs.Names.{◌≡◌, ℕ, true, List, [], ◌∷◌, map, Option, None, Some, unwrap_or, codes, ap, refl}
 use Rattle.tor_check.proofs.Names.{subst, sym, value_has_rising_keys, Data, dictionary, no_pairs, value_of}
 use Rattle.tor_check.proofs.Names.{HasRisingKeys, HasRisingPaths, IsViewOfValid, info_of, kind_of, part, tree_files}
-use Rattle.tor_check.proofs.Names.{tree_of, FileView, View, file_of_tree, view_of, rising_paths, has_v2, TreeFile}
+use Rattle.tor_check.proofs.Names.{tree_of, FileView, View, file_of_tree, files_of_both, view_of, rising_paths, has_v1, has_v2, TreeFile}
+use Rattle.tor_check.proofs.Names.{if◌then◌else◌, listed_files, map_lettered}
 
 -- the keys of a part rise where those of the whole do
 rising_part : (key : List ℕ) (whole : Data) → HasRisingKeys whole → HasRisingKeys (part key whole)
@@ -25,7 +26,12 @@ rising_in : (root : Data) → HasRisingKeys root → has_v2 (kind_of (info_of ro
 rising_in root rising v2 =
     let info = info_of root in
     let keys = rising_part (codes "file tree") info (rising_part (codes "info") root rising) in
-    rw (v2, told_paths root (tree_files info)) (rising_paths (tree_of info) keys)
+    rw (
+      v2,
+      told_paths root (files_of_both info),
+      map_lettered (λ (file : TreeFile). file.path) (λ listed file. refl)
+          (if has_v1 (kind_of info) then listed_files info else []) (tree_files info),
+    ) (rising_paths (tree_of info) keys)
 
 pub rising_of_view : (view : View) → IsViewOfValid view → has_v2 view.kind ≡ true → HasRisingPaths view
 rising_of_view view valid v2 =

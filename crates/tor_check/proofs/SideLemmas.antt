@@ -44,6 +44,7 @@ entry_is_file entry = by_letter (has_letter letter_p entry)
           path = if pad then [] else names;
           size = unsigned_abs (listed_entry entry).marks.length;
           pad = pad;
+          has_attr = (listed_entry entry).marks.has_attr;
           exec = (listed_entry entry).marks.exec;
           hidden = (listed_entry entry).marks.hidden;
         }

@@ -6,7 +6,8 @@ use Rattle.tor_check.proofs.Names.{bytes_eq, eqb-false, lt-ltb, bytes_eq-Decides
 use Rattle.tor_check.proofs.Names.{IsViewOfValid, IsPieceLength, piece_level, padded_root, refusal_of, has_other_root}
 use Rattle.tor_check.proofs.Names.{is_misshaped, layer_length, layer_of, layer_root, layer_text, layers_of}
 use Rattle.tor_check.proofs.Names.{root_of_file, info_of, kind_of, piece_length_of, tree_files, tree_of, tree_root}
-use Rattle.tor_check.proofs.Names.{FileView, View, file_of_tree, files_of, entries_of, file_of, lacks_root, has_v2}
+use Rattle.tor_check.proofs.Names.{FileView, View, file_of_tree, files_of, files_of_both, entries_of, file_of, lacks_root, has_v1}
+use Rattle.tor_check.proofs.Names.{has_v2, if◌then◌else◌, lettered_case, listed_files, with_letters, ListedFile}
 use Rattle.tor_check.proofs.Names.{as_integer, is_hash, length_of, pieces_root, MAX_LENGTH, TreeFile}
 use Rattle.tor_check.proofs.Bounds.{small_files}
 use Rattle.tor_check.proofs.HeadFacts.{allowed_by, not_false}
@@ -91,14 +92,24 @@ module _ (root : Data) (none : refusal_of root ≡ None) (v2 : has_v2 (kind_of (
             (none_at (has_other_root p layers) (tree_files info) i file joined at));
       }
 
+  -- letters change nothing of it
+  with_its_letters : (listed : ListedFile) (file : TreeFile) → HasTree p (file_of_tree root file)
+      → HasTree p (file_of_tree root (with_letters listed file))
+  with_its_letters listed file has =
+      record { small = has.small; root = has.root; pieces = has.pieces; joined = has.joined }
+
   pub tree_in : (i : ℕ) (told : FileView) → slice_get (files_of root) i ≡ Some told
       → (told.file.length == 0) ≡ false → HasTree (piece_length_of (info_of root)) told
   tree_in i told at filled =
-      let at' : slice_get (map (file_of_tree root) (tree_files info)) i ≡ Some told = rw v2 at at in
-      let made = mapped_at (file_of_tree root) (tree_files info) i told at' in
+      let at' : slice_get (map (file_of_tree root) (files_of_both info)) i ≡ Some told = rw v2 at at in
+      let made = mapped_at (file_of_tree root) (files_of_both info) i told at' in
       let own : (made.0.length == 0) ≡ false =
       subst (λ (view : FileView). (view.file.length == 0) ≡ false) (sym made.2) filled in
-      subst (HasTree p) made.2 (tree_at i made.0 made.1 own)
+      let listed = if has_v1 (kind_of info) then listed_files info else [] in
+      subst (HasTree p) made.2
+      (lettered_case (λ file. (file.length == 0) ≡ false → HasTree p (file_of_tree root file))
+      (λ one file has some. with_its_letters one file (has some)) listed (tree_files info) i made.0 made.1
+      (λ file found. tree_at i file found) own)
 
 -- the same of a view
 pub allowed_of_view : (view : View) → IsViewOfValid view → has_v2 view.kind ≡ true → IsPieceLength view.piece_length

@@ -32,6 +32,7 @@ refusal_for conditions.LayerLength = refusals.LayerLength
 refusal_for conditions.LayerRoot = refusals.LayerRoot
 refusal_for conditions.FilesDiffer = refusals.FilesDiffer
 refusal_for conditions.Alignment = refusals.Alignment
+refusal_for conditions.AttrDiffer = refusals.AttrDiffer
 
 -- what a fault of a list is for a torrent
 abbrev pub of_list_error : ListError → Refusal

@@ -1,8 +1,10 @@
-//! Whether the two sides of a hybrid describe the same files at the same offsets (BEP 52, "Upgrade Path"; BEP 47).
+//! Whether the two sides of a hybrid describe the same files at the same offsets and with the same letters (BEP 52,
+//! "Upgrade Path"; BEP 47).
 ghost use Rattle.std.specs.Prelude.{◌≡◌, ◌≤◌, [], All, not, sum_by};
 ghost use Rattle.tor_check.specs.steps.Listed.{file_of_listed, files_from, size_of_listed, sized_files};
-ghost use Rattle.tor_spec.specs.valid.ListSide.{joined_size};
-ghost use Rattle.tor_spec.specs.valid.SidesAgree.{has_wrong_tail, is_filled, is_misaligned_after, same_files};
+ghost use Rattle.tor_spec.specs.valid.ListSide.{joined_size, without_padding};
+ghost use Rattle.tor_spec.specs.valid.SidesAgree.{has_wrong_tail, is_filled, is_misaligned_after, letters_differ};
+ghost use Rattle.tor_spec.specs.valid.SidesAgree.{same_files, some_letters_differ};
 ghost use Rattle.tor_check.specs.steps.Listed.{tree_pairs};
 ghost use Rattle.tor_merkle.specs.declared.TheConstants.{MAX_LENGTH};
 ghost use Rattle.tor_tree.specs.declared.lists.TheConstants.{MAX_TOTAL};
@@ -28,6 +30,33 @@ pub fn files_differ(listed: &[Listed], files: &[TreeFile]) -> bool
         }
     }
     left.next().is_some()
+}
+
+/// Whether a file has an `x` or an `h` on one side alone, where both have its `attr`.
+pub fn some_letters_differ(listed: &[Listed], files: &[TreeFile]) -> bool
+    ensures { result ≡ some_letters_differ (without_padding (files_from listed.now)) files.now }
+{
+    let mut left = files.iter();
+    'listed: for file in listed {
+        if file.path.is_none() {
+            continue;
+        }
+        let Some(other) = left.next() else {
+            return false;
+        };
+        if letters_differ(file, other) {
+            return true;
+        }
+    }
+    false
+}
+
+/// Whether these are the letters of two files, where both have `attr`.
+fn letters_differ(listed: &Listed, file: &TreeFile) -> bool
+    ensures { result ≡ letters_differ (file_of_listed listed.now) file.now }
+{
+    let marks = listed.marks;
+    marks.has_attr && file.has_attr && (marks.exec != file.exec || marks.hidden != file.hidden)
 }
 
 /// Whether a file that is not empty does not begin at a piece of its own. Together the files have at most 2^62 bytes.

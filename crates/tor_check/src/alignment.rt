@@ -1,4 +1,4 @@
-//! Whether the two sides of a hybrid agree, and its files are aligned, judged.
+//! Whether the two sides of a hybrid agree, judged: its files, where they begin, their letters.
 ghost use Rattle.std.specs.Prelude.{◌≡◌, ◌≤◌, ◌||◌, [], All, None, IfErr, OnOk, sum_by};
 ghost use Rattle.tor_bencode.specs.View.{view};
 ghost use Rattle.tor_check.specs.steps.Judged.{Names, first_of_alignment};
@@ -10,13 +10,13 @@ ghost use Rattle.tor_merkle.specs.declared.TheConstants.{MAX_LENGTH};
 ghost use Rattle.tor_tree.specs.declared.lists.TheConstants.{MAX_TOTAL};
 ghost use Rattle.tor_v1.specs.Piece.{max_piece_length};
 
-use crate::agree::{files_differ, has_wrong_tail, is_misaligned};
+use crate::agree::{files_differ, has_wrong_tail, is_misaligned, some_letters_differ};
 use crate::head::Head;
 use crate::listed::Listed;
 use crate::refusal::Refusal;
 use crate::sides::Sides;
 
-/// Whether the sides of a hybrid agree: V22 and V23.
+/// Whether the sides of a hybrid agree: V22, V23 and V25.
 pub fn judge_alignment(head: &Head<'_>, sides: &Sides) -> Result<(), Refusal>
     requires kind { head.now.kind ≡ kind_of (view head.now.info.now) }
     requires piece_length { head.now.piece_length ≡ piece_length_of (view head.now.info.now) }
@@ -34,6 +34,9 @@ pub fn judge_alignment(head: &Head<'_>, sides: &Sides) -> Result<(), Refusal>
     }
     if lies_elsewhere(&sides.list.files, head.piece_length) {
         return Err(Refusal::Alignment);
+    }
+    if some_letters_differ(&sides.list.files, &sides.files) {
+        return Err(Refusal::AttrDiffer);
     }
     Ok(())
 }

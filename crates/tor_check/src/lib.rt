@@ -10,7 +10,7 @@
 //! ```
 //!
 //! - [`validate`] (`verdict.rt`): what the torrent describes that bytes are, or why they are none.
-//! - [`Torrent`], [`ViewFile`] (`torrent.rt`): what it describes. [`Refusal`] (`refusal.rt`): V1 to V24.
+//! - [`Torrent`], [`ViewFile`] (`torrent.rt`): what it describes. [`Refusal`] (`refusal.rt`): V1 to V25.
 //! - [`prove_piece`] (`piece_proofs.rt`): that the hash of a piece stands in the tree of its file, or why not
 //!   ([`PieceError`]).
 //!

@@ -5,12 +5,13 @@ ghost use Rattle.tor_check.specs.steps.Listed.{marks_in};
 
 use crate::parts::integer;
 use tor_bencode::Item;
-use tor_tree::letters_of;
+use tor_tree::{has_attr, letters_of};
 
 /// What a dictionary says of its file, beside the path.
 #[derive(Clone, Copy)]
 pub struct Marks {
     pub length: i64,
+    pub has_attr: bool,
     pub pad: bool,
     pub link: bool,
     pub exec: bool,
@@ -25,6 +26,7 @@ pub fn read_marks(item: &Item) -> Option<Marks>
     let letters = letters_of(item)?;
     Some(Marks {
         length,
+        has_attr: has_attr(item),
         pad: letters.contains(&b'p'),
         link: letters.contains(&b'l'),
         exec: letters.contains(&b'x'),

@@ -61,6 +61,8 @@ pub enum Refusal {
     /// A file of a hybrid does not begin at a piece of its own, or padding follows the last that is of another length.
     Alignment,
     Memory,
+    /// The two sides of a hybrid both have an `attr` of a file, and an `x` or an `h` on one of them alone.
+    AttrDiffer,
 }
 
 impl fmt::Display for Refusal {
@@ -102,6 +104,7 @@ fn text_of(refusal: &Refusal) -> &'static str {
         Refusal::FilesDiffer => "V22 FilesDiffer",
         Refusal::Alignment => "V23 Alignment",
         Refusal::Memory => "V24 Memory",
+        Refusal::AttrDiffer => "V25 AttrDiffer",
     }
 }
 
@@ -183,6 +186,7 @@ pub(crate) fn number_of(refusal: &Refusal) -> u32
         Refusal::FilesDiffer => 22,
         Refusal::Alignment => 23,
         Refusal::Memory => 24,
+        Refusal::AttrDiffer => 25,
     }
 }
 

@@ -16,7 +16,7 @@ use crate::layer_keys::layers_of;
 use crate::parts::text;
 use crate::sides::Sides;
 use crate::torrent::{Torrent, ViewFile};
-use crate::views::{entries_of, pieces_of_tree, views_of_list, views_of_tree};
+use crate::views::{entries_of, pieces_of_tree, take_letters, views_of_list, views_of_tree};
 use std::alloc::{AllocError, Global};
 use tor_bencode::Item;
 
@@ -86,7 +86,7 @@ fn pieces_of(alloc: Global, head: &Head<'_>) -> Result<Vec<u8>, AllocError>
     }
 }
 
-/// The files of the tree, or, without one, of the list.
+/// The files of the tree, with the letters of both sides, or, without a tree, those of the list.
 fn files_of(
     alloc: Global,
     root: &Item,
@@ -102,5 +102,7 @@ fn files_of(
         return views_of_list(alloc, &sides.list.files);
     }
     let layers = layers_of(root, head.piece_length);
-    views_of_tree(alloc, &layers, sides.files)
+    let mut files = sides.files;
+    take_letters(&mut files, &sides.list.files);
+    views_of_tree(alloc, &layers, files)
 }

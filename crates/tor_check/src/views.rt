@@ -6,7 +6,7 @@ ghost use Rattle.tor_check.specs.steps.Views.{layer_for, viewed};
 ghost use Rattle.tor_check.specs.declared.listed.Listed.{Listed as ListedFacts};
 ghost use Rattle.tor_spec.specs.valid.Layers.{pieces_in};
 ghost use Rattle.tor_spec.specs.valid.ListSide.{without_padding};
-ghost use Rattle.tor_spec.specs.valid.View.{entry_of_file, file_of_list};
+ghost use Rattle.tor_spec.specs.valid.View.{entry_of_file, file_of_list, lettered, with_letters};
 ghost use Rattle.tor_check.specs.steps.Listed.{file_of_listed};
 
 use crate::layer_keys::Layers;
@@ -17,6 +17,36 @@ use std::alloc::{AllocError, Global};
 use tor_merkle::Hash;
 use tor_tree::{FilePath, TreeFile};
 use tor_v1::{Entry, pad_entry};
+
+/// Gives each file of a tree the letters of both sides: its own, where the tree has its `attr`, or else those that the
+/// v1 side has for it.
+pub fn take_letters(files: &mut Vec<TreeFile>, listed: &[Listed])
+    ensures { files.new.items ≡ lettered (without_padding (files_from listed.now)) files.old.items }
+{
+    let mut count = 0;
+    'listed: for one in listed {
+        if one.path.is_none() {
+            continue;
+        }
+        if count == files.len() {
+            return;
+        }
+        add_letters(&mut files[count], one);
+        count += 1;
+    }
+}
+
+/// Those of the v1 side, where the tree has no `attr` of the file.
+fn add_letters(file: &mut TreeFile, listed: &Listed)
+    ensures { file.new ≡ with_letters (file_of_listed listed.now) file.old }
+{
+    if file.has_attr {
+        return;
+    }
+    file.has_attr = listed.marks.has_attr;
+    file.exec = listed.marks.exec;
+    file.hidden = listed.marks.hidden;
+}
 
 /// The files of a tree, each with its layer.
 pub fn views_of_tree(
@@ -68,6 +98,7 @@ fn view_of(alloc: Global, path: &FilePath, file: &Listed) -> Result<ViewFile, Al
             path: path.copy(alloc)?,
             length: file.marks.length.unsigned_abs(),
             root: None,
+            has_attr: file.marks.has_attr,
             exec: file.marks.exec,
             hidden: file.marks.hidden,
         },

@@ -4,10 +4,11 @@ pub mod EntryLengths
 pub mod LawfulTorrents
 pub mod PutPairs
 pub mod MadeHeads
-pub mod MadeFacts
+mod MadeFacts
 pub mod MadeTree
 pub mod MadeLayers
 pub mod MadeListEntries
+pub mod Lettered
 pub mod MadeListSide
 pub mod MadeListSizes
 pub mod MadeListPieces

@@ -4,11 +4,11 @@ use Rattle.tor_spec.proofs.Names.{is_some, None, refl, sym, ap, ◌∙◌, arith
 use Rattle.tor_spec.proofs.Names.{cond-true, le-leb, not_from_true, or_from, All-map, list_any_none, Data, integer}
 use Rattle.tor_spec.proofs.Names.{dictionary, piece_length_bounds, IsPieceLength, when, Facts, File, AreMade}
 use Rattle.tor_spec.proofs.Names.{facts_of_files, piece_layers, Settings, Condition, conditions, holds, of_both}
-use Rattle.tor_spec.proofs.Names.{of_list, of_tree, refusal_of, Alignment, Duplicate, FileAndFolder, FileLength}
+use Rattle.tor_spec.proofs.Names.{of_list, of_tree, refusal_of, Alignment, AttrDiffer, Duplicate, FileAndFolder, FileLength}
 use Rattle.tor_spec.proofs.Names.{FileShape, FilesDiffer, InfoShape, LayerAbsent, LayerLength, LayerRoot, LayersAbsent}
 use Rattle.tor_spec.proofs.Names.{LengthAndFiles, MetaVersion, MixedNode, Name, NoFiles, PieceLength, PiecesLength}
 use Rattle.tor_spec.proofs.Names.{RootHash, RootShape, Symlink, TooLarge, info_of, is_number, kind_of, piece_length_of}
-use Rattle.tor_spec.proofs.Names.{SidesAgree, alignment, files_differ, tree_files, is_dictionary, has_v1, has_v2, Kind}
+use Rattle.tor_spec.proofs.Names.{SidesAgree, alignment, attr_differs, files_differ, tree_files, is_dictionary, has_v1, has_v2, Kind}
 use Rattle.tor_spec.proofs.Names.{V1, V2, Hybrid, TreeFile}
 use Rattle.tor_spec.proofs.MadeView.{layers_found}
 use Rattle.tor_spec.proofs.MadeHeads.{IsInfo, IsRootWith, info_told, kind_told, piece_length_told, plain_file}
@@ -161,6 +161,7 @@ module _ (settings : Settings) (files : List File) (made : AreMade settings file
       (λ k d lt. has_own_root p made.piece_length some (get_or files k d) (layers_found settings files made k d lt)))
   none_holds FilesDiffer = no_both files_differ (λ s. s.files)
   none_holds Alignment = no_both alignment (λ s. s.aligned)
+  none_holds AttrDiffer = no_both attr_differs (λ s. s.letters)
 
   pub made_is_accepted : refusal_of root ≡ None
   made_is_accepted = find_none (holds root) conditions none_holds

@@ -14,6 +14,7 @@ plain_file file = record {
   path = file.path;
   length = length file.content;
   root = root_of file.content;
+  has_attr = false;
   exec = false;
   hidden = false;
 }

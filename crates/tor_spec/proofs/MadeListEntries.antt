@@ -9,7 +9,7 @@ use Rattle.tor_spec.proofs.Names.{v1_entries, Entry, Layout, Joined, Aligned, Al
 
 -- a file without letters
 abbrev pub plain : List (List ℕ) × ℕ → ListedFile
-plain file = record { path = file.0; size = file.1; pad = false; exec = false; hidden = false }
+plain file = record { path = file.0; size = file.1; pad = false; has_attr = false; exec = false; hidden = false }
 
 -- what the v1 side says of an entry
 abbrev pub listed_of : Entry → ListedFile
@@ -17,6 +17,7 @@ listed_of entry = record {
   path = if entry.pad then [] else entry.path;
   size = entry.length;
   pad = entry.pad;
+  has_attr = entry.pad;
   exec = false;
   hidden = false;
 }

@@ -3,9 +3,11 @@ use Rattle.tor_spec.proofs.Names.{◌≡◌, ℕ, ◌==◌, Bool, true, false, n
 use Rattle.tor_spec.proofs.Names.{refl, ap, ap₂, ◌∙◌, Option, and_from, and_right, eq-eqb, or_from, lists_equiv}
 use Rattle.tor_spec.proofs.Names.{nat_list_eq_equiv, nat_lt, if◌then◌else◌, Data, File, AreMade, sizes_of}
 use Rattle.tor_spec.proofs.Names.{facts_of_files, Settings, is_aligned, layout_of, ListedFile, SidesAgree, alignment}
+use Rattle.tor_spec.proofs.Names.{attr_differs, some_letters_differ}
 use Rattle.tor_spec.proofs.Names.{files_differ, has_wrong_tail, is_misaligned_after, last_size, listed_by_list}
 use Rattle.tor_spec.proofs.Names.{listed_by_tree, same_files, tree_files, has_v1, path_eq, plain_files, Hybrid}
 use Rattle.tor_spec.proofs.Names.{TreeFile, padding_length, v1_entries, Layout, Joined, Aligned, AlignedTail}
+use Rattle.tor_spec.proofs.Lettered.{no_letters_differ}
 use Rattle.tor_spec.proofs.MadeHeads.{IsInfo, piece_length_told, plain_file}
 use Rattle.tor_spec.proofs.MadeListEntries.{listed_of, plain}
 use Rattle.tor_spec.proofs.MadeListSide.{layout_of_one, made_listed, made_side}
@@ -94,9 +96,15 @@ module _ (settings : Settings) (files : List File) (pieces : List ℕ) (info : D
       (made_listed settings files pieces info is made (ap has_v1 hybrid)) ∙ plain_back (sizes_of files) in
       ap₂ (λ one other. not (same_files one other)) list tree ∙ ap not (same_as_itself (sizes_of files))
 
+  made_letters : attr_differs info ≡ false
+  made_letters =
+      ap (λ listed. some_letters_differ listed (tree_files info))
+      (made_listed settings files pieces info is made (ap has_v1 hybrid))
+      ∙ no_letters_differ (sizes_of files) (tree_files info)
+
   -- where the tree has the files
   pub made_sides : listed_by_tree info ≡ sizes_of files → SidesAgree info
-  made_sides tree = record { files = made_files tree; aligned = made_aligned }
+  made_sides tree = record { files = made_files tree; aligned = made_aligned; letters = made_letters }
 
   pub made_sides_of_roots : (roots : List (Option (List ℕ))) → length roots ≡ length (sizes_of files)
       → tree_files info ≡ plain_files (sizes_of files) roots → SidesAgree info

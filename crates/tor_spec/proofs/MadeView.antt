@@ -5,10 +5,12 @@ use Rattle.tor_spec.proofs.Names.{dictionary, value_of, piece_layer, Facts, File
 use Rattle.tor_spec.proofs.Names.{sizes_of, facts_of_files, pieces_of_files, piece_layers, Settings, layout_of, is_long}
 use Rattle.tor_spec.proofs.Names.{layer_of, layers_of, listed_files, side_files, info_of, is_private, kind_of, name_of}
 use Rattle.tor_spec.proofs.Names.{part, piece_length_of, text_of, tree_files, FileView, entry_of_file, file_of_list}
-use Rattle.tor_spec.proofs.Names.{file_of_tree, files_of, view_of, has_v1, has_v2, v1_entries, ◌<◌, length, unwrap_or}
+use Rattle.tor_spec.proofs.Names.{file_of_tree, files_of, files_of_both, lettered, if◌then◌else◌, view_of, has_v1, has_v2, v1_entries, ◌<◌, length, unwrap_or}
 use Rattle.tor_spec.proofs.Names.{arith, All, Contains-get_or, root_of, joined, layer_text, as_string}
 use Rattle.tor_spec.proofs.MadeHeads.{IsInfo, IsRootWith, info_told, kind_told, name_told, piece_length_told}
 use Rattle.tor_spec.proofs.MadeHeads.{plain_file, private_told}
+use Rattle.tor_spec.proofs.Lettered.{lettered_none, lettered_plain}
+use Rattle.tor_spec.proofs.MadeListSide.{made_listed}
 use Rattle.tor_spec.proofs.MadeLayers.{layer_shown}
 use Rattle.tor_spec.proofs.MadeTree.{made_tree_files}
 use Rattle.tor_spec.proofs.PutPairs.{AgreesAt, key_of, layer_at, text_of as layer_of_file}
@@ -79,12 +81,32 @@ module _ (settings : Settings) (files : List File) (made : AreMade settings file
       (layers_found settings files made k d lt) in
       rw two (ap with layer))
 
-  -- the files of a v2 side
+  -- the files of a v2 side have no letters on either side
+  both_shown : (b : Bool) → has_v1 settings.kind ≡ b → has_v2 settings.kind ≡ true
+      → files_of_both (info_of root) ≡ map plain_file files
+  both_shown b e two =
+      let tree : tree_files (info_of root) ≡ map plain_file files =
+      ap tree_files is_info ∙ made_tree_files settings files made (pieces_of_files settings files) info is two in
+      ap (lettered (if has_v1 (kind_of (info_of root)) then listed_files (info_of root) else [])) tree ∙ by_list b e
+    where
+      by_list : (b : Bool) → has_v1 settings.kind ≡ b
+          → lettered (if has_v1 (kind_of (info_of root)) then listed_files (info_of root) else []) (map plain_file files)
+          ≡ map plain_file files
+      by_list true e =
+          ap (λ listed. lettered listed (map plain_file files))
+          (cond-true (has_v1 (kind_of (info_of root))) _ _ (ap has_v1 is_kind ∙ e)
+          ∙ ap listed_files is_info
+          ∙ made_listed settings files (pieces_of_files settings files) info is made e)
+          ∙ lettered_plain files
+      by_list false e =
+          ap (λ listed. lettered listed (map plain_file files))
+          (cond-false (has_v1 (kind_of (info_of root))) _ _ (ap has_v1 is_kind ∙ e))
+          ∙ lettered_none (map plain_file files)
+
   pub tree_files_shown : has_v2 settings.kind ≡ true → files_of root ≡ map (made_file settings) files
   tree_files_shown two =
       cond-true (has_v2 (kind_of (info_of root))) _ _ (ap has_v2 is_kind ∙ two)
-      ∙ ap (map (file_of_tree root))
-      (ap tree_files is_info ∙ made_tree_files settings files made (pieces_of_files settings files) info is two)
+      ∙ ap (map (file_of_tree root)) (both_shown (has_v1 settings.kind) refl two)
       ∙ map_same (file_of_tree root) plain_file (made_file settings) files (shown two)
 
   files_shown : (b : Bool) → has_v2 settings.kind ≡ b

@@ -21,6 +21,7 @@ pub use Rattle.std.proofs.lemmas.List.Elements.{recursion_from_All}
 pub use Rattle.std.proofs.lemmas.List.Folds.{list_any_none}
 pub use Rattle.std.proofs.lemmas.List.FromFn.{fill_by_all, get_or-map-range_with_len, length-map-range_with_len}
 pub use Rattle.std.proofs.lemmas.List.Sums.{sum_by-append, sum_by-cons, sum_by-le-sum_by, sum_by_push}
+pub use Rattle.std.proofs.lemmas.Option.{same_Some}
 pub use Rattle.std.proofs.lemmas.Slice.Eq.{bytes_eq-Decides}
 pub use Rattle.std.specs.Cmp.Lexicographic.{nat_list_cmp_total, texts_ties}
 pub use Rattle.std.specs.Int.{div_ceil, next_multiple_of}
@@ -28,7 +29,7 @@ pub use Rattle.std.specs.List.{All, AllByRecursion, AllZip, Contains, list_all, 
 unfoldable pub use Rattle.std.specs.List.Sorted.{IsStrictlySortedBy}
 pub use Rattle.std.specs.Option.{option_or}
 pub use Rattle.std.specs.Ordering.{is_eq, match_ordering, ordering_reverse}
-pub use Rattle.std.specs.Prelude.{if◌then◌else◌, nat_lt}
+pub use Rattle.std.specs.Prelude.{if◌then◌else◌, nat_lt, slice_get}
 pub use Rattle.std.specs.Simd.{first_chunks}
 pub use Rattle.std.specs.Str.{bytes_eq}
 unfoldable pub use Rattle.std.specs.Str.{chars, is_utf8}
@@ -61,7 +62,7 @@ pub use Rattle.tor_spec.specs.Present.{bytes_in, file_bytes, is_whole, joined_by
 pub use Rattle.tor_spec.specs.Settings.{Settings, is_aligned, layout_of}
 pub use Rattle.tor_spec.specs.Verified.{file_pieces, is_merkle_piece, is_sha1_piece, is_verified, merkle_hash}
 pub use Rattle.tor_spec.specs.Verified.{merkle_pieces, told_hash, verified_pieces}
-pub use Rattle.tor_spec.specs.valid.Conditions.{Alignment, Condition, Duplicate, FileAndFolder, FileLength, FileShape}
+pub use Rattle.tor_spec.specs.valid.Conditions.{Alignment, AttrDiffer, Condition, Duplicate, FileAndFolder, FileLength, FileShape}
 pub use Rattle.tor_spec.specs.valid.Conditions.{FilesDiffer, InfoShape, IsTorrentOf, LayerAbsent, LayerLength}
 pub use Rattle.tor_spec.specs.valid.Conditions.{LayerRoot, LayersAbsent, LengthAndFiles, MetaVersion, MixedNode, Name}
 pub use Rattle.tor_spec.specs.valid.Conditions.{NoFiles, PieceLength, PiecesLength, RootHash, RootShape, Symlink}
@@ -74,13 +75,13 @@ pub use Rattle.tor_spec.specs.valid.ListSide.{side_files, side_piece_count, sing
 pub use Rattle.tor_spec.specs.valid.ListSide.{without_padding}
 pub use Rattle.tor_spec.specs.valid.Parts.{info_of, is_number, is_private, items_in, items_of_list, kind_of, name_of}
 pub use Rattle.tor_spec.specs.valid.Parts.{part, piece_length_of, text_of}
-pub use Rattle.tor_spec.specs.valid.SidesAgree.{SidesAgree, aligned_after, alignment, files_differ, has_wrong_tail}
-pub use Rattle.tor_spec.specs.valid.SidesAgree.{is_filled, is_misaligned_after, last_size, listed_by_list}
-pub use Rattle.tor_spec.specs.valid.SidesAgree.{listed_by_tree, same_files, size_before, tail_size}
+pub use Rattle.tor_spec.specs.valid.SidesAgree.{SidesAgree, aligned_after, alignment, attr_differs, files_differ}
+pub use Rattle.tor_spec.specs.valid.SidesAgree.{has_wrong_tail, is_filled, is_misaligned_after, last_size, listed_by_list}
+pub use Rattle.tor_spec.specs.valid.SidesAgree.{listed_by_tree, same_files, size_before, some_letters_differ, tail_size}
 pub use Rattle.tor_spec.specs.valid.TreeSide.{tree_files, tree_length, tree_mixed, tree_no_files, tree_of, tree_root}
 pub use Rattle.tor_spec.specs.valid.TreeSide.{tree_shape, tree_symlink, tree_too_large}
 pub use Rattle.tor_spec.specs.valid.View.{FileView, View, entry_of_file, file_of_list, file_of_tree, files_of}
-pub use Rattle.tor_spec.specs.valid.View.{tree_piece_count, view_of}
+pub use Rattle.tor_spec.specs.valid.View.{files_of_both, lettered, tree_piece_count, view_of, with_letters}
 pub use Rattle.tor_tree.proofs.ProvedLaws.{file_tree_is_lawful, file_tree_of_list, files_are_small, lists_have_names}
 pub use Rattle.tor_tree.proofs.ProvedLaws.{tree_of_list_is_readable}
 pub use Rattle.tor_tree.specs.FileList.{IsFileList, lengths_fault, lengths_of, lengths_too_large, list_fault}

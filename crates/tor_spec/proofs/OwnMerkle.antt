@@ -33,6 +33,7 @@ told_file p file = record {
     path = file.path;
     length = length file.content;
     root = root_of file.content;
+    has_attr = false;
     exec = false;
     hidden = false;
   };

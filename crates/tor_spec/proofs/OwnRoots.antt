@@ -8,7 +8,8 @@ use Rattle.tor_spec.proofs.Names.{piece_level, piece_roots, padded_subtree, true
 use Rattle.tor_spec.proofs.Names.{refl, ap₂, length-append, cond-true, length-map-range_with_len, sum_by-cons, Data}
 use Rattle.tor_spec.proofs.Names.{file_pieces, is_merkle_piece, merkle_pieces, pieces_in, info_of, kind_of}
 use Rattle.tor_spec.proofs.Names.{piece_length_of, tree_files, FileView, file_of_tree, files_of, tree_piece_count}
-use Rattle.tor_spec.proofs.Names.{view_of, has_v2, TreeFile}
+use Rattle.tor_spec.proofs.Names.{view_of, files_of_both, listed_files, has_v1, has_v2, if◌then◌else◌, TreeFile}
+use Rattle.tor_spec.proofs.Lettered.{sum_lettered}
 use Rattle.tor_spec.proofs.OwnSums.{ceil_exact}
 
 module _ (p : ℕ) (allowed : IsPieceLength p) (d : List ℕ) where
@@ -79,5 +80,7 @@ count_shown root contents two =
     let p = piece_length_of info in
     count_of_pieces p (files_of root) contents
     ∙ ap (sum_by (count_of p)) (cond-true (has_v2 (kind_of info)) _ _ two)
-    ∙ count_of_tree p root (tree_files info)
+    ∙ count_of_tree p root (files_of_both info)
+    ∙ sum_lettered (λ file. pieces_in p file.length) (λ one file. refl)
+    (if has_v1 (kind_of info) then listed_files info else []) (tree_files info)
     ∙ sym (cond-true (has_v2 (kind_of info)) (tree_piece_count info) _ two)

@@ -4,7 +4,7 @@ use Rattle.tor_spec.proofs.Names.{◌≡◌, ℕ, negsuc, List, [], ◌∷◌, �
 use Rattle.tor_spec.proofs.Names.{is_utf8, chars, encode, ones, Data, integer, string, refusal_of, Condition, RootShape}
 use Rattle.tor_spec.proofs.Names.{InfoShape, MetaVersion, PieceLength, Name, LengthAndFiles, FileShape, FileLength}
 use Rattle.tor_spec.proofs.Names.{Duplicate, FileAndFolder, NoFiles, TooLarge, Symlink, PiecesLength, MixedNode}
-use Rattle.tor_spec.proofs.Names.{RootHash, LayersAbsent, LayerAbsent, LayerLength, FilesDiffer, Alignment}
+use Rattle.tor_spec.proofs.Names.{RootHash, LayersAbsent, LayerAbsent, LayerLength, FilesDiffer, Alignment, AttrDiffer}
 use Rattle.tor_spec.proofs.WorkedTrees.{dict, number, items, bytes, path, size, attr, file, padding, two}
 
 -- a torrent of BEP 3 alone, with `files`
@@ -160,6 +160,50 @@ rows_of_hybrids =
     (hybrid (file 1 (codes "b") ∷ padding 16383 ∷ file 2 (codes "a") ∷ []) (bytes 40), Some FilesDiffer) ∷
     (hybrid two (bytes 40), Some PiecesLength) ∷
     (hybrid_alone (codes "a"), None) ∷ (hybrid_alone (codes "b"), Some FilesDiffer) ∷ []
+
+-- of a file a with these letters, if any, on each side
+abbrev lettered_hybrid : List (List ℕ × Data) → List (List ℕ × Data) → Data
+lettered_hybrid tree list =
+    dict ((
+      codes "info",
+      dict (
+          (codes "file tree", dict ((codes "a", dict ((codes "", dict (tree ++ size 0 ∷ [])) ∷ [])) ∷ [])) ∷
+          (codes "files", items (dict (list ++ size 0 ∷ path (codes "a" ∷ []) ∷ []) ∷ [])) ∷
+          (codes "meta version", number 2) ∷ (codes "name", string (codes "f")) ∷
+          (codes "piece length", number 16384) ∷ (codes "pieces", bytes 0) ∷ []),
+    ) ∷ [])
+
+-- of one file with `length`, where `info` has the letters of the v1 side
+abbrev lettered_alone : List (List ℕ × Data) → List (List ℕ × Data) → Data
+lettered_alone tree list =
+    dict ((
+      codes "info",
+      dict (list ++
+          (codes "file tree", dict ((codes "a", dict ((codes "", dict (tree ++ size 0 ∷ [])) ∷ [])) ∷ [])) ∷
+          size 0 ∷ (codes "meta version", number 2) ∷ (codes "name", string (codes "a")) ∷
+          (codes "piece length", number 16384) ∷ (codes "pieces", bytes 0) ∷ []),
+    ) ∷ [])
+
+abbrev rows_of_letters : List (Data × Option Condition)
+rows_of_letters =
+    (lettered_hybrid [] [], None) ∷
+    (lettered_hybrid (attr (codes "x") ∷ []) [], None) ∷
+    (lettered_hybrid [] (attr (codes "x") ∷ []), None) ∷
+    (lettered_hybrid (attr (codes "x") ∷ []) (attr (codes "x") ∷ []), None) ∷
+    (lettered_hybrid (attr (codes "hx") ∷ []) (attr (codes "xh") ∷ []), None) ∷
+    (lettered_hybrid (attr (codes "x") ∷ []) (attr (codes "h") ∷ []), Some AttrDiffer) ∷
+    (lettered_hybrid (attr (codes "x") ∷ []) (attr [] ∷ []), Some AttrDiffer) ∷
+    (lettered_hybrid (attr [] ∷ []) (attr (codes "h") ∷ []), Some AttrDiffer) ∷
+    (lettered_hybrid (attr (codes "hx") ∷ []) (attr (codes "x") ∷ []), Some AttrDiffer) ∷
+    (lettered_hybrid (attr (codes "p") ∷ []) (attr (codes "z") ∷ []), None) ∷
+    (lettered_hybrid (attr (codes "l") ∷ []) (attr (codes "h") ∷ []), Some Symlink) ∷
+    (lettered_alone (attr (codes "x") ∷ []) (attr (codes "x") ∷ []), None) ∷
+    (lettered_alone (attr (codes "x") ∷ []) (attr (codes "h") ∷ []), Some AttrDiffer) ∷
+    (lettered_alone (attr (codes "x") ∷ []) [], None) ∷ []
+
+letter_rows : map (λ row. refusal_of row.0) rows_of_letters ≡ map (λ row. row.1) rows_of_letters
+unfolding is_utf8 chars encode ones
+letter_rows = refl
 
 hybrid_rows : map (λ row. refusal_of row.0) rows_of_hybrids ≡ map (λ row. row.1) rows_of_hybrids
 unfolding is_utf8 chars encode ones

@@ -32,13 +32,14 @@ pub record AreMade (settings : Settings) (files : List File) : Type 0 where
   pub single : settings.single ≡ true → map (λ file. file.path) files ≡ (settings.name ∷ []) ∷ []
   pub layers : HaveOneLayer settings.piece_length files
 
--- what is told of a file: its root and layer where there is a v2 side, and no letter
+-- what is told of a file: its root and layer where there is a v2 side, and no `attr`
 abbrev pub made_file : Settings → File → FileView
 made_file settings file = record {
   file = record {
     path = file.path;
     length = length file.content;
     root = if has_v2 settings.kind then root_of file.content else None;
+    has_attr = false;
     exec = false;
     hidden = false;
   };

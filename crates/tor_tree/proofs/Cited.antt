@@ -52,9 +52,9 @@ pub use Rattle.tor_tree.specs.FileTree.{takes_memory_in, tree_fault, tree_mixes,
 pub use Rattle.tor_tree.specs.Name.{has_byte, name_fault, slash}
 pub use Rattle.tor_tree.specs.Path.{HasNames, IsFilePath, name_cmp, name_eq, path_cmp, path_eq}
 pub use Rattle.tor_tree.specs.PathList.{AreIndexedPaths, AreIndices, indices_of, with_indices}
-pub use Rattle.tor_tree.specs.Properties.{are_properties, as_integer, as_string, has_letter, has_negative_length}
-pub use Rattle.tor_tree.specs.Properties.{is_hash, length_of, letter_h, letter_l, letter_x, letters_of, pieces_root}
-pub use Rattle.tor_tree.specs.Properties.{properties_for}
+pub use Rattle.tor_tree.specs.Properties.{are_properties, as_integer, as_string, has_attr, has_letter}
+pub use Rattle.tor_tree.specs.Properties.{has_negative_length, is_hash, length_of, letter_h, letter_l, letter_x}
+pub use Rattle.tor_tree.specs.Properties.{letters_of, pieces_root, properties_for}
 pub use Rattle.tor_tree.specs.TidyTree.{AreTidy, AtMostOneTree, HasItsRoot, IsFileTreeOf, IsTidy, IsTidyFile}
 pub use Rattle.tor_tree.specs.TidyTree.{plain_files}
 pub use Rattle.tor_tree.specs.WrittenTree.{file_tree, pairs_of_files, put_first, put_inside, put_under, with_properties}

@@ -1,5 +1,5 @@
 -- What is read of a file's properties, from their parts.
-use Rattle.tor_tree.proofs.Cited.{◌≡◌, ℕ, ℤ, true, ◌||◌, cond, List, [], Option, None, Some, is_some, is_none}
+use Rattle.tor_tree.proofs.Cited.{◌≡◌, ℕ, ℤ, has_attr, true, ◌||◌, cond, List, [], Option, None, Some, is_some, is_none}
 use Rattle.tor_tree.proofs.Cited.{unwrap_or, codes, refl, ap, Data, value_of, has_byte, are_properties, as_integer}
 use Rattle.tor_tree.proofs.Cited.{as_string, letters_of, letter_l, letter_x, letter_h, hash_of, facts_of, facts_in}
 
@@ -13,6 +13,7 @@ pub facts_from : (file : Data) (n : ℤ) (letters : List ℕ) → as_integer (va
     → facts_of file ≡ Some (record {
       length = n;
       root = hash_of file;
+      has_attr = has_attr file;
       link = has_byte letter_l letters;
       exec = has_byte letter_x letters;
       hidden = has_byte letter_h letters;
@@ -23,6 +24,7 @@ facts_from file n letters is_length is_attr =
     let facts : facts_in file ≡ record {
       length = n;
       root = hash_of file;
+      has_attr = has_attr file;
       link = has_byte letter_l letters;
       exec = has_byte letter_x letters;
       hidden = has_byte letter_h letters;

@@ -20,7 +20,14 @@ ready_files (file ∷ files) (root ∷ roots) h named =
     ((recursion_from_All _ file.0 named.0, (file.1, root, refl, h.0)), ready_files files roots h.1 named.1)
 
 abbrev pub plain : List (List ℕ) → ℕ → Option (List ℕ) → TreeFile
-plain path n root = record { path = path; length = n; root = root; exec = false; hidden = false }
+plain path n root = record {
+  path = path;
+  length = n;
+  root = root;
+  has_attr = false;
+  exec = false;
+  hidden = false;
+}
 
 pub plain_file : (path : List (List ℕ)) (n : ℕ) (root : Option (List ℕ)) → HasItsRoot (path, n) root
     → file_of (path, properties_for n root) ≡ plain path n root

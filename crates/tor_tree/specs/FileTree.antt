@@ -5,8 +5,8 @@ use Rattle.std.specs.List.{list_any}
 use Rattle.tor_bencode.specs.Data.{Data, integer, string, list, dictionary, Pairs, no_pairs, pair, keys_of}
 use Rattle.tor_tree.specs.FileList.{lengths_too_large}
 use Rattle.tor_tree.specs.Name.{name_fault}
-use Rattle.tor_tree.specs.Properties.{are_properties, has_negative_length, length_of, pieces_root, is_hash, has_letter}
-use Rattle.tor_tree.specs.Properties.{letter_l, letter_x, letter_h}
+use Rattle.tor_tree.specs.Properties.{are_properties, has_attr, has_letter, has_negative_length, is_hash, length_of}
+use Rattle.tor_tree.specs.Properties.{letter_l, letter_x, letter_h, pieces_root}
 use Rattle.tor_tree.specs.declared.tree_file.TreeFile.{TreeFile}
 use Rattle.tor_tree.specs.declared.tree_file.TreeFault.{TreeFault}
 use Rattle.tor_tree.specs.declared.tree_file.TreeFault.TheVariants as faults
@@ -33,6 +33,7 @@ file_of (path, properties) = record {
   path = path;
   length = length_of properties;
   root = if length_of properties == 0 then None else pieces_root properties;
+  has_attr = has_attr properties;
   exec = has_letter letter_x properties;
   hidden = has_letter letter_h properties;
 }

@@ -19,6 +19,10 @@ as_string (Some (string bytes)) = Some bytes
 as_string (Some (list items)) = None
 as_string (Some (dictionary pairs)) = None
 
+-- `attr` is there
+abbrev pub has_attr : Data → Bool
+has_attr file = is_some (value_of (codes "attr") file)
+
 -- the letters of `attr`, if it is absent or a byte string
 abbrev pub letters_of : Data → Option (List ℕ)
 letters_of file = if is_none (value_of (codes "attr") file) then Some [] else as_string (value_of (codes "attr") file)

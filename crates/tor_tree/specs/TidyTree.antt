@@ -25,10 +25,17 @@ abbrev mutual
   AreTidy (pair [] properties pairs) = IsTidyFile properties × AreTidy pairs
   AreTidy (pair (c ∷ cs) folder pairs) = (folder ≢ dictionary no_pairs) × IsTidy folder × AreTidy pairs
 
--- files with their roots and no letter
+-- files with their roots and no `attr`
 abbrev pub plain_files : List (List (List ℕ) × ℕ) → List (Option (List ℕ)) → List TreeFile
 plain_files files roots =
-    map (λ f. record { path = f.0.0; length = f.0.1; root = f.1; exec = false; hidden = false }) (zip files roots)
+    map (λ f. record {
+      path = f.0.0;
+      length = f.0.1;
+      root = f.1;
+      has_attr = false;
+      exec = false;
+      hidden = false;
+    }) (zip files roots)
 
 -- the tree has rising keys and is tidy, and it describes the files with their roots
 pub record IsFileTreeOf (files : List (List (List ℕ) × ℕ)) (roots : List (Option (List ℕ))) (tree : Data) : Type 0 where

@@ -17,7 +17,7 @@
 //!   that were handed in, where lengths are still to be asked.
 //! - [`from_item`] (`read_tree.rt`): the files that a tree describes, each a [`TreeFile`] (`tree_file.rt`); they are in
 //!   order.
-//! - [`letters_of`] (`properties.rt`): the letters of a file's `attr`.
+//! - [`has_attr`], [`letters_of`] (`properties.rt`): whether a file has `attr`, and its letters.
 //! - [`to_item`] (`write_tree.rt`): the tidy tree of a list; there is one at most.
 //! - [`Kind`] (`kinds.rt`): which sides a torrent has.
 //! - [`laws`] (`laws.rt`): laws over the definitions of `specs/`.
@@ -44,7 +44,7 @@ pub use lists::{FileList, ListError, MAX_TOTAL, ROUNDING};
 pub use names::{Name, NameError, copy_names, each_is_name};
 pub use path_lists::PathList;
 pub use paths::{FilePath, MAX_NAMES};
-pub use properties::letters_of;
+pub use properties::{has_attr, letters_of};
 pub use read_tree::from_item;
 pub use tree_file::{TreeFault, TreeFile};
 pub use write_tree::to_item;

@@ -4,7 +4,7 @@ ghost use Rattle.std.specs.Int.{w64};
 ghost use Rattle.std.specs.Option.{option_copied};
 ghost use Rattle.tor_bencode.specs.Find.{value_of};
 ghost use Rattle.tor_bencode.specs.View.{view};
-ghost use Rattle.tor_tree.specs.Properties.{as_integer, letters_of};
+ghost use Rattle.tor_tree.specs.Properties.{as_integer, has_attr, letters_of};
 ghost use Rattle.tor_tree.specs.steps.Reading.{facts_of, hash_of};
 
 use tor_bencode::{Item, find};
@@ -15,6 +15,7 @@ use tor_merkle::Hash;
 pub struct Properties {
     pub length: i64,
     pub root: Option<Hash>,
+    pub has_attr: bool,
     pub link: bool,
     pub exec: bool,
     pub hidden: bool,
@@ -29,6 +30,7 @@ pub fn read_properties(item: &Item) -> Option<Properties>
     Some(Properties {
         length,
         root: hash_of(item),
+        has_attr: has_attr(item),
         link: letters.contains(&b'l'),
         exec: letters.contains(&b'x'),
         hidden: letters.contains(&b'h'),
@@ -44,6 +46,13 @@ fn length_of(item: &Item) -> Option<i64>
         Item::Int(length) => Some(*length),
         _ => None,
     }
+}
+
+/// Whether `attr` is there.
+pub fn has_attr(item: &Item) -> bool
+    ensures { result ≡ has_attr (view item.now) }
+{
+    find(item, b"attr").is_some()
 }
 
 /// The letters of `attr` (BEP 47), none of them where it is absent; None where it is no byte string.

@@ -104,6 +104,7 @@ fn files_of(alloc: Global, entries: Vec<Entry>) -> Result<Vec<TreeFile>, TreeFau
             path: path.unwrap(),
             length,
             root: if length == 0 { None } else { properties.root },
+            has_attr: properties.has_attr,
             exec: properties.exec,
             hidden: properties.hidden,
         })?;

@@ -17,9 +17,11 @@ pub struct TreeFile {
     pub length: u64,
     /// The root of the file's blocks (BEP 52, "pieces root"); an empty file has none.
     pub root: Option<Hash>,
-    /// Whether `attr` has an `x` (BEP 47).
+    /// Whether `attr` is there, with letters or none (BEP 47).
+    pub has_attr: bool,
+    /// Whether it has an `x`: an executable file.
     pub exec: bool,
-    /// Whether `attr` has an `h` (BEP 47).
+    /// Whether it has an `h`: a hidden file.
     pub hidden: bool,
 }
 

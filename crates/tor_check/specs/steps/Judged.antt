@@ -3,7 +3,7 @@ use Rattle.std.specs.Prelude.{◌≡◌, ◌⊎◌, ◌<◌, List, [], ◌∷◌
 use Rattle.tor_bencode.specs.Data.{Data}
 use Rattle.tor_bencode.specs.View.{view}
 use Rattle.tor_spec.specs.valid.Conditions.{Condition, holds, of_both}
-use Rattle.tor_spec.specs.valid.SidesAgree.{alignment, files_differ}
+use Rattle.tor_spec.specs.valid.SidesAgree.{alignment, attr_differs, files_differ}
 use Rattle.tor_spec.specs.valid.Conditions as conditions
 use Rattle.tor_spec.specs.valid.Parts.{info_of, is_private, kind_of, name_of, piece_length_of}
 use Rattle.tor_check.specs.Refusals.{refusal_for}
@@ -40,15 +40,16 @@ abbrev pub layer_conditions : List Condition
 layer_conditions =
     conditions.LayersAbsent ∷ conditions.LayerAbsent ∷ conditions.LayerLength ∷ conditions.LayerRoot ∷ []
 
--- V22 and V23
+-- V22, V23 and V25
 abbrev pub alignment_conditions : List Condition
-alignment_conditions = conditions.FilesDiffer ∷ conditions.Alignment ∷ []
+alignment_conditions = conditions.FilesDiffer ∷ conditions.Alignment ∷ conditions.AttrDiffer ∷ []
 
 -- the first of them that holds
 abbrev pub first_of_alignment : Data → Option Condition
 first_of_alignment info =
     if of_both files_differ info then Some conditions.FilesDiffer else (
-    if of_both alignment info then Some conditions.Alignment else None)
+    if of_both alignment info then Some conditions.Alignment else (
+    if of_both attr_differs info then Some conditions.AttrDiffer else None))
 
 pub record IsHeadOf (root : Data) (head : Head) : Type 0 where
   pub info : view head.info.now ≡ info_of root

@@ -9,7 +9,7 @@ use Rattle.tor_spec.specs.valid.ListSide.{ListedFile, entries_of, has_list, lett
 use Rattle.tor_spec.specs.valid.ListSide.{list_duplicate, list_file_and_folder, list_length, list_no_files}
 use Rattle.tor_spec.specs.valid.ListSide.{list_pieces, list_shape, list_symlink, list_too_large}
 use Rattle.tor_spec.specs.valid.Parts.{is_list, items_of_list, name_of, part}
-use Rattle.tor_tree.specs.Properties.{are_properties, has_letter, letter_h, letter_l, letter_x}
+use Rattle.tor_tree.specs.Properties.{are_properties, has_attr, has_letter, letter_h, letter_l, letter_x}
 use Rattle.tor_tree.specs.Properties.{signed_length}
 use Rattle.tor_tree.specs.declared.tree_file.TreeFile.{TreeFile}
 use Rattle.tor_check.specs.declared.listed.Listed.{Listed}
@@ -19,6 +19,7 @@ use Rattle.tor_check.specs.declared.marks.Marks.{Marks}
 abbrev pub marks_of : Data → Marks
 marks_of file = record {
   length = signed_length file;
+  has_attr = has_attr file;
   pad = has_letter letter_p file;
   link = has_letter letter_l file;
   exec = has_letter letter_x file;
@@ -51,6 +52,7 @@ file_of_listed listed = record {
   path = unwrap_or listed.path [];
   size = size_of_listed listed;
   pad = is_none listed.path;
+  has_attr = listed.marks.has_attr;
   exec = listed.marks.exec;
   hidden = listed.marks.hidden;
 }

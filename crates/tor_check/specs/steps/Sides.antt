@@ -63,6 +63,7 @@ number_of refusals.LayerRoot = 21
 number_of refusals.FilesDiffer = 22
 number_of refusals.Alignment = 23
 number_of refusals.Memory = 24
+number_of refusals.AttrDiffer = 25
 
 -- the one of the lesser number
 abbrev pub earlier : Condition → Condition → Condition

@@ -1,4 +1,4 @@
--- Which bytes are a torrent: the spelling of a tree of which none of 22 conditions holds.
+-- Which bytes are a torrent: the spelling of a tree of which none of 23 conditions holds.
 use Rattle.std.specs.Prelude.{◌≡◌, ℕ, Bool, ◌&&◌, ◌||◌, List, [], ◌∷◌, find, Option, None}
 use Rattle.tor_bencode.specs.Data.{Data}
 use Rattle.tor_bencode.specs.Lawful.{IsLawful}
@@ -11,7 +11,7 @@ use Rattle.tor_spec.specs.valid.Layers as layers
 use Rattle.tor_spec.specs.valid.SidesAgree as sides
 use Rattle.tor_spec.specs.valid.Parts.{info_of, kind_of}
 
--- why a tree is no torrent: V2 to V23
+-- why a tree is no torrent: V2 to V23, and V25
 pub data Condition : Type 0 where
   RootShape : Condition
   InfoShape : Condition
@@ -35,13 +35,14 @@ pub data Condition : Type 0 where
   LayerRoot : Condition
   FilesDiffer : Condition
   Alignment : Condition
+  AttrDiffer : Condition
 
 -- in the order in which they are answered
 abbrev pub conditions : List Condition
 conditions =
     RootShape ∷ InfoShape ∷ MetaVersion ∷ PieceLength ∷ Name ∷ LengthAndFiles ∷ FileShape ∷ FileLength ∷
     Duplicate ∷ FileAndFolder ∷ NoFiles ∷ TooLarge ∷ Symlink ∷ PiecesLength ∷ MixedNode ∷ RootHash ∷
-    LayersAbsent ∷ LayerAbsent ∷ LayerLength ∷ LayerRoot ∷ FilesDiffer ∷ Alignment ∷ []
+    LayersAbsent ∷ LayerAbsent ∷ LayerLength ∷ LayerRoot ∷ FilesDiffer ∷ Alignment ∷ AttrDiffer ∷ []
 
 -- there is a v1 side of which it holds
 abbrev pub of_list : (Data → Bool) → Data → Bool
@@ -79,6 +80,7 @@ holds root LayerLength = has_v2 (kind_of (info_of root)) && layers.layer_length 
 holds root LayerRoot = has_v2 (kind_of (info_of root)) && layers.layer_root root
 holds root FilesDiffer = of_both sides.files_differ (info_of root)
 holds root Alignment = of_both sides.alignment (info_of root)
+holds root AttrDiffer = of_both sides.attr_differs (info_of root)
 
 -- why the tree is no torrent: the first condition that holds
 abbrev pub refusal_of : Data → Option Condition

@@ -9,7 +9,7 @@ use Rattle.tor_bencode.specs.Data.{Data}
 use Rattle.tor_bencode.specs.Find.{value_of}
 use Rattle.tor_tree.specs.FileList.{lengths_too_large, paths_nest, paths_repeat}
 use Rattle.tor_tree.specs.Name.{name_fault}
-use Rattle.tor_tree.specs.Properties.{are_properties, as_string, has_letter, has_negative_length}
+use Rattle.tor_tree.specs.Properties.{are_properties, as_string, has_attr, has_letter, has_negative_length}
 use Rattle.tor_tree.specs.Properties.{length_of, letter_h, letter_l, letter_x}
 use Rattle.tor_merkle.specs.declared.TheConstants.{MAX_LENGTH}
 use Rattle.tor_tree.specs.declared.lists.TheConstants.{MAX_TOTAL}
@@ -25,6 +25,7 @@ pub record ListedFile : Type 0 where
   pub path : List (List ℕ)
   pub size : ℕ
   pub pad : Bool
+  pub has_attr : Bool
   pub exec : Bool
   pub hidden : Bool
 
@@ -38,6 +39,7 @@ entry_file entry = record {
   path = if has_letter letter_p entry then [] else names_of (part (codes "path") entry);
   size = length_of entry;
   pad = has_letter letter_p entry;
+  has_attr = has_attr entry;
   exec = has_letter letter_x entry;
   hidden = has_letter letter_h entry;
 }
@@ -48,6 +50,7 @@ single_file info = record {
   path = name_of info ∷ [];
   size = length_of info;
   pad = false;
+  has_attr = has_attr info;
   exec = has_letter letter_x info;
   hidden = has_letter letter_h info;
 }

@@ -1,12 +1,15 @@
--- Where the two sides of a hybrid describe the same files at the same offsets (BEP 52, "Upgrade Path"; BEP 47, "padding
--- files").
+-- Where the two sides of a hybrid describe the same files at the same offsets and with the same letters (BEP 52, "Upgrade
+-- Path"; BEP 47, "padding files" and "attr").
 use Rattle.std.specs.Prelude.{◌≡◌, ℕ, ◌==◌, Bool, false, not, ◌&&◌, ◌||◌, List, [], ◌∷◌, ◌++◌, map, filter, find}
 use Rattle.std.specs.Prelude.{reverse, sum_by, nat_lt, ◌+◌}
 use Rattle.std.specs.Prelude.{unwrap_or, option_map, if◌then◌else◌}
+use Rattle.std.specs.Bool.{beq}
 use Rattle.std.specs.Cmp.Lexicographic.{pointwise}
 use Rattle.std.specs.Int.{next_multiple_of}
+use Rattle.std.specs.List.{list_any, zip}
 use Rattle.tor_bencode.specs.Data.{Data}
 use Rattle.tor_tree.specs.Path.{path_eq}
+use Rattle.tor_tree.specs.declared.tree_file.TreeFile.{TreeFile}
 use Rattle.tor_v1.specs.Entries.{padding_length}
 use Rattle.tor_spec.specs.valid.ListSide.{ListedFile, joined_size, listed_files, side_files}
 use Rattle.tor_spec.specs.valid.Parts.{piece_length_of}
@@ -66,7 +69,20 @@ alignment info =
     is_misaligned_after (piece_length_of info) [] (side_files info)
     || has_wrong_tail (piece_length_of info) (side_files info)
 
+-- `attr` is there on both sides, and an `x` or an `h` on one of them alone
+abbrev pub letters_differ : ListedFile → TreeFile → Bool
+letters_differ listed file =
+    (listed.has_attr && file.has_attr) && (not (beq listed.exec file.exec) || not (beq listed.hidden file.hidden))
+
+abbrev pub some_letters_differ : List ListedFile → List TreeFile → Bool
+some_letters_differ listed files = list_any (λ pair. letters_differ pair.0 pair.1) (zip listed files)
+
+-- V25: some file has other letters on one side than on the other
+abbrev pub attr_differs : Data → Bool
+attr_differs info = some_letters_differ (listed_files info) (tree_files info)
+
 -- the sides of a hybrid agree
 pub record SidesAgree (info : Data) : Type 0 where
   pub files : files_differ info ≡ false
   pub aligned : alignment info ≡ false
+  pub letters : attr_differs info ≡ false

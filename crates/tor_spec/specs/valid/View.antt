@@ -1,5 +1,5 @@
 -- What a torrent describes.
-use Rattle.std.specs.Prelude.{ℕ, Bool, List, [], map, sum_by, codes, None, unwrap_or, if◌then◌else◌}
+use Rattle.std.specs.Prelude.{ℕ, Bool, ◌||◌, List, [], ◌∷◌, map, sum_by, codes, None, unwrap_or, if◌then◌else◌}
 use Rattle.tor_bencode.specs.Data.{Data}
 use Rattle.tor_bencode.specs.Span.{span_of}
 use Rattle.tor_tree.specs.Kinds.{has_v1, has_v2}
@@ -40,11 +40,33 @@ file_of_list listed = record {
     path = listed.path;
     length = listed.size;
     root = None;
+    has_attr = listed.has_attr;
     exec = listed.exec;
     hidden = listed.hidden;
   };
   layer = [];
 }
+
+-- a file of a hybrid: it has the letters that the tree has for it, or else those of the v1 side
+abbrev pub with_letters : ListedFile → TreeFile → TreeFile
+with_letters listed file = record {
+  path = file.path;
+  length = file.length;
+  root = file.root;
+  has_attr = file.has_attr || listed.has_attr;
+  exec = if file.has_attr then file.exec else listed.exec;
+  hidden = if file.has_attr then file.hidden else listed.hidden;
+}
+
+-- the files of the tree, each with the letters of both sides; without a v1 side with its own
+abbrev pub lettered : List ListedFile → List TreeFile → List TreeFile
+lettered listed [] = []
+lettered [] (file ∷ files) = file ∷ lettered [] files
+lettered (one ∷ listed) (file ∷ files) = with_letters one file ∷ lettered listed files
+
+-- the files of a torrent with a v2 side
+abbrev pub files_of_both : Data → List TreeFile
+files_of_both info = lettered (if has_v1 (kind_of info) then listed_files info else []) (tree_files info)
 
 abbrev pub file_of_tree : Data → TreeFile → FileView
 file_of_tree root file = record {
@@ -58,7 +80,7 @@ entry_of_file listed = if listed.pad then pad_entry listed.size else file_entry 
 
 abbrev pub files_of : Data → List FileView
 files_of root =
-    if has_v2 (kind_of (info_of root)) then map (file_of_tree root) (tree_files (info_of root))
+    if has_v2 (kind_of (info_of root)) then map (file_of_tree root) (files_of_both (info_of root))
     else map file_of_list (listed_files (info_of root))
 
 abbrev pub tree_piece_count : Data → ℕ

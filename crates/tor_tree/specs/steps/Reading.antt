@@ -3,7 +3,7 @@ use Rattle.std.specs.Prelude.{pos, unsigned_abs, int_lt, ℕ, ◌==◌, ◌&&◌
 use Rattle.std.specs.Prelude.{Option, None, Some, is_none, unwrap_or, if◌then◌else◌}
 use Rattle.tor_bencode.specs.Data.{Data}
 use Rattle.tor_bencode.specs.Find.{value_of}
-use Rattle.tor_tree.specs.Properties.{are_properties, signed_length, is_hash, pieces_root, has_letter}
+use Rattle.tor_tree.specs.Properties.{are_properties, has_attr, has_letter, is_hash, pieces_root, signed_length}
 use Rattle.tor_tree.specs.Properties.{letter_l, letter_x, letter_h}
 use Rattle.std.specs.Prelude.{codes}
 use Rattle.std.specs.List.{list_any}
@@ -22,6 +22,7 @@ abbrev pub facts_in : Data → Properties
 facts_in file = record {
   length = signed_length file;
   root = hash_of file;
+  has_attr = has_attr file;
   link = has_letter letter_l file;
   exec = has_letter letter_x file;
   hidden = has_letter letter_h file;
@@ -58,6 +59,7 @@ file_from entry = record {
   path = unwrap_or entry.path [];
   length = unsigned_abs entry.properties.length;
   root = if unsigned_abs entry.properties.length == 0 then None else entry.properties.root;
+  has_attr = entry.properties.has_attr;
   exec = entry.properties.exec;
   hidden = entry.properties.hidden;
 }

@@ -11,6 +11,7 @@ returns c =
     rw (
       same,
       marks,
+      c.has_attr.ensures,
       c.contains.ensures.value,
       c.contains-2.ensures.value,
       c.contains-3.ensures.value,
