@@ -1,9 +1,10 @@
-"""Foreign torrents: each condition of the 23, in each way it can come about, and what is read leniently.
+"""Foreign torrents: each condition of the 24, in each way it can come about, and what is read leniently.
 
 A row edits one place of a lawful torrent: the torrent, the place (keys and numbers from the root), what stands there
 then, and the line that is wanted; None is that it is a torrent, of which `check` tells what the reference does.
 """
 import copy
+from itertools import product
 
 import reference
 from reference import BLOCK, Order, Refused, decode, encode, judge, make
@@ -51,6 +52,11 @@ def edited(root, place, value):
     else:
         at[place[-1]] = value
     return root
+
+
+def with_attr(root, place, attr):
+    """The torrent with this `attr` of what stands at a place, or with none where it is GONE."""
+    return root if attr is GONE else edited(root, place + (b'attr',), attr)
 
 
 def rows_of(line, bases, place, values):
@@ -299,6 +305,32 @@ def test_links_and_pieces(program, folder):
 
 def test_sides(program, folder):
     expect_rows(program, folder, side_rows())
+
+
+def test_letters(program, folder):
+    """The letters of a file of a hybrid are to be the same where both sides have its `attr`, whatever else it has."""
+    attrs = [GONE, b'', b'x', b'h', b'hx', b'xh', b'xxh', b'z', b'zh', b'X']
+    cases = [('hybrid', A_FILE, FIRST), ('hybrid', TREE + (b'b', b'd', b''), INFO + (b'files', 4)),
+             ('hybrid', TREE + (b'e', b''), INFO + (b'files', 5)), ('hybrid file', A_FILE, INFO)]
+    for name, in_tree, in_list in cases:
+        for tree, listed in product(attrs, attrs):
+            root = with_attr(with_attr(BASES[name], in_tree, tree), in_list, listed)
+            both = tree is not GONE and listed is not GONE
+            differ = both and any((letter in tree) != (letter in listed) for letter in b'xh')
+            expect_torrent(program, folder, encode(root), 'V25 AttrDiffer' if differ else None,
+                           f'{name}, {in_list}: {tree!r} in the tree, {listed!r} in the list')
+    # A `p` in the tree, or beside a single length, means nothing; every other condition is told first.
+    for tree, listed, line in [(b'p', b'x', 'V25 AttrDiffer'), (b'px', b'x', None), (b'l', b'x', 'V14 Symlink')]:
+        root = with_attr(with_attr(BASES['hybrid'], A_FILE, tree), FIRST, listed)
+        expect_torrent(program, folder, encode(root), line, f'{tree!r} in the tree, {listed!r} in the list')
+    root = with_attr(with_attr(BASES['hybrid file'], A_FILE, b'x'), INFO, b'px')
+    expect_torrent(program, folder, encode(root), None, 'p beside a single length')
+    root = with_attr(with_attr(BASES['hybrid'], A_FILE, b'x'), FIRST, b'h')
+    files = root[b'info'][b'files']
+    for entries, line in [(files[:2] + files[3:], 'V22 FilesDiffer'), (files[:1] + files[2:], 'V23 Alignment')]:
+        changed = edited(root, INFO + (b'files',), entries)
+        changed[b'info'][b'pieces'] = bytes(20 * -(-sum(entry[b'length'] for entry in entries) // BLOCK))
+        expect_torrent(program, folder, encode(changed), line, f'{line} before the letters')
 
 
 def test_lenient(program, folder):

@@ -24,7 +24,7 @@ NAMES = {
     'V7': 'LengthAndFiles', 'V8': 'FileShape', 'V9': 'FileLength', 'V10': 'Duplicate', 'V11': 'FileAndFolder',
     'V12': 'NoFiles', 'V13': 'TooLarge', 'V14': 'Symlink', 'V15': 'PiecesLength', 'V16': 'MixedNode',
     'V17': 'RootHash', 'V18': 'LayersAbsent', 'V19': 'LayerAbsent', 'V20': 'LayerLength', 'V21': 'LayerRoot',
-    'V22': 'FilesDiffer', 'V23': 'Alignment', 'P1': 'Index', 'P2': 'NoTree',
+    'V22': 'FilesDiffer', 'V23': 'Alignment', 'V25': 'AttrDiffer', 'P1': 'Index', 'P2': 'NoTree',
     'F1': 'NotUtf8', 'F2': 'NotRegular', 'F3': 'TooDeep', 'F4': 'System',
 }
 
@@ -583,6 +583,20 @@ def misaligned(torrent):
     return padding not in (0, lacking)
 
 
+def attr_differs(torrent):
+    """Whether a hybrid has `attr` of a file on both sides, and `x` or `h` on one of them alone."""
+    if torrent.kind != 'hybrid':
+        return False
+    def letters(described):
+        return {letter for letter in b'xh' if letter in described[b'attr']} if b'attr' in described else None
+    if b'length' in torrent.info:
+        listed = [torrent.info]
+    else:
+        listed = [entry for entry in torrent.info[b'files'] if b'p' not in entry.get(b'attr', b'')]
+    pairs = [(letters(one), letters(other)) for one, (_, other) in zip(listed, torrent.tree_files)]
+    return any(None not in pair and pair[0] != pair[1] for pair in pairs)
+
+
 CONDITIONS = [
     ('V2', lambda torrent: not isinstance(torrent.root, dict)),
     ('V3', lambda torrent: not isinstance(torrent.info, dict)),
@@ -590,6 +604,7 @@ CONDITIONS = [
     ('V9', negative_length), ('V10', duplicate), ('V11', file_and_folder), ('V12', no_files), ('V13', too_large),
     ('V14', symlink), ('V15', pieces_length), ('V16', mixed_node), ('V17', root_hash), ('V18', layers_absent),
     ('V19', layer_absent), ('V20', layer_length), ('V21', layer_root), ('V22', files_differ), ('V23', misaligned),
+    ('V25', attr_differs),
 ]
 
 
