@@ -3,7 +3,8 @@ use Rattle.tor_check.proofs.Names.{◌≡◌, ℕ, true, false, true≢false, Bo
 use Rattle.tor_check.proofs.Names.{refl, sym, option_map, if◌then◌else◌, Data, refusal_for, all_listed, files_from}
 use Rattle.tor_check.proofs.Names.{sized_files, tree_pairs, first_of_alignment, files_if, listed_if, Listed, side_files}
 use Rattle.tor_check.proofs.Names.{without_padding, info_of, kind_of, piece_length_of, alignment, files_differ}
-use Rattle.tor_check.proofs.Names.{attr_differs, files_of_both, has_wrong_tail, is_misaligned_after, lettered, listed_files, same_files}
+use Rattle.tor_check.proofs.Names.{attr_differs, files_of_both, has_wrong_tail, is_misaligned_after, lettered}
+use Rattle.tor_check.proofs.Names.{listed_files, same_files}
 use Rattle.tor_check.proofs.Names.{some_letters_differ, tree_files, entry_of_file}
 use Rattle.tor_check.proofs.Names.{file_of_list, files_of, has_v1, has_v2, Kind, V1, V2, Hybrid, TreeFile}
 use Rattle.tor_check.proofs.Names.{layers_of, viewed}

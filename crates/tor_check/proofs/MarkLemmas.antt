@@ -1,6 +1,7 @@
 -- What is read of a file's dictionary, from its parts.
 use Rattle.tor_check.proofs.Names.{◌≡◌, ℕ, ℤ, true, ◌||◌, cond, List, [], Option, None, Some, is_some, is_none}
-use Rattle.tor_check.proofs.Names.{unwrap_or, codes, refl, ap, Data, value_of, marks_in, marks_of, letter_p, has_attr, has_byte}
+use Rattle.tor_check.proofs.Names.{unwrap_or, codes, refl, ap, Data, value_of, marks_in, marks_of, letter_p, has_attr}
+use Rattle.tor_check.proofs.Names.{has_byte}
 use Rattle.tor_check.proofs.Names.{are_properties, as_integer, as_string, letters_of, letter_l, letter_x, letter_h}
 
 with_attr : (attr : Option Data) (letters : List ℕ) → cond (is_none attr) (Some []) (as_string attr) ≡ Some letters

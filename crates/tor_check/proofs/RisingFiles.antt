@@ -2,7 +2,8 @@
 use Rattle.tor_check.proofs.Names.{◌≡◌, ℕ, true, List, [], ◌∷◌, map, Option, None, Some, unwrap_or, codes, ap, refl}
 use Rattle.tor_check.proofs.Names.{subst, sym, value_has_rising_keys, Data, dictionary, no_pairs, value_of}
 use Rattle.tor_check.proofs.Names.{HasRisingKeys, HasRisingPaths, IsViewOfValid, info_of, kind_of, part, tree_files}
-use Rattle.tor_check.proofs.Names.{tree_of, FileView, View, file_of_tree, files_of_both, view_of, rising_paths, has_v1, has_v2, TreeFile}
+use Rattle.tor_check.proofs.Names.{tree_of, FileView, View, file_of_tree, files_of_both, view_of, rising_paths, has_v1}
+use Rattle.tor_check.proofs.Names.{has_v2, TreeFile}
 use Rattle.tor_check.proofs.Names.{if◌then◌else◌, listed_files, map_lettered}
 
 -- the keys of a part rise where those of the whole do

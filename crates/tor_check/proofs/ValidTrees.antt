@@ -6,7 +6,8 @@ use Rattle.tor_check.proofs.Names.{bytes_eq, eqb-false, lt-ltb, bytes_eq-Decides
 use Rattle.tor_check.proofs.Names.{IsViewOfValid, IsPieceLength, piece_level, padded_root, refusal_of, has_other_root}
 use Rattle.tor_check.proofs.Names.{is_misshaped, layer_length, layer_of, layer_root, layer_text, layers_of}
 use Rattle.tor_check.proofs.Names.{root_of_file, info_of, kind_of, piece_length_of, tree_files, tree_of, tree_root}
-use Rattle.tor_check.proofs.Names.{FileView, View, file_of_tree, files_of, files_of_both, entries_of, file_of, lacks_root, has_v1}
+use Rattle.tor_check.proofs.Names.{FileView, View, file_of_tree, files_of, files_of_both, entries_of, file_of}
+use Rattle.tor_check.proofs.Names.{lacks_root, has_v1}
 use Rattle.tor_check.proofs.Names.{has_v2, if◌then◌else◌, lettered_case, listed_files, with_letters, ListedFile}
 use Rattle.tor_check.proofs.Names.{as_integer, is_hash, length_of, pieces_root, MAX_LENGTH, TreeFile}
 use Rattle.tor_check.proofs.Bounds.{small_files}

@@ -85,6 +85,7 @@ no_torrent bytes refusals.LayerLength why = (why, λ same. cc)
 no_torrent bytes refusals.LayerRoot why = (why, λ same. cc)
 no_torrent bytes refusals.FilesDiffer why = (why, λ same. cc)
 no_torrent bytes refusals.Alignment why = (why, λ same. cc)
+no_torrent bytes refusals.AttrDiffer why = (why, λ same. cc)
 no_torrent bytes refusals.Memory why = tt
 
 module _ (lines : View → Hashes → List ℕ) (s : Streams) (untouched : IsUntouched s) where

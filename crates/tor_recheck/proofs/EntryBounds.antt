@@ -5,7 +5,8 @@ use Rattle.tor_recheck.proofs.Names.{or_parts, All-from_recursion, sum_by-cons, 
 use Rattle.tor_recheck.proofs.Names.{lengths_of_entries, has_padding, joined_size, ListedFile, sizes_too_large}
 use Rattle.tor_recheck.proofs.Names.{without_padding, info_of, tree_files, tree_of, tree_too_large, file_of_tree}
 use Rattle.tor_recheck.proofs.Names.{FileView, lengths_too_large, MAX_LENGTH, MAX_TOTAL, ROUNDING, TreeFile, file_entry}
-use Rattle.tor_recheck.proofs.Names.{Entry}
+use Rattle.tor_recheck.proofs.Names.{Entry, files_of_both, has_v1, kind_of, listed_files, map_lettered}
+use Rattle.tor_recheck.proofs.Names.{if◌then◌else◌}
 use Rattle.tor_recheck.proofs.ListedFiles.{entries_of, joined_entries, lengths_of_listed, size_of}
 use Rattle.tor_recheck.proofs.MerklePieces.{length_of}
 use Rattle.tor_recheck.proofs.PieceSides.{lengths_of_told}
@@ -65,10 +66,17 @@ abbrev pub told_entry : FileView → Entry
 told_entry told = file_entry (told.file.path, told.file.length)
 
 abbrev pub told_files : Data → List FileView
-told_files root = map (file_of_tree root) (tree_files (info_of root))
+told_files root = map (file_of_tree root) (files_of_both (info_of root))
 
 abbrev length_of_file : TreeFile → ℕ
 length_of_file file = file.length
+
+-- letters change no length
+pub lengths_of_both : (info : Data)
+    → map length_of_file (files_of_both info) ≡ map length_of_file (tree_files info)
+lengths_of_both info =
+    map_lettered length_of_file (λ listed file. refl) (if has_v1 (kind_of info) then listed_files info else [])
+    (tree_files info)
 
 pub lengths_told : (root : Data) (files : List TreeFile)
     → map length_of (map (file_of_tree root) files) ≡ map length_of_file files
@@ -97,7 +105,7 @@ pub small_told : (root : Data) → tree_too_large (info_of root) ≡ false → A
 small_told root none =
     let info = info_of root in
     let files = told_files root in
-    let same = lengths_told root (tree_files info) in
+    let same = lengths_told root (files_of_both info) ∙ lengths_of_both info in
     let small = small_lengths (map length_of_file (tree_files info))
     (ap lengths_too_large (lengths_of_tree (file_tree.entries_of (tree_of info))) ∙ none) in
     let total = total_told files ∙ ap sum same in

@@ -20,6 +20,7 @@ marked pad file = record {
   path = file.path;
   size = file.size;
   pad = pad;
+  has_attr = file.has_attr;
   exec = file.exec;
   hidden = file.hidden;
 }

@@ -35,6 +35,7 @@ pub use Rattle.std.proofs.lemmas.Option.{slice_get-get_or, slice_get_past}
 pub use Rattle.std.specs.Int.{bit_at, div_ceil, next_multiple_of}
 pub use Rattle.std.specs.List.{All, AllByRecursion, flat_map, list_all, list_any, range_with_len}
 pub use Rattle.std.specs.Option.{option_eq, option_or}
+pub use Rattle.std.specs.Prelude.{if◌then◌else◌}
 pub use Rattle.std.specs.Prelude.{filter, slice_get}
 pub use Rattle.std.specs.Str.{bytes_eq}
 pub use Rattle.tor_bencode.specs.Data.{Data}
@@ -102,7 +103,8 @@ pub use Rattle.tor_spec.specs.valid.SidesAgree.{is_misaligned_after, last_size, 
 pub use Rattle.tor_spec.specs.valid.SidesAgree.{same_files, size_before, tail_size}
 pub use Rattle.tor_spec.specs.valid.TreeSide.{tree_files, tree_of, tree_too_large}
 pub use Rattle.tor_spec.specs.valid.View.{FileView, View, entry_of_file, file_of_list, file_of_tree, tree_piece_count}
-pub use Rattle.tor_spec.specs.valid.View.{view_of}
+pub use Rattle.tor_spec.specs.valid.View.{files_of_both, view_of}
+pub use Rattle.tor_spec.proofs.ProvedLaws.{map_lettered, sum_lettered}
 pub use Rattle.tor_tree.specs.FileList.{lengths_too_large}
 pub use Rattle.tor_tree.specs.Kinds.{has_v1, has_v2}
 pub use Rattle.tor_tree.specs.Path.{path_eq}

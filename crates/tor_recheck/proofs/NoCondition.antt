@@ -26,7 +26,7 @@ found_none p [] e = tt
 found_none p (c ∷ cs) e = found_in_front p c cs (found_none p cs) e
 
 -- the condition at an index of the row, counted from V2, does not hold
-not_held : (root : Data) → refusal_of root ≡ None → (i : ℕ) → i < 22
+not_held : (root : Data) → refusal_of root ≡ None → (i : ℕ) → i < 23
     → holds root (get_or conditions i named.RootShape) ≡ false
 not_held root none i within =
     All-get_or (λ c. holds root c ≡ false) conditions i named.RootShape within

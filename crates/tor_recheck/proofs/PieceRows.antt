@@ -12,7 +12,7 @@ pad m = record { path = []; length = m; pad = true }
 
 abbrev told : ℕ → List (List ℕ) → FileView
 told m layer = record {
-  file = record { path = []; length = m; root = None; exec = false; hidden = false };
+  file = record { path = []; length = m; root = None; has_attr = false; exec = false; hidden = false };
   layer = layer;
 }
 

@@ -7,8 +7,11 @@ use Rattle.tor_recheck.proofs.Names.{listed_files, ListedFile, side_files, side_
 use Rattle.tor_recheck.proofs.Names.{kind_of, name_of, part, piece_length_of, text_of, files_differ, has_wrong_tail}
 use Rattle.tor_recheck.proofs.Names.{is_misaligned_after, listed_by_list, listed_by_tree, same_files, tree_files}
 use Rattle.tor_recheck.proofs.Names.{entry_of_file, file_of_list, file_of_tree, FileView, tree_piece_count, View}
-use Rattle.tor_recheck.proofs.Names.{view_of, has_v1, has_v2, path_eq, Kind, V1, V2, Hybrid, TreeFile}
-use Rattle.tor_recheck.proofs.EntryBounds.{lengths_told, no_padding_told, small_listed, small_told, told_files}
+use Rattle.tor_recheck.proofs.Names.{view_of, has_v1, has_v2, path_eq, Kind, V1, V2, Hybrid, TreeFile, files_of_both}
+use Rattle.tor_recheck.proofs.Names.{sum_lettered}
+use Rattle.tor_recheck.proofs.Names.{if◌then◌else◌}
+use Rattle.tor_recheck.proofs.EntryBounds.{lengths_of_both, lengths_told, no_padding_told, small_listed, small_told}
+use Rattle.tor_recheck.proofs.EntryBounds.{told_files}
 use Rattle.tor_recheck.proofs.ListedFiles.{joined_entries, lengths_of_listed, size_of}
 use Rattle.tor_recheck.proofs.ListedPadded.{laid_out}
 use Rattle.tor_recheck.proofs.MerklePieces.{length_of}
@@ -52,7 +55,7 @@ sides_same root none =
     let listed = listed_by_list info in
     let others = listed_by_tree info in
     sym (sizes_of_list (listed_files info)) ∙ same_sizes listed others (not-false (same_files listed others) none)
-    ∙ sizes_of_tree (tree_files info) ∙ sym (lengths_told root (tree_files info))
+    ∙ sizes_of_tree (tree_files info) ∙ sym (lengths_told root (files_of_both info) ∙ lengths_of_both info)
 
 -- ---- the number of pieces
 
@@ -65,6 +68,15 @@ pieces_of_tree root p (file ∷ files) =
     ∙ ap (λ n. pieces_in p file.length + n) (pieces_of_tree root p files)
     ∙ sym (sum_by-cons (λ (told : FileView). pieces_in p told.file.length) (file_of_tree root file)
     (map (file_of_tree root) files))
+
+pieces_of_both : (root : Data) (p : ℕ)
+    → sum_by (λ (file : TreeFile). pieces_in p file.length) (tree_files (info_of root))
+    ≡ sum_by (λ (told : FileView). pieces_in p told.file.length) (told_files root)
+pieces_of_both root p =
+    let info = info_of root in
+    sym (sum_lettered (λ file. pieces_in p file.length) (λ listed file. refl)
+    (if has_v1 (kind_of info) then listed_files info else []) (tree_files info))
+    ∙ pieces_of_tree root p (files_of_both info)
 
 -- ---- by kind
 
@@ -114,7 +126,7 @@ module _ (root : Data) where
         };
         pieces = kept.pieces;
         same = λ one. cc;
-        count = pieces_of_tree root p (tree_files info);
+        count = pieces_of_both root p;
       }
 
   hybrid_cut : IsKept Hybrid info → IsCut (view_as root Hybrid)
@@ -130,7 +142,7 @@ module _ (root : Data) where
         };
         pieces = kept.pieces;
         same = λ one. lengths_of_listed files ∙ sides_same root (kept.files refl refl);
-        count = pieces_of_tree root p (tree_files info);
+        count = pieces_of_both root p;
       }
 
   cut_as : (kind : Kind) → IsKept kind info → IsCut (view_as root kind)

@@ -38,7 +38,7 @@ pieces_of view = entry_units view.kind view.piece_length 1 (entries_to_cut view)
 -- an empty file
 abbrev pub no_file : FileView
 no_file = record {
-  file = record { path = []; length = 0; root = None; exec = false; hidden = false };
+  file = record { path = []; length = 0; root = None; has_attr = false; exec = false; hidden = false };
   layer = [];
 }
 

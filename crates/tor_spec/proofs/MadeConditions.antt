@@ -4,11 +4,13 @@ use Rattle.tor_spec.proofs.Names.{is_some, None, refl, sym, ap, ◌∙◌, arith
 use Rattle.tor_spec.proofs.Names.{cond-true, le-leb, not_from_true, or_from, All-map, list_any_none, Data, integer}
 use Rattle.tor_spec.proofs.Names.{dictionary, piece_length_bounds, IsPieceLength, when, Facts, File, AreMade}
 use Rattle.tor_spec.proofs.Names.{facts_of_files, piece_layers, Settings, Condition, conditions, holds, of_both}
-use Rattle.tor_spec.proofs.Names.{of_list, of_tree, refusal_of, Alignment, AttrDiffer, Duplicate, FileAndFolder, FileLength}
+use Rattle.tor_spec.proofs.Names.{of_list, of_tree, refusal_of, Alignment, AttrDiffer, Duplicate, FileAndFolder}
+use Rattle.tor_spec.proofs.Names.{FileLength}
 use Rattle.tor_spec.proofs.Names.{FileShape, FilesDiffer, InfoShape, LayerAbsent, LayerLength, LayerRoot, LayersAbsent}
 use Rattle.tor_spec.proofs.Names.{LengthAndFiles, MetaVersion, MixedNode, Name, NoFiles, PieceLength, PiecesLength}
 use Rattle.tor_spec.proofs.Names.{RootHash, RootShape, Symlink, TooLarge, info_of, is_number, kind_of, piece_length_of}
-use Rattle.tor_spec.proofs.Names.{SidesAgree, alignment, attr_differs, files_differ, tree_files, is_dictionary, has_v1, has_v2, Kind}
+use Rattle.tor_spec.proofs.Names.{SidesAgree, alignment, attr_differs, files_differ, tree_files, is_dictionary, has_v1}
+use Rattle.tor_spec.proofs.Names.{has_v2, Kind}
 use Rattle.tor_spec.proofs.Names.{V1, V2, Hybrid, TreeFile}
 use Rattle.tor_spec.proofs.MadeView.{layers_found}
 use Rattle.tor_spec.proofs.MadeHeads.{IsInfo, IsRootWith, info_told, kind_told, piece_length_told, plain_file}

@@ -1,7 +1,8 @@
 -- The v1 side of a made torrent has the entries of its files, also where it is of one file, and tells of them.
 use Rattle.tor_spec.proofs.Names.{◌≡◌, ℕ, pos, ◌+◌, Bool, true, false, not, ◌&&◌, List, [], ◌∷◌, map, length, refl, ap}
 use Rattle.tor_spec.proofs.Names.{ap₂, ◌∙◌, sym, zero-add, codes, unsigned_abs, Option, None, Some, is_some, unwrap_or}
-use Rattle.tor_spec.proofs.Names.{and_from, and_right, if◌then◌else◌, Data, integer, value_of, when, File, listed, files_list}
+use Rattle.tor_spec.proofs.Names.{and_from, and_right, if◌then◌else◌, Data, integer, value_of, when, File, listed}
+use Rattle.tor_spec.proofs.Names.{files_list}
 use Rattle.tor_spec.proofs.Names.{total_size, AreMade, sizes_of, facts_of_files, Settings, is_aligned, layout_of}
 use Rattle.tor_spec.proofs.Names.{ListedFile, listed_files, side_files, single_file, without_padding, name_of, has_v1}
 use Rattle.tor_spec.proofs.Names.{has_byte, as_integer, as_string, letter_h, letter_x, Kind, V1, V2, Hybrid, file_entry}

@@ -5,7 +5,8 @@ use Rattle.tor_spec.proofs.Names.{dictionary, value_of, piece_layer, Facts, File
 use Rattle.tor_spec.proofs.Names.{sizes_of, facts_of_files, pieces_of_files, piece_layers, Settings, layout_of, is_long}
 use Rattle.tor_spec.proofs.Names.{layer_of, layers_of, listed_files, side_files, info_of, is_private, kind_of, name_of}
 use Rattle.tor_spec.proofs.Names.{part, piece_length_of, text_of, tree_files, FileView, entry_of_file, file_of_list}
-use Rattle.tor_spec.proofs.Names.{file_of_tree, files_of, files_of_both, lettered, if◌then◌else◌, view_of, has_v1, has_v2, v1_entries, ◌<◌, length, unwrap_or}
+use Rattle.tor_spec.proofs.Names.{file_of_tree, files_of, files_of_both, lettered, if◌then◌else◌, view_of, has_v1}
+use Rattle.tor_spec.proofs.Names.{has_v2, v1_entries, ◌<◌, length, unwrap_or}
 use Rattle.tor_spec.proofs.Names.{arith, All, Contains-get_or, root_of, joined, layer_text, as_string}
 use Rattle.tor_spec.proofs.MadeHeads.{IsInfo, IsRootWith, info_told, kind_told, name_told, piece_length_told}
 use Rattle.tor_spec.proofs.MadeHeads.{plain_file, private_told}
@@ -90,7 +91,8 @@ module _ (settings : Settings) (files : List File) (made : AreMade settings file
       ap (lettered (if has_v1 (kind_of (info_of root)) then listed_files (info_of root) else [])) tree ∙ by_list b e
     where
       by_list : (b : Bool) → has_v1 settings.kind ≡ b
-          → lettered (if has_v1 (kind_of (info_of root)) then listed_files (info_of root) else []) (map plain_file files)
+          → lettered (if has_v1 (kind_of (info_of root)) then listed_files (info_of root) else [])
+          (map plain_file files)
           ≡ map plain_file files
       by_list true e =
           ap (λ listed. lettered listed (map plain_file files))

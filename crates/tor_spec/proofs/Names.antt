@@ -62,7 +62,8 @@ pub use Rattle.tor_spec.specs.Present.{bytes_in, file_bytes, is_whole, joined_by
 pub use Rattle.tor_spec.specs.Settings.{Settings, is_aligned, layout_of}
 pub use Rattle.tor_spec.specs.Verified.{file_pieces, is_merkle_piece, is_sha1_piece, is_verified, merkle_hash}
 pub use Rattle.tor_spec.specs.Verified.{merkle_pieces, told_hash, verified_pieces}
-pub use Rattle.tor_spec.specs.valid.Conditions.{Alignment, AttrDiffer, Condition, Duplicate, FileAndFolder, FileLength, FileShape}
+pub use Rattle.tor_spec.specs.valid.Conditions.{Alignment, AttrDiffer, Condition, Duplicate, FileAndFolder, FileLength}
+pub use Rattle.tor_spec.specs.valid.Conditions.{FileShape}
 pub use Rattle.tor_spec.specs.valid.Conditions.{FilesDiffer, InfoShape, IsTorrentOf, LayerAbsent, LayerLength}
 pub use Rattle.tor_spec.specs.valid.Conditions.{LayerRoot, LayersAbsent, LengthAndFiles, MetaVersion, MixedNode, Name}
 pub use Rattle.tor_spec.specs.valid.Conditions.{NoFiles, PieceLength, PiecesLength, RootHash, RootShape, Symlink}
@@ -76,7 +77,8 @@ pub use Rattle.tor_spec.specs.valid.ListSide.{without_padding}
 pub use Rattle.tor_spec.specs.valid.Parts.{info_of, is_number, is_private, items_in, items_of_list, kind_of, name_of}
 pub use Rattle.tor_spec.specs.valid.Parts.{part, piece_length_of, text_of}
 pub use Rattle.tor_spec.specs.valid.SidesAgree.{SidesAgree, aligned_after, alignment, attr_differs, files_differ}
-pub use Rattle.tor_spec.specs.valid.SidesAgree.{has_wrong_tail, is_filled, is_misaligned_after, last_size, listed_by_list}
+pub use Rattle.tor_spec.specs.valid.SidesAgree.{has_wrong_tail, is_filled, is_misaligned_after, last_size}
+pub use Rattle.tor_spec.specs.valid.SidesAgree.{listed_by_list}
 pub use Rattle.tor_spec.specs.valid.SidesAgree.{listed_by_tree, same_files, size_before, some_letters_differ, tail_size}
 pub use Rattle.tor_spec.specs.valid.TreeSide.{tree_files, tree_length, tree_mixed, tree_no_files, tree_of, tree_root}
 pub use Rattle.tor_spec.specs.valid.TreeSide.{tree_shape, tree_symlink, tree_too_large}

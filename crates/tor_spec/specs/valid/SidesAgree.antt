@@ -1,4 +1,4 @@
--- Where the two sides of a hybrid describe the same files at the same offsets and with the same letters (BEP 52, "Upgrade
+-- Where the two sides of a hybrid describe the same files at the same offsets, with the same letters (BEP 52, "Upgrade
 -- Path"; BEP 47, "padding files" and "attr").
 use Rattle.std.specs.Prelude.{◌≡◌, ℕ, ◌==◌, Bool, false, not, ◌&&◌, ◌||◌, List, [], ◌∷◌, ◌++◌, map, filter, find}
 use Rattle.std.specs.Prelude.{reverse, sum_by, nat_lt, ◌+◌}
