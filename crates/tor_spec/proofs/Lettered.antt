@@ -1,6 +1,6 @@
 -- Files with the letters of both sides: their paths, lengths and roots are those of the tree, and where no side has a
 -- letter they are the files of the tree.
-use Rattle.tor_spec.proofs.Names.{◌≡◌, ℕ, zero, suc, ◌+◌, false, List, [], ◌∷◌, map, sum_by, length, refl, ap, ap₂, ◌∙◌}
+use Rattle.tor_spec.proofs.Names.{◌≡◌, ℕ, zero, suc, ◌+◌, false, List, [], ◌∷◌, map, sum_by, refl, ap, ap₂, ◌∙◌}
 use Rattle.tor_spec.proofs.Names.{sym, Some, same_Some, slice_get, subst}
 use Rattle.tor_spec.proofs.Names.{sum_by-cons, File, sizes_of, ListedFile, lettered, some_letters_differ, with_letters}
 use Rattle.tor_spec.proofs.Names.{TreeFile}
