@@ -2,10 +2,8 @@
 use Rattle.std.specs.Prelude.{pos, unsigned_abs, int_lt, ℕ, ◌==◌, ◌&&◌, map, nat_lt, Bool, List, [], ◌∷◌, ◌++◌, length}
 use Rattle.std.specs.Prelude.{Option, None, Some, is_none, unwrap_or, if◌then◌else◌}
 use Rattle.tor_bencode.specs.Data.{Data}
-use Rattle.tor_bencode.specs.Find.{value_of}
 use Rattle.tor_tree.specs.Properties.{are_properties, has_attr, has_letter, is_hash, pieces_root, signed_length}
 use Rattle.tor_tree.specs.Properties.{letter_l, letter_x, letter_h}
-use Rattle.std.specs.Prelude.{codes}
 use Rattle.std.specs.List.{list_any}
 use Rattle.tor_tree.specs.FileList.{lengths_too_large}
 use Rattle.tor_tree.specs.declared.tree_file.TreeFile.{TreeFile}
