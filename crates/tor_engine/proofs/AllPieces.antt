@@ -1,9 +1,8 @@
 -- The hashes and the first fault of all pieces of a plan, unit by unit.
-use Rattle.std.proofs.Common.{◌≡◌, ℕ, ◌+◌, List, [], ◌∷◌, ◌++◌, length, map, Option, None, Some, unwrap_or, option_map}
-use Rattle.std.proofs.Common.{refl, ap}
-use Rattle.std.proofs.Common.{ap₂, sym, ◌∙◌}
+use Rattle.std.proofs.Common.{◌≡◌, ℕ, List, [], ◌∷◌, ◌++◌, length, map, Option, None, Some, is_some, unwrap_or}
+use Rattle.std.proofs.Common.{option_map, refl, ap, ap₂, sym, ◌∙◌}
 use Rattle.std.specs.List.{flat_map, range_with_len}
-use Rattle.std.proofs.lemmas.List.{length-append, map-append}
+use Rattle.std.proofs.lemmas.List.{length-map, map-append}
 use Rattle.tor_plan.specs.Pieces.{pieces_of_unit}
 use Rattle.tor_plan.specs.PlanFacts.{PlanFacts}
 use Rattle.tor_plan.specs.declared.units.PlanUnit.{PlanUnit}
@@ -11,6 +10,8 @@ use Rattle.tor_source.specs.Source.{SourceFacts}
 use Rattle.tor_engine.specs.Contents.{contents_in}
 use Rattle.tor_engine.specs.PieceFault.{first_asked_fault, first_piece_fault, lengths_told, piece_fault, pieces_fault}
 use Rattle.tor_engine.specs.PieceHashes.{hash_if_there, pieces_of_plan, piece_hashes}
+use Rattle.tor_engine.specs.There.{HaveHashesOf, is_within}
+use Rattle.tor_engine.specs.declared.piece_hash.PieceHash.{PieceHash}
 use Rattle.tor_engine.specs.declared.piece_work.UnitPieces.{UnitPieces}
 use Rattle.tor_engine.specs.steps.Each.{SumUpEach}
 use Rattle.tor_engine.specs.steps.Pieces.{AreTold, HashesPieces, first_unit_fault, unit_hashes, unit_pieces_fault}
@@ -50,17 +51,24 @@ module _ {F : Type 0} (is_steady : SourceFacts F → Type 0) (plan : PlanFacts) 
   hashes_joined facts steady are (unit ∷ units) (one ∷ hashes) each =
       ap₂ (λ xs ys. xs ++ ys) (each.0.steady facts steady are) (hashes_joined facts steady are units hashes each.1)
 
-  pub hashes_counted : (units : List PlanUnit) (hashes : List UnitPieces) → Each units hashes
-      → length (flat_map (λ one. one.hashes.items) hashes) ≡ length (flat_map (pieces_of_unit plan.piece_length) units)
+  pub hashes_there : (units : List PlanUnit) (hashes : List UnitPieces) → Each units hashes
+      → HaveHashesOf told (flat_map (pieces_of_unit plan.piece_length) units)
+      (flat_map (λ one. one.hashes.items) hashes)
   unfolding SumUpEach
-  hashes_counted [] [] each = refl
-  hashes_counted [] (one ∷ hashes) each = absurd each
-  hashes_counted (unit ∷ units) [] each = absurd each
-  hashes_counted (unit ∷ units) (one ∷ hashes) each =
-      length-append one.hashes.items (flat_map (λ one. one.hashes.items) hashes)
-      ∙ ap₂ (λ n m. n + m) each.0.counted (hashes_counted units hashes each.1)
-      ∙ sym (length-append (pieces_of_unit plan.piece_length unit)
+  hashes_there [] [] each = refl
+  hashes_there [] (one ∷ hashes) each = absurd each
+  hashes_there (unit ∷ units) [] each = absurd each
+  hashes_there (unit ∷ units) (one ∷ hashes) each =
+      map-append is_some one.hashes.items (flat_map (λ one. one.hashes.items) hashes)
+      ∙ ap₂ (λ xs ys. xs ++ ys) each.0.there (hashes_there units hashes each.1)
+      ∙ sym (map-append (is_within told) (pieces_of_unit plan.piece_length unit)
       (flat_map (pieces_of_unit plan.piece_length) units))
+
+-- there are as many hashes as pieces
+pub hashes_counted : (told : List (Option ℕ)) (pieces : List PlanUnit) (hashes : List (Option PieceHash))
+    → HaveHashesOf told pieces hashes → length hashes ≡ length pieces
+hashes_counted told pieces hashes there =
+    sym (length-map hashes is_some) ∙ ap length there ∙ length-map pieces (is_within told)
 
 -- the lengths that were told are those of the contents
 module _ {F : Type 0} (facts : SourceFacts F) where

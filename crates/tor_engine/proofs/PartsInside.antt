@@ -1,6 +1,6 @@
 -- Parts that are in contents: how many bytes they have there, and that the source has them.
 use Rattle.std.proofs.Common.{◌≡◌, ◌<◌, ◌≤◌, ℕ, zero, suc, ◌+◌, Bool, true, false, ◌&&◌, true≢false, List, [], ◌∷◌}
-use Rattle.std.proofs.Common.{length, map, take, drop, get_or, replicate, Option, unwrap_or, sum_by, refl, ap, ap₂, sym}
+use Rattle.std.proofs.Common.{length, take, drop, get_or, Option, None, unwrap_or, sum_by, refl, ap, ap₂, sym}
 use Rattle.std.proofs.Common.{◌∙◌, arith}
 use Rattle.std.specs.List.{All, AllByRecursion, flat_map, list_all}
 use Rattle.std.proofs.Math.ListN.{get_or-map}
@@ -17,19 +17,19 @@ use Rattle.tor_plan.specs.declared.units.PlanUnit.{PlanUnit}
 use Rattle.tor_source.specs.Source.{SourceFacts}
 use Rattle.tor_v1.specs.Piece.{zeros}
 use Rattle.tor_engine.specs.Contents.{contents_in}
+use Rattle.tor_engine.specs.There.{is_part_within, is_within, length_told}
 use Rattle.tor_engine.specs.steps.Given.{lengths_of_sizes}
-use Rattle.tor_engine.specs.steps.Pieces.{AreTold}
 use Rattle.tor_engine.specs.steps.Reads.{HasParts}
 use Rattle.tor_engine.proofs.Parts.{content_at}
 
 abbrev pub Inside : List (List ℕ) → Part → Type 0
 Inside contents part = part.start + part.length ≤ length (get_or contents part.file [])
 
-module _ (contents : List (List ℕ)) where
-  first_in : (a b : Bool) → (a && b) ≡ true → (a ≡ true) × (b ≡ true)
-  first_in true b both = (refl, both)
-  first_in false b both = absurd (true≢false (sym both))
+first_in : (a b : Bool) → (a && b) ≡ true → (a ≡ true) × (b ≡ true)
+first_in true b both = (refl, both)
+first_in false b both = absurd (true≢false (sym both))
 
+module _ (contents : List (List ℕ)) where
   pub parts_in : (parts : List Part) → list_all (is_part_there contents) parts ≡ true
       → AllByRecursion (Inside contents) parts
   parts_in [] all = tt
@@ -83,14 +83,6 @@ source_has_unit facts plan unit are there =
 
 -- ---- the files have the sizes that were told of them
 
-abbrev some_contents : List (Option ℕ) → List (List ℕ)
-some_contents sizes = map (λ size. replicate (unwrap_or size 0) 0) sizes
-
-some_told : (sizes : List (Option ℕ)) → AreTold sizes (some_contents sizes)
-some_told [] = refl
-some_told (size ∷ sizes) =
-    ap₂ (λ x xs. x ∷ xs) (sym (length-replicate {A = ℕ} (unwrap_or size 0) 0)) (some_told sizes)
-
 named_by : (xs : List ℕ) (k : ℕ) → 0 < get_or xs k 0 → k < length xs
 named_by [] zero some = some
 named_by [] (suc k) some = absurd (omega (arith, some))
@@ -98,24 +90,24 @@ named_by (x ∷ xs) zero some = omega arith
 named_by (x ∷ xs) (suc k) some = omega (arith, named_by xs k some)
 
 in_told : (sizes : List (Option ℕ)) (lengths : List ℕ) (parts : List Part)
-    → AllByRecursion (IsInFile lengths) parts → AllByRecursion (Inside (some_contents sizes)) parts
+    → AllByRecursion (IsInFile lengths) parts → list_all (is_part_within sizes) parts ≡ true
     → AllByRecursion (IsInFile (lengths_of_sizes sizes)) parts
 in_told sizes lengths [] are there = tt
 in_told sizes lengths (part ∷ parts) are there =
-    let size : get_or (lengths_of_sizes sizes) part.file 0 ≡ length (get_or (some_contents sizes) part.file []) =
-    ap (λ xs. get_or xs part.file 0) (some_told sizes) ∙ get_or-map length (some_contents sizes) part.file [] in (
+    let both = first_in (is_part_within sizes part) (list_all (is_part_within sizes) parts) there in
+    let within = leb-true (part.start + part.length) (length_told sizes part.file) both.0 in
+    let size : get_or (lengths_of_sizes sizes) part.file 0 ≡ length_told sizes part.file =
+    get_or-map (λ size. unwrap_or size 0) sizes part.file None in (
       record {
-        named = named_by (lengths_of_sizes sizes) part.file (omega (arith, are.0.some, there.0, size));
+        named = named_by (lengths_of_sizes sizes) part.file (omega (arith, are.0.some, within, size));
         some = are.0.some;
-        within = omega (arith, there.0, size);
+        within = omega (arith, within, size);
       },
-      in_told sizes lengths parts are.1 there.1,
+      in_told sizes lengths parts are.1 both.1,
     )
 
 pub unit_in_told : (sizes : List (Option ℕ)) (lengths : List ℕ) (unit : PlanUnit) → All (IsInFile lengths) unit.parts
-    → ((contents : List (List ℕ)) → AreTold sizes contents → is_there contents unit ≡ true)
-    → All (IsInFile (lengths_of_sizes sizes)) unit.parts
+    → is_within sizes unit ≡ true → All (IsInFile (lengths_of_sizes sizes)) unit.parts
 unit_in_told sizes lengths unit are there =
     All-from_recursion (IsInFile (lengths_of_sizes sizes)) unit.parts
-    (in_told sizes lengths unit.parts (recursion_from_All (IsInFile lengths) unit.parts are)
-    (parts_in (some_contents sizes) unit.parts (there (some_contents sizes) (some_told sizes))))
+    (in_told sizes lengths unit.parts (recursion_from_All (IsInFile lengths) unit.parts are) there)

@@ -8,5 +8,6 @@ pub mod PieceHashes
 pub mod Shares
 pub mod Streams
 pub mod Sums
+pub mod There
 pub mod UnitNodes
 pub mod steps

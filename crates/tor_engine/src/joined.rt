@@ -1,5 +1,6 @@
 //! What units give, joined in their order.
-ghost use Rattle.std.specs.Prelude.{◌≡◌, ◌++◌, IfOk, OnOk};
+ghost use Rattle.std.specs.Prelude.{◌≡◌, ◌++◌, IfOk, List, OnOk};
+ghost use Rattle.std.specs.Fn.{FnReturnsAt};
 ghost use Rattle.std.specs.List.{flat_map};
 ghost use Rattle.tor_engine.specs.steps.Failing.{AreJoined};
 
@@ -37,6 +38,24 @@ pub(crate) fn both_joined<T: Drop, F: Drop>(
     }
 }
 
+/// What each of some units has, one after the other.
+fn joined<'a, T, U: Copy + 'a, F: Fn(&'a T) -> &'a [U]>(
+    alloc: Global,
+    units: &'a [T],
+    items_of: F,
+) -> Result<Vec<U>, AllocError>
+    requires { F.IsAlwaysCallable items_of }
+    ensures { (items : T → List U) →
+        ((one : T) (own : _) → FnReturnsAt F.Fn items_of one own → own.now ≡ items one) →
+        IfOk result (λ all. all.items ≡ flat_map items units.now) }
+{
+    let mut all = Vec::new(alloc);
+    'units: for unit in units {
+        all.extend_from_slice(items_of(unit))?;
+    }
+    Ok(all)
+}
+
 /// The hashes of the pieces of all units, one after the other.
 pub(crate) fn hashes_of_pieces(
     alloc: Global,
@@ -44,31 +63,19 @@ pub(crate) fn hashes_of_pieces(
 ) -> Result<Vec<Option<PieceHash>>, AllocError>
     ensures { IfOk result (λ all. all.items ≡ flat_map (λ unit. unit.hashes.items) units.now) }
 {
-    let mut all = Vec::new(alloc);
-    'units: for unit in units {
-        all.extend_from_slice(&unit.hashes)?;
-    }
-    Ok(all)
+    joined(alloc, units, |unit| unit.hashes.as_slice())
 }
 
 /// The joined SHA-1 of all units.
 pub(crate) fn pieces_of_units(alloc: Global, units: &[UnitSums]) -> Result<Vec<u8>, AllocError>
     ensures { IfOk result (λ pieces. pieces.items ≡ flat_map (λ unit. unit.pieces.items) units.now) }
 {
-    let mut pieces = Vec::new(alloc);
-    'units: for unit in units {
-        pieces.extend_from_slice(&unit.pieces)?;
-    }
-    Ok(pieces)
+    joined(alloc, units, |unit| unit.pieces.as_slice())
 }
 
 /// The layers of units, one after the other.
 pub(crate) fn layer_of_units(alloc: Global, units: &[UnitSums]) -> Result<Vec<Hash>, AllocError>
     ensures { IfOk result (λ layer. layer.items ≡ flat_map (λ unit. unit.layer.items) units.now) }
 {
-    let mut layer = Vec::new(alloc);
-    'units: for unit in units {
-        layer.extend_from_slice(&unit.layer)?;
-    }
-    Ok(layer)
+    joined(alloc, units, |unit| unit.layer.as_slice())
 }

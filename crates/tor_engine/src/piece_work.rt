@@ -1,6 +1,6 @@
 //! The pieces of units hashed, those that are wholly there.
 ghost use Rattle.std.specs.Prelude.{◌≡◌, ◌↔◌, true, [], ℕ, All, IsTrue, List, None, Some};
-ghost use Rattle.std.specs.Prelude.{IfErr, IfOk, MatchResult, length, replicate};
+ghost use Rattle.std.specs.Prelude.{IfErr, IfOk, MatchResult, is_some, length, replicate};
 ghost use Rattle.tor_plan.specs.PlanFacts.{IsPlan};
 ghost use Rattle.tor_plan.specs.Present.{is_there};
 ghost use Rattle.tor_plan.specs.WithinEntries.{IsInFile};
@@ -9,6 +9,7 @@ ghost use Rattle.tor_engine.specs.Contents.{contents_in};
 ghost use Rattle.tor_engine.specs.Fault.{IsFault, unit_fault};
 ghost use Rattle.tor_engine.specs.PieceFault.{piece_fault};
 ghost use Rattle.tor_engine.specs.PieceHashes.{hash_if_there, piece_hash};
+ghost use Rattle.tor_engine.specs.There.{is_within};
 ghost use Rattle.tor_engine.specs.steps.Given.{IsGivenRead, lengths_of_sizes};
 ghost use Rattle.tor_engine.specs.steps.Pieces.{AreTold, HashesPieces, IsPaddingSum, IsPiece, IsUnitToHash};
 ghost use Rattle.tor_engine.specs.steps.Pieces.{unit_pieces_fault};
@@ -145,6 +146,7 @@ fn hash_if_there<S: FileBytes>(
         (λ hash. (hash ≡ hash_if_there plan.now (contents_in facts (length plan.now.lengths)) piece.now)
         × (piece_fault facts (contents_in facts (length plan.now.lengths)) piece.now ≡ None))
         (IsFault (piece_fault facts (contents_in facts (length plan.now.lengths)) piece.now)) }
+    ensures there { IfOk result (λ hash. is_some hash ≡ is_within known.now.lengths.items piece.now) }
     ensures gave { IfErr result (IsGivenRead (S.gave source.now) (S.ended source.now)
         (lengths_of_sizes known.now.lengths.items)) }
 {

@@ -8,6 +8,7 @@ ghost use Rattle.tor_engine.specs.Given.{HasTold, IsGivenPieces};
 ghost use Rattle.tor_engine.specs.How.{IsHow};
 ghost use Rattle.tor_engine.specs.PieceFault.{first_asked_fault, first_piece_fault, lengths_told};
 ghost use Rattle.tor_engine.specs.PieceHashes.{piece_hashes, pieces_of_plan};
+ghost use Rattle.tor_engine.specs.There.{HasHashesWithin};
 ghost use Rattle.tor_engine.specs.steps.Given.{IsGivenKnown};
 ghost use Rattle.tor_engine.specs.steps.Pieces.{IsPaddingSum, MayHavePadding, has_long_zeros};
 
@@ -65,7 +66,8 @@ pub fn hash_pieces<S: Source, R: Threads + Sync>(
 }
 
 /// The same, and the lengths that were told of the files, by which their pieces were there. Of a source that is not
-/// steady too, each of these was told when it was asked first, and again after all was read.
+/// steady too, a piece has a hash exactly where it lies within these lengths, each of which was told when it was asked
+/// first, and again after all was read.
 pub fn find_pieces<S: Source, R: Threads + Sync>(
     rt: &R,
     alloc: Global,
@@ -81,6 +83,7 @@ pub fn find_pieces<S: Source, R: Threads + Sync>(
         × (first_piece_fault facts plan.now ≡ None))
         (IsFault (first_piece_fault facts plan.now)) }
     ensures told { IfOk result (λ found. HasTold (S.told source.now) found.lengths.items) }
+    ensures there { IfOk result (λ found. HasHashesWithin plan.now found.lengths.items found.hashes.items) }
     ensures counted { IfOk result (λ found. (length found.hashes.items ≡ length (pieces_of_plan plan.now))
         × (length found.lengths.items ≡ length plan.now.lengths)) }
     ensures gave { IfErr result (IsGivenPieces (S.gave source.now) (S.told source.now) (S.ended source.now)
@@ -125,6 +128,7 @@ fn hash_known<S: Source, R: Threads + Sync>(
         (IsFault (first_piece_fault facts plan.now)) }
     ensures unchanged { (facts : SourceFacts S.Fault) → S.is_steady source.now facts →
         OnOk result (known.now.lengths.items ≡ lengths_told facts (length plan.now.lengths)) }
+    ensures there { IfOk result (λ hashes. HasHashesWithin plan.now known.now.lengths.items hashes.items) }
     ensures counted { IfOk result (λ hashes. length hashes.items ≡ length (pieces_of_plan plan.now)) }
     ensures gave { IfErr result (IsGivenKnown (S.gave source.now) (S.told source.now) (S.ended source.now)
         known.now.lengths.items) }

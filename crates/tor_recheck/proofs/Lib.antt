@@ -35,3 +35,4 @@ pub mod SpanBytes
 pub mod PartsOfFiles
 pub mod MissingFiles
 pub mod Sums
+pub mod Within

@@ -1,7 +1,7 @@
 //! The hashes of pieces judged by those of a torrent.
 ghost use Rattle.std.specs.Prelude.{◌≡◌, [], IfOk, map, unwrap_or};
 ghost use Rattle.std.specs.Str.{bytes_eq};
-ghost use Rattle.tor_recheck.specs.steps.Judge.{all_held, all_judged, all_merkle_judged, is_found, is_merkle_found};
+ghost use Rattle.tor_recheck.specs.steps.Judge.{all_judged, all_merkle_judged, is_found, is_merkle_found};
 ghost use Rattle.tor_recheck.specs.steps.Judge.{is_told};
 
 use crate::bits::Bits;
@@ -33,23 +33,8 @@ pub(crate) fn judge(
     Ok(bits)
 }
 
-/// For each piece whether it holds by the side that tells whose bytes it has: by version 2 where the torrent has it.
-pub(crate) fn judge_held(
-    alloc: Global,
-    torrent: &Torrent,
-    hashes: &[Option<PieceHash>],
-) -> Result<Bits, AllocError>
-    ensures { IfOk result (λ held. held ≡ all_held torrent.now hashes.now) }
-{
-    if torrent.kind().has_v2() {
-        judge_merkle(alloc, torrent, hashes)
-    } else {
-        judge(alloc, torrent, hashes)
-    }
-}
-
 /// For each piece whether it is there, and has its Merkle hash.
-fn judge_merkle(
+pub(crate) fn judge_merkle(
     alloc: Global,
     torrent: &Torrent,
     hashes: &[Option<PieceHash>],

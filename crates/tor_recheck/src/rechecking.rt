@@ -5,7 +5,8 @@ ghost use Rattle.tor_engine.specs.Given.{HasTold};
 ghost use Rattle.tor_engine.specs.How.{IsHow};
 ghost use Rattle.tor_engine.specs.PieceFault.{lengths_told};
 ghost use Rattle.tor_plan.specs.PlanFacts.{plan_of_entries};
-ghost use Rattle.tor_recheck.specs.Pieces.{IsCut, entries_to_cut};
+ghost use Rattle.tor_engine.specs.There.{HaveHashesOf};
+ghost use Rattle.tor_recheck.specs.Pieces.{IsCut, entries_to_cut, pieces_of};
 ghost use Rattle.tor_recheck.specs.Recheck.{IsFault, IsGiven, first_fault};
 ghost use Rattle.tor_recheck.specs.declared.errors.RecheckError.TheVariants.{Workers};
 ghost use Rattle.tor_recheck.specs.steps.Hashes.{hashes_in};
@@ -76,6 +77,8 @@ pub(crate) fn found_in<S: Source, R: Threads + Sync>(
         × (first_fault facts torrent.now ≡ None))
         (IsFault (first_fault facts torrent.now)) }
     ensures told { IfOk result (λ found. HasTold (S.told source.now) found.lengths.items) }
+    ensures there { IfOk result
+        (λ found. HaveHashesOf found.lengths.items (pieces_of torrent.now) found.hashes.items) }
     ensures counted { IfOk result (λ found. (length found.hashes.items ≡ torrent.now.piece_count)
         × (length found.lengths.items ≡ length torrent.now.files)) }
     ensures cut { OnOk result (IsCut torrent.now) }

@@ -5,20 +5,22 @@ ghost use Rattle.tor_engine.specs.Given.{HasTold};
 ghost use Rattle.tor_engine.specs.How.{IsHow};
 ghost use Rattle.tor_engine.specs.PieceFault.{lengths_told};
 ghost use Rattle.tor_recheck.specs.Files.{files_found, held_pieces};
+ghost use Rattle.tor_recheck.specs.Findings.{AreFoundWithin};
 ghost use Rattle.tor_recheck.specs.Recheck.{IsFault, IsGiven, first_fault};
 ghost use Rattle.tor_recheck.specs.declared.errors.RecheckError.TheVariants.{Workers};
+ghost use Rattle.tor_recheck.specs.steps.Judge.{all_held, all_judged};
 ghost use Rattle.tor_source.specs.Source.{SourceFacts};
 ghost use Rattle.tor_spec.specs.Verified.{verified_pieces};
 
 use crate::bits::Bits;
 use crate::errors::RecheckError;
 use crate::files::{FileFound, files_of};
-use crate::judge::{judge, judge_held};
+use crate::judge::{judge, judge_merkle};
 use crate::rechecking::found_in;
-use std::alloc::Global;
+use std::alloc::{AllocError, Global};
 use std::thread::Threads;
 use tor_check::Torrent;
-use tor_engine::How;
+use tor_engine::{FoundPieces, How};
 use tor_source::Source;
 
 /// What is told of a torrent's pieces and of its files.
@@ -33,7 +35,7 @@ pub struct Findings {
 /// Which pieces of the torrent are there and right, as [`recheck`](crate::recheck) tells, and which of its files: by
 /// version 2 where the torrent has it, so that a piece of a hybrid whose SHA-1 alone departs leaves its file whole. It
 /// asks and reads what `recheck` does: the lengths that are told of the files are those by which their pieces were
-/// there. Refusals and faults are those of `recheck`.
+/// there, also of a source that does not keep to them. Refusals and faults are those of `recheck`.
 pub fn recheck_files<S: Source, R: Threads + Sync>(
     rt: &R,
     alloc: Global,
@@ -52,6 +54,7 @@ pub fn recheck_files<S: Source, R: Threads + Sync>(
     ensures counted { IfOk result (λ told. (length told.bits ≡ torrent.now.piece_count)
         × (length told.files.items ≡ length torrent.now.files)) }
     ensures told { IfOk result (λ told. HasTold (S.told source.now) (map (λ file. file.there) told.files.items)) }
+    ensures there { IfOk result (AreFoundWithin torrent.now) }
     ensures allowed { IsHow how → IfErr result (λ error. error ≢ Workers) }
     ensures gave { IfErr result
         (IsGiven (S.gave source.now) (S.told source.now) (S.ended source.now) (length torrent.now.files)) }
@@ -61,7 +64,26 @@ pub fn recheck_files<S: Source, R: Threads + Sync>(
         Err(error) => return Err(error),
     };
     let bits = judge(alloc, torrent, &found.hashes)?;
-    let held = judge_held(alloc, torrent, &found.hashes)?;
-    let files = files_of(alloc, torrent, &held, &found.lengths)?;
+    let files = files_by(alloc, torrent, &found, &bits)?;
     Ok(Findings { bits, files })
+}
+
+/// What is told of each file: by the side that tells whose bytes a piece has, version 2 where the torrent has it, and
+/// else by the pieces that were found right.
+fn files_by(
+    alloc: Global,
+    torrent: &Torrent,
+    found: &FoundPieces,
+    right: &Bits,
+) -> Result<Vec<FileFound>, AllocError>
+    requires { right.now ≡ all_judged torrent.now found.now.hashes.items }
+    ensures found { IfOk result (λ files. files.items
+        ≡ files_found torrent.now found.now.lengths.items (all_held torrent.now found.now.hashes.items)) }
+    ensures counted { IfOk result (λ files. length files.items ≡ length torrent.now.files) }
+{
+    if !torrent.kind().has_v2() {
+        return files_of(alloc, torrent, right, &found.lengths);
+    }
+    let held = judge_merkle(alloc, torrent, &found.hashes)?;
+    files_of(alloc, torrent, &held, &found.lengths)
 }

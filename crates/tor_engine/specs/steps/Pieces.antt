@@ -16,6 +16,7 @@ use Rattle.tor_engine.specs.Contents.{contents_in}
 use Rattle.tor_engine.specs.Fault.{first_of}
 use Rattle.tor_engine.specs.PieceFault.{pieces_fault}
 use Rattle.tor_engine.specs.PieceHashes.{hash_if_there}
+use Rattle.tor_engine.specs.There.{HaveHashesOf}
 use Rattle.tor_engine.specs.declared.errors.EngineError.{EngineError}
 use Rattle.tor_engine.specs.declared.piece_hash.PieceHash.{PieceHash}
 use Rattle.tor_engine.specs.steps.Hashes.{bytes_of_part}
@@ -79,10 +80,10 @@ pub record IsUnitToHash (plan : PlanFacts) (unit : PlanUnit) : Type 0 where
   pub pieces : All (IsPiece plan) (pieces_of_unit plan.piece_length unit)
 
 -- these are the hashes of the pieces of a unit of files with these lengths: of a steady source those of what it has,
--- and of any source one for each piece
+-- and of any source one for each piece that is there by the lengths
 pub record HashesPieces {F : Type 0} (is_steady : SourceFacts F → Type 0) (plan : PlanFacts) (told : List (Option ℕ))
     (unit : PlanUnit) (hashes : List (Option PieceHash)) : Type 0 where
   pub steady : (facts : SourceFacts F) → is_steady facts
       → AreTold told (contents_in facts (length plan.lengths))
       → hashes ≡ unit_hashes plan (contents_in facts (length plan.lengths)) unit
-  pub counted : length hashes ≡ length (pieces_of_unit plan.piece_length unit)
+  pub there : HaveHashesOf told (pieces_of_unit plan.piece_length unit) hashes

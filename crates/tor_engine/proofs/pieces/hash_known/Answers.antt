@@ -1,14 +1,15 @@
 -- the pieces, and the lengths again
-use Rattle.std.proofs.Common.{List, length, inl, inr, ap, subst, sym, ◌∙◌}
+use Rattle.std.proofs.Common.{List, length, map, is_some, inl, inr, ap, subst, sym, ◌∙◌}
 use Rattle.std.specs.List.{All, flat_map}
 use Rattle.tor_plan.specs.Pieces.{pieces_of_unit}
 use Rattle.tor_plan.specs.Forest.{AreRuns}
 use Rattle.tor_plan.specs.declared.forests.Run.{Run}
 use Rattle.tor_plan.specs.declared.units.PlanUnit.{PlanUnit}
 use Rattle.tor_engine.specs.Contents.{contents_in}
+use Rattle.tor_engine.specs.There.{is_within}
 use Rattle.tor_engine.specs.steps.Asked.{first_again_fault}
 use Rattle.tor_engine.specs.steps.Pieces.{IsUnitToHash, first_unit_fault, unit_hashes}
-use Rattle.tor_engine.proofs.AllPieces.{all_hashes, are_told, fault_after, hashes_counted, hashes_joined}
+use Rattle.tor_engine.proofs.AllPieces.{all_hashes, are_told, fault_after, hashes_counted, hashes_joined, hashes_there}
 use Rattle.tor_engine.proofs.AskedLengths.{again_same, same_again}
 use Rattle.tor_engine.proofs.PlanPieces.{units_to_hash}
 use Rattle.tor_engine.proofs.RunRoots.{no_runs}
@@ -49,12 +50,22 @@ returns-clause-hashed g c = λ facts steady told none.
           ∙ c.in-Ok.ensures.fault facts (steady, known),
     )
 
+pub returns-clause-there : goal.returns-clause-there
+returns-clause-there g c =
+    let plan = c.args.plan.now in
+    let sizes = c.args.known.now.lengths.items in
+    ap (map is_some) (c.in_ok-joined.ensures ∙ ap (flat_map (λ one. one.hashes.items)) c.deref-2.ensures.value)
+    ∙ hashes_there (g.S.Source.is_steady c.args.source.now) plan sizes _ _ c.in-Ok.ensures.summed
+    ∙ ap (λ units. map (is_within sizes) (flat_map (pieces_of_unit plan.piece_length) units))
+    c.units-units.ensures.value
+
 pub returns-clause-counted : goal.returns-clause-counted
 returns-clause-counted g c =
     let plan = c.args.plan.now in
     ap length (c.in_ok-joined.ensures ∙ ap (flat_map (λ one. one.hashes.items)) c.deref-2.ensures.value)
-    ∙ hashes_counted (g.S.Source.is_steady c.args.source.now) plan c.args.known.now.lengths.items _ _
-    c.in-Ok.ensures.summed
+    ∙ hashes_counted c.args.known.now.lengths.items _ _
+    (hashes_there (g.S.Source.is_steady c.args.source.now) plan c.args.known.now.lengths.items _ _
+    c.in-Ok.ensures.summed)
     ∙ ap (λ units. length (flat_map (pieces_of_unit plan.piece_length) units)) c.units-units.ensures.value
 
 pub returns-clause-unchanged : goal.returns-clause-unchanged

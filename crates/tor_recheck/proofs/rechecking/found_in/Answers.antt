@@ -1,7 +1,7 @@
 -- the plan, what its pieces hash to, and the lengths of its files
 use Rattle.tor_recheck.proofs.Names.{[], ℕ, length, ap, subst, sym, ◌∙◌, contents_in, IsGivenPieces, first_piece_fault}
 use Rattle.tor_recheck.proofs.Names.{piece_hashes, pieces_of_plan, PlanFacts, plan_of_entries, entries_to_cut, IsFault}
-use Rattle.tor_recheck.proofs.Names.{◌≡◌, IsCut, IsGiven, View, first_fault, lengths_told}
+use Rattle.tor_recheck.proofs.Names.{◌≡◌, IsCut, IsGiven, View, first_fault, is_within, lengths_told, map}
 use Rattle.tor_recheck.proofs.ProvedLaws.{pieces_are_counted}
 use Rattle.tor_recheck.proofs.RecheckFaults.{given_of, no_fault, same_fault}
 use Rattle.tor_recheck.proofs.Rechecked.{count_is, pieces_are}
@@ -48,6 +48,14 @@ returns-in-Ok-clause-counted g c =
           ∙ pieces_are_counted view cut,
       c.in-Ok.ensures.counted.1 ∙ count_of_plan view cut planned,
     )
+
+pub returns-in-Ok-clause-there : goal.returns-in-Ok-clause-there
+returns-in-Ok-clause-there g c =
+    let view = c.args.torrent.now in
+    let within = is_within c.in-Ok.found.lengths.items in
+    c.in-Ok.ensures.there
+    ∙ ap (λ (p : PlanFacts). map within (pieces_of_plan p)) c.in_ok-plan.ensures.planned
+    ∙ ap (map within) (pieces_are view [] c.in_ok-plan.ensures.cut)
 
 pub returns-clause-gave : goal.returns-clause-gave
 returns-clause-gave g c =

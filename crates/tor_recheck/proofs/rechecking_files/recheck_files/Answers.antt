@@ -1,10 +1,11 @@
 -- the hashes, the lengths, and what these tell of the files
 use Rattle.tor_recheck.proofs.Names.{◌≡◌, ◌∙◌, ℕ, List, Option, ap, ap₂, length, map, subst, sym, contents_in, all_held}
-use Rattle.tor_recheck.proofs.Names.{all_judged, file_spans, files_found, FileFound, HasTold}
+use Rattle.tor_recheck.proofs.Names.{Bool, all_judged, file_spans, files_found, AreWithin, FileFound, HasTold}
 use Rattle.tor_recheck.proofs.HeldPieces.{judged_is_held}
 use Rattle.tor_recheck.proofs.FoundLengths.{lengths_kept}
 use Rattle.tor_recheck.proofs.Rechecked.{count_of_judged, judged_is_verified}
 use Rattle.tor_recheck.proofs.SpanSteps.{spans_are_counted}
+use Rattle.tor_recheck.proofs.Within.{held_within, judged_within}
 use Rattle.tor_recheck.proofs.rechecking_files.recheck_files.Goals as goal
 
 pub returns-clause-found : goal.returns-clause-found
@@ -17,11 +18,8 @@ returns-clause-found g c = λ how facts steady.
     let bits = c.in_ok-bits.ensures
     ∙ ap (all_judged view) c.deref.ensures.value
     ∙ judged_is_verified view contents cut hashes found.0 in
-    let held = c.in_ok-held.ensures
-    ∙ ap (all_held view) c.deref-2.ensures.value
-    ∙ judged_is_held view contents cut hashes found.0 in
-    let lengths = c.deref-3.ensures.value ∙ found.1 in
-    (bits, c.in_ok-files.ensures.found ∙ ap₂ (files_found view) lengths held, found.2)
+    let held = judged_is_held view contents cut hashes found.0 in
+    (bits, c.in_ok-files.ensures.found ∙ ap₂ (files_found view) found.1 held, found.2)
 
 pub returns-clause-counted : goal.returns-clause-counted
 returns-clause-counted g c =
@@ -38,8 +36,28 @@ returns-clause-told g c =
     let lengths = c.in-Ok.found.lengths.items in
     let count : length lengths ≡ length (file_spans view) =
     c.in-Ok.ensures.counted.1 ∙ sym (spans_are_counted view c.in-Ok.ensures.cut) in
-    let told = ap (map (λ (file : FileFound). file.there)) (c.in_ok-files.ensures.found
-    ∙ ap (λ (sizes : List (Option ℕ)). files_found view sizes c.in_ok-held.held) c.deref-3.ensures.value)
-    ∙ lengths_kept view lengths c.in_ok-held.held count in
+    let told = ap (map (λ (file : FileFound). file.there)) c.in_ok-files.ensures.found
+    ∙ lengths_kept view lengths (all_held view c.in-Ok.found.hashes.items) count in
     subst (λ (sizes : List (Option ℕ)). HasTold (g.S.Source.told c.args.source.now) sizes) (sym told)
     c.in-Ok.ensures.told
+
+pub returns-clause-there : goal.returns-clause-there
+returns-clause-there g c =
+    let view = c.args.torrent.now in
+    let hashes = c.in-Ok.found.hashes.items in
+    let lengths = c.in-Ok.found.lengths.items in
+    let held = all_held view hashes in
+    let count : length lengths ≡ length (file_spans view) =
+    c.in-Ok.ensures.counted.1 ∙ sym (spans_are_counted view c.in-Ok.ensures.cut) in
+    let told = ap (map (λ (file : FileFound). file.there)) c.in_ok-files.ensures.found
+    ∙ lengths_kept view lengths held count in
+    record {
+      held = held;
+      files = c.in_ok-files.ensures.found ∙ ap (λ (sizes : List (Option ℕ)). files_found view sizes held) (sym told);
+      held_within = subst (λ (sizes : List (Option ℕ)). AreWithin view sizes held) (sym told)
+          (held_within view lengths hashes c.in-Ok.ensures.there);
+      right_within = subst (λ (sizes : List (Option ℕ)). AreWithin view sizes c.in_ok-bits.bits) (sym told)
+          (subst (λ (bits : List Bool). AreWithin view lengths bits)
+          (sym (c.in_ok-bits.ensures ∙ ap (all_judged view) c.deref.ensures.value))
+          (judged_within view lengths hashes c.in-Ok.ensures.there));
+    }

@@ -1,10 +1,11 @@
 -- one piece after the other
-use Rattle.std.proofs.Common.{length, inl, inr, ap, ap₂, arith, [], ◌∷◌, ◌++◌, map, take, sym, ◌∙◌}
-use Rattle.std.proofs.lemmas.List.{length-append, map-append, take_more}
+use Rattle.std.proofs.Common.{length, inl, inr, ap, ap₂, is_some, [], ◌∷◌, ◌++◌, map, take, sym, ◌∙◌}
+use Rattle.std.proofs.lemmas.List.{map-append, take_more}
 use Rattle.tor_plan.specs.Pieces.{pieces_of_unit}
 use Rattle.tor_engine.specs.Contents.{contents_in}
 use Rattle.tor_engine.specs.PieceFault.{piece_fault, pieces_fault}
 use Rattle.tor_engine.specs.PieceHashes.{hash_if_there}
+use Rattle.tor_engine.specs.There.{is_within}
 use Rattle.tor_engine.proofs.FirstOf.{first_at, first_next, first_of_none}
 use Rattle.tor_engine.proofs.piece_work.PieceWorkUnitWork.hash.Goals as goal
 
@@ -28,7 +29,7 @@ pieces-init g c = record {
     c.new-hashes.ensures.items,
     first_of_none (piece_fault facts (contents_in facts (length c.args.self.now.plan.now.lengths))),
   );
-  counted = ap length c.new-hashes.ensures.items;
+  there = ap (map is_some) c.new-hashes.ensures.items;
 }
 
 pub pieces-preserved : goal.pieces-preserved
@@ -49,10 +50,14 @@ pieces-preserved g c = record {
         first_next (piece_fault facts contents) pieces i _ c.pieces-test.true before.1
             (ap (piece_fault facts contents) (sym c.piece-item.is) ∙ one.1),
       );
-  counted = omega (
-    arith,
-    c.pieces.invariant.counted,
-    ap length c.in_ok-push.ensures.items,
-    length-append c.pieces.hashes.items (c.in-Ok.hash ∷ []),
-  );
+  there =
+      let within = is_within c.args.self.now.known.now.lengths.items in
+      let pieces = c.as_slice-piece-items.result.now in
+      let i = c.pieces.piece-index in
+      ap (map is_some) c.in_ok-push.ensures.items
+      ∙ map-append is_some c.pieces.hashes.items (c.in-Ok.hash ∷ [])
+      ∙ ap₂ (λ before last. before ++ last ∷ []) c.pieces.invariant.there
+      (c.in-Ok.ensures.there ∙ ap within c.piece-item.is)
+      ∙ sym (map-append within (take i pieces) (_ ∷ []))
+      ∙ ap (map within) (sym (take_more pieces i _ c.pieces-test.true));
 }

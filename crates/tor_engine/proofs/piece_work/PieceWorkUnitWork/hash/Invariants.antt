@@ -4,6 +4,7 @@ use Rattle.tor_source.specs.Source.{SourceFacts}
 use Rattle.tor_engine.specs.Contents.{contents_in}
 use Rattle.tor_engine.specs.PieceFault.{pieces_fault}
 use Rattle.tor_engine.specs.PieceHashes.{hash_if_there}
+use Rattle.tor_engine.specs.There.{HaveHashesOf}
 use Rattle.tor_engine.specs.steps.Pieces.{AreTold}
 use Rattle.tor_engine.specs.steps.Worker.{IsFresh}
 use Rattle.tor_engine.proofs.piece_work.PieceWorkUnitWork.hash.Given as goal
@@ -17,5 +18,5 @@ invariant-pieces g l = record {
       (take l.piece-index l.piece-items))
       × (pieces_fault facts (contents_in facts (length l.self.plan.now.lengths)) (take l.piece-index l.piece-items)
       ≡ None);
-  counted : length l.hashes.items ≡ l.piece-index;
+  there : HaveHashesOf l.self.known.now.lengths.items (take l.piece-index l.piece-items) l.hashes.items;
 }

@@ -1,0 +1,56 @@
+-- Pieces that are found right, or hold, lie within the lengths by which they were there.
+use Rattle.tor_recheck.proofs.Names.{◌≡◌, ℕ, zero, suc, Bool, true, false, List, [], ◌∷◌, length, map, get_or, Option}
+use Rattle.tor_recheck.proofs.Names.{None, Some, refl, ap, arith, sym, ◌∙◌, inl, inr, cases_lt, false≢true, get_or-map}
+use Rattle.tor_recheck.proofs.Names.{get_or-map-range_with_len, get_or_past, length-map-range_with_len, range_with_len}
+use Rattle.tor_recheck.proofs.Names.{cases_Bool, cond-false, cond-true, is_some, PieceHash, View, empty_unit}
+use Rattle.tor_recheck.proofs.Names.{pieces_of, has_v2, HaveHashesOf, AreWithin, is_within, all_held, all_judged}
+use Rattle.tor_recheck.proofs.Names.{all_merkle_judged, is_found, is_merkle_found, judged, merkle_judged, subst}
+
+-- past the end there is no bit that is set
+set_at : {A : Type 0} (f : A → Bool) (xs : List A) (k : ℕ) (d : A) → get_or (map f xs) k false ≡ true
+    → f (get_or xs k d) ≡ true
+set_at f [] zero d is = absurd (false≢true is)
+set_at f [] (suc k) d is = absurd (false≢true is)
+set_at f (x ∷ xs) zero d is = is
+set_at f (x ∷ xs) (suc k) d is = set_at f xs k d is
+
+set_in_range : (f : ℕ → Bool) (n k : ℕ) → get_or (map f (range_with_len 0 n)) k false ≡ true → f k ≡ true
+set_in_range f n k is = elim (cases_lt k n) [
+  | inl lt ↦ sym (get_or-map-range_with_len f 0 n k k false lt (omega arith)) ∙ is
+  | inr ge ↦ absurd (false≢true (sym (get_or_past (map f (range_with_len 0 n)) k false
+      (omega (arith, ge, length-map-range_with_len f 0 n))) ∙ is))
+]
+
+found_is_some : (hash : Option PieceHash) (sum root : List ℕ) → is_found hash sum root ≡ true → is_some hash ≡ true
+found_is_some None sum root is = is
+found_is_some (Some hash) sum root is = refl
+
+merkle_is_some : (hash : Option PieceHash) (root : List ℕ) → is_merkle_found hash root ≡ true → is_some hash ≡ true
+merkle_is_some None root is = is
+merkle_is_some (Some hash) root is = refl
+
+module _ (view : View) (told : List (Option ℕ)) (hashes : List (Option PieceHash))
+    (there : HaveHashesOf told (pieces_of view) hashes) where
+  some_within : (k : ℕ) → is_some (get_or hashes k None) ≡ true
+      → is_within told (get_or (pieces_of view) k empty_unit) ≡ true
+  some_within k is =
+      set_at (is_within told) (pieces_of view) k empty_unit
+      (ap (λ bits. get_or bits k false) (sym there) ∙ get_or-map is_some hashes k None ∙ is)
+
+  pub judged_within : AreWithin view told (all_judged view hashes)
+  judged_within k is =
+      some_within k (found_is_some (get_or hashes k None) _ _ (set_in_range (judged view hashes) (length hashes) k is))
+
+  merkle_within : AreWithin view told (all_merkle_judged view hashes)
+  merkle_within k is =
+      some_within k (merkle_is_some (get_or hashes k None) _
+      (set_in_range (merkle_judged view hashes) (length hashes) k is))
+
+  pub held_within : AreWithin view told (all_held view hashes)
+  held_within = elim (cases_Bool (has_v2 view.kind)) [
+    | inl two ↦ subst (λ (bits : List Bool). AreWithin view told bits)
+        (sym (cond-true (has_v2 view.kind) (all_merkle_judged view hashes) (all_judged view hashes) two)) merkle_within
+    | inr none ↦ subst (λ (bits : List Bool). AreWithin view told bits)
+        (sym (cond-false (has_v2 view.kind) (all_merkle_judged view hashes) (all_judged view hashes) none))
+        judged_within
+  ]
