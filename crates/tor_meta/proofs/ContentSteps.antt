@@ -5,8 +5,7 @@ use Rattle.std.specs.List.{All, AllByRecursion, AllZip}
 use Rattle.std.proofs.lemmas.List.{length-map}
 use Rattle.std.proofs.lemmas.List.Elements.{All-from_recursion, recursion_from_All}
 use Rattle.tor_merkle.specs.Layer.{piece_layer}
-use Rattle.tor_meta.specs.Contents.{files_of}
-use Rattle.tor_meta.specs.steps.Contents.{bytes_of}
+use Rattle.tor_meta.specs.steps.Contents.{bytes_of, files_of}
 use Rattle.tor_meta.specs.Head.{settings_of}
 use Rattle.tor_meta.specs.steps.Sums.{AreFactsOf, HaveTrees, SumUp}
 use Rattle.tor_meta.specs.declared.head.Head.{Head}

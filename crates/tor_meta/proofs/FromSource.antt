@@ -10,8 +10,9 @@ use Rattle.std.proofs.lemmas.List.Elements.{recursion_from_All}
 use Rattle.std.proofs.lemmas.List.FromFn.{get_or-enumerate_from, length-enumerate_from}
 use Rattle.tor_engine.specs.Contents.{contents_in}
 use Rattle.tor_engine.specs.Given.{HasToldLengths}
-use Rattle.tor_meta.specs.Contents.{files_of, IsMadeOf, IsMadeOfSome}
+use Rattle.tor_meta.specs.Contents.{files_with, IsMadeOf, IsMadeOfSome}
 use Rattle.tor_meta.specs.Make.{IsMadeOfTold, content_at, files_of_source, listed_files}
+use Rattle.tor_meta.specs.steps.Contents.{files_of}
 use Rattle.tor_meta.specs.steps.IndexedFiles.{facts_at}
 use Rattle.tor_source.specs.Source.{SourceFacts}
 use Rattle.tor_spec.specs.Facts.{File}
@@ -131,7 +132,8 @@ made_of_some settings paths lengths entries list contents bytes indexed lawful i
 
 -- files of a list and their contents, whatever numbers stand beside the paths
 same_files : (lengths : ListOf ℕ) (entries : Entries) (contents : ListOf (ListOf ℕ))
-    → files_of (map (λ entry. (entry.0, get_or lengths entry.1 0)) entries) contents ≡ files_of entries contents
+    → files_of (map (λ entry. (entry.0, get_or lengths entry.1 0)) entries) contents
+    ≡ files_with (paths_of entries) contents
 same_files lengths [] [] = refl
 same_files lengths [] (content ∷ contents) = refl
 same_files lengths (entry ∷ entries) [] = refl

@@ -8,8 +8,8 @@ use Rattle.std.proofs.lemmas.List.{length-map}
 use Rattle.std.proofs.lemmas.List.Elements.{All-from_recursion, recursion_from_All}
 use Rattle.std.proofs.lemmas.List.Sorted.{All-permutation}
 use Rattle.std.proofs.lemmas.List.FromFn.{get_or-range_with_len, length-range_with_len}
-use Rattle.tor_meta.specs.Contents.{files_in, files_of}
-use Rattle.tor_meta.specs.steps.Contents.{contents_at}
+use Rattle.tor_meta.specs.Contents.{files_in}
+use Rattle.tor_meta.specs.steps.Contents.{contents_at, files_of}
 use Rattle.tor_spec.specs.Facts.{File}
 use Rattle.tor_tree.specs.FileList.{lengths_of, paths_of}
 use Rattle.tor_tree.specs.PathList.{AreIndices, AreIndexedPaths, indices_of}

@@ -3,8 +3,8 @@ use Rattle.std.proofs.Common.{◌≡◌, ◌∙◌, ◌⊎◌, inl, inr, ℕ, Ve
 use Rattle.std.proofs.Common.{length, get_or, map, option_map, None, Some, refl, sym, ap, ◌<◌}
 use Rattle.std.proofs.lemmas.List.{length-map}
 use Rattle.std.specs.Option.{option_or}
-use Rattle.tor_meta.specs.Contents.{files_in, files_of, IsMadeOf}
-use Rattle.tor_meta.specs.steps.Contents.{contents_at}
+use Rattle.tor_meta.specs.Contents.{files_in, IsMadeOf}
+use Rattle.tor_meta.specs.steps.Contents.{contents_at, files_of}
 use Rattle.tor_meta.specs.Head.{settings_of}
 use Rattle.tor_meta.specs.ListRefusal.{of_list_error}
 use Rattle.tor_meta.specs.Refusal.{contents_refusal, paths_refusal}

@@ -11,9 +11,10 @@ use Rattle.std.proofs.lemmas.Slice.Zip.{AllZip-long, seconds-zip}
 use Rattle.tor_engine.specs.Streams.{AreSumsOfContents, GiveContents}
 use Rattle.tor_engine.specs.declared.sums.Sums.{Sums}
 use Rattle.tor_merkle.specs.declared.TheConstants.{MAX_PIECE_LENGTH, MIN_PIECE_LENGTH}
-use Rattle.tor_meta.specs.Contents.{IsMadeOfSome, files_of}
+use Rattle.tor_meta.specs.Contents.{IsMadeOfSome, files_with}
+use Rattle.tor_meta.specs.steps.Contents.{files_of}
 use Rattle.tor_meta.specs.MakeError.{of_contents_error}
-use Rattle.tor_meta.specs.MakeStreams.{IsGivenByReaders, files_with}
+use Rattle.tor_meta.specs.MakeStreams.{IsGivenByReaders}
 use Rattle.tor_meta.specs.Head.{settings_of}
 use Rattle.tor_meta.specs.Order.{has_tail}
 use Rattle.tor_meta.specs.Refusal.{paths_refusal}

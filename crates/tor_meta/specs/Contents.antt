@@ -1,4 +1,4 @@
--- Files whose contents lie in memory.
+-- Files and their contents, and the torrent of them.
 use Rattle.std.specs.Prelude.{◌≡◌, ℕ, List, map, Vec}
 use Rattle.std.specs.declared.alloc.Global.{Global}
 use Rattle.std.specs.List.{zip}
@@ -24,6 +24,6 @@ IsMadeOfSome settings paths bytes =
     (sorted : List File) × IsPermutation paths (map (λ file. file.path) sorted)
     × IsStrictlySortedBy path_cmp (map (λ file. file.path) sorted) × (bytes ≡ metainfo settings sorted)
 
--- for private clauses: files of a list with their contents
-abbrev pub files_of : List (List (List ℕ) × ℕ) → List (List ℕ) → List File
-files_of files contents = map (λ file. record { path = file.0.0; content = file.1 }) (zip files contents)
+-- file i has the i-th path and the i-th content
+abbrev pub files_with : List (List (List ℕ)) → List (List ℕ) → List File
+files_with paths contents = map (λ file. record { path = file.0; content = file.1 }) (zip paths contents)

@@ -8,7 +8,7 @@ use Rattle.tor_engine.specs.Fault.{first_of, length_fault}
 use Rattle.tor_engine.specs.Given.{Departs, HasToldLengths}
 use Rattle.tor_engine.specs.How.{is_how}
 use Rattle.tor_merkle.specs.Layer.{is_piece_length}
-use Rattle.tor_meta.specs.Contents.{files_of}
+use Rattle.tor_meta.specs.Contents.{files_with}
 use Rattle.tor_meta.specs.MakeError.{of_contents_error, of_engine_error}
 use Rattle.tor_meta.specs.Order.{is_span, settings_of_order}
 use Rattle.tor_meta.specs.Refusal.{paths_refusal}
@@ -20,7 +20,7 @@ use Rattle.tor_source.specs.Source.{SourceFacts}
 use Rattle.tor_spec.specs.Facts.{File}
 use Rattle.tor_spec.specs.Metainfo.{metainfo}
 use Rattle.tor_spec.specs.Settings.{Settings}
-use Rattle.tor_tree.specs.FileList.{IsInPathOrder, lengths_fault}
+use Rattle.tor_tree.specs.FileList.{IsInPathOrder, lengths_fault, paths_of}
 use Rattle.tor_tree.specs.declared.lists.ListError.TheVariants.{TooLarge}
 use Rattle.tor_tree.specs.PathList.{AreIndexedPaths, indices_of}
 
@@ -88,7 +88,7 @@ pub record IsMadeOfTold (told : ℕ → Option ℕ → Type 0) (settings : Setti
   pub one_each : length contents ≡ length entries
   pub are_told : (k : ℕ) → k < length entries →
       told (slice_index_or (indices_of entries) k 0) (Some (length (slice_index_or contents k [])))
-  pub made : bytes ≡ metainfo settings (files_of entries contents)
+  pub made : bytes ≡ metainfo settings (files_with (paths_of entries) contents)
 
 -- a length was told of this file, and the source does not keep to it
 abbrev pub IsToldChanged : (ℕ → Option ℕ → Type 0) → (ℕ → ℕ → Type 0) → ℕ → Type 0

@@ -1,12 +1,12 @@
 -- The torrent of readers that are read once: what it is of, and why it is not made.
 use Rattle.std.specs.Prelude.{◌≡◌, ◌*◌, ℕ, Bool, true, ◌&&◌, not, nat_le, List as ListOf, [], ◌∷◌, length, map}
 use Rattle.std.specs.Prelude.{Option, None, Some, option_map, if◌then◌else◌}
-use Rattle.std.specs.List.{zip}
 use Rattle.std.specs.Option.{option_or}
 use Rattle.std.specs.Ordering.{is_lt}
 use Rattle.tor_engine.specs.Streams.{GiveContents, GivesSome, IsFaultOfReaders}
 use Rattle.tor_engine.specs.declared.errors.EngineError.TheVariants as engine
 use Rattle.tor_engine.specs.declared.streams.TheConstants.{MAX_UNIT_LENGTH}
+use Rattle.tor_meta.specs.Contents.{files_with}
 use Rattle.tor_meta.specs.Make.{numbers_refusal}
 use Rattle.tor_meta.specs.MakeError.{of_contents_error}
 use Rattle.tor_meta.specs.Order.{settings_of_order}
@@ -15,7 +15,6 @@ use Rattle.tor_meta.specs.declared.make_error.MakeError.{MakeError}
 use Rattle.tor_meta.specs.declared.make_error.MakeError.TheVariants.{Span, NotSorted, List, Read, StreamTooLong}
 use Rattle.tor_meta.specs.declared.make_error.MakeError.TheVariants.{Changed, Missing}
 use Rattle.tor_meta.specs.declared.order.Order.{Order}
-use Rattle.tor_spec.specs.Facts.{File}
 use Rattle.tor_spec.specs.Metainfo.{metainfo}
 use Rattle.tor_spec.specs.Settings.{Settings}
 use Rattle.tor_tree.specs.FileList.{lengths_fault}
@@ -40,10 +39,6 @@ stream_refusal order paths =
     option_or (option_map of_contents_error (shape_refusal (settings_of_order order) paths)) (
     if not (are_rising paths) then Some NotSorted else (
     option_map of_contents_error (ordered_refusal (settings_of_order order) paths))))
-
--- file i has the i-th path and the i-th content
-abbrev pub files_with : ListOf (ListOf (ListOf ℕ)) → ListOf (ListOf ℕ) → ListOf File
-files_with paths contents = map (λ file. record { path = file.0; content = file.1 }) (zip paths contents)
 
 -- the bytes are the torrent of what readers give, each to its end, which is not too large together
 abbrev pub IsMadeOfReaders : Settings → ListOf (ListOf (ListOf ℕ)) → ListOf (Option (ListOf ℕ)) → ListOf ℕ → Type 0

@@ -1,7 +1,7 @@
 //! The torrent of files whose contents lie in memory.
 ghost use Rattle.std.specs.Prelude.{◌≡◌, ◌⊎◌, ◌<◌, All, List, Some, None, IfOk, IfErr, OnOk, length, map, true};
-ghost use Rattle.tor_meta.specs.Contents.{files_in, files_of, IsMadeOf};
-ghost use Rattle.tor_meta.specs.steps.Contents.{bytes_of, contents_at};
+ghost use Rattle.tor_meta.specs.Contents.{files_in, IsMadeOf};
+ghost use Rattle.tor_meta.specs.steps.Contents.{bytes_of, contents_at, files_of};
 ghost use Rattle.tor_meta.specs.Hashes.{HasInfo};
 ghost use Rattle.tor_meta.specs.Head.{settings_of};
 ghost use Rattle.tor_engine.specs.Sums.{lists_of};

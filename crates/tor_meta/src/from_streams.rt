@@ -3,11 +3,11 @@ ghost use Rattle.std.specs.Prelude.{◌≡◌, ◌⊎◌, None, Some, IfErr, IfO
 ghost use Rattle.std.specs.List.{zip};
 ghost use Rattle.std.specs.declared.io.Error.{Error};
 ghost use Rattle.tor_engine.specs.Streams.{AreSumsOfContents, AreSumsOfReaders, IsFaultOfReaders};
-ghost use Rattle.tor_meta.specs.Contents.{IsMadeOfSome};
+ghost use Rattle.tor_meta.specs.Contents.{IsMadeOfSome, files_with};
 ghost use Rattle.tor_meta.specs.Hashes.{HasInfo};
 ghost use Rattle.tor_meta.specs.Head.{settings_of};
 ghost use Rattle.tor_meta.specs.Make.{IsOwn};
-ghost use Rattle.tor_meta.specs.MakeStreams.{IsGivenByReaders, IsMadeOfReaders, are_rising, files_with};
+ghost use Rattle.tor_meta.specs.MakeStreams.{IsGivenByReaders, IsMadeOfReaders, are_rising};
 ghost use Rattle.tor_meta.specs.MakeStreams.{stream_numbers_refusal, stream_refusal};
 ghost use Rattle.tor_meta.specs.Order.{has_tail, settings_of_order};
 ghost use Rattle.tor_meta.specs.Refusal.{ordered_refusal};

@@ -4,7 +4,7 @@ ghost use Rattle.tor_engine.specs.Contents.{contents_in};
 ghost use Rattle.tor_engine.specs.Fault.{IsFault, first_byte_fault, first_length_fault};
 ghost use Rattle.tor_engine.specs.Given.{IsGivenNotMissing};
 ghost use Rattle.tor_engine.specs.How.{IsHow};
-ghost use Rattle.tor_meta.specs.Contents.{files_of};
+ghost use Rattle.tor_meta.specs.steps.Contents.{files_of};
 ghost use Rattle.tor_meta.specs.Hashes.{HasInfo};
 ghost use Rattle.tor_meta.specs.Head.{settings_of};
 ghost use Rattle.tor_meta.specs.steps.Sums.{HaveTrees, IsJudged, IsPlanOf, SumUp, SumUpSome};

@@ -1,7 +1,7 @@
-//! Why the files below a folder are no list.
+//! Why the files below a folder are no list, and which faults of the system say that nothing is there.
 ghost use Rattle.std.specs.Prelude.{◌≡◌};
 ghost use Rattle.std.specs.IoError.{error_kind};
-ghost use Rattle.tor_source.specs.Faults.{fault_of_kind, fault_of_name};
+ghost use Rattle.tor_source.specs.Faults.{fault_of_kind, fault_of_name, is_absence};
 ghost use Rattle.tor_source.specs.declared.faults.ScanFault.TheVariants.{Memory};
 
 use std::alloc::{AllocError, AllocFailed};
@@ -26,6 +26,13 @@ pub enum ScanFault {
     /// Memory was refused.
     #[error("out of memory")]
     Memory,
+}
+
+/// Whether a fault of this kind says that nothing is at a place: there is nothing, or the place leads through a file.
+pub fn is_absence(kind: io::ErrorKind) -> bool
+    ensures { result ≡ is_absence kind }
+{
+    matches!(kind, io::ErrorKind::NotFound | io::ErrorKind::NotADirectory)
 }
 
 impl From<AllocError> for ScanFault {

@@ -3,6 +3,7 @@ ghost use Rattle.std.specs.Prelude.{◌≡◌, ◌<◌, ◌≤◌, ◌∷◌, []
 ghost use Rattle.std.specs.List.{All};
 ghost use Rattle.std.specs.List.Sorted.{IsStrictlySortedBy};
 ghost use Rattle.std.specs.IoError.{error_kind};
+ghost use Rattle.std.specs.String.{string_bytes};
 ghost use Rattle.tor_source.specs.Faults.{is_absence};
 ghost use Rattle.tor_source.specs.Places.{place_of};
 ghost use Rattle.tor_source.specs.declared.faults.ScanFault.TheVariants.{System};
@@ -11,7 +12,7 @@ ghost use Rattle.tor_tree.specs.Path.{path_cmp};
 
 use crate::faults::ScanFault;
 use crate::lazy::LazyFile;
-use crate::places::place_of;
+use crate::places::{one_place, places_of};
 use crate::regular;
 use crate::source::Source;
 use crate::walk::walk;
@@ -52,41 +53,31 @@ impl<R: Files + AllocGlobal + Clone + Drop> FolderSource<R> {
         if place.is_empty() {
             return Err(ScanFault::System);
         }
-        let metadata = rt.metadata(place)?;
-        if metadata.is_file() {
-            return Err(ScanFault::System);
-        }
-        if !metadata.is_dir() {
-            return Err(ScanFault::NotRegular);
-        }
+        judge_folder(rt, place)?;
         let found = walk(rt, place)?;
-        let source = FolderSource {
-            rt: rt.clone()?,
-            places: found.places,
-        };
-        Ok((source, found.paths))
+        Ok((FolderSource::of_places(rt, found.places)?, found.paths))
     }
 
     /// These files below the folder `place`, whether they are there or not. Below the empty place none is.
     pub fn at(rt: &R, place: &str, files: Vec<FilePath>) -> Result<FolderSource<R>, AllocError>
         ensures { IfOk result (λ source. source ≡ map (place_of place.now) files.items) }
     {
-        let mut places = Vec::new(rt.alloc());
-        for file in &files {
-            places.push(place_of(rt.alloc(), place, file)?)?;
-        }
-        Ok(FolderSource {
-            rt: rt.clone()?,
-            places,
-        })
+        let places = places_of(rt.alloc(), place, &files)?;
+        FolderSource::of_places(rt, places)
     }
 
     /// The one file `place`.
     pub fn single(rt: &R, place: &str) -> Result<FolderSource<R>, AllocError>
         ensures { IfOk result (λ source. source ≡ place.now ∷ []) }
     {
-        let mut places = Vec::new(rt.alloc());
-        places.push(String::from_str(rt.alloc(), place)?)?;
+        let places = one_place(rt.alloc(), place)?;
+        FolderSource::of_places(rt, places)
+    }
+
+    // The files at these places.
+    fn of_places(rt: &R, places: Vec<String>) -> Result<FolderSource<R>, AllocError>
+        ensures { IfOk result (λ source. source ≡ map string_bytes places.items) }
+    {
         Ok(FolderSource {
             rt: rt.clone()?,
             places,
@@ -98,12 +89,7 @@ impl<R: Files + AllocGlobal + Clone + Drop> FolderSource<R> {
         ensures each { IfOk result (λ readers. readers.items ≡ self.now) }
         ensures count { IfOk result (λ readers. vec_len readers ≡ length self.now) }
     {
-        let mut readers = Vec::with_capacity(self.rt.alloc(), self.places.len())?;
-        'places: for place in &self.places {
-            let place = String::from_str(self.rt.alloc(), place)?;
-            readers.push(LazyFile::new(self.rt.clone()?, place))?;
-        }
-        Ok(readers)
+        readers_of(&self.rt, &self.places)
     }
 
     /// How many files there are.
@@ -112,6 +98,43 @@ impl<R: Files + AllocGlobal + Clone + Drop> FolderSource<R> {
     {
         self.places.len()
     }
+}
+
+// A reader of the file at each of these places.
+fn readers_of<R: Files + AllocGlobal + Clone + Drop>(
+    rt: &R,
+    places: &[String],
+) -> Result<Vec<LazyFile<R>>, AllocError>
+    ensures { IfOk result (λ readers. readers.items ≡ map string_bytes places.now) }
+{
+    let mut readers = Vec::with_capacity(rt.alloc(), places.len())?;
+    'places: for place in places {
+        readers.push(reader_of(rt, place)?)?;
+    }
+    Ok(readers)
+}
+
+// A reader of the file at this place.
+fn reader_of<R: Files + AllocGlobal + Clone + Drop>(
+    rt: &R,
+    place: &str,
+) -> Result<LazyFile<R>, AllocError>
+    ensures { IfOk result (λ reader. reader ≡ place.now) }
+{
+    let place = String::from_str(rt.alloc(), place)?;
+    Ok(LazyFile::new(rt.clone()?, place))
+}
+
+// Whether a place may be scanned: a folder is there.
+fn judge_folder<R: Files>(rt: &R, place: &str) -> Result<(), ScanFault> {
+    let metadata = rt.metadata(place)?;
+    if metadata.is_file() {
+        return Err(ScanFault::System);
+    }
+    if !metadata.is_dir() {
+        return Err(ScanFault::NotRegular);
+    }
+    Ok(())
 }
 
 /// No contract can say what a file of the system holds, nor that it stays as it is: so this source is steady for no

@@ -18,7 +18,8 @@
 //! - [`MemSource`] (`memory.rt`), [`FailSource`] (`failing.rt`), [`ShortSource`] (`short.rt`): files in memory, with
 //!   faults at chosen offsets, or read in small steps.
 //! - [`LazyFile`] (`lazy.rt`): a file of the system that is read once and in order.
-//! - [`ScanFault`] (`faults.rt`): why a folder's files are no list.
+//! - [`ScanFault`] (`faults.rt`): why a folder's files are no list. [`is_absence`]: which faults of the system say that
+//!   nothing is there.
 //! - [`read_parts`], [`read_limited`], [`drop_input`] (`input.rt`): what a reader has, handed on, kept, or dropped, or
 //!   the [`InputFault`] that ended it. [`Intake`] (`intake.rt`): what takes the parts. [`fill`] (`filling.rt`): a
 //!   buffer filled from a reader, or the [`FillFault`]; [`zeros`] (`buffer.rt`): room to read into.
@@ -47,7 +48,7 @@ mod walk;
 
 pub use buffer::zeros;
 pub use failing::FailSource;
-pub use faults::ScanFault;
+pub use faults::{ScanFault, is_absence};
 pub use filling::{FillFault, fill};
 pub use folder::FolderSource;
 pub use input::{InputFault, MAX_INPUT_LENGTH, drop_input, read_limited, read_parts};

@@ -1,10 +1,33 @@
 //! Where the system has files: a folder's place, and each name after a slash.
-ghost use Rattle.std.specs.Prelude.{◌≡◌, IfOk};
+ghost use Rattle.std.specs.Prelude.{◌≡◌, ◌∷◌, [], IfOk, map};
 ghost use Rattle.std.specs.String.{string_bytes};
 ghost use Rattle.tor_source.specs.Places.{place_below, place_of, without_slash};
 
 use std::alloc::{AllocError, Global};
 use tor_tree::{FilePath, Name};
+
+/// The places of the files that paths lead to from a folder.
+pub(crate) fn places_of(
+    alloc: Global,
+    folder: &str,
+    files: &[FilePath],
+) -> Result<Vec<String>, AllocError>
+    ensures { IfOk result (λ places. map string_bytes places.items ≡ map (place_of folder.now) files.now) }
+{
+    let mut places = Vec::with_capacity(alloc, files.len())?;
+    'files: for file in files {
+        places.push(place_of(alloc, folder, file)?)?;
+    }
+    Ok(places)
+}
+
+/// The list of one place.
+pub(crate) fn one_place(alloc: Global, place: &str) -> Result<Vec<String>, AllocError>
+    ensures { IfOk result (λ places. map string_bytes places.items ≡ place.now ∷ []) }
+{
+    let place = String::from_str(alloc, place)?;
+    Ok(vec![in alloc; place]?)
+}
 
 /// The place of the file that the path leads to from a folder. The empty place is no folder: below it each file is at
 /// the empty place, where the system has nothing.

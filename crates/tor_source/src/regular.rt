@@ -4,6 +4,7 @@ ghost use Rattle.std.specs.IoError.{error_kind};
 ghost use Rattle.std.specs.Prelude.{◌≡◌, ◌≤◌, false, IfErr, IfOk, IfSome, length};
 ghost use Rattle.tor_source.specs.Faults.{is_absence};
 
+use crate::faults::is_absence;
 use std::fs::{self, Metadata};
 use std::io;
 use std::os::unix::fs::FileExt;
@@ -57,11 +58,4 @@ fn file_at<R: Files>(rt: &R, place: &str) -> io::Result<Option<Metadata>>
         Err(fault) if is_absence(fault.kind()) => Ok(None),
         Err(fault) => Err(fault),
     }
-}
-
-// Whether a fault of this kind says that nothing is there.
-fn is_absence(kind: io::ErrorKind) -> bool
-    ensures { result ≡ is_absence kind }
-{
-    matches!(kind, io::ErrorKind::NotFound | io::ErrorKind::NotADirectory)
 }

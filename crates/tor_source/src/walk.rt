@@ -2,7 +2,7 @@
 ghost use Rattle.std.specs.Prelude.{◌≡◌, ◌<◌, ◌≤◌, ◌∷◌, ◌++◌, ◌⊎◌, ◌≢◌, ℕ};
 ghost use Rattle.std.specs.Prelude.{List, [], IfErr, IfOk, IfSome, OnOk, length, map};
 ghost use Rattle.std.specs.String.{string_bytes};
-ghost use Rattle.tor_source.specs.steps.Order.{HasAdded, HasFound, IsAhead, IsEntered};
+ghost use Rattle.tor_source.specs.steps.Order.{HasAdded, HasFound, IsAhead, IsEntered, path_in};
 ghost use Rattle.tor_source.specs.Places.{without_slash};
 ghost use Rattle.tor_source.specs.declared.faults.ScanFault.TheVariants.{Memory, TooDeep};
 ghost use Rattle.tor_tree.specs.declared.paths.TheConstants.{MAX_NAMES};
@@ -10,7 +10,7 @@ ghost use Rattle.tor_tree.specs.declared.paths.TheConstants.{MAX_NAMES};
 use crate::faults::ScanFault;
 use crate::listing::rising_names;
 use crate::places::{place_below, without_slash};
-use std::alloc::Global;
+use std::alloc::{AllocError, Global};
 use std::io::Read;
 use std::rt::Files;
 use tor_tree::{FilePath, MAX_NAMES, Name, copy_names};
@@ -38,16 +38,9 @@ pub(crate) fn walk<R: Files + AllocGlobal>(rt: &R, root: &str) -> Result<Found, 
     ensures { IfOk result (HasFound (without_slash root.now)) }
 {
     let alloc = rt.alloc();
-    let mut found = Found {
-        folder: String::from_str(alloc, without_slash(root))?,
-        paths: Vec::new(alloc),
-        places: Vec::new(alloc),
-    };
+    let mut found = none_found(alloc, root)?;
     let mut last = Vec::new(alloc);
-    let mut waiting = Vec::new(alloc);
-    // A symbolic link is followed only at a place that ends in a slash.
-    let top = format!(in alloc; "{root}/")?;
-    add_names(alloc, rt.open_dir(&top)?, &last, &mut waiting)?;
+    let mut waiting = names_at_top(rt, root)?;
     for _ in 0..u64::MAX {
         let Some(entry) = waiting.pop() else {
             return Ok(found);
@@ -55,6 +48,30 @@ pub(crate) fn walk<R: Files + AllocGlobal>(rt: &R, root: &str) -> Result<Found, 
         enter(rt, entry, &mut last, &mut waiting, &mut found)?;
     }
     Err(ScanFault::System)
+}
+
+/// The place of a folder, below which nothing was found yet.
+fn none_found(alloc: Global, root: &str) -> Result<Found, AllocError>
+    ensures folder { IfOk result (λ found. string_bytes found.folder ≡ without_slash root.now) }
+    ensures none { IfOk result (λ found. (found.paths.items ≡ []) × (found.places.items ≡ [])) }
+{
+    Ok(Found {
+        folder: String::from_str(alloc, without_slash(root))?,
+        paths: Vec::new(alloc),
+        places: Vec::new(alloc),
+    })
+}
+
+/// The names in the folder itself, which wait.
+fn names_at_top<R: Files + AllocGlobal>(rt: &R, root: &str) -> Result<Vec<Entry>, ScanFault>
+    ensures { IfOk result (λ waiting. IsAhead [] [] waiting.items) }
+{
+    let alloc = rt.alloc();
+    let mut waiting = Vec::new(alloc);
+    // A symbolic link is followed only at a place that ends in a slash.
+    let top = format!(in alloc; "{root}/")?;
+    add_names(alloc, rt.open_dir(&top)?, &[], &mut waiting)?;
+    Ok(waiting)
 }
 
 /// Adds a file to those that were found, or the names in a folder to those that wait. `last`, the path that was
@@ -72,8 +89,7 @@ fn enter<R: Files + AllocGlobal>(
     ensures ahead { OnOk result (IsAhead found.new.paths.items last.new.items waiting.new.items) }
     ensures folder_stays { OnOk result (string_bytes found.new.folder ≡ string_bytes found.old.folder) }
 {
-    last.truncate(entry.depth);
-    last.push(Name::new(rt.alloc(), &entry.name)?)?;
+    step_to(rt.alloc(), entry, last)?;
     let place = place_below(rt.alloc(), &found.folder, last)?;
     let metadata = rt.symlink_metadata(&place)?;
     if metadata.is_dir() {
@@ -83,6 +99,15 @@ fn enter<R: Files + AllocGlobal>(
         return add_file(rt.alloc(), place, last, found);
     }
     Err(ScanFault::NotRegular)
+}
+
+/// Makes the path that was entered last that of an entry.
+fn step_to(alloc: Global, entry: Entry, last: &mut Vec<Name>) -> Result<(), ScanFault>
+    ensures { OnOk result (last.new.items ≡ path_in last.old.items entry) }
+{
+    last.truncate(entry.depth);
+    last.push(Name::new(alloc, &entry.name)?)?;
+    Ok(())
 }
 
 /// Adds the names in a folder, which the names `above` lead to; the first of them is entered next.

@@ -1,9 +1,15 @@
--- Contents that lie in memory. Only private clauses cite these.
+-- Contents in the order of a list. Only private clauses cite these.
 use Rattle.std.specs.Borrow.{Bor}
+use Rattle.std.specs.List.{zip}
 use Rattle.std.specs.Prelude.{ℕ, List, [], map, Vec, slice_index_or}
 use Rattle.std.specs.declared.alloc.Global.{Global}
+use Rattle.tor_spec.specs.Facts.{File}
 
--- those that are borrowed
+-- files of a list with their contents
+abbrev pub files_of : List (List (List ℕ) × ℕ) → List (List ℕ) → List File
+files_of files contents = map (λ file. record { path = file.0.0; content = file.1 }) (zip files contents)
+
+-- the contents that are borrowed
 abbrev pub bytes_of : List (Bor (List ℕ)) → List (List ℕ)
 bytes_of contents = map (λ content. content.now) contents
 

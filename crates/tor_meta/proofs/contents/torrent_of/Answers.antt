@@ -1,7 +1,6 @@
 use Rattle.std.proofs.Common.{◌∙◌, ap}
 use Rattle.tor_bencode.specs.Spelling.{spelling}
-use Rattle.tor_meta.specs.Contents.{files_of}
-use Rattle.tor_meta.specs.steps.Contents.{bytes_of}
+use Rattle.tor_meta.specs.steps.Contents.{bytes_of, files_of}
 use Rattle.tor_spec.specs.Metainfo.{facts_of_files, metainfo}
 use Rattle.tor_meta.proofs.ContentSteps.{have_trees, same_pieces, told_facts}
 use Rattle.tor_meta.proofs.contents.torrent_of.Goals as goal

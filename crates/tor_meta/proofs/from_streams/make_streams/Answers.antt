@@ -3,7 +3,7 @@ use Rattle.std.proofs.Common.{◌≡◌, ◌∙◌, Some, length, map, ap, sym, 
 use Rattle.std.proofs.lemmas.List.{length-map}
 use Rattle.std.specs.declared.io.Error.{Error}
 use Rattle.tor_engine.specs.Streams.{GivesWhole}
-use Rattle.tor_meta.specs.Contents.{files_of}
+use Rattle.tor_meta.specs.steps.Contents.{files_of}
 use Rattle.tor_meta.specs.MakeStreams.{IsGivenByReaders}
 use Rattle.tor_meta.specs.Order.{settings_of_order}
 use Rattle.tor_meta.proofs.ContentSteps.{have_trees}

@@ -9,9 +9,8 @@ use Rattle.tor_source.proofs.walk.enter.Goals as goal
 
 pub returns-then-is_dir-clause-ahead : goal.returns-then-is_dir-clause-ahead
 returns-then-is_dir-clause-ahead g c =
-    let path = c.push.new.self.items in
-    let is : path ≡ path_in c.args.last.now.items c.args.entry =
-    rw (c.in_ok-push.ensures.items, c.truncate.ensures.items, c.in_ok-new.ensures.made, c.deref.ensures.value) in
+    let path = c.step_to.new.last.items in
+    let is = c.in_ok-step_to.ensures in
     let entered : IsEntered c.args.found.now.paths.items path c.args.waiting.now.items =
     rw is (entered_next c.args.found.now.paths.items c.args.last.now.items c.args.waiting.now.items c.args.entry
     c.requires.ahead) in
@@ -22,14 +21,13 @@ returns-then-is_dir-clause-ahead g c =
 pub returns-then-is_file-clause-found : goal.returns-then-is_file-clause-found
 returns-then-is_file-clause-found g c =
     let folder = string_bytes c.args.found.now.folder in
-    let path = c.push.new.self.items in
-    let is : path ≡ path_in c.args.last.now.items c.args.entry =
-    rw (c.in_ok-push.ensures.items, c.truncate.ensures.items, c.in_ok-new.ensures.made, c.deref.ensures.value) in
+    let path = c.step_to.new.last.items in
+    let is = c.in_ok-step_to.ensures in
     let entered : IsEntered c.args.found.now.paths.items path c.args.waiting.now.items =
     rw is (entered_next c.args.found.now.paths.items c.args.last.now.items c.args.waiting.now.items c.args.entry
     c.requires.ahead) in
     let place : string_bytes c.in_ok-place.place ≡ place_below folder path =
-    rw (← c.deref-2.ensures, ← c.deref-3.ensures.value) c.in_ok-place.ensures in
+    rw (← c.deref.ensures, ← c.deref-2.ensures.value) c.in_ok-place.ensures in
     on_ok_weaker c.add_file.result (λ added.
     let known = rw c.deref-then-is_file.ensures.value at added in
     rw (known.0, known.1, known.2)
@@ -39,9 +37,8 @@ returns-then-is_file-clause-found g c =
 
 pub returns-then-is_file-clause-ahead : goal.returns-then-is_file-clause-ahead
 returns-then-is_file-clause-ahead g c =
-    let path = c.push.new.self.items in
-    let is : path ≡ path_in c.args.last.now.items c.args.entry =
-    rw (c.in_ok-push.ensures.items, c.truncate.ensures.items, c.in_ok-new.ensures.made, c.deref.ensures.value) in
+    let path = c.step_to.new.last.items in
+    let is = c.in_ok-step_to.ensures in
     let entered : IsEntered c.args.found.now.paths.items path c.args.waiting.now.items =
     rw is (entered_next c.args.found.now.paths.items c.args.last.now.items c.args.waiting.now.items c.args.entry
     c.requires.ahead) in
