@@ -126,6 +126,8 @@ fn entry_of(alloc: Global, file: &Listed) -> Result<Entry, AllocError>
             path: path.copy(alloc)?,
             length,
             pad: false,
+            exec: file.marks.exec,
+            hidden: file.marks.hidden,
         }),
         None => pad_entry(alloc, length),
     }

@@ -78,14 +78,14 @@ module _ (p size : ℕ) (level : Option ℕ) where
       → flat_map (nodes_in contents) (separate_entry_units size index entries)
       ≡ flat_map (nodes_of_file p size level) rest
 
-  one_entry : (contents : List (List ℕ)) (index : ℕ) (path : List (List ℕ)) (m : ℕ) (pad : Bool) (entries : List Entry)
+  one_entry : (contents : List (List ℕ)) (index : ℕ) (entry : Entry) (pad : Bool) (entries : List Entry)
       → AreNodesFrom contents index entries → AreNodesFrom contents (index + 1) entries
-      → AreNodesFrom contents index (record { path = path; length = m; pad = pad } ∷ entries)
+      → AreNodesFrom contents index (record entry { pad = pad } ∷ entries)
   unfolding separate_entry_units
-  one_entry contents index path m true entries same later = same
-  one_entry contents index path m false entries same later =
-      one_file contents index m (padding_before_next entries) (separate_entry_units size (index + 1) entries)
-      (lengths_of_entries entries) later
+  one_entry contents index entry true entries same later = same
+  one_entry contents index entry false entries same later =
+      one_file contents index entry.length (padding_before_next entries)
+      (separate_entry_units size (index + 1) entries) (lengths_of_entries entries) later
 
   -- the files of the entries from an index on
   pub nodes_from : (contents : List (List ℕ)) (index : ℕ) (entries : List Entry) → AreNodesFrom contents index entries
@@ -93,5 +93,5 @@ module _ (p size : ℕ) (level : Option ℕ) where
   nodes_from contents index [] [] split fit = refl
   nodes_from contents index [] (content ∷ rest) split fit = cc
   nodes_from contents index (entry ∷ entries) rest split fit =
-      one_entry contents index entry.path entry.length entry.pad entries (nodes_from contents index entries)
+      one_entry contents index entry entry.pad entries (nodes_from contents index entries)
       (nodes_from contents (index + 1) entries) rest split fit

@@ -4,10 +4,10 @@ use Rattle.tor_plan.proofs.Names.{unit_within, joined_entry_units, padding_befor
 use Rattle.tor_plan.proofs.Names.{entry_units}
 
 abbrev file : ℕ → Entry
-file m = record { path = []; length = m; pad = false }
+file m = record { path = []; length = m; pad = false; exec = false; hidden = false }
 
 abbrev pad : ℕ → Entry
-pad m = record { path = []; length = m; pad = true }
+pad m = record { path = []; length = m; pad = true; exec = false; hidden = false }
 
 abbrev part : ℕ → ℕ → ℕ → ℕ → Part
 part file start n zeros = record { file = file; start = start; length = n; zeros = zeros }

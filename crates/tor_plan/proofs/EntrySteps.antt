@@ -4,53 +4,67 @@ use Rattle.tor_plan.proofs.Names.{cond-true, cond-false, Entry, after_part, shar
 use Rattle.tor_plan.proofs.Names.{refl, ◌∙◌, inl, inr, mul-le-mul_right, lt_of_mul-lt-mul_right, cases_lt, true≢false}
 use Rattle.tor_plan.proofs.Names.{padding_length, padding_before_next, has_padding, whole_with_padding}
 
-abbrev pub Path : Type 0
-Path = List (List ℕ)
+-- what an entry has beside its length: its path, and whether it has an x or an h
+abbrev pub Label : Type 0
+Label = List (List ℕ) × Bool × Bool
 
-abbrev pub padding : Path → ℕ → Entry
-padding path m = record { path = path; length = m; pad = true }
+-- that of a file without letters
+abbrev pub plain : List (List ℕ) → Label
+plain path = (path, false, false)
 
-abbrev pub file : Path → ℕ → Entry
-file path m = record { path = path; length = m; pad = false }
+abbrev pub padding : Label → ℕ → Entry
+padding label m = record { path = label.0; length = m; pad = true; exec = label.1; hidden = label.2 }
+
+abbrev pub file : Label → ℕ → Entry
+file label m = record { path = label.0; length = m; pad = false; exec = label.1; hidden = label.2 }
 
 -- an entry is padding or a file
-pub entry_cases : (Q : Entry → Type 0) → ((path : Path) (m : ℕ) → Q (padding path m))
-    → ((path : Path) (m : ℕ) → Q (file path m)) → (entry : Entry) → Q entry
+pub entry_cases : (Q : Entry → Type 0) → ((label : Label) (m : ℕ) → Q (padding label m))
+    → ((label : Label) (m : ℕ) → Q (file label m)) → (entry : Entry) → Q entry
 entry_cases Q of_padding of_file entry = by_pad entry.pad where
-  by_pad : (pad : Bool) → Q (record { path = entry.path; length = entry.length; pad = pad })
-  by_pad true = of_padding entry.path entry.length
-  by_pad false = of_file entry.path entry.length
+  label : Label
+  label = (entry.path, entry.exec, entry.hidden)
+
+  by_pad : (pad : Bool) → Q (record {
+    path = entry.path;
+    length = entry.length;
+    pad = pad;
+    exec = entry.exec;
+    hidden = entry.hidden;
+  })
+  by_pad true = of_padding label entry.length
+  by_pad false = of_file label entry.length
 
 -- a file that a range meets, and one that it does not
-module _ (a b index at : ℕ) (path : Path) (m : ℕ) (entries : List Entry) where
-  pub met : 0 < shared a b at m → unit_within a b index at (file path m ∷ entries)
+module _ (a b index at : ℕ) (label : Label) (m : ℕ) (entries : List Entry) where
+  pub met : 0 < shared a b at m → unit_within a b index at (file label m ∷ entries)
       ≡ after_part index (max a at - at) (shared a b at m) (unit_within a b (index + 1) (at + m) entries)
   unfolding unit_within
   met some = cond-true _ _ _ (lt-ltb 0 (shared a b at m) some)
 
-  pub not_met : shared a b at m ≤ 0 → unit_within a b index at (file path m ∷ entries)
+  pub not_met : shared a b at m ≤ 0 → unit_within a b index at (file label m ∷ entries)
       ≡ unit_within a b (index + 1) (at + m) entries
   unfolding unit_within
   not_met none = cond-false _ _ _ (le-ltb 0 (shared a b at m) none)
 
 -- the padding before a file with bytes, and before an empty one
-pub before_some : (path : Path) (m : ℕ) (entries : List Entry) → 0 < m → padding_before_next (file path m ∷ entries) ≡ 0
+pub before_some : (label : Label) (m : ℕ) (entries : List Entry) → 0 < m → padding_before_next (file label m ∷ entries) ≡ 0
 unfolding padding_before_next
-before_some path m entries some = cond-true _ _ _ (lt-ltb 0 m some)
+before_some label m entries some = cond-true _ _ _ (lt-ltb 0 m some)
 
-pub before_empty : (path : Path) (m : ℕ) (entries : List Entry) → m ≡ 0
-    → padding_before_next (file path m ∷ entries) ≡ padding_before_next entries
+pub before_empty : (label : Label) (m : ℕ) (entries : List Entry) → m ≡ 0
+    → padding_before_next (file label m ∷ entries) ≡ padding_before_next entries
 unfolding padding_before_next
-before_empty path m entries none = cond-false _ _ _ (le-ltb 0 m (omega (arith, none)))
+before_empty label m entries none = cond-false _ _ _ (le-ltb 0 m (omega (arith, none)))
 
 pub unpadded : (entries : List Entry) → has_padding entries ≡ false → padding_before_next entries ≡ 0
 unfolding padding_before_next
 unpadded [] none = refl
 unpadded (entry ∷ entries) none = entry_cases
     (λ e. has_padding (e ∷ entries) ≡ false → padding_before_next (e ∷ entries) ≡ 0)
-    (λ path m others. absurd (true≢false others)) (λ path m others. elim (cases_lt 0 m) [
-      | inl more ↦ before_some path m entries more
-      | inr few ↦ before_empty path m entries (omega (arith, few)) ∙ unpadded entries others
+    (λ label m others. absurd (true≢false others)) (λ label m others. elim (cases_lt 0 m) [
+      | inl more ↦ before_some label m entries more
+      | inr few ↦ before_empty label m entries (omega (arith, few)) ∙ unpadded entries others
     ]) entry none
 
 -- none, or what m bytes lack to a whole piece

@@ -12,7 +12,7 @@ use Rattle.tor_plan.proofs.Names.{units_of_file, cases_Bool, and_from, and_left,
 use Rattle.tor_plan.proofs.Names.{or_from, list_any, has_padding, is_filled, ArePadded, IsLaidOut, IsPaddedTo}
 use Rattle.tor_plan.proofs.Names.{no_padding}
 use Rattle.tor_plan.proofs.Contents.{File}
-use Rattle.tor_plan.proofs.EntrySteps.{met, not_met, before_some, before_empty}
+use Rattle.tor_plan.proofs.EntrySteps.{met, not_met, before_some, before_empty, plain}
 use Rattle.tor_plan.proofs.Runs.{map_same}
 
 abbrev pub entry_length : Entry → ℕ
@@ -41,10 +41,10 @@ files_within a b index at (file ∷ files) =
     let rest = files_within a b (index + 1) (at + m) files in
     let others = parts_within a b (index + 1) (at + m) (lengths_of files) in
     elim (cases_lt low high) [
-      | inl some ↦ met a b index at file.0 m (map file_entry files) (omega (arith, some))
+      | inl some ↦ met a b index at (plain file.0) m (map file_entry files) (omega (arith, some))
           ∙ ap (after_part index (low - at) (high - low)) rest ∙ ap (λ ps. record { zeros = 0; parts = ps ++ others })
           (sym (cond-true _ _ _ (lt-ltb low high some)))
-      | inr none ↦ not_met a b index at file.0 m (map file_entry files) (omega (arith, none)) ∙ rest
+      | inr none ↦ not_met a b index at (plain file.0) m (map file_entry files) (omega (arith, none)) ∙ rest
           ∙ ap (λ ps. record { zeros = 0; parts = ps ++ others }) (sym (cond-false _ _ _ (le-ltb low high none)))
     ]
 
@@ -67,8 +67,8 @@ before_files : (files : List File) → padding_before_next (map file_entry files
 unfolding padding_before_next
 before_files [] = refl
 before_files (file ∷ files) = elim (cases_lt 0 file.1) [
-  | inl some ↦ before_some file.0 file.1 (map file_entry files) some
-  | inr few ↦ before_empty file.0 file.1 (map file_entry files) (omega (arith, few)) ∙ before_files files
+  | inl some ↦ before_some (plain file.0) file.1 (map file_entry files) some
+  | inr few ↦ before_empty (plain file.0) file.1 (map file_entry files) (omega (arith, few)) ∙ before_files files
 ]
 
 before_padded : (b : Bool) (n : ℕ) (entries : List Entry) → padding_before_next (padded b n ++ entries)
@@ -94,10 +94,10 @@ before_aligned tail p (file ∷ files) =
     let others = aligned_entries tail p files in
     let b = ltb 0 n && (tail || has_bytes files) in
     elim (cases_lt 0 file.1) [
-      | inl some ↦ before_some file.0 file.1 (padded b n ++ others) some
+      | inl some ↦ before_some (plain file.0) file.1 (padded b n ++ others) some
       | inr few ↦
           let none : file.1 ≡ 0 = omega (arith, few) in
-          before_empty file.0 file.1 (padded b n ++ others) none ∙ before_padded b n others
+          before_empty (plain file.0) file.1 (padded b n ++ others) none ∙ before_padded b n others
           ∙ ap₂ (λ x y. x + y) (no_zeros_of tail p file.1 files none) (before_aligned tail p files)
     ]
 

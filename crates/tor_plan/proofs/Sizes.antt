@@ -86,11 +86,11 @@ files_within : (entries : List Entry) → sum (lengths_of_entries entries) ≤ e
 files_within [] = omega arith
 files_within (entry ∷ entries) = entry_cases
     (λ e. sum (lengths_of_entries (e ∷ entries)) ≤ entries_length (e ∷ entries))
-    (λ path m. omega (arith, files_within entries, sum_by-cons (λ (e : Entry). e.length) (padding path m) entries))
-    (λ path m. omega (
+    (λ label m. omega (arith, files_within entries, sum_by-cons (λ (e : Entry). e.length) (padding label m) entries))
+    (λ label m. omega (
       arith,
       files_within entries,
-      sum_by-cons (λ (e : Entry). e.length) (file path m) entries,
+      sum_by-cons (λ (e : Entry). e.length) (file label m) entries,
       sum_by-cons (λ x. x) m (lengths_of_entries entries),
     )) entry
 

@@ -92,7 +92,7 @@ unfolding separate_entry_units
 units_counted size index [] = refl
 units_counted size index (entry ∷ entries) = entry_cases
     (λ e. length (separate_entry_units size index (e ∷ entries)) ≡ count_units size (lengths_of_entries (e ∷ entries)))
-    (λ path m. units_counted size index entries) (λ path m.
+    (λ label m. units_counted size index entries) (λ label m.
     length-append (map (file_unit size index m (padding_before_next entries)) (range_with_len 0 (div_ceil m size))) _
     ∙ ap₂ (λ x y. x + y) (length-map (range_with_len 0 (div_ceil m size)) _ ∙ length-range_with_len 0 (div_ceil m size))
     (units_counted size (index + 1) entries) ∙ sym (sum_by-cons (λ n. div_ceil n size) m (lengths_of_entries entries)))

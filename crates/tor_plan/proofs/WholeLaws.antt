@@ -8,7 +8,7 @@ use Rattle.tor_plan.proofs.Names.{lengths_of_entries, padding_before_next, has_p
 use Rattle.tor_plan.proofs.Names.{pieces_of_unit, file_unit, units_of_file, IsInFile, IsFileUnit, Part, PlanUnit}
 use Rattle.tor_plan.proofs.Names.{part_alone, separate_pieces, whole_from, whole_unit}
 use Rattle.tor_plan.proofs.Contents.{after, after_lengths, from_index, here}
-use Rattle.tor_plan.proofs.EntrySteps.{Path, file, before_empty, before_some, tail_fits, unpadded, Fills}
+use Rattle.tor_plan.proofs.EntrySteps.{Label, file, before_empty, before_some, tail_fits, unpadded, Fills}
 use Rattle.tor_plan.proofs.Empty.{zeros-nil}
 use Rattle.tor_plan.proofs.FileUnits.{file_pieces}
 use Rattle.tor_plan.proofs.Runs.{flat_map-same}
@@ -22,12 +22,12 @@ pub in_files : (lengths : List ℕ) (index : ℕ) (entries : List Entry) → dro
     → All (IsInFile lengths) (whole_from index entries).parts
 in_files lengths = by_whole
     (λ index entries unit. drop index lengths ≡ lengths_of_entries entries → All (IsInFile lengths) unit.parts)
-    (λ index e. All-nil (IsInFile lengths)) (λ index path m entries unit rest e. rest e)
-    (λ index path m entries unit some rest e.
+    (λ index e. All-nil (IsInFile lengths)) (λ index label m entries unit rest e. rest e)
+    (λ index label m entries unit some rest e.
     let from = lengths_from lengths index m (lengths_of_entries entries) e in
     All-cons (IsInFile lengths) _ unit.parts
     (record { named = from.named; some = some; within = omega (arith, from.here) }) (rest from.after))
-    (λ index path m entries unit few rest e. rest (lengths_from lengths index m (lengths_of_entries entries) e).after)
+    (λ index label m entries unit few rest e. rest (lengths_from lengths index m (lengths_of_entries entries) e).after)
 
 pub content_of_whole : (contents : List (List ℕ)) (index : ℕ) (entries : List Entry)
     → map length (drop index contents) ≡ lengths_of_entries entries
@@ -37,8 +37,8 @@ content_of_whole contents = by_whole
     (λ index entries unit. map length (drop index contents) ≡ lengths_of_entries entries
     → unit_content contents unit ≡ joined_content entries (drop index contents))
     (λ index fit. ap (λ xs. xs ++ []) zeros-nil)
-    (λ index path m entries unit rest fit. zeros_first contents m unit ∙ ap (λ xs. zeros m ++ xs) (rest fit))
-    (λ index path m entries unit some rest fit.
+    (λ index label m entries unit rest fit. zeros_first contents m unit ∙ ap (λ xs. zeros m ++ xs) (rest fit))
+    (λ index label m entries unit some rest fit.
     let from = from_index contents index m (lengths_of_entries entries) fit in
     part_first contents index 0 m unit ∙ ap₂ (λ xs ys. xs ++ ys)
     (ap (λ xs. take m xs) (here contents index m (lengths_of_entries entries) from)
@@ -46,7 +46,7 @@ content_of_whole contents = by_whole
     (rest (after_lengths contents index m (lengths_of_entries entries) from)
     ∙ ap (joined_content entries) (after contents index m (lengths_of_entries entries) from))
     ∙ sym (ap (λ xs. get_or xs 0 [] ++ joined_content entries (drop 1 xs)) from.split))
-    (λ index path m entries unit few rest fit.
+    (λ index label m entries unit few rest fit.
     let from = from_index contents index m (lengths_of_entries entries) fit in
     rest (after_lengths contents index m (lengths_of_entries entries) from)
     ∙ ap (joined_content entries) (after contents index m (lengths_of_entries entries) from)
@@ -61,14 +61,14 @@ pub separate_whole : (lengths : List ℕ) (size : ℕ) → 0 < size → (index :
 separate_whole lengths size pos = by_whole
     (λ index entries unit. drop index lengths ≡ lengths_of_entries entries
     → All (IsFileUnit lengths size) (separate_parts size unit.parts))
-    (λ index e. All-nil (IsFileUnit lengths size)) (λ index path m entries unit rest e. rest e)
-    (λ index path m entries unit some rest e.
+    (λ index e. All-nil (IsFileUnit lengths size)) (λ index label m entries unit rest e. rest e)
+    (λ index label m entries unit some rest e.
     let from = lengths_from lengths index m (lengths_of_entries entries) e in
     All-append (IsFileUnit lengths size) (units_of_file size index m unit.zeros) (separate_parts size unit.parts)
     (all_range (IsFileUnit lengths size) (file_unit size index m unit.zeros) (div_ceil m size)
     (λ k lt. whole_of_file lengths size index m unit.zeros k (lengths_of_entries entries) from
     (run_begins m size k pos lt))) (rest from.after))
-    (λ index path m entries unit few rest e. rest (lengths_from lengths index m (lengths_of_entries entries) e).after)
+    (λ index label m entries unit few rest e. rest (lengths_from lengths index m (lengths_of_entries entries) e).after)
 
 -- ---- files with their padding
 
@@ -81,7 +81,7 @@ pub record IsWholeFile (p : ℕ) (part : Part) : Type 0 where
 -- given what the entries from a file on keep to
 module _ (p : ℕ) (H : List Entry → Type 0)
     (next : (entry : Entry) (entries : List Entry) → H (entry ∷ entries) → H entries)
-    (each : (path : Path) (m : ℕ) (entries : List Entry) → H (file path m ∷ entries) → 0 < m
+    (each : (label : Label) (m : ℕ) (entries : List Entry) → H (file label m ∷ entries) → 0 < m
     → Fills p m (padding_before_next entries)) where
   abbrev AreFiles : ℕ → List Entry → PlanUnit → Type 0
   AreFiles index entries unit =
@@ -90,17 +90,17 @@ module _ (p : ℕ) (H : List Entry → Type 0)
   files_by : (index : ℕ) (entries : List Entry) → AreFiles index entries (whole_from index entries)
   unfolding padding_before_next
   files_by = by_whole AreFiles (λ index. (refl, λ held. All-nil (IsWholeFile p)))
-      (λ index path m entries unit rest. (ap (λ n. m + n) rest.0, λ held. rest.1 (next _ entries held)))
-      (λ index path m entries unit some rest. (
-        sym (before_some path m entries some),
+      (λ index label m entries unit rest. (ap (λ n. m + n) rest.0, λ held. rest.1 (next _ entries held)))
+      (λ index label m entries unit some rest. (
+        sym (before_some label m entries some),
         λ held. All-cons (IsWholeFile p) _ unit.parts
             (record {
               first = refl;
               some = some;
-              fills = subst (Fills p m) (sym rest.0) (each path m entries held some);
+              fills = subst (Fills p m) (sym rest.0) (each label m entries held some);
             }) (rest.1 (next _ entries held)),
-      )) (λ index path m entries unit few rest. (
-        rest.0 ∙ sym (before_empty path m entries (omega (arith, few))),
+      )) (λ index label m entries unit few rest. (
+        rest.0 ∙ sym (before_empty label m entries (omega (arith, few))),
         λ held. rest.1 (next _ entries held),
       ))
 
@@ -110,10 +110,10 @@ unfolding IsLaidOut ArePadded
 whole_files V1 p entries not_v1 laid = absurd (not_v1 refl)
 whole_files V2 p entries not_v1 laid =
     (files_by p (λ es. has_padding es ≡ false) (λ entry es none. (or_parts entry.pad (has_padding es) none).1)
-    (λ path m es none there. inl (unpadded es none)) 0 entries).1 laid
+    (λ label m es none there. inl (unpadded es none)) 0 entries).1 laid
 whole_files Hybrid p entries not_v1 laid =
     (files_by p (ArePadded p) (λ entry es padded. padded.1)
-    (λ path m es padded there. elim (padded.0 (lt-ltb 0 m there)) [
+    (λ label m es padded there. elim (padded.0 (lt-ltb 0 m there)) [
       | inl full ↦ inr full
       | inr last ↦ inl last.1
     ]) 0 entries).1 laid.1

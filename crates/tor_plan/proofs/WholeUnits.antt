@@ -9,7 +9,7 @@ use Rattle.tor_plan.proofs.Names.{shared, unit_within, parts_between, piece_of_u
 use Rattle.tor_plan.proofs.Names.{units_of_file, unit_length, Part, PlanUnit, file_alone, joined, part_alone}
 use Rattle.tor_plan.proofs.Names.{zeros_alone, whole_from, whole_unit}
 use Rattle.tor_plan.proofs.Contents.{no_unit_of_file}
-use Rattle.tor_plan.proofs.EntrySteps.{Path, padding, file, entry_cases, met, not_met, before_some, before_empty}
+use Rattle.tor_plan.proofs.EntrySteps.{Label, padding, file, entry_cases, met, not_met, before_some, before_empty}
 use Rattle.tor_plan.proofs.PieceSteps.{from, from_first, from_zeros, no_zeros, part_met, part_not_met}
 use Rattle.tor_plan.proofs.Runs.{map_same}
 use Rattle.tor_plan.proofs.UnitJoins.{joined_length, joined_twice, part_length, then_nothing, unit_of}
@@ -17,12 +17,12 @@ use Rattle.tor_plan.proofs.UnitJoins.{joined_length, joined_twice, part_length, 
 -- what holds of no entry, and then of one more before those of which it holds, holds of all bytes
 module _ (P : ℕ → List Entry → PlanUnit → Type 0)
     (none : (index : ℕ) → P index [] empty_unit)
-    (of_padding : (index : ℕ) (path : Path) (m : ℕ) (entries : List Entry) (unit : PlanUnit) → P index entries unit
-    → P index (padding path m ∷ entries) (after_zeros m unit))
-    (of_some : (index : ℕ) (path : Path) (m : ℕ) (entries : List Entry) (unit : PlanUnit) → 0 < m
-    → P (index + 1) entries unit → P index (file path m ∷ entries) (after_part index 0 m unit))
-    (of_empty : (index : ℕ) (path : Path) (m : ℕ) (entries : List Entry) (unit : PlanUnit) → m ≤ 0
-    → P (index + 1) entries unit → P index (file path m ∷ entries) unit) where
+    (of_padding : (index : ℕ) (label : Label) (m : ℕ) (entries : List Entry) (unit : PlanUnit) → P index entries unit
+    → P index (padding label m ∷ entries) (after_zeros m unit))
+    (of_some : (index : ℕ) (label : Label) (m : ℕ) (entries : List Entry) (unit : PlanUnit) → 0 < m
+    → P (index + 1) entries unit → P index (file label m ∷ entries) (after_part index 0 m unit))
+    (of_empty : (index : ℕ) (label : Label) (m : ℕ) (entries : List Entry) (unit : PlanUnit) → m ≤ 0
+    → P (index + 1) entries unit → P index (file label m ∷ entries) unit) where
   bytes : ℕ → ℕ → PlanUnit
   bytes index m = part_alone (record { file = index; start = 0; length = m; zeros = 0 })
 
@@ -30,29 +30,29 @@ module _ (P : ℕ → List Entry → PlanUnit → Type 0)
   unfolding whole_from bytes
   by_whole index [] = none index
   by_whole index (entry ∷ entries) = entry_cases (λ e. P index (e ∷ entries) (whole_from index (e ∷ entries)))
-      (λ path m. of_padding index path m entries _ (by_whole index entries)) (λ path m.
+      (λ label m. of_padding index label m entries _ (by_whole index entries)) (λ label m.
       let later = whole_from (index + 1) entries in
       let rest = by_whole (index + 1) entries in
       elim (cases_lt 0 m) [
-        | inl some ↦ subst (P index (file path m ∷ entries))
+        | inl some ↦ subst (P index (file label m ∷ entries))
             (sym (ap (λ b. joined (cond b (bytes index m) empty_unit) later) (lt-ltb 0 m some)
             ∙ ap (λ n. unit_of 0 (record { file = index; start = 0; length = m; zeros = n } ∷ later.parts))
-            (zero-add later.zeros))) (of_some index path m entries later some rest)
-        | inr few ↦ subst (P index (file path m ∷ entries))
+            (zero-add later.zeros))) (of_some index label m entries later some rest)
+        | inr few ↦ subst (P index (file label m ∷ entries))
             (sym (ap (λ b. joined (cond b (bytes index m) empty_unit) later) (le-ltb 0 m few) ∙ no_zeros 0 later refl))
-            (of_empty index path m entries later few rest)
+            (of_empty index label m entries later few rest)
       ]) entry
 
 pub whole_length : (index : ℕ) (entries : List Entry) → unit_length (whole_from index entries) ≡ entries_length entries
 whole_length = by_whole (λ index entries unit. unit_length unit ≡ entries_length entries) (λ index. refl)
-    (λ index path m entries unit rest. omega (arith, rest, sum_by-cons entry_length (padding path m) entries))
-    (λ index path m entries unit some rest.
+    (λ index label m entries unit rest. omega (arith, rest, sum_by-cons entry_length (padding label m) entries))
+    (λ index label m entries unit some rest.
     omega (
       arith,
       rest,
-      sum_by-cons entry_length (file path m) entries,
+      sum_by-cons entry_length (file label m) entries,
       sum_by-cons part_length (record { file = index; start = 0; length = m; zeros = unit.zeros }) unit.parts,
-    )) (λ index path m entries unit few rest. omega (arith, rest, few, sum_by-cons entry_length (file path m) entries))
+    )) (λ index label m entries unit few rest. omega (arith, rest, few, sum_by-cons entry_length (file label m) entries))
   where
     entry_length : Entry → ℕ
     entry_length entry = entry.length
@@ -65,11 +65,11 @@ pub whole_small : (index : ℕ) (entries : List Entry) → All (λ m. m ≤ MAX_
     → All IsSmall (whole_from index entries).parts
 whole_small = by_whole
     (λ index entries unit. All (λ m. m ≤ MAX_LENGTH) (lengths_of_entries entries) → All IsSmall unit.parts)
-    (λ index small. All-nil IsSmall) (λ index path m entries unit rest small. rest small)
-    (λ index path m entries unit some rest small. All-cons IsSmall _ unit.parts
+    (λ index small. All-nil IsSmall) (λ index label m entries unit rest small. rest small)
+    (λ index label m entries unit some rest small. All-cons IsSmall _ unit.parts
     (omega (arith, All-head (λ n. n ≤ MAX_LENGTH) m (lengths_of_entries entries) small))
     (rest (All-tail (λ n. n ≤ MAX_LENGTH) m (lengths_of_entries entries) small)))
-    (λ index path m entries unit few rest small.
+    (λ index label m entries unit few rest small.
     rest (All-tail (λ n. n ≤ MAX_LENGTH) m (lengths_of_entries entries) small))
 
 -- ---- cut as joined entries
@@ -79,20 +79,20 @@ module _ (a b : ℕ) where
       → from a b at (whole_from index entries) ≡ unit_within a b index at entries
   unfolding parts_between unit_within
   range_from = by_whole (λ index entries unit. (at : ℕ) → from a b at unit ≡ unit_within a b index at entries)
-      (λ index at. ap zeros_alone (omega arith)) (λ index path m entries unit rest at.
+      (λ index at. ap zeros_alone (omega arith)) (λ index label m entries unit rest at.
       from_zeros a b at m unit ∙ ap (after_zeros (shared a b at m)) (rest (at + m)))
-      (λ index path m entries unit some rest at.
+      (λ index label m entries unit some rest at.
       let part : Part = record { file = index; start = 0; length = m; zeros = unit.zeros } in
       no_zeros (shared a b at 0) (parts_between a b (at + 0) (part ∷ unit.parts)) (omega arith)
       ∙ ap (λ i. parts_between a b i (part ∷ unit.parts)) (omega arith) ∙ elim (cases_lt 0 (shared a b at m)) [
         | inl more ↦ part_met a b at part unit.parts more
             ∙ ap₂ (λ s u. after_part index s (shared a b at m) u) (zero-add (max a at - at)) (rest (at + m))
-            ∙ sym (met a b index at path m entries more)
+            ∙ sym (met a b index at label m entries more)
         | inr few ↦ part_not_met a b at part unit.parts few ∙ rest (at + m)
-            ∙ sym (not_met a b index at path m entries few)
-      ]) (λ index path m entries unit few rest at.
+            ∙ sym (not_met a b index at label m entries few)
+      ]) (λ index label m entries unit few rest at.
       ap (λ i. from a b i unit) (omega (arith, few)) ∙ rest (at + m)
-      ∙ sym (not_met a b index at path m entries (omega (arith, few))))
+      ∙ sym (not_met a b index at label m entries (omega (arith, few))))
 
   pub range_of_whole : (entries : List Entry) → unit_between a b (whole_unit entries) ≡ unit_within a b 0 0 entries
   range_of_whole entries = from_first a b (whole_unit entries) ∙ range_from 0 entries 0
@@ -121,12 +121,12 @@ separate : (size : ℕ) → 0 < size → (index : ℕ) (entries : List Entry)
     → IsSeparate size index entries (whole_from index entries)
 unfolding padding_before_next separate_entry_units
 separate size pos = by_whole (IsSeparate size) (λ index. (refl, refl))
-    (λ index path m entries unit rest. (ap (λ n. m + n) rest.0, rest.1)) (λ index path m entries unit some rest. (
-      sym (before_some path m entries some),
+    (λ index label m entries unit rest. (ap (λ n. m + n) rest.0, rest.1)) (λ index label m entries unit some rest. (
+      sym (before_some label m entries some),
       ap₂ (λ n units. units_of_file size index m n ++ units) rest.0 rest.1,
-    )) (λ index path m entries unit few rest.
+    )) (λ index label m entries unit few rest.
     let none : m ≡ 0 = omega (arith, few) in (
-      rest.0 ∙ sym (before_empty path m entries none),
+      rest.0 ∙ sym (before_empty label m entries none),
       rest.1 ∙ ap (λ units. units ++ separate_entry_units size (index + 1) entries)
           (sym (no_unit_of_file size index m (padding_before_next entries) pos none)),
     ))

@@ -197,13 +197,13 @@ module _ (p : ℕ) (some : 0 < p) where
       entry_cases (λ e. AreWhole (λ k. is_whole (run_at p (before ++ joined_bytes (e ∷ entries) contents) k))
       (get_or (joined_spans p start (e ∷ entries)) i no_span)
       → (get_or (joined_spans p start (e ∷ entries)) i no_span).length ≤ length (get_or contents i []))
-      (λ path m whole.
+      (λ label m whole.
       let here = map Some (zeros m) in
       there_in_entries entries contents (before ++ here) (start + m) i
       (length-append before here ∙ ap (λ n. length before + n) (length-zeros m) ∙ ap (λ n. n + m) long)
       (moved before here (joined_bytes entries contents) (get_or (joined_spans p (start + m) entries) i no_span)
       whole))
-      (λ path m whole. file_or_later m i (there_in_entries entries) whole) entry all where
+      (λ label m whole. file_or_later m i (there_in_entries entries) whole) entry all where
         length-zeros : (m : ℕ) → length (map Some (zeros m)) ≡ m
         length-zeros m = length-map (replicate m 0) Some ∙ length-replicate m 0
 

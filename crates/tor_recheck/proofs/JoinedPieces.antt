@@ -4,7 +4,7 @@ use Rattle.tor_recheck.proofs.Names.{arith, refl, ap, ap₂, ◌∙◌, sym, sub
 use Rattle.tor_recheck.proofs.Names.{cond-false, cond-true, le-ltb, lt-ltb, drop_all, replicate-append-replicate}
 use Rattle.tor_recheck.proofs.Names.{take_all, flat_map, run_at, after_part, after_zeros, empty_unit, joined_entry_unit}
 use Rattle.tor_recheck.proofs.Names.{shared, unit_within, PlanUnit, file_bytes, joined_bytes, zeros, Entry}
-use Rattle.tor_recheck.proofs.EntryForms.{Path, padding, file, entry_cases, first_from, others_from}
+use Rattle.tor_recheck.proofs.EntryForms.{Label, padding, file, entry_cases, first_from, others_from}
 use Rattle.tor_recheck.proofs.FoundBytes.{Found, HaveBytes, length-file, no_bytes, part_bytes, there, there_append}
 use Rattle.tor_recheck.proofs.FoundBytes.{unit_bytes}
 use Rattle.tor_recheck.proofs.RangeBytes.{between, between-append, between-file, between-zeros, length-zeros}
@@ -40,10 +40,10 @@ module _ (contents : List (List ℕ)) where
           ∙ take_all (b - max a at) [] (omega arith));
     }
 
-    of_padding : (index at : ℕ) (path : Path) (m : ℕ) (entries : List Entry) (unit : PlanUnit)
+    of_padding : (index at : ℕ) (label : Label) (m : ℕ) (entries : List Entry) (unit : PlanUnit)
         → IsMet index (at + m) entries unit
-        → IsMet index at (padding path m ∷ entries) (after_zeros (shared a b at m) unit)
-    of_padding index at path m entries unit rest = record {
+        → IsMet index at (padding label m ∷ entries) (after_zeros (shared a b at m) unit)
+    of_padding index at label m entries unit rest = record {
       some = rest.some;
       bytes = zeros_first (shared a b at m) unit ∙ ap₂ (λ xs ys. xs ++ ys) (between-zeros a b at m) rest.bytes
           ∙ sym (between-append a b at m (there (zeros m)) (joined_bytes entries (drop index contents))
@@ -51,11 +51,11 @@ module _ (contents : List (List ℕ)) where
     }
 
     -- a file of which these bytes are met
-    of_file : (index at : ℕ) (path : Path) (m : ℕ) (entries : List Entry) (part : Found) (unit : PlanUnit)
+    of_file : (index at : ℕ) (label : Label) (m : ℕ) (entries : List Entry) (part : Found) (unit : PlanUnit)
         → part ≡ file_bytes (shared a b at m) (drop (max a at - at) (get_or contents index []))
         → IsMet (index + 1) (at + m) entries unit
-        → part ++ unit_bytes contents unit ≡ between a b at (joined_bytes (file path m ∷ entries) (drop index contents))
-    of_file index at path m entries part unit is rest =
+        → part ++ unit_bytes contents unit ≡ between a b at (joined_bytes (file label m ∷ entries) (drop index contents))
+    of_file index at label m entries part unit is rest =
         let content = get_or contents index [] in
         let later = drop (index + 1) contents in
         ap₂ (λ xs ys. xs ++ ys) (is ∙ between-file a b at m content) rest.bytes
@@ -63,37 +63,37 @@ module _ (contents : List (List ℕ)) where
         ∙ sym (ap₂ (λ one others. between a b at (file_bytes m one ++ joined_bytes entries others))
         (first_from contents index) (others_from contents index))
 
-    met : (index at : ℕ) (path : Path) (m : ℕ) (entries : List Entry) → 0 < shared a b at m
-        → unit_within a b index at (file path m ∷ entries)
+    met : (index at : ℕ) (label : Label) (m : ℕ) (entries : List Entry) → 0 < shared a b at m
+        → unit_within a b index at (file label m ∷ entries)
         ≡ after_part index (max a at - at) (shared a b at m) (unit_within a b (index + 1) (at + m) entries)
     unfolding unit_within
-    met index at path m entries some = cond-true _ _ _ (lt-ltb 0 (shared a b at m) some)
+    met index at label m entries some = cond-true _ _ _ (lt-ltb 0 (shared a b at m) some)
 
-    not_met : (index at : ℕ) (path : Path) (m : ℕ) (entries : List Entry) → shared a b at m ≤ 0
-        → unit_within a b index at (file path m ∷ entries) ≡ unit_within a b (index + 1) (at + m) entries
+    not_met : (index at : ℕ) (label : Label) (m : ℕ) (entries : List Entry) → shared a b at m ≤ 0
+        → unit_within a b index at (file label m ∷ entries) ≡ unit_within a b (index + 1) (at + m) entries
     unfolding unit_within
-    not_met index at path m entries few = cond-false _ _ _ (le-ltb 0 (shared a b at m) few)
+    not_met index at label m entries few = cond-false _ _ _ (le-ltb 0 (shared a b at m) few)
 
     is_met : (index at : ℕ) (entries : List Entry) → IsMet index at entries (unit_within a b index at entries)
     unfolding unit_within
     is_met index at [] = none index at
     is_met index at (entry ∷ entries) = entry_cases
         (λ e. IsMet index at (e ∷ entries) (unit_within a b index at (e ∷ entries)))
-        (λ path m. of_padding index at path m entries _ (is_met index (at + m) entries))
-        (λ path m.
+        (λ label m. of_padding index at label m entries _ (is_met index (at + m) entries))
+        (λ label m.
         let later = unit_within a b (index + 1) (at + m) entries in
         let rest = is_met (index + 1) (at + m) entries in
         let n = shared a b at m in
         let s = max a at - at in
         elim (cases_lt 0 n) [
-          | inl some ↦ subst (IsMet index at (file path m ∷ entries)) (sym (met index at path m entries some)) (record {
+          | inl some ↦ subst (IsMet index at (file label m ∷ entries)) (sym (met index at label m entries some)) (record {
             some = (some, rest.some);
-            bytes = part_first index s n later ∙ of_file index at path m entries _ later refl rest;
+            bytes = part_first index s n later ∙ of_file index at label m entries _ later refl rest;
           })
           | inr few ↦
-              subst (IsMet index at (file path m ∷ entries)) (sym (not_met index at path m entries few)) (record {
+              subst (IsMet index at (file label m ∷ entries)) (sym (not_met index at label m entries few)) (record {
                 some = rest.some;
-                bytes = of_file index at path m entries [] later
+                bytes = of_file index at label m entries [] later
                     (sym (ap (λ k. file_bytes k (drop s (get_or contents index [])))
                     (let e : n ≡ 0 = omega (arith, few) in e)
                     ∙ no_bytes (drop s (get_or contents index []))))

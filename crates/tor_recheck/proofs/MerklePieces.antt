@@ -7,7 +7,7 @@ use Rattle.tor_recheck.proofs.Names.{lengths_of_entries, padding_before_next, se
 use Rattle.tor_recheck.proofs.Names.{units_of_file, PlanUnit, is_there, hashes_of_file, no_file, piece_root}
 use Rattle.tor_recheck.proofs.Names.{told_hashes, bytes_in, file_bytes, is_whole, file_pieces, is_merkle_piece}
 use Rattle.tor_recheck.proofs.Names.{merkle_hash, merkle_pieces, told_hash, FileView, View, Entry}
-use Rattle.tor_recheck.proofs.EntryForms.{Path, file, entry_cases, first_from, first_of, others_from}
+use Rattle.tor_recheck.proofs.EntryForms.{Label, file, entry_cases, first_from, first_of, others_from}
 use Rattle.tor_recheck.proofs.FoundBytes.{and_true, bytes_there, file_is_there, last_byte, run-file, whole_file}
 use Rattle.tor_recheck.proofs.Judged.{and_same, get_or-judged, judged, judged-append, judged-map, same_values}
 
@@ -84,15 +84,15 @@ module _ (view : View) (contents : List (List ℕ)) (some : 0 < view.piece_lengt
             ∙ sym (judged-append has_hash first units hashes others count);
       }
 
-  of_file : (index : ℕ) (path : Path) (m : ℕ) (entries : List Entry) (files : List FileView)
+  of_file : (index : ℕ) (label : Label) (m : ℕ) (entries : List Entry) (files : List FileView)
       → drop index view.files ≡ files → m ∷ lengths_of_entries entries ≡ map length_of files
       → ((later : List FileView) → drop (index + 1) view.files ≡ later
       → lengths_of_entries entries ≡ map length_of later
       → AreJudged (index + 1) (separate_entry_units p (index + 1) entries) later)
-      → AreJudged index (separate_entry_units p index (file path m ∷ entries)) files
+      → AreJudged index (separate_entry_units p index (file label m ∷ entries)) files
   unfolding separate_entry_units
-  of_file index path m entries [] from lengths rest = cc
-  of_file index path m entries (told ∷ files) from lengths rest =
+  of_file index label m entries [] from lengths rest = cc
+  of_file index label m entries (told ∷ files) from lengths rest =
       let here : get_or view.files index no_file ≡ told =
       sym (first_of view.files index no_file) ∙ ap (λ xs. get_or xs 0 no_file) from in
       let after : drop (index + 1) view.files ≡ files = sym (drop-drop 1 index view.files) ∙ ap (drop 1) from in
@@ -109,8 +109,8 @@ module _ (view : View) (contents : List (List ℕ)) (some : 0 < view.piece_lengt
   are_judged index (entry ∷ entries) files from lengths = entry_cases
       (λ e. lengths_of_entries (e ∷ entries) ≡ map length_of files
       → AreJudged index (separate_entry_units p index (e ∷ entries)) files)
-      (λ path m same. are_judged index entries files from same)
-      (λ path m same. of_file index path m entries files from same (are_judged (index + 1) entries)) entry lengths
+      (λ label m same. are_judged index entries files from same)
+      (λ label m same. of_file index label m entries files from same (are_judged (index + 1) entries)) entry lengths
 
   -- all pieces
   module _ (entries : List Entry) (lengths : lengths_of_entries entries ≡ map length_of view.files) where

@@ -9,7 +9,7 @@ use Rattle.tor_recheck.proofs.Names.{separate_entry_units, shared, unit_within, 
 use Rattle.tor_recheck.proofs.Names.{entries_to_cut, IsCut, pieces_of, file_spans, has_bytes_of, joined_span}
 use Rattle.tor_recheck.proofs.Names.{joined_spans, no_span, tree_spans, pieces_in, FileView, View, has_v1}
 use Rattle.tor_recheck.proofs.Names.{has_v2, Kind, V1, V2, Hybrid, Entry}
-use Rattle.tor_recheck.proofs.EntryForms.{Path, entry_cases, file}
+use Rattle.tor_recheck.proofs.EntryForms.{Label, entry_cases, file}
 use Rattle.tor_recheck.proofs.FilesThere.{later_spans}
 use Rattle.tor_recheck.proofs.MerklePieces.{length_of}
 use Rattle.tor_recheck.proofs.PieceSides.{cut_each, other_side, same_lengths, some_piece}
@@ -48,8 +48,8 @@ module _ (p k : ℕ) (some : 0 < p) where
   none_before [] index at other lt = refl
   none_before (entry ∷ entries) index at other lt =
       entry_cases (λ e. has_bytes_of other (unit index at (e ∷ entries)) ≡ false)
-      (λ path m. none_before entries index (at + m) other lt)
-      (λ path m.
+      (λ label m. none_before entries index (at + m) other lt)
+      (λ label m.
       let n = shared (k * p) ((k + 1) * p) at m in
       part_of_other (nat_lt 0 n) index (max (k * p) at - at) n other (unit (index + 1) (at + m) entries)
       (λ same. omega (arith, same, lt))
@@ -62,8 +62,8 @@ module _ (p k : ℕ) (some : 0 < p) where
   joined_have (entry ∷ entries) index at j =
       entry_cases (λ e. has_bytes_of (index + j) (unit index at (e ∷ entries))
       ≡ in_span (get_or (joined_spans p at (e ∷ entries)) j no_span) k)
-      (λ path m. joined_have entries index (at + m) j)
-      (λ path m. of_file m j (λ i. joined_have entries (index + 1) (at + m) i)) entry where
+      (λ label m. joined_have entries index (at + m) j)
+      (λ label m. of_file m j (λ i. joined_have entries (index + 1) (at + m) i)) entry where
         of_file : (m j : ℕ) → ((i : ℕ) → has_bytes_of (index + 1 + i) (unit (index + 1) (at + m) entries)
             ≡ in_span (get_or (joined_spans p (at + m) entries) i no_span) k)
             → has_bytes_of (index + j) (perhaps_part (nat_lt 0 (shared (k * p) ((k + 1) * p) at m)) index
@@ -107,8 +107,8 @@ module _ (p : ℕ) (some : 0 < p) where
   none_apart [] index other k lt = refl
   none_apart (entry ∷ entries) index other k lt =
       entry_cases (λ e. has_bytes_of other (unit_at index (e ∷ entries) k) ≡ false)
-      (λ path m. none_apart entries index other k lt)
-      (λ path m.
+      (λ label m. none_apart entries index other k lt)
+      (λ label m.
       let tail = padding_before_next entries in
       let rest = separate_entry_units p (index + 1) entries in
       elim (cases_lt k (div_ceil m p)) [
@@ -124,11 +124,11 @@ module _ (p : ℕ) (some : 0 < p) where
   HasEach index first entries files = (j k : ℕ) → has_bytes_of (index + j) (unit_at index entries k)
       ≡ in_span (get_or (tree_spans p first files) j no_span) (first + k)
 
-  of_file : (index first m : ℕ) (path : Path) (entries : List Entry) (told : FileView) (files : List FileView)
+  of_file : (index first m : ℕ) (label : Label) (entries : List Entry) (told : FileView) (files : List FileView)
       → m ≡ length_of told → HasEach (index + 1) (first + pieces_in p (length_of told)) entries files
-      → HasEach index first (file path m ∷ entries) (told ∷ files)
+      → HasEach index first (file label m ∷ entries) (told ∷ files)
   unfolding separate_entry_units
-  of_file index first m path entries told files long rest zero k =
+  of_file index first m label entries told files long rest zero k =
       let tail = padding_before_next entries in
       let later = separate_entry_units p (index + 1) entries in
       let c = pieces_in p (length_of told) in
@@ -144,7 +144,7 @@ module _ (p : ℕ) (some : 0 < p) where
             ∙ none_apart entries (index + 1) (index + 0) (k - div_ceil m p) (omega arith)
             ∙ sym (not_in span (first + k) (λ low high. omega (arith, high, past, same)))
       ]
-  of_file index first m path entries told files long rest (suc j) k =
+  of_file index first m label entries told files long rest (suc j) k =
       let tail = padding_before_next entries in
       let later = separate_entry_units p (index + 1) entries in
       let c = pieces_in p (length_of told) in
@@ -173,18 +173,18 @@ module _ (p : ℕ) (some : 0 < p) where
   apart_have (entry ∷ entries) files index first lengths =
       entry_cases (λ e. lengths_of_entries (e ∷ entries) ≡ map length_of files
       → HasEach index first (e ∷ entries) files)
-      (λ path m same. apart_have entries files index first same)
-      (λ path m same. by_files path m files same (apart_have entries)) entry lengths where
-        by_files : (path : Path) (m : ℕ) (some_files : List FileView)
+      (λ label m same. apart_have entries files index first same)
+      (λ label m same. by_files label m files same (apart_have entries)) entry lengths where
+        by_files : (label : Label) (m : ℕ) (some_files : List FileView)
             → m ∷ lengths_of_entries entries ≡ map length_of some_files
             → ((later : List FileView) (index first : ℕ) → lengths_of_entries entries ≡ map length_of later
             → HasEach index first entries later)
-            → HasEach index first (file path m ∷ entries) some_files
-        by_files path m [] same rest = cc
-        by_files path m (told ∷ later) same rest =
+            → HasEach index first (file label m ∷ entries) some_files
+        by_files label m [] same rest = cc
+        by_files label m (told ∷ later) same rest =
             let long : m ≡ length_of told = cc in
             let others : lengths_of_entries entries ≡ map length_of later = cc in
-            of_file index first m path entries told later long
+            of_file index first m label entries told later long
             (rest later (index + 1) (first + pieces_in p (length_of told)) others)
 
 -- ---- all pieces

@@ -5,10 +5,10 @@ use Rattle.tor_recheck.proofs.Names.{count_of_pieces, pieces_of, right_pieces, v
 use Rattle.tor_recheck.proofs.Names.{V1, V2, Hybrid, zeros, Entry}
 
 abbrev file : ℕ → Entry
-file m = record { path = []; length = m; pad = false }
+file m = record { path = []; length = m; pad = false; exec = false; hidden = false }
 
 abbrev pad : ℕ → Entry
-pad m = record { path = []; length = m; pad = true }
+pad m = record { path = []; length = m; pad = true; exec = false; hidden = false }
 
 abbrev told : ℕ → List (List ℕ) → FileView
 told m layer = record {

@@ -56,8 +56,8 @@ empty_in_entries : (p start : ℕ) (entries : List Entry) (i : ℕ)
 empty_in_entries p start [] i = λ empty. omega arith
 empty_in_entries p start (entry ∷ entries) i =
     entry_cases (λ e. HasNone (get_or (joined_spans p start (e ∷ entries)) i no_span))
-    (λ path m. empty_in_entries p (start + m) entries i)
-    (λ path m. each_more HasNone (joined_span p start m) (joined_spans p (start + m) entries) (empty_span p start m)
+    (λ label m. empty_in_entries p (start + m) entries i)
+    (λ label m. each_more HasNone (joined_span p start m) (joined_spans p (start + m) entries) (empty_span p start m)
     (λ k. empty_in_entries p (start + m) entries k) i) entry
 
 pub empty_has_none : (view : View) (i : ℕ) → IsCut view → HasNone (get_or (file_spans view) i no_span)
@@ -141,11 +141,11 @@ within_entries p start total some [] le i = omega arith
 within_entries p start total some (entry ∷ entries) le i =
     entry_cases (λ e. start + entries_length (e ∷ entries) ≤ total
     → (get_or (joined_spans p start (e ∷ entries)) i no_span).after ≤ div_ceil total p)
-    (λ path m less.
-    let all = sum_by-cons (λ (e : Entry). e.length) (padding path m) entries in
+    (λ label m less.
+    let all = sum_by-cons (λ (e : Entry). e.length) (padding label m) entries in
     within_entries p (start + m) total some entries (omega (arith, all, less)) i)
-    (λ path m less.
-    let all = sum_by-cons (λ (e : Entry). e.length) (file path m) entries in
+    (λ label m less.
+    let all = sum_by-cons (λ (e : Entry). e.length) (file label m) entries in
     each_more (λ span. span.after ≤ div_ceil total p) (joined_span p start m) (joined_spans p (start + m) entries)
     (within_span p start m total some (omega (arith, all, less)))
     (λ k. within_entries p (start + m) total some entries (omega (arith, all, less)) k) i) entry le

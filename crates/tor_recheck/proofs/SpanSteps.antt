@@ -6,7 +6,7 @@ use Rattle.tor_recheck.proofs.Names.{mul-le-mul_right, sum_by-cons, div_ceil, en
 use Rattle.tor_recheck.proofs.Names.{entries_to_cut, IsCut, FileSpan, file_spans, joined_spans, tree_spans}
 use Rattle.tor_recheck.proofs.Names.{span_of_entry, pieces_in, FileView, View, has_v1, has_v2, MAX_TOTAL, Entry, suc}
 use Rattle.tor_recheck.proofs.Names.{true}
-use Rattle.tor_recheck.proofs.EntryForms.{entry_cases}
+use Rattle.tor_recheck.proofs.EntryForms.{entry_cases, file, padding}
 use Rattle.tor_recheck.proofs.MerklePieces.{length_of}
 use Rattle.tor_recheck.proofs.PieceSides.{other_side, same_lengths, some_piece}
 
@@ -22,7 +22,7 @@ joined_more : (p start : ℕ) (entry : Entry) (entries : List Entry)
     ≡ span_of_entry p start entry ++ joined_spans p (start + entry.length) entries
 joined_more p start entry entries =
     entry_cases (λ e. joined_spans p start (e ∷ entries)
-    ≡ span_of_entry p start e ++ joined_spans p (start + e.length) entries) (λ path m. refl) (λ path m. refl) entry
+    ≡ span_of_entry p start e ++ joined_spans p (start + e.length) entries) (λ label m. refl) (λ label m. refl) entry
 
 -- those so far, and those of what is left, are all
 pub joined_step : (p start i : ℕ) (entries : List Entry) (entry : Entry) (done more all : List FileSpan)
@@ -83,7 +83,7 @@ count_of_entries : (p start : ℕ) (entries : List Entry)
 count_of_entries p start [] = refl
 count_of_entries p start (entry ∷ entries) =
     entry_cases (λ e. length (joined_spans p start (e ∷ entries)) ≡ length (lengths_of_entries (e ∷ entries)))
-    (λ path m. count_of_entries p (start + m) entries) (λ path m. ap suc (count_of_entries p (start + m) entries)) entry
+    (λ label m. count_of_entries p (start + m) entries) (λ label m. ap suc (count_of_entries p (start + m) entries)) entry
 
 -- one for each file
 pub spans_are_counted : (view : View) → IsCut view → length (file_spans view) ≡ length view.files
@@ -130,11 +130,11 @@ bytes_of_files : (entries : List Entry) → sum (lengths_of_entries entries) ≤
 bytes_of_files [] = omega arith
 bytes_of_files (entry ∷ entries) =
     entry_cases (λ e. sum (lengths_of_entries (e ∷ entries)) ≤ entries_length (e ∷ entries))
-    (λ path m.
-    let all = sum_by-cons (λ (e : Entry). e.length) (record { path = path; length = m; pad = true }) entries in
+    (λ label m.
+    let all = sum_by-cons (λ (e : Entry). e.length) (padding label m) entries in
     omega (arith, all, bytes_of_files entries))
-    (λ path m.
-    let all = sum_by-cons (λ (e : Entry). e.length) (record { path = path; length = m; pad = false }) entries in
+    (λ label m.
+    let all = sum_by-cons (λ (e : Entry). e.length) (file label m) entries in
     let files = sum_by-cons (λ (n : ℕ). n) m (lengths_of_entries entries) in
     omega (arith, all, files, bytes_of_files entries)) entry
 

@@ -132,6 +132,8 @@ fn entries_of(alloc: Global, files: &[ViewFile]) -> Result<Vec<Entry>, AllocErro
             path: file.path.copy(alloc)?,
             length: file.length,
             pad: false,
+            exec: false,
+            hidden: false,
         })?;
     }
     Ok(entries)

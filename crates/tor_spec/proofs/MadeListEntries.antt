@@ -30,16 +30,15 @@ names_back : (names : List (List ℕ)) → names_of (strings names) ≡ names
 names_back [] = refl
 names_back (name ∷ names) = ap (λ xs. name ∷ xs) (names_back names)
 
-read_entry : (pad : Bool) (path : List (List ℕ)) (n : ℕ)
-    → entry_file (entry_dictionary (record { path = path; length = n; pad = pad }))
-    ≡ listed_of (record { path = path; length = n; pad = pad })
-read_entry true path n = refl
-read_entry false path n = ap (λ names. plain (names, n)) (names_back path)
+read_entry : (entry : Entry) (pad : Bool)
+    → entry_file (entry_dictionary (record entry { pad = pad })) ≡ listed_of (record entry { pad = pad })
+read_entry entry true = refl
+read_entry entry false = ap (λ names. plain (names, entry.length)) (names_back entry.path)
 
 read_entries : (entries : List Entry) → map entry_file (map entry_dictionary entries) ≡ map listed_of entries
 read_entries [] = refl
 read_entries (entry ∷ entries) =
-    ap₂ (λ x xs. x ∷ xs) (read_entry entry.pad entry.path entry.length) (read_entries entries)
+    ap₂ (λ x xs. x ∷ xs) (read_entry entry entry.pad) (read_entries entries)
 
 abbrev side_at : Data → Option Data → List ListedFile
 side_at info files =

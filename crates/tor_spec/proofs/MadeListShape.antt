@@ -28,38 +28,38 @@ path_read path is =
 abbrev pub HasPath : Entry → Type 0
 HasPath entry = entry.pad ≡ false → IsFilePath entry.path
 
-is_entry : (pad : Bool) (path : List (List ℕ)) (n : ℕ) → (pad ≡ false → IsFilePath path)
-    → is_no_entry (entry_dictionary (record { path = path; length = n; pad = pad })) ≡ false
-is_entry true path n has = refl
-is_entry false path n has = ap not (path_read path (has refl))
+is_entry : (entry : Entry) (pad : Bool) → (pad ≡ false → IsFilePath entry.path)
+    → is_no_entry (entry_dictionary (record entry { pad = pad })) ≡ false
+is_entry entry true has = refl
+is_entry entry false has = ap not (path_read entry.path (has refl))
 
 pub are_entries : (entries : List Entry) → AllByRecursion HasPath entries
     → list_any is_no_entry (map entry_dictionary entries) ≡ false
 are_entries [] h = refl
 are_entries (entry ∷ entries) h =
-    or_from _ _ (is_entry entry.pad entry.path entry.length h.0) (are_entries entries h.1)
+    or_from _ _ (is_entry entry entry.pad h.0) (are_entries entries h.1)
 
 pub no_negative : (n : ℕ) → int_lt (pos n) (pos 0) ≡ false
 no_negative n = le-ltb n 0 (omega arith)
 
-positive_entry : (pad : Bool) (path : List (List ℕ)) (n : ℕ)
-    → has_negative_length (entry_dictionary (record { path = path; length = n; pad = pad })) ≡ false
-positive_entry true path n = no_negative n
-positive_entry false path n = no_negative n
+positive_entry : (entry : Entry) (pad : Bool)
+    → has_negative_length (entry_dictionary (record entry { pad = pad })) ≡ false
+positive_entry entry true = no_negative entry.length
+positive_entry entry false = no_negative entry.length
 
 pub positive_entries : (entries : List Entry) → list_any has_negative_length (map entry_dictionary entries) ≡ false
 positive_entries [] = refl
 positive_entries (entry ∷ entries) =
-    or_from _ _ (positive_entry entry.pad entry.path entry.length) (positive_entries entries)
+    or_from _ _ (positive_entry entry entry.pad) (positive_entries entries)
 
-plain_entry : (pad : Bool) (path : List (List ℕ)) (n : ℕ)
-    → has_letter letter_l (entry_dictionary (record { path = path; length = n; pad = pad })) ≡ false
-plain_entry true path n = refl
-plain_entry false path n = refl
+plain_entry : (entry : Entry) (pad : Bool)
+    → has_letter letter_l (entry_dictionary (record entry { pad = pad })) ≡ false
+plain_entry entry true = refl
+plain_entry entry false = refl
 
 pub no_link : (entries : List Entry) → list_any (has_letter letter_l) (map entry_dictionary entries) ≡ false
 no_link [] = refl
-no_link (entry ∷ entries) = or_from _ _ (plain_entry entry.pad entry.path entry.length) (no_link entries)
+no_link (entry ∷ entries) = or_from _ _ (plain_entry entry entry.pad) (no_link entries)
 
 abbrev Files : Type 0
 Files = List (List (List ℕ) × ℕ)

@@ -8,13 +8,19 @@ use Rattle.tor_v1.specs.declared.entry.Entry.{Entry}
 use Rattle.tor_v1.specs.declared.layout.Layout.{Layout}
 use Rattle.tor_v1.specs.declared.layout.Layout.TheVariants.{Joined, Aligned, AlignedTail}
 
--- the entry of a file
+-- the entry of a file without letters
 abbrev pub file_entry : List (List ℕ) × ℕ → Entry
-file_entry file = record { path = file.0; length = file.1; pad = false }
+file_entry file = record { path = file.0; length = file.1; pad = false; exec = false; hidden = false }
 
 -- padding of n zero bytes; its path is .pad and n in base ten
 abbrev pub pad_entry : ℕ → Entry
-pad_entry n = record { path = codes ".pad" ∷ decimal n ∷ []; length = n; pad = true }
+pad_entry n = record {
+  path = codes ".pad" ∷ decimal n ∷ [];
+  length = n;
+  pad = true;
+  exec = false;
+  hidden = false;
+}
 
 -- some file is not empty
 abbrev pub has_bytes : List (List (List ℕ) × ℕ) → Bool

@@ -15,6 +15,10 @@ pub struct Entry {
     pub length: u64,
     /// Whether it stands for zero bytes that are in no file.
     pub pad: bool,
+    /// Whether `attr` has an `x`: an executable file (BEP 47, "attr"). Never of padding.
+    pub exec: bool,
+    /// Whether it has an `h`: a hidden file. Never of padding.
+    pub hidden: bool,
 }
 
 /// Whether only padding may have this path: its first name is `.pad`.
@@ -27,7 +31,7 @@ pub fn is_reserved(path: &FilePath) -> bool
     }
 }
 
-/// The entry of a file.
+/// The entry of a file without letters.
 pub(crate) fn file_entry(alloc: Global, path: &FilePath, length: u64) -> Result<Entry, AllocError>
     ensures { IfOk result (λ entry. entry ≡ file_entry (path.now, length)) }
 {
@@ -35,5 +39,7 @@ pub(crate) fn file_entry(alloc: Global, path: &FilePath, length: u64) -> Result<
         path: path.copy(alloc)?,
         length,
         pad: false,
+        exec: false,
+        hidden: false,
     })
 }

@@ -31,6 +31,8 @@ pub fn pad_entry(alloc: Global, length: u64) -> Result<Entry, AllocError>
         path,
         length,
         pad: true,
+        exec: false,
+        hidden: false,
     })
 }
 

@@ -1,11 +1,11 @@
 -- What a torrent describes.
-use Rattle.std.specs.Prelude.{ℕ, Bool, ◌||◌, List, [], ◌∷◌, map, sum_by, codes, None, unwrap_or, if◌then◌else◌}
+use Rattle.std.specs.Prelude.{ℕ, Bool, ◌||◌, List, [], ◌∷◌, false, map, sum_by, codes, None, unwrap_or, if◌then◌else◌}
 use Rattle.tor_bencode.specs.Data.{Data}
 use Rattle.tor_bencode.specs.Span.{span_of}
 use Rattle.tor_tree.specs.Kinds.{has_v1, has_v2}
 use Rattle.tor_tree.specs.declared.kinds.Kind.{Kind}
 use Rattle.tor_tree.specs.declared.tree_file.TreeFile.{TreeFile}
-use Rattle.tor_v1.specs.Entries.{file_entry, pad_entry}
+use Rattle.tor_v1.specs.Entries.{pad_entry}
 use Rattle.tor_v1.specs.declared.entry.Entry.{Entry}
 use Rattle.tor_spec.specs.valid.Layers.{is_long, layer_of, layers_of, pieces_in}
 use Rattle.tor_spec.specs.valid.ListSide.{ListedFile, listed_files, side_files, side_piece_count}
@@ -74,9 +74,15 @@ file_of_tree root file = record {
   layer = if is_long (piece_length_of (info_of root)) file then layer_of (layers_of root) file else [];
 }
 
--- the path of padding is shown as `.pad` and its length
+-- the path of padding is shown as `.pad` and its length; it has no letters but its own
 abbrev pub entry_of_file : ListedFile → Entry
-entry_of_file listed = if listed.pad then pad_entry listed.size else file_entry (listed.path, listed.size)
+entry_of_file listed = if listed.pad then pad_entry listed.size else record {
+  path = listed.path;
+  length = listed.size;
+  pad = false;
+  exec = listed.exec;
+  hidden = listed.hidden;
+}
 
 abbrev pub files_of : Data → List FileView
 files_of root =
