@@ -2,7 +2,7 @@
 //!
 //! `verdicts.rt`, `worked.rt`, `order.rt`: which bytes are torrents, and of two faults the first; `lenient.rt`: what
 //! other makers may write; `turned.rt`: one bit is another; `hybrids.rt`, `layers.rt`, `pieces.rt`: proofs of pieces.
-//! `telling.rt` and `layered.rt` have what these share.
+//! `tables.rt` tries their tables; `telling.rt` and `layered.rt` have what these share.
 
 mod hybrids;
 pub mod layered;
@@ -10,6 +10,7 @@ pub mod layers;
 mod lenient;
 mod order;
 mod pieces;
+mod tables;
 pub mod telling;
 mod turned;
 pub mod verdicts;

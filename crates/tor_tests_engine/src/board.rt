@@ -6,7 +6,6 @@ ghost use Rattle.tor_board.specs.Seats.{IsSeatOf, forest_of, knows, unit_count};
 use crate::faults::{FaultAt, failing};
 use crate::shared::{comes_to, is_fault, plan_of};
 use crate::workers::{ALONE, Alone, FEW, Gathering, MANY, Meeting, Row, meet, reads_that_meet};
-use std::alloc::AllocError;
 use std::process::Abort;
 use std::sync::atomic::AtomicU64;
 use std::sync::atomic::Ordering::SeqCst;
@@ -38,11 +37,6 @@ const OF_EIGHT: Gathering = Gathering {
     rows: ROWS,
 };
 
-#[test]
-fn board_shares(rt: HostRuntime) {
-    assert!(rt; meet(&rt, &OF_EIGHT));
-}
-
 const PIECES_OF_EIGHT: Gathering = Gathering {
     length: LENGTH,
     end: 1,
@@ -51,13 +45,9 @@ const PIECES_OF_EIGHT: Gathering = Gathering {
 };
 
 #[test]
-fn board_shares_over_pieces(rt: HostRuntime) {
+fn board_shares(rt: HostRuntime) {
+    assert!(rt; meet(&rt, &OF_EIGHT));
     assert!(rt; meet(&rt, &PIECES_OF_EIGHT));
-}
-
-/// The plan of the eight units.
-fn plan_of_eight<R: AllocGlobal + Abort>(rt: &R) -> Result<Plan, AllocError> {
-    plan_of(rt, &[LENGTH], Kind::V2, 16384, 1)
 }
 
 /// What one worker did.
@@ -176,15 +166,6 @@ fn is_shared_by_two<R: AllocGlobal + Abort + Threads + Sync>(
     are_shares(&one, &other, &closed)
 }
 
-#[test]
-fn board_shares_callers_threads(rt: HostRuntime) -> Result<(), AllocError> {
-    let plan = plan_of_eight(&rt)?;
-    let source = reads_that_meet(LENGTH, 1, 8, MANY);
-    assert!(rt; is_shared_by_two(&rt, &source, &plan));
-    assert!(rt; source.bytes.load(SeqCst) == LENGTH);
-    Ok(())
-}
-
 /// A file of eight units, of which the fourth fails at once, and the first once the fourth has failed.
 #[derive(Drop)]
 struct Late {
@@ -230,17 +211,6 @@ fn is_least<R: AllocGlobal + Abort + Threads + Sync>(rt: &R, plan: &Plan, how: H
     };
     let wanted = "Read { file: 0, start: Some(0), fault: 5 }";
     is_fault(rt, &source, plan, how, wanted) && source.failed.load(SeqCst) == 1
-}
-
-#[test]
-fn answers_the_least_unit_that_fails_though_another_failed_first(
-    rt: HostRuntime,
-) -> Result<(), AllocError> {
-    let plan = plan_of_eight(&rt)?;
-    for how in BY_SEVERAL {
-        assert!(rt; is_least(&rt, &plan, *how));
-    }
-    Ok(())
 }
 
 /// Whether the fault of the fourth is told.
@@ -290,10 +260,46 @@ fn tells_the_fourth<R: AllocGlobal + Abort>(rt: &R, source: &FailSource, plan: &
 /// Of ten units the seventh fails, and the fourth.
 const TWICE: &[FaultAt] = &[(0, Some(114688), 9), (0, Some(49157), 5)];
 
+/// Whether two threads of a caller share the eight units, and read each byte once.
+fn share_by_two<R: AllocGlobal + Abort + Threads + Sync>(rt: &R, plan: &Plan) -> bool {
+    let source = reads_that_meet(LENGTH, 1, 8, MANY);
+    is_shared_by_two(rt, &source, plan) && source.bytes.load(SeqCst) == LENGTH
+}
+
+fn is_each_least<R: AllocGlobal + Abort + Threads + Sync>(rt: &R, plan: &Plan) -> bool {
+    for how in BY_SEVERAL {
+        if !is_least(rt, plan, *how) {
+            return false;
+        }
+    }
+    true
+}
+
+/// Whether both hold of the plan of eight units.
+fn hold_of_eight<R: AllocGlobal + Abort + Threads + Sync>(rt: &R) -> bool {
+    match plan_of(rt, &[LENGTH], Kind::V2, 16384, 1) {
+        Ok(plan) => share_by_two(rt, &plan) && is_each_least(rt, &plan),
+        Err(_) => false,
+    }
+}
+
+fn is_fourth_told<R: AllocGlobal + Abort>(rt: &R, plan: &Plan) -> bool {
+    match failing(rt.alloc(), &[163840], TWICE) {
+        Ok(source) => tells_the_fourth(rt, &source, plan),
+        Err(_) => false,
+    }
+}
+
+/// Whether a worker tells the fourth of ten units, which it failed.
+fn holds_of_ten<R: AllocGlobal + Abort>(rt: &R) -> bool {
+    match plan_of(rt, &[163840], Kind::V2, 16384, 1) {
+        Ok(plan) => is_fourth_told(rt, &plan),
+        Err(_) => false,
+    }
+}
+
 #[test]
-fn a_worker_tells_the_unit_that_it_failed(rt: HostRuntime) -> Result<(), AllocError> {
-    let source = failing(rt.alloc(), &[163840], TWICE)?;
-    let plan = plan_of(&rt, &[163840], Kind::V2, 16384, 1)?;
-    assert!(rt; tells_the_fourth(&rt, &source, &plan));
-    Ok(())
+fn callers_share_a_board_and_are_told_the_least_unit_that_fails(rt: HostRuntime) {
+    assert!(rt; hold_of_eight(&rt));
+    assert!(rt; holds_of_ten(&rt));
 }

@@ -24,7 +24,7 @@ pub(crate) fn below(alloc: Global, folder: &str, name: &str) -> Result<String, A
 
 /// What is made in a new folder, and found there.
 #[derive(Clone, Copy)]
-pub(crate) enum Case {
+enum Case {
     /// Files and folders, one of them empty.
     Order,
     /// A file, and a link to it.
@@ -64,7 +64,7 @@ fn holds_in_new(rt: &HostRuntime, name: &str, case: Case) -> io::Result<bool> {
 }
 
 /// Whether a case holds in a new folder, with this in its name.
-pub(crate) fn holds(rt: &HostRuntime, name: &str, case: Case) -> bool {
+fn holds(rt: &HostRuntime, name: &str, case: Case) -> bool {
     matches!(holds_in_new(rt, name, case), Ok(true))
 }
 
@@ -128,16 +128,11 @@ fn lists_in_order(rt: &HostRuntime, folder: &str) -> io::Result<bool> {
     Ok(is_single && has_files(rt, folder, 4, b"/.e /a/c /a-b /b "))
 }
 
-#[test]
-fn lists_files_in_the_order_of_their_paths(rt: HostRuntime) {
-    assert!(rt; holds(&rt, "order", Case::Order));
-}
-
-pub(crate) fn fault(rt: &HostRuntime, path: &str) -> Option<ScanFault> {
+fn fault(rt: &HostRuntime, path: &str) -> Option<ScanFault> {
     FolderSource::scan(rt, path).err()
 }
 
-fn is_system(rt: &HostRuntime, path: &str) -> bool {
+pub(crate) fn is_system(rt: &HostRuntime, path: &str) -> bool {
     matches!(fault(rt, path), Some(ScanFault::System))
 }
 
@@ -152,12 +147,6 @@ fn refuses_file_and_link(rt: &HostRuntime, folder: &str, file: &str) -> io::Resu
     let is_refused_again = is_system(rt, file);
     rt.symlink(file, &below(rt.alloc(), folder, "a")?)?;
     Ok(is_refused && is_refused_again && is_not_regular(rt, folder))
-}
-
-#[test]
-fn refuses_what_is_no_file_and_no_folder(rt: HostRuntime) {
-    assert!(rt; is_not_regular(&rt, "/dev/null"));
-    assert!(rt; holds(&rt, "link", Case::Link));
 }
 
 // Makes so many folders named n in a folder, each in the one before, and adds their names to its place.
@@ -182,25 +171,10 @@ fn takes_file_in(rt: &HostRuntime, folder: &str, count: usize) -> io::Result<boo
     })
 }
 
-#[test]
-fn takes_a_file_of_64_names(rt: HostRuntime) {
-    assert!(rt; holds(&rt, "64", Case::Names(63)));
-}
-
-#[test]
-fn refuses_a_file_of_more_than_64_names(rt: HostRuntime) {
-    assert!(rt; holds(&rt, "deep", Case::Names(64)));
-}
-
 fn is_nothing_in(rt: &HostRuntime, folder: &str, count: usize) -> io::Result<bool> {
     let mut place = String::from_str(rt.alloc(), folder)?;
     deepen(rt, &mut place, count)?;
     Ok(has_files(rt, folder, 0, b""))
-}
-
-#[test]
-fn finds_nothing_in_65_empty_folders_inside_one_another(rt: HostRuntime) {
-    assert!(rt; holds(&rt, "nested", Case::Empty(65)));
 }
 
 // Makes a file with a number in its name, and adds its path to those that are shown.
@@ -225,11 +199,6 @@ fn lists_many(rt: &HostRuntime, folder: &str) -> io::Result<bool> {
         add_numbered(rt, folder, number, &mut wanted)?;
     }
     Ok(has_files(rt, folder, 5001, &wanted))
-}
-
-#[test]
-fn lists_a_folder_of_many_names(rt: HostRuntime) {
-    assert!(rt; holds(&rt, "many", Case::Many));
 }
 
 // Makes a file `a` of six bytes, a folder `d` and a link `l` to the file.
@@ -328,7 +297,23 @@ fn reads_regular_files(rt: &HostRuntime, folder: &str) -> io::Result<bool> {
     Ok(is_right && is_long(&source, 0, None) && is_read(&source, &(0, 0, 3, b"")))
 }
 
+/// What a new folder has in its name, and what holds there.
+const CASES: &[(&str, Case)] = &[
+    ("order", Case::Order),
+    ("link", Case::Link),
+    ("64", Case::Names(63)),
+    ("deep", Case::Names(64)),
+    ("nested", Case::Empty(65)),
+    ("many", Case::Many),
+    ("reads", Case::Reads),
+    ("readers", Case::Readers),
+    ("once", Case::Opened),
+];
+
 #[test]
-fn reads_regular_files_alone(rt: HostRuntime) {
-    assert!(rt; holds(&rt, "reads", Case::Reads));
+fn scans_and_reads_what_a_new_folder_has(rt: HostRuntime) {
+    assert!(rt; is_not_regular(&rt, "/dev/null"));
+    for (name, case) in CASES {
+        assert!(rt; holds(&rt, name, *case));
+    }
 }

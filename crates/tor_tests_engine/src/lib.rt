@@ -1,5 +1,5 @@
 //! The tests of `tor_source` and `tor_engine`, in a crate of their own: a crate with tests is proved twice, and these
-//! libraries are large. `tor_tests_streams` has those of readers that are read once and in order.
+//! libraries are large.
 //!
 //! - `memory.rt`: what sources in memory answer.
 //! - `folders.rt`: scans and reads of real folders; `systems.rt`: of a system that has what no test can make.
@@ -7,6 +7,7 @@
 //! - `faults.rt`: which fault a hash of files answers; `reads.rt`: what is asked of a source; `workers.rt`: how many
 //!   workers read at once; `board.rt`: workers that share a board.
 //! - `sums.rt`: roots, layers and pieces of files; `pieces.rt`: hashes of single pieces.
+//! - `streams`: contents of readers that are read once and in order.
 //!
 //! `shared.rt` has paths, contents, plans, and how files are hashed.
 #![tactic(auto)]
@@ -27,6 +28,8 @@ mod readers;
 mod reads;
 #[cfg(test)]
 mod shared;
+#[cfg(test)]
+mod streams;
 #[cfg(test)]
 mod sums;
 #[cfg(test)]

@@ -1,6 +1,7 @@
 //! What sources in memory answer, each called through the trait.
 use crate::faults::{FaultAt, failing_with};
 use crate::shared::files_with;
+use std::alloc::Global;
 use tor_source::{ShortSource, Source};
 
 // File 0 has six bytes, file 1 is missing, file 2 is empty.
@@ -70,13 +71,11 @@ const READS: &[Row] = &[
     (3, 0, 3, Ok(b"")),
 ];
 
-#[test]
-fn memory_gives_what_is_there(rt: HostRuntime) {
-    let is_right = match files_with(rt.alloc(), FILES) {
+fn is_memory_right(alloc: Global) -> bool {
+    match files_with(alloc, FILES) {
         Ok(source) => are_told(&source, LENGTHS) && are_read(&source, READS),
         Err(_) => false,
-    };
-    assert!(rt; is_right);
+    }
 }
 
 // Of two faults at one offset the first counts, and none at a byte that the file does not have.
@@ -105,13 +104,11 @@ const FAULTS_OF_READS: &[Row] = &[
     (3, 0, 6, Ok(b"")),
 ];
 
-#[test]
-fn faults_stand_at_their_offsets(rt: HostRuntime) {
-    let is_right = match failing_with(rt.alloc(), FILES, FAULTS) {
+fn are_faults_right(alloc: Global) -> bool {
+    match failing_with(alloc, FILES, FAULTS) {
         Ok(source) => are_told(&source, FAULTS_OF_LENGTHS) && are_read(&source, FAULTS_OF_READS),
         Err(_) => false,
-    };
-    assert!(rt; is_right);
+    }
 }
 
 /// A read gives two bytes at most.
@@ -126,11 +123,16 @@ fn is_short(source: &ShortSource) -> bool {
     are_told(source, &[(0, Ok(Some(6)))]) && are_read(source, SHORT)
 }
 
-#[test]
-fn short_reads_have_at_most_a_step(rt: HostRuntime) {
-    let is_right = match files_with(rt.alloc(), FILES) {
+fn are_short_reads_right(alloc: Global) -> bool {
+    match files_with(alloc, FILES) {
         Ok(source) => is_short(&ShortSource::new(source, 2)),
         Err(_) => false,
-    };
-    assert!(rt; is_right);
+    }
+}
+
+#[test]
+fn memory_gives_what_is_there(rt: HostRuntime) {
+    assert!(rt; is_memory_right(rt.alloc()));
+    assert!(rt; are_faults_right(rt.alloc()));
+    assert!(rt; are_short_reads_right(rt.alloc()));
 }

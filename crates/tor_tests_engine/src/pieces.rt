@@ -112,13 +112,6 @@ fn is_each_right<R: AllocGlobal + Abort + Threads + Sync>(rt: &R, row: &Row) -> 
     }
 }
 
-#[test]
-fn hashes_the_pieces_that_are_there(rt: HostRuntime) {
-    for row in ROWS {
-        assert!(rt; is_each_right(&rt, row));
-    }
-}
-
 /// The length of a file of three bytes at first and again, the bytes that it has, whether it was changed, and how often
 /// bytes are read.
 type Change = ((Option<u64>, Option<u64>), u64, bool, u64);
@@ -183,7 +176,10 @@ fn is_each_change<R: AllocGlobal + Abort + Threads + Sync>(
 
 /// The lengths are asked again when all pieces were read.
 #[test]
-fn tells_of_a_file_that_changes(rt: HostRuntime) {
+fn hashes_the_pieces_that_are_there_and_tells_of_a_file_that_changes(rt: HostRuntime) {
+    for row in ROWS {
+        assert!(rt; is_each_right(&rt, row));
+    }
     assert!(rt; is_each_change(&rt, &[3, 0], 0));
     assert!(rt; is_each_change(&rt, &[0, 3], 1));
 }

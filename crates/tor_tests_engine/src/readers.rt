@@ -1,5 +1,5 @@
 //! Files of real folders that are read once and in order.
-use crate::folders::{Case, add_file, add_folder, below, files_at, holds};
+use crate::folders::{add_file, add_folder, below, files_at};
 use std::fs;
 use std::io::{self, ErrorKind, Read};
 use tor_source::LazyFile;
@@ -80,11 +80,6 @@ pub(crate) fn gives_each(rt: &HostRuntime, folder: &str) -> io::Result<bool> {
     Ok(are_each_given(&mut readers))
 }
 
-#[test]
-fn readers_give_the_bytes_of_their_files_and_then_no_more(rt: HostRuntime) {
-    assert!(rt; holds(&rt, "readers", Case::Readers));
-}
-
 // Whether a file is opened at the first read, and given up at its end, though it grows then.
 fn is_given_up_at_its_end(
     rt: &HostRuntime,
@@ -126,9 +121,4 @@ fn are_given_up(
 pub(crate) fn are_opened_once(rt: &HostRuntime, folder: &str) -> io::Result<bool> {
     let mut readers = files_at(rt, folder, &["a", "b"])?.readers()?;
     are_given_up(rt, folder, &mut readers)
-}
-
-#[test]
-fn readers_open_a_file_once(rt: HostRuntime) {
-    assert!(rt; holds(&rt, "once", Case::Opened));
 }

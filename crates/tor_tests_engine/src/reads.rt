@@ -2,7 +2,6 @@
 
 use crate::faults::{failing, file_that_changes};
 use crate::shared::{files_of, is_each_fault, is_fault, is_told, plan_of};
-use std::alloc::AllocError;
 use std::process::Abort;
 use std::sync::atomic::AtomicU64;
 use std::sync::atomic::Ordering::SeqCst;
@@ -73,7 +72,7 @@ const READ: &[Read] = &[
 ];
 
 /// How many bytes a read gives at most.
-const STEPS: [usize; 3] = [1 << 23, 50_000, 9_999];
+const STEPS: &[usize] = &[1 << 23, 50_000, 9_999];
 
 fn is_read_right<R: AllocGlobal + Abort + Threads + Sync>(
     rt: &R,
@@ -101,20 +100,13 @@ fn is_each_read_right<R: AllocGlobal + Abort + Threads + Sync>(rt: &R, row: &Rea
         return false;
     };
     for step in STEPS {
-        if !is_read_right(rt, &plan, row, step, How::One)
-            || !is_read_right(rt, &plan, row, step, How::Halves(2))
+        if !is_read_right(rt, &plan, row, *step, How::One)
+            || !is_read_right(rt, &plan, row, *step, How::Halves(2))
         {
             return false;
         }
     }
     true
-}
-
-#[test]
-fn reads_within_parts_and_buffers(rt: HostRuntime) {
-    for row in READ {
-        assert!(rt; is_each_read_right(&rt, row));
-    }
 }
 
 /// Whether the fault of the source has the text of one at this byte.
@@ -150,17 +142,7 @@ fn is_each_answered<R: AllocGlobal + Abort + Threads + Sync>(rt: &R) -> bool {
     true
 }
 
-#[test]
-fn tells_each_byte_that_fails_in_turn(rt: HostRuntime) {
-    assert!(rt; is_each_answered(&rt));
-}
-
-/// The plan of a file of 40,000 bytes.
-fn plan_of_40000<R: AllocGlobal + Abort>(rt: &R) -> Result<Plan, AllocError> {
-    plan_of(rt, &[40000], Kind::V2, 16384, 1)
-}
-
-/// Whether a file of as many is hashed, and told to have as many.
+/// Whether a file of 40,000 bytes is hashed, and told to have as many.
 fn is_hashed<R: AllocGlobal + Abort + Threads + Sync>(rt: &R, plan: &Plan) -> bool {
     let Ok(source) = files_of(rt.alloc(), &[40000]) else {
         return false;
@@ -169,13 +151,6 @@ fn is_hashed<R: AllocGlobal + Abort + Threads + Sync>(rt: &R, plan: &Plan) -> bo
         Ok(told) => told.lengths.as_slice() == [40000u64].as_slice(),
         Err(_) => false,
     }
-}
-
-#[test]
-fn hashes_files_whose_lengths_were_told_before(rt: HostRuntime) -> Result<(), AllocError> {
-    let plan = plan_of_40000(&rt)?;
-    assert!(rt; is_hashed(&rt, &plan));
-    Ok(())
 }
 
 /// What is told of a file of zeros, whose length was told before, when it is asked again, and the fault. That a file
@@ -201,11 +176,28 @@ fn is_fault_again<R: AllocGlobal + Abort + Threads + Sync>(
     }
 }
 
-#[test]
-fn tells_of_a_file_that_changed_since_it_was_asked(rt: HostRuntime) -> Result<(), AllocError> {
-    let plan = plan_of_40000(&rt)?;
+fn is_each_fault_again<R: AllocGlobal + Abort + Threads + Sync>(rt: &R, plan: &Plan) -> bool {
     for (again, wanted) in AGAIN {
-        assert!(rt; is_fault_again(&rt, &plan, *again, wanted));
+        if !is_fault_again(rt, plan, *again, wanted) {
+            return false;
+        }
     }
-    Ok(())
+    true
+}
+
+/// Whether it is hashed where its length was told before, and what has changed since then is told.
+fn is_asked_again<R: AllocGlobal + Abort + Threads + Sync>(rt: &R) -> bool {
+    match plan_of(rt, &[40000], Kind::V2, 16384, 1) {
+        Ok(plan) => is_hashed(rt, &plan) && is_each_fault_again(rt, &plan),
+        Err(_) => false,
+    }
+}
+
+#[test]
+fn reads_within_parts_and_buffers_and_tells_each_fault(rt: HostRuntime) {
+    for row in READ {
+        assert!(rt; is_each_read_right(&rt, row));
+    }
+    assert!(rt; is_each_answered(&rt));
+    assert!(rt; is_asked_again(&rt));
 }

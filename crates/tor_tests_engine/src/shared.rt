@@ -25,10 +25,7 @@ pub(crate) const EACH_HOW: &[How] = &[
 
 /// A name. That a text is none, which none of the tables has, is told as want of memory.
 fn name(alloc: Global, text: &str) -> Result<Name, AllocError> {
-    match Name::new(alloc, text.as_bytes()) {
-        Ok(name) => Ok(name),
-        Err(_) => Err(AllocError),
-    }
+    Name::new(alloc, text.as_bytes()).ok().ok_or(AllocError)
 }
 
 fn add_names(alloc: Global, text: &str, names: &mut Vec<Name>) -> Result<(), AllocError> {
@@ -70,10 +67,7 @@ fn add_files(
 fn list_of(alloc: Global, lengths: &[u64]) -> Result<FileList, AllocError> {
     let mut files = Vec::new(alloc);
     add_files(alloc, lengths, &mut files)?;
-    match FileList::build(alloc, files) {
-        Ok(list) => Ok(list),
-        Err(_) => Err(AllocError),
-    }
+    FileList::build(alloc, files).ok().ok_or(AllocError)
 }
 
 /// A plan of files with these lengths, whose piece length and span are tested first.
@@ -99,7 +93,7 @@ fn add_counted(bytes: &mut Vec<u8>, length: u64) -> Result<(), AllocError> {
 }
 
 /// A content whose byte i is i % 251.
-fn content(alloc: Global, length: u64) -> Result<Vec<u8>, AllocError> {
+pub(crate) fn content(alloc: Global, length: u64) -> Result<Vec<u8>, AllocError> {
     let mut bytes = Vec::new(alloc);
     add_counted(&mut bytes, length)?;
     Ok(bytes)

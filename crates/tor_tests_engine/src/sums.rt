@@ -163,12 +163,9 @@ fn are_small_sums<R: AllocGlobal + Abort + Threads + Sync>(rt: &R, row: &Row, st
     }
 }
 
-#[test]
-fn sums_up_small_files_however_they_are_read(rt: HostRuntime) {
-    for row in SMALL {
-        assert!(rt; are_small_sums(&rt, row, 1));
-        assert!(rt; are_small_sums(&rt, row, 7));
-    }
+/// Whether they are, however they are read.
+fn are_small_sums_in_steps<R: AllocGlobal + Abort + Threads + Sync>(rt: &R, row: &Row) -> bool {
+    are_small_sums(rt, row, 1) && are_small_sums(rt, row, 7)
 }
 
 /// Whether the sums of contents whose byte i is i % 251 are these.
@@ -275,13 +272,6 @@ const LONG: &[Row] = &[
     ),
 ];
 
-#[test]
-fn sums_up_files_of_several_units(rt: HostRuntime) {
-    for row in LONG {
-        assert!(rt; are_sums(&rt, row));
-    }
-}
-
 /// The trees of one file, with one piece a unit and with two.
 const TREES: &[Row] = &[
     // A file of one block.
@@ -345,13 +335,6 @@ const TREES: &[Row] = &[
         },
     ),
 ];
-
-#[test]
-fn builds_the_tree_of_a_file(rt: HostRuntime) {
-    for row in TREES {
-        assert!(rt; are_sums(&rt, row));
-    }
-}
 
 /// The root of a content of seventeen blocks and a byte, the hash of each block, and the SHA-1 of each.
 const ROOT_OF_18: Hash = *b"\xc5\xee\x7a\x50\x1d\x96\xe5\x6e\x29\x51\x22\xb0\x0a\x14\x4a\x9e\
@@ -453,9 +436,22 @@ const OF_18: &[Row] = &[
     ),
 ];
 
-#[test]
-fn sums_up_eight_blocks_at_once(rt: HostRuntime) {
-    for row in OF_18 {
-        assert!(rt; are_sums(&rt, row));
+/// Whether each row has its sums.
+fn are_each_sums<R: AllocGlobal + Abort + Threads + Sync>(rt: &R, rows: &[Row]) -> bool {
+    for row in rows {
+        if !are_sums(rt, row) {
+            return false;
+        }
     }
+    true
+}
+
+#[test]
+fn sums_up_files_however_they_are_read(rt: HostRuntime) {
+    for row in SMALL {
+        assert!(rt; are_small_sums_in_steps(&rt, row));
+    }
+    assert!(rt; are_each_sums(&rt, LONG));
+    assert!(rt; are_each_sums(&rt, TREES));
+    assert!(rt; are_each_sums(&rt, OF_18));
 }

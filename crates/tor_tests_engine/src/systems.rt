@@ -1,12 +1,12 @@
 //! Scans and reads of a system that has what no test can make.
-use crate::folders::{fault, files_at, is_shown};
+use crate::folders::{files_at, is_shown, is_system};
 use crate::shared::is;
 use std::alloc::{Allocator, Global};
 use std::fs::{File, Metadata, OpenOptions};
 use std::io;
 use std::io::{Cursor, Read};
 use std::rt::Files;
-use tor_source::{FolderSource, ScanFault, Source};
+use tor_source::{FolderSource, Source};
 
 // A system that has what no test can make: in its folder `top` are these names, each ended by a zero byte. A name that
 // ends in `file` is a file that may not be opened, in `folder` an empty folder, in `locked` a folder that may not be
@@ -121,17 +121,30 @@ fn is_scan(system: &Listed, path: &str, wanted: &str) -> bool {
     }
 }
 
-const SCANS: &[(&[u8], &str)] = &[
-    (b"\xff\0a file\0", "F1 NotUtf8"),
-    (b"\xff\0fifo\0", "F2 NotRegular"),
-    (b"fifo\0a locked\0", "F4 System"),
+// A place, the names in `top`, whether their listing breaks off, and what a scan of the place finds. This system would
+// tell of a FIFO at the empty place, were it asked.
+const SCANS: &[(&str, &[u8], bool, &str)] = &[
+    ("top", b"\xff\0a file\0", false, "F1 NotUtf8"),
+    ("top", b"\xff\0fifo\0", false, "F2 NotRegular"),
+    ("top", b"fifo\0a locked\0", false, "F4 System"),
     (
+        "top",
         b"b file\0..\0a file\0.\0a folder\0b file\0",
+        false,
         "/a file /b file ",
     ),
-    (b".file\0...file\0\0..file\0", "/...file /..file /.file "),
-    (b"a file\0b file", "/a file /b file "),
-    (b"", ""),
+    (
+        "top",
+        b".file\0...file\0\0..file\0",
+        false,
+        "/...file /..file /.file ",
+    ),
+    ("top", b"a file\0b file", false, "/a file /b file "),
+    ("top", b"", false, ""),
+    ("top", b"", true, "F4 System"),
+    ("top", b"a file\0", true, "F4 System"),
+    ("top", b"a file\0b fi", true, "F4 System"),
+    ("", b"a file\0", false, "F4 System"),
 ];
 
 // Whether that is so where `top` has these names.
@@ -142,33 +155,8 @@ fn gives(rt: &HostRuntime, path: &str, names: &[u8], breaks: bool, wanted: &str)
     }
 }
 
-#[test]
-fn answers_the_first_fault_in_the_order_of_names(rt: HostRuntime) {
-    for (names, wanted) in SCANS {
-        assert!(rt; gives(&rt, "top", names, false, wanted));
-    }
-}
-
-const BROKEN: &[&[u8]] = &[b"", b"a file\0", b"a file\0b fi"];
-
-#[test]
-fn tells_a_listing_that_breaks_off(rt: HostRuntime) {
-    for names in BROKEN {
-        assert!(rt; gives(&rt, "top", names, true, "F4 System"));
-    }
-}
-
 fn is_one_below_the_empty_place(rt: &HostRuntime) -> bool {
     matches!(files_at(rt, "", &["proc"]), Ok(source) if source.count() == 1)
-}
-
-// The system of these tests would tell of a FIFO, were it asked.
-#[test]
-fn has_no_file_below_the_empty_place(rt: HostRuntime) {
-    assert!(rt; gives(&rt, "", b"a file\0", false, "F4 System"));
-    assert!(rt; matches!(fault(&rt, ""), Some(ScanFault::System)));
-    assert!(rt; rt.metadata("").is_err());
-    assert!(rt; is_one_below_the_empty_place(&rt));
 }
 
 // Whether a file is missing: no length is told, and a read gives nothing.
@@ -204,10 +192,30 @@ fn are_told(source: &FolderSource<Listed>) -> bool {
 }
 
 // A FIFO is missing, and not opened.
+fn are_told_of(system: &Listed) -> bool {
+    match files_at(system, "top", &["fifo", "a file", "hidden"]) {
+        Ok(source) => are_told(&source),
+        Err(_) => false,
+    }
+}
+
+fn tells_faults_of_the_system(rt: &HostRuntime) -> bool {
+    match system_of(rt, b"", false) {
+        Ok(system) => are_told_of(&system),
+        Err(_) => false,
+    }
+}
+
 #[test]
-fn tells_faults_of_the_system(rt: HostRuntime) -> io::Result<()> {
-    let system = system_of(&rt, b"", false)?;
-    let source = files_at(&system, "top", &["fifo", "a file", "hidden"])?;
-    assert!(rt; are_told(&source));
-    Ok(())
+fn answers_the_first_fault_in_the_order_of_names(rt: HostRuntime) {
+    for (place, names, breaks, wanted) in SCANS {
+        assert!(rt; gives(&rt, place, names, *breaks, wanted));
+    }
+    assert!(rt; tells_faults_of_the_system(&rt));
+}
+
+#[test]
+fn has_no_file_below_the_empty_place(rt: HostRuntime) {
+    assert!(rt; is_system(&rt, "") && rt.metadata("").is_err());
+    assert!(rt; is_one_below_the_empty_place(&rt));
 }

@@ -1,7 +1,6 @@
 //! How many workers read at once.
 
 use crate::shared::{allowed, comes_to, is_fault, is_told, plan_of};
-use std::alloc::AllocError;
 use std::process::Abort;
 use std::sync::atomic::AtomicU64;
 use std::sync::atomic::Ordering::SeqCst;
@@ -75,14 +74,21 @@ fn is_never_crowded<R: AllocGlobal + Abort + Threads + Sync>(
     is_fault(rt, &source, plan, how, "none") && source.wrong.load(SeqCst) == 0
 }
 
-#[test]
-fn no_more_workers_read_than_were_asked_for(rt: HostRuntime) -> Result<(), AllocError> {
-    let plan = plan_of(&rt, &[16 * 16384], Kind::V2, 16384, 1)?;
-    assert!(rt; plan.units().len() == 16);
+/// Whether it is so in each row.
+fn is_each_never_crowded<R: AllocGlobal + Abort + Threads + Sync>(rt: &R, plan: &Plan) -> bool {
     for (how, workers) in SHARED {
-        assert!(rt; is_never_crowded(&rt, &plan, *how, *workers));
+        if !is_never_crowded(rt, plan, *how, *workers) {
+            return false;
+        }
     }
-    Ok(())
+    true
+}
+
+fn is_none_crowded<R: AllocGlobal + Abort + Threads + Sync>(rt: &R) -> bool {
+    match plan_of(rt, &[16 * 16384], Kind::V2, 16384, 1) {
+        Ok(plan) => plan.units().len() == 16 && is_each_never_crowded(rt, &plan),
+        Err(_) => false,
+    }
 }
 
 /// Too few others read.
@@ -225,11 +231,6 @@ const OF_FOUR: Gathering = Gathering {
     rows: MEETINGS,
 };
 
-#[test]
-fn workers_meet(rt: HostRuntime) {
-    assert!(rt; meet(&rt, &OF_FOUR));
-}
-
 const PIECES_OF_FOUR: Gathering = Gathering {
     length: 65536,
     end: u64::MAX,
@@ -238,6 +239,9 @@ const PIECES_OF_FOUR: Gathering = Gathering {
 };
 
 #[test]
-fn workers_meet_over_pieces(rt: HostRuntime) {
+fn workers_meet(rt: HostRuntime) {
+    assert!(rt; meet(&rt, &OF_FOUR));
     assert!(rt; meet(&rt, &PIECES_OF_FOUR));
+    // No more workers read than were asked for.
+    assert!(rt; is_none_crowded(&rt));
 }

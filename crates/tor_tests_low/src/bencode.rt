@@ -1,6 +1,6 @@
 //! Rows after BEP 3, "bencoding", each written out by hand.
 
-use crate::names::is;
+use crate::shared::is;
 use std::alloc::{AllocError, Global};
 use tor_bencode::laws::{
     lawful_one_by_one, lawful_values, lawful_within_more, no_spelling_begins_another,
@@ -14,7 +14,6 @@ fn bytes(alloc: Global, text: &[u8]) -> Result<Item, AllocError> {
 
 type Keys = &'static [&'static [u8]];
 
-/// A dictionary with these keys, each with its index as its value.
 fn keyed(alloc: Global, keys: &[&[u8]]) -> Result<Item, AllocError> {
     let mut pairs = Vec::new(alloc);
     add_keys(alloc, keys, &mut pairs)?;
@@ -34,7 +33,6 @@ fn add_keys(
     Ok(())
 }
 
-/// So many lists, each in the one before.
 fn nested(alloc: Global, count: usize) -> Result<Item, AllocError> {
     let mut item = Item::List(Vec::new(alloc));
     for _ in 1..count {
@@ -53,33 +51,39 @@ fn is_spelling(alloc: Global, tree: &Tree, text: &[u8]) -> bool {
     }
 }
 
-/// Whether an item is lawful and has this spelling.
-fn is_spelled(alloc: Global, item: Result<Item, AllocError>, text: &[u8]) -> bool {
-    let Ok(item) = item else {
-        return false;
-    };
-    match Tree::of(item) {
-        Ok(tree) => is_spelling(alloc, &tree, text),
-        Err(_) => false,
+/// An item that a test makes.
+enum Made {
+    Int(i64),
+    Bytes(&'static [u8]),
+    /// A dictionary with these keys, each with its index as its value.
+    Keyed(Keys),
+    /// So many lists, each in the one before.
+    Nested(usize),
+    /// A list of a string and a dictionary.
+    Mixed,
+    /// A dictionary of so many pairs, whose keys are numbers of the same length.
+    Numbered(usize),
+}
+
+fn make(alloc: Global, item: &Made) -> Result<Item, AllocError> {
+    match item {
+        Made::Int(n) => Ok(Item::Int(*n)),
+        Made::Bytes(text) => bytes(alloc, text),
+        Made::Keyed(keys) => keyed(alloc, keys),
+        Made::Nested(count) => nested(alloc, *count),
+        Made::Mixed => mixed_list(alloc),
+        Made::Numbered(count) => numbered(alloc, *count),
     }
 }
 
-const INTEGERS: &[(i64, &[u8])] = &[
-    (0, b"i0e"),
-    (42, b"i42e"),
-    (-3, b"i-3e"),
-    (i64::MAX, b"i9223372036854775807e"),
-    (i64::MIN, b"i-9223372036854775808e"),
-];
+/// Its tree, if it is lawful.
+fn tree_of(alloc: Global, item: &Made) -> Option<Tree> {
+    match make(alloc, item) {
+        Ok(item) => Tree::of(item).ok(),
+        Err(_) => None,
+    }
+}
 
-const STRINGS: &[(&[u8], &[u8])] = &[(b"", b"0:"), (b"spam", b"4:spam")];
-
-const DICTIONARIES: &[(Keys, &[u8])] = &[
-    (&[], b"de"),
-    (&[b"", b"a", b"ab", b"b"], b"d0:i0e1:ai1e2:abi2e1:bi3ee"),
-];
-
-/// A list of a string and a dictionary.
 fn mixed_list(alloc: Global) -> Result<Item, AllocError> {
     let mut items = Vec::new(alloc);
     items.push(bytes(alloc, b"spam")?)?;
@@ -87,47 +91,49 @@ fn mixed_list(alloc: Global) -> Result<Item, AllocError> {
     Ok(Item::List(items))
 }
 
-#[test]
-fn spells_integers_and_strings(rt: HostRuntime) {
-    for (n, text) in INTEGERS {
-        assert!(rt; is_spelled(rt.alloc(), Ok(Item::Int(*n)), text));
-    }
-    for (string, text) in STRINGS {
-        assert!(rt; is_spelled(rt.alloc(), bytes(rt.alloc(), string), text));
-    }
-}
-
-#[test]
-fn spells_each_kind_of_tree(rt: HostRuntime) {
-    for (keys, text) in DICTIONARIES {
-        assert!(rt; is_spelled(rt.alloc(), keyed(rt.alloc(), keys), text));
-    }
-    assert!(rt; is_spelled(rt.alloc(), Ok(Item::List(Vec::new(rt.alloc()))), b"le"));
-    assert!(rt; is_spelled(rt.alloc(), mixed_list(rt.alloc()), b"l4:spamd1:ai0eee"));
-}
-
-fn is_lawful(item: Result<Item, AllocError>) -> bool {
-    match item {
-        Ok(item) => Tree::of(item).is_ok(),
-        Err(_) => false,
-    }
-}
-
-/// Whether it is there, and not lawful.
-fn is_unlawful(item: Result<Item, AllocError>) -> bool {
-    match item {
-        Ok(item) => Tree::of(item).is_err(),
-        Err(_) => false,
-    }
-}
-
-/// The keys of a dictionary, and whether it is lawful.
-const KEYS: &[(Keys, bool)] = &[
-    (&[b"a", b"a"], false),
-    (&[b"ab", b"a"], false),
-    (&[b"b", b"aa"], false),
-    (&[b"aa", b"b"], true),
+/// An item, and its spelling.
+const SPELLED: &[(Made, &[u8])] = &[
+    (Made::Int(0), b"i0e"),
+    (Made::Int(42), b"i42e"),
+    (Made::Int(-3), b"i-3e"),
+    (Made::Int(i64::MAX), b"i9223372036854775807e"),
+    (Made::Int(i64::MIN), b"i-9223372036854775808e"),
+    (Made::Bytes(b""), b"0:"),
+    (Made::Bytes(b"spam"), b"4:spam"),
+    (Made::Keyed(&[]), b"de"),
+    (
+        Made::Keyed(&[b"", b"a", b"ab", b"b"]),
+        b"d0:i0e1:ai1e2:abi2e1:bi3ee",
+    ),
+    (Made::Nested(1), b"le"),
+    (Made::Mixed, b"l4:spamd1:ai0eee"),
 ];
+
+/// Whether an item is lawful and has this spelling.
+fn is_spelled(alloc: Global, item: &Made, text: &[u8]) -> bool {
+    match tree_of(alloc, item) {
+        Some(tree) => is_spelling(alloc, &tree, text),
+        None => false,
+    }
+}
+
+/// An item, and whether it is lawful.
+const JUDGED: &[(Made, bool)] = &[
+    (Made::Nested(100), true),
+    (Made::Nested(101), false),
+    (Made::Keyed(&[b"a", b"a"]), false),
+    (Made::Keyed(&[b"ab", b"a"]), false),
+    (Made::Keyed(&[b"b", b"aa"]), false),
+    (Made::Keyed(&[b"aa", b"b"]), true),
+];
+
+/// Whether an item is there, and lawful or not.
+fn is_judged(alloc: Global, item: &Made, lawful: bool) -> bool {
+    match make(alloc, item) {
+        Ok(item) => Tree::of(item).is_ok() == lawful,
+        Err(_) => false,
+    }
+}
 
 /// Whether a dictionary of so many pairs is handed back.
 fn are_pairs_handed_back(item: Item, count: usize) -> bool {
@@ -144,24 +150,6 @@ fn are_keys_handed_back(alloc: Global, keys: &[&[u8]]) -> bool {
     }
 }
 
-fn are_keys_judged(alloc: Global, keys: &[&[u8]], lawful: bool) -> bool {
-    if lawful {
-        is_lawful(keyed(alloc, keys))
-    } else {
-        is_unlawful(keyed(alloc, keys))
-    }
-}
-
-#[test]
-fn hands_back_what_is_not_lawful(rt: HostRuntime) {
-    assert!(rt; is_lawful(nested(rt.alloc(), 100)));
-    assert!(rt; is_unlawful(nested(rt.alloc(), 101)));
-    for (keys, lawful) in KEYS {
-        assert!(rt; are_keys_judged(rt.alloc(), keys, *lawful));
-    }
-    assert!(rt; are_keys_handed_back(rt.alloc(), &[b"b", b"a"]));
-}
-
 /// Whether a key has this number, or no value.
 fn finds(item: &Item, key: &[u8], wanted: Option<i64>) -> bool {
     match (find(item, key), wanted) {
@@ -171,31 +159,55 @@ fn finds(item: &Item, key: &[u8], wanted: Option<i64>) -> bool {
     }
 }
 
-/// Whether the tree of 7 holds it.
-fn holds_seven() -> bool {
-    match Tree::of(Item::Int(7)) {
-        Ok(tree) => matches!(tree.item(), Item::Int(7)),
+/// A dictionary that has a key twice.
+const TWICE: Made = Made::Keyed(&[b"ab", b"a", b"a"]);
+
+/// An item, a key, and the number that is found.
+const FOUND: &[(Made, &[u8], Option<i64>)] = &[
+    (TWICE, b"a", Some(1)),
+    (TWICE, b"ab", Some(0)),
+    (TWICE, b"b", None),
+    (Made::Bytes(b"a"), b"a", None),
+];
+
+fn is_found(alloc: Global, item: &Made, key: &[u8], wanted: Option<i64>) -> bool {
+    match make(alloc, item) {
+        Ok(item) => finds(&item, key, wanted),
         Err(_) => false,
     }
 }
 
-/// Whether the first pair of a key is found in a dictionary that has the key twice.
-fn finds_first(twice: &Item) -> bool {
-    finds(twice, b"a", Some(1)) && finds(twice, b"ab", Some(0)) && finds(twice, b"b", None)
+/// Whether the tree of 7 holds it.
+fn holds_seven(alloc: Global) -> bool {
+    match tree_of(alloc, &Made::Int(7)) {
+        Some(tree) => matches!(tree.item(), Item::Int(7)),
+        None => false,
+    }
 }
 
 #[test]
-fn finds_the_value_of_the_first_pair(rt: HostRuntime) -> Result<(), AllocError> {
-    assert!(rt; finds_first(&keyed(rt.alloc(), &[b"ab", b"a", b"a"])?));
-    assert!(rt; finds(&bytes(rt.alloc(), b"a")?, b"a", None));
-    assert!(rt; holds_seven());
-    Ok(())
+fn spells_what_is_lawful_and_hands_back_what_is_not(rt: HostRuntime) {
+    for (item, text) in SPELLED {
+        assert!(rt; is_spelled(rt.alloc(), item, text));
+    }
+    for (item, lawful) in JUDGED {
+        assert!(rt; is_judged(rt.alloc(), item, *lawful));
+    }
+    assert!(rt; are_keys_handed_back(rt.alloc(), &[b"b", b"a"]));
 }
 
-#[test]
-fn shows_want_of_memory(rt: HostRuntime) {
+fn is_want_of_memory_shown(alloc: Global) -> bool {
     let error = BenError::Memory;
-    assert!(rt; is(format!(in rt.alloc(); "{error}"), "B10 Memory"));
+    is(format!(in alloc; "{error}"), "B10 Memory")
+}
+
+#[test]
+fn finds_the_value_of_the_first_pair(rt: HostRuntime) {
+    for (item, key, wanted) in FOUND {
+        assert!(rt; is_found(rt.alloc(), item, key, *wanted));
+    }
+    assert!(rt; holds_seven(rt.alloc()));
+    assert!(rt; is_want_of_memory_shown(rt.alloc()));
 }
 
 /// Whether a text is the spelling of the tree that is read from it.
@@ -244,21 +256,11 @@ fn are_pairs_read(alloc: Global, text: &[u8], count: usize) -> bool {
     }
 }
 
-#[test]
-fn reads_what_it_writes(rt: HostRuntime) {
-    for text in REREAD {
-        assert!(rt; is_reread(rt.alloc(), text));
-    }
-    assert!(rt; is_nested_reread(rt.alloc(), 100));
-    assert!(rt; are_pairs_read(rt.alloc(), b"d1:al4:spamee", 1));
-}
-
 /// A key of six digits.
 fn number_key(alloc: Global, number: usize) -> Result<Vec<u8>, AllocError> {
     Ok(format!(in alloc; "{number:06}")?.into_bytes())
 }
 
-/// A dictionary of so many pairs, whose keys are numbers of the same length.
 fn numbered(alloc: Global, count: usize) -> Result<Item, AllocError> {
     let mut pairs = Vec::new(alloc);
     add_numbers(alloc, count, &mut pairs)?;
@@ -274,14 +276,6 @@ fn add_numbers(
         pairs.push((number_key(alloc, number)?, Item::Int(7)))?;
     }
     Ok(())
-}
-
-/// Its spelling; none where it is not lawful.
-fn numbered_spelling(alloc: Global, count: usize) -> Result<Vec<u8>, BenError> {
-    match Tree::of(numbered(alloc, count)?) {
-        Ok(tree) => encode(alloc, &tree),
-        Err(_) => Ok(Vec::new(alloc)),
-    }
 }
 
 /// Whether the dictionary that a text spells has the first and the last of ten thousand keys, and none after them.
@@ -312,15 +306,28 @@ fn are_read(alloc: Global, text: &[u8]) -> bool {
         && is_reread(alloc, text)
 }
 
-fn are_ten_thousand_read(alloc: Global) -> bool {
-    match numbered_spelling(alloc, 10_000) {
+/// Whether the spelling of that tree is.
+fn is_spelling_read(alloc: Global, tree: &Tree) -> bool {
+    match encode(alloc, tree) {
         Ok(text) => are_read(alloc, &text),
         Err(_) => false,
     }
 }
 
+fn are_ten_thousand_read(alloc: Global) -> bool {
+    match tree_of(alloc, &Made::Numbered(10_000)) {
+        Some(tree) => is_spelling_read(alloc, &tree),
+        None => false,
+    }
+}
+
 #[test]
-fn writes_and_reads_ten_thousand_keys(rt: HostRuntime) {
+fn reads_what_it_writes(rt: HostRuntime) {
+    for text in REREAD {
+        assert!(rt; is_reread(rt.alloc(), text));
+    }
+    assert!(rt; is_nested_reread(rt.alloc(), 100));
+    assert!(rt; are_pairs_read(rt.alloc(), b"d1:al4:spamee", 1));
     assert!(rt; are_ten_thousand_read(rt.alloc()));
 }
 
@@ -375,14 +382,6 @@ fn trails_at_two(alloc: Global, text: &[u8]) -> bool {
     )
 }
 
-#[test]
-fn refuses_the_first_fault(rt: HostRuntime) {
-    for (text, wanted) in REFUSED {
-        assert!(rt; is_refused(rt.alloc(), text, wanted));
-    }
-    assert!(rt; trails_at_two(rt.alloc(), b"0:x"));
-}
-
 /// The torrent of one file `a` that holds `abc` (BEP 52).
 const TORRENT: &[u8] = b"d4:infod9:file treed1:ad0:d6:lengthi3e11:pieces root32:\
 \xba\x78\x16\xbf\x8f\x01\xcf\xea\x41\x41\x40\xde\x5d\xae\x22\x23\
@@ -407,7 +406,11 @@ const SPANS: &[Span] = &[
 ];
 
 #[test]
-fn spans_values_of_the_root(rt: HostRuntime) {
+fn refuses_the_first_fault_and_spans_values_of_the_root(rt: HostRuntime) {
+    for (text, wanted) in REFUSED {
+        assert!(rt; is_refused(rt.alloc(), text, wanted));
+    }
+    assert!(rt; trails_at_two(rt.alloc(), b"0:x"));
     assert!(rt; TORRENT.len() == 158);
     for (text, key, wanted) in SPANS {
         assert!(rt; is_spanned(rt.alloc(), text, key, *wanted));

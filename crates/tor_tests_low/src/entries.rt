@@ -40,11 +40,6 @@ fn are_joined(alloc: Global) -> bool {
     }
 }
 
-#[test]
-fn joins_entries_with_padding(rt: HostRuntime) {
-    assert!(rt; are_joined(rt.alloc()));
-}
-
 /// Padding after the last file too.
 fn hybrid_plan(alloc: Global) -> Result<Plan, AllocError> {
     let entries = vec![in alloc;
@@ -67,6 +62,7 @@ fn are_cut(alloc: Global) -> bool {
 }
 
 #[test]
-fn cuts_hybrid_entries_with_padding_at_the_end(rt: HostRuntime) {
+fn cuts_entries_with_padding_between_them_and_at_the_end(rt: HostRuntime) {
+    assert!(rt; are_joined(rt.alloc()));
     assert!(rt; are_cut(rt.alloc()));
 }

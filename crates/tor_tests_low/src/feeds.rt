@@ -3,22 +3,15 @@
 
 use crate::merkle::{Sums, whole_of};
 use crate::shared::content;
-use std::alloc::AllocError;
-use std::process::Abort;
+use std::alloc::{AllocError, Global};
 use tor_merkle::{Feed, Hash, is_piece_length};
 
-// Root and layer of a content that is fed in parts of `part` bytes.
-fn fed_of<R: AllocGlobal + Abort>(
-    rt: &R,
-    length: usize,
-    piece_length: u64,
-    part: usize,
-) -> Result<Sums, AllocError> {
-    let bytes = content(rt.alloc(), length)?;
-    assert!(rt; bytes.len() <= 1 << 50);
-    assert!(rt; part > 0 && part <= 1 << 50);
-    assert!(rt; is_piece_length(piece_length));
-    let mut feed = Feed::new(rt.alloc(), piece_length);
+// Root and layer of bytes that are fed in parts of `part` bytes.
+fn fed_of(alloc: Global, bytes: &[u8], piece_length: u64, part: usize) -> Result<Sums, AllocError> {
+    if bytes.len() > 1 << 50 || part == 0 || part > 1 << 50 || !is_piece_length(piece_length) {
+        return Err(AllocError);
+    }
+    let mut feed = Feed::new(alloc, piece_length);
     let mut start = 0;
     'parts: while start < bytes.len() {
         let end = bytes.len().min(start + part);
@@ -39,23 +32,25 @@ fn are_same(sums: &Sums, others: &Sums) -> bool {
 }
 
 // Whether a feed tells the same sums.
-fn feed_agrees<R: AllocGlobal + Abort>(
-    rt: &R,
-    length: usize,
-    piece_length: u64,
-    part: usize,
-    sums: &Sums,
-) -> bool {
-    match fed_of(rt, length, piece_length, part) {
+fn feed_agrees(alloc: Global, bytes: &[u8], piece_length: u64, part: usize, sums: &Sums) -> bool {
+    match fed_of(alloc, bytes, piece_length, part) {
         Ok(fed) => are_same(&fed, sums),
         Err(_) => false,
     }
 }
 
-// Whether a feed tells what the plain program tells.
-fn agrees<R: AllocGlobal + Abort>(rt: &R, length: usize, piece_length: u64, part: usize) -> bool {
-    match whole_of(rt.alloc(), length, piece_length) {
-        Ok(sums) => feed_agrees(rt, length, piece_length, part, &sums),
+// Whether a feed of these bytes tells what the plain program tells.
+fn agrees_over(alloc: Global, bytes: &[u8], piece_length: u64, part: usize) -> bool {
+    match whole_of(alloc, bytes, piece_length) {
+        Ok(sums) => feed_agrees(alloc, bytes, piece_length, part, &sums),
+        Err(_) => false,
+    }
+}
+
+// Whether it does of a content.
+fn agrees(alloc: Global, length: usize, piece_length: u64, part: usize) -> bool {
+    match content(alloc, length) {
+        Ok(bytes) => agrees_over(alloc, &bytes, piece_length, part),
         Err(_) => false,
     }
 }
@@ -82,13 +77,6 @@ const ROWS: &[(usize, u64, usize)] = &[
     (1_638_400, 65_536, 33_333),
 ];
 
-#[test]
-fn feeds_in_parts_what_lies_in_memory(rt: HostRuntime) {
-    for (length, piece_length, part) in ROWS {
-        assert!(rt; agrees(&rt, *length, *piece_length, *part));
-    }
-}
-
 // A byte fewer than so many blocks, those blocks, and a byte more: of 7, 8, 9, 16 and 17 blocks. Beside each the length
 // of a piece: a block, four, or sixteen.
 const RUNS: &[(usize, u64)] = &[
@@ -109,15 +97,6 @@ const RUNS: &[(usize, u64)] = &[
     (278_529, 262_144),
 ];
 
-// Eight whole blocks are hashed at once; they are fed at one time, and in parts of six blocks and some bytes.
-#[test]
-fn feeds_runs_as_the_plain_program(rt: HostRuntime) {
-    for (length, piece_length) in RUNS {
-        assert!(rt; agrees(&rt, *length, *piece_length, 1 << 20));
-        assert!(rt; agrees(&rt, *length, *piece_length, 100_000));
-    }
-}
-
 const ROOT: Hash = *b"\x7b\x2a\xc3\x7c\x09\xa9\x9d\xbc\xfd\xa8\xbb\x89\xf8\x60\x46\x84\
 \xac\x60\xba\x31\x4f\x77\x2f\xdd\xe6\xf7\x89\x12\x3b\x5d\x95\x75";
 
@@ -133,19 +112,36 @@ fn is_layer_of_a_hundred(layer: &[Hash]) -> bool {
 }
 
 // Whether a hundred blocks, fed in such parts, have this root and such a layer.
-fn are_of_a_hundred_blocks<R: AllocGlobal + Abort>(rt: &R, part: usize) -> bool {
-    match fed_of(rt, 1_638_400, 65_536, part) {
+fn are_fed_of_a_hundred(alloc: Global, bytes: &[u8], part: usize) -> bool {
+    match fed_of(alloc, bytes, 65_536, part) {
         Ok(Some(sums)) => sums.0 == ROOT && is_layer_of_a_hundred(&sums.1),
         _ => false,
     }
 }
 
-#[test]
-fn tells_the_root_of_a_hundred_blocks(rt: HostRuntime) {
-    assert!(rt; are_of_a_hundred_blocks(&rt, 77_777));
+// Whether they have, in parts and at one time.
+fn are_of_a_hundred_blocks(alloc: Global) -> bool {
+    match content(alloc, 1_638_400) {
+        Ok(bytes) => {
+            are_fed_of_a_hundred(alloc, &bytes, 77_777)
+                && are_fed_of_a_hundred(alloc, &bytes, 1_638_400)
+        }
+        Err(_) => false,
+    }
+}
+
+// Eight whole blocks are hashed at once; they are fed at one time, and in parts of six blocks and some bytes.
+fn agrees_at_once_and_in_parts(alloc: Global, length: usize, piece_length: u64) -> bool {
+    agrees(alloc, length, piece_length, 1 << 20) && agrees(alloc, length, piece_length, 100_000)
 }
 
 #[test]
-fn tells_the_root_of_a_hundred_blocks_fed_at_one_time(rt: HostRuntime) {
-    assert!(rt; are_of_a_hundred_blocks(&rt, 1_638_400));
+fn feeds_in_parts_and_in_runs_what_lies_in_memory(rt: HostRuntime) {
+    for (length, piece_length, part) in ROWS {
+        assert!(rt; agrees(rt.alloc(), *length, *piece_length, *part));
+    }
+    for (length, piece_length) in RUNS {
+        assert!(rt; agrees_at_once_and_in_parts(rt.alloc(), *length, *piece_length));
+    }
+    assert!(rt; are_of_a_hundred_blocks(rt.alloc()));
 }

@@ -163,21 +163,11 @@ fn are_content_blocks_right(alloc: Global) -> bool {
     }
 }
 
-#[test]
-fn hashes_eight_blocks(rt: HostRuntime) {
-    assert!(rt; are_content_blocks_right(rt.alloc()));
-}
-
 fn are_content_nodes_right(alloc: Global) -> bool {
     match content(alloc, 512) {
         Ok(bytes) => are_nodes_right(&bytes),
         Err(_) => false,
     }
-}
-
-#[test]
-fn hashes_eight_nodes(rt: HostRuntime) {
-    assert!(rt; are_content_nodes_right(rt.alloc()));
 }
 
 // Whether a content of eight messages of `size` bytes is hashed right.
@@ -186,12 +176,6 @@ fn are_content_pieces_right(alloc: Global, length: usize, size: usize) -> bool {
         Ok(bytes) => are_pieces_right(&bytes, size),
         Err(_) => false,
     }
-}
-
-#[test]
-fn hashes_eight_pieces(rt: HostRuntime) {
-    assert!(rt; are_content_pieces_right(rt.alloc(), 512, 64));
-    assert!(rt; are_content_pieces_right(rt.alloc(), 131_072, 16_384));
 }
 
 fn are_zero_nodes_right(alloc: Global) -> bool {
@@ -208,12 +192,6 @@ fn are_zero_blocks_right(alloc: Global) -> bool {
     }
 }
 
-#[test]
-fn hashes_zeros(rt: HostRuntime) {
-    assert!(rt; are_zero_nodes_right(rt.alloc()));
-    assert!(rt; are_zero_blocks_right(rt.alloc()));
-}
-
 fn are_letters_right(alloc: Global) -> bool {
     match repeated(alloc, b'a', 8_000_000) {
         Ok(bytes) => pieces_of(&bytes, 1_000_000) == Some([MILLION; 8]),
@@ -222,6 +200,11 @@ fn are_letters_right(alloc: Global) -> bool {
 }
 
 #[test]
-fn hashes_a_million_letters(rt: HostRuntime) {
-    assert!(rt; are_letters_right(rt.alloc()));
+fn hashes_eight_messages_at_once(rt: HostRuntime) {
+    let alloc = rt.alloc();
+    assert!(rt; are_content_blocks_right(alloc) && are_content_nodes_right(alloc));
+    assert!(rt; are_content_pieces_right(alloc, 512, 64));
+    assert!(rt; are_content_pieces_right(alloc, 131_072, 16_384));
+    assert!(rt; are_zero_nodes_right(alloc) && are_zero_blocks_right(alloc));
+    assert!(rt; are_letters_right(alloc));
 }

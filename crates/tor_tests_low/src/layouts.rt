@@ -94,13 +94,6 @@ fn is_laid_out(alloc: Global, row: &Row) -> bool {
     }
 }
 
-#[test]
-fn lays_out_files(rt: HostRuntime) {
-    for row in ROWS {
-        assert!(rt; is_laid_out(rt.alloc(), row));
-    }
-}
-
 // Files, whether a path of theirs is reserved, and what their aligned list gives.
 type Reserved = (Files, bool, &'static str);
 
@@ -132,19 +125,6 @@ fn is_judged(alloc: Global, row: &Reserved) -> bool {
     }
 }
 
-#[test]
-fn refuses_paths_of_padding_in_aligned_lists(rt: HostRuntime) {
-    for row in RESERVED {
-        assert!(rt; is_judged(rt.alloc(), row));
-    }
-}
-
-#[test]
-fn tells_want_of_memory(rt: HostRuntime) {
-    let fault = LayoutError::from(AllocError);
-    assert!(rt; is(format!(in rt.alloc(); "{fault}"), "out of memory"));
-}
-
 // How many entries a list has.
 fn count_of(alloc: Global, list: &FileList, piece_length: u64) -> usize {
     if piece_length == 0 || piece_length > 1 << 30 {
@@ -164,7 +144,19 @@ fn is_thousand_laid_out(alloc: Global) -> bool {
     }
 }
 
+fn is_want_of_memory_told(alloc: Global) -> bool {
+    let fault = LayoutError::from(AllocError);
+    is(format!(in alloc; "{fault}"), "out of memory")
+}
+
 #[test]
-fn lays_out_a_thousand_files(rt: HostRuntime) {
+fn lays_out_files_and_refuses_paths_of_padding_in_aligned_lists(rt: HostRuntime) {
+    for row in ROWS {
+        assert!(rt; is_laid_out(rt.alloc(), row));
+    }
+    for row in RESERVED {
+        assert!(rt; is_judged(rt.alloc(), row));
+    }
     assert!(rt; is_thousand_laid_out(rt.alloc()));
+    assert!(rt; is_want_of_memory_told(rt.alloc()));
 }

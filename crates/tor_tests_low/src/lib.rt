@@ -1,5 +1,5 @@
-//! The tests of `tor_bencode`, `tor_hashes`, `tor_merkle`, `tor_tree`, `tor_v1` and `tor_plan`, in a crate of their
-//! own: a crate with tests is proved twice, and these libraries are large.
+//! The tests of `tor_bencode`, `tor_hashes`, `tor_merkle`, `tor_tree`, `tor_v1`, `tor_plan`, `tor_board` and
+//! `tor_lane`, in a crate of their own: a crate with tests is proved twice, and these libraries are large.
 //!
 //! - `bencode.rt`: trees spelled and read back, and what is refused.
 //! - `hashes.rt`: SHA-256 and SHA-1 of eight messages.
@@ -8,6 +8,7 @@
 //! - `names.rt`: names and paths; `lists.rt`: lists of files and of paths; `trees.rt`: the `file tree`.
 //! - `layouts.rt`: version 1's list of files; `sums.rt`: the SHA-1 of its pieces.
 //! - `plans.rt`: units of work for lists of files; `entries.rt`: for entries; `pieces.rt`: their pieces.
+//! - `seats`: boards and the seats of their workers; `lane`: chunks that one feeder puts and several takers take.
 //!
 //! `shared.rt` has contents, lists of files and hexadecimal digits.
 #![tactic(auto)]
@@ -20,6 +21,8 @@ mod entries;
 mod feeds;
 #[cfg(test)]
 mod hashes;
+#[cfg(test)]
+mod lane;
 #[cfg(test)]
 mod layers;
 #[cfg(test)]
@@ -36,6 +39,8 @@ mod piece_proofs;
 mod pieces;
 #[cfg(test)]
 mod plans;
+#[cfg(test)]
+mod seats;
 #[cfg(test)]
 mod shared;
 #[cfg(test)]

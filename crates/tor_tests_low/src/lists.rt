@@ -1,31 +1,8 @@
 //! Lists of files and of paths: their order, and why there is none.
-use crate::names::{is, path};
+use crate::shared::{Files, files_of, is, path};
 use std::alloc::{AllocError, Global};
 use tor_merkle::MAX_LENGTH;
 use tor_tree::{FileList, FilePath, ListError, PathList};
-
-// Files as their paths and lengths.
-pub(crate) type Files = &'static [(&'static str, u64)];
-
-fn add_files(
-    alloc: Global,
-    rows: &[(&str, u64)],
-    files: &mut Vec<(FilePath, u64)>,
-) -> Result<(), AllocError> {
-    for (text, length) in rows {
-        files.push((path(alloc, text)?, *length))?;
-    }
-    Ok(())
-}
-
-pub(crate) fn files_of(
-    alloc: Global,
-    rows: &[(&str, u64)],
-) -> Result<Vec<(FilePath, u64)>, AllocError> {
-    let mut files = Vec::new(alloc);
-    add_files(alloc, rows, &mut files)?;
-    Ok(files)
-}
 
 fn add_paths(alloc: Global, texts: &[&str], paths: &mut Vec<FilePath>) -> Result<(), AllocError> {
     for text in texts {
@@ -57,13 +34,21 @@ fn is_listed(alloc: Global, files: &[(&str, u64)], wanted: &[(FilePath, u64)]) -
     }
 }
 
-#[test]
-fn files_are_listed_in_the_order_of_their_paths(rt: HostRuntime) -> Result<(), AllocError> {
-    let wanted = files_of(rt.alloc(), &[("a/c", 2), ("a-b", 1), ("b", 0)])?;
+fn are_listed(alloc: Global, wanted: &[(FilePath, u64)]) -> bool {
     for files in ORDERS {
-        assert!(rt; is_listed(rt.alloc(), files, &wanted));
+        if !is_listed(alloc, files, wanted) {
+            return false;
+        }
     }
-    Ok(())
+    true
+}
+
+// Whether each of the orders is listed in the order of its paths.
+fn are_listed_in_order(alloc: Global) -> bool {
+    match files_of(alloc, &[("a/c", 2), ("a-b", 1), ("b", 0)]) {
+        Ok(wanted) => are_listed(alloc, &wanted),
+        Err(_) => false,
+    }
 }
 
 const LONG: u64 = MAX_LENGTH + 1;
@@ -84,13 +69,6 @@ fn is_no_list(alloc: Global, files: &[(&str, u64)], wanted: &str) -> bool {
     match list_of_files(alloc, files) {
         Ok(_) => false,
         Err(fault) => is(format!(in alloc; "{fault}"), wanted),
-    }
-}
-
-#[test]
-fn the_first_fault_of_a_list_is_answered(rt: HostRuntime) {
-    for (files, wanted) in LIST_FAULTS {
-        assert!(rt; is_no_list(rt.alloc(), files, wanted));
     }
 }
 
@@ -126,11 +104,6 @@ fn are_three_entries(alloc: Global) -> bool {
     }
 }
 
-#[test]
-fn a_list_of_paths_tells_where_each_was_handed_in(rt: HostRuntime) {
-    assert!(rt; are_three_entries(rt.alloc()));
-}
-
 // Whether a list of paths takes these lengths: the files, and where each was handed in.
 fn takes_lengths(
     alloc: Global,
@@ -156,11 +129,11 @@ fn take_lengths(alloc: Global, lengths: &[u64], wanted: &[(FilePath, u64)]) -> b
     }
 }
 
-#[test]
-fn a_list_of_paths_takes_lengths(rt: HostRuntime) -> Result<(), AllocError> {
-    let wanted = files_of(rt.alloc(), &[("a/c", 5), ("a-b", 0), ("b", 7)])?;
-    assert!(rt; take_lengths(rt.alloc(), &[7, 0, 5], &wanted));
-    Ok(())
+fn are_lengths_taken(alloc: Global) -> bool {
+    match files_of(alloc, &[("a/c", 5), ("a-b", 0), ("b", 7)]) {
+        Ok(wanted) => take_lengths(alloc, &[7, 0, 5], &wanted),
+        Err(_) => false,
+    }
 }
 
 const PATH_FAULTS: &[(&[&str], &str)] = &[
@@ -174,13 +147,6 @@ fn are_no_paths(alloc: Global, texts: &[&str], wanted: &str) -> bool {
     match list_of(alloc, texts) {
         Ok(_) => false,
         Err(fault) => is(format!(in alloc; "{fault}"), wanted),
-    }
-}
-
-#[test]
-fn the_first_fault_of_paths_is_answered(rt: HostRuntime) {
-    for (texts, wanted) in PATH_FAULTS {
-        assert!(rt; are_no_paths(rt.alloc(), texts, wanted));
     }
 }
 
@@ -203,6 +169,19 @@ fn refuse_length(alloc: Global, length: u64, wanted: &str) -> bool {
 }
 
 #[test]
-fn a_list_of_paths_refuses_a_length(rt: HostRuntime) {
+fn files_are_listed_in_the_order_of_their_paths_or_refused(rt: HostRuntime) {
+    assert!(rt; are_listed_in_order(rt.alloc()));
+    for (files, wanted) in LIST_FAULTS {
+        assert!(rt; is_no_list(rt.alloc(), files, wanted));
+    }
+}
+
+#[test]
+fn a_list_of_paths_takes_lengths(rt: HostRuntime) {
+    assert!(rt; are_three_entries(rt.alloc()));
+    assert!(rt; are_lengths_taken(rt.alloc()));
     assert!(rt; refuse_length(rt.alloc(), LONG, "L3 TooLarge"));
+    for (texts, wanted) in PATH_FAULTS {
+        assert!(rt; are_no_paths(rt.alloc(), texts, wanted));
+    }
 }

@@ -9,16 +9,11 @@ use tor_merkle::{Feed, Hash, Stack, is_piece_length, layer_root, leaf, pair, who
 // Root and layer of a content; none of no byte.
 pub(crate) type Sums = Option<(Hash, Vec<Hash>)>;
 
-pub(crate) fn whole_of(
-    alloc: Global,
-    length: usize,
-    piece_length: u64,
-) -> Result<Sums, AllocError> {
-    let bytes = content(alloc, length)?;
+pub(crate) fn whole_of(alloc: Global, bytes: &[u8], piece_length: u64) -> Result<Sums, AllocError> {
     if bytes.len() > 1 << 50 || !is_piece_length(piece_length) {
         return Err(AllocError);
     }
-    whole(alloc, &bytes, piece_length)
+    whole(alloc, bytes, piece_length)
 }
 
 // The leaves of the blocks, and of shorter last ones: of three bytes, of one, of 7,232 and of five.
@@ -132,19 +127,24 @@ const ROWS: &[Row] = &[
     (81_920, 1 << 30, Some(OF_FIVE_BLOCKS), &[]),
 ];
 
-fn has_sums(alloc: Global, row: &Row) -> bool {
-    let (length, piece_length, root, layer) = *row;
-    match whole_of(alloc, length, piece_length) {
-        Ok(Some(sums)) => root == Some(sums.0) && sums.1.as_slice() == layer,
-        Ok(None) => root.is_none() && layer.is_empty(),
+fn are_sums(sums: &Sums, root: Option<Hash>, layer: &[Hash]) -> bool {
+    match sums {
+        Some(sums) => root == Some(sums.0) && sums.1.as_slice() == layer,
+        None => root.is_none() && layer.is_empty(),
+    }
+}
+
+fn has_sums_of(alloc: Global, bytes: &[u8], row: &Row) -> bool {
+    match whole_of(alloc, bytes, row.1) {
+        Ok(sums) => are_sums(&sums, row.2, row.3),
         Err(_) => false,
     }
 }
 
-#[test]
-fn tells_root_and_layer_of_a_content(rt: HostRuntime) {
-    for row in ROWS {
-        assert!(rt; has_sums(rt.alloc(), row));
+fn has_sums(alloc: Global, row: &Row) -> bool {
+    match content(alloc, row.0) {
+        Ok(bytes) => has_sums_of(alloc, &bytes, row),
+        Err(_) => false,
     }
 }
 
@@ -155,23 +155,13 @@ fn are_drawn() -> bool {
         && pair(&L4, &zero(0)) == P2
 }
 
-#[test]
-fn tells_the_layer_of_five_blocks(rt: HostRuntime) {
-    assert!(rt; are_drawn());
-}
-
 // The roots of the pieces of a content, by a feed.
-fn piece_roots_of(
-    alloc: Global,
-    length: usize,
-    piece_length: u64,
-) -> Result<Vec<Hash>, AllocError> {
-    let bytes = content(alloc, length)?;
+fn piece_roots_of(alloc: Global, bytes: &[u8], piece_length: u64) -> Result<Vec<Hash>, AllocError> {
     if bytes.len() > 1 << 50 || !is_piece_length(piece_length) {
         return Err(AllocError);
     }
     let mut feed = Feed::new(alloc, piece_length);
-    feed.feed(&bytes)?;
+    feed.feed(bytes)?;
     Ok(feed.piece_roots())
 }
 
@@ -185,26 +175,21 @@ const PIECE_ROOTS: &[(usize, u64, &[Hash])] = &[
     (49_152, 16_384, &[L0, L1, L2]),
 ];
 
-fn has_piece_roots(alloc: Global, length: usize, piece_length: u64, roots: &[Hash]) -> bool {
-    match piece_roots_of(alloc, length, piece_length) {
+fn has_piece_roots_of(alloc: Global, bytes: &[u8], piece_length: u64, roots: &[Hash]) -> bool {
+    match piece_roots_of(alloc, bytes, piece_length) {
         Ok(found) => found.as_slice() == roots,
         Err(_) => false,
     }
 }
 
-#[test]
-fn widens_the_pieces_of_a_part(rt: HostRuntime) {
-    for (length, piece_length, roots) in PIECE_ROOTS {
-        assert!(rt; has_piece_roots(rt.alloc(), *length, *piece_length, roots));
+fn has_piece_roots(alloc: Global, length: usize, piece_length: u64, roots: &[Hash]) -> bool {
+    match content(alloc, length) {
+        Ok(bytes) => has_piece_roots_of(alloc, &bytes, piece_length, roots),
+        Err(_) => false,
     }
 }
 
 const TWO_PIECES: &[Hash; 2] = &[P0, LAST_P1];
-
-#[test]
-fn joins_the_roots_of_pieces(rt: HostRuntime) {
-    assert!(rt; layer_root(TWO_PIECES, 1) == OF_THREE_BLOCKS);
-}
 
 // The SHA-256 of `abc`, of `ab` and of `c`, and the node over the last two.
 const OF_ABC: Hash = *b"\xba\x78\x16\xbf\x8f\x01\xcf\xea\x41\x41\x40\xde\x5d\xae\x22\x23\
@@ -218,13 +203,6 @@ const OF_C: Hash = *b"\x2e\x7d\x2c\x03\xa9\x50\x7a\xe2\x65\xec\xf5\xb5\x35\x68\x
 
 const OF_PAIR: Hash = *b"\x11\x53\x23\xe5\x62\xc4\xa4\xfd\xf7\xce\xac\xed\xca\x66\x0d\xc4\
 \xbb\xe1\x38\x9d\xab\x93\x23\xaa\xd0\x84\x40\x90\x7c\x74\x26\xd0";
-
-#[test]
-fn hashes_blocks_pairs_and_padding(rt: HostRuntime) {
-    assert!(rt; leaf(b"abc") == OF_ABC && leaf(b"ab") == OF_AB && leaf(b"c") == OF_C);
-    assert!(rt; zero(0) == [0; 32] && zero(1) == Z1 && zero(2) == Z2);
-    assert!(rt; pair(&OF_AB, &OF_C) == OF_PAIR);
-}
 
 // Whether a stack of level 1 has these roots as hashes come.
 fn stacks(hashes: &[Hash; 3], root: &Hash) -> bool {
@@ -244,13 +222,6 @@ const OF_STACK: Hash = *b"\x00\x69\x30\x5f\x19\x51\x29\xeb\x7e\x8d\xdb\x2f\x05\x
 
 const STACKED: &[Hash; 3] = &[OF_AB, OF_C, OF_ABC];
 
-#[test]
-fn stacks_three_hashes_of_a_higher_level(rt: HostRuntime) {
-    assert!(rt; pair(&OF_PAIR, &pair(&OF_ABC, &zero(1))) == OF_STACK);
-    assert!(rt; layer_root(STACKED, 1) == OF_STACK);
-    assert!(rt; stacks(STACKED, &OF_STACK));
-}
-
 const LENGTHS: &[(u64, bool)] = &[
     (0, false),
     (1, false),
@@ -268,18 +239,41 @@ const LENGTHS: &[(u64, bool)] = &[
 ];
 
 #[test]
-fn accepts_powers_of_two_from_a_block_to_a_gibibyte(rt: HostRuntime) {
+fn tells_root_and_layer_of_a_content(rt: HostRuntime) {
+    for row in ROWS {
+        assert!(rt; has_sums(rt.alloc(), row));
+    }
+    for (length, piece_length, roots) in PIECE_ROOTS {
+        assert!(rt; has_piece_roots(rt.alloc(), *length, *piece_length, roots));
+    }
+}
+
+// The SHA-256 of a few bytes, of two hashes, and the roots of leaves past the end.
+fn are_hashed() -> bool {
+    leaf(b"abc") == OF_ABC
+        && leaf(b"ab") == OF_AB
+        && leaf(b"c") == OF_C
+        && zero(0) == [0; 32]
+        && zero(1) == Z1
+        && zero(2) == Z2
+        && pair(&OF_AB, &OF_C) == OF_PAIR
+}
+
+// The roots over two pieces, and over three hashes of level 1.
+fn are_layers_joined() -> bool {
+    layer_root(TWO_PIECES, 1) == OF_THREE_BLOCKS
+        && pair(&OF_PAIR, &pair(&OF_ABC, &zero(1))) == OF_STACK
+        && layer_root(STACKED, 1) == OF_STACK
+}
+
+#[test]
+fn hashes_blocks_and_joins_hashes(rt: HostRuntime) {
+    assert!(rt; are_hashed());
+    assert!(rt; are_drawn());
+    assert!(rt; are_layers_joined());
+    assert!(rt; stacks(STACKED, &OF_STACK));
     for (n, accepted) in LENGTHS {
         assert!(rt; is_piece_length(*n) == *accepted);
     }
     piece_length_bounds();
-}
-
-// Whether a value of the type may go to another thread.
-fn sendable<T: Send>() {}
-
-#[test]
-fn sends_feeds_and_stacks_to_other_threads() {
-    sendable::<Feed>();
-    sendable::<Stack>();
 }

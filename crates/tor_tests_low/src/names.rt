@@ -1,36 +1,7 @@
-//! Names, paths and what tests of lists and trees share.
+//! Names and paths.
+use crate::shared::{is, path};
 use std::alloc::{AllocError, Global};
 use tor_tree::{FilePath, ListError, Name, NameError, TreeFault, copy_names};
-
-// A name. That a text is none, which none of the tables of paths has, is told as want of memory.
-fn name(alloc: Global, text: &str) -> Result<Name, AllocError> {
-    match Name::new(alloc, text.as_bytes()) {
-        Ok(name) => Ok(name),
-        Err(_) => Err(AllocError),
-    }
-}
-
-fn add_names(alloc: Global, text: &str, names: &mut Vec<Name>) -> Result<(), AllocError> {
-    for part in text.split('/') {
-        names.push(name(alloc, part)?)?;
-    }
-    Ok(())
-}
-
-// The path whose names are the parts of a text between its slashes.
-pub(crate) fn path(alloc: Global, text: &str) -> Result<FilePath, AllocError> {
-    let mut names = Vec::new(alloc);
-    add_names(alloc, text, &mut names)?;
-    FilePath::new(names).ok_or(AllocError)
-}
-
-// Whether there is a text, and this.
-pub(crate) fn is(text: Result<String, AllocError>, wanted: &str) -> bool {
-    match text {
-        Ok(text) => text.as_str() == wanted,
-        Err(_) => false,
-    }
-}
 
 // The bytes, and what is answered.
 type NameRow = (&'static [u8], &'static str);
@@ -61,22 +32,6 @@ fn is_judged(alloc: Global, row: &NameRow) -> bool {
     }
 }
 
-#[test]
-fn the_first_fault_of_a_name_is_answered(rt: HostRuntime) {
-    for row in NAMES {
-        assert!(rt; is_judged(rt.alloc(), row));
-    }
-}
-
-#[test]
-fn a_lack_of_memory_is_answered(rt: HostRuntime) {
-    let (name, list) = (NameError::from(AllocError), ListError::from(AllocError));
-    let tree = TreeFault::from(AllocError);
-    assert!(rt; is(format!(in rt.alloc(); "{name}"), "out of memory"));
-    assert!(rt; is(format!(in rt.alloc(); "{list}"), "out of memory"));
-    assert!(rt; is(format!(in rt.alloc(); "{tree}"), "out of memory"));
-}
-
 // That a name has these bytes, and its copy too.
 fn is_copied(alloc: Global, name: &Name, bytes: &[u8]) -> bool {
     match name.copy(alloc) {
@@ -92,6 +47,8 @@ fn is_name(alloc: Global, bytes: &[u8]) -> bool {
     }
 }
 
+const LENGTHS: &[usize] = &[1, 2, 255, 4096];
+
 // That so many bytes `n` are a name, and its copy is the same.
 fn is_name_of(alloc: Global, length: usize) -> bool {
     match vec![in alloc; b'n'; length] {
@@ -105,14 +62,6 @@ fn is_letter(alloc: Global) -> bool {
         Ok(name) => name.as_str() == "é",
         Err(_) => false,
     }
-}
-
-#[test]
-fn a_name_is_text_of_any_length(rt: HostRuntime) {
-    for length in [1, 2, 255, 4096] {
-        assert!(rt; is_name_of(rt.alloc(), length));
-    }
-    assert!(rt; is_letter(rt.alloc()));
 }
 
 const IN_ORDER: &[(&str, &str)] = &[
@@ -136,13 +85,7 @@ fn comes_first(alloc: Global, low: &str, high: &str) -> Result<bool, AllocError>
     Ok(low < high && high != low && is_copy(alloc, &low))
 }
 
-#[test]
-fn paths_are_ordered_name_by_name(rt: HostRuntime) {
-    for (low, high) in IN_ORDER {
-        assert!(rt; comes_first(rt.alloc(), low, high) == Ok(true));
-    }
-}
-
+// Whether a copy of the names of a path has two.
 fn has_two_names(alloc: Global, path: &FilePath) -> bool {
     match copy_names(alloc, path.names()) {
         Ok(names) => names.len() == 2,
@@ -150,9 +93,39 @@ fn has_two_names(alloc: Global, path: &FilePath) -> bool {
     }
 }
 
+// The same of the path of two names.
+fn has_two_names_of_its_own(alloc: Global) -> bool {
+    match path(alloc, "a/c") {
+        Ok(path) => has_two_names(alloc, &path),
+        Err(_) => false,
+    }
+}
+
+fn is_want_of_memory_told(alloc: Global) -> bool {
+    let (name, list) = (NameError::from(AllocError), ListError::from(AllocError));
+    let tree = TreeFault::from(AllocError);
+    is(format!(in alloc; "{name}"), "out of memory")
+        && is(format!(in alloc; "{list}"), "out of memory")
+        && is(format!(in alloc; "{tree}"), "out of memory")
+}
+
 #[test]
-fn a_path_has_names(rt: HostRuntime) -> Result<(), AllocError> {
-    assert!(rt; has_two_names(rt.alloc(), &path(rt.alloc(), "a/c")?));
+fn names_are_judged_and_copied(rt: HostRuntime) {
+    for row in NAMES {
+        assert!(rt; is_judged(rt.alloc(), row));
+    }
+    for length in LENGTHS {
+        assert!(rt; is_name_of(rt.alloc(), *length));
+    }
+    assert!(rt; is_letter(rt.alloc()));
+}
+
+#[test]
+fn paths_are_ordered_name_by_name(rt: HostRuntime) {
+    for (low, high) in IN_ORDER {
+        assert!(rt; comes_first(rt.alloc(), low, high) == Ok(true));
+    }
+    assert!(rt; has_two_names_of_its_own(rt.alloc()));
     assert!(rt; FilePath::new(Vec::new(rt.alloc())).is_none());
-    Ok(())
+    assert!(rt; is_want_of_memory_told(rt.alloc()));
 }

@@ -128,13 +128,6 @@ const OF_THIRD: &Siblings = &(BLOCKS_OF_49157, 0, 2, &[LAST_OF_FIVE, P0]);
 
 const ROOT_OF_FOUR: &Rooted = &(BLOCKS_OF_49157, 0, OF_49157);
 
-#[test]
-fn gives_the_siblings_of_a_piece(rt: HostRuntime) {
-    assert!(rt; has_siblings(&rt, OF_THIRD));
-    assert!(rt; has_root(ROOT_OF_FOUR));
-    assert!(rt; are_judged(&rt, OF_FOUR));
-}
-
 const THIRD_OF_FIVE: &[Judged] = &[
     (OF_FIVE, 5, 0, 2, F2, &[F3, F01, F4567], true),
     (OF_FIVE, 5, 0, 3, F2, &[F3, F01, F4567], false),
@@ -142,13 +135,6 @@ const THIRD_OF_FIVE: &[Judged] = &[
 ];
 
 const BESIDE_THIRD_OF_FIVE: &Siblings = &(FIVE, 0, 2, &[F3, F01, F4567]);
-
-#[test]
-fn gives_the_siblings_of_the_third_of_five(rt: HostRuntime) {
-    assert!(rt; has_siblings(&rt, BESIDE_THIRD_OF_FIVE));
-    assert!(rt; is_past_the_last(&rt, FIVE, 5));
-    assert!(rt; are_judged(&rt, THIRD_OF_FIVE));
-}
 
 // The two hashes, whose 64 bytes are a block, of which their root is the leaf.
 const TWO_HASHES: &[u8] = b"\
@@ -164,12 +150,6 @@ const OF_A_FILE_AND_ITS_HASHES: &[Judged] = &[
 
 fn is_file_of_its_hashes() -> bool {
     leaf(TWO_HASHES) == F01 && pair(&F0, &F1) == F01
-}
-
-#[test]
-fn tells_a_file_from_the_file_of_its_hashes(rt: HostRuntime) {
-    assert!(rt; is_file_of_its_hashes());
-    assert!(rt; are_judged(&rt, OF_A_FILE_AND_ITS_HASHES));
 }
 
 // Whether a proof of a hash is accepted at its index alone.
@@ -220,13 +200,6 @@ fn is_each_accepted<R: AllocGlobal + Abort>(rt: &R, hashes: &[Hash]) -> bool {
     true
 }
 
-#[test]
-fn accepts_each_piece_at_its_index_alone(rt: HostRuntime) {
-    assert!(rt; is_each_accepted(&rt, BLOCKS_OF_40000));
-    assert!(rt; is_each_accepted(&rt, BLOCKS_OF_49157));
-    assert!(rt; is_each_accepted(&rt, FIVE_BLOCKS));
-}
-
 // The third of three, with the zeros beside it and with another hash; under the root that these siblings lead to, which
 // a tree of four pieces has; with a sibling too few, and one too many.
 const THIRD_OF_THREE: &[Judged] = &[
@@ -241,13 +214,6 @@ const THIRD_OF_THREE: &[Judged] = &[
 const BESIDE_THIRD_OF_THREE: &Siblings = &(BLOCKS_OF_40000, 0, 2, &[Z0, P0]);
 
 const ROOT_OF_THREE: &Rooted = &(BLOCKS_OF_40000, 0, OF_40000);
-
-#[test]
-fn wants_zero_subtrees_past_the_end(rt: HostRuntime) {
-    assert!(rt; has_root(ROOT_OF_THREE));
-    assert!(rt; has_siblings(&rt, BESIDE_THIRD_OF_THREE));
-    assert!(rt; are_judged(&rt, THIRD_OF_THREE));
-}
 
 // One hash is the root, with no sibling, and no other is.
 const ALONE: &[Judged] = &[
@@ -267,41 +233,22 @@ fn collides_in_its_parent<R: AllocGlobal + Abort>(rt: &R) -> bool {
     }
 }
 
+// Hashes, and an index at which there is none.
 const NOT_THERE: &[(&[Hash], u64)] = &[
     (BLOCKS_OF_40000, 3),
     (BLOCKS_OF_40000, 4),
     (BLOCKS_OF_40000, u64::MAX),
     (&[], 0),
+    (FIVE, 5),
 ];
 
-#[test]
-fn proves_no_piece_past_the_last(rt: HostRuntime) {
-    for (hashes, index) in NOT_THERE {
-        assert!(rt; is_past_the_last(&rt, hashes, *index));
-    }
-}
-
 const BESIDE_ONE: &Siblings = &(&[L0], 0, 0, &[]);
-
-#[test]
-fn proves_what_is_there_alone(rt: HostRuntime) {
-    assert!(rt; has_siblings(&rt, BESIDE_ONE));
-    assert!(rt; are_judged(&rt, ALONE));
-    assert!(rt; collides_in_its_parent(&rt));
-}
 
 const THIRD_PIECE: &[Judged] = &[(OF_FIVE_BLOCKS, 3, 1, 2, P2, &[Z1, P01], true)];
 
 const BESIDE_THIRD_PIECE: &Siblings = &(FIVE_BY_TWO, 1, 2, &[Z1, P01]);
 
 const ROOT_OF_PIECES: &Rooted = &(FIVE_BY_TWO, 1, OF_FIVE_BLOCKS);
-
-#[test]
-fn proves_pieces_of_two_blocks(rt: HostRuntime) {
-    assert!(rt; has_siblings(&rt, BESIDE_THIRD_PIECE));
-    assert!(rt; has_root(ROOT_OF_PIECES));
-    assert!(rt; are_judged(&rt, THIRD_PIECE));
-}
 
 // The size, the length of a piece, how many hashes, and their level.
 const COUNTS: &[(u64, u64, u64, u32)] = &[
@@ -317,12 +264,65 @@ const COUNTS: &[(u64, u64, u64, u32)] = &[
     (1 << 50, 1 << 30, 1 << 20, 16),
 ];
 
+const SIBLINGS: &[&Siblings] = &[
+    OF_THIRD,
+    BESIDE_THIRD_OF_FIVE,
+    BESIDE_THIRD_OF_THREE,
+    BESIDE_ONE,
+    BESIDE_THIRD_PIECE,
+];
+
+const ROOTS: &[&Rooted] = &[ROOT_OF_FOUR, ROOT_OF_THREE, ROOT_OF_PIECES];
+
+#[test]
+fn gives_the_siblings_of_a_piece_that_is_there(rt: HostRuntime) {
+    for row in SIBLINGS {
+        assert!(rt; has_siblings(&rt, row));
+    }
+    for (hashes, index) in NOT_THERE {
+        assert!(rt; is_past_the_last(&rt, hashes, *index));
+    }
+    for row in ROOTS {
+        assert!(rt; has_root(row));
+    }
+}
+
+const JUDGED: &[&[Judged]] = &[
+    OF_FOUR,
+    THIRD_OF_FIVE,
+    OF_A_FILE_AND_ITS_HASHES,
+    THIRD_OF_THREE,
+    ALONE,
+    THIRD_PIECE,
+];
+
+const ACCEPTED: &[&[Hash]] = &[BLOCKS_OF_40000, BLOCKS_OF_49157, FIVE_BLOCKS];
+
+#[test]
+fn accepts_each_piece_at_its_index_alone(rt: HostRuntime) {
+    for rows in JUDGED {
+        assert!(rt; are_judged(&rt, rows));
+    }
+    for hashes in ACCEPTED {
+        assert!(rt; is_each_accepted(&rt, hashes));
+    }
+    assert!(rt; is_file_of_its_hashes());
+    assert!(rt; collides_in_its_parent(&rt));
+}
+
+// Whether count and level of the hashes of a file are these.
+fn is_counted(row: &(u64, u64, u64, u32)) -> bool {
+    let (size, piece_length, count, level) = *row;
+    if !is_piece_length(piece_length) || size > 1 << 50 {
+        return false;
+    }
+    proof_count(size, piece_length) == count && proof_level(size, piece_length) == level
+}
+
 #[test]
 fn tells_count_and_level_of_a_file(rt: HostRuntime) {
     proofs_are_low();
-    for (size, piece_length, count, level) in COUNTS {
-        assert!(rt; is_piece_length(*piece_length) && *size <= 1 << 50);
-        assert!(rt; proof_count(*size, *piece_length) == *count);
-        assert!(rt; proof_level(*size, *piece_length) == *level);
+    for row in COUNTS {
+        assert!(rt; is_counted(row));
     }
 }

@@ -197,13 +197,6 @@ fn is_cut(alloc: Global, row: &Row) -> bool {
     }
 }
 
-#[test]
-fn cuts_files_by_kind_and_span(rt: HostRuntime) {
-    for row in ROWS {
-        assert!(rt; is_cut(rt.alloc(), row));
-    }
-}
-
 /// Files of four bytes, of none and of five.
 fn joined_files(alloc: Global) -> Result<Plan, AllocError> {
     let list = list_of(alloc, &[("a", 4), ("b", 0), ("c", 5)])?;
@@ -217,11 +210,6 @@ fn are_joined(alloc: Global) -> bool {
         Ok(plan) => { is_plan(alloc, &plan, JOINED, "") && plan.lengths() == [4, 0, 5].as_slice() }
         Err(_) => false,
     }
-}
-
-#[test]
-fn joins_files_at_any_piece_length(rt: HostRuntime) {
-    assert!(rt; are_joined(rt.alloc()));
 }
 
 /// The kind, and how many units and trees: the counts are those of a sum by another program.
@@ -250,11 +238,6 @@ fn has_each_counts(alloc: Global) -> bool {
     true
 }
 
-#[test]
-fn plans_a_thousand_files(rt: HostRuntime) {
-    assert!(rt; has_each_counts(rt.alloc()));
-}
-
 const LONGEST: Files = &[("a", 1 << 50)];
 
 /// Whether the longest file is cut into 1,024 units, and these are its trees.
@@ -266,14 +249,12 @@ fn is_longest(alloc: Global, kind: Kind, trees: &str) -> bool {
 }
 
 #[test]
-fn plans_the_longest_file(rt: HostRuntime) {
+fn cuts_files_by_kind_and_span(rt: HostRuntime) {
+    for row in ROWS {
+        assert!(rt; is_cut(rt.alloc(), row));
+    }
+    assert!(rt; are_joined(rt.alloc()));
+    assert!(rt; has_each_counts(rt.alloc()));
     assert!(rt; is_longest(rt.alloc(), Kind::V2, "0+1024^26 "));
     assert!(rt; is_longest(rt.alloc(), Kind::V1, ""));
-}
-
-fn shareable<T: Send + Sync>() {}
-
-#[test]
-fn plans_can_be_shared_by_threads() {
-    shareable::<Plan>();
 }

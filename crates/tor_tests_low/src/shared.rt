@@ -1,7 +1,10 @@
-//! What the tests share: contents, and lists of files.
+//! What the tests share: contents, and lists of files; and which values other threads may have.
 
 use std::alloc::{AllocError, Global};
+use tor_merkle::{Feed, Stack};
+use tor_plan::Plan;
 use tor_tree::{FileList, FilePath, Name};
+use tor_v1::PieceSums;
 
 fn add_counted(bytes: &mut Vec<u8>, length: usize) -> Result<(), AllocError> {
     for i in 0..length {
@@ -22,10 +25,7 @@ pub(crate) type Files = &'static [(&'static str, u64)];
 
 // A name. That a text is none, which none of the tables has, is told as want of memory.
 fn name(alloc: Global, text: &str) -> Result<Name, AllocError> {
-    match Name::new(alloc, text.as_bytes()) {
-        Ok(name) => Ok(name),
-        Err(_) => Err(AllocError),
-    }
+    Name::new(alloc, text.as_bytes()).ok().ok_or(AllocError)
 }
 
 fn add_names(alloc: Global, text: &str, names: &mut Vec<Name>) -> Result<(), AllocError> {
@@ -43,11 +43,8 @@ pub(crate) fn path(alloc: Global, text: &str) -> Result<FilePath, AllocError> {
 }
 
 // A list of files. That they make none, as in none of the tables, is told as want of memory.
-fn list(alloc: Global, files: Vec<(FilePath, u64)>) -> Result<FileList, AllocError> {
-    match FileList::build(alloc, files) {
-        Ok(list) => Ok(list),
-        Err(_) => Err(AllocError),
-    }
+pub(crate) fn list(alloc: Global, files: Vec<(FilePath, u64)>) -> Result<FileList, AllocError> {
+    FileList::build(alloc, files).ok().ok_or(AllocError)
 }
 
 fn add_files(
@@ -61,10 +58,17 @@ fn add_files(
     Ok(())
 }
 
-pub(crate) fn list_of(alloc: Global, rows: &[(&str, u64)]) -> Result<FileList, AllocError> {
+pub(crate) fn files_of(
+    alloc: Global,
+    rows: &[(&str, u64)],
+) -> Result<Vec<(FilePath, u64)>, AllocError> {
     let mut files = Vec::new(alloc);
     add_files(alloc, rows, &mut files)?;
-    list(alloc, files)
+    Ok(files)
+}
+
+pub(crate) fn list_of(alloc: Global, rows: &[(&str, u64)]) -> Result<FileList, AllocError> {
+    list(alloc, files_of(alloc, rows)?)
 }
 
 // The path of the file at an index of a thousand, after a text.
@@ -102,4 +106,18 @@ pub(crate) fn is(text: Result<String, AllocError>, wanted: &str) -> bool {
         Ok(text) => text.as_str() == wanted,
         Err(_) => false,
     }
+}
+
+// Whether a value of the type may go to another thread.
+fn sendable<T: Send>() {}
+
+// Whether threads may share it too.
+fn shareable<T: Send + Sync>() {}
+
+#[test]
+fn values_may_go_to_other_threads() {
+    sendable::<Feed>();
+    sendable::<Stack>();
+    sendable::<PieceSums>();
+    shareable::<Plan>();
 }

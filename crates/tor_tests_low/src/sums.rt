@@ -1,18 +1,11 @@
 //! The SHA-1 of the pieces of a content that is fed in parts. Hashes in hexadecimal were computed by another program
 //! (Python's hashlib).
+ghost use Rattle.std.specs.Prelude.{◌<◌};
 
 use crate::shared::content;
 use sha1::Sha1;
-use std::alloc::AllocError;
-use std::process::Abort;
+use std::alloc::{AllocError, Global};
 use tor_v1::PieceSums;
-
-fn sendable<T: Send>() {}
-
-#[test]
-fn sums_can_go_to_another_thread() {
-    sendable::<PieceSums>();
-}
 
 /// A part of a content: bytes, or a count of zeros.
 enum Part {
@@ -20,22 +13,28 @@ enum Part {
     Zeros(u64),
 }
 
-fn sums_of_parts<R: AllocGlobal + Abort>(
-    rt: &R,
-    piece_length: u64,
-    parts: &[Part],
-) -> Result<Vec<u8>, AllocError> {
-    assert!(rt; piece_length >= 1 && piece_length <= 1 << 30);
-    let mut sums = PieceSums::new(rt.alloc(), piece_length);
-    for part in parts {
-        match part {
-            Part::Bytes(bytes) => sums.feed(bytes)?,
-            Part::Zeros(count) => {
-                assert!(rt; *count <= 1 << 30);
-                sums.feed_zeros(*count)?;
-            }
-        }
+// That more zeros come than a piece may have, as in no row, is told as want of memory.
+fn feed_part(sums: &mut PieceSums, part: &Part) -> Result<(), AllocError> {
+    match part {
+        Part::Bytes(bytes) => sums.feed(bytes),
+        Part::Zeros(count) if *count <= 1 << 30 => sums.feed_zeros(*count),
+        Part::Zeros(_) => Err(AllocError),
     }
+}
+
+fn feed_parts(sums: &mut PieceSums, parts: &[Part]) -> Result<(), AllocError> {
+    for part in parts {
+        feed_part(sums, part)?;
+    }
+    Ok(())
+}
+
+fn sums_of_parts(alloc: Global, piece_length: u64, parts: &[Part]) -> Result<Vec<u8>, AllocError> {
+    if piece_length < 1 || piece_length > 1 << 30 {
+        return Err(AllocError);
+    }
+    let mut sums = PieceSums::new(alloc, piece_length);
+    feed_parts(&mut sums, parts)?;
     Ok(sums.finish())
 }
 
@@ -99,17 +98,10 @@ const ROWS: &[Row] = &[
     (30000, &[Part::Zeros(100_000)], ZEROS),
 ];
 
-fn has_sums<R: AllocGlobal + Abort>(rt: &R, row: &Row) -> bool {
-    match sums_of_parts(rt, row.0, row.1) {
+fn has_sums(alloc: Global, row: &Row) -> bool {
+    match sums_of_parts(alloc, row.0, row.1) {
         Ok(sums) => sums.as_slice() == row.2,
         Err(_) => false,
-    }
-}
-
-#[test]
-fn sums_pieces(rt: HostRuntime) {
-    for row in ROWS {
-        assert!(rt; has_sums(&rt, row));
     }
 }
 
@@ -146,31 +138,39 @@ const SUMS: &[(u64, usize, [u8; 20])] = &[
     ),
 ];
 
+fn feed_in_parts(sums: &mut PieceSums, bytes: &[u8], part: usize) -> Result<(), AllocError>
+    requires { 0 < part }
+{
+    for part in bytes.chunks(part) {
+        sums.feed(part)?;
+    }
+    Ok(())
+}
+
 // The sums of bytes that are fed in parts of so many.
-fn sums_of<R: AllocGlobal + Abort>(
-    rt: &R,
+fn sums_of(
+    alloc: Global,
     piece_length: u64,
     bytes: &[u8],
     part: usize,
 ) -> Result<Vec<u8>, AllocError> {
-    assert!(rt; piece_length >= 1 && piece_length <= 1 << 30);
-    assert!(rt; part > 0);
-    let mut sums = PieceSums::new(rt.alloc(), piece_length);
-    for part in bytes.chunks(part) {
-        sums.feed(part)?;
+    if piece_length < 1 || piece_length > 1 << 30 || part == 0 {
+        return Err(AllocError);
     }
+    let mut sums = PieceSums::new(alloc, piece_length);
+    feed_in_parts(&mut sums, bytes, part)?;
     Ok(sums.finish())
 }
 
 // Whether bytes that are fed in parts of so many have these sums.
-fn has_sums_of_parts<R: AllocGlobal + Abort>(
-    rt: &R,
+fn has_sums_of_parts(
+    alloc: Global,
     piece_length: u64,
     bytes: &[u8],
     part: usize,
     wanted: &[u8],
 ) -> bool {
-    match sums_of(rt, piece_length, bytes, part) {
+    match sums_of(alloc, piece_length, bytes, part) {
         Ok(sums) => sums.as_slice() == wanted,
         Err(_) => false,
     }
@@ -178,67 +178,65 @@ fn has_sums_of_parts<R: AllocGlobal + Abort>(
 
 // Whether bytes have the same sums fed at one time, in parts of less than a piece, and in parts of nine pieces without
 // the last byte, after which a piece is begun.
-fn are_same<R: AllocGlobal + Abort>(rt: &R, piece_length: u64, bytes: &[u8]) -> bool {
-    assert!(rt; piece_length > 1 && piece_length <= 1 << 20);
+fn are_same(alloc: Global, piece_length: u64, bytes: &[u8]) -> bool {
+    if piece_length < 2 || piece_length > 1 << 20 {
+        return false;
+    }
     let short = piece_length as usize - 1;
-    match sums_of(rt, piece_length, bytes, 1 << 20) {
+    match sums_of(alloc, piece_length, bytes, 1 << 20) {
         Ok(sums) => {
-            has_sums_of_parts(rt, piece_length, bytes, short, &sums)
-                && has_sums_of_parts(rt, piece_length, bytes, 9 * short + 8, &sums)
+            has_sums_of_parts(alloc, piece_length, bytes, short, &sums)
+                && has_sums_of_parts(alloc, piece_length, bytes, 9 * short + 8, &sums)
         }
         Err(_) => false,
     }
 }
 
 // Whether a content has.
-fn agrees<R: AllocGlobal + Abort>(rt: &R, piece_length: u64, length: usize) -> bool {
-    match content(rt.alloc(), length) {
-        Ok(bytes) => are_same(rt, piece_length, &bytes),
+fn agrees(alloc: Global, piece_length: u64, length: usize) -> bool {
+    match content(alloc, length) {
+        Ok(bytes) => are_same(alloc, piece_length, &bytes),
         Err(_) => false,
     }
 }
 
-fn agree<R: AllocGlobal + Abort>(rt: &R, piece_length: u64, lengths: &[usize]) -> bool {
+fn agree(alloc: Global, piece_length: u64, lengths: &[usize]) -> bool {
     for length in lengths {
-        if !agrees(rt, piece_length, *length) {
+        if !agrees(alloc, piece_length, *length) {
             return false;
         }
     }
     true
 }
 
-// Eight whole pieces are hashed at once.
-#[test]
-fn sums_runs_as_their_parts(rt: HostRuntime) {
-    assert!(rt; agree(&rt, 64, OF_64));
-    assert!(rt; agree(&rt, 16_384, OF_16384));
-    assert!(rt; agree(&rt, 100, OF_100));
-}
-
 // Whether the joined sums of bytes that are fed at one time have this hash.
-fn has_hash_of_sums<R: AllocGlobal + Abort>(
-    rt: &R,
-    piece_length: u64,
-    bytes: &[u8],
-    hash: &[u8; 20],
-) -> bool {
-    match sums_of(rt, piece_length, bytes, 1 << 20) {
+fn has_hash_of_sums(alloc: Global, piece_length: u64, bytes: &[u8], hash: &[u8; 20]) -> bool {
+    match sums_of(alloc, piece_length, bytes, 1 << 20) {
         Ok(sums) => Sha1::digest(&sums) == *hash,
         Err(_) => false,
     }
 }
 
 // Whether those of a content have.
-fn has_hash<R: AllocGlobal + Abort>(rt: &R, row: &(u64, usize, [u8; 20])) -> bool {
-    match content(rt.alloc(), row.1) {
-        Ok(bytes) => has_hash_of_sums(rt, row.0, &bytes, &row.2),
+fn has_hash(alloc: Global, row: &(u64, usize, [u8; 20])) -> bool {
+    match content(alloc, row.1) {
+        Ok(bytes) => has_hash_of_sums(alloc, row.0, &bytes, &row.2),
         Err(_) => false,
     }
 }
 
+// Lengths of pieces, and of contents. Eight whole pieces are hashed at once.
+const RUNS: &[(u64, &[usize])] = &[(64, OF_64), (16_384, OF_16384), (100, OF_100)];
+
 #[test]
-fn sums_seventeen_pieces_and_a_byte(rt: HostRuntime) {
+fn sums_pieces_in_parts_and_in_runs(rt: HostRuntime) {
+    for row in ROWS {
+        assert!(rt; has_sums(rt.alloc(), row));
+    }
+    for (piece_length, lengths) in RUNS {
+        assert!(rt; agree(rt.alloc(), *piece_length, lengths));
+    }
     for row in SUMS {
-        assert!(rt; has_hash(&rt, row));
+        assert!(rt; has_hash(rt.alloc(), row));
     }
 }

@@ -3,8 +3,7 @@ ghost use Rattle.std.specs.Prelude.{◌↔◌, ◌<◌, IfOk, IsSome};
 ghost use Rattle.std.specs.List.{AllZip};
 ghost use Rattle.tor_tree.specs.TidyTree.{HasItsRoot};
 
-use crate::lists::files_of;
-use crate::names::{is, path};
+use crate::shared::{files_of, is, list, list_of, path};
 use std::alloc::{AllocError, Global};
 use tor_bencode::{Tree, decode, encode};
 use tor_merkle::Hash;
@@ -32,13 +31,6 @@ fn is_refused(alloc: Global, row: &Fault) -> bool {
     match from_item(alloc, tree.item()) {
         Ok(_) => false,
         Err(fault) => is(format!(in alloc; "{fault}"), row.1),
-    }
-}
-
-#[test]
-fn the_first_fault_of_a_tree_is_answered(rt: HostRuntime) {
-    for row in FAULTS {
-        assert!(rt; is_refused(rt.alloc(), row));
     }
 }
 
@@ -83,13 +75,6 @@ fn has_one_file(alloc: Global, row: &OneFile) -> bool {
     }
 }
 
-#[test]
-fn the_files_of_a_tree_are_told(rt: HostRuntime) {
-    for row in ONE_FILE {
-        assert!(rt; has_one_file(rt.alloc(), row));
-    }
-}
-
 /// A root where there are bytes.
 fn root_for(length: u64) -> Option<Hash>
     ensures { IsSome result ↔ (0 < length) }
@@ -106,14 +91,6 @@ fn roots_for(alloc: Global, files: &[(FilePath, u64)]) -> Result<Vec<Option<Hash
         roots.push(root_for(*length))?;
     }
     Ok(roots)
-}
-
-// A list of files. That they make none is told as want of memory.
-fn list_of(alloc: Global, files: Vec<(FilePath, u64)>) -> Result<FileList, AllocError> {
-    match FileList::build(alloc, files) {
-        Ok(list) => Ok(list),
-        Err(_) => Err(AllocError),
-    }
 }
 
 // The tree of a list of files; that it is not lawful is told as want of memory.
@@ -159,17 +136,23 @@ fn is_spelled(alloc: Global, tree: &Tree, text: &[u8]) -> bool {
 }
 
 fn tree_of_two(alloc: Global) -> Result<Tree, AllocError> {
-    let list = list_of(alloc, files_of(alloc, &[("a-b", 0), ("a/c", 3)])?)?;
+    let list = list_of(alloc, &[("a-b", 0), ("a/c", 3)])?;
     tree_of(alloc, &list)
 }
 
-#[test]
-fn a_tree_has_its_files_again(rt: HostRuntime) -> Result<(), AllocError> {
-    let tree = tree_of_two(rt.alloc())?;
-    let wanted = files_of(rt.alloc(), &[("a/c", 3), ("a-b", 0)])?;
-    assert!(rt; has_files(rt.alloc(), &tree, &wanted));
-    assert!(rt; is_spelled(rt.alloc(), &tree, SPELLED));
-    Ok(())
+// Whether a tree of two files has them again, and is spelled so.
+fn is_tree_of_two(alloc: Global, tree: &Tree) -> bool {
+    match files_of(alloc, &[("a/c", 3), ("a-b", 0)]) {
+        Ok(wanted) => has_files(alloc, tree, &wanted) && is_spelled(alloc, tree, SPELLED),
+        Err(_) => false,
+    }
+}
+
+fn has_two_files_again(alloc: Global) -> bool {
+    match tree_of_two(alloc) {
+        Ok(tree) => is_tree_of_two(alloc, &tree),
+        Err(_) => false,
+    }
 }
 
 fn numbered_path(alloc: Global, number: u64) -> Result<FilePath, AllocError> {
@@ -195,15 +178,27 @@ fn many_files(alloc: Global, count: u64) -> Result<Vec<(FilePath, u64)>, AllocEr
 
 // Whether the tree of so many files has just these.
 fn has_many_files(alloc: Global, count: u64) -> Result<bool, AllocError> {
-    let list = list_of(alloc, many_files(alloc, count)?)?;
+    let list = list(alloc, many_files(alloc, count)?)?;
     let tree = tree_of(alloc, &list)?;
     Ok(has_files(alloc, &tree, list.files()))
 }
 
+const COUNTS: &[u64] = &[1, 10, 1000];
+
 #[test]
-fn a_tree_of_many_files_has_them_again(rt: HostRuntime) -> Result<(), AllocError> {
-    for count in [1, 10, 1000] {
-        assert!(rt; has_many_files(rt.alloc(), count)?);
+fn the_files_of_a_tree_are_told_or_its_first_fault(rt: HostRuntime) {
+    for row in ONE_FILE {
+        assert!(rt; has_one_file(rt.alloc(), row));
     }
-    Ok(())
+    for row in FAULTS {
+        assert!(rt; is_refused(rt.alloc(), row));
+    }
+}
+
+#[test]
+fn a_tree_has_its_files_again(rt: HostRuntime) {
+    assert!(rt; has_two_files_again(rt.alloc()));
+    for count in COUNTS {
+        assert!(rt; has_many_files(rt.alloc(), *count) == Ok(true));
+    }
 }

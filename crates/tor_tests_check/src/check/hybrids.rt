@@ -1,6 +1,6 @@
 //! Hybrids: where padding may stand, and where the sides differ. The bytes are worked out from BEP 3, BEP 47 and
 //! BEP 52; hashes are any bytes.
-use crate::check::telling::{Row, are_right};
+use crate::check::telling::Row;
 
 // What stands before the entries of the folder `f`: its tree, of the files a of two bytes and b of one.
 const TWO: &[u8] =
@@ -31,7 +31,7 @@ const EMPTY_AA: &[u8] = b"d6:lengthi0e4:pathl2:aaee";
 
 const EMPTY_B: &[u8] = b"d6:lengthi0e4:pathl1:bee";
 
-const ALIGNED: &[Row] = &[
+pub(crate) const ALIGNED: &[Row] = &[
     (
         &[TWO, FILE_A, PADDING, FILE_B, END_2],
         "Hybrid f 16384 2: a 2 b 1 | a 2 .pad/16382 16382p b 1",
@@ -138,11 +138,6 @@ const ALIGNED: &[Row] = &[
     ),
 ];
 
-#[test]
-fn aligns_each_file_of_a_hybrid(rt: HostRuntime) {
-    assert!(rt; are_right(rt.alloc(), ALIGNED));
-}
-
 // The tree of a of two bytes and the empty files aa and b.
 const ONE_FULL: &[u8] =
     b"d4:infod9:file treed1:ad0:d6:lengthi2e11:pieces root32:0123456789abcdef0123456789abcdefee\
@@ -151,7 +146,7 @@ const ONE_FULL: &[u8] =
 // The tree of the empty file b.
 const EMPTY: &[u8] = b"d4:infod9:file treed1:bd0:d6:lengthi0eeee5:filesl";
 
-const AMONG_EMPTY: &[Row] = &[
+pub(crate) const AMONG_EMPTY: &[Row] = &[
     (
         &[ONE_FULL, FILE_A, EMPTY_AA, EMPTY_B, END_1],
         "Hybrid f 16384 1: a 2 aa 0 b 0 | a 2 aa 0 b 0",
@@ -196,11 +191,6 @@ const AMONG_EMPTY: &[Row] = &[
     ),
 ];
 
-#[test]
-fn lets_padding_stand_among_empty_files(rt: HostRuntime) {
-    assert!(rt; are_right(rt.alloc(), AMONG_EMPTY));
-}
-
 // The tree of TWO with an empty folder d.
 const WITH_FOLDER: &[u8] = b"d4:infod9:file treed1:ad0:d6:lengthi2e\
 11:pieces root32:0123456789abcdef0123456789abcdefee\
@@ -211,7 +201,7 @@ const WITH_FILE: &[u8] = b"d4:infod9:file treed1:ad0:d6:lengthi2e\
 11:pieces root32:0123456789abcdef0123456789abcdefee2:aad0:d6:lengthi0eee\
 1:bd0:d4:attr1:x6:lengthi1e11:pieces root32:0123456789abcdef0123456789abcdefeee5:filesl";
 
-const BETWEEN: &[Row] = &[
+pub(crate) const BETWEEN: &[Row] = &[
     (
         &[WITH_FOLDER, FILE_A, PADDING, FILE_B, END_2],
         "Hybrid f 16384 2: a 2 b 1 | a 2 .pad/16382 16382p b 1",
@@ -226,18 +216,13 @@ const BETWEEN: &[Row] = &[
     ),
 ];
 
-#[test]
-fn takes_folders_and_empty_files_between_two_others(rt: HostRuntime) {
-    assert!(rt; are_right(rt.alloc(), BETWEEN));
-}
-
 // TWO with other keys before `info`.
 const DATED: &[u8] =
     b"d10:created by3:any13:creation datei1700000000e4:infod9:file treed1:ad0:d6:lengthi2e\
 11:pieces root32:0123456789abcdef0123456789abcdefee\
 1:bd0:d6:lengthi1e11:pieces root32:0123456789abcdef0123456789abcdefeee5:filesl";
 
-const OTHER_KEYS: &[Row] = &[
+pub(crate) const OTHER_KEYS: &[Row] = &[
     (
         &[DATED, FILE_A, PADDING, FILE_B, END_2],
         "Hybrid f 16384 2: a 2 b 1 | a 2 .pad/16382 16382p b 1",
@@ -258,8 +243,3 @@ const OTHER_KEYS: &[Row] = &[
         "Hybrid f 16384 2: a 2 b 1 | a 2 .pad/16382 16382p b 1 .pad/16383 16383p",
     ),
 ];
-
-#[test]
-fn takes_other_keys_of_a_hybrid(rt: HostRuntime) {
-    assert!(rt; are_right(rt.alloc(), OTHER_KEYS));
-}

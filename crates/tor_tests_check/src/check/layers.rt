@@ -1,9 +1,10 @@
 //! Torrents of the lengths at which layers begin, and of layers that are wrong, worked out from BEP 52.
 use crate::check::layered::{
     FILE_A, FILE_B, FIVE_BLOCKS, L0, L1, L2, LAYERS, ONE_PIECE, ROOT, THREE, THREE_PIECES,
-    THREE_PIECES_TWICE, TWO, WITH_ITS_HASHES, ZERO,
+    THREE_PIECES_TWICE, TWO, WITH_ITS_HASHES, ZERO, are_joined,
 };
-use crate::check::telling::{Row, are_right, is_right, joined};
+use crate::check::telling::{Row, is_right, joined};
+use crate::check::verdicts::OF_ITS_ROOT;
 use std::alloc::Global;
 use tor_check::{Torrent, validate};
 use tor_merkle::Hash;
@@ -74,7 +75,7 @@ fn is_layered(alloc: Global, row: &Layered) -> bool {
 }
 
 // Whether just what stands there is told of each row, with these layers.
-pub(crate) fn are_layered(alloc: Global, rows: &[Layered]) -> bool {
+fn are_layered(alloc: Global, rows: &[Layered]) -> bool {
     for row in rows {
         if !is_right(alloc, &row.0) || !is_layered(alloc, row) {
             return false;
@@ -83,16 +84,11 @@ pub(crate) fn are_layered(alloc: Global, rows: &[Layered]) -> bool {
     true
 }
 
-#[test]
-fn tells_the_layer_of_a_file_longer_than_a_piece(rt: HostRuntime) {
-    assert!(rt; are_layered(rt.alloc(), LAYERED));
-}
-
 // L1 with another last bit.
 const OTHER: &[u8] = b"\x02\x02\x02\x02\x02\x02\x02\x02\x02\x02\x02\x02\x02\x02\x02\x02\
 \x02\x02\x02\x02\x02\x02\x02\x02\x02\x02\x02\x02\x02\x02\x02\x82";
 
-const WRONG: &[Row] = &[
+pub(crate) const WRONG: &[Row] = &[
     // one bit changed
     (
         &[
@@ -145,6 +141,8 @@ const WRONG: &[Row] = &[
 ];
 
 #[test]
-fn tells_what_is_wrong_with_a_layer(rt: HostRuntime) {
-    assert!(rt; are_right(rt.alloc(), WRONG));
+fn tells_the_layer_of_a_file_longer_than_a_piece(rt: HostRuntime) {
+    assert!(rt; are_layered(rt.alloc(), LAYERED));
+    assert!(rt; are_layered(rt.alloc(), OF_ITS_ROOT));
+    assert!(rt; are_joined());
 }

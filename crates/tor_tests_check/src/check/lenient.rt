@@ -1,6 +1,6 @@
 //! What other makers may write, and what is told of it. The bytes are worked out from BEP 3, BEP 47 and BEP 52. Hashes
 //! are any bytes: no condition of these rows compares one.
-use crate::check::telling::{Row, are_right};
+use crate::check::telling::Row;
 
 // The files a of two bytes and b of one, in a tree.
 const TWO: &[u8] = b"1:ad0:d6:lengthi2e11:pieces root32:0123456789abcdef0123456789abcdefee\
@@ -13,7 +13,7 @@ const LIST_END: &[u8] = b"e4:name1:f12:piece lengthi16384e6:pieces20:0123456789a
 
 const FILE_A: &[u8] = b"d6:lengthi2e4:pathl1:aee";
 
-const PADDED: &[Row] = &[
+pub(crate) const PADDED: &[Row] = &[
     (
         &[LIST, FILE_A, b"d4:attr1:p6:lengthi5ee", LIST_END],
         "V1 f 16384 1: a 2 | a 2 .pad/5 5p",
@@ -71,12 +71,7 @@ const PADDED: &[Row] = &[
     ),
 ];
 
-#[test]
-fn takes_padding_anywhere_in_version_1(rt: HostRuntime) {
-    assert!(rt; are_right(rt.alloc(), PADDED));
-}
-
-const ENTRY_KEYS: &[Row] = &[
+pub(crate) const ENTRY_KEYS: &[Row] = &[
     (
         &[LIST, b"d4:attr2:hx6:lengthi2e4:pathl1:aee", LIST_END],
         "V1 f 16384 1: a 2xh | a 2",
@@ -107,15 +102,10 @@ const ENTRY_KEYS: &[Row] = &[
     ),
 ];
 
-#[test]
-fn takes_other_letters_and_keys_of_an_entry(rt: HostRuntime) {
-    assert!(rt; are_right(rt.alloc(), ENTRY_KEYS));
-}
-
 // The keys of an `info` from `name` to `pieces`, one piece in all.
 const SUMS: &[u8] = b"4:name1:a12:piece lengthi16384e6:pieces20:0123456789abcdef0123";
 
-const OTHER_KEYS: &[Row] = &[
+pub(crate) const OTHER_KEYS: &[Row] = &[
     (
         &[b"d4:infod6:lengthi2e", SUMS, b"7:privatei1eee"],
         "V1 a 16384 1: a 2 | a 2 private",
@@ -163,17 +153,12 @@ const OTHER_KEYS: &[Row] = &[
     ),
 ];
 
-#[test]
-fn takes_other_keys_and_values_of_private(rt: HostRuntime) {
-    assert!(rt; are_right(rt.alloc(), OTHER_KEYS));
-}
-
 // What stands before a tree in a torrent of version 2, and the rest of its `info`, that of the folder `f`.
 const TREE: &[u8] = b"d4:infod9:file treed";
 
 const TREE_END: &[u8] = b"e5:filesi1e6:lengthle12:meta versioni2e4:name1:f12:piece lengthi16384ee";
 
-const TREES: &[Row] = &[
+pub(crate) const TREES: &[Row] = &[
     (&[TREE, TWO, TREE_END, b"e"], "V2 f 16384 2: a 2 b 1 |"),
     (
         &[TREE, b"1:ad0:d6:lengthi0eee1:dde", TREE_END, b"e"],
@@ -236,8 +221,3 @@ const TREES: &[Row] = &[
         "V2 f 16384 2: a 2 b 1 |",
     ),
 ];
-
-#[test]
-fn takes_trees_of_other_makers(rt: HostRuntime) {
-    assert!(rt; are_right(rt.alloc(), TREES));
-}

@@ -61,13 +61,6 @@ fn is_refused(alloc: Global, row: &Refused) -> bool {
     }
 }
 
-#[test]
-fn tells_why_a_piece_has_no_proof(rt: HostRuntime) {
-    for row in REFUSED {
-        assert!(rt; is_refused(rt.alloc(), row));
-    }
-}
-
 // A torrent, a file and an index, and the hash and the siblings of the proof.
 type Proved = (Parts, u64, u64, &'static Hash, &'static [Hash]);
 
@@ -108,11 +101,6 @@ const OF_ONE_PIECE: &[Proved] = &[
     (ONE_PIECE, 0, 0, &TWO, &[]),
 ];
 
-#[test]
-fn proves_the_root_of_a_file_of_one_piece(rt: HostRuntime) {
-    assert!(rt; are_proved(rt.alloc(), OF_ONE_PIECE));
-}
-
 const OF_THREE: &[Proved] = &[
     (THREE_PIECES_TWICE, 0, 0, &L0, &[L1, LAST]),
     (THREE_PIECES_TWICE, 0, 1, &L1, &[L0, LAST]),
@@ -124,21 +112,11 @@ const OF_THREE: &[Proved] = &[
     (FIVE_BLOCKS, 0, 2, &L2, &[ZEROS, TWO]),
 ];
 
-#[test]
-fn proves_each_piece_of_three(rt: HostRuntime) {
-    assert!(rt; are_proved(rt.alloc(), OF_THREE));
-}
-
 const OF_A_FILE_AND_ITS_HASHES: &[Proved] = &[
     (WITH_ITS_HASHES, 0, 0, &L0, &[L1]),
     (WITH_ITS_HASHES, 0, 1, &L1, &[L0]),
     (WITH_ITS_HASHES, 1, 0, &TWO, &[]),
 ];
-
-#[test]
-fn proves_a_file_and_the_file_of_its_hashes(rt: HostRuntime) {
-    assert!(rt; are_proved(rt.alloc(), OF_A_FILE_AND_ITS_HASHES));
-}
 
 // The hybrid of the file a of two pieces.
 const HYBRID_OF_TWO: Parts = &[
@@ -159,6 +137,11 @@ const OF_A_HYBRID: &[Proved] = &[
 ];
 
 #[test]
-fn proves_the_pieces_of_a_hybrid(rt: HostRuntime) {
+fn proves_each_piece_that_is_there(rt: HostRuntime) {
+    for row in REFUSED {
+        assert!(rt; is_refused(rt.alloc(), row));
+    }
+    assert!(rt; are_proved(rt.alloc(), OF_ONE_PIECE) && are_proved(rt.alloc(), OF_THREE));
+    assert!(rt; are_proved(rt.alloc(), OF_A_FILE_AND_ITS_HASHES));
     assert!(rt; are_proved(rt.alloc(), OF_A_HYBRID));
 }

@@ -33,12 +33,12 @@ fn is_judged(alloc: Global, bytes: &[u8], index: usize, bits: u8) -> bool {
     }
 }
 
-const BITS: [u8; 8] = [1, 2, 4, 8, 16, 32, 64, 128];
+const BITS: &[u8] = &[1, 2, 4, 8, 16, 32, 64, 128];
 
 fn is_judged_each_way(alloc: Global, bytes: &[u8]) -> bool {
     for bits in BITS {
         for index in 0..bytes.len() {
-            if !is_judged(alloc, bytes, index, bits) {
+            if !is_judged(alloc, bytes, index, *bits) {
                 return false;
             }
         }
@@ -46,12 +46,19 @@ fn is_judged_each_way(alloc: Global, bytes: &[u8]) -> bool {
     true
 }
 
+// Whether they are so of a torrent of 382 bytes.
+fn is_torrent_judged(alloc: Global, bytes: &[u8]) -> bool {
+    bytes.len() == 382 && validate(alloc, bytes).is_ok() && is_judged_each_way(alloc, bytes)
+}
+
+fn is_each_bit_judged(alloc: Global) -> bool {
+    match joined(alloc, OF_BOTH) {
+        Ok(bytes) => is_torrent_judged(alloc, &bytes),
+        Err(_) => false,
+    }
+}
+
 #[test]
-fn accepts_the_spelling_of_a_tree_alone_whatever_bit_is_turned(
-    rt: HostRuntime,
-) -> Result<(), AllocError> {
-    let bytes = joined(rt.alloc(), OF_BOTH)?;
-    assert!(rt; bytes.len() == 382 && validate(rt.alloc(), &bytes).is_ok());
-    assert!(rt; is_judged_each_way(rt.alloc(), &bytes));
-    Ok(())
+fn accepts_the_spelling_of_a_tree_alone_whatever_bit_is_turned(rt: HostRuntime) {
+    assert!(rt; is_each_bit_judged(rt.alloc()));
 }

@@ -1,8 +1,8 @@
 //! Which bytes are torrents, and what they describe. The bytes are worked out from the standards; no condition of these
 //! rows but those of layers compares a hash.
 use crate::check::layered::{L0, L1, TWO};
-use crate::check::layers::{Layered, are_layered};
-use crate::check::telling::{Row, are_right};
+use crate::check::layers::Layered;
+use crate::check::telling::Row;
 use std::alloc::Global;
 use tor_check::{Torrent, validate};
 
@@ -17,7 +17,7 @@ pub(crate) const ABC_V2: &[u8] = b"d4:infod9:file treed1:ad0:d6:lengthi3e11:piec
 \xba\x78\x16\xbf\x8f\x01\xcf\xea\x41\x41\x40\xde\x5d\xae\x22\x23\xb0\x03\x61\xa3\x96\x17\x7a\x9c\xb4\x10\xff\x61\
 \xf2\x00\x15\xadeee12:meta versioni2e4:name1:a12:piece lengthi16384ee12:piece layersdee";
 
-const ROWS: &[Row] = &[
+pub(crate) const ROWS: &[Row] = &[
     (&[b""], "V1 Bencode B1 Truncated at 0"),
     (&[b"d1:b0:1:a0:e"], "V1 Bencode B7 KeyOrder at 6"),
     (&[b"le"], "V2 RootShape"),
@@ -81,11 +81,6 @@ const ROWS: &[Row] = &[
     (&[ABC_V2], "V2 a 16384 1: a 3 |"),
 ];
 
-#[test]
-fn tells_why_bytes_are_no_torrent(rt: HostRuntime) {
-    assert!(rt; are_right(rt.alloc(), ROWS));
-}
-
 // That each file has a root, or none has.
 fn all_have_root(torrent: &Torrent, wanted: bool) -> bool {
     for view in torrent.files() {
@@ -114,16 +109,6 @@ fn is_described(
     }
 }
 
-#[test]
-fn tells_what_a_torrent_of_version_1_describes(rt: HostRuntime) {
-    assert!(rt; is_described(rt.alloc(), FOLDER_V1, (7, 128), 20, false));
-}
-
-#[test]
-fn tells_what_a_torrent_of_version_2_describes(rt: HostRuntime) {
-    assert!(rt; is_described(rt.alloc(), ABC_V2, (7, 140), 0, true));
-}
-
 // The files a = `ab` and b = `c` in the folder `f`, piece length 16,384: a hybrid. Roots and hashes are any bytes.
 pub(crate) const FOLDER_HYBRID: &[u8] = b"d4:infod9:file treed1:ad0:d6:lengthi2e\
 11:pieces root32:0123456789abcdef0123456789abcdefee\
@@ -144,7 +129,7 @@ const DIFFERING_HYBRID: &[u8] = b"d4:infod9:file treed1:ad0:d6:lengthi2e\
 d6:lengthi2e4:pathl1:beee12:meta versioni2e4:name1:f12:piece lengthi16384e6:pieces20:0123456789abcdef0123e\
 12:piece layersdee";
 
-const SIDES: &[Row] = &[
+pub(crate) const SIDES: &[Row] = &[
     (
         &[FOLDER_HYBRID],
         "Hybrid f 16384 2: a 2 b 1 | a 2 .pad/16382 16382p b 1",
@@ -153,18 +138,13 @@ const SIDES: &[Row] = &[
     (&[DIFFERING_HYBRID], "V22 FilesDiffer"),
 ];
 
-#[test]
-fn compares_the_sides_of_a_hybrid(rt: HostRuntime) {
-    assert!(rt; are_right(rt.alloc(), SIDES));
-}
-
 // A torrent of version 2 of a file of two pieces: what stands before its root, and between the root and the one key of
 // its layers.
 const OF_TWO_PIECES: &[u8] = b"d4:infod9:file treed1:ad0:d6:lengthi16385e11:pieces root32:";
 
 const LAYERS: &[u8] = b"eee12:meta versioni2e4:name1:a12:piece lengthi16384ee12:piece layersd32:";
 
-const OF_ITS_ROOT: &[Layered] = &[(
+pub(crate) const OF_ITS_ROOT: &[Layered] = &[(
     (
         &[OF_TWO_PIECES, &TWO, LAYERS, &TWO, b"64:", &L0, &L1, b"ee"],
         "V2 a 16384 2: a 16385++ |",
@@ -172,7 +152,7 @@ const OF_ITS_ROOT: &[Layered] = &[(
     &[L0, L1],
 )];
 
-const OF_ANOTHER: &[Row] = &[
+pub(crate) const OF_ANOTHER: &[Row] = &[
     (
         &[OF_TWO_PIECES, &TWO, LAYERS, &TWO, b"64:", &L1, &L0, b"ee"],
         "V21 LayerRoot",
@@ -188,7 +168,7 @@ const OF_ANOTHER: &[Row] = &[
 ];
 
 #[test]
-fn compares_a_layer_with_its_root(rt: HostRuntime) {
-    assert!(rt; are_layered(rt.alloc(), OF_ITS_ROOT));
-    assert!(rt; are_right(rt.alloc(), OF_ANOTHER));
+fn tells_what_a_torrent_describes(rt: HostRuntime) {
+    assert!(rt; is_described(rt.alloc(), FOLDER_V1, (7, 128), 20, false));
+    assert!(rt; is_described(rt.alloc(), ABC_V2, (7, 140), 0, true));
 }

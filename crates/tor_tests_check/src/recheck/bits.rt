@@ -85,13 +85,6 @@ fn is_packed(alloc: Global, row: &Packed) -> bool {
     }
 }
 
-#[test]
-fn packs_pieces_from_the_high_bit(rt: HostRuntime) {
-    for row in PACKED {
-        assert!(rt; is_packed(rt.alloc(), row));
-    }
-}
-
 fn is_none_past_the_end(alloc: Global) -> bool {
     match bits_of(alloc, "11111111") {
         Ok(bits) => {
@@ -99,11 +92,6 @@ fn is_none_past_the_end(alloc: Global) -> bool {
         }
         Err(_) => false,
     }
-}
-
-#[test]
-fn reads_none_past_the_end(rt: HostRuntime) {
-    assert!(rt; is_none_past_the_end(rt.alloc()));
 }
 
 /// So many bits, of which each third one is set, in room for none.
@@ -143,6 +131,10 @@ fn is_grown(alloc: Global) -> bool {
 }
 
 #[test]
-fn grows_past_its_capacity(rt: HostRuntime) {
+fn packs_pieces_from_the_high_bit(rt: HostRuntime) {
+    for row in PACKED {
+        assert!(rt; is_packed(rt.alloc(), row));
+    }
+    assert!(rt; is_none_past_the_end(rt.alloc()));
     assert!(rt; is_grown(rt.alloc()));
 }

@@ -151,11 +151,6 @@ const MEETINGS: &[Row] = &[
     (How::Board(64), 2, MANY, "none", true),
 ];
 
-#[test]
-fn recheck_meets(rt: HostRuntime) {
-    assert!(rt; each_meets(&rt, OF_FOUR_UNITS, 64, false, MEETINGS));
-}
-
 /// The first read waits for those of the other three units. Where the units are dealt out beforehand, one waits behind
 /// the first.
 const SHARES: &[Row] = &[
@@ -165,11 +160,6 @@ const SHARES: &[Row] = &[
     (How::Board(4), 49, MANY, "none", true),
 ];
 
-#[test]
-fn recheck_shares(rt: HostRuntime) {
-    assert!(rt; each_meets(&rt, OF_FOUR_UNITS, 64, true, SHARES));
-}
-
 const OUTSIDE: &[Row] = &[
     (How::Halves(0), 1, FEW, "C4 Workers", false),
     (How::Halves(65), 1, FEW, "C4 Workers", false),
@@ -178,6 +168,9 @@ const OUTSIDE: &[Row] = &[
 ];
 
 #[test]
-fn judges_workers_before_it_asks_a_length(rt: HostRuntime) {
+fn recheck_meets(rt: HostRuntime) {
+    assert!(rt; each_meets(&rt, OF_FOUR_UNITS, 64, false, MEETINGS));
+    assert!(rt; each_meets(&rt, OF_FOUR_UNITS, 64, true, SHARES));
+    // Workers are judged before a length is asked.
     assert!(rt; each_meets(&rt, OF_FOUR_UNITS, 64, false, OUTSIDE));
 }

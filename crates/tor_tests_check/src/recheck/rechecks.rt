@@ -12,7 +12,7 @@ use tor_recheck::{Bits, recheck};
 use tor_source::{FailSource, MemSource, Source};
 
 /// Each way to share the units.
-const EACH_HOW: [How; 7] = [
+const EACH_HOW: &[How] = &[
     How::One,
     How::Halves(1),
     How::Halves(2),
@@ -234,7 +234,7 @@ fn is_each_answer<S: Source, R: AllocGlobal + Threads + Sync>(
     wanted: &str,
 ) -> bool {
     for how in EACH_HOW {
-        if !is_answer(rt, source, torrent, how, wanted) {
+        if !is_answer(rt, source, torrent, *how, wanted) {
             return false;
         }
     }
@@ -261,13 +261,6 @@ fn is_right<R: AllocGlobal + Threads + Sync>(rt: &R, row: &Row) -> bool {
     }
 }
 
-#[test]
-fn tells_which_pieces_are_there_and_right(rt: HostRuntime) {
-    for row in ROWS {
-        assert!(rt; is_right(&rt, row));
-    }
-}
-
 /// A source of one file of so many zeros.
 fn source_of_zeros(alloc: Global, length: usize) -> Result<MemSource, AllocError> {
     let content = vec![in alloc; 0; length]?;
@@ -288,13 +281,6 @@ fn is_answered_of_zeros<R: AllocGlobal + Threads + Sync>(
 
 /// The whole of the file, and its first block alone.
 const OF_ZEROS: &[(usize, &str)] = &[(16_385, "11 c0"), (16_384, "10 80")];
-
-#[test]
-fn tells_of_a_file_of_several_blocks(rt: HostRuntime) {
-    for (length, wanted) in OF_ZEROS {
-        assert!(rt; is_answered_of_zeros(&rt, *length, wanted));
-    }
-}
 
 /// A fault: of a file, for its length or at an offset; and its number.
 type FaultAt = (u64, Option<u64>, u64);
@@ -327,13 +313,6 @@ fn is_fault<R: AllocGlobal + Threads + Sync>(rt: &R, row: &Fault) -> bool {
     }
 }
 
-#[test]
-fn tells_the_first_fault(rt: HostRuntime) {
-    for row in FAULTS {
-        assert!(rt; is_fault(&rt, row));
-    }
-}
-
 /// Whether this is answered of the pieces of OF_BOTH.
 fn is_answer_of_both<S: Source, R: AllocGlobal + Threads + Sync>(
     rt: &R,
@@ -361,13 +340,6 @@ fn are_workers_refused<R: AllocGlobal + Threads + Sync>(rt: &R, how: How) -> boo
     match failing(rt.alloc(), &[], (0, None, 4)) {
         Ok(source) => is_answer_of_both(rt, &source, how, "Workers"),
         Err(_) => false,
-    }
-}
-
-#[test]
-fn judges_the_workers_first(rt: HostRuntime) {
-    for how in OUTSIDE {
-        assert!(rt; are_workers_refused(&rt, *how));
     }
 }
 
@@ -423,7 +395,23 @@ fn is_change<R: AllocGlobal + Threads + Sync>(rt: &R, row: &Change) -> bool {
 }
 
 #[test]
-fn tells_of_a_file_that_changes(rt: HostRuntime) {
+fn tells_which_pieces_are_there_and_right(rt: HostRuntime) {
+    for row in ROWS {
+        assert!(rt; is_right(&rt, row));
+    }
+    for (length, wanted) in OF_ZEROS {
+        assert!(rt; is_answered_of_zeros(&rt, *length, wanted));
+    }
+}
+
+#[test]
+fn tells_the_first_fault(rt: HostRuntime) {
+    for row in FAULTS {
+        assert!(rt; is_fault(&rt, row));
+    }
+    for how in OUTSIDE {
+        assert!(rt; are_workers_refused(&rt, *how));
+    }
     for row in CHANGES {
         assert!(rt; is_change(&rt, row));
     }

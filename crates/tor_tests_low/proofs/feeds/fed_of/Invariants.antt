@@ -1,12 +1,12 @@
 -- no more was fed than the bytes so far
-use Rattle.std.proofs.Common.{◌-◌, ◌≤◌, length, vec_len}
+use Rattle.std.proofs.Common.{◌-◌, ◌≤◌, length}
 use Rattle.tor_tests_low.proofs.feeds.fed_of.Given as goal
 
 abbrev pub invariant-parts : goal.invariant-parts
-invariant-parts g l = record {
-  within : l.start ≤ vec_len l.bytes;
+invariant-parts l = record {
+  within : l.start ≤ length l.bytes;
   fed : length l.feed.bytes ≤ l.start;
 }
 
 abbrev pub decreases-parts : goal.decreases-parts
-decreases-parts g l = vec_len l.bytes - l.start
+decreases-parts l = length l.bytes - l.start

@@ -1,5 +1,0 @@
-use Rattle.tor_lane.specs.Lane.{IsOpen}
-use Rattle.tor_tests_board.proofs.lane.callers.put_units.Given as goal
-
-abbrev pub invariant-units : goal.invariant-units
-invariant-units g l = IsOpen l.feeder
