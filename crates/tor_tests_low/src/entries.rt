@@ -16,6 +16,8 @@ fn file_entry(alloc: Global, name: &str, length: u64) -> Result<Entry, AllocErro
         path: path(alloc, name)?,
         length,
         pad: false,
+        exec: false,
+        hidden: false,
     })
 }
 

@@ -14,18 +14,18 @@ const END_0: &[u8] =
 const END_1: &[u8] = b"e12:meta versioni2e4:name1:f12:piece lengthi16384e\
 6:pieces20:0123456789abcdef0123e12:piece layersdee";
 
-const END_2: &[u8] = b"e12:meta versioni2e4:name1:f12:piece lengthi16384e\
+pub(crate) const END_2: &[u8] = b"e12:meta versioni2e4:name1:f12:piece lengthi16384e\
 6:pieces40:0123456789abcdef01230123456789abcdef0123e12:piece layersdee";
 
 const END_3: &[u8] = b"e12:meta versioni2e4:name1:f12:piece lengthi16384e\
 6:pieces60:0123456789abcdef01230123456789abcdef01230123456789abcdef0123e12:piece layersdee";
 
 // Entries: the files a and b of the tree TWO, the padding between them, and empty files.
-const FILE_A: &[u8] = b"d6:lengthi2e4:pathl1:aee";
+pub(crate) const FILE_A: &[u8] = b"d6:lengthi2e4:pathl1:aee";
 
-const PADDING: &[u8] = b"d4:attr1:p6:lengthi16382e4:pathl4:.pad5:16382ee";
+pub(crate) const PADDING: &[u8] = b"d4:attr1:p6:lengthi16382e4:pathl4:.pad5:16382ee";
 
-const FILE_B: &[u8] = b"d6:lengthi1e4:pathl1:bee";
+pub(crate) const FILE_B: &[u8] = b"d6:lengthi1e4:pathl1:bee";
 
 const EMPTY_AA: &[u8] = b"d6:lengthi0e4:pathl2:aaee";
 
@@ -92,7 +92,7 @@ pub(crate) const ALIGNED: &[Row] = &[
             FILE_B,
             END_2,
         ],
-        "Hybrid f 16384 2: a 2 b 1 | a 2 .pad/16382 16382p b 1",
+        "Hybrid f 16384 2: a 2xh b 1 | a 2xh .pad/16382 16382p b 1",
     ),
     (&[TWO, FILE_A, FILE_B, END_1], "V23 Alignment"),
     (

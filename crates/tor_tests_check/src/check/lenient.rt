@@ -74,15 +74,15 @@ pub(crate) const PADDED: &[Row] = &[
 pub(crate) const ENTRY_KEYS: &[Row] = &[
     (
         &[LIST, b"d4:attr2:hx6:lengthi2e4:pathl1:aee", LIST_END],
-        "V1 f 16384 1: a 2xh | a 2",
+        "V1 f 16384 1: a 2xh | a 2xh",
     ),
     (
         &[LIST, b"d4:attr1:x6:lengthi2e4:pathl1:aee", LIST_END],
-        "V1 f 16384 1: a 2x | a 2",
+        "V1 f 16384 1: a 2x | a 2x",
     ),
     (
         &[LIST, b"d4:attr1:h6:lengthi2e4:pathl1:aee", LIST_END],
-        "V1 f 16384 1: a 2h | a 2",
+        "V1 f 16384 1: a 2h | a 2h",
     ),
     (
         &[LIST, b"d4:attr4:qL9P6:lengthi2e4:pathl1:aee", LIST_END],
@@ -132,7 +132,7 @@ pub(crate) const OTHER_KEYS: &[Row] = &[
     ),
     (
         &[b"d4:infod4:attr3:phx6:lengthi2e", SUMS, b"ee"],
-        "V1 a 16384 1: a 2xh | a 2",
+        "V1 a 16384 1: a 2xh | a 2xh",
     ),
     (
         &[

@@ -1,5 +1,6 @@
 //! The tables of bytes with what is told of them, tried one after the other.
 use crate::check::layers::WRONG;
+use crate::check::letters::LETTERS;
 use crate::check::telling::are_right;
 use crate::check::{hybrids, lenient, order, verdicts, worked};
 
@@ -20,7 +21,7 @@ fn tells_what_torrents_of_other_makers_describe(rt: HostRuntime) {
     // The sides of a hybrid, its padding, among empty files and folders too, and other keys.
     assert!(rt; are_right(alloc, verdicts::SIDES) && are_right(alloc, hybrids::ALIGNED));
     assert!(rt; are_right(alloc, hybrids::AMONG_EMPTY) && are_right(alloc, hybrids::BETWEEN));
-    assert!(rt; are_right(alloc, hybrids::OTHER_KEYS));
+    assert!(rt; are_right(alloc, hybrids::OTHER_KEYS) && are_right(alloc, LETTERS));
     // Padding anywhere in version 1, other letters, keys, values of `private`, and trees of other makers.
     assert!(rt; are_right(alloc, lenient::PADDED) && are_right(alloc, lenient::ENTRY_KEYS));
     assert!(rt; are_right(alloc, lenient::OTHER_KEYS) && are_right(alloc, lenient::TREES));

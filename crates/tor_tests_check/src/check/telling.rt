@@ -36,13 +36,15 @@ fn push_files(line: &mut String, torrent: &Torrent) -> Result<(), AllocError> {
     Ok(())
 }
 
-// Each entry as its path and length, and `p` where it is padding.
+// Each entry as its path and length, `p` where it is padding, and its letters.
 fn push_entries(line: &mut String, torrent: &Torrent) -> Result<(), AllocError> {
     for entry in torrent.entries() {
         push_path(line, &entry.path)?;
         let length = entry.length;
         write!(line, " {length}")?;
         line.push_str(if entry.pad { "p" } else { "" })?;
+        line.push_str(if entry.exec { "x" } else { "" })?;
+        line.push_str(if entry.hidden { "h" } else { "" })?;
     }
     Ok(())
 }
