@@ -1,7 +1,8 @@
 //! The tests of `tor_check`.
 //!
 //! `verdicts.rt`, `worked.rt`, `order.rt`: which bytes are torrents, and of two faults the first; `lenient.rt`: what
-//! other makers may write; `turned.rt`: one bit is another; `hybrids.rt`, `letters.rt`, `layers.rt`, `pieces.rt`: proofs of pieces.
+//! other makers may write; `turned.rt`: one bit is another; `hybrids.rt`, `letters.rt`: both sides; `layers.rt`;
+//! `pieces.rt`: proofs of pieces.
 //! `tables.rt` tries their tables; `telling.rt` and `layered.rt` have what these share.
 
 mod hybrids;
