@@ -1,3 +1,4 @@
+pub mod AddedWords
 pub mod BoundFlags
 pub mod CheckAfter
 pub mod Doing

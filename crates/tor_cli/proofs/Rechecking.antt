@@ -1,13 +1,15 @@
 -- Which fault of the program a fault of a recheck is.
-use Rattle.std.proofs.Common.{◌≡◌, ◌≢◌, ◌∙◌, ℕ, Bool, true, false, cond, List, length, map, None, Some}
-use Rattle.std.specs.Prelude.{Result, Err}
-use Rattle.std.proofs.Common.{ap, inl, inr, sym}
+use Rattle.std.proofs.Common.{◌≡◌, ◌≢◌, ◌⊎◌, ◌∙◌, ◌==◌, ℕ, Bool, true, false, cond, List, length, map}
+use Rattle.std.specs.Prelude.{Result, Ok, Err, OnOk, nat_le}
+use Rattle.std.proofs.Common.{ap, inl, inr, refl, subst, sym}
+use Rattle.std.proofs.lemmas.Bool.{eqb-true, le-leb, leb-true}
 use Rattle.std.proofs.lemmas.List.{length-map}
 use Rattle.std.specs.declared.io.Error.{Error}
-use Rattle.std.specs.declared.io.ErrorKind.{ErrorKind}
 use Rattle.tor_check.specs.Valid.{IsTold}
 use Rattle.tor_engine.specs.How.{IsHow}
+use Rattle.tor_engine.specs.declared.how.How.{How}
 use Rattle.tor_engine.specs.declared.how.How.TheVariants.{Board}
+use Rattle.tor_engine.specs.declared.how.TheConstants.{MAX_WORKERS}
 use Rattle.tor_recheck.specs.Recheck.{IsGiven}
 use Rattle.tor_recheck.specs.declared.errors.RecheckError.{RecheckError}
 use Rattle.tor_recheck.specs.declared.errors.RecheckError.TheVariants as rechecks
@@ -17,27 +19,57 @@ use Rattle.tor_source.specs.declared.faults.ScanFault.TheVariants as scans
 use Rattle.tor_spec.specs.valid.View.{View}
 use Rattle.tor_cli.specs.Foreign.{IsNoTorrent}
 use Rattle.tor_cli.specs.Place.{IsFileEnd, IsFileFault, IsFileSize}
-use Rattle.tor_cli.specs.Recheck.{IsNoPlace, IsNotPlaced, IsNotRechecked, place_fault}
+use Rattle.tor_cli.specs.Recheck.{IsNoPlace, IsNotPlaced, IsNotRechecked}
 use Rattle.tor_cli.specs.Status.{of_recheck_error, of_scan_fault}
-use Rattle.tor_cli.specs.steps.Places.{ArePlaces}
+use Rattle.tor_cli.specs.Whereabouts.{looked_for}
+use Rattle.tor_cli.specs.steps.Places.{ArePlaced, ArePlaces}
+use Rattle.tor_cli.specs.declared.whereabouts.Standing.{Standing}
+use Rattle.tor_cli.specs.declared.whereabouts.Standing.TheVariants.{File, NoFile, Nothing, NotTold, NoMemory}
+use Rattle.tor_cli.specs.declared.whereabouts.Whereabouts.{Whereabouts}
+use Rattle.tor_cli.specs.declared.whereabouts.Whereabouts.TheVariants.{Itself, Below, Nowhere}
 use Rattle.tor_cli.specs.declared.fault.Fault.{Fault}
 use Rattle.tor_cli.specs.declared.fault.Fault.TheVariants as faults
 
-module _ (kind : ErrorKind) where
-  -- a fault of the place is want of memory or the system's
-  no_other : (fault : ScanFault) → (Some scans.Memory ≡ Some fault → ⊥) → (Some scans.System ≡ Some fault → ⊥)
-      → (memory told : Bool) → cond memory (Some scans.Memory) (cond told (Some scans.System) None) ≡ Some fault → ⊥
-  no_other fault no_memory no_system true told e = no_memory e
-  no_other fault no_memory no_system false true e = no_system e
-  no_other fault no_memory no_system false false e = absurd cc
+-- a fault that is told of a place is want of memory or the system's
+abbrev IsOfPlace : ScanFault → Type 0
+IsOfPlace scans.System = Unit {0}
+IsOfPlace scans.Memory = Unit {0}
+IsOfPlace other = ⊥
 
-  pub no_place : (view : View) (fault : ScanFault) → place_fault kind (length view.files) ≡ Some fault
+abbrev IsOfPlaceIn : Whereabouts → Type 0
+IsOfPlaceIn Itself = Unit {0}
+IsOfPlaceIn Below = Unit {0}
+IsOfPlaceIn (Nowhere fault) = IsOfPlace fault
+
+at_itself : (one : Bool) → IsOfPlaceIn (cond one Itself (Nowhere scans.System))
+at_itself true = tt
+at_itself false = tt
+
+below_or_nowhere : (one : Bool) → IsOfPlaceIn (cond one (Nowhere scans.System) Below)
+below_or_nowhere true = tt
+below_or_nowhere false = tt
+
+is_of_place : (standing : Standing) (files : ℕ) → IsOfPlaceIn (looked_for standing files)
+is_of_place File files = at_itself (files == 1)
+is_of_place NoFile files = tt
+is_of_place Nothing files = tt
+is_of_place NotTold files = below_or_nowhere (files == 1)
+is_of_place NoMemory files = tt
+
+module _ (view : View) (standing : Standing) where
+  nowhere : (fault : ScanFault) → looked_for standing (length view.files) ≡ Nowhere fault → IsOfPlace fault
       → IsNoPlace view fault
-  no_place view scans.NotUtf8 e = absurd (no_other scans.NotUtf8 (λ a. absurd cc) (λ a. absurd cc) _ _ e)
-  no_place view scans.NotRegular e = absurd (no_other scans.NotRegular (λ a. absurd cc) (λ a. absurd cc) _ _ e)
-  no_place view scans.TooDeep e = absurd (no_other scans.TooDeep (λ a. absurd cc) (λ a. absurd cc) _ _ e)
-  no_place view scans.System e = inr (kind, e)
-  no_place view scans.Memory e = tt
+  nowhere scans.NotUtf8 told is = absurd is
+  nowhere scans.NotRegular told is = absurd is
+  nowhere scans.TooDeep told is = absurd is
+  nowhere scans.System told is = (standing, told)
+  nowhere scans.Memory told is = tt
+
+  pub no_place : (fault : ScanFault)
+      → (looked_for standing (length view.files) ≡ Nowhere fault) ⊎ (fault ≡ scans.Memory) → IsNoPlace view fault
+  no_place fault (inl told) =
+      nowhere fault told (subst IsOfPlaceIn told (is_of_place standing (length view.files)))
+  no_place fault (inr memory) = subst (IsNoPlace view) (sym memory) tt
 
 module _ (bytes : List ℕ) (view : View) (told : IsTold bytes view) where
   -- the place is refused, or memory was
@@ -92,16 +124,55 @@ unplaced workers bytes faults.TooLong why = why
 unplaced workers bytes (faults.Write written) why = why
 unplaced workers bytes faults.Resources why = why
 
+-- one of the numbers of workers that there may be, or not
+allowed_or_not : (workers : ℕ) (one few : Bool) → nat_le 1 workers ≡ one → nat_le workers MAX_WORKERS ≡ few
+    → IsHow (Board workers) ⊎ (IsHow (Board workers) → ⊥)
+allowed_or_not workers true true one few = inl (leb-true 1 workers one, leb-true workers MAX_WORKERS few)
+allowed_or_not workers true false one few =
+    inr (λ is. let bad : true ≡ false = sym (le-leb workers MAX_WORKERS is.1) ∙ few in cc)
+allowed_or_not workers false true one few =
+    inr (λ is. let bad : true ≡ false = sym (le-leb 1 workers is.0) ∙ one in cc)
+allowed_or_not workers false false one few =
+    inr (λ is. let bad : true ≡ false = sym (le-leb 1 workers is.0) ∙ one in cc)
+
+-- what is answered by so many workers, who are refused where there may not be so many
+pub workers_allowed : {A F : Type 0} (workers : ℕ) (how : How) (result : Result A (RecheckError F))
+    → how ≡ Board workers → ((IsHow how → ⊥) → result ≡ Err rechecks.Workers)
+    → OnOk result (IsHow (Board workers))
+workers_allowed workers how (Err error) same refused = tt
+workers_allowed workers how (Ok told) same refused = elim (allowed_or_not workers _ _ refl refl) [
+  | inl is ↦ is
+  | inr none ↦ let bad = refused (subst (λ (h : How). IsHow h → ⊥) (sym same) none) in absurd cc
+]
+
 -- the error that is answered is the one that there is
 pub err_is : {A E : Type 0} (error other : E) (result : Result A E) → result ≡ Err error → result ≡ Err other
     → error ≡ other
 err_is error other result is same = cc
 
--- there are as many places as the torrent has files
-pub places_count : (place : List ℕ) (view : View) (places : List (List ℕ)) → ArePlaces place view places
-    → length places ≡ length view.files
-places_count place view places (inl (one, is)) = ap length is ∙ sym one
-places_count place view places (inr is) =
-    ap length is
-    ∙ length-map (map (λ told. told.file.path) view.files) (place_of place)
-    ∙ length-map view.files (λ told. told.file.path)
+module _ (place : List ℕ) (view : View) (places : List (List ℕ)) where
+  each_below : places ≡ map (place_of place) (map (λ told. told.file.path) view.files)
+      → length places ≡ length view.files
+  each_below is =
+      ap length is
+      ∙ length-map (map (λ told. told.file.path) view.files) (place_of place)
+      ∙ length-map view.files (λ told. told.file.path)
+
+  one_itself : (one : Bool) → (length view.files == 1) ≡ one
+      → ArePlaces (cond one Itself (Nowhere scans.System)) place view.files places
+      → length places ≡ length view.files
+  one_itself true one is = ap length is ∙ sym (eqb-true (length view.files) 1 one)
+  one_itself false one is = absurd is
+
+  not_told : (one : Bool) → ArePlaces (cond one (Nowhere scans.System) Below) place view.files places
+      → length places ≡ length view.files
+  not_told true is = absurd is
+  not_told false is = each_below is
+
+  -- there are as many places as the torrent has files
+  pub places_count : ArePlaced place view places → length places ≡ length view.files
+  places_count (File, is) = one_itself (length view.files == 1) refl is
+  places_count (NoFile, is) = each_below is
+  places_count (Nothing, is) = each_below is
+  places_count (NotTold, is) = not_told (length view.files == 1) is
+  places_count (NoMemory, is) = absurd is

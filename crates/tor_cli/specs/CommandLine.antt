@@ -75,22 +75,25 @@ with_rules app [] = app
 with_rules app (rule ∷ rules) = with_rules (with_rule app rule) rules
 
 -- what the torrent is to have, beside its files
-abbrev pub with_torrent : ValueParser → App → App
-with_torrent kinds app = with_rules app
-    (name_option ∷ piece_length_option ∷ kind_option kinds ∷ announce_option ∷ private_option ∷ tail_option ∷ [])
+abbrev pub torrent_rules : ValueParser → List Rule
+torrent_rules kinds =
+    name_option ∷ piece_length_option ∷ kind_option kinds ∷ announce_option ∷ private_option ∷ tail_option ∷ []
 
 -- an option without a value that stands beside another alone, or never beside another
 abbrev pub flag_bound : List ℕ → Rule
 flag_bound name = record (flag_of name) { is_free = false }
 
 -- who hashes, whether the files are looked at once more, where the torrent goes, and where the files are
+abbrev pub way_rules : ValueParser → List Rule
+way_rules hows =
+    how_option hows ∷ workers_option (codes "1") ∷ span_option ∷ flag_bound (codes "check-after") ∷ out_option
+    ∷ path_argument ∷ []
+
 abbrev pub with_ways : ValueParser → App → App
-with_ways hows app = with_rules app
-    (how_option hows ∷ workers_option (codes "1") ∷ span_option ∷ flag_bound (codes "check-after") ∷ out_option
-    ∷ path_argument ∷ [])
+with_ways hows app = with_rules app (way_rules hows)
 
 abbrev pub make_app : ValueParser → ValueParser → App
-make_app kinds hows = with_ways hows (with_torrent kinds (new_app (codes "make")))
+make_app kinds hows = with_ways hows (with_rules (new_app (codes "make")) (torrent_rules kinds))
 
 -- the word of this number, from 1, which has to be there
 abbrev pub argument_of : List ℕ → ℕ → Rule
@@ -101,26 +104,39 @@ abbrev pub number_of : List ℕ → ℕ → Rule
 number_of name number = record (argument_of name number) { parser = Some (Unsigned 0 18446744073709551615) }
 
 -- the command of this name over one torrent
+abbrev pub file_rules : List Rule
+file_rules = argument_of (codes "file") 1 ∷ []
+
 abbrev pub file_app : List ℕ → App
-file_app name = with_rules (new_app name) (argument_of (codes "file") 1 ∷ [])
+file_app name = with_rules (new_app name) file_rules
+
+abbrev pub prove_rules : List Rule
+prove_rules = argument_of (codes "file") 1 ∷ number_of (codes "file-number") 2 ∷ number_of (codes "index") 3 ∷ []
 
 abbrev pub prove_app : App
-prove_app = with_rules (new_app (codes "prove"))
-    (argument_of (codes "file") 1 ∷ number_of (codes "file-number") 2 ∷ number_of (codes "index") 3 ∷ [])
+prove_app = with_rules (new_app (codes "prove")) prove_rules
+
+abbrev pub verify_rules : List Rule
+verify_rules =
+    argument_of (codes "root") 1 ∷ argument_of (codes "length") 2 ∷ argument_of (codes "piece-length") 3
+    ∷ argument_of (codes "proof") 4 ∷ []
 
 abbrev pub verify_app : App
-verify_app = with_rules (new_app (codes "verify"))
-    (argument_of (codes "root") 1 ∷ argument_of (codes "length") 2 ∷ argument_of (codes "piece-length") 3
-    ∷ argument_of (codes "proof") 4 ∷ [])
+verify_app = with_rules (new_app (codes "verify")) verify_rules
+
+abbrev pub check_rules : List Rule
+check_rules = flag_of (codes "null") ∷ flag_bound (codes "json") ∷ argument_of (codes "file") 1 ∷ []
 
 abbrev pub check_app : App
-check_app = with_rules (new_app (codes "check"))
-    (flag_of (codes "null") ∷ flag_bound (codes "json") ∷ argument_of (codes "file") 1 ∷ [])
+check_app = with_rules (new_app (codes "check")) check_rules
+
+abbrev pub recheck_rules : List Rule
+recheck_rules =
+    flag_of (codes "files") ∷ flag_of (codes "bad") ∷ flag_bound (codes "null") ∷ flag_bound (codes "json")
+    ∷ workers_option (codes "4") ∷ argument_of (codes "file") 1 ∷ argument_of (codes "path") 2 ∷ []
 
 abbrev pub recheck_app : App
-recheck_app = with_rules (new_app (codes "recheck"))
-    (flag_of (codes "files") ∷ flag_of (codes "bad") ∷ flag_bound (codes "null") ∷ flag_bound (codes "json")
-    ∷ workers_option (codes "4") ∷ argument_of (codes "file") 1 ∷ argument_of (codes "path") 2 ∷ [])
+recheck_app = with_rules (new_app (codes "recheck")) recheck_rules
 
 abbrev pub with_commands : App → List App → App
 with_commands app [] = app

@@ -13,6 +13,7 @@ pub mod Request
 pub mod Shown
 pub mod Status
 pub mod Streams
+pub mod Whereabouts
 pub mod Words
 pub mod Telling
 pub mod steps

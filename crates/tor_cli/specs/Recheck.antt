@@ -1,12 +1,9 @@
 -- What the program prints of the pieces and the files of a torrent: which are there and right. No contract says which
 -- bytes a file of the system has, so a clause speaks of some bytes, those that the program took for FILE's, of some
 -- bits, those that were answered of the torrent's pieces, one for each, and of what was answered of each file.
-use Rattle.std.specs.Prelude.{◌≡◌, ◌≢◌, ◌⊎◌, ◌==◌, ◌&&◌, ℕ, Bool, true, false, not, List, [], ◌++◌, length}
-use Rattle.std.specs.Prelude.{Option, None, Some, decimal, codes, if◌then◌else◌}
+use Rattle.std.specs.Prelude.{◌≡◌, ◌≢◌, ◌==◌, ℕ, Bool, List, [], ◌++◌, length, decimal, codes, if◌then◌else◌}
 use Rattle.std.specs.Io.KnownBytes.{Appends}
 use Rattle.std.specs.declared.io.Error.{Error}
-use Rattle.std.specs.declared.io.ErrorKind.{ErrorKind}
-use Rattle.std.specs.declared.io.ErrorKind.TheVariants.{OutOfMemory}
 use Rattle.hex.specs.Hex.{encode_lower}
 use Rattle.tor_check.specs.Valid.{IsTold}
 use Rattle.tor_engine.specs.How.{IsHow}
@@ -16,24 +13,26 @@ use Rattle.tor_recheck.specs.Recheck.{IsGiven}
 use Rattle.tor_recheck.specs.declared.files.FileFound.{FileFound}
 use Rattle.tor_recheck.specs.declared.errors.RecheckError.{RecheckError}
 use Rattle.tor_recheck.specs.declared.errors.RecheckError.TheVariants as rechecks
-use Rattle.tor_source.specs.Faults.{is_absence}
 use Rattle.tor_source.specs.declared.faults.ScanFault.{ScanFault}
 use Rattle.tor_source.specs.declared.faults.ScanFault.TheVariants as scans
 use Rattle.tor_spec.specs.valid.View.{View}
 use Rattle.tor_cli.specs.Foreign.{IsNoTorrent, OfSome}
-use Rattle.tor_cli.specs.FoundFiles.{told_of_files}
+use Rattle.tor_cli.specs.FoundFiles.{lists_files, told_of_files}
 use Rattle.tor_meta.specs.FromInput.{IsFront}
 use Rattle.tor_cli.specs.Place.{IsFileEnd, IsFileFault, IsFileSize}
 use Rattle.tor_cli.specs.Proving.{answer_of}
 use Rattle.tor_cli.specs.Records.{recheck_line}
 use Rattle.tor_cli.specs.Streams.{IsUntouched, Streams}
+use Rattle.tor_cli.specs.Whereabouts.{looked_for}
 use Rattle.tor_cli.specs.declared.answer.Answer.{Answer}
 use Rattle.tor_cli.specs.declared.fault.Fault.{Fault}
 use Rattle.tor_cli.specs.declared.listing.Form.{Form}
 use Rattle.tor_cli.specs.declared.listing.Form.TheVariants.{Json, Text}
 use Rattle.tor_cli.specs.declared.listing.Listing.{Listing}
-use Rattle.tor_cli.specs.declared.listing.Listing.TheVariants.{Pieces, BadPaths}
+use Rattle.tor_cli.specs.declared.listing.Listing.TheVariants.{BadPaths}
 use Rattle.tor_cli.specs.declared.recheck_words.RecheckOptions.{RecheckOptions}
+use Rattle.tor_cli.specs.declared.whereabouts.Standing.{Standing}
+use Rattle.tor_cli.specs.declared.whereabouts.Whereabouts.TheVariants.{Nowhere}
 use Rattle.tor_cli.specs.declared.fault.Fault.TheVariants.{Scan, Refused, Recheck, Read, TooLong, Write, Resources}
 
 -- how many pieces are there and right, of how many, and a line with the digits of the bitfield
@@ -65,24 +64,12 @@ pub record IsReport (options : RecheckOptions) (view : View) (bits : List Bool) 
 
 -- of each file is told, where any is listed
 abbrev pub IsOfEach : Listing → View → List FileFound → Type 0
-IsOfEach Pieces view found = found ≡ []
-IsOfEach other view found = length found ≡ length view.files
+IsOfEach listing view found = length found ≡ (if lists_files listing then length view.files else 0)
 
-abbrev pub is_memory : ErrorKind → Bool
-is_memory OutOfMemory = true
-is_memory _ = false
-
--- what is told of a fault of the place itself, where so many files are looked for there: want of memory; and where one
--- file is, which might be there, each fault but that nothing is there
-abbrev pub place_fault : ErrorKind → ℕ → Option ScanFault
-place_fault kind files = if is_memory kind then Some scans.Memory
-    else if (files == 1) && not (is_absence kind) then Some scans.System else None
-
--- why they are not: a file by itself is not what a torrent of several files has; or there was a fault of the place; or
--- memory was refused
+-- why they are looked for nowhere, by what is told of the place; or memory was refused
 abbrev pub IsNoPlace : View → ScanFault → Type 0
-IsNoPlace view scans.System = (length view.files ≢ 1)
-    ⊎ ((kind : ErrorKind) × (place_fault kind (length view.files) ≡ Some scans.System))
+IsNoPlace view scans.System =
+    (standing : Standing) × (looked_for standing (length view.files) ≡ Nowhere scans.System)
 IsNoPlace view scans.Memory = Unit {0}
 IsNoPlace view other = ⊥
 

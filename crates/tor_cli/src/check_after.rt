@@ -1,21 +1,24 @@
 //! `tor make --check-after`: whether its files have each piece of a torrent that was just made of them.
-ghost use Rattle.std.specs.Prelude.{◌≡◌, ◌≢◌, Err, IfErr, IfOk, OnOk, length};
-ghost use Rattle.std.specs.declared.io.Error.{Error};
-ghost use Rattle.tor_cli.specs.CheckAfter.{AreCounted, IsAsMade, IsNotAsMade};
-ghost use Rattle.tor_cli.specs.Place.{IsFileEnd, IsFileFault, IsFileSize};
+ghost use Rattle.std.specs.Prelude.{◌≡◌, ◌≢◌, Err, IfErr, IfOk, MatchResult, None, OnOk, length};
+ghost use Rattle.tor_cli.specs.CheckAfter.{AreCounted, IsAsMade, IsNotAsMade, counts_of};
 ghost use Rattle.tor_cli.specs.declared.fault.Fault.TheVariants.{NotAsMade};
+ghost use Rattle.tor_engine.specs.Contents.{contents_in};
 ghost use Rattle.tor_engine.specs.How.{IsHow};
 ghost use Rattle.tor_engine.specs.declared.how.How.TheVariants.{Board};
-ghost use Rattle.tor_recheck.specs.Recheck.{IsGiven};
+ghost use Rattle.tor_recheck.specs.Recheck.{IsFault, IsGiven, first_fault};
 ghost use Rattle.tor_recheck.specs.declared.errors.RecheckError.TheVariants.{Workers};
+ghost use Rattle.tor_source.specs.Source.{SourceFacts};
+ghost use Rattle.tor_spec.specs.Verified.{verified_pieces};
 
 use crate::fault::Fault;
 use crate::piece_counts::{PieceCounts, count_pieces};
 use crate::progress::{Counting, Progress, erase};
-use crate::recheck_source::{Placed, placed_at};
-use std::io;
+use crate::recheck_source::placed_at;
+use std::alloc::Global;
 use std::thread::Threads;
+use tor_check::Torrent;
 use tor_recheck::RecheckError;
+use tor_source::Source;
 
 /// Judges the torrent that the bytes are, and looks by so many workers for each piece of it at a place, as `recheck`
 /// does: a fault where not all are there and right.
@@ -34,36 +37,49 @@ pub fn check_after<T: Threads + Sync>(
         Ok(placed) => placed,
         Err(fault) => return Err(fault),
     };
-    match counted_pieces(rt, system, &placed, workers, shows_progress) {
+    let torrent = &placed.torrent;
+    let progress = Progress::shown(system, torrent.files().len(), shows_progress);
+    match counted_pieces(
+        rt,
+        system.alloc(),
+        &placed.source,
+        torrent,
+        workers,
+        &progress,
+    ) {
         Ok(counts) => all_good(counts),
         Err(error) => Err(Fault::from(error)),
     }
 }
 
-/// How many pieces are there and right. The progress that is shown meanwhile is erased at the end.
-fn counted_pieces<T: Threads + Sync>(
+/// How many of the torrent's pieces are there and right in a source, which so many workers read. The progress that is
+/// shown meanwhile is erased at the end.
+fn counted_pieces<S: Source, T: Threads + Sync>(
     rt: &T,
-    system: &HostRuntime,
-    placed: &Placed,
+    alloc: Global,
+    source: &S,
+    torrent: &Torrent,
     workers: u32,
-    shows_progress: bool,
-) -> Result<PieceCounts, RecheckError<io::Error>>
-    requires { length placed.now.source ≡ length placed.now.torrent.files }
-    ensures counted { IfOk result (AreCounted placed.now.torrent) }
+    progress: &Option<Progress>,
+) -> Result<PieceCounts, RecheckError<S::Fault>>
     ensures refused { (IsHow (Board workers) → ⊥) → result ≡ Err Workers }
+    ensures found { IsHow (Board workers) → (facts : SourceFacts S.Fault) → S.is_steady source.now facts →
+        MatchResult result
+        (λ counts. (counts ≡ counts_of (verified_pieces torrent.now (contents_in facts (length torrent.now.files))))
+        × (first_fault facts torrent.now ≡ None))
+        (IsFault (first_fault facts torrent.now)) }
+    ensures counted { IfOk result (AreCounted torrent.now) }
     ensures allowed { IsHow (Board workers) → IfErr result (λ error. error ≢ Workers) }
-    ensures gave { let count = length placed.now.torrent.files in
-        IfErr result (IsGiven (IsFileFault count) (IsFileSize count) IsFileEnd count) }
+    ensures gave { IfErr result
+        (IsGiven (S.gave source.now) (S.told source.now) (S.ended source.now) (length torrent.now.files)) }
 {
-    let files = placed.torrent.files();
-    let progress = Progress::shown(system, files.len(), shows_progress);
     let counting = Counting {
-        source: &placed.source,
-        files,
-        progress: &progress,
+        source,
+        files: torrent.files(),
+        progress,
     };
-    let counts = count_pieces(rt, system.alloc(), &counting, &placed.torrent, workers);
-    erase(&progress);
+    let counts = count_pieces(rt, alloc, &counting, torrent, workers);
+    erase(progress);
     counts
 }
 
@@ -73,7 +89,7 @@ fn all_good(counts: PieceCounts) -> Result<(), Fault>
     ensures refused { IfErr result (λ fault. (fault ≡ NotAsMade counts.good counts.pieces)
         × (counts.good ≢ counts.pieces)) }
 {
-    if counts.good == counts.pieces {
+    if counts.are_all_good() {
         return Ok(());
     }
     Err(Fault::NotAsMade {

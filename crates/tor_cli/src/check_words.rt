@@ -5,7 +5,7 @@ ghost use Rattle.tor_cli.specs.CommandLine.{check_app};
 ghost use Rattle.tor_cli.specs.Words.{IsCheckIn, telling_of};
 
 use crate::telling::Telling;
-use crate::torrent_words::{argument_of, flag_of, json_option};
+use crate::torrent_words::{argument_of, command_with, flag_of, json_option};
 use clap::{ArgMatches, Command};
 use std::alloc::{AllocError, Global};
 
@@ -21,12 +21,16 @@ pub struct CheckOptions<'a> {
 pub fn check_command<'a>(alloc: Global) -> Result<Command<'a>, AllocError>
     ensures { IfOk result (λ command. app_of command ≡ check_app) }
 {
-    Command::new(alloc, "check")
-        .about("Tells what a torrent describes, or why a file is none")
-        .arg(flag_of(alloc, "null", NULL))?
-        .arg(json_option(alloc)?)?
-        .arg(argument_of(alloc, "file", 1, "FILE", "The file with the torrent"))
+    let json = json_option(alloc)?;
+    let words = vec![in alloc;
+        flag_of(alloc, "null", NULL),
+        json,
+        argument_of(alloc, "file", 1, "FILE", "The file with the torrent"),
+    ]?;
+    command_with(alloc, "check", ABOUT, words)
 }
+
+const ABOUT: &str = "Tells what a torrent describes, or why a file is none";
 
 const NULL: &str = "Prints the paths of the files alone, each ended by a zero byte";
 

@@ -22,7 +22,7 @@ pub struct Claim {
 }
 
 /// Which argument is none of its kind.
-#[derive(Clone, Copy, Debug, PartialEq, Eq)]
+#[derive(Clone, Copy, Debug)]
 pub enum ArgumentFault {
     Root,
     Length,

@@ -48,21 +48,7 @@ impl Fault {
     pub fn usage(alloc: Global, text: &str, command: &str) -> Result<Fault, AllocError>
         ensures { IfOk result (IsUsage command.now) }
     {
-        let paragraph = match text.split_once("\n\n") {
-            Some((first, _)) => first,
-            None => text,
-        };
-        let mut line = String::new(alloc);
-        for part in paragraph
-            .strip_prefix("error: ")
-            .unwrap_or(paragraph)
-            .lines()
-        {
-            if !line.is_empty() {
-                line.push(' ')?;
-            }
-            line.push_str(part.trim())?;
-        }
+        let line = in_one_line(alloc, first_paragraph(text))?;
         let cause = line.strip_suffix(" found").unwrap_or(&line);
         Ok(Fault::Usage(format!(in alloc; "{cause}; see '{command} --help'")?))
     }
@@ -86,6 +72,25 @@ impl Fault {
             Fault::Resources => 4,
         }
     }
+}
+
+fn first_paragraph(text: &str) -> &str {
+    let paragraph = match text.split_once("\n\n") {
+        Some((first, _)) => first,
+        None => text,
+    };
+    paragraph.strip_prefix("error: ").unwrap_or(paragraph)
+}
+
+fn in_one_line(alloc: Global, paragraph: &str) -> Result<String, AllocError> {
+    let mut line = String::new(alloc);
+    'parts: for part in paragraph.lines() {
+        if !line.is_empty() {
+            line.push(' ')?;
+        }
+        line.push_str(part.trim())?;
+    }
+    Ok(line)
 }
 
 fn status_of_scan(fault: &ScanFault) -> u8
@@ -172,12 +177,7 @@ fn write_error<W: fmt::Write>(
     f: &mut fmt::Formatter<W>,
 ) -> fmt::Result {
     match error {
-        MakeError::Read {
-            file,
-            start: Some(start),
-            ..
-        } => write!(f, "{error} file {file} at {start}"),
-        MakeError::Read { file, .. } => write!(f, "{error} file {file} at length"),
+        MakeError::Read { file, start, .. } => write_read_error(error, *file, *start, f),
         MakeError::Changed { file }
         | MakeError::Missing { file }
         | MakeError::StreamTooLong { file } => write!(f, "{error} file {file}"),
@@ -191,13 +191,21 @@ fn write_recheck_error<W: fmt::Write>(
     f: &mut fmt::Formatter<W>,
 ) -> fmt::Result {
     match error {
-        RecheckError::Read {
-            file,
-            start: Some(start),
-            ..
-        } => write!(f, "{error} file {file} at {start}"),
-        RecheckError::Read { file, .. } => write!(f, "{error} file {file} at length"),
+        RecheckError::Read { file, start, .. } => write_read_error(error, *file, *start, f),
         RecheckError::Changed { file } => write!(f, "{error} file {file}"),
         other => write!(f, "{other}"),
+    }
+}
+
+/// A fault of a read: of a file, at an offset or at its length.
+fn write_read_error<E: fmt::Display, W: fmt::Write>(
+    error: &E,
+    file: u64,
+    start: Option<u64>,
+    f: &mut fmt::Formatter<W>,
+) -> fmt::Result {
+    match start {
+        Some(start) => write!(f, "{error} file {file} at {start}"),
+        None => write!(f, "{error} file {file} at length"),
     }
 }

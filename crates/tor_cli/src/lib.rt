@@ -15,8 +15,9 @@
 //!   `claim.rt`: what those of `verify` claim; `proof_text.rt`: a proof as a text, both ways; `numbers.rt` and
 //!   `digits.rt`: numbers and hashes in texts. `answer.rt`: yes and no.
 //! - `recheck_command.rt`: the command `recheck`; `recheck_words.rt`: its words; `listing.rt`: which files it lists;
-//!   `recheck_source.rt`: where the files of the torrent are looked for; `recheck_text.rt`: what is printed of their
-//!   pieces; `found_text.rt`: and of the files; `recheck_record.rt`: the same as JSON; `json.rt`: what both have of it.
+//!   `whereabouts.rt`: where the files of the torrent are looked for; `recheck_source.rt`: what stands there;
+//!   `findings.rt`: which of their pieces are there, by so many workers; `recheck_text.rt`: what is printed of them;
+//!   `found_text.rt`: and of the files; `recheck_record.rt`: the same as JSON; `json.rt`: what both have of it.
 //! - `fault.rt`: what stops the program, its line and its status; `fault_of.rt`: which step's fault it is. `escape.rt`:
 //!   the user's text in such a line. `laws.rt`: that it has no control byte there.
 #![tactic(auto)]
@@ -32,6 +33,7 @@ mod escape;
 pub mod execute;
 pub mod fault;
 mod fault_of;
+mod findings;
 mod foreign;
 mod found_text;
 mod from_place;
@@ -60,4 +62,5 @@ mod torrent_words;
 mod verify_command;
 mod watch;
 mod way;
+mod whereabouts;
 mod workers;

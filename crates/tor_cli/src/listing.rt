@@ -1,9 +1,10 @@
 //! Which files of a torrent a recheck lists, and in which form.
 ghost use Rattle.std.specs.Prelude.{◌≡◌};
+ghost use Rattle.tor_cli.specs.FoundFiles.{lists_files};
 ghost use Rattle.tor_cli.specs.Words.{form_of, listing_of};
 
 /// What is printed of the torrent's files, beside its pieces.
-#[derive(Clone, Copy, Debug, PartialEq, Eq)]
+#[derive(Clone, Copy)]
 pub enum Listing {
     /// Nothing.
     Pieces,
@@ -16,12 +17,24 @@ pub enum Listing {
 }
 
 /// For whom a recheck answers.
-#[derive(Clone, Copy, Debug, PartialEq, Eq)]
+#[derive(Clone, Copy)]
 pub enum Form {
     /// For people, and for tools that go line by line.
     Text,
     /// For programs: one object of JSON (RFC 8259).
     Json,
+}
+
+/// Whether something is told of files.
+pub fn lists_files(listing: Listing) -> bool
+    ensures { result ≡ lists_files listing }
+{
+    match listing {
+        Listing::Pieces => false,
+        Listing::Files => true,
+        Listing::BadFiles => true,
+        Listing::BadPaths => true,
+    }
 }
 
 /// The form that the flag `--json` asks for.

@@ -1,5 +1,6 @@
 //! `tor make`: its doing.
 ghost use Rattle.std.specs.Prelude.{◌≡◌, ◌⊎◌, ◌<◌, ℕ, List, Option, IfErr, IfOk, OnOk, None, Some, length, true};
+ghost use Rattle.std.specs.Prelude.{option_map};
 ghost use Rattle.tor_meta.specs.FromInput.{MakesOf, StopsReading};
 ghost use Rattle.tor_tree.specs.Name.{name_fault};
 ghost use Rattle.tor_tree.specs.declared.names.NameError.TheVariants.{Memory};
@@ -14,7 +15,7 @@ use crate::from_place::{files_at, torrent_of};
 use crate::options::MakeOptions;
 use crate::out_file::send;
 use crate::progress::Progress;
-use crate::way::{Way, how_of};
+use crate::way::{Way, how_of, workers_after};
 use std::alloc::{AllocError, Global};
 use std::io::{Read, Write};
 use std::sync::Wait;
@@ -24,7 +25,9 @@ use tor_source::drop_input;
 use tor_tree::{Name, NameError};
 
 /// Makes the torrent of one file, whose content the reader has, or of the files at a place of the system. The first of
-/// these faults is answered: of the reader, the name, the place, the other options, the files, the writer.
+/// these faults is answered: of the reader, the name, the place, the other options, the files, the check of
+/// `--check-after`, the writer. That check is of the place too: its faults come in the order of a recheck of what was
+/// made, and that not all pieces are there comes last.
 pub fn make<T: Threads + Wait + Sync + Send + Clone + Drop + 'static, R: Read, W: Write>(
     rt: &T,
     system: &HostRuntime,
@@ -87,7 +90,7 @@ fn torrent_of_input<T: Threads + Wait + Sync + Send + Clone + Drop + 'static, R:
     }
 }
 
-/// Makes the torrent of the file or the folder at a place of the system.
+/// Makes the torrent of the file or the folder at a place of the system. Nothing is written before it may go out.
 fn make_of_place<T: Threads + Wait + Sync, W: Write>(
     rt: &T,
     system: &HostRuntime,
@@ -122,7 +125,7 @@ fn torrent_to_send<T: Threads + Wait + Sync>(
     if !options.check_after {
         return Ok(torrent);
     }
-    let workers = how_of(options.way).workers();
+    let workers = workers_after(options.way);
     check_after(rt, system, place, &torrent, workers, shows_progress)?;
     Ok(torrent)
 }
@@ -176,10 +179,7 @@ fn order_of(
     ensures order { IfOk result (IsOrder options.now single) }
     ensures single { IfOk result (λ order. order.single ≡ single) }
 {
-    let announce = match options.announce {
-        Some(url) => Some(Vec::from_slice(alloc, url.as_bytes())?),
-        None => None,
-    };
+    let announce = announce_of(alloc, options.announce)?;
     Ok(Order {
         kind: options.kind,
         single,
@@ -191,4 +191,13 @@ fn order_of(
         span: options.span,
         how: how_of(options.way),
     })
+}
+
+fn announce_of(alloc: Global, announce: Option<&str>) -> Result<Option<Vec<u8>>, AllocError>
+    ensures { IfOk result (λ made. option_map (λ bytes. bytes.items) made ≡ option_map (λ url. url.now) announce.entry) }
+{
+    match announce {
+        Some(url) => Ok(Some(Vec::from_slice(alloc, url.as_bytes())?)),
+        None => Ok(None),
+    }
 }

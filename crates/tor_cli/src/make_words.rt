@@ -5,16 +5,33 @@ ghost use Rattle.std.specs.Prelude.{◌≡◌, ◌∷◌, [], IfOk, codes, false
 ghost use Rattle.tor_cli.specs.CommandLine.{AreHows, AreKinds, announce_option, flag_bound, how_option};
 ghost use Rattle.tor_cli.specs.CommandLine.{kind_option, make_app};
 ghost use Rattle.tor_cli.specs.CommandLine.{name_option, out_option, path_argument, piece_length_option};
-ghost use Rattle.tor_cli.specs.CommandLine.{private_option, span_option, with_torrent, with_ways};
+ghost use Rattle.tor_cli.specs.CommandLine.{private_option, span_option, torrent_rules, way_rules, with_ways};
 ghost use Rattle.tor_cli.specs.steps.Bound.{wanted_by};
+ghost use Rattle.tor_cli.specs.steps.Rules.{HaveRules};
 
-use crate::torrent_words::{flag_beside, flag_of, workers_option};
-use clap::{Arg, ArgAction, Command, value_parser};
+use crate::torrent_words::{
+    command_with, flag_beside, flag_of, option_of, with_words, workers_option,
+};
+use clap::{Arg, Command, value_parser};
 use std::alloc::{AllocError, Global};
 
 const KINDS: [&str; 3] = ["v1", "v2", "hybrid"];
 
 const DEFAULT_KIND: &str = "v2";
+
+const NAME: &str = "The name that the torrent suggests for its content";
+
+const PIECE_LENGTH: &str = "Bytes in a piece: a power of two from 16384 to 1073741824";
+
+const KIND: &str = "Which clients can use the torrent: of version 1, of version 2, or both";
+
+const PRIVATE: &str = "Peers are to come from the tracker alone";
+
+const HOW: &str = "Who hashes: one worker, or several, by halves, at a board or behind a stream";
+
+const SPAN: &str = "Pieces that a worker takes at a time: a power of two from 1 to 1024";
+
+const OUT: &str = "The file that the torrent goes to, instead of standard output";
 
 const TAIL: &str = "Pads the last file of a hybrid folder too";
 
@@ -38,118 +55,107 @@ pub fn make_command<'a>(alloc: Global) -> Result<Command<'a>, AllocError>
     ensures { IfOk result (λ command. (kinds hows : ValueParser) × AreKinds kinds × AreHows hows
         × (app_of command ≡ make_app kinds hows)) }
 {
-    let begun = Command::new(alloc, "make").about(
-        "Makes a torrent of standard input, or of a file or folder",
-    );
-    let command = add_torrent(alloc, begun)?;
-    add_ways(alloc, command)
+    let torrent = torrent_words(alloc)?;
+    let begun = command_with(alloc, "make", ABOUT, torrent)?;
+    add_ways(alloc, begun)
 }
+
+const ABOUT: &str = "Makes a torrent of standard input, or of a file or folder";
 
 // What the torrent is to have, beside its files.
-fn add_torrent<'a>(alloc: Global, command: Command<'a>) -> Result<Command<'a>, AllocError>
-    ensures { IfOk result (λ added. (kinds : ValueParser) × AreKinds kinds
-        × (app_of added ≡ with_torrent kinds (app_of command.entry))) }
+fn torrent_words<'a>(alloc: Global) -> Result<Vec<Arg<'a>>, AllocError>
+    ensures { IfOk result (λ words. (kinds : ValueParser) × AreKinds kinds
+        × HaveRules words.items (torrent_rules kinds)) }
 {
-    command
-        .arg(name_option(alloc))?
-        .arg(piece_length_option(alloc))?
-        .arg(kind_option(alloc))?
-        .arg(announce_option(alloc))?
-        .arg(private_option(alloc))?
-        .arg(flag_of(alloc, "tail", TAIL))
+    Ok(vec![in alloc;
+        name_option(alloc),
+        piece_length_option(alloc),
+        kind_option(alloc),
+        announce_option(alloc),
+        private_option(alloc),
+        flag_of(alloc, "tail", TAIL),
+    ]?)
 }
 
-// Who hashes, where the torrent goes, and where the files are.
+// Adds who hashes, where the torrent goes, and where the files are.
 fn add_ways<'a>(alloc: Global, command: Command<'a>) -> Result<Command<'a>, AllocError>
     ensures { IfOk result (λ added. (hows : ValueParser) × AreHows hows
         × (app_of added ≡ with_ways hows (app_of command.entry))) }
 {
-    command
-        .arg(how_option(alloc))?
-        .arg(workers_option(alloc, DEFAULT_WORKERS, WORKERS))?
-        .arg(span_option(alloc))?
-        .arg(check_after_option(alloc)?)?
-        .arg(out_option(alloc))?
-        .arg(path_argument(alloc))
+    let ways = way_words(alloc)?;
+    with_words(command, ways)
+}
+
+fn way_words<'a>(alloc: Global) -> Result<Vec<Arg<'a>>, AllocError>
+    ensures { IfOk result (λ words. (hows : ValueParser) × AreHows hows
+        × HaveRules words.items (way_rules hows)) }
+{
+    let check_after = check_after_option(alloc)?;
+    Ok(vec![in alloc;
+        how_option(alloc),
+        workers_option(alloc, DEFAULT_WORKERS, WORKERS),
+        span_option(alloc),
+        check_after,
+        out_option(alloc),
+        path_argument(alloc),
+    ]?)
 }
 
 fn name_option<'a>(alloc: Global) -> Arg<'a>
     ensures rule { rule_of result ≡ name_option }
     ensures local { result.global ≡ false }
 {
-    Arg::new(alloc, "name")
-        .long("name")
-        .value_name("NAME")
-        .required(true)
-        .help("The name that the torrent suggests for its content")
+    option_of(alloc, "name", "NAME", NAME).required(true)
 }
 
 fn piece_length_option<'a>(alloc: Global) -> Arg<'a>
     ensures rule { rule_of result ≡ piece_length_option }
     ensures local { result.global ≡ false }
 {
-    Arg::new(alloc, "piece-length")
-        .long("piece-length")
-        .value_name("N")
+    option_of(alloc, "piece-length", "N", PIECE_LENGTH)
         .value_parser(value_parser!(u64))
         .default_value(DEFAULT_PIECE_LENGTH)
-        .help("Bytes in a piece: a power of two from 16384 to 1073741824")
 }
 
 fn kind_option<'a>(alloc: Global) -> Arg<'a>
     ensures rule { (kinds : ValueParser) × AreKinds kinds × (rule_of result ≡ kind_option kinds) }
     ensures local { result.global ≡ false }
 {
-    Arg::new(alloc, "kind")
-        .long("kind")
-        .value_name("KIND")
+    option_of(alloc, "kind", "KIND", KIND)
         .value_parser(KINDS.as_slice())
         .default_value(DEFAULT_KIND)
-        .help("Which clients can use the torrent: of version 1, of version 2, or both")
 }
 
 fn announce_option<'a>(alloc: Global) -> Arg<'a>
     ensures rule { rule_of result ≡ announce_option }
     ensures local { result.global ≡ false }
 {
-    Arg::new(alloc, "announce")
-        .long("announce")
-        .value_name("URL")
-        .help("The URL of the tracker")
+    option_of(alloc, "announce", "URL", "The URL of the tracker")
 }
 
 fn private_option<'a>(alloc: Global) -> Arg<'a>
     ensures rule { rule_of result ≡ private_option }
     ensures local { result.global ≡ false }
 {
-    Arg::new(alloc, "private")
-        .long("private")
-        .action(ArgAction::SetTrue)
-        .help("Peers are to come from the tracker alone")
+    flag_of(alloc, "private", PRIVATE)
 }
 
 fn how_option<'a>(alloc: Global) -> Arg<'a>
     ensures rule { (hows : ValueParser) × AreHows hows × (rule_of result ≡ how_option hows) }
     ensures local { result.global ≡ false }
 {
-    Arg::new(alloc, "how")
-        .long("how")
-        .value_name("HOW")
+    option_of(alloc, "how", "HOW", HOW)
         .value_parser(HOWS.as_slice())
         .default_value(DEFAULT_HOW)
-        .help("Who hashes: one worker, or several, by halves, at a board or behind a stream")
 }
 
 fn span_option<'a>(alloc: Global) -> Arg<'a>
     ensures rule { rule_of result ≡ span_option }
     ensures local { result.global ≡ false }
 {
-    Arg::new(alloc, "span")
-        .long("span")
-        .value_name("N")
+    option_of(alloc, "span", "N", SPAN)
         .value_parser(value_parser!(u32))
         .default_value(DEFAULT_SPAN)
-        .help("Pieces that a worker takes at a time: a power of two from 1 to 1024")
 }
 
 fn check_after_option<'a>(alloc: Global) -> Result<Arg<'a>, AllocError>
@@ -164,9 +170,7 @@ fn out_option<'a>(alloc: Global) -> Arg<'a>
     ensures rule { rule_of result ≡ out_option }
     ensures local { result.global ≡ false }
 {
-    Arg::new(alloc, "out").long("out").value_name("FILE").help(
-        "The file that the torrent goes to, instead of standard output",
-    )
+    option_of(alloc, "out", "FILE", OUT)
 }
 
 fn path_argument<'a>(alloc: Global) -> Arg<'a>

@@ -1,5 +1,5 @@
 //! How many pieces of a torrent a source has.
-ghost use Rattle.std.specs.Prelude.{◌≡◌, ◌≢◌, Err, IfErr, IfOk, MatchResult, None, length};
+ghost use Rattle.std.specs.Prelude.{◌≡◌, ◌≢◌, ◌==◌, ◌↔◌, Err, IfErr, IfOk, IsTrue, MatchResult, None, length};
 ghost use Rattle.tor_cli.specs.CheckAfter.{AreCounted, counts_of};
 ghost use Rattle.tor_engine.specs.Contents.{contents_in};
 ghost use Rattle.tor_engine.specs.How.{IsHow};
@@ -9,11 +9,11 @@ ghost use Rattle.tor_recheck.specs.declared.errors.RecheckError.TheVariants.{Wor
 ghost use Rattle.tor_source.specs.Source.{SourceFacts};
 ghost use Rattle.tor_spec.specs.Verified.{verified_pieces};
 
+use crate::findings::findings_of;
 use std::alloc::Global;
 use std::thread::Threads;
 use tor_check::Torrent;
-use tor_engine::How;
-use tor_recheck::{Bits, RecheckError, recheck};
+use tor_recheck::{Bits, RecheckError};
 use tor_source::Source;
 
 /// How many pieces are there and right, of how many.
@@ -21,6 +21,16 @@ use tor_source::Source;
 pub struct PieceCounts {
     pub good: u64,
     pub pieces: u64,
+}
+
+impl PieceCounts {
+    /// Whether all are there and right.
+    pub(crate) fn are_all_good(self) -> bool
+        ensures value { result ≡ (self.good == self.pieces) }
+        ensures all { IsTrue result ↔ (self.good ≡ self.pieces) }
+    {
+        self.good == self.pieces
+    }
 }
 
 /// How many of the torrent's pieces are there and right in a source, which so many workers read.
@@ -42,13 +52,14 @@ pub fn count_pieces<S: Source, T: Threads + Sync>(
     ensures gave { IfErr result
         (IsGiven (S.gave source.now) (S.told source.now) (S.ended source.now) (length torrent.now.files)) }
 {
-    match recheck(rt, alloc, source, torrent, How::Board(workers)) {
-        Ok(bits) => Ok(counts_of(&bits)),
+    match findings_of(rt, alloc, source, torrent, false, workers) {
+        Ok(findings) => Ok(counts_of(&findings.bits)),
         Err(error) => Err(error),
     }
 }
 
-fn counts_of(bits: &Bits) -> PieceCounts
+/// How many bits are set, of how many.
+pub(crate) fn counts_of(bits: &Bits) -> PieceCounts
     ensures { result ≡ counts_of bits.now }
 {
     PieceCounts {

@@ -5,7 +5,7 @@ ghost use Rattle.std.specs.Prelude.{◌≡◌, IfOk, IfSome, false};
 ghost use Rattle.tor_cli.specs.CommandLine.{number_of, prove_app, verify_app};
 ghost use Rattle.tor_cli.specs.Words.{IsPieceIn, IsProofIn};
 
-use crate::torrent_words::argument_of;
+use crate::torrent_words::{argument_of, command_with};
 use clap::{Arg, ArgMatches, Command, value_parser};
 use std::alloc::{AllocError, Global};
 
@@ -34,12 +34,15 @@ pub struct VerifyOptions<'a> {
 pub fn prove_command<'a>(alloc: Global) -> Result<Command<'a>, AllocError>
     ensures { IfOk result (λ command. app_of command ≡ prove_app) }
 {
-    Command::new(alloc, "prove")
-        .about("Proves that a piece is of a file of a torrent")
-        .arg(argument_of(alloc, "file", 1, "FILE", "The file with the torrent"))?
-        .arg(number_of(alloc, "file-number", 2, "FILENUMBER", FILE_NUMBER))?
-        .arg(number_of(alloc, "index", 3, "INDEX", INDEX))
+    let words = vec![in alloc;
+        argument_of(alloc, "file", 1, "FILE", "The file with the torrent"),
+        number_of(alloc, "file-number", 2, "FILENUMBER", FILE_NUMBER),
+        number_of(alloc, "index", 3, "INDEX", INDEX),
+    ]?;
+    command_with(alloc, "prove", PROVES, words)
 }
+
+const PROVES: &str = "Proves that a piece is of a file of a torrent";
 
 const FILE_NUMBER: &str = "The number of the file in the torrent, from 0";
 
@@ -49,13 +52,16 @@ const INDEX: &str = "The number of the piece in the file, from 0";
 pub fn verify_command<'a>(alloc: Global) -> Result<Command<'a>, AllocError>
     ensures { IfOk result (λ command. app_of command ≡ verify_app) }
 {
-    Command::new(alloc, "verify")
-        .about("Tells whether a proof of a piece holds")
-        .arg(argument_of(alloc, "root", 1, "ROOT", ROOT))?
-        .arg(argument_of(alloc, "length", 2, "LENGTH", LENGTH))?
-        .arg(argument_of(alloc, "piece-length", 3, "PIECELENGTH", PIECE_LENGTH))?
-        .arg(argument_of(alloc, "proof", 4, "PROOF", "The file with the proof"))
+    let words = vec![in alloc;
+        argument_of(alloc, "root", 1, "ROOT", ROOT),
+        argument_of(alloc, "length", 2, "LENGTH", LENGTH),
+        argument_of(alloc, "piece-length", 3, "PIECELENGTH", PIECE_LENGTH),
+        argument_of(alloc, "proof", 4, "PROOF", "The file with the proof"),
+    ]?;
+    command_with(alloc, "verify", VERIFIES, words)
 }
+
+const VERIFIES: &str = "Tells whether a proof of a piece holds";
 
 const ROOT: &str = "The root of the file: 64 hexadecimal digits";
 

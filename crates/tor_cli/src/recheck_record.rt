@@ -10,6 +10,7 @@ ghost use Rattle.tor_recheck.specs.Bitfield.{bitfield};
 use crate::found_text::{is_whole, state_word};
 use crate::json::{line_of, path_value};
 use crate::listing::Listing;
+use crate::piece_counts::counts_of;
 use hex::encode;
 use serde_json::{Value, json};
 use std::alloc::{AllocError, Global};
@@ -41,8 +42,9 @@ fn findings_value(
 {
     let bits = bits_value(alloc, &findings.bits)?;
     let files = files_value(alloc, torrent, listing, findings)?;
-    let good = findings.bits.count_set();
-    let pieces = findings.bits.len();
+    let counts = counts_of(&findings.bits);
+    let good = counts.good;
+    let pieces = counts.pieces;
     json!(in alloc; {"bits": bits, "files": files, "good": good, "pieces": pieces})
 }
 

@@ -1,14 +1,15 @@
 //! Where the system has the files of a torrent.
-ghost use Rattle.std.specs.Prelude.{◌≡◌, IfErr, IfOk, map};
+ghost use Rattle.std.specs.Prelude.{◌≡◌, ◌⊎◌, IfErr, IfOk, map};
 ghost use Rattle.tor_check.specs.Valid.{IsTold};
-ghost use Rattle.tor_cli.specs.Recheck.{IsNoPlace, IsNotPlaced, is_memory, place_fault};
-ghost use Rattle.tor_cli.specs.steps.Places.{ArePlaces};
-ghost use Rattle.tor_source.specs.Faults.{is_absence};
+ghost use Rattle.tor_cli.specs.Recheck.{IsNoPlace, IsNotPlaced};
+ghost use Rattle.tor_cli.specs.declared.whereabouts.Whereabouts.TheVariants.{Nowhere};
+ghost use Rattle.tor_cli.specs.steps.Places.{ArePlaced, ArePlaces};
 ghost use Rattle.tor_source.specs.Places.{place_of};
+ghost use Rattle.tor_source.specs.declared.faults.ScanFault.TheVariants.{Memory};
 
 use crate::fault::Fault;
+use crate::whereabouts::{Whereabouts, looked_for, standing_by};
 use std::alloc::{AllocError, Global};
-use std::io::ErrorKind;
 use std::rt::Files;
 use tor_check::{Torrent, ViewFile, validate};
 use tor_source::{FolderSource, ScanFault};
@@ -24,7 +25,7 @@ pub struct Placed {
 /// The torrent that the bytes are, and its files at a place, at which nothing is looked before the torrent was judged.
 pub fn placed_at(system: &HostRuntime, place: &str, bytes: &[u8]) -> Result<Placed, Fault>
     ensures told { IfOk result (λ placed. IsTold bytes.now placed.torrent) }
-    ensures placed { IfOk result (λ placed. ArePlaces place.now placed.torrent placed.source) }
+    ensures placed { IfOk result (λ placed. ArePlaced place.now placed.torrent placed.source) }
     ensures stopped { IfErr result (IsNotPlaced bytes.now) }
 {
     let torrent = match validate(system.alloc(), bytes) {
@@ -37,28 +38,34 @@ pub fn placed_at(system: &HostRuntime, place: &str, bytes: &[u8]) -> Result<Plac
     }
 }
 
-/// The torrent's files at a place: the file there, which only a torrent of one file can have, or those below the folder
-/// there, whether they are there or not. A link at the place itself is followed. Where the system does not tell what is
-/// there, a torrent of one file might have it there, and it is a fault; of others each file is asked for by itself.
+/// The torrent's files at a place. A link at the place itself is followed.
 fn source_at(
     system: &HostRuntime,
     place: &str,
     torrent: &Torrent,
 ) -> Result<FolderSource<HostRuntime>, ScanFault>
-    ensures placed { IfOk result (ArePlaces place.now torrent.now) }
+    ensures placed { IfOk result (ArePlaced place.now torrent.now) }
     ensures refused { IfErr result (IsNoPlace torrent.now) }
 {
     let files = torrent.files();
-    match system.metadata(place) {
-        Ok(metadata) if metadata.is_file() => match files {
-            [_] => Ok(FolderSource::single(system, place)?),
-            _ => Err(ScanFault::System),
-        },
-        Ok(_) => Ok(files_below(system, place, files)?),
-        Err(error) => match place_fault(error.kind(), files.len()) {
-            Some(fault) => Err(fault),
-            None => Ok(files_below(system, place, files)?),
-        },
+    let standing = standing_by(&system.metadata(place));
+    placed_files(system, place, files, looked_for(standing, files.len()))
+}
+
+/// These files, where they are looked for.
+fn placed_files(
+    system: &HostRuntime,
+    place: &str,
+    files: &[ViewFile],
+    whereabouts: Whereabouts,
+) -> Result<FolderSource<HostRuntime>, ScanFault>
+    ensures placed { IfOk result (ArePlaces whereabouts place.now files.now) }
+    ensures refused { IfErr result (λ fault. (whereabouts ≡ Nowhere fault) ⊎ (fault ≡ Memory)) }
+{
+    match whereabouts {
+        Whereabouts::Itself => Ok(FolderSource::single(system, place)?),
+        Whereabouts::Below => Ok(files_below(system, place, files)?),
+        Whereabouts::Nowhere(fault) => Err(fault),
     }
 }
 
@@ -72,32 +79,6 @@ fn files_below(
 {
     let paths = paths_of(system.alloc(), files)?;
     FolderSource::at(system, place, paths)
-}
-
-/// What is told of a fault of the place itself, by its kind, where so many files are looked for there.
-fn place_fault(kind: ErrorKind, files: usize) -> Option<ScanFault>
-    ensures { result ≡ place_fault kind files }
-{
-    if is_memory(kind) {
-        return Some(ScanFault::Memory);
-    }
-    if files == 1 && !is_absence(kind) {
-        return Some(ScanFault::System);
-    }
-    None
-}
-
-fn is_memory(kind: ErrorKind) -> bool
-    ensures { result ≡ is_memory kind }
-{
-    matches!(kind, ErrorKind::OutOfMemory)
-}
-
-/// Whether a fault of this kind says that nothing is there.
-fn is_absence(kind: ErrorKind) -> bool
-    ensures { result ≡ is_absence kind }
-{
-    matches!(kind, ErrorKind::NotFound | ErrorKind::NotADirectory)
 }
 
 fn paths_of(alloc: Global, files: &[ViewFile]) -> Result<Vec<FilePath>, AllocError>

@@ -1,8 +1,7 @@
 //! What tells which pieces of a torrent a source has, and which of its files.
 ghost use Rattle.std.specs.Prelude.{◌≡◌, ◌≢◌, Err, IfErr, IfOk, OnOk, MatchResult, None, length, string_bytes};
 ghost use Rattle.tor_cli.specs.FoundFiles.{listed};
-ghost use Rattle.tor_cli.specs.Recheck.{IsOfEach, IsReport, IsReportOn, pieces_text, recheck_answer, recheck_text};
-ghost use Rattle.tor_cli.specs.Recheck.{report_text};
+ghost use Rattle.tor_cli.specs.Recheck.{IsReport, IsReportOn, pieces_text, recheck_answer, recheck_text, report_text};
 ghost use Rattle.tor_cli.specs.declared.listing.Form.TheVariants.{Text};
 ghost use Rattle.tor_engine.specs.Contents.{contents_in};
 ghost use Rattle.tor_engine.specs.How.{IsHow};
@@ -15,8 +14,10 @@ ghost use Rattle.tor_source.specs.Source.{SourceFacts};
 ghost use Rattle.tor_spec.specs.Verified.{verified_pieces};
 
 use crate::answer::Answer;
+use crate::findings::findings_of;
 use crate::found_text::push_files;
-use crate::listing::{Form, Listing};
+use crate::listing::{Form, Listing, lists_files};
+use crate::piece_counts::counts_of;
 use crate::progress::{Counting, Progress, erase};
 use crate::recheck_record::recheck_line;
 use crate::recheck_words::RecheckOptions;
@@ -24,8 +25,7 @@ use hex::encode;
 use std::alloc::{AllocError, Global};
 use std::thread::Threads;
 use tor_check::Torrent;
-use tor_engine::How;
-use tor_recheck::{Bits, Findings, RecheckError, recheck, recheck_files};
+use tor_recheck::{Bits, Findings, RecheckError};
 use tor_source::Source;
 
 /// What is printed of a recheck.
@@ -69,50 +69,12 @@ pub fn counted_report<S: Source, T: Threads + Sync>(
         files: torrent.files(),
         progress,
     };
-    let rechecked = findings_of(rt, alloc, &counting, torrent, options);
+    let lists = lists_files(options.listing);
+    let rechecked = findings_of(rt, alloc, &counting, torrent, lists, options.workers);
     erase(progress);
     match rechecked {
         Ok(findings) => Ok(report_on(alloc, torrent, options, &findings)?),
         Err(error) => Err(error),
-    }
-}
-
-/// What a source has of the torrent's pieces, and of its files where any is listed.
-fn findings_of<S: Source, T: Threads + Sync>(
-    rt: &T,
-    alloc: Global,
-    source: &S,
-    torrent: &Torrent,
-    options: &RecheckOptions<'_>,
-) -> Result<Findings, RecheckError<S::Fault>>
-    ensures counted { IfOk result (λ told. (length told.bits ≡ torrent.now.piece_count)
-        × IsOfEach options.now.listing torrent.now told.files.items) }
-    ensures found { IsHow (Board options.now.workers) → (facts : SourceFacts S.Fault) → S.is_steady source.now facts →
-        MatchResult result
-        (λ told. (told.bits ≡ verified_pieces torrent.now (contents_in facts (length torrent.now.files)))
-        × (told.files.items ≡ listed options.now.listing (files_found torrent.now
-        (lengths_told facts (length torrent.now.files))
-        (held_pieces torrent.now (contents_in facts (length torrent.now.files)))))
-        × (first_fault facts torrent.now ≡ None))
-        (IsFault (first_fault facts torrent.now)) }
-    ensures refused { (IsHow (Board options.now.workers) → ⊥) → result ≡ Err Workers }
-    ensures workers { OnOk result (IsHow (Board options.now.workers)) }
-    ensures allowed { IsHow (Board options.now.workers) → IfErr result (λ error. error ≢ Workers) }
-    ensures gave { IfErr result
-        (IsGiven (S.gave source.now) (S.told source.now) (S.ended source.now) (length torrent.now.files)) }
-{
-    let how = How::Board(options.workers);
-    match options.listing {
-        Listing::Pieces => match recheck(rt, alloc, source, torrent, how) {
-            Ok(bits) => Ok(Findings {
-                bits,
-                files: Vec::new(alloc),
-            }),
-            Err(error) => Err(error),
-        },
-        Listing::Files => recheck_files(rt, alloc, source, torrent, how),
-        Listing::BadFiles => recheck_files(rt, alloc, source, torrent, how),
-        Listing::BadPaths => recheck_files(rt, alloc, source, torrent, how),
     }
 }
 
@@ -163,18 +125,19 @@ fn pieces_text(alloc: Global, listing: Listing, bits: &Bits) -> Result<String, A
 fn text_of(alloc: Global, bits: &Bits) -> Result<String, AllocError>
     ensures { IfOk result (λ text. string_bytes text ≡ recheck_text bits.now) }
 {
-    let set = bits.count_set();
-    let pieces = bits.len();
+    let counts = counts_of(bits);
+    let good = counts.good;
+    let pieces = counts.pieces;
     let bitfield = bits.to_bytes(alloc)?;
     let digits = encode(alloc, bitfield.as_slice())?;
-    format!(in alloc; "pieces {set} of {pieces}\nbits {digits}\n")
+    format!(in alloc; "pieces {good} of {pieces}\nbits {digits}\n")
 }
 
 /// Whether all pieces are there and right.
 fn answer_of(bits: &Bits) -> Answer
     ensures { result ≡ recheck_answer bits.now }
 {
-    if bits.count_set() == bits.len() {
+    if counts_of(bits).are_all_good() {
         Answer::Yes
     } else {
         Answer::No

@@ -6,7 +6,9 @@ ghost use Rattle.tor_cli.specs.Words.{IsRecheckIn};
 ghost use Rattle.tor_cli.specs.steps.Bound.{wanted_by};
 
 use crate::listing::{Form, Listing, form_of, listing_of};
-use crate::torrent_words::{argument_of, flag_beside, flag_of, json_option, workers_option};
+use crate::torrent_words::{
+    argument_of, command_with, flag_beside, flag_of, json_option, workers_option,
+};
 use crate::workers::workers_of;
 use clap::{Arg, ArgMatches, Command};
 use std::alloc::{AllocError, Global};
@@ -29,16 +31,21 @@ pub struct RecheckOptions<'a> {
 pub fn recheck_command<'a>(alloc: Global) -> Result<Command<'a>, AllocError>
     ensures { IfOk result (λ command. app_of command ≡ recheck_app) }
 {
-    Command::new(alloc, "recheck")
-        .about("Tells which pieces of a torrent are there and right")
-        .arg(flag_of(alloc, "files", FILES))?
-        .arg(flag_of(alloc, "bad", BAD))?
-        .arg(null_option(alloc)?)?
-        .arg(json_option(alloc)?)?
-        .arg(workers_option(alloc, DEFAULT_WORKERS, WORKERS))?
-        .arg(argument_of(alloc, "file", 1, "FILE", "The file with the torrent"))?
-        .arg(argument_of(alloc, "path", 2, "PATH", PATH))
+    let null = null_option(alloc)?;
+    let json = json_option(alloc)?;
+    let words = vec![in alloc;
+        flag_of(alloc, "files", FILES),
+        flag_of(alloc, "bad", BAD),
+        null,
+        json,
+        workers_option(alloc, DEFAULT_WORKERS, WORKERS),
+        argument_of(alloc, "file", 1, "FILE", "The file with the torrent"),
+        argument_of(alloc, "path", 2, "PATH", PATH),
+    ]?;
+    command_with(alloc, "recheck", ABOUT, words)
 }
+
+const ABOUT: &str = "Tells which pieces of a torrent are there and right";
 
 fn null_option<'a>(alloc: Global) -> Result<Arg<'a>, AllocError>
     ensures rule { IfOk result (λ flag. rule_of flag ≡ flag_bound (codes "null")) }

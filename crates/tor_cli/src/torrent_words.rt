@@ -1,9 +1,11 @@
 //! The words of `tor magnet FILE`, and those of which several commands have some.
-ghost use Rattle.clap.specs.Words.{app_of, found_of, rows_of, rule_of};
-ghost use Rattle.std.specs.Prelude.{◌≡◌, ◌∷◌, [], IfOk, IfSome, codes, false};
-ghost use Rattle.tor_cli.specs.CommandLine.{argument_of, file_app, flag_bound, flag_of, workers_option};
+ghost use Rattle.clap.specs.Words.{Rule, app_of, found_of, new_app, rows_of, rule_of};
+ghost use Rattle.std.specs.Prelude.{◌≡◌, ◌∷◌, [], IfOk, IfSome, List, codes, false};
+ghost use Rattle.tor_cli.specs.CommandLine.{argument_of, file_app, flag_bound, flag_of, option_of, with_rules};
+ghost use Rattle.tor_cli.specs.CommandLine.{workers_option};
 ghost use Rattle.tor_cli.specs.Words.{IsFileIn};
 ghost use Rattle.tor_cli.specs.steps.Bound.{shut_out_by, wanted_by};
+ghost use Rattle.tor_cli.specs.steps.Rules.{HaveRules};
 
 use clap::{Arg, ArgAction, ArgMatches, Command};
 use std::alloc::{AllocError, Global};
@@ -16,13 +18,29 @@ pub fn file_command<'a>(
 ) -> Result<Command<'a>, AllocError>
     ensures { IfOk result (λ command. app_of command ≡ file_app name.now) }
 {
-    Command::new(alloc, name).about(about).arg(argument_of(
-        alloc,
-        "file",
-        1,
-        "FILE",
-        "The file with the torrent",
-    ))
+    let words = vec![in alloc; argument_of(alloc, "file", 1, "FILE", "The file with the torrent")]?;
+    command_with(alloc, name, about, words)
+}
+
+/// The command of this name, of which the help tells so much, with these words.
+pub fn command_with<'a>(
+    alloc: Global,
+    name: &'a str,
+    about: &'a str,
+    words: Vec<Arg<'a>>,
+) -> Result<Command<'a>, AllocError>
+    ensures { (rules : List Rule) → HaveRules words.entry.items rules →
+        IfOk result (λ command. app_of command ≡ with_rules (new_app name.now) rules) }
+{
+    with_words(Command::new(alloc, name).about(about), words)
+}
+
+/// The command, and after what it has these words.
+pub fn with_words<'a>(command: Command<'a>, words: Vec<Arg<'a>>) -> Result<Command<'a>, AllocError>
+    ensures { (rules : List Rule) → HaveRules words.entry.items rules →
+        IfOk result (λ added. app_of added ≡ with_rules (app_of command.entry) rules) }
+{
+    command.args(words)
 }
 
 /// The file that stands in the words; none where `clap` let through words that have none.
@@ -105,9 +123,16 @@ pub fn workers_option<'a>(alloc: Global, default: &'a str, help: &'a str) -> Arg
     ensures rule { rule_of result ≡ workers_option default.now }
     ensures local { result.global ≡ false }
 {
-    Arg::new(alloc, "workers")
-        .long("workers")
-        .value_name("N")
-        .default_value(default)
+    option_of(alloc, "workers", "N", help).default_value(default)
+}
+
+/// An option with one value.
+pub fn option_of<'a>(alloc: Global, name: &'a str, shown: &'a str, help: &'a str) -> Arg<'a>
+    ensures rule { rule_of result ≡ option_of name.now }
+    ensures local { result.global ≡ false }
+{
+    Arg::new(alloc, name)
+        .long(name)
+        .value_name(shown)
         .help(help)
 }

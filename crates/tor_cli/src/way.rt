@@ -1,6 +1,7 @@
-//! Who hashes.
+//! Who hashes, and by how many the files are looked at once more.
 ghost use Rattle.std.specs.Prelude.{◌≡◌};
 ghost use Rattle.tor_cli.specs.Words.{how_of};
+ghost use Rattle.tor_engine.specs.How.{workers_of};
 
 use tor_engine::How;
 
@@ -21,4 +22,11 @@ pub fn how_of(way: Way) -> How
         Way::Shared(how) => how,
         Way::Streams(workers) => How::Board(workers),
     }
+}
+
+/// How many workers look for the pieces of a torrent that was just made: as many as hashed its files.
+pub fn workers_after(way: Way) -> u32
+    ensures { result ≡ workers_of (how_of way) }
+{
+    how_of(way).workers()
 }

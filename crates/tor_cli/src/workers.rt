@@ -56,11 +56,18 @@ fn at_most_all(processors: usize) -> u32
 pub fn workers_fault(alloc: Global, word: &str, command: &str) -> Result<Fault, AllocError>
     ensures { IfOk result (IsUsage command.now) }
 {
-    let printed = escaped(alloc, word)?;
-    let reason = match word.parse::<i64>() {
-        Ok(_) => format!(in alloc; "{printed} is not in 0..=4294967295")?,
-        Err(error) => format!(in alloc; "{error}")?,
-    };
-    let text = format!(in alloc; "invalid value '{printed}' for '--workers <N>': {reason}")?;
+    let text = workers_text(alloc, &escaped(alloc, word)?, word)?;
     Fault::usage(alloc, &text, command)
+}
+
+fn workers_text(alloc: Global, printed: &str, word: &str) -> Result<String, AllocError> {
+    let reason = reason_of(alloc, printed, word)?;
+    format!(in alloc; "invalid value '{printed}' for '--workers <N>': {reason}")
+}
+
+fn reason_of(alloc: Global, printed: &str, word: &str) -> Result<String, AllocError> {
+    match word.parse::<i64>() {
+        Ok(_) => format!(in alloc; "{printed} is not in 0..=4294967295"),
+        Err(error) => format!(in alloc; "{error}"),
+    }
 }

@@ -1,9 +1,19 @@
 -- Where a recheck looks for the files of a torrent. Only private clauses cite this.
-use Rattle.std.specs.Prelude.{◌≡◌, ◌⊎◌, ℕ, List, [], ◌∷◌, length, map}
+use Rattle.std.specs.Prelude.{◌≡◌, ℕ, List, [], ◌∷◌, length, map}
 use Rattle.tor_source.specs.Places.{place_of}
-use Rattle.tor_spec.specs.valid.View.{View}
+use Rattle.tor_spec.specs.valid.View.{FileView, View}
+use Rattle.tor_cli.specs.Whereabouts.{looked_for}
+use Rattle.tor_cli.specs.declared.whereabouts.Standing.{Standing}
+use Rattle.tor_cli.specs.declared.whereabouts.Whereabouts.{Whereabouts}
+use Rattle.tor_cli.specs.declared.whereabouts.Whereabouts.TheVariants.{Itself, Below, Nowhere}
 
--- its one file at the place itself, or each below the place
-abbrev pub ArePlaces : List ℕ → View → List (List ℕ) → Type 0
-ArePlaces place view places = ((length view.files ≡ 1) × (places ≡ place ∷ []))
-    ⊎ (places ≡ map (place_of place) (map (λ told. told.file.path) view.files))
+-- the one file at the place itself, or each below the place
+abbrev pub ArePlaces : Whereabouts → List ℕ → List FileView → List (List ℕ) → Type 0
+ArePlaces Itself place files places = places ≡ place ∷ []
+ArePlaces Below place files places = places ≡ map (place_of place) (map (λ told. told.file.path) files)
+ArePlaces (Nowhere fault) place files places = ⊥
+
+-- the same of the files of a torrent, where something is told of the place
+abbrev pub ArePlaced : List ℕ → View → List (List ℕ) → Type 0
+ArePlaced place view places =
+    (standing : Standing) × ArePlaces (looked_for standing (length view.files)) place view.files places

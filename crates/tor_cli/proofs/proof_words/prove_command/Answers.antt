@@ -1,17 +1,19 @@
--- Each word adds its rule.
-use Rattle.std.proofs.Common.{ap, ap₂, ◌∙◌}
-use Rattle.std.proofs.lemmas.Result.{IfOk-weaker}
-use Rattle.clap.specs.Simple.{app_of_fields}
-use Rattle.clap.specs.Words.{with_rule}
+-- Each word has its rule.
+use Rattle.tor_cli.specs.CommandLine.{prove_rules}
 use Rattle.tor_cli.proofs.proof_words.prove_command.Goals as goal
 
 pub returns : goal.returns
 returns c =
-    let begun = ap app_of_fields c.about.ensures ∙ c.new.ensures.app in
-    let filed =
-    c.in_ok-arg.ensures.shape c.argument_of.ensures.local ∙ ap₂ with_rule begun c.argument_of.ensures.rule in
-    let numbered =
-    c.in_ok-arg-2.ensures.shape c.number_of.ensures.local ∙ ap₂ with_rule filed c.number_of.ensures.rule in
-    IfOk-weaker c.arg-3.result _ _
-    (λ command added. added.shape c.number_of-2.ensures.local ∙ ap₂ with_rule numbered c.number_of-2.ensures.rule)
-    c.arg-3.ensures
+    c.command_with.ensures prove_rules (rw c.in_ok-words.ensures.items (
+      c.argument_of.ensures.rule,
+      c.argument_of.ensures.local,
+      (
+        c.number_of.ensures.rule,
+        c.number_of.ensures.local,
+        (
+          c.number_of-2.ensures.rule,
+          c.number_of-2.ensures.local,
+          tt,
+        ),
+      ),
+    ))

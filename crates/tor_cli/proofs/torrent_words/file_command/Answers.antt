@@ -1,13 +1,11 @@
--- The file adds its rule.
-use Rattle.std.proofs.Common.{ap, ap₂, ◌∙◌}
-use Rattle.std.proofs.lemmas.Result.{IfOk-weaker}
-use Rattle.clap.specs.Simple.{app_of_fields}
-use Rattle.clap.specs.Words.{with_rule}
+-- Each word has its rule.
+use Rattle.tor_cli.specs.CommandLine.{file_rules}
 use Rattle.tor_cli.proofs.torrent_words.file_command.Goals as goal
 
 pub returns : goal.returns
 returns c =
-    let begun = ap app_of_fields c.about.ensures ∙ c.new.ensures.app in
-    IfOk-weaker c.arg.result _ _
-    (λ command added. added.shape c.argument_of.ensures.local ∙ ap₂ with_rule begun c.argument_of.ensures.rule)
-    c.arg.ensures
+    c.command_with.ensures file_rules (rw c.in_ok-words.ensures.items (
+      c.argument_of.ensures.rule,
+      c.argument_of.ensures.local,
+      tt,
+    ))
