@@ -2,6 +2,7 @@
 //! hexadecimal is of Python's hashlib.
 
 use crate::given::{Row, Shape, are, files, is, name, repeated};
+use crate::larger::LONG;
 use std::alloc::{AllocError, Global};
 use std::io::{self, Error, ErrorKind, Write};
 use tor_meta::{Hashes, Head, magnet, make_contents, write_out};
@@ -91,7 +92,7 @@ fn is_right(alloc: Global, row: &Row) -> bool {
 }
 
 /// Whether just what stands there is made of each row.
-pub(crate) fn are_right(alloc: Global, rows: &[Row]) -> bool {
+fn are_right(alloc: Global, rows: &[Row]) -> bool {
     for row in rows {
         if !is_right(alloc, row) {
             return false;
@@ -119,22 +120,12 @@ const OF_ONE_FILE: &[Row] = &[
     (HYBRID_OF_A, "a=", EMPTY_HYBRID),
 ];
 
-#[test]
-fn makes_torrents_of_one_file(rt: HostRuntime) {
-    assert!(rt; are_right(rt.alloc(), OF_ONE_FILE));
-}
-
 const OF_A_FOLDER: &[Row] = &[
     (V1, "a=ab b=c", FOLDER_V1),
     (HYBRID, "a=ab b=c", FOLDER_HYBRID),
     (V1, "b=c a=ab", FOLDER_V1),
     (HYBRID, "b=c a=ab", FOLDER_HYBRID),
 ];
-
-#[test]
-fn makes_torrents_of_a_folder(rt: HostRuntime) {
-    assert!(rt; are_right(rt.alloc(), OF_A_FOLDER));
-}
 
 /// The torrents of these tables, and how many bytes they have.
 const COUNTS: &[(&[u8], usize)] = &[
@@ -146,13 +137,6 @@ const COUNTS: &[(&[u8], usize)] = &[
     (FOLDER_V1, 129),
     (FOLDER_HYBRID, 382),
 ];
-
-#[test]
-fn has_as_many_bytes_as_were_counted(rt: HostRuntime) {
-    for (torrent, count) in COUNTS {
-        assert!(rt; torrent.len() == *count);
-    }
-}
 
 /// A head with a tracker, and private.
 fn tracked_head(alloc: Global) -> Result<Head, AllocError> {
@@ -169,6 +153,7 @@ fn tracked_head(alloc: Global) -> Result<Head, AllocError> {
     })
 }
 
+/// Whether the torrent of that head has both.
 fn is_tracked(alloc: Global, head: &Head) -> bool {
     match files(alloc, "a=abc") {
         Ok(files) => are(made_of(alloc, files, head), TRACKED),
@@ -176,10 +161,11 @@ fn is_tracked(alloc: Global, head: &Head) -> bool {
     }
 }
 
-#[test]
-fn writes_tracker_and_private(rt: HostRuntime) -> Result<(), AllocError> {
-    assert!(rt; is_tracked(rt.alloc(), &tracked_head(rt.alloc())?));
-    Ok(())
+fn is_tracked_made(alloc: Global) -> bool {
+    match tracked_head(alloc) {
+        Ok(head) => is_tracked(alloc, &head),
+        Err(_) => false,
+    }
 }
 
 /// What stands in the hybrid of a file of two bytes and an empty one, and in that of these and a file of one byte.
@@ -206,12 +192,6 @@ fn is_listed(alloc: Global, given: &str, listed: &[u8]) -> bool {
     }
 }
 
-#[test]
-fn pads_hybrids_before_contents_alone(rt: HostRuntime) {
-    assert!(rt; is_listed(rt.alloc(), "a=ab aa=", OF_TWO));
-    assert!(rt; is_listed(rt.alloc(), "a=ab aa= b=c", OF_THREE));
-}
-
 /// The torrent of version 2 of five blocks of bytes 7, in pieces of two blocks.
 const FIVE_BLOCKS: &[u8] = b"d4:infod9:file treed1:ad0:d6:lengthi81920e11:pieces root32:\
 \xb4\xa7\x9f\xd2\x13\x3f\xad\x95\xa4\x07\x59\x75\x74\xe7\xe9\xaf\
@@ -229,11 +209,6 @@ eee12:meta versioni2e4:name1:a12:piece lengthi32768ee12:piece layersd32:\
 ee";
 
 const OF_FIVE_BLOCKS: &[Row] = &[((Kind::V2, true, 32768, "a"), "a=*81920", FIVE_BLOCKS)];
-
-#[test]
-fn writes_root_and_layer_of_five_blocks(rt: HostRuntime) {
-    assert!(rt; are_right(rt.alloc(), OF_FIVE_BLOCKS));
-}
 
 /// The torrent of version 2 of two files of 16,385 bytes 7.
 const EQUAL_FILES: &[u8] = b"d4:infod9:file treed1:ad0:d6:lengthi16385e11:pieces root32:\
@@ -254,24 +229,9 @@ ee";
 
 const OF_EQUAL_FILES: &[Row] = &[(V2, "a=*16385 b=*16385", EQUAL_FILES)];
 
-#[test]
-fn lists_one_layer_of_equal_files(rt: HostRuntime) {
-    assert!(rt; are_right(rt.alloc(), OF_EQUAL_FILES));
-}
-
 const TAKEN: &[Row] = &[(V1, ".pad/1=x", b"made"), (V2, ".pad/1=x", b"made")];
 
-#[test]
-fn takes_reserved_names_where_there_is_no_padding(rt: HostRuntime) {
-    assert!(rt; are_right(rt.alloc(), TAKEN));
-}
-
 const TAKEN_ALONE: &[Row] = &[((Kind::Hybrid, true, 16384, ".pad"), ".pad=x", b"made")];
-
-#[test]
-fn takes_a_reserved_name_of_one_file(rt: HostRuntime) {
-    assert!(rt; are_right(rt.alloc(), TAKEN_ALONE));
-}
 
 /// Empty files, and the line of the refusal.
 const REFUSED: &[Row] = &[
@@ -286,23 +246,11 @@ const REFUSED: &[Row] = &[
     (HYBRID, "a .pad/1", b"Y1 ReservedPad"),
 ];
 
-#[test]
-fn refuses_in_order(rt: HostRuntime) {
-    assert!(rt; are_right(rt.alloc(), REFUSED));
-}
-
-/// A path of 65 names.
+/// A path of 65 names, each of one byte, and 64 slashes between.
 const DEEP: &str = "a/a/a/a/a/a/a/a/a/a/a/a/a/a/a/a/a/a/a/a/a/a/a/a/a/a/a/a/a/a/a/a/\
 a/a/a/a/a/a/a/a/a/a/a/a/a/a/a/a/a/a/a/a/a/a/a/a/a/a/a/a/a/a/a/a/a";
 
 const TOO_DEEP: &[Row] = &[((Kind::V2, true, 16384, "f"), DEEP, b"M4 Path")];
-
-#[test]
-fn refuses_long_paths_before_their_shape(rt: HostRuntime) {
-    // Each name has one byte, and 64 slashes stand between.
-    assert!(rt; DEEP.len() == 129);
-    assert!(rt; are_right(rt.alloc(), TOO_DEEP));
-}
 
 /// Hashes, and the link to a torrent that has them.
 const LINKS: &[(Option<[u8; 20]>, Option<[u8; 32]>, &str)] = &[
@@ -332,13 +280,6 @@ fn is_link(alloc: Global, row: &(Option<[u8; 20]>, Option<[u8; 32]>, &str)) -> b
     is(magnet(alloc, &Hashes { v1, v2 }), link.as_bytes())
 }
 
-#[test]
-fn links_to_a_torrent(rt: HostRuntime) {
-    for row in LINKS {
-        assert!(rt; is_link(rt.alloc(), row));
-    }
-}
-
 /// Whether just these bytes are written out.
 fn are_written(alloc: Global, bytes: &[u8]) -> bool {
     let mut written = Vec::new(alloc);
@@ -351,12 +292,6 @@ fn are_many_written(alloc: Global, count: usize) -> bool {
         Ok(bytes) => are_written(alloc, &bytes),
         Err(_) => false,
     }
-}
-
-#[test]
-fn writes_out_all_bytes(rt: HostRuntime) {
-    assert!(rt; are_written(rt.alloc(), b"abc"));
-    assert!(rt; are_many_written(rt.alloc(), 100_000));
 }
 
 /// A writer that takes 12 bytes in all, and then faults, or takes nothing.
@@ -394,8 +329,42 @@ fn stops_after_twelve(faults: bool) -> bool {
     stopped.written == 12 && is_answered
 }
 
+const TABLES: &[&[Row]] = &[
+    OF_ONE_FILE,
+    OF_A_FOLDER,
+    OF_FIVE_BLOCKS,
+    OF_EQUAL_FILES,
+    TAKEN,
+    TAKEN_ALONE,
+    REFUSED,
+    // Long paths are refused before their shape.
+    TOO_DEEP,
+    LONG,
+];
+
 #[test]
-fn tells_what_stopped_a_write(rt: HostRuntime) {
-    assert!(rt; stops_after_twelve(true));
-    assert!(rt; stops_after_twelve(false));
+fn makes_torrents_of_contents(rt: HostRuntime) {
+    for rows in TABLES {
+        assert!(rt; are_right(rt.alloc(), rows));
+    }
+    for (torrent, count) in COUNTS {
+        assert!(rt; torrent.len() == *count);
+    }
+    assert!(rt; DEEP.len() == 129);
+    assert!(rt; is_tracked_made(rt.alloc()));
+}
+
+#[test]
+fn pads_hybrids_before_contents_alone(rt: HostRuntime) {
+    assert!(rt; is_listed(rt.alloc(), "a=ab aa=", OF_TWO));
+    assert!(rt; is_listed(rt.alloc(), "a=ab aa= b=c", OF_THREE));
+}
+
+#[test]
+fn writes_out_all_bytes_and_links(rt: HostRuntime) {
+    assert!(rt; are_written(rt.alloc(), b"abc") && are_many_written(rt.alloc(), 100_000));
+    assert!(rt; stops_after_twelve(true) && stops_after_twelve(false));
+    for row in LINKS {
+        assert!(rt; is_link(rt.alloc(), row));
+    }
 }

@@ -12,10 +12,7 @@ pub(crate) type Row = (Shape, &'static str, &'static [u8]);
 
 /// A name. That a text is none, which none of the tables has, is told as want of memory.
 pub(crate) fn name(alloc: Global, text: &str) -> Result<Name, AllocError> {
-    match Name::new(alloc, text.as_bytes()) {
-        Ok(name) => Ok(name),
-        Err(_) => Err(AllocError),
-    }
+    Name::new(alloc, text.as_bytes()).ok().ok_or(AllocError)
 }
 
 fn add_names(alloc: Global, text: &str, names: &mut Vec<Name>) -> Result<(), AllocError> {

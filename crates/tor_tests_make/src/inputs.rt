@@ -38,36 +38,39 @@ impl Read for Steps<'_> {
     }
 }
 
-#[test]
-fn reads_up_to_the_limit(rt: HostRuntime) {
+// Whether five bytes are read where so many may be.
+fn are_five_read(alloc: Global) -> bool {
     let mut five: &[u8] = b"abcde";
-    let is_read = match read_limited(rt.alloc(), &mut five, 5) {
+    match read_limited(alloc, &mut five, 5) {
         Ok(bytes) => bytes.as_slice() == b"abcde".as_slice(),
         Err(_) => false,
-    };
-    assert!(rt; is_read);
+    }
 }
 
-#[test]
-fn reads_no_more_than_the_limit(rt: HostRuntime) {
+// Whether six are too many.
+fn are_six_too_many(alloc: Global) -> bool {
     let mut six: &[u8] = b"abcdef";
-    let fault = read_limited(rt.alloc(), &mut six, 5).err();
-    assert!(rt; fault == Some(InputFault::TooLong));
+    read_limited(alloc, &mut six, 5).err() == Some(InputFault::TooLong)
 }
 
-#[test]
-fn tells_a_fault_of_its_reader(rt: HostRuntime) {
+fn is_fault_told(alloc: Global) -> bool {
     let mut faulting = Faulting(b"abc");
-    let fault = read_limited(rt.alloc(), &mut faulting, 5).err();
-    assert!(rt; fault == Some(InputFault::Read));
+    read_limited(alloc, &mut faulting, 5).err() == Some(InputFault::Read)
+}
+
+fn is_all_dropped(alloc: Global) -> bool {
+    let mut reader: &[u8] = b"abc";
+    drop_input(alloc, &mut reader).is_ok() && reader.is_empty()
 }
 
 #[test]
-fn drops_all_that_its_reader_has(rt: HostRuntime) {
-    let mut reader: &[u8] = b"abc";
-    assert!(rt; drop_input(rt.alloc(), &mut reader).is_ok());
-    assert!(rt; reader.is_empty());
+fn reads_up_to_the_limit(rt: HostRuntime) {
+    let alloc = rt.alloc();
+    assert!(rt; are_five_read(alloc) && are_six_too_many(alloc));
+    assert!(rt; is_fault_told(alloc) && is_all_dropped(alloc));
 }
+
+const STEPS: &[usize] = &[1, 2, 3, 7];
 
 // Whether the torrent of `abc` is made of a reader that gives at most `step` bytes a read.
 fn is_made_in_steps(alloc: Global, order: &Order, step: usize) -> bool {
@@ -84,17 +87,12 @@ fn is_made(alloc: Global) -> bool {
     let Ok(order) = order(alloc, &(Kind::V2, true, 16384, "a")) else {
         return false;
     };
-    for step in [1, 2, 3, 7] {
-        if !is_made_in_steps(alloc, &order, step) {
+    for step in STEPS {
+        if !is_made_in_steps(alloc, &order, *step) {
             return false;
         }
     }
     true
-}
-
-#[test]
-fn makes_one_torrent_however_much_a_read_gives(rt: HostRuntime) {
-    assert!(rt; is_made(rt.alloc()));
 }
 
 // Whether the piece length is refused once all was read, and nothing is written.
@@ -113,11 +111,6 @@ fn is_refused(alloc: Global) -> bool {
         Ok(order) => is_refused_at_the_end(alloc, &order),
         Err(_) => false,
     }
-}
-
-#[test]
-fn reads_all_before_it_refuses(rt: HostRuntime) {
-    assert!(rt; is_refused(rt.alloc()));
 }
 
 // Whether the torrent of `abc` is made by so many workers behind a reader that gives at most `step` bytes a read.
@@ -139,13 +132,6 @@ fn is_made_by_streams<T: Threads + Wait + Sync + Send + Clone + Drop + 'static>(
     }
 }
 
-#[test]
-fn makes_the_same_torrent_by_workers_behind_the_reader(rt: HostRuntime) {
-    for (step, workers) in [(1, 1), (2, 2), (7, 64)] {
-        assert!(rt; is_made_by_streams(&rt, rt.alloc(), step, workers) == Ok(true));
-    }
-}
-
 // What a reader that faults is told as where workers are behind it.
 fn fault_behind<T: Threads + Wait + Sync + Send + Clone + Drop + 'static>(
     rt: &T,
@@ -159,7 +145,16 @@ fn fault_behind<T: Threads + Wait + Sync + Send + Clone + Drop + 'static>(
     }
 }
 
+// How many bytes a read gives at most, and how many workers there are.
+const WAYS: &[(usize, u32)] = &[(1, 1), (2, 2), (7, 64)];
+
 #[test]
-fn tells_a_fault_of_its_reader_to_workers(rt: HostRuntime) {
+fn makes_one_torrent_however_much_a_read_gives(rt: HostRuntime) {
+    assert!(rt; is_made(rt.alloc()));
+    // All is read before an order is refused.
+    assert!(rt; is_refused(rt.alloc()));
+    for (step, workers) in WAYS {
+        assert!(rt; is_made_by_streams(&rt, rt.alloc(), *step, *workers) == Ok(true));
+    }
     assert!(rt; fault_behind(&rt, rt.alloc()) == Ok(Some(InputFault::Read)));
 }

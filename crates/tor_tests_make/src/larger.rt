@@ -1,6 +1,6 @@
 //! Torrents of a long name and of many files, and info hashes; each hash in hexadecimal is of Python's hashlib.
 
-use crate::contents::{are_right, head, made};
+use crate::contents::{head, made};
 use crate::given::{Row, Shape, are, files, joined};
 use std::alloc::{AllocError, Global};
 use std::fmt::Write;
@@ -45,13 +45,7 @@ nnnnnnnnnnnnnnnnnnnnnnnnnnnnnnnnnnnnnnnnnnnnnnnnnnnnnnnnnnnnnnnnnnnnnnnnnnnnnnnn
 nnnnnnnnnnnnnnnnnnnnnnnnnnnnnnnnnnnnnnnnnnnnnnnnnnnnnnnnnnnnnnn\
 12:piece lengthi16384ee12:piece layersdee";
 
-const LONG: &[Row] = &[((Kind::V2, true, 16384, LONG_NAME), LONG_NAME, OF_LONG_NAME)];
-
-#[test]
-fn makes_a_torrent_of_a_long_name(rt: HostRuntime) {
-    assert!(rt; LONG_NAME.len() == 255);
-    assert!(rt; are_right(rt.alloc(), LONG));
-}
+pub(crate) const LONG: &[Row] = &[((Kind::V2, true, 16384, LONG_NAME), LONG_NAME, OF_LONG_NAME)];
 
 /// A thousand files of one byte 7, which have the names 1000 to 1999, from the last one on.
 fn thousand_files(alloc: Global) -> Result<String, AllocError> {
@@ -97,11 +91,6 @@ fn is_of_thousand(alloc: Global) -> bool {
     }
 }
 
-#[test]
-fn makes_a_torrent_of_a_thousand_files(rt: HostRuntime) {
-    assert!(rt; is_of_thousand(rt.alloc()));
-}
-
 /// What is asked for, the files, and the hashes of their torrent.
 const HASHED: &[(Shape, &str, Hashes)] = &[
     ((Kind::V2, true, 16384, "a"), "a=abc", ABC_HASHES),
@@ -131,7 +120,9 @@ fn has_hashes(alloc: Global, shape: &Shape, given: &str, hashes: &Hashes) -> boo
 }
 
 #[test]
-fn tells_info_hashes(rt: HostRuntime) {
+fn makes_a_torrent_of_a_thousand_files_and_tells_info_hashes(rt: HostRuntime) {
+    assert!(rt; LONG_NAME.len() == 255);
+    assert!(rt; is_of_thousand(rt.alloc()));
     for (shape, given, hashes) in HASHED {
         assert!(rt; has_hashes(rt.alloc(), shape, given, hashes));
     }

@@ -25,12 +25,9 @@ const DASHES: &[Row] = &[
     ((Kind::V2, false, 16384, "f"), "a-b=x a/c=y", DASH_V2),
 ];
 
-#[test]
-fn lists_a_folder_before_its_longer_name(rt: HostRuntime) {
-    for row in DASHES {
-        assert!(rt; is_made_in_steps(&rt, row, 1));
-        assert!(rt; is_made_in_steps(&rt, row, 7));
-    }
+/// Whether a row holds in reads of a byte, and of seven.
+fn is_dashed<R: AllocGlobal + Threads + Sync>(rt: &R, row: &Row) -> bool {
+    is_made_in_steps(rt, row, 1) && is_made_in_steps(rt, row, 7)
 }
 
 /// Whether a row holds with one piece a unit, and with two.
@@ -45,11 +42,6 @@ const ONE_BLOCK: &[u8] = b"d4:infod9:file treed1:ad0:d6:lengthi16384e11:pieces r
 eee12:meta versioni2e4:name1:a12:piece lengthi16384ee12:piece layersdee";
 
 const OF_ONE_BLOCK: Row = ((Kind::V2, true, 16384, "a"), "a=#16384", ONE_BLOCK);
-
-#[test]
-fn has_no_layer_of_one_block(rt: HostRuntime) {
-    assert!(rt; is_right(&rt, &OF_ONE_BLOCK));
-}
 
 /// Of a block and a byte.
 const TWO_BLOCKS: &[u8] = b"d4:infod9:file treed1:ad0:d6:lengthi16385e11:pieces root32:\
@@ -66,11 +58,6 @@ eee12:meta versioni2e4:name1:a12:piece lengthi16384ee12:piece layersd32:\
 ee";
 
 const PAST_A_BLOCK: Row = ((Kind::V2, true, 16384, "a"), "a=#16385", TWO_BLOCKS);
-
-#[test]
-fn writes_root_and_layer_past_a_block(rt: HostRuntime) {
-    assert!(rt; is_right(&rt, &PAST_A_BLOCK));
-}
 
 /// Of three blocks.
 const THREE_BLOCKS: &[u8] = b"d4:infod9:file treed1:ad0:d6:lengthi49152e11:pieces root32:\
@@ -90,11 +77,6 @@ ee";
 
 const OF_THREE_BLOCKS: Row = ((Kind::V2, true, 16384, "a"), "a=#49152", THREE_BLOCKS);
 
-#[test]
-fn writes_root_and_layer_of_three_blocks(rt: HostRuntime) {
-    assert!(rt; is_right(&rt, &OF_THREE_BLOCKS));
-}
-
 /// Of five blocks, two blocks a piece.
 const FIVE_BLOCKS: &[u8] = b"d4:infod9:file treed1:ad0:d6:lengthi81920e11:pieces root32:\
 \xec\xc3\x1c\x9c\x67\xd9\xc7\xb8\xc7\xf2\x54\x0d\xf7\x22\x08\xac\
@@ -112,11 +94,6 @@ eee12:meta versioni2e4:name1:a12:piece lengthi32768ee12:piece layersd32:\
 ee";
 
 const OF_FIVE_BLOCKS: Row = ((Kind::V2, true, 32768, "a"), "a=#81920", FIVE_BLOCKS);
-
-#[test]
-fn writes_root_and_layer_of_pieces_of_two_blocks(rt: HostRuntime) {
-    assert!(rt; is_right(&rt, &OF_FIVE_BLOCKS));
-}
 
 /// Of the files `a` and `b` of three blocks each.
 const EQUAL_FILES: &[u8] = b"d4:infod9:file treed1:ad0:d6:lengthi40000e11:pieces root32:\
@@ -143,7 +120,20 @@ const OF_EQUAL_FILES: Row = (
     EQUAL_FILES,
 );
 
+const LAYERED: &[&Row] = &[
+    &OF_ONE_BLOCK,
+    &PAST_A_BLOCK,
+    &OF_THREE_BLOCKS,
+    &OF_FIVE_BLOCKS,
+    &OF_EQUAL_FILES,
+];
+
 #[test]
-fn lists_one_layer_of_equal_files_of_a_source(rt: HostRuntime) {
-    assert!(rt; is_right(&rt, &OF_EQUAL_FILES));
+fn lists_a_folder_before_its_longer_name_and_writes_layers(rt: HostRuntime) {
+    for row in DASHES {
+        assert!(rt; is_dashed(&rt, row));
+    }
+    for row in LAYERED {
+        assert!(rt; is_right(&rt, row));
+    }
 }

@@ -12,7 +12,7 @@ use tor_source::{FailSource, ShortSource, Source};
 use tor_tree::{FilePath, Kind};
 
 /// Each way to share the units.
-const EACH_HOW: [How; 7] = [
+const EACH_HOW: &[How] = &[
     How::One,
     How::Halves(1),
     How::Halves(2),
@@ -71,7 +71,7 @@ pub(crate) fn is_each_answer<S: Source, R: AllocGlobal + Threads + Sync>(
     wanted: &[u8],
 ) -> bool {
     for how in EACH_HOW {
-        order.how = how;
+        order.how = *how;
         if !is_answer(rt, source, paths, order, wanted) {
             return false;
         }
@@ -127,13 +127,9 @@ const MADE: &[Row] = &[
     ((Kind::Hybrid, false, 16384, "f"), "a=ab b=c", FOLDER_HYBRID),
 ];
 
-#[test]
-fn makes_torrents_of_a_source_however_it_is_read(rt: HostRuntime) {
-    for row in MADE {
-        assert!(rt; is_made_in_steps(&rt, row, 1));
-        assert!(rt; is_made_in_steps(&rt, row, 7));
-        assert!(rt; is_made_at_once(&rt, row, 1));
-    }
+/// Whether a row holds however it is read.
+fn is_made_however_read<R: AllocGlobal + Threads + Sync>(rt: &R, row: &Row) -> bool {
+    is_made_in_steps(rt, row, 1) && is_made_in_steps(rt, row, 7) && is_made_at_once(rt, row, 1)
 }
 
 /// Tells of each file that it has so many bytes, and has none; counts what it is asked.
@@ -226,18 +222,11 @@ fn is_each_told<R: AllocGlobal + Threads + Sync>(rt: &R, told: &Told) -> bool {
         return is_told(rt, told, how);
     }
     for how in EACH_HOW {
-        if !is_told(rt, told, how) {
+        if !is_told(rt, told, *how) {
             return false;
         }
     }
     true
-}
-
-#[test]
-fn refuses_orders_and_paths_before_the_source_is_asked(rt: HostRuntime) {
-    for row in REFUSED {
-        assert!(rt; is_each_told(&rt, row));
-    }
 }
 
 /// Files and shapes in which `.pad` is the name of a file or a folder as any.
@@ -247,12 +236,17 @@ const TAKEN: &[Row] = &[
     ((Kind::Hybrid, true, 16384, ".pad"), ".pad=x", b"made"),
 ];
 
+fn is_taken<R: AllocGlobal + Threads + Sync>(rt: &R, row: &Row) -> bool {
+    is_made_in_steps(rt, row, 1) && is_made_in_steps(rt, row, 7) && is_made_in_steps(rt, row, 16384)
+}
+
 #[test]
-fn takes_reserved_names_where_nothing_is_aligned(rt: HostRuntime) {
+fn makes_torrents_of_a_source_however_it_is_read(rt: HostRuntime) {
+    for row in MADE {
+        assert!(rt; is_made_however_read(&rt, row));
+    }
     for row in TAKEN {
-        assert!(rt; is_made_in_steps(&rt, row, 1));
-        assert!(rt; is_made_in_steps(&rt, row, 7));
-        assert!(rt; is_made_in_steps(&rt, row, 16384));
+        assert!(rt; is_taken(&rt, row));
     }
 }
 
@@ -303,13 +297,6 @@ fn is_fault_of_each_kind<R: AllocGlobal + Threads + Sync>(rt: &R, row: &Fault, s
     is_fault(rt, row, V1, span) && is_fault(rt, row, V2, span) && is_fault(rt, row, HYBRID, span)
 }
 
-#[test]
-fn tells_faults_under_the_numbers_handed_in(rt: HostRuntime) {
-    for row in FAULTS {
-        assert!(rt; is_fault_of_each_kind(&rt, row, 1));
-    }
-}
-
 /// Two bytes of one unit of four pieces.
 const IN_ONE_UNIT: &Fault = &(
     "a=#40000",
@@ -317,11 +304,6 @@ const IN_ONE_UNIT: &Fault = &(
     (0, Some(17000), 2),
     b"Read { file: 0, start: Some(17000), fault: 2 }",
 );
-
-#[test]
-fn tells_the_first_byte_that_fails_in_a_unit(rt: HostRuntime) {
-    assert!(rt; is_fault_of_each_kind(&rt, IN_ONE_UNIT, 4));
-}
 
 /// The length that is told of a file with no bytes, and what is answered.
 const LENGTHS: &[Told] = &[
@@ -340,8 +322,12 @@ const LENGTHS: &[Told] = &[
     ((HYBRID_OF_A, "a", b"made"), (1, How::Halves(2)), 0, true),
 ];
 
+/// What is refused before the source is asked, and once it was.
 #[test]
-fn refuses_lengths_that_are_too_large(rt: HostRuntime) {
+fn refuses_orders_and_paths_before_the_source_is_asked(rt: HostRuntime) {
+    for row in REFUSED {
+        assert!(rt; is_each_told(&rt, row));
+    }
     for row in LENGTHS {
         assert!(rt; is_each_told(&rt, row));
     }
@@ -415,7 +401,7 @@ fn is_change<R: AllocGlobal + Threads + Sync>(rt: &R, row: &Change, how: How) ->
 /// Whether a row holds, each way to share the units.
 fn is_each_change<R: AllocGlobal + Threads + Sync>(rt: &R, row: &Change) -> bool {
     for how in EACH_HOW {
-        if !is_change(rt, row, how) {
+        if !is_change(rt, row, *how) {
             return false;
         }
     }
@@ -423,7 +409,11 @@ fn is_each_change<R: AllocGlobal + Threads + Sync>(rt: &R, row: &Change) -> bool
 }
 
 #[test]
-fn tells_which_file_was_changed(rt: HostRuntime) {
+fn tells_faults_under_the_numbers_handed_in(rt: HostRuntime) {
+    for row in FAULTS {
+        assert!(rt; is_fault_of_each_kind(&rt, row, 1));
+    }
+    assert!(rt; is_fault_of_each_kind(&rt, IN_ONE_UNIT, 4));
     for row in CHANGES {
         assert!(rt; is_each_change(&rt, row));
     }

@@ -193,13 +193,6 @@ const MADE: &[Row] = &[
     (HYBRID, "a=ab aa=", EMPTY_AFTER),
 ];
 
-#[test]
-fn makes_torrents_of_readers_however_they_are_read(rt: HostRuntime) {
-    for row in MADE {
-        assert!(rt; is_made_each_way(&rt, row, false));
-    }
-}
-
 /// A torrent that is not made of readers, the span and the workers.
 type Refusal = (Row, u32, How);
 
@@ -242,13 +235,6 @@ fn is_refused<R: AllocGlobal + Abort + Threads + Wait + Sync>(rt: &R, refusal: &
     }
 }
 
-#[test]
-fn refuses_orders_and_paths_before_a_byte_is_read(rt: HostRuntime) {
-    for row in REFUSED {
-        assert!(rt; is_refused(&rt, row));
-    }
-}
-
 /// Whether the fault of a reader that gives `abc` is told with its file, after three bytes, whoever hashes.
 fn is_told<R: AllocGlobal + Abort + Threads + Wait + Sync>(
     rt: &R,
@@ -274,9 +260,22 @@ fn is_told<R: AllocGlobal + Abort + Threads + Wait + Sync>(
     }
 }
 
+/// A fault, and who hashes.
+const FAULTS: &[(ErrorKind, How)] = &[
+    (ErrorKind::Other, How::One),
+    (ErrorKind::Interrupted, How::Board(2)),
+    (ErrorKind::WouldBlock, How::Halves(64)),
+];
+
 #[test]
-fn tells_where_a_reader_failed(rt: HostRuntime) {
-    assert!(rt; is_told(&rt, ErrorKind::Other, How::One));
-    assert!(rt; is_told(&rt, ErrorKind::Interrupted, How::Board(2)));
-    assert!(rt; is_told(&rt, ErrorKind::WouldBlock, How::Halves(64)));
+fn makes_torrents_of_readers_however_they_are_read(rt: HostRuntime) {
+    for row in MADE {
+        assert!(rt; is_made_each_way(&rt, row, false));
+    }
+    for row in REFUSED {
+        assert!(rt; is_refused(&rt, row));
+    }
+    for (kind, how) in FAULTS {
+        assert!(rt; is_told(&rt, *kind, *how));
+    }
 }

@@ -112,13 +112,9 @@ fn is_made_in_memory(alloc: Global, row: &Row) -> bool {
     }
 }
 
-#[test]
-fn pads_the_last_file(rt: HostRuntime) {
-    for row in TAILED {
-        assert!(rt; is_made(&rt, row));
-        assert!(rt; is_made_each_way(&rt, row, true));
-        assert!(rt; is_made_in_memory(rt.alloc(), row));
-    }
+// Whether a row is made of a source, of readers and in memory.
+fn is_padded<R: AllocGlobal + Abort + Threads + Wait + Sync>(rt: &R, row: &Row) -> bool {
+    is_made(rt, row) && is_made_each_way(rt, row, true) && is_made_in_memory(rt.alloc(), row)
 }
 
 // One content in a folder.
@@ -154,13 +150,20 @@ fn is_made_by_workers<T: AllocGlobal + Threads + Wait + Sync + Send + Clone + Dr
     }
 }
 
-#[test]
-fn pads_one_content_in_a_folder(rt: HostRuntime) {
+// Whether it is made both ways.
+fn is_input_padded<T: AllocGlobal + Threads + Wait + Sync + Send + Clone + Drop + 'static>(
+    rt: &T,
+) -> bool {
     match order_of_input(rt.alloc()) {
-        Ok(order) => {
-            assert!(rt; is_made_of_input(rt.alloc(), &order));
-            assert!(rt; is_made_by_workers(&rt, &order));
-        }
-        Err(_) => assert!(rt; false),
+        Ok(order) => is_made_of_input(rt.alloc(), &order) && is_made_by_workers(rt, &order),
+        Err(_) => false,
     }
+}
+
+#[test]
+fn pads_the_last_file(rt: HostRuntime) {
+    for row in TAILED {
+        assert!(rt; is_padded(&rt, row));
+    }
+    assert!(rt; is_input_padded(&rt));
 }
