@@ -104,8 +104,8 @@ fn hash_claimed<W: UnitWork>(
         (IsFault (W.fault work.now facts (unit_at units.now number))) }
     ensures gave { IfErr result (W.gave work.now) }
 {
-    let mut own = begun(work, worker.take())?;
     taken.reserve()?;
+    let mut own = begun(work, worker.take())?;
     let sums = match work.hash(number, &units[number as usize], &mut own) {
         Ok(sums) => sums,
         Err(error) => return Err(error),

@@ -1,6 +1,6 @@
 -- one file more
-use Rattle.std.proofs.Common.{◌≡◌, ◌+◌, ◌<◌, [], length, drop, get_or, arith, ap, sym, subst, ◌∙◌}
-use Rattle.std.proofs.lemmas.List.{drop_more, get_or-map, length-map, map-append}
+use Rattle.std.proofs.Common.{◌≡◌, ◌+◌, ◌<◌, [], length, map, drop, get_or, arith, ap, sym, subst, ◌∙◌}
+use Rattle.std.proofs.lemmas.List.{drop_more, get_or-map, length-map, map-append, take_all}
 use Rattle.tor_merkle.specs.Layer.{piece_layer, root_of}
 use Rattle.tor_engine.specs.Sums.{lists_of}
 use Rattle.tor_engine.proofs.ByFile.{map_next}
@@ -31,4 +31,21 @@ each-preserved g c =
                 ∙ map_next (λ content. piece_layer content p) contents (lists_of c.each.layers.items) _ i there told.2
                 tree.1,
           );
+    }
+
+pub each-init : goal.each-init
+each-init g c = record {
+  may = c.requires;
+  told = λ p contents fit of. (of, c.in_ok-roots.ensures.items, ap lists_of c.in_ok-layers.ensures.items);
+}
+
+pub returns : goal.returns
+returns g c = λ p contents fit of.
+    let i = c.each.size-index in
+    let told = c.each.invariant.told p contents fit of in
+    let all = take_all i contents
+    (omega (arith, c.each-test.false, ap length fit, length-map contents length)) in
+    record {
+      roots = told.1 ∙ ap (map root_of) all;
+      layers = told.2 ∙ ap (map (λ content. piece_layer content p)) all;
     }
