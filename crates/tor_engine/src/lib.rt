@@ -10,7 +10,7 @@
 //!   other; `seats.rt` gives each worker a seat at a board, from which it claims one unit after the other
 //!   (`taking.rt`, `taken.rt`), and `on_board.rt` puts what they took in the order of the units (`places.rt`).
 //!   `failure.rt` tells which of two faults is answered, `roots.rt` the roots of trees where no board does.
-//!   `unit_work.rt` says what a worker does with a unit.
+//!   `unit_work.rt` says what a worker does with a unit. `items.rt` has the item at an index of a list.
 //! - [`work`] (`shares.rt`): one worker at a board, for callers with threads of their own.
 //! - `sum_work.rt` does it for the sums of files. `unit_hash.rt` reads a unit and hashes it by itself, whatever files
 //!   it is of: `reading.rt` has one part read of the source (`file_bytes.rt`), `worker.rt` holds what was read and not

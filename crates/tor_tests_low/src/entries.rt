@@ -10,7 +10,8 @@ use tor_v1::{Entry, pad_entry};
 
 /// The entry of a file in the top folder.
 fn file_entry(alloc: Global, name: &str, length: u64) -> Result<Entry, AllocError>
-    ensures { IfOk result (λ entry. (entry.length ≡ length) × (entry.pad ≡ false)) }
+    ensures { IfOk result (λ entry. (entry.length ≡ length) × (entry.pad ≡ false)
+        × (entry.exec ≡ false) × (entry.hidden ≡ false)) }
 {
     Ok(Entry {
         path: path(alloc, name)?,

@@ -1,6 +1,6 @@
 -- one piece after the other
 use Rattle.std.proofs.Common.{length, inl, inr, ap, ap₂, is_some, [], ◌∷◌, ◌++◌, map, take, sym, ◌∙◌}
-use Rattle.std.proofs.lemmas.List.{map-append, take_more}
+use Rattle.std.proofs.lemmas.List.{map-append, take_all, take_more}
 use Rattle.tor_plan.specs.Pieces.{pieces_of_unit}
 use Rattle.tor_engine.specs.Contents.{contents_in}
 use Rattle.tor_engine.specs.PieceFault.{piece_fault, pieces_fault}
@@ -61,3 +61,27 @@ pieces-preserved g c = record {
       ∙ sym (map-append within (take i pieces) (_ ∷ []))
       ∙ ap (map within) (sym (take_more pieces i _ c.pieces-test.true));
 }
+
+pub returns-clause-summed : goal.returns-clause-summed
+returns-clause-summed g c =
+    let plan = c.args.self.now.plan.now in
+    let items = c.as_slice-piece-items.result.now in
+    let all = take_all c.pieces.piece-index items c.pieces-test.false
+    ∙ c.as_slice-piece-items.ensures.value ∙ c.in_ok-pieces.ensures
+    ∙ ap (λ p. pieces_of_unit p c.args.unit.now) c.piece_length.ensures in
+    record {
+      steady = λ facts steady told.
+          (c.pieces.invariant.hashed facts steady told).0
+          ∙ ap (map (hash_if_there plan (contents_in facts (length plan.lengths)))) all;
+      there = c.pieces.invariant.there ∙ ap (map (is_within c.args.self.now.known.now.lengths.items)) all;
+    }
+
+pub returns-clause-fault : goal.returns-clause-fault
+returns-clause-fault g c = λ facts steady.
+    let plan = c.args.self.now.plan.now in
+    let items = c.as_slice-piece-items.result.now in
+    let all = take_all c.pieces.piece-index items c.pieces-test.false
+    ∙ c.as_slice-piece-items.ensures.value ∙ c.in_ok-pieces.ensures
+    ∙ ap (λ p. pieces_of_unit p c.args.unit.now) c.piece_length.ensures in
+    ap (pieces_fault facts (contents_in facts (length plan.lengths))) (sym all)
+    ∙ (c.pieces.invariant.hashed facts steady.0 steady.1).1
