@@ -17,4 +17,5 @@ pub mod Siblings
 pub mod Sizes
 pub mod Stops
 pub mod StreamFaults
+pub mod SubCommands
 pub mod WithoutFloats

@@ -142,10 +142,16 @@ abbrev pub with_commands : App → List App → App
 with_commands app [] = app
 with_commands app (command ∷ commands) = with_commands (with_subcommand app command.top) commands
 
+-- the commands over whole torrents, and those over single pieces
+abbrev pub torrent_apps : ValueParser → ValueParser → List App
+torrent_apps kinds hows = make_app kinds hows ∷ check_app ∷ file_app (codes "magnet") ∷ []
+
+abbrev pub piece_apps : List App
+piece_apps = prove_app ∷ verify_app ∷ recheck_app ∷ []
+
 -- the program has a version, and wants a command
 abbrev pub tor_app : ValueParser → ValueParser → App
 tor_app kinds hows =
-    with_commands
+    with_commands (with_commands
     (on_top (λ shape. record shape { has_version = true; subcommand_required = true }) (new_app (codes "tor")))
-    (make_app kinds hows ∷ check_app ∷ file_app (codes "magnet") ∷ prove_app ∷ verify_app
-    ∷ recheck_app ∷ [])
+    (torrent_apps kinds hows)) piece_apps

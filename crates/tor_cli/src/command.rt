@@ -1,9 +1,10 @@
 //! The command line: what the words ask for. Here stand help and the version; each command has a file of its own.
 ghost use Rattle.clap.specs.Walk.{texts};
-ghost use Rattle.clap.specs.Words.{app_of};
+ghost use Rattle.clap.specs.Words.{app_of, with_subcommand};
+ghost use Rattle.clap.specs.declared.builder.command.Command.{Command as BuiltCommand};
 ghost use Rattle.clap.specs.declared.builder.value_parser.ValueParser.{ValueParser};
-ghost use Rattle.std.specs.Prelude.{◌≡◌, IfErr, IfOk, IfSome};
-ghost use Rattle.tor_cli.specs.CommandLine.{AreHows, AreKinds, tor_app};
+ghost use Rattle.std.specs.Prelude.{◌≡◌, IfErr, IfOk, IfSome, Ok, true};
+ghost use Rattle.tor_cli.specs.CommandLine.{AreHows, AreKinds, piece_apps, tor_app, torrent_apps, with_commands};
 ghost use Rattle.tor_cli.specs.Words.{Asks, IsOfWords};
 ghost use Rattle.tor_cli.specs.steps.Found.{IsFoundIn};
 
@@ -65,17 +66,45 @@ fn tor_command<'a>(alloc: Global) -> Result<Command<'a>, AllocError>
     ensures { IfOk result (λ command. (kinds hows : ValueParser) × AreKinds kinds × AreHows hows
         × (app_of command ≡ tor_app kinds hows)) }
 {
-    Command::new(alloc, "tor")
+    let top = Command::new(alloc, "tor")
         .version("0.1.0")
         .about("Makes, checks and rechecks BitTorrent metainfo files, and proves single pieces")
         .subcommand_required(true)
-        .bin_name("tor")?
-        .subcommand(make_command(alloc)?)?
-        .subcommand(check_command(alloc)?)?
-        .subcommand(file_command(alloc, "magnet", MAGNET)?)?
-        .subcommand(prove_command(alloc)?)?
-        .subcommand(verify_command(alloc)?)?
-        .subcommand(recheck_command(alloc)?)
+        .bin_name("tor")?;
+    let over_torrents = add_torrent_commands(alloc, top)?;
+    add_piece_commands(alloc, over_torrents)
+}
+
+/// Adds the commands over whole torrents.
+fn add_torrent_commands<'a>(alloc: Global, command: Command<'a>) -> Result<Command<'a>, AllocError>
+    ensures { IfOk result (λ added. (kinds hows : ValueParser) × AreKinds kinds × AreHows hows
+        × (app_of added ≡ with_commands (app_of command.entry) (torrent_apps kinds hows))) }
+{
+    let making = with_command(command, make_command(alloc))?;
+    let checking = with_command(making, check_command(alloc))?;
+    with_command(checking, file_command(alloc, "magnet", MAGNET))
+}
+
+/// Adds the commands over single pieces.
+fn add_piece_commands<'a>(alloc: Global, command: Command<'a>) -> Result<Command<'a>, AllocError>
+    ensures { IfOk result (λ added.
+        app_of added ≡ with_commands (app_of command.entry) piece_apps) }
+{
+    let proving = with_command(command, prove_command(alloc))?;
+    let verifying = with_command(proving, verify_command(alloc))?;
+    with_command(verifying, recheck_command(alloc))
+}
+
+/// The command, and one more below it.
+fn with_command<'a>(
+    command: Command<'a>,
+    below: Result<Command<'a>, AllocError>,
+) -> Result<Command<'a>, AllocError>
+    ensures { IfOk result (λ added. (sub : BuiltCommand) × (below.entry ≡ Ok sub)
+        × ((app_of sub).top.is_plain ≡ true →
+        app_of added ≡ with_subcommand (app_of command.entry) (app_of sub).top)) }
+{
+    command.subcommand(below?)
 }
 
 fn request_of<'a, T: Threads>(
