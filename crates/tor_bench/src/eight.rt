@@ -1,4 +1,5 @@
 //! Hashing eight messages at once, and one after another by the kit's crates.
+ghost use Rattle.std.specs.Prelude.{◌<◌};
 
 use sha1::Sha1;
 use sha2::{Digest, Sha256};
@@ -29,7 +30,7 @@ enum Way {
     EightLayers,
 }
 
-const WAYS: [(&str, Way); 8] = [
+const WAYS: &[(&str, Way)] = &[
     ("blocks", Way::Blocks),
     ("eight-blocks", Way::EightBlocks),
     ("nodes", Way::Nodes),
@@ -44,7 +45,7 @@ const WAYS: [(&str, Way); 8] = [
 pub fn hashed(rt: &HostRuntime, count: usize) -> Result<()> {
     let bytes = zeros(rt.alloc(), 8 * PIECE)?;
     'ways: for (name, way) in WAYS {
-        timed(rt, &bytes, count, name, way)?;
+        timed(rt, &bytes, count, name, *way)?;
     }
     Ok(())
 }
@@ -62,9 +63,9 @@ fn timed(rt: &HostRuntime, bytes: &[u8], count: usize, name: &str, way: Way) -> 
 /// The first byte of each hash, joined.
 fn hashed_by(way: Way, bytes: &[u8]) -> u8 {
     match way {
-        Way::Blocks => blocks(bytes),
+        Way::Blocks => sha256_of_each(bytes, BLOCK),
         Way::EightBlocks => eight_blocks(bytes),
-        Way::Nodes => nodes(bytes),
+        Way::Nodes => sha256_of_each(bytes, NODE),
         Way::EightNodes => eight_nodes(bytes),
         Way::Pieces => pieces(bytes),
         Way::EightPieces => eight_pieces(bytes),
@@ -77,10 +78,12 @@ fn first<const N: usize>(hash: &[u8; N]) -> u8 {
     hash.first().copied().unwrap_or(0)
 }
 
-fn blocks(bytes: &[u8]) -> u8 {
+fn sha256_of_each(bytes: &[u8], size: usize) -> u8
+    requires { 0 < size }
+{
     let mut seen = 0;
-    'blocks: for block in bytes.chunks_exact(BLOCK) {
-        seen ^= first(&Sha256::digest(block));
+    'messages: for message in bytes.chunks_exact(size) {
+        seen ^= first(&Sha256::digest(message));
     }
     seen
 }
@@ -90,14 +93,6 @@ fn eight_blocks(bytes: &[u8]) -> u8 {
     'runs: for run in bytes.chunks_exact(8 * BLOCK) {
         let [hash, ..] = block_hashes(run);
         seen ^= first(&hash);
-    }
-    seen
-}
-
-fn nodes(bytes: &[u8]) -> u8 {
-    let mut seen = 0;
-    'nodes: for node in bytes.chunks_exact(NODE) {
-        seen ^= first(&Sha256::digest(node));
     }
     seen
 }

@@ -20,45 +20,106 @@ mod plain;
 
 use crate::board::{Tally, alone, hashing, round};
 use crate::eight::hashed;
-use crate::foreign::{judged, paired};
+use crate::foreign::{input, judged, paired};
 use crate::lists::{list, lists, paths};
 use crate::plain::{plain, plain_files};
 use std::env;
-use std::io::{Error, ErrorKind, Read, Result};
-use std::time::Instant;
+use std::io::{Error, ErrorKind, Result};
+use std::thread::Threads;
+use std::time::{Clock, Instant};
 use tor_bencode::decode;
 use tor_source::{FolderSource, zeros};
 
 const MAX_CUT: usize = 1 << 24;
 
+/// What is asked for.
+#[derive(Clone, Copy)]
+enum Mode {
+    Input,
+    Files,
+    Decode,
+    Paths,
+    List,
+    Lists,
+    Scan,
+    Check,
+    Pairs,
+    Hashes,
+    BoardUnits,
+    BoardTree,
+    BoardBlocks,
+    BoardRound,
+}
+
+const MODES: &[(&str, Mode)] = &[
+    ("sha1", Mode::Input),
+    ("sha256", Mode::Input),
+    ("both", Mode::Input),
+    ("files-sha1", Mode::Files),
+    ("files-sha256", Mode::Files),
+    ("files-both", Mode::Files),
+    ("decode", Mode::Decode),
+    ("paths", Mode::Paths),
+    ("list", Mode::List),
+    ("lists", Mode::Lists),
+    ("scan", Mode::Scan),
+    ("check", Mode::Check),
+    ("pairs", Mode::Pairs),
+    ("hashes", Mode::Hashes),
+    ("board-units", Mode::BoardUnits),
+    ("board-tree", Mode::BoardTree),
+    ("board-blocks", Mode::BoardBlocks),
+    ("board-round", Mode::BoardRound),
+];
+
 fn main(rt: HostRuntime) -> Result<()> {
     let words: Vec<String> = env::args(&rt)?.collect(rt.alloc())?;
-    let [_, mode, word] = words.as_slice() else {
-        return Err(Error::from(ErrorKind::InvalidInput));
-    };
-    let number = word.parse::<usize>().unwrap_or(MAX_CUT);
-    match mode.as_str() {
-        "board-units" => printed(&rt, alone(&rt, number, false)?),
-        "board-tree" => printed(&rt, alone(&rt, number, true)?),
-        "board-blocks" => printed(&rt, hashing(&rt, number)?),
-        "board-round" => told(&rt, round(&rt, number)?),
-        mode => timed(&rt, mode, word, number),
+    run(&rt, &rt, &words)
+}
+
+fn run<T: AllocGlobal + Clock + Threads + Sync>(
+    threads: &T,
+    rt: &HostRuntime,
+    words: &[String],
+) -> Result<()> {
+    match words {
+        [_, mode, word] => run_mode(threads, rt, mode, word),
+        _ => Err(Error::from(ErrorKind::InvalidInput)),
     }
 }
 
-/// What starts no thread.
-fn timed(rt: &HostRuntime, mode: &str, word: &str, number: usize) -> Result<()> {
-    match mode {
-        "sha1" | "sha256" | "both" => input_hashed(rt, mode, number),
-        "files-sha1" | "files-sha256" | "files-both" => files_hashed(rt, mode, number),
-        "paths" => paths(rt, number),
-        "list" => list(rt, number),
-        "lists" => lists(rt, number),
-        "scan" => scanned(rt, word),
-        "check" => judged(rt),
-        "pairs" => paired(rt, number),
-        "hashes" => hashed(rt, number),
-        _ => decoded(rt),
+fn mode_of(name: &str) -> Option<Mode> {
+    for (mode_name, mode) in MODES {
+        if *mode_name == name {
+            return Some(*mode);
+        }
+    }
+    None
+}
+
+fn run_mode<T: AllocGlobal + Clock + Threads + Sync>(
+    threads: &T,
+    rt: &HostRuntime,
+    name: &str,
+    word: &str,
+) -> Result<()> {
+    let number = word.parse::<usize>().unwrap_or(MAX_CUT);
+    match mode_of(name) {
+        Some(Mode::Input) => input_hashed(rt, name, number),
+        Some(Mode::Files) => files_hashed(rt, name, number),
+        Some(Mode::Decode) => decoded(rt),
+        Some(Mode::Paths) => paths(rt, number),
+        Some(Mode::List) => list(rt, number),
+        Some(Mode::Lists) => lists(rt, number),
+        Some(Mode::Scan) => scanned(rt, word),
+        Some(Mode::Check) => judged(rt),
+        Some(Mode::Pairs) => paired(rt, number),
+        Some(Mode::Hashes) => hashed(rt, number),
+        Some(Mode::BoardUnits) => printed(rt, alone(threads, number, false)),
+        Some(Mode::BoardTree) => printed(rt, alone(threads, number, true)),
+        Some(Mode::BoardBlocks) => printed(rt, hashing(threads, number)),
+        Some(Mode::BoardRound) => told(rt, round(threads, number)),
+        None => Err(Error::from(ErrorKind::InvalidInput)),
     }
 }
 
@@ -72,19 +133,19 @@ fn files_hashed(rt: &HostRuntime, mode: &str, number: usize) -> Result<()> {
     plain_files(rt, &mut buffer, mode)
 }
 
-fn printed(rt: &HostRuntime, numbers: (u128, u64)) -> Result<()> {
-    let (first, second) = numbers;
+fn printed(rt: &HostRuntime, numbers: Result<(u128, u64)>) -> Result<()> {
+    let (first, second) = numbers?;
     println!(rt; "{first} {second}")
 }
 
-fn told(rt: &HostRuntime, round: Tally) -> Result<()> {
+fn told(rt: &HostRuntime, round: Result<Tally>) -> Result<()> {
     let Tally {
         taken,
         units,
         marked,
         joined,
         tops,
-    } = round;
+    } = round?;
     println!(rt; "{taken} {units} {marked} {joined} {tops}")
 }
 
@@ -103,10 +164,13 @@ fn scanned(rt: &HostRuntime, folder: &str) -> Result<()> {
 }
 
 fn decoded(rt: &HostRuntime) -> Result<()> {
-    let mut bytes = Vec::new(rt.alloc());
-    rt.stdin().read_to_end(&mut bytes)?;
-    let start = Instant::now(rt)?;
-    let decodes = decode(rt.alloc(), &bytes).is_ok();
-    let taken = start.elapsed(rt)?.as_micros();
+    let (decodes, taken) = decoding(rt, &input(rt)?)?;
     println!(rt; "{decodes} {taken}")
+}
+
+/// Whether bytes decode, and the microseconds that it takes.
+fn decoding(rt: &HostRuntime, bytes: &[u8]) -> Result<(bool, u128)> {
+    let start = Instant::now(rt)?;
+    let decodes = decode(rt.alloc(), bytes).is_ok();
+    Ok((decodes, start.elapsed(rt)?.as_micros()))
 }

@@ -13,8 +13,16 @@ struct Hashers {
 
 fn hashers_of(mode: &str) -> Hashers {
     Hashers {
-        sha1: (!mode.ends_with("sha256")).then(|| Sha1::new()),
-        sha256: (!mode.ends_with("sha1")).then(|| Sha256::new()),
+        sha1: if mode.ends_with("sha256") {
+            None
+        } else {
+            Some(Sha1::new())
+        },
+        sha256: if mode.ends_with("sha1") {
+            None
+        } else {
+            Some(Sha256::new())
+        },
     }
 }
 
@@ -39,12 +47,21 @@ fn add_file(rt: &HostRuntime, place: &str, buffer: &mut [u8], hashers: &mut Hash
 
 /// Hashes the files of these places as one content.
 pub fn plain_files(rt: &HostRuntime, buffer: &mut [u8], mode: &str) -> Result<()> {
-    let places = places(rt)?;
     let mut hashers = hashers_of(mode);
-    for place in places.lines() {
-        add_file(rt, place, buffer, &mut hashers)?;
-    }
+    add_files(rt, &places(rt)?, buffer, &mut hashers)?;
     finish(hashers);
+    Ok(())
+}
+
+fn add_files(
+    rt: &HostRuntime,
+    places: &str,
+    buffer: &mut [u8],
+    hashers: &mut Hashers,
+) -> Result<()> {
+    for place in places.lines() {
+        add_file(rt, place, buffer, hashers)?;
+    }
     Ok(())
 }
 
@@ -54,17 +71,25 @@ fn add_all<R: Read>(reader: &mut R, buffer: &mut [u8], hashers: &mut Hashers) ->
         if count == 0 {
             break;
         }
-        if let Some(hasher) = &mut hashers.sha1 {
-            hasher.update(&buffer[..count]);
-        }
-        if let Some(hasher) = &mut hashers.sha256 {
-            hasher.update(&buffer[..count]);
-        }
+        add(&buffer[..count], hashers);
     }
     Ok(())
 }
 
+fn add(bytes: &[u8], hashers: &mut Hashers) {
+    if let Some(hasher) = &mut hashers.sha1 {
+        hasher.update(bytes);
+    }
+    if let Some(hasher) = &mut hashers.sha256 {
+        hasher.update(bytes);
+    }
+}
+
 fn finish(hashers: Hashers) {
-    let _sha1: Option<[u8; 20]> = hashers.sha1.map(|hasher| hasher.finalize());
-    let _sha256: Option<[u8; 32]> = hashers.sha256.map(|hasher| hasher.finalize());
+    if let Some(hasher) = hashers.sha1 {
+        let _sha1: [u8; 20] = hasher.finalize();
+    }
+    if let Some(hasher) = hashers.sha256 {
+        let _sha256: [u8; 32] = hasher.finalize();
+    }
 }
