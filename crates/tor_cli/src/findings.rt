@@ -1,5 +1,6 @@
 //! What a source has of a torrent's pieces, and of its files, as so many workers find it.
-ghost use Rattle.std.specs.Prelude.{◌≡◌, ◌≢◌, [], Bool, Err, IfErr, IfOk, MatchResult, None, OnOk, if◌then◌else◌, length};
+ghost use Rattle.std.specs.Prelude.{◌≡◌, ◌≢◌, [], Bool, Err, IfErr, IfOk, MatchResult, None, OnOk, length};
+ghost use Rattle.std.specs.Prelude.{if◌then◌else◌};
 ghost use Rattle.tor_engine.specs.Contents.{contents_in};
 ghost use Rattle.tor_engine.specs.How.{IsHow};
 ghost use Rattle.tor_engine.specs.PieceFault.{lengths_told};

@@ -194,7 +194,8 @@ fn order_of(
 }
 
 fn announce_of(alloc: Global, announce: Option<&str>) -> Result<Option<Vec<u8>>, AllocError>
-    ensures { IfOk result (λ made. option_map (λ bytes. bytes.items) made ≡ option_map (λ url. url.now) announce.entry) }
+    ensures { IfOk result
+        (λ made. option_map (λ bytes. bytes.items) made ≡ option_map (λ url. url.now) announce.entry) }
 {
     match announce {
         Some(url) => Ok(Some(Vec::from_slice(alloc, url.as_bytes())?)),

@@ -48,7 +48,8 @@ module _ (a b index at : ℕ) (label : Label) (m : ℕ) (entries : List Entry) w
   not_met none = cond-false _ _ _ (le-ltb 0 (shared a b at m) none)
 
 -- the padding before a file with bytes, and before an empty one
-pub before_some : (label : Label) (m : ℕ) (entries : List Entry) → 0 < m → padding_before_next (file label m ∷ entries) ≡ 0
+pub before_some : (label : Label) (m : ℕ) (entries : List Entry) → 0 < m
+    → padding_before_next (file label m ∷ entries) ≡ 0
 unfolding padding_before_next
 before_some label m entries some = cond-true _ _ _ (lt-ltb 0 m some)
 

@@ -52,7 +52,8 @@ whole_length = by_whole (λ index entries unit. unit_length unit ≡ entries_len
       rest,
       sum_by-cons entry_length (file label m) entries,
       sum_by-cons part_length (record { file = index; start = 0; length = m; zeros = unit.zeros }) unit.parts,
-    )) (λ index label m entries unit few rest. omega (arith, rest, few, sum_by-cons entry_length (file label m) entries))
+    )) (λ index label m entries unit few rest.
+    omega (arith, rest, few, sum_by-cons entry_length (file label m) entries))
   where
     entry_length : Entry → ℕ
     entry_length entry = entry.length

@@ -54,7 +54,8 @@ module _ (contents : List (List ℕ)) where
     of_file : (index at : ℕ) (label : Label) (m : ℕ) (entries : List Entry) (part : Found) (unit : PlanUnit)
         → part ≡ file_bytes (shared a b at m) (drop (max a at - at) (get_or contents index []))
         → IsMet (index + 1) (at + m) entries unit
-        → part ++ unit_bytes contents unit ≡ between a b at (joined_bytes (file label m ∷ entries) (drop index contents))
+        → part ++ unit_bytes contents unit
+        ≡ between a b at (joined_bytes (file label m ∷ entries) (drop index contents))
     of_file index at label m entries part unit is rest =
         let content = get_or contents index [] in
         let later = drop (index + 1) contents in
@@ -86,10 +87,11 @@ module _ (contents : List (List ℕ)) where
         let n = shared a b at m in
         let s = max a at - at in
         elim (cases_lt 0 n) [
-          | inl some ↦ subst (IsMet index at (file label m ∷ entries)) (sym (met index at label m entries some)) (record {
-            some = (some, rest.some);
-            bytes = part_first index s n later ∙ of_file index at label m entries _ later refl rest;
-          })
+          | inl some ↦
+              subst (IsMet index at (file label m ∷ entries)) (sym (met index at label m entries some)) (record {
+                some = (some, rest.some);
+                bytes = part_first index s n later ∙ of_file index at label m entries _ later refl rest;
+              })
           | inr few ↦
               subst (IsMet index at (file label m ∷ entries)) (sym (not_met index at label m entries few)) (record {
                 some = rest.some;

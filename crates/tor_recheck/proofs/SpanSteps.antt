@@ -83,7 +83,8 @@ count_of_entries : (p start : ℕ) (entries : List Entry)
 count_of_entries p start [] = refl
 count_of_entries p start (entry ∷ entries) =
     entry_cases (λ e. length (joined_spans p start (e ∷ entries)) ≡ length (lengths_of_entries (e ∷ entries)))
-    (λ label m. count_of_entries p (start + m) entries) (λ label m. ap suc (count_of_entries p (start + m) entries)) entry
+    (λ label m. count_of_entries p (start + m) entries)
+    (λ label m. ap suc (count_of_entries p (start + m) entries)) entry
 
 -- one for each file
 pub spans_are_counted : (view : View) → IsCut view → length (file_spans view) ≡ length view.files

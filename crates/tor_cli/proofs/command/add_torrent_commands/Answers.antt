@@ -11,7 +11,9 @@ returns c =
     let (check, is_check, adds_check) = c.in_ok-checking.ensures in
     let (kinds, hows, are, ways, of_make) = there _ _ make is_make c.make_command.ensures in
     let of_check = there _ _ check is_check c.check_command.ensures in
-    let making = adds_make (ap (λ (app : App). app.top.is_plain) of_make) ∙ ap (λ (app : App). with_subcommand (app_of c.args.command) app.top) of_make in
+    let making =
+    adds_make (ap (λ (app : App). app.top.is_plain) of_make)
+    ∙ ap (λ (app : App). with_subcommand (app_of c.args.command) app.top) of_make in
     let checking =
     adds_check (ap (λ (app : App). app.top.is_plain) of_check)
     ∙ ap₂ with_subcommand making (ap (λ (app : App). app.top) of_check) in
