@@ -331,6 +331,9 @@ def test_letters(program, folder):
         changed = edited(root, INFO + (b'files',), entries)
         changed[b'info'][b'pieces'] = bytes(20 * -(-sum(entry[b'length'] for entry in entries) // BLOCK))
         expect_torrent(program, folder, encode(changed), line, f'{line} before the letters')
+    for place, value, line in [(LAYERS, GONE, 'V18 LayersAbsent'), (LAYER, GONE, 'V19 LayerAbsent'),
+                               (LAYER, b'', 'V20 LayerLength'), (LAYER, bytes(96), 'V21 LayerRoot')]:
+        expect_torrent(program, folder, encode(edited(root, place, value)), line, f'{line} before the letters')
 
 
 def test_lenient(program, folder):

@@ -463,12 +463,24 @@ def loosen_tree(rng, root):
             properties[b'mtime'] = 5
         if properties[b'length'] == 0 and rng.random() < 0.5:
             properties[b'pieces root'] = rng.choice([b'', 7, bytes(32)])
+    if b'files' in root[b'info'] and torrent.kind == 'hybrid':
+        loosen_letters(rng, torrent)
     if rng.random() < 0.3:
         tree.setdefault(b'empty folder', {b'below': {}})
     if rng.random() < 0.3:
         root[b'piece layers'][rng.randbytes(32)] = rng.choice([b'', 3, b'x' * 64])
     if rng.random() < 0.3 and not torrent.long_files:
         del root[b'piece layers']
+
+
+def loosen_letters(rng, torrent):
+    """Hybrids: the letters of a file in the list too, where the tree has some the same, in another order."""
+    listed = [entry for entry in torrent.info[b'files'] if b'p' not in entry.get(b'attr', b'')]
+    for entry, (_, properties) in zip(listed, torrent.tree_files):
+        if rng.random() < 0.3:
+            letters = [letter for letter in properties.get(b'attr', rng.choice([b'x', b'hx', b''])) if letter in b'xh']
+            rng.shuffle(letters)
+            entry[b'attr'] = bytes(letters) + rng.choice([b'', b'z'])
 
 
 KEYS = [b'', b'info', b'files', b'length', b'name', b'pieces', b'piece length', b'meta version', b'file tree', b'attr',

@@ -90,6 +90,10 @@ def test_reference_hashes_trees(_program, _folder):
 
 def test_reference_judges(_program, _folder):
     text = ABC, FOLDER_V1, FOLDER_HYBRID
+
+    def sides(tree, listed):
+        return (FOLDER_HYBRID.replace(b'1:bd0:d6', b'1:bd0:d' + tree + b'6')
+                .replace(b'd6:lengthi1e4:path', b'd' + listed + b'6:lengthi1e4:path'))
     rows = [(ABC, None), (FOLDER_V1, None), (FOLDER_HYBRID, None), (b'', 'V1 Bencode B1 Truncated at 0'),
             (b'd1:b0:1:a0:e', 'V1 Bencode B7 KeyOrder at 6'), (b'le', 'V2 RootShape'), (b'de', 'V3 InfoShape'),
             (b'd4:infod12:meta versioni3eee', 'V4 MetaVersion'),
@@ -107,7 +111,10 @@ def test_reference_judges(_program, _folder):
             (text[2].replace(b'd6:lengthi1e4:path', b'd6:lengthi2e4:path'), 'V22 FilesDiffer'),
             (text[2].replace(PADDING, b'').replace(b'40:' + P, b'20:' + P[:20]), 'V23 Alignment'),
             (text[2].replace(b'i16382e', b'i32766e').replace(b'40:', b'60:' + bytes(20)), 'V23 Alignment'),
-            (text[2].replace(b'4:pathl4:.pad5:16382e', b''), None)]
+            (text[2].replace(b'4:pathl4:.pad5:16382e', b''), None),
+            (sides(b'4:attr1:x', b'4:attr1:h'), 'V25 AttrDiffer'), (sides(b'4:attr1:x', b'4:attr0:'), 'V25 AttrDiffer'),
+            (sides(b'4:attr2:hx', b'4:attr2:xh'), None), (sides(b'', b'4:attr1:x'), None),
+            (sides(b'4:attr1:x', b''), None)]
     for row, line in rows:
         expect_equal(repr(row), line, code_of(row))
 
