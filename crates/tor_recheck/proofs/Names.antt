@@ -75,7 +75,7 @@ pub use Rattle.tor_recheck.specs.Bitfield.{bit_of, bitfield, byte_from, set_coun
 pub use Rattle.tor_recheck.specs.Files.{AllHold, AreFewer, AreThere, OneFails}
 pub use Rattle.tor_recheck.specs.Files.{file_found, file_spans, files_found, found_at, has_bytes_of, held_pieces}
 pub use Rattle.tor_recheck.specs.Files.{joined_span, tree_span}
-pub use Rattle.tor_recheck.specs.Findings.{AreFoundWithin, AreWithin}
+pub use Rattle.tor_recheck.specs.Findings.{AreAmong, AreFoundWithin, AreWithin}
 pub use Rattle.tor_recheck.specs.Files.{joined_spans, no_span, pieces_of_file, state_of, tree_spans}
 pub use Rattle.tor_recheck.specs.Pieces.{IsCut, count_of_pieces, entries_to_cut, has_root, has_sha1, hashes_of_file}
 pub use Rattle.tor_recheck.specs.Pieces.{is_right, no_file, part_root, piece_root, pieces_of, root_of_parts}

@@ -5,6 +5,7 @@ use Rattle.tor_recheck.proofs.Names.{get_or-map-range_with_len, get_or_past, len
 use Rattle.tor_recheck.proofs.Names.{cases_Bool, cond-false, cond-true, is_some, PieceHash, View, empty_unit}
 use Rattle.tor_recheck.proofs.Names.{pieces_of, has_v2, HaveHashesOf, AreWithin, is_within, all_held, all_judged}
 use Rattle.tor_recheck.proofs.Names.{all_merkle_judged, is_found, is_merkle_found, judged, merkle_judged, subst}
+use Rattle.tor_recheck.proofs.Names.{AreAmong, and_parts, is_told}
 
 -- past the end there is no bit that is set
 set_at : {A : Type 0} (f : A → Bool) (xs : List A) (k : ℕ) (d : A) → get_or (map f xs) k false ≡ true
@@ -28,6 +29,33 @@ found_is_some (Some hash) sum root is = refl
 merkle_is_some : (hash : Option PieceHash) (root : List ℕ) → is_merkle_found hash root ≡ true → is_some hash ≡ true
 merkle_is_some None root is = is
 merkle_is_some (Some hash) root is = refl
+
+-- what has both hashes has the Merkle hash
+found_is_merkle : (hash : Option PieceHash) (sum root : List ℕ) → is_found hash sum root ≡ true
+    → is_merkle_found hash root ≡ true
+found_is_merkle None sum root is = is
+found_is_merkle (Some hash) sum root is = (and_parts (is_told hash.v1 sum) (is_told hash.v2 root) is).1
+
+-- what one function says of a place in a range another says of it too
+set_by_other : (f g : ℕ → Bool) (n k : ℕ) → (f k ≡ true → g k ≡ true)
+    → get_or (map f (range_with_len 0 n)) k false ≡ true → get_or (map g (range_with_len 0 n)) k false ≡ true
+set_by_other f g n k more is = elim (cases_lt k n) [
+  | inl lt ↦ get_or-map-range_with_len g 0 n k k false lt (omega arith) ∙ more (set_in_range f n k is)
+  | inr ge ↦ absurd (false≢true (sym (get_or_past (map f (range_with_len 0 n)) k false
+      (omega (arith, ge, length-map-range_with_len f 0 n))) ∙ is))
+]
+
+-- what is right holds
+pub right_are_held : (view : View) (hashes : List (Option PieceHash))
+    → AreAmong (all_judged view hashes) (all_held view hashes)
+right_are_held view hashes k is = elim (cases_Bool (has_v2 view.kind)) [
+  | inl two ↦ subst (λ (bits : List Bool). get_or bits k false ≡ true)
+      (sym (cond-true (has_v2 view.kind) (all_merkle_judged view hashes) (all_judged view hashes) two))
+      (set_by_other (judged view hashes) (merkle_judged view hashes) (length hashes) k
+      (found_is_merkle (get_or hashes k None) _ _) is)
+  | inr none ↦ subst (λ (bits : List Bool). get_or bits k false ≡ true)
+      (sym (cond-false (has_v2 view.kind) (all_merkle_judged view hashes) (all_judged view hashes) none)) is
+]
 
 module _ (view : View) (told : List (Option ℕ)) (hashes : List (Option PieceHash))
     (there : HaveHashesOf told (pieces_of view) hashes) where

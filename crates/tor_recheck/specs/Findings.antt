@@ -7,6 +7,7 @@ use Rattle.tor_recheck.specs.Pieces.{pieces_of}
 use Rattle.tor_recheck.specs.declared.files.FileFound.{FileFound}
 use Rattle.tor_recheck.specs.declared.rechecking_files.Findings.{Findings}
 use Rattle.tor_spec.specs.valid.View.{View}
+use Rattle.tor_tree.specs.Kinds.{has_v2}
 
 -- each of these pieces lies within these lengths of the files
 abbrev pub AreWithin : View → List (Option ℕ) → List Bool → Type 0
@@ -18,10 +19,16 @@ AreWithin view told bits =
 abbrev pub lengths_of : Findings → List (Option ℕ)
 lengths_of found = map (λ (file : FileFound). file.there) found.files.items
 
--- what is told of the files are their lengths, and what some pieces tell that hold; each of these lies within these
--- very lengths, and so does each piece that is told to be right
+-- each piece of the one list is one of the other
+abbrev pub AreAmong : List Bool → List Bool → Type 0
+AreAmong bits others = (piece : ℕ) → slice_index_or bits piece false ≡ true → slice_index_or others piece false ≡ true
+
+-- what is told of the files are their lengths, and what some pieces tell that hold: without version 2 those that are
+-- told to be right, and with it these and perhaps others; each of them lies within these very lengths
 pub record AreFoundWithin (view : View) (found : Findings) : Type 0 where
   pub held : List Bool
   pub files : found.files.items ≡ files_found view (lengths_of found) held
+  pub right_held : AreAmong found.bits held
+  pub by_bits : has_v2 view.kind ≡ false → held ≡ found.bits
   pub held_within : AreWithin view (lengths_of found) held
   pub right_within : AreWithin view (lengths_of found) found.bits

@@ -1,11 +1,12 @@
 -- the hashes, the lengths, and what these tell of the files
 use Rattle.tor_recheck.proofs.Names.{◌≡◌, ◌∙◌, ℕ, List, Option, ap, ap₂, length, map, subst, sym, contents_in, all_held}
-use Rattle.tor_recheck.proofs.Names.{Bool, all_judged, file_spans, files_found, AreWithin, FileFound, HasTold}
+use Rattle.tor_recheck.proofs.Names.{Bool, all_judged, all_merkle_judged, AreAmong, cond-false, file_spans, files_found, has_v2}
+use Rattle.tor_recheck.proofs.Names.{AreWithin, FileFound, HasTold}
 use Rattle.tor_recheck.proofs.HeldPieces.{judged_is_held}
 use Rattle.tor_recheck.proofs.FoundLengths.{lengths_kept}
 use Rattle.tor_recheck.proofs.Rechecked.{count_of_judged, judged_is_verified}
 use Rattle.tor_recheck.proofs.SpanSteps.{spans_are_counted}
-use Rattle.tor_recheck.proofs.Within.{held_within, judged_within}
+use Rattle.tor_recheck.proofs.Within.{held_within, judged_within, right_are_held}
 use Rattle.tor_recheck.proofs.rechecking_files.recheck_files.Goals as goal
 
 pub returns-clause-found : goal.returns-clause-found
@@ -51,13 +52,17 @@ returns-clause-there g c =
     c.in-Ok.ensures.counted.1 ∙ sym (spans_are_counted view c.in-Ok.ensures.cut) in
     let told = ap (map (λ (file : FileFound). file.there)) c.in_ok-files.ensures.found
     ∙ lengths_kept view lengths held count in
+    let right : c.in_ok-bits.bits ≡ all_judged view hashes =
+    c.in_ok-bits.ensures ∙ ap (all_judged view) c.deref.ensures.value in
     record {
       held = held;
       files = c.in_ok-files.ensures.found ∙ ap (λ (sizes : List (Option ℕ)). files_found view sizes held) (sym told);
+      right_held = subst (λ (bits : List Bool). AreAmong bits held) (sym right) (right_are_held view hashes);
+      by_bits = λ none. cond-false (has_v2 view.kind) (all_merkle_judged view hashes) (all_judged view hashes) none
+          ∙ sym right;
       held_within = subst (λ (sizes : List (Option ℕ)). AreWithin view sizes held) (sym told)
           (held_within view lengths hashes c.in-Ok.ensures.there);
       right_within = subst (λ (sizes : List (Option ℕ)). AreWithin view sizes c.in_ok-bits.bits) (sym told)
           (subst (λ (bits : List Bool). AreWithin view lengths bits)
-          (sym (c.in_ok-bits.ensures ∙ ap (all_judged view) c.deref.ensures.value))
-          (judged_within view lengths hashes c.in-Ok.ensures.there));
+          (sym right) (judged_within view lengths hashes c.in-Ok.ensures.there));
     }
