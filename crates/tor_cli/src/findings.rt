@@ -1,11 +1,12 @@
 //! What a source has of a torrent's pieces, and of its files, as so many workers find it.
 ghost use Rattle.std.specs.Prelude.{◌≡◌, ◌≢◌, [], Bool, Err, IfErr, IfOk, MatchResult, None, OnOk, length};
-ghost use Rattle.std.specs.Prelude.{if◌then◌else◌};
+ghost use Rattle.std.specs.Prelude.{if◌then◌else◌, true};
 ghost use Rattle.tor_engine.specs.Contents.{contents_in};
 ghost use Rattle.tor_engine.specs.How.{IsHow};
 ghost use Rattle.tor_engine.specs.PieceFault.{lengths_told};
 ghost use Rattle.tor_engine.specs.declared.how.How.TheVariants.{Board};
 ghost use Rattle.tor_recheck.specs.Files.{files_found, held_pieces};
+ghost use Rattle.tor_recheck.specs.Findings.{AreFoundWithin};
 ghost use Rattle.tor_recheck.specs.Recheck.{IsFault, IsGiven, first_fault};
 ghost use Rattle.tor_recheck.specs.declared.errors.RecheckError.TheVariants.{Workers};
 ghost use Rattle.tor_source.specs.Source.{SourceFacts};
@@ -38,6 +39,7 @@ pub fn findings_of<S: Source, T: Threads + Sync>(
         (held_pieces torrent.now (contents_in facts (length torrent.now.files))) else []))
         × (first_fault facts torrent.now ≡ None))
         (IsFault (first_fault facts torrent.now)) }
+    ensures there { IfOk result (λ told. lists ≡ true → AreFoundWithin torrent.now told) }
     ensures refused { (IsHow (Board workers) → ⊥) → result ≡ Err Workers }
     ensures workers { OnOk result (IsHow (Board workers)) }
     ensures allowed { IsHow (Board workers) → IfErr result (λ error. error ≢ Workers) }
