@@ -9,15 +9,12 @@ ghost use Rattle.tor_merkle.specs.steps.Blocks.{FitsBlock, FitsRun};
 
 use crate::hash::Hash;
 use crate::pieces::PieceTree;
+use crate::run::{LEAST_RUN, RUN_LENGTH, run_leaves};
 use crate::trail::History;
 use crate::{BLOCK_LENGTH, MAX_LENGTH};
 use sha2::{Digest, Sha256};
 use std::alloc::{AllocError, Global};
 use std::marker::Model;
-use tor_hashes::block_hashes;
-
-// The hashes of so many bytes, eight blocks, are computed at once.
-const RUN_LENGTH: usize = 8 * BLOCK_LENGTH;
 
 // The running hash of the present block, and the tree over the blocks before it.
 #[derive(Drop)]
@@ -82,8 +79,9 @@ impl BlockHasher {
     {
         let mut rest = bytes;
         'parts: while !rest.is_empty() {
-            if self.count % BLOCK_LENGTH as u64 == 0 && rest.len() >= RUN_LENGTH {
-                let (run, later) = rest.split_at(RUN_LENGTH);
+            if self.count % BLOCK_LENGTH as u64 == 0 && rest.len() >= LEAST_RUN {
+                let blocks = rest.len().min(RUN_LENGTH) / BLOCK_LENGTH;
+                let (run, later) = rest.split_at(blocks * BLOCK_LENGTH);
                 self.add_run(run);
                 rest = later;
             } else {
@@ -95,7 +93,7 @@ impl BlockHasher {
         }
     }
 
-    // Adds eight whole blocks, where none is begun.
+    // Adds at most eight whole blocks, where none is begun.
     fn add_run(&mut self, run: &[u8])
         requires { FitsRun self.old run.now }
         ensures height { self.new.height ≡ self.old.height }
@@ -103,9 +101,10 @@ impl BlockHasher {
         ensures capacity { self.old.capacity ≤ self.new.capacity }
     {
         let fed = self.fed.with(run);
-        let leaves = block_hashes(run);
-        self.tree.push_eight(&leaves);
-        self.count += RUN_LENGTH as u64;
+        let leaves = run_leaves(run);
+        let (own, _) = leaves.as_slice().split_at(run.len() / BLOCK_LENGTH);
+        self.tree.push_all(own);
+        self.count += run.len() as u64;
         self.fed = fed;
     }
 

@@ -83,13 +83,13 @@ impl PieceTree {
         self.leaves = leaves;
     }
 
-    // Adds the leaves of the next eight blocks.
-    pub(crate) fn push_eight(&mut self, leaves: &[Hash; 8])
-        requires small { length self.old.leaves + 8 ≤ 2 ^ 36 }
-        requires room { div_ceil (length self.old.leaves + 8) (2 ^ self.old.height) ≤ self.old.capacity }
+    // Adds the leaves of the next blocks.
+    pub(crate) fn push_all(&mut self, leaves: &[Hash])
+        requires small { length self.old.leaves + length leaves.now ≤ 2 ^ 36 }
+        requires room { div_ceil (length self.old.leaves + length leaves.now) (2 ^ self.old.height)
+            ≤ self.old.capacity }
         ensures height { self.new.height ≡ self.old.height }
         ensures leaves { self.new.leaves ≡ self.old.leaves ++ leaves.now }
-        ensures eight { length leaves.now ≡ 8 }
         ensures capacity { self.old.capacity ≤ self.new.capacity }
     {
         'leaves: for leaf in leaves {

@@ -39,9 +39,10 @@ pub record FitsBlock (blocks : Blocks) (part : List ℕ) : Type 0 where
   pub small : length blocks.bytes + length part ≤ MAX_LENGTH
   pub room : div_ceil (length blocks.bytes + length part) (BLOCK_LENGTH * 2 ^ blocks.height) ≤ blocks.capacity
 
--- eight whole blocks more, where none is begun
+-- some whole blocks more, at most eight, where none is begun
 pub record FitsRun (blocks : Blocks) (run : List ℕ) : Type 0 where
   pub whole : length blocks.bytes % BLOCK_LENGTH ≡ 0
-  pub long : length run ≡ 8 * BLOCK_LENGTH
+  pub cut : length run % BLOCK_LENGTH ≡ 0
+  pub few : length run ≤ 8 * BLOCK_LENGTH
   pub small : length blocks.bytes + length run ≤ MAX_LENGTH
   pub room : div_ceil (length blocks.bytes + length run) (BLOCK_LENGTH * 2 ^ blocks.height) ≤ blocks.capacity

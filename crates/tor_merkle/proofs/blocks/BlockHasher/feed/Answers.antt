@@ -32,7 +32,8 @@ add_run-requires c =
     let cut = c.split_at.ensures in
     record {
       whole = omega (arith, c.self.invariant.counted, c.if-self-eq0.true, ap (λ v. length v.bytes) c.self.view_is);
-      long = cut.front_len;
+      cut = omega (arith, cut.front_len);
+      few = omega (arith, cut.front_len);
       small = omega (arith, all, cut.front_len, cut.back_len, c.requires.small);
       room =
           rw c.parts.invariant.height

@@ -1,7 +1,7 @@
 -- each leaf is one of those for whose pieces there is room
 use Rattle.tor_merkle.proofs.Names.{◌+◌, ◌^◌, length, arith, ap, le_trans, pow_pos, length-append, length-take}
 use Rattle.tor_merkle.proofs.Ceil.{ceil_mono}
-use Rattle.tor_merkle.proofs.pieces.PieceTree.push_eight.Goals as goal
+use Rattle.tor_merkle.proofs.pieces.PieceTree.push_all.Goals as goal
 
 pub push-requires-clause-room : goal.push-requires-clause-room
 push-requires-clause-room c =
@@ -9,6 +9,6 @@ push-requires-clause-room c =
     let all = simp (length-append, length-take) at (ap length c.leaves.invariant.all) in
     rw c.leaves.invariant.height
     (le_trans
-    (ceil_mono (length c.leaves.self.leaves) (length now.leaves + 8) (2 ^ now.height)
+    (ceil_mono (length c.leaves.self.leaves) (length now.leaves + length c.args.leaves.now) (2 ^ now.height)
     (pow_pos now.height) (omega (arith, all, c.told-leaves)))
     (le_trans c.requires.room c.leaves.invariant.capacity))

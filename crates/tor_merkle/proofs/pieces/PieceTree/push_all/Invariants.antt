@@ -1,6 +1,6 @@
 -- the leaves of the slice that came so far were added
 use Rattle.tor_merkle.proofs.Names.{◌≡◌, ◌≤◌, ◌++◌, take}
-use Rattle.tor_merkle.proofs.pieces.PieceTree.push_eight.Given as goal
+use Rattle.tor_merkle.proofs.pieces.PieceTree.push_all.Given as goal
 
 abbrev pub invariant-leaves : goal.invariant-leaves
 invariant-leaves l = record {
