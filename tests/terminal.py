@@ -19,6 +19,8 @@ AMOUNT = rb'(?:(\d+) B|(\d+\.\d) (KiB|MiB|GiB|TiB))'
 TIME = rb'(?:(\d+) h (\d+) min|(\d+) min (\d+) s|(\d+) s)'
 LINE = re.compile(rb'\r' + AMOUNT + rb' of ' + AMOUNT + rb', ' + AMOUNT + rb'/s, ' + TIME + rb' left\x1b\[K')
 ERASED = b'\r\x1b[K'
+# Seconds from one print to the next.
+INTERVAL = 0.25
 
 
 def terminal():
@@ -90,7 +92,8 @@ def seconds(groups):
 
 
 def check_line(line, at, total):
-    """That one line is true to itself and to the clock: answers how many bytes it says were read."""
+    """That one line is true to itself and to the clock: answers how many bytes it says were read, and the least and the
+    most seconds after which it says so."""
     match = LINE.fullmatch(line)
     if not match:
         raise Failure(f'no line of progress: {line!r}')
@@ -108,28 +111,30 @@ def check_line(line, at, total):
     # The clock of this test began before the program's, and each line is read after it was printed.
     if speed + speed_step < read / (at + 0.5) * 0.9:
         raise Failure(f'{read} bytes after {at} seconds: {line!r}')
-    return read
+    return read, (read / (speed + speed_step), (read + read_step) / max(speed, 1))
 
 
 def check_lines(parts, shown, total, ending):
-    """That so many lines came, the next ones after a quarter of a second each, and then the ending."""
+    """That so many lines came, the next ones after a quarter of a second each, and then the ending. When a line was
+    printed it tells itself: this test may read it late, and then two at once."""
     if not shown.endswith(ending):
         raise Failure(f'does not end in {ending!r}: {shown[-300:]!r}')
     lines = LINE.findall(shown)
     rest = LINE.sub(b'', shown)
     if rest != ending or not lines:
         raise Failure(f'wanted lines of progress and {ending!r}, came {shown!r}')
-    last, before = 0, 0.0
+    last, before, count = 0, 0.0, 0
     for at, part in parts:
         for match in LINE.finditer(part):
-            read = check_line(match[0], at, total)
+            read, (least, most) = check_line(match[0], at, total)
             if read < last:
                 raise Failure(f'fewer bytes than before: {match[0]!r}')
             last = read
-            if at - before < 0.1:
-                raise Failure(f'a line after {at - before} seconds: {match[0]!r}')
-            before = at
-    return len(lines)
+            count += 1
+            if most - before < INTERVAL or at < INTERVAL * count:
+                raise Failure(f'a line {most - before} seconds after the last, the {count}th after {at}: {match[0]!r}')
+            before = least
+    return before
 
 
 def sparse(folder, size, name='sparse'):
@@ -181,17 +186,15 @@ def test_of_a_folder_by_workers(program, folder):
 
 
 def passes_of(parts):
-    """What came of each pass, which ends as its line is erased, and of what follows the last; the times of each are
-    counted from the end of the one before."""
-    passes, begun = [[]], 0.0
+    """What came of each pass, which ends as its line is erased, and of what follows the last."""
+    passes = [[]]
     for at, part in parts:
         *fronts, rest = part.split(ERASED)
         for front in fronts:
-            passes[-1].append((at - begun, front + ERASED))
+            passes[-1].append((at, front + ERASED))
             passes.append([])
-            begun = at
         if rest:
-            passes[-1].append((at - begun, rest))
+            passes[-1].append((at, rest))
     return passes
 
 
@@ -207,8 +210,10 @@ def test_of_both_passes_of_check_after(program, folder):
         expect_equal(f'{words}: status, and whether the torrent comes', (0, True), (told.status, told.out == made))
         *passes, rest = passes_of(parts)
         expect_equal(f'{words}: passes that show it, and what follows', (2, []), (len(passes), rest))
+        begun = 0.0
         for lines in passes:
-            check_lines(lines, b''.join(part for _, part in lines), SIZE, ERASED)
+            timed = [(at - begun, part) for at, part in lines]
+            begun += check_lines(timed, b''.join(part for _, part in lines), SIZE, ERASED)
     os.close(typed)
     os.close(keyboard)
 
