@@ -17,6 +17,8 @@ OLD = b'old ' * 1000
 # Thirteen pieces: more than the lane of two workers has room for.
 LONG = bytes(range(250)) * 800
 CONTENTS = [((b'a',), b'ab'), ((b'b', b'c'), LONG), ((b'b', b'd'), b''), ((b'e',), b'c')]
+# The letters of the files that have some.
+LETTERS = {(b'a',): b'hx', (b'b', b'd'): b'x'}
 WAYS = [('one', 1), ('halves', 2), ('board', 2), ('streams', 2)]
 KINDS = ['v1', 'v2', 'hybrid']
 
@@ -64,13 +66,14 @@ def lay_out(place):
     for kind in KINDS:
         (place / f'{kind}.torrent').write_bytes(torrent_of(kind, False))
         (place / f'{kind}-file.torrent').write_bytes(torrent_of(kind, True))
+    (place / 'attrs').write_bytes(b'x b/d\nhx a\n')
     (place / 'no.torrent').write_bytes(torrent_of('v2', True)[:-1])
     (place / 'proof').write_bytes(reference.prove(judge(torrent_of('v2', True)), 0, 1))
 
 
-def torrent_of(kind, single):
+def torrent_of(kind, single, letters=None):
     contents = [((b'f',), LONG)] if single else CONTENTS
-    return reference.make(contents, Order(kind, single, b'f', BLOCK, None, False, 'one', 1, 1))
+    return reference.make(contents, Order(kind, single, b'f', BLOCK, None, False, 'one', 1, 1), letters)
 
 
 def content_of(place, single):
@@ -85,6 +88,15 @@ def make_case(place, kind, way, single, out):
     words = ['make', '--name', 'f', '--kind', kind, '--piece-length', BLOCK, '--span', 1, '--how', way[0],
              '--workers', way[1], path]
     return Case(words, right_of(torrent_of(kind, single)), path=path, files=files, out=out)
+
+
+def attrs_case(place, kind, way, out):
+    """The same of a folder some of whose files have letters. What has them is read as a torrent is."""
+    made = make_case(place, kind, way, False, None)
+    path, files = content_of(place, False)
+    attrs = place / 'attrs'
+    return Case([*made.words, '--attrs', attrs], right_of(torrent_of(kind, False, LETTERS)), path=path, files=files,
+                torrent=attrs, out=out)
 
 
 def after_case(place, kind, way, single, out):
@@ -113,6 +125,7 @@ def make_cases(place):
         for kind, way in [('v1', ('streams', 2)), ('hybrid', ('board', 2))]:
             yield after_case(place, kind, way, False, out)
             yield after_case(place, kind, way, True, out)
+            yield attrs_case(place, kind, way, out)
         words = ['make', '--name', 'f', '--span', 3]
         yield Case(words, refused('M3 Span'), given=place / 'file', out=out)
         yield Case([*words, place / 'folder'], refused('M3 Span'), path=place / 'folder', out=out)
@@ -278,16 +291,18 @@ def test_memory_in_turn(program, folder):
     torrent = folder / 'hybrid.torrent'
     check = Case(['check', torrent], right_of(reference.check_lines(judge(torrent.read_bytes()))), torrent=torrent)
     made = [make_case(folder, 'hybrid', way, False, None) for way in WAYS]
-    for case in [check, recheck_case(folder, 'hybrid', False), *made]:
+    lettered = attrs_case(folder, 'hybrid', WAYS[0], None)
+    for case in [check, recheck_case(folder, 'hybrid', False), *made, lettered]:
         sweep(refuser, case, 'm')
 
 
 def test_of_files_that_are_looked_at_once_more(program, folder):
-    """Each call upon the files is refused in turn, and each thread."""
+    """Each call upon the files is refused in turn, and each thread; and upon a file of letters."""
     lay_out(folder)
     refuser = Refuser(program, folder)
     for case in [after_case(folder, 'v1', ('streams', 2), False, folder / 'out'),
-                 after_case(folder, 'hybrid', ('board', 2), True, None)]:
+                 after_case(folder, 'hybrid', ('board', 2), True, None),
+                 attrs_case(folder, 'v2', ('board', 2), folder / 'out')]:
         for kinds in 'solrt':
             sweep(refuser, case, kinds)
 

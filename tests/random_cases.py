@@ -198,11 +198,40 @@ def lay_out(place, files):
             file.write(content)
 
 
-def made(files, order):
+def random_letters(rng, paths):
+    """The text of a file of letters, mostly one for these paths; None where there is none."""
+    if rng.random() < 0.6:
+        return None
+    named = [path for path in paths if b'\n' not in b''.join(path)]
+    lines = [rng.choice([b'x', b'h', b'hx']) + b' ' + b'/'.join(path)
+             for path in rng.sample(named, rng.randint(0, len(named)))]
+    if rng.random() < 0.1:
+        lines.insert(rng.randint(0, len(lines)), rng.choice(
+            [b'', b'x', b'x ', b'xh a', b'x no such file', b'x ..', b'x a/../a', b'l a', b'x\xff', *lines[:1]]))
+    text = b''.join(line + b'\n' for line in lines)
+    return text[:-1] if rng.random() < 0.02 else text
+
+
+def made(files, order, text=None):
+    """What comes of files whose letters are in a text, if there is one. It is read once the paths are known, and the
+    rest is judged after it."""
+    letters = None
+    if text is not None and not reference.name_fault(order.name):
+        letters = reference.letters_in(text, {path for path, _ in files})
+        if letters is None:
+            return refused('bad attrs')
     try:
-        return done(make(files, order))
+        return done(make(files, order, letters))
     except Refused as refusal:
         return refused(refusal.line)
+
+
+def attrs_words(place, text):
+    """The words that name a file of letters, if there is one."""
+    if text is None:
+        return []
+    (place / 'attrs').write_bytes(text)
+    return [b'--attrs=' + os.fsencode(place / 'attrs')]
 
 
 # The kinds of cases.
@@ -220,9 +249,11 @@ def case_of_path(rng, program, place):
         lay_out(content, files)
         for _ in range(rng.choice([0, 0, 0, 1, 3])):
             (content / f'no file {rng.randrange(9)}' / 'below').mkdir(parents=True, exist_ok=True)
-    wanted = made(files, order)
+    text = random_letters(rng, [path for path, _ in files])
+    wanted = made(files, order, text)
     # Of files that stay as they are it changes nothing.
-    words = words_of(rng, order, os.fsencode(content), *[b'--check-after'] * (rng.random() < 0.3))
+    words = words_of(rng, order, os.fsencode(content), *attrs_words(place, text),
+                     *[b'--check-after'] * (rng.random() < 0.3))
     torrent = make_out(rng, program, place, words, wanted, b'not read')
     if torrent is not None:
         tell(rng, program, place, torrent)
@@ -250,8 +281,9 @@ def case_of_input(rng, program, place):
     data = random_content(rng, random_length(rng, min(order.piece_length, 1 << 20), 5 << 20), [])
     # A unit that is too long for a stream is not refused: what comes then does not go through one.
     judged = order._replace(how='board') if order.how == 'streams' else order
-    wanted = made([((order.name,), data)], judged)
-    torrent = make_out(rng, program, place, words_of(rng, order), wanted, data)
+    text = random_letters(rng, [(order.name,)])
+    wanted = made([((order.name,), data)], judged, text)
+    torrent = make_out(rng, program, place, words_of(rng, order, *attrs_words(place, text)), wanted, data)
     if torrent is not None:
         tell(rng, program, place, torrent)
 

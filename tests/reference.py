@@ -244,8 +244,10 @@ def order_fault(order, paths):
     return None
 
 
-def make(files, order):
-    """The torrent of files, which are pairs of a path (a tuple of names) and a content."""
+def make(files, order, letters=None):
+    """The torrent of files, which are pairs of a path (a tuple of names) and a content. By path, `letters` has what
+    `attr` says of a file (BEP 47): `h`, `x` or `hx`."""
+    letters = letters or {}
     files = sorted(files)
     fault = name_fault(order.name) or order_fault(order, [path for path, _ in files])
     if fault:
@@ -253,19 +255,19 @@ def make(files, order):
     root = {}
     if order.announce is not None:
         root[b'announce'] = order.announce
-    root[b'info'] = info_of(files, order)
+    root[b'info'] = info_of(files, order, letters)
     if order.kind != 'v1':
         root[b'piece layers'] = layers_of(files, order.piece_length)
     return encode(root)
 
 
-def info_of(files, order):
+def info_of(files, order, letters):
     info = {b'name': order.name, b'piece length': order.piece_length}
     if order.is_private:
         info[b'private'] = 1
     if order.kind != 'v1':
         info[b'meta version'] = 2
-        info[b'file tree'] = tree_of(files)
+        info[b'file tree'] = tree_of(files, letters)
     if order.kind != 'v2':
         is_aligned = order.kind == 'hybrid' and not order.single
         entries = entries_of(files, order.piece_length, is_aligned, order.tail)
@@ -274,18 +276,24 @@ def info_of(files, order):
                                    for at in range(0, len(joined), order.piece_length))
         if order.single:
             info[b'length'] = len(joined)
+            info.update(attr_of(letters.get(files[0][0])))
         else:
-            info[b'files'] = [spelled_entry(path, length, content) for path, length, content in entries]
+            info[b'files'] = [spelled_entry(path, length, content, letters) for path, length, content in entries]
     return info
 
 
-def tree_of(files):
+def attr_of(letters):
+    """The key `attr` where there are letters."""
+    return {b'attr': letters} if letters else {}
+
+
+def tree_of(files, letters):
     tree = {}
     for path, content in files:
         folder = tree
         for name in path:
             folder = folder.setdefault(name, {})
-        folder[b''] = {b'length': len(content)}
+        folder[b''] = {b'length': len(content), **attr_of(letters.get(path))}
         if content:
             folder[b''][b'pieces root'] = root_of(leaves(content))
     return tree
@@ -311,11 +319,21 @@ def entries_of(files, piece_length, is_aligned, has_tail):
     return entries
 
 
-def spelled_entry(path, length, content):
-    entry = {b'length': length, b'path': list(path)}
-    if content is None:
-        entry[b'attr'] = b'p'
-    return entry
+def spelled_entry(path, length, content, letters):
+    attr = b'p' if content is None else letters.get(path)
+    return {b'length': length, b'path': list(path), **attr_of(attr)}
+
+
+def letters_in(text, paths):
+    """By path the letters that a text gives to these files (docs/MANUAL.md); None where it is no such text."""
+    letters = {}
+    for line in text.split(b'\n')[:-1]:
+        attr, _, spelled = line.partition(b' ')
+        path = tuple(spelled.split(b'/'))
+        if attr not in (b'h', b'x', b'hx') or path in letters or path not in paths:
+            return None
+        letters[path] = attr
+    return letters if text == b'' or text.endswith(b'\n') else None
 
 
 # Judging. Each condition is a function of a torrent; the first that holds, in their order, is told. What a condition

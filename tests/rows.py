@@ -70,6 +70,27 @@ def test_reference_makes(_program, _folder):
     expect_equal('a folder before a file', True, nested.index(b'l1:a1:ce') < nested.index(b'l3:a-be'))
 
 
+def test_reference_makes_letters(_program, _folder):
+    single = {'single': True, 'name': b'a'}
+    executable = make([((b'a',), b'abc')], order('v2', **single), {(b'a',): b'x'})
+    expect_equal('v2 of an executable file', ABC.replace(b'd0:d6:length', b'd0:d4:attr1:x6:length'), executable)
+    both = make(PAIR, order('v1'), {(b'a',): b'hx'})
+    expect_equal('v1 of a folder', FOLDER_V1.replace(b'ld6:lengthi2e', b'ld4:attr2:hx6:lengthi2e'), both)
+    last = make(PAIR, order('hybrid'), {(b'b',): b'x'})
+    expect_equal('hybrid of a folder', FOLDER_HYBRID.replace(b'1:bd0:d6:', b'1:bd0:d4:attr1:x6:').replace(
+        b'd6:lengthi1e4:path', b'd4:attr1:x6:lengthi1e4:path'), last)
+    hidden = make([((b'a',), b'')], order('v1', **single), {(b'a',): b'h'})
+    expect_equal('v1 of a hidden file', b'd4:infod4:attr1:h6:lengthi0e4:name1:a12:piece lengthi16384e6:pieces0:ee',
+                 hidden)
+    expect_equal('lengths', [167, 139, 400, 71], [len(executable), len(both), len(last), len(hidden)])
+    paths = {(b'a',), (b'b', b'c d')}
+    rows = [(b'', {}), (b'x a\n', {(b'a',): b'x'}), (b'hx b/c d\nh a\n', {(b'b', b'c d'): b'hx', (b'a',): b'h'}),
+            (b'x a', None), (b'\n', None), (b' a\n', None), (b'xh a\n', None), (b'x  a\n', None), (b'X a\n', None),
+            (b'x a\nh a\n', None), (b'x b\n', None), (b'x /a\n', None), (b'x a/\n', None), (b'x\n', None)]
+    for text, letters in rows:
+        expect_equal(repr(text), letters, reference.letters_in(text, paths))
+
+
 def test_reference_hashes_trees(_program, _folder):
     blocks = b''.join(bytes([i]) * BLOCK for i in range(5))
     l = reference.leaves(blocks)

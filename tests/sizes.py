@@ -241,7 +241,7 @@ def crowd(count):
 
 
 def test_folder_of_70000_names(program, folder):
-    """A listing of over 65,536 names, most of empty files; made, rechecked and judged."""
+    """A listing of over 65,536 names, most of empty files; made, also with letters for each, rechecked and judged."""
     paths = crowd(70_000)
     place = folder / 'files'
     files = []
@@ -254,9 +254,12 @@ def test_folder_of_70000_names(program, folder):
             file.write(content)
     torrent = folder / 'torrent'
     words = ['make', '--name', 'f', '--kind', 'hybrid', '--piece-length', str(BLOCK), '--workers', '2', '--how']
-    wanted = make(files, order('hybrid', False))
-    for how in ['halves', 'streams']:
-        expect(program, [*words, how, '--out', str(torrent), str(place)], done())
+    letters = {path: (b'x', b'h', b'hx')[i % 3] for i, (path, _) in enumerate(files)}
+    attrs = folder / 'attrs'
+    attrs.write_bytes(b''.join(b'%b %b\n' % (letters[path], b'/'.join(path)) for path in reversed(paths)))
+    for how, given, more in [('halves', {}, []), ('streams', letters, ['--attrs', str(attrs)])]:
+        wanted = make(files, order('hybrid', False), given)
+        expect(program, [*words, how, *more, '--out', str(torrent), str(place)], done())
         expect_equal(f'the torrent by {how}', True, torrent.read_bytes() == wanted)
     lines = reference.recheck_lines([True] * 70)
     expect(program, ['recheck', str(torrent), str(place)], done(lines))

@@ -4,7 +4,7 @@
 _tor_options() {
     case $1 in
         '') echo '-h --help -V --version' ;;
-        make) echo '--name --piece-length --kind --announce --private --tail --how --workers --span --check-after --out -h --help' ;;
+        make) echo '--name --piece-length --kind --announce --private --tail --attrs --how --workers --span --check-after --out -h --help' ;;
         check) echo '--null --json -h --help' ;;
         recheck) echo '--files --bad --null --json --workers -h --help' ;;
         *) echo '-h --help' ;;
@@ -16,7 +16,7 @@ _tor_value() {
     case $1 in
         --kind) echo 'v1 v2 hybrid' ;;
         --how) echo 'one halves board streams' ;;
-        --out) echo files ;;
+        --attrs | --out) echo files ;;
         --workers) echo auto ;;
         --name | --piece-length | --announce | --span) echo any ;;
     esac

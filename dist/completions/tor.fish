@@ -25,6 +25,7 @@ complete -c tor -n '__fish_seen_subcommand_from make' -l kind -x -a 'v1 v2 hybri
 complete -c tor -n '__fish_seen_subcommand_from make' -l announce -x -d 'the URL of the tracker'
 complete -c tor -n '__fish_seen_subcommand_from make' -l private -d 'peers are to come from the tracker alone'
 complete -c tor -n '__fish_seen_subcommand_from make' -l tail -d 'pads the last file of a hybrid folder too'
+complete -c tor -n '__fish_seen_subcommand_from make' -l attrs -r -F -d 'which files are executable or hidden'
 complete -c tor -n '__fish_seen_subcommand_from make' -l how -x -a 'one halves board streams' -d 'who hashes the files'
 complete -c tor -n '__fish_seen_subcommand_from make' -l workers -x -a auto -d 'how many workers share the hashing'
 complete -c tor -n '__fish_seen_subcommand_from make' -l span -x -d 'pieces that a worker takes at a time'

@@ -77,7 +77,7 @@ pub use Rattle.tor_spec.specs.valid.SidesAgree.{is_filled, is_misaligned_after, 
 pub use Rattle.tor_spec.specs.valid.SidesAgree.{some_letters_differ, tail_size}
 pub use Rattle.tor_spec.specs.valid.TreeSide.{tree_files, tree_of, tree_root}
 pub use Rattle.tor_spec.specs.valid.View.{FileView, View, entry_of_file, file_of_list, file_of_tree, files_of, view_of}
-pub use Rattle.tor_spec.specs.valid.View.{files_of_both, lettered, with_letters}
+pub use Rattle.tor_spec.specs.valid.View.{file_of_both, files_of_both, lettered}
 pub use Rattle.tor_spec.proofs.ProvedLaws.{lettered_case, lettered_none, map_lettered}
 pub use Rattle.tor_tree.proofs.ProvedLaws.{rising_paths}
 pub use Rattle.tor_tree.specs.FileList.{lengths_of, lengths_too_large, list_fault, paths_nest, paths_of, paths_repeat}

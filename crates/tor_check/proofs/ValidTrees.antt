@@ -8,7 +8,7 @@ use Rattle.tor_check.proofs.Names.{is_misshaped, layer_length, layer_of, layer_r
 use Rattle.tor_check.proofs.Names.{root_of_file, info_of, kind_of, piece_length_of, tree_files, tree_of, tree_root}
 use Rattle.tor_check.proofs.Names.{FileView, View, file_of_tree, files_of, files_of_both, entries_of, file_of}
 use Rattle.tor_check.proofs.Names.{lacks_root, has_v1}
-use Rattle.tor_check.proofs.Names.{has_v2, if◌then◌else◌, lettered_case, listed_files, with_letters, ListedFile}
+use Rattle.tor_check.proofs.Names.{file_of_both, has_v2, if◌then◌else◌, lettered_case, listed_files, ListedFile}
 use Rattle.tor_check.proofs.Names.{as_integer, is_hash, length_of, pieces_root, MAX_LENGTH, TreeFile}
 use Rattle.tor_check.proofs.Bounds.{small_files}
 use Rattle.tor_check.proofs.HeadFacts.{allowed_by, not_false}
@@ -95,7 +95,7 @@ module _ (root : Data) (none : refusal_of root ≡ None) (v2 : has_v2 (kind_of (
 
   -- letters change nothing of it
   with_its_letters : (listed : ListedFile) (file : TreeFile) → HasTree p (file_of_tree root file)
-      → HasTree p (file_of_tree root (with_letters listed file))
+      → HasTree p (file_of_tree root (file_of_both listed file))
   with_its_letters listed file has =
       record { small = has.small; root = has.root; pieces = has.pieces; joined = has.joined }
 

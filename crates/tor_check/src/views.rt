@@ -6,7 +6,7 @@ ghost use Rattle.tor_check.specs.steps.Views.{layer_for, viewed};
 ghost use Rattle.tor_check.specs.declared.listed.Listed.{Listed as ListedFacts};
 ghost use Rattle.tor_spec.specs.valid.Layers.{pieces_in};
 ghost use Rattle.tor_spec.specs.valid.ListSide.{without_padding};
-ghost use Rattle.tor_spec.specs.valid.View.{entry_of_file, file_of_list, lettered, with_letters};
+ghost use Rattle.tor_spec.specs.valid.View.{entry_of_file, file_of_both, file_of_list, lettered};
 ghost use Rattle.tor_check.specs.steps.Listed.{file_of_listed};
 
 use crate::layer_keys::Layers;
@@ -38,7 +38,7 @@ pub fn take_letters(files: &mut Vec<TreeFile>, listed: &[Listed])
 
 /// Those of the v1 side, where the tree has no `attr` of the file.
 fn add_letters(file: &mut TreeFile, listed: &Listed)
-    ensures { file.new ≡ with_letters (file_of_listed listed.now) file.old }
+    ensures { file.new ≡ file_of_both (file_of_listed listed.now) file.old }
 {
     if file.has_attr {
         return;

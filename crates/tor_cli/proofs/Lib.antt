@@ -1,4 +1,5 @@
 pub mod AddedWords
+pub mod AttrsLines
 pub mod BoundFlags
 pub mod CheckAfter
 pub mod Doing
@@ -6,7 +7,9 @@ pub mod Escapes
 pub mod FoundTexts
 pub mod HashDigits
 pub mod Judging
+pub mod LetteredPaths
 pub mod Lines
+pub mod LinesLeft
 pub mod Numerals
 pub mod Pairs
 pub mod PathTexts

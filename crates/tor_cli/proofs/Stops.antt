@@ -1,5 +1,5 @@
 -- Which fault of the program a step's fault is, and where it stopped.
-use Rattle.std.proofs.Common.{◌≡◌, ◌≢◌, ◌⊎◌, ◌<◌, ◌∙◌, inl, inr, refl, sym, ap, subst}
+use Rattle.std.proofs.Common.{◌≡◌, ◌≢◌, ◌⊎◌, ◌<◌, ◌∙◌, ◌∷◌, [], inl, inr, refl, sym, ap, subst}
 use Rattle.std.proofs.Common.{Bool, true, false, ℕ, List, length, Option, None, Some, Result, Ok, Err, IfErr}
 use Rattle.std.specs.Io.KnownBytes.{Keeps}
 use Rattle.std.specs.declared.io.Error.{Error}
@@ -9,12 +9,16 @@ use Rattle.tor_meta.specs.declared.order.Order.{Order}
 use Rattle.tor_meta.specs.Make.{IsOwn}
 use Rattle.tor_source.specs.declared.faults.ScanFault.{ScanFault}
 use Rattle.tor_source.specs.declared.faults.ScanFault.TheVariants as scans
+use Rattle.tor_tree.specs.FileList.{paths_of}
 use Rattle.tor_tree.specs.Name.{name_fault}
+use Rattle.tor_tree.specs.declared.attr.Attr.{Attr}
 use Rattle.tor_source.specs.Input.{EndsInput, ReadsSome}
 use Rattle.tor_meta.specs.FromInput.{MakesOf, StopsReading, refusal_of}
-use Rattle.tor_cli.specs.Place.{IsGivenBy, refusal_by}
-use Rattle.tor_cli.specs.Request.{IsOrder, IsOrderOf, IsRefusedFirst, SendsFront, StopsFinding, StopsInput, StopsPlace}
-use Rattle.tor_cli.specs.Request.{StopsSending, file_of}
+use Rattle.tor_cli.specs.Attrs.{IsNotLettered}
+use Rattle.tor_cli.specs.Place.{AreFound, IsGivenBy, IsNotFound, refusal_by}
+use Rattle.tor_cli.specs.Request.{IsOrderOf, IsOrderOfOne, IsRefusedFirst, OnlyReads, SendsFront, StopsFinding}
+use Rattle.tor_cli.specs.Request.{StopsInput, StopsPlace, StopsSending, attrs_of, file_of}
+use Rattle.tor_cli.specs.steps.Lettering.{IsNotOrdered}
 use Rattle.tor_cli.specs.Streams.{IsUntouched, Streams}
 use Rattle.tor_cli.specs.Status.{of_input_fault, of_make_error, of_scan_fault, of_step_fault}
 use Rattle.tor_source.specs.declared.input.TheConstants.{MAX_INPUT_LENGTH}
@@ -66,45 +70,66 @@ pub refused_first : {A : Type 0} (first : Option (MakeError Error)) (result : Re
 refused_first first (Ok bytes) given = tt
 refused_first first (Err error) given = given
 
+-- a fault of a file of letters, or want of memory
+of_letters : Fault → Bool
+of_letters (faults.Argument fault) = true
+of_letters faults.Read = true
+of_letters faults.TooLong = true
+of_letters faults.Resources = true
+of_letters fault = false
+
+-- no other keeps files from their letters
+no_other : (place : Option (List ℕ)) (paths : List (List (List ℕ))) (fault : Fault) → of_letters fault ≡ false
+    → IsNotLettered place paths fault → ⊥
+unfolding of_letters
+no_other place paths (faults.Argument fault) e why = absurd cc
+no_other place paths faults.Read e why = absurd cc
+no_other place paths faults.TooLong e why = absurd cc
+no_other place paths faults.Resources e why = absurd cc
+no_other None paths fault e why = why
+no_other (Some place) paths fault e why = why
+
 module _ (options : MakeOptions) (s : Streams) where
   stops_input : (fault : InputFault) → ReadsSome s.reader s.reader' (EndsInput MAX_INPUT_LENGTH fault)
       → Keeps s.writer s.writer' → StopsInput options s (of_input_fault fault)
-  stops_input inputs.Read given keeps = (given, keeps)
-  stops_input inputs.TooLong given keeps = (given, keeps)
+  stops_input inputs.Read given keeps = inl (given, keeps)
+  stops_input inputs.TooLong given keeps = inl (given, keeps)
   stops_input inputs.Memory given keeps = (given, keeps)
 
-  stops_make : (order : Order) → name_fault options.name.now ≡ None → IsOrder options true order
+  stops_make : (order : Order) (attr : Attr) → IsOrderOfOne options order attr
       → (error : MakeError Error) → StopsReading order s.reader s.reader' (Make error)
       → Keeps s.writer s.writer' → StopsInput options s (of_make_error error)
-  stops_make order named is error (content, reads, either) keeps = elim (kept_or_memory error) [
-    | inl kept ↦ rw kept.1 (named, (order, is, is_refused order error kept.0 either), ((content, reads), keeps))
+  stops_make order attr is error (content, reads, either) keeps = elim (kept_or_memory error) [
+    | inl kept ↦ rw kept.1 ((order, attr, is, is_refused order error kept.0 either), ((content, reads), keeps))
     | inr memory ↦ rw memory ((content, reads.0.given, reads.1), keeps)
   ]
 
-  pub stops_reading : (order : Order) → name_fault options.name.now ≡ None → IsOrder options true order
+  pub stops_reading : (order : Order) (attr : Attr) → IsOrderOfOne options order attr
       → (fault : FromFault) → StopsReading order s.reader s.reader' fault → Keeps s.writer s.writer'
       → StopsInput options s (of_step_fault fault)
-  stops_reading order named is (Input fault) given keeps = stops_input fault given keeps
-  stops_reading order named is (Make error) given keeps = stops_make order named is error given keeps
-  stops_reading order named is (Write fault) given keeps = absurd given
+  stops_reading order attr is (Input fault) given keeps = stops_input fault given keeps
+  stops_reading order attr is (Make error) given keeps = stops_make order attr is error given keeps
+  stops_reading order attr is (Write fault) given keeps = absurd given
 
   -- so many bytes of the torrent went out
-  pub stops_sent : (order : Order) → name_fault options.name.now ≡ None → IsOrder options true order
-      → (torrent : List ℕ) → ((content : List ℕ) × MakesOf order s.reader s.reader' (λ bytes. torrent ≡ bytes) content)
+  pub stops_sent : (order : Order) (attr : Attr) → IsOrderOfOne options order attr → (torrent : List ℕ)
+      → ((content : List ℕ) × MakesOf order attr s.reader s.reader' (λ bytes. torrent ≡ bytes) content)
       → (written : ℕ) → (0 < length torrent → SendsFront (file_of options) s.writer s.writer' written torrent)
       → StopsInput options s (faults.Write written)
-  stops_sent order named is torrent (content, made) written front =
+  stops_sent order attr is torrent (content, made) written front =
       let long : 0 < length torrent = subst (λ t. 0 < length t) (sym made.torrent) (has_bytes _ _) in
-      let sent : MakesOf order s.reader s.reader' (SendsFront (file_of options) s.writer s.writer' written) content =
+      let sent : MakesOf order attr s.reader s.reader' (SendsFront (file_of options) s.writer s.writer' written)
+      content =
       record {
         read = made.read;
         accepted = made.accepted;
         torrent = subst (SendsFront (file_of options) s.writer s.writer' written) made.torrent (front long);
       } in
-      (named, (order, is, (content, sent)))
+      (order, attr, is, (content, sent))
 
   -- a fault that comes before anything was written
   pub stops_sending : (fault : Fault) → StopsSending options fault → IsUntouched s → StopsPlace options s fault
+  unfolding of_letters
   stops_sending (faults.Usage line) why untouched = (why, untouched)
   stops_sending (faults.Name fault) why untouched = (why, untouched)
   stops_sending (faults.Scan fault) why untouched = (why, untouched)
@@ -119,25 +144,73 @@ module _ (options : MakeOptions) (s : Streams) where
   stops_sending (faults.Write written) why untouched = absurd (no_write why)
     where
       no_write : StopsSending options (faults.Write written) → ⊥
-      no_write (inl made) = made
+      no_write (inl (named, (single, paths, found, why))) =
+          no_other (attrs_of options) paths (faults.Write written) refl why
       no_write (inr kept) = kept.1.2
   stops_sending faults.Resources why untouched = (why, untouched)
 
 -- an error of making is of the order and the paths
-pub finding_make : (options : MakeOptions) (order : Order) (paths : List (List (List ℕ))) (error : MakeError Error)
-    → IsOrderOf options order paths → IsOwn (refusal_by options.way order paths) error
-    → IsRefusedFirst (refusal_by options.way order paths) error → IsGivenBy options.way (length paths) error
+pub finding_make : (options : MakeOptions) (order : Order) (files : List (List (List ℕ) × Attr))
+    (error : MakeError Error) → IsOrderOf options order files
+    → IsOwn (refusal_by options.way order (paths_of files)) error
+    → IsRefusedFirst (refusal_by options.way order (paths_of files)) error → IsGivenBy options.way (length files) error
     → StopsFinding options (of_make_error error)
-finding_make options order paths error is own first gave = elim (kept_or_memory error) [
-  | inl kept ↦ rw kept.1 (order, paths, is, own, first, gave, is_no_memory error kept.0)
+finding_make options order files error is own first gave = elim (kept_or_memory error) [
+  | inl kept ↦ rw kept.1 (order, files, is, own, first, gave, is_no_memory error kept.0)
   | inr memory ↦ rw memory tt
 ]
 
--- a fault of a scan that is no want of memory
-pub finding_scan : (options : MakeOptions) (fault : ScanFault) → name_fault options.name.now ≡ None
-    → StopsFinding options (of_scan_fault fault)
-finding_scan options scans.NotUtf8 named = (named, λ same. cc)
-finding_scan options scans.NotRegular named = (named, λ same. cc)
-finding_scan options scans.TooDeep named = (named, λ same. cc)
-finding_scan options scans.System named = (named, λ same. cc)
-finding_scan options scans.Memory named = tt
+-- why no files were found, of which a scan's want of memory is the program's own
+pub not_scanned : (name : List ℕ) (attrs : Option (List ℕ)) (fault : ScanFault)
+    → IsNotFound name attrs (of_scan_fault fault)
+not_scanned name attrs scans.NotUtf8 = λ same. cc
+not_scanned name attrs scans.NotRegular = λ same. cc
+not_scanned name attrs scans.TooDeep = λ same. cc
+not_scanned name attrs scans.System = λ same. cc
+not_scanned name attrs scans.Memory = tt
+
+-- that files get no letters is why none were found
+pub not_lettered : (name : List ℕ) (attrs : Option (List ℕ)) (single : Bool) (paths : List (List (List ℕ)))
+    → AreFound name single paths → (fault : Fault) → IsNotLettered attrs paths fault → IsNotFound name attrs fault
+unfolding of_letters
+not_lettered name attrs single paths found (faults.Scan fault) why =
+    absurd (no_other attrs paths (faults.Scan fault) refl why)
+not_lettered name attrs single paths found faults.Resources why = tt
+not_lettered name attrs single paths found fault why = (single, paths, found, why)
+
+-- and that none were found is why there is no torrent of them
+pub not_found : (options : MakeOptions) → name_fault options.name.now ≡ None → (fault : Fault)
+    → IsNotFound options.name.now (attrs_of options) fault → StopsFinding options fault
+unfolding of_letters
+not_found options named (faults.Name fault) (single, paths, found, why) =
+    absurd (no_other (attrs_of options) paths (faults.Name fault) refl why)
+not_found options named (faults.Make error) (single, paths, found, why) =
+    absurd (no_other (attrs_of options) paths (faults.Make error) refl why)
+not_found options named faults.Resources why = tt
+not_found options named fault why = (named, why)
+
+-- what keeps one file from its order, after all was read
+pub not_ordered : (options : MakeOptions) (s : Streams) (fault : Fault) → IsNotOrdered options fault → OnlyReads s
+    → StopsInput options s fault
+unfolding of_letters
+not_ordered options s (faults.Name fault) why read = (why, read)
+not_ordered options s (faults.Argument fault) (named, why) read = (named, why, read)
+not_ordered options s faults.Read (named, why) read = inr (named, why, read)
+not_ordered options s faults.TooLong (named, why) read = inr (named, why, read)
+not_ordered options s faults.Resources why ((content, reads), keeps) = ((content, reads.0.given, reads.1), keeps)
+not_ordered options s (faults.Usage line) (named, why) read =
+    absurd (no_other (attrs_of options) ((options.name.now ∷ []) ∷ []) (faults.Usage line) refl why)
+not_ordered options s (faults.Scan fault) (named, why) read =
+    absurd (no_other (attrs_of options) ((options.name.now ∷ []) ∷ []) (faults.Scan fault) refl why)
+not_ordered options s (faults.Make error) (named, why) read =
+    absurd (no_other (attrs_of options) ((options.name.now ∷ []) ∷ []) (faults.Make error) refl why)
+not_ordered options s (faults.Refused refusal) (named, why) read =
+    absurd (no_other (attrs_of options) ((options.name.now ∷ []) ∷ []) (faults.Refused refusal) refl why)
+not_ordered options s (faults.Piece error) (named, why) read =
+    absurd (no_other (attrs_of options) ((options.name.now ∷ []) ∷ []) (faults.Piece error) refl why)
+not_ordered options s (faults.Recheck error) (named, why) read =
+    absurd (no_other (attrs_of options) ((options.name.now ∷ []) ∷ []) (faults.Recheck error) refl why)
+not_ordered options s (faults.NotAsMade good pieces) (named, why) read =
+    absurd (no_other (attrs_of options) ((options.name.now ∷ []) ∷ []) (faults.NotAsMade good pieces) refl why)
+not_ordered options s (faults.Write written) (named, why) read =
+    absurd (no_other (attrs_of options) ((options.name.now ∷ []) ∷ []) (faults.Write written) refl why)

@@ -45,6 +45,9 @@ private_option = flag_of (codes "private")
 abbrev pub tail_option : Rule
 tail_option = flag_of (codes "tail")
 
+abbrev pub attrs_option : Rule
+attrs_option = option_of (codes "attrs")
+
 abbrev pub how_option : ValueParser → Rule
 how_option hows = record (option_of (codes "how")) { parser = Some hows; defaults = codes "one" ∷ [] }
 
@@ -77,7 +80,8 @@ with_rules app (rule ∷ rules) = with_rules (with_rule app rule) rules
 -- what the torrent is to have, beside its files
 abbrev pub torrent_rules : ValueParser → List Rule
 torrent_rules kinds =
-    name_option ∷ piece_length_option ∷ kind_option kinds ∷ announce_option ∷ private_option ∷ tail_option ∷ []
+    name_option ∷ piece_length_option ∷ kind_option kinds ∷ announce_option ∷ private_option ∷ tail_option
+    ∷ attrs_option ∷ []
 
 -- an option without a value that stands beside another alone, or never beside another
 abbrev pub flag_bound : List ℕ → Rule

@@ -1,3 +1,5 @@
+pub mod Attrs
+pub mod AttrsText
 pub mod CheckAfter
 pub mod CommandLine
 pub mod Escape

@@ -1,5 +1,5 @@
 -- The files at a place of the system, the faults that they may have, and when no torrent is made of them.
-use Rattle.std.specs.Prelude.{◌≡◌, ◌≤◌, ◌<◌, ◌∷◌, [], ℕ, Bool, true, false, List, length, Option, None, Some}
+use Rattle.std.specs.Prelude.{◌≡◌, ◌≢◌, ◌≤◌, ◌<◌, ◌∷◌, [], ℕ, Bool, true, false, List, length, Option, None, Some}
 use Rattle.std.specs.IoError.{error_kind}
 use Rattle.std.specs.List.{All}
 use Rattle.std.specs.List.Sorted.{IsStrictlySortedBy}
@@ -11,6 +11,10 @@ use Rattle.tor_meta.specs.declared.make_error.MakeError.TheVariants.{Read, Chang
 use Rattle.tor_meta.specs.declared.order.Order.{Order}
 use Rattle.tor_source.specs.Faults.{is_absence}
 use Rattle.tor_tree.specs.Path.{path_cmp}
+use Rattle.tor_source.specs.declared.faults.ScanFault.TheVariants as scans
+use Rattle.tor_cli.specs.Attrs.{IsNotLettered}
+use Rattle.tor_cli.specs.declared.fault.Fault.{Fault}
+use Rattle.tor_cli.specs.declared.fault.Fault.TheVariants.{Scan, Resources as NoResources}
 use Rattle.tor_cli.specs.declared.way.Way.{Way}
 use Rattle.tor_cli.specs.declared.way.Way.TheVariants.{Shared, Streams}
 
@@ -18,6 +22,13 @@ use Rattle.tor_cli.specs.declared.way.Way.TheVariants.{Shared, Streams}
 abbrev pub AreFound : List ℕ → Bool → List (List (List ℕ)) → Type 0
 AreFound name true paths = paths ≡ (name ∷ []) ∷ []
 AreFound name false paths = IsStrictlySortedBy path_cmp paths × All (λ path. length path ≤ 64) paths
+
+-- why there are no files with letters at a place, where these are to be in a file
+abbrev pub IsNotFound : List ℕ → Option (List ℕ) → Fault → Type 0
+IsNotFound name attrs (Scan fault) = fault ≢ scans.Memory
+IsNotFound name attrs NoResources = Unit {0}
+IsNotFound name attrs fault =
+    (single : Bool) × (paths : List (List (List ℕ))) × AreFound name single paths × IsNotLettered attrs paths fault
 
 -- a fault that one of so many files can have: its length never says that nothing is there
 abbrev pub IsFileFault : ℕ → ℕ → Option ℕ → Error → Type 0

@@ -96,6 +96,7 @@ IsBadClaim options arguments.PieceLength =
     ((root : List ℕ) × IsRootText options.root.now root) × ((n : ℕ) × IsLengthText options.length.now n)
     × OfNone (IsPieceLengthText options.piece_length.now)
 IsBadClaim options arguments.Proof = ⊥
+IsBadClaim options arguments.Attrs = ⊥
 
 -- the answer to a proof
 abbrev pub holds_in : Claim → ℕ → List ℕ → List (List ℕ) → Bool

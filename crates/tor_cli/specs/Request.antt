@@ -1,5 +1,6 @@
 -- What the program does for a request: what it reads and writes, and where a fault stops it.
-use Rattle.std.specs.Prelude.{◌≡◌, ◌≢◌, ◌⊎◌, ◌<◌, ℕ, Bool, List, length, true, option_map, Option, None, Some}
+use Rattle.std.specs.Prelude.{◌≡◌, ◌⊎◌, ◌<◌, ◌≢◌, ◌∷◌, [], ℕ, Bool, List, length, true, option_map, Option, None}
+use Rattle.std.specs.Prelude.{Some}
 use Rattle.std.specs.Prelude.{string_bytes}
 use Rattle.std.specs.Io.KnownBytes.{Appends, Keeps}
 use Rattle.std.specs.declared.io.Error.{Error}
@@ -10,14 +11,16 @@ use Rattle.tor_meta.specs.Order.{settings_of_order}
 use Rattle.tor_meta.specs.declared.make_error.MakeError.{MakeError}
 use Rattle.tor_meta.specs.declared.make_error.MakeError.TheVariants as makes
 use Rattle.tor_meta.specs.declared.order.Order.{Order}
-use Rattle.tor_source.specs.declared.faults.ScanFault.TheVariants as scans
 use Rattle.tor_spec.specs.Settings.{Settings}
+use Rattle.tor_tree.specs.FileList.{paths_of}
 use Rattle.tor_tree.specs.Name.{name_fault}
+use Rattle.tor_tree.specs.declared.attr.Attr.{Attr}
 use Rattle.tor_cli.specs.CheckAfter.{IsAsMade, IsNotAsMade}
 use Rattle.tor_cli.specs.Foreign.{DoesTell, StopsTelling}
 use Rattle.tor_source.specs.Input.{ReadsAll, ReadsSome, EndsInput}
 use Rattle.tor_meta.specs.FromInput.{IsFront, MakesOf, refusal_of}
-use Rattle.tor_cli.specs.Place.{AreFound, IsGivenBy, refusal_by}
+use Rattle.tor_cli.specs.Attrs.{HaveLetters, IsNotLettered}
+use Rattle.tor_cli.specs.Place.{AreFound, IsGivenBy, IsNotFound, refusal_by}
 use Rattle.tor_cli.specs.Proving.{DoesProve, DoesVerify, StopsProving, StopsVerifying}
 use Rattle.tor_cli.specs.Recheck.{DoesRecheck, StopsRechecking}
 use Rattle.tor_cli.specs.Status.{status_of}
@@ -70,10 +73,20 @@ abbrev pub SendsFront : Option (List ℕ) → Option (List ℕ) → Option (List
 SendsFront None writer writer' written bytes = IsFront writer writer' written bytes
 SendsFront (Some place) writer writer' written bytes = (written < length bytes) × (writer' ≡ writer)
 
+-- the file that has the letters of the files, if one is named
+abbrev pub attrs_of : MakeOptions → Option (List ℕ)
+attrs_of options = option_map (λ place. place.now) options.attrs
+
+-- the order that the options ask for of one file, and its letters
+pub record IsOrderOfOne (options : MakeOptions) (order : Order) (attr : Attr) : Type 0 where
+  pub name : name_fault options.name.now ≡ None
+  pub ordered : IsOrder options true order
+  pub lettered : HaveLetters (attrs_of options) ((options.name.now ∷ [], attr) ∷ [])
+
 -- the torrent that the options ask for was made of all that the reader had
 abbrev pub DoesInput : MakeOptions → Streams → Type 0
-DoesInput options s = (name_fault options.name.now ≡ None) × ((order : Order) × IsOrder options true order
-    × ((content : List ℕ) × MakesOf order s.reader s.reader' (Sends (file_of options) s.writer s.writer') content))
+DoesInput options s = (order : Order) × (attr : Attr) × IsOrderOfOne options order attr
+    × ((content : List ℕ) × MakesOf order attr s.reader s.reader' (Sends (file_of options) s.writer s.writer') content)
 
 -- all that the reader had was read, and nothing was written
 abbrev pub OnlyReads : Streams → Type 0
@@ -82,6 +95,11 @@ OnlyReads s = ((content : List ℕ) × ReadsAll s.reader s.reader' content) × K
 -- the input ended in this fault, and nothing was written
 abbrev pub FailsInput : InputFault → Streams → Type 0
 FailsInput fault s = ReadsSome s.reader s.reader' (EndsInput MAX_INPUT_LENGTH fault) × Keeps s.writer s.writer'
+
+-- all that the reader had was read, and this kept the one file from its letters
+abbrev pub FailsAttrs : MakeOptions → Fault → Streams → Type 0
+FailsAttrs options fault s = (name_fault options.name.now ≡ None)
+    × IsNotLettered (attrs_of options) ((options.name.now ∷ []) ∷ []) fault × OnlyReads s
 
 -- where this fault stopped it
 abbrev pub StopsInput : MakeOptions → Streams → Fault → Type 0
@@ -92,27 +110,27 @@ StopsInput options s (Refused refusal) = ⊥
 StopsInput options s (Piece error) = ⊥
 StopsInput options s (Recheck error) = ⊥
 StopsInput options s (NotAsMade good pieces) = ⊥
-StopsInput options s (Argument fault) = ⊥
-StopsInput options s (Make error) = (name_fault options.name.now ≡ None)
-    × ((order : Order) × IsOrder options true order × (refusal_of order ≡ Some error)) × OnlyReads s
-StopsInput options s Read = FailsInput inputs.Read s
-StopsInput options s TooLong = FailsInput inputs.TooLong s
-StopsInput options s (Write written) = (name_fault options.name.now ≡ None)
-    × ((order : Order) × IsOrder options true order
+StopsInput options s (Argument fault) = FailsAttrs options (Argument fault) s
+StopsInput options s (Make error) = ((order : Order) × (attr : Attr) × IsOrderOfOne options order attr
+    × (refusal_of order ≡ Some error)) × OnlyReads s
+StopsInput options s Read = FailsInput inputs.Read s ⊎ FailsAttrs options Read s
+StopsInput options s TooLong = FailsInput inputs.TooLong s ⊎ FailsAttrs options TooLong s
+StopsInput options s (Write written) = (order : Order) × (attr : Attr) × IsOrderOfOne options order attr
     × ((content : List ℕ)
-    × MakesOf order s.reader s.reader' (SendsFront (file_of options) s.writer s.writer' written) content))
+    × MakesOf order attr s.reader s.reader' (SendsFront (file_of options) s.writer s.writer' written) content)
 StopsInput options s Resources = FailsInput inputs.Memory s
 
--- the order that the options ask for, and the paths of the files at their place
-pub record IsOrderOf (options : MakeOptions) (order : Order) (paths : List (List (List ℕ))) : Type 0 where
+-- the order that the options ask for, and the paths of the files at their place, each with its letters
+pub record IsOrderOf (options : MakeOptions) (order : Order) (files : List (List (List ℕ) × Attr)) : Type 0 where
   pub name : name_fault options.name.now ≡ None
   pub ordered : IsOrder options order.single order
-  pub found : AreFound options.name.now order.single paths
+  pub found : AreFound options.name.now order.single (paths_of files)
+  pub lettered : HaveLetters (attrs_of options) files
 
--- that order is not refused for those paths, and the bytes are its torrent of some files that have them
+-- that order is not refused for those paths, and the bytes are its torrent of some files that have them and the letters
 abbrev pub IsTorrentAt : MakeOptions → List ℕ → Type 0
-IsTorrentAt options torrent = (order : Order) × (paths : List (List (List ℕ))) × IsOrderOf options order paths
-    × (refusal_by options.way order paths ≡ None) × IsMadeOfSome (settings_of_order order) paths torrent
+IsTorrentAt options torrent = (order : Order) × (files : List (List (List ℕ) × Attr)) × IsOrderOf options order files
+    × (refusal_by options.way order (paths_of files) ≡ None) × IsMadeOfSome (settings_of_order order) files torrent
 
 -- where there is a refusal, no fault of a file stops it before that
 abbrev pub IsRefusedFirst : Option (MakeError Error) → MakeError Error → Type 0
@@ -122,12 +140,13 @@ IsRefusedFirst first error = (refusal : MakeError Error) → first ≡ Some refu
 -- why there is no torrent of the files at a place
 abbrev pub StopsFinding : MakeOptions → Fault → Type 0
 StopsFinding options (Name fault) = name_fault options.name.now ≡ Some fault
-StopsFinding options (Scan fault) = (name_fault options.name.now ≡ None) × (fault ≢ scans.Memory)
-StopsFinding options (Make error) = (order : Order) × (paths : List (List (List ℕ))) × IsOrderOf options order paths
-    × IsOwn (refusal_by options.way order paths) error × IsRefusedFirst (refusal_by options.way order paths) error
-    × IsGivenBy options.way (length paths) error × (error ≢ makes.Resources)
+StopsFinding options (Make error) = (order : Order) × (files : List (List (List ℕ) × Attr))
+    × IsOrderOf options order files × IsOwn (refusal_by options.way order (paths_of files)) error
+    × IsRefusedFirst (refusal_by options.way order (paths_of files)) error
+    × IsGivenBy options.way (length files) error × (error ≢ makes.Resources)
 StopsFinding options Resources = Unit {0}
-StopsFinding options other = ⊥
+StopsFinding options fault =
+    (name_fault options.name.now ≡ None) × IsNotFound options.name.now (attrs_of options) fault
 
 -- it may go out: where that is asked for, each of its pieces was found there and right afterwards
 abbrev pub IsTorrentToSend : MakeOptions → List ℕ → Type 0

@@ -90,6 +90,7 @@ pub record AreOptionsIn (rows : List Row) (options : MakeOptions) : Type 0 where
   pub check_after : (given : Bool) → IsFlag rows (codes "check-after") given → options.check_after ≡ given
   pub out : first_of (codes "out") rows ≡ option_map (λ place. place.now) options.out
   pub place : first_of (codes "path") rows ≡ option_map (λ place. place.now) options.place
+  pub attrs : first_of (codes "attrs") rows ≡ option_map (λ place. place.now) options.attrs
 
 -- what is told of a torrent, where `--null` and `--json` are each given or not
 abbrev pub telling_of : Bool → Bool → Telling

@@ -21,7 +21,7 @@ pub struct Claim {
     pub piece_length: u64,
 }
 
-/// Which argument is none of its kind.
+/// Which argument is none of its kind: of `verify`, or `--attrs` of `make`.
 #[derive(Clone, Copy, Debug)]
 pub enum ArgumentFault {
     Root,
@@ -29,6 +29,8 @@ pub enum ArgumentFault {
     PieceLength,
     /// The file has no text of a proof.
     Proof,
+    /// It has no text of letters, or not of these files.
+    Attrs,
 }
 
 impl fmt::Display for ArgumentFault {
@@ -38,6 +40,7 @@ impl fmt::Display for ArgumentFault {
             ArgumentFault::Length => "bad length",
             ArgumentFault::PieceLength => "bad piece length",
             ArgumentFault::Proof => "bad proof",
+            ArgumentFault::Attrs => "bad attrs",
         })
     }
 }

@@ -32,9 +32,9 @@ pub enum Fault {
     Recheck(RecheckError<io::Error>),
     /// The files do not have each piece of the torrent that was made of them: so many have, of so many.
     NotAsMade { good: u64, pieces: u64 },
-    /// An argument of `verify` is none of its kind.
+    /// An argument of `verify`, or `--attrs` of `make`, is none of its kind.
     Argument(ArgumentFault),
-    /// Standard input, or FILE, was not read whole.
+    /// Standard input, or a FILE, was not read whole.
     Read,
     TooLong,
     /// This many bytes went out.

@@ -1,14 +1,19 @@
 //! `tor make`: its doing.
-ghost use Rattle.std.specs.Prelude.{◌≡◌, ◌⊎◌, ◌<◌, ℕ, List, Option, IfErr, IfOk, OnOk, None, Some, length, true};
+ghost use Rattle.std.specs.Prelude.{◌≡◌, ◌⊎◌, ◌<◌, ◌∷◌, [], ℕ, List, Option, IfErr, IfOk, OnOk, None, Some, length};
+ghost use Rattle.std.specs.Prelude.{true};
 ghost use Rattle.std.specs.Prelude.{option_map};
 ghost use Rattle.tor_meta.specs.FromInput.{MakesOf, StopsReading};
 ghost use Rattle.tor_tree.specs.Name.{name_fault};
 ghost use Rattle.tor_tree.specs.declared.names.NameError.TheVariants.{Memory};
-ghost use Rattle.tor_cli.specs.Request.{DoesInput, DoesMake, DoesPlace, IsOrder, IsTorrentAt, IsTorrentToSend};
+ghost use Rattle.tor_cli.specs.Attrs.{HaveLetters, IsNotLettered};
+ghost use Rattle.tor_cli.specs.Request.{DoesInput, DoesMake, DoesPlace, IsOrder, IsOrderOfOne, IsTorrentAt};
+ghost use Rattle.tor_cli.specs.Request.{IsTorrentToSend, attrs_of};
 ghost use Rattle.tor_cli.specs.Request.{StopsFinding, StopsInput, StopsMake, StopsPlace, StopsSending};
 ghost use Rattle.tor_cli.specs.Streams.{streams};
+ghost use Rattle.tor_cli.specs.steps.Lettering.{IsNotOrdered};
 ghost use Rattle.tor_cli.specs.steps.Writing.{writing};
 
+use crate::attrs_file::lettered_files;
 use crate::check_after::check_after;
 use crate::fault::Fault;
 use crate::from_place::{files_at, torrent_of};
@@ -22,12 +27,12 @@ use std::sync::Wait;
 use std::thread::Threads;
 use tor_meta::{FromFault, Order, torrent_by_streams, torrent_from};
 use tor_source::drop_input;
-use tor_tree::{Name, NameError};
+use tor_tree::{Attr, FilePath, Name, NameError};
 
 /// Makes the torrent of one file, whose content the reader has, or of the files at a place of the system. The first of
-/// these faults is answered: of the reader, the name, the place, the other options, the files, the check of
-/// `--check-after`, the writer. That check is of the place too: its faults come in the order of a recheck of what was
-/// made, and that not all pieces are there comes last.
+/// these faults is answered: of the reader, the name, the place, the letters, the other options, the files, the check
+/// of `--check-after`, the writer. That check is of the place too: its faults come in the order of a recheck of what
+/// was made, and that not all pieces are there comes last.
 pub fn make<T: Threads + Wait + Sync + Send + Clone + Drop + 'static, R: Read, W: Write>(
     rt: &T,
     system: &HostRuntime,
@@ -61,14 +66,14 @@ fn make_of_input<T: Threads + Wait + Sync + Send + Clone + Drop + 'static, R: Re
         (W.contents out.old) (W.contents out.new))) }
 {
     let alloc = system.alloc();
-    let order = match order_of_one(alloc, options) {
-        Ok(order) => order,
+    let (order, attr) = match order_of_one(system, options) {
+        Ok(both) => both,
         Err(fault) => {
             drop_input(alloc, reader)?;
-            return Err(Fault::from(fault));
+            return Err(fault);
         }
     };
-    let torrent = torrent_of_input(rt, alloc, options.way, reader, &order)?;
+    let torrent = torrent_of_input(rt, alloc, options.way, reader, &order, attr)?;
     Ok(send(system, out, options.out, &torrent)?)
 }
 
@@ -79,14 +84,15 @@ fn torrent_of_input<T: Threads + Wait + Sync + Send + Clone + Drop + 'static, R:
     way: Way,
     reader: &mut R,
     order: &Order,
+    attr: Attr,
 ) -> Result<Vec<u8>, FromFault>
-    ensures made { IfOk result (λ torrent. (content : List ℕ) × MakesOf order.now
+    ensures made { IfOk result (λ torrent. (content : List ℕ) × MakesOf order.now attr
         (R.remaining reader.old) (R.remaining reader.new) (λ bytes. torrent.items ≡ bytes) content) }
     ensures stopped { IfErr result (StopsReading order.now (R.remaining reader.old) (R.remaining reader.new)) }
 {
     match way {
-        Way::Shared(_) => torrent_from(alloc, reader, order),
-        Way::Streams(_) => torrent_by_streams(rt, alloc, reader, order),
+        Way::Shared(_) => torrent_from(alloc, reader, order, attr),
+        Way::Streams(_) => torrent_by_streams(rt, alloc, reader, order, attr),
     }
 }
 
@@ -144,20 +150,32 @@ fn torrent_at<T: Threads + Wait + Sync>(
 {
     let alloc = system.alloc();
     let name = name_of(alloc, options)?;
-    let found = files_at(system, place, &name)?;
+    let found = files_at(system, place, options.attrs, &name)?;
     let order = order_of(alloc, options, name, found.single)?;
-    let progress = Progress::shown(system, found.paths.len(), shows_progress);
+    let progress = Progress::shown(system, found.files.len(), shows_progress);
     Ok(torrent_of(rt, alloc, options.way, &found, &order, &progress)?)
 }
 
-/// The order that the options ask for, of one file.
-fn order_of_one(alloc: Global, options: &MakeOptions<'_>) -> Result<Order, NameError>
-    ensures made { IfOk result (IsOrder options.now true) }
-    ensures accepted { OnOk result (name_fault options.now.name.now ≡ None) }
-    ensures refused { IfErr result (λ fault. (name_fault options.now.name.now ≡ Some fault) ⊎ (fault ≡ Memory)) }
+/// The order that the options ask for, of one file, and its letters.
+fn order_of_one(system: &HostRuntime, options: &MakeOptions<'_>) -> Result<(Order, Attr), Fault>
+    ensures made { IfOk result (λ both. IsOrderOfOne options.now both.0 both.1) }
+    ensures stopped { IfErr result (IsNotOrdered options.now) }
 {
+    let alloc = system.alloc();
     let name = name_of(alloc, options)?;
-    Ok(order_of(alloc, options, name, true)?)
+    let attr = attr_of_one(system, options, &name)?;
+    Ok((order_of(alloc, options, name, true)?, attr))
+}
+
+/// The letters of the one file that has the torrent's name.
+fn attr_of_one(system: &HostRuntime, options: &MakeOptions<'_>, name: &Name) -> Result<Attr, Fault>
+    ensures letters { IfOk result (λ attr. HaveLetters (attrs_of options.now) ((name.now ∷ [], attr) ∷ [])) }
+    ensures stopped { IfErr result (IsNotLettered (attrs_of options.now) ((name.now ∷ []) ∷ [])) }
+{
+    let alloc = system.alloc();
+    let path = FilePath::of_name(alloc, name)?;
+    let files = lettered_files(system, options.attrs, vec![in alloc; path]?)?;
+    Ok(files[0].1)
 }
 
 fn name_of(alloc: Global, options: &MakeOptions<'_>) -> Result<Name, NameError>

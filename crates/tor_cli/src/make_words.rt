@@ -2,7 +2,7 @@
 ghost use Rattle.clap.specs.Words.{app_of, rule_of};
 ghost use Rattle.clap.specs.declared.builder.value_parser.ValueParser.{ValueParser};
 ghost use Rattle.std.specs.Prelude.{◌≡◌, ◌∷◌, [], IfOk, codes, false};
-ghost use Rattle.tor_cli.specs.CommandLine.{AreHows, AreKinds, announce_option, flag_bound, how_option};
+ghost use Rattle.tor_cli.specs.CommandLine.{AreHows, AreKinds, announce_option, attrs_option, flag_bound, how_option};
 ghost use Rattle.tor_cli.specs.CommandLine.{kind_option, make_app};
 ghost use Rattle.tor_cli.specs.CommandLine.{name_option, out_option, path_argument, piece_length_option};
 ghost use Rattle.tor_cli.specs.CommandLine.{private_option, span_option, torrent_rules, way_rules, with_ways};
@@ -34,6 +34,8 @@ const SPAN: &str = "Pieces that a worker takes at a time: a power of two from 1 
 const OUT: &str = "The file that the torrent goes to, instead of standard output";
 
 const TAIL: &str = "Pads the last file of a hybrid folder too";
+
+const ATTRS: &str = "The file that says which files are executable or hidden";
 
 const HOWS: [&str; 4] = ["one", "halves", "board", "streams"];
 
@@ -74,6 +76,7 @@ fn torrent_words<'a>(alloc: Global) -> Result<Vec<Arg<'a>>, AllocError>
         announce_option(alloc),
         private_option(alloc),
         flag_of(alloc, "tail", TAIL),
+        attrs_option(alloc),
     ]?)
 }
 
@@ -138,6 +141,13 @@ fn private_option<'a>(alloc: Global) -> Arg<'a>
     ensures local { result.global ≡ false }
 {
     flag_of(alloc, "private", PRIVATE)
+}
+
+fn attrs_option<'a>(alloc: Global) -> Arg<'a>
+    ensures rule { rule_of result ≡ attrs_option }
+    ensures local { result.global ≡ false }
+{
+    option_of(alloc, "attrs", "FILE", ATTRS)
 }
 
 fn how_option<'a>(alloc: Global) -> Arg<'a>

@@ -34,6 +34,8 @@ pub struct MakeOptions<'a> {
     pub out: Option<&'a str>,
     /// The file or folder that it is made of; standard input where there is none.
     pub place: Option<&'a str>,
+    /// The file that has the letters of its files; none has letters where there is none.
+    pub attrs: Option<&'a str>,
 }
 
 /// The options that stand in the words; none where `clap` let through words that give no option its value, as a number
@@ -56,6 +58,7 @@ pub fn make_options<'a, T: Threads>(rt: &T, matches: &ArgMatches<'a>) -> Option<
         check_after: matches.get_flag("check-after"),
         out: matches.get_str("out"),
         place: matches.get_str("path"),
+        attrs: matches.get_str("attrs"),
     })
 }
 

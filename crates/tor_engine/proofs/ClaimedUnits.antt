@@ -1,7 +1,7 @@
 -- Units that one worker claims at a board, one after the other.
 use Rattle.std.proofs.Common.{◌≡◌, ◌<◌, ◌≤◌, ℕ, ◌+◌, true, cond, List, [], ◌∷◌, ◌++◌, length, map, reverse}
 use Rattle.std.proofs.Common.{Option, None, Some, Result, Ok, Err, inl, inr, refl, ap, ap₂, sym, subst, ◌∙◌, arith, eqb}
-use Rattle.std.proofs.Common.{◌||◌, append-nil}
+use Rattle.std.proofs.Common.{◌||◌, append-nil, drop, get_or}
 use Rattle.std.proofs.lemmas.Bool.{cases_eq, eq-eqb, ne_eqb}
 use Rattle.std.proofs.lemmas.List.{length-append, length-map, map-append, reverse-append}
 use Rattle.std.proofs.lemmas.Map.Steps.{length-le_from_distinct_below}
@@ -14,8 +14,10 @@ use Rattle.tor_engine.specs.Fault.{IsFault}
 use Rattle.tor_engine.specs.declared.errors.EngineError.{EngineError}
 use Rattle.tor_engine.specs.declared.failure.Failure.{Failure}
 use Rattle.tor_engine.specs.declared.taken.Taken.{Taken}
-use Rattle.tor_engine.specs.steps.Taken.{GivesUnit, HasGiven, IsIdle, IsOfGiven, IsSumOf, TakesUnits}
-use Rattle.tor_engine.specs.steps.Taken.{pair_in, unit_at}
+use Rattle.tor_engine.specs.declared.owing.OwingSums.{OwingSums}
+use Rattle.tor_engine.specs.steps.Each.{SumUpEach}
+use Rattle.tor_engine.specs.steps.Taken.{GivesUnit, HasGiven, IsAny, IsIdle, IsOfGiven, IsSumOf, TakesUnits}
+use Rattle.tor_engine.specs.steps.Taken.{pair_in, unit_at, units_taken}
 use Rattle.tor_engine.proofs.Counts.{each_append, none_of}
 
 -- a unit that is given up, or given, is no more held
@@ -47,6 +49,35 @@ total_append : (u : ℕ) (xs ys : List GivenUnit) → total (λ (g : GivenUnit).
     ≡ total (λ (g : GivenUnit). only u g.unit) xs + total (λ (g : GivenUnit). only u g.unit) ys
 total_append u [] ys = omega arith
 total_append u (x ∷ xs) ys = omega (arith, total_append u xs ys)
+
+-- a worker that hashed one unit more
+pub taken_next : {A : Type 0} (stands : List PlanUnit → List A → OwingSums → Type 0) (number_in : A → ℕ)
+    (units : List PlanUnit) (sums : List A) (one : A) (number : ℕ) (unit : PlanUnit) → unit ≡ unit_at units number
+    → number_in one ≡ number → (worker : OwingSums)
+    → stands (units_taken number_in units sums ++ unit ∷ []) (sums ++ one ∷ []) worker
+    → stands (units_taken number_in units (sums ++ one ∷ [])) (sums ++ one ∷ []) worker
+taken_next stands number_in units sums one number unit at is worker hashed =
+    subst (λ (us : List PlanUnit). stands us (sums ++ one ∷ []) worker)
+    (ap (λ u. units_taken number_in units sums ++ u ∷ []) (at ∙ ap (unit_at units) (sym is))
+    ∙ sym (map-append (λ one. unit_at units (number_in one)) sums (one ∷ []))) hashed
+
+-- each sums up to what the worker completed
+pub all_complete : {A : Type 0} (number_in : A → ℕ) (hash_in : A → List ℕ) (sums_up : PlanUnit → A → Type 0)
+    (units : List PlanUnit) (sums new : List A)
+    → map (pair_in number_in hash_in) new ≡ map (pair_in number_in hash_in) sums
+    → SumUpEach sums_up (units_taken number_in units sums) new
+    → AllByRecursion (IsSumOf number_in IsAny units) sums
+    → AllByRecursion (IsSumOf number_in sums_up units) new
+unfolding SumUpEach
+all_complete number_in hash_in sums_up units [] [] same each of = tt
+all_complete number_in hash_in sums_up units [] (b ∷ new) same each of = absurd each
+all_complete number_in hash_in sums_up units (a ∷ sums) [] same each of = absurd each
+all_complete number_in hash_in sums_up units (a ∷ sums) (b ∷ new) same each of =
+    let d = pair_in number_in hash_in a in
+    let number : number_in a ≡ number_in b = ap (λ ps. (get_or ps 0 d).0) (sym same) in (
+      subst (λ (n : ℕ). (n < length units) × sums_up (unit_at units n) b) number (of.0.0, each.0),
+      all_complete number_in hash_in sums_up units sums new (ap (drop 1) same) each.1 of.1,
+    )
 
 module _ {F A : Type 0} (number_in : A → ℕ) (hash_in : A → List ℕ) (sums_up : PlanUnit → A → Type 0)
     (is_steady : SourceFacts F → Type 0) (fault : SourceFacts F → PlanUnit → Option (EngineError F))
@@ -194,3 +225,40 @@ module _ {F A : Type 0} (number_in : A → ℕ) (hash_in : A → List ℕ) (sums
     steady = λ facts steady. _;
     gave = _;
   }
+
+-- what was taken, once it is complete
+pub taking_complete : {F A : Type 0} (number_in : A → ℕ) (hash_in : A → List ℕ) (sums_up : PlanUnit → A → Type 0)
+    (is_steady : SourceFacts F → Type 0) (fault : SourceFacts F → PlanUnit → Option (EngineError F))
+    (may_be : EngineError F → Type 0) (units : List PlanUnit) (old now : Desk) (taken after : Taken A)
+    → IsTaking number_in hash_in IsAny is_steady fault may_be units old now taken
+    → after.tops.items ≡ taken.tops.items
+    → map (pair_in number_in hash_in) after.sums.items ≡ map (pair_in number_in hash_in) taken.sums.items
+    → AllByRecursion (IsSumOf number_in sums_up units) after.sums.items
+    → IsTaking number_in hash_in sums_up is_steady fault may_be units old now after
+taking_complete number_in hash_in sums_up is_steady fault may_be units old now taken after is tops same summed =
+    record {
+      news = is.news;
+      has = is.has;
+      none = is.none;
+      of = record {
+        order = is.of.order ∙ ap reverse (sym same);
+        tops = is.of.tops ∙ ap (λ ts. reverse ts ++ old.tops) (sym tops);
+        summed = summed;
+      };
+      distinct = is.distinct;
+    }
+
+-- of an error it does not matter what was summed
+pub takes_as : {F A : Type 0} (number_in : A → ℕ) (hash_in : A → List ℕ) (one other : PlanUnit → A → Type 0)
+    (is_steady : SourceFacts F → Type 0) (fault : SourceFacts F → PlanUnit → Option (EngineError F))
+    (may_be : EngineError F → Type 0) (units : List PlanUnit) (old new : Desk) (failure : Failure F)
+    → TakesUnits number_in hash_in one is_steady fault may_be units old new (Err failure)
+    → TakesUnits number_in hash_in other is_steady fault may_be units old new (Err failure)
+takes_as number_in hash_in one other is_steady fault may_be units old new failure is = record {
+  news = is.news;
+  has = is.has;
+  took = _;
+  failed = is.failed;
+  steady = is.steady;
+  gave = is.gave;
+}

@@ -24,11 +24,13 @@ pub mod Levels
 pub mod NodesByUnit
 pub mod Numbers
 pub mod OnePiece
+pub mod OwedSums
 pub mod PartBytes
 pub mod PartReads
 pub mod Parts
 pub mod PartsInside
 pub mod Placing
+pub mod PaidSums
 pub mod PlanFaults
 pub mod PlanLevels
 pub mod PlanPieces

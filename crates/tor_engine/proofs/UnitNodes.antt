@@ -18,12 +18,12 @@ use Rattle.tor_source.specs.Source.{SourceFacts}
 use Rattle.tor_tree.specs.Kinds.{has_v2}
 use Rattle.tor_engine.specs.Hasher.{IsTreeOf}
 use Rattle.tor_engine.specs.PieceHashes.{hash_of_parts, merkle_hash}
-use Rattle.tor_engine.specs.declared.hasher.Hashed.{Hashed}
+use Rattle.tor_engine.specs.declared.worker.WorkerSums.{WorkerSums}
 use Rattle.tor_engine.specs.steps.Hashes.{Node, bytes_of_part, level_in, level_of, node_of_part, node_over}
 use Rattle.tor_engine.specs.steps.Hashes.{nodes_of_unit}
 use Rattle.tor_engine.specs.steps.Pieces.{HasPieces}
 use Rattle.tor_engine.specs.steps.Reads.{HaveRead, PartRead}
-use Rattle.tor_engine.specs.steps.Run.{HashesUnit, HasRoomAt, IsUnitOf}
+use Rattle.tor_engine.specs.steps.Run.{HasRoomAt, IsUnitOf, ReadsUnit}
 use Rattle.tor_engine.proofs.Parts.{size_of, some_bytes}
 
 -- ---- contents that have what was read of one part
@@ -101,14 +101,15 @@ module _ (plan : PlanFacts) (unit : PlanUnit) (is : IsUnitOf plan unit) (trees :
       ∙ ap (map (node_of_part plan.piece_length below contents)) parts_are)
 
   -- what was read has room at the level of the unit
-  pub room_of_unit : {F : Type 0} (is_steady : SourceFacts F → Type 0) (hashed : Hashed) (tree : Feeding) (k : ℕ)
-      → HashesUnit is_steady plan unit hashed → hashed.tree ≡ Some tree
+  pub room_of_unit : {F : Type 0} (is_steady : SourceFacts F → Type 0) (before : List ℕ) (sums : WorkerSums)
+      (read : Option Feeding) (tree : Feeding) (k : ℕ) → ReadsUnit is_steady plan unit before sums read
+      → read ≡ Some tree
       → HasRoomAt plan.piece_length (unit_length unit) k → HasRoomAt tree.piece_length (length tree.bytes) k
-  room_of_unit is_steady hashed tree k hashes found room =
-      let given = have_one part hashes.reads (hashes.are.each ∙ parts_are) hashes.are.whole in
+  room_of_unit is_steady before sums read tree k reads found room =
+      let given = have_one part reads.reads (reads.are.each ∙ parts_are) reads.are.whole in
       let bytes = bytes_of_part given.0 part in
       let same : Some tree ≡ Some (feeding bytes) =
-      sym found ∙ tree_is given.0 hashed.tree (hashes.hashes given.0 given.1).tree in
+      sym found ∙ tree_is given.0 read (reads.trees given.0 given.1) in
       let alike : feeding bytes ≡ tree = cc in
       let size = λ (q : Part). q.length + q.zeros in
       let counted = ap unit_length (is.alone trees).1 in

@@ -1,16 +1,17 @@
 -- Bytes that were taken, and wait to be hashed.
 use Rattle.std.proofs.Common.{◌≡◌, ℕ, Bool, true, false, List, [], ◌++◌, cond, take, drop, Option, None, Some}
-use Rattle.std.proofs.Common.{IsSomeAnd}
-use Rattle.std.proofs.Common.{refl, ap, sym, subst, ◌∙◌, append_assoc, append-nil, take-append-drop}
+use Rattle.std.proofs.Common.{◌+◌, ◌-◌, ◌≤◌, length, refl, ap, ap₂, sym, subst, ◌∙◌, append_assoc, append-nil, arith}
+use Rattle.std.proofs.Common.{length-take, take-append-drop}
+use Rattle.std.proofs.Math.Seq.{drop-nil}
+use Rattle.std.proofs.lemmas.List.{drop-append-le, drop-drop, drop-take, drop_all, replicate-append-replicate}
 use Rattle.tor_merkle.specs.Feeding.{Feeding}
-use Rattle.tor_tree.specs.Kinds.{has_v2}
+use Rattle.tor_tree.specs.Kinds.{has_v1, has_v2}
 use Rattle.tor_tree.specs.declared.kinds.Kind.{Kind}
-use Rattle.tor_v1.specs.Feeding.{HasFed}
-use Rattle.tor_v1.specs.Piece.{zeros}
+use Rattle.tor_v1.specs.Piece.{piece_sums, zeros}
 use Rattle.tor_engine.specs.declared.hasher.ContentHasher.{ContentHasher}
 use Rattle.tor_engine.specs.declared.room.Room.{Room}
 use Rattle.tor_engine.specs.declared.worker.WorkerSums.{WorkerSums}
-use Rattle.tor_engine.specs.Hasher.{HasFedContent}
+use Rattle.tor_engine.specs.Hasher.{HasFedContent, IsTreeOf}
 use Rattle.tor_engine.specs.steps.Room.{count_in, held_in}
 use Rattle.tor_engine.specs.steps.Worker.{HasTaken, Keeps}
 
@@ -20,6 +21,24 @@ none_held room none = ap (λ n. take n room.bytes.items) none
 -- where nothing waits, all that was taken is hashed
 all_fed : (fed held all : List ℕ) → held ≡ [] → fed ++ held ≡ all → fed ≡ all
 all_fed fed held all none joined = sym (append-nil fed) ∙ ap (λ xs. fed ++ xs) (sym none) ∙ joined
+
+-- the marked bytes are held
+marked_within : (sums : WorkerSums) → sums.treed ≤ length (held_in sums.room)
+marked_within sums =
+    let long = length-take sums.room.held sums.room.bytes.items in
+    omega (arith, long, sums.marked, sums.room.within, sums.room.bytes.ok.0)
+
+none_left : (sums : WorkerSums) → sums.treed ≡ count_in sums.room → drop sums.treed (held_in sums.room) ≡ []
+none_left sums all = drop_all sums.treed (held_in sums.room)
+    (let long = length-take sums.room.held sums.room.bytes.items in omega (arith, long, all))
+
+-- what lies between two places, and what comes after
+seam : (a b : ℕ) (xs : List ℕ) → a ≤ b → drop a (take b xs) ++ drop b xs ≡ drop a xs
+seam a b xs le =
+    let e : a + (b - a) ≡ b = omega (arith, le) in
+    ap (λ n. drop a (take n xs) ++ drop n xs) (sym e)
+    ∙ ap₂ (λ front back. front ++ back) (drop-take a (b - a) xs) (sym (drop-drop (b - a) a xs))
+    ∙ take-append-drop (b - a) (drop a xs)
 
 more_fed : (fed front left held all : List ℕ) → front ++ left ≡ held → fed ++ held ≡ all → (fed ++ front) ++ left ≡ all
 more_fed fed front left held all cut joined =
@@ -34,55 +53,86 @@ more_held fed held more left all longer joined =
 -- no byte was taken
 pub fresh : (kind : Kind) (p : ℕ) (sums : WorkerSums) → HasFedContent kind p [] [] sums.hasher → held_in sums.room ≡ []
     → HasTaken kind p [] [] sums
-fresh kind p sums fed none =
-    record { fed_bytes = []; fed_unit = []; fed = fed; bytes_joined = λ has. none; unit_joined = λ has. none }
+fresh kind p sums fed none = record {
+  fed_bytes = [];
+  fed_unit = [];
+  fed = fed;
+  bytes_joined = λ has. ap (drop sums.treed) none ∙ drop-nil sums.treed;
+  unit_joined = λ has. none;
+}
 
--- the first bytes that waited were hashed
-pub keeps : (old new : WorkerSums) (count : ℕ) (front : List ℕ) → front ≡ take count (held_in old.room)
+-- the tree was fed the first of the bytes that it had not got
+pub tree_keeps : (old new : WorkerSums) (count : ℕ) (more : List ℕ) → old.treed ≤ count → new.treed ≡ count
+    → more ≡ drop old.treed (take count (held_in old.room)) → new.room ≡ old.room
+    → ((kind : Kind) (p : ℕ) (bytes unit : List ℕ) → HasFedContent kind p bytes unit old.hasher
+    → HasFedContent kind p (bytes ++ more) unit new.hasher) → Keeps old new
+tree_keeps old new count more within marked first same fed kind p bytes unit before =
+    let held = held_in old.room in
+    let left : drop new.treed (held_in new.room) ≡ drop count held =
+    ap (λ n. drop n (held_in new.room)) marked ∙ ap (λ room. drop count (held_in room)) same in
+    let cut : more ++ drop new.treed (held_in new.room) ≡ drop old.treed held =
+    ap (λ xs. xs ++ drop new.treed (held_in new.room)) first
+    ∙ ap (λ xs. drop old.treed (take count held) ++ xs) left ∙ seam old.treed count held within in
+    record {
+      fed_bytes = before.fed_bytes ++ more;
+      fed_unit = before.fed_unit;
+      fed = fed kind p before.fed_bytes before.fed_unit before.fed;
+      bytes_joined = λ has. more_fed before.fed_bytes more _ _ bytes cut (before.bytes_joined has);
+      unit_joined = λ has. ap (λ room. before.fed_unit ++ held_in room) same ∙ before.unit_joined has;
+    }
+
+-- the pieces were fed the first bytes that waited, which the tree has
+pub pieces_keep : (old new : WorkerSums) (count : ℕ) (front : List ℕ) → count ≤ old.treed
+    → new.treed ≡ old.treed - count → front ≡ take count (held_in old.room)
     → held_in new.room ≡ drop count (held_in old.room)
     → ((kind : Kind) (p : ℕ) (bytes unit : List ℕ) → HasFedContent kind p bytes unit old.hasher
-    → HasFedContent kind p (bytes ++ front) (unit ++ front) new.hasher) → Keeps old new
-keeps old new count front first left fed kind p bytes unit before =
-    let cut : front ++ held_in new.room ≡ held_in old.room =
-    ap (λ xs. xs ++ held_in new.room) first ∙ ap (λ xs. take count (held_in old.room) ++ xs) left
-    ∙ take-append-drop count (held_in old.room) in
+    → HasFedContent kind p bytes (unit ++ front) new.hasher) → Keeps old new
+pieces_keep old new count front within marked first left fed kind p bytes unit before =
+    let held = held_in old.room in
+    let cut : front ++ held_in new.room ≡ held =
+    ap (λ xs. xs ++ held_in new.room) first ∙ ap (λ xs. take count held ++ xs) left ∙ take-append-drop count held in
+    let same : drop new.treed (held_in new.room) ≡ drop old.treed held =
+    ap (drop new.treed) left ∙ drop-drop new.treed count held
+    ∙ ap (λ n. drop n held) (let e : count + new.treed ≡ old.treed = omega (arith, within, marked) in e) in
     record {
-      fed_bytes = before.fed_bytes ++ front;
+      fed_bytes = before.fed_bytes;
       fed_unit = before.fed_unit ++ front;
       fed = fed kind p before.fed_bytes before.fed_unit before.fed;
-      bytes_joined = λ has. more_fed before.fed_bytes front _ _ bytes cut (before.bytes_joined has);
+      bytes_joined = λ has. ap (λ xs. before.fed_bytes ++ xs) same ∙ before.bytes_joined has;
       unit_joined = λ has. more_fed before.fed_unit front _ _ unit cut (before.unit_joined has);
     }
 
 -- bytes were read behind those that waited
 pub takes : (kind : Kind) (p : ℕ) (old new : WorkerSums) (more bytes unit : List ℕ) → new.hasher ≡ old.hasher
-    → held_in new.room ≡ held_in old.room ++ more → HasTaken kind p bytes unit old
+    → new.treed ≡ old.treed → held_in new.room ≡ held_in old.room ++ more → HasTaken kind p bytes unit old
     → HasTaken kind p (bytes ++ more) (unit ++ more) new
-takes kind p old new more bytes unit same longer before = record {
+takes kind p old new more bytes unit same marked longer before =
+    let left : drop new.treed (held_in new.room) ≡ drop old.treed (held_in old.room) ++ more =
+    ap (λ n. drop n (held_in new.room)) marked ∙ ap (drop old.treed) longer
+    ∙ drop-append-le old.treed (held_in old.room) more (marked_within old) in
+    record {
+      fed_bytes = before.fed_bytes;
+      fed_unit = before.fed_unit;
+      fed = subst (λ (hasher : ContentHasher). HasFedContent kind p before.fed_bytes before.fed_unit hasher) (sym same)
+          before.fed;
+      bytes_joined = λ has. more_held before.fed_bytes _ more _ bytes left (before.bytes_joined has);
+      unit_joined = λ has. more_held before.fed_unit _ more _ unit longer (before.unit_joined has);
+    }
+
+-- zeros were put behind bytes that the tree has all
+pub takes_zeros : (kind : Kind) (p : ℕ) (old new : WorkerSums) (more bytes unit : List ℕ)
+    → old.treed ≡ count_in old.room → new.treed ≡ count_in new.room → new.hasher ≡ old.hasher
+    → held_in new.room ≡ held_in old.room ++ more
+    → HasTaken kind p bytes unit old → HasTaken kind p bytes (unit ++ more) new
+takes_zeros kind p old new more bytes unit all all' same longer before = record {
   fed_bytes = before.fed_bytes;
   fed_unit = before.fed_unit;
   fed = subst (λ (hasher : ContentHasher). HasFedContent kind p before.fed_bytes before.fed_unit hasher) (sym same)
       before.fed;
-  bytes_joined = λ has. more_held before.fed_bytes _ more _ bytes longer (before.bytes_joined has);
+  bytes_joined = λ has.
+      ap (λ xs. before.fed_bytes ++ xs) (none_left new all' ∙ sym (none_left old all)) ∙ before.bytes_joined has;
   unit_joined = λ has. more_held before.fed_unit _ more _ unit longer (before.unit_joined has);
 }
-
--- zeros were hashed where nothing waited
-pub takes_zeros : (kind : Kind) (p : ℕ) (old new : WorkerSums) (more bytes unit : List ℕ) → held_in old.room ≡ []
-    → new.room ≡ old.room
-    → ((bytes unit : List ℕ) → HasFedContent kind p bytes unit old.hasher
-    → HasFedContent kind p bytes (unit ++ more) new.hasher)
-    → HasTaken kind p bytes unit old → HasTaken kind p bytes (unit ++ more) new
-takes_zeros kind p old new more bytes unit none same fed before =
-    let left : held_in new.room ≡ [] = ap held_in same ∙ none in
-    record {
-      fed_bytes = before.fed_bytes;
-      fed_unit = before.fed_unit ++ more;
-      fed = fed before.fed_bytes before.fed_unit before.fed;
-      bytes_joined = λ has. ap (λ xs. before.fed_bytes ++ xs) (ap held_in same) ∙ before.bytes_joined has;
-      unit_joined = λ has. ap (λ xs. (before.fed_unit ++ more) ++ xs) left ∙ append-nil (before.fed_unit ++ more)
-          ∙ ap (λ xs. xs ++ more) (all_fed before.fed_unit _ unit none (before.unit_joined has));
-    }
 
 pub takes_none : (kind : Kind) (p : ℕ) (sums : WorkerSums) (bytes unit : List ℕ) (n : ℕ) → n ≡ 0
     → HasTaken kind p bytes unit sums → HasTaken kind p bytes (unit ++ zeros n) sums
@@ -91,7 +141,16 @@ takes_none kind p sums bytes unit n none taken =
     subst (λ (xs : List ℕ). HasTaken kind p bytes xs sums) (sym (ap (λ k. unit ++ zeros k) none ∙ append-nil unit))
     taken
 
--- ---- the end of a unit
+-- more zeros after zeros
+pub takes_more_zeros : (kind : Kind) (p : ℕ) (sums : WorkerSums) (bytes unit : List ℕ) (n m k : ℕ) → n + m ≡ k
+    → HasTaken kind p bytes ((unit ++ zeros n) ++ zeros m) sums → HasTaken kind p bytes (unit ++ zeros k) sums
+unfolding zeros
+takes_more_zeros kind p sums bytes unit n m k is taken =
+    subst (λ (xs : List ℕ). HasTaken kind p bytes xs sums)
+    (append_assoc unit (zeros n) (zeros m)
+    ∙ ap (λ xs. unit ++ xs) (replicate-append-replicate n m 0 ∙ ap zeros is)) taken
+
+-- ---- the end of a unit, and that of the pieces
 
 same_if : {A B : Type 0} (b : Bool) (f : A → B) (x y : A) (z : B) → (b ≡ true → x ≡ y)
     → cond b (f x) z ≡ cond b (f y) z
@@ -101,15 +160,36 @@ same_if false f x y z same = refl
 tree_over : ℕ → List ℕ → Option Feeding
 tree_over p bytes = Some (record { piece_length = p; bytes = bytes })
 
--- where nothing waits, the hasher was fed the whole unit
-pub whole_unit : (kind : Kind) (p : ℕ) (sums : WorkerSums) (bytes unit : List ℕ) → held_in sums.room ≡ []
-    → HasTaken kind p bytes unit sums → HasFedContent kind p bytes unit sums.hasher
-unfolding tree_over
-whole_unit kind p sums bytes unit none taken = record {
-  tree = taken.fed.tree ∙ same_if (has_v2 kind) (tree_over p) taken.fed_bytes bytes None
-      (λ has. all_fed taken.fed_bytes _ bytes none (taken.bytes_joined has));
-  pieces = λ has.
-      subst (λ (xs : List ℕ). IsSomeAnd sums.hasher.pieces (λ pieces. HasFed pieces p xs))
-      (all_fed taken.fed_unit _ unit none (taken.unit_joined has)) (taken.fed.pieces has);
-  none = taken.fed.none;
-}
+module _ (kind : Kind) (p : ℕ) (bytes unit : List ℕ) (sums : WorkerSums) (taken : HasTaken kind p bytes unit sums) where
+  -- where the tree has all that waits, it is over the bytes of the unit
+  pub whole_tree : sums.treed ≡ count_in sums.room → (tree : Option Feeding) → IsTreeOf kind p taken.fed_bytes tree
+      → IsTreeOf kind p bytes tree
+  unfolding tree_over
+  whole_tree all tree is =
+      is ∙ same_if (has_v2 kind) (tree_over p) taken.fed_bytes bytes None
+      (λ has. all_fed taken.fed_bytes _ bytes (none_left sums all) (taken.bytes_joined has))
+
+  -- and the next one begins, while the pieces go on
+  pub next_tree : (new : WorkerSums) → sums.treed ≡ count_in sums.room → new.room ≡ sums.room → new.treed ≡ sums.treed
+      → HasFedContent kind p [] taken.fed_unit new.hasher → HasTaken kind p [] unit new
+  next_tree new all room treed fed = record {
+    fed_bytes = [];
+    fed_unit = taken.fed_unit;
+    fed = fed;
+    bytes_joined = λ has. none_left new (treed ∙ all ∙ sym (ap count_in room));
+    unit_joined = λ has. ap (λ room. taken.fed_unit ++ held_in room) room ∙ taken.unit_joined has;
+  }
+
+  -- where nothing waits, the sums are those of all
+  pub whole_sums : held_in sums.room ≡ [] → (items : List ℕ)
+      → items ≡ cond (has_v1 kind) (piece_sums p taken.fed_unit) [] → items ≡ cond (has_v1 kind) (piece_sums p unit) []
+  whole_sums none items is =
+      is ∙ same_if (has_v1 kind) (piece_sums p) taken.fed_unit unit []
+      (λ has. all_fed taken.fed_unit _ unit none (taken.unit_joined has))
+
+  -- and where all that waits was added at the end
+  pub ended_sums : (items : List ℕ)
+      → items ≡ cond (has_v1 kind) (piece_sums p (taken.fed_unit ++ held_in sums.room)) []
+      → items ≡ cond (has_v1 kind) (piece_sums p unit) []
+  ended_sums items is =
+      is ∙ same_if (has_v1 kind) (piece_sums p) (taken.fed_unit ++ held_in sums.room) unit [] taken.unit_joined

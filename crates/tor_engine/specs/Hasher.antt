@@ -7,12 +7,17 @@ use Rattle.tor_tree.specs.Kinds.{has_v1, has_v2}
 use Rattle.tor_tree.specs.declared.kinds.Kind.{Kind}
 use Rattle.tor_v1.specs.Feeding.{HasFed}
 use Rattle.tor_v1.specs.Piece.{piece_sums, zeros}
+use Rattle.tor_v1.specs.declared.sums.PieceSums.{PieceSums}
 use Rattle.tor_engine.specs.declared.hasher.ContentHasher.{ContentHasher}
 use Rattle.tor_engine.specs.declared.hasher.Hashed.{Hashed}
 
 -- the tree over the bytes of files
 abbrev pub tree_of : ContentHasher → Option Feeding
 tree_of hasher = hasher.tree
+
+-- the pieces of the whole content
+abbrev pub pieces_of : ContentHasher → Option PieceSums
+pieces_of hasher = hasher.pieces
 
 -- the tree after some more bytes
 abbrev pub fed_tree : List ℕ → Option Feeding → Option Feeding

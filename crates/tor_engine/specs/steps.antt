@@ -7,6 +7,7 @@ pub mod Fed
 pub mod Given
 pub mod Hashes
 pub mod Pieces
+pub mod Owing
 pub mod Places
 pub mod ReadBytes
 pub mod Reads

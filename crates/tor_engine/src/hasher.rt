@@ -1,17 +1,21 @@
 //! What a content hashes to, while its bytes come.
-ghost use Rattle.std.specs.Prelude.{◌≡◌, ◌+◌, ◌<◌, ◌≤◌, ◌++◌, [], ℕ, List, None, IsOk, OnErr, OnOk, length};
+ghost use Rattle.std.specs.Prelude.{◌≡◌, ◌+◌, ◌<◌, ◌^◌, ◌≤◌, ◌++◌, [], ℕ, List, None, IsOk, OnErr, OnOk, length};
+ghost use Rattle.std.specs.Prelude.{if◌then◌else◌};
 ghost use Rattle.std.specs.Int.{div_ceil};
 ghost use Rattle.std.specs.Option.{ForSome};
 ghost use Rattle.tor_merkle.specs.declared.TheConstants.{MAX_LENGTH};
-ghost use Rattle.tor_plan.specs.PlanFacts.{IsPlanPieceLength};
+ghost use Rattle.tor_plan.specs.PlanFacts.{IsPlan, IsPlanPieceLength};
 ghost use Rattle.tor_tree.specs.Kinds.{has_v1, has_v2};
 ghost use Rattle.tor_tree.specs.declared.kinds.Kind.{Kind};
-ghost use Rattle.tor_v1.specs.Feeding.{Feeds, HasFed};
-ghost use Rattle.tor_v1.specs.Piece.{zeros};
-ghost use Rattle.tor_engine.specs.Hasher.{AreHashesOf, HasFedContent, IsLeft, IsLeftOfZeros, fed_tree, tree_of};
+ghost use Rattle.tor_v1.specs.Feeding.{Feeds, HasFed, HasRoom};
+ghost use Rattle.tor_v1.specs.Piece.{piece_sums, zeros};
+ghost use Rattle.tor_engine.specs.Hasher.{AreHashesOf, HasFedContent, IsLeft, IsLeftOfZeros, IsTreeOf, fed_tree};
+ghost use Rattle.tor_engine.specs.Hasher.{pieces_of, tree_of};
 
 use std::alloc::{AllocError, Global};
+use std::mem;
 use tor_merkle::Feed;
+use tor_plan::Plan;
 use tor_tree::Kind;
 use tor_v1::PieceSums;
 
@@ -95,6 +99,99 @@ impl ContentHasher {
             feed_zeros(pieces, count)?;
         }
         Ok(())
+    }
+
+    /// Adds bytes of files to the tree alone. Where memory is refused, it is as it was.
+    pub(crate) fn feed_tree(&mut self, bytes: &[u8]) -> Result<(), AllocError>
+        requires { ForSome (tree_of self.old) (λ feed. length feed.bytes + length bytes.now ≤ MAX_LENGTH) }
+        ensures fed { (kind : Kind) (piece_length : ℕ) (before joined : List ℕ) →
+            HasFedContent kind piece_length before joined self.old →
+            OnOk result (HasFedContent kind piece_length (before ++ bytes.now) joined self.new) }
+        ensures tree { OnOk result (tree_of self.new ≡ fed_tree bytes.now (tree_of self.old)) }
+        ensures err { OnErr result (tree_of self.new ≡ tree_of self.old) }
+    {
+        if let Some(feed) = &mut self.tree {
+            feed.feed(bytes)?;
+        }
+        Ok(())
+    }
+
+    /// Adds bytes to the pieces alone.
+    pub(crate) fn feed_pieces(&mut self, bytes: &[u8]) -> Result<(), AllocError>
+        ensures fed { (kind : Kind) (piece_length : ℕ) (before joined : List ℕ) →
+            HasFedContent kind piece_length before joined self.old →
+            OnOk result (HasFedContent kind piece_length before (joined ++ bytes.now) self.new) }
+        ensures tree { tree_of self.new ≡ tree_of self.old }
+    {
+        if let Some(sums) = &mut self.pieces {
+            sums.feed(bytes)?;
+        }
+        Ok(())
+    }
+
+    /// Makes room for the hashes of the pieces that so many more bytes begin, so that `add_pieces` can take them.
+    pub(crate) fn reserve(&mut self, count: u64) -> Result<(), AllocError>
+        requires { count < 2 ^ 63 }
+        ensures same { (kind : Kind) (piece_length : ℕ) (bytes joined : List ℕ) →
+            HasFedContent kind piece_length bytes joined self.old →
+            HasFedContent kind piece_length bytes joined self.new }
+        ensures tree { tree_of self.new ≡ tree_of self.old }
+        ensures room { OnOk result (ForSome (pieces_of self.new) (λ pieces. HasRoom pieces count)) }
+    {
+        if let Some(pieces) = &mut self.pieces {
+            pieces.reserve(count)?;
+        }
+        Ok(())
+    }
+
+    /// Adds bytes to the pieces, for which there is room. It takes no memory.
+    pub(crate) fn add_pieces(&mut self, bytes: &[u8])
+        requires { ForSome (pieces_of self.old) (λ pieces. HasRoom pieces (length bytes.now)) }
+        ensures { (kind : Kind) (piece_length : ℕ) (before joined : List ℕ) →
+            HasFedContent kind piece_length before joined self.old →
+            HasFedContent kind piece_length before (joined ++ bytes.now) self.new }
+    {
+        if let Some(pieces) = &mut self.pieces {
+            pieces.add(bytes);
+        }
+    }
+
+    /// Gives the tree, and begins the next one. The pieces go on.
+    pub(crate) fn end_tree(&mut self, alloc: Global, plan: &Plan) -> Option<Feed>
+        requires { IsPlan plan.now }
+        ensures tree { (kind : Kind) (piece_length : ℕ) (before joined : List ℕ) →
+            HasFedContent kind piece_length before joined self.old → IsTreeOf kind piece_length before result }
+        ensures next { (kind : Kind) (piece_length : ℕ) (before joined : List ℕ) → kind ≡ plan.now.kind →
+            piece_length ≡ plan.now.piece_length → HasFedContent kind piece_length before joined self.old →
+            HasFedContent kind piece_length [] joined self.new }
+        ensures new { IsTreeOf plan.now.kind plan.now.piece_length [] (tree_of self.new) }
+        ensures empty { ForSome (tree_of self.new) (λ feed. feed.bytes ≡ []) }
+    {
+        let next = plan
+            .kind()
+            .has_v2()
+            .then(|| Feed::new(alloc, plan.piece_length()));
+        mem::replace(&mut self.tree, next)
+    }
+
+    /// Gives the sums of the pieces, none in V2, and begins the next ones. The tree goes on.
+    pub(crate) fn end_pieces(&mut self, alloc: Global, plan: &Plan) -> Vec<u8>
+        requires { IsPlan plan.now }
+        ensures sums { (kind : Kind) (piece_length : ℕ) (before joined : List ℕ) →
+            HasFedContent kind piece_length before joined self.old →
+            result.items ≡ (if has_v1 kind then piece_sums piece_length joined else []) }
+        ensures next { (before : List ℕ) → IsTreeOf plan.now.kind plan.now.piece_length before (tree_of self.old) →
+            HasFedContent plan.now.kind plan.now.piece_length before [] self.new }
+        ensures tree { tree_of self.new ≡ tree_of self.old }
+    {
+        let next = plan
+            .kind()
+            .has_v1()
+            .then(|| PieceSums::new(alloc, plan.piece_length()));
+        match mem::replace(&mut self.pieces, next) {
+            Some(ended) => ended.finish(),
+            None => Vec::new(alloc),
+        }
     }
 
     /// Ends the content. It takes no memory.

@@ -7,6 +7,7 @@ ghost use Rattle.tor_engine.specs.declared.how.TheConstants.{MAX_WORKERS};
 
 use crate::fed_sums::sums_of_fed;
 use crate::feeding::{feed_input, open};
+use crate::lane_span::lane_span;
 use crate::sums::Sums;
 use std::alloc::Global;
 use std::io::Read;
@@ -41,7 +42,7 @@ pub fn hash_input<R: Read, T: Threads + Wait + Sync + Send + Clone + Drop + 'sta
     ensures stopped { IfErr result (λ fault.
         ReadsSome (R.remaining reader.old) (R.remaining reader.new) (EndsInput MAX_INPUT_LENGTH fault)) }
 {
-    let size = piece_length * span as u64;
+    let size = piece_length * lane_span(piece_length, span) as u64;
     let (cutter, workers) = open(alloc, size, workers)?;
     let fed = feed_input(rt, alloc, reader, kind, piece_length, tail, cutter, workers)?;
     let summed = sums_of_fed(alloc, kind, piece_length, size, fed)?;

@@ -10,6 +10,7 @@ ghost use Rattle.tor_engine.specs.Fault.{IsFault, unit_fault};
 ghost use Rattle.tor_engine.specs.PieceFault.{piece_fault};
 ghost use Rattle.tor_engine.specs.PieceHashes.{hash_if_there, piece_hash};
 ghost use Rattle.tor_engine.specs.There.{is_within};
+ghost use Rattle.tor_engine.specs.steps.Each.{SumUpEach};
 ghost use Rattle.tor_engine.specs.steps.Given.{IsGivenRead, lengths_of_sizes};
 ghost use Rattle.tor_engine.specs.steps.Pieces.{AreTold, HashesPieces, IsPaddingSum, IsPiece, IsUnitToHash};
 ghost use Rattle.tor_engine.specs.steps.Pieces.{unit_pieces_fault};
@@ -17,6 +18,7 @@ ghost use Rattle.tor_engine.specs.steps.Worker.{IsFresh};
 
 use crate::errors::EngineError;
 use crate::file_bytes::FileBytes;
+use crate::owing::OwingSums;
 use crate::piece_hash::{PieceHash, hashes_of_piece};
 use crate::present::is_there;
 use crate::unit_hash::hash_unit;
@@ -57,8 +59,6 @@ impl<'a, S: FileBytes> UnitWork for PieceWork<'a, S> {
 
     type Sums = UnitPieces;
 
-    ghost plan = { λ work. work.plan.now };
-
     ghost may_begin = { λ work. IsPlan work.plan.now × IsPaddingSum work.plan.now work.known.now.padding_sum };
 
     ghost may_hash = { λ work unit. IsUnitToHash work.plan.now unit };
@@ -71,6 +71,10 @@ impl<'a, S: FileBytes> UnitWork for PieceWork<'a, S> {
 
     ghost sums_up = { λ work unit sums. HashesPieces (S.is_steady work.source.now) work.plan.now
         work.known.now.lengths.items unit sums.hashes.items };
+
+    ghost stands = { λ work units sums worker. IsFresh work.plan.now [] worker.sums
+        × SumUpEach (λ unit one. HashesPieces (S.is_steady work.source.now) work.plan.now
+        work.known.now.lengths.items unit one.hashes.items) units sums };
 
     ghost number_in = { λ _ sums. sums.unit };
 
@@ -85,15 +89,15 @@ impl<'a, S: FileBytes> UnitWork for PieceWork<'a, S> {
         self.alloc
     }
 
-    fn begin(&self) -> Result<WorkerSums, AllocError> {
-        WorkerSums::new(self.alloc, self.plan)
+    fn begin(&self) -> Result<OwingSums, AllocError> {
+        OwingSums::new(self.alloc, self.plan)
     }
 
     fn hash(
         &self,
         number: u64,
         unit: &PlanUnit,
-        worker: &mut WorkerSums,
+        worker: &mut OwingSums,
     ) -> Result<UnitPieces, EngineError<S::Fault>> {
         let pieces = unit.pieces(self.alloc, self.plan.piece_length())?;
         let mut hashes = Vec::new(self.alloc);
@@ -104,7 +108,7 @@ impl<'a, S: FileBytes> UnitWork for PieceWork<'a, S> {
                 self.plan,
                 self.known,
                 piece,
-                worker,
+                &mut worker.sums,
             ) {
                 Ok(hash) => hash,
                 Err(error) => return Err(error),
@@ -116,6 +120,9 @@ impl<'a, S: FileBytes> UnitWork for PieceWork<'a, S> {
             hashes,
         })
     }
+
+    // Each piece was hashed by itself.
+    fn complete(&self, _worker: OwingSums, _sums: &mut Vec<UnitPieces>) {}
 
     fn number_of(&self, sums: &UnitPieces) -> u64 {
         sums.unit
@@ -138,8 +145,8 @@ fn hash_if_there<S: FileBytes>(
     requires planned { IsPlan plan.now }
     requires padding { IsPaddingSum plan.now known.now.padding_sum }
     requires piece { IsPiece plan.now piece.now }
-    requires fresh { IsFresh plan.now sums.old }
-    ensures fresh { IfOk result (λ _. IsFresh plan.now sums.new) }
+    requires fresh { IsFresh plan.now [] sums.old }
+    ensures fresh { IfOk result (λ _. IsFresh plan.now [] sums.new) }
     ensures hashed { (facts : SourceFacts S.Fault) → S.is_steady source.now facts →
         AreTold known.now.lengths.items (contents_in facts (length plan.now.lengths)) →
         MatchResult result
@@ -182,8 +189,8 @@ fn hash_piece<S: FileBytes>(
 ) -> Result<PieceHash, EngineError<S::Fault>>
     requires planned { IsPlan plan.now }
     requires piece { IsPiece plan.now piece.now }
-    requires fresh { IsFresh plan.now sums.old }
-    ensures fresh { IfOk result (λ _. IsFresh plan.now sums.new) }
+    requires fresh { IsFresh plan.now [] sums.old }
+    ensures fresh { IfOk result (λ _. IsFresh plan.now [] sums.new) }
     ensures hashed { (facts : SourceFacts S.Fault) → S.is_steady source.now facts →
         is_there (contents_in facts (length plan.now.lengths)) piece.now ≡ true →
         MatchResult result

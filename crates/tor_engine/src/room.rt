@@ -1,6 +1,7 @@
 //! The bytes that a worker has read and not hashed yet, and room for more behind them.
 ghost use Rattle.std.specs.Prelude.{◌≡◌, ◌⊎◌, ◌+◌, ◌*◌, ◌-◌, ◌%◌, ◌<◌, ◌≤◌, [], Some, false, true};
-ghost use Rattle.std.specs.Prelude.{IfErr, IfOk, List, MatchResult, drop, length, slice_index_or, take, vec_len, ℕ};
+ghost use Rattle.std.specs.Prelude.{◌++◌, IfErr, IfOk, List, MatchResult, drop, length, slice_index_or, take, vec_len};
+ghost use Rattle.std.specs.Prelude.{ℕ};
 ghost use Rattle.tor_plan.specs.PlanFacts.{IsPlan};
 ghost use Rattle.tor_source.specs.Source.{SourceFacts, bytes_from};
 ghost use Rattle.tor_engine.specs.Fault.{byte_fault};
@@ -8,6 +9,7 @@ ghost use Rattle.tor_engine.specs.declared.room.TheConstants.{BATCH, LEAST_ASKED
 ghost use Rattle.tor_engine.specs.steps.Given.{IsGivenRead};
 ghost use Rattle.tor_engine.specs.steps.ReadBytes.{AreBytesAt, EndsThere, IsFaultFree};
 ghost use Rattle.tor_tree.specs.Kinds.{has_v1};
+ghost use Rattle.tor_v1.specs.Piece.{zeros};
 ghost use Rattle.tor_v1.specs.declared.runs.TheConstants.{MAX_PIECE_IN_RUN};
 
 use crate::errors::EngineError;
@@ -144,6 +146,20 @@ impl Room {
         }
     }
 
+    /// Puts zeros behind the bytes that are held, at most `left`, and answers how many.
+    pub(crate) fn put_zeros(&mut self, left: u64) -> usize
+        requires left { 0 < left }
+        requires room { HasRoom left self.old }
+        ensures some { (0 < result) × (result ≤ left) }
+        ensures count { count_in self.new ≡ count_in self.old + result }
+        ensures held { held_in self.new ≡ held_in self.old ++ zeros result }
+    {
+        let count = self.asked(left);
+        zeros_behind(self.held, count, &mut self.bytes);
+        self.held += count;
+        count
+    }
+
     // How many bytes are asked for where so many are left: up to a whole batch, and few only where few are left.
     fn asked(&self, left: u64) -> usize
         requires left { 0 < left }
@@ -194,6 +210,18 @@ fn move_to_front(bytes: &mut [u8], count: usize, left: usize)
     let (buffer, _) = front.split_at_mut(left);
     let (moved, _) = rest.split_at(left);
     buffer.copy_from_slice(moved);
+}
+
+/// Puts so many zeros behind the first `held`.
+fn zeros_behind(held: usize, count: usize, bytes: &mut [u8])
+    requires { held + count ≤ length bytes.old }
+    ensures len { length bytes.new ≡ length bytes.old }
+    ensures front { take held bytes.new ≡ take held bytes.old }
+    ensures zeros { take count (drop held bytes.new) ≡ zeros count }
+{
+    let (_, spare) = bytes.split_at_mut(held);
+    let (buffer, _) = spare.split_at_mut(count);
+    buffer.fill(0);
 }
 
 /// Reads once, at most so many bytes, behind the first `held`.

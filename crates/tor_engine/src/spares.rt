@@ -10,6 +10,9 @@ use tor_source::zeros;
 #[derive(Drop)]
 pub(crate) struct Spares {
     from: Receiver<Vec<u8>, Global>,
+    // Those that came out of it, the last on top, of whose bytes the most are still in the processor's cache.
+    ready: Vec<Vec<u8>>,
+    room: usize,
 }
 
 /// The end where a worker gives back.
@@ -21,28 +24,43 @@ pub(crate) struct GiveBack {
 /// Both ends, with room for so many buffers.
 pub(crate) fn pool(alloc: Global, room: usize) -> Result<(Spares, GiveBack), AllocError> {
     let (to, from) = bounded(alloc, room)?;
-    Ok((Spares { from }, GiveBack { to }))
+    let ready = Vec::with_capacity(alloc, room)?;
+    Ok((Spares { from, ready, room }, GiveBack { to }))
 }
 
 impl Spares {
-    /// A buffer of this length: one that was given back, where there is one.
+    /// A buffer of this length: the last that was given back, where there is one.
     pub(crate) fn another<T: Wait>(
-        &self,
+        &mut self,
         rt: &T,
         alloc: Global,
         length: usize,
     ) -> Result<Vec<u8>, AllocError>
         ensures { IfOk result (λ buffer. vec_len buffer ≡ length) }
     {
-        match self.from.try_recv(rt) {
-            Ok(buffer) if buffer.len() == length => Ok(buffer),
+        self.collect(rt);
+        match self.ready.pop() {
+            Some(buffer) if buffer.len() == length => Ok(buffer),
             _ => zeros(alloc, length),
         }
     }
 
     /// Lets one go, where there is one, so that no more is held than without them.
-    pub(crate) fn let_one_go<T: Wait>(&self, rt: &T) {
-        let _ = self.from.try_recv(rt);
+    pub(crate) fn let_one_go<T: Wait>(&mut self, rt: &T) {
+        self.collect(rt);
+        let _ = self.ready.pop();
+    }
+
+    // Takes what was given back; where memory for it is refused it is let go.
+    fn collect<T: Wait>(&mut self, rt: &T) {
+        for _ in 0..self.room {
+            match self.from.try_recv(rt) {
+                Ok(buffer) => {
+                    let _ = self.ready.push(buffer);
+                }
+                Err(_) => return,
+            }
+        }
     }
 }
 

@@ -7,6 +7,7 @@ use crate::errors::EngineError;
 use crate::fed_sums::sums_of_fed;
 use crate::feeding::{feed_readers, open};
 use crate::gate::{Gate, OpenGate};
+use crate::lane_span::lane_span;
 use crate::stream_worker::any_refused;
 use crate::sums::Sums;
 use std::alloc::Global;
@@ -19,9 +20,10 @@ use tor_tree::Kind;
 pub const MAX_UNIT_LENGTH: u64 = 1 << 30;
 
 /// What the contents of readers sum up to, each of which is read once, to its end, one after the other. The calling
-/// thread reads, and puts units of `span` pieces into a channel that holds at most two for each worker; so many
-/// workers, from 1 to 64, take and hash them. In a hybrid zeros fill the last piece of each content that a byte of a
-/// later one follows, and with a tail that of the last content with bytes too.
+/// thread reads, and puts units of `span` pieces, or of at most eight where those have more than 2 MiB, into a channel
+/// that holds at most two for each worker; so many workers, from 1 to 64, take and hash them. In a hybrid zeros fill
+/// the last piece of each content that a byte of a later one follows, and with a tail that of the last content with
+/// bytes too.
 ///
 /// # Errors
 ///
@@ -76,7 +78,7 @@ pub fn hash_streams_with<G: Gate + Sync, R: Read + Drop, T: Threads + Wait + Syn
         IfOk result (AreSumsOfContents kind tail piece_length contents) }
     ensures fault { IfErr result (IsFaultOfReaders (map R.remaining readers.items)) }
 {
-    let size = piece_length * span as u64;
+    let size = piece_length * lane_span(piece_length, span) as u64;
     let (cutter, workers) = open(alloc, size, workers)?;
     let fed = feed_readers(
         gate,

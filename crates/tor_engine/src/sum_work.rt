@@ -1,15 +1,19 @@
 //! Units hashed for the sums of files.
+ghost use Rattle.std.specs.Prelude.{ℕ, List};
 ghost use Rattle.tor_plan.specs.PlanFacts.{IsPlan};
 ghost use Rattle.tor_engine.specs.Fault.{unit_fault};
 ghost use Rattle.tor_engine.specs.steps.Given.{IsGivenRead};
 ghost use Rattle.tor_engine.specs.steps.Reads.{HasLengths};
-ghost use Rattle.tor_engine.specs.steps.Run.{IsUnitToSum, SumsUpUnit};
+ghost use Rattle.tor_engine.specs.steps.Each.{OweEach};
+ghost use Rattle.tor_engine.specs.steps.Owing.{Owes};
+ghost use Rattle.tor_engine.specs.steps.Run.{IsUnitToSum, OwesUnit, SumsUpUnit};
 
 use crate::errors::EngineError;
 use crate::file_bytes::FileBytes;
+use crate::owing::OwingSums;
+use crate::paying::pay;
 use crate::unit_sums::{UnitSums, sum_unit};
 use crate::unit_work::UnitWork;
-use crate::worker::WorkerSums;
 use std::alloc::{AllocError, Global};
 use tor_merkle::Hash;
 use tor_plan::{Plan, PlanUnit};
@@ -27,8 +31,6 @@ impl<'a, S: FileBytes> UnitWork for SumWork<'a, S> {
 
     type Sums = UnitSums;
 
-    ghost plan = { λ work. work.plan.now };
-
     ghost may_begin = { λ work. IsPlan work.plan.now };
 
     ghost may_hash = { λ work unit. IsUnitToSum work.plan.now unit };
@@ -38,6 +40,9 @@ impl<'a, S: FileBytes> UnitWork for SumWork<'a, S> {
     ghost fault = { λ _ facts unit. unit_fault facts unit };
 
     ghost sums_up = { λ work unit sums. SumsUpUnit (S.is_steady work.source.now) work.plan.now unit sums };
+
+    ghost stands = { λ work units sums worker. (owed : List ℕ) × Owes work.plan.now owed worker
+        × OweEach (OwesUnit (S.is_steady work.source.now) work.plan.now) units sums owed };
 
     ghost number_in = { λ _ sums. sums.unit };
 
@@ -51,17 +56,22 @@ impl<'a, S: FileBytes> UnitWork for SumWork<'a, S> {
         self.alloc
     }
 
-    fn begin(&self) -> Result<WorkerSums, AllocError> {
-        WorkerSums::new(self.alloc, self.plan)
+    fn begin(&self) -> Result<OwingSums, AllocError> {
+        OwingSums::new(self.alloc, self.plan)
     }
 
     fn hash(
         &self,
         number: u64,
         unit: &PlanUnit,
-        worker: &mut WorkerSums,
+        worker: &mut OwingSums,
     ) -> Result<UnitSums, EngineError<S::Fault>> {
         sum_unit(self.alloc, self.source, self.plan, number, unit, worker)
+    }
+
+    fn complete(&self, worker: OwingSums, sums: &mut Vec<UnitSums>) {
+        let owed = worker.finish(self.alloc);
+        pay(sums, &owed);
     }
 
     fn number_of(&self, sums: &UnitSums) -> u64 {

@@ -1,18 +1,19 @@
 //! Units that one worker claims at a board, one after the other.
-ghost use Rattle.std.specs.Prelude.{◌≡◌, ◌<◌, All, IfErr, IfOk, MatchResult, OnOk, length};
-ghost use Rattle.std.specs.Option.{ForSome};
+ghost use Rattle.std.specs.Prelude.{◌≡◌, ◌<◌, ◌++◌, ◌∷◌, [], All, IfErr, IfOk, List, MatchResult, OnOk, length, map};
+ghost use Rattle.std.specs.List.{AllByRecursion};
 ghost use Rattle.tor_board.specs.Desks.{Has, failing};
 ghost use Rattle.tor_board.specs.Seats.{IsSeatOf, knows, unit_count};
+ghost use Rattle.tor_plan.specs.declared.units.PlanUnit.{PlanUnit};
 ghost use Rattle.tor_source.specs.Source.{SourceFacts};
 ghost use Rattle.tor_engine.specs.Fault.{IsFault};
-ghost use Rattle.tor_engine.specs.steps.Taken.{GivesUnit, HasRoom, IsIdle, TakesUnits, unit_at};
-ghost use Rattle.tor_engine.specs.steps.Worker.{IsFresh};
+ghost use Rattle.tor_engine.specs.steps.Taken.{GivesUnit, HasBegun, HasRoom, IsAny, IsIdle, IsSumOf, TakesUnits};
+ghost use Rattle.tor_engine.specs.steps.Taken.{pair_in, unit_at, units_taken};
 
 use crate::errors::EngineError;
 use crate::failure::Failure;
+use crate::owing::OwingSums;
 use crate::taken::Taken;
 use crate::unit_work::UnitWork;
-use crate::worker::WorkerSums;
 use std::alloc::AllocError;
 use tor_board::{Board, Job, Seat};
 use tor_plan::PlanUnit;
@@ -42,7 +43,27 @@ pub(crate) fn take_units<W: UnitWork>(
             Err(failure) => return Err(failure),
         }
     }
+    complete(work, units, worker, &mut taken.sums);
     Ok(taken)
+}
+
+/// Completes what the units sum up to that a worker took, if it has begun.
+fn complete<W: UnitWork>(
+    work: &W,
+    units: &[PlanUnit],
+    worker: Option<OwingSums>,
+    sums: &mut Vec<W::Sums>,
+)
+    requires begin { W.may_begin work.now }
+    requires stands { HasBegun (W.stands work.now) (W.number_in work.now) units.now sums.old.items worker }
+    ensures summed { AllByRecursion (IsSumOf (W.number_in work.now) IsAny units.now) sums.old.items →
+        AllByRecursion (IsSumOf (W.number_in work.now) (W.sums_up work.now) units.now) sums.new.items }
+    ensures same { map (pair_in (W.number_in work.now) (W.hash_in work.now)) sums.new.items
+        ≡ map (pair_in (W.number_in work.now) (W.hash_in work.now)) sums.old.items }
+{
+    if let Some(worker) = worker {
+        work.complete(worker, sums);
+    }
 }
 
 /// Hashes one unit, gives its hash and keeps what it sums up to.
@@ -52,17 +73,18 @@ fn take_unit<W: UnitWork>(
     board: &Board,
     seat: &mut Seat,
     job: Job,
-    worker: &mut Option<WorkerSums>,
+    worker: &mut Option<OwingSums>,
     taken: &mut Taken<W::Sums>,
 ) -> Result<(), Failure<W::Fault>>
     requires begin { W.may_begin work.now }
     requires units { All (W.may_hash work.now) units.now }
-    requires fresh { ForSome worker.old (IsFresh (W.plan work.now)) }
+    requires stands { HasBegun (W.stands work.now) (W.number_in work.now) units.now taken.old.sums.items worker.old }
     requires board { IsSeatOf board.now seat.old }
     requires job { Has (knows seat.old).held job.number × (job.number < length units.now) }
     ensures board { IsSeatOf board.now seat.new }
-    ensures fresh { OnOk result (ForSome worker.new (IsFresh (W.plan work.now))) }
-    ensures given { OnOk result (GivesUnit (W.number_in work.now) (W.hash_in work.now) (W.sums_up work.now)
+    ensures stands { OnOk result
+        (HasBegun (W.stands work.now) (W.number_in work.now) units.now taken.new.sums.items worker.new) }
+    ensures given { OnOk result (GivesUnit (W.number_in work.now) (W.hash_in work.now) IsAny
         units.now job.number (knows seat.old) (knows seat.new) taken.old taken.new) }
     ensures failed { IfErr result (λ failure. (failure.unit ≡ job.number)
         × (knows seat.new ≡ failing (knows seat.old) job.number)) }
@@ -87,17 +109,17 @@ fn hash_claimed<W: UnitWork>(
     work: &W,
     units: &[PlanUnit],
     number: u64,
-    worker: &mut Option<WorkerSums>,
+    worker: &mut Option<OwingSums>,
     taken: &mut Taken<W::Sums>,
 ) -> Result<W::Sums, EngineError<W::Fault>>
     requires begin { W.may_begin work.now }
     requires units { All (W.may_hash work.now) units.now }
-    requires fresh { ForSome worker.old (IsFresh (W.plan work.now)) }
+    requires stands { HasBegun (W.stands work.now) (W.number_in work.now) units.now taken.old.sums.items worker.old }
     requires number { number < length units.now }
-    ensures fresh { IfOk result (λ _. ForSome worker.new (IsFresh (W.plan work.now))) }
+    ensures stands { IfOk result (λ sums. HasBegun (W.stands work.now) (W.number_in work.now) units.now
+        (taken.old.sums.items ++ sums ∷ []) worker.new) }
     ensures room { IfOk result (λ _. HasRoom taken.new) }
     ensures kept { (taken.new.sums.items ≡ taken.old.sums.items) × (taken.new.tops.items ≡ taken.old.tops.items) }
-    ensures summed { IfOk result (W.sums_up work.now (unit_at units.now number)) }
     ensures number { IfOk result (λ sums. W.number_in work.now sums ≡ number) }
     ensures fault { (facts : SourceFacts W.Fault) → W.is_steady work.now facts →
         MatchResult result (λ _. W.fault work.now facts (unit_at units.now number) ≡ None)
@@ -115,10 +137,11 @@ fn hash_claimed<W: UnitWork>(
 }
 
 /// A worker that has begun: this one, or where there is none a new one.
-fn begun<W: UnitWork>(work: &W, worker: Option<WorkerSums>) -> Result<WorkerSums, AllocError>
-    requires begin { W.may_begin work.now }
-    requires fresh { ForSome worker (IsFresh (W.plan work.now)) }
-    ensures { IfOk result (IsFresh (W.plan work.now)) }
+fn begun<W: UnitWork>(work: &W, worker: Option<OwingSums>) -> Result<OwingSums, AllocError>
+    requires { W.may_begin work.now }
+    ensures { (units : List PlanUnit) (sums : List W.Sums) →
+        HasBegun (W.stands work.now) (W.number_in work.now) units sums worker →
+        IfOk result (W.stands work.now (units_taken (W.number_in work.now) units sums) sums) }
 {
     match worker {
         Some(worker) => Ok(worker),

@@ -129,5 +129,6 @@ fn hash_in_turn<W: UnitWork>(
         };
         sums.push(next)?;
     }
+    work.complete(worker, &mut sums);
     Ok(sums)
 }

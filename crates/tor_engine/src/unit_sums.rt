@@ -1,24 +1,24 @@
 //! What one unit sums up to in its file.
-ghost use Rattle.std.specs.Prelude.{◌≡◌, ◌≢◌, ◌<◌, ◌∷◌, [], ℕ, All, IsSomeAnd, List, None, Some, IfErr};
+ghost use Rattle.std.specs.Prelude.{◌≡◌, ◌≢◌, ◌^◌, ◌<◌, ◌≤◌, ◌++◌, ◌∷◌, [], ℕ, All, IsSomeAnd, List, None, Some, IfErr};
 ghost use Rattle.std.specs.Prelude.{IfOk, MatchResult, length, slice_index_or};
 ghost use Rattle.std.specs.Option.{ForSome};
 ghost use Rattle.tor_merkle.specs.Layer.{IsPieceLength, piece_roots};
 ghost use Rattle.tor_plan.specs.PlanFacts.{IsPlan};
-ghost use Rattle.tor_plan.specs.WithinEntries.{IsInFile};
+ghost use Rattle.tor_plan.specs.WithinEntries.{IsInFile, unit_length};
 ghost use Rattle.tor_plan.specs.declared.units.Part.{Part};
 ghost use Rattle.tor_source.specs.Source.{SourceFacts};
 ghost use Rattle.tor_engine.specs.Fault.{IsFault, unit_fault};
 ghost use Rattle.tor_engine.specs.steps.Given.{IsGivenRead};
 ghost use Rattle.tor_engine.specs.steps.Hashes.{level_in, level_of, node_over};
 ghost use Rattle.tor_engine.specs.steps.Reads.{HasParts};
-ghost use Rattle.tor_engine.specs.steps.Run.{HasRoomAt, IsUnitOf, IsUnitToSum, SumsUpUnit, bare_node, node_in};
-ghost use Rattle.tor_engine.specs.steps.Worker.{IsFresh};
+ghost use Rattle.tor_engine.specs.steps.Owing.{Owes};
+ghost use Rattle.tor_engine.specs.steps.Run.{HasRoomAt, IsUnitOf, IsUnitToSum, OwesUnit, bare_node, node_in};
 
 use crate::errors::EngineError;
 use crate::file_bytes::FileBytes;
 use crate::hasher::Hashed;
-use crate::unit_hash::hash_unit;
-use crate::worker::WorkerSums;
+use crate::owing::{OwingSums, room_for_sums};
+use crate::unit_hash::read_unit;
 use std::alloc::Global;
 use tor_merkle::laws::piece_roots_fit_a_layer;
 use tor_merkle::{Feed, Hash, layer_subtree, piece_level};
@@ -135,29 +135,44 @@ fn level_in(plan: &Plan, unit: &PlanUnit) -> Option<u32>
     }
 }
 
-/// Reads one unit, and gives what it sums up to.
+/// Reads one unit, and gives what it sums up to once it has the sums of its pieces, for which it has room.
 pub(crate) fn sum_unit<S: FileBytes>(
     alloc: Global,
     source: &S,
     plan: &Plan,
     number: u64,
     unit: &PlanUnit,
-    sums: &mut WorkerSums,
+    worker: &mut OwingSums,
 ) -> Result<UnitSums, EngineError<S::Fault>>
     requires planned { IsPlan plan.now }
     requires unit { IsUnitToSum plan.now unit.now }
-    requires fresh { IsFresh plan.now sums.old }
-    ensures fresh { IfOk result (λ _. IsFresh plan.now sums.new) }
+    requires owing { (owed : List ℕ) × Owes plan.now owed worker.old }
+    ensures owing { (owed : List ℕ) → Owes plan.now owed worker.old → IfOk result (λ summed. (own : List ℕ)
+        × OwesUnit (S.is_steady source.now) plan.now unit.now summed own × Owes plan.now (owed ++ own) worker.new) }
     ensures number { IfOk result (λ summed. summed.unit ≡ number) }
-    ensures summed { IfOk result (SumsUpUnit (S.is_steady source.now) plan.now unit.now) }
     ensures fault { (facts : SourceFacts S.Fault) → S.is_steady source.now facts → HasParts facts unit.now.parts →
         MatchResult result (λ _. unit_fault facts unit.now ≡ None) (IsFault (unit_fault facts unit.now)) }
     ensures gave { (lengths : List ℕ) → All (IsInFile lengths) unit.now.parts →
         IfErr result (IsGivenRead (S.gave source.now) (S.ended source.now) lengths) }
 {
-    let hashed = match hash_unit(alloc, source, plan, unit, sums) {
-        Ok(hashed) => hashed,
+    let tree = match read_unit(alloc, source, plan, unit, &mut worker.sums) {
+        Ok(tree) => tree,
         Err(error) => return Err(error),
     };
-    Ok(UnitSums::new(alloc, number, hashed, level_in(plan, unit)))
+    let count = length_of(unit);
+    worker.end_unit(alloc, plan, count)?;
+    let pieces = room_for_sums(alloc, plan, count)?;
+    Ok(UnitSums::new(alloc, number, Hashed { tree, pieces }, level_in(plan, unit)))
+}
+
+/// How many bytes a unit has, zeros among them.
+fn length_of(unit: &PlanUnit) -> u64
+    requires { unit_length unit.now ≤ 2 ^ 40 }
+    ensures { result ≡ unit_length unit.now }
+{
+    let mut count = unit.zeros;
+    'parts: for part in unit.parts.as_slice() {
+        count += part.length + part.zeros;
+    }
+    count
 }

@@ -1,15 +1,16 @@
 //! What a worker does with each of its units.
-ghost use Rattle.std.specs.Prelude.{◌≡◌, ℕ, None, List, Option, IfErr, IfOk, MatchResult};
-ghost use Rattle.tor_plan.specs.PlanFacts.{PlanFacts};
+ghost use Rattle.std.specs.Prelude.{◌≡◌, ◌++◌, ◌∷◌, [], ℕ, None, List, Option, IfErr, IfOk, MatchResult, map};
 ghost use Rattle.tor_plan.specs.declared.units.PlanUnit.{PlanUnit};
 ghost use Rattle.tor_source.specs.Source.{SourceFacts};
 ghost use Rattle.tor_engine.specs.Fault.{IsFault};
 ghost use Rattle.tor_engine.specs.declared.errors.EngineError.{EngineError};
 ghost use Rattle.tor_engine.specs.declared.errors.EngineError.TheVariants.{Resources};
-ghost use Rattle.tor_engine.specs.steps.Worker.{IsFresh};
+ghost use Rattle.tor_engine.specs.declared.owing.OwingSums.{OwingSums};
+ghost use Rattle.tor_engine.specs.steps.Each.{SumUpEach};
+ghost use Rattle.tor_engine.specs.steps.Taken.{pair_in};
 
 use crate::errors::EngineError;
-use crate::worker::WorkerSums;
+use crate::owing::OwingSums;
 use std::alloc::{AllocError, Global};
 use std::fmt::Debug;
 use tor_merkle::Hash;
@@ -20,11 +21,8 @@ pub(crate) trait UnitWork {
     /// That of the source.
     type Fault: Debug + Drop;
 
-    /// What one unit sums up to.
+    /// What one unit sums up to, once it is complete.
     type Sums: Drop;
-
-    /// The plan of the units.
-    ghost plan: { Self → PlanFacts };
 
     /// A worker can begin.
     ghost may_begin: { Self → Type 0 };
@@ -41,6 +39,10 @@ pub(crate) trait UnitWork {
     /// The unit sums up to this.
     ghost sums_up: { Self → PlanUnit → Self.Sums → Type 0 };
 
+    /// These units were hashed one after the other, and sum up to these once they are complete: the worker has what
+    /// they lack.
+    ghost stands: { Self → List PlanUnit → List Self.Sums → OwingSums → Type 0 };
+
     /// The number of the unit that sums up to this.
     ghost number_in: { Self → Self.Sums → ℕ };
 
@@ -54,26 +56,37 @@ pub(crate) trait UnitWork {
     fn alloc(&self) -> Global;
 
     /// What a worker begins with.
-    fn begin(&self) -> Result<WorkerSums, AllocError>
+    fn begin(&self) -> Result<OwingSums, AllocError>
         requires { may_begin self.now }
-        ensures { IfOk result (IsFresh (plan self.now)) };
+        ensures { IfOk result (stands self.now [] []) };
 
-    /// What one unit sums up to, which has this number.
+    /// What one unit sums up to once it is complete, which has this number.
     fn hash(
         &self,
         number: u64,
         unit: &PlanUnit,
-        worker: &mut WorkerSums,
+        worker: &mut OwingSums,
     ) -> Result<Self::Sums, EngineError<Self::Fault>>
         requires begin { may_begin self.now }
         requires unit { may_hash self.now unit.now }
-        requires fresh { IsFresh (plan self.now) worker.old }
-        ensures fresh { IfOk result (λ _. IsFresh (plan self.now) worker.new) }
-        ensures summed { IfOk result (sums_up self.now unit.now) }
+        requires stands { (units : List PlanUnit) × (before : List Self.Sums)
+            × stands self.now units before worker.old }
+        ensures stands { (units : List PlanUnit) (before : List Self.Sums) →
+            stands self.now units before worker.old → IfOk result (λ sums.
+            stands self.now (units ++ unit.now ∷ []) (before ++ sums ∷ []) worker.new) }
         ensures number { IfOk result (λ sums. number_in self.now sums ≡ number) }
         ensures fault { (facts : SourceFacts Self.Fault) → is_steady self.now facts →
             MatchResult result (λ _. fault self.now facts unit.now ≡ None) (IsFault (fault self.now facts unit.now)) }
         ensures gave { IfErr result (gave self.now) };
+
+    /// Completes what the units sum up to that the worker hashed. It takes no memory.
+    fn complete(&self, worker: OwingSums, sums: &mut Vec<Self::Sums>)
+        requires begin { may_begin self.now }
+        requires stands { (units : List PlanUnit) × stands self.now units sums.old.items worker }
+        ensures summed { (units : List PlanUnit) → stands self.now units sums.old.items worker →
+            SumUpEach (sums_up self.now) units sums.new.items }
+        ensures same { map (pair_in (number_in self.now) (hash_in self.now)) sums.new.items
+            ≡ map (pair_in (number_in self.now) (hash_in self.now)) sums.old.items };
 
     /// The number of the unit that sums up to this.
     fn number_of(&self, sums: &Self::Sums) -> u64

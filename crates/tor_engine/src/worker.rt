@@ -1,52 +1,58 @@
 //! What the units of a worker hash to, while their bytes are read.
-ghost use Rattle.std.specs.Prelude.{◌≡◌, ◌+◌, ◌*◌, ◌-◌, ◌<◌, ◌≤◌, ◌++◌, ℕ, List, IfErr, IfOk, MatchResult, OnOk};
-ghost use Rattle.std.specs.Prelude.{length, slice_index_or};
+ghost use Rattle.std.specs.Prelude.{◌≡◌, ◌+◌, ◌*◌, ◌-◌, ◌<◌, ◌≤◌, ◌++◌, [], ℕ, List, IfErr, IfOk, MatchResult, OnOk};
+ghost use Rattle.std.specs.Prelude.{length, max, slice_index_or, if◌then◌else◌};
 ghost use Rattle.std.specs.Option.{ForSome};
 ghost use Rattle.tor_merkle.specs.declared.TheConstants.{MAX_LENGTH};
 ghost use Rattle.tor_plan.specs.PlanFacts.{IsPlan};
 ghost use Rattle.tor_source.specs.Source.{SourceFacts, bytes_from};
-ghost use Rattle.tor_v1.specs.Piece.{zeros};
+ghost use Rattle.tor_tree.specs.Kinds.{has_v1};
+ghost use Rattle.tor_v1.specs.Piece.{piece_sums, zeros};
 ghost use Rattle.tor_engine.specs.Fault.{IsFault, byte_fault};
 ghost use Rattle.tor_engine.specs.steps.Given.{IsGivenRead};
-ghost use Rattle.tor_engine.specs.Hasher.{AreHashesOf, tree_of};
+ghost use Rattle.tor_engine.specs.Hasher.{IsTreeOf, tree_of};
 ghost use Rattle.tor_engine.specs.steps.ReadBytes.{IsFaultFree};
 ghost use Rattle.tor_engine.specs.steps.Room.{HasRoom, count_in, length_of};
 
 use crate::errors::EngineError;
 use crate::file_bytes::FileBytes;
-use crate::hasher::{ContentHasher, Hashed};
+use crate::hasher::ContentHasher;
 use crate::room::Room;
 use std::alloc::{AllocError, Global};
-use std::mem;
+use tor_merkle::Feed;
 use tor_plan::Plan;
 
 /// What the units of a worker hash to, one after the other. Bytes are read into a buffer of its own, and wait there
-/// until many can be hashed together, or the unit ends. Clauses say by `HasTaken` which bytes were taken. After an
-/// error it is of no use.
+/// until many can be hashed together. Of each unit the tree is ended with it; its pieces go on with those of the next
+/// one. Clauses say by `HasTaken` which bytes were taken. After an error it is of no use.
 #[derive(Drop)]
 pub(crate) struct WorkerSums {
-    // The bytes that wait to be hashed.
+    // The bytes that the pieces were not fed yet, and zeros among them.
     room: Room,
+    // How many of these bytes the tree was fed, or are zeros: the first ones.
+    treed: usize,
     // How many bytes of files were taken of the present unit.
     begun: u64,
-    // It was fed all bytes before those that wait.
     hasher: ContentHasher,
-    ghost counted: { ForSome (tree_of hasher) (λ feed. length feed.bytes + count_in room ≡ begun) },
+    ghost marked: { treed ≤ count_in room },
+    ghost counted: { ForSome (tree_of hasher) (λ feed. length feed.bytes + count_in room ≡ begun + treed) },
     ghost small: { begun ≤ MAX_LENGTH },
 }
 
 impl WorkerSums {
-    ghost use Rattle.tor_engine.specs.steps.Worker.{HasTaken, IsFresh, Keeps, TakesMore, begun_of};
+    ghost use Rattle.tor_engine.specs.steps.Worker.{CanFinish, HasTaken, IsFresh, IsTreed, Keeps, TakesMore, begun_of};
+    ghost use Rattle.tor_engine.specs.steps.Worker.{hasher_of, room_of, treed_of};
     ghost use Rattle.tor_tree.specs.declared.kinds.Kind.{Kind};
 
     /// Of no byte, for the units of a plan.
     pub(crate) fn new(alloc: Global, plan: &Plan) -> Result<WorkerSums, AllocError>
         requires { IsPlan plan.now }
-        ensures { IfOk result (IsFresh plan.now) }
+        ensures fresh { IfOk result (IsFresh plan.now []) }
+        ensures none { IfOk result (λ sums. count_in (room_of sums) ≡ 0) }
     {
         let room = Room::new(alloc, plan)?;
         Ok(WorkerSums {
             room,
+            treed: 0,
             begun: 0,
             hasher: ContentHasher::new(alloc, plan.kind(), plan.piece_length()),
         })
@@ -91,30 +97,105 @@ impl WorkerSums {
         if count == 0 {
             return Ok(());
         }
-        self.hash_all()?;
-        self.hasher.feed_zeros(count)?;
+        self.feed_tree(self.held())?;
+        let mut left = count;
+        'zeros: while left > 0 {
+            let width = self.put_zeros(left)?;
+            left -= width;
+        }
         Ok(())
     }
 
-    /// Ends the unit: gives what its bytes hash to, and begins the next one.
-    pub(crate) fn end_unit(&mut self, alloc: Global, plan: &Plan) -> Result<Hashed, AllocError>
+    /// Ends the unit for its tree, none in V1. Its pieces go on.
+    pub(crate) fn end_tree(
+        &mut self,
+        alloc: Global,
+        plan: &Plan,
+    ) -> Result<Option<Feed>, AllocError>
         requires { IsPlan plan.now }
-        ensures hashed { (kind : Kind) (piece_length : ℕ) (bytes unit : List ℕ) →
-            HasTaken kind piece_length bytes unit self.old →
-            IfOk result (AreHashesOf kind piece_length bytes unit) }
-        ensures fresh { OnOk result (IsFresh plan.now self.new) }
+        ensures tree { (kind : Kind) (piece_length : ℕ) (bytes unit : List ℕ) →
+            HasTaken kind piece_length bytes unit self.old → IfOk result (IsTreeOf kind piece_length bytes) }
+        ensures next { (bytes unit : List ℕ) →
+            HasTaken plan.now.kind plan.now.piece_length bytes unit self.old →
+            OnOk result (IsFresh plan.now unit self.new) }
+        ensures treed { OnOk result (IsTreed plan.now self.new) }
     {
-        self.hash_all()?;
+        self.feed_tree(self.held())?;
         self.begun = 0;
-        let next = ContentHasher::new(alloc, plan.kind(), plan.piece_length());
-        Ok(mem::replace(&mut self.hasher, next).finish(alloc))
+        Ok(self.hasher.end_tree(alloc, plan))
+    }
+
+    /// Ends the pieces, and gives their sums, none in V2. The next ones begin with no byte.
+    pub(crate) fn end_pieces(&mut self, alloc: Global, plan: &Plan) -> Result<Vec<u8>, AllocError>
+        requires planned { IsPlan plan.now }
+        requires treed { IsTreed plan.now self.old }
+        ensures sums { (kind : Kind) (piece_length : ℕ) (bytes unit : List ℕ) →
+            HasTaken kind piece_length bytes unit self.old →
+            IfOk result (λ sums. sums.items ≡ (if has_v1 kind then piece_sums piece_length unit else [])) }
+        ensures next { OnOk result (IsFresh plan.now [] self.new) }
+        ensures none { OnOk result (count_in (room_of self.new) ≡ 0) }
+    {
+        self.hash(self.held())?;
+        Ok(self.hasher.end_pieces(alloc, plan))
+    }
+
+    /// Makes room for the sums of all that waits, so that `finish` can end the pieces.
+    pub(crate) fn reserve(&mut self) -> Result<(), AllocError>
+        ensures keeps { Keeps self.old self.new }
+        ensures begun { begun_of self.new ≡ begun_of self.old }
+        ensures room { OnOk result (CanFinish self.new) }
+    {
+        self.hasher.reserve(self.room.held() as u64)
+    }
+
+    /// Ends the pieces, for whose sums there is room, and gives them. It takes no memory.
+    pub(crate) fn finish(self, alloc: Global) -> Vec<u8>
+        requires { CanFinish self }
+        ensures { (kind : Kind) (piece_length : ℕ) (bytes unit : List ℕ) →
+            HasTaken kind piece_length bytes unit self →
+            result.items ≡ (if has_v1 kind then piece_sums piece_length unit else []) }
+    {
+        let WorkerSums {
+            room,
+            treed: _,
+            begun: _,
+            mut hasher,
+        } = self;
+        hasher.add_pieces(room.front(room.held()));
+        hasher.finish(alloc).pieces
+    }
+
+    // How many bytes wait.
+    fn held(&self) -> usize
+        ensures { result ≡ count_in (room_of self.now) }
+    {
+        self.room.held()
+    }
+
+    // Adds zeros, at most `left`, and answers how many. The tree has all that waits.
+    fn put_zeros(&mut self, left: u64) -> Result<u64, AllocError>
+        requires left { 0 < left }
+        requires treed { treed_of self.old ≡ count_in (room_of self.old) }
+        ensures some { IfOk result (λ count. (0 < count) × (count ≤ left)) }
+        ensures taken { (kind : Kind) (piece_length : ℕ) (bytes unit : List ℕ) →
+            HasTaken kind piece_length bytes unit self.old →
+            IfOk result (λ count. HasTaken kind piece_length bytes (unit ++ zeros count) self.new) }
+        ensures begun { begun_of self.new ≡ begun_of self.old }
+        ensures treed { OnOk result (treed_of self.new ≡ count_in (room_of self.new)) }
+    {
+        self.make_room(left)?;
+        let count = self.room.put_zeros(left);
+        self.treed = self.room.held();
+        Ok(count as u64)
     }
 
     // Hashes a batch where one is held, or where there is little room for the bytes that are left.
     fn make_room(&mut self, left: u64) -> Result<(), AllocError>
         ensures keeps { OnOk result (Keeps self.old self.new) }
         ensures begun { begun_of self.new ≡ begun_of self.old }
-        ensures room { OnOk result (HasRoom left self.new.room) }
+        ensures room { OnOk result (HasRoom left (room_of self.new)) }
+        ensures treed { treed_of self.old ≡ count_in (room_of self.old) →
+            OnOk result (treed_of self.new ≡ count_in (room_of self.new)) }
     {
         if self.room.is_full(left) {
             let count = self.room.batch();
@@ -123,27 +204,40 @@ impl WorkerSums {
         Ok(())
     }
 
-    // Hashes all that waits.
-    fn hash_all(&mut self) -> Result<(), AllocError>
-        ensures keeps { OnOk result (Keeps self.old self.new) }
-        ensures begun { begun_of self.new ≡ begun_of self.old }
-        ensures none { OnOk result (count_in self.new.room ≡ 0) }
-    {
-        let count = self.room.held();
-        self.hash(count)
-    }
-
     // Hashes the first so many bytes that wait, at least half of them.
     fn hash(&mut self, count: usize) -> Result<(), AllocError>
-        requires within { count ≤ count_in self.old.room }
-        requires half { count_in self.old.room ≤ 2 * count }
+        requires within { count ≤ count_in (room_of self.old) }
+        requires half { count_in (room_of self.old) ≤ 2 * count }
         ensures keeps { OnOk result (Keeps self.old self.new) }
         ensures begun { begun_of self.new ≡ begun_of self.old }
-        ensures count { OnOk result (count_in self.new.room ≡ count_in self.old.room - count) }
-        ensures length { OnOk result (length_of self.new.room ≡ length_of self.old.room) }
+        ensures treed { OnOk result (treed_of self.new ≡ treed_of self.old - count) }
+        ensures count { OnOk result (count_in (room_of self.new) ≡ count_in (room_of self.old) - count) }
+        ensures length { OnOk result (length_of (room_of self.new) ≡ length_of (room_of self.old)) }
+        ensures tree { treed_of self.old ≡ count_in (room_of self.old) →
+            OnOk result (tree_of (hasher_of self.new) ≡ tree_of (hasher_of self.old)) }
     {
-        self.hasher.feed(self.room.front(count))?;
+        self.feed_tree(count)?;
+        self.hasher.feed_pieces(self.room.front(count))?;
         self.room.let_go(count);
+        self.treed -= count;
+        Ok(())
+    }
+
+    // Feeds the tree what it has not got of the first so many bytes that wait.
+    fn feed_tree(&mut self, count: usize) -> Result<(), AllocError>
+        requires { count ≤ count_in (room_of self.old) }
+        ensures keeps { OnOk result (Keeps self.old self.new) }
+        ensures begun { begun_of self.new ≡ begun_of self.old }
+        ensures room { room_of self.new ≡ room_of self.old }
+        ensures treed { OnOk result (treed_of self.new ≡ max (treed_of self.old) count) }
+        ensures tree { count ≤ treed_of self.old →
+            OnOk result (tree_of (hasher_of self.new) ≡ tree_of (hasher_of self.old)) }
+    {
+        if self.treed < count {
+            let (_, rest) = self.room.front(count).split_at(self.treed);
+            self.hasher.feed_tree(rest)?;
+            self.treed = count;
+        }
         Ok(())
     }
 }

@@ -4,21 +4,22 @@ use Rattle.std.proofs.Common.{get_or, map, None, unwrap_or, refl, sym, ap, ap₂
 use Rattle.std.proofs.Common.{arith, zero-add, Option, Some}
 use Rattle.std.specs.List.{AllByRecursion, enumerate_from, range_with_len}
 use Rattle.std.specs.List.Sorted.{IsPermutation, IsStrictlySortedBy}
-use Rattle.std.proofs.lemmas.Simd.{map-map}
 use Rattle.std.proofs.lemmas.List.{get_or-map, length-map}
 use Rattle.std.proofs.lemmas.List.Elements.{recursion_from_All}
 use Rattle.std.proofs.lemmas.List.FromFn.{get_or-enumerate_from, length-enumerate_from}
 use Rattle.tor_engine.specs.Contents.{contents_in}
 use Rattle.tor_engine.specs.Given.{HasToldLengths}
 use Rattle.tor_meta.specs.Contents.{files_with, IsMadeOf, IsMadeOfSome}
-use Rattle.tor_meta.specs.Make.{IsMadeOfTold, content_at, files_of_source, listed_files}
+use Rattle.tor_meta.specs.Make.{IsMadeOfTold, content_at, files_of_source, lettered, letters_at, listed_files}
 use Rattle.tor_meta.specs.steps.Contents.{files_of}
 use Rattle.tor_meta.specs.steps.IndexedFiles.{facts_at}
 use Rattle.tor_source.specs.Source.{SourceFacts}
 use Rattle.tor_spec.specs.Facts.{File}
 use Rattle.tor_spec.specs.Metainfo.{metainfo}
 use Rattle.tor_spec.specs.Settings.{Settings}
-use Rattle.tor_tree.specs.FileList.{lengths_of, paths_of}
+use Rattle.tor_tree.specs.FileList.{LetteredFiles, lengths_of, paths_of}
+use Rattle.tor_tree.specs.Letters.{no_letters}
+use Rattle.tor_tree.specs.declared.attr.Attr.{Attr}
 use Rattle.tor_tree.specs.Path.{path_cmp}
 use Rattle.tor_tree.specs.PathList.{AreIndexedPaths, IsPathList, indices_of}
 use Rattle.tor_tree.proofs.ProvedLaws.{at_indices}
@@ -38,6 +39,16 @@ by_index f h (index ∷ indices) a at =
     subst (λ n. h n ≡ f (get_or indices k d)) next (at (suc k) d (omega arith))) in
     rw (first, later) refl
 
+-- a list with the letters of the files at these indices
+abbrev list_at : ListOf (ListOf (ListOf ℕ) × Attr) → ListOf (ListOf (ListOf ℕ) × ℕ) → ListOf ℕ → LetteredFiles
+list_at files list indices = record { files = list; attrs = map (letters_at files) indices }
+
+same_list : (list : LetteredFiles) (files : ListOf (ListOf (ListOf ℕ) × ℕ)) (attrs : ListOf Attr) → list.files ≡ files
+    → list.attrs ≡ attrs → ◌≡◌ {A = LetteredFiles} list (record { files = files; attrs = attrs })
+same_list list files attrs a b =
+    ap₂ (λ (fs : ListOf (ListOf (ListOf ℕ) × ℕ)) (xs : ListOf Attr).
+    let l : LetteredFiles = record { files = fs; attrs = xs } in l) a b
+
 module _ {F : Type 0} (facts : SourceFacts F) where
   pub contents_moved : (indices : ListOf ℕ) →
       contents_in (facts_at indices facts) (length indices) ≡ map (content_at facts) indices
@@ -46,125 +57,175 @@ module _ {F : Type 0} (facts : SourceFacts F) where
       (λ k d less. rw (zero-add k) (ap (λ content. unwrap_or content [])
       (get_or-map facts.contents indices k d None less)))
 
-  sorted : Entries → ListOf File
-  sorted entries = map (λ entry. record { path = entry.0; content = content_at facts entry.1 }) entries
+  module _ (files : ListOf (ListOf (ListOf ℕ) × Attr)) where
+    sorted : Entries → ListOf File
+    sorted entries =
+        map (λ entry. record { path = entry.0; content = content_at facts entry.1; attr = letters_at files entry.1 })
+        entries
 
-  in_order : (entries : Entries) → files_of (listed_files facts entries) (map (content_at facts) (indices_of entries))
-      ≡ sorted entries
-  unfolding sorted
-  in_order [] = refl
-  in_order (entry ∷ entries) = ap (λ files. record { path = entry.0; content = content_at facts entry.1 } ∷ files)
-      (in_order entries)
+    in_order : (entries : Entries) → files_of (list_at files (listed_files facts entries) (indices_of entries))
+        (map (content_at facts) (indices_of entries)) ≡ sorted entries
+    unfolding sorted
+    in_order [] = refl
+    in_order (entry ∷ entries) =
+        ap
+        (λ others. record { path = entry.0; content = content_at facts entry.1; attr = letters_at files entry.1 } ∷
+        others)
+        (in_order entries)
 
-  file_there : (paths : ListOf (ListOf (ListOf ℕ))) (k : ℕ) (d : File) → k < length paths →
-      get_or (files_of_source facts paths) k d ≡ record { path = get_or paths k []; content = content_at facts k }
-  file_there paths k d less =
-      let inside : k < length (enumerate_from 0 paths) = omega (arith, less, length-enumerate_from 0 paths) in
-      get_or-map (λ (file : ℕ × ListOf (ListOf ℕ)). record { path = file.1; content = content_at facts file.0 })
-      (enumerate_from 0 paths) k (0, []) d inside
-      ∙ rw (get_or-enumerate_from 0 paths k (0, []) less, zero-add k) refl
+    file_there : (k : ℕ) (d : File) → k < length files → get_or (files_of_source facts files) k d
+        ≡ record { path = get_or (paths_of files) k []; content = content_at facts k; attr = letters_at files k }
+    file_there k d less =
+        let inside : k < length (enumerate_from 0 files) = omega (arith, less, length-enumerate_from 0 files) in
+        let path = get_or-map (λ (file : ListOf (ListOf ℕ) × Attr). file.0) files k ([], no_letters) [] less in
+        get_or-map
+        (λ (file : ℕ × (ListOf (ListOf ℕ) × Attr)).
+        record { path = file.1.0; content = content_at facts file.0; attr = file.1.1 })
+        (enumerate_from 0 files) k (0, ([], no_letters)) d inside
+        ∙ rw (get_or-enumerate_from 0 files k (0, ([], no_letters)) less, zero-add k, path) refl
 
-  files_there : (paths : ListOf (ListOf (ListOf ℕ))) (d : File) (entries : Entries) →
-      AllByRecursion (λ entry. get_or paths entry.1 [] ≡ entry.0) entries →
-      AreWithin (length paths) entries →
-      map (λ index. get_or (files_of_source facts paths) index d) (indices_of entries) ≡ sorted entries
-  unfolding sorted
-  files_there paths d [] found within = refl
-  files_there paths d (entry ∷ entries) found within =
-      rw (file_there paths entry.1 d within.0, found.0, files_there paths d entries found.1 within.1) refl
+    files_there : (d : File) (entries : Entries) →
+        AllByRecursion (λ entry. get_or (paths_of files) entry.1 [] ≡ entry.0) entries →
+        AreWithin (length files) entries →
+        map (λ index. get_or (files_of_source facts files) index d) (indices_of entries) ≡ sorted entries
+    unfolding sorted
+    files_there d [] found within = refl
+    files_there d (entry ∷ entries) found within =
+        rw (file_there entry.1 d within.0, found.0, files_there d entries found.1 within.1) refl
 
-  pub made_of : (settings : Settings) (paths : ListOf (ListOf (ListOf ℕ))) (entries list : Entries)
-      (indices : ListOf ℕ) (bytes : ListOf ℕ) → AreIndexedPaths paths entries →
-      IsPathList entries → list ≡ listed_files facts entries → indices ≡ indices_of entries →
-      bytes ≡ metainfo settings (files_of list (contents_in (facts_at indices facts) (length list))) →
-      IsMadeOf settings (files_of_source facts paths) bytes
-  made_of settings paths entries list indices bytes indexed lawful are_files are_indices made =
-      let none : File = record { path = []; content = [] } in
-      let count : length list ≡ length (indices_of entries) = rw are_files (simp length-map refl) in
-      let files : files_of list (contents_in (facts_at indices facts) (length list)) ≡ sorted entries =
-      rw (count, are_indices, are_files) (ap (files_of (listed_files facts entries))
-      (contents_moved (indices_of entries)) ∙ in_order entries) in
-      let within = entries_within (length paths) entries indexed.indices indexed.one_each in
-      let there = files_there paths none entries (recursion_from_All _ entries indexed.found) within in
-      let long : length (indices_of entries)
-      ≡ length (files_of_source facts paths) = simp length-map (indexed.one_each
-      ∙ sym (length-enumerate_from 0 paths)) in (
-        sorted entries,
-        rw (← there) (at_indices (files_of_source facts paths) none (indices_of entries) indexed.indices long),
-        rw (← in_order entries) (rw (paths_moved (λ k. length (content_at facts k)) (content_at facts) entries)
-            lawful.in_order),
-        made ∙ ap (metainfo settings) files,
+    pub made_of : (settings : Settings) (entries : Entries) (list : LetteredFiles) (indices : ListOf ℕ)
+        (bytes : ListOf ℕ) → AreIndexedPaths (paths_of files) entries →
+        IsPathList entries → list.files ≡ listed_files facts entries →
+        list.attrs ≡ map (letters_at files) (indices_of entries) → indices ≡ indices_of entries →
+        bytes ≡ metainfo settings (files_of list (contents_in (facts_at indices facts) (length list.files))) →
+        IsMadeOf settings (files_of_source facts files) bytes
+    made_of settings entries list indices bytes indexed lawful are_files are_letters are_indices made =
+        let none : File = record { path = []; content = []; attr = no_letters } in
+        let many : length entries ≡ length files = indexed.one_each ∙ length-map files (λ file. file.0) in
+        let count : length list.files ≡ length (indices_of entries) = rw are_files (simp length-map refl) in
+        let is : list ≡ list_at files (listed_files facts entries) (indices_of entries) =
+        same_list list _ _ are_files are_letters in
+        let sums : files_of list (contents_in (facts_at indices facts) (length list.files)) ≡ sorted entries =
+        ap (λ n. files_of list (contents_in (facts_at indices facts) n)) count
+        ∙ ap (λ ks. files_of list (contents_in (facts_at ks facts) (length (indices_of entries)))) are_indices
+        ∙ ap (files_of list) (contents_moved (indices_of entries))
+        ∙ ap (λ l. files_of l (map (content_at facts) (indices_of entries))) is
+        ∙ in_order entries in
+        let within = entries_within (length files) entries indexed.indices many in
+        let there = files_there none entries (recursion_from_All _ entries indexed.found) within in
+        let long : length (indices_of entries)
+        ≡ length (files_of_source facts files) = simp length-map (many ∙ sym (length-enumerate_from 0 files)) in (
+          sorted entries,
+          rw (← there) (at_indices (files_of_source facts files) none (indices_of entries) indexed.indices long),
+          rw (← in_order entries) (rw (paths_moved (λ k. length (content_at facts k)) (content_at facts)
+              (map (letters_at files) (indices_of entries)) entries
+              (length-map (indices_of entries) (letters_at files) ∙ length-map entries (λ entry. entry.1)))
+              lawful.in_order),
+          made ∙ ap (metainfo settings) sums,
+        )
+
+-- the files of a list, whatever numbers stand beside the paths
+same_files : (files : ListOf (ListOf (ListOf ℕ) × Attr)) (lengths : ListOf ℕ) (entries : Entries)
+    (contents : ListOf (ListOf ℕ))
+    → files_of (list_at files (map (λ entry. (entry.0, get_or lengths entry.1 0)) entries) (indices_of entries))
+    contents
+    ≡ files_with (lettered files entries) contents
+same_files files lengths [] [] = refl
+same_files files lengths [] (content ∷ contents) = refl
+same_files files lengths (entry ∷ entries) [] = refl
+same_files files lengths (entry ∷ entries) (content ∷ contents) =
+    ap (λ others. record { path = entry.0; content = content; attr = letters_at files entry.1 } ∷ others)
+    (same_files files lengths entries contents)
+
+-- they have the paths and letters of the list
+pub pairs_with : (files : ListOf (ListOf (ListOf ℕ) × Attr)) (contents : ListOf (ListOf ℕ))
+    → length contents ≡ length files
+    → map (λ (file : File). (file.path, file.attr)) (files_with files contents) ≡ files
+pairs_with [] [] same = refl
+pairs_with [] (content ∷ contents) same = refl
+pairs_with (file ∷ files) [] same = absurd (omega (arith, same))
+pairs_with (file ∷ files) (content ∷ contents) same =
+    ap (λ (fs : ListOf (ListOf (ListOf ℕ) × Attr)). file ∷ fs) (pairs_with files contents (omega (arith, same)))
+
+pub paths_with : (files : ListOf (ListOf (ListOf ℕ) × Attr)) (contents : ListOf (ListOf ℕ))
+    → length contents ≡ length files
+    → map (λ (file : File). file.path) (files_with files contents) ≡ paths_of files
+paths_with [] [] same = refl
+paths_with [] (content ∷ contents) same = refl
+paths_with (file ∷ files) [] same = absurd (omega (arith, same))
+paths_with (file ∷ files) (content ∷ contents) same =
+    ap (λ (ps : ListOf (ListOf (ListOf ℕ))). file.0 ∷ ps) (paths_with files contents (omega (arith, same)))
+
+-- what stands at the indices of paths
+files_found : (files : ListOf (ListOf (ListOf ℕ) × Attr)) (entries : Entries)
+    → AllByRecursion (λ entry. get_or (paths_of files) entry.1 [] ≡ entry.0) entries
+    → AreWithin (length files) entries
+    → map (λ index. get_or files index ([], no_letters)) (indices_of entries) ≡ lettered files entries
+files_found files [] found within = refl
+files_found files (entry ∷ entries) found within =
+    let path = sym (get_or-map (λ (file : ListOf (ListOf ℕ) × Attr). file.0) files entry.1 ([], no_letters) [] within.0)
+    ∙ found.0 in
+    ap₂ (λ (f : ListOf (ListOf ℕ) × Attr) (fs : ListOf (ListOf (ListOf ℕ) × Attr)). f ∷ fs)
+    (ap (λ (p : ListOf (ListOf ℕ)). (p, letters_at files entry.1)) path) (files_found files entries found.1 within.1)
+
+paths_found : (files : ListOf (ListOf (ListOf ℕ) × Attr)) (entries : Entries)
+    → paths_of (lettered files entries) ≡ paths_of entries
+paths_found files [] = refl
+paths_found files (entry ∷ entries) = ap (λ (ps : ListOf (ListOf (ListOf ℕ))). entry.0 ∷ ps) (paths_found files entries)
+
+module _ (settings : Settings) (files : ListOf (ListOf (ListOf ℕ) × Attr)) (lengths : ListOf ℕ) (entries : Entries)
+    (list : LetteredFiles) (contents : ListOf (ListOf ℕ)) (bytes : ListOf ℕ)
+    (indexed : AreIndexedPaths (paths_of files) entries) (lawful : IsPathList entries)
+    (is : list.files ≡ map (λ entry. (entry.0, get_or lengths entry.1 0)) entries)
+    (are_letters : list.attrs ≡ map (letters_at files) (indices_of entries))
+    (fit : map length contents ≡ lengths_of list.files)
+    (made : bytes ≡ metainfo settings (files_of list contents)) where
+  one_each : length contents ≡ length entries
+  one_each =
+      sym (length-map contents length) ∙ ap length fit ∙ length-map list.files (λ file. file.1) ∙ ap length is
+      ∙ length-map entries (λ entry. (entry.0, get_or lengths entry.1 0))
+
+  as_lettered : files_of list contents ≡ files_with (lettered files entries) contents
+  as_lettered =
+      ap (λ l. files_of l contents) (same_list list _ _ is are_letters) ∙ same_files files lengths entries contents
+
+  of_lettered : bytes ≡ metainfo settings (files_with (lettered files entries) contents)
+  of_lettered = made ∙ ap (metainfo settings) as_lettered
+
+  pub made_of_some : IsMadeOfSome settings files bytes
+  made_of_some =
+      let many : length entries ≡ length files = indexed.one_each ∙ length-map files (λ file. file.0) in
+      let long : length contents ≡ length (lettered files entries) =
+      one_each ∙ sym (length-map entries (λ entry. (entry.0, letters_at files entry.1))) in
+      let within = entries_within (length files) entries indexed.indices many in
+      let found = files_found files entries (recursion_from_All _ entries indexed.found) within in
+      let held : length (indices_of entries) ≡ length files = length-map entries (λ entry. entry.1) ∙ many in (
+        files_with (lettered files entries) contents,
+        subst (IsPermutation files) (found ∙ sym (pairs_with (lettered files entries) contents long))
+            (at_indices files ([], no_letters) (indices_of entries) indexed.indices held),
+        subst (IsStrictlySortedBy path_cmp)
+            (sym (paths_with (lettered files entries) contents long ∙ paths_found files entries)) lawful.in_order,
+        of_lettered,
       )
 
--- the files of a list that have some contents are at the paths that were handed in
-paths_of_files : (files : Entries) (contents : ListOf (ListOf ℕ)) → map length contents ≡ lengths_of files
-    → map (λ (file : File). file.path) (files_of files contents) ≡ paths_of files
-paths_of_files [] [] fit = refl
-paths_of_files [] (content ∷ contents) fit = cc
-paths_of_files (file ∷ files) [] fit = cc
-paths_of_files (file ∷ files) (content ∷ contents) fit =
-    let rest : map length contents ≡ lengths_of files = cc in
-    ap (λ ps. file.0 ∷ ps) (paths_of_files files contents rest)
-
-paths_found : (paths : ListOf (ListOf (ListOf ℕ))) (entries : Entries)
-    → AllByRecursion (λ entry. get_or paths entry.1 [] ≡ entry.0) entries
-    → map (λ index. get_or paths index []) (indices_of entries) ≡ paths_of entries
-paths_found paths [] found = refl
-paths_found paths (entry ∷ entries) found = ap₂ (λ p ps. p ∷ ps) found.0 (paths_found paths entries found.1)
-
-pub made_of_some : (settings : Settings) (paths : ListOf (ListOf (ListOf ℕ))) (lengths : ListOf ℕ)
-    (entries list : Entries) (contents : ListOf (ListOf ℕ)) (bytes : ListOf ℕ) → AreIndexedPaths paths entries
-    → IsPathList entries → list ≡ map (λ entry. (entry.0, get_or lengths entry.1 0)) entries
-    → map length contents ≡ lengths_of list → bytes ≡ metainfo settings (files_of list contents)
-    → IsMadeOfSome settings paths bytes
-made_of_some settings paths lengths entries list contents bytes indexed lawful is fit made =
-    let same : map (λ (file : File). file.path) (files_of list contents) ≡ paths_of entries =
-    paths_of_files list contents fit ∙ ap paths_of is
-    ∙ map-map (λ (file : ListOf (ListOf ℕ) × ℕ). file.0) (λ entry. (entry.0, get_or lengths entry.1 0)) entries in
-    let found = paths_found paths entries (recursion_from_All _ entries indexed.found) in
-    let long : length (indices_of entries) ≡ length paths =
-    length-map entries (λ entry. entry.1) ∙ indexed.one_each in (
-      files_of list contents,
-      subst (IsPermutation paths) (found ∙ sym same) (at_indices paths [] (indices_of entries) indexed.indices long),
-      subst (IsStrictlySortedBy path_cmp) (sym same) lawful.in_order,
-      made,
-    )
-
--- files of a list and their contents, whatever numbers stand beside the paths
-same_files : (lengths : ListOf ℕ) (entries : Entries) (contents : ListOf (ListOf ℕ))
-    → files_of (map (λ entry. (entry.0, get_or lengths entry.1 0)) entries) contents
-    ≡ files_with (paths_of entries) contents
-same_files lengths [] [] = refl
-same_files lengths [] (content ∷ contents) = refl
-same_files lengths (entry ∷ entries) [] = refl
-same_files lengths (entry ∷ entries) (content ∷ contents) =
-    ap (λ files. record { path = entry.0; content = content } ∷ files) (same_files lengths entries contents)
-
--- contents of these lengths are of the lengths that were told
-pub made_of_told : (told : ℕ → Option ℕ → Type 0) (settings : Settings) (paths : ListOf (ListOf (ListOf ℕ)))
-    (lengths : ListOf ℕ) (entries list : Entries) (contents : ListOf (ListOf ℕ)) (bytes : ListOf ℕ)
-    → AreIndexedPaths paths entries → IsPathList entries → length lengths ≡ length entries → HasToldLengths told lengths
-    → list ≡ map (λ entry. (entry.0, get_or lengths entry.1 0)) entries → map length contents ≡ lengths_of list
-    → bytes ≡ metainfo settings (files_of list contents) → IsMadeOfTold told settings paths bytes
-made_of_told told settings paths lengths entries list contents bytes indexed lawful many asked is fit made =
-    let one_each : length contents ≡ length entries =
-    sym (length-map contents length) ∙ ap length fit ∙ length-map list (λ file. file.1) ∙ ap length is
-    ∙ length-map entries (λ entry. (entry.0, get_or lengths entry.1 0)) in
-    let within = entries_within (length lengths) entries indexed.indices (sym many) in
-    record {
-      entries = entries;
-      contents = contents;
-      indexed = (indexed, lawful.in_order);
-      one_each = one_each;
-      are_told = λ k less.
-          let there : k < length (indices_of entries) = omega (arith, less, length-map entries (λ entry. entry.1)) in
-          let inside : k < length contents = omega (arith, less, one_each) in
-          let same : get_or (lengths_of (map (λ entry. (entry.0, get_or lengths entry.1 0)) entries)) k 0
-          ≡ length (get_or contents k []) =
-          ap (λ files. get_or (lengths_of files) k 0) (sym is) ∙ ap (λ ns. get_or ns k 0) (sym fit)
-          ∙ get_or-map length contents k [] 0 inside in
-          subst (λ (n : ℕ). told (get_or (indices_of entries) k 0) (Some n)) same
-          (told_of_listed told lengths entries within asked k there);
-      made = made ∙ ap (metainfo settings) (ap (λ files. files_of files contents) is
-          ∙ same_files lengths entries contents);
-    }
+  -- contents of these lengths are of the lengths that were told
+  pub made_of_told : (told : ℕ → Option ℕ → Type 0) → length lengths ≡ length entries → HasToldLengths told lengths
+      → IsMadeOfTold told settings files bytes
+  made_of_told told many asked =
+      let within = entries_within (length lengths) entries indexed.indices (sym many) in
+      record {
+        entries = entries;
+        contents = contents;
+        indexed = (indexed, lawful.in_order);
+        one_each = one_each;
+        are_told = λ k less.
+            let there : k < length (indices_of entries) = omega (arith, less, length-map entries (λ entry. entry.1)) in
+            let inside : k < length contents = omega (arith, less, one_each) in
+            let same : get_or (lengths_of (map (λ entry. (entry.0, get_or lengths entry.1 0)) entries)) k 0
+            ≡ length (get_or contents k []) =
+            ap (λ files. get_or (lengths_of files) k 0) (sym is) ∙ ap (λ ns. get_or ns k 0) (sym fit)
+            ∙ get_or-map length contents k [] 0 inside in
+            subst (λ (n : ℕ). told (get_or (indices_of entries) k 0) (Some n)) same
+            (told_of_listed told lengths entries within asked k there);
+        made = of_lettered;
+      }

@@ -11,7 +11,9 @@ use Rattle.std.proofs.lemmas.List.FromFn.{get_or-range_with_len, length-range_wi
 use Rattle.tor_meta.specs.Contents.{files_in}
 use Rattle.tor_meta.specs.steps.Contents.{contents_at, files_of}
 use Rattle.tor_spec.specs.Facts.{File}
-use Rattle.tor_tree.specs.FileList.{lengths_of, paths_of}
+use Rattle.tor_tree.specs.FileList.{lengths_of, paths_of, without_letters}
+use Rattle.tor_tree.specs.Letters.{no_letters}
+use Rattle.tor_tree.specs.declared.attr.Attr.{Attr}
 use Rattle.tor_tree.specs.PathList.{AreIndices, AreIndexedPaths, indices_of}
 use Rattle.tor_tree.proofs.ProvedLaws.{at_indices}
 
@@ -47,6 +49,7 @@ file_at : (files : List (List (List ℕ) × Vec ℕ Global)) (k : ℕ) (d : File
     → get_or (files_in files) k d ≡ record {
       path = get_or (map (λ file. file.0) files) k [];
       content = get_or (map (λ content. content.items) (map (λ file. file.1) files)) k [];
+      attr = no_letters;
     }
 file_at [] k d lt = absurd (omega arith)
 file_at (file ∷ files) zero d lt = refl
@@ -56,9 +59,9 @@ file_at (file ∷ files) (suc k) d lt = file_at files k d (omega arith)
 pub files_at : (files : List (List (List ℕ) × Vec ℕ Global)) (d : File) (entries : List (List (List ℕ) × ℕ))
     → AllByRecursion (λ entry. get_or (map (λ file. file.0) files) entry.1 [] ≡ entry.0) entries
     → AllByRecursion (λ entry. entry.1 < length files) entries
-    → files_of
+    → files_of (without_letters
     (map (λ entry. (entry.0, get_or (map (λ content. length content.items) (map (λ file. file.1) files)) entry.1 0))
-    entries) (contents_at (map (λ file. file.1) files) (indices_of entries))
+    entries)) (contents_at (map (λ file. file.1) files) (indices_of entries))
     ≡ map (λ index. get_or (files_in files) index d) (indices_of entries)
 files_at files d [] found within = refl
 files_at files d (entry ∷ entries) found within =
@@ -77,11 +80,11 @@ within_entries n entries h = All-from_recursion _ entries (each entries (recursi
 pub files_moved : (files : List (List (List ℕ) × Vec ℕ Global)) (entries : List (List (List ℕ) × ℕ))
     → AreIndexedPaths (map (λ file. file.0) files) entries
     → IsPermutation (files_in files)
-    (files_of
+    (files_of (without_letters
     (map (λ entry. (entry.0, get_or (map (λ content. length content.items) (map (λ file. file.1) files)) entry.1 0))
-    entries) (contents_at (map (λ file. file.1) files) (indices_of entries)))
+    entries)) (contents_at (map (λ file. file.1) files) (indices_of entries)))
 files_moved files entries indexed =
-    let none : File = record { path = []; content = [] } in
+    let none : File = record { path = []; content = []; attr = no_letters } in
     let paths = map (λ (file : List (List ℕ) × Vec ℕ Global). file.0) files in
     let handed : length entries ≡ length files = rw length-map at indexed.one_each in
     let count : length (indices_of entries) ≡ length files = rw length-map handed in
@@ -91,12 +94,16 @@ files_moved files entries indexed =
     files_at files none entries (recursion_from_All _ entries indexed.found) (recursion_from_All _ entries within) in
     rw same (at_indices (files_in files) none (indices_of entries) indexed.indices (count ∙ sym (simp length-map)))
 
-pub paths_moved : (lengths : ℕ → ℕ) (contents : ℕ → List ℕ) (entries : List (List (List ℕ) × ℕ))
+pub paths_moved : (lengths : ℕ → ℕ) (contents : ℕ → List ℕ) (attrs : List Attr) (entries : List (List (List ℕ) × ℕ))
+    → length attrs ≡ length entries
     → map (λ (file : File). file.path)
-    (files_of (map (λ entry. (entry.0, lengths entry.1)) entries) (map contents (indices_of entries)))
+    (files_of (record { files = map (λ entry. (entry.0, lengths entry.1)) entries; attrs = attrs })
+    (map contents (indices_of entries)))
     ≡ paths_of entries
-paths_moved lengths contents [] = refl
-paths_moved lengths contents (entry ∷ entries) = ap (λ ps. entry.0 ∷ ps) (paths_moved lengths contents entries)
+paths_moved lengths contents attrs [] many = refl
+paths_moved lengths contents [] (entry ∷ entries) many = absurd (omega (arith, many))
+paths_moved lengths contents (attr ∷ attrs) (entry ∷ entries) many =
+    ap (λ ps. entry.0 ∷ ps) (paths_moved lengths contents attrs entries (omega (arith, many)))
 
 -- the paths and the lengths of the files that were handed in
 pub handed_paths : (files : List (List (List ℕ) × Vec ℕ Global))

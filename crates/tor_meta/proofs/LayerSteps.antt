@@ -13,6 +13,7 @@ use Rattle.std.proofs.lemmas.Map.Lookups.{exact_bytes}
 use Rattle.tor_bencode.specs.Data.{string, pair}
 use Rattle.tor_engine.specs.Sums.{lists_of}
 use Rattle.tor_meta.specs.steps.Layers.{pairs_of_map}
+use Rattle.tor_tree.specs.Letters.{no_letters}
 use Rattle.tor_spec.specs.Dictionary.{put}
 use Rattle.tor_spec.specs.Facts.{Facts, listed, layers_in, roots_in}
 use Rattle.tor_spec.specs.PieceLayers.{joined, piece_layers}
@@ -52,7 +53,7 @@ pub facts_at : (files : List (List (List ℕ) × ℕ)) (roots : List (Option (Li
     → k < length files → listed facts ≡ files → roots_in facts ≡ roots → layers_in facts ≡ lists_of layers
     → (fact : Facts) × IsAt files roots layers k facts fact
 facts_at files roots layers k facts within is_listed is_roots is_layers =
-    let none : Facts = record { path = []; size = 0; root = None; layer = [] } in
+    let none : Facts = record { path = []; size = 0; root = None; layer = []; attr = no_letters } in
     let same : length facts ≡ length files = rw length-map at (ap length is_listed) in
     let inside : k < length facts = omega arith in
     let count : length layers ≡ length facts = sym (simp length-map at (ap length is_layers)) in

@@ -12,6 +12,7 @@ pub mod Refused
 pub mod FromSource
 pub mod RisingPaths
 pub mod StreamSums
+pub mod WithoutLetters
 pub mod GivenFiles
 pub mod ByteFaults
 pub mod SourceFaults

@@ -2,7 +2,7 @@
 use Rattle.std.proofs.Common.{◌≡◌, ℕ, ◌+◌, ◌<◌, ◌≤◌, ◌^◌, Bool, true, false, cond, List, []}
 use Rattle.std.proofs.Common.{◌∷◌, length, map, nat_lt, Option, None, Some, sum_by, refl, sym, ap, ◌∙◌, arith}
 use Rattle.std.specs.Int.{next_multiple_of}
-use Rattle.std.specs.List.{All, AllByRecursion, list_any}
+use Rattle.std.specs.List.{All, AllByRecursion, list_any, zip}
 use Rattle.std.specs.Option.{option_or}
 use Rattle.std.proofs.lemmas.Bool.{ltb-false, or_parts}
 use Rattle.std.proofs.lemmas.List.{length-map}
@@ -14,14 +14,16 @@ use Rattle.tor_engine.specs.Sums.{lists_of}
 use Rattle.tor_meta.specs.steps.Sums.{AreFactsOf, HaveTrees, IsJudged}
 use Rattle.tor_meta.specs.declared.head.Head.{Head}
 use Rattle.tor_engine.specs.declared.sums.Sums.{Sums}
-use Rattle.tor_spec.specs.Facts.{Facts, facts_from, listed, layers_in, roots_in}
+use Rattle.tor_spec.specs.Facts.{Facts, attrs_in, facts_from, listed, layers_in, roots_in}
 use Rattle.tor_spec.specs.InfoDictionary.{total_size}
 use Rattle.tor_spec.specs.Makeable.{AreMakeable}
 use Rattle.tor_tree.specs.Kinds.{has_v2}
-use Rattle.tor_tree.specs.FileList.{IsFileList, lengths_fault, lengths_of, lengths_too_large, paths_fault}
+use Rattle.tor_tree.specs.FileList.{IsFileList, LetteredFiles, lengths_fault, lengths_of, lengths_too_large}
+use Rattle.tor_tree.specs.FileList.{paths_fault}
 use Rattle.tor_tree.specs.FileList.{paths_of}
 use Rattle.tor_tree.specs.Path.{HasNames}
 use Rattle.tor_tree.specs.TidyTree.{HasItsRoot}
+use Rattle.tor_tree.specs.declared.attr.Attr.{Attr}
 use Rattle.tor_tree.specs.declared.lists.ListError.{ListError}
 use Rattle.tor_merkle.specs.declared.TheConstants.{MAX_LENGTH}
 use Rattle.tor_tree.specs.declared.lists.TheConstants.{MAX_TOTAL, ROUNDING}
@@ -93,53 +95,80 @@ one_size facts file is_listed = total-listed facts ∙ ap (λ fs. sum_by (λ n. 
 pub named : (files : List (List (List ℕ) × ℕ)) → IsFileList files → All (λ file. HasNames file.0) files
 named files h = λ k d lt. paths_have_names _ (h.named k d lt)
 
--- facts of files, with roots and layers for each
-from_listed : (files : List (List (List ℕ) × ℕ)) (roots : List (Option (List ℕ))) (layers : List (List (List ℕ)))
-    → length roots ≡ length files → length layers ≡ length files
-    → (listed (facts_from files roots layers) ≡ files) × (roots_in (facts_from files roots layers) ≡ roots)
-    × (layers_in (facts_from files roots layers) ≡ layers)
-from_listed [] [] [] e h = (refl, refl, refl)
-from_listed [] (root ∷ roots) layers e h = absurd (omega arith)
-from_listed [] [] (layer ∷ layers) e h = absurd (omega arith)
-from_listed (file ∷ files) [] layers e h = absurd (omega arith)
-from_listed (file ∷ files) (root ∷ roots) [] e h = absurd (omega arith)
-from_listed (file ∷ files) (root ∷ roots) (layer ∷ layers) e h =
-    let rest = from_listed files roots layers (omega arith) (omega arith) in
-    (ap (λ fs. file ∷ fs) rest.0, ap (λ rs. root ∷ rs) rest.1, ap (λ ls. layer ∷ ls) rest.2)
+-- facts of files, with letters, roots and layers for each
+record AreFrom (files : List (List (List ℕ) × ℕ)) (attrs : List Attr) (roots : List (Option (List ℕ)))
+    (layers : List (List (List ℕ))) : Type 0 where
+  listed : listed (facts_from files attrs roots layers) ≡ files
+  lettered : attrs_in (facts_from files attrs roots layers) ≡ attrs
+  rooted : roots_in (facts_from files attrs roots layers) ≡ roots
+  layered : layers_in (facts_from files attrs roots layers) ≡ layers
 
-bare : (files : List (List (List ℕ) × ℕ)) → List Facts
-bare files = map (λ file. record { path = file.0; size = file.1; root = None; layer = [] }) files
+from_listed : (files : List (List (List ℕ) × ℕ)) (attrs : List Attr) (roots : List (Option (List ℕ)))
+    (layers : List (List (List ℕ))) → length attrs ≡ length files → length roots ≡ length files
+    → length layers ≡ length files → AreFrom files attrs roots layers
+from_listed [] [] [] [] a e h = record { listed = refl; lettered = refl; rooted = refl; layered = refl }
+from_listed [] (attr ∷ attrs) roots layers a e h = absurd (omega arith)
+from_listed [] [] (root ∷ roots) layers a e h = absurd (omega arith)
+from_listed [] [] [] (layer ∷ layers) a e h = absurd (omega arith)
+from_listed (file ∷ files) [] roots layers a e h = absurd (omega arith)
+from_listed (file ∷ files) (attr ∷ attrs) [] layers a e h = absurd (omega arith)
+from_listed (file ∷ files) (attr ∷ attrs) (root ∷ roots) [] a e h = absurd (omega arith)
+from_listed (file ∷ files) (attr ∷ attrs) (root ∷ roots) (layer ∷ layers) a e h =
+    let rest = from_listed files attrs roots layers (omega arith) (omega arith) (omega arith) in
+    record {
+      listed = ap (λ fs. file ∷ fs) rest.listed;
+      lettered = ap (λ (xs : List Attr). attr ∷ xs) rest.lettered;
+      rooted = ap (λ rs. root ∷ rs) rest.rooted;
+      layered = ap (λ ls. layer ∷ ls) rest.layered;
+    }
 
-bare_listed : (files : List (List (List ℕ) × ℕ)) → listed (bare files) ≡ files
+bare : (files : List (List (List ℕ) × ℕ)) (attrs : List Attr) → List Facts
+bare files attrs =
+    map (λ file. record { path = file.0.0; size = file.0.1; root = None; layer = []; attr = file.1 }) (zip files attrs)
+
+bare_listed : (files : List (List (List ℕ) × ℕ)) (attrs : List Attr) → length attrs ≡ length files
+    → (listed (bare files attrs) ≡ files) × (attrs_in (bare files attrs) ≡ attrs)
 unfolding bare
-bare_listed [] = refl
-bare_listed (file ∷ files) = ap (λ fs. file ∷ fs) (bare_listed files)
+bare_listed [] [] a = (refl, refl)
+bare_listed [] (attr ∷ attrs) a = absurd (omega arith)
+bare_listed (file ∷ files) [] a = absurd (omega arith)
+bare_listed (file ∷ files) (attr ∷ attrs) a =
+    let rest = bare_listed files attrs (omega arith) in
+    (ap (λ fs. file ∷ fs) rest.0, ap (λ (xs : List Attr). attr ∷ xs) rest.1)
 
 -- sums tell facts of the files
-pub facts_there : (head : Head) (files : List (List (List ℕ) × ℕ)) (sums : Sums) → HaveTrees head files sums
-    → (facts : List Facts) × AreFactsOf head files sums facts
-facts_there head files sums trees = by_kind (has_v2 head.kind) refl
+pub facts_there : (head : Head) (list : LetteredFiles) (sums : Sums) → length list.attrs ≡ length list.files
+    → HaveTrees head list.files sums → (facts : List Facts) × AreFactsOf head list sums facts
+facts_there head list sums many trees = by_kind (has_v2 head.kind) refl
   where
-    by_kind : (b : Bool) → has_v2 head.kind ≡ b → (facts : List Facts) × AreFactsOf head files sums facts
+    by_kind : (b : Bool) → has_v2 head.kind ≡ b → (facts : List Facts) × AreFactsOf head list sums facts
     by_kind true e =
-        let long = AllZip-long HasItsRoot files sums.roots.items (trees.rooted e) in
-        let count : length (lists_of sums.layers.items) ≡ length files = simp length-map (trees.layered e) in
-        let told = from_listed files sums.roots.items (lists_of sums.layers.items) long count in (
-          facts_from files sums.roots.items (lists_of sums.layers.items),
-          record
-              { is_listed = told.0; is_rooted = λ _. told.1; is_layered = λ _. told.2 },
+        let long = AllZip-long HasItsRoot list.files sums.roots.items (trees.rooted e) in
+        let count : length (lists_of sums.layers.items) ≡ length list.files = simp length-map (trees.layered e) in
+        let told = from_listed list.files list.attrs sums.roots.items (lists_of sums.layers.items) many long count in (
+          facts_from list.files list.attrs sums.roots.items (lists_of sums.layers.items),
+          record {
+            is_listed = told.listed;
+            is_lettered = told.lettered;
+            is_rooted = λ _. told.rooted;
+            is_layered = λ _. told.layered;
+          },
         )
-    by_kind false e = (bare files, record { is_listed = bare_listed files; is_rooted = λ f. cc; is_layered = λ f. cc })
+    by_kind false e =
+        let told = bare_listed list.files list.attrs many in (
+          bare list.files list.attrs,
+          record { is_listed = told.0; is_lettered = told.1; is_rooted = λ f. cc; is_layered = λ f. cc },
+        )
 
 -- a torrent may tell the facts
-pub makeable : (head : Head) (files : List (List (List ℕ) × ℕ)) (sums : Sums) (facts : List Facts)
-    → IsJudged head files
-    → HaveTrees head files sums → AreFactsOf head files sums facts → AreMakeable (settings_of head) facts
-makeable head files sums facts judged trees told = record {
+pub makeable : (head : Head) (list : LetteredFiles) (sums : Sums) (facts : List Facts)
+    → IsJudged head list.files
+    → HaveTrees head list.files sums → AreFactsOf head list sums facts → AreMakeable (settings_of head) facts
+makeable head list sums facts judged trees told = record {
   piece_length = judged.piece_length;
   in_order = rw told.is_listed judged.is_list.in_order;
-  named = rw told.is_listed (named files judged.is_list);
+  named = rw told.is_listed (named list.files judged.is_list);
   short = rw told.is_listed judged.short;
   rooted = λ e. rw (told.is_listed, told.is_rooted e) (trees.rooted e);
-  small = small_total files facts judged.is_list told.is_listed;
+  small = small_total list.files facts judged.is_list told.is_listed;
 }

@@ -14,7 +14,10 @@ use Rattle.tor_meta.specs.declared.refusals.ContentsError.{ContentsError}
 use Rattle.tor_meta.specs.declared.refusals.ContentsError.TheVariants.{List, Memory}
 use Rattle.tor_spec.specs.Metainfo.{metainfo}
 use Rattle.tor_spec.specs.Settings.{Settings}
-use Rattle.tor_tree.specs.FileList.{IsFileList, lengths_fault, lengths_of, lengths_too_large}
+use Rattle.tor_tree.specs.FileList.{IsFileList, IsLetteredList, LetteredFiles, lengths_fault, lengths_of}
+use Rattle.tor_tree.specs.FileList.{lengths_too_large}
+use Rattle.tor_tree.specs.FileList.{without_letters}
+use Rattle.tor_tree.specs.Letters.{no_letters}
 use Rattle.tor_tree.specs.PathList.{AreIndexedPaths, IsPathList, indices_of}
 use Rattle.tor_tree.specs.declared.lists.ListError.{ListError}
 use Rattle.tor_tree.specs.declared.lists.ListError.TheVariants as faults
@@ -65,9 +68,9 @@ module _ (settings : Settings) (files : Handed) (paths : ListOf (ListOf (ListOf 
       ∙ ap Some (sym (is ∙ only_too_large (lengths_too_large lengths) fault e))))
   refused_lengths fault refusal is none (inr e) = inr (is ∙ rw e refl)
 
-  module _ (entries : ListOf (ListOf (ListOf ℕ) × ℕ)) (list : ListOf (ListOf (ListOf ℕ) × ℕ)) (indices : ListOf ℕ)
+  module _ (entries : ListOf (ListOf (ListOf ℕ) × ℕ)) (list : LetteredFiles) (indices : ListOf ℕ)
       (indexed : AreIndexedPaths paths entries)
-      (is_list : list ≡ map (λ entry. (entry.0, get_or lengths entry.1 0)) entries)
+      (is_list : list ≡ without_letters (map (λ entry. (entry.0, get_or lengths entry.1 0)) entries))
       (are_indices : indices ≡ indices_of entries) where
     pub within : All (λ index. index < length contents) indices
     within =
@@ -78,7 +81,7 @@ module _ (settings : Settings) (files : Handed) (paths : ListOf (ListOf (ListOf 
         rw are_indices (indices_within (length contents) (indices_of entries) indexed.indices count)
 
     pub contents_listed : (ordered : ListOf (ListOf ℕ)) → ordered ≡ contents_at contents indices
-        → map length ordered ≡ lengths_of list
+        → map length ordered ≡ lengths_of list.files
     contents_listed ordered is = rw (is, is_list, are_indices, are_lengths) (lengths_at contents entries)
 
     pub made_of : IsPathList entries → (ordered : ListOf (ListOf ℕ)) (bytes : ListOf ℕ)
@@ -89,10 +92,15 @@ module _ (settings : Settings) (files : Handed) (paths : ListOf (ListOf (ListOf 
       rw (is, is_list, are_indices, are_lengths, are_contents) (files_moved files entries (rw are_paths at indexed)),
       rw (is, is_list, are_indices)
           (rw
-          (paths_moved (λ k. get_or lengths k 0) (λ k. get_or (map (λ content. content.items) contents) k []) entries)
+          (paths_moved (λ k. get_or lengths k 0) (λ k. get_or (map (λ content. content.items) contents) k [])
+          (without_letters (map (λ entry. (entry.0, get_or lengths entry.1 0)) entries)).attrs entries
+          (length-map _ (λ file. no_letters) ∙ length-map entries (λ entry. (entry.0, get_or lengths entry.1 0))))
           lawful.in_order),
       made,
     )
+
+pub files_lawful : (list : LetteredFiles) → IsLetteredList list → IsFileList list.files
+files_lawful list is = is.lawful
 
 pub judged_list : (head : Head) (paths : ListOf (ListOf (ListOf ℕ))) (lengths : ListOf ℕ)
     (entries list : ListOf (ListOf (ListOf ℕ) × ℕ)) → AreIndexedPaths paths entries

@@ -22,13 +22,14 @@ use Rattle.tor_meta.specs.steps.Sums.{IsJudged, SumUp}
 use Rattle.tor_meta.specs.declared.head.Head.{Head}
 use Rattle.tor_meta.specs.declared.refusals.ContentsError.{ContentsError}
 use Rattle.tor_meta.specs.declared.refusals.ContentsError.TheVariants.{List as ContentsList, Memory}
+use Rattle.tor_meta.proofs.FromSource.{pairs_with, paths_with}
 use Rattle.tor_meta.proofs.Made.{judged_list}
 use Rattle.tor_meta.proofs.SourceSums.{sums_of_files}
 use Rattle.tor_plan.specs.PlanFacts.{IsPlanPieceLength}
-use Rattle.tor_spec.specs.Facts.{File}
 use Rattle.tor_spec.specs.Metainfo.{metainfo}
 use Rattle.tor_spec.specs.Settings.{Settings}
-use Rattle.tor_tree.specs.FileList.{IsFileList, lengths_fault, lengths_of}
+use Rattle.tor_tree.specs.FileList.{IsFileList, LetteredFiles, lengths_fault, lengths_of, paths_of}
+use Rattle.tor_tree.specs.declared.attr.Attr.{Attr}
 use Rattle.tor_tree.specs.Path.{path_cmp}
 use Rattle.tor_tree.specs.PathList.{AreIndexedPaths, with_indices}
 use Rattle.tor_tree.specs.declared.kinds.Kind.{Kind}
@@ -37,6 +38,12 @@ use Rattle.tor_tree.specs.declared.lists.ListError.TheVariants.{TooLarge}
 
 abbrev Paths : Type 0
 Paths = List (List (List ℕ))
+
+abbrev Files : Type 0
+Files = List (List (List ℕ) × Attr)
+
+abbrev pub attrs_of : Files → List Attr
+attrs_of files = map (λ file. file.1) files
 
 abbrev AreSumsOfSettings : Settings → List (List ℕ) → Sums → Type 0
 AreSumsOfSettings settings contents sums =
@@ -50,15 +57,16 @@ lengths_read settings contents sums up =
     (sym (map-map (λ (file : List (List ℕ) × ℕ). file.1) (λ (content : List ℕ). ([], length content))
     contents))).lengths
 
--- the files of paths with the lengths of contents
-pub files_listed : (paths : Paths) (contents : List (List ℕ)) → length contents ≡ length paths
-    → files_of (zip paths (map length contents)) contents ≡ files_with paths contents
+-- the files of a list with the lengths of contents
+pub files_listed : (files : Files) (contents : List (List ℕ)) → length contents ≡ length files
+    → files_of (record { files = zip (paths_of files) (map length contents); attrs = attrs_of files }) contents
+    ≡ files_with files contents
 files_listed [] [] same = refl
 files_listed [] (content ∷ contents) same = absurd (omega (arith, same))
-files_listed (path ∷ paths) [] same = absurd (omega (arith, same))
-files_listed (path ∷ paths) (content ∷ contents) same =
-    ap (λ files. record { path = path; content = content } ∷ files)
-    (files_listed paths contents (omega (arith, same)))
+files_listed (file ∷ files) [] same = absurd (omega (arith, same))
+files_listed (file ∷ files) (content ∷ contents) same =
+    ap (λ others. record { path = file.0; content = content; attr = file.1 } ∷ others)
+    (files_listed files contents (omega (arith, same)))
 
 -- what is put in the order of indices 0, 1, .. is paired in this order
 pub paired : (paths : Paths) (lengths : List ℕ) → length lengths ≡ length paths
@@ -106,45 +114,53 @@ pub known_long : {A B : Type 0} (R : A → B → Type 0) (xs : List A) (ys : Lis
     → AllZip R xs ys → length ys ≡ n
 known_long R xs ys n same each = AllZip-long R xs ys each ∙ same
 
--- the same of a list that has these paths and lengths
-pub summed_list : (head : Head) (paths : Paths) (list : List (List (List ℕ) × ℕ)) (lengths : List ℕ) (sums : Sums)
-    (contents : List (List ℕ)) → lengths ≡ sums.lengths.items → list ≡ zip paths lengths → IsJudged head list
-    → length contents ≡ length paths → AreSumsOfHead head contents sums
-    → (map length contents ≡ lengths_of list) × SumUp head list contents sums
-    × (files_of list contents ≡ files_with paths contents)
-summed_list head paths list lengths sums contents is are judged many up =
-    let same : list ≡ zip paths sums.lengths.items = are ∙ ap (zip paths) is in
-    let both = sum_up head paths contents sums many (subst (IsJudged head) same judged) up in
-    let listed : files_of (zip paths sums.lengths.items) contents ≡ files_with paths contents =
-    ap (λ ns. files_of (zip paths ns) contents) (lengths_read (settings_of head) contents sums up)
-    ∙ files_listed paths contents many in
-    subst (λ (l : List (List (List ℕ) × ℕ)). (map length contents ≡ lengths_of l) × SumUp head l contents sums
-    × (files_of l contents ≡ files_with paths contents)) (sym same) (both.0, both.1, listed)
-
 -- all that the torrent of what was read is made of
-pub record IsListed (head : Head) (paths : Paths) (list : List (List (List ℕ) × ℕ)) (sums : Sums)
+pub record IsListed (head : Head) (named : Files) (list : LetteredFiles) (sums : Sums)
     (contents : List (List ℕ)) : Type 0 where
-  pub judged : IsJudged head list
-  pub fit : map length contents ≡ lengths_of list
-  pub up : SumUp head list contents sums
-  pub files : files_of list contents ≡ files_with paths contents
+  pub judged : IsJudged head list.files
+  pub fit : map length contents ≡ lengths_of list.files
+  pub up : SumUp head list.files contents sums
+  pub files : files_of list contents ≡ files_with named contents
 
-pub listed : (head : Head) (settings : Settings) (paths : Paths) (entries list : List (List (List ℕ) × ℕ))
-    (lengths : List ℕ) (sums : Sums) (contents : List (List ℕ)) → settings_of head ≡ settings
-    → paths_refusal settings paths ≡ None → AreIndexedPaths paths entries → entries ≡ with_indices paths
-    → lengths ≡ sums.lengths.items → list ≡ zip paths lengths → IsFileList list → length contents ≡ length paths
-    → AreSumsOfSettings settings contents sums → IsListed head paths list sums contents
-listed head settings paths entries list lengths sums contents of_head accepted indexed same is are lawful many up =
+module _ (head : Head) (files : Files) (list : LetteredFiles) (sums : Sums) (contents : List (List ℕ))
+    (are : list.files ≡ zip (paths_of files) sums.lengths.items) (letters : list.attrs ≡ attrs_of files)
+    (many : length contents ≡ length files) (up : AreSumsOfHead head contents sums) where
+  as_listed : files_of list contents ≡ files_with files contents
+  as_listed =
+      let read = lengths_read (settings_of head) contents sums up in
+      ap₂ (λ (fs : List (List (List ℕ) × ℕ)) (xs : List Attr).
+      let l : LetteredFiles = record { files = fs; attrs = xs } in files_of l contents)
+      (are ∙ ap (zip (paths_of files)) read) letters
+      ∙ files_listed files contents many
+
+  -- the same of a list that has these paths, lengths and letters
+  pub summed_list : IsJudged head list.files → IsListed head files list sums contents
+  summed_list judged =
+      let long : length contents ≡ length (paths_of files) = many ∙ sym (length-map files (λ file. file.0)) in
+      let both = sum_up head (paths_of files) contents sums long (subst (IsJudged head) are judged) up in
+      let there = subst (λ (l : List (List (List ℕ) × ℕ)). (map length contents ≡ lengths_of l)
+      × SumUp head l contents sums) (sym are) both in
+      record { judged = judged; fit = there.0; up = there.1; files = as_listed }
+
+pub listed : (head : Head) (settings : Settings) (files : Files) (entries : List (List (List ℕ) × ℕ))
+    (list : LetteredFiles) (lengths : List ℕ) (sums : Sums) (contents : List (List ℕ)) → settings_of head ≡ settings
+    → paths_refusal settings (paths_of files) ≡ None → AreIndexedPaths (paths_of files) entries
+    → entries ≡ with_indices (paths_of files) → lengths ≡ sums.lengths.items
+    → list.files ≡ zip (paths_of files) lengths → list.attrs ≡ attrs_of files → IsFileList list.files
+    → length contents ≡ length files → AreSumsOfSettings settings contents sums
+    → IsListed head files list sums contents
+listed head settings files entries list lengths sums contents of_head accepted indexed same is are letters lawful many
+    up =
+    let paths = paths_of files in
     let up_head = subst (λ (s : Settings). AreSumsOfSettings s contents sums) (sym of_head) up in
     let long : length lengths ≡ length paths =
     ap length (is ∙ lengths_read (settings_of head) contents sums up_head)
-    ∙ length-map contents length ∙ many in
-    let judged = judged_list head paths lengths entries list indexed
+    ∙ length-map contents length ∙ many ∙ sym (length-map files (λ file. file.0)) in
+    let judged = judged_list head paths lengths entries list.files indexed
     (subst (λ (s : Settings). paths_refusal s paths ≡ None) (sym of_head) accepted)
     (are ∙ sym (paired paths lengths long)
     ∙ ap (λ es. map (λ (entry : List (List ℕ) × ℕ). (entry.0, get_or lengths entry.1 0)) es) (sym same)) lawful in
-    let all = summed_list head paths list lengths sums contents is are judged many up_head in
-    record { judged = judged; fit = all.0; up = all.1; files = all.2 }
+    summed_list head files list sums contents (are ∙ ap (zip paths) is) letters many up_head judged
 
 -- lengths that are refused are those of what was given
 pub given_large : (F : Type 0) (known : List (Option (List ℕ))) (contents : List (List ℕ)) (lengths : List ℕ)
@@ -164,23 +180,13 @@ plan_pieces V1 p (power, least, most) = (omega (arith, least), omega (arith, mos
 plan_pieces V2 p (power, least, most) = (power, omega (arith, least), omega (arith, most))
 plan_pieces Hybrid p (power, least, most) = (power, omega (arith, least), omega (arith, most))
 
--- the files of paths and contents are at these paths
-paths_with : (paths : Paths) (contents : List (List ℕ)) → length contents ≡ length paths
-    → map (λ (file : File). file.path) (files_with paths contents) ≡ paths
-paths_with [] [] same = refl
-paths_with [] (content ∷ contents) same = refl
-paths_with (path ∷ paths) [] same = absurd (omega (arith, same))
-paths_with (path ∷ paths) (content ∷ contents) same =
-    ap (λ ps. path ∷ ps) (paths_with paths contents (omega (arith, same)))
-
--- paths that rise are those of the files, in their order
-pub made_in_order : (settings : Settings) (paths : Paths) (contents : List (List ℕ)) (bytes : List ℕ)
-    → length contents ≡ length paths → IsStrictlySortedBy path_cmp paths
-    → bytes ≡ metainfo settings (files_with paths contents) → IsMadeOfSome settings paths bytes
-made_in_order settings paths contents bytes many rising made =
-    let same = paths_with paths contents many in (
-      files_with paths contents,
-      subst (IsPermutation paths) (sym same) (IsPermutation-refl paths),
-      subst (IsStrictlySortedBy path_cmp) (sym same) rising,
-      made,
-    )
+-- files whose paths rise stay in their order
+pub made_in_order : (settings : Settings) (files : Files) (contents : List (List ℕ)) (bytes : List ℕ)
+    → length contents ≡ length files → IsStrictlySortedBy path_cmp (paths_of files)
+    → bytes ≡ metainfo settings (files_with files contents) → IsMadeOfSome settings files bytes
+made_in_order settings files contents bytes many rising made = (
+  files_with files contents,
+  subst (IsPermutation files) (sym (pairs_with files contents many)) (IsPermutation-refl files),
+  subst (IsStrictlySortedBy path_cmp) (sym (paths_with files contents many)) rising,
+  made,
+)

@@ -2,35 +2,38 @@
 use Rattle.std.specs.Prelude.{◌≡◌, ◌⊎◌, ◌<◌, ℕ, List, [], ◌∷◌, length, take, Option, None, Some}
 use Rattle.std.specs.Io.KnownBytes.{Appends, Keeps}
 use Rattle.std.specs.declared.io.Error.{Error}
+use Rattle.tor_meta.specs.Contents.{one_file}
 use Rattle.tor_meta.specs.Make.{make_refusal}
 use Rattle.tor_meta.specs.Order.{settings_of_order}
 use Rattle.tor_meta.specs.declared.make_error.MakeError.{MakeError}
 use Rattle.tor_meta.specs.declared.make_error.MakeError.TheVariants.{Resources}
 use Rattle.tor_meta.specs.declared.order.Order.{Order}
-use Rattle.tor_spec.specs.Metainfo.{metainfo, only}
+use Rattle.tor_spec.specs.Metainfo.{metainfo}
 use Rattle.tor_source.specs.Input.{ReadsAll, ReadsSome, EndsInput}
 use Rattle.tor_source.specs.declared.input.TheConstants.{MAX_INPUT_LENGTH}
+use Rattle.tor_tree.specs.Letters.{no_letters}
+use Rattle.tor_tree.specs.declared.attr.Attr.{Attr}
 use Rattle.tor_meta.specs.declared.from_input.FromFault.{FromFault}
 use Rattle.tor_meta.specs.declared.from_input.FromFault.TheVariants.{Input, Make, Write}
 
--- the torrent of one content under the torrent's name
-abbrev pub torrent_of : Order → List ℕ → List ℕ
-torrent_of order content = metainfo (settings_of_order order) (only order.name content)
+-- the torrent of one content under the torrent's name, with these letters
+abbrev pub torrent_of : Order → Attr → List ℕ → List ℕ
+torrent_of order attr content = metainfo (settings_of_order order) (one_file order.name content attr)
 
 -- why no torrent is made of one content under the torrent's name
 abbrev pub refusal_of : Order → Option (MakeError Error)
 refusal_of order = make_refusal order ((order.name ∷ []) ∷ [])
 
--- all that the reader had was read, and of its torrent this holds
-pub record MakesOf (order : Order) (reader reader' : Option (List ℕ)) (Holds : List ℕ → Type 0)
+-- all that the reader had was read, and of its torrent with these letters this holds
+pub record MakesOf (order : Order) (attr : Attr) (reader reader' : Option (List ℕ)) (Holds : List ℕ → Type 0)
     (content : List ℕ) : Type 0 where
   pub read : ReadsAll reader reader' content
   pub accepted : refusal_of order ≡ None
-  pub torrent : Holds (torrent_of order content)
+  pub torrent : Holds (torrent_of order attr content)
 
 -- all that the reader had was read, and its torrent, and nothing else, was written
 abbrev pub MakesWhole : Order → Option (List ℕ) → Option (List ℕ) → Option (List ℕ) → Option (List ℕ) → List ℕ → Type 0
-MakesWhole order reader reader' writer writer' = MakesOf order reader reader' (Appends writer writer')
+MakesWhole order reader reader' writer writer' = MakesOf order no_letters reader reader' (Appends writer writer')
 
 -- so many bytes of a torrent, and nothing else, were written
 abbrev pub IsFront : Option (List ℕ) → Option (List ℕ) → ℕ → List ℕ → Type 0
@@ -39,7 +42,8 @@ IsFront writer writer' written torrent = (written < length torrent) × Appends w
 -- all that the reader had was read, and so many bytes of its torrent, and nothing else, were written
 abbrev pub MakesFront : Order → Option (List ℕ) → Option (List ℕ) → Option (List ℕ) → Option (List ℕ) → ℕ → List ℕ
     → Type 0
-MakesFront order reader reader' writer writer' written = MakesOf order reader reader' (IsFront writer writer' written)
+MakesFront order reader reader' writer writer' written =
+    MakesOf order no_letters reader reader' (IsFront writer writer' written)
 
 -- what was read where no torrent is made
 abbrev pub StopsReading : Order → Option (List ℕ) → Option (List ℕ) → FromFault → Type 0

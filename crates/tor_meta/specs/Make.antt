@@ -21,6 +21,8 @@ use Rattle.tor_spec.specs.Facts.{File}
 use Rattle.tor_spec.specs.Metainfo.{metainfo}
 use Rattle.tor_spec.specs.Settings.{Settings}
 use Rattle.tor_tree.specs.FileList.{IsInPathOrder, lengths_fault, paths_of}
+use Rattle.tor_tree.specs.Letters.{no_letters}
+use Rattle.tor_tree.specs.declared.attr.Attr.{Attr}
 use Rattle.tor_tree.specs.declared.lists.ListError.TheVariants.{TooLarge}
 use Rattle.tor_tree.specs.PathList.{AreIndexedPaths, indices_of}
 
@@ -28,10 +30,20 @@ use Rattle.tor_tree.specs.PathList.{AreIndexedPaths, indices_of}
 abbrev pub content_at : {F : Type 0} → SourceFacts F → ℕ → ListOf ℕ
 content_at facts file = unwrap_or (facts.contents file) []
 
--- the files of a source: file i has the i-th path
-abbrev pub files_of_source : {F : Type 0} → SourceFacts F → ListOf (ListOf (ListOf ℕ)) → ListOf File
-files_of_source facts paths =
-    map (λ file. record { path = file.1; content = content_at facts file.0 }) (enumerate_from 0 paths)
+-- the files of a source: file i has the i-th path, and its letters
+abbrev pub files_of_source : {F : Type 0} → SourceFacts F → ListOf (ListOf (ListOf ℕ) × Attr) → ListOf File
+files_of_source facts files =
+    map (λ file. record { path = file.1.0; content = content_at facts file.0; attr = file.1.1 }) (enumerate_from 0
+    files)
+
+-- the letters of the file of an index
+abbrev pub letters_at : ListOf (ListOf (ListOf ℕ) × Attr) → ℕ → Attr
+letters_at files index = (slice_index_or files index ([], no_letters)).1
+
+-- paths with their indices, and the letters of the files there
+abbrev pub lettered : ListOf (ListOf (ListOf ℕ) × Attr) → ListOf (ListOf (ListOf ℕ) × ℕ) → ListOf (ListOf (ListOf ℕ) ×
+    Attr)
+lettered files entries = map (λ entry. (entry.0, letters_at files entry.1)) entries
 
 -- paths with their indices, and the lengths of the files there
 abbrev pub listed_files : {F : Type 0} → SourceFacts F → ListOf (ListOf (ListOf ℕ) × ℕ) → ListOf (ListOf (ListOf ℕ) × ℕ)
@@ -78,17 +90,17 @@ pub record IsMakeFault {F : Type 0} (facts : SourceFacts F) (order : Order) (pat
   pub indexed : make_refusal {F = F} order paths ≡ None → AreIndexedPaths paths entries × IsInPathOrder entries
   pub is_first : fault_of facts order paths entries ≡ fault
 
--- the bytes are the torrent of some files, in the order of their paths: each has a path that was handed in, and a
--- length that was told of the file under this path's index
-pub record IsMadeOfTold (told : ℕ → Option ℕ → Type 0) (settings : Settings) (paths : ListOf (ListOf (ListOf ℕ)))
-    (bytes : ListOf ℕ) : Type 0 where
+-- the bytes are the torrent of some files, in the order of their paths: each has a path that was handed in, its
+-- letters, and a length that was told of the file under this path's index
+pub record IsMadeOfTold (told : ℕ → Option ℕ → Type 0) (settings : Settings)
+    (files : ListOf (ListOf (ListOf ℕ) × Attr)) (bytes : ListOf ℕ) : Type 0 where
   pub entries : ListOf (ListOf (ListOf ℕ) × ℕ)
   pub contents : ListOf (ListOf ℕ)
-  pub indexed : AreIndexedPaths paths entries × IsInPathOrder entries
+  pub indexed : AreIndexedPaths (paths_of files) entries × IsInPathOrder entries
   pub one_each : length contents ≡ length entries
   pub are_told : (k : ℕ) → k < length entries →
       told (slice_index_or (indices_of entries) k 0) (Some (length (slice_index_or contents k [])))
-  pub made : bytes ≡ metainfo settings (files_with (paths_of entries) contents)
+  pub made : bytes ≡ metainfo settings (files_with (lettered files entries) contents)
 
 -- a length was told of this file, and the source does not keep to it
 abbrev pub IsToldChanged : (ℕ → Option ℕ → Type 0) → (ℕ → ℕ → Type 0) → ℕ → Type 0

@@ -3,7 +3,7 @@ use Rattle.std.specs.Prelude.{◌≡◌, ◌*◌, ℕ, Bool, true, ◌&&◌, not
 use Rattle.std.specs.Prelude.{Option, None, Some, option_map, if◌then◌else◌}
 use Rattle.std.specs.Option.{option_or}
 use Rattle.std.specs.Ordering.{is_lt}
-use Rattle.tor_engine.specs.Streams.{GiveContents, GivesSome, IsFaultOfReaders}
+use Rattle.tor_engine.specs.Streams.{GiveContents, IsFaultOfReaders}
 use Rattle.tor_engine.specs.declared.errors.EngineError.TheVariants as engine
 use Rattle.tor_engine.specs.declared.streams.TheConstants.{MAX_UNIT_LENGTH}
 use Rattle.tor_meta.specs.Contents.{files_with}
@@ -19,6 +19,7 @@ use Rattle.tor_spec.specs.Metainfo.{metainfo}
 use Rattle.tor_spec.specs.Settings.{Settings}
 use Rattle.tor_tree.specs.FileList.{lengths_fault}
 use Rattle.tor_tree.specs.Path.{path_cmp}
+use Rattle.tor_tree.specs.declared.attr.Attr.{Attr}
 use Rattle.tor_tree.specs.declared.lists.ListError.TheVariants.{TooLarge}
 
 -- each path is below the next
@@ -41,10 +42,11 @@ stream_refusal order paths =
     option_map of_contents_error (ordered_refusal (settings_of_order order) paths))))
 
 -- the bytes are the torrent of what readers give, each to its end, which is not too large together
-abbrev pub IsMadeOfReaders : Settings → ListOf (ListOf (ListOf ℕ)) → ListOf (Option (ListOf ℕ)) → ListOf ℕ → Type 0
-IsMadeOfReaders settings paths known bytes =
+abbrev pub IsMadeOfReaders : Settings → ListOf (ListOf (ListOf ℕ) × Attr) → ListOf (Option (ListOf ℕ)) → ListOf ℕ
+    → Type 0
+IsMadeOfReaders settings files known bytes =
     (contents : ListOf (ListOf ℕ)) × GiveContents known contents × (lengths_fault (map length contents) ≡ None)
-    × (bytes ≡ metainfo settings (files_with paths contents))
+    × (bytes ≡ metainfo settings (files_with files contents))
 
 -- what is answered of readers they gave: a fault of one, after as many bytes as it gave, or more bytes than a file may
 -- have, or contents that are too large together; nothing is asked of them but bytes

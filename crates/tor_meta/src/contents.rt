@@ -100,12 +100,13 @@ fn torrent_of(
     list: &FileList,
     contents: &[&[u8]],
 ) -> Result<Vec<u8>, AllocError>
-    requires judged { IsJudged head.now list.now }
-    requires contents { map length (bytes_of contents.now) ≡ lengths_of list.now }
+    requires judged { IsJudged head.now list.now.files }
+    requires contents { map length (bytes_of contents.now) ≡ lengths_of list.now.files }
     ensures made { IfOk result (λ bytes.
         bytes.items ≡ metainfo (settings_of head.now) (files_of list.now (bytes_of contents.entry.now))) }
     ensures info { IfOk result (λ bytes. HasInfo bytes.items) }
 {
+    let _attrs = list.attrs();
     let sums = sums_of(alloc, head, list, contents)?;
     let bytes = torrent_bytes(alloc, head, list, &sums)?;
     Ok(bytes)
@@ -118,9 +119,9 @@ fn sums_of(
     list: &FileList,
     contents: &[&[u8]],
 ) -> Result<Sums, AllocError>
-    requires judged { IsJudged head.now list.now }
-    requires contents { map length (bytes_of contents.now) ≡ lengths_of list.now }
-    ensures { IfOk result (SumUp head.now list.now (bytes_of contents.entry.now)) }
+    requires judged { IsJudged head.now list.now.files }
+    requires contents { map length (bytes_of contents.now) ≡ lengths_of list.now.files }
+    ensures { IfOk result (SumUp head.now list.now.files (bytes_of contents.entry.now)) }
 {
     files_are_small();
     let mut sums = no_sums(alloc);

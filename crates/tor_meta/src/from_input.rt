@@ -20,6 +20,7 @@ use std::thread::Threads;
 use tor_engine::{MAX_UNIT_LENGTH, hash_input};
 use tor_merkle::laws::piece_length_bounds;
 use tor_source::{InputFault, MAX_INPUT_LENGTH, drop_input, read_parts};
+use tor_tree::Attr;
 
 /// Why no whole torrent was written.
 #[derive(Debug, Drop)]
@@ -30,7 +31,8 @@ pub enum FromFault {
     Write(WriteFault),
 }
 
-/// Reads all of a content, at most `MAX_INPUT_LENGTH` bytes, and writes the torrent of it under the order's name.
+/// Reads all of a content, at most `MAX_INPUT_LENGTH` bytes, and writes the torrent of it under the order's name,
+/// without letters.
 /// Nothing of the content is kept.
 pub fn make_from<R: io::Read, W: io::Write>(
     alloc: Global,
@@ -43,26 +45,27 @@ pub fn make_from<R: io::Read, W: io::Write>(
     ensures part { IfErr result (MakesPart order.now
         (R.remaining reader.old) (R.remaining reader.new) (W.contents writer.old) (W.contents writer.new)) }
 {
-    let torrent = torrent_from(alloc, reader, order)?;
+    let torrent = torrent_from(alloc, reader, order, Attr::NONE)?;
     write_out(writer, &torrent)?;
     Ok(())
 }
 
-/// Reads all of a content, at most `MAX_INPUT_LENGTH` bytes, and gives the torrent of it under the order's name. The
-/// caller's thread reads and hashes, whoever is to hash files.
+/// Reads all of a content, at most `MAX_INPUT_LENGTH` bytes, and gives the torrent of it under the order's name, with
+/// these letters. The caller's thread reads and hashes, whoever is to hash files.
 pub fn torrent_from<R: io::Read>(
     alloc: Global,
     reader: &mut R,
     order: &Order,
+    attr: Attr,
 ) -> Result<Vec<u8>, FromFault>
-    ensures made { IfOk result (λ torrent. (content : List ℕ) × MakesOf order.now
+    ensures made { IfOk result (λ torrent. (content : List ℕ) × MakesOf order.now attr
         (R.remaining reader.old) (R.remaining reader.new) (λ bytes. torrent.items ≡ bytes) content) }
     ensures stopped { IfErr result (StopsReading order.now (R.remaining reader.old) (R.remaining reader.new)) }
 {
     let head = head_for(alloc, reader, order)?;
     let mut fed = FedSums::new(alloc, &head);
     read_parts(alloc, reader, MAX_INPUT_LENGTH, &mut fed)?;
-    Ok(make_fed(alloc, &head, fed)?)
+    Ok(make_fed(alloc, &head, fed, attr)?)
 }
 
 /// The same torrent, while as many workers as the order's `how` says hash what the caller's thread reads. Where a unit
@@ -72,13 +75,14 @@ pub fn torrent_by_streams<R: io::Read, T: Threads + Wait + Sync + Send + Clone +
     alloc: Global,
     reader: &mut R,
     order: &Order,
+    attr: Attr,
 ) -> Result<Vec<u8>, FromFault>
-    ensures made { IfOk result (λ torrent. (content : List ℕ) × MakesOf order.now
+    ensures made { IfOk result (λ torrent. (content : List ℕ) × MakesOf order.now attr
         (R.remaining reader.old) (R.remaining reader.new) (λ bytes. torrent.items ≡ bytes) content) }
     ensures stopped { IfErr result (StopsReading order.now (R.remaining reader.old) (R.remaining reader.new)) }
 {
     if (order.span as u64).saturating_mul(order.piece_length) > MAX_UNIT_LENGTH {
-        return torrent_from(alloc, reader, order);
+        return torrent_from(alloc, reader, order, attr);
     }
     let head = head_for(alloc, reader, order)?;
     piece_length_bounds();
@@ -94,7 +98,7 @@ pub fn torrent_by_streams<R: io::Read, T: Threads + Wait + Sync + Send + Clone +
         order.has_tail(),
     )?;
     let count = sums.lengths[0];
-    Ok(make_summed(alloc, &head, count, &sums)?)
+    Ok(make_summed(alloc, &head, count, &sums, attr)?)
 }
 
 /// The head of the torrent of one content. Where the order is refused, all of the content is read before that is told,

@@ -1,30 +1,32 @@
 //! The info dictionary (BEP 3, BEP 52, "info dictionary").
-ghost use Rattle.std.specs.Prelude.{◌≡◌, ◌<◌, ◌≤◌, ◌^◌, ◌&&◌, not, true, All, List, ℕ, IfOk, option_map, pos, length};
+ghost use Rattle.std.specs.Prelude.{◌≡◌, ◌<◌, ◌≤◌, ◌^◌, ◌&&◌, not, true, All, List, ℕ, IfOk, None, option_map, pos};
+ghost use Rattle.std.specs.Prelude.{length};
+ghost use Rattle.std.specs.Prelude.{if◌then◌else◌};
 ghost use Rattle.tor_bencode.specs.Data.{string, integer};
 ghost use Rattle.tor_bencode.specs.View.{view};
 ghost use Rattle.tor_merkle.specs.Layer.{IsPieceLength};
 ghost use Rattle.tor_meta.specs.Head.{settings_of};
 ghost use Rattle.tor_meta.specs.steps.Sums.{AreFactsOf, HaveTrees, IsJudged};
 ghost use Rattle.tor_spec.specs.Dictionary.{when};
-ghost use Rattle.tor_spec.specs.Facts.{Facts, listed};
+ghost use Rattle.tor_spec.specs.Facts.{Facts, attrs_in, listed};
 ghost use Rattle.tor_spec.specs.FilesList.{files_list};
-ghost use Rattle.tor_spec.specs.InfoDictionary.{info_dictionary, total_size};
+ghost use Rattle.tor_spec.specs.InfoDictionary.{info_dictionary, single_letters, total_size};
 ghost use Rattle.tor_spec.specs.Settings.{layout_of};
 ghost use Rattle.tor_tree.specs.Kinds.{has_v1, has_v2};
 ghost use Rattle.tor_tree.specs.WrittenTree.{file_tree};
-ghost use Rattle.tor_v1.specs.Entries.{v1_entries};
+ghost use Rattle.tor_v1.specs.Entries.{v1_entries, with_letters};
 ghost use Rattle.tor_v1.specs.Piece.{max_piece_length};
 ghost use Rattle.tor_v1.specs.Reserved.{takes_reserved};
 
 use crate::head::Head;
-use crate::items::{dictionary, files, number, text};
+use crate::items::{dictionary, files, letters, number, text};
 use std::alloc::{AllocError, Global};
 use tor_bencode::Item;
 use tor_engine::Sums;
 use tor_merkle::laws::piece_length_bounds;
 use tor_spec::laws::entries_fit;
 use tor_tree::{FileList, FilePath, to_item};
-use tor_v1::{Entry, LayoutError, lay_out};
+use tor_v1::{Entry, LayoutError, lay_out, put_letters};
 
 /// The info dictionary of these files.
 pub(crate) fn info(
@@ -33,18 +35,20 @@ pub(crate) fn info(
     list: &FileList,
     sums: &Sums,
 ) -> Result<Item, AllocError>
-    requires judged { IsJudged head.now list.now }
-    requires trees { HaveTrees head.now list.now sums.now }
+    requires judged { IsJudged head.now list.now.files }
+    requires trees { HaveTrees head.now list.now.files sums.now }
     ensures { (facts : List Facts) → AreFactsOf head.now list.now sums.now facts → IfOk result (λ item.
         view item ≡ info_dictionary (settings_of head.now) facts sums.now.pieces.items) }
 {
     piece_length_bounds();
     let tree = tree(alloc, head, list, sums)?;
+    let attr = only_attr(alloc, head, list)?;
     let entries = entry_list(alloc, head, list)?;
     let length = only_length(head, list.files());
     let name = text(alloc, head.name.as_bytes())?;
     let pieces = pieces(alloc, head, &sums.pieces)?;
     let fields = vec![in alloc;
+        ("attr", attr),
         ("file tree", tree),
         ("files", entries),
         ("length", length),
@@ -64,9 +68,10 @@ fn tree(
     list: &FileList,
     sums: &Sums,
 ) -> Result<Option<Item>, AllocError>
-    requires { HaveTrees head.now list.now sums.now }
+    requires { HaveTrees head.now list.now.files sums.now }
     ensures { IfOk result (λ item.
-        option_map view item ≡ when (has_v2 head.now.kind) (file_tree list.now sums.now.roots.items)) }
+        option_map view item ≡ when (has_v2 head.now.kind) (file_tree list.now.files list.now.attrs
+        sums.now.roots.items)) }
 {
     if !head.kind.has_v2() {
         return Ok(None);
@@ -76,22 +81,35 @@ fn tree(
 
 /// The `files` of BEP 3, where there may be more than one.
 fn entry_list(alloc: Global, head: &Head, list: &FileList) -> Result<Option<Item>, AllocError>
-    requires { IsJudged head.now list.now }
+    requires { IsJudged head.now list.now.files }
     ensures { IfOk result (λ item. option_map view item ≡ when (has_v1 head.now.kind && not head.now.single)
-        (files_list (v1_entries (layout_of (settings_of head.now)) head.now.piece_length list.now))) }
+        (files_list (with_letters list.now.attrs
+        (v1_entries (layout_of (settings_of head.now)) head.now.piece_length list.now.files)))) }
 {
     if !head.kind.has_v1() || head.single {
         return Ok(None);
     }
-    let entries = entries(alloc, head, list)?;
+    let entries = lettered_entries(alloc, head, list)?;
     Ok(Some(files(alloc, &entries)?))
+}
+
+/// The entries of the files, each with its letters.
+fn lettered_entries(alloc: Global, head: &Head, list: &FileList) -> Result<Vec<Entry>, AllocError>
+    requires { IsJudged head.now list.now.files }
+    ensures made { IfOk result (λ entries. entries.items ≡ with_letters list.now.attrs
+        (v1_entries (layout_of (settings_of head.now)) head.now.piece_length list.now.files)) }
+    ensures small { IfOk result (λ entries. All (λ entry. entry.length < 2 ^ 63) entries.items) }
+{
+    let mut entries = entries(alloc, head, list)?;
+    put_letters(&mut entries, list.attrs());
+    Ok(entries)
 }
 
 /// The entries of the files in the layout that the head asks for.
 pub(crate) fn entries(alloc: Global, head: &Head, list: &FileList) -> Result<Vec<Entry>, AllocError>
-    requires { IsJudged head.now list.now }
+    requires { IsJudged head.now list.now.files }
     ensures made { IfOk result (λ entries. entries.items
-        ≡ v1_entries (layout_of (settings_of head.now)) head.now.piece_length list.now) }
+        ≡ v1_entries (layout_of (settings_of head.now)) head.now.piece_length list.now.files) }
     ensures small { IfOk result (λ entries. All (λ entry. entry.length < 2 ^ 63) entries.items) }
     ensures padding { IfOk result (λ entries.
         All (λ entry. entry.pad ≡ true → entry.length ≤ max_piece_length) entries.items) }
@@ -103,6 +121,19 @@ pub(crate) fn entries(alloc: Global, head: &Head, list: &FileList) -> Result<Vec
         Err(LayoutError::Memory) => Err(AllocError),
         Err(LayoutError::ReservedPad) => unreachable!(),
     }
+}
+
+/// The `attr` beside it (BEP 47), where that file has letters.
+fn only_attr(alloc: Global, head: &Head, list: &FileList) -> Result<Option<Item>, AllocError>
+    requires one { head.now.single ≡ true → length list.now.files ≡ 1 }
+    ensures { (facts : List Facts) → attrs_in facts ≡ list.now.attrs → IfOk result (λ item.
+        option_map view item ≡ (if has_v1 head.now.kind && head.now.single
+        then option_map string (single_letters facts) else None)) }
+{
+    if !head.kind.has_v1() || !head.single {
+        return Ok(None);
+    }
+    letters(alloc, list.attr(0))
 }
 
 /// The `length` of BEP 3, of a single file.

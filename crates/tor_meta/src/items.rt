@@ -4,13 +4,14 @@ ghost use Rattle.tor_bencode.specs.Data.{integer, string, dictionary};
 ghost use Rattle.tor_bencode.specs.View.{view};
 ghost use Rattle.tor_meta.specs.steps.Fields.{fields_of};
 ghost use Rattle.tor_spec.specs.Dictionary.{present, when};
-ghost use Rattle.tor_spec.specs.FilesList.{entry_dictionary, files_list, strings};
+ghost use Rattle.tor_spec.specs.FilesList.{attr_of, entry_dictionary, files_list, strings};
 ghost use Rattle.tor_spec.specs.PieceLayers.{joined};
+ghost use Rattle.tor_tree.specs.Letters.{letters};
 
 use std::alloc::{AllocError, Global};
 use tor_bencode::Item;
 use tor_merkle::Hash;
-use tor_tree::Name;
+use tor_tree::{Attr, Name};
 use tor_v1::Entry;
 
 /// A byte string of these bytes, which it keeps.
@@ -68,11 +69,7 @@ fn file(alloc: Global, entry: &Entry) -> Result<Item, AllocError>
     requires { entry.now.length < 2 ^ 63 }
     ensures { IfOk result (λ item. view item ≡ entry_dictionary entry.now) }
 {
-    let attr = if entry.pad {
-        Some(text(alloc, b"p")?)
-    } else {
-        None
-    };
+    let attr = attr_of(alloc, entry)?;
     let path = path(alloc, entry.path.names())?;
     dictionary(
         alloc,
@@ -82,6 +79,30 @@ fn file(alloc: Global, entry: &Entry) -> Result<Item, AllocError>
             ("path", Some(path)),
         ]?,
     )
+}
+
+/// What `attr` says of it (BEP 47), where it says anything.
+fn attr_of(alloc: Global, entry: &Entry) -> Result<Option<Item>, AllocError>
+    ensures { IfOk result (λ item. option_map view item ≡ option_map string (attr_of entry.now)) }
+{
+    if entry.pad {
+        return Ok(Some(text(alloc, b"p")?));
+    }
+    let attr = Attr {
+        exec: entry.exec,
+        hidden: entry.hidden,
+    };
+    letters(alloc, attr)
+}
+
+/// The letters of a file, where it has any.
+pub(crate) fn letters(alloc: Global, attr: Attr) -> Result<Option<Item>, AllocError>
+    ensures { IfOk result (λ item. option_map view item ≡ option_map string (letters attr)) }
+{
+    match attr.letters() {
+        Some(letters) => Ok(Some(text(alloc, letters)?)),
+        None => Ok(None),
+    }
 }
 
 /// The names of a path.

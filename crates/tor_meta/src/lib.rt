@@ -7,10 +7,13 @@
 //! - [`make_from`], [`torrent_from`] (`from_input.rt`): the torrent of what a reader has, in a writer or as bytes, or
 //!   the [`FromFault`] for which there is none; `fed_intake.rt` takes the parts that are read. [`torrent_by_streams`]:
 //!   the same by workers behind the reader.
-//! - [`make`] (`from_source.rt`): the torrent of the files of a source, as an [`Order`] (`order.rt`) says, or the first
-//!   [`MakeError`] (`make_error.rt`). `indexed_files.rt` puts a source's files into another order; `listed_files.rt`
-//!   makes the torrent of a list of files whose bytes a source gives.
-//! - [`make_streams`] (`from_streams.rt`): the torrent of readers that are read once, in the order of their paths.
+//! - [`make_with`] (`from_source.rt`): the torrent of the files of a source with their letters, as an [`Order`]
+//!   (`order.rt`) says, or the first [`MakeError`] (`make_error.rt`); [`make`]: of files without letters.
+//!   `indexed_files.rt` puts a source's files into another order; `listed_files.rt` makes the torrent of a list of
+//! files
+//!   whose bytes a source gives.
+//! - [`make_streams_with`], [`make_streams`] (`from_streams.rt`): the torrent of readers that are read once, in the
+//!   order of their paths, with letters and without.
 //! - [`ContentsError`] (`refusals.rt`): why there is no torrent of files in memory.
 //! - `sums.rt`: the Merkle trees and the SHA-1 of the pieces, as far as a kind asks for them.
 //! - `torrent.rt`: from files and sums to bytes, by `info.rt`, `layers.rt` and `items.rt`.
@@ -58,8 +61,8 @@ mod torrent;
 pub use contents::make_contents;
 pub use fed::{FedSums, refusal_of_one};
 pub use from_input::{FromFault, make_from, torrent_by_streams, torrent_from};
-pub use from_source::make;
-pub use from_streams::make_streams;
+pub use from_source::{make, make_with};
+pub use from_streams::{make_streams, make_streams_with};
 pub use hashes::{Hashes, info_hashes, magnet};
 pub use head::Head;
 pub use make_error::MakeError;

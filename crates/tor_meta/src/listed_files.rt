@@ -35,21 +35,21 @@ pub(crate) fn torrent_of_listed<S: Source, R: Threads + Sync>(
     span: u32,
     how: How,
 ) -> Result<Vec<u8>, EngineError<S::Fault>>
-    requires judged { IsJudged head.now list.now }
+    requires judged { IsJudged head.now list.now.files }
     requires span { IsSpan span }
     requires how { IsHow how }
     ensures made { (facts : SourceFacts S.Fault) → S.is_steady source.now facts →
-        first_length_fault facts (lengths_of list.now) ≡ None → IfOk result (λ bytes. bytes.items
-        ≡ metainfo (settings_of head.now) (files_of list.now (contents_in facts (length list.now)))) }
+        first_length_fault facts (lengths_of list.now.files) ≡ None → IfOk result (λ bytes. bytes.items
+        ≡ metainfo (settings_of head.now) (files_of list.now (contents_in facts (length list.now.files)))) }
     ensures fault { (facts : SourceFacts S.Fault) → S.is_steady source.now facts →
-        first_length_fault facts (lengths_of list.now) ≡ None → MatchResult result
-        (λ _. first_byte_fault facts (lengths_of list.now) ≡ None)
-        (IsFault (first_byte_fault facts (lengths_of list.now))) }
-    ensures whole { IfOk result (λ bytes. (contents : List (List ℕ)) × (map length contents ≡ lengths_of list.now)
+        first_length_fault facts (lengths_of list.now.files) ≡ None → MatchResult result
+        (λ _. first_byte_fault facts (lengths_of list.now.files) ≡ None)
+        (IsFault (first_byte_fault facts (lengths_of list.now.files))) }
+    ensures whole { IfOk result (λ bytes. (contents : List (List ℕ)) × (map length contents ≡ lengths_of list.now.files)
         × (bytes.items ≡ metainfo (settings_of head.now) (files_of list.now contents))) }
     ensures info { IfOk result (λ bytes. HasInfo bytes.items) }
     ensures gave { IfErr result
-        (IsGivenNotMissing (S.gave source.now) (S.told source.now) (S.ended source.now) (lengths_of list.now)) }
+        (IsGivenNotMissing (S.gave source.now) (S.told source.now) (S.ended source.now) (lengths_of list.now.files)) }
 {
     let sums = match sums_of_listed(rt, alloc, source, list, head, span, how) {
         Ok(sums) => sums,
@@ -69,18 +69,18 @@ fn sums_of_listed<S: Source, R: Threads + Sync>(
     span: u32,
     how: How,
 ) -> Result<Sums, EngineError<S::Fault>>
-    requires judged { IsJudged head.now list.now }
+    requires judged { IsJudged head.now list.now.files }
     requires span { IsSpan span }
     requires how { IsHow how }
     ensures steady { (facts : SourceFacts S.Fault) → S.is_steady source.now facts →
-        first_length_fault facts (lengths_of list.now) ≡ None → MatchResult result
-        (λ sums. (map length (contents_in facts (length list.now)) ≡ lengths_of list.now)
-        × SumUp head.now list.now (contents_in facts (length list.now)) sums
-        × (first_byte_fault facts (lengths_of list.now) ≡ None))
-        (IsFault (first_byte_fault facts (lengths_of list.now))) }
-    ensures whole { IfOk result (SumUpSome head.now list.now) }
+        first_length_fault facts (lengths_of list.now.files) ≡ None → MatchResult result
+        (λ sums. (map length (contents_in facts (length list.now.files)) ≡ lengths_of list.now.files)
+        × SumUp head.now list.now.files (contents_in facts (length list.now.files)) sums
+        × (first_byte_fault facts (lengths_of list.now.files) ≡ None))
+        (IsFault (first_byte_fault facts (lengths_of list.now.files))) }
+    ensures whole { IfOk result (SumUpSome head.now list.now.files) }
     ensures gave { IfErr result
-        (IsGivenNotMissing (S.gave source.now) (S.told source.now) (S.ended source.now) (lengths_of list.now)) }
+        (IsGivenNotMissing (S.gave source.now) (S.told source.now) (S.ended source.now) (lengths_of list.now.files)) }
 {
     let plan = plan_of_listed(alloc, list, head, span)?;
     let sums = match hash_told(rt, alloc, source, &plan, how) {
@@ -97,9 +97,9 @@ fn plan_of_listed(
     head: &Head,
     span: u32,
 ) -> Result<Plan, AllocError>
-    requires judged { IsJudged head.now list.now }
+    requires judged { IsJudged head.now list.now.files }
     requires span { IsSpan span }
-    ensures { IfOk result (IsPlanOf head.now list.now) }
+    ensures { IfOk result (IsPlanOf head.now list.now.files) }
 {
     piece_length_bounds();
     files_are_cut_as_entries();
@@ -116,13 +116,14 @@ pub(crate) fn torrent_of_sums(
     list: &FileList,
     sums: &Sums,
 ) -> Result<Vec<u8>, AllocError>
-    requires judged { IsJudged head.now list.now }
-    requires trees { HaveTrees head.now list.now sums.now }
-    ensures made { (contents : List (List ℕ)) → map length contents ≡ lengths_of list.now →
-        SumUp head.now list.now contents sums.now →
+    requires judged { IsJudged head.now list.now.files }
+    requires trees { HaveTrees head.now list.now.files sums.now }
+    ensures made { (contents : List (List ℕ)) → map length contents ≡ lengths_of list.now.files →
+        SumUp head.now list.now.files contents sums.now →
         IfOk result (λ bytes. bytes.items ≡ metainfo (settings_of head.now) (files_of list.now contents)) }
     ensures info { IfOk result (λ bytes. HasInfo bytes.items) }
 {
+    let _attrs = list.attrs();
     let bytes = torrent_bytes(alloc, head, list, sums)?;
     Ok(bytes)
 }

@@ -30,8 +30,8 @@ pub(crate) fn torrent_bytes(
     list: &FileList,
     sums: &Sums,
 ) -> Result<Vec<u8>, AllocError>
-    requires judged { IsJudged head.now list.now }
-    requires trees { HaveTrees head.now list.now sums.now }
+    requires judged { IsJudged head.now list.now.files }
+    requires trees { HaveTrees head.now list.now.files sums.now }
     ensures made { (facts : List Facts) → AreFactsOf head.now list.now sums.now facts → IfOk result (λ bytes.
         bytes.items ≡ spelling (root_dictionary (settings_of head.now) facts sums.now.pieces.items)) }
     ensures info { IfOk result (λ bytes. HasInfo bytes.items) }
@@ -46,13 +46,14 @@ pub(crate) fn torrent_bytes(
 
 /// Its root dictionary.
 fn tree(alloc: Global, head: &Head, list: &FileList, sums: &Sums) -> Result<Tree, AllocError>
-    requires judged { IsJudged head.now list.now }
-    requires trees { HaveTrees head.now list.now sums.now }
+    requires judged { IsJudged head.now list.now.files }
+    requires trees { HaveTrees head.now list.now.files sums.now }
     ensures made { (facts : List Facts) → AreFactsOf head.now list.now sums.now facts → IfOk result (λ tree.
         view tree ≡ root_dictionary (settings_of head.now) facts sums.now.pieces.items) }
     ensures info { IfOk result (λ tree. IsSome (value_of (codes "info") (view tree))) }
 {
     torrents_are_lawful();
+    let _attrs = list.attrs();
     let root = root(alloc, head, list, sums)?;
     match Tree::of(root) {
         Ok(tree) => Ok(tree),
@@ -62,8 +63,8 @@ fn tree(alloc: Global, head: &Head, list: &FileList, sums: &Sums) -> Result<Tree
 
 /// The same as an item.
 fn root(alloc: Global, head: &Head, list: &FileList, sums: &Sums) -> Result<Item, AllocError>
-    requires judged { IsJudged head.now list.now }
-    requires trees { HaveTrees head.now list.now sums.now }
+    requires judged { IsJudged head.now list.now.files }
+    requires trees { HaveTrees head.now list.now.files sums.now }
     ensures { (facts : List Facts) → AreFactsOf head.now list.now sums.now facts → IfOk result (λ item.
         view item ≡ root_dictionary (settings_of head.now) facts sums.now.pieces.items) }
 {
@@ -97,8 +98,8 @@ fn layers(
     list: &FileList,
     sums: &Sums,
 ) -> Result<Option<Item>, AllocError>
-    requires judged { IsJudged head.now list.now }
-    requires trees { HaveTrees head.now list.now sums.now }
+    requires judged { IsJudged head.now list.now.files }
+    requires trees { HaveTrees head.now list.now.files sums.now }
     ensures { (facts : List Facts) → AreFactsOf head.now list.now sums.now facts → IfOk result (λ item.
         option_map view item ≡ when (has_v2 head.now.kind) (dictionary (piece_layers head.now.piece_length facts))) }
 {

@@ -59,7 +59,7 @@ impl Plan {
     ) -> Result<Plan, AllocError>
         requires pieces { IsPlanPieceLength kind piece_length }
         requires span { IsSpan span }
-        ensures { IfOk result (λ plan. plan ≡ plan_of kind piece_length span list.now) }
+        ensures { IfOk result (λ plan. plan ≡ plan_of kind piece_length span list.now.files) }
     {
         let files = list.files();
         let entries = entries_of(alloc, files, piece_length, layout_of(kind))?;

@@ -4,7 +4,7 @@ use Rattle.tor_spec.proofs.Names.{nat_lt}
 use Rattle.tor_spec.proofs.Names.{if◌then◌else◌, All, AllByRecursion, All-from_recursion, recursion_from_All}
 use Rattle.tor_spec.proofs.Names.{piece_length_bounds, IsPieceLength, aligned_entries, file_entry, has_bytes, pad_entry}
 use Rattle.tor_spec.proofs.Names.{padding_after, padding_length, v1_entries, Entry, Layout, Joined, Aligned}
-use Rattle.tor_spec.proofs.Names.{AlignedTail}
+use Rattle.tor_spec.proofs.Names.{AlignedTail, Attr, each_lettered, on_entries}
 
 -- what a file lacks to the next piece is less than a piece
 lack_small : (p m : ℕ) → 0 < p → padding_length p m < p
@@ -93,3 +93,13 @@ pub padding_lengths : (layout : Layout) (p : ℕ) (files : List (List (List ℕ)
 padding_lengths layout p files allowed =
     let bounds = (piece_length_bounds p).0 allowed in
     All-from_recursion _ (v1_entries layout p files) (within_entries layout p files (omega (arith, bounds)))
+
+-- so are those of entries with letters
+pub lettered_lengths : (attrs : List Attr) (layout : Layout) (p : ℕ) (files : List (List (List ℕ) × ℕ))
+    → IsPieceLength p → All (λ file. file.1 < 2 ^ 63) files
+    → All (λ (entry : Entry). entry.length < 2 ^ 63) (on_entries attrs (v1_entries layout p files))
+lettered_lengths attrs layout p files allowed small =
+    let bounds = (piece_length_bounds p).0 allowed in
+    All-from_recursion _ (on_entries attrs (v1_entries layout p files))
+    (each_lettered (λ entry. entry.length < 2 ^ 63) (λ attr entry file less. less) attrs (v1_entries layout p files)
+    (small_entries layout p files (omega (arith, bounds)) (omega (arith, bounds)) (recursion_from_All _ files small)))

@@ -7,6 +7,7 @@ use Rattle.tor_spec.proofs.Names.{PairsAreLawfulWithin, AreRising, items_of, pre
 use Rattle.tor_spec.proofs.Names.{roots_in, entry_dictionary, files_list, strings, info_dictionary, total_size}
 use Rattle.tor_spec.proofs.Names.{AreMakeable, root_dictionary, joined, piece_layers, Settings, layout_of, has_v1}
 use Rattle.tor_spec.proofs.Names.{has_v2, piece_length_bounds, file_tree_is_lawful, file_tree, v1_entries, Entry}
+use Rattle.tor_spec.proofs.Names.{◌≡◌, ap, attr_of, attrs_in, each_lettered, length, on_entries, single_letters, suc}
 use Rattle.tor_spec.proofs.EntryLengths.{AreSmall, small_entries}
 use Rattle.tor_spec.proofs.Fields.{IfThere, dictionary_lawful, present_lawful, put_lawful, put_rising, when_there}
 use Rattle.tor_spec.proofs.Fields.{wider}
@@ -45,13 +46,22 @@ strings_lawful texts = list_lawful 0 (map string texts) (each texts)
     each [] = tt
     each (t ∷ ts) = (string_lawful 0 t, each ts)
 
+-- a byte string, where there is one
+text_there : (n : ℕ) (text : Option (List ℕ)) → IfThere n (option_map string text)
+text_there n None = tt
+text_there n (Some bytes) = string_lawful n bytes
+
+text_if : (n : ℕ) (b : Bool) (text : Option (List ℕ)) → IfThere n (if b then option_map string text else None)
+text_if n true text = text_there n text
+text_if n false text = tt
+
 entry_lawful : (entry : Entry) → entry.length < 2 ^ 63 → IsLawfulWithin 2 (entry_dictionary entry)
 entry_lawful entry small =
     let fields : List (List ℕ × Option Data) =
-    (codes "attr", when entry.pad (string (codes "p"))) ∷ (codes "length", Some (integer (pos entry.length)))
+    (codes "attr", option_map string (attr_of entry)) ∷ (codes "length", Some (integer (pos entry.length)))
     ∷ (codes "path", Some (strings entry.path)) ∷ [] in
     present_lawful 1 fields (refl, (refl, tt)) (
-      when_there 1 entry.pad (string (codes "p")) (λ e. string_lawful 1 (codes "p")),
+      text_there 1 (attr_of entry),
       (number_lawful 1 entry.length small, (strings_lawful entry.path, tt)),
     )
 
@@ -94,6 +104,11 @@ small_files (f ∷ fs) small =
     let both : f.size + total_size fs < 2 ^ 63 = rw (sum_by-cons (λ (file : Facts). file.size) f fs) at small in
     (omega (arith, both), small_files fs (omega (arith, both)))
 
+-- letters for each file
+pub one_attr_each : (facts : List Facts) → length (attrs_in facts) ≡ length (listed facts)
+one_attr_each [] = refl
+one_attr_each (f ∷ fs) = ap suc (one_attr_each fs)
+
 info_lawful : (settings : Settings) (facts : List Facts) (pieces : List ℕ) → AreMakeable settings facts
     → IsLawfulWithin 67 (info_dictionary settings facts pieces)
 info_lawful settings facts pieces made =
@@ -101,35 +116,45 @@ info_lawful settings facts pieces made =
     let small = small_files facts made.small in
     let v1 = has_v1 settings.kind in
     let v2 = has_v2 settings.kind in
-    let tree = file_tree (listed facts) (roots_in facts) in
-    let entries = v1_entries (layout_of settings) settings.piece_length (listed facts) in
+    let tree = file_tree (listed facts) (attrs_in facts) (roots_in facts) in
+    let bare = v1_entries (layout_of settings) settings.piece_length (listed facts) in
+    let entries = on_entries (attrs_in facts) bare in
+    let short : AllByRecursion (λ (entry : Entry). entry.length < 2 ^ 63) entries =
+    each_lettered (λ entry. entry.length < 2 ^ 63) (λ attr entry file less. less) (attrs_in facts) bare
+    (small_entries (layout_of settings) settings.piece_length (listed facts) (omega (arith, bounds))
+    (omega (arith, bounds)) small) in
+    let letters = if v1 && settings.single then option_map string (single_letters facts) else None in
     let fields : List (List ℕ × Option Data) =
-    (codes "file tree", when v2 tree) ∷ (codes "files", when (v1 && not settings.single) (files_list entries))
+    (codes "attr", letters) ∷ (codes "file tree", when v2 tree)
+    ∷ (codes "files", when (v1 && not settings.single) (files_list entries))
     ∷ (codes "length", when (v1 && settings.single) (integer (pos (total_size facts))))
     ∷ (codes "meta version", when v2 (integer (pos 2)))
     ∷ (codes "name", Some (string settings.name)) ∷ (codes "piece length", Some (integer (pos settings.piece_length)))
     ∷ (codes "pieces", when v1 (string pieces)) ∷ (codes "private", when settings.is_private (integer (pos 1))) ∷ [] in
-    present_lawful 66 fields (refl, (refl, (refl, (refl, (refl, (refl, (refl, tt))))))) (
-      when_there 66 v2 tree (λ e. file_tree_is_lawful 64 (listed facts) (roots_in facts) made.in_order made.named
-          (made.rooted e) (All-from_recursion _ (listed facts) small) made.short),
+    present_lawful 66 fields (refl, (refl, (refl, (refl, (refl, (refl, (refl, (refl, tt)))))))) (
+      text_if 66 (v1 && settings.single) (single_letters facts),
       (
-        when_there 66 (v1 && not settings.single) (files_list entries) (λ e. wider 3 66 (files_list entries)
-            (omega arith) (files_list_lawful entries (small_entries (layout_of settings) settings.piece_length
-            (listed facts) (omega (arith, bounds)) (omega (arith, bounds)) small))),
+        when_there 66 v2 tree (λ e. file_tree_is_lawful 64 (listed facts) (attrs_in facts) (roots_in facts)
+            (one_attr_each facts) made.in_order made.named (made.rooted e) (All-from_recursion _ (listed facts) small)
+            made.short),
         (
-          when_there 66 (v1 && settings.single) (integer (pos (total_size facts)))
-              (λ e. number_lawful 66 (total_size facts) made.small),
+          when_there 66 (v1 && not settings.single) (files_list entries) (λ e. wider 3 66 (files_list entries)
+              (omega arith) (files_list_lawful entries short)),
           (
-            when_there 66 v2 (integer (pos 2)) (λ e. number_lawful 66 2 (omega arith)),
+            when_there 66 (v1 && settings.single) (integer (pos (total_size facts)))
+                (λ e. number_lawful 66 (total_size facts) made.small),
             (
-              string_lawful 66 settings.name,
+              when_there 66 v2 (integer (pos 2)) (λ e. number_lawful 66 2 (omega arith)),
               (
-                number_lawful 66 settings.piece_length (omega (arith, bounds)),
+                string_lawful 66 settings.name,
                 (
-                  when_there 66 v1 (string pieces) (λ e. string_lawful 66 pieces),
+                  number_lawful 66 settings.piece_length (omega (arith, bounds)),
                   (
-                    when_there 66 settings.is_private (integer (pos 1)) (λ e. number_lawful 66 1 (omega arith)),
-                    tt,
+                    when_there 66 v1 (string pieces) (λ e. string_lawful 66 pieces),
+                    (
+                      when_there 66 settings.is_private (integer (pos 1)) (λ e. number_lawful 66 1 (omega arith)),
+                      tt,
+                    ),
                   ),
                 ),
               ),
@@ -138,10 +163,6 @@ info_lawful settings facts pieces made =
         ),
       ),
     )
-
-announced : (url : Option (List ℕ)) → IfThere 67 (option_map string url)
-announced None = tt
-announced (Some url) = string_lawful 67 url
 
 pub torrents_are_lawful : (settings : Settings) (facts : List Facts) (pieces : List ℕ) → AreMakeable settings facts
     → IsLawful (root_dictionary settings facts pieces)
@@ -153,7 +174,7 @@ torrents_are_lawful settings facts pieces made =
     (codes "announce", option_map string settings.announce) ∷ (codes "info", Some info)
     ∷ (codes "piece layers", when v2 layers) ∷ [] in
     wider 68 100 (dictionary (present fields)) (omega arith) (present_lawful 67 fields (refl, (refl, tt)) (
-      announced settings.announce,
+      text_there 67 settings.announce,
       (
         info_lawful settings facts pieces made,
         (

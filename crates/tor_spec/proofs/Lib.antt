@@ -8,6 +8,7 @@ mod MadeFacts
 pub mod MadeTree
 pub mod MadeLayers
 pub mod MadeListEntries
+pub mod BareSides
 pub mod Lettered
 pub mod MadeListSide
 pub mod MadeListSizes
@@ -28,4 +29,5 @@ pub mod ProvedLaws
 pub mod WorkedTrees
 pub mod ValidRows
 pub mod MadeRows
+pub mod LetteredRows
 pub mod VerifiedRows

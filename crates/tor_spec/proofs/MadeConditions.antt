@@ -13,7 +13,7 @@ use Rattle.tor_spec.proofs.Names.{SidesAgree, alignment, attr_differs, files_dif
 use Rattle.tor_spec.proofs.Names.{has_v2, Kind}
 use Rattle.tor_spec.proofs.Names.{V1, V2, Hybrid, TreeFile}
 use Rattle.tor_spec.proofs.MadeView.{layers_found}
-use Rattle.tor_spec.proofs.MadeHeads.{IsInfo, IsRootWith, info_told, kind_told, piece_length_told, plain_file}
+use Rattle.tor_spec.proofs.MadeHeads.{IsInfo, IsRootWith, info_told, kind_told, piece_length_told, tree_file}
 use Rattle.tor_spec.proofs.MadeList.{ListIsValid}
 use Rattle.tor_spec.proofs.MadeLayers.{guarded, has_own_root, lacks_none, well_shaped}
 use Rattle.tor_spec.proofs.MadeTree.{TreeIsValid, made_tree, made_tree_files}
@@ -50,10 +50,10 @@ same_any c p q some others files told e f g =
     ap (λ (n : ℕ). list_any (c n some) files) e ∙ ap (λ (d : Data). list_any (c q d) files) f
     ∙ ap (list_any (c q others)) g
 
-no_file : (c : TreeFile → Bool) (files : List File) → All (λ file. c (plain_file file) ≡ false) files
-    → list_any c (map plain_file files) ≡ false
+no_file : (c : TreeFile → Bool) (files : List File) → All (λ file. c (tree_file file) ≡ false) files
+    → list_any c (map tree_file files) ≡ false
 no_file c files none =
-    list_any_none c (map plain_file files) (All-map (λ (file : TreeFile). c file ≡ false) plain_file files none)
+    list_any_none c (map tree_file files) (All-map (λ (file : TreeFile). c file ≡ false) tree_file files none)
 
 module _ (settings : Settings) (facts : List Facts) (pieces : List ℕ) (info : Data)
     (is : IsInfo settings facts pieces info) where
@@ -116,11 +116,11 @@ module _ (settings : Settings) (files : List File) (made : AreMade settings file
   is_layers two = let found = has.layers ∙ cond-true (has_v2 settings.kind) _ None two in rw found refl
 
   no_layer_of : (c : ℕ → Data → TreeFile → Bool) → has_v2 settings.kind ≡ true
-      → All (λ file. c p (dictionary (piece_layers p facts)) (plain_file file) ≡ false) files
+      → All (λ file. c p (dictionary (piece_layers p facts)) (tree_file file) ≡ false) files
       → list_any (c (piece_length_of (info_of root)) (layers.layers_of root)) (tree_files (info_of root)) ≡ false
   no_layer_of c two none =
       same_any c (piece_length_of (info_of root)) p (layers.layers_of root) (dictionary (piece_layers p facts))
-      (tree_files (info_of root)) (map plain_file files)
+      (tree_files (info_of root)) (map tree_file files)
       (ap piece_length_of is_info ∙ piece_length_told settings facts pieces info is) (is_layers two)
       (ap tree_files is_info ∙ made_tree_files settings files made pieces info is two)
       ∙ no_file (c p (dictionary (piece_layers p facts))) files none

@@ -5,9 +5,10 @@ use Rattle.tor_spec.proofs.Names.{next_multiple_of, AllByRecursion, AllZip, list
 use Rattle.tor_spec.proofs.Names.{All-map, sum_by-cons, root_has_32_bytes, root_of, Facts, File, listed, roots_in}
 use Rattle.tor_spec.proofs.Names.{total_size, AreMade, sizes_of, AreMakeable, facts_of_files, Settings}
 use Rattle.tor_spec.proofs.Names.{lists_have_names, IsFileList, lengths_fault, lengths_of, lengths_too_large}
-use Rattle.tor_spec.proofs.Names.{paths_fault, paths_of, HasItsRoot, plain_files, ListError, MAX_LENGTH, MAX_TOTAL}
+use Rattle.tor_spec.proofs.Names.{attrs_in, attrs_of, paths_fault, paths_of, HasItsRoot, lettered_files, ListError}
+use Rattle.tor_spec.proofs.Names.{MAX_LENGTH, MAX_TOTAL}
 use Rattle.tor_spec.proofs.Names.{ROUNDING}
-use Rattle.tor_spec.proofs.MadeHeads.{plain_file}
+use Rattle.tor_spec.proofs.MadeHeads.{tree_file}
 
 pub listed_made : (p : ℕ) (files : List File) → listed (facts_of_files p files) ≡ sizes_of files
 listed_made p [] = refl
@@ -35,10 +36,14 @@ hashed_roots p [] = tt
 hashed_roots p (file ∷ files) = (hashed_root file.content, hashed_roots p files)
 
 -- what the file tree tells of files
-pub plain_made : (p : ℕ) (files : List File)
-    → plain_files (listed (facts_of_files p files)) (roots_in (facts_of_files p files)) ≡ map plain_file files
-plain_made p [] = refl
-plain_made p (file ∷ files) = ap (λ rest. plain_file file ∷ rest) (plain_made p files)
+pub made_lettered : (p : ℕ) (files : List File) → lettered_files (listed (facts_of_files p files))
+    (attrs_in (facts_of_files p files)) (roots_in (facts_of_files p files)) ≡ map tree_file files
+made_lettered p [] = refl
+made_lettered p (file ∷ files) = ap (λ rest. tree_file file ∷ rest) (made_lettered p files)
+
+pub attrs_made : (p : ℕ) (files : List File) → attrs_in (facts_of_files p files) ≡ attrs_of files
+attrs_made p [] = refl
+attrs_made p (file ∷ files) = ap (λ rest. file.attr ∷ rest) (attrs_made p files)
 
 second_none : {X : Type 0} (a b : Option X) → option_or a b ≡ None → b ≡ None
 second_none None b h = h

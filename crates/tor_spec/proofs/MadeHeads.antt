@@ -6,17 +6,18 @@ use Rattle.tor_spec.proofs.Names.{value_of, AreRising, root_of, present, when, F
 use Rattle.tor_spec.proofs.Names.{files_list, info_dictionary, total_size, root_dictionary, piece_layers, Settings}
 use Rattle.tor_spec.proofs.Names.{layout_of, info_of, is_number, is_private, kind_of, name_of, piece_length_of}
 use Rattle.tor_spec.proofs.Names.{is_dictionary, has_v1, has_v2, file_tree, Kind, V1, V2, Hybrid, TreeFile, v1_entries}
+use Rattle.tor_spec.proofs.Names.{attrs_in, if◌then◌else◌, is_some, letters, on_entries, single_letters}
 use Rattle.tor_spec.proofs.Fields.{keys_above, rising_rest}
 
 -- what the file tree tells of a file
-abbrev pub plain_file : File → TreeFile
-plain_file file = record {
+abbrev pub tree_file : File → TreeFile
+tree_file file = record {
   path = file.path;
   length = length file.content;
   root = root_of file.content;
-  has_attr = false;
-  exec = false;
-  hidden = false;
+  has_attr = is_some (letters file.attr);
+  exec = file.attr.exec;
+  hidden = file.attr.hidden;
 }
 
 -- the value of the first field with this key, if it is there
@@ -48,10 +49,11 @@ abbrev info_fields : Settings → List Facts → List ℕ → List (List ℕ × 
 info_fields settings facts pieces =
     let v1 = has_v1 settings.kind in
     let v2 = has_v2 settings.kind in
-    (codes "file tree", when v2 (file_tree (listed facts) (roots_in facts))) ∷ (
+    (codes "attr", if v1 && settings.single then option_map string (single_letters facts) else None) ∷
+    (codes "file tree", when v2 (file_tree (listed facts) (attrs_in facts) (roots_in facts))) ∷ (
       codes "files",
-      when (v1 && not settings.single)
-          (files_list (v1_entries (layout_of settings) settings.piece_length (listed facts))),
+      when (v1 && not settings.single) (files_list (on_entries (attrs_in facts)
+          (v1_entries (layout_of settings) settings.piece_length (listed facts)))),
     ) ∷
     (codes "length", when (v1 && settings.single) (integer (pos (total_size facts)))) ∷
     (codes "meta version", when v2 (integer (pos 2))) ∷
@@ -64,14 +66,15 @@ info_value : (settings : Settings) (facts : List Facts) (pieces key : List ℕ)
     → value_of key (info_dictionary settings facts pieces) ≡ field_in key (info_fields settings facts pieces)
 info_value settings facts pieces key =
     value_in-present key (info_fields settings facts pieces)
-    (refl, (refl, (refl, (refl, (refl, (refl, (refl, tt)))))))
+    (refl, (refl, (refl, (refl, (refl, (refl, (refl, (refl, tt))))))))
 
--- the values of the keys of `info`, and no `attr` among them
+-- the values of the keys of `info`
 pub record IsInfo (settings : Settings) (facts : List Facts) (pieces : List ℕ) (info : Data) : Type 0 where
   pub tree : value_of (codes "file tree") info
-      ≡ when (has_v2 settings.kind) (file_tree (listed facts) (roots_in facts))
+      ≡ when (has_v2 settings.kind) (file_tree (listed facts) (attrs_in facts) (roots_in facts))
   pub files : value_of (codes "files") info ≡ when (has_v1 settings.kind && not settings.single)
-      (files_list (v1_entries (layout_of settings) settings.piece_length (listed facts)))
+      (files_list (on_entries (attrs_in facts)
+      (v1_entries (layout_of settings) settings.piece_length (listed facts))))
   pub size : value_of (codes "length") info
       ≡ when (has_v1 settings.kind && settings.single) (integer (pos (total_size facts)))
   pub version : value_of (codes "meta version") info ≡ when (has_v2 settings.kind) (integer (pos 2))
@@ -79,7 +82,8 @@ pub record IsInfo (settings : Settings) (facts : List Facts) (pieces : List ℕ)
   pub piece_length : value_of (codes "piece length") info ≡ Some (integer (pos settings.piece_length))
   pub sums : value_of (codes "pieces") info ≡ when (has_v1 settings.kind) (string pieces)
   pub is_private : value_of (codes "private") info ≡ when settings.is_private (integer (pos 1))
-  pub attr : value_of (codes "attr") info ≡ None
+  pub attr : value_of (codes "attr") info ≡ (if has_v1 settings.kind && settings.single
+      then option_map string (single_letters facts) else None)
 
 pub info_values : (settings : Settings) (facts : List Facts) (pieces : List ℕ)
     → IsInfo settings facts pieces (info_dictionary settings facts pieces)

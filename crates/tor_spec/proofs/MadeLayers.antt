@@ -8,7 +8,7 @@ use Rattle.tor_spec.proofs.Names.{piece_roots_have_32_bytes, root_of_long_conten
 use Rattle.tor_spec.proofs.Names.{piece_level, piece_roots, pieces_root, root_of, padded_root, File, joined}
 use Rattle.tor_spec.proofs.Names.{has_other_root, hashes_in, is_long, is_misshaped, lacks_layer, layer_of, layer_text}
 use Rattle.tor_spec.proofs.Names.{pieces_in}
-use Rattle.tor_spec.proofs.MadeHeads.{plain_file}
+use Rattle.tor_spec.proofs.MadeHeads.{tree_file}
 
 abbrev AreHashes : List (List ℕ) → Type 0
 AreHashes hashes = AllByRecursion (λ hash. length hash ≡ 32) hashes
@@ -47,7 +47,7 @@ root_key (byte ∷ bytes) some = refl
 -- a file whose layer is found under its root, if it is longer than a piece
 module _ (p : ℕ) (allowed : IsPieceLength p) (layers : Data) (file : File)
     (found : p < length file.content
-    → layer_text layers (plain_file file) ≡ Some (joined (piece_layer file.content p))) where
+    → layer_text layers (tree_file file) ≡ Some (joined (piece_layer file.content p))) where
   layer_is : p < length file.content → piece_layer file.content p ≡ piece_roots file.content p
   layer_is long = layer_of_long_content file.content p long
 
@@ -56,41 +56,41 @@ module _ (p : ℕ) (allowed : IsPieceLength p) (layers : Data) (file : File)
       (recursion_from_All (λ (root : List ℕ). length root ≡ 32) (piece_roots file.content p)
       (piece_roots_have_32_bytes file.content p))
 
-  layer_cut : p < length file.content → layer_of layers (plain_file file) ≡ piece_layer file.content p
+  layer_cut : p < length file.content → layer_of layers (tree_file file) ≡ piece_layer file.content p
   layer_cut long =
       ap (λ (text : Option (List ℕ)). hashes_in (unwrap_or text [])) (found long)
       ∙ hashes_of_joined (piece_layer file.content p) (hashed long)
 
-  pub lacks_none : lacks_layer p layers (plain_file file) ≡ false
-  lacks_none = guarded (nat_lt p (length file.content)) (is_none (layer_text layers (plain_file file)))
+  pub lacks_none : lacks_layer p layers (tree_file file) ≡ false
+  lacks_none = guarded (nat_lt p (length file.content)) (is_none (layer_text layers (tree_file file)))
       (λ e. ap is_none (found (ltb-true p (length file.content) e)))
 
-  pub well_shaped : is_misshaped p layers (plain_file file) ≡ false
+  pub well_shaped : is_misshaped p layers (tree_file file) ≡ false
   well_shaped = guarded (nat_lt p (length file.content)) _ (λ e.
       let long = ltb-true p (length file.content) e in
       let layer = piece_layer file.content p in
-      let text : length (unwrap_or (layer_text layers (plain_file file)) []) ≡ 32 * length layer =
+      let text : length (unwrap_or (layer_text layers (tree_file file)) []) ≡ 32 * length layer =
       ap (λ (text : Option (List ℕ)). length (unwrap_or text [])) (found long) ∙ joined_length layer (hashed long) in
       let count : length layer ≡ pieces_in p (length file.content) =
       ap length (layer_is long) ∙ count_of_piece_roots file.content p in
       not_from_true _ (eq-eqb _ _ (text ∙ ap (λ n. 32 * n) count)))
 
-  pub has_own_root : has_other_root p layers (plain_file file) ≡ false
+  pub has_own_root : has_other_root p layers (tree_file file) ≡ false
   has_own_root = guarded (nat_lt p (length file.content)) _ (λ e.
       let long = ltb-true p (length file.content) e in
-      let same : padded_root (piece_level p) (layer_of layers (plain_file file)) ≡ unwrap_or (root_of file.content) [] =
+      let same : padded_root (piece_level p) (layer_of layers (tree_file file)) ≡ unwrap_or (root_of file.content) [] =
       ap (padded_root (piece_level p)) (layer_cut long ∙ layer_is long)
       ∙ sym (root_of_long_content file.content p allowed long) ∙ sym (root_key file.content (omega (arith, long))) in
       not_from_true _ ((bytes_eq-Decides _ _).1 same))
 
   -- the layer that is shown of the file
-  pub layer_shown : cond (is_long p (plain_file file)) (layer_of layers (plain_file file)) []
+  pub layer_shown : cond (is_long p (tree_file file)) (layer_of layers (tree_file file)) []
       ≡ piece_layer file.content p
   unfolding piece_layer
   layer_shown = by_length (nat_lt p (length file.content)) refl
     where
       by_length : (b : Bool) → nat_lt p (length file.content) ≡ b
-          → cond b (layer_of layers (plain_file file)) [] ≡ piece_layer file.content p
+          → cond b (layer_of layers (tree_file file)) [] ≡ piece_layer file.content p
       by_length true e = layer_cut (ltb-true p (length file.content) e)
       by_length false e =
           sym (cond-true _ [] _ (le-leb (length file.content) p (ltb-false p (length file.content) e)))

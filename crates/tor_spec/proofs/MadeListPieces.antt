@@ -2,7 +2,8 @@
 use Rattle.tor_spec.proofs.Names.{◌≡◌, ℕ, ◌*◌, List, [], ◌∷◌, map, length, refl, ap, ◌∙◌, sym, div_ceil, File, sizes_of}
 use Rattle.tor_spec.proofs.Names.{pieces_of_files, Settings, layout_of, facts-v1_entries, length-joined_content}
 use Rattle.tor_spec.proofs.Names.{length-piece_sums, AreContentsOf, file_entries, joined_content, v1_pieces, v1_entries}
-use Rattle.tor_spec.proofs.Names.{Entry, Layout}
+use Rattle.tor_spec.proofs.Names.{Entry, Layout, attrs_of, letters_keep_files}
+use Rattle.tor_spec.proofs.MadeListEntries.{made_entries}
 use Rattle.tor_spec.proofs.MadeListSide.{listed_sizes}
 use Rattle.tor_spec.proofs.MadeListSizes.{size_of_entries}
 
@@ -26,6 +27,14 @@ contents_fit layout p files =
     lengths_of_contents files
     ∙ ap (map (λ (size : List (List ℕ) × ℕ). size.1)) (sym (facts-v1_entries layout p (sizes_of files)))
     ∙ lengths_of_entries (file_entries (v1_entries layout p (sizes_of files)))
+
+-- so they do to entries with letters
+pub made_contents_fit : (layout : Layout) (p : ℕ) (files : List File)
+    → AreContentsOf (made_entries layout p files) (contents_of files)
+made_contents_fit layout p files =
+    contents_fit layout p files
+    ∙ sym (letters_keep_files (λ (entry : Entry). entry.length) (λ attr entry. refl) (attrs_of files)
+    (v1_entries layout p (sizes_of files)))
 
 length_of_pieces : (p : ℕ) (entries : List Entry) (contents : List (List ℕ)) → AreContentsOf entries contents
     → length (v1_pieces p entries contents) ≡ 20 * div_ceil (size_of_entries entries) p

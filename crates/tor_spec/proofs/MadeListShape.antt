@@ -6,8 +6,8 @@ use Rattle.tor_spec.proofs.Names.{AllByRecursion, list_all, list_any, string, en
 use Rattle.tor_spec.proofs.Names.{is_name, is_no_entry, is_path, name_fault, IsFilePath, has_letter}
 use Rattle.tor_spec.proofs.Names.{has_negative_length, letter_l, Entry, ◌==◌, cond, length, Option, option_or}
 use Rattle.tor_spec.proofs.Names.{ListedFile, lengths_fault, lengths_of, lengths_too_large, list_fault, paths_fault}
-use Rattle.tor_spec.proofs.Names.{paths_nest, paths_of, paths_repeat}
-use Rattle.tor_spec.proofs.MadeListEntries.{items_back, plain}
+use Rattle.tor_spec.proofs.Names.{File, paths_nest, paths_of, paths_repeat, sizes_of}
+use Rattle.tor_spec.proofs.MadeListEntries.{items_back, listed_file}
 
 all_names : (names : List (List ℕ)) → AllByRecursion (λ name. name_fault name ≡ None) names
     → list_all is_name (map string names) ≡ true
@@ -28,38 +28,47 @@ path_read path is =
 abbrev pub HasPath : Entry → Type 0
 HasPath entry = entry.pad ≡ false → IsFilePath entry.path
 
-is_entry : (entry : Entry) (pad : Bool) → (pad ≡ false → IsFilePath entry.path)
-    → is_no_entry (entry_dictionary (record entry { pad = pad })) ≡ false
-is_entry entry true has = refl
-is_entry entry false has = ap not (path_read entry.path (has refl))
+is_entry : (entry : Entry) (pad exec hidden : Bool) → (pad ≡ false → IsFilePath entry.path)
+    → is_no_entry (entry_dictionary (record entry { pad = pad; exec = exec; hidden = hidden })) ≡ false
+is_entry entry true exec hidden has = refl
+is_entry entry false true true has = ap not (path_read entry.path (has refl))
+is_entry entry false true false has = ap not (path_read entry.path (has refl))
+is_entry entry false false true has = ap not (path_read entry.path (has refl))
+is_entry entry false false false has = ap not (path_read entry.path (has refl))
 
 pub are_entries : (entries : List Entry) → AllByRecursion HasPath entries
     → list_any is_no_entry (map entry_dictionary entries) ≡ false
 are_entries [] h = refl
 are_entries (entry ∷ entries) h =
-    or_from _ _ (is_entry entry entry.pad h.0) (are_entries entries h.1)
+    or_from _ _ (is_entry entry entry.pad entry.exec entry.hidden h.0) (are_entries entries h.1)
 
 pub no_negative : (n : ℕ) → int_lt (pos n) (pos 0) ≡ false
 no_negative n = le-ltb n 0 (omega arith)
 
-positive_entry : (entry : Entry) (pad : Bool)
-    → has_negative_length (entry_dictionary (record entry { pad = pad })) ≡ false
-positive_entry entry true = no_negative entry.length
-positive_entry entry false = no_negative entry.length
+positive_entry : (entry : Entry) (pad exec hidden : Bool)
+    → has_negative_length (entry_dictionary (record entry { pad = pad; exec = exec; hidden = hidden })) ≡ false
+positive_entry entry true exec hidden = no_negative entry.length
+positive_entry entry false true true = no_negative entry.length
+positive_entry entry false true false = no_negative entry.length
+positive_entry entry false false true = no_negative entry.length
+positive_entry entry false false false = no_negative entry.length
 
 pub positive_entries : (entries : List Entry) → list_any has_negative_length (map entry_dictionary entries) ≡ false
 positive_entries [] = refl
 positive_entries (entry ∷ entries) =
-    or_from _ _ (positive_entry entry entry.pad) (positive_entries entries)
+    or_from _ _ (positive_entry entry entry.pad entry.exec entry.hidden) (positive_entries entries)
 
-plain_entry : (entry : Entry) (pad : Bool)
-    → has_letter letter_l (entry_dictionary (record entry { pad = pad })) ≡ false
-plain_entry entry true = refl
-plain_entry entry false = refl
+no_link_in : (entry : Entry) (pad exec hidden : Bool)
+    → has_letter letter_l (entry_dictionary (record entry { pad = pad; exec = exec; hidden = hidden })) ≡ false
+no_link_in entry true exec hidden = refl
+no_link_in entry false true true = refl
+no_link_in entry false true false = refl
+no_link_in entry false false true = refl
+no_link_in entry false false false = refl
 
 pub no_link : (entries : List Entry) → list_any (has_letter letter_l) (map entry_dictionary entries) ≡ false
 no_link [] = refl
-no_link (entry ∷ entries) = or_from _ _ (plain_entry entry entry.pad) (no_link entries)
+no_link (entry ∷ entries) = or_from _ _ (no_link_in entry entry.pad entry.exec entry.hidden) (no_link entries)
 
 abbrev Files : Type 0
 Files = List (List (List ℕ) × ℕ)
@@ -90,14 +99,16 @@ is_clear files faultless =
     let small = clear (lengths_too_large (lengths_of files)) _ _ both.1 in
     record { some = some.0; once = once.0; flat = flat.0; small = small.0 }
 
-pub plain_paths : (files : Files) → map (λ (file : ListedFile). file.path) (map plain files) ≡ paths_of files
-plain_paths [] = refl
-plain_paths (file ∷ files) = ap (λ paths. file.0 ∷ paths) (plain_paths files)
+pub paths_listed : (files : List File)
+    → map (λ (file : ListedFile). file.path) (map listed_file files) ≡ paths_of (sizes_of files)
+paths_listed [] = refl
+paths_listed (file ∷ files) = ap (λ paths. file.path ∷ paths) (paths_listed files)
 
-pub plain_lengths : (files : Files) → map (λ (file : ListedFile). file.size) (map plain files) ≡ lengths_of files
-plain_lengths [] = refl
-plain_lengths (file ∷ files) = ap (λ lengths. file.1 ∷ lengths) (plain_lengths files)
+pub lengths_listed : (files : List File)
+    → map (λ (file : ListedFile). file.size) (map listed_file files) ≡ lengths_of (sizes_of files)
+lengths_listed [] = refl
+lengths_listed (file ∷ files) = ap (λ lengths. length file.content ∷ lengths) (lengths_listed files)
 
-pub same_count : (files : Files) → length (map plain files) ≡ length (paths_of files)
+pub same_count : (files : List File) → length (map listed_file files) ≡ length (paths_of (sizes_of files))
 same_count [] = refl
 same_count (file ∷ files) = omega (arith, same_count files)

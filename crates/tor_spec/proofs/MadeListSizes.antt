@@ -9,10 +9,10 @@ use Rattle.tor_spec.proofs.Names.{MAX_LENGTH, MAX_TOTAL, ROUNDING, aligned_entri
 use Rattle.tor_spec.proofs.Names.{padding_length, v1_entries, Entry, Layout, Joined, Aligned, AlignedTail, ◌-◌, ◌*◌}
 use Rattle.tor_spec.proofs.Names.{◌/◌}
 use Rattle.tor_spec.proofs.Names.{◌%◌, inl, inr, lt_of_mul-lt-mul_right, mod-lt, mul-le-mul_right, mul_assoc}
-use Rattle.tor_spec.proofs.Names.{mod-add-div'}
+use Rattle.tor_spec.proofs.Names.{File, attrs_of, each_lettered, letters_change_no_size, mod-add-div', sizes_of}
 use Rattle.tor_spec.proofs.Names.{mod-eq_of_lt, mod_self, cases_eq, piece_lengths_divide_the_greatest}
-use Rattle.tor_spec.proofs.MadeListShape.{IsClear, plain_lengths}
-use Rattle.tor_spec.proofs.MadeListEntries.{each_entry, files_of_entries, listed_of}
+use Rattle.tor_spec.proofs.MadeListShape.{IsClear, lengths_listed}
+use Rattle.tor_spec.proofs.MadeListEntries.{each_entry, files_of_entries, listed_of, made_entries}
 
 -- so many pieces
 abbrev Whole : ℕ → ℕ → Type 0
@@ -142,20 +142,33 @@ short_entries layout p files allowed lawful =
     (λ m. omega (arith, lack_within p m (omega (arith, bounds.1)), bounds.2)) layout files
     (recursion_from_All (λ (file : List (List ℕ) × ℕ). file.1 ≤ MAX_LENGTH) files (files_are_small files lawful))
 
-small_total : (layout : Layout) (p : ℕ) (files : Files) → IsPieceLength p → IsClear files
-    → nat_lt MAX_TOTAL (joined_size (map listed_of (v1_entries layout p files))) ≡ false
-small_total layout p files allowed is =
-    let sum = sum_by (λ m. next_multiple_of m ROUNDING) (lengths_of files) in
-    let within : sum ≤ MAX_TOTAL =
-    ltb-false MAX_TOTAL sum (or_parts (list_any (nat_lt MAX_LENGTH) (lengths_of files)) _ is.small).1 in
-    le-ltb MAX_TOTAL (joined_size (map listed_of (v1_entries layout p files)))
-    (omega (arith, within, size_within layout p files allowed, joined_entries (v1_entries layout p files)))
+-- letters change nothing of that
+lettered_size : (layout : Layout) (p : ℕ) (files : List File)
+    → size_of_entries (made_entries layout p files) ≡ size_of_entries (v1_entries layout p (sizes_of files))
+lettered_size layout p files = letters_change_no_size (attrs_of files) (v1_entries layout p (sizes_of files))
 
-pub small_side : (layout : Layout) (p : ℕ) (files : Files) → IsPieceLength p → IsFileList files → IsClear files
-    → sizes_too_large (map listed_of (v1_entries layout p files)) ≡ false
+pub joined_made : (layout : Layout) (p : ℕ) (files : List File)
+    → joined_size (map listed_of (made_entries layout p files))
+    ≡ size_of_entries (v1_entries layout p (sizes_of files))
+joined_made layout p files = joined_entries (made_entries layout p files) ∙ lettered_size layout p files
+
+small_total : (layout : Layout) (p : ℕ) (files : List File) → IsPieceLength p → IsClear (sizes_of files)
+    → nat_lt MAX_TOTAL (joined_size (map listed_of (made_entries layout p files))) ≡ false
+small_total layout p files allowed is =
+    let sum = sum_by (λ m. next_multiple_of m ROUNDING) (lengths_of (sizes_of files)) in
+    let within : sum ≤ MAX_TOTAL =
+    ltb-false MAX_TOTAL sum (or_parts (list_any (nat_lt MAX_LENGTH) (lengths_of (sizes_of files))) _ is.small).1 in
+    le-ltb MAX_TOTAL (joined_size (map listed_of (made_entries layout p files)))
+    (omega (arith, within, size_within layout p (sizes_of files) allowed, joined_made layout p files))
+
+pub small_side : (layout : Layout) (p : ℕ) (files : List File) → IsPieceLength p → IsFileList (sizes_of files)
+    → IsClear (sizes_of files) → sizes_too_large (map listed_of (made_entries layout p files)) ≡ false
 small_side layout p files allowed lawful is =
-    or_from _ _ (short_side (v1_entries layout p files) (short_entries layout p files allowed lawful))
+    or_from _ _
+    (short_side (made_entries layout p files)
+    (each_lettered (λ entry. entry.length ≤ MAX_LENGTH) (λ attr entry file short. short) (attrs_of files)
+    (v1_entries layout p (sizes_of files)) (short_entries layout p (sizes_of files) allowed lawful)))
     (or_from _ _
     (ap (λ side. lengths_too_large (map (λ (file : ListedFile). file.size) side)) (files_of_entries layout p files)
-    ∙ ap lengths_too_large (plain_lengths files) ∙ is.small)
+    ∙ ap lengths_too_large (lengths_listed files) ∙ is.small)
     (small_total layout p files allowed is))

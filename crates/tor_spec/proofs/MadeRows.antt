@@ -2,7 +2,7 @@
 use Rattle.tor_spec.proofs.Names.{◌≡◌, ℕ, ◌<◌, ◌≤◌, Bool, true, false, List, [], ◌∷◌, length, None, refl, codes, arith}
 use Rattle.tor_spec.proofs.Names.{AllByRecursion, Contains, IsStrictlySortedBy, is_utf8, chars, All-contains}
 use Rattle.tor_spec.proofs.Names.{All-from_recursion, encode, ones, File, AreMade, sizes_of, Settings, name_fault}
-use Rattle.tor_spec.proofs.Names.{IsFilePath, Kind}
+use Rattle.tor_spec.proofs.Names.{IsFilePath, Kind, no_letters}
 
 -- the torrent named a, of pieces of 16,384 bytes
 abbrev settings_of : Kind → Bool → Settings
@@ -18,12 +18,12 @@ settings_of kind single = record {
 
 -- the one file a; a file in a folder, and a file after it
 abbrev one_file : List File
-one_file = record { path = codes "a" ∷ []; content = codes "abc" } ∷ []
+one_file = record { path = codes "a" ∷ []; content = codes "abc"; attr = no_letters } ∷ []
 
 abbrev two_files : List File
 two_files =
-    record { path = codes "b" ∷ codes "c" ∷ []; content = codes "abc" } ∷
-    record { path = codes "d" ∷ []; content = [] } ∷ []
+    record { path = codes "b" ∷ codes "c" ∷ []; content = codes "abc"; attr = no_letters } ∷
+    record { path = codes "d" ∷ []; content = []; attr = record { exec = true; hidden = true } } ∷ []
 
 some_names : (names : List (List ℕ)) (name : List ℕ) → AllByRecursion (λ n. name_fault n ≡ None) (name ∷ names)
     → IsFilePath (name ∷ names)

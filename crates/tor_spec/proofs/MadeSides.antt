@@ -1,33 +1,29 @@
 -- The sides of a made hybrid agree.
-use Rattle.tor_spec.proofs.Names.{◌≡◌, ℕ, ◌==◌, Bool, true, false, not, ◌&&◌, ◌||◌, List, [], ◌∷◌, map, length, arith}
-use Rattle.tor_spec.proofs.Names.{refl, ap, ap₂, ◌∙◌, Option, and_from, and_right, eq-eqb, or_from, lists_equiv}
+use Rattle.tor_spec.proofs.Names.{◌≡◌, ℕ, ◌==◌, Bool, true, false, not, ◌&&◌, ◌||◌, List, [], ◌∷◌, map, length}
+use Rattle.tor_spec.proofs.Names.{refl, ap, ap₂, ◌∙◌, and_from, and_right, eq-eqb, or_from, lists_equiv}
 use Rattle.tor_spec.proofs.Names.{nat_list_eq_equiv, nat_lt, if◌then◌else◌, Data, File, AreMade, sizes_of}
 use Rattle.tor_spec.proofs.Names.{facts_of_files, Settings, is_aligned, layout_of, ListedFile, SidesAgree, alignment}
-use Rattle.tor_spec.proofs.Names.{attr_differs, some_letters_differ}
+use Rattle.tor_spec.proofs.Names.{attr_differs, attrs_of, some_letters_differ}
 use Rattle.tor_spec.proofs.Names.{files_differ, has_wrong_tail, is_misaligned_after, last_size, listed_by_list}
-use Rattle.tor_spec.proofs.Names.{listed_by_tree, same_files, tree_files, has_v1, path_eq, plain_files, Hybrid}
+use Rattle.tor_spec.proofs.Names.{listed_by_tree, same_files, tree_files, has_v1, path_eq, Hybrid}
 use Rattle.tor_spec.proofs.Names.{TreeFile, padding_length, v1_entries, Layout, Joined, Aligned, AlignedTail}
 use Rattle.tor_spec.proofs.Lettered.{no_letters_differ}
-use Rattle.tor_spec.proofs.MadeHeads.{IsInfo, piece_length_told, plain_file}
-use Rattle.tor_spec.proofs.MadeListEntries.{listed_of, plain}
+use Rattle.tor_spec.proofs.MadeHeads.{IsInfo, piece_length_told, tree_file}
+use Rattle.tor_spec.proofs.BareSides.{bare_of, plain, same_alignment}
+use Rattle.tor_spec.proofs.MadeListEntries.{listed_file}
 use Rattle.tor_spec.proofs.MadeListSide.{layout_of_one, made_listed, made_side}
 use Rattle.tor_spec.proofs.MadeSidesAligned.{all_aligned, right_tail, size_of_last}
 
 abbrev Files : Type 0
 Files = List (List (List ℕ) × ℕ)
 
-plain_back : (files : Files) → map (λ (file : ListedFile). (file.path, file.size)) (map plain files) ≡ files
-plain_back [] = refl
-plain_back (file ∷ files) = ap (λ more. file ∷ more) (plain_back files)
-
-tree_back : (files : Files) (roots : List (Option (List ℕ))) → length roots ≡ length files
-    → map (λ (file : TreeFile). (file.path, file.length)) (plain_files files roots) ≡ files
-tree_back [] roots e = refl
-tree_back (file ∷ files) [] e = absurd (omega (arith, e))
-tree_back (file ∷ files) (root ∷ roots) e = ap (λ more. file ∷ more) (tree_back files roots (omega (arith, e)))
+listed_back : (files : List File)
+    → map (λ (file : ListedFile). (file.path, file.size)) (map listed_file files) ≡ sizes_of files
+listed_back [] = refl
+listed_back (file ∷ files) = ap (λ more. (file.path, length file.content) ∷ more) (listed_back files)
 
 tree_sizes : (files : List File)
-    → map (λ (file : TreeFile). (file.path, file.length)) (map plain_file files) ≡ sizes_of files
+    → map (λ (file : TreeFile). (file.path, file.length)) (map tree_file files) ≡ sizes_of files
 tree_sizes [] = refl
 tree_sizes (file ∷ files) = ap (λ more. (file.path, length file.content) ∷ more) (tree_sizes files)
 
@@ -43,7 +39,7 @@ abbrev AreAligned : ℕ → List ListedFile → Type 0
 AreAligned p side = (is_misaligned_after p [] side || has_wrong_tail p side) ≡ false
 
 one_aligned : (p : ℕ) (files : List File) (name : List ℕ) → map (λ (file : File). file.path) files ≡ (name ∷ []) ∷ []
-    → AreAligned p (map listed_of (v1_entries Joined p (sizes_of files)))
+    → AreAligned p (map bare_of (v1_entries Joined p (sizes_of files)))
 one_aligned p [] name paths = cc
 one_aligned p (file ∷ []) name paths =
     let n = length file.content in
@@ -57,25 +53,25 @@ module _ (settings : Settings) (files : List File) (pieces : List ℕ) (info : D
     (hybrid : settings.kind ≡ Hybrid) where
   sides_aligned : (single : Bool) → settings.single ≡ single
       → AreAligned settings.piece_length
-      (map listed_of (v1_entries (layout_of settings) settings.piece_length (sizes_of files)))
+      (map bare_of (v1_entries (layout_of settings) settings.piece_length (sizes_of files)))
   sides_aligned true e =
       ap (λ layout. is_misaligned_after settings.piece_length []
-      (map listed_of (v1_entries layout settings.piece_length (sizes_of files)))
+      (map bare_of (v1_entries layout settings.piece_length (sizes_of files)))
       || has_wrong_tail settings.piece_length
-      (map listed_of (v1_entries layout settings.piece_length (sizes_of files)))) (layout_of_one settings e)
+      (map bare_of (v1_entries layout settings.piece_length (sizes_of files)))) (layout_of_one settings e)
       ∙ one_aligned settings.piece_length files settings.name (made.single e)
   sides_aligned false e =
       let tailed : Layout = if settings.tail then AlignedTail else Aligned in
       let aligned : layout_of settings ≡ tailed =
       ap₂ (λ kind single. if is_aligned kind single then tailed else Joined) hybrid e in
       ap (λ layout. is_misaligned_after settings.piece_length []
-      (map listed_of (v1_entries layout settings.piece_length (sizes_of files)))
+      (map bare_of (v1_entries layout settings.piece_length (sizes_of files)))
       || has_wrong_tail settings.piece_length
-      (map listed_of (v1_entries layout settings.piece_length (sizes_of files)))) aligned
+      (map bare_of (v1_entries layout settings.piece_length (sizes_of files)))) aligned
       ∙ by_tail settings.tail
     where
       by_tail : (tail : Bool) → AreAligned settings.piece_length
-          (map listed_of (v1_entries (if tail then AlignedTail else Aligned) settings.piece_length (sizes_of files)))
+          (map bare_of (v1_entries (if tail then AlignedTail else Aligned) settings.piece_length (sizes_of files)))
       by_tail true =
           or_from _ _ (all_aligned true settings.piece_length (sizes_of files) [] (λ some. refl))
           (right_tail true settings.piece_length (sizes_of files))
@@ -87,30 +83,26 @@ module _ (settings : Settings) (files : List File) (pieces : List ℕ) (info : D
   made_aligned =
       ap₂ (λ p side. is_misaligned_after p [] side || has_wrong_tail p side)
       (piece_length_told settings _ pieces info is) (made_side settings files pieces info is made (ap has_v1 hybrid))
+      ∙ same_alignment settings.piece_length (attrs_of files)
+      (v1_entries (layout_of settings) settings.piece_length (sizes_of files))
       ∙ sides_aligned settings.single refl
 
   made_files : listed_by_tree info ≡ sizes_of files → files_differ info ≡ false
   made_files tree =
       let list : listed_by_list info ≡ sizes_of files =
       ap (map (λ (file : ListedFile). (file.path, file.size)))
-      (made_listed settings files pieces info is made (ap has_v1 hybrid)) ∙ plain_back (sizes_of files) in
+      (made_listed settings files pieces info is made (ap has_v1 hybrid)) ∙ listed_back files in
       ap₂ (λ one other. not (same_files one other)) list tree ∙ ap not (same_as_itself (sizes_of files))
 
-  made_letters : attr_differs info ≡ false
-  made_letters =
-      ap (λ listed. some_letters_differ listed (tree_files info))
-      (made_listed settings files pieces info is made (ap has_v1 hybrid))
-      ∙ no_letters_differ (sizes_of files) (tree_files info)
+  made_letters : tree_files info ≡ map tree_file files → attr_differs info ≡ false
+  made_letters tree =
+      ap₂ some_letters_differ (made_listed settings files pieces info is made (ap has_v1 hybrid)) tree
+      ∙ no_letters_differ files
 
   -- where the tree has the files
-  pub made_sides : listed_by_tree info ≡ sizes_of files → SidesAgree info
-  made_sides tree = record { files = made_files tree; aligned = made_aligned; letters = made_letters }
-
-  pub made_sides_of_roots : (roots : List (Option (List ℕ))) → length roots ≡ length (sizes_of files)
-      → tree_files info ≡ plain_files (sizes_of files) roots → SidesAgree info
-  made_sides_of_roots roots long tree =
-      made_sides (ap (map (λ (file : TreeFile). (file.path, file.length))) tree ∙ tree_back (sizes_of files) roots long)
-
-  pub made_sides_of_tree : tree_files info ≡ map plain_file files → SidesAgree info
-  made_sides_of_tree tree =
-      made_sides (ap (map (λ (file : TreeFile). (file.path, file.length))) tree ∙ tree_sizes files)
+  pub made_sides_of_tree : tree_files info ≡ map tree_file files → SidesAgree info
+  made_sides_of_tree tree = record {
+    files = made_files (ap (map (λ (file : TreeFile). (file.path, file.length))) tree ∙ tree_sizes files);
+    aligned = made_aligned;
+    letters = made_letters tree;
+  }

@@ -7,13 +7,13 @@ use Rattle.tor_spec.proofs.Names.{sum_by_push, next_multiple_of, nat_lt, ListedF
 use Rattle.tor_spec.proofs.Names.{has_wrong_tail, is_filled, is_misaligned_after, last_size, size_before}
 use Rattle.tor_spec.proofs.Names.{aligned_entries, has_bytes, no_padding, pad_entry, padding_length, tail_size, find}
 use Rattle.tor_spec.proofs.Names.{option_map, unwrap_or, Some}
-use Rattle.tor_spec.proofs.MadeListEntries.{listed_of, plain}
+use Rattle.tor_spec.proofs.BareSides.{bare_of, plain}
 
 abbrev Files : Type 0
 Files = List (List (List ℕ) × ℕ)
 
 abbrev padding : ℕ → ListedFile
-padding n = listed_of (pad_entry n)
+padding n = bare_of (pad_entry n)
 
 -- ---- where files begin
 
@@ -90,9 +90,9 @@ meets_file tail p file files earlier none meets more =
 goes_on : (tail : Bool) (p : ℕ) (file : List (List ℕ) × ℕ) (files : Files) (earlier : List ListedFile) (b : Bool)
     → (nat_lt 0 (padding_length p file.1) && (tail || has_bytes files)) ≡ b → Meets p earlier (file ∷ files)
     → ((front : List ListedFile) → Meets p front files
-    → is_misaligned_after p front (map listed_of (aligned_entries tail p files)) ≡ false)
+    → is_misaligned_after p front (map bare_of (aligned_entries tail p files)) ≡ false)
     → is_misaligned_after p (earlier ++ plain file ∷ [])
-    (map listed_of (cond b (pad_entry (padding_length p file.1) ∷ []) [] ++ aligned_entries tail p files)) ≡ false
+    (map bare_of (cond b (pad_entry (padding_length p file.1) ∷ []) [] ++ aligned_entries tail p files)) ≡ false
 goes_on tail p file files earlier true is meets rest =
     rest ((earlier ++ plain file ∷ []) ++ padding (padding_length p file.1) ∷ [])
     (meets_padded p file files earlier meets)
@@ -100,7 +100,7 @@ goes_on tail p file files earlier false is meets rest =
     rest (earlier ++ plain file ∷ []) (meets_file tail p file files earlier is meets)
 
 pub all_aligned : (tail : Bool) (p : ℕ) (files : Files) (earlier : List ListedFile) → Meets p earlier files
-    → is_misaligned_after p earlier (map listed_of (aligned_entries tail p files)) ≡ false
+    → is_misaligned_after p earlier (map bare_of (aligned_entries tail p files)) ≡ false
 unfolding aligned_entries
 all_aligned tail p [] earlier meets = refl
 all_aligned tail p (file ∷ files) earlier meets =
@@ -124,13 +124,13 @@ NoTail side some after first =
 
 abbrev HasNoTail : ℕ → Files → List ListedFile → Type 0
 HasNoTail p files after =
-    (has_bytes files ≡ true → size_before (reverse_aux (map listed_of (aligned_entries false p files)) after) ≡ 0)
-    × (size_before after ≡ 0 → size_before (reverse_aux (map listed_of (aligned_entries false p files)) after) ≡ 0)
+    (has_bytes files ≡ true → size_before (reverse_aux (map bare_of (aligned_entries false p files)) after) ≡ 0)
+    × (size_before after ≡ 0 → size_before (reverse_aux (map bare_of (aligned_entries false p files)) after) ≡ 0)
 
 turned : (p : ℕ) (file : List (List ℕ) × ℕ) (files : Files) (after : List ListedFile) (b : Bool)
     → (nat_lt 0 (padding_length p file.1) && has_bytes files) ≡ b
     → ((later : List ListedFile) → HasNoTail p files later)
-    → NoTail (map listed_of (cond b (pad_entry (padding_length p file.1) ∷ []) [] ++ aligned_entries false p files))
+    → NoTail (map bare_of (cond b (pad_entry (padding_length p file.1) ∷ []) [] ++ aligned_entries false p files))
     (nat_lt 0 file.1 || has_bytes files) after (plain file)
 turned p file files after true is rest =
     let more = (and_parts (nat_lt 0 (padding_length p file.1)) (has_bytes files) is).1 in
@@ -178,9 +178,9 @@ tail_of_padding p file after false is = absurd (false≢true is)
 tail_goes_on : (p : ℕ) (file : List (List ℕ) × ℕ) (files : Files) (after : List ListedFile) (b : Bool)
     → (nat_lt 0 (padding_length p file.1) && true) ≡ b → HasTail p after
     → ((later : List ListedFile) → HasTail p later
-    → HasTail p (reverse_aux (map listed_of (aligned_entries true p files)) later))
+    → HasTail p (reverse_aux (map bare_of (aligned_entries true p files)) later))
     → HasTail p (reverse_aux
-    (map listed_of (cond b (pad_entry (padding_length p file.1) ∷ []) [] ++ aligned_entries true p files))
+    (map bare_of (cond b (pad_entry (padding_length p file.1) ∷ []) [] ++ aligned_entries true p files))
     (plain file ∷ after))
 tail_goes_on p file files after true is has rest =
     let lacks = (and_parts (nat_lt 0 (padding_length p file.1)) true is).0 in
@@ -199,18 +199,18 @@ tail_goes_on p file files after false is has rest =
     zero_from (suc n) e = absurd (false≢true (sym e ∙ ap (λ b. b && true) (lt-ltb 0 (suc n) (omega arith))))
 
 with_tail : (p : ℕ) (files : Files) (after : List ListedFile) → HasTail p after
-    → HasTail p (reverse_aux (map listed_of (aligned_entries true p files)) after)
+    → HasTail p (reverse_aux (map bare_of (aligned_entries true p files)) after)
 unfolding aligned_entries
 with_tail p [] after has = has
 with_tail p (file ∷ files) after has = tail_goes_on p file files after _ refl has (with_tail p files)
 
 pub right_tail : (tail : Bool) (p : ℕ) (files : Files)
-    → has_wrong_tail p (map listed_of (aligned_entries tail p files)) ≡ false
+    → has_wrong_tail p (map bare_of (aligned_entries tail p files)) ≡ false
 right_tail false p files =
-    ap (λ n. not (n == 0 || n == padding_length p (last_size (map listed_of (aligned_entries false p files)))))
+    ap (λ n. not (n == 0 || n == padding_length p (last_size (map bare_of (aligned_entries false p files)))))
     ((no_tail p files []).1 refl)
 right_tail true p files =
-    let side = map listed_of (aligned_entries true p files) in
+    let side = map bare_of (aligned_entries true p files) in
     let n = padding_length p (last_size side) in
     ap not (or_right (tail_size side == 0) (tail_size side == n)
     (eq-eqb (tail_size side) n (with_tail p files [] (sym (no_padding p)))))

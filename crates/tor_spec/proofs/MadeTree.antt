@@ -1,13 +1,15 @@
 -- The file tree of a made torrent: no condition of the v2 side holds, and it tells the files.
 use Rattle.tor_spec.proofs.Names.{◌≡◌, ◌==◌, ℕ, Bool, true, false, not, cond, List, length, map, Option, None, Some}
 use Rattle.tor_spec.proofs.Names.{refl, ap, ◌∙◌, list_any, All-from_recursion, cond-true, Data, value_of, Facts, File}
-use Rattle.tor_spec.proofs.Names.{listed, roots_in, AreMade, facts_of_files, Settings, tree_files, tree_length}
+use Rattle.tor_spec.proofs.Names.{attrs_in, listed, roots_in, AreMade, facts_of_files, Settings, tree_files}
+use Rattle.tor_spec.proofs.Names.{tree_length}
 use Rattle.tor_spec.proofs.Names.{tree_mixed, tree_no_files, tree_of, tree_root, tree_shape, tree_symlink}
 use Rattle.tor_spec.proofs.Names.{tree_too_large, file_tree_of_list, tree_of_list_is_readable, lengths_too_large}
 use Rattle.tor_spec.proofs.Names.{files_of_tree, is_folder, lacks_root, properties_in, tree_fault, tree_mixes, has_v2}
 use Rattle.tor_spec.proofs.Names.{has_letter, has_negative_length, length_of, letter_l, file_tree, codes}
-use Rattle.tor_spec.proofs.MadeFacts.{Is32Bytes, hashed_roots, listed_made, made_is_makeable, plain_made, roots_made}
-use Rattle.tor_spec.proofs.MadeHeads.{IsInfo, plain_file}
+use Rattle.tor_spec.proofs.LawfulTorrents.{one_attr_each}
+use Rattle.tor_spec.proofs.MadeFacts.{Is32Bytes, hashed_roots, listed_made, made_is_makeable, made_lettered, roots_made}
+use Rattle.tor_spec.proofs.MadeHeads.{IsInfo, tree_file}
 
 -- no condition of the v2 side holds
 pub record TreeIsValid (info : Data) : Type 0 where
@@ -53,21 +55,22 @@ module _ (settings : Settings) (files : List File) (made : AreMade settings file
   abbrev facts : List Facts
   facts = facts_of_files settings.piece_length files
 
-  tree_found : value_of (codes "file tree") info ≡ Some (file_tree (listed facts) (roots_in facts))
+  tree_found : value_of (codes "file tree") info ≡ Some (file_tree (listed facts) (attrs_in facts) (roots_in facts))
   tree_found = is.tree ∙ cond-true (has_v2 settings.kind) _ None two
 
   pub made_tree : TreeIsValid info
   made_tree =
-      valid_tree info (file_tree (listed facts) (roots_in facts)) tree_found
-      (tree_of_list_is_readable (listed facts) (roots_in facts) (rw (listed_made settings.piece_length files) made.list)
+      valid_tree info (file_tree (listed facts) (attrs_in facts) (roots_in facts)) tree_found
+      (tree_of_list_is_readable (listed facts) (attrs_in facts) (roots_in facts) (one_attr_each facts)
+      (rw (listed_made settings.piece_length files) made.list)
       (roots_made settings.piece_length files)
       (All-from_recursion Is32Bytes (roots_in facts) (hashed_roots settings.piece_length files)))
 
   -- the tree tells the files
-  pub made_tree_files : tree_files info ≡ map plain_file files
+  pub made_tree_files : tree_files info ≡ map tree_file files
   made_tree_files =
-      let same : tree_of info ≡ file_tree (listed facts) (roots_in facts) = rw tree_found refl in
+      let same : tree_of info ≡ file_tree (listed facts) (attrs_in facts) (roots_in facts) = rw tree_found refl in
       let makeable = made_is_makeable settings files made in
-      let tree = file_tree_of_list (listed facts) (roots_in facts) makeable.in_order makeable.named
-      (roots_made settings.piece_length files) in
-      ap files_of_tree same ∙ tree.described ∙ plain_made settings.piece_length files
+      let tree = file_tree_of_list (listed facts) (attrs_in facts) (roots_in facts) (one_attr_each facts)
+      makeable.in_order makeable.named (roots_made settings.piece_length files) in
+      ap files_of_tree same ∙ tree.described ∙ made_lettered settings.piece_length files

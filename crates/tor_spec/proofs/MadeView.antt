@@ -2,15 +2,16 @@
 use Rattle.tor_spec.proofs.Names.{◌≡◌, ℕ, codes, Bool, true, false, cond, List, [], ◌∷◌, map, get_or, None, Some, refl}
 use Rattle.tor_spec.proofs.Names.{ap, ap₂, ◌∙◌, AllByRecursion, cond-false, cond-true, recursion_from_All, Data, string}
 use Rattle.tor_spec.proofs.Names.{dictionary, value_of, piece_layer, Facts, File, AreMade, IsViewOfMade, made_file}
-use Rattle.tor_spec.proofs.Names.{sizes_of, facts_of_files, pieces_of_files, piece_layers, Settings, layout_of, is_long}
+use Rattle.tor_spec.proofs.Names.{facts_of_files, pieces_of_files, piece_layers, Settings, layout_of, is_long}
 use Rattle.tor_spec.proofs.Names.{layer_of, layers_of, listed_files, side_files, info_of, is_private, kind_of, name_of}
 use Rattle.tor_spec.proofs.Names.{part, piece_length_of, text_of, tree_files, FileView, entry_of_file, file_of_list}
 use Rattle.tor_spec.proofs.Names.{file_of_tree, files_of, files_of_both, lettered, if◌then◌else◌, view_of, has_v1}
-use Rattle.tor_spec.proofs.Names.{has_v2, v1_entries, ◌<◌, length, unwrap_or}
+use Rattle.tor_spec.proofs.Names.{has_v2, ◌<◌, length, unwrap_or}
 use Rattle.tor_spec.proofs.Names.{arith, All, Contains-get_or, root_of, joined, layer_text, as_string}
 use Rattle.tor_spec.proofs.MadeHeads.{IsInfo, IsRootWith, info_told, kind_told, name_told, piece_length_told}
-use Rattle.tor_spec.proofs.MadeHeads.{plain_file, private_told}
-use Rattle.tor_spec.proofs.Lettered.{lettered_none, lettered_plain}
+use Rattle.tor_spec.proofs.MadeHeads.{tree_file, private_told}
+use Rattle.tor_spec.proofs.Lettered.{lettered_none, lettered_made}
+use Rattle.tor_spec.proofs.MadeListEntries.{made_entries}
 use Rattle.tor_spec.proofs.MadeListSide.{made_listed}
 use Rattle.tor_spec.proofs.MadeLayers.{layer_shown}
 use Rattle.tor_spec.proofs.MadeTree.{made_tree_files}
@@ -24,7 +25,7 @@ same_root (byte ∷ bytes) (b ∷ bs) some more e = ap Some e
 
 pub layers_found : (settings : Settings) (files : List File) → AreMade settings files → All (λ file.
     settings.piece_length < length file.content → layer_text
-    (dictionary (piece_layers settings.piece_length (facts_of_files settings.piece_length files))) (plain_file file)
+    (dictionary (piece_layers settings.piece_length (facts_of_files settings.piece_length files))) (tree_file file)
     ≡ Some (joined (piece_layer file.content settings.piece_length))) files
 layers_found settings files made k d lt long =
     let p = settings.piece_length in
@@ -67,49 +68,49 @@ module _ (settings : Settings) (files : List File) (made : AreMade settings file
   is_layers : has_v2 settings.kind ≡ true → layers_of root ≡ dictionary (piece_layers p facts)
   is_layers two = let found = has.layers ∙ cond-true (has_v2 settings.kind) _ None two in rw found refl
 
-  shown : has_v2 settings.kind ≡ true → AllByRecursion (λ file. file_of_tree root (plain_file file)
+  shown : has_v2 settings.kind ≡ true → AllByRecursion (λ file. file_of_tree root (tree_file file)
       ≡ made_file settings file) files
-  shown two = recursion_from_All (λ (file : File). file_of_tree root (plain_file file) ≡ made_file settings file) files
+  shown two = recursion_from_All (λ (file : File). file_of_tree root (tree_file file) ≡ made_file settings file) files
       (λ k d lt.
       let file = get_or files k d in
-      let with : List (List ℕ) → FileView = λ layer. record { file = plain_file file; layer = layer } in
-      let layer : cond (is_long (piece_length_of (info_of root)) (plain_file file))
-      (layer_of (layers_of root) (plain_file file)) [] ≡ piece_layer file.content p =
-      ap₂ (λ (n : ℕ) (some : Data). cond (is_long n (plain_file file)) (layer_of some (plain_file file)) [])
+      let with : List (List ℕ) → FileView = λ layer. record { file = tree_file file; layer = layer } in
+      let layer : cond (is_long (piece_length_of (info_of root)) (tree_file file))
+      (layer_of (layers_of root) (tree_file file)) [] ≡ piece_layer file.content p =
+      ap₂ (λ (n : ℕ) (some : Data). cond (is_long n (tree_file file)) (layer_of some (tree_file file)) [])
       (ap piece_length_of is_info ∙ piece_length_told settings facts (pieces_of_files settings files) info is)
       (is_layers two)
       ∙ layer_shown p made.piece_length (dictionary (piece_layers p facts)) file
       (layers_found settings files made k d lt) in
       rw two (ap with layer))
 
-  -- the files of a v2 side have no letters on either side
+  -- the files of a v2 side have the same letters on both sides
   both_shown : (b : Bool) → has_v1 settings.kind ≡ b → has_v2 settings.kind ≡ true
-      → files_of_both (info_of root) ≡ map plain_file files
+      → files_of_both (info_of root) ≡ map tree_file files
   both_shown b e two =
-      let tree : tree_files (info_of root) ≡ map plain_file files =
+      let tree : tree_files (info_of root) ≡ map tree_file files =
       ap tree_files is_info ∙ made_tree_files settings files made (pieces_of_files settings files) info is two in
       ap (lettered (if has_v1 (kind_of (info_of root)) then listed_files (info_of root) else [])) tree ∙ by_list b e
     where
       by_list : (b : Bool) → has_v1 settings.kind ≡ b
           → lettered (if has_v1 (kind_of (info_of root)) then listed_files (info_of root) else [])
-          (map plain_file files)
-          ≡ map plain_file files
+          (map tree_file files)
+          ≡ map tree_file files
       by_list true e =
-          ap (λ listed. lettered listed (map plain_file files))
+          ap (λ listed. lettered listed (map tree_file files))
           (cond-true (has_v1 (kind_of (info_of root))) _ _ (ap has_v1 is_kind ∙ e)
           ∙ ap listed_files is_info
           ∙ made_listed settings files (pieces_of_files settings files) info is made e)
-          ∙ lettered_plain files
+          ∙ lettered_made files
       by_list false e =
-          ap (λ listed. lettered listed (map plain_file files))
+          ap (λ listed. lettered listed (map tree_file files))
           (cond-false (has_v1 (kind_of (info_of root))) _ _ (ap has_v1 is_kind ∙ e))
-          ∙ lettered_none (map plain_file files)
+          ∙ lettered_none (map tree_file files)
 
   pub tree_files_shown : has_v2 settings.kind ≡ true → files_of root ≡ map (made_file settings) files
   tree_files_shown two =
       cond-true (has_v2 (kind_of (info_of root))) _ _ (ap has_v2 is_kind ∙ two)
       ∙ ap (map (file_of_tree root)) (both_shown (has_v1 settings.kind) refl two)
-      ∙ map_same (file_of_tree root) plain_file (made_file settings) files (shown two)
+      ∙ map_same (file_of_tree root) tree_file (made_file settings) files (shown two)
 
   files_shown : (b : Bool) → has_v2 settings.kind ≡ b
       → (has_v2 settings.kind ≡ false → map file_of_list (listed_files info) ≡ map (made_file settings) files)
@@ -122,7 +123,7 @@ module _ (settings : Settings) (files : List File) (made : AreMade settings file
   -- with what the v1 side tells
   pub made_view : (has_v2 settings.kind ≡ false → map file_of_list (listed_files info) ≡ map (made_file settings) files)
       → (has_v1 settings.kind ≡ true → map entry_of_file (side_files info)
-      ≡ v1_entries (layout_of settings) settings.piece_length (sizes_of files))
+      ≡ made_entries (layout_of settings) settings.piece_length files)
       → IsViewOfMade settings files (view_of root)
   made_view listed entries =
       let pieces = pieces_of_files settings files in

@@ -14,7 +14,7 @@ pub use Rattle.std.proofs.lemmas.Bool.{eq-eqb, false≢true, le-leb, le-ltb, leb
 pub use Rattle.std.proofs.lemmas.Bool.{ltb-true, not_from_true, or_cases, or_from, or_left, or_parts, or_right}
 pub use Rattle.std.proofs.lemmas.Cmp.{lists_equiv, nat_list_eq_equiv}
 pub use Rattle.std.proofs.lemmas.Grind.{div_ceil_times}
-pub use Rattle.std.proofs.lemmas.List.{drop-map, drop_all, length-replicate, nil_from_length}
+pub use Rattle.std.proofs.lemmas.List.{drop-map, drop_all, length-replicate, map-append, nil_from_length}
 pub use Rattle.std.proofs.lemmas.List.Elements.{All-append, All-contains, All-from_get_or, All-from_recursion, All-map}
 pub use Rattle.std.proofs.lemmas.List.Elements.{All-nil, All-replicate, Contains-get_or, filter-append}
 pub use Rattle.std.proofs.lemmas.List.Elements.{recursion_from_All}
@@ -39,6 +39,8 @@ pub use Rattle.tor_bencode.specs.Data.{string}
 pub use Rattle.tor_bencode.specs.Find.{value_in, value_of}
 pub use Rattle.tor_bencode.specs.Lawful.{AreRising, IsLawful, IsLawfulWithin, ItemsAreLawfulWithin}
 pub use Rattle.tor_bencode.specs.Lawful.{PairsAreLawfulWithin}
+unfoldable pub use Rattle.tor_bencode.specs.Spelling.{base_ten}
+pub use Rattle.tor_bencode.specs.Spelling.{spelling}
 pub use Rattle.tor_bencode.specs.View.{items_of}
 pub use Rattle.tor_merkle.proofs.ProvedLaws.{count_of_piece_roots, layer_of_long_content, piece_length_bounds}
 pub use Rattle.tor_merkle.proofs.ProvedLaws.{piece_lengths_divide_the_greatest, piece_roots_have_32_bytes}
@@ -50,10 +52,10 @@ unfoldable pub use Rattle.tor_merkle.specs.Layer.{piece_layer}
 pub use Rattle.tor_merkle.specs.Stack.{padded_root, padded_subtree}
 pub use Rattle.tor_merkle.specs.declared.TheConstants.{MAX_LENGTH}
 pub use Rattle.tor_spec.specs.Dictionary.{present, put, when}
-pub use Rattle.tor_spec.specs.Facts.{Facts, File, listed, roots_in}
-pub use Rattle.tor_spec.specs.FilesList.{entry_dictionary, files_list, strings}
-pub use Rattle.tor_spec.specs.InfoDictionary.{info_dictionary, total_size}
-pub use Rattle.tor_spec.specs.Made.{AreMade, IsViewOfMade, made_file, sizes_of}
+pub use Rattle.tor_spec.specs.Facts.{Facts, File, attrs_in, listed, roots_in}
+pub use Rattle.tor_spec.specs.FilesList.{attr_of, entry_dictionary, files_list, strings}
+pub use Rattle.tor_spec.specs.InfoDictionary.{info_dictionary, single_letters, total_size}
+pub use Rattle.tor_spec.specs.Made.{AreMade, IsViewOfMade, attrs_of, made_file, sizes_of}
 pub use Rattle.tor_spec.specs.Makeable.{AreMakeable}
 pub use Rattle.tor_spec.specs.Metainfo.{facts_of_files, pieces_of_files, root_dictionary}
 unfoldable pub use Rattle.tor_spec.specs.Metainfo.{metainfo}
@@ -78,12 +80,12 @@ pub use Rattle.tor_spec.specs.valid.Parts.{info_of, is_number, is_private, items
 pub use Rattle.tor_spec.specs.valid.Parts.{part, piece_length_of, text_of}
 pub use Rattle.tor_spec.specs.valid.SidesAgree.{SidesAgree, aligned_after, alignment, attr_differs, files_differ}
 pub use Rattle.tor_spec.specs.valid.SidesAgree.{has_wrong_tail, is_filled, is_misaligned_after, last_size}
-pub use Rattle.tor_spec.specs.valid.SidesAgree.{listed_by_list}
+pub use Rattle.tor_spec.specs.valid.SidesAgree.{letters_differ, listed_by_list}
 pub use Rattle.tor_spec.specs.valid.SidesAgree.{listed_by_tree, same_files, size_before, some_letters_differ, tail_size}
 pub use Rattle.tor_spec.specs.valid.TreeSide.{tree_files, tree_length, tree_mixed, tree_no_files, tree_of, tree_root}
 pub use Rattle.tor_spec.specs.valid.TreeSide.{tree_shape, tree_symlink, tree_too_large}
 pub use Rattle.tor_spec.specs.valid.View.{FileView, View, entry_of_file, file_of_list, file_of_tree, files_of}
-pub use Rattle.tor_spec.specs.valid.View.{files_of_both, lettered, tree_piece_count, view_of, with_letters}
+pub use Rattle.tor_spec.specs.valid.View.{file_of_both, files_of_both, lettered, tree_piece_count, view_of}
 pub use Rattle.tor_tree.proofs.ProvedLaws.{file_tree_is_lawful, file_tree_of_list, files_are_small, lists_have_names}
 pub use Rattle.tor_tree.proofs.ProvedLaws.{tree_of_list_is_readable}
 pub use Rattle.tor_tree.specs.FileList.{IsFileList, lengths_fault, lengths_of, lengths_too_large, list_fault}
@@ -91,23 +93,29 @@ pub use Rattle.tor_tree.specs.FileList.{paths_fault, paths_nest, paths_of, paths
 pub use Rattle.tor_tree.specs.FileTree.{files_of_tree, is_dictionary, is_folder, lacks_root, properties_in, tree_fault}
 pub use Rattle.tor_tree.specs.FileTree.{tree_mixes}
 pub use Rattle.tor_tree.specs.Kinds.{has_v1, has_v2}
+pub use Rattle.tor_tree.specs.Letters.{letters, no_letters}
 pub use Rattle.tor_tree.specs.Name.{has_byte, name_fault}
 pub use Rattle.tor_tree.specs.Path.{IsFilePath, name_cmp, path_eq}
 pub use Rattle.tor_tree.specs.Properties.{as_integer, as_string, has_letter, has_negative_length, length_of, letter_h}
-pub use Rattle.tor_tree.specs.Properties.{letter_l, letter_x}
-pub use Rattle.tor_tree.specs.TidyTree.{HasItsRoot, plain_files}
+pub use Rattle.tor_tree.specs.Properties.{letter_l, letter_x, properties_for}
+pub use Rattle.tor_tree.specs.TidyTree.{HasItsRoot, lettered_files}
 pub use Rattle.tor_tree.specs.WrittenTree.{file_tree}
+pub use Rattle.tor_tree.specs.declared.attr.Attr.{Attr}
 pub use Rattle.tor_tree.specs.declared.kinds.Kind.{Kind}
 pub use Rattle.tor_tree.specs.declared.kinds.Kind.TheVariants.{Hybrid, V1, V2}
 pub use Rattle.tor_tree.specs.declared.lists.ListError.{ListError}
 pub use Rattle.tor_tree.specs.declared.lists.TheConstants.{MAX_TOTAL, ROUNDING}
 pub use Rattle.tor_tree.specs.declared.tree_file.TreeFile.{TreeFile}
-pub use Rattle.tor_v1.proofs.ProvedLaws.{facts-v1_entries, length-joined_content, length-piece_sums, no_padding}
+pub use Rattle.tor_v1.proofs.ProvedLaws.{each_lettered, facts-v1_entries, length-joined_content, length-piece_sums}
+pub use Rattle.tor_v1.proofs.ProvedLaws.{letters_change_no_pieces, letters_change_no_size, letters_keep}
+pub use Rattle.tor_v1.proofs.ProvedLaws.{letters_keep_files, no_padding}
 pub use Rattle.tor_v1.proofs.ProvedLaws.{sums_of_joined}
 pub use Rattle.tor_v1.specs.Content.{AreContentsOf, file_entries}
 unfoldable pub use Rattle.tor_v1.specs.Content.{joined_content, v1_pieces}
 pub use Rattle.tor_v1.specs.Entries.{file_entry, has_bytes, pad_entry, padding_after, padding_length, v1_entries}
+pub use Rattle.tor_v1.specs.Entries.{with_attr}
 unfoldable pub use Rattle.tor_v1.specs.Entries.{aligned_entries}
+unfoldable pub use Rattle.tor_v1.specs.Entries.{with_letters as on_entries}
 pub use Rattle.tor_v1.specs.Piece.{piece_sums}
 unfoldable pub use Rattle.tor_v1.specs.Piece.{zeros}
 pub use Rattle.tor_v1.specs.declared.entry.Entry.{Entry}

@@ -5,7 +5,9 @@ use Rattle.tor_spec.proofs.Names.{fill_by_all, range_with_len, slice_index_or, p
 use Rattle.tor_spec.proofs.Names.{IsViewOfMade, sizes_of, facts_of_files, pieces_of_files, root_dictionary, Settings}
 use Rattle.tor_spec.proofs.Names.{layout_of, is_sha1_piece, is_verified, merkle_pieces, verified_pieces, View, view_of}
 use Rattle.tor_spec.proofs.Names.{has_v1, has_v2, v1_pieces, v1_entries, Entry}
-use Rattle.tor_spec.proofs.MadeListPieces.{contents_fit, contents_of}
+use Rattle.tor_spec.proofs.Names.{attrs_of, letters_change_no_pieces}
+use Rattle.tor_spec.proofs.MadeListEntries.{made_entries}
+use Rattle.tor_spec.proofs.MadeListPieces.{contents_of, made_contents_fit}
 use Rattle.tor_spec.proofs.MadeListSide.{listed_sizes, viewed}
 use Rattle.tor_spec.proofs.MadeTorrents.{made_torrents_are_told}
 use Rattle.tor_spec.proofs.OwnRoots.{count_shown}
@@ -30,7 +32,7 @@ module _ (settings : Settings) (files : List File) (made : AreMade settings file
   contents = contents_of files
 
   abbrev entries : List Entry
-  entries = v1_entries (layout_of settings) p (sizes_of files)
+  entries = made_entries (layout_of settings) p files
 
   -- where there is a v1 side
   own_sha1 : has_v1 view.kind ≡ true → (i : ℕ) → is_sha1_piece view contents i ≡ true
@@ -39,10 +41,12 @@ module _ (settings : Settings) (files : List File) (made : AreMade settings file
       let listed : view.entries ≡ entries = told.entries ∙ cond-true (has_v1 settings.kind) entries [] side in
       let sums : view.pieces ≡ v1_pieces p entries contents =
       told.pieces ∙ cond-true (has_v1 settings.kind) (pieces_of_files settings files) [] side
-      ∙ ap (λ sizes. v1_pieces p (v1_entries (layout_of settings) p sizes) contents) (listed_sizes p files) in
+      ∙ ap (λ sizes. v1_pieces p (v1_entries (layout_of settings) p sizes) contents) (listed_sizes p files)
+      ∙ sym
+      (letters_change_no_pieces p (attrs_of files) (v1_entries (layout_of settings) p (sizes_of files)) contents) in
       let bounds = (piece_length_bounds p).0 made.piece_length in
       own_sha1_piece view contents (omega (arith, told.piece_length, bounds.1))
-      (rw listed (contents_fit (layout_of settings) p files))
+      (rw listed (made_contents_fit (layout_of settings) p files))
       (sums ∙ ap₂ (λ n some. v1_pieces n some contents) (sym told.piece_length) (sym listed)) i
 
   -- where there is a v2 side

@@ -10,6 +10,7 @@ use Rattle.tor_spec.proofs.Names.{run_at, IsPieceLength, piece_layer, pieces_roo
 use Rattle.tor_spec.proofs.Names.{is_whole, file_pieces, is_merkle_piece, merkle_hash, merkle_pieces, told_hash}
 use Rattle.tor_spec.proofs.Names.{FileView, joined_bytes, is_sha1_piece, View, AreContentsOf, joined_content, v1_pieces}
 use Rattle.tor_spec.proofs.Names.{piece_sums}
+use Rattle.tor_spec.proofs.MadeHeads.{tree_file}
 use Rattle.tor_spec.proofs.MadeListPieces.{contents_of}
 use Rattle.tor_spec.proofs.OwnBytes.{bytes_there, file_there, run_there, there, whole_there, joined_there}
 use Rattle.tor_spec.proofs.OwnRoots.{root_of_piece}
@@ -29,14 +30,7 @@ all_true f n each =
 -- a file of a v2 side with the root and the layer of a content
 abbrev pub told_file : ℕ → File → FileView
 told_file p file = record {
-  file = record {
-    path = file.path;
-    length = length file.content;
-    root = root_of file.content;
-    has_attr = false;
-    exec = false;
-    hidden = false;
-  };
+  file = tree_file file;
   layer = piece_layer file.content p;
 }
 

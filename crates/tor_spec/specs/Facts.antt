@@ -1,19 +1,23 @@
 -- What a torrent says of its files.
-use Rattle.std.specs.Prelude.{ℕ, List, [], ◌∷◌, map, length, Option}
+use Rattle.std.specs.Prelude.{ℕ, List, map, length, Option}
+use Rattle.std.specs.List.{zip}
 use Rattle.tor_merkle.specs.Layer.{root_of, piece_layer}
+use Rattle.tor_tree.specs.declared.attr.Attr.{Attr}
 
--- a file: the names that lead to it, and its bytes
+-- a file: the names that lead to it, its bytes, and its letters (BEP 47, "attr")
 pub record File : Type 0 where
   pub path : List (List ℕ)
   pub content : List ℕ
+  pub attr : Attr
 
--- the names that lead to a file, how many bytes it has, its pieces root, and the hashes of its piece layer (BEP 52,
--- "pieces root" and "piece layers")
+-- the names that lead to a file, how many bytes it has, its pieces root, the hashes of its piece layer (BEP 52,
+-- "pieces root" and "piece layers"), and its letters
 pub record Facts : Type 0 where
   pub path : List (List ℕ)
   pub size : ℕ
   pub root : Option (List ℕ)
   pub layer : List (List ℕ)
+  pub attr : Attr
 
 -- the facts of a file in pieces of this length
 abbrev pub facts_of : ℕ → File → Facts
@@ -22,6 +26,7 @@ facts_of piece_length file = record {
   size = length file.content;
   root = root_of file.content;
   layer = piece_layer file.content piece_length;
+  attr = file.attr;
 }
 
 -- paths and lengths
@@ -34,10 +39,12 @@ roots_in facts = map (λ file. file.root) facts
 abbrev pub layers_in : List Facts → List (List (List ℕ))
 layers_in facts = map (λ file. file.layer) facts
 
--- the facts of a list of files, with their roots and layers
-abbrev pub facts_from : List (List (List ℕ) × ℕ) → List (Option (List ℕ)) → List (List (List ℕ)) → List Facts
-facts_from [] roots layers = []
-facts_from (file ∷ files) [] layers = []
-facts_from (file ∷ files) (root ∷ roots) [] = []
-facts_from (file ∷ files) (root ∷ roots) (layer ∷ layers) =
-    record { path = file.0; size = file.1; root = root; layer = layer } ∷ facts_from files roots layers
+abbrev pub attrs_in : List Facts → List Attr
+attrs_in facts = map (λ file. file.attr) facts
+
+-- the facts of a list of files, with their letters, roots and layers
+abbrev pub facts_from : List (List (List ℕ) × ℕ) → List Attr → List (Option (List ℕ)) → List (List (List ℕ))
+    → List Facts
+facts_from files attrs roots layers =
+    map (λ f. record { path = f.0.0; size = f.0.1; root = f.1.1.0; layer = f.1.1.1; attr = f.1.0 })
+    (zip files (zip attrs (zip roots layers)))

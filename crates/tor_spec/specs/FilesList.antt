@@ -1,19 +1,24 @@
--- The `files` of BEP 3 ("info dictionary"), with the padding of BEP 47 ("padding files").
-use Rattle.std.specs.Prelude.{ℕ, pos, List, [], ◌∷◌, map, Some, codes}
+-- The `files` of BEP 3 ("info dictionary"), with the letters and the padding of BEP 47 ("attr", "padding files").
+use Rattle.std.specs.Prelude.{ℕ, pos, List, [], ◌∷◌, map, Option, Some, option_map, codes, if◌then◌else◌}
 use Rattle.tor_bencode.specs.Data.{Data, integer, string, list, dictionary}
 use Rattle.tor_bencode.specs.View.{items_of}
-use Rattle.tor_spec.specs.Dictionary.{present, when}
+use Rattle.tor_spec.specs.Dictionary.{present}
+use Rattle.tor_tree.specs.Letters.{letters}
 use Rattle.tor_v1.specs.declared.entry.Entry.{Entry}
 
 -- a list of byte strings
 abbrev pub strings : List (List ℕ) → Data
 strings texts = list (items_of (map string texts))
 
--- `attr` is there for padding alone
+-- what `attr` says: `p` of padding, the letters of a file, and nothing where there is none
+abbrev pub attr_of : Entry → Option (List ℕ)
+attr_of entry =
+    if entry.pad then Some (codes "p") else letters (record { exec = entry.exec; hidden = entry.hidden })
+
 abbrev pub entry_dictionary : Entry → Data
 entry_dictionary entry =
     dictionary (present (
-    (codes "attr", when entry.pad (string (codes "p"))) ∷
+    (codes "attr", option_map string (attr_of entry)) ∷
     (codes "length", Some (integer (pos entry.length))) ∷
     (codes "path", Some (strings entry.path)) ∷ []))
 

@@ -8,6 +8,7 @@ use Rattle.tor_spec.specs.InfoDictionary.{info_dictionary}
 use Rattle.tor_spec.specs.PieceLayers.{piece_layers}
 use Rattle.tor_spec.specs.Settings.{Settings, layout_of}
 use Rattle.tor_tree.specs.Kinds.{has_v2}
+use Rattle.tor_tree.specs.Letters.{no_letters}
 use Rattle.tor_v1.specs.Content.{v1_pieces}
 use Rattle.tor_v1.specs.Entries.{v1_entries}
 
@@ -34,6 +35,6 @@ unfoldable pub metainfo : Settings → List File → List ℕ
 metainfo settings files =
     spelling (root_dictionary settings (facts_of_files settings.piece_length files) (pieces_of_files settings files))
 
--- the one file that has this name
+-- the one file that has this name, without letters
 abbrev pub only : List ℕ → List ℕ → List File
-only name content = record { path = name ∷ []; content = content } ∷ []
+only name content = record { path = name ∷ []; content = content; attr = no_letters } ∷ []

@@ -5,7 +5,8 @@
 //! - `hashes.rt`: SHA-256 and SHA-1 of eight messages.
 //! - `merkle.rt`: roots, layers and stacks; `layers.rt`: roots over hashes in a slice; `feeds.rt`: contents that are
 //!   fed in parts; `piece_proofs.rt`: proofs of single pieces.
-//! - `names.rt`: names and paths; `lists.rt`: lists of files and of paths; `trees.rt`: the `file tree`.
+//! - `names.rt`: names and paths; `lists.rt`: lists of files and of paths; `trees.rt`: the `file tree`; `letters.rt`:
+//!   the letters of files in all of these.
 //! - `layouts.rt`: version 1's list of files; `sums.rt`: the SHA-1 of its pieces.
 //! - `plans.rt`: units of work for lists of files; `entries.rt`: for entries; `pieces.rt`: their pieces.
 //! - `seats`: boards and the seats of their workers; `lane`: chunks that one feeder puts and several takers take.
@@ -27,6 +28,8 @@ mod lane;
 mod layers;
 #[cfg(test)]
 mod layouts;
+#[cfg(test)]
+mod letters;
 #[cfg(test)]
 mod lists;
 #[cfg(test)]

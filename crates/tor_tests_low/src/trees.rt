@@ -94,7 +94,7 @@ fn roots_for(alloc: Global, files: &[(FilePath, u64)]) -> Result<Vec<Option<Hash
 }
 
 // The tree of a list of files; that it is not lawful is told as want of memory.
-fn tree_of(alloc: Global, list: &FileList) -> Result<Tree, AllocError> {
+pub(crate) fn tree_of(alloc: Global, list: &FileList) -> Result<Tree, AllocError> {
     let roots = roots_for(alloc, list.files())?;
     match Tree::of(to_item(alloc, list, &roots)?) {
         Ok(tree) => Ok(tree),
@@ -128,7 +128,7 @@ fn has_files(alloc: Global, tree: &Tree, wanted: &[(FilePath, u64)]) -> bool {
     }
 }
 
-fn is_spelled(alloc: Global, tree: &Tree, text: &[u8]) -> bool {
+pub(crate) fn is_spelled(alloc: Global, tree: &Tree, text: &[u8]) -> bool {
     match encode(alloc, tree) {
         Ok(bytes) => bytes.as_slice() == text,
         Err(_) => false,

@@ -8,7 +8,7 @@ use std::thread::Threads;
 use tor_engine::How;
 use tor_meta::{FromFault, MakeError, Order, make_from, torrent_by_streams};
 use tor_source::{InputFault, drop_input, read_limited};
-use tor_tree::Kind;
+use tor_tree::{Attr, Kind};
 
 // A reader that faults after its bytes.
 #[derive(Drop)]
@@ -126,7 +126,7 @@ fn is_made_by_streams<T: Threads + Wait + Sync + Send + Clone + Drop + 'static>(
         bytes: b"abc",
         step,
     };
-    match torrent_by_streams(rt, alloc, &mut reader, &order) {
+    match torrent_by_streams(rt, alloc, &mut reader, &order, Attr::NONE) {
         Ok(torrent) => Ok(torrent.as_slice() == ABC),
         Err(_) => Ok(false),
     }
@@ -139,7 +139,7 @@ fn fault_behind<T: Threads + Wait + Sync + Send + Clone + Drop + 'static>(
 ) -> Result<Option<InputFault>, AllocError> {
     let order = order(alloc, &(Kind::V2, true, 16384, "a"))?;
     let mut reader = Faulting(b"abc");
-    match torrent_by_streams(rt, alloc, &mut reader, &order) {
+    match torrent_by_streams(rt, alloc, &mut reader, &order, Attr::NONE) {
         Err(FromFault::Input(fault)) => Ok(Some(fault)),
         _ => Ok(None),
     }

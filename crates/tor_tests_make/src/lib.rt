@@ -2,8 +2,8 @@
 //!
 //! `contents.rt` and `larger.rt`: torrents of files in memory, info hashes, links, writing out. `sources.rt` and
 //! `layers.rt`: torrents of the files of a source; `streams.rt`: of readers; `tail.rt`: those whose last file is
-//! padded. `workers.rt`: that workers meet. `inputs.rt`: inputs of tor_source, and the torrent of one. `given.rt` has
-//! files that are given as texts.
+//! padded; `letters.rt`: of files with letters. `workers.rt`: that workers meet. `inputs.rt`: inputs of tor_source, and
+//! the torrent of one. `given.rt` has files that are given as texts.
 #![tactic(auto)]
 
 #[cfg(test)]
@@ -16,6 +16,8 @@ mod inputs;
 mod larger;
 #[cfg(test)]
 mod layers;
+#[cfg(test)]
+mod letters;
 #[cfg(test)]
 mod sources;
 #[cfg(test)]

@@ -11,7 +11,7 @@ use std::sync::Wait;
 use std::thread::Threads;
 use tor_engine::How;
 use tor_meta::{Order, make_from, torrent_by_streams};
-use tor_tree::Kind;
+use tor_tree::{Attr, Kind};
 
 // `a`, that has `ab`, and `b`, that has `c`: the SHA-256 of each, and the SHA-1 of each with its zeros.
 const FOLDER: &[u8] = b"d4:infod9:file treed1:ad0:d6:lengthi2e11:pieces root32:\
@@ -144,7 +144,7 @@ fn is_made_by_workers<T: AllocGlobal + Threads + Wait + Sync + Send + Clone + Dr
     order: &Order,
 ) -> bool {
     let mut reader: &[u8] = b"abc";
-    match torrent_by_streams(rt, rt.alloc(), &mut reader, order) {
+    match torrent_by_streams(rt, rt.alloc(), &mut reader, order, Attr::NONE) {
         Ok(torrent) => torrent.as_slice() == INPUT,
         Err(_) => false,
     }

@@ -1,6 +1,6 @@
 -- The names that the proofs cite, passed on from one place. Declares nothing.
 pub use Rattle.std.proofs.Common.{Bool, Equal, Err, Global, Greater, IfSome, IsTrue, Less, List, MatchResult, None, Ok}
-pub use Rattle.std.proofs.Common.{Option, Ordering, Result, Some, Vec, [], ap, append_assoc, arith, codes, cond}
+pub use Rattle.std.proofs.Common.{Option, Ordering, Result, Some, Vec, [], ap, ap₂, append_assoc, arith, codes, cond}
 pub use Rattle.std.proofs.Common.{count_by, drop, false, get_or, inl, inr, is_none, is_ok, is_some, length, length-drop}
 pub use Rattle.std.proofs.Common.{map, nat_lt, not, pos, refl, rules, slice_index, subst, suc, suc-add, sum_by, sym}
 pub use Rattle.std.proofs.Common.{take, true, unsigned_abs, unwrap_or, zero, zero-add, ℕ, ℤ, ⊎_elim, ◌&&◌, ◌*◌, ◌++◌}
@@ -30,12 +30,12 @@ pub use Rattle.std.specs.Cmp.{IsTotalOrder}
 pub use Rattle.std.specs.Cmp.Lexicographic.{lists_ties, lists_total, nat_list_cmp_total, slice_cmp, texts_ties}
 pub use Rattle.std.specs.Int.{next_multiple_of, w64}
 pub use Rattle.std.specs.List.{All, AllAdjacentBelow, AllByRecursion, AllZip, IsAllAdjacentAnswer, enumerate_from}
-pub use Rattle.std.specs.List.{list_any, range_with_len, starts_with}
+pub use Rattle.std.specs.List.{list_any, range_with_len, starts_with, zip}
 pub use Rattle.std.specs.List.Sorted.{IsPermutation, IsSortedByKey}
 unfoldable pub use Rattle.std.specs.List.Sorted.{IsStrictlySortedBy}
 pub use Rattle.std.specs.Option.{option_or}
 pub use Rattle.std.specs.Ordering.{eq_by_cmp, is_eq, is_lt, ordering_reverse, ordering_then}
-pub use Rattle.std.specs.Prelude.{IsSome, int_lt}
+pub use Rattle.std.specs.Prelude.{IsSome, int_lt, if◌then◌else◌, ◌↔◌}
 pub use Rattle.std.specs.Str.{IsUtf8, bytes_eq, is_utf8}
 pub use Rattle.tor_bencode.specs.Data.{Data, Pairs, dictionary, integer, keys_of, list, no_pairs, pair, string}
 pub use Rattle.tor_bencode.specs.Find.{value_of}
@@ -46,18 +46,21 @@ pub use Rattle.tor_bencode.specs.declared.item.Item.{Dict, Item, the_lemmas}
 pub use Rattle.tor_merkle.specs.declared.TheConstants.{MAX_LENGTH}
 pub use Rattle.tor_tree.specs.FileList.{IsFileList, IsInPathOrder, is_inside, lengths_fault, lengths_of}
 pub use Rattle.tor_tree.specs.FileList.{lengths_too_large, list_fault, paths_fault, paths_nest, paths_of, paths_repeat}
+pub use Rattle.tor_tree.specs.FileList.{IsLetteredList, LetteredFiles, files_with_attrs, without_letters}
 pub use Rattle.tor_tree.specs.FileTree.{are_entries, entries_in, entries_mix, entries_of, file_of, files_of_tree}
 pub use Rattle.tor_tree.specs.FileTree.{folder_mixes, has_empty_key, is_folder, lacks_root, properties_in, takes_memory}
 pub use Rattle.tor_tree.specs.FileTree.{takes_memory_in, tree_fault, tree_mixes, under}
+pub use Rattle.tor_tree.specs.Letters.{letters, no_letters}
 pub use Rattle.tor_tree.specs.Name.{has_byte, name_fault, slash}
 pub use Rattle.tor_tree.specs.Path.{HasNames, IsFilePath, name_cmp, name_eq, path_cmp, path_eq}
 pub use Rattle.tor_tree.specs.PathList.{AreIndexedPaths, AreIndices, indices_of, with_indices}
 pub use Rattle.tor_tree.specs.Properties.{are_properties, as_integer, as_string, has_attr, has_letter}
 pub use Rattle.tor_tree.specs.Properties.{has_negative_length, is_hash, length_of, letter_h, letter_l, letter_x}
-pub use Rattle.tor_tree.specs.Properties.{letters_of, pieces_root, properties_for}
+pub use Rattle.tor_tree.specs.Properties.{letters_of, pieces_root, properties_for, with_string}
 pub use Rattle.tor_tree.specs.TidyTree.{AreTidy, AtMostOneTree, HasItsRoot, IsFileTreeOf, IsTidy, IsTidyFile}
-pub use Rattle.tor_tree.specs.TidyTree.{plain_files}
+pub use Rattle.tor_tree.specs.TidyTree.{lettered_files}
 pub use Rattle.tor_tree.specs.WrittenTree.{file_tree, pairs_of_files, put_first, put_inside, put_under, with_properties}
+pub use Rattle.tor_tree.specs.declared.attr.Attr.{Attr}
 pub use Rattle.tor_tree.specs.declared.entries.Entry.{Entry}
 pub use Rattle.tor_tree.specs.declared.lists.ListError.{ListError}
 pub use Rattle.tor_tree.specs.declared.lists.TheConstants.{MAX_TOTAL, ROUNDING}

@@ -4,67 +4,89 @@ use Rattle.tor_tree.proofs.Cited.{suc, ◌+◌, ◌<◌, true, false, List, [], 
 use Rattle.tor_tree.proofs.Cited.{Option, refl, sym, ap, ◌∙◌, arith, All, AllByRecursion, drop-drop, drop_more}
 use Rattle.tor_tree.proofs.Cited.{drop_all, take_all, All-append, recursion_from_All, cases_lt, Data, dictionary, Pairs}
 use Rattle.tor_tree.proofs.Cited.{no_pairs, pair, view, pairs_view, Item, name_fault, below, files_below, has_name_at}
-use Rattle.tor_tree.proofs.Cited.{is_first, pairs_of_files}
+use Rattle.tor_tree.proofs.Cited.{Attr, is_first, pairs_of_files}
 use Rattle.tor_tree.proofs.Groups.{name_own, pair_of_group}
 
-pub take-files_below : (deep n : ℕ) (files : List (List (List ℕ) × ℕ)) (roots : List (Option (List ℕ)))
-    → take n (files_below deep files roots) ≡ files_below deep (take n files) (take n roots)
-take-files_below deep zero files roots = refl
-take-files_below deep (suc n) [] roots = refl
-take-files_below deep (suc n) (file ∷ files) [] = refl
-take-files_below deep (suc n) (file ∷ files) (root ∷ roots) = rw (take-files_below deep n files roots) refl
+pub take-files_below : (deep n : ℕ) (files : List (List (List ℕ) × ℕ)) (attrs : List Attr)
+    (roots : List (Option (List ℕ)))
+    → take n (files_below deep files attrs roots) ≡ files_below deep (take n files) (take n attrs) (take n roots)
+take-files_below deep zero files attrs roots = refl
+take-files_below deep (suc n) [] attrs roots = refl
+take-files_below deep (suc n) (file ∷ files) [] roots = refl
+take-files_below deep (suc n) (file ∷ files) (attr ∷ attrs) [] = refl
+take-files_below deep (suc n) (file ∷ files) (attr ∷ attrs) (root ∷ roots) =
+    rw (take-files_below deep n files attrs roots) refl
 
-pub drop-files_below : (deep n : ℕ) (files : List (List (List ℕ) × ℕ)) (roots : List (Option (List ℕ)))
-    → drop n (files_below deep files roots) ≡ files_below deep (drop n files) (drop n roots)
-drop-files_below deep zero files roots = refl
-drop-files_below deep (suc n) [] roots = refl
-drop-files_below deep (suc n) (file ∷ files) [] = zip_none (drop n files)
-  where
-    zip_none : (fs : List (List (List ℕ) × ℕ)) → [] ≡ files_below deep fs []
-    zip_none [] = refl
-    zip_none (f ∷ fs) = refl
-drop-files_below deep (suc n) (file ∷ files) (root ∷ roots) = drop-files_below deep n files roots
+none_left : (deep : ℕ) (files : List (List (List ℕ) × ℕ)) (roots : List (Option (List ℕ)))
+    → [] ≡ files_below deep files [] roots
+none_left deep [] roots = refl
+none_left deep (file ∷ files) roots = refl
 
-pub below-files_below : (deep : ℕ) (files : List (List (List ℕ) × ℕ)) (roots : List (Option (List ℕ)))
-    → map (below 1) (files_below deep files roots) ≡ files_below (deep + 1) files roots
-below-files_below deep [] roots = refl
-below-files_below deep (file ∷ files) [] = refl
-below-files_below deep (file ∷ files) (root ∷ roots) =
-    rw (drop-drop 1 deep file.0, below-files_below deep files roots) refl
+no_roots_left : (deep : ℕ) (files : List (List (List ℕ) × ℕ)) (attrs : List Attr) → [] ≡ files_below deep files attrs []
+no_roots_left deep [] attrs = refl
+no_roots_left deep (file ∷ files) [] = refl
+no_roots_left deep (file ∷ files) (attr ∷ attrs) = refl
 
-pub length-files_below : (deep : ℕ) (files : List (List (List ℕ) × ℕ)) (roots : List (Option (List ℕ)))
-    → length roots ≡ length files → length (files_below deep files roots) ≡ length files
-length-files_below deep [] roots e = refl
-length-files_below deep (file ∷ files) [] e = absurd (omega arith)
-length-files_below deep (file ∷ files) (root ∷ roots) e = ap suc (length-files_below deep files roots (omega arith))
+pub drop-files_below : (deep n : ℕ) (files : List (List (List ℕ) × ℕ)) (attrs : List Attr)
+    (roots : List (Option (List ℕ)))
+    → drop n (files_below deep files attrs roots) ≡ files_below deep (drop n files) (drop n attrs) (drop n roots)
+drop-files_below deep zero files attrs roots = refl
+drop-files_below deep (suc n) [] attrs roots = refl
+drop-files_below deep (suc n) (file ∷ files) [] roots = none_left deep (drop n files) (drop (suc n) roots)
+drop-files_below deep (suc n) (file ∷ files) (attr ∷ attrs) [] = no_roots_left deep (drop n files) (drop n attrs)
+drop-files_below deep (suc n) (file ∷ files) (attr ∷ attrs) (root ∷ roots) = drop-files_below deep n files attrs roots
 
-pub all_first : (deep : ℕ) (name : List ℕ) (files : List (List (List ℕ) × ℕ)) (roots : List (Option (List ℕ)))
+pub below-files_below : (deep : ℕ) (files : List (List (List ℕ) × ℕ)) (attrs : List Attr)
+    (roots : List (Option (List ℕ)))
+    → map (below 1) (files_below deep files attrs roots) ≡ files_below (deep + 1) files attrs roots
+below-files_below deep [] attrs roots = refl
+below-files_below deep (file ∷ files) [] roots = refl
+below-files_below deep (file ∷ files) (attr ∷ attrs) [] = refl
+below-files_below deep (file ∷ files) (attr ∷ attrs) (root ∷ roots) =
+    rw (drop-drop 1 deep file.0, below-files_below deep files attrs roots) refl
+
+pub length-files_below : (deep : ℕ) (files : List (List (List ℕ) × ℕ)) (attrs : List Attr)
+    (roots : List (Option (List ℕ)))
+    → length attrs ≡ length files → length roots ≡ length files
+    → length (files_below deep files attrs roots) ≡ length files
+length-files_below deep [] attrs roots one_each e = refl
+length-files_below deep (file ∷ files) [] roots one_each e = absurd (omega arith)
+length-files_below deep (file ∷ files) (attr ∷ attrs) [] one_each e = absurd (omega arith)
+length-files_below deep (file ∷ files) (attr ∷ attrs) (root ∷ roots) one_each e =
+    ap suc (length-files_below deep files attrs roots (omega arith) (omega arith))
+
+pub all_first : (deep : ℕ) (name : List ℕ) (files : List (List (List ℕ) × ℕ)) (attrs : List Attr)
+    (roots : List (Option (List ℕ)))
     → AllByRecursion (λ f. has_name_at deep name f.0 ≡ true) files
-    → AllByRecursion (λ f. is_first name f.0 ≡ true) (files_below deep files roots)
-all_first deep name [] roots h = tt
-all_first deep name (file ∷ files) [] h = tt
-all_first deep name (file ∷ files) (root ∷ roots) h = (h.0, all_first deep name files roots h.1)
+    → AllByRecursion (λ f. is_first name f.0 ≡ true) (files_below deep files attrs roots)
+all_first deep name [] attrs roots h = tt
+all_first deep name (file ∷ files) [] roots h = tt
+all_first deep name (file ∷ files) (attr ∷ attrs) [] h = tt
+all_first deep name (file ∷ files) (attr ∷ attrs) (root ∷ roots) h = (h.0, all_first deep name files attrs roots h.1)
 
-first_apart : (deep : ℕ) (name : List ℕ) (files : List (List (List ℕ) × ℕ)) (roots : List (Option (List ℕ)))
+first_apart : (deep : ℕ) (name : List ℕ) (files : List (List (List ℕ) × ℕ)) (attrs : List Attr)
+    (roots : List (Option (List ℕ)))
     → ((file : List (List ℕ) × ℕ) (others : List (List (List ℕ) × ℕ)) → files ≡ file ∷ others
     → has_name_at deep name file.0 ≡ false)
-    → (f : List (List ℕ) × Data) (fs : List (List (List ℕ) × Data)) → files_below deep files roots ≡ f ∷ fs
+    → (f : List (List ℕ) × Data) (fs : List (List (List ℕ) × Data)) → files_below deep files attrs roots ≡ f ∷ fs
     → is_first name f.0 ≡ false
-first_apart deep name [] roots apart f fs e = cc
-first_apart deep name (file ∷ files) [] apart f fs e = cc
-first_apart deep name (file ∷ files) (root ∷ roots) apart f fs e =
+first_apart deep name [] attrs roots apart f fs e = cc
+first_apart deep name (file ∷ files) [] roots apart f fs e = cc
+first_apart deep name (file ∷ files) (attr ∷ attrs) [] apart f fs e = cc
+first_apart deep name (file ∷ files) (attr ∷ attrs) (root ∷ roots) apart f fs e =
     let here = apart file files refl in
     let same : drop deep file.0 ≡ f.0 = cc in
     rw (← same) here
 
-pub apart_after : (deep : ℕ) (name : List ℕ) (files : List (List (List ℕ) × ℕ)) (roots : List (Option (List ℕ)))
-    (count : ℕ)
+pub apart_after : (deep : ℕ) (name : List ℕ) (files : List (List (List ℕ) × ℕ)) (attrs : List Attr)
+    (roots : List (Option (List ℕ))) (count : ℕ)
     → ((d : List (List ℕ) × ℕ) → count < length files → has_name_at deep name (get_or files count d).0 ≡ false)
-    → (f : List (List ℕ) × Data) (fs : List (List (List ℕ) × Data)) → drop count (files_below deep files roots) ≡ f ∷ fs
+    → (f : List (List ℕ) × Data) (fs : List (List (List ℕ) × Data))
+    → drop count (files_below deep files attrs roots) ≡ f ∷ fs
     → is_first name f.0 ≡ false
-apart_after deep name files roots count ends f fs e =
-    first_apart deep name (drop count files) (drop count roots) at_count f fs
-    (sym (drop-files_below deep count files roots) ∙ e)
+apart_after deep name files attrs roots count ends f fs e =
+    first_apart deep name (drop count files) (drop count attrs) (drop count roots) at_count f fs
+    (sym (drop-files_below deep count files attrs roots) ∙ e)
   where
     first_of : count < length files → (file : List (List ℕ) × ℕ) (others : List (List (List ℕ) × ℕ))
         → drop count files ≡ file ∷ others → get_or files count file ≡ file
@@ -79,36 +101,42 @@ apart_after deep name files roots count ends f fs e =
 
 -- the first files, which alone have a name there, make the first pair
 pub group_made : (deep : ℕ) (name : List ℕ) → name ≢ []
-    → (files : List (List (List ℕ) × ℕ)) (roots : List (Option (List ℕ))) (count : ℕ) → 0 < count → 0 < length files
-    → length roots ≡ length files → All (λ f. has_name_at deep name f.0 ≡ true) (take count files)
+    → (files : List (List (List ℕ) × ℕ)) (attrs : List Attr) (roots : List (Option (List ℕ))) (count : ℕ)
+    → 0 < count → 0 < length files → length attrs ≡ length files → length roots ≡ length files
+    → All (λ f. has_name_at deep name f.0 ≡ true) (take count files)
     → ((d : List (List ℕ) × ℕ) → count < length files → has_name_at deep name (get_or files count d).0 ≡ false)
-    → (inside : Pairs) → inside ≡ pairs_of_files (files_below (deep + 1) (take count files) (take count roots))
-    → pairs_of_files (files_below deep files roots)
-    ≡ pair name (dictionary inside) (pairs_of_files (drop count (files_below deep files roots)))
-group_made deep name named files roots count some more one_each same ends inside made =
-    let group : AllByRecursion (λ f. is_first name f.0 ≡ true) (take count (files_below deep files roots)) =
+    → (inside : Pairs)
+    → inside ≡ pairs_of_files (files_below (deep + 1) (take count files) (take count attrs) (take count roots))
+    → pairs_of_files (files_below deep files attrs roots)
+    ≡ pair name (dictionary inside) (pairs_of_files (drop count (files_below deep files attrs roots)))
+group_made deep name named files attrs roots count some more letters_each one_each same ends inside made =
+    let group : AllByRecursion (λ f. is_first name f.0 ≡ true) (take count (files_below deep files attrs roots)) =
     rw take-files_below
-    (all_first deep name (take count files) (take count roots) (recursion_from_All _ (take count files) same)) in
-    let lower : map (below 1) (take count (files_below deep files roots))
-    ≡ files_below (deep + 1) (take count files) (take count roots) =
-    ap (map (below 1)) (take-files_below deep count files roots)
-    ∙ below-files_below deep (take count files) (take count roots) in
-    pair_of_group name named (files_below deep files roots) count some
-    (rw (length-files_below deep files roots one_each) more) group (apart_after deep name files roots count ends)
-    ∙ ap (λ ps. pair name (dictionary ps) (pairs_of_files (drop count (files_below deep files roots))))
+    (all_first deep name (take count files) (take count attrs) (take count roots)
+    (recursion_from_All _ (take count files) same)) in
+    let lower : map (below 1) (take count (files_below deep files attrs roots))
+    ≡ files_below (deep + 1) (take count files) (take count attrs) (take count roots) =
+    ap (map (below 1)) (take-files_below deep count files attrs roots)
+    ∙ below-files_below deep (take count files) (take count attrs) (take count roots) in
+    pair_of_group name named (files_below deep files attrs roots) count some
+    (rw (length-files_below deep files attrs roots letters_each one_each) more) group
+    (apart_after deep name files attrs roots count ends)
+    ∙ ap (λ ps. pair name (dictionary ps) (pairs_of_files (drop count (files_below deep files attrs roots))))
     (ap pairs_of_files lower ∙ sym made)
 
 -- the pairs of the files that are left, from what is made of the first of them
-pub next_made : (deep start count : ℕ) (files : List (List (List ℕ) × ℕ)) (roots : List (Option (List ℕ)))
-    (key : List ℕ) (value : Data)
-    → pairs_of_files (files_below deep (drop start files) (drop start roots))
-    ≡ pair key value (pairs_of_files (drop count (files_below deep (drop start files) (drop start roots))))
-    → pairs_of_files (drop start (files_below deep files roots))
-    ≡ pair key value (pairs_of_files (drop (start + count) (files_below deep files roots)))
-next_made deep start count files roots key value made =
-    ap pairs_of_files (drop-files_below deep start files roots) ∙ made
-    ∙ ap (λ fs. pair key value (pairs_of_files fs)) (ap (drop count) (sym (drop-files_below deep start files roots))
-    ∙ drop-drop count start (files_below deep files roots))
+pub next_made : (deep start count : ℕ) (files : List (List (List ℕ) × ℕ)) (attrs : List Attr)
+    (roots : List (Option (List ℕ))) (key : List ℕ) (value : Data)
+    → pairs_of_files (files_below deep (drop start files) (drop start attrs) (drop start roots))
+    ≡ pair key value
+    (pairs_of_files (drop count (files_below deep (drop start files) (drop start attrs) (drop start roots))))
+    → pairs_of_files (drop start (files_below deep files attrs roots))
+    ≡ pair key value (pairs_of_files (drop (start + count) (files_below deep files attrs roots)))
+next_made deep start count files attrs roots key value made =
+    ap pairs_of_files (drop-files_below deep start files attrs roots) ∙ made
+    ∙ ap (λ fs. pair key value (pairs_of_files fs))
+    (ap (drop count) (sym (drop-files_below deep start files attrs roots))
+    ∙ drop-drop count start (files_below deep files attrs roots))
 
 -- pairs, and more pairs after them
 abbrev pub followed_by : Pairs → Pairs → Pairs

@@ -1,9 +1,10 @@
 -- The file tree of files is a lawful tree, two dictionaries deeper than its longest path.
 use Rattle.tor_tree.proofs.Cited.{ℕ, zero, suc, ◌+◌, ◌<◌, ◌≤◌, ◌^◌, Bool, true, false, cond, List, [], ◌∷◌, length}
-use Rattle.tor_tree.proofs.Cited.{Option, None, Some, arith, rules, AllByRecursion, Data, integer, string, list}
+use Rattle.tor_tree.proofs.Cited.{Option, arith, AllByRecursion, Data, integer, string, list}
 use Rattle.tor_tree.proofs.Cited.{dictionary, Pairs, no_pairs, pair, HasSmallIntegers, IsLawfulWithin}
 use Rattle.tor_tree.proofs.Cited.{PairsHaveSmallIntegers, HasRisingKeys, depth, pairs_depth, name_eq, properties_for}
-use Rattle.tor_tree.proofs.Cited.{file_tree, pairs_of_files, put_first, put_inside, put_under, with_properties}
+use Rattle.tor_tree.proofs.Cited.{Attr, file_tree, pairs_of_files, put_first, put_inside, put_under, with_properties}
+use Rattle.tor_tree.proofs.LetteredProperties.{properties_depth, properties_fit}
 
 module _ (n : ℕ) (put : Pairs → Pairs)
     (deep : (room : ℕ) (pairs : Pairs) → suc n ≤ room → pairs_depth pairs ≤ room → pairs_depth (put pairs) ≤ room) where
@@ -61,37 +62,33 @@ put_small [] properties fits pairs small = (fits, small)
 put_small (name ∷ names) properties fits pairs small =
     small_under (put_first names properties) (put_small names properties fits) name pairs small
 
-properties_depth : (n : ℕ) (root : Option (List ℕ)) → depth (properties_for n root) ≤ 1
-properties_depth n None = omega arith
-properties_depth n (Some root) = omega arith
-
-properties_fit : (n : ℕ) (root : Option (List ℕ)) → n < 2 ^ 63 → HasSmallIntegers (properties_for n root)
-properties_fit n None small = search rules
-properties_fit n (Some root) small = search rules
-
-made_deep : (names : ℕ) (files : List (List (List ℕ) × ℕ)) (roots : List (Option (List ℕ)))
+made_deep : (names : ℕ) (files : List (List (List ℕ) × ℕ)) (attrs : List Attr) (roots : List (Option (List ℕ)))
     → AllByRecursion (λ file. length file.0 ≤ names) files
-    → pairs_depth (pairs_of_files (with_properties files roots)) ≤ suc names
-made_deep names [] roots few = omega arith
-made_deep names (file ∷ files) [] few = omega arith
-made_deep names (file ∷ files) (root ∷ roots) few =
-    put_deep file.0 (properties_for file.1 root) (properties_depth file.1 root) (suc names)
-    (pairs_of_files (with_properties files roots)) (omega (arith, few.0)) (made_deep names files roots few.1)
+    → pairs_depth (pairs_of_files (with_properties files attrs roots)) ≤ suc names
+made_deep names [] attrs roots few = omega arith
+made_deep names (file ∷ files) [] roots few = omega arith
+made_deep names (file ∷ files) (attr ∷ attrs) [] few = omega arith
+made_deep names (file ∷ files) (attr ∷ attrs) (root ∷ roots) few =
+    put_deep file.0 (properties_for attr file.1 root) (properties_depth attr file.1 root) (suc names)
+    (pairs_of_files (with_properties files attrs roots)) (omega (arith, few.0))
+    (made_deep names files attrs roots few.1)
 
-made_small : (files : List (List (List ℕ) × ℕ)) (roots : List (Option (List ℕ)))
+made_small : (files : List (List (List ℕ) × ℕ)) (attrs : List Attr) (roots : List (Option (List ℕ)))
     → AllByRecursion (λ file. file.1 < 2 ^ 63) files
-    → PairsHaveSmallIntegers (pairs_of_files (with_properties files roots))
-made_small [] roots small = tt
-made_small (file ∷ files) [] small = tt
-made_small (file ∷ files) (root ∷ roots) small =
-    put_small file.0 (properties_for file.1 root) (properties_fit file.1 root small.0)
-    (pairs_of_files (with_properties files roots)) (made_small files roots small.1)
+    → PairsHaveSmallIntegers (pairs_of_files (with_properties files attrs roots))
+made_small [] attrs roots small = tt
+made_small (file ∷ files) [] roots small = tt
+made_small (file ∷ files) (attr ∷ attrs) [] small = tt
+made_small (file ∷ files) (attr ∷ attrs) (root ∷ roots) small =
+    put_small file.0 (properties_for attr file.1 root) (properties_fit attr file.1 root small.0)
+    (pairs_of_files (with_properties files attrs roots)) (made_small files attrs roots small.1)
 
-pub lawful_tree : (names : ℕ) (files : List (List (List ℕ) × ℕ)) (roots : List (Option (List ℕ)))
-    → HasRisingKeys (file_tree files roots) → AllByRecursion (λ file. file.1 < 2 ^ 63) files
-    → AllByRecursion (λ file. length file.0 ≤ names) files → IsLawfulWithin (names + 2) (file_tree files roots)
-lawful_tree names files roots rising small few = record {
+pub lawful_tree : (names : ℕ) (files : List (List (List ℕ) × ℕ)) (attrs : List Attr) (roots : List (Option (List ℕ)))
+    → HasRisingKeys (file_tree files attrs roots) → AllByRecursion (λ file. file.1 < 2 ^ 63) files
+    → AllByRecursion (λ file. length file.0 ≤ names) files
+    → IsLawfulWithin (names + 2) (file_tree files attrs roots)
+lawful_tree names files attrs roots rising small few = record {
   keys = rising;
-  integers = made_small files roots small;
-  nesting = omega (arith, made_deep names files roots few);
+  integers = made_small files attrs roots small;
+  nesting = omega (arith, made_deep names files attrs roots few);
 }

@@ -5,6 +5,8 @@ pub mod Groups
 pub mod Inside
 pub mod LawfulTree
 pub mod Lengths
+pub mod LetteredLists
+pub mod LetteredProperties
 pub mod ListFaults
 pub mod MadeTree
 pub mod Mixing

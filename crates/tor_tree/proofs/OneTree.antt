@@ -3,10 +3,10 @@ use Rattle.tor_tree.proofs.Cited.{◌≡◌, ◌≢◌, ℕ, true, false, List, 
 use Rattle.tor_tree.proofs.Cited.{texts_ties, nat_list_cmp_total, is_eq, AllByRecursion, Data, integer, string, list}
 use Rattle.tor_tree.proofs.Cited.{dictionary, Pairs, no_pairs, pair, keys_of, AreRising, HasRisingKeys, entries_in}
 use Rattle.tor_tree.proofs.Cited.{entries_of, file_of, under, name_cmp, name_eq, AreTidy, IsTidy, IsTidyFile}
-use Rattle.tor_tree.proofs.Cited.{IsFileTreeOf, below, is_first, pairs_of_files}
+use Rattle.tor_tree.proofs.Cited.{Attr, IsFileTreeOf, ap₂, below, is_first, pairs_of_files}
 use Rattle.tor_tree.proofs.Groups.{name_own, pairs_of_group}
+use Rattle.tor_tree.proofs.LetteredProperties.{made_file, made_of}
 use Rattle.tor_tree.proofs.RisingTree.{AreRisingPairs, first_in}
-use Rattle.tor_tree.proofs.TreeOfFiles.{plain, plain_file}
 
 below_under : (key : List ℕ) (entries : List (List (List ℕ) × Data)) → map (below 1) (under key entries) ≡ entries
 below_under key [] = refl
@@ -91,13 +91,18 @@ mutual
 -- two tidy files that say the same are the same
 same_file : (one other : List (List ℕ) × Data) → IsTidyFile one.1 → IsTidyFile other.1 → file_of one ≡ file_of other
     → one ≡ other
-same_file (path, one) (other_path, other) (n, root, is, rooted) (m, other_root, other_is, other_rooted) same =
-    let plain_same : plain path n root ≡ plain other_path m other_root = sym (plain_file path n root rooted)
-    ∙ rw (is, other_is) at same ∙ plain_file other_path m other_root other_rooted in
-    let paths = ap (λ file. file.path) plain_same in
-    let lengths = ap (λ file. file.length) plain_same in
-    let roots = ap (λ file. file.root) plain_same in
-    rw (is, other_is, paths, lengths, roots) refl
+same_file (path, one) (other_path, other) (attr, n, root, is, rooted) (letters, m, other_root, other_is, other_rooted)
+    same =
+    let made_same : made_of path attr n root ≡ made_of other_path letters m other_root =
+    sym (made_file path attr n root rooted) ∙ rw (is, other_is) at same
+    ∙ made_file other_path letters m other_root other_rooted in
+    let paths = ap (λ file. file.path) made_same in
+    let lengths = ap (λ file. file.length) made_same in
+    let roots = ap (λ file. file.root) made_same in
+    let attrs : attr ≡ letters =
+    ap₂ (λ exec hidden. record { exec = exec; hidden = hidden }) (ap (λ file. file.exec) made_same)
+    (ap (λ file. file.hidden) made_same) in
+    rw (is, other_is, paths, lengths, roots, attrs) refl
 
 same_entries : (ones others : List (List (List ℕ) × Data)) → AreTidyFiles ones → AreTidyFiles others
     → map file_of ones ≡ map file_of others → ones ≡ others
@@ -116,9 +121,10 @@ as_pairs (string bytes) tidy rising = absurd tidy
 as_pairs (list items) tidy rising = absurd tidy
 as_pairs (dictionary pairs) tidy rising = (pairs, refl, remade pairs tidy rising)
 
-pub one_tree : (files : List (List (List ℕ) × ℕ)) (roots : List (Option (List ℕ))) (one other : Data)
-    → IsFileTreeOf files roots one → IsFileTreeOf files roots other → one ≡ other
-one_tree files roots one other h k =
+pub one_tree : (files : List (List (List ℕ) × ℕ)) (attrs : List Attr) (roots : List (Option (List ℕ)))
+    (one other : Data)
+    → IsFileTreeOf files attrs roots one → IsFileTreeOf files attrs roots other → one ≡ other
+one_tree files attrs roots one other h k =
     let entries = same_entries (entries_of one) (entries_of other) (tidy_of one h.tidy) (tidy_of other k.tidy)
     (h.described ∙ sym k.described) in
     let first = as_pairs one h.tidy h.keys in

@@ -4,7 +4,7 @@ use Rattle.tor_tree.proofs.Cited.{true, arith, IfSome, IsTotalOrder, All, AllZip
 use Rattle.tor_tree.proofs.Cited.{All-from_recursion, recursion_from_All, Data, HasRisingKeys, IsLawfulWithin}
 use Rattle.tor_tree.proofs.Cited.{IsFileList, IsInPathOrder, is_inside, lengths_fault, paths_fault, files_of_tree}
 use Rattle.tor_tree.proofs.Cited.{tree_fault, name_fault, HasNames, IsFilePath, path_cmp, AreIndices, AtMostOneTree}
-use Rattle.tor_tree.proofs.Cited.{HasItsRoot, IsFileTreeOf, file_tree, TreeFile, MAX_LENGTH}
+use Rattle.tor_tree.proofs.Cited.{Attr, HasItsRoot, IsFileTreeOf, file_tree, TreeFile, MAX_LENGTH}
 use Rattle.tor_tree.proofs.FilesBelow.{faultless_named}
 use Rattle.tor_tree.proofs.FileTrees.{made_file_tree}
 use Rattle.tor_tree.proofs.LawfulTree.{lawful_tree}
@@ -20,18 +20,19 @@ use Rattle.tor_tree.proofs.RisingPaths.{paths_rise}
 pub one_file_tree : AtMostOneTree
 one_file_tree = one_tree
 
-pub file_tree_of_list : (files : List (List (List ℕ) × ℕ)) (roots : List (Option (List ℕ))) → IsInPathOrder files
-    → All (λ file. HasNames file.0) files → AllZip HasItsRoot files roots
-    → IsFileTreeOf files roots (file_tree files roots)
-file_tree_of_list files roots in_order named with_roots =
-    made_file_tree files roots with_roots in_order (recursion_from_All _ files named)
+pub file_tree_of_list : (files : List (List (List ℕ) × ℕ)) (attrs : List Attr) (roots : List (Option (List ℕ)))
+    → length attrs ≡ length files → IsInPathOrder files → All (λ file. HasNames file.0) files
+    → AllZip HasItsRoot files roots → IsFileTreeOf files attrs roots (file_tree files attrs roots)
+file_tree_of_list files attrs roots one_each in_order named with_roots =
+    made_file_tree files attrs roots one_each with_roots in_order (recursion_from_All _ files named)
 
-pub file_tree_is_lawful : (names : ℕ) (files : List (List (List ℕ) × ℕ)) (roots : List (Option (List ℕ)))
-    → IsInPathOrder files → All (λ file. HasNames file.0) files → AllZip HasItsRoot files roots
-    → All (λ file. file.1 < 2 ^ 63) files → All (λ file. length file.0 ≤ names) files
-    → IsLawfulWithin (names + 2) (file_tree files roots)
-file_tree_is_lawful names files roots in_order named with_roots small few =
-    lawful_tree names files roots (file_tree_of_list files roots in_order named with_roots).keys
+pub file_tree_is_lawful : (names : ℕ) (files : List (List (List ℕ) × ℕ)) (attrs : List Attr)
+    (roots : List (Option (List ℕ)))
+    → length attrs ≡ length files → IsInPathOrder files → All (λ file. HasNames file.0) files
+    → AllZip HasItsRoot files roots → All (λ file. file.1 < 2 ^ 63) files → All (λ file. length file.0 ≤ names) files
+    → IsLawfulWithin (names + 2) (file_tree files attrs roots)
+file_tree_is_lawful names files attrs roots one_each in_order named with_roots small few =
+    lawful_tree names files attrs roots (file_tree_of_list files attrs roots one_each in_order named with_roots).keys
     (recursion_from_All _ files small) (recursion_from_All _ files few)
 
 pub names_not_empty : (name : List ℕ) → name_fault name ≡ None → name ≢ []
@@ -55,20 +56,22 @@ pub lengths_in_any_order : (lengths others : List ℕ) → IsPermutation lengths
     → lengths_fault lengths ≡ lengths_fault others
 lengths_in_any_order = lengths_fault-permutation
 
-pub tree_of_list_is_lawful : (names : ℕ) (files : List (List (List ℕ) × ℕ)) (roots : List (Option (List ℕ)))
-    → IsFileList files → AllZip HasItsRoot files roots → All (λ file. length file.0 ≤ names) files
-    → IsLawfulWithin (names + 2) (file_tree files roots)
-tree_of_list_is_lawful names files roots lawful with_roots few =
-    file_tree_is_lawful names files roots lawful.in_order (lists_have_names files lawful) with_roots
+pub tree_of_list_is_lawful : (names : ℕ) (files : List (List (List ℕ) × ℕ)) (attrs : List Attr)
+    (roots : List (Option (List ℕ)))
+    → length attrs ≡ length files → IsFileList files → AllZip HasItsRoot files roots
+    → All (λ file. length file.0 ≤ names) files → IsLawfulWithin (names + 2) (file_tree files attrs roots)
+tree_of_list_is_lawful names files attrs roots one_each lawful with_roots few =
+    file_tree_is_lawful names files attrs roots one_each lawful.in_order (lists_have_names files lawful) with_roots
     (λ k d lt. omega (arith, files_are_small files lawful k d lt)) few
 
-pub tree_of_list_is_readable : (files : List (List (List ℕ) × ℕ)) (roots : List (Option (List ℕ)))
-    → IsFileList files → AllZip HasItsRoot files roots → All (λ root. IfSome root (λ bytes. length bytes ≡ 32)) roots
-    → tree_fault (file_tree files roots) ≡ None
-tree_of_list_is_readable files roots lawful with_roots hashed =
-    readable files roots (file_tree files roots)
-    (file_tree_of_list files roots lawful.in_order (lists_have_names files lawful) with_roots) lawful with_roots
-    (recursion_from_All _ roots hashed)
+pub tree_of_list_is_readable : (files : List (List (List ℕ) × ℕ)) (attrs : List Attr) (roots : List (Option (List ℕ)))
+    → length attrs ≡ length files → IsFileList files → AllZip HasItsRoot files roots
+    → All (λ root. IfSome root (λ bytes. length bytes ≡ 32)) roots
+    → tree_fault (file_tree files attrs roots) ≡ None
+tree_of_list_is_readable files attrs roots one_each lawful with_roots hashed =
+    readable files attrs roots (file_tree files attrs roots)
+    (file_tree_of_list files attrs roots one_each lawful.in_order (lists_have_names files lawful) with_roots) one_each
+    lawful with_roots (recursion_from_All _ roots hashed)
 
 pub paths_in_order : IsTotalOrder path_cmp
 paths_in_order = path_order

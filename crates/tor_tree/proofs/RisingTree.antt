@@ -1,12 +1,13 @@
 -- The tree of files whose paths rise has rising keys.
-use Rattle.tor_tree.proofs.Cited.{◌≡◌, ◌≢◌, ℕ, Bool, true, false, cond, List, [], ◌∷◌, ◌++◌, map, Option, None, Some}
+use Rattle.tor_tree.proofs.Cited.{◌≡◌, ◌≢◌, ℕ, Bool, true, false, cond, List, [], ◌∷◌, ◌++◌, map}
 use Rattle.tor_tree.proofs.Cited.{Ordering, Less, Equal, Greater, refl, sym, ap, ◌∙◌, subst, ordering_then, is_eq}
 use Rattle.tor_tree.proofs.Cited.{texts_ties, nat_list_cmp_total, both_ways, tied_itself, AllByRecursion}
 use Rattle.tor_tree.proofs.Cited.{IsStrictlySortedBy, Data, integer, string, list, dictionary, Pairs, no_pairs, pair}
-use Rattle.tor_tree.proofs.Cited.{keys_of, AreRising, HasRisingKeys, PairsHaveRisingKeys, entries_in, entries_of, under}
-use Rattle.tor_tree.proofs.Cited.{name_cmp, name_eq, path_cmp, properties_for, AreTidy, IsTidy, IsTidyFile}
+use Rattle.tor_tree.proofs.Cited.{keys_of, AreRising, PairsHaveRisingKeys, entries_in, entries_of, under}
+use Rattle.tor_tree.proofs.Cited.{name_cmp, name_eq, path_cmp, AreTidy, IsTidy, IsTidyFile}
 use Rattle.tor_tree.proofs.Cited.{pairs_of_files, put_first, put_under, put_inside}
 use Rattle.tor_tree.proofs.Groups.{name_is, name_own}
+use Rattle.tor_tree.proofs.LetteredProperties.{rising_properties}
 use Rattle.tor_tree.proofs.MadeTree.{AreReady, made_tidy, made_entries}
 
 abbrev pub AreRisingPairs : Pairs → Type 0
@@ -95,18 +96,14 @@ module _ (names : List (List ℕ)) (put : Pairs → Pairs) (rises : (pairs : Pai
       by_key true e = rising_joined name key value pairs named (name_is key name e) tidy rising before
       by_key false e = rising_new name key value pairs rising (less_key name names key value pairs tidy before e)
 
-rising_properties : (n : ℕ) (root : Option (List ℕ)) → HasRisingKeys (properties_for n root)
-rising_properties n None = (tt, (tt, tt))
-rising_properties n (Some root) = ((refl, tt), (tt, (tt, tt)))
-
 put_first-rising : (path : List (List ℕ)) (properties : Data) → AllByRecursion (λ name. name ≢ []) path
     → IsTidyFile properties → (pairs : Pairs) → AreTidy pairs → AreRisingPairs pairs → IsBefore path (entries_in pairs)
     → AreRisingPairs (put_first path properties pairs)
 put_first-rising [] properties named tidy_file no_pairs tidy rising before =
-    (tt, (rw tidy_file.2 (rising_properties tidy_file.0 tidy_file.1), tt))
+    (tt, (rw tidy_file.3 (rising_properties tidy_file.0 tidy_file.1 tidy_file.2), tt))
 put_first-rising [] properties named tidy_file (pair [] value pairs) tidy rising before = cc
 put_first-rising [] properties named tidy_file (pair (c ∷ cs) value pairs) tidy rising before =
-    ((refl, rising.0), (rw tidy_file.2 (rising_properties tidy_file.0 tidy_file.1), rising.1))
+    ((refl, rising.0), (rw tidy_file.3 (rising_properties tidy_file.0 tidy_file.1 tidy_file.2), rising.1))
 put_first-rising (name ∷ names) properties named tidy_file pairs tidy rising before =
     rising_under names (put_first names properties)
     (put_first-rising names properties named.1 tidy_file) name pairs named.0 tidy rising before

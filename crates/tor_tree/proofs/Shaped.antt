@@ -1,9 +1,10 @@
 -- A tidy tree whose paths have names has the shape of a file tree.
-use Rattle.tor_tree.proofs.Cited.{◌≡◌, ℕ, true, false, List, [], ◌∷◌, ◌++◌, map, Option, None, Some, refl, arith}
-use Rattle.tor_tree.proofs.Cited.{AllByRecursion, list_any, le-ltb, Data, integer, string, list, dictionary, Pairs}
+use Rattle.tor_tree.proofs.Cited.{◌≡◌, ℕ, true, false, List, [], ◌∷◌, ◌++◌, map, None, refl}
+use Rattle.tor_tree.proofs.Cited.{AllByRecursion, list_any, Data, integer, string, list, dictionary, Pairs}
 use Rattle.tor_tree.proofs.Cited.{no_pairs, pair, are_entries, entries_in, entries_of, is_folder, under, name_fault}
-use Rattle.tor_tree.proofs.Cited.{are_properties, has_letter, has_negative_length, properties_for, letter_l, AreTidy}
+use Rattle.tor_tree.proofs.Cited.{has_letter, has_negative_length, letter_l, AreTidy}
 use Rattle.tor_tree.proofs.Cited.{IsTidy}
+use Rattle.tor_tree.proofs.LetteredProperties.{no_link_letter, shaped_properties, whole_length}
 use Rattle.tor_tree.proofs.OneTree.{AreTidyFiles}
 use Rattle.tor_tree.proofs.RisingTree.{first_in}
 
@@ -24,10 +25,6 @@ first_name : (key : List ℕ) (inside rest : List (List (List ℕ) × Data)) (fi
     → inside ≡ first ∷ others → HaveNames (under key inside ++ rest) → name_fault key ≡ None
 first_name key inside rest first others is named = let shown = rw is at named in shown.0.0
 
-plain_properties : (n : ℕ) (root : Option (List ℕ)) → are_properties (properties_for n root) ≡ true
-plain_properties n None = refl
-plain_properties n (Some root) = refl
-
 mutual
   pub shaped_folder : (value : Data) → IsTidy value → HaveNames (entries_of value) → is_folder value ≡ true
   shaped_folder (integer n) tidy named = absurd tidy
@@ -37,8 +34,8 @@ mutual
 
   shaped_entries : (pairs : Pairs) → AreTidy pairs → HaveNames (entries_in pairs) → are_entries pairs ≡ true
   shaped_entries no_pairs tidy named = refl
-  shaped_entries (pair [] properties pairs) ((n, root, is, rooted), tidy) named =
-      rw (is, plain_properties n root, shaped_entries pairs tidy named.1) refl
+  shaped_entries (pair [] properties pairs) ((attr, n, root, is, rooted), tidy) named =
+      rw (is, shaped_properties attr n root, shaped_entries pairs tidy named.1) refl
   shaped_entries (pair (c ∷ cs) folder pairs) (some, tidy, rest_tidy) named =
       let first = first_in folder tidy some in
       rw (
@@ -49,22 +46,14 @@ mutual
       )
       refl
 
-plain_length : (n : ℕ) (root : Option (List ℕ)) → has_negative_length (properties_for n root) ≡ false
-plain_length n None = le-ltb n 0 (omega arith)
-plain_length n (Some root) = le-ltb n 0 (omega arith)
-
-plain_letters : (n : ℕ) (root : Option (List ℕ)) → has_letter letter_l (properties_for n root) ≡ false
-plain_letters n None = refl
-plain_letters n (Some root) = refl
-
 pub no_negative_length : (entries : List (List (List ℕ) × Data)) → AreTidyFiles entries
     → list_any has_negative_length (map (λ entry. entry.1) entries) ≡ false
 no_negative_length [] tidy = refl
-no_negative_length ((path, properties) ∷ entries) ((n, root, is, rooted), tidy) =
-    rw (is, plain_length n root, no_negative_length entries tidy) refl
+no_negative_length ((path, properties) ∷ entries) ((attr, n, root, is, rooted), tidy) =
+    rw (is, whole_length attr n root, no_negative_length entries tidy) refl
 
 pub no_link : (entries : List (List (List ℕ) × Data)) → AreTidyFiles entries
     → list_any (has_letter letter_l) (map (λ entry. entry.1) entries) ≡ false
 no_link [] tidy = refl
-no_link ((path, properties) ∷ entries) ((n, root, is, rooted), tidy) =
-    rw (is, plain_letters n root, no_link entries tidy) refl
+no_link ((path, properties) ∷ entries) ((attr, n, root, is, rooted), tidy) =
+    rw (is, no_link_letter attr n root, no_link entries tidy) refl

@@ -2,11 +2,13 @@
 use Rattle.std.specs.Prelude.{◌≡◌, ℕ, ◌==◌, Bool, ◌&&◌, ◌||◌, nat_lt, All, List, length, map, count_by, sum_by, Option}
 use Rattle.std.specs.Prelude.{Some, None, if◌then◌else◌}
 use Rattle.std.specs.Int.{next_multiple_of}
-use Rattle.std.specs.List.{list_any, starts_with}
+use Rattle.std.specs.List.{list_any, starts_with, zip}
 use Rattle.std.specs.List.Sorted.{IsStrictlySortedBy}
 use Rattle.std.specs.Option.{option_or}
+use Rattle.tor_tree.specs.declared.attr.Attr.{Attr}
 use Rattle.tor_tree.specs.declared.lists.ListError.{ListError}
 use Rattle.tor_tree.specs.declared.lists.ListError.TheVariants.{NoFiles, Duplicate, FileAndFolder, TooLarge}
+use Rattle.tor_tree.specs.Letters.{no_letters}
 use Rattle.tor_tree.specs.Path.{IsFilePath, name_eq, path_eq, path_cmp}
 use Rattle.tor_merkle.specs.declared.TheConstants.{MAX_LENGTH}
 use Rattle.tor_tree.specs.declared.lists.TheConstants.{MAX_TOTAL, ROUNDING}
@@ -60,3 +62,21 @@ pub record IsFileList (files : List (List (List ℕ) × ℕ)) : Type 0 where
   pub faultless : list_fault files ≡ None
   pub in_order : IsInPathOrder files
   pub named : All (λ file. IsFilePath file.0) files
+
+-- files, and the letters of each
+pub record LetteredFiles : Type 0 where
+  pub files : List (List (List ℕ) × ℕ)
+  pub attrs : List Attr
+
+-- each file with its letters
+abbrev pub files_with_attrs : LetteredFiles → List ((List (List ℕ) × ℕ) × Attr)
+files_with_attrs list = zip list.files list.attrs
+
+-- files without letters
+abbrev pub without_letters : List (List (List ℕ) × ℕ) → LetteredFiles
+without_letters files = record { files = files; attrs = map (λ file. no_letters) files }
+
+-- what every list of files with letters keeps
+pub record IsLetteredList (list : LetteredFiles) : Type 0 where
+  pub lawful : IsFileList list.files
+  pub one_each : length list.attrs ≡ length list.files

@@ -1,9 +1,11 @@
 -- The properties of a file in a file tree (BEP 52, "file tree"), and its attributes (BEP 47, "attr").
 use Rattle.std.specs.Prelude.{ℕ, ℤ, pos, unsigned_abs, int_lt, ◌==◌, Bool, false, ◌&&◌, ◌||◌, List, [], length, Option}
 use Rattle.std.specs.Prelude.{None, Some, is_some, is_none, unwrap_or, if◌then◌else◌, codes}
-use Rattle.tor_bencode.specs.Data.{Data, integer, string, list, dictionary, no_pairs, pair}
+use Rattle.tor_bencode.specs.Data.{Data, integer, string, list, dictionary, Pairs, no_pairs, pair}
 use Rattle.tor_bencode.specs.Find.{value_of}
+use Rattle.tor_tree.specs.Letters.{letters}
 use Rattle.tor_tree.specs.Name.{has_byte}
+use Rattle.tor_tree.specs.declared.attr.Attr.{Attr}
 
 abbrev pub as_integer : Option Data → Option ℤ
 as_integer None = None
@@ -64,8 +66,13 @@ letter_h = 104
 abbrev pub has_letter : ℕ → Data → Bool
 has_letter letter file = has_byte letter (unwrap_or (as_string (value_of (codes "attr") file)) [])
 
--- the properties that say no more than a length, and a pieces root if there is one
-abbrev pub properties_for : ℕ → Option (List ℕ) → Data
-properties_for n None = dictionary (pair (codes "length") (integer (pos n)) no_pairs)
-properties_for n (Some root) =
-    dictionary (pair (codes "length") (integer (pos n)) (pair (codes "pieces root") (string root) no_pairs))
+-- one more pair where there is a byte string
+abbrev pub with_string : List ℕ → Option (List ℕ) → Pairs → Pairs
+with_string key None pairs = pairs
+with_string key (Some bytes) pairs = pair key (string bytes) pairs
+
+-- the properties that say no more than a length, the letters if any is set, and a pieces root if there is one
+abbrev pub properties_for : Attr → ℕ → Option (List ℕ) → Data
+properties_for attr n root =
+    dictionary (with_string (codes "attr") (letters attr)
+    (pair (codes "length") (integer (pos n)) (with_string (codes "pieces root") root no_pairs)))

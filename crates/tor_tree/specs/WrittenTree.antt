@@ -5,6 +5,7 @@ use Rattle.std.specs.List.{zip}
 use Rattle.tor_bencode.specs.Data.{Data, integer, string, list, dictionary, Pairs, no_pairs, pair}
 use Rattle.tor_tree.specs.Path.{name_eq}
 use Rattle.tor_tree.specs.Properties.{properties_for}
+use Rattle.tor_tree.specs.declared.attr.Attr.{Attr}
 
 -- a folder's dictionary, with what `put` adds to its pairs
 abbrev pub put_inside : (Pairs → Pairs) → Data → Data
@@ -32,10 +33,12 @@ abbrev pub pairs_of_files : List (List (List ℕ) × Data) → Pairs
 pairs_of_files [] = no_pairs
 pairs_of_files (file ∷ files) = put_first file.0 file.1 (pairs_of_files files)
 
--- files with their properties, of their lengths and pieces roots
-abbrev pub with_properties : List (List (List ℕ) × ℕ) → List (Option (List ℕ)) → List (List (List ℕ) × Data)
-with_properties files roots = map (λ f. (f.0.0, properties_for f.0.1 f.1)) (zip files roots)
+-- files with their properties, of their letters, lengths and pieces roots
+abbrev pub with_properties : List (List (List ℕ) × ℕ) → List Attr → List (Option (List ℕ))
+    → List (List (List ℕ) × Data)
+with_properties files attrs roots =
+    map (λ f. (f.0.0, properties_for f.1.0 f.0.1 f.1.1)) (zip files (zip attrs roots))
 
--- the file tree of files with their lengths, in the order of their paths, and of their pieces roots
-abbrev pub file_tree : List (List (List ℕ) × ℕ) → List (Option (List ℕ)) → Data
-file_tree files roots = dictionary (pairs_of_files (with_properties files roots))
+-- the file tree of files with their lengths, in the order of their paths, and of their letters and pieces roots
+abbrev pub file_tree : List (List (List ℕ) × ℕ) → List Attr → List (Option (List ℕ)) → Data
+file_tree files attrs roots = dictionary (pairs_of_files (with_properties files attrs roots))

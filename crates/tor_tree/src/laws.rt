@@ -15,41 +15,44 @@ ghost use Rattle.tor_tree.specs.PathList.{AreIndices};
 ghost use Rattle.tor_tree.specs.TidyTree.{AtMostOneTree, HasItsRoot, IsFileTreeOf};
 ghost use Rattle.tor_tree.specs.WrittenTree.{file_tree};
 ghost use Rattle.tor_merkle.specs.declared.TheConstants.{MAX_LENGTH};
+ghost use Rattle.tor_tree.specs.declared.attr.Attr.{Attr};
 ghost use Rattle.tor_tree.specs.declared.lists.TheConstants.{MAX_TOTAL, ROUNDING};
 ghost use Rattle.tor_tree.specs.declared.paths.TheConstants.{MAX_NAMES};
 
-/// A list of files with their roots has at most one tidy file tree.
+/// A list of files with their letters and roots has at most one tidy file tree.
 pub fn one_file_tree()
     ensures { AtMostOneTree }
 {}
 
-/// That tree is `file_tree`, of files in the order of their paths, each of which has a root just where it is not empty.
+/// That tree is `file_tree`, of files in the order of their paths, each of which has letters, or none, and a root just
+/// where it is not empty.
 pub fn file_tree_of_list()
-    ensures { (files : List (List (List ℕ) × ℕ)) (roots : List (Option (List ℕ))) → IsInPathOrder files →
-        All (λ file. HasNames file.0) files → AllZip HasItsRoot files roots →
-        IsFileTreeOf files roots (file_tree files roots) }
+    ensures { (files : List (List (List ℕ) × ℕ)) (attrs : List Attr) (roots : List (Option (List ℕ))) →
+        length attrs ≡ length files → IsInPathOrder files → All (λ file. HasNames file.0) files →
+        AllZip HasItsRoot files roots → IsFileTreeOf files attrs roots (file_tree files attrs roots) }
 {}
 
 /// It is a lawful tree, two dictionaries deeper than the most names of a path.
 pub fn file_tree_is_lawful()
-    ensures { (names : ℕ) (files : List (List (List ℕ) × ℕ)) (roots : List (Option (List ℕ))) → IsInPathOrder files →
-        All (λ file. HasNames file.0) files → AllZip HasItsRoot files roots →
-        All (λ file. file.1 < 2 ^ 63) files → All (λ file. length file.0 ≤ names) files →
-        IsLawfulWithin (names + 2) (file_tree files roots) }
+    ensures { (names : ℕ) (files : List (List (List ℕ) × ℕ)) (attrs : List Attr) (roots : List (Option (List ℕ))) →
+        length attrs ≡ length files → IsInPathOrder files → All (λ file. HasNames file.0) files →
+        AllZip HasItsRoot files roots → All (λ file. file.1 < 2 ^ 63) files →
+        All (λ file. length file.0 ≤ names) files → IsLawfulWithin (names + 2) (file_tree files attrs roots) }
 {}
 
 /// The same of a list of files, whose lengths are small.
 pub fn tree_of_list_is_lawful()
-    ensures { (names : ℕ) (files : List (List (List ℕ) × ℕ)) (roots : List (Option (List ℕ))) → IsFileList files →
-        AllZip HasItsRoot files roots → All (λ file. length file.0 ≤ names) files →
-        IsLawfulWithin (names + 2) (file_tree files roots) }
+    ensures { (names : ℕ) (files : List (List (List ℕ) × ℕ)) (attrs : List Attr) (roots : List (Option (List ℕ))) →
+        length attrs ≡ length files → IsFileList files → AllZip HasItsRoot files roots →
+        All (λ file. length file.0 ≤ names) files → IsLawfulWithin (names + 2) (file_tree files attrs roots) }
 {}
 
 /// And it is a file tree without fault, where the roots have 32 bytes.
 pub fn tree_of_list_is_readable()
-    ensures { (files : List (List (List ℕ) × ℕ)) (roots : List (Option (List ℕ))) → IsFileList files →
-        AllZip HasItsRoot files roots → All (λ root. IfSome root (λ bytes. length bytes ≡ 32)) roots →
-        tree_fault (file_tree files roots) ≡ None }
+    ensures { (files : List (List (List ℕ) × ℕ)) (attrs : List Attr) (roots : List (Option (List ℕ))) →
+        length attrs ≡ length files → IsFileList files → AllZip HasItsRoot files roots →
+        All (λ root. IfSome root (λ bytes. length bytes ≡ 32)) roots →
+        tree_fault (file_tree files attrs roots) ≡ None }
 {}
 
 /// A name without fault is not empty, and so no name of a file's path is, or of a list's files.

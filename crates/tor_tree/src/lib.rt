@@ -12,22 +12,25 @@
 //!
 //! - [`Name`] (`names.rt`): the name of a file or a folder.
 //! - [`FilePath`] (`paths.rt`): the names that lead to a file, in the order of paths.
-//! - [`FileList`] (`lists.rt`): files in order, each once.
+//! - [`FileList`] (`lists.rt`; `lettered_lists.rt` takes letters): files in order, each once, with their letters.
+//! - [`Attr`] (`attr.rt`): the letters of a file that a torrent is made with.
 //! - [`PathList`] (`path_lists.rt`): paths in order, each with its index among those
 //!   that were handed in, where lengths are still to be asked.
 //! - [`from_item`] (`read_tree.rt`): the files that a tree describes, each a [`TreeFile`] (`tree_file.rt`); they are in
 //!   order.
 //! - [`has_attr`], [`letters_of`] (`properties.rt`): whether a file has `attr`, and its letters.
-//! - [`to_item`] (`write_tree.rt`): the tidy tree of a list; there is one at most.
+//! - [`to_item`] (`write_tree.rt`): the tidy tree of a list, its letters among it; there is one at most.
 //! - [`Kind`] (`kinds.rt`): which sides a torrent has.
 //! - [`laws`] (`laws.rt`): laws over the definitions of `specs/`.
 //!
 //! `path_faults.rt` judges sorted paths. `entries.rt`, `properties.rt` and `mixed.rt` read the parts of a tree.
 #![tactic(auto)]
 
+mod attr;
 mod entries;
 mod kinds;
 pub mod laws;
+mod lettered_lists;
 mod lists;
 mod mixed;
 mod names;
@@ -39,6 +42,7 @@ mod read_tree;
 mod tree_file;
 mod write_tree;
 
+pub use attr::Attr;
 pub use kinds::Kind;
 pub use lists::{FileList, ListError, MAX_TOTAL, ROUNDING};
 pub use names::{Name, NameError, copy_names, each_is_name};

@@ -1,11 +1,13 @@
-//! Lists of files: each path once, in order, with the file's length.
-ghost use Rattle.std.specs.Prelude.{◌≡◌, ◌⊎◌, MatchOption, ◌<◌, ◌≤◌, ◌+◌, ◌^◌};
+//! Lists of files: each path once, in order, with the file's length and letters.
+ghost use Rattle.std.specs.Prelude.{◌≡◌, ◌⊎◌, IfOk, MatchOption, ◌<◌, ◌≤◌, ◌+◌, ◌^◌, map};
 ghost use Rattle.std.specs.Int.{next_multiple_of};
 ghost use Rattle.tor_tree.specs.FileList.{lengths_of, lengths_too_large};
+ghost use Rattle.tor_tree.specs.Letters.{no_letters};
 ghost use Rattle.tor_tree.specs.declared.lists.ListError.TheVariants.{Memory};
 ghost use Rattle.tor_merkle.specs.declared.TheConstants.{MAX_LENGTH};
 ghost use Rattle.tor_tree.specs.declared.lists.TheConstants.{MAX_TOTAL, ROUNDING};
 
+use crate::attr::Attr;
 use crate::path_faults::paths_fault;
 use crate::paths::{FilePath, each_is_path};
 use std::alloc::{AllocError, AllocFailed, Global};
@@ -53,35 +55,38 @@ impl<T: Drop> From<AllocFailed<T>> for ListError {
     }
 }
 
-/// Files in the order of their paths. Contracts see the list of the pairs of path and length.
+/// Files in the order of their paths, each with its letters. Contracts see the list of the pairs of path and length,
+/// and that of the letters.
 #[derive(Debug, Drop)]
 pub struct FileList {
     files: Vec<(FilePath, u64)>,
+    attrs: Vec<Attr>,
 }
 
 impl Model for FileList {
-    ghost use Rattle.std.specs.Prelude.{ℕ, List};
+    ghost use Rattle.tor_tree.specs.FileList.{IsLetteredList, LetteredFiles};
 
-    ghost Value = { List (List (List ℕ) × ℕ) };
+    ghost Value = { LetteredFiles };
 
-    ghost use Rattle.tor_tree.specs.FileList.{IsFileList};
+    ghost view = { λ list. record { files = list.files.items; attrs = list.attrs.items } };
 
-    ghost view = { λ list. list.files.items };
-
-    ghost invariant = { λ list. IsFileList list.files.items };
+    ghost invariant = { λ list. IsLetteredList (record { files = list.files.items; attrs = list.attrs.items }) };
 }
 
 impl FileList {
-    ghost use Rattle.std.specs.Prelude.{◌≡◌, ◌⊎◌, Some, None, Err, [], IfOk, IfErr, OnOk};
+    ghost use Rattle.std.specs.Prelude.{◌≡◌, ◌⊎◌, ◌<◌, Some, None, Err, [], IfOk, IfErr, OnOk, length, map};
+    ghost use Rattle.std.specs.Prelude.{slice_index_or};
     ghost use Rattle.std.specs.List.Sorted.{IsPermutation};
     ghost use Rattle.tor_tree.specs.FileList.{list_fault, lengths_fault, lengths_of, paths_fault, paths_of, IsFileList};
-    ghost use Rattle.tor_tree.specs.FileList.{IsInPathOrder};
+    ghost use Rattle.tor_tree.specs.FileList.{IsInPathOrder, without_letters};
+    ghost use Rattle.tor_tree.specs.Letters.{no_letters};
     ghost use Rattle.tor_tree.specs.declared.lists.ListError.TheVariants.{Memory, NoFiles};
 
-    /// The same files in the order of their paths.
+    /// The same files in the order of their paths, without letters.
     pub fn build(alloc: Global, mut files: Vec<(FilePath, u64)>) -> Result<FileList, ListError>
-        ensures same_files { IfOk result (λ list. IsPermutation files.items list) }
-        ensures in_order { IfOk result IsInPathOrder }
+        ensures same_files { IfOk result (λ list. IsPermutation files.items list.files) }
+        ensures no_letters { IfOk result (λ list. list.attrs ≡ map (λ file. no_letters) list.files) }
+        ensures in_order { IfOk result (λ list. IsInPathOrder list.files) }
         ensures accepted { OnOk result (list_fault files.items ≡ None) }
         ensures refused { IfErr result (λ fault. (list_fault files.items ≡ Some fault) ⊎ (fault ≡ Memory)) }
         ensures no_files { (files.items ≡ []) → result ≡ Err NoFiles }
@@ -93,14 +98,34 @@ impl FileList {
         if let Some(fault) = paths_fault(&files) {
             return Err(fault);
         }
-        FileList::of_sorted(files)
+        FileList::without_letters(alloc, files)
     }
 
-    /// The list of files whose paths are in order and have no fault.
-    pub(crate) fn of_sorted(files: Vec<(FilePath, u64)>) -> Result<FileList, ListError>
+    /// The list of files whose paths are in order and have no fault, without letters.
+    pub(crate) fn without_letters(
+        alloc: Global,
+        files: Vec<(FilePath, u64)>,
+    ) -> Result<FileList, ListError>
         requires in_order { IsInPathOrder files.items }
         requires judged { paths_fault (paths_of files.items) ≡ None }
-        ensures same { IfOk result (λ list. list ≡ files.items) }
+        ensures same { IfOk result (λ list. list ≡ without_letters files.items) }
+        ensures accepted { OnOk result (lengths_fault (lengths_of files.items) ≡ None) }
+        ensures refused { IfErr result (λ fault.
+            (lengths_fault (lengths_of files.items) ≡ Some fault) ⊎ (fault ≡ Memory)) }
+    {
+        let attrs = none_each(alloc, &files)?;
+        FileList::of_sorted(files, attrs)
+    }
+
+    /// The list of files whose paths are in order and have no fault, with these letters.
+    pub(crate) fn of_sorted(
+        files: Vec<(FilePath, u64)>,
+        attrs: Vec<Attr>,
+    ) -> Result<FileList, ListError>
+        requires in_order { IsInPathOrder files.items }
+        requires judged { paths_fault (paths_of files.items) ≡ None }
+        requires one_each { length attrs.items ≡ length files.items }
+        ensures same { IfOk result (λ list. list ≡ record { files = files.items; attrs = attrs.items }) }
         ensures accepted { OnOk result (lengths_fault (lengths_of files.items) ≡ None) }
         ensures refused { IfErr result (λ fault. lengths_fault (lengths_of files.items) ≡ Some fault) }
     {
@@ -108,16 +133,54 @@ impl FileList {
             return Err(ListError::TooLarge);
         }
         each_is_path(&files);
-        Ok(FileList { files })
+        Ok(FileList { files, attrs })
+    }
+
+    /// The same files with these letters.
+    pub fn with_attrs(self, attrs: Vec<Attr>) -> FileList
+        requires one_each { length attrs.items ≡ length self.files }
+        ensures { result ≡ record { files = self.files; attrs = attrs.items } }
+    {
+        FileList {
+            files: self.files,
+            attrs,
+        }
     }
 
     /// At least one pair of a path and a length, the paths strictly rising.
     pub fn files(&self) -> &[(FilePath, u64)]
-        ensures value { result.now ≡ self.now }
-        ensures lawful { IsFileList self.now }
+        ensures value { result.now ≡ self.now.files }
+        ensures lawful { IsFileList self.now.files }
     {
         self.files.as_slice()
     }
+
+    /// The letters of each file.
+    pub fn attrs(&self) -> &[Attr]
+        ensures value { result.now ≡ self.now.attrs }
+        ensures one_each { length self.now.attrs ≡ length self.now.files }
+    {
+        self.attrs.as_slice()
+    }
+
+    /// The letters of a file.
+    pub fn attr(&self, i: usize) -> Attr
+        requires { i < length self.now.files }
+        ensures { result ≡ slice_index_or self.now.attrs i no_letters }
+    {
+        self.attrs[i]
+    }
+}
+
+/// No letters for each file.
+fn none_each(alloc: Global, files: &[(FilePath, u64)]) -> Result<Vec<Attr>, AllocError>
+    ensures { IfOk result (λ attrs. attrs.items ≡ map (λ file. no_letters) files.now) }
+{
+    let mut attrs = Vec::with_capacity(alloc, files.len())?;
+    for _file in files {
+        attrs.push(Attr::NONE)?;
+    }
+    Ok(attrs)
 }
 
 /// Whether a file is too long, or all of them together are.

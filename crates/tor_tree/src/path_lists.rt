@@ -31,7 +31,7 @@ impl Model for PathList {
 
 impl PathList {
     ghost use Rattle.std.specs.Prelude.{◌≡◌, ◌⊎◌, Some, None, Err, [], IfOk, IfErr, OnOk, length, map, slice_index};
-    ghost use Rattle.tor_tree.specs.FileList.{lengths_fault, paths_fault};
+    ghost use Rattle.tor_tree.specs.FileList.{lengths_fault, paths_fault, without_letters};
     ghost use Rattle.tor_tree.specs.PathList.{AreIndexedPaths, IsPathList, indices_of};
     ghost use Rattle.tor_tree.specs.declared.lists.ListError.TheVariants.{Memory, NoFiles};
 
@@ -62,20 +62,22 @@ impl PathList {
         self.entries.as_slice()
     }
 
-    /// The list of the files of these paths, and the index of each. `lengths` has a length for each index.
+    /// The list of the files of these paths, without letters, and the index of each. `lengths` has a length for each
+    /// index.
     pub fn with_lengths(
         self,
         alloc: Global,
         lengths: &[u64],
     ) -> Result<(FileList, Vec<usize>), ListError>
         requires one_each { length lengths.now ≡ length self }
-        ensures files { IfOk result (λ both. both.0 ≡ map (λ entry. (entry.0, slice_index lengths.now entry.1)) self) }
+        ensures files { IfOk result (λ both.
+            both.0 ≡ without_letters (map (λ entry. (entry.0, slice_index lengths.now entry.1)) self)) }
         ensures indices { IfOk result (λ both. both.1.items ≡ indices_of self) }
         ensures accepted { OnOk result (lengths_fault lengths.now ≡ None) }
         ensures refused { IfErr result (λ fault. (lengths_fault lengths.now ≡ Some fault) ⊎ (fault ≡ Memory)) }
     {
         let (files, indices) = split(alloc, self.entries, lengths)?;
-        Ok((FileList::of_sorted(files)?, indices))
+        Ok((FileList::without_letters(alloc, files)?, indices))
     }
 }
 

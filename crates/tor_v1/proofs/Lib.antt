@@ -3,6 +3,7 @@ pub mod Ceil
 pub mod Cut
 pub mod Fed
 pub mod RunSums
+pub mod LetteredEntries
 pub mod ProvedLaws
 pub mod Names
 pub mod Aligned

@@ -8,7 +8,9 @@ use Rattle.std.specs.Int.{div_ceil}
 use Rattle.std.specs.List.{flat_map}
 use Rattle.sha1.specs.Sha1.{sha1, digest_bytes}
 use Rattle.tor_v1.specs.Content.{file_entries, AreContentsOf, joined_content}
-use Rattle.tor_v1.specs.Entries.{file_entry, pad_entry, has_bytes, aligned_entries, v1_entries}
+use Rattle.tor_v1.specs.Entries.{file_entry, pad_entry, has_bytes, aligned_entries, v1_entries, with_letters}
+use Rattle.tor_tree.specs.declared.attr.Attr.{Attr}
+use Rattle.tor_v1.proofs.LetteredEntries.{kept}
 use Rattle.tor_v1.specs.Piece.{pieces_of, piece_sums, zeros}
 use Rattle.tor_v1.proofs.Aligned.{has_bytes-count}
 use Rattle.tor_v1.proofs.Cut.{sums-append}
@@ -17,6 +19,13 @@ use Rattle.tor_v1.specs.declared.entry.Entry.{Entry}
 use Rattle.tor_v1.specs.declared.layout.Layout.{Layout}
 use Rattle.tor_v1.specs.declared.layout.Layout.TheVariants.{Joined, Aligned, AlignedTail}
 pub use Rattle.tor_v1.proofs.Cut.{one_piece, piece_sums-nil, pieces-append, pieces_nil}
+pub use Rattle.tor_v1.proofs.LetteredEntries.{each_lettered, letters_of_files, letters_on}
+pub use Rattle.tor_v1.proofs.LetteredEntries.{files_kept as letters_keep_files, kept as letters_keep}
+pub use Rattle.tor_v1.proofs.LetteredEntries.{none_of_files as no_letters_of_files}
+pub use Rattle.tor_v1.proofs.LetteredEntries.{same_content as letters_change_no_content}
+pub use Rattle.tor_v1.proofs.LetteredEntries.{same_padding as padding_without_letters}
+pub use Rattle.tor_v1.proofs.LetteredEntries.{same_pieces as letters_change_no_pieces}
+pub use Rattle.tor_v1.proofs.LetteredEntries.{same_size as letters_change_no_size}
 pub use Rattle.tor_v1.proofs.Padded.{no_padding, whole_with_padding}
 
 -- ---- the sums of pieces
@@ -107,3 +116,17 @@ length-joined_content [] contents fit = refl
 length-joined_content (entry ∷ entries) contents fit =
     one_more entry.pad entry.length entry entries contents refl (length-joined_content entries) fit
     ∙ sym (sum_by-cons entry_length entry entries)
+
+-- ---- letters
+
+pub letters_change_no_path : (attrs : List Attr) (entries : List Entry)
+    → map (λ (entry : Entry). entry.path) (with_letters attrs entries) ≡ map (λ (entry : Entry). entry.path) entries
+letters_change_no_path attrs entries = kept (λ entry. entry.path) (λ attr entry. refl) attrs entries
+
+pub letters_change_no_length : (attrs : List Attr) (entries : List Entry)
+    → map (λ (entry : Entry). entry.length) (with_letters attrs entries) ≡ map (λ (entry : Entry). entry.length) entries
+letters_change_no_length attrs entries = kept (λ entry. entry.length) (λ attr entry. refl) attrs entries
+
+pub letters_change_no_pad : (attrs : List Attr) (entries : List Entry)
+    → map (λ (entry : Entry). entry.pad) (with_letters attrs entries) ≡ map (λ (entry : Entry). entry.pad) entries
+letters_change_no_pad attrs entries = kept (λ entry. entry.pad) (λ attr entry. refl) attrs entries

@@ -1,9 +1,11 @@
 -- The `files` list of a version 1 torrent (BEP 3, "info dictionary"), and its padding (BEP 47, "padding files").
 -- A file is a pair of a path and a length in bytes.
 use Rattle.std.specs.Prelude.{ℕ, ◌-◌, Bool, true, false, ◌&&◌, ◌||◌, nat_lt, List, [], ◌∷◌, ◌++◌, map, codes}
-use Rattle.std.specs.Prelude.{decimal, if◌then◌else◌}
+use Rattle.std.specs.Prelude.{decimal, drop, slice_index_or, if◌then◌else◌}
 use Rattle.std.specs.Int.{next_multiple_of}
 use Rattle.std.specs.List.{list_any}
+use Rattle.tor_tree.specs.Letters.{no_letters}
+use Rattle.tor_tree.specs.declared.attr.Attr.{Attr}
 use Rattle.tor_v1.specs.declared.entry.Entry.{Entry}
 use Rattle.tor_v1.specs.declared.layout.Layout.{Layout}
 use Rattle.tor_v1.specs.declared.layout.Layout.TheVariants.{Joined, Aligned, AlignedTail}
@@ -48,3 +50,20 @@ abbrev pub v1_entries : Layout → ℕ → List (List (List ℕ) × ℕ) → Lis
 v1_entries Joined piece_length files = map file_entry files
 v1_entries Aligned piece_length files = aligned_entries false piece_length files
 v1_entries AlignedTail piece_length files = aligned_entries true piece_length files
+
+-- the entry with these letters (BEP 47, "attr")
+abbrev pub with_attr : Attr → Entry → Entry
+with_attr attr entry = record {
+  path = entry.path;
+  length = entry.length;
+  pad = entry.pad;
+  exec = attr.exec;
+  hidden = attr.hidden;
+}
+
+-- the letters of files, in the order of the entries: the first that is no padding has the first, and padding none
+unfoldable pub with_letters : List Attr → List Entry → List Entry
+with_letters attrs [] = []
+with_letters attrs (entry ∷ entries) =
+    if entry.pad then entry ∷ with_letters attrs entries
+    else with_attr (slice_index_or attrs 0 no_letters) entry ∷ with_letters (drop 1 attrs) entries

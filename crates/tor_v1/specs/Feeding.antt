@@ -1,5 +1,6 @@
 -- A content that is fed in parts to the sums of its pieces.
-use Rattle.std.specs.Prelude.{◌≡◌, ℕ, ◌*◌, ◌/◌, ◌%◌, List, ◌++◌, length, take, drop}
+use Rattle.std.specs.Prelude.{◌≡◌, ℕ, ◌+◌, ◌*◌, ◌/◌, ◌%◌, ◌≤◌, List, ◌++◌, length, take, drop, vec_len, vec_capacity}
+use Rattle.std.specs.Int.{div_ceil}
 use Rattle.sha1.specs.Sha1.{Holds}
 use Rattle.tor_v1.specs.Piece.{piece_sums}
 use Rattle.tor_v1.specs.declared.sums.PieceSums.{PieceSums}
@@ -24,3 +25,7 @@ Feeds old new part =
 abbrev pub IsUnchanged : PieceSums → PieceSums → Type 0
 IsUnchanged old new =
     (piece_length : ℕ) (bytes : List ℕ) → HasFed old piece_length bytes → HasFed new piece_length bytes
+
+-- room for the hash of each piece that is begun when so many more bytes are fed
+abbrev pub HasRoom : PieceSums → ℕ → Type 0
+HasRoom sums more = vec_len sums.sums + 20 * div_ceil (sums.begun + more) sums.piece_length ≤ vec_capacity sums.sums

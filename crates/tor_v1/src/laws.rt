@@ -1,9 +1,11 @@
 //! Laws over the definitions, as contracts of functions that do nothing.
-ghost use Rattle.std.specs.Prelude.{◌≡◌, ◌<◌, ◌≤◌, ℕ, ◌+◌, ◌*◌, ◌^◌, List, [], ◌∷◌, ◌++◌, count_by, length, map};
-ghost use Rattle.std.specs.Prelude.{nat_lt, sum_by};
+ghost use Rattle.std.specs.Prelude.{◌≡◌, ◌<◌, ◌≤◌, ℕ, ◌+◌, ◌*◌, ◌^◌, List, [], ◌∷◌, ◌++◌, count_by};
+ghost use Rattle.std.specs.Prelude.{filter, length, map, nat_lt, sum_by};
 ghost use Rattle.std.specs.Int.{div_ceil};
-ghost use Rattle.tor_v1.specs.Content.{file_entries, AreContentsOf, joined_content};
-ghost use Rattle.tor_v1.specs.Entries.{has_bytes, padding_length, v1_entries};
+ghost use Rattle.tor_tree.specs.Letters.{no_letters};
+ghost use Rattle.tor_tree.specs.declared.attr.Attr.{Attr};
+ghost use Rattle.tor_v1.specs.Content.{file_entries, AreContentsOf, joined_content, v1_pieces};
+ghost use Rattle.tor_v1.specs.Entries.{has_bytes, padding_length, v1_entries, with_letters};
 ghost use Rattle.tor_v1.specs.Piece.{piece_sums, pieces_of, zeros};
 ghost use Rattle.tor_v1.specs.declared.entry.Entry.{Entry};
 ghost use Rattle.tor_v1.specs.declared.layout.Layout.{Layout};
@@ -52,6 +54,34 @@ pub fn files_with_bytes()
 pub fn entries_of_files()
     ensures { (layout : Layout) (piece_length : ℕ) (files : List (List (List ℕ) × ℕ)) →
         map (λ entry. (entry.path, entry.length)) (file_entries (v1_entries layout piece_length files)) ≡ files }
+{}
+
+/// Letters change no path, no length and no padding, and so neither which files there are nor the content.
+pub fn letters_change_no_content()
+    ensures paths { (attrs : List Attr) (entries : List Entry) →
+        map (λ entry. entry.path) (with_letters attrs entries) ≡ map (λ entry. entry.path) entries }
+    ensures lengths { (attrs : List Attr) (entries : List Entry) →
+        map (λ entry. entry.length) (with_letters attrs entries) ≡ map (λ entry. entry.length) entries }
+    ensures pads { (attrs : List Attr) (entries : List Entry) →
+        map (λ entry. entry.pad) (with_letters attrs entries) ≡ map (λ entry. entry.pad) entries }
+    ensures size { (attrs : List Attr) (entries : List Entry) →
+        sum_by (λ entry. entry.length) (with_letters attrs entries) ≡ sum_by (λ entry. entry.length) entries }
+    ensures content { (attrs : List Attr) (entries : List Entry) (contents : List (List ℕ)) →
+        joined_content (with_letters attrs entries) contents ≡ joined_content entries contents }
+    ensures pieces { (piece_length : ℕ) (attrs : List Attr) (entries : List Entry) (contents : List (List ℕ)) →
+        v1_pieces piece_length (with_letters attrs entries) contents ≡ v1_pieces piece_length entries contents }
+{}
+
+/// The entries that are no padding have the letters of their files: those of the first file the first.
+pub fn letters_of_files()
+    ensures files { (attrs : List Attr) (layout : Layout) (piece_length : ℕ) (files : List (List (List ℕ) × ℕ)) →
+        length attrs ≡ length files → map (λ entry. record { exec = entry.exec; hidden = entry.hidden })
+        (file_entries (with_letters attrs (v1_entries layout piece_length files))) ≡ attrs }
+    ensures padding { (attrs : List Attr) (entries : List Entry) →
+        filter (λ entry. entry.pad) (with_letters attrs entries) ≡ filter (λ entry. entry.pad) entries }
+    ensures none { (layout : Layout) (piece_length : ℕ) (files : List (List (List ℕ) × ℕ)) →
+        with_letters (map (λ file. no_letters) files) (v1_entries layout piece_length files) ≡
+        v1_entries layout piece_length files }
 {}
 
 /// The content of a torrent is as long as its entries together.

@@ -43,7 +43,8 @@ impl From<AllocError> for LayoutError {
     }
 }
 
-/// The entries of the files, in the order of the list (BEP 3, "info dictionary"; BEP 47, "padding files").
+/// The entries of the files, in the order of the list (BEP 3, "info dictionary"; BEP 47, "padding files"). They have no
+/// letters yet, whatever those of the list: `put_letters` puts them.
 pub fn lay_out(
     alloc: Global,
     list: &FileList,
@@ -51,8 +52,8 @@ pub fn lay_out(
     layout: Layout,
 ) -> Result<Vec<Entry>, LayoutError>
     requires { IsV1PieceLength piece_length }
-    ensures made { IfOk result (λ entries. entries.items ≡ v1_entries layout piece_length list.now) }
-    ensures reserved { (result ≡ Err ReservedPad) ↔ IsTrue (takes_reserved layout list.now) }
+    ensures made { IfOk result (λ entries. entries.items ≡ v1_entries layout piece_length list.now.files) }
+    ensures reserved { (result ≡ Err ReservedPad) ↔ IsTrue (takes_reserved layout list.now.files) }
 {
     let files = list.files();
     match layout {

@@ -31,8 +31,8 @@ pub struct PieceSums {
 }
 
 impl PieceSums {
-    ghost use Rattle.tor_v1.specs.Feeding.{HasFed, Feeds, IsUnchanged};
-    ghost use Rattle.tor_v1.specs.steps.Room.{HasRoom, IsSameButRoom};
+    ghost use Rattle.tor_v1.specs.Feeding.{HasFed, HasRoom, Feeds, IsUnchanged};
+    ghost use Rattle.tor_v1.specs.steps.Room.{IsSameButRoom};
     ghost use Rattle.tor_v1.specs.steps.Runs.{FitsRun};
 
     /// Sums of no byte, for pieces of `piece_length` bytes.
@@ -56,7 +56,7 @@ impl PieceSums {
             div_ceil (length bytes + length part.now) piece_length ≤ div_ceil (length bytes) piece_length →
             IsOk result }
     {
-        self.reserve(part.len() as u64)?;
+        self.make_room(part.len() as u64)?;
         self.add(part);
         Ok(())
     }
@@ -70,7 +70,7 @@ impl PieceSums {
         ensures within { (piece_length : ℕ) (bytes : List ℕ) → HasFed self.old piece_length bytes →
             div_ceil (length bytes + count) piece_length ≤ div_ceil (length bytes) piece_length → IsOk result }
     {
-        self.reserve(count)?;
+        self.make_room(count)?;
         let mut left = count;
         'parts: while left > 0 {
             let length = left.min(ZEROS_LENGTH as u64);
@@ -78,6 +78,38 @@ impl PieceSums {
             left -= length;
         }
         Ok(())
+    }
+
+    /// Makes room for the hashes of the pieces that so many more bytes begin, so that `add` can take them. Memory can
+    /// only be refused where there is no room yet.
+    pub fn reserve(&mut self, more: u64) -> Result<(), AllocError>
+        requires { more < 2 ^ 63 }
+        ensures same { IsUnchanged self.old self.new }
+        ensures room { OnOk result (HasRoom self.new more) }
+        ensures there { HasRoom self.old more → IsOk result }
+    {
+        self.make_room(more)
+    }
+
+    /// Adds bytes for whose pieces there is room, at the end of the content. It takes no memory.
+    pub fn add(&mut self, bytes: &[u8])
+        requires { HasRoom self.old (length bytes.now) }
+        ensures fed { Feeds self.old self.new bytes.now }
+        ensures room { (later : ℕ) → HasRoom self.old (length bytes.now + later) → HasRoom self.new later }
+    {
+        let mut rest = bytes;
+        'parts: while !rest.is_empty() {
+            if self.takes_run(rest.len()) {
+                let (run, later) = rest.split_at(8 * self.piece_length as usize);
+                self.add_run(run);
+                rest = later;
+            } else {
+                let length = rest.len().min((self.piece_length - self.begun) as usize);
+                let (part, later) = rest.split_at(length);
+                self.add_to_piece(part);
+                rest = later;
+            }
+        }
     }
 
     /// The joined SHA-1 of each piece of the bytes fed, the last piece perhaps shorter.
@@ -97,8 +129,8 @@ impl PieceSums {
         sums
     }
 
-    // Makes room for the hashes of the pieces that so many more bytes begin.
-    fn reserve(&mut self, more: u64) -> Result<(), AllocError>
+    // The same, telling that all but room stays as it is.
+    fn make_room(&mut self, more: u64) -> Result<(), AllocError>
         requires { more < 2 ^ 63 }
         ensures same { IsSameButRoom self.old self.new }
         ensures room { OnOk result (HasRoom self.new more) }
@@ -107,27 +139,6 @@ impl PieceSums {
         let pieces = (self.begun + more).div_ceil(self.piece_length);
         let capacity = pieces.saturating_mul(DIGEST_LEN as u64);
         self.sums.reserve(capacity as usize)
-    }
-
-    // Adds bytes of any number, for whose pieces there is room.
-    fn add(&mut self, bytes: &[u8])
-        requires { HasRoom self.old (length bytes.now) }
-        ensures fed { Feeds self.old self.new bytes.now }
-        ensures room { (later : ℕ) → HasRoom self.old (length bytes.now + later) → HasRoom self.new later }
-    {
-        let mut rest = bytes;
-        'parts: while !rest.is_empty() {
-            if self.takes_run(rest.len()) {
-                let (run, later) = rest.split_at(8 * self.piece_length as usize);
-                self.add_run(run);
-                rest = later;
-            } else {
-                let length = rest.len().min((self.piece_length - self.begun) as usize);
-                let (part, later) = rest.split_at(length);
-                self.add_to_piece(part);
-                rest = later;
-            }
-        }
     }
 
     // Whether the next eight pieces of so many bytes are taken at once.

@@ -1,5 +1,5 @@
 -- What units sum up to, each by itself. Only private clauses cite these.
-use Rattle.std.specs.Prelude.{List, [], ◌∷◌}
+use Rattle.std.specs.Prelude.{◌≡◌, ℕ, List, [], ◌∷◌, ◌++◌}
 use Rattle.tor_plan.specs.declared.units.PlanUnit.{PlanUnit}
 
 -- each unit sums up to what stands at its place
@@ -8,3 +8,11 @@ SumUpEach sums_up [] [] = Unit {0}
 SumUpEach sums_up (unit ∷ units) (one ∷ others) = sums_up unit one × SumUpEach sums_up units others
 SumUpEach sums_up [] (one ∷ others) = ⊥
 SumUpEach sums_up (unit ∷ units) [] = ⊥
+
+-- each unit owes some, and all together these
+unfoldable pub OweEach : {A : Type 0} → (PlanUnit → A → List ℕ → Type 0) → List PlanUnit → List A → List ℕ → Type 0
+OweEach owes [] [] owed = owed ≡ []
+OweEach owes (unit ∷ units) (one ∷ others) owed =
+    (own rest : List ℕ) × owes unit one own × OweEach owes units others rest × (own ++ rest ≡ owed)
+OweEach owes [] (one ∷ others) owed = ⊥
+OweEach owes (unit ∷ units) [] owed = ⊥

@@ -1,5 +1,5 @@
 -- What was read of a source, whether it is steady or not. Only private clauses cite these.
-use Rattle.std.specs.Prelude.{◌≡◌, ◌+◌, ◌≤◌, ℕ, List, ◌++◌, length, map, take}
+use Rattle.std.specs.Prelude.{◌≡◌, ◌+◌, ◌≤◌, ℕ, List, ◌++◌, length, map, sum_by, take}
 use Rattle.std.specs.List.{AllByRecursion, flat_map}
 use Rattle.tor_plan.specs.Content.{part_content}
 use Rattle.tor_plan.specs.PlanFacts.{PlanFacts}
@@ -42,10 +42,8 @@ pub record AddsPart {F : Type 0} (is_steady : SourceFacts F → Type 0) (plan : 
   pub steady : (facts : SourceFacts F) → is_steady facts → HasPart facts part
       → bytes_of_part (contents_in facts (length plan.lengths)) part ≡ bytes
   pub begun : begun_of new ≡ begun_of old + part.length
-  pub taken : (contents : List (List ℕ)) (before unit : List ℕ) → bytes_of_part contents part ≡ bytes
-      → HasTaken plan.kind plan.piece_length before unit old
-      → HasTaken plan.kind plan.piece_length (before ++ bytes_of_part contents part)
-      (unit ++ part_content contents part) new
+  pub taken : (before unit : List ℕ) → HasTaken plan.kind plan.piece_length before unit old
+      → HasTaken plan.kind plan.piece_length (before ++ bytes) (unit ++ (bytes ++ zeros part.zeros)) new
 
 -- a part, and the bytes that were read of it
 abbrev pub PartRead : Type 0
@@ -63,11 +61,14 @@ pub record AreReads {F : Type 0} (is_steady : SourceFacts F → Type 0) (plan : 
   pub steady : (facts : SourceFacts F) → is_steady facts → HasParts facts parts
       → HaveRead (contents_in facts (length plan.lengths)) reads
 
--- the parts of a unit were read so far, after so many zeros
-pub record ReadsParts {F : Type 0} (is_steady : SourceFacts F → Type 0) (plan : PlanFacts) (before : ℕ)
+-- the parts of a unit were read so far, after these bytes
+pub record ReadsParts {F : Type 0} (is_steady : SourceFacts F → Type 0) (plan : PlanFacts) (before : List ℕ)
     (parts : List Part) (sums : WorkerSums) : Type 0 where
   pub reads : List PartRead
   pub are : AreReads is_steady plan parts reads
-  pub taken : (contents : List (List ℕ)) → HaveRead contents reads
-      → HasTaken plan.kind plan.piece_length (flat_map (bytes_of_part contents) parts)
-      (zeros before ++ flat_map (part_content contents) parts) sums
+  pub bytes : List ℕ
+  pub joined : List ℕ
+  pub long : length joined ≡ sum_by (λ part. part.length + part.zeros) parts
+  pub same : (contents : List (List ℕ)) → HaveRead contents reads
+      → (flat_map (bytes_of_part contents) parts ≡ bytes) × (flat_map (part_content contents) parts ≡ joined)
+  pub taken : HasTaken plan.kind plan.piece_length bytes (before ++ joined) sums

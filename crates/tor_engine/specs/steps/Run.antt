@@ -1,8 +1,9 @@
 -- What units sum up to. Only private clauses cite these.
-use Rattle.std.specs.Prelude.{◌≡◌, ℕ, ◌*◌, ◌^◌, ◌≤◌, true, List, [], ◌∷◌, All, false, length, map}
+use Rattle.std.specs.Prelude.{◌≡◌, ℕ, ◌*◌, ◌^◌, ◌≤◌, true, List, [], ◌∷◌, ◌++◌, All, false, length, map, Option}
 use Rattle.std.specs.Prelude.{if◌then◌else◌}
 use Rattle.std.specs.List.{flat_map}
 use Rattle.std.specs.Option.{ForSome}
+use Rattle.tor_merkle.specs.Feeding.{Feeding}
 use Rattle.tor_merkle.specs.Layer.{piece_level}
 use Rattle.tor_merkle.specs.declared.TheConstants.{BLOCK_LENGTH}
 use Rattle.tor_plan.specs.Content.{unit_content}
@@ -16,10 +17,12 @@ use Rattle.tor_tree.specs.declared.kinds.Kind.{Kind}
 use Rattle.tor_v1.specs.Piece.{piece_sums}
 use Rattle.tor_engine.specs.declared.hasher.Hashed.{Hashed}
 use Rattle.tor_engine.specs.declared.unit_sums.UnitSums.{UnitSums}
-use Rattle.tor_engine.specs.Hasher.{AreHashesOf}
+use Rattle.tor_engine.specs.declared.worker.WorkerSums.{WorkerSums}
+use Rattle.tor_engine.specs.Hasher.{AreHashesOf, IsTreeOf}
 pub use Rattle.tor_engine.specs.Shares.{bare_node, node_in}
 use Rattle.tor_engine.specs.steps.Hashes.{Node, bytes_of_part, level_of, nodes_of_unit}
 use Rattle.tor_engine.specs.steps.Reads.{AreReads, HaveRead, PartRead}
+use Rattle.tor_engine.specs.steps.Worker.{IsFresh}
 
 -- the joined SHA-1 of the pieces of each unit, where the kind has them
 abbrev pub sums_of_units : Kind → ℕ → List (List ℕ) → List PlanUnit → List ℕ
@@ -47,6 +50,19 @@ pub record HashesUnit {F : Type 0} (is_steady : SourceFacts F → Type 0) (plan 
       → AreHashesOf plan.kind plan.piece_length (flat_map (bytes_of_part contents) unit.parts)
       (unit_content contents unit) hashed
 
+-- a unit was read after these bytes, and has this tree, as it has in any contents that have what was read; its bytes
+-- and zeros go on with the bytes before
+pub record ReadsUnit {F : Type 0} (is_steady : SourceFacts F → Type 0) (plan : PlanFacts) (unit : PlanUnit)
+    (before : List ℕ) (sums : WorkerSums) (tree : Option Feeding) : Type 0 where
+  pub reads : List PartRead
+  pub are : AreReads is_steady plan unit.parts reads
+  pub trees : (contents : List (List ℕ)) → HaveRead contents reads
+      → IsTreeOf plan.kind plan.piece_length (flat_map (bytes_of_part contents) unit.parts) tree
+  pub joined : List ℕ
+  pub long : length joined ≡ unit_length unit
+  pub same : (contents : List (List ℕ)) → HaveRead contents reads → unit_content contents unit ≡ joined
+  pub fresh : IsFresh plan (before ++ joined) sums
+
 -- units were read, and these are the sums of any contents that have what was read
 pub record HashesUnits {F : Type 0} (is_steady : SourceFacts F → Type 0) (plan : PlanFacts) (units : List PlanUnit)
     (nodes : List Node) (pieces : List ℕ) : Type 0 where
@@ -59,6 +75,11 @@ pub record HashesUnits {F : Type 0} (is_steady : SourceFacts F → Type 0) (plan
 abbrev pub SumsUpUnit : {F : Type 0} → (SourceFacts F → Type 0) → PlanFacts → PlanUnit → UnitSums → Type 0
 SumsUpUnit is_steady plan unit sums =
     HashesUnits is_steady plan (unit ∷ []) (node_in sums ∷ []) sums.pieces.items
+
+-- so is one unit once it has these sums of its pieces, as many bytes of which it has room for
+abbrev pub OwesUnit : {F : Type 0} → (SourceFacts F → Type 0) → PlanFacts → PlanUnit → UnitSums → List ℕ → Type 0
+OwesUnit is_steady plan unit sums own =
+    HashesUnits is_steady plan (unit ∷ []) (node_in sums ∷ []) own × (length sums.pieces.items ≡ length own)
 
 -- the unit is one part, and nothing else
 abbrev pub IsOnePart : PlanUnit → Type 0

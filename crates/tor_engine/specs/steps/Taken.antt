@@ -13,6 +13,7 @@ use Rattle.tor_engine.specs.Fault.{IsFault}
 use Rattle.tor_engine.specs.declared.errors.EngineError.{EngineError}
 use Rattle.tor_engine.specs.declared.errors.EngineError.TheVariants.{Resources}
 use Rattle.tor_engine.specs.declared.failure.Failure.{Failure}
+use Rattle.tor_engine.specs.declared.owing.OwingSums.{OwingSums}
 use Rattle.tor_engine.specs.declared.taken.Taken.{Taken}
 pub use Rattle.tor_engine.specs.Shares.{given_pairs, unit_at}
 
@@ -23,6 +24,20 @@ HasRoom taken = (vec_len taken.sums + 1 ≤ vec_capacity taken.sums) × (vec_len
 -- the seat holds no unit, and none has failed
 abbrev pub IsIdle : Desk → Type 0
 IsIdle desk = (desk.held ≡ []) × (desk.failed ≡ [])
+
+-- the units of what has numbers
+abbrev pub units_taken : {A : Type 0} → (A → ℕ) → List PlanUnit → List A → List PlanUnit
+units_taken number_in units sums = map (λ one. unit_at units (number_in one)) sums
+
+-- the worker stands where it took these, or has not begun
+abbrev pub HasBegun : {A : Type 0} → (List PlanUnit → List A → OwingSums → Type 0) → (A → ℕ) → List PlanUnit → List A
+    → Option OwingSums → Type 0
+HasBegun stands number_in units sums None = sums ≡ []
+HasBegun stands number_in units sums (Some worker) = stands (units_taken number_in units sums) sums worker
+
+-- what is said of a unit before its sums are whole
+abbrev pub IsAny : {A : Type 0} → PlanUnit → A → Type 0
+IsAny unit one = Unit {0}
 
 -- what has a number is of one of the units, and that unit sums up to it
 abbrev pub IsSumOf : {A : Type 0} → (A → ℕ) → (PlanUnit → A → Type 0) → List PlanUnit → A → Type 0

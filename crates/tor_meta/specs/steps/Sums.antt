@@ -7,12 +7,12 @@ use Rattle.tor_engine.specs.Sums.{lists_of, plan_content}
 use Rattle.tor_meta.specs.declared.head.Head.{Head}
 use Rattle.tor_tree.specs.declared.paths.TheConstants.{MAX_NAMES}
 use Rattle.tor_engine.specs.declared.sums.Sums.{Sums}
-use Rattle.tor_spec.specs.Facts.{Facts, listed, layers_in, roots_in}
+use Rattle.tor_spec.specs.Facts.{Facts, attrs_in, listed, layers_in, roots_in}
 use Rattle.tor_merkle.specs.Layer.{root_of}
 use Rattle.tor_spec.specs.Settings.{layout_of}
 use Rattle.tor_tree.specs.Kinds.{has_v1, has_v2}
 use Rattle.tor_tree.specs.declared.kinds.Kind.{Kind}
-use Rattle.tor_tree.specs.FileList.{IsFileList, lengths_of}
+use Rattle.tor_tree.specs.FileList.{IsFileList, LetteredFiles, lengths_of}
 use Rattle.tor_tree.specs.TidyTree.{HasItsRoot}
 use Rattle.tor_plan.specs.PlanFacts.{PlanFacts}
 use Rattle.tor_v1.specs.Content.{joined_content, v1_pieces}
@@ -33,10 +33,10 @@ pub record HaveTrees (head : Head) (files : List (List (List ℕ) × ℕ)) (sums
   pub rooted : has_v2 head.kind ≡ true → AllZip HasItsRoot files sums.roots.items
   pub layered : has_v2 head.kind ≡ true → length sums.layers.items ≡ length files
 
--- the facts of the files, with these roots and layers where the head asks for them
-pub record AreFactsOf (head : Head) (files : List (List (List ℕ) × ℕ)) (sums : Sums)
-    (facts : List Facts) : Type 0 where
-  pub is_listed : listed facts ≡ files
+-- the facts of the files with their letters, with these roots and layers where the head asks for them
+pub record AreFactsOf (head : Head) (list : LetteredFiles) (sums : Sums) (facts : List Facts) : Type 0 where
+  pub is_listed : listed facts ≡ list.files
+  pub is_lettered : attrs_in facts ≡ list.attrs
   pub is_rooted : has_v2 head.kind ≡ true → roots_in facts ≡ sums.roots.items
   pub is_layered : has_v2 head.kind ≡ true → layers_in facts ≡ lists_of sums.layers.items
 

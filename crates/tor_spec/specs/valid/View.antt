@@ -48,8 +48,8 @@ file_of_list listed = record {
 }
 
 -- a file of a hybrid: it has the letters that the tree has for it, or else those of the v1 side
-abbrev pub with_letters : ListedFile → TreeFile → TreeFile
-with_letters listed file = record {
+abbrev pub file_of_both : ListedFile → TreeFile → TreeFile
+file_of_both listed file = record {
   path = file.path;
   length = file.length;
   root = file.root;
@@ -62,7 +62,7 @@ with_letters listed file = record {
 abbrev pub lettered : List ListedFile → List TreeFile → List TreeFile
 lettered listed [] = []
 lettered [] (file ∷ files) = file ∷ lettered [] files
-lettered (one ∷ listed) (file ∷ files) = with_letters one file ∷ lettered listed files
+lettered (one ∷ listed) (file ∷ files) = file_of_both one file ∷ lettered listed files
 
 -- the files of a torrent with a v2 side
 abbrev pub files_of_both : Data → List TreeFile

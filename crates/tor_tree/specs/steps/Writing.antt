@@ -3,13 +3,15 @@ use Rattle.std.specs.Prelude.{◌≡◌, Bool, false, ℕ, List, [], ◌∷◌, 
 use Rattle.tor_bencode.specs.Data.{Data}
 use Rattle.tor_tree.specs.Path.{name_eq}
 use Rattle.tor_tree.specs.WrittenTree.{with_properties}
+use Rattle.tor_tree.specs.declared.attr.Attr.{Attr}
 
 -- a path, `deep` names further down
 abbrev pub below : ℕ → List (List ℕ) × Data → List (List ℕ) × Data
 below deep file = (drop deep file.0, file.1)
 
-abbrev pub files_below : ℕ → List (List (List ℕ) × ℕ) → List (Option (List ℕ)) → List (List (List ℕ) × Data)
-files_below deep files roots = map (below deep) (with_properties files roots)
+abbrev pub files_below : ℕ → List (List (List ℕ) × ℕ) → List Attr → List (Option (List ℕ))
+    → List (List (List ℕ) × Data)
+files_below deep files attrs roots = map (below deep) (with_properties files attrs roots)
 
 -- the name that stands `deep` names down a path
 abbrev pub is_first : List ℕ → List (List ℕ) → Bool

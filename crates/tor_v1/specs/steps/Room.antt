@@ -1,11 +1,7 @@
 -- Room for the hashes of pieces. Only private clauses cite this.
-use Rattle.std.specs.Prelude.{◌≡◌, ℕ, ◌+◌, ◌*◌, ◌≤◌, vec_len, vec_capacity}
-use Rattle.std.specs.Int.{div_ceil}
+use Rattle.std.specs.Prelude.{◌≡◌}
 use Rattle.tor_v1.specs.declared.sums.PieceSums.{PieceSums}
-
--- room for the hash of each piece that is begun when so many more bytes are fed
-abbrev pub HasRoom : PieceSums → ℕ → Type 0
-HasRoom sums more = vec_len sums.sums + 20 * div_ceil (sums.begun + more) sums.piece_length ≤ vec_capacity sums.sums
+pub use Rattle.tor_v1.specs.Feeding.{HasRoom}
 
 -- the same but for room
 pub record IsSameButRoom (old new : PieceSums) : Type 0 where

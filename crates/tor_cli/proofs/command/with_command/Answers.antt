@@ -1,5 +1,4 @@
 -- The command below adds its shape.
-use Rattle.std.proofs.Common.{refl}
 use Rattle.std.proofs.lemmas.Result.{IfOk-weaker}
 use Rattle.tor_cli.proofs.SubCommands.{third}
 use Rattle.tor_cli.proofs.command.with_command.Goals as goal

@@ -7,12 +7,12 @@ use Rattle.tor_cli.proofs.make_command.make_of_input.Goals as goal
 pub returns-in_err-torrent-clause-stopped : goal.returns-in_err-torrent-clause-stopped
 returns-in_err-torrent-clause-stopped g c =
     let p = err_from_is_err_and c.from_residual-in_err-torrent.result c.from_residual-in_err-torrent.ensures.1 in
-    rw (p.1, p.2) (stops_reading c.args.options.now _ c.in-Ok.order c.in-Ok.ensures.accepted c.in-Ok.ensures.made
+    rw (p.1, p.2) (stops_reading c.args.options.now _ c.in-Ok.both.0 c.in-Ok.both.1 c.in-Ok.ensures.made
     c.in_err-torrent.field-0.0 c.in_err-torrent.ensures.stopped (Keeps-refl _))
 
 pub returns-in_err-send-clause-stopped : goal.returns-in_err-send-clause-stopped
 returns-in_err-send-clause-stopped g c =
     let p = err_from_is_err_and c.from_residual-in_err-send.result c.from_residual-in_err-send.ensures.1 in
-    rw (p.1, p.2) (stops_sent c.args.options.now _ c.in-Ok.order c.in-Ok.ensures.accepted c.in-Ok.ensures.made
+    rw (p.1, p.2) (stops_sent c.args.options.now _ c.in-Ok.both.0 c.in-Ok.both.1 c.in-Ok.ensures.made
     c.in_ok-torrent.torrent.items c.in_ok-torrent.ensures.made c.in_err-send.field-0.0.written
     (rw c.deref.ensures.value at c.in_err-send.ensures.part))

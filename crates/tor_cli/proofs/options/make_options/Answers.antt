@@ -44,4 +44,5 @@ returns g c =
           c.get_flag-3.ensures.other is;
       out = sym (first_value-rows found (codes "out")) ∙ sym c.get_str-6.ensures;
       place = sym (first_value-rows found (codes "path")) ∙ sym c.get_str-7.ensures;
+      attrs = sym (first_value-rows found (codes "attrs")) ∙ sym c.get_str-8.ensures;
     }

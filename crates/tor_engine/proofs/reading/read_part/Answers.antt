@@ -1,5 +1,5 @@
 -- the bytes that come next, and the zeros after them
-use Rattle.std.proofs.Common.{◌≡◌, ℕ, ◌++◌, append_assoc, inl, inr, ap, subst, sym, ◌∙◌, arith}
+use Rattle.std.proofs.Common.{◌≡◌, ℕ, ◌++◌, append_assoc, inl, inr, refl, subst, sym, ◌∙◌, arith}
 use Rattle.tor_v1.specs.Piece.{zeros}
 use Rattle.tor_engine.specs.Fault.{byte_fault}
 use Rattle.tor_engine.specs.steps.Reads.{TakesPart}
@@ -62,10 +62,9 @@ returns-clause-added g c = λ plan is.
       counted = read.counted;
       steady = λ facts steady have. sym (read.steady facts steady have ∙ part_bytes facts plan part is);
       begun = omega (arith, all, c.in_ok-feed_zeros.ensures.begun, c.reads.invariant.begun);
-      taken = λ contents before unit own given.
-          fed_as plan.kind p _ (before ++ bytes) _ ((unit ++ bytes) ++ zeros part.zeros) _
-          (ap (λ xs. before ++ xs) (sym own))
-          (append_assoc unit bytes (zeros part.zeros) ∙ ap (λ xs. unit ++ (xs ++ zeros part.zeros)) (sym own))
+      taken = λ before unit given.
+          fed_as plan.kind p _ (before ++ bytes) _ ((unit ++ bytes) ++ zeros part.zeros) _ refl
+          (append_assoc unit bytes (zeros part.zeros))
           (c.in_ok-feed_zeros.ensures.taken plan.kind p (before ++ bytes) (unit ++ bytes)
           (read.taken plan.kind p before unit given));
     }

@@ -31,50 +31,54 @@ module _ {F : Type 0} (kind : Kind) (tail : Bool) (p : ℕ) (known : List (Optio
   stopped (Err fault) is = is
 
 pub open-requires-clause-some : goal.open-requires-clause-some
-open-requires-clause-some g c = some_unit c.args.kind c.args.piece_length c.args.span c.requires.cut
+open-requires-clause-some g c =
+    some_unit c.args.kind c.args.piece_length c.lane_span.result (c.lane_span.ensures.cut c.args.kind c.requires.cut)
 
 pub feed_readers-requires-clause-ready : goal.feed_readers-requires-clause-ready
 feed_readers-requires-clause-ready g c κs within =
     let kind = c.args.kind in
     let p = c.args.piece_length in
-    (p * c.args.span, some_unit kind p c.args.span c.requires.cut, c.in_ok-cutter.ensures.ready kind p)
+    let some = some_unit kind p c.lane_span.result (c.lane_span.ensures.cut c.args.kind c.requires.cut) in
+    (p * c.lane_span.result, some, c.in_ok-cutter.ensures.ready kind p)
 
 pub feed_readers-requires-clause-workers : goal.feed_readers-requires-clause-workers
 feed_readers-requires-clause-workers g c κs within = c.in_ok-cutter.ensures.workers c.args.kind c.args.piece_length
 
 pub sums_of_fed-requires-clause-cut : goal.sums_of_fed-requires-clause-cut
-sums_of_fed-requires-clause-cut g c = (c.args.span, c.requires.cut, mul_comm c.args.piece_length c.args.span)
+sums_of_fed-requires-clause-cut g c =
+    let span = c.lane_span.result in
+    (span, c.lane_span.ensures.cut c.args.kind c.requires.cut, mul_comm c.args.piece_length span)
 
 pub sums_of_fed-requires-clause-ended : goal.sums_of_fed-requires-clause-ended
 sums_of_fed-requires-clause-ended g c =
     let kind = c.args.kind in
     let p = c.args.piece_length in
-    let some = some_unit kind p c.args.span c.requires.cut in
-    (c.in_ok-fed.ensures (p * c.args.span) some (c.in_ok-cutter.ensures.ready kind p)).ended
+    let some = some_unit kind p c.lane_span.result (c.lane_span.ensures.cut c.args.kind c.requires.cut) in
+    (c.in_ok-fed.ensures (p * c.lane_span.result) some (c.in_ok-cutter.ensures.ready kind p)).ended
 
 pub sums_of_fed-requires-clause-done : goal.sums_of_fed-requires-clause-done
 sums_of_fed-requires-clause-done g c =
     let kind = c.args.kind in
     let p = c.args.piece_length in
-    let some = some_unit kind p c.args.span c.requires.cut in
-    (c.in_ok-fed.ensures (p * c.args.span) some (c.in_ok-cutter.ensures.ready kind p)).done
+    let some = some_unit kind p c.lane_span.result (c.lane_span.ensures.cut c.args.kind c.requires.cut) in
+    (c.in_ok-fed.ensures (p * c.lane_span.result) some (c.in_ok-cutter.ensures.ready kind p)).done
 
 pub sums_of_fed-requires-clause-put : goal.sums_of_fed-requires-clause-put
 sums_of_fed-requires-clause-put g c =
     let kind = c.args.kind in
     let p = c.args.piece_length in
-    let some = some_unit kind p c.args.span c.requires.cut in
-    was_put kind c.args.tail p (p * c.args.span) _ _ c.in_ok-fed.fed
-    (c.in_ok-fed.ensures (p * c.args.span) some (c.in_ok-cutter.ensures.ready kind p))
+    let some = some_unit kind p c.lane_span.result (c.lane_span.ensures.cut c.args.kind c.requires.cut) in
+    was_put kind c.args.tail p (p * c.lane_span.result) _ _ c.in_ok-fed.fed
+    (c.in_ok-fed.ensures (p * c.lane_span.result) some (c.in_ok-cutter.ensures.ready kind p))
 
 pub returns : goal.returns
 returns g c =
     let kind = c.args.kind in
     let p = c.args.piece_length in
-    let some = some_unit kind p c.args.span c.requires.cut in
+    let some = some_unit kind p c.lane_span.result (c.lane_span.ensures.cut c.args.kind c.requires.cut) in
     let known = map g.R.Read.remaining c.args.readers.items in
-    let fed = c.in_ok-fed.ensures (p * c.args.span) some (c.in_ok-cutter.ensures.ready kind p) in
-    let is = answers kind c.args.tail p (p * c.args.span) _ _ c.in_ok-fed.fed fed c.in_ok-summed.summed
+    let fed = c.in_ok-fed.ensures (p * c.lane_span.result) some (c.in_ok-cutter.ensures.ready kind p) in
+    let is = answers kind c.args.tail p (p * c.lane_span.result) _ _ c.in_ok-fed.fed fed c.in_ok-summed.summed
     c.in_ok-summed.ensures.summed in
     record {
       summed = summed kind c.args.tail p known c.in_ok-summed.summed is;

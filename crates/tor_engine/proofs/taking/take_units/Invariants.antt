@@ -1,8 +1,7 @@
 -- what was taken so far
 use Rattle.std.proofs.Common.{◌+◌, ◌-◌, length}
-use Rattle.std.specs.Option.{ForSome}
 use Rattle.tor_board.specs.Seats.{IsSeatOf, knows}
-use Rattle.tor_engine.specs.steps.Worker.{IsFresh}
+use Rattle.tor_engine.specs.steps.Taken.{HasBegun, IsAny}
 use Rattle.tor_engine.proofs.ClaimedUnits.{IsTaking}
 use Rattle.tor_engine.proofs.taking.take_units.Given as goal
 
@@ -10,8 +9,8 @@ abbrev pub invariant-claims : goal.invariant-claims
 invariant-claims g l =
     let w = g.W.UnitWork in record {
       board : IsSeatOf l.board l.seat;
-      fresh : ForSome l.worker (IsFresh (w.plan l.work));
-      taking : IsTaking (w.number_in l.work) (w.hash_in l.work) (w.sums_up l.work) (w.is_steady l.work)
+      stands : HasBegun (w.stands l.work) (w.number_in l.work) l.units l.taken.sums.items l.worker;
+      taking : IsTaking (w.number_in l.work) (w.hash_in l.work) IsAny (w.is_steady l.work)
           (w.fault l.work) (w.gave l.work) l.units (knows l.fn.seat) (knows l.seat) l.taken;
     }
 

@@ -4,7 +4,6 @@ use Rattle.std.proofs.lemmas.List.{take_all, take_more}
 use Rattle.tor_plan.specs.declared.units.PlanUnit.{PlanUnit}
 use Rattle.tor_engine.specs.steps.Each.{SumUpEach}
 use Rattle.tor_engine.specs.steps.Failing.{failure_of}
-use Rattle.tor_engine.proofs.Each.{each_next, each_none}
 use Rattle.tor_engine.proofs.Failing.{all_hold, fails_here, next_holds}
 use Rattle.tor_engine.proofs.FirstOf.{first_of_none}
 use Rattle.tor_engine.proofs.UnitShares.{refused}
@@ -19,11 +18,17 @@ returns-in_err-worker g c =
 
 pub units-init : goal.units-init
 units-init g c = record {
-  fresh = c.in_ok-worker.ensures;
-  summed = subst (SumUpEach (g.W.UnitWork.sums_up c.args.work.now) []) (sym c.new-sums.ensures.items)
-      (each_none (g.W.UnitWork.sums_up c.args.work.now));
+  stands = subst (λ (sums : List _). g.W.UnitWork.stands c.args.work.now [] sums c.in_ok-worker.worker)
+      (sym c.new-sums.ensures.items) c.in_ok-worker.ensures;
   faultless = λ facts steady. first_of_none (failure_of (g.W.UnitWork.fault c.args.work.now facts));
 }
+
+pub hash-requires-clause-stands : goal.hash-requires-clause-stands
+hash-requires-clause-stands g c =
+    (take c.units.index c.args.units.now, c.units.sums.items, c.units.invariant.stands)
+
+pub complete-requires-clause-stands : goal.complete-requires-clause-stands
+complete-requires-clause-stands g c = (take c.units.index c.args.units.now, c.units.invariant.stands)
 
 pub returns-in-Err : goal.returns-in-Err
 returns-in-Err g c = record {
@@ -53,12 +58,12 @@ units-preserved g c =
     let unit = c.index-units-index.result in
     let here = sym c.index-units-index.is in
     record {
-      fresh = c.in-Ok.ensures.fresh;
-      summed = subst (λ (us : List PlanUnit). SumUpEach (g.W.UnitWork.sums_up work) us c.push.new.self.items)
+      stands = subst (λ (us : List PlanUnit).
+          g.W.UnitWork.stands work us c.push.new.self.items c.hash.new.worker)
           (ap (λ u. take i units ++ u ∷ []) c.index-units-index.is ∙ sym (take_more units i _ c.units-test.true))
-          (subst (SumUpEach (g.W.UnitWork.sums_up work) (take i units ++ unit ∷ [])) (sym c.in_ok-push.ensures.items)
-          (each_next (g.W.UnitWork.sums_up work) (take i units) unit c.units.sums.items c.in-Ok.next
-          c.units.invariant.summed c.in-Ok.ensures.summed));
+          (subst (λ (sums : List _). g.W.UnitWork.stands work (take i units ++ unit ∷ []) sums c.hash.new.worker)
+          (sym c.in_ok-push.ensures.items)
+          (c.in-Ok.ensures.stands (take i units) c.units.sums.items c.units.invariant.stands));
       faultless = λ facts steady.
           next_holds (g.W.UnitWork.fault work facts) c.args.first units i _ unit c.units-test.true here
           (c.units.invariant.faultless facts steady) (c.in-Ok.ensures.fault facts steady);
@@ -68,8 +73,10 @@ pub returns : goal.returns
 returns g c =
     let units = c.args.units.now in
     record {
-      summed = subst (λ (us : List PlanUnit). SumUpEach (g.W.UnitWork.sums_up c.args.work.now) us c.units.sums.items)
-          (take_all c.units.index units c.units-test.false) c.units.invariant.summed;
+      summed = subst (λ (us : List PlanUnit).
+          SumUpEach (g.W.UnitWork.sums_up c.args.work.now) us c.complete.new.sums.items)
+          (take_all c.units.index units c.units-test.false)
+          (c.complete.ensures.summed (take c.units.index units) c.units.invariant.stands);
       steady = λ facts steady.
           all_hold (g.W.UnitWork.fault c.args.work.now facts) c.args.first units c.units.index c.units-test.false
           (c.units.invariant.faultless facts steady);

@@ -2,7 +2,8 @@
 use Rattle.std.proofs.Common.{◌∙◌, ap, refl}
 use Rattle.tor_meta.specs.steps.Contents.{bytes_of}
 use Rattle.tor_meta.specs.Head.{settings_of}
-use Rattle.tor_meta.proofs.Made.{accepted_all, contents_listed, judged_list, lengths_in, made_of, refused_lengths}
+use Rattle.tor_meta.proofs.Made.{accepted_all, contents_listed, files_lawful, judged_list, lengths_in, made_of}
+use Rattle.tor_meta.proofs.Made.{refused_lengths}
 use Rattle.tor_meta.proofs.Made.{refused_paths, within}
 use Rattle.tor_meta.proofs.contents.make_contents.Goals as goal
 
@@ -41,9 +42,10 @@ in_order-requires c =
 
 pub torrent_of-requires-clause-judged : goal.torrent_of-requires-clause-judged
 torrent_of-requires-clause-judged c =
-    judged_list c.args.head.now c.in_ok-paths.paths.items c.deref-2.result.now c.in-Ok.paths c.in-Ok-with_lengths.both.0
-    c.in-Ok.ensures.indexed c.in-Ok.ensures.accepted c.in-Ok-with_lengths.ensures.files
-    (rw (← c.list.view_is) c.list.invariant)
+    judged_list c.args.head.now c.in_ok-paths.paths.items c.deref-2.result.now c.in-Ok.paths
+    c.in-Ok-with_lengths.both.0.files c.in-Ok.ensures.indexed c.in-Ok.ensures.accepted
+    (ap (λ list. list.files) c.in-Ok-with_lengths.ensures.files) (files_lawful c.in-Ok-with_lengths.both.0 (rw (←
+    c.list.view_is) c.list.invariant))
 
 pub torrent_of-requires-clause-contents : goal.torrent_of-requires-clause-contents
 torrent_of-requires-clause-contents c =

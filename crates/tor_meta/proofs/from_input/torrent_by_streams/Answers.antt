@@ -6,7 +6,8 @@ use Rattle.tor_meta.specs.Fed.{tail_length}
 use Rattle.tor_meta.specs.steps.Sums.{SumsOfOne}
 use Rattle.tor_meta.specs.Order.{settings_of_order}
 use Rattle.tor_source.specs.Input.{ReadsWhole}
-use Rattle.tor_spec.specs.Metainfo.{metainfo, only}
+use Rattle.tor_meta.specs.Contents.{one_file}
+use Rattle.tor_spec.specs.Metainfo.{metainfo}
 use Rattle.tor_spec.specs.Settings.{Settings, layout_of}
 use Rattle.tor_meta.proofs.OneFile.{sums_of_one}
 use Rattle.tor_meta.proofs.Refused.{order_numbers}
@@ -95,6 +96,6 @@ returns-clause-made g c =
         );
         accepted = accepted.0;
         torrent = c.in_ok-make_summed.ensures.made content (sym count) one
-            ∙ ap (λ (s : Settings). metainfo s (only s.name content)) settings;
+            ∙ ap (λ (s : Settings). metainfo s (one_file s.name content c.args.attr)) settings;
       },
     )

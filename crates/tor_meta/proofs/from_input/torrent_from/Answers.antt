@@ -1,5 +1,5 @@
 -- The sums were fed what was read.
-use Rattle.std.proofs.Common.{List, ℕ, rules, [], subst}
+use Rattle.std.proofs.Common.{rules, [], subst}
 use Rattle.tor_source.specs.Input.{ReadsWhole}
 use Rattle.tor_meta.proofs.from_input.torrent_from.Goals as goal
 

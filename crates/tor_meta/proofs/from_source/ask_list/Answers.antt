@@ -11,7 +11,7 @@ pub returns-in-Ok-with_lengths-clause-files : goal.returns-in-Ok-with_lengths-cl
 returns-in-Ok-with_lengths-clause-files g c = λ facts steady.
     let told = (c.in-Ok.ensures.steady facts steady).told in
     let within = entries_within _ c.args.paths c.entries.ensures.lawful.indices refl in
-    c.in-Ok-with_lengths.ensures.files
+    ap (λ list. list.files) c.in-Ok-with_lengths.ensures.files
     ∙ rw (c.deref.ensures.value, told, c.entries.ensures.value) (listed_at facts _ c.args.paths within)
 
 pub returns-in-Ok-with_lengths-clause-list : goal.returns-in-Ok-with_lengths-clause-list
@@ -20,7 +20,7 @@ returns-in-Ok-with_lengths-clause-list g c = (
   ap length c.deref.ensures.value ∙ c.in-Ok.ensures.counted ∙ ap length c.entries.ensures.value,
   subst (λ (lengths : List ℕ). HasToldLengths (g.S.Source.told c.args.source.now) lengths) (sym c.deref.ensures.value)
       c.in-Ok.ensures.told,
-  c.in-Ok-with_lengths.ensures.files,
+  ap (λ list. list.files) c.in-Ok-with_lengths.ensures.files,
 )
 
 pub returns-in-Err-clause-gave : goal.returns-in-Err-clause-gave

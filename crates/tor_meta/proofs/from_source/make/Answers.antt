@@ -1,137 +1,36 @@
--- the files in the order of their paths are those that were handed in
-use Rattle.std.proofs.Common.{◌≡◌, ◌<◌, ℕ, List, Some, ◌∙◌, sym, ap, refl, subst, get_or, length}
-use Rattle.std.specs.List.{All}
-use Rattle.std.proofs.lemmas.List.{length-map}
-use Rattle.tor_engine.specs.Contents.{contents_in}
-use Rattle.tor_meta.specs.steps.Contents.{files_of}
-use Rattle.tor_meta.specs.Make.{IsGivenTo}
-use Rattle.tor_meta.specs.MakeError.{of_engine_error}
-use Rattle.tor_meta.specs.Order.{settings_of_order}
-use Rattle.tor_meta.specs.steps.IndexedFiles.{facts_at, renumbered}
-use Rattle.tor_spec.specs.Metainfo.{metainfo}
-use Rattle.tor_tree.specs.FileList.{lengths_of}
-use Rattle.tor_tree.specs.PathList.{indices_of}
-use Rattle.tor_meta.proofs.FromSource.{made_of, made_of_some, made_of_told}
-use Rattle.tor_meta.proofs.GivenFiles.{given_of_indexed}
-use Rattle.tor_meta.proofs.Indexed.{indices_within}
-use Rattle.tor_meta.proofs.SourceFaults.{fault_none, fault_told, lengths_told}
-use Rattle.tor_meta.proofs.Made.{judged_list}
-use Rattle.tor_meta.proofs.Refused.{given_or_not, paths_of, span_of}
-use Rattle.tor_meta.proofs.SourceFiles.{entries_within, told_of_listed}
+-- the paths are those that were handed in
+use Rattle.std.proofs.Common.{◌≡◌, ◌⊎◌, List, ℕ, None, Some, ap, subst, ◌∙◌}
+use Rattle.std.specs.Prelude.{IfErr, MatchResult, OnOk}
+use Rattle.tor_meta.specs.Make.{IsMakeFault, IsOwn, make_refusal}
+use Rattle.tor_meta.specs.declared.make_error.MakeError.TheVariants.{Resources}
+use Rattle.tor_tree.specs.FileList.{paths_of}
+use Rattle.tor_meta.proofs.WithoutLetters.{paths_alone}
 use Rattle.tor_meta.proofs.from_source.make.Goals as goal
-
-pub returns-in-Err-clause-gave : goal.returns-in-Err-clause-gave
-returns-in-Err-clause-gave g c =
-    let source = c.args.source.now in
-    given_or_not (g.S.Source.gave source) (g.S.Source.told source) (g.S.Source.ended source) (length c.args.paths.now)
-    c.args.order.now c.args.paths.now c.in-Err.error c.in-Err.ensures.refused
-
-pub torrent_of_listed-requires-clause-span : goal.torrent_of_listed-requires-clause-span
-torrent_of_listed-requires-clause-span g c κs within = span_of c.args.order.now c.args.paths.now
-    c.in-Ok.ensures.accepted
-
-pub torrent_of_listed-requires-clause-judged : goal.torrent_of_listed-requires-clause-judged
-torrent_of_listed-requires-clause-judged g c κs within =
-    let told = c.in-Ok-ask_list.ensures.list in
-    judged_list c.in_ok-head.head c.args.paths.now told.0 c.in-Ok.paths c.in-Ok-ask_list.both.0 c.in-Ok.ensures.indexed
-    (paths_of c.args.order.now c.in_ok-head.head c.args.paths.now c.in-Ok.ensures.accepted c.in_ok-head.ensures)
-    told.3 (rw (← c.list.view_is) c.list.invariant)
-
-pub returns-in-Ok-torrent_of_listed-clause-made : goal.returns-in-Ok-torrent_of_listed-clause-made
-returns-in-Ok-torrent_of_listed-clause-made g c = λ facts steady.
-    let told = c.in-Ok-ask_list.ensures in
-    let are_indices = c.deref.ensures.value ∙ told.indices in
-    let none = lengths_told facts c.args.paths.now c.in-Ok.paths c.in-Ok-ask_list.both.0 c.deref.result.now
-    c.in-Ok.ensures.indexed (told.fault facts steady) (told.files facts steady) are_indices in
-    made_of facts (settings_of_order c.args.order.now) c.args.paths.now c.in-Ok.paths c.in-Ok-ask_list.both.0
-    c.deref.result.now c.in-Ok-torrent_of_listed.bytes.items
-    c.in-Ok.ensures.indexed c.in-Ok.ensures.lawful (told.files facts steady) are_indices
-    (c.in-Ok-torrent_of_listed.ensures.made (facts_at c.deref.result.now facts) (facts, steady, refl) none
-    ∙ ap (λ settings. metainfo settings (files_of c.in-Ok-ask_list.both.0
-    (contents_in (facts_at c.deref.result.now facts) (length c.in-Ok-ask_list.both.0)))) c.in_ok-head.ensures)
-
-pub returns-in-Ok-torrent_of_listed-clause-fault : goal.returns-in-Ok-torrent_of_listed-clause-fault
-returns-in-Ok-torrent_of_listed-clause-fault g c = λ facts steady.
-    let told = c.in-Ok-ask_list.ensures in
-    let are_indices = c.deref.ensures.value ∙ told.indices in
-    let none = lengths_told facts c.args.paths.now c.in-Ok.paths c.in-Ok-ask_list.both.0 c.deref.result.now
-    c.in-Ok.ensures.indexed (told.fault facts steady) (told.files facts steady) are_indices in
-    fault_none facts c.args.order.now c.args.paths.now c.in-Ok.paths c.in-Ok-ask_list.both.0 c.deref.result.now
-    c.in-Ok.ensures.indexed c.in-Ok.ensures.lawful c.in-Ok.ensures.accepted (told.fault facts steady)
-    (told.files facts steady) are_indices
-    (c.in-Ok-torrent_of_listed.ensures.fault (facts_at c.deref.result.now facts) (facts, steady, refl) none)
-
-pub returns-in-Ok-torrent_of_listed-clause-whole : goal.returns-in-Ok-torrent_of_listed-clause-whole
-returns-in-Ok-torrent_of_listed-clause-whole g c =
-    let list = c.in-Ok-ask_list.ensures.list in
-    let whole = c.in-Ok-torrent_of_listed.ensures.whole in
-    made_of_some (settings_of_order c.args.order.now) c.args.paths.now list.0 c.in-Ok.paths c.in-Ok-ask_list.both.0
-    whole.0
-    c.in-Ok-torrent_of_listed.bytes.items c.in-Ok.ensures.indexed c.in-Ok.ensures.lawful list.3 whole.1
-    (whole.2 ∙ ap (λ settings. metainfo settings (files_of c.in-Ok-ask_list.both.0 whole.0)) c.in_ok-head.ensures)
-
-pub returns-in-Ok-torrent_of_listed-clause-told : goal.returns-in-Ok-torrent_of_listed-clause-told
-returns-in-Ok-torrent_of_listed-clause-told g c =
-    let list = c.in-Ok-ask_list.ensures.list in
-    let whole = c.in-Ok-torrent_of_listed.ensures.whole in
-    made_of_told (g.S.Source.told c.args.source.now) (settings_of_order c.args.order.now) c.args.paths.now list.0
-    c.in-Ok.paths c.in-Ok-ask_list.both.0 whole.0 c.in-Ok-torrent_of_listed.bytes.items c.in-Ok.ensures.indexed
-    c.in-Ok.ensures.lawful list.1 list.2 list.3 whole.1
-    (whole.2 ∙ ap (λ settings. metainfo settings (files_of c.in-Ok-ask_list.both.0 whole.0)) c.in_ok-head.ensures)
 
 pub returns-clause-fault : goal.returns-clause-fault
 returns-clause-fault g c = λ facts steady.
-    let told = c.in-Ok-ask_list.ensures in
-    let are_indices = c.deref.ensures.value ∙ told.indices in
-    let none = lengths_told facts c.args.paths.now c.in-Ok.paths c.in-Ok-ask_list.both.0 c.deref.result.now
-    c.in-Ok.ensures.indexed (told.fault facts steady) (told.files facts steady) are_indices in
-    fault_told facts c.args.order.now c.args.paths.now c.in-Ok.paths c.in-Ok-ask_list.both.0
-    c.deref.result.now c.in-Err-torrent_of_listed.error c.from.result
-    c.in-Ok.ensures.indexed c.in-Ok.ensures.lawful c.in-Ok.ensures.accepted (told.fault facts steady)
-    (told.files facts steady) are_indices
-    (c.from.ensures ∙ ap of_engine_error (c.renumbered.ensures
-    ∙ ap (λ indices. renumbered indices c.in-Err-torrent_of_listed.error)
-    (c.deref-in-Err-torrent_of_listed.ensures.value ∙ sym c.deref.ensures.value)))
-    (c.in-Err-torrent_of_listed.ensures.fault (facts_at c.deref.result.now facts) (facts, steady, refl) none)
+    let order = c.args.order.now in
+    let same = ap paths_of (c.deref.ensures.value ∙ c.in_ok-files.ensures) ∙ paths_alone c.args.paths.now in
+    subst (λ (paths : List (List (List ℕ))). MatchResult c.make_with.result
+    (λ bytes. IsMakeFault {F = g.row.S-Fault.Denot} facts order paths None)
+    (λ error. (error ≡ Resources) ⊎ IsMakeFault {F = g.row.S-Fault.Denot} facts order paths (Some error))) same
+    (c.make_with.ensures.fault facts steady)
 
-pub returns-in-Err-ask_list-clause-only : goal.returns-in-Err-ask_list-clause-only
-returns-in-Err-ask_list-clause-only g c = c.in-Err-ask_list.ensures.only _
+pub returns-clause-accepted : goal.returns-clause-accepted
+returns-clause-accepted g c =
+    let same = ap paths_of (c.deref.ensures.value ∙ c.in_ok-files.ensures) ∙ paths_alone c.args.paths.now in
+    subst (λ (paths : List (List (List ℕ))). OnOk c.make_with.result
+    (make_refusal {F = g.row.S-Fault.Denot} c.args.order.now paths ≡ None)) same
+    c.make_with.ensures.accepted
 
-pub returns-in-Err-ask_list-clause-gave : goal.returns-in-Err-ask_list-clause-gave
-returns-in-Err-ask_list-clause-gave g c =
-    let source = c.args.source.now in
-    subst (λ (n : ℕ).
-    IsGivenTo (g.S.Source.gave source) (g.S.Source.told source) (g.S.Source.ended source) n c.in-Err-ask_list.error)
-    c.in-Ok.ensures.indexed.one_each c.in-Err-ask_list.ensures.gave
+pub returns-clause-refused : goal.returns-clause-refused
+returns-clause-refused g c = λ refusal is.
+    let same = ap paths_of (c.deref.ensures.value ∙ c.in_ok-files.ensures) ∙ paths_alone c.args.paths.now in
+    c.make_with.ensures.refused refusal (ap (make_refusal {F = g.row.S-Fault.Denot} c.args.order.now) same ∙ is)
 
-pub returns-clause-gave : goal.returns-clause-gave
-returns-clause-gave g c =
-    let gave = g.S.Source.gave c.args.source.now in
-    let told = g.S.Source.told c.args.source.now in
-    let ended = g.S.Source.ended c.args.source.now in
-    let count = length c.args.paths.now in
-    let indices = c.deref.result.now in
-    let paths = c.in-Ok.paths in
-    let indexed = c.in-Ok.ensures.indexed in
-    let asked = c.in-Ok-ask_list.ensures in
-    let lengths = asked.list.0 in
-    let list = c.in-Ok-ask_list.both.0 in
-    let are_indices = c.deref.ensures.value ∙ asked.indices in
-    let handed_in : length (indices_of paths) ≡ count =
-    length-map paths (λ entry. entry.1) ∙ indexed.one_each in
-    let within = subst (λ (ks : List ℕ). All (λ index. index < count) ks) (sym are_indices)
-    (indices_within count (indices_of paths) indexed.indices handed_in) in
-    let one_each : length (lengths_of list) ≡ length indices =
-    ap (λ files. length (lengths_of files)) asked.list.3 ∙ length-map _ (λ file. file.1) ∙ length-map paths _
-    ∙ sym (length-map paths (λ entry. entry.1)) ∙ sym (ap length are_indices) in
-    let entries = entries_within (length lengths) paths indexed.indices (sym asked.list.1) in
-    let first : (file : ℕ) → file < length indices
-    → told (get_or indices file 0) (Some (get_or (lengths_of list) file 0))
-    =
-    rw (are_indices, asked.list.3) (told_of_listed told lengths paths entries asked.list.2) in
-    let same = c.from.ensures ∙ ap of_engine_error (c.renumbered.ensures
-    ∙ ap (λ indices. renumbered indices c.in-Err-torrent_of_listed.error)
-    (c.deref-in-Err-torrent_of_listed.ensures.value ∙ sym c.deref.ensures.value)) in
-    subst (λ error. IsGivenTo gave told ended count error) (sym same)
-    (given_of_indexed gave told ended count indices (lengths_of list) within one_each first
-    c.in-Err-torrent_of_listed.error c.in-Err-torrent_of_listed.ensures.gave)
+pub returns-clause-only : goal.returns-clause-only
+returns-clause-only g c =
+    let same = ap paths_of (c.deref.ensures.value ∙ c.in_ok-files.ensures) ∙ paths_alone c.args.paths.now in
+    subst (λ (paths : List (List (List ℕ))). IfErr c.make_with.result
+    (IsOwn (make_refusal {F = g.row.S-Fault.Denot} c.args.order.now paths))) same
+    c.make_with.ensures.only

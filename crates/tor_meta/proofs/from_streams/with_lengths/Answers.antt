@@ -11,6 +11,6 @@ returns-in-Ok-clause-list c = λ names same.
     let lengths = c.args.lengths.now in
     let long : length lengths ≡ length names = c.requires ∙ ap length same
     ∙ length-map (enumerate_from 0 names) (λ (p : ℕ × List (List ℕ)). (p.1, p.0)) ∙ length-enumerate_from 0 names in
-    c.in-Ok.ensures.files
+    ap (λ list. list.files) c.in-Ok.ensures.files
     ∙ ap (λ entries. map (λ (entry : List (List ℕ) × ℕ). (entry.0, get_or lengths entry.1 0)) entries) same
     ∙ paired names lengths long

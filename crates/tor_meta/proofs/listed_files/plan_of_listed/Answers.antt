@@ -9,7 +9,7 @@ use Rattle.tor_meta.proofs.listed_files.plan_of_listed.Goals as goal
 pub of_entries-requires-clause-entries : goal.of_entries-requires-clause-entries
 of_entries-requires-clause-entries c =
     let head = c.args.head.now in
-    let list = c.args.list.now in
+    let list = c.args.list.now.files in
     let p = head.piece_length in
     let judged = c.requires.judged in
     let pieces = plan_pieces head.kind p ((c.piece_length_bounds.ensures p).0 judged.piece_length) in
@@ -19,7 +19,7 @@ of_entries-requires-clause-entries c =
 pub returns : goal.returns
 returns c =
     let head = c.args.head.now in
-    let list = c.args.list.now in
+    let list = c.args.list.now.files in
     let p = head.piece_length in
     let span = c.args.span in
     let judged = c.requires.judged in

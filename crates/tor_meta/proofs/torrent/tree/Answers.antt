@@ -6,7 +6,8 @@ use Rattle.tor_meta.proofs.torrent.tree.Goals as goal
 
 pub unreachable-requires : goal.unreachable-requires
 unreachable-requires c =
-    let there = facts_there c.args.head.now c.args.list.now c.args.sums.now c.requires.trees in
+    let there = facts_there c.args.head.now c.args.list.now c.args.sums.now c.attrs-attrs.ensures.one_each
+    c.requires.trees in
     let made =
     makeable c.args.head.now c.args.list.now c.args.sums.now there.0 c.requires.judged c.requires.trees there.1 in
     let lawful =
@@ -16,6 +17,7 @@ unreachable-requires c =
 
 pub returns-clause-info : goal.returns-clause-info
 returns-clause-info c =
-    let there = facts_there c.args.head.now c.args.list.now c.args.sums.now c.requires.trees in
+    let there = facts_there c.args.head.now c.args.list.now c.args.sums.now c.attrs-attrs.ensures.one_each
+    c.requires.trees in
     rw (c.in-Ok.ensures.kept, c.in_ok-root.ensures there.0 there.1)
     (info_there (settings_of c.args.head.now) there.0 c.args.sums.now.pieces.items)

@@ -8,9 +8,11 @@ use Rattle.tor_tree.proofs.write_tree.+folder.Goals as goal
 
 pub folder-loop-start-preserved : goal.folder-loop-start-preserved
 folder-loop-start-preserved t c =
-    let made = next_made c.args.depth c.loop-start.start c.in_ok-next.next.count c.args.files.now c.args.roots.now
+    let made = next_made c.args.depth c.loop-start.start c.in_ok-next.next.count c.args.files.now c.args.attrs.now
+    c.args.roots.now
     c.in_ok-next.next.key.items (view c.in_ok-next.next.value) (rw (
       to_end c.loop-start.start c.args.files.now,
+      to_end c.loop-start.start c.args.attrs.now,
       to_end c.loop-start.start c.args.roots.now,
     ) at c.in_ok-next.ensures.made) in (
       omega (arith, c.in_ok-next.ensures.count.1, length-drop c.loop-start.start c.args.files.now),
@@ -23,9 +25,13 @@ folder-loop-start-preserved t c =
 
 pub folder-returns-clause-made : goal.folder-returns-clause-made
 folder-returns-clause-made t c =
-    let files = files_below c.args.depth c.args.files.now c.args.roots.now in
+    let files = files_below c.args.depth c.args.files.now c.args.attrs.now c.args.roots.now in
     let ended : drop c.loop-start.start files ≡ [] = drop_all c.loop-start.start files
-    (omega (arith, length-files_below c.args.depth c.args.files.now c.args.roots.now c.requires.one_each)) in
+    (omega (
+      arith,
+      length-files_below c.args.depth c.args.files.now c.args.attrs.now c.args.roots.now
+          c.requires.letters_each c.requires.one_each,
+    )) in
     sym (followed_by-none (pairs_view c.loop-start.pairs.items)) ∙ (rw ended at c.loop-start.invariant.1)
 
 pub folder-returns-clause-rooted : goal.folder-returns-clause-rooted
@@ -47,7 +53,8 @@ next_pair-returns-clause-made t c =
       | inr past ↦ (let e : c.run_len-count.result ≡ 0 = omega arith in
           absurd (both_ways _ (rw (e, ← c.index-files-0.is) at (c.run_len-count.ensures.ends item (omega arith))) has))
     ] in
-    let made = group_made c.args.depth name named c.args.files.now c.args.roots.now c.run_len-count.result some
-    c.requires.some c.requires.one_each c.run_len-count.ensures.same c.run_len-count.ensures.ends
+    let made = group_made c.args.depth name named c.args.files.now c.args.attrs.now c.args.roots.now
+    c.run_len-count.result some c.requires.some c.requires.letters_each c.requires.one_each
+    c.run_len-count.ensures.same c.run_len-count.ensures.ends
     (pairs_view c.in_ok-inside.inside.items) c.in_ok-inside.ensures.made in
     rw (c.in_ok-from_slice.ensures.items, c.as_bytes.ensures.value, view_dictionary) made

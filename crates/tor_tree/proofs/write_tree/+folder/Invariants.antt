@@ -17,6 +17,7 @@ decreases-folder-loop-start l = length l.files - l.start
 abbrev pub invariant-folder-loop-start : goal.invariant-folder-loop-start
 invariant-folder-loop-start l =
     (l.start ≤ length l.files)
-    × (followed_by (pairs_view l.pairs.items) (pairs_of_files (drop l.start (files_below l.depth l.files l.roots)))
-    ≡ pairs_of_files (files_below l.depth l.files l.roots))
+    × (followed_by (pairs_view l.pairs.items)
+    (pairs_of_files (drop l.start (files_below l.depth l.files l.attrs l.roots)))
+    ≡ pairs_of_files (files_below l.depth l.files l.attrs l.roots))
     × All IsRoot (take l.start l.roots)

@@ -6,6 +6,8 @@ use Rattle.tor_engine.specs.Contents.{contents_in}
 use Rattle.tor_engine.specs.PieceFault.{piece_fault, pieces_fault}
 use Rattle.tor_engine.specs.PieceHashes.{hash_if_there}
 use Rattle.tor_engine.specs.There.{is_within}
+use Rattle.tor_engine.specs.steps.Pieces.{HashesPieces}
+use Rattle.tor_engine.proofs.Each.{each_next}
 use Rattle.tor_engine.proofs.FirstOf.{first_at, first_next, first_of_none}
 use Rattle.tor_engine.proofs.piece_work.PieceWorkUnitWork.hash.Goals as goal
 
@@ -24,7 +26,7 @@ returns-in-Err-clause-fault g c = λ facts steady.
 
 pub pieces-init : goal.pieces-init
 pieces-init g c = record {
-  fresh = c.requires.fresh;
+  fresh = c.requires.stands.2.0;
   hashed = λ facts steady told. (
     c.new-hashes.ensures.items,
     first_of_none (piece_fault facts (contents_in facts (length c.args.self.now.plan.now.lengths))),
@@ -62,19 +64,23 @@ pieces-preserved g c = record {
       ∙ ap (map within) (sym (take_more pieces i _ c.pieces-test.true));
 }
 
-pub returns-clause-summed : goal.returns-clause-summed
-returns-clause-summed g c =
+pub returns-clause-stands : goal.returns-clause-stands
+returns-clause-stands g c = λ units before stands.
     let plan = c.args.self.now.plan.now in
+    let told = c.args.self.now.known.now.lengths.items in
     let items = c.as_slice-piece-items.result.now in
     let all = take_all c.pieces.piece-index items c.pieces-test.false
     ∙ c.as_slice-piece-items.ensures.value ∙ c.in_ok-pieces.ensures
-    ∙ ap (λ p. pieces_of_unit p c.args.unit.now) c.piece_length.ensures in
-    record {
-      steady = λ facts steady told.
-          (c.pieces.invariant.hashed facts steady told).0
-          ∙ ap (map (hash_if_there plan (contents_in facts (length plan.lengths)))) all;
-      there = c.pieces.invariant.there ∙ ap (map (is_within c.args.self.now.known.now.lengths.items)) all;
-    }
+    ∙ ap (λ p. pieces_of_unit p c.args.unit.now) c.piece_length.ensures in (
+      c.pieces.invariant.fresh,
+      each_next (λ unit one. HashesPieces (g.S.FileBytes.is_steady c.args.self.now.source.now) plan told unit
+          one.hashes.items) units c.args.unit.now before _ stands.1 (record {
+            steady = λ facts steady told.
+                (c.pieces.invariant.hashed facts steady told).0
+                ∙ ap (map (hash_if_there plan (contents_in facts (length plan.lengths)))) all;
+            there = c.pieces.invariant.there ∙ ap (map (is_within told)) all;
+          }),
+    )
 
 pub returns-clause-fault : goal.returns-clause-fault
 returns-clause-fault g c = λ facts steady.

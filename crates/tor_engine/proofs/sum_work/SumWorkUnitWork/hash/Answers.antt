@@ -1,8 +1,29 @@
 -- the source has the parts of the unit
+use Rattle.std.proofs.Common.{◌++◌}
+use Rattle.tor_engine.specs.steps.Run.{OwesUnit}
 use Rattle.tor_engine.proofs.Parts.{unit_there}
+use Rattle.tor_engine.proofs.PaidSums.{if_ok_more, owe_next}
 use Rattle.tor_engine.proofs.sum_work.SumWorkUnitWork.hash.Goals as goal
+
+pub sum_unit-requires-clause-owing : goal.sum_unit-requires-clause-owing
+sum_unit-requires-clause-owing g c = (c.requires.stands.2.0, c.requires.stands.2.1)
+
+pub returns-clause-stands : goal.returns-clause-stands
+returns-clause-stands g c = λ units before stands.
+    let work = c.args.self.now in
+    if_ok_more c.sum_unit.result _ _
+    (λ one is. (
+      stands.0 ++ is.0,
+      is.2,
+      owe_next (OwesUnit (g.S.FileBytes.is_steady work.source.now) work.plan.now) units before stands.0
+          c.args.unit.now one is.0 stands.2 is.1,
+    ))
+    (c.sum_unit.ensures.owing stands.0 stands.1)
 
 pub returns-clause-fault : goal.returns-clause-fault
 returns-clause-fault g c = λ facts steady.
     c.sum_unit.ensures.fault facts steady.0
     (unit_there facts c.args.self.now.plan.now steady.1 c.args.unit.now c.requires.unit.within)
+
+pub returns-clause-gave : goal.returns-clause-gave
+returns-clause-gave g c = c.sum_unit.ensures.gave c.args.self.now.plan.now.lengths c.requires.unit.within.parts

@@ -1,16 +1,35 @@
--- zeros are hashed once nothing waits
-use Rattle.std.proofs.Common.{refl}
+-- zeros stand behind what the tree has
+use Rattle.std.proofs.Common.{◌++◌, ◌∙◌, ◌-◌, ap, arith, refl}
 use Rattle.tor_v1.specs.Piece.{zeros}
-use Rattle.tor_engine.proofs.Waiting.{none_held, takes_none, takes_zeros}
+use Rattle.tor_engine.specs.steps.Room.{count_in}
+use Rattle.tor_engine.proofs.Waiting.{takes_more_zeros, takes_none}
 use Rattle.tor_engine.proofs.worker.WorkerSums.feed_zeros.Goals as goal
 
 pub returns-then-count-eq0-clause-taken : goal.returns-then-count-eq0-clause-taken
 returns-then-count-eq0-clause-taken c = λ kind p part unit taken.
     takes_none kind p c.args.self.now part unit c.args.count c.if-count-eq0.true taken
 
-pub returns-clause-taken : goal.returns-clause-taken
-returns-clause-taken c = λ kind p part unit taken.
-    let mid = c.hash_all.new.self in
-    takes_zeros kind p mid _ (zeros c.args.count) part unit
-    (none_held mid.room c.in_ok-hash_all.ensures.none) refl (c.in_ok-feed_zeros.ensures.fed kind p)
-    (c.in_ok-hash_all.ensures.keeps kind p part unit taken)
+pub zeros-init : goal.zeros-init
+zeros-init c =
+    let room = ap count_in c.in_ok-feed_tree.ensures.room in
+    record {
+      within = omega arith;
+      treed = omega (arith, c.in_ok-feed_tree.ensures.treed, c.held.ensures, room, c.args.self.now.marked);
+      begun = refl;
+      taken = λ kind p bytes unit taken. takes_none kind p _ bytes unit _ (omega arith) taken;
+    }
+
+pub zeros-preserved : goal.zeros-preserved
+zeros-preserved c =
+    let width = c.in_ok-width.width in
+    let put = c.in_ok-width.ensures in
+    let old = c.zeros.invariant in
+    record {
+      within = omega (arith, old.within);
+      treed = put.treed;
+      begun = put.begun ∙ old.begun;
+      taken = λ kind p bytes unit taken.
+          takes_more_zeros kind p _ bytes unit (c.args.count - c.zeros.left) width _
+          (omega (arith, old.within, put.some.1))
+          (put.taken kind p bytes (unit ++ zeros (c.args.count - c.zeros.left)) (old.taken kind p bytes unit taken));
+    }

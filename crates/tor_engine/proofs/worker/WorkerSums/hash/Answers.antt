@@ -1,8 +1,10 @@
 -- the first bytes that waited were hashed
-use Rattle.tor_engine.proofs.Waiting.{keeps}
+use Rattle.std.proofs.Common.{arith, refl}
+use Rattle.tor_engine.proofs.Waiting.{pieces_keep}
 use Rattle.tor_engine.proofs.worker.WorkerSums.hash.Goals as goal
 
 pub returns-clause-keeps : goal.returns-clause-keeps
-returns-clause-keeps c =
-    keeps c.args.self.now _ c.args.count c.front.result.now c.front.ensures.value c.let_go.ensures.held
-    c.in_ok-feed.ensures.fed
+returns-clause-keeps c = λ kind p bytes unit taken.
+    pieces_keep c.feed_tree.new.self _ c.args.count c.front.result.now
+    (omega (arith, c.in_ok-feed_tree.ensures.treed)) refl c.front.ensures.value c.let_go.ensures.held
+    c.in_ok-feed_pieces.ensures.fed kind p bytes unit (c.in_ok-feed_tree.ensures.keeps kind p bytes unit taken)

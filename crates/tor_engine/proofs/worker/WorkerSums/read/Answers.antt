@@ -11,6 +11,6 @@ returns-in-Ok-clause-read g c =
       counted = read.counted;
       steady = read.steady;
       taken = λ kind p before unit taken.
-          takes kind p c.make_room.new.self _ read.bytes before unit refl read.held
+          takes kind p c.make_room.new.self _ read.bytes before unit refl refl read.held
           (c.in_ok-make_room.ensures.keeps kind p before unit taken);
     }

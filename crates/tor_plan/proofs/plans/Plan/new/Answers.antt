@@ -15,7 +15,7 @@ of_entries-requires-clause-entries c =
     let p = c.args.piece_length in
     subst (IsEntryList kind p) (sym (c.deref.ensures.value ∙ c.in_ok-entries.ensures
     ∙ ap₂ (λ (l : Layout) (fs : List File). v1_entries l p fs) c.layout_of.ensures c.files-files.ensures.value))
-    (files_are_list kind false p c.args.list.now c.files-files.ensures.lawful c.requires.pieces)
+    (files_are_list kind false p c.args.list.now.files c.files-files.ensures.lawful c.requires.pieces)
 
 pub returns : goal.returns
 returns c =
@@ -24,4 +24,4 @@ returns c =
     subst (λ (all : PlanFacts). IfOk c.of_entries.result (λ plan. plan ≡ all))
     (ap (plan_of_entries kind p c.args.span) (c.deref.ensures.value ∙ c.in_ok-entries.ensures
     ∙ ap₂ (λ (l : Layout) (fs : List File). v1_entries l p fs) c.layout_of.ensures c.files-files.ensures.value)
-    ∙ sym (same_plan kind p c.args.span c.args.list.now)) c.of_entries.ensures
+    ∙ sym (same_plan kind p c.args.span c.args.list.now.files)) c.of_entries.ensures

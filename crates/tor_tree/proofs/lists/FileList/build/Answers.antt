@@ -1,4 +1,4 @@
-use Rattle.tor_tree.proofs.Cited.{inl, sym, ◌∙◌, arith, IsPermutation, IfOk-weaker, IfErr-weaker}
+use Rattle.tor_tree.proofs.Cited.{inl, inr, sym, ◌∙◌, arith, IsPermutation, IfOk-weaker, IfErr-weaker}
 use Rattle.tor_tree.proofs.ListFaults.{fault_of_lengths, fault_of_paths}
 use Rattle.tor_tree.proofs.Permuted.{list_fault-permutation, permutation-written_back}
 use Rattle.tor_tree.proofs.lists.FileList.build.Goals as goal
@@ -16,17 +16,21 @@ returns-clause-accepted c =
     let moved : IsPermutation c.args.files.items c.deref.result.now =
     permutation-written_back c.args.files.len _ _ _ _
     (omega arith) c.as_mut_slice.ensures.value c.sort.ensures.permutation c.deref.ensures.value in
-    IfOk-weaker c.of_sorted.result _ _
+    IfOk-weaker c.without_letters.result _ _
     (λ list accepted. list_fault-permutation _ _ moved
     ∙ fault_of_lengths c.deref.result.now (sym c.in_default.ensures.value) ∙ rw c.deref.ensures.value accepted)
-    c.of_sorted.ensures.accepted
+    c.without_letters.ensures.accepted
 
 pub returns-clause-refused : goal.returns-clause-refused
 returns-clause-refused c =
     let moved : IsPermutation c.args.files.items c.deref.result.now =
     permutation-written_back c.args.files.len _ _ _ _
     (omega arith) c.as_mut_slice.ensures.value c.sort.ensures.permutation c.deref.ensures.value in
-    IfErr-weaker c.of_sorted.result _ _
-    (λ fault refused. inl (list_fault-permutation _ _ moved
-    ∙ fault_of_lengths c.deref.result.now (sym c.in_default.ensures.value) ∙ rw c.deref.ensures.value refused))
-    c.of_sorted.ensures.refused
+    IfErr-weaker c.without_letters.result _ _
+    (λ fault refused. elim refused [
+      | inl lengths ↦
+          inl (list_fault-permutation _ _ moved
+          ∙ fault_of_lengths c.deref.result.now (sym c.in_default.ensures.value) ∙ rw c.deref.ensures.value lengths)
+      | inr memory ↦ inr memory
+    ])
+    c.without_letters.ensures.refused

@@ -7,7 +7,10 @@ invariant_of-result c =
     let small : lengths_too_large (lengths_of c.args.files.items) ≡ false =
     rw (← c.deref.ensures.value) (sym c.is_too_large.ensures ∙ c.if-is_too_large.false) in
     record {
-      faultless = fault_of_lengths c.args.files.items c.requires.judged ∙ rw small refl;
-      in_order = c.requires.in_order;
-      named = rw (← c.deref-2.ensures.value) c.each_is_path.ensures;
+      lawful = record {
+        faultless = fault_of_lengths c.args.files.items c.requires.judged ∙ rw small refl;
+        in_order = c.requires.in_order;
+        named = rw (← c.deref-2.ensures.value) c.each_is_path.ensures;
+      };
+      one_each = c.requires.one_each;
     }

@@ -8,9 +8,9 @@ use Rattle.tor_v1.proofs.Fed.{room_less, room_within}
 use Rattle.tor_v1.proofs.Zeros.{zeros-nil, length-zeros, zeros-append}
 use Rattle.tor_v1.proofs.sums.PieceSums.feed_zeros.Goals as goal
 
-pub returns-in_err-reserve-clause-within : goal.returns-in_err-reserve-clause-within
-returns-in_err-reserve-clause-within c = λ p bytes fed le.
-    absurd (false≢true (c.in_err-reserve.ensures.there (room_within c.args.self.now p bytes fed c.args.count le)))
+pub returns-in_err-make_room-clause-within : goal.returns-in_err-make_room-clause-within
+returns-in_err-make_room-clause-within c = λ p bytes fed le.
+    absurd (false≢true (c.in_err-make_room.ensures.there (room_within c.args.self.now p bytes fed c.args.count le)))
 
 pub parts-init : goal.parts-init
 parts-init c = record {
@@ -18,8 +18,8 @@ parts-init c = record {
   fed = λ p before fed.
       let none : zeros (c.args.count - c.args.count) ≡ [] =
       ap zeros (let e : c.args.count - c.args.count ≡ 0 = omega arith in e) ∙ zeros-nil in
-      subst (HasFed c.reserve.new.self p) (sym (ap (λ xs. before ++ xs) none ∙ append-nil before)) fed;
-  room = c.in_ok-reserve.ensures.room;
+      subst (HasFed c.make_room.new.self p) (sym (ap (λ xs. before ++ xs) none ∙ append-nil before)) fed;
+  room = c.in_ok-make_room.ensures.room;
 }
 
 pub add-requires : goal.add-requires

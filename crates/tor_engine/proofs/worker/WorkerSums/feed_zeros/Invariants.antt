@@ -1,0 +1,18 @@
+-- the zeros that are not left were taken, and the tree wants nothing of what waits
+use Rattle.std.proofs.Common.{◌≡◌, ◌≤◌, ◌-◌, ◌++◌, ℕ, List}
+use Rattle.tor_tree.specs.declared.kinds.Kind.{Kind}
+use Rattle.tor_v1.specs.Piece.{zeros}
+use Rattle.tor_engine.specs.steps.Worker.{HasTaken}
+use Rattle.tor_engine.proofs.worker.WorkerSums.feed_zeros.Given as goal
+
+abbrev pub invariant-zeros : goal.invariant-zeros
+invariant-zeros l = record {
+  within : l.left ≤ l.count;
+  treed : l.self.treed ≡ l.self.room.held;
+  begun : l.self.begun ≡ l.initial.self.begun;
+  taken : (kind : Kind) (p : ℕ) (bytes unit : List ℕ) → HasTaken kind p bytes unit l.initial.self
+      → HasTaken kind p bytes (unit ++ zeros (l.count - l.left)) l.self;
+}
+
+abbrev pub decreases-zeros : goal.decreases-zeros
+decreases-zeros l = l.left
