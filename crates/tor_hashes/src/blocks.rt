@@ -8,7 +8,7 @@ use crate::sha256_block::{after_block, after_blocks};
 use crate::sha256_digest::digests;
 use crate::words::{Words, same};
 
-const BLOCK_LENGTH: usize = 16384;
+pub(crate) const BLOCK_LENGTH: usize = 16384;
 
 // The words of the padding of 16,384 bytes, which is a block of its own (FIPS 180-4, 5.1.1): a one, zeros, and
 // the length in bits.

@@ -29,8 +29,10 @@
 mod block_words;
 mod blocks;
 mod functions;
+mod last_blocks;
 mod node_padding;
 mod nodes;
+mod padded;
 mod pieces;
 mod sha1_block;
 mod sha1_constants;
@@ -46,5 +48,6 @@ mod transposed;
 mod words;
 
 pub use blocks::block_hashes;
+pub use last_blocks::last_block_hashes;
 pub use nodes::node_hashes;
 pub use pieces::piece_hashes;

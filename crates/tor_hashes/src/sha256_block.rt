@@ -65,8 +65,27 @@ pub(crate) fn after_blocks(bytes: &[u8], size: usize, count: usize) -> [Words; 8
     ensures { (j : ℕ) → j < 8
         → eight_of j result ≡ hash_after initial_hash_256 (drop (size * j) bytes.now) count }
 {
-    let mut hash = initial();
-    'blocks: for i in 0..count {
+    next_blocks(bytes, size, initial(), 0, count)
+}
+
+// The same of those after the first `done` blocks.
+pub(crate) fn next_blocks(
+    bytes: &[u8],
+    size: usize,
+    hash: [Words; 8],
+    done: usize,
+    count: usize,
+) -> [Words; 8]
+    requires inside { 64 * count ≤ size }
+    requires length { 8 * size ≤ length bytes.now }
+    requires done { done ≤ count }
+    requires hash { (j : ℕ) → j < 8
+        → eight_of j hash ≡ hash_after initial_hash_256 (drop (size * j) bytes.now) done }
+    ensures { (j : ℕ) → j < 8
+        → eight_of j result ≡ hash_after initial_hash_256 (drop (size * j) bytes.now) count }
+{
+    let mut hash = hash;
+    'blocks: for i in done..count {
         let words = words_of_blocks(bytes, size, 64 * i);
         let next = after_block(words, hash);
         hash = next;
