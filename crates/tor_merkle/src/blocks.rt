@@ -1,15 +1,14 @@
 //! Bytes that come in parts, cut into blocks, whose leaves go into the tree of the pieces.
 
 ghost use Rattle.std.specs.Prelude.{◌≡◌, ◌+◌, ◌*◌, ◌%◌, ◌^◌, ◌<◌, ◌≤◌, ◌↔◌, []};
-ghost use Rattle.std.specs.Prelude.{◌++◌, length, OnOk, IsOk, IsNone, IfSome};
+ghost use Rattle.std.specs.Prelude.{◌-◌, ◌++◌, length, OnOk, IsOk};
 ghost use Rattle.std.specs.Int.{div_ceil};
-ghost use Rattle.tor_merkle.specs.Block.{leaves};
-ghost use Rattle.tor_merkle.specs.Layer.{pieces_root, piece_roots, piece_layer};
-ghost use Rattle.tor_merkle.specs.steps.Blocks.{FitsBlock, FitsRun};
+ghost use Rattle.tor_merkle.specs.declared.run.TheConstants.{RUN_LENGTH};
+ghost use Rattle.tor_merkle.specs.steps.Blocks.{FitsBlock, FitsRun, KeepsFeeding, after_bytes};
 
-use crate::hash::Hash;
+use crate::fed_tree::FedTree;
 use crate::pieces::PieceTree;
-use crate::run::{LEAST_RUN, RUN_LENGTH, run_leaves};
+use crate::run::{LEAST_RUN, RUN_LENGTH, push_run};
 use crate::trail::History;
 use crate::{BLOCK_LENGTH, MAX_LENGTH};
 use sha2::{Digest, Sha256};
@@ -101,9 +100,7 @@ impl BlockHasher {
         ensures capacity { self.old.capacity ≤ self.new.capacity }
     {
         let fed = self.fed.with(run);
-        let leaves = run_leaves(run);
-        let (own, _) = leaves.as_slice().split_at(run.len() / BLOCK_LENGTH);
-        self.tree.push_all(own);
+        push_run(&mut self.tree, run);
         self.count += run.len() as u64;
         self.fed = fed;
     }
@@ -132,44 +129,76 @@ impl BlockHasher {
         self.fed = fed;
     }
 
-    // The root of the bytes fed, and the hashes of their pieces where there is more than one.
-    pub(crate) fn finish(self) -> Option<(Hash, Vec<Hash>)>
-        requires { div_ceil (length self.bytes) (BLOCK_LENGTH * 2 ^ self.height) ≤ self.capacity }
-        ensures empty { IsNone result ↔ (self.bytes ≡ []) }
-        ensures root { IfSome result (λ s. s.0 ≡ pieces_root self.bytes) }
-        ensures layer { IfSome result (λ s. s.1.items ≡ piece_layer self.bytes (BLOCK_LENGTH * 2 ^ self.height)) }
-    {
-        if self.count == 0 {
-            return None;
-        }
-        Some(self.into_tree().finish())
-    }
-
-    // The root of each piece of the bytes fed.
-    pub(crate) fn piece_roots(self) -> Vec<Hash>
-        requires { div_ceil (length self.bytes) (BLOCK_LENGTH * 2 ^ self.height) ≤ self.capacity }
-        ensures { result.items ≡ piece_roots self.bytes (BLOCK_LENGTH * 2 ^ self.height) }
-    {
-        self.into_tree().piece_roots()
-    }
-
-    // The tree with the leaf of the last block, whole or short.
-    fn into_tree(self) -> PieceTree
-        requires { div_ceil (length self.bytes) (BLOCK_LENGTH * 2 ^ self.height) ≤ self.capacity }
-        ensures height { result.height ≡ self.height }
-        ensures leaves { result.leaves ≡ leaves self.bytes }
-        ensures capacity { self.capacity ≤ result.capacity }
+    // The tree with the leaf of the last block, whole or short, for pieces of so many bytes.
+    pub(crate) fn end(self, piece_length: u64) -> FedTree
+        requires { KeepsFeeding piece_length self }
+        ensures piece_length { result.piece_length ≡ piece_length }
+        ensures bytes { result.bytes ≡ self.bytes }
     {
         let BlockHasher {
             count,
             hasher,
             mut tree,
-            fed: _fed,
+            fed,
         } = self;
         let leaf = hasher.finalize();
         if count % BLOCK_LENGTH as u64 > 0 {
             tree.push(leaf);
         }
-        tree
+        FedTree {
+            piece_length,
+            count,
+            tree,
+            fed,
+        }
+    }
+
+    // The same after the last bytes, for whose pieces there is room.
+    pub(crate) fn end_with(self, piece_length: u64, last: &[u8]) -> FedTree
+        requires { KeepsFeeding piece_length (after_bytes self last.now) }
+        ensures piece_length { result.piece_length ≡ piece_length }
+        ensures bytes { result.bytes ≡ self.bytes ++ last.now }
+    {
+        let mut blocks = self;
+        let (front, run) = last.split_at(last.len() - blocks.last_run(last.len()));
+        blocks.feed(front);
+        if run.is_empty() {
+            return blocks.end(piece_length);
+        }
+        blocks.end_with_run(piece_length, run)
+    }
+
+    // How many of so many last bytes are hashed at once, from the beginning of a block on; none where they are few.
+    fn last_run(&self, count: usize) -> usize
+        ensures within { result ≤ count }
+        ensures few { result ≤ RUN_LENGTH }
+        ensures whole { 0 < result → (length self.now.bytes + (count - result)) % BLOCK_LENGTH ≡ 0 }
+    {
+        let begun = self.room_in_block() % BLOCK_LENGTH;
+        let run = count.saturating_sub(begun) % RUN_LENGTH;
+        if run < LEAST_RUN { 0 } else { run }
+    }
+
+    // The tree with the leaves of at most eight last blocks, where none is begun.
+    fn end_with_run(self, piece_length: u64, run: &[u8]) -> FedTree
+        requires keeps { KeepsFeeding piece_length (after_bytes self run.now) }
+        requires whole { length self.bytes % BLOCK_LENGTH ≡ 0 }
+        requires few { length run.now ≤ RUN_LENGTH }
+        ensures piece_length { result.piece_length ≡ piece_length }
+        ensures bytes { result.bytes ≡ self.bytes ++ run.now }
+    {
+        let BlockHasher {
+            count,
+            hasher: _,
+            mut tree,
+            fed,
+        } = self;
+        push_run(&mut tree, run);
+        FedTree {
+            piece_length,
+            count: count + run.len() as u64,
+            tree,
+            fed: fed.with(run),
+        }
     }
 }

@@ -1,10 +1,11 @@
 //! Root and piece layer of a content that is fed in parts, and the roots of the pieces of a part of a longer file.
 
-ghost use Rattle.std.specs.Prelude.{◌≡◌, ◌+◌, ◌^◌, ◌≤◌, ◌↔◌, [], ◌++◌, length, OnOk, OnErr, IsOk, IsNone, IfSome};
+ghost use Rattle.std.specs.Prelude.{◌≡◌, ◌+◌, ◌^◌, ◌≤◌, ◌↔◌, [], ◌++◌, length, OnOk, OnErr, IsOk, IsNone, IfOk, IfSome};
 ghost use Rattle.std.specs.Int.{div_ceil};
 ghost use Rattle.tor_merkle.specs.Layer.{IsPieceLength, pieces_root, piece_roots, piece_layer};
 
 use crate::blocks::BlockHasher;
+use crate::fed_tree::FedTree;
 use crate::hash::Hash;
 use crate::piece_length::piece_level;
 use crate::{MAX_LENGTH, MAX_PIECE_LENGTH};
@@ -76,6 +77,35 @@ impl Feed {
         Ok(())
     }
 
+    /// The tree over what was fed. It takes no memory.
+    pub fn end(self) -> FedTree
+        ensures { result ≡ self }
+    {
+        let Feed {
+            piece_length,
+            blocks,
+        } = self;
+        blocks.end(piece_length)
+    }
+
+    /// The same after the last bytes, whose blocks are hashed side by side. The content has at most 2^50 bytes in all.
+    /// Memory can only be refused where they begin a piece.
+    pub fn end_with(self, last: &[u8]) -> Result<FedTree, AllocError>
+        requires { length self.bytes + length last.now ≤ MAX_LENGTH }
+        ensures piece_length { IfOk result (λ tree. tree.piece_length ≡ self.piece_length) }
+        ensures bytes { IfOk result (λ tree. tree.bytes ≡ self.bytes ++ last.now) }
+        ensures within { div_ceil (length self.bytes + length last.now) self.piece_length
+            ≤ div_ceil (length self.bytes) self.piece_length → IsOk result }
+    {
+        let Feed {
+            piece_length,
+            mut blocks,
+        } = self;
+        let total = blocks.count() + last.len() as u64;
+        blocks.reserve(total.div_ceil(piece_length) as usize)?;
+        Ok(blocks.end_with(piece_length, last))
+    }
+
     /// The Merkle root of the content (BEP 52, "pieces root"), and the 32-byte hashes of the layer where one covers
     /// one piece, in the order of the pieces ("piece layers"); no hash where there is at most one piece. `None`
     /// where no byte was fed.
@@ -84,7 +114,7 @@ impl Feed {
         ensures root { IfSome result (λ sums. sums.0 ≡ pieces_root self.bytes) }
         ensures layer { IfSome result (λ sums. sums.1.items ≡ piece_layer self.bytes self.piece_length) }
     {
-        self.blocks.finish()
+        self.end().finish()
     }
 
     /// The root of each piece that was fed, widened by zero leaves to a whole piece, in order: of a run of pieces of
@@ -92,6 +122,6 @@ impl Feed {
     pub fn piece_roots(self) -> Vec<Hash>
         ensures { result.items ≡ piece_roots self.bytes self.piece_length }
     {
-        self.blocks.piece_roots()
+        self.end().piece_roots()
     }
 }

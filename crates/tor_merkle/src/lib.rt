@@ -34,6 +34,7 @@ mod blocks;
 mod collision;
 mod digits;
 mod eight;
+mod fed_tree;
 mod feed;
 mod hash;
 mod judge;
@@ -61,6 +62,7 @@ pub const MAX_LENGTH: u64 = 1 << 50;
 
 pub use collision::collide;
 pub use digits::height_of;
+pub use fed_tree::FedTree;
 pub use feed::Feed;
 pub use hash::{Hash, leaf, pair, zero};
 pub use judge::verify;
