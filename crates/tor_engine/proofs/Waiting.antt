@@ -4,6 +4,7 @@ use Rattle.std.proofs.Common.{◌+◌, ◌-◌, ◌≤◌, length, refl, ap, ap�
 use Rattle.std.proofs.Common.{length-take, take-append-drop}
 use Rattle.std.proofs.Math.Seq.{drop-nil}
 use Rattle.std.proofs.lemmas.List.{drop-append-le, drop-drop, drop-take, drop_all, replicate-append-replicate}
+use Rattle.std.proofs.lemmas.List.{take-take}
 use Rattle.tor_merkle.specs.Feeding.{Feeding}
 use Rattle.tor_tree.specs.Kinds.{has_v1, has_v2}
 use Rattle.tor_tree.specs.declared.kinds.Kind.{Kind}
@@ -31,6 +32,16 @@ marked_within sums =
 none_left : (sums : WorkerSums) → sums.treed ≡ count_in sums.room → drop sums.treed (held_in sums.room) ≡ []
 none_left sums all = drop_all sums.treed (held_in sums.room)
     (let long = length-take sums.room.held sums.room.bytes.items in omega (arith, long, all))
+
+-- all that waits, and what of it the tree lacks
+pub lacked : (sums : WorkerSums) (count : ℕ) (front last : List ℕ) → count ≡ count_in sums.room
+    → front ≡ take count (held_in sums.room) → last ≡ drop sums.treed front
+    → last ≡ drop sums.treed (held_in sums.room)
+lacked sums count front last all is rest =
+    let whole : take count (held_in sums.room) ≡ held_in sums.room =
+    ap (λ n. take n (held_in sums.room)) all
+    ∙ take-take sums.room.held sums.room.held sums.room.bytes.items (omega arith) in
+    rest ∙ ap (drop sums.treed) (is ∙ whole)
 
 -- what lies between two places, and what comes after
 seam : (a b : ℕ) (xs : List ℕ) → a ≤ b → drop a (take b xs) ++ drop b xs ≡ drop a xs
@@ -161,22 +172,22 @@ tree_over : ℕ → List ℕ → Option Feeding
 tree_over p bytes = Some (record { piece_length = p; bytes = bytes })
 
 module _ (kind : Kind) (p : ℕ) (bytes unit : List ℕ) (sums : WorkerSums) (taken : HasTaken kind p bytes unit sums) where
-  -- where the tree has all that waits, it is over the bytes of the unit
-  pub whole_tree : sums.treed ≡ count_in sums.room → (tree : Option Feeding) → IsTreeOf kind p taken.fed_bytes tree
-      → IsTreeOf kind p bytes tree
+  -- a tree that is ended with what it lacks of all that waits is over the bytes of the unit
+  pub ended_tree : (last : List ℕ) → last ≡ drop sums.treed (held_in sums.room) → (tree : Option Feeding)
+      → IsTreeOf kind p (taken.fed_bytes ++ last) tree → IsTreeOf kind p bytes tree
   unfolding tree_over
-  whole_tree all tree is =
-      is ∙ same_if (has_v2 kind) (tree_over p) taken.fed_bytes bytes None
-      (λ has. all_fed taken.fed_bytes _ bytes (none_left sums all) (taken.bytes_joined has))
+  ended_tree last lacks tree is =
+      is ∙ same_if (has_v2 kind) (tree_over p) (taken.fed_bytes ++ last) bytes None
+      (λ has. ap (λ xs. taken.fed_bytes ++ xs) lacks ∙ taken.bytes_joined has)
 
   -- and the next one begins, while the pieces go on
-  pub next_tree : (new : WorkerSums) → sums.treed ≡ count_in sums.room → new.room ≡ sums.room → new.treed ≡ sums.treed
+  pub next_tree : (new : WorkerSums) → new.room ≡ sums.room → new.treed ≡ count_in new.room
       → HasFedContent kind p [] taken.fed_unit new.hasher → HasTaken kind p [] unit new
-  next_tree new all room treed fed = record {
+  next_tree new room all fed = record {
     fed_bytes = [];
     fed_unit = taken.fed_unit;
     fed = fed;
-    bytes_joined = λ has. none_left new (treed ∙ all ∙ sym (ap count_in room));
+    bytes_joined = λ has. none_left new all;
     unit_joined = λ has. ap (λ room. taken.fed_unit ++ held_in room) room ∙ taken.unit_joined has;
   }
 

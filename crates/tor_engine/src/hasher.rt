@@ -1,5 +1,5 @@
 //! What a content hashes to, while its bytes come.
-ghost use Rattle.std.specs.Prelude.{◌≡◌, ◌+◌, ◌<◌, ◌^◌, ◌≤◌, ◌++◌, [], ℕ, List, None, IsOk, OnErr, OnOk, length};
+ghost use Rattle.std.specs.Prelude.{◌≡◌, ◌+◌, ◌<◌, ◌^◌, ◌≤◌, ◌++◌, [], ℕ, List, None, IfOk, IsOk, OnErr, OnOk, length};
 ghost use Rattle.std.specs.Prelude.{if◌then◌else◌};
 ghost use Rattle.std.specs.Int.{div_ceil};
 ghost use Rattle.std.specs.Option.{ForSome};
@@ -14,7 +14,7 @@ ghost use Rattle.tor_engine.specs.Hasher.{pieces_of, tree_of};
 
 use std::alloc::{AllocError, Global};
 use std::mem;
-use tor_merkle::Feed;
+use tor_merkle::{FedTree, Feed};
 use tor_plan::Plan;
 use tor_tree::Kind;
 use tor_v1::PieceSums;
@@ -26,7 +26,7 @@ const ZEROS_AT_ONCE: u64 = 1 << 30;
 #[derive(Drop)]
 pub struct Hashed {
     /// The tree over its bytes of files, without its zeros; none in V1.
-    pub tree: Option<Feed>,
+    pub tree: Option<FedTree>,
     /// The joined SHA-1 of each piece; none in V2.
     pub pieces: Vec<u8>,
 }
@@ -156,11 +156,18 @@ impl ContentHasher {
         }
     }
 
-    /// Gives the tree, and begins the next one. The pieces go on.
-    pub(crate) fn end_tree(&mut self, alloc: Global, plan: &Plan) -> Option<Feed>
-        requires { IsPlan plan.now }
+    /// Gives the tree after the last bytes of files, and begins the next one. The pieces go on.
+    pub(crate) fn end_tree(
+        &mut self,
+        alloc: Global,
+        plan: &Plan,
+        last: &[u8],
+    ) -> Result<Option<FedTree>, AllocError>
+        requires planned { IsPlan plan.now }
+        requires small { ForSome (tree_of self.old) (λ feed. length feed.bytes + length last.now ≤ MAX_LENGTH) }
         ensures tree { (kind : Kind) (piece_length : ℕ) (before joined : List ℕ) →
-            HasFedContent kind piece_length before joined self.old → IsTreeOf kind piece_length before result }
+            HasFedContent kind piece_length before joined self.old →
+            IfOk result (IsTreeOf kind piece_length (before ++ last.now)) }
         ensures next { (kind : Kind) (piece_length : ℕ) (before joined : List ℕ) → kind ≡ plan.now.kind →
             piece_length ≡ plan.now.piece_length → HasFedContent kind piece_length before joined self.old →
             HasFedContent kind piece_length [] joined self.new }
@@ -171,7 +178,10 @@ impl ContentHasher {
             .kind()
             .has_v2()
             .then(|| Feed::new(alloc, plan.piece_length()));
-        mem::replace(&mut self.tree, next)
+        match mem::replace(&mut self.tree, next) {
+            Some(feed) => Ok(Some(feed.end_with(last)?)),
+            None => Ok(None),
+        }
     }
 
     /// Gives the sums of the pieces, none in V2, and begins the next ones. The tree goes on.
@@ -203,6 +213,10 @@ impl ContentHasher {
         let pieces = match pieces {
             Some(sums) => sums.finish(),
             None => Vec::new(alloc),
+        };
+        let tree = match tree {
+            Some(feed) => Some(feed.end()),
+            None => None,
         };
         Hashed { tree, pieces }
     }

@@ -12,7 +12,7 @@ ghost use Rattle.tor_engine.specs.steps.Pieces.{HasPieces, IsPiece};
 use crate::hasher::Hashed;
 use crate::items::item_at;
 use tor_merkle::laws::root_of_short_content;
-use tor_merkle::{Feed, Hash};
+use tor_merkle::{FedTree, Hash};
 use tor_plan::{Plan, PlanUnit};
 use tor_v1::laws::length_of_sums;
 
@@ -43,7 +43,7 @@ pub(crate) fn hashes_of_piece(plan: &Plan, piece: &PlanUnit, hashed: Hashed) -> 
 }
 
 /// The Merkle hash of a piece, from the tree over its bytes.
-fn merkle_hash_of_piece(plan: &Plan, piece: &PlanUnit, tree: Option<Feed>) -> Option<Hash>
+fn merkle_hash_of_piece(plan: &Plan, piece: &PlanUnit, tree: Option<FedTree>) -> Option<Hash>
     requires { IsPiece plan.now piece.now }
     ensures { (contents : List (List ℕ)) → HasPieces plan.now.piece_length contents piece.now.parts →
         IsTreeOf plan.now.kind plan.now.piece_length (flat_map (bytes_of_part contents) piece.now.parts) tree →
@@ -59,7 +59,7 @@ fn merkle_hash_of_piece(plan: &Plan, piece: &PlanUnit, tree: Option<Feed>) -> Op
 }
 
 /// That of the bytes of a tree, a piece of a file that has `size` bytes.
-fn merkle_hash(tree: Feed, size: u64) -> Option<Hash>
+fn merkle_hash(tree: FedTree, size: u64) -> Option<Hash>
     ensures { tree.bytes ≢ [] → length tree.bytes ≤ tree.piece_length →
         result ≡ Some (merkle_hash tree.piece_length size tree.bytes) }
 {

@@ -15,7 +15,7 @@ use crate::hasher::Hashed;
 use crate::reading::read_part;
 use crate::worker::WorkerSums;
 use std::alloc::Global;
-use tor_merkle::Feed;
+use tor_merkle::FedTree;
 use tor_plan::{Plan, PlanUnit};
 
 /// Reads a unit, and gives its tree, none in V1. Its pieces go on with those of the units before.
@@ -25,7 +25,7 @@ pub(crate) fn read_unit<S: FileBytes>(
     plan: &Plan,
     unit: &PlanUnit,
     sums: &mut WorkerSums,
-) -> Result<Option<Feed>, EngineError<S::Fault>>
+) -> Result<Option<FedTree>, EngineError<S::Fault>>
     requires planned { IsPlan plan.now }
     requires unit { IsUnitOf plan.now unit.now }
     requires fresh { (before : List ℕ) × IsFresh plan.now before sums.old }

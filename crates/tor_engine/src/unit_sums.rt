@@ -21,7 +21,7 @@ use crate::owing::{OwingSums, room_for_sums};
 use crate::unit_hash::read_unit;
 use std::alloc::Global;
 use tor_merkle::laws::piece_roots_fit_a_layer;
-use tor_merkle::{Feed, Hash, layer_subtree, piece_level};
+use tor_merkle::{FedTree, Hash, layer_subtree, piece_level};
 use tor_plan::{Plan, PlanUnit, Run};
 
 /// What one unit sums up to.
@@ -67,7 +67,7 @@ impl UnitSums {
 }
 
 /// The node over the bytes of a tree, and what they have of the layer; none where there is no byte.
-fn node_over(tree: Feed, level: Option<u32>) -> Option<(Hash, Vec<Hash>)>
+fn node_over(tree: FedTree, level: Option<u32>) -> Option<(Hash, Vec<Hash>)>
     requires { ForSome level (HasRoomAt tree.piece_length (length tree.bytes)) }
     ensures { tree.bytes ≢ [] → IsSomeAnd result (λ node.
         (node.0, node.1.items) ≡ node_over tree.piece_length level tree.bytes) }
@@ -79,7 +79,7 @@ fn node_over(tree: Feed, level: Option<u32>) -> Option<(Hash, Vec<Hash>)>
 }
 
 /// The same at a level of a higher tree.
-fn node_at(tree: Feed, level: u32) -> Option<(Hash, Vec<Hash>)>
+fn node_at(tree: FedTree, level: u32) -> Option<(Hash, Vec<Hash>)>
     requires { HasRoomAt tree.piece_length (length tree.bytes) level }
     ensures { tree.bytes ≢ [] → IsSomeAnd result (λ node.
         (node.0, node.1.items) ≡ node_over tree.piece_length (Some level) tree.bytes) }

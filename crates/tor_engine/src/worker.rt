@@ -18,7 +18,7 @@ use crate::file_bytes::FileBytes;
 use crate::hasher::ContentHasher;
 use crate::room::Room;
 use std::alloc::{AllocError, Global};
-use tor_merkle::Feed;
+use tor_merkle::FedTree;
 use tor_plan::Plan;
 
 /// What the units of a worker hash to, one after the other. Bytes are read into a buffer of its own, and wait there
@@ -111,18 +111,20 @@ impl WorkerSums {
         &mut self,
         alloc: Global,
         plan: &Plan,
-    ) -> Result<Option<Feed>, AllocError>
+    ) -> Result<Option<FedTree>, AllocError>
         requires { IsPlan plan.now }
         ensures tree { (kind : Kind) (piece_length : ℕ) (bytes unit : List ℕ) →
             HasTaken kind piece_length bytes unit self.old → IfOk result (IsTreeOf kind piece_length bytes) }
         ensures next { (bytes unit : List ℕ) →
-            HasTaken plan.now.kind plan.now.piece_length bytes unit self.old →
-            OnOk result (IsFresh plan.now unit self.new) }
-        ensures treed { OnOk result (IsTreed plan.now self.new) }
+            HasTaken plan.now.kind plan.now.piece_length bytes unit self.old → IsFresh plan.now unit self.new }
+        ensures treed { IsTreed plan.now self.new }
     {
-        self.feed_tree(self.held())?;
+        let held = self.held();
+        let (_, last) = self.room.front(held).split_at(self.treed);
+        let ended = self.hasher.end_tree(alloc, plan, last);
+        self.treed = held;
         self.begun = 0;
-        Ok(self.hasher.end_tree(alloc, plan))
+        ended
     }
 
     /// Ends the pieces, and gives their sums, none in V2. The next ones begin with no byte.

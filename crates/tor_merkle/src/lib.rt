@@ -14,8 +14,8 @@
 //! - [`leaf`], [`pair`], [`zero`] (`hash.rt`): the hash of a block, of two hashes, of a subtree past the end.
 //! - [`whole`] (`plain.rt`): root and piece layer of a content that lies in memory.
 //! - [`Feed`] (`feed.rt`): the same of a content that is fed in parts, or the hashes of a run of pieces of a
-//!   longer one; it keeps no leaves. Below it stand the cut into blocks (`blocks.rt`), of which up to eight whole
-//!   ones are hashed at once (`run.rt`), and the tree of the pieces (`pieces.rt`).
+//!   longer one; it keeps no leaves. Ended, it is a [`FedTree`] (`fed_tree.rt`). Below them stand the cut into blocks
+//!   (`blocks.rt`), of which up to eight are hashed at once (`run.rt`), and the tree of the pieces (`pieces.rt`).
 //! - [`Stack`] (`stack.rt`): the root over hashes that come one after another.
 //! - [`layer_root`], [`layer_subtree`] (`layer.rt`): that over hashes that lie in a slice. Below them stand eight
 //!   neighbouring nodes, hashed at once (`eight.rt`).

@@ -15,7 +15,7 @@ use tor_hashes::{block_hashes, last_block_hashes};
 pub(crate) const RUN_LENGTH: usize = 8 * BLOCK_LENGTH;
 
 // Fewer blocks are hashed sooner one by one than as eight.
-pub(crate) const LEAST_RUN: usize = 4 * BLOCK_LENGTH;
+pub(crate) const LEAST_RUN: usize = 3 * BLOCK_LENGTH;
 
 // Adds the leaves of at most eight blocks, of which the last may be shorter.
 pub(crate) fn push_run(tree: &mut PieceTree, run: &[u8])

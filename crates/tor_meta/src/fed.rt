@@ -16,7 +16,7 @@ use crate::sums::tree_of;
 use std::alloc::{AllocError, Global};
 use tor_engine::{ContentHasher, Hashed, Sums};
 use tor_merkle::laws::piece_length_bounds;
-use tor_merkle::{Feed, Hash, is_piece_length};
+use tor_merkle::{FedTree, Hash, is_piece_length};
 
 /// What a content sums up to that is fed in parts, as far as a head asks for it. Nothing of the content is kept.
 /// Clauses say by `HasFed` which bytes were fed.
@@ -97,7 +97,7 @@ impl FedSums {
 // The pieces root and the layer of the one file, where it has a tree.
 fn trees_of(
     alloc: Global,
-    tree: Option<Feed>,
+    tree: Option<FedTree>,
 ) -> Result<(Vec<Option<Hash>>, Vec<Vec<Hash>>), AllocError>
     ensures { (piece_length : ℕ) (bytes : List ℕ) →
         tree ≡ Some (record { piece_length = piece_length; bytes = bytes }) →
@@ -105,8 +105,8 @@ fn trees_of(
         × (lists_of trees.1.items ≡ piece_layer bytes piece_length ∷ [])) }
 {
     match tree {
-        Some(feed) => {
-            let (root, layer) = tree_of(alloc, feed);
+        Some(tree) => {
+            let (root, layer) = tree_of(alloc, tree);
             Ok((vec![in alloc; root]?, vec![in alloc; layer]?))
         }
         None => Ok((Vec::new(alloc), Vec::new(alloc))),

@@ -10,7 +10,7 @@ ghost use Rattle.tor_v1.specs.Piece.{IsV1PieceLength, max_piece_length};
 
 use std::alloc::{AllocError, Global};
 use tor_engine::Sums;
-use tor_merkle::{Feed, Hash};
+use tor_merkle::{FedTree, Feed, Hash};
 use tor_v1::{Entry, PieceSums};
 
 /// Sums of no file.
@@ -60,17 +60,16 @@ fn sum_tree(
     ensures root { IfOk result (λ sums. sums.0 ≡ root_of content.now) }
     ensures layer { IfOk result (λ sums. sums.1.items ≡ piece_layer content.now piece_length) }
 {
-    let mut feed = Feed::new(alloc, piece_length);
-    feed.feed(content)?;
-    Ok(tree_of(alloc, feed))
+    let tree = Feed::new(alloc, piece_length).end_with(content)?;
+    Ok(tree_of(alloc, tree))
 }
 
 /// Those of the content that was fed.
-pub(crate) fn tree_of(alloc: Global, feed: Feed) -> (Option<Hash>, Vec<Hash>)
-    ensures root { result.0 ≡ root_of feed.bytes }
-    ensures layer { result.1.items ≡ piece_layer feed.bytes feed.piece_length }
+pub(crate) fn tree_of(alloc: Global, tree: FedTree) -> (Option<Hash>, Vec<Hash>)
+    ensures root { result.0 ≡ root_of tree.bytes }
+    ensures layer { result.1.items ≡ piece_layer tree.bytes tree.piece_length }
 {
-    match feed.finish() {
+    match tree.finish() {
         Some(sums) => {
             let root = sums.0;
             (Some(root), sums.1)
