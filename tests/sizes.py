@@ -491,6 +491,23 @@ def test_lengths_about_powers_of_two(program, folder):
             expect(program, ['check', str(torrent)], wanted_lines(text))
 
 
+def test_lengths_about_blocks(program, folder):
+    """The last blocks of a file are hashed together, the short one among them, whatever its padding: files of two to
+    eight blocks and more, and of nine runs of eight and more."""
+    rng = random.Random(11)
+    place = folder / 'f'
+    ends = [0, 1, 54, 55, 56, 63, 64, 65, 119, 120, BLOCK - 1]
+    lengths = [blocks * BLOCK + end for blocks in range(2, 9) for end in ends]
+    for length in lengths + [9 * 8 * BLOCK + blocks * BLOCK + 57 for blocks in (0, 3, 7)]:
+        content = rng.randbytes(length)
+        place.write_bytes(content)
+        wanted = done(make([((b'f',), content)], order('v2', True)))
+        words = ['make', '--name', 'f', '--kind', 'v2', '--piece-length', str(BLOCK)]
+        for how in ['one', 'streams']:
+            expect(program, [*words, '--how', how, str(place)], wanted)
+        expect(program, words, wanted, content)
+
+
 def torrent_of_length(length):
     """A torrent of one empty file, and two comments that make it exactly so many bytes."""
     info = {b'length': 0, b'name': b'f', b'piece length': 1, b'pieces': b''}
