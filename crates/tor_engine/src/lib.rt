@@ -14,17 +14,20 @@
 //! - [`work`] (`shares.rt`): one worker at a board, for callers with threads of their own.
 //! - `sum_work.rt` does it for the sums of files. `unit_hash.rt` reads a unit and hashes it by itself, whatever files
 //!   it is of: `reading.rt` has one part read of the source (`file_bytes.rt`), `worker.rt` holds what was read and not
-//!   hashed (`room.rt`) and the hashes of what came before (`hasher.rt`). `unit_sums.rt` tells what that sums up to in
-//!   the unit's files, `joined.rt` puts together what units give, and `trees.rt` goes from one file to the next.
+//!   hashed (`room.rt`) and the hashes of what came before (`hasher.rt`). The sums of a unit's pieces may wait for
+//!   those of the units after it: a worker owes them (`owing.rt`), and pays them when it has no more units
+//!   (`paying.rt`). `unit_sums.rt` tells what a unit sums up to in its files, `joined.rt` puts together what units
+//!   give, and `trees.rt` goes from one file to the next.
 //! - [`hash_pieces`] (`pieces.rt`): what each piece hashes to ([`PieceHash`], `piece_hash.rt`), of files that may be
 //!   cut short or missing; [`find_pieces`] tells their lengths too. `asked.rt` asks for these, `present.rt` tells what
 //!   is there by them, and `piece_work.rt` hashes the pieces of a unit.
 //! - [`hash_streams`] (`streams.rt`): what readers sum up to that are read once and in order; [`hash_input`]
 //!   (`input.rt`): what one reader does, within the limit of an input. `feeding.rt` reads in the calling thread:
 //!   `read_streams.rt` goes to the end of each reader, and `cutter.rt` puts chunks into a lane, by `filling.rt` and
-//!   `padding.rt`. Its workers (`stream_worker.rt`) take and hash them (`chunk_sums.rt`), and give their buffers back
-//!   (`spares.rt`); `fed_sums.rt` and `stream_sums.rt` put together what these sum up to. [`Gate`] (`gate.rt`): what
-//!   tests have workers pass. [`lane`], [`Feeder`], [`Taker`], [`Chunk`] are those of `tor_lane`.
+//!   `padding.rt`; `lane_span.rt` says how many pieces a chunk has. Its workers (`stream_worker.rt`) take and hash them
+//!   (`chunk_sums.rt`), and give their buffers back (`spares.rt`); `fed_sums.rt` and `stream_sums.rt` put together what
+//!   these sum up to. [`Gate`] (`gate.rt`): what tests have workers pass. [`lane`], [`Feeder`], [`Taker`], [`Chunk`]
+//!   are those of `tor_lane`.
 //! - [`laws`] (`laws.rt`): a law over the definition of the first fault, and the limits of workers, buffers and units.
 //!
 //! ```rust
