@@ -91,24 +91,6 @@ fn mixed_list(alloc: Global) -> Result<Item, AllocError> {
     Ok(Item::List(items))
 }
 
-/// An item, and its spelling.
-const SPELLED: &[(Made, &[u8])] = &[
-    (Made::Int(0), b"i0e"),
-    (Made::Int(42), b"i42e"),
-    (Made::Int(-3), b"i-3e"),
-    (Made::Int(i64::MAX), b"i9223372036854775807e"),
-    (Made::Int(i64::MIN), b"i-9223372036854775808e"),
-    (Made::Bytes(b""), b"0:"),
-    (Made::Bytes(b"spam"), b"4:spam"),
-    (Made::Keyed(&[]), b"de"),
-    (
-        Made::Keyed(&[b"", b"a", b"ab", b"b"]),
-        b"d0:i0e1:ai1e2:abi2e1:bi3ee",
-    ),
-    (Made::Nested(1), b"le"),
-    (Made::Mixed, b"l4:spamd1:ai0eee"),
-];
-
 /// Whether an item is lawful and has this spelling.
 fn is_spelled(alloc: Global, item: &Made, text: &[u8]) -> bool {
     match tree_of(alloc, item) {
@@ -116,16 +98,6 @@ fn is_spelled(alloc: Global, item: &Made, text: &[u8]) -> bool {
         None => false,
     }
 }
-
-/// An item, and whether it is lawful.
-const JUDGED: &[(Made, bool)] = &[
-    (Made::Nested(100), true),
-    (Made::Nested(101), false),
-    (Made::Keyed(&[b"a", b"a"]), false),
-    (Made::Keyed(&[b"ab", b"a"]), false),
-    (Made::Keyed(&[b"b", b"aa"]), false),
-    (Made::Keyed(&[b"aa", b"b"]), true),
-];
 
 /// Whether an item is there, and lawful or not.
 fn is_judged(alloc: Global, item: &Made, lawful: bool) -> bool {
@@ -162,14 +134,6 @@ fn finds(item: &Item, key: &[u8], wanted: Option<i64>) -> bool {
 /// A dictionary that has a key twice.
 const TWICE: Made = Made::Keyed(&[b"ab", b"a", b"a"]);
 
-/// An item, a key, and the number that is found.
-const FOUND: &[(Made, &[u8], Option<i64>)] = &[
-    (TWICE, b"a", Some(1)),
-    (TWICE, b"ab", Some(0)),
-    (TWICE, b"b", None),
-    (Made::Bytes(b"a"), b"a", None),
-];
-
 fn is_found(alloc: Global, item: &Made, key: &[u8], wanted: Option<i64>) -> bool {
     match make(alloc, item) {
         Ok(item) => finds(&item, key, wanted),
@@ -185,62 +149,79 @@ fn holds_seven(alloc: Global) -> bool {
     }
 }
 
-#[test]
-fn spells_what_is_lawful_and_hands_back_what_is_not(rt: HostRuntime) {
-    for (item, text) in SPELLED {
-        assert!(rt; is_spelled(rt.alloc(), item, text));
-    }
-    for (item, lawful) in JUDGED {
-        assert!(rt; is_judged(rt.alloc(), item, *lawful));
-    }
-    assert!(rt; are_keys_handed_back(rt.alloc(), &[b"b", b"a"]));
-}
-
 fn is_want_of_memory_shown(alloc: Global) -> bool {
     let error = BenError::Memory;
     is(format!(in alloc; "{error}"), "B10 Memory")
 }
 
-#[test]
-fn finds_the_value_of_the_first_pair(rt: HostRuntime) {
-    for (item, key, wanted) in FOUND {
-        assert!(rt; is_found(rt.alloc(), item, key, *wanted));
+/// What is to hold of an item that is made.
+enum OfItem {
+    /// It is lawful, and has this spelling.
+    Spelled(Made, &'static [u8]),
+    /// It is lawful, or not.
+    Judged(Made, bool),
+    /// A dictionary with these keys is handed back.
+    HandedBack(Keys),
+    /// A key has this number, or no value.
+    Found(Made, &'static [u8], Option<i64>),
+    /// The tree of 7 holds it.
+    Seven,
+    /// Want of memory is shown as a fault.
+    Memory,
+}
+
+const OF_ITEMS: &[OfItem] = &[
+    OfItem::Spelled(Made::Int(0), b"i0e"),
+    OfItem::Spelled(Made::Int(42), b"i42e"),
+    OfItem::Spelled(Made::Int(-3), b"i-3e"),
+    OfItem::Spelled(Made::Int(i64::MAX), b"i9223372036854775807e"),
+    OfItem::Spelled(Made::Int(i64::MIN), b"i-9223372036854775808e"),
+    OfItem::Spelled(Made::Bytes(b""), b"0:"),
+    OfItem::Spelled(Made::Bytes(b"spam"), b"4:spam"),
+    OfItem::Spelled(Made::Keyed(&[]), b"de"),
+    OfItem::Spelled(
+        Made::Keyed(&[b"", b"a", b"ab", b"b"]),
+        b"d0:i0e1:ai1e2:abi2e1:bi3ee",
+    ),
+    OfItem::Spelled(Made::Nested(1), b"le"),
+    OfItem::Spelled(Made::Mixed, b"l4:spamd1:ai0eee"),
+    OfItem::Judged(Made::Nested(100), true),
+    OfItem::Judged(Made::Nested(101), false),
+    OfItem::Judged(Made::Keyed(&[b"a", b"a"]), false),
+    OfItem::Judged(Made::Keyed(&[b"ab", b"a"]), false),
+    OfItem::Judged(Made::Keyed(&[b"b", b"aa"]), false),
+    OfItem::Judged(Made::Keyed(&[b"aa", b"b"]), true),
+    OfItem::HandedBack(&[b"b", b"a"]),
+    OfItem::Found(TWICE, b"a", Some(1)),
+    OfItem::Found(TWICE, b"ab", Some(0)),
+    OfItem::Found(TWICE, b"b", None),
+    OfItem::Found(Made::Bytes(b"a"), b"a", None),
+    OfItem::Seven,
+    OfItem::Memory,
+];
+
+fn holds_of_item(alloc: Global, case: &OfItem) -> bool {
+    match case {
+        OfItem::Spelled(item, text) => is_spelled(alloc, item, text),
+        OfItem::Judged(item, lawful) => is_judged(alloc, item, *lawful),
+        OfItem::HandedBack(keys) => are_keys_handed_back(alloc, keys),
+        OfItem::Found(item, key, wanted) => is_found(alloc, item, key, *wanted),
+        OfItem::Seven => holds_seven(alloc),
+        OfItem::Memory => is_want_of_memory_shown(alloc),
     }
-    assert!(rt; holds_seven(rt.alloc()));
-    assert!(rt; is_want_of_memory_shown(rt.alloc()));
+}
+
+#[test]
+fn spells_and_finds_what_is_lawful_and_hands_back_what_is_not(rt: HostRuntime) {
+    for case in OF_ITEMS {
+        assert!(rt; holds_of_item(rt.alloc(), case));
+    }
 }
 
 /// Whether a text is the spelling of the tree that is read from it.
 fn is_reread(alloc: Global, text: &[u8]) -> bool {
     match decode(alloc, text) {
         Ok(tree) => is_spelling(alloc, &tree, text),
-        Err(_) => false,
-    }
-}
-
-const REREAD: &[&[u8]] = &[
-    b"i9223372036854775807e",
-    b"i-9223372036854775808e",
-    b"i0e",
-    b"0:",
-    b"10:0123456789",
-    b"le",
-    b"de",
-    b"d0:le1:ad1:bi-7ee2:aai0e1:b3:xyze",
-];
-
-/// The spelling of so many lists, each in the one before.
-fn nested_spelling(alloc: Global, count: usize) -> Result<Vec<u8>, AllocError> {
-    let mut text = vec![in alloc; b'l'; count]?;
-    for _ in 0..count {
-        text.push(b'e')?;
-    }
-    Ok(text)
-}
-
-fn is_nested_reread(alloc: Global, count: usize) -> bool {
-    match nested_spelling(alloc, count) {
-        Ok(text) => is_reread(alloc, &text),
         Err(_) => false,
     }
 }
@@ -321,50 +302,6 @@ fn are_ten_thousand_read(alloc: Global) -> bool {
     }
 }
 
-#[test]
-fn reads_what_it_writes(rt: HostRuntime) {
-    for text in REREAD {
-        assert!(rt; is_reread(rt.alloc(), text));
-    }
-    assert!(rt; is_nested_reread(rt.alloc(), 100));
-    assert!(rt; are_pairs_read(rt.alloc(), b"d1:al4:spamee", 1));
-    assert!(rt; are_ten_thousand_read(rt.alloc()));
-}
-
-/// A text that spells no tree, and its first fault.
-const REFUSED: &[(&[u8], &str)] = &[
-    (b"", "B1 Truncated at 0"),
-    (b"i12", "B1 Truncated at 3"),
-    (b"4:abc", "B1 Truncated at 5"),
-    (b"99999999999999999999:a", "B1 Truncated at 22"),
-    (b"12345678901234567890", "B1 Truncated at 20"),
-    (b"l", "B1 Truncated at 1"),
-    (b"d1:a", "B1 Truncated at 4"),
-    (b"d1:ae", "B2 BadByte at 4"),
-    (b"e", "B2 BadByte at 0"),
-    (b"lx", "B2 BadByte at 1"),
-    (b"ie", "B3 BadInteger at 0"),
-    (b"ix", "B3 BadInteger at 0"),
-    (b"i1-2e", "B3 BadInteger at 0"),
-    (b"i-0e", "B3 BadInteger at 0"),
-    (b"i03e", "B3 BadInteger at 0"),
-    (b"i-03e", "B3 BadInteger at 0"),
-    (b"i00e", "B3 BadInteger at 0"),
-    (b"li-e", "B3 BadInteger at 1"),
-    (b"i9223372036854775808e", "B4 IntegerRange at 0"),
-    (b"i-9223372036854775809e", "B4 IntegerRange at 0"),
-    (b"01:a", "B5 BadLength at 0"),
-    (b"03:abc", "B5 BadLength at 0"),
-    (b"d1:b0:1:ax", "B7 KeyOrder at 6"),
-    (b"3abc", "B5 BadLength at 0"),
-    (b"di1e1:ae", "B6 KeyNotBytes at 1"),
-    (b"d1:ai1e1:ai2ee", "B7 KeyOrder at 7"),
-    (b"d1:b0:1:a0:e", "B7 KeyOrder at 6"),
-    (b"d2:ab0:1:a0:e", "B7 KeyOrder at 7"),
-    (&[b'l'; 101], "B8 TooDeep at 100"),
-    (b"0:x", "B9 Trailing at 2"),
-];
-
 fn is_refused(alloc: Global, text: &[u8], wanted: &str) -> bool {
     match decode(alloc, text) {
         Ok(_) => false,
@@ -372,14 +309,22 @@ fn is_refused(alloc: Global, text: &[u8], wanted: &str) -> bool {
     }
 }
 
-fn trails_at_two(alloc: Global, text: &[u8]) -> bool {
-    matches!(
-        decode(alloc, text),
-        Err(BenError::Refused {
+/// Whether this is what is refused of a text with a byte too many.
+fn is_trailing(refusal: &BenError, wanted: usize) -> bool {
+    match refusal {
+        BenError::Refused {
             fault: Fault::Trailing,
-            offset: 2
-        })
-    )
+            offset,
+        } => *offset == wanted,
+        _ => false,
+    }
+}
+
+fn trails(alloc: Global, text: &[u8], offset: usize) -> bool {
+    match decode(alloc, text) {
+        Ok(_) => false,
+        Err(refusal) => is_trailing(&refusal, offset),
+    }
 }
 
 /// The torrent of one file `a` that holds `abc` (BEP 52).
@@ -388,32 +333,104 @@ const TORRENT: &[u8] = b"d4:infod9:file treed1:ad0:d6:lengthi3e11:pieces root32:
 \xb0\x03\x61\xa3\x96\x17\x7a\x9c\xb4\x10\xff\x61\xf2\x00\x15\xad\
 eee12:meta versioni2e4:name1:a12:piece lengthi16384ee12:piece layersdee";
 
-/// A text, a key, and where the key's value is spelled.
-type Span = (&'static [u8], &'static [u8], Option<(usize, usize)>);
+/// What is to hold of a text.
+enum OfText {
+    /// It is the spelling of the tree that is read from it.
+    Reread(&'static [u8]),
+    /// It spells a dictionary of so many pairs.
+    Pairs(&'static [u8], usize),
+    /// The spelling of ten thousand pairs is read.
+    TenThousand,
+    /// It spells no tree, and this is its first fault.
+    Refused(&'static [u8], &'static str),
+    /// It goes on after a tree, from this offset on.
+    Trails(&'static [u8], usize),
+    /// It has so many bytes.
+    Long(&'static [u8], usize),
+    /// A key's value is spelled there.
+    Spanned(&'static [u8], &'static [u8], Option<(usize, usize)>),
+}
 
-const SPANS: &[Span] = &[
-    (TORRENT, b"info", Some((7, 140))),
-    (TORRENT, b"piece layers", Some((155, 157))),
-    (TORRENT, b"announce", None),
-    (TORRENT, b"name", None),
-    (b"d1:a1:x2:abi7ee", b"ab", Some((11, 14))),
-    (b"d0:le2:ablee", b"ab", Some((9, 11))),
-    (b"d2:abi7e3:abc0:e", b"ab", Some((5, 8))),
-    (b"d3:abc0:e", b"ab", None),
-    (b"l2:ab1:xe", b"ab", None),
-    (b"2:ab", b"ab", None),
-    (b"i3e", b"ab", None),
+const OF_TEXTS: &[OfText] = &[
+    OfText::Reread(b"i9223372036854775807e"),
+    OfText::Reread(b"i-9223372036854775808e"),
+    OfText::Reread(b"i0e"),
+    OfText::Reread(b"0:"),
+    OfText::Reread(b"10:0123456789"),
+    OfText::Reread(b"le"),
+    OfText::Reread(b"de"),
+    OfText::Reread(b"d0:le1:ad1:bi-7ee2:aai0e1:b3:xyze"),
+    // A hundred lists, each in the one before.
+    OfText::Reread(
+        b"\
+llllllllllllllllllllllllllllllllllllllllllllllllll\
+llllllllllllllllllllllllllllllllllllllllllllllllll\
+eeeeeeeeeeeeeeeeeeeeeeeeeeeeeeeeeeeeeeeeeeeeeeeeee\
+eeeeeeeeeeeeeeeeeeeeeeeeeeeeeeeeeeeeeeeeeeeeeeeeee",
+    ),
+    OfText::Pairs(b"d1:al4:spamee", 1),
+    OfText::TenThousand,
+    OfText::Refused(b"", "B1 Truncated at 0"),
+    OfText::Refused(b"i12", "B1 Truncated at 3"),
+    OfText::Refused(b"4:abc", "B1 Truncated at 5"),
+    OfText::Refused(b"99999999999999999999:a", "B1 Truncated at 22"),
+    OfText::Refused(b"12345678901234567890", "B1 Truncated at 20"),
+    OfText::Refused(b"l", "B1 Truncated at 1"),
+    OfText::Refused(b"d1:a", "B1 Truncated at 4"),
+    OfText::Refused(b"d1:ae", "B2 BadByte at 4"),
+    OfText::Refused(b"e", "B2 BadByte at 0"),
+    OfText::Refused(b"lx", "B2 BadByte at 1"),
+    OfText::Refused(b"ie", "B3 BadInteger at 0"),
+    OfText::Refused(b"ix", "B3 BadInteger at 0"),
+    OfText::Refused(b"i1-2e", "B3 BadInteger at 0"),
+    OfText::Refused(b"i-0e", "B3 BadInteger at 0"),
+    OfText::Refused(b"i03e", "B3 BadInteger at 0"),
+    OfText::Refused(b"i-03e", "B3 BadInteger at 0"),
+    OfText::Refused(b"i00e", "B3 BadInteger at 0"),
+    OfText::Refused(b"li-e", "B3 BadInteger at 1"),
+    OfText::Refused(b"i9223372036854775808e", "B4 IntegerRange at 0"),
+    OfText::Refused(b"i-9223372036854775809e", "B4 IntegerRange at 0"),
+    OfText::Refused(b"01:a", "B5 BadLength at 0"),
+    OfText::Refused(b"03:abc", "B5 BadLength at 0"),
+    OfText::Refused(b"d1:b0:1:ax", "B7 KeyOrder at 6"),
+    OfText::Refused(b"3abc", "B5 BadLength at 0"),
+    OfText::Refused(b"di1e1:ae", "B6 KeyNotBytes at 1"),
+    OfText::Refused(b"d1:ai1e1:ai2ee", "B7 KeyOrder at 7"),
+    OfText::Refused(b"d1:b0:1:a0:e", "B7 KeyOrder at 6"),
+    OfText::Refused(b"d2:ab0:1:a0:e", "B7 KeyOrder at 7"),
+    OfText::Refused(&[b'l'; 101], "B8 TooDeep at 100"),
+    OfText::Refused(b"0:x", "B9 Trailing at 2"),
+    OfText::Trails(b"0:x", 2),
+    OfText::Long(TORRENT, 158),
+    OfText::Spanned(TORRENT, b"info", Some((7, 140))),
+    OfText::Spanned(TORRENT, b"piece layers", Some((155, 157))),
+    OfText::Spanned(TORRENT, b"announce", None),
+    OfText::Spanned(TORRENT, b"name", None),
+    OfText::Spanned(b"d1:a1:x2:abi7ee", b"ab", Some((11, 14))),
+    OfText::Spanned(b"d0:le2:ablee", b"ab", Some((9, 11))),
+    OfText::Spanned(b"d2:abi7e3:abc0:e", b"ab", Some((5, 8))),
+    OfText::Spanned(b"d3:abc0:e", b"ab", None),
+    OfText::Spanned(b"l2:ab1:xe", b"ab", None),
+    OfText::Spanned(b"2:ab", b"ab", None),
+    OfText::Spanned(b"i3e", b"ab", None),
 ];
 
-#[test]
-fn refuses_the_first_fault_and_spans_values_of_the_root(rt: HostRuntime) {
-    for (text, wanted) in REFUSED {
-        assert!(rt; is_refused(rt.alloc(), text, wanted));
+fn holds_of_text(alloc: Global, case: &OfText) -> bool {
+    match case {
+        OfText::Reread(text) => is_reread(alloc, text),
+        OfText::Pairs(text, count) => are_pairs_read(alloc, text, *count),
+        OfText::TenThousand => are_ten_thousand_read(alloc),
+        OfText::Refused(text, wanted) => is_refused(alloc, text, wanted),
+        OfText::Trails(text, offset) => trails(alloc, text, *offset),
+        OfText::Long(text, length) => text.len() == *length,
+        OfText::Spanned(text, key, wanted) => is_spanned(alloc, text, key, *wanted),
     }
-    assert!(rt; trails_at_two(rt.alloc(), b"0:x"));
-    assert!(rt; TORRENT.len() == 158);
-    for (text, key, wanted) in SPANS {
-        assert!(rt; is_spanned(rt.alloc(), text, key, *wanted));
+}
+
+#[test]
+fn reads_what_it_writes_refuses_the_first_fault_and_spans_values_of_the_root(rt: HostRuntime) {
+    for case in OF_TEXTS {
+        assert!(rt; holds_of_text(rt.alloc(), case));
     }
 }
 

@@ -66,6 +66,5 @@ fn are_cut(alloc: Global) -> bool {
 
 #[test]
 fn cuts_entries_with_padding_between_them_and_at_the_end(rt: HostRuntime) {
-    assert!(rt; are_joined(rt.alloc()));
-    assert!(rt; are_cut(rt.alloc()));
+    assert!(rt; are_joined(rt.alloc()) && are_cut(rt.alloc()));
 }

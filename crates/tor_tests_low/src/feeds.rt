@@ -55,48 +55,6 @@ fn agrees(alloc: Global, length: usize, piece_length: u64, part: usize) -> bool 
     }
 }
 
-// The length of the content, that of a piece, and that of the parts.
-const ROWS: &[(usize, u64, usize)] = &[
-    (0, 16_384, 1),
-    (1, 16_384, 1),
-    (16_384, 16_384, 1),
-    (16_384, 16_384, 16_383),
-    (16_384, 16_384, 16_384),
-    (16_385, 16_384, 1),
-    (16_385, 16_384, 16_383),
-    (16_385, 16_384, 16_385),
-    (32_768, 32_768, 10_000),
-    (49_152, 16_384, 16_384),
-    (49_152, 16_384, 16_385),
-    (49_152, 16_384, 49_152),
-    (81_920, 32_768, 4_096),
-    (81_920, 32_768, 20_000),
-    (81_920, 32_768, 81_920),
-    (81_920, 1 << 30, 50_000),
-    (100_000, 65_536, 33_333),
-    (1_638_400, 65_536, 33_333),
-];
-
-// A byte fewer than so many blocks, those blocks, and a byte more: of 7, 8, 9, 16 and 17 blocks. Beside each the length
-// of a piece: a block, four, or sixteen.
-const RUNS: &[(usize, u64)] = &[
-    (114_687, 16_384),
-    (114_688, 65_536),
-    (114_689, 262_144),
-    (131_071, 65_536),
-    (131_072, 16_384),
-    (131_073, 65_536),
-    (147_455, 16_384),
-    (147_456, 262_144),
-    (147_457, 65_536),
-    (262_143, 262_144),
-    (262_144, 65_536),
-    (262_145, 16_384),
-    (278_527, 65_536),
-    (278_528, 16_384),
-    (278_529, 262_144),
-];
-
 const ROOT: Hash = *b"\x7b\x2a\xc3\x7c\x09\xa9\x9d\xbc\xfd\xa8\xbb\x89\xf8\x60\x46\x84\
 \xac\x60\xba\x31\x4f\x77\x2f\xdd\xe6\xf7\x89\x12\x3b\x5d\x95\x75";
 
@@ -105,10 +63,7 @@ const LAST: Hash = *b"\xd6\x3e\x0e\xc4\xc0\xa4\xce\x56\xd4\x37\x1c\xd1\xc4\xaa\x
 
 // Whether a layer has 25 hashes, of which that is the last.
 fn is_layer_of_a_hundred(layer: &[Hash]) -> bool {
-    match layer.get(24) {
-        Some(last) => layer.len() == 25 && *last == LAST,
-        None => false,
-    }
+    layer.len() == 25 && layer.last() == Some(&LAST)
 }
 
 // Whether a hundred blocks, fed in such parts, have this root and such a layer.
@@ -135,13 +90,67 @@ fn agrees_at_once_and_in_parts(alloc: Global, length: usize, piece_length: u64) 
     agrees(alloc, length, piece_length, 1 << 20) && agrees(alloc, length, piece_length, 100_000)
 }
 
+// What is to hold.
+enum Case {
+    // A feed agrees: the length of the content, that of a piece, and that of the parts.
+    Fed(usize, u64, usize),
+    // It does where the content is fed at one time, and in parts.
+    Run(usize, u64),
+    Hundred,
+}
+
+const CASES: &[Case] = &[
+    Case::Fed(0, 16_384, 1),
+    Case::Fed(1, 16_384, 1),
+    Case::Fed(16_384, 16_384, 1),
+    Case::Fed(16_384, 16_384, 16_383),
+    Case::Fed(16_384, 16_384, 16_384),
+    Case::Fed(16_385, 16_384, 1),
+    Case::Fed(16_385, 16_384, 16_383),
+    Case::Fed(16_385, 16_384, 16_385),
+    Case::Fed(32_768, 32_768, 10_000),
+    Case::Fed(49_152, 16_384, 16_384),
+    Case::Fed(49_152, 16_384, 16_385),
+    Case::Fed(49_152, 16_384, 49_152),
+    Case::Fed(81_920, 32_768, 4_096),
+    Case::Fed(81_920, 32_768, 20_000),
+    Case::Fed(81_920, 32_768, 81_920),
+    Case::Fed(81_920, 1 << 30, 50_000),
+    Case::Fed(100_000, 65_536, 33_333),
+    Case::Fed(1_638_400, 65_536, 33_333),
+    // A byte fewer than so many blocks, those blocks, and a byte more: of 7, 8, 9, 16 and 17 blocks. Beside each the
+    // length of a piece: a block, four, or sixteen.
+    Case::Run(114_687, 16_384),
+    Case::Run(114_688, 65_536),
+    Case::Run(114_689, 262_144),
+    Case::Run(131_071, 65_536),
+    Case::Run(131_072, 16_384),
+    Case::Run(131_073, 65_536),
+    Case::Run(147_455, 16_384),
+    Case::Run(147_456, 262_144),
+    Case::Run(147_457, 65_536),
+    Case::Run(262_143, 262_144),
+    Case::Run(262_144, 65_536),
+    Case::Run(262_145, 16_384),
+    Case::Run(278_527, 65_536),
+    Case::Run(278_528, 16_384),
+    Case::Run(278_529, 262_144),
+    Case::Hundred,
+];
+
+fn holds(alloc: Global, case: &Case) -> bool {
+    match case {
+        Case::Fed(length, piece_length, part) => agrees(alloc, *length, *piece_length, *part),
+        Case::Run(length, piece_length) => {
+            agrees_at_once_and_in_parts(alloc, *length, *piece_length)
+        }
+        Case::Hundred => are_of_a_hundred_blocks(alloc),
+    }
+}
+
 #[test]
 fn feeds_in_parts_and_in_runs_what_lies_in_memory(rt: HostRuntime) {
-    for (length, piece_length, part) in ROWS {
-        assert!(rt; agrees(rt.alloc(), *length, *piece_length, *part));
+    for case in CASES {
+        assert!(rt; holds(rt.alloc(), case));
     }
-    for (length, piece_length) in RUNS {
-        assert!(rt; agrees_at_once_and_in_parts(rt.alloc(), *length, *piece_length));
-    }
-    assert!(rt; are_of_a_hundred_blocks(rt.alloc()));
 }

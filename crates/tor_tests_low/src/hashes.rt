@@ -199,12 +199,17 @@ fn are_letters_right(alloc: Global) -> bool {
     }
 }
 
+fn are_all_right(alloc: Global) -> bool {
+    are_content_blocks_right(alloc)
+        && are_content_nodes_right(alloc)
+        && are_content_pieces_right(alloc, 512, 64)
+        && are_content_pieces_right(alloc, 131_072, 16_384)
+        && are_zero_nodes_right(alloc)
+        && are_zero_blocks_right(alloc)
+        && are_letters_right(alloc)
+}
+
 #[test]
 fn hashes_eight_messages_at_once(rt: HostRuntime) {
-    let alloc = rt.alloc();
-    assert!(rt; are_content_blocks_right(alloc) && are_content_nodes_right(alloc));
-    assert!(rt; are_content_pieces_right(alloc, 512, 64));
-    assert!(rt; are_content_pieces_right(alloc, 131_072, 16_384));
-    assert!(rt; are_zero_nodes_right(alloc) && are_zero_blocks_right(alloc));
-    assert!(rt; are_letters_right(alloc));
+    assert!(rt; are_all_right(rt.alloc()));
 }

@@ -34,51 +34,6 @@ fn entries_text(alloc: Global, entries: &[Entry]) -> Result<String, AllocError> 
     Ok(text)
 }
 
-// Files, their layout, and the entries.
-type Row = (Files, Layout, &'static str);
-
-const ROWS: &[Row] = &[
-    (&[("a", 2), ("b", 1)], Layout::Joined, "a:2 b:1 "),
-    (
-        &[("a", 2), ("b", 1)],
-        Layout::Aligned,
-        "a:2 .pad/16382=16382 b:1 ",
-    ),
-    (
-        &[("a", 2), ("aa", 0), ("b", 1)],
-        Layout::Aligned,
-        "a:2 .pad/16382=16382 aa:0 b:1 ",
-    ),
-    (&[("a", 2), ("aa", 0)], Layout::Aligned, "a:2 aa:0 "),
-    (&[("a", 0), ("b", 1)], Layout::Aligned, "a:0 b:1 "),
-    (&[("a", 32768), ("b", 1)], Layout::Aligned, "a:32768 b:1 "),
-    (
-        &[("a", 32769), ("b/c", 16383), ("d", 5)],
-        Layout::Aligned,
-        "a:32769 .pad/16383=16383 b/c:16383 .pad/1=1 d:5 ",
-    ),
-    (&[("a", 0), ("b", 0)], Layout::Aligned, "a:0 b:0 "),
-    (&[(".pad/1", 2), ("b", 1)], Layout::Joined, ".pad/1:2 b:1 "),
-    (
-        &[("a", 2), ("b", 1)],
-        Layout::AlignedTail,
-        "a:2 .pad/16382=16382 b:1 .pad/16383=16383 ",
-    ),
-    (
-        &[("a", 2), ("b", 1), ("c", 0)],
-        Layout::AlignedTail,
-        "a:2 .pad/16382=16382 b:1 .pad/16383=16383 c:0 ",
-    ),
-    (&[("a", 2)], Layout::AlignedTail, "a:2 .pad/16382=16382 "),
-    (
-        &[("a", 2), ("b", 16384)],
-        Layout::AlignedTail,
-        "a:2 .pad/16382=16382 b:16384 ",
-    ),
-    (&[("a", 0), ("b", 0)], Layout::AlignedTail, "a:0 b:0 "),
-    (&[(".pad/1", 16384)], Layout::AlignedTail, "Y1 ReservedPad"),
-];
-
 // What files give: their entries, or why they have none.
 fn laid_out(alloc: Global, list: &FileList, layout: Layout) -> Result<String, AllocError> {
     match lay_out(alloc, list, 16384, layout) {
@@ -87,24 +42,12 @@ fn laid_out(alloc: Global, list: &FileList, layout: Layout) -> Result<String, Al
     }
 }
 
-fn is_laid_out(alloc: Global, row: &Row) -> bool {
-    match list_of(alloc, row.0) {
-        Ok(list) => is(laid_out(alloc, &list, row.1), row.2),
+fn is_laid_out(alloc: Global, files: Files, layout: Layout, wanted: &str) -> bool {
+    match list_of(alloc, files) {
+        Ok(list) => is(laid_out(alloc, &list, layout), wanted),
         Err(_) => false,
     }
 }
-
-// Files, whether a path of theirs is reserved, and what their aligned list gives.
-type Reserved = (Files, bool, &'static str);
-
-const RESERVED: &[Reserved] = &[
-    (&[(".pad/1", 1), ("b", 1)], true, "Y1 ReservedPad"),
-    (&[(".pad/1", 16384)], true, "Y1 ReservedPad"),
-    (&[("a", 0), (".pad", 0)], true, "Y1 ReservedPad"),
-    (&[("a/.pad", 1)], false, "a/.pad:1 "),
-    (&[(".pads", 1)], false, ".pads:1 "),
-    (&[(".pa", 1)], false, ".pa:1 "),
-];
 
 // Whether a path of a list is reserved.
 fn has_reserved(list: &FileList) -> bool {
@@ -116,10 +59,10 @@ fn has_reserved(list: &FileList) -> bool {
     false
 }
 
-fn is_judged(alloc: Global, row: &Reserved) -> bool {
-    match list_of(alloc, row.0) {
+fn is_judged(alloc: Global, files: Files, reserved: bool, wanted: &str) -> bool {
+    match list_of(alloc, files) {
         Ok(list) => {
-            has_reserved(&list) == row.1 && is(laid_out(alloc, &list, Layout::Aligned), row.2)
+            has_reserved(&list) == reserved && is(laid_out(alloc, &list, Layout::Aligned), wanted)
         }
         Err(_) => false,
     }
@@ -149,14 +92,78 @@ fn is_want_of_memory_told(alloc: Global) -> bool {
     is(format!(in alloc; "{fault}"), "out of memory")
 }
 
+// What is to hold.
+enum Case {
+    // Files, their layout, and the entries.
+    LaidOut(Files, Layout, &'static str),
+    // Files, whether a path of theirs is reserved, and what their aligned list gives.
+    Reserved(Files, bool, &'static str),
+    Thousand,
+    Memory,
+}
+
+const CASES: &[Case] = &[
+    Case::LaidOut(&[("a", 2), ("b", 1)], Layout::Joined, "a:2 b:1 "),
+    Case::LaidOut(
+        &[("a", 2), ("b", 1)],
+        Layout::Aligned,
+        "a:2 .pad/16382=16382 b:1 ",
+    ),
+    Case::LaidOut(
+        &[("a", 2), ("aa", 0), ("b", 1)],
+        Layout::Aligned,
+        "a:2 .pad/16382=16382 aa:0 b:1 ",
+    ),
+    Case::LaidOut(&[("a", 2), ("aa", 0)], Layout::Aligned, "a:2 aa:0 "),
+    Case::LaidOut(&[("a", 0), ("b", 1)], Layout::Aligned, "a:0 b:1 "),
+    Case::LaidOut(&[("a", 32768), ("b", 1)], Layout::Aligned, "a:32768 b:1 "),
+    Case::LaidOut(
+        &[("a", 32769), ("b/c", 16383), ("d", 5)],
+        Layout::Aligned,
+        "a:32769 .pad/16383=16383 b/c:16383 .pad/1=1 d:5 ",
+    ),
+    Case::LaidOut(&[("a", 0), ("b", 0)], Layout::Aligned, "a:0 b:0 "),
+    Case::LaidOut(&[(".pad/1", 2), ("b", 1)], Layout::Joined, ".pad/1:2 b:1 "),
+    Case::LaidOut(
+        &[("a", 2), ("b", 1)],
+        Layout::AlignedTail,
+        "a:2 .pad/16382=16382 b:1 .pad/16383=16383 ",
+    ),
+    Case::LaidOut(
+        &[("a", 2), ("b", 1), ("c", 0)],
+        Layout::AlignedTail,
+        "a:2 .pad/16382=16382 b:1 .pad/16383=16383 c:0 ",
+    ),
+    Case::LaidOut(&[("a", 2)], Layout::AlignedTail, "a:2 .pad/16382=16382 "),
+    Case::LaidOut(
+        &[("a", 2), ("b", 16384)],
+        Layout::AlignedTail,
+        "a:2 .pad/16382=16382 b:16384 ",
+    ),
+    Case::LaidOut(&[("a", 0), ("b", 0)], Layout::AlignedTail, "a:0 b:0 "),
+    Case::LaidOut(&[(".pad/1", 16384)], Layout::AlignedTail, "Y1 ReservedPad"),
+    Case::Reserved(&[(".pad/1", 1), ("b", 1)], true, "Y1 ReservedPad"),
+    Case::Reserved(&[(".pad/1", 16384)], true, "Y1 ReservedPad"),
+    Case::Reserved(&[("a", 0), (".pad", 0)], true, "Y1 ReservedPad"),
+    Case::Reserved(&[("a/.pad", 1)], false, "a/.pad:1 "),
+    Case::Reserved(&[(".pads", 1)], false, ".pads:1 "),
+    Case::Reserved(&[(".pa", 1)], false, ".pa:1 "),
+    Case::Thousand,
+    Case::Memory,
+];
+
+fn holds(alloc: Global, case: &Case) -> bool {
+    match case {
+        Case::LaidOut(files, layout, wanted) => is_laid_out(alloc, files, *layout, wanted),
+        Case::Reserved(files, reserved, wanted) => is_judged(alloc, files, *reserved, wanted),
+        Case::Thousand => is_thousand_laid_out(alloc),
+        Case::Memory => is_want_of_memory_told(alloc),
+    }
+}
+
 #[test]
 fn lays_out_files_and_refuses_paths_of_padding_in_aligned_lists(rt: HostRuntime) {
-    for row in ROWS {
-        assert!(rt; is_laid_out(rt.alloc(), row));
+    for case in CASES {
+        assert!(rt; holds(rt.alloc(), case));
     }
-    for row in RESERVED {
-        assert!(rt; is_judged(rt.alloc(), row));
-    }
-    assert!(rt; is_thousand_laid_out(rt.alloc()));
-    assert!(rt; is_want_of_memory_told(rt.alloc()));
 }

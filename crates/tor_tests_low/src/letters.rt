@@ -102,15 +102,13 @@ fn puts_letters_of_two(alloc: Global) -> bool {
     }
 }
 
+const TWICE: &[Row] = &[("a", 0, EXEC), ("a", 0, HIDDEN)];
+
+fn go_with_their_files(alloc: Global) -> bool {
+    keeps_letters(alloc) && is_refused(alloc, TWICE, "L1 Duplicate") && puts_letters_of_two(alloc)
+}
+
 #[test]
 fn letters_go_with_their_files(rt: HostRuntime) {
-    assert!(rt; keeps_letters(rt.alloc()));
-    assert!(rt;
-        is_refused(
-            rt.alloc(),
-            &[("a", 0, EXEC), ("a", 0, HIDDEN)],
-            "L1 Duplicate"
-        )
-    );
-    assert!(rt; puts_letters_of_two(rt.alloc()));
+    assert!(rt; go_with_their_files(rt.alloc()));
 }

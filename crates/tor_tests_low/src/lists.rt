@@ -53,18 +53,6 @@ fn are_listed_in_order(alloc: Global) -> bool {
 
 const LONG: u64 = MAX_LENGTH + 1;
 
-const LIST_FAULTS: &[(Files, &str)] = &[
-    (&[], "L4 NoFiles"),
-    (&[("a", 1), ("b", 1), ("a", 2)], "L1 Duplicate"),
-    (&[("a/b", 1), ("a", 1), ("a-b", 1)], "L2 FileAndFolder"),
-    (&[("a", LONG)], "L3 TooLarge"),
-    (
-        &[("a", LONG), ("a/b", 1), ("c", 1), ("c", 1)],
-        "L1 Duplicate",
-    ),
-    (&[("a/b/c", LONG), ("a", 1)], "L2 FileAndFolder"),
-];
-
 fn is_no_list(alloc: Global, files: &[(&str, u64)], wanted: &str) -> bool {
     match list_of_files(alloc, files) {
         Ok(_) => false,
@@ -136,13 +124,6 @@ fn are_lengths_taken(alloc: Global) -> bool {
     }
 }
 
-const PATH_FAULTS: &[(&[&str], &str)] = &[
-    (&[], "L4 NoFiles"),
-    (&["a", "b", "a"], "L1 Duplicate"),
-    (&["a/b", "a", "a-b"], "L2 FileAndFolder"),
-    (&["a/b", "a", "c", "c"], "L1 Duplicate"),
-];
-
 fn are_no_paths(alloc: Global, texts: &[&str], wanted: &str) -> bool {
     match list_of(alloc, texts) {
         Ok(_) => false,
@@ -168,20 +149,56 @@ fn refuse_length(alloc: Global, length: u64, wanted: &str) -> bool {
     }
 }
 
-#[test]
-fn files_are_listed_in_the_order_of_their_paths_or_refused(rt: HostRuntime) {
-    assert!(rt; are_listed_in_order(rt.alloc()));
-    for (files, wanted) in LIST_FAULTS {
-        assert!(rt; is_no_list(rt.alloc(), files, wanted));
+// What is to hold.
+enum Case {
+    // Files are listed in the order of their paths.
+    Listed,
+    // Files, and why they are no list.
+    NoList(Files, &'static str),
+    // Paths keep where they were handed in.
+    Entries,
+    // They take the lengths of their files.
+    Lengths,
+    // A length, and why it is refused.
+    Refused(u64, &'static str),
+    // Paths, and why they are no list.
+    NoPaths(&'static [&'static str], &'static str),
+}
+
+const CASES: &[Case] = &[
+    Case::Listed,
+    Case::NoList(&[], "L4 NoFiles"),
+    Case::NoList(&[("a", 1), ("b", 1), ("a", 2)], "L1 Duplicate"),
+    Case::NoList(&[("a/b", 1), ("a", 1), ("a-b", 1)], "L2 FileAndFolder"),
+    Case::NoList(&[("a", LONG)], "L3 TooLarge"),
+    Case::NoList(
+        &[("a", LONG), ("a/b", 1), ("c", 1), ("c", 1)],
+        "L1 Duplicate",
+    ),
+    Case::NoList(&[("a/b/c", LONG), ("a", 1)], "L2 FileAndFolder"),
+    Case::Entries,
+    Case::Lengths,
+    Case::Refused(LONG, "L3 TooLarge"),
+    Case::NoPaths(&[], "L4 NoFiles"),
+    Case::NoPaths(&["a", "b", "a"], "L1 Duplicate"),
+    Case::NoPaths(&["a/b", "a", "a-b"], "L2 FileAndFolder"),
+    Case::NoPaths(&["a/b", "a", "c", "c"], "L1 Duplicate"),
+];
+
+fn holds(alloc: Global, case: &Case) -> bool {
+    match case {
+        Case::Listed => are_listed_in_order(alloc),
+        Case::NoList(files, wanted) => is_no_list(alloc, files, wanted),
+        Case::Entries => are_three_entries(alloc),
+        Case::Lengths => are_lengths_taken(alloc),
+        Case::Refused(length, wanted) => refuse_length(alloc, *length, wanted),
+        Case::NoPaths(texts, wanted) => are_no_paths(alloc, texts, wanted),
     }
 }
 
 #[test]
-fn a_list_of_paths_takes_lengths(rt: HostRuntime) {
-    assert!(rt; are_three_entries(rt.alloc()));
-    assert!(rt; are_lengths_taken(rt.alloc()));
-    assert!(rt; refuse_length(rt.alloc(), LONG, "L3 TooLarge"));
-    for (texts, wanted) in PATH_FAULTS {
-        assert!(rt; are_no_paths(rt.alloc(), texts, wanted));
+fn lists_are_in_order_or_their_first_fault_is_told(rt: HostRuntime) {
+    for case in CASES {
+        assert!(rt; holds(rt.alloc(), case));
     }
 }

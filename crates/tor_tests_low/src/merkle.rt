@@ -109,24 +109,6 @@ pub(crate) const FIVE_BLOCKS: &[Hash] = &[L0, L1, L2, L3, L4];
 
 pub(crate) const FIVE_BY_TWO: &[Hash] = &[P0, P1, P2];
 
-// The length of the content, that of a piece, the root, and the layer.
-type Row = (usize, u64, Option<Hash>, &'static [Hash]);
-
-const ROWS: &[Row] = &[
-    (0, 16_384, None, &[]),
-    (3, 16_384, Some(OF_THREE), &[]),
-    (16_384, 16_384, Some(L0), &[]),
-    (16_385, 16_384, Some(OF_TWO_BLOCKS), &[L0, LAST_OF_ONE]),
-    (32_768, 32_768, Some(P0), &[]),
-    (40_000, 16_384, Some(OF_40000), BLOCKS_OF_40000),
-    (49_152, 16_384, Some(OF_THREE_BLOCKS), &[L0, L1, L2]),
-    (49_152, 32_768, Some(OF_THREE_BLOCKS), &[P0, LAST_P1]),
-    (49_157, 16_384, Some(OF_49157), BLOCKS_OF_49157),
-    (81_920, 32_768, Some(OF_FIVE_BLOCKS), FIVE_BY_TWO),
-    (81_920, 16_384, Some(OF_FIVE_BLOCKS), FIVE_BLOCKS),
-    (81_920, 1 << 30, Some(OF_FIVE_BLOCKS), &[]),
-];
-
 fn are_sums(sums: &Sums, root: Option<Hash>, layer: &[Hash]) -> bool {
     match sums {
         Some(sums) => root == Some(sums.0) && sums.1.as_slice() == layer,
@@ -134,16 +116,28 @@ fn are_sums(sums: &Sums, root: Option<Hash>, layer: &[Hash]) -> bool {
     }
 }
 
-fn has_sums_of(alloc: Global, bytes: &[u8], row: &Row) -> bool {
-    match whole_of(alloc, bytes, row.1) {
-        Ok(sums) => are_sums(&sums, row.2, row.3),
+fn has_sums_of(
+    alloc: Global,
+    bytes: &[u8],
+    piece_length: u64,
+    root: Option<Hash>,
+    layer: &[Hash],
+) -> bool {
+    match whole_of(alloc, bytes, piece_length) {
+        Ok(sums) => are_sums(&sums, root, layer),
         Err(_) => false,
     }
 }
 
-fn has_sums(alloc: Global, row: &Row) -> bool {
-    match content(alloc, row.0) {
-        Ok(bytes) => has_sums_of(alloc, &bytes, row),
+fn has_sums(
+    alloc: Global,
+    length: usize,
+    piece_length: u64,
+    root: Option<Hash>,
+    layer: &[Hash],
+) -> bool {
+    match content(alloc, length) {
+        Ok(bytes) => has_sums_of(alloc, &bytes, piece_length, root, layer),
         Err(_) => false,
     }
 }
@@ -164,16 +158,6 @@ fn piece_roots_of(alloc: Global, bytes: &[u8], piece_length: u64) -> Result<Vec<
     feed.feed(bytes)?;
     Ok(feed.piece_roots())
 }
-
-// The length of a content and of a piece, and the roots of its pieces.
-const PIECE_ROOTS: &[(usize, u64, &[Hash])] = &[
-    (0, 32_768, &[]),
-    (16_384, 32_768, &[WIDE]),
-    (16_384, 65_536, &[WIDER]),
-    (32_768, 32_768, &[P0]),
-    (49_152, 32_768, &[P0, LAST_P1]),
-    (49_152, 16_384, &[L0, L1, L2]),
-];
 
 fn has_piece_roots_of(alloc: Global, bytes: &[u8], piece_length: u64, roots: &[Hash]) -> bool {
     match piece_roots_of(alloc, bytes, piece_length) {
@@ -222,32 +206,6 @@ const OF_STACK: Hash = *b"\x00\x69\x30\x5f\x19\x51\x29\xeb\x7e\x8d\xdb\x2f\x05\x
 
 const STACKED: &[Hash; 3] = &[OF_AB, OF_C, OF_ABC];
 
-const LENGTHS: &[(u64, bool)] = &[
-    (0, false),
-    (1, false),
-    (8_192, false),
-    (16_383, false),
-    (16_384, true),
-    (16_385, false),
-    (24_576, false),
-    (32_768, true),
-    (1 << 29, true),
-    (1 << 30, true),
-    ((1 << 30) + 1, false),
-    (1 << 31, false),
-    (u64::MAX, false),
-];
-
-#[test]
-fn tells_root_and_layer_of_a_content(rt: HostRuntime) {
-    for row in ROWS {
-        assert!(rt; has_sums(rt.alloc(), row));
-    }
-    for (length, piece_length, roots) in PIECE_ROOTS {
-        assert!(rt; has_piece_roots(rt.alloc(), *length, *piece_length, roots));
-    }
-}
-
 // The SHA-256 of a few bytes, of two hashes, and the roots of leaves past the end.
 fn are_hashed() -> bool {
     leaf(b"abc") == OF_ABC
@@ -266,14 +224,78 @@ fn are_layers_joined() -> bool {
         && layer_root(STACKED, 1) == OF_STACK
 }
 
+// What is to hold.
+enum Case {
+    // A content of this length in pieces of that has this root and this layer.
+    Sums(usize, u64, Option<Hash>, &'static [Hash]),
+    // And these are the roots of its pieces.
+    PieceRoots(usize, u64, &'static [Hash]),
+    // Whether a piece may have this length.
+    Allowed(u64, bool),
+    Hashed,
+    Drawn,
+    Joined,
+    Stacked,
+}
+
+const CASES: &[Case] = &[
+    Case::Sums(0, 16_384, None, &[]),
+    Case::Sums(3, 16_384, Some(OF_THREE), &[]),
+    Case::Sums(16_384, 16_384, Some(L0), &[]),
+    Case::Sums(16_385, 16_384, Some(OF_TWO_BLOCKS), &[L0, LAST_OF_ONE]),
+    Case::Sums(32_768, 32_768, Some(P0), &[]),
+    Case::Sums(40_000, 16_384, Some(OF_40000), BLOCKS_OF_40000),
+    Case::Sums(49_152, 16_384, Some(OF_THREE_BLOCKS), &[L0, L1, L2]),
+    Case::Sums(49_152, 32_768, Some(OF_THREE_BLOCKS), &[P0, LAST_P1]),
+    Case::Sums(49_157, 16_384, Some(OF_49157), BLOCKS_OF_49157),
+    Case::Sums(81_920, 32_768, Some(OF_FIVE_BLOCKS), FIVE_BY_TWO),
+    Case::Sums(81_920, 16_384, Some(OF_FIVE_BLOCKS), FIVE_BLOCKS),
+    Case::Sums(81_920, 1 << 30, Some(OF_FIVE_BLOCKS), &[]),
+    Case::PieceRoots(0, 32_768, &[]),
+    Case::PieceRoots(16_384, 32_768, &[WIDE]),
+    Case::PieceRoots(16_384, 65_536, &[WIDER]),
+    Case::PieceRoots(32_768, 32_768, &[P0]),
+    Case::PieceRoots(49_152, 32_768, &[P0, LAST_P1]),
+    Case::PieceRoots(49_152, 16_384, &[L0, L1, L2]),
+    Case::Allowed(0, false),
+    Case::Allowed(1, false),
+    Case::Allowed(8_192, false),
+    Case::Allowed(16_383, false),
+    Case::Allowed(16_384, true),
+    Case::Allowed(16_385, false),
+    Case::Allowed(24_576, false),
+    Case::Allowed(32_768, true),
+    Case::Allowed(1 << 29, true),
+    Case::Allowed(1 << 30, true),
+    Case::Allowed((1 << 30) + 1, false),
+    Case::Allowed(1 << 31, false),
+    Case::Allowed(u64::MAX, false),
+    Case::Hashed,
+    Case::Drawn,
+    Case::Joined,
+    Case::Stacked,
+];
+
+fn holds(alloc: Global, case: &Case) -> bool {
+    match case {
+        Case::Sums(length, piece_length, root, layer) => {
+            has_sums(alloc, *length, *piece_length, *root, layer)
+        }
+        Case::PieceRoots(length, piece_length, roots) => {
+            has_piece_roots(alloc, *length, *piece_length, roots)
+        }
+        Case::Allowed(length, accepted) => is_piece_length(*length) == *accepted,
+        Case::Hashed => are_hashed(),
+        Case::Drawn => are_drawn(),
+        Case::Joined => are_layers_joined(),
+        Case::Stacked => stacks(STACKED, &OF_STACK),
+    }
+}
+
 #[test]
-fn hashes_blocks_and_joins_hashes(rt: HostRuntime) {
-    assert!(rt; are_hashed());
-    assert!(rt; are_drawn());
-    assert!(rt; are_layers_joined());
-    assert!(rt; stacks(STACKED, &OF_STACK));
-    for (n, accepted) in LENGTHS {
-        assert!(rt; is_piece_length(*n) == *accepted);
+fn hashes_blocks_joins_hashes_and_tells_root_and_layer(rt: HostRuntime) {
+    for case in CASES {
+        assert!(rt; holds(rt.alloc(), case));
     }
     piece_length_bounds();
 }

@@ -3,32 +3,10 @@ use crate::shared::{is, path};
 use std::alloc::{AllocError, Global};
 use tor_tree::{FilePath, ListError, Name, NameError, TreeFault, copy_names};
 
-// The bytes, and what is answered.
-type NameRow = (&'static [u8], &'static str);
-
-const NAMES: &[NameRow] = &[
-    (b"", "N1 Empty"),
-    (b".", "N2 Dot"),
-    (b"..", "N3 DotDot"),
-    (b"a/b", "N4 Slash"),
-    (b"/", "N4 Slash"),
-    (b"a\0", "N5 Nul"),
-    (b"\xff", "N6 NotUtf8"),
-    (b"a\xc0\x80", "N6 NotUtf8"),
-    (b"\xed\xa0\x80", "N6 NotUtf8"),
-    (b"\0/", "N4 Slash"),
-    (b"\xff/", "N4 Slash"),
-    (b"\xff\0", "N5 Nul"),
-    (b"a", "a name"),
-    (b"...", "a name"),
-    (b".a", "a name"),
-    (b"\xc3\xa9", "a name"),
-];
-
-fn is_judged(alloc: Global, row: &NameRow) -> bool {
-    match Name::new(alloc, row.0) {
-        Ok(name) => name.as_bytes() == row.0 && row.1 == "a name",
-        Err(fault) => is(format!(in alloc; "{fault}"), row.1),
+fn is_judged(alloc: Global, bytes: &[u8], wanted: &str) -> bool {
+    match Name::new(alloc, bytes) {
+        Ok(name) => name.as_bytes() == bytes && wanted == "a name",
+        Err(fault) => is(format!(in alloc; "{fault}"), wanted),
     }
 }
 
@@ -47,8 +25,6 @@ fn is_name(alloc: Global, bytes: &[u8]) -> bool {
     }
 }
 
-const LENGTHS: &[usize] = &[1, 2, 255, 4096];
-
 // That so many bytes `n` are a name, and its copy is the same.
 fn is_name_of(alloc: Global, length: usize) -> bool {
     match vec![in alloc; b'n'; length] {
@@ -63,14 +39,6 @@ fn is_letter(alloc: Global) -> bool {
         Err(_) => false,
     }
 }
-
-const IN_ORDER: &[(&str, &str)] = &[
-    ("a/c", "a-b"),
-    ("a", "a/b"),
-    ("a/b", "a/b/c"),
-    ("a/z", "b"),
-    ("A", "a"),
-];
 
 fn is_copy(alloc: Global, path: &FilePath) -> bool {
     match path.copy(alloc) {
@@ -109,23 +77,71 @@ fn is_want_of_memory_told(alloc: Global) -> bool {
         && is(format!(in alloc; "{tree}"), "out of memory")
 }
 
-#[test]
-fn names_are_judged_and_copied(rt: HostRuntime) {
-    for row in NAMES {
-        assert!(rt; is_judged(rt.alloc(), row));
+fn is_no_path_of_no_name(alloc: Global) -> bool {
+    FilePath::new(Vec::new(alloc)).is_none()
+}
+
+// What is to hold.
+enum Case {
+    // What is answered for these bytes.
+    Judged(&'static [u8], &'static str),
+    // So many bytes are a name.
+    Long(usize),
+    Letter,
+    // A path comes before another one.
+    Ordered(&'static str, &'static str),
+    TwoNames,
+    NoName,
+    Memory,
+}
+
+const CASES: &[Case] = &[
+    Case::Judged(b"", "N1 Empty"),
+    Case::Judged(b".", "N2 Dot"),
+    Case::Judged(b"..", "N3 DotDot"),
+    Case::Judged(b"a/b", "N4 Slash"),
+    Case::Judged(b"/", "N4 Slash"),
+    Case::Judged(b"a\0", "N5 Nul"),
+    Case::Judged(b"\xff", "N6 NotUtf8"),
+    Case::Judged(b"a\xc0\x80", "N6 NotUtf8"),
+    Case::Judged(b"\xed\xa0\x80", "N6 NotUtf8"),
+    Case::Judged(b"\0/", "N4 Slash"),
+    Case::Judged(b"\xff/", "N4 Slash"),
+    Case::Judged(b"\xff\0", "N5 Nul"),
+    Case::Judged(b"a", "a name"),
+    Case::Judged(b"...", "a name"),
+    Case::Judged(b".a", "a name"),
+    Case::Judged(b"\xc3\xa9", "a name"),
+    Case::Long(1),
+    Case::Long(2),
+    Case::Long(255),
+    Case::Long(4096),
+    Case::Letter,
+    Case::Ordered("a/c", "a-b"),
+    Case::Ordered("a", "a/b"),
+    Case::Ordered("a/b", "a/b/c"),
+    Case::Ordered("a/z", "b"),
+    Case::Ordered("A", "a"),
+    Case::TwoNames,
+    Case::NoName,
+    Case::Memory,
+];
+
+fn holds(alloc: Global, case: &Case) -> bool {
+    match case {
+        Case::Judged(bytes, wanted) => is_judged(alloc, bytes, wanted),
+        Case::Long(length) => is_name_of(alloc, *length),
+        Case::Letter => is_letter(alloc),
+        Case::Ordered(low, high) => matches!(comes_first(alloc, low, high), Ok(true)),
+        Case::TwoNames => has_two_names_of_its_own(alloc),
+        Case::NoName => is_no_path_of_no_name(alloc),
+        Case::Memory => is_want_of_memory_told(alloc),
     }
-    for length in LENGTHS {
-        assert!(rt; is_name_of(rt.alloc(), *length));
-    }
-    assert!(rt; is_letter(rt.alloc()));
 }
 
 #[test]
-fn paths_are_ordered_name_by_name(rt: HostRuntime) {
-    for (low, high) in IN_ORDER {
-        assert!(rt; comes_first(rt.alloc(), low, high) == Ok(true));
+fn names_are_judged_and_paths_ordered_name_by_name(rt: HostRuntime) {
+    for case in CASES {
+        assert!(rt; holds(rt.alloc(), case));
     }
-    assert!(rt; has_two_names_of_its_own(rt.alloc()));
-    assert!(rt; FilePath::new(Vec::new(rt.alloc())).is_none());
-    assert!(rt; is_want_of_memory_told(rt.alloc()));
 }

@@ -233,15 +233,6 @@ fn collides_in_its_parent<R: AllocGlobal + Abort>(rt: &R) -> bool {
     }
 }
 
-// Hashes, and an index at which there is none.
-const NOT_THERE: &[(&[Hash], u64)] = &[
-    (BLOCKS_OF_40000, 3),
-    (BLOCKS_OF_40000, 4),
-    (BLOCKS_OF_40000, u64::MAX),
-    (&[], 0),
-    (FIVE, 5),
-];
-
 const BESIDE_ONE: &Siblings = &(&[L0], 0, 0, &[]);
 
 const THIRD_PIECE: &[Judged] = &[(OF_FIVE_BLOCKS, 3, 1, 2, P2, &[Z1, P01], true)];
@@ -250,79 +241,87 @@ const BESIDE_THIRD_PIECE: &Siblings = &(FIVE_BY_TWO, 1, 2, &[Z1, P01]);
 
 const ROOT_OF_PIECES: &Rooted = &(FIVE_BY_TWO, 1, OF_FIVE_BLOCKS);
 
-// The size, the length of a piece, how many hashes, and their level.
-const COUNTS: &[(u64, u64, u64, u32)] = &[
-    (0, 16_384, 1, 0),
-    (1, 16_384, 1, 0),
-    (16_384, 16_384, 1, 0),
-    (16_385, 16_384, 2, 0),
-    (16_385, 32_768, 1, 1),
-    (49_153, 1 << 20, 1, 2),
-    (1 << 20, 1 << 20, 1, 6),
-    ((1 << 20) + 1, 1 << 20, 2, 6),
-    (1 << 50, 16_384, 1 << 36, 0),
-    (1 << 50, 1 << 30, 1 << 20, 16),
-];
-
-const SIBLINGS: &[&Siblings] = &[
-    OF_THIRD,
-    BESIDE_THIRD_OF_FIVE,
-    BESIDE_THIRD_OF_THREE,
-    BESIDE_ONE,
-    BESIDE_THIRD_PIECE,
-];
-
-const ROOTS: &[&Rooted] = &[ROOT_OF_FOUR, ROOT_OF_THREE, ROOT_OF_PIECES];
-
-#[test]
-fn gives_the_siblings_of_a_piece_that_is_there(rt: HostRuntime) {
-    for row in SIBLINGS {
-        assert!(rt; has_siblings(&rt, row));
-    }
-    for (hashes, index) in NOT_THERE {
-        assert!(rt; is_past_the_last(&rt, hashes, *index));
-    }
-    for row in ROOTS {
-        assert!(rt; has_root(row));
-    }
-}
-
-const JUDGED: &[&[Judged]] = &[
-    OF_FOUR,
-    THIRD_OF_FIVE,
-    OF_A_FILE_AND_ITS_HASHES,
-    THIRD_OF_THREE,
-    ALONE,
-    THIRD_PIECE,
-];
-
-const ACCEPTED: &[&[Hash]] = &[BLOCKS_OF_40000, BLOCKS_OF_49157, FIVE_BLOCKS];
-
-#[test]
-fn accepts_each_piece_at_its_index_alone(rt: HostRuntime) {
-    for rows in JUDGED {
-        assert!(rt; are_judged(&rt, rows));
-    }
-    for hashes in ACCEPTED {
-        assert!(rt; is_each_accepted(&rt, hashes));
-    }
-    assert!(rt; is_file_of_its_hashes());
-    assert!(rt; collides_in_its_parent(&rt));
-}
-
 // Whether count and level of the hashes of a file are these.
-fn is_counted(row: &(u64, u64, u64, u32)) -> bool {
-    let (size, piece_length, count, level) = *row;
+fn is_counted(size: u64, piece_length: u64, count: u64, level: u32) -> bool {
     if !is_piece_length(piece_length) || size > 1 << 50 {
         return false;
     }
     proof_count(size, piece_length) == count && proof_level(size, piece_length) == level
 }
 
+// What is to hold.
+enum Case {
+    // These are the siblings of a piece.
+    Siblings(&'static Siblings),
+    // There is no hash at this index.
+    Past(&'static [Hash], u64),
+    Rooted(&'static Rooted),
+    // So is judged.
+    Judged(&'static [Judged]),
+    // The proof of each of these hashes is accepted at its index alone.
+    Accepted(&'static [Hash]),
+    FileOfItsHashes,
+    Collides,
+    // The size, the length of a piece, how many hashes, and their level.
+    Counted(u64, u64, u64, u32),
+}
+
+const CASES: &[Case] = &[
+    Case::Siblings(OF_THIRD),
+    Case::Siblings(BESIDE_THIRD_OF_FIVE),
+    Case::Siblings(BESIDE_THIRD_OF_THREE),
+    Case::Siblings(BESIDE_ONE),
+    Case::Siblings(BESIDE_THIRD_PIECE),
+    Case::Past(BLOCKS_OF_40000, 3),
+    Case::Past(BLOCKS_OF_40000, 4),
+    Case::Past(BLOCKS_OF_40000, u64::MAX),
+    Case::Past(&[], 0),
+    Case::Past(FIVE, 5),
+    Case::Rooted(ROOT_OF_FOUR),
+    Case::Rooted(ROOT_OF_THREE),
+    Case::Rooted(ROOT_OF_PIECES),
+    Case::Judged(OF_FOUR),
+    Case::Judged(THIRD_OF_FIVE),
+    Case::Judged(OF_A_FILE_AND_ITS_HASHES),
+    Case::Judged(THIRD_OF_THREE),
+    Case::Judged(ALONE),
+    Case::Judged(THIRD_PIECE),
+    Case::Accepted(BLOCKS_OF_40000),
+    Case::Accepted(BLOCKS_OF_49157),
+    Case::Accepted(FIVE_BLOCKS),
+    Case::FileOfItsHashes,
+    Case::Collides,
+    Case::Counted(0, 16_384, 1, 0),
+    Case::Counted(1, 16_384, 1, 0),
+    Case::Counted(16_384, 16_384, 1, 0),
+    Case::Counted(16_385, 16_384, 2, 0),
+    Case::Counted(16_385, 32_768, 1, 1),
+    Case::Counted(49_153, 1 << 20, 1, 2),
+    Case::Counted(1 << 20, 1 << 20, 1, 6),
+    Case::Counted((1 << 20) + 1, 1 << 20, 2, 6),
+    Case::Counted(1 << 50, 16_384, 1 << 36, 0),
+    Case::Counted(1 << 50, 1 << 30, 1 << 20, 16),
+];
+
+fn holds<R: AllocGlobal + Abort>(rt: &R, case: &Case) -> bool {
+    match case {
+        Case::Siblings(row) => has_siblings(rt, row),
+        Case::Past(hashes, index) => is_past_the_last(rt, hashes, *index),
+        Case::Rooted(row) => has_root(row),
+        Case::Judged(rows) => are_judged(rt, rows),
+        Case::Accepted(hashes) => is_each_accepted(rt, hashes),
+        Case::FileOfItsHashes => is_file_of_its_hashes(),
+        Case::Collides => collides_in_its_parent(rt),
+        Case::Counted(size, piece_length, count, level) => {
+            is_counted(*size, *piece_length, *count, *level)
+        }
+    }
+}
+
 #[test]
-fn tells_count_and_level_of_a_file(rt: HostRuntime) {
+fn gives_the_siblings_of_a_piece_and_accepts_it_at_its_index_alone(rt: HostRuntime) {
     proofs_are_low();
-    for row in COUNTS {
-        assert!(rt; is_counted(row));
+    for case in CASES {
+        assert!(rt; holds(&rt, case));
     }
 }

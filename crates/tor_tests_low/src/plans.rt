@@ -93,80 +93,6 @@ fn trees_text(alloc: Global, forest: &Forest) -> Result<String, AllocError> {
 /// Two files with bytes and an empty one between.
 const THREE: Files = &[("a", 40000), ("b", 0), ("c", 16384)];
 
-/// Files, kind and span; the units and the trees.
-type Row = (Files, Kind, u32, &'static str, &'static str);
-
-const ROWS: &[Row] = &[
-    (
-        THREE,
-        Kind::V2,
-        1,
-        "[ 0:0+16384 ][ 0:16384+16384 ][ 0:32768+7232 ][ 2:0+16384 ]",
-        "0+3^0 ",
-    ),
-    (
-        THREE,
-        Kind::V2,
-        2,
-        "[ 0:0+32768 ][ 0:32768+7232 ][ 2:0+16384 ]",
-        "0+2^1 ",
-    ),
-    (THREE, Kind::V2, 4, "[ 0:0+40000 ][ 2:0+16384 ]", ""),
-    (
-        THREE,
-        Kind::Hybrid,
-        1,
-        "[ 0:0+16384 ][ 0:16384+16384 ][ 0:32768+7232=9152 ][ 2:0+16384 ]",
-        "0+3^0 ",
-    ),
-    (
-        THREE,
-        Kind::Hybrid,
-        2,
-        "[ 0:0+32768 ][ 0:32768+7232=9152 ][ 2:0+16384 ]",
-        "0+2^1 ",
-    ),
-    (
-        THREE,
-        Kind::V1,
-        1,
-        "[ 0:0+16384 ][ 0:16384+16384 ][ 0:32768+7232 2:0+9152 ][ 2:9152+7232 ]",
-        "",
-    ),
-    (
-        THREE,
-        Kind::V1,
-        2,
-        "[ 0:0+32768 ][ 0:32768+7232 2:0+16384 ]",
-        "",
-    ),
-    (&[("a", 16384)], Kind::V2, 1, "[ 0:0+16384 ]", ""),
-    (
-        &[("a", 16385)],
-        Kind::V2,
-        1,
-        "[ 0:0+16384 ][ 0:16384+1 ]",
-        "0+2^0 ",
-    ),
-    (&[("a", 0), ("b", 0)], Kind::Hybrid, 1, "", ""),
-    (&[("a", 0), ("b", 0)], Kind::V1, 1, "", ""),
-    (&[("a", 5), ("b", 0)], Kind::Hybrid, 1, "[ 0:0+5 ]", ""),
-    (
-        &[("a", 5), ("b", 7), ("c", 16384), ("d", 1)],
-        Kind::V1,
-        1,
-        "[ 0:0+5 1:0+7 2:0+16372 ][ 2:16372+12 3:0+1 ]",
-        "",
-    ),
-    (
-        &[("a", 16385), ("b", 32769)],
-        Kind::Hybrid,
-        1,
-        "[ 0:0+16384 ][ 0:16384+1=16383 ][ 1:0+16384 ][ 1:16384+16384 ][ 1:32768+1 ]",
-        "0+2^0 2+3^0 ",
-    ),
-];
-
 /// Whether these are the units and the trees of a plan.
 pub(crate) fn is_plan(alloc: Global, plan: &Plan, units: &str, trees: &str) -> bool {
     is(units_text(alloc, plan.units()), units) && is(trees_text(alloc, plan.forest()), trees)
@@ -184,8 +110,7 @@ fn plan_of_files(
     plan_of(alloc, &list, kind, piece_length, span)
 }
 
-fn is_cut(alloc: Global, row: &Row) -> bool {
-    let (files, kind, span, units, trees) = *row;
+fn is_cut(alloc: Global, files: Files, kind: Kind, span: u32, units: &str, trees: &str) -> bool {
     match plan_of_files(alloc, files, kind, 16384, span) {
         Ok(plan) => {
             plan.kind() == kind
@@ -248,13 +173,105 @@ fn is_longest(alloc: Global, kind: Kind, trees: &str) -> bool {
     }
 }
 
+/// What is to hold.
+enum Case {
+    /// Files, kind and span; the units and the trees.
+    Cut(Files, Kind, u32, &'static str, &'static str),
+    Joined,
+    Counted,
+    /// The kind, and the trees of the longest file.
+    Longest(Kind, &'static str),
+}
+
+const CASES: &[Case] = &[
+    Case::Cut(
+        THREE,
+        Kind::V2,
+        1,
+        "[ 0:0+16384 ][ 0:16384+16384 ][ 0:32768+7232 ][ 2:0+16384 ]",
+        "0+3^0 ",
+    ),
+    Case::Cut(
+        THREE,
+        Kind::V2,
+        2,
+        "[ 0:0+32768 ][ 0:32768+7232 ][ 2:0+16384 ]",
+        "0+2^1 ",
+    ),
+    Case::Cut(THREE, Kind::V2, 4, "[ 0:0+40000 ][ 2:0+16384 ]", ""),
+    Case::Cut(
+        THREE,
+        Kind::Hybrid,
+        1,
+        "[ 0:0+16384 ][ 0:16384+16384 ][ 0:32768+7232=9152 ][ 2:0+16384 ]",
+        "0+3^0 ",
+    ),
+    Case::Cut(
+        THREE,
+        Kind::Hybrid,
+        2,
+        "[ 0:0+32768 ][ 0:32768+7232=9152 ][ 2:0+16384 ]",
+        "0+2^1 ",
+    ),
+    Case::Cut(
+        THREE,
+        Kind::V1,
+        1,
+        "[ 0:0+16384 ][ 0:16384+16384 ][ 0:32768+7232 2:0+9152 ][ 2:9152+7232 ]",
+        "",
+    ),
+    Case::Cut(
+        THREE,
+        Kind::V1,
+        2,
+        "[ 0:0+32768 ][ 0:32768+7232 2:0+16384 ]",
+        "",
+    ),
+    Case::Cut(&[("a", 16384)], Kind::V2, 1, "[ 0:0+16384 ]", ""),
+    Case::Cut(
+        &[("a", 16385)],
+        Kind::V2,
+        1,
+        "[ 0:0+16384 ][ 0:16384+1 ]",
+        "0+2^0 ",
+    ),
+    Case::Cut(&[("a", 0), ("b", 0)], Kind::Hybrid, 1, "", ""),
+    Case::Cut(&[("a", 0), ("b", 0)], Kind::V1, 1, "", ""),
+    Case::Cut(&[("a", 5), ("b", 0)], Kind::Hybrid, 1, "[ 0:0+5 ]", ""),
+    Case::Cut(
+        &[("a", 5), ("b", 7), ("c", 16384), ("d", 1)],
+        Kind::V1,
+        1,
+        "[ 0:0+5 1:0+7 2:0+16372 ][ 2:16372+12 3:0+1 ]",
+        "",
+    ),
+    Case::Cut(
+        &[("a", 16385), ("b", 32769)],
+        Kind::Hybrid,
+        1,
+        "[ 0:0+16384 ][ 0:16384+1=16383 ][ 1:0+16384 ][ 1:16384+16384 ][ 1:32768+1 ]",
+        "0+2^0 2+3^0 ",
+    ),
+    Case::Joined,
+    Case::Counted,
+    Case::Longest(Kind::V2, "0+1024^26 "),
+    Case::Longest(Kind::V1, ""),
+];
+
+fn holds(alloc: Global, case: &Case) -> bool {
+    match case {
+        Case::Cut(files, kind, span, units, trees) => {
+            is_cut(alloc, files, *kind, *span, units, trees)
+        }
+        Case::Joined => are_joined(alloc),
+        Case::Counted => has_each_counts(alloc),
+        Case::Longest(kind, trees) => is_longest(alloc, *kind, trees),
+    }
+}
+
 #[test]
 fn cuts_files_by_kind_and_span(rt: HostRuntime) {
-    for row in ROWS {
-        assert!(rt; is_cut(rt.alloc(), row));
+    for case in CASES {
+        assert!(rt; holds(rt.alloc(), case));
     }
-    assert!(rt; are_joined(rt.alloc()));
-    assert!(rt; has_each_counts(rt.alloc()));
-    assert!(rt; is_longest(rt.alloc(), Kind::V2, "0+1024^26 "));
-    assert!(rt; is_longest(rt.alloc(), Kind::V1, ""));
 }

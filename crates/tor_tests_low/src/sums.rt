@@ -56,51 +56,9 @@ const ZEROS: &[u8] = b"\
 \xe0\xb8\x4b\x83\x4a\x7a\xdb\x40\x10\x7f\xa7\x83\xa0\x08\xfd\x5e\x69\x9d\xd9\x38\
 \xf9\x07\xb7\xbf\x31\x8b\x79\xfd\x6b\x9d\xa5\x89\x64\x6f\x8b\x1d\xac\x77\xd0\xc8";
 
-/// The length of a piece, the parts of a content, and the joined hashes.
-type Row = (u64, &'static [Part], &'static [u8]);
-
-const ROWS: &[Row] = &[
-    (16384, &[], b""),
-    (16384, &[Part::Bytes(b""), Part::Zeros(0)], b""),
-    (16384, &[Part::Bytes(b"abc")], ABC),
-    (
-        16384,
-        &[Part::Bytes(b"ab"), Part::Zeros(16382), Part::Bytes(b"c")],
-        JOINED,
-    ),
-    (
-        16384,
-        &[
-            Part::Bytes(b"a"),
-            Part::Bytes(b"b"),
-            Part::Zeros(1),
-            Part::Zeros(16381),
-            Part::Bytes(b""),
-            Part::Bytes(b"c"),
-        ],
-        JOINED,
-    ),
-    (
-        16384,
-        &[
-            Part::Bytes(b"ab\0\0\0"),
-            Part::Zeros(16378),
-            Part::Bytes(b"\0c"),
-        ],
-        JOINED,
-    ),
-    (3, &[Part::Bytes(b"abcdefg")], SEVEN),
-    (
-        3,
-        &[Part::Bytes(b"ab"), Part::Bytes(b"cde"), Part::Bytes(b"fg")],
-        SEVEN,
-    ),
-    (30000, &[Part::Zeros(100_000)], ZEROS),
-];
-
-fn has_sums(alloc: Global, row: &Row) -> bool {
-    match sums_of_parts(alloc, row.0, row.1) {
-        Ok(sums) => sums.as_slice() == row.2,
+fn has_sums(alloc: Global, piece_length: u64, parts: &[Part], wanted: &[u8]) -> bool {
+    match sums_of_parts(alloc, piece_length, parts) {
+        Ok(sums) => sums.as_slice() == wanted,
         Err(_) => false,
     }
 }
@@ -117,25 +75,6 @@ const OF_16384: &[usize] = &[
 
 const OF_100: &[usize] = &[
     699, 700, 701, 799, 800, 801, 899, 900, 901, 1_599, 1_600, 1_601, 1_699, 1_700, 1_701,
-];
-
-// The length of a piece, that of a content, and the hash of its joined sums.
-const SUMS: &[(u64, usize, [u8; 20])] = &[
-    (
-        64,
-        1_089,
-        *b"\x4c\xed\xf3\x17\x04\xda\xf5\xef\x33\xf4\x7b\x02\xbf\x6d\x4d\x9a\x8d\x22\x50\xd6",
-    ),
-    (
-        16_384,
-        278_529,
-        *b"\xa2\x0c\x97\xc3\x32\x2e\x96\x58\xeb\xc2\xd8\xca\xaf\x14\x4a\xce\xcb\x23\xb7\xfb",
-    ),
-    (
-        100,
-        1_701,
-        *b"\xa9\xe4\x67\xae\x3a\x4d\x07\x93\x09\xfa\xb7\x9c\x79\xf4\xad\xeb\x37\xe0\x0b\x5f",
-    ),
 ];
 
 fn feed_in_parts(sums: &mut PieceSums, bytes: &[u8], part: usize) -> Result<(), AllocError>
@@ -218,25 +157,91 @@ fn has_hash_of_sums(alloc: Global, piece_length: u64, bytes: &[u8], hash: &[u8; 
 }
 
 // Whether those of a content have.
-fn has_hash(alloc: Global, row: &(u64, usize, [u8; 20])) -> bool {
-    match content(alloc, row.1) {
-        Ok(bytes) => has_hash_of_sums(alloc, row.0, &bytes, &row.2),
+fn has_hash(alloc: Global, piece_length: u64, length: usize, hash: &[u8; 20]) -> bool {
+    match content(alloc, length) {
+        Ok(bytes) => has_hash_of_sums(alloc, piece_length, &bytes, hash),
         Err(_) => false,
     }
 }
 
-// Lengths of pieces, and of contents. Eight whole pieces are hashed at once.
-const RUNS: &[(u64, &[usize])] = &[(64, OF_64), (16_384, OF_16384), (100, OF_100)];
+// What is to hold.
+enum Case {
+    // The length of a piece, the parts of a content, and the joined hashes.
+    Parts(u64, &'static [Part], &'static [u8]),
+    // That of a piece, and those of contents. Eight whole pieces are hashed at once.
+    Runs(u64, &'static [usize]),
+    // That of a piece, that of a content, and the hash of its joined sums.
+    Summed(u64, usize, [u8; 20]),
+}
+
+const CASES: &[Case] = &[
+    Case::Parts(16384, &[], b""),
+    Case::Parts(16384, &[Part::Bytes(b""), Part::Zeros(0)], b""),
+    Case::Parts(16384, &[Part::Bytes(b"abc")], ABC),
+    Case::Parts(
+        16384,
+        &[Part::Bytes(b"ab"), Part::Zeros(16382), Part::Bytes(b"c")],
+        JOINED,
+    ),
+    Case::Parts(
+        16384,
+        &[
+            Part::Bytes(b"a"),
+            Part::Bytes(b"b"),
+            Part::Zeros(1),
+            Part::Zeros(16381),
+            Part::Bytes(b""),
+            Part::Bytes(b"c"),
+        ],
+        JOINED,
+    ),
+    Case::Parts(
+        16384,
+        &[
+            Part::Bytes(b"ab\0\0\0"),
+            Part::Zeros(16378),
+            Part::Bytes(b"\0c"),
+        ],
+        JOINED,
+    ),
+    Case::Parts(3, &[Part::Bytes(b"abcdefg")], SEVEN),
+    Case::Parts(
+        3,
+        &[Part::Bytes(b"ab"), Part::Bytes(b"cde"), Part::Bytes(b"fg")],
+        SEVEN,
+    ),
+    Case::Parts(30000, &[Part::Zeros(100_000)], ZEROS),
+    Case::Runs(64, OF_64),
+    Case::Runs(16_384, OF_16384),
+    Case::Runs(100, OF_100),
+    Case::Summed(
+        64,
+        1_089,
+        *b"\x4c\xed\xf3\x17\x04\xda\xf5\xef\x33\xf4\x7b\x02\xbf\x6d\x4d\x9a\x8d\x22\x50\xd6",
+    ),
+    Case::Summed(
+        16_384,
+        278_529,
+        *b"\xa2\x0c\x97\xc3\x32\x2e\x96\x58\xeb\xc2\xd8\xca\xaf\x14\x4a\xce\xcb\x23\xb7\xfb",
+    ),
+    Case::Summed(
+        100,
+        1_701,
+        *b"\xa9\xe4\x67\xae\x3a\x4d\x07\x93\x09\xfa\xb7\x9c\x79\xf4\xad\xeb\x37\xe0\x0b\x5f",
+    ),
+];
+
+fn holds(alloc: Global, case: &Case) -> bool {
+    match case {
+        Case::Parts(piece_length, parts, wanted) => has_sums(alloc, *piece_length, parts, wanted),
+        Case::Runs(piece_length, lengths) => agree(alloc, *piece_length, lengths),
+        Case::Summed(piece_length, length, hash) => has_hash(alloc, *piece_length, *length, hash),
+    }
+}
 
 #[test]
 fn sums_pieces_in_parts_and_in_runs(rt: HostRuntime) {
-    for row in ROWS {
-        assert!(rt; has_sums(rt.alloc(), row));
-    }
-    for (piece_length, lengths) in RUNS {
-        assert!(rt; agree(rt.alloc(), *piece_length, lengths));
-    }
-    for row in SUMS {
-        assert!(rt; has_hash(rt.alloc(), row));
+    for case in CASES {
+        assert!(rt; holds(rt.alloc(), case));
     }
 }

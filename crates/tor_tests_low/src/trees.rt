@@ -9,38 +9,18 @@ use tor_bencode::{Tree, decode, encode};
 use tor_merkle::Hash;
 use tor_tree::{FileList, FilePath, TreeFile, from_item, to_item};
 
-// A tree as its spelling, and why it is no file tree.
-type Fault = (&'static [u8], &'static str);
-
-const FAULTS: &[Fault] = &[
-    (b"de", "K3 Empty"),
-    (b"d1:adee", "K3 Empty"),
-    (b"d2:..d0:d6:lengthi0eeee", "K1 Shape"),
-    (b"i1e", "K1 Shape"),
-    (b"d1:ad0:d6:lengthi-1eeee", "K2 Length"),
-    (b"d1:ad0:d6:lengthi1125899906842625eeee", "K4 TooLarge"),
-    (b"d1:ad0:d4:attr1:l6:lengthi0eeee", "K5 Symlink"),
-    (b"d0:d6:lengthi0eee", "K6 Mixed"),
-    (b"d1:ad0:d6:lengthi1eeee", "K7 Root"),
-];
-
-fn is_refused(alloc: Global, row: &Fault) -> bool {
-    let Ok(tree) = decode(alloc, row.0) else {
+fn is_refused(alloc: Global, text: &[u8], wanted: &str) -> bool {
+    let Ok(tree) = decode(alloc, text) else {
         return false;
     };
     match from_item(alloc, tree.item()) {
         Ok(_) => false,
-        Err(fault) => is(format!(in alloc; "{fault}"), row.1),
+        Err(fault) => is(format!(in alloc; "{fault}"), wanted),
     }
 }
 
 // A tree of one empty file, as its spelling, the path of the file, and whether it has the letters x and h.
 type OneFile = (&'static [u8], &'static str, bool, bool);
-
-const ONE_FILE: &[OneFile] = &[
-    (b"d1:ad0:d4:attr2:hx6:lengthi0eeee", "a", true, true),
-    (b"d1:ade1:bd0:d6:lengthi0eeee", "b", false, false),
-];
 
 // Whether a path has this text.
 fn is_path(alloc: Global, found: &FilePath, text: &str) -> bool {
@@ -183,22 +163,48 @@ fn has_many_files(alloc: Global, count: u64) -> Result<bool, AllocError> {
     Ok(has_files(alloc, &tree, list.files()))
 }
 
-const COUNTS: &[u64] = &[1, 10, 1000];
+// What is to hold.
+enum Case {
+    // A tree has one file.
+    One(OneFile),
+    // A tree as its spelling, and why it is no file tree.
+    Refused(&'static [u8], &'static str),
+    // The tree of two files has them again.
+    Two,
+    // That of so many files.
+    Many(u64),
+}
 
-#[test]
-fn the_files_of_a_tree_are_told_or_its_first_fault(rt: HostRuntime) {
-    for row in ONE_FILE {
-        assert!(rt; has_one_file(rt.alloc(), row));
-    }
-    for row in FAULTS {
-        assert!(rt; is_refused(rt.alloc(), row));
+const CASES: &[Case] = &[
+    Case::One((b"d1:ad0:d4:attr2:hx6:lengthi0eeee", "a", true, true)),
+    Case::One((b"d1:ade1:bd0:d6:lengthi0eeee", "b", false, false)),
+    Case::Refused(b"de", "K3 Empty"),
+    Case::Refused(b"d1:adee", "K3 Empty"),
+    Case::Refused(b"d2:..d0:d6:lengthi0eeee", "K1 Shape"),
+    Case::Refused(b"i1e", "K1 Shape"),
+    Case::Refused(b"d1:ad0:d6:lengthi-1eeee", "K2 Length"),
+    Case::Refused(b"d1:ad0:d6:lengthi1125899906842625eeee", "K4 TooLarge"),
+    Case::Refused(b"d1:ad0:d4:attr1:l6:lengthi0eeee", "K5 Symlink"),
+    Case::Refused(b"d0:d6:lengthi0eee", "K6 Mixed"),
+    Case::Refused(b"d1:ad0:d6:lengthi1eeee", "K7 Root"),
+    Case::Two,
+    Case::Many(1),
+    Case::Many(10),
+    Case::Many(1000),
+];
+
+fn holds(alloc: Global, case: &Case) -> bool {
+    match case {
+        Case::One(row) => has_one_file(alloc, row),
+        Case::Refused(text, wanted) => is_refused(alloc, text, wanted),
+        Case::Two => has_two_files_again(alloc),
+        Case::Many(count) => matches!(has_many_files(alloc, *count), Ok(true)),
     }
 }
 
 #[test]
-fn a_tree_has_its_files_again(rt: HostRuntime) {
-    assert!(rt; has_two_files_again(rt.alloc()));
-    for count in COUNTS {
-        assert!(rt; has_many_files(rt.alloc(), *count) == Ok(true));
+fn a_tree_has_its_files_again_or_its_first_fault_is_told(rt: HostRuntime) {
+    for case in CASES {
+        assert!(rt; holds(rt.alloc(), case));
     }
 }
