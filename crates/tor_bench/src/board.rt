@@ -3,10 +3,10 @@ ghost use Rattle.std.specs.Prelude.{◌≡◌, ◌+◌, ◌≤◌, ◌^◌, IfOk
 ghost use Rattle.std.specs.Thread.{IsSync};
 ghost use Rattle.tor_board.specs.Seats.{IsSeatOf, knows};
 
+use crate::clock::{micros_since, now, told};
 use std::alloc::{AllocError, Global};
 use std::io::Result;
 use std::thread::{Threads, join};
-use std::time::{Clock, Instant};
 use tor_board::{Board, Given, Seat};
 use tor_merkle::{BLOCK_LENGTH, Hash, leaf};
 use tor_plan::{Forest, Run};
@@ -178,64 +178,74 @@ fn shared<R: Threads + Sync>(
 }
 
 /// A board opened, worked and closed: the microseconds of the work, and what was done.
-fn timed<R: AllocGlobal + Clock + Threads + Sync>(
-    rt: &R,
+fn timed<T: Threads + Sync>(
+    threads: &T,
+    rt: &HostRuntime,
     units: u64,
     in_tree: bool,
     hashing: bool,
     words: usize,
     workers: u32,
-) -> Result<(u128, Work)>
+) -> std::result::Result<(u128, Work), AllocError>
     requires { units ≤ 2 ^ 30 }
 {
-    let alloc = rt.alloc();
-    let (board, seat) = opened(alloc, units, in_tree)?;
-    let start = Instant::now(rt);
-    let (seat, done) = shared(rt, alloc, &board, seat, hashing, words, workers);
-    let taken = start.and_then(|start| start.elapsed(rt));
+    let (board, seat) = opened(rt.alloc(), units, in_tree)?;
+    let start = now(rt);
+    let (seat, done) = shared(threads, rt.alloc(), &board, seat, hashing, words, workers);
+    let taken = micros_since(rt, start);
     let _closed = board.close(seat);
-    Ok((taken?.as_micros(), done))
+    Ok((taken, done))
 }
 
-/// The microseconds that one seat takes to claim and give so many units, of one tree or of none, and how many it did.
-pub fn alone<R: AllocGlobal + Clock + Threads + Sync>(
-    rt: &R,
+/// Prints the microseconds that one seat takes to claim and give so many units, of one tree or of none, and how many it
+/// did.
+pub fn alone<T: Threads + Sync>(
+    threads: &T,
+    rt: &HostRuntime,
     units: usize,
     in_tree: bool,
-) -> Result<(u128, u64)> {
-    let (taken, done) = timed(rt, (units as u64).min(1 << 30), in_tree, false, 0, 1)?;
-    Ok((taken, done.units))
+) -> Result<()> {
+    let (taken, done) = timed(
+        threads,
+        rt,
+        (units as u64).min(1 << 30),
+        in_tree,
+        false,
+        0,
+        1,
+    )?;
+    told(rt, &[taken, done.units as u128])
 }
 
-/// The microseconds that so many threads take, where each unit has a block to be hashed, and how many units they did.
-pub fn hashing<R: AllocGlobal + Clock + Threads + Sync>(
-    rt: &R,
-    workers: usize,
-) -> Result<(u128, u64)> {
-    let (taken, done) = timed(rt, BLOCKS, true, true, 0, workers.min(256) as u32)?;
-    Ok((taken, done.units))
+/// Prints the microseconds that so many threads take, where each unit has a block to be hashed, and how many units they
+/// did.
+pub fn hashing<T: Threads + Sync>(threads: &T, rt: &HostRuntime, workers: usize) -> Result<()> {
+    let (taken, done) = timed(threads, rt, BLOCKS, true, true, 0, workers.min(256) as u32)?;
+    told(rt, &[taken, done.units as u128])
 }
 
-/// A board of a million units of one tree, as it was worked by so many threads.
-#[derive(Clone, Copy)]
-pub struct Tally {
-    pub taken: u128,
-    pub units: u64,
-    pub marked: u64,
-    pub joined: u64,
-    pub tops: u64,
-}
-
-/// Works such a board: the microseconds, how many units were given, how many different ones, at how many nodes gives
-/// came second, and how many told a root.
-pub fn round<R: AllocGlobal + Clock + Threads + Sync>(rt: &R, workers: usize) -> Result<Tally> {
+/// Prints of a board of a million units of one tree, as so many threads worked it: the microseconds, how many units
+/// were given, how many different ones, at how many nodes gives came second, and how many told a root.
+pub fn round<T: Threads + Sync>(threads: &T, rt: &HostRuntime, workers: usize) -> Result<()> {
     let words = (UNITS / 64) as usize;
-    let (taken, done) = timed(rt, UNITS, true, false, words, workers.min(256) as u32)?;
-    Ok(Tally {
-        taken,
-        units: done.units,
-        marked: done.marked(),
-        joined: done.joined,
-        tops: done.tops,
-    })
+    let (taken, done) = timed(
+        threads,
+        rt,
+        UNITS,
+        true,
+        false,
+        words,
+        workers.min(256) as u32,
+    )?;
+    let marked = done.marked() as u128;
+    let Work {
+        units,
+        joined,
+        tops,
+        ..
+    } = done;
+    told(
+        rt,
+        &[taken, units as u128, marked, joined as u128, tops as u128],
+    )
 }

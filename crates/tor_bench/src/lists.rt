@@ -3,9 +3,9 @@ ghost use Rattle.std.specs.Prelude.{◌<◌, ◌↔◌, IfOk, IsSome};
 ghost use Rattle.std.specs.List.{AllZip};
 ghost use Rattle.tor_tree.specs.TidyTree.{HasItsRoot};
 
+use crate::clock::{micros_since, now, told};
 use std::alloc::{AllocError, Global};
 use std::io::Result;
-use std::time::Instant;
 use tor_bencode::Item;
 use tor_merkle::Hash;
 use tor_tree::{FileList, FilePath, Name, NameError, from_item, to_item};
@@ -16,84 +16,52 @@ const FOLDER: usize = 100;
 /// A prime, so that its multiples reach each index.
 const STEP: usize = 7_919;
 
-/// How many paths were made.
-fn count_of_paths(alloc: Global, count: usize) -> usize {
-    match files(alloc, count) {
-        Ok(files) => files.len(),
-        Err(_) => 0,
-    }
-}
-
-/// How many files are in a list.
-fn count_of_list(alloc: Global, files: Vec<(FilePath, u64)>) -> usize {
-    match FileList::build(alloc, files) {
-        Ok(list) => list.files().len(),
-        Err(_) => 0,
-    }
-}
-
-fn count_of_listed(alloc: Global, count: usize) -> usize {
-    match files(alloc, count) {
-        Ok(files) => count_of_list(alloc, files),
-        Err(_) => 0,
-    }
-}
-
 /// Prints how many paths were made.
 pub fn paths(rt: &HostRuntime, count: usize) -> Result<()> {
-    let made = count_of_paths(rt.alloc(), count);
-    println!(rt; "{made}")
+    let files = files(rt.alloc(), count);
+    told(rt, &[files.len() as u128])
 }
 
 /// Prints how many files are in a list of them.
 pub fn list(rt: &HostRuntime, count: usize) -> Result<()> {
-    let listed = count_of_listed(rt.alloc(), count);
-    println!(rt; "{listed}")
+    match FileList::build(rt.alloc(), files(rt.alloc(), count)) {
+        Ok(list) => told(rt, &[list.files().len() as u128]),
+        Err(_) => told(rt, &[0]),
+    }
 }
 
-/// A list of so many files, and the microseconds that it takes.
-fn listed(rt: &HostRuntime, count: usize) -> Result<(Option<FileList>, u128)> {
-    let files = files(rt.alloc(), count).unwrap_or(Vec::new(rt.alloc()));
-    let start = Instant::now(rt)?;
-    let list = FileList::build(rt.alloc(), files).ok();
-    Ok((list, start.elapsed(rt)?.as_micros()))
-}
-
-/// Its tree, and the microseconds that it takes.
-fn treed(rt: &HostRuntime, list: &FileList) -> Result<(Item, u128)> {
-    let roots = roots_for(rt.alloc(), list.files())?;
-    let start = Instant::now(rt)?;
-    let tree = to_item(rt.alloc(), list, &roots)?;
-    Ok((tree, start.elapsed(rt)?.as_micros()))
-}
-
-/// Prints how many files there are, and the microseconds that their list, its tree, and reading that take.
+/// Prints how many files were read back, and the microseconds that their list, its tree, and reading that take.
 pub fn lists(rt: &HostRuntime, count: usize) -> Result<()> {
-    let (list, built) = listed(rt, count)?;
-    match list {
-        Some(list) => written(rt, &list, count, built),
-        None => println!(rt; "0 0 0 0"),
+    let files = files(rt.alloc(), count);
+    let start = now(rt);
+    match FileList::build(rt.alloc(), files) {
+        Ok(list) => written(rt, &list, micros_since(rt, start)),
+        Err(_) => told(rt, &[0]),
     }
 }
 
 /// The same of a list that was built.
-fn written(rt: &HostRuntime, list: &FileList, count: usize, built: u128) -> Result<()> {
+fn written(rt: &HostRuntime, list: &FileList, built: u128) -> Result<()> {
     let (tree, written) = treed(rt, list)?;
-    let (read, taken) = reread(rt, &tree, count)?;
-    println!(rt; "{count} {built} {written} {taken} {read}")
+    let start = now(rt);
+    let count = count_of_files(rt.alloc(), &tree);
+    let taken = micros_since(rt, start);
+    told(rt, &[count as u128, built, written, taken])
 }
 
-/// Whether a tree has so many files, and the microseconds that it takes to read it.
-fn reread(rt: &HostRuntime, tree: &Item, count: usize) -> Result<(bool, u128)> {
-    let start = Instant::now(rt)?;
-    let read = has_files(rt.alloc(), tree, count);
-    Ok((read, start.elapsed(rt)?.as_micros()))
+/// Its tree, and the microseconds that it takes.
+fn treed(rt: &HostRuntime, list: &FileList) -> std::result::Result<(Item, u128), AllocError> {
+    let roots = roots_for(rt.alloc(), list.files())?;
+    let start = now(rt);
+    let tree = to_item(rt.alloc(), list, &roots)?;
+    Ok((tree, micros_since(rt, start)))
 }
 
-fn has_files(alloc: Global, tree: &Item, count: usize) -> bool {
+/// How many files are read in a tree.
+fn count_of_files(alloc: Global, tree: &Item) -> usize {
     match from_item(alloc, tree) {
-        Ok(files) => files.len() == count,
-        Err(_) => false,
+        Ok(files) => files.len(),
+        Err(_) => 0,
     }
 }
 
@@ -116,11 +84,12 @@ fn root_for(length: u64) -> Option<Hash>
     if length == 0 { None } else { Some([7; 32]) }
 }
 
-// Files of one byte in folders of a hundred, in an order that is far from that of their paths.
-fn files(alloc: Global, count: usize) -> std::result::Result<Vec<(FilePath, u64)>, NameError> {
-    let mut files = Vec::with_capacity(alloc, count)?;
-    add_files(alloc, count, &mut files)?;
-    Ok(files)
+/// Files of one byte in folders of a hundred, in an order that is far from that of their paths. Without memory for all
+/// of them there are fewer.
+fn files(alloc: Global, count: usize) -> Vec<(FilePath, u64)> {
+    let mut files = Vec::new(alloc);
+    let _all = add_files(alloc, count, &mut files);
+    files
 }
 
 fn add_files(
@@ -128,21 +97,34 @@ fn add_files(
     count: usize,
     files: &mut Vec<(FilePath, u64)>,
 ) -> std::result::Result<(), NameError> {
+    files.reserve(count)?;
     for n in 0..count {
-        if let Some(path) = path_at(alloc, n.wrapping_mul(STEP) % count)? {
-            files.push((path, 1))?;
-        }
+        add_file(alloc, n.wrapping_mul(STEP) % count, files)?;
     }
     Ok(())
 }
 
-fn path_at(alloc: Global, index: usize) -> std::result::Result<Option<FilePath>, NameError> {
+fn add_file(
+    alloc: Global,
+    index: usize,
+    files: &mut Vec<(FilePath, u64)>,
+) -> std::result::Result<(), NameError> {
     let mut names = Vec::new(alloc);
-    names.push(named(alloc, "folder", index / FOLDER)?)?;
-    names.push(named(alloc, "file", index)?)?;
-    Ok(FilePath::new(names))
+    add_name(alloc, "folder", index / FOLDER, &mut names)?;
+    add_name(alloc, "file", index, &mut names)?;
+    if let Some(path) = FilePath::new(names) {
+        files.push((path, 1))?;
+    }
+    Ok(())
 }
 
-fn named(alloc: Global, word: &str, number: usize) -> std::result::Result<Name, NameError> {
-    Name::new(alloc, format!(in alloc; "{word}{number}")?.as_bytes())
+fn add_name(
+    alloc: Global,
+    word: &str,
+    number: usize,
+    names: &mut Vec<Name>,
+) -> std::result::Result<(), NameError> {
+    let text = format!(in alloc; "{word}{number}")?;
+    names.push(Name::new(alloc, text.as_bytes())?)?;
+    Ok(())
 }

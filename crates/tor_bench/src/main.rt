@@ -8,35 +8,37 @@
 //! `board-units COUNT` has one seat of a board claim and give so many units, `board-tree COUNT` units of one tree;
 //! `board-blocks WORKERS` has so many threads hash a block for each unit, and `board-round WORKERS` tells of a board of
 //! a million units what so many threads did. `decode`, `lists`, `scan`, `check`, `pairs`, `hashes` and those of boards
-//! print microseconds. Lists are in `lists.rt`, the hashes over all in `plain.rt`, the judging in `foreign.rt`, the
-//! hashing by eight in `eight.rt`, boards in `board.rt`.
+//! print microseconds. Each number that is printed has a line of its own, but those of `hashes`. Lists are in
+//! `lists.rt`, the hashes over all in `plain.rt`, the judging in `foreign.rt`, the hashing by eight in `eight.rt`,
+//! boards in `board.rt`; `clock.rt` has the time.
 #![tactic(auto)]
 
 mod board;
+mod clock;
 mod eight;
 mod foreign;
 mod lists;
 mod plain;
 
-use crate::board::{Tally, alone, hashing, round};
+use crate::board::{alone, hashing, round};
+use crate::clock::{micros_since, now, told};
 use crate::eight::hashed;
-use crate::foreign::{input, judged, paired};
+use crate::foreign::{decoded, judged, paired};
 use crate::lists::{list, lists, paths};
-use crate::plain::{plain, plain_files};
+use crate::plain::{Hashes, files_hashed, input_hashed};
 use std::env;
 use std::io::{Error, ErrorKind, Result};
 use std::thread::Threads;
-use std::time::{Clock, Instant};
-use tor_bencode::decode;
-use tor_source::{FolderSource, zeros};
+use tor_source::FolderSource;
 
-const MAX_CUT: usize = 1 << 24;
+/// What a word that is no number stands for.
+const NO_NUMBER: usize = 1 << 24;
 
 /// What is asked for.
 #[derive(Clone, Copy)]
 enum Mode {
-    Input,
-    Files,
+    Input(Hashes),
+    Files(Hashes),
     Decode,
     Paths,
     List,
@@ -52,12 +54,12 @@ enum Mode {
 }
 
 const MODES: &[(&str, Mode)] = &[
-    ("sha1", Mode::Input),
-    ("sha256", Mode::Input),
-    ("both", Mode::Input),
-    ("files-sha1", Mode::Files),
-    ("files-sha256", Mode::Files),
-    ("files-both", Mode::Files),
+    ("sha1", Mode::Input(Hashes::Sha1)),
+    ("sha256", Mode::Input(Hashes::Sha256)),
+    ("both", Mode::Input(Hashes::Both)),
+    ("files-sha1", Mode::Files(Hashes::Sha1)),
+    ("files-sha256", Mode::Files(Hashes::Sha256)),
+    ("files-both", Mode::Files(Hashes::Both)),
     ("decode", Mode::Decode),
     ("paths", Mode::Paths),
     ("list", Mode::List),
@@ -74,16 +76,8 @@ const MODES: &[(&str, Mode)] = &[
 
 fn main(rt: HostRuntime) -> Result<()> {
     let words: Vec<String> = env::args(&rt)?.collect(rt.alloc())?;
-    run(&rt, &rt, &words)
-}
-
-fn run<T: AllocGlobal + Clock + Threads + Sync>(
-    threads: &T,
-    rt: &HostRuntime,
-    words: &[String],
-) -> Result<()> {
-    match words {
-        [_, mode, word] => run_mode(threads, rt, mode, word),
+    match words.as_slice() {
+        [_, mode, word] => run(&rt, &rt, mode, word),
         _ => Err(Error::from(ErrorKind::InvalidInput)),
     }
 }
@@ -97,16 +91,11 @@ fn mode_of(name: &str) -> Option<Mode> {
     None
 }
 
-fn run_mode<T: AllocGlobal + Clock + Threads + Sync>(
-    threads: &T,
-    rt: &HostRuntime,
-    name: &str,
-    word: &str,
-) -> Result<()> {
-    let number = word.parse::<usize>().unwrap_or(MAX_CUT);
+fn run<T: Threads + Sync>(threads: &T, rt: &HostRuntime, name: &str, word: &str) -> Result<()> {
+    let number = word.parse::<usize>().unwrap_or(NO_NUMBER);
     match mode_of(name) {
-        Some(Mode::Input) => input_hashed(rt, name, number),
-        Some(Mode::Files) => files_hashed(rt, name, number),
+        Some(Mode::Input(hashes)) => input_hashed(rt, hashes, number),
+        Some(Mode::Files(hashes)) => files_hashed(rt, hashes, number),
         Some(Mode::Decode) => decoded(rt),
         Some(Mode::Paths) => paths(rt, number),
         Some(Mode::List) => list(rt, number),
@@ -115,38 +104,12 @@ fn run_mode<T: AllocGlobal + Clock + Threads + Sync>(
         Some(Mode::Check) => judged(rt),
         Some(Mode::Pairs) => paired(rt, number),
         Some(Mode::Hashes) => hashed(rt, number),
-        Some(Mode::BoardUnits) => printed(rt, alone(threads, number, false)),
-        Some(Mode::BoardTree) => printed(rt, alone(threads, number, true)),
-        Some(Mode::BoardBlocks) => printed(rt, hashing(threads, number)),
-        Some(Mode::BoardRound) => told(rt, round(threads, number)),
+        Some(Mode::BoardUnits) => alone(threads, rt, number, false),
+        Some(Mode::BoardTree) => alone(threads, rt, number, true),
+        Some(Mode::BoardBlocks) => hashing(threads, rt, number),
+        Some(Mode::BoardRound) => round(threads, rt, number),
         None => Err(Error::from(ErrorKind::InvalidInput)),
     }
-}
-
-fn input_hashed(rt: &HostRuntime, mode: &str, number: usize) -> Result<()> {
-    let mut buffer = zeros(rt.alloc(), number.min(MAX_CUT))?;
-    plain(&mut rt.stdin(), &mut buffer, mode)
-}
-
-fn files_hashed(rt: &HostRuntime, mode: &str, number: usize) -> Result<()> {
-    let mut buffer = zeros(rt.alloc(), number.min(MAX_CUT))?;
-    plain_files(rt, &mut buffer, mode)
-}
-
-fn printed(rt: &HostRuntime, numbers: Result<(u128, u64)>) -> Result<()> {
-    let (first, second) = numbers?;
-    println!(rt; "{first} {second}")
-}
-
-fn told(rt: &HostRuntime, round: Result<Tally>) -> Result<()> {
-    let Tally {
-        taken,
-        units,
-        marked,
-        joined,
-        tops,
-    } = round?;
-    println!(rt; "{taken} {units} {marked} {joined} {tops}")
 }
 
 fn files_below(rt: &HostRuntime, folder: &str) -> usize {
@@ -157,20 +120,7 @@ fn files_below(rt: &HostRuntime, folder: &str) -> usize {
 }
 
 fn scanned(rt: &HostRuntime, folder: &str) -> Result<()> {
-    let start = Instant::now(rt)?;
+    let start = now(rt);
     let count = files_below(rt, folder);
-    let taken = start.elapsed(rt)?.as_micros();
-    println!(rt; "{count} {taken}")
-}
-
-fn decoded(rt: &HostRuntime) -> Result<()> {
-    let (decodes, taken) = decoding(rt, &input(rt)?)?;
-    println!(rt; "{decodes} {taken}")
-}
-
-/// Whether bytes decode, and the microseconds that it takes.
-fn decoding(rt: &HostRuntime, bytes: &[u8]) -> Result<(bool, u128)> {
-    let start = Instant::now(rt)?;
-    let decodes = decode(rt.alloc(), bytes).is_ok();
-    Ok((decodes, start.elapsed(rt)?.as_micros()))
+    told(rt, &[count as u128, micros_since(rt, start)])
 }

@@ -3,6 +3,20 @@ use sha1::Sha1;
 use sha2::{Digest, Sha256};
 use std::fs;
 use std::io::{Read, Result};
+use tor_source::zeros;
+
+const MAX_CUT: usize = 1 << 24;
+
+/// The place of standard input.
+const INPUT: &str = "/dev/stdin";
+
+/// Which hashes are taken.
+#[derive(Clone, Copy)]
+pub enum Hashes {
+    Sha1,
+    Sha256,
+    Both,
+}
 
 /// The hashes that each part is added to.
 #[derive(Drop)]
@@ -11,63 +25,57 @@ struct Hashers {
     sha256: Option<Sha256>,
 }
 
-fn hashers_of(mode: &str) -> Hashers {
-    Hashers {
-        sha1: if mode.ends_with("sha256") {
-            None
-        } else {
-            Some(Sha1::new())
+fn hashers_of(hashes: Hashes) -> Hashers {
+    match hashes {
+        Hashes::Sha1 => Hashers {
+            sha1: Some(Sha1::new()),
+            sha256: None,
         },
-        sha256: if mode.ends_with("sha1") {
-            None
-        } else {
-            Some(Sha256::new())
+        Hashes::Sha256 => Hashers {
+            sha1: None,
+            sha256: Some(Sha256::new()),
+        },
+        Hashes::Both => Hashers {
+            sha1: Some(Sha1::new()),
+            sha256: Some(Sha256::new()),
         },
     }
 }
 
-/// Hashes all that the reader has by the hashes that the mode names, in reads of the buffer's length.
-pub fn plain<R: Read>(reader: &mut R, buffer: &mut [u8], mode: &str) -> Result<()> {
-    let mut hashers = hashers_of(mode);
-    add_all(reader, buffer, &mut hashers)?;
-    finish(hashers);
-    Ok(())
+/// Hashes all that standard input has, in reads of so many bytes.
+pub fn input_hashed(rt: &HostRuntime, hashes: Hashes, cut: usize) -> Result<()> {
+    all_hashed(rt, INPUT, hashes, cut)
 }
 
-/// The places that standard input has, one a line.
-fn places(rt: &HostRuntime) -> Result<String> {
+/// The same of the files whose places standard input has, one a line, as one content.
+pub fn files_hashed(rt: &HostRuntime, hashes: Hashes, cut: usize) -> Result<()> {
     let mut places = String::new(rt.alloc());
     rt.stdin().read_to_string(&mut places)?;
-    Ok(places)
+    all_hashed(rt, &places, hashes, cut)
 }
 
-fn add_file(rt: &HostRuntime, place: &str, buffer: &mut [u8], hashers: &mut Hashers) -> Result<()> {
-    add_all(&mut fs::open(rt, place)?, buffer, hashers)
-}
-
-/// Hashes the files of these places as one content.
-pub fn plain_files(rt: &HostRuntime, buffer: &mut [u8], mode: &str) -> Result<()> {
-    let mut hashers = hashers_of(mode);
-    add_files(rt, &places(rt)?, buffer, &mut hashers)?;
-    finish(hashers);
-    Ok(())
+fn all_hashed(rt: &HostRuntime, places: &str, hashes: Hashes, cut: usize) -> Result<()> {
+    let mut buffer = zeros(rt.alloc(), cut.min(MAX_CUT))?;
+    add_files(rt, places, &mut buffer, hashers_of(hashes))
 }
 
 fn add_files(
     rt: &HostRuntime,
     places: &str,
     buffer: &mut [u8],
-    hashers: &mut Hashers,
+    mut hashers: Hashers,
 ) -> Result<()> {
     for place in places.lines() {
-        add_file(rt, place, buffer, hashers)?;
+        add_file(rt, place, buffer, &mut hashers)?;
     }
+    finish(hashers);
     Ok(())
 }
 
-fn add_all<R: Read>(reader: &mut R, buffer: &mut [u8], hashers: &mut Hashers) -> Result<()> {
+fn add_file(rt: &HostRuntime, place: &str, buffer: &mut [u8], hashers: &mut Hashers) -> Result<()> {
+    let mut file = fs::open(rt, place)?;
     for _ in 0..u64::MAX {
-        let count = reader.read(buffer)?;
+        let count = file.read(buffer)?;
         if count == 0 {
             break;
         }
