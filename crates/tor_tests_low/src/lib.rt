@@ -1,5 +1,6 @@
-//! The tests of `tor_bencode`, `tor_hashes`, `tor_merkle`, `tor_tree`, `tor_v1`, `tor_plan`, `tor_board` and
-//! `tor_lane`, in a crate of their own: a crate with tests is proved twice, and these libraries are large.
+//! The tests of `tor_bencode`, `tor_hashes`, `tor_merkle`, `tor_tree`, `tor_v1`, `tor_plan`, `tor_board`, `tor_lane`,
+//! `tor_source` and `tor_engine`, in a crate of their own: a crate with tests is proved twice, and these libraries are
+//! large.
 //!
 //! - `bencode.rt`: trees spelled and read back, and what is refused.
 //! - `hashes.rt`: SHA-256 and SHA-1 of eight messages.
@@ -10,12 +11,15 @@
 //! - `layouts.rt`: version 1's list of files; `sums.rt`: the SHA-1 of its pieces.
 //! - `plans.rt`: units of work for lists of files; `entries.rt`: for entries; `pieces.rt`: their pieces.
 //! - `seats`: boards and the seats of their workers; `lane`: chunks that one feeder puts and several takers take.
+//! - `engine`: where bytes come from, and files of a source hashed by workers.
 //!
 //! `shared.rt` has contents, lists of files and hexadecimal digits.
 #![tactic(auto)]
 
 #[cfg(test)]
 mod bencode;
+#[cfg(test)]
+mod engine;
 #[cfg(test)]
 mod entries;
 #[cfg(test)]

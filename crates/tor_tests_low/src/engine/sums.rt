@@ -1,0 +1,457 @@
+//! The sums of rows worked out from BEP 3 and BEP 52; each hash in hexadecimal is of Python's hashlib.
+
+use crate::engine::shared::{EACH_HOW, files_of, files_with, hash_by, plan_of};
+use std::alloc::{AllocError, Global};
+use std::process::Abort;
+use std::thread::Threads;
+use tor_engine::{How, Sums};
+use tor_merkle::Hash;
+use tor_plan::Plan;
+use tor_source::{ShortSource, Source};
+use tor_tree::Kind;
+
+/// What sums are to be, file by file.
+#[derive(Clone, Copy)]
+struct Wanted {
+    lengths: &'static [u64],
+    roots: &'static [Option<Hash>],
+    layers: &'static [&'static [Hash]],
+    pieces: &'static [u8],
+}
+
+fn are_layers(layers: &[Vec<Hash>], wanted: &[&[Hash]]) -> bool {
+    if layers.len() != wanted.len() {
+        return false;
+    }
+    for (layer, hashes) in layers.iter().zip(wanted) {
+        if layer.as_slice() != *hashes {
+            return false;
+        }
+    }
+    true
+}
+
+fn are_wanted(sums: &Sums, wanted: &Wanted) -> bool {
+    sums.lengths.as_slice() == wanted.lengths
+        && sums.roots.as_slice() == wanted.roots
+        && sums.pieces.as_slice() == wanted.pieces
+        && are_layers(&sums.layers, wanted.layers)
+}
+
+/// Whether the sums of the files are those wanted.
+fn has_sums<S: Source, R: AllocGlobal + Abort + Threads + Sync>(
+    rt: &R,
+    source: &S,
+    plan: &Plan,
+    how: How,
+    wanted: &Wanted,
+) -> bool {
+    match hash_by(rt, source, plan, how) {
+        Ok(sums) => are_wanted(&sums, wanted),
+        Err(_) => false,
+    }
+}
+
+/// Whether they are, each way to share the units.
+fn has_each_sums<S: Source, R: AllocGlobal + Abort + Threads + Sync>(
+    rt: &R,
+    source: &S,
+    plan: &Plan,
+    wanted: &Wanted,
+) -> bool {
+    for how in EACH_HOW {
+        if !has_sums(rt, source, plan, *how, wanted) {
+            return false;
+        }
+    }
+    true
+}
+
+// The SHA-1 of `abc`; of `ab` and 16,382 zeros, then of `c`.
+const ABC_V1: &[u8] =
+    b"\xa9\x99\x3e\x36\x47\x06\x81\x6a\xba\x3e\x25\x71\x78\x50\xc2\x6c\x9c\xd0\xd8\x9d";
+
+const ABC_HYBRID: &[u8] =
+    b"\xcb\x25\xce\xe0\xc9\xee\x3f\xc5\x74\x13\xe4\x72\xac\xdb\x19\x13\x86\xed\xb6\x12\
+\x84\xa5\x16\x84\x1b\xa7\x7a\x5b\x46\x48\xde\x2c\xd0\xdf\xcb\x30\xea\x46\xdb\xb4";
+
+/// The SHA-256 of `ab`, and of `c`.
+const AB: Hash = *b"\xfb\x8e\x20\xfc\x2e\x4c\x3f\x24\x8c\x60\xc3\x9b\xd6\x52\xf3\xc1\
+\x34\x72\x98\xbb\x97\x7b\x8b\x4d\x59\x03\xb8\x50\x55\x62\x06\x03";
+
+const C: Hash = *b"\x2e\x7d\x2c\x03\xa9\x50\x7a\xe2\x65\xec\xf5\xb5\x35\x68\x85\xa5\
+\x33\x93\xa2\x02\x9d\x24\x13\x94\x99\x72\x65\xa1\xa2\x5a\xef\xc6";
+
+/// A kind, the piece length, how many pieces a unit has in turn, and the sums.
+type Row = (Kind, u64, &'static [u32], Wanted);
+
+/// The sums of files of `ab`, of nothing and of `c`, in each kind, with one piece a unit and with two.
+const SMALL: &[Row] = &[
+    (
+        Kind::V1,
+        16384,
+        &[1, 2],
+        Wanted {
+            lengths: &[2, 0, 1],
+            roots: &[None, None, None],
+            layers: &[&[], &[], &[]],
+            pieces: ABC_V1,
+        },
+    ),
+    (
+        Kind::V2,
+        16384,
+        &[1, 2],
+        Wanted {
+            lengths: &[2, 0, 1],
+            roots: &[Some(AB), None, Some(C)],
+            layers: &[&[], &[], &[]],
+            pieces: b"",
+        },
+    ),
+    (
+        Kind::Hybrid,
+        16384,
+        &[1, 2],
+        Wanted {
+            lengths: &[2, 0, 1],
+            roots: &[Some(AB), None, Some(C)],
+            layers: &[&[], &[], &[]],
+            pieces: ABC_HYBRID,
+        },
+    ),
+];
+
+/// Files of `ab`, of nothing and of `c`, of which no read gives more than so many bytes.
+fn small_files(alloc: Global, step: usize) -> Result<ShortSource, AllocError> {
+    let files = files_with(alloc, &[Some(b"ab"), Some(b""), Some(b"c")])?;
+    Ok(ShortSource::new(files, step.max(1)))
+}
+
+/// Whether the sums of a source are those of a row, with so many pieces a unit.
+fn are_planned<S: Source, R: AllocGlobal + Abort + Threads + Sync>(
+    rt: &R,
+    source: &S,
+    row: &Row,
+    span: u32,
+) -> bool {
+    match plan_of(rt, row.3.lengths, row.0, row.1, span) {
+        Ok(plan) => has_each_sums(rt, source, &plan, &row.3),
+        Err(_) => false,
+    }
+}
+
+/// Whether they are with each number of pieces a unit.
+fn are_each_planned<S: Source, R: AllocGlobal + Abort + Threads + Sync>(
+    rt: &R,
+    source: &S,
+    row: &Row,
+) -> bool {
+    for span in row.2 {
+        if !are_planned(rt, source, row, *span) {
+            return false;
+        }
+    }
+    true
+}
+
+/// Whether the sums of the small files are these, in steps of so many bytes.
+fn are_small_sums<R: AllocGlobal + Abort + Threads + Sync>(rt: &R, row: &Row, step: usize) -> bool {
+    match small_files(rt.alloc(), step) {
+        Ok(source) => are_each_planned(rt, &source, row),
+        Err(_) => false,
+    }
+}
+
+/// Whether they are, however they are read.
+fn are_small_sums_in_steps<R: AllocGlobal + Abort + Threads + Sync>(rt: &R, row: &Row) -> bool {
+    are_small_sums(rt, row, 1) && are_small_sums(rt, row, 7)
+}
+
+/// Whether the sums of contents whose byte i is i % 251 are these.
+fn are_sums<R: AllocGlobal + Abort + Threads + Sync>(rt: &R, row: &Row) -> bool {
+    match files_of(rt.alloc(), row.3.lengths) {
+        Ok(source) => are_each_planned(rt, &source, row),
+        Err(_) => false,
+    }
+}
+
+// The SHA-1 of each piece of 16,384 bytes of two contents, of 40,000 and of 16,384 bytes: joined, and with 9,152 zeros
+// between them.
+const LONG_V1: &[u8] =
+    b"\x68\xf3\xb8\x1a\x11\xde\x1e\x16\x29\xe8\x15\x55\xb4\xe7\x0a\xed\x95\x5d\x11\x40\
+\xde\x9e\xe0\x22\x2c\xd5\x28\xef\xc5\xe0\x12\x27\xe4\xbf\x16\xcf\x6a\xc6\x83\x6a\
+\x07\x59\xc6\x15\xd6\x8c\x5e\x10\x34\x15\x6f\x33\x51\x7a\xbb\x78\x6e\x00\xb3\xf0\
+\x90\x08\xb6\x67\xa0\x68\xa2\xb8\xa6\x2f\x18\x8f\x79\x15\xc4\x8c\x5e\x68\x35\x24";
+
+const LONG_HYBRID: &[u8] =
+    b"\x68\xf3\xb8\x1a\x11\xde\x1e\x16\x29\xe8\x15\x55\xb4\xe7\x0a\xed\x95\x5d\x11\x40\
+\xde\x9e\xe0\x22\x2c\xd5\x28\xef\xc5\xe0\x12\x27\xe4\xbf\x16\xcf\x6a\xc6\x83\x6a\
+\x36\x0f\x93\x2f\x61\x7e\x59\x29\xe5\xa7\xb3\x9e\x39\xf8\x16\x53\xb6\xf7\x00\x6e\
+\x68\xf3\xb8\x1a\x11\xde\x1e\x16\x29\xe8\x15\x55\xb4\xe7\x0a\xed\x95\x5d\x11\x40";
+
+/// The hashes of blocks, of the third of 40,000 bytes, and of one byte.
+const L0: Hash = *b"\x43\x48\xe3\xb9\x8e\x8a\x32\x7b\x34\xce\xd3\x9c\x1d\xa9\xe6\x7c\
+\xdb\x4c\xd5\xe4\x8e\x4d\x79\x60\x60\x7a\x3a\xe4\x03\xd3\x5f\x0c";
+
+const L1: Hash = *b"\xf7\xc9\x04\x5c\x2a\x79\xa8\xa2\xa5\x87\xef\xbf\x5b\x31\x06\x52\
+\x68\x5b\x29\x2e\x6f\xbb\x0b\x08\xc1\xdf\x85\x75\x00\xda\x26\x99";
+
+const L2: Hash = *b"\x59\x7f\x81\x85\x97\x24\xf9\x79\xae\xce\x03\xe9\x5c\x04\x8d\x6e\
+\xe5\xc6\xd5\x93\x51\xe6\xa4\xdb\x04\x89\x97\xdb\x6f\x05\xc8\x45";
+
+const L3: Hash = *b"\xe2\x0f\x1d\x51\x95\x1c\x26\xd9\x54\x12\xe7\x11\xa1\x95\xc7\x4f\
+\x1d\x43\x17\xef\x26\x0e\x98\xf2\xf8\x6e\x74\xed\x41\x4c\x67\x0f";
+
+const L4: Hash = *b"\x10\xf1\x3f\x06\x7b\x84\xb1\xb4\xa6\xa1\x9e\x8e\x59\xe2\x60\x93\
+\x78\x6c\xbd\xa1\xf5\x31\xc5\x44\x57\xe6\x65\x4a\x55\x1f\x65\x9f";
+
+const LAST_OF_7232: Hash = *b"\x8e\xc9\x9c\x0f\xa9\x06\xcc\xb8\x1a\x4c\x7b\x86\x98\x39\x28\x3e\
+\x27\x3b\x59\x6b\x82\x4b\x31\x00\x7f\x66\x49\xd3\x12\x81\xdb\x63";
+
+const LAST_OF_ONE: Hash = *b"\xa9\xf5\x15\x66\xbd\x67\x05\xf7\xea\x6a\xd5\x4b\xb9\xde\xb4\x49\
+\xf7\x95\x58\x2d\x65\x29\xa0\xe2\x22\x07\xb8\x98\x12\x33\xec\x58";
+
+/// The roots of contents of 40,000 bytes, of a block and a byte, of two, three and five blocks.
+const OF_40000: Hash = *b"\xab\x67\x16\x31\xa9\xfa\x97\xa1\xfd\xac\x65\x1f\xff\x6c\x68\x77\
+\x3b\x9a\xcf\x07\x35\xb9\xc7\xf6\xec\xdd\x54\xcb\xf1\xbf\x5d\xc2";
+
+const PAST_A_BLOCK: Hash = *b"\x9d\x78\x87\xc6\x5d\x57\x7a\x02\x37\xfb\x3c\x09\x98\xb8\x7b\x3a\
+\x62\x76\x2d\x03\x79\x68\x89\xa2\xca\xea\x01\xdb\x91\x4c\xcb\xb8";
+
+const OF_TWO_BLOCKS: Hash = *b"\xd9\xe1\x3d\x0b\x67\x6a\xd6\x81\x16\x4e\xf0\xb7\xb5\x91\x0d\x13\
+\x28\xea\x83\xa0\x47\xca\xd5\x7e\x61\x9d\x76\xbb\xe3\xa0\x85\x25";
+
+const OF_THREE_BLOCKS: Hash = *b"\xc2\x3d\x35\xec\x94\x22\x88\xa7\xd9\xb5\x8d\x1d\x04\x46\xa7\x61\
+\x04\x66\x0b\x7c\x72\xe5\xcf\x39\xf3\x8b\xdd\xb0\x28\xff\x8c\xa0";
+
+const OF_FIVE_BLOCKS: Hash = *b"\xec\xc3\x1c\x9c\x67\xd9\xc7\xb8\xc7\xf2\x54\x0d\xf7\x22\x08\xac\
+\x59\xa0\xdc\x2f\x7b\x24\x77\xb2\x66\x38\xdb\x31\x3a\x24\x5c\xa4";
+
+/// The other pieces of five blocks, two blocks a piece.
+const P1: Hash = *b"\xe2\x80\x97\xea\xaa\x55\x95\x67\x02\xcf\x81\x95\xd1\xa5\x51\xdb\
+\xab\xb6\x3e\x3d\x67\x9b\x29\x4c\xf3\x3d\x50\x6a\x6b\x5e\xf4\x79";
+
+const P2: Hash = *b"\x8f\x95\x45\x51\x95\x2d\x5d\x15\x7c\xc3\xa8\x50\x22\x95\xe4\x36\
+\xfd\xb8\x81\xa0\x9a\x54\x98\xdf\xe0\xed\xf5\xaa\x61\x70\x2a\xbf";
+
+/// The sums of files of 40,000 bytes, of none and of 16,384, with one, two and four pieces a unit.
+const LONG: &[Row] = &[
+    (
+        Kind::V1,
+        16384,
+        &[1, 2, 4],
+        Wanted {
+            lengths: &[40000, 0, 16384],
+            roots: &[None, None, None],
+            layers: &[&[], &[], &[]],
+            pieces: LONG_V1,
+        },
+    ),
+    (
+        Kind::V2,
+        16384,
+        &[1, 2, 4],
+        Wanted {
+            lengths: &[40000, 0, 16384],
+            roots: &[Some(OF_40000), None, Some(L0)],
+            layers: &[&[L0, L1, LAST_OF_7232], &[], &[]],
+            pieces: b"",
+        },
+    ),
+    (
+        Kind::Hybrid,
+        16384,
+        &[1, 2, 4],
+        Wanted {
+            lengths: &[40000, 0, 16384],
+            roots: &[Some(OF_40000), None, Some(L0)],
+            layers: &[&[L0, L1, LAST_OF_7232], &[], &[]],
+            pieces: LONG_HYBRID,
+        },
+    ),
+];
+
+/// The trees of one file, with one piece a unit and with two.
+const TREES: &[Row] = &[
+    // A file of one block.
+    (
+        Kind::V2,
+        16384,
+        &[1, 2],
+        Wanted {
+            lengths: &[16384],
+            roots: &[Some(L0)],
+            layers: &[&[]],
+            pieces: b"",
+        },
+    ),
+    // Of a block and a byte.
+    (
+        Kind::V2,
+        16384,
+        &[1, 2],
+        Wanted {
+            lengths: &[16385],
+            roots: &[Some(PAST_A_BLOCK)],
+            layers: &[&[L0, LAST_OF_ONE]],
+            pieces: b"",
+        },
+    ),
+    // Of one piece of two blocks.
+    (
+        Kind::V2,
+        32768,
+        &[1, 2],
+        Wanted {
+            lengths: &[32768],
+            roots: &[Some(OF_TWO_BLOCKS)],
+            layers: &[&[]],
+            pieces: b"",
+        },
+    ),
+    // Of three blocks.
+    (
+        Kind::V2,
+        16384,
+        &[1, 2],
+        Wanted {
+            lengths: &[49152],
+            roots: &[Some(OF_THREE_BLOCKS)],
+            layers: &[&[L0, L1, L2]],
+            pieces: b"",
+        },
+    ),
+    // Of five blocks, two blocks a piece.
+    (
+        Kind::V2,
+        32768,
+        &[1, 2],
+        Wanted {
+            lengths: &[81920],
+            roots: &[Some(OF_FIVE_BLOCKS)],
+            layers: &[&[OF_TWO_BLOCKS, P1, P2]],
+            pieces: b"",
+        },
+    ),
+];
+
+/// The root of a content of seventeen blocks and a byte, the hash of each block, and the SHA-1 of each.
+const ROOT_OF_18: Hash = *b"\xc5\xee\x7a\x50\x1d\x96\xe5\x6e\x29\x51\x22\xb0\x0a\x14\x4a\x9e\
+\x15\x5e\xc9\x8a\xec\xe3\xef\x87\x96\xbe\x9e\x6e\xd5\x11\xaa\xe3";
+
+const LAYER_OF_18: [Hash; 18] = [
+    *b"\x43\x48\xe3\xb9\x8e\x8a\x32\x7b\x34\xce\xd3\x9c\x1d\xa9\xe6\x7c\
+\xdb\x4c\xd5\xe4\x8e\x4d\x79\x60\x60\x7a\x3a\xe4\x03\xd3\x5f\x0c",
+    *b"\xf7\xc9\x04\x5c\x2a\x79\xa8\xa2\xa5\x87\xef\xbf\x5b\x31\x06\x52\
+\x68\x5b\x29\x2e\x6f\xbb\x0b\x08\xc1\xdf\x85\x75\x00\xda\x26\x99",
+    *b"\x59\x7f\x81\x85\x97\x24\xf9\x79\xae\xce\x03\xe9\x5c\x04\x8d\x6e\
+\xe5\xc6\xd5\x93\x51\xe6\xa4\xdb\x04\x89\x97\xdb\x6f\x05\xc8\x45",
+    *b"\xe2\x0f\x1d\x51\x95\x1c\x26\xd9\x54\x12\xe7\x11\xa1\x95\xc7\x4f\
+\x1d\x43\x17\xef\x26\x0e\x98\xf2\xf8\x6e\x74\xed\x41\x4c\x67\x0f",
+    *b"\x10\xf1\x3f\x06\x7b\x84\xb1\xb4\xa6\xa1\x9e\x8e\x59\xe2\x60\x93\
+\x78\x6c\xbd\xa1\xf5\x31\xc5\x44\x57\xe6\x65\x4a\x55\x1f\x65\x9f",
+    *b"\x32\xaa\xd3\x1c\xb7\x3a\xe6\x9f\xe6\xbb\x26\xe7\xcd\x20\xc2\x7c\
+\x43\x9b\x95\xd9\x0f\xc6\x53\x62\xe8\x09\xd9\xea\x8b\xd4\x82\x2a",
+    *b"\xfb\x72\xaa\x2c\x86\x86\xbf\x56\xf5\x47\x78\xd4\x59\x45\xb2\x2b\
+\x8d\x22\x2b\x0d\x2e\xef\xad\x7b\xbe\x25\xd4\x0b\x21\x54\x8a\xfc",
+    *b"\xd6\xca\x6b\xb7\x78\x74\x9f\x91\xab\x04\x65\xa7\x59\xce\x2c\xb9\
+\x34\xb1\x67\xf2\xac\x2f\x83\xfc\xd9\x1e\x62\xe3\x65\xed\x77\x58",
+    *b"\xbf\x8a\x65\x75\x3f\xbd\xdf\xbc\x0b\xbd\x58\xf9\x33\xe4\xdb\x81\
+\x61\x23\x6f\xc1\xe8\x2c\x7e\x2c\xfe\x03\xf1\x79\xa0\xa0\x2a\x8c",
+    *b"\x63\x2f\xd8\xd4\x15\xe3\x7d\x27\x86\xfc\xdb\x8b\x57\x15\xc7\x64\
+\x17\x8a\x7d\x3f\x41\x69\x8f\xb9\x45\x6c\x05\xdc\xc7\xf2\x58\xb0",
+    *b"\x8f\xc6\x2f\x8b\x59\xe3\xaa\x89\xea\xd9\x5c\xc8\x92\x4b\x77\xf8\
+\x45\x2c\xf5\xdf\x6f\x47\x40\x92\x45\x26\xd5\x4e\xb0\xed\x9d\x7e",
+    *b"\x75\xd8\xbb\x1b\xf0\xc1\x08\x55\xf3\xbc\x41\xc2\x36\xf3\xfa\xa7\
+\x92\x32\xba\x14\xc6\x1a\x71\x0e\x9d\x7b\x8c\x66\xba\x1f\x82\x5a",
+    *b"\x07\x3e\xe1\xac\x1a\xbd\x45\x8c\xb3\x00\xa7\xac\x51\x14\xd5\x8e\
+\x53\x22\xdd\x02\x6d\x96\x14\x39\x89\xc0\x47\x52\xbb\xdc\x94\xdf",
+    *b"\x2a\x95\x72\xee\x91\x13\xa3\x64\x36\x5c\xa6\xe6\xd6\x98\x69\xbe\
+\xe9\x63\x67\x1e\xc5\x78\xa5\x21\xfd\x9c\xc2\xd9\xc6\x53\xd8\xb6",
+    *b"\x02\xd9\xcc\xd9\x68\x16\x82\xb6\xa9\xae\xd0\xb6\x4b\xb3\x3d\x1f\
+\xd7\x9a\x53\x5b\x60\xb9\x42\x09\xa7\x15\x78\x25\x12\x8a\xf1\xd3",
+    *b"\xc2\x98\x97\x97\xf4\x36\x46\xba\x3a\x3c\x7e\x62\x91\xff\xec\x6e\
+\x86\xa1\x07\x0d\x3c\x01\x57\x60\xf2\x27\x76\x36\xfb\x1b\x5a\x53",
+    *b"\xcd\xfd\xdd\xfe\x03\x0c\x74\x1c\xf2\x87\x17\x25\xe5\xec\x05\xc3\
+\xaa\x02\x12\x16\x65\x9e\x97\x29\x85\xd3\x7d\x6d\xd5\x21\xf6\xea",
+    *b"\x9e\x8e\x8c\x37\xa5\x3b\xac\x77\xa6\x53\xd5\x90\xb7\x83\xb2\x50\
+\x8e\x8e\xd2\xfe\xd0\x40\xa2\x78\xbf\x4f\x47\x03\xbb\xd5\xd8\x2d",
+];
+
+const SUMS_OF_18: &[u8] =
+    b"\x68\xf3\xb8\x1a\x11\xde\x1e\x16\x29\xe8\x15\x55\xb4\xe7\x0a\xed\x95\x5d\x11\x40\
+\xde\x9e\xe0\x22\x2c\xd5\x28\xef\xc5\xe0\x12\x27\xe4\xbf\x16\xcf\x6a\xc6\x83\x6a\
+\x8b\x83\x8c\x28\xe8\xca\x37\x87\xc8\xb0\xfd\xaa\xd3\x93\x1e\xa3\xa8\xf2\x90\x38\
+\x2d\x8d\x1f\x18\x37\x9a\x9e\x19\xa2\x74\xf8\xcb\xa1\x28\x00\x87\xfd\xfc\xe2\x10\
+\x7c\xd6\xc7\xa5\x2e\xd9\xac\x52\x60\x78\x43\x62\x46\x08\x4f\x8e\x2c\x42\x01\x9c\
+\x7e\x77\x78\xa5\x30\x29\x90\x4b\x14\x4f\xdb\xb8\x1e\xd1\xa4\x61\x31\xca\xa4\xdc\
+\xb5\xd7\xce\x84\x0a\xc2\xfc\xaa\x00\x82\x55\x1a\x34\x13\x0b\x86\x90\x92\xa0\xce\
+\x42\x7a\x83\x2a\x3c\x6b\x28\x07\xab\x2f\xe9\xbd\xee\x86\x5b\x95\xd6\x4d\x09\x1a\
+\xc8\xe9\xde\x14\x96\x00\xfc\xc1\xad\xee\xc7\xc9\x3f\x05\x1d\xe0\x15\x92\x42\x0a\
+\xdf\x58\x5d\xdb\x3f\x2d\x6a\xec\x59\x34\xd9\x07\x85\x81\x15\x8e\x89\x1f\xfc\x00\
+\x78\x85\xac\x6e\x55\x49\x10\x1a\x92\xa8\x78\xea\xb2\x0b\xf6\x03\x5c\x49\x1a\x4d\
+\x4f\x3f\x0b\x09\x4e\x0b\x1b\xec\xc3\x1f\xc2\xcf\x70\x77\xb6\x77\x91\x7a\x92\x5b\
+\x2d\x19\x4c\x2b\x84\xad\x46\xec\xfd\x65\x44\x75\x19\xe5\x8c\x17\x0b\xc3\x06\x93\
+\xfc\x5e\xdc\x12\xe9\x0d\x61\x4c\x50\x06\xee\x6f\x29\xd4\x05\xc3\xdb\xa2\x28\x15\
+\x61\xc9\x04\xf1\xa2\x24\x61\x3a\x9a\x80\x2e\xe3\x45\xd1\x9b\xc6\x45\xa2\xbc\xab\
+\x46\xcc\xfb\xf2\x91\x68\xe0\xed\x6f\x7c\x04\xac\x68\x35\x98\x71\x9a\x0b\xc3\x7d\
+\x52\x8c\x07\x34\x50\x20\x72\xba\xa3\xbb\x46\x90\x60\xb1\x4d\x79\x02\x3d\xd9\x83\
+\x19\xda\x91\xf2\x60\x38\x89\x26\x7d\xfd\x77\x78\x6e\x07\xa5\xb8\xf0\x67\xd6\x2a";
+
+/// Its sums in pieces of one block. The eight blocks and pieces that lie one after another are hashed together.
+const OF_18: &[Row] = &[
+    (
+        Kind::V1,
+        16384,
+        &[16],
+        Wanted {
+            lengths: &[17 * 16384 + 1],
+            roots: &[None],
+            layers: &[&[]],
+            pieces: SUMS_OF_18,
+        },
+    ),
+    (
+        Kind::V2,
+        16384,
+        &[16],
+        Wanted {
+            lengths: &[17 * 16384 + 1],
+            roots: &[Some(ROOT_OF_18)],
+            layers: &[&LAYER_OF_18],
+            pieces: b"",
+        },
+    ),
+    (
+        Kind::Hybrid,
+        16384,
+        &[16],
+        Wanted {
+            lengths: &[17 * 16384 + 1],
+            roots: &[Some(ROOT_OF_18)],
+            layers: &[&LAYER_OF_18],
+            pieces: SUMS_OF_18,
+        },
+    ),
+];
+
+/// Whether each row has its sums.
+fn are_each_sums<R: AllocGlobal + Abort + Threads + Sync>(rt: &R, rows: &[Row]) -> bool {
+    for row in rows {
+        if !are_sums(rt, row) {
+            return false;
+        }
+    }
+    true
+}
+
+#[test]
+fn sums_up_files_however_they_are_read(rt: HostRuntime) {
+    for row in SMALL {
+        assert!(rt; are_small_sums_in_steps(&rt, row));
+    }
+    assert!(rt; are_each_sums(&rt, LONG));
+    assert!(rt; are_each_sums(&rt, TREES));
+    assert!(rt; are_each_sums(&rt, OF_18));
+}

@@ -1,0 +1,247 @@
+//! How many workers read at once.
+
+use crate::engine::shared::{allowed, comes_to, is_fault, is_told, plan_of};
+use std::process::Abort;
+use std::sync::atomic::AtomicU64;
+use std::sync::atomic::Ordering::SeqCst;
+use std::thread::Threads;
+use tor_engine::{How, hash_pieces};
+use tor_plan::Plan;
+use tor_source::Source;
+use tor_tree::Kind;
+
+/// A file of zeros, which counts the reads that come while as many others as there may be are not yet done.
+#[derive(Drop)]
+struct Crowded {
+    length: u64,
+    workers: u64,
+    open: AtomicU64,
+    wrong: AtomicU64,
+}
+
+impl Source for Crowded {
+    type Fault = u64;
+
+    ghost is_steady = { λ _ _. ⊥ };
+
+    ghost gave = { λ _ _ _ _. Unit {0} };
+
+    ghost told = { λ _ _ _. Unit {0} };
+
+    ghost ended = { λ _ _ _. Unit {0} };
+
+    fn length(&self, _file: u64) -> Result<Option<u64>, u64> {
+        Ok(Some(self.length))
+    }
+
+    fn read_at(&self, _file: u64, _start: u64, buffer: &mut [u8]) -> Result<usize, u64> {
+        if self.open.fetch_add(1, SeqCst) >= self.workers {
+            self.wrong.fetch_add(1, SeqCst);
+        }
+        // No count comes to so many.
+        comes_to(&self.open, u64::MAX, 1000);
+        self.open.fetch_sub(1, SeqCst);
+        Ok(buffer.len())
+    }
+}
+
+/// How the units are shared, and by how many workers.
+const SHARED: &[(How, u64)] = &[
+    (How::One, 1),
+    (How::Halves(1), 1),
+    (How::Halves(2), 2),
+    (How::Halves(3), 3),
+    (How::Halves(4), 4),
+    (How::Halves(5), 5),
+    (How::Board(1), 1),
+    (How::Board(2), 2),
+    (How::Board(5), 5),
+];
+
+/// Whether no more than so many read a file of 16 units at once.
+fn is_never_crowded<R: AllocGlobal + Abort + Threads + Sync>(
+    rt: &R,
+    plan: &Plan,
+    how: How,
+    workers: u64,
+) -> bool {
+    let source = Crowded {
+        length: 16 * 16384,
+        workers,
+        open: AtomicU64::new(0),
+        wrong: AtomicU64::new(0),
+    };
+    is_fault(rt, &source, plan, how, "none") && source.wrong.load(SeqCst) == 0
+}
+
+/// Whether it is so in each row.
+fn is_each_never_crowded<R: AllocGlobal + Abort + Threads + Sync>(rt: &R, plan: &Plan) -> bool {
+    for (how, workers) in SHARED {
+        if !is_never_crowded(rt, plan, *how, *workers) {
+            return false;
+        }
+    }
+    true
+}
+
+fn is_none_crowded<R: AllocGlobal + Abort + Threads + Sync>(rt: &R) -> bool {
+    match plan_of(rt, &[16 * 16384], Kind::V2, 16384, 1) {
+        Ok(plan) => plan.units().len() == 16 && is_each_never_crowded(rt, &plan),
+        Err(_) => false,
+    }
+}
+
+/// Too few others read.
+#[derive(Debug, Drop)]
+pub(crate) struct Alone;
+
+/// A file of zeros, whose reads below an offset wait until so many have begun. One that waits begins no other, and so
+/// those that meet are of as many workers.
+#[derive(Drop)]
+pub(crate) struct Meeting {
+    length: u64,
+    /// Reads from here on wait for no other.
+    end: u64,
+    many: u64,
+    /// How often a read looks for the others.
+    turns: u64,
+    begun: AtomicU64,
+    pub(crate) bytes: AtomicU64,
+}
+
+impl Source for Meeting {
+    type Fault = Alone;
+
+    ghost is_steady = { λ _ _. ⊥ };
+
+    ghost gave = { λ _ _ _ _. Unit {0} };
+
+    ghost told = { λ _ _ _. Unit {0} };
+
+    ghost ended = { λ _ _ _. Unit {0} };
+
+    fn length(&self, _file: u64) -> Result<Option<u64>, Alone> {
+        Ok(Some(self.length))
+    }
+
+    fn read_at(&self, _file: u64, start: u64, buffer: &mut [u8]) -> Result<usize, Alone> {
+        self.bytes.fetch_add(buffer.len() as u64, SeqCst);
+        self.begun.fetch_add(1, SeqCst);
+        if start >= self.end || comes_to(&self.begun, self.many, self.turns) {
+            return Ok(buffer.len());
+        }
+        Err(Alone)
+    }
+}
+
+/// A file of so many bytes, whose reads below an offset wait for so many, and look for them so often.
+pub(crate) fn reads_that_meet(length: u64, end: u64, many: u64, turns: u64) -> Meeting {
+    Meeting {
+        length,
+        end,
+        many,
+        turns,
+        begun: AtomicU64::new(0),
+        bytes: AtomicU64::new(0),
+    }
+}
+
+/// Whether the fault of its pieces has this text; `none` where they have hashes.
+pub(crate) fn is_fault_of_pieces<R: AllocGlobal + Abort + Threads + Sync>(
+    rt: &R,
+    source: &Meeting,
+    plan: &Plan,
+    how: How,
+    wanted: &str,
+) -> bool {
+    match hash_pieces(rt, rt.alloc(), source, plan, allowed(rt, how)) {
+        Ok(_) => wanted == "none",
+        Err(fault) => is_told(rt.alloc(), &fault, wanted),
+    }
+}
+
+pub(crate) const ALONE: &str = "Read { file: 0, start: Some(0), fault: Alone }";
+
+/// How often a read looks for others that do not come, and for others that do.
+pub(crate) const FEW: u64 = 1000;
+
+pub(crate) const MANY: u64 = 100_000_000;
+
+/// How the units are shared, how many reads wait for one another, how often each looks for the others, and the fault.
+pub(crate) type Row = (How, u64, u64, &'static str);
+
+/// A length, an offset, whether its pieces are hashed alone, and rows that hold of such a file.
+pub(crate) struct Gathering {
+    pub(crate) length: u64,
+    pub(crate) end: u64,
+    pub(crate) over_pieces: bool,
+    pub(crate) rows: &'static [Row],
+}
+
+/// Whether reads below the offset meet so, and each byte is read once where they do.
+fn is_met<R: AllocGlobal + Abort + Threads + Sync>(
+    rt: &R,
+    plan: &Plan,
+    of: &Gathering,
+    row: &Row,
+) -> bool {
+    let source = reads_that_meet(of.length, of.end, row.1, row.2);
+    let is_right = match of.over_pieces {
+        true => is_fault_of_pieces(rt, &source, plan, row.0, row.3),
+        false => is_fault(rt, &source, plan, row.0, row.3),
+    };
+    is_right && (row.3 != "none" || source.bytes.load(SeqCst) == of.length)
+}
+
+fn are_met<R: AllocGlobal + Abort + Threads + Sync>(rt: &R, plan: &Plan, of: &Gathering) -> bool {
+    for row in of.rows {
+        if !is_met(rt, plan, of, row) {
+            return false;
+        }
+    }
+    true
+}
+
+/// Whether they do in each row, where the file has units of one block.
+pub(crate) fn meet<R: AllocGlobal + Abort + Threads + Sync>(rt: &R, of: &Gathering) -> bool {
+    match plan_of(rt, &[of.length], Kind::V2, 16384, 1) {
+        Ok(plan) => plan.units().len() as u64 == of.length / 16384 && are_met(rt, &plan, of),
+        Err(_) => false,
+    }
+}
+
+const MEETINGS: &[Row] = &[
+    (How::One, 2, FEW, ALONE),
+    (How::Halves(1), 2, FEW, ALONE),
+    (How::Halves(2), 3, FEW, ALONE),
+    (How::Halves(2), 2, MANY, "none"),
+    (How::Halves(3), 3, MANY, "none"),
+    (How::Halves(4), 4, MANY, "none"),
+    (How::Board(1), 2, FEW, ALONE),
+    (How::Board(2), 3, FEW, ALONE),
+    (How::Board(2), 2, MANY, "none"),
+    (How::Board(4), 4, MANY, "none"),
+];
+
+/// All reads of a file of four units meet.
+const OF_FOUR: Gathering = Gathering {
+    length: 65536,
+    end: u64::MAX,
+    over_pieces: false,
+    rows: MEETINGS,
+};
+
+const PIECES_OF_FOUR: Gathering = Gathering {
+    length: 65536,
+    end: u64::MAX,
+    over_pieces: true,
+    rows: MEETINGS,
+};
+
+#[test]
+fn workers_meet(rt: HostRuntime) {
+    assert!(rt; meet(&rt, &OF_FOUR));
+    assert!(rt; meet(&rt, &PIECES_OF_FOUR));
+    // No more workers read than were asked for.
+    assert!(rt; is_none_crowded(&rt));
+}
