@@ -41,8 +41,8 @@ abbrev pub letters_at : ListOf (ListOf (ListOf ℕ) × Attr) → ℕ → Attr
 letters_at files index = (slice_index_or files index ([], no_letters)).1
 
 -- paths with their indices, and the letters of the files there
-abbrev pub lettered : ListOf (ListOf (ListOf ℕ) × Attr) → ListOf (ListOf (ListOf ℕ) × ℕ) → ListOf (ListOf (ListOf ℕ) ×
-    Attr)
+abbrev pub lettered : ListOf (ListOf (ListOf ℕ) × Attr) → ListOf (ListOf (ListOf ℕ) × ℕ)
+    → ListOf (ListOf (ListOf ℕ) × Attr)
 lettered files entries = map (λ entry. (entry.0, letters_at files entry.1)) entries
 
 -- paths with their indices, and the lengths of the files there

@@ -32,8 +32,7 @@ pub enum FromFault {
 }
 
 /// Reads all of a content, at most `MAX_INPUT_LENGTH` bytes, and writes the torrent of it under the order's name,
-/// without letters.
-/// Nothing of the content is kept.
+/// without letters. Nothing of the content is kept.
 pub fn make_from<R: io::Read, W: io::Write>(
     alloc: Global,
     reader: &mut R,

@@ -123,7 +123,7 @@ pub(crate) fn entries(alloc: Global, head: &Head, list: &FileList) -> Result<Vec
     }
 }
 
-/// The `attr` beside it (BEP 47), where that file has letters.
+/// The `attr` beside the `length` of a single file (BEP 47), where it has letters.
 fn only_attr(alloc: Global, head: &Head, list: &FileList) -> Result<Option<Item>, AllocError>
     requires one { head.now.single ≡ true → length list.now.files ≡ 1 }
     ensures { (facts : List Facts) → attrs_in facts ≡ list.now.attrs → IfOk result (λ item.

@@ -10,8 +10,7 @@
 //! - [`make_with`] (`from_source.rt`): the torrent of the files of a source with their letters, as an [`Order`]
 //!   (`order.rt`) says, or the first [`MakeError`] (`make_error.rt`); [`make`]: of files without letters.
 //!   `indexed_files.rt` puts a source's files into another order; `listed_files.rt` makes the torrent of a list of
-//! files
-//!   whose bytes a source gives.
+//!   files whose bytes a source gives.
 //! - [`make_streams_with`], [`make_streams`] (`from_streams.rt`): the torrent of readers that are read once, in the
 //!   order of their paths, with letters and without.
 //! - [`ContentsError`] (`refusals.rt`): why there is no torrent of files in memory.
