@@ -1,10 +1,10 @@
 -- One more field of a dictionary.
-use Rattle.std.proofs.Common.{◌≡◌, ℕ, Bor, Vec, Global, List, [], ◌∷◌, ◌++◌, Option, None, Some, refl, sym, ap, ◌∙◌}
-use Rattle.tor_bencode.specs.Data.{string, Pairs, no_pairs, pair}
+use Rattle.std.proofs.Common.{◌≡◌, ℕ, Vec, Global, List, [], ◌∷◌, ◌++◌, Option, None, Some, refl, sym, ap, ◌∙◌}
+use Rattle.std.proofs.Common.{append_assoc}
+use Rattle.tor_bencode.specs.Data.{Data, string, Pairs, no_pairs, pair}
 use Rattle.tor_bencode.specs.View.{pairs_view, view}
 use Rattle.tor_bencode.specs.declared.item.Item.{Item}
 use Rattle.tor_spec.specs.Dictionary.{present}
-use Rattle.tor_meta.specs.steps.Fields.{fields_of}
 use Rattle.tor_meta.specs.steps.Layers.{pairs_of_map}
 
 -- pairs, and more after them
@@ -21,24 +21,35 @@ pairs_view-push : (pairs : List (Vec ℕ Global × Item)) (p : Vec ℕ Global ×
 pairs_view-push [] p = refl
 pairs_view-push (q ∷ qs) p = ap (pair q.0.items (view q.1)) (pairs_view-push qs p)
 
-present-push : (fields : List (Bor (List ℕ) × Option Item)) (field : Bor (List ℕ) × Option Item)
-    → present (fields_of (fields ++ field ∷ []))
-    ≡ followed_by (present (fields_of fields)) (present (fields_of (field ∷ [])))
+present-push : (fields : List (List ℕ × Option Data)) (field : List ℕ × Option Data)
+    → present (fields ++ field ∷ []) ≡ followed_by (present fields) (present (field ∷ []))
 present-push [] field = refl
 present-push ((key, None) ∷ fields) field = present-push fields field
-present-push ((key, Some value) ∷ fields) field = ap (pair key.now (view value)) (present-push fields field)
+present-push ((key, Some value) ∷ fields) field = ap (pair key value) (present-push fields field)
 
-pub field_there : (fields : List (Bor (List ℕ) × Option Item)) (key : Bor (List ℕ)) (value : Item)
-    (pairs : List (Vec ℕ Global × Item)) (p : Vec ℕ Global × Item) → pairs_view pairs ≡ present (fields_of fields)
-    → p.0.items ≡ key.now → p.1 ≡ value
-    → pairs_view (pairs ++ p ∷ []) ≡ present (fields_of (fields ++ (key, Some value) ∷ []))
+pub field_there : (fields : List (List ℕ × Option Data)) (key : List ℕ) (value : Item)
+    (pairs : List (Vec ℕ Global × Item)) (p : Vec ℕ Global × Item) → pairs_view pairs ≡ present fields
+    → p.0.items ≡ key → p.1 ≡ value
+    → pairs_view (pairs ++ p ∷ []) ≡ present (fields ++ (key, Some (view value)) ∷ [])
 field_there fields key value pairs p so_far is_key is_value =
     pairs_view-push pairs p
-    ∙ rw (so_far, is_key, is_value) (sym (present-push fields (key, Some value)))
+    ∙ rw (so_far, is_key, is_value) (sym (present-push fields (key, Some (view value))))
 
-pub field_absent : (fields : List (Bor (List ℕ) × Option Item)) (key : Bor (List ℕ))
-    → present (fields_of (fields ++ (key, None) ∷ [])) ≡ present (fields_of fields)
-field_absent fields key = present-push fields (key, None) ∙ followed_by-none (present (fields_of fields))
+pub field_absent : (fields : List (List ℕ × Option Data)) (key : List ℕ)
+    → present (fields ++ (key, None) ∷ []) ≡ present fields
+field_absent fields key = present-push fields (key, None) ∙ followed_by-none (present fields)
+
+-- fields that were put one after the other behind some
+pub four_after : {X : Type 0} (xs : List X) (a b c d : X)
+    → (((xs ++ a ∷ []) ++ b ∷ []) ++ c ∷ []) ++ d ∷ [] ≡ xs ++ a ∷ b ∷ c ∷ d ∷ []
+four_after xs a b c d =
+    append_assoc ((xs ++ a ∷ []) ++ b ∷ []) (c ∷ []) (d ∷ [])
+    ∙ append_assoc (xs ++ a ∷ []) (b ∷ []) (c ∷ d ∷ [])
+    ∙ append_assoc xs (a ∷ []) (b ∷ c ∷ d ∷ [])
+
+pub five_after : {X : Type 0} (xs : List X) (a b c d e : X)
+    → ((((xs ++ a ∷ []) ++ b ∷ []) ++ c ∷ []) ++ d ∷ []) ++ e ∷ [] ≡ xs ++ a ∷ b ∷ c ∷ d ∷ e ∷ []
+five_after xs a b c d e = four_after (xs ++ a ∷ []) b c d e ∙ append_assoc xs (a ∷ []) (b ∷ c ∷ d ∷ e ∷ [])
 
 pairs_of_map-push : (entries : List (List ℕ × Vec ℕ Global)) (entry : List ℕ × Vec ℕ Global)
     → pairs_of_map (entries ++ entry ∷ [])

@@ -1,13 +1,15 @@
 //! The info dictionary (BEP 3, BEP 52, "info dictionary").
-ghost use Rattle.std.specs.Prelude.{◌≡◌, ◌<◌, ◌≤◌, ◌^◌, ◌&&◌, not, true, All, List, ℕ, IfOk, None, option_map, pos};
+ghost use Rattle.std.specs.Prelude.{◌≡◌, ◌<◌, ◌≤◌, ◌^◌, ◌&&◌, ◌++◌, not, true, All, List, ℕ, IfOk, OnOk, None, pos};
+ghost use Rattle.std.specs.Prelude.{Option, option_map};
 ghost use Rattle.std.specs.Prelude.{length};
 ghost use Rattle.std.specs.Prelude.{if◌then◌else◌};
-ghost use Rattle.tor_bencode.specs.Data.{string, integer};
-ghost use Rattle.tor_bencode.specs.View.{view};
+ghost use Rattle.tor_bencode.specs.Data.{Data, string, integer};
+ghost use Rattle.tor_bencode.specs.View.{pairs_view, view};
 ghost use Rattle.tor_merkle.specs.Layer.{IsPieceLength};
 ghost use Rattle.tor_meta.specs.Head.{settings_of};
+ghost use Rattle.tor_meta.specs.steps.Fields.{file_fields, head_fields};
 ghost use Rattle.tor_meta.specs.steps.Sums.{AreFactsOf, HaveTrees, IsJudged};
-ghost use Rattle.tor_spec.specs.Dictionary.{when};
+ghost use Rattle.tor_spec.specs.Dictionary.{present, when};
 ghost use Rattle.tor_spec.specs.Facts.{Facts, attrs_in, listed};
 ghost use Rattle.tor_spec.specs.FilesList.{files_list};
 ghost use Rattle.tor_spec.specs.InfoDictionary.{info_dictionary, single_letters, total_size};
@@ -19,7 +21,7 @@ ghost use Rattle.tor_v1.specs.Piece.{max_piece_length};
 ghost use Rattle.tor_v1.specs.Reserved.{takes_reserved};
 
 use crate::head::Head;
-use crate::items::{dictionary, files, letters, number, text};
+use crate::items::{dictionary, files, letters, number, push_field, text};
 use std::alloc::{AllocError, Global};
 use tor_bencode::Item;
 use tor_engine::Sums;
@@ -40,25 +42,60 @@ pub(crate) fn info(
     ensures { (facts : List Facts) → AreFactsOf head.now list.now sums.now facts → IfOk result (λ item.
         view item ≡ info_dictionary (settings_of head.now) facts sums.now.pieces.items) }
 {
-    piece_length_bounds();
-    let tree = tree(alloc, head, list, sums)?;
-    let attr = only_attr(alloc, head, list)?;
-    let entries = entry_list(alloc, head, list)?;
+    let mut pairs = Vec::new(alloc);
+    push_of_files(alloc, &mut pairs, head, list, sums)?;
+    push_of_head(alloc, &mut pairs, head, sums)?;
+    Ok(dictionary(pairs))
+}
+
+/// The fields that tell of the files, up to `length`.
+fn push_of_files(
+    alloc: Global,
+    pairs: &mut Vec<(Vec<u8>, Item)>,
+    head: &Head,
+    list: &FileList,
+    sums: &Sums,
+) -> Result<(), AllocError>
+    requires judged { IsJudged head.now list.now.files }
+    requires trees { HaveTrees head.now list.now.files sums.now }
+    ensures { (facts : List Facts) → AreFactsOf head.now list.now sums.now facts →
+        (fields : List (List ℕ × Option Data)) → pairs_view pairs.old.items ≡ present fields →
+        OnOk result (pairs_view pairs.new.items ≡ present (fields ++ file_fields (settings_of head.now) facts)) }
+{
+    push_field(alloc, pairs, "attr", only_attr(alloc, head, list)?)?;
+    push_field(alloc, pairs, "file tree", tree(alloc, head, list, sums)?)?;
+    push_field(alloc, pairs, "files", entry_list(alloc, head, list)?)?;
     let length = only_length(head, list.files());
+    push_field(alloc, pairs, "length", length)
+}
+
+/// The fields after those.
+fn push_of_head(
+    alloc: Global,
+    pairs: &mut Vec<(Vec<u8>, Item)>,
+    head: &Head,
+    sums: &Sums,
+) -> Result<(), AllocError>
+    requires { IsPieceLength head.now.piece_length }
+    ensures { (fields : List (List ℕ × Option Data)) → pairs_view pairs.old.items ≡ present fields →
+        OnOk result (pairs_view pairs.new.items
+        ≡ present (fields ++ head_fields (settings_of head.now) sums.now.pieces.items)) }
+{
+    piece_length_bounds();
+    let version = number_if(head.kind.has_v2(), 2);
+    push_field(alloc, pairs, "meta version", version)?;
     let name = text(alloc, head.name.as_bytes())?;
+    push_field(alloc, pairs, "name", Some(name))?;
+    push_field(
+        alloc,
+        pairs,
+        "piece length",
+        Some(number(head.piece_length)),
+    )?;
     let pieces = pieces(alloc, head, &sums.pieces)?;
-    let fields = vec![in alloc;
-        ("attr", attr),
-        ("file tree", tree),
-        ("files", entries),
-        ("length", length),
-        ("meta version", number_if(head.kind.has_v2(), 2)),
-        ("name", Some(name)),
-        ("piece length", Some(number(head.piece_length))),
-        ("pieces", pieces),
-        ("private", number_if(head.is_private, 1)),
-    ]?;
-    dictionary(alloc, fields)
+    push_field(alloc, pairs, "pieces", pieces)?;
+    let private = number_if(head.is_private, 1);
+    push_field(alloc, pairs, "private", private)
 }
 
 /// The file tree of BEP 52.

@@ -1,8 +1,8 @@
 //! The parts of a torrent's dictionaries as bencode items.
-ghost use Rattle.std.specs.Prelude.{◌≡◌, ◌<◌, ◌≤◌, ◌^◌, ◌∷◌, All, ℕ, List, pos, codes, map, IfOk, option_map};
-ghost use Rattle.tor_bencode.specs.Data.{integer, string, dictionary};
-ghost use Rattle.tor_bencode.specs.View.{view};
-ghost use Rattle.tor_meta.specs.steps.Fields.{fields_of};
+ghost use Rattle.std.specs.Prelude.{◌≡◌, ◌<◌, ◌≤◌, ◌^◌, ◌∷◌, ◌++◌, [], All, ℕ, List, pos, codes, map, IfOk, OnOk};
+ghost use Rattle.std.specs.Prelude.{Option, option_map};
+ghost use Rattle.tor_bencode.specs.Data.{Data, dictionary, integer, string};
+ghost use Rattle.tor_bencode.specs.View.{pairs_view, view};
 ghost use Rattle.tor_spec.specs.Dictionary.{present, when};
 ghost use Rattle.tor_spec.specs.FilesList.{attr_of, entry_dictionary, files_list, strings};
 ghost use Rattle.tor_spec.specs.PieceLayers.{joined};
@@ -36,20 +36,29 @@ pub(crate) fn number(n: u64) -> Item
     Item::Int(n as i64)
 }
 
-/// The dictionary of those fields that have a value.
-pub(crate) fn dictionary(
-    alloc: Global,
-    fields: Vec<(&str, Option<Item>)>,
-) -> Result<Item, AllocError>
-    ensures { IfOk result (λ item. view item ≡ dictionary (present (fields_of fields.entry.items))) }
+/// The dictionary of these pairs, which it keeps.
+pub(crate) fn dictionary(pairs: Vec<(Vec<u8>, Item)>) -> Item
+    ensures { view result ≡ dictionary (pairs_view pairs.items) }
 {
-    let mut pairs = Vec::with_capacity(alloc, fields.len())?;
-    for (key, value) in fields {
-        if let Some(value) = value {
-            pairs.push((Vec::from_slice(alloc, key.as_bytes())?, value))?;
-        }
-    }
-    Ok(Item::Dict(pairs))
+    Item::Dict(pairs)
+}
+
+/// Puts a field behind the others, where it has a value.
+pub(crate) fn push_field(
+    alloc: Global,
+    pairs: &mut Vec<(Vec<u8>, Item)>,
+    key: &str,
+    value: Option<Item>,
+) -> Result<(), AllocError>
+    ensures { (fields : List (List ℕ × Option Data)) → pairs_view pairs.old.items ≡ present fields →
+        OnOk result (pairs_view pairs.new.items ≡ present (fields ++ (key.now, option_map view value) ∷ [])) }
+{
+    let Some(value) = value else {
+        return Ok(());
+    };
+    let key = Vec::from_slice(alloc, key.as_bytes())?;
+    pairs.push((key, value))?;
+    Ok(())
 }
 
 /// The entries of the `files` of BEP 3.
@@ -69,16 +78,12 @@ fn file(alloc: Global, entry: &Entry) -> Result<Item, AllocError>
     requires { entry.now.length < 2 ^ 63 }
     ensures { IfOk result (λ item. view item ≡ entry_dictionary entry.now) }
 {
-    let attr = attr_of(alloc, entry)?;
+    let mut pairs = Vec::new(alloc);
+    push_field(alloc, &mut pairs, "attr", attr_of(alloc, entry)?)?;
+    push_field(alloc, &mut pairs, "length", Some(number(entry.length)))?;
     let path = path(alloc, entry.path.names())?;
-    dictionary(
-        alloc,
-        vec![in alloc;
-            ("attr", attr),
-            ("length", Some(number(entry.length))),
-            ("path", Some(path)),
-        ]?,
-    )
+    push_field(alloc, &mut pairs, "path", Some(path))?;
+    Ok(dictionary(pairs))
 }
 
 /// What `attr` says of it (BEP 47), where it says anything.

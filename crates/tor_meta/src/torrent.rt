@@ -15,7 +15,7 @@ ghost use Rattle.tor_tree.specs.Kinds.{has_v2};
 
 use crate::head::Head;
 use crate::info::info;
-use crate::items::{dictionary, text};
+use crate::items::{dictionary, push_field, text};
 use crate::layers::piece_layers;
 use std::alloc::{AllocError, Global};
 use tor_bencode::{BenError, Item, Tree, encode};
@@ -68,17 +68,17 @@ fn root(alloc: Global, head: &Head, list: &FileList, sums: &Sums) -> Result<Item
     ensures { (facts : List Facts) → AreFactsOf head.now list.now sums.now facts → IfOk result (λ item.
         view item ≡ root_dictionary (settings_of head.now) facts sums.now.pieces.items) }
 {
-    let announce = announce(alloc, head)?;
+    let mut pairs = Vec::new(alloc);
+    push_field(alloc, &mut pairs, "announce", announce(alloc, head)?)?;
     let info = info(alloc, head, list, sums)?;
-    let layers = layers(alloc, head, list, sums)?;
-    dictionary(
+    push_field(alloc, &mut pairs, "info", Some(info))?;
+    push_field(
         alloc,
-        vec![in alloc;
-            ("announce", announce),
-            ("info", Some(info)),
-            ("piece layers", layers),
-        ]?,
-    )
+        &mut pairs,
+        "piece layers",
+        layers(alloc, head, list, sums)?,
+    )?;
+    Ok(dictionary(pairs))
 }
 
 /// The tracker's URL, where there is one.
