@@ -5,10 +5,10 @@
 //! - `command.rt`: what the words ask for.
 //! - `make_command.rt`: the command `make`; `make_words.rt`: its words; `options.rt`: what they ask for;
 //!   `way.rt`: who hashes; `workers.rt`: how many do.
-//! - `from_place.rt`: the torrent of a file or a folder. `attrs_file.rt`: the letters of its files; `attrs_text.rt`: the
-//!   text that has them, read. `check_after.rt`: whether its files have each piece of it afterwards; `piece_counts.rt`:
-//!   how many a source has. `out_file.rt`: the file that a torrent goes to. `progress.rt`: how far the reading is,
-//!   shown on a terminal; `progress_line.rt`: the line; `watch.rt`: the time that has gone.
+//! - `from_place.rt`: the torrent of a file or a folder. `attrs_file.rt`: the letters of its files; `attrs_text.rt`:
+//!   the text that has them, read. `check_after.rt`: whether its files have each piece of it afterwards;
+//!   `piece_counts.rt`: how many a source has. `out_file.rt`: the file that a torrent goes to. `progress.rt`: how far
+//!   the reading is, shown on a terminal; `progress_line.rt`: the line; `watch.rt`: the time that has gone.
 //! - `telling.rt`: the commands `check` and `magnet`; `check_words.rt`, `torrent_words.rt`: their words. `foreign.rt`:
 //!   the torrent in a file, judged; `shown.rt`: the lines that tell of it; `check_record.rt`: the same as JSON.
 //! - `prove_command.rt`: the command `prove`; `verify_command.rt`: the command `verify`; `proof_words.rt`: their words;

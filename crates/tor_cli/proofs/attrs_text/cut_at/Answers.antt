@@ -6,7 +6,8 @@ use Rattle.tor_cli.proofs.AttrsLines.{cut_first, cut_there, has_none, none_there
 use Rattle.tor_cli.proofs.attrs_text.cut_at.Goals as goal
 
 pub split_at-requires : goal.split_at-requires
-split_at-requires c = rw c.count_before-count.ensures (prefix_len-le-length (λ b. not (b == c.args.byte)) c.args.text.now)
+split_at-requires c =
+    rw c.count_before-count.ensures (prefix_len-le-length (λ b. not (b == c.args.byte)) c.args.text.now)
 
 pub returns-in_err-after-clause-none : goal.returns-in_err-after-clause-none
 returns-in_err-after-clause-none c =

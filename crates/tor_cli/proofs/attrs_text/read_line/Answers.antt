@@ -3,7 +3,8 @@ use Rattle.std.proofs.Common.{◌≡◌, ◌∷◌, ◌++◌, ◌∙◌, ap, ref
 use Rattle.tor_tree.specs.Name.{has_byte}
 use Rattle.tor_tree.specs.Letters.{letters}
 use Rattle.tor_cli.specs.Shown.{path_text}
-use Rattle.tor_cli.proofs.AttrsLines.{in_names, in_path, line_apart, line_whole, path_text-split, whole_letters, split-path}
+use Rattle.tor_cli.proofs.AttrsLines.{in_names, in_path, line_apart, line_whole, path_text-split, split-path}
+use Rattle.tor_cli.proofs.AttrsLines.{whole_letters}
 use Rattle.tor_cli.proofs.attrs_text.read_line.Goals as goal
 
 pub returns-in_default-cut_at-clause-read : goal.returns-in_default-cut_at-clause-read

@@ -19,7 +19,8 @@ names-preserved c =
     let parts = next_part c.names.rest.now c.in-Some.part.now c.in-Some.more.now cut none in
     let pushed = rw c.if-not-branch.false at c.in_ok-push_name.ensures in
     c.names.invariant ∙ ap (λ (ps : List (List ℕ)). c.names.names.items ++ ps) parts
-    ∙ sym (append_assoc c.names.names.items (c.in-Some.part.now ∷ []) (slice_split (λ b. b == slash) c.in-Some.more.now))
+    ∙ sym (append_assoc c.names.names.items (c.in-Some.part.now ∷ [])
+    (slice_split (λ b. b == slash) c.in-Some.more.now))
     ∙ ap (λ (ps : List (List ℕ)). ps ++ slice_split (λ b. b == slash) c.in-Some.more.now) (sym pushed.1)
 
 pub returns-then-not-branch-2 : goal.returns-then-not-branch-2

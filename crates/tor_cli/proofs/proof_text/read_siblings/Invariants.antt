@@ -3,7 +3,7 @@ use Rattle.std.proofs.Common.{◌≡◌, ℕ, List, ◌++◌, length, ◌≤◌}
 use Rattle.std.specs.Prelude.{flat_map}
 use Rattle.std.specs.List.{All}
 use Rattle.tor_cli.specs.ProofText.{IsHash, sibling_line}
-use Rattle.tor_cli.proofs.Siblings.{AreLeft}
+use Rattle.tor_cli.proofs.LinesLeft.{AreLeft}
 use Rattle.tor_cli.proofs.proof_text.read_siblings.Given as goal
 
 abbrev pub invariant-lines : goal.invariant-lines
@@ -13,7 +13,7 @@ invariant-lines l =
       written : l.text ≡ flat_map sibling_line l.siblings.items ++ l.lines;
       count : length l.siblings.items ≤ 36;
       left : (all : List (List ℕ)) → All IsHash all → l.text ≡ flat_map sibling_line all
-          → AreLeft all l.siblings.items l.lines;
+          → AreLeft IsHash sibling_line all l.siblings.items l.lines;
     }
 
 abbrev pub decreases-lines : goal.decreases-lines
