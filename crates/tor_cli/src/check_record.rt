@@ -24,17 +24,14 @@ pub fn check_line(alloc: Global, torrent: &Torrent, hashes: &Hashes) -> Result<S
 fn torrent_value(alloc: Global, torrent: &Torrent, hashes: &Hashes) -> Result<Value, AllocError>
     ensures { IfOk result (λ value. view value ≡ object (check_members torrent.now hashes.now)) }
 {
-    let btih = v1_value(alloc, hashes)?;
-    let btmh = v2_value(alloc, hashes)?;
-    let files = files_value(alloc, torrent.files())?;
     let kind = word_of(torrent.kind());
     let name = torrent.name().as_str();
     let piece_length = torrent.piece_length();
     let pieces = torrent.piece_count();
     json!(in alloc; {
-        "btih": btih,
-        "btmh": btmh,
-        "files": files,
+        "btih": v1_value(alloc, hashes)?,
+        "btmh": v2_value(alloc, hashes)?,
+        "files": files_value(alloc, torrent.files())?,
         "kind": kind,
         "name": name,
         "piece_length": piece_length,

@@ -1,8 +1,8 @@
 //! What the words of `tor make` ask for.
-ghost use Rattle.clap.specs.Words.{found_of, rows_of};
-ghost use Rattle.std.specs.Prelude.{◌≡◌, IfSome, Some};
+ghost use Rattle.clap.specs.Words.{first_of, found_of, rows_of};
+ghost use Rattle.std.specs.Prelude.{◌≡◌, IfSome, Some, codes};
 ghost use Rattle.tor_tree.specs.declared.kinds.Kind.{Kind};
-ghost use Rattle.tor_cli.specs.Words.{AreOptionsIn, HasWorkers, way_word, word_of};
+ghost use Rattle.tor_cli.specs.Words.{AreOptionsIn, HasWorkers, IsWorkersIn, way_word, word_of};
 ghost use Rattle.tor_cli.specs.declared.way.Way.{Way};
 
 use crate::way::Way;
@@ -44,22 +44,37 @@ pub fn make_options<'a, T: Threads>(rt: &T, matches: &ArgMatches<'a>) -> Option<
     ensures { IfSome result (AreOptionsIn (rows_of (found_of matches.now))) }
 {
     Some(MakeOptions {
-        kind: kind_of(matches.get_str("kind")?)?,
+        kind: kind_in(matches)?,
         name: matches.get_str("name")?,
         piece_length: matches.get_one::<u64>("piece-length")?,
         announce: matches.get_str("announce"),
         is_private: matches.get_flag("private"),
         tail: matches.get_flag("tail"),
-        way: way_of(
-            matches.get_str("how")?,
-            workers_of(rt, matches.get_str("workers")?)?,
-        )?,
+        way: way_in(rt, matches)?,
         span: matches.get_one::<u32>("span")?,
         check_after: matches.get_flag("check-after"),
         out: matches.get_str("out"),
         place: matches.get_str("path"),
         attrs: matches.get_str("attrs"),
     })
+}
+
+fn kind_in(matches: &ArgMatches<'_>) -> Option<Kind>
+    ensures { IfSome result
+        (λ kind. first_of (codes "kind") (rows_of (found_of matches.now)) ≡ Some (word_of kind)) }
+{
+    kind_of(matches.get_str("kind")?)
+}
+
+/// Who hashes, by two of the words.
+fn way_in<T: Threads>(rt: &T, matches: &ArgMatches<'_>) -> Option<Way>
+    ensures word { IfSome result
+        (λ way. first_of (codes "how") (rows_of (found_of matches.now)) ≡ Some (way_word way)) }
+    ensures workers { IfSome result (λ way. IsWorkersIn (rows_of (found_of matches.now)) (HasWorkers way)) }
+{
+    let word = matches.get_str("how")?;
+    let workers = workers_of(rt, matches.get_str("workers")?)?;
+    way_of(word, workers)
 }
 
 fn kind_of(word: &str) -> Option<Kind>

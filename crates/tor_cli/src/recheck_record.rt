@@ -40,12 +40,15 @@ fn findings_value(
     ensures { IfOk result (λ value. view value
         ≡ object (recheck_members listing torrent.now findings.now.bits findings.now.files.items)) }
 {
-    let bits = bits_value(alloc, &findings.bits)?;
-    let files = files_value(alloc, torrent, listing, findings)?;
     let counts = counts_of(&findings.bits);
     let good = counts.good;
     let pieces = counts.pieces;
-    json!(in alloc; {"bits": bits, "files": files, "good": good, "pieces": pieces})
+    json!(in alloc; {
+        "bits": bits_value(alloc, &findings.bits)?,
+        "files": files_value(alloc, torrent, listing, findings)?,
+        "good": good,
+        "pieces": pieces
+    })
 }
 
 /// The digits of the bitfield.
@@ -113,17 +116,15 @@ fn found_value(alloc: Global, found: &FileFound, file: &TreeFile) -> Result<Valu
     ensures { IfOk result (λ value. view value ≡ found_data found.now file.now) }
 {
     let good = found.good;
-    let path = path_value(alloc, &file.path)?;
     let pieces = found.pieces;
     let state = state_word(found.state);
-    let there = length_value(found.there);
     let told = found.told;
     json!(in alloc; {
         "good": good,
-        "path": path,
+        "path": path_value(alloc, &file.path)?,
         "pieces": pieces,
         "state": state,
-        "there": there,
+        "there": length_value(found.there),
         "told": told
     })
 }

@@ -1,5 +1,5 @@
 -- What the getters give are the values in the rows.
-use Rattle.std.proofs.Common.{rules, codes, ◌∙◌, refl}
+use Rattle.std.proofs.Common.{codes, ◌∙◌, refl}
 use Rattle.clap.specs.Words.{found_of}
 use Rattle.tor_cli.proofs.FoundTexts.{found_flag, found_text}
 use Rattle.tor_cli.proofs.recheck_words.recheck_options.Goals as goal
@@ -9,10 +9,11 @@ returns g c =
     let found = found_of c.args.matches.now in
     record {
       torrent =
-          found_text found (codes "file") c.get_str.result c.in_ok-get_str.field-0 c.get_str.ensures (search rules);
+          found_text found (codes "file") c.get_str.result c.in_ok-get_str.field-0 c.get_str.ensures
+          c.in_ok-get_str.was;
       place =
           found_text found (codes "path") c.get_str-2.result c.in_ok-get_str-2.field-0 c.get_str-2.ensures
-          (search rules);
+          c.in_ok-get_str-2.was;
       listing = λ files bad null is_files is_bad is_null.
           let same_files =
           found_flag found (codes "files") c.get_flag.result files c.get_flag.ensures.value c.get_flag.ensures.other
@@ -33,7 +34,7 @@ returns g c =
         c.in_ok-get_str-3.field-0.now,
         c.in_ok-workers_of.field-0,
         found_text found (codes "workers") c.get_str-3.result c.in_ok-get_str-3.field-0 c.get_str-3.ensures
-            (search rules),
+            c.in_ok-get_str-3.was,
         c.in_ok-workers_of.ensures.value,
         refl,
       );
