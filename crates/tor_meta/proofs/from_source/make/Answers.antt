@@ -1,11 +1,48 @@
 -- the paths are those that were handed in
 use Rattle.std.proofs.Common.{◌≡◌, ◌⊎◌, List, ℕ, None, Some, ap, subst, ◌∙◌}
-use Rattle.std.specs.Prelude.{IfErr, MatchResult, OnOk}
-use Rattle.tor_meta.specs.Make.{IsMakeFault, IsOwn, make_refusal}
+use Rattle.std.proofs.Common.{length}
+use Rattle.std.proofs.lemmas.List.{length-map}
+use Rattle.std.specs.Prelude.{IfErr, IfOk, MatchResult, OnOk}
+use Rattle.tor_meta.specs.Contents.{IsMadeOf, IsMadeOfSome}
+use Rattle.tor_meta.specs.Make.{IsGivenTo, IsMadeOfTold, IsMakeFault, IsOwn, files_of_source, make_refusal}
+use Rattle.tor_meta.specs.Order.{settings_of_order}
 use Rattle.tor_meta.specs.declared.make_error.MakeError.TheVariants.{Resources}
 use Rattle.tor_tree.specs.FileList.{paths_of}
+use Rattle.tor_tree.specs.declared.attr.Attr.{Attr}
 use Rattle.tor_meta.proofs.WithoutLetters.{paths_alone}
 use Rattle.tor_meta.proofs.from_source.make.Goals as goal
+
+abbrev Files : Type 0
+Files = List (List (List ℕ) × Attr)
+
+pub returns-clause-made : goal.returns-clause-made
+returns-clause-made g c = λ facts steady.
+    subst (λ (files : Files). IfOk c.make_with.result
+    (λ bytes. IsMadeOf (settings_of_order c.args.order.now) (files_of_source facts files) bytes.items))
+    (c.deref.ensures.value ∙ c.in_ok-files.ensures) (c.make_with.ensures.made facts steady)
+
+pub returns-clause-whole : goal.returns-clause-whole
+returns-clause-whole g c =
+    subst (λ (files : Files). IfOk c.make_with.result
+    (λ bytes. IsMadeOfSome (settings_of_order c.args.order.now) files bytes.items))
+    (c.deref.ensures.value ∙ c.in_ok-files.ensures) c.make_with.ensures.whole
+
+pub returns-clause-told : goal.returns-clause-told
+returns-clause-told g c =
+    subst (λ (files : Files). IfOk c.make_with.result
+    (λ bytes. IsMadeOfTold (g.S.Source.told c.args.source.now) (settings_of_order c.args.order.now) files bytes.items))
+    (c.deref.ensures.value ∙ c.in_ok-files.ensures) c.make_with.ensures.told
+
+pub returns-clause-info : goal.returns-clause-info
+returns-clause-info g c = c.make_with.ensures.info
+
+pub returns-clause-gave : goal.returns-clause-gave
+returns-clause-gave g c =
+    let source = c.args.source.now in
+    subst (λ (n : ℕ). IfErr c.make_with.result
+    (IsGivenTo (g.S.Source.gave source) (g.S.Source.told source) (g.S.Source.ended source) n))
+    (ap length (c.deref.ensures.value ∙ c.in_ok-files.ensures) ∙ length-map c.args.paths.now _)
+    c.make_with.ensures.gave
 
 pub returns-clause-fault : goal.returns-clause-fault
 returns-clause-fault g c = λ facts steady.
