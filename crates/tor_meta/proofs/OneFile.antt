@@ -1,18 +1,17 @@
 -- One file that lies at the top, and its content.
 use Rattle.std.proofs.Common.{◌≡◌, ℕ, zero, suc, ◌<◌, Bool, true, false, not, ◌&&◌, cond, List, [], ◌∷◌, ◌++◌, length}
-use Rattle.std.proofs.Common.{None, get_or, nat_lt, refl, sym, ap, ◌∙◌, arith}
+use Rattle.std.proofs.Common.{None, get_or, nat_lt, refl, subst, sym, ap, ◌∙◌, arith}
 use Rattle.std.specs.List.{All}
 use Rattle.std.specs.List.Sorted.{IsPermutation}
 use Rattle.std.proofs.lemmas.Bool.{lt-ltb}
 use Rattle.std.proofs.lemmas.List.{append-nil}
 use Rattle.std.proofs.lemmas.List.Sorted.{All-permutation, length_permutation}
 use Rattle.tor_meta.specs.Fed.{tail_length}
-use Rattle.tor_meta.specs.steps.Sums.{SumsOfOne}
+use Rattle.tor_meta.specs.steps.Sums.{AreSumsOfSettings, SumsOfOne}
 use Rattle.tor_meta.specs.Head.{settings_of}
 use Rattle.tor_meta.specs.Order.{has_tail}
 use Rattle.tor_meta.specs.steps.Sums.{SumUp}
 use Rattle.tor_meta.specs.declared.head.Head.{Head}
-use Rattle.tor_engine.specs.Streams.{AreSumsOfContents}
 use Rattle.tor_engine.specs.declared.sums.Sums.{Sums}
 use Rattle.tor_merkle.specs.Layer.{piece_layer, root_of}
 use Rattle.tor_plan.specs.Content.{cut_content, layout_of as plan_layout}
@@ -104,7 +103,7 @@ same_tail settings p m = by_kind settings.kind settings.single settings.tail
 
 -- and the sums of one content are those of one file
 pub sums_of_one : (settings : Settings) (content : List ℕ) (sums : Sums)
-    → AreSumsOfContents settings.kind (has_tail settings) settings.piece_length (content ∷ []) sums
+    → AreSumsOfSettings settings (content ∷ []) sums
     → SumsOfOne settings.kind settings.piece_length content
     (tail_length (layout_of settings) settings.piece_length (length content)) sums
 unfolding v1_pieces
@@ -120,3 +119,15 @@ sums_of_one settings content sums up =
           ∙ pieces_of_one (plan_layout kind (has_tail settings)) p file content
           ∙ ap (λ n. piece_sums p (content ++ zeros n)) (same_tail settings p (length content));
     }
+
+-- the same of a head, and of how many bytes were counted
+pub sums_of_one_read : (head : Head) (settings : Settings) (content : List ℕ) (count : ℕ) (sums : Sums)
+    → settings_of head ≡ settings → length content ≡ count → AreSumsOfSettings settings (content ∷ []) sums
+    → SumsOfOne head.kind head.piece_length content
+    (tail_length (layout_of (settings_of head)) head.piece_length count) sums
+sums_of_one_read head settings content count sums of_head counted up =
+    subst (λ (n : ℕ). SumsOfOne head.kind head.piece_length content
+    (tail_length (layout_of (settings_of head)) head.piece_length n) sums) counted
+    (subst (λ (s : Settings). SumsOfOne s.kind s.piece_length content
+    (tail_length (layout_of s) s.piece_length (length content)) sums) (sym of_head)
+    (sums_of_one settings content sums up))

@@ -8,7 +8,7 @@ use Rattle.std.specs.List.{AllZip, enumerate_from, zip}
 use Rattle.std.proofs.lemmas.List.{length-map}
 use Rattle.std.proofs.lemmas.Simd.{map-map}
 use Rattle.std.proofs.lemmas.Slice.Zip.{AllZip-long, seconds-zip}
-use Rattle.tor_engine.specs.Streams.{AreSumsOfContents, GiveContents}
+use Rattle.tor_engine.specs.Streams.{GiveContents}
 use Rattle.tor_engine.specs.declared.sums.Sums.{Sums}
 use Rattle.tor_merkle.specs.declared.TheConstants.{MAX_PIECE_LENGTH, MIN_PIECE_LENGTH}
 use Rattle.tor_meta.specs.Contents.{IsMadeOfSome, files_with}
@@ -16,9 +16,8 @@ use Rattle.tor_meta.specs.steps.Contents.{files_of}
 use Rattle.tor_meta.specs.MakeError.{of_contents_error}
 use Rattle.tor_meta.specs.MakeStreams.{IsGivenByReaders}
 use Rattle.tor_meta.specs.Head.{settings_of}
-use Rattle.tor_meta.specs.Order.{has_tail}
 use Rattle.tor_meta.specs.Refusal.{paths_refusal}
-use Rattle.tor_meta.specs.steps.Sums.{IsJudged, SumUp}
+use Rattle.tor_meta.specs.steps.Sums.{AreSumsOfSettings, IsJudged, SumUp}
 use Rattle.tor_meta.specs.declared.head.Head.{Head}
 use Rattle.tor_meta.specs.declared.refusals.ContentsError.{ContentsError}
 use Rattle.tor_meta.specs.declared.refusals.ContentsError.TheVariants.{List as ContentsList, Memory}
@@ -44,10 +43,6 @@ Files = List (List (List ℕ) × Attr)
 
 abbrev pub attrs_of : Files → List Attr
 attrs_of files = map (λ file. file.1) files
-
-abbrev AreSumsOfSettings : Settings → List (List ℕ) → Sums → Type 0
-AreSumsOfSettings settings contents sums =
-    AreSumsOfContents settings.kind (has_tail settings) settings.piece_length contents sums
 
 -- sums of contents have their lengths
 pub lengths_read : (settings : Settings) (contents : List (List ℕ)) (sums : Sums)
@@ -91,13 +86,9 @@ paired paths lengths same =
         let next : a + 1 + k ≡ a + suc k = omega arith in ap (λ j. get_or all j 0) next ∙ at (suc k)) in
         ap₂ (λ m files. (path, m) ∷ files) first rest
 
--- what readers give is summed up as a head asks for it
-abbrev AreSumsOfHead : Head → List (List ℕ) → Sums → Type 0
-AreSumsOfHead head contents sums = AreSumsOfSettings (settings_of head) contents sums
-
 -- the sums of what readers give, for a list of the files that have it
 pub sum_up : (head : Head) (paths : Paths) (contents : List (List ℕ)) (sums : Sums) → length contents ≡ length paths
-    → IsJudged head (zip paths sums.lengths.items) → AreSumsOfHead head contents sums
+    → IsJudged head (zip paths sums.lengths.items) → AreSumsOfSettings (settings_of head) contents sums
     → (map length contents ≡ lengths_of (zip paths sums.lengths.items))
     × SumUp head (zip paths sums.lengths.items) contents sums
 sum_up head paths contents sums many judged up =
@@ -124,7 +115,7 @@ pub record IsListed (head : Head) (named : Files) (list : LetteredFiles) (sums :
 
 module _ (head : Head) (files : Files) (list : LetteredFiles) (sums : Sums) (contents : List (List ℕ))
     (are : list.files ≡ zip (paths_of files) sums.lengths.items) (letters : list.attrs ≡ attrs_of files)
-    (many : length contents ≡ length files) (up : AreSumsOfHead head contents sums) where
+    (many : length contents ≡ length files) (up : AreSumsOfSettings (settings_of head) contents sums) where
   as_listed : files_of list contents ≡ files_with files contents
   as_listed =
       let read = lengths_read (settings_of head) contents sums up in

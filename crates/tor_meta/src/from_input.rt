@@ -1,11 +1,15 @@
 //! From a reader to the torrent of what it has, in a writer.
-ghost use Rattle.std.specs.Prelude.{◌≡◌, ◌∷◌, [], List, ℕ, None, IfErr, IfOk, OnOk};
+ghost use Rattle.std.specs.Prelude.{◌≡◌, ◌≤◌, ◌*◌, ◌∷◌, [], List, ℕ, None, IfErr, IfOk, OnOk};
+ghost use Rattle.tor_engine.specs.declared.streams.TheConstants.{MAX_UNIT_LENGTH};
 ghost use Rattle.tor_meta.specs.FromInput.{MakesOf, MakesPart, MakesWhole, StopsReading, refusal_of};
 ghost use Rattle.tor_meta.specs.Head.{settings_of};
 ghost use Rattle.tor_meta.specs.Order.{settings_of_order};
 ghost use Rattle.tor_meta.specs.Refusal.{paths_refusal};
+ghost use Rattle.tor_meta.specs.steps.Sums.{AreSumsOfSettings};
 ghost use Rattle.tor_meta.specs.declared.make_error.MakeError.TheVariants.{Resources};
 ghost use Rattle.tor_meta.specs.declared.from_input.FromFault.TheVariants.{Input, Make, Write};
+ghost use Rattle.tor_source.specs.Input.{EndsInput, ReadsAll, ReadsSome};
+ghost use Rattle.tor_source.specs.declared.input.TheConstants.{MAX_INPUT_LENGTH};
 
 use crate::fed::FedSums;
 use crate::head::Head;
@@ -17,7 +21,7 @@ use std::alloc::{AllocError, Global};
 use std::io;
 use std::sync::Wait;
 use std::thread::Threads;
-use tor_engine::{MAX_UNIT_LENGTH, hash_input};
+use tor_engine::{MAX_UNIT_LENGTH, Sums, hash_input};
 use tor_merkle::laws::piece_length_bounds;
 use tor_source::{InputFault, MAX_INPUT_LENGTH, drop_input, read_parts};
 use tor_tree::Attr;
@@ -83,10 +87,53 @@ pub fn torrent_by_streams<R: io::Read, T: Threads + Wait + Sync + Send + Clone +
     if (order.span as u64).saturating_mul(order.piece_length) > MAX_UNIT_LENGTH {
         return torrent_from(alloc, reader, order, attr);
     }
-    let head = head_for(alloc, reader, order)?;
+    let head = match head_for(alloc, reader, order) {
+        Ok(head) => head,
+        Err(fault) => return Err(fault),
+    };
+    made_by_streams(rt, alloc, reader, order, &head, attr)
+}
+
+/// The same where the order is not refused, and a unit is not too long.
+fn made_by_streams<R: io::Read, T: Threads + Wait + Sync + Send + Clone + Drop + 'static>(
+    rt: &T,
+    alloc: Global,
+    reader: &mut R,
+    order: &Order,
+    head: &Head,
+    attr: Attr,
+) -> Result<Vec<u8>, FromFault>
+    requires settings { settings_of head.now ≡ settings_of_order order.now }
+    requires lawful { paths_refusal (settings_of head.now) ((head.now.name ∷ []) ∷ []) ≡ None }
+    requires accepted { refusal_of order.now ≡ None }
+    requires small { order.now.span * order.now.piece_length ≤ MAX_UNIT_LENGTH }
+    ensures made { IfOk result (λ torrent. (content : List ℕ) × MakesOf order.now attr
+        (R.remaining reader.old) (R.remaining reader.new) (λ bytes. torrent.items ≡ bytes) content) }
+    ensures stopped { IfErr result (StopsReading order.now (R.remaining reader.old) (R.remaining reader.new)) }
+{
+    let sums = sums_by_streams(rt, alloc, reader, order)?;
+    let count = sums.lengths[0];
+    Ok(make_summed(alloc, head, count, &sums, attr)?)
+}
+
+/// What the content sums up to.
+fn sums_by_streams<R: io::Read, T: Threads + Wait + Sync + Send + Clone + Drop + 'static>(
+    rt: &T,
+    alloc: Global,
+    reader: &mut R,
+    order: &Order,
+) -> Result<Sums, InputFault>
+    requires accepted { refusal_of order.now ≡ None }
+    requires small { order.now.span * order.now.piece_length ≤ MAX_UNIT_LENGTH }
+    ensures summed { IfOk result (λ sums. (content : List ℕ)
+        × ReadsAll (R.remaining reader.old) (R.remaining reader.new) content
+        × AreSumsOfSettings (settings_of_order order.now) (content ∷ []) sums) }
+    ensures stopped { IfErr result (λ fault.
+        ReadsSome (R.remaining reader.old) (R.remaining reader.new) (EndsInput MAX_INPUT_LENGTH fault)) }
+{
     piece_length_bounds();
     let workers = order.how.workers();
-    let sums = hash_input(
+    hash_input(
         rt,
         alloc,
         reader,
@@ -95,9 +142,7 @@ pub fn torrent_by_streams<R: io::Read, T: Threads + Wait + Sync + Send + Clone +
         order.span,
         workers,
         order.has_tail(),
-    )?;
-    let count = sums.lengths[0];
-    Ok(make_summed(alloc, &head, count, &sums, attr)?)
+    )
 }
 
 /// The head of the torrent of one content. Where the order is refused, all of the content is read before that is told,

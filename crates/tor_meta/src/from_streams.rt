@@ -10,7 +10,8 @@ ghost use Rattle.tor_meta.specs.Make.{IsOwn};
 ghost use Rattle.tor_meta.specs.MakeStreams.{IsGivenByReaders, IsMadeOfReaders, are_rising};
 ghost use Rattle.tor_meta.specs.MakeStreams.{stream_numbers_refusal, stream_refusal};
 ghost use Rattle.tor_meta.specs.Order.{has_tail, settings_of_order};
-ghost use Rattle.tor_meta.specs.Refusal.{ordered_refusal};
+ghost use Rattle.tor_meta.specs.Refusal.{ordered_refusal, paths_refusal};
+ghost use Rattle.tor_meta.specs.steps.Sums.{AreSumsOfSettings};
 ghost use Rattle.tor_meta.specs.declared.make_error.MakeError.{MakeError};
 ghost use Rattle.tor_meta.specs.declared.refusals.ContentsError.{ContentsError};
 ghost use Rattle.tor_meta.specs.declared.make_error.MakeError.TheVariants.{Resources};
@@ -104,11 +105,39 @@ pub fn make_streams_with<R: Read + Drop, T: Threads + Wait + Sync>(
         Ok(sums) => sums,
         Err(error) => return Err(MakeError::from(error)),
     };
+    match torrent_of_read(alloc, &head, files, paths, &sums) {
+        Ok(bytes) => Ok(bytes),
+        Err(refusal) => Err(MakeError::from(refusal)),
+    }
+}
+
+/// The bytes of the torrent of the files that have these paths and letters, and contents of these sums.
+fn torrent_of_read(
+    alloc: Global,
+    head: &Head,
+    files: &[(FilePath, Attr)],
+    paths: PathList,
+    sums: &Sums,
+) -> Result<Vec<u8>, ContentsError>
+    requires judged { paths_refusal (settings_of head.now) (paths_of files.now) ≡ None }
+    requires indexed { AreIndexedPaths (paths_of files.now) paths }
+    requires same { paths ≡ with_indices (paths_of files.now) }
+    requires summed { (contents : List (List ℕ)) × (length contents ≡ length files.now)
+        × AreSumsOfSettings (settings_of head.now) contents sums.now }
+    ensures made { (contents : List (List ℕ)) → length contents ≡ length files.now →
+        AreSumsOfSettings (settings_of head.now) contents sums.now →
+        IfOk result (λ bytes. bytes.items ≡ metainfo (settings_of head.now) (files_with files.now contents)) }
+    ensures info { IfOk result (λ bytes. HasInfo bytes.items) }
+    ensures accepted { OnOk result (lengths_fault sums.now.lengths.items ≡ None) }
+    ensures refused { IfErr result (λ refusal. (refusal ≡ ContentsError.Memory)
+        ⊎ ((refusal ≡ ContentsError.List ListError.TooLarge)
+        × (lengths_fault sums.now.lengths.items ≡ Some ListError.TooLarge))) }
+{
     let list = match lettered_list(alloc, files, paths, &sums.lengths) {
         Ok(list) => list,
-        Err(refusal) => return Err(MakeError::from(refusal)),
+        Err(refusal) => return Err(refusal),
     };
-    let bytes = torrent_of_sums(alloc, &head, &list, &sums)?;
+    let bytes = torrent_of_sums(alloc, head, &list, sums)?;
     Ok(bytes)
 }
 

@@ -3,13 +3,15 @@ use Rattle.std.specs.Prelude.{◌≡◌, ◌≤◌, ℕ, true, false, All, List,
 use Rattle.std.specs.List.{AllZip}
 use Rattle.tor_merkle.specs.Layer.{IsPieceLength, piece_layer}
 use Rattle.tor_meta.specs.Head.{settings_of}
+use Rattle.tor_engine.specs.Streams.{AreSumsOfContents}
 use Rattle.tor_engine.specs.Sums.{lists_of, plan_content}
+use Rattle.tor_meta.specs.Order.{has_tail}
 use Rattle.tor_meta.specs.declared.head.Head.{Head}
 use Rattle.tor_tree.specs.declared.paths.TheConstants.{MAX_NAMES}
 use Rattle.tor_engine.specs.declared.sums.Sums.{Sums}
 use Rattle.tor_spec.specs.Facts.{Facts, attrs_in, listed, layers_in, roots_in}
 use Rattle.tor_merkle.specs.Layer.{root_of}
-use Rattle.tor_spec.specs.Settings.{layout_of}
+use Rattle.tor_spec.specs.Settings.{Settings, layout_of}
 use Rattle.tor_tree.specs.Kinds.{has_v1, has_v2}
 use Rattle.tor_tree.specs.declared.kinds.Kind.{Kind}
 use Rattle.tor_tree.specs.FileList.{IsFileList, LetteredFiles, lengths_of}
@@ -68,3 +70,8 @@ pub record SumsOfOne (kind : Kind) (piece_length : ℕ) (bytes : List ℕ) (tail
   pub roots : has_v2 kind ≡ true → sums.roots.items ≡ root_of bytes ∷ []
   pub layers : has_v2 kind ≡ true → lists_of sums.layers.items ≡ piece_layer bytes piece_length ∷ []
   pub pieces : has_v1 kind ≡ true → sums.pieces.items ≡ piece_sums piece_length (bytes ++ zeros tail)
+
+-- the sums of contents that were read once, as settings ask for them
+abbrev pub AreSumsOfSettings : Settings → List (List ℕ) → Sums → Type 0
+AreSumsOfSettings settings contents sums =
+    AreSumsOfContents settings.kind (has_tail settings) settings.piece_length contents sums

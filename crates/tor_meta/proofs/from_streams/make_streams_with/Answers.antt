@@ -1,17 +1,18 @@
 -- what was read, in the order of the paths
-use Rattle.std.proofs.Common.{◌≡◌, ◌∙◌, Some, length, map, ap, sym, subst}
+use Rattle.std.proofs.Common.{◌≡◌, ◌∙◌, None, Some, length, map, ap, sym, subst}
 use Rattle.std.proofs.lemmas.List.{length-map}
 use Rattle.std.specs.declared.io.Error.{Error}
 use Rattle.tor_engine.specs.Streams.{GivesWhole}
-use Rattle.tor_meta.specs.steps.Contents.{files_of}
+use Rattle.tor_meta.specs.Contents.{files_with}
 use Rattle.tor_meta.specs.MakeStreams.{IsGivenByReaders}
 use Rattle.tor_meta.specs.Order.{settings_of_order}
-use Rattle.tor_meta.proofs.ContentSteps.{have_trees}
-use Rattle.tor_meta.proofs.Made.{files_lawful}
+use Rattle.tor_meta.specs.Refusal.{paths_refusal}
+use Rattle.tor_meta.specs.steps.Sums.{AreSumsOfSettings}
 use Rattle.tor_meta.proofs.Refused.{accepted_numbers, given_by_readers_or_not, stream_paths, stream_rising}
 use Rattle.tor_meta.proofs.RisingPaths.{sorted_from_rising}
-use Rattle.tor_meta.proofs.StreamSums.{given_large, known_long, lengths_read, listed, made_in_order}
+use Rattle.tor_meta.proofs.StreamSums.{given_large, known_long, lengths_read, made_in_order}
 use Rattle.tor_spec.specs.Metainfo.{metainfo}
+use Rattle.tor_spec.specs.Settings.{Settings}
 use Rattle.tor_tree.specs.FileList.{lengths_fault, paths_of}
 use Rattle.tor_meta.proofs.from_streams.make_streams_with.Goals as goal
 
@@ -25,121 +26,78 @@ pub sums_of-requires-clause-accepted : goal.sums_of-requires-clause-accepted
 sums_of-requires-clause-accepted g c κs within =
     accepted_numbers c.args.order.now (paths_of c.args.files.now) c.in-Ok.ensures.accepted
 
-pub lettered_list-requires-clause-counted : goal.lettered_list-requires-clause-counted
-lettered_list-requires-clause-counted g c =
-    let head = c.args.order.now in
+pub torrent_of_read-requires : goal.torrent_of_read-requires
+torrent_of_read-requires g c =
+    let paths = paths_of c.args.files.now in
     let readers = c.args.readers in
+    let to_head = sym c.in_ok-head.ensures in
     let summed = c.in-Ok-sums_of.ensures.summed in
-    let known = map g.R.Read.remaining readers.items in
-    let many = known_long GivesWhole known summed.contents (length c.args.files.now)
-    (length-map readers.items g.R.Read.remaining ∙ sym readers.ok.0 ∙ c.requires) summed.given in
-    ap length (c.deref.ensures.value
-    ∙ lengths_read (settings_of_order head) summed.contents c.in-Ok-sums_of.sums summed.sums_up)
-    ∙ length-map summed.contents length ∙ many
+    let many = known_long GivesWhole (map g.R.Read.remaining readers.items) summed.contents (length c.args.files.now)
+    (length-map readers.items g.R.Read.remaining ∙ sym readers.ok.0 ∙ c.requires) summed.given in record {
+      judged = subst (λ (s : Settings). paths_refusal s paths ≡ None) to_head
+          (stream_paths c.args.order.now paths c.in-Ok.ensures.accepted);
+      indexed = c.in-Ok.ensures.indexed;
+      same = c.in-Ok.ensures.same;
+      summed = (
+        summed.contents,
+        many,
+        subst (λ (s : Settings). AreSumsOfSettings s summed.contents c.in-Ok-sums_of.sums) to_head summed.sums_up,
+      );
+    }
 
-pub returns-in-Err-lettered_list-clause-gave : goal.returns-in-Err-lettered_list-clause-gave
-returns-in-Err-lettered_list-clause-gave g c =
-    let order = c.args.order.now in
-    let known = map g.R.Read.remaining c.args.readers.items in
-    let summed = c.in-Ok-sums_of.ensures.summed in
-    subst (IsGivenByReaders known) (sym c.from-in-Err-lettered_list.ensures)
-    (given_large Error known summed.contents c.deref.result.now c.in-Err-lettered_list.refusal summed.given
-    (c.deref.ensures.value
-    ∙ lengths_read (settings_of_order order) summed.contents c.in-Ok-sums_of.sums summed.sums_up)
-    c.in-Err-lettered_list.ensures.refused)
-
-pub torrent_of_sums-requires-clause-judged : goal.torrent_of_sums-requires-clause-judged
-torrent_of_sums-requires-clause-judged g c =
-    let order = c.args.order.now in
+pub returns-in-Ok-torrent_of_read-clause-made : goal.returns-in-Ok-torrent_of_read-clause-made
+returns-in-Ok-torrent_of_read-clause-made g c = λ contents known.
     let files = c.args.files.now in
     let readers = c.args.readers in
-    let summed = c.in-Ok-sums_of.ensures.summed in
-    let many = known_long GivesWhole (map g.R.Read.remaining readers.items) summed.contents (length files)
-    (length-map readers.items g.R.Read.remaining ∙ sym readers.ok.0 ∙ c.requires) summed.given in
-    let is = listed c.in_ok-head.head (settings_of_order order) files c.in-Ok.paths c.in-Ok-lettered_list.list
-    c.deref.result.now c.in-Ok-sums_of.sums summed.contents c.in_ok-head.ensures
-    (stream_paths order (paths_of files) c.in-Ok.ensures.accepted) c.in-Ok.ensures.indexed c.in-Ok.ensures.same
-    c.deref.ensures.value c.in-Ok-lettered_list.ensures.list
-    c.in-Ok-lettered_list.ensures.letters (files_lawful c.in-Ok-lettered_list.list (rw (← c.list.view_is)
-    c.list.invariant)) many summed.sums_up in
-    is.judged
-
-pub torrent_of_sums-requires-clause-trees : goal.torrent_of_sums-requires-clause-trees
-torrent_of_sums-requires-clause-trees g c =
-    let order = c.args.order.now in
-    let files = c.args.files.now in
-    let readers = c.args.readers in
-    let summed = c.in-Ok-sums_of.ensures.summed in
-    let many = known_long GivesWhole (map g.R.Read.remaining readers.items) summed.contents (length files)
-    (length-map readers.items g.R.Read.remaining ∙ sym readers.ok.0 ∙ c.requires) summed.given in
-    let is = listed c.in_ok-head.head (settings_of_order order) files c.in-Ok.paths c.in-Ok-lettered_list.list
-    c.deref.result.now c.in-Ok-sums_of.sums summed.contents c.in_ok-head.ensures
-    (stream_paths order (paths_of files) c.in-Ok.ensures.accepted) c.in-Ok.ensures.indexed c.in-Ok.ensures.same
-    c.deref.ensures.value c.in-Ok-lettered_list.ensures.list
-    c.in-Ok-lettered_list.ensures.letters (files_lawful c.in-Ok-lettered_list.list (rw (← c.list.view_is)
-    c.list.invariant)) many summed.sums_up in
-    have_trees c.in_ok-head.head c.in-Ok-lettered_list.list.files summed.contents c.in-Ok-sums_of.sums is.fit is.up
-
-pub returns-clause-made : goal.returns-clause-made
-returns-clause-made g c = λ contents known.
-    let order = c.args.order.now in
-    let files = c.args.files.now in
-    let readers = c.args.readers in
-    let list = c.in-Ok-lettered_list.list in
+    let of_head = c.in_ok-head.ensures in
     let many : length contents ≡ length files = sym (length-map contents (λ content. Some content))
     ∙ ap length (sym known) ∙ length-map readers.items g.R.Read.remaining ∙ sym readers.ok.0 ∙ c.requires in
-    let is = listed c.in_ok-head.head (settings_of_order order) files c.in-Ok.paths list
-    c.deref.result.now c.in-Ok-sums_of.sums contents c.in_ok-head.ensures
-    (stream_paths order (paths_of files) c.in-Ok.ensures.accepted) c.in-Ok.ensures.indexed c.in-Ok.ensures.same
-    c.deref.ensures.value c.in-Ok-lettered_list.ensures.list
-    c.in-Ok-lettered_list.ensures.letters (files_lawful c.in-Ok-lettered_list.list (rw (← c.list.view_is)
-    c.list.invariant)) many (c.in-Ok-sums_of.ensures.told contents known) in
-    c.in_ok-bytes.ensures.made contents is.fit is.up
-    ∙ ap (λ settings. metainfo settings (files_of list contents)) c.in_ok-head.ensures
-    ∙ ap (metainfo (settings_of_order order)) is.files
+    c.in-Ok-torrent_of_read.ensures.made contents many
+    (subst (λ (s : Settings). AreSumsOfSettings s contents c.in-Ok-sums_of.sums) (sym of_head)
+    (c.in-Ok-sums_of.ensures.told contents known))
+    ∙ ap (λ settings. metainfo settings (files_with files contents)) of_head
 
-pub returns-clause-whole : goal.returns-clause-whole
-returns-clause-whole g c =
-    let order = c.args.order.now in
+-- the bytes, of what was read
+pub returns-in-Ok-torrent_of_read-clause-whole : goal.returns-in-Ok-torrent_of_read-clause-whole
+returns-in-Ok-torrent_of_read-clause-whole g c =
+    let settings = settings_of_order c.args.order.now in
     let files = c.args.files.now in
     let readers = c.args.readers in
+    let of_head = c.in_ok-head.ensures in
+    let sums = c.in-Ok-sums_of.sums in
     let summed = c.in-Ok-sums_of.ensures.summed in
     let many = known_long GivesWhole (map g.R.Read.remaining readers.items) summed.contents (length files)
-    (length-map readers.items g.R.Read.remaining ∙ sym readers.ok.0 ∙ c.requires) summed.given in
-    let is = listed c.in_ok-head.head (settings_of_order order) files c.in-Ok.paths c.in-Ok-lettered_list.list
-    c.deref.result.now c.in-Ok-sums_of.sums summed.contents c.in_ok-head.ensures
-    (stream_paths order (paths_of files) c.in-Ok.ensures.accepted) c.in-Ok.ensures.indexed c.in-Ok.ensures.same
-    c.deref.ensures.value c.in-Ok-lettered_list.ensures.list
-    c.in-Ok-lettered_list.ensures.letters (files_lawful c.in-Ok-lettered_list.list (rw (← c.list.view_is)
-    c.list.invariant)) many summed.sums_up in
-    let list = c.in-Ok-lettered_list.list in (
+    (length-map readers.items g.R.Read.remaining ∙ sym readers.ok.0 ∙ c.requires) summed.given in (
       summed.contents,
       summed.given,
-      ap lengths_fault (sym (c.deref.ensures.value
-          ∙ lengths_read (settings_of_order order) summed.contents c.in-Ok-sums_of.sums summed.sums_up))
-          ∙ c.in-Ok-lettered_list.ensures.accepted,
-      c.in_ok-bytes.ensures.made summed.contents is.fit is.up
-          ∙ ap (λ settings. metainfo settings (files_of list summed.contents)) c.in_ok-head.ensures
-          ∙ ap (metainfo (settings_of_order order)) is.files,
+      ap lengths_fault (sym (lengths_read settings summed.contents sums summed.sums_up))
+          ∙ c.in-Ok-torrent_of_read.ensures.accepted,
+      c.in-Ok-torrent_of_read.ensures.made summed.contents many
+          (subst (λ (s : Settings). AreSumsOfSettings s summed.contents sums) (sym of_head) summed.sums_up)
+          ∙ ap (λ settings. metainfo settings (files_with files summed.contents)) of_head,
     )
 
-pub returns-clause-some : goal.returns-clause-some
-returns-clause-some g c =
+pub returns-in-Ok-torrent_of_read-clause-some : goal.returns-in-Ok-torrent_of_read-clause-some
+returns-in-Ok-torrent_of_read-clause-some g c =
     let order = c.args.order.now in
     let files = c.args.files.now in
     let readers = c.args.readers in
+    let of_head = c.in_ok-head.ensures in
     let summed = c.in-Ok-sums_of.ensures.summed in
     let many = known_long GivesWhole (map g.R.Read.remaining readers.items) summed.contents (length files)
     (length-map readers.items g.R.Read.remaining ∙ sym readers.ok.0 ∙ c.requires) summed.given in
-    let is = listed c.in_ok-head.head (settings_of_order order) files c.in-Ok.paths c.in-Ok-lettered_list.list
-    c.deref.result.now c.in-Ok-sums_of.sums summed.contents c.in_ok-head.ensures
-    (stream_paths order (paths_of files) c.in-Ok.ensures.accepted) c.in-Ok.ensures.indexed c.in-Ok.ensures.same
-    c.deref.ensures.value c.in-Ok-lettered_list.ensures.list
-    c.in-Ok-lettered_list.ensures.letters (files_lawful c.in-Ok-lettered_list.list (rw (← c.list.view_is)
-    c.list.invariant)) many summed.sums_up in
-    let list = c.in-Ok-lettered_list.list in
-    made_in_order (settings_of_order order) files summed.contents c.in_ok-bytes.bytes.items many
+    made_in_order (settings_of_order order) files summed.contents c.in-Ok-torrent_of_read.bytes.items many
     (sorted_from_rising (paths_of files) (stream_rising order (paths_of files) c.in-Ok.ensures.accepted))
-    (c.in_ok-bytes.ensures.made summed.contents is.fit is.up
-    ∙ ap (λ settings. metainfo settings (files_of list summed.contents)) c.in_ok-head.ensures
-    ∙ ap (metainfo (settings_of_order order)) is.files)
+    (c.in-Ok-torrent_of_read.ensures.made summed.contents many
+    (subst (λ (s : Settings). AreSumsOfSettings s summed.contents c.in-Ok-sums_of.sums) (sym of_head) summed.sums_up)
+    ∙ ap (λ settings. metainfo settings (files_with files summed.contents)) of_head)
+
+pub returns-clause-gave : goal.returns-clause-gave
+returns-clause-gave g c =
+    let known = map g.R.Read.remaining c.args.readers.items in
+    let sums = c.in-Ok-sums_of.sums in
+    let summed = c.in-Ok-sums_of.ensures.summed in
+    subst (IsGivenByReaders known) (sym c.from-in-Err-torrent_of_read.ensures)
+    (given_large Error known summed.contents sums.lengths.items c.in-Err-torrent_of_read.refusal summed.given
+    (lengths_read (settings_of_order c.args.order.now) summed.contents sums summed.sums_up)
+    c.in-Err-torrent_of_read.ensures.refused)
