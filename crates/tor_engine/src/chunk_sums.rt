@@ -30,7 +30,8 @@ pub(crate) fn sum_chunk(
         return Err(AllocError);
     }
     let mut hasher = ContentHasher::new(alloc, kind, piece_length);
-    hasher.feed(bytes)?;
+    hasher.feed_pieces(bytes)?;
     hasher.feed_zeros(chunk.zeros)?;
-    Ok(UnitSums::new(alloc, chunk.unit, hasher.finish(alloc), None))
+    let hashed = hasher.finish_tree(alloc, bytes)?;
+    Ok(UnitSums::new(alloc, chunk.unit, hashed, None))
 }

@@ -1,5 +1,5 @@
 //! What a content hashes to, while its bytes come.
-ghost use Rattle.std.specs.Prelude.{◌≡◌, ◌+◌, ◌<◌, ◌^◌, ◌≤◌, ◌++◌, [], ℕ, List, None, IfOk, IsOk, OnErr, OnOk, length};
+ghost use Rattle.std.specs.Prelude.{◌≡◌, ◌+◌, ◌<◌, ◌^◌, ◌≤◌, ◌++◌, [], ℕ, List, None, IfOk, IsOk, IsSomeAnd, OnErr, OnOk, length};
 ghost use Rattle.std.specs.Prelude.{if◌then◌else◌};
 ghost use Rattle.std.specs.Int.{div_ceil};
 ghost use Rattle.std.specs.Option.{ForSome};
@@ -198,10 +198,25 @@ impl ContentHasher {
             .kind()
             .has_v1()
             .then(|| PieceSums::new(alloc, plan.piece_length()));
-        match mem::replace(&mut self.pieces, next) {
-            Some(ended) => ended.finish(),
-            None => Vec::new(alloc),
-        }
+        sums_of(alloc, mem::replace(&mut self.pieces, next))
+    }
+
+    /// Ends the content after the last bytes of files, which the pieces have.
+    pub(crate) fn finish_tree(self, alloc: Global, last: &[u8]) -> Result<Hashed, AllocError>
+        requires { ForSome (tree_of self) (λ feed. length feed.bytes + length last.now ≤ MAX_LENGTH) }
+        ensures { (kind : Kind) (piece_length : ℕ) (before joined : List ℕ) →
+            HasFedContent kind piece_length before joined self →
+            IfOk result (AreHashesOf kind piece_length (before ++ last.now) joined) }
+    {
+        let ContentHasher { tree, pieces } = self;
+        let tree = match tree {
+            Some(feed) => Some(feed.end_with(last)?),
+            None => None,
+        };
+        Ok(Hashed {
+            tree,
+            pieces: sums_of(alloc, pieces),
+        })
     }
 
     /// Ends the content. It takes no memory.
@@ -210,15 +225,26 @@ impl ContentHasher {
             HasFedContent kind piece_length bytes joined self → AreHashesOf kind piece_length bytes joined result }
     {
         let ContentHasher { tree, pieces } = self;
-        let pieces = match pieces {
-            Some(sums) => sums.finish(),
-            None => Vec::new(alloc),
-        };
         let tree = match tree {
             Some(feed) => Some(feed.end()),
             None => None,
         };
-        Hashed { tree, pieces }
+        Hashed {
+            tree,
+            pieces: sums_of(alloc, pieces),
+        }
+    }
+}
+
+/// The joined sums of the pieces, where there are any.
+fn sums_of(alloc: Global, pieces: Option<PieceSums>) -> Vec<u8>
+    ensures sums { (piece_length : ℕ) (bytes : List ℕ) →
+        IsSomeAnd pieces (λ pieces. HasFed pieces piece_length bytes) → result.items ≡ piece_sums piece_length bytes }
+    ensures none { pieces ≡ None → result.items ≡ [] }
+{
+    match pieces {
+        Some(sums) => sums.finish(),
+        None => Vec::new(alloc),
     }
 }
 

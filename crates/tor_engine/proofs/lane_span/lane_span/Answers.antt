@@ -1,7 +1,6 @@
 -- eight pieces are a span, and of fewer bytes than more pieces
-use Rattle.std.proofs.Common.{◌*◌, ◌<◌, ◌≤◌, ℕ, arith, le_trans, mul-le-mul_right, refl}
+use Rattle.std.proofs.Common.{◌<◌, ℕ, arith, le_trans, mul-le-mul_right, refl}
 use Rattle.tor_engine.specs.Streams.{IsStreamCut}
-use Rattle.tor_engine.specs.declared.streams.TheConstants.{MAX_UNIT_LENGTH}
 use Rattle.tor_engine.proofs.lane_span.lane_span.Goals as goal
 use Rattle.tor_tree.specs.declared.kinds.Kind.{Kind}
 use lib.Count.{ones}
