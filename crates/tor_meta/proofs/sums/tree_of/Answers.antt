@@ -9,5 +9,5 @@ no_layer piece_length = rw (le-leb 0 piece_length (omega arith)) refl
 
 pub returns-in-None-clause-layer : goal.returns-in-None-clause-layer
 returns-in-None-clause-layer c =
-    c.new.ensures.items ∙ sym (no_layer c.args.feed.piece_length)
-    ∙ ap (λ bytes. piece_layer bytes c.args.feed.piece_length) (sym (c.in-None.ensures.empty.0 refl))
+    c.new.ensures.items ∙ sym (no_layer c.args.tree.piece_length)
+    ∙ ap (λ bytes. piece_layer bytes c.args.tree.piece_length) (sym (c.in-None.ensures.empty.0 refl))
