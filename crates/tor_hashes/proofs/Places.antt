@@ -35,10 +35,10 @@ pub one_place_more : (i k : ℕ) (blocks xs ys message : List ℕ) → i < 8 →
 one_place_more i k blocks xs ys message few long own before is begins j lt =
     let within : 16448 * i ≤ length xs = omega arith in
     elim (cases_lt j i) [
-      inl less ↦
+      | inl less ↦
           subst (λ (place : List ℕ). BeginsPadded (take 16384 (drop (16384 * j) blocks)) place)
           (sym (place_before (16448 * i) k xs ys within (16448 * j) (omega (arith, less)))) (before j less)
-    | inr more ↦
+      | inr more ↦
           let same : j ≡ i = omega (arith, more, lt) in
           rw same (rw (own_place (16448 * i) k xs ys within own, ← is) begins)
     ]

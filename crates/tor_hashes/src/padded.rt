@@ -8,6 +8,7 @@ use crate::blocks::BLOCK_LENGTH;
 
 // The place of a message and its padding has so many bytes.
 pub(crate) const PLACE: usize = BLOCK_LENGTH + 64;
+
 pub(crate) const PLACES: usize = 8 * PLACE;
 
 // How many bytes a message of `count` bytes has with its padding.

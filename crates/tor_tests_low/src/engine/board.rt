@@ -5,7 +5,9 @@ ghost use Rattle.tor_board.specs.Seats.{IsSeatOf, forest_of, knows, unit_count};
 
 use crate::engine::faults::{FaultAt, failing};
 use crate::engine::shared::{comes_to, is_fault, plan_of};
-use crate::engine::workers::{ALONE, Alone, FEW, Gathering, MANY, Meeting, Row, meet, reads_that_meet};
+use crate::engine::workers::{
+    ALONE, Alone, FEW, Gathering, MANY, Meeting, Row, meet, reads_that_meet,
+};
 use std::process::Abort;
 use std::sync::atomic::AtomicU64;
 use std::sync::atomic::Ordering::SeqCst;

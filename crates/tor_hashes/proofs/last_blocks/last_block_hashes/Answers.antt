@@ -24,14 +24,14 @@ returns-clause-hashes c i lt =
     let rest = length-drop (16384 * i) b in
     let long = length-take 16384 (drop (16384 * i) b) in
     elim (cases_lt i last) [
-      inl less ↦
+      | inl less ↦
           let full : length m ≡ 16384 = omega (arith, long, rest, counted, less) in
           get_or-set_other c.digests-hashes.result last i _ [] (λ same. omega (arith, less, same))
           ∙ c.digests-hashes.ensures i few
           ∙ ap (λ (h : List ℕ). digest_bytes h 8)
           (c.next_blocks-late.ensures i few
           ∙ sym (final_of_place initial_hash_256 d m 257 begins (padded_count m 16384 full ∙ refl)))
-    | inr more ↦
+      | inr more ↦
           let same : i ≡ last = omega (arith, counted, more, lt) in
           let short : length m ≡ length b - 16384 * last = omega (arith, long, rest, counted, same, c.requires) in
           let padded = padded_count m (length b - 16384 * last) short in

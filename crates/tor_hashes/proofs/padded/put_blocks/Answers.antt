@@ -10,8 +10,7 @@ blocks-2-preserved c =
     let i = c.blocks-2.i in
     let rest = c.blocks-2.invariant.1 in
     let own : c.split_at.result.0.now ≡ take 16384 (drop (16384 * i) b) =
-    c.split_at.ensures.front ∙ take_least 16384 c.min.result c.blocks-2.rest.now c.min.ensures ∙ ap (take 16384) rest in
-    (
+    c.split_at.ensures.front ∙ take_least 16384 c.min.result c.blocks-2.rest.now c.min.ensures ∙ ap (take 16384) rest in (
       search (rules, overwrites),
       c.split_at.ensures.back ∙ drop_least 16384 c.min.result c.blocks-2.rest.now c.min.ensures ∙ ap (drop 16384) rest
           ∙ drop-drop 16384 (16384 * i) b ∙ ap (λ n. drop n b) (omega arith),
