@@ -25,14 +25,16 @@ abbrev taken_in : List Part → ℕ
 taken_in parts = sum_by (λ part. part.length + part.zeros) parts
 
 -- how many bytes of files were taken, and one part more
-pub begun_more : (parts : List Part) (i : ℕ) (d : Part) (old new : ℕ) → i < length parts
-    → old ≤ taken_in (take i parts) → new ≡ old + (get_or parts i d).length → new ≤ taken_in (take (i + 1) parts)
-begun_more parts i d old new there before more =
+pub begun_more : (parts : List Part) (i : ℕ) (d : Part) (old mid new : ℕ) → i < length parts
+    → old ≤ taken_in (take i parts) → mid ≡ old → new ≡ mid + (get_or parts i d).length
+    → new ≤ taken_in (take (i + 1) parts)
+begun_more parts i d old mid new there before same more =
     let size = λ (part : Part). part.length + part.zeros in
     let part = get_or parts i d in
     omega (
       arith,
       before,
+      same,
       more,
       ap taken_in (take_more parts i d there),
       sum_by-append size (take i parts) (part ∷ []),
@@ -40,24 +42,30 @@ begun_more parts i d old new there before more =
     )
 
 module _ {F : Type 0} (is_steady : SourceFacts F → Type 0) (plan : PlanFacts) where
-  pub parts_none : (before : List ℕ) (sums : WorkerSums) → HasTaken plan.kind plan.piece_length [] before sums
-      → ReadsParts is_steady plan before [] sums
-  parts_none before sums given = record {
+  pub parts_none : (before : List ℕ) (left : ℕ) (sums : WorkerSums)
+      → HasTaken plan.kind plan.piece_length [] before sums
+      → ReadsParts is_steady plan (before ++ zeros left) [] left sums
+  parts_none before left sums given = record {
     reads = [];
     are = reads_none is_steady plan;
     bytes = [];
     joined = [];
     long = refl;
     same = λ contents have. (refl, refl);
-    taken = fed_as _ _ sums [] [] before (before ++ []) refl (sym (append-nil before)) given;
+    front = before;
+    all = sym (append-nil (before ++ zeros left));
+    taken = given;
   }
 
-  -- one part more
-  pub parts_more : (parts : List Part) (i : ℕ) (d : Part) (before : List ℕ) (sums new : WorkerSums) → i < length parts
-      → ReadsParts is_steady plan before (take i parts) sums
-      → AddsPart is_steady plan (get_or parts i d) sums new
-      → ReadsParts is_steady plan before (take (i + 1) parts) new
-  parts_more parts i d before sums new there old added =
+  -- the zeros that come next, and one part more
+  pub parts_more : (parts : List Part) (i : ℕ) (d : Part) (before : List ℕ) (left : ℕ) (sums mid new : WorkerSums)
+      → i < length parts
+      → ReadsParts is_steady plan before (take i parts) left sums
+      → ((bytes joined : List ℕ) → HasTaken plan.kind plan.piece_length bytes joined sums
+      → HasTaken plan.kind plan.piece_length bytes (joined ++ zeros left) mid)
+      → AddsPart is_steady plan (get_or parts i d) mid new
+      → ReadsParts is_steady plan before (take (i + 1) parts) (get_or parts i d).zeros new
+  parts_more parts i d before left sums mid new there old zeroed added =
       let part = get_or parts i d in
       let size = λ (part : Part). part.length + part.zeros in
       let last = (part, added.bytes) ∷ [] in
@@ -87,19 +95,23 @@ module _ {F : Type 0} (is_steady : SourceFacts F → Type 0) (plan : PlanFacts) 
               sym (one_more (part_content contents) [] parts i d there)
                   ∙ ap₂ (λ xs ys. xs ++ (ys ++ zeros part.zeros)) front.1 own,
             );
-        taken = fed_as _ _ new _ _ _ _ refl (append_assoc before old.joined more)
-            (added.taken old.bytes (before ++ old.joined) old.taken);
+        front = (before ++ old.joined) ++ added.bytes;
+        all = append_assoc (before ++ old.joined) added.bytes (zeros part.zeros)
+            ∙ append_assoc before old.joined more;
+        taken = added.taken old.bytes (before ++ old.joined)
+            (fed_as _ _ mid _ _ _ _ refl old.all (zeroed old.bytes old.front old.taken));
       }
 
   -- and the whole unit
-  pub unit_read : (unit : PlanUnit) (before : List ℕ) (sums : WorkerSums)
-      → ReadsParts is_steady plan (before ++ zeros unit.zeros) unit.parts sums
+  pub unit_read : (unit : PlanUnit) (before : List ℕ) (left : ℕ) (sums : WorkerSums)
+      → ReadsParts is_steady plan (before ++ zeros unit.zeros) unit.parts left sums
       → (new : WorkerSums) (tree : Option Feeding)
       → ((bytes joined : List ℕ) → HasTaken plan.kind plan.piece_length bytes joined sums
       → IsTreeOf plan.kind plan.piece_length bytes tree)
-      → ((bytes joined : List ℕ) → HasTaken plan.kind plan.piece_length bytes joined sums → IsFresh plan joined new)
+      → ((bytes joined : List ℕ) → HasTaken plan.kind plan.piece_length bytes joined sums
+      → IsFresh plan (joined ++ zeros left) new)
       → ReadsUnit is_steady plan unit before new tree
-  unit_read unit before sums read new tree is_tree next =
+  unit_read unit before left sums read new tree is_tree next =
       let long = length-append (zeros unit.zeros) read.joined in
       let nils = length_of_zeros unit.zeros in
       record {
@@ -112,5 +124,5 @@ module _ {F : Type 0} (is_steady : SourceFacts F → Type 0) (plan : PlanFacts) 
         long = omega (arith, long, nils, read.long);
         same = λ contents have. ap (λ xs. zeros unit.zeros ++ xs) (read.same contents have).1;
         fresh = subst (λ (joined : List ℕ). IsFresh plan joined new)
-            (append_assoc before (zeros unit.zeros) read.joined) (next read.bytes _ read.taken);
+            (read.all ∙ append_assoc before (zeros unit.zeros) read.joined) (next read.bytes read.front read.taken);
       }

@@ -14,7 +14,7 @@ use crate::file_bytes::FileBytes;
 use crate::worker::WorkerSums;
 use tor_plan::Part;
 
-/// Reads a part, as many bytes at once as the sums ask for, and takes it with the zeros after it.
+/// Reads the bytes of a part, as many at once as the sums ask for, and takes them.
 pub(crate) fn read_part<S: FileBytes>(
     source: &S,
     part: &Part,
@@ -36,6 +36,5 @@ pub(crate) fn read_part<S: FileBytes>(
             Err(error) => return Err(error),
         }
     }
-    sums.feed_zeros(part.zeros)?;
     Ok(())
 }

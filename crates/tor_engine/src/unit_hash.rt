@@ -37,15 +37,19 @@ pub(crate) fn read_unit<S: FileBytes>(
     ensures gave { (lengths : List ℕ) → All (IsInFile lengths) unit.now.parts →
         IfErr result (IsGivenRead (S.gave source.now) (S.ended source.now) lengths) }
 {
-    sums.feed_zeros(unit.zeros)?;
+    let mut zeros = unit.zeros;
     let parts = unit.parts.as_slice();
     'each: for part in parts {
+        sums.feed_zeros(zeros)?;
         match read_part(source, part, sums) {
             Ok(()) => {}
             Err(error) => return Err(error),
         }
+        zeros = part.zeros;
     }
+    // The tree ends with the last bytes: it has none of the zeros after them.
     let tree = sums.end_tree(alloc, plan)?;
+    sums.feed_zeros(zeros)?;
     Ok(tree)
 }
 

@@ -3,7 +3,7 @@ ghost use Rattle.std.specs.Prelude.{◌≡◌, ◌+◌, ◌*◌, ◌-◌, ◌<�
 ghost use Rattle.std.specs.Prelude.{length, max, slice_index_or, if◌then◌else◌};
 ghost use Rattle.std.specs.Option.{ForSome};
 ghost use Rattle.tor_merkle.specs.declared.TheConstants.{MAX_LENGTH};
-ghost use Rattle.tor_plan.specs.PlanFacts.{IsPlan};
+ghost use Rattle.tor_plan.specs.PlanFacts.{IsPlan, PlanFacts};
 ghost use Rattle.tor_source.specs.Source.{SourceFacts, bytes_from};
 ghost use Rattle.tor_tree.specs.Kinds.{has_v1};
 ghost use Rattle.tor_v1.specs.Piece.{piece_sums, zeros};
@@ -93,6 +93,7 @@ impl WorkerSums {
             HasTaken kind piece_length bytes unit self.old →
             OnOk result (HasTaken kind piece_length bytes (unit ++ zeros count) self.new) }
         ensures begun { begun_of self.new ≡ begun_of self.old }
+        ensures treed { (plan : PlanFacts) → IsTreed plan self.old → OnOk result (IsTreed plan self.new) }
     {
         if count == 0 {
             return Ok(());
@@ -184,6 +185,7 @@ impl WorkerSums {
             IfOk result (λ count. HasTaken kind piece_length bytes (unit ++ zeros count) self.new) }
         ensures begun { begun_of self.new ≡ begun_of self.old }
         ensures treed { OnOk result (treed_of self.new ≡ count_in (room_of self.new)) }
+        ensures tree { OnOk result (tree_of (hasher_of self.new) ≡ tree_of (hasher_of self.old)) }
     {
         self.make_room(left)?;
         let count = self.room.put_zeros(left);
@@ -198,6 +200,8 @@ impl WorkerSums {
         ensures room { OnOk result (HasRoom left (room_of self.new)) }
         ensures treed { treed_of self.old ≡ count_in (room_of self.old) →
             OnOk result (treed_of self.new ≡ count_in (room_of self.new)) }
+        ensures tree { treed_of self.old ≡ count_in (room_of self.old) →
+            OnOk result (tree_of (hasher_of self.new) ≡ tree_of (hasher_of self.old)) }
     {
         if self.room.is_full(left) {
             let count = self.room.batch();

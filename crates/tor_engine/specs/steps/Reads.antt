@@ -34,7 +34,7 @@ pub record TakesPart {F : Type 0} (is_steady : SourceFacts F → Type 0) (part :
   pub taken : (kind : Kind) (piece_length : ℕ) (before unit : List ℕ) → HasTaken kind piece_length before unit old
       → HasTaken kind piece_length (before ++ bytes) (unit ++ bytes) new
 
--- a part was read and fed, with the zeros after it
+-- the bytes of a part were read and taken
 pub record AddsPart {F : Type 0} (is_steady : SourceFacts F → Type 0) (plan : PlanFacts) (part : Part)
     (old new : WorkerSums) : Type 0 where
   pub bytes : List ℕ
@@ -43,7 +43,7 @@ pub record AddsPart {F : Type 0} (is_steady : SourceFacts F → Type 0) (plan : 
       → bytes_of_part (contents_in facts (length plan.lengths)) part ≡ bytes
   pub begun : begun_of new ≡ begun_of old + part.length
   pub taken : (before unit : List ℕ) → HasTaken plan.kind plan.piece_length before unit old
-      → HasTaken plan.kind plan.piece_length (before ++ bytes) (unit ++ (bytes ++ zeros part.zeros)) new
+      → HasTaken plan.kind plan.piece_length (before ++ bytes) (unit ++ bytes) new
 
 -- a part, and the bytes that were read of it
 abbrev pub PartRead : Type 0
@@ -61,9 +61,9 @@ pub record AreReads {F : Type 0} (is_steady : SourceFacts F → Type 0) (plan : 
   pub steady : (facts : SourceFacts F) → is_steady facts → HasParts facts parts
       → HaveRead (contents_in facts (length plan.lengths)) reads
 
--- the parts of a unit were read so far, after these bytes
+-- the parts of a unit were read so far, after these bytes, and so many zeros that come next were not taken yet
 pub record ReadsParts {F : Type 0} (is_steady : SourceFacts F → Type 0) (plan : PlanFacts) (before : List ℕ)
-    (parts : List Part) (sums : WorkerSums) : Type 0 where
+    (parts : List Part) (left : ℕ) (sums : WorkerSums) : Type 0 where
   pub reads : List PartRead
   pub are : AreReads is_steady plan parts reads
   pub bytes : List ℕ
@@ -71,4 +71,6 @@ pub record ReadsParts {F : Type 0} (is_steady : SourceFacts F → Type 0) (plan 
   pub long : length joined ≡ sum_by (λ part. part.length + part.zeros) parts
   pub same : (contents : List (List ℕ)) → HaveRead contents reads
       → (flat_map (bytes_of_part contents) parts ≡ bytes) × (flat_map (part_content contents) parts ≡ joined)
-  pub taken : HasTaken plan.kind plan.piece_length bytes (before ++ joined) sums
+  pub front : List ℕ
+  pub all : front ++ zeros left ≡ before ++ joined
+  pub taken : HasTaken plan.kind plan.piece_length bytes front sums

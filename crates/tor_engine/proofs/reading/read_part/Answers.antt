@@ -1,10 +1,9 @@
--- the bytes that come next, and the zeros after them
-use Rattle.std.proofs.Common.{◌≡◌, ℕ, ◌++◌, append_assoc, inl, inr, refl, subst, sym, ◌∙◌, arith}
-use Rattle.tor_v1.specs.Piece.{zeros}
+-- the bytes that come next
+use Rattle.std.proofs.Common.{◌≡◌, ℕ, inl, inr, subst, sym, ◌∙◌, arith}
 use Rattle.tor_engine.specs.Fault.{byte_fault}
 use Rattle.tor_engine.specs.steps.Reads.{TakesPart}
 use Rattle.tor_engine.proofs.FirstOf.{first_of_none}
-use Rattle.tor_engine.proofs.PartBytes.{fed_as, no_fault, read_fault, some_left}
+use Rattle.tor_engine.proofs.PartBytes.{no_fault, read_fault, some_left}
 use Rattle.tor_engine.proofs.PartReads.{takes_more, takes_none}
 use Rattle.tor_engine.proofs.Parts.{part_bytes}
 use Rattle.tor_engine.proofs.reading.read_part.Goals as goal
@@ -51,20 +50,14 @@ returns-in-Err-clause-fault g c = λ facts steady long.
 pub returns-clause-added : goal.returns-clause-added
 returns-clause-added g c = λ plan is.
     let part = c.args.part.now in
-    let p = plan.piece_length in
     let is_steady = g.S.FileBytes.is_steady c.args.source.now in
     let all : c.reads.done ≡ part.length = omega (arith, c.reads.invariant.within, c.reads-test.false) in
     let read = subst (λ (n : ℕ). TakesPart is_steady part n c.args.sums.now c.reads.sums) all
     c.reads.invariant.taken in
-    let bytes = read.bytes in
     record {
-      bytes = bytes;
+      bytes = read.bytes;
       counted = read.counted;
       steady = λ facts steady have. sym (read.steady facts steady have ∙ part_bytes facts plan part is);
-      begun = omega (arith, all, c.in_ok-feed_zeros.ensures.begun, c.reads.invariant.begun);
-      taken = λ before unit given.
-          fed_as plan.kind p _ (before ++ bytes) _ ((unit ++ bytes) ++ zeros part.zeros) _ refl
-          (append_assoc unit bytes (zeros part.zeros))
-          (c.in_ok-feed_zeros.ensures.taken plan.kind p (before ++ bytes) (unit ++ bytes)
-          (read.taken plan.kind p before unit given));
+      begun = omega (arith, all, c.reads.invariant.begun);
+      taken = read.taken plan.kind plan.piece_length;
     }

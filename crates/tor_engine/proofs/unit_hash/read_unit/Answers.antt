@@ -14,10 +14,10 @@ use Rattle.tor_engine.proofs.unit_hash.read_unit.Goals as goal
 
 pub each-init : goal.each-init
 each-init g c = record {
-  begun = omega (arith, c.feed_zeros.ensures.begun, c.requires.fresh.1.begun);
+  begun = omega (arith, c.requires.fresh.1.begun);
   read = λ before fresh.
-      parts_none (g.S.FileBytes.is_steady c.args.source.now) c.args.plan.now (before ++ zeros c.args.unit.now.zeros)
-      c.feed_zeros.new.self (c.in_ok-feed_zeros.ensures.taken _ _ [] before fresh.taken);
+      parts_none (g.S.FileBytes.is_steady c.args.source.now) c.args.plan.now before c.args.unit.now.zeros
+      c.args.sums.now fresh.taken;
   faultless = λ facts steady have. first_of_none (part_fault facts);
 }
 
@@ -42,10 +42,12 @@ each-preserved g c =
     c.requires.unit.parts in
     let added = c.in-Ok.ensures.added plan (is i _ c.each-test.true) in
     record {
-      begun = begun_more parts i _ c.each.sums.begun _ c.each-test.true old.begun added.begun;
+      begun = begun_more parts i _ c.each.sums.begun _ _ c.each-test.true old.begun c.in_ok-feed_zeros.ensures.begun
+          added.begun;
       read = λ before fresh.
           parts_more (g.S.FileBytes.is_steady c.args.source.now) plan parts i _ (before ++ zeros c.args.unit.now.zeros)
-          c.each.sums c.read_part.new.sums c.each-test.true (old.read before fresh) added;
+          c.each.zeros c.each.sums c.feed_zeros.new.self c.read_part.new.sums c.each-test.true (old.read before fresh)
+          (c.in_ok-feed_zeros.ensures.taken plan.kind plan.piece_length) added;
       faultless = λ facts steady have.
           first_next (part_fault facts) parts i _ c.each-test.true (old.faultless facts steady have)
           (c.in-Ok.ensures.fault facts steady
@@ -58,8 +60,15 @@ returns-clause-read g c = λ before fresh.
     let unit = c.args.unit.now in
     let parts = c.as_slice-parts.result.now in
     let read = subst (λ (ps : List Part).
-    ReadsParts (g.S.FileBytes.is_steady c.args.source.now) plan (before ++ zeros unit.zeros) ps c.each.sums)
+    ReadsParts (g.S.FileBytes.is_steady c.args.source.now) plan (before ++ zeros unit.zeros) ps c.each.zeros
+    c.each.sums)
     (take_all c.each.part-index parts c.each-test.false ∙ c.as_slice-parts.ensures)
     (c.each.invariant.read before fresh) in
-    unit_read (g.S.FileBytes.is_steady c.args.source.now) plan unit before c.each.sums read _ c.in_ok-tree.tree
-    (c.in_ok-tree.ensures.tree plan.kind plan.piece_length) c.in_ok-tree.ensures.next
+    unit_read (g.S.FileBytes.is_steady c.args.source.now) plan unit before c.each.zeros c.each.sums read _
+    c.in_ok-tree.tree (c.in_ok-tree.ensures.tree plan.kind plan.piece_length)
+    (λ bytes joined taken.
+    let fresh = c.in_ok-tree.ensures.next bytes joined taken in
+    record {
+      taken = c.in_ok-feed_zeros-2.ensures.taken plan.kind plan.piece_length [] joined fresh.taken;
+      begun = c.in_ok-feed_zeros-2.ensures.begun ∙ fresh.begun;
+    })

@@ -12,7 +12,7 @@ invariant-each g l = record {
   begun : l.sums.begun ≤ sum_by (λ part. part.length + part.zeros) (take l.part-index l.parts);
   read : (before : List ℕ) → IsFresh l.plan before l.fn.sums →
       ReadsParts (g.S.FileBytes.is_steady l.source) l.plan (before ++ zeros l.unit.zeros) (take l.part-index l.parts)
-      l.sums;
+      l.zeros l.sums;
   faultless : (facts : SourceFacts g.row.S-Fault.Denot) → g.S.FileBytes.is_steady l.source facts →
       HasParts facts l.unit.parts → first_of (part_fault facts) (take l.part-index l.parts) ≡ None;
 }

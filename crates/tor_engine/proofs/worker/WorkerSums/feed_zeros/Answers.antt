@@ -16,6 +16,7 @@ zeros-init c =
       within = omega arith;
       treed = omega (arith, c.in_ok-feed_tree.ensures.treed, c.held.ensures, room, c.args.self.now.marked);
       begun = refl;
+      tree = refl;
       taken = λ kind p bytes unit taken. takes_none kind p _ bytes unit _ (omega arith) taken;
     }
 
@@ -28,8 +29,20 @@ zeros-preserved c =
       within = omega (arith, old.within);
       treed = put.treed;
       begun = put.begun ∙ old.begun;
+      tree = put.tree ∙ old.tree;
       taken = λ kind p bytes unit taken.
           takes_more_zeros kind p _ bytes unit (c.args.count - c.zeros.left) width _
           (omega (arith, old.within, put.some.1))
           (put.taken kind p bytes (unit ++ zeros (c.args.count - c.zeros.left)) (old.taken kind p bytes unit taken));
+    }
+
+-- the next tree has no byte yet, as before
+pub returns-clause-treed : goal.returns-clause-treed
+returns-clause-treed c = λ plan treed.
+    let same = c.zeros.invariant.tree
+    ∙ c.in_ok-feed_tree.ensures.tree (omega (arith, treed.all, c.held.ensures)) in
+    record {
+      all = c.zeros.invariant.treed;
+      tree = same ∙ treed.tree;
+      begun = c.zeros.invariant.begun ∙ c.in_ok-feed_tree.ensures.begun ∙ treed.begun;
     }

@@ -2,6 +2,7 @@
 use Rattle.std.proofs.Common.{◌≡◌, ◌≤◌, ◌-◌, ◌++◌, ℕ, List}
 use Rattle.tor_tree.specs.declared.kinds.Kind.{Kind}
 use Rattle.tor_v1.specs.Piece.{zeros}
+use Rattle.tor_engine.specs.Hasher.{tree_of}
 use Rattle.tor_engine.specs.steps.Worker.{HasTaken}
 use Rattle.tor_engine.proofs.worker.WorkerSums.feed_zeros.Given as goal
 
@@ -10,6 +11,7 @@ invariant-zeros l = record {
   within : l.left ≤ l.count;
   treed : l.self.treed ≡ l.self.room.held;
   begun : l.self.begun ≡ l.initial.self.begun;
+  tree : tree_of l.self.hasher ≡ tree_of l.initial.self.hasher;
   taken : (kind : Kind) (p : ℕ) (bytes unit : List ℕ) → HasTaken kind p bytes unit l.initial.self
       → HasTaken kind p bytes (unit ++ zeros (l.count - l.left)) l.self;
 }
