@@ -416,6 +416,27 @@ def test_tail_over_8_mib(program, folder):
             expect(program, ['recheck', str(torrent), str(place)], done(reference.recheck_lines([True] * pieces)))
 
 
+def test_pieces_of_1_mib(program, folder):
+    """Eight of them are as much as a worker holds. Files of whole pieces and others, a piece a unit: as v1 each unit
+    has its sums at once, in a hybrid seven wait for the eighth."""
+    rng = random.Random(13)
+    mib = 1 << 20
+    place, torrent = folder / 'files', folder / 'torrent'
+    place.mkdir()
+    lengths = [mib, mib, mib - 1, mib, mib, 5, mib, mib, mib + 1, 3 * mib, 77, mib, mib]
+    files = [((b'%02d' % number,), rng.randbytes(length)) for number, length in enumerate(lengths)]
+    for (name,), content in files:
+        (place / name.decode()).write_bytes(content)
+    for kind in ['v1', 'hybrid']:
+        wanted = make(files, order(kind, False, mib))
+        words = ['make', '--name', 'f', '--kind', kind, '--piece-length', str(mib), '--span', '1']
+        for how, workers in [('one', 1), ('halves', 2), ('board', 1), ('board', 3), ('streams', 2)]:
+            expect(program, [*words, '--how', how, '--workers', str(workers), str(place)], done(wanted))
+        torrent.write_bytes(wanted)
+        marks = [True] * (sum(-(-length // mib) for length in lengths) if kind == 'hybrid' else -(-sum(lengths) // mib))
+        expect(program, ['recheck', str(torrent), str(place)], done(reference.recheck_lines(marks)))
+
+
 def test_64_workers(program, folder):
     """Of random bytes, in every way of several workers, by every span: the torrent is the same."""
     content = random.Random(6).randbytes((24 << 20) + 321)

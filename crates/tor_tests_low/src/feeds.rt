@@ -39,11 +39,30 @@ fn feed_agrees(alloc: Global, bytes: &[u8], piece_length: u64, part: usize, sums
     }
 }
 
+// Root and layer of bytes that end a feed of none.
+fn ended_of(alloc: Global, bytes: &[u8], piece_length: u64) -> Result<Sums, AllocError> {
+    if bytes.len() > 1 << 50 || !is_piece_length(piece_length) {
+        return Err(AllocError);
+    }
+    Ok(Feed::new(alloc, piece_length).end_with(bytes)?.finish())
+}
+
 // Whether a feed of these bytes tells what the plain program tells.
 fn agrees_over(alloc: Global, bytes: &[u8], piece_length: u64, part: usize) -> bool {
     match whole_of(alloc, bytes, piece_length) {
         Ok(sums) => feed_agrees(alloc, bytes, piece_length, part, &sums),
         Err(_) => false,
+    }
+}
+
+// Whether a feed that they end tells it too.
+fn ends_over(alloc: Global, bytes: &[u8], piece_length: u64) -> bool {
+    match (
+        whole_of(alloc, bytes, piece_length),
+        ended_of(alloc, bytes, piece_length),
+    ) {
+        (Ok(sums), Ok(others)) => are_same(&sums, &others),
+        _ => false,
     }
 }
 
@@ -85,16 +104,26 @@ fn are_of_a_hundred_blocks(alloc: Global) -> bool {
     }
 }
 
-// Eight whole blocks are hashed at once; they are fed at one time, and in parts of six blocks and some bytes.
-fn agrees_at_once_and_in_parts(alloc: Global, length: usize, piece_length: u64) -> bool {
-    agrees(alloc, length, piece_length, 1 << 20) && agrees(alloc, length, piece_length, 100_000)
+// Whether a feed of bytes does at one time, in parts of six blocks and some bytes, and where they end it.
+fn runs_over(alloc: Global, bytes: &[u8], piece_length: u64) -> bool {
+    agrees_over(alloc, bytes, piece_length, 1 << 20)
+        && agrees_over(alloc, bytes, piece_length, 100_000)
+        && ends_over(alloc, bytes, piece_length)
+}
+
+// Eight whole blocks are hashed at once.
+fn agrees_in_runs(alloc: Global, length: usize, piece_length: u64) -> bool {
+    match content(alloc, length) {
+        Ok(bytes) => runs_over(alloc, &bytes, piece_length),
+        Err(_) => false,
+    }
 }
 
 // What is to hold.
 enum Case {
     // A feed agrees: the length of the content, that of a piece, and that of the parts.
     Fed(usize, u64, usize),
-    // It does where the content is fed at one time, and in parts.
+    // It does where the content is fed at one time, in parts, and as an end.
     Run(usize, u64),
     Hundred,
 }
@@ -135,15 +164,15 @@ const CASES: &[Case] = &[
     Case::Run(278_527, 65_536),
     Case::Run(278_528, 16_384),
     Case::Run(278_529, 262_144),
+    // 1,038 pieces.
+    Case::Run(17_000_000, 16_384),
     Case::Hundred,
 ];
 
 fn holds(alloc: Global, case: &Case) -> bool {
     match case {
         Case::Fed(length, piece_length, part) => agrees(alloc, *length, *piece_length, *part),
-        Case::Run(length, piece_length) => {
-            agrees_at_once_and_in_parts(alloc, *length, *piece_length)
-        }
+        Case::Run(length, piece_length) => agrees_in_runs(alloc, *length, *piece_length),
         Case::Hundred => are_of_a_hundred_blocks(alloc),
     }
 }

@@ -1,4 +1,4 @@
-//! Scans and reads of real folders.
+//! Reads of real folders. What a scan finds there, and refuses, `tests/scenes/listing.txt` has.
 use crate::engine::memory::read;
 use crate::engine::readers::{are_opened_once, gives_each};
 use crate::engine::shared::path;
@@ -25,16 +25,8 @@ pub(crate) fn below(alloc: Global, folder: &str, name: &str) -> Result<String, A
 /// What is made in a new folder, and found there.
 #[derive(Clone, Copy)]
 enum Case {
-    /// Files and folders, one of them empty.
-    Order,
-    /// A file, and a link to it.
-    Link,
-    /// A file in so many folders, each in the one before.
-    Names(usize),
-    /// As many folders with no file.
-    Empty(usize),
-    /// 5,001 files, more than are read at once.
-    Many,
+    /// A file, which is no folder.
+    File,
     /// Regular files, and what is none, read at offsets.
     Reads,
     /// The same read once and in order.
@@ -45,11 +37,7 @@ enum Case {
 
 fn holds_in(rt: &HostRuntime, folder: &str, case: Case) -> io::Result<bool> {
     match case {
-        Case::Order => lists_in_order(rt, folder),
-        Case::Link => refuses_file_and_link(rt, folder, &below(rt.alloc(), folder, "b")?),
-        Case::Names(count) => takes_file_in(rt, folder, count),
-        Case::Empty(count) => is_nothing_in(rt, folder, count),
-        Case::Many => lists_many(rt, folder),
+        Case::File => refuses_file(rt, folder, &below(rt.alloc(), folder, "b")?),
         Case::Reads => reads_regular_files(rt, folder),
         Case::Readers => gives_each(rt, folder),
         Case::Opened => are_opened_once(rt, folder),
@@ -97,37 +85,6 @@ pub(crate) fn is_shown(alloc: Global, paths: &[FilePath], wanted: &[u8]) -> bool
     }
 }
 
-// Whether there are so many files where the system is told of their paths.
-fn is_counted(rt: &HostRuntime, folder: &str, paths: Vec<FilePath>, count: usize) -> bool {
-    match FolderSource::at(rt, folder, paths) {
-        Ok(source) => source.count() == count,
-        Err(_) => false,
-    }
-}
-
-// Whether a scan of a folder finds so many files, with these paths; and as many where it is told of them.
-fn has_files(rt: &HostRuntime, folder: &str, count: usize, wanted: &[u8]) -> bool {
-    match FolderSource::scan(rt, folder) {
-        Ok((source, paths)) => {
-            let is_found = source.count() == count && is_shown(rt.alloc(), &paths, wanted);
-            is_counted(rt, folder, paths, count) && is_found
-        }
-        Err(_) => false,
-    }
-}
-
-const NAMES: &[&str] = &["b", "a-b", "a/c", ".e"];
-
-fn lists_in_order(rt: &HostRuntime, folder: &str) -> io::Result<bool> {
-    add_folder(rt, folder, "a")?;
-    add_folder(rt, folder, "d")?;
-    for name in NAMES {
-        add_file(rt, folder, name)?;
-    }
-    let is_single = FolderSource::single(rt, folder)?.count() == 1;
-    Ok(is_single && has_files(rt, folder, 4, b"/.e /a/c /a-b /b "))
-}
-
 fn fault(rt: &HostRuntime, path: &str) -> Option<ScanFault> {
     FolderSource::scan(rt, path).err()
 }
@@ -140,65 +97,11 @@ fn is_not_regular(rt: &HostRuntime, path: &str) -> bool {
     matches!(fault(rt, path), Some(ScanFault::NotRegular))
 }
 
-// Whether a file is refused before it is there and after, and its folder where a link to the file is in it.
-fn refuses_file_and_link(rt: &HostRuntime, folder: &str, file: &str) -> io::Result<bool> {
+// Whether a file is refused as a folder before it is there and after.
+fn refuses_file(rt: &HostRuntime, folder: &str, file: &str) -> io::Result<bool> {
     let is_refused = is_system(rt, file);
     add_file(rt, folder, "b")?;
-    let is_refused_again = is_system(rt, file);
-    rt.symlink(file, &below(rt.alloc(), folder, "a")?)?;
-    Ok(is_refused && is_refused_again && is_not_regular(rt, folder))
-}
-
-// Makes so many folders named n in a folder, each in the one before, and adds their names to its place.
-fn deepen(rt: &HostRuntime, place: &mut String, count: usize) -> io::Result<()> {
-    for _ in 0..count {
-        place.push_str("/n")?;
-        rt.create_dir(place)?;
-    }
-    Ok(())
-}
-
-// Whether a scan finds no fault of a file in at most 63 folders, each in the one before, and in more that it is too
-// deep.
-fn takes_file_in(rt: &HostRuntime, folder: &str, count: usize) -> io::Result<bool> {
-    let mut place = String::from_str(rt.alloc(), folder)?;
-    deepen(rt, &mut place, count)?;
-    add_file(rt, &place, "f")?;
-    Ok(match fault(rt, folder) {
-        None => count <= 63,
-        Some(ScanFault::TooDeep) => count > 63,
-        Some(_) => false,
-    })
-}
-
-fn is_nothing_in(rt: &HostRuntime, folder: &str, count: usize) -> io::Result<bool> {
-    let mut place = String::from_str(rt.alloc(), folder)?;
-    deepen(rt, &mut place, count)?;
-    Ok(has_files(rt, folder, 0, b""))
-}
-
-// Makes a file with a number in its name, and adds its path to those that are shown.
-fn add_numbered(
-    rt: &HostRuntime,
-    folder: &str,
-    number: u32,
-    shown: &mut Vec<u8>,
-) -> io::Result<()> {
-    let name = format!(in rt.alloc(); "file {number}")?;
-    add_file(rt, folder, &name)?;
-    shown.extend_from_slice(b"/")?;
-    shown.extend_from_slice(name.as_bytes())?;
-    shown.extend_from_slice(b" ")?;
-    Ok(())
-}
-
-// Whether a scan finds 5,001 files that are made, more than are read at once.
-fn lists_many(rt: &HostRuntime, folder: &str) -> io::Result<bool> {
-    let mut wanted = Vec::new(rt.alloc());
-    for number in 10000..15001u32 {
-        add_numbered(rt, folder, number, &mut wanted)?;
-    }
-    Ok(has_files(rt, folder, 5001, &wanted))
+    Ok(is_refused && is_system(rt, file))
 }
 
 // Makes a file `a` of six bytes, a folder `d` and a link `l` to the file.
@@ -292,19 +195,15 @@ fn reads_regular_files(rt: &HostRuntime, folder: &str) -> io::Result<bool> {
     let file = below(rt.alloc(), folder, "a")?;
     add_file_and_link(rt, folder, &file)?;
     let source = files_at(rt, folder, FILES)?;
-    let is_right = are_lengths_told(&source) && are_read(&source);
+    let is_right = source.count() == 5 && are_lengths_told(&source) && are_read(&source);
     rt.remove_file(&file)?;
-    Ok(is_right && is_long(&source, 0, None) && is_read(&source, &(0, 0, 3, b"")))
+    let is_single = FolderSource::single(rt, folder)?.count() == 1;
+    Ok(is_single && is_right && is_long(&source, 0, None) && is_read(&source, &(0, 0, 3, b"")))
 }
 
 /// What a new folder has in its name, and what holds there.
 const CASES: &[(&str, Case)] = &[
-    ("order", Case::Order),
-    ("link", Case::Link),
-    ("64", Case::Names(63)),
-    ("deep", Case::Names(64)),
-    ("nested", Case::Empty(65)),
-    ("many", Case::Many),
+    ("file", Case::File),
     ("reads", Case::Reads),
     ("readers", Case::Readers),
     ("once", Case::Opened),

@@ -18,10 +18,13 @@ struct Meeting {
     turns: u64,
     begun: AtomicU64,
     missed: AtomicU64,
+    /// The numbers of their units, together.
+    units: AtomicU64,
 }
 
 impl Gate for Meeting {
-    fn enter(&self, _unit: u64) {
+    fn enter(&self, unit: u64) {
+        self.units.fetch_add(unit, SeqCst);
         self.begun.fetch_add(1, SeqCst);
         for _ in 0..self.turns {
             if self.begun.load(SeqCst) >= 2 {
@@ -60,7 +63,7 @@ fn hash_past<R: AllocGlobal + Abort + Threads + Wait + Sync>(
     )
 }
 
-/// Whether so many of those that entered met nobody, and four entered.
+/// Whether so many of those that entered met nobody, and four entered, with the units 0 to 3.
 fn are_missed<R: AllocGlobal + Abort + Threads + Wait + Sync>(
     rt: &R,
     readers: Vec<Parts>,
@@ -72,6 +75,7 @@ fn are_missed<R: AllocGlobal + Abort + Threads + Wait + Sync>(
         turns,
         begun: AtomicU64::new(0),
         missed: AtomicU64::new(0),
+        units: AtomicU64::new(0),
     };
     let way = Way {
         kind: Kind::V2,
@@ -83,6 +87,7 @@ fn are_missed<R: AllocGlobal + Abort + Threads + Wait + Sync>(
     hash_past(rt, &gate, readers, way).is_ok()
         && gate.missed.load(SeqCst) == missed
         && gate.begun.load(SeqCst) == 4
+        && gate.units.load(SeqCst) == 6
 }
 
 /// Whether they did over the four units of these bytes.
