@@ -6,11 +6,19 @@
 //! - `piece_counts.rt`: a file that has changed since its torrent was made.
 //! - `proof_texts.rt`: proofs as texts, both ways; `attrs_texts.rt`: texts of files with letters.
 //! - `progress_lines.rt`: the line of progress.
+#![tactic(auto)]
 
+#[cfg(test)]
 mod attrs_texts;
+#[cfg(test)]
 mod execute;
+#[cfg(test)]
 mod faults;
+#[cfg(test)]
 mod piece_counts;
+#[cfg(test)]
 mod progress_lines;
+#[cfg(test)]
 mod proof_texts;
+#[cfg(test)]
 mod streams;

@@ -1,5 +1,5 @@
 //! The program over readers and writers that fault.
-use crate::cli::execute::execute_over;
+use crate::execute::execute_over;
 use std::alloc::Global;
 use std::io::{Error, ErrorKind, Read, Result, Write};
 use std::sync::Wait;
