@@ -1,15 +1,12 @@
-//! Tests of `tor_cli` that the built program cannot show: readers and writers that fault, faults that cannot be had of
-//! it, texts of proofs, and texts of letters.
+//! Tests of `tor_cli` that the built program cannot show: readers and writers that fault, and faults that cannot be had
+//! of it.
 //!
 //! - `faults.rt`: the line and the status of each fault.
 //! - `streams.rt`: the program over readers and writers that fault; `execute.rt`: over any.
 //! - `piece_counts.rt`: a file that has changed since its torrent was made.
-//! - `proof_texts.rt`: proofs as texts, both ways; `attrs_texts.rt`: texts of files with letters.
 //! - `progress_lines.rt`: the line of progress.
 #![tactic(auto)]
 
-#[cfg(test)]
-mod attrs_texts;
 #[cfg(test)]
 mod execute;
 #[cfg(test)]
@@ -18,7 +15,5 @@ mod faults;
 mod piece_counts;
 #[cfg(test)]
 mod progress_lines;
-#[cfg(test)]
-mod proof_texts;
 #[cfg(test)]
 mod streams;

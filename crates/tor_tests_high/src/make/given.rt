@@ -139,20 +139,6 @@ pub(crate) fn files(alloc: Global, given: &str) -> Result<Vec<(FilePath, Vec<u8>
     Ok(files)
 }
 
-fn add_parts(bytes: &mut Vec<u8>, parts: &[&[u8]]) -> Result<(), AllocError> {
-    for part in parts {
-        bytes.extend_from_slice(part)?;
-    }
-    Ok(())
-}
-
-/// The parts, one after the other.
-pub(crate) fn joined(alloc: Global, parts: &[&[u8]]) -> Result<Vec<u8>, AllocError> {
-    let mut bytes = Vec::new(alloc);
-    add_parts(&mut bytes, parts)?;
-    Ok(bytes)
-}
-
 /// Whether there are bytes, and these.
 pub(crate) fn are(bytes: Result<Vec<u8>, AllocError>, wanted: &[u8]) -> bool {
     match bytes {

@@ -1,7 +1,8 @@
 //! Torrents of a long name and of many files, and info hashes; each hash in hexadecimal is of Python's hashlib.
 
+use crate::check::telling::joined;
 use crate::make::contents::{head, made};
-use crate::make::given::{Row, Shape, are, files, joined};
+use crate::make::given::{Row, Shape, are, files};
 use std::alloc::{AllocError, Global};
 use std::fmt::Write;
 use tor_meta::{Hashes, Head, info_hashes, make_contents};

@@ -1,23 +1,14 @@
-//! Torrents of files with letters (BEP 47, "attr"), worked out by hand; each hash in hexadecimal is of Python's
-//! hashlib.
+//! Torrents of files with letters (BEP 47, "attr") that are not handed in in order, worked out by hand; each hash in
+//! hexadecimal is of Python's hashlib. Those of folders, readers and inputs are in `tests/scenes/make-letters.txt`.
 
 use crate::make::given::{Row, Shape, paths, source};
 use crate::make::sources::order;
-use crate::make::streams::readers;
 use std::alloc::{AllocError, Global};
-use std::process::Abort;
-use std::sync::Wait;
-use std::sync::atomic::AtomicU64;
 use std::test::Fail;
 use std::thread::Threads;
 use tor_engine::How;
-use tor_meta::{make_streams_with, make_with, torrent_by_streams, torrent_from};
+use tor_meta::make_with;
 use tor_tree::{Attr, FilePath, Kind};
-
-const HIDDEN: Attr = Attr {
-    exec: false,
-    hidden: true,
-};
 
 const EXEC: Attr = Attr {
     exec: true,
@@ -28,16 +19,6 @@ const BOTH: Attr = Attr {
     exec: true,
     hidden: true,
 };
-
-const V2_OF_A: Shape = (Kind::V2, true, 16384, "a");
-
-const ABC_EXEC: &[u8] = b"d4:infod9:file treed1:ad0:d4:attr1:x6:lengthi3e11:pieces root32:\
-\xba\x78\x16\xbf\x8f\x01\xcf\xea\x41\x41\x40\xde\x5d\xae\x22\x23\
-\xb0\x03\x61\xa3\x96\x17\x7a\x9c\xb4\x10\xff\x61\xf2\x00\x15\xad\
-eee12:meta versioni2e4:name1:a12:piece lengthi16384ee12:piece layersdee";
-
-const EMPTY_HIDDEN: &[u8] =
-    b"d4:infod4:attr1:h6:lengthi0e4:name1:a12:piece lengthi16384e6:pieces0:ee";
 
 const FOLDER_V1: &[u8] =
     b"d4:infod5:filesld4:attr2:hx6:lengthi2e4:pathl1:aeed6:lengthi1e4:pathl1:beee\
@@ -62,16 +43,6 @@ type Lettered = (Row, &'static [Attr]);
 const V1: Shape = (Kind::V1, false, 16384, "f");
 
 const HYBRID: Shape = (Kind::Hybrid, false, 16384, "f");
-
-const IN_ORDER: &[Lettered] = &[
-    ((V2_OF_A, "a=abc", ABC_EXEC), &[EXEC]),
-    (
-        ((Kind::V1, true, 16384, "a"), "a=", EMPTY_HIDDEN),
-        &[HIDDEN],
-    ),
-    ((V1, "a=ab b=c", FOLDER_V1), &[BOTH, Attr::NONE]),
-    ((HYBRID, "a=ab b=c", FOLDER_HYBRID), &[Attr::NONE, EXEC]),
-];
 
 /// Files that are not handed in in the order of their paths.
 const TURNED: &[Lettered] = &[
@@ -102,61 +73,12 @@ fn is_made_of_source<R: AllocGlobal + Threads + Sync>(
     }
 }
 
-/// Whether readers of them do.
-fn is_made_of_readers<R: AllocGlobal + Abort + Threads + Wait + Sync>(
-    rt: &R,
-    row: &Lettered,
-    how: How,
-) -> Result<bool, AllocError> {
-    let alloc = rt.alloc();
-    let mut order = order(alloc, &row.0.0)?;
-    order.how = how;
-    let files = files(alloc, row)?;
-    let asked = AtomicU64::new(0);
-    let readers = readers(alloc, row.0.1, &asked)?;
-    assert!(rt; readers.len() == files.len());
-    match make_streams_with(rt, alloc, readers, &files, &order) {
-        Ok(bytes) => Ok(bytes.as_slice() == row.0.2),
-        Err(_) => Ok(false),
-    }
-}
-
-/// Whether an input does, by one worker and by streams.
-fn is_made_of_input<T: Threads + Wait + Sync + Send + Clone + Drop + 'static>(
-    rt: &T,
-    alloc: Global,
-) -> Result<bool, AllocError> {
-    let order = order(alloc, &V2_OF_A)?;
-    let mut reader: &[u8] = b"abc";
-    let one = torrent_from(alloc, &mut reader, &order, EXEC);
-    let mut again: &[u8] = b"abc";
-    let other = torrent_by_streams(rt, alloc, &mut again, &order, EXEC);
-    match (one, other) {
-        (Ok(one), Ok(other)) => Ok(one.as_slice() == ABC_EXEC && one == other),
-        _ => Ok(false),
-    }
-}
-
 #[test]
 fn makes_torrents_of_a_source_with_letters(rt: HostRuntime) -> Result<(), Fail> {
     for how in EACH_HOW {
-        for row in IN_ORDER {
-            assert!(rt; is_made_of_source(&rt, row, *how)?);
-        }
         for row in TURNED {
             assert!(rt; is_made_of_source(&rt, row, *how)?);
         }
     }
-    Ok(())
-}
-
-#[test]
-fn makes_torrents_of_readers_with_letters(rt: HostRuntime) -> Result<(), Fail> {
-    for how in EACH_HOW {
-        for row in IN_ORDER {
-            assert!(rt; is_made_of_readers(&rt, row, *how)?);
-        }
-    }
-    assert!(rt; is_made_of_input(&rt, rt.alloc())?);
     Ok(())
 }

@@ -16,7 +16,7 @@ use tor_tree::{FilePath, Kind};
 
 /// Bytes that are given so many a read, and then a fault where there is one; what it is asked is counted.
 #[derive(Drop)]
-pub(crate) struct Parts<'a> {
+struct Parts<'a> {
     bytes: Vec<u8>,
     given: usize,
     step: usize,
@@ -71,24 +71,6 @@ fn add_readers<'a>(
         })?;
     }
     Ok(())
-}
-
-/// The readers of files, which give two bytes a read.
-pub(crate) fn readers<'a>(
-    alloc: Global,
-    given: &str,
-    asked: &'a AtomicU64,
-) -> Result<Vec<Parts<'a>>, AllocError> {
-    let way = Way {
-        step: 2,
-        fault: None,
-        span: 1,
-        how: How::One,
-        tail: false,
-    };
-    let mut readers = Vec::new(alloc);
-    add_readers(alloc, given, way, asked, &mut readers)?;
-    Ok(readers)
 }
 
 fn order(alloc: Global, shape: &Shape, way: Way) -> Result<Order, AllocError> {

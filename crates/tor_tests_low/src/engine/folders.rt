@@ -1,7 +1,7 @@
 //! Reads of real folders. What a scan finds there, and refuses, `tests/scenes/listing.txt` has.
 use crate::engine::memory::read;
 use crate::engine::readers::{are_opened_once, gives_each};
-use crate::engine::shared::path;
+use crate::shared::path;
 use std::alloc::{AllocError, Global};
 use std::rt::Files;
 use std::{env, fs, io, process};

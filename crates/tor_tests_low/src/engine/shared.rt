@@ -1,6 +1,7 @@
-//! What the tests share: paths, contents, plans, how files are hashed, and how a read waits for others.
+//! What the tests share: plans, how files are hashed, and how a read waits for others.
 ghost use Rattle.tor_engine.specs.How.{IsHow};
 
+use crate::shared::{content, is, path};
 use std::alloc::{AllocError, Global};
 use std::fmt::Debug;
 use std::process::Abort;
@@ -10,7 +11,7 @@ use std::thread::{Threads, yield_now};
 use tor_engine::{EngineError, How, Sums, hash_all};
 use tor_plan::Plan;
 use tor_source::{MemSource, Source};
-use tor_tree::{FileList, FilePath, Kind, Name};
+use tor_tree::{FileList, FilePath, Kind};
 
 /// Each way to share the units.
 pub(crate) const EACH_HOW: &[How] = &[
@@ -22,25 +23,6 @@ pub(crate) const EACH_HOW: &[How] = &[
     How::Board(2),
     How::Board(64),
 ];
-
-/// A name. That a text is none, which none of the tables has, is told as want of memory.
-fn name(alloc: Global, text: &str) -> Result<Name, AllocError> {
-    Name::new(alloc, text.as_bytes()).ok().ok_or(AllocError)
-}
-
-fn add_names(alloc: Global, text: &str, names: &mut Vec<Name>) -> Result<(), AllocError> {
-    for part in text.split('/') {
-        names.push(name(alloc, part)?)?;
-    }
-    Ok(())
-}
-
-/// The path whose names are the parts of a text between its slashes.
-pub(crate) fn path(alloc: Global, text: &str) -> Result<FilePath, AllocError> {
-    let mut names = Vec::new(alloc);
-    add_names(alloc, text, &mut names)?;
-    FilePath::new(names).ok_or(AllocError)
-}
 
 /// The paths of files, of which no table has more.
 const PATHS: &[&str] = &["000", "001", "002"];
@@ -85,27 +67,13 @@ pub(crate) fn plan_of<R: AllocGlobal + Abort>(
     Plan::new(rt.alloc(), &list, kind, piece_length, span)
 }
 
-fn add_counted(bytes: &mut Vec<u8>, length: u64) -> Result<(), AllocError> {
-    for i in 0..length {
-        bytes.push((i % 251) as u8)?;
-    }
-    Ok(())
-}
-
-/// A content whose byte i is i % 251.
-pub(crate) fn content(alloc: Global, length: u64) -> Result<Vec<u8>, AllocError> {
-    let mut bytes = Vec::new(alloc);
-    add_counted(&mut bytes, length)?;
-    Ok(bytes)
-}
-
 fn add_contents(
     alloc: Global,
     lengths: &[u64],
     files: &mut Vec<Option<Vec<u8>>>,
 ) -> Result<(), AllocError> {
     for length in lengths {
-        files.push(Some(content(alloc, *length)?))?;
+        files.push(Some(content(alloc, *length as usize)?))?;
     }
     Ok(())
 }
@@ -157,14 +125,6 @@ pub(crate) fn hash_by<S: Source, R: AllocGlobal + Abort + Threads + Sync>(
     how: How,
 ) -> Result<Sums, EngineError<S::Fault>> {
     hash_all(rt, rt.alloc(), source, plan, allowed(rt, how))
-}
-
-/// Whether there is a text, and this.
-pub(crate) fn is(text: Result<String, AllocError>, wanted: &str) -> bool {
-    match text {
-        Ok(text) => text.as_str() == wanted,
-        Err(_) => false,
-    }
 }
 
 /// Whether a fault has this text.

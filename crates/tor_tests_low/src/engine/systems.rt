@@ -1,6 +1,6 @@
 //! Scans and reads of a system that has what no test can make.
 use crate::engine::folders::{files_at, is_shown, is_system};
-use crate::engine::shared::is;
+use crate::shared::is;
 use std::alloc::{Allocator, Global};
 use std::fs::{File, Metadata, OpenOptions};
 use std::io;

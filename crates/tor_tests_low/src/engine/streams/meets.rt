@@ -1,7 +1,7 @@
 //! How many workers hash at once.
 
-use crate::engine::shared::content;
 use crate::engine::streams::shared::{Parts, Way, allowed, readers_of};
+use crate::shared::content;
 use std::io;
 use std::process::Abort;
 use std::sync::Wait;

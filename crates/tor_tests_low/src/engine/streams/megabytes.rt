@@ -1,7 +1,7 @@
 //! The sums of contents of several megabytes. Hashes are of Python's hashlib.
 
-use crate::engine::shared::content;
 use crate::engine::streams::shared::{Way, sums_of};
+use crate::shared::content;
 use std::process::Abort;
 use std::sync::Wait;
 use std::thread::Threads;

@@ -1,7 +1,7 @@
 //! Roots and layers of contents of several units.
 
-use crate::engine::shared::content;
 use crate::engine::streams::shared::{Way, sums_of};
+use crate::shared::content;
 use std::process::Abort;
 use std::sync::Wait;
 use std::thread::Threads;
@@ -53,7 +53,7 @@ fn has_tree(sums: &Sums, bytes: &[u8]) -> bool {
 }
 
 /// Five blocks and seven bytes.
-const LONG: u64 = 81927;
+const LONG: usize = 81927;
 
 /// Whether a file of six blocks, between an empty one and a short one, has the root and the layer that BEP 52 says.
 fn has_its_tree<R: AllocGlobal + Abort + Threads + Wait + Sync>(
