@@ -1,14 +1,14 @@
 //! The tests of `tor_source` and `tor_engine`.
 //!
 //! - `memory.rt`: what sources in memory answer.
-//! - `folders.rt`: scans and reads of real folders; `systems.rt`: of a system that has what no test can make.
+//! - `folders.rt`: reads of real folders; `systems.rt`: of a system that has what no test can make.
 //!   `readers.rt`: files that are read once and in order.
 //! - `faults.rt`: which fault a hash of files answers; `reads.rt`: what is asked of a source; `workers.rt`: how many
 //!   workers read at once; `board.rt`: workers that share a board.
 //! - `sums.rt`: roots, layers and pieces of files; `pieces.rt`: hashes of single pieces.
 //! - `streams`: contents of readers that are read once and in order.
 //!
-//! `shared.rt` has paths, contents, plans, and how files are hashed.
+//! `shared.rt` has files, plans, and how files are hashed.
 
 mod board;
 mod faults;
