@@ -1,5 +1,5 @@
 pub mod Lanes
 pub mod PaddingSha1
 pub mod PaddingSha256
-pub mod Places
+pub mod Ends
 pub mod Shuffles

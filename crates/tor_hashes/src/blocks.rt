@@ -1,8 +1,8 @@
 //! The SHA-256 of eight blocks of 16,384 bytes.
 
-ghost use Rattle.std.specs.Prelude.{◌≡◌, ℕ, ◌*◌, ◌<◌, [], drop, take, length, slice_index_or};
-ghost use Rattle.sha2.specs.Sha256.{padding, sha256};
-ghost use Rattle.tor_hashes.specs.steps.Lanes.{window, AreWordsOf};
+ghost use Rattle.std.specs.Prelude.{◌≡◌, ℕ, ◌*◌, ◌<◌, ◌≤◌, List, [], drop, take, length, slice_index_or};
+ghost use Rattle.sha2.specs.Sha256.{hash_after, initial_hash_256, padding, sha256};
+ghost use Rattle.tor_hashes.specs.steps.Lanes.{eight_of, window, AreWordsOf};
 
 use crate::sha256_block::{after_block, after_blocks};
 use crate::sha256_digest::digests;
@@ -24,12 +24,21 @@ fn padding_words() -> [Words; 16]
     ]
 }
 
+// The digests of blocks of 16,384 bytes, which have these hash values before their padding.
+pub(crate) fn block_digests(hash: [Words; 8]) -> [[u8; 32]; 8]
+    ensures { (j : ℕ) (bytes : List ℕ) → j < 8 → 16384 ≤ length bytes
+        → eight_of j hash ≡ hash_after initial_hash_256 bytes 256
+        → slice_index_or result j [] ≡ sha256 (take 16384 bytes) }
+{
+    let last = after_block(padding_words(), hash);
+    digests(&last)
+}
+
 /// The SHA-256 of each of eight blocks of 16,384 bytes that lie one after another (FIPS 180-4).
 pub fn block_hashes(blocks: &[u8]) -> [[u8; 32]; 8]
     requires { length blocks.now ≡ 8 * 16384 }
     ensures { (i : ℕ) → i < 8 → slice_index_or result i [] ≡ sha256 (take 16384 (drop (16384 * i) blocks.now)) }
 {
-    let hash = after_blocks(blocks, BLOCK_LENGTH, BLOCK_LENGTH / 64);
-    let last = after_block(padding_words(), hash);
-    digests(&last)
+    let hash = after_blocks(blocks, BLOCK_LENGTH, 8, BLOCK_LENGTH / 64);
+    block_digests(hash)
 }

@@ -13,7 +13,7 @@
 //!
 //! - [`block_hashes`] (`blocks.rt`): the SHA-256 of blocks of 16,384 bytes.
 //! - [`last_block_hashes`] (`last_blocks.rt`): the same of the last blocks of a content, of which the last may be
-//!   shorter: each lies with its padding in a place of its own (`padded.rt`).
+//!   shorter: its end, with the padding, is hashed in a place of its own (`message_end.rt`).
 //! - [`node_hashes`] (`nodes.rt`): the SHA-256 of messages of 64 bytes. Their padding is always the same, so
 //!   `node_padding.rt` has its words ready.
 //! - [`piece_hashes`] (`pieces.rt`): the SHA-1 of pieces of any number of bytes that is a multiple of 64, at most 2^28.
@@ -32,9 +32,9 @@ mod block_words;
 mod blocks;
 mod functions;
 mod last_blocks;
+mod message_end;
 mod node_padding;
 mod nodes;
-mod padded;
 mod pieces;
 mod sha1_block;
 mod sha1_constants;

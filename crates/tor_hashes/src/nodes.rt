@@ -63,7 +63,7 @@ pub fn node_hashes(nodes: &[u8]) -> [[u8; 32]; 8]
     requires { length nodes.now ≡ 512 }
     ensures { (i : ℕ) → i < 8 → slice_index_or result i [] ≡ sha256 (take 64 (drop (64 * i) nodes.now)) }
 {
-    let hash = after_blocks(nodes, 64, 1);
+    let hash = after_blocks(nodes, 64, 8, 1);
     let last = after_padding(hash);
     digests(&last)
 }

@@ -55,7 +55,7 @@ pub(crate) fn after_blocks(bytes: &[u8], size: usize, count: usize) -> [Words; 5
 {
     let mut hash = initial();
     'blocks: for i in 0..count {
-        let words = words_of_blocks(bytes, size, 64 * i);
+        let words = words_of_blocks(bytes, size, 8, 64 * i);
         let next = after_block(words, hash);
         hash = next;
     }

@@ -1,6 +1,6 @@
 //! The hash values of SHA-256 of eight messages, block after block (FIPS 180-4, 6.2.2).
 
-ghost use Rattle.std.specs.Prelude.{◌≡◌, ℕ, ◌*◌, ◌<◌, ◌≤◌, List, drop, length};
+ghost use Rattle.std.specs.Prelude.{◌≡◌, ℕ, ◌+◌, ◌-◌, ◌*◌, ◌<◌, ◌≤◌, List, drop, length};
 ghost use Rattle.sha2.specs.Sha256.{add_state, compress, hash_after, initial_hash_256};
 ghost use Rattle.tor_hashes.specs.steps.Lanes.{eight_of, window, AreWordsOf};
 
@@ -58,35 +58,36 @@ pub(crate) fn after_block(words: [Words; 16], hash: [Words; 8]) -> [Words; 8]
     added(hash, v)
 }
 
-// The hash values after the first `count` blocks of each message. A message has `size` bytes.
-pub(crate) fn after_blocks(bytes: &[u8], size: usize, count: usize) -> [Words; 8]
-    requires inside { 64 * count ≤ size }
-    requires length { 8 * size ≤ length bytes.now }
-    ensures { (j : ℕ) → j < 8
+// The hash values after the first `count` blocks of each of so many messages, at most eight, that lie one after
+// another. A message has `size` bytes, but for the last, which may have fewer.
+pub(crate) fn after_blocks(bytes: &[u8], size: usize, messages: usize, count: usize) -> [Words; 8]
+    requires some { 1 ≤ messages }
+    requires inside { size * (messages - 1) + 64 * count ≤ length bytes.now }
+    ensures { (j : ℕ) → j < 8 → j < messages
         → eight_of j result ≡ hash_after initial_hash_256 (drop (size * j) bytes.now) count }
 {
-    next_blocks(bytes, size, initial(), 0, count)
+    next_blocks(bytes, size, messages, initial(), 0, count)
 }
 
-// The same of those after the first `done` blocks.
+// The hash values after `count` blocks of those that have them after the first `done`, whatever the others have.
 pub(crate) fn next_blocks(
     bytes: &[u8],
     size: usize,
+    messages: usize,
     hash: [Words; 8],
     done: usize,
     count: usize,
 ) -> [Words; 8]
-    requires inside { 64 * count ≤ size }
-    requires length { 8 * size ≤ length bytes.now }
+    requires some { 1 ≤ messages }
+    requires inside { size * (messages - 1) + 64 * count ≤ length bytes.now }
     requires done { done ≤ count }
-    requires hash { (j : ℕ) → j < 8
-        → eight_of j hash ≡ hash_after initial_hash_256 (drop (size * j) bytes.now) done }
-    ensures { (j : ℕ) → j < 8
-        → eight_of j result ≡ hash_after initial_hash_256 (drop (size * j) bytes.now) count }
+    ensures { (initial : List ℕ) (j : ℕ) → j < 8 → j < messages
+        → eight_of j hash ≡ hash_after initial (drop (size * j) bytes.now) done
+        → eight_of j result ≡ hash_after initial (drop (size * j) bytes.now) count }
 {
     let mut hash = hash;
     'blocks: for i in done..count {
-        let words = words_of_blocks(bytes, size, 64 * i);
+        let words = words_of_blocks(bytes, size, messages, 64 * i);
         let next = after_block(words, hash);
         hash = next;
     }

@@ -17,7 +17,7 @@ fn digest_of(words: &[u32; 8]) -> [u8; 32]
 }
 
 // The digest of message j.
-fn digest(hash: &[Words; 8], j: usize) -> [u8; 32]
+pub(crate) fn digest(hash: &[Words; 8], j: usize) -> [u8; 32]
     requires { j < 8 }
     ensures { result ≡ digest_bytes (eight_of j hash.now) 8 }
 {

@@ -24,10 +24,9 @@
 //! - [`Proof`] (`proof.rt`): that a hash stands at an index of a tree: [`prove`] makes, [`verify`] (`judge.rt`) judges
 //!   one, and [`collide`] (`collision.rt`) shows what two different ones for one index are worth. [`proof_count`] and
 //!   [`proof_level`] tell over how many hashes those of a file are, and of which level.
-//! - [`History`] (`trail.rt`): what came so far, which only proofs read.
 //! - [`laws`] (`laws.rt`): laws over the definitions of `specs/`.
 //!
-//! `digits.rt` has digits in base two, and [`height_of`] a tree.
+//! `digits.rt` has digits in base two, and [`height_of`] a tree; `trail.rt` what came so far, which only proofs read.
 #![tactic(auto)]
 
 mod blocks;
@@ -71,4 +70,3 @@ pub use piece_length::{is_piece_length, piece_level};
 pub use plain::whole;
 pub use proof::{Proof, ProveError, proof_count, proof_level, prove};
 pub use stack::Stack;
-pub use trail::History;

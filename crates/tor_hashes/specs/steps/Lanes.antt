@@ -2,7 +2,7 @@
 -- cite this.
 use Rattle.std.specs.Prelude.{◌≡◌, ℕ, ◌+◌, ◌*◌, ◌<◌, List, [], ◌∷◌, drop, length, map, slice_index, slice_index_or}
 use Rattle.std.specs.Prelude.{take}
-use Rattle.sha2.specs.Sha256.{padded_message, word_at}
+use Rattle.sha2.specs.Sha256.{word_at}
 
 -- word k of message j
 abbrev pub word_of : ℕ → List (List ℕ) → ℕ → ℕ
@@ -30,12 +30,3 @@ block_of bytes size at j = take 64 (drop (size * j + at) bytes)
 -- these are the sixteen big-endian words of a block (FIPS 180-4, 5.2.1)
 abbrev pub AreWordsOf : List ℕ → List ℕ → Type 0
 AreWordsOf block words = (length words ≡ 16) × ((k : ℕ) → k < 16 → slice_index words k ≡ word_at block (4 * k))
-
--- bytes that begin with a message and its padding
-abbrev pub BeginsPadded : List ℕ → List ℕ → Type 0
-BeginsPadded message bytes = take (length (padded_message message)) bytes ≡ padded_message message
-
--- the places of the first n blocks do so, each of 16,448 bytes
-abbrev pub BeginPadded : List ℕ → ℕ → List ℕ → Type 0
-BeginPadded blocks n places = (j : ℕ) → j < n →
-    BeginsPadded (take 16384 (drop (16384 * j) blocks)) (take 16448 (drop (16448 * j) places))

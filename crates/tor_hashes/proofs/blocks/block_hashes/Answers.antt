@@ -1,16 +1,7 @@
-use Rattle.std.proofs.Common.{◌≤◌, length, List, ℕ, ◌*◌, drop, ap, sym, ◌∙◌, arith, refl, length-drop}
-use Rattle.sha2.specs.Sha256.{compress, digest_bytes, initial_hash_256, padding, sha256}
-use Rattle.tor_hashes.proofs.PaddingSha256.{final_of_part}
+use Rattle.std.proofs.Common.{◌*◌, drop, arith, length-drop}
 use Rattle.tor_hashes.proofs.blocks.block_hashes.Goals as goal
 
 pub returns : goal.returns
-unfolding sha256
-returns c j lt =
-    let d : List ℕ = drop (16384 * j) c.args.blocks.now in
-    let p : List ℕ = padding 16384 in
-    let room : 16384 ≤ length d = omega (arith, length-drop (16384 * j) c.args.blocks.now, c.requires) in
-    let last = final_of_part initial_hash_256 d 16384 256 refl room refl in
-    c.digests.ensures j lt
-    ∙ ap (λ (h : List ℕ). digest_bytes h 8)
-    (c.after_block-last.ensures j p lt (c.padding_words.ensures j lt)
-    ∙ ap (λ (h : List ℕ). compress h p) (c.after_blocks-hash.ensures j lt) ∙ sym last)
+returns c j lt = c.block_digests.ensures j (drop (16384 * j) c.args.blocks.now) lt
+    (omega (arith, length-drop (16384 * j) c.args.blocks.now, c.requires))
+    (c.after_blocks-hash.ensures j lt lt)

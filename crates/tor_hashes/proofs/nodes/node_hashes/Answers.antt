@@ -12,5 +12,5 @@ returns c j lt =
     let last = final_of_part initial_hash_256 d 64 1 refl room refl in
     c.digests.ensures j lt
     ∙ ap (λ (h : List ℕ). digest_bytes h 8)
-    (c.after_padding-last.ensures j lt ∙ ap (λ (h : List ℕ). compress h p) (c.after_blocks-hash.ensures j lt)
+    (c.after_padding-last.ensures j lt ∙ ap (λ (h : List ℕ). compress h p) (c.after_blocks-hash.ensures j lt lt)
     ∙ sym last)

@@ -18,5 +18,5 @@ blocks-2-preserved c j lt =
     let at : i * 64 ≡ 64 * i = omega arith in
     let block : take 64 (drop (i * 64) m) ≡ block_of b size (64 * i) j =
     rw at (ap (take 64) (drop-drop (64 * i) (size * j) b)) in
-    c.after_block-next.ensures j (block_of b size (64 * i) j) lt (c.words_of_blocks-words.ensures j lt)
+    c.after_block-next.ensures j (block_of b size (64 * i) j) lt (c.words_of_blocks-words.ensures j lt lt)
     ∙ rw (c.blocks-2.invariant j lt, hash_after_next m i, block) refl
