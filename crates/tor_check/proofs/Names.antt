@@ -40,7 +40,7 @@ pub use Rattle.tor_check.specs.Valid.{IsRefused, IsRefusedFor}
 pub use Rattle.tor_check.specs.ValidViews.{HasRisingPaths, IsViewOfValid}
 pub use Rattle.tor_check.specs.declared.listed.Listed.{Listed}
 pub use Rattle.tor_check.specs.declared.marks.Marks.{Marks}
-pub use Rattle.tor_check.specs.declared.piece_proofs.PieceError.{PieceError}
+pub use Rattle.tor_check.specs.declared.piece_proofs.ProveError.{ProveError}
 pub use Rattle.tor_check.specs.declared.refusal.Refusal.{Refusal}
 pub use Rattle.tor_check.specs.declared.refusal.Refusal.TheVariants.{Memory}
 pub use Rattle.tor_check.specs.steps.Judged.{IsFirst, Names, alignment_conditions, conditions_before_memory, first_in}

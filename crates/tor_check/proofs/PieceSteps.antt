@@ -1,9 +1,9 @@
 -- What is left to refuse of a file that has a tree, and the proof of a file that has one hash.
 use Rattle.tor_check.proofs.Names.{◌≡◌, ℕ, ◌<◌, ◌≤◌, true, List, [], refl, None, Some, leb-false, leb-true, nat_le}
 use Rattle.tor_check.proofs.Names.{◌==◌, ◌∙◌, false, Bool, cond, sym, slice_get, if◌then◌else◌, le-ltb, cond_some}
-use Rattle.tor_check.proofs.Names.{none-some, bytes_eq-Decides, IsPieceProof, piece_refusal, PieceError, is_proof}
+use Rattle.tor_check.proofs.Names.{none-some, bytes_eq-Decides, IsPieceProof, piece_refusal, ProveError, is_proof}
 use Rattle.tor_check.proofs.Names.{proof_count, proof_level, proof_root, height, FileView, View, has_v2}
-use Rattle.tor_check.specs.declared.piece_proofs.PieceError.TheVariants as errors
+use Rattle.tor_check.specs.declared.piece_proofs.ProveError.TheVariants as errors
 
 -- one hash is its own root
 alone : (root : List ℕ) (bottom : ℕ) → is_proof root 1 bottom 0 root [] ≡ true
@@ -32,7 +32,7 @@ in_file : (view : View) (file index : ℕ) (told : FileView) → IsFound view fi
     ≡ (if nat_le (proof_count told.file.length view.piece_length) index then Some errors.Index else None)
 in_file view file index told is = rw (is.there, is.v2, is.filled) refl
 
-pub index_alone : (view : View) (file index : ℕ) (told : FileView) (fault : PieceError) → IsFound view file told
+pub index_alone : (view : View) (file index : ℕ) (told : FileView) (fault : ProveError) → IsFound view file told
     → piece_refusal view file index ≡ Some fault
     → (proof_count told.file.length view.piece_length ≤ index) × (errors.Index ≡ fault)
 index_alone view file index told fault is refused =

@@ -3,8 +3,8 @@ use Rattle.std.specs.Prelude.{◌≡◌, ◌==◌, ℕ, not, ◌||◌, List, nat
 use Rattle.std.specs.Prelude.{IsTrue, Option, None, Some, if◌then◌else◌}
 use Rattle.tor_merkle.specs.Proof.{is_proof, proof_count, proof_level}
 use Rattle.tor_merkle.specs.Subtree.{zero_leaf}
-use Rattle.tor_check.specs.declared.piece_proofs.PieceError.{PieceError}
-use Rattle.tor_check.specs.declared.piece_proofs.PieceError.TheVariants as errors
+use Rattle.tor_check.specs.declared.piece_proofs.ProveError.{ProveError}
+use Rattle.tor_check.specs.declared.piece_proofs.ProveError.TheVariants as errors
 use Rattle.tor_spec.specs.valid.Layers.{is_long, root_of_file}
 use Rattle.tor_spec.specs.valid.View.{FileView, View}
 use Rattle.tor_tree.specs.Kinds.{has_v2}
@@ -12,14 +12,14 @@ use Rattle.tor_tree.specs.declared.kinds.Kind.{Kind}
 
 -- why a piece of a file has no proof, the first that holds: there is no such file; there is no v2 side, or the file is
 -- empty; the file has no such piece
-abbrev pub refusal_at : Kind → ℕ → Option FileView → ℕ → Option PieceError
+abbrev pub refusal_at : Kind → ℕ → Option FileView → ℕ → Option ProveError
 refusal_at kind piece_length None index = Some errors.Index
 refusal_at kind piece_length (Some told) index =
     if not (has_v2 kind) || told.file.length == 0 then Some errors.NoTree else (
     if nat_le (proof_count told.file.length piece_length) index then Some errors.Index else None)
 
 -- the same of the file at an index of a torrent
-abbrev pub piece_refusal : View → ℕ → ℕ → Option PieceError
+abbrev pub piece_refusal : View → ℕ → ℕ → Option ProveError
 piece_refusal view file index = refusal_at view.kind view.piece_length (slice_get view.files file) index
 
 -- the hash of a piece: the one of its layer, or the root of a file that has no layer

@@ -12,7 +12,7 @@
 //! - [`validate`] (`verdict.rt`): what the torrent describes that bytes are, or why they are none.
 //! - [`Torrent`], [`ViewFile`] (`torrent.rt`): what it describes. [`Refusal`] (`refusal.rt`): V1 to V25.
 //! - [`prove_piece`] (`piece_proofs.rt`): that the hash of a piece stands in the tree of its file, or why not
-//!   ([`PieceError`]).
+//!   ([`ProveError`]).
 //!
 //! The root and the keys that all kinds have: `head.rt`. The v1 side: `marks.rt` and `listed.rt` read it,
 //! `list_side.rt` judges it; the v2 side: `tree_side.rt`; both: `sides.rt`. Piece layers: `layer_keys.rt`, `layers.rt`.
@@ -38,7 +38,7 @@ mod tree_side;
 mod verdict;
 mod views;
 
-pub use piece_proofs::{PieceError, prove_piece};
+pub use piece_proofs::{ProveError, prove_piece};
 pub use refusal::Refusal;
 pub use torrent::{Torrent, ViewFile};
 pub use verdict::validate;

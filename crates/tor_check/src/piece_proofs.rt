@@ -2,7 +2,7 @@
 ghost use Rattle.std.specs.Prelude.{◌≡◌, ◌<◌, ◌≤◌, None, Err, IfErr, IfOk, IsSomeAnd, length, slice_get};
 ghost use Rattle.std.specs.Option.{ForSome};
 ghost use Rattle.tor_check.specs.PieceProofs.{IsPieceProof, piece_refusal};
-ghost use Rattle.tor_check.specs.declared.piece_proofs.PieceError.TheVariants.{Index, Memory};
+ghost use Rattle.tor_check.specs.declared.piece_proofs.ProveError.TheVariants.{Index, Memory};
 ghost use Rattle.tor_check.specs.steps.PieceProofs.{HasTree};
 ghost use Rattle.tor_merkle.specs.Layer.{IsPieceLength};
 ghost use Rattle.tor_merkle.specs.Proof.{proof_count};
@@ -10,11 +10,11 @@ ghost use Rattle.tor_merkle.specs.Proof.{proof_count};
 use crate::torrent::{Torrent, ViewFile};
 use std::alloc::Global;
 use thiserror::Error;
-use tor_merkle::{Hash, Proof, ProveError, piece_level, prove};
+use tor_merkle::{Hash, Proof, piece_level, prove};
 
 /// Why there is no proof of a piece. The first that holds is answered.
 #[derive(Debug, Drop, Error)]
-pub enum PieceError {
+pub enum ProveError {
     /// The torrent has no such file, or the file no such piece.
     #[error("P1 Index")]
     Index,
@@ -33,7 +33,7 @@ pub fn prove_piece(
     torrent: &Torrent,
     file: u64,
     index: u64,
-) -> Result<(Hash, Proof), PieceError>
+) -> Result<(Hash, Proof), ProveError>
     ensures refused { ForSome (piece_refusal torrent.now file index) (λ fault. result ≡ Err fault) }
     ensures answered { piece_refusal torrent.now file index ≡ None → IfErr result (λ fault. fault ≡ Memory) }
     ensures memory { result ≡ Err Memory → IsSomeAnd (slice_get torrent.now.files file)
@@ -43,10 +43,10 @@ pub fn prove_piece(
     ensures few { IfOk result (λ answer. length answer.1.siblings.items ≤ 36) }
 {
     let Some(told) = torrent.files().get(file as usize) else {
-        return Err(PieceError::Index);
+        return Err(ProveError::Index);
     };
     if !torrent.kind().has_v2() || told.file().length == 0 {
-        return Err(PieceError::NoTree);
+        return Err(ProveError::NoTree);
     }
     prove_in_file(alloc, told, torrent.piece_length(), index)
 }
@@ -57,7 +57,7 @@ fn prove_in_file(
     told: &ViewFile,
     piece_length: u64,
     index: u64,
-) -> Result<(Hash, Proof), PieceError>
+) -> Result<(Hash, Proof), ProveError>
     requires allowed { IsPieceLength piece_length }
     requires tree { HasTree piece_length told.now }
     ensures refused { proof_count told.now.file.length piece_length ≤ index → result ≡ Err Index }
@@ -73,13 +73,13 @@ fn prove_in_file(
                 let siblings = Vec::new(alloc);
                 Ok((root, Proof { siblings }))
             }
-            _ => Err(PieceError::Index),
+            _ => Err(ProveError::Index),
         };
     }
     let layer = told.layer();
     match prove(alloc, layer, piece_level(piece_length), index) {
         Ok(proof) => Ok((layer[index as usize], proof)),
-        Err(ProveError::Index) => Err(PieceError::Index),
-        Err(ProveError::Memory) => Err(PieceError::Memory),
+        Err(tor_merkle::ProveError::Index) => Err(ProveError::Index),
+        Err(tor_merkle::ProveError::Memory) => Err(ProveError::Memory),
     }
 }

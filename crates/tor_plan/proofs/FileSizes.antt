@@ -5,9 +5,9 @@ use Rattle.tor_plan.proofs.Names.{sum_by}
 use Rattle.tor_plan.proofs.Names.{arith, ap, ap₂, ◌∙◌, ◌*◌, sym, subst, IsTrue, All-map, sum_by-append, sum_by-cons}
 use Rattle.tor_plan.proofs.Names.{sum_by-le-sum_by, is_power_of_two, next_multiple_of, All, lengths_of, IsFileList}
 use Rattle.tor_plan.proofs.Names.{Kind, V1, Hybrid, MAX_LENGTH, MAX_TOTAL, ROUNDING, files_are_small, Entry, file_entry}
-use Rattle.tor_plan.proofs.Names.{padding_length, has_bytes, aligned_entries, v1_entries, layout_of, entries_length}
-use Rattle.tor_plan.proofs.Names.{entry_units, lengths_of_entries, IsEntryList, IsLaidOut, forest_trees, plan_of}
-use Rattle.tor_plan.proofs.Names.{plan_of_entries, IsPlan, IsPlanPieceLength, IsSpan, PlanFacts, PlanUnit}
+use Rattle.tor_plan.proofs.Names.{padding_length, has_bytes, aligned_entries, v1_entries, layout_of_kind}
+use Rattle.tor_plan.proofs.Names.{entries_length, entry_units, lengths_of_entries, IsEntryList, IsLaidOut, forest_trees}
+use Rattle.tor_plan.proofs.Names.{plan_of, plan_of_entries, IsPlan, IsPlanPieceLength, IsSpan, PlanFacts, PlanUnit}
 use Rattle.tor_plan.proofs.Names.{plan_of_whole, whole_unit, whole_units, AreWhole}
 use Rattle.tor_plan.proofs.Contents.{File}
 use Rattle.tor_plan.proofs.FilesAsEntries.{entry_length, padded, entry_units_of_files, length_of_files}
@@ -51,7 +51,7 @@ aligned_total tail p (file ∷ files) power some le =
     )
 
 total_length : (kind : Kind) (tail : Bool) (p : ℕ) (files : List File) → IsFileList files → IsPlanPieceLength kind p
-    → entries_length (v1_entries (layout_of kind tail) p files) ≤ MAX_TOTAL
+    → entries_length (v1_entries (layout_of_kind kind tail) p files) ≤ MAX_TOTAL
 total_length Hybrid false p files lawful pieces =
     omega (arith, aligned_total false p files pieces.0 (omega (arith, pieces.1)) pieces.2, total_small files lawful)
 total_length Hybrid true p files lawful pieces =
@@ -59,23 +59,23 @@ total_length Hybrid true p files lawful pieces =
 total_length kind tail p files lawful pieces = omega (arith, joined_total files, total_small files lawful)
 
 pub files_are_list : (kind : Kind) (tail : Bool) (p : ℕ) (files : List File) → IsFileList files
-    → IsPlanPieceLength kind p → IsEntryList kind p (v1_entries (layout_of kind tail) p files)
+    → IsPlanPieceLength kind p → IsEntryList kind p (v1_entries (layout_of_kind kind tail) p files)
 files_are_list kind tail p files lawful pieces = record {
   total = total_length kind tail p files lawful pieces;
-  files = subst (All (λ m. m ≤ MAX_LENGTH)) (sym (lengths_of_files (layout_of kind tail) p files))
+  files = subst (All (λ m. m ≤ MAX_LENGTH)) (sym (lengths_of_files (layout_of_kind kind tail) p files))
       (All-map (λ m. m ≤ MAX_LENGTH) (λ (file : File). file.1) files (files_are_small files lawful));
   laid_out = files_laid_out kind tail p files;
 }
 
 pub same_plan : (kind : Kind) (p span : ℕ) (files : List File)
-    → plan_of kind p span files ≡ plan_of_entries kind p span (v1_entries (layout_of kind false) p files)
+    → plan_of kind p span files ≡ plan_of_entries kind p span (v1_entries (layout_of_kind kind false) p files)
 same_plan kind p span files = ap₂ (λ units lengths. record {
   kind = kind;
   piece_length = p;
   units = units;
   lengths = lengths;
   trees = forest_trees kind (span * p) lengths;
-}) (entry_units_of_files kind p span files) (sym (lengths_of_files (layout_of kind false) p files))
+}) (entry_units_of_files kind p span files) (sym (lengths_of_files (layout_of_kind kind false) p files))
 
 -- ---- the plan of all bytes
 

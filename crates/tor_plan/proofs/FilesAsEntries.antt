@@ -5,7 +5,7 @@ use Rattle.tor_plan.proofs.Names.{◌++◌, map, sum, sum_by, arith, refl, ap, a
 use Rattle.tor_plan.proofs.Names.{le-ltb, cond-true, cond-false, cases_lt, sum-map, map-map, div_ceil, range_with_len}
 use Rattle.tor_plan.proofs.Names.{lengths_of, Kind, V1, V2, Hybrid, file_entries, file_entry, pad_entry, padding_after}
 use Rattle.tor_plan.proofs.Names.{padding_length, has_bytes, aligned_entries, v1_entries, Entry, Layout}
-use Rattle.tor_plan.proofs.Names.{facts-v1_entries, layout_of, after_part, entries_length, entry_units}
+use Rattle.tor_plan.proofs.Names.{facts-v1_entries, layout_of_kind, after_part, entries_length, entry_units}
 use Rattle.tor_plan.proofs.Names.{joined_entry_units, lengths_of_entries, padding_before_next, separate_entry_units}
 use Rattle.tor_plan.proofs.Names.{unit_within, hash_units, joined_unit, joined_units, parts_within, separate_units}
 use Rattle.tor_plan.proofs.Names.{units_of_file, cases_Bool, and_from, and_left, and_right, or_parts}
@@ -133,7 +133,7 @@ aligned_files p size index (file ∷ files) =
     ∙ skips_padded size (index + 1) (ltb 0 n && has_bytes files) n (aligned_entries false p files))
 
 pub entry_units_of_files : (kind : Kind) (p span : ℕ) (files : List File)
-    → hash_units kind p span files ≡ entry_units kind p span (v1_entries (layout_of kind false) p files)
+    → hash_units kind p span files ≡ entry_units kind p span (v1_entries (layout_of_kind kind false) p files)
 entry_units_of_files V1 p span files = joined_files (span * p) files
 entry_units_of_files V2 p span files = files_alone p (span * p) 0 files
 entry_units_of_files Hybrid p span files = aligned_files p (span * p) 0 files
@@ -195,7 +195,7 @@ files_unpadded [] = refl
 files_unpadded (file ∷ files) = files_unpadded files
 
 pub files_laid_out : (kind : Kind) (tail : Bool) (p : ℕ) (files : List File)
-    → IsLaidOut kind p (v1_entries (layout_of kind tail) p files)
+    → IsLaidOut kind p (v1_entries (layout_of_kind kind tail) p files)
 unfolding IsLaidOut
 files_laid_out V1 tail p files = tt
 files_laid_out V2 tail p files = files_unpadded files

@@ -31,7 +31,7 @@ pub use Rattle.std.specs.Option.{option_or}
 pub use Rattle.tor_merkle.proofs.ProvedLaws.{height_least}
 pub use Rattle.tor_merkle.specs.Subtree.{height}
 pub use Rattle.tor_merkle.specs.declared.TheConstants.{MAX_LENGTH}
-pub use Rattle.tor_plan.specs.Content.{AreContentsOfFiles, cut_content, layout_of, part_content, unit_content}
+pub use Rattle.tor_plan.specs.Content.{AreContentsOfFiles, cut_content, layout_of_kind, part_content, unit_content}
 pub use Rattle.tor_plan.specs.Entries.{after_part, after_zeros, empty_unit, entries_length, entry_units}
 pub use Rattle.tor_plan.specs.Entries.{joined_entry_unit, lengths_of_entries, shared}
 unfoldable pub use Rattle.tor_plan.specs.Entries.{joined_entry_units, padding_before_next, separate_entry_units}

@@ -4,7 +4,7 @@ use Rattle.tor_plan.proofs.Names.{◌∙◌}
 use Rattle.tor_plan.proofs.Names.{sym, subst, map, inl, inr, append-nil, eq-zero-or-pos, mul-pos, All, flat_map, Kind}
 use Rattle.tor_plan.proofs.Names.{V1}
 use Rattle.tor_plan.proofs.Names.{V2, Hybrid, AreContentsOf, joined_content, v1_entries, piece_sums, Entry}
-use Rattle.tor_plan.proofs.Names.{AreContentsOfFiles, cut_content, layout_of, unit_content, entry_units}
+use Rattle.tor_plan.proofs.Names.{AreContentsOfFiles, cut_content, layout_of_kind, unit_content, entry_units}
 use Rattle.tor_plan.proofs.Names.{lengths_of_entries, IsLaidOut, piece_of_unit, pieces_of_unit, hash_units, IsInFile}
 use Rattle.tor_plan.proofs.Names.{IsUnitWithin, unit_length, IsFileUnit, PlanUnit, whole_unit}
 use Rattle.tor_plan.proofs.PieceWithin.{unit_between_length}
@@ -149,6 +149,7 @@ pub units_are_the_content : (kind : Kind) (piece_length span : ℕ) (files : Lis
     ≡ cut_content kind false piece_length files contents
 units_are_the_content kind piece_length span files contents pos fit =
     ap (flat_map (unit_content contents)) (entry_units_of_files kind piece_length span files)
-    ∙ entry_units_are_the_content kind piece_length span (v1_entries (layout_of kind false) piece_length files) contents
+    ∙ entry_units_are_the_content kind piece_length span (v1_entries (layout_of_kind kind false) piece_length files)
+    contents
     pos (files_laid_out kind false piece_length files)
-    (fit ∙ sym (lengths_of_files (layout_of kind false) piece_length files))
+    (fit ∙ sym (lengths_of_files (layout_of_kind kind false) piece_length files))

@@ -26,12 +26,12 @@ abbrev pub unit_content : List (List ℕ) → PlanUnit → List ℕ
 unit_content contents unit = zeros unit.zeros ++ flat_map (part_content contents) unit.parts
 
 -- in a hybrid torrent with padding between the files, and with a tail after the last; else directly after one another
-abbrev pub layout_of : Kind → Bool → Layout
-layout_of Hybrid false = Aligned
-layout_of Hybrid true = AlignedTail
-layout_of _ tail = Joined
+abbrev pub layout_of_kind : Kind → Bool → Layout
+layout_of_kind Hybrid false = Aligned
+layout_of_kind Hybrid true = AlignedTail
+layout_of_kind _ tail = Joined
 
 -- the content that the units cut: that of the files' entries
 abbrev pub cut_content : Kind → Bool → ℕ → List (List (List ℕ) × ℕ) → List (List ℕ) → List ℕ
 cut_content kind tail piece_length files contents =
-    joined_content (v1_entries (layout_of kind tail) piece_length files) contents
+    joined_content (v1_entries (layout_of_kind kind tail) piece_length files) contents

@@ -2,7 +2,7 @@
 ghost use Rattle.std.specs.Prelude.{◌≡◌, ◌≢◌, ℕ, ◌+◌, ◌-◌, ◌*◌, ◌^◌, ◌<◌, ◌≤◌, Bool, false, min, All, List, length};
 ghost use Rattle.std.specs.Prelude.{slice_index_or};
 ghost use Rattle.std.specs.List.{flat_map};
-ghost use Rattle.tor_plan.specs.Content.{AreContentsOfFiles, cut_content, layout_of, unit_content};
+ghost use Rattle.tor_plan.specs.Content.{AreContentsOfFiles, cut_content, layout_of_kind, unit_content};
 ghost use Rattle.tor_plan.specs.Entries.{entry_units, lengths_of_entries};
 ghost use Rattle.tor_plan.specs.EntryList.{IsEntryList, IsLaidOut};
 ghost use Rattle.tor_plan.specs.Forest.{AreRuns};
@@ -34,14 +34,14 @@ pub fn units_are_the_content()
 pub fn files_are_cut_as_entries()
     ensures units { (kind : Kind) (piece_length span : ℕ) (files : List (List (List ℕ) × ℕ)) →
         hash_units kind piece_length span files
-        ≡ entry_units kind piece_length span (v1_entries (layout_of kind false) piece_length files) }
+        ≡ entry_units kind piece_length span (v1_entries (layout_of_kind kind false) piece_length files) }
     ensures lengths { (kind : Kind) (tail : Bool) (piece_length : ℕ) (files : List (List (List ℕ) × ℕ)) →
-        lengths_of_entries (v1_entries (layout_of kind tail) piece_length files) ≡ lengths_of files }
+        lengths_of_entries (v1_entries (layout_of_kind kind tail) piece_length files) ≡ lengths_of files }
     ensures laid_out { (kind : Kind) (tail : Bool) (piece_length : ℕ) (files : List (List (List ℕ) × ℕ)) →
-        IsLaidOut kind piece_length (v1_entries (layout_of kind tail) piece_length files) }
+        IsLaidOut kind piece_length (v1_entries (layout_of_kind kind tail) piece_length files) }
     ensures listed { (kind : Kind) (tail : Bool) (piece_length : ℕ) (files : List (List (List ℕ) × ℕ)) →
         IsFileList files → IsPlanPieceLength kind piece_length →
-        IsEntryList kind piece_length (v1_entries (layout_of kind tail) piece_length files) }
+        IsEntryList kind piece_length (v1_entries (layout_of_kind kind tail) piece_length files) }
 {}
 
 /// The units have each byte of each entry once, in order: together they are the content of the entries.

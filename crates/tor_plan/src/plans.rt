@@ -1,6 +1,6 @@
 //! The plan of a list of files, or of the entries of a torrent.
 ghost use Rattle.std.specs.Prelude.{◌≡◌, false, IfOk, map};
-ghost use Rattle.tor_plan.specs.Content.{layout_of};
+ghost use Rattle.tor_plan.specs.Content.{layout_of_kind};
 ghost use Rattle.tor_plan.specs.Entries.{lengths_of_entries};
 
 use crate::forests::{Forest, trees_of};
@@ -10,7 +10,7 @@ use crate::whole::whole_of_entries;
 use std::alloc::{AllocError, Global};
 use std::marker::Model;
 use tor_tree::{FileList, Kind};
-use tor_v1::{Entry, Layout, entries_of};
+use tor_v1::{Entry, Layout, entries_without_letters};
 
 /// How files are cut into units of work for hashing workers. Contracts see what it tells.
 #[derive(Debug, Drop)]
@@ -62,7 +62,7 @@ impl Plan {
         ensures { IfOk result (λ plan. plan ≡ plan_of kind piece_length span list.now.files) }
     {
         let files = list.files();
-        let entries = entries_of(alloc, files, piece_length, layout_of(kind))?;
+        let entries = entries_without_letters(alloc, files, piece_length, layout_of_kind(kind))?;
         Plan::of_entries(alloc, &entries, kind, piece_length, span)
     }
 
@@ -155,8 +155,8 @@ impl Plan {
 }
 
 /// How files stand in the content that is cut.
-fn layout_of(kind: Kind) -> Layout
-    ensures { result ≡ layout_of kind false }
+fn layout_of_kind(kind: Kind) -> Layout
+    ensures { result ≡ layout_of_kind kind false }
 {
     match kind {
         Kind::Hybrid => Layout::Aligned,

@@ -9,13 +9,14 @@ use Rattle.tor_spec.proofs.Names.{FileLength}
 use Rattle.tor_spec.proofs.Names.{FileShape, FilesDiffer, InfoShape, LayerAbsent, LayerLength, LayerRoot, LayersAbsent}
 use Rattle.tor_spec.proofs.Names.{LengthAndFiles, MetaVersion, MixedNode, Name, NoFiles, PieceLength, PiecesLength}
 use Rattle.tor_spec.proofs.Names.{RootHash, RootShape, Symlink, TooLarge, info_of, is_number, kind_of, piece_length_of}
-use Rattle.tor_spec.proofs.Names.{SidesAgree, alignment, attr_differs, files_differ, tree_files, is_dictionary, has_v1}
+use Rattle.tor_spec.proofs.Names.{alignment, attr_differs, files_differ, tree_files, is_dictionary, has_v1}
 use Rattle.tor_spec.proofs.Names.{has_v2, Kind}
 use Rattle.tor_spec.proofs.Names.{V1, V2, Hybrid, TreeFile}
 use Rattle.tor_spec.proofs.MadeView.{layers_found}
 use Rattle.tor_spec.proofs.MadeHeads.{IsInfo, IsRootWith, info_told, kind_told, piece_length_told, tree_file}
 use Rattle.tor_spec.proofs.MadeList.{ListIsValid}
 use Rattle.tor_spec.proofs.MadeLayers.{guarded, has_own_root, lacks_none, well_shaped}
+use Rattle.tor_spec.proofs.MadeSides.{SidesAgree}
 use Rattle.tor_spec.proofs.MadeTree.{TreeIsValid, made_tree, made_tree_files}
 use Rattle.tor_spec.specs.valid.Heads as heads
 use Rattle.tor_spec.specs.valid.Layers as layers

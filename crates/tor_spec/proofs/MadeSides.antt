@@ -2,7 +2,7 @@
 use Rattle.tor_spec.proofs.Names.{◌≡◌, ℕ, ◌==◌, Bool, true, false, not, ◌&&◌, ◌||◌, List, [], ◌∷◌, map, length}
 use Rattle.tor_spec.proofs.Names.{refl, ap, ap₂, ◌∙◌, and_from, and_right, eq-eqb, or_from, lists_equiv}
 use Rattle.tor_spec.proofs.Names.{nat_list_eq_equiv, nat_lt, if◌then◌else◌, Data, File, AreMade, sizes_of}
-use Rattle.tor_spec.proofs.Names.{facts_of_files, Settings, is_aligned, layout_of, ListedFile, SidesAgree, alignment}
+use Rattle.tor_spec.proofs.Names.{facts_of_files, Settings, is_aligned, layout_of, ListedFile, alignment}
 use Rattle.tor_spec.proofs.Names.{attr_differs, attrs_of, some_letters_differ}
 use Rattle.tor_spec.proofs.Names.{files_differ, has_wrong_tail, is_misaligned_after, last_size, listed_by_list}
 use Rattle.tor_spec.proofs.Names.{listed_by_tree, same_files, tree_files, has_v1, path_eq, Hybrid}
@@ -13,6 +13,12 @@ use Rattle.tor_spec.proofs.BareSides.{bare_of, plain, same_alignment}
 use Rattle.tor_spec.proofs.MadeListEntries.{listed_file}
 use Rattle.tor_spec.proofs.MadeListSide.{layout_of_one, made_listed, made_side}
 use Rattle.tor_spec.proofs.MadeSidesAligned.{all_aligned, right_tail, size_of_last}
+
+-- the sides of a hybrid agree
+pub record SidesAgree (info : Data) : Type 0 where
+  pub files : files_differ info ≡ false
+  pub aligned : alignment info ≡ false
+  pub letters : attr_differs info ≡ false
 
 abbrev Files : Type 0
 Files = List (List (List ℕ) × ℕ)

@@ -78,7 +78,7 @@ pub use Rattle.tor_spec.specs.valid.ListSide.{side_files, side_piece_count, sing
 pub use Rattle.tor_spec.specs.valid.ListSide.{without_padding}
 pub use Rattle.tor_spec.specs.valid.Parts.{info_of, is_number, is_private, items_in, items_of_list, kind_of, name_of}
 pub use Rattle.tor_spec.specs.valid.Parts.{part, piece_length_of, text_of}
-pub use Rattle.tor_spec.specs.valid.SidesAgree.{SidesAgree, aligned_after, alignment, attr_differs, files_differ}
+pub use Rattle.tor_spec.specs.valid.SidesAgree.{aligned_after, alignment, attr_differs, files_differ}
 pub use Rattle.tor_spec.specs.valid.SidesAgree.{has_wrong_tail, is_filled, is_misaligned_after, last_size}
 pub use Rattle.tor_spec.specs.valid.SidesAgree.{letters_differ, listed_by_list}
 pub use Rattle.tor_spec.specs.valid.SidesAgree.{listed_by_tree, same_files, size_before, some_letters_differ, tail_size}

@@ -1,6 +1,5 @@
 -- What a torrent says of its files.
 use Rattle.std.specs.Prelude.{ℕ, List, map, length, Option}
-use Rattle.std.specs.List.{zip}
 use Rattle.tor_merkle.specs.Layer.{root_of, piece_layer}
 use Rattle.tor_tree.specs.declared.attr.Attr.{Attr}
 
@@ -41,10 +40,3 @@ layers_in facts = map (λ file. file.layer) facts
 
 abbrev pub attrs_in : List Facts → List Attr
 attrs_in facts = map (λ file. file.attr) facts
-
--- the facts of a list of files, with their letters, roots and layers
-abbrev pub facts_from : List (List (List ℕ) × ℕ) → List Attr → List (Option (List ℕ)) → List (List (List ℕ))
-    → List Facts
-facts_from files attrs roots layers =
-    map (λ f. record { path = f.0.0; size = f.0.1; root = f.1.1.0; layer = f.1.1.1; attr = f.1.0 })
-    (zip files (zip attrs (zip roots layers)))

@@ -45,7 +45,7 @@ mod write_tree;
 pub use attr::Attr;
 pub use kinds::Kind;
 pub use lists::{FileList, ListError, MAX_TOTAL, ROUNDING};
-pub use names::{Name, NameError, copy_names, each_is_name};
+pub use names::{Name, NameError, copy_names};
 pub use path_lists::PathList;
 pub use paths::{FilePath, MAX_NAMES};
 pub use properties::{has_attr, letters_of};

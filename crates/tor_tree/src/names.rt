@@ -12,6 +12,7 @@ use std::alloc::{AllocError, AllocFailed, Global};
 use std::cmp::Ordering;
 use std::marker::Model;
 use std::str;
+use std::sync::ArcSlice;
 use thiserror::Error;
 
 /// Why a byte string is no name. The least number is answered.
@@ -57,7 +58,7 @@ impl<T: Drop> From<AllocFailed<T>> for NameError {
 /// The name of a file or a folder. Contracts see its bytes.
 #[derive(Debug, Drop)]
 pub struct Name {
-    bytes: Vec<u8>,
+    bytes: ArcSlice<u8>,
 }
 
 impl Model for Name {
@@ -65,11 +66,12 @@ impl Model for Name {
 
     ghost Value = { List ℕ };
 
+    ghost use Rattle.std.specs.Arc.{arc_slice_items};
     ghost use Rattle.tor_tree.specs.Name.{name_fault};
 
-    ghost view = { λ name. name.bytes.items };
+    ghost view = { λ name. arc_slice_items name.bytes };
 
-    ghost invariant = { λ name. name_fault name.bytes.items ≡ None };
+    ghost invariant = { λ name. name_fault (arc_slice_items name.bytes) ≡ None };
 }
 
 impl Name {
@@ -83,15 +85,15 @@ impl Name {
         if let Some(fault) = fault_of(bytes) {
             return Err(fault);
         }
-        let bytes = Vec::from_slice(alloc, bytes)?;
+        let bytes = ArcSlice::from_slice(alloc, bytes)?;
         Ok(Name { bytes })
     }
 
-    /// The same name again.
-    pub fn copy(&self, alloc: Global) -> Result<Name, AllocError>
+    /// The same name again: one more owner of its bytes, and no new memory.
+    pub fn copy(&self, _alloc: Global) -> Result<Name, AllocError>
         ensures { IfOk result (λ name. name ≡ self.now) }
     {
-        let bytes = Vec::from_slice(alloc, self.bytes.as_slice())?;
+        let bytes = self.bytes.clone()?;
         Ok(Name { bytes })
     }
 
@@ -166,7 +168,7 @@ pub fn copy_names(alloc: Global, names: &[Name]) -> Result<Vec<Name>, AllocError
 }
 
 /// Each name is without fault. Of a slice contracts see lists of bytes alone: this says again what the type keeps.
-pub fn each_is_name(names: &[Name])
+pub(crate) fn each_is_name(names: &[Name])
     ensures { All (λ name. name_fault name ≡ None) names.now }
 {
     for name in names {

@@ -1,12 +1,13 @@
 //! The entries of a list of files, in one of three layouts.
 ghost use Rattle.std.specs.Prelude.{◌≡◌, ◌↔◌, ◌&&◌, ◌||◌, Err, IfOk, IsTrue, map, count_by, nat_lt};
 ghost use Rattle.std.specs.List.{list_any};
-ghost use Rattle.tor_v1.specs.Entries.{aligned_entries, file_entry, v1_entries};
+ghost use Rattle.tor_v1.specs.Entries.{aligned_entries, file_entry, v1_entries, with_letters};
 ghost use Rattle.tor_v1.specs.Piece.{IsV1PieceLength};
 ghost use Rattle.tor_v1.specs.Reserved.{is_reserved, takes_reserved};
 ghost use Rattle.tor_v1.specs.declared.layout.LayoutError.TheVariants.{ReservedPad, Memory};
 
 use crate::entry::{Entry, file_entry, is_reserved};
+use crate::letters::put_letters;
 use crate::padding::{pad_entry, padding_length};
 use std::alloc::{AllocError, Global};
 use thiserror::Error;
@@ -43,8 +44,8 @@ impl From<AllocError> for LayoutError {
     }
 }
 
-/// The entries of the files, in the order of the list (BEP 3, "info dictionary"; BEP 47, "padding files"). They have no
-/// letters yet, whatever those of the list: `put_letters` puts them.
+/// The entries of the files, in the order of the list, each with the letters of its file (BEP 3, "info dictionary"; BEP
+/// 47, "padding files" and "attr").
 pub fn lay_out(
     alloc: Global,
     list: &FileList,
@@ -52,20 +53,21 @@ pub fn lay_out(
     layout: Layout,
 ) -> Result<Vec<Entry>, LayoutError>
     requires { IsV1PieceLength piece_length }
-    ensures made { IfOk result (λ entries. entries.items ≡ v1_entries layout piece_length list.now.files) }
+    ensures made { IfOk result (λ entries. entries.items
+        ≡ with_letters list.now.attrs (v1_entries layout piece_length list.now.files)) }
     ensures reserved { (result ≡ Err ReservedPad) ↔ IsTrue (takes_reserved layout list.now.files) }
 {
     let files = list.files();
-    match layout {
-        Layout::Joined => Ok(joined(alloc, files)?),
-        _ if any_reserved(files) => Err(LayoutError::ReservedPad),
-        Layout::Aligned => Ok(aligned(alloc, files, piece_length, false)?),
-        Layout::AlignedTail => Ok(aligned(alloc, files, piece_length, true)?),
+    if is_refused(layout, files) {
+        return Err(LayoutError::ReservedPad);
     }
+    let mut entries = entries_without_letters(alloc, files, piece_length, layout)?;
+    put_letters(&mut entries, list.attrs());
+    Ok(entries)
 }
 
-/// The same of files whose paths nobody has to tell from those of padding.
-pub fn entries_of(
+/// The entries of files whose letters and reserved paths do not matter, as to cut their bytes into units of work.
+pub fn entries_without_letters(
     alloc: Global,
     files: &[(FilePath, u64)],
     piece_length: u64,
@@ -78,6 +80,16 @@ pub fn entries_of(
         Layout::Joined => joined(alloc, files),
         Layout::Aligned => aligned(alloc, files, piece_length, false),
         Layout::AlignedTail => aligned(alloc, files, piece_length, true),
+    }
+}
+
+/// Whether the files are to be aligned, and only padding may have one of their paths.
+fn is_refused(layout: Layout, files: &[(FilePath, u64)]) -> bool
+    ensures { result ≡ takes_reserved layout files.now }
+{
+    match layout {
+        Layout::Joined => false,
+        Layout::Aligned | Layout::AlignedTail => any_reserved(files),
     }
 }
 

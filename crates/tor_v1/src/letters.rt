@@ -7,7 +7,7 @@ use crate::entry::Entry;
 use tor_tree::Attr;
 
 /// Gives each entry that is no padding the letters of its file; of more entries than letters the last have none.
-pub fn put_letters(entries: &mut [Entry], attrs: &[Attr])
+pub(crate) fn put_letters(entries: &mut [Entry], attrs: &[Attr])
     ensures { entries.new ≡ with_letters attrs.now entries.old }
 {
     // How many entries had letters.

@@ -2,9 +2,9 @@
 //! hybrid one (BEP 47, "padding files"), and the SHA-1 of its pieces.
 //!
 //! - [`Entry`] (`entry.rt`): an entry of the list, a file or padding; [`is_reserved`]: a path only padding may have.
-//! - [`lay_out`] (`layout.rt`): the entries of a list of files, in one of three layouts; [`entries_of`] makes them of
-//!   any paths. `padding.rt` makes the padding, [`pad_entry`] is one.
-//! - [`put_letters`] (`letters.rt`): the letters of files, put on their entries.
+//! - [`lay_out`] (`layout.rt`): the entries of a list of files, in one of three layouts, with the letters of the files
+//!   (`letters.rt`); [`entries_without_letters`] makes them of any paths. `padding.rt` makes the padding, [`pad_entry`]
+//!   is one.
 //! - [`PieceSums`] (`sums.rt`): the SHA-1 of each piece of a content that is fed in parts.
 //!   `runs.rt` has eight pieces hashed at once.
 //! - [`laws`]: what follows from the definitions alone.
@@ -29,8 +29,7 @@ mod runs;
 mod sums;
 
 pub use entry::{Entry, is_reserved};
-pub use layout::{Layout, LayoutError, entries_of, lay_out};
-pub use letters::put_letters;
+pub use layout::{Layout, LayoutError, entries_without_letters, lay_out};
 pub use padding::pad_entry;
 pub use runs::MAX_PIECE_IN_RUN;
 pub use sums::PieceSums;

@@ -80,9 +80,3 @@ some_letters_differ listed files = list_any (λ pair. letters_differ pair.0 pair
 -- V25: some file has other letters on one side than on the other
 abbrev pub attr_differs : Data → Bool
 attr_differs info = some_letters_differ (listed_files info) (tree_files info)
-
--- the sides of a hybrid agree
-pub record SidesAgree (info : Data) : Type 0 where
-  pub files : files_differ info ≡ false
-  pub aligned : alignment info ≡ false
-  pub letters : attr_differs info ≡ false
