@@ -64,7 +64,8 @@ module _ {words_count slots_count : ℕ} {shape : Shape} (shaped : IsShape words
       (omega (arith, length-set s.words (word_above c) (n + 1))) homes_else wider (λ k ne. refl) (λ k P ne are. are)
       (omega (arith, words-set s.words (word_above c) (n + 1) long)) joins joins_else v_in w_in
       (λ f. omega (arith, same f)) (λ u o. same (λ y h. only u y))
-      (calm kept.claims id v at some_room w (λ f. omega (arith, same (λ y h. f y))) (refl, refl, refl)))
+      (calm kept.claims id v at some_room w (λ f. omega (arith, same (λ y h. f y)))
+      (refl, refl, refl, refl)))
 
   -- the step, and what it tells
   arrives_all : Does shape s (put_back s.homes c.spare) id (word_above c) ((n + 1) % 2 ^ 64) ((c.slot, c.hash) ∷ [])
@@ -118,4 +119,4 @@ arrives {shape = shape} shaped slots id m c in_climb carried is below spare some
     let after : Seated = (r.0, carried_after ((c.slot, c.hash) ∷ []) r.1) in
     let At : Climb → Type 0 = λ x. arrived_from x m n after × IsAtNode x (word_above c) in
     with_spare shape s id (word_above c) ((n + 1) % 2 ^ 64) c m.1 (arrived (step slots (word_above c) 1 0 none) m n)
-    carried spare (r.0, r.1, r.2, r.3, (of_climb At m.0 c in_climb (r.4, here), some_room, c, in_climb))
+    carried spare (r.0, r.1, r.2, r.3, (of_climb At m.0 c in_climb (r.4, here), some_room, c, in_climb, refl))

@@ -5,7 +5,7 @@ use Rattle.tor_board.proofs.Names.{Bool, Climb, IsAtTop, IsChange, IsEvent, IsGi
 use Rattle.tor_board.proofs.Names.{IsTreeOf, KeepsTree, List, Machine, None, Seated, Shape, Side, Some, State, Tree}
 use Rattle.tor_board.proofs.Names.{View, [], ap, arith, arrive, arrived_from, at_map, climb_from, climbed, climbing}
 use Rattle.tor_board.proofs.Names.{climbs_to, cond, desk_of, dite, false, gave_told, get_or, hand, handed, hands}
-use Rattle.tor_board.proofs.Names.{has_unit, inr, joining, least_of, length, meets, met, middle, only, other_slot}
+use Rattle.tor_board.proofs.Names.{inr, joining, least_of, length, meets, met, middle, only, other_slot}
 use Rattle.tor_board.proofs.Names.{ready, refl, rested, rests, runs_of, seal, sealed_from, seals, set, slot_at, slot_of}
 use Rattle.tor_board.proofs.Names.{subst, suc, sym, times_arrived, times_given, top_root, topped, true, way_in, way_of}
 use Rattle.tor_board.proofs.Names.{word_of, ℕ, ℕ_discrete, ◌%◌, ◌*◌, ◌+◌, ◌-◌, ◌/◌, ◌<◌, ◌==◌, ◌^◌, ◌∙◌, ◌∷◌, ◌≡◌, ◌≤◌}
@@ -149,12 +149,12 @@ module _ {shape : Shape} {m : Machine} {s s' : State (List ℕ) View} {id : ℕ}
         (found_beside ∙ one) refl refl next))
 
   -- ---- a unit of a tree is handed in
-  pub hands_tree : (t : Tree) → IsTreeOf shape t → (u : ℕ) (hash : List ℕ) → has_unit t u ≡ true
+  pub hands_tree : (t : Tree) → IsTreeOf shape t → (u : ℕ) (hash : List ℕ)
       → (has : List (ℕ × List ℕ)) (after : Seated) (st : _) (n : ℕ) → gave_told (Some t) u hash st (v, has) n after
       → IsChange s 0 (get_or s.words 0 0) id after.0 s' → IsEvent shape m id (hand u hash) s'
-  hands_tree t is u hash in_tree has after st n told change =
+  hands_tree t is u hash has after st n told change =
       let k : ℕ = get_or s.words 0 0 in let idle : v.climb ≡ None = told.2.1 in let tree = now.kept.trees t is in
-      let among = has_unit-true t u in_tree in let i : ℕ = u - t.first in
+      let in_tree = told.4 in let among = has_unit-true t u in_tree in let i : ℕ = u - t.first in
       let unit : u ≡ t.first + (u - t.first) = omega (arith, among.0) in
       let c : Climb = climb_from t 0 i hash [] in let w : View = handed v u hash (Some c) in
       let changed : IsChange s 0 k id w s' = as_told now _ told.0.1 refl change in

@@ -9,7 +9,7 @@ use Rattle.tor_board.proofs.Names.{set_here, some, step, subst, sym, takes, time
 use Rattle.tor_board.proofs.Names.{word_of, ℕ, ℕ_discrete, ◌++◌, ◌+◌, ◌-◌, ◌/◌, ◌<◌, ◌∙◌, ◌∷◌, ◌≡◌, ◌≢◌, ◌≤◌, ◌⊎◌}
 use Rattle.tor_board.proofs.{Resting.{bare, handed_over, returned, sealed_tree}, Rising.lands, Steps.Does}
 use Rattle.tor_board.proofs.{Steps.{away_rooted, gave, unmoved_seat, weight}, Sums.{below-only, only-other, set_all}}
-use Rattle.tor_board.proofs.{Sums.{total-set, total-without, total_le, within}, Trees.side_in}
+use Rattle.tor_board.proofs.{Sums.{total-set, total-without, total_le, within}, Trees.{has_unit-within, side_in}}
 use Rattle.tor_board.specs.Plays.{sealed}
 
 -- no slot but the tree's is out with that climb
@@ -128,10 +128,12 @@ module _ {words_count slots_count : ℕ} {shape : Shape} (shaped : IsShape words
       (λ k P ne are. are) (omega arith) (omega (arith, not_joined t u)) (λ x a. omega (arith, not_joined x u))
       (λ x o. ap (has_out x) idle) (climb_within t c slot_in (inl refl)) (λ f. omega arith)
       (λ x o. omega (arith, only-other x u (λ e. o (u - t.first) (omega arith) (omega arith))))
-      (calm kept.claims id v at some_room w (λ f. omega (arith, total-without f u v.held has)) (refl, refl, refl))) in
+      (calm kept.claims id v at some_room w (λ f. omega (arith, total-without f u v.held has))
+      (refl, refl, refl, refl))) in
       let Goal : List (ℕ × List ℕ) → Type 0
       = λ l. Does shape s s.homes id 0 n l (gave_told (Some t) u hash (step slots 0 0 0 none) (v, l) n) in
-      subst Goal (sym empty) (w, takes c.slot taken.0, taken.1, whole, ((taken.0, refl), refl, (some_room, idle), has))
+      let within = has_unit-within t u low high in subst Goal (sym empty)
+      (w, takes c.slot taken.0, taken.1, whole, ((taken.0, refl), refl, (some_room, idle), has, within))
 
   pub seals : (slots id : ℕ) (m : Seated) (c : Climb) → m.0.climb ≡ Some c → m.1 ≡ c.spare ++ (c.slot, c.hash) ∷ []
       → IsTreeOf shape c.tree → IsAtTop c → AtMostOneSpare c → 0 < m.0.room
@@ -153,7 +155,7 @@ module _ {words_count slots_count : ℕ} {shape : Shape} (shaped : IsShape words
       (λ k ne. omega (arith, only-other k t.number (λ e. ne (sym e)))) (λ k P ne are. ((λ e. absurd (ne (sym e))), are))
       (omega arith) (omega arith) (λ x a. refl)
       (λ x o. ap (has_out x) in_climb ∙ climb_within t c slot_in spare x o) (λ x o. refl) (λ f. omega arith)
-      (λ u o. refl) (calm kept.claims id v at some_room w (λ f. refl) (refl, refl, refl))) in
+      (λ u o. refl) (calm kept.claims id v at some_room w (λ f. refl) (refl, refl, refl, refl))) in
       let each = of_climb (λ (x : Climb). sealed_from x m (w, []) × IsAtTop x) v c in_climb (refl, top) in
       with_spare shape s id 0 n c m.1 (sealed (step slots 0 0 0 none) m n) carried spare
       (w, gives, tt, whole, (each, refl, some_room, c, in_climb))

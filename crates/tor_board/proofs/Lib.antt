@@ -19,3 +19,4 @@ pub mod Shown
 pub mod Climbs
 pub mod Stepping
 pub mod Examples
+pub mod Ties

@@ -3,8 +3,9 @@ use Rattle.{std.specs.Prelude.{IfSome, MatchOption}, tor_board.proofs.Finding.{I
 use Rattle.tor_board.proofs.Names.{AtMostOneSpare, Board, Climb, Fits, GivenUnit, IsAtTop, IsClimbing, IsLow, IsShape}
 use Rattle.tor_board.proofs.Names.{IsSide, IsTreeOf, LastGiveIsIn, List, None, Option, Run, Seated, Shape, Some, Tree}
 use Rattle.tor_board.proofs.Names.{View, [], add-zero, ap, arith, at_map, climb_at, climb_from, desk_of, get_elem?}
-use Rattle.tor_board.proofs.Names.{get_or, handed, has_unit, in_run, joined_view, raised, refl, rest, run_of, slot_at}
-use Rattle.tor_board.proofs.Names.{some, subst, suc, sym, true, turned, ℕ, ◌*◌, ◌++◌, ◌+◌, ◌-◌, ◌/◌, ◌<◌, ◌^◌, ◌∙◌, ◌∷◌}
+use Rattle.tor_board.proofs.Names.{get_or, handed, has_unit, in_run, joined_view, met, node_of, raised, refl, rest}
+use Rattle.tor_board.proofs.Names.{run_of, slot_at, some, subst, suc, sym, true, turned, ℕ, ◌*◌, ◌++◌, ◌+◌, ◌-◌, ◌/◌}
+use Rattle.tor_board.proofs.Names.{◌<◌, ◌^◌, ◌∙◌, ◌∷◌}
 use Rattle.tor_board.proofs.{Names.{◌≡◌, ◌≢◌, ◌≤◌}, Rising.{goal_of, lands, side_low}, Sums.mapped, Trees.has_unit-true}
 use Rattle.tor_board.{proofs.Trees.{node_inside, side_covers}, specs.Desks.{after_give, told}, specs.Seats.IsClimbOf}
 use Rattle.tor_board.specs.{Seats.forest_of, steps.Climbing.{joined_by, rested_view, topped_view}}
@@ -12,6 +13,13 @@ use Rattle.tor_board.specs.{Seats.forest_of, steps.Climbing.{joined_by, rested_v
 -- the seat knows v, and has those slots
 abbrev IsSeat : Seated → View → List (ℕ × List ℕ) → Type 0
 IsSeat m v slots = ◌≡◌ {A = Seated} m (v, slots)
+
+-- two hashes are joined in the order of their sides
+pub met_left : (side : ℕ) (a b : List ℕ) → side ≡ 0 → node_of a b ≡ met side a b
+met_left side a b left = grind arith
+
+pub met_right : (side : ℕ) (a b : List ℕ) → side ≢ 0 → node_of b a ≡ met side a b
+met_right side a b right = grind arith
 
 -- the tree is low, and its words and slots are small
 pub tree_facts : {words slots : ℕ} {shape : Shape} → IsShape words slots shape → (t : Tree) → IsTreeOf shape t
@@ -112,6 +120,12 @@ after_rested j v u hash c =
       given = record { unit = u; hash = hash; joined = e i } ∷ v.given;
       arrivals = a i;
     }
+
+-- a give of no climb
+pub given_alone : (v : View) (m : Seated) (u : ℕ) (hash : List ℕ) → IsSeat m (handed v u hash None) []
+    → desk_of m.0 ≡ after_give (desk_of v) u hash 0 0 None
+given_alone v m u hash is = ap (λ (n : Seated). desk_of n.0) is
+    ∙ (λ i. record (desk_of (handed v u hash None)) { arrivals = sym (add-zero v.arrivals) i })
 
 -- what a climb told of the seat, as one fact
 pub given_after : (b : Board) (t : Tree) → IsTreeOf b.shape t → (top : Option (ℕ × List ℕ)) (j levels : ℕ)

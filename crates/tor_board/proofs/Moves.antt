@@ -39,7 +39,7 @@ module _ {units claims least : ℕ} {views : List View} (k : KeepsClaims units c
 module _ {units claims least : ℕ} {views : List View} (k : KeepsClaims units claims least views) (id : ℕ) (v : View)
     (at : get_elem? views id ≡ some v) (some_room : 0 < v.room) (claims' : ℕ) (w : View)
     (names : (f : ℕ → ℕ) → named f w + below f (min claims units) ≡ named f v + below f (min claims' units))
-    (room : w.room ≡ v.room)
+    (room : w.room ≡ v.room) (counts : w.claims + claims ≡ v.claims + claims')
     (bound : (s s' : ℕ) → claims ≤ units + s → s' + stopped v ≡ s + stopped w → claims' ≤ units + s') where
   -- the words and the seat change, and no other view does
   pub changed : (least' : ℕ) → ((u : ℕ) → u < least' → total (failures (only u)) (set views id w) ≡ 0)
@@ -52,6 +52,7 @@ module _ {units claims least : ℕ} {views : List View} (k : KeepsClaims units c
         once = λ f. omega (arith, total-set (named f) views id v w at, k.once f, names f);
         rooms = omega (arith, total-set (λ (u : View). u.room) views id v w at, k.rooms);
         gone = set_all (λ (u : View). u.room ≡ 0 → u ≡ spent) views id w k.gone (λ no_one. absurd (omega arith));
+        counted = omega (arith, total-set (λ (u : View). u.claims) views id v w at, k.counted, counts);
         bounded = bound (total stopped views) (total stopped (set views id w)) k.bounded
             (total-set stopped views id v w at);
         spared = spared;
@@ -75,12 +76,12 @@ module _ {units claims least : ℕ} {views : List View} (k : KeepsClaims units c
 -- no unit is claimed or failed, and the seat has its room and is done as before
 pub calm : {units claims least : ℕ} {views : List View} → KeepsClaims units claims least views → (id : ℕ) (v : View)
     → get_elem? views id ≡ some v → 0 < v.room → (w : View) → ((f : ℕ → ℕ) → named f w ≡ named f v)
-    → (w.room ≡ v.room) × (w.failed ≡ v.failed) × (w.done ≡ v.done)
+    → (w.room ≡ v.room) × (w.failed ≡ v.failed) × (w.done ≡ v.done) × (w.claims ≡ v.claims)
     → KeepsClaims units claims least (set views id w)
 calm {claims = claims} k id v at some_room w names same =
     let still : stopped w ≡ stopped v = λ i. cond (same.2 i) (same.0 i) 0 in
-    steady k id v at some_room claims w (λ f. omega (arith, names f)) same.0 (λ t t' h e. omega arith) same.1
-    (omega arith) (λ e. inl (sym same.2 ∙ e))
+    steady k id v at some_room claims w (λ f. omega (arith, names f)) same.0 (omega (arith, same.3))
+    (λ t t' h e. omega arith) same.1 (omega arith) (λ e. inl (sym same.2 ∙ e))
 
 module _ {units claims least : ℕ} {views : List View} (k : KeepsClaims units claims least views) (id : ℕ) (v : View)
     (at : get_elem? views id ≡ some v) (whole : v.room ≡ 256) where
@@ -174,7 +175,8 @@ looks shape slots id m some_room idle not_done s kept homes at small =
     → looked (step slots 1 0 0 none) m n (record m.0 { done = d; looked = l }, m.1)
     → Does shape s s.homes id 1 n m.1 (looked (step slots 1 0 0 none) m n)
     = λ d l room why told. let w : View = record m.0 { done = d; looked = l } in
-    let claims = steady k id m.0 at some_room c w (λ f. refl) refl (λ t t' h e. omega arith) refl (omega arith) why in
+    let claims = steady k id m.0 at some_room c w (λ f. refl) refl refl (λ t t' h e. omega arith) refl (omega arith)
+    why in
     (w, keeps, tt, steady_second kept id m.0 at idle n w (alike shape m.0 idle) claims, told) in
     dite (ℕ_discrete n nobody) (λ none-yet. change m.0.done true (omega arith) (λ e. inl e)
     ((λ e. (refl, none_failed k id m.0 at kept.small e)), (λ ne. absurd (ne none-yet)), refl, free, not_done))
@@ -192,19 +194,22 @@ claims shape slots id m some_room idle not_done saw of s kept homes at small =
     → ((f : ℕ → ℕ) → total f held + below f (min n units) ≡ total f m.0.held + below f (min (n + 1) units))
     → ((s s' : ℕ) → n ≤ units + s → s' + stopped m.0 ≡ s + cond d m.0.room 0 → n + 1 ≤ units + s')
     → (d ≡ true → (m.0.done ≡ true) ⊎ ((get_or s.words 1 0 < nobody) ⊎ (units ≤ n + 1)))
-    → claimed (step slots 0 1 0 none) m n (record m.0 { held = held; done = d; looked = false }, m.1)
+    → claimed (step slots 0 1 0 none) m n
+    (record m.0 { held = held; done = d; looked = false; claims = m.0.claims + 1 }, m.1)
     → Does shape s s.homes id 0 ((n + 1) % 2 ^ 64) m.1 (claimed (step slots 0 1 0 none) m n)
-    = λ held d names bound why told. let w : View = record m.0 { held = held; done = d; looked = false } in
-    let claims = steady k id m.0 at some_room (n + 1) w (λ f. omega (arith, names f)) refl bound refl (omega arith) why
-    in (w, keeps, tt, rw next (steady_first kept id m.0 at idle (n + 1) w (alike shape m.0 idle) claims), told) in
+    = λ held d names bound why told.
+    let w : View = record m.0 { held = held; done = d; looked = false; claims = m.0.claims + 1 } in
+    let claims = steady k id m.0 at some_room (n + 1) w (λ f. omega (arith, names f)) refl (omega arith) bound refl
+    (omega arith) why in
+    (w, keeps, tt, rw next (steady_first kept id m.0 at idle (n + 1) w (alike shape m.0 idle) claims), told) in
     dite (dec_le units n) (λ over. change m.0.held true
     (λ f. let e : min n units ≡ units = omega arith in let e' : min (n + 1) units ≡ units = omega arith in
     rw (e, e') refl) (λ t t' h e. omega arith) (λ e. inr (inr (omega arith)))
-    ((λ h. absurd (omega arith)), (λ h. refl), refl, free, not_done, saw)) (λ under.
+    ((λ h. absurd (omega arith)), (λ h. refl), refl, free, not_done, saw, refl)) (λ under.
     let unnamed : named (only n) m.0 ≡ 0 = let z = (below-only n (min n units)).1 (omega arith) in
     omega (arith, term_le (named (only n)) s.views id m.0 at, k.once (only n)) in change (n ∷ m.0.held) m.0.done
     (λ f. grind (arith, below_more f n)) (λ t t' h e. omega arith) (λ e. inl e)
-    ((λ h. (refl, unnamed)), (λ h. absurd (omega arith)), refl, free, not_done, saw))
+    ((λ h. (refl, unnamed)), (λ h. absurd (omega arith)), refl, free, not_done, saw, refl))
 
 -- a unit of no tree is given
 pub hands_alone : (shape : Shape) (slots id : ℕ) (m : Seated) (u : ℕ) (hash : List ℕ) → 0 < m.0.room → m.0.climb ≡ None
@@ -215,7 +220,8 @@ hands_alone shape slots id m u hash some_room idle has alone s kept homes at sma
     let other = λ (t : Tree) (is : IsTreeOf shape t) (j : ℕ) (h : j < t.count).
     only-other (t.first + j) u (alone t is j h) in let like : IsAlike shape m.0 w = grind arith in
     let whole = steady_first kept id m.0 at idle n w like
-    (calm kept.claims id m.0 at some_room w (λ f. omega (arith, total-without f u m.0.held has)) (refl, refl, refl)) in
+    (calm kept.claims id m.0 at some_room w (λ f. omega (arith, total-without f u m.0.held has))
+    (refl, refl, refl, refl)) in
     (w, keeps, tt, whole, (refl, refl, (some_room, idle), has))
 
 pub fails : (shape : Shape) (slots id : ℕ) (m : Seated) (u : ℕ) → 0 < m.0.room → m.0.climb ≡ None → 0 < times u m.0.held
@@ -225,7 +231,7 @@ fails shape slots id m u some_room idle has s kept homes at small =
     let w : View = failing m.0 u in
     let grown : (x : ℕ) → total (failures (only x)) (set s.views id w) ≡ total (failures (only x)) s.views + only x u
     = λ x. omega (arith, total-set (failures (only x)) s.views id m.0 w at) in
-    let claims = changed k id m.0 at some_room c w (λ f. omega (arith, total-without f u m.0.held has)) refl
+    let claims = changed k id m.0 at some_room c w (λ f. omega (arith, total-without f u m.0.held has)) refl refl
     (λ t t' h e. omega arith) (min least u)
     (λ x h. omega (arith, grown x, k.spared x (omega arith), only-other x u (λ e. omega arith))) (λ h. grind arith)
     (omega arith) (omega arith) (λ e. inl e) in

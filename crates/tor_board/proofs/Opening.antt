@@ -149,6 +149,7 @@ module _ (shape : Shape) (places : ℕ) (is_shape : IsShape (2 + places) (2 * pl
       once = λ f. let e : min 0 shape.units ≡ 0 = omega arith in rw e refl;
       rooms = refl;
       gone = λ i v e none. absurd (omega (arith, ap (λ (x : View). x.room) (the_first i v e)));
+      counted = refl;
       bounded = omega arith;
       spared = λ u h. refl;
       attained = λ h. omega arith;

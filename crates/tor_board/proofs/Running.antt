@@ -9,7 +9,8 @@ use Rattle.tor_board.proofs.Names.{some-ne-none, subst, suc, sym, times, times_f
 use Rattle.tor_board.proofs.{Names.{ℕ, ℕ_discrete, ◌*◌, ◌+◌, ◌<◌, ◌^◌, ◌∙◌, ◌∷◌, ◌≡◌, ◌≤◌}, Steps.{gave, weight}}
 use Rattle.tor_board.proofs.Sums.{below-only, below-test, mapped, total-append, total-map, total_le}
 use Rattle.tor_board.proofs.Trees.{arrived_once, node_ready, node_word, ready_chain, ready_node, ready_once, side_of}
-use Rattle.tor_board.{proofs.Trees.{twice, zero_more}, specs.Climb.run_of, specs.Machine.all_given}
+use Rattle.tor_board.{proofs.Trees.{side_once, twice, zero_more}, specs.Climb.run_of, specs.Machine.all_given}
+use Rattle.tor_board.{proofs.Names.{Machine, Shows, out, tops_of}, specs.Stepping.AreHome}
 use Rattle.{tor_board.specs.Running.{IsRunning, IsTreeLawful, arrivals_in, offset_at}, tor_merkle.specs.Subtree.height}
 
 pub some_least : (x : ℕ) → x < nobody → least_of x ≡ Some x
@@ -94,6 +95,7 @@ module _ {shape : Shape} {s : State (List ℕ) View} (kept : Keeps shape s) wher
   tree_lawful : (t : Tree) → IsTreeOf shape t → IsTreeLawful t s
   tree_lawful t is = let k = kept.trees t is in record {
     arrived = k.arrived;
+    flow = k.flow;
     word = k.word;
     once = arrived_once k;
     given = arrived_given k;
@@ -143,4 +145,29 @@ module _ {shape : Shape} {s : State (List ℕ) View} (kept : Keeps shape s) wher
     };
     unused = kept.unused;
     slots = tree_lawful;
+  }
+
+  -- what has arrived by the machine has arrived at its slot
+  pub homes : {words slots : ℕ} → IsShape words slots shape → (m : Machine) → Shows shape m s → AreHome shape m s
+  homes shaped m shows = record {
+    arrived = λ t is k i side two near come none. let lawful = tree_lawful t is in
+        let slot : ℕ = slot_of t (middle k i) side in let there = side_of t k i side two near in
+        let a = lawful.flow slot k (2 * i + side) there in let b = shows.sides t is k i side two near in
+        let one : lawful.arrived slot ≡ 1 = omega (arith, lawful.once slot k (2 * i + side) there) in
+        rw shows.desks (lawful.home slot k (2 * i + side) there one none);
+    sealed = λ t is told. let tree = kept.trees t is in let slot : ℕ = slot_of t 0 0 in
+        let there : IsSide t slot t.height 0 = inr (refl, refl, refl) in
+        let same : total (λ (d : Desk). tops_of t.number d.tops) m.desks
+        ≡ total (λ (v : View). tops_of t.number v.tops) s.views
+        = rw shows.desks (total-map (λ (d : Desk). tops_of t.number d.tops) desk_of s.views) in
+        let one : tree.arrived slot ≡ 1 = omega (arith, same, tree.tops, arrived_once tree slot t.height 0 there) in
+        let none : out slot s.views ≡ 0 = omega (
+          arith,
+          tree.flow slot t.height 0 there,
+          side_once tree slot t.height 0 there,
+          tree.out_top,
+        ) in
+        let h = tree.home slot t.height 0 there none in
+        let root = top_is t (shaped.fits t is).least h.0 (h.2 one) in
+        rw shows.desks (h.1 ∙ ap (λ (x : List ℕ). some (some x)) root);
   }

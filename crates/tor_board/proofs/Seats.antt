@@ -40,6 +40,7 @@ module _ (shape : Shape) {s : State (List ℕ) View} (kept : Keeps shape s) (id 
     claims = let k = kept.claims in let least : ℕ = get_or s.words 1 0 in record {
       once = λ f. omega (arith, split_sum (named f), k.once f);
       rooms = omega (arith, split_sum (λ (u : View). u.room), k.rooms);
+      counted = omega (arith, split_sum (λ (u : View). u.claims), k.counted);
       gone = split_all (λ (u : View). u.room ≡ 0 → u ≡ spent) k.gone (λ none. absurd (omega arith))
           (λ none. absurd (omega arith));
       bounded = let d = stopped_parts v.done (v.room - v.room / 2) (v.room / 2) v.room (omega arith) in
@@ -96,6 +97,7 @@ module _ (shape : Shape) {s : State (List ℕ) View} (kept : Keeps shape s) (id 
           once = λ f. let a = total-append f v.held w.held in let b = total-append f v.failed w.failed in
               omega (arith, join_sum (named f), k.once f, total-append (λ (g : GivenUnit). f g.unit) v.given w.given);
           rooms = omega (arith, join_sum (λ (u : View). u.room), k.rooms);
+          counted = omega (arith, join_sum (λ (u : View). u.claims), k.counted);
           gone = join_all (λ (u : View). u.room ≡ 0 → u ≡ spent) k.gone (λ none. absurd (omega arith)) (λ none. refl);
           bounded = omega (arith, join_sum stopped, k.bounded, stopped_both v.done w.done v.room w.room);
           spared = λ u h. omega (arith, join_sum (failures (only u)), more u, k.spared u h);

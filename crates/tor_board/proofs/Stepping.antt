@@ -13,8 +13,8 @@ use Rattle.tor_board.proofs.{Names.{◌^◌, ◌∙◌, ◌∷◌, ◌≡◌, �
 use Rattle.tor_board.proofs.{Seats.{join_sum, split_sum}, Shown.{Moment, Sides, as_seat, as_told, on_first, on_second}}
 use Rattle.tor_board.proofs.{Shown.{quiet, shown}, Steps.{climbs, gave}, Sums.{read, total-append, within}}
 use Rattle.tor_board.{proofs.Trees.{node_word, ready_same, side_covers, side_of}, specs.Machine.IsStart}
-use Rattle.tor_board.specs.{Plays.failed, Stepping.{IsBoardStep, IsHistory, IsRunOf, opened, stepped}, Views.finished}
-use Rattle.tor_board.specs.Views.{holding, looking}
+use Rattle.tor_board.specs.Stepping.{IsBoardStep, IsHistory, IsRunOf, opened, stepped, unchanged}
+use Rattle.tor_board.specs.{Plays.failed, Views.{ended, finished, holding, looking}}
 use Rattle.tor_board.specs.Stepping as board
 
 -- ---- a step of a seat in no climb
@@ -39,8 +39,8 @@ module _ {shape : Shape} {m : Machine} {s s' : State (List ℕ) View} {id : ℕ}
       let of : v.units ≡ shape.units = (now.kept.known id v now.at told.3.0).0 in
       let big : (n + 1) % 2 ^ 64 ≡ n + 1 = omega (arith, few_claims now.kept.claims, now.kept.small) in
       dite (dec_le shape.units n) (λ past. let c = as_told now _ (told.1 (omega arith)) big change in
-      on_first now claim (n + 1) (m.claims + 1) (finished v) (desk_of (finished v)) c
-      (quiet now 0 (n + 1) (omega arith) (finished v) c idle idle (λ u. omega arith)) (omega arith) refl
+      on_first now claim (n + 1) (m.claims + 1) (ended v) (desk_of (ended v)) c
+      (quiet now 0 (n + 1) (omega arith) (ended v) c idle idle (λ u. omega arith)) (omega arith) refl
       (ends told.3.0 (ap way_in idle) told.4 told.5 (omega arith)))
       (λ more. let c = as_told now _ (told.0 (omega arith)).0 big change in
       on_first now claim (n + 1) (m.claims + 1) (holding v n) (desk_of (holding v m.claims)) c
@@ -120,8 +120,8 @@ each_step now shaped has e (board.looks st after s'' told change) = looks_so now
 each_step now shaped has e (board.claims st after s'' told change) = claims_so now has after st told change
 each_step {s = s} now shaped has e (board.hands st after s'' u hash none told change)
     = hands_alone now shaped u hash none has after st (get_or s.words 0 0) told change
-each_step {s = s} now shaped has e (board.begins st after s'' u hash t is in_tree told change)
-    = hands_tree now shaped t is u hash in_tree has after st (get_or s.words 0 0) told change
+each_step {s = s} now shaped has e (board.begins st after s'' u hash t is told change)
+    = hands_tree now shaped t is u hash has after st (get_or s.words 0 0) told change
 each_step {shape = shape} {s = s} {s' = s'} {id = id} {v = v} now shaped has e (board.arrives st after n told change) =
     let c : Climb = told.2 in let in_climb = told.3 in let here = told.0 c in_climb in let node = here.1 in
     let is : IsTreeOf shape c.tree = subst (ClimbsIn shape) in_climb (now.kept.known id v now.at told.1).1 in
@@ -151,6 +151,7 @@ history_keeps : (shape : Shape) (events : List (ℕ × Event)) (s : State (List 
     → Keeps shape s
 history_keeps shape events s (opened s'' kept none_claimed none_failed zeros views) = kept
 history_keeps shape events s (stepped before s' s'' id v has e past at step kept) = kept
+history_keeps shape events s (unchanged before s' s'' past kept words views) = kept
 
 pub history_runs : (words slots : ℕ) (shape : Shape) → IsShape words slots shape
     → (events : List (ℕ × Event)) (s : State (List ℕ) View) → IsHistory shape events s → IsRunOf shape events s
@@ -161,3 +162,11 @@ history_runs words slots shape shaped events s (stepped before s' s'' id v has e
     = record { kept = history_keeps shape before s' past; kept' = kept; shows = r.2; at = at } in
     let n = each_step now shaped has e step in
     (n.0, goes_on before r.0 n.0 id e r.1 (within r.0.desks id (desk_of v) (shown now)) n.1, n.2)
+history_runs words slots shape shaped events s (unchanged before s' s'' past kept same_words same_views) =
+    let r = history_runs words slots shape shaped events s' past in let shows : Shows shape r.0 s' = r.2 in
+    let now : Shows shape r.0 s = record {
+      claims = shows.claims ∙ ap (λ (l : List ℕ). get_or l 0 0) (sym same_words);
+      least = shows.least ∙ ap (λ (l : List ℕ). least_of (get_or l 1 0)) (sym same_words);
+      desks = shows.desks ∙ ap desks_of (sym same_views);
+      sides = λ t is k i side two near. rw (same_words, same_views) (shows.sides t is k i side two near);
+    } in (r.0, r.1, now)

@@ -6,8 +6,8 @@ use Rattle.tor_board.specs.Rule.{nobody}
 use Rattle.tor_board.specs.Climb.{Climb}
 use Rattle.tor_board.specs.Desks.{Has}
 use Rattle.tor_board.specs.Rising.{climb_from, climbed, other_slot}
-use Rattle.tor_board.specs.Trees.{middle, word_of, slot_of}
-use Rattle.tor_board.specs.Views.{named, looking, finished, holding, handed, rested, joining, topped, failing}
+use Rattle.tor_board.specs.Trees.{middle, word_of, slot_of, has_unit}
+use Rattle.tor_board.specs.Views.{named, looking, finished, holding, ended, handed, rested, joining, topped, failing}
 use Rattle.tor_board.specs.declared.tree.Tree.{Tree}
 use Rattle.tor_board.specs.declared.view.View.{View}
 
@@ -29,21 +29,21 @@ looked st m n after =
     × (n ≢ nobody → after ≡ (finished m.0, m.1))
     × (st.word ≡ 1) × IsFree m.0 × (m.0.done ≡ false)
 
--- after its look the seat holds the unit that was found, which it did not name, or is done
+-- after its look the seat holds the unit that was found, which it did not name, or is done; the step adds 1
 abbrev pub claimed : Tells
 claimed st m n after =
     (n < m.0.units → (after ≡ (holding m.0 n, m.1)) × (named (only n) m.0 ≡ 0))
-    × (m.0.units ≤ n → after ≡ (finished m.0, m.1))
-    × (st.word ≡ 0) × IsFree m.0 × (m.0.done ≡ false) × (m.0.looked ≡ true)
+    × (m.0.units ≤ n → after ≡ (ended m.0, m.1))
+    × (st.word ≡ 0) × IsFree m.0 × (m.0.done ≡ false) × (m.0.looked ≡ true) × (st.first ≡ 1)
 
--- a held unit is given; in a tree its climb begins, and the seat takes the slot to which the hash rises. What is given
--- is no operand of the step, so this is told for each tree, unit and hash
+-- a held unit is given; in a tree that has it its climb begins, and the seat takes the slot to which the hash rises.
+-- What is given is no operand of the step, so this is told for each tree, unit and hash
 abbrev pub gave : Option Tree → ℕ → List ℕ → Tells
 gave None u hash st m n after = (after ≡ (handed m.0 u hash None, m.1)) × (st.word ≡ 0) × IsFree m.0 × Has m.0.held u
 gave (Some t) u hash st m n after =
     let c = climb_from t 0 (u - t.first) hash [] in
     ((z : List ℕ) × (after ≡ (handed m.0 u hash (Some c), (c.slot, z) ∷ m.1))) × (st.word ≡ 0) × IsFree m.0
-    × Has m.0.held u
+    × Has m.0.held u × (has_unit t u ≡ true)
 
 -- of the climb c: the first to arrive rests, and its slot is at home; the second has the other side's slot and that of
 -- its node, and climbs on
@@ -59,10 +59,11 @@ IsAtNode c word =
     let m = middle c.level (c.index / 2) in (m < c.tree.count) × (c.slot ≡ slot_of c.tree m (c.index % 2))
     × (word ≡ word_of c.tree m)
 
+-- the step adds 1
 abbrev pub arrived : Tells
 arrived st m n after =
     ((c : Climb) → m.0.climb ≡ Some c → arrived_from c m n after × IsAtNode c st.word)
-    × (0 < m.0.room) × (c : Climb) × (m.0.climb ≡ Some c)
+    × (0 < m.0.room) × (c : Climb) × (m.0.climb ≡ Some c) × (st.first ≡ 1)
 
 -- the tree's root is told, and its slot is at home
 abbrev pub sealed_from : Climb → Seated → Seated → Type 0

@@ -25,7 +25,9 @@ pub record KeepsClaims (units claims least : ℕ) (views : List View) : Type 0 w
   -- rooms add up, and a seat without room is what a join left
   pub rooms : total (λ v. v.room) views ≡ 256
   pub gone : (i : ℕ) (v : View) → get_elem? views i ≡ some v → v.room ≡ 0 → v ≡ spent
-  -- of the claims past the units each was some seat's last
+  -- the claims are the seats'
+  pub counted : total (λ v. v.claims) views ≡ claims
+  -- of those past the units each was some seat's last
   pub bounded : claims ≤ units + total stopped views
   -- the least failed unit is the least that a seat failed
   pub spared : (u : ℕ) → u < least → total (failures (only u)) views ≡ 0

@@ -7,9 +7,9 @@ use Rattle.atomic_table.specs.Table.{State}
 use Rattle.tor_plan.specs.declared.forests.Run.{Run}
 use Rattle.tor_board.specs.Climb.{run_of}
 use Rattle.tor_board.specs.Machine.{IsLawful, IsGivenSide, side_root}
-use Rattle.tor_board.specs.Rule.{nobody, IsSide, out, tops_of}
+use Rattle.tor_board.specs.Rule.{nobody, IsSide, climbing, out, tops_of}
 use Rattle.tor_board.specs.Shapes.{IsTreeOf}
-use Rattle.tor_board.specs.Trees.{middle, word_of, slot_of}
+use Rattle.tor_board.specs.Trees.{middle, word_of, slot_of, ready}
 use Rattle.tor_board.specs.Views.{desks_of}
 use Rattle.tor_board.specs.Weights.{total}
 use Rattle.tor_board.specs.declared.tree.Tree.{Tree}
@@ -34,11 +34,12 @@ offset_at (t ∷ ts) (suc n) = offset_at ts n
 abbrev pub arrivals_in : Shape → List ℕ → ℕ → ℕ → ℕ → ℕ
 arrivals_in shape words n k i = slice_index words (2 + offset_at shape.trees.items n + middle k i)
 
--- of a tree: which slots' hashes have arrived, or, of the tree's own slot, were sealed. A node's word counts its two;
--- each has once, and all its units were given; where it is at home, it holds the root over their hashes; a sealed one
--- was told
+-- of a tree: which slots' hashes have arrived, or, of the tree's own slot, were sealed: just those to which all has
+-- come and no seat climbs any more. A node's word counts its two; each has once, and all its units were given; where it
+-- is at home, it holds the root over their hashes; a sealed one was told
 pub record IsTreeLawful (t : Tree) (s : State (List ℕ) View) : Type 0 where
   pub arrived : ℕ → ℕ
+  pub flow : (slot k j : ℕ) → IsSide t slot k j → climbing slot s.views + arrived slot ≡ ready t s.words s.views k j
   pub word : (m : ℕ) → 0 < m → m < t.count
       → slice_index s.words (word_of t m) ≡ arrived (slot_of t m 0) + arrived (slot_of t m 1)
   pub once : (slot k j : ℕ) → IsSide t slot k j → arrived slot ≤ 1

@@ -1,13 +1,16 @@
 -- The steps of a running board, as events of the machine. What a step tells is in Plays.
-use Rattle.std.specs.Prelude.{◌≡◌, ◌≢◌, ℕ, ◌+◌, ◌*◌, ◌%◌, ◌^◌, ◌<◌, ◌≤◌, List, [], ◌∷◌, ◌++◌, min, true, false, None}
+use Rattle.std.specs.Prelude.{◌≡◌, ◌≢◌, ℕ, ◌+◌, ◌*◌, ◌%◌, ◌^◌, ◌<◌, ◌≤◌, List, [], ◌∷◌, ◌++◌, min, false, None}
 use Rattle.std.specs.Prelude.{Some, slice_index, slice_set}
 use mathlib.Core.Option.{some}
 use lib.ListN.{get_elem?}
-use Rattle.atomic_table.specs.Table.{State, Step}
+use Rattle.atomic_table.specs.Table.{State, Step, Act, carried_after, stepped as stepped_to}
 use Rattle.tor_board.specs.Machine.{Machine, Event, look, claim, hand, arrive, seal, fail, split, join, desk_at}
-use Rattle.tor_board.specs.Machine.{times_arrived, IsStep, IsLegalRun}
-use Rattle.tor_board.specs.Plays.{Seated, IsFree, looked, claimed, gave, arrived, sealed, failed}
-use Rattle.tor_board.specs.Rule.{Keeps, nobody, climbing}
+use Rattle.tor_board.specs.Machine.{times_arrived, side_root, top_root, IsStep, IsLegalRun}
+use Rattle.tor_board.specs.Climb.{run_of}
+use Rattle.tor_board.specs.Desks.{Desk}
+use Rattle.tor_board.specs.Weights.{total}
+use Rattle.tor_board.specs.Plays.{Seated, Tells, IsFree, looked, claimed, gave, arrived, sealed, failed}
+use Rattle.tor_board.specs.Rule.{Keeps, nobody, climbing, out, tops_of}
 use Rattle.tor_board.specs.Running.{least_of, runs_of}
 use Rattle.tor_board.specs.Shapes.{IsTreeOf}
 use Rattle.tor_board.specs.Trees.{middle, slot_of, has_unit, ready}
@@ -29,6 +32,17 @@ pub record Shows (shape : Shape) (m : Machine) (s : State (List ℕ) View) : Typ
       }) m.arrived
       ≡ ready t s.words s.views k (2 * i + side)
 
+-- where the machine stands: of a side that has arrived, the slot, unless a seat has it, holds the root over the hashes
+-- of its units, and of a tree whose top was told, the tree's own slot that over all of its; each followed by zero
+-- subtrees
+pub record AreHome (shape : Shape) (m : Machine) (s : State (List ℕ) View) : Type 0 where
+  pub arrived : (t : Tree) → IsTreeOf shape t → (k i side : ℕ) → side < 2 → middle k i < t.count
+      → 0 < times_arrived (record { tree = t.number; level = k; index = 2 * i + side }) m.arrived
+      → out (slot_of t (middle k i) side) s.views ≡ 0
+      → get_elem? s.homes (slot_of t (middle k i) side) ≡ some (some (side_root m.desks (run_of t) k (2 * i + side)))
+  pub sealed : (t : Tree) → IsTreeOf shape t → 0 < total (λ (d : Desk). tops_of t.number d.tops) m.desks
+      → get_elem? s.homes (slot_of t 0 0) ≡ some (some (top_root m.desks (run_of t)))
+
 -- a step that sets one word, and changes what one seat knows
 abbrev pub IsChange : State (List ℕ) View → ℕ → ℕ → ℕ → View → State (List ℕ) View → Type 0
 IsChange s word n id w s' = (s'.words ≡ slice_set s.words word n) × (s'.views ≡ slice_set s.views id w)
@@ -48,7 +62,7 @@ pub data IsBoardStep (shape : Shape) (s : State (List ℕ) View) (id : ℕ) (v :
       → gave None u hash st (v, has) (slice_index s.words 0) after
       → IsChange s 0 (slice_index s.words 0) id after.0 s' → IsBoardStep shape s id v has (hand u hash) s'
   begins : (st : Step (List ℕ)) (after : Seated) (s' : State (List ℕ) View) (u : ℕ) (hash : List ℕ) (t : Tree)
-      → IsTreeOf shape t → has_unit t u ≡ true
+      → IsTreeOf shape t
       → gave (Some t) u hash st (v, has) (slice_index s.words 0) after
       → IsChange s 0 (slice_index s.words 0) id after.0 s' → IsBoardStep shape s id v has (hand u hash) s'
   arrives : (st : Step (List ℕ)) (after : Seated) (s' : State (List ℕ) View)
@@ -70,7 +84,24 @@ pub data IsBoardStep (shape : Shape) (s : State (List ℕ) View) (id : ℕ) (v :
       → s'.words ≡ s.words → s'.views ≡ slice_set (slice_set s.views id (both v w)) other spent
       → IsBoardStep shape s id v has (join other) s'
 
--- what can have happened to a board, the last first: it opened, and each step kept the rule
+-- whenever the table takes that step, and it tells what `says` does, it is the board's step of that event: whatever
+-- number the operation makes of the step's word, if the rule holds before and after
+abbrev pub IsStepOf : Shape → Event → Step (List ℕ) → Tells → Type 0
+IsStepOf shape e st says =
+    (s : State (List ℕ) View) (id n : ℕ) (me : Seated) (w : View) (a : Act (List ℕ))
+    → get_elem? s.views id ≡ some me.0 → says st me (slice_index s.words st.word) (w, carried_after me.1 a)
+    → Keeps shape s → Keeps shape (stepped_to s st.word n id me.1 w a)
+    → IsBoardStep shape s id me.0 me.1 e (stepped_to s st.word n id me.1 w a)
+
+-- whenever it takes that step, no word and no view changes
+abbrev pub IsNoStep : Shape → Step (List ℕ) → Tells → Type 0
+IsNoStep shape st says =
+    (s : State (List ℕ) View) (id n : ℕ) (me : Seated) (w : View) (a : Act (List ℕ))
+    → get_elem? s.views id ≡ some me.0 → says st me (slice_index s.words st.word) (w, carried_after me.1 a)
+    → Keeps shape s → Keeps shape (stepped_to s st.word n id me.1 w a)
+    → (slice_set s.words st.word n ≡ s.words) × (slice_set s.views id w ≡ s.views)
+
+-- what can have happened to a board, the last first: it opened, and each step kept the rule, also one that was no event
 pub data IsHistory (shape : Shape) : List (ℕ × Event) → State (List ℕ) View → Type 0 where
   opened : (s : State (List ℕ) View) → Keeps shape s → slice_index s.words 0 ≡ 0 → slice_index s.words 1 ≡ nobody
       → ((i : ℕ) → 1 < i → slice_index s.words i ≡ 0) → s.views ≡ first shape.units ∷ [] → IsHistory shape [] s
@@ -78,6 +109,8 @@ pub data IsHistory (shape : Shape) : List (ℕ × Event) → State (List ℕ) Vi
       × List ℕ)) (e : Event)
       → IsHistory shape events s → get_elem? s.views id ≡ some v → IsBoardStep shape s id v has e s' → Keeps shape s'
       → IsHistory shape ((id, e) ∷ events) s'
+  unchanged : (events : List (ℕ × Event)) (s s' : State (List ℕ) View) → IsHistory shape events s → Keeps shape s'
+      → s'.words ≡ s.words → s'.views ≡ s.views → IsHistory shape events s'
 
 -- that event of that seat takes the machine to where the board then stands
 abbrev pub IsEvent : Shape → Machine → ℕ → Event → State (List ℕ) View → Type 0

@@ -4,7 +4,7 @@ ghost use Rattle.tor_board.specs.Desks.{Has, names, finished, holding, failing};
 ghost use Rattle.tor_board.specs.Plays.{IsFree};
 ghost use Rattle.tor_board.specs.Seats.{knows, unit_count, IsSeatOf};
 ghost use Rattle.tor_board.specs.Shapes.{IsShape};
-ghost use Rattle.tor_board.specs.Views.{named, looking as looking_view, finished as finished_view};
+ghost use Rattle.tor_board.specs.Views.{named, looking as looking_view, finished as finished_view, ended};
 ghost use Rattle.tor_board.specs.Views.{holding as holding_view};
 ghost use Rattle.tor_board.specs.Weights.{only};
 
@@ -83,7 +83,7 @@ fn next_number(cells: &Cells, seat: &mut TableSeat) -> u64
     ensures table { seat.new.table_id ≡ seat.old.table_id }
     ensures some { result < cells.now.key.units → (seat.new.me ≡ (holding_view seat.old.me.0 result, seat.old.me.1))
         × (named (only result) seat.old.me.0 ≡ 0) }
-    ensures none { cells.now.key.units ≤ result → seat.new.me ≡ (finished_view seat.old.me.0, seat.old.me.1) }
+    ensures none { cells.now.key.units ≤ result → seat.new.me ≡ (ended seat.old.me.0, seat.old.me.1) }
 {
     cells.fetch_add::<Claim>(seat, CLAIMS, 1)
 }

@@ -18,6 +18,8 @@
 //! - `give` (`give.rt`) hands in a unit's hash, which climbs its tree (`climb.rt`), and tells what it did ([`Given`]).
 //! - `close` (`close.rt`) tells the least unit that failed, and the roots ([`Closed`]).
 //! - [`board_law`] (`laws.rt`): what holds of a board between any two steps, and of the machine of events that it is.
+//!   [`rule_law`]: that a board's table keeps the rule of which it speaks, and that its steps are those events. What
+//!   the two name stands in [`rule`], [`view`] and [`Shape`].
 //!
 //! A board stands on a table of words and slots of the kit. `tree.rt` says which word and which slots a node has,
 //! `view.rt` what a seat knows, and `rule.rt` what every step keeps. `specs/Machine.antt` is the machine.
@@ -30,14 +32,15 @@ mod close;
 mod give;
 mod laws;
 mod open;
-mod rule;
+pub mod rule;
 mod seat;
 mod share;
 mod tree;
-mod view;
+pub mod view;
 
 pub use board::{Board, SplitError};
 pub use close::Closed;
 pub use give::Given;
-pub use laws::board_law;
+pub use laws::{board_law, rule_law};
 pub use seat::{Job, Seat};
+pub use tree::Shape;

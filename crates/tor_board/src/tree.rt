@@ -35,7 +35,7 @@ pub(crate) struct Spot {
 
 /// What a board is made for: so many units, and the trees over runs of them.
 #[derive(Drop)]
-pub(crate) struct Shape {
+pub struct Shape {
     pub(crate) units: u64,
     pub(crate) trees: Vec<Tree>,
 }

@@ -6,9 +6,11 @@ ghost use Rattle.tor_board.specs.Desks.{GivenUnit};
 
 use std::marker::Model;
 
-/// What a seat knows: how many units the board has, its own work, and the climb that it is in.
+/// What a seat knows: how many units the board has, how many claims it made, its own work, and the climb that it is
+/// in.
 pub struct View {
     pub ghost units: { ℕ },
+    pub ghost claims: { ℕ },
     pub ghost room: { ℕ },
     pub ghost held: { List ℕ },
     pub ghost given: { List GivenUnit },

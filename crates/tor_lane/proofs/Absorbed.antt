@@ -20,8 +20,8 @@ knows_none workers f is = λ i. record f { takers = is.2 i; taken = is.3 i; mark
 pub absorbed : (f : View) (ys : List Taker) (t : Taker) → IsAtMark t
     → both (knowing f ys) (view t.pass) ≡ knowing f (ys ++ t ∷ [])
 absorbed f ys t stopped =
-    let one : (view t.pass).takers ≡ 1 = t.taking.0 in
-    let mark : (view t.pass).marks ≡ 1 = t.taking.1 ∙ ap (λ b. if b then 1 else 0) stopped in
+    let one : (view t.pass).takers ≡ 1 = t.taking.1 in
+    let mark : (view t.pass).marks ≡ 1 = t.taking.2 ∙ ap (λ b. if b then 1 else 0) stopped in
     let more = length_push ys t in
     let takers : length ys + (view t.pass).takers ≡ length (ys ++ t ∷ []) = omega arith in
     let marks : length ys + (view t.pass).marks ≡ length (ys ++ t ∷ []) = omega arith in

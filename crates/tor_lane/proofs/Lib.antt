@@ -8,3 +8,4 @@ pub mod Settled
 pub mod Absorbed
 pub mod Whole
 pub mod Reached
+pub mod Steps

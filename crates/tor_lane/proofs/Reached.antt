@@ -14,12 +14,12 @@ pub reached : (items : List Message) (views : List View) → IsReached items vie
 reached items views (begins) = begins_so
 reached items views (makes items' views' at v past here feeds) =
     makes_so at v feeds items' views' (reached items' views' past) here
-reached items views (sends items' views' at v x past here feeds can short) =
-    let r = puts (2 * v.made) at v x feeds can refl items' views' short (reached items' views' past) here in
-    subst (λ w. Keeps (items' ++ x ∷ []) (set views' at w)) r.2 r.1
-reached items views (receives items' views' at v x past here some_taker) =
-    let r = takes at v some_taker x items' views' (reached (x ∷ items') views' past) here in
-    subst (λ w. Keeps items' (set views' at w)) r.2 r.1
-reached items views (learns items' views' at other v w past here there two) =
-    learns_so at v other w items' views' (reached items' views' past) here two
+reached items views (sends items' views' at v x past here can short) =
+    let r = puts (2 * v.made) at v x can refl items' views' short (reached items' views' past) here in
+    subst (λ w. Keeps (items' ++ x ∷ []) (set views' at w)) r.2.0 r.1
+reached items views (receives items' views' at v x past here can) =
+    let r = takes at v can x items' views' (reached (x ∷ items') views' past) here in
+    subst (λ w. Keeps items' (set views' at w)) r.2.0 r.1
+reached items views (learns items' views' at other v w past here there two takes') =
+    learns_so at v other w takes' items' views' (reached items' views' past) here two
     (set_else views' at other (both v w) two ∙ there)

@@ -18,9 +18,9 @@ settles at v feeds all items views h here =
       h.out,
       (λ i. messages_of (mine.1 i) (mine.2 i)) ∙ h.order,
       subst (λ y. IsPermutation (chunks_in h.out) y) (alone (λ (u : View). u.takers) (λ (u : View). u.taken) views at v
-          here whole (λ j u e idle. (h.rights j u e idle).0)) h.chunks,
+          here whole (λ j u e. (h.rights j u e).0)) h.chunks,
       h.marks ∙ alone_sum (λ (u : View). u.takers) (λ (u : View). u.marks) views at v here whole
-          (λ j u e idle. (h.rights j u e idle).1),
+          (λ j u e idle. (let r = (h.rights j u e).1 in omega (arith, idle))),
     )
 
 pub settled : (v : View) (items : List Message) → Settles v items → 0 < v.ended → v.marks ≡ v.ended

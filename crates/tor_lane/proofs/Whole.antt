@@ -25,4 +25,7 @@ whole items views h at v here feeds =
       order = (h.out, order, h.chunks);
       last = marks_last v.put v.ended h.out items order;
       few = (let n = h.few in omega (arith, mine.3));
+      one_each = (let n = h.one_each in omega (arith, mine.2, mine.3));
+      takers = h.takers ∙ sym mine.3;
+      rights = h.rights;
     }

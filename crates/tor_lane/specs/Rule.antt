@@ -1,5 +1,5 @@
 -- The rule of a lane's channel, over the messages in it, the oldest first, and what all ends know.
-use Rattle.std.specs.Prelude.{◌≡◌, ℕ, ◌+◌, ◌*◌, ◌≤◌, ⊤, true, List, [], ◌++◌, length, IsPermutation}
+use Rattle.std.specs.Prelude.{◌≡◌, ℕ, ◌+◌, ◌*◌, ◌<◌, ◌≤◌, true, false, List, [], ◌++◌, length, IsPermutation}
 use Rattle.std.specs.List.{sum_by}
 use mathlib.Core.Option.{some}
 use lib.ListN.{get_elem?}
@@ -15,13 +15,18 @@ abbrev pub Feeds : ℕ → List Chunk → ℕ → ℕ → ℕ → View → Type 
 Feeds feeder put ended made at v =
     v.feeds ≡ true → (at ≡ feeder) × (v.put ≡ put) × (v.ended ≡ ended) × (v.made ≡ made)
 
--- an end that has nobody's right to take took nothing
+-- an end that has nobody's right to take took nothing, and none took more marks than it has rights
 abbrev pub TakesByRight : View → Type 0
-TakesByRight v = v.takers ≡ 0 → (v.taken ≡ []) × (v.marks ≡ 0)
+TakesByRight v = (v.takers ≡ 0 → v.taken ≡ []) × (v.marks ≤ v.takers)
+
+-- the end with that number feeds
+abbrev pub IsFed : ℕ → List View → Type 0
+IsFed feeder views = (v : View) × (get_elem? views feeder ≡ some v) × (v.feeds ≡ true)
 
 pub record Keeps (items : List Message) (views : List View) : Type 0 where
-  -- the number of the one end that feeds, if any does, and what it did
+  -- the number of the one end that feeds, and what it did
   pub feeder : ℕ
+  pub fed : IsFed feeder views
   pub put : List Chunk
   pub ended : ℕ
   pub made : ℕ
@@ -35,16 +40,28 @@ pub record Keeps (items : List Message) (views : List View) : Type 0 where
   -- of each taker that was made one end has the right to take
   pub takers : sum_by (λ (v : View). v.takers) views ≡ made
   pub few : length items ≤ 2 * made
+  -- at most one mark is put for each
+  pub one_each : ended ≤ made
   pub feeds : (at : ℕ) (v : View) → get_elem? views at ≡ some v → Feeds feeder put ended made at v
   pub rights : (at : ℕ) (v : View) → get_elem? views at ≡ some v → TakesByRight v
 
--- a chunk is put before the marks alone
+-- the feeder puts chunks before the marks alone, and at most one mark for each taker
 abbrev pub CanPut : View → Message → Type 0
-CanPut v (More c) = v.ended ≡ 0
-CanPut v Mark = ⊤
+CanPut v (More c) = (v.feeds ≡ true) × (v.ended ≡ 0)
+CanPut v Mark = (v.feeds ≡ true) × (v.ended < v.made)
+
+-- one taker, before it has taken a mark
+abbrev pub CanTake : View → Type 0
+CanTake v = (v.feeds ≡ false) × (v.takers ≡ 1) × (v.marks ≡ 0)
+
+-- one end feeds, and no other
+abbrev pub HasOneFeeder : List View → Type 0
+HasOneFeeder views = (feeder : ℕ) × IsFed feeder views
+    × ((at : ℕ) (v : View) → get_elem? views at ≡ some v → v.feeds ≡ true → at ≡ feeder)
 
 -- what all ends took, with what is in the channel, is what the end put that knows v, each chunk once and unchanged; in
--- the channel chunks stand before marks, and there are at most two messages for each taker that was made
+-- the channel chunks stand before marks, and there are at most two messages for each taker that was made. Of each one
+-- end has the right to take, and what an end took it had the right to: nothing without one, and one mark by each
 pub record IsAllThere (items : List Message) (views : List View) (v : View) : Type 0 where
   pub chunks : IsPermutation v.put (taken_in_all views ++ chunks_in items)
   pub marks : v.ended ≡ marks_in_all views + marks_in items
@@ -52,3 +69,6 @@ pub record IsAllThere (items : List Message) (views : List View) (v : View) : Ty
       × IsPermutation (chunks_in out) (taken_in_all views)
   pub last : items ≡ messages_of (chunks_in items) (marks_in items)
   pub few : length items ≤ 2 * v.made
+  pub one_each : v.ended ≤ v.made
+  pub takers : sum_by (λ (u : View). u.takers) views ≡ v.made
+  pub rights : (at : ℕ) (u : View) → get_elem? views at ≡ some u → TakesByRight u

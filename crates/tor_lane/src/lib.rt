@@ -19,7 +19,9 @@
 //! - [`lane`] (`open.rt`): a feeder and its takers. [`Chunk`] (`chunk.rt`): what goes from one to the others.
 //! - [`Feeder`] (`feeder.rt`) puts chunks, ends the lane, and shows what its takers took together.
 //! - [`Taker`] (`taker.rt`) takes chunks until its mark.
-//! - [`lane_law`] (`laws.rt`): what holds of a lane between any two steps.
+//! - [`lane_law`] (`laws.rt`): what holds of a lane between any two steps. [`rule_law`]: that a lane's channel keeps
+//!   the rule of which it speaks, and that its steps are those. What the two name stands in [`rule`], [`view`] and
+//!   [`Message`].
 //!
 //! A lane stands on a channel of the kit. `view.rt` says what each end knows, and `rule.rt` what every step keeps.
 #![tactic(auto)]
@@ -28,12 +30,12 @@ mod chunk;
 mod feeder;
 mod laws;
 mod open;
-mod rule;
+pub mod rule;
 mod taker;
-mod view;
+pub mod view;
 
-pub use chunk::Chunk;
+pub use chunk::{Chunk, Message};
 pub use feeder::Feeder;
-pub use laws::lane_law;
+pub use laws::{lane_law, rule_law};
 pub use open::lane;
 pub use taker::Taker;

@@ -1,5 +1,6 @@
 //! The rule of a lane's channel, and what each step on it tells.
 ghost use Rattle.std.specs.Prelude.{◌≡◌, ⊤};
+ghost use Rattle.tor_lane.specs.Rule.{CanPut, CanTake};
 
 use crate::chunk::Message;
 use crate::view::View;
@@ -25,7 +26,7 @@ pub struct Put;
 impl Outcome<Message, View> for Put {
     ghost use Rattle.tor_lane.specs.Views.{putting};
 
-    ghost then = { λ v x w. w ≡ putting v x };
+    ghost then = { λ v x w. (w ≡ putting v x) × CanPut v x };
 }
 
 impl Lesson<Message, View> for Put {
@@ -38,7 +39,7 @@ pub struct Take;
 impl Outcome<Message, View> for Take {
     ghost use Rattle.tor_lane.specs.Views.{taking};
 
-    ghost then = { λ v x w. w ≡ taking v x };
+    ghost then = { λ v x w. (w ≡ taking v x) × CanTake v };
 }
 
 impl Lesson<Message, View> for Take {
@@ -76,8 +77,8 @@ impl Lesson<Message, View> for Settle {
     ghost fact = { Settles };
 }
 
-pub type LaneSender = RuledSender<Message, View, LaneRule>;
+pub(crate) type LaneSender = RuledSender<Message, View, LaneRule>;
 
-pub type LaneReceiver = RuledReceiver<Message, View, LaneRule>;
+pub(crate) type LaneReceiver = RuledReceiver<Message, View, LaneRule>;
 
-pub type LanePass = Pass<Message, View>;
+pub(crate) type LanePass = Pass<Message, View>;

@@ -1,5 +1,5 @@
 -- What the ends of a lane know of themselves, between calls.
-use Rattle.std.specs.Prelude.{◌≡◌, ℕ, Bool, true, List, [], ◌++◌, IsPermutation, if◌then◌else◌}
+use Rattle.std.specs.Prelude.{◌≡◌, ℕ, Bool, true, false, List, [], ◌++◌, IsPermutation, if◌then◌else◌}
 use Rattle.tor_lane.specs.declared.chunk.Message.{Message}
 use Rattle.tor_lane.specs.declared.view.View.{View}
 use Rattle.tor_lane.specs.Messages.{messages_of, chunks_in, marks_in}
@@ -11,7 +11,7 @@ IsFeeding workers v
 
 -- a taker, which has taken one mark where it has stopped, and else none
 abbrev pub IsTaking : Bool → View → Type 0
-IsTaking stopped v = (v.takers ≡ 1) × (v.marks ≡ (if stopped then 1 else 0))
+IsTaking stopped v = (v.feeds ≡ false) × (v.takers ≡ 1) × (v.marks ≡ (if stopped then 1 else 0))
 
 -- what left the channel is what is known here to be taken
 abbrev pub Settles : View → List Message → Type 0

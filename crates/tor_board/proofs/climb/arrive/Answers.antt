@@ -1,7 +1,8 @@
 use Rattle.tor_board.proofs.Names.{[], ap, arith, sym, ℕ, ◌%◌, ◌∙◌, ◌∷◌, ◌≡◌, turned, Seated, climbed, met, joining}
 use Rattle.tor_board.proofs.Names.{climb_at, rules, ◌++◌, Some, inr, suc, climb_from, other_slot, ◌+◌, ◌/◌, List, refl}
-use Rattle.tor_board.proofs.{Arrivals.arrives, Arrivals.other_in, Finding.head_more}
+use Rattle.tor_board.proofs.{Arrivals.arrives, Arrivals.other_in, Finding.head_more, Names.{node_of, slot_of, ◌-◌}}
 use Rattle.tor_board.proofs.Meets.{below_of, node_place, next_of, climbs_on, turned_seat, stored_seat, at_slot}
+use Rattle.tor_board.proofs.Meets.{met_left, met_right}
 use Rattle.tor_board.proofs.climb.arrive.Goals.{then-index-eq0, else-index-eq0}
 use Rattle.tor_board.proofs.climb.arrive.Goals as goal
 
@@ -26,8 +27,11 @@ pub returns-then-found-eq0-clause-first : goal.returns-then-found-eq0-clause-fir
 returns-then-found-eq0-clause-first c = (c.fetch_add-found.ensures.2.0 _ c.requires.climbs.is).0.1 c.if-found-eq0.true
 
 pub slot_mut-requires : goal.slot_mut-requires
-slot_mut-requires c = let a = ((c.fetch_add-found.ensures.2.0 _ c.requires.climbs.is).0).2 in
-    grind (arith, ((c.fetch_add-found.ensures.2.0 _ c.requires.climbs.is).0).0)
+slot_mut-requires c = let t = c.args.tree.now in let spot = c.args.spot in let cl = c.requires.climbs in
+    let one = (c.fetch_add-found.ensures.2.0 _ cl.is).0 in let r = one.2 (omega (arith, one.0, c.if-found-eq0.false)) in
+    let side : c.side_slot.result ≡ other_slot (climb_at t spot.level spot.index spot.hash cl.spare)
+    = c.side_slot.ensures ∙ ap (λ (m : ℕ). slot_of t m (1 - spot.index % 2)) c.middle-node.ensures in
+    (c.fetch_add-found.ensures.0 ∙ c.requires.table, (r.0, at_slot r.2 (sym side)))
 
 pub risen-next-requires-clause-within : goal.risen-next-requires-clause-within
 risen-next-requires-clause-within c = let fits = c.requires.shape.fits c.args.tree.now c.requires.tree in
@@ -55,7 +59,13 @@ returns c = let spot = c.args.spot in let cl = c.requires.climbs in let next = c
     let t = c.args.tree.now in let at = climb_at t spot.level spot.index spot.hash cl.spare in
     let up = climbed at r.0 in let same : suc spot.level ≡ spot.level + 1 = omega arith in
     let p = next_of fits cl c.requires.below _ _ next.level next.index in
-    let joins : c.if-index-eq0.joined ≡ met (spot.index % 2) spot.hash r.0 = grind arith in record {
+    let side = spot.index % 2 in
+    let joins : c.if-index-eq0.joined ≡ met (spot.index % 2) spot.hash r.0 = elim c.if-index-eq0.branch [
+      | then-index-eq0 w ↦ w.joined-is ∙ w.pair-joined.ensures ∙ ap (node_of spot.hash) q.0
+          ∙ met_left side spot.hash r.0 w.if-index-eq0.true
+      | else-index-eq0 w ↦ w.joined-is ∙ w.pair-joined-else-index-eq0.ensures
+          ∙ ap (λ (x : List ℕ). node_of x spot.hash) q.0 ∙ met_right side spot.hash r.0 w.if-index-eq0.false
+    ] in record {
       table = search rules;
       first = tt;
       low = (omega (arith, p.3), p.1);

@@ -1,10 +1,11 @@
 -- One slot after another is taken, and the trees whose root's slots they are.
 use Rattle.{std.proofs.Common.{Global, Vec}, tor_board.proofs.Finding.{same_at, some_height, top_node, top_word}}
 use Rattle.tor_board.proofs.{Finding.tree_there, Meets.tree_facts, Names.{Bool, IsLeft, IsShape, List, None, Option}}
-use Rattle.tor_board.proofs.Names.{Shape, Tree, [], ap, arith, dite, false, get_elem?, get_or, get_or-set_other}
-use Rattle.tor_board.proofs.Names.{get_or-set_same, inr, length, length-set, middle, pow_mono, refl, set, set-get_or}
-use Rattle.tor_board.proofs.Names.{slot_of, slots_filled, slots_items, slots_len, some, some-injective, suc, sym, true}
-use Rattle.tor_board.proofs.Names.{word_of, zero, ℕ, ℕ_discrete, ◌*◌, ◌+◌, ◌-◌, ◌<◌, ◌∙◌, ◌∷◌, ◌≡◌, ◌≢◌, ◌≤◌}
+use Rattle.tor_board.proofs.Names.{Shape, Some, Tree, [], ap, arith, dite, false, get_elem?, get_or, get_or-set_other}
+use Rattle.tor_board.proofs.Names.{get_or-set_same, inl, inr, length, length-set, middle, pow_mono, refl, set}
+use Rattle.tor_board.proofs.Names.{set-get_or, slot_of, slots_filled, slots_items, slots_len, some, some-injective}
+use Rattle.tor_board.proofs.Names.{suc, sym, true, word_of, zero, ℕ, ℕ_discrete}
+use Rattle.tor_board.proofs.Names.{◌*◌, ◌+◌, ◌-◌, ◌<◌, ◌∙◌, ◌∷◌, ◌≡◌, ◌≢◌, ◌≤◌}
 use Rattle.tor_board.proofs.{Sums.within, close.take_roots.Goals.{else-next-len, else-next-len-via-else-next-len}}
 use Rattle.tor_board.proofs.close.take_roots.Goals.{else-next-len-via-then-next-len+else-side_slot-slot, else-word-ge2}
 use Rattle.tor_board.proofs.close.take_roots.Goals.{then-next-len+then-side_slot-slot, then-word-ge2}
@@ -96,7 +97,9 @@ slots-preserved c = let i = c.slots.invariant in let o = c.take-hash.ensures.oth
           let roots = c.slots.roots.items in
           let put : (root : Option (List ℕ)) × (c.if-next-len.roots.items ≡ set roots next root) × IsLeft ws xs t root
           = elim w.if-word-ge2.branch [
-            | then-word-ge2 w' ↦ grind arith
+            | then-word-ge2 w' ↦ let root = Some c.take-hash.result in let many = w'.if-word-ge2.true in
+                let is = ap (λ (v : Vec (Option (List ℕ)) Global). v.items) (w.roots-is ∙ w'.roots-is) in
+                (root, is, (w.word-then-side_slot-slot.result, found, inl (omega (arith, many), (_, value, refl))))
             | else-word-ge2 w' ↦ let is = ap (λ (v : Vec (Option (List ℕ)) Global). v.items) (w.roots-is ∙ w'.roots-is)
                 ∙ sym (set-get_or roots next None) in
                 let none = i.empty next (omega arith) in let few = w'.if-word-ge2.false in

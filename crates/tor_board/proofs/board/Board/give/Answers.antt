@@ -1,4 +1,5 @@
-use Rattle.tor_board.proofs.{Finding.levels_of, Meets.{given_after, in_no_run}, Names.{IsTreeOf, Shape, arith, subst}}
+use Rattle.tor_board.proofs.{Finding.levels_of, Meets.{given_after, given_alone, in_no_run}}
+use Rattle.tor_board.proofs.Names.{IsTreeOf, Shape, arith, subst}
 use Rattle.tor_board.proofs.board.Board.give.Goals as goal
 
 pub hand_alone-requires-clause-alone : goal.hand_alone-requires-clause-alone
@@ -14,5 +15,9 @@ returns-clause-given c = let t = c.in-Some.tree in let some = c.in-Some.ensures.
     c.climb.ensures.view
 
 pub returns-in_default-clause-given : goal.returns-in_default-clause-given
-returns-in_default-clause-given c =
-    grind (arith, in_no_run (c.args.self.now) (c.args.self.now).shaped c.args.job.number c.in_default.ensures.none)
+returns-in_default-clause-given c = let board = c.args.self.now in let u = c.args.job.number in (
+  0,
+  given_alone c.args.seat.now.inner.me.0 c.hand_alone.new.seat.me u c.args.hash c.hand_alone.ensures.given,
+  omega arith,
+  (omega arith, λ n run at has. absurd (in_no_run board board.shaped u c.in_default.ensures.none n run at has)),
+)

@@ -1,4 +1,4 @@
-use Rattle.std.proofs.Common.{◌≡◌, ◌∷◌, [], length, refl, sym, ap, subst, ◌∙◌, append_assoc, append-nil, arith}
+use Rattle.std.proofs.Common.{◌≡◌, false, ◌∷◌, [], length, refl, sym, ap, subst, ◌∙◌, append_assoc, append-nil, arith}
 use Rattle.std.proofs.Common.{rules, vec_len, IsPermutation}
 use Rattle.std.specs.List.{flat_map}
 use Rattle.std.specs.Vec.Iter.{into_iter_items}
@@ -15,7 +15,9 @@ use Rattle.tor_lane.proofs.Takers.{learns}
 use Rattle.tor_lane.proofs.feeder.Feeder.settle.Goals as goal
 
 pub absorb-requires-clause-rule : goal.absorb-requires-clause-rule
-absorb-requires-clause-rule c = learns _ _ _ _
+absorb-requires-clause-rule c =
+    let takes : (view c.into_pass.result).feeds ≡ false = rw c.into_pass.ensures c.in-Some.taker.taking.0 in
+    learns _ _ _ _ takes
 
 pub takers-init : goal.takers-init
 takers-init c = (search rules, search rules, search rules, refl, search rules, knows_none _ _ c.args.self.feeding)
