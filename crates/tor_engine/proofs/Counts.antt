@@ -1,6 +1,6 @@
 -- How often a number stands in a list, and what stands in one.
 use Rattle.std.proofs.Common.{◌≡◌, ℕ, ◌+◌, List, [], ◌∷◌, ◌++◌, map, reverse, cond, false, inl, inr, refl, ap, sym}
-use Rattle.std.proofs.Common.{subst, ◌∙◌, arith, eqb}
+use Rattle.std.proofs.Common.{subst, arith, eqb}
 use Rattle.std.proofs.lemmas.Bool.{eq-eqb, ne_eqb, cases_eq}
 use Rattle.std.proofs.lemmas.List.{reverse-append}
 use Rattle.std.specs.List.{AllByRecursion}
@@ -10,13 +10,6 @@ use Rattle.tor_engine.specs.steps.Taken.{IsIn}
 pub times_append : (u : ℕ) (xs ys : List ℕ) → times u (xs ++ ys) ≡ times u xs + times u ys
 times_append u [] ys = omega arith
 times_append u (x ∷ xs) ys = omega (arith, times_append u xs ys)
-
-pub times_reverse : (u : ℕ) (xs : List ℕ) → times u (reverse xs) ≡ times u xs
-times_reverse u [] = refl
-times_reverse u (x ∷ xs) =
-    let split : reverse (x ∷ xs) ≡ reverse xs ++ x ∷ [] = reverse-append (x ∷ []) xs in
-    let parts = ap (times u) split ∙ times_append u (reverse xs) (x ∷ []) in
-    omega (arith, parts, times_reverse u xs)
 
 pub only_itself : (u x : ℕ) → x ≡ u → only u x ≡ 1
 only_itself u x is = ap (λ b. cond b 1 0) (eq-eqb x u is)

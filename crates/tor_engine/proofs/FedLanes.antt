@@ -1,19 +1,22 @@
 -- What the threads of a lane leave, and what it sums up to.
 use Rattle.std.proofs.Common.{◌≡◌, ◌<◌, ◌≤◌, ◌*◌, ◌∙◌, ℕ, Bool, List, length, Result, Ok, Err, IfOk, Vec, arith}
-use Rattle.std.proofs.Common.{mul-pos, subst, sym}
+use Rattle.std.proofs.Common.{Option, ap, false, mul-pos, refl, subst, sym, true}
 use Rattle.std.specs.Prelude.{IfErr, IsOk, IsOkAnd, MatchResult}
-use Rattle.std.specs.List.{AllByRecursion}
+use Rattle.std.specs.List.{AllByRecursion, list_any}
 use Rattle.std.specs.declared.alloc.Global.{Global}
 use Rattle.tor_lane.specs.Lane.{FeedsLaneOf, IsEnded, put_by}
 use Rattle.tor_lane.specs.declared.chunk.Chunk.{Chunk}
 use Rattle.tor_lane.specs.declared.feeder.Feeder.{Feeder}
 use Rattle.tor_merkle.specs.declared.TheConstants.{MAX_LENGTH}
 use Rattle.tor_tree.specs.declared.kinds.Kind.{Kind}
-use Rattle.tor_engine.specs.Streams.{AreSumsOfContents, IsStreamCut}
+use Rattle.tor_engine.specs.Streams.{AreSumsOfContents, GiveContents, IsFaultOfReaders, IsStreamCut}
+use Rattle.tor_engine.specs.declared.errors.EngineError.{EngineError}
+use Rattle.tor_engine.specs.declared.errors.EngineError.TheVariants.{Resources}
 use Rattle.tor_engine.specs.declared.feeding.Fed.{Fed}
 use Rattle.tor_engine.specs.declared.sums.Sums.{Sums}
 use Rattle.tor_engine.specs.steps.Cuts.{PutsContents}
-use Rattle.tor_engine.specs.steps.Fed.{IsFed}
+use Rattle.tor_engine.specs.declared.stream_worker.StreamWorker.{StreamWorker}
+use Rattle.tor_engine.specs.steps.Fed.{IsFed, IsFedByReaders}
 use Rattle.tor_engine.specs.steps.StreamWorkers.{AreDone}
 use Rattle.tor_engine.proofs.FileHashes.{some_piece}
 use Rattle.tor_engine.proofs.StreamWorkers.{same_lane}
@@ -89,3 +92,35 @@ module _ {F : Type 0} (kind : Kind) (tail : Bool) (p size : ℕ) (Gives : List (
               → SumUp kind tail p Gives sums
           by_read (Ok lengths) put summed = (put.0, put.1, put.2.small, summed tail put.0 put.2)
           by_read (Err fault) put summed = absurd summed
+
+-- one of two, by a test
+chosen : {X : Type 0} (P : X → Type 0) (x y z : X) (test : Bool) → (test ≡ true → z ≡ x) → (test ≡ false → z ≡ y)
+    → P x → P y → P z
+chosen P x y z true one other is_one is_other = subst P (sym (one refl)) is_one
+chosen P x y z false one other is_one is_other = subst P (sym (other refl)) is_other
+
+-- where memory was refused to a worker, this is told
+pub fed_by_readers : {F : Type 0} (kind : Kind) (tail : Bool) (p size : ℕ) (known : List (Option (List ℕ)))
+    (fed new : Fed (EngineError F)) → IsFed kind tail p size (GiveContents known) (IsFaultOfReaders known) fed
+    → (list_any (λ worker. worker.is_refused) fed.workers.items ≡ true → new.read ≡ Err Resources)
+    → (list_any (λ worker. worker.is_refused) fed.workers.items ≡ false → new.read ≡ fed.read)
+    → new.feeder ≡ fed.feeder → new.workers ≡ fed.workers → IsFedByReaders kind tail p size known new
+fed_by_readers {F} kind tail p size known fed new is refused read feeder workers =
+    let Read : Type 0 = Result (Vec ℕ Global) (EngineError F) in
+    let any : Bool = list_any (λ (worker : StreamWorker). worker.is_refused) fed.workers.items in
+    let Put : Feeder → Read → Type 0 = λ f r. IfOk r (λ lengths. (contents : List (List ℕ))
+    × GiveContents known contents × PutsContents kind tail p size contents lengths.items (put_by f)) in
+    record {
+      is = record {
+        done = subst (λ (ws : Vec StreamWorker Global). AreDone kind p new.feeder ws.items) (sym workers)
+            (subst (λ (f : Feeder). AreDone kind p f fed.workers.items) (sym feeder) is.done);
+        ended = subst IsEnded (sym feeder) is.ended;
+        put = subst (λ (f : Feeder). Put f new.read) (sym feeder)
+            (chosen (Put fed.feeder) (Err Resources) fed.read new.read any refused read tt is.put);
+        stopped = chosen (λ (r : Read). IfErr r (IsFaultOfReaders known)) (Err Resources) fed.read new.read any refused
+            read tt is.stopped;
+      };
+      refused = λ told. refused
+          (ap (λ (ws : Vec StreamWorker Global). list_any (λ (worker : StreamWorker). worker.is_refused) ws.items)
+          (sym workers) ∙ told);
+    }

@@ -79,17 +79,3 @@ first_none found a (suc k) (suc n) less none rest =
     let both = neither (found a) (first_of found (range_with_len (a + 1) k)) none in
     or_none (found a) (first_of found (range_with_len (a + 1) n)) both.0
     ∙ first_none found (a + 1) k n (omega arith) both.1 (λ j low high. rest j (omega arith) (omega arith))
-
--- where none has any, this one has none
-pub none_of_range : {B : Type 0} (found : ℕ → Option B) (a n j : ℕ) → j < n → first_of found (range_with_len a n) ≡ None
-    → found (a + j) ≡ None
-unfolding first_of
-none_of_range found a zero j less none = absurd (omega (arith, less))
-none_of_range found a (suc n) zero less none =
-    let here : a + 0 ≡ a = omega arith in
-    ap found here ∙ (neither (found a) (first_of found (range_with_len (a + 1) n)) none).0
-none_of_range found a (suc n) (suc j) less none =
-    let next : a + suc j ≡ a + 1 + j = omega arith in
-    ap found next
-    ∙ none_of_range found (a + 1) n j (omega (arith, less))
-    (neither (found a) (first_of found (range_with_len (a + 1) n)) none).1

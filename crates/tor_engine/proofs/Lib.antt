@@ -15,6 +15,7 @@ pub mod Failing
 pub mod FedLanes
 pub mod FileHashes
 pub mod FileNodes
+pub mod FileRows
 pub mod FilesContent
 pub mod FirstOf
 pub mod GivenAnswers
@@ -27,6 +28,7 @@ pub mod OnePiece
 pub mod OwedSums
 pub mod PartBytes
 pub mod PartReads
+pub mod PartRows
 pub mod Parts
 pub mod PartsInside
 pub mod Placing
@@ -41,7 +43,9 @@ pub mod ReadContents
 pub mod Readers
 pub mod RunRoots
 pub mod Runs
+pub mod SameRows
 pub mod SeatAnswers
+pub mod SharedContents
 pub mod SortedUnits
 pub mod StreamContent
 pub mod StreamPieces

@@ -5,7 +5,7 @@ use Rattle.std.specs.Option.{option_or}
 use Rattle.tor_engine.specs.Fault.{byte_fault, file_fault, first_byte_fault, first_of, part_fault, unit_fault}
 use Rattle.tor_engine.specs.Fault.{units_fault}
 use Rattle.tor_engine.specs.declared.errors.EngineError.{EngineError}
-use Rattle.tor_plan.specs.Content.{layout_of}
+use Rattle.tor_plan.specs.Content.{layout_of_kind}
 use Rattle.tor_plan.specs.Entries.{entry_units, lengths_of_entries}
 use Rattle.tor_plan.specs.Positions.{positions, positions_of_files, positions_of_part, positions_of_unit}
 use Rattle.tor_plan.specs.Units.{hash_units}
@@ -65,5 +65,5 @@ module _ {F : Type 0} (facts : SourceFacts F) where
       → units_fault facts (hash_units kind p span files) ≡ first_byte_fault facts (lengths_of files)
   fault_of_units kind p span files pos =
       ap (units_fault facts) (entry_units_of_files kind p span files)
-      ∙ fault_of_entries kind p span (v1_entries (layout_of kind false) p files) pos
-      ∙ ap (first_byte_fault facts) (lengths_of_files (layout_of kind false) p files)
+      ∙ fault_of_entries kind p span (v1_entries (layout_of_kind kind false) p files) pos
+      ∙ ap (first_byte_fault facts) (lengths_of_files (layout_of_kind kind false) p files)

@@ -147,7 +147,9 @@ module _ (contents : List (List ℕ)) where
 
 -- ---- a plan
 
-parts_within : (plan : PlanFacts) (units : List PlanUnit) → AllByRecursion (IsUnitOf plan) units
+-- the parts of units are in their files
+
+pub parts_within : (plan : PlanFacts) (units : List PlanUnit) → AllByRecursion (IsUnitOf plan) units
     → AllByRecursion (IsInFile plan.lengths) (parts_of units)
 parts_within plan [] are = tt
 parts_within plan (unit ∷ units) are =

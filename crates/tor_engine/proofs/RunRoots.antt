@@ -1,7 +1,6 @@
 -- The runs of trees, and the hashes of their units.
-use Rattle.std.proofs.Common.{◌≡◌, ◌<◌, ◌≤◌, ◌+◌, ◌-◌, ◌^◌, ℕ, List, [], ◌∷◌, length, take, drop, get_or, arith}
+use Rattle.std.proofs.Common.{◌<◌, ◌≤◌, ◌+◌, ◌-◌, ◌^◌, ℕ, List, [], ◌∷◌, length, get_or, arith}
 use Rattle.std.proofs.Common.{pow_mono}
-use Rattle.std.proofs.lemmas.List.{length-drop, length-take-le}
 use Rattle.std.proofs.lemmas.List.Elements.{All-from_recursion}
 use Rattle.std.specs.List.{AllByRecursion}
 use Rattle.tor_merkle.specs.Subtree.{height}
@@ -30,10 +29,6 @@ module _ {A : Type 0} (sums : List A) (runs : List Run) (are : AreRuns (length s
 
   pub is_run : IsRun (length sums) run
   is_run = All-from_recursion (IsRun (length sums)) runs (runs_are (length sums) 0 runs are) k d there
-
-  pub units_of_run : length (take run.count (drop run.first sums)) ≡ run.count
-  units_of_run =
-      length-take-le run.count (drop run.first sums) (omega (arith, is_run.0, length-drop run.first sums))
 
   pub fits : run.count ≤ 2 ^ (36 - run.level)
   fits =

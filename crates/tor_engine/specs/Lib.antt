@@ -5,6 +5,7 @@ pub mod Hasher
 pub mod How
 pub mod PieceFault
 pub mod PieceHashes
+pub mod Rows
 pub mod Shares
 pub mod Streams
 pub mod Sums

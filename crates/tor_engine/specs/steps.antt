@@ -13,6 +13,7 @@ pub mod ReadBytes
 pub mod Reads
 pub mod Room
 pub mod Roots
+pub mod RowSums
 pub mod Run
 pub mod StreamWorkers
 pub mod Taken

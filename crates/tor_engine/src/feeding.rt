@@ -1,12 +1,13 @@
 //! A lane whose feeder reads in the calling thread, while its workers take and hash in others.
-ghost use Rattle.std.specs.Prelude.{◌≡◌, ◌*◌, ◌<◌, ◌≤◌, [], ℕ, IfErr, IfOk, map};
+ghost use Rattle.std.specs.Prelude.{◌≡◌, ◌*◌, ◌<◌, ◌≤◌, [], ℕ, Err, IfErr, IfOk, false, map, true};
+ghost use Rattle.std.specs.List.{list_any};
 ghost use Rattle.std.specs.Thread.{IsSync};
 ghost use Rattle.tor_lane.specs.Lane.{FeedsLaneOf, IsEnded, IsOpen, put_by};
 ghost use Rattle.tor_lane.specs.declared.feeder.Feeder.{Feeder};
 ghost use Rattle.tor_plan.specs.PlanFacts.{IsPlanPieceLength};
-ghost use Rattle.tor_engine.specs.Streams.{GiveContents, IsFaultOfReaders};
+ghost use Rattle.tor_engine.specs.declared.errors.EngineError.TheVariants.{Resources};
 ghost use Rattle.tor_engine.specs.steps.Cuts.{IsReady};
-ghost use Rattle.tor_engine.specs.steps.Fed.{GivesInput, IsFed, StopsInput};
+ghost use Rattle.tor_engine.specs.steps.Fed.{GivesInput, IsFed, IsFedByReaders, StopsInput};
 ghost use Rattle.tor_engine.specs.steps.StreamWorkers.{AreDone, AreWorkers};
 ghost use Rattle.tor_tree.specs.declared.kinds.Kind.{Kind};
 
@@ -15,7 +16,7 @@ use crate::errors::EngineError;
 use crate::gate::{Gate, OpenGate};
 use crate::read_streams::{read_each, read_input};
 use crate::spares::pool;
-use crate::stream_worker::{StreamWorker, stream_workers, take_by_halves};
+use crate::stream_worker::{StreamWorker, any_refused, stream_workers, take_by_halves};
 use std::alloc::{AllocError, Global};
 use std::io::{self, Read};
 use std::snapshot::Snapshot;
@@ -48,8 +49,8 @@ pub(crate) fn open(
         IfOk result (λ both. AreWorkers kind piece_length both.0.feeder both.1.items) }
 {
     let (feeder, takers) = lane(alloc, workers)?;
-    let (spares, give_back) = pool(alloc, 2 * workers as usize)?;
-    let workers = stream_workers(alloc, takers, &give_back)?;
+    let (spares, mut give_back) = pool(alloc, 2 * workers as usize)?;
+    let workers = stream_workers(alloc, takers, &mut give_back)?;
     let cutter = Cutter::new(alloc, feeder, spares, size as usize)?;
     Ok((cutter, workers))
 }
@@ -82,7 +83,7 @@ impl Promise<Vec<StreamWorker>> for Workers {
 }
 
 /// Reads all readers in this thread, while another one has the workers take what is put. Where that thread is refused,
-/// nothing is read.
+/// nothing is read; where memory was refused to a worker, that is told in place of what the readers did.
 pub(crate) fn feed_readers<G: Gate + Sync, R: Read + Drop, T: Threads + Wait + Sync>(
     gate: &G,
     rt: &T,
@@ -98,8 +99,7 @@ pub(crate) fn feed_readers<G: Gate + Sync, R: Read + Drop, T: Threads + Wait + S
     requires ready { (size : ℕ) × (0 < size) × IsReady kind piece_length size [] cutter }
     requires workers { AreWorkers kind piece_length cutter.feeder workers.items }
     ensures { (size : ℕ) → 0 < size → IsReady kind piece_length size [] cutter →
-        IfOk result (IsFed kind tail piece_length size (GiveContents (map R.remaining readers.items))
-        (IsFaultOfReaders (map R.remaining readers.items))) }
+        IfOk result (IsFedByReaders kind tail piece_length size (map R.remaining readers.items)) }
 {
     let mut cutter = cutter;
     thread::scope(
@@ -110,8 +110,7 @@ pub(crate) fn feed_readers<G: Gate + Sync, R: Read + Drop, T: Threads + Wait + S
                 × ((size : ℕ) × (0 < size) × IsReady kind piece_length size [] cutter)
                 × AreWorkers kind piece_length cutter.feeder workers.items }
             ensures { (size : ℕ) → 0 < size → IsReady kind piece_length size [] cutter →
-                IfOk result (IsFed kind tail piece_length size (GiveContents (map R.remaining readers.items))
-                (IsFaultOfReaders (map R.remaining readers.items))) }
+                IfOk result (IsFedByReaders kind tail piece_length size (map R.remaining readers.items)) }
         {
             let promise = Workers::of(&cutter, kind, piece_length);
             match scope.spawn_with(
@@ -124,7 +123,7 @@ pub(crate) fn feed_readers<G: Gate + Sync, R: Read + Drop, T: Threads + Wait + S
             ) {
                 Ok(handle) => {
                     let read = read_each(rt, alloc, kind, piece_length, tail, readers, &mut cutter);
-                    Ok(ended(rt, read, cutter, handle))
+                    Ok(refusals_first(ended(rt, read, cutter, handle)))
                 }
                 Err(_) => Err(AllocError),
             }
@@ -190,6 +189,30 @@ fn ended<F, T: Threads + Wait>(
     let Cutter { mut feeder, .. } = cutter;
     feeder.end(rt);
     let workers = handle.join(rt);
+    Fed {
+        read,
+        feeder,
+        workers,
+    }
+}
+
+/// The same, where want of memory of any worker comes before what the readers did.
+fn refusals_first<F: Drop>(fed: Fed<EngineError<F>>) -> Fed<EngineError<F>>
+    ensures refused { list_any (λ worker. worker.is_refused) fed.workers.items ≡ true →
+        result.read ≡ Err Resources }
+    ensures read { list_any (λ worker. worker.is_refused) fed.workers.items ≡ false → result.read ≡ fed.read }
+    ensures lane { (result.feeder ≡ fed.feeder) × (result.workers ≡ fed.workers) }
+{
+    let Fed {
+        read,
+        feeder,
+        workers,
+    } = fed;
+    let read = if any_refused(&workers) {
+        Err(EngineError::Resources)
+    } else {
+        read
+    };
     Fed {
         read,
         feeder,

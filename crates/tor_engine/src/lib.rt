@@ -21,6 +21,8 @@
 //! - [`hash_pieces`] (`pieces.rt`): what each piece hashes to ([`PieceHash`], `piece_hash.rt`), of files that may be
 //!   cut short or missing; [`find_pieces`] tells their lengths too. `asked.rt` asks for these, `present.rt` tells what
 //!   is there by them, and `piece_work.rt` hashes the pieces of a unit.
+//! - [`hash_part`] (`part.rt`): the hashes of the pieces of some units ([`PieceRow`]), of which several machines each
+//!   hash others.
 //! - [`hash_streams`] (`streams.rt`): what readers sum up to that are read once and in order; [`hash_input`]
 //!   (`input.rt`): what one reader does, within the limit of an input. `feeding.rt` reads in the calling thread:
 //!   `read_streams.rt` goes to the end of each reader, and `cutter.rt` puts chunks into a lane, by `filling.rt` and
@@ -28,7 +30,8 @@
 //!   (`chunk_sums.rt`), and give their buffers back (`spares.rt`); `fed_sums.rt` and `stream_sums.rt` put together what
 //!   these sum up to. [`Gate`] (`gate.rt`): what tests have workers pass. [`lane`], [`Feeder`], [`Taker`], [`Chunk`]
 //!   are those of `tor_lane`.
-//! - [`laws`] (`laws.rt`): a law over the definition of the first fault, and the limits of workers, buffers and units.
+//! - [`laws`] (`laws.rt`): laws over the definition of the first fault and over the hashes of units, and the limits of
+//!   workers, buffers and units.
 //!
 //! ```rust
 //! use tor_engine::{How, hash_all};
@@ -62,6 +65,7 @@ mod lengths;
 mod on_board;
 mod owing;
 mod padding;
+mod part;
 mod paying;
 mod piece_hash;
 mod piece_work;
@@ -97,6 +101,7 @@ pub use hasher::{ContentHasher, Hashed};
 pub use how::{How, MAX_WORKERS};
 pub use input::hash_input;
 pub use lengths::ask_lengths;
+pub use part::{PieceRow, hash_part};
 pub use piece_hash::PieceHash;
 pub use pieces::{FoundPieces, find_pieces, hash_pieces};
 pub use shares::{Share, work};

@@ -83,7 +83,7 @@ impl StreamWorker {
 pub(crate) fn stream_workers(
     alloc: Global,
     takers: Vec<Taker>,
-    give_back: &GiveBack,
+    give_back: &mut GiveBack,
 ) -> Result<Vec<StreamWorker>, AllocError>
     ensures workers { (kind : Kind) (piece_length : ℕ) (feeder : Feeder) →
         AllByRecursion (λ taker. IsTakerOf feeder taker × (taken_by taker ≡ [])) takers.items →

@@ -8,7 +8,6 @@ use crate::fed_sums::sums_of_fed;
 use crate::feeding::{feed_readers, open};
 use crate::gate::{Gate, OpenGate};
 use crate::lane_span::lane_span;
-use crate::stream_worker::any_refused;
 use crate::sums::Sums;
 use std::alloc::Global;
 use std::io::{self, Read};
@@ -91,9 +90,6 @@ pub fn hash_streams_with<G: Gate + Sync, R: Read + Drop, T: Threads + Wait + Syn
         cutter,
         workers,
     )?;
-    if any_refused(&fed.workers) {
-        return Err(EngineError::Resources);
-    }
     let summed = sums_of_fed(alloc, kind, piece_length, size, fed)?;
     summed
 }

@@ -5,7 +5,8 @@
 //!   `readers.rt`: files that are read once and in order.
 //! - `faults.rt`: which fault a hash of files answers; `reads.rt`: what is asked of a source; `workers.rt`: how many
 //!   workers read at once; `board.rt`: workers that share a board.
-//! - `sums.rt`: roots, layers and pieces of files; `pieces.rt`: hashes of single pieces.
+//! - `sums.rt`: roots, layers and pieces of files; `parts.rt`: hashes of the pieces of some units; `pieces.rt`: of
+//!   single pieces.
 //! - `streams`: contents of readers that are read once and in order.
 //!
 //! `shared.rt` has files, plans, and how files are hashed.
@@ -14,6 +15,7 @@ mod board;
 mod faults;
 mod folders;
 mod memory;
+mod parts;
 mod pieces;
 mod readers;
 mod reads;

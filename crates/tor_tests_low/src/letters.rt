@@ -3,8 +3,9 @@
 use crate::shared::{is, path};
 use crate::trees::{is_spelled, tree_of};
 use std::alloc::{AllocError, Global};
+use tor_merkle::MAX_LENGTH;
 use tor_tree::{Attr, FileList, FilePath, ListError};
-use tor_v1::{Entry, Layout, lay_out, put_letters};
+use tor_v1::{Entry, Layout, lay_out};
 
 const EXEC: Attr = Attr {
     exec: true,
@@ -78,8 +79,7 @@ fn has(entry: &Entry, attr: Attr) -> bool {
     entry.exec == attr.exec && entry.hidden == attr.hidden
 }
 
-fn are_lettered(entries: &mut [Entry], attrs: &[Attr]) -> bool {
-    put_letters(entries, attrs);
+fn are_lettered(entries: &[Entry]) -> bool {
     match entries {
         [first, padding, second] => {
             has(first, BOTH) && has(padding, Attr::NONE) && has(second, HIDDEN)
@@ -88,24 +88,130 @@ fn are_lettered(entries: &mut [Entry], attrs: &[Attr]) -> bool {
     }
 }
 
-fn puts_letters(alloc: Global, list: &FileList) -> bool {
+fn lays_out_letters(alloc: Global, list: &FileList) -> bool {
     match lay_out(alloc, list, 16384, Layout::Aligned) {
-        Ok(mut entries) => are_lettered(entries.as_mut_slice(), list.attrs()),
+        Ok(entries) => are_lettered(&entries),
         Err(_) => false,
     }
 }
 
-fn puts_letters_of_two(alloc: Global) -> bool {
+fn lays_out_letters_of_two(alloc: Global) -> bool {
     match list_of(alloc, TWO) {
-        Ok(list) => puts_letters(alloc, &list),
+        Ok(list) => lays_out_letters(alloc, &list),
         Err(_) => false,
     }
 }
 
-const TWICE: &[Row] = &[("a", 0, EXEC), ("a", 0, HIDDEN)];
+// Nine files, some of them under long paths, in no order.
+const NINE: &[Row] = &[
+    ("z", 9, HIDDEN),
+    ("m/n/o/p/q/r/s/t/u/v/w/x/y/z", MAX_LENGTH, EXEC),
+    ("a", 0, Attr::NONE),
+    ("m/n/o/p/q/r/s/t/u/v/w/x/y/a", 3, BOTH),
+    ("a b/c", 16384, BOTH),
+    (
+        "m/0123456789012345678901234567890123456789012345678901234567890123456789",
+        7,
+        EXEC,
+    ),
+    ("b", 1, EXEC),
+    ("y", 5, Attr::NONE),
+    ("c", 1, HIDDEN),
+];
+
+// The same in the order of their paths.
+const SORTED: &[Row] = &[
+    ("a", 0, Attr::NONE),
+    ("a b/c", 16384, BOTH),
+    ("b", 1, EXEC),
+    ("c", 1, HIDDEN),
+    (
+        "m/0123456789012345678901234567890123456789012345678901234567890123456789",
+        7,
+        EXEC,
+    ),
+    ("m/n/o/p/q/r/s/t/u/v/w/x/y/a", 3, BOTH),
+    ("m/n/o/p/q/r/s/t/u/v/w/x/y/z", MAX_LENGTH, EXEC),
+    ("y", 5, Attr::NONE),
+    ("z", 9, HIDDEN),
+];
+
+// Whether a file of a list is that of a row, letters and all.
+fn is_row(alloc: Global, list: &FileList, index: usize, row: &Row) -> bool {
+    if index >= list.files().len() {
+        return false;
+    }
+    let (file, length) = &list.files()[index];
+    match path(alloc, row.0) {
+        Ok(path) => *file == path && *length == row.1 && list.attr(index) == row.2,
+        Err(_) => false,
+    }
+}
+
+fn are_rows(alloc: Global, list: &FileList, rows: &[Row]) -> bool {
+    for (index, row) in rows.iter().enumerate() {
+        if !is_row(alloc, list, index, row) {
+            return false;
+        }
+    }
+    list.files().len() == rows.len()
+}
+
+fn sorts_nine(alloc: Global) -> bool {
+    match list_of(alloc, NINE) {
+        Ok(list) => are_rows(alloc, &list, SORTED),
+        Err(_) => false,
+    }
+}
+
+// Files with letters, and why they are no list.
+const REFUSED: &[(&[Row], &str)] = &[
+    (&[], "L4 NoFiles"),
+    (&[("a", 0, EXEC), ("a", 0, HIDDEN)], "L1 Duplicate"),
+    (
+        &[
+            ("e", 1, EXEC),
+            ("d", MAX_LENGTH + 1, EXEC),
+            ("b/a", 1, EXEC),
+            ("b", 1, BOTH),
+            ("e", 1, EXEC),
+        ],
+        "L1 Duplicate",
+    ),
+    (
+        &[
+            ("d", MAX_LENGTH + 1, EXEC),
+            ("b/a", 1, EXEC),
+            ("c", 1, EXEC),
+            ("b", 1, BOTH),
+        ],
+        "L2 FileAndFolder",
+    ),
+    (
+        &[
+            ("d", 1, EXEC),
+            ("c", 1, EXEC),
+            ("b", MAX_LENGTH + 1, BOTH),
+            ("a", 1, EXEC),
+        ],
+        "L3 TooLarge",
+    ),
+];
+
+fn are_refused(alloc: Global) -> bool {
+    for (rows, wanted) in REFUSED {
+        if !is_refused(alloc, rows, wanted) {
+            return false;
+        }
+    }
+    true
+}
 
 fn go_with_their_files(alloc: Global) -> bool {
-    keeps_letters(alloc) && is_refused(alloc, TWICE, "L1 Duplicate") && puts_letters_of_two(alloc)
+    keeps_letters(alloc)
+        && sorts_nine(alloc)
+        && are_refused(alloc)
+        && lays_out_letters_of_two(alloc)
 }
 
 #[test]

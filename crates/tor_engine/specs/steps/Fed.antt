@@ -1,10 +1,14 @@
 -- What the threads of a lane leave. Only private clauses cite these.
-use Rattle.std.specs.Prelude.{◌≡◌, [], ◌∷◌, ℕ, Bool, List, IfErr, IfOk, Option}
+use Rattle.std.specs.Prelude.{◌≡◌, [], ◌∷◌, ℕ, Bool, List, Err, IfErr, IfOk, Option, true}
+use Rattle.std.specs.List.{list_any}
 use Rattle.tor_lane.specs.Lane.{IsEnded, put_by}
 use Rattle.tor_source.specs.Input.{EndsInput, ReadsAll, ReadsSome}
 use Rattle.tor_source.specs.declared.input.InputFault.{InputFault}
 use Rattle.tor_source.specs.declared.input.TheConstants.{MAX_INPUT_LENGTH}
 use Rattle.tor_tree.specs.declared.kinds.Kind.{Kind}
+use Rattle.tor_engine.specs.Streams.{GiveContents, IsFaultOfReaders}
+use Rattle.tor_engine.specs.declared.errors.EngineError.{EngineError}
+use Rattle.tor_engine.specs.declared.errors.EngineError.TheVariants.{Resources}
 use Rattle.tor_engine.specs.declared.feeding.Fed.{Fed}
 use Rattle.tor_engine.specs.steps.Cuts.{PutsContents}
 use Rattle.tor_engine.specs.steps.StreamWorkers.{AreDone}
@@ -25,3 +29,9 @@ pub record IsFed {F : Type 0} (kind : Kind) (tail : Bool) (piece_length size : �
   pub put : IfOk fed.read (λ lengths. (contents : List (List ℕ)) × Gives contents
       × PutsContents kind tail piece_length size contents lengths.items (put_by fed.feeder))
   pub stopped : IfErr fed.read Stops
+
+-- the same of readers; where memory was refused to a worker this is told, whatever the readers did
+pub record IsFedByReaders {F : Type 0} (kind : Kind) (tail : Bool) (piece_length size : ℕ)
+    (known : List (Option (List ℕ))) (fed : Fed (EngineError F)) : Type 0 where
+  pub is : IsFed kind tail piece_length size (GiveContents known) (IsFaultOfReaders known) fed
+  pub refused : list_any (λ worker. worker.is_refused) fed.workers.items ≡ true → fed.read ≡ Err Resources

@@ -86,7 +86,7 @@ pub(crate) fn is_shown(alloc: Global, paths: &[FilePath], wanted: &[u8]) -> bool
 }
 
 fn fault(rt: &HostRuntime, path: &str) -> Option<ScanFault> {
-    FolderSource::scan(rt, path).err()
+    FolderSource::scan(rt, rt.alloc(), path).err()
 }
 
 pub(crate) fn is_system(rt: &HostRuntime, path: &str) -> bool {
@@ -124,9 +124,10 @@ pub(crate) fn files_at<R: Files + AllocGlobal + Clone + Drop>(
     folder: &str,
     texts: &[&str],
 ) -> Result<FolderSource<R>, AllocError> {
-    let mut files = Vec::new(rt.alloc());
-    add_paths(rt.alloc(), texts, &mut files)?;
-    FolderSource::at(rt, folder, files)
+    let alloc = rt.alloc();
+    let mut files = Vec::new(alloc);
+    add_paths(alloc, texts, &mut files)?;
+    FolderSource::at(rt, alloc, folder, files)
 }
 
 // Of the five files, and past them.
@@ -197,7 +198,7 @@ fn reads_regular_files(rt: &HostRuntime, folder: &str) -> io::Result<bool> {
     let source = files_at(rt, folder, FILES)?;
     let is_right = source.count() == 5 && are_lengths_told(&source) && are_read(&source);
     rt.remove_file(&file)?;
-    let is_single = FolderSource::single(rt, folder)?.count() == 1;
+    let is_single = FolderSource::single(rt, rt.alloc(), folder)?.count() == 1;
     Ok(is_single && is_right && is_long(&source, 0, None) && is_read(&source, &(0, 0, 3, b"")))
 }
 

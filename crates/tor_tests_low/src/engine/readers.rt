@@ -76,7 +76,7 @@ fn are_each_given(readers: &mut [LazyFile<HostRuntime>]) -> bool {
 /// Whether the files of a new folder give their bytes, and then no more.
 pub(crate) fn gives_each(rt: &HostRuntime, folder: &str) -> io::Result<bool> {
     add_files(rt, folder)?;
-    let mut readers = files_at(rt, folder, PATHS)?.readers()?;
+    let mut readers = files_at(rt, folder, PATHS)?.readers(rt.alloc())?;
     Ok(are_each_given(&mut readers))
 }
 
@@ -119,6 +119,6 @@ fn are_given_up(
 
 /// Whether two files of a new folder are opened once.
 pub(crate) fn are_opened_once(rt: &HostRuntime, folder: &str) -> io::Result<bool> {
-    let mut readers = files_at(rt, folder, &["a", "b"])?.readers()?;
+    let mut readers = files_at(rt, folder, &["a", "b"])?.readers(rt.alloc())?;
     are_given_up(rt, folder, &mut readers)
 }

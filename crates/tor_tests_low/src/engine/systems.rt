@@ -115,7 +115,7 @@ fn system_of(rt: &HostRuntime, names: &[u8], breaks: bool) -> io::Result<Listed>
 // Whether a scan of this path finds the paths that are shown so, or has the fault that is told so.
 fn is_scan(system: &Listed, path: &str, wanted: &str) -> bool {
     let alloc = system.alloc();
-    match FolderSource::scan(system, path) {
+    match FolderSource::scan(system, alloc, path) {
         Ok((_source, paths)) => is_shown(alloc, &paths, wanted.as_bytes()),
         Err(fault) => is(format!(in alloc; "{fault}"), wanted),
     }

@@ -54,14 +54,14 @@ sums_of_fed-requires-clause-ended g c =
     let kind = c.args.kind in
     let p = c.args.piece_length in
     let some = some_unit kind p c.lane_span.result (c.lane_span.ensures.cut c.args.kind c.requires.cut) in
-    (c.in_ok-fed.ensures (p * c.lane_span.result) some (c.in_ok-cutter.ensures.ready kind p)).ended
+    (c.in_ok-fed.ensures (p * c.lane_span.result) some (c.in_ok-cutter.ensures.ready kind p)).is.ended
 
 pub sums_of_fed-requires-clause-done : goal.sums_of_fed-requires-clause-done
 sums_of_fed-requires-clause-done g c =
     let kind = c.args.kind in
     let p = c.args.piece_length in
     let some = some_unit kind p c.lane_span.result (c.lane_span.ensures.cut c.args.kind c.requires.cut) in
-    (c.in_ok-fed.ensures (p * c.lane_span.result) some (c.in_ok-cutter.ensures.ready kind p)).done
+    (c.in_ok-fed.ensures (p * c.lane_span.result) some (c.in_ok-cutter.ensures.ready kind p)).is.done
 
 pub sums_of_fed-requires-clause-put : goal.sums_of_fed-requires-clause-put
 sums_of_fed-requires-clause-put g c =
@@ -69,7 +69,7 @@ sums_of_fed-requires-clause-put g c =
     let p = c.args.piece_length in
     let some = some_unit kind p c.lane_span.result (c.lane_span.ensures.cut c.args.kind c.requires.cut) in
     was_put kind c.args.tail p (p * c.lane_span.result) _ _ c.in_ok-fed.fed
-    (c.in_ok-fed.ensures (p * c.lane_span.result) some (c.in_ok-cutter.ensures.ready kind p))
+    (c.in_ok-fed.ensures (p * c.lane_span.result) some (c.in_ok-cutter.ensures.ready kind p)).is
 
 pub returns : goal.returns
 returns g c =
@@ -77,7 +77,7 @@ returns g c =
     let p = c.args.piece_length in
     let some = some_unit kind p c.lane_span.result (c.lane_span.ensures.cut c.args.kind c.requires.cut) in
     let known = map g.R.Read.remaining c.args.readers.items in
-    let fed = c.in_ok-fed.ensures (p * c.lane_span.result) some (c.in_ok-cutter.ensures.ready kind p) in
+    let fed = (c.in_ok-fed.ensures (p * c.lane_span.result) some (c.in_ok-cutter.ensures.ready kind p)).is in
     let is = answers kind c.args.tail p (p * c.lane_span.result) _ _ c.in_ok-fed.fed fed c.in_ok-summed.summed
     c.in_ok-summed.ensures.summed in
     record {

@@ -11,7 +11,8 @@ chunks-preserved g c = (
   λ feeder is.
       let old = c.chunks.self in
       let mid : StreamWorker = record old { taker = c.take.new.self } in
-      worker_more c.args.kind c.args.piece_length feeder old mid c.add.new.self c.in-Some-take.chunk
+      let new : StreamWorker = record c.add.new.self { give_back = c.give.new.self } in
+      worker_more c.args.kind c.args.piece_length feeder old mid new c.in-Some-take.chunk
       (c.chunks.invariant.2 feeder is) c.take.ensures.lane c.in-Some-take.ensures.some refl refl c.add.ensures.taker
       c.add.ensures.sums,
 )

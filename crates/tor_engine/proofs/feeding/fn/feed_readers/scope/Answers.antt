@@ -5,7 +5,7 @@ use Rattle.tor_tree.specs.declared.kinds.Kind.{Kind}
 use Rattle.tor_engine.specs.declared.feeding.Workers.{Workers}
 use Rattle.tor_engine.specs.Streams.{GiveContents, IsFaultOfReaders}
 use Rattle.tor_engine.specs.steps.StreamWorkers.{AreDone}
-use Rattle.tor_engine.proofs.FedLanes.{is_fed}
+use Rattle.tor_engine.proofs.FedLanes.{fed_by_readers, is_fed}
 use Rattle.tor_engine.proofs.feeding.fn.feed_readers.scope.Goals as goal
 
 pub spawn_with-requires-clause-keeps : goal.spawn_with-requires-clause-keeps
@@ -20,9 +20,12 @@ returns-in-Ok g c = λ size some ready.
     let known = map g.R.Read.remaining c.captures.readers.items in
     let read = c.read_each-read.ensures in
     let end = c.ended.ensures in
+    let first = c.refusals_first.ensures in
     let done = subst (λ (q : Kind × ℕ × Feeder). AreDone q.0 q.1 q.2 c.ended.result.workers.items) c.of-promise.ensures
     (subst (λ (q : Workers). AreDone q.kind q.piece_length q.feeder.value c.ended.result.workers.items)
     c.in-Ok.ensures.ok end.done) in
-    is_fed kind c.captures.tail p size (GiveContents known) (IsFaultOfReaders known) c.captures.cutter.feeder
+    let is = is_fed kind c.captures.tail p size (GiveContents known) (IsFaultOfReaders known) c.captures.cutter.feeder
     c.read_each-read.new.cutter.feeder _ c.ended.result read.lane.0 end.lane end.ended end.put end.read done
-    (read.put size some ready) read.fault
+    (read.put size some ready) read.fault in
+    fed_by_readers kind c.captures.tail p size known c.ended.result c.refusals_first.result is first.refused first.read
+    first.lane.0 first.lane.1
