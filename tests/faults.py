@@ -65,21 +65,23 @@ def expect_faults(program, folder, words, place, rows):
 
 
 def test_of_make(program, folder):
-    """Of a file below PATH the system is asked as it is found, for its length, before each read, and at the end."""
+    """Of a file below PATH the system is asked as it is found, whether FILE of --out is it, for its length, before each
+    read, and at the end."""
     files = lay_out(folder)
-    rows = [(f'statx:error={error}:when=2', 'E1 Read file 1 at length')
+    rows = [(f'statx:error={error}:when=3', 'E1 Read file 1 at length')
             for error in ['EIO', 'EACCES', 'ETIMEDOUT', 'EAGAIN', 'EINTR', 'ELOOP', 'EPERM', 'ENAMETOOLONG']]
-    rows += [(f'statx:error={error}:when=2', 'E3 Missing file 1') for error in ['ENOENT', 'ENOTDIR']]
+    rows += [(f'statx:error={error}:when=3', 'E3 Missing file 1') for error in ['ENOENT', 'ENOTDIR']]
     rows += [(f'pread64:error={error}:when=1', 'E1 Read file 1 at 0')
              for error in ['EIO', 'EAGAIN', 'EINTR', 'ETIMEDOUT', 'EISDIR']]
     rows += [(f'openat:error={error}:when=1', 'E1 Read file 1 at 0')
              for error in ['EACCES', 'EMFILE', 'ENOENT', 'ETIMEDOUT']]
-    rows += [('pread64:retval=0:when=1', 'E2 Changed file 1'), ('statx:error=ENOENT:when=3', 'E2 Changed file 1')]
+    rows += [('pread64:retval=0:when=1', 'E2 Changed file 1'), ('statx:error=ENOENT:when=4', 'E2 Changed file 1')]
     rows += [(f'statx:error={error}:when=1', 'F4 System')
              for error in ['EIO', 'EACCES', 'ENOENT', 'ETIMEDOUT', 'EINTR']]
+    rows += [(f'statx:error={error}:when=2', 'F4 System') for error in ['EIO', 'EACCES', 'ETIMEDOUT', 'EINTR', 'ELOOP']]
     # Calls are counted for each thread. Of several workers the calling thread may read no byte of the file, and then
-    # asks for its length again at its third call.
-    again = [('statx:error=ENOENT:when=4', 'E2 Changed file 1')]
+    # asks for its length again at its fourth call.
+    again = [('statx:error=ENOENT:when=5', 'E2 Changed file 1')]
     for how in [[], ['--how', 'halves', '--workers', '2', '--span', '1'], ['--kind', 'v1'], ['--kind', 'hybrid'],
                 ['--how', 'board', '--workers', '2', '--span', '1']]:
         out = folder / 'out'
@@ -99,7 +101,8 @@ def test_of_streams(program, folder):
     much of it came."""
     files = lay_out(folder)
     rows = [(f'statx:error={error}:when=1', 'F4 System') for error in ['EIO', 'EACCES', 'ENOENT']]
-    rows += [(f'statx:error={error}:when=2', 'E1 Read file 1 at 0')
+    rows += [(f'statx:error={error}:when=2', 'F4 System') for error in ['EIO', 'EACCES', 'ELOOP']]
+    rows += [(f'statx:error={error}:when=3', 'E1 Read file 1 at 0')
              for error in ['EIO', 'EACCES', 'ENOENT', 'ENOTDIR', 'ETIMEDOUT', 'EINTR', 'ELOOP']]
     rows += [(f'openat:error={error}:when=1', 'E1 Read file 1 at 0')
              for error in ['EACCES', 'EMFILE', 'ENOENT', 'ETIMEDOUT']]
@@ -219,18 +222,17 @@ def test_of_recheck(program, folder):
 
 
 def test_of_recheck_of_one_file(program, folder):
-    """The system is asked first what PATH is, which may be the file or a folder: where it does not tell, that is its
-    fault, but where nothing is there the file is missing."""
+    """The system is asked first what PATH is, which may be the file or a folder: where it does not tell, the file is
+    looked for below PATH, and a file has none below it."""
     path, torrent = folder / 'abc', folder / 'torrent'
     path.write_bytes(b'abc')
     torrent.write_bytes(ABC)
     errors = ['EIO', 'EACCES', 'ETIMEDOUT', 'EINTR', 'ELOOP']
-    rows = [(f'statx:error={error}:when=1', 'F4 System') for error in errors]
-    rows += [(f'statx:error={error}:when=2', 'C1 Read file 0 at length') for error in errors]
+    rows = [(f'statx:error={error}:when=2', 'C1 Read file 0 at length') for error in errors]
     rows += [('pread64:error=EIO:when=1', 'C1 Read file 0 at 0'), ('pread64:retval=0:when=1', 'C2 Changed file 0')]
     for options in [[], ['--files', '--json']]:
         expect_faults(program, folder, ['recheck', *options, torrent, path], path, rows)
-    for error in ['ENOENT', 'ENOTDIR']:
+    for error in ['ENOENT', 'ENOTDIR', *errors]:
         told, _ = traced(program, ['recheck', torrent, path], path, [f'statx:error={error}:when=1'], folder / 'log')
         expect_told(['recheck'], done(b'pieces 0 of 1\nbits 00\n', 1), told, f'with {error}\n')
 

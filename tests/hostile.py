@@ -8,7 +8,7 @@ import re
 from collections import namedtuple
 
 import reference
-from reference import BLOCK, Order, judge
+from reference import BLOCK, Order, judge, marks_of, recheck_lines
 from refuser import ALL_LATER, Meet, Refuser
 from support import Failure, refused, shown
 
@@ -27,18 +27,24 @@ Answer = namedtuple('Answer', 'status out err kept')
 
 
 class Case:
-    """A run: its words, the right answer, the file that is its input, and what the places are that it asks for."""
+    """A run: its words, the right answer, that of a file at PATH which the system does not tell of, the file that is its
+    input, and what the places are that it asks for."""
 
-    def __init__(self, words, right, given=os.devnull, path=None, files=(), torrent=None, out=None):
+    def __init__(self, words, right, given=os.devnull, path=None, files=(), torrent=None, out=None, untold=None):
         self.words, self.given, self.path, self.torrent, self.out = [*map(str, words)], str(given), path, torrent, out
         self.numbers = {str(place): number for number, place in enumerate(files)}
         self.is_stream = 'streams' in self.words
         self.is_read_twice = '--check-after' in self.words
+        self.untold = untold and self.answer(untold)
         self.right = Answer(right.status, b'' if out else right.out, right.err, OLD if out else None)
         if out and right.status == 0:
             self.right = self.right._replace(kept=right.out)
         if out:
             self.words += ['--out', str(out)]
+
+    def answer(self, told):
+        """The same answer, and an old file of --out as it was."""
+        return Answer(told.status, told.out, told.err, OLD if self.out else None)
 
     def lay_out(self):
         if self.out:
@@ -103,7 +109,10 @@ def after_case(place, kind, way, single, out):
     """The same, of files that are looked at once more."""
     made = make_case(place, kind, way, single, None)
     path, files = content_of(place, single)
-    return Case([*made.words, '--check-after'], made.right, path=path, files=files, out=out)
+    untold = None
+    if single:
+        untold = refused(f'not as made: 0 of {len(marks_of(judge(torrent_of(kind, True)), [None]))} pieces')
+    return Case([*made.words, '--check-after'], made.right, path=path, files=files, out=out, untold=untold)
 
 
 def input_case(place, kind, out):
@@ -135,9 +144,10 @@ def recheck_case(place, kind, single):
     path, files = content_of(place, single)
     torrent = place / (f'{kind}-file.torrent' if single else f'{kind}.torrent')
     contents = [LONG] if single else [content for _, content in CONTENTS]
-    marks = reference.marks_of(judge(torrent.read_bytes()), contents)
-    return Case(['recheck', torrent, path], right_of(reference.recheck_lines(marks)), path=path, files=files,
-                torrent=torrent)
+    view = judge(torrent.read_bytes())
+    untold = right_of(recheck_lines(marks_of(view, [None])), 1) if single else None
+    return Case(['recheck', torrent, path], right_of(recheck_lines(marks_of(view, contents))), path=path, files=files,
+                torrent=torrent, untold=untold)
 
 
 def torrent_cases(place):
@@ -178,7 +188,7 @@ def fault_of(case, kinds, ended):
     elif 'w' in kinds:
         is_right = is_cut(case, came, ended.met)
     else:
-        is_right = any(is_told(case, met, came) for met in ended.met) or is_of_path(case, ended.met, came)
+        is_right = any(is_told(case, met, came) for met in ended.met) or is_passed_over(case, ended.met, came)
     return None if is_right else f'{difference(case, came)}\nrefused {ended.met[:9]}'
 
 
@@ -197,12 +207,15 @@ def is_told(case, met, came):
         and came == Answer(3, b'', came.err, OLD if case.out else None)
 
 
-def is_of_path(case, met, came):
-    """Of a folder it is asked again what it is, as it is listed. Where several files are looked for below a PATH of
-    which the system does not tell what it is, it counts as a folder."""
-    if len(met) > 1 or met[0].kind != 's' or met[0].place != str(case.path):
+def is_passed_over(case, met, came):
+    """Whether one question was left without an answer that may be. Where the system does not tell what PATH is, the
+    files are looked for below it: of a folder it is asked again what it is, and a file has none below it. Where it does
+    not tell which file FILE of --out is, no file is there that could be lost."""
+    if len(met) > 1 or met[0].kind != 's':
         return False
-    return os.path.isdir(case.path) and came == case.right
+    if met[0].place == str(case.path) and not os.path.isdir(case.path) and came == case.untold:
+        return True
+    return met[0].place in (str(case.path), str(case.out)) and came == case.right
 
 
 def lines_of(case, met):
@@ -213,8 +226,7 @@ def lines_of(case, met):
         return [b'write fault after 0 bytes']
     if place in (case.given, str(case.torrent)):
         return [b'read fault']
-    is_recheck_below = case.words[0] == 'recheck' and os.path.isdir(case.path)
-    lines = [] if is_recheck_below or met.kind == 'r' else [b'F4 System']
+    lines = [] if case.words[0] == 'recheck' or met.kind == 'r' else [b'F4 System']
     if number is not None:
         lines += [b'%s Read file %d at %s' % (code, number, starts) for code, starts in codes_of(case, met)]
     return lines
@@ -294,6 +306,26 @@ def test_memory_in_turn(program, folder):
     lettered = attrs_case(folder, 'hybrid', WAYS[0], None)
     for case in [check, recheck_case(folder, 'hybrid', False), *made, lettered]:
         sweep(refuser, case, 'm')
+
+
+def test_memory_before_a_fault_of_a_stream(program, folder):
+    """The last of the files cannot be read, and each request for memory is refused in turn: where it is one of the
+    worker, want of memory is told and not that fault; where the thread that reads is refused, either is."""
+    lay_out(folder)
+    refuser = Refuser(program, folder)
+    for kind in KINDS:
+        case = make_case(folder, kind, ('streams', 1), False, None)
+        case.right = case.refusal('E1 Read file 3 at 0', 3)
+        wanting = case.refusal('out of resources', 4)
+        allowed = {'none': [case.right], 'first': [case.right, wanting], 'later': [wanting]}
+        meet, asked = Meet('m', broken=str(folder / 'folder' / 'e')), set()
+        for ended in [refuser.run(case.words, meet), *refuser.each(case.words, meet)]:
+            thread = ended.met[0].place if ended.met else 'none'
+            asked.add(thread)
+            if case.came(ended) not in allowed[thread]:
+                raise Failure(f'{difference(case, case.came(ended))}\nrefused {ended.met}')
+        if asked != set(allowed):
+            raise Failure(f'run     {case.told()}\nrefused in these threads alone: {asked}')
 
 
 def test_of_files_that_are_looked_at_once_more(program, folder):

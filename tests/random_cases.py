@@ -279,10 +279,8 @@ def case_of_input(rng, program, place):
     """Standard input is made into a torrent."""
     order = random_order(rng, True)
     data = random_content(rng, random_length(rng, min(order.piece_length, 1 << 20), 5 << 20), [])
-    # A unit that is too long for a stream is not refused: what comes then does not go through one.
-    judged = order._replace(how='board') if order.how == 'streams' else order
     text = random_letters(rng, [(order.name,)])
-    wanted = made([((order.name,), data)], judged, text)
+    wanted = made([((order.name,), data)], order, text)
     torrent = make_out(rng, program, place, words_of(rng, order, *attrs_words(place, text)), wanted, data)
     if torrent is not None:
         tell(rng, program, place, torrent)

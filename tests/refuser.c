@@ -3,14 +3,15 @@
    starts programs with it.
 
    REFUSER_KINDS   which calls are counted, a letter for each kind: m memory, t threads, s what a file is, o opening,
-                   l listing a folder, r reading, w writing
+                   l listing a folder, r reading, w writing, p how many processors there are
    REFUSER_FIRST   the first that is met, counted from 1; 0 for none
    REFUSER_LAST    the last
    REFUSER_DOES    r refuse, h hold, k kill, t tell alone
    REFUSER_ERROR   the error of a call of the system that is refused
    REFUSER_MOST    the most bytes that one call writes; 0 for as many as it is asked for
+   REFUSER_BROKEN  a file of which each read fails, whatever is counted; none where it is empty
    REFUSER_TOLD    the descriptor on which each call that is met is told in a line: its kind, its descriptor, the offset
-                   where it is known, and its file
+                   where it is known, and its file; of memory `first` or `later`, as the thread is that asks
    REFUSER_GO      the descriptor from which one byte is read for each call that is held */
 #define _GNU_SOURCE
 #include <dlfcn.h>
@@ -34,11 +35,14 @@ extern void *__libc_memalign(size_t, size_t);
 
 typedef int Create(pthread_t *, const pthread_attr_t *, void *(*)(void *), void *);
 
-static const char *kinds = "";
+typedef long Tell(int);
+
+static const char *kinds = "", *broken = "";
 static long calls, first, last, most;
 static int told, go, error;
 static char does = 'r';
 static Create *create;
+static Tell *next_sysconf;
 
 static long number(const char *name) {
     const char *text = getenv(name);
@@ -47,6 +51,7 @@ static long number(const char *name) {
 
 __attribute__((constructor)) static void begin(void) {
     create = (Create *)dlsym(RTLD_NEXT, "pthread_create");
+    next_sysconf = (Tell *)dlsym(RTLD_NEXT, "sysconf");
     first = number("REFUSER_FIRST");
     last = number("REFUSER_LAST");
     most = number("REFUSER_MOST");
@@ -55,6 +60,7 @@ __attribute__((constructor)) static void begin(void) {
     error = number("REFUSER_ERROR");
     does = getenv("REFUSER_DOES") ? getenv("REFUSER_DOES")[0] : 'r';
     kinds = getenv("REFUSER_KINDS") ? getenv("REFUSER_KINDS") : "";
+    broken = getenv("REFUSER_BROKEN") ? getenv("REFUSER_BROKEN") : "";
     calls = 0;
 }
 
@@ -91,8 +97,18 @@ static int refuses(char kind, int file, long offset, const char *place) {
     return 1;
 }
 
+/* Whether a file is the one that cannot be read. */
+static int is_broken(int file) {
+    char name[PATH_MAX];
+    if (!*broken) return 0;
+    name_of(file, name);
+    if (strcmp(name, broken)) return 0;
+    errno = error;
+    return 1;
+}
+
 static int refuses_memory(void) {
-    if (!meets('m', -1, -1, "")) return 0;
+    if (!meets('m', -1, -1, syscall(SYS_gettid) == getpid() ? "first" : "later")) return 0;
     errno = ENOMEM;
     return 1;
 }
@@ -108,6 +124,11 @@ int posix_memalign(void **made, size_t align, size_t size) {
 
 int pthread_create(pthread_t *thread, const pthread_attr_t *how, void *(*run)(void *), void *with) {
     return meets('t', -1, -1, "") ? EAGAIN : create(thread, how, run, with);
+}
+
+long sysconf(int what) {
+    if (what == _SC_NPROCESSORS_ONLN && refuses('p', -1, -1, "")) return -1;
+    return next_sysconf(what);
 }
 
 int statx(int folder, const char *place, int flags, unsigned mask, struct statx *answer) {
@@ -137,6 +158,7 @@ ssize_t getdents64(int folder, void *buffer, size_t size) {
 static long place_in(int file) { return syscall(SYS_lseek, file, 0, SEEK_CUR); }
 
 ssize_t read(int file, void *buffer, size_t size) {
+    if (is_broken(file)) return -1;
     return refuses('r', file, place_in(file), NULL) ? -1 : syscall(SYS_read, file, buffer, size);
 }
 

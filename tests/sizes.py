@@ -317,7 +317,8 @@ def test_three_of_200000_files(program, folder):
     words = [str(torrent), str(copy)]
     expect(program, ['recheck', '--files', *words], done(lines + reference.found_lines(found), 1))
     expect(program, ['recheck', '--bad', *words], done(lines + reference.found_lines(bad), 1))
-    fetch = f"cd {place}; {program} recheck --bad --null {' '.join(words)} | xargs -0r cp --parents -t {copy} --"
+    fetch = f"cd {place}; {program} recheck --bad --null {' '.join(words)} | " \
+            f"xargs -0r cp --remove-destination --parents -t {copy} --"
     subprocess.run(['bash', '-c', fetch], check=True)
     expect(program, ['recheck', *words], done(reference.recheck_lines([True] * 200_000)))
     expect(program, ['recheck', '--bad', '--null', *words], done())

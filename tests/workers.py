@@ -7,7 +7,7 @@ import time
 
 import reference
 from reference import BLOCK, encode, sha1
-from refuser import ALL_LATER, TIME_LIMIT, Meet, Refuser, read_met, wait
+from refuser import ALL_LATER, TIME_LIMIT, Meet, Refuser, built, read_met, wait
 from support import Failure, expect_equal
 from terminal import sparse
 
@@ -199,3 +199,18 @@ def test_as_many_as_processors(program, folder):
             if came != most:
                 raise Failure(f'{" ".join(words)}, on {wanted} processors\nwanted  {most} threads\ncame    {came}')
             expect_equal('status and standard error', (0, b''), ended)
+
+
+def test_one_where_no_number_is_told(program, folder):
+    """`auto` where the system tells no number of processors: refuser.c refuses to, and tells of each such call."""
+    torrent, path = torrent_of_zeros(folder)
+    environment = [f'LD_PRELOAD={built(folder)}', 'REFUSER_KINDS=p', 'REFUSER_FIRST=1', f'REFUSER_LAST={ALL_LATER}',
+                   'REFUSER_DOES=refuse', 'REFUSER_TOLD=2']
+    for words, wanted in [(['recheck', '--workers', 'auto', torrent, path], 1),
+                          (['make', '--name', 'a', '--how', 'board', '--workers', 'auto', path], 1),
+                          (['make', '--name', 'a', '--how', 'halves', '--workers=auto', path], 1),
+                          (['make', '--name', 'a', '--how', 'streams', '--workers', 'auto', path], 2)]:
+        came, _, ended = watch('env', [*environment, program, *words])
+        if came != wanted:
+            raise Failure(f'{" ".join(words)}, on no number of processors\nwanted  {wanted} threads\ncame    {came}')
+        expect_equal('status and the calls that were met', (0, b'p -1 -1 \n'), ended)

@@ -15,7 +15,7 @@ use std::io::{ErrorKind, IsTerminal, Read, Write};
 use std::process::ExitCode;
 use std::sync::Wait;
 use std::thread::Threads;
-use tor_cli::execute::execute;
+use tor_cli::execute::run;
 use tor_cli::fault::Fault;
 
 fn main(rt: HostRuntime) -> ExitCode {
@@ -28,7 +28,7 @@ fn main(rt: HostRuntime) -> ExitCode {
         Err(error) => return stop(&rt, &Fault::from(error)),
     };
     let shows_progress = rt.stderr().is_terminal();
-    execute_over(
+    run_over(
         &rt,
         &rt,
         &texts,
@@ -67,13 +67,8 @@ fn texts_of<'a>(alloc: Global, words: &'a [String]) -> Result<Vec<&'a str>, Allo
     Ok(texts)
 }
 
-/// Executes the program over these words and streams: its status is the process's.
-fn execute_over<
-    T: Threads + Wait + Sync + Send + Clone + Drop + 'static,
-    R: Read,
-    W: Write,
-    E: Write,
->(
+/// Runs the program over these words and streams: its status is the process's.
+fn run_over<T: Threads + Wait + Sync + Send + Clone + Drop + 'static, R: Read, W: Write, E: Write>(
     rt: &T,
     system: &HostRuntime,
     words: &[&str],
@@ -96,7 +91,7 @@ fn execute_over<
       writer' = W.contents out.new;
     }) (exit_status result) }
 {
-    ExitCode::from(execute(rt, system, words, reader, out, err, shows_progress))
+    ExitCode::from(run(rt, system, words, reader, out, err, shows_progress))
 }
 
 /// Tells a fault of the words, which is all that can stop the program before it does anything.

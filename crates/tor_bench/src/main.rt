@@ -113,7 +113,7 @@ fn run<T: Threads + Sync>(threads: &T, rt: &HostRuntime, name: &str, word: &str)
 }
 
 fn files_below(rt: &HostRuntime, folder: &str) -> usize {
-    match FolderSource::scan(rt, folder) {
+    match FolderSource::scan(rt, rt.alloc(), folder) {
         Ok((_source, paths)) => paths.len(),
         Err(_fault) => 0,
     }

@@ -20,6 +20,7 @@ not_kept workers bytes (faults.Refused refusal) why = why
 not_kept workers bytes (faults.Piece error) why = why
 not_kept workers bytes (faults.Recheck error) why = why
 not_kept workers bytes (faults.NotAsMade good pieces) why = absurd why
+not_kept workers bytes faults.OutAmongFiles why = why
 not_kept workers bytes (faults.Argument fault) why = why
 not_kept workers bytes faults.Read why = why
 not_kept workers bytes faults.TooLong why = why

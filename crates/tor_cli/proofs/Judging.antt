@@ -106,6 +106,7 @@ module _ (lines : View → Hashes → List ℕ) (s : Streams) (untouched : IsUnt
   stops_judging bytes within (faults.Piece error) why = absurd why
   stops_judging bytes within (faults.Recheck error) why = absurd why
   stops_judging bytes within (faults.NotAsMade good pieces) why = absurd why
+  stops_judging bytes within faults.OutAmongFiles why = absurd why
   stops_judging bytes within (faults.Argument fault) why = absurd why
   stops_judging bytes within faults.Read why = absurd why
   stops_judging bytes within faults.TooLong why = absurd why

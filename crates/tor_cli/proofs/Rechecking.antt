@@ -45,15 +45,11 @@ at_itself : (one : Bool) → IsOfPlaceIn (cond one Itself (Nowhere scans.System)
 at_itself true = tt
 at_itself false = tt
 
-below_or_nowhere : (one : Bool) → IsOfPlaceIn (cond one (Nowhere scans.System) Below)
-below_or_nowhere true = tt
-below_or_nowhere false = tt
-
 is_of_place : (standing : Standing) (files : ℕ) → IsOfPlaceIn (looked_for standing files)
 is_of_place File files = at_itself (files == 1)
 is_of_place NoFile files = tt
 is_of_place Nothing files = tt
-is_of_place NotTold files = below_or_nowhere (files == 1)
+is_of_place NotTold files = tt
 is_of_place NoMemory files = tt
 
 module _ (view : View) (standing : Standing) where
@@ -101,6 +97,7 @@ not_judged bytes (faults.Refused refusal) why = why
 not_judged bytes (faults.Piece error) why = absurd why
 not_judged bytes (faults.Recheck error) why = absurd why
 not_judged bytes (faults.NotAsMade good pieces) why = absurd why
+not_judged bytes faults.OutAmongFiles why = absurd why
 not_judged bytes (faults.Argument fault) why = absurd why
 not_judged bytes faults.Read why = absurd why
 not_judged bytes faults.TooLong why = absurd why
@@ -118,6 +115,7 @@ unplaced workers bytes (faults.Refused refusal) why = why
 unplaced workers bytes (faults.Piece error) why = why
 unplaced workers bytes (faults.Recheck error) why = absurd why
 unplaced workers bytes (faults.NotAsMade good pieces) why = why
+unplaced workers bytes faults.OutAmongFiles why = why
 unplaced workers bytes (faults.Argument fault) why = why
 unplaced workers bytes faults.Read why = why
 unplaced workers bytes faults.TooLong why = why
@@ -164,15 +162,10 @@ module _ (place : List ℕ) (view : View) (places : List (List ℕ)) where
   one_itself true one is = ap length is ∙ sym (eqb-true (length view.files) 1 one)
   one_itself false one is = absurd is
 
-  not_told : (one : Bool) → ArePlaces (cond one (Nowhere scans.System) Below) place view.files places
-      → length places ≡ length view.files
-  not_told true is = absurd is
-  not_told false is = each_below is
-
   -- there are as many places as the torrent has files
   pub places_count : ArePlaced place view places → length places ≡ length view.files
   places_count (File, is) = one_itself (length view.files == 1) refl is
   places_count (NoFile, is) = each_below is
   places_count (Nothing, is) = each_below is
-  places_count (NotTold, is) = not_told (length view.files == 1) is
+  places_count (NotTold, is) = each_below is
   places_count (NoMemory, is) = absurd is

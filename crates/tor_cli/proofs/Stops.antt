@@ -13,11 +13,11 @@ use Rattle.tor_tree.specs.FileList.{paths_of}
 use Rattle.tor_tree.specs.Name.{name_fault}
 use Rattle.tor_tree.specs.declared.attr.Attr.{Attr}
 use Rattle.tor_source.specs.Input.{EndsInput, ReadsSome}
-use Rattle.tor_meta.specs.FromInput.{MakesOf, StopsReading, refusal_of}
+use Rattle.tor_meta.specs.FromInput.{MakesOf, StopsReading}
 use Rattle.tor_cli.specs.Attrs.{IsNotLettered}
 use Rattle.tor_cli.specs.Place.{AreFound, IsGivenBy, IsNotFound, refusal_by}
 use Rattle.tor_cli.specs.Request.{IsOrderOf, IsOrderOfOne, IsRefusedFirst, OnlyReads, SendsFront, StopsFinding}
-use Rattle.tor_cli.specs.Request.{StopsInput, StopsPlace, StopsSending, attrs_of, file_of}
+use Rattle.tor_cli.specs.Request.{StopsInput, StopsPlace, StopsSending, attrs_of, file_of, input_refusal}
 use Rattle.tor_cli.specs.steps.Lettering.{IsNotOrdered}
 use Rattle.tor_cli.specs.Streams.{IsUntouched, Streams}
 use Rattle.tor_cli.specs.Status.{of_input_fault, of_make_error, of_scan_fault, of_step_fault}
@@ -53,11 +53,11 @@ kept_or_memory (makes.Missing file) = inl (refl, refl)
 kept_or_memory makes.Resources = inr refl
 kept_or_memory (makes.StreamTooLong file) = inl (refl, refl)
 
-is_refused : (order : Order) (error : MakeError Error) → is_memory error ≡ false
-    → (refusal_of order ≡ Some error) ⊎ (error ≡ makes.Resources) → refusal_of order ≡ Some error
+is_refused : (first : Option (MakeError Error)) (error : MakeError Error) → is_memory error ≡ false
+    → (first ≡ Some error) ⊎ (error ≡ makes.Resources) → first ≡ Some error
 unfolding is_memory
-is_refused order error other (inl refused) = refused
-is_refused order error other (inr memory) = let bad : true ≡ false = sym (ap is_memory memory) ∙ other in cc
+is_refused first error other (inl refused) = refused
+is_refused first error other (inr memory) = let bad : true ≡ false = sym (ap is_memory memory) ∙ other in cc
 
 is_no_memory : (error : MakeError Error) → is_memory error ≡ false → error ≢ makes.Resources
 unfolding is_memory
@@ -97,29 +97,33 @@ module _ (options : MakeOptions) (s : Streams) where
   stops_input inputs.Memory given keeps = (given, keeps)
 
   stops_make : (order : Order) (attr : Attr) → IsOrderOfOne options order attr
-      → (error : MakeError Error) → StopsReading order s.reader s.reader' (Make error)
+      → (error : MakeError Error) → StopsReading (input_refusal options order) s.reader s.reader' (Make error)
       → Keeps s.writer s.writer' → StopsInput options s (of_make_error error)
   stops_make order attr is error (content, reads, either) keeps = elim (kept_or_memory error) [
-    | inl kept ↦ rw kept.1 ((order, attr, is, is_refused order error kept.0 either), ((content, reads), keeps))
+    | inl kept ↦ rw kept.1 (
+      (order, attr, is, is_refused (input_refusal options order) error kept.0 either),
+      ((content, reads), keeps),
+    )
     | inr memory ↦ rw memory ((content, reads.0.given, reads.1), keeps)
   ]
 
   pub stops_reading : (order : Order) (attr : Attr) → IsOrderOfOne options order attr
-      → (fault : FromFault) → StopsReading order s.reader s.reader' fault → Keeps s.writer s.writer'
-      → StopsInput options s (of_step_fault fault)
+      → (fault : FromFault) → StopsReading (input_refusal options order) s.reader s.reader' fault
+      → Keeps s.writer s.writer' → StopsInput options s (of_step_fault fault)
   stops_reading order attr is (Input fault) given keeps = stops_input fault given keeps
   stops_reading order attr is (Make error) given keeps = stops_make order attr is error given keeps
   stops_reading order attr is (Write fault) given keeps = absurd given
 
   -- so many bytes of the torrent went out
   pub stops_sent : (order : Order) (attr : Attr) → IsOrderOfOne options order attr → (torrent : List ℕ)
-      → ((content : List ℕ) × MakesOf order attr s.reader s.reader' (λ bytes. torrent ≡ bytes) content)
+      → ((content : List ℕ) × MakesOf (input_refusal options order) order attr s.reader s.reader'
+      (λ bytes. torrent ≡ bytes) content)
       → (written : ℕ) → (0 < length torrent → SendsFront (file_of options) s.writer s.writer' written torrent)
       → StopsInput options s (faults.Write written)
   stops_sent order attr is torrent (content, made) written front =
       let long : 0 < length torrent = subst (λ t. 0 < length t) (sym made.torrent) (has_bytes _ _) in
-      let sent : MakesOf order attr s.reader s.reader' (SendsFront (file_of options) s.writer s.writer' written)
-      content =
+      let sent : MakesOf (input_refusal options order) order attr s.reader s.reader'
+      (SendsFront (file_of options) s.writer s.writer' written) content =
       record {
         read = made.read;
         accepted = made.accepted;
@@ -138,6 +142,7 @@ module _ (options : MakeOptions) (s : Streams) where
   stops_sending (faults.Piece error) why untouched = (why, untouched)
   stops_sending (faults.Recheck error) why untouched = (why, untouched)
   stops_sending (faults.NotAsMade good pieces) why untouched = (why, untouched)
+  stops_sending faults.OutAmongFiles why untouched = (why, untouched)
   stops_sending (faults.Argument fault) why untouched = (why, untouched)
   stops_sending faults.Read why untouched = (why, untouched)
   stops_sending faults.TooLong why untouched = (why, untouched)
@@ -186,6 +191,8 @@ not_found options named (faults.Name fault) (single, paths, found, why) =
     absurd (no_other (attrs_of options) paths (faults.Name fault) refl why)
 not_found options named (faults.Make error) (single, paths, found, why) =
     absurd (no_other (attrs_of options) paths (faults.Make error) refl why)
+not_found options named faults.OutAmongFiles (single, paths, found, why) =
+    absurd (no_other (attrs_of options) paths faults.OutAmongFiles refl why)
 not_found options named faults.Resources why = tt
 not_found options named fault why = (named, why)
 
@@ -212,5 +219,7 @@ not_ordered options s (faults.Recheck error) (named, why) read =
     absurd (no_other (attrs_of options) ((options.name.now ∷ []) ∷ []) (faults.Recheck error) refl why)
 not_ordered options s (faults.NotAsMade good pieces) (named, why) read =
     absurd (no_other (attrs_of options) ((options.name.now ∷ []) ∷ []) (faults.NotAsMade good pieces) refl why)
+not_ordered options s faults.OutAmongFiles (named, why) read =
+    absurd (no_other (attrs_of options) ((options.name.now ∷ []) ∷ []) faults.OutAmongFiles refl why)
 not_ordered options s (faults.Write written) (named, why) read =
     absurd (no_other (attrs_of options) ((options.name.now ∷ []) ∷ []) (faults.Write written) refl why)

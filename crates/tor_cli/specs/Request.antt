@@ -1,6 +1,6 @@
 -- What the program does for a request: what it reads and writes, and where a fault stops it.
 use Rattle.std.specs.Prelude.{◌≡◌, ◌⊎◌, ◌<◌, ◌≢◌, ◌∷◌, [], ℕ, Bool, List, length, true, option_map, Option, None}
-use Rattle.std.specs.Prelude.{Some}
+use Rattle.std.specs.Prelude.{Some, IsSome}
 use Rattle.std.specs.Prelude.{string_bytes}
 use Rattle.std.specs.Io.KnownBytes.{Appends, Keeps}
 use Rattle.std.specs.declared.io.Error.{Error}
@@ -18,7 +18,7 @@ use Rattle.tor_tree.specs.declared.attr.Attr.{Attr}
 use Rattle.tor_cli.specs.CheckAfter.{IsAsMade, IsNotAsMade}
 use Rattle.tor_cli.specs.Foreign.{DoesTell, StopsTelling}
 use Rattle.tor_source.specs.Input.{ReadsAll, ReadsSome, EndsInput}
-use Rattle.tor_meta.specs.FromInput.{IsFront, MakesOf, refusal_of}
+use Rattle.tor_meta.specs.FromInput.{IsFront, MakesOf}
 use Rattle.tor_cli.specs.Attrs.{HaveLetters, IsNotLettered}
 use Rattle.tor_cli.specs.Place.{AreFound, IsGivenBy, IsNotFound, refusal_by}
 use Rattle.tor_cli.specs.Proving.{DoesProve, DoesVerify, StopsProving, StopsVerifying}
@@ -39,7 +39,7 @@ use Rattle.tor_cli.specs.declared.command.Request.TheVariants.{Recheck as ToRech
 use Rattle.tor_cli.specs.declared.telling.Telling.TheVariants.{Link}
 use Rattle.tor_cli.specs.declared.fault.Fault.{Fault}
 use Rattle.tor_cli.specs.declared.fault.Fault.TheVariants.{Usage, Name, Scan, Make, Refused, Piece, Recheck, Argument}
-use Rattle.tor_cli.specs.declared.fault.Fault.TheVariants.{NotAsMade, Read, TooLong, Write, Resources}
+use Rattle.tor_cli.specs.declared.fault.Fault.TheVariants.{NotAsMade, OutAmongFiles, Read, TooLong, Write, Resources}
 
 -- the settings of the torrent that the options ask for, of one file or of a folder
 abbrev pub settings_of_options : MakeOptions → Bool → Settings
@@ -83,10 +83,15 @@ pub record IsOrderOfOne (options : MakeOptions) (order : Order) (attr : Attr) : 
   pub ordered : IsOrder options true order
   pub lettered : HaveLetters (attrs_of options) ((options.name.now ∷ [], attr) ∷ [])
 
+-- why no torrent is made of what the reader has
+abbrev pub input_refusal : MakeOptions → Order → Option (MakeError Error)
+input_refusal options order = refusal_by options.way order ((order.name ∷ []) ∷ [])
+
 -- the torrent that the options ask for was made of all that the reader had
 abbrev pub DoesInput : MakeOptions → Streams → Type 0
 DoesInput options s = (order : Order) × (attr : Attr) × IsOrderOfOne options order attr
-    × ((content : List ℕ) × MakesOf order attr s.reader s.reader' (Sends (file_of options) s.writer s.writer') content)
+    × ((content : List ℕ) × MakesOf (input_refusal options order) order attr s.reader s.reader'
+    (Sends (file_of options) s.writer s.writer') content)
 
 -- all that the reader had was read, and nothing was written
 abbrev pub OnlyReads : Streams → Type 0
@@ -110,14 +115,16 @@ StopsInput options s (Refused refusal) = ⊥
 StopsInput options s (Piece error) = ⊥
 StopsInput options s (Recheck error) = ⊥
 StopsInput options s (NotAsMade good pieces) = ⊥
+StopsInput options s OutAmongFiles = ⊥
 StopsInput options s (Argument fault) = FailsAttrs options (Argument fault) s
 StopsInput options s (Make error) = ((order : Order) × (attr : Attr) × IsOrderOfOne options order attr
-    × (refusal_of order ≡ Some error)) × OnlyReads s
+    × (input_refusal options order ≡ Some error)) × OnlyReads s
 StopsInput options s Read = FailsInput inputs.Read s ⊎ FailsAttrs options Read s
 StopsInput options s TooLong = FailsInput inputs.TooLong s ⊎ FailsAttrs options TooLong s
 StopsInput options s (Write written) = (order : Order) × (attr : Attr) × IsOrderOfOne options order attr
     × ((content : List ℕ)
-    × MakesOf order attr s.reader s.reader' (SendsFront (file_of options) s.writer s.writer' written) content)
+    × MakesOf (input_refusal options order) order attr s.reader s.reader'
+    (SendsFront (file_of options) s.writer s.writer' written) content)
 StopsInput options s Resources = FailsInput inputs.Memory s
 
 -- the order that the options ask for, and the paths of the files at their place, each with its letters
@@ -144,6 +151,10 @@ StopsFinding options (Make error) = (order : Order) × (files : List (List (List
     × IsOrderOf options order files × IsOwn (refusal_by options.way order (paths_of files)) error
     × IsRefusedFirst (refusal_by options.way order (paths_of files)) error
     × IsGivenBy options.way (length files) error × (error ≢ makes.Resources)
+-- which file is at a place no contract says
+StopsFinding options OutAmongFiles = (name_fault options.name.now ≡ None) × IsSome (file_of options)
+    × ((single : Bool) × (files : List (List (List ℕ) × Attr)) × AreFound options.name.now single (paths_of files)
+    × HaveLetters (attrs_of options) files)
 StopsFinding options Resources = Unit {0}
 StopsFinding options fault =
     (name_fault options.name.now ≡ None) × IsNotFound options.name.now (attrs_of options) fault

@@ -1,7 +1,7 @@
 -- What stops the program: which fault a step's fault is, and the status that the program ends with.
 use Rattle.std.specs.Prelude.{ℕ}
-use Rattle.tor_check.specs.declared.piece_proofs.PieceError.{PieceError}
-use Rattle.tor_check.specs.declared.piece_proofs.PieceError.TheVariants as pieces
+use Rattle.tor_check.specs.declared.piece_proofs.ProveError.{ProveError}
+use Rattle.tor_check.specs.declared.piece_proofs.ProveError.TheVariants as pieces
 use Rattle.std.specs.declared.io.Error.{Error}
 use Rattle.tor_check.specs.declared.refusal.Refusal.{Refusal}
 use Rattle.tor_check.specs.declared.refusal.Refusal.TheVariants as refusals
@@ -19,7 +19,7 @@ use Rattle.tor_meta.specs.declared.from_input.FromFault.{FromFault}
 use Rattle.tor_meta.specs.declared.from_input.FromFault.TheVariants as steps
 use Rattle.tor_cli.specs.declared.fault.Fault.{Fault}
 use Rattle.tor_cli.specs.declared.fault.Fault.TheVariants.{Usage, Name, Scan, Make, Refused, Piece, Recheck, Argument}
-use Rattle.tor_cli.specs.declared.fault.Fault.TheVariants.{NotAsMade, Read, TooLong, Write, Resources}
+use Rattle.tor_cli.specs.declared.fault.Fault.TheVariants.{NotAsMade, OutAmongFiles, Read, TooLong, Write, Resources}
 
 abbrev pub of_input_fault : InputFault → Fault
 of_input_fault inputs.Read = Read
@@ -42,7 +42,7 @@ abbrev pub of_refusal : Refusal → Fault
 of_refusal refusals.Memory = Resources
 of_refusal refusal = Refused refusal
 
-abbrev pub of_piece_error : PieceError → Fault
+abbrev pub of_piece_error : ProveError → Fault
 of_piece_error pieces.Memory = Resources
 of_piece_error error = Piece error
 
@@ -78,7 +78,7 @@ status_of_refusal refusals.Memory = 4
 status_of_refusal refusal = 1
 
 -- there is no such piece, or no tree that it is of
-abbrev pub status_of_piece : PieceError → ℕ
+abbrev pub status_of_piece : ProveError → ℕ
 status_of_piece pieces.Memory = 4
 status_of_piece error = 1
 
@@ -98,6 +98,7 @@ status_of (Refused refusal) = status_of_refusal refusal
 status_of (Piece error) = status_of_piece error
 status_of (Recheck error) = status_of_recheck error
 status_of (NotAsMade good pieces) = 1
+status_of OutAmongFiles = 1
 status_of (Argument fault) = 1
 status_of Read = 3
 status_of TooLong = 3

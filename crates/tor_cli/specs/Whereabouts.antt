@@ -17,10 +17,10 @@ is_memory _ = false
 abbrev pub standing_of_kind : ErrorKind → Standing
 standing_of_kind kind = if is_absence kind then Nothing else (if is_memory kind then NoMemory else NotTold)
 
--- a file by itself is what a torrent of one file has; where it is not told what is there, it might be that file
+-- a file by itself is what a torrent of one file has, and nowhere to look for the files of another
 abbrev pub looked_for : Standing → ℕ → Whereabouts
 looked_for File files = if files == 1 then Itself else Nowhere System
 looked_for NoFile files = Below
 looked_for Nothing files = Below
-looked_for NotTold files = if files == 1 then Nowhere System else Below
+looked_for NotTold files = Below
 looked_for NoMemory files = Nowhere Memory

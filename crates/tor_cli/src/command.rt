@@ -24,6 +24,11 @@ use clap::{ArgMatches, Command};
 use std::alloc::{AllocError, Global};
 use std::thread::Threads;
 
+// What the help ends with.
+const MORE: &str = "\
+Status: 0 done; 1 refused, answered by no, or not all pieces are there; 2 usage; 3 a read or write fault;
+4 memory or a thread refused. More: man tor";
+
 // What the help says of this command.
 const MAGNET: &str = "Prints the magnet link of a torrent";
 
@@ -69,6 +74,7 @@ fn tor_command<'a>(alloc: Global) -> Result<Command<'a>, AllocError>
     let top = Command::new(alloc, "tor")
         .version("0.1.0")
         .about("Makes, checks and rechecks BitTorrent metainfo files, and proves single pieces")
+        .after_help(MORE)
         .subcommand_required(true)
         .bin_name("tor")?;
     let over_torrents = add_torrent_commands(alloc, top)?;

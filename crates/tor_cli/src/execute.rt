@@ -23,14 +23,9 @@ use std::thread::Threads;
 use tor_meta::write_out;
 
 /// Does what the words ask for; the first word is the program's name. Answers the status: 0 done, 1 refused or answered
-/// by no, 2 usage, 3 a read or write fault, 4 memory refused. A fault is one line on `err`. How far the reading of PATH
-/// is, the system's own standard error shows, where it is to be shown.
-pub fn execute<
-    T: Threads + Wait + Sync + Send + Clone + Drop + 'static,
-    R: Read,
-    W: Write,
-    E: Write,
->(
+/// by no, 2 usage, 3 a read or write fault, 4 memory or a thread refused. A fault is one line on `err`. How far the
+/// reading of PATH is, the system's own standard error shows, if it is to be shown.
+pub fn run<T: Threads + Wait + Sync + Send + Clone + Drop + 'static, R: Read, W: Write, E: Write>(
     rt: &T,
     system: &HostRuntime,
     words: &[&str],

@@ -7,13 +7,13 @@ ghost use Rattle.tor_cli.specs.Words.{IsUsage};
 use crate::claim::ArgumentFault;
 use std::alloc::{AllocError, Global};
 use std::{fmt, io};
-use tor_check::{PieceError, Refusal};
+use tor_check::{ProveError, Refusal};
 use tor_meta::MakeError;
 use tor_recheck::RecheckError;
 use tor_source::ScanFault;
 use tor_tree::NameError;
 
-/// What can stop the program. Want of memory is `Resources`, and no other.
+/// What can stop the program. Want of memory is `Resources`, wherever it comes.
 #[derive(Debug, Drop)]
 pub enum Fault {
     /// The words ask for nothing that there is: the line.
@@ -27,11 +27,13 @@ pub enum Fault {
     /// What FILE has is no torrent.
     Refused(Refusal),
     /// The torrent has no such piece, or no tree that it is of.
-    Piece(PieceError),
+    Piece(ProveError),
     /// A file of the torrent was not read, or did not stay as long as it was told to be.
     Recheck(RecheckError<io::Error>),
     /// The files do not have each piece of the torrent that was made of them: so many have, of so many.
     NotAsMade { good: u64, pieces: u64 },
+    /// The file of `--out` is one of those that the torrent would be made of.
+    OutAmongFiles,
     /// An argument of `verify`, or `--attrs` of `make`, is none of its kind.
     Argument(ArgumentFault),
     /// Standard input, or a FILE, was not read whole.
@@ -39,7 +41,7 @@ pub enum Fault {
     TooLong,
     /// This many bytes went out.
     Write(u64),
-    /// Memory was refused.
+    /// Memory, or a thread that is needed, was refused.
     Resources,
 }
 
@@ -66,7 +68,7 @@ impl Fault {
             Fault::Refused(refusal) => status_of_refusal(refusal),
             Fault::Piece(error) => status_of_piece(error),
             Fault::Recheck(error) => status_of_recheck(error),
-            Fault::NotAsMade { .. } => 1,
+            Fault::NotAsMade { .. } | Fault::OutAmongFiles => 1,
             Fault::Argument(_) => 1,
             Fault::Read | Fault::TooLong | Fault::Write(_) => 3,
             Fault::Resources => 4,
@@ -128,12 +130,12 @@ fn status_of_refusal(refusal: &Refusal) -> u8
     }
 }
 
-fn status_of_piece(error: &PieceError) -> u8
+fn status_of_piece(error: &ProveError) -> u8
     ensures value { result ≡ status_of_piece error.now }
     ensures positive { 0 < result }
 {
     match error {
-        PieceError::Memory => 4,
+        ProveError::Memory => 4,
         _ => 1,
     }
 }
@@ -162,6 +164,7 @@ impl fmt::Display for Fault {
             Fault::NotAsMade { good, pieces } => {
                 write!(f, "not as made: {good} of {pieces} pieces")
             }
+            Fault::OutAmongFiles => f.write_str("out among files"),
             Fault::Argument(fault) => write!(f, "{fault}"),
             Fault::Read => f.write_str("read fault"),
             Fault::TooLong => f.write_str("input too long"),

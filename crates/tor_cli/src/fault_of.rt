@@ -8,7 +8,7 @@ use crate::claim::ArgumentFault;
 use crate::fault::Fault;
 use std::alloc::{AllocError, AllocFailed};
 use std::io;
-use tor_check::{PieceError, Refusal};
+use tor_check::{ProveError, Refusal};
 use tor_meta::{FromFault, MakeError, WriteFault};
 use tor_recheck::RecheckError;
 use tor_source::{InputFault, ScanFault};
@@ -70,12 +70,12 @@ impl From<Refusal> for Fault {
     }
 }
 
-impl From<PieceError> for Fault {
+impl From<ProveError> for Fault {
     ghost from_gives = { λ error e. e ≡ of_piece_error error };
 
-    fn from(error: PieceError) -> Fault {
+    fn from(error: ProveError) -> Fault {
         match error {
-            PieceError::Memory => Fault::Resources,
+            ProveError::Memory => Fault::Resources,
             error => Fault::Piece(error),
         }
     }

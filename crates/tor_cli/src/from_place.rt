@@ -76,7 +76,7 @@ fn paths_at(system: &HostRuntime, place: &str, name: &Name) -> Result<Placed, Sc
     match system.metadata(place) {
         Ok(metadata) if metadata.is_file() => Ok(one_file(system, place, name)?),
         _ => {
-            let (source, paths) = FolderSource::scan(system, place)?;
+            let (source, paths) = FolderSource::scan(system, system.alloc(), place)?;
             Ok(Placed {
                 source,
                 paths,
@@ -94,7 +94,7 @@ fn one_file(system: &HostRuntime, place: &str, name: &Name) -> Result<Placed, Al
     let alloc = system.alloc();
     let path = FilePath::of_name(alloc, name)?;
     Ok(Placed {
-        source: FolderSource::single(system, place)?,
+        source: FolderSource::single(system, alloc, place)?,
         paths: vec![in alloc; path]?,
         single: true,
     })
@@ -184,7 +184,7 @@ fn counted_readers<'a>(
     if let Some(progress) = progress {
         progress.ask_lengths(&found.source);
     }
-    let files = found.source.readers()?;
+    let files = found.source.readers(alloc)?;
     let mut readers = Vec::with_capacity(alloc, files.len())?;
     'files: for reader in files {
         readers.push(CountedReader { reader, progress })?;

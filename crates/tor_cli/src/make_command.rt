@@ -6,6 +6,7 @@ ghost use Rattle.tor_meta.specs.FromInput.{MakesOf, StopsReading};
 ghost use Rattle.tor_tree.specs.Name.{name_fault};
 ghost use Rattle.tor_tree.specs.declared.names.NameError.TheVariants.{Memory};
 ghost use Rattle.tor_cli.specs.Attrs.{HaveLetters, IsNotLettered};
+ghost use Rattle.tor_cli.specs.Place.{refusal_by};
 ghost use Rattle.tor_cli.specs.Request.{DoesInput, DoesMake, DoesPlace, IsOrder, IsOrderOfOne, IsTorrentAt};
 ghost use Rattle.tor_cli.specs.Request.{IsTorrentToSend, attrs_of};
 ghost use Rattle.tor_cli.specs.Request.{StopsFinding, StopsInput, StopsMake, StopsPlace, StopsSending};
@@ -18,7 +19,7 @@ use crate::check_after::check_after;
 use crate::fault::Fault;
 use crate::from_place::{files_at, torrent_of};
 use crate::options::MakeOptions;
-use crate::out_file::send;
+use crate::out_file::{send, spare_sources};
 use crate::progress::Progress;
 use crate::way::{Way, how_of, workers_after};
 use std::alloc::{AllocError, Global};
@@ -30,9 +31,10 @@ use tor_source::drop_input;
 use tor_tree::{Attr, FilePath, Name, NameError};
 
 /// Makes the torrent of one file, whose content the reader has, or of the files at a place of the system. The first of
-/// these faults is answered: of the reader, the name, the place, the letters, the other options, the files, the check
-/// of `--check-after`, the writer. That check is of the place too: its faults come in the order of a recheck of what
-/// was made, and that not all pieces are there comes last.
+/// these faults is answered: of the reader, the name, the place, the letters, the file that it is to go to if that is
+/// one of those at the place, the other options, the files, the check of `--check-after`, the writer. That check is of
+/// the place too: its faults come in the order of a recheck of what was made, and that not all pieces are there comes
+/// last.
 pub fn make<T: Threads + Wait + Sync + Send + Clone + Drop + 'static, R: Read, W: Write>(
     rt: &T,
     system: &HostRuntime,
@@ -86,9 +88,11 @@ fn torrent_of_input<T: Threads + Wait + Sync + Send + Clone + Drop + 'static, R:
     order: &Order,
     attr: Attr,
 ) -> Result<Vec<u8>, FromFault>
-    ensures made { IfOk result (λ torrent. (content : List ℕ) × MakesOf order.now attr
+    ensures made { IfOk result (λ torrent. (content : List ℕ)
+        × MakesOf (refusal_by way order.now ((order.now.name ∷ []) ∷ [])) order.now attr
         (R.remaining reader.old) (R.remaining reader.new) (λ bytes. torrent.items ≡ bytes) content) }
-    ensures stopped { IfErr result (StopsReading order.now (R.remaining reader.old) (R.remaining reader.new)) }
+    ensures stopped { IfErr result (StopsReading (refusal_by way order.now ((order.now.name ∷ []) ∷ []))
+        (R.remaining reader.old) (R.remaining reader.new)) }
 {
     match way {
         Way::Shared(_) => torrent_from(alloc, reader, order, attr),
@@ -151,6 +155,7 @@ fn torrent_at<T: Threads + Wait + Sync>(
     let alloc = system.alloc();
     let name = name_of(alloc, options)?;
     let found = files_at(system, place, options.attrs, &name)?;
+    spare_sources(system, options.out, &found.source)?;
     let order = order_of(alloc, options, name, found.single)?;
     let progress = Progress::shown(system, found.files.len(), shows_progress);
     Ok(torrent_of(rt, alloc, options.way, &found, &order, &progress)?)

@@ -9,9 +9,7 @@ ghost use Rattle.tor_cli.specs.CommandLine.{private_option, span_option, torrent
 ghost use Rattle.tor_cli.specs.steps.Bound.{wanted_by};
 ghost use Rattle.tor_cli.specs.steps.Rules.{HaveRules};
 
-use crate::torrent_words::{
-    command_with, flag_beside, flag_of, option_of, with_words, workers_option,
-};
+use crate::torrent_words::{flag_beside, flag_of, option_of, with_words, workers_option};
 use clap::{Arg, Command, value_parser};
 use std::alloc::{AllocError, Global};
 
@@ -21,7 +19,8 @@ const DEFAULT_KIND: &str = "v2";
 
 const NAME: &str = "The name that the torrent suggests for its content";
 
-const PIECE_LENGTH: &str = "Bytes in a piece: a power of two from 16384 to 1073741824";
+const PIECE_LENGTH: &str =
+    "Bytes in a piece: a power of two from 16384 to 1073741824; choose more for more data";
 
 const KIND: &str = "Which clients can use the torrent: of version 1, of version 2, or both";
 
@@ -29,13 +28,15 @@ const PRIVATE: &str = "Peers are to come from the tracker alone";
 
 const HOW: &str = "Who hashes: one worker, or several, by halves, at a board or behind a stream";
 
-const SPAN: &str = "Pieces that a worker takes at a time: a power of two from 1 to 1024";
+const SPAN: &str =
+    "Pieces that a worker takes at a time: a power of two from 1 to 1024; the torrent is the same";
 
 const OUT: &str = "The file that the torrent goes to, instead of standard output";
 
-const TAIL: &str = "Pads the last file of a hybrid folder too";
+const TAIL: &str = "Pads the last file of a hybrid folder too; changes nothing elsewhere";
 
-const ATTRS: &str = "The file that says which files are executable or hidden";
+const ATTRS: &str =
+    "The file that says which files are executable or hidden, a line each: x, h or hx, a space, the path";
 
 const HOWS: [&str; 4] = ["one", "halves", "board", "streams"];
 
@@ -46,7 +47,7 @@ const DEFAULT_PIECE_LENGTH: &str = "262144";
 const DEFAULT_WORKERS: &str = "1";
 
 const WORKERS: &str =
-    "How many workers share the hashing, by halves, at a board or behind a stream: from 1 to 64, or auto";
+    "How many workers share the hashing, with --how halves, board or streams: from 1 to 64, or auto";
 
 const DEFAULT_SPAN: &str = "16";
 
@@ -58,11 +59,15 @@ pub fn make_command<'a>(alloc: Global) -> Result<Command<'a>, AllocError>
         × (app_of command ≡ make_app kinds hows)) }
 {
     let torrent = torrent_words(alloc)?;
-    let begun = command_with(alloc, "make", ABOUT, torrent)?;
+    let named = Command::new(alloc, "make").about(ABOUT).after_help(MORE);
+    let begun = with_words(named, torrent)?;
     add_ways(alloc, begun)
 }
 
 const ABOUT: &str = "Makes a torrent of standard input, or of a file or folder";
+
+const MORE: &str =
+    "Fastest for a file or folder: --how board --workers auto. The torrent is the same for each HOW.";
 
 // What the torrent is to have, beside its files.
 fn torrent_words<'a>(alloc: Global) -> Result<Vec<Arg<'a>>, AllocError>

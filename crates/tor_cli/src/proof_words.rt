@@ -63,7 +63,7 @@ pub fn verify_command<'a>(alloc: Global) -> Result<Command<'a>, AllocError>
 
 const VERIFIES: &str = "Tells whether a proof of a piece holds";
 
-const ROOT: &str = "The root of the file: 64 hexadecimal digits";
+const ROOT: &str = "The pieces root that the torrent has of the file: 64 hexadecimal digits";
 
 const LENGTH: &str = "Bytes in the file: from 1 to 1125899906842624";
 

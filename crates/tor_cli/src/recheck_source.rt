@@ -63,7 +63,7 @@ fn placed_files(
     ensures refused { IfErr result (λ fault. (whereabouts ≡ Nowhere fault) ⊎ (fault ≡ Memory)) }
 {
     match whereabouts {
-        Whereabouts::Itself => Ok(FolderSource::single(system, place)?),
+        Whereabouts::Itself => Ok(FolderSource::single(system, system.alloc(), place)?),
         Whereabouts::Below => Ok(files_below(system, place, files)?),
         Whereabouts::Nowhere(fault) => Err(fault),
     }
@@ -77,8 +77,9 @@ fn files_below(
     ensures { IfOk result
         (λ source. source ≡ map (place_of place.now) (map (λ told. told.file.path) files.now)) }
 {
-    let paths = paths_of(system.alloc(), files)?;
-    FolderSource::at(system, place, paths)
+    let alloc = system.alloc();
+    let paths = paths_of(alloc, files)?;
+    FolderSource::at(system, alloc, place, paths)
 }
 
 fn paths_of(alloc: Global, files: &[ViewFile]) -> Result<Vec<FilePath>, AllocError>

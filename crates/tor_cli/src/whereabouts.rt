@@ -3,7 +3,7 @@ ghost use Rattle.std.specs.Fs.{IsFile, file_type};
 ghost use Rattle.std.specs.IoError.{error_kind};
 ghost use Rattle.std.specs.Prelude.{◌≡◌, IfErr, IfOk};
 ghost use Rattle.tor_cli.specs.Whereabouts.{is_memory, looked_for, standing_of_kind};
-ghost use Rattle.tor_cli.specs.declared.whereabouts.Standing.TheVariants.{File, NoFile, NotTold};
+ghost use Rattle.tor_cli.specs.declared.whereabouts.Standing.TheVariants.{File, NoFile};
 
 use std::fs::Metadata;
 use std::io::{self, ErrorKind};
@@ -36,16 +36,14 @@ pub enum Whereabouts {
 }
 
 /// Where so many files of a torrent are looked for. The file at a place is what a torrent of one file has there, and no
-/// place for those of another. Where it is not told what is there, a torrent of one file might have it there, and it is
-/// a fault; of others each file is asked for by itself.
+/// place for those of another. If it is not told what is there, each file is asked for below it, and its fault is told.
 pub fn looked_for(standing: Standing, files: usize) -> Whereabouts
     ensures { result ≡ looked_for standing files }
 {
     match standing {
         Standing::File => at_itself(files),
         Standing::NoFile => Whereabouts::Below,
-        Standing::Nothing => Whereabouts::Below,
-        Standing::NotTold => below_or_nowhere(files),
+        Standing::Nothing | Standing::NotTold => Whereabouts::Below,
         Standing::NoMemory => Whereabouts::Nowhere(ScanFault::Memory),
     }
 }
@@ -57,16 +55,6 @@ fn at_itself(files: usize) -> Whereabouts
         Whereabouts::Itself
     } else {
         Whereabouts::Nowhere(ScanFault::System)
-    }
-}
-
-fn below_or_nowhere(files: usize) -> Whereabouts
-    ensures { result ≡ looked_for NotTold files }
-{
-    if files == 1 {
-        Whereabouts::Nowhere(ScanFault::System)
-    } else {
-        Whereabouts::Below
     }
 }
 

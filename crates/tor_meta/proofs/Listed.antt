@@ -14,7 +14,7 @@ use Rattle.tor_engine.specs.Sums.{lists_of}
 use Rattle.tor_meta.specs.steps.Sums.{AreFactsOf, HaveTrees, IsJudged}
 use Rattle.tor_meta.specs.declared.head.Head.{Head}
 use Rattle.tor_engine.specs.declared.sums.Sums.{Sums}
-use Rattle.tor_spec.specs.Facts.{Facts, attrs_in, facts_from, listed, layers_in, roots_in}
+use Rattle.tor_spec.specs.Facts.{Facts, attrs_in, listed, layers_in, roots_in}
 use Rattle.tor_spec.specs.InfoDictionary.{total_size}
 use Rattle.tor_spec.specs.Makeable.{AreMakeable}
 use Rattle.tor_tree.specs.Kinds.{has_v2}
@@ -94,6 +94,12 @@ one_size facts file is_listed = total-listed facts ∙ ap (λ fs. sum_by (λ n. 
 
 pub named : (files : List (List (List ℕ) × ℕ)) → IsFileList files → All (λ file. HasNames file.0) files
 named files h = λ k d lt. paths_have_names _ (h.named k d lt)
+
+-- the facts of a list of files, with their letters, roots and layers
+abbrev facts_from : List (List (List ℕ) × ℕ) → List Attr → List (Option (List ℕ)) → List (List (List ℕ)) → List Facts
+facts_from files attrs roots layers =
+    map (λ f. record { path = f.0.0; size = f.0.1; root = f.1.1.0; layer = f.1.1.1; attr = f.1.0 })
+    (zip files (zip attrs (zip roots layers)))
 
 -- facts of files, with letters, roots and layers for each
 record AreFrom (files : List (List (List ℕ) × ℕ)) (attrs : List Attr) (roots : List (Option (List ℕ)))

@@ -14,7 +14,7 @@ use Rattle.tor_meta.specs.steps.Sums.{SumUp}
 use Rattle.tor_meta.specs.declared.head.Head.{Head}
 use Rattle.tor_engine.specs.declared.sums.Sums.{Sums}
 use Rattle.tor_merkle.specs.Layer.{piece_layer, root_of}
-use Rattle.tor_plan.specs.Content.{cut_content, layout_of as plan_layout}
+use Rattle.tor_plan.specs.Content.{cut_content, layout_of_kind as plan_layout}
 use Rattle.tor_tree.specs.declared.kinds.Kind.{Kind}
 use Rattle.tor_tree.specs.declared.kinds.Kind.TheVariants.{V1, V2, Hybrid}
 use Rattle.tor_spec.specs.Settings.{Settings, is_aligned, layout_of}

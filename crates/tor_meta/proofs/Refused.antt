@@ -1,6 +1,6 @@
 -- What is known where an order and its paths are not refused, and what their refusals are not.
 use Rattle.std.proofs.Common.{◌≡◌, ◌⊎◌, inl, inr, ℕ, Bool, true, false, ◌&&◌, not, cond, List, nat_le, option_map}
-use Rattle.std.proofs.Common.{◌==◌, ◌*◌, ◌≤◌, Option, None, Some, length, refl, sym, subst}
+use Rattle.std.proofs.Common.{◌==◌, ◌*◌, ◌≤◌, ◌∷◌, [], Option, None, Some, length, refl, sym, subst}
 use Rattle.std.specs.List.{list_any}
 use Rattle.std.specs.Int.{is_power_of_two}
 use Rattle.std.specs.Option.{option_or}
@@ -244,3 +244,22 @@ module _ {F : Type 0} (order : Order) (paths : List (List (List ℕ)))
       let ordered = mapped_none (of_contents_error {F = F}) (ordered_refusal settings paths)
       (cleared {X = MakeError F} _ NotSorted _ after_numbers.1).1 in
       rw shape ordered
+
+-- one content that is read as a stream is refused for a number of the stream's, or as one that is not
+either_mapped : {X Y : Type 0} (f : Y → X) (a b : Option Y)
+    → option_map f (option_or a b) ≡ option_or (option_map f a) (option_map f b)
+either_mapped f None b = refl
+either_mapped f (Some y) b = refl
+
+pub refusal_of_stream : {F : Type 0} (order : Order) → stream_numbers_refusal {F = F} order ≡ None
+    → stream_refusal {F = F} order ((order.name ∷ []) ∷ []) ≡ make_refusal order ((order.name ∷ []) ∷ [])
+refusal_of_stream {F} order none =
+    let one : List (List (List ℕ)) = (order.name ∷ []) ∷ [] in
+    let settings = settings_of_order order in
+    let numbers = (both_none (numbers_refusal {F = F} order) _ none).0 in
+    rw (none, numbers) (sym (either_mapped (of_contents_error {F = F}) (shape_refusal settings one)
+    (ordered_refusal settings one)))
+
+pub refused_for_numbers : {F : Type 0} (order : Order) (paths : List (List (List ℕ))) (refusal : MakeError F)
+    → stream_numbers_refusal order ≡ Some refusal → stream_refusal order paths ≡ Some refusal
+refused_for_numbers order paths refusal is = rw is refl

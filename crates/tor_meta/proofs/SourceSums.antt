@@ -10,7 +10,7 @@ use Rattle.tor_meta.specs.Head.{settings_of}
 use Rattle.tor_meta.specs.Order.{has_tail}
 use Rattle.tor_meta.specs.steps.Sums.{IsJudged, IsPlanOf, SumUp}
 use Rattle.tor_meta.specs.declared.head.Head.{Head}
-use Rattle.tor_plan.specs.Content.{cut_content, layout_of as plan_layout, unit_content}
+use Rattle.tor_plan.specs.Content.{cut_content, layout_of_kind as plan_layout, unit_content}
 use Rattle.tor_plan.specs.Entries.{entry_units, lengths_of_entries}
 use Rattle.tor_plan.specs.EntryList.{IsEntryList}
 use Rattle.tor_plan.specs.PlanFacts.{PlanFacts, plan_of_entries}

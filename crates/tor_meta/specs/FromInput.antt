@@ -4,6 +4,7 @@ use Rattle.std.specs.Io.KnownBytes.{Appends, Keeps}
 use Rattle.std.specs.declared.io.Error.{Error}
 use Rattle.tor_meta.specs.Contents.{one_file}
 use Rattle.tor_meta.specs.Make.{make_refusal}
+use Rattle.tor_meta.specs.MakeStreams.{stream_refusal}
 use Rattle.tor_meta.specs.Order.{settings_of_order}
 use Rattle.tor_meta.specs.declared.make_error.MakeError.{MakeError}
 use Rattle.tor_meta.specs.declared.make_error.MakeError.TheVariants.{Resources}
@@ -24,16 +25,21 @@ torrent_of order attr content = metainfo (settings_of_order order) (one_file ord
 abbrev pub refusal_of : Order → Option (MakeError Error)
 refusal_of order = make_refusal order ((order.name ∷ []) ∷ [])
 
--- all that the reader had was read, and of its torrent with these letters this holds
-pub record MakesOf (order : Order) (attr : Attr) (reader reader' : Option (List ℕ)) (Holds : List ℕ → Type 0)
-    (content : List ℕ) : Type 0 where
+-- the same if the content is read as a stream, of which a unit of over 2^30 bytes is refused
+abbrev pub stream_refusal_of : Order → Option (MakeError Error)
+stream_refusal_of order = stream_refusal order ((order.name ∷ []) ∷ [])
+
+-- there is no refusal, all that the reader had was read, and of its torrent with these letters this holds
+pub record MakesOf (refusal : Option (MakeError Error)) (order : Order) (attr : Attr)
+    (reader reader' : Option (List ℕ)) (Holds : List ℕ → Type 0) (content : List ℕ) : Type 0 where
   pub read : ReadsAll reader reader' content
-  pub accepted : refusal_of order ≡ None
+  pub accepted : refusal ≡ None
   pub torrent : Holds (torrent_of order attr content)
 
 -- all that the reader had was read, and its torrent, and nothing else, was written
 abbrev pub MakesWhole : Order → Option (List ℕ) → Option (List ℕ) → Option (List ℕ) → Option (List ℕ) → List ℕ → Type 0
-MakesWhole order reader reader' writer writer' = MakesOf order no_letters reader reader' (Appends writer writer')
+MakesWhole order reader reader' writer writer' =
+    MakesOf (refusal_of order) order no_letters reader reader' (Appends writer writer')
 
 -- so many bytes of a torrent, and nothing else, were written
 abbrev pub IsFront : Option (List ℕ) → Option (List ℕ) → ℕ → List ℕ → Type 0
@@ -43,17 +49,16 @@ IsFront writer writer' written torrent = (written < length torrent) × Appends w
 abbrev pub MakesFront : Order → Option (List ℕ) → Option (List ℕ) → Option (List ℕ) → Option (List ℕ) → ℕ → List ℕ
     → Type 0
 MakesFront order reader reader' writer writer' written =
-    MakesOf order no_letters reader reader' (IsFront writer writer' written)
+    MakesOf (refusal_of order) order no_letters reader reader' (IsFront writer writer' written)
 
--- what was read where no torrent is made
-abbrev pub StopsReading : Order → Option (List ℕ) → Option (List ℕ) → FromFault → Type 0
+-- what was read if no torrent is made, for this refusal if there is one
+abbrev pub StopsReading : Option (MakeError Error) → Option (List ℕ) → Option (List ℕ) → FromFault → Type 0
 -- some bytes were read
-StopsReading order reader reader' (Input fault) = ReadsSome reader reader' (EndsInput MAX_INPUT_LENGTH fault)
+StopsReading refusal reader reader' (Input fault) = ReadsSome reader reader' (EndsInput MAX_INPUT_LENGTH fault)
 -- all was read, and it is refused
-StopsReading order reader reader' (Make refusal) =
-    (content : List ℕ) × ReadsAll reader reader' content
-    × ((refusal_of order ≡ Some refusal) ⊎ (refusal ≡ Resources))
-StopsReading order reader reader' (Write fault) = ⊥
+StopsReading refusal reader reader' (Make error) =
+    (content : List ℕ) × ReadsAll reader reader' content × ((refusal ≡ Some error) ⊎ (error ≡ Resources))
+StopsReading refusal reader reader' (Write fault) = ⊥
 
 -- what was read and written where it ended in this fault
 abbrev pub MakesPart : Order → Option (List ℕ) → Option (List ℕ) → Option (List ℕ) → Option (List ℕ) → FromFault
@@ -62,4 +67,5 @@ abbrev pub MakesPart : Order → Option (List ℕ) → Option (List ℕ) → Opt
 MakesPart order reader reader' writer writer' (Write fault) =
     (content : List ℕ) × MakesFront order reader reader' writer writer' fault.written content
 -- there is no torrent, and nothing was written
-MakesPart order reader reader' writer writer' fault = StopsReading order reader reader' fault × Keeps writer writer'
+MakesPart order reader reader' writer writer' fault =
+    StopsReading (refusal_of order) reader reader' fault × Keeps writer writer'

@@ -10,8 +10,8 @@ ghost use Rattle.tor_meta.specs.steps.Sums.{IsJudged, SumUp};
 ghost use Rattle.tor_spec.specs.Metainfo.{metainfo};
 ghost use Rattle.tor_tree.specs.FileList.{lengths_of};
 
+use crate::entries::entries_to_hash;
 use crate::head::Head;
-use crate::info::entries;
 use crate::judge::judge_paths;
 use crate::refusals::ContentsError;
 use crate::sums::{no_sums, sum_pieces, sum_trees};
@@ -132,7 +132,7 @@ fn sums_of(
         sums.layers = trees.1;
     }
     if head.kind.has_v1() {
-        let entries = entries(alloc, head, list)?;
+        let entries = entries_to_hash(alloc, head, list)?;
         sums.pieces = sum_pieces(alloc, head.piece_length, &entries, contents)?;
     }
     Ok(sums)

@@ -1,17 +1,20 @@
 //! From a reader to the torrent of what it has, in a writer.
-ghost use Rattle.std.specs.Prelude.{◌≡◌, ◌≤◌, ◌*◌, ◌∷◌, [], List, ℕ, None, IfErr, IfOk, OnOk};
-ghost use Rattle.tor_engine.specs.declared.streams.TheConstants.{MAX_UNIT_LENGTH};
+ghost use Rattle.std.specs.Prelude.{◌≡◌, ◌⊎◌, ◌∷◌, [], List, ℕ, Option, None, Some, IfErr, IfOk, OnOk};
+ghost use Rattle.std.specs.declared.io.Error.{Error};
 ghost use Rattle.tor_meta.specs.FromInput.{MakesOf, MakesPart, MakesWhole, StopsReading, refusal_of};
+ghost use Rattle.tor_meta.specs.FromInput.{stream_refusal_of};
 ghost use Rattle.tor_meta.specs.Head.{settings_of};
 ghost use Rattle.tor_meta.specs.Order.{settings_of_order};
 ghost use Rattle.tor_meta.specs.Refusal.{paths_refusal};
 ghost use Rattle.tor_meta.specs.steps.Sums.{AreSumsOfSettings};
+ghost use Rattle.tor_meta.specs.declared.make_error.MakeError.{MakeError};
 ghost use Rattle.tor_meta.specs.declared.make_error.MakeError.TheVariants.{Resources};
 ghost use Rattle.tor_meta.specs.declared.from_input.FromFault.TheVariants.{Input, Make, Write};
 ghost use Rattle.tor_source.specs.Input.{EndsInput, ReadsAll, ReadsSome};
 ghost use Rattle.tor_source.specs.declared.input.TheConstants.{MAX_INPUT_LENGTH};
 
 use crate::fed::FedSums;
+use crate::from_streams::refusal_of_stream_numbers;
 use crate::head::Head;
 use crate::make_error::MakeError;
 use crate::making::{make_fed, make_summed};
@@ -21,7 +24,7 @@ use std::alloc::{AllocError, Global};
 use std::io;
 use std::sync::Wait;
 use std::thread::Threads;
-use tor_engine::{MAX_UNIT_LENGTH, Sums, hash_input};
+use tor_engine::{Sums, hash_input};
 use tor_merkle::laws::piece_length_bounds;
 use tor_source::{InputFault, MAX_INPUT_LENGTH, drop_input, read_parts};
 use tor_tree::Attr;
@@ -61,9 +64,10 @@ pub fn torrent_from<R: io::Read>(
     order: &Order,
     attr: Attr,
 ) -> Result<Vec<u8>, FromFault>
-    ensures made { IfOk result (λ torrent. (content : List ℕ) × MakesOf order.now attr
+    ensures made { IfOk result (λ torrent. (content : List ℕ) × MakesOf (refusal_of order.now) order.now attr
         (R.remaining reader.old) (R.remaining reader.new) (λ bytes. torrent.items ≡ bytes) content) }
-    ensures stopped { IfErr result (StopsReading order.now (R.remaining reader.old) (R.remaining reader.new)) }
+    ensures stopped { IfErr result
+        (StopsReading (refusal_of order.now) (R.remaining reader.old) (R.remaining reader.new)) }
 {
     let head = head_for(alloc, reader, order)?;
     let mut fed = FedSums::new(alloc, &head);
@@ -71,8 +75,8 @@ pub fn torrent_from<R: io::Read>(
     Ok(make_fed(alloc, &head, fed, attr)?)
 }
 
-/// The same torrent, while as many workers as the order's `how` says hash what the caller's thread reads. Where a unit
-/// is too long for a stream, the caller's thread hashes too.
+/// The same torrent, while as many workers as the order's `how` says hash what the caller's thread reads. A unit of
+/// more than 2^30 bytes is refused too, as `Span`.
 pub fn torrent_by_streams<R: io::Read, T: Threads + Wait + Sync + Send + Clone + Drop + 'static>(
     rt: &T,
     alloc: Global,
@@ -80,21 +84,19 @@ pub fn torrent_by_streams<R: io::Read, T: Threads + Wait + Sync + Send + Clone +
     order: &Order,
     attr: Attr,
 ) -> Result<Vec<u8>, FromFault>
-    ensures made { IfOk result (λ torrent. (content : List ℕ) × MakesOf order.now attr
+    ensures made { IfOk result (λ torrent. (content : List ℕ) × MakesOf (stream_refusal_of order.now) order.now attr
         (R.remaining reader.old) (R.remaining reader.new) (λ bytes. torrent.items ≡ bytes) content) }
-    ensures stopped { IfErr result (StopsReading order.now (R.remaining reader.old) (R.remaining reader.new)) }
+    ensures stopped { IfErr result
+        (StopsReading (stream_refusal_of order.now) (R.remaining reader.old) (R.remaining reader.new)) }
 {
-    if (order.span as u64).saturating_mul(order.piece_length) > MAX_UNIT_LENGTH {
-        return torrent_from(alloc, reader, order, attr);
-    }
-    let head = match head_for(alloc, reader, order) {
+    let head = match head_of_stream(alloc, reader, order) {
         Ok(head) => head,
         Err(fault) => return Err(fault),
     };
     made_by_streams(rt, alloc, reader, order, &head, attr)
 }
 
-/// The same where the order is not refused, and a unit is not too long.
+/// The same if the order is not refused.
 fn made_by_streams<R: io::Read, T: Threads + Wait + Sync + Send + Clone + Drop + 'static>(
     rt: &T,
     alloc: Global,
@@ -105,11 +107,11 @@ fn made_by_streams<R: io::Read, T: Threads + Wait + Sync + Send + Clone + Drop +
 ) -> Result<Vec<u8>, FromFault>
     requires settings { settings_of head.now ≡ settings_of_order order.now }
     requires lawful { paths_refusal (settings_of head.now) ((head.now.name ∷ []) ∷ []) ≡ None }
-    requires accepted { refusal_of order.now ≡ None }
-    requires small { order.now.span * order.now.piece_length ≤ MAX_UNIT_LENGTH }
-    ensures made { IfOk result (λ torrent. (content : List ℕ) × MakesOf order.now attr
+    requires accepted { stream_refusal_of order.now ≡ None }
+    ensures made { IfOk result (λ torrent. (content : List ℕ) × MakesOf (stream_refusal_of order.now) order.now attr
         (R.remaining reader.old) (R.remaining reader.new) (λ bytes. torrent.items ≡ bytes) content) }
-    ensures stopped { IfErr result (StopsReading order.now (R.remaining reader.old) (R.remaining reader.new)) }
+    ensures stopped { IfErr result
+        (StopsReading (stream_refusal_of order.now) (R.remaining reader.old) (R.remaining reader.new)) }
 {
     let sums = sums_by_streams(rt, alloc, reader, order)?;
     let count = sums.lengths[0];
@@ -123,8 +125,7 @@ fn sums_by_streams<R: io::Read, T: Threads + Wait + Sync + Send + Clone + Drop +
     reader: &mut R,
     order: &Order,
 ) -> Result<Sums, InputFault>
-    requires accepted { refusal_of order.now ≡ None }
-    requires small { order.now.span * order.now.piece_length ≤ MAX_UNIT_LENGTH }
+    requires accepted { stream_refusal_of order.now ≡ None }
     ensures summed { IfOk result (λ sums. (content : List ℕ)
         × ReadsAll (R.remaining reader.old) (R.remaining reader.new) content
         × AreSumsOfSettings (settings_of_order order.now) (content ∷ []) sums) }
@@ -145,20 +146,49 @@ fn sums_by_streams<R: io::Read, T: Threads + Wait + Sync + Send + Clone + Drop +
     )
 }
 
-/// The head of the torrent of one content. Where the order is refused, all of the content is read before that is told,
-/// so that a fault of the reader comes first.
+/// The head of the torrent of one content.
 fn head_for<R: io::Read>(alloc: Global, reader: &mut R, order: &Order) -> Result<Head, FromFault>
     ensures settings { IfOk result (λ head. settings_of head ≡ settings_of_order order.now) }
     ensures lawful { IfOk result (λ head. paths_refusal (settings_of head) ((head.name ∷ []) ∷ []) ≡ None) }
     ensures accepted { OnOk result ((refusal_of order.now ≡ None) × (reader.new ≡ reader.old)) }
-    ensures stopped { IfErr result (StopsReading order.now (R.remaining reader.old) (R.remaining reader.new)) }
+    ensures stopped { IfErr result
+        (StopsReading (refusal_of order.now) (R.remaining reader.old) (R.remaining reader.new)) }
 {
     match order.head_of_one(alloc) {
         Ok(head) => Ok(head),
-        Err(refusal) => {
-            drop_input(alloc, reader)?;
-            Err(FromFault::Make(refusal))
-        }
+        Err(refusal) => Err(refused(alloc, reader, refusal)),
+    }
+}
+
+/// The head of the torrent of one content that is read as a stream.
+fn head_of_stream<R: io::Read>(
+    alloc: Global,
+    reader: &mut R,
+    order: &Order,
+) -> Result<Head, FromFault>
+    ensures settings { IfOk result (λ head. settings_of head ≡ settings_of_order order.now) }
+    ensures lawful { IfOk result (λ head. paths_refusal (settings_of head) ((head.name ∷ []) ∷ []) ≡ None) }
+    ensures accepted { OnOk result ((stream_refusal_of order.now ≡ None) × (reader.new ≡ reader.old)) }
+    ensures stopped { IfErr result
+        (StopsReading (stream_refusal_of order.now) (R.remaining reader.old) (R.remaining reader.new)) }
+{
+    if let Some(refusal) = refusal_of_stream_numbers(order) {
+        return Err(refused(alloc, reader, refusal));
+    }
+    match order.head_of_one(alloc) {
+        Ok(head) => Ok(head),
+        Err(refusal) => Err(refused(alloc, reader, refusal)),
+    }
+}
+
+/// A refusal, told once all of the content was read, so that a fault of the reader comes first.
+fn refused<R: io::Read>(alloc: Global, reader: &mut R, refusal: MakeError<io::Error>) -> FromFault
+    ensures { (first : Option (MakeError Error)) → (first ≡ Some refusal) ⊎ (refusal ≡ Resources) →
+        StopsReading first (R.remaining reader.old) (R.remaining reader.new) result }
+{
+    match drop_input(alloc, reader) {
+        Ok(()) => FromFault::Make(refusal),
+        Err(fault) => FromFault::Input(fault),
     }
 }
 

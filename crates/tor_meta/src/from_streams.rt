@@ -203,7 +203,7 @@ fn judge(
 }
 
 /// The first refusal for what needs no path.
-fn refusal_of_stream_numbers(order: &Order) -> Option<MakeError<io::Error>>
+pub(crate) fn refusal_of_stream_numbers(order: &Order) -> Option<MakeError<io::Error>>
     ensures { result ≡ stream_numbers_refusal order.now }
 {
     if let Some(refusal) = refusal_of_numbers(order) {

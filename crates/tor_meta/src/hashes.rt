@@ -33,20 +33,18 @@ pub fn info_hashes(bytes: &[u8], kind: Kind) -> Hashes
         value_of (codes "info") root ≡ Some info → AreInfoHashes kind (spelling info) result }
 {
     let info = raw_info(bytes);
-    let v1: [u8; 20] = Sha1::digest(info);
-    let v2: Hash = Sha256::digest(info);
     match kind {
         Kind::V1 => Hashes {
-            v1: Some(v1),
+            v1: Some(Sha1::digest(info)),
             v2: None,
         },
         Kind::V2 => Hashes {
             v1: None,
-            v2: Some(v2),
+            v2: Some(Sha256::digest(info)),
         },
         Kind::Hybrid => Hashes {
-            v1: Some(v1),
-            v2: Some(v2),
+            v1: Some(Sha1::digest(info)),
+            v2: Some(Sha256::digest(info)),
         },
     }
 }

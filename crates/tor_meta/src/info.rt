@@ -17,18 +17,16 @@ ghost use Rattle.tor_spec.specs.Settings.{layout_of};
 ghost use Rattle.tor_tree.specs.Kinds.{has_v1, has_v2};
 ghost use Rattle.tor_tree.specs.WrittenTree.{file_tree};
 ghost use Rattle.tor_v1.specs.Entries.{v1_entries, with_letters};
-ghost use Rattle.tor_v1.specs.Piece.{max_piece_length};
 ghost use Rattle.tor_v1.specs.Reserved.{takes_reserved};
 
+use crate::entries::entries;
 use crate::head::Head;
 use crate::items::{dictionary, files, letters, number, push_field, text};
 use std::alloc::{AllocError, Global};
 use tor_bencode::Item;
 use tor_engine::Sums;
 use tor_merkle::laws::piece_length_bounds;
-use tor_spec::laws::entries_fit;
 use tor_tree::{FileList, FilePath, to_item};
-use tor_v1::{Entry, LayoutError, lay_out, put_letters};
 
 /// The info dictionary of these files.
 pub(crate) fn info(
@@ -126,38 +124,8 @@ fn entry_list(alloc: Global, head: &Head, list: &FileList) -> Result<Option<Item
     if !head.kind.has_v1() || head.single {
         return Ok(None);
     }
-    let entries = lettered_entries(alloc, head, list)?;
+    let entries = entries(alloc, head, list)?;
     Ok(Some(files(alloc, &entries)?))
-}
-
-/// The entries of the files, each with its letters.
-fn lettered_entries(alloc: Global, head: &Head, list: &FileList) -> Result<Vec<Entry>, AllocError>
-    requires { IsJudged head.now list.now.files }
-    ensures made { IfOk result (λ entries. entries.items ≡ with_letters list.now.attrs
-        (v1_entries (layout_of (settings_of head.now)) head.now.piece_length list.now.files)) }
-    ensures small { IfOk result (λ entries. All (λ entry. entry.length < 2 ^ 63) entries.items) }
-{
-    let mut entries = entries(alloc, head, list)?;
-    put_letters(&mut entries, list.attrs());
-    Ok(entries)
-}
-
-/// The entries of the files in the layout that the head asks for.
-pub(crate) fn entries(alloc: Global, head: &Head, list: &FileList) -> Result<Vec<Entry>, AllocError>
-    requires { IsJudged head.now list.now.files }
-    ensures made { IfOk result (λ entries. entries.items
-        ≡ v1_entries (layout_of (settings_of head.now)) head.now.piece_length list.now.files) }
-    ensures small { IfOk result (λ entries. All (λ entry. entry.length < 2 ^ 63) entries.items) }
-    ensures padding { IfOk result (λ entries.
-        All (λ entry. entry.pad ≡ true → entry.length ≤ max_piece_length) entries.items) }
-{
-    piece_length_bounds();
-    entries_fit();
-    match lay_out(alloc, list, head.piece_length, head.layout()) {
-        Ok(entries) => Ok(entries),
-        Err(LayoutError::Memory) => Err(AllocError),
-        Err(LayoutError::ReservedPad) => unreachable!(),
-    }
 }
 
 /// The `attr` beside the `length` of a single file (BEP 47), where it has letters.

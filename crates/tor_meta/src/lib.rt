@@ -35,6 +35,7 @@
 #![tactic(auto)]
 
 mod contents;
+mod entries;
 mod fed;
 mod fed_intake;
 mod from_input;

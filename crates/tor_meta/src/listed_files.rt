@@ -13,8 +13,8 @@ ghost use Rattle.tor_source.specs.Source.{SourceFacts};
 ghost use Rattle.tor_spec.specs.Metainfo.{metainfo};
 ghost use Rattle.tor_tree.specs.FileList.{lengths_of};
 
+use crate::entries::entries_to_hash;
 use crate::head::Head;
-use crate::info::entries;
 use crate::torrent::torrent_bytes;
 use std::alloc::{AllocError, Global};
 use std::thread::Threads;
@@ -104,7 +104,7 @@ fn plan_of_listed(
     piece_length_bounds();
     files_are_cut_as_entries();
     entry_units_are_the_content();
-    let entries = entries(alloc, head, list)?;
+    let entries = entries_to_hash(alloc, head, list)?;
     let plan = Plan::of_entries(alloc, &entries, head.kind, head.piece_length, span)?;
     Ok(plan)
 }

@@ -44,7 +44,7 @@ pub enum MakeError<F> {
     Missing {
         file: u64,
     },
-    /// Memory was refused.
+    /// Memory, or a thread that is needed, was refused.
     Resources,
     /// A stream had more than 2^50 bytes.
     StreamTooLong {

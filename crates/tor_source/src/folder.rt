@@ -1,22 +1,23 @@
 //! Where the system has the files below a folder, or a file by itself.
-ghost use Rattle.std.specs.Prelude.{◌≡◌, ◌<◌, ◌≤◌, ◌∷◌, [], Err, None, Ok, IfErr, IfOk, false, length, map, vec_len};
+ghost use Rattle.std.specs.Prelude.{◌≡◌, ◌⊎◌, ◌<◌, ◌≤◌, ◌∷◌, [], Err, None, Ok, IfErr, IfOk, false, length, map, vec_len};
 ghost use Rattle.std.specs.List.{All};
 ghost use Rattle.std.specs.List.Sorted.{IsStrictlySortedBy};
 ghost use Rattle.std.specs.IoError.{error_kind};
 ghost use Rattle.std.specs.String.{string_bytes};
 ghost use Rattle.tor_source.specs.Faults.{is_absence};
 ghost use Rattle.tor_source.specs.Places.{place_of};
-ghost use Rattle.tor_source.specs.declared.faults.ScanFault.TheVariants.{System};
+ghost use Rattle.tor_source.specs.declared.faults.ScanFault.TheVariants.{Memory, System};
 ghost use Rattle.tor_tree.specs.declared.paths.TheConstants.{MAX_NAMES};
 ghost use Rattle.tor_tree.specs.Path.{path_cmp};
 
 use crate::faults::ScanFault;
 use crate::lazy::LazyFile;
 use crate::places::{one_place, places_of};
-use crate::regular;
 use crate::source::Source;
 use crate::walk::walk;
-use std::alloc::AllocError;
+use crate::{regular, same_file};
+use std::alloc::{AllocError, Global};
+use std::fs::Metadata;
 use std::io;
 use std::marker::Model;
 use std::os::unix::fs::FileExt;
@@ -40,11 +41,15 @@ impl<R: Files> Model for FolderSource<R> {
     ghost view = { λ source. map string_bytes source.places.items };
 }
 
-impl<R: Files + AllocGlobal + Clone + Drop> FolderSource<R> {
+impl<R: Files + Clone + Drop> FolderSource<R> {
     /// All files below the folder `place`, in the order of their paths. A folder is listed whole, then its names are
     /// entered in the order of their bytes; the first fault so met is answered. Empty folders give nothing. The empty
     /// place is no folder.
-    pub fn scan(rt: &R, place: &str) -> Result<(FolderSource<R>, Vec<FilePath>), ScanFault>
+    pub fn scan(
+        rt: &R,
+        alloc: Global,
+        place: &str,
+    ) -> Result<(FolderSource<R>, Vec<FilePath>), ScanFault>
         ensures placed { IfOk result (λ found. found.0 ≡ map (place_of place.now) found.1.items) }
         ensures rising { IfOk result (λ found. IsStrictlySortedBy path_cmp found.1.items) }
         ensures short { IfOk result (λ found. All (λ names. length names ≤ MAX_NAMES) found.1.items) }
@@ -54,23 +59,28 @@ impl<R: Files + AllocGlobal + Clone + Drop> FolderSource<R> {
             return Err(ScanFault::System);
         }
         judge_folder(rt, place)?;
-        let found = walk(rt, place)?;
+        let found = walk(rt, alloc, place)?;
         Ok((FolderSource::of_places(rt, found.places)?, found.paths))
     }
 
     /// These files below the folder `place`, whether they are there or not. Below the empty place none is.
-    pub fn at(rt: &R, place: &str, files: Vec<FilePath>) -> Result<FolderSource<R>, AllocError>
+    pub fn at(
+        rt: &R,
+        alloc: Global,
+        place: &str,
+        files: Vec<FilePath>,
+    ) -> Result<FolderSource<R>, AllocError>
         ensures { IfOk result (λ source. source ≡ map (place_of place.now) files.items) }
     {
-        let places = places_of(rt.alloc(), place, &files)?;
+        let places = places_of(alloc, place, &files)?;
         FolderSource::of_places(rt, places)
     }
 
     /// The one file `place`.
-    pub fn single(rt: &R, place: &str) -> Result<FolderSource<R>, AllocError>
+    pub fn single(rt: &R, alloc: Global, place: &str) -> Result<FolderSource<R>, AllocError>
         ensures { IfOk result (λ source. source ≡ place.now ∷ []) }
     {
-        let places = one_place(rt.alloc(), place)?;
+        let places = one_place(alloc, place)?;
         FolderSource::of_places(rt, places)
     }
 
@@ -85,11 +95,19 @@ impl<R: Files + AllocGlobal + Clone + Drop> FolderSource<R> {
     }
 
     /// A reader of each file, to be read once and in order.
-    pub fn readers(&self) -> Result<Vec<LazyFile<R>>, AllocError>
+    pub fn readers(&self, alloc: Global) -> Result<Vec<LazyFile<R>>, AllocError>
         ensures each { IfOk result (λ readers. readers.items ≡ self.now) }
         ensures count { IfOk result (λ readers. vec_len readers ≡ length self.now) }
     {
-        readers_of(&self.rt, &self.places)
+        readers_of(&self.rt, alloc, &self.places)
+    }
+
+    /// Whether one of the files is the very one of which the system told this, perhaps under another name. A place with
+    /// nothing now has another file; of any other the system must tell.
+    pub fn has(&self, file: &Metadata) -> Result<bool, ScanFault>
+        ensures { IfErr result (λ fault. (fault ≡ Memory) ⊎ (fault ≡ System)) }
+    {
+        same_file::is_at_one_of(&self.rt, &self.places, file)
     }
 
     /// How many files there are.
@@ -101,27 +119,29 @@ impl<R: Files + AllocGlobal + Clone + Drop> FolderSource<R> {
 }
 
 // A reader of the file at each of these places.
-fn readers_of<R: Files + AllocGlobal + Clone + Drop>(
+fn readers_of<R: Files + Clone + Drop>(
     rt: &R,
+    alloc: Global,
     places: &[String],
 ) -> Result<Vec<LazyFile<R>>, AllocError>
     ensures { IfOk result (λ readers. readers.items ≡ map string_bytes places.now) }
 {
-    let mut readers = Vec::with_capacity(rt.alloc(), places.len())?;
+    let mut readers = Vec::with_capacity(alloc, places.len())?;
     'places: for place in places {
-        readers.push(reader_of(rt, place)?)?;
+        readers.push(reader_of(rt, alloc, place)?)?;
     }
     Ok(readers)
 }
 
 // A reader of the file at this place.
-fn reader_of<R: Files + AllocGlobal + Clone + Drop>(
+fn reader_of<R: Files + Clone + Drop>(
     rt: &R,
+    alloc: Global,
     place: &str,
 ) -> Result<LazyFile<R>, AllocError>
     ensures { IfOk result (λ reader. reader ≡ place.now) }
 {
-    let place = String::from_str(rt.alloc(), place)?;
+    let place = String::from_str(alloc, place)?;
     Ok(LazyFile::new(rt.clone()?, place))
 }
 

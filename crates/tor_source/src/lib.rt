@@ -3,8 +3,8 @@
 //! ```rust
 //! use tor_source::{FolderSource, Source};
 //!
-//! let (source, paths) = FolderSource::scan(&rt, "folder")?;
-//! let known = FolderSource::at(&rt, "folder", paths)?;
+//! let (source, paths) = FolderSource::scan(&rt, rt.alloc(), "folder")?;
+//! let known = FolderSource::at(&rt, rt.alloc(), "folder", paths)?;
 //! assert_eq!(rt; known.count(), source.count());
 //! let mut buffer = [0; 512];
 //! if let Some(length) = source.length(0)? {
@@ -25,8 +25,8 @@
 //!   buffer filled from a reader, or the [`FillFault`]; [`zeros`] (`buffer.rt`): room to read into.
 //! - [`laws`] (`laws.rt`): laws over the sources in memory, and the limits of an input.
 //!
-//! `walk.rt` finds the files below a folder, `listing.rt` the names in one; `places.rt` joins places and names, and
-//! `regular.rt` reads what stands at a place.
+//! `walk.rt` finds the files below a folder, `listing.rt` the names in one; `places.rt` joins places and names,
+//! `regular.rt` reads what stands at a place, and `same_file.rt` tells whether two places have one file.
 #![tactic(auto)]
 
 mod buffer;
@@ -42,6 +42,7 @@ mod listing;
 mod memory;
 mod places;
 mod regular;
+mod same_file;
 mod short;
 mod source;
 mod walk;

@@ -34,18 +34,17 @@ pub(crate) struct Entry {
 
 /// All files below a folder. A folder is listed whole, and its names are entered in the order of their bytes, each
 /// folder where it is met.
-pub(crate) fn walk<R: Files + AllocGlobal>(rt: &R, root: &str) -> Result<Found, ScanFault>
+pub(crate) fn walk<R: Files>(rt: &R, alloc: Global, root: &str) -> Result<Found, ScanFault>
     ensures { IfOk result (HasFound (without_slash root.now)) }
 {
-    let alloc = rt.alloc();
     let mut found = none_found(alloc, root)?;
     let mut last = Vec::new(alloc);
-    let mut waiting = names_at_top(rt, root)?;
+    let mut waiting = names_at_top(rt, alloc, root)?;
     for _ in 0..u64::MAX {
         let Some(entry) = waiting.pop() else {
             return Ok(found);
         };
-        enter(rt, entry, &mut last, &mut waiting, &mut found)?;
+        enter(rt, alloc, entry, &mut last, &mut waiting, &mut found)?;
     }
     Err(ScanFault::System)
 }
@@ -63,10 +62,9 @@ fn none_found(alloc: Global, root: &str) -> Result<Found, AllocError>
 }
 
 /// The names in the folder itself, which wait.
-fn names_at_top<R: Files + AllocGlobal>(rt: &R, root: &str) -> Result<Vec<Entry>, ScanFault>
+fn names_at_top<R: Files>(rt: &R, alloc: Global, root: &str) -> Result<Vec<Entry>, ScanFault>
     ensures { IfOk result (λ waiting. IsAhead [] [] waiting.items) }
 {
-    let alloc = rt.alloc();
     let mut waiting = Vec::new(alloc);
     // A symbolic link is followed only at a place that ends in a slash.
     let top = format!(in alloc; "{root}/")?;
@@ -76,8 +74,9 @@ fn names_at_top<R: Files + AllocGlobal>(rt: &R, root: &str) -> Result<Vec<Entry>
 
 /// Adds a file to those that were found, or the names in a folder to those that wait. `last`, the path that was
 /// entered before, becomes its path.
-fn enter<R: Files + AllocGlobal>(
+fn enter<R: Files>(
     rt: &R,
+    alloc: Global,
     entry: Entry,
     last: &mut Vec<Name>,
     waiting: &mut Vec<Entry>,
@@ -89,14 +88,14 @@ fn enter<R: Files + AllocGlobal>(
     ensures ahead { OnOk result (IsAhead found.new.paths.items last.new.items waiting.new.items) }
     ensures folder_stays { OnOk result (string_bytes found.new.folder ≡ string_bytes found.old.folder) }
 {
-    step_to(rt.alloc(), entry, last)?;
-    let place = place_below(rt.alloc(), &found.folder, last)?;
+    step_to(alloc, entry, last)?;
+    let place = place_below(alloc, &found.folder, last)?;
     let metadata = rt.symlink_metadata(&place)?;
     if metadata.is_dir() {
-        return add_names(rt.alloc(), rt.open_dir(&place)?, last, waiting);
+        return add_names(alloc, rt.open_dir(&place)?, last, waiting);
     }
     if metadata.is_file() {
-        return add_file(rt.alloc(), place, last, found);
+        return add_file(alloc, place, last, found);
     }
     Err(ScanFault::NotRegular)
 }

@@ -5,8 +5,8 @@ use crate::check::layered::{
 };
 use crate::check::telling::{Parts, is, joined};
 use crate::check::verdicts::{ABC_V2, FOLDER_HYBRID, FOLDER_V1};
-use std::alloc::Global;
-use tor_check::{Torrent, prove_piece, validate};
+use std::alloc::{AllocError, Global};
+use tor_check::{ProveError, Refusal, Torrent, prove_piece, validate};
 use tor_merkle::Hash;
 
 // A file that is empty: a torrent of version 2, and what makes it a hybrid.
@@ -144,4 +144,20 @@ fn proves_each_piece_that_is_there(rt: HostRuntime) {
     assert!(rt; are_proved(rt.alloc(), OF_ONE_PIECE) && are_proved(rt.alloc(), OF_THREE));
     assert!(rt; are_proved(rt.alloc(), OF_A_FILE_AND_ITS_HASHES));
     assert!(rt; are_proved(rt.alloc(), OF_A_HYBRID));
+}
+
+fn is_want_of_memory_told(alloc: Global) -> bool {
+    let (piece, proof) = (ProveError::Memory, tor_merkle::ProveError::from(AllocError));
+    let refusal = Refusal::from(AllocError);
+    is(format!(in alloc; "{piece}"), "out of memory")
+        && is(format!(in alloc; "{proof}"), "out of memory")
+        && is(format!(in alloc; "{refusal}"), "V24 Memory")
+}
+
+#[test]
+fn tells_why_there_is_no_proof(rt: HostRuntime) {
+    let alloc = rt.alloc();
+    assert!(rt; is_want_of_memory_told(alloc));
+    let index = tor_merkle::ProveError::Index;
+    assert!(rt; is(format!(in alloc; "{index}"), "P1 Index"));
 }

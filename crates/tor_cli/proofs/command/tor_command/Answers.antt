@@ -13,7 +13,7 @@ returns c =
     =
     ap app_of_fields c.version.ensures
     ∙ ap (on_top (λ shape. record shape { has_version = true })) c.new.ensures.app in
-    let described = ap app_of_fields c.about.ensures ∙ versioned in
+    let described = ap app_of_fields c.after_help.ensures ∙ ap app_of_fields c.about.ensures ∙ versioned in
     let wanting =
     ap app_of_fields c.subcommand_required.ensures
     ∙ ap (on_top (λ shape. record shape { subcommand_required = true })) described in

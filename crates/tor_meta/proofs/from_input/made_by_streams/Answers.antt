@@ -1,11 +1,9 @@
 -- The sums are those of what was read.
-use Rattle.std.proofs.Common.{◌≡◌, ◌∙◌, ℕ, [], ◌∷◌, ap, arith, get_or, length, subst, sym}
+use Rattle.std.proofs.Common.{◌≡◌, ◌∙◌, [], ◌∷◌, ap, arith, get_or, length, sym}
 use Rattle.tor_meta.specs.Contents.{one_file}
-use Rattle.tor_meta.specs.Fed.{tail_length}
 use Rattle.tor_meta.specs.Order.{settings_of_order}
-use Rattle.tor_meta.specs.steps.Sums.{SumsOfOne}
 use Rattle.tor_spec.specs.Metainfo.{metainfo}
-use Rattle.tor_spec.specs.Settings.{Settings, layout_of}
+use Rattle.tor_spec.specs.Settings.{Settings}
 use Rattle.tor_meta.proofs.OneFile.{sums_of_one_read}
 use Rattle.tor_meta.proofs.StreamSums.{lengths_read}
 use Rattle.tor_meta.proofs.from_input.made_by_streams.Goals as goal

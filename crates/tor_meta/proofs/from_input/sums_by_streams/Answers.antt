@@ -4,25 +4,27 @@ use Rattle.std.specs.declared.io.Error.{Error}
 use Rattle.std.specs.Prelude.{IfOk}
 use Rattle.tor_engine.specs.Streams.{AreSumsOfContents}
 use Rattle.tor_source.specs.Input.{ReadsAll}
-use Rattle.tor_meta.proofs.Refused.{order_numbers}
+use Rattle.tor_meta.proofs.Refused.{accepted_numbers, stream_numbers}
 use Rattle.tor_meta.proofs.StreamSums.{plan_pieces}
 use Rattle.tor_meta.proofs.from_input.sums_by_streams.Goals as goal
 
 pub hash_input-requires-clause-cut : goal.hash_input-requires-clause-cut
 hash_input-requires-clause-cut g c κs within =
     let order = c.args.order.now in
-    let numbers = order_numbers {F = Error} order ((order.name ∷ []) ∷ []) c.requires.accepted in record {
+    let accepted = accepted_numbers {F = Error} order ((order.name ∷ []) ∷ []) c.requires.accepted in
+    let numbers = stream_numbers {F = Error} order accepted in record {
       pieces = plan_pieces order.kind order.piece_length
           ((c.piece_length_bounds.ensures order.piece_length).0 numbers.0);
       is_span = numbers.2;
-      small = c.requires.small;
+      small = numbers.3;
     }
 
 pub hash_input-requires-clause-workers : goal.hash_input-requires-clause-workers
 hash_input-requires-clause-workers g c κs within =
     let order = c.args.order.now in
     c.workers-workers.ensures.allowed
-    (order_numbers {F = Error} order ((order.name ∷ []) ∷ []) c.requires.accepted).1
+    (stream_numbers {F = Error} order (accepted_numbers {F = Error} order ((order.name ∷ []) ∷ [])
+    c.requires.accepted)).1
 
 pub returns-clause-summed : goal.returns-clause-summed
 returns-clause-summed g c =

@@ -27,10 +27,9 @@ returns c =
     let pieces = plan_pieces head.kind p bounds in
     let some : 0 < span * p = mul-pos (omega (arith, c.requires.span)) (omega (arith, bounds)) in
     let entries = c.deref.result.now in
-    let are = c.deref.ensures.value ∙ c.in_ok-entries.ensures.made in
-    let is_list = can_plan head list entries judged are
+    let is_list = can_plan head list entries judged (c.deref.ensures.value ∙ c.in_ok-entries.ensures.made)
     (c.files_are_cut_as_entries.ensures.listed head.kind (has_tail (settings_of head)) p list judged.is_list pieces) in
-    plan_is head span list entries c.in_ok-plan.plan judged are
+    plan_is head span list entries c.in_ok-plan.plan judged (c.deref.ensures.value ∙ c.in_ok-entries.ensures.made)
     (c.files_are_cut_as_entries.ensures.lengths head.kind (has_tail (settings_of head)) p list)
     (λ contents fit. c.entry_units_are_the_content.ensures head.kind p span entries contents some is_list.laid_out fit)
     c.in_ok-plan.ensures

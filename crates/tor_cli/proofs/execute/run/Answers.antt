@@ -1,6 +1,6 @@
 -- The status tells of the fault that there is, or of the answer.
 use Rattle.tor_cli.proofs.Doing.{ends, ends_well}
-use Rattle.tor_cli.proofs.execute.execute.Goals as goal
+use Rattle.tor_cli.proofs.execute.run.Goals as goal
 
 pub returns-clause-done : goal.returns-clause-done
 returns-clause-done g c zero =
