@@ -7,9 +7,6 @@ use tor_source::zeros;
 
 const MAX_CUT: usize = 1 << 24;
 
-/// The place of standard input.
-const INPUT: &str = "/dev/stdin";
-
 /// Which hashes are taken.
 #[derive(Clone, Copy)]
 pub enum Hashes {
@@ -44,19 +41,19 @@ fn hashers_of(hashes: Hashes) -> Hashers {
 
 /// Hashes all that standard input has, in reads of so many bytes.
 pub fn input_hashed(rt: &HostRuntime, hashes: Hashes, cut: usize) -> Result<()> {
-    all_hashed(rt, INPUT, hashes, cut)
+    let mut buffer = zeros(rt.alloc(), cut.min(MAX_CUT))?;
+    let mut hashers = hashers_of(hashes);
+    add_all(&mut rt.stdin(), &mut buffer, &mut hashers)?;
+    finish(hashers);
+    Ok(())
 }
 
 /// The same of the files whose places standard input has, one a line, as one content.
 pub fn files_hashed(rt: &HostRuntime, hashes: Hashes, cut: usize) -> Result<()> {
     let mut places = String::new(rt.alloc());
     rt.stdin().read_to_string(&mut places)?;
-    all_hashed(rt, &places, hashes, cut)
-}
-
-fn all_hashed(rt: &HostRuntime, places: &str, hashes: Hashes, cut: usize) -> Result<()> {
     let mut buffer = zeros(rt.alloc(), cut.min(MAX_CUT))?;
-    add_files(rt, places, &mut buffer, hashers_of(hashes))
+    add_files(rt, &places, &mut buffer, hashers_of(hashes))
 }
 
 fn add_files(
@@ -66,16 +63,15 @@ fn add_files(
     mut hashers: Hashers,
 ) -> Result<()> {
     for place in places.lines() {
-        add_file(rt, place, buffer, &mut hashers)?;
+        add_all(&mut fs::open(rt, place)?, buffer, &mut hashers)?;
     }
     finish(hashers);
     Ok(())
 }
 
-fn add_file(rt: &HostRuntime, place: &str, buffer: &mut [u8], hashers: &mut Hashers) -> Result<()> {
-    let mut file = fs::open(rt, place)?;
+fn add_all<R: Read>(reader: &mut R, buffer: &mut [u8], hashers: &mut Hashers) -> Result<()> {
     for _ in 0..u64::MAX {
-        let count = file.read(buffer)?;
+        let count = reader.read(buffer)?;
         if count == 0 {
             break;
         }
