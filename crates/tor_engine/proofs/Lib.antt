@@ -28,7 +28,7 @@ pub mod OnePiece
 pub mod OwedSums
 pub mod PartBytes
 pub mod PartReads
-pub mod PartRows
+pub mod LotRows
 pub mod Parts
 pub mod PartsInside
 pub mod Placing

@@ -14,7 +14,7 @@ use Rattle.tor_engine.specs.UnitNodes.{level_in, level_of, node_of_part, node_ov
 use Rattle.tor_engine.specs.steps.Hashes.{bytes_of_part}
 use Rattle.tor_engine.specs.steps.Run.{parts_of}
 use Rattle.tor_engine.proofs.PartReads.{all_split}
-use Rattle.tor_engine.proofs.PartRows.{between_inside}
+use Rattle.tor_engine.proofs.LotRows.{between_inside}
 use Rattle.tor_engine.proofs.Parts.{size_of}
 
 module _ (plan : PlanFacts) (contents other : List (List ℕ)) (fit : map length contents ≡ plan.lengths)

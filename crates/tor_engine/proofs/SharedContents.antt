@@ -16,7 +16,7 @@ use Rattle.tor_engine.specs.steps.Hashes.{bytes_of_part}
 use Rattle.tor_engine.specs.steps.Reads.{AreReads, HaveRead, PartRead}
 use Rattle.tor_engine.specs.steps.Run.{parts_of}
 use Rattle.tor_engine.proofs.PartReads.{all_split, have_both, reads_as, reads_both, reads_none}
-use Rattle.tor_engine.proofs.Parts.{size_of}
+use Rattle.tor_engine.proofs.Parts.{part_long}
 use Rattle.tor_engine.proofs.ReadContents.{contents_there, parts_within}
 use Rattle.tor_engine.proofs.SameRows.{same_row}
 use Rattle.tor_engine.proofs.Whole.{units_of_plan}
@@ -35,17 +35,10 @@ reads_each other [] = refl
 reads_each other (part ∷ parts) = ap (λ ps. part ∷ ps) (reads_each other parts)
 
 module _ (lengths : List ℕ) (other : List (List ℕ)) (fit : map length other ≡ lengths) where
-  part_long : (part : Part) → IsInFile lengths part → length (bytes_of_part other part) ≡ part.length
-  part_long part is =
-      let content = get_or other part.file [] in
-      let size = size_of lengths other part.file fit is.named in
-      length-take-le part.length (drop part.start content)
-      (omega (arith, is.within, size, length-drop part.start content))
-
   reads_whole : (parts : List Part) → AllByRecursion (IsInFile lengths) parts
       → AllByRecursion (λ read. length read.1 ≡ read.0.length) (reads_of other parts)
   reads_whole [] are = tt
-  reads_whole (part ∷ parts) are = (part_long part are.0, reads_whole parts are.1)
+  reads_whole (part ∷ parts) are = (part_long lengths other fit part are.0, reads_whole parts are.1)
 
 same_reads : (contents other : List (List ℕ)) (parts : List Part) → HaveRead contents (reads_of other parts)
     → AllByRecursion (λ part. bytes_of_part contents part ≡ bytes_of_part other part) parts

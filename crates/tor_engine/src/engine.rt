@@ -72,6 +72,7 @@ pub fn hash_told<S: Source, R: Threads + Sync>(
         alloc,
         source,
         plan,
+        units,
     };
     let (unit_sums, roots) = match hash_units(rt, &work, units, plan.forest(), how) {
         Ok(hashed) => hashed,

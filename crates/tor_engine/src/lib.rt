@@ -21,7 +21,7 @@
 //! - [`hash_pieces`] (`pieces.rt`): what each piece hashes to ([`PieceHash`], `piece_hash.rt`), of files that may be
 //!   cut short or missing; [`find_pieces`] tells their lengths too. `asked.rt` asks for these, `present.rt` tells what
 //!   is there by them, and `piece_work.rt` hashes the pieces of a unit.
-//! - [`hash_part`] (`part.rt`): the hashes of the pieces of some units ([`PieceRow`]), of which several machines each
+//! - [`hash_lot`] (`lot.rt`): the hashes of the pieces of some units ([`PieceRow`]), of which several machines each
 //!   hash others.
 //! - [`hash_streams`] (`streams.rt`): what readers sum up to that are read once and in order; [`hash_input`]
 //!   (`input.rt`): what one reader does, within the limit of an input. `feeding.rt` reads in the calling thread:
@@ -62,10 +62,10 @@ mod joined;
 mod lane_span;
 pub mod laws;
 mod lengths;
+mod lot;
 mod on_board;
 mod owing;
 mod padding;
-mod part;
 mod paying;
 mod piece_hash;
 mod piece_work;
@@ -101,11 +101,11 @@ pub use hasher::{ContentHasher, Hashed};
 pub use how::{How, MAX_WORKERS};
 pub use input::hash_input;
 pub use lengths::ask_lengths;
-pub use part::{PieceRow, hash_part};
+pub use lot::{PieceRow, hash_lot};
 pub use piece_hash::PieceHash;
 pub use pieces::{FoundPieces, find_pieces, hash_pieces};
 pub use shares::{Share, work};
 pub use streams::{MAX_UNIT_LENGTH, hash_streams, hash_streams_with};
 pub use sums::Sums;
 pub use tor_lane::{Chunk, Feeder, Taker, lane, lane_law};
-pub use unit_sums::UnitSums;
+pub use unit_sums::{UnitSums, unit_length};

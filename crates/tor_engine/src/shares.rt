@@ -60,12 +60,14 @@ pub fn work<S: Source>(
     ensures gave { IfErr result (λ error.
         IsGivenRead (S.gave source.now) (S.ended source.now) plan.now.lengths error.1) }
 {
+    let units = plan.units();
     let work = SumWork {
         alloc,
         source,
         plan,
+        units,
     };
-    match take_units(&work, plan.units(), board, seat) {
+    match take_units(&work, units, board, seat) {
         Ok(taken) => Ok(Share {
             units: taken.sums,
             tops: taken.tops,

@@ -1,12 +1,12 @@
 //! Units hashed for the sums of files.
-ghost use Rattle.std.specs.Prelude.{ℕ, List};
+ghost use Rattle.std.specs.Prelude.{ℕ, Contains, List};
 ghost use Rattle.tor_plan.specs.PlanFacts.{IsPlan};
 ghost use Rattle.tor_engine.specs.Fault.{unit_fault};
 ghost use Rattle.tor_engine.specs.steps.Given.{IsGivenRead};
-ghost use Rattle.tor_engine.specs.steps.Reads.{HasLengths};
+ghost use Rattle.tor_engine.specs.steps.Reads.{HasParts};
 ghost use Rattle.tor_engine.specs.steps.Each.{OweEach};
 ghost use Rattle.tor_engine.specs.steps.Owing.{Owes};
-ghost use Rattle.tor_engine.specs.steps.Run.{IsUnitToSum, OwesUnit, SumsUpUnit};
+ghost use Rattle.tor_engine.specs.steps.Run.{IsUnitToSum, OwesUnit, SumsUpUnit, parts_of};
 
 use crate::errors::EngineError;
 use crate::file_bytes::FileBytes;
@@ -18,12 +18,13 @@ use std::alloc::{AllocError, Global};
 use tor_merkle::Hash;
 use tor_plan::{Plan, PlanUnit};
 
-/// Hashes units whose files have the lengths of the plan.
+/// Hashes some units of a plan.
 #[derive(Drop)]
 pub(crate) struct SumWork<'a, S> {
     pub(crate) alloc: Global,
     pub(crate) source: &'a S,
     pub(crate) plan: &'a Plan,
+    pub(crate) units: &'a [PlanUnit],
 }
 
 impl<'a, S: FileBytes> UnitWork for SumWork<'a, S> {
@@ -33,9 +34,9 @@ impl<'a, S: FileBytes> UnitWork for SumWork<'a, S> {
 
     ghost may_begin = { λ work. IsPlan work.plan.now };
 
-    ghost may_hash = { λ work unit. IsUnitToSum work.plan.now unit };
+    ghost may_hash = { λ work unit. IsUnitToSum work.plan.now unit × Contains work.units.now unit };
 
-    ghost is_steady = { λ work facts. S.is_steady work.source.now facts × HasLengths work.plan.now facts };
+    ghost is_steady = { λ work facts. S.is_steady work.source.now facts × HasParts facts (parts_of work.units.now) };
 
     ghost fault = { λ _ facts unit. unit_fault facts unit };
 

@@ -159,14 +159,14 @@ pub(crate) fn sum_unit<S: FileBytes>(
         Ok(tree) => tree,
         Err(error) => return Err(error),
     };
-    let count = length_of(unit);
+    let count = unit_length(unit);
     worker.end_unit(alloc, plan, count)?;
     let pieces = room_for_sums(alloc, plan, count)?;
     Ok(UnitSums::new(alloc, number, Hashed { tree, pieces }, level_in(plan, unit)))
 }
 
 /// How many bytes a unit has, zeros among them.
-fn length_of(unit: &PlanUnit) -> u64
+pub fn unit_length(unit: &PlanUnit) -> u64
     requires { unit_length unit.now ≤ 2 ^ 40 }
     ensures { result ≡ unit_length unit.now }
 {

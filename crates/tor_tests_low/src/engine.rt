@@ -5,7 +5,7 @@
 //!   `readers.rt`: files that are read once and in order.
 //! - `faults.rt`: which fault a hash of files answers; `reads.rt`: what is asked of a source; `workers.rt`: how many
 //!   workers read at once; `board.rt`: workers that share a board.
-//! - `sums.rt`: roots, layers and pieces of files; `parts.rt`: hashes of the pieces of some units; `pieces.rt`: of
+//! - `sums.rt`: roots, layers and pieces of files; `lots.rt`: hashes of the pieces of some units; `pieces.rt`: of
 //!   single pieces.
 //! - `streams`: contents of readers that are read once and in order.
 //!
@@ -14,8 +14,8 @@
 mod board;
 mod faults;
 mod folders;
+mod lots;
 mod memory;
-mod parts;
 mod pieces;
 mod readers;
 mod reads;

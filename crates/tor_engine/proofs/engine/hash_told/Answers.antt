@@ -1,5 +1,6 @@
 -- the units, and then the lengths again
 use Rattle.std.proofs.Common.{List, length, map, inl, inr, ap, ap₂, subst, sym, ◌∙◌}
+use Rattle.std.proofs.lemmas.List.Elements.{All-contains_itself}
 use Rattle.std.specs.List.{All}
 use Rattle.tor_plan.specs.Forest.{AreRuns}
 use Rattle.tor_plan.specs.declared.forests.Run.{Run}
@@ -9,7 +10,8 @@ use Rattle.tor_engine.specs.Contents.{contents_in}
 use Rattle.tor_engine.specs.Fault.{units_fault}
 use Rattle.tor_engine.specs.declared.unit_sums.UnitSums.{UnitSums}
 use Rattle.tor_engine.specs.steps.Roots.{roots_of_trees}
-use Rattle.tor_engine.specs.steps.Run.{IsUnitToSum}
+use Rattle.tor_engine.specs.steps.Reads.{HasParts}
+use Rattle.tor_engine.specs.steps.Run.{IsUnitToSum, parts_of}
 use Rattle.tor_engine.proofs.PlanFaults.{fault_of_plan}
 use Rattle.tor_engine.proofs.PlanLevels.{units_to_sum}
 use Rattle.tor_engine.proofs.ReadContents.{contents_there, plan_there}
@@ -19,8 +21,10 @@ use Rattle.tor_engine.proofs.engine.hash_told.Goals as goal
 
 pub hash_units-requires-clause-units : goal.hash_units-requires-clause-units
 hash_units-requires-clause-units g c = λ κs lives.
-    subst (λ (units : List PlanUnit). All (IsUnitToSum c.args.plan.now) units) (sym c.units-units.ensures.value)
-    (units_to_sum c.args.plan.now c.units-units.ensures.planned)
+    let to_sum = subst (λ (units : List PlanUnit). All (IsUnitToSum c.args.plan.now) units)
+    (sym c.units-units.ensures.value)
+    (units_to_sum c.args.plan.now c.units-units.ensures.planned) in
+    λ k d lt. (to_sum k d lt, All-contains_itself c.units-units.result.now k d lt)
 
 pub hash_units-requires-clause-runs : goal.hash_units-requires-clause-runs
 hash_units-requires-clause-runs g c = λ κs lives.
@@ -31,7 +35,9 @@ hash_units-requires-clause-runs g c = λ κs lives.
 pub returns-in-Err-clause-summed : goal.returns-in-Err-clause-summed
 returns-in-Err-clause-summed g c = λ facts steady none.
     let plan = c.args.plan.now in
-    elim (c.in-Err.ensures.fault facts (steady, lengths_hold facts plan none)) [
+    let there = subst (λ (units : List PlanUnit). HasParts facts (parts_of units)) (sym c.units-units.ensures.value)
+    (plan_there facts plan (lengths_hold facts plan none) c.units-units.ensures.planned) in
+    elim (c.in-Err.ensures.fault facts (steady, there)) [
       | inl memory ↦ inl memory
       | inr fault ↦ inr (sym (ap (units_fault facts) c.units-units.ensures.value
           ∙ fault_of_plan facts plan c.units-units.ensures.planned) ∙ fault)
@@ -53,11 +59,13 @@ returns-clause-summed g c = λ facts steady none.
     let summed = units_summed (g.S.Source.is_steady c.args.source.now) plan c.units-units.result.now plan.units
     c.in-Ok.hashed.0.items c.deref.result.now c.units-units.ensures.value c.deref.ensures.value
     c.in-Ok.ensures.summed in
-    let hashed = summed.sums contents fit (summed.are.steady facts steady
-    (plan_there facts plan fit c.units-units.ensures.planned)) in (
+    let all = plan_there facts plan fit c.units-units.ensures.planned in
+    let there = subst (λ (units : List PlanUnit). HasParts facts (parts_of units)) (sym c.units-units.ensures.value)
+    all in
+    let hashed = summed.sums contents fit (summed.are.steady facts steady all) in (
       c.in_ok-sums.ensures contents fit hashed,
       sym (ap (units_fault facts) c.units-units.ensures.value
-          ∙ fault_of_plan facts plan c.units-units.ensures.planned) ∙ c.in-Ok.ensures.fault facts (steady, fit),
+          ∙ fault_of_plan facts plan c.units-units.ensures.planned) ∙ c.in-Ok.ensures.fault facts (steady, there),
     )
 
 pub returns-clause-whole : goal.returns-clause-whole

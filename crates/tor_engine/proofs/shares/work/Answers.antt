@@ -1,47 +1,53 @@
 -- what the units of a share sum up to
 use Rattle.std.proofs.Common.{◌<◌, List, length, subst, sym}
-use Rattle.std.proofs.lemmas.List.Elements.{All-from_recursion}
+use Rattle.std.proofs.lemmas.List.Elements.{All-contains_itself, All-from_recursion}
 use Rattle.std.specs.List.{All, AllByRecursion}
 use Rattle.tor_plan.specs.declared.units.PlanUnit.{PlanUnit}
 use Rattle.tor_engine.specs.Fault.{IsFault, unit_fault}
 use Rattle.tor_engine.specs.Shares.{unit_at}
 use Rattle.tor_engine.specs.declared.unit_sums.UnitSums.{UnitSums}
-use Rattle.tor_engine.specs.steps.Run.{IsUnitToSum, SumsUpUnit}
+use Rattle.tor_engine.specs.steps.Reads.{HasParts}
+use Rattle.tor_engine.specs.steps.Run.{IsUnitToSum, SumsUpUnit, parts_of}
 use Rattle.tor_engine.specs.steps.Taken.{IsSumOf}
 use Rattle.tor_engine.proofs.Counts.{each_more}
 use Rattle.tor_engine.proofs.PlanLevels.{units_to_sum}
+use Rattle.tor_engine.proofs.ReadContents.{plan_there}
 use Rattle.tor_engine.proofs.UnitSummed.{are_unit_sums}
 use Rattle.tor_engine.proofs.shares.work.Goals as goal
 
 pub take_units-requires-clause-units : goal.take_units-requires-clause-units
 take_units-requires-clause-units g c =
-    subst (λ (units : List PlanUnit). All (IsUnitToSum c.args.plan.now) units) (sym c.units.ensures.value)
-    (units_to_sum c.args.plan.now c.units.ensures.planned)
+    let to_sum = subst (λ (units : List PlanUnit). All (IsUnitToSum c.args.plan.now) units)
+    (sym c.units-units.ensures.value)
+    (units_to_sum c.args.plan.now c.units-units.ensures.planned) in
+    λ k d lt. (to_sum k d lt, All-contains_itself c.units-units.result.now k d lt)
 
 pub returns-in-Ok-clause-summed : goal.returns-in-Ok-clause-summed
 returns-in-Ok-clause-summed g c = λ facts steady fit.
     let plan = c.args.plan.now in
     let is_steady = g.S.Source.is_steady c.args.source.now in
-    are_unit_sums is_steady plan c.units.ensures.planned facts steady fit
+    are_unit_sums is_steady plan c.units-units.ensures.planned facts steady fit
     c.in-Ok.taken.sums.items
     (subst (λ (units : List PlanUnit). AllByRecursion
     (IsSumOf (λ (one : UnitSums). one.unit) (SumsUpUnit is_steady plan) units) c.in-Ok.taken.sums.items)
-    c.units.ensures.value c.in-Ok.ensures.taken.took.2.summed)
+    c.units-units.ensures.value c.in-Ok.ensures.taken.took.2.summed)
 
 pub returns-in-Err-clause-fault : goal.returns-in-Err-clause-fault
 returns-in-Err-clause-fault g c = λ facts steady fit.
+    let there = subst (λ (units : List PlanUnit). HasParts facts (parts_of units)) (sym c.units-units.ensures.value)
+    (plan_there facts c.args.plan.now fit c.units-units.ensures.planned) in
     subst (λ (units : List PlanUnit). IsFault (unit_fault facts (unit_at units c.in-Err.failure.unit))
     c.in-Err.failure.error)
-    c.units.ensures.value
-    (c.in-Err.ensures.taken.steady facts (steady, fit))
+    c.units-units.ensures.value
+    (c.in-Err.ensures.taken.steady facts (steady, there))
 
 pub returns-in-Ok-clause-within : goal.returns-in-Ok-clause-within
 returns-in-Ok-clause-within g c =
     let plan = c.args.plan.now in
     let is_steady = g.S.Source.is_steady c.args.source.now in
-    let units = c.units.result.now in
+    let units = c.units-units.result.now in
     All-from_recursion (λ (one : UnitSums). one.unit < length plan.units) c.in-Ok.taken.sums.items
     (each_more (IsSumOf (λ (one : UnitSums). one.unit) (SumsUpUnit is_steady plan) units)
     (λ (one : UnitSums). one.unit < length plan.units) c.in-Ok.taken.sums.items
-    (λ one is. subst (λ (all : List PlanUnit). one.unit < length all) c.units.ensures.value is.0)
+    (λ one is. subst (λ (all : List PlanUnit). one.unit < length all) c.units-units.ensures.value is.0)
     c.in-Ok.ensures.taken.took.2.summed)

@@ -33,7 +33,7 @@ returns-clause-owing g c = λ owed owes.
     let unit = c.args.unit.now in
     let plan = c.args.plan.now in
     let read = c.in-Ok.ensures.read owes.before owes.fresh in
-    let long = read.long ∙ sym c.length_of-count.ensures in (
+    let long = read.long ∙ sym c.unit_length-count.ensures in (
       sums_of plan read.joined,
       (
         record {

@@ -1,7 +1,7 @@
--- the source has the parts of the unit
+-- the unit is one of those whose bytes the source has
 use Rattle.std.proofs.Common.{◌++◌}
 use Rattle.tor_engine.specs.steps.Run.{OwesUnit}
-use Rattle.tor_engine.proofs.Parts.{unit_there}
+use Rattle.tor_engine.proofs.Parts.{unit_has}
 use Rattle.tor_engine.proofs.PaidSums.{if_ok_more, owe_next}
 use Rattle.tor_engine.proofs.sum_work.SumWorkUnitWork.hash.Goals as goal
 
@@ -23,7 +23,7 @@ returns-clause-stands g c = λ units before stands.
 pub returns-clause-fault : goal.returns-clause-fault
 returns-clause-fault g c = λ facts steady.
     c.sum_unit.ensures.fault facts steady.0
-    (unit_there facts c.args.self.now.plan.now steady.1 c.args.unit.now c.requires.unit.within)
+    (unit_has facts c.args.self.now.units.now c.args.unit.now c.requires.unit.1 steady.1)
 
 pub returns-clause-gave : goal.returns-clause-gave
-returns-clause-gave g c = c.sum_unit.ensures.gave c.args.self.now.plan.now.lengths c.requires.unit.within.parts
+returns-clause-gave g c = c.sum_unit.ensures.gave c.args.self.now.plan.now.lengths c.requires.unit.0.within.parts

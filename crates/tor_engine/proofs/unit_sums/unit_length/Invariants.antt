@@ -1,6 +1,6 @@
 -- the parts so far
 use Rattle.std.proofs.Common.{◌≡◌, ◌+◌, sum_by, take}
-use Rattle.tor_engine.proofs.unit_sums.length_of.Given as goal
+use Rattle.tor_engine.proofs.unit_sums.unit_length.Given as goal
 
 abbrev pub invariant-parts : goal.invariant-parts
 invariant-parts l = record {

@@ -1,23 +1,25 @@
 -- Some of the units of a plan, which stand one after another, and what was read of them.
 use Rattle.std.proofs.Common.{◌≡◌, ◌-◌, ℕ, List, [], ◌∷◌, ◌++◌, length, map, take, drop, replicate, refl, ap, sym}
-use Rattle.std.proofs.Common.{◌∙◌}
+use Rattle.std.proofs.Common.{arith, subst, ◌∙◌}
 use Rattle.std.proofs.lemmas.Grind.{flat_map-append}
-use Rattle.std.proofs.lemmas.List.{length-replicate, take-append-drop}
+use Rattle.std.proofs.lemmas.List.{length-replicate, length-take, take-append-drop}
 use Rattle.std.proofs.lemmas.List.Elements.{All-drop, All-take, recursion_from_All}
 use Rattle.std.specs.List.{All, AllByRecursion, flat_map}
 use Rattle.tor_plan.specs.PlanFacts.{IsPlan, PlanFacts}
 use Rattle.tor_plan.specs.WithinEntries.{IsInFile}
 use Rattle.tor_plan.specs.declared.units.Part.{Part}
 use Rattle.tor_plan.specs.declared.units.PlanUnit.{PlanUnit}
-use Rattle.tor_source.specs.Source.{SourceFacts}
-use Rattle.tor_engine.specs.Rows.{IsRowOf, row_in, units_between}
-use Rattle.tor_engine.specs.declared.part.PieceRow.{PieceRow}
+use Rattle.tor_source.specs.Source.{SourceFacts, bytes_from}
+use Rattle.tor_engine.specs.Contents.{contents_in}
+use Rattle.tor_engine.specs.Rows.{AreSameAt, IsRowOf, row_in, units_between}
+use Rattle.tor_engine.specs.declared.lot.PieceRow.{PieceRow}
 use Rattle.tor_engine.specs.declared.unit_sums.UnitSums.{UnitSums}
-use Rattle.tor_engine.specs.steps.Reads.{AreReads, HasLengths, HasParts, HaveRead, PartRead}
+use Rattle.tor_engine.specs.steps.Hashes.{bytes_of_part}
+use Rattle.tor_engine.specs.steps.Reads.{AreReads, HasPart, HasParts, HaveRead, PartRead}
 use Rattle.tor_engine.specs.steps.RowSums.{IsRowOfSums}
 use Rattle.tor_engine.specs.steps.Run.{HashesUnits, IsUnitOf, IsUnitToSum, node_in, parts_of}
 use Rattle.tor_engine.proofs.PartReads.{have_both, reads_as, reads_both}
-use Rattle.tor_engine.proofs.Parts.{parts_there}
+use Rattle.tor_engine.proofs.Parts.{part_bytes, part_long}
 use Rattle.tor_engine.proofs.PlanLevels.{units_to_sum}
 use Rattle.tor_engine.proofs.ReadContents.{contents_there, parts_within}
 use Rattle.tor_engine.proofs.Whole.{units_of_plan}
@@ -37,11 +39,48 @@ between_inside plan is from to =
     (All-take (IsUnitOf plan) (to - from) (drop from plan.units)
     (All-drop (IsUnitOf plan) from plan.units (units_of_plan plan is))))
 
--- a source has all their bytes where its files have the plan's lengths
-pub between_there : {F : Type 0} (facts : SourceFacts F) (plan : PlanFacts) → HasLengths plan facts → IsPlan plan
-    → (from to : ℕ) → HasParts facts (parts_of (units_between from to plan.units))
-between_there facts plan fit is from to =
-    parts_there facts plan fit (parts_of (units_between from to plan.units)) (between_inside plan is from to)
+-- a source has all their bytes where it has those that files of the plan's lengths have there
+module _ {F : Type 0} (facts : SourceFacts F) (plan : PlanFacts) (contents : List (List ℕ))
+    (fit : map length contents ≡ plan.lengths) where
+  abbrev there : List (List ℕ)
+  there = contents_in facts (length plan.lengths)
+
+  abbrev Same : Part → Type 0
+  Same part = bytes_of_part contents part ≡ bytes_of_part there part
+
+  same_part : (part : Part) → IsInFile plan.lengths part → Same part → HasPart facts part
+  same_part part is same =
+      let long = part_long plan.lengths contents fit part is in
+      let all = ap length (part_bytes facts plan part is) in
+      let taken = length-take part.length (bytes_from facts part.file part.start) in
+      let alike = ap length same in
+      omega (arith, long, all, taken, alike)
+
+  same_parts : (parts : List Part) → AllByRecursion (IsInFile plan.lengths) parts → AllByRecursion Same parts
+      → HasParts facts parts
+  same_parts [] are same = tt
+  same_parts (part ∷ parts) are same = (same_part part are.0 same.0, same_parts parts are.1 same.1)
+
+  pub between_there : IsPlan plan → (from to : ℕ) → AreSameAt contents there (units_between from to plan.units)
+      → HasParts facts (parts_of (units_between from to plan.units))
+  between_there is from to same =
+      same_parts (parts_of (units_between from to plan.units)) (between_inside plan is from to) same
+
+-- contents that have the same bytes have what was read of the others
+have_as : (contents other : List (List ℕ)) (reads : List PartRead)
+    → AllByRecursion (λ part. bytes_of_part contents part ≡ bytes_of_part other part) (map (λ read. read.0) reads)
+    → HaveRead other reads → HaveRead contents reads
+have_as contents other [] same have = tt
+have_as contents other (read ∷ reads) same have = (same.0 ∙ have.0, have_as contents other reads same.1 have.1)
+
+pub have_same : (contents other : List (List ℕ)) (parts : List Part) (reads : List PartRead)
+    → map (λ read. read.0) reads ≡ parts
+    → AllByRecursion (λ part. bytes_of_part contents part ≡ bytes_of_part other part) parts
+    → HaveRead other reads → HaveRead contents reads
+have_same contents other parts reads each same have =
+    have_as contents other reads
+    (subst (λ (ps : List Part). AllByRecursion (λ part. bytes_of_part contents part ≡ bytes_of_part other part) ps)
+    (sym each) same) have
 
 -- ---- contents that have what was read of them
 

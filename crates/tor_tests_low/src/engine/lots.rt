@@ -4,7 +4,7 @@ use crate::engine::shared::{EACH_HOW, allowed, files_of, plan_of};
 use crate::engine::sums::{L0, L1, LAST_OF_7232, LONG_HYBRID};
 use std::process::Abort;
 use std::thread::Threads;
-use tor_engine::{How, hash_part};
+use tor_engine::{How, hash_lot};
 use tor_merkle::Hash;
 use tor_plan::Plan;
 use tor_source::Source;
@@ -37,7 +37,7 @@ fn has_row<S: Source, R: AllocGlobal + Abort + Threads + Sync>(
     row: &Row,
 ) -> bool {
     assert!(rt; row.1 <= row.2 && row.2 <= plan.units().len());
-    match hash_part(rt, rt.alloc(), source, plan, row.1, row.2, allowed(rt, how)) {
+    match hash_lot(rt, rt.alloc(), source, plan, row.1, row.2, allowed(rt, how)) {
         Ok(found) => found.hashes.as_slice() == row.3 && found.pieces.as_slice() == row.4,
         Err(_) => false,
     }

@@ -6,7 +6,7 @@ ghost use Rattle.tor_engine.specs.Contents.{contents_in};
 ghost use Rattle.tor_engine.specs.Fault.{IsFault, units_fault};
 ghost use Rattle.tor_engine.specs.Given.{IsGivenRead};
 ghost use Rattle.tor_engine.specs.How.{IsHow};
-ghost use Rattle.tor_engine.specs.Rows.{IsRowOf, row_in, units_between};
+ghost use Rattle.tor_engine.specs.Rows.{AreSameAt, IsRowOf, row_in, units_between};
 ghost use Rattle.tor_engine.specs.Shares.{node_in};
 ghost use Rattle.tor_engine.specs.steps.RowSums.{IsRowOfSums};
 
@@ -35,9 +35,10 @@ pub struct PieceRow {
 }
 
 /// What the pieces hash to of the units from the number `from` on, and before the number `to`: file i of the plan is
-/// file i of the source, and as long as the plan says. No length is asked: a file that ends before its own is answered
-/// as changed. The first fault in the order of these units is answered, whatever the `How`.
-pub fn hash_part<S: Source, R: Threads + Sync>(
+/// file i of the source, and has at least the bytes that these units want of it. No length is asked, and what other
+/// files have is no matter: a file that ends before the last byte that is wanted of it is answered as changed. The
+/// first fault in the order of these units is answered, whatever the `How`.
+pub fn hash_lot<S: Source, R: Threads + Sync>(
     rt: &R,
     alloc: Global,
     source: &S,
@@ -49,11 +50,12 @@ pub fn hash_part<S: Source, R: Threads + Sync>(
     requires how { IsHow how }
     requires ordered { from ≤ to }
     requires within { to ≤ length plan.now.units }
-    ensures summed { (facts : SourceFacts S.Fault) → S.is_steady source.now facts →
-        map length (contents_in facts (length plan.now.lengths)) ≡ plan.now.lengths →
+    ensures summed { (facts : SourceFacts S.Fault) (contents : List (List ℕ)) → S.is_steady source.now facts →
+        map length contents ≡ plan.now.lengths →
+        AreSameAt contents (contents_in facts (length plan.now.lengths)) (units_between from to plan.now.units) →
         MatchResult result
-        (λ row. IsRowOf plan.now (contents_in facts (length plan.now.lengths)) (units_between from to plan.now.units)
-        row.hashes.items row.pieces.items × (units_fault facts (units_between from to plan.now.units) ≡ None))
+        (λ row. IsRowOf plan.now contents (units_between from to plan.now.units) row.hashes.items row.pieces.items
+        × (units_fault facts (units_between from to plan.now.units) ≡ None))
         (IsFault (units_fault facts (units_between from to plan.now.units))) }
     ensures whole { IfOk result (λ row. (contents : List (List ℕ)) × (map length contents ≡ plan.now.lengths)
         × IsRowOf plan.now contents (units_between from to plan.now.units) row.hashes.items row.pieces.items) }
@@ -65,6 +67,7 @@ pub fn hash_part<S: Source, R: Threads + Sync>(
         alloc,
         source,
         plan,
+        units,
     };
     // A tree may have units elsewhere.
     let no_trees = Forest {
