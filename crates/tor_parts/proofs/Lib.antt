@@ -1,0 +1,10 @@
+pub mod DealtUnits
+pub mod FileTrees
+pub mod LotLawful
+pub mod LotHashes
+pub mod LotsJoined
+pub mod PlanSums
+pub mod PlanUnits
+pub mod ProvedLaws
+pub mod RootsThere
+pub mod RowLists

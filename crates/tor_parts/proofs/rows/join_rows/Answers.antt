@@ -1,0 +1,36 @@
+-- what all rows are of
+use Rattle.std.proofs.Common.{◌≡◌, ℕ, List, Result, Ok, Err, IfOk, length, map, subst, sym, ◌∙◌}
+use Rattle.tor_engine.specs.Rows.{IsRowOf}
+use Rattle.tor_engine.specs.Sums.{AreSumsOfPlan, AreSumsOfSome}
+use Rattle.tor_engine.specs.declared.sums.Sums.{Sums}
+use Rattle.tor_plan.specs.PlanFacts.{PlanFacts}
+use Rattle.tor_parts.proofs.RowLists.{are_rows, have_rows}
+use Rattle.tor_parts.proofs.rows.join_rows.Goals as goal
+
+as_given : (plan : PlanFacts) (contents : List (List ℕ)) (h i : List (List ℕ)) (p q : List ℕ) → h ≡ i → p ≡ q
+    → IsRowOf plan contents plan.units i q → IsRowOf plan contents plan.units h p
+as_given plan contents h i p q same alike row =
+    subst (λ (hs : List (List ℕ)). IsRowOf plan contents plan.units hs p) (sym same)
+    (subst (λ (ps : List ℕ). IsRowOf plan contents plan.units i ps) (sym alike) row)
+
+of_some : {E : Type 0} (plan : PlanFacts) (contents : List (List ℕ)) → map length contents ≡ plan.lengths
+    → (result : Result Sums E) → IfOk result (AreSumsOfPlan plan contents) → IfOk result (AreSumsOfSome plan)
+of_some plan contents fit (Ok sums) are = (contents, fit, are)
+of_some plan contents fit (Err error) are = tt
+
+pub returns-clause-summed : goal.returns-clause-summed
+returns-clause-summed c = λ contents fit are.
+    let plan = c.args.plan.now in
+    let both = c.in_ok-hashes.ensures in
+    c.join_sums.ensures.summed contents fit
+    (as_given plan contents _ _ _ _ (c.deref.ensures.value ∙ both.0) both.1
+    (are_rows plan c.args.rows.now c.requires.some contents are))
+
+pub returns-clause-whole : goal.returns-clause-whole
+returns-clause-whole c = λ are.
+    let plan = c.args.plan.now in
+    let both = c.in_ok-hashes.ensures in
+    let there = have_rows plan c.units-planned.ensures.planned c.args.rows.now c.requires.some are in
+    of_some plan there.0 there.1 c.join_sums.result
+    (c.join_sums.ensures.summed there.0 there.1
+    (as_given plan there.0 _ _ _ _ (c.deref.ensures.value ∙ both.0) both.1 there.2))

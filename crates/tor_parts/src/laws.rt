@@ -1,0 +1,38 @@
+//! Laws over the definitions, and the limit of lots.
+ghost use Rattle.std.specs.Prelude.{◌≡◌, ◌<◌, ◌≤◌, ◌+◌, ◌/◌, ℕ, All, List};
+ghost use Rattle.std.specs.List.{flat_map, range_with_len};
+ghost use Rattle.tor_engine.specs.Rows.{IsRowOf};
+ghost use Rattle.tor_parts.specs.Dealing.{bytes_of, dealt};
+ghost use Rattle.tor_parts.specs.declared.lot_text.TheConstants.{MAX_LOTS};
+ghost use Rattle.tor_plan.specs.PlanFacts.{PlanFacts};
+ghost use Rattle.tor_plan.specs.WithinEntries.{unit_length};
+ghost use Rattle.tor_plan.specs.declared.units.PlanUnit.{PlanUnit};
+
+/// The units of the lots, one lot after another, are all units, each once and in order.
+pub fn dealt_units_are_all()
+    ensures { (lots : ℕ) (units : List PlanUnit) → 0 < lots →
+        flat_map (λ lot. dealt lots lot units) (range_with_len 0 lots) ≡ units }
+{}
+
+/// A lot has at most one byte more than its share, and one unit more.
+pub fn lots_are_balanced()
+    ensures { (lots lot size : ℕ) (units : List PlanUnit) → lot < lots →
+        All (λ unit. unit_length unit ≤ size) units →
+        bytes_of (dealt lots lot units) ≤ bytes_of units / lots + 1 + size }
+{}
+
+/// The hashes of the lots, one lot after another, are those of all units: wherever each was hashed, its units have the
+/// bytes of these contents.
+pub fn rows_are_joined()
+    ensures { (plan : PlanFacts) (contents : List (List ℕ)) (lots : ℕ) (hashes : ℕ → List (List ℕ))
+        (pieces : ℕ → List ℕ) → 0 < lots →
+        ((lot : ℕ) → lot < lots →
+        IsRowOf plan contents (dealt lots lot plan.units) (hashes lot) (pieces lot)) →
+        IsRowOf plan contents plan.units (flat_map hashes (range_with_len 0 lots))
+        (flat_map pieces (range_with_len 0 lots)) }
+{}
+
+/// The most lots that a plan may be dealt in.
+pub fn limit_of_lots()
+    ensures { MAX_LOTS ≡ 65536 }
+{}
