@@ -60,12 +60,12 @@ of_files q none paths lengths (entry ∷ entries) found h =
     let here : q entry.0 ≡ false = rw (← found.0) (any_at q paths entry.1 [] none h) in
     (here, of_files q none paths lengths entries found.1 h)
 
-one_path : (name : List ℕ) (paths : List (List (List ℕ))) → is_only name paths ≡ true → length paths ≡ 1
+pub one_path : (name : List ℕ) (paths : List (List (List ℕ))) → is_only name paths ≡ true → length paths ≡ 1
 one_path name [] h = cc
 one_path name (path ∷ []) h = refl
 one_path name (path ∷ other ∷ paths) h = cc
 
-not_reserved : (aligned tail : Bool) (files : List (List (List ℕ) × ℕ))
+pub not_reserved : (aligned tail : Bool) (files : List (List (List ℕ) × ℕ))
     → (aligned ≡ true → list_any (λ file. is_reserved file.0) files ≡ false)
     → takes_reserved (cond aligned (cond tail AlignedTail Aligned) Joined) files ≡ false
 not_reserved true true files h = h refl

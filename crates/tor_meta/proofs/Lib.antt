@@ -8,6 +8,7 @@ pub mod SourceFiles
 pub mod SourceSums
 pub mod OneFile
 pub mod Judged
+pub mod JudgedFiles
 pub mod Refused
 pub mod FromSource
 pub mod RisingPaths

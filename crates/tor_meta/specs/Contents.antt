@@ -6,6 +6,7 @@ use Rattle.std.specs.List.Sorted.{IsPermutation, IsStrictlySortedBy}
 use Rattle.tor_spec.specs.Facts.{File}
 use Rattle.tor_spec.specs.Metainfo.{metainfo}
 use Rattle.tor_spec.specs.Settings.{Settings}
+use Rattle.tor_tree.specs.FileList.{LetteredFiles, files_with_attrs}
 use Rattle.tor_tree.specs.Letters.{no_letters}
 use Rattle.tor_tree.specs.Path.{path_cmp}
 use Rattle.tor_tree.specs.declared.attr.Attr.{Attr}
@@ -34,6 +35,11 @@ IsMadeOfSome settings files bytes =
 abbrev pub files_with : List (List (List ℕ) × Attr) → List (List ℕ) → List File
 files_with files contents =
     map (λ file. record { path = file.0.0; content = file.1; attr = file.0.1 }) (zip files contents)
+
+-- files of a list with their letters and contents
+abbrev pub files_of : LetteredFiles → List (List ℕ) → List File
+files_of list contents =
+    map (λ file. record { path = file.0.0.0; content = file.1; attr = file.0.1 }) (zip (files_with_attrs list) contents)
 
 -- the one file of this name
 abbrev pub one_file : List ℕ → List ℕ → Attr → List File

@@ -10,4 +10,6 @@ pub mod Fed
 pub mod FedIntake
 pub mod FromInput
 pub mod Hashes
+pub mod Judged
+pub mod Rows
 pub mod steps

@@ -94,7 +94,7 @@ fn is_only(head: &Head, paths: &[FilePath]) -> bool
     }
 }
 
-fn is_name(path: &FilePath, head: &Head) -> bool
+pub(crate) fn is_name(path: &FilePath, head: &Head) -> bool
     ensures { result ≡ is_name path.now head.now.name }
 {
     match path.names() {

@@ -13,6 +13,8 @@
 //!   files whose bytes a source gives.
 //! - [`make_streams_with`], [`make_streams`] (`from_streams.rt`): the torrent of readers that are read once, in the
 //!   order of their paths, with letters and without.
+//! - [`torrent_of_rows`] (`from_rows.rt`): the torrent of a list of files whose pieces were hashed in lots, as
+//!   [`plan_of_list`] has them; [`refusal_of_list`] (`list_refusal.rt`): why there is none.
 //! - [`ContentsError`] (`refusals.rt`): why there is no torrent of files in memory.
 //! - `sums.rt`: the Merkle trees and the SHA-1 of the pieces, as far as a kind asks for them.
 //! - `torrent.rt`: from files and sums to bytes, by `info.rt`, `layers.rt` and `items.rt`.
@@ -39,6 +41,7 @@ mod entries;
 mod fed;
 mod fed_intake;
 mod from_input;
+mod from_rows;
 mod from_source;
 mod from_streams;
 mod hashes;
@@ -49,6 +52,7 @@ mod items;
 mod judge;
 pub mod laws;
 mod layers;
+mod list_refusal;
 mod listed_files;
 mod make_error;
 mod making;
@@ -61,10 +65,12 @@ mod torrent;
 pub use contents::make_contents;
 pub use fed::{FedSums, refusal_of_one};
 pub use from_input::{FromFault, make_from, torrent_by_streams, torrent_from};
+pub use from_rows::{plan_of_list, torrent_of_rows};
 pub use from_source::{make, make_with};
 pub use from_streams::{make_streams, make_streams_with};
 pub use hashes::{Hashes, info_hashes, magnet};
 pub use head::Head;
+pub use list_refusal::refusal_of_list;
 pub use make_error::MakeError;
 pub use making::make_fed;
 pub use order::{MAX_SPAN, Order};

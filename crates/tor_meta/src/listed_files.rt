@@ -4,13 +4,16 @@ ghost use Rattle.tor_engine.specs.Contents.{contents_in};
 ghost use Rattle.tor_engine.specs.Fault.{IsFault, first_byte_fault, first_length_fault};
 ghost use Rattle.tor_engine.specs.Given.{IsGivenNotMissing};
 ghost use Rattle.tor_engine.specs.How.{IsHow};
-ghost use Rattle.tor_meta.specs.steps.Contents.{files_of};
+ghost use Rattle.tor_bencode.specs.Spelling.{spelling};
+ghost use Rattle.tor_meta.specs.Contents.{files_of};
 ghost use Rattle.tor_meta.specs.Hashes.{HasInfo};
 ghost use Rattle.tor_meta.specs.Head.{settings_of};
-ghost use Rattle.tor_meta.specs.steps.Sums.{HaveTrees, IsJudged, IsPlanOf, SumUp, SumUpSome};
+ghost use Rattle.tor_meta.specs.Rows.{plan_of_head};
+ghost use Rattle.tor_meta.specs.steps.Sums.{AreFactsOf, HaveTrees, IsJudged, IsPlanOf, SumUp, SumUpSome};
 ghost use Rattle.tor_plan.specs.PlanFacts.{IsSpan};
 ghost use Rattle.tor_source.specs.Source.{SourceFacts};
-ghost use Rattle.tor_spec.specs.Metainfo.{metainfo};
+ghost use Rattle.tor_spec.specs.Facts.{Facts};
+ghost use Rattle.tor_spec.specs.Metainfo.{metainfo, root_dictionary};
 ghost use Rattle.tor_tree.specs.FileList.{lengths_of};
 
 use crate::entries::entries_to_hash;
@@ -91,7 +94,7 @@ fn sums_of_listed<S: Source, R: Threads + Sync>(
 }
 
 /// The plan of the entries that the torrent has.
-fn plan_of_listed(
+pub(crate) fn plan_of_listed(
     alloc: Global,
     list: &FileList,
     head: &Head,
@@ -99,7 +102,8 @@ fn plan_of_listed(
 ) -> Result<Plan, AllocError>
     requires judged { IsJudged head.now list.now.files }
     requires span { IsSpan span }
-    ensures { IfOk result (IsPlanOf head.now list.now.files) }
+    ensures is { IfOk result (IsPlanOf head.now list.now.files) }
+    ensures same { IfOk result (λ plan. plan ≡ plan_of_head head.now span list.now.files) }
 {
     piece_length_bounds();
     files_are_cut_as_entries();
@@ -121,6 +125,8 @@ pub(crate) fn torrent_of_sums(
     ensures made { (contents : List (List ℕ)) → map length contents ≡ lengths_of list.now.files →
         SumUp head.now list.now.files contents sums.now →
         IfOk result (λ bytes. bytes.items ≡ metainfo (settings_of head.now) (files_of list.now contents)) }
+    ensures any { (facts : List Facts) → AreFactsOf head.now list.now sums.now facts → IfOk result (λ bytes.
+        bytes.items ≡ spelling (root_dictionary (settings_of head.now) facts sums.now.pieces.items)) }
     ensures info { IfOk result (λ bytes. HasInfo bytes.items) }
 {
     let _attrs = list.attrs();

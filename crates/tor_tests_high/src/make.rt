@@ -2,15 +2,17 @@
 //!
 //! `contents.rt` and `larger.rt`: torrents of files in memory, info hashes, links, writing out. `sources.rt` and
 //! `layers.rt`: torrents of the files of a source; `streams.rt`: of readers; `tail.rt`: those whose last file is
-//! padded; `letters.rt`: of files with letters. `workers.rt`: that workers meet. `inputs.rt`: inputs of tor_source, and
-//! the torrent of one. `given.rt` has files that are given as texts.
+//! padded; `letters.rt`: of files with letters; `lots.rt`: of pieces that were hashed in lots. `workers.rt`: that
+//! workers meet. `inputs.rt`: inputs of tor_source, and the torrent of one. `given.rt` has files that are given as
+//! texts.
 
 mod contents;
-mod given;
+pub mod given;
 mod inputs;
 mod larger;
 mod layers;
 mod letters;
+mod lots;
 mod sources;
 mod streams;
 mod tail;

@@ -1,34 +1,25 @@
 -- Sums that a torrent can be made of, and the facts that they tell.
-use Rattle.std.specs.Prelude.{◌≡◌, ◌≤◌, ℕ, true, false, All, List, [], ◌∷◌, ◌++◌, length, map}
+use Rattle.std.specs.Prelude.{◌≡◌, ℕ, true, List, [], ◌∷◌, ◌++◌, length, map}
 use Rattle.std.specs.List.{AllZip}
-use Rattle.tor_merkle.specs.Layer.{IsPieceLength, piece_layer}
+use Rattle.tor_merkle.specs.Layer.{piece_layer}
 use Rattle.tor_meta.specs.Head.{settings_of}
+pub use Rattle.tor_meta.specs.Judged.{IsJudged}
 use Rattle.tor_engine.specs.Streams.{AreSumsOfContents}
 use Rattle.tor_engine.specs.Sums.{lists_of, plan_content}
 use Rattle.tor_meta.specs.Order.{has_tail}
 use Rattle.tor_meta.specs.declared.head.Head.{Head}
-use Rattle.tor_tree.specs.declared.paths.TheConstants.{MAX_NAMES}
 use Rattle.tor_engine.specs.declared.sums.Sums.{Sums}
 use Rattle.tor_spec.specs.Facts.{Facts, attrs_in, listed, layers_in, roots_in}
 use Rattle.tor_merkle.specs.Layer.{root_of}
 use Rattle.tor_spec.specs.Settings.{Settings, layout_of}
 use Rattle.tor_tree.specs.Kinds.{has_v1, has_v2}
 use Rattle.tor_tree.specs.declared.kinds.Kind.{Kind}
-use Rattle.tor_tree.specs.FileList.{IsFileList, LetteredFiles, lengths_of}
+use Rattle.tor_tree.specs.FileList.{LetteredFiles, lengths_of}
 use Rattle.tor_tree.specs.TidyTree.{HasItsRoot}
 use Rattle.tor_plan.specs.PlanFacts.{PlanFacts}
 use Rattle.tor_v1.specs.Content.{joined_content, v1_pieces}
 use Rattle.tor_v1.specs.Entries.{v1_entries}
 use Rattle.tor_v1.specs.Piece.{piece_sums, zeros}
-use Rattle.tor_v1.specs.Reserved.{takes_reserved}
-
--- a list of files, of which no torrent is refused for the head or the paths
-pub record IsJudged (head : Head) (files : List (List (List ℕ) × ℕ)) : Type 0 where
-  pub is_list : IsFileList files
-  pub piece_length : IsPieceLength head.piece_length
-  pub short : All (λ file. length file.0 ≤ MAX_NAMES) files
-  pub one : head.single ≡ true → length files ≡ 1
-  pub free : takes_reserved (layout_of (settings_of head)) files ≡ false
 
 -- roots and layers for each of its files, a root just where the file is not empty
 pub record HaveTrees (head : Head) (files : List (List (List ℕ) × ℕ)) (sums : Sums) : Type 0 where

@@ -93,7 +93,7 @@ eee12:meta versioni2e4:name1:a12:piece lengthi32768ee12:piece layersd32:\
 \xfd\xb8\x81\xa0\x9a\x54\x98\xdf\xe0\xed\xf5\xaa\x61\x70\x2a\xbf\
 ee";
 
-const OF_FIVE_BLOCKS: Row = ((Kind::V2, true, 32768, "a"), "a=#81920", FIVE_BLOCKS);
+pub(crate) const OF_FIVE_BLOCKS: Row = ((Kind::V2, true, 32768, "a"), "a=#81920", FIVE_BLOCKS);
 
 /// Of the files `a` and `b` of three blocks each.
 const EQUAL_FILES: &[u8] = b"d4:infod9:file treed1:ad0:d6:lengthi40000e11:pieces root32:\
@@ -114,7 +114,7 @@ eee12:meta versioni2e4:name1:f12:piece lengthi16384ee12:piece layersd32:\
 \x27\x3b\x59\x6b\x82\x4b\x31\x00\x7f\x66\x49\xd3\x12\x81\xdb\x63\
 ee";
 
-const OF_EQUAL_FILES: Row = (
+pub(crate) const OF_EQUAL_FILES: Row = (
     (Kind::V2, false, 16384, "f"),
     "a=#40000 b=#40000",
     EQUAL_FILES,

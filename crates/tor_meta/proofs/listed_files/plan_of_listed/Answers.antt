@@ -1,5 +1,6 @@
 -- the entries can be planned, and their plan is the torrent's
-use Rattle.std.proofs.Common.{◌<◌, ◌*◌, ◌∙◌, arith, mul-pos}
+use Rattle.std.proofs.Common.{◌<◌, ◌*◌, ◌∙◌, ap, arith, mul-pos}
+use Rattle.tor_plan.specs.PlanFacts.{plan_of_entries}
 use Rattle.tor_meta.specs.Head.{settings_of}
 use Rattle.tor_meta.specs.Order.{has_tail}
 use Rattle.tor_meta.proofs.SourceSums.{can_plan, plan_is}
@@ -16,8 +17,8 @@ of_entries-requires-clause-entries c =
     can_plan head list c.deref.result.now judged (c.deref.ensures.value ∙ c.in_ok-entries.ensures.made)
     (c.files_are_cut_as_entries.ensures.listed head.kind (has_tail (settings_of head)) p list judged.is_list pieces)
 
-pub returns : goal.returns
-returns c =
+pub returns-clause-is : goal.returns-clause-is
+returns-clause-is c =
     let head = c.args.head.now in
     let list = c.args.list.now.files in
     let p = head.piece_length in
@@ -33,3 +34,10 @@ returns c =
     (c.files_are_cut_as_entries.ensures.lengths head.kind (has_tail (settings_of head)) p list)
     (λ contents fit. c.entry_units_are_the_content.ensures head.kind p span entries contents some is_list.laid_out fit)
     c.in_ok-plan.ensures
+
+pub returns-clause-same : goal.returns-clause-same
+returns-clause-same c =
+    let head = c.args.head.now in
+    c.in_ok-plan.ensures
+    ∙ ap (plan_of_entries head.kind head.piece_length c.args.span)
+    (c.deref.ensures.value ∙ c.in_ok-entries.ensures.made)

@@ -11,7 +11,7 @@ use Rattle.tor_meta.proofs.listed_files.sums_of_listed.Goals as goal
 
 pub returns-in-Err-clause-steady : goal.returns-in-Err-clause-steady
 returns-in-Err-clause-steady g c = λ facts steady none.
-    let lengths = c.in_ok-plan.ensures.lengths in
+    let lengths = c.in_ok-plan.ensures.is.lengths in
     elim (c.in-Err.ensures.summed facts steady (ap (first_length_fault facts) lengths ∙ none)) [
       | inl memory ↦ inl memory
       | inr fault ↦ inr (sym (ap (first_byte_fault facts) lengths) ∙ fault)
@@ -21,7 +21,7 @@ pub returns-clause-whole : goal.returns-clause-whole
 returns-clause-whole g c =
     let whole = c.in-Ok.ensures.whole in
     let both = from_plan c.args.head.now c.args.list.now.files c.in-Ok.sums c.in_ok-plan.plan whole.0
-    c.in_ok-plan.ensures
+    c.in_ok-plan.ensures.is
     whole.1 whole.2 in
     (whole.0, both.0, both.1)
 
@@ -30,7 +30,7 @@ returns-clause-steady g c = λ facts steady none.
     let head = c.args.head.now in
     let list = c.args.list.now.files in
     let plan = c.in_ok-plan.plan in
-    let is = c.in_ok-plan.ensures in
+    let is = c.in_ok-plan.ensures.is in
     let whole = c.in-Ok.ensures.whole in
     let told = c.in-Ok.ensures.summed facts steady (ap (first_length_fault facts) is.lengths ∙ none) in
     let fit = sym told.0.lengths ∙ whole.2.lengths ∙ whole.1 in
@@ -45,4 +45,4 @@ returns-in-Err-clause-gave g c =
     let source = c.args.source.now in
     subst (λ (lengths : List ℕ).
     IsGivenNotMissing (g.S.Source.gave source) (g.S.Source.told source) (g.S.Source.ended source) lengths
-    c.in-Err.error) c.in_ok-plan.ensures.lengths c.in-Err.ensures.gave
+    c.in-Err.error) c.in_ok-plan.ensures.is.lengths c.in-Err.ensures.gave

@@ -1,0 +1,16 @@
+-- A list of files of which no torrent is refused for the head or the paths.
+use Rattle.std.specs.Prelude.{◌≡◌, ◌≤◌, ℕ, true, false, All, List, length}
+use Rattle.tor_merkle.specs.Layer.{IsPieceLength}
+use Rattle.tor_meta.specs.Head.{settings_of}
+use Rattle.tor_meta.specs.declared.head.Head.{Head}
+use Rattle.tor_spec.specs.Settings.{layout_of}
+use Rattle.tor_tree.specs.FileList.{IsFileList}
+use Rattle.tor_tree.specs.declared.paths.TheConstants.{MAX_NAMES}
+use Rattle.tor_v1.specs.Reserved.{takes_reserved}
+
+pub record IsJudged (head : Head) (files : List (List (List ℕ) × ℕ)) : Type 0 where
+  pub is_list : IsFileList files
+  pub piece_length : IsPieceLength head.piece_length
+  pub short : All (λ file. length file.0 ≤ MAX_NAMES) files
+  pub one : head.single ≡ true → length files ≡ 1
+  pub free : takes_reserved (layout_of (settings_of head)) files ≡ false
