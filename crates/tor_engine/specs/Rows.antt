@@ -13,7 +13,7 @@ use Rattle.tor_engine.specs.UnitNodes.{Node, bytes_of_part, level_of, nodes_of_u
 abbrev pub units_between : ℕ → ℕ → List PlanUnit → List PlanUnit
 units_between from to units = take (to - from) (drop from units)
 
--- the layer, or the hash alone where there is none
+-- the layer, or the hash alone if there is none
 abbrev pub or_alone : List ℕ → List (List ℕ) → List (List ℕ)
 or_alone hash [] = hash ∷ []
 or_alone hash (first ∷ layer) = first ∷ layer

@@ -44,7 +44,7 @@ pub fn rows_go_by_bytes()
         IsRowOf plan contents (units_between from to plan.units) hashes pieces }
 {}
 
-/// Where the units of a plan are dealt in so many runs, one after another, and the hashes of each run are those of some
+/// If the units of a plan are dealt in so many runs, one after another, and the hashes of each run are those of some
 /// contents, all are those of the same contents, which have at each run the bytes of the run's own.
 pub fn shares_have_contents()
     ensures { (plan : PlanFacts) → IsPlan plan → (runs : ℕ) (units : ℕ → List PlanUnit)

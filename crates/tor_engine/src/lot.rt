@@ -35,9 +35,9 @@ pub struct PieceRow {
 }
 
 /// What the pieces hash to of the units from the number `from` on, and before the number `to`: file i of the plan is
-/// file i of the source, and has at least the bytes that these units want of it. No length is asked, and what other
-/// files have is no matter: a file that ends before the last byte that is wanted of it is answered as changed. The
-/// first fault in the order of these units is answered, whatever the `How`.
+/// file i of the source. If the source has at these units the bytes of contents of the plan's lengths, whatever it has
+/// elsewhere, the row is that of these contents, or the first fault in the order of these units is answered, whatever
+/// the `How`. No length is asked. A file that ends before the last byte that is wanted of it is answered as changed.
 pub fn hash_lot<S: Source, R: Threads + Sync>(
     rt: &R,
     alloc: Global,
@@ -69,7 +69,7 @@ pub fn hash_lot<S: Source, R: Threads + Sync>(
         plan,
         units,
     };
-    // A tree may have units elsewhere.
+    // No root is asked for: a file's tree may have units in other lots.
     let no_trees = Forest {
         trees: Vec::new(alloc),
     };

@@ -1,4 +1,6 @@
--- A list of files of which no torrent is refused for the head or the paths.
+-- A list of files that a torrent with a head can be written of: in order, in pieces of a length that is allowed, with
+-- paths of at most 64 names, one file if the head is single, and no name of padding if padding stands between files. No
+-- list that a head does not refuse is another.
 use Rattle.std.specs.Prelude.{◌≡◌, ◌≤◌, ℕ, true, false, All, List, length}
 use Rattle.tor_merkle.specs.Layer.{IsPieceLength}
 use Rattle.tor_meta.specs.Head.{settings_of}

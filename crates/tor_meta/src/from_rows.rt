@@ -6,7 +6,7 @@ ghost use Rattle.tor_meta.specs.Hashes.{HasInfo};
 ghost use Rattle.tor_meta.specs.Head.{settings_of};
 ghost use Rattle.tor_meta.specs.Judged.{IsJudged};
 ghost use Rattle.tor_meta.specs.Rows.{AreFactsOfRows, plan_of_head};
-ghost use Rattle.tor_parts.specs.JoinedRows.{AreRowsOf, AreRowsOfSome, HasAllHashes, sums_of};
+ghost use Rattle.tor_parts.specs.JoinedRows.{AreContentsOfEach, AreRowsOf, AreRowsOfEach, HasAllPieces, sums_of};
 ghost use Rattle.tor_plan.specs.PlanFacts.{IsSpan};
 ghost use Rattle.tor_spec.specs.Facts.{Facts};
 ghost use Rattle.tor_spec.specs.Metainfo.{metainfo, root_dictionary};
@@ -37,9 +37,8 @@ pub fn plan_of_list(
 
 /// The bytes of the torrent of a list of files, from the hashes of the lots of its plan ([`plan_of_list`]), in the
 /// order of their numbers. Whatever the hashes are, it is that with these hashes as layers, the roots over them, and
-/// these SHA-1. If each lot was hashed of files that have there the bytes of the same contents, it is the torrent of
-/// the contents. Of whatever files the lots were hashed, it is that of contents that have at each lot what was read
-/// for it.
+/// these SHA-1. If the rows are those of the same contents at all lots, it is the torrent of the contents. If each lot
+/// was hashed of files of its own, it is that of contents that have at each lot the bytes that these files have there.
 pub fn torrent_of_rows(
     alloc: Global,
     list: &FileList,
@@ -50,14 +49,16 @@ pub fn torrent_of_rows(
     requires judged { IsJudged head.now list.now.files }
     requires span { IsSpan span }
     requires some { 0 < length rows.now }
-    requires counted { HasAllHashes (plan_of_head head.now span list.now.files) rows.now }
+    requires counted { HasAllPieces (plan_of_head head.now span list.now.files) rows.now }
     ensures made { (contents : List (List ℕ)) → map length contents ≡ lengths_of list.now.files →
         AreRowsOf (plan_of_head head.now span list.now.files) contents rows.now →
         IfOk result (λ bytes. bytes.items ≡ metainfo (settings_of head.now) (files_of list.now contents)) }
     ensures any { (facts : List Facts) → AreFactsOfRows head.now list.now rows.now facts → IfOk result (λ bytes.
         bytes.items ≡ spelling (root_dictionary (settings_of head.now) facts (sums_of rows.now))) }
-    ensures whole { AreRowsOfSome (plan_of_head head.now span list.now.files) rows.now →
-        IfOk result (λ bytes. (contents : List (List ℕ)) × (map length contents ≡ lengths_of list.now.files)
+    ensures whole { (others : ℕ → List (List ℕ)) →
+        AreRowsOfEach (plan_of_head head.now span list.now.files) others rows.now →
+        IfOk result (λ bytes. (contents : List (List ℕ))
+        × AreContentsOfEach (plan_of_head head.now span list.now.files) others (length rows.now) contents
         × (bytes.items ≡ metainfo (settings_of head.now) (files_of list.now contents))) }
     ensures info { IfOk result (λ bytes. HasInfo bytes.items) }
 {

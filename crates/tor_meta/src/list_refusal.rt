@@ -15,7 +15,7 @@ use tor_merkle::is_piece_length;
 use tor_tree::{FileList, FilePath, MAX_NAMES};
 use tor_v1::is_reserved;
 
-/// Why no torrent is made of a list of files with this head, none if one is.
+/// The first reason why a list of files makes no torrent with this head; None if it makes one.
 #[tactic(auto, using(crate::proofs::JudgedFiles::no_fault))]
 pub fn refusal_of_list(head: &Head, list: &FileList) -> Option<ContentsError>
     ensures refused { result ≡ paths_refusal (settings_of head.now) (paths_of list.now.files) }
@@ -51,7 +51,7 @@ fn any_long_file(files: &[(FilePath, u64)]) -> bool
     files.iter().any(|file| file.0.names().len() > MAX_NAMES)
 }
 
-/// Whether a single file is asked for, and there are others than the torrent's name.
+/// Whether a single file is asked for, and the list is not the file of the torrent's name alone.
 fn is_other_shape(head: &Head, files: &[(FilePath, u64)]) -> bool
     ensures { result ≡ (head.now.single && not (is_only head.now.name (paths_of files.now))) }
 {

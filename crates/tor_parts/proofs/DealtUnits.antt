@@ -1,5 +1,5 @@
 -- The lots have all units, and about as many bytes.
-use Rattle.std.proofs.Common.{◌≡◌, ◌≤◌, ◌<◌, ℕ, zero, suc, ◌+◌, ◌-◌, ◌*◌, ◌/◌, ◌%◌, min, List, [], ◌∷◌, ◌++◌}
+use Rattle.std.proofs.Common.{◌↔◌, ◌≡◌, ◌≤◌, ◌<◌, ℕ, zero, suc, ◌+◌, ◌-◌, ◌*◌, ◌/◌, ◌%◌, min, List, [], ◌∷◌, ◌++◌}
 use Rattle.std.proofs.Common.{append-nil}
 use Rattle.std.proofs.Common.{append_assoc, cond, drop, take, length, get_or, refl, ap, sym, ◌∙◌, arith, inl, inr}
 use Rattle.std.proofs.Common.{mul-le-mul_right}
@@ -53,6 +53,43 @@ past_before b at (unit ∷ units) past = rw (le-ltb at b past) refl
 pub all_before : (b at i : ℕ) (units : List PlanUnit) → length units ≤ i → units_before b at (drop i units) ≡ 0
 unfolding units_before
 all_before b at i units past = rw (drop_all i units past) refl
+
+-- a unit is among those that begin before a byte exactly if it does
+is_before : (b at k : ℕ) (units : List PlanUnit) → k < units_before b at units → at + bytes_of (take k units) < b
+unfolding units_before
+is_before b at k [] less = absurd (omega (arith, less))
+is_before b at zero (unit ∷ units) less = elim (cases_lt at b) [
+  | inl below ↦ omega (arith, below)
+  | inr past ↦ absurd (omega (arith, less, past_before b at (unit ∷ units) past))
+]
+is_before b at (suc k) (unit ∷ units) less = elim (cases_lt at b) [
+  | inl below ↦
+      let count : units_before b at (unit ∷ units) ≡ suc (units_before b (at + unit_length unit) units) =
+      rw (lt-ltb at b below) refl in
+      let next = is_before b (at + unit_length unit) k units (omega (arith, less, count)) in
+      omega (arith, next, sum_by-cons unit_length unit (take k units))
+  | inr past ↦ absurd (omega (arith, less, past_before b at (unit ∷ units) past))
+]
+
+is_past : (b at k : ℕ) (units : List PlanUnit) → k < length units → units_before b at units ≤ k
+    → b ≤ at + bytes_of (take k units)
+unfolding units_before
+is_past b at k [] there most = absurd (omega (arith, there))
+is_past b at zero (unit ∷ units) there most = elim (cases_lt at b) [
+  | inl below ↦
+      let count : units_before b at (unit ∷ units) ≡ suc (units_before b (at + unit_length unit) units) =
+      rw (lt-ltb at b below) refl in
+      absurd (omega (arith, most, count))
+  | inr past ↦ omega (arith, past)
+]
+is_past b at (suc k) (unit ∷ units) there most = elim (cases_lt at b) [
+  | inl below ↦
+      let count : units_before b at (unit ∷ units) ≡ suc (units_before b (at + unit_length unit) units) =
+      rw (lt-ltb at b below) refl in
+      let next = is_past b (at + unit_length unit) k units (omega (arith, there)) (omega (arith, most, count)) in
+      omega (arith, next, sum_by-cons unit_length unit (take k units))
+  | inr past ↦ omega (arith, past)
+]
 
 -- they have no more bytes than so many of the longest
 pub few_bytes : (size : ℕ) (units : List PlanUnit) → AllByRecursion (λ unit. unit_length unit ≤ size) units
@@ -192,6 +229,18 @@ ends lots lot size units below small = elim (cases_lt (lot + 1) lots) [
       ap bytes_of (take_all (length units) units (omega arith)) in
       rw (le-ltb (lot + 1) lots last) (omega (arith, all, whole))
 ]
+
+pub by_bytes : (lots lot unit : ℕ) (units : List PlanUnit) → lot < lots → unit < length units
+    → (first_unit lots lot units ≤ unit) ↔ (first_byte (bytes_of units) lots lot ≤ bytes_of (take unit units))
+by_bytes lots lot unit units below there =
+    let b = first_byte (bytes_of units) lots lot in
+    let count : first_unit lots lot units ≡ units_before b 0 units = rw (lt-ltb lot lots below) refl in (
+      (λ from. omega (arith, is_past b 0 unit units there (omega (arith, from, count)))),
+      (λ from. elim (cases_lt unit (units_before b 0 units)) [
+        | inl less ↦ absurd (omega (arith, from, is_before b 0 unit units less))
+        | inr most ↦ omega (arith, most, count)
+      ]),
+    )
 
 pub balanced : (lots lot size : ℕ) (units : List PlanUnit) → lot < lots
     → All (λ unit. unit_length unit ≤ size) units

@@ -1,6 +1,6 @@
 -- The hashes that joined bytes are, 32 bytes each.
-use Rattle.std.proofs.Common.{◌≡◌, ◌≤◌, ℕ, zero, suc, ◌*◌, ◌/◌, List, [], ◌∷◌, ◌++◌, length, take, drop, refl}
-use Rattle.std.proofs.Common.{ap, ap₂}
+use Rattle.std.proofs.Common.{◌≡◌, ◌≤◌, ◌<◌, get_or, ℕ, zero, suc, ◌*◌, ◌/◌, List, [], ◌∷◌, ◌++◌, length, take, drop}
+use Rattle.std.proofs.Common.{refl, ap, ap₂}
 use Rattle.std.proofs.Common.{sym, ◌∙◌, arith}
 use Rattle.std.proofs.Math.Seq.{drop-append_seam, take-append_seam}
 use Rattle.std.proofs.lemmas.List.{length-append, length-drop, length-take-le}
@@ -35,3 +35,9 @@ pub chunks_joined : (bytes : List ℕ) (hashes : List (List ℕ)) → AllByRecur
 chunks_joined bytes hashes are same =
     let count : length bytes / 32 ≡ length hashes = omega (arith, ap length same, long_joined hashes are) in
     ap₂ (λ n bs. first_chunks 32 n bs) count same ∙ chunks_of hashes are
+
+pub all_more : (xs : List (List ℕ)) (i : ℕ) (d : List ℕ) → i < length xs → AllByRecursion Is32 (take i xs)
+    → Is32 (get_or xs i d) → AllByRecursion Is32 (take (suc i) xs)
+all_more [] i d there all is = absurd (omega (arith, there))
+all_more (x ∷ xs) zero d there all is = (is, tt)
+all_more (x ∷ xs) (suc i) d there all is = (all.0, all_more xs i d (omega (arith, there)) all.1 is)

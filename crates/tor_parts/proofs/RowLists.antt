@@ -1,8 +1,7 @@
 -- Rows in a list, and rows by their numbers.
-use Rattle.std.proofs.Common.{◌≡◌, ◌<◌, ◌≤◌, ℕ, zero, suc, ◌+◌, List, [], ◌∷◌, ◌++◌, drop, get_or, length, map}
+use Rattle.std.proofs.Common.{◌≡◌, ◌<◌, ℕ, zero, suc, ◌+◌, List, [], ◌∷◌, ◌++◌, drop, get_or, length}
 use Rattle.std.proofs.Common.{ap}
-use Rattle.std.proofs.Common.{◌⊎◌, inl, inr, subst, sym, ◌∙◌, arith}
-use Rattle.std.proofs.lemmas.Bool.{cases_lt}
+use Rattle.std.proofs.Common.{subst, sym, ◌∙◌, arith}
 use Rattle.std.proofs.lemmas.List.{drop_all, drop_more}
 use Rattle.std.specs.List.{flat_map, range_with_len}
 use Rattle.tor_engine.specs.Rows.{IsRowOf}
@@ -10,7 +9,7 @@ use Rattle.tor_engine.specs.declared.lot.PieceRow.{PieceRow}
 use Rattle.tor_engine.proofs.ProvedLaws.{shares_have_contents}
 use Rattle.tor_plan.specs.PlanFacts.{IsPlan, PlanFacts}
 use Rattle.tor_parts.specs.Dealing.{dealt}
-use Rattle.tor_parts.specs.JoinedRows.{AreRowsOf, AreRowsOfSome, hashes_of, sums_of}
+use Rattle.tor_parts.specs.JoinedRows.{AreContentsOfEach, AreRowsOf, AreRowsOfEach, hashes_of, sums_of}
 use Rattle.tor_parts.proofs.DealtUnits.{all_dealt}
 use Rattle.tor_parts.proofs.LotsJoined.{joined}
 
@@ -49,25 +48,15 @@ module _ (plan : PlanFacts) (rows : List PieceRow) (d : PieceRow) (some : 0 < le
 
   -- ---- contents for each lot
 
-  abbrev pick : AreRowsOfSome plan rows → (k : ℕ) → (k < length rows) ⊎ (length rows ≤ k) → List (List ℕ)
-  pick are k (inl below) = (are k d below).0
-  pick are k (inr past) = (are 0 d some).0
-
-  picked : (are : AreRowsOfSome plan rows) (k : ℕ) (s : (k < length rows) ⊎ (length rows ≤ k)) → k < length rows
-      → (map length (pick are k s) ≡ plan.lengths)
-      × IsRowOf plan (pick are k s) (dealt (length rows) k plan.units) (hashes_at k) (pieces_at k)
-  picked are k (inl there) below = ((are k d there).1, (are k d there).2)
-  picked are k (inr past) below = absurd (omega (arith, below, past))
-
-  pub rows_have : IsPlan plan → AreRowsOfSome plan rows
-      → (contents : List (List ℕ)) × (map length contents ≡ plan.lengths)
+  pub rows_have : IsPlan plan → (others : ℕ → List (List ℕ)) → AreRowsOfEach plan others rows
+      → (contents : List (List ℕ)) × AreContentsOfEach plan others (length rows) contents
       × IsRowOf plan contents plan.units (hashes_of rows) (sums_of rows)
-  rows_have is are =
+  rows_have is others are =
       let n = length rows in
-      let there = shares_have_contents plan is n (λ k. dealt n k plan.units) (λ k. pick are k (cases_lt k n)) hashes_at
-      pieces_at (all_dealt n plan.units some) (λ k below. picked are k (cases_lt k n) below) in (
+      let there = shares_have_contents plan is n (λ k. dealt n k plan.units) others hashes_at pieces_at
+      (all_dealt n plan.units some) (λ k below. are k d below) in (
         there.0,
-        there.1,
+        record { fit = there.1; same = λ lot below. (there.2 lot below).0 },
         as_list there.0 (joined plan there.0 n hashes_at pieces_at some (λ lot below. (there.2 lot below).1)),
       )
 
@@ -77,8 +66,9 @@ pub are_rows : (plan : PlanFacts) (rows : List PieceRow) → 0 < length rows →
 are_rows plan [] some contents are = absurd (omega (arith, some))
 are_rows plan (row ∷ rows) some contents are = rows_are plan (row ∷ rows) row some contents are
 
-pub have_rows : (plan : PlanFacts) → IsPlan plan → (rows : List PieceRow) → 0 < length rows → AreRowsOfSome plan rows
-    → (contents : List (List ℕ)) × (map length contents ≡ plan.lengths)
+pub have_rows : (plan : PlanFacts) → IsPlan plan → (rows : List PieceRow) → 0 < length rows
+    → (others : ℕ → List (List ℕ)) → AreRowsOfEach plan others rows
+    → (contents : List (List ℕ)) × AreContentsOfEach plan others (length rows) contents
     × IsRowOf plan contents plan.units (hashes_of rows) (sums_of rows)
-have_rows plan is [] some are = absurd (omega (arith, some))
-have_rows plan is (row ∷ rows) some are = rows_have plan (row ∷ rows) row some is are
+have_rows plan is [] some others are = absurd (omega (arith, some))
+have_rows plan is (row ∷ rows) some others are = rows_have plan (row ∷ rows) row some is others are

@@ -1,5 +1,5 @@
--- How the units of a plan are dealt to so many lots: each lot has the units that begin among its bytes, of which all
--- lots have as many, the first ones perhaps one more. Lots are counted from 0.
+-- How the units of a plan are dealt to so many lots: each lot has the units that begin among its bytes. All lots have
+-- equally many bytes, the first ones perhaps one more. Lots are counted from 0.
 use Rattle.std.specs.Prelude.{ℕ, suc, ◌+◌, ◌-◌, ◌*◌, ◌/◌, ◌%◌, min, nat_lt, List, [], ◌∷◌, drop, length, sum_by, take}
 use Rattle.std.specs.Prelude.{if◌then◌else◌}
 use Rattle.tor_plan.specs.WithinEntries.{unit_length}
@@ -19,7 +19,7 @@ units_before byte at [] = 0
 units_before byte at (unit ∷ units) =
     if nat_lt at byte then suc (units_before byte (at + unit_length unit) units) else 0
 
--- the number of the first unit of a lot; of all units, past the last lot
+-- the number of the first unit of a lot; how many units there are, past the last lot
 abbrev pub first_unit : ℕ → ℕ → List PlanUnit → ℕ
 first_unit lots lot units =
     if nat_lt lot lots then units_before (first_byte (bytes_of units) lots lot) 0 units else length units

@@ -1,13 +1,17 @@
 -- The hashes of all lots of a plan, one lot after another.
-use Rattle.std.specs.Prelude.{◌≡◌, ℕ, ◌<◌, true, List, length, map}
+use Rattle.std.specs.Prelude.{◌≡◌, ℕ, ◌<◌, ◌*◌, List, length, map}
+use Rattle.std.specs.Prelude.{if◌then◌else◌}
+use Rattle.std.specs.Int.{div_ceil}
 use Rattle.std.specs.List.{flat_map}
 use Rattle.std.specs.Prelude.{slice_index_or}
-use Rattle.tor_engine.specs.Rows.{IsRowOf}
+use Rattle.tor_engine.specs.Rows.{AreSameAt, IsRowOf}
+use Rattle.tor_engine.specs.Sums.{AreSumsOfPlan}
 use Rattle.tor_engine.specs.declared.lot.PieceRow.{PieceRow}
+use Rattle.tor_engine.specs.declared.sums.Sums.{Sums}
 use Rattle.tor_plan.specs.PlanFacts.{PlanFacts}
-use Rattle.tor_parts.specs.Dealing.{dealt}
+use Rattle.tor_parts.specs.Dealing.{bytes_of, dealt}
 use Rattle.tor_parts.specs.Joining.{pieces_of_lengths}
-use Rattle.tor_tree.specs.Kinds.{has_v2}
+use Rattle.tor_tree.specs.Kinds.{has_v1, has_v2}
 
 abbrev pub hashes_of : List PieceRow → List (List ℕ)
 hashes_of rows = flat_map (λ row. row.hashes.items) rows
@@ -15,10 +19,13 @@ hashes_of rows = flat_map (λ row. row.hashes.items) rows
 abbrev pub sums_of : List PieceRow → List ℕ
 sums_of rows = flat_map (λ row. row.pieces.items) rows
 
--- there are as many hashes as the files have pieces, each file by itself, if the kind has such hashes
-abbrev pub HasAllHashes : PlanFacts → List PieceRow → Type 0
-HasAllHashes plan rows =
-    has_v2 plan.kind ≡ true → length (hashes_of rows) ≡ pieces_of_lengths plan.piece_length plan.lengths
+-- in all there are as many Merkle hashes as the files have pieces, each file by itself, and 20 bytes of SHA-1 for each
+-- piece of the whole content; none of either if the kind has none (BEP 52, "piece layers"; BEP 3, `pieces`)
+pub record HasAllPieces (plan : PlanFacts) (rows : List PieceRow) : Type 0 where
+  pub hashes : length (hashes_of rows)
+      ≡ (if has_v2 plan.kind then pieces_of_lengths plan.piece_length plan.lengths else 0)
+  pub sums : length (sums_of rows)
+      ≡ (if has_v1 plan.kind then div_ceil (bytes_of plan.units) plan.piece_length * 20 else 0)
 
 -- each is the row of its lot, if the files have these contents
 abbrev pub AreRowsOf : PlanFacts → List (List ℕ) → List PieceRow → Type 0
@@ -27,10 +34,20 @@ AreRowsOf plan contents rows =
     → IsRowOf plan contents (dealt (length rows) lot plan.units) (slice_index_or rows lot d).hashes.items
     (slice_index_or rows lot d).pieces.items
 
--- each is the row of its lot in some contents of its own
-abbrev pub AreRowsOfSome : PlanFacts → List PieceRow → Type 0
-AreRowsOfSome plan rows =
-    (lot : ℕ) (d : PieceRow) → lot < length rows
-    → (contents : List (List ℕ)) × (map length contents ≡ plan.lengths)
-    × IsRowOf plan contents (dealt (length rows) lot plan.units) (slice_index_or rows lot d).hashes.items
+-- each is the row of its lot, if the files have at this lot contents of its own
+abbrev pub AreRowsOfEach : PlanFacts → (ℕ → List (List ℕ)) → List PieceRow → Type 0
+AreRowsOfEach plan others rows =
+    (lot : ℕ) (d : PieceRow) → lot < length rows → (map length (others lot) ≡ plan.lengths)
+    × IsRowOf plan (others lot) (dealt (length rows) lot plan.units) (slice_index_or rows lot d).hashes.items
     (slice_index_or rows lot d).pieces.items
+
+-- contents that have at each of so many lots the bytes of the lot's own
+pub record AreContentsOfEach (plan : PlanFacts) (others : ℕ → List (List ℕ)) (lots : ℕ)
+    (contents : List (List ℕ)) : Type 0 where
+  pub fit : map length contents ≡ plan.lengths
+  pub same : (lot : ℕ) → lot < lots → AreSameAt contents (others lot) (dealt lots lot plan.units)
+
+-- the sums are those of such contents
+abbrev pub AreSumsOfEach : PlanFacts → (ℕ → List (List ℕ)) → ℕ → Sums → Type 0
+AreSumsOfEach plan others lots sums =
+    (contents : List (List ℕ)) × AreContentsOfEach plan others lots contents × AreSumsOfPlan plan contents sums

@@ -1,5 +1,5 @@
 -- What was hashed of a lot, as bytes: one dictionary (BEP 3, "bencoding").
-use Rattle.std.specs.Prelude.{◌≡◌, ◌<◌, ◌≤◌, ℕ, pos, List, codes, length}
+use Rattle.std.specs.Prelude.{◌≡◌, ◌<◌, ◌≤◌, ◌%◌, ℕ, pos, List, codes, length}
 use Rattle.std.specs.List.{AllByRecursion, flat_map}
 use Rattle.tor_bencode.specs.Data.{Data, dictionary, integer, string, pair, no_pairs}
 use Rattle.tor_bencode.specs.Spelling.{spelling}
@@ -27,10 +27,11 @@ facts_of lot = record {
 abbrev pub Is32 : List ℕ → Type 0
 Is32 hash = length hash ≡ 32
 
--- there are as many lots as there may be, and it is one of them
+-- it is one of at most MAX_LOTS lots, and has hashes and SHA-1s of their lengths
 pub record IsLot (facts : LotFacts) : Type 0 where
   pub number : facts.number < facts.lots
   pub lots : facts.lots ≤ MAX_LOTS
+  pub pieces : length facts.pieces % 20 ≡ 0
   pub plan : Is32 facts.plan
   pub hashes : AllByRecursion Is32 facts.hashes
 

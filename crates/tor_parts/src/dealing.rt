@@ -24,7 +24,7 @@ pub fn deal(plan: &Plan, lots: u32, lot: u32) -> (usize, usize)
 }
 
 /// All bytes of units, those of padding among them.
-fn total_of(units: &[PlanUnit]) -> u128
+pub(crate) fn total_of(units: &[PlanUnit]) -> u128
     requires small { All (λ unit. unit_length unit ≤ 2 ^ 40) units.now }
     requires few { length units.now ≤ 2 ^ 62 }
     ensures { result ≡ bytes_of units.now }
@@ -36,7 +36,7 @@ fn total_of(units: &[PlanUnit]) -> u128
     total
 }
 
-/// The number of the first unit of a lot; that of all units, past the last lot.
+/// The number of the first unit of a lot; how many units there are, past the last lot.
 fn first_unit(units: &[PlanUnit], total: u128, lots: u32, lot: u64) -> usize
     requires some { 0 < lots }
     requires small { All (λ unit. unit_length unit ≤ 2 ^ 40) units.now }

@@ -18,8 +18,8 @@ use tor_plan::Plan;
 use tor_tree::Kind;
 
 /// What the files of a plan sum up to, from the hashes of all their pieces, one piece after another, and from the
-/// joined SHA-1 of the pieces. Whatever the hashes are, the layers are these, and the roots those over them; a V1 has
-/// neither.
+/// joined SHA-1 of the pieces. Whatever the hashes are, a file of several pieces has its own as its layer, and the root
+/// over them; a file of one piece has its hash as its root, and no layer; a V1 has neither.
 pub fn join_sums(
     alloc: Global,
     plan: &Plan,

@@ -1,8 +1,8 @@
 //! Laws over the definitions, and the limit of lots.
-ghost use Rattle.std.specs.Prelude.{◌≡◌, ◌<◌, ◌≤◌, ◌+◌, ◌/◌, ℕ, All, List};
+ghost use Rattle.std.specs.Prelude.{◌≡◌, ◌↔◌, ◌<◌, ◌≤◌, ◌+◌, ◌/◌, ℕ, All, List, length, take};
 ghost use Rattle.std.specs.List.{flat_map, range_with_len};
 ghost use Rattle.tor_engine.specs.Rows.{IsRowOf};
-ghost use Rattle.tor_parts.specs.Dealing.{bytes_of, dealt};
+ghost use Rattle.tor_parts.specs.Dealing.{bytes_of, dealt, first_byte, first_unit};
 ghost use Rattle.tor_parts.specs.declared.lot_text.TheConstants.{MAX_LOTS};
 ghost use Rattle.tor_plan.specs.PlanFacts.{PlanFacts};
 ghost use Rattle.tor_plan.specs.WithinEntries.{unit_length};
@@ -14,15 +14,21 @@ pub fn dealt_units_are_all()
         flat_map (λ lot. dealt lots lot units) (range_with_len 0 lots) ≡ units }
 {}
 
-/// A lot has at most one byte more than its share, and one unit more.
+/// A unit stands in a lot or after it exactly if it begins at the lot's first byte or after that.
+pub fn units_are_dealt_by_bytes()
+    ensures { (lots lot unit : ℕ) (units : List PlanUnit) → lot < lots → unit < length units →
+        (first_unit lots lot units ≤ unit) ↔ (first_byte (bytes_of units) lots lot ≤ bytes_of (take unit units)) }
+{}
+
+/// A lot has at most an equal share of all bytes, rounded down, one byte and one unit more.
 pub fn lots_are_balanced()
     ensures { (lots lot size : ℕ) (units : List PlanUnit) → lot < lots →
         All (λ unit. unit_length unit ≤ size) units →
         bytes_of (dealt lots lot units) ≤ bytes_of units / lots + 1 + size }
 {}
 
-/// The hashes of the lots, one lot after another, are those of all units: wherever each was hashed, its units have the
-/// bytes of these contents.
+/// The hashes of the lots, one lot after another, are those of all units, if each lot's are those of these contents at
+/// its units.
 pub fn rows_are_joined()
     ensures { (plan : PlanFacts) (contents : List (List ℕ)) (lots : ℕ) (hashes : ℕ → List (List ℕ))
         (pieces : ℕ → List ℕ) → 0 < lots →

@@ -3,18 +3,21 @@
 //!
 //! ```rust
 //! use tor_engine::How;
-//! use tor_parts::{hash_dealt, join_rows};
+//! use tor_parts::{has_all_pieces, hash_dealt, join_rows};
 //!
 //! // Each machine hashes the lot of its number.
 //! let row = hash_dealt(&rt, rt.alloc(), &source, &plan, 3, 0, How::Board(4))?;
 //! // One machine joins the rows of all lots, in the order of their numbers.
-//! let sums = join_rows(rt.alloc(), &plan, &[row, second, third])?;
+//! let rows = [row, second, third];
+//! if has_all_pieces(&plan, &rows) {
+//!     let sums = join_rows(rt.alloc(), &plan, &rows)?;
+//! }
 //! ```
 //!
 //! - [`deal`] (`dealing.rt`): the units of each of so many lots. [`hash_dealt`] (`hashing.rt`) hashes those of one.
 //! - [`Lot`], [`write_lot`], [`read_lot`] (`lot_text.rt`): what one machine hashed, as bytes.
 //! - [`join_sums`] (`joining.rt`): the sums of the files, from the hashes of all pieces; [`join_rows`] (`rows.rt`):
-//!   from those of each lot. [`has_all_hashes`] (`counting.rt`): whether each piece has one.
+//!   from those of each lot. [`has_all_pieces`] (`counting.rt`): whether rows have as many as all pieces want.
 //! - [`laws`] (`laws.rt`): the lots have each unit once and about as many bytes, and their hashes are those of all
 //!   pieces; how many lots there may be.
 #![tactic(auto)]
@@ -27,7 +30,7 @@ pub mod laws;
 mod lot_text;
 mod rows;
 
-pub use counting::has_all_hashes;
+pub use counting::has_all_pieces;
 pub use dealing::deal;
 pub use hashing::hash_dealt;
 pub use joining::join_sums;

@@ -35,7 +35,8 @@ pub struct Lot {
 /// each, its number as `part` and how many there are as `parts`, the SHA-1 of its pieces as `pieces`, 20 bytes each,
 /// and the digest of its `plan`.
 pub fn write_lot(alloc: Global, lot: &Lot) -> Result<Vec<u8>, AllocError>
-    ensures { IfOk result (λ bytes. bytes.items ≡ lot_bytes (facts_of lot.now)) }
+    ensures written { IfOk result (λ bytes. bytes.items ≡ lot_bytes (facts_of lot.now)) }
+    ensures hashes { IfOk result (λ _. Is32 lot.now.plan × AllByRecursion Is32 lot.now.row.hashes.items) }
 {
     let tree = tree_of(alloc, lot)?;
     match encode(alloc, &tree) {
@@ -45,9 +46,10 @@ pub fn write_lot(alloc: Global, lot: &Lot) -> Result<Vec<u8>, AllocError>
     }
 }
 
-/// Its tree.
+/// The tree of a lot.
 fn tree_of(alloc: Global, lot: &Lot) -> Result<Tree, AllocError>
-    ensures { IfOk result (λ tree. view tree ≡ lot_dictionary (facts_of lot.now)) }
+    ensures tree { IfOk result (λ tree. view tree ≡ lot_dictionary (facts_of lot.now)) }
+    ensures hashes { IfOk result (λ _. Is32 lot.now.plan × AllByRecursion Is32 lot.now.row.hashes.items) }
 {
     // So that the bounds of their types are known.
     let (_number, _lots) = (lot.number, lot.lots);
@@ -58,20 +60,33 @@ fn tree_of(alloc: Global, lot: &Lot) -> Result<Tree, AllocError>
     }
 }
 
-/// The same as an item.
+/// The dictionary of a lot.
 fn item_of(alloc: Global, lot: &Lot) -> Result<Item, AllocError>
-    ensures { IfOk result (λ item. view item ≡ lot_dictionary (facts_of lot.now)) }
+    ensures item { IfOk result (λ item. view item ≡ lot_dictionary (facts_of lot.now)) }
+    ensures hashes { IfOk result (λ _. Is32 lot.now.plan × AllByRecursion Is32 lot.now.row.hashes.items) }
 {
-    let hashes = lot.row.hashes.as_slice().as_flattened();
+    let hashes = joined(alloc, &lot.row.hashes)?;
     let pieces = lot.row.pieces.as_slice();
     let pairs = vec![in alloc;
-        (Vec::from_slice(alloc, b"hashes")?, text(alloc, hashes)?),
+        (Vec::from_slice(alloc, b"hashes")?, Item::Bytes(hashes)),
         (Vec::from_slice(alloc, b"part")?, number(lot.number)),
         (Vec::from_slice(alloc, b"parts")?, number(lot.lots)),
         (Vec::from_slice(alloc, b"pieces")?, text(alloc, pieces)?),
         (Vec::from_slice(alloc, b"plan")?, text(alloc, &lot.plan)?),
     ]?;
     Ok(Item::Dict(pairs))
+}
+
+/// Hashes one after another.
+fn joined(alloc: Global, hashes: &[Hash]) -> Result<Vec<u8>, AllocError>
+    ensures joined { IfOk result (λ bytes. bytes.items ≡ joined hashes.now) }
+    ensures each { IfOk result (λ _. AllByRecursion Is32 hashes.now) }
+{
+    let mut bytes = Vec::new(alloc);
+    'hashes: for hash in hashes {
+        bytes.extend_from_slice(hash)?;
+    }
+    Ok(bytes)
 }
 
 /// The number as an integer.
@@ -89,7 +104,7 @@ fn text(alloc: Global, bytes: &[u8]) -> Result<Item, AllocError>
 }
 
 /// The lot whose bytes these are, as [`write_lot`] gives them; None if they are those of no lot. The number of a lot is
-/// below how many there are, and these are at most [`MAX_LOTS`].
+/// below how many there are, these are at most [`MAX_LOTS`], and its hashes and SHA-1s have 32 and 20 bytes each.
 pub fn read_lot(alloc: Global, bytes: &[u8]) -> Result<Option<Lot>, AllocError>
     ensures read { (lot : Lot) → result ≡ Ok (Some lot) →
         (bytes.now ≡ lot_bytes (facts_of lot)) × IsLot (facts_of lot) }
@@ -112,7 +127,7 @@ pub fn read_lot(alloc: Global, bytes: &[u8]) -> Result<Option<Lot>, AllocError>
     }
 }
 
-/// The lot that the keys of a tree tell of; others may be there too.
+/// The lot that the keys of a tree tell of; other keys may be there too.
 fn lot_in(alloc: Global, root: &Item) -> Result<Option<Lot>, AllocError>
     ensures is { IfOk result (λ lot. IfSome lot (λ lot. IsLot (facts_of lot))) }
     ensures all { (facts : LotFacts) → IsLot facts → view root.now ≡ lot_dictionary facts →
@@ -128,6 +143,9 @@ fn lot_in(alloc: Global, root: &Item) -> Result<Option<Lot>, AllocError>
     ) else {
         return Ok(None);
     };
+    if pieces.len() % 20 != 0 {
+        return Ok(None);
+    }
     let row = row_of(alloc, hashes, pieces)?;
     Ok(Some(Lot {
         number,
@@ -152,7 +170,7 @@ fn numbers_in(root: &Item) -> Option<(u32, u32)>
     }
 }
 
-/// The hashes that these bytes are, 32 bytes each, and the pieces.
+/// The hashes that these bytes are, 32 bytes each, and the pieces. What is left below 32 bytes is dropped.
 fn row_of(alloc: Global, hashes: &[u8], pieces: &[u8]) -> Result<PieceRow, AllocError>
     ensures is { IfOk result (λ row. AllByRecursion Is32 row.hashes.items) }
     ensures hashes { (all : List (List ℕ)) → AllByRecursion Is32 all → hashes.now ≡ joined all →

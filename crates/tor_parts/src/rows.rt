@@ -1,8 +1,8 @@
 //! The hashes of all lots joined.
 ghost use Rattle.std.specs.Prelude.{◌≡◌, ◌<◌, [], IfOk, List, None, false, length, map, replicate, true, ℕ};
-ghost use Rattle.tor_engine.specs.Sums.{AreSumsOfPlan, AreSumsOfSome, lists_of};
+ghost use Rattle.tor_engine.specs.Sums.{AreSumsOfPlan, lists_of};
 ghost use Rattle.tor_parts.specs.Joining.{layers_over, roots_over};
-ghost use Rattle.tor_parts.specs.JoinedRows.{AreRowsOf, AreRowsOfSome, HasAllHashes, hashes_of, sums_of};
+ghost use Rattle.tor_parts.specs.JoinedRows.{AreRowsOf, AreRowsOfEach, AreSumsOfEach, HasAllPieces, hashes_of, sums_of};
 ghost use Rattle.tor_tree.specs.Kinds.{has_v2};
 
 use crate::joining::join_sums;
@@ -11,12 +11,13 @@ use tor_engine::{PieceRow, Sums};
 use tor_merkle::Hash;
 use tor_plan::Plan;
 
-/// What the files of a plan sum up to, from the hashes of its lots, in the order of their numbers. If each lot was
-/// hashed of files that have there the bytes of the same contents, these are the sums of the contents. Of whatever
-/// files the lots were hashed, they are those of contents that have at each lot what was read for it.
+/// What the files of a plan sum up to, from the hashes of its lots, in the order of their numbers. If the rows are
+/// those of the same contents at all lots, these are the sums of the contents. If each lot was hashed of files of its
+/// own, they are the sums of contents that have at each lot the bytes that these files have there.
 pub fn join_rows(alloc: Global, plan: &Plan, rows: &[PieceRow]) -> Result<Sums, AllocError>
     requires some { 0 < length rows.now }
-    requires counted { HasAllHashes plan.now rows.now }
+    requires counted { HasAllPieces plan.now rows.now }
+    ensures lengths { IfOk result (λ sums. sums.lengths.items ≡ plan.now.lengths) }
     ensures roots { has_v2 plan.now.kind ≡ true → IfOk result (λ sums.
         sums.roots.items ≡ roots_over plan.now.piece_length plan.now.lengths (hashes_of rows.now)) }
     ensures layers { has_v2 plan.now.kind ≡ true → IfOk result (λ sums.
@@ -27,7 +28,8 @@ pub fn join_rows(alloc: Global, plan: &Plan, rows: &[PieceRow]) -> Result<Sums, 
     ensures pieces { IfOk result (λ sums. sums.pieces.items ≡ sums_of rows.now) }
     ensures summed { (contents : List (List ℕ)) → map length contents ≡ plan.now.lengths →
         AreRowsOf plan.now contents rows.now → IfOk result (AreSumsOfPlan plan.now contents) }
-    ensures whole { AreRowsOfSome plan.now rows.now → IfOk result (AreSumsOfSome plan.now) }
+    ensures whole { (others : ℕ → List (List ℕ)) → AreRowsOfEach plan.now others rows.now →
+        IfOk result (AreSumsOfEach plan.now others (length rows.now)) }
 {
     // What every plan keeps to is told with its units.
     let _planned = plan.units();

@@ -9,9 +9,9 @@ use std::alloc::{AllocError, Global};
 use std::mem::swap;
 use std::process::Abort;
 use std::thread::Threads;
-use tor_engine::{How, PieceRow};
+use tor_engine::{EngineError, How, PieceRow};
 use tor_meta::{Head, plan_of_list, refusal_of_list, torrent_of_rows};
-use tor_parts::{Lot, has_all_hashes, hash_dealt, read_lot, write_lot};
+use tor_parts::{Lot, has_all_pieces, hash_dealt, read_lot, write_lot};
 use tor_plan::Plan;
 use tor_source::MemSource;
 use tor_tree::{Attr, FileList, Kind};
@@ -204,7 +204,7 @@ fn have_torrent<R: AllocGlobal + Abort>(
         return false;
     };
     assert!(rt; !rows.is_empty());
-    assert!(rt; has_all_hashes(&plan, rows));
+    assert!(rt; has_all_pieces(&plan, rows));
     match torrent_of_rows(rt.alloc(), list, head, span, rows) {
         Ok(bytes) => bytes.as_slice() == wanted,
         Err(_) => false,
@@ -296,7 +296,7 @@ fn holds<R: AllocGlobal + Abort + Threads + Sync>(
     let mut rows = Vec::new(rt.alloc());
     add_rows(rt, row, &list, &head, (1, 3), &mut rows)?;
     turn_rows(&mut rows, by).ok()?;
-    let counted = has_all_hashes(&plan, &rows);
+    let counted = has_all_pieces(&plan, &rows);
     Some((
         counted,
         counted && have_torrent(rt, &list, &head, 1, &rows, row.0.2),
@@ -309,4 +309,36 @@ fn tells_rows_that_are_cut_too_long_or_of_another_lot(rt: HostRuntime) {
     assert!(rt; holds(&rt, SEVERAL_FILES, Turn::Cut) == Some((false, false)));
     assert!(rt; holds(&rt, SEVERAL_FILES, Turn::Longer) == Some((false, false)));
     assert!(rt; holds(&rt, SEVERAL_FILES, Turn::Swapped) == Some((true, false)));
+}
+
+/// The same files, of which the first is a byte shorter.
+const SHORTER: &str = "a=#39999 b= c=#16385 d=abc";
+
+/// Whether a lot of the longer files is told as changed where they are shorter; else it is hashed.
+fn is_changed<R: AllocGlobal + Abort + Threads + Sync>(
+    rt: &R,
+    row: &Lettered,
+    lots: u32,
+    lot: u32,
+) -> Option<bool> {
+    let head = head(rt.alloc(), &row.0.0).ok()?;
+    let list = list_of(rt.alloc(), row).ok()?;
+    let plan = plan_of(rt, &list, &head, 1)?;
+    let source = source(rt.alloc(), SHORTER).ok()?;
+    if lot >= lots {
+        return None;
+    }
+    match hash_dealt(rt, rt.alloc(), &source, &plan, lots, lot, How::Board(2)) {
+        Ok(_) => Some(false),
+        Err(EngineError::Changed { file: 0 }) => Some(true),
+        Err(_) => None,
+    }
+}
+
+#[test]
+fn tells_a_file_that_ends_within_a_lot(rt: HostRuntime) {
+    assert!(rt; is_changed(&rt, SEVERAL_FILES, 1, 0) == Some(true));
+    assert!(rt; is_changed(&rt, SEVERAL_FILES, 3, 0) == Some(false));
+    assert!(rt; is_changed(&rt, SEVERAL_FILES, 3, 1) == Some(true));
+    assert!(rt; is_changed(&rt, SEVERAL_FILES, 9, 8) == Some(false));
 }

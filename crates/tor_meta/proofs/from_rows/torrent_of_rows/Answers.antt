@@ -1,5 +1,5 @@
 -- the rows are those of the plan, and its sums are those that the head asks for
-use Rattle.std.proofs.Common.{ℕ, List, length, ap, ap₂, arith, subst, sym, ◌∙◌}
+use Rattle.std.proofs.Common.{ℕ, List, length, ap, ap₂, cond, arith, subst, sym, ◌∙◌}
 use Rattle.std.proofs.lemmas.List.{length-map}
 use Rattle.std.specs.List.{AllZip}
 use Rattle.std.specs.Prelude.{Option}
@@ -7,7 +7,7 @@ use Rattle.tor_bencode.specs.Spelling.{spelling}
 use Rattle.tor_merkle.proofs.ProvedLaws.{piece_length_bounds}
 use Rattle.tor_meta.specs.Head.{settings_of}
 use Rattle.tor_meta.proofs.SourceSums.{from_plan}
-use Rattle.tor_parts.specs.JoinedRows.{AreRowsOf, AreRowsOfSome, HasAllHashes, hashes_of}
+use Rattle.tor_parts.specs.JoinedRows.{AreContentsOfEach, AreRowsOf, AreRowsOfEach, HasAllPieces, hashes_of}
 use Rattle.tor_parts.specs.Joining.{layers_over, pieces_of_lengths, roots_over}
 use Rattle.tor_parts.proofs.ProvedLaws.{layers_there, roots_there}
 use Rattle.tor_plan.specs.PlanFacts.{PlanFacts}
@@ -19,7 +19,7 @@ use Rattle.tor_meta.proofs.from_rows.torrent_of_rows.Goals as goal
 
 pub join_rows-requires-clause-counted : goal.join_rows-requires-clause-counted
 join_rows-requires-clause-counted c =
-    subst (λ (p : PlanFacts). HasAllHashes p c.args.rows.now) (sym c.in_ok-plan.ensures.same) c.requires.counted
+    subst (λ (p : PlanFacts). HasAllPieces p c.args.rows.now) (sym c.in_ok-plan.ensures.same) c.requires.counted
 
 pub torrent_of_sums-requires-clause-trees : goal.torrent_of_sums-requires-clause-trees
 torrent_of_sums-requires-clause-trees c =
@@ -28,8 +28,9 @@ torrent_of_sums-requires-clause-trees c =
     let hashes = hashes_of c.args.rows.now in
     let is = c.in_ok-plan.ensures.is in
     let sums = c.in_ok-sums.sums in
-    let counted : HasAllHashes c.in_ok-plan.plan c.args.rows.now =
-    subst (λ (p : PlanFacts). HasAllHashes p c.args.rows.now) (sym c.in_ok-plan.ensures.same) c.requires.counted in
+    let plan = c.in_ok-plan.plan in
+    let counted : HasAllPieces plan c.args.rows.now =
+    subst (λ (p : PlanFacts). HasAllPieces p c.args.rows.now) (sym c.in_ok-plan.ensures.same) c.requires.counted in
     record {
       rooted = λ trees.
           let there = c.in_ok-sums.ensures.roots (ap has_v2 is.kind ∙ trees)
@@ -37,7 +38,9 @@ torrent_of_sums-requires-clause-trees c =
           subst (λ (roots : List (Option (List ℕ))). AllZip HasItsRoot files roots) (sym there)
           (roots_there head.piece_length
           (omega (arith, ((piece_length_bounds head.piece_length).0 c.requires.judged.piece_length).1)) files hashes
-          (counted (ap has_v2 is.kind ∙ trees) ∙ ap₂ pieces_of_lengths is.piece_length is.lengths));
+          (counted.hashes
+          ∙ ap (λ b. cond b (pieces_of_lengths plan.piece_length plan.lengths) 0) (ap has_v2 is.kind ∙ trees)
+          ∙ ap₂ pieces_of_lengths is.piece_length is.lengths));
       layered = λ trees.
           let there = c.in_ok-sums.ensures.layers (ap has_v2 is.kind ∙ trees)
           ∙ ap₂ (λ p ls. layers_over p ls hashes) is.piece_length is.lengths in
@@ -74,11 +77,16 @@ returns-clause-made c = λ contents fit are.
     c.in_ok-bytes.ensures.made contents both.0 both.1
 
 pub returns-clause-whole : goal.returns-clause-whole
-returns-clause-whole c = λ are.
+returns-clause-whole c = λ others are.
     let head = c.args.head.now in
     let files = c.args.list.now.files in
+    let rows = c.args.rows.now in
     let plan = c.in_ok-plan.plan in
-    let rows = subst (λ (p : PlanFacts). AreRowsOfSome p c.args.rows.now) (sym c.in_ok-plan.ensures.same) are in
-    let some = c.in_ok-sums.ensures.whole rows in
-    let both = from_plan head files c.in_ok-sums.sums plan some.0 c.in_ok-plan.ensures.is some.1 some.2 in
-    (some.0, both.0, c.in_ok-bytes.ensures.made some.0 both.0 both.1)
+    let same = c.in_ok-plan.ensures.same in
+    let each = subst (λ (p : PlanFacts). AreRowsOfEach p others rows) (sym same) are in
+    let some = c.in_ok-sums.ensures.whole others each in
+    let both = from_plan head files c.in_ok-sums.sums plan some.0 c.in_ok-plan.ensures.is some.1.fit some.2 in (
+      some.0,
+      subst (λ (p : PlanFacts). AreContentsOfEach p others (length rows) some.0) same some.1,
+      c.in_ok-bytes.ensures.made some.0 both.0 both.1,
+    )

@@ -67,6 +67,6 @@ returns-clause-all c = λ facts is same.
     let found = c.in_ok-lot.ensures.all facts is (ap view c.item.ensures.same ∙ here) in
     let lot = the_one c.in_ok-lot.field-0 facts c.in-Some.lot c.in-Some.is found in
     let again : c.as_slice.result.now ≡ c.args.bytes.now =
-    c.as_slice.ensures.value ∙ c.in_ok-again.ensures ∙ ap lot_bytes lot ∙ sym same in
+    c.as_slice.ensures.value ∙ c.in_ok-again.ensures.written ∙ ap lot_bytes lot ∙ sym same in
     let no = c.if-eq.ensures ∙ ap (λ xs. pointwise nat_eq xs c.args.bytes.now) again ∙ all_same c.args.bytes.now in
     cc

@@ -9,5 +9,5 @@ use Rattle.tor_parts.proofs.lot_text.tree_of.Goals as goal
 pub unreachable-requires : goal.unreachable-requires
 unreachable-requires c =
     let lawful = lot_is_lawful (facts_of c.args.lot.now) (omega arith) (omega arith) in
-    let no = c.in-Err.ensures.lawful.1 (subst (λ (d : Data). IsLawful d) (sym c.in_ok-item.ensures) lawful) in
+    let no = c.in-Err.ensures.lawful.1 (subst (λ (d : Data). IsLawful d) (sym c.in_ok-item.ensures.item) lawful) in
     cc
