@@ -20,7 +20,7 @@
 //!   `found_text.rt`: and of the files; `recheck_record.rt`: the same as JSON; `json.rt`: what both have of it.
 //! - `fault.rt`: what stops the program, its line and its status; `fault_of.rt`: which step's fault it is. `escape.rt`:
 //!   the user's text in such a line. `laws.rt`: that it has no control byte there.
-//! - [`read_limited`] and [`make_from`] are those of `tor_source` and `tor_meta`: all that a reader has, and its torrent.
+//! - [`read_limited`], [`make_from`] are those of `tor_source` and `tor_meta`: what a reader has, and its torrent.
 #![tactic(auto)]
 
 mod answer;

@@ -105,11 +105,17 @@ module _ {F : Type 0} (is_steady : SourceFacts F → Type 0) (plan : PlanFacts) 
     each = zeros_each parts;
     whole = zeros_whole parts;
     steady = λ facts no have. absurd no;
+    there = λ facts no. absurd no;
   }
 
   as_any : (parts : List Part) (reads : List PartRead) → AreReads is_steady plan parts reads
       → AreReads never plan parts reads
-  as_any parts reads are = record { each = are.each; whole = are.whole; steady = λ facts no have. absurd no }
+  as_any parts reads are = record {
+    each = are.each;
+    whole = are.whole;
+    steady = λ facts no have. absurd no;
+    there = λ facts no. absurd no;
+  }
 
   split_parts : (from to : ℕ)
       → parts_of (take from plan.units) ++ (parts_of (units_between from to plan.units)

@@ -1,9 +1,9 @@
 -- What was read, part after part.
 use Rattle.std.proofs.Common.{◌≡◌, ◌≤◌, ℕ, ◌+◌, List, [], ◌∷◌, ◌++◌, length, take}
-use Rattle.std.proofs.Common.{refl, ap, ap₂, sym, subst, ◌∙◌}
+use Rattle.std.proofs.Common.{refl, ap, ap₂, sym, subst, ◌∙◌, arith, drop, unwrap_or}
 use Rattle.std.specs.List.{AllByRecursion}
 use Rattle.std.proofs.Math.Seq.{take-add}
-use Rattle.std.proofs.lemmas.List.{length-append, map-append}
+use Rattle.std.proofs.lemmas.List.{length-append, length-drop, map-append}
 use Rattle.tor_plan.specs.PlanFacts.{PlanFacts}
 use Rattle.tor_plan.specs.declared.units.Part.{Part}
 use Rattle.tor_source.specs.Source.{SourceFacts, bytes_from}
@@ -23,6 +23,7 @@ module _ {F : Type 0} (is_steady : SourceFacts F → Type 0) (part : Part) (old 
     bytes = [];
     counted = refl;
     steady = λ facts steady long. refl;
+    there = λ facts steady. omega arith;
     taken = λ kind p before unit given. fed_none kind p old before unit given;
   }
 
@@ -31,9 +32,10 @@ module _ {F : Type 0} (is_steady : SourceFacts F → Type 0) (part : Part) (old 
       → length chunk ≡ count
       → ((facts : SourceFacts F) → is_steady facts → part.length ≤ length (bytes_from facts part.file part.start)
       → chunk ≡ take count (bytes_from facts part.file (part.start + done)))
+      → ((facts : SourceFacts F) → is_steady facts → count ≤ length (bytes_from facts part.file (part.start + done)))
       → ((kind : Kind) (p : ℕ) (before unit : List ℕ) → HasTaken kind p before unit now
       → HasTaken kind p (before ++ chunk) (unit ++ chunk) new) → TakesPart is_steady part (done + count) old new
-  takes_more done count now new chunk fed counted steady taken = record {
+  takes_more done count now new chunk fed counted steady there taken = record {
     bytes = fed.bytes ++ chunk;
     counted = length-append fed.bytes chunk ∙ ap₂ (λ a b. a + b) fed.counted counted;
     steady = λ facts is long.
@@ -41,6 +43,13 @@ module _ {F : Type 0} (is_steady : SourceFacts F → Type 0) (part : Part) (old 
         ap₂ (λ xs ys. xs ++ ys) (fed.steady facts is long)
         (steady facts is long ∙ ap (take count) (later_bytes facts part.file part.start done))
         ∙ sym (take-add done count all);
+    there = λ facts is.
+        let content = unwrap_or (facts.contents part.file) [] in
+        let one = fed.there facts is in
+        let other = there facts is in
+        let left = length-drop part.start content in
+        let later = length-drop (part.start + done) content in
+        omega (arith, one, other, left, later);
     taken = λ kind p before unit given.
         fed_more kind p new before unit fed.bytes chunk (fed.bytes ++ chunk) refl
         (taken kind p (before ++ fed.bytes) (unit ++ fed.bytes) (fed.taken kind p before unit given));
@@ -65,14 +74,24 @@ have_both contents one other have = all_split (λ read. bytes_of_part contents r
 
 module _ {F : Type 0} (is_steady : SourceFacts F → Type 0) (plan : PlanFacts) where
   pub reads_none : AreReads is_steady plan [] []
-  reads_none = record { each = refl; whole = tt; steady = λ facts is have. tt }
+  reads_none = record {
+    each = refl;
+    whole = tt;
+    steady = λ facts is have. tt;
+    there = λ facts is. tt;
+  }
 
   pub reads_one : (part : Part) (bytes : List ℕ) → length bytes ≡ part.length
       → ((facts : SourceFacts F) → is_steady facts → HasPart facts part
       → bytes_of_part (contents_in facts (length plan.lengths)) part ≡ bytes)
+      → ((facts : SourceFacts F) → is_steady facts → HasPart facts part)
       → AreReads is_steady plan (part ∷ []) ((part, bytes) ∷ [])
-  reads_one part bytes whole steady =
-      record { each = refl; whole = (whole, tt); steady = λ facts is have. (steady facts is have.0, tt) }
+  reads_one part bytes whole steady there = record {
+    each = refl;
+    whole = (whole, tt);
+    steady = λ facts is have. (steady facts is have.0, tt);
+    there = λ facts is. (there facts is, tt);
+  }
 
   pub reads_as : (parts other : List Part) (reads : List PartRead) → parts ≡ other → AreReads is_steady plan parts reads
       → AreReads is_steady plan other reads
@@ -87,4 +106,6 @@ module _ {F : Type 0} (is_steady : SourceFacts F → Type 0) (plan : PlanFacts) 
         let both = all_split (HasPart facts) parts later have in
         all_append (λ read. bytes_of_part (contents_in facts (length plan.lengths)) read.0 ≡ read.1) reads more
         (one.steady facts is both.0) (other.steady facts is both.1);
+    there = λ facts is.
+        all_append (HasPart facts) parts later (one.there facts is) (other.there facts is);
   }

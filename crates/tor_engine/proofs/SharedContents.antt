@@ -68,6 +68,7 @@ module _ (plan : PlanFacts) (units : ℕ → List PlanUnit) (others : ℕ → Li
         each = reads_each (others a) (parts_of (units a));
         whole = reads_whole plan.lengths (others a) (fit a (omega arith) (omega arith)) (parts_of (units a)) both.0;
         steady = λ facts no have. absurd no;
+        there = λ facts no. absurd no;
       } in
       reads_as never plan (parts_of (units a) ++ parts_of later) (parts_of (units a ++ later))
       (own a ++ flat_map own (range_with_len (a + 1) n)) (sym split)

@@ -75,7 +75,7 @@ module _ {F : Type 0} (is_steady : SourceFacts F → Type 0) (plan : PlanFacts) 
         are = reads_as is_steady plan (take i parts ++ part ∷ []) (take (i + 1) parts) (old.reads ++ last)
             (sym (take_more parts i d there))
             (reads_both is_steady plan (take i parts) (part ∷ []) old.reads last old.are
-            (reads_one is_steady plan part added.bytes added.counted added.steady));
+            (reads_one is_steady plan part added.bytes added.counted added.steady added.there));
         bytes = old.bytes ++ added.bytes;
         joined = old.joined ++ more;
         long =

@@ -1,10 +1,11 @@
 -- The hashes of the pieces of units, one after another: what some units of a plan come to, wherever they are hashed.
-use Rattle.std.specs.Prelude.{◌≡◌, ◌-◌, ℕ, true, false, List, [], ◌∷◌, drop, length, nat_le, take, if◌then◌else◌}
+use Rattle.std.specs.Prelude.{◌≡◌, ◌-◌, ◌≤◌, ℕ, true, false, List, [], ◌∷◌, drop, length, nat_le, take, if◌then◌else◌}
 use Rattle.std.specs.List.{AllByRecursion, flat_map}
 use Rattle.tor_merkle.specs.Layer.{pieces_root, piece_roots}
 use Rattle.tor_plan.specs.Content.{unit_content}
 use Rattle.tor_plan.specs.PlanFacts.{PlanFacts}
 use Rattle.tor_plan.specs.declared.units.PlanUnit.{PlanUnit}
+use Rattle.tor_source.specs.Source.{SourceFacts, bytes_from}
 use Rattle.tor_tree.specs.Kinds.{has_v1, has_v2}
 use Rattle.tor_v1.specs.Piece.{piece_sums}
 use Rattle.tor_engine.specs.UnitNodes.{Node, bytes_of_part, level_of, nodes_of_unit}
@@ -49,6 +50,12 @@ hash_of_short (byte ∷ bytes) = pieces_root (byte ∷ bytes) ∷ []
 abbrev pub hashes_of_file : ℕ → List ℕ → List (List ℕ)
 hashes_of_file piece_length content =
     if nat_le (length content) piece_length then hash_of_short content else piece_roots content piece_length
+
+-- a source has all bytes of units: no file of theirs ends before the last that is wanted of it
+abbrev pub HasBytesAt : {F : Type 0} → SourceFacts F → List PlanUnit → Type 0
+HasBytesAt facts units =
+    AllByRecursion (λ part. part.length ≤ length (bytes_from facts part.file part.start))
+    (flat_map (λ unit. unit.parts) units)
 
 -- these contents have the same bytes at each part of units
 abbrev pub AreSameAt : List (List ℕ) → List (List ℕ) → List PlanUnit → Type 0

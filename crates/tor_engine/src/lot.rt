@@ -6,7 +6,7 @@ ghost use Rattle.tor_engine.specs.Contents.{contents_in};
 ghost use Rattle.tor_engine.specs.Fault.{IsFault, units_fault};
 ghost use Rattle.tor_engine.specs.Given.{IsGivenRead};
 ghost use Rattle.tor_engine.specs.How.{IsHow};
-ghost use Rattle.tor_engine.specs.Rows.{AreSameAt, IsRowOf, row_in, units_between};
+ghost use Rattle.tor_engine.specs.Rows.{AreSameAt, HasBytesAt, IsRowOf, row_in, units_between};
 ghost use Rattle.tor_engine.specs.Shares.{node_in};
 ghost use Rattle.tor_engine.specs.steps.RowSums.{IsRowOfSums};
 
@@ -59,6 +59,8 @@ pub fn hash_lot<S: Source, R: Threads + Sync>(
         (IsFault (units_fault facts (units_between from to plan.now.units))) }
     ensures whole { IfOk result (λ row. (contents : List (List ℕ)) × (map length contents ≡ plan.now.lengths)
         × IsRowOf plan.now contents (units_between from to plan.now.units) row.hashes.items row.pieces.items) }
+    ensures there { (facts : SourceFacts S.Fault) → S.is_steady source.now facts →
+        OnOk result (HasBytesAt facts (units_between from to plan.now.units)) }
     ensures gave { IfErr result (IsGivenRead (S.gave source.now) (S.ended source.now) plan.now.lengths) }
 {
     units_are_few();

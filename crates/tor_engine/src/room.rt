@@ -244,6 +244,8 @@ fn read_behind<S: FileBytes>(
         (λ error. byte_fault facts file start ≡ Some error) }
     ensures ends { (facts : SourceFacts S.Fault) → S.is_steady source.now facts →
         length (bytes_from facts file start) ≡ 0 → EndsThere facts file start result }
+    ensures there { IfOk result (λ count. (facts : SourceFacts S.Fault) → S.is_steady source.now facts →
+        count ≤ length (bytes_from facts file start)) }
     ensures gave { (lengths : List ℕ) → file < length lengths → start < slice_index_or lengths file 0 →
         IfErr result (IsGivenRead (S.gave source.now) (S.ended source.now) lengths) }
 {

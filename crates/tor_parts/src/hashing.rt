@@ -1,11 +1,11 @@
 //! One lot of a plan hashed.
-ghost use Rattle.std.specs.Prelude.{◌≡◌, ◌<◌, ℕ, None, IfErr, IfOk, List, MatchResult, length, map};
+ghost use Rattle.std.specs.Prelude.{◌≡◌, ◌<◌, ℕ, None, IfErr, IfOk, List, MatchResult, OnOk, length, map};
 ghost use Rattle.tor_source.specs.Source.{SourceFacts};
 ghost use Rattle.tor_engine.specs.Contents.{contents_in};
 ghost use Rattle.tor_engine.specs.Fault.{IsFault, units_fault};
 ghost use Rattle.tor_engine.specs.Given.{IsGivenRead};
 ghost use Rattle.tor_engine.specs.How.{IsHow};
-ghost use Rattle.tor_engine.specs.Rows.{AreSameAt, IsRowOf};
+ghost use Rattle.tor_engine.specs.Rows.{AreSameAt, HasBytesAt, IsRowOf};
 ghost use Rattle.tor_parts.specs.Dealing.{dealt};
 
 use crate::dealing::deal;
@@ -36,6 +36,8 @@ pub fn hash_dealt<S: Source, R: Threads + Sync>(
         (IsFault (units_fault facts (dealt lots lot plan.now.units))) }
     ensures whole { IfOk result (λ row. (contents : List (List ℕ)) × (map length contents ≡ plan.now.lengths)
         × IsRowOf plan.now contents (dealt lots lot plan.now.units) row.hashes.items row.pieces.items) }
+    ensures there { (facts : SourceFacts S.Fault) → S.is_steady source.now facts →
+        OnOk result (HasBytesAt facts (dealt lots lot plan.now.units)) }
     ensures gave { IfErr result (IsGivenRead (S.gave source.now) (S.ended source.now) plan.now.lengths) }
 {
     let (from, to) = deal(plan, lots, lot);

@@ -24,23 +24,25 @@ HasPart facts part = part.length ≤ length (bytes_from facts part.file part.sta
 abbrev pub HasParts : {F : Type 0} → SourceFacts F → List Part → Type 0
 HasParts facts parts = AllByRecursion (HasPart facts) parts
 
--- the first so many bytes of a part were read and taken; of a steady source they are those that it has there
+-- the first so many bytes of a part were read and taken; a steady source has as many there, and they are those
 pub record TakesPart {F : Type 0} (is_steady : SourceFacts F → Type 0) (part : Part) (count : ℕ)
     (old new : WorkerSums) : Type 0 where
   pub bytes : List ℕ
   pub counted : length bytes ≡ count
   pub steady : (facts : SourceFacts F) → is_steady facts → HasPart facts part
       → bytes ≡ take count (bytes_from facts part.file part.start)
+  pub there : (facts : SourceFacts F) → is_steady facts → count ≤ length (bytes_from facts part.file part.start)
   pub taken : (kind : Kind) (piece_length : ℕ) (before unit : List ℕ) → HasTaken kind piece_length before unit old
       → HasTaken kind piece_length (before ++ bytes) (unit ++ bytes) new
 
--- the bytes of a part were read and taken
+-- the bytes of a part were read and taken; a steady source has them
 pub record AddsPart {F : Type 0} (is_steady : SourceFacts F → Type 0) (plan : PlanFacts) (part : Part)
     (old new : WorkerSums) : Type 0 where
   pub bytes : List ℕ
   pub counted : length bytes ≡ part.length
   pub steady : (facts : SourceFacts F) → is_steady facts → HasPart facts part
       → bytes_of_part (contents_in facts (length plan.lengths)) part ≡ bytes
+  pub there : (facts : SourceFacts F) → is_steady facts → HasPart facts part
   pub begun : begun_of new ≡ begun_of old + part.length
   pub taken : (before unit : List ℕ) → HasTaken plan.kind plan.piece_length before unit old
       → HasTaken plan.kind plan.piece_length (before ++ bytes) (unit ++ bytes) new
@@ -53,13 +55,14 @@ PartRead = Part × List ℕ
 abbrev pub HaveRead : List (List ℕ) → List PartRead → Type 0
 HaveRead contents reads = AllByRecursion (λ read. bytes_of_part contents read.0 ≡ read.1) reads
 
--- as many bytes were read of each part as it has; of a steady source they are those that it has there
+-- as many bytes were read of each part as it has; a steady source has as many there, and they are those
 pub record AreReads {F : Type 0} (is_steady : SourceFacts F → Type 0) (plan : PlanFacts) (parts : List Part)
     (reads : List PartRead) : Type 0 where
   pub each : map (λ read. read.0) reads ≡ parts
   pub whole : AllByRecursion (λ read. length read.1 ≡ read.0.length) reads
   pub steady : (facts : SourceFacts F) → is_steady facts → HasParts facts parts
       → HaveRead (contents_in facts (length plan.lengths)) reads
+  pub there : (facts : SourceFacts F) → is_steady facts → HasParts facts parts
 
 -- the parts of a unit were read so far, after these bytes, and so many zeros that come next were not taken yet
 pub record ReadsParts {F : Type 0} (is_steady : SourceFacts F → Type 0) (plan : PlanFacts) (before : List ℕ)

@@ -28,7 +28,7 @@ abbrev pub IsFull : ℕ → Room → Type 0
 IsFull left room =
     (batch_of room ≤ count_in room) ⊎ ((LEAST_ASKED ≤ left) × (length_of room < count_in room + LEAST_ASKED))
 
--- so many bytes were read and stand behind those that were held; of a steady source they are those that it has there
+-- so many bytes were read and stand behind those that were held; a steady source has as many there, and they are those
 pub record ReadsMore {F : Type 0} (is_steady : SourceFacts F → Type 0) (file start count : ℕ)
     (old new : Room) : Type 0 where
   pub bytes : List ℕ
@@ -36,3 +36,4 @@ pub record ReadsMore {F : Type 0} (is_steady : SourceFacts F → Type 0) (file s
   pub held : held_in new ≡ held_in old ++ bytes
   pub steady : (facts : SourceFacts F) → is_steady facts → 0 < length (bytes_from facts file start)
       → bytes ≡ take count (bytes_from facts file start)
+  pub there : (facts : SourceFacts F) → is_steady facts → count ≤ length (bytes_from facts file start)

@@ -1,5 +1,5 @@
 -- What the units of a worker sum up to, while their bytes come. Only private clauses cite these.
-use Rattle.std.specs.Prelude.{◌≡◌, ℕ, ◌<◌, true, List, [], ◌++◌, drop, length, take}
+use Rattle.std.specs.Prelude.{◌≡◌, ℕ, ◌<◌, ◌≤◌, true, List, [], ◌++◌, drop, length, take}
 use Rattle.std.specs.Option.{ForSome}
 use Rattle.tor_plan.specs.PlanFacts.{PlanFacts}
 use Rattle.tor_source.specs.Source.{SourceFacts, bytes_from}
@@ -56,12 +56,13 @@ Keeps old new =
     (kind : Kind) (piece_length : ℕ) (bytes unit : List ℕ) → HasTaken kind piece_length bytes unit old
     → HasTaken kind piece_length bytes unit new
 
--- so many bytes were read and taken; of a steady source they are those that it has there
+-- so many bytes were read and taken; a steady source has as many there, and they are those
 pub record TakesMore {F : Type 0} (is_steady : SourceFacts F → Type 0) (file start count : ℕ)
     (old new : WorkerSums) : Type 0 where
   pub bytes : List ℕ
   pub counted : length bytes ≡ count
   pub steady : (facts : SourceFacts F) → is_steady facts → 0 < length (bytes_from facts file start)
       → bytes ≡ take count (bytes_from facts file start)
+  pub there : (facts : SourceFacts F) → is_steady facts → count ≤ length (bytes_from facts file start)
   pub taken : (kind : Kind) (piece_length : ℕ) (before unit : List ℕ) → HasTaken kind piece_length before unit old
       → HasTaken kind piece_length (before ++ bytes) (unit ++ bytes) new

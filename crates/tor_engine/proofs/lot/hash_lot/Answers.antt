@@ -63,6 +63,17 @@ returns-clause-summed g c = λ facts contents steady fit same.
       ),
     )
 
+pub returns-clause-there : goal.returns-clause-there
+returns-clause-there g c = λ facts steady.
+    let plan = c.args.plan.now in
+    let is_steady = g.S.Source.is_steady c.args.source.now in
+    let own = units_between c.args.from c.args.to plan.units in
+    let sums = c.in-Ok.hashed.0.items in
+    let is = c.units_between-units.ensures ∙ ap (units_between c.args.from c.args.to) c.units.ensures.value in
+    let hashed = units_summed is_steady plan c.units_between-units.result.now own sums sums is refl
+    c.in-Ok.ensures.summed in
+    hashed.are.there facts steady
+
 pub returns-clause-whole : goal.returns-clause-whole
 returns-clause-whole g c =
     let plan = c.args.plan.now in

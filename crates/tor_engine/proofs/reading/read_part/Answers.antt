@@ -29,7 +29,7 @@ reads-preserved g c =
           c.reads.sums c.read.new.self read.bytes old.taken read.counted
           (λ facts steady long. read.steady facts steady
           (some_left facts part.file part.start done part.length c.reads-test.true long))
-          read.taken;
+          read.there read.taken;
       fault = λ facts steady long.
           no_fault facts part.file part.start done c.in-Ok.count
           (c.in-Ok.ensures.fault facts steady
@@ -58,6 +58,7 @@ returns-clause-added g c = λ plan is.
       bytes = read.bytes;
       counted = read.counted;
       steady = λ facts steady have. sym (read.steady facts steady have ∙ part_bytes facts plan part is);
+      there = read.there;
       begun = omega (arith, all, c.reads.invariant.begun);
       taken = read.taken plan.kind plan.piece_length;
     }

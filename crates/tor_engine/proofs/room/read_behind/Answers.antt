@@ -80,6 +80,9 @@ returns-in-Ok-clause-read g c = λ facts is_steady some.
       fault_free = steady.fault_free;
     }
 
+pub returns-in-Ok-clause-there : goal.returns-in-Ok-clause-there
+returns-in-Ok-clause-there g c = λ facts is_steady. (c.in-Ok.ensures.steady facts is_steady).there
+
 pub returns-in-Err : goal.returns-in-Err
 returns-in-Err g c =
     let of_read = option_map (λ fault. Read c.args.file (Some c.args.start) fault) in
@@ -98,5 +101,6 @@ returns-in-Err g c =
       some = tt;
       read = λ facts is_steady some. ap of_read (c.in-Err.ensures.steady facts is_steady);
       ends = λ facts is_steady none. inr (ap of_read (c.in-Err.ensures.steady facts is_steady));
+      there = tt;
       gave = λ lengths named within. (c.in-Err.ensures.gave, within, named);
     }

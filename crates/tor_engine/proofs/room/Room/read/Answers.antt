@@ -27,4 +27,5 @@ returns-in-Ok-clause-read g c =
           ∙ ap (λ xs. xs ++ take count (drop held bytes))
           (c.in-Ok.ensures.front ∙ ap (take held) c.deref_mut.ensures.value);
       steady = λ facts steady some. (c.in-Ok.ensures.read facts steady some).same;
+      there = c.in-Ok.ensures.there;
     }

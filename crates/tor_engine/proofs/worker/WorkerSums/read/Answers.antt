@@ -10,6 +10,7 @@ returns-in-Ok-clause-read g c =
       bytes = read.bytes;
       counted = read.counted;
       steady = read.steady;
+      there = read.there;
       taken = λ kind p before unit taken.
           takes kind p c.make_room.new.self _ read.bytes before unit refl refl read.held
           (c.in_ok-make_room.ensures.keeps kind p before unit taken);
