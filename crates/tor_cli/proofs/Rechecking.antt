@@ -6,10 +6,10 @@ use Rattle.std.proofs.lemmas.Bool.{eqb-true, le-leb, leb-true}
 use Rattle.std.proofs.lemmas.List.{length-map}
 use Rattle.std.specs.declared.io.Error.{Error}
 use Rattle.tor_check.specs.Valid.{IsTold}
-use Rattle.tor_engine.specs.How.{IsHow}
-use Rattle.tor_engine.specs.declared.how.How.{How}
-use Rattle.tor_engine.specs.declared.how.How.TheVariants.{Board}
-use Rattle.tor_engine.specs.declared.how.TheConstants.{MAX_WORKERS}
+use Rattle.tor_sums.specs.How.{IsHow}
+use Rattle.tor_sums.specs.declared.how.How.{How}
+use Rattle.tor_sums.specs.declared.how.How.TheVariants.{Board}
+use Rattle.tor_sums.specs.declared.how.TheConstants.{MAX_WORKERS}
 use Rattle.tor_recheck.specs.Recheck.{IsGiven}
 use Rattle.tor_recheck.specs.declared.errors.RecheckError.{RecheckError}
 use Rattle.tor_recheck.specs.declared.errors.RecheckError.TheVariants as rechecks

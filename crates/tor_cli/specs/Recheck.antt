@@ -6,8 +6,8 @@ use Rattle.std.specs.Io.KnownBytes.{Appends}
 use Rattle.std.specs.declared.io.Error.{Error}
 use Rattle.hex.specs.Hex.{encode_lower}
 use Rattle.tor_check.specs.Valid.{IsTold}
-use Rattle.tor_engine.specs.How.{IsHow}
-use Rattle.tor_engine.specs.declared.how.How.TheVariants.{Board}
+use Rattle.tor_sums.specs.How.{IsHow}
+use Rattle.tor_sums.specs.declared.how.How.TheVariants.{Board}
 use Rattle.tor_recheck.specs.Bitfield.{bitfield, set_count}
 use Rattle.tor_recheck.specs.Recheck.{IsGiven}
 use Rattle.tor_recheck.specs.declared.files.FileFound.{FileFound}

@@ -4,7 +4,7 @@ use Rattle.std.specs.Prelude.{Some, IsSome}
 use Rattle.std.specs.Prelude.{string_bytes}
 use Rattle.std.specs.Io.KnownBytes.{Appends, Keeps}
 use Rattle.std.specs.declared.io.Error.{Error}
-use Rattle.tor_engine.specs.How.{workers_of}
+use Rattle.tor_sums.specs.How.{workers_of}
 use Rattle.tor_meta.specs.Contents.{IsMadeOfSome}
 use Rattle.tor_meta.specs.Make.{IsOwn}
 use Rattle.tor_meta.specs.Order.{settings_of_order}

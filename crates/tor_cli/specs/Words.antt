@@ -8,9 +8,9 @@ use Rattle.clap.specs.Words.{Row, first_of, one_of, subcommand_of}
 use Rattle.clap.specs.declared.builder.value_parser.ValueParser.{ValueParser}
 use Rattle.tor_tree.specs.declared.kinds.Kind.{Kind}
 use Rattle.tor_tree.specs.declared.kinds.Kind.TheVariants.{V1, V2, Hybrid}
-use Rattle.tor_engine.specs.declared.how.How.{How}
-use Rattle.tor_engine.specs.declared.how.How.TheVariants.{One, Halves, Board}
-use Rattle.tor_engine.specs.declared.how.TheConstants.{MAX_WORKERS}
+use Rattle.tor_sums.specs.declared.how.How.{How}
+use Rattle.tor_sums.specs.declared.how.How.TheVariants.{One, Halves, Board}
+use Rattle.tor_sums.specs.declared.how.TheConstants.{MAX_WORKERS}
 use Rattle.tor_cli.specs.CommandLine.{AreHows, AreKinds, tor_app}
 use Rattle.tor_cli.specs.declared.check_words.CheckOptions.{CheckOptions}
 use Rattle.tor_cli.specs.declared.command.Request.{Request}

@@ -1,10 +1,10 @@
 //! What a source has of a torrent's pieces, and of its files, as so many workers find it.
 ghost use Rattle.std.specs.Prelude.{◌≡◌, ◌≢◌, [], Bool, Err, IfErr, IfOk, MatchResult, None, OnOk, length};
 ghost use Rattle.std.specs.Prelude.{if◌then◌else◌, true};
-ghost use Rattle.tor_engine.specs.Contents.{contents_in};
-ghost use Rattle.tor_engine.specs.How.{IsHow};
+ghost use Rattle.tor_sums.specs.Contents.{contents_in};
+ghost use Rattle.tor_sums.specs.How.{IsHow};
 ghost use Rattle.tor_engine.specs.PieceFault.{lengths_told};
-ghost use Rattle.tor_engine.specs.declared.how.How.TheVariants.{Board};
+ghost use Rattle.tor_sums.specs.declared.how.How.TheVariants.{Board};
 ghost use Rattle.tor_recheck.specs.Files.{files_found, held_pieces};
 ghost use Rattle.tor_recheck.specs.Findings.{AreFoundWithin};
 ghost use Rattle.tor_recheck.specs.Recheck.{IsFault, IsGiven, first_fault};

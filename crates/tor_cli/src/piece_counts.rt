@@ -1,9 +1,9 @@
 //! How many pieces of a torrent a source has.
 ghost use Rattle.std.specs.Prelude.{◌≡◌, ◌≢◌, ◌==◌, ◌↔◌, Err, IfErr, IfOk, IsTrue, MatchResult, None, length};
 ghost use Rattle.tor_cli.specs.CheckAfter.{AreCounted, counts_of};
-ghost use Rattle.tor_engine.specs.Contents.{contents_in};
-ghost use Rattle.tor_engine.specs.How.{IsHow};
-ghost use Rattle.tor_engine.specs.declared.how.How.TheVariants.{Board};
+ghost use Rattle.tor_sums.specs.Contents.{contents_in};
+ghost use Rattle.tor_sums.specs.How.{IsHow};
+ghost use Rattle.tor_sums.specs.declared.how.How.TheVariants.{Board};
 ghost use Rattle.tor_recheck.specs.Recheck.{IsFault, IsGiven, first_fault};
 ghost use Rattle.tor_recheck.specs.declared.errors.RecheckError.TheVariants.{Workers};
 ghost use Rattle.tor_source.specs.Source.{SourceFacts};

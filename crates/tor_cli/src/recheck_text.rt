@@ -3,10 +3,10 @@ ghost use Rattle.std.specs.Prelude.{◌≡◌, ◌≢◌, Err, IfErr, IfOk, OnOk
 ghost use Rattle.tor_cli.specs.FoundFiles.{listed};
 ghost use Rattle.tor_cli.specs.Recheck.{IsReport, IsReportOn, pieces_text, recheck_answer, recheck_text, report_text};
 ghost use Rattle.tor_cli.specs.declared.listing.Form.TheVariants.{Text};
-ghost use Rattle.tor_engine.specs.Contents.{contents_in};
-ghost use Rattle.tor_engine.specs.How.{IsHow};
+ghost use Rattle.tor_sums.specs.Contents.{contents_in};
+ghost use Rattle.tor_sums.specs.How.{IsHow};
 ghost use Rattle.tor_engine.specs.PieceFault.{lengths_told};
-ghost use Rattle.tor_engine.specs.declared.how.How.TheVariants.{Board};
+ghost use Rattle.tor_sums.specs.declared.how.How.TheVariants.{Board};
 ghost use Rattle.tor_recheck.specs.Files.{files_found, held_pieces};
 ghost use Rattle.tor_recheck.specs.Recheck.{IsFault, IsGiven, first_fault};
 ghost use Rattle.tor_recheck.specs.declared.errors.RecheckError.TheVariants.{Workers};

@@ -1,7 +1,7 @@
 //! Who hashes, and by how many the files are looked at once more.
 ghost use Rattle.std.specs.Prelude.{◌≡◌};
 ghost use Rattle.tor_cli.specs.Words.{how_of};
-ghost use Rattle.tor_engine.specs.How.{workers_of};
+ghost use Rattle.tor_sums.specs.How.{workers_of};
 
 use tor_engine::How;
 

@@ -1,7 +1,7 @@
 //! How many workers a word asks for.
 ghost use Rattle.std.specs.Prelude.{◌≡◌, ◌≤◌, ◌<◌, ◌^◌, ℕ, IfOk, IfSome, IsSome, Some, codes, min};
 ghost use Rattle.tor_cli.specs.Words.{AreWorkers, IsNumber, IsUsage};
-ghost use Rattle.tor_engine.specs.declared.how.TheConstants.{MAX_WORKERS};
+ghost use Rattle.tor_sums.specs.declared.how.TheConstants.{MAX_WORKERS};
 
 use crate::escape::escaped;
 use crate::fault::Fault;

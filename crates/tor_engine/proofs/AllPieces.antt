@@ -7,15 +7,15 @@ use Rattle.tor_plan.specs.Pieces.{pieces_of_unit}
 use Rattle.tor_plan.specs.PlanFacts.{PlanFacts}
 use Rattle.tor_plan.specs.declared.units.PlanUnit.{PlanUnit}
 use Rattle.tor_source.specs.Source.{SourceFacts}
-use Rattle.tor_engine.specs.Contents.{contents_in}
+use Rattle.tor_sums.specs.Contents.{contents_in}
 use Rattle.tor_engine.specs.PieceFault.{first_asked_fault, first_piece_fault, lengths_told, piece_fault, pieces_fault}
 use Rattle.tor_engine.specs.PieceHashes.{hash_if_there, pieces_of_plan, piece_hashes}
 use Rattle.tor_engine.specs.There.{HaveHashesOf, is_within}
 use Rattle.tor_engine.specs.declared.piece_hash.PieceHash.{PieceHash}
 use Rattle.tor_engine.specs.declared.piece_work.UnitPieces.{UnitPieces}
-use Rattle.tor_engine.specs.steps.Each.{SumUpEach}
+use Rattle.tor_sums.specs.steps.Each.{SumUpEach}
 use Rattle.tor_engine.specs.steps.Pieces.{AreTold, HashesPieces, first_unit_fault, unit_hashes, unit_pieces_fault}
-use Rattle.tor_engine.proofs.FirstOf.{or_none}
+use Rattle.tor_sums.proofs.FirstOf.{or_none}
 use Rattle.tor_engine.proofs.PositionFaults.{first_flat}
 
 joined_maps : {X Y Z : Type 0} (f : Y → Z) (g : X → List Y) (xs : List X)

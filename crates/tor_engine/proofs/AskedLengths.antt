@@ -9,12 +9,12 @@ use Rattle.std.proofs.lemmas.Bool.{eq-eqb, eqb-true}
 use Rattle.std.proofs.lemmas.List.{take_all}
 use Rattle.std.proofs.lemmas.List.FromFn.{get_or-enumerate_from, length-enumerate_from, map-range_with_len_more}
 use Rattle.tor_source.specs.Source.{SourceFacts, told_length, unless_fault}
-use Rattle.tor_engine.specs.Fault.{first_of}
+use Rattle.tor_sums.specs.Fault.{first_of}
 use Rattle.tor_engine.specs.PieceFault.{asked_fault, first_asked_fault, lengths_told}
-use Rattle.tor_engine.specs.declared.errors.EngineError.{EngineError}
-use Rattle.tor_engine.specs.declared.errors.EngineError.TheVariants.{Changed, Read}
+use Rattle.tor_sums.specs.declared.errors.EngineError.{EngineError}
+use Rattle.tor_sums.specs.declared.errors.EngineError.TheVariants.{Changed, Read}
 use Rattle.tor_engine.specs.steps.Asked.{again_fault, first_again_fault, unless_same}
-use Rattle.tor_engine.proofs.FirstOf.{first_at, first_found, first_next, first_none, neither, or_none}
+use Rattle.tor_sums.proofs.FirstOf.{first_at, first_found, first_next, first_none, neither, or_none}
 
 option_equal : (o : Option ℕ) → option_eq eqb o o ≡ true
 option_equal None = refl

@@ -17,15 +17,15 @@ use Rattle.tor_plan.specs.Forest.{AreRuns}
 use Rattle.tor_plan.specs.declared.forests.Run.{Run}
 use Rattle.tor_plan.specs.declared.units.PlanUnit.{PlanUnit}
 use Rattle.tor_source.specs.Source.{SourceFacts}
-use Rattle.tor_engine.specs.Fault.{IsFault, first_of}
-use Rattle.tor_engine.specs.declared.errors.EngineError.{EngineError}
+use Rattle.tor_sums.specs.Fault.{IsFault, first_of}
+use Rattle.tor_sums.specs.declared.errors.EngineError.{EngineError}
 use Rattle.tor_engine.specs.declared.failure.Failure.{Failure}
-use Rattle.tor_engine.specs.steps.Each.{SumUpEach}
-use Rattle.tor_engine.specs.steps.Places.{AreNumbers}
-use Rattle.tor_engine.specs.steps.Roots.{root_of_run, roots_of_trees}
+use Rattle.tor_sums.specs.steps.Each.{SumUpEach}
+use Rattle.tor_sums.specs.steps.Places.{AreNumbers}
+use Rattle.tor_sums.specs.steps.Roots.{root_of_run, roots_of_trees}
 use Rattle.tor_engine.specs.steps.Taken.{AnswersSeat, IsIn, IsSumOf, given_pairs, pair_in, unit_at}
 use Rattle.tor_engine.proofs.Counts.{each_mapped, each_more, each_with}
-use Rattle.tor_engine.proofs.Numbers.{numbers_of_counts}
+use Rattle.tor_engine.proofs.CountedNumbers.{numbers_of_counts}
 use Rattle.tor_engine.proofs.RunRoots.{IsRun, runs_are}
 use Rattle.tor_engine.proofs.GivenUnits.{each_in_place, each_root, first_found, hash_given, hashes_in_place}
 use Rattle.tor_engine.proofs.GivenUnits.{holds_of_given, none_found, part_of_range, run_at}

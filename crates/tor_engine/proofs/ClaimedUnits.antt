@@ -10,12 +10,12 @@ use Rattle.tor_board.specs.Desks.{Desk, GivenUnit, after_give, failing, finished
 use Rattle.tor_board.specs.Weights.{only, times, total, without}
 use Rattle.tor_plan.specs.declared.units.PlanUnit.{PlanUnit}
 use Rattle.tor_source.specs.Source.{SourceFacts}
-use Rattle.tor_engine.specs.Fault.{IsFault}
-use Rattle.tor_engine.specs.declared.errors.EngineError.{EngineError}
+use Rattle.tor_sums.specs.Fault.{IsFault}
+use Rattle.tor_sums.specs.declared.errors.EngineError.{EngineError}
 use Rattle.tor_engine.specs.declared.failure.Failure.{Failure}
 use Rattle.tor_engine.specs.declared.taken.Taken.{Taken}
-use Rattle.tor_engine.specs.declared.owing.OwingSums.{OwingSums}
-use Rattle.tor_engine.specs.steps.Each.{SumUpEach}
+use Rattle.tor_sums.specs.declared.owing.OwingSums.{OwingSums}
+use Rattle.tor_sums.specs.steps.Each.{SumUpEach}
 use Rattle.tor_engine.specs.steps.Taken.{GivesUnit, HasGiven, IsAny, IsIdle, IsOfGiven, IsSumOf, TakesUnits}
 use Rattle.tor_engine.specs.steps.Taken.{pair_in, unit_at, units_taken}
 use Rattle.tor_engine.proofs.Counts.{each_append, none_of}

@@ -1,7 +1,7 @@
 -- What units sum up to, each by itself.
 use Rattle.std.proofs.Common.{◌≡◌, suc, List, [], ◌∷◌, ◌++◌, ap, length, refl}
 use Rattle.tor_plan.specs.declared.units.PlanUnit.{PlanUnit}
-use Rattle.tor_engine.specs.steps.Each.{SumUpEach}
+use Rattle.tor_sums.specs.steps.Each.{SumUpEach}
 
 module _ {A : Type 0} (sums_up : PlanUnit → A → Type 0) where
   pub each_none : SumUpEach sums_up [] []

@@ -13,11 +13,11 @@ use Rattle.tor_merkle.proofs.ProvedLaws.{layer_of_long_content, piece_length_bou
 use Rattle.tor_plan.specs.PlanFacts.{IsPlan, PlanFacts}
 use Rattle.tor_tree.specs.Kinds.{has_v2}
 use Rattle.tor_engine.specs.Rows.{hash_of_short, hashes_of_file, or_alone, row_in, row_of_units}
-use Rattle.tor_engine.specs.steps.Hashes.{IsCut, Node, level_in, level_of, node_over, nodes_of_file}
-use Rattle.tor_engine.proofs.ByFile.{later_cut, one_cut}
-use Rattle.tor_engine.proofs.FileHashes.{unit_nodes_of_files}
-use Rattle.tor_engine.proofs.FileNodes.{layer_of_nodes, one_node, sizes}
-use Rattle.tor_engine.proofs.PlanLevels.{plan_is_cut}
+use Rattle.tor_sums.specs.steps.Hashes.{IsCut, Node, level_in, level_of, node_over, nodes_of_file}
+use Rattle.tor_sums.proofs.ByFile.{later_cut, one_cut}
+use Rattle.tor_sums.proofs.FileHashes.{unit_nodes_of_files}
+use Rattle.tor_sums.proofs.FileNodes.{layer_of_nodes, one_node, sizes}
+use Rattle.tor_sums.proofs.PlanLevels.{plan_is_cut}
 
 with_layer : (hash : List ℕ) (layer : List (List ℕ)) → 0 < length layer → or_alone hash layer ≡ layer
 with_layer hash [] some = absurd (omega (arith, some))

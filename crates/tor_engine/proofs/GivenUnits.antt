@@ -10,8 +10,8 @@ use Rattle.tor_board.specs.Desks.{GivenUnit, hash_of, units_of}
 use Rattle.tor_board.specs.Weights.{only, times}
 use Rattle.tor_plan.specs.declared.forests.Run.{Run}
 use Rattle.tor_plan.specs.declared.units.PlanUnit.{PlanUnit}
-use Rattle.tor_engine.specs.Fault.{first_of}
-use Rattle.tor_engine.specs.steps.Each.{SumUpEach}
+use Rattle.tor_sums.specs.Fault.{first_of}
+use Rattle.tor_sums.specs.steps.Each.{SumUpEach}
 use Rattle.tor_engine.specs.steps.Taken.{IsIn, given_pairs, unit_at}
 
 -- ---- the first of units that fails

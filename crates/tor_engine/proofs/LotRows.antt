@@ -10,19 +10,19 @@ use Rattle.tor_plan.specs.WithinEntries.{IsInFile}
 use Rattle.tor_plan.specs.declared.units.Part.{Part}
 use Rattle.tor_plan.specs.declared.units.PlanUnit.{PlanUnit}
 use Rattle.tor_source.specs.Source.{SourceFacts, bytes_from}
-use Rattle.tor_engine.specs.Contents.{contents_in}
+use Rattle.tor_sums.specs.Contents.{contents_in}
 use Rattle.tor_engine.specs.Rows.{AreSameAt, IsRowOf, row_in, units_between}
 use Rattle.tor_engine.specs.declared.lot.PieceRow.{PieceRow}
-use Rattle.tor_engine.specs.declared.unit_sums.UnitSums.{UnitSums}
-use Rattle.tor_engine.specs.steps.Hashes.{bytes_of_part}
-use Rattle.tor_engine.specs.steps.Reads.{AreReads, HasPart, HasParts, HaveRead, PartRead}
+use Rattle.tor_sums.specs.declared.unit_sums.UnitSums.{UnitSums}
+use Rattle.tor_sums.specs.steps.Hashes.{bytes_of_part}
+use Rattle.tor_sums.specs.steps.Reads.{AreReads, HasPart, HasParts, HaveRead, PartRead}
 use Rattle.tor_engine.specs.steps.RowSums.{IsRowOfSums}
-use Rattle.tor_engine.specs.steps.Run.{HashesUnits, IsUnitOf, IsUnitToSum, node_in, parts_of}
-use Rattle.tor_engine.proofs.PartReads.{have_both, reads_as, reads_both}
-use Rattle.tor_engine.proofs.Parts.{part_bytes, part_long}
-use Rattle.tor_engine.proofs.PlanLevels.{units_to_sum}
+use Rattle.tor_sums.specs.steps.Run.{HashesUnits, IsUnitOf, IsUnitToSum, node_in, parts_of}
+use Rattle.tor_sums.proofs.PartReads.{have_both, reads_as, reads_both}
+use Rattle.tor_sums.proofs.Parts.{part_bytes, part_long}
+use Rattle.tor_sums.proofs.PlanLevels.{units_to_sum}
 use Rattle.tor_engine.proofs.ReadContents.{contents_there, parts_within}
-use Rattle.tor_engine.proofs.Whole.{units_of_plan}
+use Rattle.tor_sums.proofs.Whole.{units_of_plan}
 
 -- ---- the units
 

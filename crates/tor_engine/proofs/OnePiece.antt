@@ -21,12 +21,12 @@ use Rattle.tor_tree.specs.Kinds.{has_v1, has_v2}
 use Rattle.tor_tree.specs.declared.kinds.Kind.{Kind}
 use Rattle.tor_tree.specs.declared.kinds.Kind.TheVariants.{V1, V2, Hybrid}
 use Rattle.tor_v1.specs.Piece.{piece_sums, zeros}
-use Rattle.tor_engine.specs.Fault.{first_of, part_fault, unit_fault}
+use Rattle.tor_sums.specs.Fault.{first_of, part_fault, unit_fault}
 use Rattle.tor_engine.specs.PieceFault.{piece_fault}
 use Rattle.tor_engine.specs.PieceHashes.{hash_if_there, hash_of_parts, piece_hash}
-use Rattle.tor_engine.specs.steps.Hashes.{bytes_of_part}
+use Rattle.tor_sums.specs.steps.Hashes.{bytes_of_part}
 use Rattle.tor_engine.specs.steps.Pieces.{HasPieces, IsPaddingSum, IsPiece, sums_in}
-use Rattle.tor_engine.proofs.FirstOf.{first_of_none}
+use Rattle.tor_sums.proofs.FirstOf.{first_of_none}
 use Rattle.tor_engine.proofs.PartsInside.{Inside, parts_in, unit_long}
 
 -- the law length_of_sums

@@ -16,11 +16,11 @@ use Rattle.tor_plan.specs.declared.units.Part.{Part}
 use Rattle.tor_plan.specs.declared.units.PlanUnit.{PlanUnit}
 use Rattle.tor_source.specs.Source.{SourceFacts}
 use Rattle.tor_v1.specs.Piece.{zeros}
-use Rattle.tor_engine.specs.Contents.{contents_in}
+use Rattle.tor_sums.specs.Contents.{contents_in}
 use Rattle.tor_engine.specs.There.{is_part_within, is_within, length_told}
-use Rattle.tor_engine.specs.steps.Given.{lengths_of_sizes}
-use Rattle.tor_engine.specs.steps.Reads.{HasParts}
-use Rattle.tor_engine.proofs.Parts.{content_at}
+use Rattle.tor_sums.specs.steps.Given.{lengths_of_sizes}
+use Rattle.tor_sums.specs.steps.Reads.{HasParts}
+use Rattle.tor_sums.proofs.Parts.{content_at}
 
 abbrev pub Inside : List (List ℕ) → Part → Type 0
 Inside contents part = part.start + part.length ≤ length (get_or contents part.file [])

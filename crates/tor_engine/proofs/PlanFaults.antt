@@ -1,7 +1,7 @@
 -- The first byte of a plan's files that fails.
 use Rattle.std.proofs.Common.{◌≡◌, ◌<◌, ◌*◌, ap, sym, ◌∙◌, arith, mul-pos}
-use Rattle.tor_engine.specs.Fault.{first_byte_fault, units_fault}
-use Rattle.tor_engine.proofs.FileHashes.{some_piece}
+use Rattle.tor_sums.specs.Fault.{first_byte_fault, units_fault}
+use Rattle.tor_sums.proofs.FileHashes.{some_piece}
 use Rattle.tor_engine.proofs.PositionFaults.{fault_of_entries}
 use Rattle.tor_plan.specs.PlanFacts.{IsPlan, PlanFacts}
 use Rattle.tor_source.specs.Source.{SourceFacts}

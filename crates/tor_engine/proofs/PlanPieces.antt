@@ -15,10 +15,10 @@ use Rattle.tor_plan.proofs.ProvedLaws.{pieces_are_so_long, pieces_are_within_fil
 use Rattle.tor_plan.proofs.ProvedLaws.{units_are_cut_into_pieces}
 use Rattle.tor_tree.specs.Kinds.{has_v2}
 use Rattle.tor_engine.specs.steps.Pieces.{IsPiece, IsUnitToHash}
-use Rattle.tor_engine.specs.steps.Run.{IsOnePart, IsUnitOf}
-use Rattle.tor_engine.proofs.FileHashes.{some_piece}
-use Rattle.tor_engine.proofs.PartReads.{all_split}
-use Rattle.tor_engine.proofs.Whole.{has_no_trees, piece_is_small, units_of_plan}
+use Rattle.tor_sums.specs.steps.Run.{IsOnePart, IsUnitOf}
+use Rattle.tor_sums.proofs.FileHashes.{some_piece}
+use Rattle.tor_sums.proofs.PartReads.{all_split}
+use Rattle.tor_sums.proofs.Whole.{has_no_trees, piece_is_small, units_of_plan}
 
 -- what holds of all lists that stand one after another holds of each
 each_list : {X Y : Type 0} (P : Y → Type 0) (f : X → List Y) (xs : List X) → AllByRecursion P (flat_map f xs)

@@ -2,9 +2,9 @@
 use Rattle.std.proofs.Common.{◌≡◌, ℕ, ◌+◌, ◌*◌, ◌<◌, false, List, [], ◌∷◌, map, Option, refl, ap, ap₂, sym, ◌∙◌}
 use Rattle.std.specs.List.{enumerate_from, flat_map, range_with_len}
 use Rattle.std.specs.Option.{option_or}
-use Rattle.tor_engine.specs.Fault.{byte_fault, file_fault, first_byte_fault, first_of, part_fault, unit_fault}
-use Rattle.tor_engine.specs.Fault.{units_fault}
-use Rattle.tor_engine.specs.declared.errors.EngineError.{EngineError}
+use Rattle.tor_sums.specs.Fault.{byte_fault, file_fault, first_byte_fault, first_of, part_fault, unit_fault}
+use Rattle.tor_sums.specs.Fault.{units_fault}
+use Rattle.tor_sums.specs.declared.errors.EngineError.{EngineError}
 use Rattle.tor_plan.specs.Content.{layout_of_kind}
 use Rattle.tor_plan.specs.Entries.{entry_units, lengths_of_entries}
 use Rattle.tor_plan.specs.Positions.{positions, positions_of_files, positions_of_part, positions_of_unit}
@@ -14,7 +14,7 @@ use Rattle.tor_plan.proofs.ProvedLaws.{entry_units_name_each_byte, entry_units_o
 use Rattle.tor_source.specs.Source.{SourceFacts}
 use Rattle.tor_tree.specs.FileList.{lengths_of}
 use Rattle.tor_tree.specs.declared.kinds.Kind.{Kind}
-use Rattle.tor_engine.proofs.FirstOf.{first_append}
+use Rattle.tor_sums.proofs.FirstOf.{first_append}
 use Rattle.tor_v1.specs.Entries.{v1_entries}
 use Rattle.tor_v1.specs.declared.entry.Entry.{Entry}
 

@@ -17,13 +17,13 @@ use Rattle.tor_plan.specs.WithinEntries.{IsInFile}
 use Rattle.tor_plan.specs.declared.units.Part.{Part}
 use Rattle.tor_plan.specs.declared.units.PlanUnit.{PlanUnit}
 use Rattle.tor_source.specs.Source.{SourceFacts}
-use Rattle.tor_engine.specs.steps.Reads.{AreReads, HasLengths, HasParts, HaveRead, PartRead}
-use Rattle.tor_engine.specs.steps.Run.{IsUnitOf, parts_of}
-use Rattle.tor_engine.proofs.FileHashes.{some_piece}
-use Rattle.tor_engine.proofs.PartReads.{all_append}
-use Rattle.tor_engine.proofs.Parts.{parts_there, size_of}
+use Rattle.tor_sums.specs.steps.Reads.{AreReads, HasLengths, HasParts, HaveRead, PartRead}
+use Rattle.tor_sums.specs.steps.Run.{IsUnitOf, parts_of}
+use Rattle.tor_sums.proofs.FileHashes.{some_piece}
+use Rattle.tor_sums.proofs.PartReads.{all_append}
+use Rattle.tor_sums.proofs.Parts.{parts_there, size_of}
 use Rattle.tor_engine.proofs.Positions.{length_of_positions, length_positions}
-use Rattle.tor_engine.proofs.Whole.{units_of_plan}
+use Rattle.tor_sums.proofs.Whole.{units_of_plan}
 use Rattle.tor_plan.proofs.ProvedLaws.{entry_units_name_each_byte}
 
 -- ---- bytes cut by lengths

@@ -10,12 +10,12 @@ use Rattle.tor_plan.specs.declared.units.PlanUnit.{PlanUnit}
 use Rattle.tor_tree.specs.Kinds.{has_v1}
 use Rattle.tor_v1.specs.Piece.{piece_sums, zeros}
 use Rattle.tor_engine.specs.Rows.{AreSameAt, IsRowOf, row_in, sums_of_pieces, units_between}
-use Rattle.tor_engine.specs.UnitNodes.{level_in, level_of, node_of_part, node_over, nodes_of_unit}
-use Rattle.tor_engine.specs.steps.Hashes.{bytes_of_part}
-use Rattle.tor_engine.specs.steps.Run.{parts_of}
-use Rattle.tor_engine.proofs.PartReads.{all_split}
+use Rattle.tor_sums.specs.UnitNodes.{level_in, level_of, node_of_part, node_over, nodes_of_unit}
+use Rattle.tor_sums.specs.steps.Hashes.{bytes_of_part}
+use Rattle.tor_sums.specs.steps.Run.{parts_of}
+use Rattle.tor_sums.proofs.PartReads.{all_split}
 use Rattle.tor_engine.proofs.LotRows.{between_inside}
-use Rattle.tor_engine.proofs.Parts.{size_of}
+use Rattle.tor_sums.proofs.Parts.{size_of}
 
 module _ (plan : PlanFacts) (contents other : List (List ℕ)) (fit : map length contents ≡ plan.lengths)
     (fits : map length other ≡ plan.lengths) where

@@ -8,8 +8,8 @@ use Rattle.tor_board.specs.Desks.{Desk, GivenUnit, both, fresh, keeping}
 use Rattle.tor_board.specs.Seats.{IsLeastOf}
 use Rattle.tor_plan.specs.declared.units.PlanUnit.{PlanUnit}
 use Rattle.tor_source.specs.Source.{SourceFacts}
-use Rattle.tor_engine.specs.declared.errors.EngineError.{EngineError}
-use Rattle.tor_engine.specs.declared.errors.EngineError.TheVariants.{Resources}
+use Rattle.tor_sums.specs.declared.errors.EngineError.{EngineError}
+use Rattle.tor_sums.specs.declared.errors.EngineError.TheVariants.{Resources}
 use Rattle.tor_engine.specs.declared.failure.Failure.{Failure}
 use Rattle.tor_engine.specs.declared.taken.Taken.{Taken}
 use Rattle.tor_engine.specs.steps.Failing.{AreJoined}

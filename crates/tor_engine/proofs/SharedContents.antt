@@ -12,14 +12,14 @@ use Rattle.tor_plan.specs.declared.units.Part.{Part}
 use Rattle.tor_plan.specs.declared.units.PlanUnit.{PlanUnit}
 use Rattle.tor_source.specs.Source.{SourceFacts}
 use Rattle.tor_engine.specs.Rows.{AreSameAt, IsRowOf}
-use Rattle.tor_engine.specs.steps.Hashes.{bytes_of_part}
-use Rattle.tor_engine.specs.steps.Reads.{AreReads, HaveRead, PartRead}
-use Rattle.tor_engine.specs.steps.Run.{parts_of}
-use Rattle.tor_engine.proofs.PartReads.{all_split, have_both, reads_as, reads_both, reads_none}
-use Rattle.tor_engine.proofs.Parts.{part_long}
+use Rattle.tor_sums.specs.steps.Hashes.{bytes_of_part}
+use Rattle.tor_sums.specs.steps.Reads.{AreReads, HaveRead, PartRead}
+use Rattle.tor_sums.specs.steps.Run.{parts_of}
+use Rattle.tor_sums.proofs.PartReads.{all_split, have_both, reads_as, reads_both, reads_none}
+use Rattle.tor_sums.proofs.Parts.{part_long}
 use Rattle.tor_engine.proofs.ReadContents.{contents_there, parts_within}
 use Rattle.tor_engine.proofs.SameRows.{same_row}
-use Rattle.tor_engine.proofs.Whole.{units_of_plan}
+use Rattle.tor_sums.proofs.Whole.{units_of_plan}
 
 -- ---- what would be read of contents
 

@@ -5,10 +5,10 @@ use Rattle.std.specs.List.{range_with_len}
 use Rattle.std.proofs.lemmas.List.{map-append}
 use Rattle.std.proofs.lemmas.List.FromFn.{map-range_with_len_more}
 use Rattle.tor_source.specs.Source.{SourceFacts, told_length, unless_fault}
-use Rattle.tor_engine.specs.Contents.{contents_in}
-use Rattle.tor_engine.specs.Fault.{ToldLengths, first_of, length_fault, unless_told}
-use Rattle.tor_engine.specs.declared.errors.EngineError.{EngineError}
-use Rattle.tor_engine.proofs.FirstOf.{first_found, first_none}
+use Rattle.tor_sums.specs.Contents.{contents_in}
+use Rattle.tor_sums.specs.Fault.{ToldLengths, first_of, length_fault, unless_told}
+use Rattle.tor_sums.specs.declared.errors.EngineError.{EngineError}
+use Rattle.tor_sums.proofs.FirstOf.{first_found, first_none}
 
 module _ {F : Type 0} (facts : SourceFacts F) where
   pub told_none : ToldLengths facts 0 []

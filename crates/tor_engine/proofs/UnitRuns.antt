@@ -9,12 +9,12 @@ use Rattle.tor_plan.specs.declared.units.PlanUnit.{PlanUnit}
 use Rattle.tor_source.specs.Source.{SourceFacts}
 use Rattle.tor_tree.specs.Kinds.{has_v1}
 use Rattle.tor_v1.specs.Piece.{piece_sums}
-use Rattle.tor_engine.specs.declared.unit_sums.UnitSums.{UnitSums}
-use Rattle.tor_engine.specs.steps.Each.{SumUpEach}
-use Rattle.tor_engine.specs.steps.Hashes.{Node, level_of, nodes_of_unit}
-use Rattle.tor_engine.specs.steps.Run.{HashesUnits, SumsUpUnit, bare_node, node_in, parts_of}
-use Rattle.tor_engine.proofs.PartReads.{have_both, reads_as, reads_both, reads_none}
-use Rattle.tor_engine.proofs.Runs.{joined_if, none_if}
+use Rattle.tor_sums.specs.declared.unit_sums.UnitSums.{UnitSums}
+use Rattle.tor_sums.specs.steps.Each.{SumUpEach}
+use Rattle.tor_sums.specs.steps.Hashes.{Node, level_of, nodes_of_unit}
+use Rattle.tor_sums.specs.steps.Run.{HashesUnits, SumsUpUnit, bare_node, node_in, parts_of}
+use Rattle.tor_sums.proofs.PartReads.{have_both, reads_as, reads_both, reads_none}
+use Rattle.tor_sums.proofs.Runs.{joined_if, none_if}
 
 module _ {F : Type 0} (is_steady : SourceFacts F → Type 0) (plan : PlanFacts) where
   abbrev nodes_in : List (List ℕ) → PlanUnit → List Node

@@ -8,16 +8,16 @@ use Rattle.tor_plan.specs.PlanFacts.{IsPlan, PlanFacts}
 use Rattle.tor_source.specs.Source.{SourceFacts}
 use Rattle.tor_tree.specs.Kinds.{has_v1}
 use Rattle.tor_v1.specs.Piece.{piece_sums}
-use Rattle.tor_engine.specs.Contents.{contents_in}
-use Rattle.tor_engine.specs.Shares.{IsUnitSums, bare_node, unit_at}
-use Rattle.tor_engine.specs.UnitNodes.{level_of, nodes_of_unit}
-use Rattle.tor_engine.specs.declared.unit_sums.UnitSums.{UnitSums}
-use Rattle.tor_engine.specs.steps.Reads.{HasLengths, HasParts}
-use Rattle.tor_engine.specs.steps.Run.{SumsUpUnit}
+use Rattle.tor_sums.specs.Contents.{contents_in}
+use Rattle.tor_sums.specs.UnitSums.{IsUnitSums, bare_node, unit_at}
+use Rattle.tor_sums.specs.UnitNodes.{level_of, nodes_of_unit}
+use Rattle.tor_sums.specs.declared.unit_sums.UnitSums.{UnitSums}
+use Rattle.tor_sums.specs.steps.Reads.{HasLengths, HasParts}
+use Rattle.tor_sums.specs.steps.Run.{SumsUpUnit}
 use Rattle.tor_engine.specs.steps.Taken.{IsSumOf}
 use Rattle.tor_engine.proofs.Counts.{each_more}
-use Rattle.tor_engine.proofs.Parts.{unit_there}
-use Rattle.tor_engine.proofs.Whole.{units_of_plan}
+use Rattle.tor_sums.proofs.Parts.{unit_there}
+use Rattle.tor_sums.proofs.Whole.{units_of_plan}
 
 module _ {F : Type 0} (is_steady : SourceFacts F → Type 0) (plan : PlanFacts) (is : IsPlan plan)
     (facts : SourceFacts F) (steady : is_steady facts) (fit : HasLengths plan facts) where

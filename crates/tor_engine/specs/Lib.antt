@@ -1,14 +1,6 @@
-pub mod Contents
-pub mod Fault
-pub mod Given
-pub mod Hasher
-pub mod How
 pub mod PieceFault
 pub mod PieceHashes
 pub mod Rows
 pub mod Shares
-pub mod Streams
-pub mod Sums
 pub mod There
-pub mod UnitNodes
 pub mod steps

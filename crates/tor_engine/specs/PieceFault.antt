@@ -7,11 +7,11 @@ use Rattle.tor_plan.specs.PlanFacts.{PlanFacts}
 use Rattle.tor_plan.specs.Present.{is_there}
 use Rattle.tor_plan.specs.declared.units.PlanUnit.{PlanUnit}
 use Rattle.tor_source.specs.Source.{SourceFacts}
-use Rattle.tor_engine.specs.Contents.{contents_in}
-use Rattle.tor_engine.specs.Fault.{first_of, unit_fault}
+use Rattle.tor_sums.specs.Contents.{contents_in}
+use Rattle.tor_sums.specs.Fault.{first_of, unit_fault}
 use Rattle.tor_engine.specs.PieceHashes.{pieces_of_plan}
-use Rattle.tor_engine.specs.declared.errors.EngineError.{EngineError}
-use Rattle.tor_engine.specs.declared.errors.EngineError.TheVariants.{Read}
+use Rattle.tor_sums.specs.declared.errors.EngineError.{EngineError}
+use Rattle.tor_sums.specs.declared.errors.EngineError.TheVariants.{Read}
 
 -- the length of each of so many files, none of one that is missing
 abbrev pub lengths_told : {F : Type 0} → SourceFacts F → ℕ → List (Option ℕ)

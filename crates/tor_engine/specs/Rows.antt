@@ -8,7 +8,7 @@ use Rattle.tor_plan.specs.declared.units.PlanUnit.{PlanUnit}
 use Rattle.tor_source.specs.Source.{SourceFacts, bytes_from}
 use Rattle.tor_tree.specs.Kinds.{has_v1, has_v2}
 use Rattle.tor_v1.specs.Piece.{piece_sums}
-use Rattle.tor_engine.specs.UnitNodes.{Node, bytes_of_part, level_of, nodes_of_unit}
+use Rattle.tor_sums.specs.UnitNodes.{Node, bytes_of_part, level_of, nodes_of_unit}
 
 -- the units from one number on, and before another
 abbrev pub units_between : ℕ → ℕ → List PlanUnit → List PlanUnit

@@ -1,16 +1,16 @@
 //! The lengths of files that may be missing, asked of their source.
 ghost use Rattle.std.specs.Prelude.{◌≡◌, ◌⊎◌, ◌<◌, ℕ, None, Ok, Some, IfErr, IfOk, MatchResult, length};
 ghost use Rattle.tor_source.specs.Source.{SourceFacts, told_length};
-ghost use Rattle.tor_engine.specs.Fault.{IsFault};
-ghost use Rattle.tor_engine.specs.Given.{HasTold};
+ghost use Rattle.tor_sums.specs.Fault.{IsFault};
+ghost use Rattle.tor_sums.specs.Given.{HasTold};
 ghost use Rattle.tor_engine.specs.PieceFault.{asked_fault, first_asked_fault, lengths_told};
-ghost use Rattle.tor_engine.specs.declared.errors.EngineError.TheVariants.{Resources};
+ghost use Rattle.tor_sums.specs.declared.errors.EngineError.TheVariants.{Resources};
 ghost use Rattle.tor_engine.specs.steps.Asked.{first_again_fault};
-ghost use Rattle.tor_engine.specs.steps.Given.{IsGivenAgain, IsGivenLength};
+ghost use Rattle.tor_sums.specs.steps.Given.{IsGivenAgain, IsGivenLength};
 
-use crate::errors::EngineError;
 use std::alloc::Global;
 use tor_source::Source;
+use tor_sums::EngineError;
 
 /// Asks for the length of each of so many files, in order: none of a file that is missing.
 pub(crate) fn ask_each<S: Source>(

@@ -1,22 +1,20 @@
 //! All files of a plan hashed.
 ghost use Rattle.std.specs.Prelude.{◌≡◌, None, IfErr, IfOk, MatchResult, OnOk, length};
 ghost use Rattle.tor_source.specs.Source.{SourceFacts};
-ghost use Rattle.tor_engine.specs.Contents.{contents_in};
-ghost use Rattle.tor_engine.specs.Fault.{IsFault, first_byte_fault, first_fault, first_length_fault};
-ghost use Rattle.tor_engine.specs.Given.{HasToldLengths, IsGiven, IsGivenNotMissing};
-ghost use Rattle.tor_engine.specs.How.{IsHow};
-ghost use Rattle.tor_engine.specs.Sums.{AreSumsOfPlan, AreSumsOfSome};
+ghost use Rattle.tor_sums.specs.Contents.{contents_in};
+ghost use Rattle.tor_sums.specs.Fault.{IsFault, first_byte_fault, first_fault, first_length_fault};
+ghost use Rattle.tor_sums.specs.Given.{HasToldLengths, IsGiven, IsGivenNotMissing};
+ghost use Rattle.tor_sums.specs.How.{IsHow};
+ghost use Rattle.tor_sums.specs.Sums.{AreSumsOfPlan, AreSumsOfSome};
 
-use crate::errors::EngineError;
-use crate::how::How;
 use crate::lengths::expect_lengths;
 use crate::sum_work::SumWork;
-use crate::sums::{Sums, sums_of_units};
 use crate::units::hash_units;
 use std::alloc::Global;
 use std::thread::Threads;
 use tor_plan::Plan;
 use tor_source::Source;
+use tor_sums::{EngineError, How, Sums, sums_of_units};
 
 /// What the files of the source sum up to that the plan has: file i of the plan is file i of the source. First every
 /// length is asked, in the order of the files; a file that is not as long as the plan says is answered when all were

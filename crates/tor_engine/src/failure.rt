@@ -1,10 +1,10 @@
 //! Why workers stop, and what is answered of two of them.
 ghost use Rattle.std.specs.Prelude.{◌≡◌, ◌⊎◌, ◌↔◌, IsTrue, min};
-ghost use Rattle.tor_engine.specs.declared.errors.EngineError.TheVariants.{Resources};
-ghost use Rattle.tor_engine.specs.steps.Failing.{AreBoth};
+ghost use Rattle.tor_sums.specs.declared.errors.EngineError.TheVariants.{Resources};
+ghost use Rattle.tor_engine.specs.steps.Failing.{AreBoth, AreJoined};
 
-use crate::errors::EngineError;
 use std::alloc::{AllocError, AllocFailed};
+use tor_sums::{EngineError, append};
 
 /// Why a worker stopped.
 #[derive(Drop)]
@@ -48,6 +48,22 @@ pub(crate) fn both<T: Drop, F: Drop>(
         (Ok(_), Err(failure)) => Err(failure),
         (Err(failure), Ok(_)) => Err(failure),
         (Err(failure), Err(later)) => Err(least(failure, later)),
+    }
+}
+
+/// What two workers answer together: the items of one after those of the other, or why one stopped.
+pub(crate) fn both_joined<T: Drop, F: Drop>(
+    one: Result<Vec<T>, Failure<F>>,
+    other: Result<Vec<T>, Failure<F>>,
+) -> Result<Vec<T>, Failure<F>>
+    ensures { AreJoined one other result }
+{
+    match both(one, other) {
+        Ok((mut items, next)) => {
+            append(&mut items, next)?;
+            Ok(items)
+        }
+        Err(failure) => Err(failure),
     }
 }
 

@@ -1,7 +1,7 @@
 //! Laws over the definitions.
-ghost use Rattle.std.specs.Prelude.{◌^◌, ◌≡◌, ◌<◌, ◌*◌, ℕ, List, length, map, true};
+ghost use Rattle.std.specs.Prelude.{◌≡◌, ◌<◌, ◌*◌, ℕ, List, length, map, true};
 ghost use Rattle.std.specs.List.{flat_map, range_with_len};
-ghost use Rattle.tor_engine.specs.Fault.{first_byte_fault, units_fault};
+ghost use Rattle.tor_sums.specs.Fault.{first_byte_fault, units_fault};
 ghost use Rattle.tor_plan.specs.PlanFacts.{IsPlan, PlanFacts};
 ghost use Rattle.tor_plan.specs.Units.{hash_units};
 ghost use Rattle.tor_plan.specs.declared.units.PlanUnit.{PlanUnit};
@@ -12,10 +12,10 @@ ghost use Rattle.tor_tree.specs.declared.kinds.Kind.{Kind};
 ghost use Rattle.tor_v1.specs.Piece.{piece_sums};
 ghost use Rattle.tor_engine.specs.Rows.{AreSameAt, IsRowOf, hashes_of_file, row_of_units, sums_of_pieces};
 ghost use Rattle.tor_engine.specs.Rows.{units_between};
-ghost use Rattle.tor_engine.specs.Sums.{plan_content};
-ghost use Rattle.tor_engine.specs.declared.how.TheConstants.{MAX_WORKERS};
-ghost use Rattle.tor_engine.specs.declared.room.TheConstants.{BATCH, LEAST_ASKED, MOST_HELD};
-ghost use Rattle.tor_engine.specs.declared.streams.TheConstants.{MAX_UNIT_LENGTH};
+ghost use Rattle.tor_sums.specs.Sums.{plan_content};
+
+pub use tor_streams::laws::limit_of_units;
+pub use tor_sums::laws::{limit_of_workers, limits_of_buffers};
 
 /// The first byte that fails in the order of the units is the first in the order of the files, however they are cut.
 pub fn first_fault_of_units<F>()
@@ -55,22 +55,4 @@ pub fn shares_have_contents()
         (contents : List (List ℕ)) × (map length contents ≡ plan.lengths)
         × ((run : ℕ) → run < runs → AreSameAt contents (others run) (units run)
         × IsRowOf plan contents (units run) (hashes run) (pieces run)) }
-{}
-
-/// The most workers that may share the hashing.
-pub fn limit_of_workers()
-    ensures { MAX_WORKERS ≡ 64 }
-{}
-
-/// The limits of a worker's buffer, in bytes: how many it asks for at least, how many are hashed together, and how many
-/// it holds at most.
-pub fn limits_of_buffers()
-    ensures asked { LEAST_ASKED ≡ 2 ^ 16 }
-    ensures together { BATCH ≡ 2 ^ 20 }
-    ensures held { MOST_HELD ≡ 2 ^ 23 }
-{}
-
-/// The most bytes of a unit that goes through a lane.
-pub fn limit_of_units()
-    ensures { MAX_UNIT_LENGTH ≡ 2 ^ 30 }
 {}

@@ -2,14 +2,14 @@
 ghost use Rattle.std.specs.Prelude.{◌≡◌, ◌<◌, None, Ok, Some, IfErr, IfOk, MatchResult, length, ℕ};
 ghost use Rattle.std.specs.List.{range_with_len};
 ghost use Rattle.tor_source.specs.Source.{SourceFacts, told_length};
-ghost use Rattle.tor_engine.specs.Fault.{IsFault, ToldLengths, change_from, first_length_fault, first_of};
-ghost use Rattle.tor_engine.specs.Fault.{length_fault};
-ghost use Rattle.tor_engine.specs.Given.{HasToldLengths, IsGiven, IsGivenAsked};
+ghost use Rattle.tor_sums.specs.Fault.{IsFault, ToldLengths, change_from, first_length_fault, first_of};
+ghost use Rattle.tor_sums.specs.Fault.{length_fault};
+ghost use Rattle.tor_sums.specs.Given.{HasToldLengths, IsGiven, IsGivenAsked};
 
 use crate::asked::ask_one;
-use crate::errors::EngineError;
 use std::alloc::Global;
 use tor_source::Source;
+use tor_sums::EngineError;
 
 /// Asks for the length of each file, in order, and then answers the first that is not the one that was planned.
 pub(crate) fn expect_lengths<S: Source>(

@@ -2,19 +2,15 @@
 ghost use Rattle.std.specs.Prelude.{◌≡◌, ◌≤◌, ◌++◌, None, IfErr, IfOk, List, MatchResult, OnOk, length, map, ℕ};
 ghost use Rattle.std.specs.List.{flat_map};
 ghost use Rattle.tor_source.specs.Source.{SourceFacts};
-ghost use Rattle.tor_engine.specs.Contents.{contents_in};
-ghost use Rattle.tor_engine.specs.Fault.{IsFault, units_fault};
-ghost use Rattle.tor_engine.specs.Given.{IsGivenRead};
-ghost use Rattle.tor_engine.specs.How.{IsHow};
+ghost use Rattle.tor_sums.specs.Contents.{contents_in};
+ghost use Rattle.tor_sums.specs.Fault.{IsFault, units_fault};
+ghost use Rattle.tor_sums.specs.Given.{IsGivenRead};
+ghost use Rattle.tor_sums.specs.How.{IsHow};
 ghost use Rattle.tor_engine.specs.Rows.{AreSameAt, HasBytesAt, IsRowOf, row_in, units_between};
-ghost use Rattle.tor_engine.specs.Shares.{node_in};
+ghost use Rattle.tor_sums.specs.UnitSums.{node_in};
 ghost use Rattle.tor_engine.specs.steps.RowSums.{IsRowOfSums};
 
-use crate::errors::EngineError;
-use crate::how::How;
-use crate::joined::pieces_of_units;
 use crate::sum_work::SumWork;
-use crate::unit_sums::UnitSums;
 use crate::units::hash_units;
 use std::alloc::{AllocError, Global};
 use std::thread::Threads;
@@ -22,6 +18,7 @@ use tor_merkle::Hash;
 use tor_plan::laws::units_are_few;
 use tor_plan::{Forest, Plan, PlanUnit};
 use tor_source::Source;
+use tor_sums::{EngineError, How, UnitSums, pieces_of_units};
 use tor_tree::Kind;
 
 /// The hashes of pieces, one after another.

@@ -3,20 +3,19 @@ ghost use Rattle.std.specs.Prelude.{◌≡◌, ◌≤◌, ◌^◌, None, All, If
 ghost use Rattle.std.specs.List.{range_with_len};
 ghost use Rattle.tor_plan.specs.Forest.{AreRuns};
 ghost use Rattle.tor_source.specs.Source.{SourceFacts};
-ghost use Rattle.tor_engine.specs.Fault.{IsFault, first_of};
-ghost use Rattle.tor_engine.specs.steps.Each.{SumUpEach};
-ghost use Rattle.tor_engine.specs.steps.Places.{AreNumbers};
-ghost use Rattle.tor_engine.specs.steps.Roots.{roots_of_trees};
+ghost use Rattle.tor_sums.specs.Fault.{IsFault, first_of};
+ghost use Rattle.tor_sums.specs.steps.Each.{SumUpEach};
+ghost use Rattle.tor_sums.specs.steps.Places.{AreNumbers};
+ghost use Rattle.tor_sums.specs.steps.Roots.{roots_of_trees};
 
-use crate::errors::EngineError;
 use crate::halves::by_halves;
-use crate::places::put_in_order;
 use crate::seats::SeatShare;
 use crate::unit_work::UnitWork;
 use std::thread::Threads;
 use tor_board::Board;
 use tor_merkle::Hash;
 use tor_plan::{Forest, PlanUnit};
+use tor_sums::{EngineError, put_in_order};
 
 /// What each of the units sums up to, and the roots of the trees over them. So many workers claim them at one board;
 /// want of resources is answered before all, else the fault of the least unit that failed, whatever came first in time.

@@ -4,16 +4,16 @@ ghost use Rattle.std.specs.List.{flat_map};
 ghost use Rattle.tor_plan.specs.Content.{unit_content};
 ghost use Rattle.tor_plan.specs.Present.{is_there};
 ghost use Rattle.tor_tree.specs.Kinds.{has_v2};
-ghost use Rattle.tor_engine.specs.Hasher.{AreHashesOf, IsTreeOf};
+ghost use Rattle.tor_sums.specs.Hasher.{AreHashesOf, IsTreeOf};
 ghost use Rattle.tor_engine.specs.PieceHashes.{hash_of_parts, merkle_hash, piece_hash};
-ghost use Rattle.tor_engine.specs.steps.Hashes.{bytes_of_part};
+ghost use Rattle.tor_sums.specs.steps.Hashes.{bytes_of_part};
 ghost use Rattle.tor_engine.specs.steps.Pieces.{HasPieces, IsPiece};
 
-use crate::hasher::Hashed;
 use crate::items::item_at;
 use tor_merkle::laws::root_of_short_content;
 use tor_merkle::{FedTree, Hash};
 use tor_plan::{Plan, PlanUnit};
+use tor_sums::Hashed;
 use tor_v1::laws::length_of_sums;
 
 /// The hashes of a piece, one for each side that a torrent of its kind has.

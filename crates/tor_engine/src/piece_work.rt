@@ -5,28 +5,24 @@ ghost use Rattle.tor_plan.specs.PlanFacts.{IsPlan};
 ghost use Rattle.tor_plan.specs.Present.{is_there};
 ghost use Rattle.tor_plan.specs.WithinEntries.{IsInFile};
 ghost use Rattle.tor_source.specs.Source.{SourceFacts};
-ghost use Rattle.tor_engine.specs.Contents.{contents_in};
-ghost use Rattle.tor_engine.specs.Fault.{IsFault, unit_fault};
+ghost use Rattle.tor_sums.specs.Contents.{contents_in};
+ghost use Rattle.tor_sums.specs.Fault.{IsFault, unit_fault};
 ghost use Rattle.tor_engine.specs.PieceFault.{piece_fault};
 ghost use Rattle.tor_engine.specs.PieceHashes.{hash_if_there, piece_hash};
 ghost use Rattle.tor_engine.specs.There.{is_within};
-ghost use Rattle.tor_engine.specs.steps.Each.{SumUpEach};
-ghost use Rattle.tor_engine.specs.steps.Given.{IsGivenRead, lengths_of_sizes};
+ghost use Rattle.tor_sums.specs.steps.Each.{SumUpEach};
+ghost use Rattle.tor_sums.specs.steps.Given.{IsGivenRead, lengths_of_sizes};
 ghost use Rattle.tor_engine.specs.steps.Pieces.{AreTold, HashesPieces, IsPaddingSum, IsPiece, IsUnitToHash};
 ghost use Rattle.tor_engine.specs.steps.Pieces.{unit_pieces_fault};
-ghost use Rattle.tor_engine.specs.steps.Worker.{IsFresh};
+ghost use Rattle.tor_sums.specs.steps.Worker.{IsFresh};
 
-use crate::errors::EngineError;
-use crate::file_bytes::FileBytes;
-use crate::owing::OwingSums;
 use crate::piece_hash::{PieceHash, hashes_of_piece};
 use crate::present::is_there;
-use crate::unit_hash::hash_unit;
 use crate::unit_work::UnitWork;
-use crate::worker::WorkerSums;
 use std::alloc::{AllocError, Global};
 use tor_merkle::Hash;
 use tor_plan::{Plan, PlanUnit};
+use tor_sums::{EngineError, FileBytes, OwingSums, WorkerSums, hash_unit};
 
 /// What is known before units are read.
 #[derive(Drop)]

@@ -1,30 +1,27 @@
 //! The pieces of a plan hashed, of files that may be cut short or missing, and the lengths of these files.
 ghost use Rattle.std.specs.Prelude.{◌≡◌, None, IfErr, IfOk, IsSome, MatchResult, OnOk, length, nat_le};
-ghost use Rattle.std.specs.List.{list_any};
+ghost use Rattle.std.specs.List.{flat_map, list_any};
 ghost use Rattle.tor_source.specs.Source.{SourceFacts};
-ghost use Rattle.tor_engine.specs.Contents.{contents_in};
-ghost use Rattle.tor_engine.specs.Fault.{IsFault};
-ghost use Rattle.tor_engine.specs.Given.{HasTold, IsGivenPieces};
-ghost use Rattle.tor_engine.specs.How.{IsHow};
+ghost use Rattle.tor_sums.specs.Contents.{contents_in};
+ghost use Rattle.tor_sums.specs.Fault.{IsFault};
+ghost use Rattle.tor_sums.specs.Given.{HasTold, IsGivenPieces};
+ghost use Rattle.tor_sums.specs.How.{IsHow};
 ghost use Rattle.tor_engine.specs.PieceFault.{first_asked_fault, first_piece_fault, lengths_told};
 ghost use Rattle.tor_engine.specs.PieceHashes.{piece_hashes, pieces_of_plan};
 ghost use Rattle.tor_engine.specs.There.{HasHashesWithin};
-ghost use Rattle.tor_engine.specs.steps.Given.{IsGivenKnown};
+ghost use Rattle.tor_sums.specs.steps.Given.{IsGivenKnown};
 ghost use Rattle.tor_engine.specs.steps.Pieces.{IsPaddingSum, MayHavePadding, has_long_zeros};
 
 use crate::asked::{ask_each, expect_each};
-use crate::errors::EngineError;
-use crate::hasher::feed_zeros;
-use crate::how::How;
 use crate::items::item_at;
-use crate::joined::hashes_of_pieces;
 use crate::piece_hash::PieceHash;
-use crate::piece_work::{Known, PieceWork};
+use crate::piece_work::{Known, PieceWork, UnitPieces};
 use crate::units::hash_units;
 use std::alloc::{AllocError, Global};
 use std::thread::Threads;
 use tor_plan::{Forest, Part, Plan, PlanUnit};
 use tor_source::Source;
+use tor_sums::{EngineError, How, feed_zeros, items_of_each};
 use tor_v1::PieceSums;
 use tor_v1::laws::length_of_sums;
 
@@ -189,4 +186,14 @@ fn has_long_zeros_after(parts: &[Part], piece_length: u64) -> bool
     ensures { result ≡ list_any (λ part. nat_le piece_length part.zeros) parts.now }
 {
     parts.iter().any(|part| part.zeros >= piece_length)
+}
+
+/// The hashes of the pieces of all units, one after the other.
+fn hashes_of_pieces(
+    alloc: Global,
+    units: &[UnitPieces],
+) -> Result<Vec<Option<PieceHash>>, AllocError>
+    ensures { IfOk result (λ all. all.items ≡ flat_map (λ unit. unit.hashes.items) units.now) }
+{
+    items_of_each(alloc, units, |unit| unit.hashes.as_slice())
 }

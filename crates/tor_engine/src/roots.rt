@@ -1,7 +1,7 @@
 //! The roots of trees over units, from the hashes of the units.
 ghost use Rattle.std.specs.Prelude.{◌≡◌, IfOk, length, map};
 ghost use Rattle.tor_plan.specs.Forest.{AreRuns};
-ghost use Rattle.tor_engine.specs.steps.Roots.{roots_of_trees};
+ghost use Rattle.tor_sums.specs.steps.Roots.{roots_of_trees};
 
 use crate::unit_work::UnitWork;
 use std::alloc::{AllocError, Global};

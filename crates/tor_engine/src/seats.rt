@@ -4,9 +4,8 @@ ghost use Rattle.tor_board.specs.Desks.{fresh, keeping};
 ghost use Rattle.tor_board.specs.Seats.{IsSeatOf, knows, unit_count};
 ghost use Rattle.tor_engine.specs.steps.Taken.{AnswersSeat, AreSumsOfTaken, IsIdle};
 
-use crate::failure::Failure;
+use crate::failure::{Failure, both_joined};
 use crate::halves::Divisible;
-use crate::joined::both_joined;
 use crate::taken::Taken;
 use crate::taking::take_units;
 use crate::unit_work::UnitWork;

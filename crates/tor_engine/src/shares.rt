@@ -2,21 +2,21 @@
 ghost use Rattle.std.specs.Prelude.{◌≡◌, ◌<◌, ◌++◌, [], ◌∷◌, true, All, IfErr, IfOk, List, OnOk, length, map};
 ghost use Rattle.tor_board.specs.Seats.{IsSeatOf, forest_of, knows, unit_count};
 ghost use Rattle.tor_source.specs.Source.{SourceFacts};
-ghost use Rattle.tor_engine.specs.Contents.{contents_in};
+ghost use Rattle.tor_sums.specs.Contents.{contents_in};
 ghost use Rattle.tor_board.specs.Desks.{GivenUnit};
-ghost use Rattle.tor_engine.specs.Fault.{IsFault, unit_fault};
-ghost use Rattle.tor_engine.specs.Given.{IsGivenRead};
-ghost use Rattle.tor_engine.specs.Shares.{IsShareOf, IsUnitSums, unit_at};
+ghost use Rattle.tor_sums.specs.Fault.{IsFault, unit_fault};
+ghost use Rattle.tor_sums.specs.Given.{IsGivenRead};
+ghost use Rattle.tor_engine.specs.Shares.{IsShareOf};
+ghost use Rattle.tor_sums.specs.UnitSums.{IsUnitSums, unit_at};
 
-use crate::errors::EngineError;
 use crate::sum_work::SumWork;
 use crate::taking::take_units;
-use crate::unit_sums::UnitSums;
 use std::alloc::Global;
 use tor_board::{Board, Seat};
 use tor_merkle::Hash;
 use tor_plan::Plan;
 use tor_source::Source;
+use tor_sums::{EngineError, UnitSums};
 
 /// What one worker did: both in the order in which it gave the units.
 #[derive(Debug, Drop)]

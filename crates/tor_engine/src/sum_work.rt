@@ -1,22 +1,18 @@
 //! Units hashed for the sums of files.
 ghost use Rattle.std.specs.Prelude.{ℕ, Contains, List};
 ghost use Rattle.tor_plan.specs.PlanFacts.{IsPlan};
-ghost use Rattle.tor_engine.specs.Fault.{unit_fault};
-ghost use Rattle.tor_engine.specs.steps.Given.{IsGivenRead};
-ghost use Rattle.tor_engine.specs.steps.Reads.{HasParts};
-ghost use Rattle.tor_engine.specs.steps.Each.{OweEach};
-ghost use Rattle.tor_engine.specs.steps.Owing.{Owes};
-ghost use Rattle.tor_engine.specs.steps.Run.{IsUnitToSum, OwesUnit, SumsUpUnit, parts_of};
+ghost use Rattle.tor_sums.specs.Fault.{unit_fault};
+ghost use Rattle.tor_sums.specs.steps.Given.{IsGivenRead};
+ghost use Rattle.tor_sums.specs.steps.Reads.{HasParts};
+ghost use Rattle.tor_sums.specs.steps.Each.{OweEach};
+ghost use Rattle.tor_sums.specs.steps.Owing.{Owes};
+ghost use Rattle.tor_sums.specs.steps.Run.{IsUnitToSum, OwesUnit, SumsUpUnit, parts_of};
 
-use crate::errors::EngineError;
-use crate::file_bytes::FileBytes;
-use crate::owing::OwingSums;
-use crate::paying::pay;
-use crate::unit_sums::{UnitSums, sum_unit};
 use crate::unit_work::UnitWork;
 use std::alloc::{AllocError, Global};
 use tor_merkle::Hash;
 use tor_plan::{Plan, PlanUnit};
+use tor_sums::{EngineError, FileBytes, OwingSums, UnitSums, pay, sum_unit};
 
 /// Hashes some units of a plan.
 #[derive(Drop)]

@@ -5,18 +5,17 @@ ghost use Rattle.tor_board.specs.Desks.{Has, failing};
 ghost use Rattle.tor_board.specs.Seats.{IsSeatOf, knows, unit_count};
 ghost use Rattle.tor_plan.specs.declared.units.PlanUnit.{PlanUnit};
 ghost use Rattle.tor_source.specs.Source.{SourceFacts};
-ghost use Rattle.tor_engine.specs.Fault.{IsFault};
+ghost use Rattle.tor_sums.specs.Fault.{IsFault};
 ghost use Rattle.tor_engine.specs.steps.Taken.{GivesUnit, HasBegun, HasRoom, IsAny, IsIdle, IsSumOf, TakesUnits};
 ghost use Rattle.tor_engine.specs.steps.Taken.{pair_in, unit_at, units_taken};
 
-use crate::errors::EngineError;
 use crate::failure::Failure;
-use crate::owing::OwingSums;
 use crate::taken::Taken;
 use crate::unit_work::UnitWork;
 use std::alloc::AllocError;
 use tor_board::{Board, Job, Seat};
 use tor_plan::PlanUnit;
+use tor_sums::{EngineError, OwingSums};
 
 /// Claims units, hashes each and gives its hash, until none is left or some worker failed one; what the units sum up
 /// to, or why one failed, which is then failed at the board too.

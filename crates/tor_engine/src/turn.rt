@@ -2,17 +2,16 @@
 ghost use Rattle.std.specs.Prelude.{◌≡◌, ◌+◌, ◌<◌, ◌^◌, ◌++◌, None, All, IfErr, IfOk, MatchResult, length};
 ghost use Rattle.tor_plan.specs.declared.units.PlanUnit.{PlanUnit};
 ghost use Rattle.tor_source.specs.Source.{SourceFacts};
-ghost use Rattle.tor_engine.specs.Fault.{IsFault, first_of};
-ghost use Rattle.tor_engine.specs.steps.Each.{SumUpEach};
+ghost use Rattle.tor_sums.specs.Fault.{IsFault, first_of};
+ghost use Rattle.tor_sums.specs.steps.Each.{SumUpEach};
 ghost use Rattle.tor_engine.specs.steps.Failing.{AnswersUnits};
 
-use crate::errors::EngineError;
-use crate::failure::Failure;
+use crate::failure::{Failure, both_joined};
 use crate::halves::{Divisible, by_halves};
-use crate::joined::both_joined;
 use crate::unit_work::UnitWork;
 use std::thread::Threads;
 use tor_plan::PlanUnit;
+use tor_sums::EngineError;
 
 /// What each of the units sums up to, by so many workers. The first fault in the order of the units is answered.
 pub(crate) fn hash_by_halves<W: UnitWork + Sync, R: Threads + Sync>(

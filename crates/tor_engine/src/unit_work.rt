@@ -2,19 +2,18 @@
 ghost use Rattle.std.specs.Prelude.{◌≡◌, ◌++◌, ◌∷◌, [], ℕ, None, List, Option, IfErr, IfOk, MatchResult, map};
 ghost use Rattle.tor_plan.specs.declared.units.PlanUnit.{PlanUnit};
 ghost use Rattle.tor_source.specs.Source.{SourceFacts};
-ghost use Rattle.tor_engine.specs.Fault.{IsFault};
-ghost use Rattle.tor_engine.specs.declared.errors.EngineError.{EngineError};
-ghost use Rattle.tor_engine.specs.declared.errors.EngineError.TheVariants.{Resources};
-ghost use Rattle.tor_engine.specs.declared.owing.OwingSums.{OwingSums};
-ghost use Rattle.tor_engine.specs.steps.Each.{SumUpEach};
+ghost use Rattle.tor_sums.specs.Fault.{IsFault};
+ghost use Rattle.tor_sums.specs.declared.errors.EngineError.{EngineError};
+ghost use Rattle.tor_sums.specs.declared.errors.EngineError.TheVariants.{Resources};
+ghost use Rattle.tor_sums.specs.declared.owing.OwingSums.{OwingSums};
+ghost use Rattle.tor_sums.specs.steps.Each.{SumUpEach};
 ghost use Rattle.tor_engine.specs.steps.Taken.{pair_in};
 
-use crate::errors::EngineError;
-use crate::owing::OwingSums;
 use std::alloc::{AllocError, Global};
 use std::fmt::Debug;
 use tor_merkle::Hash;
 use tor_plan::PlanUnit;
+use tor_sums::{EngineError, OwingSums};
 
 /// What a worker does with each of its units.
 pub(crate) trait UnitWork {

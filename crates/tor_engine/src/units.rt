@@ -2,12 +2,10 @@
 ghost use Rattle.std.specs.Prelude.{◌≡◌, ◌≤◌, ◌^◌, None, All, IfErr, IfOk, MatchResult, length, map};
 ghost use Rattle.tor_plan.specs.Forest.{AreRuns};
 ghost use Rattle.tor_source.specs.Source.{SourceFacts};
-ghost use Rattle.tor_engine.specs.Fault.{IsFault, first_of};
-ghost use Rattle.tor_engine.specs.steps.Each.{SumUpEach};
-ghost use Rattle.tor_engine.specs.steps.Roots.{roots_of_trees};
+ghost use Rattle.tor_sums.specs.Fault.{IsFault, first_of};
+ghost use Rattle.tor_sums.specs.steps.Each.{SumUpEach};
+ghost use Rattle.tor_sums.specs.steps.Roots.{roots_of_trees};
 
-use crate::errors::EngineError;
-use crate::how::How;
 use crate::on_board::hash_on_board;
 use crate::roots::{hashes_of, roots_of_trees};
 use crate::turn::hash_by_halves;
@@ -15,6 +13,7 @@ use crate::unit_work::UnitWork;
 use std::thread::Threads;
 use tor_merkle::Hash;
 use tor_plan::{Forest, PlanUnit};
+use tor_sums::{EngineError, How};
 
 /// What each of the units sums up to, and the roots of the trees over them. The first fault in the order of the units
 /// is answered, whatever the `How`, or want of resources, which comes before all.

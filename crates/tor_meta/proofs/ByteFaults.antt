@@ -4,9 +4,9 @@ use Rattle.std.proofs.Common.{Option, None, Some, refl, ap, ap₂, subst, ◌∙
 use Rattle.std.specs.List.{enumerate_from, range_with_len}
 use Rattle.std.specs.Option.{option_or}
 use Rattle.std.proofs.lemmas.List.{get_or-map, length-map}
-use Rattle.tor_engine.specs.Fault.{byte_fault, file_fault, first_byte_fault, first_of}
-use Rattle.tor_engine.specs.declared.errors.EngineError.{EngineError}
-use Rattle.tor_engine.specs.declared.errors.EngineError.TheVariants.{Read as EngineRead}
+use Rattle.tor_sums.specs.Fault.{byte_fault, file_fault, first_byte_fault, first_of}
+use Rattle.tor_sums.specs.declared.errors.EngineError.{EngineError}
+use Rattle.tor_sums.specs.declared.errors.EngineError.TheVariants.{Read as EngineRead}
 use Rattle.tor_meta.specs.Make.{byte_told, bytes_fault, content_at, listed_files}
 use Rattle.tor_meta.specs.MakeError.{of_engine_error}
 use Rattle.tor_meta.specs.steps.IndexedFiles.{facts_at, renumbered}

@@ -9,7 +9,7 @@ use Rattle.tor_meta.specs.steps.Contents.{bytes_of, files_of}
 use Rattle.tor_meta.specs.Head.{settings_of}
 use Rattle.tor_meta.specs.steps.Sums.{AreFactsOf, HaveTrees, SumUp}
 use Rattle.tor_meta.specs.declared.head.Head.{Head}
-use Rattle.tor_engine.specs.declared.sums.Sums.{Sums}
+use Rattle.tor_sums.specs.declared.sums.Sums.{Sums}
 use Rattle.tor_spec.specs.Facts.{Facts, File, attrs_in, listed, layers_in, roots_in}
 use Rattle.tor_merkle.specs.Layer.{root_of}
 use Rattle.tor_spec.specs.Metainfo.{facts_of_files, pieces_of_files, root_dictionary}

@@ -7,8 +7,8 @@ use Rattle.std.specs.List.Sorted.{IsPermutation, IsStrictlySortedBy}
 use Rattle.std.proofs.lemmas.List.{get_or-map, length-map}
 use Rattle.std.proofs.lemmas.List.Elements.{recursion_from_All}
 use Rattle.std.proofs.lemmas.List.FromFn.{get_or-enumerate_from, length-enumerate_from}
-use Rattle.tor_engine.specs.Contents.{contents_in}
-use Rattle.tor_engine.specs.Given.{HasToldLengths}
+use Rattle.tor_sums.specs.Contents.{contents_in}
+use Rattle.tor_sums.specs.Given.{HasToldLengths}
 use Rattle.tor_meta.specs.Contents.{files_with, IsMadeOf, IsMadeOfSome}
 use Rattle.tor_meta.specs.Make.{IsMadeOfTold, content_at, files_of_source, lettered, letters_at, listed_files}
 use Rattle.tor_meta.specs.steps.Contents.{files_of}

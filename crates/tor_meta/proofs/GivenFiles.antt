@@ -2,9 +2,9 @@
 use Rattle.std.proofs.Common.{◌≡◌, ◌⊎◌, inl, inr, ℕ, ◌<◌, List as ListOf, get_or, length, Option, None, Some, subst}
 use Rattle.std.specs.List.{All}
 use Rattle.std.proofs.lemmas.List.{get_or_default}
-use Rattle.tor_engine.specs.Given.{Departs, HasToldLengths, IsGivenAsked, IsGivenNotMissing}
-use Rattle.tor_engine.specs.declared.errors.EngineError.{EngineError}
-use Rattle.tor_engine.specs.declared.errors.EngineError.TheVariants.{Read, Changed, Missing, Resources, StreamTooLong}
+use Rattle.tor_sums.specs.Given.{Departs, HasToldLengths, IsGivenAsked, IsGivenNotMissing}
+use Rattle.tor_sums.specs.declared.errors.EngineError.{EngineError}
+use Rattle.tor_sums.specs.declared.errors.EngineError.TheVariants.{Read, Changed, Missing, Resources, StreamTooLong}
 use Rattle.tor_meta.specs.Make.{IsGivenTo, IsToldChanged}
 use Rattle.tor_meta.specs.MakeError.{of_contents_error, of_engine_error}
 use Rattle.tor_meta.specs.ListRefusal.{of_list_error}

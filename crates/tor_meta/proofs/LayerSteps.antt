@@ -11,7 +11,7 @@ use Rattle.std.proofs.lemmas.Bool.{le-leb, lt-leb}
 use Rattle.std.proofs.lemmas.List.{drop_more, get_or-map, length-map}
 use Rattle.std.proofs.lemmas.Map.Lookups.{exact_bytes}
 use Rattle.tor_bencode.specs.Data.{string, pair}
-use Rattle.tor_engine.specs.Sums.{lists_of}
+use Rattle.tor_sums.specs.Sums.{lists_of}
 use Rattle.tor_meta.specs.steps.Layers.{pairs_of_map}
 use Rattle.tor_tree.specs.Letters.{no_letters}
 use Rattle.tor_spec.specs.Dictionary.{put}

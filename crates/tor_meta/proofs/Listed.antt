@@ -10,10 +10,10 @@ use Rattle.std.proofs.lemmas.List.Elements.{All-from_recursion}
 use Rattle.std.proofs.lemmas.List.Sums.{sum_by-cons}
 use Rattle.std.proofs.lemmas.Slice.Zip.{AllZip-long}
 use Rattle.tor_meta.specs.Head.{settings_of}
-use Rattle.tor_engine.specs.Sums.{lists_of}
+use Rattle.tor_sums.specs.Sums.{lists_of}
 use Rattle.tor_meta.specs.steps.Sums.{AreFactsOf, HaveTrees, IsJudged}
 use Rattle.tor_meta.specs.declared.head.Head.{Head}
-use Rattle.tor_engine.specs.declared.sums.Sums.{Sums}
+use Rattle.tor_sums.specs.declared.sums.Sums.{Sums}
 use Rattle.tor_spec.specs.Facts.{Facts, attrs_in, listed, layers_in, roots_in}
 use Rattle.tor_spec.specs.InfoDictionary.{total_size}
 use Rattle.tor_spec.specs.Makeable.{AreMakeable}

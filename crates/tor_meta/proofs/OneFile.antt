@@ -12,7 +12,7 @@ use Rattle.tor_meta.specs.Head.{settings_of}
 use Rattle.tor_meta.specs.Order.{has_tail}
 use Rattle.tor_meta.specs.steps.Sums.{SumUp}
 use Rattle.tor_meta.specs.declared.head.Head.{Head}
-use Rattle.tor_engine.specs.declared.sums.Sums.{Sums}
+use Rattle.tor_sums.specs.declared.sums.Sums.{Sums}
 use Rattle.tor_merkle.specs.Layer.{piece_layer, root_of}
 use Rattle.tor_plan.specs.Content.{cut_content, layout_of_kind as plan_layout}
 use Rattle.tor_tree.specs.declared.kinds.Kind.{Kind}

@@ -5,11 +5,11 @@ use Rattle.std.specs.List.{list_any}
 use Rattle.std.specs.Int.{is_power_of_two}
 use Rattle.std.specs.Option.{option_or}
 use Rattle.std.proofs.lemmas.Bool.{and_parts, leb-true}
-use Rattle.tor_engine.specs.How.{IsHow, is_how}
-use Rattle.tor_engine.specs.declared.how.How.{How}
-use Rattle.tor_engine.specs.declared.how.How.TheVariants.{One, Halves, Board}
-use Rattle.tor_engine.specs.declared.how.TheConstants.{MAX_WORKERS}
-use Rattle.tor_engine.specs.declared.streams.TheConstants.{MAX_UNIT_LENGTH}
+use Rattle.tor_sums.specs.How.{IsHow, is_how}
+use Rattle.tor_sums.specs.declared.how.How.{How}
+use Rattle.tor_sums.specs.declared.how.How.TheVariants.{One, Halves, Board}
+use Rattle.tor_sums.specs.declared.how.TheConstants.{MAX_WORKERS}
+use Rattle.tor_streams.specs.declared.streams.TheConstants.{MAX_UNIT_LENGTH}
 use Rattle.tor_merkle.specs.Layer.{is_piece_length}
 use Rattle.tor_meta.specs.Head.{settings_of}
 use Rattle.tor_meta.specs.Make.{IsGivenTo, make_refusal, numbers_refusal}

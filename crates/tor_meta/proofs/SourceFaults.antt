@@ -8,10 +8,10 @@ use Rattle.std.proofs.lemmas.List.{get_or-map, length-map}
 use Rattle.std.proofs.lemmas.List.Elements.{recursion_from_All}
 use Rattle.std.proofs.lemmas.List.FromFn.{get_or-range_with_len}
 use Rattle.std.proofs.lemmas.List.FromFn.{length-range_with_len}
-use Rattle.tor_engine.specs.Fault.{change_from, first_byte_fault, first_length_fault, first_of, length_fault}
-use Rattle.tor_engine.specs.Fault.{unless_told}
-use Rattle.tor_engine.specs.declared.errors.EngineError.{EngineError}
-use Rattle.tor_engine.specs.declared.errors.EngineError.TheVariants.{Resources as NoResources}
+use Rattle.tor_sums.specs.Fault.{change_from, first_byte_fault, first_length_fault, first_of, length_fault}
+use Rattle.tor_sums.specs.Fault.{unless_told}
+use Rattle.tor_sums.specs.declared.errors.EngineError.{EngineError}
+use Rattle.tor_sums.specs.declared.errors.EngineError.TheVariants.{Resources as NoResources}
 use Rattle.tor_meta.specs.Make.{IsMakeFault, asked_fault, bytes_fault, content_at, listed_files}
 use Rattle.tor_meta.specs.Make.{make_refusal}
 use Rattle.tor_meta.specs.MakeError.{of_engine_error}

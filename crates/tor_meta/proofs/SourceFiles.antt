@@ -5,8 +5,8 @@ use Rattle.std.specs.List.{AllByRecursion}
 use Rattle.std.proofs.lemmas.List.{get_or-map, length-map}
 use Rattle.std.proofs.lemmas.List.Elements.{recursion_from_All}
 use Rattle.std.proofs.lemmas.List.FromFn.{get_or-map-range_with_len, length-map-range_with_len}
-use Rattle.tor_engine.specs.Contents.{contents_in}
-use Rattle.tor_engine.specs.Given.{HasToldLengths}
+use Rattle.tor_sums.specs.Contents.{contents_in}
+use Rattle.tor_sums.specs.Given.{HasToldLengths}
 use Rattle.tor_meta.specs.Make.{content_at, listed_files}
 use Rattle.tor_meta.proofs.Indexed.{indices_within}
 use Rattle.tor_source.specs.Source.{SourceFacts}

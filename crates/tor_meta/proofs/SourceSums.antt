@@ -3,8 +3,8 @@ use Rattle.std.proofs.Common.{◌≡◌, ℕ, Bool, true, false, not, cond, ◌&
 use Rattle.std.proofs.Common.{map, nat_lt, option_map, Option, None, Some, refl, ap, subst, sym, ◌∙◌, arith}
 use Rattle.std.specs.List.{flat_map}
 use Rattle.std.proofs.lemmas.Bool.{and_right}
-use Rattle.tor_engine.specs.Sums.{AreSumsOf, AreSumsOfPlan, plan_content}
-use Rattle.tor_engine.specs.declared.sums.Sums.{Sums as Hashed}
+use Rattle.tor_sums.specs.Sums.{AreSumsOf, AreSumsOfPlan, plan_content}
+use Rattle.tor_sums.specs.declared.sums.Sums.{Sums as Hashed}
 use Rattle.tor_merkle.specs.Layer.{root_of as merkle_root}
 use Rattle.tor_meta.specs.Head.{settings_of}
 use Rattle.tor_meta.specs.Order.{has_tail}

@@ -8,8 +8,8 @@ use Rattle.std.specs.List.{AllZip, enumerate_from, zip}
 use Rattle.std.proofs.lemmas.List.{length-map}
 use Rattle.std.proofs.lemmas.Simd.{map-map}
 use Rattle.std.proofs.lemmas.Slice.Zip.{AllZip-long, seconds-zip}
-use Rattle.tor_engine.specs.Streams.{GiveContents}
-use Rattle.tor_engine.specs.declared.sums.Sums.{Sums}
+use Rattle.tor_streams.specs.Streams.{GiveContents}
+use Rattle.tor_sums.specs.declared.sums.Sums.{Sums}
 use Rattle.tor_merkle.specs.declared.TheConstants.{MAX_PIECE_LENGTH, MIN_PIECE_LENGTH}
 use Rattle.tor_meta.specs.Contents.{IsMadeOfSome, files_with}
 use Rattle.tor_meta.specs.steps.Contents.{files_of}

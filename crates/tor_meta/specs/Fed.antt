@@ -1,7 +1,7 @@
 -- A content that is fed in parts.
 use Rattle.std.specs.Prelude.{◌≡◌, ℕ, List, ◌++◌, length}
 use Rattle.tor_meta.specs.declared.fed.FedSums.{FedSums}
-use Rattle.tor_engine.specs.Hasher.{HasFedContent, IsLeft}
+use Rattle.tor_sums.specs.Hasher.{HasFedContent, IsLeft}
 use Rattle.tor_tree.specs.declared.kinds.Kind.{Kind}
 use Rattle.tor_v1.specs.Entries.{padding_length}
 use Rattle.tor_v1.specs.declared.layout.Layout.{Layout}

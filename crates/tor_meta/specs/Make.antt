@@ -3,10 +3,10 @@ use Rattle.std.specs.Prelude.{◌≡◌, ℕ, ◌<◌, not, List as ListOf, [], 
 use Rattle.std.specs.Prelude.{option_map, unwrap_or, if◌then◌else◌}
 use Rattle.std.specs.List.{enumerate_from, range_with_len}
 use Rattle.std.specs.Option.{option_or}
-use Rattle.tor_engine.specs.Contents.{contents_in}
-use Rattle.tor_engine.specs.Fault.{first_of, length_fault}
-use Rattle.tor_engine.specs.Given.{Departs, HasToldLengths}
-use Rattle.tor_engine.specs.How.{is_how}
+use Rattle.tor_sums.specs.Contents.{contents_in}
+use Rattle.tor_sums.specs.Fault.{first_of, length_fault}
+use Rattle.tor_sums.specs.Given.{Departs, HasToldLengths}
+use Rattle.tor_sums.specs.How.{is_how}
 use Rattle.tor_merkle.specs.Layer.{is_piece_length}
 use Rattle.tor_meta.specs.Contents.{files_with}
 use Rattle.tor_meta.specs.MakeError.{of_contents_error, of_engine_error}

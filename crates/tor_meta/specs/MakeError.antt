@@ -1,6 +1,6 @@
 -- What a maker tells for a refusal of the head or the paths, and for a fault of the hashing.
-use Rattle.tor_engine.specs.declared.errors.EngineError.{EngineError}
-use Rattle.tor_engine.specs.declared.errors.EngineError.TheVariants as engine
+use Rattle.tor_sums.specs.declared.errors.EngineError.{EngineError}
+use Rattle.tor_sums.specs.declared.errors.EngineError.TheVariants as engine
 use Rattle.tor_meta.specs.declared.make_error.MakeError.{MakeError}
 use Rattle.tor_meta.specs.declared.make_error.MakeError.TheVariants.{PieceLength, Path, SingleShape, List, ReservedPad}
 use Rattle.tor_meta.specs.declared.make_error.MakeError.TheVariants.{Read, Changed, Missing, Resources, StreamTooLong}

@@ -3,9 +3,9 @@ use Rattle.std.specs.Prelude.{◌≡◌, ◌*◌, ℕ, Bool, true, ◌&&◌, not
 use Rattle.std.specs.Prelude.{Option, None, Some, option_map, if◌then◌else◌}
 use Rattle.std.specs.Option.{option_or}
 use Rattle.std.specs.Ordering.{is_lt}
-use Rattle.tor_engine.specs.Streams.{GiveContents, IsFaultOfReaders}
-use Rattle.tor_engine.specs.declared.errors.EngineError.TheVariants as engine
-use Rattle.tor_engine.specs.declared.streams.TheConstants.{MAX_UNIT_LENGTH}
+use Rattle.tor_streams.specs.Streams.{GiveContents, IsFaultOfReaders}
+use Rattle.tor_sums.specs.declared.errors.EngineError.TheVariants as engine
+use Rattle.tor_streams.specs.declared.streams.TheConstants.{MAX_UNIT_LENGTH}
 use Rattle.tor_meta.specs.Contents.{files_with}
 use Rattle.tor_meta.specs.Make.{numbers_refusal}
 use Rattle.tor_meta.specs.MakeError.{of_contents_error}

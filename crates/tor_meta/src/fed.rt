@@ -2,8 +2,8 @@
 ghost use Rattle.std.specs.Prelude.{◌≡◌, ◌+◌, ◌≤◌, ◌∷◌, [], ℕ, List, None, Some, IfOk, IsOk, OnErr, OnOk, length};
 ghost use Rattle.std.specs.Int.{div_ceil};
 ghost use Rattle.std.specs.Option.{ForSome};
-ghost use Rattle.tor_engine.specs.Hasher.{tree_of};
-ghost use Rattle.tor_engine.specs.Sums.{lists_of};
+ghost use Rattle.tor_sums.specs.Hasher.{tree_of};
+ghost use Rattle.tor_sums.specs.Sums.{lists_of};
 ghost use Rattle.tor_merkle.specs.Layer.{IsPieceLength, piece_layer, root_of};
 ghost use Rattle.tor_merkle.specs.declared.TheConstants.{MAX_LENGTH};
 ghost use Rattle.tor_meta.specs.Head.{settings_of};

@@ -1,7 +1,7 @@
 //! The torrent of the files of a source.
 ghost use Rattle.std.specs.Prelude.{◌≡◌, ◌⊎◌, Some, None, IfErr, IfOk, OnOk, List, ℕ, MatchResult, length, map};
 ghost use Rattle.std.specs.Prelude.{Option, slice_index};
-ghost use Rattle.tor_engine.specs.Given.{HasToldLengths};
+ghost use Rattle.tor_sums.specs.Given.{HasToldLengths};
 ghost use Rattle.tor_meta.specs.Contents.{IsMadeOf, IsMadeOfSome, without_letters};
 ghost use Rattle.tor_meta.specs.Hashes.{HasInfo};
 ghost use Rattle.tor_meta.specs.Head.{settings_of};

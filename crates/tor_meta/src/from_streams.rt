@@ -2,7 +2,7 @@
 ghost use Rattle.std.specs.Prelude.{◌≡◌, ◌⊎◌, None, Some, IfErr, IfOk, OnOk, List, ℕ, length, map, vec_len};
 ghost use Rattle.std.specs.List.{zip};
 ghost use Rattle.std.specs.declared.io.Error.{Error};
-ghost use Rattle.tor_engine.specs.Streams.{AreSumsOfContents, AreSumsOfReaders, IsFaultOfReaders};
+ghost use Rattle.tor_streams.specs.Streams.{AreSumsOfContents, AreSumsOfReaders, IsFaultOfReaders};
 ghost use Rattle.tor_meta.specs.Contents.{IsMadeOfSome, files_with, without_letters};
 ghost use Rattle.tor_meta.specs.Hashes.{HasInfo};
 ghost use Rattle.tor_meta.specs.Head.{settings_of};

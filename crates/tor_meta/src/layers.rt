@@ -3,7 +3,7 @@ ghost use Rattle.std.specs.Prelude.{◌≡◌, List, IfOk, length};
 ghost use Rattle.std.specs.List.{AllZip};
 ghost use Rattle.tor_bencode.specs.Data.{dictionary};
 ghost use Rattle.tor_bencode.specs.View.{view, pairs_view};
-ghost use Rattle.tor_engine.specs.Sums.{lists_of};
+ghost use Rattle.tor_sums.specs.Sums.{lists_of};
 ghost use Rattle.tor_meta.specs.steps.Layers.{pairs_of_map};
 ghost use Rattle.tor_spec.specs.Facts.{Facts, listed, layers_in, roots_in};
 ghost use Rattle.tor_spec.specs.PieceLayers.{piece_layers};

@@ -1,9 +1,9 @@
 //! The torrent of a list of files whose bytes a source gives.
 ghost use Rattle.std.specs.Prelude.{◌≡◌, List, ℕ, None, IfErr, IfOk, MatchResult, length, map};
-ghost use Rattle.tor_engine.specs.Contents.{contents_in};
-ghost use Rattle.tor_engine.specs.Fault.{IsFault, first_byte_fault, first_length_fault};
-ghost use Rattle.tor_engine.specs.Given.{IsGivenNotMissing};
-ghost use Rattle.tor_engine.specs.How.{IsHow};
+ghost use Rattle.tor_sums.specs.Contents.{contents_in};
+ghost use Rattle.tor_sums.specs.Fault.{IsFault, first_byte_fault, first_length_fault};
+ghost use Rattle.tor_sums.specs.Given.{IsGivenNotMissing};
+ghost use Rattle.tor_sums.specs.How.{IsHow};
 ghost use Rattle.tor_bencode.specs.Spelling.{spelling};
 ghost use Rattle.tor_meta.specs.Contents.{files_of};
 ghost use Rattle.tor_meta.specs.Hashes.{HasInfo};

@@ -2,7 +2,7 @@
 ghost use Rattle.std.specs.Prelude.{◌≡◌, ◌≤◌, ◌<◌, ◌^◌, All, IfOk, [], length, map, true};
 ghost use Rattle.tor_merkle.specs.Layer.{IsPieceLength, piece_layer};
 ghost use Rattle.tor_merkle.specs.declared.TheConstants.{MAX_LENGTH};
-ghost use Rattle.tor_engine.specs.Sums.{lists_of};
+ghost use Rattle.tor_sums.specs.Sums.{lists_of};
 ghost use Rattle.tor_meta.specs.steps.Contents.{bytes_of};
 ghost use Rattle.tor_merkle.specs.Layer.{root_of};
 ghost use Rattle.tor_v1.specs.Content.{v1_pieces};

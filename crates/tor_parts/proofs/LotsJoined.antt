@@ -5,7 +5,7 @@ use Rattle.std.proofs.Common.{subst, sym, ◌∙◌, arith}
 use Rattle.std.proofs.lemmas.Grind.{flat_map-append}
 use Rattle.std.specs.List.{flat_map, range_with_len}
 use Rattle.tor_engine.specs.Rows.{IsRowOf, row_in, sums_of_pieces}
-use Rattle.tor_engine.specs.UnitNodes.{Node, level_of, nodes_of_unit}
+use Rattle.tor_sums.specs.UnitNodes.{Node, level_of, nodes_of_unit}
 use Rattle.tor_plan.specs.Content.{unit_content}
 use Rattle.tor_plan.specs.PlanFacts.{PlanFacts}
 use Rattle.tor_plan.specs.declared.units.PlanUnit.{PlanUnit}

@@ -6,8 +6,8 @@ use Rattle.std.proofs.lemmas.Bool.{cases_Bool}
 use Rattle.std.proofs.lemmas.List.{length-map}
 use Rattle.std.specs.List.{flat_map}
 use Rattle.tor_engine.specs.Rows.{IsRowOf, hashes_of_file}
-use Rattle.tor_engine.specs.Sums.{AreSumsOfPlan, lists_of}
-use Rattle.tor_engine.specs.declared.sums.Sums.{Sums}
+use Rattle.tor_sums.specs.Sums.{AreSumsOfPlan, lists_of}
+use Rattle.tor_sums.specs.declared.sums.Sums.{Sums}
 use Rattle.tor_engine.proofs.ProvedLaws.{rows_are_of_files, sums_are_of_files}
 use Rattle.tor_merkle.specs.Layer.{piece_layer, root_of}
 use Rattle.tor_plan.specs.PlanFacts.{IsPlan, PlanFacts}

@@ -5,9 +5,9 @@ use Rattle.std.specs.Int.{div_ceil}
 use Rattle.std.specs.List.{flat_map}
 use Rattle.std.specs.Prelude.{slice_index_or}
 use Rattle.tor_engine.specs.Rows.{AreSameAt, IsRowOf}
-use Rattle.tor_engine.specs.Sums.{AreSumsOfPlan}
+use Rattle.tor_sums.specs.Sums.{AreSumsOfPlan}
 use Rattle.tor_engine.specs.declared.lot.PieceRow.{PieceRow}
-use Rattle.tor_engine.specs.declared.sums.Sums.{Sums}
+use Rattle.tor_sums.specs.declared.sums.Sums.{Sums}
 use Rattle.tor_plan.specs.PlanFacts.{PlanFacts}
 use Rattle.tor_parts.specs.Dealing.{bytes_of, dealt}
 use Rattle.tor_parts.specs.Joining.{pieces_of_lengths}

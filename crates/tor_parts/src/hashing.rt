@@ -1,10 +1,10 @@
 //! One lot of a plan hashed.
 ghost use Rattle.std.specs.Prelude.{◌≡◌, ◌<◌, ℕ, None, IfErr, IfOk, List, MatchResult, OnOk, length, map};
 ghost use Rattle.tor_source.specs.Source.{SourceFacts};
-ghost use Rattle.tor_engine.specs.Contents.{contents_in};
-ghost use Rattle.tor_engine.specs.Fault.{IsFault, units_fault};
-ghost use Rattle.tor_engine.specs.Given.{IsGivenRead};
-ghost use Rattle.tor_engine.specs.How.{IsHow};
+ghost use Rattle.tor_sums.specs.Contents.{contents_in};
+ghost use Rattle.tor_sums.specs.Fault.{IsFault, units_fault};
+ghost use Rattle.tor_sums.specs.Given.{IsGivenRead};
+ghost use Rattle.tor_sums.specs.How.{IsHow};
 ghost use Rattle.tor_engine.specs.Rows.{AreSameAt, HasBytesAt, IsRowOf};
 ghost use Rattle.tor_parts.specs.Dealing.{dealt};
 

@@ -3,7 +3,7 @@ ghost use Rattle.std.specs.Prelude.{◌≡◌, ◌≤◌, [], All, IfOk, List, N
 ghost use Rattle.std.specs.Prelude.{true, ℕ};
 ghost use Rattle.std.specs.Int.{div_ceil};
 ghost use Rattle.tor_engine.specs.Rows.{IsRowOf};
-ghost use Rattle.tor_engine.specs.Sums.{AreSumsOfPlan, lists_of};
+ghost use Rattle.tor_sums.specs.Sums.{AreSumsOfPlan, lists_of};
 ghost use Rattle.tor_merkle.specs.Layer.{IsPieceLength};
 ghost use Rattle.tor_merkle.specs.declared.TheConstants.{MAX_LENGTH};
 ghost use Rattle.tor_parts.specs.steps.Trees.{AreNoTrees, AreTreesOver};

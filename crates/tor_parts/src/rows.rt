@@ -1,6 +1,6 @@
 //! The hashes of all lots joined.
 ghost use Rattle.std.specs.Prelude.{◌≡◌, ◌<◌, [], IfOk, List, None, false, length, map, replicate, true, ℕ};
-ghost use Rattle.tor_engine.specs.Sums.{AreSumsOfPlan, lists_of};
+ghost use Rattle.tor_sums.specs.Sums.{AreSumsOfPlan, lists_of};
 ghost use Rattle.tor_parts.specs.Joining.{layers_over, roots_over};
 ghost use Rattle.tor_parts.specs.JoinedRows.{AreRowsOf, AreRowsOfEach, AreSumsOfEach, HasAllPieces, hashes_of, sums_of};
 ghost use Rattle.tor_tree.specs.Kinds.{has_v2};

@@ -42,16 +42,16 @@ pub use Rattle.tor_bencode.specs.Data.{Data}
 pub use Rattle.tor_bencode.specs.Find.{value_of}
 pub use Rattle.tor_bencode.specs.Span.{span_of}
 pub use Rattle.tor_check.specs.ValidViews.{IsViewOfValid}
-pub use Rattle.tor_engine.specs.Contents.{contents_in}
-unfoldable pub use Rattle.tor_engine.specs.Fault.{first_of}
-pub use Rattle.tor_engine.specs.Given.{HasTold, IsGivenPieces}
+pub use Rattle.tor_sums.specs.Contents.{contents_in}
+unfoldable pub use Rattle.tor_sums.specs.Fault.{first_of}
+pub use Rattle.tor_sums.specs.Given.{HasTold, IsGivenPieces}
 pub use Rattle.tor_engine.specs.PieceFault.{asked_fault, first_asked_fault, first_piece_fault, lengths_told}
 pub use Rattle.tor_engine.specs.PieceFault.{pieces_fault}
 pub use Rattle.tor_engine.specs.PieceHashes.{hash_if_there, piece_hash, piece_hashes, pieces_of_plan}
 pub use Rattle.tor_engine.specs.There.{HaveHashesOf, is_within}
-pub use Rattle.tor_engine.specs.declared.errors.EngineError.{EngineError}
-pub use Rattle.tor_engine.specs.declared.errors.EngineError.TheVariants.{Changed, Missing, Read, Resources}
-pub use Rattle.tor_engine.specs.declared.errors.EngineError.TheVariants.{StreamTooLong}
+pub use Rattle.tor_sums.specs.declared.errors.EngineError.{EngineError}
+pub use Rattle.tor_sums.specs.declared.errors.EngineError.TheVariants.{Changed, Missing, Read, Resources}
+pub use Rattle.tor_sums.specs.declared.errors.EngineError.TheVariants.{StreamTooLong}
 pub use Rattle.tor_engine.specs.declared.piece_hash.PieceHash.{PieceHash}
 pub use Rattle.tor_merkle.proofs.ProvedLaws.{piece_length_bounds}
 pub use Rattle.tor_merkle.specs.Block.{leaves, run_at}

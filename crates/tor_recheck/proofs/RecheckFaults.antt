@@ -5,7 +5,7 @@ use Rattle.tor_recheck.proofs.Names.{EngineError, Read, Changed, Missing, Resour
 use Rattle.tor_recheck.proofs.Names.{plan_of_entries, IsCut, entries_to_cut, IsFault, IsGiven, first_fault}
 use Rattle.tor_recheck.proofs.Names.{of_engine_error, SourceFacts, View}
 use Rattle.tor_recheck.proofs.Rechecked.{count_is, pieces_are}
-use Rattle.tor_engine.specs.Fault as engine
+use Rattle.tor_sums.specs.Fault as engine
 
 module _ {F : Type 0} (facts : SourceFacts F) (view : View) (cut : IsCut view) where
   -- the units that a recheck takes

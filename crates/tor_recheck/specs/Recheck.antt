@@ -2,11 +2,11 @@
 use Rattle.std.specs.Prelude.{◌≡◌, ◌⊎◌, ℕ, ◌<◌, length, Option, Some}
 use Rattle.std.specs.Prelude.{option_map}
 use Rattle.std.specs.Option.{option_or}
-use Rattle.tor_engine.specs.Contents.{contents_in}
-use Rattle.tor_engine.specs.Given.{Departs}
+use Rattle.tor_sums.specs.Contents.{contents_in}
+use Rattle.tor_sums.specs.Given.{Departs}
 use Rattle.tor_engine.specs.PieceFault.{first_asked_fault, pieces_fault}
-use Rattle.tor_engine.specs.declared.errors.EngineError.{EngineError}
-use Rattle.tor_engine.specs.declared.errors.EngineError.TheVariants as engine
+use Rattle.tor_sums.specs.declared.errors.EngineError.{EngineError}
+use Rattle.tor_sums.specs.declared.errors.EngineError.TheVariants as engine
 use Rattle.tor_recheck.specs.Pieces.{pieces_of}
 use Rattle.tor_recheck.specs.declared.errors.RecheckError.{RecheckError}
 use Rattle.tor_recheck.specs.declared.errors.RecheckError.TheVariants.{Read, Changed, Resources, Workers}

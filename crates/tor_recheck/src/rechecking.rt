@@ -1,8 +1,8 @@
 //! A torrent's pieces looked for in the files of a source.
 ghost use Rattle.std.specs.Prelude.{◌≡◌, ◌≢◌, None, Err, IfErr, IfOk, MatchResult, OnOk, length, map};
-ghost use Rattle.tor_engine.specs.Contents.{contents_in};
-ghost use Rattle.tor_engine.specs.Given.{HasTold};
-ghost use Rattle.tor_engine.specs.How.{IsHow};
+ghost use Rattle.tor_sums.specs.Contents.{contents_in};
+ghost use Rattle.tor_sums.specs.Given.{HasTold};
+ghost use Rattle.tor_sums.specs.How.{IsHow};
 ghost use Rattle.tor_engine.specs.PieceFault.{lengths_told};
 ghost use Rattle.tor_plan.specs.PlanFacts.{plan_of_entries};
 ghost use Rattle.tor_engine.specs.There.{HaveHashesOf};

@@ -3,9 +3,9 @@ use Rattle.std.specs.Prelude.{ℕ, List, Option, None, Some, Result, Ok, Err, na
 use Rattle.std.specs.List.{enumerate_from}
 use Rattle.std.specs.Option.{option_eq}
 use Rattle.tor_source.specs.Source.{SourceFacts, told_length}
-use Rattle.tor_engine.specs.Fault.{first_of}
-use Rattle.tor_engine.specs.declared.errors.EngineError.{EngineError}
-use Rattle.tor_engine.specs.declared.errors.EngineError.TheVariants.{Changed, Read}
+use Rattle.tor_sums.specs.Fault.{first_of}
+use Rattle.tor_sums.specs.declared.errors.EngineError.{EngineError}
+use Rattle.tor_sums.specs.declared.errors.EngineError.TheVariants.{Changed, Read}
 
 -- where a file is asked again of which this size was told: its fault, or that another is told
 abbrev pub unless_same : {F : Type 0} → ℕ → Option ℕ → Result (Option ℕ) F → Option (EngineError F)

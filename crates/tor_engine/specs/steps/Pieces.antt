@@ -12,15 +12,15 @@ use Rattle.tor_plan.specs.declared.units.PlanUnit.{PlanUnit}
 use Rattle.tor_source.specs.Source.{SourceFacts}
 use Rattle.tor_tree.specs.Kinds.{has_v2}
 use Rattle.tor_v1.specs.Piece.{piece_sums, zeros}
-use Rattle.tor_engine.specs.Contents.{contents_in}
-use Rattle.tor_engine.specs.Fault.{first_of}
+use Rattle.tor_sums.specs.Contents.{contents_in}
+use Rattle.tor_sums.specs.Fault.{first_of}
 use Rattle.tor_engine.specs.PieceFault.{pieces_fault}
 use Rattle.tor_engine.specs.PieceHashes.{hash_if_there}
 use Rattle.tor_engine.specs.There.{HaveHashesOf}
-use Rattle.tor_engine.specs.declared.errors.EngineError.{EngineError}
+use Rattle.tor_sums.specs.declared.errors.EngineError.{EngineError}
 use Rattle.tor_engine.specs.declared.piece_hash.PieceHash.{PieceHash}
-use Rattle.tor_engine.specs.steps.Hashes.{bytes_of_part}
-use Rattle.tor_engine.specs.steps.Run.{IsUnitOf}
+use Rattle.tor_sums.specs.steps.Hashes.{bytes_of_part}
+use Rattle.tor_sums.specs.steps.Run.{IsUnitOf}
 
 -- ---- of a piece that is there
 

@@ -9,13 +9,14 @@ use Rattle.tor_board.specs.Seats.{IsLeastOf}
 use Rattle.tor_board.specs.Weights.{times}
 use Rattle.tor_plan.specs.declared.units.PlanUnit.{PlanUnit}
 use Rattle.tor_source.specs.Source.{SourceFacts}
-use Rattle.tor_engine.specs.Fault.{IsFault}
-use Rattle.tor_engine.specs.declared.errors.EngineError.{EngineError}
-use Rattle.tor_engine.specs.declared.errors.EngineError.TheVariants.{Resources}
+use Rattle.tor_sums.specs.Fault.{IsFault}
+use Rattle.tor_sums.specs.declared.errors.EngineError.{EngineError}
+use Rattle.tor_sums.specs.declared.errors.EngineError.TheVariants.{Resources}
 use Rattle.tor_engine.specs.declared.failure.Failure.{Failure}
-use Rattle.tor_engine.specs.declared.owing.OwingSums.{OwingSums}
+use Rattle.tor_sums.specs.declared.owing.OwingSums.{OwingSums}
 use Rattle.tor_engine.specs.declared.taken.Taken.{Taken}
-pub use Rattle.tor_engine.specs.Shares.{given_pairs, unit_at}
+pub use Rattle.tor_engine.specs.Shares.{given_pairs}
+pub use Rattle.tor_sums.specs.UnitSums.{unit_at}
 
 -- one more unit and its top can be kept
 abbrev pub HasRoom : {A : Type 0} → Taken A → Type 0

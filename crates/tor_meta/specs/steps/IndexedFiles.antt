@@ -1,7 +1,7 @@
 -- Files in another order: file k is the one at index k of `indices`.
 use Rattle.std.specs.Prelude.{ℕ, List, map, None, slice_index_or}
-use Rattle.tor_engine.specs.declared.errors.EngineError.{EngineError}
-use Rattle.tor_engine.specs.declared.errors.EngineError.TheVariants.{Read, Changed, Missing, Resources, StreamTooLong}
+use Rattle.tor_sums.specs.declared.errors.EngineError.{EngineError}
+use Rattle.tor_sums.specs.declared.errors.EngineError.TheVariants.{Read, Changed, Missing, Resources, StreamTooLong}
 use Rattle.tor_source.specs.Source.{SourceFacts}
 
 -- the facts of the files at these indices; past the last there is no file

@@ -4,11 +4,11 @@ use Rattle.std.specs.List.{AllZip}
 use Rattle.tor_merkle.specs.Layer.{piece_layer}
 use Rattle.tor_meta.specs.Head.{settings_of}
 pub use Rattle.tor_meta.specs.Judged.{IsJudged}
-use Rattle.tor_engine.specs.Streams.{AreSumsOfContents}
-use Rattle.tor_engine.specs.Sums.{lists_of, plan_content}
+use Rattle.tor_streams.specs.Streams.{AreSumsOfContents}
+use Rattle.tor_sums.specs.Sums.{lists_of, plan_content}
 use Rattle.tor_meta.specs.Order.{has_tail}
 use Rattle.tor_meta.specs.declared.head.Head.{Head}
-use Rattle.tor_engine.specs.declared.sums.Sums.{Sums}
+use Rattle.tor_sums.specs.declared.sums.Sums.{Sums}
 use Rattle.tor_spec.specs.Facts.{Facts, attrs_in, listed, layers_in, roots_in}
 use Rattle.tor_merkle.specs.Layer.{root_of}
 use Rattle.tor_spec.specs.Settings.{Settings, layout_of}

@@ -1,5 +1,5 @@
 //! What the tests share: plans, how files are hashed, and how a read waits for others.
-ghost use Rattle.tor_engine.specs.How.{IsHow};
+ghost use Rattle.tor_sums.specs.How.{IsHow};
 
 use crate::shared::{content, is, path};
 use std::alloc::{AllocError, Global};

@@ -2,9 +2,9 @@
 use Rattle.std.proofs.Common.{ℕ, List, Option, None, ap, inr, length, refl, subst, sym, ◌∙◌, arith}
 use Rattle.std.proofs.lemmas.List.{length-append}
 use Rattle.tor_engine.proofs.AskedLengths.{asked_first, asked_more, asked_none}
-use Rattle.tor_engine.proofs.FirstOf.{first_of_none}
+use Rattle.tor_sums.proofs.FirstOf.{first_of_none}
 use Rattle.tor_engine.proofs.GivenAnswers.{each_more}
-use Rattle.tor_engine.specs.Given.{HasTold}
+use Rattle.tor_sums.specs.Given.{HasTold}
 use Rattle.tor_engine.specs.PieceFault.{asked_fault}
 use Rattle.tor_engine.proofs.asked.ask_each.Goals as goal
 

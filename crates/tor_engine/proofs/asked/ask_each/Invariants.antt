@@ -1,7 +1,7 @@
 -- the lengths of the files so far were told
 use Rattle.std.proofs.Common.{◌≡◌, None, length}
 use Rattle.tor_source.specs.Source.{SourceFacts}
-use Rattle.tor_engine.specs.Given.{HasTold}
+use Rattle.tor_sums.specs.Given.{HasTold}
 use Rattle.tor_engine.specs.PieceFault.{first_asked_fault, lengths_told}
 use Rattle.tor_engine.proofs.asked.ask_each.Given as goal
 

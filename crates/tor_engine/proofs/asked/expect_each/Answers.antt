@@ -1,7 +1,7 @@
 -- one file after the other
 use Rattle.std.proofs.Common.{sym, ◌∙◌, arith}
 use Rattle.tor_engine.proofs.AskedLengths.{all_again, fails_again, other_size, other_told, same_more}
-use Rattle.tor_engine.proofs.FirstOf.{first_of_none}
+use Rattle.tor_sums.proofs.FirstOf.{first_of_none}
 use Rattle.tor_engine.specs.steps.Asked.{again_fault}
 use Rattle.tor_engine.proofs.asked.expect_each.Goals as goal
 

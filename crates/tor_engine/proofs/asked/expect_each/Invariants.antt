@@ -2,7 +2,7 @@
 use Rattle.std.proofs.Common.{◌≡◌, ◌≤◌, None, length, take}
 use Rattle.std.specs.List.{enumerate_from}
 use Rattle.tor_source.specs.Source.{SourceFacts}
-use Rattle.tor_engine.specs.Fault.{first_of}
+use Rattle.tor_sums.specs.Fault.{first_of}
 use Rattle.tor_engine.specs.steps.Asked.{again_fault}
 use Rattle.tor_engine.proofs.asked.expect_each.Given as goal
 

@@ -6,17 +6,17 @@ use Rattle.tor_plan.specs.Forest.{AreRuns}
 use Rattle.tor_plan.specs.declared.forests.Run.{Run}
 use Rattle.tor_plan.specs.declared.units.PlanUnit.{PlanUnit}
 use Rattle.tor_plan.proofs.ProvedLaws.{trees_are_runs}
-use Rattle.tor_engine.specs.Contents.{contents_in}
-use Rattle.tor_engine.specs.Fault.{units_fault}
-use Rattle.tor_engine.specs.declared.unit_sums.UnitSums.{UnitSums}
-use Rattle.tor_engine.specs.steps.Roots.{roots_of_trees}
-use Rattle.tor_engine.specs.steps.Reads.{HasParts}
-use Rattle.tor_engine.specs.steps.Run.{IsUnitToSum, parts_of}
+use Rattle.tor_sums.specs.Contents.{contents_in}
+use Rattle.tor_sums.specs.Fault.{units_fault}
+use Rattle.tor_sums.specs.declared.unit_sums.UnitSums.{UnitSums}
+use Rattle.tor_sums.specs.steps.Roots.{roots_of_trees}
+use Rattle.tor_sums.specs.steps.Reads.{HasParts}
+use Rattle.tor_sums.specs.steps.Run.{IsUnitToSum, parts_of}
 use Rattle.tor_engine.proofs.PlanFaults.{fault_of_plan}
-use Rattle.tor_engine.proofs.PlanLevels.{units_to_sum}
+use Rattle.tor_sums.proofs.PlanLevels.{units_to_sum}
 use Rattle.tor_engine.proofs.ReadContents.{contents_there, plan_there}
 use Rattle.tor_engine.proofs.UnitRuns.{units_summed}
-use Rattle.tor_engine.proofs.Whole.{lengths_hold}
+use Rattle.tor_sums.proofs.Whole.{lengths_hold}
 use Rattle.tor_engine.proofs.engine.hash_told.Goals as goal
 
 pub hash_units-requires-clause-units : goal.hash_units-requires-clause-units

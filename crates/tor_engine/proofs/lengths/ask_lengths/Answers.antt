@@ -3,7 +3,7 @@ use Rattle.std.proofs.Common.{ℕ, List, Some, ap, inr, length, refl, subst, sym
 use Rattle.std.proofs.lemmas.List.{length-append}
 use Rattle.tor_engine.proofs.GivenAnswers.{each_more}
 use Rattle.tor_engine.proofs.Told.{told_none, told_more, told_fault}
-use Rattle.tor_engine.specs.Given.{HasToldLengths}
+use Rattle.tor_sums.specs.Given.{HasToldLengths}
 use Rattle.tor_engine.proofs.lengths.ask_lengths.Goals as goal
 
 pub files-init : goal.files-init

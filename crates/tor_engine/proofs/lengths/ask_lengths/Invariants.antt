@@ -1,8 +1,8 @@
 -- the lengths of the files so far were told
 use Rattle.std.proofs.Common.{◌≡◌, length}
 use Rattle.tor_source.specs.Source.{SourceFacts}
-use Rattle.tor_engine.specs.Fault.{ToldLengths}
-use Rattle.tor_engine.specs.Given.{HasToldLengths}
+use Rattle.tor_sums.specs.Fault.{ToldLengths}
+use Rattle.tor_sums.specs.Given.{HasToldLengths}
 use Rattle.tor_engine.proofs.lengths.ask_lengths.Given as goal
 
 abbrev pub invariant-files : goal.invariant-files

@@ -1,7 +1,7 @@
 -- the first that differs, or all that were planned
 use Rattle.std.proofs.Common.{ℕ, List, Option, Some, ap, get_or, inl, length, subst, sym, unwrap_or, ◌∙◌, arith}
-use Rattle.tor_engine.proofs.Change.{change_told, none_changed}
-use Rattle.tor_engine.specs.Given.{HasToldLengths}
+use Rattle.tor_sums.proofs.Change.{change_told, none_changed}
+use Rattle.tor_sums.specs.Given.{HasToldLengths}
 use Rattle.tor_engine.proofs.lengths.expect_lengths.Goals as goal
 
 pub returns-in-Some-clause-gave : goal.returns-in-Some-clause-gave

@@ -1,6 +1,6 @@
 -- the next file, and the end of either list
 use Rattle.std.proofs.Common.{sym, ◌∙◌}
-use Rattle.tor_engine.proofs.Change.{change_differs, change_ends, change_next, change_short}
+use Rattle.tor_sums.proofs.Change.{change_differs, change_ends, change_next, change_short}
 use Rattle.tor_engine.proofs.lengths.first_change.Goals as goal
 
 pub returns-in-Some-2 : goal.returns-in-Some-2

@@ -1,6 +1,6 @@
 -- the files so far are as was planned
 use Rattle.std.proofs.Common.{◌≡◌, drop}
-use Rattle.tor_engine.specs.Fault.{change_from}
+use Rattle.tor_sums.specs.Fault.{change_from}
 use Rattle.tor_engine.proofs.lengths.first_change.Given as goal
 
 abbrev pub invariant-files : goal.invariant-files

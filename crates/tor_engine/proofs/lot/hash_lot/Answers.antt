@@ -6,12 +6,12 @@ use Rattle.tor_plan.specs.Forest.{AreRuns}
 use Rattle.tor_plan.specs.declared.forests.Run.{Run}
 use Rattle.tor_plan.specs.declared.units.PlanUnit.{PlanUnit}
 use Rattle.tor_tree.specs.declared.kinds.Kind.{Kind}
-use Rattle.tor_engine.specs.Contents.{contents_in}
-use Rattle.tor_engine.specs.Fault.{IsFault, units_fault}
+use Rattle.tor_sums.specs.Contents.{contents_in}
+use Rattle.tor_sums.specs.Fault.{IsFault, units_fault}
 use Rattle.tor_engine.specs.Rows.{units_between}
-use Rattle.tor_engine.specs.steps.Reads.{HasParts}
+use Rattle.tor_sums.specs.steps.Reads.{HasParts}
 use Rattle.tor_engine.specs.steps.RowSums.{IsRowOfSums}
-use Rattle.tor_engine.specs.steps.Run.{IsUnitToSum, parts_of}
+use Rattle.tor_sums.specs.steps.Run.{IsUnitToSum, parts_of}
 use Rattle.tor_engine.proofs.LotRows.{between_there, between_to_sum, contents_between, have_same, row_is}
 use Rattle.tor_engine.proofs.RunRoots.{no_runs}
 use Rattle.tor_engine.proofs.UnitRuns.{units_summed}

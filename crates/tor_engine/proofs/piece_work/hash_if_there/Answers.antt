@@ -1,10 +1,10 @@
 -- a piece that is not there, one of padding, and one that is read
 use Rattle.std.proofs.Common.{ℕ, List, Option, length, ap, cond, subst, sym, ◌∙◌, None, Some, inl, inr}
-use Rattle.tor_engine.specs.Contents.{contents_in}
-use Rattle.tor_engine.specs.Fault.{unit_fault}
+use Rattle.tor_sums.specs.Contents.{contents_in}
+use Rattle.tor_sums.specs.Fault.{unit_fault}
 use Rattle.tor_engine.specs.PieceHashes.{piece_hash}
 use Rattle.tor_engine.specs.There.{is_within}
-use Rattle.tor_engine.specs.steps.Given.{lengths_of_sizes}
+use Rattle.tor_sums.specs.steps.Given.{lengths_of_sizes}
 use Rattle.tor_engine.specs.steps.Pieces.{IsPaddingSum}
 use Rattle.tor_engine.proofs.OnePiece.{fault_there, padding_fault, padding_hash}
 use Rattle.tor_engine.proofs.PartsInside.{unit_in_told}

@@ -1,6 +1,6 @@
 -- what was read of the piece
 use Rattle.std.proofs.Common.{length}
-use Rattle.tor_engine.specs.Contents.{contents_in}
+use Rattle.tor_sums.specs.Contents.{contents_in}
 use Rattle.tor_engine.proofs.PartsInside.{source_has_unit}
 use Rattle.tor_engine.proofs.piece_work.hash_piece.Goals as goal
 

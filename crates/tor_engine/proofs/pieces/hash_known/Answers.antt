@@ -5,7 +5,7 @@ use Rattle.tor_plan.specs.Pieces.{pieces_of_unit}
 use Rattle.tor_plan.specs.Forest.{AreRuns}
 use Rattle.tor_plan.specs.declared.forests.Run.{Run}
 use Rattle.tor_plan.specs.declared.units.PlanUnit.{PlanUnit}
-use Rattle.tor_engine.specs.Contents.{contents_in}
+use Rattle.tor_sums.specs.Contents.{contents_in}
 use Rattle.tor_engine.specs.There.{is_within}
 use Rattle.tor_engine.specs.steps.Asked.{first_again_fault}
 use Rattle.tor_engine.specs.steps.Pieces.{IsUnitToHash, first_unit_fault, unit_hashes}

@@ -5,7 +5,7 @@ use Rattle.std.specs.Simd.{first_chunks}
 use Rattle.tor_tree.specs.Kinds.{has_v2}
 use Rattle.tor_v1.specs.Feeding.{HasFed}
 use Rattle.tor_v1.specs.Piece.{zeros}
-use Rattle.tor_engine.proofs.FileHashes.{some_piece}
+use Rattle.tor_sums.proofs.FileHashes.{some_piece}
 use Rattle.tor_engine.proofs.OnePiece.{padding_is}
 use Rattle.tor_engine.proofs.pieces.padding_sum.Goals as goal
 

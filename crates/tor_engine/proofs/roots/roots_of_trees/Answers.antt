@@ -3,7 +3,7 @@ use Rattle.std.proofs.Common.{◌++◌, ◌∷◌, Some, [], arith, ap, ap₂, g
 use Rattle.std.proofs.lemmas.List.{map_more}
 use Rattle.tor_merkle.specs.Stack.{padded_root}
 use Rattle.tor_plan.specs.declared.forests.Run.{Run}
-use Rattle.tor_engine.specs.steps.Roots.{root_of_run}
+use Rattle.tor_sums.specs.steps.Roots.{root_of_run}
 use Rattle.tor_engine.proofs.RunRoots.{fits, is_run}
 use Rattle.tor_engine.proofs.roots.roots_of_trees.Goals as goal
 

@@ -3,14 +3,14 @@ use Rattle.std.proofs.Common.{◌<◌, List, length, subst, sym}
 use Rattle.std.proofs.lemmas.List.Elements.{All-contains_itself, All-from_recursion}
 use Rattle.std.specs.List.{All, AllByRecursion}
 use Rattle.tor_plan.specs.declared.units.PlanUnit.{PlanUnit}
-use Rattle.tor_engine.specs.Fault.{IsFault, unit_fault}
-use Rattle.tor_engine.specs.Shares.{unit_at}
-use Rattle.tor_engine.specs.declared.unit_sums.UnitSums.{UnitSums}
-use Rattle.tor_engine.specs.steps.Reads.{HasParts}
-use Rattle.tor_engine.specs.steps.Run.{IsUnitToSum, SumsUpUnit, parts_of}
+use Rattle.tor_sums.specs.Fault.{IsFault, unit_fault}
+use Rattle.tor_sums.specs.UnitSums.{unit_at}
+use Rattle.tor_sums.specs.declared.unit_sums.UnitSums.{UnitSums}
+use Rattle.tor_sums.specs.steps.Reads.{HasParts}
+use Rattle.tor_sums.specs.steps.Run.{IsUnitToSum, SumsUpUnit, parts_of}
 use Rattle.tor_engine.specs.steps.Taken.{IsSumOf}
 use Rattle.tor_engine.proofs.Counts.{each_more}
-use Rattle.tor_engine.proofs.PlanLevels.{units_to_sum}
+use Rattle.tor_sums.proofs.PlanLevels.{units_to_sum}
 use Rattle.tor_engine.proofs.ReadContents.{plan_there}
 use Rattle.tor_engine.proofs.UnitSummed.{are_unit_sums}
 use Rattle.tor_engine.proofs.shares.work.Goals as goal

@@ -2,7 +2,7 @@
 use Rattle.std.proofs.Common.{[], ap, subst, sym, ◌∙◌}
 use Rattle.std.proofs.lemmas.List.{get_or_default}
 use Rattle.tor_plan.specs.declared.units.PlanUnit.{PlanUnit}
-use Rattle.tor_engine.specs.Fault.{IsFault}
+use Rattle.tor_sums.specs.Fault.{IsFault}
 use Rattle.tor_engine.specs.steps.Taken.{HasBegun, units_taken}
 use Rattle.tor_engine.proofs.ClaimedUnits.{taken_next}
 use Rattle.tor_engine.proofs.taking.hash_claimed.Goals as goal

@@ -2,10 +2,10 @@
 use Rattle.std.proofs.Common.{List, [], ◌∷◌, ◌++◌, take, inl, inr, subst, sym, ap, ◌∙◌}
 use Rattle.std.proofs.lemmas.List.{take_all, take_more}
 use Rattle.tor_plan.specs.declared.units.PlanUnit.{PlanUnit}
-use Rattle.tor_engine.specs.steps.Each.{SumUpEach}
+use Rattle.tor_sums.specs.steps.Each.{SumUpEach}
 use Rattle.tor_engine.specs.steps.Failing.{failure_of}
 use Rattle.tor_engine.proofs.Failing.{all_hold, fails_here, next_holds}
-use Rattle.tor_engine.proofs.FirstOf.{first_of_none}
+use Rattle.tor_sums.proofs.FirstOf.{first_of_none}
 use Rattle.tor_engine.proofs.UnitShares.{refused}
 use Rattle.tor_engine.proofs.turn.hash_in_turn.Goals as goal
 

@@ -2,7 +2,7 @@
 use Rattle.std.proofs.Common.{◌≡◌, None, take}
 use Rattle.std.specs.List.{enumerate_from}
 use Rattle.tor_source.specs.Source.{SourceFacts}
-use Rattle.tor_engine.specs.Fault.{first_of}
+use Rattle.tor_sums.specs.Fault.{first_of}
 use Rattle.tor_engine.specs.steps.Failing.{failure_of}
 use Rattle.tor_engine.proofs.turn.hash_in_turn.Given as goal
 

@@ -2,7 +2,7 @@
 use Rattle.std.proofs.Common.{Bool, [], ◌∷◌, List, ℕ, subst}
 use Rattle.std.specs.declared.io.Error.{Error}
 use Rattle.std.specs.Prelude.{IfOk}
-use Rattle.tor_engine.specs.Streams.{AreSumsOfContents}
+use Rattle.tor_streams.specs.Streams.{AreSumsOfContents}
 use Rattle.tor_source.specs.Input.{ReadsAll}
 use Rattle.tor_meta.proofs.Refused.{accepted_numbers, stream_numbers}
 use Rattle.tor_meta.proofs.StreamSums.{plan_pieces}

@@ -1,6 +1,6 @@
 -- What was told of the lengths is of the files that were handed in.
 use Rattle.std.proofs.Common.{ℕ, List, length, ap, subst, sym, ◌∙◌, refl}
-use Rattle.tor_engine.specs.Given.{HasToldLengths, IsGivenAsked}
+use Rattle.tor_sums.specs.Given.{HasToldLengths, IsGivenAsked}
 use Rattle.tor_meta.specs.Make.{IsGivenTo}
 use Rattle.tor_meta.specs.MakeError.{of_contents_error}
 use Rattle.tor_meta.proofs.GivenFiles.{given_of_asked, given_of_lengths}

@@ -2,7 +2,7 @@
 use Rattle.std.proofs.Common.{◌≡◌, ◌∙◌, None, Some, length, map, ap, sym, subst}
 use Rattle.std.proofs.lemmas.List.{length-map}
 use Rattle.std.specs.declared.io.Error.{Error}
-use Rattle.tor_engine.specs.Streams.{GivesWhole}
+use Rattle.tor_streams.specs.Streams.{GivesWhole}
 use Rattle.tor_meta.specs.Contents.{files_with}
 use Rattle.tor_meta.specs.MakeStreams.{IsGivenByReaders}
 use Rattle.tor_meta.specs.Order.{settings_of_order}

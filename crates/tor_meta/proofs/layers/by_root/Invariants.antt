@@ -1,6 +1,6 @@
 -- The map has the layers of the files that were passed.
 use Rattle.std.proofs.Common.{◌≡◌, ◌≤◌, List, length, drop}
-use Rattle.tor_engine.specs.Sums.{lists_of}
+use Rattle.tor_sums.specs.Sums.{lists_of}
 use Rattle.tor_meta.specs.steps.Layers.{pairs_of_map}
 use Rattle.tor_spec.specs.Facts.{Facts, listed, layers_in, roots_in}
 use Rattle.tor_spec.specs.PieceLayers.{piece_layers}

@@ -1,9 +1,9 @@
 -- the plan's sums are those that the head asks for
 use Rattle.std.proofs.Common.{◌≡◌, ℕ, List, inl, inr, length, map, ap, subst, sym, ◌∙◌}
 use Rattle.std.proofs.lemmas.List.{length-map}
-use Rattle.tor_engine.specs.Contents.{contents_in}
-use Rattle.tor_engine.specs.Fault.{first_byte_fault, first_length_fault}
-use Rattle.tor_engine.specs.Given.{IsGivenNotMissing}
+use Rattle.tor_sums.specs.Contents.{contents_in}
+use Rattle.tor_sums.specs.Fault.{first_byte_fault, first_length_fault}
+use Rattle.tor_sums.specs.Given.{IsGivenNotMissing}
 use Rattle.tor_meta.specs.steps.Sums.{SumUp}
 use Rattle.tor_meta.proofs.SourceSums.{from_plan}
 use Rattle.tor_tree.specs.FileList.{lengths_of}

@@ -1,6 +1,6 @@
 -- the torrent of the sums
 use Rattle.std.proofs.Common.{length}
-use Rattle.tor_engine.specs.Contents.{contents_in}
+use Rattle.tor_sums.specs.Contents.{contents_in}
 use Rattle.tor_meta.proofs.ContentSteps.{have_trees}
 use Rattle.tor_meta.proofs.listed_files.torrent_of_listed.Goals as goal
 

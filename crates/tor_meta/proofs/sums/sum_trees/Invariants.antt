@@ -2,7 +2,7 @@
 use Rattle.std.proofs.Common.{◌≡◌, map, take}
 use Rattle.tor_merkle.specs.Layer.{piece_layer}
 use Rattle.tor_meta.specs.steps.Contents.{bytes_of}
-use Rattle.tor_engine.specs.Sums.{lists_of}
+use Rattle.tor_sums.specs.Sums.{lists_of}
 use Rattle.tor_merkle.specs.Layer.{root_of}
 use Rattle.tor_meta.proofs.sums.sum_trees.Given as goal
 

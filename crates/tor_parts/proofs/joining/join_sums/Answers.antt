@@ -1,6 +1,6 @@
 -- the sums of contents whose pieces have these hashes
 use Rattle.std.proofs.Common.{ap, ap₂, refl, ◌∙◌}
-use Rattle.tor_engine.specs.declared.sums.Sums.{Sums}
+use Rattle.tor_sums.specs.declared.sums.Sums.{Sums}
 use Rattle.tor_tree.specs.Kinds.{has_v2}
 use Rattle.std.proofs.Common.{length, replicate, None, []}
 use Rattle.tor_parts.specs.Joining.{layers_over, roots_over}

@@ -2,7 +2,7 @@
 use Rattle.std.proofs.Common.{◌+◌, [], ◌∷◌, ◌++◌, ap, drop, get_or, length, take, ◌∙◌}
 use Rattle.std.proofs.lemmas.List.{map-append}
 use Rattle.std.specs.Int.{div_ceil}
-use Rattle.tor_engine.specs.Sums.{lists_of}
+use Rattle.tor_sums.specs.Sums.{lists_of}
 use Rattle.tor_parts.specs.Joining.{layer_over, layers_over, root_over, roots_over}
 use Rattle.tor_parts.proofs.FileTrees.{all_layers, all_roots, left_counted, next_layers, next_roots}
 use Rattle.tor_parts.proofs.joining.trees_over.Goals as goal

@@ -1,8 +1,8 @@
 -- what all rows are of
 use Rattle.std.proofs.Common.{◌≡◌, ℕ, List, Result, Ok, Err, IfOk, ap, cond, length, subst, sym, ◌∙◌}
 use Rattle.tor_engine.specs.Rows.{IsRowOf}
-use Rattle.tor_engine.specs.Sums.{AreSumsOfPlan}
-use Rattle.tor_engine.specs.declared.sums.Sums.{Sums}
+use Rattle.tor_sums.specs.Sums.{AreSumsOfPlan}
+use Rattle.tor_sums.specs.declared.sums.Sums.{Sums}
 use Rattle.tor_plan.specs.PlanFacts.{PlanFacts}
 use Rattle.tor_parts.specs.JoinedRows.{AreContentsOfEach, AreSumsOfEach}
 use Rattle.tor_parts.specs.Joining.{pieces_of_lengths}

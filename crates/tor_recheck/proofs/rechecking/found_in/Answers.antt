@@ -5,7 +5,7 @@ use Rattle.tor_recheck.proofs.Names.{◌≡◌, IsCut, IsGiven, View, first_faul
 use Rattle.tor_recheck.proofs.ProvedLaws.{pieces_are_counted}
 use Rattle.tor_recheck.proofs.RecheckFaults.{given_of, no_fault, same_fault}
 use Rattle.tor_recheck.proofs.Rechecked.{count_is, pieces_are}
-use Rattle.tor_engine.specs.Fault as engine
+use Rattle.tor_sums.specs.Fault as engine
 use Rattle.tor_recheck.proofs.rechecking.found_in.Goals as goal
 
 -- the plan has the files of the torrent

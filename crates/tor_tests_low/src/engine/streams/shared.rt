@@ -1,6 +1,6 @@
 //! What the tests of readers share: readers in memory, and how they are hashed.
 ghost use Rattle.std.specs.Prelude.{◌≤◌};
-ghost use Rattle.tor_engine.specs.Streams.{IsStreamCut};
+ghost use Rattle.tor_streams.specs.Streams.{IsStreamCut};
 
 use std::alloc::{AllocError, Global};
 use std::io::{self, ErrorKind, Read};

@@ -1,6 +1,6 @@
 use Rattle.tor_engine.specs.steps.Pieces.{HashesPieces}
 use Rattle.tor_engine.proofs.Each.{each_none}
-use Rattle.tor_engine.proofs.PaidSums.{if_ok_more}
+use Rattle.tor_sums.proofs.PaidSums.{if_ok_more}
 use Rattle.tor_engine.proofs.piece_work.PieceWorkUnitWork.begin.Goals as goal
 
 pub returns : goal.returns

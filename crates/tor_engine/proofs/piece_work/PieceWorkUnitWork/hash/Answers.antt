@@ -2,13 +2,13 @@
 use Rattle.std.proofs.Common.{length, inl, inr, ap, ap₂, is_some, [], ◌∷◌, ◌++◌, map, take, sym, ◌∙◌}
 use Rattle.std.proofs.lemmas.List.{map-append, take_all, take_more}
 use Rattle.tor_plan.specs.Pieces.{pieces_of_unit}
-use Rattle.tor_engine.specs.Contents.{contents_in}
+use Rattle.tor_sums.specs.Contents.{contents_in}
 use Rattle.tor_engine.specs.PieceFault.{piece_fault, pieces_fault}
 use Rattle.tor_engine.specs.PieceHashes.{hash_if_there}
 use Rattle.tor_engine.specs.There.{is_within}
 use Rattle.tor_engine.specs.steps.Pieces.{HashesPieces}
 use Rattle.tor_engine.proofs.Each.{each_next}
-use Rattle.tor_engine.proofs.FirstOf.{first_at, first_next, first_of_none}
+use Rattle.tor_sums.proofs.FirstOf.{first_at, first_next, first_of_none}
 use Rattle.tor_engine.proofs.piece_work.PieceWorkUnitWork.hash.Goals as goal
 
 pub returns-in-Err-clause-fault : goal.returns-in-Err-clause-fault

@@ -1,12 +1,12 @@
 -- the hashes of the pieces so far, none of which fails
 use Rattle.std.proofs.Common.{◌≡◌, [], None, length, map, take}
 use Rattle.tor_source.specs.Source.{SourceFacts}
-use Rattle.tor_engine.specs.Contents.{contents_in}
+use Rattle.tor_sums.specs.Contents.{contents_in}
 use Rattle.tor_engine.specs.PieceFault.{pieces_fault}
 use Rattle.tor_engine.specs.PieceHashes.{hash_if_there}
 use Rattle.tor_engine.specs.There.{HaveHashesOf}
 use Rattle.tor_engine.specs.steps.Pieces.{AreTold}
-use Rattle.tor_engine.specs.steps.Worker.{IsFresh}
+use Rattle.tor_sums.specs.steps.Worker.{IsFresh}
 use Rattle.tor_engine.proofs.piece_work.PieceWorkUnitWork.hash.Given as goal
 
 abbrev pub invariant-pieces : goal.invariant-pieces

@@ -1,6 +1,6 @@
 use Rattle.std.proofs.Common.{[]}
-use Rattle.tor_engine.specs.steps.Run.{OwesUnit}
-use Rattle.tor_engine.proofs.PaidSums.{if_ok_more, owe_none}
+use Rattle.tor_sums.specs.steps.Run.{OwesUnit}
+use Rattle.tor_sums.proofs.PaidSums.{if_ok_more, owe_none}
 use Rattle.tor_engine.proofs.sum_work.SumWorkUnitWork.begin.Goals as goal
 
 pub returns : goal.returns

@@ -1,11 +1,11 @@
 -- each unit gets what is owed to it
 use Rattle.std.proofs.Common.{◌∙◌, List, ap, map, refl, subst, sym}
-use Rattle.tor_engine.specs.declared.unit_sums.UnitSums.{UnitSums}
-use Rattle.tor_engine.specs.steps.Each.{SumUpEach}
-use Rattle.tor_engine.specs.steps.Owing.{CanPay, paid}
-use Rattle.tor_engine.specs.steps.Run.{SumsUpUnit}
+use Rattle.tor_sums.specs.declared.unit_sums.UnitSums.{UnitSums}
+use Rattle.tor_sums.specs.steps.Each.{SumUpEach}
+use Rattle.tor_sums.specs.steps.Owing.{CanPay, paid}
+use Rattle.tor_sums.specs.steps.Run.{SumsUpUnit}
 use Rattle.tor_engine.specs.steps.Taken.{pair_in}
-use Rattle.tor_engine.proofs.PaidSums.{can_pay, paid_alike, paid_up}
+use Rattle.tor_sums.proofs.PaidSums.{can_pay, paid_alike, paid_up}
 use Rattle.tor_engine.proofs.sum_work.SumWorkUnitWork.complete.Goals as goal
 
 pub pay-requires : goal.pay-requires

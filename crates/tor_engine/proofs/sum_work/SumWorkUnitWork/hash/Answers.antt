@@ -1,8 +1,8 @@
 -- the unit is one of those whose bytes the source has
 use Rattle.std.proofs.Common.{◌++◌}
-use Rattle.tor_engine.specs.steps.Run.{OwesUnit}
-use Rattle.tor_engine.proofs.Parts.{unit_has}
-use Rattle.tor_engine.proofs.PaidSums.{if_ok_more, owe_next}
+use Rattle.tor_sums.specs.steps.Run.{OwesUnit}
+use Rattle.tor_sums.proofs.Parts.{unit_has}
+use Rattle.tor_sums.proofs.PaidSums.{if_ok_more, owe_next}
 use Rattle.tor_engine.proofs.sum_work.SumWorkUnitWork.hash.Goals as goal
 
 pub sum_unit-requires-clause-owing : goal.sum_unit-requires-clause-owing

@@ -1,5 +1,5 @@
 -- two workers are as one
-use Rattle.tor_engine.specs.steps.Each.{SumUpEach}
+use Rattle.tor_sums.specs.steps.Each.{SumUpEach}
 use Rattle.tor_engine.proofs.Each.{each_append}
 use Rattle.tor_engine.proofs.UnitShares.{joined_answers}
 use Rattle.tor_engine.proofs.turn.UnitShareDivisible.join.Goals as goal

@@ -1,0 +1,14 @@
+pub mod ChunkFacts
+pub mod ChunkTrees
+pub mod CutEnds
+pub mod CutLists
+pub mod Cutting
+pub mod FedLanes
+pub mod FilesContent
+pub mod Readers
+pub mod SortedUnits
+pub mod StreamContent
+pub mod StreamPieces
+pub mod StreamTail
+pub mod StreamWorkers
+pub mod WidenedRoots

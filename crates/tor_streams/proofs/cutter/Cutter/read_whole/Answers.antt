@@ -1,0 +1,118 @@
+-- the reader's content is what came until it was at its end
+use Rattle.std.proofs.Common.{◌≡◌, ◌+◌, ◌-◌, ◌++◌, ℕ, [], arith, refl, ◌∙◌, subst}
+use Rattle.std.proofs.Common.{length-append}
+use Rattle.std.proofs.KnownBytes.{Consumes-nil, Consumes-trans}
+use Rattle.std.proofs.lemmas.Result.{err_from_is_err_and}
+use Rattle.tor_streams.specs.steps.Cuts.{EndsReading}
+use Rattle.tor_streams.proofs.Cutting.{bytes_came, cut_whole, lanes_join}
+use Rattle.tor_streams.proofs.cutter.Cutter.read_whole.Goals as goal
+
+pub chunks-init : goal.chunks-init
+chunks-init g c =
+    let ready = c.requires.ready.3 in record {
+      bytes = [];
+      counted = refl;
+      small = omega arith;
+      came = Consumes-nil (g.R.Read.remaining c.args.reader.now);
+      room = omega (arith, ready.room, ready.has.buffer);
+      cut = λ size contents some has. has;
+      lane = (refl, refl);
+      opened = ready.has.opened;
+    }
+
+pub stopped-requires : goal.stopped-requires
+stopped-requires g c =
+    let more = c.in-Err.ensures.fault in (
+      c.args.limit - c.chunks.count,
+      more.0,
+      omega (arith, c.chunks.invariant.small, c.requires.small),
+      more.2,
+    )
+
+pub returns-in-Err-clause-stopped : goal.returns-in-Err-clause-stopped
+returns-in-Err-clause-stopped g c =
+    let remaining = g.R.Read.remaining in
+    let before = c.chunks.invariant in
+    let more = c.in-Err.ensures.fault in
+    let room : c.chunks.count + (c.args.limit - c.chunks.count) ≡ c.args.limit = omega (arith, before.small) in (
+      before.bytes ++ more.0,
+      Consumes-trans (remaining c.args.reader.now) (remaining c.chunks.reader) (remaining c.fill.new.reader)
+          before.bytes more.0 before.came more.1,
+      subst (λ (n : ℕ). EndsReading n c.stopped.result (before.bytes ++ more.0)) room
+          (c.stopped.ensures (c.args.limit - c.chunks.count) before.bytes more.0 before.counted more.2),
+    )
+
+pub returns-then-self-len-clause-read : goal.returns-then-self-len-clause-read
+returns-then-self-len-clause-read g c =
+    let remaining = g.R.Read.remaining in
+    let before = c.chunks.invariant in
+    let came = c.in-Ok.ensures.came in
+    let kept = c.fill.ensures.kept in
+    let long = length-append before.bytes came.0 ∙ omega (arith, before.counted, came.2) in (
+      before.bytes ++ came.0,
+      record {
+        given = Consumes-trans (remaining c.args.reader.now) (remaining c.chunks.reader) (remaining c.fill.new.reader)
+            before.bytes came.0 before.came came.1;
+        end = c.in-Ok.ensures.end (omega (arith, c.if-self-len.true, c.len.ensures));
+      },
+      long,
+      omega (arith, came.3, before.small),
+      λ size contents some ready.
+          c.in_ok-end_content.ensures.ended size contents (before.bytes ++ came.0) some
+          (bytes_came c.args.kind c.args.piece_length size some contents before.bytes came.0 c.chunks.self
+          c.fill.new.self (before.cut size contents some ready.has) c.fill.ensures.feeder kept.0 kept.1 kept.2 kept.3
+          came.5 came.6) long,
+    )
+
+pub returns-in_err-end_content-clause-stopped : goal.returns-in_err-end_content-clause-stopped
+returns-in_err-end_content-clause-stopped g c =
+    let p = err_from_is_err_and c.from_residual.result c.from_residual.ensures.1 in
+    let remaining = g.R.Read.remaining in
+    let before = c.chunks.invariant in
+    let came = c.in-Ok.ensures.came in
+    rw (p.1, p.2) (
+      before.bytes ++ came.0,
+      Consumes-trans (remaining c.args.reader.now) (remaining c.chunks.reader) (remaining c.fill.new.reader)
+          before.bytes came.0 before.came came.1,
+      omega (arith, length-append before.bytes came.0, before.counted, came.2, came.3, before.small),
+    )
+
+pub returns-in_err-cut-clause-stopped : goal.returns-in_err-cut-clause-stopped
+returns-in_err-cut-clause-stopped g c =
+    let p = err_from_is_err_and c.from_residual-in_err-cut.result c.from_residual-in_err-cut.ensures.1 in
+    let remaining = g.R.Read.remaining in
+    let before = c.chunks.invariant in
+    let came = c.in-Ok.ensures.came in
+    rw (p.1, p.2) (
+      before.bytes ++ came.0,
+      Consumes-trans (remaining c.args.reader.now) (remaining c.chunks.reader) (remaining c.fill.new.reader)
+          before.bytes came.0 before.came came.1,
+      omega (arith, length-append before.bytes came.0, before.counted, came.2, came.3, before.small),
+    )
+
+pub chunks-preserved : goal.chunks-preserved
+chunks-preserved g c =
+    let remaining = g.R.Read.remaining in
+    let before = c.chunks.invariant in
+    let came = c.in-Ok.ensures.came in
+    let kept = c.fill.ensures.kept in
+    let more = c.in_ok-cut.ensures.cut in
+    let full = c.len.ensures in record {
+      bytes = before.bytes ++ came.0;
+      counted = length-append before.bytes came.0 ∙ omega (arith, before.counted, came.2);
+      small = omega (arith, came.3, before.small);
+      came = Consumes-trans (remaining c.args.reader.now) (remaining c.chunks.reader) (remaining c.fill.new.reader)
+          before.bytes came.0 before.came came.1;
+      room = omega (arith, more.filled, more.buffer, kept.3, before.room);
+      cut = λ size contents some has.
+          let has_more = bytes_came c.args.kind c.args.piece_length size some contents before.bytes came.0 c.chunks.self
+          c.fill.new.self (before.cut size contents some has) c.fill.ensures.feeder kept.0 kept.1 kept.2 kept.3
+          came.5 came.6 in
+          let whole : c.fill.new.self.filled ≡ size =
+          omega (arith, came.5, c.if-self-len.false, full, has_more.buffer) in
+          cut_whole c.args.kind c.args.piece_length size some contents (before.bytes ++ came.0) c.fill.new.self
+          c.cut.new.self has_more more c.in_ok-cut.ensures.lane.1 (omega (arith, whole, some)) whole;
+      lane = lanes_join c.args.self.now.feeder c.chunks.self.feeder c.fill.new.self.feeder c.cut.new.self.feeder
+          before.lane c.fill.ensures.feeder c.in_ok-cut.ensures.lane.0;
+      opened = c.in_ok-cut.ensures.lane.1;
+    }

@@ -1,0 +1,18 @@
+-- the workers are those of the lane
+use Rattle.std.proofs.Common.{◌∙◌, subst, sym}
+use Rattle.tor_lane.specs.declared.feeder.Feeder.{Feeder}
+use Rattle.tor_streams.specs.steps.StreamWorkers.{AreWorkers}
+use Rattle.tor_streams.proofs.StreamWorkers.{fresh_takers}
+use Rattle.tor_streams.proofs.feeding.open.Goals as goal
+
+pub returns-clause-workers : goal.returns-clause-workers
+returns-clause-workers c = λ kind p.
+    let workers = c.in_ok-workers.workers in
+    let first = c.in_ok-feeder.feeder in
+    let of_lane = c.in_ok-feeder.ensures in
+    subst (λ (feeder : Feeder). AreWorkers kind p feeder workers.items) (sym c.in_ok-cutter.ensures.feeder)
+    (record {
+      each = c.in_ok-workers.ensures.workers kind p first
+          (fresh_takers first c.in_ok-feeder.takers.items of_lane.takers);
+      all = sym workers.ok.0 ∙ c.in_ok-workers.ensures.all ∙ of_lane.count ∙ sym of_lane.feeder.2;
+    })

@@ -1,0 +1,4 @@
+pub mod ChunkNodes
+pub mod Cuts
+pub mod Fed
+pub mod StreamWorkers

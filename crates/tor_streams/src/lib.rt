@@ -1,0 +1,31 @@
+//! What readers sum up to that are read once and in order, while workers hash what was read.
+//!
+//! - [`hash_streams`] (`streams.rt`): readers, one a file; [`hash_input`] (`input.rt`): one reader, within the limit of
+//!   an input.
+//! - `feeding.rt` reads in the calling thread: `read_streams.rt` goes to the end of each reader, and `cutter.rt` puts
+//!   chunks into a lane, by `filling.rt` and `padding.rt`. `lane_span.rt` says how many pieces a chunk has.
+//! - Its workers (`stream_worker.rt`) take and hash them (`chunk_sums.rt`), and give their buffers back (`spares.rt`).
+//! - `fed_sums.rt` and `stream_sums.rt` put together what these sum up to.
+//! - [`Gate`] (`gate.rt`): what tests have workers pass.
+//! - [`laws`] (`laws.rt`): the most bytes of a unit.
+#![tactic(auto)]
+
+mod chunk_sums;
+mod cutter;
+mod fed_sums;
+mod feeding;
+mod filling;
+mod gate;
+mod input;
+mod lane_span;
+pub mod laws;
+mod padding;
+mod read_streams;
+mod spares;
+mod stream_sums;
+mod stream_worker;
+mod streams;
+
+pub use gate::Gate;
+pub use input::hash_input;
+pub use streams::{MAX_UNIT_LENGTH, hash_streams, hash_streams_with};

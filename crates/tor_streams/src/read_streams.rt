@@ -1,0 +1,111 @@
+//! Readers and inputs that are read to their ends, and cut into chunks.
+ghost use Rattle.std.specs.Prelude.{◌≡◌, ◌<◌, ◌∷◌, [], ℕ, List, Option, IfErr, IfOk, map};
+ghost use Rattle.tor_lane.specs.Lane.{FeedsLaneOf, IsOpen, put_by};
+ghost use Rattle.tor_merkle.specs.declared.TheConstants.{MAX_LENGTH};
+ghost use Rattle.tor_plan.specs.PlanFacts.{IsPlanPieceLength};
+ghost use Rattle.tor_source.specs.Input.{EndsInput};
+ghost use Rattle.tor_streams.specs.Streams.{GiveContents, IsFaultOfReaders, ReadsUpTo};
+ghost use Rattle.tor_streams.specs.steps.Cuts.{EndsReading, IsReady, PutsContents};
+ghost use Rattle.tor_streams.specs.steps.Fed.{GivesInput, StopsInput};
+
+use crate::cutter::Cutter;
+use crate::filling::Stop;
+use std::alloc::{AllocError, Global};
+use std::io::{self, Read};
+use std::sync::Wait;
+use tor_merkle::MAX_LENGTH;
+use tor_source::{InputFault, MAX_INPUT_LENGTH};
+use tor_sums::EngineError;
+use tor_tree::Kind;
+
+/// Reads each reader to its end, puts all chunks, and answers how long each content is.
+pub(crate) fn read_each<R: Read + Drop, T: Wait>(
+    rt: &T,
+    alloc: Global,
+    kind: Kind,
+    piece_length: u64,
+    tail: bool,
+    readers: Vec<R>,
+    cutter: &mut Cutter,
+) -> Result<Vec<u64>, EngineError<io::Error>>
+    requires pieces { IsPlanPieceLength kind piece_length }
+    requires ready { (size : ℕ) × (0 < size) × IsReady kind piece_length size [] cutter.old }
+    ensures put { (size : ℕ) → 0 < size → IsReady kind piece_length size [] cutter.old → IfOk result (λ lengths.
+        (contents : List (List ℕ)) × GiveContents (map R.remaining readers.items) contents
+        × PutsContents kind tail piece_length size contents lengths.items (put_by cutter.new.feeder)) }
+    ensures lane { FeedsLaneOf cutter.old.feeder cutter.new.feeder × IsOpen cutter.new.feeder }
+    ensures fault { IfErr result (IsFaultOfReaders (map R.remaining readers.items)) }
+{
+    let mut lengths = Vec::with_capacity(alloc, readers.len())?;
+    'readers: for reader in readers {
+        let mut reader = reader;
+        let file = lengths.len() as u64;
+        match cutter.read_whole(rt, alloc, kind, piece_length, MAX_LENGTH, &mut reader) {
+            Ok(length) => lengths.push(length)?,
+            Err(stop) => return Err(error_of(stop, file)),
+        }
+    }
+    cutter.put_rest(rt, alloc, tail)?;
+    Ok(lengths)
+}
+
+/// What is answered where the reader of this number was not read to its end.
+fn error_of(stop: Stop, file: u64) -> EngineError<io::Error>
+    ensures { (known : List (Option (List ℕ))) (bytes : List ℕ) → ReadsUpTo known file bytes →
+        EndsReading MAX_LENGTH stop bytes → IsFaultOfReaders known result }
+{
+    match stop {
+        Stop::Read { start, fault } => EngineError::Read {
+            file,
+            start: Some(start),
+            fault,
+        },
+        Stop::TooLong => EngineError::StreamTooLong { file },
+        Stop::Refused => EngineError::Resources,
+    }
+}
+
+/// Reads an input to its end, puts all chunks, and answers how long it is.
+pub(crate) fn read_input<R: Read, T: Wait>(
+    rt: &T,
+    alloc: Global,
+    kind: Kind,
+    piece_length: u64,
+    tail: bool,
+    reader: &mut R,
+    cutter: &mut Cutter,
+) -> Result<Vec<u64>, InputFault>
+    requires pieces { IsPlanPieceLength kind piece_length }
+    requires ready { (size : ℕ) × (0 < size) × IsReady kind piece_length size [] cutter.old }
+    ensures put { (size : ℕ) → 0 < size → IsReady kind piece_length size [] cutter.old → IfOk result (λ lengths.
+        (contents : List (List ℕ)) × GivesInput (R.remaining reader.old) (R.remaining reader.new) contents
+        × PutsContents kind tail piece_length size contents lengths.items (put_by cutter.new.feeder)) }
+    ensures lane { FeedsLaneOf cutter.old.feeder cutter.new.feeder × IsOpen cutter.new.feeder }
+    ensures stopped { IfErr result (StopsInput (R.remaining reader.old) (R.remaining reader.new)) }
+{
+    match cutter.read_whole(rt, alloc, kind, piece_length, MAX_INPUT_LENGTH, reader) {
+        Ok(length) => {
+            cutter.put_rest(rt, alloc, tail)?;
+            Ok(only(alloc, length)?)
+        }
+        Err(stop) => Err(fault_of(stop)),
+    }
+}
+
+/// A list of one number.
+fn only(alloc: Global, number: u64) -> Result<Vec<u64>, AllocError>
+    ensures { IfOk result (λ numbers. numbers.items ≡ number ∷ []) }
+{
+    Ok(vec![in alloc; number]?)
+}
+
+/// What is answered where an input was not read to its end.
+fn fault_of(stop: Stop) -> InputFault
+    ensures { (limit : ℕ) (bytes : List ℕ) → EndsReading limit stop bytes → EndsInput limit result bytes }
+{
+    match stop {
+        Stop::Read { .. } => InputFault::Read,
+        Stop::TooLong => InputFault::TooLong,
+        Stop::Refused => InputFault::Memory,
+    }
+}

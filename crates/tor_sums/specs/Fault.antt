@@ -1,0 +1,72 @@
+-- The first fault of a steady source, in the order in which it is asked.
+use Rattle.std.specs.Prelude.{◌≡◌, ◌⊎◌, ℕ, ◌==◌, List, [], ◌∷◌, length, map, ◌+◌, Option, None, Some, Result, Ok, Err}
+use Rattle.std.specs.Prelude.{option_map, if◌then◌else◌}
+use Rattle.std.specs.List.{enumerate_from, range_with_len}
+use Rattle.std.specs.Option.{option_or}
+use Rattle.tor_plan.specs.declared.units.Part.{Part}
+use Rattle.tor_plan.specs.declared.units.PlanUnit.{PlanUnit}
+use Rattle.tor_source.specs.Source.{SourceFacts, told_length}
+use Rattle.tor_sums.specs.Contents.{contents_in}
+use Rattle.tor_sums.specs.declared.errors.EngineError.{EngineError}
+use Rattle.tor_sums.specs.declared.errors.EngineError.TheVariants.{Read, Changed, Missing, Resources}
+
+-- the first that there is, in the order of the list
+unfoldable pub first_of : {A B : Type 0} → (A → Option B) → List A → Option B
+first_of found [] = None
+first_of found (x ∷ xs) = option_or (found x) (first_of found xs)
+
+-- where the length of a file is asked: its fault, or that the file is missing
+abbrev pub unless_told : {F : Type 0} → ℕ → Result (Option ℕ) F → Option (EngineError F)
+unless_told file (Err fault) = Some (Read file None fault)
+unless_told file (Ok None) = Some (Missing file)
+unless_told file (Ok (Some count)) = None
+
+abbrev pub length_fault : {F : Type 0} → SourceFacts F → ℕ → Option (EngineError F)
+length_fault facts file = unless_told file (told_length facts file)
+
+-- the lengths of the files were told, and none of them fails or is missing
+pub record ToldLengths {F : Type 0} (facts : SourceFacts F) (count : ℕ) (lengths : List ℕ) : Type 0 where
+  pub told : lengths ≡ map length (contents_in facts count)
+  pub faultless : first_of (length_fault facts) (range_with_len 0 count) ≡ None
+
+-- the first file of which another length was told than was planned; the first of the list has this number
+unfoldable pub change_from : ℕ → List ℕ → List ℕ → Option ℕ
+change_from file [] planned = None
+change_from file (one ∷ told) [] = None
+change_from file (one ∷ told) (other ∷ planned) =
+    if one == other then change_from (file + 1) told planned else Some file
+
+-- all lengths are asked, and then compared with those that were planned
+abbrev pub first_length_fault : {F : Type 0} → SourceFacts F → List ℕ → Option (EngineError F)
+first_length_fault facts planned =
+    option_or (first_of (length_fault facts) (range_with_len 0 (length planned)))
+    (option_map (λ file. Changed file) (change_from 0 (map length (contents_in facts (length planned))) planned))
+
+-- where a byte is read
+abbrev pub byte_fault : {F : Type 0} → SourceFacts F → ℕ → ℕ → Option (EngineError F)
+byte_fault facts file offset = option_map (λ fault. Read file (Some offset) fault) (facts.byte_fault file offset)
+
+-- where the bytes of files of these lengths are read, file by file, each from its first byte to its last
+abbrev pub file_fault : {F : Type 0} → SourceFacts F → ℕ → ℕ → Option (EngineError F)
+file_fault facts file count = first_of (byte_fault facts file) (range_with_len 0 count)
+
+abbrev pub first_byte_fault : {F : Type 0} → SourceFacts F → List ℕ → Option (EngineError F)
+first_byte_fault facts lengths = first_of (λ file. file_fault facts file.0 file.1) (enumerate_from 0 lengths)
+
+-- the lengths come first, then the bytes
+abbrev pub first_fault : {F : Type 0} → SourceFacts F → List ℕ → Option (EngineError F)
+first_fault facts lengths = option_or (first_length_fault facts lengths) (first_byte_fault facts lengths)
+
+-- where the bytes of a part, of a unit, of units are read
+abbrev pub part_fault : {F : Type 0} → SourceFacts F → Part → Option (EngineError F)
+part_fault facts part = first_of (byte_fault facts part.file) (range_with_len part.start part.length)
+
+abbrev pub unit_fault : {F : Type 0} → SourceFacts F → PlanUnit → Option (EngineError F)
+unit_fault facts unit = first_of (part_fault facts) unit.parts
+
+abbrev pub units_fault : {F : Type 0} → SourceFacts F → List PlanUnit → Option (EngineError F)
+units_fault facts units = first_of (unit_fault facts) units
+
+-- memory was refused, or this is the fault
+abbrev pub IsFault : {F : Type 0} → Option (EngineError F) → EngineError F → Type 0
+IsFault first error = (error ≡ Resources) ⊎ (first ≡ Some error)

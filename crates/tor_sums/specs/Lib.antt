@@ -1,0 +1,9 @@
+pub mod Contents
+pub mod Fault
+pub mod Given
+pub mod Hasher
+pub mod How
+pub mod Sums
+pub mod UnitNodes
+pub mod UnitSums
+pub mod steps

@@ -1,0 +1,12 @@
+pub mod Each
+pub mod Given
+pub mod Hashes
+pub mod Owing
+pub mod Places
+pub mod ReadBytes
+pub mod Reads
+pub mod Room
+pub mod Roots
+pub mod Run
+pub mod Trees
+pub mod Worker
