@@ -6,7 +6,7 @@ ghost use Rattle.std.specs.Prelude.{◌≡◌, ◌≢◌, ◌≤◌, IfOk, map, 
 ghost use Rattle.std.specs.Process.{exit_status};
 ghost use Rattle.std.specs.Vec.Iter.{into_iter_items};
 ghost use Rattle.clap.specs.Walk.{texts};
-ghost use Rattle.tor_cli.specs.Request.{DoesAsked, EndsAsked};
+ghost use Rattle.tor_cli.specs.make.Request.{DoesAsked, EndsAsked};
 ghost use Rattle.tor_cli.specs.declared.answer.Answer.TheVariants.{Yes};
 
 use std::alloc::{AllocError, Global};

@@ -3,11 +3,11 @@ use Rattle.std.proofs.Common.{◌≡◌, ◌≢◌, ℕ, List, sym, subst}
 use Rattle.std.specs.Prelude.{IfErr, OnOk, Result, Ok, Err}
 use Rattle.tor_check.specs.Valid.{IsTold}
 use Rattle.tor_spec.specs.valid.View.{View}
-use Rattle.tor_cli.specs.CheckAfter.{AreCounted, IsAsMade, IsNotAsMade}
-use Rattle.tor_cli.specs.Recheck.{IsNotRechecked}
+use Rattle.tor_cli.specs.make.CheckAfter.{AreCounted, IsAsMade, IsNotAsMade}
+use Rattle.tor_cli.specs.recheck.Recheck.{IsNotRechecked}
 use Rattle.tor_cli.specs.declared.fault.Fault.{Fault}
 use Rattle.tor_cli.specs.declared.fault.Fault.TheVariants as faults
-use Rattle.tor_cli.specs.declared.piece_counts.PieceCounts.{PieceCounts}
+use Rattle.tor_cli.specs.declared.recheck.counts.PieceCounts.{PieceCounts}
 
 -- of what is not rechecked it is not told
 pub not_kept : (workers : ℕ) (bytes : List ℕ) (fault : Fault) → IsNotRechecked workers bytes fault

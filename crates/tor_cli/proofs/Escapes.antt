@@ -4,7 +4,7 @@ use Rattle.std.proofs.Common.{◌∙◌, arith}
 use Rattle.std.proofs.lemmas.Bool.Decides.{nat_tests}
 use Rattle.std.proofs.Math.Utf8.{encode}
 use Rattle.std.specs.Prelude.{nat_lt}
-use Rattle.tor_cli.specs.Escape.{escape, escaped, is_escaped}
+use Rattle.tor_cli.specs.text.Escape.{escape, escaped, is_escaped}
 
 high_plain : (b : ℕ) → 128 ≤ b → is_escaped b ≡ false
 high_plain b h = grind (arith, nat_tests)

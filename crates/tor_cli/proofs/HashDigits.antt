@@ -11,7 +11,7 @@ use Rattle.hex.specs.Hex.{IsBytes, decode_of, decode_sized, encode_lower, lower_
 use Rattle.hex.proofs.HexLemmas.{decode_of-encode_lower, decode_of-ok, decode_sized-ok, decode_sized-twice}
 use Rattle.hex.proofs.HexLemmas.{length-encode_with}
 use Rattle.hex.specs.declared.error.FromHexError.{FromHexError}
-use Rattle.tor_cli.specs.ProofText.{IsHash}
+use Rattle.tor_cli.specs.proof.ProofText.{IsHash}
 
 IsBytes-hash : (hash : List ℕ) → IsHash hash → IsBytes hash
 IsBytes-hash hash h i =

@@ -20,9 +20,9 @@ use Rattle.tor_meta.specs.Contents.{without_letters}
 use Rattle.tor_tree.specs.FileList.{paths_of}
 use Rattle.tor_tree.specs.Path.{name_cmp, name_eq, path_cmp, path_eq}
 use Rattle.tor_tree.specs.Letters.{no_letters}
-use Rattle.tor_cli.specs.Attrs.{AreAmong, AreLetteredBy, letters_in, lettered}
+use Rattle.tor_cli.specs.make.Attrs.{AreAmong, AreLetteredBy, letters_in, lettered}
 use Rattle.tor_cli.specs.Place.{AreFound}
-use Rattle.tor_cli.specs.AttrsText.{AreLettered, attrs_text}
+use Rattle.tor_cli.specs.make.AttrsText.{AreLettered, attrs_text}
 use Rattle.tor_tree.specs.declared.attr.Attr.{Attr}
 
 abbrev Path : Type 0

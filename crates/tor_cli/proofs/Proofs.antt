@@ -7,7 +7,7 @@ use Rattle.tor_check.specs.Valid.{IsTold}
 use Rattle.tor_check.specs.declared.piece_proofs.ProveError.{ProveError}
 use Rattle.tor_check.specs.declared.piece_proofs.ProveError.TheVariants as pieces
 use Rattle.tor_spec.specs.valid.View.{View}
-use Rattle.tor_cli.specs.Proving.{IsNotProved}
+use Rattle.tor_cli.specs.proof.Proving.{IsNotProved}
 use Rattle.tor_cli.specs.Status.{of_piece_error}
 
 abbrev fault_in : {A : Type 0} → Result A ProveError → ProveError → ProveError

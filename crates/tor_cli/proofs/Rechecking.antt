@@ -19,14 +19,14 @@ use Rattle.tor_source.specs.declared.faults.ScanFault.TheVariants as scans
 use Rattle.tor_spec.specs.valid.View.{View}
 use Rattle.tor_cli.specs.Foreign.{IsNoTorrent}
 use Rattle.tor_cli.specs.Place.{IsFileEnd, IsFileFault, IsFileSize}
-use Rattle.tor_cli.specs.Recheck.{IsNoPlace, IsNotPlaced, IsNotRechecked}
+use Rattle.tor_cli.specs.recheck.Recheck.{IsNoPlace, IsNotPlaced, IsNotRechecked}
 use Rattle.tor_cli.specs.Status.{of_recheck_error, of_scan_fault}
-use Rattle.tor_cli.specs.Whereabouts.{looked_for}
+use Rattle.tor_cli.specs.recheck.Whereabouts.{looked_for}
 use Rattle.tor_cli.specs.steps.Places.{ArePlaced, ArePlaces}
-use Rattle.tor_cli.specs.declared.whereabouts.Standing.{Standing}
-use Rattle.tor_cli.specs.declared.whereabouts.Standing.TheVariants.{File, NoFile, Nothing, NotTold, NoMemory}
-use Rattle.tor_cli.specs.declared.whereabouts.Whereabouts.{Whereabouts}
-use Rattle.tor_cli.specs.declared.whereabouts.Whereabouts.TheVariants.{Itself, Below, Nowhere}
+use Rattle.tor_cli.specs.declared.recheck.whereabouts.Standing.{Standing}
+use Rattle.tor_cli.specs.declared.recheck.whereabouts.Standing.TheVariants.{File, NoFile, Nothing, NotTold, NoMemory}
+use Rattle.tor_cli.specs.declared.recheck.whereabouts.Whereabouts.{Whereabouts}
+use Rattle.tor_cli.specs.declared.recheck.whereabouts.Whereabouts.TheVariants.{Itself, Below, Nowhere}
 use Rattle.tor_cli.specs.declared.fault.Fault.{Fault}
 use Rattle.tor_cli.specs.declared.fault.Fault.TheVariants as faults
 

@@ -5,7 +5,7 @@ use Rattle.std.specs.Prelude.{flat_map}
 use Rattle.std.specs.List.{All}
 use Rattle.std.proofs.lemmas.List.{flat_map_more, take_more}
 use Rattle.std.proofs.lemmas.List.Elements.{All-append, All-cons, All-nil}
-use Rattle.tor_cli.specs.ProofText.{IsHash, sibling_line}
+use Rattle.tor_cli.specs.proof.ProofText.{IsHash, sibling_line}
 
 pub some_line : (sibling : List ℕ) → 0 < length (sibling_line sibling)
 some_line sibling = omega arith

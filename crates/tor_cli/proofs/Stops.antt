@@ -14,10 +14,10 @@ use Rattle.tor_tree.specs.Name.{name_fault}
 use Rattle.tor_tree.specs.declared.attr.Attr.{Attr}
 use Rattle.tor_source.specs.Input.{EndsInput, ReadsSome}
 use Rattle.tor_meta.specs.FromInput.{MakesOf, StopsReading}
-use Rattle.tor_cli.specs.Attrs.{IsNotLettered}
+use Rattle.tor_cli.specs.make.Attrs.{IsNotLettered}
 use Rattle.tor_cli.specs.Place.{AreFound, IsGivenBy, IsNotFound, refusal_by}
-use Rattle.tor_cli.specs.Request.{IsOrderOf, IsOrderOfOne, IsRefusedFirst, OnlyReads, SendsFront, StopsFinding}
-use Rattle.tor_cli.specs.Request.{StopsInput, StopsPlace, StopsSending, attrs_of, file_of, input_refusal}
+use Rattle.tor_cli.specs.make.Request.{IsOrderOf, IsOrderOfOne, IsRefusedFirst, OnlyReads, SendsFront, StopsFinding}
+use Rattle.tor_cli.specs.make.Request.{StopsInput, StopsPlace, StopsSending, attrs_of, file_of, input_refusal}
 use Rattle.tor_cli.specs.steps.Lettering.{IsNotOrdered}
 use Rattle.tor_cli.specs.Streams.{IsUntouched, Streams}
 use Rattle.tor_cli.specs.Status.{of_input_fault, of_make_error, of_scan_fault, of_step_fault}
@@ -27,7 +27,7 @@ use Rattle.tor_source.specs.declared.input.InputFault.TheVariants as inputs
 use Rattle.tor_meta.specs.declared.from_input.FromFault.{FromFault}
 use Rattle.tor_meta.specs.declared.from_input.FromFault.TheVariants.{Input, Make, Write}
 use Rattle.tor_cli.proofs.Sizes.{has_bytes}
-use Rattle.tor_cli.specs.declared.options.MakeOptions.{MakeOptions}
+use Rattle.tor_cli.specs.declared.make.options.MakeOptions.{MakeOptions}
 use Rattle.tor_cli.specs.declared.fault.Fault.{Fault}
 use Rattle.tor_cli.specs.declared.fault.Fault.TheVariants as faults
 

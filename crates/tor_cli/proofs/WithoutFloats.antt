@@ -10,11 +10,11 @@ use Rattle.tor_meta.specs.declared.hashes.Hashes.{Hashes}
 use Rattle.tor_recheck.specs.declared.files.FileFound.{FileFound}
 use Rattle.tor_spec.specs.valid.View.{FileView, View}
 use Rattle.tor_tree.specs.declared.tree_file.TreeFile.{TreeFile}
-use Rattle.tor_cli.specs.FoundFiles.{is_whole}
-use Rattle.tor_cli.specs.Records.{check_members, file_data, files_data, found_data, hash_data, length_data, listed_data}
-use Rattle.tor_cli.specs.Records.{listed_pair, path_data, recheck_members}
-use Rattle.tor_cli.specs.declared.listing.Listing.{Listing}
-use Rattle.tor_cli.specs.declared.listing.Listing.TheVariants.{Pieces, Files, BadFiles, BadPaths}
+use Rattle.tor_cli.specs.recheck.FoundFiles.{is_whole}
+use Rattle.tor_cli.specs.text.Records.{check_members, file_data, files_data, found_data, hash_data, length_data, listed_data}
+use Rattle.tor_cli.specs.text.Records.{listed_pair, path_data, recheck_members}
+use Rattle.tor_cli.specs.declared.recheck.listing.Listing.{Listing}
+use Rattle.tor_cli.specs.declared.recheck.listing.Listing.TheVariants.{Pieces, Files, BadFiles, BadPaths}
 
 in_names : (names : List (List ℕ)) → has_float (path_data names) ≡ false
 in_names [] = refl

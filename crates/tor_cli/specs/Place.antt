@@ -12,11 +12,11 @@ use Rattle.tor_meta.specs.declared.order.Order.{Order}
 use Rattle.tor_source.specs.Faults.{is_absence}
 use Rattle.tor_tree.specs.Path.{path_cmp}
 use Rattle.tor_source.specs.declared.faults.ScanFault.TheVariants as scans
-use Rattle.tor_cli.specs.Attrs.{IsNotLettered}
+use Rattle.tor_cli.specs.make.Attrs.{IsNotLettered}
 use Rattle.tor_cli.specs.declared.fault.Fault.{Fault}
 use Rattle.tor_cli.specs.declared.fault.Fault.TheVariants.{Scan, Resources as NoResources}
-use Rattle.tor_cli.specs.declared.way.Way.{Way}
-use Rattle.tor_cli.specs.declared.way.Way.TheVariants.{Shared, Streams}
+use Rattle.tor_cli.specs.declared.make.way.Way.{Way}
+use Rattle.tor_cli.specs.declared.make.way.Way.TheVariants.{Shared, Streams}
 
 -- the path of one file is the torrent's name; those below a folder rise, and have at most 64 names
 abbrev pub AreFound : List ℕ → Bool → List (List (List ℕ)) → Type 0

@@ -12,23 +12,23 @@ use Rattle.tor_sums.specs.declared.how.How.{How}
 use Rattle.tor_sums.specs.declared.how.How.TheVariants.{One, Halves, Board}
 use Rattle.tor_sums.specs.declared.how.TheConstants.{MAX_WORKERS}
 use Rattle.tor_cli.specs.CommandLine.{AreHows, AreKinds, tor_app}
-use Rattle.tor_cli.specs.declared.check_words.CheckOptions.{CheckOptions}
+use Rattle.tor_cli.specs.declared.check.words.CheckOptions.{CheckOptions}
 use Rattle.tor_cli.specs.declared.command.Request.{Request}
 use Rattle.tor_cli.specs.declared.command.Request.TheVariants.{Show, Make, Check, Magnet, Prove, Verify, Recheck}
 use Rattle.tor_cli.specs.declared.fault.Fault.{Fault}
 use Rattle.tor_cli.specs.declared.fault.Fault.TheVariants.{Usage, Resources}
-use Rattle.tor_cli.specs.declared.listing.Form.{Form}
-use Rattle.tor_cli.specs.declared.listing.Form.TheVariants.{Json, Text}
-use Rattle.tor_cli.specs.declared.listing.Listing.{Listing}
-use Rattle.tor_cli.specs.declared.listing.Listing.TheVariants.{Pieces, Files, BadFiles, BadPaths}
-use Rattle.tor_cli.specs.declared.options.MakeOptions.{MakeOptions}
-use Rattle.tor_cli.specs.declared.proof_words.ProveOptions.{ProveOptions}
-use Rattle.tor_cli.specs.declared.proof_words.VerifyOptions.{VerifyOptions}
-use Rattle.tor_cli.specs.declared.recheck_words.RecheckOptions.{RecheckOptions}
-use Rattle.tor_cli.specs.declared.telling.Telling.{Telling}
-use Rattle.tor_cli.specs.declared.telling.Telling.TheVariants.{Lines, Paths, Record}
-use Rattle.tor_cli.specs.declared.way.Way.{Way}
-use Rattle.tor_cli.specs.declared.way.Way.TheVariants.{Shared, Streams}
+use Rattle.tor_cli.specs.declared.recheck.listing.Form.{Form}
+use Rattle.tor_cli.specs.declared.recheck.listing.Form.TheVariants.{Json, Text}
+use Rattle.tor_cli.specs.declared.recheck.listing.Listing.{Listing}
+use Rattle.tor_cli.specs.declared.recheck.listing.Listing.TheVariants.{Pieces, Files, BadFiles, BadPaths}
+use Rattle.tor_cli.specs.declared.make.options.MakeOptions.{MakeOptions}
+use Rattle.tor_cli.specs.declared.proof.words.ProveOptions.{ProveOptions}
+use Rattle.tor_cli.specs.declared.proof.words.VerifyOptions.{VerifyOptions}
+use Rattle.tor_cli.specs.declared.recheck.words.RecheckOptions.{RecheckOptions}
+use Rattle.tor_cli.specs.declared.check.telling.Telling.{Telling}
+use Rattle.tor_cli.specs.declared.check.telling.Telling.TheVariants.{Lines, Paths, Record}
+use Rattle.tor_cli.specs.declared.make.way.Way.{Way}
+use Rattle.tor_cli.specs.declared.make.way.Way.TheVariants.{Shared, Streams}
 
 -- the word for a kind
 abbrev pub word_of : Kind → List ℕ

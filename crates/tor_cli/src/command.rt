@@ -8,15 +8,15 @@ ghost use Rattle.tor_cli.specs.CommandLine.{AreHows, AreKinds, piece_apps, tor_a
 ghost use Rattle.tor_cli.specs.Words.{Asks, IsOfWords};
 ghost use Rattle.tor_cli.specs.steps.Found.{IsFoundIn};
 
-use crate::check_words::{CheckOptions, check_command, check_options};
-use crate::escape::escaped;
+use crate::check::words::{CheckOptions, check_command, check_options};
+use crate::text::escape::escaped;
 use crate::fault::Fault;
-use crate::make_words::make_command;
-use crate::options::{MakeOptions, make_options};
-use crate::proof_words::{
+use crate::make::words::make_command;
+use crate::make::options::{MakeOptions, make_options};
+use crate::proof::words::{
     ProveOptions, VerifyOptions, prove_command, prove_options, verify_command, verify_options,
 };
-use crate::recheck_words::{RecheckOptions, recheck_command, recheck_options};
+use crate::recheck::words::{RecheckOptions, recheck_command, recheck_options};
 use crate::torrent_words::{file_command, file_of};
 use crate::workers::workers_fault;
 use clap::error::ErrorKind;

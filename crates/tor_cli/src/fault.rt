@@ -4,7 +4,7 @@ ghost use Rattle.tor_cli.specs.Status.{status_of, status_of_make, status_of_piec
 ghost use Rattle.tor_cli.specs.Status.{status_of_refusal, status_of_scan};
 ghost use Rattle.tor_cli.specs.Words.{IsUsage};
 
-use crate::claim::ArgumentFault;
+use crate::proof::claim::ArgumentFault;
 use std::alloc::{AllocError, Global};
 use std::{fmt, io};
 use tor_check::{ProveError, Refusal};

@@ -1,8 +1,12 @@
-//! The line on a terminal that shows how far the reading of files is.
+//! The line on a terminal that shows how far the reading of files is. `line.rt`: its text; `watch.rt`: the time that has
+//! gone.
 ghost use Rattle.std.specs.Prelude.{◌≡◌};
 
-use crate::progress_line::progress_line;
-use crate::watch::Watch;
+pub mod line;
+mod watch;
+
+use crate::progress::line::progress_line;
+use crate::progress::watch::Watch;
 use std::alloc::Global;
 use std::io::{self, Eprint, Read};
 use std::rt::Stderr;

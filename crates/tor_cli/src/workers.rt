@@ -3,7 +3,7 @@ ghost use Rattle.std.specs.Prelude.{◌≡◌, ◌≤◌, ◌<◌, ◌^◌, ℕ,
 ghost use Rattle.tor_cli.specs.Words.{AreWorkers, IsNumber, IsUsage};
 ghost use Rattle.tor_sums.specs.declared.how.TheConstants.{MAX_WORKERS};
 
-use crate::escape::escaped;
+use crate::text::escape::escaped;
 use crate::fault::Fault;
 use std::alloc::{AllocError, Global};
 use std::thread::{Threads, available_parallelism};

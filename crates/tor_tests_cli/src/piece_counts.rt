@@ -3,7 +3,7 @@ use std::sync::atomic::AtomicU64;
 use std::sync::atomic::Ordering::SeqCst;
 use std::thread::Threads;
 use tor_check::validate;
-use tor_cli::piece_counts::{PieceCounts, count_pieces};
+use tor_cli::recheck::counts::{PieceCounts, count_pieces};
 use tor_engine::How;
 use tor_meta::{Order, make};
 use tor_source::Source;

@@ -2,7 +2,7 @@
 
 use std::alloc::{AllocError, Global};
 use std::test::Fail;
-use tor_cli::progress_line::progress_line;
+use tor_cli::progress::line::progress_line;
 
 // The bytes that were read, all bytes, the milliseconds, and what stands between the line's beginning and its end.
 type Row = (u64, u64, u64, &'static str);

@@ -1,7 +1,7 @@
 -- Why a proof has no answer. Only private clauses cite this.
 use Rattle.std.specs.Prelude.{ℕ, List}
-use Rattle.tor_cli.specs.Proving.{IsNoProof}
-use Rattle.tor_cli.specs.declared.claim.ArgumentFault.TheVariants.{Proof}
+use Rattle.tor_cli.specs.proof.Proving.{IsNoProof}
+use Rattle.tor_cli.specs.declared.proof.claim.ArgumentFault.TheVariants.{Proof}
 use Rattle.tor_cli.specs.declared.fault.Fault.{Fault}
 use Rattle.tor_cli.specs.declared.fault.Fault.TheVariants.{Argument, Resources}
 

@@ -2,10 +2,10 @@
 use Rattle.std.specs.Prelude.{◌≡◌, ℕ, List, [], ◌∷◌, length, map}
 use Rattle.tor_source.specs.Places.{place_of}
 use Rattle.tor_spec.specs.valid.View.{FileView, View}
-use Rattle.tor_cli.specs.Whereabouts.{looked_for}
-use Rattle.tor_cli.specs.declared.whereabouts.Standing.{Standing}
-use Rattle.tor_cli.specs.declared.whereabouts.Whereabouts.{Whereabouts}
-use Rattle.tor_cli.specs.declared.whereabouts.Whereabouts.TheVariants.{Itself, Below, Nowhere}
+use Rattle.tor_cli.specs.recheck.Whereabouts.{looked_for}
+use Rattle.tor_cli.specs.declared.recheck.whereabouts.Standing.{Standing}
+use Rattle.tor_cli.specs.declared.recheck.whereabouts.Whereabouts.{Whereabouts}
+use Rattle.tor_cli.specs.declared.recheck.whereabouts.Whereabouts.TheVariants.{Itself, Below, Nowhere}
 
 -- the one file at the place itself, or each below the place
 abbrev pub ArePlaces : Whereabouts → List ℕ → List FileView → List (List ℕ) → Type 0

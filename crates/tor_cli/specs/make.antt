@@ -1,0 +1,4 @@
+pub mod Attrs
+pub mod AttrsText
+pub mod CheckAfter
+pub mod Request

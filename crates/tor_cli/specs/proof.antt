@@ -1,0 +1,2 @@
+pub mod ProofText
+pub mod Proving

@@ -1,0 +1,3 @@
+pub mod FoundFiles
+pub mod Recheck
+pub mod Whereabouts

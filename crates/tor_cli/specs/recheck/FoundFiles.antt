@@ -1,0 +1,61 @@
+-- What is printed of the files of a torrent after a recheck.
+use Rattle.std.specs.Prelude.{ℕ, Bool, true, false, List, [], ◌++◌, flat_map, decimal, codes, Option, None, Some}
+use Rattle.std.specs.Prelude.{if◌then◌else◌}
+use Rattle.std.specs.List.{zip}
+use Rattle.tor_recheck.specs.declared.files.FileFound.{FileFound}
+use Rattle.tor_recheck.specs.declared.files.FileState.{FileState}
+use Rattle.tor_recheck.specs.declared.files.FileState.TheVariants.{Missing, Short, Bad, Whole}
+use Rattle.tor_spec.specs.valid.View.{FileView}
+use Rattle.tor_tree.specs.declared.tree_file.TreeFile.{TreeFile}
+use Rattle.tor_cli.specs.text.Escape.{escaped}
+use Rattle.tor_cli.specs.check.Shown.{ended_path, path_text}
+use Rattle.tor_cli.specs.declared.recheck.listing.Listing.{Listing}
+use Rattle.tor_cli.specs.declared.recheck.listing.Listing.TheVariants.{Pieces, Files, BadFiles, BadPaths}
+
+-- the word for a state
+abbrev pub state_word : FileState → List ℕ
+state_word Missing = codes "missing"
+state_word Short = codes "short"
+state_word Bad = codes "bad"
+state_word Whole = codes "whole"
+
+-- a length in bytes; a hyphen where there is none
+abbrev pub length_text : Option ℕ → List ℕ
+length_text None = codes "-"
+length_text (Some length) = decimal length
+
+-- the line of a file: its state, how many of its pieces hold, of how many, its length there and as the torrent says,
+-- and its path
+abbrev pub found_line : FileFound → TreeFile → List ℕ
+found_line found file =
+    state_word found.state ++ (codes " " ++ (decimal found.good ++ (codes " " ++ (decimal found.pieces
+    ++ (codes " " ++ (length_text found.there ++ (codes " " ++ (decimal found.told
+    ++ (codes " " ++ (escaped (path_text file.path) ++ codes "\n"))))))))))
+
+abbrev pub is_whole : FileState → Bool
+is_whole Whole = true
+is_whole other = false
+
+-- what is printed of a file
+abbrev pub told_of : Listing → FileFound → TreeFile → List ℕ
+told_of Pieces found file = []
+told_of Files found file = found_line found file
+told_of BadFiles found file = if is_whole found.state then [] else found_line found file
+told_of BadPaths found file = if is_whole found.state then [] else ended_path file
+
+-- the same of what was found and the file that it was found of
+abbrev pub told_of_pair : Listing → FileFound × FileView → List ℕ
+told_of_pair listing pair = told_of listing pair.0 pair.1.file
+
+-- what is printed of each file, in the torrent's order
+abbrev pub told_of_files : Listing → List FileFound → List FileView → List ℕ
+told_of_files listing found files = flat_map (told_of_pair listing) (zip found files)
+
+-- whether something is to be told of files
+abbrev pub lists_files : Listing → Bool
+lists_files Pieces = false
+lists_files other = true
+
+-- those files of which something is to be told
+abbrev pub listed : Listing → List FileFound → List FileFound
+listed listing found = if lists_files listing then found else []

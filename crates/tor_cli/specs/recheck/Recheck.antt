@@ -1,0 +1,132 @@
+-- What the program prints of the pieces and the files of a torrent: which are there and right. No contract says which
+-- bytes a file of the system has, so a clause speaks of some bytes, those that the program took for FILE's, of some
+-- bits, those that were answered of the torrent's pieces, one for each, and of what was answered of each file.
+use Rattle.std.specs.Prelude.{◌≡◌, ◌≢◌, ◌==◌, ℕ, Bool, List, [], ◌++◌, length, decimal, codes, if◌then◌else◌}
+use Rattle.std.specs.Io.KnownBytes.{Appends}
+use Rattle.std.specs.declared.io.Error.{Error}
+use Rattle.hex.specs.Hex.{encode_lower}
+use Rattle.tor_check.specs.Valid.{IsTold}
+use Rattle.tor_sums.specs.How.{IsHow}
+use Rattle.tor_sums.specs.declared.how.How.TheVariants.{Board}
+use Rattle.tor_recheck.specs.Bitfield.{bitfield, set_count}
+use Rattle.tor_recheck.specs.Recheck.{IsGiven}
+use Rattle.tor_recheck.specs.declared.files.FileFound.{FileFound}
+use Rattle.tor_recheck.specs.declared.errors.RecheckError.{RecheckError}
+use Rattle.tor_recheck.specs.declared.errors.RecheckError.TheVariants as rechecks
+use Rattle.tor_source.specs.declared.faults.ScanFault.{ScanFault}
+use Rattle.tor_source.specs.declared.faults.ScanFault.TheVariants as scans
+use Rattle.tor_spec.specs.valid.View.{View}
+use Rattle.tor_cli.specs.Foreign.{IsNoTorrent, OfSome}
+use Rattle.tor_cli.specs.recheck.FoundFiles.{lists_files, told_of_files}
+use Rattle.tor_meta.specs.FromInput.{IsFront}
+use Rattle.tor_cli.specs.Place.{IsFileEnd, IsFileFault, IsFileSize}
+use Rattle.tor_cli.specs.proof.Proving.{answer_of}
+use Rattle.tor_cli.specs.text.Records.{recheck_line}
+use Rattle.tor_cli.specs.Streams.{IsUntouched, Streams}
+use Rattle.tor_cli.specs.recheck.Whereabouts.{looked_for}
+use Rattle.tor_cli.specs.declared.answer.Answer.{Answer}
+use Rattle.tor_cli.specs.declared.fault.Fault.{Fault}
+use Rattle.tor_cli.specs.declared.recheck.listing.Form.{Form}
+use Rattle.tor_cli.specs.declared.recheck.listing.Form.TheVariants.{Json, Text}
+use Rattle.tor_cli.specs.declared.recheck.listing.Listing.{Listing}
+use Rattle.tor_cli.specs.declared.recheck.listing.Listing.TheVariants.{BadPaths}
+use Rattle.tor_cli.specs.declared.recheck.words.RecheckOptions.{RecheckOptions}
+use Rattle.tor_cli.specs.declared.recheck.whereabouts.Standing.{Standing}
+use Rattle.tor_cli.specs.declared.recheck.whereabouts.Whereabouts.TheVariants.{Nowhere}
+use Rattle.tor_cli.specs.declared.fault.Fault.TheVariants.{Scan, Refused, Recheck, Read, TooLong, Write, Resources}
+
+-- how many pieces are there and right, of how many, and a line with the digits of the bitfield
+abbrev pub recheck_text : List Bool → List ℕ
+recheck_text bits =
+    codes "pieces " ++ (decimal (set_count bits)
+    ++ (codes " of " ++ (decimal (length bits)
+    ++ (codes "\nbits " ++ (encode_lower (bitfield bits) ++ codes "\n")))))
+
+-- yes where each piece is there and right
+abbrev pub recheck_answer : List Bool → Answer
+recheck_answer bits = answer_of (set_count bits == length bits)
+
+-- the same; nothing where paths alone are asked for
+abbrev pub pieces_text : Listing → List Bool → List ℕ
+pieces_text BadPaths bits = []
+pieces_text other bits = recheck_text bits
+
+-- what is told of the pieces, and then of the files; or the record of both
+abbrev pub report_text : Form → Listing → View → List Bool → List FileFound → List ℕ
+report_text Text listing view bits found = pieces_text listing bits ++ told_of_files listing found view.files
+report_text Json listing view bits found = recheck_line listing view bits found
+
+-- this is printed of these bits and these files
+pub record IsReport (options : RecheckOptions) (view : View) (bits : List Bool) (found : List FileFound)
+    (text : List ℕ) (answer : Answer) : Type 0 where
+  pub printed : text ≡ report_text options.form options.listing view bits found
+  pub answered : answer ≡ recheck_answer bits
+
+-- of each file is told, where any is listed
+abbrev pub IsOfEach : Listing → View → List FileFound → Type 0
+IsOfEach listing view found = length found ≡ (if lists_files listing then length view.files else 0)
+
+-- why they are looked for nowhere, by what is told of the place; or memory was refused
+abbrev pub IsNoPlace : View → ScanFault → Type 0
+IsNoPlace view scans.System =
+    (standing : Standing) × (looked_for standing (length view.files) ≡ Nowhere scans.System)
+IsNoPlace view scans.Memory = Unit {0}
+IsNoPlace view other = ⊥
+
+-- this is printed of some bits, one for each piece, and of something told of each file, where any is listed
+pub record IsReportOn (options : RecheckOptions) (view : View) (text : List ℕ) (answer : Answer) : Type 0 where
+  pub bits : List Bool
+  pub each : length bits ≡ view.piece_count
+  pub found : List FileFound
+  pub every : IsOfEach options.listing view found
+  pub report : IsReport options view bits found text answer
+
+-- the bytes are a torrent, and this is printed of it
+pub record IsRechecked (options : RecheckOptions) (bytes text : List ℕ) (answer : Answer) : Type 0 where
+  pub view : View
+  pub torrent : IsTold bytes view
+  pub allowed : IsHow (Board options.workers)
+  pub report : IsReportOn options view text answer
+
+-- a fault of a file that the torrent has; or, exactly where there is no worker or too many, that
+abbrev pub IsRecheckFault : ℕ → View → RecheckError Error → Type 0
+IsRecheckFault workers view error =
+    IsGiven (IsFileFault (length view.files)) (IsFileSize (length view.files)) IsFileEnd (length view.files) error
+    × (IsHow (Board workers) → error ≢ rechecks.Workers) × ((IsHow (Board workers) → ⊥) → error ≡ rechecks.Workers)
+    × (error ≢ rechecks.Resources)
+
+-- why the bytes are no torrent whose files are looked for
+abbrev pub IsNotPlaced : List ℕ → Fault → Type 0
+IsNotPlaced bytes (Refused refusal) = IsNoTorrent bytes (Refused refusal)
+IsNotPlaced bytes (Scan fault) = (view : View) × IsTold bytes view × IsNoPlace view fault × (fault ≢ scans.Memory)
+IsNotPlaced bytes Resources = Unit {0}
+IsNotPlaced bytes other = ⊥
+
+-- why it is not told which of its pieces are there and right, by so many workers
+abbrev pub IsNotRechecked : ℕ → List ℕ → Fault → Type 0
+IsNotRechecked workers bytes (Recheck error) = (view : View) × IsTold bytes view × IsRecheckFault workers view error
+IsNotRechecked workers bytes other = IsNotPlaced bytes other
+
+-- a torrent was rechecked, with this answer; of the text this holds
+abbrev pub RechecksSome : RecheckOptions → Answer → (List ℕ → Type 0) → Type 0
+RechecksSome options answer Holds =
+    OfSome (λ bytes. (text : List ℕ) × IsRechecked options bytes text answer × Holds text)
+
+-- the text, and nothing else, was written
+abbrev pub DoesRecheck : RecheckOptions → Answer → Streams → Type 0
+DoesRecheck options answer s = (s.reader' ≡ s.reader) × RechecksSome options answer (Appends s.writer s.writer')
+
+-- where this fault stopped it
+abbrev pub StopsRechecking : RecheckOptions → Streams → Fault → Type 0
+StopsRechecking options s (Refused refusal) =
+    OfSome (λ bytes. IsNotRechecked options.workers bytes (Refused refusal)) × IsUntouched s
+StopsRechecking options s (Scan fault) =
+    OfSome (λ bytes. IsNotRechecked options.workers bytes (Scan fault)) × IsUntouched s
+StopsRechecking options s (Recheck error) =
+    OfSome (λ bytes. IsNotRechecked options.workers bytes (Recheck error)) × IsUntouched s
+StopsRechecking options s Read = IsUntouched s
+StopsRechecking options s TooLong = IsUntouched s
+StopsRechecking options s (Write written) = (s.reader' ≡ s.reader)
+    × ((answer : Answer) × RechecksSome options answer (IsFront s.writer s.writer' written))
+StopsRechecking options s Resources = IsUntouched s
+StopsRechecking options s other = ⊥

@@ -1,0 +1,17 @@
+//! The command `make`.
+//!
+//! - `command.rt`: the command; `words.rt`: its words; `options.rt`: what they ask for; `way.rt`: who hashes.
+//! - `from_place.rt`: the torrent of a file or a folder. `attrs_file.rt`: the letters of its files; `attrs_text.rt`: the
+//!   text that has them, read.
+//! - `check_after.rt`: whether its files have each piece of it afterwards. `out_file.rt`: the file that a torrent goes
+//!   to.
+
+mod attrs_file;
+pub mod attrs_text;
+mod check_after;
+pub(crate) mod command;
+mod from_place;
+pub(crate) mod options;
+mod out_file;
+mod way;
+pub(crate) mod words;

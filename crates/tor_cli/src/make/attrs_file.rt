@@ -1,0 +1,121 @@
+//! The letters of files, from a file of the system (BEP 47, "attr").
+ghost use Rattle.std.specs.Prelude.{◌≡◌, ℕ, List, IfErr, IfOk, MatchOption, map, option_map};
+ghost use Rattle.std.specs.List.{zip};
+ghost use Rattle.std.specs.List.Sorted.{IsStrictlySortedBy};
+ghost use Rattle.tor_meta.specs.Contents.{without_letters};
+ghost use Rattle.tor_tree.specs.FileList.{paths_of};
+ghost use Rattle.tor_tree.specs.Letters.{no_letters};
+ghost use Rattle.tor_tree.specs.Path.{path_cmp};
+ghost use Rattle.tor_cli.specs.make.Attrs.{AreAmong, AreLetteredBy, HaveLetters, IsNotLettered, letters_in, lettered};
+ghost use Rattle.tor_cli.specs.steps.Lettering.{IsNotLetteredBy};
+
+use crate::make::attrs_text::read_attrs;
+use crate::proof::claim::ArgumentFault;
+use crate::fault::Fault;
+use crate::foreign::read_file;
+use std::alloc::{AllocError, Global};
+use tor_tree::{Attr, FilePath};
+
+/// The files of these paths, which rise, with the letters that a file of the system has for them; none of them where no
+/// file is named.
+pub fn lettered_files(
+    system: &HostRuntime,
+    place: Option<&str>,
+    paths: Vec<FilePath>,
+) -> Result<Vec<(FilePath, Attr)>, Fault>
+    requires { IsStrictlySortedBy path_cmp paths.items }
+    ensures paths { IfOk result (λ files. paths_of files.items ≡ paths.items) }
+    ensures letters { IfOk result
+        (λ files. HaveLetters (option_map (λ place. place.now) place.entry) files.items) }
+    ensures stopped { IfErr result (IsNotLettered (option_map (λ place. place.now) place.entry) paths.items) }
+{
+    let alloc = system.alloc();
+    let Some(place) = place else {
+        let attrs = none_each(alloc, &paths)?;
+        return Ok(paired(alloc, paths, attrs)?);
+    };
+    let bytes = read_file(alloc, system, place)?;
+    lettered_by(alloc, &bytes, paths)
+}
+
+/// The same by the bytes of the file.
+fn lettered_by(
+    alloc: Global,
+    bytes: &[u8],
+    paths: Vec<FilePath>,
+) -> Result<Vec<(FilePath, Attr)>, Fault>
+    requires { IsStrictlySortedBy path_cmp paths.items }
+    ensures paths { IfOk result (λ files. paths_of files.items ≡ paths.items) }
+    ensures letters { IfOk result (λ files. AreLetteredBy bytes.now files.items) }
+    ensures stopped { IfErr result (IsNotLetteredBy bytes.now paths.items) }
+{
+    let Some(named) = read_attrs(alloc, bytes)? else {
+        return Err(Fault::Argument(ArgumentFault::Attrs));
+    };
+    match lettered(alloc, paths, &named)? {
+        Some(files) => Ok(files),
+        None => Err(Fault::Argument(ArgumentFault::Attrs)),
+    }
+}
+
+/// Each path with the letters that it has in a list. None where a path of the list is not among these.
+fn lettered(
+    alloc: Global,
+    paths: Vec<FilePath>,
+    named: &[(FilePath, Attr)],
+) -> Result<Option<Vec<(FilePath, Attr)>>, AllocError>
+    requires { IsStrictlySortedBy path_cmp paths.items }
+    ensures { IfOk result (λ found. MatchOption found (AreAmong paths.items named.now → ⊥)
+        (λ files. (files.items ≡ lettered named.now paths.items) × AreAmong paths.items named.now)) }
+{
+    let Some(attrs) = attrs_of(alloc, &paths, named)? else {
+        return Ok(None);
+    };
+    let files = paired(alloc, paths, attrs)?;
+    Ok(Some(files))
+}
+
+/// The letters that each of these paths has in a list. None where a path of the list is not among them.
+fn attrs_of(
+    alloc: Global,
+    paths: &[FilePath],
+    named: &[(FilePath, Attr)],
+) -> Result<Option<Vec<Attr>>, AllocError>
+    requires { IsStrictlySortedBy path_cmp paths.now }
+    ensures { IfOk result (λ found. MatchOption found (AreAmong paths.now named.now → ⊥)
+        (λ attrs. (attrs.items ≡ map (letters_in named.now) paths.now) × AreAmong paths.now named.now)) }
+{
+    let mut attrs = none_each(alloc, paths)?;
+    let mut left = named.len();
+    'named: while left > 0 {
+        left -= 1;
+        let (path, attr) = &named[left];
+        let Ok(place) = paths.binary_search(path) else {
+            return Ok(None);
+        };
+        attrs[place] = *attr;
+    }
+    Ok(Some(attrs))
+}
+
+/// No letters for each path.
+fn none_each(alloc: Global, paths: &[FilePath]) -> Result<Vec<Attr>, AllocError>
+    ensures { IfOk result (λ attrs. attrs.items ≡ map (λ path. no_letters) paths.now) }
+{
+    let mut attrs = Vec::with_capacity(alloc, paths.len())?;
+    for _path in paths {
+        attrs.push(Attr::NONE)?;
+    }
+    Ok(attrs)
+}
+
+/// Each path with the letters beside it.
+fn paired(
+    alloc: Global,
+    paths: Vec<FilePath>,
+    attrs: Vec<Attr>,
+) -> Result<Vec<(FilePath, Attr)>, AllocError>
+    ensures { IfOk result (λ files. files.items ≡ zip paths.items attrs.items) }
+{
+    paths.into_iter().zip(attrs).collect(alloc)
+}

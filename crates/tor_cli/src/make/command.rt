@@ -1,0 +1,227 @@
+//! `tor make`: its doing.
+ghost use Rattle.std.specs.Prelude.{◌≡◌, ◌⊎◌, ◌<◌, ◌∷◌, [], ℕ, List, Option, IfErr, IfOk, OnOk, None, Some, length};
+ghost use Rattle.std.specs.Prelude.{true};
+ghost use Rattle.std.specs.Prelude.{option_map};
+ghost use Rattle.tor_meta.specs.FromInput.{MakesOf, StopsReading};
+ghost use Rattle.tor_tree.specs.Name.{name_fault};
+ghost use Rattle.tor_tree.specs.declared.names.NameError.TheVariants.{Memory};
+ghost use Rattle.tor_cli.specs.make.Attrs.{HaveLetters, IsNotLettered};
+ghost use Rattle.tor_cli.specs.Place.{refusal_by};
+ghost use Rattle.tor_cli.specs.make.Request.{DoesInput, DoesMake, DoesPlace, IsOrder, IsOrderOfOne, IsTorrentAt};
+ghost use Rattle.tor_cli.specs.make.Request.{IsTorrentToSend, attrs_of};
+ghost use Rattle.tor_cli.specs.make.Request.{StopsFinding, StopsInput, StopsMake, StopsPlace, StopsSending};
+ghost use Rattle.tor_cli.specs.Streams.{streams};
+ghost use Rattle.tor_cli.specs.steps.Lettering.{IsNotOrdered};
+ghost use Rattle.tor_cli.specs.steps.Writing.{writing};
+
+use crate::make::attrs_file::lettered_files;
+use crate::make::check_after::check_after;
+use crate::fault::Fault;
+use crate::make::from_place::{files_at, torrent_of};
+use crate::make::options::MakeOptions;
+use crate::make::out_file::{send, spare_sources};
+use crate::progress::Progress;
+use crate::make::way::{Way, how_of, workers_after};
+use std::alloc::{AllocError, Global};
+use std::io::{Read, Write};
+use std::sync::Wait;
+use std::thread::Threads;
+use tor_meta::{FromFault, Order, torrent_by_streams, torrent_from};
+use tor_source::drop_input;
+use tor_tree::{Attr, FilePath, Name, NameError};
+
+/// Makes the torrent of one file, whose content the reader has, or of the files at a place of the system. The first of
+/// these faults is answered: of the reader, the name, the place, the letters, the file that it is to go to if that is
+/// one of those at the place, the other options, the files, the check of `--check-after`, the writer. That check is of
+/// the place too: its faults come in the order of a recheck of what was made, and that not all pieces are there comes
+/// last.
+pub fn make<T: Threads + Wait + Sync + Send + Clone + Drop + 'static, R: Read, W: Write>(
+    rt: &T,
+    system: &HostRuntime,
+    options: &MakeOptions<'_>,
+    reader: &mut R,
+    out: &mut W,
+    shows_progress: bool,
+) -> Result<(), Fault>
+    ensures made { OnOk result (DoesMake options.now (streams (R.remaining reader.old) (R.remaining reader.new)
+        (W.contents out.old) (W.contents out.new))) }
+    ensures stopped { IfErr result (StopsMake options.now (streams (R.remaining reader.old) (R.remaining reader.new)
+        (W.contents out.old) (W.contents out.new))) }
+{
+    match options.place {
+        Some(place) => make_of_place(rt, system, options, place, out, shows_progress),
+        None => make_of_input(rt, system, options, reader, out),
+    }
+}
+
+/// Makes the torrent of what the reader has.
+fn make_of_input<T: Threads + Wait + Sync + Send + Clone + Drop + 'static, R: Read, W: Write>(
+    rt: &T,
+    system: &HostRuntime,
+    options: &MakeOptions<'_>,
+    reader: &mut R,
+    out: &mut W,
+) -> Result<(), Fault>
+    ensures made { OnOk result (DoesInput options.now (streams (R.remaining reader.old) (R.remaining reader.new)
+        (W.contents out.old) (W.contents out.new))) }
+    ensures stopped { IfErr result (StopsInput options.now (streams (R.remaining reader.old) (R.remaining reader.new)
+        (W.contents out.old) (W.contents out.new))) }
+{
+    let alloc = system.alloc();
+    let (order, attr) = match order_of_one(system, options) {
+        Ok(both) => both,
+        Err(fault) => {
+            drop_input(alloc, reader)?;
+            return Err(fault);
+        }
+    };
+    let torrent = torrent_of_input(rt, alloc, options.way, reader, &order, attr)?;
+    Ok(send(system, out, options.out, &torrent)?)
+}
+
+/// The torrent of what the reader has.
+fn torrent_of_input<T: Threads + Wait + Sync + Send + Clone + Drop + 'static, R: Read>(
+    rt: &T,
+    alloc: Global,
+    way: Way,
+    reader: &mut R,
+    order: &Order,
+    attr: Attr,
+) -> Result<Vec<u8>, FromFault>
+    ensures made { IfOk result (λ torrent. (content : List ℕ)
+        × MakesOf (refusal_by way order.now ((order.now.name ∷ []) ∷ [])) order.now attr
+        (R.remaining reader.old) (R.remaining reader.new) (λ bytes. torrent.items ≡ bytes) content) }
+    ensures stopped { IfErr result (StopsReading (refusal_by way order.now ((order.now.name ∷ []) ∷ []))
+        (R.remaining reader.old) (R.remaining reader.new)) }
+{
+    match way {
+        Way::Shared(_) => torrent_from(alloc, reader, order, attr),
+        Way::Streams(_) => torrent_by_streams(rt, alloc, reader, order, attr),
+    }
+}
+
+/// Makes the torrent of the file or the folder at a place of the system. Nothing is written before it may go out.
+fn make_of_place<T: Threads + Wait + Sync, W: Write>(
+    rt: &T,
+    system: &HostRuntime,
+    options: &MakeOptions<'_>,
+    place: &str,
+    out: &mut W,
+    shows_progress: bool,
+) -> Result<(), Fault>
+    ensures made { (reader : Option (List ℕ)) → OnOk result (DoesPlace options.now (writing reader
+        (W.contents out.old) (W.contents out.new))) }
+    ensures stopped { (reader : Option (List ℕ)) → IfErr result (StopsPlace options.now (writing reader
+        (W.contents out.old) (W.contents out.new))) }
+{
+    let torrent = torrent_to_send(rt, system, options, place, shows_progress)?;
+    Ok(send(system, out, options.out, &torrent)?)
+}
+
+/// The torrent of the file or the folder at a place of the system, where it may go out: with `--check-after` only where
+/// the place has each piece of it afterwards.
+fn torrent_to_send<T: Threads + Wait + Sync>(
+    rt: &T,
+    system: &HostRuntime,
+    options: &MakeOptions<'_>,
+    place: &str,
+    shows_progress: bool,
+) -> Result<Vec<u8>, Fault>
+    ensures made { IfOk result (λ torrent. IsTorrentToSend options.now torrent.items) }
+    ensures some { IfOk result (λ torrent. 0 < length torrent.items) }
+    ensures stopped { IfErr result (StopsSending options.now) }
+{
+    let torrent = torrent_at(rt, system, options, place, shows_progress)?;
+    if !options.check_after {
+        return Ok(torrent);
+    }
+    let workers = workers_after(options.way);
+    check_after(rt, system, place, &torrent, workers, shows_progress)?;
+    Ok(torrent)
+}
+
+/// The torrent of the file or the folder at a place of the system.
+fn torrent_at<T: Threads + Wait + Sync>(
+    rt: &T,
+    system: &HostRuntime,
+    options: &MakeOptions<'_>,
+    place: &str,
+    shows_progress: bool,
+) -> Result<Vec<u8>, Fault>
+    ensures made { IfOk result (λ torrent. IsTorrentAt options.now torrent.items) }
+    ensures some { IfOk result (λ torrent. 0 < length torrent.items) }
+    ensures stopped { IfErr result (StopsFinding options.now) }
+{
+    let alloc = system.alloc();
+    let name = name_of(alloc, options)?;
+    let found = files_at(system, place, options.attrs, &name)?;
+    spare_sources(system, options.out, &found.source)?;
+    let order = order_of(alloc, options, name, found.single)?;
+    let progress = Progress::shown(system, found.files.len(), shows_progress);
+    Ok(torrent_of(rt, alloc, options.way, &found, &order, &progress)?)
+}
+
+/// The order that the options ask for, of one file, and its letters.
+fn order_of_one(system: &HostRuntime, options: &MakeOptions<'_>) -> Result<(Order, Attr), Fault>
+    ensures made { IfOk result (λ both. IsOrderOfOne options.now both.0 both.1) }
+    ensures stopped { IfErr result (IsNotOrdered options.now) }
+{
+    let alloc = system.alloc();
+    let name = name_of(alloc, options)?;
+    let attr = attr_of_one(system, options, &name)?;
+    Ok((order_of(alloc, options, name, true)?, attr))
+}
+
+/// The letters of the one file that has the torrent's name.
+fn attr_of_one(system: &HostRuntime, options: &MakeOptions<'_>, name: &Name) -> Result<Attr, Fault>
+    ensures letters { IfOk result (λ attr. HaveLetters (attrs_of options.now) ((name.now ∷ [], attr) ∷ [])) }
+    ensures stopped { IfErr result (IsNotLettered (attrs_of options.now) ((name.now ∷ []) ∷ [])) }
+{
+    let alloc = system.alloc();
+    let path = FilePath::of_name(alloc, name)?;
+    let files = lettered_files(system, options.attrs, vec![in alloc; path]?)?;
+    Ok(files[0].1)
+}
+
+fn name_of(alloc: Global, options: &MakeOptions<'_>) -> Result<Name, NameError>
+    ensures name { IfOk result (λ name. name ≡ options.now.name.now) }
+    ensures accepted { OnOk result (name_fault options.now.name.now ≡ None) }
+    ensures refused { IfErr result (λ fault. (name_fault options.now.name.now ≡ Some fault) ⊎ (fault ≡ Memory)) }
+{
+    Name::new(alloc, options.name.as_bytes())
+}
+
+/// The order that the options ask for, under the name that is their word for it.
+fn order_of(
+    alloc: Global,
+    options: &MakeOptions<'_>,
+    name: Name,
+    single: bool,
+) -> Result<Order, AllocError>
+    requires { name ≡ options.now.name.now }
+    ensures order { IfOk result (IsOrder options.now single) }
+    ensures single { IfOk result (λ order. order.single ≡ single) }
+{
+    let announce = announce_of(alloc, options.announce)?;
+    Ok(Order {
+        kind: options.kind,
+        single,
+        name,
+        piece_length: options.piece_length,
+        announce,
+        is_private: options.is_private,
+        tail: options.tail,
+        span: options.span,
+        how: how_of(options.way),
+    })
+}
+
+fn announce_of(alloc: Global, announce: Option<&str>) -> Result<Option<Vec<u8>>, AllocError>
+    ensures { IfOk result
+        (λ made. option_map (λ bytes. bytes.items) made ≡ option_map (λ url. url.now) announce.entry) }
+{
+    match announce {
+        Some(url) => Ok(Some(Vec::from_slice(alloc, url.as_bytes())?)),
+        None => Ok(None),
+    }
+}

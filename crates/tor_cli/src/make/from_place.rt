@@ -1,0 +1,193 @@
+//! From a file or a folder of the system to the torrent of it.
+ghost use Rattle.std.specs.Prelude.{◌≡◌, IfErr, IfOk, None, OnOk, length, map, option_map, true, vec_len};
+ghost use Rattle.std.specs.declared.io.Error.{Error};
+ghost use Rattle.tor_meta.specs.Contents.{IsMadeOfSome};
+ghost use Rattle.tor_meta.specs.Make.{IsGivenTo, IsOwn, make_refusal};
+ghost use Rattle.tor_meta.specs.MakeStreams.{stream_refusal};
+ghost use Rattle.tor_meta.specs.Order.{settings_of_order};
+ghost use Rattle.tor_cli.specs.make.Attrs.{HaveLetters};
+ghost use Rattle.tor_cli.specs.Place.{AreFound, IsFileEnd, IsFileFault, IsFileSize, IsGivenBy, IsStreamFault};
+ghost use Rattle.tor_cli.specs.Place.{IsNotFound, refusal_by};
+ghost use Rattle.tor_tree.specs.FileList.{paths_of};
+ghost use Rattle.tor_cli.specs.make.Request.{IsRefusedFirst};
+
+use crate::make::attrs_file::lettered_files;
+use crate::fault::Fault;
+use crate::progress::{CountedReader, Counting, Progress, erase};
+use crate::make::way::Way;
+use std::alloc::{AllocError, Global};
+use std::io;
+use std::rt::Files;
+use std::sync::Wait;
+use std::thread::Threads;
+use tor_meta::{MakeError, Order, make_streams_with, make_with};
+use tor_source::{FolderSource, LazyFile, ScanFault};
+use tor_tree::{Attr, FilePath, Name};
+
+/// The files at a place: file i of the source has the i-th path, and its letters.
+#[derive(Drop)]
+pub struct Found {
+    pub source: FolderSource<HostRuntime>,
+    pub files: Vec<(FilePath, Attr)>,
+    /// It is one file, and not a folder's.
+    pub single: bool,
+}
+
+/// The same before their letters are known.
+#[derive(Drop)]
+struct Placed {
+    source: FolderSource<HostRuntime>,
+    paths: Vec<FilePath>,
+    single: bool,
+}
+
+/// The file at a place, which gets the torrent's name, or the files below the folder there. A link at the place itself
+/// is followed. The letters are those that the file `attrs` has, where one is named.
+pub fn files_at(
+    system: &HostRuntime,
+    place: &str,
+    attrs: Option<&str>,
+    name: &Name,
+) -> Result<Found, Fault>
+    ensures paths { IfOk result (λ found. AreFound name.now found.single (paths_of found.files.items)) }
+    ensures letters { IfOk result
+        (λ found. HaveLetters (option_map (λ place. place.now) attrs.entry) found.files.items) }
+    ensures each { IfOk result (λ found. length found.source ≡ length found.files.items) }
+    ensures stopped { IfErr result (IsNotFound name.now (option_map (λ place. place.now) attrs.entry)) }
+{
+    let placed = paths_at(system, place, name)?;
+    let Placed {
+        source,
+        paths,
+        single,
+    } = placed;
+    let files = lettered_files(system, attrs, paths)?;
+    Ok(Found {
+        source,
+        files,
+        single,
+    })
+}
+
+fn paths_at(system: &HostRuntime, place: &str, name: &Name) -> Result<Placed, ScanFault>
+    ensures paths { IfOk result (λ placed. AreFound name.now placed.single placed.paths.items) }
+    ensures each { IfOk result (λ placed. length placed.source ≡ length placed.paths.items) }
+{
+    match system.metadata(place) {
+        Ok(metadata) if metadata.is_file() => Ok(one_file(system, place, name)?),
+        _ => {
+            let (source, paths) = FolderSource::scan(system, system.alloc(), place)?;
+            Ok(Placed {
+                source,
+                paths,
+                single: false,
+            })
+        }
+    }
+}
+
+fn one_file(system: &HostRuntime, place: &str, name: &Name) -> Result<Placed, AllocError>
+    ensures single { IfOk result (λ placed. placed.single ≡ true) }
+    ensures paths { IfOk result (λ placed. AreFound name.now placed.single placed.paths.items) }
+    ensures each { IfOk result (λ placed. length placed.source ≡ length placed.paths.items) }
+{
+    let alloc = system.alloc();
+    let path = FilePath::of_name(alloc, name)?;
+    Ok(Placed {
+        source: FolderSource::single(system, alloc, place)?,
+        paths: vec![in alloc; path]?,
+        single: true,
+    })
+}
+
+/// The torrent of the files that were found. The progress that is shown meanwhile is erased at the end.
+pub fn torrent_of<T: Threads + Wait + Sync>(
+    rt: &T,
+    alloc: Global,
+    way: Way,
+    found: &Found,
+    order: &Order,
+    progress: &Option<Progress>,
+) -> Result<Vec<u8>, MakeError<io::Error>>
+    requires { length found.now.source ≡ length found.now.files.items }
+    ensures whole { IfOk result
+        (λ bytes. IsMadeOfSome (settings_of_order order.now) found.now.files.items bytes.items) }
+    ensures accepted { OnOk result (refusal_by way order.now (paths_of found.now.files.items) ≡ None) }
+    ensures refused { IfErr result (IsRefusedFirst (refusal_by way order.now (paths_of found.now.files.items))) }
+    ensures only { IfErr result (IsOwn (refusal_by way order.now (paths_of found.now.files.items))) }
+    ensures gave { IfErr result (IsGivenBy way (length found.now.files.items)) }
+{
+    match way {
+        Way::Shared(_) => by_sharing(rt, alloc, found, order, progress),
+        Way::Streams(_) => by_streams(rt, alloc, found, order, progress),
+    }
+}
+
+/// The same by workers that read the files.
+fn by_sharing<T: Threads + Sync>(
+    rt: &T,
+    alloc: Global,
+    found: &Found,
+    order: &Order,
+    progress: &Option<Progress>,
+) -> Result<Vec<u8>, MakeError<io::Error>>
+    requires { length found.now.source ≡ length found.now.files.items }
+    ensures whole { IfOk result
+        (λ bytes. IsMadeOfSome (settings_of_order order.now) found.now.files.items bytes.items) }
+    ensures accepted { OnOk result (make_refusal {F = Error} order.now (paths_of found.now.files.items) ≡ None) }
+    ensures refused { IfErr result (IsRefusedFirst (make_refusal order.now (paths_of found.now.files.items))) }
+    ensures only { IfErr result (IsOwn (make_refusal order.now (paths_of found.now.files.items))) }
+    ensures gave { let count = length found.now.files.items in
+        IfErr result (IsGivenTo (IsFileFault count) (IsFileSize count) IsFileEnd count) }
+{
+    let counting = Counting {
+        source: &found.source,
+        files: &[],
+        progress,
+    };
+    let answer = make_with(rt, alloc, &counting, &found.files, order);
+    erase(progress);
+    answer
+}
+
+/// The same by workers behind the calling thread, which reads file after file.
+fn by_streams<T: Threads + Wait + Sync>(
+    rt: &T,
+    alloc: Global,
+    found: &Found,
+    order: &Order,
+    progress: &Option<Progress>,
+) -> Result<Vec<u8>, MakeError<io::Error>>
+    requires { length found.now.source ≡ length found.now.files.items }
+    ensures whole { IfOk result
+        (λ bytes. IsMadeOfSome (settings_of_order order.now) found.now.files.items bytes.items) }
+    ensures accepted { OnOk result (stream_refusal {F = Error} order.now (paths_of found.now.files.items) ≡ None) }
+    ensures refused { IfErr result (IsRefusedFirst (stream_refusal order.now (paths_of found.now.files.items))) }
+    ensures only { IfErr result (IsOwn (stream_refusal order.now (paths_of found.now.files.items))) }
+    ensures gave { IfErr result (IsStreamFault (length found.now.files.items)) }
+{
+    let readers = counted_readers(alloc, found, progress)?;
+    let answer = make_streams_with(rt, alloc, readers, &found.files, order);
+    erase(progress);
+    answer
+}
+
+/// A reader of each file, in their order; what is read of it is counted, where that is to be shown.
+fn counted_readers<'a>(
+    alloc: Global,
+    found: &Found,
+    progress: &'a Option<Progress>,
+) -> Result<Vec<CountedReader<'a, LazyFile<HostRuntime>>>, AllocError>
+    ensures each { IfOk result (λ readers. map (λ counted. counted.reader) readers.items ≡ found.now.source) }
+    ensures count { IfOk result (λ readers. vec_len readers ≡ length found.now.source) }
+{
+    if let Some(progress) = progress {
+        progress.ask_lengths(&found.source);
+    }
+    let files = found.source.readers(alloc)?;
+    let mut readers = Vec::with_capacity(alloc, files.len())?;
+    'files: for reader in files {
+        readers.push(CountedReader { reader, progress })?;
+    }
+    Ok(readers)
+}

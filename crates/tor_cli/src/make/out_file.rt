@@ -1,0 +1,69 @@
+//! A torrent on its way out: to standard output, or into the file that the words name.
+ghost use Rattle.std.specs.Prelude.{◌≡◌, ◌⊎◌, ◌≤◌, ◌<◌, IfErr, IsSome, OnOk, length, option_map};
+ghost use Rattle.tor_cli.specs.make.Request.{Sends, SendsFront};
+ghost use Rattle.tor_cli.specs.declared.fault.Fault.TheVariants.{OutAmongFiles, Resources, Scan};
+ghost use Rattle.tor_source.specs.declared.faults.ScanFault.TheVariants.{System};
+
+use crate::fault::Fault;
+use std::fs;
+use std::io::{ErrorKind, Write};
+use std::rt::Files;
+use tor_meta::{WriteFault, write_out};
+use tor_source::FolderSource;
+
+/// Makes or empties the file `place`, and writes the bytes into it. Where it stops, what went into it stays there.
+pub fn write_file<H: Files>(system: &H, place: &str, bytes: &[u8]) -> Result<(), WriteFault>
+    ensures within { IfErr result (λ fault. fault.written ≤ length bytes.now) }
+    ensures part { 0 < length bytes.now → IfErr result (λ fault. fault.written < length bytes.now) }
+{
+    let mut file = match fs::create(system, place) {
+        Ok(file) => file,
+        Err(fault) => {
+            return Err(WriteFault {
+                written: 0,
+                fault: Some(fault),
+            });
+        }
+    };
+    write_out(&mut file, bytes)
+}
+
+/// Writes a torrent into the file `place`, or to `out` where there is none.
+pub fn send<H: Files, W: Write>(
+    system: &H,
+    out: &mut W,
+    place: Option<&str>,
+    torrent: &[u8],
+) -> Result<(), WriteFault>
+    ensures whole { OnOk result (Sends (option_map (λ name. name.now) place.entry)
+        (W.contents out.old) (W.contents out.new) torrent.now) }
+    ensures part { 0 < length torrent.now → IfErr result
+        (λ fault. SendsFront (option_map (λ name. name.now) place.entry)
+        (W.contents out.old) (W.contents out.new) fault.written torrent.now) }
+{
+    match place {
+        None => write_out(out, torrent),
+        Some(place) => write_file(system, place, torrent),
+    }
+}
+
+/// Refuses a file `place` that is one of those that a torrent is to be made of, under whatever name: the torrent would
+/// take its place. If the system tells nothing of `place`, no file is there that could be lost; of each of the others
+/// it must tell.
+pub fn spare_sources(
+    system: &HostRuntime,
+    place: Option<&str>,
+    source: &FolderSource<HostRuntime>,
+) -> Result<(), Fault>
+    ensures { IfErr result (λ fault. (fault ≡ Resources) ⊎ (fault ≡ Scan System)
+        ⊎ ((fault ≡ OutAmongFiles) × IsSome (option_map (λ name. name.now) place.entry))) }
+{
+    let Some(place) = place else {
+        return Ok(());
+    };
+    match system.metadata(place) {
+        Ok(file) if file.is_file() && source.has(&file)? => Err(Fault::OutAmongFiles),
+        Err(fault) if matches!(fault.kind(), ErrorKind::OutOfMemory) => Err(Fault::Resources),
+        _ => Ok(()),
+    }
+}

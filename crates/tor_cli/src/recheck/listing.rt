@@ -1,0 +1,61 @@
+//! Which files of a torrent a recheck lists, and in which form.
+ghost use Rattle.std.specs.Prelude.{◌≡◌};
+ghost use Rattle.tor_cli.specs.recheck.FoundFiles.{lists_files};
+ghost use Rattle.tor_cli.specs.Words.{form_of, listing_of};
+
+/// What is printed of the torrent's files, beside its pieces.
+#[derive(Clone, Copy)]
+pub enum Listing {
+    /// Nothing.
+    Pieces,
+    /// A line for each.
+    Files,
+    /// A line for each that is not whole.
+    BadFiles,
+    /// Of each that is not whole its path, and nothing else is printed.
+    BadPaths,
+}
+
+/// For whom a recheck answers.
+#[derive(Clone, Copy)]
+pub enum Form {
+    /// For people, and for tools that go line by line.
+    Text,
+    /// For programs: one object of JSON (RFC 8259).
+    Json,
+}
+
+/// Whether something is told of files.
+pub fn lists_files(listing: Listing) -> bool
+    ensures { result ≡ lists_files listing }
+{
+    match listing {
+        Listing::Pieces => false,
+        Listing::Files => true,
+        Listing::BadFiles => true,
+        Listing::BadPaths => true,
+    }
+}
+
+/// The form that the flag `--json` asks for.
+pub fn form_of(json: bool) -> Form
+    ensures { result ≡ form_of json }
+{
+    match json {
+        true => Form::Json,
+        false => Form::Text,
+    }
+}
+
+/// The listing that these flags ask for: `--files`; `--bad`, which leaves the whole files out; and `--null`, which
+/// stands beside `--bad` alone.
+pub fn listing_of(files: bool, bad: bool, null: bool) -> Listing
+    ensures { result ≡ listing_of files bad null }
+{
+    match (files, bad, null) {
+        (_, true, true) => Listing::BadPaths,
+        (_, true, false) => Listing::BadFiles,
+        (true, false, _) => Listing::Files,
+        (false, false, _) => Listing::Pieces,
+    }
+}

@@ -1,0 +1,89 @@
+//! The words of `tor recheck FILE PATH`.
+ghost use Rattle.clap.specs.Words.{app_of, found_of, rows_of, rule_of};
+ghost use Rattle.std.specs.Prelude.{◌≡◌, ◌∷◌, [], IfOk, IfSome, codes, false};
+ghost use Rattle.tor_cli.specs.CommandLine.{flag_bound, recheck_app};
+ghost use Rattle.tor_cli.specs.Words.{IsRecheckIn};
+ghost use Rattle.tor_cli.specs.steps.Bound.{wanted_by};
+
+use crate::recheck::listing::{Form, Listing, form_of, listing_of};
+use crate::torrent_words::{
+    argument_of, command_with, flag_beside, flag_of, json_option, workers_option,
+};
+use crate::workers::workers_of;
+use clap::{Arg, ArgMatches, Command};
+use std::alloc::{AllocError, Global};
+use std::thread::Threads;
+
+/// Which torrent is rechecked, against what, and what is printed of it.
+#[derive(Clone, Copy)]
+pub struct RecheckOptions<'a> {
+    /// The file with the torrent.
+    pub torrent: &'a str,
+    /// The file or folder that has the torrent's files.
+    pub place: &'a str,
+    pub listing: Listing,
+    pub form: Form,
+    /// How many workers hash.
+    pub workers: u32,
+}
+
+/// The command `recheck`.
+pub fn recheck_command<'a>(alloc: Global) -> Result<Command<'a>, AllocError>
+    ensures { IfOk result (λ command. app_of command ≡ recheck_app) }
+{
+    let null = null_option(alloc)?;
+    let json = json_option(alloc)?;
+    let words = vec![in alloc;
+        flag_of(alloc, "files", FILES),
+        flag_of(alloc, "bad", BAD),
+        null,
+        json,
+        workers_option(alloc, DEFAULT_WORKERS, WORKERS),
+        argument_of(alloc, "file", 1, "FILE", "The file with the torrent"),
+        argument_of(alloc, "path", 2, "PATH", PATH),
+    ]?;
+    command_with(alloc, "recheck", ABOUT, words)
+}
+
+const ABOUT: &str = "Tells which pieces of a torrent are there and right";
+
+fn null_option<'a>(alloc: Global) -> Result<Arg<'a>, AllocError>
+    ensures rule { IfOk result (λ flag. rule_of flag ≡ flag_bound (codes "null")) }
+    ensures local { IfOk result (λ flag. flag.global ≡ false) }
+    ensures other { IfOk result (λ flag. wanted_by flag ≡ codes "bad" ∷ []) }
+{
+    flag_beside(alloc, "null", "bad", NULL)
+}
+
+const FILES: &str = "Tells of each file too: whether it is whole, bad, short or missing";
+
+const BAD: &str = "Tells of each file that is not whole";
+
+const NULL: &str = "With --bad, prints the paths of these files alone, each ended by a zero byte";
+
+const DEFAULT_WORKERS: &str = "4";
+
+const WORKERS: &str = "How many workers hash: from 1 to 64, or auto";
+
+const PATH: &str = "The file or folder that has the torrent's files";
+
+/// What is to be rechecked, of the words; none where `clap` let through words that have none, as a number of workers
+/// that is none.
+pub fn recheck_options<'a, T: Threads>(
+    rt: &T,
+    matches: &ArgMatches<'a>,
+) -> Option<RecheckOptions<'a>>
+    ensures { IfSome result (λ options. IsRecheckIn options (rows_of (found_of matches.now))) }
+{
+    Some(RecheckOptions {
+        torrent: matches.get_str("file")?,
+        place: matches.get_str("path")?,
+        listing: listing_of(
+            matches.get_flag("files"),
+            matches.get_flag("bad"),
+            matches.get_flag("null"),
+        ),
+        form: form_of(matches.get_flag("json")),
+        workers: workers_of(rt, matches.get_str("workers")?)?,
+    })
+}
