@@ -12,6 +12,7 @@ ghost use Rattle.tor_v1.specs.Piece.{max_piece_length};
 
 use crate::listed::Listed;
 use tor_tree::TreeFile;
+use tor_v1::padding_length;
 
 /// Whether the files of the v1 side, without padding, are others than those of the tree.
 pub fn files_differ(listed: &[Listed], files: &[TreeFile]) -> bool
@@ -107,5 +108,5 @@ pub fn has_wrong_tail(listed: &[Listed], piece_length: u64) -> bool
             tail += size;
         }
     }
-    tail != 0 && tail != last.next_multiple_of(piece_length) - last
+    tail != 0 && tail != padding_length(last, piece_length)
 }

@@ -1,13 +1,14 @@
-//! How many workers a word asks for.
+//! How many workers a word asks for, and who they are.
 ghost use Rattle.std.specs.Prelude.{◌≡◌, ◌≤◌, ◌<◌, ◌^◌, ℕ, IfOk, IfSome, IsSome, Some, codes, min};
 ghost use Rattle.tor_cli.specs.Words.{AreWorkers, IsNumber, IsUsage};
+ghost use Rattle.tor_sums.specs.declared.how.How.TheVariants.{Board};
 ghost use Rattle.tor_sums.specs.declared.how.TheConstants.{MAX_WORKERS};
 
 use crate::text::escape::escaped;
 use crate::fault::Fault;
 use std::alloc::{AllocError, Global};
 use std::thread::{Threads, available_parallelism};
-use tor_engine::MAX_WORKERS;
+use tor_engine::{How, MAX_WORKERS};
 
 /// How many workers the word asks for: for `auto` as many as there are processors, from 1 to 64; else its number, which
 /// has 32 bits. None where it is no such word.
@@ -50,6 +51,13 @@ fn at_most_all(processors: usize) -> u32
     ensures { result ≡ min processors MAX_WORKERS }
 {
     processors.min(MAX_WORKERS as usize) as u32
+}
+
+/// So many workers, of whom each takes the next pieces that nobody has taken.
+pub fn board_of(workers: u32) -> How
+    ensures { result ≡ Board workers }
+{
+    How::Board(workers)
 }
 
 /// What is wrong with a word that asks for no number of workers, as `clap` says it of a number.

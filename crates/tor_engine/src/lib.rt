@@ -9,7 +9,7 @@
 //!   other; `seats.rt` gives each worker a seat at a board, from which it claims one unit after the other
 //!   (`taking.rt`, `taken.rt`), and `on_board.rt` puts what they took in the order of the units.
 //!   `failure.rt` tells which of two faults is answered, `roots.rt` the roots of trees where no board does.
-//!   `unit_work.rt` says what a worker does with a unit. `items.rt` has the item at an index of a list.
+//!   `unit_work.rt` says what a worker does with a unit.
 //! - [`work`] (`shares.rt`): one worker at a board, for callers with threads of their own.
 //! - `sum_work.rt` does it for the sums of files, by [`unit_length`] and what else `tor_sums` has of a unit.
 //! - [`hash_pieces`] (`pieces.rt`): what each piece hashes to ([`PieceHash`], `piece_hash.rt`), of files that may be
@@ -37,7 +37,6 @@ mod asked;
 mod engine;
 mod failure;
 mod halves;
-mod items;
 pub mod laws;
 mod lengths;
 mod lot;

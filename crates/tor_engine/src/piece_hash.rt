@@ -9,7 +9,6 @@ ghost use Rattle.tor_engine.specs.PieceHashes.{hash_of_parts, merkle_hash, piece
 ghost use Rattle.tor_sums.specs.steps.Hashes.{bytes_of_part};
 ghost use Rattle.tor_engine.specs.steps.Pieces.{HasPieces, IsPiece};
 
-use crate::items::item_at;
 use tor_merkle::laws::root_of_short_content;
 use tor_merkle::{FedTree, Hash};
 use tor_plan::{Plan, PlanUnit};
@@ -37,7 +36,7 @@ pub(crate) fn hashes_of_piece(plan: &Plan, piece: &PlanUnit, hashed: Hashed) -> 
     let Hashed { tree, pieces } = hashed;
     let (sums, _) = pieces.as_chunks::<20>();
     PieceHash {
-        v1: item_at(sums, 0),
+        v1: sums.first().copied(),
         v2: merkle_hash_of_piece(plan, piece, tree),
     }
 }
@@ -65,7 +64,7 @@ fn merkle_hash(tree: FedTree, size: u64) -> Option<Hash>
 {
     root_of_short_content();
     if size > tree.piece_length() {
-        return item_at(&tree.piece_roots(), 0);
+        return tree.piece_roots().first().copied();
     }
     let sums = tree.finish()?;
     let root = sums.0;

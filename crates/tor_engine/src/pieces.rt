@@ -13,7 +13,6 @@ ghost use Rattle.tor_sums.specs.steps.Given.{IsGivenKnown};
 ghost use Rattle.tor_engine.specs.steps.Pieces.{IsPaddingSum, MayHavePadding, has_long_zeros};
 
 use crate::asked::{ask_each, expect_each};
-use crate::items::item_at;
 use crate::piece_hash::PieceHash;
 use crate::piece_work::{Known, PieceWork, UnitPieces};
 use crate::units::hash_units;
@@ -165,7 +164,7 @@ fn padding_sum(alloc: Global, plan: &Plan) -> Result<Option<[u8; 20]>, AllocErro
     feed_zeros(&mut sums, plan.piece_length())?;
     let joined = sums.finish();
     let (each, _) = joined.as_chunks::<20>();
-    Ok(item_at(each, 0))
+    Ok(each.first().copied())
 }
 
 /// Whether some unit has as many zeros after one another as a piece.

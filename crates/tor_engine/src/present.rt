@@ -1,8 +1,7 @@
 //! Whether units and pieces are there, by the lengths that were told of their files.
-ghost use Rattle.std.specs.Prelude.{◌≡◌, ◌+◌, ◌<◌, ◌^◌, All};
+ghost use Rattle.std.specs.Prelude.{◌≡◌, ◌+◌, ◌<◌, ◌^◌, All, slice_get};
 ghost use Rattle.tor_engine.specs.There.{is_part_within, is_within, length_told};
 
-use crate::items::item_at;
 use tor_plan::{Part, PlanUnit};
 
 /// Whether all bytes of files that a unit has, or a piece, are in files of these lengths; a missing file has no byte.
@@ -31,4 +30,11 @@ fn length_told(told: &[Option<u64>], file: u64) -> u64
     ensures { result ≡ length_told told.now file }
 {
     item_at(told, file as usize).flatten().unwrap_or(0)
+}
+
+/// The element at an index; none past the end.
+fn item_at<T: Copy>(items: &[T], index: usize) -> Option<T>
+    ensures { result ≡ slice_get items.now index }
+{
+    items.get(index).copied()
 }

@@ -8,7 +8,7 @@ ghost use Rattle.tor_meta.specs.Head.{settings_of};
 
 use tor_merkle::laws::piece_length_bounds;
 use tor_tree::{Kind, Name};
-use tor_v1::Layout;
+use tor_v1::{Layout, padding_length};
 
 /// How a torrent is to be made.
 #[derive(Debug, Drop)]
@@ -58,7 +58,7 @@ impl Head {
     {
         piece_length_bounds();
         match self.layout() {
-            Layout::AlignedTail => count.next_multiple_of(self.piece_length) - count,
+            Layout::AlignedTail => padding_length(count, self.piece_length),
             Layout::Joined | Layout::Aligned => 0,
         }
     }

@@ -1,8 +1,8 @@
 -- The workers of a lane, while they take, and once they are done.
 use Rattle.std.proofs.Common.{◌≡◌, ℕ, false, List, [], ◌∷◌, ◌++◌, length, map, arith, get_or, set, ap, ap₂, sym, ◌∙◌}
-use Rattle.std.proofs.Common.{append-nil, length-append, refl, subst, take, drop}
+use Rattle.std.proofs.Common.{length-append, refl, subst}
 use Rattle.std.specs.Prelude.{All}
-use Rattle.std.proofs.lemmas.List.{drop_all, map-append, take_all}
+use Rattle.std.proofs.lemmas.List.{map-append}
 use Rattle.std.proofs.lemmas.List.Elements.{recursion_from_All}
 use Rattle.std.specs.List.{AllByRecursion}
 use Rattle.tor_lane.specs.Lane.{FeedsLaneOf, IsAtMark, IsTakerOf, TakesFromLaneOf, taken_by}

@@ -10,7 +10,6 @@ ghost use Rattle.tor_source.specs.Input.{ReadsSome, ReadsWhole};
 ghost use Rattle.tor_streams.specs.steps.Cuts.{EndsReading, zeros_between};
 
 use crate::filling::{Stop, fill_from, stopped};
-use crate::padding::zeros_between;
 use crate::spares::Spares;
 use std::alloc::{AllocError, Global};
 use std::io::Read;
@@ -19,6 +18,7 @@ use std::sync::Wait;
 use tor_lane::{Chunk, Feeder};
 use tor_source::{FillFault, zeros};
 use tor_tree::Kind;
+use tor_v1::padding_length;
 
 /// Cuts what is read into chunks, and puts them into a lane. The last chunk of a content is held back until it is known
 /// whether a later content has a byte, since padding goes between two of them, and after the last only as a tail.
@@ -242,5 +242,17 @@ impl Cutter {
         let zeros = if tail { self.zeros } else { 0 };
         self.put_held(rt, zeros);
         Ok(())
+    }
+}
+
+/// How many zeros follow a content of so many bytes, where some byte of a later one follows.
+fn zeros_between(kind: Kind, piece_length: u64, count: u64) -> u64
+    requires pieces { IsPlanPieceLength kind piece_length }
+    requires small { count ≤ MAX_LENGTH }
+    ensures { result ≡ zeros_between kind piece_length count }
+{
+    match kind {
+        Kind::Hybrid => padding_length(count, piece_length),
+        _ => 0,
     }
 }

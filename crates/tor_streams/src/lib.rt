@@ -3,7 +3,7 @@
 //! - [`hash_streams`] (`streams.rt`): readers, one a file; [`hash_input`] (`input.rt`): one reader, within the limit of
 //!   an input.
 //! - `feeding.rt` reads in the calling thread: `read_streams.rt` goes to the end of each reader, and `cutter.rt` puts
-//!   chunks into a lane, by `filling.rt` and `padding.rt`. `lane_span.rt` says how many pieces a chunk has.
+//!   chunks into a lane, by `filling.rt`. `lane_span.rt` says how many pieces a chunk has.
 //! - Its workers (`stream_worker.rt`) take and hash them (`chunk_sums.rt`), and give their buffers back (`spares.rt`).
 //! - `fed_sums.rt` and `stream_sums.rt` put together what these sum up to.
 //! - [`Gate`] (`gate.rt`): what tests have workers pass.
@@ -19,7 +19,6 @@ mod gate;
 mod input;
 mod lane_span;
 pub mod laws;
-mod padding;
 mod read_streams;
 mod spares;
 mod stream_sums;

@@ -3,8 +3,8 @@
 //!
 //! - [`Entry`] (`entry.rt`): an entry of the list, a file or padding; [`is_reserved`]: a path only padding may have.
 //! - [`lay_out`] (`layout.rt`): the entries of a list of files, in one of three layouts, with the letters of the files
-//!   (`letters.rt`); [`entries_without_letters`] makes them of any paths. `padding.rt` makes the padding, [`pad_entry`]
-//!   is one.
+//!   (`letters.rt`); [`entries_without_letters`] makes them of any paths. `padding.rt` makes the padding:
+//!   [`pad_entry`] is one, [`padding_length`] how long it is.
 //! - [`PieceSums`] (`sums.rt`): the SHA-1 of each piece of a content that is fed in parts.
 //!   `runs.rt` has eight pieces hashed at once.
 //! - [`laws`]: what follows from the definitions alone.
@@ -30,6 +30,6 @@ mod sums;
 
 pub use entry::{Entry, is_reserved};
 pub use layout::{Layout, LayoutError, entries_without_letters, lay_out};
-pub use padding::pad_entry;
+pub use padding::{pad_entry, padding_length};
 pub use runs::MAX_PIECE_IN_RUN;
 pub use sums::PieceSums;

@@ -9,8 +9,8 @@ use itoa::Buffer;
 use std::alloc::{AllocError, Global};
 use tor_tree::{FilePath, Name, NameError};
 
-/// How many bytes a file of `length` bytes lacks to a whole number of pieces.
-pub(crate) fn padding_length(length: u64, piece_length: u64) -> u64
+/// How many bytes a file of `length` bytes lacks to a whole number of pieces (BEP 47, "padding files").
+pub fn padding_length(length: u64, piece_length: u64) -> u64
     requires { IsV1PieceLength piece_length }
     ensures { result ≡ padding_length piece_length length }
 {

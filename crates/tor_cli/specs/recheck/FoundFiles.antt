@@ -50,12 +50,3 @@ told_of_pair listing pair = told_of listing pair.0 pair.1.file
 -- what is printed of each file, in the torrent's order
 abbrev pub told_of_files : Listing → List FileFound → List FileView → List ℕ
 told_of_files listing found files = flat_map (told_of_pair listing) (zip found files)
-
--- whether something is to be told of files
-abbrev pub lists_files : Listing → Bool
-lists_files Pieces = false
-lists_files other = true
-
--- those files of which something is to be told
-abbrev pub listed : Listing → List FileFound → List FileFound
-listed listing found = if lists_files listing then found else []

@@ -1,7 +1,7 @@
 -- What the program prints of the pieces and the files of a torrent: which are there and right. No contract says which
 -- bytes a file of the system has, so a clause speaks of some bytes, those that the program took for FILE's, of some
 -- bits, those that were answered of the torrent's pieces, one for each, and of what was answered of each file.
-use Rattle.std.specs.Prelude.{◌≡◌, ◌≢◌, ◌==◌, ℕ, Bool, List, [], ◌++◌, length, decimal, codes, if◌then◌else◌}
+use Rattle.std.specs.Prelude.{◌≡◌, ◌≢◌, ◌==◌, ℕ, Bool, List, [], ◌++◌, length, decimal, codes}
 use Rattle.std.specs.Io.KnownBytes.{Appends}
 use Rattle.std.specs.declared.io.Error.{Error}
 use Rattle.hex.specs.Hex.{encode_lower}
@@ -17,7 +17,7 @@ use Rattle.tor_source.specs.declared.faults.ScanFault.{ScanFault}
 use Rattle.tor_source.specs.declared.faults.ScanFault.TheVariants as scans
 use Rattle.tor_spec.specs.valid.View.{View}
 use Rattle.tor_cli.specs.Foreign.{IsNoTorrent, OfSome}
-use Rattle.tor_cli.specs.recheck.FoundFiles.{lists_files, told_of_files}
+use Rattle.tor_cli.specs.recheck.FoundFiles.{told_of_files}
 use Rattle.tor_meta.specs.FromInput.{IsFront}
 use Rattle.tor_cli.specs.Place.{IsFileEnd, IsFileFault, IsFileSize}
 use Rattle.tor_cli.specs.proof.Proving.{answer_of}
@@ -62,10 +62,6 @@ pub record IsReport (options : RecheckOptions) (view : View) (bits : List Bool) 
   pub printed : text ≡ report_text options.form options.listing view bits found
   pub answered : answer ≡ recheck_answer bits
 
--- of each file is told, where any is listed
-abbrev pub IsOfEach : Listing → View → List FileFound → Type 0
-IsOfEach listing view found = length found ≡ (if lists_files listing then length view.files else 0)
-
 -- why they are looked for nowhere, by what is told of the place; or memory was refused
 abbrev pub IsNoPlace : View → ScanFault → Type 0
 IsNoPlace view scans.System =
@@ -73,12 +69,12 @@ IsNoPlace view scans.System =
 IsNoPlace view scans.Memory = Unit {0}
 IsNoPlace view other = ⊥
 
--- this is printed of some bits, one for each piece, and of something told of each file, where any is listed
+-- this is printed of some bits, one for each piece, and of something told of each file
 pub record IsReportOn (options : RecheckOptions) (view : View) (text : List ℕ) (answer : Answer) : Type 0 where
   pub bits : List Bool
   pub each : length bits ≡ view.piece_count
   pub found : List FileFound
-  pub every : IsOfEach options.listing view found
+  pub every : length found ≡ length view.files
   pub report : IsReport options view bits found text answer
 
 -- the bytes are a torrent, and this is printed of it

@@ -18,7 +18,7 @@ use tor_merkle::{Hash, Proof};
 const MAX_SIBLINGS: usize = 36;
 
 /// A line for the index of the piece, one for its hash, and one for each sibling, lowest first.
-#[tactic(auto, unfolding(crate::specs::ProofText::proof_text))]
+#[tactic(auto, unfolding(crate::specs::proof::ProofText::proof_text))]
 pub fn proof_text(
     alloc: Global,
     index: u64,

@@ -9,11 +9,11 @@ ghost use Rattle.tor_recheck.specs.declared.errors.RecheckError.TheVariants.{Wor
 ghost use Rattle.tor_source.specs.Source.{SourceFacts};
 ghost use Rattle.tor_spec.specs.Verified.{verified_pieces};
 
-use crate::recheck::findings::findings_of;
+use crate::workers::board_of;
 use std::alloc::Global;
 use std::thread::Threads;
 use tor_check::Torrent;
-use tor_recheck::{Bits, RecheckError};
+use tor_recheck::{Bits, RecheckError, recheck};
 use tor_source::Source;
 
 /// How many pieces are there and right, of how many.
@@ -52,8 +52,8 @@ pub fn count_pieces<S: Source, T: Threads + Sync>(
     ensures gave { IfErr result
         (IsGiven (S.gave source.now) (S.told source.now) (S.ended source.now) (length torrent.now.files)) }
 {
-    match findings_of(rt, alloc, source, torrent, false, workers) {
-        Ok(findings) => Ok(counts_of(&findings.bits)),
+    match recheck(rt, alloc, source, torrent, board_of(workers)) {
+        Ok(bits) => Ok(counts_of(&bits)),
         Err(error) => Err(error),
     }
 }

@@ -1,6 +1,5 @@
 //! Which files of a torrent a recheck lists, and in which form.
 ghost use Rattle.std.specs.Prelude.{◌≡◌};
-ghost use Rattle.tor_cli.specs.recheck.FoundFiles.{lists_files};
 ghost use Rattle.tor_cli.specs.Words.{form_of, listing_of};
 
 /// What is printed of the torrent's files, beside its pieces.
@@ -23,18 +22,6 @@ pub enum Form {
     Text,
     /// For programs: one object of JSON (RFC 8259).
     Json,
-}
-
-/// Whether something is told of files.
-pub fn lists_files(listing: Listing) -> bool
-    ensures { result ≡ lists_files listing }
-{
-    match listing {
-        Listing::Pieces => false,
-        Listing::Files => true,
-        Listing::BadFiles => true,
-        Listing::BadPaths => true,
-    }
 }
 
 /// The form that the flag `--json` asks for.

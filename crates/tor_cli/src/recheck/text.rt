@@ -1,6 +1,5 @@
 //! What tells which pieces of a torrent a source has, and which of its files.
 ghost use Rattle.std.specs.Prelude.{◌≡◌, ◌≢◌, Err, IfErr, IfOk, OnOk, MatchResult, None, length, string_bytes};
-ghost use Rattle.tor_cli.specs.recheck.FoundFiles.{listed};
 ghost use Rattle.tor_cli.specs.recheck.Recheck.{IsReport, IsReportOn, pieces_text, recheck_answer, recheck_text, report_text};
 ghost use Rattle.tor_cli.specs.declared.recheck.listing.Form.TheVariants.{Text};
 ghost use Rattle.tor_sums.specs.Contents.{contents_in};
@@ -14,18 +13,18 @@ ghost use Rattle.tor_source.specs.Source.{SourceFacts};
 ghost use Rattle.tor_spec.specs.Verified.{verified_pieces};
 
 use crate::answer::Answer;
-use crate::recheck::findings::findings_of;
 use crate::recheck::found_text::push_files;
-use crate::recheck::listing::{Form, Listing, lists_files};
+use crate::recheck::listing::{Form, Listing};
 use crate::recheck::counts::counts_of;
 use crate::progress::{Counting, Progress, erase};
 use crate::recheck::record::recheck_line;
 use crate::recheck::words::RecheckOptions;
+use crate::workers::board_of;
 use hex::encode;
 use std::alloc::{AllocError, Global};
 use std::thread::Threads;
 use tor_check::Torrent;
-use tor_recheck::{Bits, Findings, RecheckError};
+use tor_recheck::{Bits, Findings, RecheckError, recheck_files};
 use tor_source::Source;
 
 /// What is printed of a recheck.
@@ -54,8 +53,8 @@ pub fn counted_report<S: Source, T: Threads + Sync>(
         MatchResult result
         (λ report. IsReport options.now torrent.now
         (verified_pieces torrent.now (contents_in facts (length torrent.now.files)))
-        (listed options.now.listing (files_found torrent.now (lengths_told facts (length torrent.now.files))
-        (held_pieces torrent.now (contents_in facts (length torrent.now.files)))))
+        (files_found torrent.now (lengths_told facts (length torrent.now.files))
+        (held_pieces torrent.now (contents_in facts (length torrent.now.files))))
         (string_bytes report.text) report.answer × (first_fault facts torrent.now ≡ None))
         (IsFault (first_fault facts torrent.now)) }
     ensures refused { (IsHow (Board options.now.workers) → ⊥) → result ≡ Err Workers }
@@ -69,8 +68,8 @@ pub fn counted_report<S: Source, T: Threads + Sync>(
         files: torrent.files(),
         progress,
     };
-    let lists = lists_files(options.listing);
-    let rechecked = findings_of(rt, alloc, &counting, torrent, lists, options.workers);
+    let how = board_of(options.workers);
+    let rechecked = recheck_files(rt, alloc, &counting, torrent, how);
     erase(progress);
     match rechecked {
         Ok(findings) => Ok(report_on(alloc, torrent, options, &findings)?),

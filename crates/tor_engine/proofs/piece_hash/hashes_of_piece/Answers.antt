@@ -11,7 +11,7 @@ returns c = λ contents there are.
     let plan = c.args.plan.now in
     let piece = c.args.piece.now in
     ap₂ (λ (a b : Option (List ℕ)). record { v1 = a; v2 = b })
-    (c.item_at.ensures
+    (c.copied.ensures ∙ c.first.ensures.value
     ∙ ap (λ xs. slice_get xs 0)
     (c.as_chunks.ensures.front ∙ ap (λ xs. first_chunks 20 (length xs / 20) xs) c.deref.ensures.value)
     ∙ one_sum_if plan contents piece c.requires there c.length_of_sums.ensures (has_v1 plan.kind) _ are.pieces)

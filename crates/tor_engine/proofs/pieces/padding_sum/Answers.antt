@@ -13,14 +13,14 @@ pub returns : goal.returns
 returns c =
     let plan = c.args.plan.now in
     let planned = c.units.ensures.planned in
-    let both = padding_is c.length_of_sums.ensures plan c.finish-joined.result.items c.item_at.result
+    let both = padding_is c.length_of_sums.ensures plan c.finish-joined.result.items c.copied.result
     (some_piece plan.kind plan.piece_length planned.pieces)
     (ap has_v2 (sym c.kind.ensures) ∙ sym c.has_v2.ensures ∙ c.if-has_v2.false)
     (c.finish-joined.ensures plan.piece_length (zeros plan.piece_length)
     (subst (λ (n : ℕ). HasFed c.feed_zeros.new.pieces plan.piece_length (zeros n)) c.piece_length-3.ensures
     (c.in_ok-feed_zeros.ensures.fed plan.piece_length []
     (subst (λ (n : ℕ). HasFed c.new-sums.result n []) c.piece_length-2.ensures c.new-sums.ensures))))
-    (c.item_at.ensures
+    ((c.copied.ensures ∙ c.first.ensures.value)
     ∙ ap (λ xs. slice_get xs 0)
     (c.as_chunks.ensures.front ∙ ap (λ xs. first_chunks 20 (length xs / 20) xs) c.deref.ensures.value)) in
     (both.0, λ may. both.1)
