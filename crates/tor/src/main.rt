@@ -56,7 +56,7 @@ fn listed(alloc: Global, words: env::Args) -> Result<Vec<String>, AllocError>
     words.collect(alloc)
 }
 
-/// The same words as texts.
+/// The words as texts.
 fn texts_of<'a>(alloc: Global, words: &'a [String]) -> Result<Vec<&'a str>, AllocError>
     ensures same { IfOk result (λ found. texts found.items ≡ map string_bytes words.now) }
 {

@@ -18,7 +18,7 @@ const UNITS: u64 = 1_000_000;
 const BLOCKS: u64 = 50_000;
 
 /// What seats did: how many units, at how many nodes they came second, how many tops they told, and a bit for each
-/// unit that they had, where marks are kept.
+/// unit that they had, if marks are kept.
 #[derive(Drop)]
 struct Work {
     units: u64,
@@ -217,7 +217,7 @@ pub fn alone<T: Threads + Sync>(
     told(rt, &[taken, done.units as u128])
 }
 
-/// Prints the microseconds that so many threads take, where each unit has a block to be hashed, and how many units they
+/// Prints the microseconds that so many threads take, if each unit has a block to be hashed, and how many units they
 /// did.
 pub fn hashing<T: Threads + Sync>(threads: &T, rt: &HostRuntime, workers: usize) -> Result<()> {
     let (taken, done) = timed(threads, rt, BLOCKS, true, true, 0, workers.min(256) as u32)?;

@@ -40,7 +40,8 @@ pub fn lists(rt: &HostRuntime, count: usize) -> Result<()> {
     }
 }
 
-/// The same of a list that was built.
+/// Prints how many files are read back from the tree of a list that was built, and the microseconds that the list, its
+/// tree, and reading that take.
 fn written(rt: &HostRuntime, list: &FileList, built: u128) -> Result<()> {
     let (tree, written) = treed(rt, list)?;
     let start = now(rt);

@@ -48,7 +48,7 @@ pub fn input_hashed(rt: &HostRuntime, hashes: Hashes, cut: usize) -> Result<()> 
     Ok(())
 }
 
-/// The same of the files whose places standard input has, one a line, as one content.
+/// Hashes the files whose places standard input has, one a line, as one content, in reads of so many bytes.
 pub fn files_hashed(rt: &HostRuntime, hashes: Hashes, cut: usize) -> Result<()> {
     let mut places = String::new(rt.alloc());
     rt.stdin().read_to_string(&mut places)?;

@@ -39,14 +39,14 @@ pub fn no_value_before_the_first_key()
     ensures { (key : List ℕ) (pairs : Pairs) → AreRising (key ∷ keys_of pairs) → value_in key pairs ≡ None }
 {}
 
-/// At the span of a key its value is spelled, and a key has a span where it has a value.
+/// At the span of a key its value is spelled, and a key has a span if it has a value.
 pub fn span_of_a_value()
     ensures spelled { (key : List ℕ) (d : Data) (start end : ℕ) → span_of key d ≡ Some (start, end)
         → (value : Data) × (value_of key d ≡ Some value) × IsSpelledAt value (spelling d) start end }
     ensures none { (key : List ℕ) (d : Data) → (span_of key d ≡ None) ↔ (value_of key d ≡ None) }
 {}
 
-/// What is lawful where so many lists and dictionaries may be opened is lawful where more may be.
+/// What is lawful if so many lists and dictionaries may be opened is lawful if more may be.
 pub fn lawful_within_more()
     ensures value { (room more : ℕ) (d : Data) → room ≤ more → IsLawfulWithin room d → IsLawfulWithin more d }
     ensures items { (room more : ℕ) (items : Items) → room ≤ more
@@ -75,7 +75,7 @@ pub fn lawful_one_by_one()
         ↔ (IsLawfulWithin room d × PairsAreLawfulWithin room pairs) }
 {}
 
-/// The keys inside a value rise where those of its dictionary do.
+/// The keys inside a value rise if those of its dictionary do.
 pub fn values_have_rising_keys()
     ensures { (key : List ℕ) (d value : Data) → HasRisingKeys d → value_of key d ≡ Some value → HasRisingKeys value }
 {}

@@ -28,7 +28,8 @@ pub fn find<'a>(item: &'a Item, key: &[u8]) -> Option<&'a Item>
     None
 }
 
-/// The same of an item whose keys rise, looked for by halving.
+/// The value of the pair with the key, looked for by halving, of an item whose keys rise; none also of an item that is
+/// no dictionary.
 pub fn find_in_order<'a>(item: &'a Item, key: &[u8]) -> Option<&'a Item>
     requires { HasRisingKeys (view item.now) }
     ensures { option_map (λ found. view found.now) result ≡ value_of key.now (view item.now) }

@@ -49,7 +49,7 @@ fn whole<'a>(alloc: Global, bytes: &'a [u8]) -> Result<Item, Stop<'a>>
     Ok(item)
 }
 
-/// A value where `room` lists and dictionaries may still be opened, and the bytes after it.
+/// A value if `room` lists and dictionaries may still be opened, and the bytes after it.
 #[cycle(read)]
 #[tactic(auto, unfolding(crate::specs::steps::Reading::value_at))]
 fn value<'a>(alloc: Global, bytes: &'a [u8], room: usize) -> Result<(Item, &'a [u8]), Stop<'a>>

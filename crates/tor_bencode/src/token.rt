@@ -106,7 +106,7 @@ fn are_digits(bytes: &[u8]) -> bool
     bytes.iter().all(|byte| byte.is_ascii_digit())
 }
 
-/// The number that digits stand for, where 64 bits hold it.
+/// The number that digits stand for, if 64 bits hold it.
 #[tactic(auto, unfolding(crate::specs::steps::Reading::number))]
 fn number(digits: &[u8]) -> Option<u64>
     ensures { SomeIff result (number_of_digits digits.now < 2 ^ 64) (number_of_digits digits.now) }
@@ -120,7 +120,7 @@ fn number(digits: &[u8]) -> Option<u64>
     Some(n)
 }
 
-/// The integer that a sign and digits stand for, where 64 bits hold it.
+/// The integer that a sign and digits stand for, if 64 bits hold it.
 #[tactic(auto, unfolding(crate::specs::steps::Reading::integer_of))]
 fn integer_of(run: &[u8]) -> Option<i64>
     ensures { result ≡ integer_of_run run.now }

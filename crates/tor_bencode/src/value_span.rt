@@ -10,7 +10,7 @@ ghost use Rattle.tor_bencode.specs.Spelling.{spelling, items_spelling};
 use crate::MAX_NESTING;
 use crate::token::{integer, string};
 
-/// Start and end of the raw bytes of a value of the root dictionary; none where the root is no
+/// Start and end of the raw bytes of a value of the root dictionary; none if the root is no
 /// dictionary or has no such key. The bytes spell a tree, and no memory is taken.
 pub fn span(bytes: &[u8], key: &[u8]) -> Option<(usize, usize)>
     requires { IsTree bytes.now }

@@ -27,11 +27,11 @@ use crate::view::View;
 use atomic_table::{Join, Play, Split, TableRule};
 use tor_merkle::Hash;
 
-/// A seat is done only where a unit has failed or all were claimed; the claims are at most 256 more than the units.
-/// Words and views are lawful. By the machine that stands where the board does, the slot of each side that has arrived,
-/// if it is at home, holds the root over its side's hashes, and that of each tree whose top was told the tree's root.
-/// Each step is the event of its name, so that what happened to a board is a legal run of the machine. Of the machine
-/// alone: every legal run ends lawful.
+/// A seat is done only if a unit has failed or all were claimed; the claims are at most 256 more than the units. Words
+/// and views are lawful. By the machine that stands where the board does, the slot of each side that has arrived, if it
+/// is at home, holds the root over its side's hashes, and that of each tree whose top was told the tree's root. Each
+/// step is the event of its name, so that what happened to a board is a legal run of the machine. Of the machine alone:
+/// every legal run ends lawful.
 pub fn board_law()
     ensures reason { (shape : Shape) (state : State (List ℕ) View) → Keeps shape state →
         (i : ℕ) (v : View) → get_elem? state.views i ≡ some v → v.done ≡ true →

@@ -45,7 +45,7 @@ pub refusal_in_stages : (root : Data) → refusal_of root
     ≡ find (holds root) (head_conditions ++ (side_conditions ++ (layer_conditions ++ alignment_conditions)))
 refusal_in_stages root = refl
 
--- the same of the fault that each stage tells
+-- the fault that each stage tells is the first of all, if none holds before it
 pub at_head : (root : Data) (refusal : Refusal) → IsFirst (first_in head_conditions root) refusal
     → IsFirst (refusal_of root) refusal
 at_head root refusal first =

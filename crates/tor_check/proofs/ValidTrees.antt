@@ -112,7 +112,7 @@ module _ (root : Data) (none : refusal_of root ≡ None) (v2 : has_v2 (kind_of (
       (λ one file has some. with_its_letters one file (has some)) listed (tree_files info) i made.0 made.1
       (λ file found. tree_at i file found) own)
 
--- the same of a view
+-- the piece length of a view is allowed, and each of its files that is not empty has its tree
 pub allowed_of_view : (view : View) → IsViewOfValid view → has_v2 view.kind ≡ true → IsPieceLength view.piece_length
 allowed_of_view view valid v2 =
     let own = subst (λ (v : View). has_v2 v.kind ≡ true) valid.described v2 in

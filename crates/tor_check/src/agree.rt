@@ -33,7 +33,7 @@ pub fn files_differ(listed: &[Listed], files: &[TreeFile]) -> bool
     left.next().is_some()
 }
 
-/// Whether a file has an `x` or an `h` on one side alone, where both have its `attr`.
+/// Whether a file has an `x` or an `h` on one side alone, if both have its `attr`.
 pub fn some_letters_differ(listed: &[Listed], files: &[TreeFile]) -> bool
     ensures { result ≡ some_letters_differ (without_padding (files_from listed.now)) files.now }
 {
@@ -52,7 +52,7 @@ pub fn some_letters_differ(listed: &[Listed], files: &[TreeFile]) -> bool
     false
 }
 
-/// Whether these are the letters of two files, where both have `attr`.
+/// Whether these are the letters of two files, if both have `attr`.
 fn letters_differ(listed: &Listed, file: &TreeFile) -> bool
     ensures { result ≡ letters_differ (file_of_listed listed.now) file.now }
 {

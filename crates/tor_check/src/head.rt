@@ -89,7 +89,7 @@ fn kind_of(info: &Item) -> Kind
     }
 }
 
-/// The piece length, where a torrent of the kind can have it.
+/// The piece length, if a torrent of the kind can have it.
 fn piece_length_of(info: &Item, kind: Kind) -> Option<u64>
     requires { kind ≡ kind_of (view info.now) }
     ensures { MatchOption result (piece_length (view info.now) ≡ true)

@@ -71,7 +71,7 @@ fn has_long(piece_length: u64, files: &[TreeFile]) -> bool
     files.iter().any(|file| file.length > piece_length)
 }
 
-/// Whether a file has no layer where it is to have one.
+/// Whether a file that is to have a layer has none.
 fn lacks_a_layer(layers: &Layers<'_>, files: &[TreeFile]) -> bool
     ensures { result ≡ list_any (lacks_layer layers.now.piece_length (seen layers.now)) files.now }
 {
@@ -123,14 +123,14 @@ fn layer_text<'a>(layers: &Layers<'a>, file: &TreeFile) -> Option<&'a [u8]>
     }
 }
 
-/// The same; no byte, where there are none.
+/// The joined hashes that the layers have for a file; no byte, if there are none.
 pub fn text_of_layer<'a>(layers: &Layers<'a>, file: &TreeFile) -> &'a [u8]
     ensures { result.now ≡ unwrap_or (layer_text (seen layers.now) file.now) [] }
 {
     layer_text(layers, file).unwrap_or(b"")
 }
 
-/// The root of a file; no byte, where it has none.
+/// The root of a file; no byte, if it has none.
 fn root_of(file: &TreeFile) -> &[u8]
     ensures { result.now ≡ root_of_file file.now }
 {

@@ -62,7 +62,7 @@ pub fn read_list(alloc: Global, head: &Head<'_>) -> Result<ListSide, Refusal>
     Ok(ListSide { files, size })
 }
 
-/// The bytes of all files of a side, padding among them, where their paths and lengths have no fault.
+/// The bytes of all files of a side, padding among them, if their paths and lengths have no fault.
 fn judge_sizes(alloc: Global, info: &Item, files: &[Listed]) -> Result<u64, Refusal>
     requires read { files.now ≡ all_listed (view info.now) }
     requires shaped { list_shape (view info.now) ≡ false }
@@ -157,7 +157,7 @@ fn has_long(files: &[Listed]) -> bool
         .any(|file| file.marks.length.unsigned_abs() > MAX_LENGTH)
 }
 
-/// The bytes of all files, padding among them; None where they are too many.
+/// The bytes of all files, padding among them; None if they are too many.
 fn size_of(files: &[Listed]) -> Option<u64>
     ensures { MatchOption result (nat_lt MAX_TOTAL (sum_by size_of_listed files.now) ≡ true)
         (λ size. (nat_lt MAX_TOTAL (sum_by size_of_listed files.now) ≡ false)

@@ -18,7 +18,7 @@ pub struct Marks {
     pub hidden: bool,
 }
 
-/// None where the item is no dictionary with an integer `length`, or has an `attr` that is no byte string.
+/// None if the item is no dictionary with an integer `length`, or has an `attr` that is no byte string.
 pub fn read_marks(item: &Item) -> Option<Marks>
     ensures { result ≡ marks_in (view item.now) }
 {

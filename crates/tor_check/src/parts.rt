@@ -10,7 +10,7 @@ ghost use Rattle.tor_tree.specs.Properties.{as_integer, as_string};
 
 use tor_bencode::{Item, find};
 
-/// The value of a key, where it is a byte string.
+/// The value of a key, if it is a byte string.
 pub(crate) fn text<'a>(item: &'a Item, key: &[u8]) -> Option<&'a [u8]>
     ensures { option_copied result ≡ as_string (value_of key.now (view item.now)) }
 {
@@ -20,7 +20,7 @@ pub(crate) fn text<'a>(item: &'a Item, key: &[u8]) -> Option<&'a [u8]>
     }
 }
 
-/// The value of a key, where it is an integer.
+/// The value of a key, if it is an integer.
 pub(crate) fn integer(item: &Item, key: &[u8]) -> Option<i64>
     ensures value { result ≡ as_integer (value_of key.now (view item.now)) }
     ensures fits { IfSome result (FitsSigned w64) }

@@ -51,7 +51,8 @@ pub fn prove_piece(
     prove_in_file(alloc, told, torrent.piece_length(), index)
 }
 
-/// The same of a file that has a tree.
+/// The hash of a piece of a file that has a tree, counted from 0 in the file, and its siblings on the way to the file's
+/// root.
 fn prove_in_file(
     alloc: Global,
     told: &ViewFile,

@@ -48,7 +48,7 @@ pub enum Refusal {
     MixedNode,
     /// A file that is not empty has no `pieces root` of 32 bytes.
     RootHash,
-    /// `piece layers` is absent where it is needed, or no dictionary.
+    /// `piece layers` is needed and absent, or is no dictionary.
     LayersAbsent,
     /// A file longer than a piece has no layer.
     LayerAbsent,

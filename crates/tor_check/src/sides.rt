@@ -85,7 +85,7 @@ fn tree_of(alloc: Global, head: &Head<'_>) -> Result<Vec<TreeFile>, Refusal>
     Ok(Vec::new(alloc))
 }
 
-/// The first refusal of the sides, where the v1 side has one.
+/// The first refusal of the sides, if the v1 side has one.
 #[tactic(auto, using(crate::proofs::BothSides::merged, crate::proofs::BothSides::first_alone))]
 fn first_of_two(one: Refusal, tree: Result<Vec<TreeFile>, Refusal>) -> Refusal
     ensures alone { OnOk tree (result ≡ one) }
@@ -99,7 +99,7 @@ fn first_of_two(one: Refusal, tree: Result<Vec<TreeFile>, Refusal>) -> Refusal
     }
 }
 
-/// The one of the lesser number; want of memory, where one is that.
+/// The one of the lesser number; want of memory, if one is that.
 fn earlier(one: Refusal, other: Refusal) -> Refusal
     ensures { result ≡ earlier_refusal one other }
 {

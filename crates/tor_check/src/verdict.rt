@@ -38,7 +38,8 @@ pub fn validate(alloc: Global, bytes: &[u8]) -> Result<Torrent, Refusal>
     }
 }
 
-/// The same of a tree, in whose spelling `info` begins and ends here.
+/// What the torrent describes that has this tree, in whose spelling `info` begins and ends here; or why there is none,
+/// the least number whose condition holds.
 fn judge(alloc: Global, root: &Item, info_span: (usize, usize)) -> Result<Torrent, Refusal>
     requires lawful { IsLawful (view root.now) }
     requires span { info_span ≡ unwrap_or (span_of (codes "info") (view root.now)) (0, 0) }

@@ -18,8 +18,8 @@ use tor_merkle::Hash;
 use tor_tree::{FilePath, TreeFile};
 use tor_v1::{Entry, pad_entry};
 
-/// Gives each file of a tree the letters of both sides: its own, where the tree has its `attr`, or else those that the
-/// v1 side has for it.
+/// Gives each file of a tree the letters of both sides: its own, if the tree has its `attr`, or else those that the v1
+/// side has for it.
 pub fn take_letters(files: &mut Vec<TreeFile>, listed: &[Listed])
     ensures { files.new.items ≡ lettered (without_padding (files_from listed.now)) files.old.items }
 {
@@ -36,7 +36,7 @@ pub fn take_letters(files: &mut Vec<TreeFile>, listed: &[Listed])
     }
 }
 
-/// Those of the v1 side, where the tree has no `attr` of the file.
+/// Gives a file of a tree the letters of the v1 side, if the tree has no `attr` of the file.
 fn add_letters(file: &mut TreeFile, listed: &Listed)
     ensures { file.new ≡ file_of_both (file_of_listed listed.now) file.old }
 {

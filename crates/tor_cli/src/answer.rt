@@ -1,11 +1,11 @@
-//! What the program answers where no fault stops it.
+//! What the program answers if no fault stops it.
 ghost use Rattle.std.specs.Prelude.{◌≡◌};
 ghost use Rattle.tor_cli.specs.steps.Ending.{status_of_answer};
 
 /// What came of a request.
 #[derive(Clone, Copy)]
 pub enum Answer {
-    /// It was done, and where it asks something the answer is yes.
+    /// It was done, and if it asks something the answer is yes.
     Yes,
     /// It asks something, and the answer is no.
     No,

@@ -144,7 +144,7 @@ fn workers_word<'a>(matches: &ArgMatches<'a>, command: &str) -> Option<&'a str> 
     matches.subcommand_matches(command)?.get_str("workers")
 }
 
-/// The request of the command that was found; none where `clap` let through words that are none.
+/// The request of the command that was found; none if `clap` let through words that are none.
 fn request_in<'a, T: Threads>(rt: &T, matches: &ArgMatches<'a>) -> Option<Request<'a>>
     ensures { IfSome result (IsFoundIn matches.now) }
 {
@@ -160,7 +160,7 @@ fn request_in<'a, T: Threads>(rt: &T, matches: &ArgMatches<'a>) -> Option<Reques
     request_of_pieces(rt, matches)
 }
 
-/// The same of the commands over single pieces.
+/// The request of the command over pieces that was found; none if `clap` let through words that are none.
 fn request_of_pieces<'a, T: Threads>(rt: &T, matches: &ArgMatches<'a>) -> Option<Request<'a>>
     ensures { IfSome result (IsFoundIn matches.now) }
 {

@@ -188,7 +188,8 @@ fn write_error<W: fmt::Write>(
     }
 }
 
-/// The same for a recheck, of whose faults each names a file by its index among the torrent's files.
+/// The code and the name of a fault of a recheck, and for a fault of a file its index among the torrent's files, and
+/// the offset.
 fn write_recheck_error<W: fmt::Write>(
     error: &RecheckError<io::Error>,
     f: &mut fmt::Formatter<W>,

@@ -36,7 +36,7 @@ pub struct Progress {
 }
 
 impl Progress {
-    /// Of so many files, from now on, where it is to be shown; none where the clock does not tell the time.
+    /// Of so many files, from now on, if it is to be shown; none if the clock does not tell the time.
     pub fn shown(system: &HostRuntime, files: usize, shows: bool) -> Option<Progress> {
         if !shows {
             return None;
@@ -53,7 +53,7 @@ impl Progress {
         })
     }
 
-    /// Asks the files of a source, where they are read in another way, how long they are.
+    /// Asks how long the files of a source are, if they are read in another way.
     pub fn ask_lengths<S: Source>(&self, source: &S) {
         for file in 0..self.files {
             if let Ok(Some(length)) = source.length(file) {
@@ -87,7 +87,7 @@ impl Progress {
         }
     }
 
-    /// Prints the line over the one before it. Where it cannot be printed, the work goes on.
+    /// Prints the line over the one before it. If it cannot be printed, the work goes on.
     fn print(&self, read: u64, now: u64) {
         let total = self.total.load(SeqCst);
         if let Ok(line) = progress_line(self.alloc, read, total, now) {
@@ -102,23 +102,23 @@ impl Progress {
     }
 }
 
-/// Erases the line, where one was printed.
+/// Erases the line, if one was printed.
 pub fn erase(progress: &Option<Progress>) {
     if let Some(progress) = progress {
         progress.erase();
     }
 }
 
-/// The files of a source; what is read of them is counted, where that is to be shown.
+/// The files of a source; what is read of them is counted, if that is to be shown.
 #[derive(Drop)]
 pub struct Counting<'a, S: Source> {
     pub source: &'a S,
-    /// The files of the torrent that is rechecked, past whose lengths nothing is read; none where one is made.
+    /// The files of the torrent that is rechecked, past whose lengths nothing is read; none if one is made.
     pub files: &'a [ViewFile],
     pub progress: &'a Option<Progress>,
 }
 
-/// A reader; what is read of it is counted, where that is to be shown.
+/// A reader; what is read of it is counted, if that is to be shown.
 #[derive(Drop)]
 pub struct CountedReader<'a, R: Read> {
     pub reader: R,

@@ -43,7 +43,7 @@ pub fn with_words<'a>(command: Command<'a>, words: Vec<Arg<'a>>) -> Result<Comma
     command.args(words)
 }
 
-/// The file that stands in the words; none where `clap` let through words that have none.
+/// The file that stands in the words; none if `clap` let through words that have none.
 pub fn file_of<'a>(matches: &ArgMatches<'a>) -> Option<&'a str>
     ensures { IfSome result (λ place. IsFileIn place (rows_of (found_of matches.now))) }
 {
@@ -118,7 +118,7 @@ pub fn json_option<'a>(alloc: Global) -> Result<Arg<'a>, AllocError>
 
 const JSON: &str = "Prints all that the lines tell, as one object of JSON";
 
-/// The option that says how many workers hash, and how many where it is not given.
+/// The option that says how many workers hash, and how many if it is not given.
 pub fn workers_option<'a>(alloc: Global, default: &'a str, help: &'a str) -> Arg<'a>
     ensures rule { rule_of result ≡ workers_option default.now }
     ensures local { result.global ≡ false }

@@ -11,7 +11,7 @@ use std::thread::{Threads, available_parallelism};
 use tor_engine::{How, MAX_WORKERS};
 
 /// How many workers the word asks for: for `auto` as many as there are processors, from 1 to 64; else its number, which
-/// has 32 bits. None where it is no such word.
+/// has 32 bits. None if it is no such word.
 pub fn workers_of<T: Threads>(rt: &T, word: &str) -> Option<u32>
     ensures value { IfSome result (AreWorkers word.now) }
     ensures each { (number : ℕ) → IsNumber word.now (λ value. number ≡ value) → number < 2 ^ 32 →
@@ -36,7 +36,7 @@ fn number_of(word: &str) -> Option<u32>
     }
 }
 
-/// How many processors there are for this program, from 1 to 64; one where the system does not tell.
+/// How many processors there are for this program, from 1 to 64; one if the system does not tell.
 fn processors<T: Threads>(rt: &T) -> u32
     ensures { (1 ≤ result) × (result ≤ MAX_WORKERS) }
 {

@@ -58,8 +58,8 @@ pub(crate) fn ask_one<S: Source>(
     }
 }
 
-/// Asks again, and answers the first fault: that of a length, or that a file was changed, where another length is told,
-/// or it is missing now and was not, or was and is there. It takes no memory.
+/// Asks again, and answers the first fault: that of a length, or that a file was changed, if another length is told, or
+/// it is missing now and was not, or was and is there. It takes no memory.
 pub(crate) fn expect_each<S: Source>(
     source: &S,
     told: &[Option<u64>],

@@ -42,8 +42,9 @@ pub fn hash_all<S: Source, R: Threads + Sync>(
     hash_told(rt, alloc, source, plan, how)
 }
 
-/// The same of files whose lengths were asked before, and are those of the plan: the units are read, and then every
-/// length is asked again, so that no file of another length is answered for. A file that is missing then was changed.
+/// What the files of the source sum up to that the plan has, if their lengths were asked before and are those of the
+/// plan: the units are read as by [`hash_all`], and then every length is asked again, so that no file of another length
+/// is answered for. A file that is missing then was changed.
 pub fn hash_told<S: Source, R: Threads + Sync>(
     rt: &R,
     alloc: Global,

@@ -9,7 +9,7 @@ use tor_sums::{EngineError, append};
 /// Why a worker stopped.
 #[derive(Drop)]
 pub(crate) struct Failure<F> {
-    /// The number of the unit that failed; 0, of no meaning, where memory was refused for what several units have.
+    /// The number of the unit that failed; 0, of no meaning, if memory was refused for what several units have.
     pub(crate) unit: u64,
     pub(crate) error: EngineError<F>,
 }
@@ -67,7 +67,7 @@ pub(crate) fn both_joined<T: Drop, F: Drop>(
     }
 }
 
-/// What is answered where two workers stopped: want of resources before all, else the fault of the lesser unit.
+/// What is answered if two workers stopped: want of resources before all, else the fault of the lesser unit.
 fn least<F: Drop>(one: Failure<F>, other: Failure<F>) -> Failure<F>
     ensures either { (result ≡ one) ⊎ (result ≡ other) }
     ensures resources { (one.error ≡ Resources) ⊎ (other.error ≡ Resources) → result.error ≡ Resources }

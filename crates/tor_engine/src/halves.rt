@@ -17,7 +17,7 @@ pub(crate) trait Divisible: Send + Drop {
     /// The work is cut into these two.
     ghost halves: { Self → Self → Self → Type 0 };
 
-    /// Two halves, or the whole again, where it is too little for two.
+    /// Two halves, or the whole again, if it is too little for two.
     fn halve(self) -> Result<(Self, Self), Self>
         requires { may_answer self }
         ensures whole { IfErr result (λ whole. whole ≡ self) }

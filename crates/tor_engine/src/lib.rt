@@ -1,14 +1,14 @@
 //! The files of a source hashed as a plan says, by one worker or by several at once.
 //!
 //! - [`hash_all`] (`engine.rt`): the lengths, roots, layers and pieces of all files, or the first fault; [`hash_told`]
-//!   where the lengths were asked before.
+//!   if the lengths were asked before.
 //! - [`How`]: by how many workers; [`Sums`]: what comes of it; [`EngineError`]: why nothing does.
 //! - [`ask_lengths`] (`lengths.rt`): the lengths of files.
 //! - `units.rt` has the units of a plan hashed by one worker or by several. `halves.rt` shares work among workers,
 //!   whatever work it is. `turn.rt` so deals the units out beforehand, and each worker takes its own one after the
 //!   other; `seats.rt` gives each worker a seat at a board, from which it claims one unit after the other
 //!   (`taking.rt`, `taken.rt`), and `on_board.rt` puts what they took in the order of the units.
-//!   `failure.rt` tells which of two faults is answered, `roots.rt` the roots of trees where no board does.
+//!   `failure.rt` tells which of two faults is answered, `roots.rt` the roots of trees if no board does.
 //!   `unit_work.rt` says what a worker does with a unit.
 //! - [`work`] (`shares.rt`): one worker at a board, for callers with threads of their own.
 //! - `sum_work.rt` does it for the sums of files, by [`unit_length`] and what else `tor_sums` has of a unit.

@@ -63,7 +63,7 @@ where
     }
 }
 
-/// The same sums in the order of the numbers of their units.
+/// The sums in the order of the numbers of their units.
 fn in_order<W: UnitWork>(work: &W, sums: Vec<W::Sums>) -> Vec<W::Sums>
     ensures same { IsPermutation sums.items result.items }
     ensures placed { AreNumbers (map (W.number_in work.now) sums.items) →

@@ -20,7 +20,7 @@ use tor_v1::laws::length_of_sums;
 pub struct PieceHash {
     /// The SHA-1 of its bytes, padding among them (BEP 3, "info dictionary": `pieces`); none in V2.
     pub v1: Option<[u8; 20]>,
-    /// The root over its blocks, with zero leaves up to a whole piece where its file is longer than one (BEP 52,
+    /// The root over its blocks, with zero leaves up to a whole piece if its file is longer than one (BEP 52,
     /// "piece layers"), else the root of its file (BEP 52, "pieces root"); none in V1.
     pub v2: Option<Hash>,
 }
@@ -57,7 +57,7 @@ fn merkle_hash_of_piece(plan: &Plan, piece: &PlanUnit, tree: Option<FedTree>) ->
     merkle_hash(tree, plan.lengths()[part.file as usize])
 }
 
-/// That of the bytes of a tree, a piece of a file that has `size` bytes.
+/// The Merkle hash of the bytes of a tree, a piece of a file that has `size` bytes.
 fn merkle_hash(tree: FedTree, size: u64) -> Option<Hash>
     ensures { tree.bytes ≢ [] → length tree.bytes ≤ tree.piece_length →
         result ≡ Some (merkle_hash tree.piece_length size tree.bytes) }

@@ -33,7 +33,7 @@ pub(crate) struct Known {
     pub(crate) padding_sum: Option<[u8; 20]>,
 }
 
-/// What the pieces of a unit hash to, none where a byte of one is not there.
+/// What the pieces of a unit hash to, none if a byte of one is not there.
 #[derive(Drop)]
 pub(crate) struct UnitPieces {
     /// The unit's number.
@@ -129,7 +129,7 @@ impl<'a, S: FileBytes> UnitWork for PieceWork<'a, S> {
     }
 }
 
-/// The hashes of a piece, none where a byte of it is not there. Such a piece is not read.
+/// The hashes of a piece, none if a byte of it is not there. Such a piece is not read.
 fn hash_if_there<S: FileBytes>(
     alloc: Global,
     source: &S,

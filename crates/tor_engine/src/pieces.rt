@@ -27,17 +27,17 @@ use tor_v1::laws::length_of_sums;
 /// What pieces hash to, and the lengths by which they were there.
 #[derive(Drop)]
 pub struct FoundPieces {
-    /// What each piece of the plan hashes to, in their order, and none where some byte of it is not there.
+    /// What each piece of the plan hashes to, in their order, and none if some byte of it is not there.
     pub hashes: Vec<Option<PieceHash>>,
     /// The length in bytes of each file of the plan, in their order, and none of one that is missing.
     pub lengths: Vec<Option<u64>>,
 }
 
-/// What each piece of the plan hashes to, in their order, and none where some byte of it is not there: file i of the
-/// plan is file i of the source, which may be missing, or have another length. First every length is asked, in the
-/// order of the files. Then those pieces are read that are wholly there, each byte once, and no byte past the length
-/// that the plan has for a file; the first fault in the order of the pieces is answered, whatever the `How`. Then every
-/// length is asked again: a file of which another is told was changed.
+/// What each piece of the plan hashes to, in their order, and none if some byte of it is not there: file i of the plan
+/// is file i of the source, which may be missing, or have another length. First every length is asked, in the order of
+/// the files. Then those pieces are read that are wholly there, each byte once, and no byte past the length that the
+/// plan has for a file; the first fault in the order of the pieces is answered, whatever the `How`. Then every length
+/// is asked again: a file of which another is told was changed.
 pub fn hash_pieces<S: Source, R: Threads + Sync>(
     rt: &R,
     alloc: Global,
@@ -61,9 +61,9 @@ pub fn hash_pieces<S: Source, R: Threads + Sync>(
     }
 }
 
-/// The same, and the lengths that were told of the files, by which their pieces were there. Of a source that is not
-/// steady too, a piece has a hash exactly where it lies within these lengths, each of which was told when it was asked
-/// first, and again after all was read.
+/// What each piece of the plan hashes to, as [`hash_pieces`] tells, and the lengths that were told of the files, by
+/// which their pieces were there. Of a source that is not steady too, a piece has a hash exactly if it lies within
+/// these lengths, each of which was told when it was asked first, and again after all was read.
 pub fn find_pieces<S: Source, R: Threads + Sync>(
     rt: &R,
     alloc: Global,
@@ -103,7 +103,7 @@ pub fn find_pieces<S: Source, R: Threads + Sync>(
     }
 }
 
-/// The hashes of the pieces, where the lengths of all files were told: those pieces are read that are wholly there, and
+/// The hashes of the pieces, if the lengths of all files were told: those pieces are read that are wholly there, and
 /// then every length is asked again.
 fn hash_known<S: Source, R: Threads + Sync>(
     rt: &R,
@@ -152,7 +152,7 @@ fn hash_known<S: Source, R: Threads + Sync>(
     Ok(joined)
 }
 
-/// The SHA-1 of a whole piece of padding, where the plan may have one.
+/// The SHA-1 of a whole piece of padding, if the plan may have one.
 fn padding_sum(alloc: Global, plan: &Plan) -> Result<Option<[u8; 20]>, AllocError>
     ensures { IfOk result (λ sum. IsPaddingSum plan.now sum × (MayHavePadding plan.now → IsSome sum)) }
 {

@@ -135,7 +135,7 @@ fn hash_claimed<W: UnitWork>(
     Ok(sums)
 }
 
-/// A worker that has begun: this one, or where there is none a new one.
+/// A worker that has begun: this one, or if there is none a new one.
 fn begun<W: UnitWork>(work: &W, worker: Option<OwingSums>) -> Result<OwingSums, AllocError>
     requires { W.may_begin work.now }
     ensures { (units : List PlanUnit) (sums : List W.Sums) →

@@ -17,7 +17,7 @@ use tor_sums::{EngineError, OwingSums};
 
 /// What a worker does with each of its units.
 pub(crate) trait UnitWork {
-    /// That of the source.
+    /// The fault of the source.
     type Fault: Debug + Drop;
 
     /// What one unit sums up to, once it is complete.

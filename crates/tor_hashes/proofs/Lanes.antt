@@ -14,7 +14,7 @@ pub lane_zip2 : (f : ℕ → ℕ → ℕ) (xs ys : List ℕ) (n j : ℕ) → len
     → slice_index (zip2 f xs ys) j ≡ f (slice_index xs j) (slice_index ys j)
 lane_zip2 f xs ys n j lx ly h = get_or-zip2 f xs ys j 0 0 0 (omega arith) (omega arith)
 
--- the same word k in each lane of the second vector
+-- the second vector has the word k in each lane
 pub lane_splat : (f : ℕ → ℕ → ℕ) (xs : List ℕ) (n k j : ℕ) → length xs ≡ n → j < n
     → slice_index (zip2 f xs (replicate n k)) j ≡ f (slice_index xs j) k
 lane_splat f xs n k j lx h =

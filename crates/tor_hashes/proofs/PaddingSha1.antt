@@ -26,7 +26,7 @@ final_one_more m p n lm lp is =
     ap (λ (x : List ℕ). hash_after (m ++ x) (length (m ++ x) / 64)) (sym is)
     ∙ ap (hash_after (m ++ p)) count ∙ one_block_more m p n lm lp
 
--- that of the message of `size` bytes with which d begins
+-- the hash value of the message of `size` bytes with which d begins
 pub final_of_part : (d : List ℕ) (size n : ℕ) → size ≡ n * 64 → size ≤ length d → length (padding size) ≡ 64
     → hash_after (padded_message (take size d)) (length (padded_message (take size d)) / 64)
     ≡ compress (hash_after d n) (padding size)

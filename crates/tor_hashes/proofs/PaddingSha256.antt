@@ -24,7 +24,7 @@ final_one_more i m p n lm lp is =
     ap (λ (x : List ℕ). hash_after i (m ++ x) (length (m ++ x) / 64)) (sym is)
     ∙ ap (hash_after i (m ++ p)) count ∙ one_block_more i m p n lm lp
 
--- that of the message of `size` bytes with which d begins
+-- the hash value of the message of `size` bytes with which d begins
 pub final_of_part : (i d : List ℕ) (size n : ℕ) → size ≡ n * 64 → size ≤ length d → length (padding size) ≡ 64
     → final_hash i (take size d) ≡ compress (hash_after i d n) (padding size)
 final_of_part i d size n whole room one =

@@ -55,7 +55,7 @@ exchange_indices v j k lane index =
     (below_eight _ refl refl refl refl refl refl refl refl)
     j lane k index
 
--- the same, exchange by exchange: each word is at the index of its lane, and in the lane of its index
+-- after the exchanges, one after another, each word is at the index of its lane, and in the lane of its index
 pub exchanged : (v : List (List ℕ)) {ae bf cg dh ac bd eg fh ab cd ef gh : List ℕ × List ℕ}
     → ae ≡ halves_of (slice_index_or v 0 []) (slice_index_or v 4 [])
     → bf ≡ halves_of (slice_index_or v 1 []) (slice_index_or v 5 [])

@@ -9,7 +9,7 @@ ghost use Rattle.tor_hashes.specs.steps.Shuffles.{halves_of, pairs_of, singles_o
 
 use crate::words::Words;
 
-// The second half of the first goes, for the first of the second.
+// Exchanges the second half of the first vector for the first half of the second.
 #[inline(always)]
 fn halves(x: Words, y: Words) -> (Words, Words)
     ensures { result ≡ halves_of x y }
@@ -20,7 +20,7 @@ fn halves(x: Words, y: Words) -> (Words, Words)
     )
 }
 
-// The same in each half, of its pairs.
+// Exchanges in each half the second pair of the first vector for the first pair of the second.
 #[inline(always)]
 fn pairs(x: Words, y: Words) -> (Words, Words)
     ensures { result ≡ pairs_of x y }
@@ -31,7 +31,7 @@ fn pairs(x: Words, y: Words) -> (Words, Words)
     )
 }
 
-// The same in each pair, of its words.
+// Exchanges in each pair the second word of the first vector for the first word of the second.
 #[inline(always)]
 fn singles(x: Words, y: Words) -> (Words, Words)
     ensures { result ≡ singles_of x y }

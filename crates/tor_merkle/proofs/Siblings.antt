@@ -15,7 +15,7 @@ use Rattle.tor_merkle.proofs.BinaryDigits.{div_between}
 use Rattle.tor_merkle.proofs.ProofRoots.{proof_root-none, proof_root-left, proof_root-right, all_below}
 use Rattle.tor_merkle.proofs.RunRoots.{run_is_node}
 
--- that of no hash is a zero subtree
+-- the subtree of a run past the hashes is a zero subtree
 pub run-past : (base : ℕ) (hashes : List (List ℕ)) (k i : ℕ) → length hashes ≤ i * 2 ^ k
     → padded_subtree k base (run_at (2 ^ k) hashes i) ≡ zero_subtree (base + k)
 run-past base hashes k i past = run_is_node base hashes k i ∙ node_past base hashes k i past
@@ -35,7 +35,7 @@ module _ (base : ℕ) (hashes : List (List ℕ)) (index : ℕ) where
   abbrev sibling : ℕ → List ℕ
   sibling level = padded_subtree level base (run_at (2 ^ level) hashes (sibling_index index level))
 
-  -- those of all levels
+  -- the siblings of all levels
   pub siblings_all : (n : ℕ) → n ≡ height (length hashes)
       → map sibling (range_with_len 0 n) ≡ siblings_of base hashes index
   unfolding siblings_of

@@ -26,7 +26,7 @@ module _ (content : List ℕ) (k span : ℕ) where
       let none = ceil_at_most 0 piece 0 (omega (arith, pow_pos k)) (omega arith) in
       nil_from_length (roots []) (omega (arith, length-piece_roots [] piece, none))
 
-  -- those of the first n units
+  -- the roots of the first n units
   roots-first : (n : ℕ) → n ≤ div_ceil (length content) size → 0 < size
       → flat_map roots (units n) ≡ roots (take (n * size) content)
   roots-first zero le pos = sym (ap (λ m. roots (take m content)) (zero-mul size) ∙ roots-nil)

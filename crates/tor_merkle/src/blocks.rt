@@ -153,7 +153,7 @@ impl BlockHasher {
         }
     }
 
-    // The same after the last bytes, for whose pieces there is room.
+    // Adds the last bytes, for whose pieces there is room, and gives the tree for pieces of so many bytes.
     pub(crate) fn end_with(self, piece_length: u64, last: &[u8]) -> FedTree
         requires { KeepsFeeding piece_length (after_bytes self last.now) }
         ensures piece_length { result.piece_length ≡ piece_length }

@@ -7,8 +7,8 @@ ghost use Rattle.tor_merkle.specs.Proof.{is_proof};
 use crate::hash::{Hash, joined, leaf};
 use crate::proof::Proof;
 
-/// Two different texts of 64 bytes with one SHA-256, where two different hashes have accepted proofs for one index
-/// under one root. Of other hashes or proofs the texts say nothing.
+/// Two different texts of 64 bytes with one SHA-256, if two different hashes have accepted proofs for one index under
+/// one root. Of other hashes or proofs the texts say nothing.
 pub fn collide(
     index: u64,
     hash: &Hash,

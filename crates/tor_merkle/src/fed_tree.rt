@@ -41,8 +41,8 @@ impl FedTree {
     }
 
     /// The Merkle root of the content (BEP 52, "pieces root"), and the 32-byte hashes of the layer where one covers
-    /// one piece, in the order of the pieces ("piece layers"); no hash where there is at most one piece. `None`
-    /// where no byte was fed.
+    /// one piece, in the order of the pieces ("piece layers"); no hash if there is at most one piece. `None`
+    /// if no byte was fed.
     pub fn finish(self) -> Option<(Hash, Vec<Hash>)>
         ensures empty { IsNone result ↔ (self.bytes ≡ []) }
         ensures root { IfSome result (λ sums. sums.0 ≡ pieces_root self.bytes) }

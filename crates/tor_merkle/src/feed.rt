@@ -61,7 +61,7 @@ impl Feed {
     }
 
     /// Adds `bytes` at the end of the content, which has at most 2^50 bytes in all. Memory can only be refused
-    /// where they begin a piece.
+    /// if they begin a piece.
     pub fn feed(&mut self, bytes: &[u8]) -> Result<(), AllocError>
         requires { length self.old.bytes + length bytes.now ≤ MAX_LENGTH }
         ensures piece_length { self.new.piece_length ≡ self.old.piece_length }
@@ -88,8 +88,8 @@ impl Feed {
         blocks.end(piece_length)
     }
 
-    /// The same after the last bytes, whose blocks are hashed side by side. The content has at most 2^50 bytes in all.
-    /// Memory can only be refused where they begin a piece.
+    /// The tree over what was fed and these last bytes, whose blocks are hashed side by side. The content has at most
+    /// 2^50 bytes in all. Memory can only be refused if they begin a piece.
     pub fn end_with(self, last: &[u8]) -> Result<FedTree, AllocError>
         requires { length self.bytes + length last.now ≤ MAX_LENGTH }
         ensures piece_length { IfOk result (λ tree. tree.piece_length ≡ self.piece_length) }
@@ -107,8 +107,8 @@ impl Feed {
     }
 
     /// The Merkle root of the content (BEP 52, "pieces root"), and the 32-byte hashes of the layer where one covers
-    /// one piece, in the order of the pieces ("piece layers"); no hash where there is at most one piece. `None`
-    /// where no byte was fed.
+    /// one piece, in the order of the pieces ("piece layers"); no hash if there is at most one piece. `None`
+    /// if no byte was fed.
     pub fn finish(self) -> Option<(Hash, Vec<Hash>)>
         ensures empty { IsNone result ↔ (self.bytes ≡ []) }
         ensures root { IfSome result (λ sums. sums.0 ≡ pieces_root self.bytes) }

@@ -30,14 +30,14 @@ pub fn count_of_piece_roots()
         length (piece_roots content piece_length) ≡ div_ceil (length content) piece_length }
 {}
 
-/// Where a content is cut after a whole piece, the roots of its pieces are those of both parts.
+/// If a content is cut after a whole piece, the roots of its pieces are those of both parts.
 pub fn piece_roots_of_joined()
     ensures { (a b : List ℕ) (piece_length k : ℕ) → IsPieceLength piece_length → length a ≡ k * piece_length →
         piece_roots (a ++ b) piece_length ≡ piece_roots a piece_length ++ piece_roots b piece_length }
 {}
 
-/// Where a content is cut into units of so many whole pieces, the last perhaps shorter, the roots of its pieces are
-/// those of the units, one unit after another.
+/// If a content is cut into units of so many whole pieces, the last perhaps shorter, the roots of its pieces are those
+/// of the units, one unit after another.
 pub fn piece_roots_of_units()
     ensures { (content : List ℕ) (piece_length span : ℕ) → IsPieceLength piece_length → 0 < span →
         flat_map (λ unit. piece_roots unit piece_length) (map (run_at (span * piece_length) content)

@@ -12,7 +12,7 @@ use std::alloc::{AllocError, Global};
 use std::mem;
 
 /// The Merkle root of `content` (BEP 52, "pieces root"), and the 32-byte hashes of the layer where one covers one
-/// piece, in the order of the pieces ("piece layers"); no hash where there is at most one piece. `None` where
+/// piece, in the order of the pieces ("piece layers"); no hash if there is at most one piece. `None` if
 /// `content` is empty, which takes no memory.
 pub fn whole(
     alloc: Global,

@@ -120,7 +120,7 @@ sums_of_one settings content sums up =
           ∙ ap (λ n. piece_sums p (content ++ zeros n)) (same_tail settings p (length content));
     }
 
--- the same of a head, and of how many bytes were counted
+-- the sums of one content are those of one file, by a head and by how many bytes were counted
 pub sums_of_one_read : (head : Head) (settings : Settings) (content : List ℕ) (count : ℕ) (sums : Sums)
     → settings_of head ≡ settings → length content ≡ count → AreSumsOfSettings settings (content ∷ []) sums
     → SumsOfOne head.kind head.piece_length content

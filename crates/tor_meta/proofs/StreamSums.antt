@@ -124,7 +124,7 @@ module _ (head : Head) (files : Files) (list : LetteredFiles) (sums : Sums) (con
       (are ∙ ap (zip (paths_of files)) read) letters
       ∙ files_listed files contents many
 
-  -- the same of a list that has these paths, lengths and letters
+  -- a list that has these paths, lengths and letters has all that the torrent is made of
   pub summed_list : IsJudged head list.files → IsListed head files list sums contents
   summed_list judged =
       let long : length contents ≡ length (paths_of files) = many ∙ sym (length-map files (λ file. file.0)) in

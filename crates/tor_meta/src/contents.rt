@@ -106,6 +106,7 @@ fn torrent_of(
         bytes.items ≡ metainfo (settings_of head.now) (files_of list.now (bytes_of contents.entry.now))) }
     ensures info { IfOk result (λ bytes. HasInfo bytes.items) }
 {
+    // Called for its clause `one_each`, which tells the prover that the list has as many letters as files.
     let _attrs = list.attrs();
     let sums = sums_of(alloc, head, list, contents)?;
     let bytes = torrent_bytes(alloc, head, list, &sums)?;

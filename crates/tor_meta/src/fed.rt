@@ -46,8 +46,8 @@ impl FedSums {
         }
     }
 
-    /// Adds a part at the end of the content, which has at most `MAX_LENGTH` bytes in all. Where memory is refused, the
-    /// sums are of no more use; it can only be refused where the part begins a piece.
+    /// Adds a part at the end of the content, which has at most `MAX_LENGTH` bytes in all. If memory is refused, the
+    /// sums are of no more use; it can only be refused if the part begins a piece.
     pub fn feed(&mut self, part: &[u8]) -> Result<(), AllocError>
         requires { count_of self.old + length part.now ≤ MAX_LENGTH }
         ensures ok { OnOk result (Feeds self.old self.new part.now) }

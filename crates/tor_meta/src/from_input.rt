@@ -75,8 +75,8 @@ pub fn torrent_from<R: io::Read>(
     Ok(make_fed(alloc, &head, fed, attr)?)
 }
 
-/// The same torrent, while as many workers as the order's `how` says hash what the caller's thread reads. A unit of
-/// more than 2^30 bytes is refused too, as `Span`.
+/// Reads all of a content, and gives the torrent that [`torrent_from`] gives, while as many workers as the order's
+/// `how` says hash what the caller's thread reads. A unit of more than 2^30 bytes is refused too, as `Span`.
 pub fn torrent_by_streams<R: io::Read, T: Threads + Wait + Sync + Send + Clone + Drop + 'static>(
     rt: &T,
     alloc: Global,
@@ -96,7 +96,7 @@ pub fn torrent_by_streams<R: io::Read, T: Threads + Wait + Sync + Send + Clone +
     made_by_streams(rt, alloc, reader, order, &head, attr)
 }
 
-/// The same if the order is not refused.
+/// Reads all of a content, and gives the torrent of it by workers, for an order that is not refused.
 fn made_by_streams<R: io::Read, T: Threads + Wait + Sync + Send + Clone + Drop + 'static>(
     rt: &T,
     alloc: Global,

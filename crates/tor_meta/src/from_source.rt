@@ -58,7 +58,7 @@ pub fn make<S: Source, R: Threads + Sync>(
 }
 
 /// The bytes of the torrent of the files of a source: file i of the source has the i-th path and its letters. The files
-/// are put into the order of their paths. Nothing is asked of the source where the order or the paths are refused; then
+/// are put into the order of their paths. Nothing is asked of the source if the order or the paths are refused; then
 /// every length is asked, in the order of the source's numbers, then the bytes are read in the order of the list, and
 /// then every length is asked again. Of a source that is not steady the bytes are the torrent of some files that have
 /// the paths and letters, and the lengths that it told.
@@ -118,7 +118,7 @@ pub(crate) fn without_letters(
     Ok(files)
 }
 
-/// The paths in order, where no torrent is refused for them or for the order.
+/// The paths in order, if no torrent is refused for them or for the order.
 fn judge<F>(
     alloc: Global,
     order: &Order,
@@ -182,7 +182,7 @@ fn ask_lettered<S: Source>(
     Ok((list.with_attrs(attrs), indices))
 }
 
-/// The same without letters.
+/// The list of the files of the source that have these paths, without letters, and the index of each.
 fn ask_list<S: Source>(
     alloc: Global,
     source: &S,

@@ -40,7 +40,7 @@ use tor_tree::{Attr, FileList, FilePath, PathList};
 ///
 /// # Errors
 ///
-/// Those of [`make_streams_with`].
+/// The errors of [`make_streams_with`].
 pub fn make_streams<R: Read + Drop, T: Threads + Wait + Sync>(
     rt: &T,
     alloc: Global,
@@ -69,13 +69,13 @@ pub fn make_streams<R: Read + Drop, T: Threads + Wait + Sync>(
 
 /// The bytes of the torrent of what readers give: reader i has the i-th path and its letters, and each path is below
 /// the next. The readers are read once, one after the other, each to its end, by the calling thread; so many workers as
-/// the order's `how` says hash what was read. Nothing is read where the order or the paths are refused.
+/// the order's `how` says hash what was read. Nothing is read if the order or the paths are refused.
 ///
 /// # Errors
 ///
 /// A refusal of the order or the paths, the first that holds: those of [`make`](crate::make), with `Span` also for
 /// units of more than 2^30 bytes, and `NotSorted` after `SingleShape`. Then `Read`, after so many bytes of a reader, or
-/// `StreamTooLong`; and last `TooLarge` of a list, where all were read. `Resources` at any place.
+/// `StreamTooLong`; and last `TooLarge` of a list, if all were read. `Resources` at any place.
 pub fn make_streams_with<R: Read + Drop, T: Threads + Wait + Sync>(
     rt: &T,
     alloc: Global,
@@ -171,7 +171,7 @@ fn sums_of<R: Read + Drop, T: Threads + Wait + Sync>(
     )
 }
 
-/// The paths, where no torrent is refused for them or for the order.
+/// The paths, if no torrent is refused for them or for the order.
 fn judge(
     alloc: Global,
     order: &Order,
@@ -245,7 +245,7 @@ fn lettered_list(
     Ok(list.with_attrs(attrs))
 }
 
-/// The same without letters.
+/// The list of the files that have these paths and lengths, in the same order, without letters.
 fn with_lengths(alloc: Global, paths: PathList, lengths: &[u64]) -> Result<FileList, ContentsError>
     requires { length lengths.now ≡ length paths }
     ensures list { (names : List (List (List ℕ))) → paths ≡ with_indices names →

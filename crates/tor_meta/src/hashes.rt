@@ -20,9 +20,9 @@ use tor_tree::Kind;
 /// The info hashes of a torrent.
 #[derive(Clone, Copy, Debug, PartialEq, Eq)]
 pub struct Hashes {
-    /// The SHA-1 of the value of `info`, where the torrent has the keys of BEP 3.
+    /// The SHA-1 of the value of `info`, if the torrent has the keys of BEP 3.
     pub v1: Option<[u8; 20]>,
-    /// The SHA-256 of the value of `info`, where it has those of BEP 52.
+    /// The SHA-256 of the value of `info`, if it has those of BEP 52.
     pub v2: Option<Hash>,
 }
 

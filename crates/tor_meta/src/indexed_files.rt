@@ -46,7 +46,7 @@ impl<'a, S: Source> Source for Indexed<'a, S> {
     }
 }
 
-/// The same fault, of the file under the number that it was handed in with.
+/// The fault with its file under the number that the file was handed in with.
 pub(crate) fn renumbered<F>(indices: &[usize], error: EngineError<F>) -> EngineError<F>
     ensures { result ≡ renumbered indices.now error }
 {

@@ -114,7 +114,7 @@ fn tree(
     Ok(Some(to_item(alloc, list, &sums.roots)?))
 }
 
-/// The `files` of BEP 3, where there may be more than one.
+/// The `files` of BEP 3, if there may be more than one.
 fn entry_list(alloc: Global, head: &Head, list: &FileList) -> Result<Option<Item>, AllocError>
     requires { IsJudged head.now list.now.files }
     ensures { IfOk result (λ item. option_map view item ≡ when (has_v1 head.now.kind && not head.now.single)
@@ -128,7 +128,7 @@ fn entry_list(alloc: Global, head: &Head, list: &FileList) -> Result<Option<Item
     Ok(Some(files(alloc, &entries)?))
 }
 
-/// The `attr` beside the `length` of a single file (BEP 47), where it has letters.
+/// The `attr` beside the `length` of a single file (BEP 47), if it has letters.
 fn only_attr(alloc: Global, head: &Head, list: &FileList) -> Result<Option<Item>, AllocError>
     requires one { head.now.single ≡ true → length list.now.files ≡ 1 }
     ensures { (facts : List Facts) → attrs_in facts ≡ list.now.attrs → IfOk result (λ item.
@@ -167,7 +167,7 @@ fn pieces(alloc: Global, head: &Head, pieces: &[u8]) -> Result<Option<Item>, All
     Ok(Some(text(alloc, pieces)?))
 }
 
-/// A number where the key is to be there.
+/// A number if the key is to be there.
 fn number_if(there: bool, n: u64) -> Option<Item>
     requires { n < 2 ^ 63 }
     ensures { option_map view result ≡ when there (integer (pos n)) }

@@ -43,7 +43,7 @@ pub(crate) fn dictionary(pairs: Vec<(Vec<u8>, Item)>) -> Item
     Item::Dict(pairs)
 }
 
-/// Puts a field behind the others, where it has a value.
+/// Puts a field behind the others, if it has a value.
 pub(crate) fn push_field(
     alloc: Global,
     pairs: &mut Vec<(Vec<u8>, Item)>,
@@ -86,7 +86,7 @@ fn file(alloc: Global, entry: &Entry) -> Result<Item, AllocError>
     Ok(dictionary(pairs))
 }
 
-/// What `attr` says of it (BEP 47), where it says anything.
+/// What `attr` says of it (BEP 47), if it says anything.
 fn attr_of(alloc: Global, entry: &Entry) -> Result<Option<Item>, AllocError>
     ensures { IfOk result (λ item. option_map view item ≡ option_map string (attr_of entry.now)) }
 {
@@ -100,7 +100,7 @@ fn attr_of(alloc: Global, entry: &Entry) -> Result<Option<Item>, AllocError>
     letters(alloc, attr)
 }
 
-/// The letters of a file, where it has any.
+/// The letters of a file, if it has any.
 pub(crate) fn letters(alloc: Global, attr: Attr) -> Result<Option<Item>, AllocError>
     ensures { IfOk result (λ item. option_map view item ≡ option_map string (letters attr)) }
 {

@@ -15,7 +15,7 @@ use tor_merkle::is_piece_length;
 use tor_tree::{FilePath, MAX_NAMES, PathList};
 use tor_v1::is_reserved;
 
-/// The paths in order, each with its index, where no torrent is refused for them or for the head.
+/// The paths in order, each with its index, if no torrent is refused for them or for the head.
 pub(crate) fn judge_paths(
     alloc: Global,
     head: &Head,
@@ -36,7 +36,8 @@ pub(crate) fn judge_paths(
     put_in_order(alloc, head, paths)
 }
 
-/// The same, of paths that are not refused for what needs no order of them.
+/// The paths in order, each with its index, or the first refusal for what needs their order; all else was judged
+/// before.
 pub(crate) fn put_in_order(
     alloc: Global,
     head: &Head,

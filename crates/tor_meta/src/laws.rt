@@ -14,7 +14,7 @@ ghost use Rattle.tor_tree.specs.Name.{name_fault};
 ghost use Rattle.tor_tree.specs.Path.{IsFilePath, path_cmp};
 
 /// What is made of files that are not refused is a torrent, and what it describes is what it was made of, in the order
-/// of the paths; where files longer than a piece that have one root have one layer.
+/// of the paths; if files longer than a piece that have one root have one layer.
 pub fn what_is_made_is_valid()
     ensures { (settings : Settings) (files : List File) (bytes : List ℕ) → name_fault settings.name ≡ None →
         All (λ file. IsFilePath file.path) files → contents_refusal settings files ≡ None →

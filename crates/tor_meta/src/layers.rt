@@ -63,7 +63,7 @@ fn by_root(
     Ok(by_root)
 }
 
-/// The same as pairs.
+/// The pairs of a dictionary that has these layers by their roots.
 fn pairs(
     alloc: Global,
     by_root: BTreeMap<Hash, Vec<u8>>,

@@ -129,6 +129,7 @@ pub(crate) fn torrent_of_sums(
         bytes.items ≡ spelling (root_dictionary (settings_of head.now) facts sums.now.pieces.items)) }
     ensures info { IfOk result (λ bytes. HasInfo bytes.items) }
 {
+    // Called for its clause `one_each`, which tells the prover that the list has as many letters as files.
     let _attrs = list.attrs();
     let bytes = torrent_bytes(alloc, head, list, sums)?;
     Ok(bytes)

@@ -13,7 +13,7 @@ use tor_tree::ListError;
 /// Why no torrent is made of the files of a source. A file is named by its index among the paths that were handed in.
 ///
 /// Those before `Read` are answered before the source is asked, but for a list's `TooLarge`, which is answered when all
-/// lengths were told; the first that holds, where the faults of paths come before `ReservedPad`.
+/// lengths were told; the first that holds, and the faults of paths before `ReservedPad`.
 #[derive(Debug, Drop)]
 pub enum MakeError<F> {
     /// No power of two from 2^14 to 2^30.

@@ -65,8 +65,8 @@ impl Order {
         !self.single && self.tail
     }
 
-    /// The same for a torrent of one content under the order's name, or the first refusal; those that need no path take
-    /// no memory.
+    /// What a torrent of one content under the order's name is made with, beside the content, or the first refusal; the
+    /// refusals that need no path take no memory.
     pub fn head_of_one<F>(&self, alloc: Global) -> Result<Head, MakeError<F>>
         ensures settings { IfOk result (λ head. settings_of head ≡ settings_of_order self.now) }
         ensures lawful { IfOk result (λ head. paths_refusal (settings_of head) ((head.name ∷ []) ∷ []) ≡ None) }
@@ -102,7 +102,7 @@ pub(crate) fn refusal_of_numbers<F>(order: &Order) -> Option<MakeError<F>>
     None
 }
 
-/// The same URL, where there is one.
+/// A copy of the URL, if there is one.
 fn copy_of_url(alloc: Global, url: &Option<Vec<u8>>) -> Result<Option<Vec<u8>>, AllocError>
     ensures { IfOk result (λ copy. option_map vec_items copy ≡ option_map vec_items url.now) }
 {

@@ -9,7 +9,7 @@ use std::io::{Error, Write};
 pub struct WriteFault {
     /// How many bytes went out, from the first on.
     pub written: u64,
-    /// The fault of the write that ended it; none where a write took no byte.
+    /// The fault of the write that ended it; none if a write took no byte.
     pub fault: Option<Error>,
 }
 

@@ -49,7 +49,7 @@ pub(crate) fn sum_trees(
     Ok((roots, layers))
 }
 
-/// Those of one content.
+/// The pieces root and the layer of one content.
 fn sum_tree(
     alloc: Global,
     piece_length: u64,
@@ -64,7 +64,7 @@ fn sum_tree(
     Ok(tree_of(alloc, tree))
 }
 
-/// Those of the content that was fed.
+/// The pieces root and the layer of the content that was fed.
 pub(crate) fn tree_of(alloc: Global, tree: FedTree) -> (Option<Hash>, Vec<Hash>)
     ensures root { result.0 ≡ root_of tree.bytes }
     ensures layer { result.1.items ≡ piece_layer tree.bytes tree.piece_length }
@@ -78,7 +78,7 @@ pub(crate) fn tree_of(alloc: Global, tree: FedTree) -> (Option<Hash>, Vec<Hash>)
     }
 }
 
-/// The joined SHA-1 of each piece of the contents of the entries, where padding counts as zeros.
+/// The joined SHA-1 of each piece of the contents of the entries; padding counts as zeros.
 pub(crate) fn sum_pieces(
     alloc: Global,
     piece_length: u64,

@@ -53,6 +53,7 @@ fn tree(alloc: Global, head: &Head, list: &FileList, sums: &Sums) -> Result<Tree
     ensures info { IfOk result (λ tree. IsSome (value_of (codes "info") (view tree))) }
 {
     torrents_are_lawful();
+    // Called for its clause `one_each`, which tells the prover that the list has as many letters as files.
     let _attrs = list.attrs();
     let root = root(alloc, head, list, sums)?;
     match Tree::of(root) {
@@ -61,7 +62,7 @@ fn tree(alloc: Global, head: &Head, list: &FileList, sums: &Sums) -> Result<Tree
     }
 }
 
-/// The same as an item.
+/// The root dictionary of the torrent as an item.
 fn root(alloc: Global, head: &Head, list: &FileList, sums: &Sums) -> Result<Item, AllocError>
     requires judged { IsJudged head.now list.now.files }
     requires trees { HaveTrees head.now list.now.files sums.now }
@@ -81,7 +82,7 @@ fn root(alloc: Global, head: &Head, list: &FileList, sums: &Sums) -> Result<Item
     Ok(dictionary(pairs))
 }
 
-/// The tracker's URL, where there is one.
+/// The tracker's URL, if there is one.
 fn announce(alloc: Global, head: &Head) -> Result<Option<Item>, AllocError>
     ensures { IfOk result (λ item. option_map view item ≡ option_map string (settings_of head.now).announce) }
 {
@@ -91,7 +92,7 @@ fn announce(alloc: Global, head: &Head) -> Result<Option<Item>, AllocError>
     }
 }
 
-/// The piece layers, where the head asks for them.
+/// The piece layers, if the head asks for them.
 fn layers(
     alloc: Global,
     head: &Head,

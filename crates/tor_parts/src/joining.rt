@@ -61,7 +61,7 @@ struct Trees {
     layers: Vec<Vec<Hash>>,
 }
 
-/// Those of files whose pieces have these hashes, if the kind has trees; else none.
+/// The root and the layer of each file, whose pieces have these hashes, if the kind has trees; else none.
 fn trees_of_kind(
     alloc: Global,
     kind: Kind,
@@ -82,7 +82,7 @@ fn trees_of_kind(
     }
 }
 
-/// Those of files whose pieces have these hashes.
+/// The root and the layer of each file, whose pieces have these hashes.
 fn trees_over(
     alloc: Global,
     piece_length: u64,

@@ -8,7 +8,7 @@ use Rattle.tor_plan.proofs.Names.{padding_length, padding_before_next, has_paddi
 abbrev pub Label : Type 0
 Label = List (List ℕ) × Bool × Bool
 
--- that of a file without letters
+-- the label of a file without letters
 abbrev pub plain : List (List ℕ) → Label
 plain path = (path, false, false)
 

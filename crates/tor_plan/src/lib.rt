@@ -1,6 +1,6 @@
 //! How files are cut into units of work for hashing workers.
 //!
-//! A unit is so many pieces: of one file where the torrent has trees (BEP 52, "pieces root"), else of the joined files
+//! A unit is so many pieces: of one file if the torrent has trees (BEP 52, "pieces root"), else of the joined files
 //! (BEP 3, "info dictionary"). Units are numbered in the order of the list.
 //!
 //! - [`Plan`] (`plans.rt`): the units of a list of files, or of the entries of a torrent, padding among them.

@@ -39,7 +39,7 @@ pub(crate) enum Stretch {
 #[derive(Drop)]
 pub(crate) struct UnitCut {
     size: u64,
-    // Those of `size` bytes.
+    // The units of `size` bytes.
     units: Vec<PlanUnit>,
     // The unit that is begun, perhaps full, and how many bytes it lacks.
     begun: PlanUnit,

@@ -37,7 +37,7 @@ impl Bits {
         })
     }
 
-    /// Adds the bit of the next piece. Where memory is wanting, the bits stay as they were.
+    /// Adds the bit of the next piece. If memory is wanting, the bits stay as they were.
     pub fn push(&mut self, bit: bool) -> Result<(), AllocError>
         ensures ok { OnOk result (self.new ≡ self.old ++ bit ∷ []) }
         ensures err { OnErr result (self.new ≡ self.old) }

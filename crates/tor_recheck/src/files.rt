@@ -29,16 +29,16 @@ pub struct FileFound {
     pub good: u64,
     /// How many pieces have bytes of it; an empty file has none.
     pub pieces: u64,
-    /// How many bytes it has; none where it is missing.
+    /// How many bytes it has; none if it is missing.
     pub there: Option<u64>,
     /// How many bytes the torrent says that it has.
     pub told: u64,
 }
 
 /// What is told of each file of the torrent, in its order, padding not counted: by the pieces that hold, as the side
-/// tells that knows whose bytes they have, and by the length of each file there, none where it is missing; one of which
-/// no length is handed in is missing too. A piece of version 1 that has bytes of several files counts for each of them.
-/// Of a file that is longer than the torrent says the bytes past that are not looked at.
+/// tells that knows whose bytes they have, and by the length of each file there, none if it is missing; one of which no
+/// length is handed in is missing too. A piece of version 1 that has bytes of several files counts for each of them. Of
+/// a file that is longer than the torrent says the bytes past that are not looked at.
 pub fn files_of(
     alloc: Global,
     torrent: &Torrent,
@@ -56,7 +56,7 @@ pub fn files_of(
     Ok(files)
 }
 
-/// The length of a file, none where it is missing, or where none was told.
+/// The length of a file, none if it is missing, or if none was told.
 fn length_at(lengths: &[Option<u64>], index: usize) -> Option<u64>
     ensures { result ≡ slice_index_or lengths.now index None }
 {

@@ -49,7 +49,7 @@ pub(crate) fn judge_merkle(
     Ok(held)
 }
 
-/// Whether a piece is there, and has this Merkle hash where it has any.
+/// Whether a piece is there, and has this Merkle hash if it has any.
 fn is_merkle_found(hash: &Option<PieceHash>, root: Option<Hash>) -> bool
     ensures { result ≡ is_merkle_found hash.now (unwrap_or root []) }
 {
@@ -59,7 +59,7 @@ fn is_merkle_found(hash: &Option<PieceHash>, root: Option<Hash>) -> bool
     }
 }
 
-/// Whether a piece is there, and has these hashes where it has any.
+/// Whether a piece is there, and has these hashes if it has any.
 fn is_found(hash: &Option<PieceHash>, sum: &[u8], root: Option<Hash>) -> bool
     ensures { result ≡ is_found hash.now sum.now (unwrap_or root []) }
 {
@@ -69,7 +69,7 @@ fn is_found(hash: &Option<PieceHash>, sum: &[u8], root: Option<Hash>) -> bool
     }
 }
 
-/// Whether a SHA-1, where there is one, is this.
+/// Whether a SHA-1, if there is one, is this.
 fn is_sum(sum: &Option<[u8; 20]>, told: &[u8]) -> bool
     ensures { result ≡ is_told sum.now told.now }
 {
@@ -79,7 +79,7 @@ fn is_sum(sum: &Option<[u8; 20]>, told: &[u8]) -> bool
     }
 }
 
-/// Whether a Merkle hash, where there is one, is this.
+/// Whether a Merkle hash, if there is one, is this.
 fn is_root(hash: &Option<Hash>, told: Option<Hash>) -> bool
     ensures { result ≡ is_told hash.now (unwrap_or told []) }
 {

@@ -50,7 +50,7 @@ pub fn states_of_files()
         ((file_found held span there).state ≡ Whole) ↔ (AreThere there span.length × AllHold held span) }
 {}
 
-/// An empty file is whole exactly where it is there.
+/// An empty file is whole exactly if it is there.
 pub fn empty_files_are_whole()
     ensures { (view : View) (lengths : List (Option ℕ)) (held : List Bool) (file : ℕ) → IsCut view →
         (slice_index_or (file_spans view) file no_span).length ≡ 0 →
@@ -69,8 +69,8 @@ pub fn right_pieces_hold()
         held_pieces view contents ≡ merkle_pieces view.piece_length view.files contents }
 {}
 
-/// A file that is not empty is whole exactly where the pieces that have bytes of it hold, whichever files are short or
-/// missing. So each is where all pieces are there and right.
+/// A file that is not empty is whole exactly if the pieces that have bytes of it hold, whichever files are short or
+/// missing. So each file is whole if all pieces are there and right.
 pub fn files_are_whole_by_their_pieces()
     ensures exactly { (view : View) (files : List (Option (List ℕ))) → IsCut view → (file : ℕ) →
         0 < (slice_index_or (file_spans view) file no_span).length →

@@ -60,8 +60,8 @@ pub fn recheck<S: Source, R: Threads + Sync>(
     Ok(bits)
 }
 
-/// What each piece hashes to, and none where some byte of it is not there; and the lengths by which that is known, of
-/// the torrent's files in their order.
+/// What each piece hashes to, and none if some byte of it is not there; and the lengths by which that is known, of the
+/// torrent's files in their order.
 pub(crate) fn found_in<S: Source, R: Threads + Sync>(
     rt: &R,
     alloc: Global,
@@ -96,7 +96,7 @@ pub(crate) fn found_in<S: Source, R: Threads + Sync>(
     }
 }
 
-/// The units of the torrent's entries, or of its files where it has no v1 side.
+/// The units of the torrent's entries, or of its files if it has no v1 side.
 fn plan_of(alloc: Global, torrent: &Torrent) -> Result<Plan, AllocError>
     ensures planned { IfOk result (λ plan. plan
         ≡ plan_of_entries torrent.now.kind torrent.now.piece_length SPAN (entries_to_cut torrent.now)) }

@@ -33,7 +33,7 @@ pub struct Findings {
 }
 
 /// Which pieces of the torrent are there and right, as [`recheck`](crate::recheck) tells, and which of its files: by
-/// version 2 where the torrent has it, so that a piece of a hybrid whose SHA-1 alone departs leaves its file whole. It
+/// version 2 if the torrent has it, so that a piece of a hybrid whose SHA-1 alone departs leaves its file whole. It
 /// asks and reads what `recheck` does: the lengths that are told of the files are those by which their pieces were
 /// there, also of a source that does not keep to them. Refusals and faults are those of `recheck`.
 pub fn recheck_files<S: Source, R: Threads + Sync>(
@@ -68,8 +68,8 @@ pub fn recheck_files<S: Source, R: Threads + Sync>(
     Ok(Findings { bits, files })
 }
 
-/// What is told of each file: by the side that tells whose bytes a piece has, version 2 where the torrent has it, and
-/// else by the pieces that were found right.
+/// What is told of each file: by the side that tells whose bytes a piece has, version 2 if the torrent has it, and else
+/// by the pieces that were found right.
 fn files_by(
     alloc: Global,
     torrent: &Torrent,

@@ -33,7 +33,7 @@ pub(crate) fn spans_of(alloc: Global, torrent: &Torrent) -> Result<Vec<FileSpan>
     joined_spans(alloc, torrent.piece_length(), torrent.entries())
 }
 
-/// Where pieces are numbered file by file.
+/// The spans of files whose pieces are numbered file by file.
 fn tree_spans(
     alloc: Global,
     piece_length: u64,
@@ -58,7 +58,7 @@ fn tree_spans(
     Ok(spans)
 }
 
-/// Where the bytes of all entries are joined, padding among them.
+/// The spans of files if the bytes of all entries are joined, padding among them.
 fn joined_spans(
     alloc: Global,
     piece_length: u64,
@@ -77,7 +77,7 @@ fn joined_spans(
     Ok(spans)
 }
 
-/// Adds that of an entry which begins at this byte, unless it is padding.
+/// Adds the span of an entry that begins at this byte, unless it is padding.
 fn add_span(
     piece_length: u64,
     start: u64,
@@ -94,7 +94,7 @@ fn add_span(
     Ok(())
 }
 
-/// That of a file which begins at this byte.
+/// The span of a file that begins at this byte.
 fn joined_span(piece_length: u64, start: u64, length: u64) -> FileSpan
     requires some { 0 < piece_length }
     requires small { start + length < 2 ^ 64 }

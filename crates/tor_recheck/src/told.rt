@@ -9,7 +9,7 @@ use tor_check::{Torrent, ViewFile};
 use tor_merkle::Hash;
 
 /// For each piece of each file: of a file longer than a piece the hash at its index in the layer, of another the root
-/// of the file; none where the torrent has none.
+/// of the file; none if the torrent has none.
 pub(crate) fn told_hashes(alloc: Global, torrent: &Torrent) -> Result<Vec<Option<Hash>>, AllocError>
     ensures { IfOk result (λ told. texts_of told.items ≡ told_hashes torrent.now) }
 {
@@ -20,7 +20,7 @@ pub(crate) fn told_hashes(alloc: Global, torrent: &Torrent) -> Result<Vec<Option
     Ok(told)
 }
 
-/// Adds those of one file.
+/// Adds the hashes of the pieces of one file.
 fn add_told(
     piece_length: u64,
     file: &ViewFile,
@@ -36,7 +36,7 @@ fn add_told(
     Ok(())
 }
 
-/// That of one piece of a file.
+/// The hash of the piece at this index of a file; none if the torrent has none.
 fn told_at(piece_length: u64, file: &ViewFile, index: u64) -> Option<Hash>
     ensures { unwrap_or result [] ≡ told_hash piece_length file.now index }
 {
@@ -47,7 +47,7 @@ fn told_at(piece_length: u64, file: &ViewFile, index: u64) -> Option<Hash>
     }
 }
 
-/// That of the piece at this index.
+/// The hash of the piece at this index of all pieces; none if the torrent has none.
 pub(crate) fn root_at(told: &[Option<Hash>], index: usize) -> Option<Hash>
     ensures { unwrap_or result [] ≡ slice_index_or (texts_of told.now) index [] }
 {

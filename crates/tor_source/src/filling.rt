@@ -41,7 +41,7 @@ pub fn fill<R: Read>(reader: &mut R, buffer: &mut [u8], room: u64) -> Result<usi
     Ok(filled)
 }
 
-/// The same fault, where so many bytes came before.
+/// The fault with so many more bytes before it.
 fn after(filled: usize, fault: FillFault) -> FillFault
     requires { (left : ℕ) × (bytes : List ℕ) × (filled + left < 2 ^ 64) × EndsFill left fault bytes }
     ensures { (left : ℕ) (before bytes : List ℕ) → length before ≡ filled → EndsFill left fault bytes →

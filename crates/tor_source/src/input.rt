@@ -26,7 +26,7 @@ pub enum InputFault {
     Memory,
 }
 
-/// All the bytes that the reader has, where they are at most `limit`.
+/// All the bytes that the reader has, if they are at most `limit`.
 pub fn read_limited<R: Read>(
     alloc: Global,
     reader: &mut R,
@@ -51,7 +51,7 @@ pub fn drop_input<R: Read>(alloc: Global, reader: &mut R) -> Result<(), InputFau
     read_parts(alloc, reader, MAX_INPUT_LENGTH, &mut Dropped)
 }
 
-/// Hands on all the bytes that the reader has, where they are at most `limit`, part by part.
+/// Hands on all the bytes that the reader has, if they are at most `limit`, part by part.
 pub fn read_parts<R: Read, I: Intake>(
     alloc: Global,
     reader: &mut R,

@@ -10,7 +10,7 @@ use std::io;
 use std::os::unix::fs::FileExt;
 use std::rt::Files;
 
-/// How many bytes the regular file at a place has; None where there is none.
+/// How many bytes the regular file at a place has; None if there is none.
 pub(crate) fn length_at<R: Files>(rt: &R, place: &str) -> io::Result<Option<u64>>
     ensures { IfErr result (λ fault. is_absence (error_kind fault) ≡ false) }
 {
@@ -20,7 +20,7 @@ pub(crate) fn length_at<R: Files>(rt: &R, place: &str) -> io::Result<Option<u64>
     }
 }
 
-/// One read of the regular file at a place; it gives nothing where there is none, and from its end on, where the system
+/// One read of the regular file at a place; it gives nothing if there is none, and from its end on, where the system
 /// may refuse a read. What is no regular file is not opened: to open a FIFO would wait.
 pub(crate) fn read_at<R: Files>(
     rt: &R,

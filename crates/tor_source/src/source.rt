@@ -6,8 +6,8 @@ use std::fmt::Debug;
 
 /// Files by their numbers, of which it tells the lengths and the bytes.
 ///
-/// A source is steady where it answers by facts that stay: for each file a content, or none where it is missing, and
-/// the offsets that fail, each with its fault. Then `length` tells how long the content is, or the fault of the length,
+/// A source is steady if it answers by facts that stay: for each file a content, or none if it is missing, and the
+/// offsets that fail, each with its fault. Then `length` tells how long the content is, or the fault of the length,
 /// each time. Into a buffer with room `read_at` gives from a byte that fails its fault, each time; from any other at
 /// least one byte, and none from the next failing byte on; and from the end on no byte. A source need not be steady:
 /// one of files that others may write is not.
@@ -27,7 +27,7 @@ pub trait Source: Sync {
     /// A read of this file from this offset on gave no byte, though the buffer had room. Learned as `gave` is.
     ghost ended: { Self → ℕ → ℕ → Type 0 };
 
-    /// How many bytes a file has; None where it is missing.
+    /// How many bytes a file has; None if it is missing.
     fn length(&self, file: u64) -> Result<Option<u64>, Self::Fault>
         ensures steady { (facts : SourceFacts Self.Fault) → is_steady self.now facts → result ≡ told_length facts file }
         ensures gave { IfErr result (gave self.now file None) }

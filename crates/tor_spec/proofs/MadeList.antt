@@ -43,7 +43,7 @@ pub record ListIsValid (info : Data) : Type 0 where
   pub link : lists.list_symlink info ≡ false
   pub sums : lists.list_pieces info ≡ false
 
--- those of the dictionaries that have a `length`
+-- no condition of the dictionaries that have a `length` holds
 record AreDescribed (info : Data) : Type 0 where
   shape : lists.list_shape info ≡ false
   lengths : lists.list_length info ≡ false

@@ -20,7 +20,7 @@ pub fn torrents_are_lawful()
         IsLawful (root_dictionary settings facts pieces) }
 {}
 
-/// The entries of files have lengths of 63 bits where the files do, with letters too, and padding is less than a piece.
+/// The entries of files have lengths of 63 bits if the files do, with letters too, and padding is less than a piece.
 pub fn entries_fit()
     ensures small { (layout : Layout) (piece_length : ℕ) (files : List (List (List ℕ) × ℕ)) →
         IsPieceLength piece_length → All (λ file. file.1 < 2 ^ 63) files →
@@ -34,7 +34,7 @@ pub fn entries_fit()
 {}
 
 /// The torrent that the maker is to write, of files that it accepts, is one that a validator accepts. It describes
-/// those files: their paths, lengths and letters, and their roots and layers where there is a v2 side.
+/// those files: their paths, lengths and letters, and their roots and layers if there is a v2 side.
 pub fn made_torrents_are_valid()
     ensures valid { (settings : Settings) (files : List File) → AreMade settings files → IsTorrentOf
         (root_dictionary settings (facts_of_files settings.piece_length files) (pieces_of_files settings files))

@@ -14,7 +14,7 @@ use Rattle.tor_streams.specs.steps.Cuts.{CutsMore, HasCut, IsCutOff, bare_cuts, 
 use Rattle.tor_streams.specs.steps.Cuts.{open_text, runs_of, units_held, units_of}
 use Rattle.tor_streams.proofs.CutLists.{range_more, runs_more}
 
--- the same lane, twice
+-- two steps that keep a lane keep it together
 lanes_trans : (f g k : Feeder) → FeedsLaneOf f g → FeedsLaneOf g k → FeedsLaneOf f k
 lanes_trans f g k first second = (second.0 ∙ first.0, second.1 ∙ first.1)
 

@@ -140,7 +140,7 @@ module _ (p : ℕ) where
         end_whole tail _ (but_the_last _ (all_after _ (bare_cuts (runs_of size [])) (all_whole pos contents)
         (subst (λ (runs : List (List ℕ)). AllByRecursion IsWhole (bare_cuts runs)) (sym (pieces_nil size some)) tt)))
 
--- those of all chunks, where the kind has them
+-- the pieces of all chunks, if the kind has pieces
 pub pieces_of_stream : (kind : Kind) (tail : Bool) (p size span : ℕ) (some : 0 < size) (is : size ≡ span * p)
     (pos : 0 < p) (files : List (List (List ℕ) × ℕ)) (contents : List (List ℕ)) → AreContentsOfFiles files contents
     → flat_map (pieces_of_cut kind p) (stream_cuts kind tail p size contents)

@@ -61,7 +61,7 @@ count_of_leaves content =
     length-map (map (slice_chunk content 16384) (range_with_len 0 (div_ceil (length content) 16384))) _
     ∙ length-map-range_with_len (slice_chunk content 16384) 0 (div_ceil (length content) 16384)
 
--- the same with the height of a tree over so many bytes
+-- the root over the leaves is that over the root, by the height of a tree over so many bytes
 module _ (count level : ℕ) (some : 0 < count) (low : level ≤ 16) (fits : count ≤ 16384 * 2 ^ level) where
   abbrev above : ℕ
   above = height (div_ceil count 16384)

@@ -9,7 +9,7 @@ use tor_merkle::MAX_LENGTH;
 use tor_sums::{ContentHasher, UnitSums};
 use tor_tree::Kind;
 
-/// What a chunk sums up to, as it does where it is alone in its file: a chunk does not tell.
+/// What a chunk sums up to, as it does if it is alone in its file: a chunk does not tell.
 pub(crate) fn sum_chunk(
     alloc: Global,
     kind: Kind,

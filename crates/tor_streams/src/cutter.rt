@@ -245,7 +245,7 @@ impl Cutter {
     }
 }
 
-/// How many zeros follow a content of so many bytes, where some byte of a later one follows.
+/// How many zeros follow a content of so many bytes, if some byte of a later one follows.
 fn zeros_between(kind: Kind, piece_length: u64, count: u64) -> u64
     requires pieces { IsPlanPieceLength kind piece_length }
     requires small { count ≤ MAX_LENGTH }

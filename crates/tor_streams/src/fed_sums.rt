@@ -13,8 +13,8 @@ use tor_lane::{Feeder, Taker};
 use tor_sums::{Sums, UnitSums, put_in_order};
 use tor_tree::Kind;
 
-/// What the contents sum up to that were put in chunks of `size` bytes, or why not all was read. Memory is asked for
-/// where all was read, and for nothing else.
+/// What the contents sum up to that were put in chunks of `size` bytes, or why not all was read. Memory is asked for if
+/// all was read, and for nothing else.
 pub(crate) fn sums_of_fed<F: Drop>(
     alloc: Global,
     kind: Kind,

@@ -82,8 +82,8 @@ impl Promise<Vec<StreamWorker>> for Workers {
     ghost kept_by = { λ p workers. AreDone p.kind p.piece_length p.feeder.value workers.items };
 }
 
-/// Reads all readers in this thread, while another one has the workers take what is put. Where that thread is refused,
-/// nothing is read; where memory was refused to a worker, that is told in place of what the readers did.
+/// Reads all readers in this thread, while another one has the workers take what is put. If that thread is refused,
+/// nothing is read; if memory was refused to a worker, that is told in place of what the readers did.
 pub(crate) fn feed_readers<G: Gate + Sync, R: Read + Drop, T: Threads + Wait + Sync>(
     gate: &G,
     rt: &T,
@@ -131,8 +131,8 @@ pub(crate) fn feed_readers<G: Gate + Sync, R: Read + Drop, T: Threads + Wait + S
     )
 }
 
-/// The same of an input that the caller lends. The thread is none of a scope, since no clause can say what a scope's
-/// closure leaves behind a reference.
+/// Reads in this thread an input that the caller lends, while another one has the workers take what is put. That one is
+/// none of a scope, since no clause can say what a scope's closure leaves behind a reference.
 pub(crate) fn feed_input<R: Read, T: Threads + Wait + Sync + Send + Clone + Drop + 'static>(
     rt: &T,
     alloc: Global,
@@ -196,7 +196,7 @@ fn ended<F, T: Threads + Wait>(
     }
 }
 
-/// The same, where want of memory of any worker comes before what the readers did.
+/// What was fed, but want of memory of any worker comes before what the readers did.
 fn refusals_first<F: Drop>(fed: Fed<EngineError<F>>) -> Fed<EngineError<F>>
     ensures refused { list_any (λ worker. worker.is_refused) fed.workers.items ≡ true →
         result.read ≡ Err Resources }

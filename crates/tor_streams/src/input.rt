@@ -22,7 +22,7 @@ use tor_tree::Kind;
 ///
 /// # Errors
 ///
-/// `Read` and `TooLong` of the reader come before `Memory`, which is also told where the thread of the workers was
+/// `Read` and `TooLong` of the reader come before `Memory`, which is also told if the thread of the workers was
 /// refused, and nothing read.
 pub fn hash_input<R: Read, T: Threads + Wait + Sync + Send + Clone + Drop + 'static>(
     rt: &T,

@@ -10,8 +10,8 @@ const CACHED_UNIT: u64 = 1 << 21;
 // So many pieces are hashed side by side.
 const PIECES_AT_ONCE: u32 = 8;
 
-/// As many as are asked for, or at most eight where those are many bytes: the sums are the same, and buffers that stay
-/// in the processor's cache are read into, and hashed, sooner.
+/// As many as are asked for, or at most eight if those are many bytes: the sums are the same, and buffers that stay in
+/// the processor's cache are read into, and hashed, sooner.
 pub(crate) fn lane_span(piece_length: u64, span: u32) -> u32
     requires { span * piece_length ≤ MAX_UNIT_LENGTH }
     ensures cut { (kind : Kind) → IsStreamCut kind piece_length span → IsStreamCut kind piece_length result }

@@ -49,7 +49,7 @@ pub(crate) fn read_each<R: Read + Drop, T: Wait>(
     Ok(lengths)
 }
 
-/// What is answered where the reader of this number was not read to its end.
+/// What is answered if the reader of this number was not read to its end.
 fn error_of(stop: Stop, file: u64) -> EngineError<io::Error>
     ensures { (known : List (Option (List ℕ))) (bytes : List ℕ) → ReadsUpTo known file bytes →
         EndsReading MAX_LENGTH stop bytes → IsFaultOfReaders known result }
@@ -99,7 +99,7 @@ fn only(alloc: Global, number: u64) -> Result<Vec<u64>, AllocError>
     Ok(vec![in alloc; number]?)
 }
 
-/// What is answered where an input was not read to its end.
+/// What is answered if an input was not read to its end.
 fn fault_of(stop: Stop) -> InputFault
     ensures { (limit : ℕ) (bytes : List ℕ) → EndsReading limit stop bytes → EndsInput limit result bytes }
 {

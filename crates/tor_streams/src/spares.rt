@@ -55,7 +55,7 @@ pub(crate) fn pool(alloc: Global, room: usize) -> Result<(Spares, GiveBack), All
 }
 
 impl Spares {
-    /// A buffer of this length: the last that was given back, where there is one.
+    /// A buffer of this length: the last that was given back, if there is one.
     pub(crate) fn another<T: Wait>(
         &mut self,
         rt: &T,
@@ -71,7 +71,7 @@ impl Spares {
         }
     }
 
-    /// Lets one go, where there is one, so that no more is held than without them.
+    /// Lets one go, if there is one, so that no more is held than without them.
     pub(crate) fn let_one_go<T: Wait>(&mut self, rt: &T) {
         self.collect(rt);
         let _ = self.ready.pop();
@@ -91,14 +91,14 @@ impl Spares {
 }
 
 impl GiveBack {
-    /// The same end once more.
+    /// This end once more.
     pub(crate) fn again(&mut self) -> Result<GiveBack, AllocError> {
         let to = self.to.try_clone()?;
         let pass = self.to.another::<Another>(&mut self.pass);
         Ok(GiveBack { to, pass })
     }
 
-    /// Gives a buffer back; where there is no room it is let go.
+    /// Gives a buffer back; if there is no room it is let go.
     pub(crate) fn give<T: Wait>(&mut self, rt: &T, buffer: Vec<u8>) {
         let _ = self.to.try_send_as::<Free, T>(rt, &mut self.pass, buffer);
     }

@@ -35,7 +35,7 @@ pub(crate) fn sums_of_chunks(
     sums_with(alloc, lengths, chunks, trees)
 }
 
-/// The trees of contents, where the kind has them.
+/// The trees of contents, if the kind has them.
 fn trees_of_stream(
     alloc: Global,
     kind: Kind,

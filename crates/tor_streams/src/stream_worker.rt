@@ -142,8 +142,7 @@ pub(crate) fn any_refused(workers: &[StreamWorker]) -> bool
     workers.iter().any(|worker| worker.is_refused)
 }
 
-/// The takers of workers, and what all of them made of what these took; where memory was refused to a worker, it is
-/// here.
+/// The takers of workers, and what all of them made of what these took; if memory was refused to a worker, it is here.
 pub(crate) fn parted(
     alloc: Global,
     workers: Vec<StreamWorker>,

@@ -18,15 +18,15 @@ use tor_tree::Kind;
 pub const MAX_UNIT_LENGTH: u64 = 1 << 30;
 
 /// What the contents of readers sum up to, each of which is read once, to its end, one after the other. The calling
-/// thread reads, and puts units of `span` pieces, or of at most eight where those have more than 2 MiB, into a channel
+/// thread reads, and puts units of `span` pieces, or of at most eight if those have more than 2 MiB, into a channel
 /// that holds at most two for each worker; so many workers, from 1 to 64, take and hash them. In a hybrid zeros fill
 /// the last piece of each content that a byte of a later one follows, and with a tail that of the last content with
 /// bytes too.
 ///
 /// # Errors
 ///
-/// `Read` where a reader had a fault, an interrupted read among them, after so many bytes; `StreamTooLong` where one
-/// gave more than 2^50; `Resources` where memory or the thread of the workers was refused, before all others.
+/// `Read` if a reader had a fault, an interrupted read among them, after so many bytes; `StreamTooLong` if one gave
+/// more than 2^50; `Resources` if memory or the thread of the workers was refused, before all others.
 pub fn hash_streams<R: Read + Drop, T: Threads + Wait + Sync>(
     rt: &T,
     alloc: Global,
@@ -57,7 +57,8 @@ pub fn hash_streams<R: Read + Drop, T: Threads + Wait + Sync>(
     )
 }
 
-/// The same, by workers that pass a gate: each once for each unit, after it took it and before it hashes it.
+/// What the contents of readers sum up to, as [`hash_streams`] tells, by workers that pass a gate: each once for each
+/// unit, after it took it and before it hashes it.
 pub fn hash_streams_with<G: Gate + Sync, R: Read + Drop, T: Threads + Wait + Sync>(
     gate: &G,
     rt: &T,

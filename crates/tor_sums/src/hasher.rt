@@ -54,8 +54,7 @@ impl ContentHasher {
         }
     }
 
-    /// Adds bytes of files. Where memory is refused, the tree is as it was; it can only be refused where they begin a
-    /// piece.
+    /// Adds bytes of files. If memory is refused, the tree is as it was; it can only be refused if they begin a piece.
     pub fn feed(&mut self, bytes: &[u8]) -> Result<(), AllocError>
         requires { ForSome (tree_of self.old) (λ feed. length feed.bytes + length bytes.now ≤ MAX_LENGTH) }
         ensures fed { (kind : Kind) (piece_length : ℕ) (before joined : List ℕ) →
@@ -81,8 +80,8 @@ impl ContentHasher {
         Ok(())
     }
 
-    /// Adds zeros, which belong to no file. Where memory is refused, fewer were added; it can only be refused where
-    /// they begin a piece.
+    /// Adds zeros, which belong to no file. If memory is refused, fewer were added; it can only be refused if they
+    /// begin a piece.
     pub fn feed_zeros(&mut self, count: u64) -> Result<(), AllocError>
         ensures fed { (kind : Kind) (piece_length : ℕ) (bytes joined : List ℕ) →
             HasFedContent kind piece_length bytes joined self.old →
@@ -101,7 +100,7 @@ impl ContentHasher {
         Ok(())
     }
 
-    /// Adds bytes of files to the tree alone. Where memory is refused, it is as it was.
+    /// Adds bytes of files to the tree alone. If memory is refused, it is as it was.
     pub(crate) fn feed_tree(&mut self, bytes: &[u8]) -> Result<(), AllocError>
         requires { ForSome (tree_of self.old) (λ feed. length feed.bytes + length bytes.now ≤ MAX_LENGTH) }
         ensures fed { (kind : Kind) (piece_length : ℕ) (before joined : List ℕ) →
@@ -236,7 +235,7 @@ impl ContentHasher {
     }
 }
 
-/// The joined sums of the pieces, where there are any.
+/// The joined sums of the pieces, if there are any.
 fn sums_of(alloc: Global, pieces: Option<PieceSums>) -> Vec<u8>
     ensures sums { (piece_length : ℕ) (bytes : List ℕ) →
         IsSomeAnd pieces (λ pieces. HasFed pieces piece_length bytes) → result.items ≡ piece_sums piece_length bytes }
@@ -248,8 +247,8 @@ fn sums_of(alloc: Global, pieces: Option<PieceSums>) -> Vec<u8>
     }
 }
 
-/// Feeds so many zeros, as many at a time as the sums take. Where memory is refused, fewer were fed; it can only be
-/// refused where they begin a piece.
+/// Feeds so many zeros, as many at a time as the sums take. If memory is refused, fewer were fed; it can only be
+/// refused if they begin a piece.
 pub fn feed_zeros(pieces: &mut PieceSums, count: u64) -> Result<(), AllocError>
     ensures fed { OnOk result (Feeds pieces.old pieces.new (zeros count)) }
     ensures left { OnErr result ((fewer : ℕ) × (fewer < count) × Feeds pieces.old pieces.new (zeros fewer)) }

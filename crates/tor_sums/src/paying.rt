@@ -17,7 +17,7 @@ pub fn pay(sums: &mut Vec<UnitSums>, owed: &[u8])
     }
 }
 
-/// The same of one unit, and the sums after its own.
+/// Gives one unit its own of these sums, and gives back the sums after them.
 fn pay_one<'a>(one: &mut UnitSums, owed: &'a [u8]) -> &'a [u8]
     requires { length one.old.pieces.items ≤ length owed.now }
     ensures paid { one.new ≡ paid_one one.old (take (length one.old.pieces.items) owed.now) }

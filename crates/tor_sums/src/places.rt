@@ -4,7 +4,7 @@ ghost use Rattle.std.specs.Fn.{FnReturnsAt};
 ghost use Rattle.std.specs.List.{range_with_len};
 ghost use Rattle.tor_sums.specs.steps.Places.{AreNumbers, HasGone};
 
-/// The same items, each at the place of its number, where they have the numbers from 0 on.
+/// The items, each at the place of its number, if they have the numbers from 0 on.
 pub fn put_in_order<T, F: Fn(&T) -> u64>(items: Vec<T>, number_of: F) -> Vec<T>
     requires { F.IsAlwaysCallable number_of }
     ensures same { IsPermutation items.items result.items }
@@ -31,7 +31,7 @@ fn put_in_place<T, F: Fn(&T) -> u64>(items: &mut [T], number_of: F)
     }
 }
 
-/// Brings the item at a place to its own, or goes on to the next place where it is there.
+/// Brings the item at a place to its own, or goes on to the next place if it is there.
 fn step<T, F: Fn(&T) -> u64>(items: &mut [T], place: usize, number_of: &F) -> usize
     requires call { F.IsAlwaysCallable number_of.now }
     requires within { place ≤ length items.old }

@@ -19,10 +19,10 @@ use tor_plan::Plan;
 use tor_source::zeros;
 use tor_v1::MAX_PIECE_IN_RUN;
 
-/// Where so many bytes are left, at least so many are asked for at a time.
+/// If so many bytes are left, at least so many are asked for at a time.
 const LEAST_ASKED: usize = 1 << 16;
 
-/// About so many bytes are hashed at a time, where eight pieces of version 1 are not more.
+/// About so many bytes are hashed at a time, if eight pieces of version 1 are not more.
 const BATCH: u64 = 1 << 20;
 
 /// A worker has room for at most so many bytes.
@@ -180,7 +180,7 @@ impl Room {
     }
 }
 
-/// How many bytes are hashed together: about 1 MiB, and a multiple of eight pieces where version 1 has pieces that are
+/// How many bytes are hashed together: about 1 MiB, and a multiple of eight pieces if version 1 has pieces that are
 /// hashed by eight.
 fn batch_length(plan: &Plan) -> usize
     requires { IsPlan plan.now }

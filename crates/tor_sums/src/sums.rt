@@ -58,7 +58,7 @@ pub fn sums_of_units(
     sums_with(alloc, lengths, units, trees)
 }
 
-/// What files of these lengths sum up to, from what all their units do, and from their trees, where the kind has them.
+/// What files of these lengths sum up to, from what all their units do, and from their trees, if the kind has them.
 pub fn sums_with(
     alloc: Global,
     lengths: Vec<u64>,
@@ -109,7 +109,7 @@ fn no_trees(alloc: Global, count: usize) -> Result<Trees, AllocError>
     Ok(Trees { roots, layers })
 }
 
-/// The trees of the files of a plan, where its kind has them.
+/// The trees of the files of a plan, if its kind has them.
 fn trees_of_plan(
     alloc: Global,
     plan: &Plan,

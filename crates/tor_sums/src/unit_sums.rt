@@ -29,8 +29,8 @@ use tor_plan::{Plan, PlanUnit, Run};
 pub struct UnitSums {
     /// Its number, from 0.
     pub unit: u64,
-    /// The root of its file where it is alone there (BEP 52, "pieces root"), else the node of the file's tree that
-    /// covers it, over zero leaves past the end; zeros in V1.
+    /// The root of its file if it is alone there (BEP 52, "pieces root"), else the node of the file's tree that covers
+    /// it, over zero leaves past the end; zeros in V1.
     pub hash: Hash,
     /// What it has of its file's layer, in order (BEP 52, "piece layers"); none in V1.
     pub layer: Vec<Hash>,
@@ -39,7 +39,7 @@ pub struct UnitSums {
 }
 
 impl UnitSums {
-    /// From its number, what its bytes hash to, and its level, where it is not alone in its file.
+    /// From its number, what its bytes hash to, and its level, if it is not alone in its file.
     pub fn new(alloc: Global, unit: u64, hashed: Hashed, level: Option<u32>) -> UnitSums
         requires { ForSome hashed.tree (λ tree. ForSome level (HasRoomAt tree.piece_length (length tree.bytes))) }
         ensures unit { result.unit ≡ unit }
@@ -66,7 +66,7 @@ impl UnitSums {
     }
 }
 
-/// The node over the bytes of a tree, and what they have of the layer; none where there is no byte.
+/// The node over the bytes of a tree, and what they have of the layer; none if there is no byte.
 fn node_over(tree: FedTree, level: Option<u32>) -> Option<(Hash, Vec<Hash>)>
     requires { ForSome level (HasRoomAt tree.piece_length (length tree.bytes)) }
     ensures { tree.bytes ≢ [] → IsSomeAnd result (λ node.
@@ -78,7 +78,8 @@ fn node_over(tree: FedTree, level: Option<u32>) -> Option<(Hash, Vec<Hash>)>
     }
 }
 
-/// The same at a level of a higher tree.
+/// The node over the bytes of a tree at a level of a higher tree, and what they have of the layer; none if there is no
+/// byte.
 fn node_at(tree: FedTree, level: u32) -> Option<(Hash, Vec<Hash>)>
     requires { HasRoomAt tree.piece_length (length tree.bytes) level }
     ensures { tree.bytes ≢ [] → IsSomeAnd result (λ node.
@@ -118,7 +119,7 @@ pub(crate) fn level_of(trees: &[Run]) -> Option<u32>
     }
 }
 
-/// That of a unit, none where it is alone in its file.
+/// The level of a unit; none if it is alone in its file.
 fn level_in(plan: &Plan, unit: &PlanUnit) -> Option<u32>
     requires { IsUnitOf plan.now unit.now }
     ensures level { (part : Part) → unit.now.parts ≡ part ∷ [] →

@@ -1,4 +1,4 @@
-//! How many pieces of a torrent its own files have, where they have changed since it was made.
+//! How many pieces of a torrent its own files have, if they have changed since it was made.
 use std::sync::atomic::AtomicU64;
 use std::sync::atomic::Ordering::SeqCst;
 use std::thread::Threads;

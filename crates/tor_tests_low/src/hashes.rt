@@ -91,7 +91,7 @@ fn are_sha256(bytes: &[u8], size: usize, hashes: &[[u8; 32]; 8]) -> bool
     true
 }
 
-// The same of SHA-1.
+// Whether the hash of each message of `size` bytes is that of SHA-1.
 fn are_sha1(bytes: &[u8], size: usize, hashes: &[[u8; 20]; 8]) -> bool
     requires { 0 < size }
 {

@@ -119,7 +119,7 @@ const NINE: &[Row] = &[
     ("c", 1, HIDDEN),
 ];
 
-// The same in the order of their paths.
+// The nine files in the order of their paths.
 const SORTED: &[Row] = &[
     ("a", 0, Attr::NONE),
     ("a b/c", 16384, BOTH),

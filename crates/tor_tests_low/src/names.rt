@@ -61,7 +61,7 @@ fn has_two_names(alloc: Global, path: &FilePath) -> bool {
     }
 }
 
-// The same of the path of two names.
+// Whether a copy of the names of `a/c` has two.
 fn has_two_names_of_its_own(alloc: Global) -> bool {
     match path(alloc, "a/c") {
         Ok(path) => has_two_names(alloc, &path),

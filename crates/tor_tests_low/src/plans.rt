@@ -6,7 +6,7 @@ use std::fmt::Write;
 use tor_plan::{Forest, Part, Plan, PlanUnit};
 use tor_tree::{FileList, Kind};
 
-/// A plan, where its piece length and span are allowed.
+/// A plan, if its piece length and span are allowed.
 fn plan_of(
     alloc: Global,
     list: &FileList,

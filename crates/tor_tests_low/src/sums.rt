@@ -168,9 +168,9 @@ fn has_hash(alloc: Global, piece_length: u64, length: usize, hash: &[u8; 20]) ->
 enum Case {
     // The length of a piece, the parts of a content, and the joined hashes.
     Parts(u64, &'static [Part], &'static [u8]),
-    // That of a piece, and those of contents. Eight whole pieces are hashed at once.
+    // The length of a piece, and the lengths of contents. Eight whole pieces are hashed at once.
     Runs(u64, &'static [usize]),
-    // That of a piece, that of a content, and the hash of its joined sums.
+    // The length of a piece, the length of a content, and the hash of its joined sums.
     Summed(u64, usize, [u8; 20]),
 }
 

@@ -55,7 +55,7 @@ fn has_one_file(alloc: Global, row: &OneFile) -> bool {
     }
 }
 
-/// A root where there are bytes.
+/// A root if there are bytes.
 fn root_for(length: u64) -> Option<Hash>
     ensures { IsSome result ↔ (0 < length) }
 {
@@ -171,7 +171,7 @@ enum Case {
     Refused(&'static [u8], &'static str),
     // The tree of two files has them again.
     Two,
-    // That of so many files.
+    // The tree of so many files has just these.
     Many(u64),
 }
 

@@ -19,7 +19,7 @@ impl Attr {
         hidden: false,
     };
 
-    /// The letters, `h` before `x`; None where there is none.
+    /// The letters, `h` before `x`; None if there is none.
     pub fn letters(self) -> Option<&'static [u8]>
         ensures { option_copied result ≡ letters self }
     {

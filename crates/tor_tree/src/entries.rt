@@ -15,7 +15,7 @@ use crate::tree_file::TreeFault;
 use std::alloc::Global;
 use tor_bencode::Item;
 
-/// A file as its tree describes it, before it is judged; it has no path where the tree itself has the empty key.
+/// A file as its tree describes it, before it is judged; it has no path if the tree itself has the empty key.
 #[derive(Drop)]
 pub struct Entry {
     pub path: Option<FilePath>,

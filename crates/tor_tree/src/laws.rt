@@ -24,8 +24,8 @@ pub fn one_file_tree()
     ensures { AtMostOneTree }
 {}
 
-/// That tree is `file_tree`, of files in the order of their paths, each of which has letters, or none, and a root just
-/// where it is not empty.
+/// That tree is `file_tree`, of files in the order of their paths, each of which has letters, or none, and a root
+/// exactly if it is not empty.
 pub fn file_tree_of_list()
     ensures { (files : List (List (List ℕ) × ℕ)) (attrs : List Attr) (roots : List (Option (List ℕ))) →
         length attrs ≡ length files → IsInPathOrder files → All (λ file. HasNames file.0) files →
@@ -40,14 +40,15 @@ pub fn file_tree_is_lawful()
         All (λ file. length file.0 ≤ names) files → IsLawfulWithin (names + 2) (file_tree files attrs roots) }
 {}
 
-/// The same of a list of files, whose lengths are small.
+/// The `file_tree` of a list of files, whose lengths are small, is a lawful tree, two dictionaries deeper than the most
+/// names of a path.
 pub fn tree_of_list_is_lawful()
     ensures { (names : ℕ) (files : List (List (List ℕ) × ℕ)) (attrs : List Attr) (roots : List (Option (List ℕ))) →
         length attrs ≡ length files → IsFileList files → AllZip HasItsRoot files roots →
         All (λ file. length file.0 ≤ names) files → IsLawfulWithin (names + 2) (file_tree files attrs roots) }
 {}
 
-/// And it is a file tree without fault, where the roots have 32 bytes.
+/// And it is a file tree without fault, if the roots have 32 bytes.
 pub fn tree_of_list_is_readable()
     ensures { (files : List (List (List ℕ) × ℕ)) (attrs : List Attr) (roots : List (Option (List ℕ))) →
         length attrs ≡ length files → IsFileList files → AllZip HasItsRoot files roots →
@@ -81,7 +82,7 @@ pub fn paths_are_ordered()
     ensures inside { (folder path : List (List ℕ)) → is_inside folder path ≡ true → path_cmp folder path ≡ Less }
 {}
 
-/// Roots that are there just where their files are not empty, index by index, are those of the whole list.
+/// Roots that are there exactly if their files are not empty, index by index, are those of the whole list.
 pub fn roots_by_index()
     ensures { (files : List (List (List ℕ) × ℕ)) (roots : List (Option (List ℕ))) → length roots ≡ length files →
         ((k : ℕ) (file : List (List ℕ) × ℕ) (root : Option (List ℕ)) → k < length files →
@@ -101,7 +102,7 @@ pub fn rising_paths()
         IsStrictlySortedBy path_cmp (map (λ file. file.path) (files_of_tree tree)) }
 {}
 
-/// The files of a tree without fault have paths, and each has a root just where it is not empty.
+/// The files of a tree without fault have paths, and each has a root exactly if it is not empty.
 pub fn files_of_tree_are_files()
     ensures paths { (tree : Data) → tree_fault tree ≡ None →
         All (λ file. IsFilePath file.path) (files_of_tree tree) }

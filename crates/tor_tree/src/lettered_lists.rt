@@ -13,7 +13,7 @@ impl FileList {
     ghost use Rattle.tor_tree.specs.FileList.{IsInPathOrder, files_with_attrs, list_fault};
     ghost use Rattle.tor_tree.specs.declared.lists.ListError.TheVariants.{Memory, NoFiles};
 
-    /// The same files in the order of their paths, each with its letters. They are judged as by `build`.
+    /// These files in the order of their paths, each with its letters. They are judged as by `build`.
     pub fn build_with(
         alloc: Global,
         files: Vec<(FilePath, u64, Attr)>,

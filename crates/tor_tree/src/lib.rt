@@ -15,7 +15,7 @@
 //! - [`FileList`] (`lists.rt`; `lettered_lists.rt` takes letters): files in order, each once, with their letters.
 //! - [`Attr`] (`attr.rt`): the letters of a file that a torrent is made with.
 //! - [`PathList`] (`path_lists.rt`): paths in order, each with its index among those
-//!   that were handed in, where lengths are still to be asked.
+//!   that were handed in, if lengths are still to be asked.
 //! - [`from_item`] (`read_tree.rt`): the files that a tree describes, each a [`TreeFile`] (`tree_file.rt`); they are in
 //!   order.
 //! - [`has_attr`], [`letters_of`] (`properties.rt`): whether a file has `attr`, and its letters.

@@ -82,7 +82,7 @@ impl FileList {
     ghost use Rattle.tor_tree.specs.Letters.{no_letters};
     ghost use Rattle.tor_tree.specs.declared.lists.ListError.TheVariants.{Memory, NoFiles};
 
-    /// The same files in the order of their paths, without letters.
+    /// These files in the order of their paths, without letters.
     pub fn build(alloc: Global, mut files: Vec<(FilePath, u64)>) -> Result<FileList, ListError>
         ensures same_files { IfOk result (λ list. IsPermutation files.items list.files) }
         ensures no_letters { IfOk result (λ list. list.attrs ≡ map (λ file. no_letters) list.files) }
@@ -136,7 +136,7 @@ impl FileList {
         Ok(FileList { files, attrs })
     }
 
-    /// The same files with these letters.
+    /// The files of this list, with these letters.
     pub fn with_attrs(self, attrs: Vec<Attr>) -> FileList
         requires one_each { length attrs.items ≡ length self.files }
         ensures { result ≡ record { files = self.files; attrs = attrs.items } }
@@ -197,7 +197,7 @@ fn is_too_large(files: &[(FilePath, u64)]) -> bool
     false
 }
 
-/// The total with one more length, rounded up; None where that length or the new total is too large.
+/// The total with one more length, rounded up; None if that length or the new total is too large.
 pub fn with_length(total: u64, length: u64) -> Option<u64>
     requires { total ≤ MAX_TOTAL }
     ensures { MatchOption result

@@ -89,7 +89,7 @@ impl Name {
         Ok(Name { bytes })
     }
 
-    /// The same name again: one more owner of its bytes, and no new memory.
+    /// A copy of the name: one more owner of its bytes, and no new memory.
     pub fn copy(&self, _alloc: Global) -> Result<Name, AllocError>
         ensures { IfOk result (λ name. name ≡ self.now) }
     {
@@ -156,7 +156,7 @@ impl PartialOrd for Name {
     }
 }
 
-/// The same names again.
+/// A copy of the names.
 pub fn copy_names(alloc: Global, names: &[Name]) -> Result<Vec<Name>, AllocError>
     ensures { IfOk result (λ copied. copied.items ≡ names.now) }
 {

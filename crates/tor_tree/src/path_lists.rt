@@ -35,7 +35,7 @@ impl PathList {
     ghost use Rattle.tor_tree.specs.PathList.{AreIndexedPaths, IsPathList, indices_of};
     ghost use Rattle.tor_tree.specs.declared.lists.ListError.TheVariants.{Memory, NoFiles};
 
-    /// The same paths in order, each with its index. They are judged as those of a `FileList`.
+    /// These paths in order, each with its index. They are judged as those of a `FileList`.
     pub fn build(alloc: Global, paths: Vec<FilePath>) -> Result<PathList, ListError>
         ensures indexed { IfOk result (AreIndexedPaths paths.items) }
         ensures lawful { IfOk result IsPathList }

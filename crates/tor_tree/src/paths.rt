@@ -11,7 +11,7 @@ use std::alloc::{AllocError, Global};
 use std::cmp::Ordering;
 use std::marker::Model;
 
-/// How many names a path has at the most where a torrent is made: a limit of this profile. A `FilePath` may have more.
+/// How many names a path has at the most if a torrent is made: a limit of this profile. A `FilePath` may have more.
 pub const MAX_NAMES: usize = 64;
 
 /// The names from the top folder down to a file, at least one. Contracts see the list of the names' bytes.
@@ -35,7 +35,7 @@ impl Model for FilePath {
 }
 
 impl FilePath {
-    /// The path of these names; none where there is no name.
+    /// The path of these names; none if there is no name.
     pub fn new(names: Vec<Name>) -> Option<FilePath>
         ensures { MatchOption result (names.items ≡ []) (λ path. (path ≡ names.items) × IsFilePath path) }
     {
@@ -55,7 +55,7 @@ impl FilePath {
         Ok(FilePath { names })
     }
 
-    /// The same path again.
+    /// A copy of the path.
     pub fn copy(&self, alloc: Global) -> Result<FilePath, AllocError>
         ensures { IfOk result (λ path. path ≡ self.now) }
     {

@@ -21,7 +21,7 @@ pub struct Properties {
     pub hidden: bool,
 }
 
-/// None where the item is no dictionary with an integer `length`, or has an `attr` that is no byte string.
+/// None if the item is no dictionary with an integer `length`, or has an `attr` that is no byte string.
 pub fn read_properties(item: &Item) -> Option<Properties>
     ensures { result ≡ facts_of (view item.now) }
 {
@@ -37,7 +37,7 @@ pub fn read_properties(item: &Item) -> Option<Properties>
     })
 }
 
-/// The `length`, where it is an integer.
+/// The `length`, if it is an integer.
 fn length_of(item: &Item) -> Option<i64>
     ensures value { result ≡ as_integer (value_of (codes "length") (view item.now)) }
     ensures fits { IfSome result (FitsSigned w64) }
@@ -55,7 +55,7 @@ pub fn has_attr(item: &Item) -> bool
     find(item, b"attr").is_some()
 }
 
-/// The letters of `attr` (BEP 47), none of them where it is absent; None where it is no byte string.
+/// The letters of `attr` (BEP 47), none of them if it is absent; None if it is no byte string.
 pub fn letters_of(item: &Item) -> Option<&[u8]>
     ensures { option_copied result ≡ letters_of (view item.now) }
 {
@@ -66,7 +66,7 @@ pub fn letters_of(item: &Item) -> Option<&[u8]>
     }
 }
 
-/// The `pieces root`, where it is a byte string of 32 bytes.
+/// The `pieces root`, if it is a byte string of 32 bytes.
 fn hash_of(item: &Item) -> Option<Hash>
     ensures { result ≡ hash_of (view item.now) }
 {

@@ -44,7 +44,7 @@ pub fn length_of_zeros()
     ensures { (count : ℕ) → length (zeros count) ≡ count }
 {}
 
-/// Some file has bytes just where the files with bytes are not none.
+/// Some file has bytes exactly if the files with bytes are not none.
 pub fn files_with_bytes()
     ensures { (files : List (List (List ℕ) × ℕ)) →
         has_bytes files ≡ nat_lt 0 (count_by (λ file. nat_lt 0 file.1) files) }

@@ -21,7 +21,7 @@ pub enum Layout {
     /// Each that is not empty at the beginning of a piece, with padding directly after each that ends inside one and
     /// has a later file with bytes.
     Aligned,
-    /// The same, and the last file with bytes has padding too where it ends inside a piece.
+    /// As `Aligned`, and the last file with bytes has padding too if it ends inside a piece.
     AlignedTail,
 }
 
@@ -137,7 +137,7 @@ fn aligned(
     Ok(entries)
 }
 
-/// Whether padding follows a file that lacks so many bytes, where so many later ones are not empty.
+/// Whether padding follows a file that lacks so many bytes, if so many later ones are not empty.
 fn is_padded(lack: u64, later: usize, tail: bool) -> bool
     ensures { result ≡ (nat_lt 0 lack && (tail || nat_lt 0 later)) }
 {

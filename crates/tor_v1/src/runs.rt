@@ -8,7 +8,7 @@ ghost use Rattle.tor_v1.specs.steps.Runs.{HasRuns};
 use sha1::DIGEST_LEN;
 use tor_hashes::piece_hashes;
 
-/// The most bytes of a piece that is hashed together with seven others, where they lie one after another.
+/// The most bytes of a piece that is hashed together with seven others, if they lie one after another.
 pub const MAX_PIECE_IN_RUN: u64 = 1 << 20;
 
 /// Whether pieces of so many bytes are taken in runs.

@@ -48,7 +48,7 @@ impl PieceSums {
         }
     }
 
-    /// Adds `part` at the end of the content. Memory can only be refused where it begins a piece.
+    /// Adds `part` at the end of the content. Memory can only be refused if it begins a piece.
     pub fn feed(&mut self, part: &[u8]) -> Result<(), AllocError>
         ensures ok { OnOk result (Feeds self.old self.new part.now) }
         ensures err { OnErr result (IsUnchanged self.old self.new) }
@@ -61,7 +61,7 @@ impl PieceSums {
         Ok(())
     }
 
-    /// Adds `count` zeros, at most 2^30, at the end of the content. Memory can only be refused where they begin
+    /// Adds `count` zeros, at most 2^30, at the end of the content. Memory can only be refused if they begin
     /// a piece.
     pub fn feed_zeros(&mut self, count: u64) -> Result<(), AllocError>
         requires { count ≤ max_piece_length }
@@ -81,7 +81,7 @@ impl PieceSums {
     }
 
     /// Makes room for the hashes of the pieces that so many more bytes begin, so that `add` can take them. Memory can
-    /// only be refused where there is no room yet.
+    /// only be refused if there is no room yet.
     pub fn reserve(&mut self, more: u64) -> Result<(), AllocError>
         requires { more < 2 ^ 63 }
         ensures same { IsUnchanged self.old self.new }
@@ -129,7 +129,7 @@ impl PieceSums {
         sums
     }
 
-    // The same, telling that all but room stays as it is.
+    // Makes room as `reserve` does, and tells that all but room stays as it is.
     fn make_room(&mut self, more: u64) -> Result<(), AllocError>
         requires { more < 2 ^ 63 }
         ensures same { IsSameButRoom self.old self.new }

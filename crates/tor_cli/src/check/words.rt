@@ -34,7 +34,7 @@ const ABOUT: &str = "Tells what a torrent describes, or why a file is none";
 
 const NULL: &str = "Prints the paths of the files alone, each ended by a zero byte";
 
-/// What is to be told, of the words; none where `clap` let through words that have none.
+/// What is to be told, of the words; none if `clap` let through words that have none.
 pub fn check_options<'a>(matches: &ArgMatches<'a>) -> Option<CheckOptions<'a>>
     ensures { IfSome result (λ options. IsCheckIn options (rows_of (found_of matches.now))) }
 {

@@ -16,7 +16,7 @@ use crate::foreign::read_file;
 use std::alloc::{AllocError, Global};
 use tor_tree::{Attr, FilePath};
 
-/// The files of these paths, which rise, with the letters that a file of the system has for them; none of them where no
+/// The files of these paths, which rise, with the letters that a file of the system has for them; none of them if no
 /// file is named.
 pub fn lettered_files(
     system: &HostRuntime,
@@ -38,7 +38,7 @@ pub fn lettered_files(
     lettered_by(alloc, &bytes, paths)
 }
 
-/// The same by the bytes of the file.
+/// The files of these paths, which rise, with the letters that the bytes of a file of letters have for them.
 fn lettered_by(
     alloc: Global,
     bytes: &[u8],
@@ -58,7 +58,7 @@ fn lettered_by(
     }
 }
 
-/// Each path with the letters that it has in a list. None where a path of the list is not among these.
+/// Each path with the letters that it has in a list. None if a path of the list is not among these.
 fn lettered(
     alloc: Global,
     paths: Vec<FilePath>,
@@ -75,7 +75,7 @@ fn lettered(
     Ok(Some(files))
 }
 
-/// The letters that each of these paths has in a list. None where a path of the list is not among them.
+/// The letters that each of these paths has in a list. None if a path of the list is not among them.
 fn attrs_of(
     alloc: Global,
     paths: &[FilePath],

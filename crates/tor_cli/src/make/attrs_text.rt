@@ -13,7 +13,7 @@ ghost use Rattle.tor_tree.specs.declared.attr.Attr.{Attr};
 use std::alloc::{AllocError, Global};
 use tor_tree::{Attr, FilePath, ListError, Name, NameError, PathList};
 
-/// The files of which this is the text: a line for each, with its letters, a space, and its path. None where it is the
+/// The files of which this is the text: a line for each, with its letters, a space, and its path. None if it is the
 /// text of no files: of other bytes, of a path that is none, or of one that has two lines.
 pub fn read_attrs(alloc: Global, text: &[u8]) -> Result<Option<Vec<(FilePath, Attr)>>, AllocError>
     ensures written { IfOk result (λ read. IfSome read (λ files.
@@ -159,7 +159,7 @@ fn read_path(alloc: Global, text: &[u8]) -> Result<Option<FilePath>, AllocError>
     Ok(FilePath::new(names))
 }
 
-/// Whether the bytes are a name. Where they are, it goes behind the others.
+/// Whether the bytes are a name. If they are, it goes behind the others.
 fn push_name(alloc: Global, names: &mut Vec<Name>, bytes: &[u8]) -> Result<bool, AllocError>
     ensures { IfOk result (λ is. MatchBool is
         ((name_fault bytes.now ≡ None) × (names.new.items ≡ names.old.items ++ bytes.now ∷ []))

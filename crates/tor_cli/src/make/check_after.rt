@@ -21,7 +21,7 @@ use tor_recheck::RecheckError;
 use tor_source::Source;
 
 /// Judges the torrent that the bytes are, and looks by so many workers for each piece of it at a place, as `recheck`
-/// does: a fault where not all are there and right.
+/// does: a fault if not all are there and right.
 pub fn check_after<T: Threads + Sync>(
     rt: &T,
     system: &HostRuntime,

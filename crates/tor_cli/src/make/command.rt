@@ -118,8 +118,8 @@ fn make_of_place<T: Threads + Wait + Sync, W: Write>(
     Ok(send(system, out, options.out, &torrent)?)
 }
 
-/// The torrent of the file or the folder at a place of the system, where it may go out: with `--check-after` only where
-/// the place has each piece of it afterwards.
+/// The torrent of the file or the folder at a place of the system, if it may go out: with `--check-after` only if the
+/// place has each piece of it afterwards.
 fn torrent_to_send<T: Threads + Wait + Sync>(
     rt: &T,
     system: &HostRuntime,

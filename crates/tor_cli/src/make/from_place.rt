@@ -33,7 +33,7 @@ pub struct Found {
     pub single: bool,
 }
 
-/// The same before their letters are known.
+/// The files at a place, before their letters are known: file i of the source has the i-th path.
 #[derive(Drop)]
 struct Placed {
     source: FolderSource<HostRuntime>,
@@ -42,7 +42,7 @@ struct Placed {
 }
 
 /// The file at a place, which gets the torrent's name, or the files below the folder there. A link at the place itself
-/// is followed. The letters are those that the file `attrs` has, where one is named.
+/// is followed. The letters are those that the file `attrs` has, if one is named.
 pub fn files_at(
     system: &HostRuntime,
     place: &str,
@@ -123,7 +123,7 @@ pub fn torrent_of<T: Threads + Wait + Sync>(
     }
 }
 
-/// The same by workers that read the files.
+/// The torrent of the files that were found, by workers that read the files.
 fn by_sharing<T: Threads + Sync>(
     rt: &T,
     alloc: Global,
@@ -150,7 +150,7 @@ fn by_sharing<T: Threads + Sync>(
     answer
 }
 
-/// The same by workers behind the calling thread, which reads file after file.
+/// The torrent of the files that were found, by workers behind the calling thread, which reads file after file.
 fn by_streams<T: Threads + Wait + Sync>(
     rt: &T,
     alloc: Global,
@@ -172,7 +172,7 @@ fn by_streams<T: Threads + Wait + Sync>(
     answer
 }
 
-/// A reader of each file, in their order; what is read of it is counted, where that is to be shown.
+/// A reader of each file, in their order; what is read of it is counted, if that is to be shown.
 fn counted_readers<'a>(
     alloc: Global,
     found: &Found,

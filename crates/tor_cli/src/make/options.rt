@@ -28,18 +28,18 @@ pub struct MakeOptions<'a> {
     pub way: Way,
     /// The pieces that a worker hashes as one unit of work.
     pub span: u32,
-    /// It goes out only where the files still have each piece of it afterwards.
+    /// It goes out only if the files still have each piece of it afterwards.
     pub check_after: bool,
-    /// The file that the torrent goes to; standard output where there is none.
+    /// The file that the torrent goes to; standard output if there is none.
     pub out: Option<&'a str>,
-    /// The file or folder that it is made of; standard input where there is none.
+    /// The file or folder that it is made of; standard input if there is none.
     pub place: Option<&'a str>,
-    /// The file that has the letters of its files; none has letters where there is none.
+    /// The file that has the letters of its files; none has letters if there is none.
     pub attrs: Option<&'a str>,
 }
 
-/// The options that stand in the words; none where `clap` let through words that give no option its value, as a number
-/// of workers that is none.
+/// The options that stand in the words; none if `clap` let through words that give no option its value, as a number of
+/// workers that is none.
 pub fn make_options<'a, T: Threads>(rt: &T, matches: &ArgMatches<'a>) -> Option<MakeOptions<'a>>
     ensures { IfSome result (AreOptionsIn (rows_of (found_of matches.now))) }
 {

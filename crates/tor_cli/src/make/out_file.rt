@@ -11,7 +11,7 @@ use std::rt::Files;
 use tor_meta::{WriteFault, write_out};
 use tor_source::FolderSource;
 
-/// Makes or empties the file `place`, and writes the bytes into it. Where it stops, what went into it stays there.
+/// Makes or empties the file `place`, and writes the bytes into it. If it stops, what went into it stays there.
 pub fn write_file<H: Files>(system: &H, place: &str, bytes: &[u8]) -> Result<(), WriteFault>
     ensures within { IfErr result (λ fault. fault.written ≤ length bytes.now) }
     ensures part { 0 < length bytes.now → IfErr result (λ fault. fault.written < length bytes.now) }
@@ -28,7 +28,7 @@ pub fn write_file<H: Files>(system: &H, place: &str, bytes: &[u8]) -> Result<(),
     write_out(&mut file, bytes)
 }
 
-/// Writes a torrent into the file `place`, or to `out` where there is none.
+/// Writes a torrent into the file `place`, or to `out` if there is none.
 pub fn send<H: Files, W: Write>(
     system: &H,
     out: &mut W,

@@ -9,7 +9,7 @@ pub struct Watch {
 }
 
 impl Watch {
-    /// From now on; none where the clock does not tell the time.
+    /// From now on; none if the clock does not tell the time.
     pub fn start(system: &HostRuntime) -> Option<Watch> {
         Some(Watch {
             system: *system,
@@ -17,7 +17,7 @@ impl Watch {
         })
     }
 
-    /// The milliseconds that have gone; none where the clock does not tell the time.
+    /// The milliseconds that have gone; none if the clock does not tell the time.
     pub fn milliseconds(&self) -> Option<u64> {
         let elapsed = self.start.elapsed(&self.system).ok()?;
         let seconds = elapsed.as_secs().saturating_mul(1000);

@@ -69,7 +69,7 @@ const LENGTH: &str = "Bytes in the file: from 1 to 1125899906842624";
 
 const PIECE_LENGTH: &str = "Bytes in a piece: a power of two from 16384 to 1073741824";
 
-/// The piece that stands in the words; none where `clap` let through words that have none.
+/// The piece that stands in the words; none if `clap` let through words that have none.
 pub fn prove_options<'a>(matches: &ArgMatches<'a>) -> Option<ProveOptions<'a>>
     ensures { IfSome result (λ options. IsPieceIn options (rows_of (found_of matches.now))) }
 {
@@ -80,7 +80,7 @@ pub fn prove_options<'a>(matches: &ArgMatches<'a>) -> Option<ProveOptions<'a>>
     })
 }
 
-/// What a proof is judged by, of the words; none where `clap` let through words that have none.
+/// What a proof is judged by, of the words; none if `clap` let through words that have none.
 pub fn verify_options<'a>(matches: &ArgMatches<'a>) -> Option<VerifyOptions<'a>>
     ensures { IfSome result (λ options. IsProofIn options (rows_of (found_of matches.now))) }
 {

@@ -14,7 +14,7 @@ use std::io::Write;
 use std::thread::Threads;
 use tor_meta::write_out;
 
-/// Writes which pieces are there and right, and which files, if any are listed; the answer is yes where all pieces are.
+/// Writes which pieces are there and right, and which files, if any are listed; the answer is yes if all pieces are.
 /// Nothing is looked for, nor written, before the torrent was judged.
 pub fn recheck<T: Threads + Sync, W: Write>(
     rt: &T,

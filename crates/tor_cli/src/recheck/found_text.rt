@@ -83,7 +83,7 @@ pub fn state_word(state: FileState) -> &'static str
     }
 }
 
-/// A length in bytes; a hyphen where there is none.
+/// A length in bytes; a hyphen if there is none.
 fn length_text(alloc: Global, length: Option<u64>) -> Result<String, AllocError>
     ensures { IfOk result (λ text. string_bytes text ≡ length_text length) }
 {

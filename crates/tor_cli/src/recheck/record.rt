@@ -60,7 +60,7 @@ fn bits_value(alloc: Global, bits: &Bits) -> Result<Value, AllocError>
     Value::try_from_str(alloc, digits.as_str())
 }
 
-/// The files that are listed; null where none is asked for.
+/// The files that are listed; null if none is asked for.
 fn files_value(
     alloc: Global,
     torrent: &Torrent,
@@ -129,7 +129,7 @@ fn found_value(alloc: Global, found: &FileFound, file: &TreeFile) -> Result<Valu
     })
 }
 
-/// A length in bytes; null where there is none.
+/// A length in bytes; null if there is none.
 fn length_value(length: Option<u64>) -> Value
     ensures { view result ≡ length_data length }
 {

@@ -111,7 +111,7 @@ fn lines_of(
     Ok(lines)
 }
 
-/// What is printed of the pieces: nothing where paths alone are asked for.
+/// What is printed of the pieces: nothing if paths alone are asked for.
 fn pieces_text(alloc: Global, listing: Listing, bits: &Bits) -> Result<String, AllocError>
     ensures { IfOk result (λ text. string_bytes text ≡ pieces_text listing bits.now) }
 {

@@ -67,8 +67,8 @@ const WORKERS: &str = "How many workers hash: from 1 to 64, or auto";
 
 const PATH: &str = "The file or folder that has the torrent's files";
 
-/// What is to be rechecked, of the words; none where `clap` let through words that have none, as a number of workers
-/// that is none.
+/// What is to be rechecked, of the words; none if `clap` let through words that have none, as a number of workers that
+/// is none.
 pub fn recheck_options<'a, T: Threads>(
     rt: &T,
     matches: &ArgMatches<'a>,

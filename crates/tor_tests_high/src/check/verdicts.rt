@@ -116,7 +116,7 @@ pub(crate) const FOLDER_HYBRID: &[u8] = b"d4:infod9:file treed1:ad0:d6:lengthi2e
 6:lengthi16382e4:pathl4:.pad5:16382eed6:lengthi1e4:pathl1:beee12:meta versioni2e4:name1:f12:piece lengthi16384e\
 6:pieces40:0123456789abcdef01230123456789abcdef0123e12:piece layersdee";
 
-// The same without the padding, and with b of two bytes.
+// The hybrid of these files without the padding; and one whose v1 side has b of two bytes.
 const UNALIGNED_HYBRID: &[u8] = b"d4:infod9:file treed1:ad0:d6:lengthi2e\
 11:pieces root32:0123456789abcdef0123456789abcdefee\
 1:bd0:d6:lengthi1e11:pieces root32:0123456789abcdef0123456789abcdefeee5:filesld6:lengthi2e4:pathl1:aee\

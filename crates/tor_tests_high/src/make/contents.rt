@@ -14,7 +14,7 @@ pub(crate) const ABC: &[u8] = b"d4:infod9:file treed1:ad0:d6:lengthi3e11:pieces 
 \xb0\x03\x61\xa3\x96\x17\x7a\x9c\xb4\x10\xff\x61\xf2\x00\x15\xad\
 eee12:meta versioni2e4:name1:a12:piece lengthi16384ee12:piece layersdee";
 
-/// The same with a tracker, and private.
+/// The torrent of the content `abc` under the name `a`, with a tracker, and private.
 const TRACKED: &[u8] =
     b"d8:announce9:http://t/4:infod9:file treed1:ad0:d6:lengthi3e11:pieces root32:\
 \xba\x78\x16\xbf\x8f\x01\xcf\xea\x41\x41\x40\xde\x5d\xae\x22\x23\
@@ -76,7 +76,7 @@ pub(crate) fn made_of(
     }
 }
 
-/// The same of files given as a text.
+/// The torrent of files given as a text, or why there is none.
 pub(crate) fn made(alloc: Global, shape: &Shape, given: &str) -> Result<Vec<u8>, AllocError> {
     let head = head(alloc, shape)?;
     made_of(alloc, files(alloc, given)?, &head)
@@ -316,7 +316,7 @@ impl Write for Twelve {
     }
 }
 
-/// Whether such a writer stops the writing after 12 bytes, by its fault where it faults.
+/// Whether such a writer stops the writing after 12 bytes, by its fault if it faults.
 fn stops_after_twelve(faults: bool) -> bool {
     let mut writer = Twelve { taken: 0, faults };
     let Err(stopped) = write_out(&mut writer, b"thirteen bytes") else {

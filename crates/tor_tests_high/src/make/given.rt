@@ -29,7 +29,7 @@ fn path(alloc: Global, text: &str) -> Result<FilePath, AllocError> {
     FilePath::new(names).ok_or(AllocError)
 }
 
-/// The path of a file, and its content where it is there.
+/// The path of a file, and its content if it is there.
 fn parts(given: &str) -> (&str, Option<&str>) {
     match given.split_once('=') {
         Some((path, content)) => (path, Some(content)),

@@ -159,7 +159,7 @@ fn row_of<R: AllocGlobal + Threads + Sync>(
     }
 }
 
-/// Those of all lots.
+/// Adds the hashes of all lots, written down and read back.
 fn rows_of<R: AllocGlobal + Threads + Sync>(
     rt: &R,
     source: &MemSource,
@@ -173,7 +173,7 @@ fn rows_of<R: AllocGlobal + Threads + Sync>(
     Some(())
 }
 
-/// The same of the list of files of a row, with so many pieces a unit, and into so many lots.
+/// Adds the hashes of all lots of the list of files of a row, with so many pieces a unit, and into so many lots.
 fn add_rows<R: AllocGlobal + Abort + Threads + Sync>(
     rt: &R,
     row: &Lettered,
@@ -311,10 +311,10 @@ fn tells_rows_that_are_cut_too_long_or_of_another_lot(rt: HostRuntime) {
     assert!(rt; holds(&rt, SEVERAL_FILES, Turn::Swapped) == Some((true, false)));
 }
 
-/// The same files, of which the first is a byte shorter.
+/// The files of `SEVERAL`, of which the first is a byte shorter.
 const SHORTER: &str = "a=#39999 b= c=#16385 d=abc";
 
-/// Whether a lot of the longer files is told as changed where they are shorter; else it is hashed.
+/// Whether a lot of the longer files is told as changed if they are shorter; else it is hashed.
 fn is_changed<R: AllocGlobal + Abort + Threads + Sync>(
     rt: &R,
     row: &Lettered,

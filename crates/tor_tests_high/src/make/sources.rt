@@ -38,7 +38,7 @@ pub(crate) fn order(alloc: Global, shape: &Shape) -> Result<Order, AllocError> {
     })
 }
 
-/// The same, and the paths of files.
+/// An order for one piece a unit, and the paths of files.
 pub(crate) fn asked(
     alloc: Global,
     shape: &Shape,
@@ -79,7 +79,7 @@ pub(crate) fn is_each_answer<S: Source, R: AllocGlobal + Threads + Sync>(
     true
 }
 
-/// Whether it is where a row is asked for, with so many pieces a unit.
+/// Whether the torrent of a row is made of a source each way to share the units, with so many pieces a unit.
 fn is_each_made<S: Source, R: AllocGlobal + Threads + Sync>(
     rt: &R,
     source: &S,
@@ -93,7 +93,7 @@ fn is_each_made<S: Source, R: AllocGlobal + Threads + Sync>(
     is_each_answer(rt, source, &paths, &mut order, row.2)
 }
 
-/// Whether a row holds where reads give all that they are asked for, with so many pieces a unit.
+/// Whether a row holds if reads give all that they are asked for, with so many pieces a unit.
 pub(crate) fn is_made_at_once<R: AllocGlobal + Threads + Sync>(
     rt: &R,
     row: &Row,
@@ -105,7 +105,7 @@ pub(crate) fn is_made_at_once<R: AllocGlobal + Threads + Sync>(
     }
 }
 
-/// Whether it holds where no read gives more than so many bytes.
+/// Whether it holds if no read gives more than so many bytes.
 pub(crate) fn is_made_in_steps<R: AllocGlobal + Threads + Sync>(
     rt: &R,
     row: &Row,
@@ -162,7 +162,7 @@ impl Source for Tells {
 }
 
 /// What is asked for, the files and what is answered; the span and the workers, who stand for each way to share the
-/// units where they are allowed; the length that is told of each file, and whether the source is asked.
+/// units if they are allowed; the length that is told of each file, and whether the source is asked.
 type Told = (Row, (u32, How), u64, bool);
 
 /// The folder `f`, in pieces of 16,384 bytes.
@@ -215,7 +215,7 @@ fn is_told<R: AllocGlobal + Threads + Sync>(rt: &R, told: &Told, how: How) -> bo
     is_answered && (source.asked.load(SeqCst) > 0) == is_asked
 }
 
-/// Whether a row holds, each way to share the units where that of the row is allowed.
+/// Whether a row holds, each way to share the units if that of the row is allowed.
 fn is_each_told<R: AllocGlobal + Threads + Sync>(rt: &R, told: &Told) -> bool {
     let (_, (_, how), _, _) = *told;
     if !how.is_allowed() {

@@ -14,7 +14,7 @@ use tor_engine::How;
 use tor_meta::{MakeError, Order, make_streams};
 use tor_tree::{FilePath, Kind};
 
-/// Bytes that are given so many a read, and then a fault where there is one; what it is asked is counted.
+/// Bytes that are given so many a read, and then a fault if there is one; what it is asked is counted.
 #[derive(Drop)]
 struct Parts<'a> {
     bytes: Vec<u8>,

@@ -27,7 +27,7 @@ d6:lengthi1e4:pathl1:beed4:attr1:p6:lengthi16383e4:pathl4:.pad5:16383eee\
 \x02\xa8\x0c\xb3\x04\x20\x10\x61\xb6\x61\x5a\x81\xfb\xa4\xe3\xaf\x3f\x89\x5b\x96\
 e12:piece layersdee";
 
-/// The same with an empty file `c`: the tail stands directly after `b`.
+/// The files of `FOLDER` and an empty file `c`: the tail stands directly after `b`.
 pub(crate) const EMPTY_AFTER: &[u8] = b"d4:infod9:file treed1:ad0:d6:lengthi2e11:pieces root32:\
 \xfb\x8e\x20\xfc\x2e\x4c\x3f\x24\x8c\x60\xc3\x9b\xd6\x52\xf3\xc1\
 \x34\x72\x98\xbb\x97\x7b\x8b\x4d\x59\x03\xb8\x50\x55\x62\x06\x03\

@@ -53,7 +53,7 @@ impl Source for Meeting {
 }
 
 /// The workers, how many of the four reads have to begin, how often the first looks for the others, and whether they
-/// come. Where the units are dealt out beforehand, one waits behind the first.
+/// come. If the units are dealt out beforehand, one waits behind the first.
 const MEETINGS: &[(How, u64, u64, bool)] = &[
     (How::One, 2, 1000, false),
     (How::Halves(1), 2, 1000, false),

@@ -4,7 +4,7 @@ use std::alloc::{AllocError, Global};
 use std::fmt::Write;
 use tor_recheck::Bits;
 
-/// The bits of these pieces: '1' where a piece is there and right.
+/// The bits of these pieces: '1' if a piece is there and right.
 fn bits_of(alloc: Global, pieces: &str) -> Result<Bits, AllocError> {
     let mut bits = Bits::with_capacity(alloc, pieces.len() as u64)?;
     add_pieces(&mut bits, pieces)?;

@@ -79,7 +79,7 @@ const OF_FOUR_UNITS: &[&[u8]] = &[
     b"ee",
 ];
 
-/// Whether the fault of the recheck has this text; `none` where it has bits.
+/// Whether the fault of the recheck has this text; `none` if it has bits.
 fn is_fault<T: AllocGlobal + Threads + Sync>(
     rt: &T,
     source: &Meeting,
@@ -151,8 +151,8 @@ const MEETINGS: &[Row] = &[
     (How::Board(64), 2, MANY, "none", true),
 ];
 
-/// The first read waits for those of the other three units. Where the units are dealt out beforehand, one waits behind
-/// the first.
+/// The first read waits for those of the other three units. If the units are dealt out beforehand, one waits behind the
+/// first.
 const SHARES: &[Row] = &[
     (How::Halves(2), 49, FEW, "C1 Read", true),
     (How::Board(1), 49, FEW, "C1 Read", true),

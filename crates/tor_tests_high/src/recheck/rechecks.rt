@@ -74,7 +74,7 @@ pub(crate) const OF_OTHER_ROOT: &[&[u8]] = &[
     HYBRID, OTHER_ROOT, THEN_B, ROOT_B, THEN_LIST, SUM_A, SUM_B, END,
 ];
 
-/// The same files in version 1: one piece runs across the end of the first.
+/// The files a = `ab` and b = `c` in version 1: one piece runs across the end of the first.
 pub(crate) const JOINED: &[&[u8]] = &[
     b"d4:infod5:filesld6:lengthi2e4:pathl1:aeed6:lengthi1e4:pathl1:beee4:name1:f\
 12:piece lengthi16384e6:pieces20:",
@@ -267,7 +267,7 @@ fn source_of_zeros(alloc: Global, length: usize) -> Result<MemSource, AllocError
     Ok(MemSource::new(vec![in alloc; Some(content)]?))
 }
 
-/// Whether this is answered of the pieces of LONG, where so many zeros are there.
+/// Whether this is answered of the pieces of LONG, if so many zeros are there.
 fn is_answered_of_zeros<R: AllocGlobal + Threads + Sync>(
     rt: &R,
     length: usize,
@@ -294,13 +294,13 @@ fn failing(alloc: Global, files: &[Option<&[u8]>], at: FaultAt) -> Result<FailSo
 type Fault = (&'static [Option<&'static [u8]>], FaultAt, &'static str);
 
 const FAULTS: &[Fault] = &[
-    // Byte 0 of the first file, where it is read.
+    // Byte 0 of the first file, which is read.
     (
         &[Some(b"ab"), Some(b"c")],
         (0, Some(0), 4),
         "Read { file: 0, start: Some(0), fault: 4 }",
     ),
-    // The same where it is not, since the file has another length.
+    // Byte 0 of the first file, which is not read, since the file has another length.
     (&[Some(b"a"), Some(b"c")], (0, Some(0), 4), "01 40"),
     // A length.
     (&[], (1, None, 7), "Read { file: 1, start: None, fault: 7 }"),
@@ -335,7 +335,7 @@ const OUTSIDE: &[How] = &[
     How::Board(65),
 ];
 
-/// Whether the workers are refused where the length of a file fails too.
+/// Whether the workers are refused if the length of a file fails too.
 fn are_workers_refused<R: AllocGlobal + Threads + Sync>(rt: &R, how: How) -> bool {
     match failing(rt.alloc(), &[], (0, None, 4)) {
         Ok(source) => is_answer_of_both(rt, &source, how, "Workers"),

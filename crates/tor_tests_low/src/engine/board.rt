@@ -22,7 +22,7 @@ use tor_tree::Kind;
 /// Of eight units of one block.
 const LENGTH: u64 = 8 * 16384;
 
-/// The first read waits until a read of each other unit has begun. Where the units are dealt out beforehand, some wait
+/// The first read waits until a read of each other unit has begun. If the units are dealt out beforehand, some wait
 /// behind the first.
 const ROWS: &[Row] = &[
     (How::One, 8, FEW, ALONE),

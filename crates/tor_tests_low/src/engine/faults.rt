@@ -71,7 +71,7 @@ pub(crate) fn failing(
     Ok(FailSource::new(files_of(alloc, lengths)?, faults))
 }
 
-/// The same of files of these contents.
+/// Files with these contents, and faults at them.
 pub(crate) fn failing_with(
     alloc: Global,
     contents: &[Option<&[u8]>],

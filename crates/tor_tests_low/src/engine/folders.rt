@@ -29,7 +29,7 @@ enum Case {
     File,
     /// Regular files, and what is none, read at offsets.
     Reads,
-    /// The same read once and in order.
+    /// Regular files, and what is none, read once and in order.
     Readers,
     /// Files that change after they were opened.
     Opened,

@@ -12,7 +12,7 @@ use tor_source::{FailSource, Source};
 use tor_tree::Kind;
 
 /// A file of zeros, which counts the reads that go past the end of a part, that ask for nothing, or for fewer bytes
-/// than 64 KiB where as many are left of the part; and keeps how many bytes the largest asks for.
+/// than 64 KiB if as many are left of the part; and keeps how many bytes the largest asks for.
 #[derive(Drop)]
 struct Watched {
     length: u64,
@@ -54,7 +54,7 @@ impl Source for Watched {
     }
 }
 
-/// No read asks for fewer bytes where as many are left.
+/// No read asks for fewer bytes if as many are left.
 const LEAST_READ: u64 = 1 << 16;
 
 /// The length of the file and of a piece, the span, the kind, and how many bytes the largest read asks for.
@@ -185,7 +185,7 @@ fn is_each_fault_again<R: AllocGlobal + Abort + Threads + Sync>(rt: &R, plan: &P
     true
 }
 
-/// Whether it is hashed where its length was told before, and what has changed since then is told.
+/// Whether it is hashed if its length was told before, and what has changed since then is told.
 fn is_asked_again<R: AllocGlobal + Abort + Threads + Sync>(rt: &R) -> bool {
     match plan_of(rt, &[40000], Kind::V2, 16384, 1) {
         Ok(plan) => is_hashed(rt, &plan) && is_each_fault_again(rt, &plan),

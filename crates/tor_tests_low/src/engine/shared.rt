@@ -132,7 +132,7 @@ pub(crate) fn is_told<F: Debug>(alloc: Global, fault: &EngineError<F>, wanted: &
     is(format!(in alloc; "{fault:?}"), wanted)
 }
 
-/// Whether the fault of the files has this text; `none` where they have sums.
+/// Whether the fault of the files has this text; `none` if they have sums.
 pub(crate) fn is_fault<S: Source, R: AllocGlobal + Abort + Threads + Sync>(
     rt: &R,
     source: &S,
@@ -161,7 +161,7 @@ pub(crate) fn is_each_fault<S: Source, R: AllocGlobal + Abort + Threads + Sync>(
     true
 }
 
-/// Whether a count comes to so many, where it is looked at so often.
+/// Whether a count comes to so many, if it is looked at so often.
 pub(crate) fn comes_to(count: &AtomicU64, many: u64, turns: u64) -> bool {
     for _ in 0..turns {
         if count.load(SeqCst) >= many {

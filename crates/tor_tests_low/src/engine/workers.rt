@@ -146,7 +146,7 @@ pub(crate) fn reads_that_meet(length: u64, end: u64, many: u64, turns: u64) -> M
     }
 }
 
-/// Whether the fault of its pieces has this text; `none` where they have hashes.
+/// Whether the fault of its pieces has this text; `none` if they have hashes.
 pub(crate) fn is_fault_of_pieces<R: AllocGlobal + Abort + Threads + Sync>(
     rt: &R,
     source: &Meeting,
@@ -178,7 +178,7 @@ pub(crate) struct Gathering {
     pub(crate) rows: &'static [Row],
 }
 
-/// Whether reads below the offset meet so, and each byte is read once where they do.
+/// Whether reads below the offset meet so, and each byte is read once if they do.
 fn is_met<R: AllocGlobal + Abort + Threads + Sync>(
     rt: &R,
     plan: &Plan,
@@ -202,7 +202,7 @@ fn are_met<R: AllocGlobal + Abort + Threads + Sync>(rt: &R, plan: &Plan, of: &Ga
     true
 }
 
-/// Whether they do in each row, where the file has units of one block.
+/// Whether they do in each row, if the file has units of one block.
 pub(crate) fn meet<R: AllocGlobal + Abort + Threads + Sync>(rt: &R, of: &Gathering) -> bool {
     match plan_of(rt, &[of.length], Kind::V2, 16384, 1) {
         Ok(plan) => plan.units().len() as u64 == of.length / 16384 && are_met(rt, &plan, of),

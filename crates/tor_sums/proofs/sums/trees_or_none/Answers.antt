@@ -1,4 +1,4 @@
--- the same for each file, where there are none
+-- if there are no trees, each file has no root and no hash of a layer
 use Rattle.std.proofs.Common.{◌≡◌, ℕ, false, cond, List, [], ◌∷◌, None, map, length, replicate, Result, Ok, Err, IfOk}
 use Rattle.std.proofs.Common.{refl, ap, sym, subst, ◌∙◌}
 use Rattle.tor_merkle.specs.Layer.{piece_layer, root_of}

@@ -11,7 +11,7 @@ use std::thread::{Threads, yield_now};
 use tor_engine::{EngineError, Gate, Sums, hash_streams_with};
 use tor_tree::Kind;
 
-/// Holds whoever enters until two have entered, and counts where no other one came.
+/// Holds whoever enters until two have entered, and counts if no other one came.
 #[derive(Drop)]
 struct Meeting {
     /// How often one that entered looks for the other.

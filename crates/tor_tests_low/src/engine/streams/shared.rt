@@ -10,7 +10,7 @@ use std::thread::Threads;
 use tor_engine::{EngineError, Sums, hash_streams};
 use tor_tree::Kind;
 
-/// Bytes that are given so many a read, and a fault after the last where there is one.
+/// Bytes that are given so many a read, and a fault after the last if there is one.
 #[derive(Drop)]
 pub(crate) struct Parts {
     bytes: Vec<u8>,

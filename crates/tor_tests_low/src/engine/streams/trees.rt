@@ -104,7 +104,7 @@ fn has_two_pieces(sums: &Sums, bytes: &[u8]) -> bool {
         && is_layer(sums.layers.get(0), &[first, last])
 }
 
-/// Whether pieces of two blocks have their own level where the last has one block.
+/// Whether pieces of two blocks have their own level if the last has one block.
 fn has_whole_pieces<R: AllocGlobal + Abort + Threads + Wait + Sync>(
     rt: &R,
     bytes: &[u8],
