@@ -1,17 +1,16 @@
 //! The tests of `tor_bencode`, `tor_hashes`, `tor_merkle`, `tor_tree`, `tor_v1`, `tor_plan`, `tor_board`, `tor_lane`,
-//! `tor_source` and `tor_engine`, in a crate of their own: a crate with tests is proved twice, and these libraries are
-//! large.
+//! `tor_source`, `tor_streams` and `tor_engine`, in a crate of their own: a crate with tests is proved twice, and these
+//! libraries are large. Each module but `shared` is named after the crate that it tests.
 //!
 //! - `bencode.rt`: trees spelled and read back, and what is refused.
 //! - `hashes.rt`: SHA-256 and SHA-1 of eight messages.
-//! - `merkle.rt`: roots, layers and stacks; `layers.rt`: roots over hashes in a slice; `feeds.rt`: contents that are
-//!   fed in parts; `piece_proofs.rt`: proofs of single pieces.
-//! - `names.rt`: names and paths; `lists.rt`: lists of files and of paths; `trees.rt`: the `file tree`; `letters.rt`:
-//!   the letters of files in all of these.
-//! - `layouts.rt`: version 1's list of files; `sums.rt`: the SHA-1 of its pieces.
-//! - `plans.rt`: units of work for lists of files; `entries.rt`: for entries; `pieces.rt`: their pieces.
-//! - `seats`: boards and the seats of their workers; `lane`: chunks that one feeder puts and several takers take.
-//! - `engine`: where bytes come from, and files of a source hashed by workers.
+//! - `merkle`: roots, layers and stacks, contents that are fed in parts, proofs of single pieces.
+//! - `tree`: names and paths, lists of files and of paths, the `file tree`, letters.
+//! - `v1`: version 1's list of files, and the SHA-1 of its pieces.
+//! - `plan`: units of work for lists of files and for entries, and their pieces.
+//! - `board`: boards and the seats of their workers; `lane`: chunks that one feeder puts and several takers take.
+//! - `source`: where bytes come from; `streams`: what readers sum up to that are read once and in order.
+//! - `engine`: files of a source hashed by workers.
 //!
 //! `shared.rt` has contents, lists of files and hexadecimal digits.
 #![tactic(auto)]
@@ -19,38 +18,24 @@
 #[cfg(test)]
 mod bencode;
 #[cfg(test)]
+mod board;
+#[cfg(test)]
 mod engine;
-#[cfg(test)]
-mod entries;
-#[cfg(test)]
-mod feeds;
 #[cfg(test)]
 mod hashes;
 #[cfg(test)]
 mod lane;
 #[cfg(test)]
-mod layers;
-#[cfg(test)]
-mod layouts;
-#[cfg(test)]
-mod letters;
-#[cfg(test)]
-mod lists;
-#[cfg(test)]
 mod merkle;
 #[cfg(test)]
-mod names;
-#[cfg(test)]
-mod piece_proofs;
-#[cfg(test)]
-mod pieces;
-#[cfg(test)]
-mod plans;
-#[cfg(test)]
-mod seats;
+mod plan;
 #[cfg(test)]
 mod shared;
 #[cfg(test)]
-mod sums;
+mod source;
 #[cfg(test)]
-mod trees;
+mod streams;
+#[cfg(test)]
+mod tree;
+#[cfg(test)]
+mod v1;

@@ -1,6 +1,6 @@
 //! The units of each lot, reckoned by hand from the byte at which each lot begins.
 
-use crate::make::given::files;
+use crate::meta::given::files;
 use std::alloc::{AllocError, Global};
 use std::process::Abort;
 use tor_parts::deal;

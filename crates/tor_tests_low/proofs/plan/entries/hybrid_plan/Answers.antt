@@ -1,0 +1,24 @@
+-- the entries can be cut
+use Rattle.std.proofs.Common.{◌∙◌, arith, refl, subst, sym}
+use Rattle.tor_tree.specs.declared.kinds.Kind.TheVariants.{Hybrid}
+use Rattle.tor_plan.specs.EntryList.{IsEntryList}
+use Rattle.tor_tests_low.proofs.ListRows.{file_is, five, hybrid_row}
+use Rattle.tor_tests_low.proofs.plan.entries.hybrid_plan.Goals as goal
+use lib.Count.{ones}
+
+pub of_entries-requires-clause-pieces : goal.of_entries-requires-clause-pieces
+unfolding ones
+of_entries-requires-clause-pieces c = (refl, omega arith, omega arith)
+
+pub of_entries-requires-clause-span : goal.of_entries-requires-clause-span
+unfolding ones
+of_entries-requires-clause-span c = (refl, omega arith, omega arith)
+
+pub of_entries-requires-clause-entries : goal.of_entries-requires-clause-entries
+of_entries-requires-clause-entries c =
+    subst (IsEntryList Hybrid 16384)
+    (sym (c.deref.ensures.value ∙ c.in_ok-entries.ensures.items
+    ∙ five _ _ _ _ _ _ _ _ _ _ (file_is _ 40000 c.in_ok-file_entry.ensures)
+    (file_is _ 0 c.in_ok-file_entry-2.ensures) c.in_ok-pad_entry.ensures (file_is _ 5 c.in_ok-file_entry-3.ensures)
+    c.in_ok-pad_entry-2.ensures))
+    (hybrid_row _ _ _)

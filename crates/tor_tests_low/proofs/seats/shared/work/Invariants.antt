@@ -1,8 +1,0 @@
--- the seat stays the board's
-use Rattle.tor_board.specs.Seats.{IsSeatOf}
-use Rattle.tor_tests_low.proofs.seats.shared.work.Given as goal
-
-abbrev pub invariant-units : goal.invariant-units
-invariant-units g l = record {
-  mine : IsSeatOf l.board l.seat;
-}

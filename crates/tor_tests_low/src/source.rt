@@ -1,0 +1,10 @@
+//! The tests of `tor_source`.
+//!
+//! - `memory.rt`: what sources in memory answer.
+//! - `folders.rt`: reads of real folders; `systems.rt`: of a system that has what no test can make.
+//! - `readers.rt`: files that are read once and in order.
+
+mod folders;
+mod memory;
+mod readers;
+mod systems;
