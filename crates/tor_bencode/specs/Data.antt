@@ -1,6 +1,7 @@
 -- A bencode tree (BEP 3, "bencoding") as contracts see it, apart from where its parts lie in memory.
 use Rattle.std.specs.Prelude.{ℕ, ℤ, List, [], ◌∷◌}
 
+-- a bencode tree apart from memory. Contracts see it so, wherever its parts lie (BEP 3, "bencoding")
 mutual
   pub data Data : Type 0 where
     integer : ℤ → Data

@@ -138,7 +138,7 @@ pub record IsTrailing (bytes : List ℕ) (fault : Fault) (from : List ℕ) : Typ
   pub whole : bytes ≡ spelling tree ++ from
   pub more : 0 < length from
 
--- the bytes have this fault at this offset
+-- the bytes have this fault, the first in reading order, at this offset (BEP 3, "bencoding"; profile)
 abbrev pub IsFaultAt : List ℕ → Fault → ℕ → Type 0
 IsFaultAt bytes fault offset = (from : List ℕ) × (offset + length from ≡ length bytes)
     × (IsFaultIn MAX_NESTING bytes fault from ⊎ IsTrailing bytes fault from)

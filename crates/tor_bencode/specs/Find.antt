@@ -8,7 +8,7 @@ abbrev pub value_in : List ℕ → Pairs → Option Data
 value_in key no_pairs = None
 value_in key (pair k value pairs) = if bytes_eq k key then Some value else value_in key pairs
 
--- the same of a tree; what is no dictionary has no keys
+-- the value of the first pair with this key. What is no dictionary has no keys (profile)
 abbrev pub value_of : List ℕ → Data → Option Data
 value_of key (integer n) = None
 value_of key (string bytes) = None

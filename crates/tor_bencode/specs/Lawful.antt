@@ -81,5 +81,7 @@ pub record PairsAreLawfulWithin (room : ℕ) (pairs : Pairs) : Type 0 where
   pub integers : PairsHaveSmallIntegers pairs
   pub nesting : pairs_depth pairs ≤ room
 
+-- keys strictly rise as raw bytes, integers have 64 bits, at most 100 lists and dictionaries are open at once (BEP 3,
+-- "bencoding"; profile)
 abbrev pub IsLawful : Data → Type 0
 IsLawful = IsLawfulWithin MAX_NESTING

@@ -13,7 +13,8 @@ span_in at key (pair k value pairs) =
     let end = start + length (spelling value) in
     if bytes_eq k key then Some (start, end) else span_in end key pairs
 
--- the same of a tree whose spelling begins at 0; the pairs come after a `d`
+-- where the value of this key is spelled. It is start and end in the spelling of the tree, which begins at 0; the pairs
+-- come after a `d` (profile)
 abbrev pub span_of : List ℕ → Data → Option (ℕ × ℕ)
 span_of key (integer n) = None
 span_of key (string bytes) = None

@@ -19,6 +19,7 @@ signed_base_ten (negsuc n) = codes "-" ++ base_ten (suc n)
 abbrev pub string_spelling : List ℕ → List ℕ
 string_spelling bytes = base_ten (length bytes) ++ codes ":" ++ bytes
 
+-- the one spelling of a tree: shortest base ten, keys in the dictionary's order (BEP 3, "bencoding")
 abbrev mutual
   pub spelling : Data → List ℕ
   spelling (integer n) = codes "i" ++ signed_base_ten n ++ codes "e"

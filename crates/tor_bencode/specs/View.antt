@@ -21,6 +21,7 @@ view_step (Item-F.Bytes bytes) = string bytes.items
 view_step (Item-F.List items) = list (items_of items.items)
 view_step (Item-F.Dict pairs) = dictionary (pairs_of pairs.items)
 
+-- the tree of an `Item` (BEP 3, "bencoding")
 abbrev pub view : Item → Data
 view = fold-Item Data view_step
 

@@ -9,10 +9,10 @@ use Rattle.tor_merkle.specs.declared.TheConstants.{BLOCK_LENGTH}
 abbrev pub run_at : {X : Type 0} → ℕ → List X → ℕ → List X
 run_at size xs i = take size (drop (i * size) xs)
 
--- a content cut every 16,384 bytes, the last block perhaps shorter (BEP 52, "pieces root")
+-- a content cut every 16,384 bytes. The last block may be shorter (BEP 52, "pieces root")
 unfoldable pub blocks : List ℕ → List (List ℕ)
 blocks content = map (run_at BLOCK_LENGTH content) (range_with_len 0 (div_ceil (length content) BLOCK_LENGTH))
 
--- the SHA-256 of each block (FIPS 180-4)
+-- the SHA-256 of each block (BEP 52, "pieces root"; FIPS 180-4, 6.2)
 unfoldable pub leaves : List ℕ → List (List ℕ)
 leaves content = map sha256 (blocks content)

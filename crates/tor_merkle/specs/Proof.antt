@@ -10,7 +10,8 @@ use Rattle.tor_merkle.specs.Stack.{padded_subtree}
 use Rattle.tor_merkle.specs.Subtree.{node_of, zero_subtree, zero_leaf, height}
 use Rattle.tor_merkle.specs.declared.TheConstants.{BLOCK_LENGTH}
 
--- the root that a hash at an index and its siblings, lowest first, name; at an even index the hash is the left one
+-- the root that a hash at an index and its siblings, lowest first, name. At an even index the hash is the left one (BEP
+-- 52, "piece layers")
 unfoldable pub proof_root : List ℕ → ℕ → List (List ℕ) → List ℕ
 proof_root hash index [] = hash
 proof_root hash index (sibling ∷ siblings) =
@@ -32,8 +33,9 @@ is_zero_past_end bottom count index siblings level =
     not (is_past_end count index level)
     || bytes_eq (slice_index_or siblings level zero_leaf) (zero_subtree (bottom + level))
 
--- the index is below the count, there are as many siblings as the tree over so many hashes has levels, those past the
--- end are zero subtrees, and hash and siblings name the root
+-- hash, index and siblings are a proof for a root over so many hashes. The index is below the count, there are as many
+-- siblings as the tree over so many hashes has levels, those past the end are zero subtrees, and hash and siblings name
+-- the root (BEP 52, "piece layers"; profile)
 abbrev pub is_proof : List ℕ → ℕ → ℕ → ℕ → List ℕ → List (List ℕ) → Bool
 is_proof root count bottom index hash siblings =
     nat_lt index count
@@ -41,17 +43,18 @@ is_proof root count bottom index hash siblings =
     && list_all (is_zero_past_end bottom count index siblings) (range_with_len 0 (length siblings))
     && bytes_eq (proof_root hash index siblings) root
 
--- the siblings of the hash at an index, lowest first: at each level the root of the run beside it
+-- the siblings of the hash at an index, lowest first. At each level it is the root of the run beside it (BEP 52, "piece
+-- layers"; profile)
 unfoldable pub siblings_of : ℕ → List (List ℕ) → ℕ → List (List ℕ)
 siblings_of bottom hashes index =
     map (λ level. padded_subtree level bottom (run_at (2 ^ level) hashes (sibling_index index level)))
     (range_with_len 0 (height (length hashes)))
 
--- how many hashes the proofs of a file are over: one for each piece, or the root alone
+-- how many hashes the proofs of a file are over. It is one for each piece, or the root alone (profile)
 abbrev pub proof_count : ℕ → ℕ → ℕ
 proof_count size piece_length = if nat_lt piece_length size then div_ceil size piece_length else 1
 
--- the level of these hashes
+-- the level of these hashes (profile)
 abbrev pub proof_level : ℕ → ℕ → ℕ
 proof_level size piece_length =
     if nat_lt piece_length size then piece_level piece_length else height (div_ceil size BLOCK_LENGTH)

@@ -11,6 +11,6 @@ pub record Subtrees : Type 0 where
 abbrev pub padded_subtree : ℕ → ℕ → List (List ℕ) → List ℕ
 padded_subtree k level hashes = subtree_root k (padded k (zero_subtree level) hashes)
 
--- their root, where zero subtrees follow up to the next power of two
+-- the root of hashes of one level, followed by zero subtrees up to a power of two (BEP 52, "pieces root")
 unfoldable pub padded_root : ℕ → List (List ℕ) → List ℕ
 padded_root level hashes = padded_subtree (height (length hashes)) level hashes

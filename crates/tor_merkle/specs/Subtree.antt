@@ -11,13 +11,13 @@ node_of left right = sha256 (left ++ right)
 unfoldable pub zero_leaf : List ℕ
 zero_leaf = replicate 32 0
 
--- the root of 2 ^ k leaves past the end
+-- the root of 2^k leaves past the end (BEP 52, "pieces root")
 unfoldable pub zero_subtree : ℕ → List ℕ
 zero_subtree zero = zero_leaf
 zero_subtree (suc k) = node_of (zero_subtree k) (zero_subtree k)
 
--- the root of 2 ^ k hashes: the only one, or that of the roots of the two halves; 32 zero bytes stand for each that is
--- missing
+-- the root of 2^k hashes by halving. It is the only one, or that of the roots of the two halves; 32 zero bytes stand
+-- for each that is missing (BEP 52, "pieces root")
 unfoldable pub subtree_root : ℕ → List (List ℕ) → List ℕ
 subtree_root zero hashes = slice_index_or hashes 0 zero_leaf
 subtree_root (suc k) hashes = node_of (subtree_root k (take (2 ^ k) hashes)) (subtree_root k (drop (2 ^ k) hashes))

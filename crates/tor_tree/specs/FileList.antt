@@ -49,7 +49,8 @@ paths_fault paths =
 abbrev pub lengths_fault : List ℕ → Option ListError
 lengths_fault lengths = if lengths_too_large lengths then Some TooLarge else None
 
--- why files are no list for a torrent: the fault of their paths, if there is one, else that of their lengths
+-- why files are no list for a torrent, the first of four causes. It is the fault of their paths, if there is one, else
+-- that of their lengths (profile)
 abbrev pub list_fault : List (List (List ℕ) × ℕ) → Option ListError
 list_fault files = option_or (paths_fault (paths_of files)) (lengths_fault (lengths_of files))
 

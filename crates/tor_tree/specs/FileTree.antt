@@ -38,7 +38,7 @@ file_of (path, properties) = record {
   hidden = has_letter letter_h properties;
 }
 
--- the files that a tree describes, in the order of its keys; a folder without files gives none
+-- the files that a tree describes, in the order of its keys. A folder without files gives none (BEP 52, "file tree")
 abbrev pub files_of_tree : Data → List TreeFile
 files_of_tree tree = map file_of (entries_of tree)
 
@@ -103,7 +103,7 @@ takes_memory (string bytes) = false
 takes_memory (list items) = false
 takes_memory (dictionary pairs) = takes_memory_in pairs
 
--- why a tree describes no files: the first of seven causes that holds, or none
+-- why a tree describes no files, the first of seven causes. There may be none (BEP 52, "file tree")
 abbrev pub tree_fault : Data → Option TreeFault
 tree_fault tree =
     if not (is_folder tree) then Some faults.Shape else (

@@ -13,7 +13,7 @@ has_byte b name = list_any (λ x. x == b) name
 abbrev pub slash : ℕ
 slash = 47
 
--- why a byte string is no name: the first of six causes that holds, or none
+-- why a byte string is no name, the first of six causes. There may be none (BEP 52, "file tree"; profile)
 abbrev pub name_fault : List ℕ → Option NameError
 name_fault name =
     if length name == 0 then Some Empty else (

@@ -9,7 +9,7 @@ use Rattle.tor_tree.specs.Name.{name_fault}
 abbrev pub name_cmp : List ℕ → List ℕ → Ordering
 name_cmp = slice_cmp nat_cmp
 
--- paths name by name, a beginning first
+-- paths compared name by name, names by their bytes, a beginning first (BEP 52, "file tree")
 abbrev pub path_cmp : List (List ℕ) → List (List ℕ) → Ordering
 path_cmp = slice_cmp name_cmp
 

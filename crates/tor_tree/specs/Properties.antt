@@ -71,7 +71,8 @@ abbrev pub with_string : List ℕ → Option (List ℕ) → Pairs → Pairs
 with_string key None pairs = pairs
 with_string key (Some bytes) pairs = pair key (string bytes) pairs
 
--- the properties that say no more than a length, the letters if any is set, and a pieces root if there is one
+-- a file's properties: `attr` if a letter is set, `length`, `pieces root` if there is one. They say no more (BEP 52,
+-- "file tree"; BEP 47, "attr")
 abbrev pub properties_for : Attr → ℕ → Option (List ℕ) → Data
 properties_for attr n root =
     dictionary (with_string (codes "attr") (letters attr)

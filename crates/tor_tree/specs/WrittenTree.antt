@@ -39,6 +39,7 @@ abbrev pub with_properties : List (List (List ℕ) × ℕ) → List Attr → Lis
 with_properties files attrs roots =
     map (λ f. (f.0.0, properties_for f.1.0 f.0.1 f.1.1)) (zip files (zip attrs roots))
 
--- the file tree of files with their lengths, in the order of their paths, and of their letters and pieces roots
+-- the file tree of files, their letters and their roots. The files have lengths, and are in the order of their paths
+-- (BEP 52, "file tree"; BEP 47, "attr")
 abbrev pub file_tree : List (List (List ℕ) × ℕ) → List Attr → List (Option (List ℕ)) → Data
 file_tree files attrs roots = dictionary (pairs_of_files (with_properties files attrs roots))

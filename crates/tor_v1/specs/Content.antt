@@ -19,6 +19,7 @@ joined_content (entry ∷ entries) contents =
     if entry.pad then zeros entry.length ++ joined_content entries contents
     else slice_index_or contents 0 [] ++ joined_content entries (drop 1 contents)
 
--- `pieces`: the joined SHA-1 of each piece of that content
+-- the joined SHA-1 of each piece of the entries' contents, zeros for padding. It is `pieces` (BEP 3, "info dictionary";
+-- BEP 47, "padding files")
 unfoldable pub v1_pieces : ℕ → List Entry → List (List ℕ) → List ℕ
 v1_pieces piece_length entries contents = piece_sums piece_length (joined_content entries contents)

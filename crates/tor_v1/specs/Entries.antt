@@ -45,13 +45,15 @@ aligned_entries tail piece_length [] = []
 aligned_entries tail piece_length (file ∷ later) =
     file_entry file ∷ padding_after tail piece_length file.1 later ++ aligned_entries tail piece_length later
 
--- the entries of a list of files, in its order
+-- the entries of files: joined, or with padding directly after each that ends inside a piece and has a later one with
+-- bytes; with a tail, after the last with bytes too. They are in the list's order (BEP 3, "info dictionary"; BEP 47,
+-- "padding files")
 abbrev pub v1_entries : Layout → ℕ → List (List (List ℕ) × ℕ) → List Entry
 v1_entries Joined piece_length files = map file_entry files
 v1_entries Aligned piece_length files = aligned_entries false piece_length files
 v1_entries AlignedTail piece_length files = aligned_entries true piece_length files
 
--- the entry with these letters (BEP 47, "attr")
+-- the entry with these letters, which are those of "attr" of BEP 47
 abbrev pub with_attr : Attr → Entry → Entry
 with_attr attr entry = record {
   path = entry.path;
@@ -61,7 +63,8 @@ with_attr attr entry = record {
   hidden = attr.hidden;
 }
 
--- the letters of files, in the order of the entries: the first that is no padding has the first, and padding none
+-- entries with the letters of their files; padding has none. The first that is no padding has the first letters (BEP
+-- 47, "attr")
 unfoldable pub with_letters : List Attr → List Entry → List Entry
 with_letters attrs [] = []
 with_letters attrs (entry ∷ entries) =

@@ -9,14 +9,15 @@ use Rattle.tor_v1.specs.declared.sums.PieceSums.{PieceSums}
 abbrev pub in_pieces : ℕ → ℕ → ℕ
 in_pieces piece_length n = n / piece_length * piece_length
 
--- the sums were fed these bytes: they have the SHA-1 of each whole piece, and the hasher holds the bytes after them
+-- the sums were fed these bytes. They have the SHA-1 of each whole piece, and the hasher holds the bytes after them
+-- (profile)
 pub record HasFed (sums : PieceSums) (piece_length : ℕ) (bytes : List ℕ) : Type 0 where
   pub cut_every : sums.piece_length ≡ piece_length
   pub begun : sums.begun ≡ length bytes % piece_length
   pub whole : sums.sums.items ≡ piece_sums piece_length (take (in_pieces piece_length (length bytes)) bytes)
   pub rest : Holds sums.hasher (drop (in_pieces piece_length (length bytes)) bytes)
 
--- whatever the old sums were fed, the new ones were fed that and then the part
+-- the part was fed after whatever the old sums were fed (profile)
 abbrev pub Feeds : PieceSums → PieceSums → List ℕ → Type 0
 Feeds old new part =
     (piece_length : ℕ) (bytes : List ℕ) → HasFed old piece_length bytes → HasFed new piece_length (bytes ++ part)

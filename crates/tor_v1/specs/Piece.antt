@@ -22,6 +22,6 @@ unfoldable pub pieces_of : ℕ → List ℕ → List (List ℕ)
 pieces_of piece_length content =
     map (slice_chunk content piece_length) (range_with_len 0 (div_ceil (length content) piece_length))
 
--- the joined SHA-1 of each piece
+-- the joined SHA-1 of each piece of a content, the last as long as it is (BEP 3, "info dictionary")
 unfoldable pub piece_sums : ℕ → List ℕ → List ℕ
 piece_sums piece_length content = flat_map sha1 (pieces_of piece_length content)

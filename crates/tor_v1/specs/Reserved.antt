@@ -5,7 +5,7 @@ use Rattle.std.specs.Str.{bytes_eq}
 use Rattle.tor_v1.specs.declared.layout.Layout.{Layout}
 use Rattle.tor_v1.specs.declared.layout.Layout.TheVariants.{Joined, Aligned, AlignedTail}
 
--- the first name is .pad
+-- the path begins with `.pad`, which only padding may have (BEP 47, "padding files"; profile)
 abbrev pub is_reserved : List (List ℕ) → Bool
 is_reserved [] = false
 is_reserved (first ∷ names) = bytes_eq first (codes ".pad")
