@@ -9,7 +9,7 @@ use Rattle.tor_board.specs.Weights.{total, only, times, without}
 abbrev pub Has : List ℕ → ℕ → Type 0
 Has xs u = 0 < times u xs
 
--- a unit, its hash, and at how many nodes that give arrived second
+-- a unit, its hash, and at how many nodes that give arrived second (profile)
 pub record GivenUnit : Type 0 where
   pub unit : ℕ
   pub hash : List ℕ
@@ -43,7 +43,9 @@ pub record Way : Type 0 where
   pub level : ℕ
   pub index : ℕ
 
--- `looked`: its last event was a look that found none failed; `tops`: of which trees it told the roots
+-- what a seat shows: its room, the units it holds, gave and failed, its arrivals, the roots it told. It also shows
+-- whether it is done, and its climb. `looked`: its last event was a look that found none failed; `tops`: of which trees
+-- it told the roots (profile)
 pub record Desk : Type 0 where
   pub room : ℕ
   pub held : List ℕ
@@ -55,7 +57,7 @@ pub record Desk : Type 0 where
   pub climb : Option Way
   pub tops : List (ℕ × List ℕ)
 
--- the first seat, and what is left of one that was joined to another
+-- what the first seat shows (profile)
 abbrev pub first : Desk
 first = record {
   room = 256;
@@ -69,6 +71,7 @@ first = record {
   tops = [];
 }
 
+-- what is left of a seat that was joined to another
 abbrev pub spent : Desk
 spent = record first { room = 0 }
 
@@ -76,9 +79,11 @@ spent = record first { room = 0 }
 abbrev pub looking : Desk → Desk
 looking d = record d { looked = true }
 
+-- a seat after a claim without a unit, or a look that saw one failed (profile)
 abbrev pub finished : Desk → Desk
 finished d = record d { done = true; looked = false }
 
+-- a seat after a claim that got this unit (profile)
 abbrev pub holding : Desk → ℕ → Desk
 holding d u = record d { held = u ∷ d.held; looked = false }
 
@@ -102,16 +107,19 @@ joining d way = record d { given = joined_more d.given; arrivals = d.arrivals + 
 abbrev pub topped : Desk → ℕ → List ℕ → Desk
 topped d tree root = record d { climb = None; tops = (tree, root) ∷ d.tops }
 
+-- a seat after a failure (profile)
 abbrev pub failing : Desk → ℕ → Desk
 failing d u = record d { held = without u d.held; failed = u ∷ d.failed; looked = false }
 
--- half its room, rounded down, goes to a new seat
+-- the old seat after a split. Half its room, rounded down, goes to a new seat (profile)
 abbrev pub keeping : Desk → Desk
 keeping d = record d { room = d.room - d.room / 2; looked = false }
 
+-- the new seat after a split (profile)
 abbrev pub fresh : Desk → Desk
 fresh d = record first { room = d.room / 2; done = d.done }
 
+-- a seat after a join (profile)
 abbrev pub both : Desk → Desk → Desk
 both d e = record {
   room = d.room + e.room;
@@ -134,7 +142,7 @@ abbrev pub told : Option (ℕ × List ℕ) → List (ℕ × List ℕ)
 told None = []
 told (Some top) = top ∷ []
 
--- a give that arrived at so many nodes, at so many of them second, and perhaps told a top
+-- a seat after a give. It arrived at so many nodes, at so many of them second, and perhaps told a top (profile)
 abbrev pub after_give : Desk → ℕ → List ℕ → ℕ → ℕ → Option (ℕ × List ℕ) → Desk
 after_give d u hash joined arrivals top = record d {
   held = without u d.held;

@@ -29,7 +29,8 @@ pub record Machine : Type 0 where
 abbrev pub start : Machine
 start = record { claims = 0; least = None; arrived = []; desks = first ∷ [] }
 
--- what a seat does: `join` with the seat of that number
+-- what a seat does: look, claim, hand, arrive, seal, fail, split, join. It does `join` with the seat of that number
+-- (profile)
 pub data Event : Type 0 where
   look : Event
   claim : Event
@@ -109,8 +110,8 @@ abbrev pub lesser : Option ℕ → ℕ → ℕ
 lesser None u = u
 lesser (Some least) u = min least u
 
--- one event of the seat with that number, which shows d. In a climb it has no event but arrive and seal; one that is
--- done has no look and no claim
+-- one event of a seat. It is the seat with that number, which shows d. In a climb it has no event but arrive and seal;
+-- one that is done has no look and no claim (BEP 52, "pieces root"; profile)
 pub data IsStep (units : ℕ) (forest : List Run) (m : Machine) (seat : ℕ) (d : Desk) : Event → Machine → Type 0 where
   looks : 0 < d.room → d.climb ≡ None → d.done ≡ false → m.least ≡ None
       → IsStep units forest m seat d look (with_desk m seat (looking d))
@@ -143,7 +144,7 @@ pub data IsStep (units : ℕ) (forest : List Run) (m : Machine) (seat : ℕ) (d 
       → IsStep units forest m seat d (join other)
       (record m { desks = slice_set (slice_set m.desks seat (both d e)) other spent })
 
--- a legal run, the last event first: each is of a seat that is there
+-- a legal run of events from one seat of room 256 on. The last is first, and each is of a seat that is there (profile)
 pub data IsLegalRun (units : ℕ) (forest : List Run) : List (ℕ × Event) → Machine → Type 0 where
   begins : IsLegalRun units forest [] start
   goes_on : (events : List (ℕ × Event)) (m n : Machine) (seat : ℕ) (e : Event) → IsLegalRun units forest events m
@@ -166,10 +167,10 @@ IsLeastFailed least desks =
     ((least ≡ None) × ((u : ℕ) → times_failed u desks ≡ 0))
     ⊎ ((u : ℕ) × (least ≡ Some u) × (0 < times_failed u desks) × ((x : ℕ) → x < u → times_failed x desks ≡ 0))
 
--- of the number of claims, the least failed unit, the arrivals by tree, level and node, the number of all arrivals, and
--- the seats: the units that seats name are distinct, and those below the claims and the number of units; the least
--- failed is the least; a node has at most as many arrivals as sides all of whose units were given; all arrivals are the
--- seats'
+-- seats name each claimed unit once; the least failed is the least; no node has an arrival too many. The units that
+-- seats name are distinct, and those below the claims and the number of units; a node has at most as many arrivals as
+-- sides all of whose units were given; all arrivals are the seats'. This is said of the number of claims, the least
+-- failed unit, the arrivals by tree, level and node, the number of all arrivals, and the seats (profile)
 pub record IsLawful (units : ℕ) (forest : List Run) (claims : ℕ) (least : Option ℕ) (arrivals : ℕ → ℕ → ℕ
     → ℕ) (all : ℕ) (desks : List Desk) : Type 0 where
   pub named : (u : ℕ) → total (names u) desks ≡ cond (nat_lt u (min claims units)) 1 0
@@ -188,7 +189,7 @@ abbrev pub Every : {X : Type 0} → (X → Type 0) → List X → Type 0
 Every P [] = Unit {0}
 Every P (x ∷ xs) = P x × Every P xs
 
--- so is the machine, all of whose arrivals are at nodes
+-- the machine is lawful so, all of its arrivals at nodes (profile)
 abbrev pub IsLawfulState : ℕ → List Run → Machine → Type 0
 IsLawfulState units forest m =
     IsLawful units forest m.claims m.least (arrivals_at m.arrived) (length m.arrived) m.desks

@@ -15,8 +15,9 @@ IsComplete given run = (u : ℕ) → run.first ≤ u → u < run.first + run.cou
 abbrev pub joined_of : List GivenUnit → Run → ℕ
 joined_of given run = total (λ (g : GivenUnit). cond (in_run run g.unit) g.joined 0) given
 
--- of the k-th tree: its root is there exactly where each of its units was given. Then it is that over their hashes,
--- followed by zero subtrees up to a power of two; one give told it, and at each node one give came second
+-- a tree's root is there exactly if each of its units was given, and is that over their hashes. This is of the k-th
+-- tree. Zero subtrees follow the hashes up to a power of two; one give told the root, and at each node one give came
+-- second (BEP 52, "pieces root")
 abbrev pub IsTreeEnd : List GivenUnit → List (ℕ × List ℕ) → ℕ → Run → Option (List ℕ) → Type 0
 IsTreeEnd given tops k run None = (IsComplete given run → ⊥) × (tops_of k tops ≡ 0)
 IsTreeEnd given tops k run (Some root) =

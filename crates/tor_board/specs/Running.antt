@@ -34,9 +34,10 @@ offset_at (t ∷ ts) (suc n) = offset_at ts n
 abbrev pub arrivals_in : Shape → List ℕ → ℕ → ℕ → ℕ → ℕ
 arrivals_in shape words n k i = slice_index words (2 + offset_at shape.trees.items n + middle k i)
 
--- of a tree: which slots' hashes have arrived, or, of the tree's own slot, were sealed: just those to which all has
--- come and no seat climbs any more. A node's word counts its two; each has once, and all its units were given; where it
--- is at home, it holds the root over their hashes; a sealed one was told
+-- which sides of a tree have arrived: those to which all has come. No seat climbs to them any more. A side is a slot's
+-- hash; the tree's own slot is sealed instead. A node's word counts its two; each has once, and all its units were
+-- given; where it is at home, it holds the root over their hashes; a sealed one was told (BEP 52, "pieces root";
+-- profile)
 pub record IsTreeLawful (t : Tree) (s : State (List ℕ) View) : Type 0 where
   pub arrived : ℕ → ℕ
   pub flow : (slot k j : ℕ) → IsSide t slot k j → climbing slot s.views + arrived slot ≡ ready t s.words s.views k j
@@ -48,6 +49,7 @@ pub record IsTreeLawful (t : Tree) (s : State (List ℕ) View) : Type 0 where
       → get_elem? s.homes slot ≡ some (some (side_root (desks_of s.views) (run_of t) k j))
   pub sealed : total (λ (v : View). tops_of t.number v.tops) s.views ≡ arrived (slot_of t 0 0)
 
+-- the words and views of a board, and each of its trees, are lawful (BEP 52, "pieces root"; profile)
 pub record IsRunning (shape : Shape) (s : State (List ℕ) View) : Type 0 where
   pub lawful : IsLawful shape.units (runs_of shape) (slice_index s.words 0) (least_of (slice_index s.words 1))
       (arrivals_in shape s.words) (total (λ n. n) (drop 2 s.words)) (desks_of s.views)

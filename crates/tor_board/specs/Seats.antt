@@ -12,7 +12,7 @@ use Rattle.tor_board.specs.Views.{desk_of}
 use Rattle.tor_board.specs.declared.board.Board.{Board}
 use Rattle.tor_board.specs.declared.seat.Seat.{Seat}
 
--- what the seat shows of what it knows
+-- what the seat shows of what it knows (profile)
 abbrev pub knows : Seat → Desk
 knows s = desk_of s.inner.me.0
 
@@ -22,7 +22,7 @@ unit_count b = b.shape.units
 abbrev pub IsSeatOf : Board → Seat → Type 0
 IsSeatOf b s = (s.inner.table_id ≡ b.table.shared.table_id) × (s.inner.me.0.units ≡ b.shape.units)
 
--- the least number of the list
+-- the least number of the list (profile)
 abbrev pub IsLeastOf : List ℕ → ℕ → Type 0
 IsLeastOf xs u = Has xs u × ((x : ℕ) → Has xs x → u ≤ x)
 
@@ -49,8 +49,8 @@ IsCut b old kept new =
     (2 ≤ (knows old).room) × IsSeatOf b kept × IsSeatOf b new × (knows kept ≡ keeping (knows old))
     × (knows new ≡ fresh (knows old))
 
--- where the seat holds nothing and is done or has failed a unit, each unit below the least failed one, or below their
--- number, stands once in its given list
+-- a seat that ended gave each unit below the least failed one once. It holds nothing, and is done or failed a unit; if
+-- none failed, it gave each below their number; the unit stands once in its given list (profile)
 abbrev pub IsAllGiven : ℕ → Desk → Option ℕ → Type 0
 IsAllGiven units d least = d.held ≡ [] → (d.done ≡ true) ⊎ (d.failed ≢ []) →
     (u : ℕ) → u < unwrap_or least units → times u (units_of d.given) ≡ 1

@@ -19,7 +19,8 @@ use Rattle.tor_board.specs.declared.tree.Tree.{Tree}
 use Rattle.tor_board.specs.declared.tree.Shape.{Shape}
 use Rattle.tor_board.specs.declared.view.View.{View}
 
--- the machine stands where the board does. A side has arrived where what has come to it climbs to it no more
+-- the machine stands where the board does. A side has arrived where what has come to it climbs to it no more (BEP 52,
+-- "pieces root"; profile)
 pub record Shows (shape : Shape) (m : Machine) (s : State (List ℕ) View) : Type 0 where
   pub claims : m.claims ≡ slice_index s.words 0
   pub least : m.least ≡ least_of (slice_index s.words 1)
@@ -32,9 +33,9 @@ pub record Shows (shape : Shape) (m : Machine) (s : State (List ℕ) View) : Typ
       }) m.arrived
       ≡ ready t s.words s.views k (2 * i + side)
 
--- where the machine stands: of a side that has arrived, the slot, unless a seat has it, holds the root over the hashes
--- of its units, and of a tree whose top was told, the tree's own slot that over all of its; each followed by zero
--- subtrees
+-- the slot of a side that arrived, unless a seat has it, holds the root over its hashes. So does a tree's own slot,
+-- once its top was told, that over all of its; each is followed by zero subtrees. This is where the machine stands (BEP
+-- 52, "pieces root"; profile)
 pub record AreHome (shape : Shape) (m : Machine) (s : State (List ℕ) View) : Type 0 where
   pub arrived : (t : Tree) → IsTreeOf shape t → (k i side : ℕ) → side < 2 → middle k i < t.count
       → 0 < times_arrived (record { tree = t.number; level = k; index = 2 * i + side }) m.arrived
@@ -47,8 +48,8 @@ pub record AreHome (shape : Shape) (m : Machine) (s : State (List ℕ) View) : T
 abbrev pub IsChange : State (List ℕ) View → ℕ → ℕ → ℕ → View → State (List ℕ) View → Type 0
 IsChange s word n id w s' = (s'.words ≡ slice_set s.words word n) × (s'.views ≡ slice_set s.views id w)
 
--- a step of the seat with that number, which knows v and has those slots; by its name it sets its word, and tells what
--- that name's step tells
+-- a step of a board by the event of its name: what it sets and tells. It sets its word, and tells what that name's step
+-- tells; it is one of the seat with that number, which knows v and has those slots (profile)
 pub data IsBoardStep (shape : Shape) (s : State (List ℕ) View) (id : ℕ) (v : View) (has : List (ℕ × List ℕ)) : Event
     → State (List ℕ) View → Type 0 where
   looks : (st : Step (List ℕ)) (after : Seated) (s' : State (List ℕ) View)
@@ -84,8 +85,8 @@ pub data IsBoardStep (shape : Shape) (s : State (List ℕ) View) (id : ℕ) (v :
       → s'.words ≡ s.words → s'.views ≡ slice_set (slice_set s.views id (both v w)) other spent
       → IsBoardStep shape s id v has (join other) s'
 
--- whenever the table takes that step, and it tells what `says` does, it is the board's step of that event: whatever
--- number the operation makes of the step's word, if the rule holds before and after
+-- a step of the table is the board's step of that event, whatever its operation makes of its word. So it is whenever
+-- the table takes it, and it tells what `says` does, if the rule holds before and after (profile)
 abbrev pub IsStepOf : Shape → Event → Step (List ℕ) → Tells → Type 0
 IsStepOf shape e st says =
     (s : State (List ℕ) View) (id n : ℕ) (me : Seated) (w : View) (a : Act (List ℕ))
@@ -93,7 +94,7 @@ IsStepOf shape e st says =
     → Keeps shape s → Keeps shape (stepped_to s st.word n id me.1 w a)
     → IsBoardStep shape s id me.0 me.1 e (stepped_to s st.word n id me.1 w a)
 
--- whenever it takes that step, no word and no view changes
+-- a step of the table changes no word and no view. So it is whenever the table takes it (profile)
 abbrev pub IsNoStep : Shape → Step (List ℕ) → Tells → Type 0
 IsNoStep shape st says =
     (s : State (List ℕ) View) (id n : ℕ) (me : Seated) (w : View) (a : Act (List ℕ))
@@ -101,7 +102,8 @@ IsNoStep shape st says =
     → Keeps shape s → Keeps shape (stepped_to s st.word n id me.1 w a)
     → (slice_set s.words st.word n ≡ s.words) × (slice_set s.views id w ≡ s.views)
 
--- what can have happened to a board, the last first: it opened, and each step kept the rule, also one that was no event
+-- what can have happened to a board: it opened, and each step kept the rule. The last is first; one that was no event
+-- kept it too (profile)
 pub data IsHistory (shape : Shape) : List (ℕ × Event) → State (List ℕ) View → Type 0 where
   opened : (s : State (List ℕ) View) → Keeps shape s → slice_index s.words 0 ≡ 0 → slice_index s.words 1 ≡ nobody
       → ((i : ℕ) → 1 < i → slice_index s.words i ≡ 0) → s.views ≡ first shape.units ∷ [] → IsHistory shape [] s
@@ -116,6 +118,6 @@ pub data IsHistory (shape : Shape) : List (ℕ × Event) → State (List ℕ) Vi
 abbrev pub IsEvent : Shape → Machine → ℕ → Event → State (List ℕ) View → Type 0
 IsEvent shape m id e s' = (n : Machine) × IsStep shape.units (runs_of shape) m id (desk_at m id) e n × Shows shape n s'
 
--- those events are a legal run of the machine, which stands where the board does
+-- those events are a legal run of the machine, which stands where the board does (profile)
 abbrev pub IsRunOf : Shape → List (ℕ × Event) → State (List ℕ) View → Type 0
 IsRunOf shape events s = (m : Machine) × IsLegalRun shape.units (runs_of shape) events m × Shows shape m s

@@ -6,15 +6,15 @@ use Rattle.tor_lane.specs.declared.chunk.Chunk.{Chunk}
 use Rattle.tor_lane.specs.declared.feeder.Feeder.{Feeder}
 use Rattle.tor_lane.specs.declared.taker.Taker.{Taker}
 
--- the chunks that a feeder has put, in order
+-- the chunks that a feeder has put, in order (profile)
 abbrev pub put_by : Feeder → List Chunk
 put_by f = (view f.pass).put
 
--- no mark is put yet
+-- no mark is put yet (profile)
 abbrev pub IsOpen : Feeder → Type 0
 IsOpen f = (view f.pass).ended ≡ 0
 
--- a mark is put for each taker
+-- a mark is put for each taker (profile)
 abbrev pub IsEnded : Feeder → Type 0
 IsEnded f = (view f.pass).ended ≡ f.workers
 
@@ -30,11 +30,11 @@ room_of f = ruled_capacity (sends_on f.to)
 abbrev pub FeedsLaneOf : Feeder → Feeder → Type 0
 FeedsLaneOf f g = (sends_on g.to ≡ sends_on f.to) × (g.workers ≡ f.workers)
 
--- the chunks that a taker has taken, in order
+-- the chunks that a taker has taken, in order (profile)
 abbrev pub taken_by : Taker → List Chunk
 taken_by t = (view t.pass).taken
 
--- the taker has taken its mark
+-- the taker has taken its mark (profile)
 abbrev pub IsAtMark : Taker → Type 0
 IsAtMark t = t.stopped ≡ true
 

@@ -7,8 +7,9 @@ use Rattle.tor_lane.specs.declared.view.View.{View}
 use Rattle.tor_lane.specs.Rule.{CanPut, CanTake}
 use Rattle.tor_lane.specs.Views.{first, putting, taking, making, fresh, both, spent}
 
--- a lane begins; its feeder makes a taker; it sends; a taker receives, until its mark; an end learns what another did
--- that does not feed, and of which nothing is left
+-- what the steps of a lane's ends can lead to, in any order. A lane begins; its feeder makes a taker; it sends while
+-- fewer than two messages a taker are in the channel; a taker receives, until its mark; an end learns what another did
+-- that does not feed, and of which nothing is left (profile)
 pub data IsReached : List Message → List View → Type 0 where
   begins : IsReached [] (first ∷ [])
   makes : (items : List Message) (views : List View) (at : ℕ) (v : View) → IsReached items views

@@ -23,6 +23,9 @@ TakesByRight v = (v.takers ≡ 0 → v.taken ≡ []) × (v.marks ≤ v.takers)
 abbrev pub IsFed : ℕ → List View → Type 0
 IsFed feeder views = (v : View) × (get_elem? views feeder ≡ some v) × (v.feeds ≡ true)
 
+-- what every step keeps: one end feeds, and what it put was taken or is in the channel. Chunks and then marks were put,
+-- and leave in that order; what left the channel is what the ends took, each once; there are at most two messages and
+-- one mark a taker (profile)
 pub record Keeps (items : List Message) (views : List View) : Type 0 where
   -- the number of the one end that feeds, and what it did
   pub feeder : ℕ
@@ -45,23 +48,24 @@ pub record Keeps (items : List Message) (views : List View) : Type 0 where
   pub feeds : (at : ℕ) (v : View) → get_elem? views at ≡ some v → Feeds feeder put ended made at v
   pub rights : (at : ℕ) (v : View) → get_elem? views at ≡ some v → TakesByRight v
 
--- the feeder puts chunks before the marks alone, and at most one mark for each taker
+-- the feeder puts chunks before its marks, and at most one mark for each taker (profile)
 abbrev pub CanPut : View → Message → Type 0
 CanPut v (More c) = (v.feeds ≡ true) × (v.ended ≡ 0)
 CanPut v Mark = (v.feeds ≡ true) × (v.ended < v.made)
 
--- one taker, before it has taken a mark
+-- a taker takes until its mark. It is one taker, and no feeder (profile)
 abbrev pub CanTake : View → Type 0
 CanTake v = (v.feeds ≡ false) × (v.takers ≡ 1) × (v.marks ≡ 0)
 
--- one end feeds, and no other
+-- one end feeds, and no other (profile)
 abbrev pub HasOneFeeder : List View → Type 0
 HasOneFeeder views = (feeder : ℕ) × IsFed feeder views
     × ((at : ℕ) (v : View) → get_elem? views at ≡ some v → v.feeds ≡ true → at ≡ feeder)
 
--- what all ends took, with what is in the channel, is what the end put that knows v, each chunk once and unchanged; in
--- the channel chunks stand before marks, and there are at most two messages for each taker that was made. Of each one
--- end has the right to take, and what an end took it had the right to: nothing without one, and one mark by each
+-- what all ends took, with what is in the channel, is what the feeder put, each chunk once and unchanged. Chunks leave
+-- in the order in which they were put, and in the channel they stand before marks; there are at most two messages and
+-- one mark a taker. Of each taker one end has the right to take, and what an end took it had the right to: nothing
+-- without one, and one mark by each. The feeder is the end that knows v (profile)
 pub record IsAllThere (items : List Message) (views : List View) (v : View) : Type 0 where
   pub chunks : IsPermutation v.put (taken_in_all views ++ chunks_in items)
   pub marks : v.ended ≡ marks_in_all views + marks_in items

@@ -21,7 +21,7 @@ abbrev pub part_content : List (List ℕ) → Part → List ℕ
 part_content contents part =
     take part.length (drop part.start (slice_index_or contents part.file [])) ++ zeros part.zeros
 
--- the zeros of a unit, and its parts
+-- the bytes of a unit. They are its zeros, and its parts, each with the zeros after it (profile)
 abbrev pub unit_content : List (List ℕ) → PlanUnit → List ℕ
 unit_content contents unit = zeros unit.zeros ++ flat_map (part_content contents) unit.parts
 
@@ -31,7 +31,7 @@ layout_of_kind Hybrid false = Aligned
 layout_of_kind Hybrid true = AlignedTail
 layout_of_kind _ tail = Joined
 
--- the content that the units cut: that of the files' entries
+-- the content that the units cut: that of the files' entries (profile)
 abbrev pub cut_content : Kind → Bool → ℕ → List (List (List ℕ) × ℕ) → List (List ℕ) → List ℕ
 cut_content kind tail piece_length files contents =
     joined_content (v1_entries (layout_of_kind kind tail) piece_length files) contents

@@ -40,7 +40,8 @@ after_part file start n unit = record {
 abbrev pub shared : ℕ → ℕ → ℕ → ℕ → ℕ
 shared a b at m = min b (at + m) - max a at
 
--- the bytes from a to b of the joined entries, of which the first begins at byte at; the first file has this index
+-- the bytes from a to b of joined entries. Padding is zeros; the first entry begins at byte at, and the first file has
+-- this index (BEP 3, "info dictionary"; BEP 47, "padding files")
 unfoldable pub unit_within : ℕ → ℕ → ℕ → ℕ → List Entry → PlanUnit
 unit_within a b index at [] = empty_unit
 unit_within a b index at (entry ∷ entries) =
@@ -78,7 +79,9 @@ separate_entry_units size index (entry ∷ entries) =
     units_of_file size index entry.length (padding_before_next entries)
     ++ separate_entry_units size (index + 1) entries
 
--- the units of span pieces: of the joined entries in version 1, else of each file by itself
+-- a torrent's entries cut every span pieces: in version 1 joined, else file by file. Padding is zeros: in version 1 it
+-- may stand before the first part of a unit too, else it stands in the last unit of the file before it, up to the next
+-- file that is not empty (BEP 3, "info dictionary"; BEP 47, "padding files")
 abbrev pub entry_units : Kind → ℕ → ℕ → List Entry → List PlanUnit
 entry_units V1 piece_length span entries = joined_entry_units (span * piece_length) entries
 entry_units kind piece_length span entries = separate_entry_units (span * piece_length) 0 entries

@@ -29,14 +29,15 @@ ArePadded piece_length [] = Unit {0}
 ArePadded piece_length (entry ∷ later) =
     (is_filled entry ≡ true → IsPaddedTo piece_length entry.length later) × ArePadded piece_length later
 
--- where padding may stand: with trees alone nowhere; in a hybrid torrent so that each file that is not empty begins
--- at a piece
+-- where padding may stand: in version 2 nowhere, in a hybrid what each file lacks to a whole piece. It follows each
+-- file that is not empty, so that the next begins at a piece; after the last there may be none (BEP 47, "padding
+-- files"; profile)
 unfoldable pub IsLaidOut : Kind → ℕ → List Entry → Type 0
 IsLaidOut V1 piece_length entries = Unit {0}
 IsLaidOut V2 piece_length entries = has_padding entries ≡ false
 IsLaidOut Hybrid piece_length entries = (padding_before_next entries ≡ 0) × ArePadded piece_length entries
 
--- entries that a plan can be made of
+-- entries that a plan takes: at most 2^62 bytes, 2^50 a file, and laid out (profile)
 pub record IsEntryList (kind : Kind) (piece_length : ℕ) (entries : List Entry) : Type 0 where
   pub total : entries_length entries ≤ MAX_TOTAL
   pub files : All (λ m. m ≤ MAX_LENGTH) (lengths_of_entries entries)

@@ -12,7 +12,7 @@ unfoldable pub log2 : ℕ → ℕ
 log2 zero = 0
 log2 (suc n) = if nat_le (2 ^ suc (log2 n)) (suc n) then suc (log2 n) else log2 n
 
--- the level of a tree node that covers size bytes; a block is at level 0
+-- the level of a tree node that covers size bytes. A block is at level 0 (BEP 52, "pieces root")
 abbrev pub unit_level : ℕ → ℕ
 unit_level size = log2 (size / BLOCK_LENGTH)
 
@@ -27,7 +27,7 @@ trees_from size first (m ∷ lengths) =
     (if nat_lt 1 (div_ceil m size) then tree_at size first m ∷ [] else [])
     ++ trees_from size (first + div_ceil m size) lengths
 
--- version 1 has no trees
+-- the files of more than one unit, with first unit, count and level. Version 1 has no trees (BEP 52, "pieces root")
 abbrev pub forest_trees : Kind → ℕ → List ℕ → List Run
 forest_trees V1 size lengths = []
 forest_trees kind size lengths = trees_from size 0 lengths

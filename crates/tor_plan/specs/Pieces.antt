@@ -27,7 +27,7 @@ unit_between a b unit = after_zeros (shared a b 0 unit.zeros) (parts_between a b
 abbrev pub piece_of_unit : ℕ → PlanUnit → ℕ → PlanUnit
 piece_of_unit piece_length unit k = unit_between (k * piece_length) ((k + 1) * piece_length) unit
 
--- all of its pieces, the last perhaps shorter
+-- the pieces of a unit, each as a unit. The last may be shorter (profile)
 unfoldable pub pieces_of_unit : ℕ → PlanUnit → List PlanUnit
 pieces_of_unit piece_length unit =
     map (piece_of_unit piece_length unit) (range_with_len 0 (div_ceil (unit_length unit) piece_length))

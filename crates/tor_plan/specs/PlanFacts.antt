@@ -14,13 +14,14 @@ use Rattle.tor_plan.specs.Forest.{forest_trees}
 use Rattle.tor_plan.specs.Units.{hash_units}
 use Rattle.tor_merkle.specs.declared.TheConstants.{BLOCK_LENGTH}
 
--- pieces that torrents of a kind can have: with trees a power of two, from one block on
+-- the piece lengths that a plan takes: with trees powers of two. They are those of torrents of a kind, at most 2^30,
+-- and with trees from one block on (profile)
 abbrev pub IsPlanPieceLength : Kind → ℕ → Type 0
 IsPlanPieceLength V1 piece_length = IsV1PieceLength piece_length
 IsPlanPieceLength kind piece_length =
     IsTrue (is_power_of_two piece_length) × (BLOCK_LENGTH ≤ piece_length) × (piece_length ≤ max_piece_length)
 
--- how many pieces a unit may have: a power of two from 1 to 1,024
+-- how many pieces a unit may have: a power of two from 1 to 1,024 (profile)
 abbrev pub IsSpan : ℕ → Type 0
 IsSpan span = IsTrue (is_power_of_two span) × (1 ≤ span) × (span ≤ 1024)
 
@@ -31,7 +32,7 @@ pub record PlanFacts : Type 0 where
   pub lengths : List ℕ
   pub trees : List Run
 
--- the plan of a list of files
+-- what the plan of a list of files tells (profile)
 abbrev pub plan_of : Kind → ℕ → ℕ → List (List (List ℕ) × ℕ) → PlanFacts
 plan_of kind piece_length span files = record {
   kind = kind;
@@ -41,7 +42,7 @@ plan_of kind piece_length span files = record {
   trees = forest_trees kind (span * piece_length) (lengths_of files);
 }
 
--- the plan of the entries of a torrent
+-- what the plan of the entries of a torrent tells (profile)
 abbrev pub plan_of_entries : Kind → ℕ → ℕ → List Entry → PlanFacts
 plan_of_entries kind piece_length span entries = record {
   kind = kind;

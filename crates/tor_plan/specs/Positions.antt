@@ -11,10 +11,12 @@ positions file start count = map (λ offset. (file, offset)) (range_with_len sta
 abbrev pub positions_of_part : Part → List (ℕ × ℕ)
 positions_of_part part = positions part.file part.start part.length
 
+-- where the bytes of a unit are, part by part (profile)
 abbrev pub positions_of_unit : PlanUnit → List (ℕ × ℕ)
 positions_of_unit unit = flat_map positions_of_part unit.parts
 
--- those of files of these lengths, of which the first has this index: file by file, byte by byte
+-- where the bytes of files are: file by file, byte by byte. They have these lengths, and the first of them this index
+-- (profile)
 unfoldable pub positions_of_files : ℕ → List ℕ → List (ℕ × ℕ)
 positions_of_files file [] = []
 positions_of_files file (count ∷ lengths) = positions file 0 count ++ positions_of_files (file + 1) lengths

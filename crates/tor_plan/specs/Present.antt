@@ -8,6 +8,6 @@ use Rattle.tor_plan.specs.declared.units.PlanUnit.{PlanUnit}
 abbrev pub is_part_there : List (List ℕ) → Part → Bool
 is_part_there contents part = nat_le (part.start + part.length) (length (slice_index_or contents part.file []))
 
--- all bytes of files that a unit has, or a piece, are there
+-- all bytes of files that a piece has are there. So it is of a unit (profile)
 abbrev pub is_there : List (List ℕ) → PlanUnit → Bool
 is_there contents unit = list_all (is_part_there contents) unit.parts

@@ -59,7 +59,8 @@ joined_unit size lengths k = record { zeros = 0; parts = parts_within (k * size)
 unfoldable pub joined_units : ℕ → List ℕ → List PlanUnit
 joined_units size lengths = map (joined_unit size lengths) (range_with_len 0 (div_ceil (sum lengths) size))
 
--- the units of span pieces: of the joined files in version 1, else of each file by itself
+-- a list of files cut every span pieces: in version 1 joined, else file by file. In a hybrid a file's padding stands in
+-- its last unit (BEP 3, "info dictionary"; BEP 52, "pieces root"; BEP 47, "padding files")
 abbrev pub hash_units : Kind → ℕ → ℕ → List (List (List ℕ) × ℕ) → List PlanUnit
 hash_units V1 piece_length span files = joined_units (span * piece_length) (lengths_of files)
 hash_units kind piece_length span files = separate_units kind piece_length (span * piece_length) 0 files
