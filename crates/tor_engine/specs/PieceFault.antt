@@ -33,7 +33,7 @@ piece_fault facts contents piece = if is_there contents piece then unit_fault fa
 abbrev pub pieces_fault : {F : Type 0} → SourceFacts F → List (List ℕ) → List PlanUnit → Option (EngineError F)
 pieces_fault facts contents pieces = first_of (piece_fault facts contents) pieces
 
--- the lengths come first, then the pieces
+-- the first fault of the lengths, then of the pieces that are there (profile)
 abbrev pub first_piece_fault : {F : Type 0} → SourceFacts F → PlanFacts → Option (EngineError F)
 first_piece_fault facts plan =
     option_or (first_asked_fault facts (length plan.lengths))

@@ -16,13 +16,13 @@ use Rattle.tor_tree.specs.Kinds.{has_v1, has_v2}
 use Rattle.tor_v1.specs.Piece.{piece_sums}
 use Rattle.tor_engine.specs.declared.piece_hash.PieceHash.{PieceHash}
 
--- all pieces, each as a unit
+-- all pieces of a plan, each as a unit (profile)
 abbrev pub pieces_of_plan : PlanFacts → List PlanUnit
 pieces_of_plan plan = flat_map (pieces_of_unit plan.piece_length) plan.units
 
 -- the Merkle hash of a piece of a file of so many bytes: of a file longer than a piece the root over the leaves of its
--- blocks and zero leaves up to a whole piece (BEP 52, "piece layers"), of another the root of the file (BEP 52,
--- "pieces root")
+-- blocks and zero leaves up to a whole piece, as in "piece layers" of BEP 52; of another the root of the file, its
+-- "pieces root"
 abbrev pub merkle_hash : ℕ → ℕ → List ℕ → List ℕ
 merkle_hash piece_length size bytes =
     if nat_le size piece_length then pieces_root bytes
@@ -39,7 +39,7 @@ abbrev pub hash_of_parts : PlanFacts → List (List ℕ) → List Part → List 
 hash_of_parts plan contents [] = []
 hash_of_parts plan contents (part ∷ _) = part_hash plan contents part
 
--- the hashes of a piece: the SHA-1 of its bytes, zeros of padding among them (BEP 3, "info dictionary"), and the
+-- the hashes of a piece: the SHA-1 of its bytes, zeros of padding among them, as in "info dictionary" of BEP 3; and the
 -- Merkle hash of what it has of its file
 abbrev pub piece_hash : PlanFacts → List (List ℕ) → PlanUnit → PieceHash
 piece_hash plan contents piece = record {
@@ -52,6 +52,7 @@ abbrev pub hash_if_there : PlanFacts → List (List ℕ) → PlanUnit → Option
 hash_if_there plan contents piece =
     if is_there contents piece then Some (piece_hash plan contents piece) else None
 
--- for each piece
+-- each piece's SHA-1 and Merkle hash, none if a byte is not there (BEP 3, "info dictionary"; BEP 52, "piece layers",
+-- "pieces root")
 abbrev pub piece_hashes : PlanFacts → List (List ℕ) → List (Option PieceHash)
 piece_hashes plan contents = map (hash_if_there plan contents) (pieces_of_plan plan)

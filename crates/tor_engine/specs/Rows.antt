@@ -10,7 +10,7 @@ use Rattle.tor_tree.specs.Kinds.{has_v1, has_v2}
 use Rattle.tor_v1.specs.Piece.{piece_sums}
 use Rattle.tor_sums.specs.UnitNodes.{Node, bytes_of_part, level_of, nodes_of_unit}
 
--- the units from one number on, and before another
+-- the units from one number on, and before another (profile)
 abbrev pub units_between : ℕ → ℕ → List PlanUnit → List PlanUnit
 units_between from to units = take (to - from) (drop from units)
 
@@ -34,7 +34,8 @@ abbrev pub sums_of_pieces : PlanFacts → List (List ℕ) → List PlanUnit → 
 sums_of_pieces plan contents units =
     flat_map (λ unit. piece_sums plan.piece_length (unit_content contents unit)) units
 
--- these are the hashes of the pieces of units, as far as the kind has them
+-- the hashes of the pieces of units. They are the Merkle hashes and the SHA-1s, as far as the kind has them, if the
+-- files have these contents (BEP 52, "piece layers", "pieces root"; BEP 3, "info dictionary")
 pub record IsRowOf (plan : PlanFacts) (contents : List (List ℕ)) (units : List PlanUnit)
     (hashes : List (List ℕ)) (pieces : List ℕ) : Type 0 where
   pub nodes : has_v2 plan.kind ≡ true → hashes ≡ row_of_units plan contents units
@@ -46,18 +47,18 @@ abbrev pub hash_of_short : List ℕ → List (List ℕ)
 hash_of_short [] = []
 hash_of_short (byte ∷ bytes) = pieces_root (byte ∷ bytes) ∷ []
 
--- the hash of each piece of a file with this content
+-- the hash of each piece of a file. It is the file's root if it has at most one (BEP 52, "piece layers", "pieces root")
 abbrev pub hashes_of_file : ℕ → List ℕ → List (List ℕ)
 hashes_of_file piece_length content =
     if nat_le (length content) piece_length then hash_of_short content else piece_roots content piece_length
 
--- a source has all bytes of units: no file of theirs ends before the last that is wanted of it
+-- a source has all bytes of units. No file of theirs ends before the last that is wanted of it (profile)
 abbrev pub HasBytesAt : {F : Type 0} → SourceFacts F → List PlanUnit → Type 0
 HasBytesAt facts units =
     AllByRecursion (λ part. part.length ≤ length (bytes_from facts part.file part.start))
     (flat_map (λ unit. unit.parts) units)
 
--- these contents have the same bytes at each part of units
+-- contents have the same bytes at units. It is so at each part of them (profile)
 abbrev pub AreSameAt : List (List ℕ) → List (List ℕ) → List PlanUnit → Type 0
 AreSameAt contents other units =
     AllByRecursion (λ part. bytes_of_part contents part ≡ bytes_of_part other part)

@@ -11,8 +11,8 @@ given_pairs given = map (λ (g : GivenUnit). (g.unit, g.hash)) given
 abbrev pub unit_pair : UnitSums → ℕ × List ℕ
 unit_pair sums = (sums.unit, sums.hash)
 
--- the share has what the seat gave since then, each unit with its hash, and the tops that it was told; the seat's lists
--- have the newest first, the share's the oldest
+-- what a worker gave and was told since it began. It is in the order of its gives, each unit with its hash; the seat's
+-- lists have the newest first, the share's the oldest (profile)
 pub record IsShareOf (old new : Desk) (share : Share) : Type 0 where
   pub news : List GivenUnit
   pub given : new.given ≡ news ++ old.given

@@ -15,7 +15,8 @@ length_told told file = unwrap_or (slice_index_or told file None) 0
 abbrev pub is_part_within : List (Option ℕ) → Part → Bool
 is_part_within told part = nat_le (part.start + part.length) (length_told told part.file)
 
--- a piece, or a unit, is there where each of its parts lies within its file
+-- a piece lies within the lengths that were told of its files. Each part of it does, or of a unit; then it is there
+-- (profile)
 abbrev pub is_within : List (Option ℕ) → PlanUnit → Bool
 is_within told unit = list_all (is_part_within told) unit.parts
 
@@ -23,6 +24,6 @@ is_within told unit = list_all (is_part_within told) unit.parts
 abbrev pub HaveHashesOf : List (Option ℕ) → List PlanUnit → List (Option PieceHash) → Type 0
 HaveHashesOf told pieces hashes = map is_some hashes ≡ map (is_within told) pieces
 
--- all pieces of a plan
+-- those pieces of a plan have a hash, and no other (profile)
 abbrev pub HasHashesWithin : PlanFacts → List (Option ℕ) → List (Option PieceHash) → Type 0
 HasHashesWithin plan told hashes = HaveHashesOf told (pieces_of_plan plan) hashes

@@ -6,7 +6,7 @@ use Rattle.tor_bencode.specs.Spelling.{spelling}
 use Rattle.tor_parts.specs.declared.lot_text.TheConstants.{MAX_LOTS}
 use Rattle.tor_parts.specs.declared.lot_text.Lot.{Lot}
 
--- which of how many it is, the digest of its plan, the hashes of its pieces, and their joined SHA-1
+-- a lot's number, how many there are, the plan's digest, the hashes and SHA-1s of pieces (profile)
 pub record LotFacts : Type 0 where
   pub number : ℕ
   pub lots : ℕ
@@ -27,7 +27,7 @@ facts_of lot = record {
 abbrev pub Is32 : List ℕ → Type 0
 Is32 hash = length hash ≡ 32
 
--- it is one of at most MAX_LOTS lots, and has hashes and SHA-1s of their lengths
+-- one of at most 65,536 lots, with hashes of 32 bytes and SHA-1s of 20. Its digest has 32 bytes too (profile)
 pub record IsLot (facts : LotFacts) : Type 0 where
   pub number : facts.number < facts.lots
   pub lots : facts.lots ≤ MAX_LOTS
@@ -38,6 +38,8 @@ pub record IsLot (facts : LotFacts) : Type 0 where
 abbrev pub joined : List (List ℕ) → List ℕ
 joined hashes = flat_map (λ hash. hash) hashes
 
+-- a lot as `hashes`, `part`, `parts`, `pieces` and `plan`. They are the joined hashes, its number, how many there are,
+-- the joined SHA-1s, and the digest of its plan (BEP 3, "bencoding"; profile)
 abbrev pub lot_dictionary : LotFacts → Data
 lot_dictionary facts =
     dictionary (
@@ -47,5 +49,6 @@ lot_dictionary facts =
     pair (codes "pieces") (string facts.pieces) (
     pair (codes "plan") (string facts.plan) no_pairs)))))
 
+-- its bytes (BEP 3, "bencoding"; profile)
 abbrev pub lot_bytes : LotFacts → List ℕ
 lot_bytes facts = spelling (lot_dictionary facts)

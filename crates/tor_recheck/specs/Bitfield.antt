@@ -3,7 +3,7 @@ use Rattle.std.specs.Prelude.{ℕ, ◌+◌, ◌*◌, Bool, false, List, length, 
 use Rattle.std.specs.Int.{div_ceil}
 use Rattle.std.specs.List.{count_by, range_with_len}
 
--- how many of the bits are set
+-- how many of the bits are set (profile)
 abbrev pub set_count : List Bool → ℕ
 set_count bits = count_by (λ bit. bit) bits
 
@@ -23,6 +23,7 @@ byte_from bits piece =
     + 2 * bit_of bits (piece + 6)
     + bit_of bits (piece + 7)
 
--- as many bytes as hold all bits: the high bit of the first byte is piece 0, and spare bits at the end are zero
+-- one bit a piece, piece 0 the high bit of the first byte, spare bits zero. There are as many bytes as hold all bits,
+-- and the spare bits are at the end (BEP 3, "peer messages")
 abbrev pub bitfield : List Bool → List ℕ
 bitfield bits = map (λ k. byte_from bits (8 * k)) (range_with_len 0 (div_ceil (length bits) 8))

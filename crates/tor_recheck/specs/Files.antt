@@ -17,8 +17,9 @@ use Rattle.tor_v1.specs.declared.entry.Entry.{Entry}
 
 -- ---- which pieces hold
 
--- for each piece, whether it holds by the side that tells whose bytes it has: in version 2 each piece has bytes of one
--- file alone, and a hybrid has the same pieces on both sides; in version 1 a piece may have bytes of several files
+-- for each piece, whether it holds by the side that tells whose bytes it has. In version 2 each piece has bytes of one
+-- file alone, and a hybrid has the same pieces on both sides; in version 1 a piece may have bytes of several files (BEP
+-- 52, "piece layers", "pieces root"; BEP 3, "info dictionary")
 abbrev pub held_pieces : View → List (List ℕ) → List Bool
 held_pieces view contents =
     if has_v2 view.kind then merkle_pieces view.piece_length view.files contents else verified_pieces view contents
@@ -51,7 +52,9 @@ tree_spans p first [] = []
 tree_spans p first (told ∷ files) =
     tree_span p first told.file.length ∷ tree_spans p (first + pieces_in p told.file.length) files
 
--- of each file of a torrent, in its order, without padding
+-- for each file the pieces that have bytes of it. With a v2 side they are counted file by file, else from the one with
+-- its first byte among the joined entries to the one with its last; the files are in the torrent's order, without
+-- padding, and an empty one has none (BEP 52, "pieces root"; BEP 3, "info dictionary"; BEP 47, "padding files")
 abbrev pub file_spans : View → List FileSpan
 file_spans view =
     if has_v2 view.kind then tree_spans view.piece_length 0 view.files
@@ -68,7 +71,8 @@ abbrev pub pieces_of_file : List Bool → FileSpan → List Bool
 pieces_of_file held span =
     map (λ k. slice_index_or held k false) (range_with_len span.first (span.after - span.first))
 
--- the first state that there is a reason for. A file that is longer than the torrent says is as one of that length
+-- the first of missing, short, bad and whole that there is a reason for. A file that is longer than the torrent says is
+-- as one of that length (profile)
 abbrev pub state_of : Option ℕ → ℕ → ℕ → ℕ → FileState
 state_of None told good pieces = Missing
 state_of (Some there) told good pieces =
@@ -91,7 +95,7 @@ no_span = record { length = 0; first = 0; after = 0 }
 abbrev pub found_at : List FileSpan → List (Option ℕ) → List Bool → ℕ → FileFound
 found_at spans lengths held i = file_found held (slice_index_or spans i no_span) (slice_index_or lengths i None)
 
--- each file
+-- for each file its state, its pieces, how many hold, its length there and as told (profile)
 abbrev pub files_found : View → List (Option ℕ) → List Bool → List FileFound
 files_found view lengths held =
     map (found_at (file_spans view) lengths held) (range_with_len 0 (length (file_spans view)))

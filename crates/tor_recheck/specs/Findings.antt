@@ -23,8 +23,9 @@ lengths_of found = map (λ (file : FileFound). file.there) found.files.items
 abbrev pub AreAmong : List Bool → List Bool → Type 0
 AreAmong bits others = (piece : ℕ) → slice_index_or bits piece false ≡ true → slice_index_or others piece false ≡ true
 
--- what is told of the files are their lengths, and what some pieces tell that hold: without version 2 those that are
--- told to be right, and with it these and perhaps others; each of them lies within these very lengths
+-- what is told of files are their lengths, and what pieces tell that lie within these. Those pieces hold: without
+-- version 2 they are those that are told to be right, and with it these and perhaps others; each of them lies within
+-- these very lengths (profile)
 pub record AreFoundWithin (view : View) (found : Findings) : Type 0 where
   pub held : List Bool
   pub files : found.files.items ≡ files_found view (lengths_of found) held

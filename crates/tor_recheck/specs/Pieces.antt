@@ -83,7 +83,8 @@ is_right view contents i piece =
     && (not (has_v1 view.kind) || has_sha1 view contents i piece)
     && (not (has_v2 view.kind) || has_root view contents i piece)
 
--- for each piece of the list, the first of which has number i
+-- for each piece, as a unit: it is there, and has the torrent's hashes. It has its SHA-1 and its Merkle hash; the first
+-- of the list has number i (BEP 3, "info dictionary"; BEP 52, "piece layers", "pieces root")
 unfoldable pub right_pieces : View → List (List ℕ) → ℕ → List PlanUnit → List Bool
 right_pieces view contents i [] = []
 right_pieces view contents i (piece ∷ pieces) =
@@ -97,6 +98,7 @@ count_of_pieces view =
     if has_v2 view.kind then sum_by (λ told. pieces_in view.piece_length told.file.length) view.files
     else div_ceil (entries_length view.entries) view.piece_length
 
+-- what a torrent keeps to, so that its entries can be cut (profile)
 pub record IsCut (view : View) : Type 0 where
   pub entries : IsEntryList view.kind view.piece_length (entries_to_cut view)
   pub pieces : IsPlanPieceLength view.kind view.piece_length

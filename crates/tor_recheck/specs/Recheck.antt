@@ -13,7 +13,8 @@ use Rattle.tor_recheck.specs.declared.errors.RecheckError.TheVariants.{Read, Cha
 use Rattle.tor_source.specs.Source.{SourceFacts}
 use Rattle.tor_spec.specs.valid.View.{View}
 
--- for a fault of the hashing, by its name; where pieces are hashed a missing file is no fault, and there is no stream
+-- a recheck's name for a fault of the hashing. If pieces are hashed a missing file is no fault, and there is no stream
+-- (profile)
 abbrev pub of_engine_error : {F : Type 0} → EngineError F → RecheckError F
 of_engine_error (engine.Read file start fault) = Read file start fault
 of_engine_error (engine.Changed file) = Changed file
@@ -21,7 +22,7 @@ of_engine_error (engine.Missing file) = Changed file
 of_engine_error engine.Resources = Resources
 of_engine_error (engine.StreamTooLong file) = Changed file
 
--- the first fault of a steady source: where the lengths are asked, and then where the pieces are read that are there
+-- the first fault of a steady source: lengths, then pieces that are there (profile)
 abbrev pub first_fault : {F : Type 0} → SourceFacts F → View → Option (RecheckError F)
 first_fault facts view =
     option_map of_engine_error (option_or (first_asked_fault facts (length view.files))

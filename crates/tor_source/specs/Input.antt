@@ -10,7 +10,7 @@ pub record ReadsWhole (old new : Option (List ℕ)) (bytes : List ℕ) : Type 0 
   pub given : Consumes old new bytes
   pub end : IsAtEnd new
 
--- the reader gave these bytes, no more than the program reads of an input, and has no more
+-- the reader gave these bytes, at most 2^30, and has no more. That is what the program reads of an input (profile)
 abbrev pub ReadsAll : Option (List ℕ) → Option (List ℕ) → List ℕ → Type 0
 ReadsAll old new bytes = ReadsWhole old new bytes × (length bytes ≤ MAX_INPUT_LENGTH)
 

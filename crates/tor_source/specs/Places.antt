@@ -11,7 +11,7 @@ without_slash place = if slice_index place (length place - 1) == slash then take
 abbrev pub place_below : List ℕ → List (List ℕ) → List ℕ
 place_below place names = place ++ flat_map (λ name. slash ∷ name) names
 
--- where a folder has the file that these names lead to; the empty place is no folder, and has them at the empty place,
--- where nothing ever is
+-- a folder's place, less a slash at its end, and each name after a slash. There it has the file that these names lead
+-- to; the empty place is no folder, and has them at the empty place, where nothing ever is (profile)
 abbrev pub place_of : List ℕ → List (List ℕ) → List ℕ
 place_of folder names = if length folder == 0 then [] else place_below (without_slash folder) names

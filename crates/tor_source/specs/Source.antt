@@ -2,8 +2,8 @@
 use Rattle.std.specs.Prelude.{◌≡◌, ◌≤◌, ◌<◌, ◌+◌, ◌⊎◌, ℕ, List, [], length, take, drop, Option, Some, None, Result}
 use Rattle.std.specs.Prelude.{Ok, Err, MatchResult, option_map, unwrap_or}
 
--- what a source has: the bytes of each file, none where it is missing; and the faults, of the length of a file and of
--- the byte at an offset of a file
+-- what a steady source has: contents, and faults of lengths and of bytes. A missing file has no content, and a byte is
+-- the one at an offset of a file (profile)
 pub record SourceFacts (F : Type 0) : Type 0 where
   pub contents : ℕ → Option (List ℕ)
   pub length_fault : ℕ → Option F
@@ -14,7 +14,8 @@ abbrev pub unless_fault : {F A : Type 0} → Option F → A → Result A F
 unless_fault (Some fault) _ = Err fault
 unless_fault None value = Ok value
 
--- the answer of `length`: the fault of the file's length, or else how many bytes it has, none where it is missing
+-- the answer of `length`. It is the fault of the file's length, or else how many bytes it has, none if it is missing
+-- (profile)
 abbrev pub told_length : {F : Type 0} → SourceFacts F → ℕ → Result (Option ℕ) F
 told_length facts file = unless_fault (facts.length_fault file) (option_map length (facts.contents file))
 
@@ -31,7 +32,7 @@ pub record AreRead {F : Type 0} (facts : SourceFacts F) (file start : ℕ) (old 
   pub fault_free : (k : ℕ) → k < count → facts.byte_fault file (start + k) ≡ None
   pub progress : count ≡ 0 → (length old ≡ 0) ⊎ (length (bytes_from facts file start) ≡ 0)
 
--- the answer of `read_at`: how many bytes were read, or the fault of the first of them
+-- the answer of `read_at`. It is how many bytes were read, or the fault of the first of them (profile)
 abbrev pub IsReadAt : {F : Type 0} → SourceFacts F → ℕ → ℕ → List ℕ → List ℕ → Result ℕ F → Type 0
 IsReadAt facts file start old new result =
     MatchResult result (AreRead facts file start old new) (λ fault. facts.byte_fault file start ≡ Some fault)

@@ -8,7 +8,7 @@ use Rattle.tor_source.specs.Source.{SourceFacts}
 abbrev pub content_of : List (Option (List ℕ)) → ℕ → Option (List ℕ)
 content_of files file = slice_index_or files file None
 
--- files of which nothing fails
+-- the facts of files in memory. Nothing of them fails (profile)
 abbrev pub mem_facts : List (Option (List ℕ)) → SourceFacts ℕ
 mem_facts files = record {
   contents = content_of files;
@@ -29,7 +29,8 @@ is_at file offset fault = fault.0 == file && option_eq nat_eq fault.1 offset
 abbrev pub first_fault : List (ℕ × Option ℕ × ℕ) → ℕ → Option ℕ → Option ℕ
 first_fault faults file offset = option_map (λ fault. fault.2) (find (is_at file offset) faults)
 
--- of the faults at one offset the first counts, and none at a byte that the file does not have
+-- the facts of such files with faults at chosen offsets. Of the faults at one offset the first counts, and none at a
+-- byte that the file does not have (profile)
 abbrev pub fail_facts : FailingFiles → SourceFacts ℕ
 fail_facts source = record {
   contents = content_of source.files;

@@ -12,31 +12,33 @@ use Rattle.tor_sums.specs.declared.errors.EngineError.TheVariants.{Read, Changed
 use Rattle.tor_streams.specs.declared.streams.TheConstants.{MAX_UNIT_LENGTH}
 use Rattle.tor_sums.specs.declared.sums.Sums.{Sums}
 
--- pieces and spans that streams can be cut by
+-- pieces and spans of at most 2^30 bytes a unit. Streams can be cut by them (profile)
 pub record IsStreamCut (kind : Kind) (piece_length span : ℕ) : Type 0 where
   pub pieces : IsPlanPieceLength kind piece_length
   pub is_span : IsSpan span
   pub small : span * piece_length ≤ MAX_UNIT_LENGTH
 
--- a reader that has these bytes left, as far as they are known, gives these
+-- a reader gives these bytes, as far as what it has is known. Those are the bytes that it has left (profile)
 abbrev pub GivesSome : Option (List ℕ) → List ℕ → Type 0
 GivesSome known bytes = (left : Option (List ℕ)) × Consumes known left bytes
 
--- and has no more
+-- and then has no more (profile)
 abbrev pub GivesWhole : Option (List ℕ) → List ℕ → Type 0
 GivesWhole known content = (left : Option (List ℕ)) × Consumes known left content × IsAtEnd left
 
--- each reader gives its content
+-- each reader gives its content (profile)
 abbrev pub GiveContents : List (Option (List ℕ)) → List (List ℕ) → Type 0
 GiveContents known contents = AllZip GivesWhole known contents
 
--- the sums of contents, whatever the paths of their files; with a tail the last of a hybrid is padded too
+-- the sums of contents, whatever the paths of their files. With a tail the last of a hybrid is padded too (BEP 52,
+-- "pieces root", "piece layers"; BEP 3, "info dictionary")
 abbrev pub AreSumsOfContents : Kind → Bool → ℕ → List (List ℕ) → Sums → Type 0
 AreSumsOfContents kind tail piece_length contents sums =
     (files : List (List (List ℕ) × ℕ)) → AreContentsOfFiles files contents
     → AreSumsOf kind piece_length contents (cut_content kind tail piece_length files contents) sums
 
--- the sums of what readers give; none of them gives more than a file may have
+-- those of what readers give, none more than 2^50 bytes. That is what a file may have (BEP 52, "pieces root", "piece
+-- layers"; BEP 3, "info dictionary")
 pub record AreSumsOfReaders (kind : Kind) (tail : Bool) (piece_length : ℕ) (known : List (Option (List ℕ)))
     (sums : Sums) : Type 0 where
   pub contents : List (List ℕ)
@@ -44,7 +46,7 @@ pub record AreSumsOfReaders (kind : Kind) (tail : Bool) (piece_length : ℕ) (kn
   pub small : AllByRecursion (λ content. length content ≤ MAX_LENGTH) contents
   pub sums_up : AreSumsOfContents kind tail piece_length contents sums
 
--- the reader of this number gave these bytes, and each before it gave a content, to its end
+-- the reader of this number gave these bytes, and each before it a content to its end (profile)
 pub record ReadsUpTo (known : List (Option (List ℕ))) (file : ℕ) (bytes : List ℕ) : Type 0 where
   pub is_there : file < length known
   pub came : GivesSome (slice_index_or known file None) bytes
@@ -52,8 +54,8 @@ pub record ReadsUpTo (known : List (Option (List ℕ))) (file : ℕ) (bytes : Li
   pub before : GiveContents (take file known) contents
   pub small : AllByRecursion (λ content. length content ≤ MAX_LENGTH) contents
 
--- where readers are read: a fault is one of the first reader that has one, after as many bytes as it gave; one that is
--- too long gave more bytes than a file may have
+-- a fault of the first reader that has one, after the bytes that it gave; or it gave too many. That is more than a file
+-- may have; or it is want of memory (profile)
 abbrev pub IsFaultOfReaders : {F : Type 0} → List (Option (List ℕ)) → EngineError F → Type 0
 IsFaultOfReaders known (Read file None fault) = ⊥
 IsFaultOfReaders known (Read file (Some start) fault) =

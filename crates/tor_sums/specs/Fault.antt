@@ -10,21 +10,22 @@ use Rattle.tor_sums.specs.Contents.{contents_in}
 use Rattle.tor_sums.specs.declared.errors.EngineError.{EngineError}
 use Rattle.tor_sums.specs.declared.errors.EngineError.TheVariants.{Read, Changed, Missing, Resources}
 
--- the first that there is, in the order of the list
+-- the first that there is, in the order of the list (profile)
 unfoldable pub first_of : {A B : Type 0} → (A → Option B) → List A → Option B
 first_of found [] = None
 first_of found (x ∷ xs) = option_or (found x) (first_of found xs)
 
--- where the length of a file is asked: its fault, or that the file is missing
+-- if the length of a file is asked: its fault, or that the file is missing
 abbrev pub unless_told : {F : Type 0} → ℕ → Result (Option ℕ) F → Option (EngineError F)
 unless_told file (Err fault) = Some (Read file None fault)
 unless_told file (Ok None) = Some (Missing file)
 unless_told file (Ok (Some count)) = None
 
+-- if a file's length is asked, its fault, or that the file is missing (profile)
 abbrev pub length_fault : {F : Type 0} → SourceFacts F → ℕ → Option (EngineError F)
 length_fault facts file = unless_told file (told_length facts file)
 
--- the lengths of the files were told, and none of them fails or is missing
+-- the lengths that a steady source tells. None of them fails or is missing (profile)
 pub record ToldLengths {F : Type 0} (facts : SourceFacts F) (count : ℕ) (lengths : List ℕ) : Type 0 where
   pub told : lengths ≡ map length (contents_in facts count)
   pub faultless : first_of (length_fault facts) (range_with_len 0 count) ≡ None
@@ -36,7 +37,8 @@ change_from file (one ∷ told) [] = None
 change_from file (one ∷ told) (other ∷ planned) =
     if one == other then change_from (file + 1) told planned else Some file
 
--- all lengths are asked, and then compared with those that were planned
+-- the first fault of the lengths, or the first that is not the plan's. All lengths are asked, in the files' order, and
+-- then compared with those that were planned (profile)
 abbrev pub first_length_fault : {F : Type 0} → SourceFacts F → List ℕ → Option (EngineError F)
 first_length_fault facts planned =
     option_or (first_of (length_fault facts) (range_with_len 0 (length planned)))
@@ -50,23 +52,26 @@ byte_fault facts file offset = option_map (λ fault. Read file (Some offset) fau
 abbrev pub file_fault : {F : Type 0} → SourceFacts F → ℕ → ℕ → Option (EngineError F)
 file_fault facts file count = first_of (byte_fault facts file) (range_with_len 0 count)
 
+-- the first fault of the bytes, file by file. Each is read from its first byte to its last (profile)
 abbrev pub first_byte_fault : {F : Type 0} → SourceFacts F → List ℕ → Option (EngineError F)
 first_byte_fault facts lengths = first_of (λ file. file_fault facts file.0 file.1) (enumerate_from 0 lengths)
 
--- the lengths come first, then the bytes
+-- the first fault of a steady source: lengths, then bytes (profile)
 abbrev pub first_fault : {F : Type 0} → SourceFacts F → List ℕ → Option (EngineError F)
 first_fault facts lengths = option_or (first_length_fault facts lengths) (first_byte_fault facts lengths)
 
--- where the bytes of a part, of a unit, of units are read
+-- if the bytes of a part are read
 abbrev pub part_fault : {F : Type 0} → SourceFacts F → Part → Option (EngineError F)
 part_fault facts part = first_of (byte_fault facts part.file) (range_with_len part.start part.length)
 
+-- the first fault of the bytes of a unit (profile)
 abbrev pub unit_fault : {F : Type 0} → SourceFacts F → PlanUnit → Option (EngineError F)
 unit_fault facts unit = first_of (part_fault facts) unit.parts
 
+-- the same of units. Their parts are read one after the other (profile)
 abbrev pub units_fault : {F : Type 0} → SourceFacts F → List PlanUnit → Option (EngineError F)
 units_fault facts units = first_of (unit_fault facts) units
 
--- memory was refused, or this is the fault
+-- memory was refused, or this is the fault (profile)
 abbrev pub IsFault : {F : Type 0} → Option (EngineError F) → EngineError F → Type 0
 IsFault first error = (error ≡ Resources) ⊎ (first ≡ Some error)

@@ -4,22 +4,23 @@ use Rattle.std.specs.Prelude.{◌≢◌, ◌<◌, ◌⊎◌, ℕ, List, length, 
 use Rattle.tor_sums.specs.declared.errors.EngineError.{EngineError}
 use Rattle.tor_sums.specs.declared.errors.EngineError.TheVariants.{Read, Changed, Missing, Resources, StreamTooLong}
 
--- these sizes were told of the first files, none of one that is missing
+-- the source told these sizes of the first files. It told none of one that is missing (profile)
 abbrev pub HasTold : (ℕ → Option ℕ → Type 0) → List (Option ℕ) → Type 0
 HasTold told sizes = (file : ℕ) → file < length sizes → told file (slice_index_or sizes file None)
 
--- these lengths were told of the first files, and none is missing
+-- it told these lengths of them, and none is missing (profile)
 abbrev pub HasToldLengths : (ℕ → Option ℕ → Type 0) → List ℕ → Type 0
 HasToldLengths told lengths = (file : ℕ) → file < length lengths → told file (Some (slice_index_or lengths file 0))
 
--- the source does not keep to this size of a file: it told another, or a read before the end gave no byte
+-- the source told another size of a file, or a read before its end gave no byte. So it does not keep to this size
+-- (profile)
 abbrev pub Departs : (ℕ → Option ℕ → Type 0) → (ℕ → ℕ → Type 0) → ℕ → Option ℕ → Type 0
 Departs told ended file size =
     ((other : Option ℕ) × told file other × (other ≢ size))
     ⊎ ((start : ℕ) × ended file start × (start < unwrap_or size 0))
 
--- where the lengths of so many files are asked: a fault is one that the source gave for the length of one of them, and
--- it told that the file is missing that is answered so
+-- if lengths are asked: what is answered the source gave or told. It may be any source: a fault is one that it gave for
+-- the length of one of so many files, and it told that the file is missing that is answered so (profile)
 abbrev pub IsGivenAsked : {F : Type 0} → (ℕ → Option ℕ → F → Type 0) → (ℕ → Option ℕ → Type 0) → ℕ
     → EngineError F → Type 0
 IsGivenAsked gave told count (Read file None fault) = gave file None fault × (file < count)
@@ -30,8 +31,8 @@ IsGivenAsked gave told count Resources = Unit {0}
 -- no stream is read
 IsGivenAsked gave told count (StreamTooLong file) = ⊥
 
--- where files of these lengths are read: a fault is one that the source gave, for this file and offset; it does not
--- keep to the length of a file that is answered as changed, and told that one is missing that is answered so
+-- the same if files are read. A fault is one that the source gave, for this file and offset; it does not keep to the
+-- length of a file that is answered as changed, and told that one is missing that is answered so (profile)
 abbrev pub IsGiven : {F : Type 0} → (ℕ → Option ℕ → F → Type 0) → (ℕ → Option ℕ → Type 0) → (ℕ → ℕ → Type 0)
     → List ℕ → EngineError F → Type 0
 IsGiven gave told ended lengths (Read file start fault) = gave file start fault × (file < length lengths)
@@ -41,7 +42,7 @@ IsGiven gave told ended lengths (Missing file) = told file None × (file < lengt
 IsGiven gave told ended lengths Resources = Unit {0}
 IsGiven gave told ended lengths (StreamTooLong file) = ⊥
 
--- the same, and it is not that a file is missing
+-- the same, and it is not that a file is missing (profile)
 abbrev pub IsGivenNotMissing : {F : Type 0} → (ℕ → Option ℕ → F → Type 0) → (ℕ → Option ℕ → Type 0)
     → (ℕ → ℕ → Type 0) → List ℕ → EngineError F → Type 0
 IsGivenNotMissing gave told ended lengths (Read file start fault) = gave file start fault × (file < length lengths)
@@ -51,8 +52,8 @@ IsGivenNotMissing gave told ended lengths (Missing file) = ⊥
 IsGivenNotMissing gave told ended lengths Resources = Unit {0}
 IsGivenNotMissing gave told ended lengths (StreamTooLong file) = ⊥
 
--- where pieces of so many files are hashed, which may be missing: a fault is one that the source gave, for this file
--- and offset; of a file that is answered as changed it told a size, and does not keep to it
+-- the same if pieces of files are hashed, which may be missing. A fault is one that the source gave, for this file and
+-- offset; of a file that is answered as changed it told a size, and does not keep to it (profile)
 abbrev pub IsGivenPieces : {F : Type 0} → (ℕ → Option ℕ → F → Type 0) → (ℕ → Option ℕ → Type 0) → (ℕ → ℕ → Type 0)
     → ℕ → EngineError F → Type 0
 IsGivenPieces gave told ended count (Read file start fault) = gave file start fault × (file < count)
@@ -62,8 +63,8 @@ IsGivenPieces gave told ended count (Missing file) = ⊥
 IsGivenPieces gave told ended count Resources = Unit {0}
 IsGivenPieces gave told ended count (StreamTooLong file) = ⊥
 
--- where bytes alone are read of files of these lengths: a fault is one that the source gave, at a byte of the file; of
--- a file that is answered as changed a read of one of its bytes gave none
+-- the same if bytes alone are read. A fault is one that the source gave, at a byte of the file; of a file that is
+-- answered as changed a read of one of its bytes gave none (profile)
 abbrev pub IsGivenRead : {F : Type 0} → (ℕ → Option ℕ → F → Type 0) → (ℕ → ℕ → Type 0) → List ℕ
     → EngineError F → Type 0
 IsGivenRead gave ended lengths (Read file None fault) = ⊥

@@ -24,32 +24,34 @@ abbrev pub fed_tree : List ℕ → Option Feeding → Option Feeding
 fed_tree bytes None = None
 fed_tree bytes (Some feed) = Some (record { piece_length = feed.piece_length; bytes = feed.bytes ++ bytes })
 
--- where the kind has trees, this is one over these bytes
+-- if the kind has trees, this is one over these bytes (BEP 52, "pieces root")
 abbrev pub IsTreeOf : Kind → ℕ → List ℕ → Option Feeding → Type 0
 IsTreeOf kind piece_length bytes tree =
     tree ≡ (if has_v2 kind then Some (record { piece_length = piece_length; bytes = bytes }) else None)
 
--- the hasher was fed these bytes of files, and with the zeros these bytes in all
+-- the hasher was fed these bytes of files, and with the zeros these bytes in all (profile)
 pub record HasFedContent (kind : Kind) (piece_length : ℕ) (bytes joined : List ℕ) (hasher : ContentHasher)
     : Type 0 where
   pub tree : IsTreeOf kind piece_length bytes hasher.tree
   pub pieces : has_v1 kind ≡ true → IsSomeAnd hasher.pieces (λ pieces. HasFed pieces piece_length joined)
   pub none : has_v1 kind ≡ false → hasher.pieces ≡ None
 
--- memory was refused for some more bytes: the hasher was fed none of them, or where there are both, the pieces were fed
--- them and the tree was not
+-- what a hasher was fed if memory was refused: nothing, or the pieces alone. If there are both, the pieces may have
+-- been fed the bytes and the tree not (profile)
 abbrev pub IsLeft : Kind → ℕ → List ℕ → List ℕ → List ℕ → ContentHasher → Type 0
 IsLeft kind piece_length bytes joined more hasher =
     HasFedContent kind piece_length bytes joined hasher
     ⊎ ((has_v1 kind ≡ true) × (has_v2 kind ≡ true)
     × HasFedContent kind piece_length bytes (joined ++ more) hasher)
 
--- the same for so many zeros: it was fed fewer
+-- the same for so many zeros. It was fed fewer (profile)
 abbrev pub IsLeftOfZeros : Kind → ℕ → List ℕ → List ℕ → ℕ → ContentHasher → Type 0
 IsLeftOfZeros kind piece_length bytes joined count hasher =
     (fewer : ℕ) × (fewer < count) × HasFedContent kind piece_length bytes (joined ++ zeros fewer) hasher
 
--- a content with these bytes of files, and with the zeros these bytes in all, hashes to this
+-- what a content hashes to: tree and SHA-1s. It has these bytes of files, and with the zeros these bytes in all; the
+-- tree is over the bytes of files, and the SHA-1s are of the pieces of all (BEP 52, "pieces root"; BEP 3, "info
+-- dictionary")
 pub record AreHashesOf (kind : Kind) (piece_length : ℕ) (bytes joined : List ℕ) (hashed : Hashed) : Type 0 where
   pub tree : IsTreeOf kind piece_length bytes hashed.tree
   pub pieces : hashed.pieces.items ≡ (if has_v1 kind then piece_sums piece_length joined else [])

@@ -17,8 +17,9 @@ lists_of layers = map (λ layer. layer.items) layers
 abbrev pub plan_content : PlanFacts → List (List ℕ) → List ℕ
 plan_content plan contents = flat_map (unit_content contents) plan.units
 
--- root and layer of each content, where the kind has trees; where it has pieces, the SHA-1 of each piece of the joined
--- content: these contents, and the zeros of padding between them
+-- lengths, roots, layers and pieces of contents. There are roots and layers if the kind has trees; if it has pieces,
+-- they are the SHA-1 of each piece of the joined content: these contents, and the zeros of padding between them (BEP
+-- 52, "pieces root", "piece layers"; BEP 3, "info dictionary")
 pub record AreSumsOf (kind : Kind) (piece_length : ℕ) (contents : List (List ℕ)) (joined : List ℕ)
     (sums : Sums) : Type 0 where
   pub lengths : sums.lengths.items ≡ map length contents
@@ -27,12 +28,13 @@ pub record AreSumsOf (kind : Kind) (piece_length : ℕ) (contents : List (List �
       ≡ map (λ content. if has_v2 kind then piece_layer content piece_length else []) contents
   pub pieces : sums.pieces.items ≡ (if has_v1 kind then piece_sums piece_length joined else [])
 
--- of the files of a plan, whose units are the joined content
+-- those of a plan's files. Their units are the joined content (BEP 52, "pieces root", "piece layers"; BEP 3, "info
+-- dictionary")
 abbrev pub AreSumsOfPlan : PlanFacts → List (List ℕ) → Sums → Type 0
 AreSumsOfPlan plan contents sums =
     AreSumsOf plan.kind plan.piece_length contents (plan_content plan contents) sums
 
--- the sums are those of some contents, which have the lengths of the plan
+-- those of some contents of the plan's lengths (BEP 52, "pieces root", "piece layers"; BEP 3, "info dictionary")
 abbrev pub AreSumsOfSome : PlanFacts → Sums → Type 0
 AreSumsOfSome plan sums =
     (contents : List (List ℕ)) × (map length contents ≡ plan.lengths) × AreSumsOfPlan plan contents sums

@@ -25,8 +25,9 @@ level_in level size count = if nat_lt count size then level else None
 abbrev pub Node : Type 0
 Node = List ℕ × List (List ℕ)
 
--- that of the bytes of a unit: alone in its file the root and the layer (BEP 52, "pieces root" and "piece layers"),
--- else the node at its level, over zero leaves past the end, and the hashes that it has in the layer of its file
+-- that of the bytes of a unit: alone in its file the root and the layer, which are the "pieces root" and the "piece
+-- layers" of BEP 52, else the node at its level, over zero leaves past the end, and the hashes that it has in the layer
+-- of its file
 abbrev pub node_over : ℕ → Option ℕ → List ℕ → Node
 node_over piece_length None bytes = (pieces_root bytes, piece_layer bytes piece_length)
 node_over piece_length (Some level) bytes = (padded_subtree level 0 (leaves bytes), piece_roots bytes piece_length)

@@ -21,8 +21,9 @@ node_in sums = (sums.hash, sums.layer.items)
 abbrev pub bare_node : Node
 bare_node = (replicate 32 0, [])
 
--- these are the sums of the unit of their number, where the files have these contents: its node and its part of the
--- layer where the kind has trees, else zeros and none; the SHA-1 of its pieces where the kind has them
+-- hash, part of the layer and SHA-1s of a unit. These are the sums of the unit of their number, if the files have these
+-- contents: its node and its part of the layer if the kind has trees, else zeros and none; the SHA-1 of its pieces if
+-- the kind has them (BEP 52, "pieces root", "piece layers"; BEP 3, "info dictionary")
 pub record IsUnitSums (plan : PlanFacts) (contents : List (List ℕ)) (sums : UnitSums) : Type 0 where
   pub number : sums.unit < length plan.units
   pub node : has_v2 plan.kind ≡ true → node_in sums ∷ []
