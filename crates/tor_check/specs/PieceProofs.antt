@@ -18,7 +18,7 @@ refusal_at kind piece_length (Some told) index =
     if not (has_v2 kind) || told.file.length == 0 then Some errors.NoTree else (
     if nat_le (proof_count told.file.length piece_length) index then Some errors.Index else None)
 
--- the same of the file at an index of a torrent
+-- why a piece of a torrent's file has no proof. It is the first reason that holds, of the file at an index (profile)
 abbrev pub piece_refusal : View → ℕ → ℕ → Option ProveError
 piece_refusal view file index = refusal_at view.kind view.piece_length (slice_get view.files file) index
 
@@ -27,7 +27,7 @@ abbrev pub piece_hash : ℕ → FileView → ℕ → List ℕ
 piece_hash piece_length told index =
     if is_long piece_length told.file then slice_index_or told.layer index zero_leaf else root_of_file told.file
 
--- it is that hash, and the siblings lead from it to the root of the file
+-- the hash of a piece, and its siblings. They lead from it to the root of the file (BEP 52, "piece layers"; profile)
 pub record IsPieceProof (piece_length : ℕ) (told : FileView) (index : ℕ) (hash : List ℕ)
     (siblings : List (List ℕ)) : Type 0 where
   pub of_piece : hash ≡ piece_hash piece_length told index

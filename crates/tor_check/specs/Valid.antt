@@ -17,7 +17,7 @@ abbrev pub of_bencode : BenError → Refusal → Type 0
 of_bencode (errors.Refused fault offset) refusal = refusal ≡ refusals.Bencode fault offset
 of_bencode errors.Memory refusal = refusal ≡ refusals.Memory
 
--- the bytes are a torrent, and this is what it describes
+-- the bytes are a torrent, and this is what it describes (profile)
 abbrev pub IsTold : List ℕ → View → Type 0
 IsTold bytes view = (root : Data) × IsTorrentOf root bytes × (view ≡ view_of root)
 
@@ -30,7 +30,7 @@ pub record IsRefused (bytes : List ℕ) (refusal : Refusal) : Type 0 where
   pub first : refusal_of root ≡ Some condition
   pub named : refusal ≡ refusal_for condition
 
--- why bytes are no torrent: they spell no tree, or the tree is none; or memory was refused
+-- why bytes are no torrent: they spell no tree, or the tree is none. Or memory was refused (profile)
 abbrev pub IsRefusedFor : List ℕ → Refusal → Type 0
 IsRefusedFor bytes (refusals.Bencode fault offset) = IsFaultAt bytes fault offset
 IsRefusedFor bytes refusals.Memory = Unit {0}

@@ -7,7 +7,7 @@ use Rattle.tor_spec.specs.valid.Conditions.{refusal_of}
 use Rattle.tor_spec.specs.valid.View.{View, view_of}
 use Rattle.tor_tree.specs.Path.{path_cmp}
 
--- some lawful tree of which no condition holds describes it
+-- some lawful tree of which no condition holds describes it (profile)
 pub record IsViewOfValid (view : View) : Type 0 where
   pub tree : Data
   pub lawful : IsLawful tree

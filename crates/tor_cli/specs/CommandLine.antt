@@ -153,7 +153,7 @@ torrent_apps kinds hows = make_app kinds hows ∷ check_app ∷ file_app (codes 
 abbrev pub piece_apps : List App
 piece_apps = prove_app ∷ verify_app ∷ recheck_app ∷ []
 
--- the program has a version, and wants a command
+-- the program's command line as the kit's `clap` has one. The program has a version, and wants a command (profile)
 abbrev pub tor_app : ValueParser → ValueParser → App
 tor_app kinds hows =
     with_commands (with_commands

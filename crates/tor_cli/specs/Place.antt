@@ -18,27 +18,28 @@ use Rattle.tor_cli.specs.declared.fault.Fault.TheVariants.{Scan, Resources as No
 use Rattle.tor_cli.specs.declared.make.way.Way.{Way}
 use Rattle.tor_cli.specs.declared.make.way.Way.TheVariants.{Shared, Streams}
 
--- the path of one file is the torrent's name; those below a folder rise, and have at most 64 names
+-- the paths of a file, or of the files below a folder. The path of one file is the torrent's name; those below a folder
+-- rise, and have at most 64 names (profile)
 abbrev pub AreFound : List ℕ → Bool → List (List (List ℕ)) → Type 0
 AreFound name true paths = paths ≡ (name ∷ []) ∷ []
 AreFound name false paths = IsStrictlySortedBy path_cmp paths × All (λ path. length path ≤ 64) paths
 
--- why there are no files with letters at a place, where these are to be in a file
+-- why there are no files with letters at a place. The letters may be in a file (profile)
 abbrev pub IsNotFound : List ℕ → Option (List ℕ) → Fault → Type 0
 IsNotFound name attrs (Scan fault) = fault ≢ scans.Memory
 IsNotFound name attrs NoResources = Unit {0}
 IsNotFound name attrs fault =
     (single : Bool) × (paths : List (List (List ℕ))) × AreFound name single paths × IsNotLettered attrs paths fault
 
--- a fault that one of so many files can have: its length never says that nothing is there
+-- a fault that one of so many files can have. Its length never says that nothing is there (profile)
 abbrev pub IsFileFault : ℕ → ℕ → Option ℕ → Error → Type 0
 IsFileFault count file offset fault = (file < count) × (offset ≡ None → is_absence (error_kind fault) ≡ false)
 
--- what can be told of the length of a file: of one that is none of so many, that it is missing
+-- what can be told of the length of a file. Of one that is none of so many it is that it is missing (profile)
 abbrev pub IsFileSize : ℕ → ℕ → Option ℕ → Type 0
 IsFileSize count file size = count ≤ file → size ≡ None
 
--- a read can end at any offset of any file
+-- a read can end at any offset of any file (profile)
 abbrev pub IsFileEnd : ℕ → ℕ → Type 0
 IsFileEnd file start = Unit {0}
 

@@ -89,6 +89,7 @@ status_of_recheck (rechecks.Changed file) = 3
 status_of_recheck rechecks.Resources = 4
 status_of_recheck rechecks.Workers = 1
 
+-- the status at a fault (profile)
 abbrev pub status_of : Fault → ℕ
 status_of (Usage line) = 2
 status_of (Name fault) = 1

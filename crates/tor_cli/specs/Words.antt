@@ -59,8 +59,8 @@ how_of (Streams workers) = Board workers
 abbrev pub IsNumber : List ℕ → (ℕ → Type 0) → Type 0
 IsNumber text Holds = IsNumeral 10 (without_leading_plus text) × Holds (digits_value 10 (without_leading_plus text))
 
--- a word asks for this number of workers: it is the number, or `auto`, of which no contract says how many processors
--- there are
+-- a word asks for this number of workers. It is the number, or `auto`, of which no contract says how many processors
+-- there are (profile)
 abbrev pub AreWorkers : List ℕ → ℕ → Type 0
 AreWorkers text workers =
     IsNumber text (λ number. workers ≡ number) ⊎ ((text ≡ codes "auto") × (1 ≤ workers) × (workers ≤ MAX_WORKERS))
@@ -74,7 +74,7 @@ IsWorkersIn rows Holds = (text : List ℕ) × (workers : ℕ) × (first_of (code
 abbrev pub IsFlag : List Row → List ℕ → Bool → Type 0
 IsFlag rows name given = one_of name rows ≡ Some (bool_text given)
 
--- the values of the options, by their names
+-- the words ask for these options of `make`. They are the values of the options, by their names (profile)
 pub record AreOptionsIn (rows : List Row) (options : MakeOptions) : Type 0 where
   pub kind : first_of (codes "kind") rows ≡ Some (word_of options.kind)
   pub name : first_of (codes "name") rows ≡ Some options.name.now
@@ -104,11 +104,11 @@ pub record IsCheckIn (options : CheckOptions) (rows : List Row) : Type 0 where
   pub telling : (null json : Bool) → IsFlag rows (codes "null") null → IsFlag rows (codes "json") json
       → options.telling ≡ telling_of null json
 
--- the file of a command over one torrent
+-- they ask for this file. It is that of a command over one torrent (profile)
 abbrev pub IsFileIn : Bor (List ℕ) → List Row → Type 0
 IsFileIn place rows = first_of (codes "file") rows ≡ Some place.now
 
--- the piece that a proof is wanted of
+-- they ask for a proof of this piece (profile)
 pub record IsPieceIn (options : ProveOptions) (rows : List Row) : Type 0 where
   pub torrent : first_of (codes "file") rows ≡ Some options.torrent.now
   pub file : (text : List ℕ) → one_of (codes "file-number") rows ≡ Some text
@@ -116,7 +116,7 @@ pub record IsPieceIn (options : ProveOptions) (rows : List Row) : Type 0 where
   pub index : (text : List ℕ) → one_of (codes "index") rows ≡ Some text
       → IsNumber text (λ number. options.index ≡ number)
 
--- the words that a proof is judged by
+-- they ask for an answer to this proof. They are the words that it is judged by (profile)
 pub record IsProofIn (options : VerifyOptions) (rows : List Row) : Type 0 where
   pub root : first_of (codes "root") rows ≡ Some options.root.now
   pub length : first_of (codes "length") rows ≡ Some options.length.now
@@ -154,7 +154,7 @@ abbrev pub HasCommand : List (List ℕ) → List ℕ → (List Row → Type 0) �
 HasCommand words command Holds = (kinds hows : ValueParser) × AreKinds kinds × AreHows hows
     × HasRows (subcommand_of (tor_app kinds hows) words) command Holds
 
--- the words ask for this; of a text to be shown nothing is said
+-- the words ask for this. Of a text to be shown nothing is said (profile)
 abbrev pub Asks : List (List ℕ) → Request → Type 0
 Asks words (Show text) = Unit {0}
 Asks words (Make options) = HasCommand words (codes "make") (λ rows. AreOptionsIn rows options)

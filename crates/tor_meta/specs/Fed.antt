@@ -11,19 +11,19 @@ use Rattle.tor_v1.specs.declared.layout.Layout.TheVariants.{AlignedTail}
 abbrev pub count_of : FedSums → ℕ
 count_of sums = sums.count
 
--- the sums were fed these bytes
+-- the sums were fed these bytes (profile)
 pub record HasFed (sums : FedSums) (kind : Kind) (piece_length : ℕ) (bytes : List ℕ) : Type 0 where
   pub counted : sums.count ≡ length bytes
   pub content : HasFedContent kind piece_length bytes bytes sums.hasher
 
--- whatever the old sums were fed, the new ones were fed that and then the part
+-- the part was fed after whatever the old sums were fed (profile)
 abbrev pub Feeds : FedSums → FedSums → List ℕ → Type 0
 Feeds old new part =
     (kind : Kind) (piece_length : ℕ) (bytes : List ℕ) → HasFed old kind piece_length bytes
     → HasFed new kind piece_length (bytes ++ part)
 
--- memory was refused for a part: none of it was fed, or where there are both, the pieces were fed it and the tree was
--- not
+-- what was fed if memory was refused: nothing, or the pieces alone. If there are both, the pieces may have been fed the
+-- part and the tree not (profile)
 abbrev pub Leaves : FedSums → FedSums → List ℕ → Type 0
 Leaves old new part =
     (kind : Kind) (piece_length : ℕ) (bytes : List ℕ) → HasFed old kind piece_length bytes

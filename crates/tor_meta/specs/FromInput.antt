@@ -36,7 +36,8 @@ pub record MakesOf (refusal : Option (MakeError Error)) (order : Order) (attr : 
   pub accepted : refusal ≡ None
   pub torrent : Holds (torrent_of order attr content)
 
--- all that the reader had was read, and its torrent, and nothing else, was written
+-- what `make_from` reads and writes at Ok. All that the reader had was read, and its torrent, and nothing else, was
+-- written (profile)
 abbrev pub MakesWhole : Order → Option (List ℕ) → Option (List ℕ) → Option (List ℕ) → Option (List ℕ) → List ℕ → Type 0
 MakesWhole order reader reader' writer writer' =
     MakesOf (refusal_of order) order no_letters reader reader' (Appends writer writer')
@@ -45,7 +46,8 @@ MakesWhole order reader reader' writer writer' =
 abbrev pub IsFront : Option (List ℕ) → Option (List ℕ) → ℕ → List ℕ → Type 0
 IsFront writer writer' written torrent = (written < length torrent) × Appends writer writer' (take written torrent)
 
--- all that the reader had was read, and so many bytes of its torrent, and nothing else, were written
+-- at a fault of the writer. All that the reader had was read, and so many bytes of its torrent, and nothing else, were
+-- written (profile)
 abbrev pub MakesFront : Order → Option (List ℕ) → Option (List ℕ) → Option (List ℕ) → Option (List ℕ) → ℕ → List ℕ
     → Type 0
 MakesFront order reader reader' writer writer' written =
@@ -60,7 +62,7 @@ StopsReading refusal reader reader' (Make error) =
     (content : List ℕ) × ReadsAll reader reader' content × ((refusal ≡ Some error) ⊎ (error ≡ Resources))
 StopsReading refusal reader reader' (Write fault) = ⊥
 
--- what was read and written where it ended in this fault
+-- what it reads and writes at each fault (profile)
 abbrev pub MakesPart : Order → Option (List ℕ) → Option (List ℕ) → Option (List ℕ) → Option (List ℕ) → FromFault
     → Type 0
 -- all was read, and a front of its torrent was written

@@ -12,11 +12,12 @@ use Rattle.tor_meta.specs.declared.hashes.Hashes.{Hashes}
 use Rattle.tor_tree.specs.Kinds.{has_v1, has_v2}
 use Rattle.tor_tree.specs.declared.kinds.Kind.{Kind}
 
--- the bytes spell a lawful tree that has `info`
+-- the bytes spell a lawful tree that has `info` (BEP 3, "metainfo files")
 abbrev pub HasInfo : List ℕ → Type 0
 HasInfo bytes = (root : Data) × IsLawful root × (bytes ≡ spelling root) × IsSome (value_of (codes "info") root)
 
--- the SHA-1 and the SHA-256 of the spelling of `info`, each where the kind has that side
+-- the SHA-1 and the SHA-256 of the spelling of `info`. There is each if the kind has that side (BEP 3, "info_hash"; BEP
+-- 52, "infohash")
 pub record AreInfoHashes (kind : Kind) (info : List ℕ) (hashes : Hashes) : Type 0 where
   pub first : hashes.v1 ≡ (if has_v1 kind then Some (sha1 info) else None)
   pub second : hashes.v2 ≡ (if has_v2 kind then Some (sha256 info) else None)
@@ -37,6 +38,7 @@ topics (Some first) None = btih first
 topics None (Some second) = btmh second
 topics (Some first) (Some second) = btih first ++ (codes "&" ++ btmh second)
 
--- the link: a topic for each hash
+-- `magnet:?`, then `xt=urn:btih:` and `xt=urn:btmh:1220` with the hashes, `&` between. Their digits are in lower case,
+-- and there is a topic for each hash (BEP 9, "magnet URI format"; BEP 52, "magnet links")
 abbrev pub magnet_link : Hashes → List ℕ
 magnet_link hashes = codes "magnet:?" ++ topics hashes.v1 hashes.v2

@@ -3,6 +3,7 @@ use Rattle.std.specs.Prelude.{option_map}
 use Rattle.tor_meta.specs.declared.head.Head.{Head}
 use Rattle.tor_spec.specs.Settings.{Settings}
 
+-- the settings that a head stands for (profile)
 abbrev pub settings_of : Head → Settings
 settings_of head = record {
   kind = head.kind;

@@ -10,6 +10,7 @@ use Rattle.tor_tree.specs.FileList.{IsFileList}
 use Rattle.tor_tree.specs.declared.paths.TheConstants.{MAX_NAMES}
 use Rattle.tor_v1.specs.Reserved.{takes_reserved}
 
+-- a list of files that a torrent with a head can be written of (profile)
 pub record IsJudged (head : Head) (files : List (List (List ℕ) × ℕ)) : Type 0 where
   pub is_list : IsFileList files
   pub piece_length : IsPieceLength head.piece_length

@@ -30,7 +30,7 @@ use Rattle.tor_tree.specs.PathList.{AreIndexedPaths, indices_of}
 abbrev pub content_at : {F : Type 0} → SourceFacts F → ℕ → ListOf ℕ
 content_at facts file = unwrap_or (facts.contents file) []
 
--- the files of a source: file i has the i-th path, and its letters
+-- the files that a source has under paths with letters. File i has the i-th path, and its letters (profile)
 abbrev pub files_of_source : {F : Type 0} → SourceFacts F → ListOf (ListOf (ListOf ℕ) × Attr) → ListOf File
 files_of_source facts files =
     map (λ file. record { path = file.1.0; content = content_at facts file.0; attr = file.1.1 }) (enumerate_from 0
@@ -49,14 +49,15 @@ lettered files entries = map (λ entry. (entry.0, letters_at files entry.1)) ent
 abbrev pub listed_files : {F : Type 0} → SourceFacts F → ListOf (ListOf (ListOf ℕ) × ℕ) → ListOf (ListOf (ListOf ℕ) × ℕ)
 listed_files facts entries = map (λ entry. (entry.0, length (content_at facts entry.1))) entries
 
--- what needs no path: M1, M2, M3
+-- the first reason that needs no path: M1, M2, M3 (profile)
 abbrev pub numbers_refusal : {F : Type 0} → Order → Option (MakeError F)
 numbers_refusal order =
     if not (is_piece_length order.piece_length) then Some PieceLength else (
     if not (is_how order.how) then Some Workers else (
     if not (is_span order.span) then Some Span else None))
 
--- what is known before the source is asked: those, then the refusals of paths, to Y1
+-- the first reason, before the source is asked, why no torrent is made. It is of the numbers, then of the paths, to Y1
+-- (profile)
 abbrev pub make_refusal : {F : Type 0} → Order → ListOf (ListOf (ListOf ℕ)) → Option (MakeError F)
 make_refusal order paths =
     option_or (numbers_refusal order) (option_map of_contents_error (paths_refusal (settings_of_order order) paths))
@@ -67,10 +68,11 @@ asked_fault facts count =
     option_or (option_map of_engine_error (first_of (length_fault facts) (range_with_len 0 count)))
     (option_map List (lengths_fault (map length (contents_in facts count))))
 
--- where the bytes are read: file by file in the order of the list, each from its first byte to its last
+-- if the bytes are read: file by file in the order of the list, each from its first byte to its last
 abbrev pub byte_told : {F : Type 0} → SourceFacts F → ℕ → ℕ → Option (MakeError F)
 byte_told facts file offset = option_map (λ fault. Read file (Some offset) fault) (facts.byte_fault file offset)
 
+-- the first byte that fails, file by file in the order of the list (profile)
 abbrev pub bytes_fault : {F : Type 0} → SourceFacts F → ListOf (ListOf (ListOf ℕ) × ℕ) → Option (MakeError F)
 bytes_fault facts entries =
     first_of (λ entry. first_of (byte_told facts entry.1) (range_with_len 0 (length (content_at facts entry.1))))
@@ -83,15 +85,16 @@ fault_of facts order paths entries =
     option_or (make_refusal order paths) (
     option_or (asked_fault facts (length paths)) (bytes_fault facts entries))
 
--- it is this one, where the entries are the paths in order, each with its index
+-- the first of all: the refusals, the lengths, the bytes. The entries are the paths in order, each with its index
+-- (profile)
 pub record IsMakeFault {F : Type 0} (facts : SourceFacts F) (order : Order) (paths : ListOf (ListOf (ListOf ℕ)))
     (fault : Option (MakeError F)) : Type 0 where
   pub entries : ListOf (ListOf (ListOf ℕ) × ℕ)
   pub indexed : make_refusal {F = F} order paths ≡ None → AreIndexedPaths paths entries × IsInPathOrder entries
   pub is_first : fault_of facts order paths entries ≡ fault
 
--- the bytes are the torrent of some files, in the order of their paths: each has a path that was handed in, its
--- letters, and a length that was told of the file under this path's index
+-- the torrent of some files with these paths, letters and told lengths. They are in the order of their paths, and the
+-- length is one that was told of the file under the path's index (profile)
 pub record IsMadeOfTold (told : ℕ → Option ℕ → Type 0) (settings : Settings)
     (files : ListOf (ListOf (ListOf ℕ) × Attr)) (bytes : ListOf ℕ) : Type 0 where
   pub entries : ListOf (ListOf (ListOf ℕ) × ℕ)
@@ -102,19 +105,19 @@ pub record IsMadeOfTold (told : ℕ → Option ℕ → Type 0) (settings : Setti
       told (slice_index_or (indices_of entries) k 0) (Some (length (slice_index_or contents k [])))
   pub made : bytes ≡ metainfo settings (files_with (lettered files entries) contents)
 
--- a length was told of this file, and the source does not keep to it
+-- a length was told of this file, and the source does not keep to it (profile)
 abbrev pub IsToldChanged : (ℕ → Option ℕ → Type 0) → (ℕ → ℕ → Type 0) → ℕ → Type 0
 IsToldChanged told ended file = (size : ℕ) × told file (Some size) × Departs told ended file (Some size)
 
--- lengths were told of so many files that are too large for a list
+-- lengths were told of so many files that are too large for a list (profile)
 abbrev pub AreToldTooLarge : (ℕ → Option ℕ → Type 0) → ℕ → Type 0
 AreToldTooLarge told count =
     (lengths : ListOf ℕ) × (length lengths ≡ count) × HasToldLengths told lengths
     × (lengths_fault lengths ≡ Some TooLarge)
 
--- what is answered of the source it gave or told, steady or not: a fault for this file and offset, that a file is
--- missing, lengths that it did not keep to, or that are too large; the file that is named is one of so many; no stream
--- is read
+-- what is answered of the source it gave or told. It is so of any source, steady or not: a fault for this file and
+-- offset, that a file is missing, lengths that it did not keep to, or that are too large; the file that is named is one
+-- of so many; no stream is read (profile)
 abbrev pub IsGivenTo : {F : Type 0} → (ℕ → Option ℕ → F → Type 0) → (ℕ → Option ℕ → Type 0) → (ℕ → ℕ → Type 0) → ℕ
     → MakeError F → Type 0
 IsGivenTo gave told ended count (Read file start fault) = gave file start fault × (file < count)
@@ -124,8 +127,8 @@ IsGivenTo gave told ended count (StreamTooLong file) = ⊥
 IsGivenTo gave told ended count (List TooLarge) = AreToldTooLarge told count
 IsGivenTo gave told ended count other = Unit {0}
 
--- of a refusal of the order or the paths: it is the first that there is. Other answers are of the source or its
--- lengths, or want of memory
+-- a refusal that is answered is the first that there is. It is one of the order or the paths; other answers are of the
+-- source or its lengths, or want of memory (profile)
 abbrev pub IsOwn : {F : Type 0} → Option (MakeError F) → MakeError F → Type 0
 IsOwn first (Read file start fault) = Unit {0}
 IsOwn first (Changed file) = Unit {0}

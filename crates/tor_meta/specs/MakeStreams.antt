@@ -22,18 +22,19 @@ use Rattle.tor_tree.specs.Path.{path_cmp}
 use Rattle.tor_tree.specs.declared.attr.Attr.{Attr}
 use Rattle.tor_tree.specs.declared.lists.ListError.TheVariants.{TooLarge}
 
--- each path is below the next
+-- each path is below the next (profile)
 abbrev pub are_rising : ListOf (ListOf (ListOf ℕ)) → Bool
 are_rising [] = true
 are_rising (path ∷ []) = true
 are_rising (path ∷ next ∷ paths) = is_lt (path_cmp path next) && are_rising (next ∷ paths)
 
--- what needs no path: M1, M2, M3, for which a unit of over 2^30 bytes is refused too
+-- M1, M2, M3, this also for units of more than 2^30 bytes (profile)
 abbrev pub stream_numbers_refusal : {F : Type 0} → Order → Option (MakeError F)
 stream_numbers_refusal order = option_or (numbers_refusal order) (
     if nat_le (order.span * order.piece_length) MAX_UNIT_LENGTH then None else Some Span)
 
--- what is known before a byte is read: those, M4, M5, then M6, then the other refusals of paths, to Y1
+-- the first reason why no torrent is made of readers: M6 comes after M5. It is known before a byte is read: the
+-- numbers, M4, M5, then M6, then the other refusals of paths, to Y1 (profile)
 abbrev pub stream_refusal : {F : Type 0} → Order → ListOf (ListOf (ListOf ℕ)) → Option (MakeError F)
 stream_refusal order paths =
     option_or (stream_numbers_refusal order) (
@@ -41,15 +42,15 @@ stream_refusal order paths =
     if not (are_rising paths) then Some NotSorted else (
     option_map of_contents_error (ordered_refusal (settings_of_order order) paths))))
 
--- the bytes are the torrent of what readers give, each to its end, which is not too large together
+-- the torrent of what readers give, each to its end. That is not too large together (profile)
 abbrev pub IsMadeOfReaders : Settings → ListOf (ListOf (ListOf ℕ) × Attr) → ListOf (Option (ListOf ℕ)) → ListOf ℕ
     → Type 0
 IsMadeOfReaders settings files known bytes =
     (contents : ListOf (ListOf ℕ)) × GiveContents known contents × (lengths_fault (map length contents) ≡ None)
     × (bytes ≡ metainfo settings (files_with files contents))
 
--- what is answered of readers they gave: a fault of one, after as many bytes as it gave, or more bytes than a file may
--- have, or contents that are too large together; nothing is asked of them but bytes
+-- what is answered of readers they gave. It is a fault of one, after as many bytes as it gave, or more bytes than a
+-- file may have, or contents that are too large together; nothing is asked of them but bytes (profile)
 abbrev pub IsGivenByReaders : {F : Type 0} → ListOf (Option (ListOf ℕ)) → MakeError F → Type 0
 IsGivenByReaders known (Read file start fault) = IsFaultOfReaders known (engine.Read file start fault)
 IsGivenByReaders known (Changed file) = ⊥

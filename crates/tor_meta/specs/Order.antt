@@ -5,6 +5,7 @@ use Rattle.tor_meta.specs.declared.order.Order.{Order}
 use Rattle.tor_meta.specs.declared.order.TheConstants.{MAX_SPAN}
 use Rattle.tor_spec.specs.Settings.{Settings}
 
+-- the settings that an order stands for (profile)
 abbrev pub settings_of_order : Order → Settings
 settings_of_order order = record {
   kind = order.kind;

@@ -30,24 +30,24 @@ is_only name [] = false
 is_only name (path ∷ []) = is_name path name
 is_only name (path ∷ other ∷ paths) = false
 
--- what needs no order of the paths: M1, M4, M5
+-- what needs no order of the paths: M1, M4, M5 (profile)
 abbrev pub shape_refusal : Settings → ListOf (ListOf (ListOf ℕ)) → Option ContentsError
 shape_refusal settings paths =
     if not (is_piece_length settings.piece_length) then Some PieceLength else (
     if list_any is_long paths then Some Path else (
     if settings.single && not (is_only settings.name paths) then Some SingleShape else None))
 
--- what is found once the paths are in order: their faults, then Y1
+-- what is found once paths are in order: their faults, then Y1 (profile)
 abbrev pub ordered_refusal : Settings → ListOf (ListOf (ListOf ℕ)) → Option ContentsError
 ordered_refusal settings paths =
     option_or (option_map List (paths_fault paths)) (
     if is_aligned settings.kind settings.single && list_any is_reserved paths then Some ReservedPad else None)
 
--- what is known before any length
+-- the first reason that paths give, whatever their contents. It is known before any length (profile)
 abbrev pub paths_refusal : Settings → ListOf (ListOf (ListOf ℕ)) → Option ContentsError
 paths_refusal settings paths = option_or (shape_refusal settings paths) (ordered_refusal settings paths)
 
--- and then the fault of lengths
+-- the first reason why no torrent is made of files. That of their lengths comes last (profile)
 abbrev pub contents_refusal : Settings → ListOf File → Option ContentsError
 contents_refusal settings files =
     option_or (paths_refusal settings (map (λ file. file.path) files)) (

@@ -12,13 +12,14 @@ use Rattle.tor_tree.specs.FileList.{LetteredFiles, lengths_of}
 use Rattle.tor_tree.specs.Kinds.{has_v2}
 use Rattle.tor_v1.specs.Entries.{v1_entries}
 
--- that of the entries which the torrent of the files has, in units of so many pieces
+-- the plan of the entries that the torrent of files has. Its units are of so many pieces (profile)
 abbrev pub plan_of_head : Head → ℕ → List (List (List ℕ) × ℕ) → PlanFacts
 plan_of_head head span files =
     plan_of_entries head.kind head.piece_length span
     (v1_entries (layout_of (settings_of head)) head.piece_length files)
 
--- the facts of the files with their letters, whose layers these hashes are, with the roots over them
+-- the facts of files with these layers, and the roots over them. The hashes are those of rows, and the files have their
+-- letters (BEP 52, "piece layers")
 pub record AreFactsOfRows (head : Head) (list : LetteredFiles) (rows : List PieceRow)
     (facts : List Facts) : Type 0 where
   pub is_listed : listed facts ≡ list.files

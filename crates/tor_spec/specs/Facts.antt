@@ -3,14 +3,14 @@ use Rattle.std.specs.Prelude.{ℕ, List, map, length, Option}
 use Rattle.tor_merkle.specs.Layer.{root_of, piece_layer}
 use Rattle.tor_tree.specs.declared.attr.Attr.{Attr}
 
--- a file: the names that lead to it, its bytes, and its letters (BEP 47, "attr")
+-- a file: the names that lead to it, its bytes, and its letters, those of "attr" of BEP 47
 pub record File : Type 0 where
   pub path : List (List ℕ)
   pub content : List ℕ
   pub attr : Attr
 
--- the names that lead to a file, how many bytes it has, its pieces root, the hashes of its piece layer (BEP 52,
--- "pieces root" and "piece layers"), and its letters
+-- the names that lead to a file, how many bytes it has, its pieces root, the hashes of its piece layer, as BEP 52 has
+-- them in "pieces root" and "piece layers", and its letters
 pub record Facts : Type 0 where
   pub path : List (List ℕ)
   pub size : ℕ

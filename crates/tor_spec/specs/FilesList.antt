@@ -10,7 +10,8 @@ use Rattle.tor_v1.specs.declared.entry.Entry.{Entry}
 abbrev pub strings : List (List ℕ) → Data
 strings texts = list (items_of (map string texts))
 
--- what `attr` says: `p` of padding, the letters of a file, and nothing where there is none
+-- what `attr` says: `p` of padding, else the file's letters. It says nothing if there is none (BEP 47, "attr", "padding
+-- files")
 abbrev pub attr_of : Entry → Option (List ℕ)
 attr_of entry =
     if entry.pad then Some (codes "p") else letters (record { exec = entry.exec; hidden = entry.hidden })
@@ -22,5 +23,6 @@ entry_dictionary entry =
     (codes "length", Some (integer (pos entry.length))) ∷
     (codes "path", Some (strings entry.path)) ∷ []))
 
+-- the value of `files`: a dictionary for each entry (BEP 3, "info dictionary")
 abbrev pub files_list : List Entry → Data
 files_list entries = list (items_of (map entry_dictionary entries))

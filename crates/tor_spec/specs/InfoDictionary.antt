@@ -19,7 +19,8 @@ total_size facts = sum_by (λ file. file.size) facts
 abbrev pub single_letters : List Facts → Option (List ℕ)
 single_letters facts = letters (slice_index_or (attrs_in facts) 0 no_letters)
 
--- `pieces` is the joined SHA-1 of each piece
+-- the info dictionary of each kind; beside a single `length` stand the letters of the one file. `pieces` is the joined
+-- SHA-1 of each piece (BEP 3, "info dictionary"; BEP 52, "info dictionary"; BEP 27; BEP 47, "attr")
 abbrev pub info_dictionary : Settings → List Facts → List ℕ → Data
 info_dictionary settings facts pieces =
     let v1 = has_v1 settings.kind in

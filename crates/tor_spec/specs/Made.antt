@@ -22,14 +22,14 @@ attrs_of files = map (λ file. file.attr) files
 abbrev pub sizes_of : List File → List (List (List ℕ) × ℕ)
 sizes_of files = map (λ file. (file.path, length file.content)) files
 
--- files longer than one piece that have one root have one layer
+-- files longer than a piece that have one root have one layer (profile)
 abbrev pub HaveOneLayer : ℕ → List File → Type 0
 HaveOneLayer piece_length files =
     (one other : File) → Contains files one → Contains files other → piece_length < length one.content →
     piece_length < length other.content → root_of one.content ≡ root_of other.content →
     piece_layer one.content piece_length ≡ piece_layer other.content piece_length
 
--- a list of files in the order of their paths, and settings, that the maker accepts
+-- files in the order of their paths, and settings, that the maker accepts (profile)
 pub record AreMade (settings : Settings) (files : List File) : Type 0 where
   pub piece_length : IsPieceLength settings.piece_length
   pub name : name_fault settings.name ≡ None
@@ -52,7 +52,7 @@ made_file settings file = record {
   layer = if has_v2 settings.kind then piece_layer file.content settings.piece_length else [];
 }
 
--- what a torrent describes that was made of these files
+-- what a torrent describes that was made of these files (profile)
 pub record IsViewOfMade (settings : Settings) (made : List File) (view : View) : Type 0 where
   pub kind : view.kind ≡ settings.kind
   pub name : view.name ≡ settings.name

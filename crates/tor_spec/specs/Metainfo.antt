@@ -30,7 +30,8 @@ pieces_of_files settings files =
     v1_pieces settings.piece_length (v1_entries (layout_of settings) settings.piece_length (listed facts))
     (map (λ file. file.content) files)
 
--- the whole file, of files in the order of their paths
+-- the spelling of the root dictionary: `announce`, `info`, `piece layers`. It is the whole file, of files in the order
+-- of their paths (BEP 52, "metainfo files")
 unfoldable pub metainfo : Settings → List File → List ℕ
 metainfo settings files =
     spelling (root_dictionary settings (facts_of_files settings.piece_length files) (pieces_of_files settings files))

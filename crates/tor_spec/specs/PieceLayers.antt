@@ -9,8 +9,8 @@ use Rattle.tor_spec.specs.Facts.{Facts}
 abbrev pub joined : List (List ℕ) → List ℕ
 joined hashes = flat_map (λ hash. hash) hashes
 
--- by pieces root, the joined hashes of the layer of each file that is longer than one piece. Of files with one root
--- the first gives the layer
+-- by pieces root, the joined layer hashes of each file longer than one piece. Of files with one root the first gives
+-- the layer (BEP 52, "piece layers")
 abbrev pub piece_layers : ℕ → List Facts → Pairs
 piece_layers piece_length [] = no_pairs
 piece_layers piece_length (file ∷ files) =

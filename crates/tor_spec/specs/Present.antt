@@ -10,7 +10,7 @@ abbrev pub file_bytes : ℕ → List ℕ → List (Option ℕ)
 file_bytes size content = map Some (take size content) ++ replicate (size - length content) None
 
 -- the bytes of joined entries: those of files from the contents in their order, and zeros of padding, which are always
--- there (BEP 47, "padding files")
+-- there, as "padding files" of BEP 47 says
 abbrev pub joined_bytes : List Entry → List (List ℕ) → List (Option ℕ)
 joined_bytes [] contents = []
 joined_bytes (entry ∷ entries) contents =

@@ -5,8 +5,9 @@ use Rattle.tor_tree.specs.declared.kinds.Kind.TheVariants.{V1, V2, Hybrid}
 use Rattle.tor_v1.specs.declared.layout.Layout.{Layout}
 use Rattle.tor_v1.specs.declared.layout.Layout.TheVariants.{Joined, Aligned, AlignedTail}
 
--- `single`: it is of one file, which has the torrent's name, and `info` has its `length` instead of `files`. `tail`:
--- where files are aligned, the last with bytes has its padding too
+-- what a torrent is made with: kind, single, name, piece length, tracker, private, tail. `single`: it is of one file,
+-- which has the torrent's name, and `info` has its `length` instead of `files`. `tail`: if files are aligned, the last
+-- with bytes has its padding too (profile)
 pub record Settings : Type 0 where
   pub kind : Kind
   pub single : Bool
@@ -16,7 +17,8 @@ pub record Settings : Type 0 where
   pub is_private : Bool
   pub tail : Bool
 
--- its files are aligned to pieces in the list of BEP 3 (BEP 52, "Upgrade Path"); one file by itself is so as it is
+-- the files of a hybrid are aligned to pieces in the list of BEP 3. One file by itself is so as it is (BEP 52, "Upgrade
+-- Path")
 abbrev pub is_aligned : Kind → Bool → Bool
 is_aligned V1 single = false
 is_aligned V2 single = false

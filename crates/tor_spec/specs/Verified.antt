@@ -13,7 +13,7 @@ use Rattle.tor_spec.specs.valid.Layers.{is_long, pieces_in, root_of_file}
 use Rattle.tor_spec.specs.valid.View.{FileView, View}
 
 -- the Merkle hash of a piece: of a file longer than a piece the root over the leaves of its blocks and zero leaves up
--- to a whole piece (BEP 52, "piece layers"), of another the root of the file (BEP 52, "pieces root")
+-- to a whole piece, as in "piece layers" of BEP 52; of another the root of the file, its "pieces root"
 abbrev pub merkle_hash : ℕ → FileView → List ℕ → List ℕ
 merkle_hash piece_length file bytes =
     if is_long piece_length file.file then padded_subtree (piece_level piece_length) 0 (leaves bytes)
@@ -41,8 +41,8 @@ merkle_pieces piece_length [] contents = []
 merkle_pieces piece_length (file ∷ files) contents =
     file_pieces piece_length file (slice_index_or contents 0 []) ++ merkle_pieces piece_length files (drop 1 contents)
 
--- piece i of the joined entries is whole and has its SHA-1, the i-th 20 bytes of `pieces` (BEP 3, "info dictionary").
--- The joined SHA-1 of each piece of its bytes are its own, as they are one piece
+-- piece i of the joined entries is whole and has its SHA-1, the i-th 20 bytes of `pieces` in "info dictionary" of BEP
+-- 3. The joined SHA-1 of each piece of its bytes are its own, as they are one piece
 abbrev pub is_sha1_piece : View → List (List ℕ) → ℕ → Bool
 is_sha1_piece view contents i =
     let piece = run_at view.piece_length (joined_bytes view.entries contents) i in
@@ -54,6 +54,8 @@ is_verified view contents i =
     (not (has_v1 view.kind) || is_sha1_piece view contents i)
     && (not (has_v2 view.kind) || slice_index_or (merkle_pieces view.piece_length view.files contents) i false)
 
--- for each piece
+-- for each piece: its bytes are there, and have the hashes that the torrent gives. Padding is always there; the hashes
+-- are the SHA-1 and the Merkle hash (BEP 3, "info dictionary"; BEP 52, "piece layers", "pieces root"; BEP 47, "padding
+-- files")
 abbrev pub verified_pieces : View → List (List ℕ) → List Bool
 verified_pieces view contents = map (is_verified view contents) (range_with_len 0 view.piece_count)

@@ -39,7 +39,8 @@ hash_line before (Some hash) = before ++ (encode_lower hash ++ codes "\n")
 abbrev pub hash_lines : Hashes → List ℕ
 hash_lines hashes = hash_line (codes "btih ") hashes.v1 ++ hash_line (codes "btmh 1220") hashes.v2
 
--- the lines of `tor check`: the torrent as a whole, its files in their order, its hashes
+-- the lines of `tor check`: numbers in base ten, hashes in lower-case digits. They tell of the torrent as a whole, its
+-- files in their order, its hashes (BEP 52, "magnet links"; profile)
 abbrev pub check_lines : View → Hashes → List ℕ
 check_lines view hashes =
     head_lines view ++ (flat_map (λ shown. file_line shown.file) view.files ++ hash_lines hashes)
@@ -48,6 +49,6 @@ check_lines view hashes =
 abbrev pub ended_paths : View → List ℕ
 ended_paths view = flat_map (λ shown. ended_path shown.file) view.files
 
--- the line of `tor magnet`
+-- the line of `tor magnet` (profile)
 abbrev pub magnet_line : Hashes → List ℕ
 magnet_line hashes = magnet_link hashes ++ codes "\n"

@@ -7,7 +7,7 @@ use Rattle.tor_cli.specs.check.Shown.{check_lines, ended_paths, magnet_line}
 use Rattle.tor_cli.specs.declared.check.telling.Telling.{Telling}
 use Rattle.tor_cli.specs.declared.check.telling.Telling.TheVariants.{Lines, Link, Paths, Record}
 
--- its text, from what it describes and its info hashes
+-- the text that is told of a torrent, from what it describes and its info hashes (profile)
 abbrev pub lines_of : Telling → View → Hashes → List ℕ
 lines_of Lines view hashes = check_lines view hashes
 lines_of Link view hashes = magnet_line hashes

@@ -25,7 +25,8 @@ lettered named paths = map (λ path. (path, letters_in named path)) paths
 abbrev pub AreAmong : List (List (List ℕ)) → List (List (List ℕ) × Attr) → Type 0
 AreAmong paths named = All (λ file. Contains paths file.0) named
 
--- the bytes are the text of a list by which these files have their letters, and which names no other
+-- the bytes are the text of those files that have letters. It is that of a list by which these files have their
+-- letters, and which names no other (BEP 47, "attr"; profile)
 pub record AreLetteredBy (bytes : List ℕ) (files : List (List (List ℕ) × Attr)) : Type 0 where
   pub named : List (List (List ℕ) × Attr)
   pub are : AreLettered named
@@ -33,17 +34,18 @@ pub record AreLetteredBy (bytes : List ℕ) (files : List (List (List ℕ) × At
   pub among : AreAmong (paths_of files) named
   pub each : files ≡ lettered named (paths_of files)
 
--- files have the letters by some bytes, those that the program took for a file's, or none where no file is named
+-- files have the letters that some bytes tell, or none. The bytes are those that the program took for a file's; if no
+-- file is named, there are no letters (profile)
 abbrev pub HaveLetters : Option (List ℕ) → List (List (List ℕ) × Attr) → Type 0
 HaveLetters None files = files ≡ without_letters (paths_of files)
 HaveLetters (Some place) files = OfSome (λ bytes. AreLetteredBy bytes files)
 
--- by these bytes no files of these paths have letters
+-- by these bytes no files of these paths have letters (profile)
 abbrev pub AreBadAttrs : List (List (List ℕ)) → List ℕ → Type 0
 AreBadAttrs paths bytes =
     (files : List (List (List ℕ) × Attr)) → paths_of files ≡ paths → AreLetteredBy bytes files → ⊥
 
--- why files of these paths get none
+-- why files of these paths get none (profile)
 abbrev pub IsNotLettered : Option (List ℕ) → List (List (List ℕ)) → Fault → Type 0
 IsNotLettered place paths Resources = Unit {0}
 IsNotLettered (Some place) paths (Argument Attrs) = OfSome (AreBadAttrs paths)

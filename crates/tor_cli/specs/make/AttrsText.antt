@@ -12,7 +12,7 @@ use Rattle.tor_tree.specs.declared.attr.Attr.{Attr}
 abbrev pub attrs_line : List (List ℕ) × Attr → List ℕ
 attrs_line file = unwrap_or (letters file.1) [] ++ (codes " " ++ (path_text file.0 ++ codes "\n"))
 
--- a line for each file
+-- a line for each file: its letters, a space, its path (BEP 47, "attr"; profile)
 unfoldable pub attrs_text : List (List (List ℕ) × Attr) → List ℕ
 attrs_text files = flat_map attrs_line files
 
@@ -26,7 +26,8 @@ pub record IsLettered (file : List (List ℕ) × Attr) : Type 0 where
   pub in_line : All (λ name. has_byte line_feed name ≡ false) file.0
   pub lettered : IsSome (letters file.1)
 
--- what a text can be of: each has a line, and no path has two
+-- each file has letters and a path in one line, and no path stands twice. It is what a text can be of: each has a line,
+-- and no path has two (profile)
 pub record AreLettered (files : List (List (List ℕ) × Attr)) : Type 0 where
   pub each : All IsLettered files
   pub once : paths_repeat (paths_of files) ≡ false

@@ -14,7 +14,7 @@ use Rattle.tor_cli.specs.declared.recheck.counts.PieceCounts.{PieceCounts}
 abbrev pub counts_of : List Bool → PieceCounts
 counts_of bits = record { good = set_count bits; pieces = length bits }
 
--- so many of the torrent's pieces are there and right
+-- how many bits are set, of how many, one for each piece. So many of the torrent's pieces are there and right (profile)
 abbrev pub AreCounted : View → PieceCounts → Type 0
 AreCounted view counts = (bits : List Bool) × (length bits ≡ view.piece_count) × (counts ≡ counts_of bits)
 
@@ -22,11 +22,11 @@ AreCounted view counts = (bits : List Bool) × (length bits ≡ view.piece_count
 abbrev pub AreCountedOf : List ℕ → PieceCounts → Type 0
 AreCountedOf bytes counts = (view : View) × IsTold bytes view × AreCounted view counts
 
--- all of them are
+-- all are, of the torrent that the bytes are (profile)
 abbrev pub IsAsMade : List ℕ → Type 0
 IsAsMade bytes = (counts : PieceCounts) × AreCountedOf bytes counts × (counts.good ≡ counts.pieces)
 
--- why that is not answered, by so many workers: not all are, or it was not told
+-- why that is not told, by so many workers. Not all are, or it was not answered (profile)
 abbrev pub IsNotAsMade : ℕ → List ℕ → Fault → Type 0
 IsNotAsMade workers bytes (NotAsMade good pieces) =
     AreCountedOf bytes (record { good = good; pieces = pieces }) × (good ≢ pieces)

@@ -41,7 +41,7 @@ use Rattle.tor_cli.specs.declared.fault.Fault.{Fault}
 use Rattle.tor_cli.specs.declared.fault.Fault.TheVariants.{Usage, Name, Scan, Make, Refused, Piece, Recheck, Argument}
 use Rattle.tor_cli.specs.declared.fault.Fault.TheVariants.{NotAsMade, OutAmongFiles, Read, TooLong, Write, Resources}
 
--- the settings of the torrent that the options ask for, of one file or of a folder
+-- the settings that the options ask for. They are of one file or of a folder (profile)
 abbrev pub settings_of_options : MakeOptions → Bool → Settings
 settings_of_options options single = record {
   kind = options.kind;
@@ -53,7 +53,7 @@ settings_of_options options single = record {
   tail = options.tail;
 }
 
--- the order that the options ask for
+-- the order that the options ask for (profile)
 pub record IsOrder (options : MakeOptions) (single : Bool) (order : Order) : Type 0 where
   pub settings : settings_of_order order ≡ settings_of_options options single
   pub how : order.how ≡ how_of options.way
@@ -87,7 +87,8 @@ pub record IsOrderOfOne (options : MakeOptions) (order : Order) (attr : Attr) : 
 abbrev pub input_refusal : MakeOptions → Order → Option (MakeError Error)
 input_refusal options order = refusal_by options.way order ((order.name ∷ []) ∷ [])
 
--- the torrent that the options ask for was made of all that the reader had
+-- what is read and written if the reader has the one file. The torrent that the options ask for was made of all that
+-- the reader had (profile)
 abbrev pub DoesInput : MakeOptions → Streams → Type 0
 DoesInput options s = (order : Order) × (attr : Attr) × IsOrderOfOne options order attr
     × ((content : List ℕ) × MakesOf (input_refusal options order) order attr s.reader s.reader'
@@ -106,7 +107,7 @@ abbrev pub FailsAttrs : MakeOptions → Fault → Streams → Type 0
 FailsAttrs options fault s = (name_fault options.name.now ≡ None)
     × IsNotLettered (attrs_of options) ((options.name.now ∷ []) ∷ []) fault × OnlyReads s
 
--- where this fault stopped it
+-- if this fault stopped that (profile)
 abbrev pub StopsInput : MakeOptions → Streams → Fault → Type 0
 StopsInput options s (Usage line) = ⊥
 StopsInput options s (Name fault) = (name_fault options.name.now ≡ Some fault) × OnlyReads s
@@ -134,12 +135,13 @@ pub record IsOrderOf (options : MakeOptions) (order : Order) (files : List (List
   pub found : AreFound options.name.now order.single (paths_of files)
   pub lettered : HaveLetters (attrs_of options) files
 
--- that order is not refused for those paths, and the bytes are its torrent of some files that have them and the letters
+-- the bytes are a torrent as asked for, of some files as found. It is that of the order that the options ask for, which
+-- is not refused for the files' paths, and of some files that have those paths and the letters (profile)
 abbrev pub IsTorrentAt : MakeOptions → List ℕ → Type 0
 IsTorrentAt options torrent = (order : Order) × (files : List (List (List ℕ) × Attr)) × IsOrderOf options order files
     × (refusal_by options.way order (paths_of files) ≡ None) × IsMadeOfSome (settings_of_order order) files torrent
 
--- where there is a refusal, no fault of a file stops it before that
+-- if there is a refusal, no fault of a file stops it before that (profile)
 abbrev pub IsRefusedFirst : Option (MakeError Error) → MakeError Error → Type 0
 IsRefusedFirst first error = (refusal : MakeError Error) → first ≡ Some refusal
     → (error ≡ makes.Resources) ⊎ (error ≡ refusal)
@@ -159,23 +161,25 @@ StopsFinding options Resources = Unit {0}
 StopsFinding options fault =
     (name_fault options.name.now ≡ None) × IsNotFound options.name.now (attrs_of options) fault
 
--- it may go out: where that is asked for, each of its pieces was found there and right afterwards
+-- bytes of such a torrent that may go out. If that is asked for, each of its pieces was found there and right
+-- afterwards (profile)
 abbrev pub IsTorrentToSend : MakeOptions → List ℕ → Type 0
 IsTorrentToSend options torrent = IsTorrentAt options torrent
     × (options.check_after ≡ true → IsAsMade torrent)
 
--- why none goes out: there is none; or it was asked for its pieces, and not all were found
+-- why none go out. There are none; or they were asked for their pieces, and not all were found (profile)
 abbrev pub StopsSending : MakeOptions → Fault → Type 0
 StopsSending options fault = StopsFinding options fault
     ⊎ ((options.check_after ≡ true) × ((torrent : List ℕ) × IsTorrentAt options torrent
     × IsNotAsMade (workers_of (how_of options.way)) torrent fault))
 
--- a torrent was made of the files at a place, of which no contract says what they hold
+-- what is written if PATH has the files. A torrent was made of the files at a place, of which no contract says what
+-- they hold (profile)
 abbrev pub DoesPlace : MakeOptions → Streams → Type 0
 DoesPlace options s = (s.reader' ≡ s.reader)
     × ((torrent : List ℕ) × IsTorrentToSend options torrent × Sends (file_of options) s.writer s.writer' torrent)
 
--- where this fault stopped it
+-- if this fault stopped that (profile)
 abbrev pub StopsPlace : MakeOptions → Streams → Fault → Type 0
 StopsPlace options s (Write written) = (s.reader' ≡ s.reader)
     × ((torrent : List ℕ) × IsTorrentToSend options torrent
@@ -207,14 +211,14 @@ IsDone (Prove options) s = DoesProve options s
 IsDone (Verify options) s = DoesVerify options Yes s
 IsDone (ToRecheck options) s = DoesRecheck options Yes s
 
--- it was done with this answer; only a question is ever answered by no
+-- what is read and written for a request, with this answer. Only a question is ever answered by no (profile)
 abbrev pub Does : Request → Answer → Streams → Type 0
 Does request Yes s = IsDone request s
 Does (Verify options) No s = DoesVerify options No s
 Does (ToRecheck options) No s = DoesRecheck options No s
 Does request No s = ⊥
 
--- where this fault stopped it
+-- if this fault stopped it (profile)
 abbrev pub Stops : Request → Streams → Fault → Type 0
 Stops (Show text) s (Write written) =
     (s.reader' ≡ s.reader) × IsFront s.writer s.writer' written (string_bytes text)

@@ -32,8 +32,8 @@ speed read milliseconds = min (read * 1000) (2 ^ 64 - 1) / max milliseconds 1
 abbrev pub time_left : ℕ → ℕ → ℕ → ℕ
 time_left read total speed = (total - read) / max speed 1
 
--- `read` of `total` bytes were read in so many milliseconds: from the line's beginning on, and what stood there after
--- it is erased (ECMA-48, EL)
+-- the line of `read` of `total` bytes read in so many milliseconds. It stands from the line's beginning on, and what
+-- stood there after it is erased (ECMA-48, "EL"; profile)
 abbrev pub progress_line : ℕ → ℕ → ℕ → List ℕ
 progress_line read total milliseconds =
     codes "\r" ++ (amount read

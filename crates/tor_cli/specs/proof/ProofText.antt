@@ -20,12 +20,13 @@ hash_line word hash = word ++ (encode_lower hash ++ codes "\n")
 abbrev pub sibling_line : List ℕ → List ℕ
 sibling_line = hash_line (codes "sibling ")
 
--- the index of a piece, its hash, and the siblings on the way to the root, lowest first
+-- the text of a proof: lines of index, hash and siblings. The siblings are those on the way to the root, lowest first
+-- (profile)
 unfoldable pub proof_text : ℕ → List ℕ → List (List ℕ) → List ℕ
 proof_text index hash siblings =
     index_line index ++ hash_line (codes "hash ") hash ++ flat_map sibling_line siblings
 
--- what a text can be of: an index of 64 bits, a hash, and at most 36 siblings
+-- an index below 2^64, a hash and at most 36 siblings, of 32 bytes each. It is what a text can be of (profile)
 pub record IsProof (index : ℕ) (hash : List ℕ) (siblings : List (List ℕ)) : Type 0 where
   pub below : index < 2 ^ 64
   pub is_hash : IsHash hash

@@ -32,7 +32,7 @@ IsTextOfPiece piece_length index text told = (hash : List ℕ) × (siblings : Li
     × IsPieceProof piece_length told index hash siblings × IsProof index hash siblings
     × (text ≡ proof_text index hash siblings)
 
--- the bytes are a torrent, of which this piece has a proof, and the text is that
+-- the text is the proof of a piece of the torrent that the bytes are (profile)
 pub record IsProofOf (file index : ℕ) (bytes text : List ℕ) : Type 0 where
   pub root : Data
   pub torrent : IsTorrentOf root bytes
@@ -52,11 +52,11 @@ abbrev pub ProvesOfSome : ProveOptions → (List ℕ → Type 0) → Type 0
 ProvesOfSome options Holds =
     OfSome (λ bytes. (text : List ℕ) × IsProofOf options.file options.index bytes text × Holds text)
 
--- the text of the proof, and nothing else, was written
+-- what is written for a proof. It is the text of the proof, and nothing else (profile)
 abbrev pub DoesProve : ProveOptions → Streams → Type 0
 DoesProve options s = (s.reader' ≡ s.reader) × ProvesOfSome options (Appends s.writer s.writer')
 
--- where this fault stopped it
+-- if this fault stopped it (profile)
 abbrev pub StopsProving : ProveOptions → Streams → Fault → Type 0
 StopsProving options s (Refused refusal) =
     OfSome (λ bytes. IsNotProved options.file options.index bytes (Refused refusal)) × IsUntouched s
@@ -87,7 +87,7 @@ pub record IsClaimIn (options : VerifyOptions) (claim : Claim) : Type 0 where
 abbrev pub OfNone : {X : Type 0} → (X → Type 0) → Type 0
 OfNone {X = X} Holds = (x : X) → Holds x → ⊥
 
--- which word makes no claim, the first
+-- the first word of `verify` that has no root, length or piece length (profile)
 abbrev pub IsBadClaim : VerifyOptions → ArgumentFault → Type 0
 IsBadClaim options arguments.Root = OfNone (IsRootText options.root.now)
 IsBadClaim options arguments.Length =
@@ -108,7 +108,7 @@ abbrev pub answer_of : Bool → Answer
 answer_of true = Yes
 answer_of false = No
 
--- the bytes are the text of a proof, to which this is the answer
+-- the answer to the proof that the bytes have. They are its text (profile)
 abbrev pub IsAnswered : Claim → List ℕ → Answer → Type 0
 IsAnswered claim bytes answer = (index : ℕ) × (hash : List ℕ) × (siblings : List (List ℕ))
     × IsProof index hash siblings × (proof_text index hash siblings ≡ bytes)
@@ -129,7 +129,7 @@ abbrev pub AnswersOfSome : VerifyOptions → Answer → (List ℕ → Type 0) �
 AnswersOfSome options answer Holds = (claim : Claim) × IsClaimIn options claim
     × OfSome (λ bytes. IsAnswered claim bytes answer) × Holds (answer_line answer)
 
--- the line of this answer, and nothing else, was written
+-- what is written for an answer. It is its line, and nothing else (profile)
 abbrev pub DoesVerify : VerifyOptions → Answer → Streams → Type 0
 DoesVerify options answer s = (s.reader' ≡ s.reader) × AnswersOfSome options answer (Appends s.writer s.writer')
 
@@ -137,7 +137,7 @@ DoesVerify options answer s = (s.reader' ≡ s.reader) × AnswersOfSome options 
 abbrev pub IsClaimed : VerifyOptions → Type 0
 IsClaimed options = (claim : Claim) × IsClaimIn options claim
 
--- where this fault stopped it
+-- if this fault stopped it (profile)
 abbrev pub StopsVerifying : VerifyOptions → Streams → Fault → Type 0
 StopsVerifying options s (Argument arguments.Proof) = IsClaimed options × OfSome IsNoProof × IsUntouched s
 StopsVerifying options s (Argument fault) = IsBadClaim options fault × IsUntouched s

@@ -24,8 +24,7 @@ abbrev pub length_text : Option ℕ → List ℕ
 length_text None = codes "-"
 length_text (Some length) = decimal length
 
--- the line of a file: its state, how many of its pieces hold, of how many, its length there and as the torrent says,
--- and its path
+-- the line of a file after a recheck: state, pieces that hold, all pieces, length there, length told, path (profile)
 abbrev pub found_line : FileFound → TreeFile → List ℕ
 found_line found file =
     state_word found.state ++ (codes " " ++ (decimal found.good ++ (codes " " ++ (decimal found.pieces
@@ -47,6 +46,7 @@ told_of BadPaths found file = if is_whole found.state then [] else ended_path fi
 abbrev pub told_of_pair : Listing → FileFound × FileView → List ℕ
 told_of_pair listing pair = told_of listing pair.0 pair.1.file
 
--- what is printed of each file, in the torrent's order
+-- what is listed of the files: a line for each, or each not whole, or these paths alone. They are in the torrent's
+-- order (profile)
 abbrev pub told_of_files : Listing → List FileFound → List FileView → List ℕ
 told_of_files listing found files = flat_map (told_of_pair listing) (zip found files)

@@ -56,13 +56,14 @@ abbrev pub report_text : Form → Listing → View → List Bool → List FileFo
 report_text Text listing view bits found = pieces_text listing bits ++ told_of_files listing found view.files
 report_text Json listing view bits found = recheck_line listing view bits found
 
--- this is printed of these bits and these files
+-- what a recheck prints: its lines and what is listed, or one object. It is printed of these bits and these files (BEP
+-- 3, "peer messages"; profile)
 pub record IsReport (options : RecheckOptions) (view : View) (bits : List Bool) (found : List FileFound)
     (text : List ℕ) (answer : Answer) : Type 0 where
   pub printed : text ≡ report_text options.form options.listing view bits found
   pub answered : answer ≡ recheck_answer bits
 
--- why they are looked for nowhere, by what is told of the place; or memory was refused
+-- why a torrent's files are looked for nowhere. It goes by what is told of the place; or memory was refused (profile)
 abbrev pub IsNoPlace : View → ScanFault → Type 0
 IsNoPlace view scans.System =
     (standing : Standing) × (looked_for standing (length view.files) ≡ Nowhere scans.System)
@@ -108,11 +109,11 @@ abbrev pub RechecksSome : RecheckOptions → Answer → (List ℕ → Type 0) �
 RechecksSome options answer Holds =
     OfSome (λ bytes. (text : List ℕ) × IsRechecked options bytes text answer × Holds text)
 
--- the text, and nothing else, was written
+-- what is written of a recheck. It is the text, and nothing else (profile)
 abbrev pub DoesRecheck : RecheckOptions → Answer → Streams → Type 0
 DoesRecheck options answer s = (s.reader' ≡ s.reader) × RechecksSome options answer (Appends s.writer s.writer')
 
--- where this fault stopped it
+-- if this fault stopped it (profile)
 abbrev pub StopsRechecking : RecheckOptions → Streams → Fault → Type 0
 StopsRechecking options s (Refused refusal) =
     OfSome (λ bytes. IsNotRechecked options.workers bytes (Refused refusal)) × IsUntouched s

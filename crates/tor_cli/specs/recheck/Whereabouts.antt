@@ -13,11 +13,12 @@ abbrev pub is_memory : ErrorKind → Bool
 is_memory OutOfMemory = true
 is_memory _ = false
 
--- what a fault of the place itself tells
+-- what a fault of the place tells, by its kind (profile)
 abbrev pub standing_of_kind : ErrorKind → Standing
 standing_of_kind kind = if is_absence kind then Nothing else (if is_memory kind then NoMemory else NotTold)
 
--- a file by itself is what a torrent of one file has, and nowhere to look for the files of another
+-- where a torrent's files are looked for, by the place and their number. A file by itself is what a torrent of one file
+-- has, and nowhere to look for the files of another (profile)
 abbrev pub looked_for : Standing → ℕ → Whereabouts
 looked_for File files = if files == 1 then Itself else Nowhere System
 looked_for NoFile files = Below

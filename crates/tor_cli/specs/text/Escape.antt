@@ -23,5 +23,6 @@ abbrev pub escape : ℕ → List ℕ
 escape byte =
     if is_escaped byte then backslash ∷ letter_x ∷ digit_char (byte / 16) ∷ digit_char (byte % 16) ∷ [] else byte ∷ []
 
+-- bytes 0 to 31, 127 and the backslash as `\x` and two hexadecimal digits (profile)
 abbrev pub escaped : List ℕ → List ℕ
 escaped text = flat_map escape text

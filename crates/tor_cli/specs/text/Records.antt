@@ -16,7 +16,7 @@ use Rattle.tor_cli.specs.Words.{word_of}
 use Rattle.tor_cli.specs.declared.recheck.listing.Listing.{Listing}
 use Rattle.tor_cli.specs.declared.recheck.listing.Listing.TheVariants.{Pieces, Files, BadFiles, BadPaths}
 
--- the record on one line, without a space
+-- an object's text on one line, without a space (RFC 8259; profile)
 abbrev pub record_line : Data → List ℕ
 record_line told = compact_text told ++ codes "\n"
 
@@ -39,6 +39,7 @@ abbrev pub hash_data : List ℕ → Option (List ℕ) → Data
 hash_data before None = null
 hash_data before (Some hash) = string (before ++ encode_lower hash)
 
+-- the members of the object that `check` prints (profile)
 abbrev pub check_members : View → Hashes → Members
 check_members view hashes =
     member (codes "btih") (hash_data [] hashes.v1)
@@ -88,6 +89,7 @@ abbrev pub files_data : Listing → List FileFound → List FileView → Data
 files_data Pieces found files = null
 files_data listing found files = array (items_of (listed_files listing found files))
 
+-- those of `recheck` (profile)
 abbrev pub recheck_members : Listing → View → List Bool → List FileFound → Members
 recheck_members listing view bits found =
     member (codes "bits") (string (encode_lower (bitfield bits)))

@@ -82,7 +82,8 @@ holds root FilesDiffer = of_both sides.files_differ (info_of root)
 holds root Alignment = of_both sides.alignment (info_of root)
 holds root AttrDiffer = of_both sides.attr_differs (info_of root)
 
--- why the tree is no torrent: the first condition that holds
+-- why a tree is no torrent: the first of V2 to V23 and V25 that holds. Which there are, and in which order, is this
+-- profile's (BEP 3, "info dictionary"; BEP 52, "info dictionary"; BEP 47, "attr"; profile)
 abbrev pub refusal_of : Data → Option Condition
 refusal_of root = find (holds root) conditions
 
@@ -92,5 +93,6 @@ pub record IsTorrentOf (root : Data) (bytes : List ℕ) : Type 0 where
   pub spelled : bytes ≡ spelling root
   pub accepted : refusal_of root ≡ None
 
+-- the bytes spell a lawful tree, of which none holds (profile)
 abbrev pub IsValid : List ℕ → Type 0
 IsValid bytes = (root : Data) × IsTorrentOf root bytes

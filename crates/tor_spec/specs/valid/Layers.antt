@@ -62,22 +62,25 @@ has_other_root piece_length layers file =
 abbrev pub layers_of : Data → Data
 layers_of root = part (codes "piece layers") root
 
--- V18: `piece layers` is there and no dictionary, or it is absent and some file is longer than a piece
+-- V18: `piece layers` is no dictionary, or absent if it is needed. It is needed if some file is longer than a piece
+-- (BEP 52, "piece layers")
 abbrev pub layers_absent : Data → Bool
 layers_absent root =
     lacks_layers (piece_length_of (info_of root)) (tree_files (info_of root)) (value_of (codes "piece layers") root)
 
--- V19: the root of a file longer than a piece is no key there, or its value is no byte string
+-- V19: the root of a long file is no key there, or its value no byte string. A long file is longer than a piece (BEP
+-- 52, "piece layers")
 abbrev pub layer_absent : Data → Bool
 layer_absent root =
     list_any (lacks_layer (piece_length_of (info_of root)) (layers_of root)) (tree_files (info_of root))
 
--- V20: that value is not 32 bytes for each piece of the file
+-- V20: that value is not 32 bytes for each piece of the file (BEP 52, "piece layers")
 abbrev pub layer_length : Data → Bool
 layer_length root =
     list_any (is_misshaped (piece_length_of (info_of root)) (layers_of root)) (tree_files (info_of root))
 
--- V21: the root of that layer, widened by the zero subtrees of one piece, is not the file's root
+-- V21: the root of that layer, widened, is not the file's. It is widened by the zero subtrees of one piece (BEP 52,
+-- "piece layers")
 abbrev pub layer_root : Data → Bool
 layer_root root =
     list_any (has_other_root (piece_length_of (info_of root)) (layers_of root)) (tree_files (info_of root))

@@ -62,7 +62,7 @@ entries_of info = items_of_list (part (codes "files") info)
 abbrev pub has_list : Data → Bool
 has_list info = is_there (codes "files") info
 
--- all files of the v1 side, padding among them, in its order
+-- all files of the v1 side, padding among them, in its order (BEP 3, "info dictionary"; BEP 47, "padding files")
 abbrev pub side_files : Data → List ListedFile
 side_files info = if has_list info then map entry_file (entries_of info) else single_file info ∷ []
 
@@ -101,30 +101,30 @@ abbrev pub is_no_entry : Data → Bool
 is_no_entry entry =
     not (are_properties entry) || (not (has_letter letter_p entry) && not (is_path (value_of (codes "path") entry)))
 
--- V8 of the v1 side: `length` is no integer; `files` is no list; an entry is none; an `attr` beside `length` is no byte
--- string
+-- V8 of the v1 side: the list, an entry or a single file has not its shape. `length` is no integer; `files` is no list;
+-- an entry is none; an `attr` beside `length` is no byte string (BEP 3, "info dictionary"; BEP 47, "attr")
 abbrev pub list_shape : Data → Bool
 list_shape info =
     if has_list info
     then not (is_list (part (codes "files") info)) || list_any is_no_entry (entries_of info)
     else not (are_properties info)
 
--- V9 of the v1 side: a length is negative
+-- V9 of the v1 side: a length is negative (BEP 3, "info dictionary")
 abbrev pub list_length : Data → Bool
 list_length info = list_any has_negative_length (described info)
 
 abbrev pub listed_paths : Data → List (List (List ℕ))
 listed_paths info = map (λ file. file.path) (listed_files info)
 
--- V10: two files have one path
+-- V10: two files have one path (profile)
 abbrev pub list_duplicate : Data → Bool
 list_duplicate info = paths_repeat (listed_paths info)
 
--- V11: the path of a file is the beginning of another's
+-- V11: the path of a file is the beginning of another's (profile)
 abbrev pub list_file_and_folder : Data → Bool
 list_file_and_folder info = paths_nest (listed_paths info)
 
--- V12 of the v1 side: there is no file but padding
+-- V12 of the v1 side: there is no file but padding (profile)
 abbrev pub list_no_files : Data → Bool
 list_no_files info = length (listed_files info) == 0
 
@@ -134,11 +134,11 @@ sizes_too_large files =
     list_any (λ file. nat_lt MAX_LENGTH file.size) files
     || (lengths_too_large (map (λ file. file.size) (without_padding files)) || nat_lt MAX_TOTAL (joined_size files))
 
--- V13 of the v1 side
+-- V13 of the v1 side: a length, or all together, is too large (profile)
 abbrev pub list_too_large : Data → Bool
 list_too_large info = sizes_too_large (side_files info)
 
--- V14 of the v1 side: an `attr` has the letter of a symbolic link
+-- V14 of the v1 side: an `attr` has the letter of a symbolic link (BEP 47, "attr"; profile)
 abbrev pub list_symlink : Data → Bool
 list_symlink info = list_any (has_letter letter_l) (described info)
 
@@ -150,6 +150,6 @@ is_no_sums count (Some sums) = not (length sums == 20 * count)
 abbrev pub side_piece_count : Data → ℕ
 side_piece_count info = div_ceil (side_size info) (piece_length_of info)
 
--- V15: `pieces` is absent, no byte string, or not 20 bytes for each piece
+-- V15: `pieces` is absent, no byte string, or not 20 bytes for each piece (BEP 3, "info dictionary")
 abbrev pub list_pieces : Data → Bool
 list_pieces info = is_no_sums (side_piece_count info) (as_string (value_of (codes "pieces") info))

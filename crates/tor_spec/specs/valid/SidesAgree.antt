@@ -25,7 +25,7 @@ listed_by_tree info = map (λ file. (file.path, file.length)) (tree_files info)
 abbrev pub same_files : List (List (List ℕ) × ℕ) → List (List (List ℕ) × ℕ) → Bool
 same_files = pointwise (λ one other. path_eq one.0 other.0 && one.1 == other.1)
 
--- V22: the files of the two sides differ in a path, in a length or in their order
+-- V22: the two sides' files differ in path, length or order (BEP 52, "Upgrade Path")
 abbrev pub files_differ : Data → Bool
 files_differ info = not (same_files (listed_by_list info) (listed_by_tree info))
 
@@ -63,7 +63,8 @@ abbrev pub has_wrong_tail : ℕ → List ListedFile → Bool
 has_wrong_tail piece_length files =
     not (tail_size files == 0 || tail_size files == padding_length piece_length (last_size files))
 
--- V23: some filled file does not begin at a piece of its own, or the padding at the end is of another length
+-- V23: a filled file begins at no piece of its own, or the padding at the end is wrong. That is then of another length
+-- (BEP 52, "Upgrade Path"; BEP 47, "padding files")
 abbrev pub alignment : Data → Bool
 alignment info =
     is_misaligned_after (piece_length_of info) [] (side_files info)
@@ -77,6 +78,6 @@ letters_differ listed file =
 abbrev pub some_letters_differ : List ListedFile → List TreeFile → Bool
 some_letters_differ listed files = list_any (λ pair. letters_differ pair.0 pair.1) (zip listed files)
 
--- V25: some file has other letters on one side than on the other
+-- V25: a file with `attr` on both sides has other letters on one (BEP 47, "attr")
 abbrev pub attr_differs : Data → Bool
 attr_differs info = some_letters_differ (listed_files info) (tree_files info)

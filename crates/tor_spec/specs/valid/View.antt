@@ -92,6 +92,8 @@ files_of root =
 abbrev pub tree_piece_count : Data → ℕ
 tree_piece_count info = sum_by (λ file. pieces_in (piece_length_of info) file.length) (tree_files info)
 
+-- what a torrent describes: kind, name, piece length, privacy, files, entries, pieces, where `info` stands. The files
+-- have letters, roots and layers, and it is told how many pieces there are (profile)
 abbrev pub view_of : Data → View
 view_of root =
     let info = info_of root in
