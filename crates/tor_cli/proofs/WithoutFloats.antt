@@ -11,7 +11,8 @@ use Rattle.tor_recheck.specs.declared.files.FileFound.{FileFound}
 use Rattle.tor_spec.specs.valid.View.{FileView, View}
 use Rattle.tor_tree.specs.declared.tree_file.TreeFile.{TreeFile}
 use Rattle.tor_cli.specs.recheck.FoundFiles.{is_whole}
-use Rattle.tor_cli.specs.text.Records.{check_members, file_data, files_data, found_data, hash_data, length_data, listed_data}
+use Rattle.tor_cli.specs.text.Records.{check_members, file_data, files_data, found_data, hash_data, length_data}
+use Rattle.tor_cli.specs.text.Records.{listed_data}
 use Rattle.tor_cli.specs.text.Records.{listed_pair, path_data, recheck_members}
 use Rattle.tor_cli.specs.declared.recheck.listing.Listing.{Listing}
 use Rattle.tor_cli.specs.declared.recheck.listing.Listing.TheVariants.{Pieces, Files, BadFiles, BadPaths}

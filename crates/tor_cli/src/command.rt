@@ -9,14 +9,14 @@ ghost use Rattle.tor_cli.specs.Words.{Asks, IsOfWords};
 ghost use Rattle.tor_cli.specs.steps.Found.{IsFoundIn};
 
 use crate::check::words::{CheckOptions, check_command, check_options};
-use crate::text::escape::escaped;
 use crate::fault::Fault;
-use crate::make::words::make_command;
 use crate::make::options::{MakeOptions, make_options};
+use crate::make::words::make_command;
 use crate::proof::words::{
     ProveOptions, VerifyOptions, prove_command, prove_options, verify_command, verify_options,
 };
 use crate::recheck::words::{RecheckOptions, recheck_command, recheck_options};
+use crate::text::escape::escaped;
 use crate::torrent_words::{file_command, file_of};
 use crate::workers::workers_fault;
 use clap::error::ErrorKind;

@@ -10,13 +10,13 @@ ghost use Rattle.tor_cli.specs.declared.answer.Answer.TheVariants.{Yes};
 ghost use Rattle.tor_cli.specs.declared.fault.Fault.TheVariants.{Write as WriteFault};
 
 use crate::answer::Answer;
+use crate::check::telling::{Telling, tell_torrent};
 use crate::command::{Request, read_words};
 use crate::fault::Fault;
 use crate::make::command::make;
 use crate::proof::prove::prove;
-use crate::recheck::command::recheck;
-use crate::check::telling::{Telling, tell_torrent};
 use crate::proof::verify::verify;
+use crate::recheck::command::recheck;
 use std::io::{Read, Write};
 use std::sync::Wait;
 use std::thread::Threads;

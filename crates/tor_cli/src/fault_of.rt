@@ -4,8 +4,8 @@ ghost use Rattle.tor_cli.specs.Status.{of_input_fault, of_make_error, of_name_er
 ghost use Rattle.tor_cli.specs.Status.{of_refusal, of_scan_fault, of_step_fault};
 ghost use Rattle.tor_cli.specs.declared.fault.Fault.TheVariants.{Argument, Write, Resources};
 
-use crate::proof::claim::ArgumentFault;
 use crate::fault::Fault;
+use crate::proof::claim::ArgumentFault;
 use std::alloc::{AllocError, AllocFailed};
 use std::io;
 use tor_check::{ProveError, Refusal};

@@ -1,8 +1,8 @@
 //! The command `make`.
 //!
 //! - `command.rt`: the command; `words.rt`: its words; `options.rt`: what they ask for; `way.rt`: who hashes.
-//! - `from_place.rt`: the torrent of a file or a folder. `attrs_file.rt`: the letters of its files; `attrs_text.rt`: the
-//!   text that has them, read.
+//! - `from_place.rt`: the torrent of a file or a folder. `attrs_file.rt`: the letters of its files; `attrs_text.rt`:
+//!   the text that has them, read.
 //! - `check_after.rt`: whether its files have each piece of it afterwards. `out_file.rt`: the file that a torrent goes
 //!   to.
 

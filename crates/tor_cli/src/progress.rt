@@ -1,5 +1,6 @@
-//! The line on a terminal that shows how far the reading of files is. `line.rt`: its text; `watch.rt`: the time that has
-//! gone.
+//! The line on a terminal that shows how far the reading of files is.
+//!
+//! - `line.rt`: its text; `watch.rt`: the time that has gone.
 ghost use Rattle.std.specs.Prelude.{◌≡◌};
 
 pub mod line;

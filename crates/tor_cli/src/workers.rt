@@ -4,8 +4,8 @@ ghost use Rattle.tor_cli.specs.Words.{AreWorkers, IsNumber, IsUsage};
 ghost use Rattle.tor_sums.specs.declared.how.How.TheVariants.{Board};
 ghost use Rattle.tor_sums.specs.declared.how.TheConstants.{MAX_WORKERS};
 
-use crate::text::escape::escaped;
 use crate::fault::Fault;
+use crate::text::escape::escaped;
 use std::alloc::{AllocError, Global};
 use std::thread::{Threads, available_parallelism};
 use tor_engine::{How, MAX_WORKERS};

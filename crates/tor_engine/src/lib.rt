@@ -21,8 +21,8 @@
 //!   workers, buffers and units.
 //!
 //! What callers need of the crates below is given out again: [`Sums`], [`UnitSums`], [`EngineError`], [`How`] and
-//! [`ContentHasher`] with its [`Hashed`] are those of `tor_sums`; [`hash_streams`], [`hash_input`] and [`Gate`] those of
-//! `tor_streams`; [`lane`], [`Feeder`], [`Taker`] and [`Chunk`] those of `tor_lane`.
+//! [`ContentHasher`] with its [`Hashed`] are those of `tor_sums`; [`hash_streams`], [`hash_input`] and [`Gate`] are
+//! those of `tor_streams`; [`lane`], [`Feeder`], [`Taker`] and [`Chunk`] are those of `tor_lane`.
 //!
 //! ```rust
 //! use tor_engine::{How, hash_all};

@@ -1,5 +1,6 @@
 //! Where the system has the files below a folder, or a file by itself.
-ghost use Rattle.std.specs.Prelude.{◌≡◌, ◌⊎◌, ◌<◌, ◌≤◌, ◌∷◌, [], Err, None, Ok, IfErr, IfOk, false, length, map, vec_len};
+ghost use Rattle.std.specs.Prelude.{◌≡◌, ◌⊎◌, ◌<◌, ◌≤◌, ◌∷◌, [], Err, None, Ok, IfErr, IfOk, false, length, map};
+ghost use Rattle.std.specs.Prelude.{vec_len};
 ghost use Rattle.std.specs.List.{All};
 ghost use Rattle.std.specs.List.Sorted.{IsStrictlySortedBy};
 ghost use Rattle.std.specs.IoError.{error_kind};

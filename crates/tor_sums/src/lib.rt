@@ -1,9 +1,10 @@
 //! What bytes hash to, and how the sums of files are put together from those of units.
 //!
-//! - [`Sums`] (`sums.rt`): lengths, roots, layers and pieces of the files of a plan; [`sums_of_units`] puts them together
-//!   from what its units sum up to, and [`sums_with`] from what those of readers do. [`trees_of`] (`trees.rt`) goes from
-//!   one file to the next for it ([`FileTrees`], [`Trees`]). `joined.rt` joins what units have ([`items_of_each`],
-//!   [`pieces_of_units`], [`append`]), and `places.rt` puts it in the order of their numbers ([`put_in_order`]).
+//! - [`Sums`] (`sums.rt`): lengths, roots, layers and pieces of the files of a plan; [`sums_of_units`] puts them
+//!   together from what its units sum up to, and [`sums_with`] from what those of readers do. [`trees_of`] (`trees.rt`)
+//!   goes from one file to the next for it ([`FileTrees`], [`Trees`]). `joined.rt` joins what units have
+//!   ([`items_of_each`], [`pieces_of_units`], [`append`]), and `places.rt` puts it in the order of their numbers
+//!   ([`put_in_order`]).
 //! - [`UnitSums`] (`unit_sums.rt`): the hash, the part of the layer and the SHA-1s of a unit. [`sum_unit`] reads a unit
 //!   of a source and tells them. The sums of a unit's pieces may wait for those of the units after it: a worker owes
 //!   them ([`OwingSums`], `owing.rt`), and pays them when it has no more units ([`pay`], `paying.rt`).

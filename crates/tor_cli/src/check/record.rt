@@ -5,8 +5,8 @@ ghost use Rattle.serde_json.specs.View.{items_of, view};
 ghost use Rattle.std.specs.Prelude.{◌≡◌, ◌++◌, [], IfOk, codes, map, string_bytes};
 ghost use Rattle.tor_cli.specs.text.Records.{check_line, check_members, file_data, hash_data};
 
-use crate::text::json::{line_of, path_value};
 use crate::check::shown::word_of;
+use crate::text::json::{line_of, path_value};
 use hex::encode;
 use serde_json::{Value, json};
 use std::alloc::{AllocError, Global};

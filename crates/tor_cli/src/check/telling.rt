@@ -5,9 +5,9 @@ ghost use Rattle.tor_cli.specs.check.Telling.{lines_of};
 ghost use Rattle.tor_cli.specs.steps.Writing.{writing};
 
 use crate::check::record::check_line;
+use crate::check::shown::{check_lines, ended_paths, magnet_line};
 use crate::fault::Fault;
 use crate::foreign::{judge, read_file};
-use crate::check::shown::{check_lines, ended_paths, magnet_line};
 use std::alloc::Global;
 use std::io::Write;
 use tor_meta::write_out;

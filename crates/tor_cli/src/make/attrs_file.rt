@@ -9,10 +9,10 @@ ghost use Rattle.tor_tree.specs.Path.{path_cmp};
 ghost use Rattle.tor_cli.specs.make.Attrs.{AreAmong, AreLetteredBy, HaveLetters, IsNotLettered, letters_in, lettered};
 ghost use Rattle.tor_cli.specs.steps.Lettering.{IsNotLetteredBy};
 
-use crate::make::attrs_text::read_attrs;
-use crate::proof::claim::ArgumentFault;
 use crate::fault::Fault;
 use crate::foreign::read_file;
+use crate::make::attrs_text::read_attrs;
+use crate::proof::claim::ArgumentFault;
 use std::alloc::{AllocError, Global};
 use tor_tree::{Attr, FilePath};
 

@@ -11,8 +11,8 @@ ghost use Rattle.tor_source.specs.Source.{SourceFacts};
 ghost use Rattle.tor_spec.specs.Verified.{verified_pieces};
 
 use crate::fault::Fault;
-use crate::recheck::counts::{PieceCounts, count_pieces};
 use crate::progress::{Counting, Progress, erase};
+use crate::recheck::counts::{PieceCounts, count_pieces};
 use crate::recheck::source::placed_at;
 use std::alloc::Global;
 use std::thread::Threads;

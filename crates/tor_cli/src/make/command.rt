@@ -14,14 +14,14 @@ ghost use Rattle.tor_cli.specs.Streams.{streams};
 ghost use Rattle.tor_cli.specs.steps.Lettering.{IsNotOrdered};
 ghost use Rattle.tor_cli.specs.steps.Writing.{writing};
 
+use crate::fault::Fault;
 use crate::make::attrs_file::lettered_files;
 use crate::make::check_after::check_after;
-use crate::fault::Fault;
 use crate::make::from_place::{files_at, torrent_of};
 use crate::make::options::MakeOptions;
 use crate::make::out_file::{send, spare_sources};
-use crate::progress::Progress;
 use crate::make::way::{Way, how_of, workers_after};
+use crate::progress::Progress;
 use std::alloc::{AllocError, Global};
 use std::io::{Read, Write};
 use std::sync::Wait;

@@ -11,10 +11,10 @@ ghost use Rattle.tor_cli.specs.Place.{IsNotFound, refusal_by};
 ghost use Rattle.tor_tree.specs.FileList.{paths_of};
 ghost use Rattle.tor_cli.specs.make.Request.{IsRefusedFirst};
 
-use crate::make::attrs_file::lettered_files;
 use crate::fault::Fault;
-use crate::progress::{CountedReader, Counting, Progress, erase};
+use crate::make::attrs_file::lettered_files;
 use crate::make::way::Way;
+use crate::progress::{CountedReader, Counting, Progress, erase};
 use std::alloc::{AllocError, Global};
 use std::io;
 use std::rt::Files;

@@ -4,9 +4,9 @@ ghost use Rattle.tor_cli.specs.proof.Proving.{IsBadClaim, IsClaimIn, IsLengthTex
 ghost use Rattle.tor_merkle.specs.Layer.{IsPieceLength};
 ghost use Rattle.tor_merkle.specs.declared.TheConstants.{MAX_LENGTH};
 
+use crate::proof::words::VerifyOptions;
 use crate::text::digits::read_root;
 use crate::text::numbers::read_number;
-use crate::proof::words::VerifyOptions;
 use std::fmt;
 use tor_merkle::{Hash, MAX_LENGTH, is_piece_length};
 

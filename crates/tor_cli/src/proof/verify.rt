@@ -7,9 +7,9 @@ ghost use Rattle.tor_cli.specs.steps.Answering.{IsNotAnswered};
 ghost use Rattle.tor_cli.specs.steps.Writing.{writing};
 
 use crate::answer::Answer;
-use crate::proof::claim::{ArgumentFault, Claim, claim_of};
 use crate::fault::Fault;
 use crate::foreign::read_file;
+use crate::proof::claim::{ArgumentFault, Claim, claim_of};
 use crate::proof::text::read_proof;
 use crate::proof::words::VerifyOptions;
 use std::alloc::Global;

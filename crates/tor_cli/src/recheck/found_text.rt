@@ -1,10 +1,11 @@
 //! What is printed of a torrent's files after a recheck.
 ghost use Rattle.std.specs.Prelude.{◌≡◌, ◌++◌, IfOk, OnOk, string_bytes};
-ghost use Rattle.tor_cli.specs.recheck.FoundFiles.{found_line, is_whole, length_text, state_word, told_of, told_of_files};
+ghost use Rattle.tor_cli.specs.recheck.FoundFiles.{found_line, is_whole, length_text, state_word, told_of};
+ghost use Rattle.tor_cli.specs.recheck.FoundFiles.{told_of_files};
 
-use crate::text::escape::escaped;
-use crate::recheck::listing::Listing;
 use crate::check::shown::{path_text, push_path};
+use crate::recheck::listing::Listing;
+use crate::text::escape::escaped;
 use std::alloc::{AllocError, Global};
 use std::fmt::Write;
 use tor_check::ViewFile;

@@ -7,10 +7,10 @@ ghost use Rattle.tor_cli.specs.text.Records.{files_data, found_data, length_data
 ghost use Rattle.tor_cli.specs.text.Records.{recheck_line, recheck_members};
 ghost use Rattle.tor_recheck.specs.Bitfield.{bitfield};
 
-use crate::recheck::found_text::{is_whole, state_word};
-use crate::text::json::{line_of, path_value};
-use crate::recheck::listing::Listing;
 use crate::recheck::counts::counts_of;
+use crate::recheck::found_text::{is_whole, state_word};
+use crate::recheck::listing::Listing;
+use crate::text::json::{line_of, path_value};
 use hex::encode;
 use serde_json::{Value, json};
 use std::alloc::{AllocError, Global};

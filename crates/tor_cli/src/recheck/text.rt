@@ -1,6 +1,7 @@
 //! What tells which pieces of a torrent a source has, and which of its files.
 ghost use Rattle.std.specs.Prelude.{◌≡◌, ◌≢◌, Err, IfErr, IfOk, OnOk, MatchResult, None, length, string_bytes};
-ghost use Rattle.tor_cli.specs.recheck.Recheck.{IsReport, IsReportOn, pieces_text, recheck_answer, recheck_text, report_text};
+ghost use Rattle.tor_cli.specs.recheck.Recheck.{IsReport, IsReportOn, pieces_text, recheck_answer, recheck_text};
+ghost use Rattle.tor_cli.specs.recheck.Recheck.{report_text};
 ghost use Rattle.tor_cli.specs.declared.recheck.listing.Form.TheVariants.{Text};
 ghost use Rattle.tor_sums.specs.Contents.{contents_in};
 ghost use Rattle.tor_sums.specs.How.{IsHow};
@@ -13,10 +14,10 @@ ghost use Rattle.tor_source.specs.Source.{SourceFacts};
 ghost use Rattle.tor_spec.specs.Verified.{verified_pieces};
 
 use crate::answer::Answer;
+use crate::progress::{Counting, Progress, erase};
+use crate::recheck::counts::counts_of;
 use crate::recheck::found_text::push_files;
 use crate::recheck::listing::{Form, Listing};
-use crate::recheck::counts::counts_of;
-use crate::progress::{Counting, Progress, erase};
 use crate::recheck::record::recheck_line;
 use crate::recheck::words::RecheckOptions;
 use crate::workers::board_of;

@@ -1,6 +1,7 @@
 -- the hashes, the lengths, and what these tell of the files
 use Rattle.tor_recheck.proofs.Names.{◌≡◌, ◌∙◌, ℕ, List, Option, ap, ap₂, length, map, subst, sym, contents_in, all_held}
-use Rattle.tor_recheck.proofs.Names.{Bool, all_judged, all_merkle_judged, AreAmong, cond-false, file_spans, files_found, has_v2}
+use Rattle.tor_recheck.proofs.Names.{Bool, all_judged, all_merkle_judged, AreAmong, cond-false, file_spans, files_found}
+use Rattle.tor_recheck.proofs.Names.{has_v2}
 use Rattle.tor_recheck.proofs.Names.{AreWithin, FileFound, HasTold}
 use Rattle.tor_recheck.proofs.HeldPieces.{judged_is_held}
 use Rattle.tor_recheck.proofs.FoundLengths.{lengths_kept}

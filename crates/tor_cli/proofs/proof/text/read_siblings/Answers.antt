@@ -32,10 +32,12 @@ lines-preserved c =
           let left = c.lines.invariant.left all hashes same in
           let more = one_left IsHash sibling_line some_line all c.lines.siblings.items c.lines.lines.now left some in
           let read = c.in-Some.ensures.read more.next (flat_map sibling_line more.after) more.is more.spelled in
-          step IsHash sibling_line some_line all c.lines.siblings.items c.lines.lines.now more c.in-Some.line.0 c.in-Some.line.1.now read.0 read.1;
+          step IsHash sibling_line some_line all c.lines.siblings.items c.lines.lines.now more c.in-Some.line.0
+          c.in-Some.line.1.now read.0 read.1;
     }
 
 pub returns-clause-read : goal.returns-clause-read
 returns-clause-read c siblings hashes few same =
     let none : length c.lines.lines.now ≡ 0 = grind (arith, nat_tests) in
-    none_left IsHash sibling_line some_line siblings c.lines.siblings.items c.lines.lines.now (c.lines.invariant.left siblings hashes same) none
+    none_left IsHash sibling_line some_line siblings c.lines.siblings.items c.lines.lines.now
+    (c.lines.invariant.left siblings hashes same) none
