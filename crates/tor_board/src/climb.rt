@@ -1,4 +1,6 @@
 //! The way of a hash up its tree, step by step.
+//!
+//! What the loads of word 0 find is not used: each is the moment from which on a unit is given, or a root told.
 ghost use Rattle.std.specs.Prelude.{◌≡◌, ◌≢◌, ℕ, ◌+◌, ◌-◌, ◌*◌, ◌<◌, ◌≤◌, List, [], ◌∷◌, Some, None, IfSome, IfNone};
 ghost use Rattle.tor_board.specs.Climb.{Climb};
 ghost use Rattle.tor_board.specs.steps.Climbing.{IsClimbing, IsIdle};

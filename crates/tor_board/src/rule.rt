@@ -1,4 +1,7 @@
 //! The rule of the board's table, and what each step on it tells.
+//!
+//! Only the prover reads these structs, of which no value is ever made: a call on the table names one, as in
+//! `fetch_add::<Claim>`, so that its step is known to keep the rule. The step is the same whatever is named.
 ghost use Rattle.std.specs.Prelude.{ℕ, List, [], Option, None};
 ghost use Rattle.tor_board.specs.declared.tree.Tree.{Tree};
 

@@ -2,7 +2,8 @@
 //!
 //! - `command.rt`: the command; `words.rt`: its words; `listing.rt`: which files it lists.
 //! - `whereabouts.rt`: where the files of the torrent are looked for; `source.rt`: what stands there.
-//! - `text.rt`: what is printed of their pieces, `found_text.rt`: and of the files; `record.rt`: both as JSON.
+//! - `text.rt` has the pieces looked for, and tells what is printed of them, `found_text.rt` what is of the files;
+//!   `record.rt`: both as JSON.
 //! - `counts.rt`: how many pieces are there and right.
 
 pub(crate) mod command;

@@ -4,7 +4,8 @@ ghost use Rattle.std.specs.Thread.{IsSend, IsSync};
 
 use std::thread::{Threads, join};
 
-/// Work that one worker does, or two do of which each has a half.
+/// Work that one worker does, or two do of which each has a half: `SeatShare` (`seats.rt`), a seat at a board, from
+/// which all units are claimed; `UnitShare` (`turn.rt`), units that are dealt out beforehand.
 pub(crate) trait Divisible: Send + Drop {
     type Answer: Send + Drop;
 
@@ -37,7 +38,7 @@ pub(crate) trait Divisible: Send + Drop {
 }
 
 /// What the work answers, done by so many workers: both halves at once, and each again in halves while there are
-/// workers.
+/// workers. Not only `How::Halves` has its threads by this, but also `How::Board`.
 pub(crate) fn by_halves<S: Divisible, R: Threads + Sync>(
     rt: &R,
     share: S,

@@ -9,9 +9,9 @@
 //!   other; `seats.rt` gives each worker a seat at a board, from which it claims one unit after the other
 //!   (`taking.rt`, `taken.rt`), and `on_board.rt` puts what they took in the order of the units.
 //!   `failure.rt` tells which of two faults is answered, `roots.rt` the roots of trees if no board does.
-//!   `unit_work.rt` says what a worker does with a unit.
+//!   `unit_work.rt` says what a worker does with a unit; `sum_work.rt` does it for the sums of files, by `sum_unit` of
+//!   `tor_sums`.
 //! - [`work`] (`shares.rt`): one worker at a board, for callers with threads of their own.
-//! - `sum_work.rt` does it for the sums of files, by [`unit_length`] and what else `tor_sums` has of a unit.
 //! - [`hash_pieces`] (`pieces.rt`): what each piece hashes to ([`PieceHash`], `piece_hash.rt`), of files that may be
 //!   cut short or missing; [`find_pieces`] tells their lengths too. `asked.rt` asks for these, `present.rt` tells what
 //!   is there by them, and `piece_work.rt` hashes the pieces of a unit.
@@ -20,9 +20,9 @@
 //! - [`laws`] (`laws.rt`): laws over the definition of the first fault and over the hashes of units, and the limits of
 //!   workers, buffers and units.
 //!
-//! What callers need of the crates below is given out again: [`Sums`], [`UnitSums`], [`EngineError`], [`How`] and
-//! [`ContentHasher`] with its [`Hashed`] are those of `tor_sums`; [`hash_streams`], [`hash_input`] and [`Gate`] are
-//! those of `tor_streams`; [`lane`], [`Feeder`], [`Taker`] and [`Chunk`] are those of `tor_lane`.
+//! What callers need of the crates below is given out again: [`Sums`], [`UnitSums`], [`unit_length`], [`EngineError`],
+//! [`How`] and [`ContentHasher`] with its [`Hashed`] are those of `tor_sums`; [`hash_streams`], [`hash_input`] and
+//! [`Gate`] are those of `tor_streams`; [`lane`], [`Feeder`], [`Taker`] and [`Chunk`] are those of `tor_lane`.
 //!
 //! ```rust
 //! use tor_engine::{How, hash_all};

@@ -42,6 +42,7 @@ where
     ensures gave { IfErr result (W.gave work.now) }
 {
     let (board, seat) = Board::open(work.alloc(), forest, units.len() as u64)?;
+    // The seat is halved, and not the units: each worker claims from all of them.
     let seated = by_halves(
         rt,
         SeatShare {

@@ -124,6 +124,7 @@ impl<'a, S: FileBytes> UnitWork for PieceWork<'a, S> {
         sums.unit
     }
 
+    // It goes into no tree: `find_pieces` has none put together.
     fn hash_of(&self, _sums: &UnitPieces) -> Hash {
         [0; 32]
     }

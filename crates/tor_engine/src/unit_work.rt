@@ -15,7 +15,8 @@ use tor_merkle::Hash;
 use tor_plan::PlanUnit;
 use tor_sums::{EngineError, OwingSums};
 
-/// What a worker does with each of its units.
+/// What a worker does with each of its units: `SumWork` (`sum_work.rt`) hashes it for the sums of files, `PieceWork`
+/// (`piece_work.rt`) hashes those of its pieces that are there, each by itself.
 pub(crate) trait UnitWork {
     /// The fault of the source.
     type Fault: Debug + Drop;

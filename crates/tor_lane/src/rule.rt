@@ -1,4 +1,7 @@
 //! The rule of a lane's channel, and what each step on it tells.
+//!
+//! Only the prover reads these structs, of which no value is ever made: a call on the channel names one, as in
+//! `send_as::<Put, R>`, so that its step is known to keep the rule.
 ghost use Rattle.std.specs.Prelude.{◌≡◌, ⊤};
 ghost use Rattle.tor_lane.specs.Rule.{CanPut, CanTake};
 

@@ -141,7 +141,7 @@ fn torrent_of_read(
     Ok(bytes)
 }
 
-/// What the contents of the readers sum up to.
+/// What the contents of the readers sum up to (`hash_streams` stands in `tor_streams`).
 fn sums_of<R: Read + Drop, T: Threads + Wait + Sync>(
     rt: &T,
     alloc: Global,

@@ -6,6 +6,10 @@ use std::fmt::Debug;
 
 /// Files by their numbers, of which it tells the lengths and the bytes.
 ///
+/// `FolderSource` (`folder.rt`) has files of the system; `MemSource`, `FailSource` and `ShortSource` have files in
+/// memory. Two stand before another source: `Indexed` (`tor_meta`) gives its files other numbers, `Counting`
+/// (`tor_cli`) counts what is read.
+///
 /// A source is steady if it answers by facts that stay: for each file a content, or none if it is missing, and the
 /// offsets that fail, each with its fault. Then `length` tells how long the content is, or the fault of the length,
 /// each time. Into a buffer with room `read_at` gives from a byte that fails its fault, each time; from any other at

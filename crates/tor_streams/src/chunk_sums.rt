@@ -31,6 +31,7 @@ pub(crate) fn sum_chunk(
     let mut hasher = ContentHasher::new(alloc, kind, piece_length);
     hasher.feed_pieces(bytes)?;
     hasher.feed_zeros(chunk.zeros)?;
+    // The tree gets all bytes here, so that its last blocks are hashed side by side too.
     let hashed = hasher.finish_tree(alloc, bytes)?;
     Ok(UnitSums::new(alloc, chunk.unit, hashed, None))
 }

@@ -55,7 +55,8 @@ pub(crate) fn open(
     Ok((cutter, workers))
 }
 
-/// What the workers' thread answers: all workers of the feeder's lane, each at its mark.
+/// What the workers' thread promises to answer: all workers of the feeder's lane, each at its mark. It has no worker:
+/// only the prover reads it.
 #[derive(Drop)]
 struct Workers {
     feeder: Snapshot<Feeder>,

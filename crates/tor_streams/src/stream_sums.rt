@@ -79,6 +79,7 @@ impl<'a> FileTrees for ChunkTrees<'a> {
     ghost are_of = { λ chunks piece_length contents. (piece_length ≡ chunks.piece_length)
         × AreNodesOf chunks.piece_length chunks.size contents (map length contents) chunks.rest.now };
 
+    // The content has `size` bytes, a chunk `self.size`.
     fn next(&mut self, alloc: Global, size: u64) -> Result<(Option<Hash>, Vec<Hash>), AllocError> {
         let count = size.div_ceil(self.size) as usize;
         let (own, later) = self.rest.split_at(count.min(self.rest.len()));

@@ -5,8 +5,8 @@ ghost use Rattle.tor_source.specs.Source.{IsReadAt, SourceFacts};
 use std::fmt::Debug;
 use tor_source::Source;
 
-/// What one worker reads of a source. It asks for nothing that threads rest on: a method of an `impl` cannot hand such
-/// a bound of the `impl` on to a function.
+/// What one worker reads of a source: each `Source` is one, by the `impl` below. It asks for nothing that threads rest
+/// on: a method of an `impl` cannot hand such a bound of the `impl` on to a function.
 pub trait FileBytes {
     type Fault: Debug + Drop;
 

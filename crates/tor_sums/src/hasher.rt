@@ -201,7 +201,7 @@ impl ContentHasher {
         sums_of(alloc, mem::replace(&mut self.pieces, next))
     }
 
-    /// Ends the content after the last bytes of files, which the pieces have.
+    /// Adds the last bytes of files to the tree, since the pieces have them already, and ends the content.
     pub fn finish_tree(self, alloc: Global, last: &[u8]) -> Result<Hashed, AllocError>
         requires { ForSome (tree_of self) (λ feed. length feed.bytes + length last.now ≤ MAX_LENGTH) }
         ensures { (kind : Kind) (piece_length : ℕ) (before joined : List ℕ) →

@@ -13,7 +13,8 @@ pub struct Trees {
     pub layers: Vec<Vec<Hash>>,
 }
 
-/// Files whose trees can be told, one after the other.
+/// Files whose trees can be told, one after the other: `PlannedTrees` (`sums.rt`), from the units of a plan;
+/// `ChunkTrees` (`stream_sums.rt` of `tor_streams`), from the chunks of readers.
 pub trait FileTrees: Drop {
     /// There are files of these lengths left.
     ghost may_tell: { Self → List ℕ → Type 0 };

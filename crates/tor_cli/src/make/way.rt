@@ -14,7 +14,7 @@ pub enum Way {
     Streams(u32),
 }
 
-/// The workers of an order.
+/// The workers of an order. Behind streams there is no board: of its `how` only the number of workers is asked for.
 pub fn how_of(way: Way) -> How
     ensures { result ≡ how_of way }
 {

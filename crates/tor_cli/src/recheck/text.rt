@@ -38,8 +38,8 @@ pub struct Report {
     pub answer: Answer,
 }
 
-/// What is printed of the torrent's pieces and files in a source. The progress that is shown meanwhile is erased at the
-/// end.
+/// Looks for the torrent's pieces and files in a source, and tells what is printed of them. What is read is counted;
+/// the progress that is shown meanwhile is erased at the end.
 pub fn counted_report<S: Source, T: Threads + Sync>(
     rt: &T,
     alloc: Global,
