@@ -43,14 +43,14 @@ fn main(rt: HostRuntime) -> ExitCode {
 fn words_of(rt: &HostRuntime) -> Result<Vec<String>, Fault> {
     let alloc = rt.alloc();
     match env::args(rt) {
-        Ok(words) => Ok(listed(alloc, words)?),
+        Ok(words) => Ok(word_list(alloc, words)?),
         Err(error) if error.kind() == ErrorKind::OutOfMemory => Err(Fault::Resources),
         Err(_) => Err(Fault::usage(alloc, "a word is not UTF-8", "tor")?),
     }
 }
 
 /// The words that were answered, all of them and in their order.
-fn listed(alloc: Global, words: env::Args) -> Result<Vec<String>, AllocError>
+fn word_list(alloc: Global, words: env::Args) -> Result<Vec<String>, AllocError>
     ensures same { IfOk result (λ found. found.items ≡ into_iter_items words) }
 {
     words.collect(alloc)

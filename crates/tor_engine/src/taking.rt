@@ -126,7 +126,7 @@ fn hash_claimed<W: UnitWork>(
     ensures gave { IfErr result (W.gave work.now) }
 {
     taken.reserve()?;
-    let mut own = begun(work, worker.take())?;
+    let mut own = worker_of(work, worker.take())?;
     let sums = match work.hash(number, &units[number as usize], &mut own) {
         Ok(sums) => sums,
         Err(error) => return Err(error),
@@ -136,7 +136,7 @@ fn hash_claimed<W: UnitWork>(
 }
 
 /// A worker that has begun: this one, or if there is none a new one.
-fn begun<W: UnitWork>(work: &W, worker: Option<OwingSums>) -> Result<OwingSums, AllocError>
+fn worker_of<W: UnitWork>(work: &W, worker: Option<OwingSums>) -> Result<OwingSums, AllocError>
     requires { W.may_begin work.now }
     ensures { (units : List PlanUnit) (sums : List W.Sums) →
         HasBegun (W.stands work.now) (W.number_in work.now) units sums worker →

@@ -156,7 +156,7 @@ fn head_for<R: io::Read>(alloc: Global, reader: &mut R, order: &Order) -> Result
 {
     match order.head_of_one(alloc) {
         Ok(head) => Ok(head),
-        Err(refusal) => Err(refused(alloc, reader, refusal)),
+        Err(refusal) => Err(refusal_after_reading(alloc, reader, refusal)),
     }
 }
 
@@ -173,16 +173,20 @@ fn head_of_stream<R: io::Read>(
         (StopsReading (stream_refusal_of order.now) (R.remaining reader.old) (R.remaining reader.new)) }
 {
     if let Some(refusal) = refusal_of_stream_numbers(order) {
-        return Err(refused(alloc, reader, refusal));
+        return Err(refusal_after_reading(alloc, reader, refusal));
     }
     match order.head_of_one(alloc) {
         Ok(head) => Ok(head),
-        Err(refusal) => Err(refused(alloc, reader, refusal)),
+        Err(refusal) => Err(refusal_after_reading(alloc, reader, refusal)),
     }
 }
 
 /// A refusal, told once all of the content was read, so that a fault of the reader comes first.
-fn refused<R: io::Read>(alloc: Global, reader: &mut R, refusal: MakeError<io::Error>) -> FromFault
+fn refusal_after_reading<R: io::Read>(
+    alloc: Global,
+    reader: &mut R,
+    refusal: MakeError<io::Error>,
+) -> FromFault
     ensures { (first : Option (MakeError Error)) → (first ≡ Some refusal) ⊎ (refusal ≡ Resources) →
         StopsReading first (R.remaining reader.old) (R.remaining reader.new) result }
 {

@@ -122,7 +122,7 @@ fn path(alloc: Global, names: &[Name]) -> Result<Item, AllocError>
 }
 
 /// Hashes, one after another.
-pub(crate) fn joined(alloc: Global, hashes: &[Hash]) -> Result<Vec<u8>, AllocError>
+pub(crate) fn joined_hashes(alloc: Global, hashes: &[Hash]) -> Result<Vec<u8>, AllocError>
     ensures { IfOk result (λ bytes. bytes.items ≡ joined hashes.now) }
 {
     let mut bytes = Vec::new(alloc);

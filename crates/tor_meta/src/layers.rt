@@ -9,7 +9,7 @@ ghost use Rattle.tor_spec.specs.Facts.{Facts, listed, layers_in, roots_in};
 ghost use Rattle.tor_spec.specs.PieceLayers.{piece_layers};
 ghost use Rattle.tor_tree.specs.TidyTree.{HasItsRoot};
 
-use crate::items::{joined, string};
+use crate::items::{joined_hashes, string};
 use std::alloc::{AllocError, Global};
 use std::collections::BTreeMap;
 use tor_bencode::Item;
@@ -57,7 +57,7 @@ fn by_root(
             let Some(root) = roots[left] else {
                 unreachable!();
             };
-            by_root.insert(root, joined(alloc, &layers[left])?)?;
+            by_root.insert(root, joined_hashes(alloc, &layers[left])?)?;
         }
     }
     Ok(by_root)

@@ -25,15 +25,15 @@ pub fn write_out<W: Write>(writer: &mut W, bytes: &[u8]) -> Result<(), WriteFaul
     while written < bytes.len() {
         let (_, rest) = bytes.split_at(written);
         match writer.write(rest) {
-            Ok(0) => return Err(stopped(written, None)),
+            Ok(0) => return Err(write_fault(written, None)),
             Ok(count) => written += count,
-            Err(fault) => return Err(stopped(written, Some(fault))),
+            Err(fault) => return Err(write_fault(written, Some(fault))),
         }
     }
     Ok(())
 }
 
-fn stopped(written: usize, fault: Option<Error>) -> WriteFault
+fn write_fault(written: usize, fault: Option<Error>) -> WriteFault
     ensures { result.written ≡ written }
 {
     WriteFault {

@@ -65,7 +65,7 @@ fn item_of(alloc: Global, lot: &Lot) -> Result<Item, AllocError>
     ensures item { IfOk result (λ item. view item ≡ lot_dictionary (facts_of lot.now)) }
     ensures hashes { IfOk result (λ _. Is32 lot.now.plan × AllByRecursion Is32 lot.now.row.hashes.items) }
 {
-    let hashes = joined(alloc, &lot.row.hashes)?;
+    let hashes = joined_hashes(alloc, &lot.row.hashes)?;
     let pieces = lot.row.pieces.as_slice();
     let pairs = vec![in alloc;
         (Vec::from_slice(alloc, b"hashes")?, Item::Bytes(hashes)),
@@ -78,7 +78,7 @@ fn item_of(alloc: Global, lot: &Lot) -> Result<Item, AllocError>
 }
 
 /// Hashes one after another.
-fn joined(alloc: Global, hashes: &[Hash]) -> Result<Vec<u8>, AllocError>
+fn joined_hashes(alloc: Global, hashes: &[Hash]) -> Result<Vec<u8>, AllocError>
     ensures joined { IfOk result (λ bytes. bytes.items ≡ joined hashes.now) }
     ensures each { IfOk result (λ _. AllByRecursion Is32 hashes.now) }
 {

@@ -33,12 +33,12 @@ pub fn join_rows(alloc: Global, plan: &Plan, rows: &[PieceRow]) -> Result<Sums, 
 {
     // What every plan keeps to is told with its units.
     let _planned = plan.units();
-    let (hashes, pieces) = joined(alloc, rows)?;
+    let (hashes, pieces) = hashes_and_sums(alloc, rows)?;
     join_sums(alloc, plan, &hashes, pieces)
 }
 
 /// The hashes and the sums of all rows, one row after another.
-fn joined(alloc: Global, rows: &[PieceRow]) -> Result<(Vec<Hash>, Vec<u8>), AllocError>
+fn hashes_and_sums(alloc: Global, rows: &[PieceRow]) -> Result<(Vec<Hash>, Vec<u8>), AllocError>
     ensures { IfOk result (λ both. (both.0.items ≡ hashes_of rows.now) × (both.1.items ≡ sums_of rows.now)) }
 {
     let mut hashes = Vec::new(alloc);

@@ -9,7 +9,7 @@ ghost use Rattle.tor_source.specs.Filling.{EndsFill};
 ghost use Rattle.tor_source.specs.Input.{ReadsSome, ReadsWhole};
 ghost use Rattle.tor_streams.specs.steps.Cuts.{EndsReading, zeros_between};
 
-use crate::filling::{Stop, fill_from, stopped};
+use crate::filling::{Stop, fill_from, stop_after};
 use crate::spares::Spares;
 use std::alloc::{AllocError, Global};
 use std::io::Read;
@@ -91,7 +91,7 @@ impl Cutter {
         'chunks: loop {
             match self.fill(reader, limit - count) {
                 Ok(came) => count += came as u64,
-                Err(fault) => return Err(stopped(count, fault)),
+                Err(fault) => return Err(stop_after(count, fault)),
             }
             // It is at its end.
             if self.filled < self.buffer.len() {

@@ -7,7 +7,7 @@ ghost use Rattle.tor_streams.specs.steps.StreamWorkers.{AreDone, AreParted};
 
 use crate::feeding::Fed;
 use crate::stream_sums::sums_of_chunks;
-use crate::stream_worker::parted;
+use crate::stream_worker::takers_and_sums;
 use std::alloc::{AllocError, Global};
 use tor_lane::{Feeder, Taker};
 use tor_sums::{Sums, UnitSums, put_in_order};
@@ -43,7 +43,7 @@ pub(crate) fn sums_of_fed<F: Drop>(
         Ok(lengths) => lengths,
         Err(fault) => return Ok(Err(fault)),
     };
-    let (takers, sums) = parted(alloc, workers)?;
+    let (takers, sums) = takers_and_sums(alloc, workers)?;
     let sums = sums_of_taken(
         alloc,
         kind,

@@ -37,7 +37,7 @@ pub(crate) struct Fed<F> {
 }
 
 /// A cutter of units of `size` bytes over a new lane, and so many workers that take them.
-pub(crate) fn open(
+pub(crate) fn cutter_and_workers(
     alloc: Global,
     size: u64,
     workers: u32,
@@ -120,11 +120,11 @@ pub(crate) fn feed_readers<G: Gate + Sync, R: Read + Drop, T: Threads + Wait + S
                     requires { IsSync T.row × IsSync G.row × IsPlanPieceLength kind piece_length }
                     ensures { (feeder : Feeder) → AreWorkers kind piece_length feeder workers.items →
                         AreDone kind piece_length feeder result.items }
-                { take_all(rt, gate, alloc, kind, piece_length, workers) },
+                { workers_at_marks(rt, gate, alloc, kind, piece_length, workers) },
             ) {
                 Ok(handle) => {
                     let read = read_each(rt, alloc, kind, piece_length, tail, readers, &mut cutter);
-                    Ok(refusals_first(ended(rt, read, cutter, handle)))
+                    Ok(refusals_first(end_and_wait(rt, read, cutter, handle)))
                 }
                 Err(_) => Err(AllocError),
             }
@@ -162,18 +162,18 @@ pub(crate) fn feed_input<R: Read, T: Threads + Wait + Sync + Send + Clone + Drop
             requires { IsSync T.row × IsPlanPieceLength kind piece_length }
             ensures { (feeder : Feeder) → AreWorkers kind piece_length feeder workers.items →
                 AreDone kind piece_length feeder result.items }
-        { take_all(&own, &OpenGate, alloc, kind, piece_length, workers) },
+        { workers_at_marks(&own, &OpenGate, alloc, kind, piece_length, workers) },
     ) {
         Ok(handle) => {
             let read = read_input(rt, alloc, kind, piece_length, tail, reader, &mut cutter);
-            Ok(ended(rt, read, cutter, handle))
+            Ok(end_and_wait(rt, read, cutter, handle))
         }
         Err(_) => Err(AllocError),
     }
 }
 
 /// Puts the marks after what was read, and waits for the workers' thread.
-fn ended<F, T: Threads + Wait>(
+fn end_and_wait<F, T: Threads + Wait>(
     rt: &T,
     read: Result<Vec<u64>, F>,
     cutter: Cutter,
@@ -222,7 +222,7 @@ fn refusals_first<F: Drop>(fed: Fed<EngineError<F>>) -> Fed<EngineError<F>>
 }
 
 /// Has all workers take until their marks, and gives them back.
-fn take_all<G: Gate + Sync, T: Threads + Wait + Sync>(
+fn workers_at_marks<G: Gate + Sync, T: Threads + Wait + Sync>(
     rt: &T,
     gate: &G,
     alloc: Global,

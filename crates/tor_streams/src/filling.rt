@@ -46,7 +46,7 @@ pub(crate) fn fill_from<R: Read>(
 }
 
 /// Why a reader was not read on, of which so many bytes came before.
-pub(crate) fn stopped(before: u64, fault: FillFault) -> Stop
+pub(crate) fn stop_after(before: u64, fault: FillFault) -> Stop
     requires { (left : ℕ) × (bytes : List ℕ) × (before + left < 2 ^ 64) × EndsFill left fault bytes }
     ensures { (left : ℕ) (earlier bytes : List ℕ) → length earlier ≡ before → EndsFill left fault bytes →
         EndsReading (before + left) result (earlier ++ bytes) }

@@ -178,12 +178,12 @@ fn layer_of_chunk(
         let layer = Vec::from_slice(alloc, &one.layer)?;
         return Ok(layer);
     }
-    let root = widened(&one.hash, count, piece_level(piece_length));
+    let root = widened_root(&one.hash, count, piece_level(piece_length));
     Ok(vec![in alloc; root]?)
 }
 
 /// The root of a content of so many bytes, widened by zero leaves to a level.
-fn widened(root: &Hash, count: u64, level: u32) -> Hash
+fn widened_root(root: &Hash, count: u64, level: u32) -> Hash
     requires level { level ≤ 16 }
     requires some { 0 < count }
     requires room { count ≤ BLOCK_LENGTH * 2 ^ level }

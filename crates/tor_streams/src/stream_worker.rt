@@ -143,7 +143,7 @@ pub(crate) fn any_refused(workers: &[StreamWorker]) -> bool
 }
 
 /// The takers of workers, and what all of them made of what these took; if memory was refused to a worker, it is here.
-pub(crate) fn parted(
+pub(crate) fn takers_and_sums(
     alloc: Global,
     workers: Vec<StreamWorker>,
 ) -> Result<(Vec<Taker>, Vec<UnitSums>), AllocError>

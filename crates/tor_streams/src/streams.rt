@@ -4,7 +4,7 @@ ghost use Rattle.tor_streams.specs.Streams.{AreSumsOfContents, AreSumsOfReaders,
 ghost use Rattle.tor_sums.specs.declared.how.TheConstants.{MAX_WORKERS};
 
 use crate::fed_sums::sums_of_fed;
-use crate::feeding::{feed_readers, open};
+use crate::feeding::{cutter_and_workers, feed_readers};
 use crate::gate::{Gate, OpenGate};
 use crate::lane_span::lane_span;
 use std::alloc::Global;
@@ -78,7 +78,7 @@ pub fn hash_streams_with<G: Gate + Sync, R: Read + Drop, T: Threads + Wait + Syn
     ensures fault { IfErr result (IsFaultOfReaders (map R.remaining readers.items)) }
 {
     let size = piece_length * lane_span(piece_length, span) as u64;
-    let (cutter, workers) = open(alloc, size, workers)?;
+    let (cutter, workers) = cutter_and_workers(alloc, size, workers)?;
     let fed = feed_readers(
         gate,
         rt,

@@ -32,7 +32,7 @@ pub fn lettered_files(
     let alloc = system.alloc();
     let Some(place) = place else {
         let attrs = none_each(alloc, &paths)?;
-        return Ok(paired(alloc, paths, attrs)?);
+        return Ok(paths_with_attrs(alloc, paths, attrs)?);
     };
     let bytes = read_file(alloc, system, place)?;
     lettered_by(alloc, &bytes, paths)
@@ -52,14 +52,14 @@ fn lettered_by(
     let Some(named) = read_attrs(alloc, bytes)? else {
         return Err(Fault::Argument(ArgumentFault::Attrs));
     };
-    match lettered(alloc, paths, &named)? {
+    match files_with_letters(alloc, paths, &named)? {
         Some(files) => Ok(files),
         None => Err(Fault::Argument(ArgumentFault::Attrs)),
     }
 }
 
 /// Each path with the letters that it has in a list. None if a path of the list is not among these.
-fn lettered(
+fn files_with_letters(
     alloc: Global,
     paths: Vec<FilePath>,
     named: &[(FilePath, Attr)],
@@ -71,7 +71,7 @@ fn lettered(
     let Some(attrs) = attrs_of(alloc, &paths, named)? else {
         return Ok(None);
     };
-    let files = paired(alloc, paths, attrs)?;
+    let files = paths_with_attrs(alloc, paths, attrs)?;
     Ok(Some(files))
 }
 
@@ -110,7 +110,7 @@ fn none_each(alloc: Global, paths: &[FilePath]) -> Result<Vec<Attr>, AllocError>
 }
 
 /// Each path with the letters beside it.
-fn paired(
+fn paths_with_attrs(
     alloc: Global,
     paths: Vec<FilePath>,
     attrs: Vec<Attr>,

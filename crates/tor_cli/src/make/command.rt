@@ -19,7 +19,7 @@ use crate::make::attrs_file::lettered_files;
 use crate::make::check_after::check_after;
 use crate::make::from_place::{files_at, torrent_of};
 use crate::make::options::MakeOptions;
-use crate::make::out_file::{send, spare_sources};
+use crate::make::out_file::{refuse_out_among_files, send};
 use crate::make::way::{Way, how_of, workers_after};
 use crate::progress::Progress;
 use std::alloc::{AllocError, Global};
@@ -155,7 +155,7 @@ fn torrent_at<T: Threads + Wait + Sync>(
     let alloc = system.alloc();
     let name = name_of(alloc, options)?;
     let found = files_at(system, place, options.attrs, &name)?;
-    spare_sources(system, options.out, &found.source)?;
+    refuse_out_among_files(system, options.out, &found.source)?;
     let order = order_of(alloc, options, name, found.single)?;
     let progress = Progress::shown(system, found.files.len(), shows_progress);
     Ok(torrent_of(rt, alloc, options.way, &found, &order, &progress)?)

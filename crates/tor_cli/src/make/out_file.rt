@@ -50,7 +50,7 @@ pub fn send<H: Files, W: Write>(
 /// Refuses a file `place` that is one of those that a torrent is to be made of, under whatever name: the torrent would
 /// take its place. If the system tells nothing of `place`, no file is there that could be lost; of each of the others
 /// it must tell.
-pub fn spare_sources(
+pub fn refuse_out_among_files(
     system: &HostRuntime,
     place: Option<&str>,
     source: &FolderSource<HostRuntime>,

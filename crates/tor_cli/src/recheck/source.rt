@@ -8,7 +8,7 @@ ghost use Rattle.tor_source.specs.Places.{place_of};
 ghost use Rattle.tor_source.specs.declared.faults.ScanFault.TheVariants.{Memory};
 
 use crate::fault::Fault;
-use crate::recheck::whereabouts::{Whereabouts, looked_for, standing_by};
+use crate::recheck::whereabouts::{Whereabouts, standing_of_answer, whereabouts_of};
 use std::alloc::{AllocError, Global};
 use std::rt::Files;
 use tor_check::{Torrent, ViewFile, validate};
@@ -48,8 +48,8 @@ fn source_at(
     ensures refused { IfErr result (IsNoPlace torrent.now) }
 {
     let files = torrent.files();
-    let standing = standing_by(&system.metadata(place));
-    placed_files(system, place, files, looked_for(standing, files.len()))
+    let standing = standing_of_answer(&system.metadata(place));
+    placed_files(system, place, files, whereabouts_of(standing, files.len()))
 }
 
 /// These files, where they are looked for.

@@ -37,7 +37,7 @@ pub enum Whereabouts {
 
 /// Where so many files of a torrent are looked for. The file at a place is what a torrent of one file has there, and no
 /// place for those of another. If it is not told what is there, each file is asked for below it, and its fault is told.
-pub fn looked_for(standing: Standing, files: usize) -> Whereabouts
+pub fn whereabouts_of(standing: Standing, files: usize) -> Whereabouts
     ensures { result ≡ looked_for standing files }
 {
     match standing {
@@ -59,7 +59,7 @@ fn at_itself(files: usize) -> Whereabouts
 }
 
 /// What the answer of the system tells.
-pub fn standing_by(answer: &io::Result<Metadata>) -> Standing
+pub fn standing_of_answer(answer: &io::Result<Metadata>) -> Standing
     ensures file { IfOk answer.now (λ metadata. IsFile (file_type metadata) → result ≡ File) }
     ensures other { IfOk answer.now (λ metadata. (IsFile (file_type metadata) → ⊥) → result ≡ NoFile) }
     ensures fault { IfErr answer.now (λ error. result ≡ standing_of_kind (error_kind error)) }

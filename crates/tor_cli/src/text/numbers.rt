@@ -11,14 +11,14 @@ pub fn read_number(text: &[u8]) -> Option<u64>
     ensures written { IfSome result (λ n. base_ten n ≡ text.now) }
     ensures read { (n : ℕ) → n < 2 ^ 64 → base_ten n ≡ text.now → result ≡ Some n }
 {
-    match parsed(text) {
+    match number_of_digits(text) {
         Some(n) if is_written(n, text) => Some(n),
         _ => None,
     }
 }
 
 /// The number of these digits, before which a plus sign and zeros may stand.
-fn parsed(text: &[u8]) -> Option<u64>
+fn number_of_digits(text: &[u8]) -> Option<u64>
     ensures { (n : ℕ) → n < 2 ^ 64 → base_ten n ≡ text.now → result ≡ Some n }
 {
     match str::from_utf8(text) {

@@ -9,13 +9,13 @@ use Rattle.tor_meta.proofs.from_input.head_of_stream.Goals as goal
 pub returns-in-Some-clause-stopped : goal.returns-in-Some-clause-stopped
 returns-in-Some-clause-stopped g c =
     let order = c.args.order.now in
-    c.refused.ensures (stream_refusal_of order)
+    c.refusal_after_reading.ensures (stream_refusal_of order)
     (inl (refused_for_numbers order ((order.name ∷ []) ∷ []) c.in-Some.refusal (sym c.in-Some.ensures)))
 
 pub returns-in-Err-clause-stopped : goal.returns-in-Err-clause-stopped
 returns-in-Err-clause-stopped g c =
     let order = c.args.order.now in
     let refusal = c.in-Err.refusal in
-    c.refused-in-Err.ensures (stream_refusal_of order)
+    c.refusal_after_reading-in-Err.ensures (stream_refusal_of order)
     (subst (λ (first : Option (MakeError Error)). (first ≡ Some refusal) ⊎ (refusal ≡ Resources))
     (sym (refusal_of_stream {F = Error} order (sym c.in_default.ensures))) c.in-Err.ensures.refused)

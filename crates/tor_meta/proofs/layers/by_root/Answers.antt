@@ -29,9 +29,9 @@ files-preserved-in_ok-insert c = record {
   passed = λ facts is_listed is_roots is_layers.
       layer_put c.args.piece_length c.args.files.now c.args.roots.now c.args.layers.now c.files.left c.files-test.true
       c.files.invariant.within c.index-files-left.result
-      None c.index-layers-left.result c.in-Some.root c.in_ok-joined.field-0 c.files.by_root.entries
+      None c.index-layers-left.result c.in-Some.root c.in_ok-joined_hashes.field-0 c.files.by_root.entries
       c.insert.new.self.entries
-      c.if-files-left.true c.in-Some.is (c.in_ok-joined.ensures
+      c.if-files-left.true c.in-Some.is (c.in_ok-joined_hashes.ensures
       ∙ ap joined (c.deref.ensures.value ∙ ap (λ layer. layer.items) c.index-layers-left.is))
       c.in_ok-insert.ensures.entries
       facts is_listed is_roots is_layers (c.files.invariant.passed facts is_listed is_roots is_layers);
@@ -43,9 +43,9 @@ files-preserved-in_ok-insert-2 c = record {
   passed = λ facts is_listed is_roots is_layers.
       layer_put c.args.piece_length c.args.files.now c.args.roots.now c.args.layers.now c.files.left c.files-test.true
       c.files.invariant.within c.index-files-left.result
-      None c.index-layers-left.result c.in-Some.root c.in_ok-joined.field-0 c.files.by_root.entries
+      None c.index-layers-left.result c.in-Some.root c.in_ok-joined_hashes.field-0 c.files.by_root.entries
       c.insert.new.self.entries
-      c.if-files-left.true c.in-Some.is (c.in_ok-joined.ensures
+      c.if-files-left.true c.in-Some.is (c.in_ok-joined_hashes.ensures
       ∙ ap joined (c.deref.ensures.value ∙ ap (λ layer. layer.items) c.index-layers-left.is))
       c.in_ok-insert.ensures.entries
       facts is_listed is_roots is_layers (c.files.invariant.passed facts is_listed is_roots is_layers);

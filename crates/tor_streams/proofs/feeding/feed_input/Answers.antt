@@ -20,10 +20,11 @@ returns-in-Ok-clause-fed g c = λ size some ready.
     let old = g.R.Read.remaining c.args.reader.now in
     let new = g.R.Read.remaining c.read_input-read.new.reader in
     let read = c.read_input-read.ensures in
-    let end = c.ended.ensures in
-    let done = subst (λ (q : Kind × ℕ × Feeder). AreDone q.0 q.1 q.2 c.ended.result.workers.items) c.of-promise.ensures
-    (subst (λ (q : Workers). AreDone q.kind q.piece_length q.feeder.value c.ended.result.workers.items)
+    let end = c.end_and_wait.ensures in
+    let done = subst (λ (q : Kind × ℕ × Feeder). AreDone q.0 q.1 q.2 c.end_and_wait.result.workers.items)
+    c.of-promise.ensures
+    (subst (λ (q : Workers). AreDone q.kind q.piece_length q.feeder.value c.end_and_wait.result.workers.items)
     c.in-Ok.ensures.ok end.done) in
     is_fed kind c.args.tail p size (GivesInput old new) (StopsInput old new) c.args.cutter.feeder
-    c.read_input-read.new.cutter.feeder _ c.ended.result read.lane.0 end.lane end.ended end.put end.read done
+    c.read_input-read.new.cutter.feeder _ c.end_and_wait.result read.lane.0 end.lane end.ended end.put end.read done
     (read.put size some ready) read.stopped

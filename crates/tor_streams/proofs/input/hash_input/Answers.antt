@@ -28,8 +28,8 @@ stopped : (kind : Kind) (tail : Bool) (p : ℕ) (old new : Option (List ℕ)) (a
 stopped kind tail p old new (Ok sums) is = tt
 stopped kind tail p old new (Err fault) is = is
 
-pub open-requires-clause-some : goal.open-requires-clause-some
-open-requires-clause-some g c =
+pub cutter_and_workers-requires-clause-some : goal.cutter_and_workers-requires-clause-some
+cutter_and_workers-requires-clause-some g c =
     some_unit c.args.kind c.args.piece_length c.lane_span.result (c.lane_span.ensures.cut c.args.kind c.requires.cut)
 
 pub feed_input-requires-clause-ready : goal.feed_input-requires-clause-ready

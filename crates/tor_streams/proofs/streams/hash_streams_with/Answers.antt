@@ -30,8 +30,8 @@ module _ {F : Type 0} (kind : Kind) (tail : Bool) (p : ℕ) (known : List (Optio
   stopped (Ok sums) is = tt
   stopped (Err fault) is = is
 
-pub open-requires-clause-some : goal.open-requires-clause-some
-open-requires-clause-some g c =
+pub cutter_and_workers-requires-clause-some : goal.cutter_and_workers-requires-clause-some
+cutter_and_workers-requires-clause-some g c =
     some_unit c.args.kind c.args.piece_length c.lane_span.result (c.lane_span.ensures.cut c.args.kind c.requires.cut)
 
 pub feed_readers-requires-clause-ready : goal.feed_readers-requires-clause-ready

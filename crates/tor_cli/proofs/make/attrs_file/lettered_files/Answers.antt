@@ -7,12 +7,12 @@ use Rattle.tor_cli.proofs.make.attrs_file.lettered_files.Goals as goal
 pub returns-in_default-clause-paths : goal.returns-in_default-clause-paths
 returns-in_default-clause-paths c =
     let none = c.in_ok-attrs.ensures ∙ ap (map (λ path. no_letters)) c.deref.ensures.value in
-    (none_lettered c.in_ok-paired.field-0.items c.in_ok-attrs.attrs.items c.args.paths.items none
-    c.in_ok-paired.ensures).0
+    (none_lettered c.in_ok-paths_with_attrs.field-0.items c.in_ok-attrs.attrs.items c.args.paths.items none
+    c.in_ok-paths_with_attrs.ensures).0
 
 pub returns-in_default-clause-letters : goal.returns-in_default-clause-letters
 returns-in_default-clause-letters c =
     let none = c.in_ok-attrs.ensures ∙ ap (map (λ path. no_letters)) c.deref.ensures.value in
     rw c.in_default.is
-    (none_lettered c.in_ok-paired.field-0.items c.in_ok-attrs.attrs.items c.args.paths.items none
-    c.in_ok-paired.ensures).1
+    (none_lettered c.in_ok-paths_with_attrs.field-0.items c.in_ok-attrs.attrs.items c.args.paths.items none
+    c.in_ok-paths_with_attrs.ensures).1

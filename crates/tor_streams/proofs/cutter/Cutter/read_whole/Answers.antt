@@ -20,8 +20,8 @@ chunks-init g c =
       opened = ready.has.opened;
     }
 
-pub stopped-requires : goal.stopped-requires
-stopped-requires g c =
+pub stop_after-requires : goal.stop_after-requires
+stop_after-requires g c =
     let more = c.in-Err.ensures.fault in (
       c.args.limit - c.chunks.count,
       more.0,
@@ -38,8 +38,8 @@ returns-in-Err-clause-stopped g c =
       before.bytes ++ more.0,
       Consumes-trans (remaining c.args.reader.now) (remaining c.chunks.reader) (remaining c.fill.new.reader)
           before.bytes more.0 before.came more.1,
-      subst (λ (n : ℕ). EndsReading n c.stopped.result (before.bytes ++ more.0)) room
-          (c.stopped.ensures (c.args.limit - c.chunks.count) before.bytes more.0 before.counted more.2),
+      subst (λ (n : ℕ). EndsReading n c.stop_after.result (before.bytes ++ more.0)) room
+          (c.stop_after.ensures (c.args.limit - c.chunks.count) before.bytes more.0 before.counted more.2),
     )
 
 pub returns-then-self-len-clause-read : goal.returns-then-self-len-clause-read

@@ -19,13 +19,15 @@ returns-in-Ok g c = λ size some ready.
     let p = c.captures.piece_length in
     let known = map g.R.Read.remaining c.captures.readers.items in
     let read = c.read_each-read.ensures in
-    let end = c.ended.ensures in
+    let end = c.end_and_wait.ensures in
     let first = c.refusals_first.ensures in
-    let done = subst (λ (q : Kind × ℕ × Feeder). AreDone q.0 q.1 q.2 c.ended.result.workers.items) c.of-promise.ensures
-    (subst (λ (q : Workers). AreDone q.kind q.piece_length q.feeder.value c.ended.result.workers.items)
+    let done = subst (λ (q : Kind × ℕ × Feeder). AreDone q.0 q.1 q.2 c.end_and_wait.result.workers.items)
+    c.of-promise.ensures
+    (subst (λ (q : Workers). AreDone q.kind q.piece_length q.feeder.value c.end_and_wait.result.workers.items)
     c.in-Ok.ensures.ok end.done) in
     let is = is_fed kind c.captures.tail p size (GiveContents known) (IsFaultOfReaders known) c.captures.cutter.feeder
-    c.read_each-read.new.cutter.feeder _ c.ended.result read.lane.0 end.lane end.ended end.put end.read done
+    c.read_each-read.new.cutter.feeder _ c.end_and_wait.result read.lane.0 end.lane end.ended end.put end.read done
     (read.put size some ready) read.fault in
-    fed_by_readers kind c.captures.tail p size known c.ended.result c.refusals_first.result is first.refused first.read
+    fed_by_readers kind c.captures.tail p size known c.end_and_wait.result c.refusals_first.result is first.refused
+    first.read
     first.lane.0 first.lane.1

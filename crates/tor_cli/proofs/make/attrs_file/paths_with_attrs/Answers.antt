@@ -3,7 +3,7 @@ use Rattle.std.proofs.Common.{◌≡◌, length, rules}
 use Rattle.std.proofs.lemmas.Iterator.{YieldsList-from_zip, items_from_collect}
 use Rattle.std.proofs.lemmas.Iterator.Adapters.{YieldsList-from_vec}
 use Rattle.std.proofs.lemmas.Iterator.Consumers.{YieldsList-at}
-use Rattle.tor_cli.proofs.make.attrs_file.paired.Goals as goal
+use Rattle.tor_cli.proofs.make.attrs_file.paths_with_attrs.Goals as goal
 
 pub returns : goal.returns
 returns c =

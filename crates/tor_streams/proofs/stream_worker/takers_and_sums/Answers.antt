@@ -10,7 +10,7 @@ use Rattle.tor_lane.specs.Lane.{IsAtMark, IsTakerOf, taken_by}
 use Rattle.tor_streams.specs.steps.Cuts.{facts_of, facts_of_chunk}
 use Rattle.tor_streams.specs.steps.StreamWorkers.{IsDoneOf}
 use Rattle.tor_streams.proofs.StreamWorkers.{all_back, all_front, all_joined}
-use Rattle.tor_streams.proofs.stream_worker.parted.Goals as goal
+use Rattle.tor_streams.proofs.stream_worker.takers_and_sums.Goals as goal
 
 pub workers-preserved : goal.workers-preserved
 workers-preserved c =

@@ -1,6 +1,6 @@
 use Rattle.std.proofs.Common.{subst}
 use Rattle.tor_engine.specs.steps.Taken.{HasBegun}
-use Rattle.tor_engine.proofs.taking.begun.Goals as goal
+use Rattle.tor_engine.proofs.taking.worker_of.Goals as goal
 
 pub returns-in-Some : goal.returns-in-Some
 returns-in-Some g c = λ units sums begun.

@@ -7,7 +7,7 @@ use Rattle.tor_lane.specs.declared.feeder.Feeder.{Feeder}
 use Rattle.tor_tree.specs.declared.kinds.Kind.{Kind}
 use Rattle.tor_streams.specs.steps.Cuts.{facts_of, facts_of_chunk}
 use Rattle.tor_streams.specs.steps.StreamWorkers.{IsDoneOf}
-use Rattle.tor_streams.proofs.stream_worker.parted.Given as goal
+use Rattle.tor_streams.proofs.stream_worker.takers_and_sums.Given as goal
 
 abbrev pub invariant-workers : goal.invariant-workers
 invariant-workers l = record {

@@ -3,7 +3,7 @@ use Rattle.std.proofs.Common.{map, sym, ◌∙◌, ap, subst}
 use Rattle.std.specs.List.{zip}
 use Rattle.tor_cli.specs.make.Attrs.{AreAmong, letters_in}
 use Rattle.tor_cli.proofs.LetteredPaths.{zipped}
-use Rattle.tor_cli.proofs.make.attrs_file.lettered.Goals as goal
+use Rattle.tor_cli.proofs.make.attrs_file.files_with_letters.Goals as goal
 
 pub returns-in_default : goal.returns-in_default
 returns-in_default c among =

@@ -4,7 +4,7 @@ use Rattle.std.proofs.Math.Nat.{pow-le-pow_right}
 use Rattle.tor_merkle.specs.Stack.{padded_subtree}
 use Rattle.tor_merkle.specs.Subtree.{height}
 use Rattle.tor_streams.proofs.WidenedRoots.{above_low, count_widened, few_leaves}
-use Rattle.tor_streams.proofs.stream_sums.widened.Goals as goal
+use Rattle.tor_streams.proofs.stream_sums.widened_root.Goals as goal
 
 pub height_of-height-requires : goal.height_of-height-requires
 height_of-height-requires c =

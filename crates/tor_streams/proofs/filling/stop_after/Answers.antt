@@ -1,6 +1,6 @@
 -- the bytes that came before, and those of the last read
 use Rattle.std.proofs.Common.{arith, length-append, ◌∙◌}
-use Rattle.tor_streams.proofs.filling.stopped.Goals as goal
+use Rattle.tor_streams.proofs.filling.stop_after.Goals as goal
 
 pub returns-in-Read : goal.returns-in-Read
 returns-in-Read c = λ left earlier bytes counted ends.

@@ -2,7 +2,7 @@
 use Rattle.std.proofs.Common.{◌≡◌, ◌∙◌}
 use Rattle.std.proofs.IntoIterSteps.{All-taken}
 use Rattle.std.proofs.lemmas.Result.{IfOk-weaker}
-use Rattle.tor.proofs.listed.Goals as goal
+use Rattle.tor.proofs.word_list.Goals as goal
 
 pub returns : goal.returns
 returns c = record {

@@ -2,7 +2,7 @@
 use Rattle.std.proofs.Common.{sym, ◌∙◌, ap}
 use Rattle.std.specs.Result.{result_ok}
 use Rattle.tor_cli.proofs.Numerals.{base_ten-text, base_ten-parsed}
-use Rattle.tor_cli.proofs.text.numbers.parsed.Goals as goal
+use Rattle.tor_cli.proofs.text.numbers.number_of_digits.Goals as goal
 
 pub returns-in-Ok : goal.returns-in-Ok
 returns-in-Ok c n small same =

@@ -2,7 +2,7 @@ use Rattle.std.proofs.Common.{◌∙◌, length, ap, subst, sym}
 use Rattle.std.specs.List.{AllByRecursion}
 use Rattle.tor_streams.specs.steps.StreamWorkers.{AreDone, IsWorkerOf}
 use Rattle.tor_sums.proofs.WholeSlice.{written_whole}
-use Rattle.tor_streams.proofs.feeding.take_all.Goals as goal
+use Rattle.tor_streams.proofs.feeding.workers_at_marks.Goals as goal
 
 pub returns : goal.returns
 returns g c = λ feeder are.

@@ -2,7 +2,7 @@
 use Rattle.std.proofs.Common.{◌≡◌, take}
 use Rattle.std.specs.List.{AllByRecursion}
 use Rattle.tor_parts.specs.LotText.{Is32, joined}
-use Rattle.tor_parts.proofs.lot_text.joined.Given as goal
+use Rattle.tor_parts.proofs.lot_text.joined_hashes.Given as goal
 
 abbrev pub invariant-hashes : goal.invariant-hashes
 invariant-hashes l = record {

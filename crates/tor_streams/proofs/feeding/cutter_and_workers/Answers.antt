@@ -3,7 +3,7 @@ use Rattle.std.proofs.Common.{◌∙◌, subst, sym}
 use Rattle.tor_lane.specs.declared.feeder.Feeder.{Feeder}
 use Rattle.tor_streams.specs.steps.StreamWorkers.{AreWorkers}
 use Rattle.tor_streams.proofs.StreamWorkers.{fresh_takers}
-use Rattle.tor_streams.proofs.feeding.open.Goals as goal
+use Rattle.tor_streams.proofs.feeding.cutter_and_workers.Goals as goal
 
 pub returns-clause-workers : goal.returns-clause-workers
 returns-clause-workers c = λ kind p.
