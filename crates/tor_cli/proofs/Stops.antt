@@ -4,7 +4,9 @@ use Rattle.std.proofs.Common.{Bool, true, false, ℕ, List, length, Option, None
 use Rattle.std.specs.Io.KnownBytes.{Keeps}
 use Rattle.std.specs.declared.io.Error.{Error}
 use Rattle.tor_meta.specs.declared.make_error.MakeError.{MakeError}
+use Rattle.tor_meta.specs.MakeError.{out_of_resources}
 use Rattle.tor_meta.specs.declared.make_error.MakeError.TheVariants as makes
+use Rattle.tor_sums.specs.declared.errors.EngineError.TheVariants as engine
 use Rattle.tor_meta.specs.declared.order.Order.{Order}
 use Rattle.tor_meta.specs.Make.{IsOwn}
 use Rattle.tor_source.specs.declared.faults.ScanFault.{ScanFault}
@@ -32,12 +34,12 @@ use Rattle.tor_cli.specs.declared.fault.Fault.{Fault}
 use Rattle.tor_cli.specs.declared.fault.Fault.TheVariants as faults
 
 is_memory : MakeError Error → Bool
-is_memory makes.Resources = true
+is_memory (makes.Hashing engine.Resources) = true
 is_memory error = false
 
 -- want of memory is the program's own, and every other error of making stays what it is
 kept_or_memory : (error : MakeError Error)
-    → ((is_memory error ≡ false) × (of_make_error error ≡ faults.Make error)) ⊎ (error ≡ makes.Resources)
+    → ((is_memory error ≡ false) × (of_make_error error ≡ faults.Make error)) ⊎ (error ≡ out_of_resources)
 unfolding is_memory
 kept_or_memory makes.PieceLength = inl (refl, refl)
 kept_or_memory makes.Workers = inl (refl, refl)
@@ -47,26 +49,26 @@ kept_or_memory makes.SingleShape = inl (refl, refl)
 kept_or_memory makes.NotSorted = inl (refl, refl)
 kept_or_memory (makes.List fault) = inl (refl, refl)
 kept_or_memory makes.ReservedPad = inl (refl, refl)
-kept_or_memory (makes.Read file start fault) = inl (refl, refl)
-kept_or_memory (makes.Changed file) = inl (refl, refl)
-kept_or_memory (makes.Missing file) = inl (refl, refl)
-kept_or_memory makes.Resources = inr refl
-kept_or_memory (makes.StreamTooLong file) = inl (refl, refl)
+kept_or_memory (makes.Hashing (engine.Read file start fault)) = inl (refl, refl)
+kept_or_memory (makes.Hashing (engine.Changed file)) = inl (refl, refl)
+kept_or_memory (makes.Hashing (engine.Missing file)) = inl (refl, refl)
+kept_or_memory (makes.Hashing engine.Resources) = inr refl
+kept_or_memory (makes.Hashing (engine.StreamTooLong file)) = inl (refl, refl)
 
 is_refused : (first : Option (MakeError Error)) (error : MakeError Error) → is_memory error ≡ false
-    → (first ≡ Some error) ⊎ (error ≡ makes.Resources) → first ≡ Some error
+    → (first ≡ Some error) ⊎ (error ≡ out_of_resources) → first ≡ Some error
 unfolding is_memory
 is_refused first error other (inl refused) = refused
 is_refused first error other (inr memory) = let bad : true ≡ false = sym (ap is_memory memory) ∙ other in cc
 
-is_no_memory : (error : MakeError Error) → is_memory error ≡ false → error ≢ makes.Resources
+is_no_memory : (error : MakeError Error) → is_memory error ≡ false → error ≢ out_of_resources
 unfolding is_memory
 is_no_memory error other = λ same. let bad : true ≡ false = sym (ap is_memory same) ∙ other in cc
 
 -- what is answered of each refusal is so of the one that there is
 pub refused_first : {A : Type 0} (first : Option (MakeError Error)) (result : Result A (MakeError Error))
     → ((refusal : MakeError Error) → first ≡ Some refusal
-    → IfErr result (λ error. (error ≡ makes.Resources) ⊎ (error ≡ refusal))) → IfErr result (IsRefusedFirst first)
+    → IfErr result (λ error. (error ≡ out_of_resources) ⊎ (error ≡ refusal))) → IfErr result (IsRefusedFirst first)
 refused_first first (Ok bytes) given = tt
 refused_first first (Err error) given = given
 

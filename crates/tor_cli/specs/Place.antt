@@ -7,7 +7,8 @@ use Rattle.std.specs.declared.io.Error.{Error}
 use Rattle.tor_meta.specs.Make.{IsGivenTo, make_refusal}
 use Rattle.tor_meta.specs.MakeStreams.{stream_refusal}
 use Rattle.tor_meta.specs.declared.make_error.MakeError.{MakeError}
-use Rattle.tor_meta.specs.declared.make_error.MakeError.TheVariants.{Read, Changed, Missing, StreamTooLong}
+use Rattle.tor_meta.specs.declared.make_error.MakeError.TheVariants.{Hashing}
+use Rattle.tor_sums.specs.declared.errors.EngineError.TheVariants as engine
 use Rattle.tor_meta.specs.declared.order.Order.{Order}
 use Rattle.tor_source.specs.Faults.{is_absence}
 use Rattle.tor_tree.specs.Path.{path_cmp}
@@ -50,11 +51,11 @@ refusal_by (Streams workers) order paths = stream_refusal order paths
 
 -- what is answered where so many files are read once: a fault of one after some bytes, or that one has too many
 abbrev pub IsStreamFault : ℕ → MakeError Error → Type 0
-IsStreamFault count (Read file None fault) = ⊥
-IsStreamFault count (Read file (Some start) fault) = file < count
-IsStreamFault count (Changed file) = ⊥
-IsStreamFault count (Missing file) = ⊥
-IsStreamFault count (StreamTooLong file) = file < count
+IsStreamFault count (Hashing (engine.Read file None fault)) = ⊥
+IsStreamFault count (Hashing (engine.Read file (Some start) fault)) = file < count
+IsStreamFault count (Hashing (engine.Changed file)) = ⊥
+IsStreamFault count (Hashing (engine.Missing file)) = ⊥
+IsStreamFault count (Hashing (engine.StreamTooLong file)) = file < count
 IsStreamFault count other = Unit {0}
 
 -- what is answered of so many files they gave or told

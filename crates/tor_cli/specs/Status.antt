@@ -7,6 +7,7 @@ use Rattle.tor_check.specs.declared.refusal.Refusal.{Refusal}
 use Rattle.tor_check.specs.declared.refusal.Refusal.TheVariants as refusals
 use Rattle.tor_meta.specs.declared.make_error.MakeError.{MakeError}
 use Rattle.tor_meta.specs.declared.make_error.MakeError.TheVariants as makes
+use Rattle.tor_sums.specs.declared.errors.EngineError.TheVariants as engine
 use Rattle.tor_recheck.specs.declared.errors.RecheckError.{RecheckError}
 use Rattle.tor_recheck.specs.declared.errors.RecheckError.TheVariants as rechecks
 use Rattle.tor_source.specs.declared.faults.ScanFault.{ScanFault}
@@ -35,7 +36,7 @@ of_scan_fault scans.Memory = Resources
 of_scan_fault fault = Scan fault
 
 abbrev pub of_make_error : MakeError Error → Fault
-of_make_error makes.Resources = Resources
+of_make_error (makes.Hashing engine.Resources) = Resources
 of_make_error error = Make error
 
 abbrev pub of_refusal : Refusal → Fault
@@ -65,11 +66,8 @@ status_of_scan scans.Memory = 4
 
 -- the order or the paths are refused, or a file was not read as it was told to be
 abbrev pub status_of_make : {F : Type 0} → MakeError F → ℕ
-status_of_make (makes.Read file start fault) = 3
-status_of_make (makes.Changed file) = 3
-status_of_make (makes.Missing file) = 3
-status_of_make (makes.StreamTooLong file) = 3
-status_of_make makes.Resources = 4
+status_of_make (makes.Hashing engine.Resources) = 4
+status_of_make (makes.Hashing fault) = 3
 status_of_make refusal = 1
 
 -- the bytes are no torrent

@@ -8,6 +8,7 @@ use crate::proof::claim::ArgumentFault;
 use std::alloc::{AllocError, Global};
 use std::{fmt, io};
 use tor_check::{ProveError, Refusal};
+use tor_engine::EngineError;
 use tor_meta::MakeError;
 use tor_recheck::RecheckError;
 use tor_source::ScanFault;
@@ -111,11 +112,8 @@ fn status_of_make(error: &MakeError<io::Error>) -> u8
     ensures positive { 0 < result }
 {
     match error {
-        MakeError::Read { .. }
-        | MakeError::Changed { .. }
-        | MakeError::Missing { .. }
-        | MakeError::StreamTooLong { .. } => 3,
-        MakeError::Resources => 4,
+        MakeError::Hashing(EngineError::Resources) => 4,
+        MakeError::Hashing(_) => 3,
         _ => 1,
     }
 }
@@ -180,11 +178,22 @@ fn write_error<W: fmt::Write>(
     f: &mut fmt::Formatter<W>,
 ) -> fmt::Result {
     match error {
-        MakeError::Read { file, start, .. } => write_read_error(error, *file, *start, f),
-        MakeError::Changed { file }
-        | MakeError::Missing { file }
-        | MakeError::StreamTooLong { file } => write!(f, "{error} file {file}"),
+        MakeError::Hashing(fault) => write_file_fault(fault, f),
         refusal => write!(f, "{refusal}"),
+    }
+}
+
+/// The code and the name of a fault of a file, its index in the order of the paths, and the offset.
+fn write_file_fault<W: fmt::Write>(
+    fault: &EngineError<io::Error>,
+    f: &mut fmt::Formatter<W>,
+) -> fmt::Result {
+    match fault {
+        EngineError::Read { file, start, .. } => write_read_error(fault, *file, *start, f),
+        EngineError::Changed { file }
+        | EngineError::Missing { file }
+        | EngineError::StreamTooLong { file } => write!(f, "{fault} file {file}"),
+        EngineError::Resources => write!(f, "{fault}"),
     }
 }
 

@@ -9,6 +9,7 @@ use crate::proof::claim::ArgumentFault;
 use std::alloc::{AllocError, AllocFailed};
 use std::io;
 use tor_check::{ProveError, Refusal};
+use tor_engine::EngineError;
 use tor_meta::{FromFault, MakeError, WriteFault};
 use tor_recheck::RecheckError;
 use tor_source::{InputFault, ScanFault};
@@ -53,7 +54,7 @@ impl From<MakeError<io::Error>> for Fault {
 
     fn from(error: MakeError<io::Error>) -> Fault {
         match error {
-            MakeError::Resources => Fault::Resources,
+            MakeError::Hashing(EngineError::Resources) => Fault::Resources,
             error => Fault::Make(error),
         }
     }

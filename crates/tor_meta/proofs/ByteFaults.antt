@@ -11,7 +11,7 @@ use Rattle.tor_meta.specs.Make.{byte_told, bytes_fault, content_at, listed_files
 use Rattle.tor_meta.specs.MakeError.{of_engine_error}
 use Rattle.tor_meta.specs.steps.IndexedFiles.{facts_at, renumbered}
 use Rattle.tor_meta.specs.declared.make_error.MakeError.{MakeError}
-use Rattle.tor_meta.specs.declared.make_error.MakeError.TheVariants.{Read}
+use Rattle.tor_meta.specs.declared.make_error.MakeError.TheVariants.{Hashing}
 use Rattle.tor_meta.proofs.SourceFiles.{Entries}
 use Rattle.tor_source.specs.Source.{SourceFacts}
 use Rattle.tor_tree.specs.FileList.{lengths_of}
@@ -48,9 +48,9 @@ module _ {F : Type 0} (facts : SourceFacts F) (entries : Entries) where
 
   renamed : (k n : ℕ) (offset : ℕ) (fault : Option F) → get_or (indices_of entries) k k ≡ n
       → option_map told_as (option_map (λ f. EngineRead k (Some offset) f) fault)
-      ≡ option_map (λ f. Read n (Some offset) f) fault
+      ≡ option_map (λ f. Hashing (EngineRead n (Some offset) f)) fault
   renamed k n offset None is = refl
-  renamed k n offset (Some f) is = ap (λ m. Some (Read m (Some offset) f)) is
+  renamed k n offset (Some f) is = ap (λ m. Some (Hashing (EngineRead m (Some offset) f))) is
 
   there : (k : ℕ) (d : ListOf (ListOf ℕ) × ℕ) (e : ℕ) → k < length entries
       → get_or (indices_of entries) k e ≡ (get_or entries k d).1
@@ -62,7 +62,7 @@ module _ {F : Type 0} (facts : SourceFacts F) (entries : Entries) where
   at_byte k d less offset =
       let inside : k < length (indices_of entries) = omega (arith, less, length-map entries (λ entry. entry.1)) in
       renamed k (get_or entries k d).1 offset _ (there k d k less)
-      ∙ ap (option_map (λ f. Read (get_or entries k d).1 (Some offset) f))
+      ∙ ap (option_map (λ f. Hashing (EngineRead (get_or entries k d).1 (Some offset) f)))
       (get_or-map (λ j. facts.byte_fault j offset) (indices_of entries) k 0 None inside
       ∙ ap (λ j. facts.byte_fault j offset) (there k d 0 less))
 

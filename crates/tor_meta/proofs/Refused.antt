@@ -13,13 +13,13 @@ use Rattle.tor_streams.specs.declared.streams.TheConstants.{MAX_UNIT_LENGTH}
 use Rattle.tor_merkle.specs.Layer.{is_piece_length}
 use Rattle.tor_meta.specs.Head.{settings_of}
 use Rattle.tor_meta.specs.Make.{IsGivenTo, make_refusal, numbers_refusal}
-use Rattle.tor_meta.specs.MakeError.{of_contents_error}
+use Rattle.tor_meta.specs.MakeError.{of_contents_error, out_of_resources}
 use Rattle.tor_meta.specs.Order.{is_span, settings_of_order}
 use Rattle.tor_meta.specs.MakeStreams.{IsGivenByReaders, are_rising, stream_numbers_refusal, stream_refusal}
 use Rattle.tor_meta.specs.Refusal.{is_long, is_only, ordered_refusal, paths_refusal, shape_refusal}
 use Rattle.tor_meta.specs.declared.head.Head.{Head}
 use Rattle.tor_meta.specs.declared.make_error.MakeError.{MakeError}
-use Rattle.tor_meta.specs.declared.make_error.MakeError.TheVariants.{NotSorted, PieceLength, Resources, Span, Workers}
+use Rattle.tor_meta.specs.declared.make_error.MakeError.TheVariants.{NotSorted, PieceLength, Span, Workers}
 use Rattle.tor_meta.specs.declared.order.Order.{Order}
 use Rattle.tor_meta.specs.declared.refusals.ContentsError.{ContentsError}
 use Rattle.tor_meta.specs.declared.refusals.ContentsError.TheVariants as refusal
@@ -135,7 +135,7 @@ module _ {F : Type 0} (gave : ℕ → Option ℕ → F → Type 0) (told : ℕ �
       (λ refused named. of_contents refused (not_of_lengths (settings_of_order order) paths refused named))) is
 
   pub given_or_not : (order : Order) (paths : List (List (List ℕ))) (e : MakeError F)
-      → (e ≡ Resources) ⊎ (make_refusal order paths ≡ Some e) → IsGivenTo gave told ended count e
+      → (e ≡ out_of_resources) ⊎ (make_refusal order paths ≡ Some e) → IsGivenTo gave told ended count e
   given_or_not order paths e (inl none) = subst (λ e. IsGivenTo gave told ended count e) (sym none) tt
   given_or_not order paths e (inr is) = not_of_source order paths e is
 
@@ -179,7 +179,7 @@ module _ (F : Type 0) (known : List (Option (List ℕ))) where
       of_absent false is = let same : span_fault ≡ e = cc in subst (λ e. IsGivenByReaders known e) same tt
 
   pub given_by_readers_or_not : (order : Order) (paths : List (List (List ℕ))) (e : MakeError F)
-      → (e ≡ Resources) ⊎ (stream_refusal order paths ≡ Some e) → IsGivenByReaders known e
+      → (e ≡ out_of_resources) ⊎ (stream_refusal order paths ≡ Some e) → IsGivenByReaders known e
   given_by_readers_or_not order paths e (inl none) = subst (λ e. IsGivenByReaders known e) (sym none) tt
   given_by_readers_or_not order paths e (inr is) = not_of_readers order paths e is
 

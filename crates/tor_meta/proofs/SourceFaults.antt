@@ -14,10 +14,9 @@ use Rattle.tor_sums.specs.declared.errors.EngineError.{EngineError}
 use Rattle.tor_sums.specs.declared.errors.EngineError.TheVariants.{Resources as NoResources}
 use Rattle.tor_meta.specs.Make.{IsMakeFault, asked_fault, bytes_fault, content_at, listed_files}
 use Rattle.tor_meta.specs.Make.{make_refusal}
-use Rattle.tor_meta.specs.MakeError.{of_engine_error}
+use Rattle.tor_meta.specs.MakeError.{of_engine_error, out_of_resources}
 use Rattle.tor_meta.specs.steps.IndexedFiles.{facts_at, renumbered}
 use Rattle.tor_meta.specs.declared.make_error.MakeError.{MakeError}
-use Rattle.tor_meta.specs.declared.make_error.MakeError.TheVariants.{Resources}
 use Rattle.tor_meta.specs.declared.order.Order.{Order}
 use Rattle.tor_source.specs.Source.{SourceFacts, told_length}
 use Rattle.tor_tree.specs.FileList.{lengths_of}
@@ -115,7 +114,7 @@ module _ {F : Type 0} (facts : SourceFacts F) where
       asked_fault facts (length entries) ≡ None → list ≡ listed_files facts entries → indices ≡ indices_of entries →
       e ≡ of_engine_error (renumbered indices error) →
       (error ≡ NoResources) ⊎ (first_byte_fault (facts_at indices facts) (lengths_of list) ≡ Some error) →
-      (e ≡ Resources) ⊎ IsMakeFault facts order paths (Some e)
+      (e ≡ out_of_resources) ⊎ IsMakeFault facts order paths (Some e)
   fault_told order paths entries list indices error e indexed lawful accepted asked are_files are is (inl none) =
       inl (is ∙ rw none refl)
   fault_told order paths entries list indices error e indexed lawful accepted asked are_files are_indices is (inr h) =

@@ -7,7 +7,7 @@ use Rattle.tor_meta.specs.Make.{make_refusal}
 use Rattle.tor_meta.specs.MakeStreams.{stream_refusal}
 use Rattle.tor_meta.specs.Order.{settings_of_order}
 use Rattle.tor_meta.specs.declared.make_error.MakeError.{MakeError}
-use Rattle.tor_meta.specs.declared.make_error.MakeError.TheVariants.{Resources}
+use Rattle.tor_meta.specs.MakeError.{out_of_resources}
 use Rattle.tor_meta.specs.declared.order.Order.{Order}
 use Rattle.tor_spec.specs.Metainfo.{metainfo}
 use Rattle.tor_source.specs.Input.{ReadsAll, ReadsSome, EndsInput}
@@ -59,7 +59,7 @@ abbrev pub StopsReading : Option (MakeError Error) → Option (List ℕ) → Opt
 StopsReading refusal reader reader' (Input fault) = ReadsSome reader reader' (EndsInput MAX_INPUT_LENGTH fault)
 -- all was read, and it is refused
 StopsReading refusal reader reader' (Make error) =
-    (content : List ℕ) × ReadsAll reader reader' content × ((refusal ≡ Some error) ⊎ (error ≡ Resources))
+    (content : List ℕ) × ReadsAll reader reader' content × ((refusal ≡ Some error) ⊎ (error ≡ out_of_resources))
 StopsReading refusal reader reader' (Write fault) = ⊥
 
 -- what it reads and writes at each fault (profile)

@@ -9,12 +9,12 @@ use Rattle.tor_sums.specs.Given.{Departs, HasToldLengths}
 use Rattle.tor_sums.specs.How.{is_how}
 use Rattle.tor_merkle.specs.Layer.{is_piece_length}
 use Rattle.tor_meta.specs.Contents.{files_with}
+use Rattle.tor_sums.specs.declared.errors.EngineError.TheVariants as engine
 use Rattle.tor_meta.specs.MakeError.{of_contents_error, of_engine_error}
 use Rattle.tor_meta.specs.Order.{is_span, settings_of_order}
 use Rattle.tor_meta.specs.Refusal.{paths_refusal}
 use Rattle.tor_meta.specs.declared.make_error.MakeError.{MakeError}
-use Rattle.tor_meta.specs.declared.make_error.MakeError.TheVariants.{PieceLength, Workers, Span, List, Read}
-use Rattle.tor_meta.specs.declared.make_error.MakeError.TheVariants.{StreamTooLong, Changed, Missing, Resources}
+use Rattle.tor_meta.specs.declared.make_error.MakeError.TheVariants.{PieceLength, Workers, Span, List, Hashing}
 use Rattle.tor_meta.specs.declared.order.Order.{Order}
 use Rattle.tor_source.specs.Source.{SourceFacts}
 use Rattle.tor_spec.specs.Facts.{File}
@@ -70,7 +70,8 @@ asked_fault facts count =
 
 -- if the bytes are read: file by file in the order of the list, each from its first byte to its last
 abbrev pub byte_told : {F : Type 0} → SourceFacts F → ℕ → ℕ → Option (MakeError F)
-byte_told facts file offset = option_map (λ fault. Read file (Some offset) fault) (facts.byte_fault file offset)
+byte_told facts file offset =
+    option_map (λ fault. Hashing (engine.Read file (Some offset) fault)) (facts.byte_fault file offset)
 
 -- the first byte that fails, file by file in the order of the list (profile)
 abbrev pub bytes_fault : {F : Type 0} → SourceFacts F → ListOf (ListOf (ListOf ℕ) × ℕ) → Option (MakeError F)
@@ -120,20 +121,16 @@ AreToldTooLarge told count =
 -- of so many; no stream is read (profile)
 abbrev pub IsGivenTo : {F : Type 0} → (ℕ → Option ℕ → F → Type 0) → (ℕ → Option ℕ → Type 0) → (ℕ → ℕ → Type 0) → ℕ
     → MakeError F → Type 0
-IsGivenTo gave told ended count (Read file start fault) = gave file start fault × (file < count)
-IsGivenTo gave told ended count (Changed file) = IsToldChanged told ended file × (file < count)
-IsGivenTo gave told ended count (Missing file) = told file None × (file < count)
-IsGivenTo gave told ended count (StreamTooLong file) = ⊥
+IsGivenTo gave told ended count (Hashing (engine.Read file start fault)) = gave file start fault × (file < count)
+IsGivenTo gave told ended count (Hashing (engine.Changed file)) = IsToldChanged told ended file × (file < count)
+IsGivenTo gave told ended count (Hashing (engine.Missing file)) = told file None × (file < count)
+IsGivenTo gave told ended count (Hashing (engine.StreamTooLong file)) = ⊥
 IsGivenTo gave told ended count (List TooLarge) = AreToldTooLarge told count
 IsGivenTo gave told ended count other = Unit {0}
 
 -- a refusal that is answered is the first that there is. It is one of the order or the paths; other answers are of the
 -- source or its lengths, or want of memory (profile)
 abbrev pub IsOwn : {F : Type 0} → Option (MakeError F) → MakeError F → Type 0
-IsOwn first (Read file start fault) = Unit {0}
-IsOwn first (Changed file) = Unit {0}
-IsOwn first (Missing file) = Unit {0}
-IsOwn first Resources = Unit {0}
-IsOwn first (StreamTooLong file) = Unit {0}
+IsOwn first (Hashing error) = Unit {0}
 IsOwn first (List TooLarge) = Unit {0}
 IsOwn first error = first ≡ Some error

@@ -12,8 +12,7 @@ use Rattle.tor_meta.specs.MakeError.{of_contents_error}
 use Rattle.tor_meta.specs.Order.{settings_of_order}
 use Rattle.tor_meta.specs.Refusal.{ordered_refusal, shape_refusal}
 use Rattle.tor_meta.specs.declared.make_error.MakeError.{MakeError}
-use Rattle.tor_meta.specs.declared.make_error.MakeError.TheVariants.{Span, NotSorted, List, Read, StreamTooLong}
-use Rattle.tor_meta.specs.declared.make_error.MakeError.TheVariants.{Changed, Missing}
+use Rattle.tor_meta.specs.declared.make_error.MakeError.TheVariants.{Span, NotSorted, List, Hashing}
 use Rattle.tor_meta.specs.declared.order.Order.{Order}
 use Rattle.tor_spec.specs.Metainfo.{metainfo}
 use Rattle.tor_spec.specs.Settings.{Settings}
@@ -52,10 +51,12 @@ IsMadeOfReaders settings files known bytes =
 -- what is answered of readers they gave. It is a fault of one, after as many bytes as it gave, or more bytes than a
 -- file may have, or contents that are too large together; nothing is asked of them but bytes (profile)
 abbrev pub IsGivenByReaders : {F : Type 0} → ListOf (Option (ListOf ℕ)) → MakeError F → Type 0
-IsGivenByReaders known (Read file start fault) = IsFaultOfReaders known (engine.Read file start fault)
-IsGivenByReaders known (Changed file) = ⊥
-IsGivenByReaders known (Missing file) = ⊥
-IsGivenByReaders {F} known (StreamTooLong file) = IsFaultOfReaders {F = F} known (engine.StreamTooLong file)
+IsGivenByReaders known (Hashing (engine.Read file start fault)) =
+    IsFaultOfReaders known (engine.Read file start fault)
+IsGivenByReaders known (Hashing (engine.Changed file)) = ⊥
+IsGivenByReaders known (Hashing (engine.Missing file)) = ⊥
+IsGivenByReaders {F} known (Hashing (engine.StreamTooLong file)) =
+    IsFaultOfReaders {F = F} known (engine.StreamTooLong file)
 IsGivenByReaders known (List TooLarge) =
     (contents : ListOf (ListOf ℕ)) × GiveContents known contents
     × (lengths_fault (map length contents) ≡ Some TooLarge)

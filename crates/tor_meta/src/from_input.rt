@@ -8,7 +8,7 @@ ghost use Rattle.tor_meta.specs.Order.{settings_of_order};
 ghost use Rattle.tor_meta.specs.Refusal.{paths_refusal};
 ghost use Rattle.tor_meta.specs.steps.Sums.{AreSumsOfSettings};
 ghost use Rattle.tor_meta.specs.declared.make_error.MakeError.{MakeError};
-ghost use Rattle.tor_meta.specs.declared.make_error.MakeError.TheVariants.{Resources};
+ghost use Rattle.tor_meta.specs.MakeError.{out_of_resources};
 ghost use Rattle.tor_meta.specs.declared.from_input.FromFault.TheVariants.{Input, Make, Write};
 ghost use Rattle.tor_source.specs.Input.{EndsInput, ReadsAll, ReadsSome};
 ghost use Rattle.tor_source.specs.declared.input.TheConstants.{MAX_INPUT_LENGTH};
@@ -24,7 +24,7 @@ use std::alloc::{AllocError, Global};
 use std::io;
 use std::sync::Wait;
 use std::thread::Threads;
-use tor_engine::{Sums, hash_input};
+use tor_engine::{EngineError, Sums, hash_input};
 use tor_merkle::laws::piece_length_bounds;
 use tor_source::{InputFault, MAX_INPUT_LENGTH, drop_input, read_parts};
 use tor_tree::Attr;
@@ -187,7 +187,7 @@ fn refusal_after_reading<R: io::Read>(
     reader: &mut R,
     refusal: MakeError<io::Error>,
 ) -> FromFault
-    ensures { (first : Option (MakeError Error)) → (first ≡ Some refusal) ⊎ (refusal ≡ Resources) →
+    ensures { (first : Option (MakeError Error)) → (first ≡ Some refusal) ⊎ (refusal ≡ out_of_resources) →
         StopsReading first (R.remaining reader.old) (R.remaining reader.new) result }
 {
     match drop_input(alloc, reader) {
@@ -197,10 +197,10 @@ fn refusal_after_reading<R: io::Read>(
 }
 
 impl From<AllocError> for FromFault {
-    ghost from_gives = { λ _ e. e ≡ Make Resources };
+    ghost from_gives = { λ _ e. e ≡ Make out_of_resources };
 
     fn from(_error: AllocError) -> FromFault {
-        FromFault::Make(MakeError::Resources)
+        FromFault::Make(MakeError::Hashing(EngineError::Resources))
     }
 }
 

@@ -9,7 +9,7 @@ ghost use Rattle.tor_meta.specs.Make.{IsGivenTo, IsMadeOfTold, IsMakeFault, IsOw
 ghost use Rattle.tor_meta.specs.Make.{letters_at, listed_files, make_refusal};
 ghost use Rattle.tor_meta.specs.Order.{settings_of_order};
 ghost use Rattle.tor_meta.specs.declared.make_error.MakeError.{MakeError};
-ghost use Rattle.tor_meta.specs.declared.make_error.MakeError.TheVariants.{Resources};
+ghost use Rattle.tor_meta.specs.MakeError.{out_of_resources};
 ghost use Rattle.tor_source.specs.Source.{SourceFacts};
 ghost use Rattle.tor_tree.specs.FileList.{paths_of};
 ghost use Rattle.tor_tree.specs.PathList.{AreIndexedPaths, IsPathList, indices_of};
@@ -45,10 +45,10 @@ pub fn make<S: Source, R: Threads + Sync>(
     ensures info { IfOk result (λ bytes. HasInfo bytes.items) }
     ensures fault { (facts : SourceFacts S.Fault) → S.is_steady source.now facts → MatchResult result
         (λ _. IsMakeFault facts order.now paths.now None)
-        (λ error. (error ≡ Resources) ⊎ IsMakeFault facts order.now paths.now (Some error)) }
+        (λ error. (error ≡ out_of_resources) ⊎ IsMakeFault facts order.now paths.now (Some error)) }
     ensures accepted { OnOk result (make_refusal {F = S.Fault} order.now paths.now ≡ None) }
     ensures refused { (refusal : MakeError S.Fault) → make_refusal order.now paths.now ≡ Some refusal →
-        IfErr result (λ error. (error ≡ Resources) ⊎ (error ≡ refusal)) }
+        IfErr result (λ error. (error ≡ out_of_resources) ⊎ (error ≡ refusal)) }
     ensures only { IfErr result (IsOwn (make_refusal order.now paths.now)) }
     ensures gave { IfErr result
         (IsGivenTo (S.gave source.now) (S.told source.now) (S.ended source.now) (length paths.now)) }
@@ -77,10 +77,10 @@ pub fn make_with<S: Source, R: Threads + Sync>(
     ensures info { IfOk result (λ bytes. HasInfo bytes.items) }
     ensures fault { (facts : SourceFacts S.Fault) → S.is_steady source.now facts → MatchResult result
         (λ _. IsMakeFault facts order.now (paths_of files.now) None)
-        (λ error. (error ≡ Resources) ⊎ IsMakeFault facts order.now (paths_of files.now) (Some error)) }
+        (λ error. (error ≡ out_of_resources) ⊎ IsMakeFault facts order.now (paths_of files.now) (Some error)) }
     ensures accepted { OnOk result (make_refusal {F = S.Fault} order.now (paths_of files.now) ≡ None) }
     ensures refused { (refusal : MakeError S.Fault) → make_refusal order.now (paths_of files.now) ≡ Some refusal →
-        IfErr result (λ error. (error ≡ Resources) ⊎ (error ≡ refusal)) }
+        IfErr result (λ error. (error ≡ out_of_resources) ⊎ (error ≡ refusal)) }
     ensures only { IfErr result (IsOwn (make_refusal order.now (paths_of files.now))) }
     ensures gave { IfErr result
         (IsGivenTo (S.gave source.now) (S.told source.now) (S.ended source.now) (length files.now)) }
@@ -130,7 +130,7 @@ fn judge<F>(
     ensures lawful { IfOk result IsPathList }
     ensures accepted { OnOk result (make_refusal {F = F} order.now (paths_of files.now) ≡ None) }
     ensures refused { IfErr result
-        (λ error. (error ≡ Resources) ⊎ (make_refusal order.now (paths_of files.now) ≡ Some error)) }
+        (λ error. (error ≡ out_of_resources) ⊎ (make_refusal order.now (paths_of files.now) ≡ Some error)) }
 {
     if let Some(refusal) = refusal_of_numbers(order) {
         return Err(refusal);
@@ -169,7 +169,7 @@ fn ask_lettered<S: Source>(
         IfOk result (λ both. both.0.files ≡ listed_files facts paths) }
     ensures fault { (facts : SourceFacts S.Fault) → S.is_steady source.now facts → MatchResult result
         (λ _. asked_fault facts (length paths) ≡ None)
-        (λ error. (error ≡ Resources) ⊎ (asked_fault facts (length paths) ≡ Some error)) }
+        (λ error. (error ≡ out_of_resources) ⊎ (asked_fault facts (length paths) ≡ Some error)) }
     ensures only { (first : Option (MakeError S.Fault)) → IfErr result (IsOwn first) }
     ensures gave { IfErr result
         (IsGivenTo (S.gave source.now) (S.told source.now) (S.ended source.now) (length paths)) }
@@ -196,7 +196,7 @@ fn ask_list<S: Source>(
         IfOk result (λ both. both.0.files ≡ listed_files facts paths) }
     ensures fault { (facts : SourceFacts S.Fault) → S.is_steady source.now facts → MatchResult result
         (λ _. asked_fault facts (length paths) ≡ None)
-        (λ error. (error ≡ Resources) ⊎ (asked_fault facts (length paths) ≡ Some error)) }
+        (λ error. (error ≡ out_of_resources) ⊎ (asked_fault facts (length paths) ≡ Some error)) }
     ensures only { (first : Option (MakeError S.Fault)) → IfErr result (IsOwn first) }
     ensures gave { IfErr result
         (IsGivenTo (S.gave source.now) (S.told source.now) (S.ended source.now) (length paths)) }

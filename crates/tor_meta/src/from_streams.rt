@@ -14,7 +14,7 @@ ghost use Rattle.tor_meta.specs.Refusal.{ordered_refusal, paths_refusal};
 ghost use Rattle.tor_meta.specs.steps.Sums.{AreSumsOfSettings};
 ghost use Rattle.tor_meta.specs.declared.make_error.MakeError.{MakeError};
 ghost use Rattle.tor_meta.specs.declared.refusals.ContentsError.{ContentsError};
-ghost use Rattle.tor_meta.specs.declared.make_error.MakeError.TheVariants.{Resources};
+ghost use Rattle.tor_meta.specs.MakeError.{out_of_resources};
 ghost use Rattle.tor_spec.specs.Metainfo.{metainfo};
 ghost use Rattle.tor_tree.specs.FileList.{lengths_fault, paths_of};
 ghost use Rattle.tor_tree.specs.PathList.{AreIndexedPaths, IsPathList, with_indices};
@@ -59,7 +59,7 @@ pub fn make_streams<R: Read + Drop, T: Threads + Wait + Sync>(
     ensures info { IfOk result (λ bytes. HasInfo bytes.items) }
     ensures accepted { OnOk result (stream_refusal {F = Error} order.now paths.now ≡ None) }
     ensures refused { (refusal : MakeError Error) → stream_refusal order.now paths.now ≡ Some refusal →
-        IfErr result (λ error. (error ≡ Resources) ⊎ (error ≡ refusal)) }
+        IfErr result (λ error. (error ≡ out_of_resources) ⊎ (error ≡ refusal)) }
     ensures only { IfErr result (IsOwn (stream_refusal order.now paths.now)) }
     ensures gave { IfErr result (IsGivenByReaders (map R.remaining readers.items)) }
 {
@@ -92,7 +92,7 @@ pub fn make_streams_with<R: Read + Drop, T: Threads + Wait + Sync>(
     ensures info { IfOk result (λ bytes. HasInfo bytes.items) }
     ensures accepted { OnOk result (stream_refusal {F = Error} order.now (paths_of files.now) ≡ None) }
     ensures refused { (refusal : MakeError Error) → stream_refusal order.now (paths_of files.now) ≡ Some refusal →
-        IfErr result (λ error. (error ≡ Resources) ⊎ (error ≡ refusal)) }
+        IfErr result (λ error. (error ≡ out_of_resources) ⊎ (error ≡ refusal)) }
     ensures only { IfErr result (IsOwn (stream_refusal order.now (paths_of files.now))) }
     ensures gave { IfErr result (IsGivenByReaders (map R.remaining readers.items)) }
 {
@@ -184,7 +184,7 @@ fn judge(
     ensures lawful { IfOk result IsPathList }
     ensures accepted { OnOk result (stream_refusal {F = Error} order.now (paths_of files.now) ≡ None) }
     ensures refused { IfErr result
-        (λ error. (error ≡ Resources) ⊎ (stream_refusal order.now (paths_of files.now) ≡ Some error)) }
+        (λ error. (error ≡ out_of_resources) ⊎ (stream_refusal order.now (paths_of files.now) ≡ Some error)) }
 {
     if let Some(refusal) = refusal_of_stream_numbers(order) {
         return Err(refusal);

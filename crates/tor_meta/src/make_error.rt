@@ -1,7 +1,6 @@
 //! Why no torrent is made of the files of a source.
 ghost use Rattle.std.specs.Prelude.{◌≡◌};
-ghost use Rattle.tor_meta.specs.MakeError.{of_contents_error, of_engine_error};
-ghost use Rattle.tor_meta.specs.declared.make_error.MakeError.TheVariants.{Resources};
+ghost use Rattle.tor_meta.specs.MakeError.{of_contents_error, of_engine_error, out_of_resources};
 
 use crate::refusals::ContentsError;
 use std::alloc::{AllocError, AllocFailed};
@@ -12,8 +11,8 @@ use tor_tree::ListError;
 
 /// Why no torrent is made of the files of a source. A file is named by its index among the paths that were handed in.
 ///
-/// Those before `Read` are answered before the source is asked, but for a list's `TooLarge`, which is answered when all
-/// lengths were told; the first that holds, and the faults of paths before `ReservedPad`.
+/// Those before `Hashing` are answered before the source is asked, but for a list's `TooLarge`, which is answered when
+/// all lengths were told; the first that holds, and the faults of paths before `ReservedPad`.
 #[derive(Debug, Drop)]
 pub enum MakeError<F> {
     /// No power of two from 2^14 to 2^30.
@@ -31,25 +30,9 @@ pub enum MakeError<F> {
     List(ListError),
     /// In a hybrid of a folder some path begins with `.pad`.
     ReservedPad,
-    /// The source had a fault: for the length of the file, or at its byte `start`.
-    Read {
-        file: u64,
-        start: Option<u64>,
-        fault: F,
-    },
-    /// The file did not stay as long as was told.
-    Changed {
-        file: u64,
-    },
-    Missing {
-        file: u64,
-    },
-    /// Memory, or a thread that is needed, was refused.
-    Resources,
-    /// A stream had more than 2^50 bytes.
-    StreamTooLong {
-        file: u64,
-    },
+    /// The files were not hashed, or their lengths not told. Want of memory, or of a thread, is `Resources` of it,
+    /// wherever it comes.
+    Hashing(EngineError<F>),
 }
 
 impl<F> fmt::Display for MakeError<F> {
@@ -57,6 +40,7 @@ impl<F> fmt::Display for MakeError<F> {
         match self {
             // The code and the name are its own.
             MakeError::List(fault) => write!(f, "{fault}"),
+            MakeError::Hashing(fault) => write!(f, "{fault}"),
             MakeError::PieceLength => f.write_str("M1 PieceLength"),
             MakeError::Workers => f.write_str("M2 Workers"),
             MakeError::Span => f.write_str("M3 Span"),
@@ -64,11 +48,6 @@ impl<F> fmt::Display for MakeError<F> {
             MakeError::SingleShape => f.write_str("M5 SingleShape"),
             MakeError::NotSorted => f.write_str("M6 NotSorted"),
             MakeError::ReservedPad => f.write_str("Y1 ReservedPad"),
-            MakeError::Read { .. } => f.write_str("E1 Read"),
-            MakeError::Changed { .. } => f.write_str("E2 Changed"),
-            MakeError::Missing { .. } => f.write_str("E3 Missing"),
-            MakeError::Resources => f.write_str("E4 Resources"),
-            MakeError::StreamTooLong { .. } => f.write_str("E5 StreamTooLong"),
         }
     }
 }
@@ -85,7 +64,7 @@ impl<F> From<ContentsError> for MakeError<F> {
             ContentsError::SingleShape => MakeError::SingleShape,
             ContentsError::List(fault) => MakeError::List(fault),
             ContentsError::ReservedPad => MakeError::ReservedPad,
-            ContentsError::Memory => MakeError::Resources,
+            ContentsError::Memory => MakeError::Hashing(EngineError::Resources),
         }
     }
 }
@@ -94,28 +73,22 @@ impl<F> From<EngineError<F>> for MakeError<F> {
     ghost from_gives = { λ error e. e ≡ of_engine_error error };
 
     fn from(error: EngineError<F>) -> MakeError<F> {
-        match error {
-            EngineError::Read { file, start, fault } => MakeError::Read { file, start, fault },
-            EngineError::Changed { file } => MakeError::Changed { file },
-            EngineError::Missing { file } => MakeError::Missing { file },
-            EngineError::Resources => MakeError::Resources,
-            EngineError::StreamTooLong { file } => MakeError::StreamTooLong { file },
-        }
+        MakeError::Hashing(error)
     }
 }
 
 impl<F> From<AllocError> for MakeError<F> {
-    ghost from_gives = { λ _ e. e ≡ Resources };
+    ghost from_gives = { λ _ e. e ≡ out_of_resources };
 
     fn from(_error: AllocError) -> MakeError<F> {
-        MakeError::Resources
+        MakeError::Hashing(EngineError::Resources)
     }
 }
 
 impl<F, T: Drop> From<AllocFailed<T>> for MakeError<F> {
-    ghost from_gives = { λ _ e. e ≡ Resources };
+    ghost from_gives = { λ _ e. e ≡ out_of_resources };
 
     fn from(_failed: AllocFailed<T>) -> MakeError<F> {
-        MakeError::Resources
+        MakeError::Hashing(EngineError::Resources)
     }
 }

@@ -5,7 +5,7 @@ ghost use Rattle.tor_meta.specs.Make.{make_refusal, numbers_refusal};
 ghost use Rattle.tor_meta.specs.Order.{has_tail, is_span, settings_of_order};
 ghost use Rattle.tor_meta.specs.Refusal.{paths_refusal};
 ghost use Rattle.tor_meta.specs.declared.make_error.MakeError.{MakeError};
-ghost use Rattle.tor_meta.specs.declared.make_error.MakeError.TheVariants.{Resources};
+ghost use Rattle.tor_meta.specs.MakeError.{out_of_resources};
 
 use crate::fed::refusal_of_one;
 use crate::head::Head;
@@ -73,7 +73,7 @@ impl Order {
         ensures accepted { OnOk result (make_refusal {F = F} self.now ((self.now.name ∷ []) ∷ []) ≡ None) }
         ensures numbers { (refusal : MakeError F) → numbers_refusal self.now ≡ Some refusal → result ≡ Err refusal }
         ensures refused { IfErr result (λ refusal.
-            (make_refusal self.now ((self.now.name ∷ []) ∷ []) ≡ Some refusal) ⊎ (refusal ≡ Resources)) }
+            (make_refusal self.now ((self.now.name ∷ []) ∷ []) ≡ Some refusal) ⊎ (refusal ≡ out_of_resources)) }
     {
         if let Some(refusal) = refusal_of_numbers(self) {
             return Err(refusal);

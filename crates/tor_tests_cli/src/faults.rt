@@ -2,6 +2,7 @@
 use std::alloc::Global;
 use std::io;
 use tor_cli::fault::Fault;
+use tor_engine::EngineError;
 use tor_meta::MakeError;
 use tor_recheck::RecheckError;
 use tor_source::ScanFault;
@@ -22,7 +23,7 @@ fn is_made(alloc: Global, error: MakeError<io::Error>, status: u8, line: &str) -
 // A read that is refused.
 fn read(file: u64, start: Option<u64>) -> MakeError<io::Error> {
     let fault = io::Error::from(io::ErrorKind::PermissionDenied);
-    MakeError::Read { file, start, fault }
+    MakeError::Hashing(EngineError::Read { file, start, fault })
 }
 
 #[test]
@@ -38,7 +39,7 @@ fn tells_each_fault_of_a_file_in_its_line(rt: HostRuntime) {
     assert!(rt;
         is_made(
             alloc,
-            MakeError::Changed { file: 0 },
+            MakeError::Hashing(EngineError::Changed { file: 0 }),
             3,
             "E2 Changed file 0"
         )
@@ -46,7 +47,7 @@ fn tells_each_fault_of_a_file_in_its_line(rt: HostRuntime) {
     assert!(rt;
         is_made(
             alloc,
-            MakeError::Missing { file: 3 },
+            MakeError::Hashing(EngineError::Missing { file: 3 }),
             3,
             "E3 Missing file 3"
         )
@@ -54,12 +55,19 @@ fn tells_each_fault_of_a_file_in_its_line(rt: HostRuntime) {
     assert!(rt;
         is_made(
             alloc,
-            MakeError::StreamTooLong { file: 1 },
+            MakeError::Hashing(EngineError::StreamTooLong { file: 1 }),
             3,
             "E5 StreamTooLong file 1"
         )
     );
-    assert!(rt; is_made(alloc, MakeError::Resources, 4, "out of resources"));
+    assert!(rt;
+        is_made(
+            alloc,
+            MakeError::Hashing(EngineError::Resources),
+            4,
+            "out of resources"
+        )
+    );
 }
 
 #[test]

@@ -9,7 +9,7 @@ use Rattle.tor_meta.specs.Contents.{IsMadeOfSome}
 use Rattle.tor_meta.specs.Make.{IsOwn}
 use Rattle.tor_meta.specs.Order.{settings_of_order}
 use Rattle.tor_meta.specs.declared.make_error.MakeError.{MakeError}
-use Rattle.tor_meta.specs.declared.make_error.MakeError.TheVariants as makes
+use Rattle.tor_meta.specs.MakeError.{out_of_resources}
 use Rattle.tor_meta.specs.declared.order.Order.{Order}
 use Rattle.tor_spec.specs.Settings.{Settings}
 use Rattle.tor_tree.specs.FileList.{paths_of}
@@ -144,7 +144,7 @@ IsTorrentAt options torrent = (order : Order) × (files : List (List (List ℕ) 
 -- if there is a refusal, no fault of a file stops it before that (profile)
 abbrev pub IsRefusedFirst : Option (MakeError Error) → MakeError Error → Type 0
 IsRefusedFirst first error = (refusal : MakeError Error) → first ≡ Some refusal
-    → (error ≡ makes.Resources) ⊎ (error ≡ refusal)
+    → (error ≡ out_of_resources) ⊎ (error ≡ refusal)
 
 -- why there is no torrent of the files at a place
 abbrev pub StopsFinding : MakeOptions → Fault → Type 0
@@ -152,7 +152,7 @@ StopsFinding options (Name fault) = name_fault options.name.now ≡ Some fault
 StopsFinding options (Make error) = (order : Order) × (files : List (List (List ℕ) × Attr))
     × IsOrderOf options order files × IsOwn (refusal_by options.way order (paths_of files)) error
     × IsRefusedFirst (refusal_by options.way order (paths_of files)) error
-    × IsGivenBy options.way (length files) error × (error ≢ makes.Resources)
+    × IsGivenBy options.way (length files) error × (error ≢ out_of_resources)
 -- which file is at a place no contract says
 StopsFinding options OutAmongFiles = (name_fault options.name.now ≡ None) × IsSome (file_of options)
     × ((single : Bool) × (files : List (List (List ℕ) × Attr)) × AreFound options.name.now single (paths_of files)

@@ -257,25 +257,35 @@ type Failing = (u64, Option<u64>, u64);
 type Fault = (&'static str, Failing, Failing, &'static [u8]);
 
 const FAULTS: &[Fault] = &[
-    ("b a=ab", (9, None, 1), (9, None, 2), b"Missing { file: 0 }"),
-    ("b a=ab", (1, None, 8), (9, None, 2), b"Missing { file: 0 }"),
+    (
+        "b a=ab",
+        (9, None, 1),
+        (9, None, 2),
+        b"Hashing(Missing { file: 0 })",
+    ),
+    (
+        "b a=ab",
+        (1, None, 8),
+        (9, None, 2),
+        b"Hashing(Missing { file: 0 })",
+    ),
     (
         "b=c a=ab",
         (0, Some(0), 1),
         (1, None, 8),
-        b"Read { file: 1, start: None, fault: 8 }",
+        b"Hashing(Read { file: 1, start: None, fault: 8 })",
     ),
     (
         "b=c a=ab",
         (0, Some(0), 1),
         (1, Some(1), 2),
-        b"Read { file: 1, start: Some(1), fault: 2 }",
+        b"Hashing(Read { file: 1, start: Some(1), fault: 2 })",
     ),
     (
         "b=cc a=ab",
         (0, Some(1), 5),
         (9, None, 2),
-        b"Read { file: 0, start: Some(1), fault: 5 }",
+        b"Hashing(Read { file: 0, start: Some(1), fault: 5 })",
     ),
     ("b=cc a=ab", (0, Some(2), 5), (9, None, 2), b"made"),
 ];
@@ -302,7 +312,7 @@ const IN_ONE_UNIT: &Fault = &(
     "a=#40000",
     (0, Some(20000), 1),
     (0, Some(17000), 2),
-    b"Read { file: 0, start: Some(17000), fault: 2 }",
+    b"Hashing(Read { file: 0, start: Some(17000), fault: 2 })",
 );
 
 /// The length that is told of a file with no bytes, and what is answered.
@@ -314,7 +324,7 @@ const LENGTHS: &[Told] = &[
         true,
     ),
     (
-        (HYBRID_OF_A, "a", b"Changed { file: 0 }"),
+        (HYBRID_OF_A, "a", b"Hashing(Changed { file: 0 })"),
         (1, How::Halves(2)),
         5,
         true,
@@ -372,15 +382,15 @@ impl Source for Changing {
 type Change = (u64, Option<u64>, bool, &'static [u8]);
 
 const CHANGES: &[Change] = &[
-    (0, Some(2), true, b"Changed { file: 0 }"),
-    (1, Some(2), true, b"Changed { file: 1 }"),
-    (0, Some(1), false, b"Changed { file: 0 }"),
-    (1, Some(1), false, b"Changed { file: 1 }"),
-    (0, Some(0), true, b"Changed { file: 0 }"),
+    (0, Some(2), true, b"Hashing(Changed { file: 0 })"),
+    (1, Some(2), true, b"Hashing(Changed { file: 1 })"),
+    (0, Some(1), false, b"Hashing(Changed { file: 0 })"),
+    (1, Some(1), false, b"Hashing(Changed { file: 1 })"),
+    (0, Some(0), true, b"Hashing(Changed { file: 0 })"),
     // It vanished: that it is missing is answered at the first asking alone.
-    (0, None, true, b"Changed { file: 0 }"),
-    (1, None, true, b"Changed { file: 1 }"),
-    (1, None, false, b"Changed { file: 1 }"),
+    (0, None, true, b"Hashing(Changed { file: 0 })"),
+    (1, None, true, b"Hashing(Changed { file: 1 })"),
+    (1, None, false, b"Hashing(Changed { file: 1 })"),
 ];
 
 fn is_change<R: AllocGlobal + Threads + Sync>(rt: &R, row: &Change, how: How) -> bool {

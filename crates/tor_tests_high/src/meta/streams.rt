@@ -10,7 +10,7 @@ use std::sync::Wait;
 use std::sync::atomic::AtomicU64;
 use std::sync::atomic::Ordering::SeqCst;
 use std::thread::Threads;
-use tor_engine::How;
+use tor_engine::{EngineError, How};
 use tor_meta::{MakeError, Order, make_streams};
 use tor_tree::{FilePath, Kind};
 
@@ -250,11 +250,13 @@ fn is_told<R: AllocGlobal + Abort + Threads + Wait + Sync>(
     };
     match made(rt, &(HYBRID, "a=abc b=d", b""), way, &AtomicU64::new(0)) {
         Err(
-            MakeError::Read {
-                file: 0,
-                start: Some(3),
-                fault,
-            },
+            MakeError::Hashing(
+                EngineError::Read {
+                    file: 0,
+                    start: Some(3),
+                    fault,
+                },
+            ),
         ) => fault.kind() == kind,
         _ => false,
     }

@@ -6,7 +6,7 @@ use Rattle.std.specs.Prelude.{IfErr, IfOk, MatchResult, OnOk}
 use Rattle.tor_meta.specs.Contents.{IsMadeOf, IsMadeOfSome}
 use Rattle.tor_meta.specs.Make.{IsGivenTo, IsMadeOfTold, IsMakeFault, IsOwn, files_of_source, make_refusal}
 use Rattle.tor_meta.specs.Order.{settings_of_order}
-use Rattle.tor_meta.specs.declared.make_error.MakeError.TheVariants.{Resources}
+use Rattle.tor_meta.specs.MakeError.{out_of_resources}
 use Rattle.tor_tree.specs.FileList.{paths_of}
 use Rattle.tor_tree.specs.declared.attr.Attr.{Attr}
 use Rattle.tor_meta.proofs.WithoutLetters.{paths_alone}
@@ -50,7 +50,7 @@ returns-clause-fault g c = λ facts steady.
     let same = ap paths_of (c.deref.ensures.value ∙ c.in_ok-files.ensures) ∙ paths_alone c.args.paths.now in
     subst (λ (paths : List (List (List ℕ))). MatchResult c.make_with.result
     (λ bytes. IsMakeFault {F = g.row.S-Fault.Denot} facts order paths None)
-    (λ error. (error ≡ Resources) ⊎ IsMakeFault {F = g.row.S-Fault.Denot} facts order paths (Some error))) same
+    (λ error. (error ≡ out_of_resources) ⊎ IsMakeFault {F = g.row.S-Fault.Denot} facts order paths (Some error))) same
     (c.make_with.ensures.fault facts steady)
 
 pub returns-clause-accepted : goal.returns-clause-accepted
