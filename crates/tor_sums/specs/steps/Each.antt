@@ -1,4 +1,4 @@
--- What units sum up to, each by itself. Only private clauses cite these.
+-- What units sum up to, each by itself. Only clauses of the crates that hash cite these.
 use Rattle.std.specs.Prelude.{◌≡◌, ℕ, List, [], ◌∷◌, ◌++◌}
 use Rattle.tor_plan.specs.declared.units.PlanUnit.{PlanUnit}
 

@@ -1,4 +1,5 @@
--- What an answer may come from where only lengths are asked, or pieces are read. Only private clauses cite these.
+-- What an answer may come from where only lengths are asked, or pieces are read.
+-- Only clauses of the crates that hash cite these.
 use Rattle.std.specs.Prelude.{◌≢◌, ◌<◌, ℕ, List, length, map, slice_index_or, unwrap_or, Option, None}
 use Rattle.tor_sums.specs.Given.{Departs}
 pub use Rattle.tor_sums.specs.Given.{IsGivenRead}

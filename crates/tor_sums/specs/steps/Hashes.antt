@@ -1,4 +1,5 @@
--- How files are cut into units, and what these have in the trees of their files. Only private clauses cite these.
+-- How files are cut into units, and what these have in the trees of their files.
+-- Only clauses of the crates that hash cite these.
 use Rattle.std.specs.Prelude.{◌≡◌, ◌*◌, ◌^◌, ◌<◌, ◌≤◌, ℕ, List, length, map, Option, None}
 use Rattle.std.specs.Int.{div_ceil}
 use Rattle.std.specs.List.{AllByRecursion, range_with_len}

@@ -1,4 +1,5 @@
--- What a worker owes: the sums of the pieces of units that were hashed. Only private clauses cite these.
+-- What a worker owes: the sums of the pieces of units that were hashed.
+-- Only clauses of the crates that hash cite these.
 use Rattle.std.specs.Prelude.{◌≡◌, ◌⊎◌, ◌*◌, ◌≤◌, ℕ, List, [], ◌∷◌, ◌++◌, drop, length, take, if◌then◌else◌}
 use Rattle.std.specs.Vec.{with_items}
 use Rattle.tor_plan.specs.PlanFacts.{PlanFacts}

@@ -1,4 +1,4 @@
--- Numbers that are put in order. Only private clauses cite these.
+-- Numbers that are put in order. Only clauses of the crates that hash cite these.
 use Rattle.std.specs.Prelude.{◌≡◌, ◌<◌, ◌≤◌, ◌+◌, ◌==◌, ℕ, zero, suc, List, cond, length, slice_index_or}
 use Rattle.std.specs.List.{AllByRecursion, IsDistinct}
 

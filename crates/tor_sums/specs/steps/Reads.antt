@@ -1,4 +1,4 @@
--- What was read of a source, whether it is steady or not. Only private clauses cite these.
+-- What was read of a source, whether it is steady or not. Only clauses of the crates that hash cite these.
 use Rattle.std.specs.Prelude.{◌≡◌, ◌+◌, ◌≤◌, ℕ, List, ◌++◌, length, map, sum_by, take}
 use Rattle.std.specs.List.{AllByRecursion, flat_map}
 use Rattle.tor_plan.specs.Content.{part_content}

@@ -1,4 +1,4 @@
--- The roots of trees over the hashes of units. Only private clauses cite these.
+-- The roots of trees over the hashes of units. Only clauses of the crates that hash cite these.
 use Rattle.std.specs.Prelude.{List, ℕ, Option, Some, drop, map, take}
 use Rattle.tor_merkle.specs.Stack.{padded_root}
 use Rattle.tor_plan.specs.declared.forests.Run.{Run}

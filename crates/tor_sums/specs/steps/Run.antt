@@ -1,4 +1,4 @@
--- What units sum up to. Only private clauses cite these.
+-- What units sum up to. Only clauses of the crates that hash cite these.
 use Rattle.std.specs.Prelude.{◌≡◌, ℕ, ◌*◌, ◌^◌, ◌≤◌, true, List, [], ◌∷◌, ◌++◌, All, false, length, map, Option}
 use Rattle.std.specs.Prelude.{if◌then◌else◌}
 use Rattle.std.specs.List.{flat_map}

@@ -1,4 +1,4 @@
--- The trees of files, one after the other. Only private clauses cite these.
+-- The trees of files, one after the other. Only clauses of the crates that hash cite these.
 use Rattle.std.specs.Prelude.{◌≡◌, ℕ, true, false, List, drop, length, map, Option, None, Some}
 use Rattle.std.specs.List.{flat_map}
 use Rattle.tor_merkle.specs.Layer.{piece_layer, root_of}
