@@ -9,8 +9,10 @@ use Rattle.tor_check.specs.Valid.{IsTold}
 use Rattle.tor_sums.specs.How.{IsHow}
 use Rattle.tor_sums.specs.declared.how.How.TheVariants.{Board}
 use Rattle.tor_recheck.specs.Bitfield.{bitfield, set_count}
+use Rattle.tor_recheck.specs.Findings.{AreFoundWithin}
 use Rattle.tor_recheck.specs.Recheck.{IsGiven}
 use Rattle.tor_recheck.specs.declared.files.FileFound.{FileFound}
+use Rattle.tor_recheck.specs.declared.rechecking_files.Findings.{Findings}
 use Rattle.tor_recheck.specs.declared.errors.RecheckError.{RecheckError}
 use Rattle.tor_recheck.specs.declared.errors.RecheckError.TheVariants as rechecks
 use Rattle.tor_source.specs.declared.faults.ScanFault.{ScanFault}
@@ -70,13 +72,14 @@ IsNoPlace view scans.System =
 IsNoPlace view scans.Memory = Unit {0}
 IsNoPlace view other = ⊥
 
--- this is printed of some bits, one for each piece, and of something told of each file
+-- this is printed of some findings: bits, one for each piece, and what is told of each file. Both go by the same
+-- pieces, each of which lies within the lengths that are told
 pub record IsReportOn (options : RecheckOptions) (view : View) (text : List ℕ) (answer : Answer) : Type 0 where
-  pub bits : List Bool
-  pub each : length bits ≡ view.piece_count
-  pub found : List FileFound
-  pub every : length found ≡ length view.files
-  pub report : IsReport options view bits found text answer
+  pub found : Findings
+  pub each : length found.bits ≡ view.piece_count
+  pub every : length found.files.items ≡ length view.files
+  pub there : AreFoundWithin view found
+  pub report : IsReport options view found.bits found.files.items text answer
 
 -- the bytes are a torrent, and this is printed of it
 pub record IsRechecked (options : RecheckOptions) (bytes text : List ℕ) (answer : Answer) : Type 0 where
