@@ -1,19 +1,23 @@
 //! The hashes of the pieces of some units; each in hexadecimal is of Python's hashlib.
 
-use crate::engine::shared::{EACH_HOW, allowed, files_of, plan_of};
+use crate::engine::shared::{EACH_HOW, add_contents, allowed, files_of, plan_of};
 use crate::engine::sums::{L0, L1, LAST_OF_7232, LONG_HYBRID};
+use std::alloc::{AllocError, Global};
 use std::process::Abort;
 use std::thread::Threads;
 use tor_engine::{How, hash_lot};
 use tor_merkle::Hash;
 use tor_plan::Plan;
-use tor_source::Source;
+use tor_source::{MemSource, Source};
 use tor_tree::Kind;
 
 /// A kind, from which unit on and before which one, the Merkle hashes of their pieces, and the joined SHA-1.
 type Row = (Kind, usize, usize, &'static [Hash], &'static [u8]);
 
-/// Of files of 40,000 bytes, of none and of 16,384, in pieces of 16,384 bytes, two a unit.
+/// In bytes.
+const LENGTHS: &[u64] = &[40000, 0, 16384];
+
+/// Of files of these lengths, in pieces of 16,384 bytes, two a unit.
 const ROWS: &[Row] = &[
     (
         Kind::V1,
@@ -60,10 +64,9 @@ fn has_each_row<S: Source, R: AllocGlobal + Abort + Threads + Sync>(
 
 /// Whether the units of the plan of the files have this.
 fn is_row<R: AllocGlobal + Abort + Threads + Sync>(rt: &R, row: &Row) -> bool {
-    let lengths = &[40000, 0, 16384];
     match (
-        files_of(rt.alloc(), lengths),
-        plan_of(rt, lengths, row.0, 16384, 2),
+        files_of(rt.alloc(), LENGTHS),
+        plan_of(rt, LENGTHS, row.0, 16384, 2),
     ) {
         (Ok(source), Ok(plan)) => has_each_row(rt, &source, &plan, row),
         _ => false,
@@ -75,4 +78,33 @@ fn hashes_the_pieces_of_some_units(rt: HostRuntime) {
     for row in ROWS {
         assert!(rt; is_row(&rt, row));
     }
+}
+
+/// The last unit, which has the last file alone.
+const LAST: Row = (Kind::V2, 2, 3, &[L0], b"");
+
+/// The files without the first, which other machines hash.
+fn files_of_the_last(alloc: Global) -> Result<MemSource, AllocError> {
+    let mut files = Vec::new(alloc);
+    add_contents(alloc, LENGTHS, &mut files)?;
+    if let Some(first) = files.first_mut() {
+        *first = None;
+    }
+    Ok(MemSource::new(files))
+}
+
+/// Whether the last unit has its hash without the files of the others.
+fn is_last<R: AllocGlobal + Abort + Threads + Sync>(rt: &R) -> bool {
+    match (
+        files_of_the_last(rt.alloc()),
+        plan_of(rt, LENGTHS, Kind::V2, 16384, 2),
+    ) {
+        (Ok(source), Ok(plan)) => has_each_row(rt, &source, &plan, &LAST),
+        _ => false,
+    }
+}
+
+#[test]
+fn asks_for_no_file_of_other_lots(rt: HostRuntime) {
+    assert!(rt; is_last(&rt));
 }

@@ -67,7 +67,7 @@ pub(crate) fn plan_of<R: AllocGlobal + Abort>(
     Plan::new(rt.alloc(), &list, kind, piece_length, span)
 }
 
-fn add_contents(
+pub(crate) fn add_contents(
     alloc: Global,
     lengths: &[u64],
     files: &mut Vec<Option<Vec<u8>>>,
