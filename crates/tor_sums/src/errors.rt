@@ -5,7 +5,8 @@ ghost use Rattle.tor_sums.specs.declared.errors.EngineError.TheVariants.{Resourc
 use std::alloc::{AllocError, AllocFailed};
 use thiserror::Error;
 
-/// Why files have no sums. A file is named by its index in the plan.
+/// Why files have no sums. A file is named by its index in the plan; of readers, or in a torrent that is made, by that
+/// of its reader or path.
 #[derive(Debug, Drop, Error)]
 pub enum EngineError<F> {
     /// The source had a fault: for the length of the file, or at its byte `start`.
@@ -15,7 +16,7 @@ pub enum EngineError<F> {
         start: Option<u64>,
         fault: F,
     },
-    /// The file is not, or did not stay, as long as the plan says.
+    /// The file is not, or did not stay, as long as the plan says, or as was told.
     #[error("E2 Changed")]
     Changed {
         file: u64,

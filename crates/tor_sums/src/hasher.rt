@@ -116,12 +116,20 @@ impl ContentHasher {
         Ok(())
     }
 
-    /// Adds bytes to the pieces alone.
+    /// Adds bytes to the pieces alone. If memory is refused, nothing was added; it can only be refused if they begin a
+    /// piece.
     pub fn feed_pieces(&mut self, bytes: &[u8]) -> Result<(), AllocError>
         ensures fed { (kind : Kind) (piece_length : ℕ) (before joined : List ℕ) →
             HasFedContent kind piece_length before joined self.old →
             OnOk result (HasFedContent kind piece_length before (joined ++ bytes.now) self.new) }
         ensures tree { tree_of self.new ≡ tree_of self.old }
+        ensures left { (kind : Kind) (piece_length : ℕ) (before joined : List ℕ) →
+            HasFedContent kind piece_length before joined self.old →
+            OnErr result (HasFedContent kind piece_length before joined self.new) }
+        ensures within { (kind : Kind) (piece_length : ℕ) (before joined : List ℕ) →
+            HasFedContent kind piece_length before joined self.old →
+            div_ceil (length joined + length bytes.now) piece_length ≤ div_ceil (length joined) piece_length →
+            IsOk result }
     {
         if let Some(sums) = &mut self.pieces {
             sums.feed(bytes)?;

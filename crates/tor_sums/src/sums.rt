@@ -48,10 +48,12 @@ pub fn sums_of_units(
 ) -> Result<Sums, AllocError>
     requires planned { IsPlan plan.now }
     requires roots { roots.now ≡ roots_of_trees (map (λ unit. unit.hash) units.now) plan.now.trees }
-    ensures { (contents : List (List ℕ)) → map length contents ≡ plan.now.lengths →
+    ensures summed { (contents : List (List ℕ)) → map length contents ≡ plan.now.lengths →
         AreSumsOfUnits plan.now contents plan.now.units (map node_in units.now)
         (flat_map (λ unit. unit.pieces.items) units.now) →
         IfOk result (AreSumsOfPlan plan.now contents) }
+    ensures lengths { IfOk result (λ sums. sums.lengths.items ≡ plan.now.lengths) }
+    ensures pieces { IfOk result (λ sums. sums.pieces.items ≡ flat_map (λ unit. unit.pieces.items) units.now) }
 {
     let lengths = Vec::from_slice(alloc, plan.lengths())?;
     let trees = trees_of_plan(alloc, plan, &lengths, units, roots)?;
@@ -65,11 +67,13 @@ pub fn sums_with(
     units: &[UnitSums],
     trees: Option<Trees>,
 ) -> Result<Sums, AllocError>
-    ensures { (kind : Kind) (piece_length : ℕ) (contents : List (List ℕ)) (joined : List ℕ) →
+    ensures summed { (kind : Kind) (piece_length : ℕ) (contents : List (List ℕ)) (joined : List ℕ) →
         map length contents ≡ lengths.items → AreTreesOf kind piece_length contents trees →
         flat_map (λ unit. unit.pieces.items) units.now
         ≡ (if has_v1 kind then piece_sums piece_length joined else []) →
         IfOk result (AreSumsOf kind piece_length contents joined) }
+    ensures lengths { IfOk result (λ sums. sums.lengths ≡ lengths) }
+    ensures pieces { IfOk result (λ sums. sums.pieces.items ≡ flat_map (λ unit. unit.pieces.items) units.now) }
 {
     let pieces = pieces_of_units(alloc, units)?;
     let Trees { roots, layers } = trees_or_none(alloc, lengths.len(), trees)?;

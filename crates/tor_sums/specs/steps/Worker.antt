@@ -1,4 +1,5 @@
--- What the units of a worker sum up to, while their bytes come. Only private clauses cite these.
+-- What the units of a worker sum up to, while their bytes come.
+-- Only clauses of the crates that hash cite these.
 use Rattle.std.specs.Prelude.{◌≡◌, ℕ, ◌<◌, ◌≤◌, true, List, [], ◌++◌, drop, length, take}
 use Rattle.std.specs.Option.{ForSome}
 use Rattle.tor_plan.specs.PlanFacts.{PlanFacts}

@@ -63,7 +63,7 @@ returns-clause-summed g c = λ facts steady none.
     let there = subst (λ (units : List PlanUnit). HasParts facts (parts_of units)) (sym c.units-units.ensures.value)
     all in
     let hashed = summed.sums contents fit (summed.are.steady facts steady all) in (
-      c.in_ok-sums.ensures contents fit hashed,
+      c.in_ok-sums.ensures.summed contents fit hashed,
       sym (ap (units_fault facts) c.units-units.ensures.value
           ∙ fault_of_plan facts plan c.units-units.ensures.planned) ∙ c.in-Ok.ensures.fault facts (steady, there),
     )
@@ -77,4 +77,4 @@ returns-clause-whole g c =
     let there = contents_there (g.S.Source.is_steady c.args.source.now) plan summed.reads c.units-units.ensures.planned
     summed.are in
     let hashed = summed.sums there.0 there.1 there.2 in
-    (there.0, there.1, c.in_ok-sums.ensures there.0 there.1 hashed)
+    (there.0, there.1, c.in_ok-sums.ensures.summed there.0 there.1 hashed)

@@ -46,7 +46,7 @@ returns c = λ tail contents are.
     are) in
     for_all_files kind tail p contents c.sums_with.result
     (λ files fit.
-    c.sums_with.ensures kind p contents (cut_content kind tail p files contents) are.counted trees
+    c.sums_with.ensures.summed kind p contents (cut_content kind tail p files contents) are.counted trees
     (sym (flat_map-map (λ (hash : List ℕ). hash) own chunks)
     ∙ ap (flat_map (λ (hash : List ℕ). hash)) are.pieces
     ∙ flat_map-map (λ (hash : List ℕ). hash) (pieces_of_cut kind p) (stream_cuts kind tail p size contents)

@@ -12,10 +12,10 @@ pub trees_of_plan-requires-clause-lengths : goal.trees_of_plan-requires-clause-l
 trees_of_plan-requires-clause-lengths c =
     c.deref.ensures.value ∙ c.in_ok-lengths.ensures.items ∙ c.lengths.ensures
 
-pub returns : goal.returns
-returns c = λ contents fit sums.
+pub returns-clause-summed : goal.returns-clause-summed
+returns-clause-summed c = λ contents fit sums.
     let plan = c.args.plan.now in
-    c.sums_with.ensures plan.kind plan.piece_length contents (plan_content plan contents)
+    c.sums_with.ensures.summed plan.kind plan.piece_length contents (plan_content plan contents)
     (fit ∙ sym (c.in_ok-lengths.ensures.items ∙ c.lengths.ensures))
     (c.in_ok-trees.ensures contents fit sums.nodes)
     (sums.pieces ∙ where_true _ _ _ _ (λ b. unit_pieces_of_files plan contents c.requires.planned b fit))
