@@ -91,7 +91,9 @@ class Function:
         path = self.name.split('::')[1:]
         cycle = next((at for at, part in enumerate(folders) if part.startswith('+')), None)
         if cycle is not None:
-            return folders[:cycle] == path[:cycle] and '-'.join(path[cycle:]) in re.split(r'\+(?:fn-)?', folders[cycle])
+            # Its folder has the names of its functions, or of one of them alone.
+            names = re.split(r'\+(?:fn-)?', folders[cycle])[1:]
+            return folders[:cycle] == path[:cycle] and (len(names) == 1 or '-'.join(path[cycle:]) in names)
         return [part for part in folders if part != 'fn'][:len(path)] == path and file.startswith('proofs/')
 
 
