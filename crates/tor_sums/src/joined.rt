@@ -1,5 +1,5 @@
 //! What units give, joined in their order.
-ghost use Rattle.std.specs.Prelude.{◌≡◌, ◌++◌, IfOk, List, OnOk};
+ghost use Rattle.std.specs.Prelude.{◌≡◌, ◌++◌, IfOk, List, OnErr, OnOk};
 ghost use Rattle.std.specs.Fn.{FnReturnsAt};
 ghost use Rattle.std.specs.List.{flat_map};
 
@@ -7,15 +7,14 @@ use crate::unit_sums::UnitSums;
 use std::alloc::{AllocError, Global};
 use tor_merkle::Hash;
 
-/// Puts the items of one vector after those of another. Memory is asked for once, and for no more than both need.
+/// Puts the items of one vector after those of another. Memory is asked for once, and for no more than both need; if
+/// there is none, the items stay as they were.
 pub fn append<T: Drop>(items: &mut Vec<T>, next: Vec<T>) -> Result<(), AllocError>
-    ensures { OnOk result (items.new.items ≡ items.old.items ++ next.items) }
+    ensures joined { OnOk result (items.new.items ≡ items.old.items ++ next.items) }
+    ensures same { OnErr result (items.new.items ≡ items.old.items) }
 {
-    items.reserve_exact(next.len())?;
-    'items: for item in next {
-        items.push(item)?;
-    }
-    Ok(())
+    let mut next = next;
+    items.append(&mut next)
 }
 
 /// What each of some units has, one after the other.

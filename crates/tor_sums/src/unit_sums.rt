@@ -20,7 +20,7 @@ use crate::hasher::Hashed;
 use crate::owing::{OwingSums, room_for_sums};
 use crate::unit_hash::read_unit;
 use std::alloc::Global;
-use tor_merkle::laws::piece_roots_fit_a_layer;
+use tor_merkle::laws::{count_of_piece_roots, piece_roots_fit_a_layer};
 use tor_merkle::{FedTree, Hash, layer_subtree, piece_level};
 use tor_plan::{Plan, PlanUnit, Run};
 
@@ -45,6 +45,7 @@ impl UnitSums {
         ensures unit { result.unit ≡ unit }
         ensures node { ForSome hashed.tree (λ tree. tree.bytes ≢ [] →
             node_in result ≡ node_over tree.piece_length level tree.bytes) }
+        ensures empty { ForSome hashed.tree (λ tree. tree.bytes ≡ [] → node_in result ≡ bare_node) }
         ensures bare { hashed.tree ≡ None → node_in result ≡ bare_node }
         ensures pieces { result.pieces ≡ hashed.pieces }
     {
@@ -69,8 +70,9 @@ impl UnitSums {
 /// The node over the bytes of a tree, and what they have of the layer; none if there is no byte.
 fn node_over(tree: FedTree, level: Option<u32>) -> Option<(Hash, Vec<Hash>)>
     requires { ForSome level (HasRoomAt tree.piece_length (length tree.bytes)) }
-    ensures { tree.bytes ≢ [] → IsSomeAnd result (λ node.
+    ensures some { tree.bytes ≢ [] → IsSomeAnd result (λ node.
         (node.0, node.1.items) ≡ node_over tree.piece_length level tree.bytes) }
+    ensures none { tree.bytes ≡ [] → result ≡ None }
 {
     match level {
         Some(level) => node_at(tree, level),
@@ -82,9 +84,11 @@ fn node_over(tree: FedTree, level: Option<u32>) -> Option<(Hash, Vec<Hash>)>
 /// byte.
 fn node_at(tree: FedTree, level: u32) -> Option<(Hash, Vec<Hash>)>
     requires { HasRoomAt tree.piece_length (length tree.bytes) level }
-    ensures { tree.bytes ≢ [] → IsSomeAnd result (λ node.
+    ensures some { tree.bytes ≢ [] → IsSomeAnd result (λ node.
         (node.0, node.1.items) ≡ node_over tree.piece_length (Some level) tree.bytes) }
+    ensures none { tree.bytes ≡ [] → result ≡ None }
 {
+    count_of_piece_roots();
     piece_roots_fit_a_layer();
     let piece_length = tree.piece_length();
     let layer = tree.piece_roots();

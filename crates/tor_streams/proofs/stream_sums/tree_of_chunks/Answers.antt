@@ -74,7 +74,7 @@ chunks-preserved c =
           let front = take i (runs_of size content) in (
             c.in_ok-push.ensures.items ∙ ap₂ (λ xs x. xs ++ x ∷ []) before.0 (ap (λ n. n.0) node)
                 ∙ sym (map-append f front (run ∷ [])) ∙ ap (map f) (sym more),
-            c.in_ok-append.ensures ∙ ap₂ (λ xs ys. xs ++ ys) before.1 (ap (λ n. n.1) node)
+            c.in_ok-append.ensures.joined ∙ ap₂ (λ xs ys. xs ++ ys) before.1 (ap (λ n. n.1) node)
                 ∙ ap (λ xs. flat_map g front ++ xs) (sym (append-nil (g run)))
                 ∙ sym (flat_map-append g front (run ∷ [])) ∙ ap (flat_map g) (sym more),
           );

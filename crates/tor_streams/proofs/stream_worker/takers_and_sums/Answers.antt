@@ -32,7 +32,7 @@ workers-preserved c =
             subst (λ ts. AllByRecursion (λ t. IsTakerOf feeder t × IsAtMark t) ts) (sym push)
                 (all_joined (λ t. IsTakerOf feeder t × IsAtMark t) takers (worker.taker ∷ []) rest.0
                 ((one.is.taker, one.mark), tt)),
-            ap (map facts_of) c.in_ok-append.ensures ∙ map-append facts_of c.workers.all.items worker.sums.items
+            ap (map facts_of) c.in_ok-append.ensures.joined ∙ map-append facts_of c.workers.all.items worker.sums.items
                 ∙ ap₂ (λ xs ys. xs ++ ys) rest.1 (one.is.sums c.if-is_refused.false)
                 ∙ sym (map-append F (flat_map taken_by takers) (taken_by worker.taker))
                 ∙ ap (map F) (ap (λ xs. flat_map taken_by takers ++ xs) (sym (append-nil (taken_by worker.taker)))
