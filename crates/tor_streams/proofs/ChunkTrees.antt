@@ -17,15 +17,16 @@ use Rattle.tor_merkle.proofs.ProvedLaws.{root_over_units, piece_levels_are_low}
 use Rattle.tor_plan.specs.Forest.{unit_level}
 use Rattle.tor_plan.specs.PlanFacts.{IsSpan}
 use Rattle.tor_tree.specs.Kinds.{has_v2}
-use Rattle.tor_tree.specs.declared.kinds.Kind.{Kind}
 use Rattle.tor_v1.proofs.ProvedLaws.{pieces_nil}
 use Rattle.tor_v1.specs.Piece.{pieces_of}
 use Rattle.tor_sums.specs.UnitSums.{bare_node, node_in}
 use Rattle.tor_sums.specs.UnitNodes.{node_over}
 use Rattle.tor_sums.specs.declared.unit_sums.UnitSums.{UnitSums}
-use Rattle.tor_streams.specs.steps.ChunkNodes.{AreNodesOf, AreNodesOfOne, IsRunNode, nodes_alone}
-use Rattle.tor_streams.specs.steps.Cuts.{Cut, bare_cuts, cuts_before_end, cuts_of_content, ending_in, node_of_bytes}
-use Rattle.tor_streams.specs.steps.Cuts.{runs_of, stream_cuts, zeros_between}
+use Rattle.tor_streams.specs.declared.chunking.Chunking.{Chunking}
+use Rattle.tor_streams.specs.steps.ChunkNodes.{AreNodesOf, AreNodesOfOne, IsRunNode, IsTreeChunking, nodes_alone}
+use Rattle.tor_streams.specs.steps.Cuts.{Cut, IsChunking, bare_cuts, cuts_before_end, cuts_of_content, ending_in}
+use Rattle.tor_streams.specs.steps.Cuts.{node_of_bytes, runs_of, stream_cuts, zeros_between}
+use Rattle.tor_sums.proofs.FileHashes.{allowed_with_trees}
 use Rattle.tor_sums.proofs.Levels.{exponents, few_below, piece_at_level, unit_at_level}
 use Rattle.tor_streams.proofs.WidenedRoots.{blocks_allowed}
 use Rattle.tor_sums.proofs.ByFile.{enough_nodes, later_nodes, own_nodes}
@@ -43,17 +44,18 @@ module _ {X : Type 0} (f : List ℕ → X) where
   bare_bytes [] = refl
   bare_bytes (run ∷ runs) = ap (λ xs. f run ∷ xs) (bare_bytes runs)
 
-  module _ (kind : Kind) (p size : ℕ) (some : 0 < size) (trees : has_v2 kind ≡ true) where
+  module _ (chunking : Chunking) (some : 0 < chunking.size) (trees : has_v2 chunking.kind ≡ true) where
     own_bytes : (contents : List (List ℕ))
-        → map (λ cut. f cut.0) (flat_map (cuts_of_content kind p size) contents)
-        ≡ flat_map (λ content. map f (runs_of size content)) contents
+        → map (λ cut. f cut.0) (flat_map (cuts_of_content chunking) contents)
+        ≡ flat_map (λ content. map f (runs_of chunking.size content)) contents
     own_bytes [] = refl
     own_bytes (content ∷ contents) =
-        map-append (λ (cut : Cut). f cut.0) (cuts_of_content kind p size content)
-        (flat_map (cuts_of_content kind p size) contents)
+        map-append (λ (cut : Cut). f cut.0) (cuts_of_content chunking content)
+        (flat_map (cuts_of_content chunking) contents)
         ∙ ap₂ (λ xs ys. xs ++ ys)
-        (same_bytes (zeros_between kind p (length content)) (bare_cuts (runs_of size content))
-        ∙ bare_bytes (runs_of size content))
+        (same_bytes (zeros_between chunking.kind chunking.piece_length (length content))
+        (bare_cuts (runs_of chunking.size content))
+        ∙ bare_bytes (runs_of chunking.size content))
         (own_bytes contents)
 
     -- a tail is none of them
@@ -62,26 +64,25 @@ module _ {X : Type 0} (f : List ℕ → X) where
     bytes_before_end true cuts = refl
     bytes_before_end false cuts = same_bytes 0 cuts
 
-    pub bytes_of_stream : (tail : Bool) (contents : List (List ℕ))
-        → map (λ cut. f cut.0) (stream_cuts kind tail p size contents)
-        ≡ flat_map (λ content. map f (runs_of size content)) contents
-    bytes_of_stream tail contents =
-        bytes_before_end tail (cuts_before_end kind p size contents)
-        ∙ ap₂ (λ xs ys. map (λ (cut : Cut). f cut.0) (xs ++ bare_cuts (runs_of size ys)))
-        (ap (λ b. cond b (flat_map (cuts_of_content kind p size) contents) []) trees)
+    pub bytes_of_stream : (contents : List (List ℕ)) → map (λ cut. f cut.0) (stream_cuts chunking contents)
+        ≡ flat_map (λ content. map f (runs_of chunking.size content)) contents
+    bytes_of_stream contents =
+        bytes_before_end chunking.tail (cuts_before_end chunking contents)
+        ∙ ap₂ (λ xs ys. map (λ (cut : Cut). f cut.0) (xs ++ bare_cuts (runs_of chunking.size ys)))
+        (ap (λ b. cond b (flat_map (cuts_of_content chunking) contents) []) trees)
         (ap (λ b. cond b [] (flat_map (λ content. content) contents ++ [])) trees)
-        ∙ ap (λ runs. map (λ (cut : Cut). f cut.0) (flat_map (cuts_of_content kind p size) contents ++ bare_cuts runs))
-        (pieces_nil size some)
+        ∙ ap (λ runs. map (λ (cut : Cut). f cut.0) (flat_map (cuts_of_content chunking) contents ++ bare_cuts runs))
+        (pieces_nil chunking.size some)
         ∙ ap (map (λ (cut : Cut). f cut.0)) (append-nil _) ∙ own_bytes contents
 
 -- the nodes of all chunks, where the kind has trees
-pub nodes_of_stream : (kind : Kind) (tail : Bool) (p size : ℕ) (some : 0 < size) (trees : has_v2 kind ≡ true)
-    (contents : List (List ℕ)) → map (λ cut. node_of_bytes kind p cut.0) (stream_cuts kind tail p size contents)
-    ≡ flat_map (nodes_alone p size) contents
-nodes_of_stream kind tail p size some trees contents =
-    bytes_of_stream (node_of_bytes kind p) kind p size some trees tail contents
-    ∙ ap (λ b. flat_map (λ content. map (λ bytes. cond b (node_over p None bytes) bare_node) (runs_of size content))
-    contents) trees
+pub nodes_of_stream : (chunking : Chunking) (some : 0 < chunking.size) (trees : has_v2 chunking.kind ≡ true)
+    (contents : List (List ℕ)) → map (λ cut. node_of_bytes chunking cut.0) (stream_cuts chunking contents)
+    ≡ flat_map (nodes_alone chunking) contents
+nodes_of_stream chunking some trees contents =
+    bytes_of_stream (node_of_bytes chunking) chunking some trees contents
+    ∙ ap (λ b. flat_map (λ content. map (λ bytes. cond b (node_over chunking.piece_length None bytes) bare_node)
+    (runs_of chunking.size content)) contents) trees
 
 -- ---- the chunks of one content
 
@@ -102,29 +103,38 @@ pub run_long : (size : ℕ) (content : List ℕ) (i : ℕ)
 run_long size content i =
     length-take size (drop (i * size) content) ∙ omega (arith, length-drop (i * size) content)
 
-module _ (p size span k : ℕ) (content : List ℕ) (allowed : IsPieceLength p) (some : 0 < span)
-    (is : size ≡ span * p) (level : size ≡ 16384 * 2 ^ k) (long : size < length content) where
+module _ (chunking : Chunking) (is : IsTreeChunking chunking) (k : ℕ) (content : List ℕ)
+    (level : chunking.size ≡ 16384 * 2 ^ k) (long : chunking.size < length content) where
   -- the root of several
   pub root_of_runs : pieces_root content
-      ≡ padded_root k (map (λ run. padded_subtree k 0 (leaves run)) (runs_of size content))
+      ≡ padded_root k (map (λ run. padded_subtree k 0 (leaves run)) (runs_of chunking.size content))
   unfolding pieces_of
   root_of_runs =
       root_over_units content k (omega (arith, level, long))
       ∙ ap (λ n. padded_root k (map (λ unit. padded_subtree k 0 (leaves unit))
       (map (slice_chunk content n) (range_with_len 0 (div_ceil (length content) n))))) (sym level)
 
-  pub layer_of_runs : flat_map (λ run. piece_roots run p) (runs_of size content) ≡ piece_layer content p
+  pub layer_of_runs : flat_map (λ run. piece_roots run chunking.piece_length) (runs_of chunking.size content)
+      ≡ piece_layer content chunking.piece_length
   unfolding pieces_of
   layer_of_runs =
+      let p = chunking.piece_length in
       ap (λ n. flat_map (λ unit. piece_roots unit p)
-      (map (slice_chunk content n) (range_with_len 0 (div_ceil (length content) n)))) is
-      ∙ piece_roots_of_units content p span allowed some
-      ∙ sym (layer_of_long_content content p (omega (arith, is, long, mul-le-mul_right {m = 1} {n = span} p some)))
+      (map (slice_chunk content n) (range_with_len 0 (div_ceil (length content) n)))) is.size
+      ∙ piece_roots_of_units content p is.span is.piece is.some
+      ∙ sym (layer_of_long_content content p
+      (omega (arith, is.size, long, mul-le-mul_right {m = 1} {n = is.span} p is.some)))
 
 -- ---- the chunks of a content, by their places
 
-module _ (p size : ℕ) (some : 0 < size) (content : List ℕ) (own : List UnitSums)
-    (are : map node_in own ≡ nodes_alone p size content) (i : ℕ) where
+module _ (chunking : Chunking) (some : 0 < chunking.size) (content : List ℕ) (own : List UnitSums)
+    (are : map node_in own ≡ nodes_alone chunking content) (i : ℕ) where
+  abbrev p : ℕ
+  p = chunking.piece_length
+
+  abbrev size : ℕ
+  size = chunking.size
+
   pub many : length own ≡ div_ceil (length content) size
   many = sym (length-map own node_in) ∙ ap length are ∙ length-map (runs_of size content) (node_over p None)
       ∙ count_of_runs size content
@@ -158,37 +168,37 @@ module _ (p size : ℕ) (some : 0 < size) (content : List ℕ) (own : List UnitS
         ∙ ap (λ r. take i (runs_of size content) ++ r ∷ []) (run_is size content i [] inside)
 
 -- where there is a length there is a content
-pub first_content : (p size : ℕ) (contents : List (List ℕ)) (m : ℕ) (lengths : List ℕ) (left : List UnitSums)
-    → AreNodesOf p size contents (m ∷ lengths) left
-    → (content : List ℕ) × (later : List (List ℕ)) × AreNodesOf p size (content ∷ later) (m ∷ lengths) left
-first_content p size [] m lengths left are = let none = ap length are.counted in absurd (omega (arith, none))
-first_content p size (content ∷ later) m lengths left are = (content, later, are)
+pub first_content : (chunking : Chunking) (contents : List (List ℕ)) (m : ℕ) (lengths : List ℕ)
+    (left : List UnitSums) → AreNodesOf chunking contents (m ∷ lengths) left
+    → (content : List ℕ) × (later : List (List ℕ)) × AreNodesOf chunking (content ∷ later) (m ∷ lengths) left
+first_content chunking [] m lengths left are = let none = ap length are.counted in absurd (omega (arith, none))
+first_content chunking (content ∷ later) m lengths left are = (content, later, are)
 
 -- the chunks of the first content, and of the later ones
-module _ (p size : ℕ) (content : List ℕ) (contents : List (List ℕ)) (m : ℕ) (lengths : List ℕ)
-    (left : List UnitSums) (are : AreNodesOf p size (content ∷ contents) (m ∷ lengths) left) (n : ℕ)
-    (count : n ≡ min (div_ceil m size) (length left)) where
+module _ (chunking : Chunking) (content : List ℕ) (contents : List (List ℕ)) (m : ℕ) (lengths : List ℕ)
+    (left : List UnitSums) (are : AreNodesOf chunking (content ∷ contents) (m ∷ lengths) left) (n : ℕ)
+    (count : n ≡ min (div_ceil m chunking.size) (length left)) where
   same_length : m ≡ length content
   same_length = ap (λ xs. get_or xs 0 0) (sym are.counted)
 
-  all_own : n ≡ length (nodes_alone p size content)
+  all_own : n ≡ length (nodes_alone chunking content)
   all_own =
-      let counted = ap (λ m. div_ceil m size) same_length ∙ sym (count_of_runs size content)
-      ∙ sym (length-map (runs_of size content) (node_over p None)) in
-      omega (arith, count, counted, enough_nodes (nodes_alone p size) content contents left are.nodes _ counted)
+      let counted = ap (λ m. div_ceil m chunking.size) same_length ∙ sym (count_of_runs chunking.size content)
+      ∙ sym (length-map (runs_of chunking.size content) (node_over chunking.piece_length None)) in
+      omega (arith, count, counted, enough_nodes (nodes_alone chunking) content contents left are.nodes _ counted)
 
-  pub own_chunks : AreNodesOfOne p size content m (take n left)
+  pub own_chunks : AreNodesOfOne chunking content m (take n left)
   own_chunks = record {
     counted = sym same_length;
     small = subst (λ (m : ℕ). m ≤ 2 ^ 50) (sym same_length) are.small.0;
-    nodes = own_nodes (nodes_alone p size) content contents left are.nodes n all_own;
+    nodes = own_nodes (nodes_alone chunking) content contents left are.nodes n all_own;
   }
 
-  pub later_chunks : AreNodesOf p size contents lengths (drop n left)
+  pub later_chunks : AreNodesOf chunking contents lengths (drop n left)
   later_chunks = record {
     counted = ap (drop 1) are.counted;
     small = are.small.1;
-    nodes = later_nodes (nodes_alone p size) content contents left are.nodes n all_own;
+    nodes = later_nodes (nodes_alone chunking) content contents left are.nodes n all_own;
   }
 
 -- how many chunks a content may have
@@ -204,14 +214,16 @@ some_root [] some = absurd (omega (arith, some))
 some_root (byte ∷ bytes) some = refl
 
 -- the only chunk of a content
-pub only_chunk : (p size : ℕ) (some : 0 < size) (content : List ℕ) (own : List UnitSums) (d : UnitSums)
-    → map node_in own ≡ nodes_alone p size content → length content ≤ size → 0 < length own
-    → (0 < length content) × (node_in (get_or own 0 d) ≡ node_over p None content)
-only_chunk p size some content own d are short there =
-    let one = run_node p size some content own are 0 there d (min (length content - 0 * size) size) refl in
+pub only_chunk : (chunking : Chunking) (some : 0 < chunking.size) (content : List ℕ) (own : List UnitSums)
+    (d : UnitSums) → map node_in own ≡ nodes_alone chunking content → length content ≤ chunking.size
+    → 0 < length own
+    → (0 < length content) × (node_in (get_or own 0 d) ≡ node_over chunking.piece_length None content)
+only_chunk chunking some content own d are short there =
+    let size = chunking.size in
+    let one = run_node chunking some content own are 0 there d (min (length content - 0 * size) size) refl in
     let whole : slice_chunk content size 0 ≡ content =
     ap (λ n. take size (drop n content)) (zero-mul size) ∙ take_all size content short in
-    (omega (arith, one.some, zero-mul size), one.node ∙ ap (node_over p None) whole)
+    (omega (arith, one.some, zero-mul size), one.node ∙ ap (node_over chunking.piece_length None) whole)
 
 -- ---- units
 
@@ -222,17 +234,31 @@ unit_allowed p span allowed is_span small =
     let low : unit_level (span * p) ≤ 16 = exponents (unit_level (span * p)) 16 (omega (arith, at.2, small)) in
     subst IsPieceLength (sym at.2) (blocks_allowed (unit_level (span * p)) low)
 
+-- where the kind has trees
+pub tree_chunking : (chunking : Chunking) → IsChunking chunking → has_v2 chunking.kind ≡ true
+    → IsTreeChunking chunking
+tree_chunking chunking is trees =
+    let piece = allowed_with_trees chunking.kind chunking.piece_length is.cut.pieces trees in
+    record {
+      piece = piece;
+      chunk = subst IsPieceLength (sym is.size)
+          (unit_allowed chunking.piece_length is.span piece is.cut.is_span (omega (arith, is.cut.small)));
+      span = is.span;
+      some = omega (arith, is.cut.is_span.1);
+      size = is.size;
+    }
+
 -- the level of a piece is below that of a unit
-pub levels_rise : (p size span : ℕ) → IsPieceLength p → IsPieceLength size → 0 < span → size ≡ span * p
-    → piece_level p ≤ piece_level size
-levels_rise p size span allowed whole some is =
-    exponents (piece_level p) (piece_level size)
+pub levels_rise : (chunking : Chunking) → IsTreeChunking chunking
+    → piece_level chunking.piece_length ≤ piece_level chunking.size
+levels_rise chunking is =
+    exponents (piece_level chunking.piece_length) (piece_level chunking.size)
     (omega (
       arith,
-      piece_at_level p allowed,
-      piece_at_level size whole,
-      is,
-      mul-le-mul_right {m = 1} {n = span} p some,
+      piece_at_level chunking.piece_length is.piece,
+      piece_at_level chunking.size is.chunk,
+      is.size,
+      mul-le-mul_right {m = 1} {n = is.span} chunking.piece_length is.some,
     ))
 
 pub some_length : (size : ℕ) → IsPieceLength size → 0 < size

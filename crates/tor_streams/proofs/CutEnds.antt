@@ -7,12 +7,12 @@ use Rattle.std.proofs.lemmas.List.FromFn.{length-range_with_len}
 use Rattle.std.specs.List.{flat_map, range_with_len}
 use Rattle.tor_lane.specs.Lane.{IsOpen, put_by}
 use Rattle.tor_tree.specs.Kinds.{has_v2}
-use Rattle.tor_tree.specs.declared.kinds.Kind.{Kind}
 use Rattle.tor_v1.proofs.ProvedLaws.{pieces_nil}
+use Rattle.tor_streams.specs.declared.chunking.Chunking.{Chunking}
 use Rattle.tor_streams.specs.declared.cutter.Cutter.{Cutter}
 use Rattle.tor_streams.specs.steps.Cuts.{HasCut, HasPut, IsCutOff, PutsHeld, bare_cuts, closed_cuts, cut_of, cuts_held}
-use Rattle.tor_streams.specs.steps.Cuts.{cuts_of_content, ending_in, open_text, runs_of, stream_cuts, units_held}
-use Rattle.tor_streams.specs.steps.Cuts.{units_of, zeros_between}
+use Rattle.tor_streams.specs.steps.Cuts.{cuts_before_end, cuts_of_content, ending_in, open_text, runs_of}
+use Rattle.tor_streams.specs.steps.Cuts.{units_held, units_of, zeros_between}
 use Rattle.tor_streams.proofs.CutLists.{held_closes, held_ends}
 use Rattle.tor_streams.proofs.Cutting.{none_of}
 use Rattle.tor_streams.proofs.StreamContent.{some_run}
@@ -25,54 +25,55 @@ joined_more contents content =
     append-nil _ ∙ flat_map-append (λ content. content) contents (content ∷ [])
     ∙ ap (λ xs. flat_map (λ content. content) contents ++ xs) (append-nil content)
 
-module _ (kind : Kind) (p size : ℕ) (some : 0 < size) where
+module _ (chunking : Chunking) (some : 0 < chunking.size) where
   abbrev Has : List (List ℕ) → List ℕ → Cutter → Type 0
-  Has contents current cutter = HasCut kind p size contents current cutter
+  Has contents current cutter = HasCut chunking contents current cutter
 
   abbrev Off : List (List ℕ) → List ℕ → Cutter → Type 0
-  Off contents current cutter = IsCutOff kind p size contents current cutter
+  Off contents current cutter = IsCutOff chunking contents current cutter
 
   -- ---- where a content ends
 
-  closed_more : (contents : List (List ℕ)) (content : List ℕ) → has_v2 kind ≡ true
-      → closed_cuts kind p size (contents ++ content ∷ [])
-      ≡ closed_cuts kind p size contents ++ cuts_of_content kind p size content
+  closed_more : (contents : List (List ℕ)) (content : List ℕ) → has_v2 chunking.kind ≡ true
+      → closed_cuts chunking (contents ++ content ∷ [])
+      ≡ closed_cuts chunking contents ++ cuts_of_content chunking content
   closed_more contents content trees =
-      ap (λ b. cond b (flat_map (cuts_of_content kind p size) (contents ++ content ∷ [])) []) trees
-      ∙ flat_map-append (cuts_of_content kind p size) contents (content ∷ [])
-      ∙ ap (λ xs. flat_map (cuts_of_content kind p size) contents ++ xs) (append-nil _)
-      ∙ sym (ap (λ b. cond b (flat_map (cuts_of_content kind p size) contents) []
-      ++ cuts_of_content kind p size content) trees)
+      ap (λ b. cond b (flat_map (cuts_of_content chunking) (contents ++ content ∷ [])) []) trees
+      ∙ flat_map-append (cuts_of_content chunking) contents (content ∷ [])
+      ∙ ap (λ xs. flat_map (cuts_of_content chunking) contents ++ xs) (append-nil _)
+      ∙ sym (ap (λ b. cond b (flat_map (cuts_of_content chunking) contents) []
+      ++ cuts_of_content chunking content) trees)
 
-  open_with_trees : (contents : List (List ℕ)) (current : List ℕ) → has_v2 kind ≡ true
-      → open_text kind contents current ≡ current
+  open_with_trees : (contents : List (List ℕ)) (current : List ℕ) → has_v2 chunking.kind ≡ true
+      → open_text chunking.kind contents current ≡ current
   open_with_trees contents current trees =
       ap (λ b. cond b current (flat_map (λ content. content) contents ++ current)) trees
 
-  open_without : (contents : List (List ℕ)) (current : List ℕ) → has_v2 kind ≡ false
-      → open_text kind contents current ≡ flat_map (λ content. content) contents ++ current
+  open_without : (contents : List (List ℕ)) (current : List ℕ) → has_v2 chunking.kind ≡ false
+      → open_text chunking.kind contents current ≡ flat_map (λ content. content) contents ++ current
   open_without contents current none =
       ap (λ b. cond b current (flat_map (λ content. content) contents ++ current)) none
 
   -- one that has bytes, where each is cut by itself
-  pub content_ends : (contents : List (List ℕ)) (content : List ℕ) (old new : Cutter) → has_v2 kind ≡ true
+  pub content_ends : (contents : List (List ℕ)) (content : List ℕ) (old new : Cutter) → has_v2 chunking.kind ≡ true
       → 0 < length content → Off contents content old → new.feeder ≡ old.feeder → new.held ≡ old.held
       → new.next ≡ old.next → new.buffer ≡ old.buffer → new.filled ≡ old.filled
-      → new.zeros ≡ zeros_between kind p (length content) → Has (contents ++ content ∷ []) [] new
+      → new.zeros ≡ zeros_between chunking.kind chunking.piece_length (length content)
+      → Has (contents ++ content ∷ []) [] new
   content_ends contents content old new trees more off feeder held next buffer filled zeros =
-      let split = some_run size some content more in
+      let split = some_run chunking.size some content more in
       let run = split.0 in
       let runs = split.1.0 in
-      let z = zeros_between kind p (length content) in
-      let before = closed_cuts kind p size contents in
-      let own = ap (runs_of size) (open_with_trees contents content trees) ∙ split.1.1 in
+      let z = zeros_between chunking.kind chunking.piece_length (length content) in
+      let before = closed_cuts chunking contents in
+      let own = ap (runs_of chunking.size) (open_with_trees contents content trees) ∙ split.1.1 in
       let closes = held_closes (map cut_of (put_by old.feeder)) before old.held z old.zeros run runs
       (λ none. ap (map cut_of) (off.begun none)) (off.cuts ∙ ap (λ xs. before ++ bare_cuts xs) own) in
       record {
         buffer = ap vec_len buffer ∙ off.buffer;
         filled = omega (arith, filled, off.filled);
         cut = [];
-        whole = (0, none_of size);
+        whole = (0, none_of chunking.size);
         text = ap (λ n. take n new.buffer.items) (filled ∙ off.filled)
             ∙ sym (open_with_trees (contents ++ content ∷ []) [] trees);
         cuts = ap (λ f. map cut_of (put_by f) ++ cuts_held new.held new.zeros) feeder
@@ -80,8 +81,8 @@ module _ (kind : Kind) (p size : ℕ) (some : 0 < size) where
             ∙ ap (λ n. map cut_of (put_by old.feeder) ++ cuts_held old.held n) zeros ∙ closes
             ∙ ap (λ xs. before ++ ending_in z (bare_cuts xs)) (sym split.1.1)
             ∙ sym (closed_more contents content trees) ∙ sym (append-nil _)
-            ∙ ap (λ xs. closed_cuts kind p size (contents ++ content ∷ []) ++ bare_cuts xs)
-            (sym (pieces_nil size some));
+            ∙ ap (λ xs. closed_cuts chunking (contents ++ content ∷ []) ++ bare_cuts xs)
+            (sym (pieces_nil chunking.size some));
         units = ap (λ f. units_of (put_by f) ++ units_held new.held) feeder
             ∙ ap (λ h. units_of (put_by old.feeder) ++ units_held h) held ∙ off.units
             ∙ ap (range_with_len 0) (sym next);
@@ -90,29 +91,30 @@ module _ (kind : Kind) (p size : ℕ) (some : 0 < size) where
       }
 
   -- one that has none, or where all are cut as one
-  closed_same : (contents : List (List ℕ)) (content : List ℕ) → (has_v2 kind ≡ true → length content ≡ 0)
-      → closed_cuts kind p size (contents ++ content ∷ []) ≡ closed_cuts kind p size contents
-  closed_same contents content empty = by_kind (has_v2 kind) refl
+  closed_same : (contents : List (List ℕ)) (content : List ℕ) → (has_v2 chunking.kind ≡ true → length content ≡ 0)
+      → closed_cuts chunking (contents ++ content ∷ []) ≡ closed_cuts chunking contents
+  closed_same contents content empty = by_kind (has_v2 chunking.kind) refl
     where
-      by_kind : (b : Bool) → has_v2 kind ≡ b
-          → closed_cuts kind p size (contents ++ content ∷ []) ≡ closed_cuts kind p size contents
+      by_kind : (b : Bool) → has_v2 chunking.kind ≡ b
+          → closed_cuts chunking (contents ++ content ∷ []) ≡ closed_cuts chunking contents
       by_kind true trees =
           closed_more contents content trees
-          ∙ ap (λ xs. closed_cuts kind p size contents ++ cuts_of_content kind p size xs)
+          ∙ ap (λ xs. closed_cuts chunking contents ++ cuts_of_content chunking xs)
           (nil_from_length content (empty trees))
-          ∙ ap (λ runs. closed_cuts kind p size contents
-          ++ ending_in (zeros_between kind p 0) (bare_cuts runs)) (pieces_nil size some)
-          ∙ append-nil (closed_cuts kind p size contents)
+          ∙ ap (λ runs. closed_cuts chunking contents
+          ++ ending_in (zeros_between chunking.kind chunking.piece_length 0) (bare_cuts runs))
+          (pieces_nil chunking.size some)
+          ∙ append-nil (closed_cuts chunking contents)
       by_kind false none =
-          ap (λ b. cond b (flat_map (cuts_of_content kind p size) (contents ++ content ∷ [])) []) none
-          ∙ sym (ap (λ b. cond b (flat_map (cuts_of_content kind p size) contents) []) none)
+          ap (λ b. cond b (flat_map (cuts_of_content chunking) (contents ++ content ∷ [])) []) none
+          ∙ sym (ap (λ b. cond b (flat_map (cuts_of_content chunking) contents) []) none)
 
-  open_same : (contents : List (List ℕ)) (content : List ℕ) → (has_v2 kind ≡ true → length content ≡ 0)
-      → open_text kind contents content ≡ open_text kind (contents ++ content ∷ []) []
-  open_same contents content empty = by_kind (has_v2 kind) refl
+  open_same : (contents : List (List ℕ)) (content : List ℕ) → (has_v2 chunking.kind ≡ true → length content ≡ 0)
+      → open_text chunking.kind contents content ≡ open_text chunking.kind (contents ++ content ∷ []) []
+  open_same contents content empty = by_kind (has_v2 chunking.kind) refl
     where
-      by_kind : (b : Bool) → has_v2 kind ≡ b
-          → open_text kind contents content ≡ open_text kind (contents ++ content ∷ []) []
+      by_kind : (b : Bool) → has_v2 chunking.kind ≡ b
+          → open_text chunking.kind contents content ≡ open_text chunking.kind (contents ++ content ∷ []) []
       by_kind true trees =
           open_with_trees contents content trees ∙ nil_from_length content (empty trees)
           ∙ sym (open_with_trees (contents ++ content ∷ []) [] trees)
@@ -121,7 +123,7 @@ module _ (kind : Kind) (p size : ℕ) (some : 0 < size) where
           ∙ sym (open_without (contents ++ content ∷ []) [] none)
 
   pub content_stays : (contents : List (List ℕ)) (content : List ℕ) (cutter : Cutter)
-      → (has_v2 kind ≡ true → length content ≡ 0) → Has contents content cutter
+      → (has_v2 chunking.kind ≡ true → length content ≡ 0) → Has contents content cutter
       → Has (contents ++ content ∷ []) [] cutter
   content_stays contents content cutter empty has = record {
     buffer = has.buffer;
@@ -129,7 +131,8 @@ module _ (kind : Kind) (p size : ℕ) (some : 0 < size) where
     cut = has.cut;
     whole = has.whole;
     text = has.text ∙ open_same contents content empty;
-    cuts = has.cuts ∙ ap (λ xs. xs ++ bare_cuts (runs_of size has.cut)) (sym (closed_same contents content empty));
+    cuts = has.cuts
+        ∙ ap (λ xs. xs ++ bare_cuts (runs_of chunking.size has.cut)) (sym (closed_same contents content empty));
     units = has.units;
     opened = has.opened;
     begun = has.begun;
@@ -140,16 +143,16 @@ module _ (kind : Kind) (p size : ℕ) (some : 0 < size) where
   -- with the zeros that were to follow what is held, or with none
   end_cuts : (tail : Bool) (contents : List (List ℕ)) (old : Cutter) → Off contents [] old
       → map cut_of (put_by old.feeder) ++ cuts_held old.held (cond tail old.zeros 0)
-      ≡ stream_cuts kind tail p size contents
+      ≡ cond tail (cuts_before_end chunking contents) (ending_in 0 (cuts_before_end chunking contents))
   end_cuts true contents old off = off.cuts
   end_cuts false contents old off =
       held_ends (map cut_of (put_by old.feeder)) old.held 0 old.zeros (λ none. ap (map cut_of) (off.begun none))
       ∙ ap (ending_in 0) off.cuts
 
-  pub all_end : (tail : Bool) (contents : List (List ℕ)) (old new : Cutter) → Off contents [] old
-      → PutsHeld (cond tail old.zeros 0) old new → HasPut kind tail p size contents (put_by new.feeder)
-  all_end tail contents old new off puts = record {
-    cuts = puts.cuts ∙ end_cuts tail contents old off;
+  pub all_end : (contents : List (List ℕ)) (old new : Cutter) → Off contents [] old
+      → PutsHeld (cond chunking.tail old.zeros 0) old new → HasPut chunking contents (put_by new.feeder)
+  all_end contents old new off puts = record {
+    cuts = puts.cuts ∙ end_cuts chunking.tail contents old off;
     units =
         let all = puts.units ∙ off.units in
         all ∙ ap (range_with_len 0) (sym (length-range_with_len 0 old.next) ∙ sym (ap length all)

@@ -1,7 +1,7 @@
 -- What is cut while bytes come.
 use Rattle.std.proofs.Common.{◌≡◌, ℕ, suc, ◌*◌, ◌<◌, ◌≤◌, Bool, true, false, cond, List, [], ◌∷◌, ◌++◌, length}
 use Rattle.std.proofs.Common.{map, take, None, arith, refl, ap, ◌∙◌, sym, subst, append_assoc, append-nil, ap₂}
-use Rattle.std.proofs.Common.{length-append, length-take, vec_len}
+use Rattle.std.proofs.Common.{length-append, length-take, mul-pos, vec_len}
 use Rattle.std.proofs.lemmas.List.{map-append}
 use Rattle.std.specs.List.{flat_map, range_with_len}
 use Rattle.tor_lane.specs.Lane.{FeedsLaneOf, IsOpen, put_by}
@@ -9,10 +9,18 @@ use Rattle.tor_lane.specs.declared.feeder.Feeder.{Feeder}
 use Rattle.tor_tree.specs.Kinds.{has_v2}
 use Rattle.tor_tree.specs.declared.kinds.Kind.{Kind}
 use Rattle.tor_v1.proofs.ProvedLaws.{pieces_nil}
+use Rattle.tor_streams.specs.declared.chunking.Chunking.{Chunking}
 use Rattle.tor_streams.specs.declared.cutter.Cutter.{Cutter}
-use Rattle.tor_streams.specs.steps.Cuts.{CutsMore, HasCut, IsCutOff, bare_cuts, closed_cuts, cut_of, cuts_held}
-use Rattle.tor_streams.specs.steps.Cuts.{open_text, runs_of, units_held, units_of}
+use Rattle.tor_streams.specs.steps.Cuts.{CutsMore, HasCut, IsChunking, IsCutOff, bare_cuts, closed_cuts}
+use Rattle.tor_streams.specs.steps.Cuts.{cut_of, cuts_held, open_text, runs_of, units_held, units_of}
+use Rattle.tor_sums.proofs.FileHashes.{some_piece}
 use Rattle.tor_streams.proofs.CutLists.{range_more, runs_more}
+
+-- a chunk has some byte
+pub some_size : (chunking : Chunking) → IsChunking chunking → 0 < chunking.size
+some_size chunking is =
+    subst (λ (n : ℕ). 0 < n) (sym is.size)
+    (mul-pos (omega (arith, is.cut.is_span.1)) (some_piece chunking.kind chunking.piece_length is.cut.pieces))
 
 -- two steps that keep a lane keep it together
 lanes_trans : (f g k : Feeder) → FeedsLaneOf f g → FeedsLaneOf g k → FeedsLaneOf f k
@@ -38,12 +46,12 @@ open_more kind contents current bytes =
 pub none_of : (size : ℕ) → 0 ≡ 0 * size
 none_of size = omega arith
 
-module _ (kind : Kind) (p size : ℕ) (some : 0 < size) where
+module _ (chunking : Chunking) (some : 0 < chunking.size) where
   abbrev Has : List (List ℕ) → List ℕ → Cutter → Type 0
-  Has contents current cutter = HasCut kind p size contents current cutter
+  Has contents current cutter = HasCut chunking contents current cutter
 
   abbrev Off : List (List ℕ) → List ℕ → Cutter → Type 0
-  Off contents current cutter = IsCutOff kind p size contents current cutter
+  Off contents current cutter = IsCutOff chunking contents current cutter
 
   nothing_waits : (n : ℕ) (cut waiting text : List ℕ) → n ≡ 0 → cut ++ take n waiting ≡ text → cut ≡ text
   nothing_waits n cut waiting text none is =
@@ -54,7 +62,7 @@ module _ (kind : Kind) (p size : ℕ) (some : 0 < size) where
   none_waits contents current cutter has none = record {
     filled = none;
     buffer = has.buffer;
-    cuts = has.cuts ∙ ap (λ text. closed_cuts kind p size contents ++ bare_cuts (runs_of size text))
+    cuts = has.cuts ∙ ap (λ text. closed_cuts chunking contents ++ bare_cuts (runs_of chunking.size text))
         (nothing_waits cutter.filled has.cut cutter.buffer.items _ none has.text);
     units = has.units;
     opened = has.opened;
@@ -71,13 +79,13 @@ module _ (kind : Kind) (p size : ℕ) (some : 0 < size) where
     long = length-take old.filled old.buffer.items ∙ omega (arith, has.filled, has.buffer, old.buffer.ok.0)
 
     cuts_now : map cut_of (put_by new.feeder) ++ cuts_held new.held new.zeros
-        ≡ closed_cuts kind p size contents ++ bare_cuts (runs_of size (has.cut ++ run))
+        ≡ closed_cuts chunking contents ++ bare_cuts (runs_of chunking.size (has.cut ++ run))
     cuts_now =
-        let before = closed_cuts kind p size contents in
+        let before = closed_cuts chunking contents in
         more.cuts ∙ ap (λ xs. xs ++ (run, 0) ∷ []) has.cuts
-        ∙ append_assoc before (bare_cuts (runs_of size has.cut)) ((run, 0) ∷ [])
-        ∙ ap (λ xs. before ++ xs) (sym (map-append (λ r. (r, 0)) (runs_of size has.cut) (run ∷ []))
-        ∙ ap bare_cuts (sym (runs_more size has.whole.0 has.cut run some has.whole.1
+        ∙ append_assoc before (bare_cuts (runs_of chunking.size has.cut)) ((run, 0) ∷ [])
+        ∙ ap (λ xs. before ++ xs) (sym (map-append (λ r. (r, 0)) (runs_of chunking.size has.cut) (run ∷ []))
+        ∙ ap bare_cuts (sym (runs_more chunking.size has.whole.0 has.cut run some has.whole.1
         (omega (arith, waits, long)) (omega (arith, has.filled, long)))))
 
     units_now : units_of (put_by new.feeder) ++ units_held new.held ≡ range_with_len 0 new.next
@@ -89,14 +97,14 @@ module _ (kind : Kind) (p size : ℕ) (some : 0 < size) where
     cut_off = record {
       filled = more.filled;
       buffer = more.buffer ∙ has.buffer;
-      cuts = cuts_now ∙ ap (λ text. closed_cuts kind p size contents ++ bare_cuts (runs_of size text)) has.text;
+      cuts = cuts_now ∙ ap (λ text. closed_cuts chunking contents ++ bare_cuts (runs_of chunking.size text)) has.text;
       units = units_now;
       opened = still;
       begun = more.begun;
     }
 
     -- a whole unit
-    pub cut_whole : old.filled ≡ size → Has contents current new
+    pub cut_whole : old.filled ≡ chunking.size → Has contents current new
     cut_whole whole = record {
       buffer = more.buffer ∙ has.buffer;
       filled = omega (arith, more.filled);
@@ -123,7 +131,7 @@ module _ (kind : Kind) (p size : ℕ) (some : 0 < size) where
     whole = has.whole;
     text = ap (λ xs. has.cut ++ xs) came
         ∙ sym (append_assoc has.cut (take old.filled old.buffer.items) bytes)
-        ∙ ap (λ xs. xs ++ bytes) has.text ∙ open_more kind contents current bytes;
+        ∙ ap (λ xs. xs ++ bytes) has.text ∙ open_more chunking.kind contents current bytes;
     cuts = ap (λ f. map cut_of (put_by f) ++ cuts_held new.held new.zeros) feeder
         ∙ ap (λ h. map cut_of (put_by old.feeder) ++ cuts_held h new.zeros) held
         ∙ ap (λ n. map cut_of (put_by old.feeder) ++ cuts_held old.held n) zeros ∙ has.cuts;
@@ -140,17 +148,18 @@ module _ (kind : Kind) (p size : ℕ) (some : 0 < size) where
   same_either true x = refl
   same_either false x = refl
 
-  pub none_read : (cutter : Cutter) → vec_len cutter.buffer ≡ size → cutter.filled ≡ 0 → cutter.held ≡ None
+  pub none_read : (cutter : Cutter) → vec_len cutter.buffer ≡ chunking.size → cutter.filled ≡ 0 → cutter.held ≡ None
       → cutter.next ≡ 0 → put_by cutter.feeder ≡ [] → IsOpen cutter.feeder → Has [] [] cutter
   none_read cutter is_long filled held next put still = record {
     buffer = is_long;
     filled = omega (arith, filled);
     cut = [];
-    whole = (0, none_of size);
-    text = ap (λ n. take n cutter.buffer.items) filled ∙ sym (same_either (has_v2 kind) []);
+    whole = (0, none_of chunking.size);
+    text = ap (λ n. take n cutter.buffer.items) filled ∙ sym (same_either (has_v2 chunking.kind) []);
     cuts = ap (λ cs. map cut_of cs ++ cuts_held cutter.held cutter.zeros) put
         ∙ ap (λ h. cuts_held h cutter.zeros) held
-        ∙ sym (ap₂ (λ xs runs. xs ++ bare_cuts runs) (same_either (has_v2 kind) []) (pieces_nil size some));
+        ∙ sym (ap₂ (λ xs runs. xs ++ bare_cuts runs) (same_either (has_v2 chunking.kind) [])
+        (pieces_nil chunking.size some));
     units = ap (λ cs. units_of cs ++ units_held cutter.held) put ∙ ap units_held held
         ∙ ap (range_with_len 0) (sym next);
     opened = still;

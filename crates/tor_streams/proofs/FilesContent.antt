@@ -13,7 +13,7 @@ use Rattle.tor_v1.specs.Entries.{aligned_entries, file_entry, has_bytes, pad_ent
 use Rattle.tor_v1.specs.Piece.{zeros}
 use Rattle.tor_v1.specs.declared.entry.Entry.{Entry}
 use Rattle.tor_streams.specs.steps.Cuts.{bare_cuts, ending_in, stream_cuts}
-use Rattle.tor_streams.proofs.StreamContent.{cuts_of_v1, joined_cuts, no_zeros, own_cuts, own_text, padded_text}
+use Rattle.tor_streams.proofs.StreamContent.{chunking_of, cuts_of_v1, joined_cuts, no_zeros, own_cuts, own_text, padded_text}
 
 abbrev File : Type 0
 File = List (List ℕ) × ℕ
@@ -74,7 +74,7 @@ module _ (size p : ℕ) (some : 0 < size) (pos : 0 < p) where
   -- what the chunks have together, where the kind has SHA-1 of pieces
   pub stream_text : (kind : Kind) (files : List File) (contents : List (List ℕ)) → AreContentsOfFiles files contents
       → has_v1 kind ≡ true
-      → joined_cuts (stream_cuts kind false p size contents) ≡ cut_content kind false p files contents
+      → joined_cuts (stream_cuts (chunking_of kind false p size) contents) ≡ cut_content kind false p files contents
   stream_text V1 files contents fit pieces = cuts_of_v1 size some p contents ∙ sym (joined_files files contents fit)
   stream_text V2 files contents fit pieces = cc
   stream_text Hybrid files contents fit pieces =

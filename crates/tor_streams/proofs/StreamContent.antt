@@ -10,11 +10,16 @@ use Rattle.std.specs.Fork.{slice_chunk}
 use Rattle.std.specs.Int.{div_ceil}
 use Rattle.std.specs.List.{flat_map, list_any, range_with_len}
 use Rattle.tor_v1.proofs.ProvedLaws.{no_padding, pieces_nil}
+use Rattle.tor_tree.specs.declared.kinds.Kind.{Kind}
 use Rattle.tor_tree.specs.declared.kinds.Kind.TheVariants.{V1, Hybrid}
 use Rattle.tor_v1.specs.Entries.{padding_length}
 use Rattle.tor_v1.specs.Piece.{pieces_of, zeros}
+use Rattle.tor_streams.specs.declared.chunking.Chunking.{Chunking}
 use Rattle.tor_streams.specs.steps.Cuts.{Cut, bare_cuts, cuts_of_content, ending_in, runs_of, stream_cuts}
 use Rattle.tor_streams.proofs.CutLists.{ending_after, ending_twice}
+
+abbrev pub chunking_of : Kind → Bool → ℕ → ℕ → Chunking
+chunking_of kind tail p size = record { kind = kind; piece_length = p; size = size; tail = tail }
 
 -- the bytes of a chunk, and the zeros after them
 abbrev pub text_of : Cut → List ℕ
@@ -90,7 +95,7 @@ module _ (size : ℕ) (some : 0 < size) where
 
   -- in version 1
   pub cuts_of_v1 : (p : ℕ) (contents : List (List ℕ))
-      → joined_cuts (stream_cuts V1 false p size contents) ≡ flat_map (λ content. content) contents
+      → joined_cuts (stream_cuts (chunking_of V1 false p size) contents) ≡ flat_map (λ content. content) contents
   cuts_of_v1 p contents =
       let text = flat_map (λ content. content) contents in
       ap (λ xs. joined_cuts (ending_in 0 (bare_cuts (runs_of size xs)))) (append-nil text)
@@ -104,7 +109,7 @@ module _ (size : ℕ) (some : 0 < size) where
 
   module _ (p : ℕ) (pos : 0 < p) where
     abbrev pub own_cuts : List ℕ → List Cut
-    own_cuts content = cuts_of_content Hybrid p size content
+    own_cuts content = cuts_of_content (chunking_of Hybrid false p size) content
 
     abbrev some_byte : List (List ℕ) → Bool
     some_byte contents = list_any (λ content. ltb 0 (length content)) contents

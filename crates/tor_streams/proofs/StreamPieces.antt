@@ -14,10 +14,13 @@ use Rattle.tor_plan.specs.Content.{AreContentsOfFiles, cut_content}
 use Rattle.tor_tree.specs.Kinds.{has_v1}
 use Rattle.tor_v1.specs.Entries.{padding_length}
 use Rattle.tor_v1.specs.Piece.{piece_sums, pieces_of}
-use Rattle.tor_streams.specs.steps.Cuts.{Cut, bare_cuts, cuts_of_content, ending_in, open_text, pieces_of_cut, runs_of}
-use Rattle.tor_streams.specs.steps.Cuts.{stream_cuts}
-use Rattle.tor_streams.proofs.StreamContent.{joined_again, joined_cuts, text_of}
+use Rattle.tor_streams.specs.declared.chunking.Chunking.{Chunking}
+use Rattle.tor_streams.specs.steps.Cuts.{Cut, IsChunking, bare_cuts, cuts_of_content, ending_in, open_text}
+use Rattle.tor_streams.specs.steps.Cuts.{pieces_of_cut, runs_of, stream_cuts}
+use Rattle.tor_streams.proofs.Cutting.{some_size}
+use Rattle.tor_streams.proofs.StreamContent.{chunking_of, joined_again, joined_cuts, text_of}
 use Rattle.tor_streams.proofs.StreamTail.{stream_text}
+use Rattle.tor_sums.proofs.FileHashes.{some_piece}
 use Rattle.tor_sums.proofs.Zeros.{length_with_zeros}
 
 module _ (p : ℕ) where
@@ -113,18 +116,21 @@ module _ (p : ℕ) where
         less_whole zero (suc n) m all = (0, omega (arith, all))
         less_whole (suc k) (suc n) m all = less_whole k n m (omega (arith, all))
 
+    abbrev own : List ℕ → List Cut
+    own content = cuts_of_content (chunking_of Hybrid false p size) content
+
     own_whole : (pos : 0 < p) (content : List ℕ)
-        → AllByRecursion IsWhole (cuts_of_content Hybrid p size content)
+        → AllByRecursion IsWhole (own content)
     own_whole pos content =
         let lacks = whole_with_padding p (length content) pos in
         closed_whole (padding_length p (length content)) lacks.0 (runs_of size content) (full_runs content)
         (ap (λ xs. length xs + padding_length p (length content)) (joined_again size some content) ∙ lacks.1)
 
     all_whole : (pos : 0 < p) (contents : List (List ℕ))
-        → AllByRecursion IsWhole (flat_map (cuts_of_content Hybrid p size) contents)
+        → AllByRecursion IsWhole (flat_map own contents)
     all_whole pos [] = tt
     all_whole pos (content ∷ contents) =
-        all_after (cuts_of_content Hybrid p size content) _ (own_whole pos content) (all_whole pos contents)
+        all_after (own content) _ (own_whole pos content) (all_whole pos contents)
 
     -- with a tail or without
     end_whole : (tail : Bool) (cuts : List Cut) → AreWhole cuts → AreWhole (cond tail cuts (ending_in 0 cuts))
@@ -132,7 +138,7 @@ module _ (p : ℕ) where
     end_whole false cuts whole = ending_whole 0 cuts whole
 
     pub stream_whole : (pos : 0 < p) (kind : Kind) (tail : Bool) (contents : List (List ℕ)) → has_v1 kind ≡ true
-        → AreWhole (stream_cuts kind tail p size contents)
+        → AreWhole (stream_cuts (chunking_of kind tail p size) contents)
     stream_whole pos V1 tail contents pieces =
         end_whole tail _ (bare_whole (runs_of size (open_text V1 contents [])) (full_runs _))
     stream_whole pos V2 tail contents pieces = cc
@@ -141,26 +147,35 @@ module _ (p : ℕ) where
         (subst (λ (runs : List (List ℕ)). AllByRecursion IsWhole (bare_cuts runs)) (sym (pieces_nil size some)) tt)))
 
 -- the pieces of all chunks, if the kind has pieces
-pub pieces_of_stream : (kind : Kind) (tail : Bool) (p size span : ℕ) (some : 0 < size) (is : size ≡ span * p)
-    (pos : 0 < p) (files : List (List (List ℕ) × ℕ)) (contents : List (List ℕ)) → AreContentsOfFiles files contents
-    → flat_map (pieces_of_cut kind p) (stream_cuts kind tail p size contents)
-    ≡ cond (has_v1 kind) (piece_sums p (cut_content kind tail p files contents)) []
-pieces_of_stream kind tail p size span some is pos files contents fit = by_kind (has_v1 kind) refl
-  where
-    none_of_all : (cuts : List Cut) → flat_map {A = ℕ} (λ (cut : Cut). []) cuts ≡ []
-    none_of_all [] = refl
-    none_of_all (cut ∷ cuts) = none_of_all cuts
+module _ (chunking : Chunking) (is : IsChunking chunking) (files : List (List (List ℕ) × ℕ))
+    (contents : List (List ℕ)) (fit : AreContentsOfFiles files contents) where
+  abbrev p : ℕ
+  p = chunking.piece_length
 
-    by_kind : (b : Bool) → has_v1 kind ≡ b → flat_map (pieces_of_cut kind p) (stream_cuts kind tail p size contents)
-        ≡ cond (has_v1 kind) (piece_sums p (cut_content kind tail p files contents)) []
-    by_kind true pieces =
-        let cuts = stream_cuts kind tail p size contents in
-        ap (λ b. flat_map (λ (cut : Cut). cond b (piece_sums p (text_of cut)) []) cuts) pieces
-        ∙ sums_of_cuts p pos cuts (stream_whole p size span some is pos kind tail contents pieces)
-        ∙ ap (piece_sums p) (stream_text size p some pos kind tail files contents fit pieces)
-        ∙ sym (ap (λ b. cond b (piece_sums p (cut_content kind tail p files contents)) []) pieces)
-    by_kind false none =
-        let cuts = stream_cuts kind tail p size contents in
-        ap (λ b. flat_map (λ (cut : Cut). cond b (piece_sums p (text_of cut)) []) cuts) none
-        ∙ none_of_all cuts
-        ∙ sym (ap (λ b. cond b (piece_sums p (cut_content kind tail p files contents)) []) none)
+  abbrev cuts : List Cut
+  cuts = stream_cuts chunking contents
+
+  abbrev AreSums : Type 0
+  AreSums = flat_map (pieces_of_cut chunking) cuts
+      ≡ cond (has_v1 chunking.kind) (piece_sums p (cut_content chunking.kind chunking.tail p files contents)) []
+
+  none_of_all : (cuts : List Cut) → flat_map {A = ℕ} (λ (cut : Cut). []) cuts ≡ []
+  none_of_all [] = refl
+  none_of_all (cut ∷ cuts) = none_of_all cuts
+
+  by_kind : (b : Bool) → has_v1 chunking.kind ≡ b → AreSums
+  by_kind true pieces =
+      let some = some_size chunking is in
+      let pos = some_piece chunking.kind p is.cut.pieces in
+      ap (λ b. flat_map (λ (cut : Cut). cond b (piece_sums p (text_of cut)) []) cuts) pieces
+      ∙ sums_of_cuts p pos cuts
+      (stream_whole p chunking.size is.span some is.size pos chunking.kind chunking.tail contents pieces)
+      ∙ ap (piece_sums p) (stream_text chunking.size p some pos chunking.kind chunking.tail files contents fit pieces)
+      ∙ sym (ap (λ b. cond b (piece_sums p (cut_content chunking.kind chunking.tail p files contents)) []) pieces)
+  by_kind false none =
+      ap (λ b. flat_map (λ (cut : Cut). cond b (piece_sums p (text_of cut)) []) cuts) none
+      ∙ none_of_all cuts
+      ∙ sym (ap (λ b. cond b (piece_sums p (cut_content chunking.kind chunking.tail p files contents)) []) none)
+
+  pub pieces_of_stream : AreSums
+  pieces_of_stream = by_kind (has_v1 chunking.kind) refl

@@ -1,5 +1,5 @@
 -- The workers of a lane, while they take, and once they are done.
-use Rattle.std.proofs.Common.{◌≡◌, ℕ, false, List, [], ◌∷◌, ◌++◌, length, map, arith, get_or, set, ap, ap₂, sym, ◌∙◌}
+use Rattle.std.proofs.Common.{◌≡◌, false, List, [], ◌∷◌, ◌++◌, length, map, arith, get_or, set, ap, ap₂, sym, ◌∙◌}
 use Rattle.std.proofs.Common.{length-append, refl, subst}
 use Rattle.std.specs.Prelude.{All}
 use Rattle.std.proofs.lemmas.List.{map-append}
@@ -9,7 +9,7 @@ use Rattle.tor_lane.specs.Lane.{FeedsLaneOf, IsAtMark, IsTakerOf, TakesFromLaneO
 use Rattle.tor_lane.specs.declared.chunk.Chunk.{Chunk}
 use Rattle.tor_lane.specs.declared.feeder.Feeder.{Feeder}
 use Rattle.tor_lane.specs.declared.taker.Taker.{Taker}
-use Rattle.tor_tree.specs.declared.kinds.Kind.{Kind}
+use Rattle.tor_streams.specs.declared.chunking.Chunking.{Chunking}
 use Rattle.tor_streams.specs.declared.stream_worker.StreamWorker.{StreamWorker}
 use Rattle.tor_sums.specs.declared.unit_sums.UnitSums.{UnitSums}
 use Rattle.tor_streams.specs.steps.Cuts.{facts_of, facts_of_chunk}
@@ -42,16 +42,16 @@ pub all_of_none : {X : Type 0} (P : X → Type 0) (xs : List X) → length xs �
 all_of_none P [] none = tt
 all_of_none P (x ∷ xs) none = absurd (omega (arith, none))
 
-pub took_none : (kind : Kind) (p : ℕ) (xs : List StreamWorker) → length xs ≡ 0 → TookAll kind p xs xs
-took_none kind p xs none = record { done = λ feeder all. all_of_none _ xs none; all = refl }
+pub took_none : (chunking : Chunking) (xs : List StreamWorker) → length xs ≡ 0 → TookAll chunking xs xs
+took_none chunking xs none = record { done = λ feeder all. all_of_none _ xs none; all = refl }
 
 -- one after the other
-pub took_both : (kind : Kind) (p : ℕ) (xs ys front back : List StreamWorker) → TookAll kind p xs front
-    → TookAll kind p ys back → TookAll kind p (xs ++ ys) (front ++ back)
-took_both kind p xs ys front back one other = record {
+pub took_both : (chunking : Chunking) (xs ys front back : List StreamWorker) → TookAll chunking xs front
+    → TookAll chunking ys back → TookAll chunking (xs ++ ys) (front ++ back)
+took_both chunking xs ys front back one other = record {
   done = λ feeder all.
-      let P = IsWorkerOf kind p feeder in
-      all_joined (IsDoneOf kind p feeder) front back (one.done feeder (all_front P xs ys all))
+      let P = IsWorkerOf chunking feeder in
+      all_joined (IsDoneOf chunking feeder) front back (one.done feeder (all_front P xs ys all))
       (other.done feeder (all_back P xs ys all));
   all = omega (arith, one.all, other.all, length-append xs ys, length-append front back);
 }
@@ -64,15 +64,15 @@ fresh_takers feeder takers all =
     recursion_from_All (λ t. IsTakerOf feeder t × (taken_by t ≡ [])) takers
     (λ k d lt. let is = all k d lt in (is.0, is.1))
 
-module _ (kind : Kind) (p : ℕ) (feeder : Feeder) where
+module _ (chunking : Chunking) (feeder : Feeder) where
   -- one chunk more was taken, and hashed where no memory was refused
-  pub worker_more : (old mid new : StreamWorker) (chunk : Chunk) → IsWorkerOf kind p feeder old
+  pub worker_more : (old mid new : StreamWorker) (chunk : Chunk) → IsWorkerOf chunking feeder old
       → TakesFromLaneOf old.taker mid.taker → taken_by mid.taker ≡ taken_by old.taker ++ chunk ∷ []
       → mid.sums ≡ old.sums → mid.is_refused ≡ old.is_refused → new.taker ≡ mid.taker
       → (new.is_refused ≡ false → (mid.is_refused ≡ false)
-      × ((one : UnitSums) × (facts_of one ≡ facts_of_chunk kind p chunk)
+      × ((one : UnitSums) × (facts_of one ≡ facts_of_chunk chunking chunk)
       × (new.sums.items ≡ mid.sums.items ++ one ∷ [])))
-      → IsWorkerOf kind p feeder new
+      → IsWorkerOf chunking feeder new
   worker_more old mid new chunk is lane took sums refused same hashed = record {
     taker = subst (IsTakerOf feeder) (sym same) (lane ∙ is.taker);
     sums = λ none.
@@ -81,36 +81,36 @@ module _ (kind : Kind) (p : ℕ) (feeder : Feeder) where
         ap (map facts_of) (more.1.2 ∙ ap (λ s. s.items ++ one ∷ []) sums)
         ∙ map-append facts_of old.sums.items (one ∷ [])
         ∙ ap₂ (λ xs x. xs ++ x ∷ []) (is.sums (sym refused ∙ more.0)) more.1.1
-        ∙ sym (map-append (facts_of_chunk kind p) (taken_by old.taker) (chunk ∷ []))
-        ∙ ap (map (facts_of_chunk kind p)) (sym (ap taken_by same ∙ took));
+        ∙ sym (map-append (facts_of_chunk chunking) (taken_by old.taker) (chunk ∷ []))
+        ∙ ap (map (facts_of_chunk chunking)) (sym (ap taken_by same ∙ took));
   }
 
   -- it is at its mark
-  pub worker_done : (old new : StreamWorker) → IsWorkerOf kind p feeder old → TakesFromLaneOf old.taker new.taker
+  pub worker_done : (old new : StreamWorker) → IsWorkerOf chunking feeder old → TakesFromLaneOf old.taker new.taker
       → IsAtMark new.taker → taken_by new.taker ≡ taken_by old.taker → new.sums ≡ old.sums
-      → new.is_refused ≡ old.is_refused → IsDoneOf kind p feeder new
+      → new.is_refused ≡ old.is_refused → IsDoneOf chunking feeder new
   worker_done old new is lane mark took sums refused = record {
     is = record {
       taker = lane ∙ is.taker;
       sums = λ none.
           ap (λ s. map facts_of s.items) sums ∙ is.sums (sym refused ∙ none)
-          ∙ ap (map (facts_of_chunk kind p)) (sym took);
+          ∙ ap (map (facts_of_chunk chunking)) (sym took);
     };
     mark = mark;
   }
 
   -- another feeder value of the same lane
   module _ (other : Feeder) (lane : FeedsLaneOf feeder other) where
-    same_worker : (worker : StreamWorker) → IsDoneOf kind p feeder worker → IsDoneOf kind p other worker
+    same_worker : (worker : StreamWorker) → IsDoneOf chunking feeder worker → IsDoneOf chunking other worker
     same_worker worker is = record {
       is = record { taker = is.is.taker ∙ sym lane.0; sums = is.is.sums };
       mark = is.mark;
     }
 
-    same_workers : (workers : List StreamWorker) → AllByRecursion (IsDoneOf kind p feeder) workers
-        → AllByRecursion (IsDoneOf kind p other) workers
+    same_workers : (workers : List StreamWorker) → AllByRecursion (IsDoneOf chunking feeder) workers
+        → AllByRecursion (IsDoneOf chunking other) workers
     same_workers [] all = tt
     same_workers (worker ∷ workers) all = (same_worker worker all.0, same_workers workers all.1)
 
-    pub same_lane : (workers : List StreamWorker) → AreDone kind p feeder workers → AreDone kind p other workers
+    pub same_lane : (workers : List StreamWorker) → AreDone chunking feeder workers → AreDone chunking other workers
     same_lane workers are = record { each = same_workers workers are.each; all = are.all ∙ sym lane.1 }

@@ -7,8 +7,9 @@ ghost use Rattle.tor_merkle.specs.declared.TheConstants.{MAX_LENGTH};
 ghost use Rattle.tor_plan.specs.PlanFacts.{IsPlanPieceLength};
 ghost use Rattle.tor_source.specs.Filling.{EndsFill};
 ghost use Rattle.tor_source.specs.Input.{ReadsSome, ReadsWhole};
-ghost use Rattle.tor_streams.specs.steps.Cuts.{EndsReading, zeros_between};
+ghost use Rattle.tor_streams.specs.steps.Cuts.{EndsReading, IsChunking, zeros_between};
 
+use crate::chunking::Chunking;
 use crate::filling::{Stop, fill_from, stop_after};
 use crate::spares::Spares;
 use std::alloc::{AllocError, Global};
@@ -38,21 +39,21 @@ pub(crate) struct Cutter {
 
 impl Cutter {
     ghost use Rattle.tor_streams.specs.steps.Cuts.{CutsMore, HasCut, HasPut, IsCutOff, IsReady, PutsHeld};
-    ghost use Rattle.tor_tree.specs.declared.kinds.Kind.{Kind};
+    ghost use Rattle.tor_streams.specs.declared.chunking.Chunking.{Chunking};
 
-    /// For units of `size` bytes, into a lane to which nothing was put.
+    /// Into a lane to which nothing was put.
     pub(crate) fn new(
         alloc: Global,
         feeder: Feeder,
         spares: Spares,
-        size: usize,
+        chunking: Chunking,
     ) -> Result<Cutter, AllocError>
-        requires some { 0 < size }
+        requires cut { IsChunking chunking }
         requires open { IsOpen feeder × (put_by feeder ≡ []) }
-        ensures ready { (kind : Kind) (piece_length : ℕ) → IfOk result (IsReady kind piece_length size []) }
+        ensures ready { IfOk result (IsReady chunking []) }
         ensures feeder { IfOk result (λ cutter. cutter.feeder ≡ feeder) }
     {
-        let buffer = zeros(alloc, size)?;
+        let buffer = zeros(alloc, chunking.size as usize)?;
         Ok(Cutter {
             feeder,
             spares,
@@ -69,20 +70,18 @@ impl Cutter {
         &mut self,
         rt: &T,
         alloc: Global,
-        kind: Kind,
-        piece_length: u64,
+        chunking: Chunking,
         limit: u64,
         reader: &mut R,
     ) -> Result<u64, Stop>
-        requires pieces { IsPlanPieceLength kind piece_length }
+        requires cut { IsChunking chunking }
         requires small { limit ≤ MAX_LENGTH }
-        requires ready { (size : ℕ) × (contents : List (List ℕ)) × (0 < size)
-            × IsReady kind piece_length size contents self.old }
+        requires ready { (contents : List (List ℕ)) × IsReady chunking contents self.old }
         ensures read { IfOk result (λ count. (content : List ℕ)
             × ReadsWhole (R.remaining reader.old) (R.remaining reader.new) content
             × (length content ≡ count) × (count ≤ limit)
-            × ((size : ℕ) (contents : List (List ℕ)) → 0 < size → IsReady kind piece_length size contents self.old →
-            IsReady kind piece_length size (contents ++ content ∷ []) self.new)) }
+            × ((contents : List (List ℕ)) → IsReady chunking contents self.old →
+            IsReady chunking (contents ++ content ∷ []) self.new)) }
         ensures lane { FeedsLaneOf self.old.feeder self.new.feeder × IsOpen self.new.feeder }
         ensures stopped { IfErr result (λ stop.
             ReadsSome (R.remaining reader.old) (R.remaining reader.new) (EndsReading limit stop)) }
@@ -95,7 +94,7 @@ impl Cutter {
             }
             // It is at its end.
             if self.filled < self.buffer.len() {
-                self.end_content(rt, alloc, kind, piece_length, count)?;
+                self.end_content(rt, alloc, chunking, count)?;
                 return Ok(count);
             }
             self.cut(rt, alloc)?;
@@ -184,27 +183,25 @@ impl Cutter {
         &mut self,
         rt: &T,
         alloc: Global,
-        kind: Kind,
-        piece_length: u64,
+        chunking: Chunking,
         count: u64,
     ) -> Result<(), AllocError>
-        requires pieces { IsPlanPieceLength kind piece_length }
+        requires cut { IsChunking chunking }
         requires small { count ≤ MAX_LENGTH }
         requires room { self.old.filled < vec_len self.old.buffer }
         requires open { IsOpen self.old.feeder }
-        ensures ended { (size : ℕ) (contents : List (List ℕ)) (content : List ℕ) → 0 < size →
-            HasCut kind piece_length size contents content self.old → length content ≡ count →
-            OnOk result (IsReady kind piece_length size (contents ++ content ∷ []) self.new) }
+        ensures ended { (contents : List (List ℕ)) (content : List ℕ) → HasCut chunking contents content self.old →
+            length content ≡ count → OnOk result (IsReady chunking (contents ++ content ∷ []) self.new) }
         ensures lane { FeedsLaneOf self.old.feeder self.new.feeder × IsOpen self.new.feeder }
     {
-        if !kind.has_v2() {
+        if !chunking.kind.has_v2() {
             return Ok(());
         }
         if count == 0 {
             return Ok(());
         }
         self.cut_rest(rt, alloc)?;
-        self.zeros = zeros_between(kind, piece_length, count);
+        self.zeros = zeros_between(chunking.kind, chunking.piece_length, count);
         Ok(())
     }
 
@@ -212,9 +209,8 @@ impl Cutter {
     fn cut_rest<T: Wait>(&mut self, rt: &T, alloc: Global) -> Result<(), AllocError>
         requires within { self.old.filled ≤ vec_len self.old.buffer }
         requires open { IsOpen self.old.feeder }
-        ensures cut { (kind : Kind) (piece_length size : ℕ) (contents : List (List ℕ)) (current : List ℕ) → 0 < size →
-            HasCut kind piece_length size contents current self.old →
-            OnOk result (IsCutOff kind piece_length size contents current self.new) }
+        ensures cut { (chunking : Chunking) (contents : List (List ℕ)) (current : List ℕ) → 0 < chunking.size →
+            HasCut chunking contents current self.old → OnOk result (IsCutOff chunking contents current self.new) }
         ensures lane { FeedsLaneOf self.old.feeder self.new.feeder × IsOpen self.new.feeder }
     {
         if self.filled == 0 {
@@ -229,17 +225,16 @@ impl Cutter {
         &mut self,
         rt: &T,
         alloc: Global,
-        tail: bool,
+        chunking: Chunking,
     ) -> Result<(), AllocError>
-        requires within { self.old.filled ≤ vec_len self.old.buffer }
-        requires open { IsOpen self.old.feeder }
-        ensures put { (kind : Kind) (piece_length size : ℕ) (contents : List (List ℕ)) → 0 < size →
-            HasCut kind piece_length size contents [] self.old →
-            OnOk result (HasPut kind tail piece_length size contents (put_by self.new.feeder)) }
+        requires cut { IsChunking chunking }
+        requires has { (contents : List (List ℕ)) × HasCut chunking contents [] self.old }
+        ensures put { (contents : List (List ℕ)) → HasCut chunking contents [] self.old →
+            OnOk result (HasPut chunking contents (put_by self.new.feeder)) }
         ensures lane { FeedsLaneOf self.old.feeder self.new.feeder × IsOpen self.new.feeder }
     {
         self.cut_rest(rt, alloc)?;
-        let zeros = if tail { self.zeros } else { 0 };
+        let zeros = if chunking.tail { self.zeros } else { 0 };
         self.put_held(rt, zeros);
         Ok(())
     }

@@ -1,37 +1,29 @@
 //! What contents sum up to that went through a lane.
-ghost use Rattle.std.specs.Prelude.{◌≡◌, ◌*◌, ℕ, Bool, List, Err, IfErr, IfOk, IsOk, IsOkAnd, MatchResult};
+ghost use Rattle.std.specs.Prelude.{ℕ, List, IfErr, IfOk, IsOk};
 ghost use Rattle.tor_lane.specs.Lane.{IsEnded, put_by};
-ghost use Rattle.tor_streams.specs.Streams.{AreSumsOfContents, IsStreamCut};
-ghost use Rattle.tor_streams.specs.steps.Cuts.{PutsContents};
-ghost use Rattle.tor_streams.specs.steps.StreamWorkers.{AreDone, AreParted};
+ghost use Rattle.tor_streams.specs.Streams.{AreSumsOfContents};
+ghost use Rattle.tor_streams.specs.steps.Cuts.{IsChunking, PutsContents};
+ghost use Rattle.tor_streams.specs.steps.Fed.{AnswersFed, IsFedSome};
+ghost use Rattle.tor_streams.specs.steps.StreamWorkers.{AreParted};
 
+use crate::chunking::Chunking;
 use crate::feeding::Fed;
 use crate::stream_sums::sums_of_chunks;
 use crate::stream_worker::takers_and_sums;
 use std::alloc::{AllocError, Global};
 use tor_lane::{Feeder, Taker};
 use tor_sums::{Sums, UnitSums, put_in_order};
-use tor_tree::Kind;
 
-/// What the contents sum up to that were put in chunks of `size` bytes, or why not all was read. Memory is asked for if
-/// all was read, and for nothing else.
+/// What the contents sum up to that were put, or why not all was read. Memory is asked for if all was read, and for
+/// nothing else.
 pub(crate) fn sums_of_fed<F: Drop>(
     alloc: Global,
-    kind: Kind,
-    piece_length: u64,
-    size: u64,
+    chunking: Chunking,
     fed: Fed<F>,
 ) -> Result<Result<Sums, F>, AllocError>
-    requires cut { (span : ℕ) × IsStreamCut kind piece_length span × (size ≡ span * piece_length) }
-    requires ended { IsEnded fed.feeder }
-    requires done { AreDone kind piece_length fed.feeder fed.workers.items }
-    requires put { IfOk fed.read (λ lengths. (tail : Bool) × (contents : List (List ℕ))
-        × PutsContents kind tail piece_length size contents lengths.items (put_by fed.feeder)) }
-    ensures summed { IfOk result (λ answer. MatchResult answer
-        (λ sums. IsOkAnd fed.read (λ lengths. (tail : Bool) (contents : List (List ℕ)) →
-        PutsContents kind tail piece_length size contents lengths.items (put_by fed.feeder) →
-        AreSumsOfContents kind tail piece_length contents sums))
-        (λ fault. fed.read ≡ Err fault)) }
+    requires cut { IsChunking chunking }
+    requires fed { IsFedSome chunking fed }
+    ensures summed { IfOk result (AnswersFed chunking fed) }
     ensures memory { IfErr result (λ _. IsOk fed.read) }
 {
     let Fed {
@@ -44,40 +36,27 @@ pub(crate) fn sums_of_fed<F: Drop>(
         Err(fault) => return Ok(Err(fault)),
     };
     let (takers, sums) = takers_and_sums(alloc, workers)?;
-    let sums = sums_of_taken(
-        alloc,
-        kind,
-        piece_length,
-        size,
-        lengths,
-        feeder,
-        takers,
-        sums,
-    )?;
+    let sums = sums_of_taken(alloc, chunking, lengths, feeder, takers, sums)?;
     Ok(Ok(sums))
 }
 
-/// What the contents that were put in chunks of `size` bytes sum up to, from what was made of all that was taken.
+/// What the contents that were put sum up to, from what was made of all that was taken.
 fn sums_of_taken(
     alloc: Global,
-    kind: Kind,
-    piece_length: u64,
-    size: u64,
+    chunking: Chunking,
     lengths: Vec<u64>,
     feeder: Feeder,
     takers: Vec<Taker>,
     sums: Vec<UnitSums>,
 ) -> Result<Sums, AllocError>
-    requires cut { (span : ℕ) × IsStreamCut kind piece_length span × (size ≡ span * piece_length) }
+    requires cut { IsChunking chunking }
     requires ended { IsEnded feeder }
-    requires parted { AreParted kind piece_length feeder takers.items sums.items }
-    requires put { (tail : Bool) × (contents : List (List ℕ))
-        × PutsContents kind tail piece_length size contents lengths.items (put_by feeder) }
-    ensures { (tail : Bool) (contents : List (List ℕ)) →
-        PutsContents kind tail piece_length size contents lengths.items (put_by feeder) →
-        IfOk result (AreSumsOfContents kind tail piece_length contents) }
+    requires parted { AreParted chunking feeder takers.items sums.items }
+    requires put { (contents : List (List ℕ)) × PutsContents chunking contents lengths.items (put_by feeder) }
+    ensures { (contents : List (List ℕ)) → PutsContents chunking contents lengths.items (put_by feeder) →
+        IfOk result (AreSumsOfContents chunking.kind chunking.tail chunking.piece_length contents) }
 {
     feeder.settle(takers);
     let sums = put_in_order(sums, |one| one.unit);
-    sums_of_chunks(alloc, kind, piece_length, size, lengths, &sums)
+    sums_of_chunks(alloc, chunking, lengths, &sums)
 }

@@ -1,16 +1,16 @@
 //! A lane whose feeder reads in the calling thread, while its workers take and hash in others.
-ghost use Rattle.std.specs.Prelude.{◌≡◌, ◌*◌, ◌<◌, ◌≤◌, [], ℕ, Err, IfErr, IfOk, false, map, true};
+ghost use Rattle.std.specs.Prelude.{◌≡◌, ◌≤◌, [], Err, IfErr, IfOk, false, map, true};
 ghost use Rattle.std.specs.List.{list_any};
 ghost use Rattle.std.specs.Thread.{IsSync};
 ghost use Rattle.tor_lane.specs.Lane.{FeedsLaneOf, IsEnded, IsOpen, put_by};
 ghost use Rattle.tor_lane.specs.declared.feeder.Feeder.{Feeder};
-ghost use Rattle.tor_plan.specs.PlanFacts.{IsPlanPieceLength};
 ghost use Rattle.tor_sums.specs.declared.errors.EngineError.TheVariants.{Resources};
-ghost use Rattle.tor_streams.specs.steps.Cuts.{IsReady};
+ghost use Rattle.tor_streams.specs.declared.chunking.Chunking.{Chunking};
+ghost use Rattle.tor_streams.specs.steps.Cuts.{IsChunking, IsReady};
 ghost use Rattle.tor_streams.specs.steps.Fed.{GivesInput, IsFed, IsFedByReaders, StopsInput};
 ghost use Rattle.tor_streams.specs.steps.StreamWorkers.{AreDone, AreWorkers};
-ghost use Rattle.tor_tree.specs.declared.kinds.Kind.{Kind};
 
+use crate::chunking::Chunking;
 use crate::cutter::Cutter;
 use crate::gate::{Gate, OpenGate};
 use crate::read_streams::{read_each, read_input};
@@ -25,7 +25,6 @@ use std::thread::{Promise, PromisedHandle, Threads};
 use tor_lane::{Feeder, lane};
 use tor_source::InputFault;
 use tor_sums::EngineError;
-use tor_tree::Kind;
 
 /// What the two threads leave: the lengths of the contents, or why not all was read; the feeder of the lane; its
 /// workers.
@@ -36,22 +35,21 @@ pub(crate) struct Fed<F> {
     pub(crate) workers: Vec<StreamWorker>,
 }
 
-/// A cutter of units of `size` bytes over a new lane, and so many workers that take them.
-pub(crate) fn cutter_and_workers(
+/// A cutter over a new lane, and so many workers that take what it puts.
+fn cutter_and_workers(
     alloc: Global,
-    size: u64,
+    chunking: Chunking,
     workers: u32,
 ) -> Result<(Cutter, Vec<StreamWorker>), AllocError>
-    requires some { 0 < size }
+    requires cut { IsChunking chunking }
     requires workers { 1 ≤ workers }
-    ensures ready { (kind : Kind) (piece_length : ℕ) → IfOk result (λ both. IsReady kind piece_length size [] both.0) }
-    ensures workers { (kind : Kind) (piece_length : ℕ) →
-        IfOk result (λ both. AreWorkers kind piece_length both.0.feeder both.1.items) }
+    ensures ready { IfOk result (λ both. IsReady chunking [] both.0) }
+    ensures workers { IfOk result (λ both. AreWorkers chunking both.0.feeder both.1.items) }
 {
     let (feeder, takers) = lane(alloc, workers)?;
     let (spares, mut give_back) = pool(alloc, 2 * workers as usize)?;
     let workers = stream_workers(alloc, takers, &mut give_back)?;
-    let cutter = Cutter::new(alloc, feeder, spares, size as usize)?;
+    let cutter = Cutter::new(alloc, feeder, spares, chunking)?;
     Ok((cutter, workers))
 }
 
@@ -60,19 +58,17 @@ pub(crate) fn cutter_and_workers(
 #[derive(Drop)]
 struct Workers {
     feeder: Snapshot<Feeder>,
-    kind: Kind,
-    piece_length: u64,
+    chunking: Chunking,
 }
 
 impl Workers {
-    fn of(cutter: &Cutter, kind: Kind, piece_length: u64) -> Workers
-        ensures { let told : Kind × ℕ × Feeder = (result.kind, result.piece_length, result.feeder.value) in
-            told ≡ (kind, piece_length, cutter.now.feeder) }
+    fn of(cutter: &Cutter, chunking: Chunking) -> Workers
+        ensures { let told : Chunking × Feeder = (result.chunking, result.feeder.value) in
+            told ≡ (chunking, cutter.now.feeder) }
     {
         Workers {
             feeder: Snapshot::of(&cutter.feeder),
-            kind,
-            piece_length,
+            chunking,
         }
     }
 }
@@ -80,50 +76,43 @@ impl Workers {
 impl Promise<Vec<StreamWorker>> for Workers {
     ghost use Rattle.tor_streams.specs.steps.StreamWorkers.{AreDone};
 
-    ghost kept_by = { λ p workers. AreDone p.kind p.piece_length p.feeder.value workers.items };
+    ghost kept_by = { λ p workers. AreDone p.chunking p.feeder.value workers.items };
 }
 
-/// Reads all readers in this thread, while another one has the workers take what is put. If that thread is refused,
+/// Reads all readers in this thread, while another one has so many workers take what is put. If that thread is refused,
 /// nothing is read; if memory was refused to a worker, that is told in place of what the readers did.
 pub(crate) fn feed_readers<G: Gate + Sync, R: Read + Drop, T: Threads + Wait + Sync>(
     gate: &G,
     rt: &T,
     alloc: Global,
+    chunking: Chunking,
+    workers: u32,
     readers: Vec<R>,
-    kind: Kind,
-    piece_length: u64,
-    tail: bool,
-    cutter: Cutter,
-    workers: Vec<StreamWorker>,
 ) -> Result<Fed<EngineError<io::Error>>, AllocError>
-    requires pieces { IsPlanPieceLength kind piece_length }
-    requires ready { (size : ℕ) × (0 < size) × IsReady kind piece_length size [] cutter }
-    requires workers { AreWorkers kind piece_length cutter.feeder workers.items }
-    ensures { (size : ℕ) → 0 < size → IsReady kind piece_length size [] cutter →
-        IfOk result (IsFedByReaders kind tail piece_length size (map R.remaining readers.items)) }
+    requires cut { IsChunking chunking }
+    requires workers { 1 ≤ workers }
+    ensures { IfOk result (IsFedByReaders chunking (map R.remaining readers.items)) }
 {
-    let mut cutter = cutter;
+    let (mut cutter, workers) = cutter_and_workers(alloc, chunking, workers)?;
     thread::scope(
         thread::scope_env(),
         rt,
         |scope| -> Result<Fed<EngineError<io::Error>>, AllocError>
-            requires { IsSync T.row × IsSync G.row × IsPlanPieceLength kind piece_length
-                × ((size : ℕ) × (0 < size) × IsReady kind piece_length size [] cutter)
-                × AreWorkers kind piece_length cutter.feeder workers.items }
-            ensures { (size : ℕ) → 0 < size → IsReady kind piece_length size [] cutter →
-                IfOk result (IsFedByReaders kind tail piece_length size (map R.remaining readers.items)) }
+            requires { IsSync T.row × IsSync G.row × IsChunking chunking × IsReady chunking [] cutter
+                × AreWorkers chunking cutter.feeder workers.items }
+            ensures { IfOk result (IsFedByReaders chunking (map R.remaining readers.items)) }
         {
-            let promise = Workers::of(&cutter, kind, piece_length);
+            let promise = Workers::of(&cutter, chunking);
             match scope.spawn_with(
                 promise,
                 move || -> Vec<StreamWorker>
-                    requires { IsSync T.row × IsSync G.row × IsPlanPieceLength kind piece_length }
-                    ensures { (feeder : Feeder) → AreWorkers kind piece_length feeder workers.items →
-                        AreDone kind piece_length feeder result.items }
-                { workers_at_marks(rt, gate, alloc, kind, piece_length, workers) },
+                    requires { IsSync T.row × IsSync G.row × IsChunking chunking }
+                    ensures { (feeder : Feeder) → AreWorkers chunking feeder workers.items →
+                        AreDone chunking feeder result.items }
+                { workers_at_marks(rt, gate, alloc, chunking, workers) },
             ) {
                 Ok(handle) => {
-                    let read = read_each(rt, alloc, kind, piece_length, tail, readers, &mut cutter);
+                    let read = read_each(rt, alloc, chunking, readers, &mut cutter);
                     Ok(refusals_first(end_and_wait(rt, read, cutter, handle)))
                 }
                 Err(_) => Err(AllocError),
@@ -132,40 +121,35 @@ pub(crate) fn feed_readers<G: Gate + Sync, R: Read + Drop, T: Threads + Wait + S
     )
 }
 
-/// Reads in this thread an input that the caller lends, while another one has the workers take what is put. That one is
-/// none of a scope, since no clause can say what a scope's closure leaves behind a reference.
+/// Reads in this thread an input that the caller lends, while another one has so many workers take what is put. That
+/// one is none of a scope, since no clause can say what a scope's closure leaves behind a reference.
 pub(crate) fn feed_input<R: Read, T: Threads + Wait + Sync + Send + Clone + Drop + 'static>(
     rt: &T,
     alloc: Global,
+    chunking: Chunking,
+    workers: u32,
     reader: &mut R,
-    kind: Kind,
-    piece_length: u64,
-    tail: bool,
-    cutter: Cutter,
-    workers: Vec<StreamWorker>,
 ) -> Result<Fed<InputFault>, AllocError>
-    requires pieces { IsPlanPieceLength kind piece_length }
-    requires ready { (size : ℕ) × (0 < size) × IsReady kind piece_length size [] cutter }
-    requires workers { AreWorkers kind piece_length cutter.feeder workers.items }
-    ensures fed { (size : ℕ) → 0 < size → IsReady kind piece_length size [] cutter →
-        IfOk result (IsFed kind tail piece_length size (GivesInput (R.remaining reader.old) (R.remaining reader.new))
+    requires cut { IsChunking chunking }
+    requires workers { 1 ≤ workers }
+    ensures fed { IfOk result (IsFed chunking (GivesInput (R.remaining reader.old) (R.remaining reader.new))
         (StopsInput (R.remaining reader.old) (R.remaining reader.new))) }
     ensures untouched { IfErr result (λ _. reader.new ≡ reader.old) }
 {
-    let mut cutter = cutter;
+    let (mut cutter, workers) = cutter_and_workers(alloc, chunking, workers)?;
     let own = rt.clone()?;
-    let promise = Workers::of(&cutter, kind, piece_length);
+    let promise = Workers::of(&cutter, chunking);
     match thread::spawn_with(
         rt,
         promise,
         move || -> Vec<StreamWorker>
-            requires { IsSync T.row × IsPlanPieceLength kind piece_length }
-            ensures { (feeder : Feeder) → AreWorkers kind piece_length feeder workers.items →
-                AreDone kind piece_length feeder result.items }
-        { workers_at_marks(&own, &OpenGate, alloc, kind, piece_length, workers) },
+            requires { IsSync T.row × IsChunking chunking }
+            ensures { (feeder : Feeder) → AreWorkers chunking feeder workers.items →
+                AreDone chunking feeder result.items }
+        { workers_at_marks(&own, &OpenGate, alloc, chunking, workers) },
     ) {
         Ok(handle) => {
-            let read = read_input(rt, alloc, kind, piece_length, tail, reader, &mut cutter);
+            let read = read_input(rt, alloc, chunking, reader, &mut cutter);
             Ok(end_and_wait(rt, read, cutter, handle))
         }
         Err(_) => Err(AllocError),
@@ -184,8 +168,7 @@ fn end_and_wait<F, T: Threads + Wait>(
     ensures ended { IsEnded result.feeder }
     ensures put { put_by result.feeder ≡ put_by cutter.feeder }
     ensures lane { FeedsLaneOf cutter.feeder result.feeder }
-    ensures done { AreDone handle.promise.kind handle.promise.piece_length handle.promise.feeder.value
-        result.workers.items }
+    ensures done { AreDone handle.promise.chunking handle.promise.feeder.value result.workers.items }
 {
     let Cutter { mut feeder, .. } = cutter;
     feeder.end(rt);
@@ -226,15 +209,13 @@ fn workers_at_marks<G: Gate + Sync, T: Threads + Wait + Sync>(
     rt: &T,
     gate: &G,
     alloc: Global,
-    kind: Kind,
-    piece_length: u64,
+    chunking: Chunking,
     workers: Vec<StreamWorker>,
 ) -> Vec<StreamWorker>
-    requires { IsPlanPieceLength kind piece_length }
-    ensures { (feeder : Feeder) → AreWorkers kind piece_length feeder workers.items →
-        AreDone kind piece_length feeder result.items }
+    requires { IsChunking chunking }
+    ensures { (feeder : Feeder) → AreWorkers chunking feeder workers.items → AreDone chunking feeder result.items }
 {
     let mut workers = workers;
-    take_by_halves(rt, gate, alloc, kind, piece_length, workers.as_mut_slice());
+    take_by_halves(rt, gate, alloc, chunking, workers.as_mut_slice());
     workers
 }

@@ -5,9 +5,9 @@ ghost use Rattle.tor_source.specs.declared.input.TheConstants.{MAX_INPUT_LENGTH}
 ghost use Rattle.tor_streams.specs.Streams.{AreSumsOfContents, IsStreamCut};
 ghost use Rattle.tor_sums.specs.declared.how.TheConstants.{MAX_WORKERS};
 
+use crate::chunking::Chunking;
 use crate::fed_sums::sums_of_fed;
-use crate::feeding::{cutter_and_workers, feed_input};
-use crate::lane_span::lane_span;
+use crate::feeding::feed_input;
 use std::alloc::Global;
 use std::io::Read;
 use std::sync::Wait;
@@ -42,9 +42,8 @@ pub fn hash_input<R: Read, T: Threads + Wait + Sync + Send + Clone + Drop + 'sta
     ensures stopped { IfErr result (λ fault.
         ReadsSome (R.remaining reader.old) (R.remaining reader.new) (EndsInput MAX_INPUT_LENGTH fault)) }
 {
-    let size = piece_length * lane_span(piece_length, span) as u64;
-    let (cutter, workers) = cutter_and_workers(alloc, size, workers)?;
-    let fed = feed_input(rt, alloc, reader, kind, piece_length, tail, cutter, workers)?;
-    let summed = sums_of_fed(alloc, kind, piece_length, size, fed)?;
+    let chunking = Chunking::of(kind, piece_length, span, tail);
+    let fed = feed_input(rt, alloc, chunking, workers, reader)?;
+    let summed = sums_of_fed(alloc, chunking, fed)?;
     summed
 }

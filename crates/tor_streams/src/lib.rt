@@ -3,7 +3,8 @@
 //! - [`hash_streams`] (`streams.rt`): readers, one a file; [`hash_input`] (`input.rt`): one reader, within the limit of
 //!   an input.
 //! - `feeding.rt` reads in the calling thread: `read_streams.rt` goes to the end of each reader, and `cutter.rt` puts
-//!   chunks into a lane, by `filling.rt`. `lane_span.rt` says how many pieces a chunk has.
+//!   chunks into a lane, by `filling.rt`. `chunking.rt` says how contents are cut, and `lane_span.rt` how many pieces a
+//!   chunk has.
 //! - Its workers (`stream_worker.rt`) take and hash them (`chunk_sums.rt`), and give their buffers back (`spares.rt`).
 //! - `fed_sums.rt` and `stream_sums.rt` put together what these sum up to.
 //! - [`Gate`] (`gate.rt`): what tests have workers pass.
@@ -11,6 +12,7 @@
 #![tactic(auto)]
 
 mod chunk_sums;
+mod chunking;
 mod cutter;
 mod fed_sums;
 mod feeding;

@@ -1,13 +1,13 @@
 //! Readers and inputs that are read to their ends, and cut into chunks.
-ghost use Rattle.std.specs.Prelude.{◌≡◌, ◌<◌, ◌∷◌, [], ℕ, List, Option, IfErr, IfOk, map};
+ghost use Rattle.std.specs.Prelude.{◌≡◌, ◌∷◌, [], ℕ, List, Option, IfErr, IfOk, map};
 ghost use Rattle.tor_lane.specs.Lane.{FeedsLaneOf, IsOpen, put_by};
 ghost use Rattle.tor_merkle.specs.declared.TheConstants.{MAX_LENGTH};
-ghost use Rattle.tor_plan.specs.PlanFacts.{IsPlanPieceLength};
 ghost use Rattle.tor_source.specs.Input.{EndsInput};
 ghost use Rattle.tor_streams.specs.Streams.{GiveContents, IsFaultOfReaders, ReadsUpTo};
-ghost use Rattle.tor_streams.specs.steps.Cuts.{EndsReading, IsReady, PutsContents};
+ghost use Rattle.tor_streams.specs.steps.Cuts.{EndsReading, IsChunking, IsReady, PutsContents};
 ghost use Rattle.tor_streams.specs.steps.Fed.{GivesInput, StopsInput};
 
+use crate::chunking::Chunking;
 use crate::cutter::Cutter;
 use crate::filling::Stop;
 use std::alloc::{AllocError, Global};
@@ -16,23 +16,20 @@ use std::sync::Wait;
 use tor_merkle::MAX_LENGTH;
 use tor_source::{InputFault, MAX_INPUT_LENGTH};
 use tor_sums::EngineError;
-use tor_tree::Kind;
 
 /// Reads each reader to its end, puts all chunks, and answers how long each content is.
 pub(crate) fn read_each<R: Read + Drop, T: Wait>(
     rt: &T,
     alloc: Global,
-    kind: Kind,
-    piece_length: u64,
-    tail: bool,
+    chunking: Chunking,
     readers: Vec<R>,
     cutter: &mut Cutter,
 ) -> Result<Vec<u64>, EngineError<io::Error>>
-    requires pieces { IsPlanPieceLength kind piece_length }
-    requires ready { (size : ℕ) × (0 < size) × IsReady kind piece_length size [] cutter.old }
-    ensures put { (size : ℕ) → 0 < size → IsReady kind piece_length size [] cutter.old → IfOk result (λ lengths.
+    requires cut { IsChunking chunking }
+    requires ready { IsReady chunking [] cutter.old }
+    ensures put { IfOk result (λ lengths.
         (contents : List (List ℕ)) × GiveContents (map R.remaining readers.items) contents
-        × PutsContents kind tail piece_length size contents lengths.items (put_by cutter.new.feeder)) }
+        × PutsContents chunking contents lengths.items (put_by cutter.new.feeder)) }
     ensures lane { FeedsLaneOf cutter.old.feeder cutter.new.feeder × IsOpen cutter.new.feeder }
     ensures fault { IfErr result (IsFaultOfReaders (map R.remaining readers.items)) }
 {
@@ -40,12 +37,12 @@ pub(crate) fn read_each<R: Read + Drop, T: Wait>(
     'readers: for reader in readers {
         let mut reader = reader;
         let file = lengths.len() as u64;
-        match cutter.read_whole(rt, alloc, kind, piece_length, MAX_LENGTH, &mut reader) {
+        match cutter.read_whole(rt, alloc, chunking, MAX_LENGTH, &mut reader) {
             Ok(length) => lengths.push(length)?,
             Err(stop) => return Err(error_of(stop, file)),
         }
     }
-    cutter.put_rest(rt, alloc, tail)?;
+    cutter.put_rest(rt, alloc, chunking)?;
     Ok(lengths)
 }
 
@@ -69,23 +66,21 @@ fn error_of(stop: Stop, file: u64) -> EngineError<io::Error>
 pub(crate) fn read_input<R: Read, T: Wait>(
     rt: &T,
     alloc: Global,
-    kind: Kind,
-    piece_length: u64,
-    tail: bool,
+    chunking: Chunking,
     reader: &mut R,
     cutter: &mut Cutter,
 ) -> Result<Vec<u64>, InputFault>
-    requires pieces { IsPlanPieceLength kind piece_length }
-    requires ready { (size : ℕ) × (0 < size) × IsReady kind piece_length size [] cutter.old }
-    ensures put { (size : ℕ) → 0 < size → IsReady kind piece_length size [] cutter.old → IfOk result (λ lengths.
+    requires cut { IsChunking chunking }
+    requires ready { IsReady chunking [] cutter.old }
+    ensures put { IfOk result (λ lengths.
         (contents : List (List ℕ)) × GivesInput (R.remaining reader.old) (R.remaining reader.new) contents
-        × PutsContents kind tail piece_length size contents lengths.items (put_by cutter.new.feeder)) }
+        × PutsContents chunking contents lengths.items (put_by cutter.new.feeder)) }
     ensures lane { FeedsLaneOf cutter.old.feeder cutter.new.feeder × IsOpen cutter.new.feeder }
     ensures stopped { IfErr result (StopsInput (R.remaining reader.old) (R.remaining reader.new)) }
 {
-    match cutter.read_whole(rt, alloc, kind, piece_length, MAX_INPUT_LENGTH, reader) {
+    match cutter.read_whole(rt, alloc, chunking, MAX_INPUT_LENGTH, reader) {
         Ok(length) => {
-            cutter.put_rest(rt, alloc, tail)?;
+            cutter.put_rest(rt, alloc, chunking)?;
             Ok(only(alloc, length)?)
         }
         Err(stop) => Err(fault_of(stop)),

@@ -1,90 +1,80 @@
 //! What the contents of readers sum up to, from what their chunks do.
-ghost use Rattle.std.specs.Prelude.{◌≡◌, ◌*◌, ◌^◌, ◌<◌, ◌≤◌, ℕ, Bool, List, Some, IfOk, length, map};
+ghost use Rattle.std.specs.Prelude.{◌≡◌, ◌*◌, ◌^◌, ◌<◌, ◌≤◌, ℕ, List, Some, IfOk, length, map};
 ghost use Rattle.tor_merkle.specs.Block.{leaves};
 ghost use Rattle.tor_merkle.specs.Layer.{IsPieceLength, piece_layer, piece_roots, pieces_root, root_of};
 ghost use Rattle.tor_merkle.specs.declared.TheConstants.{BLOCK_LENGTH};
 ghost use Rattle.tor_merkle.specs.Stack.{padded_subtree};
-ghost use Rattle.tor_streams.specs.Streams.{AreSumsOfContents, IsStreamCut};
+ghost use Rattle.tor_streams.specs.Streams.{AreSumsOfContents};
 ghost use Rattle.tor_sums.specs.UnitNodes.{node_over};
-ghost use Rattle.tor_streams.specs.steps.ChunkNodes.{AreNodesOf, AreNodesOfOne, IsRunNode, SumUpCuts};
+ghost use Rattle.tor_streams.specs.steps.ChunkNodes.{AreNodesOf, AreNodesOfOne, IsRunNode, IsTreeChunking, SumUpCuts};
+ghost use Rattle.tor_streams.specs.steps.Cuts.{IsChunking};
 ghost use Rattle.tor_sums.specs.steps.Run.{HasRoomAt};
 ghost use Rattle.tor_sums.specs.steps.Trees.{AreTreesOf};
 
+use crate::chunking::Chunking;
 use std::alloc::{AllocError, Global};
 use tor_merkle::{BLOCK_LENGTH, Hash, height_of, layer_root, layer_subtree, piece_level};
 use tor_sums::{FileTrees, Sums, Trees, UnitSums, append, node_over_pieces, sums_with, trees_of};
-use tor_tree::Kind;
 
-/// What contents of these lengths sum up to, from what their chunks of `size` bytes do, in order.
+/// What contents of these lengths sum up to, from what their chunks do, in order.
 pub(crate) fn sums_of_chunks(
     alloc: Global,
-    kind: Kind,
-    piece_length: u64,
-    size: u64,
+    chunking: Chunking,
     lengths: Vec<u64>,
     chunks: &[UnitSums],
 ) -> Result<Sums, AllocError>
-    requires cut { (span : ℕ) × IsStreamCut kind piece_length span × (size ≡ span * piece_length) }
-    requires chunks { (tail : Bool) × (contents : List (List ℕ))
-        × SumUpCuts kind tail piece_length size contents lengths.items chunks.now }
-    ensures { (tail : Bool) (contents : List (List ℕ)) →
-        SumUpCuts kind tail piece_length size contents lengths.items chunks.now →
-        IfOk result (AreSumsOfContents kind tail piece_length contents) }
+    requires cut { IsChunking chunking }
+    requires chunks { (contents : List (List ℕ)) × SumUpCuts chunking contents lengths.items chunks.now }
+    ensures { (contents : List (List ℕ)) → SumUpCuts chunking contents lengths.items chunks.now →
+        IfOk result (AreSumsOfContents chunking.kind chunking.tail chunking.piece_length contents) }
 {
-    let trees = trees_of_stream(alloc, kind, piece_length, size, &lengths, chunks)?;
+    let trees = trees_of_stream(alloc, chunking, &lengths, chunks)?;
     sums_with(alloc, lengths, chunks, trees)
 }
 
 /// The trees of contents, if the kind has them.
 fn trees_of_stream(
     alloc: Global,
-    kind: Kind,
-    piece_length: u64,
-    size: u64,
+    chunking: Chunking,
     lengths: &[u64],
     chunks: &[UnitSums],
 ) -> Result<Option<Trees>, AllocError>
-    requires cut { (span : ℕ) × IsStreamCut kind piece_length span × (size ≡ span * piece_length) }
-    requires chunks { (tail : Bool) × (contents : List (List ℕ))
-        × SumUpCuts kind tail piece_length size contents lengths.now chunks.now }
-    ensures { (tail : Bool) (contents : List (List ℕ)) →
-        SumUpCuts kind tail piece_length size contents lengths.now chunks.now →
-        IfOk result (AreTreesOf kind piece_length contents) }
+    requires cut { IsChunking chunking }
+    requires chunks { (contents : List (List ℕ)) × SumUpCuts chunking contents lengths.now chunks.now }
+    ensures { (contents : List (List ℕ)) → SumUpCuts chunking contents lengths.now chunks.now →
+        IfOk result (AreTreesOf chunking.kind chunking.piece_length contents) }
 {
-    if !kind.has_v2() {
+    if !chunking.kind.has_v2() {
         return Ok(None);
     }
     let contents = ChunkTrees {
-        piece_length,
-        size,
+        chunking,
         rest: chunks,
     };
     let trees = trees_of(alloc, lengths, contents)?;
     Ok(Some(trees))
 }
 
-/// The contents that are left: what their chunks of `size` bytes sum up to.
+/// The contents that are left: what their chunks sum up to.
 #[derive(Drop)]
 struct ChunkTrees<'a> {
-    piece_length: u64,
-    size: u64,
+    chunking: Chunking,
     rest: &'a [UnitSums],
 }
 
 impl<'a> FileTrees for ChunkTrees<'a> {
-    ghost may_tell = { λ chunks lengths. IsPieceLength chunks.piece_length × IsPieceLength chunks.size
-        × ((span : ℕ) × (0 < span) × (chunks.size ≡ span * chunks.piece_length))
-        × ((contents : List (List ℕ)) × AreNodesOf chunks.piece_length chunks.size contents lengths chunks.rest.now) };
+    ghost may_tell = { λ chunks lengths. IsTreeChunking chunks.chunking
+        × ((contents : List (List ℕ)) × AreNodesOf chunks.chunking contents lengths chunks.rest.now) };
 
-    ghost are_of = { λ chunks piece_length contents. (piece_length ≡ chunks.piece_length)
-        × AreNodesOf chunks.piece_length chunks.size contents (map length contents) chunks.rest.now };
+    ghost are_of = { λ chunks piece_length contents. (piece_length ≡ chunks.chunking.piece_length)
+        × AreNodesOf chunks.chunking contents (map length contents) chunks.rest.now };
 
-    // The content has `size` bytes, a chunk `self.size`.
+    // The content has `size` bytes.
     fn next(&mut self, alloc: Global, size: u64) -> Result<(Option<Hash>, Vec<Hash>), AllocError> {
-        let count = size.div_ceil(self.size) as usize;
+        let count = size.div_ceil(self.chunking.size) as usize;
         let (own, later) = self.rest.split_at(count.min(self.rest.len()));
         self.rest = later;
-        let tree = tree_of_content(alloc, self.piece_length, self.size, size, own)?;
+        let tree = tree_of_content(alloc, self.chunking, size, own)?;
         Ok(tree)
     }
 }
@@ -92,19 +82,17 @@ impl<'a> FileTrees for ChunkTrees<'a> {
 /// The root and the layer of one content.
 fn tree_of_content(
     alloc: Global,
-    piece_length: u64,
-    size: u64,
+    chunking: Chunking,
     length: u64,
     own: &[UnitSums],
 ) -> Result<(Option<Hash>, Vec<Hash>), AllocError>
-    requires pieces { IsPieceLength piece_length × IsPieceLength size }
-    requires cut { (span : ℕ) × (0 < span) × (size ≡ span * piece_length) }
-    requires own { (content : List ℕ) × AreNodesOfOne piece_length size content length own.now }
-    ensures { (content : List ℕ) → AreNodesOfOne piece_length size content length own.now →
-        IfOk result (λ tree. (tree.0 ≡ root_of content) × (tree.1.items ≡ piece_layer content piece_length)) }
+    requires cut { IsTreeChunking chunking }
+    requires own { (content : List ℕ) × AreNodesOfOne chunking content length own.now }
+    ensures { (content : List ℕ) → AreNodesOfOne chunking content length own.now → IfOk result (λ tree.
+        (tree.0 ≡ root_of content) × (tree.1.items ≡ piece_layer content chunking.piece_length)) }
 {
-    if length > size {
-        let (root, layer) = tree_of_chunks(alloc, piece_length, size, length, own)?;
+    if length > chunking.size {
+        let (root, layer) = tree_of_chunks(alloc, chunking, length, own)?;
         return Ok((Some(root), layer));
     }
     if own.len() == 0 {
@@ -118,25 +106,23 @@ fn tree_of_content(
 /// The root and the layer of a content of several chunks.
 fn tree_of_chunks(
     alloc: Global,
-    piece_length: u64,
-    size: u64,
+    chunking: Chunking,
     length: u64,
     own: &[UnitSums],
 ) -> Result<(Hash, Vec<Hash>), AllocError>
-    requires pieces { IsPieceLength piece_length × IsPieceLength size }
-    requires cut { (span : ℕ) × (0 < span) × (size ≡ span * piece_length) }
-    requires several { size < length }
-    requires own { (content : List ℕ) × AreNodesOfOne piece_length size content length own.now }
-    ensures { (content : List ℕ) → AreNodesOfOne piece_length size content length own.now →
-        IfOk result (λ tree. (tree.0 ≡ pieces_root content) × (tree.1.items ≡ piece_layer content piece_length)) }
+    requires cut { IsTreeChunking chunking }
+    requires several { chunking.size < length }
+    requires own { (content : List ℕ) × AreNodesOfOne chunking content length own.now }
+    ensures { (content : List ℕ) → AreNodesOfOne chunking content length own.now → IfOk result (λ tree.
+        (tree.0 ≡ pieces_root content) × (tree.1.items ≡ piece_layer content chunking.piece_length)) }
 {
-    let level = piece_level(size);
+    let level = piece_level(chunking.size);
     let mut hashes = Vec::with_capacity(alloc, own.len())?;
-    let mut layer = Vec::with_capacity(alloc, length.div_ceil(piece_length) as usize)?;
+    let mut layer = Vec::with_capacity(alloc, length.div_ceil(chunking.piece_length) as usize)?;
     let mut left = length;
     'chunks: for one in own {
-        let count = left.min(size);
-        let (hash, below) = node_in_tree(alloc, piece_length, level, count, one)?;
+        let count = left.min(chunking.size);
+        let (hash, below) = node_in_tree(alloc, chunking.piece_length, level, count, one)?;
         hashes.push(hash)?;
         append(&mut layer, below)?;
         left -= count;

@@ -1,14 +1,15 @@
 //! The workers of a lane: each hashes the chunks that it takes.
-ghost use Rattle.std.specs.Prelude.{◌≡◌, [], ℕ, IfOk, vec_len};
+ghost use Rattle.std.specs.Prelude.{◌≡◌, [], IfOk, vec_len};
 ghost use Rattle.std.specs.List.{AllByRecursion, list_any};
 ghost use Rattle.std.specs.Thread.{IsSync};
 ghost use Rattle.tor_lane.specs.Lane.{IsTakerOf, taken_by};
 ghost use Rattle.tor_lane.specs.declared.feeder.Feeder.{Feeder};
-ghost use Rattle.tor_plan.specs.PlanFacts.{IsPlanPieceLength};
-ghost use Rattle.tor_streams.specs.steps.Cuts.{facts_of, facts_of_chunk};
+ghost use Rattle.tor_streams.specs.declared.chunking.Chunking.{Chunking};
+ghost use Rattle.tor_streams.specs.steps.Cuts.{IsChunking, facts_of, facts_of_chunk};
 ghost use Rattle.tor_streams.specs.steps.StreamWorkers.{AreDone, AreParted, IsDoneOf, IsWorkerOf, TookAll};
 
 use crate::chunk_sums::sum_chunk;
+use crate::chunking::Chunking;
 use crate::gate::Gate;
 use crate::spares::GiveBack;
 use std::alloc::{AllocError, Global};
@@ -16,7 +17,6 @@ use std::sync::Wait;
 use std::thread::{Threads, join_mut};
 use tor_lane::{Chunk, Taker};
 use tor_sums::{UnitSums, append};
-use tor_tree::Kind;
 
 /// A worker of a lane, and what it made of the chunks that it took.
 #[derive(Drop)]
@@ -33,23 +33,15 @@ impl StreamWorker {
     ghost use Rattle.tor_sums.specs.declared.unit_sums.UnitSums.{UnitSums};
 
     // Takes chunks until its mark, and hashes them.
-    fn take_all<G: Gate, R: Wait>(
-        &mut self,
-        rt: &R,
-        gate: &G,
-        alloc: Global,
-        kind: Kind,
-        piece_length: u64,
-    )
-        requires { IsPlanPieceLength kind piece_length }
-        ensures { (feeder : Feeder) → IsWorkerOf kind piece_length feeder self.old →
-            IsDoneOf kind piece_length feeder self.new }
+    fn take_all<G: Gate, R: Wait>(&mut self, rt: &R, gate: &G, alloc: Global, chunking: Chunking)
+        requires { IsChunking chunking }
+        ensures { (feeder : Feeder) → IsWorkerOf chunking feeder self.old → IsDoneOf chunking feeder self.new }
     {
         'chunks: for _ in rt.forever() {
             match self.taker.take(rt) {
                 Some(chunk) => {
                     gate.enter(chunk.unit);
-                    self.add(alloc, kind, piece_length, &chunk);
+                    self.add(alloc, chunking, &chunk);
                     self.give_back.give(rt, chunk.bytes);
                 }
                 None => return,
@@ -59,17 +51,17 @@ impl StreamWorker {
     }
 
     // Hashes a chunk, where no memory was refused before.
-    fn add(&mut self, alloc: Global, kind: Kind, piece_length: u64, chunk: &Chunk)
-        requires { IsPlanPieceLength kind piece_length }
+    fn add(&mut self, alloc: Global, chunking: Chunking, chunk: &Chunk)
+        requires { IsChunking chunking }
         ensures taker { self.new.taker ≡ self.old.taker }
         ensures sums { self.new.is_refused ≡ false → (self.old.is_refused ≡ false)
-            × ((one : UnitSums) × (facts_of one ≡ facts_of_chunk kind piece_length chunk.now)
+            × ((one : UnitSums) × (facts_of one ≡ facts_of_chunk chunking chunk.now)
             × (self.new.sums.items ≡ self.old.sums.items ++ one ∷ [])) }
     {
         if self.is_refused {
             return;
         }
-        if let Ok(sums) = sum_chunk(alloc, kind, piece_length, chunk) {
+        if let Ok(sums) = sum_chunk(alloc, chunking, chunk) {
             if let Ok(()) = self.sums.push(sums) {
                 return;
             }
@@ -84,9 +76,9 @@ pub(crate) fn stream_workers(
     takers: Vec<Taker>,
     give_back: &mut GiveBack,
 ) -> Result<Vec<StreamWorker>, AllocError>
-    ensures workers { (kind : Kind) (piece_length : ℕ) (feeder : Feeder) →
+    ensures workers { (chunking : Chunking) (feeder : Feeder) →
         AllByRecursion (λ taker. IsTakerOf feeder taker × (taken_by taker ≡ [])) takers.items →
-        IfOk result (λ workers. AllByRecursion (IsWorkerOf kind piece_length feeder) workers.items) }
+        IfOk result (λ workers. AllByRecursion (IsWorkerOf chunking feeder) workers.items) }
     ensures all { IfOk result (λ workers. vec_len workers ≡ vec_len takers) }
 {
     let mut workers = Vec::with_capacity(alloc, takers.len())?;
@@ -107,31 +99,30 @@ pub(crate) fn take_by_halves<G: Gate + Sync, R: Threads + Wait + Sync>(
     rt: &R,
     gate: &G,
     alloc: Global,
-    kind: Kind,
-    piece_length: u64,
+    chunking: Chunking,
     workers: &mut [StreamWorker],
 )
-    requires { IsPlanPieceLength kind piece_length }
-    ensures { TookAll kind piece_length workers.old workers.new }
+    requires { IsChunking chunking }
+    ensures { TookAll chunking workers.old workers.new }
 {
     if workers.len() == 0 {
         return;
     }
     if workers.len() == 1 {
-        workers[0].take_all(rt, gate, alloc, kind, piece_length);
+        workers[0].take_all(rt, gate, alloc, chunking);
         return;
     }
     let (front, back) = workers.split_at_mut(workers.len() / 2);
     join_mut(
         rt,
         &mut || -> ()
-            requires { IsSync R.row × IsSync G.row × IsPlanPieceLength kind piece_length }
-            ensures { TookAll kind piece_length front.entry.now front.exit.now }
-        { take_by_halves(rt, gate, alloc, kind, piece_length, front) },
+            requires { IsSync R.row × IsSync G.row × IsChunking chunking }
+            ensures { TookAll chunking front.entry.now front.exit.now }
+        { take_by_halves(rt, gate, alloc, chunking, front) },
         &mut || -> ()
-            requires { IsSync R.row × IsSync G.row × IsPlanPieceLength kind piece_length }
-            ensures { TookAll kind piece_length back.entry.now back.exit.now }
-        { take_by_halves(rt, gate, alloc, kind, piece_length, back) },
+            requires { IsSync R.row × IsSync G.row × IsChunking chunking }
+            ensures { TookAll chunking back.entry.now back.exit.now }
+        { take_by_halves(rt, gate, alloc, chunking, back) },
     );
 }
 
@@ -147,8 +138,8 @@ pub(crate) fn takers_and_sums(
     alloc: Global,
     workers: Vec<StreamWorker>,
 ) -> Result<(Vec<Taker>, Vec<UnitSums>), AllocError>
-    ensures { (kind : Kind) (piece_length : ℕ) (feeder : Feeder) → AreDone kind piece_length feeder workers.items →
-        IfOk result (λ parts. AreParted kind piece_length feeder parts.0.items parts.1.items) }
+    ensures { (chunking : Chunking) (feeder : Feeder) → AreDone chunking feeder workers.items →
+        IfOk result (λ parts. AreParted chunking feeder parts.0.items parts.1.items) }
 {
     let mut takers = Vec::with_capacity(alloc, workers.len())?;
     let mut all = Vec::new(alloc);

@@ -1,12 +1,12 @@
 //! Readers that are read once and in order, hashed by several workers.
-ghost use Rattle.std.specs.Prelude.{◌≡◌, ◌*◌, ◌≤◌, ℕ, List, Some, IfErr, IfOk, map};
+ghost use Rattle.std.specs.Prelude.{◌≡◌, ◌≤◌, ℕ, List, Some, IfErr, IfOk, map};
 ghost use Rattle.tor_streams.specs.Streams.{AreSumsOfContents, AreSumsOfReaders, IsFaultOfReaders, IsStreamCut};
 ghost use Rattle.tor_sums.specs.declared.how.TheConstants.{MAX_WORKERS};
 
+use crate::chunking::Chunking;
 use crate::fed_sums::sums_of_fed;
-use crate::feeding::{cutter_and_workers, feed_readers};
+use crate::feeding::feed_readers;
 use crate::gate::{Gate, OpenGate};
-use crate::lane_span::lane_span;
 use std::alloc::Global;
 use std::io::{self, Read};
 use std::sync::Wait;
@@ -77,19 +77,8 @@ pub fn hash_streams_with<G: Gate + Sync, R: Read + Drop, T: Threads + Wait + Syn
         IfOk result (AreSumsOfContents kind tail piece_length contents) }
     ensures fault { IfErr result (IsFaultOfReaders (map R.remaining readers.items)) }
 {
-    let size = piece_length * lane_span(piece_length, span) as u64;
-    let (cutter, workers) = cutter_and_workers(alloc, size, workers)?;
-    let fed = feed_readers(
-        gate,
-        rt,
-        alloc,
-        readers,
-        kind,
-        piece_length,
-        tail,
-        cutter,
-        workers,
-    )?;
-    let summed = sums_of_fed(alloc, kind, piece_length, size, fed)?;
+    let chunking = Chunking::of(kind, piece_length, span, tail);
+    let fed = feed_readers(gate, rt, alloc, chunking, workers, readers)?;
+    let summed = sums_of_fed(alloc, chunking, fed)?;
     summed
 }

@@ -13,10 +13,22 @@ use Rattle.tor_v1.specs.Entries.{padding_length}
 use Rattle.tor_v1.specs.Piece.{piece_sums, pieces_of, zeros}
 use Rattle.tor_sums.specs.UnitSums.{bare_node, node_in}
 use Rattle.tor_sums.specs.UnitNodes.{Node, node_over}
+use Rattle.tor_streams.specs.Streams.{IsStreamCut}
+use Rattle.tor_streams.specs.declared.chunking.Chunking.{Chunking}
 use Rattle.tor_streams.specs.declared.cutter.Cutter.{Cutter}
 use Rattle.tor_streams.specs.declared.filling.Stop.{Stop}
 use Rattle.tor_streams.specs.declared.filling.Stop.TheVariants.{Read, Refused, TooLong}
 use Rattle.tor_sums.specs.declared.unit_sums.UnitSums.{UnitSums}
+
+-- chunks of some pieces, by which streams can be cut
+pub record IsChunking (chunking : Chunking) : Type 0 where
+  pub span : ℕ
+  pub cut : IsStreamCut chunking.kind chunking.piece_length span
+  pub size : chunking.size ≡ span * chunking.piece_length
+
+-- what a caller tells of it
+abbrev pub told_of : Chunking → Kind × Bool × ℕ
+told_of chunking = (chunking.kind, chunking.tail, chunking.piece_length)
 
 -- the bytes of a chunk, and how many zeros follow them
 abbrev pub Cut : Type 0
@@ -45,14 +57,14 @@ zeros_between Hybrid piece_length m = padding_length piece_length m
 zeros_between _ piece_length m = 0
 
 -- a content cut by itself, where some byte of a later one follows
-abbrev pub cuts_of_content : Kind → ℕ → ℕ → List ℕ → List Cut
-cuts_of_content kind piece_length size content =
-    ending_in (zeros_between kind piece_length (length content)) (bare_cuts (runs_of size content))
+abbrev pub cuts_of_content : Chunking → List ℕ → List Cut
+cuts_of_content chunking content =
+    ending_in (zeros_between chunking.kind chunking.piece_length (length content))
+    (bare_cuts (runs_of chunking.size content))
 
 -- contents that were read whole: in version 1 they are cut as one, else each by itself
-abbrev pub closed_cuts : Kind → ℕ → ℕ → List (List ℕ) → List Cut
-closed_cuts kind piece_length size contents =
-    if has_v2 kind then flat_map (cuts_of_content kind piece_length size) contents else []
+abbrev pub closed_cuts : Chunking → List (List ℕ) → List Cut
+closed_cuts chunking contents = if has_v2 chunking.kind then flat_map (cuts_of_content chunking) contents else []
 
 -- what is cut as one, where so much of the next content came
 abbrev pub open_text : Kind → List (List ℕ) → List ℕ → List ℕ
@@ -60,15 +72,14 @@ open_text kind contents current =
     if has_v2 kind then current else flat_map (λ content. content) contents ++ current
 
 -- the chunks of contents before it is known that none follows
-abbrev pub cuts_before_end : Kind → ℕ → ℕ → List (List ℕ) → List Cut
-cuts_before_end kind piece_length size contents =
-    closed_cuts kind piece_length size contents ++ bare_cuts (runs_of size (open_text kind contents []))
+abbrev pub cuts_before_end : Chunking → List (List ℕ) → List Cut
+cuts_before_end chunking contents =
+    closed_cuts chunking contents ++ bare_cuts (runs_of chunking.size (open_text chunking.kind contents []))
 
 -- the chunks of contents: but for a tail no zeros follow the last
-abbrev pub stream_cuts : Kind → Bool → ℕ → ℕ → List (List ℕ) → List Cut
-stream_cuts kind tail piece_length size contents =
-    if tail then cuts_before_end kind piece_length size contents
-    else ending_in 0 (cuts_before_end kind piece_length size contents)
+abbrev pub stream_cuts : Chunking → List (List ℕ) → List Cut
+stream_cuts chunking contents =
+    if chunking.tail then cuts_before_end chunking contents else ending_in 0 (cuts_before_end chunking contents)
 
 -- the chunk that is held, with the zeros that follow it where some byte of a later content comes
 abbrev pub cuts_held : Option Chunk → ℕ → List Cut
@@ -83,16 +94,16 @@ abbrev pub units_of : List Chunk → List ℕ
 units_of chunks = map (λ chunk. chunk.unit) chunks
 
 -- these contents were read whole, and so much of the next one
-pub record HasCut (kind : Kind) (piece_length size : ℕ) (contents : List (List ℕ)) (current : List ℕ)
-    (cutter : Cutter) : Type 0 where
-  pub buffer : vec_len cutter.buffer ≡ size
-  pub filled : cutter.filled ≤ size
+pub record HasCut (chunking : Chunking) (contents : List (List ℕ)) (current : List ℕ) (cutter : Cutter)
+    : Type 0 where
+  pub buffer : vec_len cutter.buffer ≡ chunking.size
+  pub filled : cutter.filled ≤ chunking.size
   -- what was cut of the text, and what waits in the buffer
   pub cut : List ℕ
-  pub whole : (count : ℕ) × (length cut ≡ count * size)
-  pub text : cut ++ take cutter.filled cutter.buffer.items ≡ open_text kind contents current
+  pub whole : (count : ℕ) × (length cut ≡ count * chunking.size)
+  pub text : cut ++ take cutter.filled cutter.buffer.items ≡ open_text chunking.kind contents current
   pub cuts : map cut_of (put_by cutter.feeder) ++ cuts_held cutter.held cutter.zeros
-      ≡ closed_cuts kind piece_length size contents ++ bare_cuts (runs_of size cut)
+      ≡ closed_cuts chunking contents ++ bare_cuts (runs_of chunking.size cut)
   -- chunks are numbered from 0 on
   pub units : units_of (put_by cutter.feeder) ++ units_held cutter.held ≡ range_with_len 0 cutter.next
   pub opened : IsOpen cutter.feeder
@@ -100,17 +111,17 @@ pub record HasCut (kind : Kind) (piece_length size : ℕ) (contents : List (List
   pub begun : cutter.held ≡ None → put_by cutter.feeder ≡ []
 
 -- these contents were read whole, and there is room for a byte of the next one
-pub record IsReady (kind : Kind) (piece_length size : ℕ) (contents : List (List ℕ)) (cutter : Cutter) : Type 0 where
-  pub has : HasCut kind piece_length size contents [] cutter
-  pub room : cutter.filled < size
+pub record IsReady (chunking : Chunking) (contents : List (List ℕ)) (cutter : Cutter) : Type 0 where
+  pub has : HasCut chunking contents [] cutter
+  pub room : cutter.filled < chunking.size
 
 -- so much of the next one came, and all of it was cut
-pub record IsCutOff (kind : Kind) (piece_length size : ℕ) (contents : List (List ℕ)) (current : List ℕ)
-    (cutter : Cutter) : Type 0 where
+pub record IsCutOff (chunking : Chunking) (contents : List (List ℕ)) (current : List ℕ) (cutter : Cutter)
+    : Type 0 where
   pub filled : cutter.filled ≡ 0
-  pub buffer : vec_len cutter.buffer ≡ size
+  pub buffer : vec_len cutter.buffer ≡ chunking.size
   pub cuts : map cut_of (put_by cutter.feeder) ++ cuts_held cutter.held cutter.zeros
-      ≡ closed_cuts kind piece_length size contents ++ bare_cuts (runs_of size (open_text kind contents current))
+      ≡ closed_cuts chunking contents ++ bare_cuts (runs_of chunking.size (open_text chunking.kind contents current))
   pub units : units_of (put_by cutter.feeder) ++ units_held cutter.held ≡ range_with_len 0 cutter.next
   pub opened : IsOpen cutter.feeder
   pub begun : cutter.held ≡ None → put_by cutter.feeder ≡ []
@@ -143,17 +154,16 @@ pub record PutsHeld (count : ℕ) (old new : Cutter) : Type 0 where
   pub next : new.next ≡ old.next
 
 -- all contents were cut and put
-pub record HasPut (kind : Kind) (tail : Bool) (piece_length size : ℕ) (contents : List (List ℕ)) (put : List Chunk)
-    : Type 0 where
-  pub cuts : map cut_of put ≡ stream_cuts kind tail piece_length size contents
+pub record HasPut (chunking : Chunking) (contents : List (List ℕ)) (put : List Chunk) : Type 0 where
+  pub cuts : map cut_of put ≡ stream_cuts chunking contents
   pub units : units_of put ≡ range_with_len 0 (length put)
 
 -- the contents have these lengths, none too long, and were cut and put
-pub record PutsContents (kind : Kind) (tail : Bool) (piece_length size : ℕ) (contents : List (List ℕ))
-    (lengths : List ℕ) (put : List Chunk) : Type 0 where
+pub record PutsContents (chunking : Chunking) (contents : List (List ℕ)) (lengths : List ℕ) (put : List Chunk)
+    : Type 0 where
   pub small : AllByRecursion (λ content. length content ≤ MAX_LENGTH) contents
   pub counted : map length contents ≡ lengths
-  pub cut : HasPut kind tail piece_length size contents put
+  pub cut : HasPut chunking contents put
 
 -- ---- what chunks sum up to
 
@@ -165,15 +175,16 @@ abbrev pub facts_of : UnitSums → SumsFacts
 facts_of sums = (sums.unit, node_in sums, sums.pieces.items)
 
 -- the node of a chunk that is alone in its file, and the SHA-1 of its pieces
-abbrev pub node_of_bytes : Kind → ℕ → List ℕ → Node
-node_of_bytes kind piece_length bytes = if has_v2 kind then node_over piece_length None bytes else bare_node
+abbrev pub node_of_bytes : Chunking → List ℕ → Node
+node_of_bytes chunking bytes = if has_v2 chunking.kind then node_over chunking.piece_length None bytes else bare_node
 
-abbrev pub pieces_of_cut : Kind → ℕ → Cut → List ℕ
-pieces_of_cut kind piece_length cut = if has_v1 kind then piece_sums piece_length (cut.0 ++ zeros cut.1) else []
+abbrev pub pieces_of_cut : Chunking → Cut → List ℕ
+pieces_of_cut chunking cut =
+    if has_v1 chunking.kind then piece_sums chunking.piece_length (cut.0 ++ zeros cut.1) else []
 
-abbrev pub facts_of_chunk : Kind → ℕ → Chunk → SumsFacts
-facts_of_chunk kind piece_length chunk = (
+abbrev pub facts_of_chunk : Chunking → Chunk → SumsFacts
+facts_of_chunk chunking chunk = (
   chunk.unit,
-  node_of_bytes kind piece_length chunk.bytes.items,
-  pieces_of_cut kind piece_length (cut_of chunk),
+  node_of_bytes chunking chunk.bytes.items,
+  pieces_of_cut chunking (cut_of chunk),
 )

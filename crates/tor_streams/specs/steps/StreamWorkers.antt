@@ -1,44 +1,44 @@
 -- The workers of a lane, and what they made of the chunks that they took. Only private clauses cite these.
-use Rattle.std.specs.Prelude.{◌≡◌, ℕ, false, All, List, length, map}
+use Rattle.std.specs.Prelude.{◌≡◌, false, All, List, length, map}
 use Rattle.std.specs.List.{AllByRecursion, flat_map}
 use Rattle.tor_lane.specs.Lane.{IsAtMark, IsTakerOf, taken_by, takers_of}
 use Rattle.tor_lane.specs.declared.feeder.Feeder.{Feeder}
 use Rattle.tor_lane.specs.declared.taker.Taker.{Taker}
-use Rattle.tor_tree.specs.declared.kinds.Kind.{Kind}
+use Rattle.tor_streams.specs.declared.chunking.Chunking.{Chunking}
 use Rattle.tor_streams.specs.declared.stream_worker.StreamWorker.{StreamWorker}
 use Rattle.tor_sums.specs.declared.unit_sums.UnitSums.{UnitSums}
 use Rattle.tor_streams.specs.steps.Cuts.{facts_of, facts_of_chunk}
 
 -- a worker of the feeder's lane; where no memory was refused it has the sums of what it took, in that order
-pub record IsWorkerOf (kind : Kind) (piece_length : ℕ) (feeder : Feeder) (worker : StreamWorker) : Type 0 where
+pub record IsWorkerOf (chunking : Chunking) (feeder : Feeder) (worker : StreamWorker) : Type 0 where
   pub taker : IsTakerOf feeder worker.taker
   pub sums : worker.is_refused ≡ false
-      → map facts_of worker.sums.items ≡ map (facts_of_chunk kind piece_length) (taken_by worker.taker)
+      → map facts_of worker.sums.items ≡ map (facts_of_chunk chunking) (taken_by worker.taker)
 
 -- it has taken its mark
-pub record IsDoneOf (kind : Kind) (piece_length : ℕ) (feeder : Feeder) (worker : StreamWorker) : Type 0 where
-  pub is : IsWorkerOf kind piece_length feeder worker
+pub record IsDoneOf (chunking : Chunking) (feeder : Feeder) (worker : StreamWorker) : Type 0 where
+  pub is : IsWorkerOf chunking feeder worker
   pub mark : IsAtMark worker.taker
 
 -- the same workers, each of which took until its mark
-pub record TookAll (kind : Kind) (piece_length : ℕ) (old new : List StreamWorker) : Type 0 where
-  pub done : (feeder : Feeder) → AllByRecursion (IsWorkerOf kind piece_length feeder) old
-      → AllByRecursion (IsDoneOf kind piece_length feeder) new
+pub record TookAll (chunking : Chunking) (old new : List StreamWorker) : Type 0 where
+  pub done : (feeder : Feeder) → AllByRecursion (IsWorkerOf chunking feeder) old
+      → AllByRecursion (IsDoneOf chunking feeder) new
   pub all : length new ≡ length old
 
 -- all workers of the lane
-pub record AreWorkers (kind : Kind) (piece_length : ℕ) (feeder : Feeder) (workers : List StreamWorker) : Type 0 where
-  pub each : AllByRecursion (IsWorkerOf kind piece_length feeder) workers
+pub record AreWorkers (chunking : Chunking) (feeder : Feeder) (workers : List StreamWorker) : Type 0 where
+  pub each : AllByRecursion (IsWorkerOf chunking feeder) workers
   pub all : length workers ≡ takers_of feeder
 
 -- and each is done
-pub record AreDone (kind : Kind) (piece_length : ℕ) (feeder : Feeder) (workers : List StreamWorker) : Type 0 where
-  pub each : AllByRecursion (IsDoneOf kind piece_length feeder) workers
+pub record AreDone (chunking : Chunking) (feeder : Feeder) (workers : List StreamWorker) : Type 0 where
+  pub each : AllByRecursion (IsDoneOf chunking feeder) workers
   pub all : length workers ≡ takers_of feeder
 
 -- all takers of the lane, each at its mark, and the sums of what they took
-pub record AreParted (kind : Kind) (piece_length : ℕ) (feeder : Feeder) (takers : List Taker) (sums : List UnitSums)
+pub record AreParted (chunking : Chunking) (feeder : Feeder) (takers : List Taker) (sums : List UnitSums)
     : Type 0 where
   pub each : All (λ taker. IsTakerOf feeder taker × IsAtMark taker) takers
   pub all : length takers ≡ takers_of feeder
-  pub summed : map facts_of sums ≡ map (facts_of_chunk kind piece_length) (flat_map taken_by takers)
+  pub summed : map facts_of sums ≡ map (facts_of_chunk chunking) (flat_map taken_by takers)

@@ -11,12 +11,10 @@ pub sums_of_chunks-requires-clause-chunks : goal.sums_of_chunks-requires-clause-
 sums_of_chunks-requires-clause-chunks c =
     let put = c.requires.put in (
       put.0,
-      put.1,
-      subst (λ (sums : List UnitSums). SumUpCuts c.args.kind put.0 c.args.piece_length c.args.size put.1
-          c.args.lengths.items sums) (sym c.deref.ensures.value)
-          (sum_up_cuts c.args.kind put.0 c.args.piece_length c.args.size put.1 c.args.lengths.items
-          (put_by c.args.feeder)
-          (flat_map taken_by c.args.takers.items) c.args.sums.items c.put_in_order-sums.result.items put.2
+      subst (λ (sums : List UnitSums). SumUpCuts c.args.chunking put.0 c.args.lengths.items sums)
+          (sym c.deref.ensures.value)
+          (sum_up_cuts c.args.chunking put.0 c.args.lengths.items (put_by c.args.feeder)
+          (flat_map taken_by c.args.takers.items) c.args.sums.items c.put_in_order-sums.result.items put.1
           c.settle.ensures c.requires.parted.summed c.put_in_order-sums.ensures.same
           (c.put_in_order-sums.ensures.placed (λ (one : UnitSums). one.unit)
           (λ one n called.
@@ -26,11 +24,11 @@ sums_of_chunks-requires-clause-chunks c =
     )
 
 pub returns : goal.returns
-returns c = λ tail contents puts.
-    c.sums_of_chunks.ensures tail contents
-    (subst (λ (sums : List UnitSums). SumUpCuts c.args.kind tail c.args.piece_length c.args.size contents
-    c.args.lengths.items sums) (sym c.deref.ensures.value)
-    (sum_up_cuts c.args.kind tail c.args.piece_length c.args.size contents c.args.lengths.items (put_by c.args.feeder)
+returns c = λ contents puts.
+    c.sums_of_chunks.ensures contents
+    (subst (λ (sums : List UnitSums). SumUpCuts c.args.chunking contents c.args.lengths.items sums)
+    (sym c.deref.ensures.value)
+    (sum_up_cuts c.args.chunking contents c.args.lengths.items (put_by c.args.feeder)
     (flat_map taken_by c.args.takers.items) c.args.sums.items c.put_in_order-sums.result.items puts
     c.settle.ensures c.requires.parted.summed c.put_in_order-sums.ensures.same
     (c.put_in_order-sums.ensures.placed (λ (one : UnitSums). one.unit)

@@ -12,23 +12,19 @@ use Rattle.tor_streams.proofs.Readers.{contents_more, read_up_to}
 use Rattle.tor_streams.proofs.read_streams.read_each.Goals as goal
 
 pub readers-init : goal.readers-init
-readers-init g c =
-    let ready = c.requires.ready in record {
-      items = search rules;
-      left = search rules;
-      contents = [];
-      given = tt;
-      small = tt;
-      counted = sym c.in_ok-lengths.ensures.items;
-      cut = λ size some is. is;
-      lane = (refl, refl);
-      opened = ready.2.has.opened;
-    }
+readers-init g c = record {
+  items = search rules;
+  left = search rules;
+  contents = [];
+  given = tt;
+  small = tt;
+  counted = sym c.in_ok-lengths.ensures.items;
+  cut = c.requires.ready;
+  lane = (refl, refl);
+}
 
 pub read_whole-requires-clause-ready : goal.read_whole-requires-clause-ready
-read_whole-requires-clause-ready g c =
-    let ready = c.requires.ready in
-    (ready.0, c.readers.invariant.contents, ready.1, c.readers.invariant.cut ready.0 ready.1 ready.2)
+read_whole-requires-clause-ready g c = (c.readers.invariant.contents, c.readers.invariant.cut)
 
 pub readers-preserved : goal.readers-preserved
 readers-preserved g c =
@@ -46,10 +42,9 @@ readers-preserved g c =
           (omega (arith, read.2, read.3), tt);
       counted = map-append length before.contents (content ∷ [])
           ∙ ap₂ (λ xs n. xs ++ n ∷ []) before.counted read.2 ∙ sym c.in_ok-push-in-Ok.ensures.items;
-      cut = λ size some is. read.4 size before.contents some (before.cut size some is);
+      cut = read.4 before.contents before.cut;
       lane = lanes_join c.args.cutter.now.feeder c.readers.cutter.feeder c.readers.cutter.feeder
           c.read_whole.new.self.feeder before.lane refl c.read_whole.ensures.lane.0;
-      opened = c.read_whole.ensures.lane.1;
     }
 
 pub returns-in-Err-clause-fault : goal.returns-in-Err-clause-fault
@@ -66,14 +61,11 @@ returns-in-Err-clause-fault g c =
     c.args.readers.items whole c.len-file.result counted before.contents before.given before.small came.0
     (g.R.Read.remaining c.read_whole.new.reader, came.1)) came.2
 
-pub put_rest-requires-clause-within : goal.put_rest-requires-clause-within
-put_rest-requires-clause-within g c =
-    let ready = c.requires.ready in
-    let has = (c.readers.invariant.cut ready.0 ready.1 ready.2).has in
-    omega (arith, has.filled, has.buffer)
+pub put_rest-requires-clause-has : goal.put_rest-requires-clause-has
+put_rest-requires-clause-has g c = (c.readers.invariant.contents, c.readers.invariant.cut.has)
 
 pub returns-clause-put : goal.returns-clause-put
-returns-clause-put g c = λ size some ready.
+returns-clause-put g c =
     let before = c.readers.invariant in
     let empty : into_iter_items c.readers.reader-iterator ≡ [] =
     nil_from_length _ (sym before.left ∙ c.in-None.ensures.steps.0) in
@@ -84,7 +76,6 @@ returns-clause-put g c = λ size some ready.
       record {
         small = before.small;
         counted = before.counted;
-        cut = c.in_ok-put_rest.ensures.put c.args.kind c.args.piece_length size before.contents some
-            (before.cut size some ready).has;
+        cut = c.in_ok-put_rest.ensures.put before.contents before.cut.has;
       },
     )

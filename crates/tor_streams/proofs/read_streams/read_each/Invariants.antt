@@ -1,8 +1,8 @@
 -- what the readers so far gave was cut
-use Rattle.std.proofs.Common.{◌≡◌, ◌≤◌, ◌++◌, ◌^◌, ◌<◌, ℕ, List, [], length, map}
+use Rattle.std.proofs.Common.{◌≡◌, ◌≤◌, ◌++◌, ◌^◌, ℕ, List, length, map}
 use Rattle.std.specs.List.{AllByRecursion}
 use Rattle.std.specs.Vec.Iter.{into_iter_items, into_iter_len}
-use Rattle.tor_lane.specs.Lane.{FeedsLaneOf, IsOpen}
+use Rattle.tor_lane.specs.Lane.{FeedsLaneOf}
 use Rattle.tor_streams.specs.Streams.{GiveContents}
 use Rattle.tor_streams.specs.steps.Cuts.{IsReady}
 use Rattle.tor_streams.proofs.read_streams.read_each.Given as goal
@@ -15,8 +15,6 @@ invariant-readers g l = record {
   given : GiveContents (map g.R.Read.remaining l.yielded) contents;
   small : AllByRecursion (λ content. length content ≤ 2 ^ 50) contents;
   counted : map length contents ≡ l.lengths.items;
-  cut : (size : ℕ) → 0 < size → IsReady l.kind l.piece_length size [] l.fn.cutter →
-      IsReady l.kind l.piece_length size contents l.cutter;
+  cut : IsReady l.chunking contents l.cutter;
   lane : FeedsLaneOf l.fn.cutter.feeder l.cutter.feeder;
-  opened : IsOpen l.cutter.feeder;
 }

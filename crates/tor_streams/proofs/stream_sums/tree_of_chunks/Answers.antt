@@ -25,52 +25,51 @@ chunks-init c = record {
 
 pub node_in_tree-requires-clause-room : goal.node_in_tree-requires-clause-room
 node_in_tree-requires-clause-room c =
-    let size = c.args.size in
+    let size = c.args.chunking.size in
     let level = c.piece_level-level.ensures.value in
-    let rise = levels_rise c.args.piece_length size c.requires.cut.0 c.requires.pieces.0 c.requires.pieces.1
-    c.requires.cut.1 c.requires.cut.2 in (
+    let rise = levels_rise c.args.chunking c.requires.cut in (
       omega (arith, rise, level),
       omega (arith, c.piece_level-level.ensures.low),
       subst (λ (k : ℕ). c.min-count.result ≤ 16384 * 2 ^ k) (sym level)
-          (omega (arith, c.min-count.ensures, piece_at_level size c.requires.pieces.1)),
+          (omega (arith, c.min-count.ensures, piece_at_level size c.requires.cut.chunk)),
     )
 
 pub node_in_tree-requires-clause-one : goal.node_in_tree-requires-clause-one
 node_in_tree-requires-clause-one c =
-    let size = c.args.size in
+    let size = c.args.chunking.size in
     let i = c.chunks.one-index in
     let content = c.requires.own.0 in
     let are = c.requires.own.1 in
     let counted : c.min-count.result ≡ min (length content - i * size) size =
     c.min-count.ensures ∙ ap (λ n. min n size) (c.chunks.invariant.left ∙ ap (λ n. n - i * size) (sym are.counted)) in (
       slice_chunk content size i,
-      subst (λ (o : UnitSums). IsRunNode c.args.piece_length c.min-count.result (slice_chunk content size i) o)
+      subst (λ (o : UnitSums). IsRunNode c.args.chunking.piece_length c.min-count.result (slice_chunk content size i) o)
           (sym c.one-item.is)
-          (run_node c.args.piece_length size (some_length size c.requires.pieces.1) content c.args.own.now are.nodes i
+          (run_node c.args.chunking (some_length size c.requires.cut.chunk) content c.args.own.now are.nodes i
           c.chunks-test.true c.one-item.result c.min-count.result counted),
     )
 
 pub chunks-preserved : goal.chunks-preserved
 chunks-preserved c =
-    let p = c.args.piece_length in
-    let size = c.args.size in
+    let p = c.args.chunking.piece_length in
+    let size = c.args.chunking.size in
     let i = c.chunks.one-index in
     let next : (i + 1) * size ≡ i * size + size = omega arith in
     let f = λ (run : List ℕ). padded_subtree c.piece_level-level.result 0 (leaves run) in
     let g = λ (run : List ℕ). piece_roots run p in record {
       left = omega (arith, c.min-count.ensures, c.chunks.invariant.left, next);
       so_far = λ content are.
-          let some = some_length size c.requires.pieces.1 in
+          let some = some_length size c.requires.cut.chunk in
           let before = c.chunks.invariant.so_far content are in
           let run = slice_chunk content size i in
           let counted : c.min-count.result ≡ min (length content - i * size) size =
           c.min-count.ensures
           ∙ ap (λ n. min n size) (c.chunks.invariant.left ∙ ap (λ n. n - i * size) (sym are.counted)) in
           let is = subst (λ (o : UnitSums). IsRunNode p c.min-count.result run o) (sym c.one-item.is)
-          (run_node p size some content c.args.own.now are.nodes i c.chunks-test.true c.one-item.result
+          (run_node c.args.chunking some content c.args.own.now are.nodes i c.chunks-test.true c.one-item.result
           c.min-count.result counted) in
           let node = c.in_ok-hash.ensures run is in
-          let more = runs_next p size some content c.args.own.now are.nodes i c.chunks-test.true in
+          let more = runs_next c.args.chunking some content c.args.own.now are.nodes i c.chunks-test.true in
           let front = take i (runs_of size content) in (
             c.in_ok-push.ensures.items ∙ ap₂ (λ xs x. xs ++ x ∷ []) before.0 (ap (λ n. n.0) node)
                 ∙ sym (map-append f front (run ∷ [])) ∙ ap (map f) (sym more),
@@ -82,11 +81,11 @@ chunks-preserved c =
 
 pub layer_root-requires-clause-some : goal.layer_root-requires-clause-some
 layer_root-requires-clause-some c =
-    let size = c.args.size in
+    let size = c.args.chunking.size in
     let content = c.requires.own.0 in
     let are = c.requires.own.1 in
-    let some = some_length size c.requires.pieces.1 in
-    let all = many c.args.piece_length size some content c.args.own.now are.nodes 0 in
+    let some = some_length size c.requires.cut.chunk in
+    let all = many c.args.chunking some content c.args.own.now are.nodes 0 in
     let bounds = div_ceil_times (length content) size some in
     let none : div_ceil (length content) size ≡ 0 → ⊥ =
     λ e. let zero : div_ceil (length content) size * size ≡ 0 = ap (λ n. n * size) e ∙ zero-mul size in
@@ -105,10 +104,10 @@ layer_root-requires-clause-some c =
 
 pub layer_root-requires-clause-small : goal.layer_root-requires-clause-small
 layer_root-requires-clause-small c =
-    let size = c.args.size in
+    let size = c.args.chunking.size in
     let content = c.requires.own.0 in
     let are = c.requires.own.1 in
-    let few = few_chunks size (length content) c.requires.pieces.1 (omega (arith, are.small, are.counted)) in
+    let few = few_chunks size (length content) c.requires.cut.chunk (omega (arith, are.small, are.counted)) in
     subst (λ (k : ℕ). length c.deref.result.now ≤ 2 ^ (36 - k)) (sym c.piece_level-level.ensures.value)
     (omega (
       arith,
@@ -122,23 +121,22 @@ layer_root-requires-clause-small c =
 
 pub returns : goal.returns
 returns c = λ content are.
-    let p = c.args.piece_length in
-    let size = c.args.size in
-    let span = c.requires.cut.0 in
-    let some = some_length size c.requires.pieces.1 in
+    let p = c.args.chunking.piece_length in
+    let size = c.args.chunking.size in
+    let some = some_length size c.requires.cut.chunk in
     let level = c.piece_level-level.result in
-    let all = many p size some content c.args.own.now are.nodes 0 in
+    let all = many c.args.chunking some content c.args.own.now are.nodes 0 in
     let whole : take c.chunks.one-index (runs_of size content) ≡ runs_of size content =
     take_all c.chunks.one-index (runs_of size content)
     (omega (arith, all, count_of_runs size content, c.chunks-test.false)) in
     let so_far = c.chunks.invariant.so_far content are in
     let at : size ≡ 16384 * 2 ^ level =
-    piece_at_level size c.requires.pieces.1 ∙ ap (λ k. 16384 * 2 ^ k) (sym c.piece_level-level.ensures.value) in
+    piece_at_level size c.requires.cut.chunk ∙ ap (λ k. 16384 * 2 ^ k) (sym c.piece_level-level.ensures.value) in
     let long : size < length content = omega (arith, c.requires.several, are.counted) in (
       c.layer_root.ensures
           ∙ ap (padded_root level)
           (c.deref.ensures.value ∙ so_far.0 ∙ ap (map (λ run. padded_subtree level 0 (leaves run))) whole)
-          ∙ sym (root_of_runs p size span level content c.requires.pieces.0 c.requires.cut.1 c.requires.cut.2 at long),
+          ∙ sym (root_of_runs c.args.chunking c.requires.cut level content at long),
       so_far.1 ∙ ap (flat_map (λ run. piece_roots run p)) whole
-          ∙ layer_of_runs p size span level content c.requires.pieces.0 c.requires.cut.1 c.requires.cut.2 at long,
+          ∙ layer_of_runs c.args.chunking c.requires.cut level content at long,
     )

@@ -10,10 +10,10 @@ use Rattle.tor_streams.proofs.stream_sums.tree_of_chunks.Given as goal
 
 abbrev pub invariant-chunks : goal.invariant-chunks
 invariant-chunks l = record {
-  left : l.left ≡ l.length - l.one-index * l.size;
-  so_far : (content : List ℕ) → AreNodesOfOne l.piece_length l.size content l.length l.own →
+  left : l.left ≡ l.length - l.one-index * l.chunking.size;
+  so_far : (content : List ℕ) → AreNodesOfOne l.chunking content l.length l.own →
       (l.hashes.items ≡ map (λ run. padded_subtree l.level 0 (leaves run))
-      (take l.one-index (runs_of l.size content)))
-      × (l.layer.items ≡ flat_map (λ run. piece_roots run l.piece_length)
-      (take l.one-index (runs_of l.size content)));
+      (take l.one-index (runs_of l.chunking.size content)))
+      × (l.layer.items ≡ flat_map (λ run. piece_roots run l.chunking.piece_length)
+      (take l.one-index (runs_of l.chunking.size content)));
 }

@@ -7,12 +7,12 @@ use Rattle.tor_streams.proofs.StreamWorkers.{one_set, took_both, took_none}
 use Rattle.tor_streams.proofs.stream_worker.+fn-take_by_halves-join_mut+arg2+fn-take_by_halves-join_mut+arg3+take_by_halves.Goals as goal
 
 pub returns-then-workers-eq0 : goal.returns-then-workers-eq0
-returns-then-workers-eq0 g n c = took_none c.args.kind c.args.piece_length c.args.workers.now c.if-workers-eq0.true
+returns-then-workers-eq0 g n c = took_none c.args.chunking c.args.workers.now c.if-workers-eq0.true
 
 pub returns-then-workers-eq1 : goal.returns-then-workers-eq1
 returns-then-workers-eq1 g n c = record {
   done = λ feeder all.
-      one_set (IsWorkerOf c.args.kind c.args.piece_length feeder) (IsDoneOf c.args.kind c.args.piece_length feeder)
+      one_set (IsWorkerOf c.args.chunking feeder) (IsDoneOf c.args.chunking feeder)
       c.args.workers.now c.index-workers-0.result c.take_all.new.self c.if-workers-eq1.true all
       (c.take_all.ensures feeder);
   all = length-set c.args.workers.now 0 c.take_all.new.self;
@@ -20,13 +20,12 @@ returns-then-workers-eq1 g n c = record {
 
 pub returns : goal.returns
 returns g n c =
-    let kind = c.args.kind in
-    let p = c.args.piece_length in
+    let chunking = c.args.chunking in
     let front = c.split_at_mut-front.result.0.now in
     let back = c.split_at_mut-front.result.1.now in
     let split = c.split_at_mut-front.ensures in
-    let one : TookAll kind p front c.front-1.given.0 = search rules in
-    let other : TookAll kind p back c.back-1.given.0 = search rules in
-    subst (λ (xs : List StreamWorker). TookAll kind p xs (c.front-1.given.0 ++ c.back-1.given.0))
+    let one : TookAll chunking front c.front-1.given.0 = search rules in
+    let other : TookAll chunking back c.back-1.given.0 = search rules in
+    subst (λ (xs : List StreamWorker). TookAll chunking xs (c.front-1.given.0 ++ c.back-1.given.0))
     (ap₂ (λ xs ys. xs ++ ys) split.front split.back ∙ take-append-drop _ c.args.workers.now)
-    (took_both kind p front back c.front-1.given.0 c.back-1.given.0 one other)
+    (took_both chunking front back c.front-1.given.0 c.back-1.given.0 one other)

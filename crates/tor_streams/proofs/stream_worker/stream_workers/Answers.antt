@@ -22,28 +22,28 @@ takers-preserved c =
       left = let was = before.left in let gone = steps.1 in let short = ap length steps.0 in omega arith;
       all = ap length push ∙ length-append c.takers.workers.items _
           ∙ omega (arith, before.all, length-append c.takers.yielded (taker ∷ []));
-      each = λ kind p feeder all.
+      each = λ chunking feeder all.
           let P : Taker → Type 0 = λ t. IsTakerOf feeder t × (taken_by t ≡ []) in
           let one = (all_back P c.takers.yielded (taker ∷ []) all).0 in
-          subst (λ ws. AllByRecursion (IsWorkerOf kind p feeder) ws) (sym push)
-          (all_joined (IsWorkerOf kind p feeder) c.takers.workers.items _
-          (before.each kind p feeder (all_front P c.takers.yielded (taker ∷ []) all)) (
+          subst (λ ws. AllByRecursion (IsWorkerOf chunking feeder) ws) (sym push)
+          (all_joined (IsWorkerOf chunking feeder) c.takers.workers.items _
+          (before.each chunking feeder (all_front P c.takers.yielded (taker ∷ []) all)) (
             record {
               taker = one.0;
-              sums = λ _. ap (map facts_of) c.new.ensures.items ∙ ap (map (facts_of_chunk kind p)) (sym one.1);
+              sums = λ _. ap (map facts_of) c.new.ensures.items ∙ ap (map (facts_of_chunk chunking)) (sym one.1);
             },
             tt,
           ));
     }
 
 pub returns-clause-workers : goal.returns-clause-workers
-returns-clause-workers c = λ kind p feeder all.
+returns-clause-workers c = λ chunking feeder all.
     let before = c.takers.invariant in
     let empty : into_iter_items c.takers.taker-iterator ≡ [] =
     nil_from_length _ (sym before.left ∙ c.in-None.ensures.steps.0) in
     let whole : c.takers.yielded ≡ c.args.takers.items =
     sym (append-nil c.takers.yielded) ∙ ap (λ xs. c.takers.yielded ++ xs) (sym empty) ∙ before.items in
-    before.each kind p feeder
+    before.each chunking feeder
     (subst (λ ts. AllByRecursion (λ t. IsTakerOf feeder t × (taken_by t ≡ [])) ts) (sym whole) all)
 
 pub returns-clause-all : goal.returns-clause-all

@@ -1,10 +1,10 @@
 -- a worker for each taker so far
-use Rattle.std.proofs.Common.{◌≡◌, ◌++◌, ℕ, [], length}
+use Rattle.std.proofs.Common.{◌≡◌, ◌++◌, [], length}
 use Rattle.std.specs.List.{AllByRecursion}
 use Rattle.std.specs.Vec.Iter.{into_iter_items, into_iter_len}
 use Rattle.tor_lane.specs.Lane.{IsTakerOf, taken_by}
 use Rattle.tor_lane.specs.declared.feeder.Feeder.{Feeder}
-use Rattle.tor_tree.specs.declared.kinds.Kind.{Kind}
+use Rattle.tor_streams.specs.declared.chunking.Chunking.{Chunking}
 use Rattle.tor_streams.specs.steps.StreamWorkers.{IsWorkerOf}
 use Rattle.tor_streams.proofs.stream_worker.stream_workers.Given as goal
 
@@ -13,7 +13,7 @@ invariant-takers l = record {
   items : l.yielded ++ into_iter_items l.taker-iterator ≡ l.fn.takers.items;
   left : into_iter_len l.taker-iterator ≡ length (into_iter_items l.taker-iterator);
   all : length l.workers.items ≡ length l.yielded;
-  each : (kind : Kind) (piece_length : ℕ) (feeder : Feeder) →
+  each : (chunking : Chunking) (feeder : Feeder) →
       AllByRecursion (λ taker. IsTakerOf feeder taker × (taken_by taker ≡ [])) l.yielded →
-      AllByRecursion (IsWorkerOf kind piece_length feeder) l.workers.items;
+      AllByRecursion (IsWorkerOf chunking feeder) l.workers.items;
 }

@@ -23,11 +23,11 @@ workers-preserved c =
       left = let was = before.left in let gone = steps.1 in let short = ap length steps.0 in omega arith;
       count = ap length push ∙ length-append c.workers.takers.items _
           ∙ omega (arith, before.count, length-append c.workers.yielded (worker ∷ []));
-      done = λ kind p feeder all.
-          let P = IsDoneOf kind p feeder in
+      done = λ chunking feeder all.
+          let P = IsDoneOf chunking feeder in
           let one = (all_back P c.workers.yielded (worker ∷ []) all).0 in
-          let rest = before.done kind p feeder (all_front P c.workers.yielded (worker ∷ []) all) in
-          let F = facts_of_chunk kind p in
+          let rest = before.done chunking feeder (all_front P c.workers.yielded (worker ∷ []) all) in
+          let F = facts_of_chunk chunking in
           let takers = c.workers.takers.items in (
             subst (λ ts. AllByRecursion (λ t. IsTakerOf feeder t × IsAtMark t) ts) (sym push)
                 (all_joined (λ t. IsTakerOf feeder t × IsAtMark t) takers (worker.taker ∷ []) rest.0
@@ -41,14 +41,14 @@ workers-preserved c =
     }
 
 pub returns : goal.returns
-returns c = λ kind p feeder are.
+returns c = λ chunking feeder are.
     let before = c.workers.invariant in
     let empty : into_iter_items c.workers.worker-iterator ≡ [] =
     nil_from_length _ (sym before.left ∙ c.in-None.ensures.steps.0) in
     let whole : c.workers.yielded ≡ c.args.workers.items =
     sym (append-nil c.workers.yielded) ∙ ap (λ xs. c.workers.yielded ++ xs) (sym empty) ∙ before.items in
-    let done = before.done kind p feeder
-    (subst (λ ws. AllByRecursion (IsDoneOf kind p feeder) ws) (sym whole) are.each) in
+    let done = before.done chunking feeder
+    (subst (λ ws. AllByRecursion (IsDoneOf chunking feeder) ws) (sym whole) are.each) in
     record {
       each = All-from_recursion _ _ done.0;
       all = before.count ∙ ap length whole ∙ are.all;

@@ -4,18 +4,18 @@ use Rattle.std.proofs.Common.{length-append}
 use Rattle.std.proofs.KnownBytes.{Consumes-nil, Consumes-trans}
 use Rattle.std.proofs.lemmas.Result.{err_from_is_err_and}
 use Rattle.tor_streams.specs.steps.Cuts.{EndsReading}
-use Rattle.tor_streams.proofs.Cutting.{bytes_came, cut_whole, lanes_join}
+use Rattle.tor_streams.proofs.Cutting.{bytes_came, cut_whole, lanes_join, some_size}
 use Rattle.tor_streams.proofs.cutter.Cutter.read_whole.Goals as goal
 
 pub chunks-init : goal.chunks-init
 chunks-init g c =
-    let ready = c.requires.ready.3 in record {
+    let ready = c.requires.ready.1 in record {
       bytes = [];
       counted = refl;
       small = omega arith;
       came = Consumes-nil (g.R.Read.remaining c.args.reader.now);
       room = omega (arith, ready.room, ready.has.buffer);
-      cut = λ size contents some has. has;
+      cut = λ contents has. has;
       lane = (refl, refl);
       opened = ready.has.opened;
     }
@@ -57,11 +57,11 @@ returns-then-self-len-clause-read g c =
       },
       long,
       omega (arith, came.3, before.small),
-      λ size contents some ready.
-          c.in_ok-end_content.ensures.ended size contents (before.bytes ++ came.0) some
-          (bytes_came c.args.kind c.args.piece_length size some contents before.bytes came.0 c.chunks.self
-          c.fill.new.self (before.cut size contents some ready.has) c.fill.ensures.feeder kept.0 kept.1 kept.2 kept.3
-          came.5 came.6) long,
+      λ contents ready.
+          c.in_ok-end_content.ensures.ended contents (before.bytes ++ came.0)
+          (bytes_came c.args.chunking (some_size c.args.chunking c.requires.cut) contents before.bytes came.0
+          c.chunks.self c.fill.new.self (before.cut contents ready.has) c.fill.ensures.feeder kept.0 kept.1 kept.2
+          kept.3 came.5 came.6) long,
     )
 
 pub returns-in_err-end_content-clause-stopped : goal.returns-in_err-end_content-clause-stopped
@@ -104,14 +104,15 @@ chunks-preserved g c =
       came = Consumes-trans (remaining c.args.reader.now) (remaining c.chunks.reader) (remaining c.fill.new.reader)
           before.bytes came.0 before.came came.1;
       room = omega (arith, more.filled, more.buffer, kept.3, before.room);
-      cut = λ size contents some has.
-          let has_more = bytes_came c.args.kind c.args.piece_length size some contents before.bytes came.0 c.chunks.self
-          c.fill.new.self (before.cut size contents some has) c.fill.ensures.feeder kept.0 kept.1 kept.2 kept.3
-          came.5 came.6 in
-          let whole : c.fill.new.self.filled ≡ size =
+      cut = λ contents has.
+          let chunking = c.args.chunking in
+          let some = some_size chunking c.requires.cut in
+          let has_more = bytes_came chunking some contents before.bytes came.0 c.chunks.self c.fill.new.self
+          (before.cut contents has) c.fill.ensures.feeder kept.0 kept.1 kept.2 kept.3 came.5 came.6 in
+          let whole : c.fill.new.self.filled ≡ chunking.size =
           omega (arith, came.5, c.if-self-len.false, full, has_more.buffer) in
-          cut_whole c.args.kind c.args.piece_length size some contents (before.bytes ++ came.0) c.fill.new.self
-          c.cut.new.self has_more more c.in_ok-cut.ensures.lane.1 (omega (arith, whole, some)) whole;
+          cut_whole chunking some contents (before.bytes ++ came.0) c.fill.new.self c.cut.new.self has_more more
+          c.in_ok-cut.ensures.lane.1 (omega (arith, whole, some)) whole;
       lane = lanes_join c.args.self.now.feeder c.chunks.self.feeder c.fill.new.self.feeder c.cut.new.self.feeder
           before.lane c.fill.ensures.feeder c.in_ok-cut.ensures.lane.0;
       opened = c.in_ok-cut.ensures.lane.1;

@@ -12,8 +12,8 @@ invariant-chunks g l = record {
   small : l.count ≤ l.limit;
   came : Consumes (g.R.Read.remaining l.fn.reader) (g.R.Read.remaining l.reader) bytes;
   room : l.self.filled < vec_len l.self.buffer;
-  cut : (size : ℕ) (contents : List (List ℕ)) → 0 < size → HasCut l.kind l.piece_length size contents [] l.fn.self →
-      HasCut l.kind l.piece_length size contents bytes l.self;
+  cut : (contents : List (List ℕ)) → HasCut l.chunking contents [] l.fn.self →
+      HasCut l.chunking contents bytes l.self;
   lane : FeedsLaneOf l.fn.self.feeder l.self.feeder;
   opened : IsOpen l.self.feeder;
 }

@@ -12,7 +12,7 @@ chunks-preserved g c = (
       let old = c.chunks.self in
       let mid : StreamWorker = record old { taker = c.take.new.self } in
       let new : StreamWorker = record c.add.new.self { give_back = c.give.new.self } in
-      worker_more c.args.kind c.args.piece_length feeder old mid new c.in-Some-take.chunk
+      worker_more c.args.chunking feeder old mid new c.in-Some-take.chunk
       (c.chunks.invariant.2 feeder is) c.take.ensures.lane c.in-Some-take.ensures.some refl refl c.add.ensures.taker
       c.add.ensures.sums,
 )
@@ -22,5 +22,5 @@ returns-in-None-take g c = λ feeder is.
     let old = c.chunks.self in
     let new : StreamWorker = record old { taker = c.take.new.self } in
     let none = c.in-None-take.ensures.none in
-    worker_done c.args.kind c.args.piece_length feeder old new (c.chunks.invariant.2 feeder is) c.take.ensures.lane
+    worker_done c.args.chunking feeder old new (c.chunks.invariant.2 feeder is) c.take.ensures.lane
     none.0 none.1 refl refl

@@ -6,5 +6,4 @@ use Rattle.tor_streams.proofs.stream_worker.StreamWorker.take_all.Given as goal
 abbrev pub invariant-chunks : goal.invariant-chunks
 invariant-chunks g l =
     (goal.iterator-chunks g).can_next l.iterator' × (goal.iterator-chunks g).is_finite l.iterator'
-    × ((feeder : Feeder) → IsWorkerOf l.kind l.piece_length feeder l.fn.self →
-    IsWorkerOf l.kind l.piece_length feeder l.self)
+    × ((feeder : Feeder) → IsWorkerOf l.chunking feeder l.fn.self → IsWorkerOf l.chunking feeder l.self)

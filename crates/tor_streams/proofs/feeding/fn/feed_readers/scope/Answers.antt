@@ -1,7 +1,7 @@
 -- the workers end at their marks
-use Rattle.std.proofs.Common.{ℕ, map, sym, subst}
+use Rattle.std.proofs.Common.{map, sym, subst}
 use Rattle.tor_lane.specs.declared.feeder.Feeder.{Feeder}
-use Rattle.tor_tree.specs.declared.kinds.Kind.{Kind}
+use Rattle.tor_streams.specs.declared.chunking.Chunking.{Chunking}
 use Rattle.tor_streams.specs.declared.feeding.Workers.{Workers}
 use Rattle.tor_streams.specs.Streams.{GiveContents, IsFaultOfReaders}
 use Rattle.tor_streams.specs.steps.StreamWorkers.{AreDone}
@@ -10,24 +10,22 @@ use Rattle.tor_streams.proofs.feeding.fn.feed_readers.scope.Goals as goal
 
 pub spawn_with-requires-clause-keeps : goal.spawn_with-requires-clause-keeps
 spawn_with-requires-clause-keeps g c κs within = λ r done.
-    subst (λ (q : Kind × ℕ × Feeder). AreDone q.0 q.1 q.2 r.items) (sym c.of-promise.ensures)
+    subst (λ (q : Chunking × Feeder). AreDone q.0 q.1 r.items) (sym c.of-promise.ensures)
     (done c.captures.cutter.feeder c.requires.4)
 
 pub returns-in-Ok : goal.returns-in-Ok
-returns-in-Ok g c = λ size some ready.
-    let kind = c.captures.kind in
-    let p = c.captures.piece_length in
+returns-in-Ok g c =
+    let chunking = c.captures.chunking in
     let known = map g.R.Read.remaining c.captures.readers.items in
     let read = c.read_each-read.ensures in
     let end = c.end_and_wait.ensures in
     let first = c.refusals_first.ensures in
-    let done = subst (λ (q : Kind × ℕ × Feeder). AreDone q.0 q.1 q.2 c.end_and_wait.result.workers.items)
+    let done = subst (λ (q : Chunking × Feeder). AreDone q.0 q.1 c.end_and_wait.result.workers.items)
     c.of-promise.ensures
-    (subst (λ (q : Workers). AreDone q.kind q.piece_length q.feeder.value c.end_and_wait.result.workers.items)
+    (subst (λ (q : Workers). AreDone q.chunking q.feeder.value c.end_and_wait.result.workers.items)
     c.in-Ok.ensures.ok end.done) in
-    let is = is_fed kind c.captures.tail p size (GiveContents known) (IsFaultOfReaders known) c.captures.cutter.feeder
+    let is = is_fed chunking (GiveContents known) (IsFaultOfReaders known) c.captures.cutter.feeder
     c.read_each-read.new.cutter.feeder _ c.end_and_wait.result read.lane.0 end.lane end.ended end.put end.read done
-    (read.put size some ready) read.fault in
-    fed_by_readers kind c.captures.tail p size known c.end_and_wait.result c.refusals_first.result is first.refused
-    first.read
+    read.put read.fault in
+    fed_by_readers chunking known c.end_and_wait.result c.refusals_first.result is first.refused first.read
     first.lane.0 first.lane.1
