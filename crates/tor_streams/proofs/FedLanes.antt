@@ -17,7 +17,7 @@ use Rattle.tor_streams.specs.declared.feeding.Fed.{Fed}
 use Rattle.tor_sums.specs.declared.sums.Sums.{Sums}
 use Rattle.tor_streams.specs.steps.Cuts.{PutsContents, told_of}
 use Rattle.tor_streams.specs.declared.stream_worker.StreamWorker.{StreamWorker}
-use Rattle.tor_streams.specs.steps.Fed.{AnswersFed, IsFed, IsFedByReaders, IsFedSome}
+use Rattle.tor_streams.specs.steps.Fed.{AnswersFed, IsFed, IsFedByReaders, IsFedSome, PutsGiven}
 use Rattle.tor_streams.specs.steps.StreamWorkers.{AreDone}
 use Rattle.tor_streams.proofs.StreamWorkers.{same_lane}
 
@@ -32,8 +32,7 @@ module _ {F : Type 0} (chunking : Chunking) (Gives : List (List ℕ) → Type 0)
   Read = Result (Vec ℕ Global) F
 
   abbrev Puts : Feeder → Read → Type 0
-  Puts feeder read = IfOk read (λ lengths. (contents : List (List ℕ)) × Gives contents
-      × PutsContents chunking contents lengths.items (put_by feeder))
+  Puts feeder read = IfOk read (λ lengths. PutsGiven chunking Gives lengths.items (put_by feeder))
 
   -- the marks come after all that was put
   pub is_fed : (first mid : Feeder) (read : Read) (fed : Fed F) → FeedsLaneOf first mid
@@ -44,8 +43,8 @@ module _ {F : Type 0} (chunking : Chunking) (Gives : List (List ℕ) → Type 0)
     done = same_lane chunking first fed.feeder (later.0 ∙ lane.0, later.1 ∙ lane.1) fed.workers.items done;
     ended = is_end;
     put = subst (Puts fed.feeder) (sym same)
-        (subst (λ (chunks : List Chunk). IfOk read (λ lengths. (contents : List (List ℕ)) × Gives contents
-        × PutsContents chunking contents lengths.items chunks)) (sym put) puts);
+        (subst (λ (chunks : List Chunk). IfOk read (λ lengths. PutsGiven chunking Gives lengths.items chunks))
+        (sym put) puts);
     stopped = subst (λ (r : Read). IfErr r Stops) (sym same) stops;
   }
 
@@ -101,8 +100,8 @@ pub fed_by_readers : {F : Type 0} (chunking : Chunking) (known : List (Option (L
 fed_by_readers {F} chunking known fed new is refused read feeder workers =
     let Read : Type 0 = Result (Vec ℕ Global) (EngineError F) in
     let any : Bool = list_any (λ (worker : StreamWorker). worker.is_refused) fed.workers.items in
-    let Put : Feeder → Read → Type 0 = λ f r. IfOk r (λ lengths. (contents : List (List ℕ))
-    × GiveContents known contents × PutsContents chunking contents lengths.items (put_by f)) in
+    let Put : Feeder → Read → Type 0 =
+    λ f r. IfOk r (λ lengths. PutsGiven chunking (GiveContents known) lengths.items (put_by f)) in
     record {
       is = record {
         done = subst (λ (ws : Vec StreamWorker Global). AreDone chunking new.feeder ws.items) (sym workers)

@@ -13,7 +13,7 @@ use Rattle.tor_streams.specs.declared.chunking.Chunking.{Chunking}
 use Rattle.tor_streams.specs.declared.stream_worker.StreamWorker.{StreamWorker}
 use Rattle.tor_sums.specs.declared.unit_sums.UnitSums.{UnitSums}
 use Rattle.tor_streams.specs.steps.Cuts.{facts_of, facts_of_chunk}
-use Rattle.tor_streams.specs.steps.StreamWorkers.{AreDone, IsDoneOf, IsWorkerOf, TookAll}
+use Rattle.tor_streams.specs.steps.StreamWorkers.{AreDone, AreWorkers, IsDoneOf, IsWorkerOf, TookAll}
 
 -- ---- lists
 
@@ -55,6 +55,11 @@ took_both chunking xs ys front back one other = record {
       (other.done feeder (all_back P xs ys all));
   all = omega (arith, one.all, other.all, length-append xs ys, length-append front back);
 }
+
+-- all workers of a lane
+pub took_done : (chunking : Chunking) (feeder : Feeder) (old new : List StreamWorker) → AreWorkers chunking feeder old
+    → TookAll chunking old new → AreDone chunking feeder new
+took_done chunking feeder old new are took = record { each = took.done feeder are.each; all = took.all ∙ are.all }
 
 -- takers of a lane that is new
 pub fresh_takers : (feeder : Feeder) (takers : List Taker)

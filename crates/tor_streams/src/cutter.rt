@@ -2,7 +2,7 @@
 ghost use Rattle.std.specs.Prelude.{◌≡◌, ◌+◌, ◌<◌, ◌≤◌, ◌++◌, ◌∷◌, [], ℕ, List, None, IfErr, IfOk, OnOk};
 ghost use Rattle.std.specs.Prelude.{length, take, vec_len};
 ghost use Rattle.std.specs.Io.KnownBytes.{Consumes, IsAtEnd};
-ghost use Rattle.tor_lane.specs.Lane.{FeedsLaneOf, IsOpen, put_by};
+ghost use Rattle.tor_lane.specs.Lane.{IsOpen, put_by};
 ghost use Rattle.tor_merkle.specs.declared.TheConstants.{MAX_LENGTH};
 ghost use Rattle.tor_plan.specs.PlanFacts.{IsPlanPieceLength};
 ghost use Rattle.tor_source.specs.Filling.{EndsFill};
@@ -38,7 +38,7 @@ pub(crate) struct Cutter {
 }
 
 impl Cutter {
-    ghost use Rattle.tor_streams.specs.steps.Cuts.{CutsMore, HasCut, HasPut, IsCutOff, IsReady, PutsHeld};
+    ghost use Rattle.tor_streams.specs.steps.Cuts.{CutsMore, HasCut, HasPut, IsCutOff, IsReady, KeepsLane, PutsHeld};
     ghost use Rattle.tor_streams.specs.declared.chunking.Chunking.{Chunking};
 
     /// Into a lane to which nothing was put.
@@ -82,7 +82,7 @@ impl Cutter {
             × (length content ≡ count) × (count ≤ limit)
             × ((contents : List (List ℕ)) → IsReady chunking contents self.old →
             IsReady chunking (contents ++ content ∷ []) self.new)) }
-        ensures lane { FeedsLaneOf self.old.feeder self.new.feeder × IsOpen self.new.feeder }
+        ensures lane { KeepsLane self.old self.new }
         ensures stopped { IfErr result (λ stop.
             ReadsSome (R.remaining reader.old) (R.remaining reader.new) (EndsReading limit stop)) }
     {
@@ -131,7 +131,7 @@ impl Cutter {
         requires within { self.old.filled ≤ vec_len self.old.buffer }
         requires open { IsOpen self.old.feeder }
         ensures cut { OnOk result (CutsMore self.old self.new) }
-        ensures lane { FeedsLaneOf self.old.feeder self.new.feeder × IsOpen self.new.feeder }
+        ensures lane { KeepsLane self.old self.new }
     {
         let unit = self.next;
         // There is no room for the sums of so many units.
@@ -170,7 +170,7 @@ impl Cutter {
     fn put_held<T: Wait>(&mut self, rt: &T, zeros: u64)
         requires { IsOpen self.old.feeder }
         ensures put { PutsHeld zeros self.old self.new }
-        ensures lane { FeedsLaneOf self.old.feeder self.new.feeder × IsOpen self.new.feeder }
+        ensures lane { KeepsLane self.old self.new }
     {
         if let Some(mut chunk) = self.held.take() {
             chunk.zeros = zeros;
@@ -192,7 +192,7 @@ impl Cutter {
         requires open { IsOpen self.old.feeder }
         ensures ended { (contents : List (List ℕ)) (content : List ℕ) → HasCut chunking contents content self.old →
             length content ≡ count → OnOk result (IsReady chunking (contents ++ content ∷ []) self.new) }
-        ensures lane { FeedsLaneOf self.old.feeder self.new.feeder × IsOpen self.new.feeder }
+        ensures lane { KeepsLane self.old self.new }
     {
         if !chunking.kind.has_v2() {
             return Ok(());
@@ -211,7 +211,7 @@ impl Cutter {
         requires open { IsOpen self.old.feeder }
         ensures cut { (chunking : Chunking) (contents : List (List ℕ)) (current : List ℕ) → 0 < chunking.size →
             HasCut chunking contents current self.old → OnOk result (IsCutOff chunking contents current self.new) }
-        ensures lane { FeedsLaneOf self.old.feeder self.new.feeder × IsOpen self.new.feeder }
+        ensures lane { KeepsLane self.old self.new }
     {
         if self.filled == 0 {
             return Ok(());
@@ -231,7 +231,7 @@ impl Cutter {
         requires has { (contents : List (List ℕ)) × HasCut chunking contents [] self.old }
         ensures put { (contents : List (List ℕ)) → HasCut chunking contents [] self.old →
             OnOk result (HasPut chunking contents (put_by self.new.feeder)) }
-        ensures lane { FeedsLaneOf self.old.feeder self.new.feeder × IsOpen self.new.feeder }
+        ensures lane { KeepsLane self.old self.new }
     {
         self.cut_rest(rt, alloc)?;
         let zeros = if chunking.tail { self.zeros } else { 0 };

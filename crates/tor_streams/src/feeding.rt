@@ -8,7 +8,7 @@ ghost use Rattle.tor_sums.specs.declared.errors.EngineError.TheVariants.{Resourc
 ghost use Rattle.tor_streams.specs.declared.chunking.Chunking.{Chunking};
 ghost use Rattle.tor_streams.specs.steps.Cuts.{IsChunking, IsReady};
 ghost use Rattle.tor_streams.specs.steps.Fed.{GivesInput, IsFed, IsFedByReaders, StopsInput};
-ghost use Rattle.tor_streams.specs.steps.StreamWorkers.{AreDone, AreWorkers};
+ghost use Rattle.tor_streams.specs.steps.StreamWorkers.{AreDone, AreWorkers, TookAll};
 
 use crate::chunking::Chunking;
 use crate::cutter::Cutter;
@@ -107,8 +107,7 @@ pub(crate) fn feed_readers<G: Gate + Sync, R: Read + Drop, T: Threads + Wait + S
                 promise,
                 move || -> Vec<StreamWorker>
                     requires { IsSync T.row × IsSync G.row × IsChunking chunking }
-                    ensures { (feeder : Feeder) → AreWorkers chunking feeder workers.items →
-                        AreDone chunking feeder result.items }
+                    ensures { TookAll chunking workers.items result.items }
                 { workers_at_marks(rt, gate, alloc, chunking, workers) },
             ) {
                 Ok(handle) => {
@@ -144,8 +143,7 @@ pub(crate) fn feed_input<R: Read, T: Threads + Wait + Sync + Send + Clone + Drop
         promise,
         move || -> Vec<StreamWorker>
             requires { IsSync T.row × IsChunking chunking }
-            ensures { (feeder : Feeder) → AreWorkers chunking feeder workers.items →
-                AreDone chunking feeder result.items }
+            ensures { TookAll chunking workers.items result.items }
         { workers_at_marks(&own, &OpenGate, alloc, chunking, workers) },
     ) {
         Ok(handle) => {
@@ -213,7 +211,7 @@ fn workers_at_marks<G: Gate + Sync, T: Threads + Wait + Sync>(
     workers: Vec<StreamWorker>,
 ) -> Vec<StreamWorker>
     requires { IsChunking chunking }
-    ensures { (feeder : Feeder) → AreWorkers chunking feeder workers.items → AreDone chunking feeder result.items }
+    ensures { TookAll chunking workers.items result.items }
 {
     let mut workers = workers;
     take_by_halves(rt, gate, alloc, chunking, workers.as_mut_slice());

@@ -1,11 +1,11 @@
 //! Readers and inputs that are read to their ends, and cut into chunks.
 ghost use Rattle.std.specs.Prelude.{◌≡◌, ◌∷◌, [], ℕ, List, Option, IfErr, IfOk, map};
-ghost use Rattle.tor_lane.specs.Lane.{FeedsLaneOf, IsOpen, put_by};
+ghost use Rattle.tor_lane.specs.Lane.{put_by};
 ghost use Rattle.tor_merkle.specs.declared.TheConstants.{MAX_LENGTH};
 ghost use Rattle.tor_source.specs.Input.{EndsInput};
 ghost use Rattle.tor_streams.specs.Streams.{GiveContents, IsFaultOfReaders, ReadsUpTo};
-ghost use Rattle.tor_streams.specs.steps.Cuts.{EndsReading, IsChunking, IsReady, PutsContents};
-ghost use Rattle.tor_streams.specs.steps.Fed.{GivesInput, StopsInput};
+ghost use Rattle.tor_streams.specs.steps.Cuts.{EndsReading, IsChunking, IsReady, KeepsLane};
+ghost use Rattle.tor_streams.specs.steps.Fed.{GivesInput, PutsGiven, StopsInput};
 
 use crate::chunking::Chunking;
 use crate::cutter::Cutter;
@@ -27,10 +27,9 @@ pub(crate) fn read_each<R: Read + Drop, T: Wait>(
 ) -> Result<Vec<u64>, EngineError<io::Error>>
     requires cut { IsChunking chunking }
     requires ready { IsReady chunking [] cutter.old }
-    ensures put { IfOk result (λ lengths.
-        (contents : List (List ℕ)) × GiveContents (map R.remaining readers.items) contents
-        × PutsContents chunking contents lengths.items (put_by cutter.new.feeder)) }
-    ensures lane { FeedsLaneOf cutter.old.feeder cutter.new.feeder × IsOpen cutter.new.feeder }
+    ensures put { IfOk result (λ lengths. PutsGiven chunking (GiveContents (map R.remaining readers.items))
+        lengths.items (put_by cutter.new.feeder)) }
+    ensures lane { KeepsLane cutter.old cutter.new }
     ensures fault { IfErr result (IsFaultOfReaders (map R.remaining readers.items)) }
 {
     let mut lengths = Vec::with_capacity(alloc, readers.len())?;
@@ -72,10 +71,9 @@ pub(crate) fn read_input<R: Read, T: Wait>(
 ) -> Result<Vec<u64>, InputFault>
     requires cut { IsChunking chunking }
     requires ready { IsReady chunking [] cutter.old }
-    ensures put { IfOk result (λ lengths.
-        (contents : List (List ℕ)) × GivesInput (R.remaining reader.old) (R.remaining reader.new) contents
-        × PutsContents chunking contents lengths.items (put_by cutter.new.feeder)) }
-    ensures lane { FeedsLaneOf cutter.old.feeder cutter.new.feeder × IsOpen cutter.new.feeder }
+    ensures put { IfOk result (λ lengths. PutsGiven chunking
+        (GivesInput (R.remaining reader.old) (R.remaining reader.new)) lengths.items (put_by cutter.new.feeder)) }
+    ensures lane { KeepsLane cutter.old cutter.new }
     ensures stopped { IfErr result (StopsInput (R.remaining reader.old) (R.remaining reader.new)) }
 {
     match cutter.read_whole(rt, alloc, chunking, MAX_INPUT_LENGTH, reader) {

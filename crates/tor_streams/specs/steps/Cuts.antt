@@ -3,7 +3,7 @@ use Rattle.std.specs.Prelude.{◌≡◌, ◌*◌, ◌+◌, ◌<◌, ◌≤◌, �
 use Rattle.std.specs.Prelude.{Some, vec_len}
 use Rattle.std.specs.Prelude.{if◌then◌else◌}
 use Rattle.std.specs.List.{AllByRecursion, flat_map, range_with_len}
-use Rattle.tor_lane.specs.Lane.{IsOpen, put_by}
+use Rattle.tor_lane.specs.Lane.{FeedsLaneOf, IsOpen, put_by}
 use Rattle.tor_lane.specs.declared.chunk.Chunk.{Chunk}
 use Rattle.tor_merkle.specs.declared.TheConstants.{MAX_LENGTH}
 use Rattle.tor_tree.specs.Kinds.{has_v1, has_v2}
@@ -125,6 +125,10 @@ pub record IsCutOff (chunking : Chunking) (contents : List (List ℕ)) (current 
   pub units : units_of (put_by cutter.feeder) ++ units_held cutter.held ≡ range_with_len 0 cutter.next
   pub opened : IsOpen cutter.feeder
   pub begun : cutter.held ≡ None → put_by cutter.feeder ≡ []
+
+-- the lane goes on, and more can be put into it
+abbrev pub KeepsLane : Cutter → Cutter → Type 0
+KeepsLane old new = FeedsLaneOf old.feeder new.feeder × IsOpen new.feeder
 
 -- one chunk more was cut, of what waited; no zeros are known to follow it
 pub record CutsMore (old new : Cutter) : Type 0 where

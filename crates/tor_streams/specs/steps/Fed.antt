@@ -3,6 +3,7 @@ use Rattle.std.specs.Prelude.{◌≡◌, [], ◌∷◌, ℕ, List, Err, IfErr, I
 use Rattle.std.specs.Prelude.{Option, Result, true}
 use Rattle.std.specs.List.{list_any}
 use Rattle.tor_lane.specs.Lane.{IsEnded, put_by}
+use Rattle.tor_lane.specs.declared.chunk.Chunk.{Chunk}
 use Rattle.tor_source.specs.Input.{EndsInput, ReadsAll, ReadsSome}
 use Rattle.tor_source.specs.declared.input.InputFault.{InputFault}
 use Rattle.tor_source.specs.declared.input.TheConstants.{MAX_INPUT_LENGTH}
@@ -23,13 +24,17 @@ GivesInput old new contents = (content : List ℕ) × (contents ≡ content ∷ 
 abbrev pub StopsInput : Option (List ℕ) → Option (List ℕ) → InputFault → Type 0
 StopsInput old new fault = ReadsSome old new (EndsInput MAX_INPUT_LENGTH fault)
 
+-- contents of which this holds have these lengths, and were put
+abbrev pub PutsGiven : Chunking → (List (List ℕ) → Type 0) → List ℕ → List Chunk → Type 0
+PutsGiven chunking Gives lengths put =
+    (contents : List (List ℕ)) × Gives contents × PutsContents chunking contents lengths put
+
 -- all workers are done, and contents of which this holds were put, or what was read ended in such a fault
 pub record IsFed {F : Type 0} (chunking : Chunking) (Gives : List (List ℕ) → Type 0) (Stops : F → Type 0)
     (fed : Fed F) : Type 0 where
   pub done : AreDone chunking fed.feeder fed.workers.items
   pub ended : IsEnded fed.feeder
-  pub put : IfOk fed.read (λ lengths. (contents : List (List ℕ)) × Gives contents
-      × PutsContents chunking contents lengths.items (put_by fed.feeder))
+  pub put : IfOk fed.read (λ lengths. PutsGiven chunking Gives lengths.items (put_by fed.feeder))
   pub stopped : IfErr fed.read Stops
 
 -- whatever they are, and whatever the fault is

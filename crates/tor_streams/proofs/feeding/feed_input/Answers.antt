@@ -5,13 +5,14 @@ use Rattle.tor_streams.specs.declared.chunking.Chunking.{Chunking}
 use Rattle.tor_streams.specs.declared.feeding.Workers.{Workers}
 use Rattle.tor_streams.specs.steps.Fed.{GivesInput, StopsInput}
 use Rattle.tor_streams.specs.steps.StreamWorkers.{AreDone}
+use Rattle.tor_streams.proofs.StreamWorkers.{took_done}
 use Rattle.tor_streams.proofs.FedLanes.{is_fed}
 use Rattle.tor_streams.proofs.feeding.feed_input.Goals as goal
 
 pub spawn_with-requires-clause-keeps : goal.spawn_with-requires-clause-keeps
-spawn_with-requires-clause-keeps g c κs within = λ r done.
+spawn_with-requires-clause-keeps g c κs within = λ r took.
     subst (λ (q : Chunking × Feeder). AreDone q.0 q.1 r.items) (sym c.of-promise.ensures)
-    (done c.in_ok-cutter.cutter.feeder c.in_ok-cutter.ensures.workers)
+    (took_done _ _ _ _ c.in_ok-cutter.ensures.workers took)
 
 pub returns-in-Ok-clause-fed : goal.returns-in-Ok-clause-fed
 returns-in-Ok-clause-fed g c =

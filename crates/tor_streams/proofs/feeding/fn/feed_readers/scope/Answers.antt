@@ -5,13 +5,14 @@ use Rattle.tor_streams.specs.declared.chunking.Chunking.{Chunking}
 use Rattle.tor_streams.specs.declared.feeding.Workers.{Workers}
 use Rattle.tor_streams.specs.Streams.{GiveContents, IsFaultOfReaders}
 use Rattle.tor_streams.specs.steps.StreamWorkers.{AreDone}
+use Rattle.tor_streams.proofs.StreamWorkers.{took_done}
 use Rattle.tor_streams.proofs.FedLanes.{fed_by_readers, is_fed}
 use Rattle.tor_streams.proofs.feeding.fn.feed_readers.scope.Goals as goal
 
 pub spawn_with-requires-clause-keeps : goal.spawn_with-requires-clause-keeps
-spawn_with-requires-clause-keeps g c κs within = λ r done.
+spawn_with-requires-clause-keeps g c κs within = λ r took.
     subst (λ (q : Chunking × Feeder). AreDone q.0 q.1 r.items) (sym c.of-promise.ensures)
-    (done c.captures.cutter.feeder c.requires.4)
+    (took_done _ _ _ _ c.requires.4 took)
 
 pub returns-in-Ok : goal.returns-in-Ok
 returns-in-Ok g c =
