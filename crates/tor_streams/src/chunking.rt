@@ -5,15 +5,15 @@ ghost use Rattle.tor_streams.specs.Streams.{IsStreamCut};
 use crate::lane_span::lane_span;
 use tor_tree::Kind;
 
-/// By what contents are cut into chunks: contents of a kind with trees each by itself, and others as one.
+/// How contents are cut into chunks: each by itself if the kind has trees, otherwise all as one.
 #[derive(Clone, Copy, Debug)]
 pub(crate) struct Chunking {
     pub(crate) kind: Kind,
     /// The bytes of a piece.
     pub(crate) piece_length: u64,
-    /// The bytes of a chunk, which are those of some pieces.
+    /// The bytes of a chunk, which holds whole pieces.
     pub(crate) size: u64,
-    /// Whether zeros fill the last piece of the last content of a hybrid too.
+    /// Whether zeros fill the last piece of a hybrid's last content too.
     pub(crate) tail: bool,
 }
 

@@ -41,7 +41,7 @@ impl Cutter {
     ghost use Rattle.tor_streams.specs.steps.Cuts.{CutsMore, HasCut, HasPut, IsCutOff, IsReady, KeepsLane, PutsHeld};
     ghost use Rattle.tor_streams.specs.declared.chunking.Chunking.{Chunking};
 
-    /// Into a lane to which nothing was put.
+    /// A cutter that puts into a lane, to which nothing was put yet.
     pub(crate) fn new(
         alloc: Global,
         feeder: Feeder,
