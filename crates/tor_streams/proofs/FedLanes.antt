@@ -66,7 +66,7 @@ module _ {F : Type 0} (chunking : Chunking) (Gives : List (List ℕ) → Type 0)
         by_read (Ok lengths) put all = (put.0, put.1, put.2.small)
         by_read (Err fault) put all = cc
 
-    -- what contents of that kind, with that tail and such pieces sum up to, is what the sums are to be
+    -- what is wanted of the answer, if it holds of the sums of any contents of which `Gives` holds
     pub summed : (kind : Kind) (tail : Bool) (p : ℕ) → told_of chunking ≡ (kind, tail, p) → (Wanted : Sums → Type 0)
         → ((sums : Sums) → SumUp kind tail p Gives sums → Wanted sums) → (answer : Result Sums F)
         → AnswersFed chunking fed answer → IfOk answer Wanted

@@ -18,6 +18,7 @@ use Rattle.tor_streams.specs.declared.chunking.Chunking.{Chunking}
 use Rattle.tor_streams.specs.steps.Cuts.{Cut, bare_cuts, cuts_of_content, ending_in, runs_of, stream_cuts}
 use Rattle.tor_streams.proofs.CutLists.{ending_after, ending_twice}
 
+-- a chunking by its fields
 abbrev pub chunking_of : Kind → Bool → ℕ → ℕ → Chunking
 chunking_of kind tail p size = record { kind = kind; piece_length = p; size = size; tail = tail }
 
